@@ -1,0 +1,5 @@
+use Rattle.bufr_bits.proofs.BitFacts.{number_at-bin}
+use Rattle.bufr_bits.proofs.laws.number_put_is_taken.Goals as goal
+
+pub returns : goal.returns
+returns c = number_at-bin

@@ -1,0 +1,5 @@
+use Rattle.bufr_bits.proofs.BitFacts.{number_at_is}
+use Rattle.bufr_bits.proofs.laws.number_taken_was_put.Goals as goal
+
+pub returns : goal.returns
+returns c = number_at_is

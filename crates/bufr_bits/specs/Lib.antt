@@ -1,0 +1,5 @@
+pub mod Bits
+pub mod Devices
+pub mod Ends
+pub mod Filled
+pub mod Inner

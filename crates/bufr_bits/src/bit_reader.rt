@@ -1,0 +1,103 @@
+//! Reading bits.
+
+ghost use Rattle.std.specs.Prelude.{◌≡◌, ◌+◌, ◌*◌, ◌<◌, ◌≤◌, length, Some, None, IfSome, IfNone, OnSome, OnErr, OnOk, IfOk, option_map};
+ghost use Rattle.bufr_bits.specs.Bits.{number_at, octets_at};
+ghost use Rattle.bufr_bits.specs.Ends.{Reading, left};
+
+use super::field::field;
+use super::octets::octets_from;
+use crate::OutOfMemory;
+use std::alloc::Global;
+use std::marker::Model;
+
+/// Takes bits from the front of octets, the most significant bit of each first.
+#[derive(Debug, Drop)]
+pub struct BitReader<'a> {
+    octets: &'a [u8],
+    place: u128,
+}
+
+impl<'a> Model for BitReader<'a> {
+    ghost use Rattle.std.specs.Prelude.{◌*◌, ◌≤◌, length};
+    ghost use Rattle.bufr_bits.specs.Ends.{Reading};
+
+    ghost Value = { Reading };
+
+    ghost view = { λ r. record { octets = r.octets.now; place = r.place } };
+
+    ghost invariant = { λ r. r.place ≤ 8 * length r.octets.now };
+}
+
+impl<'a> BitReader<'a> {
+    /// A reader of all the bits.
+    pub fn new(octets: &'a [u8]) -> Self
+        ensures { result ≡ record { octets = octets.now; place = 0 } }
+    {
+        BitReader { octets, place: 0 }
+    }
+
+    /// A reader from a bit on, of which the octets have so many at least.
+    pub fn at(octets: &'a [u8], bit: u128) -> Self
+        requires { bit ≤ 8 * length octets.now }
+        ensures { result ≡ record { octets = octets.now; place = bit } }
+    {
+        BitReader { octets, place: bit }
+    }
+
+    /// How many bits stand before the next one.
+    pub fn place(&self) -> u128
+        ensures { result ≡ self.now.place }
+    {
+        self.place
+    }
+
+    /// How many bits are left.
+    pub fn left(&self) -> u128
+        ensures bits { result ≡ length (left self.now) }
+        ensures rest { self.now.place + result ≡ 8 * length self.now.octets }
+    {
+        8 * self.octets.len() as u128 - self.place
+    }
+
+    /// Goes back to a bit that was passed.
+    pub fn return_to(&mut self, bit: u128)
+        requires { bit ≤ self.old.place }
+        ensures { self.new ≡ record self.old { place = bit } }
+    {
+        self.place = bit;
+    }
+
+    /// The next `width` bits as a number, the most significant first. There is none only where fewer are left, and the
+    /// place is then unchanged.
+    pub fn take(&mut self, width: u32) -> Option<u64>
+        requires { width ≤ 64 }
+        ensures found { IfSome result (λ n. number_at width (left self.old) ≡ Some (n, left self.new)) }
+        ensures moved { OnSome result (self.new ≡ record self.old { place = self.old.place + width }) }
+        ensures short { IfNone result (number_at width (left self.old) ≡ None) }
+        ensures unmoved { IfNone result (self.new ≡ self.old) }
+    {
+        if self.left() < u128::from(width) {
+            return None;
+        }
+        let number = field(self.octets, self.place, width);
+        self.place += u128::from(width);
+        Some(number)
+    }
+
+    /// The next `n` octets, at any bit. There are none only where fewer bits are left, and the place is then unchanged.
+    /// Answers `OutOfMemory` where the octets' copy was refused; the place is then unchanged too.
+    pub fn take_bytes(&mut self, alloc: Global, n: u64) -> Result<Option<Vec<u8>>, OutOfMemory>
+        ensures found { IfOk result (λ o. IfSome o (λ v. octets_at n (left self.old) ≡ Some (v.items, left self.new))) }
+        ensures moved { IfOk result (λ o. OnSome o (self.new ≡ record self.old { place = self.old.place + 8 * n })) }
+        ensures short { IfOk result (λ o. IfNone o ((octets_at n (left self.old) ≡ None) × (self.new ≡ self.old))) }
+        ensures err { OnErr result (self.new ≡ self.old) }
+    {
+        let width = 8 * u128::from(n);
+        if self.left() < width {
+            return Ok(None);
+        }
+        let octets = octets_from(alloc, self.octets, self.place, n as usize)?;
+        self.place += width;
+        Ok(Some(octets))
+    }
+}

@@ -1,0 +1,7 @@
+use Rattle.std.proofs.Common.{◌≡◌, ◌==◌, ℕ, rules, tests}
+use Rattle.std.proofs.lemmas.Iterator.{YieldsList-from_slice}
+use Rattle.std.proofs.lemmas.Iterator.Search.{all_from_yields_List}
+use Rattle.bufr_data.proofs.form.are_ones.Goals as goal
+
+pub returns : goal.returns
+returns c = all_from_yields_List (λ x. x == 255) _ _ _ c.all.ensures.ran (YieldsList-from_slice c.args.octets.now cc) (λ x b q k. search (rules, tests))

@@ -1,0 +1,13 @@
+use Rattle.std.proofs.Common.{◌≡◌, ◌^◌, ◌≤◌, ◌<◌, ◌+◌, ◌≢◌, eqb, false, sym, ℕ, arith}
+use Rattle.std.proofs.lemmas.Bool.Decides.{nat_tests}
+use Rattle.std.proofs.Math.Pow.{pow_mono}
+use Rattle.bufr_data.proofs.form.is_greatest.Goals as goal
+
+apart : (a b : ℕ) → a < b → false ≡ eqb a b
+apart a b h = grind (arith, nat_tests)
+
+pub returns-then-width-gt64 : goal.returns-then-width-gt64
+returns-then-width-gt64 c =
+    let wide : 65 ≤ c.args.width = omega arith in
+    let most : 2 ^ 65 ≤ 2 ^ c.args.width = pow_mono wide in
+    apart (c.args.number + 1) (2 ^ c.args.width) (omega arith)

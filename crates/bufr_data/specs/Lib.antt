@@ -1,0 +1,9 @@
+pub mod Plain
+pub mod Subsets
+pub mod Values
+pub mod Digits
+pub mod Laws
+pub mod Steady
+pub mod Reads
+pub mod Samples
+pub mod Reasons

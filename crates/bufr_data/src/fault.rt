@@ -1,0 +1,45 @@
+//! Why data can't be read or written.
+
+ghost use Rattle.std.specs.Prelude.{Some};
+ghost use Rattle.bufr_data.specs.Reasons.{read_reason};
+
+use bufr_tables::Fxy;
+use std::error::Error;
+use std::fmt;
+
+/// The first fault of data that are read.
+#[derive(Clone, Copy, Debug, PartialEq, Eq)]
+pub enum ReadFault {
+    /// An element whose scale, reference value or width is outside the limits under the operators in force.
+    EffectiveRange(Fxy),
+    /// The data end within this field of this subset. Both count from 1.
+    DataEnds(u64, u64),
+    /// The message has more than 16,777,216 items.
+    TooLarge,
+}
+
+impl fmt::Display for ReadFault {
+    ghost output = { λ why. Some (read_reason why) };
+
+    #[tactic(auto, unfolding(crate::specs::Reasons::read_reason))]
+    fn fmt<W: fmt::Write>(&self, f: &mut fmt::Formatter<W>) -> fmt::Result {
+        match self {
+            ReadFault::EffectiveRange(fxy) => write!(f, "V1 EffectiveRange {fxy}"),
+            ReadFault::DataEnds(subset, field) => write!(f, "V2 DataEnds {subset} {field}"),
+            ReadFault::TooLarge => write!(f, "V6 TooLarge"),
+        }
+    }
+}
+
+impl Error for ReadFault {}
+
+/// The first fault of subsets that are written.
+#[derive(Clone, Copy, Debug, PartialEq, Eq, thiserror::Error)]
+pub enum WriteFault {
+    /// This field of this subset is not one that the template allows there. Both count from 1.
+    #[error("E1 DoesNotFit {0} {1}")]
+    DoesNotFit(u64, u64),
+    /// The message has more than 16,777,216 items.
+    #[error("E3 TooLarge")]
+    TooLarge,
+}

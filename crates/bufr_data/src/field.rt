@@ -1,0 +1,134 @@
+//! Fields, subsets and values.
+
+use crate::form::{are_ones, is_below, is_greatest, is_octets, is_same};
+use bufr_expand::Spec;
+use bufr_tables::{Fxy, Items, Kind};
+
+/// What stands in the data for a field.
+#[derive(Debug, Drop, PartialEq)]
+pub enum Raw {
+    /// The bits of a number, the most significant first.
+    Number(u64),
+    /// The octets of a text.
+    Text(Items<u8>),
+}
+
+impl Raw {
+    ghost use Rattle.std.specs.Prelude.{◌≡◌};
+    ghost use Rattle.bufr_data.specs.Plain.{has_form_by, number_of};
+    ghost use Rattle.bufr_data.specs.Values.{is_all_ones};
+
+    /// Whether it is what a field of this kind and so many bits holds.
+    pub(crate) fn has_form(&self, kind: Kind, width: u32) -> bool
+        ensures { result ≡ has_form_by kind width self.now }
+    {
+        match (kind, self) {
+            (Kind::Text, Raw::Text(octets)) => is_octets(octets.as_slice(), width),
+            (Kind::Text, Raw::Number(_)) => false,
+            (_, Raw::Number(number)) => is_below(*number, width),
+            (_, Raw::Text(_)) => false,
+        }
+    }
+
+    /// The number, which is 0 for a text.
+    pub(crate) fn number(&self) -> u64
+        ensures { result ≡ number_of self.now }
+    {
+        match self {
+            Raw::Number(number) => *number,
+            Raw::Text(_) => 0,
+        }
+    }
+
+    /// Whether all bits are one in a field of so many.
+    fn is_all_ones(&self, width: u32) -> bool
+        ensures { result ≡ is_all_ones width self.now }
+    {
+        match self {
+            Raw::Number(number) => is_greatest(*number, width),
+            Raw::Text(octets) => are_ones(octets.as_slice()),
+        }
+    }
+}
+
+/// A field of a subset: its descriptor, how it stands in the data, and what stands there.
+#[derive(Debug, Drop, PartialEq)]
+pub struct Field {
+    pub fxy: Fxy,
+    pub spec: Spec,
+    pub raw: Raw,
+}
+
+impl Field {
+    ghost use Rattle.std.specs.Prelude.{◌≡◌};
+    ghost use Rattle.bufr_data.specs.Plain.{stands_for};
+    ghost use Rattle.bufr_data.specs.Values.{is_missing, value};
+
+    /// Whether it has this descriptor and this spec, and a raw value of its form.
+    pub(crate) fn stands_for(&self, fxy: Fxy, spec: Spec) -> bool
+        ensures { result ≡ stands_for fxy spec self.now }
+    {
+        self.fxy == fxy && is_same(self.spec, spec) && self.raw.has_form(spec.kind, spec.width)
+    }
+
+    /// Whether all bits are one, the width is not 1 and the kind is not `Count`. A raw value that has not its spec's form is never missing.
+    pub fn is_missing(&self) -> bool
+        ensures { result ≡ is_missing self.now }
+    {
+        let width = self.spec.width;
+        self.raw.has_form(self.spec.kind, width)
+            && self.raw.is_all_ones(width)
+            && width != 1
+            && !matches!(self.spec.kind, Kind::Count)
+    }
+
+    /// The value of a number: raw value and reference value, with the spec's scale. `None` where the field is missing, where its kind or its
+    /// raw value is a text, and where the scale is not -600 to 600.
+    pub fn value(&self) -> Option<Decimal>
+        ensures { result ≡ value self.now }
+    {
+        match (self.spec.kind, &self.raw) {
+            (Kind::Text, _) => None,
+            (_, Raw::Text(_)) => None,
+            (_, Raw::Number(number)) if !self.is_missing() => {
+                Decimal::from_raw(*number, self.spec.reference, self.spec.scale)
+            }
+            (_, Raw::Number(_)) => None,
+        }
+    }
+}
+
+/// The fields of one subset, in the order of the data.
+#[derive(Debug, Drop, PartialEq)]
+pub struct Subset {
+    pub fields: Items<Field>,
+}
+
+/// Units times ten to the power of minus scale.
+#[derive(Clone, Copy, Debug, PartialEq, Eq)]
+pub struct Decimal {
+    pub units: i128,
+    pub scale: i32,
+}
+
+impl Decimal {
+    ghost use Rattle.std.specs.Prelude.{◌≡◌, pos, ◌+ℤ◌};
+    ghost use Rattle.bufr_data.specs.Values.{decimal_within};
+
+    /// So many units at this scale, or `None` where the scale is not -600 to 600.
+    pub fn new(units: i128, scale: i32) -> Option<Decimal>
+        ensures { result ≡ decimal_within units scale }
+    {
+        if scale < -600 || scale > 600 {
+            return None;
+        }
+        Some(Decimal { units, scale })
+    }
+
+    /// The value of a raw value above a reference value, or `None` where the scale is not -600 to 600.
+    fn from_raw(number: u64, reference: i64, scale: i32) -> Option<Decimal>
+        ensures { result ≡ decimal_within (pos number +ℤ reference) scale }
+    {
+        Decimal::new(i128::from(number) + i128::from(reference), scale)
+    }
+}

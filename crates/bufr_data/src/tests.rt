@@ -1,0 +1,4 @@
+//! Values and data, row by row of the description.
+
+mod data;
+mod values;

@@ -1,0 +1,10 @@
+pub mod Between
+pub mod Expanding
+pub mod Flattening
+pub mod Limits
+pub mod Loops
+pub mod Passing
+pub mod Readings
+pub mod SpecFacts
+pub mod Steps
+pub mod UnrollFacts

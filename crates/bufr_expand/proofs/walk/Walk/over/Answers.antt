@@ -1,0 +1,36 @@
+use Rattle.std.proofs.Common.{◌≡◌, ◌+◌, ◌≤◌, List, [], length, refl, sym, ap, subst, arith}
+use Rattle.bufr_expand.specs.declared.standing.Open.{Open}
+use Rattle.bufr_expand.specs.Places.{in_front, AreOpen}
+use Rattle.bufr_expand.specs.Walks.{left, waits, items_met}
+use Rattle.bufr_expand.proofs.Passing.{at_front}
+use Rattle.bufr_expand.proofs.walk.Walk.over.Goals as goal
+
+pub invariant_of-result : goal.invariant_of-result
+unfolding AreOpen
+invariant_of-result c =
+    let ns = c.args.nodes.now in
+    let none : c.in_ok-loops.loops.items ≡ [] = c.in_ok-loops.ensures.items in
+    let number : length c.in_ok-loops.loops.items ≡ 0 = ap length none in
+    let P : List Open → Type 0 = λ l. AreOpen ns 0 l in
+    let front : 0 ≤ 0 = omega arith in
+    let inside : length c.in_ok-loops.loops.items + 0 ≤ in_front ns 0 = omega (arith, number) in
+    record {
+      within = (omega arith, omega arith);
+      in_bodies = subst P (sym none) tt;
+      has_begun = front;
+      is_inside = inside;
+      has_room = omega (arith, c.in_ok-loops.ensures.exact, c.levels.ensures);
+    }
+
+pub returns-clause-course : goal.returns-clause-course
+unfolding left
+returns-clause-course c =
+    at_front c.args.nodes.now c.in_ok-loops.loops.items c.none.result c.args.used c.in_ok-loops.ensures.items c.none.ensures
+
+pub returns-clause-answered : goal.returns-clause-answered
+unfolding waits
+returns-clause-answered c = refl
+
+pub returns-clause-items : goal.returns-clause-items
+unfolding items_met
+returns-clause-items c = refl

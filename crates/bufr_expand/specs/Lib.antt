@@ -1,0 +1,14 @@
+pub mod Answering
+pub mod Courses
+pub mod Effects
+pub mod Expansion
+pub mod Flat
+pub mod Operating
+pub mod Parts
+pub mod Places
+pub mod Samples
+pub mod TreeCodes
+pub mod Trees
+pub mod Unrolling
+pub mod Walks
+pub mod Reasons

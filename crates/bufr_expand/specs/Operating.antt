@@ -1,0 +1,87 @@
+-- What the operators in force make of an element (FM 94 BUFR, Table C: 201, 202, 207 and 208).
+use Rattle.std.specs.Prelude.{ℕ, ◌+◌, ◌*◌, ◌/◌, ◌%◌, ◌^◌, ◌==◌, ◌&&◌, Bool, Option, Some, None, ℤ, pos, negsuc, ◌+ℤ◌, ◌-ℤ◌, ◌*ℤ◌, nat_lt, nat_le, if◌then◌else◌}
+use Rattle.bufr_tables.specs.declared.element.Element.{Element}
+use Rattle.bufr_tables.specs.declared.element.Kind.{Kind}
+use Rattle.bufr_tables.specs.declared.element.Kind.TheVariants as kinds
+use Rattle.bufr_tables.specs.Descriptors.{x_of, y_of}
+use Rattle.bufr_expand.specs.declared.operators.Operators.{Operators}
+use Rattle.bufr_expand.specs.declared.operators.Spec.{Spec}
+
+-- no operator is in force
+abbrev pub none_in_force : Operators
+none_in_force = record { add_width = None; add_scale = None; increase = None; characters = None }
+
+-- an operand of 0 cancels
+abbrev pub operand : ℕ → Option ℕ
+operand y = if y == 0 then None else Some y
+
+-- the operators in force after one more, by its X
+abbrev pub in_force_after : Operators → ℕ → Operators
+in_force_after q d =
+    if x_of d == 1 then record q { add_width = operand (y_of d) }
+    else if x_of d == 2 then record q { add_scale = operand (y_of d) }
+    else if x_of d == 7 then record q { increase = operand (y_of d) }
+    else record q { characters = operand (y_of d) }
+
+-- what 201 and 202 add
+abbrev pub added : Option ℕ → ℤ
+added None = pos 0
+added (Some y) = pos y -ℤ pos 128
+
+-- what 207 adds to the scale, what it multiplies the reference value by, and what it adds to the width
+abbrev pub increase_of : Option ℕ → ℕ
+increase_of None = 0
+increase_of (Some y) = y
+
+abbrev pub widening : Option ℕ → ℕ
+widening None = 0
+widening (Some y) = (10 * y + 2) / 3
+
+-- a number between minus a limit and the limit
+abbrev pub is_within : ℕ → ℤ → Bool
+is_within limit (pos n) = nat_le n limit
+is_within limit (negsuc n) = nat_lt n limit
+
+-- a spec within the limits: numbers have 1 to 63 bits, texts whole octets up to 65,528 bits
+abbrev pub number_spec : Kind → ℤ → ℤ → ℤ → Option Spec
+number_spec kind scale reference (negsuc w) = None
+number_spec kind scale reference (pos w) =
+    if nat_le 1 w && nat_le w 63 && is_within (2 ^ 62) reference
+    then Some (record { kind = kind; scale = scale; reference = reference; width = w }) else None
+
+abbrev pub text_spec : ℕ → Option Spec
+text_spec w =
+    if nat_le 8 w && nat_le w 65528 && (w % 8 == 0)
+    then Some (record { kind = kinds.Text; scale = pos 0; reference = pos 0; width = w }) else None
+
+abbrev pub text_width : ℕ → Option ℕ → ℕ
+text_width width None = width
+text_width width (Some y) = 8 * y
+
+-- the spec of an element that no operator changes, where it is within the limits
+abbrev pub untouched_by : Kind → Element → Option Spec
+untouched_by kinds.Text e = text_spec e.width
+untouched_by kind e = if is_within 127 e.scale then number_spec kind e.scale e.reference (pos e.width) else None
+
+abbrev pub untouched : Element → Option Spec
+untouched e = untouched_by e.kind e
+
+-- the spec of a quantity: what is in force adds up
+abbrev pub quantity : Element → Operators → Option Spec
+quantity e q =
+    if is_within 127 e.scale
+    then number_spec kinds.Quantity (e.scale +ℤ added q.add_scale +ℤ pos (increase_of q.increase)) (e.reference *ℤ pos (10 ^ increase_of q.increase)) (pos e.width +ℤ added q.add_width +ℤ pos (widening q.increase))
+    else None
+
+abbrev pub effective_by : Kind → ℕ → Element → Operators → Option Spec
+effective_by kinds.Text d e q = text_spec (text_width e.width q.characters)
+effective_by kinds.Quantity d e q = if x_of d == 31 then untouched e else quantity e q
+effective_by kind d e q = untouched e
+
+-- the spec of an element under the operators in force, where it is within the limits
+abbrev pub effective : ℕ → Element → Operators → Option Spec
+effective d e q = effective_by e.kind d e q
+
+-- a factor is a count: its raw value is never missing
+abbrev pub factor_spec : Element → Spec
+factor_spec e = record { kind = kinds.Count; scale = pos 0; reference = pos 0; width = e.width }

@@ -1,0 +1,17 @@
+-- What is printed of a refusal: its number, its name and its values.
+use Rattle.std.specs.Prelude.{ℕ, List, ◌++◌, codes}
+use Rattle.bufr_tables.specs.Descriptors.{six_digits}
+use Rattle.bufr_expand.specs.declared.node.TemplateFault.{TemplateFault}
+use Rattle.bufr_expand.specs.declared.node.TemplateFault.TheVariants.{UnknownElement, UnknownSequence, UnsupportedOperator, BadReplication, BadFactor, BadOperand, Dangling206, TooDeep, TooManyNodes}
+
+-- the reason that a list of descriptors has no template
+unfoldable pub template_reason : TemplateFault → List ℕ
+template_reason (UnknownElement d) = codes "X1 UnknownElement " ++ six_digits d
+template_reason (UnknownSequence d) = codes "X2 UnknownSequence " ++ six_digits d
+template_reason (UnsupportedOperator d) = codes "X3 UnsupportedOperator " ++ six_digits d
+template_reason (BadReplication d) = codes "X4 BadReplication " ++ six_digits d
+template_reason (BadFactor d) = codes "X5 BadFactor " ++ six_digits d
+template_reason (BadOperand d) = codes "X6 BadOperand " ++ six_digits d
+template_reason (Dangling206 d) = codes "X7 Dangling206 " ++ six_digits d
+template_reason TooDeep = codes "X8 TooDeep"
+template_reason TooManyNodes = codes "X9 TooManyNodes"

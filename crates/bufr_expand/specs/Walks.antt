@@ -1,0 +1,90 @@
+-- A walk, by the course that it has left.
+use Rattle.std.specs.Prelude.{◌≡◌, ℕ, ◌+◌, ◌*◌, ◌-◌, ◌<◌, ◌^◌, Bool, true, false, List, [], ◌∷◌, length, take, drop, Option, Some, None, Result, Ok, Err, MatchBool}
+use Rattle.bufr_tables.specs.declared.element.Kind.TheVariants as kinds
+use Rattle.bufr_tables.specs.Elements.{same_kind}
+use Rattle.bufr_expand.specs.declared.node.Node.{Node}
+use Rattle.bufr_expand.specs.declared.walk.Step.{Step}
+use Rattle.bufr_expand.specs.declared.walk.Step.TheVariants as steps
+use Rattle.bufr_expand.specs.declared.walk.WalkFault.{WalkFault}
+use Rattle.bufr_expand.specs.declared.standing.Open.{Open}
+use Rattle.bufr_expand.specs.declared.standing.State.{State}
+use Rattle.bufr_expand.specs.declared.standing.State.TheVariants as states
+use Rattle.bufr_expand.specs.declared.walk.Walk.{Walk}
+use Rattle.bufr_expand.specs.Trees.{Tree, tree_of}
+use Rattle.bufr_expand.specs.Courses.{Course, ends, stops, asks, Then, turns, course_then}
+
+-- the tree of the nodes from one place to another
+abbrev pub tree_between : List Node → ℕ → ℕ → Tree
+tree_between nodes from to = tree_of (take (to - from) (drop from nodes))
+
+-- the nodes from one place to another, and then what comes after them
+abbrev pub rest_then : List Node → ℕ → ℕ → Then → Then
+rest_then nodes from to after = λ q used. course_then (tree_between nodes from to) q used after
+
+-- so many turns of the nodes from one place to another, the nodes behind them, and then what comes after these
+abbrev pub turns_then : List Node → ℕ → ℕ → ℕ → ℕ → Then → Then
+turns_then nodes n from to stop after = λ q used. turns n (course_then (tree_between nodes from to)) q used (rest_then nodes to stop after)
+
+-- what comes after the nodes at hand: for each open replication, the outermost first, the turns that it has left and the nodes behind it
+unfoldable pub behind : List Node → List Open → Then → Then
+behind nodes [] after = after
+behind nodes (o ∷ os) after = behind nodes os (turns_then nodes o.turns o.from o.to o.stop after)
+
+abbrev pub behind_all : List Node → List Open → Then
+behind_all nodes os = behind nodes os (λ q used. ends used)
+
+-- the course at a place
+abbrev pub going : List Node → ℕ → ℕ → List Open → Then
+going nodes place stop os = rest_then nodes place stop (behind_all nodes os)
+
+-- the course after a number is told: a body stands as often as it says
+abbrev pub told : Option ℕ → List Node → ℕ → ℕ → List Open → ℕ → Then
+told None nodes place stop os n = going nodes place stop os
+told (Some from) nodes place stop os n = turns_then nodes n from place stop (behind_all nodes os)
+
+abbrev pub left_in : State → List Node → ℕ → ℕ → List Open → Then
+left_in states.Going nodes place stop os q used = going nodes place stop os q used
+left_in (states.Waiting asked) nodes place stop os q used = asks used asked.fxy asked.spec (λ n. told asked.body nodes place stop os n q used)
+left_in (states.Stopped fault) nodes place stop os q used = stops used fault
+
+-- the course that is left
+unfoldable pub left : Walk → Course
+left w = left_in w.state w.nodes.now w.place w.stop w.loops.items w.operators w.items
+
+-- whether the last step was a count that has had no answer
+abbrev pub is_waiting : State → Bool
+is_waiting states.Going = false
+is_waiting (states.Waiting asked) = true
+is_waiting (states.Stopped fault) = false
+
+unfoldable pub waits : Walk → Bool
+waits w = is_waiting w.state
+
+-- the items of the message by now
+unfoldable pub items_met : Walk → ℕ
+items_met w = w.items
+
+-- at most so many nodes, turns and ends of replications are passed before the next field
+unfoldable pub steps_left : Walk → ℕ
+steps_left w = 2 * (16777216 - w.items) + length w.loops.items
+
+-- what one step answers and leaves: at a count the walk waits
+abbrev pub Goes : Course → Result Step WalkFault → Walk → Type 0
+Goes (ends n) answer w = (answer ≡ Ok steps.End) × (left w ≡ ends n) × (waits w ≡ false) × (items_met w ≡ n)
+Goes (stops n fault) answer w = (answer ≡ Err fault) × (left w ≡ stops n fault) × (waits w ≡ false) × (items_met w ≡ n)
+Goes (asks met d spec more) answer w =
+    MatchBool (same_kind spec.kind kinds.Count)
+    ((answer ≡ Ok (steps.Count d spec)) × (left w ≡ asks met d spec more) × (waits w ≡ true) × (items_met w ≡ met))
+    ((answer ≡ Ok (steps.Field d spec)) × (left w ≡ more 0) × (waits w ≡ false) × (items_met w ≡ met))
+
+-- what the answer to a count leaves
+abbrev pub Counted : Course → ℕ → Walk → Type 0
+Counted (asks met d spec more) n w = (left w ≡ more n) × (waits w ≡ false) × (items_met w ≡ met)
+Counted (ends m) n w = Unit {0}
+Counted (stops met fault) n w = Unit {0}
+
+-- a number that a count can have
+abbrev pub IsBelowCount : Course → ℕ → Type 0
+IsBelowCount (asks met d spec more) n = n < 2 ^ spec.width
+IsBelowCount (ends m) n = ⊥
+IsBelowCount (stops met fault) n = ⊥

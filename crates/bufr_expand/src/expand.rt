@@ -1,0 +1,106 @@
+//! The nodes of a list of descriptors.
+
+ghost use Rattle.std.specs.Prelude.{◌≡◌, ◌+◌, ◌-◌, ◌<◌, suc, length, slice_set};
+ghost use Rattle.bufr_tables.specs.Answers.{Gives};
+ghost use Rattle.bufr_expand.specs.Expansion.{onto, expand_within, part_nodes, replication_nodes, single_nodes, head_node};
+ghost use Rattle.bufr_expand.specs.Parts.{seen_part};
+
+use crate::node::{Head, Node, TemplateFault};
+use crate::part::{Part, found_at};
+use bufr_tables::{Failure, Fxy, Tables};
+
+/// A template has at most so many nodes.
+const MOST_NODES: usize = 65_536;
+
+/// Adds the nodes of a list of descriptors, or tells its first fault, X1 to X9. So many sequences and replications may still
+/// stand in each other.
+#[cycle(expand)]
+pub fn expand(
+    tables: &Tables,
+    sequences: u8,
+    replications: u8,
+    list: &[Fxy],
+    nodes: &mut Vec<Node>,
+) -> Result<(), Failure<TemplateFault>>
+    ensures { Gives (λ _. nodes.new.items) result (onto nodes.old.items (expand_within (suc (sequences + replications)) tables.now sequences replications (length nodes.old.items) list.now)) }
+{
+    let mut rest = list;
+    while let Some((first, behind)) = rest.split_first() {
+        let found = match found_at(tables, *first, behind) {
+            Ok(found) => found,
+            Err(fault) => return Err(Failure::Fault(fault)),
+        };
+        add_part(tables, sequences, replications, &found.part, nodes)?;
+        rest = &behind[found.taken..];
+    }
+    Ok(())
+}
+
+/// Adds the nodes of a part. X8 and X9, and the first fault of a list in it.
+#[cycle(expand)]
+fn add_part(
+    tables: &Tables,
+    sequences: u8,
+    replications: u8,
+    part: &Part,
+    nodes: &mut Vec<Node>,
+) -> Result<(), Failure<TemplateFault>>
+    ensures { Gives (λ _. nodes.new.items) result (onto nodes.old.items (part_nodes (expand_within (sequences + replications) tables.now) sequences replications (length nodes.old.items) (seen_part part.now))) }
+{
+    match part {
+        Part::Single(node) => add_node(node, nodes),
+        Part::Inner(list) => {
+            if sequences == 0 {
+                return Err(Failure::Fault(TemplateFault::TooDeep));
+            }
+            expand(tables, sequences - 1, replications, list, nodes)
+        }
+        Part::Replication(head, body) => {
+            if replications == 0 {
+                return Err(Failure::Fault(TemplateFault::TooDeep));
+            }
+            let place = nodes.len();
+            add_head(head, nodes)?;
+            expand(tables, sequences, replications - 1, body, nodes)?;
+            close_head(place, head, nodes);
+            Ok(())
+        }
+    }
+}
+
+/// Adds the node of a replication, of no size yet. X9 where there are 65,536.
+fn add_head(head: &Head, nodes: &mut Vec<Node>) -> Result<(), Failure<TemplateFault>>
+    ensures { Gives (λ _. nodes.new.items) result (onto nodes.old.items (single_nodes (length nodes.old.items) (head_node head.now 0))) }
+{
+    add_node(&head_node(head, 0), nodes)
+}
+
+/// Gives the node of a replication at a place the size of its body: all nodes behind it.
+fn close_head(place: usize, head: &Head, nodes: &mut Vec<Node>)
+    requires { place < length nodes.old.items }
+    ensures { nodes.new.items ≡ slice_set nodes.old.items place (head_node head.now (length nodes.old.items - place - 1)) }
+{
+    let size = nodes.len() - place - 1;
+    nodes[place] = head_node(head, size as u64);
+}
+
+/// Adds one node. X9 where there are 65,536.
+fn add_node(node: &Node, nodes: &mut Vec<Node>) -> Result<(), Failure<TemplateFault>>
+    ensures { Gives (λ _. nodes.new.items) result (onto nodes.old.items (single_nodes (length nodes.old.items) node.now)) }
+{
+    if nodes.len() >= MOST_NODES {
+        return Err(Failure::Fault(TemplateFault::TooManyNodes));
+    }
+    nodes.push(*node)?;
+    Ok(())
+}
+
+/// The node of a replication whose body has so many nodes.
+fn head_node(head: &Head, size: u64) -> Node
+    ensures { result ≡ head_node head.now size }
+{
+    match *head {
+        Head::Times(times) => Node::Repeated(times, size),
+        Head::Factor(factor, element) => Node::Delayed(factor, element, size),
+    }
+}

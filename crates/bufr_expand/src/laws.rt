@@ -1,0 +1,28 @@
+//! Laws of the definitions.
+
+ghost use Rattle.std.specs.Prelude.{◌≡◌, ◌≤◌, ℕ, List, Some};
+ghost use Rattle.bufr_tables.specs.declared.element.Element.{Element};
+ghost use Rattle.bufr_expand.specs.declared.operators.Operators.{Operators};
+ghost use Rattle.bufr_expand.specs.declared.operators.Spec.{Spec};
+ghost use Rattle.bufr_expand.specs.Operating.{effective, untouched};
+ghost use Rattle.bufr_expand.specs.Effects.{Effective, AsInTable};
+ghost use Rattle.bufr_expand.specs.Courses.{course};
+ghost use Rattle.bufr_expand.specs.Trees.{Tree};
+ghost use Rattle.bufr_expand.specs.Unrolling.{Told, Allows, Unrolls};
+
+/// The spec of an element under operators is the one for which the equations of Table C and the limits hold, and there is
+/// at most one.
+pub fn specs_are_effective()
+    ensures found { (d : ℕ) (e : Element) (q : Operators) (s : Spec) → effective d e q ≡ Some s → Effective d e q s }
+    ensures only { (d : ℕ) (e : Element) (q : Operators) (s : Spec) → Effective d e q s → effective d e q ≡ Some s }
+    ensures one { (d : ℕ) (e : Element) (q : Operators) (s t : Spec) → Effective d e q s → Effective d e q t → s ≡ t }
+    ensures table_found { (e : Element) (s : Spec) → untouched e ≡ Some s → AsInTable e s }
+    ensures table_only { (e : Element) (s : Spec) → AsInTable e s → untouched e ≡ Some s }
+{}
+
+/// The fields that a template asks for, given the numbers of the counts, are those that its tree stands for: with the items
+/// that are then met, and within the items that a message may have.
+pub fn courses_are_unrollings()
+    ensures unrolled { (t : Tree) (used : ℕ) (fields : List Told) (n : ℕ) → used ≤ 16777216 → Allows (course t used) fields n → Unrolls t used fields n }
+    ensures allowed { (t : Tree) (used : ℕ) (fields : List Told) (n : ℕ) → Unrolls t used fields n → Allows (course t used) fields n }
+{}

@@ -1,0 +1,238 @@
+//! Operators in force, and what they make of an element.
+
+ghost use Rattle.std.specs.Prelude.{◌≡◌, ◌⊎◌, ◌+ℤ◌, ◌*ℤ◌, ◌≤ℤ◌, ◌≤◌, ◌^◌, pos, negsuc, true, false, Some, None, MatchOption, MatchResult};
+ghost use Rattle.bufr_tables.specs.Descriptors.{f_of, x_of};
+ghost use Rattle.bufr_expand.specs.Operating as operating;
+ghost use Rattle.bufr_expand.specs.Operating.{none_in_force, in_force_after, effective, untouched};
+
+use bufr_tables::{Element, Fxy, Kind};
+use thiserror::Error;
+
+/// How a field stands in the data: `width` bits, of which a number means
+/// (raw + `reference`) times 10 to the power of minus `scale`. A text has scale and reference 0.
+#[derive(Clone, Copy, Debug, PartialEq, Eq)]
+pub struct Spec {
+    pub kind: Kind,
+    pub scale: i32,
+    pub reference: i64,
+    pub width: u32,
+}
+
+/// No field of this element can stand in the data: its spec is outside the limits.
+#[derive(Clone, Copy, Debug, Error, PartialEq, Eq)]
+#[error("V1 EffectiveRange {0}")]
+pub struct EffectiveRange(pub Fxy);
+
+/// The operands in force of the operators 201, 202, 207 and 208.
+#[derive(Clone, Copy, Debug, PartialEq, Eq)]
+pub struct Operators {
+    /// The Y of 201, which adds Y - 128 to the width.
+    pub add_width: Option<u8>,
+    /// The Y of 202, which adds Y - 128 to the scale.
+    pub add_scale: Option<u8>,
+    /// The Y of 207, which adds to the scale and the width and multiplies the reference value.
+    pub increase: Option<u8>,
+    /// The Y of 208, the octets of each text.
+    pub characters: Option<u8>,
+}
+
+impl Operators {
+    /// None in force.
+    pub fn none() -> Operators
+        ensures { result ≡ none_in_force }
+    {
+        Operators {
+            add_width: None,
+            add_scale: None,
+            increase: None,
+            characters: None,
+        }
+    }
+
+    /// Puts one of the operators 201, 202, 207 and 208 in force in place of its own former Y, or cancels it, where Y is 0.
+    pub fn apply(&mut self, op: Fxy)
+        requires operator { f_of op ≡ 2 }
+        requires stays { (x_of op ≡ 1) ⊎ (x_of op ≡ 2) ⊎ (x_of op ≡ 7) ⊎ (x_of op ≡ 8) }
+        ensures { self.new ≡ in_force_after self.old op }
+    {
+        self.put(op);
+    }
+
+    /// The spec of an element under these operators. `EffectiveRange` comes exactly where that spec is outside the limits.
+    pub fn effective(&self, element: &Element, fxy: Fxy) -> Result<Spec, EffectiveRange>
+        ensures { MatchResult result (λ s. effective fxy element.now self.now ≡ Some s) (λ e. (e ≡ record { 0 = fxy }) × (effective fxy element.now self.now ≡ None)) }
+    {
+        let spec = match element.kind {
+            Kind::Text => text_spec(self.text_width(element.width)),
+            Kind::Quantity if fxy.x() != 31 => self.quantity(element),
+            Kind::Code | Kind::Flag | Kind::Quantity | Kind::Count => unchanged(element),
+        };
+        spec.ok_or(EffectiveRange(fxy))
+    }
+
+    /// Puts an operator in force by its X.
+    pub(crate) fn put(&mut self, op: Fxy)
+        ensures { self.new ≡ in_force_after self.old op }
+    {
+        let operand = operand(op.y());
+        match op.x() {
+            1 => self.add_width = operand,
+            2 => self.add_scale = operand,
+            7 => self.increase = operand,
+            _ => self.characters = operand,
+        }
+    }
+
+    /// The bits of a text.
+    fn text_width(&self, width: u32) -> u32
+        ensures { result ≡ operating.text_width width self.now.characters }
+    {
+        match self.characters {
+            None => width,
+            Some(octets) => 8 * u32::from(octets),
+        }
+    }
+
+    /// The spec of a quantity, to which all that is in force adds up.
+    fn quantity(&self, element: &Element) -> Option<Spec>
+        ensures { result ≡ operating.quantity element.now self.now }
+    {
+        if !is_within(127, i64::from(element.scale)) {
+            return None;
+        }
+        let reference = increased(element.reference, self.increase())?;
+        let scale = self.scale(element.scale);
+        let width = self.width(element.width);
+        number_spec(Kind::Quantity, scale, reference, width)
+    }
+
+    /// What 207 adds to the scale.
+    fn increase(&self) -> u8
+        ensures { result ≡ operating.increase_of self.now.increase }
+    {
+        self.increase.unwrap_or(0)
+    }
+
+    /// The scale of a quantity.
+    fn scale(&self, scale: i32) -> i32
+        requires { operating.is_within 127 scale ≡ true }
+        ensures { result ≡ scale +ℤ operating.added self.now.add_scale +ℤ pos (operating.increase_of self.now.increase) }
+    {
+        scale + added(self.add_scale) + i32::from(self.increase())
+    }
+
+    /// The width of a quantity, which may be below 0.
+    fn width(&self, width: u32) -> i64
+        ensures { result ≡ pos width +ℤ operating.added self.now.add_width +ℤ pos (operating.widening self.now.increase) }
+    {
+        i64::from(width) + i64::from(added(self.add_width)) + i64::from(widening(self.increase))
+    }
+}
+
+/// An operand of 0 cancels.
+fn operand(y: u8) -> Option<u8>
+    ensures { result ≡ operating.operand y }
+{
+    if y == 0 { None } else { Some(y) }
+}
+
+/// What 201 and 202 add.
+fn added(operand: Option<u8>) -> i32
+    ensures value { result ≡ operating.added operand }
+    ensures low { negsuc 127 ≤ℤ result }
+    ensures high { result ≤ℤ pos 127 }
+{
+    match operand {
+        None => 0,
+        Some(y) => i32::from(y) - 128,
+    }
+}
+
+/// What 207 adds to the width.
+fn widening(operand: Option<u8>) -> i32
+    ensures value { result ≡ pos (operating.widening operand) }
+    ensures high { result ≤ℤ pos 850 }
+{
+    match operand {
+        None => 0,
+        Some(y) => (10 * i32::from(y) + 2) / 3,
+    }
+}
+
+/// A reference value times 10 to a power, unless it is then outside the limits.
+fn increased(reference: i64, power: u8) -> Option<i64>
+    ensures { MatchOption result (operating.is_within (2 ^ 62) (reference *ℤ pos (10 ^ power)) ≡ false) (λ r. r ≡ reference *ℤ pos (10 ^ power)) }
+{
+    if reference == 0 {
+        return Some(0);
+    }
+    if power > 18 {
+        return None;
+    }
+    reference.checked_mul(ten_to(power))
+}
+
+/// A power of ten.
+fn ten_to(power: u8) -> i64
+    requires { power ≤ 18 }
+    ensures { result ≡ pos (10 ^ power) }
+{
+    10_u64.pow(u32::from(power)) as i64
+}
+
+/// Whether a number lies between minus a limit and the limit.
+fn is_within(limit: u64, number: i64) -> bool
+    ensures { result ≡ operating.is_within limit number }
+{
+    number.unsigned_abs() <= limit
+}
+
+/// The spec of a number, where it is within the limits.
+fn number_spec(kind: Kind, scale: i32, reference: i64, width: i64) -> Option<Spec>
+    ensures { result ≡ operating.number_spec kind scale reference width }
+{
+    if width < 1 || width > 63 || !is_within(1 << 62, reference) {
+        return None;
+    }
+    Some(Spec {
+        kind,
+        scale,
+        reference,
+        width: width as u32,
+    })
+}
+
+/// The spec of a text, where it is within the limits.
+fn text_spec(width: u32) -> Option<Spec>
+    ensures { result ≡ operating.text_spec width }
+{
+    if width < 8 || width > 65528 || width % 8 != 0 {
+        return None;
+    }
+    Some(Spec {
+        kind: Kind::Text,
+        scale: 0,
+        reference: 0,
+        width,
+    })
+}
+
+/// The spec of an element that no operator changes, where it is within the limits.
+pub(crate) fn unchanged(element: &Element) -> Option<Spec>
+    ensures { result ≡ untouched element.now }
+{
+    match element.kind {
+        Kind::Text => text_spec(element.width),
+        kind => {
+            if !is_within(127, i64::from(element.scale)) {
+                return None;
+            }
+            number_spec(
+                kind,
+                element.scale,
+                element.reference,
+                i64::from(element.width),
+            )
+        }
+    }
+}

@@ -1,0 +1,235 @@
+//! What one descriptor of a list stands for.
+
+ghost use Rattle.std.specs.Prelude.{◌≡◌, ◌≤◌, length, IfOk, IfSome, option_map, option_copied};
+ghost use Rattle.bufr_tables.specs.Answers.{result_map};
+ghost use Rattle.bufr_tables.specs.Descriptors.{f_of};
+ghost use Rattle.bufr_tables.specs.Entries.{element, sequence};
+ghost use Rattle.bufr_expand.specs.Expansion.{found_at, element_found, sequence_found, replication_found, repeated_found, factor_found, factor_row, is_factor_row, operator_found, width_found, local_found, number_found, characters, plain_number};
+ghost use Rattle.bufr_expand.specs.Expansion as expansion;
+ghost use Rattle.bufr_expand.specs.Parts.{seen};
+
+use crate::node::{Head, Node, TemplateFault};
+use bufr_tables::{Element, Fxy, Kind, Tables};
+
+/// One node, the list of a sequence, or a replication of the descriptors of a list.
+#[derive(Clone, Copy, Debug)]
+pub enum Part<'a> {
+    Single(Node),
+    Inner(&'a [Fxy]),
+    Replication(Head, &'a [Fxy]),
+}
+
+/// A part, and how many of the descriptors behind its first belong to it.
+#[derive(Clone, Copy, Debug)]
+pub struct Found<'a> {
+    pub part: Part<'a>,
+    pub taken: usize,
+}
+
+/// One node, to which so many of the descriptors behind the first belong.
+fn single<'a>(node: Node, taken: usize) -> Found<'a>
+    ensures { seen result ≡ record { part = expansion.single node; taken = taken } }
+{
+    Found {
+        part: Part::Single(node),
+        taken,
+    }
+}
+
+/// What a descriptor stands for, by those behind it in the same list. X1 to X7 where it stands for nothing.
+pub fn found_at<'a>(
+    tables: &'a Tables,
+    first: Fxy,
+    behind: &'a [Fxy],
+) -> Result<Found<'a>, TemplateFault>
+    ensures value { result_map seen result ≡ found_at tables.now first behind.now }
+    ensures taken { IfOk result (λ p. p.taken ≤ length behind.now) }
+{
+    match first.f() {
+        0 => element_found(tables, first),
+        1 => replication_found(tables, first, behind),
+        2 => operator_found(tables, first, behind),
+        _ => sequence_found(tables, first),
+    }
+}
+
+/// The element of Table B. X1 where it has none.
+fn element_found<'a>(tables: &Tables, first: Fxy) -> Result<Found<'a>, TemplateFault>
+    ensures value { result_map seen result ≡ element_found first (element tables.now first) }
+    ensures taken { IfOk result (λ p. p.taken ≡ 0) }
+{
+    match tables.element(first) {
+        Some(element) => Ok(single(Node::Element(first, *element), 0)),
+        None => Err(TemplateFault::UnknownElement(first)),
+    }
+}
+
+/// The list of Table D. X2 where it has none.
+fn sequence_found<'a>(tables: &'a Tables, first: Fxy) -> Result<Found<'a>, TemplateFault>
+    ensures value { result_map seen result ≡ sequence_found first (sequence tables.now first) }
+    ensures taken { IfOk result (λ p. p.taken ≡ 0) }
+{
+    match tables.sequence(first) {
+        Some(list) => Ok(Found {
+            part: Part::Inner(list),
+            taken: 0,
+        }),
+        None => Err(TemplateFault::UnknownSequence(first)),
+    }
+}
+
+/// A replication. X4 or X5 where there is none.
+fn replication_found<'a>(
+    tables: &Tables,
+    first: Fxy,
+    behind: &'a [Fxy],
+) -> Result<Found<'a>, TemplateFault>
+    ensures value { result_map seen result ≡ replication_found tables.now first behind.now }
+    ensures taken { IfOk result (λ p. p.taken ≤ length behind.now) }
+{
+    if first.x() == 0 {
+        Err(TemplateFault::BadReplication(first))
+    } else if first.y() == 0 {
+        delayed_found(tables, first, behind)
+    } else {
+        repeated_found(first, behind)
+    }
+}
+
+/// A replication of the next X descriptors, Y times. X4 where fewer are left.
+fn repeated_found<'a>(first: Fxy, behind: &'a [Fxy]) -> Result<Found<'a>, TemplateFault>
+    ensures value { result_map seen result ≡ repeated_found first behind.now }
+    ensures taken { IfOk result (λ p. p.taken ≤ length behind.now) }
+{
+    let count = first.x() as usize;
+    if behind.len() < count {
+        return Err(TemplateFault::BadReplication(first));
+    }
+    let head = Head::Times(first.y() as u64);
+    Ok(Found {
+        part: Part::Replication(head, &behind[..count]),
+        taken: count,
+    })
+}
+
+/// A replication by a factor. X4 where nothing follows, X5, then X4 where fewer than X descriptors are left.
+fn delayed_found<'a>(
+    tables: &Tables,
+    first: Fxy,
+    behind: &'a [Fxy],
+) -> Result<Found<'a>, TemplateFault>
+    ensures value { result_map seen result ≡ factor_found tables.now first behind.now }
+    ensures taken { IfOk result (λ p. p.taken ≤ length behind.now) }
+{
+    let Some((factor, body)) = behind.split_first() else {
+        return Err(TemplateFault::BadReplication(first));
+    };
+    let Some(element) = factor_row(tables, *factor) else {
+        return Err(TemplateFault::BadFactor(*factor));
+    };
+    if !is_factor_row(&element) {
+        return Err(TemplateFault::BadFactor(*factor));
+    }
+    let count = first.x() as usize;
+    if body.len() < count {
+        return Err(TemplateFault::BadReplication(first));
+    }
+    let head = Head::Factor(*factor, element);
+    Ok(Found {
+        part: Part::Replication(head, &body[..count]),
+        taken: count + 1,
+    })
+}
+
+/// The first and the last descriptor of a delayed replication factor: 031000 and 031002.
+const FIRST_FACTOR: u16 = 0x1F00;
+
+const LAST_FACTOR: u16 = 0x1F02;
+
+/// The row of a factor, where the descriptor is one and Table B has it.
+fn factor_row(tables: &Tables, factor: Fxy) -> Option<Element>
+    ensures { result ≡ factor_row tables.now factor }
+{
+    if factor.bits() < FIRST_FACTOR || factor.bits() > LAST_FACTOR {
+        return None;
+    }
+    tables.element(factor).copied()
+}
+
+/// Whether a factor can be read by a row: a number of 1 to 16 bits, with neither scale nor reference value.
+fn is_factor_row(element: &Element) -> bool
+    ensures { result ≡ is_factor_row element.now }
+{
+    element.kind != Kind::Text
+        && element.scale == 0
+        && element.reference == 0
+        && element.width >= 1
+        && element.width <= 16
+}
+
+/// An operator. X3, X6 or X7 where there is none.
+fn operator_found<'a>(
+    tables: &Tables,
+    first: Fxy,
+    behind: &[Fxy],
+) -> Result<Found<'a>, TemplateFault>
+    ensures value { result_map seen result ≡ operator_found tables.now first behind.now }
+    ensures taken { IfOk result (λ p. p.taken ≤ length behind.now) }
+{
+    match first.x() {
+        1 | 2 | 7 | 8 => Ok(single(Node::Operator(first), 0)),
+        5 | 6 if first.y() == 0 => Err(TemplateFault::BadOperand(first)),
+        5 => Ok(single(Node::Untouched(first, characters(first.y())), 0)),
+        6 => width_found(tables, first, behind),
+        _ => Err(TemplateFault::UnsupportedOperator(first)),
+    }
+}
+
+/// So many characters stand in the data.
+fn characters(count: u8) -> Element
+    ensures { result ≡ characters count }
+{
+    Element {
+        kind: Kind::Text,
+        scale: 0,
+        reference: 0,
+        width: 8 * count as u32,
+    }
+}
+
+/// A number of so many bits that no table describes.
+fn plain_number(width: u8) -> Element
+    ensures { result ≡ plain_number width }
+{
+    Element {
+        kind: Kind::Quantity,
+        scale: 0,
+        reference: 0,
+        width: width as u32,
+    }
+}
+
+/// The element behind 206 with the width Y. X7 where there is none, X6 where it can't have this width.
+fn width_found<'a>(tables: &Tables, first: Fxy, behind: &[Fxy]) -> Result<Found<'a>, TemplateFault>
+    ensures value { result_map seen result ≡ width_found tables.now first behind.now }
+    ensures taken { IfOk result (λ p. p.taken ≤ length behind.now) }
+{
+    match behind.first() {
+        Some(local) if local.f() == 0 => local_found(tables, first, *local),
+        _ => Err(TemplateFault::Dangling206(first)),
+    }
+}
+
+/// An element by its row where that has the width Y, else as a number of Y bits. X6 where Y is over 63 then.
+fn local_found<'a>(tables: &Tables, first: Fxy, local: Fxy) -> Result<Found<'a>, TemplateFault>
+    ensures value { result_map seen result ≡ local_found first local (element tables.now local) }
+    ensures taken { IfOk result (λ p. p.taken ≡ 1) }
+{
+    match tables.element(local) {
+        Some(element) if element.width == first.y() as u32 => {
+            Ok(single(Node::Untouched(local, *element), 1))
+        }
+        _ if first.y() > 63 => Err(TemplateFault::BadOperand(first)),
+        _ => Ok(single(Node::Untouched(local, plain_number(first.y())), 1)),
+    }
+}

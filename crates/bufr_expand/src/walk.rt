@@ -1,0 +1,361 @@
+//! Steps through a template.
+
+ghost use Rattle.std.specs.Prelude.{◌≡◌, ◌≤◌, ◌+◌, ◌-◌, min, length};
+ghost use Rattle.std.specs.Vec.{vec_capacity};
+ghost use Rattle.bufr_expand.specs.Places as places;
+ghost use Rattle.bufr_expand.specs.Places.{AreOpen, AreOpen-prop, in_front, replications, begins, awaited};
+ghost use Rattle.bufr_expand.specs.Operating.{factor_spec};
+
+use crate::OutOfMemory;
+use crate::node::Node;
+use crate::operators::{Operators, Spec, unchanged};
+use crate::standing::{Asked, Open, State};
+use crate::template::Template;
+use bufr_tables::{Element, Fxy, Kind};
+use std::alloc::Global;
+use thiserror::Error;
+
+/// How many items a message may have.
+const ITEM_LIMIT: u64 = 16_777_216;
+
+/// What a walk meets next.
+#[derive(Clone, Copy, Debug, PartialEq, Eq)]
+pub enum Step {
+    /// A field of this descriptor and this spec.
+    Field(Fxy, Spec),
+    /// A field whose number says how often what follows stands: the walk waits for `Walk::count`.
+    Count(Fxy, Spec),
+    /// No further field.
+    End,
+}
+
+/// Why a walk stops.
+#[derive(Clone, Copy, Debug, Error, PartialEq, Eq)]
+pub enum WalkFault {
+    /// An item up to and with the next field, or up to the end, would be more than a message may have.
+    #[error("V6 TooLarge")]
+    TooLarge,
+    /// The spec of the next field, of the element of this descriptor, is outside the limits.
+    #[error("V1 EffectiveRange {0}")]
+    EffectiveRange(Fxy),
+}
+
+/// A walk through a template: it meets the fields of one subset in their order, given the counts that were read.
+#[derive(Debug, Drop)]
+pub struct Walk<'t> {
+    nodes: &'t [Node],
+    place: usize,
+    stop: usize,
+    loops: Vec<Open>,
+    operators: Operators,
+    items: u64,
+    state: State,
+    ghost within: { (place ≤ length nodes.now) × (stop ≤ length nodes.now) },
+    ghost in_bodies: { AreOpen nodes.now 0 loops.items } by { AreOpen-prop nodes.now 0 loops.items },
+    ghost has_begun: { begins state place ≤ place },
+    ghost is_inside: { length loops.items + awaited state ≤ in_front nodes.now (begins state place) },
+    ghost has_room: { replications nodes.now ≤ vec_capacity loops },
+}
+
+impl<'t> Walk<'t> {
+    ghost use Rattle.std.specs.Prelude.{◌<◌, ◌*◌, true, false, IfOk, IfSome, IfNone, option_map};
+    ghost use Rattle.bufr_tables.specs.declared.element.Kind.TheVariants as kinds;
+    ghost use Rattle.bufr_expand.specs.Operating.{in_force_after, untouched};
+    ghost use Rattle.bufr_expand.specs.Trees.{tree_of};
+    ghost use Rattle.bufr_expand.specs.Courses.{course, ends, stops, asks, asks_if};
+    ghost use Rattle.bufr_expand.specs.Walks.{left, waits, items_met, steps_left, going, told, turns_then, behind_all, Goes, Counted, IsBelowCount};
+    ghost use Rattle.bufr_expand.specs.declared.standing.State.TheVariants.{Going};
+
+    /// At the front of a template, after so many items of the message. It takes the room for all levels.
+    pub fn start(alloc: Global, template: &'t Template, used: u64) -> Result<Walk<'t>, OutOfMemory>
+        ensures course { IfOk result (λ w. left w ≡ course template.now used) }
+        ensures answered { IfOk result (λ w. waits w ≡ false) }
+        ensures items { IfOk result (λ w. items_met w ≡ used) }
+    {
+        Walk::over(alloc, template.as_slice(), used)
+    }
+
+    /// At the front of some nodes.
+    pub(crate) fn over(alloc: Global, nodes: &'t [Node], used: u64) -> Result<Walk<'t>, OutOfMemory>
+        ensures course { IfOk result (λ w. left w ≡ course (tree_of nodes.now) used) }
+        ensures answered { IfOk result (λ w. waits w ≡ false) }
+        ensures items { IfOk result (λ w. items_met w ≡ used) }
+    {
+        let loops = Vec::with_capacity(alloc, levels(nodes))?;
+        Ok(Walk {
+            nodes,
+            place: 0,
+            stop: nodes.len(),
+            loops,
+            operators: Operators::none(),
+            items: used,
+            state: State::Going,
+        })
+    }
+
+    /// What comes next: operators, turns and ends of replications are passed. After a refusal or `Step::End`
+    /// it answers the same again.
+    pub fn next(&mut self) -> Result<Step, WalkFault>
+        requires { waits self.old ≡ false }
+        ensures { Goes (left self.old) result self.new }
+    {
+        loop {
+            if let Some(answer) = self.pass() {
+                return answer;
+            }
+        }
+    }
+
+    /// The number of the count that was met.
+    pub fn count(&mut self, n: u64)
+        requires asked { waits self.old ≡ true }
+        requires fits { IsBelowCount (left self.old) n }
+        ensures { Counted (left self.old) n self.new }
+    {
+        if let State::Waiting(asked) = self.state {
+            match asked.body {
+                None => self.state = State::Going,
+                Some(from) => self.enter(n, from),
+            }
+        }
+    }
+
+    /// The items of the message by now: what a refused step met counts too.
+    #[tactic(auto, unfolding(crate::specs::Walks::items_met))]
+    pub fn items(&self) -> u64
+        ensures { result ≡ items_met self.now }
+    {
+        let met = self.items;
+        met
+    }
+
+    /// Passes a node, a turn or the end of a replication, or answers.
+    #[tactic(auto, unfolding(crate::specs::Walks::left, crate::specs::Walks::waits, crate::specs::Walks::items_met))]
+    fn pass(&mut self) -> Option<Result<Step, WalkFault>>
+        requires { waits self.old ≡ false }
+        ensures on { IfNone result ((left self.new ≡ left self.old) × (waits self.new ≡ false) × (steps_left self.new < steps_left self.old)) }
+        ensures answer { IfSome result (λ a. Goes (left self.old) a self.new) }
+    {
+        match self.state {
+            State::Stopped(fault) => Some(Err(fault)),
+            State::Waiting(asked) => Some(Ok(Step::Count(asked.fxy, asked.spec))),
+            State::Going if self.place < self.stop => self.visit(),
+            State::Going => self.turn(),
+        }
+    }
+
+    /// Visits the node at the place.
+    fn visit(&mut self) -> Option<Result<Step, WalkFault>>
+        requires goes { self.old.state ≡ Going }
+        requires more { self.old.place < self.old.stop }
+        ensures on { IfNone result ((left self.new ≡ left self.old) × (waits self.new ≡ false) × (steps_left self.new < steps_left self.old)) }
+        ensures answer { IfSome result (λ a. Goes (left self.old) a self.new) }
+    {
+        if self.items >= ITEM_LIMIT {
+            self.refuse(WalkFault::TooLarge);
+            return Some(Err(WalkFault::TooLarge));
+        }
+        match self.nodes[self.place] {
+            Node::Element(fxy, element) => {
+                let spec = self.operators.effective(&element, fxy).ok();
+                Some(self.field(fxy, spec))
+            }
+            Node::Untouched(fxy, element) => Some(self.field(fxy, unchanged(&element))),
+            Node::Operator(fxy) => {
+                self.pass_operator(fxy);
+                None
+            }
+            Node::Repeated(times, len) => {
+                self.repeat(times, len);
+                None
+            }
+            Node::Delayed(fxy, element, len) => Some(self.ask(fxy, factor(&element), len)),
+        }
+    }
+
+    /// Ends a turn: goes on with the next one, or with the nodes behind the replication.
+    fn turn(&mut self) -> Option<Result<Step, WalkFault>>
+        requires goes { self.old.state ≡ Going }
+        requires passed { self.old.stop ≤ self.old.place }
+        ensures on { IfNone result ((left self.new ≡ left self.old) × (waits self.new ≡ false) × (steps_left self.new < steps_left self.old)) }
+        ensures answer { IfSome result (λ a. Goes (left self.old) a self.new) }
+    {
+        let Some(turn) = self.loops.pop() else {
+            return Some(Ok(Step::End));
+        };
+        if turn.turns == 0 {
+            self.place = turn.to;
+            self.stop = turn.stop;
+            return None;
+        }
+        if self.items >= ITEM_LIMIT {
+            self.refuse(WalkFault::TooLarge);
+            return Some(Err(WalkFault::TooLarge));
+        }
+        let next = Open {
+            turns: turn.turns - 1,
+            from: turn.from,
+            to: turn.to,
+            stop: turn.stop,
+        };
+        self.loops.push(next).unwrap();
+        self.items += 1;
+        self.place = turn.from;
+        self.stop = turn.to;
+        None
+    }
+
+    /// Stops at a fault.
+    #[tactic(auto, unfolding(crate::specs::Walks::left, crate::specs::Walks::waits, crate::specs::Walks::items_met))]
+    fn refuse(&mut self, fault: WalkFault)
+        requires goes { self.old.state ≡ Going }
+        ensures course { left self.new ≡ stops self.old.items fault }
+        ensures goes { waits self.new ≡ false }
+        ensures items { items_met self.new ≡ self.old.items }
+    {
+        self.state = State::Stopped(fault);
+    }
+
+    /// Meets a field that stands once, if it has a spec.
+    #[tactic(auto, unfolding(crate::specs::Walks::left, crate::specs::Walks::waits, crate::specs::Walks::items_met, crate::specs::Walks::steps_left))]
+    fn field(&mut self, fxy: Fxy, spec: Option<Spec>) -> Result<Step, WalkFault>
+        requires goes { self.old.state ≡ Going }
+        requires more { self.old.place < self.old.stop }
+        requires fits { self.old.items < 16777216 }
+        ensures { Goes (asks_if spec (self.old.items + 1) fxy (λ n. going self.old.nodes.now (self.old.place + 1) self.old.stop self.old.loops.items self.old.operators (self.old.items + 1))) result self.new }
+    {
+        self.items += 1;
+        let Some(spec) = spec else {
+            self.refuse(WalkFault::EffectiveRange(fxy));
+            return Err(WalkFault::EffectiveRange(fxy));
+        };
+        self.place += 1;
+        match spec.kind {
+            Kind::Count => {
+                self.state = State::Waiting(Asked {
+                    fxy,
+                    spec,
+                    body: None,
+                });
+                Ok(Step::Count(fxy, spec))
+            }
+            _ => Ok(Step::Field(fxy, spec)),
+        }
+    }
+
+    /// Meets the factor of a replication, whose body follows it.
+    #[tactic(auto, unfolding(crate::specs::Walks::left, crate::specs::Walks::waits, crate::specs::Walks::items_met, crate::specs::Walks::steps_left))]
+    fn ask(&mut self, fxy: Fxy, spec: Spec, len: u64) -> Result<Step, WalkFault>
+        requires goes { self.old.state ≡ Going }
+        requires more { self.old.place < self.old.stop }
+        requires fits { self.old.items < 16777216 }
+        requires room { length self.old.loops.items + 1 ≤ in_front self.old.nodes.now (self.old.place + 1) }
+        requires counts { spec.kind ≡ kinds.Count }
+        ensures { let from = self.old.place + 1 in let to = from + min len (self.old.stop - from) in Goes (asks (self.old.items + 1) fxy spec (λ n. turns_then self.old.nodes.now n from to self.old.stop (behind_all self.old.nodes.now self.old.loops.items) self.old.operators (self.old.items + 1))) result self.new }
+    {
+        let from = self.place + 1;
+        self.items += 1;
+        self.place = body_end(from, self.stop, len);
+        self.state = State::Waiting(Asked {
+            fxy,
+            spec,
+            body: Some(from),
+        });
+        Ok(Step::Count(fxy, spec))
+    }
+
+    /// Puts an operator in force.
+    #[tactic(auto, unfolding(crate::specs::Walks::left, crate::specs::Walks::waits, crate::specs::Walks::items_met, crate::specs::Walks::steps_left))]
+    fn pass_operator(&mut self, op: Fxy)
+        requires goes { self.old.state ≡ Going }
+        requires more { self.old.place < self.old.stop }
+        requires fits { self.old.items < 16777216 }
+        ensures course { left self.new ≡ going self.old.nodes.now (self.old.place + 1) self.old.stop self.old.loops.items (in_force_after self.old.operators op) (self.old.items + 1) }
+        ensures goes { waits self.new ≡ false }
+        ensures nearer { steps_left self.new < steps_left self.old }
+    {
+        self.items += 1;
+        self.place += 1;
+        self.operators.put(op);
+    }
+
+    /// Meets a replication whose body stands so many times.
+    #[tactic(auto, unfolding(crate::specs::Walks::left, crate::specs::Walks::waits, crate::specs::Walks::items_met, crate::specs::Walks::steps_left))]
+    fn repeat(&mut self, times: u64, len: u64)
+        requires goes { self.old.state ≡ Going }
+        requires more { self.old.place < self.old.stop }
+        requires fits { self.old.items < 16777216 }
+        requires room { length self.old.loops.items + 1 ≤ in_front self.old.nodes.now (self.old.place + 1) }
+        ensures course { let from = self.old.place + 1 in let to = from + min len (self.old.stop - from) in left self.new ≡ turns_then self.old.nodes.now times from to self.old.stop (behind_all self.old.nodes.now self.old.loops.items) self.old.operators (self.old.items + 1) }
+        ensures goes { waits self.new ≡ false }
+        ensures nearer { steps_left self.new < steps_left self.old }
+    {
+        let from = self.place + 1;
+        self.items += 1;
+        self.place = body_end(from, self.stop, len);
+        self.enter(times, from);
+    }
+
+    /// Enters a replication of the nodes in front of the place, so many turns of which are still to come.
+    #[tactic(auto, unfolding(crate::specs::Walks::left, crate::specs::Walks::waits, crate::specs::Walks::items_met, crate::specs::Walks::steps_left))]
+    fn enter(&mut self, turns: u64, from: usize)
+        requires room { length self.old.loops.items + 1 ≤ in_front self.old.nodes.now from }
+        requires order { from ≤ self.old.place }
+        ensures course { left self.new ≡ turns_then self.old.nodes.now turns from self.old.place self.old.stop (behind_all self.old.nodes.now self.old.loops.items) self.old.operators self.old.items }
+        ensures goes { waits self.new ≡ false }
+        ensures items { items_met self.new ≡ self.old.items }
+        ensures steps { steps_left self.new ≡ steps_left self.old + 1 }
+    {
+        let turn = Open {
+            turns,
+            from,
+            to: self.place,
+            stop: self.stop,
+        };
+        self.loops.push(turn).unwrap();
+        self.stop = self.place;
+        self.state = State::Going;
+    }
+}
+
+/// Where a body ends, whose nodes stand in front of the end of its list.
+fn body_end(from: usize, stop: usize, len: u64) -> usize
+    requires { from ≤ stop }
+    ensures { result ≡ from + min len (stop - from) }
+{
+    let room = stop - from;
+    if len < room as u64 {
+        from + len as usize
+    } else {
+        stop
+    }
+}
+
+/// How many nodes are replications: there are no more levels than that.
+fn levels(nodes: &[Node]) -> usize
+    ensures { result ≡ replications nodes.now }
+{
+    nodes.iter().filter(|node| repeats(node)).count()
+}
+
+/// Whether a node is a replication.
+fn repeats(node: &Node) -> bool
+    ensures { result ≡ places.repeats node.now }
+{
+    match node {
+        Node::Repeated(_, _) | Node::Delayed(_, _, _) => true,
+        Node::Element(_, _) | Node::Untouched(_, _) | Node::Operator(_) => false,
+    }
+}
+
+/// The spec of a factor.
+fn factor(element: &Element) -> Spec
+    ensures { result ≡ factor_spec element.now }
+{
+    Spec {
+        kind: Kind::Count,
+        scale: 0,
+        reference: 0,
+        width: element.width,
+    }
+}

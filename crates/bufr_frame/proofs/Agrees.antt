@@ -1,0 +1,15 @@
+-- What a comparison of fronts says.
+use Rattle.std.proofs.Common.{◌≡◌, ℕ, zero, suc, true, false, cond, eqb, nat_eq, ◌&&◌, List, [], ◌∷◌, length, take, refl, arith, min}
+use Rattle.std.specs.Cmp.Lexicographic.{pointwise}
+use Rattle.bufr_frame.specs.Starts.{agrees}
+
+-- the fronts of the lesser length are equal where the lists agree as far as both go
+pub agrees_by : (xs ys : List ℕ) (n : ℕ) → n ≡ min (length xs) (length ys) → pointwise nat_eq (take n xs) (take n ys) ≡ agrees xs ys
+agrees_by [] ys zero e = refl
+agrees_by [] ys (suc n) e = absurd (omega arith)
+agrees_by (x ∷ xs) [] zero e = refl
+agrees_by (x ∷ xs) [] (suc n) e = absurd (omega arith)
+agrees_by (x ∷ xs) (y ∷ ys) zero e = absurd (omega arith)
+agrees_by (x ∷ xs) (y ∷ ys) (suc n) e =
+    let same : n ≡ min (length xs) (length ys) = omega arith in
+    elim (eqb x y) as (λ b. (b && pointwise nat_eq (take n xs) (take n ys)) ≡ cond b (agrees xs ys) false) [ true ↦ agrees_by xs ys n same | false ↦ refl ]

@@ -1,0 +1,11 @@
+pub mod JoinedLaws
+pub mod HoldingLaws
+pub mod SureLaws
+pub mod OpenLaws
+pub mod PieceLaws
+pub mod FramerLaws
+pub mod MarkLaws
+pub mod ScanLaws
+pub mod Agrees
+pub mod StreamLaws
+pub mod CutLaws

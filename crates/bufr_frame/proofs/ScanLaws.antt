@@ -1,0 +1,148 @@
+-- How far a scan of octets has come: the frames found so far, and where it goes on.
+use Rattle.std.proofs.Common.{◌≡◌, ℕ, zero, suc, ◌+◌, ◌-◌, ◌<◌, ◌≤◌, Bool, true, false, List, [], ◌∷◌, ◌++◌, length, take, drop, refl, sym, ap, ◌∙◌, subst, arith, length-append, append_assoc}
+use Rattle.std.proofs.lemmas.List.{append-nil, drop-drop, drop_all, length-drop}
+use Rattle.bufr_frame.specs.declared.frames.Found.{Found}
+use Rattle.bufr_frame.specs.declared.places.Start.TheVariants.{Frame, Open, Other}
+use Rattle.bufr_frame.specs.Starts.{start_of}
+use Rattle.bufr_frame.specs.Streams.{frames_from, rest_from}
+use Rattle.bufr_frame.proofs.StreamLaws.{begins_from, frames_other, frames_open, frames_frame, rest_other, rest_open, rest_frame}
+
+-- the frames found so far and those from here on are all, and so is what is left after some of them
+pub record Scanned (ended : Bool) (place : ℕ) (octets : List ℕ) (frames : List Found) (here : ℕ) : Type 0 where
+  pub within : here ≤ length octets
+  pub all_frames : frames_from ended place 0 octets ≡ frames ++ frames_from ended (place + here) 0 (drop here octets)
+  pub all_rest : ended ≡ false → (n : ℕ) → rest_from (length frames + n) 0 octets ≡ rest_from n 0 (drop here octets)
+
+-- octets that belong to the frame before are passed over
+frames_skip : (ended : Bool) (place skip : ℕ) (xs : List ℕ) → skip ≤ length xs → frames_from ended place skip xs ≡ frames_from ended (place + skip) 0 (drop skip xs)
+frames_skip ended place zero [] h = refl
+frames_skip ended place zero (x ∷ xs) h = ap (λ p. frames_from ended p 0 (x ∷ xs)) (let e : place ≡ place + 0 = omega arith in e)
+frames_skip ended place (suc skip) [] h = absurd (omega arith)
+frames_skip ended place (suc skip) (x ∷ xs) h = frames_skip ended (place + 1) skip xs (omega arith) ∙ ap (λ p. frames_from ended p 0 (drop skip xs)) (let e : (place + 1) + skip ≡ place + suc skip = omega arith in e)
+
+rest_skip : (n skip : ℕ) (xs : List ℕ) → skip ≤ length xs → rest_from n skip xs ≡ rest_from n 0 (drop skip xs)
+rest_skip n zero xs h = refl
+rest_skip n (suc skip) [] h = absurd (omega arith)
+rest_skip n (suc skip) (x ∷ xs) h = rest_skip n skip xs (omega arith)
+
+-- places at which no frame stands or can come to stand are passed over
+frames_pass : (ended : Bool) (place d : ℕ) (xs : List ℕ) → d ≤ length xs → ((k : ℕ) → k < d → start_of (drop k xs) ≡ Other) → frames_from ended place 0 xs ≡ frames_from ended (place + d) 0 (drop d xs)
+frames_pass ended place zero xs h o = ap (λ p. frames_from ended p 0 xs) (let e : place ≡ place + 0 = omega arith in e)
+frames_pass ended place (suc d) [] h o = absurd (omega arith)
+frames_pass ended place (suc d) (x ∷ xs) h o =
+    frames_other ended place x xs (o 0 (omega arith)) ∙ frames_pass ended (place + 1) d xs (omega arith) (λ k l. o (suc k) (omega arith))
+    ∙ ap (λ p. frames_from ended p 0 (drop d xs)) (let e : (place + 1) + d ≡ place + suc d = omega arith in e)
+
+rest_pass : (n d : ℕ) (xs : List ℕ) → d ≤ length xs → ((k : ℕ) → k < d → start_of (drop k xs) ≡ Other) → rest_from n 0 xs ≡ rest_from n 0 (drop d xs)
+rest_pass n zero xs h o = refl
+rest_pass n (suc d) [] h o = absurd (omega arith)
+rest_pass n (suc d) (x ∷ xs) h o = rest_other n x xs (o 0 (omega arith)) ∙ rest_pass n d xs (omega arith) (λ k l. o (suc k) (omega arith))
+
+-- at the start nothing was found
+pub scanned_first : (ended : Bool) (place : ℕ) (octets : List ℕ) → Scanned ended place octets [] 0
+scanned_first ended place octets = record {
+  within = omega arith;
+  all_frames = ap (λ p. frames_from ended p 0 octets) (let e : place ≡ place + 0 = omega arith in e);
+  all_rest = λ _ n. ap (λ k. rest_from k 0 octets) (let e : 0 + n ≡ n = omega arith in e);
+}
+
+-- a place at which no frame stands is passed over, and so are others up to the next
+pub scanned_on : (ended : Bool) (place : ℕ) (octets : List ℕ) (frames : List Found) (here next : ℕ) → Scanned ended place octets frames here → here < next → next ≤ length octets →
+    ((k : ℕ) → here ≤ k → k < next → start_of (drop k octets) ≡ Other) → Scanned ended place octets frames next
+scanned_on ended place octets frames here next s later room others =
+    let d = next - here in
+    let whole : here + d ≡ next = omega arith in
+    let far : drop d (drop here octets) ≡ drop next octets = drop-drop d here octets ∙ ap (λ k. drop k octets) whole in
+    let fits : d ≤ length (drop here octets) = omega (arith, length-drop here octets) in
+    let passed : (k : ℕ) → k < d → start_of (drop k (drop here octets)) ≡ Other = λ k l. ap start_of (drop-drop k here octets) ∙ others (here + k) (omega arith) (omega arith) in
+    record {
+      within = room;
+      all_frames = s.all_frames ∙ ap (λ fs. frames ++ fs) (frames_pass ended (place + here) d (drop here octets) fits passed
+          ∙ ap (λ t. frames_from ended ((place + here) + d) 0 t) far ∙ ap (λ p. frames_from ended p 0 (drop next octets)) (let e : (place + here) + d ≡ place + next = omega arith in e));
+      all_rest = λ e n. s.all_rest e n ∙ rest_pass n d (drop here octets) fits passed ∙ ap (λ t. rest_from n 0 t) far;
+    }
+
+-- at the end of the stream an open place is passed over
+passed : (place : ℕ) (t : List ℕ) → start_of t ≡ Open → frames_from true place 0 t ≡ frames_from true (place + 1) 0 (drop 1 t)
+passed place [] h = refl
+passed place (x ∷ xs) h = rw (h, frames_from) refl
+
+pub scanned_past : (ended : Bool) (place : ℕ) (octets : List ℕ) (frames : List Found) (here : ℕ) → ended ≡ true → Scanned ended place octets frames here → here < length octets →
+    start_of (drop here octets) ≡ Open → Scanned ended place octets frames (here + 1)
+scanned_past ended place octets frames here is s room h = record {
+  within = omega arith;
+  all_frames = s.all_frames ∙ ap (λ fs. frames ++ fs) (subst (λ b. frames_from b (place + here) 0 (drop here octets) ≡ frames_from b ((place + here) + 1) 0 (drop 1 (drop here octets))) (sym is) (passed (place + here) (drop here octets) h)
+      ∙ ap (λ t. frames_from ended ((place + here) + 1) 0 t) (drop-drop 1 here octets) ∙ ap (λ p. frames_from ended p 0 (drop (here + 1) octets)) (let e : (place + here) + 1 ≡ place + (here + 1) = omega arith in e));
+  all_rest = λ e n. let no_way : true ≡ false = sym is ∙ e in cc;
+}
+
+-- the frame that stands here, what follows it, and what is left after it
+pub one_frame : (ended : Bool) (place l : ℕ) (t : List ℕ) → start_of t ≡ Frame l → frames_from ended place 0 t ≡ record { place = place; bytes = take l t } ∷ frames_from ended (place + l) 0 (drop l t)
+one_frame ended place l [] h = let b = (begins_from [] l h).whole in let c = (begins_from [] l h).long in absurd (omega arith)
+one_frame ended place zero (x ∷ xs) h = let c = (begins_from (x ∷ xs) zero h).long in absurd (omega arith)
+one_frame ended place (suc l) (x ∷ xs) h =
+    let b = (begins_from (x ∷ xs) (suc l) h).whole in
+    let less : suc l - 1 ≡ l = omega arith in
+    frames_frame ended place (suc l) x xs h ∙ ap (λ fs. record { place = place; bytes = take (suc l) (x ∷ xs) } ∷ fs)
+    (ap (λ k. frames_from ended (place + 1) k xs) less ∙ frames_skip ended (place + 1) l xs (omega arith) ∙ ap (λ p. frames_from ended p 0 (drop l xs)) (let e : (place + 1) + l ≡ place + suc l = omega arith in e))
+
+one_rest : (n l : ℕ) (t : List ℕ) → start_of t ≡ Frame l → rest_from (suc n) 0 t ≡ rest_from n 0 (drop l t)
+one_rest n l [] h = let b = (begins_from [] l h).whole in let c = (begins_from [] l h).long in absurd (omega arith)
+one_rest n zero (x ∷ xs) h = let c = (begins_from (x ∷ xs) zero h).long in absurd (omega arith)
+one_rest n (suc l) (x ∷ xs) h =
+    let b = (begins_from (x ∷ xs) (suc l) h).whole in
+    let less : suc l - 1 ≡ l = omega arith in
+    rest_frame n (suc l) x xs h ∙ ap (λ k. rest_from n k xs) less ∙ rest_skip n l xs (omega arith)
+
+-- a frame is as long as it says
+pub frame_fits : (octets : List ℕ) (l : ℕ) → start_of octets ≡ Frame l → l ≤ length octets
+frame_fits octets l h = (begins_from octets l h).whole
+
+pub frame_moves : (octets : List ℕ) (l : ℕ) → start_of octets ≡ Frame l → 12 ≤ l
+frame_moves octets l h = (begins_from octets l h).long
+
+-- a frame that stands here is found
+pub scanned_frame : (ended : Bool) (place : ℕ) (octets : List ℕ) (frames : List Found) (here l : ℕ) → Scanned ended place octets frames here → start_of (drop here octets) ≡ Frame l →
+    Scanned ended place octets (frames ++ record { place = place + here; bytes = take l (drop here octets) } ∷ []) (here + l)
+scanned_frame ended place octets frames here l s h =
+    let fits = frame_fits (drop here octets) l h in
+    let w = s.within in
+    let far : drop l (drop here octets) ≡ drop (here + l) octets = drop-drop l here octets in
+    let f : Found = record { place = place + here; bytes = take l (drop here octets) } in
+    record {
+      within = omega (arith, length-drop here octets);
+      all_frames = s.all_frames ∙ ap (λ fs. frames ++ fs) (one_frame ended (place + here) l (drop here octets) h)
+          ∙ sym (append_assoc frames (f ∷ []) (frames_from ended ((place + here) + l) 0 (drop l (drop here octets))))
+          ∙ ap (λ fs. (frames ++ f ∷ []) ++ fs) (ap (λ t. frames_from ended ((place + here) + l) 0 t) far ∙ ap (λ p. frames_from ended p 0 (drop (here + l) octets)) (let e : (place + here) + l ≡ place + (here + l) = omega arith in e));
+      all_rest = λ e n. ap (λ k. rest_from k 0 octets) (let more : length (frames ++ f ∷ []) + n ≡ length frames + suc n = omega (arith, length-append frames (f ∷ [])) in more)
+          ∙ s.all_rest e (suc n) ∙ one_rest n l (drop here octets) h ∙ ap (λ t. rest_from n 0 t) far;
+    }
+
+-- a scan that has come to its end
+pub record ScannedAll (ended : Bool) (place : ℕ) (octets : List ℕ) (frames : List Found) (here : ℕ) : Type 0 where
+  pub frames_are : frames ≡ frames_from ended place 0 octets
+  pub rest_is : ended ≡ false → drop here octets ≡ rest_from (length frames) 0 octets
+
+-- it has come to its end where no octets are left
+pub scanned_out : (ended : Bool) (place : ℕ) (octets : List ℕ) (frames : List Found) (here : ℕ) → Scanned ended place octets frames here → length octets ≤ here → ScannedAll ended place octets frames here
+scanned_out ended place octets frames here s h =
+    let none : drop here octets ≡ [] = drop_all here octets h in
+    record {
+      frames_are = sym (s.all_frames ∙ ap (λ t. frames ++ frames_from ended (place + here) 0 t) none ∙ append-nil frames);
+      rest_is = λ e. sym (ap (λ k. rest_from k 0 octets) (let z : length frames ≡ length frames + 0 = omega arith in z) ∙ s.all_rest e 0 ∙ ap (λ t. rest_from 0 0 t) none ∙ sym none);
+    }
+
+open_frames : (place : ℕ) (t : List ℕ) → start_of t ≡ Open → frames_from false place 0 t ≡ []
+open_frames place [] h = refl
+open_frames place (x ∷ xs) h = frames_open place x xs h
+
+open_rest : (t : List ℕ) → start_of t ≡ Open → rest_from 0 0 t ≡ t
+open_rest [] h = refl
+open_rest (x ∷ xs) h = rest_open 0 x xs h
+
+-- and in a stream that goes on, at an open place
+pub scanned_open : (ended : Bool) (place : ℕ) (octets : List ℕ) (frames : List Found) (here : ℕ) → ended ≡ false → Scanned ended place octets frames here → start_of (drop here octets) ≡ Open → ScannedAll ended place octets frames here
+scanned_open ended place octets frames here is s h = record {
+  frames_are = sym (s.all_frames ∙ ap (λ fs. frames ++ fs) (ap (λ b. frames_from b (place + here) 0 (drop here octets)) is ∙ open_frames (place + here) (drop here octets) h) ∙ append-nil frames);
+  rest_is = λ e. sym (ap (λ k. rest_from k 0 octets) (let z : length frames ≡ length frames + 0 = omega arith in z) ∙ s.all_rest e 0 ∙ open_rest (drop here octets) h);
+}

@@ -1,0 +1,13 @@
+-- What a look shows.
+use Rattle.std.specs.Prelude.{List, []}
+use Rattle.bufr_frame.specs.declared.frames.Found.{Found}
+use Rattle.bufr_frame.specs.Framings.{Framing}
+
+-- what a look shows: the frames, and the framer after they are handed out
+pub record LookView : Type 0 where
+  pub frames : List Found
+  pub next : Framing
+
+-- a framer of an empty stream
+abbrev pub new_framing : Framing
+new_framing = record { fed = 0; held = [] }

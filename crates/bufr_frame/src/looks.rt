@@ -1,0 +1,30 @@
+//! A look at what comes next.
+ghost use Rattle.std.specs.Prelude.{◌≡◌};
+
+use crate::framers::Framer;
+use crate::frames::Found;
+use std::marker::Model;
+
+/// What a framer would hand out, and the framer that it would then be.
+#[derive(Debug, Drop)]
+pub struct Look {
+    pub(crate) frames: Vec<Found>,
+    pub(crate) next: Framer,
+}
+
+impl Model for Look {
+    ghost use Rattle.bufr_frame.specs.Looks.{LookView};
+
+    ghost Value = { LookView };
+
+    ghost view = { λ l. record { frames = l.frames.items; next = l.next } };
+}
+
+impl Look {
+    /// The frames that `settle` then hands out. Takes no memory.
+    pub fn found(&self) -> &[Found]
+        ensures { result.now ≡ self.now.frames }
+    {
+        self.frames.as_slice()
+    }
+}

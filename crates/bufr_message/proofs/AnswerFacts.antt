@@ -1,0 +1,34 @@
+-- What an answer that is not a fault says of the steps that it was made by.
+use Rattle.std.proofs.Common.{◌≡◌, Bool, true, false, cond, Result, Ok, Err, refl}
+use Rattle.std.specs.Prelude.{◌||◌, IsOk}
+use Rattle.bufr_tables.specs.Answers.{◌>>=◌}
+
+-- what was answered first, and what was made of it
+pub bind_ok : {A B F : Type 0} (x : Result A F) (f : A → Result B F) (y : B) → (x >>= f) ≡ Ok y → (a : A) × (x ≡ Ok a) × (f a ≡ Ok y)
+bind_ok (Ok a) f y e = (a, refl, e)
+bind_ok (Err fault) f y e = absurd cc
+
+-- a test that was passed
+pub guard_ok : {A F : Type 0} (b : Bool) (fault : F) (x : Result A F) (y : A) → cond b (Err fault) x ≡ Ok y → (b ≡ false) × (x ≡ Ok y)
+guard_ok true fault x y e = absurd cc
+guard_ok false fault x y e = (refl, e)
+
+pub passed_ok : {A F : Type 0} (b : Bool) (x : A) (fault : F) (y : A) → cond b (Ok x) (Err fault) ≡ Ok y → (b ≡ true) × (x ≡ y)
+passed_ok true x fault y e = (refl, cc)
+passed_ok false x fault y e = absurd cc
+
+pub ok_is : {A F : Type 0} (x y : A) → ◌≡◌ {A = Result A F} (Ok x) (Ok y) → x ≡ y
+ok_is x y e = cc
+
+pub or_first : (a b : Bool) → (a || b) ≡ false → a ≡ false
+or_first true b e = absurd cc
+or_first false b e = refl
+
+pub or_second : (a b : Bool) → (a || b) ≡ false → b ≡ false
+or_second true b e = absurd cc
+or_second false b e = e
+
+-- the value of an answer that is not a fault
+pub ok_value : {A F : Type 0} (x : Result A F) → IsOk x → (a : A) × (x ≡ Ok a)
+ok_value (Ok a) h = (a, refl)
+ok_value (Err fault) h = absurd cc

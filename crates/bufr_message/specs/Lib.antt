@@ -1,0 +1,10 @@
+pub mod Sections
+pub mod SectionsRead
+pub mod Stages
+pub mod Subsets
+pub mod Messages
+pub mod Encodings
+pub mod Laws
+pub mod Samples
+pub mod Listings
+pub mod Reasons

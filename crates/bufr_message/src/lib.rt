@@ -1,0 +1,21 @@
+//! BUFR messages of edition 4 and the octets that they stand in.
+#![tactic(auto)]
+
+mod decoding;
+mod encoding;
+mod examples;
+mod fault;
+mod laws;
+pub mod listing;
+mod message;
+#[cfg(test)]
+mod samples;
+mod section_octets;
+mod sections;
+mod stages;
+
+pub use decoding::decode;
+pub use encoding::encode;
+pub use fault::{EncodeFault, Refused};
+pub use laws::{messages_are_spelt, sections_are_spelt, written_messages_are_spelt};
+pub use message::{Decoded, Head, Message};

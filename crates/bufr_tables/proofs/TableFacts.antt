@@ -1,0 +1,82 @@
+-- Laws of `at`, and of the tests that are equalities.
+use Rattle.std.proofs.Common.{◌≡◌, ◌∙◌, ℕ, ◌==◌, ◌&&◌, Bool, true, false, List, [], ◌∷◌, refl, ap, arith, ℤ, pos, negsuc}
+use Rattle.std.proofs.lemmas.Bool.Decides.{nat_tests, Decides-eqb, Decides-int_eq}
+use Rattle.std.specs.Bool.{Decides}
+use Rattle.std.specs.Ordering.{is_eq, nat_cmp}
+use Rattle.std.specs.BTreeMap.{is_at}
+use Rattle.std.specs.Map.{lookup}
+use Rattle.bufr_tables.specs.Entries.{at}
+use Rattle.bufr_tables.specs.Elements.{same_kind, same_integer, same_element}
+use Rattle.bufr_tables.specs.declared.element.Element.{Element}
+use Rattle.bufr_tables.specs.declared.element.Kind.{Kind}
+use Rattle.bufr_tables.specs.declared.element.Kind.TheVariants as kinds
+use Rattle.bufr_tables.specs.contracts.element.KindPartialEq.TheImpl as kind_eq
+use Rattle.bufr_tables.specs.contracts.element.ElementPartialEq.TheImpl as element_eq
+
+-- an order's answer `Equal` is equality
+pub is_eq-nat_cmp : (d k : ℕ) → is_eq (nat_cmp d k) ≡ (k == d)
+is_eq-nat_cmp d k = grind (arith, nat_tests)
+
+-- what a list of pairs has at a descriptor is what a map of these entries has there
+pub at-lookup : {X : Type 0} (d : ℕ) (es : List (ℕ × X)) → at d es ≡ lookup (is_at (nat_cmp d)) es
+unfolding at
+at-lookup d [] = refl
+at-lookup d (e ∷ es) = rw (is_eq-nat_cmp d e.0, at-lookup d es)
+
+-- the same kind is an equal kind
+pub same_kind-Decides : (a b : Kind) → Decides (same_kind a b) (a ≡ b)
+same_kind-Decides kinds.Text kinds.Text = (λ _. refl, λ _. refl)
+same_kind-Decides kinds.Code kinds.Code = (λ _. refl, λ _. refl)
+same_kind-Decides kinds.Flag kinds.Flag = (λ _. refl, λ _. refl)
+same_kind-Decides kinds.Quantity kinds.Quantity = (λ _. refl, λ _. refl)
+same_kind-Decides kinds.Count kinds.Count = (λ _. refl, λ _. refl)
+same_kind-Decides _ _ = (λ h. cc, λ h. cc)
+
+-- the same whole number is an equal one
+pub same_integer-Decides : (a b : ℤ) → Decides (same_integer a b) (a ≡ b)
+same_integer-Decides (pos a) (pos b) = (λ h. ap pos ((Decides-eqb a b).0 h), λ h. (Decides-eqb a b).1 (cc))
+same_integer-Decides (negsuc a) (negsuc b) = (λ h. ap negsuc ((Decides-eqb a b).0 h), λ h. (Decides-eqb a b).1 (cc))
+same_integer-Decides (pos a) (negsuc b) = (λ h. cc, λ h. cc)
+same_integer-Decides (negsuc a) (pos b) = (λ h. cc, λ h. cc)
+
+-- the program's `==` of kinds
+pub kind_eq-Decides : (a b : Kind) → Decides (kind_eq.ghosts.eq a b) (a ≡ b)
+kind_eq-Decides kinds.Text kinds.Text = (λ _. refl, λ _. refl)
+kind_eq-Decides kinds.Code kinds.Code = (λ _. refl, λ _. refl)
+kind_eq-Decides kinds.Flag kinds.Flag = (λ _. refl, λ _. refl)
+kind_eq-Decides kinds.Quantity kinds.Quantity = (λ _. refl, λ _. refl)
+kind_eq-Decides kinds.Count kinds.Count = (λ _. refl, λ _. refl)
+kind_eq-Decides _ _ = (λ h. cc, λ h. cc)
+
+-- both of two tests
+and-Decides : (x y : Bool) (P Q : Type 0) → Decides x P → Decides y Q → Decides (x && y) (P × Q)
+and-Decides true true P Q p q = (λ _. (p.0 refl, q.0 refl), λ _. refl)
+and-Decides true false P Q p q = (λ h. cc, λ h. q.1 h.1)
+and-Decides false true P Q p q = (λ h. cc, λ h. p.1 h.0)
+and-Decides false false P Q p q = (λ h. cc, λ h. p.1 h.0)
+
+-- elements are equal where their parts are
+of_parts : (a b : Element) → a.kind ≡ b.kind → a.scale ≡ b.scale → a.reference ≡ b.reference → a.width ≡ b.width → a ≡ b
+of_parts a b k s r w =
+    ap {B = Element} (λ (x : Kind). record { kind = x; scale = a.scale; reference = a.reference; width = a.width }) k
+    ∙ ap {B = Element} (λ (x : ℤ). record { kind = b.kind; scale = x; reference = a.reference; width = a.width }) s
+    ∙ ap {B = Element} (λ (x : ℤ). record { kind = b.kind; scale = b.scale; reference = x; width = a.width }) r
+    ∙ ap {B = Element} (λ (x : ℕ). record { kind = b.kind; scale = b.scale; reference = b.reference; width = x }) w
+
+parts-Decides : (a b : Element) (x y z w : Bool) → Decides x (a.kind ≡ b.kind) → Decides y (a.scale ≡ b.scale) → Decides z (a.reference ≡ b.reference) → Decides w (a.width ≡ b.width)
+    → Decides (x && (y && (z && w))) (a ≡ b)
+parts-Decides a b x y z w p q r s =
+    let all = and-Decides x (y && (z && w)) _ _ p (and-Decides y (z && w) _ _ q (and-Decides z w _ _ r s)) in (
+      λ h. of_parts a b (all.0 h).0 (all.0 h).1.0 (all.0 h).1.1.0 (all.0 h).1.1.1,
+      λ h. all.1 (ap (λ (e : Element). e.kind) h, (ap (λ (e : Element). e.scale) h, (ap (λ (e : Element). e.reference) h, ap (λ (e : Element). e.width) h))),
+    )
+
+-- the program's `==` of elements
+pub element_eq-Decides : (a b : Element) → Decides (element_eq.ghosts.eq a b) (a ≡ b)
+element_eq-Decides a b =
+    parts-Decides a b _ _ _ _ (kind_eq-Decides a.kind b.kind) (Decides-int_eq a.scale b.scale) (Decides-int_eq a.reference b.reference) (Decides-eqb a.width b.width)
+
+-- the same element is an equal one
+pub same_element-Decides : (a b : Element) → Decides (same_element a b) (a ≡ b)
+same_element-Decides a b =
+    parts-Decides a b _ _ _ _ (same_kind-Decides a.kind b.kind) (same_integer-Decides a.scale b.scale) (same_integer-Decides a.reference b.reference) (Decides-eqb a.width b.width)

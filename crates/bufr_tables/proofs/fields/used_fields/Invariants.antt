@@ -1,0 +1,7 @@
+use Rattle.std.proofs.Common.{◌≡◌, map, take}
+use Rattle.csv.specs.Records.{fields_of}
+use Rattle.bufr_tables.specs.Fields.{used_fields}
+use Rattle.bufr_tables.proofs.fields.used_fields.Given as goal
+
+abbrev pub invariant-loop-i : goal.invariant-loop-i
+invariant-loop-i l = map (λ s. s.now) l.fields.items ≡ take l.i (used_fields (fields_of l.row))

@@ -1,0 +1,9 @@
+use Rattle.std.proofs.Common.{◌≡◌, length, reverse}
+use Rattle.bufr_tables.specs.Fields.{skip_spaces}
+use Rattle.bufr_tables.proofs.fields.without_last_spaces.Given as goal
+
+abbrev pub invariant-loop-last : goal.invariant-loop-last
+invariant-loop-last l = skip_spaces (reverse l.rest) ≡ skip_spaces (reverse l.fn.text)
+
+abbrev pub decreases-loop-last : goal.decreases-loop-last
+decreases-loop-last l = length l.rest

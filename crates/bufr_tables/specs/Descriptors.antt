@@ -1,0 +1,41 @@
+-- Descriptors F XX YYY, each a number of 16 bits: F has 2 bits, X has 6, Y has 8 (FM 94 BUFR, section 3; regulation 94.1.4).
+use Rattle.std.specs.Prelude.{ℕ, ◌+◌, ◌-◌, ◌*◌, ◌/◌, ◌%◌, ◌&&◌, List, [], ◌∷◌, Option, Some, None, nat_le, if◌then◌else◌}
+use Rattle.std.specs.Char.{is_ascii_digit}
+use Rattle.std.specs.List.{list_all}
+
+-- the descriptor F XX YYY
+abbrev pub descriptor : ℕ → ℕ → ℕ → ℕ
+descriptor f x y = 16384 * f + 256 * x + y
+
+-- its three parts
+abbrev pub f_of : ℕ → ℕ
+f_of d = d / 16384
+
+abbrev pub x_of : ℕ → ℕ
+x_of d = d / 256 % 64
+
+abbrev pub y_of : ℕ → ℕ
+y_of d = d % 256
+
+-- the digit that a number is, in ASCII, and back
+abbrev pub digit : ℕ → ℕ
+digit n = 48 + n % 10
+
+abbrev pub digit_value : ℕ → ℕ
+digit_value c = c - 48
+
+-- its six digits
+abbrev pub six_digits : ℕ → List ℕ
+six_digits d = digit (f_of d) ∷ digit (x_of d / 10) ∷ digit (x_of d) ∷ digit (y_of d / 100) ∷ digit (y_of d / 10) ∷ digit (y_of d) ∷ []
+
+-- the descriptor of three parts, each in its range
+abbrev pub in_ranges : ℕ → ℕ → ℕ → Option ℕ
+in_ranges f x y = if nat_le f 3 && nat_le x 63 && nat_le y 255 then Some (descriptor f x y) else None
+
+-- the descriptor that six digits are
+unfoldable pub of_text : List ℕ → Option ℕ
+of_text (a ∷ b ∷ c ∷ d ∷ e ∷ g ∷ []) =
+    if list_all is_ascii_digit (a ∷ b ∷ c ∷ d ∷ e ∷ g ∷ [])
+    then in_ranges (digit_value a) (10 * digit_value b + digit_value c) (100 * digit_value d + 10 * digit_value e + digit_value g)
+    else None
+of_text _ = None

@@ -1,0 +1,9 @@
+pub mod Answers
+pub mod CsvRecords
+pub mod Descriptors
+pub mod Elements
+pub mod Entries
+pub mod Fields
+pub mod Numbers
+pub mod Rows
+pub mod TableFiles

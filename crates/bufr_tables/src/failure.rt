@@ -1,0 +1,36 @@
+//! Faults, and want of memory beside them.
+
+ghost use Rattle.std.specs.Prelude.{◌≡◌};
+ghost use Rattle.bufr_tables.specs.declared.failure.Failure.TheVariants.{OutOfMemory};
+
+use std::alloc::{AllocError, AllocFailed};
+use std::fmt::Display;
+use thiserror::Error;
+
+/// Why a call that takes memory gave no answer.
+#[derive(Clone, Copy, Debug, Drop, PartialEq, Eq, Error)]
+#[error_bound(F: Display)]
+pub enum Failure<F> {
+    /// The fault that the call tells.
+    #[error("{0}")]
+    Fault(F),
+    /// Memory ran out.
+    #[error("out of memory")]
+    OutOfMemory,
+}
+
+impl<F> From<AllocError> for Failure<F> {
+    ghost from_gives = { λ _ e. e ≡ OutOfMemory };
+
+    fn from(_e: AllocError) -> Failure<F> {
+        Failure::OutOfMemory
+    }
+}
+
+impl<F, T: Drop> From<AllocFailed<T>> for Failure<F> {
+    ghost from_gives = { λ _ e. e ≡ OutOfMemory };
+
+    fn from(_e: AllocFailed<T>) -> Failure<F> {
+        Failure::OutOfMemory
+    }
+}

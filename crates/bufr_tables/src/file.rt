@@ -1,0 +1,59 @@
+//! Faults of table files.
+
+use crate::fxy::Fxy;
+use std::fmt;
+use thiserror::Error;
+
+/// A column that a table file needs.
+#[derive(Clone, Copy, Debug, PartialEq, Eq)]
+pub enum Column {
+    /// The descriptor of an element.
+    Fxy,
+    /// Its unit.
+    Unit,
+    /// Its scale.
+    Scale,
+    /// Its reference value.
+    ReferenceValue,
+    /// Its data width in bits.
+    DataWidth,
+    /// The descriptor of a sequence.
+    Fxy1,
+    /// A descriptor that the sequence stands for.
+    Fxy2,
+}
+
+/// The title of the column.
+impl fmt::Display for Column {
+    fn fmt<W: fmt::Write>(&self, f: &mut fmt::Formatter<W>) -> fmt::Result {
+        f.write_str(match *self {
+            Column::Fxy => "FXY",
+            Column::Unit => "BUFR_Unit",
+            Column::Scale => "BUFR_Scale",
+            Column::ReferenceValue => "BUFR_ReferenceValue",
+            Column::DataWidth => "BUFR_DataWidth_Bits",
+            Column::Fxy1 => "FXY1",
+            Column::Fxy2 => "FXY2",
+        })
+    }
+}
+
+/// The first fault of a table file. Records count from 1, the header included.
+#[derive(Clone, Copy, Debug, Drop, PartialEq, Eq, Error)]
+pub enum TableFault {
+    /// The header has no such column.
+    #[error("B1 NoColumn {0}")]
+    NoColumn(Column),
+    /// The record has another number of fields than the header.
+    #[error("B2 NotCsv {0}")]
+    NotCsv(u64),
+    /// A field of the record is not what its column holds.
+    #[error("B3 BadRow {0}")]
+    BadRow(u64),
+    /// Two rows of one element differ.
+    #[error("B4 Conflict {0}")]
+    Conflict(Fxy),
+    /// The rows of a sequence do not stand together.
+    #[error("B5 SplitSequence {0}")]
+    SplitSequence(Fxy),
+}

@@ -1,0 +1,113 @@
+//! Descriptors.
+
+ghost use Rattle.std.specs.Prelude.{◌≡◌, ◌∷◌, [], Some, IsTrue};
+ghost use Rattle.std.specs.List.{list_all};
+ghost use Rattle.std.specs.Char.{is_ascii_digit};
+ghost use Rattle.bufr_tables.specs.Descriptors.{f_of, x_of, y_of, in_ranges, of_text, six_digits};
+
+use std::fmt;
+use std::marker::Model;
+
+/// A descriptor F XX YYY: F from 0 to 3, X from 0 to 63, Y from 0 to 255. Contracts see its 16 bits as a number.
+#[derive(Clone, Copy, Debug, PartialEq, Eq, PartialOrd, Ord)]
+pub struct Fxy(u16);
+
+impl Model for Fxy {
+    ghost use Rattle.std.specs.Prelude.{ℕ};
+
+    ghost Value = { ℕ };
+
+    ghost view = { λ a. a.0 };
+
+    ghost inverse = { λ d. record { 0 = d } };
+}
+
+impl Fxy {
+    /// The descriptor of these parts, or `None` where F is above 3 or X above 63.
+    pub fn new(f: u8, x: u8, y: u8) -> Option<Fxy>
+        ensures { result ≡ in_ranges f x y }
+    {
+        if f > 3 || x > 63 {
+            return None;
+        }
+        Some(Fxy(16384 * f as u16 + 256 * x as u16 + y as u16))
+    }
+
+    /// The descriptor of 16 bits, as they stand in section 3 of a message.
+    pub fn from_bits(bits: u16) -> Fxy
+        ensures { result ≡ bits }
+    {
+        Self(bits)
+    }
+
+    /// The descriptor that six ASCII digits FXXYYY are, each part in its range, or `None`.
+    pub fn from_text(text: &[u8]) -> Option<Fxy>
+        ensures { result ≡ of_text text.now }
+    {
+        if text.len() != 6 || !are_digits(text) {
+            return None;
+        }
+        from_digits(text[0], text[1], text[2], text[3], text[4], text[5])
+    }
+
+    /// Its 16 bits.
+    pub fn bits(self) -> u16
+        ensures { result ≡ self }
+    {
+        let Fxy(bits) = self;
+        bits
+    }
+
+    /// F, from 0 to 3.
+    pub fn f(self) -> u8
+        ensures { result ≡ f_of self }
+    {
+        (self.0 >> 14) as u8
+    }
+
+    /// X, from 0 to 63.
+    pub fn x(self) -> u8
+        ensures { result ≡ x_of self }
+    {
+        (self.0 >> 8 & 63) as u8
+    }
+
+    /// Y, from 0 to 255.
+    pub fn y(self) -> u8
+        ensures { result ≡ y_of self }
+    {
+        (self.0 & 255) as u8
+    }
+}
+
+/// Whether each octet is an ASCII digit.
+pub(crate) fn are_digits(text: &[u8]) -> bool
+    ensures { result ≡ list_all is_ascii_digit text.now }
+{
+    text.iter().all(|c| c.is_ascii_digit())
+}
+
+// The descriptor of six digits.
+fn from_digits(f: u8, x10: u8, x1: u8, y100: u8, y10: u8, y1: u8) -> Option<Fxy>
+    requires { IsTrue (list_all is_ascii_digit (f ∷ x10 ∷ x1 ∷ y100 ∷ y10 ∷ y1 ∷ [])) }
+    ensures { result ≡ of_text (f ∷ x10 ∷ x1 ∷ y100 ∷ y10 ∷ y1 ∷ []) }
+{
+    let x = 10 * (x10 - b'0') + (x1 - b'0');
+    let y = 100 * u16::from(y100 - b'0') + 10 * u16::from(y10 - b'0') + u16::from(y1 - b'0');
+    if y > 255 {
+        return None;
+    }
+    Fxy::new(f - b'0', x, y as u8)
+}
+
+/// Its six digits FXXYYY.
+impl fmt::Display for Fxy {
+    ghost output = { λ d. Some (six_digits d) };
+
+    fn fmt<W: fmt::Write>(&self, f: &mut fmt::Formatter<W>) -> fmt::Result {
+        let first = self.f() % 10;
+        let (x10, x1) = (self.x() / 10 % 10, self.x() % 10);
+        let (y100, y10, y1) = (self.y() / 100 % 10, self.y() / 10 % 10, self.y() % 10);
+        write!(f, "{first}{x10}{x1}{y100}{y10}{y1}")
+    }
+}

@@ -1,0 +1,131 @@
+//! The rows of Table D as they come.
+
+ghost use Rattle.std.specs.Prelude.{◌≡◌, IfOk, OnOk, map, option_map};
+ghost use Rattle.std.specs.Ordering.{nat_cmp};
+ghost use Rattle.std.specs.BTreeMap.{insert_entry};
+ghost use Rattle.bufr_tables.specs.Answers.{Gives};
+ghost use Rattle.bufr_tables.specs.Entries.{Rising};
+ghost use Rattle.bufr_tables.specs.Rows.{member_row, with_member, begins, no_sequences, all_sequences};
+ghost use Rattle.bufr_tables.specs.TableFiles.{joined};
+
+use crate::failure::Failure;
+use crate::file::TableFault;
+use crate::fxy::Fxy;
+use crate::items::Items;
+use crate::rows::member_row;
+use std::alloc::{AllocError, Global};
+use std::collections::BTreeMap;
+use std::marker::Model;
+
+/// The sequences whose rows have ended, and the one whose rows are at hand.
+#[derive(Debug, Drop)]
+pub(crate) struct SequenceRows {
+    ended: BTreeMap<Fxy, Items<Fxy>>,
+    open_one: Option<(Fxy, Vec<Fxy>)>,
+}
+
+impl Model for SequenceRows {
+    ghost use Rattle.std.specs.Prelude.{option_map, ℕ, List};
+    ghost use Rattle.bufr_tables.specs.Entries.{Rising};
+    ghost use Rattle.bufr_tables.specs.Rows.{Sequences};
+
+    ghost Value = { Sequences };
+
+    ghost view = { λ a. record { ended = a.ended.entries; open_one = option_map {U = ℕ × List ℕ} (λ o. (o.0, o.1.items)) a.open_one } };
+
+    ghost invariant = { λ a. Rising a.ended.entries };
+}
+
+impl SequenceRows {
+    /// No rows.
+    pub(crate) fn new(alloc: Global) -> SequenceRows
+        ensures { result ≡ no_sequences }
+    {
+        SequenceRows {
+            ended: BTreeMap::new(alloc),
+            open_one: None,
+        }
+    }
+
+    // A row that begins a sequence, unless that had rows before.
+    fn begin(
+        &mut self,
+        alloc: Global,
+        sequence: Fxy,
+        member: Fxy,
+    ) -> Result<(), Failure<TableFault>>
+        ensures { Gives (λ _. self.new) result (begins self.old.ended sequence member) }
+    {
+        if self.ended.contains_key(&sequence) {
+            return Err(Failure::Fault(TableFault::SplitSequence(sequence)));
+        }
+        let mut members = Vec::new(alloc);
+        members.push(member)?;
+        self.open_one = Some((sequence, members));
+        Ok(())
+    }
+
+    // One more row.
+    fn add(&mut self, alloc: Global, sequence: Fxy, member: Fxy) -> Result<(), Failure<TableFault>>
+        ensures { Gives (λ _. self.new) result (with_member self.old (sequence, member)) }
+    {
+        let Some((open, mut list)) = self.open_one.take() else {
+            return self.begin(alloc, sequence, member);
+        };
+        if open == sequence {
+            list.push(member)?;
+            self.open_one = Some((open, list));
+            return Ok(());
+        }
+        end(&mut self.ended, open, list)?;
+        self.begin(alloc, sequence, member)
+    }
+
+    /// The row of a record; a skipped one adds nothing.
+    pub(crate) fn add_record(
+        &mut self,
+        alloc: Global,
+        number: u64,
+        cells: &Option<Vec<&[u8]>>,
+    ) -> Result<(), Failure<TableFault>>
+        ensures { Gives (λ _. self.new) result (joined member_row with_member number self.old (option_map (λ v. map (λ s. s.now) v.items) cells.now)) }
+    {
+        let Some(cells) = cells else {
+            return Ok(());
+        };
+        match member_row(cells) {
+            Some((sequence, member)) => self.add(alloc, sequence, member),
+            None => Err(Failure::Fault(TableFault::BadRow(number))),
+        }
+    }
+
+    /// All sequences.
+    pub(crate) fn finish(self) -> Result<BTreeMap<Fxy, Items<Fxy>>, AllocError>
+        ensures all { IfOk result (λ m. m.entries ≡ all_sequences self) }
+        ensures rising { IfOk result (λ m. Rising m.entries) }
+    {
+        let SequenceRows {
+            mut ended,
+            open_one,
+        } = self;
+        let Some((open, list)) = open_one else {
+            return Ok(ended);
+        };
+        end(&mut ended, open, list)?;
+        Ok(ended)
+    }
+}
+
+// Puts a sequence to those whose rows have ended.
+fn end(
+    ended: &mut BTreeMap<Fxy, Items<Fxy>>,
+    sequence: Fxy,
+    list: Vec<Fxy>,
+) -> Result<(), AllocError>
+    requires { Rising ended.old.entries }
+    ensures ok { OnOk result (ended.new.entries ≡ insert_entry nat_cmp ended.old.entries sequence list.items) }
+    ensures rising { Rising ended.new.entries }
+{
+    ended.insert(sequence, Items::from_vec(list))?;
+    Ok(())
+}

@@ -1,0 +1,128 @@
+//! Table B.
+
+ghost use Rattle.std.specs.Prelude.{◌≡◌, ◌↔◌, IsTrue, [], false, map, option_copied, option_map};
+ghost use Rattle.bufr_tables.specs.declared.element.Kind.TheVariants as kinds;
+ghost use Rattle.bufr_tables.specs.Answers.{Gives};
+ghost use Rattle.bufr_tables.specs.Elements.{same_kind};
+ghost use Rattle.bufr_tables.specs.Entries.{at, AreElements};
+ghost use Rattle.bufr_tables.specs.Rows.{element_row, with_element};
+ghost use Rattle.bufr_tables.specs.TableFiles.{joined, table_b};
+
+use crate::columns::{columns_at, header, row_cells};
+use crate::csv_records::Records;
+use crate::element::Element;
+use crate::failure::Failure;
+use crate::fields::used_fields;
+use crate::file::{Column, TableFault};
+use crate::fxy::Fxy;
+use crate::rows::element_row;
+use csv::ByteRecord;
+use std::alloc::Global;
+use std::collections::BTreeMap;
+use std::marker::Model;
+
+/// The elements of a file, by descriptor.
+#[derive(Debug, Drop)]
+pub struct TableB {
+    rows: BTreeMap<Fxy, Element>,
+}
+
+impl Model for TableB {
+    ghost use Rattle.std.specs.Prelude.{List, ℕ};
+    ghost use Rattle.bufr_tables.specs.Entries.{AreElements};
+    ghost use Rattle.bufr_tables.specs.declared.element.Element.{Element};
+
+    ghost Value = { List (ℕ × Element) };
+
+    ghost view = { λ t. t.rows.entries };
+
+    ghost invariant = { λ t. AreElements t.rows.entries };
+}
+
+const COLUMNS: [Column; 5] = [
+    Column::Fxy,
+    Column::Unit,
+    Column::Scale,
+    Column::ReferenceValue,
+    Column::DataWidth,
+];
+
+impl TableB {
+    /// The elements of a CSV file, or its first fault: `NoColumn` where the header lacks a needed
+    /// column, `NotCsv` and `BadRow` with the number of the record, `Conflict` where two rows of
+    /// one descriptor differ.
+    pub fn parse(alloc: Global, text: &[u8]) -> Result<TableB, Failure<TableFault>>
+        ensures { Gives (λ t. t) result (table_b text.now) }
+    {
+        let mut records = Records::open(alloc, text);
+        let header = header(alloc, &mut records)?;
+        let names = used_fields(alloc, &header)?;
+        let places = columns_at(alloc, &names, &COLUMNS)?;
+        let mut table = TableB::new(alloc);
+        let mut row = ByteRecord::new(alloc);
+        for number in 2..u64::MAX {
+            if !records.next(&mut row)? {
+                return Ok(table);
+            }
+            let cells = row_cells(alloc, &names, &places, number, &row)?;
+            table.add_record(number, &cells)?;
+        }
+        Err(Failure::OutOfMemory)
+    }
+
+    // No elements.
+    fn new(alloc: Global) -> TableB
+        ensures { result ≡ [] }
+    {
+        TableB {
+            rows: BTreeMap::new(alloc),
+        }
+    }
+
+    // One more element: an equal one is there already, and a differing one is a fault.
+    fn add(&mut self, fxy: Fxy, element: Element) -> Result<(), Failure<TableFault>>
+        requires { same_kind element.kind kinds.Count ≡ false }
+        ensures { Gives (λ _. self.new) result (with_element self.old (fxy, element)) }
+    {
+        if let Some(old) = self.rows.get(&fxy) {
+            if *old == element {
+                return Ok(());
+            }
+            return Err(Failure::Fault(TableFault::Conflict(fxy)));
+        }
+        self.rows.insert(fxy, element)?;
+        Ok(())
+    }
+
+    // The row of a record; a skipped one adds nothing.
+    fn add_record(
+        &mut self,
+        number: u64,
+        cells: &Option<Vec<&[u8]>>,
+    ) -> Result<(), Failure<TableFault>>
+        ensures { Gives (λ _. self.new) result (joined element_row with_element number self.old (option_map (λ v. map (λ s. s.now) v.items) cells.now)) }
+    {
+        let Some(cells) = cells else {
+            return Ok(());
+        };
+        match element_row(cells) {
+            Some((fxy, element)) => self.add(fxy, element),
+            None => Err(Failure::Fault(TableFault::BadRow(number))),
+        }
+    }
+
+    /// The element of a descriptor.
+    pub(crate) fn element(&self, fxy: Fxy) -> Option<&Element>
+        ensures value { option_copied result ≡ at fxy self.now }
+        ensures table { AreElements self.now }
+    {
+        self.rows.get(&fxy)
+    }
+
+    /// Whether another table has the same elements.
+    pub(crate) fn same(&self, other: &TableB) -> bool
+        ensures { IsTrue result ↔ (self.now ≡ other.now) }
+    {
+        self.rows == other.rows
+    }
+}

@@ -1,0 +1,81 @@
+//! Table D.
+
+ghost use Rattle.std.specs.Prelude.{◌≡◌, ◌↔◌, IsTrue, option_map};
+ghost use Rattle.bufr_tables.specs.Answers.{Gives};
+ghost use Rattle.bufr_tables.specs.Entries.{at, Rising};
+ghost use Rattle.bufr_tables.specs.TableFiles.{table_d};
+
+use crate::columns::{columns_at, header, row_cells};
+use crate::csv_records::Records;
+use crate::failure::Failure;
+use crate::fields::used_fields;
+use crate::file::{Column, TableFault};
+use crate::fxy::Fxy;
+use crate::items::Items;
+use crate::sequence_rows::SequenceRows;
+use csv::ByteRecord;
+use std::alloc::Global;
+use std::collections::BTreeMap;
+use std::marker::Model;
+
+/// The sequences of a file, by descriptor.
+#[derive(Debug, Drop)]
+pub struct TableD {
+    rows: BTreeMap<Fxy, Items<Fxy>>,
+}
+
+impl Model for TableD {
+    ghost use Rattle.std.specs.Prelude.{List, ℕ};
+    ghost use Rattle.bufr_tables.specs.Entries.{Rising};
+
+    ghost Value = { List (ℕ × List ℕ) };
+
+    ghost view = { λ t. t.rows.entries };
+
+    ghost invariant = { λ t. Rising t.rows.entries };
+}
+
+const COLUMNS: [Column; 2] = [Column::Fxy1, Column::Fxy2];
+
+impl TableD {
+    /// The sequences of a CSV file, or its first fault: `NoColumn` where the header lacks a needed
+    /// column, `NotCsv` and `BadRow` with the number of the record, `SplitSequence` where the rows
+    /// of a sequence do not stand together.
+    pub fn parse(alloc: Global, text: &[u8]) -> Result<TableD, Failure<TableFault>>
+        ensures { Gives (λ t. t) result (table_d text.now) }
+    {
+        let mut records = Records::open(alloc, text);
+        let header = header(alloc, &mut records)?;
+        let names = used_fields(alloc, &header)?;
+        let places = columns_at(alloc, &names, &COLUMNS)?;
+        let mut rows = SequenceRows::new(alloc);
+        let mut row = ByteRecord::new(alloc);
+        for number in 2..u64::MAX {
+            if !records.next(&mut row)? {
+                let rows = rows.finish()?;
+                return Ok(TableD { rows });
+            }
+            let cells = row_cells(alloc, &names, &places, number, &row)?;
+            rows.add_record(alloc, number, &cells)?;
+        }
+        Err(Failure::OutOfMemory)
+    }
+
+    /// The descriptors that a sequence stands for.
+    pub(crate) fn sequence(&self, fxy: Fxy) -> Option<&[Fxy]>
+        ensures value { option_map (λ s. s.now) result ≡ at fxy self.now }
+        ensures table { Rising self.now }
+    {
+        match self.rows.get(&fxy) {
+            Some(list) => Some(list.as_slice()),
+            None => None,
+        }
+    }
+
+    /// Whether another table has the same sequences.
+    pub(crate) fn same(&self, other: &TableD) -> bool
+        ensures { IsTrue result ↔ (self.now ≡ other.now) }
+    {
+        self.rows == other.rows
+    }
+}

@@ -1,0 +1,60 @@
+//! Tables B and D together.
+
+ghost use Rattle.std.specs.Prelude.{◌≡◌, ◌↔◌, IsTrue, option_copied, option_map};
+ghost use Rattle.bufr_tables.specs.Entries.{element, sequence, AreElements, Rising};
+
+use crate::element::Element;
+use crate::fxy::Fxy;
+use crate::table_b::TableB;
+use crate::table_d::TableD;
+use std::marker::Model;
+
+/// The elements and the sequences, by descriptor. Nothing here takes memory.
+#[derive(Debug, Drop)]
+pub struct Tables {
+    elements: TableB,
+    sequences: TableD,
+}
+
+impl Model for Tables {
+    ghost use Rattle.bufr_tables.specs.Entries.{Entries};
+
+    ghost Value = { Entries };
+
+    ghost view = { λ t. record { elements = t.elements; sequences = t.sequences } };
+}
+
+impl Tables {
+    /// The elements of a Table B and the sequences of a Table D.
+    pub fn new(b: TableB, d: TableD) -> Tables
+        ensures { result ≡ record { elements = b; sequences = d } }
+    {
+        Tables {
+            elements: b,
+            sequences: d,
+        }
+    }
+
+    /// The element of a descriptor, or `None` where Table B has none.
+    pub fn element(&self, fxy: Fxy) -> Option<&Element>
+        ensures value { option_copied result ≡ element self.now fxy }
+        ensures tables { AreElements self.now.elements }
+    {
+        self.elements.element(fxy)
+    }
+
+    /// The descriptors that a sequence stands for, or `None` where Table D has none.
+    pub fn sequence(&self, fxy: Fxy) -> Option<&[Fxy]>
+        ensures value { option_map (λ s. s.now) result ≡ sequence self.now fxy }
+        ensures tables { Rising self.now.sequences }
+    {
+        self.sequences.sequence(fxy)
+    }
+
+    /// Whether others have the same elements and the same sequences.
+    pub fn same(&self, other: &Tables) -> bool
+        ensures { IsTrue result ↔ (self.now ≡ other.now) }
+    {
+        self.elements.same(&other.elements) && self.sequences.same(&other.sequences)
+    }
+}

@@ -1,0 +1,6 @@
+use Rattle.bufr_tool.specs.Inputs.{GoesOn}
+use Rattle.bufr_tool.proofs.input.gather.Given as goal
+
+-- what was read so far
+abbrev pub invariant-loop : goal.invariant-loop
+invariant-loop g l = GoesOn (g.S.Source.reading l.initial.reader) (g.S.Source.reading l.reader) l.octets.items l.counter

@@ -1,0 +1,4 @@
+pub mod Engines
+pub mod Output
+pub mod Inputs
+pub mod Loads

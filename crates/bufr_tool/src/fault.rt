@@ -1,0 +1,59 @@
+//! What an engine answers.
+
+use bufr_tables::TableFault;
+use std::fmt;
+use thiserror::Error;
+
+/// What an engine has read and written.
+#[derive(Clone, Copy, Debug, Drop, PartialEq, Eq)]
+pub struct Tally {
+    /// The frames that were found.
+    pub frames: u128,
+    /// Those of them that spell no message.
+    pub refused: u128,
+    /// The octets outside frames, where the command counts them.
+    pub skipped: u128,
+    /// The reports of the archive, where the command has one.
+    pub reports: u128,
+}
+
+/// What is read by a command.
+#[derive(Clone, Copy, Debug, Drop, PartialEq, Eq)]
+pub enum Input {
+    /// The file of Table B.
+    TableB,
+    /// The file of Table D.
+    TableD,
+    /// An input of the engine, counted from 1.
+    Number(u128),
+}
+
+impl fmt::Display for Input {
+    fn fmt<W: fmt::Write>(&self, f: &mut fmt::Formatter<W>) -> fmt::Result {
+        match self {
+            Input::TableB => write!(f, "table B"),
+            Input::TableD => write!(f, "table D"),
+            Input::Number(n) => write!(f, "input {n}"),
+        }
+    }
+}
+
+/// Why an engine gave no tally.
+#[derive(Clone, Copy, Debug, Drop, PartialEq, Eq, Error)]
+pub enum ToolFault {
+    /// A reader failed.
+    #[error("read failed {0}")]
+    ReadFailed(Input),
+    /// All reads that were allowed answered octets.
+    #[error("endless input {0}")]
+    EndlessInput(Input),
+    /// The writer failed after so many octets of the output.
+    #[error("write failed after {written} octets")]
+    WriteFailed { written: u128 },
+    /// The file of a table has a fault.
+    #[error("{0}: {1}")]
+    Table(Input, TableFault),
+    /// Memory ran out.
+    #[error("out of memory")]
+    OutOfMemory,
+}
