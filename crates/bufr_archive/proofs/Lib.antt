@@ -1,3 +1,4 @@
+pub mod KeyFacts
 pub mod PairLemmas
 pub mod ShelvedLemmas
 pub mod SortedLemmas

@@ -13,7 +13,8 @@ use Rattle.bufr_archive.specs.Keeping.{put_by, put_all, changes_by, first_of}
 use Rattle.bufr_archive.specs.KeepingLaws.{put_less, put_equal, put_greater}
 use Rattle.bufr_archive.specs.Entries.{octets_cmp, key_cmp, slot_by, slot_cmp, rank_cmp, kept, changes, entry_at, entry_after}
 use Rattle.bufr_archive.specs.Orders.{kept-swap, kept-early, kept-late, kept-kept, kept-are, then-Equal}
-use Rattle.bufr_archive.specs.Ranks.{key_order, rank_order, keys_are}
+use Rattle.bufr_archive.specs.Ranks.{key_order, rank_order}
+use Rattle.bufr_archive.proofs.KeyFacts.{keys_are}
 use Rattle.bufr_archive.specs.Pairs.{by_key, by_value, with_key, without_key, shelved}
 use Rattle.bufr_archive.specs.declared.key.Key.{Key}
 use Rattle.bufr_archive.specs.declared.rank.Rank.{Rank}

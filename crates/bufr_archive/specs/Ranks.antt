@@ -1,10 +1,10 @@
 -- The orders that the types derive are those of the definitions, and tell all values apart; clones equal their sources.
-use Rattle.std.proofs.Common.{◌≡◌, ap, ◌∙◌, refl, sym}
+use Rattle.std.proofs.Common.{◌≡◌, ap, ◌∙◌, refl}
 use Rattle.std.proofs.lemmas.Map.Lookups.{exact_unsigned, exact_bytes}
 use Rattle.std.specs.Ordering.{nat_cmp, ordering_then}
 use Rattle.std.specs.declared.cmp.Ordering.{Ordering}
 use Rattle.std.specs.declared.cmp.Ordering.TheVariants.{Equal}
-use Rattle.bufr_archive.specs.Entries.{octets_cmp, station_cmp, key_cmp}
+use Rattle.bufr_archive.specs.Entries.{octets_cmp, station_cmp}
 use Rattle.bufr_archive.specs.declared.rank.Rank.{Rank}
 use Rattle.bufr_archive.specs.declared.key.Key.{Key}
 use Rattle.bufr_archive.specs.declared.key.Station.{Station}
@@ -12,9 +12,8 @@ use Rattle.bufr_archive.specs.declared.key.Station.TheVariants.{Wmo, Wigos, Mobi
 use Rattle.bufr_archive.specs.contracts.key.StationOrd.TheImpl as station_ord
 use Rattle.bufr_archive.specs.contracts.key.KeyOrd.TheImpl as key_ord
 use Rattle.bufr_archive.specs.contracts.key.StationClone.TheImpl as station_clone
-use Rattle.bufr_archive.specs.contracts.key.KeyClone.TheImpl as key_clone
 use Rattle.bufr_archive.specs.contracts.rank.RankOrd.TheImpl as rank_ord
-use Rattle.bufr_archive.specs.Orders.{both_equal, exact_keys}
+use Rattle.bufr_archive.specs.Orders.{both_equal}
 
 -- the order of keys that the type derives
 abbrev pub key_order : Key → Key → Ordering
@@ -35,12 +34,6 @@ stations_are (Mobile a) (Wmo b n) = refl
 stations_are (Mobile a) (Wigos s i n b) = refl
 stations_are (Mobile a) (Mobile b) = refl
 
-pub keys_are : (a b : Key) → key_order a b ≡ key_cmp a b
-keys_are a b = rw (stations_are a.station b.station) refl
-
-pub exact_key_order : (a b : Key) → key_order a b ≡ Equal → a ≡ b
-exact_key_order a b h = exact_keys a b (sym (keys_are a b) ∙ h)
-
 pub exact_ranks : (a b : Rank) → ordering_then (nat_cmp a.update b.update) (octets_cmp a.bytes b.bytes) ≡ Equal → a ≡ b
 exact_ranks a b h =
     let e = both_equal (nat_cmp a.update b.update) _ h in
@@ -50,7 +43,7 @@ exact_ranks a b h =
 pub same_ranks : (a b : Rank) → b.update ≡ a.update → b.bytes ≡ a.bytes → b ≡ a
 same_ranks a b u o = ap (λ z. record b { update = z }) u ∙ ap (λ z. record a { bytes = z }) o
 
-same_stations : (a b : Station) → (station_clone.ghosts).is_clone a b → b ≡ a
+pub same_stations : (a b : Station) → (station_clone.ghosts).is_clone a b → b ≡ a
 same_stations (Wmo b n) (Wmo c m) h = ap (λ z. Wmo z m) h.0 ∙ ap (λ z. Wmo b z) h.1
 same_stations (Wmo b n) (Wigos s i m a) h = absurd h
 same_stations (Wmo b n) (Mobile a) h = absurd h
@@ -61,12 +54,3 @@ same_stations (Wigos s i n a) (Mobile b) h = absurd h
 same_stations (Mobile a) (Wmo b n) h = absurd h
 same_stations (Mobile a) (Wigos s i n b) h = absurd h
 same_stations (Mobile a) (Mobile b) h = ap Mobile h
-
-pub same_keys : (a b : Key) → (key_clone.ghosts).is_clone a b → b ≡ a
-same_keys a b h =
-    ap (λ z. record b { centre = z }) h.0
-    ∙ ap (λ z. record b { centre = a.centre; category = z }) h.1.0
-    ∙ ap (λ z. record b { centre = a.centre; category = a.category; international = z }) h.1.1.0
-    ∙ ap (λ z. record a { local_category = z; station = b.station; moment = b.moment }) h.1.1.1.0
-    ∙ ap (λ z. record a { station = z; moment = b.moment }) (same_stations a.station b.station h.1.1.1.1.0)
-    ∙ ap (λ z. record a { moment = z }) h.1.1.1.1.1

@@ -46,9 +46,22 @@ impl Exact for Rank {
 }
 
 impl Exact for Key {
-    ghost use Rattle.bufr_archive.specs.Ranks.{exact_key_order, same_keys};
+    ghost use Rattle.std.proofs.Common.{sym, refl, ◌∙◌, ap};
+    ghost use Rattle.bufr_archive.specs.Entries.{key_cmp};
+    ghost use Rattle.bufr_archive.specs.Orders.{exact_keys};
+    ghost use Rattle.bufr_archive.specs.Ranks.{stations_are, same_stations};
 
-    ghost exact = { exact_key_order };
+    ghost exact = {
+        λ a b h. let e : Self.cmp a b ≡ key_cmp a b = rw (stations_are a.station b.station) refl in exact_keys a b (sym e ∙ h)
+    };
 
-    ghost faithful = { same_keys };
+    ghost faithful = {
+        λ a b h.
+        ap (λ z. record b { centre = z }) h.0
+        ∙ ap (λ z. record b { centre = a.centre; category = z }) h.1.0
+        ∙ ap (λ z. record b { centre = a.centre; category = a.category; international = z }) h.1.1.0
+        ∙ ap (λ z. record a { local_category = z; station = b.station; moment = b.moment }) h.1.1.1.0
+        ∙ ap (λ z. record a { station = z; moment = b.moment }) (same_stations a.station b.station h.1.1.1.1.0)
+        ∙ ap (λ z. record a { moment = z }) h.1.1.1.1.1
+    };
 }

@@ -1,5 +1,6 @@
 use Rattle.std.proofs.Common.{refl}
-use Rattle.bufr_archive.specs.Ranks.{keys_are, stations_are}
+use Rattle.bufr_archive.specs.Ranks.{stations_are}
+use Rattle.bufr_archive.proofs.KeyFacts.{keys_are}
 use Rattle.bufr_archive.proofs.laws.keys_in_order.Goals as goal
 
 pub returns : goal.returns
