@@ -20,7 +20,7 @@ use Rattle.bufr_expand.proofs.Expanding.{expand_list-skip, expand_list-found, on
 use Rattle.bufr_expand.proofs.Readings.{IsRead, an_element, an_operator, a_text, a_width, a_sequence, a_repeated, a_delayed, reads, found_is}
 
 -- what follows a successful answer
-bind_ok : {A B F : Type 0} (m : Result A F) (f : A → Result B F) (y : B) → (m >>= f) ≡ Ok y → (x : A) × (m ≡ Ok x) × (f x ≡ Ok y)
+pub bind_ok : {A B F : Type 0} (m : Result A F) (f : A → Result B F) (y : B) → (m >>= f) ≡ Ok y → (x : A) × (m ≡ Ok x) × (f x ≡ Ok y)
 bind_ok (Ok x) f y e = (x, refl, e)
 bind_ok (Err g) f y e = absurd (cc)
 
@@ -201,6 +201,12 @@ unfolding AreFlat FlatOf expand_within
 within_flat tables zero = λ s r used list ns e. absurd (cc)
 within_flat tables (suc levels) = λ s r used list ns e. list_flat tables (expand_within levels tables) s r 0 used list ns (within_flat tables levels) e
 
+pub has_tree_within : (tables : Entries) (levels s r used : ℕ) (list : List ℕ) (ns : List Node) → used ≤ 65536 → expand_within levels tables s r used list ≡ Ok ns → (t : Tree) × Flat tables s r list t × (nodes_of t ≡ ns) × (used + length ns ≤ 65536)
+unfolding AreFlat FlatOf
+has_tree_within tables levels s r used list ns fits e =
+    let w = within_flat tables levels s r used list ns e in
+    (w.0, w.1, w.2, w.3 fits)
+
 -- ---- a tree has an expansion
 
 expand_step : (tables : Entries) (deeper : Deeper) (s r used d : ℕ) (behind : List ℕ) (part : Part) (taken : ℕ) (first rest : List Node) → found_at tables d behind ≡ found part taken → part_nodes deeper s r used part ≡ Ok first → expand_list tables deeper s r 0 (used + length first) (drop taken behind) ≡ Ok rest → expand_list tables deeper s r 0 used (d ∷ behind) ≡ Ok (first ++ rest)
@@ -209,30 +215,30 @@ expand_step tables deeper s r used d behind part taken first rest e p q =
     ∙ ap (λ (x : Expansion). x >>= λ first. expand_list tables deeper s r taken (used + length first) behind >>= λ rest. Ok (first ++ rest)) p
     ∙ ap (λ (x : Expansion). x >>= λ rest. Ok (first ++ rest)) (expand_list-skip tables deeper s r taken (used + length first) behind ∙ q)
 
-single_fits : (used : ℕ) (node : Node) → used < 65536 → single_nodes used node ≡ Ok (node ∷ [])
+pub single_fits : (used : ℕ) (node : Node) → used < 65536 → single_nodes used node ≡ Ok (node ∷ [])
 single_fits used node h = cond-true (ltb used 65536) (Ok (node ∷ [])) (Err TooManyNodes) (lt-ltb used 65536 h)
 
-replication_fits : (deeper : Deeper) (s r used : ℕ) (head : Head) (body : List ℕ) (ns : List Node) → used < 65536 → deeper s r (used + 1) body ≡ Ok ns → replication_nodes deeper s r used head body ≡ Ok (head_node head (length ns) ∷ ns)
+pub replication_fits : (deeper : Deeper) (s r used : ℕ) (head : Head) (body : List ℕ) (ns : List Node) → used < 65536 → deeper s r (used + 1) body ≡ Ok ns → replication_nodes deeper s r used head body ≡ Ok (head_node head (length ns) ∷ ns)
 replication_fits deeper s r used head body ns h e =
     cond-true (ltb used 65536) (deeper s r (used + 1) body >>= λ l. Ok (head_node head (length l) ∷ l)) (Err TooManyNodes) (lt-ltb used 65536 h)
     ∙ ap (λ (x : Expansion). x >>= λ l. Ok (head_node head (length l) ∷ l)) e
 
 -- the body of a replication, and what is behind it
-body_read : (tables : Entries) (d : ℕ) (body behind : List ℕ) → f_of d ≡ 1 → 0 < x_of d → 0 < y_of d → length body ≡ x_of d → IsRead tables d (body ++ behind) (replication (heads.Times (y_of d)) body) (x_of d)
+pub body_read : (tables : Entries) (d : ℕ) (body behind : List ℕ) → f_of d ≡ 1 → 0 < x_of d → 0 < y_of d → length body ≡ x_of d → IsRead tables d (body ++ behind) (replication (heads.Times (y_of d)) body) (x_of d)
 body_read tables d body behind f x y long =
     let more = length-append body behind in
     let front : take (x_of d) (body ++ behind) ≡ body = take_at body behind (x_of d) long in
     let P : List ℕ → Type 0 = λ l. IsRead tables d (body ++ behind) (replication (heads.Times (y_of d)) l) (x_of d) in
     subst P front (a_repeated f x y (omega arith))
 
-factor_read : (tables : Entries) (d factor : ℕ) (e : Element) (body behind : List ℕ) → f_of d ≡ 1 → 0 < x_of d → y_of d ≡ 0 → IsFactor factor → element tables factor ≡ Some e → IsCountRow e → length body ≡ x_of d → IsRead tables d (factor ∷ body ++ behind) (replication (heads.Factor factor e) body) (x_of d + 1)
+pub factor_read : (tables : Entries) (d factor : ℕ) (e : Element) (body behind : List ℕ) → f_of d ≡ 1 → 0 < x_of d → y_of d ≡ 0 → IsFactor factor → element tables factor ≡ Some e → IsCountRow e → length body ≡ x_of d → IsRead tables d (factor ∷ body ++ behind) (replication (heads.Factor factor e) body) (x_of d + 1)
 factor_read tables d factor e body behind f x y i k c long =
     let more = length-append body behind in
     let front : take (x_of d) (body ++ behind) ≡ body = take_at body behind (x_of d) long in
     let P : List ℕ → Type 0 = λ l. IsRead tables d (factor ∷ body ++ behind) (replication (heads.Factor factor e) l) (x_of d + 1) in
     subst P front (a_delayed f x y i k c (omega arith))
 
-flat_expands : (tables : Entries) (s r : ℕ) (list : List ℕ) (t : Tree) → Flat tables s r list t → (levels used : ℕ) → s + r ≤ levels → used + length (nodes_of t) ≤ 65536 → expand_list tables (expand_within levels tables) s r 0 used list ≡ Ok (nodes_of t)
+pub flat_expands : (tables : Entries) (s r : ℕ) (list : List ℕ) (t : Tree) → Flat tables s r list t → (levels used : ℕ) → s + r ≤ levels → used + length (nodes_of t) ≤ 65536 → expand_list tables (expand_within levels tables) s r 0 used list ≡ Ok (nodes_of t)
 unfolding expand_list nodes_of expand_within
 flat_expands tables s r list t nothing levels used deep fits = refl
 flat_expands tables s r list t (element_first {d} {e} {behind} {rest} f k g) levels used deep fits =

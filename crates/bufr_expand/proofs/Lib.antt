@@ -1,8 +1,10 @@
 pub mod Between
 pub mod Expanding
+pub mod FirstFaulting
 pub mod Flattening
 pub mod Limits
 pub mod Loops
+pub mod NoCases
 pub mod Passing
 pub mod Readings
 pub mod SpecFacts

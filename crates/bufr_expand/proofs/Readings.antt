@@ -42,7 +42,7 @@ zero_is : (z : ℤ) → same_integer z (pos 0) ≡ true → z ≡ pos 0
 zero_is (pos n) h = ap pos (eqb-true n 0 h)
 zero_is (negsuc n) h = absurd (cc)
 
-count_is : (e : Element) → is_factor_row e ≡ true → IsCountRow e
+pub count_is : (e : Element) → is_factor_row e ≡ true → IsCountRow e
 count_is e h =
     let a = and_parts (not (same_kind e.kind kinds.Text) && same_integer e.scale (pos 0) && same_integer e.reference (pos 0) && leb 1 e.width) (leb e.width 16) h in
     let b = and_parts (not (same_kind e.kind kinds.Text) && same_integer e.scale (pos 0) && same_integer e.reference (pos 0)) (leb 1 e.width) a.0 in
@@ -50,12 +50,12 @@ count_is e h =
     let d = and_parts (not (same_kind e.kind kinds.Text)) (same_integer e.scale (pos 0)) c.0 in
     (text_is e.kind (not-true (same_kind e.kind kinds.Text) d.0), zero_is e.scale d.1, zero_is e.reference c.1, leb-true 1 e.width b.1, leb-true e.width 16 a.1)
 
-count_tells : (e : Element) → IsCountRow e → is_factor_row e ≡ true
+pub count_tells : (e : Element) → IsCountRow e → is_factor_row e ≡ true
 count_tells e (k, s, r, low, high) =
     and_from _ (leb e.width 16) (and_from _ (leb 1 e.width) (and_from _ (same_integer e.reference (pos 0)) (and_from _ (same_integer e.scale (pos 0)) (not_from_false (same_kind e.kind kinds.Text) (text_tells e.kind k))
     (ap (λ (z : ℤ). same_integer z (pos 0)) s)) (ap (λ (z : ℤ). same_integer z (pos 0)) r)) (le-leb 1 e.width low)) (le-leb e.width 16 high)
 
-stays_is : (x : ℕ) → stays_in_force x ≡ true → StaysInForce x
+pub stays_is : (x : ℕ) → stays_in_force x ≡ true → StaysInForce x
 stays_is x h =
     elim (or_cases ((x == 1 || x == 2) || x == 7) (x == 8) h) [
       | inl a ↦ elim (or_cases (x == 1 || x == 2) (x == 7) a) [
@@ -65,7 +65,7 @@ stays_is x h =
       | inr a ↦ inr (inr (inr (eqb-true x 8 a)))
     ]
 
-stays_tells : (x : ℕ) → StaysInForce x → stays_in_force x ≡ true
+pub stays_tells : (x : ℕ) → StaysInForce x → stays_in_force x ≡ true
 stays_tells x (inl e) = ap stays_in_force e
 stays_tells x (inr (inl e)) = ap stays_in_force e
 stays_tells x (inr (inr (inl e))) = ap stays_in_force e
@@ -169,7 +169,7 @@ reads tables d behind next e = subst (AllRead tables d behind) e (read_by (f_of 
 
 -- ---- what is read is found so
 
-local_other : (d local : ℕ) (o : Option Element) → ((e : Element) → o ≡ Some e → e.width ≢ y_of d) → local_found d local o ≡ number_found d local
+pub local_other : (d local : ℕ) (o : Option Element) → ((e : Element) → o ≡ Some e → e.width ≢ y_of d) → local_found d local o ≡ number_found d local
 local_other d local None h = refl
 local_other d local (Some e) h =
     cond-false (eqb e.width (y_of d)) (found (single (nodes.Untouched local e)) 1) (number_found d local) (ne_eqb e.width (y_of d) (h e refl))
@@ -182,24 +182,22 @@ local_is tables d local e (as_number h small) =
     ∙ cond-false (ltb 63 (y_of d)) (Err (BadOperand d)) (found (single (nodes.Untouched local (plain_number (y_of d)))) 1) (le-ltb 63 (y_of d) small)
 
 -- an operator by its X
-operator_by : Entries → ℕ → List ℕ → ℕ → Finding
+abbrev pub operator_by : Entries → ℕ → List ℕ → ℕ → Finding
 operator_by tables d behind x =
     cond (stays_in_force x) (found (single (nodes.Operator d)) 0)
     (cond (eqb x 5) (cond (eqb (y_of d) 0) (Err (BadOperand d)) (found (single (nodes.Untouched d (characters (y_of d)))) 0))
     (cond (eqb x 6) (cond (eqb (y_of d) 0) (Err (BadOperand d)) (width_found tables d behind)) (Err (UnsupportedOperator d))))
 
-operator_is : (tables : Entries) (d x : ℕ) (behind : List ℕ) → f_of d ≡ 2 → x_of d ≡ x → found_at tables d behind ≡ operator_by tables d behind x
-unfolding operator_by
+pub operator_is : (tables : Entries) (d x : ℕ) (behind : List ℕ) → f_of d ≡ 2 → x_of d ≡ x → found_at tables d behind ≡ operator_by tables d behind x
 operator_is tables d x behind f e = ap (λ (n : ℕ). found_by n tables d behind) f ∙ ap (operator_by tables d behind) e
 
 -- a replication whose X is not 0
-replication_is : (tables : Entries) (d : ℕ) (behind : List ℕ) → f_of d ≡ 1 → 0 < x_of d → found_at tables d behind ≡ cond (eqb (y_of d) 0) (factor_found tables d behind) (repeated_found d behind)
+pub replication_is : (tables : Entries) (d : ℕ) (behind : List ℕ) → f_of d ≡ 1 → 0 < x_of d → found_at tables d behind ≡ cond (eqb (y_of d) 0) (factor_found tables d behind) (repeated_found d behind)
 replication_is tables d behind f x =
     ap (λ (n : ℕ). found_by n tables d behind) f
     ∙ cond-false (eqb (x_of d) 0) (Err (BadReplication d)) (cond (eqb (y_of d) 0) (factor_found tables d behind) (repeated_found d behind)) (ne_eqb (x_of d) 0 (λ e. omega arith))
 
 pub found_is : (tables : Entries) (d : ℕ) (behind : List ℕ) (part : Part) (taken : ℕ) → IsRead tables d behind part taken → found_at tables d behind ≡ found part taken
-unfolding operator_by
 found_is tables d behind part taken (an_element f k) = ap (λ (n : ℕ). found_by n tables d behind) f ∙ ap (element_found d) k
 found_is tables d behind part taken (an_operator f x) =
     operator_is tables d (x_of d) behind f refl ∙ cond-true (stays_in_force (x_of d)) _ _ (stays_tells (x_of d) x)

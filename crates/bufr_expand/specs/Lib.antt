@@ -2,6 +2,7 @@ pub mod Answering
 pub mod Courses
 pub mod Effects
 pub mod Expansion
+pub mod FirstFaults
 pub mod Flat
 pub mod Operating
 pub mod Parts

@@ -2,11 +2,14 @@
 
 ghost use Rattle.std.specs.Prelude.{◌≡◌, ◌≤◌, ℕ, List, Some};
 ghost use Rattle.bufr_tables.specs.declared.element.Element.{Element};
+ghost use Rattle.bufr_tables.specs.Entries.{Entries};
+ghost use Rattle.bufr_expand.specs.declared.node.TemplateFault.{TemplateFault};
 ghost use Rattle.bufr_expand.specs.declared.operators.Operators.{Operators};
 ghost use Rattle.bufr_expand.specs.declared.operators.Spec.{Spec};
 ghost use Rattle.bufr_expand.specs.Operating.{effective, untouched};
 ghost use Rattle.bufr_expand.specs.Effects.{Effective, AsInTable};
 ghost use Rattle.bufr_expand.specs.Courses.{course};
+ghost use Rattle.bufr_expand.specs.FirstFaults.{RefusesExactly, HasTreeOrFault, HasNotBoth, HasOneFault, HasNoTreeAt};
 ghost use Rattle.bufr_expand.specs.Trees.{Tree};
 ghost use Rattle.bufr_expand.specs.Unrolling.{Told, Allows, Unrolls};
 
@@ -25,4 +28,15 @@ pub fn specs_are_effective()
 pub fn courses_are_unrollings()
     ensures unrolled { (t : Tree) (used : ℕ) (fields : List Told) (n : ℕ) → used ≤ 16777216 → Allows (course t used) fields n → Unrolls t used fields n }
     ensures allowed { (t : Tree) (used : ℕ) (fields : List Told) (n : ℕ) → Unrolls t used fields n → Allows (course t used) fields n }
+{}
+
+/// A list of descriptors is refused exactly by its first fault in depth-first order, X1 to X9. It has a tree within the limits
+/// or a first fault, never both, and at most one fault. Where X1 to X7 stand at its first descriptor it has no tree, whatever
+/// the limits.
+pub fn refusal_is_the_first_fault()
+    ensures exactly { (tables : Entries) (list : List ℕ) (fault : TemplateFault) → RefusesExactly tables list fault }
+    ensures either { (tables : Entries) (list : List ℕ) → HasTreeOrFault tables list }
+    ensures never_both { (tables : Entries) (list : List ℕ) (tree : Tree) (fault : TemplateFault) → HasNotBoth tables list tree fault }
+    ensures one { (tables : Entries) (list : List ℕ) (f g : TemplateFault) → HasOneFault tables list f g }
+    ensures no_case { (tables : Entries) (d : ℕ) (behind : List ℕ) (fault : TemplateFault) → HasNoTreeAt tables d behind fault }
 {}

@@ -1,10 +1,8 @@
 -- What engines do to their readers and their writer.
-use Rattle.std.specs.Prelude.{◌≡◌, ℕ, ◌-◌, ◌≤◌, Bool, true, false, Option, Some, None, List, ◌++◌, length, take, IfSome, Result, Ok, Err}
-use Rattle.std.specs.Option.{option_map}
+use Rattle.std.specs.Prelude.{◌≡◌, ℕ, ◌≤◌, true, false, List, length, take, IfSome, Result, Ok, Err}
 use Rattle.bufr_bits.specs.Devices.{Reading, Writing, Writes}
 use Rattle.bufr_tables.specs.Entries.{Entries}
-use Rattle.bufr_tool.specs.declared.fault.Input.TheVariants.{TableB, TableD, Number}
-use Rattle.bufr_tool.specs.declared.fault.Input.{Input}
+use Rattle.bufr_tool.specs.declared.fault.Input.TheVariants.{Number}
 use Rattle.bufr_tool.specs.declared.fault.Tally.{Tally}
 use Rattle.bufr_tool.specs.declared.fault.ToolFault.{ToolFault}
 use Rattle.bufr_tool.specs.declared.fault.ToolFault.TheVariants as faults

@@ -1,5 +1,5 @@
 -- What is read of an input.
-use Rattle.std.specs.Prelude.{◌≡◌, ℕ, false, Option, Some, List, ◌++◌, length, take, drop, IfSome, Result, Ok, Err}
+use Rattle.std.specs.Prelude.{◌≡◌, ℕ, false, Some, List, ◌++◌, length, take, drop, IfSome, Result, Ok, Err}
 use Rattle.bufr_bits.specs.Devices.{Reading}
 use Rattle.bufr_tool.specs.declared.fault.Input.{Input}
 use Rattle.bufr_tool.specs.declared.fault.ToolFault.{ToolFault}

@@ -2,3 +2,4 @@ pub mod Engines
 pub mod Output
 pub mod Inputs
 pub mod Loads
+pub mod CommandLines

@@ -1,5 +1,5 @@
 -- What loading the two table files answers.
-use Rattle.std.specs.Prelude.{◌≡◌, ℕ, List, IfSome, Result, Ok, Err, IsOk}
+use Rattle.std.specs.Prelude.{◌≡◌, ℕ, IfSome, Result, Ok, Err, IsOk}
 use Rattle.bufr_bits.specs.Devices.{Reading}
 use Rattle.bufr_tables.specs.declared.file.TableFault.{TableFault}
 use Rattle.bufr_tables.specs.Entries.{Entries}

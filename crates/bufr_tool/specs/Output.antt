@@ -6,6 +6,14 @@ use Rattle.bufr_message.specs.declared.fault.Refused.{Refused}
 use Rattle.bufr_message.specs.Messages.{message_of}
 use Rattle.bufr_message.specs.Listings.{listing}
 use Rattle.bufr_message.specs.Reasons.{reason}
+use Rattle.bufr_tool.specs.declared.fault.Input.{Input}
+use Rattle.bufr_tool.specs.declared.fault.Input.TheVariants.{TableB, TableD, Number}
+
+-- what the lines of faults call an input
+unfoldable pub input_text : Input → List ℕ
+input_text TableB = codes "table B"
+input_text TableD = codes "table D"
+input_text (Number n) = codes "input " ++ decimal n
 
 -- the line that says why the octets at a place spell no message
 abbrev pub refused_text : ℕ → Refused → List ℕ

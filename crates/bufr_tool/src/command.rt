@@ -1,6 +1,6 @@
 //! The commands of the program, over a runtime with files and any two writers.
 
-ghost use Rattle.std.specs.Prelude.{IfSome};
+ghost use Rattle.std.specs.Prelude.{◌≤◌, IfSome};
 ghost use Rattle.bufr_tool.specs.Engines.{IsFresh};
 
 use crate::fault::{Tally, ToolFault};
@@ -35,7 +35,9 @@ pub fn run_command<R: Files, O: Write + Drop, E: Write + Drop>(
     words: &[String],
     out: &mut O,
     err: &mut E,
-) -> u8 {
+) -> u8
+    ensures { result ≤ 2 }
+{
     if words.is_empty() {
         return run_words(rt, alloc, ["--help"].as_slice(), out, err);
     }
@@ -49,7 +51,9 @@ fn run_words<R: Files, S: AsStr, O: Write + Drop, E: Write + Drop>(
     words: &[S],
     out: &mut O,
     err: &mut E,
-) -> u8 {
+) -> u8
+    ensures { result ≤ 2 }
+{
     match line(alloc, words) {
         Ok(line) => run_line(rt, alloc, &line, out, err),
         Err(error) => explain(alloc, &error, out, err),
@@ -63,7 +67,9 @@ fn run_line<R: Files, O: Write + Drop, E: Write + Drop>(
     line: &CommandLine,
     out: &mut O,
     err: &mut E,
-) -> u8 {
+) -> u8
+    ensures { result ≤ 2 }
+{
     let Some(mut b) = open(rt, line.b) else {
         return cannot_open(line.b, err);
     };
@@ -111,13 +117,17 @@ fn run_task<S: Source, O: Write + Drop>(
 }
 
 /// Says a fault on `err`.
-fn say<E: Write + Drop>(fault: &ToolFault, err: &mut E) -> u8 {
+fn say<E: Write + Drop>(fault: &ToolFault, err: &mut E) -> u8
+    ensures { result ≤ 2 }
+{
     let _ = writeln!(err, "bufr: {fault}");
     FAULT
 }
 
 /// Says on `err` that a file cannot be opened for reading.
-fn cannot_open<E: Write + Drop>(path: &str, err: &mut E) -> u8 {
+fn cannot_open<E: Write + Drop>(path: &str, err: &mut E) -> u8
+    ensures { result ≤ 2 }
+{
     let _ = writeln!(err, "bufr: cannot open {path}");
     FAULT
 }
@@ -128,7 +138,9 @@ fn explain<O: Write + Drop, E: Write + Drop>(
     error: &clap::Error,
     out: &mut O,
     err: &mut E,
-) -> u8 {
+) -> u8
+    ensures { result ≤ 2 }
+{
     let Ok(text) = format!(in alloc; "{error}") else {
         return say(&ToolFault::OutOfMemory, err);
     };

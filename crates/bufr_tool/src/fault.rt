@@ -1,5 +1,8 @@
 //! What an engine answers.
 
+ghost use Rattle.std.specs.Prelude.{Some};
+ghost use Rattle.bufr_tool.specs.Output.{input_text};
+
 use bufr_tables::TableFault;
 use std::fmt;
 use thiserror::Error;
@@ -29,6 +32,9 @@ pub enum Input {
 }
 
 impl fmt::Display for Input {
+    ghost output = { λ input. Some (input_text input) };
+
+    #[tactic(auto, unfolding(crate::specs::Output::input_text))]
     fn fmt<W: fmt::Write>(&self, f: &mut fmt::Formatter<W>) -> fmt::Result {
         match self {
             Input::TableB => write!(f, "table B"),

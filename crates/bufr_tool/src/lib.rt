@@ -14,4 +14,4 @@ pub use command::run_command;
 pub use fault::{Input, Tally, ToolFault};
 pub use show::run_show;
 pub use tables::load_tables;
-pub use words::{CommandLine, Task, line};
+pub use words::{CommandLine, Task, line, lines_of_show};

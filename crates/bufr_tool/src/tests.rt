@@ -7,7 +7,7 @@ use crate::fault::{Input, ToolFault};
 use crate::show::run_show;
 use crate::tables::load_tables;
 use bufr_bits::{Failed, FromRead, IntoWrite, Sink, Source};
-use bufr_tables::{TableB, TableD, TableFault, Tables};
+use bufr_tables::{Column, TableB, TableD, TableFault, Tables};
 use std::alloc::Global;
 use std::process::Abort;
 use std::test::Fail;
@@ -241,8 +241,8 @@ fn faults_of_tables(rt: HostRuntime) {
         Some(ToolFault::Table(Input::TableD, TableFault::BadRow(2)))
     );
     assert_eq!(rt;
-        loaded(alloc, b"FXY\n\"a\",b\n".as_slice(), b"".as_slice()).is_some(),
-        true
+        loaded(alloc, b"FXY\n\"a\",b\n".as_slice(), b"".as_slice()),
+        Some(ToolFault::Table(Input::TableB, TableFault::NoColumn(Column::Unit)))
     );
 }
 
@@ -324,7 +324,58 @@ fn commands(rt: HostRuntime) -> Result<(), Fail> {
     assert_eq!(rt; status, 2);
     assert_eq!(rt; err.as_str(), "bufr: read failed input 1\n");
 
+    let (status, out, err) = run(
+        &rt,
+        &[
+            "show",
+            "-b",
+            folder.as_str(),
+            "-d",
+            d.as_str(),
+            whole.as_str(),
+        ],
+    )?;
+    assert_eq!(rt; status, 2);
+    assert_eq!(rt; out.as_str(), "");
+    assert_eq!(rt; err.as_str(), "bufr: read failed table B\n");
+
     for file in [&b, &d, &whole, &cut] {
+        fs::remove_file(&rt, file.as_str())?;
+    }
+    Ok(())
+}
+
+#[test]
+fn empty_files_and_lines_ended_by_two_octets(rt: HostRuntime) -> Result<(), Fail> {
+    let b = path(&rt, "crlf_b.csv")?;
+    let d = path(&rt, "crlf_d.csv")?;
+    let empty = path(&rt, "empty.bufr")?;
+    let header: &[u8] = b"FXY,BUFR_Unit,BUFR_Scale,BUFR_ReferenceValue,BUFR_DataWidth_Bits\r\n";
+    fs::write(&rt, b.as_str(), header)?;
+    fs::write(
+        &rt,
+        d.as_str(),
+        b"FXY1,FXY2\r\n301001,001001\r\n".as_slice(),
+    )?;
+    fs::write(&rt, empty.as_str(), b"".as_slice())?;
+
+    let (status, out, err) = run(
+        &rt,
+        &["show", "-b", b.as_str(), "-d", d.as_str(), empty.as_str()],
+    )?;
+    assert_eq!(rt; status, 1);
+    assert_eq!(rt; out.as_str(), "# refused 0 M1 NotBufr\n");
+    assert_eq!(rt; err.as_str(), "");
+
+    let (status, out, err) = run(
+        &rt,
+        &["show", "-b", empty.as_str(), "-d", d.as_str(), b.as_str()],
+    )?;
+    assert_eq!(rt; status, 2);
+    assert_eq!(rt; out.as_str(), "");
+    assert_eq!(rt; err.as_str(), "bufr: table B: B1 NoColumn FXY\n");
+
+    for file in [&b, &d, &empty] {
         fs::remove_file(&rt, file.as_str())?;
     }
     Ok(())
