@@ -1,7 +1,9 @@
 pub mod Between
 pub mod Expanding
+pub mod Finding
 pub mod FirstFaulting
 pub mod Flattening
+pub mod Following
 pub mod Limits
 pub mod Loops
 pub mod NoCases

@@ -1,263 +1,197 @@
--- The fields that a course allows are those that its tree stands for.
-use Rattle.std.proofs.Common.{◌≡◌, ℕ, zero, suc, ◌+◌, ◌<◌, ◌≤◌, Option, Some, None, List, [], ◌∷◌, ◌++◌, refl, sym, ap, ◌∙◌, subst, inl, inr, arith, append_assoc, append-nil}
-use Rattle.std.proofs.lemmas.Bool.{cases_lt}
+-- A course asks for the fields of an unrolling one after the other, ends where it ends, and stops where a field has no spec or an item would be too many.
+use Rattle.std.proofs.Common.{◌≡◌, ◌⊎◌, ◌↔◌, ℕ, ◌+◌, ◌<◌, ◌≤◌, List, [], ◌∷◌, ◌++◌, refl, sym, ap, ◌∙◌, subst, inl, inr, arith, append-nil}
 use Rattle.bufr_expand.specs.declared.operators.Operators.{Operators}
 use Rattle.bufr_expand.specs.declared.operators.Spec.{Spec}
 use Rattle.bufr_expand.specs.declared.walk.WalkFault.TheVariants.{TooLarge, EffectiveRange}
-use Rattle.bufr_expand.specs.Operating.{none_in_force, in_force_after, effective, untouched, factor_spec}
-use Rattle.bufr_expand.specs.Courses.{Course, ends, stops, asks, asks_if, item, Then, turns, course_then, course}
+use Rattle.bufr_expand.specs.Operating.{none_in_force}
+use Rattle.bufr_expand.specs.Courses.{Course, ends, stops, asks, course}
 use Rattle.bufr_expand.specs.Trees as trees
-use Rattle.bufr_expand.specs.Unrolling.{Told, Stands, Turns, Unroll, Allows, Unrolls}
-use Rattle.bufr_expand.proofs.Passing.{item-below, item-above}
-use Rattle.bufr_expand.proofs.SpecFacts.{effective_found, effective_only, in_table, in_table_only}
+use Rattle.bufr_expand.specs.Unrolling.{Told, Unroll, After, Unrolls}
+use Rattle.bufr_expand.specs.Beginning.{Next, wants, lacks, Begins, BeginsWithin, GoesOn, PassesLimit, AsksAfter}
+use Rattle.bufr_expand.proofs.Following.{Comes, come_true, come_to, with_fields, Late, Ahead, Follows, tree_follows, Shows, Arrives, Meets, tree_meets}
+use Rattle.bufr_expand.proofs.Finding.{Still, Found, Finds, none_told, tree_finds}
 
--- ---- what a tree stands for is allowed
+-- a field comes next, within the items of a message or beyond
+AtField : Next → ℕ → Course → Type 0
+AtField next total c = ((total ≤ 16777216) × Shows c next total) ⊎ ((16777216 < total) × (c ≡ stops 16777216 TooLarge))
 
-abbrev Follows : Stands → (Operators → ℕ → Then → Course) → Type 0
-Follows Body body = (q : Operators) (fs : List Told) (r : Operators) (m used : ℕ) (after : Then) (gs : List Told) (n : ℕ) → Body q fs r m → used + m ≤ 16777216 → Allows (after r (used + m)) gs n → Allows (body q used after) (fs ++ gs) n
+-- the end comes next, within the items of a message or beyond
+AtEnd : ℕ → Course → Type 0
+AtEnd total c = ((total ≤ 16777216) × (c ≡ ends total)) ⊎ ((16777216 < total) × (c ≡ stops 16777216 TooLarge))
 
-at_count : (after : Then) (r : Operators) (a b : ℕ) (gs : List Told) (n : ℕ) → a ≡ b → Allows (after r a) gs n → Allows (after r b) gs n
-at_count after r a b gs n e h = let P : ℕ → Type 0 = λ k. Allows (after r k) gs n in subst P e h
+at_field : (t : trees.Tree) (used : ℕ) (fields : List Told) (next : Next) (n : ℕ) (later : Course) → used ≤ 16777216 → After (course t used) fields later → Begins t none_in_force fields next n → AtField next (used + n) later
+unfolding Meets Arrives Late AtField
+at_field t used fields next n later le a b =
+    come_to (AtField next (used + n)) (course t used) fields later a
+    (tree_meets (Unit {0}) (AtField next (used + n)) t none_in_force fields next n used (λ q n. ends n) b le (λ c fit s. inl (fit, s), λ over. (tt, inr (over, refl))))
 
-with_fields : (c : Course) (fs gs : List Told) (n : ℕ) → fs ≡ gs → Allows c fs n → Allows c gs n
-with_fields c fs gs n e h = let P : List Told → Type 0 = λ l. Allows c l n in subst P e h
+at_end : (t : trees.Tree) (used : ℕ) (fields : List Told) (r : Operators) (n : ℕ) (later : Course) → used ≤ 16777216 → After (course t used) fields later → Unroll t none_in_force fields r n → AtEnd (used + n) later
+unfolding Follows Ahead Late AtEnd Comes
+at_end t used fields r n later le a u =
+    let P : Course → Type 0 = AtEnd (used + n) in
+    come_to P (course t used) fields later a
+    (with_fields (Unit {0}) P (course t used) (fields ++ []) fields (append-nil fields)
+    (tree_follows (Unit {0}) P t none_in_force fields r n used (λ q n. ends n) [] u le (λ fit. inl (fit, refl), λ over. (tt, inr (over, refl)))))
 
-nothing : (q : Operators) (fs : List Told) (r : Operators) (m used : ℕ) (after : Then) (gs : List Told) (n : ℕ) → fs ≡ [] → r ≡ q → m ≡ 0 → Allows (after r (used + m)) gs n → Allows (after q used) (fs ++ gs) n
-nothing q fs r m used after gs n f e k h =
-    let P : Operators → Type 0 = λ s. Allows (after s used) gs n in
-    with_fields (after q used) gs (fs ++ gs) n (sym (ap (λ l. l ++ gs) f)) (subst P e (at_count after r (used + m) used gs n (omega arith) h))
+-- the fields that are told are those before the next one or before the end
+pub goes_on : (t : trees.Tree) (used : ℕ) (fields : List Told) (later : Course) → used ≤ 16777216 → After (course t used) fields later → (n : ℕ) × GoesOn t fields n
+unfolding Finds Found Still
+goes_on t used fields later le a =
+    elim (tree_finds t none_in_force used (λ q n. ends n) fields later (inr (le, a))) [
+      | inl b ↦ (b.1, inl (b.0, b.2))
+      | inr s ↦
+          let none : s.back ≡ [] = elim (s.behind) [ inl e ↦ e | inr h ↦ none_told (used + s.items) s.back later (ends (used + s.items)) (inl refl) h.1 ] in
+          let whole : s.front ≡ fields = sym (s.joined ∙ ap (λ l. s.front ++ l) none ∙ append-nil s.front) in
+          let P : List Told → Type 0 = λ l. Unroll t none_in_force l s.now s.items in
+          (s.items, inr (s.now, subst P whole s.here))
+    ]
 
-in_item : (used : ℕ) (c : Course) (fs : List Told) (n : ℕ) → used < 16777216 → Allows c fs n → Allows (item used c) fs n
-in_item used c fs n h a = let P : Course → Type 0 = λ v. Allows v fs n in subst P (sym (item-below used c h)) a
+data Verdict (t : trees.Tree) (used : ℕ) (fields : List Told) (later : Course) : Type 0 where
+  at_next : (next : Next) → (n : ℕ) → Begins t none_in_force fields next n → used + n ≤ 16777216 → Shows later next (used + n) → Verdict t used fields later
+  ended : (r : Operators) → (n : ℕ) → Unroll t none_in_force fields r n → used + n ≤ 16777216 → later ≡ ends (used + n) → Verdict t used fields later
+  too_many : (n : ℕ) → GoesOn t fields n → 16777216 < used + n → later ≡ stops 16777216 TooLarge → Verdict t used fields later
 
-regroup : (fs first others gs : List Told) → fs ≡ first ++ others → first ++ (others ++ gs) ≡ fs ++ gs
-regroup fs first others gs e = sym (ap (λ l. l ++ gs) e ∙ append_assoc first others gs)
+verdict : (t : trees.Tree) (used : ℕ) (fields : List Told) (later : Course) → used ≤ 16777216 → After (course t used) fields later → Verdict t used fields later
+unfolding AtField AtEnd
+verdict t used fields later le a =
+    let g = goes_on t used fields later le a in
+    elim (g.1) [
+      | inl b ↦
+          elim (at_field t used fields b.0 g.0 later le a b.1) [ inl h ↦ at_next b.0 g.0 b.1 h.0 h.1 | inr h ↦ too_many g.0 (inl b) h.0 h.1 ]
+      | inr u ↦
+          elim (at_end t used fields u.0 g.0 later le a u.1) [ inl h ↦ ended u.0 g.0 u.1 h.0 h.1 | inr h ↦ too_many g.0 (inr u) h.0 h.1 ]
+    ]
 
-turns_follow : (times : ℕ) (Body : Stands) (body : Operators → ℕ → Then → Course) → Follows Body body → Follows (Turns times Body) (turns times body)
-unfolding Turns turns
-turns_follow zero Body body step q fs r m used after gs n h le a = nothing q fs r m used after gs n h.0 h.1 h.2 a
-turns_follow (suc times) Body body step q fs r m used after gs n h le a =
-    let first = h.0 in
-    let others = h.1 in
-    let between = h.2 in
-    let k = h.3 in
-    let l = h.4 in
-    let count : m ≡ 1 + k + l = h.6 in
-    let inner = turns_follow times Body body step between others r l ((used + 1) + k) after gs n h.8 (omega arith) (at_count after r (used + m) (((used + 1) + k) + l) gs n (omega arith) a) in
-    let outer = step q first between k (used + 1) (λ q used. turns times body q used after) (others ++ gs) n h.7 (omega arith) inner in
-    in_item used (body q (used + 1) (λ q used. turns times body q used after)) (fs ++ gs) n (omega arith)
-    (with_fields (body q (used + 1) (λ q used. turns times body q used after)) (first ++ (others ++ gs)) (fs ++ gs) n (regroup fs first others gs h.5) outer)
+shown_asks : (c : Course) (d : ℕ) (spec : Spec) (n : ℕ) → Shows c (wants d spec) n → (more : ℕ → Course) × (c ≡ asks n d spec more)
+unfolding Shows
+shown_asks (ends m) d spec n h = absurd h
+shown_asks (stops m fault) d spec n h = absurd h
+shown_asks (asks met k s more) d spec n h = (more, ap (λ m. asks m k s more) h.0 ∙ ap (λ k. asks n k s more) h.1 ∙ ap (λ s. asks n d s more) h.2)
 
-asked_follows : (o : Option Spec) (used d : ℕ) (c : Course) (f : Told) (fs others gs : List Told) (n : ℕ) → o ≡ Some f.spec → fs ≡ f ∷ others → f.fxy ≡ d → Allows c (others ++ gs) n → Allows (asks_if o used d (λ n. c)) (fs ++ gs) n
-unfolding Allows
-asked_follows o used d c f fs others gs n e g k h =
-    let P : Option Spec → Type 0 = λ v. Allows (asks_if v used d (λ n. c)) ((f ∷ others) ++ gs) n in
-    let at_spec : Allows (asks_if (Some f.spec) used d (λ n. c)) ((f ∷ others) ++ gs) n = (k, refl, h) in
-    with_fields (asks_if o used d (λ n. c)) ((f ∷ others) ++ gs) (fs ++ gs) n (sym (ap (λ l. l ++ gs) g)) (subst P (sym e) at_spec)
+shown_stops : (c : Course) (d n : ℕ) → Shows c (lacks d) n → c ≡ stops n (EffectiveRange d)
+unfolding Shows
+shown_stops (ends m) d n h = absurd h
+shown_stops (stops m fault) d n h = ap (λ m. stops m fault) h.0 ∙ ap (λ f. stops n f) h.1
+shown_stops (asks met k s more) d n h = absurd h
 
-tree_follows : (t : trees.Tree) → Follows (Unroll t) (course_then t)
-unfolding Unroll course_then Allows
-tree_follows trees.done q fs r m used after gs n h le a = nothing q fs r m used after gs n h.0 h.1 h.2 a
-tree_follows (trees.operator d rest) q fs r m used after gs n h le a =
-    let count : m ≡ 1 + h.0 = h.1 in
-    in_item used (course_then rest (in_force_after q d) (used + 1) after) (fs ++ gs) n (omega arith)
-    (tree_follows rest (in_force_after q d) fs r h.0 (used + 1) after gs n h.2 (omega arith) (at_count after r (used + m) ((used + 1) + h.0) gs n (omega arith) a))
-tree_follows (trees.element d e rest) q fs r m used after gs n h le a =
-    let f = h.0 in
-    let others = h.1 in
-    let count : m ≡ 1 + h.2 = h.6 in
-    let behind = tree_follows rest q others r h.2 (used + 1) after gs n h.7 (omega arith) (at_count after r (used + m) ((used + 1) + h.2) gs n (omega arith) a) in
-    in_item used (asks_if (effective d e q) (used + 1) d (λ n. course_then rest q (used + 1) after)) (fs ++ gs) n (omega arith)
-    (asked_follows (effective d e q) (used + 1) d (course_then rest q (used + 1) after) f fs others gs n (effective_only d e q f.spec h.5) h.3 h.4 behind)
-tree_follows (trees.untouched d e rest) q fs r m used after gs n h le a =
-    let f = h.0 in
-    let others = h.1 in
-    let count : m ≡ 1 + h.2 = h.6 in
-    let behind = tree_follows rest q others r h.2 (used + 1) after gs n h.7 (omega arith) (at_count after r (used + m) ((used + 1) + h.2) gs n (omega arith) a) in
-    in_item used (asks_if (untouched e) (used + 1) d (λ n. course_then rest q (used + 1) after)) (fs ++ gs) n (omega arith)
-    (asked_follows (untouched e) (used + 1) d (course_then rest q (used + 1) after) f fs others gs n (in_table_only e f.spec h.5) h.3 h.4 behind)
-tree_follows (trees.repeated times body rest) q fs r m used after gs n h le a =
-    let count : m ≡ 1 + h.0 = h.1 in
-    let p = h.2 in
-    let first = p.0 in
-    let others = p.1 in
-    let between = p.2 in
-    let k = p.3 in
-    let l = p.4 in
-    let parts : h.0 ≡ k + l = p.6 in
-    let c : Course = turns times (course_then body) q (used + 1) (λ q used. course_then rest q used after) in
-    let behind = tree_follows rest between others r l ((used + 1) + k) after gs n p.8 (omega arith) (at_count after r (used + m) (((used + 1) + k) + l) gs n (omega arith) a) in
-    let all = turns_follow times (Unroll body) (course_then body) (tree_follows body) q first between k (used + 1) (λ q used. course_then rest q used after) (others ++ gs) n p.7 (omega arith) behind in
-    in_item used c (fs ++ gs) n (omega arith) (with_fields c (first ++ (others ++ gs)) (fs ++ gs) n (regroup fs first others gs p.5) all)
-tree_follows (trees.delayed d e body rest) q fs r m used after gs n h le a =
-    let f = h.0 in
-    let told = h.1 in
-    let count : m ≡ 1 + h.2 = h.6 in
-    let p = h.7 in
-    let first = p.0 in
-    let others = p.1 in
-    let between = p.2 in
-    let k = p.3 in
-    let l = p.4 in
-    let parts : h.2 ≡ k + l = p.6 in
-    let c : Course = turns f.number (course_then body) q (used + 1) (λ q used. course_then rest q used after) in
-    let behind = tree_follows rest between others r l ((used + 1) + k) after gs n p.8 (omega arith) (at_count after r (used + m) (((used + 1) + k) + l) gs n (omega arith) a) in
-    let all = turns_follow f.number (Unroll body) (course_then body) (tree_follows body) q first between k (used + 1) (λ q used. course_then rest q used after) (others ++ gs) n p.7 (omega arith) behind in
-    let inner = with_fields c (first ++ (others ++ gs)) (told ++ gs) n (regroup told first others gs p.5) all in
-    let asked : Course = asks (used + 1) d (factor_spec e) (λ n. turns n (course_then body) q (used + 1) (λ q used. course_then rest q used after)) in
-    let here : Allows asked ((f ∷ told) ++ gs) n = (h.4, h.5, inner) in
-    in_item used asked (fs ++ gs) n (omega arith) (with_fields asked ((f ∷ told) ++ gs) (fs ++ gs) n (sym (ap (λ l. l ++ gs) h.3)) here)
+-- what comes next stands where the course stands after the fields
+shown : (t : trees.Tree) (used : ℕ) (fields : List Told) (next : Next) (met : ℕ) → BeginsWithin t used fields next met → (later : Course) × After (course t used) fields later × Shows later next met
+unfolding Meets Arrives Late
+shown t used fields next met h =
+    let n = h.0 in
+    let total : met ≡ used + n = h.2 in
+    let few : met ≤ 16777216 = h.3 in
+    let P : Course → Type 0 = λ c. Shows c next met in
+    let Q : ℕ → Type 0 = λ m. (c : Course) → m ≤ 16777216 → Shows c next m → P c in
+    let now : (c : Course) → met ≤ 16777216 → Shows c next met → P c = λ c fit s. s in
+    come_true P (course t used) fields
+    (tree_meets ⊥ P t none_in_force fields next n used (λ q n. ends n) h.1 (omega arith) (subst Q total now, λ over. let no : ⊥ = omega arith in (no, absurd no)))
 
--- ---- what is allowed is what a tree stands for
+next_of : (t : trees.Tree) (used : ℕ) (fields : List Told) (met d : ℕ) (spec : Spec) (more : ℕ → Course) → Verdict t used fields (asks met d spec more) → BeginsWithin t used fields (wants d spec) met
+unfolding Shows
+next_of t used fields met d spec more (at_next (wants k s) n b fit h) =
+    let P : Next → Type 0 = λ v. Begins t none_in_force fields v n in
+    let same : wants k s ≡ wants d spec = sym (ap (λ k. wants k spec) h.1 ∙ ap (λ s. wants k s) h.2) in
+    let count : met ≡ used + n = h.0 in
+    (n, subst P same b, count, omega arith)
+next_of t used fields met d spec more (at_next (lacks k) n b fit h) = absurd h
+next_of t used fields met d spec more (ended r n u fit e) = cc
+next_of t used fields met d spec more (too_many n g over e) = cc
 
--- the fields of some nodes, and those behind them
-record Split (Body : Stands) (q : Operators) (used : ℕ) (after : Then) (fields : List Told) (n : ℕ) : Type 0 where
-  front : List Told
-  back : List Told
-  now : Operators
-  items : ℕ
-  joined : fields ≡ front ++ back
-  few : used + items ≤ 16777216
-  here : Body q front now items
-  behind : Allows (after now (used + items)) back n
+pub asked : (t : trees.Tree) (used : ℕ) (fields : List Told) (met d : ℕ) (spec : Spec) → used ≤ 16777216 → AsksAfter (course t used) fields met d spec ↔ BeginsWithin t used fields (wants d spec) met
+asked t used fields met d spec le = (
+  λ h. next_of t used fields met d spec h.0 (verdict t used fields (asks met d spec h.0) le h.1),
+  λ b.
+      let s = shown t used fields (wants d spec) met b in
+      let p = shown_asks s.0 d spec met s.2 in
+      let P : Course → Type 0 = λ c. After (course t used) fields c in
+      (p.0, subst P p.1 s.1),
+)
 
-abbrev Splits : Stands → (Operators → ℕ → Then → Course) → Type 0
-Splits Body body = (q : Operators) (used : ℕ) (after : Then) (fields : List Told) (n : ℕ) → used ≤ 16777216 → Allows (body q used after) fields n → Split Body q used after fields n
+lack_of : (t : trees.Tree) (used : ℕ) (fields : List Told) (met d : ℕ) → Verdict t used fields (stops met (EffectiveRange d)) → BeginsWithin t used fields (lacks d) met
+unfolding Shows
+lack_of t used fields met d (at_next (wants k s) n b fit h) = absurd h
+lack_of t used fields met d (at_next (lacks k) n b fit h) =
+    let P : Next → Type 0 = λ v. Begins t none_in_force fields v n in
+    let e : EffectiveRange d ≡ EffectiveRange k = h.1 in
+    let same : k ≡ d = cc in
+    let count : met ≡ used + n = h.0 in
+    (n, subst P (ap lacks same) b, count, omega arith)
+lack_of t used fields met d (ended r n u fit e) = cc
+lack_of t used fields met d (too_many n g over e) = cc
 
-stopped : (used : ℕ) (fields : List Told) (n : ℕ) → Allows (stops used TooLarge) fields n → ⊥
-unfolding Allows
-stopped used [] n a = a
-stopped used (f ∷ fs) n a = a
+pub lacking : (t : trees.Tree) (used : ℕ) (fields : List Told) (met d : ℕ) → used ≤ 16777216 → After (course t used) fields (stops met (EffectiveRange d)) ↔ BeginsWithin t used fields (lacks d) met
+lacking t used fields met d le = (
+  λ h. lack_of t used fields met d (verdict t used fields (stops met (EffectiveRange d)) le h),
+  λ b.
+      let s = shown t used fields (lacks d) met b in
+      let P : Course → Type 0 = λ c. After (course t used) fields c in
+      subst P (shown_stops s.0 d met s.2) s.1,
+)
 
-of_item : (used : ℕ) (c : Course) (fields : List Told) (n : ℕ) → Allows (item used c) fields n → (used < 16777216) × Allows c fields n
-unfolding Allows
-of_item used c fields n a =
-    let P : Course → Type 0 = λ v. Allows v fields n in
-    elim (cases_lt used 16777216) [ inl h ↦ (h, subst P (item-below used c h) a) | inr h ↦ absurd (stopped used fields n (subst P (item-above used c h) a)) ]
+past_of : (t : trees.Tree) (used : ℕ) (fields : List Told) (met : ℕ) → Verdict t used fields (stops met TooLarge) → PassesLimit t used fields
+unfolding Shows
+past_of t used fields met (at_next (wants k s) n b fit h) = absurd h
+past_of t used fields met (at_next (lacks k) n b fit h) = let e : TooLarge ≡ EffectiveRange k = h.1 in cc
+past_of t used fields met (ended r n u fit e) = cc
+past_of t used fields met (too_many n g over e) = (n, g, over)
 
-nothing_splits : (Body : Stands) (q : Operators) (used : ℕ) (after : Then) (fields : List Told) (n : ℕ) → Body q [] q 0 → used ≤ 16777216 → Allows (after q used) fields n → Split Body q used after fields n
-nothing_splits Body q used after fields n b le a =
-    record { front = []; back = fields; now = q; items = 0; joined = refl; few = omega arith; here = b; behind = at_count after q used (used + 0) fields n (omega arith) a }
+past : (t : trees.Tree) (used : ℕ) (fields : List Told) (later : Course) → used ≤ 16777216 → After (course t used) fields later → PassesLimit t used fields → later ≡ stops 16777216 TooLarge
+unfolding AtField AtEnd
+past t used fields later le a h =
+    let n = h.0 in
+    let over : 16777216 < used + n = h.2 in
+    elim (h.1) [
+      | inl b ↦ elim (at_field t used fields b.0 n later le a b.1) [ inl f ↦ let fit : used + n ≤ 16777216 = f.0 in absurd (omega arith) | inr f ↦ f.1 ]
+      | inr u ↦ elim (at_end t used fields u.0 n later le a u.1) [ inl f ↦ let fit : used + n ≤ 16777216 = f.0 in absurd (omega arith) | inr f ↦ f.1 ]
+    ]
 
-turns_split : (times : ℕ) (Body : Stands) (body : Operators → ℕ → Then → Course) → Splits Body body → Splits (Turns times Body) (turns times body)
-unfolding Turns turns
-turns_split zero Body body step q used after fields n le a = nothing_splits (Turns zero Body) q used after fields n (refl, refl, refl) le a
-turns_split (suc times) Body body step q used after fields n le a =
-    let i = of_item used (body q (used + 1) (λ q used. turns times body q used after)) fields n a in
-    let s = step q (used + 1) (λ q used. turns times body q used after) fields n (omega arith) i.1 in
-    let t = turns_split times Body body step s.now ((used + 1) + s.items) after s.back n s.few s.behind in
-    record {
-      front = s.front ++ t.front;
-      back = t.back;
-      now = t.now;
-      items = 1 + s.items + t.items;
-      joined = s.joined ∙ ap (λ l. s.front ++ l) t.joined ∙ sym (append_assoc s.front t.front t.back);
-      few = let f = t.few in omega arith;
-      here = (s.front, t.front, s.now, s.items, t.items, refl, refl, s.here, t.here);
-      behind = at_count after t.now (((used + 1) + s.items) + t.items) (used + (1 + s.items + t.items)) t.back n (omega arith) t.behind;
-    }
+pub too_large : (t : trees.Tree) (used : ℕ) (fields : List Told) (later : Course) → used ≤ 16777216 → After (course t used) fields later → (later ≡ stops 16777216 TooLarge) ↔ PassesLimit t used fields
+too_large t used fields later le a = (
+  λ e.
+      let P : Course → Type 0 = λ c. Verdict t used fields c in
+      past_of t used fields 16777216 (subst P e (verdict t used fields later le a)),
+  past t used fields later le a,
+)
 
-record Asked (o : Option Spec) (d : ℕ) (c : Course) (fields : List Told) (n : ℕ) : Type 0 where
-  first : Told
-  others : List Told
-  joined : fields ≡ first ∷ others
-  named : first.fxy ≡ d
-  told : o ≡ Some first.spec
-  behind : Allows c others n
+end_of : (t : trees.Tree) (used : ℕ) (fields : List Told) (m : ℕ) → Verdict t used fields (ends m) → Unrolls t used fields m
+unfolding Shows
+end_of t used fields m (at_next next n b fit h) = absurd h
+end_of t used fields m (ended r n u fit e) = let count : m ≡ used + n = cc in (r, n, u, count, omega arith)
+end_of t used fields m (too_many n g over e) = cc
 
-refused : (used d : ℕ) (fields : List Told) (n : ℕ) → Allows (stops used (EffectiveRange d)) fields n → ⊥
-unfolding Allows
-refused used d [] n a = a
-refused used d (f ∷ fs) n a = a
+pub unrolled : (t : trees.Tree) (used : ℕ) (fields : List Told) (n : ℕ) → used ≤ 16777216 → After (course t used) fields (ends n) → Unrolls t used fields n
+unrolled t used fields n le a = end_of t used fields n (verdict t used fields (ends n) le a)
 
-record Factor (d : ℕ) (spec : Spec) (more : ℕ → Course) (fields : List Told) (n : ℕ) : Type 0 where
-  first : Told
-  others : List Told
-  joined : fields ≡ first ∷ others
-  named : first.fxy ≡ d
-  told : first.spec ≡ spec
-  behind : Allows (more first.number) others n
-
-of_factor : (used d : ℕ) (spec : Spec) (more : ℕ → Course) (fields : List Told) (n : ℕ) → Allows (asks used d spec more) fields n → Factor d spec more fields n
-unfolding Allows
-of_factor used d spec more [] n a = absurd a
-of_factor used d spec more (f ∷ fs) n a = record { first = f; others = fs; joined = refl; named = a.0; told = a.1; behind = a.2 }
-
-of_asked : (o : Option Spec) (used d : ℕ) (c : Course) (fields : List Told) (n : ℕ) → Allows (asks_if o used d (λ n. c)) fields n → Asked o d c fields n
-unfolding Allows
-of_asked None used d c fields n a = absurd (refused used d fields n a)
-of_asked (Some spec) used d c [] n a = absurd a
-of_asked (Some spec) used d c (f ∷ fs) n a = record { first = f; others = fs; joined = refl; named = a.0; told = ap Some (sym a.1); behind = a.2 }
-
-tree_splits : (t : trees.Tree) → Splits (Unroll t) (course_then t)
-unfolding Unroll course_then
-tree_splits trees.done q used after fields n le a = nothing_splits (Unroll trees.done) q used after fields n (refl, refl, refl) le a
-tree_splits (trees.operator d rest) q used after fields n le a =
-    let i = of_item used (course_then rest (in_force_after q d) (used + 1) after) fields n a in
-    let s = tree_splits rest (in_force_after q d) (used + 1) after fields n (omega arith) i.1 in
-    let f = s.few in
-    record { front = s.front; back = s.back; now = s.now; items = 1 + s.items; joined = s.joined; few = omega arith; here = (s.items, refl, s.here); behind = at_count after s.now ((used + 1) + s.items) (used + (1 + s.items)) s.back n (omega arith) s.behind }
-tree_splits (trees.element d e rest) q used after fields n le a =
-    let i = of_item used (asks_if (effective d e q) (used + 1) d (λ n. course_then rest q (used + 1) after)) fields n a in
-    let o = of_asked (effective d e q) (used + 1) d (course_then rest q (used + 1) after) fields n i.1 in
-    let s = tree_splits rest q (used + 1) after o.others n (omega arith) o.behind in
-    let f = s.few in
-    record { front = o.first ∷ s.front; back = s.back; now = s.now; items = 1 + s.items; joined = o.joined ∙ ap (λ l. o.first ∷ l) s.joined; few = omega arith; here = (o.first, s.front, s.items, refl, o.named, effective_found d e q o.first.spec o.told, refl, s.here); behind = at_count after s.now ((used + 1) + s.items) (used + (1 + s.items)) s.back n (omega arith) s.behind }
-tree_splits (trees.untouched d e rest) q used after fields n le a =
-    let i = of_item used (asks_if (untouched e) (used + 1) d (λ n. course_then rest q (used + 1) after)) fields n a in
-    let o = of_asked (untouched e) (used + 1) d (course_then rest q (used + 1) after) fields n i.1 in
-    let s = tree_splits rest q (used + 1) after o.others n (omega arith) o.behind in
-    let f = s.few in
-    record { front = o.first ∷ s.front; back = s.back; now = s.now; items = 1 + s.items; joined = o.joined ∙ ap (λ l. o.first ∷ l) s.joined; few = omega arith; here = (o.first, s.front, s.items, refl, o.named, in_table e o.first.spec o.told, refl, s.here); behind = at_count after s.now ((used + 1) + s.items) (used + (1 + s.items)) s.back n (omega arith) s.behind }
-tree_splits (trees.repeated times body rest) q used after fields n le a =
-    let i = of_item used (turns times (course_then body) q (used + 1) (λ q used. course_then rest q used after)) fields n a in
-    let s = turns_split times (Unroll body) (course_then body) (tree_splits body) q (used + 1) (λ q used. course_then rest q used after) fields n (omega arith) i.1 in
-    let t = tree_splits rest s.now ((used + 1) + s.items) after s.back n s.few s.behind in
-    let f = t.few in
-    record {
-      front = s.front ++ t.front;
-      back = t.back;
-      now = t.now;
-      items = 1 + (s.items + t.items);
-      joined = s.joined ∙ ap (λ l. s.front ++ l) t.joined ∙ sym (append_assoc s.front t.front t.back);
-      few = omega arith;
-      here = (s.items + t.items, refl, (s.front, t.front, s.now, s.items, t.items, refl, refl, s.here, t.here));
-      behind = at_count after t.now (((used + 1) + s.items) + t.items) (used + (1 + (s.items + t.items))) t.back n (omega arith) t.behind;
-    }
-tree_splits (trees.delayed d e body rest) q used after fields n le a =
-    let more = λ (n : ℕ). turns n (course_then body) q (used + 1) (λ q used. course_then rest q used after) in
-    let i = of_item used (asks (used + 1) d (factor_spec e) more) fields n a in
-    let o = of_factor (used + 1) d (factor_spec e) more fields n i.1 in
-    let s = turns_split o.first.number (Unroll body) (course_then body) (tree_splits body) q (used + 1) (λ q used. course_then rest q used after) o.others n (omega arith) o.behind in
-    let t = tree_splits rest s.now ((used + 1) + s.items) after s.back n s.few s.behind in
-    let f = t.few in
-    record {
-      front = o.first ∷ (s.front ++ t.front);
-      back = t.back;
-      now = t.now;
-      items = 1 + (s.items + t.items);
-      joined = o.joined ∙ ap (λ l. o.first ∷ l) (s.joined ∙ ap (λ l. s.front ++ l) t.joined ∙ sym (append_assoc s.front t.front t.back));
-      few = omega arith;
-      here = (o.first, s.front ++ t.front, s.items + t.items, refl, o.named, o.told, refl, (s.front, t.front, s.now, s.items, t.items, refl, refl, s.here, t.here));
-      behind = at_count after t.now (((used + 1) + s.items) + t.items) (used + (1 + (s.items + t.items))) t.back n (omega arith) t.behind;
-    }
-
--- ---- the law
-
-pub unrolled : (t : trees.Tree) (used : ℕ) (fields : List Told) (n : ℕ) → used ≤ 16777216 → Allows (course t used) fields n → Unrolls t used fields n
-unfolding Allows
-unrolled t used fields n le a =
-    let s = tree_splits t none_in_force used (λ q n. ends n) fields n le a in
-    let f = s.few in
-    let end : n ≡ used + s.items = s.behind.1 in
-    let whole : s.front ≡ fields = sym (s.joined ∙ ap (λ l. s.front ++ l) s.behind.0 ∙ append-nil s.front) in
-    let P : List Told → Type 0 = λ l. Unroll t none_in_force l s.now s.items in
-    (s.now, s.items, subst P whole s.here, end, omega arith)
-
-pub allowed : (t : trees.Tree) (used : ℕ) (fields : List Told) (n : ℕ) → Unrolls t used fields n → Allows (course t used) fields n
-unfolding Allows
+pub allowed : (t : trees.Tree) (used : ℕ) (fields : List Told) (n : ℕ) → Unrolls t used fields n → After (course t used) fields (ends n)
+unfolding Follows Ahead Late Comes
 allowed t used fields n h =
     let m = h.1 in
     let end : n ≡ used + m = h.3 in
-    let few : used + m ≤ 16777216 = let l = h.4 in omega arith in
-    with_fields (course t used) (fields ++ []) fields n (append-nil fields) (tree_follows t none_in_force fields h.0 m used (λ q n. ends n) [] n h.2 few (refl, end))
+    let few : n ≤ 16777216 = h.4 in
+    let P : Course → Type 0 = λ c. c ≡ ends n in
+    let s = come_true P (course t used) fields
+    (with_fields ⊥ P (course t used) (fields ++ []) fields (append-nil fields)
+    (tree_follows ⊥ P t none_in_force fields h.0 m used (λ q n. ends n) [] h.2 (omega arith) (λ fit. ap ends (sym end), λ over. let no : ⊥ = omega arith in (no, absurd no)))) in
+    let Q : Course → Type 0 = λ c. After (course t used) fields c in
+    subst Q s.2 s.1
+
+-- the next one of the fields that a course asks for
+next_asked : (c : Course) (fields others : List Told) (f : Told) (later : Course) → After c (fields ++ f ∷ others) later → (met : ℕ) × AsksAfter c fields met f.fxy f.spec
+unfolding After
+next_asked (ends m) [] others f later a = absurd a
+next_asked (ends m) (g ∷ gs) others f later a = absurd a
+next_asked (stops m fault) [] others f later a = absurd a
+next_asked (stops m fault) (g ∷ gs) others f later a = absurd a
+next_asked (asks met d spec more) [] others f later a =
+    (met, (more, sym (ap (λ k. asks met k f.spec more) a.0 ∙ ap (λ s. asks met d s more) a.1)))
+next_asked (asks met d spec more) (g ∷ gs) others f later a =
+    let p = next_asked (more g.number) gs others f later a.2 in
+    (p.0, (p.1.0, (a.0, a.1, p.1.1)))
+
+pub front : (t : trees.Tree) (used : ℕ) (fields others : List Told) (f : Told) (n : ℕ) → Unrolls t used (fields ++ f ∷ others) n → (met : ℕ) × BeginsWithin t used fields (wants f.fxy f.spec) met
+front t used fields others f n h =
+    let end : n ≡ used + h.1 = h.3 in
+    let few : n ≤ 16777216 = h.4 in
+    let p = next_asked (course t used) fields others f (ends n) (allowed t used (fields ++ f ∷ others) n h) in
+    (p.0, (asked t used fields p.0 f.fxy f.spec (omega arith)).0 p.1)

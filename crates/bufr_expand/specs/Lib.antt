@@ -1,4 +1,5 @@
 pub mod Answering
+pub mod Beginning
 pub mod Courses
 pub mod Effects
 pub mod Expansion

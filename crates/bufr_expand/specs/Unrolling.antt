@@ -46,12 +46,16 @@ Unroll (trees.delayed d e body rest) q fields r n =
     (f : Told) × (others : List Told) × (m : ℕ) × (fields ≡ f ∷ others) × (f.fxy ≡ d) × (f.spec ≡ factor_spec e) × (n ≡ 1 + m)
     × TurnsThen f.number (Unroll body) (Unroll rest) q others r m
 
+-- a course asks for these fields one after the other; once their numbers are told, a later course is left
+unfoldable pub After : Course → List Told → Course → Type 0
+After course [] later = course ≡ later
+After (ends m) (f ∷ fs) later = ⊥
+After (stops m fault) (f ∷ fs) later = ⊥
+After (asks met d spec more) (f ∷ fs) later = (f.fxy ≡ d) × (f.spec ≡ spec) × After (more f.number) fs later
+
 -- fields that a course asks for up to its end, which comes after so many items
-unfoldable pub Allows : Course → List Told → ℕ → Type 0
-Allows (ends m) fields n = (fields ≡ []) × (n ≡ m)
-Allows (stops m fault) fields n = ⊥
-Allows (asks met d spec more) [] n = ⊥
-Allows (asks met d spec more) (f ∷ fs) n = (f.fxy ≡ d) × (f.spec ≡ spec) × Allows (more f.number) fs n
+abbrev pub Allows : Course → List Told → ℕ → Type 0
+Allows course fields n = After course fields (ends n)
 
 -- the fields of a subset that a tree stands for: each subset begins with no operator in force, and a message has at most 16,777,216 items
 abbrev pub Unrolls : trees.Tree → ℕ → List Told → ℕ → Type 0

@@ -14,7 +14,10 @@ mod tests;
 mod tree_laws;
 mod walk;
 
-pub use laws::{courses_are_unrollings, refusal_is_the_first_fault, specs_are_effective};
+pub use laws::{
+    courses_are_unrollings, courses_begin_unrollings, refusal_is_the_first_fault,
+    specs_are_effective,
+};
 pub use node::{Node, TemplateFault};
 pub use operators::{EffectiveRange, Operators, Spec};
 pub use std::alloc::AllocError as OutOfMemory;

@@ -1,5 +1,5 @@
 -- Where no `BUFR` begins, nothing stands.
-use Rattle.std.proofs.Common.{◌≡◌, ℕ, zero, suc, ◌+◌, ◌-◌, ◌<◌, ◌≤◌, true, false, cond, eqb, Some, None, List, [], ◌∷◌, length, drop, get_or, refl, sym, ap, ◌∙◌, subst, arith}
+use Rattle.std.proofs.Common.{◌≡◌, ℕ, zero, suc, ◌+◌, ◌-◌, ◌<◌, ◌≤◌, true, false, cond, eqb, eq-eqb, Some, None, List, [], ◌∷◌, length, drop, get_or, refl, sym, ap, ◌∙◌, subst, arith}
 use Rattle.std.proofs.lemmas.List.{length-drop, get_or-drop}
 use Rattle.std.proofs.lemmas.Bool.{eqb-true}
 use Rattle.memchr.specs.Find.{FindsNeedle, OccursAt}
@@ -48,3 +48,16 @@ none_others s needle from e within found k low room =
     let f : FindsNeedle (drop from s) bufr 0 None = subst (λ n. FindsNeedle (drop from s) n 0 None) e found in
     let whole : from + (k - from) ≡ k = omega arith in
     subst (λ p. start_of (drop p s) ≡ Other) whole (passed s from (k - from) (omega arith) (f (k - from) (omega arith) (omega (arith, length-drop from s))))
+
+-- lists with the same octets as far as both go agree
+agrees_by_octets : (xs ys : List ℕ) → ((i : ℕ) → i < length xs → i < length ys → get_or xs i 0 ≡ get_or ys i 0) → agrees xs ys ≡ true
+agrees_by_octets [] ys h = refl
+agrees_by_octets (x ∷ xs) [] h = refl
+agrees_by_octets (x ∷ xs) (y ∷ ys) h = rw (eq-eqb x y (h 0 (omega arith) (omega arith))) (agrees_by_octets xs ys (λ i a b. h (suc i) (omega arith) (omega arith)))
+
+-- where a search finds `BUFR` it begins
+pub found_mark : (s needle : List ℕ) (from further : ℕ) → needle ≡ bufr → FindsNeedle (drop from s) needle 0 (Some further) → agrees (drop (from + further) s) bufr ≡ true
+found_mark s needle from further e found =
+    let f : FindsNeedle (drop from s) bufr 0 (Some further) = subst (λ n. FindsNeedle (drop from s) n 0 (Some further)) e found in
+    agrees_by_octets (drop (from + further) s) bufr (λ i a b. get_or-drop (from + further) s i 0 ∙ ap (λ k. get_or s k 0) (let e : (from + further) + i ≡ from + (further + i) = omega arith in e)
+    ∙ sym (get_or-drop from s (further + i) 0) ∙ f.1.reads i b)

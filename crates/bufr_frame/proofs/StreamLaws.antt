@@ -1,5 +1,5 @@
 -- How starts, frames and rests go on when octets are added.
-use Rattle.std.proofs.Common.{◌≡◌, ℕ, zero, suc, ◌+◌, ◌-◌, ◌<◌, ◌≤◌, Bool, true, false, cond, eqb, nat_lt, nat_le, Option, Some, None, List, [], ◌∷◌, ◌++◌, length, take, drop, refl, sym, ap, ◌∙◌, subst, arith, length-append, ◌⊎◌, zero-add}
+use Rattle.std.proofs.Common.{◌≡◌, ℕ, zero, suc, ◌+◌, ◌-◌, ◌≤◌, Bool, true, false, cond, eqb, nat_lt, nat_le, Option, Some, None, List, [], ◌∷◌, ◌++◌, length, take, drop, refl, sym, ap, ◌∙◌, subst, arith, length-append, zero-add}
 use Rattle.std.proofs.lemmas.List.{take-append-le, length-take-le, append-nil}
 use Rattle.std.proofs.Math.Seq.{take-length, drop-append_seam}
 use Rattle.bufr_frame.specs.declared.frames.Found.{Found}
@@ -69,11 +69,6 @@ pub record Begins (octets : List ℕ) (l : ℕ) : Type 0 where
   pub long : 12 ≤ l
   pub whole : l ≤ length octets
   pub end : agrees (drop (l - 4) octets) sevens ≡ true
-
--- no frame begins here, however it goes on
-pub record NeverBegins (octets : List ℕ) (l : ℕ) : Type 0 where
-  pub told : announced octets ≡ Some l
-  pub no : (l < 12) ⊎ (agrees (drop (l - 4) octets) sevens ≡ false)
 
 frame_by : (o : Option ℕ) (octets : List ℕ) (l : ℕ) → start_by o octets ≡ Frame l → (o ≡ Some l) × (12 ≤ l) × (l ≤ length octets) × (agrees (drop (l - 4) octets) sevens ≡ true)
 frame_by None octets l h = cc

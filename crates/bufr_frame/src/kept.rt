@@ -5,7 +5,11 @@ ghost use Rattle.bufr_frame.specs.Streams.{frames_from, rest_from};
 use crate::scans::{Scan, frames_in};
 use std::alloc::AllocError;
 
-/// Lets go of the octets before a place where they are more than those after it. Answers where the place is then.
+/// Memory for four times so many octets is not given back, however few are kept.
+const ROOM: usize = 65_536;
+
+/// Lets go of the octets before a place where they are more than those after it, and gives back memory of which less than a
+/// quarter is needed then. Answers where the place is then.
 fn let_go(octets: &mut Vec<u8>, place: usize) -> usize
     requires { place ≤ length octets.old.items }
     ensures held { drop result octets.new.items ≡ drop place octets.old.items }
@@ -18,6 +22,10 @@ fn let_go(octets: &mut Vec<u8>, place: usize) -> usize
     }
     octets.copy_within(place.., 0);
     octets.truncate(held);
+    let room = held.max(ROOM);
+    if octets.capacity() / 4 > room {
+        octets.shrink_to(room);
+    }
     0
 }
 

@@ -12,6 +12,7 @@
 //! A framer keeps one vector: the octets from the first place on, after the frames handed out, that is open or has fewer than
 //! seven octets left that begin as `BUFR`, and before them at most as many that it has not yet let go. What it holds is at most
 //! 16,777,215 octets, the greatest length that three octets announce, so it keeps at most twice that. Nothing else is kept.
+//! Memory is given back when octets are let go and less than a quarter of it is needed then, but for a quarter of a megabyte.
 //!
 //! # Why the time stays near linear in the stream
 //!
@@ -20,17 +21,19 @@
 //! `BUFR`, which one search by `memchr::memmem` finds: each octet is searched once, whatever the pieces. The octets before the
 //! start are let go when they are more than those held, so letting go moves no more octets than were dropped. A false `BUFR`
 //! that announces 16 MB costs holding those octets once. Where nothing is held, a piece is searched where it stands and only
-//! what is left of it kept, so a piece of 100 MB is not copied. `look` copies what is held into the framer that it makes, and
-//! so is the dearer way for tiny pieces; `feed` copies nothing but the piece and the frames.
+//! what is left of it kept, so a piece of 100 MB is not copied; where something is, the piece is appended to it. `look` copies
+//! what is held into the framer that it makes, and so is the dearer way for tiny pieces; `feed` copies nothing but the piece
+//! and the frames.
 //!
-//! Timed as LLVM builds it, on one core of a shared machine, in milliseconds:
+//! Timed as LLVM builds it, on one core of a shared machine, in milliseconds, the middle one of three runs:
 //!
 //! | stream | single octets | pieces of 65,536 | one piece |
 //! |---|---|---|---|
-//! | 4,194,304 times `BUFR` (16.8 MB, each open for 4.3 MB) | 847 | 175 | 149 |
-//! | a million messages of 60 octets (60 MB) | 2,882 | 156 | 318 |
-//! | the same after a false `BUFR` that announces 16,777,215 octets | 2,694 | 150 | 180 |
-//! | 104 MB without `BUFR`, with stray `B`, `BU` and `BUF` | | 46 | 41 |
+//! | 4,194,304 times `BUFR` (16.8 MB, each open for 4.3 MB) | 474 | 87 | 76 |
+//! | a million messages of 60 octets (60 MB) | 1,533 | 90 | 101 |
+//! | the same after a false `BUFR` that announces 16,777,215 octets | 1,375 | 64 | 89 |
+//! | four million false `BUFR` that each announce 16,777,215 octets (32 MB) | 743 | 93 | 81 |
+//! | 104 MB without `BUFR`, with stray `B`, `BU` and `BUF` | 2,563 | 29 | 36 |
 //!
 //! # What is proved
 //!

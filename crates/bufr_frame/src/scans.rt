@@ -1,6 +1,6 @@
 //! The scan of octets for frames.
-ghost use Rattle.std.specs.Prelude.{◌≡◌, ℕ, ◌+◌, ◌<◌, ◌≤◌, ◌^◌, false, length, drop, IfOk};
-ghost use Rattle.bufr_frame.specs.Starts.{bufr, start_of};
+ghost use Rattle.std.specs.Prelude.{◌≡◌, ℕ, ◌+◌, ◌<◌, ◌≤◌, ◌^◌, false, true, length, drop, IfOk};
+ghost use Rattle.bufr_frame.specs.Starts.{agrees, bufr, start_of};
 ghost use Rattle.bufr_frame.specs.Streams.{frames_from, rest_from};
 
 use crate::frames::Found;
@@ -21,6 +21,7 @@ fn next_mark(finder: &Finder<'_>, octets: &[u8], from: usize) -> usize
     requires within { from ≤ length octets.now }
     ensures after { from ≤ result }
     ensures within { result ≤ length octets.now }
+    ensures mark { result < length octets.now → agrees (drop result octets.now) bufr ≡ true }
     ensures others { (k : ℕ) → from ≤ k → k < result → start_of (drop k octets.now) ≡ Start.Other }
 {
     let rest = &octets[from..];

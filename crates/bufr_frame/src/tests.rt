@@ -82,7 +82,7 @@ fn two_frames_and_a_stray(rt: HostRuntime) -> Result<(), Fail> {
     let stream = message_stray_message(rt.alloc())?;
     assert_eq!(rt; stream.len(), 146);
     let wanted: &[(u64, &[u8])] = &[(18, SEQUENCES), (84, SEQUENCES)];
-    for place in 0..stream.len() {
+    for place in 0..=stream.len() {
         let pieces: &[&[u8]] = &[&stream[..place], &stream[place..]];
         assert!(rt; pieces[0].len() < 1000 && pieces[1].len() < 1000);
         let found = frames_of_pieces(rt.alloc(), pieces)?;
@@ -127,6 +127,28 @@ fn a_look_settled(rt: HostRuntime) -> Result<(), Fail> {
     assert!(rt; are(&found, &[(18, SEQUENCES)]));
     assert_eq!(rt; framer.fed(), 146);
     assert_eq!(rt; framer.pending(), 66);
+    let end = framer.look_end()?;
+    let last = framer.settle(end);
+    assert!(rt; are(&last, &[(84, SEQUENCES)]));
+    assert_eq!(rt; framer.fed(), 0);
+    assert_eq!(rt; framer.pending(), 0);
+    Ok(())
+}
+
+#[test]
+fn a_look_of_another_framer(rt: HostRuntime) -> Result<(), Fail> {
+    let one = Framer::new(rt.alloc());
+    assert!(rt; one.fed() == 0);
+    let look = one.look(SEQUENCES)?;
+    let mut other = Framer::new(rt.alloc());
+    let none = give(&rt, &mut other, b"BUFR")?;
+    assert!(rt; are(&none, &[]));
+    assert_eq!(rt; other.pending(), 4);
+    let found = other.settle(look);
+    assert!(rt; are(&found, &[(0, SEQUENCES)]));
+    assert_eq!(rt; other.fed(), 62);
+    assert_eq!(rt; other.pending(), 0);
+    assert_eq!(rt; one.fed(), 0);
     Ok(())
 }
 
@@ -136,10 +158,14 @@ fn message_in_character_data(rt: HostRuntime) -> Result<(), Fail> {
     assert_eq!(rt; stream.len(), 99);
     let whole = one_by_one(&rt, rt.alloc(), &stream)?;
     assert!(rt; are(&whole, &[(0, stream.as_slice())]));
+    let at_once = frames_of_pieces(rt.alloc(), &[&stream])?;
+    assert!(rt; are(&at_once, &[(0, stream.as_slice())]));
     let without_last = joined(rt.alloc(), &[BEFORE_TEXT, DELAYED_COUNT, b"777"])?;
     assert_eq!(rt; without_last.len(), 98);
     let cut_off = one_by_one(&rt, rt.alloc(), &without_last)?;
     assert!(rt; are(&cut_off, &[(43, DELAYED_COUNT)]));
+    let cut_off_at_once = frames_of_pieces(rt.alloc(), &[&without_last])?;
+    assert!(rt; are(&cut_off_at_once, &[(43, DELAYED_COUNT)]));
     Ok(())
 }
 
