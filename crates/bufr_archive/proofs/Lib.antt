@@ -1,3 +1,4 @@
+pub mod ChangeLemmas
 pub mod KeyFacts
 pub mod PairLemmas
 pub mod ShelvedLemmas

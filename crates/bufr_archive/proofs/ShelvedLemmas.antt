@@ -196,18 +196,6 @@ at-shelved key (k ∷ ks) us =
           ∙ sym (ap (λ b. cond b (Some (with_key k)) (entry_at (shelved ks us) key)) (ap is_eq (sym (keys_are key k.0)) ∙ h))
     ] refl
 
-first-octets : (us : List (List ℕ × ℕ)) → option_map without_key (first_of us) ≡ first_of (map without_key us)
-first-octets [] = refl
-first-octets (u ∷ us) = refl
-
-pub first-keyed : (ks : List (Key × Rank)) (us : List (List ℕ × ℕ)) (e : Entry) → Some e ≡ option_map with_key (first_of ks) → Some e ≡ first_of (shelved ks us)
-first-keyed [] us e h = cc
-first-keyed (k ∷ ks) us e h = h
-
-pub first-unkeyed : (ks : List (Key × Rank)) (us : List (List ℕ × ℕ)) → None ≡ option_map with_key (first_of ks) → option_map without_key (first_of us) ≡ first_of (shelved ks us)
-first-unkeyed [] us h = first-octets us
-first-unkeyed (k ∷ ks) us h = cc
-
 after-octets : (us : List (List ℕ × ℕ)) (e : Entry) (key : Key) → e.key ≡ Some key → option_map without_key (first_of us) ≡ entry_after (map without_key us) e
 after-octets [] e key h = refl
 after-octets (u ∷ us) e key h = sym (ap (λ o. cond (is_lt (slot_by o None (octets_cmp e.bytes u.0))) (Some (without_key u)) (entry_after (map without_key us) e)) h)

@@ -2,7 +2,6 @@ pub mod Keeping
 pub mod KeepingLaws
 pub mod Entries
 pub mod Orders
-pub mod Changes
 pub mod Ranks
 pub mod Merging
 pub mod Pairs

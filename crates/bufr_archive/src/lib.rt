@@ -5,20 +5,21 @@
 //! update number and then by octets; all are in order of slots, those with a key first. So a shelf
 //! holds the same whatever order its entries came in, and whichever shelves were joined first.
 //!
-//! [`MapShelf`] stands on ordered maps, [`SortedShelf`] on sorted vectors. Times in seconds, of
-//! entries with a key and 63 octets each, on one core of a loaded machine at 2.5 GHz:
+//! [`MapShelf`] stands on ordered maps, where `put` takes logarithmic time. [`SortedShelf`] stands
+//! on sorted vectors, where `put` also moves all that comes after its place, eight octets for each
+//! entry: it is for entries that come nearly in order, and for joins. Times in seconds, of entries
+//! with a key and 63 octets each, compiled by LLVM, on a machine of four cores with other work:
 //!
 //! | | `MapShelf` | `SortedShelf` |
 //! |---|---|---|
-//! | 1,048,575 put in random order | 8.0 | not run |
-//! | 65,535 put in random order | not run | 52 |
-//! | 16,383 put in random order | not run | 6.5 |
-//! | two shelves of 500,000 joined | 4.7 | 1.0 |
-//! | 1,000,000 copied | 0.9 | 0.8 |
-//! | 1,000,000 met by `first` and `after` | 1.3 | 0.9 |
+//! | 1,000,000 put in random order | 1.6 | 79 |
+//! | 100,000 put in random order | 0.1 | 0.5 |
+//! | 1,000,000 put in rising order | 0.8 | 0.4 |
+//! | two shelves of 500,000 joined | 0.9 | 0.3 |
+//! | 1,000,000 copied | 0.4 | 0.4 |
+//! | 1,000,000 met by `first` and `after` | 0.2 | 0.2 |
 //!
-//! `SortedShelf::put` moves all that comes after its place, so it is for entries that come nearly
-//! in order (1,000,000 in rising order: 3.7, in a `MapShelf` 6.5) and for joins.
+//! What is joined, copied and met was put in random order.
 #![tactic(auto)]
 
 pub mod entry;

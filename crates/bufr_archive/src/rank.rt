@@ -51,17 +51,13 @@ impl Exact for Key {
     ghost use Rattle.bufr_archive.specs.Orders.{exact_keys};
     ghost use Rattle.bufr_archive.specs.Ranks.{stations_are, same_stations};
 
-    ghost exact = {
-        λ a b h. let e : Self.cmp a b ≡ key_cmp a b = rw (stations_are a.station b.station) refl in exact_keys a b (sym e ∙ h)
-    };
+    ghost exact = { λ a b h. let e : Self.cmp a b ≡ key_cmp a b = rw (stations_are a.station b.station) refl in exact_keys a b (sym e ∙ h) };
 
-    ghost faithful = {
-        λ a b h.
+    ghost faithful = { λ a b h.
         ap (λ z. record b { centre = z }) h.0
         ∙ ap (λ z. record b { centre = a.centre; category = z }) h.1.0
         ∙ ap (λ z. record b { centre = a.centre; category = a.category; international = z }) h.1.1.0
         ∙ ap (λ z. record a { local_category = z; station = b.station; moment = b.moment }) h.1.1.1.0
         ∙ ap (λ z. record a { station = z; moment = b.moment }) (same_stations a.station b.station h.1.1.1.1.0)
-        ∙ ap (λ z. record a { moment = z }) h.1.1.1.1.1
-    };
+        ∙ ap (λ z. record a { moment = z }) h.1.1.1.1.1 };
 }

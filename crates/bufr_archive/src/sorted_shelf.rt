@@ -12,21 +12,23 @@ use crate::octets::Octets;
 use crate::rank::Rank;
 use crate::shelf::Shelf;
 use merge::{merge, room_for};
+use pair::Pair;
 use sorted::{at_key, copied, first_pair, next_after, raise};
 use std::alloc::Global;
 use std::marker::Model;
 
 mod merge;
+mod pair;
 mod sorted;
 
 /// A shelf on sorted vectors: one of keys with their ranks, and one of the octets of what has no
-/// key with the update number. `put` finds its place by binary search and moves what follows;
-/// `join` goes once over both shelves.
+/// key with the update number. `put` finds its place by binary search and moves what follows, eight
+/// octets for each entry; `join` goes once over both shelves.
 #[derive(Drop)]
 pub struct SortedShelf {
     alloc: Global,
-    keyed: Vec<(Key, Rank)>,
-    unkeyed: Vec<(Octets, u8)>,
+    keyed: Vec<Pair<Key, Rank>>,
+    unkeyed: Vec<Pair<Octets, u8>>,
 }
 
 impl Model for SortedShelf {
@@ -65,8 +67,8 @@ impl Shelf for SortedShelf {
 
     fn put(&mut self, key: Option<Key>, update: u8, bytes: Octets) -> Result<bool, OutOfMemory> {
         match key {
-            Some(key) => raise(&mut self.keyed, key, Rank { update, bytes }),
-            None => raise(&mut self.unkeyed, bytes, update),
+            Some(key) => raise(self.alloc, &mut self.keyed, key, Rank { update, bytes }),
+            None => raise(self.alloc, &mut self.unkeyed, bytes, update),
         }
     }
 

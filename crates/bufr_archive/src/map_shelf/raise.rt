@@ -21,6 +21,7 @@ pub(crate) fn raise<K: Exact, V: Exact>(
     ensures ok { OnOk result (map.new.entries ≡ put_by (by_key K.cmp) (by_value V.cmp) (key, value) map.old.entries) }
     ensures err { OnErr result (map.new.entries ≡ map.old.entries) }
 {
+    // `len` ensures that the keys are in order.
     let _size = map.len();
     if let Some(old) = map.get(&key) {
         let greater = value.cmp(old).is_gt();

@@ -10,15 +10,16 @@ ghost use Rattle.bufr_archive.specs.Pairs.{by_key, by_value};
 
 use crate::entry::OutOfMemory;
 use crate::rank::Exact;
+use crate::sorted_shelf::pair::Pair;
 use std::alloc::Global;
 use std::cmp::Ordering;
 
 /// An empty vector with room for all pairs of two.
 pub(crate) fn room_for<K, V>(
     alloc: Global,
-    left: &Vec<(K, V)>,
-    right: &Vec<(K, V)>,
-) -> Result<Vec<(K, V)>, OutOfMemory>
+    left: &Vec<Pair<K, V>>,
+    right: &Vec<Pair<K, V>>,
+) -> Result<Vec<Pair<K, V>>, OutOfMemory>
     ensures empty { IfOk result (λ room. room.items ≡ []) }
     ensures room { IfOk result (λ room. vec_len left.now + vec_len right.now ≤ vec_capacity room) }
 {
@@ -28,9 +29,9 @@ pub(crate) fn room_for<K, V>(
 /// Merges pairs into others, of each key the one with the greater value: all are moved into the
 /// room, which then takes the place of the first.
 pub(crate) fn merge<K: Exact, V: Exact>(
-    left: &mut Vec<(K, V)>,
-    mut right: Vec<(K, V)>,
-    mut room: Vec<(K, V)>,
+    left: &mut Vec<Pair<K, V>>,
+    mut right: Vec<Pair<K, V>>,
+    mut room: Vec<Pair<K, V>>,
 )
     requires sorted { IsStrictlySortedBy K.cmp (keys_of right.items) }
     requires empty { room.items ≡ [] }
@@ -48,9 +49,9 @@ pub(crate) fn merge<K: Exact, V: Exact>(
 /// Takes the pair of lesser key from the ends of two vectors in falling order; of two with one key
 /// it takes both and gives the one with the greater value.
 fn take_lesser<K: Exact, V: Exact>(
-    left: &mut Vec<(K, V)>,
-    right: &mut Vec<(K, V)>,
-) -> Option<(K, V)>
+    left: &mut Vec<Pair<K, V>>,
+    right: &mut Vec<Pair<K, V>>,
+) -> Option<Pair<K, V>>
     ensures taken { merged (by_key K.cmp) (by_value V.cmp) (reverse left.old.items) (reverse right.old.items)
         ≡ option_to_list result ++ merged (by_key K.cmp) (by_value V.cmp) (reverse left.new.items) (reverse right.new.items) }
     ensures fewer { OnSome result (vec_len left.new + vec_len right.new < vec_len left.old + vec_len right.old) }
@@ -67,7 +68,7 @@ fn take_lesser<K: Exact, V: Exact>(
 }
 
 /// The order of the keys at the ends of two vectors; an empty one is told as if its key were greater.
-fn order_of_ends<K: Exact, V: Exact>(left: &Vec<(K, V)>, right: &Vec<(K, V)>) -> Ordering
+fn order_of_ends<K: Exact, V: Exact>(left: &Vec<Pair<K, V>>, right: &Vec<Pair<K, V>>) -> Ordering
     ensures { result ≡ heads_order (by_key K.cmp) (reverse left.now.items) (reverse right.now.items) }
 {
     let Some(next) = right.last() else {
@@ -76,11 +77,14 @@ fn order_of_ends<K: Exact, V: Exact>(left: &Vec<(K, V)>, right: &Vec<(K, V)>) ->
     let Some(pair) = left.last() else {
         return Ordering::Greater;
     };
-    pair.0.cmp(&next.0)
+    pair.key().cmp(next.key())
 }
 
 /// Of two pairs the one with the greater value, the left one where they are equal.
-fn greater_of<K: Exact, V: Exact>(left: Option<(K, V)>, right: Option<(K, V)>) -> Option<(K, V)>
+fn greater_of<K: Exact, V: Exact>(
+    left: Option<Pair<K, V>>,
+    right: Option<Pair<K, V>>,
+) -> Option<Pair<K, V>>
     ensures { result ≡ greater_of (by_value V.cmp) left right }
 {
     let Some(pair) = left else {
@@ -89,6 +93,6 @@ fn greater_of<K: Exact, V: Exact>(left: Option<(K, V)>, right: Option<(K, V)>) -
     let Some(other) = right else {
         return Some(pair);
     };
-    let greater = other.1.cmp(&pair.1).is_gt();
+    let greater = other.value().cmp(pair.value()).is_gt();
     if greater { Some(other) } else { Some(pair) }
 }

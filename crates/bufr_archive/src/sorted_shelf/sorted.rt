@@ -10,11 +10,12 @@ ghost use Rattle.bufr_archive.specs.Pairs.{by_key, by_value, place_of};
 
 use crate::entry::OutOfMemory;
 use crate::rank::Exact;
+use crate::sorted_shelf::pair::Pair;
 use std::alloc::Global;
 use std::cmp::Ordering;
 
 /// Where a key stands, or where it would go, by binary search.
-pub(crate) fn place<K: Exact, V>(pairs: &Vec<(K, V)>, key: &K) -> Result<usize, usize>
+pub(crate) fn place<K: Exact, V>(pairs: &Vec<Pair<K, V>>, key: &K) -> Result<usize, usize>
     requires { IsStrictlySortedBy K.cmp (keys_of pairs.now.items) }
     ensures place { result ≡ place_of (K.cmp key.now) pairs.now.items }
     ensures within { MatchResult result (λ i. i < vec_len pairs.now) (λ i. i ≤ vec_len pairs.now) }
@@ -23,7 +24,7 @@ pub(crate) fn place<K: Exact, V>(pairs: &Vec<(K, V)>, key: &K) -> Result<usize, 
     let mut high = pairs.len();
     while low < high {
         let middle = low + (high - low) / 2;
-        match key.cmp(&pairs[middle].0) {
+        match key.cmp(pairs[middle].key()) {
             Ordering::Less => high = middle,
             Ordering::Equal => return Ok(middle),
             Ordering::Greater => low = middle + 1,
@@ -34,7 +35,8 @@ pub(crate) fn place<K: Exact, V>(pairs: &Vec<(K, V)>, key: &K) -> Result<usize, 
 
 /// Puts a value at a key where it is greater than the one there, and says whether it is.
 pub(crate) fn raise<K: Exact, V: Exact>(
-    pairs: &mut Vec<(K, V)>,
+    alloc: Global,
+    pairs: &mut Vec<Pair<K, V>>,
     key: K,
     value: V,
 ) -> Result<bool, OutOfMemory>
@@ -45,15 +47,15 @@ pub(crate) fn raise<K: Exact, V: Exact>(
 {
     match place(pairs, &key) {
         Ok(index) => {
-            let greater = value.cmp(&pairs[index].1).is_gt();
+            let greater = value.cmp(pairs[index].value()).is_gt();
             if !greater {
                 return Ok(false);
             }
-            pairs[index] = (key, value);
+            pairs[index].replace(key, value);
             Ok(true)
         }
         Err(index) => {
-            pairs.insert(index, (key, value))?;
+            pairs.insert(index, Pair::new(alloc, key, value)?)?;
             Ok(true)
         }
     }
@@ -62,21 +64,21 @@ pub(crate) fn raise<K: Exact, V: Exact>(
 /// A copy of the pairs.
 pub(crate) fn copied<K: Exact, V: Exact>(
     alloc: Global,
-    pairs: &Vec<(K, V)>,
-) -> Result<Vec<(K, V)>, OutOfMemory>
+    pairs: &Vec<Pair<K, V>>,
+) -> Result<Vec<Pair<K, V>>, OutOfMemory>
     ensures { IfOk result (λ copy. copy.items ≡ pairs.now.items) }
 {
     let mut copy = Vec::with_capacity(alloc, pairs.len())?;
-    for (key, value) in pairs {
-        let key = key.clone()?;
-        let value = value.clone()?;
-        copy.push((key, value))?;
+    for pair in pairs {
+        let key = pair.key().clone()?;
+        let value = pair.value().clone()?;
+        copy.push(Pair::new(alloc, key, value)?)?;
     }
     Ok(copy)
 }
 
 /// The pair at a key.
-pub(crate) fn at_key<'a, K: Exact, V>(pairs: &'a Vec<(K, V)>, key: &K) -> Option<(&'a K, &'a V)>
+pub(crate) fn at_key<'a, K: Exact, V>(pairs: &'a Vec<Pair<K, V>>, key: &K) -> Option<(&'a K, &'a V)>
     requires { IsStrictlySortedBy K.cmp (keys_of pairs.now.items) }
     ensures { option_map deref_pair result ≡ find (λ p. is_eq (K.cmp key.now p.0)) pairs.now.items }
 {
@@ -87,22 +89,25 @@ pub(crate) fn at_key<'a, K: Exact, V>(pairs: &'a Vec<(K, V)>, key: &K) -> Option
 }
 
 /// The pair at an index, where there is one.
-fn pair_at<K, V>(pairs: &Vec<(K, V)>, index: usize) -> Option<(&K, &V)>
+fn pair_at<K, V>(pairs: &Vec<Pair<K, V>>, index: usize) -> Option<(&K, &V)>
     ensures { option_map deref_pair result ≡ slice_get pairs.now.items index }
 {
     let pair = pairs.get(index)?;
-    Some((&pair.0, &pair.1))
+    Some((pair.key(), pair.value()))
 }
 
 /// The first pair.
-pub(crate) fn first_pair<K, V>(pairs: &Vec<(K, V)>) -> Option<(&K, &V)>
+pub(crate) fn first_pair<K, V>(pairs: &Vec<Pair<K, V>>) -> Option<(&K, &V)>
     ensures { option_map deref_pair result ≡ first_of pairs.now.items }
 {
     pair_at(pairs, 0)
 }
 
 /// The first pair whose key is greater than this one.
-pub(crate) fn next_after<'a, K: Exact, V>(pairs: &'a Vec<(K, V)>, key: &K) -> Option<(&'a K, &'a V)>
+pub(crate) fn next_after<'a, K: Exact, V>(
+    pairs: &'a Vec<Pair<K, V>>,
+    key: &K,
+) -> Option<(&'a K, &'a V)>
     requires { IsStrictlySortedBy K.cmp (keys_of pairs.now.items) }
     ensures { option_map deref_pair result ≡ find (λ p. is_lt (K.cmp key.now p.0)) pairs.now.items }
 {

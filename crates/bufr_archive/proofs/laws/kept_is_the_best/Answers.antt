@@ -1,5 +1,5 @@
 use Rattle.bufr_archive.specs.Orders.{kept-are, kept-only}
-use Rattle.bufr_archive.specs.Changes.{kept-changed, kept-unchanged}
+use Rattle.bufr_archive.proofs.ChangeLemmas.{kept-changed, kept-unchanged}
 use Rattle.bufr_archive.proofs.laws.kept_is_the_best.Goals as goal
 
 pub returns : goal.returns

@@ -1,6 +1,6 @@
 use Rattle.std.proofs.Common.{◌∙◌, ◌++◌, ◌∷◌, [], ap, sym, Some, None, Option}
 use Rattle.bufr_archive.specs.Entries.{kept, changes}
-use Rattle.bufr_archive.specs.Changes.{changes-kept}
+use Rattle.bufr_archive.proofs.ChangeLemmas.{changes-kept}
 use Rattle.bufr_archive.specs.Pairs.{shelved, with_key, without_key}
 use Rattle.bufr_archive.specs.declared.entry.Entry.{Entry}
 use Rattle.bufr_archive.specs.declared.key.Key.{Key}

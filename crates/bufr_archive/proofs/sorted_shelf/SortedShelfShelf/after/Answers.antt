@@ -9,7 +9,6 @@ use Rattle.bufr_archive.proofs.sorted_shelf.SortedShelfShelf.after.Goals as goal
 
 pub returns-in_default : goal.returns-in_default
 returns-in_default c =
-    let h = c.in_default in
     c.held_without_key.ensures ∙ ap (option_map without_key) c.next_after.ensures
     ∙ after-unkeyed c.self.inside.keyed.items c.self.inside.unkeyed.items (lent c.args.held) (ap option_copied c.in_default.is)
     ∙ ap (λ es. entry_after es (lent c.args.held)) (sym (entries-are c.args.self.now _ c.self.view_is c.self.invariant))

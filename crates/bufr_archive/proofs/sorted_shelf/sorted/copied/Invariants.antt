@@ -1,5 +1,5 @@
 use Rattle.std.proofs.Common.{◌≡◌, take}
 use Rattle.bufr_archive.proofs.sorted_shelf.sorted.copied.Given as goal
 
-abbrev pub invariant-loop-key : goal.invariant-loop-key
-invariant-loop-key g l = l.copy.items ≡ take l.key-index l.pairs.items
+abbrev pub invariant-loop-pair : goal.invariant-loop-pair
+invariant-loop-pair g l = l.copy.items ≡ take l.pair-index l.pairs.items

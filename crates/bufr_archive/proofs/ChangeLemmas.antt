@@ -11,6 +11,7 @@ use Rattle.bufr_archive.specs.Entries.{slot_cmp, rank_cmp, kept, changes}
 use Rattle.bufr_archive.specs.declared.entry.Entry.{Entry}
 use Rattle.bufr_archive.specs.Orders.{slots_total, ranks_total, exact_entries}
 
+-- the second is of the slot of the first, and of its rank or a greater one
 abbrev covers : Entry → Entry → Bool
 covers e f = is_eq (slot_cmp e f) && not (is_gt (rank_cmp e f))
 
