@@ -24,7 +24,7 @@ length-map f (x ∷ xs) = ap suc (length-map f xs)
 pub position-map : {X Y : Type 0} (p : Y → Bool) (f : X → Y) (xs : List X) → position p (map f xs) ≡ position (λ x. p (f x)) xs
 position-map p f xs = rw (prefix_len-map (λ y. not (p y)) f xs, length-map f xs)
 
-append-nil : {A : Type 0} (xs : List A) → xs ++ [] ≡ xs
+pub append-nil : {A : Type 0} (xs : List A) → xs ++ [] ≡ xs
 append-nil [] = refl
 append-nil (x ∷ xs) = ap (λ (t : List _). x ∷ t) (append-nil xs)
 

@@ -5,4 +5,9 @@ pub mod CsvFacts
 pub mod ColumnFacts
 pub mod NumberFacts
 pub mod RowFacts
+pub mod MemberFacts
 pub mod ParseFacts
+pub mod SheetFacts
+pub mod ElementFacts
+pub mod GroupFacts
+pub mod SequenceFacts

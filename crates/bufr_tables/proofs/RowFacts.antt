@@ -17,13 +17,13 @@ use Rattle.bufr_tables.specs.Rows.{kind_of, cell, element_row, with_element, beg
 use Rattle.bufr_tables.specs.Numbers.{signed_of, unsigned_of, descriptor_of}
 use Rattle.bufr_tables.proofs.TableFacts.{element_eq-Decides, same_element-Decides}
 
-less : (x y : ℕ) → x < y → nat_cmp x y ≡ Less
+pub less : (x y : ℕ) → x < y → nat_cmp x y ≡ Less
 less x y h = grind (arith, nat_tests)
 
-equal : (x y : ℕ) → x ≡ y → nat_cmp x y ≡ Equal
+pub equal : (x y : ℕ) → x ≡ y → nat_cmp x y ≡ Equal
 equal x y h = grind (arith, nat_tests)
 
-greater : (x y : ℕ) → y < x → nat_cmp x y ≡ Greater
+pub greater : (x y : ℕ) → y < x → nat_cmp x y ≡ Greater
 greater x y h = grind (arith, nat_tests)
 
 -- the first descriptor of a list, if there is one, is above d
@@ -36,7 +36,7 @@ unfolding Above
 rising-first a [] r = tt
 rising-first a (b ∷ es) r = r.0
 
-rising-rest : {X : Type 0} (a : ℕ × X) (es : List (ℕ × X)) → Rising (a ∷ es) → Rising es
+pub rising-rest : {X : Type 0} (a : ℕ × X) (es : List (ℕ × X)) → Rising (a ∷ es) → Rising es
 rising-rest a [] r = tt
 rising-rest a (b ∷ es) r = r.1
 

@@ -6,4 +6,5 @@ pub mod Entries
 pub mod Fields
 pub mod Numbers
 pub mod Rows
+pub mod Sheets
 pub mod TableFiles

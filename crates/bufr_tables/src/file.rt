@@ -1,5 +1,8 @@
 //! Faults of table files.
 
+ghost use Rattle.std.specs.Prelude.{Some};
+ghost use Rattle.bufr_tables.specs.TableFiles.{title};
+
 use crate::fxy::Fxy;
 use std::fmt;
 use thiserror::Error;
@@ -25,6 +28,8 @@ pub enum Column {
 
 /// The title of the column.
 impl fmt::Display for Column {
+    ghost output = { λ c. Some (title c) };
+
     fn fmt<W: fmt::Write>(&self, f: &mut fmt::Formatter<W>) -> fmt::Result {
         f.write_str(match *self {
             Column::Fxy => "FXY",

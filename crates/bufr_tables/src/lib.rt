@@ -22,7 +22,7 @@ pub use failure::Failure;
 pub use file::{Column, TableFault};
 pub use fxy::Fxy;
 pub use items::Items;
-pub use laws::descriptor_texts;
+pub use laws::{descriptor_texts, element_faults, element_files, sequence_faults, sequence_files};
 pub use std::alloc::AllocError as OutOfMemory;
 pub use table_b::TableB;
 pub use table_d::TableD;
