@@ -1,11 +1,10 @@
 -- The course of a template goes on steadily.
 use Rattle.std.proofs.Common.{◌≡◌, ℕ, zero, suc, ◌+◌, ◌<◌, ◌≤◌, Bool, true, false, cond, ltb, Option, Some, None, refl, arith}
 use Rattle.std.proofs.lemmas.Bool.{ltb-true}
-use Rattle.bufr_tables.specs.declared.element.Element.{Element}
 use Rattle.bufr_expand.specs.declared.operators.Operators.{Operators}
 use Rattle.bufr_expand.specs.declared.operators.Spec.{Spec}
 use Rattle.bufr_expand.specs.declared.walk.WalkFault.TheVariants.{TooLarge}
-use Rattle.bufr_expand.specs.Operating.{in_force_after, effective, untouched, factor_spec}
+use Rattle.bufr_expand.specs.Operating.{in_force_after, effective, untouched}
 use Rattle.bufr_expand.specs.Trees as trees
 use Rattle.bufr_expand.specs.Courses.{Course, ends, stops, asks, Then, item, asks_if, turns, course_then, course}
 use Rattle.bufr_data.specs.Steady.{IsSteady}

@@ -1,12 +1,12 @@
 -- A number's digits are its front and its last ones.
-use Rattle.std.proofs.Common.{◌≡◌, ℕ, zero, suc, ◌+◌, ◌-◌, ◌*◌, ◌/◌, ◌%◌, ◌^◌, ◌<◌, ◌≤◌, List, [], ◌∷◌, ◌++◌, length, take, drop, get_or, replicate, refl, sym, ap, ◌∙◌, arith, append_assoc, append-nil, length-append, inl, inr}
-use Rattle.std.specs.Prelude.{decimal, true, false, ℤ, pos, negsuc, ◌==◌}
+use Rattle.std.proofs.Common.{◌≡◌, ℕ, zero, suc, ◌+◌, ◌-◌, ◌/◌, ◌%◌, ◌^◌, ◌<◌, List, [], ◌∷◌, ◌++◌, length, get_or, replicate, refl, sym, ap, ◌∙◌, arith, append_assoc, append-nil, length-append, inl, inr}
+use Rattle.std.specs.Prelude.{decimal, true, false, ℤ, pos, negsuc}
 use Rattle.std.specs.Int.RustNames.{unsigned_abs}
 use lib.Signed.{lt_z}
 use Rattle.std.proofs.Math.Nat.{pow-suc, div-div-eq-div-mul}
 use Rattle.std.proofs.lemmas.Bool.{cases_lt}
 use Rattle.std.proofs.lemmas.Int.{ints}
-use Rattle.std.proofs.lemmas.List.{take_at, drop_at, length-replicate}
+use Rattle.std.proofs.lemmas.List.{take_at, drop_at}
 use Rattle.std.proofs.lemmas.Fmt.{decimal_digit, decimal_step_wide}
 use Rattle.bufr_data.specs.Digits.{last_digits}
 use Rattle.bufr_data.specs.Values.{pointed, sign_of, size_of, digits_by, text_of}

@@ -1,7 +1,10 @@
+pub mod CauseFacts
 pub mod CourseFacts
 pub mod DigitFacts
+pub mod FitFacts
 pub mod OctetFacts
 pub mod OnLiterals
 pub mod PlainFacts
 pub mod ReadFacts
+pub mod RefusalFacts
 pub mod WriteFacts

@@ -1,8 +1,8 @@
 -- What is read from bits are exactly the fields that a course allows, and the bits are theirs.
 use Rattle.bufr_tables.specs.Answers.{◌>>=◌}
-use Rattle.std.proofs.Common.{◌≡◌, ℕ, zero, suc, ◌+◌, ◌*◌, ◌/◌, ◌%◌, ◌^◌, ◌<◌, ◌≤◌, Bool, true, false, cond, ltb, List, [], ◌∷◌, ◌++◌, length, take, drop, Option, Some, None, Result, Ok, Err, ℤ, pos, negsuc, refl, sym, ap, subst, ◌∙◌, arith, append_assoc, length-append, inl, inr}
+use Rattle.std.proofs.Common.{◌≡◌, ℕ, zero, suc, ◌+◌, ◌*◌, ◌/◌, ◌^◌, ◌<◌, ◌≤◌, Bool, true, false, cond, ltb, List, [], ◌∷◌, ◌++◌, length, take, drop, Option, Some, None, Result, Ok, Err, ℤ, pos, negsuc, refl, sym, ap, subst, ◌∙◌, arith, append_assoc, length-append, inl, inr}
 use Rattle.std.specs.Prelude.{◌==◌, ◌&&◌, nat_lt, nat_le, option_map}
-use Rattle.std.specs.List.{flat_map, list_all}
+use Rattle.std.specs.List.{list_all}
 use Rattle.std.proofs.lemmas.Bool.{cases_lt, le-ltb, lt-ltb, ltb-true, eqb-true, eq-eqb}
 use Rattle.std.proofs.lemmas.List.{take_at, drop_at, take-append-drop, drop-drop, length-take, length-drop}
 use Rattle.bufr_bits.specs.Bits.{bin, bits, number, numbers, number_at, numbers_at}
@@ -19,21 +19,20 @@ use Rattle.bufr_data.specs.declared.field.Raw.TheVariants.{Number, Text}
 use Rattle.bufr_data.specs.declared.field.Field.{Field}
 use Rattle.bufr_data.specs.declared.fault.ReadFault.{ReadFault}
 use Rattle.bufr_data.specs.declared.fault.WriteFault.{WriteFault}
-use Rattle.bufr_data.specs.declared.fault.WriteFault.TheVariants as misfits
 use Rattle.bufr_data.specs.declared.field.Subset.{Subset}
 use Rattle.bufr_data.specs.Plain.{raw_bits, field_bits, plain, plain_subsets, Found, AllFound, field_number_at, raw_at_by, raw_at, number_of, field_then, stopped, fields_at, subsets_at, same_spec, has_form_by, stands_for, items_of, items_of_all}
 
 -- ---- tests
 
-and_first : (a b : Bool) → (a && b) ≡ true → a ≡ true
+pub and_first : (a b : Bool) → (a && b) ≡ true → a ≡ true
 and_first true b e = refl
 and_first false b e = absurd cc
 
-and_second : (a b : Bool) → (a && b) ≡ true → b ≡ true
+pub and_second : (a b : Bool) → (a && b) ≡ true → b ≡ true
 and_second true b e = e
 and_second false b e = absurd cc
 
-equal_is : (a b : ℕ) → (a == b) ≡ true → a ≡ b
+pub equal_is : (a b : ℕ) → (a == b) ≡ true → a ≡ b
 equal_is a b e = eqb-true a b e
 
 same_kind_is : (a b : Kind) → same_kind a b ≡ true → a ≡ b
@@ -50,7 +49,7 @@ same_integer_is (negsuc a) (negsuc b) e = ap (λ n. negsuc n) (equal_is a b e)
 same_integer_is (pos a) (negsuc b) e = absurd cc
 same_integer_is (negsuc a) (pos b) e = absurd cc
 
-same_spec_is : (a b : Spec) → same_spec a b ≡ true → a ≡ b
+pub same_spec_is : (a b : Spec) → same_spec a b ≡ true → a ≡ b
 same_spec_is a b e =
     let e1 = and_first _ _ e in
     let e2 = and_first _ _ e1 in
@@ -74,7 +73,7 @@ numbers_of_octets (x ∷ os) rest all =
     let e : bits (x ∷ os) ++ rest ≡ bin 8 x ++ (bits os ++ rest) = append_assoc (bin 8 x) (bits os) rest in
     rw (e, take_at (bin 8 x) (bits os ++ rest) 8 (length-bin 8 x), drop_at (bin 8 x) (bits os ++ rest) 8 (length-bin 8 x), number-bin 8 x, small_mod x 256 h.0, numbers_of_octets os rest h.1) refl
 
-length-bits : (os : List ℕ) → length (bits os) ≡ length os * 8
+pub length-bits : (os : List ℕ) → length (bits os) ≡ length os * 8
 length-bits [] = refl
 length-bits (x ∷ os) = omega (arith, length-append (bin 8 x) (bits os), length-bin 8 x, length-bits os)
 
@@ -95,7 +94,7 @@ number_again width n rest e =
     let below : n < 2 ^ width = ltb-true _ _ (and_second (nat_le width 64) (nat_lt n (2 ^ width)) e) in
     rw (short, number_at-bin width n rest below) refl
 
-raw_again : (kind : Kind) (width : ℕ) (raw : Raw) (rest : List Bool) → has_form_by kind width raw ≡ true → raw_at_by kind width (raw_bits width raw ++ rest) ≡ Some (raw, rest)
+pub raw_again : (kind : Kind) (width : ℕ) (raw : Raw) (rest : List Bool) → has_form_by kind width raw ≡ true → raw_at_by kind width (raw_bits width raw ++ rest) ≡ Some (raw, rest)
 raw_again kinds.Text width (Text os) rest e =
     let size : length os ≡ width / 8 = equal_is _ _ (and_first _ _ e) in
     let count : width / 8 ≡ length os = sym size in
@@ -111,11 +110,11 @@ raw_again kinds.Flag width (Text os) rest e = absurd cc
 raw_again kinds.Quantity width (Text os) rest e = absurd cc
 raw_again kinds.Count width (Text os) rest e = absurd cc
 
-guard_ok : (b : Bool) (x : Result ℕ WriteFault) (f : WriteFault) (n : ℕ) → cond b x (Err f) ≡ Ok n → (b ≡ true) × (x ≡ Ok n)
+pub guard_ok : (b : Bool) (x : Result ℕ WriteFault) (f : WriteFault) (n : ℕ) → cond b x (Err f) ≡ Ok n → (b ≡ true) × (x ≡ Ok n)
 guard_ok true x f n e = (refl, e)
 guard_ok false x f n e = absurd cc
 
-ok_is : (m n : ℕ) → ◌≡◌ {A = Result ℕ WriteFault} (Ok m) (Ok n) → m ≡ n
+pub ok_is : (m n : ℕ) → ◌≡◌ {A = Result ℕ WriteFault} (Ok m) (Ok n) → m ≡ n
 ok_is m n e = cc
 
 pub fields_at-plain : (j i : ℕ) (c : Course) (fs : List Field) (n : ℕ) (rest : List Bool) → items_of j i c fs ≡ Ok n → fields_at j i c (plain fs ++ rest) ≡ Ok (record { fields = fs; items = n; rest = rest })
@@ -151,7 +150,7 @@ integer_is_same : (z : ℤ) → same_integer z z ≡ true
 integer_is_same (pos n) = eq-eqb n n refl
 integer_is_same (negsuc n) = eq-eqb n n refl
 
-spec_is_same : (s : Spec) → same_spec s s ≡ true
+pub spec_is_same : (s : Spec) → same_spec s s ≡ true
 spec_is_same s = rw (kind_is_same s.kind, integer_is_same s.scale, integer_is_same s.reference, eq-eqb s.width s.width refl) refl
 
 some_is : {A : Type 0} (x y : A) → Some x ≡ Some y → x ≡ y
@@ -160,12 +159,12 @@ some_is x y e = cc
 ok_found : {A : Type 0} (x y : A) → ◌≡◌ {A = Result A ReadFault} (Ok x) (Ok y) → x ≡ y
 ok_found x y e = cc
 
-length-numbers : (n width : ℕ) (front : List Bool) → length (numbers n width front) ≡ n
+pub length-numbers : (n width : ℕ) (front : List Bool) → length (numbers n width front) ≡ n
 unfolding numbers
 length-numbers zero width front = refl
 length-numbers (suc n) width front = ap suc (length-numbers n width (drop width front))
 
-numbers_below : (n : ℕ) (front : List Bool) → n * 8 ≤ length front → list_all (λ c. nat_lt c 256) (numbers n 8 front) ≡ true
+pub numbers_below : (n : ℕ) (front : List Bool) → n * 8 ≤ length front → list_all (λ c. nat_lt c 256) (numbers n 8 front) ≡ true
 unfolding numbers
 numbers_below zero front long = refl
 numbers_below (suc n) front long =
@@ -174,7 +173,7 @@ numbers_below (suc n) front long =
     let others : n * 8 ≤ length (drop 8 front) = omega (arith, length-drop 8 front) in
     rw (lt-ltb (number (take 8 front)) 256 below, numbers_below n (drop 8 front) others) refl
 
-bits_of_numbers : (n : ℕ) (front : List Bool) → n * 8 ≤ length front → bits (numbers n 8 front) ++ drop (n * 8) front ≡ front
+pub bits_of_numbers : (n : ℕ) (front : List Bool) → n * 8 ≤ length front → bits (numbers n 8 front) ++ drop (n * 8) front ≡ front
 unfolding numbers
 bits_of_numbers zero front long = refl
 bits_of_numbers (suc n) front long =
@@ -277,7 +276,7 @@ fields_at-found j i (asks met d spec more) front f e =
 
 -- ---- subsets
 
-bind_ok : {A B F : Type 0} (o : Result A F) (k : A → Result B F) (y : B) → (o >>= k) ≡ Ok y → (x : A) × (o ≡ Ok x) × (k x ≡ Ok y)
+pub bind_ok : {A B F : Type 0} (o : Result A F) (k : A → Result B F) (y : B) → (o >>= k) ≡ Ok y → (x : A) × (o ≡ Ok x) × (k x ≡ Ok y)
 bind_ok (Ok x) k y e = (x, refl, e)
 bind_ok (Err fault) k y e = absurd cc
 

@@ -1,17 +1,16 @@
 -- One step of a walk is one step of fitting.
-use Rattle.bufr_tables.specs.Answers.{◌>>=◌, Fails, result_map}
-use Rattle.std.proofs.Common.{◌≡◌, ℕ, zero, suc, ◌+◌, ◌<◌, ◌≤◌, Bool, true, false, cond, List, [], ◌∷◌, ◌++◌, length, take, drop, get_or, Result, Ok, Err, refl, sym, ap, subst, ◌∙◌, arith, add-one, append_assoc, append-nil, drop-cons}
+use Rattle.bufr_tables.specs.Answers.{Fails, result_map}
+use Rattle.std.proofs.Common.{◌≡◌, ℕ, suc, ◌+◌, ◌<◌, ◌≤◌, Bool, true, false, cond, List, [], ◌∷◌, ◌++◌, length, take, drop, get_or, Result, Ok, Err, refl, sym, ap, subst, ◌∙◌, add-one, append_assoc, append-nil, drop-cons}
 use Rattle.std.specs.Prelude.{◌&&◌, ◌==◌}
 use Rattle.std.proofs.lemmas.List.{take_more, take_all, drop_all}
 use Rattle.bufr_tables.specs.declared.failure.Failure.{Failure}
 use Rattle.bufr_tables.specs.declared.failure.Failure.TheVariants.{Fault, OutOfMemory}
 use Rattle.bufr_expand.specs.declared.operators.Spec.{Spec}
-use Rattle.bufr_expand.specs.declared.walk.Step.{Step}
 use Rattle.bufr_expand.specs.declared.walk.Step.TheVariants as steps
 use Rattle.bufr_expand.specs.declared.walk.Walk.{Walk}
 use Rattle.bufr_expand.specs.declared.walk.WalkFault.{WalkFault}
-use Rattle.bufr_expand.specs.Courses.{Course, ends, stops, asks}
-use Rattle.bufr_expand.specs.Walks.{left, waits, items_met, Goes, Counted, IsBelowCount}
+use Rattle.bufr_expand.specs.Courses.{Course, asks}
+use Rattle.bufr_expand.specs.Walks.{left, items_met, Goes, Counted, IsBelowCount}
 use Rattle.bufr_data.specs.declared.field.Field.{Field}
 use Rattle.bufr_data.specs.declared.field.Subset.{Subset}
 use Rattle.bufr_data.specs.declared.fault.WriteFault.{WriteFault}

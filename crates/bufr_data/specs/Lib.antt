@@ -7,3 +7,6 @@ pub mod Steady
 pub mod Reads
 pub mod Samples
 pub mod Reasons
+pub mod Fits
+pub mod Refusals
+pub mod Causes

@@ -1,6 +1,6 @@
 -- Subsets one after the other, bit by bit (FM 94 BUFR, regulations 94.1.3 and 94.5): the bits of fields, the fields that bits spell, and
 -- the fields that a course allows.
-use Rattle.std.specs.Prelude.{ℕ, zero, suc, ◌+◌, ◌*◌, ◌/◌, ◌^◌, ◌==◌, ◌&&◌, Bool, true, false, List, [], ◌∷◌, ◌++◌, length, Option, Some, None, option_map, Result, Ok, Err, nat_lt, nat_le, if◌then◌else◌}
+use Rattle.std.specs.Prelude.{ℕ, zero, suc, ◌+◌, ◌/◌, ◌^◌, ◌==◌, ◌&&◌, Bool, false, List, [], ◌∷◌, length, Option, Some, None, option_map, Result, Ok, Err, nat_lt, nat_le, if◌then◌else◌}
 use Rattle.std.specs.List.{flat_map, list_all}
 use Rattle.bufr_bits.specs.Bits.{bin, bits, number_at, octets_at}
 use Rattle.bufr_tables.specs.Answers.{◌>>=◌}

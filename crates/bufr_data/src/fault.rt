@@ -1,7 +1,7 @@
 //! Why data can't be read or written.
 
 ghost use Rattle.std.specs.Prelude.{Some};
-ghost use Rattle.bufr_data.specs.Reasons.{read_reason};
+ghost use Rattle.bufr_data.specs.Reasons.{read_reason, write_reason};
 
 use bufr_tables::Fxy;
 use std::error::Error;
@@ -34,12 +34,24 @@ impl fmt::Display for ReadFault {
 impl Error for ReadFault {}
 
 /// The first fault of subsets that are written.
-#[derive(Clone, Copy, Debug, PartialEq, Eq, thiserror::Error)]
+#[derive(Clone, Copy, Debug, PartialEq, Eq)]
 pub enum WriteFault {
     /// This field of this subset is not one that the template allows there. Both count from 1.
-    #[error("E1 DoesNotFit {0} {1}")]
     DoesNotFit(u64, u64),
     /// The message has more than 16,777,216 items.
-    #[error("E3 TooLarge")]
     TooLarge,
 }
+
+impl fmt::Display for WriteFault {
+    ghost output = { λ why. Some (write_reason why) };
+
+    #[tactic(auto, unfolding(crate::specs::Reasons::write_reason))]
+    fn fmt<W: fmt::Write>(&self, f: &mut fmt::Formatter<W>) -> fmt::Result {
+        match self {
+            WriteFault::DoesNotFit(subset, field) => write!(f, "E1 DoesNotFit {subset} {field}"),
+            WriteFault::TooLarge => write!(f, "E3 TooLarge"),
+        }
+    }
+}
+
+impl Error for WriteFault {}

@@ -1,9 +1,88 @@
 //! Laws of plain data, for any template.
 
-ghost use Rattle.bufr_data.specs.Laws.{ReadStand, StandingAreRead};
+ghost use Rattle.bufr_data.specs.Laws.{ReadStand, StandingAreRead, CountedFit, FittingAreCounted, AllCountedFit, AllFittingAreCounted};
+ghost use Rattle.bufr_data.specs.Laws.{SubsetReadStands, SubsetStandingIsRead, SubsetsReadStand, SubsetsStandingAreRead, WrittenFit, FittingAreWritten};
+ghost use Rattle.bufr_data.specs.Laws.{FieldsRefusedCannotStand, FieldsThatCannotStandAreRefused, SubsetsRefusedCannotStand, SubsetsThatCannotStandAreRefused};
+ghost use Rattle.bufr_data.specs.Laws.{NoneStandsOnFewBits, FewBitsWhereNoneStands, FieldsRefusedMisfit, FieldMisfitsAreRefused};
+ghost use Rattle.bufr_data.specs.Laws.{SubsetsRefusedMisfit, SubsetMisfitsAreRefused};
+ghost use Rattle.bufr_data.specs.Laws.{ReadRefusedIsFirst, FirstReadIsRefused, SubsetsReadRefusedIsFirst, FirstSubsetsReadIsRefused};
+ghost use Rattle.bufr_data.specs.Laws.{WriteRefusedIsFirst, FirstWriteIsRefused, WrittenRefusedIsFirst, FirstWrittenIsRefused};
+
+use bufr_expand::{courses_are_unrollings, courses_begin_unrollings};
 
 /// Reading answers subsets exactly where they fit the template and their bits stand at the front, item counts and rest included.
 pub fn plain_data_spell_subsets()
     ensures read_stand { ReadStand }
     ensures standing_are_read { StandingAreRead }
 {}
+
+/// The subsets that are counted are those that fit the template: their fields are what its tree stands for, each raw value has its spec's
+/// form, and the items, which are those of the tree, add up to 16,777,216 at most.
+pub fn counted_subsets_fit()
+    ensures fit { CountedFit }
+    ensures counted { FittingAreCounted }
+    ensures all_fit { AllCountedFit }
+    ensures all_counted { AllFittingAreCounted }
+{
+    courses_are_unrollings();
+}
+
+/// Reading answers exactly the subsets that fit the template and stand at the front of the bits, and writing answers bits exactly where the
+/// subsets fit, and then theirs.
+pub fn fitting_subsets_are_read_and_written()
+    ensures subset_stands { SubsetReadStands }
+    ensures subset_is_read { SubsetStandingIsRead }
+    ensures subsets_stand { SubsetsReadStand }
+    ensures subsets_are_read { SubsetsStandingAreRead }
+    ensures written_fit { WrittenFit }
+    ensures fitting_are_written { FittingAreWritten }
+{
+    courses_are_unrollings();
+}
+
+/// The fault of reading is that of the first field that cannot stand in the data: the subsets and the fields before it stand there, and
+/// neither a next field nor the subset's end does.
+pub fn read_refusals_are_the_first()
+    ensures refused { FieldsRefusedCannotStand }
+    ensures cannot_stand { FieldsThatCannotStandAreRefused }
+    ensures subsets_refused { SubsetsRefusedCannotStand }
+    ensures subsets_cannot_stand { SubsetsThatCannotStandAreRefused }
+    ensures few_bits { NoneStandsOnFewBits }
+    ensures none_stands { FewBitsWhereNoneStands }
+{
+    courses_are_unrollings();
+}
+
+/// The fault of writing is that of the first place at which a subset is not a list of fields that the template allows.
+pub fn write_refusals_are_the_first()
+    ensures refused { FieldsRefusedMisfit }
+    ensures misfit { FieldMisfitsAreRefused }
+    ensures subsets_refused { SubsetsRefusedMisfit }
+    ensures subsets_misfit { SubsetMisfitsAreRefused }
+{
+    courses_are_unrollings();
+}
+
+/// The same told by what the template's tree stands for: each field before it comes next in an unrolling, and after them an item would be too
+/// many, or the next field has no spec, or the data end within it.
+pub fn read_refusals_follow_the_tree()
+    ensures refused { ReadRefusedIsFirst }
+    ensures cannot_stand { FirstReadIsRefused }
+    ensures subsets_refused { SubsetsReadRefusedIsFirst }
+    ensures subsets_cannot_stand { FirstSubsetsReadIsRefused }
+{
+    courses_are_unrollings();
+    courses_begin_unrollings();
+}
+
+/// The same of writing: each field before it comes next in an unrolling, and after them there is a field too many, or an item would be too
+/// many, or the next field has no spec, or is not there, or is another one.
+pub fn write_refusals_follow_the_tree()
+    ensures refused { WriteRefusedIsFirst }
+    ensures misfit { FirstWriteIsRefused }
+    ensures subsets_refused { WrittenRefusedIsFirst }
+    ensures subsets_misfit { FirstWrittenIsRefused }
+{
+    courses_are_unrollings();
+    courses_begin_unrollings();
+}

@@ -14,6 +14,10 @@ mod write;
 
 pub use fault::{ReadFault, WriteFault};
 pub use field::{Decimal, Field, Raw, Subset};
-pub use laws::plain_data_spell_subsets;
+pub use laws::{
+    counted_subsets_fit, fitting_subsets_are_read_and_written, plain_data_spell_subsets,
+    read_refusals_are_the_first, read_refusals_follow_the_tree, write_refusals_are_the_first,
+    write_refusals_follow_the_tree,
+};
 pub use read::read_plain;
 pub use write::write_plain;

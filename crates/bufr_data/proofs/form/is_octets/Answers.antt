@@ -1,4 +1,4 @@
-use Rattle.std.proofs.Common.{◌≡◌, ◌==◌, ◌/◌, ℕ, length}
+use Rattle.std.proofs.Common.{◌==◌, ◌/◌, length}
 use Rattle.bufr_data.proofs.OctetFacts.{octets_below, and_true}
 use Rattle.bufr_data.proofs.form.is_octets.Goals as goal
 

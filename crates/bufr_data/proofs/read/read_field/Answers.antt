@@ -1,4 +1,3 @@
-use Rattle.bufr_tables.specs.Answers.{Fails}
 use Rattle.std.proofs.lemmas.Result.{err_from_is_err_and}
 use Rattle.bufr_data.proofs.ReadFacts.{field_goes_on, count_goes_on, field_is_read, count_is_read, field_is_missing, count_is_missing, end_is_read, stop_is_read, count_read_fits}
 use Rattle.bufr_data.proofs.read.read_field.Goals as goal

@@ -1,0 +1,12 @@
+use Rattle.bufr_data.proofs.FitFacts.{counted_fit, fitting_counted, all_counted_fit, all_fitting_counted}
+use Rattle.bufr_data.proofs.laws.counted_subsets_fit.Goals as goal
+
+pub returns : goal.returns
+returns c =
+    let law = c.courses_are_unrollings.ensures in
+    record {
+      fit = counted_fit law.unrolled;
+      counted = fitting_counted law.allowed;
+      all_fit = all_counted_fit law.unrolled;
+      all_counted = all_fitting_counted law.allowed;
+    }

@@ -1,0 +1,21 @@
+use Rattle.bufr_data.proofs.CauseFacts.{Laws, read_refused_first, first_read_refused, subsets_refused_first, first_subsets_refused}
+use Rattle.bufr_data.proofs.laws.read_refusals_follow_the_tree.Goals as goal
+
+pub returns : goal.returns
+returns c =
+    let ends = c.courses_are_unrollings.ensures in
+    let begins = c.courses_begin_unrollings.ensures in
+    let laws : Laws = record {
+      unrolled = ends.unrolled;
+      allowed = ends.allowed;
+      asked = begins.asked;
+      lacking = begins.lacking;
+      too_large = begins.too_large;
+      goes_on = begins.goes_on;
+    } in
+    record {
+      refused = read_refused_first laws;
+      cannot_stand = first_read_refused laws;
+      subsets_refused = subsets_refused_first laws;
+      subsets_cannot_stand = first_subsets_refused laws;
+    }

@@ -1,0 +1,52 @@
+-- The subsets that fit a template (FM 94 BUFR, regulations 94.1.3, 94.5.4 and 94.5.5), and where they stand in the data.
+use Rattle.std.specs.Prelude.{◌≡◌, ℕ, ◌+◌, ◌/◌, ◌^◌, ◌<◌, ◌≤◌, Bool, List, [], ◌∷◌, ◌++◌, length, map}
+use Rattle.std.specs.List.{AllByRecursion}
+use Rattle.bufr_tables.specs.declared.element.Kind.TheVariants as kinds
+use Rattle.bufr_expand.specs.declared.operators.Operators.{Operators}
+use Rattle.bufr_expand.specs.declared.operators.Spec.{Spec}
+use Rattle.bufr_expand.specs.Operating.{none_in_force}
+use Rattle.bufr_expand.specs.Trees.{Tree}
+use Rattle.bufr_expand.specs.Unrolling.{Told, Unroll}
+use Rattle.bufr_data.specs.declared.field.Raw.{Raw}
+use Rattle.bufr_data.specs.declared.field.Raw.TheVariants.{Number, Text}
+use Rattle.bufr_data.specs.declared.field.Field.{Field}
+use Rattle.bufr_data.specs.declared.field.Subset.{Subset}
+use Rattle.bufr_data.specs.Plain.{number_of, plain, plain_subsets, Found, AllFound}
+
+-- a raw value has its spec's form: a text has width / 8 octets, and a number is below 2 to the power of the width. An octet is below 256,
+-- and a field of more than 64 bits has no number (the limits give a number 63 bits at most)
+pub data HasForm (spec : Spec) : Raw → Type 0 where
+  of_text : (octets : List ℕ) → spec.kind ≡ kinds.Text → length octets ≡ spec.width / 8 → AllByRecursion (λ x. x < 256) octets → HasForm spec (Text octets)
+  of_number : (n : ℕ) → (spec.kind ≡ kinds.Text → ⊥) → spec.width ≤ 64 → n < 2 ^ spec.width → HasForm spec (Number n)
+
+-- a field as an unrolling tells of it: its descriptor, its spec, and the number that counts where the field is a factor
+abbrev pub told_of : Field → Told
+told_of f = record { fxy = f.fxy; spec = f.spec; number = number_of f.raw }
+
+-- the fields of a subset fit a template's tree, and have so many items: from no operator in force on they are what the tree stands for, and
+-- each raw value has its spec's form
+pub record Fits (tree : Tree) (fields : List Field) (items : ℕ) : Type 0 where
+  pub operators : Operators
+  pub unrolled : Unroll tree none_in_force (map told_of fields) operators items
+  pub formed : AllByRecursion (λ f. HasForm f.spec f.raw) fields
+
+-- each of the subsets fits, and their items add up to so many
+abbrev pub AllFit : Tree → List Subset → ℕ → Type 0
+AllFit tree [] items = items ≡ 0
+AllFit tree (s ∷ subsets) items = (own : ℕ) × (others : ℕ) × Fits tree s.fields own × AllFit tree subsets others × (items ≡ own + others)
+
+-- fields fit in a message that had met so many items before them, and has met so many after them: at most 16,777,216
+abbrev pub FitsWithin : Tree → ℕ → List Field → ℕ → Type 0
+FitsWithin tree used fields n = (items : ℕ) × Fits tree fields items × (n ≡ used + items) × (n ≤ 16777216)
+
+-- the same of subsets
+abbrev pub AllFitWithin : Tree → ℕ → List Subset → ℕ → Type 0
+AllFitWithin tree used subsets n = (items : ℕ) × AllFit tree subsets items × (n ≡ used + items) × (n ≤ 16777216)
+
+-- a subset that fits stands at the front of the data, and these bits are left
+abbrev pub Stands : Tree → ℕ → List Bool → Found → Type 0
+Stands tree used front f = FitsWithin tree used f.fields f.items × (front ≡ plain f.fields ++ f.rest)
+
+-- so many subsets that fit stand at the front of the data one after the other, and these bits are left
+abbrev pub AllStand : Tree → ℕ → ℕ → List Bool → AllFound → Type 0
+AllStand tree n used front f = (length f.subsets ≡ n) × AllFitWithin tree used f.subsets f.items × (front ≡ plain_subsets f.subsets ++ f.rest)
