@@ -1,5 +1,5 @@
 -- What an answer that is not a fault says of the steps that it was made by.
-use Rattle.std.proofs.Common.{◌≡◌, Bool, true, false, cond, Result, Ok, Err, refl}
+use Rattle.std.proofs.Common.{◌≡◌, Bool, true, false, not, cond, Result, Ok, Err, refl}
 use Rattle.std.specs.Prelude.{◌||◌, IsOk}
 use Rattle.bufr_tables.specs.Answers.{◌>>=◌}
 
@@ -27,6 +27,10 @@ or_first false b e = refl
 pub or_second : (a b : Bool) → (a || b) ≡ false → b ≡ false
 or_second true b e = absurd cc
 or_second false b e = e
+
+pub not_false : (b : Bool) → not b ≡ false → b ≡ true
+not_false true e = refl
+not_false false e = absurd cc
 
 -- the value of an answer that is not a fault
 pub ok_value : {A F : Type 0} (x : Result A F) → IsOk x → (a : A) × (x ≡ Ok a)

@@ -16,7 +16,7 @@ length_of_descriptors (d ∷ ds) = let more = length_of_descriptors ds in omega 
 length_of_section : (contents : List ℕ) → length (section contents) ≡ 3 + length contents
 length_of_section contents = omega arith
 
-length_of_enclosed : (middle : List ℕ) → length (enclosed middle) ≡ 12 + length middle
+pub length_of_enclosed : (middle : List ℕ) → length (enclosed middle) ≡ 12 + length middle
 length_of_enclosed middle = let both = length-append middle (codes "7777") in omega arith
 
 length_of_section3 : (e : Envelope) → length (section3 e nothing_ignored) ≡ 7 + 2 * length e.descriptors
@@ -25,7 +25,7 @@ length_of_section3 e =
     let both = length-append (flat_map (bytes_high_first 2) e.descriptors) [] in
     omega arith
 
-four_parts : (a b c d : List ℕ) → length (a ++ b ++ c ++ d) ≡ length a + length b + length c + length d
+pub four_parts : (a b c d : List ℕ) → length (a ++ b ++ c ++ d) ≡ length a + length b + length c + length d
 four_parts a b c d = let first = length-append a b in let second = length-append (a ++ b) c in let third = length-append (a ++ b ++ c) d in omega arith
 
 pub length_of_sections : (e : Envelope)

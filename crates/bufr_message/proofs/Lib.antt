@@ -7,4 +7,8 @@ pub mod SpellingFacts
 pub mod SubsetFacts
 pub mod EncodingFacts
 pub mod WrittenFacts
+pub mod HeadFacts
+pub mod RefusalFacts
+pub mod FaultFacts
+pub mod UnwrittenFacts
 mod ListingFacts

@@ -48,7 +48,7 @@ message_of_spelt tables octets m slack s =
 
 -- ---- what is read is spelt
 
-template_takes : (x : Result (List Node) TemplateFault) (tree : Tree) → template_or x ≡ Ok tree → (nodes : List Node) × (x ≡ Ok nodes) × (tree_of nodes ≡ tree)
+pub template_takes : (x : Result (List Node) TemplateFault) (tree : Tree) → template_or x ≡ Ok tree → (nodes : List Node) × (x ≡ Ok nodes) × (tree_of nodes ≡ tree)
 template_takes (Ok nodes) tree e = (nodes, refl, ok_is _ _ e)
 template_takes (Err fault) tree e = absurd cc
 

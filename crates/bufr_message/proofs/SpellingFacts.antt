@@ -12,7 +12,7 @@ use Rattle.bufr_message.specs.declared.fault.Refused.TheVariants.{NotBufr, Editi
 use Rattle.bufr_message.specs.declared.message.Head.{Head}
 use Rattle.bufr_message.specs.Sections.{Envelope, Ignored, IsOctet, AreOctets, section, section1, section2, section3, section4, sections, enclosed, spelling, flag, is_present, HeadFits, EnvelopeFits, three, two, room_of, section_at, head_of, local_at, Description, descriptors_of, description_of, contents_of, sections_of, envelope_of}
 use Rattle.bufr_message.proofs.SectionFacts.{regrouped}
-use Rattle.bufr_message.proofs.AnswerFacts.{bind_ok, guard_ok, passed_ok, ok_is, or_first, or_second}
+use Rattle.bufr_message.proofs.AnswerFacts.{bind_ok, guard_ok, passed_ok, ok_is, or_first, or_second, not_false}
 
 -- ---- numbers of octets
 
@@ -31,10 +31,6 @@ two_spelt a b la lb =
 
 two_cells : (a b : ℕ) → a < 256 → b < 256 → (two a b / 256 % 256 ≡ a) × (two a b % 256 ≡ b) × (two a b < 2 ^ 16)
 two_cells a b la lb = (omega arith, omega arith, omega arith)
-
-not_false : (b : Bool) → not b ≡ false → b ≡ true
-not_false true e = refl
-not_false false e = absurd cc
 
 -- ---- section 0 and the end
 

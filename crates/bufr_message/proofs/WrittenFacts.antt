@@ -20,8 +20,8 @@ use Rattle.bufr_message.specs.declared.message.Message.{Message}
 use Rattle.bufr_message.specs.declared.fault.EncodeFault.TheVariants as faults
 use Rattle.bufr_message.specs.Sections.{IsOctet, AreOctets, nothing_ignored, spelling}
 use Rattle.bufr_message.specs.Stages.{is_covered}
-use Rattle.bufr_message.specs.Messages.{envelope_with, HoldSubsets, Spells, message_of}
-use Rattle.bufr_message.specs.Encodings.{whole_octets, some_descriptors, covered_or, template_or, data_or, within_limits, data_bits_or, enclosed_or, code}
+use Rattle.bufr_message.specs.Messages.{envelope_with, HoldSubsets, message_of}
+use Rattle.bufr_message.specs.Encodings.{whole_octets, some_descriptors, covered_or, template_or, data_or, within_limits, data_bits_or, enclosed_or, SpellsBare, code}
 use Rattle.bufr_message.specs.Laws.{NumbersFit}
 use Rattle.bufr_message.proofs.AnswerFacts.{bind_ok, guard_ok, passed_ok, ok_is, or_first, or_second}
 use Rattle.bufr_message.proofs.MessageFacts.{message_of_spelt}
@@ -29,10 +29,10 @@ use Rattle.bufr_message.proofs.MessageFacts.{message_of_spelt}
 -- ---- data bits in whole octets
 
 -- how many bits are filled in
-abbrev fill : List Bool → ℕ
+abbrev pub fill : List Bool → ℕ
 fill data_bits = 8 * ((length data_bits + 7) / 8) - length data_bits
 
-whole_octets_spelt : (data_bits : List Bool) → (bits (whole_octets data_bits) ≡ data_bits ++ replicate (fill data_bits) false) × AreOctets (whole_octets data_bits)
+pub whole_octets_spelt : (data_bits : List Bool) → (bits (whole_octets data_bits) ≡ data_bits ++ replicate (fill data_bits) false) × AreOctets (whole_octets data_bits)
 whole_octets_spelt data_bits =
     let n = (length data_bits + 7) / 8 in
     let text = data_bits ++ replicate (fill data_bits) false in
@@ -50,7 +50,7 @@ descriptors_take : (ds list : List ℕ) → some_descriptors ds ≡ Ok list → 
 descriptors_take [] list e = absurd cc
 descriptors_take (d ∷ ds) list e = (omega arith, ok_is _ _ e)
 
-template_takes : (x : Result (List Node) TemplateFault) (tree : Tree) → template_or x ≡ Ok tree → (nodes : List Node) × (x ≡ Ok nodes) × (tree_of nodes ≡ tree)
+pub template_takes : (x : Result (List Node) TemplateFault) (tree : Tree) → template_or x ≡ Ok tree → (nodes : List Node) × (x ≡ Ok nodes) × (tree_of nodes ≡ tree)
 template_takes (Ok nodes) tree e = (nodes, refl, ok_is _ _ e)
 template_takes (Err fault) tree e = absurd cc
 
@@ -69,37 +69,40 @@ limits_take m octets found e =
 
 spells_written : (tables : Entries) (m : Message) (octets : List ℕ) (nodes : List Node) (data_bits : List Bool) → NumbersFit m
     → 0 < length m.descriptors → is_covered m.compressed ≡ true → expansion tables m.descriptors ≡ Ok nodes
-    → HoldSubsets (tree_of nodes) m.subsets data_bits → enclosed_or m data_bits ≡ Ok octets → Spells tables m octets 0
+    → HoldSubsets (tree_of nodes) m.subsets data_bits → enclosed_or m data_bits ≡ Ok octets → SpellsBare tables m octets
 spells_written tables m octets nodes data_bits fit some covered template holds e =
     let whole = whole_octets_spelt data_bits in
-    let limits = limits_take m (spelling (envelope_with m (whole_octets data_bits)) nothing_ignored) octets e in
-    record {
-      contents = whole_octets data_bits;
-      ignored = nothing_ignored;
-      fits = record {
-        head = fit.head;
-        section2 = fit.section2;
-        some_descriptor = some;
-        descriptors = fit.descriptors;
-        count = limits.0;
-        contents = whole.1;
-        total = limits.1;
-        ignored = (omega arith, omega arith, omega arith, omega arith, omega arith, All-nil IsOctet, omega arith);
-      };
-      spelled = limits.2;
-      covered = covered;
-      nodes = nodes;
-      template = template;
-      data_bits = data_bits;
-      rest = replicate (fill data_bits) false;
-      begins = whole.0;
-      holds = holds;
-      after = fill_short data_bits;
-    }
+    let limits = limits_take m (spelling (envelope_with m (whole_octets data_bits)) nothing_ignored) octets e in (
+      record {
+        contents = whole_octets data_bits;
+        ignored = nothing_ignored;
+        fits = record {
+          head = fit.head;
+          section2 = fit.section2;
+          some_descriptor = some;
+          descriptors = fit.descriptors;
+          count = limits.0;
+          contents = whole.1;
+          total = limits.1;
+          ignored = (omega arith, omega arith, omega arith, omega arith, omega arith, All-nil IsOctet, omega arith);
+        };
+        spelled = limits.2;
+        covered = covered;
+        nodes = nodes;
+        template = template;
+        data_bits = data_bits;
+        rest = replicate (fill data_bits) false;
+        begins = whole.0;
+        holds = holds;
+        after = fill_short data_bits;
+      },
+      refl,
+      ap (λ n. replicate n false) (sym (length-replicate (fill data_bits) false)),
+    )
 
-pub spelt_when_written : (tables : Entries) (m : Message) (octets : List ℕ) → NumbersFit m → code tables m ≡ Ok octets → Spells tables m octets 0
+pub bare_when_written : (tables : Entries) (m : Message) (octets : List ℕ) → NumbersFit m → code tables m ≡ Ok octets → SpellsBare tables m octets
 unfolding code data_bits_or
-spelt_when_written tables m octets fit ok =
+bare_when_written tables m octets fit ok =
     let found = bind_ok (data_bits_or tables m) (enclosed_or m) octets ok in
     let list = bind_ok (some_descriptors m.descriptors) _ found.0 found.1 in
     let some = descriptors_take m.descriptors list.0 list.1 in
@@ -112,4 +115,4 @@ spelt_when_written tables m octets fit ok =
     spells_written tables m octets nodes.0 found.0 fit some.0 test.0 (ap (λ ds. expansion tables ds) some.1 ∙ nodes.1) holds found.2
 
 pub read_when_written : (tables : Entries) (m : Message) (octets : List ℕ) → NumbersFit m → code tables m ≡ Ok octets → message_of tables octets ≡ Ok (record { message = m; slack_octets = 0 })
-read_when_written tables m octets fit ok = message_of_spelt tables octets m 0 (spelt_when_written tables m octets fit ok)
+read_when_written tables m octets fit ok = message_of_spelt tables octets m 0 (bare_when_written tables m octets fit ok).0

@@ -1,5 +1,5 @@
 -- The octets that are written for a message (FM 94 BUFR, WMO-No. 306 Volume I.2: sections 0 to 5; regulation 94.1.3).
-use Rattle.std.specs.Prelude.{ℕ, ◌+◌, ◌-◌, ◌*◌, ◌/◌, ◌%◌, ◌||◌, Bool, false, List, [], ◌∷◌, ◌++◌, length, replicate, Result, Ok, Err, nat_lt, if◌then◌else◌}
+use Rattle.std.specs.Prelude.{◌≡◌, ℕ, ◌+◌, ◌-◌, ◌*◌, ◌/◌, ◌%◌, ◌||◌, Bool, false, List, [], ◌∷◌, ◌++◌, length, replicate, Result, Ok, Err, nat_lt, if◌then◌else◌}
 use Rattle.bufr_bits.specs.Bits.{numbers}
 use Rattle.bufr_tables.specs.Answers.{◌>>=◌}
 use Rattle.bufr_tables.specs.Entries.{Entries}
@@ -15,7 +15,7 @@ use Rattle.bufr_message.specs.declared.fault.EncodeFault.{EncodeFault}
 use Rattle.bufr_message.specs.declared.fault.EncodeFault.TheVariants as faults
 use Rattle.bufr_message.specs.Sections.{nothing_ignored, spelling}
 use Rattle.bufr_message.specs.Stages.{is_covered}
-use Rattle.bufr_message.specs.Messages.{envelope_with}
+use Rattle.bufr_message.specs.Messages.{envelope_with, Spells}
 
 -- bits filled with zero bits to an octet's end, as octets
 abbrev pub whole_octets : List Bool → List ℕ
@@ -60,3 +60,8 @@ enclosed_or m data_bits = within_limits m (spelling (envelope_with m (whole_octe
 -- the octets of a message, or the first fault: what is free is zero, and nothing stands behind the data but bits to the octet's end
 unfoldable pub code : Entries → Message → Result (List ℕ) EncodeFault
 code tables m = data_bits_or tables m >>= enclosed_or m
+
+-- octets spell a message with nothing in what is free: all that readers ignore is zero, section 3 has no odd octet, no octet stands after the
+-- data, and the bits that fill their last octet are zero
+abbrev pub SpellsBare : Entries → Message → List ℕ → Type 0
+SpellsBare tables m octets = (s : Spells tables m octets 0) × (s.ignored ≡ nothing_ignored) × (s.rest ≡ replicate (length s.rest) false)

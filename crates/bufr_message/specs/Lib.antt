@@ -4,6 +4,7 @@ pub mod Stages
 pub mod Subsets
 pub mod Messages
 pub mod Encodings
+pub mod Refusals
 pub mod Laws
 pub mod Samples
 pub mod Listings

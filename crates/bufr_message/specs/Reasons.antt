@@ -1,9 +1,11 @@
 -- What is printed of a refusal: its number, its name and its values.
 use Rattle.std.specs.Prelude.{ℕ, List, ◌++◌, codes, decimal}
 use Rattle.bufr_expand.specs.Reasons.{template_reason}
-use Rattle.bufr_data.specs.Reasons.{read_reason}
+use Rattle.bufr_data.specs.Reasons.{read_reason, write_reason}
 use Rattle.bufr_message.specs.declared.fault.Refused.{Refused}
 use Rattle.bufr_message.specs.declared.fault.Refused.TheVariants.{NotBufr, Edition, TotalLength, NoEnd, Section1Length, MasterTable, Section2Length, Section3Length, Section4Length, NotYet, Template, Data}
+use Rattle.bufr_message.specs.declared.fault.EncodeFault.{EncodeFault}
+use Rattle.bufr_message.specs.declared.fault.EncodeFault.TheVariants as faults
 
 -- the reason that octets spell no message
 unfoldable pub reason : Refused → List ℕ
@@ -19,3 +21,10 @@ reason Section4Length = codes "M9 Section4Length"
 reason NotYet = codes "M10 NotYet"
 reason (Template why) = template_reason why
 reason (Data why) = read_reason why
+
+-- the reason that a message has no octets
+unfoldable pub encode_reason : EncodeFault → List ℕ
+encode_reason faults.NoDescriptors = codes "E4 NoDescriptors"
+encode_reason faults.NotYet = codes "E5 NotYet"
+encode_reason (faults.Template why) = template_reason why
+encode_reason (faults.Data why) = write_reason why

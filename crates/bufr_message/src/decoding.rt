@@ -165,4 +165,6 @@ fn of_subset(number: u64, failure: Failure<ReadFault>) -> Failure<ReadFault>
 }
 
 #[cfg(test)]
+mod limits;
+#[cfg(test)]
 mod tests;

@@ -1,7 +1,7 @@
 //! Why a message is refused.
 
 ghost use Rattle.std.specs.Prelude.{Some};
-ghost use Rattle.bufr_message.specs.Reasons.{reason};
+ghost use Rattle.bufr_message.specs.Reasons.{encode_reason, reason};
 
 use bufr_data::{ReadFault, WriteFault};
 use bufr_expand::TemplateFault;
@@ -62,18 +62,30 @@ impl fmt::Display for Refused {
 impl Error for Refused {}
 
 /// The first fault of a message that has no octets. Its text is the fault's number, its name and its values.
-#[derive(Clone, Copy, Debug, PartialEq, Eq, thiserror::Error)]
+#[derive(Clone, Copy, Debug, PartialEq, Eq)]
 pub enum EncodeFault {
     /// There is no descriptor.
-    #[error("E4 NoDescriptors")]
     NoDescriptors,
     /// The message is of a kind that this version does not write.
-    #[error("E5 NotYet")]
     NotYet,
     /// The descriptors have no template.
-    #[error("{0}")]
     Template(TemplateFault),
     /// The subsets don't fit the descriptors, or are too large.
-    #[error("{0}")]
     Data(WriteFault),
 }
+
+impl fmt::Display for EncodeFault {
+    ghost output = { λ why. Some (encode_reason why) };
+
+    #[tactic(auto, unfolding(crate::specs::Reasons::encode_reason))]
+    fn fmt<W: fmt::Write>(&self, f: &mut fmt::Formatter<W>) -> fmt::Result {
+        match self {
+            EncodeFault::NoDescriptors => write!(f, "E4 NoDescriptors"),
+            EncodeFault::NotYet => write!(f, "E5 NotYet"),
+            EncodeFault::Template(why) => write!(f, "{why}"),
+            EncodeFault::Data(why) => write!(f, "{why}"),
+        }
+    }
+}
+
+impl Error for EncodeFault {}

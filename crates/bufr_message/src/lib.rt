@@ -17,5 +17,8 @@ mod stages;
 pub use decoding::decode;
 pub use encoding::encode;
 pub use fault::{EncodeFault, Refused};
-pub use laws::{messages_are_spelt, sections_are_spelt, written_messages_are_spelt};
+pub use laws::{
+    messages_are_spelt, refusals_of_messages_are_the_first, refusals_of_octets_are_the_first,
+    refusals_of_sections_are_the_first, sections_are_spelt, written_messages_are_spelt,
+};
 pub use message::{Decoded, Head, Message};

@@ -16,6 +16,7 @@ FXY,ElementName_en,BUFR_Unit,BUFR_Scale,BUFR_ReferenceValue,BUFR_DataWidth_Bits
 004004,hour,h,0,0,5
 004005,minute,min,0,0,6
 012101,temperature,K,2,0,16
+031000,short delayed descriptor replication factor,Numeric,0,0,1
 031001,delayed descriptor replication factor,Numeric,0,0,8
 ";
 
@@ -29,17 +30,23 @@ FXY1,FXY2
 301011,004003
 301012,004004
 301012,004005
+301250,301250
 ";
 
 /// The tables of the tests.
-pub fn tables(alloc: Global) -> Result<Tables, Fail> {
+pub(crate) fn tables(alloc: Global) -> Result<Tables, Fail> {
+    tables_of(alloc, SEQUENCES)
+}
+
+/// The tables of the tests with these sequences.
+pub(crate) fn tables_of(alloc: Global, sequences: &str) -> Result<Tables, Fail> {
     let b = TableB::parse(alloc, ELEMENTS.as_bytes())?;
-    let d = TableD::parse(alloc, SEQUENCES.as_bytes())?;
+    let d = TableD::parse(alloc, sequences.as_bytes())?;
     Ok(Tables::new(b, d))
 }
 
 /// The octets that hexadecimal digits are. `S1` and `END` stand for the usual section 1 and for section 5; spaces and bars part the digits.
-pub fn octets(alloc: Global, text: &str) -> Result<Vec<u8>, Fail> {
+pub(crate) fn octets(alloc: Global, text: &str) -> Result<Vec<u8>, Fail> {
     let mut digits = String::new(alloc);
     for word in text.split_whitespace() {
         let part = match word {

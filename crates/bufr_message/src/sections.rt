@@ -1,10 +1,10 @@
 //! The sections of a message, with no regard to what the data bits mean.
 
-ghost use Rattle.std.specs.Prelude.{◌≡◌, List, ℕ, Bool, Option, ◌≤◌, IfOk, drop};
+ghost use Rattle.std.specs.Prelude.{◌≡◌, List, ℕ, Bool, Option, ◌≤◌, IfOk, length, drop};
 ghost use Rattle.bufr_tables.specs.Answers.{Gives};
 ghost use Rattle.bufr_message.specs.declared.message.Head.{Head};
 ghost use Rattle.bufr_message.specs.Sections.{three, two, section_at, room_of, head_of, local_at, descriptors_of, description_of, contents_of, sections_of, envelope_of};
-ghost use Rattle.bufr_message.specs.SectionsRead.{envelope, description};
+ghost use Rattle.bufr_message.specs.SectionsRead.{envelope, description, head_with};
 
 use crate::fault::Refused;
 use crate::message::Head;
@@ -112,58 +112,44 @@ fn copied(alloc: Global, octets: &[u8]) -> Result<Items<u8>, OutOfMemory>
     Ok(Items::from_vec(Vec::from_slice(alloc, octets)?))
 }
 
+/// What the octets of section 1 behind its length say, with these octets for local use behind the nineteenth.
+fn head_with(octets: &[u8], local: Items<u8>) -> Head
+    requires { 19 ≤ length octets.now }
+    ensures { result ≡ head_with octets.now local }
+{
+    Head {
+        centre: number_of_two(octets[1], octets[2]),
+        sub_centre: number_of_two(octets[3], octets[4]),
+        update: octets[5],
+        category: octets[7],
+        international: octets[8],
+        local_category: octets[9],
+        master_version: octets[10],
+        local_version: octets[11],
+        year: number_of_two(octets[12], octets[13]),
+        month: octets[14],
+        day: octets[15],
+        hour: octets[16],
+        minute: octets[17],
+        second: octets[18],
+        local,
+    }
+}
+
 /// Section 1 behind its length: what it says, and whether section 2 is announced.
-#[tactic(auto, unfolding(crate::specs::Sections::head_of))]
 fn head_of(alloc: Global, octets: &[u8]) -> Result<(Head, bool), Failure<Refused>>
     ensures { Gives {Y = Head × Bool} (λ x. (x.0, x.1)) result (head_of octets.now) }
 {
-    let [
-        master,
-        c1,
-        c2,
-        s1,
-        s2,
-        update,
-        flags,
-        category,
-        international,
-        local_category,
-        master_version,
-        local_version,
-        y1,
-        y2,
-        month,
-        day,
-        hour,
-        minute,
-        second,
-        local @ ..,
-    ] = octets
-    else {
+    if octets.len() < 19 {
         return Err(Failure::Fault(Refused::Section1Length));
-    };
-    if *master != 0 {
-        return Err(Failure::Fault(Refused::MasterTable(*master)));
     }
+    let master = octets[0];
+    if master != 0 {
+        return Err(Failure::Fault(Refused::MasterTable(master)));
+    }
+    let (_, local) = octets.split_at(19);
     let local = copied(alloc, local)?;
-    let head = Head {
-        centre: number_of_two(*c1, *c2),
-        sub_centre: number_of_two(*s1, *s2),
-        update: *update,
-        category: *category,
-        international: *international,
-        local_category: *local_category,
-        master_version: *master_version,
-        local_version: *local_version,
-        year: number_of_two(*y1, *y2),
-        month: *month,
-        day: *day,
-        hour: *hour,
-        minute: *minute,
-        second: *second,
-        local,
-    };
-    Ok((head, *flags >= 128))
+    Ok((head_with(octets, local), octets[6] >= 128))
 }
 
 /// The octets for local use of section 2, where it is announced, and the room that is left.

@@ -397,5 +397,7 @@ fn lines_that_are_no_command(rt: HostRuntime) -> Result<(), Fail> {
         assert_eq!(rt; out.as_str(), "");
         assert!(rt; err.starts_with("error:"));
     }
+    let (_, _, err) = run(&rt, &["show"])?;
+    assert!(rt; err.contains("Usage: bufr show -b <TABLE_B> -d <TABLE_D> <FILE>\n"));
     Ok(())
 }

@@ -69,6 +69,7 @@ fn bufr<'a>(alloc: Global) -> Result<Command<'a>, AllocError>
 {
     Command::new(alloc, "bufr")
         .about("Reads BUFR edition 4 messages of the world's weather services")
+        .bin_name("bufr")?
         .no_binary_name(true)
         .subcommand_required(true)
         .subcommand(show(alloc)?)

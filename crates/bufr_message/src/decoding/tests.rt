@@ -100,6 +100,24 @@ fn local_octets_section_2_and_slack(rt: HostRuntime) -> Result<(), Fail> {
     Ok(())
 }
 
+/// Four elements in sequences and no subset, with nine octets that no subset has.
+const NO_SUBSETS: &str =
+    "42554652 00003E 04 | S1 | 00000F 00 0000 80 C101 C10B C10C 0C65 | 00000D 00 14C03F409EC01AACC0 | END";
+
+#[test]
+fn no_subsets(rt: HostRuntime) -> Result<(), Fail> {
+    let alloc = rt.alloc();
+    let tables = tables(alloc)?;
+    let text = "42554652 000035 04 | S1 | 00000F 00 0000 80 C101 C10B C10C 0C65 | 000004 00 | END";
+    let empty = read(alloc, &tables, text)?;
+    assert!(rt; empty.message.subsets.is_empty());
+    assert_eq!(rt; empty.slack_octets, 0);
+    let slack = read(alloc, &tables, NO_SUBSETS)?;
+    assert!(rt; slack.message.subsets.is_empty());
+    assert_eq!(rt; slack.slack_octets, 9);
+    Ok(())
+}
+
 #[test]
 fn what_is_ignored(rt: HostRuntime) -> Result<(), Fail> {
     let alloc = rt.alloc();
@@ -118,6 +136,23 @@ const REFUSED: &str = "\
 42554652 00002E 04 | S1 | 000008 00 0001 80 00 | 000004 00 | END = M8 Section3Length
 # no table has the element
 42554652 00002F 04 | S1 | 000009 00 0001 80 01FA | 000004 00 | END = X1 UnknownElement 001250
+# operators that are left out
+42554652 00002F 04 | S1 | 000009 00 0001 80 830C | 000004 00 | END = X3 UnsupportedOperator 203012
+42554652 00002F 04 | S1 | 000009 00 0001 80 9600 | 000004 00 | END = X3 UnsupportedOperator 222000
+# the factor is one of repetition
+42554652 000033 04 | S1 | 00000D 00 0001 80 4100 1F0B 0C65 | 000004 00 | END = X5 BadFactor 031011
+# the sequence holds itself
+42554652 00002F 04 | S1 | 000009 00 0001 80 C1FA | 000004 00 | END = X8 TooDeep
+# local_descriptor: nothing stands behind 206008 in its list
+42554652 000031 04 | S1 | 00000B 00 0001 80 4102 8608 | 000004 00 | END = X7 Dangling206 206008
+# bad_operands
+42554652 00002F 04 | S1 | 000009 00 0001 80 8500 | 000004 00 | END = X6 BadOperand 205000
+42554652 000031 04 | S1 | 00000B 00 0001 80 8640 01FA | 000004 00 | END = X6 BadOperand 206064
+# replaced_width: 127 bits more
+42554652 000031 04 | S1 | 00000B 00 0001 80 81FF 0C65 | 000004 00 | END = V1 EffectiveRange 012101
+# the descriptors come before the data, and each subset in its turn
+42554652 000031 04 | S1 | 00000B 00 0001 80 0C65 01FA | 000004 00 | END = X1 UnknownElement 001250
+42554652 000031 04 | S1 | 000009 00 0002 80 0C65 | 000006 00 6AB3 | END = V2 DataEnds 2 1
 # the last field lacks six bits
 42554652 000045 04 | S1 | 000017 00 0001 80 0101 0102 0401 0402 0403 0404 0405 0C65 | 00000C 00 14C03F409EC01AAC | END = V2 DataEnds 1 8
 ";

@@ -40,6 +40,8 @@ const KEPT: &str = "\
 42554652 000035 04 | S1 | 00000B 00 0001 80 8804 010B | 000008 00 41225C0A | END
 # local_descriptor: an element of no table, of 12 bits
 42554652 000033 04 | S1 | 00000B 00 0001 80 860C 01FA | 000006 00 0050 | END
+# message_in_character_data: a message of 52 octets as characters, 99 octets
+42554652 000063 04 | S1 | 000009 00 0001 80 8534 | 000038 00 | 42554652 000034 04 | S1 | 00000D 00 0001 80 4100 1F01 0C65 | 000005 00 00 | END | END
 ";
 
 /// Octets that are read, and behind `=` those that are written for what was read.
@@ -173,4 +175,20 @@ fn misfits(rt: HostRuntime) -> Result<(), Fail> {
     list.push(Fxy::new(0, 12, 101).ok_or("element")?)?;
     message.descriptors = Items::from_vec(list);
     assert_refused(&rt, alloc, &message, "E1 DoesNotFit 1 1")
+}
+
+/// As many subsets as there may be, of no field.
+const MOST_SUBSETS: &str = "42554652 00002F 04 | S1 | 000009 00 FFFF 80 8100 | 000004 00 | END";
+
+#[test]
+fn subset_limit(rt: HostRuntime) -> Result<(), Fail> {
+    let alloc = rt.alloc();
+    assert_written(&rt, alloc, MOST_SUBSETS, MOST_SUBSETS)?;
+    let message = read(alloc, &tables(alloc)?, MOST_SUBSETS)?;
+    let mut subsets = message.subsets.into_vec();
+    let fields = Items::from_vec(Vec::new(alloc));
+    subsets.push(Subset { fields })?;
+    let subsets = Items::from_vec(subsets);
+    let message = Message { subsets, ..message };
+    assert_refused(&rt, alloc, &message, "E3 TooLarge")
 }
