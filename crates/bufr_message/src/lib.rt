@@ -8,11 +8,11 @@ mod fault;
 mod laws;
 pub mod listing;
 mod message;
-#[cfg(test)]
-mod samples;
 mod section_octets;
 mod sections;
 mod stages;
+#[cfg(test)]
+mod test_samples;
 
 pub use decoding::decode;
 pub use encoding::encode;

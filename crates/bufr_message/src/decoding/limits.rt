@@ -1,7 +1,7 @@
 //! Messages at the limits of nodes, levels and items, and long ones. Octets and answers are typed from the rules of the format.
 
 use super::decode;
-use crate::samples::{octets, tables, tables_of};
+use crate::test_samples::{octets, tables, tables_of};
 use bufr_data::Raw;
 use bufr_tables::Tables;
 use std::alloc::Global;

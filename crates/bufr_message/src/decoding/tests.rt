@@ -2,7 +2,7 @@
 
 use super::decode;
 use crate::message::{Decoded, Head, Message};
-use crate::samples::{octets, tables};
+use crate::test_samples::{octets, tables};
 use bufr_data::Raw;
 use bufr_tables::{Fxy, Items, Tables};
 use std::alloc::Global;

@@ -3,7 +3,7 @@
 use super::encode;
 use crate::decoding::decode;
 use crate::message::Message;
-use crate::samples::{octets, tables};
+use crate::test_samples::{octets, tables};
 use bufr_data::Subset;
 use bufr_tables::{Fxy, Items, Tables};
 use std::alloc::Global;

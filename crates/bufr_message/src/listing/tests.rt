@@ -4,7 +4,7 @@
 use super::{ListingWriteFault, text_of, write_message};
 use crate::decoding::decode;
 use crate::message::Message;
-use crate::samples::{octets, tables};
+use crate::test_samples::{octets, tables};
 use bufr_bits::device::IntoWrite;
 use std::alloc::Global;
 use std::io;
