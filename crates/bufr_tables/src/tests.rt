@@ -347,6 +347,8 @@ fn faults_are_printed(rt: HostRuntime) -> Result<(), Fail> {
         assert_eq!(rt; fault.to_string(alloc)?.as_str(), text);
         assert_eq!(rt; Failure::Fault(fault).to_string(alloc)?.as_str(), text);
     }
+    let refused: Failure<TableFault> = Failure::OutOfMemory;
+    assert_eq!(rt; refused.to_string(alloc)?.as_str(), "out of memory");
     let columns = [
         (Column::Fxy, "FXY"),
         (Column::Scale, "BUFR_Scale"),

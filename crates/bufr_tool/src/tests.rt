@@ -246,6 +246,31 @@ fn faults_of_tables(rt: HostRuntime) {
     );
 }
 
+#[test]
+fn lines_of_faults(rt: HostRuntime) -> Result<(), Fail> {
+    let faults = [
+        (ToolFault::ReadFailed(Input::TableB), "read failed table B"),
+        (ToolFault::ReadFailed(Input::TableD), "read failed table D"),
+        (
+            ToolFault::EndlessInput(Input::Number(1)),
+            "endless input input 1",
+        ),
+        (
+            ToolFault::WriteFailed { written: 236 },
+            "write failed after 236 octets",
+        ),
+        (
+            ToolFault::Table(Input::TableB, TableFault::NoColumn(Column::Fxy)),
+            "table B: B1 NoColumn FXY",
+        ),
+        (ToolFault::OutOfMemory, "out of memory"),
+    ];
+    for (fault, text) in faults {
+        assert_eq!(rt; fault.to_string(rt.alloc())?.as_str(), text);
+    }
+    Ok(())
+}
+
 /// The folder for temporary files.
 fn folder(rt: &HostRuntime) -> Result<String, Fail> {
     let folder = env::temp_dir(rt)?;

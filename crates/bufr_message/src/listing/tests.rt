@@ -328,3 +328,16 @@ fn written_to_narrow_writers(rt: HostRuntime) -> Result<(), Fail> {
     assert_front(&rt, rt.alloc(), 208, Ok(()))?;
     assert_front(&rt, rt.alloc(), 1000, Ok(()))
 }
+
+#[test]
+fn faults_of_writing_are_printed(rt: HostRuntime) -> Result<(), Fail> {
+    let alloc = rt.alloc();
+    let failed = ListingWriteFault::WriteFailed { written: 235 };
+    assert_eq!(rt;
+        failed.to_string(alloc)?.as_str(),
+        "write failed after 235 octets"
+    );
+    let refused = ListingWriteFault::OutOfMemory;
+    assert_eq!(rt; refused.to_string(alloc)?.as_str(), "out of memory");
+    Ok(())
+}
