@@ -1,5 +1,7 @@
-pub mod ChangeLemmas
-pub mod KeyFacts
-pub mod PairLemmas
-pub mod ShelvedLemmas
-pub mod SortedLemmas
+pub mod AddFacts
+pub mod EntryFacts
+pub mod FrameFacts
+pub mod JudgeFacts
+pub mod ReadFacts
+pub mod TextFacts
+pub mod TextLemmas

@@ -1,48 +1,19 @@
--- What is kept, in words, and the laws of joins.
-use Rattle.std.specs.Prelude.{◌≡◌, ◌≢◌, true, false, List, [], ◌∷◌, ◌++◌}
-use Rattle.std.specs.Cmp.{IsTotalOrder}
-use Rattle.std.specs.declared.cmp.Ordering.TheVariants.{Equal}
-use Rattle.bufr_archive.specs.Keeping.{SameMembers, AreKept}
-use Rattle.bufr_archive.specs.Entries.{slot_cmp, rank_cmp, kept, changes}
-use Rattle.bufr_archive.specs.declared.entry.Entry.{Entry}
+-- Merging archives by any route gives the same.
+use Rattle.std.specs.Prelude.{◌≡◌}
+use Rattle.bufr_archive.specs.Archives.{ArchiveView, merged, IsKept}
 
--- `kept` gives the best of each slot, in order of slots
-abbrev pub KeptIsTheBest : Type 0
-KeptIsTheBest = (es : List Entry) → AreKept slot_cmp rank_cmp es (kept es)
+-- it doesn't matter which of two archives under the same tables takes in the other,
+abbrev pub MergeCommutes : Type 0
+MergeCommutes = (a b : ArchiveView) → a.tables ≡ b.tables → merged a b ≡ merged b a
 
--- no other list is that
-abbrev pub OnlyKeptIsTheBest : Type 0
-OnlyKeptIsTheBest = (es ks : List Entry) → AreKept slot_cmp rank_cmp es ks → ks ≡ kept es
+-- nor which two of three are merged first,
+abbrev pub MergeAssociates : Type 0
+MergeAssociates = (a b c : ArchiveView) → merged (merged a b) c ≡ merged a (merged b c)
 
--- neither the order of the entries nor repeats matter
-abbrev pub SameEntriesSameKept : Type 0
-SameEntriesSameKept = (es fs : List Entry) → SameMembers es fs → kept es ≡ kept fs
+-- and an archive that takes in itself stays as it is
+abbrev pub MergeIsIdempotent : Type 0
+MergeIsIdempotent = (a : ArchiveView) → IsKept a → merged a a ≡ a
 
--- nor what was dropped before
-abbrev pub KeptEarly : Type 0
-KeptEarly = (es gs : List Entry) → kept (kept es ++ gs) ≡ kept (es ++ gs)
-
--- it doesn't matter which of two joins the other
-abbrev pub JoinCommutes : Type 0
-JoinCommutes = (a b : List Entry) → kept (a ++ b) ≡ kept (b ++ a)
-
--- nor which two of three are joined first
-abbrev pub JoinAssociates : Type 0
-JoinAssociates = (a b c : List Entry) → kept (kept (a ++ b) ++ c) ≡ kept (a ++ kept (b ++ c))
-
--- and joining what is there changes nothing
-abbrev pub JoinIsIdempotent : Type 0
-JoinIsIdempotent = (es : List Entry) → kept (es ++ es) ≡ kept es
-
--- `changes` tells whether one more entry changes what is kept
-abbrev pub ChangesTells : Type 0
-ChangesTells = (es : List Entry) (e : Entry) →
-    (changes es e ≡ true → kept (es ++ e ∷ []) ≢ kept es) × (changes es e ≡ false → kept (es ++ e ∷ []) ≡ kept es)
-
--- two entries that share their slot and their rank are one
-abbrev pub NoTies : Type 0
-NoTies = (e f : Entry) → slot_cmp e f ≡ Equal → rank_cmp e f ≡ Equal → e ≡ f
-
--- slots and ranks are each in one order
-abbrev pub InOneOrder : Type 0
-InOneOrder = IsTotalOrder slot_cmp × IsTotalOrder rank_cmp
+-- what archives hold once merged is kept
+abbrev pub MergedIsKept : Type 0
+MergedIsKept = (a b : ArchiveView) → IsKept (merged a b)

@@ -1,41 +1,23 @@
-//! What is kept of entries, and that joining shelves by any route gives the same.
-ghost use Rattle.std.specs.Prelude.{◌≡◌, ℕ, List};
-ghost use Rattle.bufr_archive.specs.Entries.{station_cmp, moment_cmp, key_cmp};
-ghost use Rattle.bufr_archive.specs.Laws.{KeptIsTheBest, OnlyKeptIsTheBest, SameEntriesSameKept, KeptEarly, JoinCommutes, JoinAssociates, JoinIsIdempotent, ChangesTells, NoTies, InOneOrder};
-ghost use Rattle.bufr_archive.specs.declared.key.Key.{Key as AKey};
-ghost use Rattle.bufr_archive.specs.declared.key.Station.{Station as AStation};
-ghost use Rattle.bufr_archive.specs.declared.key.Moment.{Moment as AMoment};
+//! Laws of archives: each function states some by its contract, and does nothing.
+ghost use Rattle.bufr_archive.specs.Laws.{MergeCommutes, MergeAssociates, MergeIsIdempotent, MergedIsKept};
+ghost use Rattle.bufr_archive.specs.TextLaws.{FramesOfTexts, FramesOfFronts, TextsTell};
 
-use crate::key::{Key, Moment, Station};
-
-/// What is kept of entries is the only list in order of slots, no slot twice, that has exactly the
-/// entries whose rank none of the same slot passes.
-pub fn kept_is_the_best()
-    ensures best { KeptIsTheBest }
-    ensures only { OnlyKeptIsTheBest }
-    ensures tells { ChangesTells }
+/// Merges agree whatever their route: on archives under the same tables they are commutative,
+/// associative and idempotent.
+pub fn merges_agree()
+    ensures commutes { MergeCommutes }
+    ensures associates { MergeAssociates }
+    ensures idempotent { MergeIsIdempotent }
+    ensures kept { MergedIsKept }
 {}
 
-/// Joins agree whatever their route: on entries they are commutative, associative and idempotent,
-/// and neither order, repeats nor what was dropped before matter.
-pub fn joins_agree()
-    ensures same { SameEntriesSameKept }
-    ensures early { KeptEarly }
-    ensures commutes { JoinCommutes }
-    ensures associates { JoinAssociates }
-    ensures idempotent { JoinIsIdempotent }
-{}
-
-/// Different entries never tie.
-pub fn entries_never_tie()
-    ensures ties { NoTies }
-    ensures orders { InOneOrder }
-{}
-
-/// The order of keys is part by part: centre, category, its two sub-categories, station and
-/// moment; names are compared by octets.
-pub fn keys_in_order()
-    ensures keys { (a b : AKey) → ⟦<Key as Ord>⟧.cmp a b ≡ key_cmp a b }
-    ensures stations { (a b : AStation) → ⟦<Station as Ord>⟧.cmp a b ≡ station_cmp a b }
-    ensures moments { (a b : AMoment) → ⟦<Moment as Ord>⟧.cmp a b ≡ moment_cmp a b }
-{}
+/// The frames of a text are its entries' octets in order, whatever their character data hold, and
+/// those of a front that has the first k whole begin with these; a text told as a stream gives what
+/// it was written of.
+pub fn texts_are_cut_apart()
+    ensures frames { FramesOfTexts }
+    ensures fronts { FramesOfFronts }
+    ensures told { TextsTell }
+{
+    bufr_frame::laws::joined_frames_are_cut_apart();
+}

@@ -1,45 +1,27 @@
-//! Shelves: what an archive of reports keeps.
+//! Archives: one copy of each report, whatever route it came by.
 //!
-//! An entry is a key or none, an update number and octets. It contends for a slot: its key, or its
-//! octets where it has no key. Of the entries of one slot the one of greatest rank is kept, by
-//! update number and then by octets; all are in order of slots, those with a key first. So a shelf
-//! holds the same whatever order its entries came in, and whichever shelves were joined first.
+//! An [`Archive`] holds reports under some tables, on a [`Shelf`] of one kind: of the reports of
+//! one key that of the greatest update sequence number, and every report without key once. It
+//! writes one text, the canonical messages of what it holds in order of their slots: the same
+//! octets whatever the order in which its reports came, and whichever archives were merged first.
+//! [`read_shelf`] judges such a text from the left, in one pass.
 //!
-//! [`MapShelf`] stands on ordered maps, where `put` takes logarithmic time. [`SortedShelf`] stands
-//! on sorted vectors, where `put` also moves all that comes after its place, eight octets for each
-//! entry: it is for entries that come nearly in order, and for joins. Times in seconds, of entries
-//! with a key and 63 octets each, compiled by LLVM, on a machine of four cores with other work:
-//!
-//! | | `MapShelf` | `SortedShelf` |
-//! |---|---|---|
-//! | 1,000,000 put in random order | 1.6 | 79 |
-//! | 100,000 put in random order | 0.1 | 0.5 |
-//! | 1,000,000 put in rising order | 0.8 | 0.4 |
-//! | two shelves of 500,000 joined | 0.9 | 0.3 |
-//! | 1,000,000 copied | 0.4 | 0.4 |
-//! | 1,000,000 met by `first` and `after` | 0.2 | 0.2 |
-//!
-//! What is joined, copied and met was put in random order.
+//! Keys, entries and shelves are those of `bufr_shelves`.
 #![tactic(auto)]
 
-pub mod entry;
-mod held;
-pub mod key;
+pub mod adding;
+pub mod archive;
 pub mod laws;
-pub mod map_shelf;
-pub mod octets;
-mod rank;
-pub mod shelf;
-pub mod shelving;
-pub mod sorted_shelf;
+pub mod reading;
 
-pub use entry::{Entry, Held, JoinFault, OutOfMemory};
-pub use key::{Key, Moment, Station};
-pub use map_shelf::MapShelf;
-pub use octets::Octets;
-pub use shelf::Shelf;
-pub use shelving::shelve;
-pub use sorted_shelf::SortedShelf;
+pub use adding::{Added, RanOut, ReportList};
+pub use archive::{Archive, WriteFault};
+pub use bufr_shelves::{
+    Entry, Held, JoinFault, Key, MapShelf, Moment, Octets, OutOfMemory, Shelf, SortedShelf,
+    Station, entry, held, key, laws as shelf_laws, map_shelf, octets, shelf, shelve, shelving,
+    slot_order, sorted_shelf,
+};
+pub use reading::{EntryReader, NotAnArchive, ReadEntry, read_shelf};
 
 #[cfg(test)]
 mod tests;

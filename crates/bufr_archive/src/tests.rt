@@ -1,83 +1,96 @@
+//! Archives over both shelves.
+ghost use Rattle.std.specs.Prelude.{◌≡◌, IfOk};
+
 use super::*;
+use bufr_bits::device::IntoWrite;
+use bufr_tables::{Failure, TableB, TableD, TableFault, Tables};
+use samples::{ShortReader, ShortReports, short_key, short_message};
 use std::alloc::Global;
+use std::io;
+use std::io::{ErrorKind, Write};
 use std::process::Abort;
 use std::test::Fail;
 
-fn octets(alloc: Global, bytes: &[u8]) -> Result<Octets, OutOfMemory> {
-    Ok(Octets::new(Vec::from_slice(alloc, bytes)?))
+mod samples;
+
+fn no_tables(alloc: Global) -> Result<Tables, Failure<TableFault>> {
+    let header =
+        b"FXY,ElementName_en,BUFR_Unit,BUFR_Scale,BUFR_ReferenceValue,BUFR_DataWidth_Bits\n";
+    let b = TableB::parse(alloc, header)?;
+    let d = TableD::parse(alloc, b"FXY1,FXY2\n")?;
+    Ok(Tables::new(b, d))
 }
 
-// The key of a report of centre 98 at a station and an hour.
-fn key(station: Station, hour: u8) -> Key {
-    Key {
-        centre: 98,
-        category: 2,
-        international: 0,
-        local_category: 37,
-        station,
-        moment: Moment {
-            year: 2024,
-            month: 1,
-            day: 15,
-            hour,
-            minute: 0,
-            second: 0,
-        },
+// The octets of reports, joined.
+fn joined(alloc: Global, reports: &[(u16, u8)]) -> Result<Vec<u8>, OutOfMemory> {
+    let mut octets = Vec::new(alloc);
+    for (number, update) in reports {
+        let message = short_message((*number / 256) as u8, (*number % 256) as u8, *update);
+        octets.extend_from_slice(&message)?;
     }
+    Ok(octets)
 }
 
-fn wmo(number: i128) -> Station {
-    Station::Wmo { block: 10, number }
+fn written<S: Shelf>(alloc: Global, archive: &Archive<S>) -> Result<Vec<u8>, Fail> {
+    let mut sink = IntoWrite::new(Vec::new(alloc));
+    archive.write(&mut sink)?;
+    Ok(sink.into_inner())
 }
 
-fn put_at<S: Shelf>(
-    shelf: &mut S,
+// The archive holds these reports, in this order.
+fn assert_holds<S: Shelf>(
+    rt: &impl Abort,
     alloc: Global,
-    number: i128,
-    update: u8,
-    bytes: &[u8],
-) -> Result<bool, OutOfMemory> {
-    shelf.put(Some(key(wmo(number), 12)), update, octets(alloc, bytes)?)
-}
-
-fn put_without<S: Shelf>(
-    shelf: &mut S,
-    alloc: Global,
-    update: u8,
-    bytes: &[u8],
-) -> Result<bool, OutOfMemory> {
-    shelf.put(None, update, octets(alloc, bytes)?)
-}
-
-// The shelf has exactly these octets, in this order.
-fn assert_holds<S: Shelf>(rt: &impl Abort, shelf: &S, expected: &[&[u8]]) {
-    assert_eq!(rt; shelf.len(), expected.len());
-    let mut held = shelf.first();
-    for bytes in expected {
-        match held {
-            Some(here) => {
-                assert!(rt; here.bytes.as_slice() == *bytes);
-                held = shelf.after(here);
-            }
-            None => assert!(rt; false, "an entry is missing"),
+    archive: &Archive<S>,
+    reports: &[(u16, u8)],
+) -> Result<(), Fail> {
+    assert_eq!(rt; archive.len(), reports.len());
+    let expected = joined(alloc, reports)?;
+    assert!(rt;
+        written(alloc, archive)?.as_slice() == expected.as_slice(),
+        "{reports:?}"
+    );
+    for (number, update) in reports {
+        let (x, y) = ((*number / 256) as u8, (*number % 256) as u8);
+        if let Some(key) = short_key(x, y) {
+            let message = archive.get(&key).ok_or("there")?;
+            assert!(rt;
+                message == short_message(x, y, *update).as_slice(),
+                "{number}"
+            );
         }
     }
-    assert!(rt; held.is_none());
+    Ok(())
 }
 
-// The greater update number wins, whatever its octets and whichever comes first.
+fn add<S: Shelf>(
+    archive: &mut Archive<S>,
+    alloc: Global,
+    reports: &[(u16, u8)],
+) -> Result<Added, RanOut> {
+    archive.add_all(alloc, &ShortReports { reports })
+}
+
+fn added(reports: u128, changed: u128) -> Result<Added, RanOut> {
+    Ok(Added { reports, changed })
+}
+
 fn greater_update_wins<S: Shelf>(rt: &impl Abort, alloc: Global) -> Result<(), Fail> {
-    let mut shelf = S::new(alloc);
-    assert_holds(rt, &shelf, &[]);
-    assert!(rt; put_at(&mut shelf, alloc, 384, 0, b"original")?);
-    assert!(rt; put_at(&mut shelf, alloc, 384, 1, b"changed")?);
-    assert!(rt; !put_at(&mut shelf, alloc, 384, 0, b"original")?);
-    assert_holds(rt, &shelf, &[b"changed"]);
-    let mut other = S::new(alloc);
-    assert!(rt; put_at(&mut other, alloc, 384, 1, b"changed")?);
-    assert!(rt; !put_at(&mut other, alloc, 384, 0, b"original")?);
-    assert!(rt; !put_at(&mut other, alloc, 384, 1, b"changed")?);
-    assert_holds(rt, &other, &[b"changed"]);
+    let tables = no_tables(alloc)?;
+    let mut archive: Archive<S> = Archive::new(alloc, &tables);
+    assert_holds(rt, alloc, &archive, &[])?;
+    assert_eq!(rt; add(&mut archive, alloc, &[]), added(0, 0));
+    assert_eq!(rt;
+        add(&mut archive, alloc, &[(384, 0), (384, 1), (384, 0)]),
+        added(3, 2)
+    );
+    assert_holds(rt, alloc, &archive, &[(384, 1)])?;
+    assert_eq!(rt;
+        add(&mut archive, alloc, &[(384, 1), (999, 0), (300, 7)]),
+        added(3, 2)
+    );
+    assert_holds(rt, alloc, &archive, &[(300, 7), (384, 1), (999, 0)])?;
+    assert!(rt; archive.get(&short_key(2, 0).ok_or("a key")?).is_none());
     Ok(())
 }
 
@@ -87,47 +100,13 @@ fn update_number(rt: HostRuntime) -> Result<(), Fail> {
     greater_update_wins::<SortedShelf>(&rt, rt.alloc())
 }
 
-// Equal update numbers are settled by octets, a proper prefix first.
-fn octets_settle<S: Shelf>(rt: &impl Abort, alloc: Global) -> Result<(), Fail> {
-    let mut shelf = S::new(alloc);
-    assert!(rt; put_at(&mut shelf, alloc, 384, 0, b"ab")?);
-    assert!(rt; put_at(&mut shelf, alloc, 384, 0, b"abc")?);
-    assert!(rt; put_at(&mut shelf, alloc, 384, 0, b"abd")?);
-    assert!(rt; !put_at(&mut shelf, alloc, 384, 0, b"abc")?);
-    assert_holds(rt, &shelf, &[b"abd"]);
-    let mut other = S::new(alloc);
-    assert!(rt; put_at(&mut other, alloc, 384, 0, b"abd")?);
-    assert!(rt; !put_at(&mut other, alloc, 384, 0, b"ab")?);
-    assert!(rt; !put_at(&mut other, alloc, 384, 0, b"")?);
-    assert_holds(rt, &other, &[b"abd"]);
-    Ok(())
-}
-
-#[test]
-fn byte_order(rt: HostRuntime) -> Result<(), Fail> {
-    octets_settle::<MapShelf>(&rt, rt.alloc())?;
-    octets_settle::<SortedShelf>(&rt, rt.alloc())
-}
-
-// What has no key is kept once each, by octets, after what has one.
+// Reports without key come last, each different one once.
 fn kept_once<S: Shelf>(rt: &impl Abort, alloc: Global) -> Result<(), Fail> {
-    let mut shelf = S::new(alloc);
-    for turn in 0..3u8 {
-        assert_eq!(rt; put_without(&mut shelf, alloc, 0, b"zz")?, turn == 0);
-        assert_eq!(rt; put_without(&mut shelf, alloc, 0, b"a")?, turn == 0);
-    }
-    assert_holds(rt, &shelf, &[b"a", b"zz"]);
-    assert!(rt; put_at(&mut shelf, alloc, 384, 0, b"m")?);
-    assert!(rt; put_without(&mut shelf, alloc, 1, b"a")?);
-    assert!(rt; !put_without(&mut shelf, alloc, 0, b"a")?);
-    assert_holds(rt, &shelf, &[b"m", b"a", b"zz"]);
-    let last = shelf
-        .first()
-        .and_then(|held| shelf.after(held))
-        .ok_or("two")?;
-    assert!(rt; last.key.is_none());
-    assert_eq!(rt; last.update, 1);
-    Ok(())
+    let tables = no_tables(alloc)?;
+    let mut archive: Archive<S> = Archive::new(alloc, &tables);
+    let reports = [(7, 0), (5, 1), (384, 0), (7, 0), (5, 0), (5, 1)];
+    assert_eq!(rt; add(&mut archive, alloc, &reports), added(6, 4));
+    assert_holds(rt, alloc, &archive, &[(384, 0), (5, 0), (5, 1), (7, 0)])
 }
 
 #[test]
@@ -136,300 +115,252 @@ fn without_key(rt: HostRuntime) -> Result<(), Fail> {
     kept_once::<SortedShelf>(&rt, rt.alloc())
 }
 
-// One shelf with an original, one with its update, one with a report without key.
-fn three<S: Shelf>(alloc: Global) -> Result<(S, S, S), OutOfMemory> {
-    let mut original = S::new(alloc);
-    put_at(&mut original, alloc, 384, 0, b"original")?;
-    let mut update = S::new(alloc);
-    put_at(&mut update, alloc, 384, 1, b"changed")?;
-    let mut unkeyed = S::new(alloc);
-    put_without(&mut unkeyed, alloc, 0, b"month 13")?;
-    Ok((original, update, unkeyed))
+// An archive of these reports.
+fn archive_of<'t, S: Shelf>(
+    rt: &impl Abort,
+    alloc: Global,
+    tables: &'t Tables,
+    reports: &[(u16, u8)],
+) -> Result<Archive<'t, S>, Fail>
+    ensures { IfOk result (λ a. a.tables ≡ tables.now) }
+{
+    let mut archive: Archive<S> = Archive::new(alloc, tables);
+    let count = reports.len() as u128;
+    let Ok(found) = archive.add_all(alloc, &ShortReports { reports }) else {
+        return Err("memory")?;
+    };
+    assert_eq!(rt; Ok(found), added(count, count));
+    Ok(archive)
 }
 
-fn join_in_each_order<S: Shelf>(rt: &impl Abort, alloc: Global) -> Result<(), Fail> {
-    let (original, update, unkeyed) = three::<S>(alloc)?;
-    let mut one = original.copy()?;
-    one.join(&update)?;
-    assert_holds(rt, &one, &[b"changed"]);
-    one.join(&unkeyed)?;
-    assert_holds(rt, &one, &[b"changed", b"month 13"]);
-    let mut two = original.copy()?;
-    two.join(&unkeyed)?;
-    assert_holds(rt, &two, &[b"original", b"month 13"]);
-    two.join(&update)?;
-    assert_holds(rt, &two, &[b"changed", b"month 13"]);
-    let mut three = update.copy()?;
-    three.join(&original)?;
-    assert_holds(rt, &three, &[b"changed"]);
-    three.join(&unkeyed)?;
-    assert_holds(rt, &three, &[b"changed", b"month 13"]);
-    let mut four = unkeyed.copy()?;
-    four.join(&update)?;
-    four.join(&original)?;
-    assert_holds(rt, &four, &[b"changed", b"month 13"]);
+// The archive of the first two lists merged holds what is expected.
+fn merge_two<S: Shelf>(
+    rt: &impl Abort,
+    alloc: Global,
+    first: &[(u16, u8)],
+    second: &[(u16, u8)],
+    expected: &[(u16, u8)],
+) -> Result<(), Fail> {
+    let tables = no_tables(alloc)?;
+    let mut archive: Archive<S> = archive_of(rt, alloc, &tables, first)?;
+    let other = archive_of(rt, alloc, &tables, second)?;
+    archive.merge(&other)?;
+    assert_holds(rt, alloc, &archive, expected)?;
+    assert_holds(rt, alloc, &archive.copy()?, expected)?;
+    assert_eq!(rt; other.len(), second.len());
     Ok(())
+}
+
+fn merge_in_each_order<S: Shelf>(rt: &impl Abort, alloc: Global) -> Result<(), Fail> {
+    merge_two::<S>(rt, alloc, &[(384, 0)], &[(384, 1)], &[(384, 1)])?;
+    merge_two::<S>(rt, alloc, &[(384, 1)], &[(384, 0)], &[(384, 1)])?;
+    merge_two::<S>(rt, alloc, &[(384, 1)], &[(13, 0)], &[(384, 1), (13, 0)])?;
+    merge_two::<S>(rt, alloc, &[(13, 0)], &[(384, 1)], &[(384, 1), (13, 0)])?;
+    merge_two::<S>(
+        rt,
+        alloc,
+        &[(384, 0), (13, 0)],
+        &[(384, 1)],
+        &[(384, 1), (13, 0)],
+    )?;
+    merge_two::<S>(rt, alloc, &[(384, 0)], &[(384, 0)], &[(384, 0)])?;
+    merge_two::<S>(rt, alloc, &[(384, 0)], &[], &[(384, 0)])?;
+    merge_two::<S>(rt, alloc, &[], &[], &[])
 }
 
 #[test]
 fn merges(rt: HostRuntime) -> Result<(), Fail> {
-    join_in_each_order::<MapShelf>(&rt, rt.alloc())?;
-    join_in_each_order::<SortedShelf>(&rt, rt.alloc())
+    merge_in_each_order::<MapShelf>(&rt, rt.alloc())?;
+    merge_in_each_order::<SortedShelf>(&rt, rt.alloc())
 }
 
-fn join_with_itself<S: Shelf>(rt: &impl Abort, alloc: Global) -> Result<(), Fail> {
-    let (mut shelf, update, unkeyed) = three::<S>(alloc)?;
-    let empty = S::new(alloc);
-    shelf.join(&empty)?;
-    assert_holds(rt, &shelf, &[b"original"]);
-    let same = shelf.copy()?;
-    shelf.join(&same)?;
-    assert_holds(rt, &shelf, &[b"original"]);
-    assert_holds(rt, &same, &[b"original"]);
-    shelf.join(&update)?;
-    shelf.join(&unkeyed)?;
-    assert_holds(rt, &shelf, &[b"changed", b"month 13"]);
-    let mut first = S::new(alloc);
-    first.join(&shelf)?;
-    assert_holds(rt, &first, &[b"changed", b"month 13"]);
-    first.join(&empty)?;
-    assert_holds(rt, &first, &[b"changed", b"month 13"]);
-    Ok(())
+// A writer that takes so many octets, one in a write, and then fails.
+struct Breaks {
+    left: usize,
+    taken: Vec<u8>,
 }
 
-#[test]
-fn self_merge(rt: HostRuntime) -> Result<(), Fail> {
-    join_with_itself::<MapShelf>(&rt, rt.alloc())?;
-    join_with_itself::<SortedShelf>(&rt, rt.alloc())
+impl Write for Breaks {
+    fn write(&mut self, piece: &[u8]) -> io::Result<usize> {
+        let [first, ..] = piece else {
+            return Ok(0);
+        };
+        if self.left == 0 || self.taken.push(*first).is_err() {
+            return Err(io::Error::from(ErrorKind::Other));
+        }
+        self.left -= 1;
+        Ok(1)
+    }
+
+    fn flush(&mut self) -> io::Result<()> {
+        Ok(())
+    }
 }
 
-// Keys go part by part: centre, categories, station (numbers, identifiers, names), moment.
-fn keys_go_part_by_part<S: Shelf>(rt: &impl Abort, alloc: Global) -> Result<(), Fail> {
-    let mut shelf = S::new(alloc);
-    let ship = Station::Mobile {
-        name: octets(alloc, b"SHIP1")?,
-    };
-    shelf.put(Some(key(ship, 0)), 0, octets(alloc, b"6 ship")?)?;
-    let longer = Station::Wigos {
-        series: 0,
-        issuer: 20000,
-        number: 0,
-        name: octets(alloc, b"103840")?,
-    };
-    shelf.put(Some(key(longer, 0)), 0, octets(alloc, b"5 longer")?)?;
-    let identified = Station::Wigos {
-        series: 0,
-        issuer: 20000,
-        number: 0,
-        name: octets(alloc, b"10384")?,
-    };
-    shelf.put(
-        Some(key(identified, 23)),
-        0,
-        octets(alloc, b"4 identified")?,
-    )?;
-    shelf.put(Some(key(wmo(384), 18)), 0, octets(alloc, b"3 evening")?)?;
-    shelf.put(Some(key(wmo(-1), 19)), 0, octets(alloc, b"1 negative")?)?;
-    shelf.put(Some(key(wmo(384), 6)), 0, octets(alloc, b"2 morning")?)?;
-    let mut centre = key(wmo(999), 23);
-    centre.centre = 7;
-    shelf.put(Some(centre), 0, octets(alloc, b"0 other centre")?)?;
-    assert_holds(
-        rt,
-        &shelf,
-        &[
-            b"0 other centre",
-            b"1 negative",
-            b"2 morning",
-            b"3 evening",
-            b"4 identified",
-            b"5 longer",
-            b"6 ship",
-        ],
-    );
-    let found = shelf.get(&key(wmo(384), 18)).ok_or("there")?;
-    assert!(rt; found.bytes.as_slice() == b"3 evening".as_slice());
-    assert!(rt; shelf.get(&key(wmo(385), 18)).is_none());
-    Ok(())
-}
-
-#[test]
-fn order_of_keys(rt: HostRuntime) -> Result<(), Fail> {
-    keys_go_part_by_part::<MapShelf>(&rt, rt.alloc())?;
-    keys_go_part_by_part::<SortedShelf>(&rt, rt.alloc())
-}
-
-// What comes after an entry that the shelf does not have.
-fn after_an_absent_entry<S: Shelf>(rt: &impl Abort, alloc: Global) -> Result<(), Fail> {
-    let mut shelf = S::new(alloc);
-    put_at(&mut shelf, alloc, 2, 0, b"two")?;
-    put_at(&mut shelf, alloc, 4, 0, b"four")?;
-    put_without(&mut shelf, alloc, 0, b"b")?;
-    let absent = key(wmo(3), 12);
-    let bytes = octets(alloc, b"a")?;
-    let held = Held {
-        key: Some(&absent),
-        update: 9,
-        bytes: &bytes,
-    };
-    let next = shelf.after(held).ok_or("four")?;
-    assert!(rt; next.bytes.as_slice() == b"four".as_slice());
-    let held = Held {
-        key: None,
-        update: 9,
-        bytes: &bytes,
-    };
-    let next = shelf.after(held).ok_or("b")?;
-    assert!(rt; next.bytes.as_slice() == b"b".as_slice());
-    assert!(rt; shelf.after(next).is_none());
-    Ok(())
-}
-
-#[test]
-fn after_absent(rt: HostRuntime) -> Result<(), Fail> {
-    after_an_absent_entry::<MapShelf>(&rt, rt.alloc())?;
-    after_an_absent_entry::<SortedShelf>(&rt, rt.alloc())
-}
-
-fn entry(alloc: Global, number: Option<i128>, bytes: &[u8]) -> Result<Entry, OutOfMemory> {
-    Ok(Entry {
-        key: number.map(|number| key(wmo(number), 12)),
-        update: 0,
-        bytes: octets(alloc, bytes)?,
-    })
-}
-
-fn shelve_in_any_order<S: Shelf>(rt: &impl Abort, alloc: Global) -> Result<(), Fail> {
-    let mut some = Vec::new(alloc);
-    some.push(entry(alloc, Some(5), b"five")?)?;
-    some.push(entry(alloc, None, b"none")?)?;
-    some.push(entry(alloc, Some(1), b"one")?)?;
-    assert_holds(rt, &shelve::<S>(alloc, some)?, &[b"one", b"five", b"none"]);
-    let mut repeated = Vec::new(alloc);
-    repeated.push(entry(alloc, Some(1), b"one")?)?;
-    repeated.push(entry(alloc, Some(5), b"five")?)?;
-    repeated.push(entry(alloc, Some(1), b"one")?)?;
-    repeated.push(entry(alloc, None, b"none")?)?;
-    repeated.push(entry(alloc, None, b"none")?)?;
-    assert_holds(
-        rt,
-        &shelve::<S>(alloc, repeated)?,
-        &[b"one", b"five", b"none"],
-    );
-    assert_holds(rt, &shelve::<S>(alloc, Vec::new(alloc))?, &[]);
-    Ok(())
-}
-
-#[test]
-fn shelve_lists(rt: HostRuntime) -> Result<(), Fail> {
-    shelve_in_any_order::<MapShelf>(&rt, rt.alloc())?;
-    shelve_in_any_order::<SortedShelf>(&rt, rt.alloc())
-}
-
-#[test]
-fn octets_and_faults(rt: HostRuntime) -> Result<(), Fail> {
-    let bytes = octets(rt.alloc(), b"abc")?;
-    assert!(rt; bytes.clone()? == bytes);
-    let bytes = bytes.into_vec();
-    assert!(rt; bytes.as_slice() == b"abc".as_slice());
-    let said = format!(in rt.alloc(); "{}", JoinFault::OutOfMemory)?;
-    assert!(rt; said.as_str() == "out of memory");
-    Ok(())
-}
-
-// Each call is repeated where it was refused, and then nothing had changed: for runs in which one
-// allocation after another fails.
-fn put_or_repeat<S: Shelf>(
+// What is written of an archive to a writer that takes so many octets is the front of its text.
+fn write_some<S: Shelf>(
     rt: &impl Abort,
     alloc: Global,
-    shelf: &mut S,
-    number: Option<i128>,
-    bytes: &[u8],
-    before: &[&[u8]],
+    archive: &Archive<S>,
+    text: &[u8],
+    left: usize,
 ) {
-    for _ in 0..2u8 {
-        let answer = match number {
-            Some(number) => put_at(shelf, alloc, number, 0, bytes),
-            None => put_without(shelf, alloc, 0, bytes),
-        };
-        match answer {
-            Ok(changed) => {
-                assert!(rt; changed);
-                return;
-            }
-            Err(_) => assert_holds(rt, shelf, before),
-        }
+    let mut sink = IntoWrite::new(Breaks {
+        left,
+        taken: Vec::new(alloc),
+    });
+    let answer = archive.write(&mut sink);
+    let Breaks { left: _, taken } = sink.into_inner();
+    if left < text.len() {
+        assert_eq!(rt;
+            answer,
+            Err(WriteFault {
+                written: left as u128
+            })
+        );
+    } else {
+        assert_eq!(rt; answer, Ok(()));
     }
-    assert!(rt; false, "refused twice");
+    assert_eq!(rt; taken.len(), left.min(text.len()));
+    assert!(rt; text.starts_with(taken.as_slice()), "{left}");
 }
 
-fn join_or_repeat<S: Shelf>(
+fn write_until_it_fails<S: Shelf>(rt: &impl Abort, alloc: Global) -> Result<(), Fail> {
+    let tables = no_tables(alloc)?;
+    let reports = [(300, 0), (384, 2), (5, 0)];
+    let archive: Archive<S> = archive_of(rt, alloc, &tables, &reports)?;
+    let text = joined(alloc, &reports)?;
+    for left in 0..44usize {
+        write_some(rt, alloc, &archive, text.as_slice(), left);
+    }
+    Ok(())
+}
+
+#[test]
+fn failing_writer(rt: HostRuntime) -> Result<(), Fail> {
+    write_until_it_fails::<MapShelf>(&rt, rt.alloc())?;
+    write_until_it_fails::<SortedShelf>(&rt, rt.alloc())
+}
+
+fn breaks_at<S: Shelf>(alloc: Global, octets: &[u8]) -> Option<u64> {
+    match read_shelf::<ShortReader, S>(alloc, &ShortReader, octets) {
+        Err(Failure::Fault(NotAnArchive { place })) => Some(place),
+        _ => None,
+    }
+}
+
+fn refused_at<S: Shelf>(
     rt: &impl Abort,
-    shelf: &mut S,
-    other: &S,
-    before: &[&[u8]],
-    theirs: &[&[u8]],
-) {
-    for _ in 0..2u8 {
-        match shelf.join(other) {
-            Ok(()) => return,
-            Err(JoinFault::OutOfMemory) => {
-                assert_holds(rt, shelf, before);
-                assert_holds(rt, other, theirs);
-            }
-        }
-    }
-    assert!(rt; false, "refused twice");
+    alloc: Global,
+    reports: &[(u16, u8)],
+    place: u64,
+) -> Result<(), Fail> {
+    let text = joined(alloc, reports)?;
+    assert_eq!(rt;
+        breaks_at::<S>(alloc, text.as_slice()),
+        Some(place),
+        "{reports:?}"
+    );
+    Ok(())
 }
 
-fn copy_or_repeat<S: Shelf>(rt: &impl Abort, shelf: &S, before: &[&[u8]]) {
-    for _ in 0..2u8 {
-        match shelf.copy() {
-            Ok(copied) => {
-                assert_holds(rt, &copied, before);
-                return;
-            }
-            Err(_) => assert_holds(rt, shelf, before),
-        }
-    }
-    assert!(rt; false, "refused twice");
+fn refuse<S: Shelf>(rt: &impl Abort, alloc: Global) -> Result<(), Fail> {
+    refused_at::<S>(rt, alloc, &[(384, 0), (300, 0), (5, 0)], 14)?;
+    refused_at::<S>(rt, alloc, &[(5, 0), (300, 0), (384, 0)], 14)?;
+    refused_at::<S>(rt, alloc, &[(300, 0), (300, 1), (384, 0)], 14)?;
+    refused_at::<S>(rt, alloc, &[(300, 0), (384, 0), (384, 0)], 28)?;
+    refused_at::<S>(rt, alloc, &[(300, 0), (5, 1), (5, 0)], 28)
 }
 
-fn refuse_in_turn<S: Shelf>(rt: &impl Abort, alloc: Global) {
-    let mut shelf = S::new(alloc);
-    put_or_repeat(rt, alloc, &mut shelf, Some(2), b"two", &[]);
-    put_or_repeat(rt, alloc, &mut shelf, None, b"a", &[b"two"]);
-    put_or_repeat(rt, alloc, &mut shelf, Some(1), b"one", &[b"two", b"a"]);
-    put_or_repeat(
+// Whole entries are read, and a part of one is refused at its start.
+fn read_and_refuse<S: Shelf>(rt: &impl Abort, alloc: Global) -> Result<(), Fail> {
+    let text = joined(alloc, &[(300, 9), (384, 0), (5, 0), (5, 1)])?;
+    assert_eq!(rt; text.len(), 56);
+    for count in 0..57usize {
+        let front = &text.as_slice()[..count];
+        if count % 14 == 0 {
+            let shelf: S = read_shelf(alloc, &ShortReader, front)?;
+            assert_eq!(rt; shelf.len(), count / 14);
+        } else {
+            assert_eq!(rt;
+                breaks_at::<S>(alloc, front),
+                Some((count / 14 * 14) as u64)
+            );
+        }
+    }
+    refuse::<S>(rt, alloc)
+}
+
+#[test]
+fn archive_not_in_order(rt: HostRuntime) -> Result<(), Fail> {
+    read_and_refuse::<MapShelf>(&rt, rt.alloc())?;
+    read_and_refuse::<SortedShelf>(&rt, rt.alloc())
+}
+
+// A thousand stations in no order, all with this update number.
+fn thousand_of(alloc: Global, update: u8) -> Result<Vec<(u16, u8)>, OutOfMemory> {
+    let mut reports = Vec::new(alloc);
+    for place in 0..1000u16 {
+        reports.push(((place as u32 * 389 % 1000 + 1000) as u16, update))?;
+    }
+    Ok(reports)
+}
+
+// A thousand stations are added, merged, written and read back.
+fn a_thousand<S: Shelf>(rt: &impl Abort, alloc: Global) -> Result<(), Fail> {
+    let originals = thousand_of(alloc, 0)?;
+    let updates = thousand_of(alloc, 1)?;
+    let mut expected = Vec::new(alloc);
+    for number in 1000..2000u16 {
+        expected.push((number, 1))?;
+    }
+    merge_two::<S>(
         rt,
         alloc,
-        &mut shelf,
-        Some(1),
-        b"other",
-        &[b"one", b"two", b"a"],
-    );
-    copy_or_repeat(rt, &shelf, &[b"other", b"two", b"a"]);
-    let mut other = S::new(alloc);
-    put_or_repeat(rt, alloc, &mut other, Some(2), b"two more", &[]);
-    put_or_repeat(rt, alloc, &mut other, Some(3), b"three", &[b"two more"]);
-    put_or_repeat(rt, alloc, &mut other, None, b"b", &[b"two more", b"three"]);
-    join_or_repeat(
-        rt,
-        &mut shelf,
-        &other,
-        &[b"other", b"two", b"a"],
-        &[b"two more", b"three", b"b"],
-    );
-    assert_holds(rt, &shelf, &[b"other", b"two more", b"three", b"a", b"b"]);
-    assert_holds(rt, &other, &[b"two more", b"three", b"b"]);
+        updates.as_slice(),
+        originals.as_slice(),
+        expected.as_slice(),
+    )
+}
+
+fn read_a_thousand<S: Shelf>(rt: &impl Abort, alloc: Global) -> Result<(), Fail> {
+    let tables = no_tables(alloc)?;
+    let reports = thousand_of(alloc, 0)?;
+    let archive: Archive<S> = archive_of(rt, alloc, &tables, reports.as_slice())?;
+    let text = written(alloc, &archive)?;
+    assert_eq!(rt; text.len(), 14000);
+    let shelf: S = read_shelf(alloc, &ShortReader, text.as_slice())?;
+    assert_eq!(rt; shelf.len(), 1000);
+    Ok(())
 }
 
 #[test]
-fn refused_growths_of_a_map_shelf(rt: HostRuntime) {
-    refuse_in_turn::<MapShelf>(&rt, rt.alloc());
+fn thousand_reports(rt: HostRuntime) -> Result<(), Fail> {
+    a_thousand::<MapShelf>(&rt, rt.alloc())?;
+    a_thousand::<SortedShelf>(&rt, rt.alloc())?;
+    read_a_thousand::<MapShelf>(&rt, rt.alloc())?;
+    read_a_thousand::<SortedShelf>(&rt, rt.alloc())
+}
+
+// Each call is repeated where memory was refused: what was told is there, and then all of it.
+fn add_or_repeat<S: Shelf>(rt: &impl Abort, alloc: Global, tables: &Tables) -> Result<(), Fail> {
+    let mut archive: Archive<S> = Archive::new(alloc, tables);
+    let reports = [(300, 0), (384, 1), (5, 0)];
+    match add(&mut archive, alloc, &reports) {
+        Ok(all) => assert_eq!(rt; Ok(all), added(3, 3)),
+        Err(RanOut { done }) => {
+            assert_eq!(rt; archive.len() as u128, done);
+            let again = add(&mut archive, alloc, &reports);
+            assert_eq!(rt; again, added(3, 3 - done.min(3)));
+        }
+    }
+    assert_eq!(rt; archive.len(), 3);
+    Ok(())
 }
 
 #[test]
-fn refused_growths_of_a_sorted_shelf(rt: HostRuntime) {
-    refuse_in_turn::<SortedShelf>(&rt, rt.alloc());
+fn refused_growth_while_adding(rt: HostRuntime) -> Result<(), Fail> {
+    let tables = no_tables(rt.alloc())?;
+    add_or_repeat::<MapShelf>(&rt, rt.alloc(), &tables)?;
+    add_or_repeat::<SortedShelf>(&rt, rt.alloc(), &tables)
 }

@@ -1,4 +1,5 @@
--- Bits of octets, taken apart and put together.
+-- Bits of octets, taken apart and put together: a field by the octets in which it stands, a number's
+-- octets, one octet from two neighbours. For `BitReader::take`, `take_bytes` and `BitSink::put`.
 use Rattle.std.proofs.Common.{◌≡◌, ℕ, zero, suc, ◌+◌, ◌-◌, ◌*◌, ◌/◌, ◌%◌, ◌^◌, ◌<◌, ◌≤◌, Bool, true, false, List, [], ◌∷◌, ◌++◌, length, take, drop, replicate, get_or, refl, inl, inr, lit<, sym, ap, subst, ◌∙◌, arith, length-append, length-drop, append_assoc}
 use Rattle.std.specs.Prelude.{bit_and}
 use Rattle.std.specs.Int.{byte_at, bytes_high_first}
@@ -6,16 +7,9 @@ use Rattle.std.proofs.Math.Nat.{pow-suc, pow-le-pow_right}
 use Rattle.std.proofs.lemmas.Nat.{pow_pos, pow-add, one_shl, and_mask, shl-shr, shr-shr, shr_high, mod_low, mod_below}
 use Rattle.std.proofs.lemmas.List.{append-nil, take_at, drop_at, take-append-drop, length-take-le, length-replicate, drop-drop, take-take, drop-take, get_or-take, get_or-drop, get_or_past, drop_more}
 use Rattle.std.proofs.lemmas.Bool.{cases_lt}
-use Rattle.std.proofs.lemmas.List.Concat.{flat_map-append}
 use Rattle.bufr_bits.specs.Bits.{bin, bits, number, numbers}
-use Rattle.bufr_bits.proofs.BitFacts.{length-bin, number_below, number-bin, number_same, small_mod}
-
-pub length-bits : (octets : List ℕ) → length (bits octets) ≡ 8 * length octets
-length-bits [] = omega arith
-length-bits (x ∷ xs) = omega (arith, length-append (bin 8 x) (bits xs), length-bin 8 x, length-bits xs)
-
-pub bits-append : (xs ys : List ℕ) → bits (xs ++ ys) ≡ bits xs ++ bits ys
-bits-append xs ys = flat_map-append (bin 8) xs ys
+use Rattle.bufr_bits.specs.BitLaws.{length-bin, number_below, number-bin, number_same, small_mod}
+use Rattle.bufr_bits.specs.OctetLaws.{length-bits, bits-append, numbers-bits}
 
 -- the bits of the first octets
 pub take-bits : (k n : ℕ) (xs : List ℕ) → n ≡ 8 * k → k ≤ length xs → take n (bits xs) ≡ bits (take k xs)
@@ -31,6 +25,7 @@ drop-bits k n xs e le =
     subst (λ (ys : List ℕ). drop n (bits ys) ≡ bits (drop k xs)) (take-append-drop k xs)
     (rw (bits-append (take k xs) (drop k xs)) (drop_at (bits (take k xs)) (bits (drop k xs)) n len))
 
+-- the number of bits and of more bits behind them
 pub number-append : (xs ys : List Bool) → number (xs ++ ys) ≡ number xs * 2 ^ length ys + number ys
 unfolding number
 number-append [] ys = omega arith
@@ -67,6 +62,7 @@ bin-mod w n =
     number_same (bin w (n % 2 ^ w)) (bin w n) (length-bin w (n % 2 ^ w) ∙ sym (length-bin w n))
     (number-bin w (n % 2 ^ w) ∙ small_mod (n % 2 ^ w) (2 ^ w) below ∙ sym (number-bin w n))
 
+-- numbers with the same low bits have the same field
 pub bin_same : (w a b : ℕ) → a % 2 ^ w ≡ b % 2 ^ w → bin w a ≡ bin w b
 bin_same w a b e = sym (bin-mod w a) ∙ ap (bin w) e ∙ bin-mod w b
 
@@ -76,6 +72,7 @@ unfolding number
 number-zeros zero = refl
 number-zeros (suc n) = omega (arith, number-zeros n)
 
+-- the field of a number whose low bits are zero
 pub bin-zeros : (w n : ℕ) → n % 2 ^ w ≡ 0 → bin w n ≡ replicate w false
 bin-zeros w n e =
     number_same (bin w n) (replicate w false) (length-bin w n ∙ sym (length-replicate w false))
@@ -89,16 +86,19 @@ bin-shifted t w z n e =
     let low : n * 2 ^ z % 2 ^ z ≡ 0 = subst (λ m. m % 2 ^ z ≡ 0) same (mod_low n z 0 (pow_pos z)) in
     rw (bin-split t w z (n * 2 ^ z) e, high, bin-zeros z (n * 2 ^ z) low) refl
 
+-- powers of 256 as powers of two
 two_to_8 : (k : ℕ) → 256 ^ k ≡ 2 ^ (8 * k)
 two_to_8 zero = refl
 two_to_8 (suc k) =
     let split : 2 ^ (8 * suc k) ≡ 2 ^ 8 * 2 ^ (8 * k) = ap (λ j. 2 ^ j) (omega arith) ∙ pow-add 2 8 (8 * k) in
     rw (split, pow-suc 256 k, two_to_8 k) (omega arith)
 
+-- an octet of a number by its bits
 byte_at_bits : (k n : ℕ) → byte_at k n ≡ n / 2 ^ (8 * k) % 2 ^ 8
 byte_at_bits zero n = omega arith
 byte_at_bits (suc k) n = ap (λ p. n / p % 256) (two_to_8 (suc k))
 
+-- a field without width has no bit
 bin_none : (n : ℕ) → bin 0 n ≡ []
 unfolding bin
 bin_none n = refl
@@ -170,20 +170,6 @@ numbers-more (suc k) width t text e =
     let one : suc k + 1 ≡ suc (k + 1) = omega arith in
     rw (one, ← at) (ap (λ ys. number (take width text) ∷ ys) (numbers-more k width (k * width) (drop width text) refl))
 
-pub length-numbers : (k width : ℕ) (text : List Bool) → length (numbers k width text) ≡ k
-unfolding numbers
-length-numbers zero width text = refl
-length-numbers (suc k) width text = ap suc (length-numbers k width (drop width text))
-
--- octets are read again from their bits, whatever follows them
-pub numbers-bits : (xs : List ℕ) (rest : List Bool) → ((i : ℕ) → get_or xs i 0 < 256) → numbers (length xs) 8 (bits xs ++ rest) ≡ xs
-unfolding numbers
-numbers-bits [] rest octets = refl
-numbers-bits (x ∷ xs) rest octets =
-    let len = length-bin 8 x in
-    let x_is : number (bin 8 x) ≡ x = number-bin 8 x ∙ small_mod x (2 ^ 8) (octets 0) in
-    rw (append_assoc (bin 8 x) (bits xs) rest, take_at (bin 8 x) (bits xs ++ rest) 8 len, drop_at (bin 8 x) (bits xs ++ rest) 8 len, x_is, numbers-bits xs rest (λ i. octets (suc i))) refl
-
 -- octets read on an octet's edge
 pub numbers_aligned : (octets : List ℕ) (first n place : ℕ) → place ≡ 8 * first → first + n ≤ length octets → ((i : ℕ) → get_or octets i 0 < 256) → numbers n 8 (drop place (bits octets)) ≡ take n (drop first octets)
 numbers_aligned octets first n place e within small =
@@ -198,10 +184,12 @@ numbers_aligned octets first n place e within small =
     ] in
     rw text (subst (λ k. numbers k 8 (bits xs ++ rest) ≡ xs) len (numbers-bits xs rest below))
 
+-- two neighbours in a list
 two_octets : (xs : List ℕ) (k : ℕ) → k + 1 < length xs → take 2 (drop k xs) ≡ get_or xs k 0 ∷ get_or xs (k + 1) 0 ∷ []
 two_octets xs k h =
     rw (drop_more xs k 0 (omega arith), drop_more xs (k + 1) 0 h) refl
 
+-- no bits spell zero
 number_nil : number [] ≡ 0
 unfolding number
 number_nil = refl

@@ -1,10 +1,11 @@
--- Octets moved up into zero bits.
+-- Octets moved up into the zero bits at the end of the octet before them: for `BitSink::put_bytes`.
 use Rattle.std.proofs.Common.{◌≡◌, ℕ, ◌+◌, ◌-◌, ◌*◌, ◌/◌, ◌%◌, ◌^◌, ◌<◌, ◌≤◌, false, List, [], ◌∷◌, ◌++◌, length, take, drop, replicate, get_or, set, sym, ap, subst, ◌∙◌, arith, length-append, length-drop, append_assoc}
 use Rattle.std.proofs.lemmas.Nat.{shr_below}
 use Rattle.std.proofs.lemmas.List.{append-nil, drop_at, take_all, take-take, take-append-drop, take-append-le, take_more, take_more_set, drop-drop, drop-set-lt, get_or-take, get_or-drop, get_or_append_left, length-take-le, length-replicate, length-set, drop_all}
 use Rattle.bufr_bits.specs.Bits.{bin, bits}
 use Rattle.bufr_bits.specs.Filled.{IsFilled, moved_up}
-use Rattle.bufr_bits.proofs.BitLists.{length-bits, bits-append, bin-split, bin-mod, bin-zeros, bin-shifted}
+use Rattle.bufr_bits.specs.OctetLaws.{length-bits, bits-append}
+use Rattle.bufr_bits.proofs.BitLists.{bin-split, bin-mod, bin-zeros, bin-shifted}
 use Rattle.bufr_bits.proofs.Puts.{closed, closed_filled, last_split, last_clear, filled, cut_front, sum_fits}
 
 -- nothing is moved yet

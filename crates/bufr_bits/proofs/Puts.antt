@@ -1,4 +1,5 @@
--- Octets to which bits are put.
+-- Octets to which bits are put, which are cut and filled: for `BitSink::put`, `cut`, `fill_octet`
+-- and `into_bytes`.
 use Rattle.std.proofs.Common.{◌≡◌, ℕ, zero, suc, ◌+◌, ◌-◌, ◌*◌, ◌/◌, ◌%◌, ◌^◌, ◌<◌, ◌≤◌, Bool, false, List, [], ◌∷◌, ◌++◌, length, take, drop, replicate, get_or, set, refl, sym, ap, subst, ◌∙◌, lit<, arith, length-append, append_assoc}
 use Rattle.std.proofs.Math.Nat.{pow-le-pow_right}
 use Rattle.std.specs.Int.{bytes_high_first, div_ceil}
@@ -6,8 +7,9 @@ use Rattle.std.proofs.lemmas.Nat.{pow_pos, one_shl, pow-add, div_below, mul-add-
 use Rattle.std.proofs.lemmas.List.{append-nil, take_at, drop_at, take_all, take_more, length-take-le, length-replicate, set_at, get_or_read, get_or_append_left, drop_all, take-append-drop, take-take}
 use Rattle.bufr_bits.specs.Bits.{bin, bits, number}
 use Rattle.bufr_bits.specs.Filled.{IsFilled}
-use Rattle.bufr_bits.proofs.BitFacts.{length-bin, number-bin}
-use Rattle.bufr_bits.proofs.BitLists.{length-bits, bits-append, bin-split, bin_same, bin-shifted, bits-bytes, number-zeros, take-bits}
+use Rattle.bufr_bits.specs.BitLaws.{length-bin, number-bin}
+use Rattle.bufr_bits.specs.OctetLaws.{length-bits, bits-append}
+use Rattle.bufr_bits.proofs.BitLists.{bin-split, bin_same, bin-shifted, bits-bytes, number-zeros, take-bits}
 
 -- octets whose bits are a text and some zeros
 pub closed : (octets : List ℕ) (text : List Bool) (len zeros : ℕ) → bits octets ≡ text ++ replicate zeros false → length text ≡ len → (take len (bits octets) ≡ text) × (8 * length octets ≡ len + zeros) × (drop len (bits octets) ≡ replicate (8 * length octets - len) false)
@@ -121,6 +123,7 @@ pub last_clear : (octets : List ℕ) (i len free : ℕ) → i + 1 ≡ length oct
 last_clear octets i len free e few ends clear =
     low_clear (get_or octets i 0) free (sym (last_split octets i len free e few ends).1 ∙ clear)
 
+-- so many octets of a number
 length-bytes : (k n : ℕ) → length (bytes_high_first k n) ≡ k
 length-bytes zero n = refl
 length-bytes (suc k) n = ap suc (length-bytes k n)

@@ -1,5 +1,5 @@
--- Numbers and octets as lists of bits, the most significant bit first (FM 94 BUFR, general regulations 94.1: a message is
--- binary, and bit 1 of an octet is its most significant).
+-- Numbers and octets as lists of bits, the most significant bit first (FM 94 BUFR, general
+-- regulations 94.1: a message is binary, and bit 1 of an octet is its most significant).
 use Rattle.std.specs.Prelude.{ℕ, zero, suc, ◌+◌, ◌*◌, ◌^◌, ◌==◌, Bool, List, [], ◌∷◌, length, take, drop, Option, Some, None, nat_lt, if◌then◌else◌}
 use Rattle.std.specs.List.{flat_map}
 use Rattle.std.specs.Int.{bit_at}
@@ -29,11 +29,15 @@ all_ones width number = number + 1 == 2 ^ width
 
 -- a number of so many bits at the front, and the bits after it
 unfoldable pub number_at : ℕ → List Bool → Option (ℕ × List Bool)
-number_at width text = if nat_lt (length text) width then None else Some (number (take width text), drop width text)
+number_at width text =
+    if nat_lt (length text) width then None
+    else Some (number (take width text), drop width text)
 
 -- so many numbers of a width each at the front, and the bits after them
 unfoldable pub numbers_at : ℕ → ℕ → List Bool → Option (List ℕ × List Bool)
-numbers_at n width text = if nat_lt (length text) (n * width) then None else Some (numbers n width text, drop (n * width) text)
+numbers_at n width text =
+    if nat_lt (length text) (n * width) then None
+    else Some (numbers n width text, drop (n * width) text)
 
 -- so many octets at the front, and the bits after them
 abbrev pub octets_at : ℕ → List Bool → Option (List ℕ × List Bool)

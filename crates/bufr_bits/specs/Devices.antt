@@ -1,8 +1,8 @@
 -- What readers and writers of octets are in contracts.
 use Rattle.std.specs.Prelude.{◌≡◌, ℕ, ◌+◌, Bool, true, false, ◌||◌, nat_eq, Option, Some, List, [], ◌++◌, length, take, drop, IfSome}
 
--- a reader: the octets that are left, where it tells them; whether a read has failed; how often it was read; whether a
--- read met the end
+-- a reader: the octets that are left, where it tells them; whether a read has failed; how often it
+-- was read; whether a read met the end
 pub record Reading : Type 0 where
   pub left : Option (List ℕ)
   pub failed : Bool

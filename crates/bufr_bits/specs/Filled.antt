@@ -1,13 +1,15 @@
--- Whole octets in which bits stand (FM 94 BUFR, general regulations 94.1: sections are whole octets,
--- filled with bits set to zero).
+-- Whole octets in which bits stand (FM 94 BUFR, general regulations 94.1: sections are whole
+-- octets, filled with bits set to zero).
 use Rattle.std.specs.Prelude.{◌≡◌, ℕ, ◌<◌, ◌≤◌, ◌+◌, ◌-◌, ◌*◌, Bool, false, List, ◌++◌, length, take, drop, replicate}
 use Rattle.bufr_bits.specs.Bits.{bits}
 
 -- so many bits stand in the octets, and fewer than eight zero bits after them
 abbrev pub IsFilled : ℕ → List ℕ → Type 0
 IsFilled len octets =
-    (len ≤ 8 * length octets) × (8 * length octets < len + 8) × (drop len (bits octets) ≡ replicate (8 * length octets - len) false)
+    (len ≤ 8 * length octets) × (8 * length octets < len + 8)
+    × (drop len (bits octets) ≡ replicate (8 * length octets - len) false)
 
 -- the bits of octets without the last few of the first n octets, and then as many zero bits
 abbrev pub moved_up : ℕ → ℕ → List ℕ → List Bool
-moved_up n few octets = take (8 * n - few) (bits octets) ++ bits (drop n octets) ++ replicate few false
+moved_up n few octets =
+    take (8 * n - few) (bits octets) ++ bits (drop n octets) ++ replicate few false

@@ -1,5 +1,9 @@
+pub mod BitLaws
 pub mod Bits
+pub mod DeviceLaws
 pub mod Devices
 pub mod Ends
 pub mod Filled
 pub mod Inner
+pub mod NumberLaws
+pub mod OctetLaws

@@ -6,12 +6,14 @@ ghost use Rattle.bufr_bits.specs.Filled.{IsFilled, moved_up};
 
 use crate::OutOfMemory;
 
-/// Puts a field of `width` bits after the first `len` bits of octets that are filled with zero bits from there on.
+/// Puts a field of `width` bits after the first `len` bits of octets that are filled with zero bits
+/// from there on.
 pub fn append(octets: &mut Vec<u8>, len: u128, width: u32, number: u64) -> Result<(), OutOfMemory>
     requires width { width ≤ 64 }
     requires fits { number < 2 ^ width }
     requires filled { IsFilled len octets.old.items }
-    ensures ok { OnOk result (take (len + width) (bits octets.new.items) ≡ take len (bits octets.old.items) ++ bin width number) }
+    ensures ok { OnOk result (take (len + width) (bits octets.new.items)
+        ≡ take len (bits octets.old.items) ++ bin width number) }
     ensures filled { OnOk result (IsFilled (len + width) octets.new.items) }
     ensures err { OnErr result (octets.new.items ≡ octets.old.items) }
 {
@@ -43,11 +45,12 @@ pub fn cut_after(octets: &mut Vec<u8>, len: u128)
     }
 }
 
-/// Puts octets after the first `len` bits of octets that are filled with zero bits from there on: a copy on an octet's
-/// edge, which is moved up in place elsewhere.
+/// Puts octets after the first `len` bits of octets that are filled with zero bits from there on: a
+/// copy on an octet's edge, which is moved up in place elsewhere.
 pub fn append_octets(octets: &mut Vec<u8>, len: u128, more: &[u8]) -> Result<(), OutOfMemory>
     requires { IsFilled len octets.old.items }
-    ensures ok { OnOk result (take (len + 8 * length more.now) (bits octets.new.items) ≡ take len (bits octets.old.items) ++ bits more.now) }
+    ensures ok { OnOk result (take (len + 8 * length more.now) (bits octets.new.items)
+        ≡ take len (bits octets.old.items) ++ bits more.now) }
     ensures filled { OnOk result (IsFilled (len + 8 * length more.now) octets.new.items) }
     ensures err { OnErr result (octets.new.items ≡ octets.old.items) }
 {

@@ -1,8 +1,9 @@
 //! Reading bits.
 
-ghost use Rattle.std.specs.Prelude.{◌≡◌, ◌+◌, ◌*◌, ◌<◌, ◌≤◌, length, Some, None, IfSome, IfNone, OnSome, OnErr, OnOk, IfOk, option_map};
+ghost use Rattle.std.specs.Prelude.{◌≡◌, ◌+◌, ◌*◌, ◌<◌, ◌≤◌, length, drop, Some, None, IfSome, IfNone, OnSome, OnErr, OnOk, IfOk, option_map};
+ghost use Rattle.std.specs.Bool.{OnTrue, OnFalse};
 ghost use Rattle.bufr_bits.specs.Bits.{number_at, octets_at};
-ghost use Rattle.bufr_bits.specs.Ends.{Reading, left};
+ghost use Rattle.bufr_bits.specs.Ends.{BitPlace, left};
 
 use super::field::field;
 use super::octets::octets_from;
@@ -19,9 +20,9 @@ pub struct BitReader<'a> {
 
 impl<'a> Model for BitReader<'a> {
     ghost use Rattle.std.specs.Prelude.{◌*◌, ◌≤◌, length};
-    ghost use Rattle.bufr_bits.specs.Ends.{Reading};
+    ghost use Rattle.bufr_bits.specs.Ends.{BitPlace};
 
-    ghost Value = { Reading };
+    ghost Value = { BitPlace };
 
     ghost view = { λ r. record { octets = r.octets.now; place = r.place } };
 
@@ -51,6 +52,14 @@ impl<'a> BitReader<'a> {
         self.place
     }
 
+    /// All the octets that it was given, also those before the next bit. They may outlive the
+    /// reader.
+    pub fn octets(&self) -> &'a [u8]
+        ensures { result.now ≡ self.now.octets }
+    {
+        self.octets
+    }
+
     /// How many bits are left.
     pub fn left(&self) -> u128
         ensures bits { result ≡ length (left self.now) }
@@ -67,12 +76,31 @@ impl<'a> BitReader<'a> {
         self.place = bit;
     }
 
-    /// The next `width` bits as a number, the most significant first. There is none only where fewer are left, and the
-    /// place is then unchanged.
+    /// Steps over the next `bits` bits, and answers whether so many were left. Where fewer are, the
+    /// place is unchanged.
+    pub fn pass(&mut self, bits: u128) -> bool
+        ensures enough { OnTrue result (bits ≤ length (left self.old)) }
+        ensures passed { OnTrue result
+            (self.new ≡ record self.old { place = self.old.place + bits }) }
+        ensures rest { OnTrue result (left self.new ≡ drop bits (left self.old)) }
+        ensures short { OnFalse result (length (left self.old) < bits) }
+        ensures unmoved { OnFalse result (self.new ≡ self.old) }
+    {
+        if self.left() < bits {
+            return false;
+        }
+        self.place += bits;
+        true
+    }
+
+    /// The next `width` bits as a number, the most significant first. There is none only where
+    /// fewer are left, and the place is then unchanged.
     pub fn take(&mut self, width: u32) -> Option<u64>
         requires { width ≤ 64 }
-        ensures found { IfSome result (λ n. number_at width (left self.old) ≡ Some (n, left self.new)) }
-        ensures moved { OnSome result (self.new ≡ record self.old { place = self.old.place + width }) }
+        ensures found { IfSome result
+            (λ n. number_at width (left self.old) ≡ Some (n, left self.new)) }
+        ensures moved { OnSome result
+            (self.new ≡ record self.old { place = self.old.place + width }) }
         ensures short { IfNone result (number_at width (left self.old) ≡ None) }
         ensures unmoved { IfNone result (self.new ≡ self.old) }
     {
@@ -84,12 +112,16 @@ impl<'a> BitReader<'a> {
         Some(number)
     }
 
-    /// The next `n` octets, at any bit. There are none only where fewer bits are left, and the place is then unchanged.
-    /// Answers `OutOfMemory` where the octets' copy was refused; the place is then unchanged too.
+    /// The next `n` octets, at any bit. There are none only where fewer bits are left, and the
+    /// place is then unchanged. Answers `OutOfMemory` where the octets' copy was refused; the place
+    /// is then unchanged too.
     pub fn take_bytes(&mut self, alloc: Global, n: u64) -> Result<Option<Vec<u8>>, OutOfMemory>
-        ensures found { IfOk result (λ o. IfSome o (λ v. octets_at n (left self.old) ≡ Some (v.items, left self.new))) }
-        ensures moved { IfOk result (λ o. OnSome o (self.new ≡ record self.old { place = self.old.place + 8 * n })) }
-        ensures short { IfOk result (λ o. IfNone o ((octets_at n (left self.old) ≡ None) × (self.new ≡ self.old))) }
+        ensures found { IfOk result (λ o. IfSome o
+            (λ v. octets_at n (left self.old) ≡ Some (v.items, left self.new))) }
+        ensures moved { IfOk result (λ o. OnSome o
+            (self.new ≡ record self.old { place = self.old.place + 8 * n })) }
+        ensures short { IfOk result (λ o. IfNone o
+            ((octets_at n (left self.old) ≡ None) × (self.new ≡ self.old))) }
         ensures err { OnErr result (self.new ≡ self.old) }
     {
         let width = 8 * u128::from(n);

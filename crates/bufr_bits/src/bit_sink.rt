@@ -8,7 +8,8 @@ use crate::OutOfMemory;
 use std::alloc::Global;
 use std::marker::Model;
 
-/// Bits on the heap, to which more can be put. They stand in whole octets, the last of which is filled with zero bits.
+/// Bits on the heap, to which more can be put. They stand in whole octets, the last of which is
+/// filled with zero bits.
 #[derive(Debug, Drop)]
 pub struct BitSink {
     octets: Vec<u8>,
@@ -45,8 +46,9 @@ impl BitSink {
         self.len
     }
 
-    /// Puts a number at the end, in a field of `width` bits, the most significant first. It writes whole octets, at
-    /// most nine. Answers `OutOfMemory` where a growth was refused; nothing is then put.
+    /// Puts a number at the end, in a field of `width` bits, the most significant first. It writes
+    /// whole octets, at most nine. Answers `OutOfMemory` where a growth was refused; nothing is
+    /// then put.
     pub fn put(&mut self, width: u32, number: u64) -> Result<(), OutOfMemory>
         requires width { width ≤ 64 }
         requires fits { number < 2 ^ width }
@@ -58,7 +60,8 @@ impl BitSink {
         Ok(())
     }
 
-    /// Puts octets at the end, at any bit. Answers `OutOfMemory` where a growth was refused; nothing is then put.
+    /// Puts octets at the end, at any bit. Answers `OutOfMemory` where a growth was refused;
+    /// nothing is then put.
     pub fn put_bytes(&mut self, octets: &[u8]) -> Result<(), OutOfMemory>
         ensures ok { OnOk result (self.new ≡ self.old ++ bits octets.now) }
         ensures err { OnErr result (self.new ≡ self.old) }

@@ -15,13 +15,15 @@ pub trait Source {
     /// What contracts see of it.
     ghost reading: { Self → Reading };
 
-    /// Reads some octets into the front of the buffer, none only at the end. An error is never tried again.
+    /// Reads some octets into the front of the buffer, none only at the end. An error is never
+    /// tried again.
     fn read(&mut self, buffer: &mut [u8]) -> Result<usize, Failed>
         requires not_empty { 0 < length buffer.old }
         requires works { (reading self.old).failed ≡ false }
         requires countable { (reading self.old).reads + 1 < 2 ^ 64 }
         ensures within { IfOk result (λ n. n ≤ length buffer.new) }
-        ensures gave { IfOk result (λ n. Gave (reading self.old) (reading self.new) (take n buffer.new)) }
+        ensures gave { IfOk result
+            (λ n. Gave (reading self.old) (reading self.new) (take n buffer.new)) }
         ensures failed { OnErr result (FailedRead (reading self.old) (reading self.new)) };
 }
 
@@ -30,12 +32,14 @@ pub trait Sink {
     /// What contracts see of it.
     ghost writing: { Self → Writing };
 
-    /// Takes a front of the piece, at least one octet of a piece that has one, and answers how many octets it took.
+    /// Takes a front of the piece, at least one octet of a piece that has one, and answers how many
+    /// octets it took.
     fn write(&mut self, piece: &[u8]) -> Result<usize, Failed>
         requires { (writing self.old).failed ≡ false }
         ensures within { IfOk result (λ n. n ≤ length piece.now) }
         ensures some { IfOk result (λ n. 0 < length piece.now → 0 < n) }
-        ensures took { IfOk result (λ n. Writes (writing self.old) (writing self.new) (take n piece.now)) }
+        ensures took { IfOk result
+            (λ n. Writes (writing self.old) (writing self.new) (take n piece.now)) }
         ensures works { OnOk result ((writing self.new).failed ≡ false) }
         ensures failed { OnErr result ((writing self.new).failed ≡ true) }
         ensures kept { OnErr result (Kept (writing self.old).taken (writing self.new).taken) };
@@ -61,7 +65,8 @@ pub fn write_all<W: Sink>(sink: &mut W, text: &[u8]) -> Result<(), Unwritten>
     ensures ok { OnOk result (Writes (W.writing sink.old) (W.writing sink.new) text.now) }
     ensures works { OnOk result ((W.writing sink.new).failed ≡ false) }
     ensures written { IfErr result (λ f. f.written < length text.now) }
-    ensures front { IfErr result (λ f. Writes (W.writing sink.old) (W.writing sink.new) (take f.written text.now)) }
+    ensures front { IfErr result
+        (λ f. Writes (W.writing sink.old) (W.writing sink.new) (take f.written text.now)) }
     ensures failed { OnErr result ((W.writing sink.new).failed ≡ true) }
 {
     let mut written = 0;
@@ -86,7 +91,8 @@ pub struct FromRead<R> {
 impl<R: Read> FromRead<R> {
     /// A source of what the reader has left. It has not failed and was not read.
     pub fn new(reader: R) -> Self
-        ensures { ⟦<FromRead<R> as Source>⟧.reading result ≡ record { left = R.remaining reader; failed = false; reads = 0; met_end = false } }
+        ensures { ⟦<FromRead<R> as Source>⟧.reading result
+            ≡ record { left = R.remaining reader; failed = false; reads = 0; met_end = false } }
     {
         FromRead {
             reader,
@@ -107,7 +113,12 @@ impl<R> FromRead<R> {
 }
 
 impl<R: Read> Source for FromRead<R> {
-    ghost reading = { λ s. record { left = R.remaining s.reader; failed = s.failed; reads = s.reads; met_end = s.met_end } };
+    ghost reading = { λ s. record {
+      left = R.remaining s.reader;
+      failed = s.failed;
+      reads = s.reads;
+      met_end = s.met_end;
+    } };
 
     fn read(&mut self, buffer: &mut [u8]) -> Result<usize, Failed> {
         self.reads += 1;
@@ -124,8 +135,8 @@ impl<R: Read> Source for FromRead<R> {
     }
 }
 
-/// A sink that writes to any writer. Any error of the writer is a failure, and so is a write that takes nothing of a
-/// piece that has an octet.
+/// A sink that writes to any writer. Any error of the writer is a failure, and so is a write that
+/// takes nothing of a piece that has an octet.
 #[derive(Debug, Drop)]
 pub struct IntoWrite<W> {
     writer: W,
@@ -135,7 +146,8 @@ pub struct IntoWrite<W> {
 impl<W: Write> IntoWrite<W> {
     /// A sink that writes after what the writer holds. It has not failed.
     pub fn new(writer: W) -> Self
-        ensures { ⟦<IntoWrite<W> as Sink>⟧.writing result ≡ record { taken = W.contents writer; failed = false } }
+        ensures { ⟦<IntoWrite<W> as Sink>⟧.writing result
+            ≡ record { taken = W.contents writer; failed = false } }
     {
         IntoWrite {
             writer,

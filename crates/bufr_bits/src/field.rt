@@ -15,7 +15,8 @@ fn spelt(octets: &[u8]) -> u128
     total
 }
 
-/// The number in a field of `width` bits that begins at a bit of the octets. It reads whole octets, at most nine.
+/// The number in a field of `width` bits that begins at a bit of the octets. It reads whole octets,
+/// at most nine.
 pub fn field(octets: &[u8], place: u128, width: u32) -> u64
     requires narrow { width ≤ 64 }
     requires within { place + width ≤ 8 * length octets.now }

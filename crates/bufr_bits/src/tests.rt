@@ -1,11 +1,14 @@
-use super::device::{Failed, FromRead, IntoWrite, Sink, Source, Unwritten, write_all};
-use super::{BitReader, BitSink};
-use std::io;
-use std::io::{ErrorKind, Read, Write};
+//! Bits as they stand in messages.
+
+mod devices;
+mod sizes;
+
+use crate::{BitReader, BitSink};
 use std::process::Abort;
 use std::test::Fail;
 
-/// The data octets of 301001 301011 301012 012101: block 10, station 384, 2024-01-15 12:00, 273.15 K.
+/// The data octets of 301001 301011 301012 012101: block 10, station 384, 2024-01-15 12:00,
+/// 273.15 K.
 const SEQUENCES: [u8; 9] = [0x14, 0xC0, 0x3F, 0x40, 0x9E, 0xC0, 0x1A, 0xAC, 0xC0];
 
 /// The message whose one field is a count of 0, which is also the text of another message.
@@ -172,98 +175,27 @@ fn places_and_cuts(rt: HostRuntime) -> Result<(), Fail> {
     Ok(())
 }
 
-/// A reader that gives an octet, fails, and gives another.
-#[derive(Drop)]
-struct FailsOnce {
-    reads: u8,
-}
-
-impl Read for FailsOnce {
-    fn read(&mut self, buf: &mut [u8]) -> io::Result<usize> {
-        self.reads = self.reads.saturating_add(1);
-        if self.reads == 2 || buf.is_empty() {
-            return Err(io::Error::from(ErrorKind::Interrupted));
-        }
-        buf[0] = self.reads;
-        Ok(1)
-    }
-}
-
-/// A writer that takes an octet, and then none.
-#[derive(Drop)]
-struct TakesOne {
-    full: bool,
-}
-
-impl Write for TakesOne {
-    fn write(&mut self, buf: &[u8]) -> io::Result<usize> {
-        if self.full || buf.is_empty() {
-            return Ok(0);
-        }
-        self.full = true;
-        Ok(1)
-    }
-
-    fn flush(&mut self) -> io::Result<()> {
-        Err(io::Error::from(ErrorKind::TimedOut))
-    }
+/// The octets of a reader, which is gone when they come back.
+fn octets_behind(octets: &[u8]) -> &[u8] {
+    let mut reader = BitReader::new(octets);
+    let _ = reader.take(3);
+    reader.octets()
 }
 
 #[test]
-fn a_source_of_octets_in_memory(rt: HostRuntime) -> Result<(), Fail> {
-    let octets = [1u8, 2, 3, 4, 5];
-    let mut source = FromRead::new(octets.as_slice());
-    let mut buffer = [0; 3];
-    assert_eq!(rt; source.read(&mut buffer)?, 3);
-    assert_eq!(rt; buffer, [1, 2, 3]);
-    assert_eq!(rt; source.read(&mut buffer)?, 2);
-    assert_eq!(rt; buffer, [4, 5, 3]);
-    assert_eq!(rt; source.read(&mut buffer)?, 0);
-    assert_eq!(rt; source.read(&mut buffer)?, 0);
-    assert_eq!(rt; source.into_inner().len(), 0);
-    Ok(())
-}
-
-#[test]
-fn a_source_fails_at_any_error(rt: HostRuntime) -> Result<(), Fail> {
-    let mut source = FromRead::new(FailsOnce { reads: 0 });
-    let mut buffer = [0; 4];
-    assert_eq!(rt; source.read(&mut buffer)?, 1);
-    assert_eq!(rt; source.read(&mut buffer), Err(Failed));
-    assert_eq!(rt; source.into_inner().reads, 2);
-    Ok(())
-}
-
-#[test]
-fn a_sink_in_memory(rt: HostRuntime) -> Result<(), Fail> {
-    let mut sink = IntoWrite::new(Vec::new(rt.alloc()));
-    assert_eq!(rt; sink.write(b"BUFR")?, 4);
-    assert_eq!(rt; sink.write(&[])?, 0);
-    sink.flush()?;
-    write_all(&mut sink, b"7777").map_err(|_| Failed)?;
-    assert_eq!(rt; sink.into_inner().as_slice(), b"BUFR7777".as_slice());
-
-    let mut kept = Vec::new(rt.alloc());
-    let mut lent = IntoWrite::new(&mut kept);
-    assert_eq!(rt; lent.write(b"BUFR")?, 4);
-    let _ = lent.into_inner();
-    assert_eq!(rt; kept.as_slice(), b"BUFR".as_slice());
-    Ok(())
-}
-
-#[test]
-fn a_sink_fails_where_nothing_is_taken(rt: HostRuntime) -> Result<(), Fail> {
-    let mut sink = IntoWrite::new(TakesOne { full: false });
-    assert_eq!(rt; sink.write(&[])?, 0);
-    assert_eq!(rt; sink.write(b"BUFR")?, 1);
-    assert_eq!(rt; sink.write(b"UFR"), Err(Failed));
-
-    let mut again = IntoWrite::new(TakesOne { full: false });
-    assert_eq!(rt;
-        write_all(&mut again, b"BUFR"),
-        Err(Unwritten { written: 1 })
-    );
-    let mut flushed = IntoWrite::new(TakesOne { full: false });
-    assert_eq!(rt; flushed.flush(), Err(Failed));
-    Ok(())
+fn bits_passed(rt: HostRuntime) {
+    let mut reader = BitReader::new(&SEQUENCES);
+    assert!(rt; reader.pass(17));
+    assert_eq!(rt; reader.place(), 17);
+    assert_eq!(rt; reader.take(12), Some(2024));
+    assert!(rt; reader.pass(0));
+    assert!(rt; !reader.pass(44));
+    assert_eq!(rt; reader.place(), 29);
+    assert!(rt; !reader.pass(u128::MAX));
+    assert_eq!(rt; reader.place(), 29);
+    assert!(rt; reader.pass(43));
+    assert_eq!(rt; reader.left(), 0);
+    assert!(rt; !reader.pass(1));
+    assert!(rt; reader.pass(0));
+    assert_eq!(rt; octets_behind(&SEQUENCES), SEQUENCES.as_slice());
 }

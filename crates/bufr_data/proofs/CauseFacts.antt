@@ -1,22 +1,21 @@
 -- What a course refuses after some fields is what the template's tree does not go on with.
-use Rattle.std.proofs.Common.{◌≡◌, ℕ, ◌+◌, ◌≤◌, Bool, List, [], ◌∷◌, ◌++◌, length, Err, refl, sym, ap, subst, ◌∙◌, arith, ◌⊎◌, inl, inr}
+use Rattle.std.proofs.Common.{◌≡◌, ℕ, ◌+◌, ◌≤◌, Bool, false, List, [], ◌∷◌, ◌++◌, length, Err, refl, sym, ap, subst, ◌∙◌, arith, ◌⊎◌, inl, inr}
 use Rattle.std.specs.Prelude.{map, ◌↔◌}
 use Rattle.std.proofs.lemmas.Bool.{cases_lt}
 use Rattle.bufr_expand.specs.declared.operators.Operators.{Operators}
 use Rattle.bufr_expand.specs.declared.operators.Spec.{Spec}
 use Rattle.bufr_expand.specs.declared.walk.WalkFault.TheVariants as walks
-use Rattle.bufr_expand.specs.Operating.{none_in_force}
 use Rattle.bufr_expand.specs.Courses.{Course, ends, stops, asks, course}
 use Rattle.bufr_expand.specs.Trees.{Tree}
-use Rattle.bufr_expand.specs.Unrolling.{Told, After, Unroll}
-use Rattle.bufr_expand.specs.Beginning.{Next, wants, lacks, Begins, BeginsWithin, GoesOn, PassesLimit, AsksAfter}
+use Rattle.bufr_expand.specs.Unrolling.{Told, After, SubsetUnrolls}
+use Rattle.bufr_expand.specs.Beginning.{Next, wants, lacks, SubsetBegins, BeginsWithin, MeetsItems, PassesLimit, AsksAfter}
 use Rattle.bufr_data.specs.declared.field.Field.{Field}
 use Rattle.bufr_data.specs.declared.fault.ReadFault.{ReadFault}
 use Rattle.bufr_data.specs.declared.fault.WriteFault.{WriteFault}
 use Rattle.bufr_data.specs.declared.fault.WriteFault.TheVariants as misfits
 use Rattle.bufr_data.specs.declared.field.Subset.{Subset}
 use Rattle.bufr_data.specs.Plain.{number_of, fields_at, subsets_at, items_of}
-use Rattle.bufr_data.specs.Subsets.{written_bits}
+use Rattle.bufr_data.specs.Data.{written_bits}
 use Rattle.bufr_data.specs.Fits.{HasForm, told_of}
 use Rattle.bufr_data.specs.Refusals.{IsAsked, Passes, CannotStand, FieldRefused, SubsetRefused, CannotGoOn, FieldMisfits, SubsetMisfits}
 use Rattle.bufr_data.specs.Causes.{Begin, NoneFollows, no_room, no_spec, no_bits, FirstRefused, FirstSubsetRefused, NotAllowed, too_many, past_limit, without_spec, another, FirstMisfit, FirstSubsetMisfit}
@@ -34,7 +33,7 @@ abbrev pub IsTooLargeNext : Type 0
 IsTooLargeNext = (t : Tree) (used : ℕ) (fields : List Told) (later : Course) → used ≤ 16777216 → After (course t used) fields later → (later ≡ stops 16777216 walks.TooLarge) ↔ PassesLimit t used fields
 
 abbrev pub IsOnward : Type 0
-IsOnward = (t : Tree) (used : ℕ) (fields : List Told) (later : Course) → used ≤ 16777216 → After (course t used) fields later → (n : ℕ) × GoesOn t fields n
+IsOnward = (t : Tree) (used : ℕ) (fields : List Told) (later : Course) → used ≤ 16777216 → After (course t used) fields later → (n : ℕ) × MeetsItems t fields n
 
 pub record Laws : Type 0 where
   pub unrolled : AreUnrolled
@@ -46,7 +45,7 @@ pub record Laws : Type 0 where
 
 -- ---- fields that pass
 
-passes_after : (c : Course) (fields : List Field) (next : Course) → Passes c fields next → After c (map told_of fields) next × Formed fields
+pub passes_after : (c : Course) (fields : List Field) (next : Course) → Passes c fields next → After c (map told_of fields) next × Formed fields
 unfolding After
 passes_after c [] next h = (h, tt)
 passes_after (ends n) (f ∷ fields) next h = absurd h
@@ -55,7 +54,7 @@ passes_after (asks met d spec more) (f ∷ fields) next h =
     let others = passes_after (more (number_of f.raw)) fields next h.1 in
     ((h.0.0, h.0.1, others.0), (subst (λ (s : Spec). HasForm s f.raw) (sym h.0.1) h.0.2, others.1))
 
-after_passes : (c : Course) (fields : List Field) (next : Course) → After c (map told_of fields) next → Formed fields → Passes c fields next
+pub after_passes : (c : Course) (fields : List Field) (next : Course) → After c (map told_of fields) next → Formed fields → Passes c fields next
 unfolding After
 after_passes c [] next h formed = h
 after_passes (ends n) (f ∷ fields) next h formed = absurd h
@@ -100,7 +99,7 @@ last_of (g ∷ fields) =
       | inr some ↦ inr (g ∷ some.0, some.1, ap (λ fs. g ∷ fs) some.2)
     ]
 
-begun : Laws → (tree : Tree) (used : ℕ) (fields : List Field) (next : Course) → used ≤ 16777216 → Passes (course tree used) fields next → Begin tree used fields
+pub begun : Laws → (tree : Tree) (used : ℕ) (fields : List Field) (next : Course) → used ≤ 16777216 → Passes (course tree used) fields next → Begin tree used fields
 begun laws tree used fields next le h =
     let a = passes_after (course tree used) fields next h in
     record {
@@ -115,7 +114,7 @@ unfolding After
 nothing_before c fields e = (c, subst (λ (fs : List Field). After c (map told_of fs) c) (sym e) refl)
 
 -- fields with which a subset can begin leave some course
-begun_after : Laws → (tree : Tree) (used : ℕ) (fields : List Field) → used ≤ 16777216 → Begin tree used fields → (next : Course) × After (course tree used) (map told_of fields) next
+pub begun_after : Laws → (tree : Tree) (used : ℕ) (fields : List Field) → used ≤ 16777216 → Begin tree used fields → (next : Course) × After (course tree used) (map told_of fields) next
 begun_after laws tree used fields le b =
     elim (last_of fields) [
       | inl none ↦ nothing_before (course tree used) fields none
@@ -132,7 +131,7 @@ begun_after laws tree used fields le b =
 
 -- ---- no room
 
-next_anyway : Laws → (tree : Tree) (used k n : ℕ) (fields : List Told) (next : Next) → used ≤ 16777216 → used + k ≤ 16777216 → Begins tree none_in_force fields next k → After (course tree used) fields (stops n walks.TooLarge) → ⊥
+next_anyway : Laws → (tree : Tree) (used k n : ℕ) (fields : List Told) (next : Next) → used ≤ 16777216 → used + k ≤ 16777216 → SubsetBegins tree fields next k → After (course tree used) fields (stops n walks.TooLarge) → ⊥
 next_anyway laws tree used k n fields (wants d spec) le room begins stopped =
     let r = (laws.asked tree used fields (used + k) d spec le).1 (k, begins, refl, room) in
     let e : ◌≡◌ {A = Course} (stops n walks.TooLarge) (asks (used + k) d spec r.0) = one_left (course tree used) fields _ _ stopped r.1 in
@@ -142,17 +141,17 @@ next_anyway laws tree used k n fields (lacks d) le room begins stopped =
     let e : stops n walks.TooLarge ≡ stops (used + k) (walks.EffectiveRange d) = one_left (course tree used) fields _ _ stopped r in
     cc
 
-end_anyway : Laws → (tree : Tree) (used k n : ℕ) (fields : List Told) (r : Operators) → used + k ≤ 16777216 → Unroll tree none_in_force fields r k → After (course tree used) fields (stops n walks.TooLarge) → ⊥
+end_anyway : Laws → (tree : Tree) (used k n : ℕ) (fields : List Told) (r : Operators) → used + k ≤ 16777216 → SubsetUnrolls tree fields r k → After (course tree used) fields (stops n walks.TooLarge) → ⊥
 end_anyway laws tree used k n fields r room unrolled stopped =
     let a = laws.allowed tree used fields (used + k) (r, k, unrolled, refl, room) in
     let e : stops n walks.TooLarge ≡ ends (used + k) = one_left (course tree used) fields _ _ stopped a in
     cc
 
-anyway : Laws → (tree : Tree) (used k n : ℕ) (fields : List Told) → used ≤ 16777216 → used + k ≤ 16777216 → GoesOn tree fields k → After (course tree used) fields (stops n walks.TooLarge) → ⊥
+anyway : Laws → (tree : Tree) (used k n : ℕ) (fields : List Told) → used ≤ 16777216 → used + k ≤ 16777216 → MeetsItems tree fields k → After (course tree used) fields (stops n walks.TooLarge) → ⊥
 anyway laws tree used k n fields le room (inl next) stopped = next_anyway laws tree used k n fields next.0 le room next.1 stopped
 anyway laws tree used k n fields le room (inr end) stopped = end_anyway laws tree used k n fields end.0 room end.1 stopped
 
-limit_passed : Laws → (tree : Tree) (used n : ℕ) (fields : List Told) → used ≤ 16777216 → After (course tree used) fields (stops n walks.TooLarge) → PassesLimit tree used fields
+pub limit_passed : Laws → (tree : Tree) (used n : ℕ) (fields : List Told) → used ≤ 16777216 → After (course tree used) fields (stops n walks.TooLarge) → PassesLimit tree used fields
 limit_passed laws tree used n fields le stopped =
     let g = laws.goes_on tree used fields _ le stopped in
     elim (cases_lt 16777216 (used + g.0)) [
@@ -285,7 +284,7 @@ write_refused_first laws tree j used fields fault le e = misfit_of_course laws t
 pub first_write_refused : Laws → (tree : Tree) (j used : ℕ) (fields : List Field) (fault : WriteFault) → used ≤ 16777216 → FirstMisfit tree j used fields fault → items_of j 1 (course tree used) fields ≡ Err fault
 first_write_refused laws tree j used fields fault le m = misfit_refused j 1 (course tree used) fields fault (course_of_misfit laws tree j used fields fault le m)
 
-pub written_refused_first : Laws → (tree : Tree) (subsets : List Subset) (fault : WriteFault) → written_bits tree subsets ≡ Err fault → FirstSubsetMisfit tree subsets fault
+pub written_refused_first : Laws → (tree : Tree) (subsets : List Subset) (fault : WriteFault) → written_bits tree false subsets ≡ Err fault → FirstSubsetMisfit tree subsets fault
 written_refused_first laws tree subsets fault e =
     let m = written_refused_misfit laws.unrolled tree subsets fault e in
     record {
@@ -298,7 +297,7 @@ written_refused_first laws tree subsets fault e =
       refused = misfit_of_course laws tree (1 + length m.before) m.items m.here.fields fault m.fit.3 m.refused;
     }
 
-pub first_written_refused : Laws → (tree : Tree) (subsets : List Subset) (fault : WriteFault) → FirstSubsetMisfit tree subsets fault → written_bits tree subsets ≡ Err fault
+pub first_written_refused : Laws → (tree : Tree) (subsets : List Subset) (fault : WriteFault) → FirstSubsetMisfit tree subsets fault → written_bits tree false subsets ≡ Err fault
 first_written_refused laws tree subsets fault m =
     let s : SubsetMisfits tree 1 0 subsets fault = record {
       before = m.before;

@@ -1,5 +1,5 @@
 -- What is counted fits the template: its fields are an unrolling of the tree, and each raw value has its spec's form.
-use Rattle.std.proofs.Common.{◌≡◌, ℕ, ◌+◌, ◌/◌, ◌^◌, ◌<◌, ◌≤◌, Bool, true, List, [], ◌∷◌, length, Result, Ok, Err, refl, sym, ap, subst, ◌∙◌, arith}
+use Rattle.std.proofs.Common.{◌≡◌, ℕ, ◌+◌, ◌/◌, ◌^◌, ◌<◌, ◌≤◌, Bool, true, false, List, [], ◌∷◌, length, Result, Ok, Err, refl, sym, ap, subst, ◌∙◌, arith}
 use Rattle.std.specs.Prelude.{◌==◌, ◌&&◌, nat_lt, nat_le, map}
 use Rattle.std.specs.List.{list_all, AllByRecursion}
 use Rattle.std.proofs.lemmas.Bool.{le-leb, leb-true, lt-ltb, ltb-true, eq-eqb}
@@ -15,9 +15,9 @@ use Rattle.bufr_data.specs.declared.field.Raw.TheVariants.{Number, Text}
 use Rattle.bufr_data.specs.declared.field.Field.{Field}
 use Rattle.bufr_data.specs.declared.field.Subset.{Subset}
 use Rattle.bufr_data.specs.declared.fault.WriteFault.{WriteFault}
-use Rattle.bufr_data.specs.Plain.{number_of, plain_subsets, Found, AllFound, same_spec, has_form_by, stands_for, items_of, items_of_all, fields_at, subsets_at}
-use Rattle.bufr_data.specs.Subsets.{written_bits}
-use Rattle.bufr_data.specs.Fits.{HasForm, of_text, of_number, told_of, FitsWithin, AllFitWithin, Stands, AllStand}
+use Rattle.bufr_data.specs.Plain.{number_of, plain_subsets, SubsetRead, SubsetsRead, same_spec, has_form_by, stands_for, items_of, items_of_all, fields_at, subsets_at}
+use Rattle.bufr_data.specs.Data.{written_bits}
+use Rattle.bufr_data.specs.Fits.{HasForm, of_text, of_number, told_of, FitsWithin, AllFitWithin, SubsetStands, SubsetsStand}
 use Rattle.bufr_data.specs.Refusals.{IsAsked}
 use Rattle.bufr_data.proofs.PlainFacts.{and_first, and_second, equal_is, same_spec_is, spec_is_same, guard_ok, ok_is, bind_ok, fields_at-plain, fields_at-found, subsets_at-found, subsets_at-plain}
 
@@ -131,12 +131,12 @@ pub fitting_counted : AreAllowed → (tree : Tree) (j used n : ℕ) (fields : Li
 fitting_counted law tree j used n fields h =
     allowed_counted j 1 (course tree used) fields n (law tree used (map told_of fields) n (h.1.operators, h.0, h.1.unrolled, h.2, h.3)) h.1.formed
 
-pub read_stands : AreUnrolled → (tree : Tree) (j used : ℕ) (front : List Bool) (f : Found) → used ≤ 16777216 → fields_at j 1 (course tree used) front ≡ Ok f → Stands tree used front f
+pub read_stands : AreUnrolled → (tree : Tree) (j used : ℕ) (front : List Bool) (f : SubsetRead) → used ≤ 16777216 → fields_at j 1 (course tree used) front ≡ Ok f → SubsetStands tree used front f
 read_stands law tree j used front f le e =
     let is = fields_at-found j 1 (course tree used) front f e in
     (counted_fit law tree j used f.items f.fields le is.0, is.1)
 
-pub standing_read : AreAllowed → (tree : Tree) (j used : ℕ) (front : List Bool) (f : Found) → Stands tree used front f → fields_at j 1 (course tree used) front ≡ Ok f
+pub standing_read : AreAllowed → (tree : Tree) (j used : ℕ) (front : List Bool) (f : SubsetRead) → SubsetStands tree used front f → fields_at j 1 (course tree used) front ≡ Ok f
 standing_read law tree j used front f h =
     ap (fields_at j 1 (course tree used)) h.1
     ∙ fields_at-plain j 1 (course tree used) f.fields f.items f.rest (fitting_counted law tree j used f.items f.fields h.0)
@@ -166,12 +166,12 @@ all_fitting_counted law tree j used n (s ∷ subsets) h =
     let first : items_of j 1 (course tree used) s.fields ≡ Ok (used + own) = fitting_counted law tree j used (used + own) s.fields (own, h.1.2, refl, omega arith) in
     rw first (all_fitting_counted law tree (j + 1) (used + own) n subsets (others, h.1.3, omega arith, few))
 
-pub all_read_stand : AreUnrolled → (tree : Tree) (j n used : ℕ) (front : List Bool) (f : AllFound) → used ≤ 16777216 → subsets_at (course tree) j n used front ≡ Ok f → AllStand tree n used front f
+pub all_read_stand : AreUnrolled → (tree : Tree) (j n used : ℕ) (front : List Bool) (f : SubsetsRead) → used ≤ 16777216 → subsets_at (course tree) j n used front ≡ Ok f → SubsetsStand tree n used front f
 all_read_stand law tree j n used front f le e =
     let is = subsets_at-found (course tree) j n used front f e in
     (is.0, all_counted_fit law tree j used f.items f.subsets le is.1, is.2)
 
-pub all_standing_read : AreAllowed → (tree : Tree) (j n used : ℕ) (front : List Bool) (f : AllFound) → AllStand tree n used front f → subsets_at (course tree) j n used front ≡ Ok f
+pub all_standing_read : AreAllowed → (tree : Tree) (j n used : ℕ) (front : List Bool) (f : SubsetsRead) → SubsetsStand tree n used front f → subsets_at (course tree) j n used front ≡ Ok f
 all_standing_read law tree j n used front f h =
     subsets_at-plain (course tree) j n used front f h.0 (all_fitting_counted law tree j used f.items f.subsets h.1) h.2
 
@@ -179,10 +179,10 @@ map_ok : (o : Result ℕ WriteFault) (bits added : List Bool) → result_map (λ
 map_ok (Ok n) bits added e = (n, refl, cc)
 map_ok (Err fault) bits added e = absurd cc
 
-pub written_fit : AreUnrolled → (tree : Tree) (subsets : List Subset) (added : List Bool) → written_bits tree subsets ≡ Ok added → (items : ℕ) × AllFitWithin tree 0 subsets items × (added ≡ plain_subsets subsets)
+pub written_fit : AreUnrolled → (tree : Tree) (subsets : List Subset) (added : List Bool) → written_bits tree false subsets ≡ Ok added → (items : ℕ) × AllFitWithin tree 0 subsets items × (added ≡ plain_subsets subsets)
 written_fit law tree subsets added e =
     let is = map_ok (items_of_all (course tree) 1 0 subsets) (plain_subsets subsets) added e in
     (is.0, all_counted_fit law tree 1 0 is.0 subsets (omega arith) is.1, is.2)
 
-pub fitting_written : AreAllowed → (tree : Tree) (subsets : List Subset) (items : ℕ) → AllFitWithin tree 0 subsets items → written_bits tree subsets ≡ Ok (plain_subsets subsets)
+pub fitting_written : AreAllowed → (tree : Tree) (subsets : List Subset) (items : ℕ) → AllFitWithin tree 0 subsets items → written_bits tree false subsets ≡ Ok (plain_subsets subsets)
 fitting_written law tree subsets items h = rw (all_fitting_counted law tree 1 0 items subsets h) refl

@@ -6,7 +6,7 @@ use Rattle.std.specs.List.{list_all}
 use Rattle.std.proofs.lemmas.Bool.{cases_lt, le-ltb, lt-ltb, ltb-true, eqb-true, eq-eqb}
 use Rattle.std.proofs.lemmas.List.{take_at, drop_at, take-append-drop, drop-drop, length-take, length-drop}
 use Rattle.bufr_bits.specs.Bits.{bin, bits, number, numbers, number_at, numbers_at}
-use Rattle.bufr_bits.proofs.BitFacts.{length-bin, number-bin, number_at-bin, small_mod, number_below, bin-number, number_at_is}
+use Rattle.bufr_bits.specs.BitLaws.{length-bin, number-bin, number_at-bin, small_mod, number_below, bin-number, number_at_is}
 use Rattle.bufr_tables.specs.declared.element.Kind.{Kind}
 use Rattle.bufr_tables.specs.declared.element.Kind.TheVariants as kinds
 use Rattle.bufr_tables.specs.Elements.{same_kind, same_integer}
@@ -20,7 +20,7 @@ use Rattle.bufr_data.specs.declared.field.Field.{Field}
 use Rattle.bufr_data.specs.declared.fault.ReadFault.{ReadFault}
 use Rattle.bufr_data.specs.declared.fault.WriteFault.{WriteFault}
 use Rattle.bufr_data.specs.declared.field.Subset.{Subset}
-use Rattle.bufr_data.specs.Plain.{raw_bits, field_bits, plain, plain_subsets, Found, AllFound, field_number_at, raw_at_by, raw_at, number_of, field_then, stopped, fields_at, subsets_at, same_spec, has_form_by, stands_for, items_of, items_of_all}
+use Rattle.bufr_data.specs.Plain.{raw_bits, field_bits, plain, plain_subsets, SubsetRead, SubsetsRead, field_number_at, raw_at_by, raw_at, number_of, field_then, stopped, fields_at, subsets_at, same_spec, has_form_by, stands_for, items_of, items_of_all}
 
 -- ---- tests
 
@@ -35,7 +35,7 @@ and_second false b e = absurd cc
 pub equal_is : (a b : ℕ) → (a == b) ≡ true → a ≡ b
 equal_is a b e = eqb-true a b e
 
-same_kind_is : (a b : Kind) → same_kind a b ≡ true → a ≡ b
+pub same_kind_is : (a b : Kind) → same_kind a b ≡ true → a ≡ b
 same_kind_is kinds.Text kinds.Text e = refl
 same_kind_is kinds.Code kinds.Code e = refl
 same_kind_is kinds.Flag kinds.Flag e = refl
@@ -237,39 +237,39 @@ raw_read kinds.Count width front x e = let is = number_read width front _ _ x re
 stands : (d : ℕ) (spec : Spec) (raw : Raw) → has_form_by spec.kind spec.width raw ≡ true → stands_for d spec (record { fxy = d; spec = spec; raw = raw }) ≡ true
 stands d spec raw form = rw (eq-eqb d d refl, spec_is_same spec, form) refl
 
-abbrev IsFound : ℕ → ℕ → Course → List Bool → Found → Type 0
+abbrev IsFound : ℕ → ℕ → Course → List Bool → SubsetRead → Type 0
 IsFound j i c front f = (items_of j i c f.fields ≡ Ok f.items) × (front ≡ plain f.fields ++ f.rest)
 
 abbrev FoundAfter : ℕ → ℕ → (ℕ → Course) → Type 0
-FoundAfter j i more = (n : ℕ) (front : List Bool) (f : Found) → fields_at j i (more n) front ≡ Ok f → IsFound j i (more n) front f
+FoundAfter j i more = (n : ℕ) (front : List Bool) (f : SubsetRead) → fields_at j i (more n) front ≡ Ok f → IsFound j i (more n) front f
 
 -- the field that was read and those after it
-field_joined : (j i met d : ℕ) (spec : Spec) (more : ℕ → Course) (front : List Bool) (x : Raw × List Bool) (o : Result Found ReadFault) (f : Found) → IsRaw spec.kind spec.width front x → ((g : Found) → o ≡ Ok g → IsFound j (i + 1) (more (number_of x.0)) x.1 g) → (o >>= λ found. Ok (record found { fields = record { fxy = d; spec = spec; raw = x.0 } ∷ found.fields })) ≡ Ok f → IsFound j i (asks met d spec more) front f
+field_joined : (j i met d : ℕ) (spec : Spec) (more : ℕ → Course) (front : List Bool) (x : Raw × List Bool) (o : Result SubsetRead ReadFault) (f : SubsetRead) → IsRaw spec.kind spec.width front x → ((g : SubsetRead) → o ≡ Ok g → IsFound j (i + 1) (more (number_of x.0)) x.1 g) → (o >>= λ found. Ok (record found { fields = record { fxy = d; spec = spec; raw = x.0 } ∷ found.fields })) ≡ Ok f → IsFound j i (asks met d spec more) front f
 unfolding items_of
 field_joined j i met d spec more front x (Err fault) f raw after e = absurd cc
 field_joined j i met d spec more front x (Ok g) f raw after e =
     let field : Field = record { fxy = d; spec = spec; raw = x.0 } in
-    let same : ◌≡◌ {A = Found} (record g { fields = field ∷ g.fields }) f = ok_found _ _ e in
+    let same : ◌≡◌ {A = SubsetRead} (record g { fields = field ∷ g.fields }) f = ok_found _ _ e in
     let others = after g refl in
     let fits : items_of j i (asks met d spec more) (field ∷ g.fields) ≡ Ok g.items = rw (stands d spec x.0 raw.0) others.0 in
     let spelt : front ≡ plain (field ∷ g.fields) ++ g.rest =
     raw.1 ∙ ap (λ xs. raw_bits spec.width x.0 ++ xs) others.1 ∙ sym (append_assoc (raw_bits spec.width x.0) (plain g.fields) g.rest) in
-    subst (λ (h : Found). IsFound j i (asks met d spec more) front h) same (fits, spelt)
+    subst (λ (h : SubsetRead). IsFound j i (asks met d spec more) front h) same (fits, spelt)
 
-field_found : (j i met d : ℕ) (spec : Spec) (more : ℕ → Course) (front : List Bool) (o : Option (Raw × List Bool)) (f : Found) → raw_at spec front ≡ o → FoundAfter j (i + 1) more → field_then j i d spec (λ n rest. fields_at j (i + 1) (more n) rest) o ≡ Ok f → IsFound j i (asks met d spec more) front f
+field_found : (j i met d : ℕ) (spec : Spec) (more : ℕ → Course) (front : List Bool) (o : Option (Raw × List Bool)) (f : SubsetRead) → raw_at spec front ≡ o → FoundAfter j (i + 1) more → field_then j i d spec (λ n rest. fields_at j (i + 1) (more n) rest) o ≡ Ok f → IsFound j i (asks met d spec more) front f
 field_found j i met d spec more front None f found after e = absurd cc
 field_found j i met d spec more front (Some x) f found after e =
     field_joined j i met d spec more front x (fields_at j (i + 1) (more (number_of x.0)) x.1) f (raw_read spec.kind spec.width front x found) (after (number_of x.0) x.1) e
 
-not_stopped : (fault : WalkFault) (f : Found) → stopped fault ≡ Ok f → ⊥
+not_stopped : (fault : WalkFault) (f : SubsetRead) → stopped fault ≡ Ok f → ⊥
 not_stopped walks.TooLarge f e = cc
 not_stopped (walks.EffectiveRange d) f e = cc
 
 -- what was read fits the course, and the bits are those of its fields and what is left
-pub fields_at-found : (j i : ℕ) (c : Course) (front : List Bool) (f : Found) → fields_at j i c front ≡ Ok f → (items_of j i c f.fields ≡ Ok f.items) × (front ≡ plain f.fields ++ f.rest)
+pub fields_at-found : (j i : ℕ) (c : Course) (front : List Bool) (f : SubsetRead) → fields_at j i c front ≡ Ok f → (items_of j i c f.fields ≡ Ok f.items) × (front ≡ plain f.fields ++ f.rest)
 unfolding items_of fields_at
 fields_at-found j i (ends n) front f e =
-    subst (λ (h : Found). IsFound j i (ends n) front h) (ok_found (record { fields = []; items = n; rest = front }) f e) (refl, refl)
+    subst (λ (h : SubsetRead). IsFound j i (ends n) front h) (ok_found (record { fields = []; items = n; rest = front }) f e) (refl, refl)
 fields_at-found j i (stops met fault) front f e = absurd (not_stopped fault f e)
 fields_at-found j i (asks met d spec more) front f e =
     field_found j i met d spec more front _ f refl (λ n rest g h. fields_at-found j (i + 1) (more n) rest g h) e
@@ -280,28 +280,28 @@ pub bind_ok : {A B F : Type 0} (o : Result A F) (k : A → Result B F) (y : B) �
 bind_ok (Ok x) k y e = (x, refl, e)
 bind_ok (Err fault) k y e = absurd cc
 
-abbrev AreFound : (ℕ → Course) → ℕ → ℕ → ℕ → List Bool → AllFound → Type 0
+abbrev AreFound : (ℕ → Course) → ℕ → ℕ → ℕ → List Bool → SubsetsRead → Type 0
 AreFound course j n used front f = (length f.subsets ≡ n) × (items_of_all course j used f.subsets ≡ Ok f.items) × (front ≡ plain_subsets f.subsets ++ f.rest)
 
 -- subsets that were read are so many, fit their courses, and the bits are theirs and what is left
-pub subsets_at-found : (course : ℕ → Course) (j n used : ℕ) (front : List Bool) (f : AllFound) → subsets_at course j n used front ≡ Ok f → (length f.subsets ≡ n) × (items_of_all course j used f.subsets ≡ Ok f.items) × (front ≡ plain_subsets f.subsets ++ f.rest)
+pub subsets_at-found : (course : ℕ → Course) (j n used : ℕ) (front : List Bool) (f : SubsetsRead) → subsets_at course j n used front ≡ Ok f → (length f.subsets ≡ n) × (items_of_all course j used f.subsets ≡ Ok f.items) × (front ≡ plain_subsets f.subsets ++ f.rest)
 unfolding subsets_at items_of_all
 subsets_at-found course j zero used front f e =
-    subst (λ (h : AllFound). AreFound course j 0 used front h) (ok_found (record { subsets = []; items = used; rest = front }) f e) (refl, refl, refl)
+    subst (λ (h : SubsetsRead). AreFound course j 0 used front h) (ok_found (record { subsets = []; items = used; rest = front }) f e) (refl, refl, refl)
 subsets_at-found course j (suc n) used front f e =
     let a = bind_ok (fields_at j 1 (course used) front) _ f e in
     let first = a.0 in
     let b = bind_ok (subsets_at course (j + 1) n first.items first.rest) _ f a.2 in
     let others = b.0 in
     let s : Subset = record { fields = first.fields } in
-    let same : ◌≡◌ {A = AllFound} (record others { subsets = s ∷ others.subsets }) f = ok_found _ _ b.2 in
+    let same : ◌≡◌ {A = SubsetsRead} (record others { subsets = s ∷ others.subsets }) f = ok_found _ _ b.2 in
     let front_is = fields_at-found j 1 (course used) front first a.1 in
     let rest_is = subsets_at-found course (j + 1) n first.items first.rest others b.1 in
     let many : length (s ∷ others.subsets) ≡ suc n = ap suc rest_is.0 in
     let fits : items_of_all course j used (s ∷ others.subsets) ≡ Ok others.items = rw front_is.0 rest_is.1 in
     let spelt : front ≡ plain_subsets (s ∷ others.subsets) ++ others.rest =
     front_is.1 ∙ ap (λ xs. plain first.fields ++ xs) rest_is.2 ∙ sym (append_assoc (plain first.fields) (plain_subsets others.subsets) others.rest) in
-    subst (λ (h : AllFound). AreFound course j (suc n) used front h) same (many, fits, spelt)
+    subst (λ (h : SubsetsRead). AreFound course j (suc n) used front h) same (many, fits, spelt)
 
 subsets_again : (course : ℕ → Course) (j used : ℕ) (subsets : List Subset) (n : ℕ) (rest : List Bool) → items_of_all course j used subsets ≡ Ok n → subsets_at course j (length subsets) used (plain_subsets subsets ++ rest) ≡ Ok (record { subsets = subsets; items = n; rest = rest })
 unfolding subsets_at items_of_all
@@ -312,6 +312,6 @@ subsets_again course j used (s ∷ subsets) n rest e =
     rw (regrouped, fields_at-plain j 1 (course used) s.fields a.0 (plain_subsets subsets ++ rest) a.1, subsets_again course (j + 1) a.0 subsets n rest a.2) refl
 
 -- subsets that are so many and fit their courses are read again from their bits, whatever follows
-pub subsets_at-plain : (course : ℕ → Course) (j n used : ℕ) (front : List Bool) (f : AllFound) → length f.subsets ≡ n → items_of_all course j used f.subsets ≡ Ok f.items → front ≡ plain_subsets f.subsets ++ f.rest → subsets_at course j n used front ≡ Ok f
+pub subsets_at-plain : (course : ℕ → Course) (j n used : ℕ) (front : List Bool) (f : SubsetsRead) → length f.subsets ≡ n → items_of_all course j used f.subsets ≡ Ok f.items → front ≡ plain_subsets f.subsets ++ f.rest → subsets_at course j n used front ≡ Ok f
 subsets_at-plain course j n used front f many fits spelt =
     rw (← many, spelt) (subsets_again course j used f.subsets f.items f.rest fits)

@@ -18,9 +18,10 @@ use Rattle.bufr_data.specs.declared.field.Raw.{Raw}
 use Rattle.bufr_data.specs.declared.field.Raw.TheVariants.{Number, Text}
 use Rattle.bufr_data.specs.declared.field.Field.{Field}
 use Rattle.bufr_data.specs.declared.fault.ReadFault.{ReadFault}
-use Rattle.bufr_data.specs.Plain.{Found, raw_at, number_of, stopped, fields_at, has_form_by}
+use Rattle.bufr_data.specs.Plain.{SubsetRead, raw_at, number_of, stopped, fields_at, has_form_by}
 use Rattle.bufr_data.specs.Reads.{raw_or_ends, behind_fields}
-use Rattle.bufr_data.specs.Steady.{IsSteady, IsReady, GoesOn}
+use Rattle.bufr_expand.specs.Steady.{IsSteady}
+use Rattle.bufr_data.specs.Steady.{IsReady, WalkAdvances}
 use Rattle.bufr_data.proofs.PlainFacts.{raw_read}
 
 -- ---- what an answer says of the course
@@ -99,7 +100,7 @@ unfolding IsSteady
 steady_step used met d spec more s = s
 
 -- after a field that is no count the walk goes on, whatever its number is
-pub field_goes_on : (old new : Walk) (d : ℕ) (spec : Spec) → IsReady old → Goes (left old) (Ok (steps.Field d spec)) new → GoesOn old new
+pub field_goes_on : (old new : Walk) (d : ℕ) (spec : Spec) → IsReady old → Goes (left old) (Ok (steps.Field d spec)) new → WalkAdvances old new
 field_goes_on old new d spec ready g =
     let a = asks_field (left old) d spec new g in
     let s = steady_step (items_met old) a.met d spec a.more (subst (λ (x : Course). IsSteady (items_met old) x) a.is ready.steady) in
@@ -110,7 +111,7 @@ field_goes_on old new d spec ready g =
       within = omega (arith, s.1);
     }
 
-pub count_goes_on : (old mid new : Walk) (d : ℕ) (spec : Spec) (n : ℕ) → IsReady old → Goes (left old) (Ok (steps.Count d spec)) mid → Counted (left mid) n new → GoesOn old new
+pub count_goes_on : (old mid new : Walk) (d : ℕ) (spec : Spec) (n : ℕ) → IsReady old → Goes (left old) (Ok (steps.Count d spec)) mid → Counted (left mid) n new → WalkAdvances old new
 count_goes_on old mid new d spec n ready g counted =
     let a = asks_count (left old) d spec mid g in
     let s = steady_step (items_met old) a.met d spec a.more (subst (λ (x : Course). IsSteady (items_met old) x) a.is ready.steady) in
@@ -124,7 +125,7 @@ count_goes_on old mid new d spec n ready g counted =
 
 -- ---- reading
 
-joined : (field : Field) (o : Result Found ReadFault) → (o >>= λ found. Ok (record found { fields = field ∷ found.fields })) ≡ behind_fields (field ∷ []) o
+joined : (field : Field) (o : Result SubsetRead ReadFault) → (o >>= λ found. Ok (record found { fields = field ∷ found.fields })) ≡ behind_fields (field ∷ []) o
 joined field (Ok found) = refl
 joined field (Err e) = refl
 
@@ -174,7 +175,7 @@ pub end_is_read : (old new : Walk) (i : ℕ) (front : List Bool) → Goes (left 
 unfolding fields_at
 end_is_read old new i front g = ap (λ c. fields_at 1 i c front) (ends_there (left old) new g)
 
-pub stop_is_read : (old new : Walk) (i : ℕ) (front : List Bool) (fault : WalkFault) (f : ReadFault) → Goes (left old) (Err fault) new → stopped {A = Found} fault ≡ Err f → fields_at 1 i (left old) front ≡ Err f
+pub stop_is_read : (old new : Walk) (i : ℕ) (front : List Bool) (fault : WalkFault) (f : ReadFault) → Goes (left old) (Err fault) new → stopped {A = SubsetRead} fault ≡ Err f → fields_at 1 i (left old) front ≡ Err f
 unfolding fields_at
 stop_is_read old new i front fault f g e = let s = stops_there (left old) fault new g in ap (λ c. fields_at 1 i c front) s.1 ∙ e
 
@@ -205,20 +206,20 @@ count_asked old mid d spec g = (asks_count (left old) d spec mid g).asked
 
 -- ---- fields one after the other
 
-pub behind_none : (o : Result Found ReadFault) → o ≡ behind_fields [] o
+pub behind_none : (o : Result SubsetRead ReadFault) → o ≡ behind_fields [] o
 behind_none (Ok found) = refl
 behind_none (Err e) = refl
 
-pub behind_more : (fields : List Field) (field : Field) (o : Result Found ReadFault) → behind_fields fields (behind_fields (field ∷ []) o) ≡ behind_fields (fields ++ field ∷ []) o
+pub behind_more : (fields : List Field) (field : Field) (o : Result SubsetRead ReadFault) → behind_fields fields (behind_fields (field ∷ []) o) ≡ behind_fields (fields ++ field ∷ []) o
 behind_more fields field (Ok found) = ap (λ fs. Ok (record found { fields = fs })) (sym (append_assoc fields (field ∷ []) found.fields))
 behind_more fields field (Err e) = refl
 
-pub behind_fails : (fields : List Field) (e : Failure ReadFault) (o : Result Found ReadFault) → Fails e o → Fails e (behind_fields fields o)
+pub behind_fails : (fields : List Field) (e : Failure ReadFault) (o : Result SubsetRead ReadFault) → Fails e o → Fails e (behind_fields fields o)
 behind_fails fields OutOfMemory o h = tt
 behind_fails fields (Fault f) o h = rw h refl
 
 -- one field more was read
-pub fields_read : (fields grown : List Field) (field : Field) (whole : Result Found ReadFault) (i : ℕ) (c d : Course) (front rest : List Bool) → grown ≡ fields ++ field ∷ [] → i ≡ length fields + 1 → whole ≡ behind_fields fields (fields_at 1 (length fields + 1) c front) → fields_at 1 i c front ≡ behind_fields (field ∷ []) (fields_at 1 (i + 1) d rest) → whole ≡ behind_fields grown (fields_at 1 (length grown + 1) d rest)
+pub fields_read : (fields grown : List Field) (field : Field) (whole : Result SubsetRead ReadFault) (i : ℕ) (c d : Course) (front rest : List Bool) → grown ≡ fields ++ field ∷ [] → i ≡ length fields + 1 → whole ≡ behind_fields fields (fields_at 1 (length fields + 1) c front) → fields_at 1 i c front ≡ behind_fields (field ∷ []) (fields_at 1 (i + 1) d rest) → whole ≡ behind_fields grown (fields_at 1 (length grown + 1) d rest)
 fields_read fields grown field whole i c d front rest e index so_far step =
     let len : length grown ≡ length fields + 1 = ap length e ∙ length-append fields (field ∷ []) in
     let next : i + 1 ≡ length grown + 1 = omega arith in

@@ -3,7 +3,7 @@ use Rattle.std.proofs.Common.{◌≡◌, ℕ, zero, suc, ◌+◌, ◌*◌, ◌/�
 use Rattle.std.proofs.lemmas.Bool.{cases_lt}
 use Rattle.std.proofs.lemmas.List.{take-append-drop, length-take}
 use Rattle.bufr_bits.specs.Bits.{bin, bits, number, numbers}
-use Rattle.bufr_bits.proofs.BitFacts.{length-bin, number_below, bin-number}
+use Rattle.bufr_bits.specs.BitLaws.{length-bin, number_below, bin-number}
 use Rattle.bufr_tables.specs.Answers.{◌>>=◌, result_map}
 use Rattle.bufr_tables.specs.declared.element.Kind.{Kind}
 use Rattle.bufr_tables.specs.declared.element.Kind.TheVariants as kinds
@@ -20,9 +20,9 @@ use Rattle.bufr_data.specs.declared.fault.ReadFault.{ReadFault}
 use Rattle.bufr_data.specs.declared.fault.ReadFault.TheVariants as faults
 use Rattle.bufr_data.specs.declared.fault.WriteFault.{WriteFault}
 use Rattle.bufr_data.specs.declared.fault.WriteFault.TheVariants as misfits
-use Rattle.bufr_data.specs.Plain.{raw_bits, field_bits, plain, plain_subsets, Found, raw_at, number_of, field_then, stopped, fields_at, subsets_at, stands_for, misfit, items_of, items_of_all}
-use Rattle.bufr_data.specs.Subsets.{written_bits}
-use Rattle.bufr_data.specs.Fits.{HasForm, of_text, of_number, FitsWithin, AllFitWithin, Stands}
+use Rattle.bufr_data.specs.Plain.{raw_bits, field_bits, plain, plain_subsets, SubsetRead, raw_at, number_of, field_then, stopped, fields_at, subsets_at, stands_for, misfit, items_of, items_of_all}
+use Rattle.bufr_data.specs.Data.{written_bits}
+use Rattle.bufr_data.specs.Fits.{HasForm, of_text, of_number, FitsWithin, AllFitWithin, SubsetStands}
 use Rattle.bufr_data.specs.Refusals.{IsAsked, Passes, NoneStands, IsWithinLimits, CannotStand, FieldRefused, SubsetRefused, CannotGoOn, FieldMisfits, SubsetMisfits}
 use Rattle.bufr_data.proofs.PlainFacts.{raw_again, raw_read, length-bits, length-numbers, numbers_below, bits_of_numbers}
 use Rattle.bufr_data.proofs.FitFacts.{AreUnrolled, AreAllowed, form_passes, form_is, asked_is, asked_passes, counted_fit, fitting_counted, read_stands, standing_read, octets_are}
@@ -86,11 +86,11 @@ few_where_none spec front limits none =
 
 -- ---- fields that are read
 
-stop_refused : (j i met : ℕ) (w : WalkFault) (front : List Bool) (fault : ReadFault) → stopped {A = Found} w ≡ Err fault → CannotStand j i (stops met w) front fault
+stop_refused : (j i met : ℕ) (w : WalkFault) (front : List Bool) (fault : ReadFault) → stopped {A = SubsetRead} w ≡ Err fault → CannotStand j i (stops met w) front fault
 stop_refused j i met walks.TooLarge front fault e = cc
 stop_refused j i met (walks.EffectiveRange d) front fault e = cc
 
-stopped_again : (j i met : ℕ) (w : WalkFault) (front : List Bool) (fault : ReadFault) → CannotStand j i (stops met w) front fault → stopped {A = Found} w ≡ Err fault
+stopped_again : (j i met : ℕ) (w : WalkFault) (front : List Bool) (fault : ReadFault) → CannotStand j i (stops met w) front fault → stopped {A = SubsetRead} w ≡ Err fault
 stopped_again j i met walks.TooLarge front fault e = ap (λ x. Err x) (sym e)
 stopped_again j i met (walks.EffectiveRange d) front fault e = ap (λ x. Err x) (sym e)
 
@@ -123,7 +123,7 @@ err_is f g e = cc
 
 asked_refused : (j i met d : ℕ) (spec : Spec) (more : ℕ → Course) (front : List Bool) (o : Option (Raw × List Bool)) (fault : ReadFault) → raw_at spec front ≡ o → ((n : ℕ) (rest : List Bool) → fields_at j (i + 1) (more n) rest ≡ Err fault → FieldRefused j (i + 1) (more n) rest fault) → field_then j i d spec (λ n rest. fields_at j (i + 1) (more n) rest) o ≡ Err fault → FieldRefused j i (asks met d spec more) front fault
 asked_refused j i met d spec more front None fault read after e =
-    refused_here j i (asks met d spec more) front fault (sym (err_is {A = Found} (faults.DataEnds j i) fault e), none_stands spec front read)
+    refused_here j i (asks met d spec more) front fault (sym (err_is {A = SubsetRead} (faults.DataEnds j i) fault e), none_stands spec front read)
 asked_refused j i met d spec more front (Some x) fault read after e =
     elim (bind_err (fields_at j (i + 1) (more (number_of x.0)) x.1) (λ found. Ok (record found { fields = record { fxy = d; spec = spec; raw = x.0 } ∷ found.fields })) fault e) [
       | inl first ↦ refused_behind j i met d spec more front x fault read (after (number_of x.0) x.1 first)
@@ -178,7 +178,7 @@ first_refused tree j n used front fault le e =
       refused = subst (λ k. FieldRefused k 1 (course tree used) front fault) same (refused_stand j 1 (course tree used) front fault e);
     }
 
-later_refused : (tree : Tree) (j n used : ℕ) (front : List Bool) (first : Found) (fault : ReadFault) → Stands tree used front first → SubsetRefused tree (j + 1) n first.items first.rest fault → SubsetRefused tree j (suc n) used front fault
+later_refused : (tree : Tree) (j n used : ℕ) (front : List Bool) (first : SubsetRead) (fault : ReadFault) → SubsetStands tree used front first → SubsetRefused tree (j + 1) n first.items first.rest fault → SubsetRefused tree j (suc n) used front fault
 later_refused tree j n used front first fault h r =
     let s : Subset = record { fields = first.fields } in
     let own = h.0 in
@@ -231,7 +231,7 @@ subsets_again law tree (s ∷ before) j (suc n) used items rest fault fewer fit 
     let end : items ≡ used + fit.0 = fit.2 in
     let few : items ≤ 16777216 = fit.3 in
     let back : List Bool = plain_subsets before ++ rest in
-    let found : Found = record { fields = s.fields; items = used + own; rest = back } in
+    let found : SubsetRead = record { fields = s.fields; items = used + own; rest = back } in
     let first : fields_at j 1 (course tree used) (plain s.fields ++ back) ≡ Ok found =
     standing_read law tree j used (plain s.fields ++ back) found ((own, fit.1.2, refl, omega arith), refl) in
     let regrouped : plain_subsets (s ∷ before) ++ rest ≡ plain s.fields ++ back = append_assoc (plain s.fields) (plain_subsets before) rest in
@@ -381,11 +381,11 @@ map_err : (o : Result ℕ WriteFault) (bits : List Bool) (fault : WriteFault) �
 map_err (Ok n) bits fault e = absurd (not_err bits fault e)
 map_err (Err g) bits fault e = cc
 
-pub written_refused_misfit : AreUnrolled → (tree : Tree) (subsets : List Subset) (fault : WriteFault) → written_bits tree subsets ≡ Err fault → SubsetMisfits tree 1 0 subsets fault
+pub written_refused_misfit : AreUnrolled → (tree : Tree) (subsets : List Subset) (fault : WriteFault) → written_bits tree false subsets ≡ Err fault → SubsetMisfits tree 1 0 subsets fault
 written_refused_misfit law tree subsets fault e =
     all_refused_misfit law tree 1 0 subsets fault (omega arith) (map_err (items_of_all (course tree) 1 0 subsets) (plain_subsets subsets) fault e)
 
-pub written_misfit_refused : AreAllowed → (tree : Tree) (subsets : List Subset) (fault : WriteFault) → SubsetMisfits tree 1 0 subsets fault → written_bits tree subsets ≡ Err fault
+pub written_misfit_refused : AreAllowed → (tree : Tree) (subsets : List Subset) (fault : WriteFault) → SubsetMisfits tree 1 0 subsets fault → written_bits tree false subsets ≡ Err fault
 written_misfit_refused law tree subsets fault m =
     let e : items_of_all (course tree) 1 0 subsets ≡ Err fault =
     ap (items_of_all (course tree) 1 0) m.joined ∙ all_misfit_again law tree m.before 1 0 m.items m.here m.others fault m.fit m.refused in

@@ -9,15 +9,18 @@ use Rattle.bufr_expand.specs.declared.operators.Spec.{Spec}
 use Rattle.bufr_expand.specs.declared.walk.Step.TheVariants as steps
 use Rattle.bufr_expand.specs.declared.walk.Walk.{Walk}
 use Rattle.bufr_expand.specs.declared.walk.WalkFault.{WalkFault}
-use Rattle.bufr_expand.specs.Courses.{Course, asks}
+use Rattle.bufr_expand.specs.Courses.{Course, ends, stops, asks}
 use Rattle.bufr_expand.specs.Walks.{left, items_met, Goes, Counted, IsBelowCount}
 use Rattle.bufr_data.specs.declared.field.Field.{Field}
 use Rattle.bufr_data.specs.declared.field.Subset.{Subset}
 use Rattle.bufr_data.specs.declared.fault.WriteFault.{WriteFault}
 use Rattle.bufr_data.specs.declared.fault.WriteFault.TheVariants as misfits
 use Rattle.bufr_data.specs.Plain.{number_of, same_spec, has_form_by, stands_for, misfit, items_of, items_of_all, field_bits, plain, plain_subsets}
-use Rattle.bufr_data.specs.Subsets.{fits_or}
-use Rattle.bufr_data.specs.Steady.{IsSteady, IsReady}
+use Rattle.bufr_data.specs.Subsets.{fits_or, has_own_form}
+use Rattle.bufr_data.proofs.PlainFacts.{and_first, and_second, same_spec_is, guard_ok}
+use Rattle.std.specs.List.{list_all}
+use Rattle.bufr_expand.specs.Steady.{IsSteady}
+use Rattle.bufr_data.specs.Steady.{IsReady}
 use Rattle.bufr_data.proofs.ReadFacts.{asks_field, asks_count, ends_there, stops_there, steady_step, count_fits}
 
 -- ---- one field
@@ -97,6 +100,10 @@ count_lacks old mid j i d spec g =
     let a = asks_count (left old) d spec mid g in
     ap (λ c. items_of j i c []) a.is ∙ asked_lacks j i a.met d spec a.more
 
+pub fits_is : (j i : ℕ) (b : Bool) (u : Unit {0}) → fits_or j i b ≡ Ok u → b ≡ true
+fits_is j i true u e = refl
+fits_is j i false u e = absurd cc
+
 -- ---- fields one after the other
 
 next_is : {X : Type 0} → (xs : List X) (k : ℕ) (x : X) → k < length xs → x ≡ get_or xs k x → drop k xs ≡ x ∷ drop (k + 1) xs
@@ -174,3 +181,21 @@ subset_bits_end k subsets old new h so_far = so_far ∙ ap (λ ss. old ++ plain_
 -- bits that were put stay at the front
 pub extends_more : (old mid new : List Bool) (added : List Bool) → mid ≡ old ++ added → (more : List Bool) × (new ≡ mid ++ more) → (all : List Bool) × (new ≡ old ++ all)
 extends_more old mid new added e m = (added ++ m.0, m.1 ∙ ap (λ xs. xs ++ m.0) e ∙ append_assoc old added m.0)
+
+-- ---- fields that were counted have their forms
+
+own_form : (d : ℕ) (spec : Spec) (f : Field) → stands_for d spec f ≡ true → has_own_form f ≡ true
+own_form d spec f e =
+    let both = and_first (f.fxy == d && same_spec f.spec spec) (has_form_by spec.kind spec.width f.raw) e in
+    let same : f.spec ≡ spec = same_spec_is _ _ (and_second (f.fxy == d) (same_spec f.spec spec) both) in
+    ap (λ (s : Spec). has_form_by s.kind s.width f.raw) same
+    ∙ and_second (f.fxy == d && same_spec f.spec spec) (has_form_by spec.kind spec.width f.raw) e
+
+pub counted_forms : (j i : ℕ) (c : Course) (fields : List Field) (n : ℕ) → items_of j i c fields ≡ Ok n → list_all has_own_form fields ≡ true
+unfolding items_of
+counted_forms j i c [] n e = refl
+counted_forms j i (ends m) (f ∷ fields) n e = absurd cc
+counted_forms j i (stops m fault) (f ∷ fields) n e = absurd cc
+counted_forms j i (asks met d spec more) (f ∷ fields) n e =
+    let g = guard_ok (stands_for d spec f) _ _ n e in
+    rw (own_form d spec f g.0, counted_forms j (i + 1) (more (number_of f.raw)) fields n g.1) refl

@@ -4,14 +4,13 @@ use Rattle.std.specs.List.{AllByRecursion}
 use Rattle.bufr_tables.specs.declared.element.Kind.TheVariants as kinds
 use Rattle.bufr_expand.specs.declared.operators.Operators.{Operators}
 use Rattle.bufr_expand.specs.declared.operators.Spec.{Spec}
-use Rattle.bufr_expand.specs.Operating.{none_in_force}
 use Rattle.bufr_expand.specs.Trees.{Tree}
-use Rattle.bufr_expand.specs.Unrolling.{Told, Unroll}
+use Rattle.bufr_expand.specs.Unrolling.{Told, SubsetUnrolls}
 use Rattle.bufr_data.specs.declared.field.Raw.{Raw}
 use Rattle.bufr_data.specs.declared.field.Raw.TheVariants.{Number, Text}
 use Rattle.bufr_data.specs.declared.field.Field.{Field}
 use Rattle.bufr_data.specs.declared.field.Subset.{Subset}
-use Rattle.bufr_data.specs.Plain.{number_of, plain, plain_subsets, Found, AllFound}
+use Rattle.bufr_data.specs.Plain.{number_of, plain, plain_subsets, SubsetRead, SubsetsRead}
 
 -- a raw value has its spec's form: a text has width / 8 octets, and a number is below 2 to the power of the width. An octet is below 256,
 -- and a field of more than 64 bits has no number (the limits give a number 63 bits at most)
@@ -27,7 +26,7 @@ told_of f = record { fxy = f.fxy; spec = f.spec; number = number_of f.raw }
 -- each raw value has its spec's form
 pub record Fits (tree : Tree) (fields : List Field) (items : ℕ) : Type 0 where
   pub operators : Operators
-  pub unrolled : Unroll tree none_in_force (map told_of fields) operators items
+  pub unrolled : SubsetUnrolls tree (map told_of fields) operators items
   pub formed : AllByRecursion (λ f. HasForm f.spec f.raw) fields
 
 -- each of the subsets fits, and their items add up to so many
@@ -43,10 +42,14 @@ FitsWithin tree used fields n = (items : ℕ) × Fits tree fields items × (n �
 abbrev pub AllFitWithin : Tree → ℕ → List Subset → ℕ → Type 0
 AllFitWithin tree used subsets n = (items : ℕ) × AllFit tree subsets items × (n ≡ used + items) × (n ≤ 16777216)
 
+-- one subset fits by itself, with 16,777,216 items at most
+abbrev pub FitsAlone : Tree → Subset → Type 0
+FitsAlone tree s = (items : ℕ) × FitsWithin tree 0 s.fields items
+
 -- a subset that fits stands at the front of the data, and these bits are left
-abbrev pub Stands : Tree → ℕ → List Bool → Found → Type 0
-Stands tree used front f = FitsWithin tree used f.fields f.items × (front ≡ plain f.fields ++ f.rest)
+abbrev pub SubsetStands : Tree → ℕ → List Bool → SubsetRead → Type 0
+SubsetStands tree used front f = FitsWithin tree used f.fields f.items × (front ≡ plain f.fields ++ f.rest)
 
 -- so many subsets that fit stand at the front of the data one after the other, and these bits are left
-abbrev pub AllStand : Tree → ℕ → ℕ → List Bool → AllFound → Type 0
-AllStand tree n used front f = (length f.subsets ≡ n) × AllFitWithin tree used f.subsets f.items × (front ≡ plain_subsets f.subsets ++ f.rest)
+abbrev pub SubsetsStand : Tree → ℕ → ℕ → List Bool → SubsetsRead → Type 0
+SubsetsStand tree n used front f = (length f.subsets ≡ n) × AllFitWithin tree used f.subsets f.items × (front ≡ plain_subsets f.subsets ++ f.rest)

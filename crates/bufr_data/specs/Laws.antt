@@ -1,5 +1,5 @@
 -- What is read from plain data are exactly the subsets that fit the template (FM 94 BUFR, regulation 94.5).
-use Rattle.std.specs.Prelude.{◌≡◌, ℕ, ◌<◌, ◌≤◌, Bool, List, ◌++◌, length, Ok, Err}
+use Rattle.std.specs.Prelude.{◌≡◌, ℕ, ◌<◌, ◌≤◌, Bool, false, List, ◌++◌, length, Ok, Err}
 use Rattle.bufr_expand.specs.declared.operators.Spec.{Spec}
 use Rattle.bufr_expand.specs.Courses.{Course, course}
 use Rattle.bufr_expand.specs.Trees.{Tree}
@@ -7,24 +7,24 @@ use Rattle.bufr_data.specs.declared.field.Field.{Field}
 use Rattle.bufr_data.specs.declared.field.Subset.{Subset}
 use Rattle.bufr_data.specs.declared.fault.ReadFault.{ReadFault}
 use Rattle.bufr_data.specs.declared.fault.WriteFault.{WriteFault}
-use Rattle.bufr_data.specs.Plain.{Found, AllFound, plain_subsets, fields_at, subsets_at, items_of, items_of_all}
-use Rattle.bufr_data.specs.Subsets.{written_bits}
-use Rattle.bufr_data.specs.Fits.{FitsWithin, AllFitWithin, Stands, AllStand}
+use Rattle.bufr_data.specs.Plain.{SubsetRead, SubsetsRead, plain_subsets, fields_at, subsets_at, items_of, items_of_all}
+use Rattle.bufr_data.specs.Data.{written_bits}
+use Rattle.bufr_data.specs.Fits.{FitsWithin, AllFitWithin, SubsetStands, SubsetsStand}
 use Rattle.bufr_data.specs.Refusals.{IsWithinLimits, NoneStands, FieldRefused, SubsetRefused, FieldMisfits, SubsetMisfits}
 use Rattle.bufr_data.specs.Causes.{FirstRefused, FirstSubsetRefused, FirstMisfit, FirstSubsetMisfit}
 
 -- these subsets are so many and fit their courses, and the bits are theirs and then those that are left
-abbrev pub AreSubsets : (ℕ → Course) → ℕ → ℕ → ℕ → List Bool → AllFound → Type 0
+abbrev pub AreSubsets : (ℕ → Course) → ℕ → ℕ → ℕ → List Bool → SubsetsRead → Type 0
 AreSubsets course j n used front f =
     (length f.subsets ≡ n) × (items_of_all course j used f.subsets ≡ Ok f.items) × (front ≡ plain_subsets f.subsets ++ f.rest)
 
 -- subsets that are read stand in the bits
 abbrev pub ReadStand : Type 0
-ReadStand = (course : ℕ → Course) (j n used : ℕ) (front : List Bool) (f : AllFound) → subsets_at course j n used front ≡ Ok f → AreSubsets course j n used front f
+ReadStand = (course : ℕ → Course) (j n used : ℕ) (front : List Bool) (f : SubsetsRead) → subsets_at course j n used front ≡ Ok f → AreSubsets course j n used front f
 
 -- subsets that stand in the bits are read, and no others
 abbrev pub StandingAreRead : Type 0
-StandingAreRead = (course : ℕ → Course) (j n used : ℕ) (front : List Bool) (f : AllFound) → AreSubsets course j n used front f → subsets_at course j n used front ≡ Ok f
+StandingAreRead = (course : ℕ → Course) (j n used : ℕ) (front : List Bool) (f : SubsetsRead) → AreSubsets course j n used front f → subsets_at course j n used front ≡ Ok f
 
 -- ---- what fits a template
 
@@ -47,26 +47,26 @@ AllFittingAreCounted = (tree : Tree) (j used n : ℕ) (subsets : List Subset) �
 
 -- a subset that is read fits the template and stands in the bits
 abbrev pub SubsetReadStands : Type 0
-SubsetReadStands = (tree : Tree) (j used : ℕ) (front : List Bool) (f : Found) → used ≤ 16777216 → fields_at j 1 (course tree used) front ≡ Ok f → Stands tree used front f
+SubsetReadStands = (tree : Tree) (j used : ℕ) (front : List Bool) (f : SubsetRead) → used ≤ 16777216 → fields_at j 1 (course tree used) front ≡ Ok f → SubsetStands tree used front f
 
 -- a subset that fits the template and stands in the bits is read, and no other
 abbrev pub SubsetStandingIsRead : Type 0
-SubsetStandingIsRead = (tree : Tree) (j used : ℕ) (front : List Bool) (f : Found) → Stands tree used front f → fields_at j 1 (course tree used) front ≡ Ok f
+SubsetStandingIsRead = (tree : Tree) (j used : ℕ) (front : List Bool) (f : SubsetRead) → SubsetStands tree used front f → fields_at j 1 (course tree used) front ≡ Ok f
 
 -- the same of so many subsets
 abbrev pub SubsetsReadStand : Type 0
-SubsetsReadStand = (tree : Tree) (j n used : ℕ) (front : List Bool) (f : AllFound) → used ≤ 16777216 → subsets_at (course tree) j n used front ≡ Ok f → AllStand tree n used front f
+SubsetsReadStand = (tree : Tree) (j n used : ℕ) (front : List Bool) (f : SubsetsRead) → used ≤ 16777216 → subsets_at (course tree) j n used front ≡ Ok f → SubsetsStand tree n used front f
 
 abbrev pub SubsetsStandingAreRead : Type 0
-SubsetsStandingAreRead = (tree : Tree) (j n used : ℕ) (front : List Bool) (f : AllFound) → AllStand tree n used front f → subsets_at (course tree) j n used front ≡ Ok f
+SubsetsStandingAreRead = (tree : Tree) (j n used : ℕ) (front : List Bool) (f : SubsetsRead) → SubsetsStand tree n used front f → subsets_at (course tree) j n used front ≡ Ok f
 
 -- bits that are written are those of subsets that fit the template, with 16,777,216 items at most
 abbrev pub WrittenFit : Type 0
-WrittenFit = (tree : Tree) (subsets : List Subset) (added : List Bool) → written_bits tree subsets ≡ Ok added → (items : ℕ) × AllFitWithin tree 0 subsets items × (added ≡ plain_subsets subsets)
+WrittenFit = (tree : Tree) (subsets : List Subset) (added : List Bool) → written_bits tree false subsets ≡ Ok added → (items : ℕ) × AllFitWithin tree 0 subsets items × (added ≡ plain_subsets subsets)
 
 -- such subsets are written
 abbrev pub FittingAreWritten : Type 0
-FittingAreWritten = (tree : Tree) (subsets : List Subset) (items : ℕ) → AllFitWithin tree 0 subsets items → written_bits tree subsets ≡ Ok (plain_subsets subsets)
+FittingAreWritten = (tree : Tree) (subsets : List Subset) (items : ℕ) → AllFitWithin tree 0 subsets items → written_bits tree false subsets ≡ Ok (plain_subsets subsets)
 
 -- ---- refusals
 
@@ -101,10 +101,10 @@ FieldMisfitsAreRefused = (j i : ℕ) (c : Course) (fields : List Field) (fault :
 
 -- the same of subsets, of which the earlier ones fit
 abbrev pub SubsetsRefusedMisfit : Type 0
-SubsetsRefusedMisfit = (tree : Tree) (subsets : List Subset) (fault : WriteFault) → written_bits tree subsets ≡ Err fault → SubsetMisfits tree 1 0 subsets fault
+SubsetsRefusedMisfit = (tree : Tree) (subsets : List Subset) (fault : WriteFault) → written_bits tree false subsets ≡ Err fault → SubsetMisfits tree 1 0 subsets fault
 
 abbrev pub SubsetMisfitsAreRefused : Type 0
-SubsetMisfitsAreRefused = (tree : Tree) (subsets : List Subset) (fault : WriteFault) → SubsetMisfits tree 1 0 subsets fault → written_bits tree subsets ≡ Err fault
+SubsetMisfitsAreRefused = (tree : Tree) (subsets : List Subset) (fault : WriteFault) → SubsetMisfits tree 1 0 subsets fault → written_bits tree false subsets ≡ Err fault
 
 -- ---- refusals, by what the template's tree stands for
 
@@ -131,7 +131,7 @@ FirstWriteIsRefused = (tree : Tree) (j used : ℕ) (fields : List Field) (fault 
 
 -- the same of the subsets of a message
 abbrev pub WrittenRefusedIsFirst : Type 0
-WrittenRefusedIsFirst = (tree : Tree) (subsets : List Subset) (fault : WriteFault) → written_bits tree subsets ≡ Err fault → FirstSubsetMisfit tree subsets fault
+WrittenRefusedIsFirst = (tree : Tree) (subsets : List Subset) (fault : WriteFault) → written_bits tree false subsets ≡ Err fault → FirstSubsetMisfit tree subsets fault
 
 abbrev pub FirstWrittenIsRefused : Type 0
-FirstWrittenIsRefused = (tree : Tree) (subsets : List Subset) (fault : WriteFault) → FirstSubsetMisfit tree subsets fault → written_bits tree subsets ≡ Err fault
+FirstWrittenIsRefused = (tree : Tree) (subsets : List Subset) (fault : WriteFault) → FirstSubsetMisfit tree subsets fault → written_bits tree false subsets ≡ Err fault

@@ -2,7 +2,10 @@ pub mod Plain
 pub mod Subsets
 pub mod Values
 pub mod Digits
+pub mod DecimalTexts
+pub mod DecimalTextFacts
 pub mod Laws
+pub mod Numbered
 pub mod Steady
 pub mod Reads
 pub mod Samples
@@ -10,3 +13,12 @@ pub mod Reasons
 pub mod Fits
 pub mod Refusals
 pub mod Causes
+pub mod Columns
+pub mod ColumnReading
+pub mod BestColumns
+pub mod ColumnCauses
+pub mod Data
+pub mod ColumnLaws
+pub mod Indexed
+pub mod Passing
+pub mod Places

@@ -42,13 +42,13 @@ plain_subsets subsets = flat_map (λ s. plain s.fields) subsets
 -- ---- fields of bits
 
 -- what was read: the fields of a subset, the items that the message has met by then, and the bits after them
-pub record Found : Type 0 where
+pub record SubsetRead : Type 0 where
   pub fields : List Field
   pub items : ℕ
   pub rest : List Bool
 
 -- the same of several subsets
-pub record AllFound : Type 0 where
+pub record SubsetsRead : Type 0 where
   pub subsets : List Subset
   pub items : ℕ
   pub rest : List Bool
@@ -72,7 +72,7 @@ number_of (Number n) = n
 number_of (Text octets) = 0
 
 -- a field and the fields after it, or where the data end
-abbrev pub field_then : ℕ → ℕ → ℕ → Spec → (ℕ → List Bool → Result Found ReadFault) → Option (Raw × List Bool) → Result Found ReadFault
+abbrev pub field_then : ℕ → ℕ → ℕ → Spec → (ℕ → List Bool → Result SubsetRead ReadFault) → Option (Raw × List Bool) → Result SubsetRead ReadFault
 field_then j i d spec after None = Err (faults.DataEnds j i)
 field_then j i d spec after (Some x) =
     after (number_of x.0) x.1 >>= λ found. Ok (record found { fields = record { fxy = d; spec = spec; raw = x.0 } ∷ found.fields })
@@ -83,13 +83,13 @@ stopped walks.TooLarge = Err faults.TooLarge
 stopped (walks.EffectiveRange d) = Err (faults.EffectiveRange d)
 
 -- the fields of subset j from field i on that a course asks for, at the front of bits, or the first fault
-unfoldable pub fields_at : ℕ → ℕ → Course → List Bool → Result Found ReadFault
+unfoldable pub fields_at : ℕ → ℕ → Course → List Bool → Result SubsetRead ReadFault
 fields_at j i (ends n) front = Ok (record { fields = []; items = n; rest = front })
 fields_at j i (stops met fault) front = stopped fault
 fields_at j i (asks met d spec more) front = field_then j i d spec (λ n rest. fields_at j (i + 1) (more n) rest) (raw_at spec front)
 
 -- so many subsets from subset j on, the items counted through all of them
-unfoldable pub subsets_at : (ℕ → Course) → ℕ → ℕ → ℕ → List Bool → Result AllFound ReadFault
+unfoldable pub subsets_at : (ℕ → Course) → ℕ → ℕ → ℕ → List Bool → Result SubsetsRead ReadFault
 subsets_at course j zero used front = Ok (record { subsets = []; items = used; rest = front })
 subsets_at course j (suc n) used front = do
   first ← fields_at j 1 (course used) front

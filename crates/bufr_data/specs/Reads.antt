@@ -5,7 +5,7 @@ use Rattle.bufr_data.specs.declared.field.Raw.{Raw}
 use Rattle.bufr_data.specs.declared.field.Field.{Field}
 use Rattle.bufr_data.specs.declared.fault.ReadFault.{ReadFault}
 use Rattle.bufr_data.specs.declared.fault.ReadFault.TheVariants as faults
-use Rattle.bufr_data.specs.Plain.{Found, fields_at}
+use Rattle.bufr_data.specs.Plain.{SubsetRead, fields_at}
 
 -- a raw value, or the fault of data that end in field i of subset j
 abbrev pub raw_or_ends : ℕ → ℕ → Option (Raw × List Bool) → Result (Raw × List Bool) ReadFault
@@ -13,7 +13,7 @@ raw_or_ends j i None = Err (faults.DataEnds j i)
 raw_or_ends j i (Some x) = Ok x
 
 -- these fields, and then those that are found
-abbrev pub behind_fields : List Field → Result Found ReadFault → Result Found ReadFault
+abbrev pub behind_fields : List Field → Result SubsetRead ReadFault → Result SubsetRead ReadFault
 behind_fields fields (Ok found) = Ok (record found { fields = fields ++ found.fields })
 behind_fields fields (Err e) = Err e
 

@@ -1,5 +1,5 @@
 -- What the examples speak of.
-use Rattle.std.specs.Prelude.{ℕ, List, map, Result, Ok, Err}
+use Rattle.std.specs.Prelude.{ℕ, ◌*◌, Bool, true, List, [], map, Result, Ok, Err, pos}
 use Rattle.bufr_expand.specs.Expansion.{expansion}
 use Rattle.bufr_expand.specs.Trees.{Tree, done, tree_of}
 use Rattle.bufr_expand.specs.Courses.{Course, course}
@@ -8,7 +8,14 @@ use Rattle.bufr_expand.specs.declared.node.Node.{Node}
 use Rattle.bufr_expand.specs.declared.node.TemplateFault.{TemplateFault}
 use Rattle.bufr_data.specs.declared.field.Raw.{Raw}
 use Rattle.bufr_data.specs.declared.fault.ReadFault.{ReadFault}
-use Rattle.bufr_data.specs.Plain.{Found}
+use Rattle.bufr_data.specs.declared.fault.WriteFault.{WriteFault}
+use Rattle.bufr_data.specs.Plain.{SubsetRead}
+use Rattle.bufr_data.specs.declared.field.Subset.{Subset}
+use Rattle.bufr_data.specs.Data.{subsets_in, written_bits}
+use Rattle.bufr_bits.specs.Bits.{bits}
+use Rattle.bufr_tables.specs.Answers.{result_map}
+use Rattle.bufr_tables.specs.declared.element.Kind.TheVariants as kinds
+use Rattle.bufr_expand.specs.declared.operators.Spec.{Spec}
 
 -- the tree of an expansion; where there is none, the tree of no descriptor
 abbrev pub tree_or_done : Result (List Node) TemplateFault → Tree
@@ -20,6 +27,34 @@ abbrev pub sample_course : List ℕ → ℕ → Course
 sample_course list used = course (tree_or_done (expansion sample list)) used
 
 -- the raw values that were read
-abbrev pub raws : Result Found ReadFault → Result (List Raw) ReadFault
+abbrev pub raws : Result SubsetRead ReadFault → Result (List Raw) ReadFault
 raws (Ok found) = Ok (map (λ f. f.raw) found.fields)
 raws (Err e) = Err e
+
+-- ---- compressed data
+
+abbrev pub sample_tree : List ℕ → Tree
+sample_tree list = tree_or_done (expansion sample list)
+
+-- the raw values of each subset in octets of data, compressed or not
+abbrev pub sample_raws : List ℕ → Bool → ℕ → List ℕ → Result (List (List Raw)) ReadFault
+sample_raws list compressed n octets =
+    result_map (λ found. map (λ s. map (λ f. f.raw) s.fields) found.0)
+    (subsets_in (sample_tree list) compressed n (bits octets))
+
+abbrev pub written_compressed :
+    Tree → Result (List Subset × List Bool) ReadFault → Result (List Bool) WriteFault
+written_compressed tree (Ok found) = written_bits tree true found.0
+written_compressed tree (Err e) = Ok []
+
+-- octets of data read, and their subsets written compressed
+abbrev pub recompressed : List ℕ → Bool → ℕ → List ℕ → Result (List Bool) WriteFault
+recompressed list compressed n octets =
+    written_compressed (sample_tree list) (subsets_in (sample_tree list) compressed n (bits octets))
+
+-- a column of numbers of so many bits
+abbrev pub number_spec : ℕ → Spec
+number_spec width = record { kind = kinds.Quantity; scale = pos 0; reference = pos 0; width = width }
+
+abbrev pub text_spec : ℕ → Spec
+text_spec octets = record { kind = kinds.Text; scale = pos 0; reference = pos 0; width = octets * 8 }

@@ -1,17 +1,14 @@
--- The subsets of a message and their bits, one subset after the other (FM 94 BUFR, regulation 94.5).
+-- What writing leaves at a sink's end.
 use Rattle.std.specs.Prelude.{◌≡◌, ℕ, Bool, true, false, List, ◌++◌, Result, Ok, Err}
 use Rattle.bufr_tables.specs.declared.failure.Failure.{Failure}
-use Rattle.bufr_tables.specs.Answers.{Fails, result_map}
-use Rattle.bufr_expand.specs.Trees.{Tree}
-use Rattle.bufr_expand.specs.Courses.{course}
-use Rattle.bufr_data.specs.declared.field.Subset.{Subset}
+use Rattle.bufr_tables.specs.Answers.{Fails}
+use Rattle.std.specs.List.{list_all}
+use Rattle.bufr_expand.specs.declared.operators.Spec.{Spec}
+use Rattle.bufr_data.specs.declared.field.Raw.{Raw}
+use Rattle.bufr_data.specs.declared.field.Field.{Field}
 use Rattle.bufr_data.specs.declared.fault.WriteFault.{WriteFault}
 use Rattle.bufr_data.specs.declared.fault.WriteFault.TheVariants as misfits
-use Rattle.bufr_data.specs.Plain.{plain_subsets, items_of_all}
-
--- the data bits of subsets that the template allows, or the first fault
-abbrev pub written_bits : Tree → List Subset → Result (List Bool) WriteFault
-written_bits tree subsets = result_map (λ items. plain_subsets subsets) (items_of_all (course tree) 1 0 subsets)
+use Rattle.bufr_data.specs.Plain.{has_form_by}
 
 -- bits of which others are the front
 abbrev pub Extends : List Bool → List Bool → Type 0
@@ -26,3 +23,11 @@ fits_or j i false = Err (misfits.DoesNotFit j i)
 abbrev pub Appends : {X F : Type 0} → List Bool → List Bool → Result X (Failure F) → Result (List Bool) F → Type 0
 Appends old new (Ok x) meant = (added : List Bool) × (meant ≡ Ok added) × (new ≡ old ++ added)
 Appends old new (Err e) meant = Fails e meant × (new ≡ old)
+
+-- a field's raw value has its spec's form
+abbrev pub has_own_form : Field → Bool
+has_own_form f = has_form_by f.spec.kind f.spec.width f.raw
+
+-- raw values have a spec's form
+abbrev pub have_form : Spec → List Raw → Bool
+have_form spec values = list_all (has_form_by spec.kind spec.width) values

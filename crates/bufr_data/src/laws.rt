@@ -1,4 +1,4 @@
-//! Laws of plain data, for any template.
+//! Laws of data, for any template.
 
 ghost use Rattle.bufr_data.specs.Laws.{ReadStand, StandingAreRead, CountedFit, FittingAreCounted, AllCountedFit, AllFittingAreCounted};
 ghost use Rattle.bufr_data.specs.Laws.{SubsetReadStands, SubsetStandingIsRead, SubsetsReadStand, SubsetsStandingAreRead, WrittenFit, FittingAreWritten};
@@ -7,8 +7,16 @@ ghost use Rattle.bufr_data.specs.Laws.{NoneStandsOnFewBits, FewBitsWhereNoneStan
 ghost use Rattle.bufr_data.specs.Laws.{SubsetsRefusedMisfit, SubsetMisfitsAreRefused};
 ghost use Rattle.bufr_data.specs.Laws.{ReadRefusedIsFirst, FirstReadIsRefused, SubsetsReadRefusedIsFirst, FirstSubsetsReadIsRefused};
 ghost use Rattle.bufr_data.specs.Laws.{WriteRefusedIsFirst, FirstWriteIsRefused, WrittenRefusedIsFirst, FirstWrittenIsRefused};
+ghost use Rattle.std.specs.Prelude.{ℕ, Bool, List};
+ghost use Rattle.bufr_expand.specs.Trees.{Tree};
+ghost use Rattle.bufr_data.specs.Data.{ReadsExactly, RefusesExactly, WritesExactly, MisfitsExactly, BareDataAreData, PlainDataAreBare, PackedDataCanBeBare, NarrowDataCanBePacked};
+ghost use Rattle.bufr_data.specs.Columns.{Column};
+ghost use Rattle.bufr_data.specs.ColumnLaws.{ColumnReadStands, StandingColumnIsRead, BestIsColumn, BestIsShortest};
+ghost use Rattle.bufr_data.specs.declared.field.Subset.{Subset};
+ghost use Rattle.bufr_data.specs.declared.fault.ReadFault.{ReadFault};
+ghost use Rattle.bufr_data.specs.declared.fault.WriteFault.{WriteFault};
 
-use bufr_expand::{courses_are_unrollings, courses_begin_unrollings};
+use bufr_expand::laws::{courses_are_unrollings, courses_begin_unrollings};
 
 /// Reading answers subsets exactly where they fit the template and their bits stand at the front, item counts and rest included.
 pub fn plain_data_spell_subsets()
@@ -82,6 +90,33 @@ pub fn write_refusals_follow_the_tree()
     ensures misfit { FirstWriteIsRefused }
     ensures subsets_refused { WrittenRefusedIsFirst }
     ensures subsets_misfit { FirstWrittenIsRefused }
+{
+    courses_are_unrollings();
+    courses_begin_unrollings();
+}
+
+/// The values that are read of one place are exactly those whose column stands at the front of the
+/// bits. The column that is written is one wherever it can be; and wherever numbers stand in a
+/// column, no column of them is shorter.
+pub fn columns_hold_values()
+    ensures stand { ColumnReadStands }
+    ensures is_read { StandingColumnIsRead }
+    ensures best { BestIsColumn }
+    ensures shortest { BestIsShortest }
+{}
+
+/// What a message's crate knows of data, plain or compressed: subsets are read exactly where the
+/// bits begin with their data, else refused exactly for the first fault; they are written exactly as
+/// their data with nothing in what is free, else refused exactly for the first fault.
+pub fn data_hold_subsets()
+    ensures read { (tree : Tree) (compressed : Bool) (count : ℕ) (front : List Bool) (found : List Subset × List Bool) → ReadsExactly tree compressed count front found }
+    ensures refused { (tree : Tree) (compressed : Bool) (count : ℕ) (front : List Bool) (fault : ReadFault) → RefusesExactly tree compressed count front fault }
+    ensures written { (tree : Tree) (compressed : Bool) (subsets : List Subset) (data_bits : List Bool) → WritesExactly tree compressed subsets data_bits }
+    ensures misfit { (tree : Tree) (compressed : Bool) (subsets : List Subset) (fault : WriteFault) → MisfitsExactly tree compressed subsets fault }
+    ensures bare { (tree : Tree) (compressed : Bool) (subsets : List Subset) (data_bits : List Bool) → BareDataAreData tree compressed subsets data_bits }
+    ensures plain { (tree : Tree) (subsets : List Subset) (data_bits : List Bool) → PlainDataAreBare tree subsets data_bits }
+    ensures packable { (tree : Tree) (subsets : List Subset) (columns : List Column) (data_bits : List Bool) → PackedDataCanBeBare tree subsets columns data_bits }
+    ensures narrow { (tree : Tree) (subsets : List Subset) (data_bits : List Bool) → NarrowDataCanBePacked tree subsets data_bits }
 {
     courses_are_unrollings();
     courses_begin_unrollings();

@@ -5,9 +5,10 @@ ghost use Rattle.bufr_bits.specs.Ends.{left};
 ghost use Rattle.bufr_tables.specs.Answers.{Gives, Fails};
 ghost use Rattle.bufr_expand.specs.Courses.{course};
 ghost use Rattle.bufr_expand.specs.Walks as walks;
-ghost use Rattle.bufr_data.specs.Plain.{Found, raw_at, stopped, fields_at};
+ghost use Rattle.bufr_data.specs.ColumnReading.{ColumnsFound};
+ghost use Rattle.bufr_data.specs.Plain.{SubsetRead, raw_at, stopped, fields_at};
 ghost use Rattle.bufr_data.specs.Reads.{raw_or_ends, Reads};
-ghost use Rattle.bufr_data.specs.Steady.{IsReady, GoesOn};
+ghost use Rattle.bufr_data.specs.Steady.{IsReady, WalkAdvances};
 
 use crate::fault::ReadFault;
 use crate::field::{Field, Raw, Subset};
@@ -29,6 +30,7 @@ pub fn read_plain(
     ensures exact { Gives (λ x. record { fields = x.0.fields; items = x.1; rest = left reader.new }) result (fields_at 1 1 (course template.now used) (left reader.old)) }
     ensures octets { reader.new.octets ≡ reader.old.octets }
     ensures err { OnErr result (reader.new ≡ reader.old) }
+    ensures onward { reader.old.place ≤ reader.new.place }
 {
     let place = reader.place();
     let answer = read_fields(alloc, template, reader, used);
@@ -68,7 +70,7 @@ fn read_field(
     requires { IsReady walk.old }
     ensures ok { IfOk result (λ o. Reads 1 i (walks.left walk.old) (left reader.old) o (walks.left walk.new) (walks.items_met walk.new) (left reader.new)) }
     ensures err { IfErr result (λ e. Fails e (fields_at 1 i (walks.left walk.old) (left reader.old))) }
-    ensures goes_on { IfOk result (λ o. OnSome o (GoesOn walk.old walk.new)) }
+    ensures goes_on { IfOk result (λ o. OnSome o (WalkAdvances walk.old walk.new)) }
     ensures octets { reader.new.octets ≡ reader.old.octets }
     ensures onward { reader.old.place ≤ reader.new.place }
 {
@@ -91,8 +93,9 @@ fn read_field(
 }
 
 /// The fault of data at which the walk stops.
-fn fault_of(fault: WalkFault) -> ReadFault
-    ensures { stopped {A = Found} fault ≡ Err result }
+pub(crate) fn fault_of(fault: WalkFault) -> ReadFault
+    ensures fields { stopped {A = SubsetRead} fault ≡ Err result }
+    ensures columns { stopped {A = ColumnsFound} fault ≡ Err result }
 {
     match fault {
         WalkFault::TooLarge => ReadFault::TooLarge,

@@ -1,4 +1,6 @@
 //! Values and data, row by row of the description.
 
+mod compressed;
 mod data;
+mod samples;
 mod values;

@@ -1,15 +1,20 @@
--- The tree of the nodes from one place to another.
-use Rattle.std.proofs.Common.{◌≡◌, ℕ, zero, suc, ◌+◌, ◌-◌, ◌<◌, ◌≤◌, min, List, [], ◌∷◌, length, get_or, take, drop, refl, ap, ◌∙◌, arith, inl, inr}
-use Rattle.std.proofs.lemmas.List.{take-take, take_all, drop-drop, drop-take, drop_more, drop_all, length-take, length-drop}
+-- The tree of the nodes from one place to another, for the contracts of `Walk::start` and
+-- `Walk::next`, by way of `Passing`.
+use Rattle.std.proofs.Common.{◌≡◌, ℕ, zero, suc, ◌+◌, ◌-◌, ◌<◌, ◌≤◌, min, List, [], ◌∷◌, length}
+use Rattle.std.proofs.Common.{get_or, take, drop, refl, ap, ◌∙◌, arith, inl, inr}
+use Rattle.std.proofs.lemmas.List.{take-take, take_all, drop-drop, drop-take, drop_more, drop_all}
+use Rattle.std.proofs.lemmas.List.{length-take, length-drop}
 use Rattle.std.proofs.lemmas.Bool.{cases_lt}
 use Rattle.bufr_tables.specs.declared.element.Element.{Element}
 use Rattle.bufr_expand.specs.declared.node.Node.{Node}
 use Rattle.bufr_expand.specs.declared.node.Node.TheVariants as nodes
-use Rattle.bufr_expand.specs.Trees.{done, element, untouched, operator, repeated, delayed, tree_within, tree_of}
+use Rattle.bufr_expand.specs.Trees.{done, element, untouched, operator, repeated, delayed}
+use Rattle.bufr_expand.specs.Trees.{tree_within, tree_of}
 use Rattle.bufr_expand.specs.Walks.{tree_between}
 
 -- how far the tree may go on does not count where that is far enough
-pub enough : (k m : ℕ) (ns : List Node) → length ns ≤ k → length ns ≤ m → tree_within k ns ≡ tree_within m ns
+pub enough : (k m : ℕ) (ns : List Node) → length ns ≤ k → length ns ≤ m
+    → tree_within k ns ≡ tree_within m ns
 unfolding tree_within
 enough zero zero ns h g = refl
 enough zero (suc m) [] h g = refl
@@ -17,43 +22,72 @@ enough zero (suc m) (n ∷ ns) h g = absurd (omega arith)
 enough (suc k) zero [] h g = refl
 enough (suc k) zero (n ∷ ns) h g = absurd (omega arith)
 enough (suc k) (suc m) [] h g = refl
-enough (suc k) (suc m) (nodes.Element d e ∷ ns) h g = ap (element d e) (enough k m ns (omega arith) (omega arith))
-enough (suc k) (suc m) (nodes.Untouched d e ∷ ns) h g = ap (untouched d e) (enough k m ns (omega arith) (omega arith))
-enough (suc k) (suc m) (nodes.Operator d ∷ ns) h g = ap (operator d) (enough k m ns (omega arith) (omega arith))
+enough (suc k) (suc m) (nodes.Element d e ∷ ns) h g =
+    ap (element d e) (enough k m ns (omega arith) (omega arith))
+enough (suc k) (suc m) (nodes.Untouched d e ∷ ns) h g =
+    ap (untouched d e) (enough k m ns (omega arith) (omega arith))
+enough (suc k) (suc m) (nodes.Operator d ∷ ns) h g =
+    ap (operator d) (enough k m ns (omega arith) (omega arith))
 enough (suc k) (suc m) (nodes.Repeated times len ∷ ns) h g =
     let t = length-take len ns in
     let d = length-drop len ns in
-    rw (enough k m (take len ns) (omega arith) (omega arith), enough k m (drop len ns) (omega arith) (omega arith)) refl
+    rw (
+      enough k m (take len ns) (omega arith) (omega arith),
+      enough k m (drop len ns) (omega arith) (omega arith),
+    ) refl
 enough (suc k) (suc m) (nodes.Delayed f e len ∷ ns) h g =
     let t = length-take len ns in
     let d = length-drop len ns in
-    rw (enough k m (take len ns) (omega arith) (omega arith), enough k m (drop len ns) (omega arith) (omega arith)) refl
+    rw (
+      enough k m (take len ns) (omega arith) (omega arith),
+      enough k m (drop len ns) (omega arith) (omega arith),
+    ) refl
 
-pub tree_of-element : (d : ℕ) (e : Element) (ns : List Node) → tree_of (nodes.Element d e ∷ ns) ≡ element d e (tree_of ns)
+-- the tree of an element and the nodes behind it
+pub tree_of-element : (d : ℕ) (e : Element) (ns : List Node)
+    → tree_of (nodes.Element d e ∷ ns) ≡ element d e (tree_of ns)
 unfolding tree_within
 tree_of-element d e ns = refl
 
-pub tree_of-untouched : (d : ℕ) (e : Element) (ns : List Node) → tree_of (nodes.Untouched d e ∷ ns) ≡ untouched d e (tree_of ns)
+-- of a field that no operator changes
+pub tree_of-untouched : (d : ℕ) (e : Element) (ns : List Node)
+    → tree_of (nodes.Untouched d e ∷ ns) ≡ untouched d e (tree_of ns)
 unfolding tree_within
 tree_of-untouched d e ns = refl
 
-pub tree_of-operator : (d : ℕ) (ns : List Node) → tree_of (nodes.Operator d ∷ ns) ≡ operator d (tree_of ns)
+-- of an operator
+pub tree_of-operator : (d : ℕ) (ns : List Node)
+    → tree_of (nodes.Operator d ∷ ns) ≡ operator d (tree_of ns)
 unfolding tree_within
 tree_of-operator d ns = refl
 
-within_take : (len : ℕ) (ns : List Node) → tree_within (length ns) (take len ns) ≡ tree_of (take len ns)
-within_take len ns = let t = length-take len ns in enough (length ns) (length (take len ns)) (take len ns) (omega arith) (omega arith)
+-- the tree of a body's nodes, however far it may go on
+within_take : (len : ℕ) (ns : List Node)
+    → tree_within (length ns) (take len ns) ≡ tree_of (take len ns)
+within_take len ns = let t = length-take len ns in
+    enough (length ns) (length (take len ns)) (take len ns) (omega arith) (omega arith)
 
-within_drop : (len : ℕ) (ns : List Node) → tree_within (length ns) (drop len ns) ≡ tree_of (drop len ns)
-within_drop len ns = let d = length-drop len ns in enough (length ns) (length (drop len ns)) (drop len ns) (omega arith) (omega arith)
+-- of the nodes behind a body
+within_drop : (len : ℕ) (ns : List Node)
+    → tree_within (length ns) (drop len ns) ≡ tree_of (drop len ns)
+within_drop len ns = let d = length-drop len ns in
+    enough (length ns) (length (drop len ns)) (drop len ns) (omega arith) (omega arith)
 
-pub tree_of-repeated : (times len : ℕ) (ns : List Node) → tree_of (nodes.Repeated times len ∷ ns) ≡ repeated times (tree_of (take len ns)) (tree_of (drop len ns))
+-- of a replication
+pub tree_of-repeated : (times len : ℕ) (ns : List Node)
+    → tree_of (nodes.Repeated times len ∷ ns)
+    ≡ repeated times (tree_of (take len ns)) (tree_of (drop len ns))
 unfolding tree_within
-tree_of-repeated times len ns = ap (λ t. repeated times t (tree_within (length ns) (drop len ns))) (within_take len ns) ∙ ap (λ t. repeated times (tree_of (take len ns)) t) (within_drop len ns)
+tree_of-repeated times len ns = ap (λ t. repeated times t (tree_within (length ns) (drop len ns)))
+    (within_take len ns) ∙ ap (λ t. repeated times (tree_of (take len ns)) t) (within_drop len ns)
 
-pub tree_of-delayed : (d : ℕ) (e : Element) (len : ℕ) (ns : List Node) → tree_of (nodes.Delayed d e len ∷ ns) ≡ delayed d e (tree_of (take len ns)) (tree_of (drop len ns))
+-- of a delayed replication
+pub tree_of-delayed : (d : ℕ) (e : Element) (len : ℕ) (ns : List Node)
+    → tree_of (nodes.Delayed d e len ∷ ns)
+    ≡ delayed d e (tree_of (take len ns)) (tree_of (drop len ns))
 unfolding tree_within
-tree_of-delayed d e len ns = ap (λ t. delayed d e t (tree_within (length ns) (drop len ns))) (within_take len ns) ∙ ap (λ t. delayed d e (tree_of (take len ns)) t) (within_drop len ns)
+tree_of-delayed d e len ns = ap (λ t. delayed d e t (tree_within (length ns) (drop len ns)))
+    (within_take len ns) ∙ ap (λ t. delayed d e (tree_of (take len ns)) t) (within_drop len ns)
 
 -- no nodes
 pub tree_between-none : (ns : List Node) (i j : ℕ) → j ≤ i → tree_between ns i j ≡ done
@@ -62,34 +96,44 @@ tree_between-none ns i j h = let e : j - i ≡ 0 = omega arith in rw e refl
 
 -- all nodes
 pub tree_between-all : (ns : List Node) → tree_between ns 0 (length ns) ≡ tree_of ns
-tree_between-all ns = let e : length ns - 0 ≡ length ns = omega arith in rw (e, take_all (length ns) ns (omega arith)) refl
+tree_between-all ns = let e : length ns - 0 ≡ length ns = omega arith in
+    rw (e, take_all (length ns) ns (omega arith)) refl
 
 -- the first node and the nodes behind it
-pub between-step : (ns : List Node) (i j : ℕ) (d : Node) → i < j → j ≤ length ns → take (j - i) (drop i ns) ≡ get_or ns i d ∷ take (j - (i + 1)) (drop (i + 1) ns)
+pub between-step : (ns : List Node) (i j : ℕ) (d : Node) → i < j → j ≤ length ns
+    → take (j - i) (drop i ns) ≡ get_or ns i d ∷ take (j - (i + 1)) (drop (i + 1) ns)
 between-step ns i j d h g =
     let inside : i < length ns = omega arith in
     let e : j - i ≡ suc (j - (i + 1)) = omega arith in
     rw (e, drop_more ns i d inside) refl
 
 -- the first nodes behind a place, no more than there are
-pub between-body : (ns : List Node) (p j len : ℕ) → p ≤ j → take len (take (j - p) (drop p ns)) ≡ take ((p + min len (j - p)) - p) (drop p ns)
+pub between-body : (ns : List Node) (p j len : ℕ) → p ≤ j
+    → take len (take (j - p) (drop p ns)) ≡ take ((p + min len (j - p)) - p) (drop p ns)
 between-body ns p j len h =
-    let few : len ≤ j - p → take len (take (j - p) (drop p ns)) ≡ take ((p + min len (j - p)) - p) (drop p ns) =
-    λ s. let e : (p + min len (j - p)) - p ≡ len = omega arith in rw e (take-take len (j - p) (drop p ns) s) in
-    let many : j - p < len → take len (take (j - p) (drop p ns)) ≡ take ((p + min len (j - p)) - p) (drop p ns) =
+    let few : len ≤ j - p → take len (take (j - p) (drop p ns))
+    ≡ take ((p + min len (j - p)) - p) (drop p ns) =
+    λ s. let e : (p + min len (j - p)) - p ≡ len = omega arith in
+    rw e (take-take len (j - p) (drop p ns) s) in
+    let many : j - p < len → take len (take (j - p) (drop p ns))
+    ≡ take ((p + min len (j - p)) - p) (drop p ns) =
     λ s. let e : (p + min len (j - p)) - p ≡ j - p = omega arith in
     let t = length-take (j - p) (drop p ns) in
     rw e (take_all len (take (j - p) (drop p ns)) (omega arith)) in
     elim (cases_lt (j - p) len) [ inl s ↦ many s | inr s ↦ few s ]
 
 -- the nodes behind these
-pub between-rest : (ns : List Node) (p j len : ℕ) → p ≤ j → drop len (take (j - p) (drop p ns)) ≡ take (j - (p + min len (j - p))) (drop (p + min len (j - p)) ns)
+pub between-rest : (ns : List Node) (p j len : ℕ) → p ≤ j
+    → drop len (take (j - p) (drop p ns))
+    ≡ take (j - (p + min len (j - p))) (drop (p + min len (j - p)) ns)
 between-rest ns p j len h =
-    let few : len ≤ j - p → drop len (take (j - p) (drop p ns)) ≡ take (j - (p + min len (j - p))) (drop (p + min len (j - p)) ns) =
+    let few : len ≤ j - p → drop len (take (j - p) (drop p ns))
+    ≡ take (j - (p + min len (j - p))) (drop (p + min len (j - p)) ns) =
     λ s. let e : min len (j - p) ≡ len = omega arith in
     let f : j - p ≡ len + (j - (p + len)) = omega arith in
     rw (e, f, drop-take len (j - (p + len)) (drop p ns), drop-drop len p ns) refl in
-    let many : j - p < len → drop len (take (j - p) (drop p ns)) ≡ take (j - (p + min len (j - p))) (drop (p + min len (j - p)) ns) =
+    let many : j - p < len → drop len (take (j - p) (drop p ns))
+    ≡ take (j - (p + min len (j - p))) (drop (p + min len (j - p)) ns) =
     λ s. let e : j - (p + min len (j - p)) ≡ 0 = omega arith in
     let t = length-take (j - p) (drop p ns) in
     rw (e, drop_all len (take (j - p) (drop p ns)) (omega arith)) refl in

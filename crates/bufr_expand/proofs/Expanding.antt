@@ -1,121 +1,204 @@
--- The nodes so far, and behind them those of the descriptors that are left.
-use Rattle.std.proofs.Common.{◌≡◌, ℕ, zero, suc, ◌+◌, ◌-◌, ◌<◌, List, [], ◌∷◌, ◌++◌, length, drop, set, Ok, Err, refl, sym, ap, subst, ◌∙◌, arith, append_assoc, length-append, Bool, true, false, cond, ltb}
+-- The nodes so far, and behind them those of the descriptors that are left, for the contract of
+-- `Template::build`, by way of that of `expand`.
+use Rattle.std.proofs.Common.{◌≡◌, ℕ, zero, suc, ◌+◌, ◌-◌, ◌<◌, List, [], ◌∷◌, ◌++◌, length, drop}
+use Rattle.std.proofs.Common.{set, Ok, Err, refl, sym, ap, subst, ◌∙◌, arith, append_assoc}
+use Rattle.std.proofs.Common.{length-append, Bool, true, false, cond, ltb}
 use Rattle.std.proofs.lemmas.List.{append-nil}
 use Rattle.std.proofs.Math.Seq.{set-append_seam}
 use Rattle.bufr_tables.specs.Answers.{Fails, ◌>>=◌}
 use Rattle.bufr_tables.specs.declared.failure.Failure.{Failure}
 use Rattle.bufr_tables.specs.declared.failure.Failure.TheVariants.{Fault, OutOfMemory}
 use Rattle.bufr_tables.specs.Entries.{Entries}
+use Rattle.bufr_expand.specs.Limits.{most_nodes}
 use Rattle.bufr_expand.specs.declared.node.Node.{Node}
-use Rattle.bufr_expand.specs.declared.node.Head.{Head}
+use Rattle.bufr_expand.specs.declared.node.Repetitions.{Repetitions}
 use Rattle.bufr_expand.specs.declared.node.TemplateFault.{TemplateFault}
 use Rattle.bufr_expand.specs.declared.node.TemplateFault.TheVariants.{TooManyNodes}
-use Rattle.bufr_expand.specs.Expansion.{Expansion, Deeper, Found, Finding, replication, found_at, part_nodes, single_nodes, head_node, expand_list, expand_within, onto}
+use Rattle.bufr_expand.specs.Expansion.{Expansion, Deeper, FirstPart, Finding, replication}
+use Rattle.bufr_expand.specs.Expansion.{found_at, part_nodes, single_nodes, replication_node}
+use Rattle.bufr_expand.specs.Expansion.{expand_list, expand_within, onto}
 
 -- ---- answers, taken apart
 
-pub onto_ok : (before : List Node) (m : Expansion) (after : List Node) → Ok after ≡ onto before m → (ns : List Node) × (m ≡ Ok ns) × (after ≡ before ++ ns)
+-- nodes that stand behind others are the nodes of an expansion
+pub onto_ok : (before : List Node) (m : Expansion) (after : List Node) → Ok after ≡ onto before m
+    → (ns : List Node) × (m ≡ Ok ns) × (after ≡ before ++ ns)
 onto_ok before (Ok ns) after e = (ns, refl, cc)
 onto_ok before (Err f) after e = absurd (cc)
 
-pub onto_err : (before : List Node) (m : Expansion) (f : TemplateFault) → onto before m ≡ Err f → m ≡ Err f
+-- a fault behind nodes is that of the expansion
+pub onto_err : (before : List Node) (m : Expansion) (f : TemplateFault) → onto before m ≡ Err f
+    → m ≡ Err f
 onto_err before (Ok ns) f e = absurd (cc)
 onto_err before (Err g) f e = cc
 
-pub onto_append : (before ns : List Node) (m : Expansion) → onto before (m >>= λ rest. Ok (ns ++ rest)) ≡ onto (before ++ ns) m
+-- one expansion behind another
+pub onto_append : (before ns : List Node) (m : Expansion)
+    → onto before (m >>= λ rest. Ok (ns ++ rest)) ≡ onto (before ++ ns) m
 onto_append before ns (Ok rest) = ap Ok (sym (append_assoc before ns rest))
 onto_append before ns (Err f) = refl
 
 -- ---- the list
 
-pub expand_list-skip : (tables : Entries) (deeper : Deeper) (s r skip used : ℕ) (list : List ℕ) → expand_list tables deeper s r skip used list ≡ expand_list tables deeper s r 0 used (drop skip list)
+-- descriptors that belong to what came before are passed over
+pub expand_list-skip : (tables : Entries) (deeper : Deeper) (s r skip used : ℕ) (list : List ℕ)
+    → expand_list tables deeper s r skip used list
+    ≡ expand_list tables deeper s r 0 used (drop skip list)
 unfolding expand_list
 expand_list-skip tables deeper s r zero used [] = refl
 expand_list-skip tables deeper s r zero used (d ∷ behind) = refl
 expand_list-skip tables deeper s r (suc skip) used [] = refl
-expand_list-skip tables deeper s r (suc skip) used (d ∷ behind) = expand_list-skip tables deeper s r skip used behind
+expand_list-skip tables deeper s r (suc skip) used (d ∷ behind) =
+    expand_list-skip tables deeper s r skip used behind
 
 -- what follows the nodes of the first part
 abbrev after_first : Entries → Deeper → ℕ → ℕ → ℕ → List ℕ → ℕ → List Node → Expansion
 after_first tables deeper s r used behind taken first =
     expand_list tables deeper s r taken (used + length first) behind >>= λ rest. Ok (first ++ rest)
 
-abbrev after_found : Entries → Deeper → ℕ → ℕ → ℕ → List ℕ → Found → Expansion
+-- what follows a part
+abbrev after_found : Entries → Deeper → ℕ → ℕ → ℕ → List ℕ → FirstPart → Expansion
 after_found tables deeper s r used behind next =
     part_nodes deeper s r used next.part >>= after_first tables deeper s r used behind next.taken
 
-pub expand_list-found : (tables : Entries) (deeper : Deeper) (s r used d : ℕ) (behind : List ℕ) (m : Finding) → m ≡ found_at tables d behind → expand_list tables deeper s r 0 used (d ∷ behind) ≡ (m >>= after_found tables deeper s r used behind)
+-- a list by the part that its first descriptor stands for
+pub expand_list-found : (tables : Entries) (deeper : Deeper) (s r used d : ℕ) (behind : List ℕ)
+    (m : Finding) → m ≡ found_at tables d behind
+    → expand_list tables deeper s r 0 used (d ∷ behind)
+    ≡ (m >>= after_found tables deeper s r used behind)
 unfolding expand_list
-expand_list-found tables deeper s r used d behind m e = ap (λ (x : Finding). x >>= after_found tables deeper s r used behind) (sym e)
+expand_list-found tables deeper s r used d behind m e =
+    ap (λ (x : Finding). x >>= after_found tables deeper s r used behind) (sym e)
 
 -- the nodes so far, and behind them those of a list
 abbrev pub expanded : Entries → ℕ → ℕ → List Node → List ℕ → Expansion
-expanded tables s r nodes list = onto nodes (expand_list tables (expand_within (s + r) tables) s r 0 (length nodes) list)
+expanded tables s r nodes list = onto nodes
+    (expand_list tables (expand_within (s + r) tables) s r 0 (length nodes) list)
 
-pub expanded_fault : (tables : Entries) (s r d : ℕ) (nodes : List Node) (behind : List ℕ) (f : TemplateFault) → Err f ≡ found_at tables d behind → expanded tables s r nodes (d ∷ behind) ≡ Err f
+-- the first descriptor stands for nothing
+pub expanded_fault : (tables : Entries) (s r d : ℕ) (nodes : List Node) (behind : List ℕ)
+    (f : TemplateFault) → Err f ≡ found_at tables d behind
+    → expanded tables s r nodes (d ∷ behind) ≡ Err f
 expanded_fault tables s r d nodes behind f e =
-    ap (onto nodes) (expand_list-found tables (expand_within (s + r) tables) s r (length nodes) d behind (Err f) e)
+    ap (onto nodes) (expand_list-found tables (expand_within (s + r) tables) s r
+    (length nodes) d behind (Err f) e)
 
-pub expanded_part_fault : (tables : Entries) (s r d : ℕ) (nodes : List Node) (behind : List ℕ) (next : Found) (e : Failure TemplateFault) → Ok next ≡ found_at tables d behind → Fails e (onto nodes (part_nodes (expand_within (s + r) tables) s r (length nodes) next.part)) → Fails e (expanded tables s r nodes (d ∷ behind))
+-- its part has a fault
+pub expanded_part_fault : (tables : Entries) (s r d : ℕ) (nodes : List Node) (behind : List ℕ)
+    (next : FirstPart) (e : Failure TemplateFault) → Ok next ≡ found_at tables d behind
+    → Fails e (onto nodes (part_nodes (expand_within (s + r) tables) s r (length nodes) next.part))
+    → Fails e (expanded tables s r nodes (d ∷ behind))
 expanded_part_fault tables s r d nodes behind next OutOfMemory h k = tt
 expanded_part_fault tables s r d nodes behind next (Fault f) h k =
-    let p = onto_err nodes (part_nodes (expand_within (s + r) tables) s r (length nodes) next.part) f k in
-    ap (onto nodes) (expand_list-found tables (expand_within (s + r) tables) s r (length nodes) d behind (Ok next) h) ∙ ap (λ (x : Expansion). onto nodes (x >>= after_first tables (expand_within (s + r) tables) s r (length nodes) behind next.taken)) p
+    let p = onto_err nodes (part_nodes (expand_within (s + r) tables) s r (length nodes) next.part)
+    f k in
+    ap (onto nodes) (expand_list-found tables (expand_within (s + r) tables) s r
+    (length nodes) d behind (Ok next) h)
+    ∙ ap (λ (x : Expansion). onto nodes
+    (x >>= after_first tables (expand_within (s + r) tables) s r
+    (length nodes) behind next.taken)) p
 
-pub expanded_more : (tables : Entries) (s r d : ℕ) (nodes after : List Node) (behind : List ℕ) (next : Found) → Ok next ≡ found_at tables d behind → onto nodes (part_nodes (expand_within (s + r) tables) s r (length nodes) next.part) ≡ Ok after → expanded tables s r nodes (d ∷ behind) ≡ expanded tables s r after (drop next.taken behind)
+-- its part has nodes, and the rest follows them
+pub expanded_more : (tables : Entries) (s r d : ℕ) (nodes after : List Node) (behind : List ℕ)
+    (next : FirstPart) → Ok next ≡ found_at tables d behind
+    → onto nodes (part_nodes (expand_within (s + r) tables) s r (length nodes) next.part) ≡ Ok after
+    → expanded tables s r nodes (d ∷ behind) ≡ expanded tables s r after (drop next.taken behind)
 expanded_more tables s r d nodes after behind next h k =
-    let p = onto_ok nodes (part_nodes (expand_within (s + r) tables) s r (length nodes) next.part) after (sym k) in
+    let p = onto_ok nodes (part_nodes (expand_within (s + r) tables) s r (length nodes) next.part)
+    after (sym k) in
     let deeper : Deeper = expand_within (s + r) tables in
-    ap (onto nodes) (expand_list-found tables (expand_within (s + r) tables) s r (length nodes) d behind (Ok next) h)
-    ∙ ap (λ (x : Expansion). onto nodes (x >>= after_first tables (expand_within (s + r) tables) s r (length nodes) behind next.taken)) p.1
-    ∙ onto_append nodes p.0 (expand_list tables (expand_within (s + r) tables) s r next.taken (length nodes + length p.0) behind)
-    ∙ ap (onto (nodes ++ p.0)) (expand_list-skip tables (expand_within (s + r) tables) s r next.taken (length nodes + length p.0) behind)
-    ∙ ap (λ (n : ℕ). onto (nodes ++ p.0) (expand_list tables (expand_within (s + r) tables) s r 0 n (drop next.taken behind))) (sym (length-append nodes p.0))
+    ap (onto nodes) (expand_list-found tables (expand_within (s + r) tables) s r
+    (length nodes) d behind (Ok next) h)
+    ∙ ap (λ (x : Expansion). onto nodes
+    (x >>= after_first tables (expand_within (s + r) tables) s r (length nodes) behind next.taken))
+    p.1
+    ∙ onto_append nodes p.0 (expand_list tables (expand_within (s + r) tables) s r next.taken
+    (length nodes + length p.0) behind)
+    ∙ ap (onto (nodes ++ p.0)) (expand_list-skip tables
+    (expand_within (s + r) tables) s r next.taken (length nodes + length p.0) behind)
+    ∙ ap (λ (n : ℕ). onto (nodes ++ p.0)
+    (expand_list tables (expand_within (s + r) tables) s r 0 n (drop next.taken behind)))
+    (sym (length-append nodes p.0))
     ∙ ap (λ (ns : List Node). expanded tables s r ns (drop next.taken behind)) (sym p.2)
 
-pub expanded_all : (tables : Entries) (s r : ℕ) (nodes : List Node) → expanded tables s r nodes [] ≡ Ok nodes
+-- no descriptor is left
+pub expanded_all : (tables : Entries) (s r : ℕ) (nodes : List Node)
+    → expanded tables s r nodes [] ≡ Ok nodes
 unfolding expand_list
 expanded_all tables s r nodes = ap Ok (append-nil nodes)
 
 -- ---- a replication
 
 -- the node of a replication, behind which the nodes of its body stand, has their number in the end
-sized : (nodes ns : List Node) (head : Head) → set ((nodes ++ head_node head 0 ∷ []) ++ ns) (length nodes) (head_node head (length ((nodes ++ head_node head 0 ∷ []) ++ ns) - length nodes - 1)) ≡ nodes ++ (head_node head (length ns) ∷ ns)
+sized : (nodes ns : List Node) (head : Repetitions)
+    → set ((nodes ++ replication_node head 0 ∷ []) ++ ns) (length nodes)
+    (replication_node head (length ((nodes ++ replication_node head 0 ∷ []) ++ ns) - length
+    nodes - 1)) ≡ nodes ++ (replication_node head (length ns) ∷ ns)
 sized nodes ns head =
-    let all : List Node = (nodes ++ head_node head 0 ∷ []) ++ ns in
-    let same : all ≡ nodes ++ (head_node head 0 ∷ ns) = append_assoc nodes (head_node head 0 ∷ []) ns in
-    let long : length all ≡ length nodes + suc (length ns) = ap length same ∙ length-append nodes (head_node head 0 ∷ ns) in
+    let all : List Node = (nodes ++ replication_node head 0 ∷ []) ++ ns in
+    let same : all ≡ nodes ++ (replication_node head 0 ∷ ns) =
+    append_assoc nodes (replication_node head 0 ∷ []) ns in
+    let long : length all ≡ length nodes + suc (length ns) = ap length same
+    ∙ length-append nodes (replication_node head 0 ∷ ns) in
     let size : length all - length nodes - 1 ≡ length ns = omega arith in
-    ap (λ (n : ℕ). set all (length nodes) (head_node head n)) size
-    ∙ ap (λ (l : List Node). set l (length nodes) (head_node head (length ns))) same
-    ∙ set-append_seam nodes (head_node head 0) ns (head_node head (length ns))
+    ap (λ (n : ℕ). set all (length nodes) (replication_node head n)) size
+    ∙ ap (λ (l : List Node). set l (length nodes) (replication_node head (length ns))) same
+    ∙ set-append_seam nodes (replication_node head 0) ns (replication_node head (length ns))
 
-replicated_by : (b : Bool) (deeper : Deeper) (s p : ℕ) (nodes mid after : List Node) (head : Head) (body : List ℕ) → onto nodes (cond b (Ok (head_node head 0 ∷ [])) (Err TooManyNodes)) ≡ Ok mid → onto mid (deeper s p (length mid) body) ≡ Ok after → onto nodes (cond b (deeper s p (length nodes + 1) body >>= λ ns. Ok (head_node head (length ns) ∷ ns)) (Err TooManyNodes)) ≡ Ok (set after (length nodes) (head_node head (length after - length nodes - 1)))
+-- the node of a replication and those of its body, by the room for the node
+replicated_by : (b : Bool) (deeper : Deeper) (s p : ℕ) (nodes mid after : List Node)
+    (head : Repetitions) (body : List ℕ)
+    → onto nodes (cond b (Ok (replication_node head 0 ∷ [])) (Err TooManyNodes)) ≡ Ok mid
+    → onto mid (deeper s p (length mid) body) ≡ Ok after
+    → onto nodes (cond b (deeper s p (length nodes + 1) body
+    >>= λ ns. Ok (replication_node head (length ns) ∷ ns)) (Err TooManyNodes))
+    ≡ Ok (set after (length nodes) (replication_node head (length after - length nodes - 1)))
 replicated_by false deeper s p nodes mid after head body h k = absurd (cc)
 replicated_by true deeper s p nodes mid after head body h k =
     let q = onto_ok mid (deeper s p (length mid) body) after (sym k) in
-    let same : mid ≡ nodes ++ head_node head 0 ∷ [] = cc in
-    let long : length nodes + 1 ≡ length mid = sym (ap length same ∙ length-append nodes (head_node head 0 ∷ [])) in
-    let all : after ≡ (nodes ++ head_node head 0 ∷ []) ++ q.0 = q.2 ∙ ap (λ (l : List Node). l ++ q.0) same in
-    ap (λ (x : Expansion). onto nodes (x >>= λ ns. Ok (head_node head (length ns) ∷ ns))) (ap (λ (n : ℕ). deeper s p n body) long ∙ q.1)
+    let same : mid ≡ nodes ++ replication_node head 0 ∷ [] = cc in
+    let long : length nodes + 1 ≡ length mid =
+    sym (ap length same ∙ length-append nodes (replication_node head 0 ∷ [])) in
+    let all : after ≡ (nodes ++ replication_node head 0 ∷ []) ++ q.0 = q.2
+    ∙ ap (λ (l : List Node). l ++ q.0) same in
+    ap (λ (x : Expansion). onto nodes (x >>= λ ns. Ok (replication_node head (length ns) ∷ ns)))
+    (ap (λ (n : ℕ). deeper s p n body) long ∙ q.1)
     ∙ ap Ok (sym (sized nodes q.0 head))
-    ∙ ap (λ (l : List Node). Ok (set l (length nodes) (head_node head (length l - length nodes - 1)))) (sym all)
+    ∙ ap (λ (l : List Node). Ok (set l (length nodes)
+    (replication_node head (length l - length nodes - 1)))) (sym all)
 
 -- a level further in, where one more replication may stand
-replicated_below : (tables : Entries) (s p r : ℕ) (nodes mid after : List Node) (head : Head) (body : List ℕ) → suc p ≡ r → onto nodes (single_nodes (length nodes) (head_node head 0)) ≡ Ok mid → onto mid (expand_within (suc (s + p)) tables s p (length mid) body) ≡ Ok after → onto nodes (part_nodes (expand_within (s + r) tables) s r (length nodes) (replication head body)) ≡ Ok (set after (length nodes) (head_node head (length after - length nodes - 1)))
+replicated_below : (tables : Entries) (s p r : ℕ) (nodes mid after : List Node) (head : Repetitions)
+    (body : List ℕ) → suc p ≡ r → onto nodes (single_nodes (length nodes) (replication_node head 0))
+    ≡ Ok mid → onto mid (expand_within (suc (s + p)) tables s p (length mid) body) ≡ Ok after
+    → onto nodes (part_nodes (expand_within (s + r) tables) s r (length nodes)
+    (replication head body)) ≡ Ok (set after (length nodes)
+    (replication_node head (length after - length nodes - 1)))
 replicated_below tables s p r nodes mid after head body e h k =
     let levels : s + r ≡ suc (s + p) = omega arith in
-    ap (λ (n : ℕ). onto nodes (part_nodes (expand_within n tables) s r (length nodes) (replication head body))) levels
-    ∙ ap (λ (n : ℕ). onto nodes (part_nodes (expand_within (suc (s + p)) tables) s n (length nodes) (replication head body))) (sym e)
-    ∙ replicated_by (ltb (length nodes) 65536) (expand_within (suc (s + p)) tables) s p nodes mid after head body h k
+    ap (λ (n : ℕ). onto nodes (part_nodes (expand_within n tables) s r (length nodes)
+    (replication head body))) levels
+    ∙ ap (λ (n : ℕ). onto nodes (part_nodes (expand_within (suc (s + p)) tables) s n (length nodes)
+    (replication head body))) (sym e)
+    ∙ replicated_by (ltb (length nodes) most_nodes)
+    (expand_within (suc (s + p)) tables) s p nodes mid after head body h k
 
-pub replicated : (tables : Entries) (s r : ℕ) (nodes mid after : List Node) (head : Head) (body : List ℕ) → 0 < r → onto nodes (single_nodes (length nodes) (head_node head 0)) ≡ Ok mid → onto mid (expand_within (suc (s + (r - 1))) tables s (r - 1) (length mid) body) ≡ Ok after → onto nodes (part_nodes (expand_within (s + r) tables) s r (length nodes) (replication head body)) ≡ Ok (set after (length nodes) (head_node head (length after - length nodes - 1)))
+-- the same of a part
+pub replicated : (tables : Entries) (s r : ℕ) (nodes mid after : List Node) (head : Repetitions)
+    (body : List ℕ) → 0 < r → onto nodes (single_nodes (length nodes) (replication_node head 0))
+    ≡ Ok mid → onto mid (expand_within (suc (s + (r - 1))) tables s (r - 1) (length mid) body)
+    ≡ Ok after → onto nodes (part_nodes (expand_within (s + r) tables) s r (length nodes)
+    (replication head body)) ≡ Ok (set after (length nodes)
+    (replication_node head (length after - length nodes - 1)))
 replicated tables s r nodes mid after head body pos h k =
     replicated_below tables s (r - 1) r nodes mid after head body (omega arith) h k
 
+-- a fault of one expansion is that of an equal one
 pub Fails-along : (e : Failure TemplateFault) (x y : Expansion) → x ≡ y → Fails e y → Fails e x
 Fails-along e x y same h = subst (Fails e) (sym same) h
 
-pub expanded_nothing : (tables : Entries) (s r : ℕ) (nodes : List Node) (list : List ℕ) → length list ≡ 0 → expanded tables s r nodes list ≡ Ok nodes
+-- a list that is empty
+pub expanded_nothing : (tables : Entries) (s r : ℕ) (nodes : List Node) (list : List ℕ)
+    → length list ≡ 0 → expanded tables s r nodes list ≡ Ok nodes
 expanded_nothing tables s r nodes [] e = expanded_all tables s r nodes
 expanded_nothing tables s r nodes (d ∷ behind) e = absurd (omega arith)

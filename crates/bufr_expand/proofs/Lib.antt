@@ -1,14 +1,16 @@
 pub mod Between
 pub mod Expanding
+pub mod FieldLimits
 pub mod Finding
 pub mod FirstFaulting
 pub mod Flattening
 pub mod Following
-pub mod Limits
 pub mod Loops
 pub mod NoCases
 pub mod Passing
+pub mod Powers
 pub mod Readings
 pub mod SpecFacts
 pub mod Steps
+pub mod TemplateFacts
 pub mod UnrollFacts

@@ -1,14 +1,19 @@
--- The course of a template: which field it asks for next, given the numbers that its earlier fields have.
+-- The course of a template: which field it asks for next, given the numbers that its earlier fields
+-- have.
 use Rattle.std.specs.Prelude.{ℕ, zero, suc, ◌+◌, Option, Some, None, nat_lt, if◌then◌else◌}
 use Rattle.bufr_expand.specs.declared.operators.Operators.{Operators}
 use Rattle.bufr_expand.specs.declared.operators.Spec.{Spec}
 use Rattle.bufr_expand.specs.declared.walk.WalkFault.{WalkFault}
 use Rattle.bufr_expand.specs.declared.walk.WalkFault.TheVariants.{TooLarge, EffectiveRange}
-use Rattle.bufr_expand.specs.Operating.{none_in_force, in_force_after, effective, untouched, factor_spec}
+use Rattle.bufr_expand.specs.Limits.{most_items}
+use Rattle.bufr_expand.specs.Operating.{none_in_force, in_force_after, effective, untouched}
+use Rattle.bufr_expand.specs.Operating.{factor_spec}
 use Rattle.bufr_expand.specs.Trees as trees
 
--- ends n: no further field, after n items; stops n fault: no further field can stand, after n items; asks n d s more: after n items, the last of which is
--- itself, a field of descriptor d and spec s, and more k is the course after it where its number is k
+-- ends met: no further field, after so many items; stops met fault: no further field can stand,
+-- after so many items; asks met fxy spec more: after so many items, the last of which is itself, a
+-- field of this descriptor and this spec, and more number is the course after it where that is its
+-- number
 pub data Course : Type 0 where
   ends : ℕ → Course
   stops : ℕ → WalkFault → Course
@@ -18,30 +23,40 @@ pub data Course : Type 0 where
 abbrev pub Then : Type 0
 Then = Operators → ℕ → Course
 
--- one more item: a message has at most 16,777,216
+-- one more item, where a message has room for it
 abbrev pub item : ℕ → Course → Course
-item used course = if nat_lt used 16777216 then course else stops used TooLarge
+item used course = if nat_lt used most_items then course else stops used TooLarge
 
+-- a field with a spec is asked for, and one without is refused
 abbrev pub asks_if : Option Spec → ℕ → ℕ → (ℕ → Course) → Course
-asks_if None met d more = stops met (EffectiveRange d)
-asks_if (Some spec) met d more = asks met d spec more
+asks_if None met fxy more = stops met (EffectiveRange fxy)
+asks_if (Some spec) met fxy more = asks met fxy spec more
 
 -- so many turns of a body, each from the operators in force at the end of the one before
 unfoldable pub turns : ℕ → (Operators → ℕ → Then → Course) → Operators → ℕ → Then → Course
-turns zero body q used after = after q used
-turns (suc n) body q used after = item used (body q (used + 1) (λ q used. turns n body q used after))
+turns zero body operators used after = after operators used
+turns (suc times) body operators used after =
+    item used (body operators (used + 1) (λ operators used. turns times body operators used after))
 
 -- the course of a tree, and then of what comes after it
 unfoldable pub course_then : trees.Tree → Operators → ℕ → Then → Course
-course_then trees.done q used after = after q used
-course_then (trees.operator d rest) q used after = item used (course_then rest (in_force_after q d) (used + 1) after)
-course_then (trees.element d e rest) q used after = item used (asks_if (effective d e q) (used + 1) d (λ n. course_then rest q (used + 1) after))
-course_then (trees.untouched d e rest) q used after = item used (asks_if (untouched e) (used + 1) d (λ n. course_then rest q (used + 1) after))
-course_then (trees.repeated times body rest) q used after =
-    item used (turns times (course_then body) q (used + 1) (λ q used. course_then rest q used after))
-course_then (trees.delayed d e body rest) q used after =
-    item used (asks (used + 1) d (factor_spec e) (λ n. turns n (course_then body) q (used + 1) (λ q used. course_then rest q used after)))
+course_then trees.done operators used after = after operators used
+course_then (trees.operator fxy rest) operators used after =
+    item used (course_then rest (in_force_after operators fxy) (used + 1) after)
+course_then (trees.element fxy row rest) operators used after =
+    item used (asks_if (effective fxy row operators) (used + 1) fxy
+    (λ number. course_then rest operators (used + 1) after))
+course_then (trees.untouched fxy row rest) operators used after =
+    item used (asks_if (untouched row) (used + 1) fxy
+    (λ number. course_then rest operators (used + 1) after))
+course_then (trees.repeated times body rest) operators used after =
+    item used (turns times (course_then body) operators (used + 1)
+    (λ operators used. course_then rest operators used after))
+course_then (trees.delayed fxy row body rest) operators used after =
+    item used (asks (used + 1) fxy (factor_spec row)
+    (λ times. turns times (course_then body) operators (used + 1)
+    (λ operators used. course_then rest operators used after)))
 
 -- the course of one subset: each begins with no operator in force
 abbrev pub course : trees.Tree → ℕ → Course
-course tree used = course_then tree none_in_force used (λ q n. ends n)
+course tree used = course_then tree none_in_force used (λ operators met. ends met)

@@ -1,44 +1,108 @@
--- The spec of a field as equations, and the limits on it (FM 94 BUFR, Table B; Table C: 201, 202, 207 and 208; regulation 94.5.5).
-use Rattle.std.specs.Prelude.{◌≡◌, ℕ, ◌%◌, ◌^◌, ◌≤◌, ℤ, pos, ◌+ℤ◌, ◌*ℤ◌}
+-- The spec of a field as equations, and the limits on it (FM 94 BUFR, Table B; Table C: 201, 202,
+-- 207 and 208; regulation 94.5.5).
+use Rattle.std.specs.Prelude.{◌≡◌, ◌≢◌, ℕ, ◌+◌, ◌*◌, ◌/◌, ◌%◌, ◌^◌, ◌≤◌, Option, Some, None}
+use Rattle.std.specs.Prelude.{ℤ, pos, ◌+ℤ◌, ◌-ℤ◌, ◌*ℤ◌}
 use Rattle.std.specs.Int.RustNames.{unsigned_abs}
 use Rattle.bufr_tables.specs.declared.element.Element.{Element}
-use Rattle.bufr_tables.specs.declared.element.Kind.{Kind}
 use Rattle.bufr_tables.specs.declared.element.Kind.TheVariants as kinds
 use Rattle.bufr_tables.specs.Descriptors.{x_of}
 use Rattle.bufr_expand.specs.declared.operators.Operators.{Operators}
 use Rattle.bufr_expand.specs.declared.operators.Spec.{Spec}
-use Rattle.bufr_expand.specs.Operating.{added, increase_of, widening, text_width}
+use Rattle.bufr_expand.specs.Limits.{most_number_bits, most_text_bits, most_scale, most_reference}
 
--- a text of so many bits: whole octets, at least one and at most 8,191
-pub record IsText (bits : ℕ) (spec : Spec) : Type 0 where
+-- ---- limits
+
+-- a text: whole octets, at least one and at most 8,191, with neither scale nor reference value
+pub record IsText (spec : Spec) : Type 0 where
   pub is_text : spec.kind ≡ kinds.Text
   pub no_scale : spec.scale ≡ pos 0
   pub no_reference : spec.reference ≡ pos 0
-  pub bits_are : spec.width ≡ bits
-  pub some_octet : 8 ≤ bits
-  pub few_octets : bits ≤ 65528
-  pub whole_octets : bits % 8 ≡ 0
+  pub some_octet : 8 ≤ spec.width
+  pub few_octets : spec.width ≤ most_text_bits
+  pub whole_octets : spec.width % 8 ≡ 0
 
--- a number of 1 to 63 bits; the scale in the table is at most 127 and the reference value at most 2 to the 62, above or below 0
-pub record IsNumber (kind : Kind) (in_table scale reference width : ℤ) (spec : Spec) : Type 0 where
-  pub kind_is : spec.kind ≡ kind
-  pub scale_is : spec.scale ≡ scale
-  pub reference_is : spec.reference ≡ reference
-  pub width_is : pos spec.width ≡ width
-  pub scale_within : unsigned_abs in_table ≤ 127
-  pub reference_within : unsigned_abs reference ≤ 4611686018427387904
+-- a number that can stand in the data: its row has a scale within 127, and it has 1 to 63 bits and
+-- a reference value within 2 to the 62
+pub record IsNumber (row : Element) (spec : Spec) : Type 0 where
+  pub scale_in_table : unsigned_abs row.scale ≤ most_scale
   pub some_bit : 1 ≤ spec.width
-  pub few_bits : spec.width ≤ 63
+  pub few_bits : spec.width ≤ most_number_bits
+  pub reference_within : unsigned_abs spec.reference ≤ most_reference
 
--- a field that no operator changes is as its row says
-pub data AsInTable (e : Element) (spec : Spec) : Type 0 where
-  text : e.kind ≡ kinds.Text → IsText e.width spec → AsInTable e spec
-  number : (e.kind ≡ kinds.Text → ⊥) → IsNumber e.kind e.scale e.scale e.reference (pos e.width) spec → AsInTable e spec
+-- ---- a field that no operator changes
 
--- the spec of an element: 208 sets the width of texts; 201, 202 and 207 add up, on quantities alone and never on class 31
-pub data Effective (d : ℕ) (e : Element) (q : Operators) (spec : Spec) : Type 0 where
-  of_text : e.kind ≡ kinds.Text → IsText (text_width e.width q.characters) spec → Effective d e q spec
-  changed : e.kind ≡ kinds.Quantity → (x_of d ≡ 31 → ⊥)
-      → IsNumber kinds.Quantity e.scale (e.scale +ℤ added q.add_scale +ℤ pos (increase_of q.increase)) (e.reference *ℤ pos (10 ^ increase_of q.increase)) (pos e.width +ℤ added q.add_width +ℤ pos (widening q.increase)) spec
-      → Effective d e q spec
-  unchanged : (e.kind ≡ kinds.Text → ⊥) → (e.kind ≡ kinds.Quantity → x_of d ≡ 31) → AsInTable e spec → Effective d e q spec
+-- a number is as its row says
+pub record IsAsRow (row : Element) (spec : Spec) : Type 0 where
+  pub kind_is : spec.kind ≡ row.kind
+  pub scale_is : spec.scale ≡ row.scale
+  pub reference_is : spec.reference ≡ row.reference
+  pub width_is : spec.width ≡ row.width
+  pub within : IsNumber row spec
+
+-- a field that no operator changes is as its row says: a text has the row's bits
+pub data AsInTable (row : Element) (spec : Spec) : Type 0 where
+  text : row.kind ≡ kinds.Text → spec.width ≡ row.width → IsText spec → AsInTable row spec
+  number : (row.kind ≡ kinds.Text → ⊥) → IsAsRow row spec → AsInTable row spec
+
+-- ---- a field under operators
+
+-- "change data width" (201) and "change scale" (202) add Y - 128 where they are in force
+abbrev pub Adds : Option ℕ → ℤ → Type 0
+Adds None more = more ≡ pos 0
+Adds (Some y) more = more ≡ pos y -ℤ pos 128
+
+-- "increase scale, reference value and data width" (207) increases by Y where it is in force
+abbrev pub Increases : Option ℕ → ℕ → Type 0
+Increases None increase = increase ≡ 0
+Increases (Some y) increase = increase ≡ y
+
+-- a quantity under the operators in force: what 201, 202 and 207 add is added up
+pub record IsChanged (row : Element) (operators : Operators) (spec : Spec) : Type 0 where
+  -- what 201 adds to the data width, what 202 adds to the scale, and the Y of 207
+  pub wider : ℤ
+  pub finer : ℤ
+  pub increase : ℕ
+  pub change_data_width : Adds operators.add_width wider
+  pub change_scale : Adds operators.add_scale finer
+  pub increases : Increases operators.increase increase
+  pub kind_is : spec.kind ≡ kinds.Quantity
+  -- 207 adds Y to the scale
+  pub scale_is : spec.scale ≡ row.scale +ℤ finer +ℤ pos increase
+  -- it multiplies the reference value by 10 to the Y
+  pub reference_is : spec.reference ≡ row.reference *ℤ pos (10 ^ increase)
+  -- and it adds (10 * Y + 2) / 3 bits, the fraction discarded
+  pub width_is : pos spec.width ≡ pos row.width +ℤ wider +ℤ pos ((10 * increase + 2) / 3)
+  pub within : IsNumber row spec
+
+-- "change width of CCITT IA5 field" (208): a text has Y octets where it is in force, else its row's
+-- bits
+abbrev pub HasTextBits : Option ℕ → Element → ℕ → Type 0
+HasTextBits None row bits = bits ≡ row.width
+HasTextBits (Some y) row bits = bits ≡ 8 * y
+
+-- the spec of an element: 208 sets the width of texts, and 201, 202 and 207 change quantities, but
+-- never those of class 31; any other number is as its row says
+pub data Effective (fxy : ℕ) (row : Element) (operators : Operators) (spec : Spec) : Type 0 where
+  of_text : row.kind ≡ kinds.Text → HasTextBits operators.characters row spec.width → IsText spec
+      → Effective fxy row operators spec
+  changed : row.kind ≡ kinds.Quantity → (x_of fxy ≡ 31 → ⊥) → IsChanged row operators spec
+      → Effective fxy row operators spec
+  unchanged : (row.kind ≡ kinds.Text → ⊥) → (row.kind ≡ kinds.Quantity → x_of fxy ≡ 31)
+      → IsAsRow row spec
+      → Effective fxy row operators spec
+
+-- ---- the specs that a template can ask for
+
+-- a scale of at most 510 (127 in the table, 128 by 202 and 255 by 207) and a reference value of at
+-- most 2 to the 62, above or below 0
+pub record IsInRange (spec : Spec) : Type 0 where
+  pub scale_within : unsigned_abs spec.scale ≤ 510
+  pub reference_within : unsigned_abs spec.reference ≤ most_reference
+
+-- a spec that a template can ask for: in range, a text of 1 to 8,191 octets, a number of 1 to 63
+-- bits
+pub record CanBeAsked (spec : Spec) : Type 0 where
+  pub in_range : IsInRange spec
+  pub octets : spec.kind ≡ kinds.Text → IsText spec
+  pub some_bit : spec.kind ≢ kinds.Text → 1 ≤ spec.width
+  pub few_bits : spec.kind ≢ kinds.Text → spec.width ≤ most_number_bits

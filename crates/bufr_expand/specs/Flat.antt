@@ -1,12 +1,15 @@
--- The tree of a list of descriptors, by cases on the list (FM 94 BUFR, regulations 94.5.3 to 94.5.5; Table C). It has no order of
--- work, no count of nodes and no fault: it says which tree a list has.
-use Rattle.std.specs.Prelude.{◌≡◌, ◌≢◌, ◌≤◌, ◌<◌, ◌⊎◌, ◌↔◌, ℕ, suc, ◌+◌, List, [], ◌∷◌, ◌++◌, length, Some, Ok, pos}
+-- The tree of a list of descriptors, by cases on the list (FM 94 BUFR, regulations 94.5.3 to
+-- 94.5.5; Table C). It has no order of work, no count of nodes and no fault: it says which tree a
+-- list has.
+use Rattle.std.specs.Prelude.{◌≡◌, ◌≢◌, ◌≤◌, ◌<◌, ◌⊎◌, ◌↔◌, ℕ, suc, ◌+◌, List, [], ◌∷◌, ◌++◌}
+use Rattle.std.specs.Prelude.{length, Some, Ok, pos}
 use Rattle.bufr_tables.specs.declared.element.Element.{Element}
 use Rattle.bufr_tables.specs.declared.element.Kind.TheVariants as kinds
 use Rattle.bufr_tables.specs.Descriptors.{f_of, x_of, y_of, descriptor}
 use Rattle.bufr_tables.specs.Entries.{Entries, element, sequence}
+use Rattle.bufr_expand.specs.Limits.{most_nodes, most_levels, most_number_bits, most_factor_bits}
 use Rattle.bufr_expand.specs.declared.node.Node.{Node}
-use Rattle.bufr_expand.specs.Expansion.{characters, plain_number, most_nodes, expand_within, expansion}
+use Rattle.bufr_expand.specs.Expansion.{text_of_characters, plain_number, expand_within, expansion}
 use Rattle.bufr_expand.specs.Trees as trees
 use Rattle.bufr_expand.specs.Trees.{Tree, nodes_of, tree_of}
 
@@ -27,55 +30,74 @@ StaysInForce x = (x ≡ 1) ⊎ (x ≡ 2) ⊎ (x ≡ 7) ⊎ (x ≡ 8)
 abbrev pub IsFactor : ℕ → Type 0
 IsFactor d = (descriptor 0 31 0 ≤ d) × (d ≤ descriptor 0 31 2)
 
--- a row of Table B by which a factor can be read: a number of 1 to 16 bits with neither scale nor reference value
+-- a row of Table B by which a factor can be read: a number of 1 to 16 bits with neither scale nor
+-- reference value
 abbrev pub IsCountRow : Element → Type 0
-IsCountRow e = (e.kind ≢ kinds.Text) × (e.scale ≡ pos 0) × (e.reference ≡ pos 0) × (1 ≤ e.width) × (e.width ≤ 16)
+IsCountRow e = (e.kind ≢ kinds.Text) × (e.scale ≡ pos 0) × (e.reference ≡ pos 0) × (1 ≤ e.width)
+    × (e.width ≤ most_factor_bits)
 
--- how an element of so many bits is read behind 206: by its row of Table B where that has this width, else as a plain number of at
--- most 63 bits
+-- how an element of so many bits is read behind 206: by its row of Table B where that has this
+-- width, else as a plain number of at most 63 bits
 pub data ReadAt : Entries → ℕ → ℕ → Element → Type 0 where
-  by_row : {tables : Entries} {d y : ℕ} {e : Element} → element tables d ≡ Some e → e.width ≡ y → ReadAt tables d y e
-  as_number : {tables : Entries} {d y : ℕ} → ((e : Element) → element tables d ≡ Some e → e.width ≢ y) → y ≤ 63 → ReadAt tables d y (plain_number y)
+  by_row : {tables : Entries} {d y : ℕ} {e : Element} → element tables d ≡ Some e → e.width ≡ y
+      → ReadAt tables d y e
+  as_number : {tables : Entries} {d y : ℕ}
+      → ((e : Element) → element tables d ≡ Some e → e.width ≢ y) → y ≤ most_number_bits
+      → ReadAt tables d y (plain_number y)
 
 -- a list has a tree, where so many sequences and so many replications may still stand in each other
 pub data Flat : Entries → ℕ → ℕ → List ℕ → Tree → Type 0 where
   -- the empty list has the empty tree
   nothing : {tables : Entries} {s r : ℕ} → Flat tables s r [] trees.done
   -- an element of Table B is one node, and then comes the tree of the rest
-  element_first : {tables : Entries} {s r d : ℕ} {e : Element} {behind : List ℕ} {rest : Tree} → f_of d ≡ 0 → element tables d ≡ Some e
+  element_first : {tables : Entries} {s r d : ℕ} {e : Element} {behind : List ℕ} {rest : Tree}
+      → f_of d ≡ 0 → element tables d ≡ Some e
       → Flat tables s r behind rest → Flat tables s r (d ∷ behind) (trees.element d e rest)
   -- so is an operator that stays in force
-  operator_first : {tables : Entries} {s r d : ℕ} {behind : List ℕ} {rest : Tree} → f_of d ≡ 2 → StaysInForce (x_of d)
+  operator_first : {tables : Entries} {s r d : ℕ} {behind : List ℕ} {rest : Tree} → f_of d ≡ 2
+      → StaysInForce (x_of d)
       → Flat tables s r behind rest → Flat tables s r (d ∷ behind) (trees.operator d rest)
   -- and 205 YYY, YYY characters
-  characters_first : {tables : Entries} {s r d : ℕ} {behind : List ℕ} {rest : Tree} → f_of d ≡ 2 → x_of d ≡ 5 → 0 < y_of d
-      → Flat tables s r behind rest → Flat tables s r (d ∷ behind) (trees.untouched d (characters (y_of d)) rest)
+  text_first : {tables : Entries} {s r d : ℕ} {behind : List ℕ} {rest : Tree} → f_of d ≡ 2
+      → x_of d ≡ 5 → 0 < y_of d
+      → Flat tables s r behind rest → Flat tables s r (d ∷ behind)
+      (trees.untouched d (text_of_characters (y_of d)) rest)
   -- 206 YYY and the element behind it are one node
-  width_first : {tables : Entries} {s r d local : ℕ} {e : Element} {behind : List ℕ} {rest : Tree} → f_of d ≡ 2 → x_of d ≡ 6 → 0 < y_of d
+  width_first : {tables : Entries} {s r d local : ℕ} {e : Element} {behind : List ℕ} {rest : Tree}
+      → f_of d ≡ 2 → x_of d ≡ 6 → 0 < y_of d
       → f_of local ≡ 0 → ReadAt tables local (y_of d) e
-      → Flat tables s r behind rest → Flat tables s r (d ∷ local ∷ behind) (trees.untouched local e rest)
+      → Flat tables s r behind rest → Flat tables s r (d ∷ local ∷ behind)
+      (trees.untouched local e rest)
   -- a sequence gives the tree of its list in Table D, and then that of the rest
-  sequence_first : {tables : Entries} {s r d : ℕ} {list behind : List ℕ} {inner rest : Tree} → 3 ≤ f_of d → sequence tables d ≡ Some list
+  sequence_first : {tables : Entries} {s r d : ℕ} {list behind : List ℕ} {inner rest : Tree}
+      → 3 ≤ f_of d → sequence tables d ≡ Some list
       → Flat tables s r list inner
-      → Flat tables (suc s) r behind rest → Flat tables (suc s) r (d ∷ behind) (followed_by inner rest)
+      → Flat tables (suc s) r behind rest
+      → Flat tables (suc s) r (d ∷ behind) (followed_by inner rest)
   -- a replication is one node, whose body is the tree of the next X descriptors
-  repeated_first : {tables : Entries} {s r d : ℕ} {body behind : List ℕ} {inner rest : Tree} → f_of d ≡ 1 → 0 < x_of d → 0 < y_of d
+  repeated_first : {tables : Entries} {s r d : ℕ} {body behind : List ℕ} {inner rest : Tree}
+      → f_of d ≡ 1 → 0 < x_of d → 0 < y_of d
       → length body ≡ x_of d → Flat tables s r body inner
-      → Flat tables s (suc r) behind rest → Flat tables s (suc r) (d ∷ body ++ behind) (trees.repeated (y_of d) inner rest)
+      → Flat tables s (suc r) behind rest
+      → Flat tables s (suc r) (d ∷ body ++ behind) (trees.repeated (y_of d) inner rest)
   -- behind the factor where Y = 0
-  delayed_first : {tables : Entries} {s r d factor : ℕ} {e : Element} {body behind : List ℕ} {inner rest : Tree} → f_of d ≡ 1 → 0 < x_of d → y_of d ≡ 0
+  delayed_first : {tables : Entries} {s r d factor : ℕ} {e : Element} {body behind : List ℕ}
+      {inner rest : Tree} → f_of d ≡ 1 → 0 < x_of d → y_of d ≡ 0
       → IsFactor factor → element tables factor ≡ Some e → IsCountRow e
       → length body ≡ x_of d → Flat tables s r body inner
-      → Flat tables s (suc r) behind rest → Flat tables s (suc r) (d ∷ factor ∷ body ++ behind) (trees.delayed factor e inner rest)
+      → Flat tables s (suc r) behind rest
+      → Flat tables s (suc r) (d ∷ factor ∷ body ++ behind) (trees.delayed factor e inner rest)
 
--- a tree that a template can be: sequences stand in each other at most 16 deep, and so do replications, and the nodes are at most
--- 65,536
+-- a tree that a template can be: sequences stand in each other at most 16 deep, and so do
+-- replications, and the nodes are at most 65,536
 abbrev pub IsTreeOf : Entries → List ℕ → Tree → Type 0
-IsTreeOf tables list tree = Flat tables 16 16 list tree × (length (nodes_of tree) ≤ most_nodes)
+IsTreeOf tables list tree =
+    Flat tables most_levels most_levels list tree × (length (nodes_of tree) ≤ most_nodes)
 
 -- the expansion gives the nodes of a tree exactly where this is a tree of the list
 abbrev pub ExpandsExactly : Entries → List ℕ → Tree → Type 0
-ExpandsExactly tables list tree = (expansion tables list ≡ Ok (nodes_of tree)) ↔ IsTreeOf tables list tree
+ExpandsExactly tables list tree = (expansion tables list ≡ Ok (nodes_of tree))
+    ↔ IsTreeOf tables list tree
 
 -- what it gives are the nodes of a tree
 abbrev pub ExpandsToTrees : Entries → List ℕ → List Node → Type 0
@@ -87,4 +109,6 @@ HasOneTree tables list a b = IsTreeOf tables list a → IsTreeOf tables list b �
 
 -- the 33 levels of the expansion are enough: more change nothing
 abbrev pub HasEnoughLevels : Entries → List ℕ → ℕ → Type 0
-HasEnoughLevels tables list more = expand_within (33 + more) tables 16 16 0 list ≡ expansion tables list
+HasEnoughLevels tables list more =
+    expand_within (1 + most_levels + most_levels + more) tables most_levels most_levels 0 list
+    ≡ expansion tables list

@@ -5,12 +5,15 @@ pub mod Effects
 pub mod Expansion
 pub mod FirstFaults
 pub mod Flat
+pub mod Limits
 pub mod Operating
 pub mod Parts
 pub mod Places
+pub mod Reasons
 pub mod Samples
+pub mod Steady
+pub mod Templates
 pub mod TreeCodes
 pub mod Trees
 pub mod Unrolling
 pub mod Walks
-pub mod Reasons

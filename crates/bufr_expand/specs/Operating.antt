@@ -1,11 +1,13 @@
 -- What the operators in force make of an element (FM 94 BUFR, Table C: 201, 202, 207 and 208).
-use Rattle.std.specs.Prelude.{ℕ, ◌+◌, ◌*◌, ◌/◌, ◌%◌, ◌^◌, ◌==◌, ◌&&◌, Bool, Option, Some, None, ℤ, pos, negsuc, ◌+ℤ◌, ◌-ℤ◌, ◌*ℤ◌, nat_lt, nat_le, if◌then◌else◌}
+use Rattle.std.specs.Prelude.{ℕ, ◌+◌, ◌*◌, ◌/◌, ◌%◌, ◌^◌, ◌==◌, ◌&&◌, Bool, Option, Some, None, ℤ}
+use Rattle.std.specs.Prelude.{pos, negsuc, ◌+ℤ◌, ◌-ℤ◌, ◌*ℤ◌, nat_lt, nat_le, if◌then◌else◌}
 use Rattle.bufr_tables.specs.declared.element.Element.{Element}
 use Rattle.bufr_tables.specs.declared.element.Kind.{Kind}
 use Rattle.bufr_tables.specs.declared.element.Kind.TheVariants as kinds
 use Rattle.bufr_tables.specs.Descriptors.{x_of, y_of}
 use Rattle.bufr_expand.specs.declared.operators.Operators.{Operators}
 use Rattle.bufr_expand.specs.declared.operators.Spec.{Spec}
+use Rattle.bufr_expand.specs.Limits.{most_number_bits, most_text_bits, most_scale, most_reference}
 
 -- no operator is in force
 abbrev pub none_in_force : Operators
@@ -28,11 +30,13 @@ abbrev pub added : Option ℕ → ℤ
 added None = pos 0
 added (Some y) = pos y -ℤ pos 128
 
--- what 207 adds to the scale, what it multiplies the reference value by, and what it adds to the width
+-- what 207 adds to the scale, what it multiplies the reference value by, and what it adds to the
+-- width
 abbrev pub increase_of : Option ℕ → ℕ
 increase_of None = 0
 increase_of (Some y) = y
 
+-- and what it adds to the width, the fraction discarded
 abbrev pub widening : Option ℕ → ℕ
 widening None = 0
 widening (Some y) = (10 * y + 2) / 3
@@ -46,14 +50,16 @@ is_within limit (negsuc n) = nat_lt n limit
 abbrev pub number_spec : Kind → ℤ → ℤ → ℤ → Option Spec
 number_spec kind scale reference (negsuc w) = None
 number_spec kind scale reference (pos w) =
-    if nat_le 1 w && nat_le w 63 && is_within (2 ^ 62) reference
+    if nat_le 1 w && nat_le w most_number_bits && is_within most_reference reference
     then Some (record { kind = kind; scale = scale; reference = reference; width = w }) else None
 
+-- a text
 abbrev pub text_spec : ℕ → Option Spec
 text_spec w =
-    if nat_le 8 w && nat_le w 65528 && (w % 8 == 0)
+    if nat_le 8 w && nat_le w most_text_bits && (w % 8 == 0)
     then Some (record { kind = kinds.Text; scale = pos 0; reference = pos 0; width = w }) else None
 
+-- 208 gives a text Y octets
 abbrev pub text_width : ℕ → Option ℕ → ℕ
 text_width width None = width
 text_width width (Some y) = 8 * y
@@ -61,18 +67,24 @@ text_width width (Some y) = 8 * y
 -- the spec of an element that no operator changes, where it is within the limits
 abbrev pub untouched_by : Kind → Element → Option Spec
 untouched_by kinds.Text e = text_spec e.width
-untouched_by kind e = if is_within 127 e.scale then number_spec kind e.scale e.reference (pos e.width) else None
+untouched_by kind e =
+    if is_within most_scale e.scale
+    then number_spec kind e.scale e.reference (pos e.width) else None
 
+-- of any kind
 abbrev pub untouched : Element → Option Spec
 untouched e = untouched_by e.kind e
 
 -- the spec of a quantity: what is in force adds up
 abbrev pub quantity : Element → Operators → Option Spec
 quantity e q =
-    if is_within 127 e.scale
-    then number_spec kinds.Quantity (e.scale +ℤ added q.add_scale +ℤ pos (increase_of q.increase)) (e.reference *ℤ pos (10 ^ increase_of q.increase)) (pos e.width +ℤ added q.add_width +ℤ pos (widening q.increase))
+    if is_within most_scale e.scale
+    then number_spec kinds.Quantity (e.scale +ℤ added q.add_scale +ℤ pos (increase_of q.increase))
+    (e.reference *ℤ pos (10 ^ increase_of q.increase))
+    (pos e.width +ℤ added q.add_width +ℤ pos (widening q.increase))
     else None
 
+-- of a kind: 208 on texts, the others on quantities outside class 31
 abbrev pub effective_by : Kind → ℕ → Element → Operators → Option Spec
 effective_by kinds.Text d e q = text_spec (text_width e.width q.characters)
 effective_by kinds.Quantity d e q = if x_of d == 31 then untouched e else quantity e q

@@ -1,5 +1,7 @@
--- Where a walk can stand: open replications have their bodies within the nodes, and more replications stand in front of a body than are open around it.
-use Rattle.std.specs.Prelude.{ℕ, ◌+◌, ◌≤◌, Bool, true, false, List, [], ◌∷◌, length, take, Option, Some, None, count_by}
+-- Where a walk can stand: open replications have their bodies within the nodes, and more
+-- replications stand in front of a body than are open around it.
+use Rattle.std.specs.Prelude.{ℕ, ◌+◌, ◌≤◌, Bool, true, false, List, [], ◌∷◌, length, take, Option}
+use Rattle.std.specs.Prelude.{Some, None, count_by}
 use Rattle.std.specs.Coded.{×_prop, Unit-prop, le_prop}
 use Rattle.bufr_expand.specs.declared.node.Node.{Node}
 use Rattle.bufr_expand.specs.declared.node.Node.TheVariants as nodes
@@ -25,24 +27,29 @@ in_front nodes place = replications (take place nodes)
 
 -- a replication that is open within so many others
 abbrev pub IsOpen : List Node → ℕ → Open → Type 0
-IsOpen nodes depth o = ((depth + 1 ≤ in_front nodes o.from) × (o.from ≤ o.to)) × ((o.to ≤ length nodes) × (o.stop ≤ length nodes))
+IsOpen nodes depth o = ((depth + 1 ≤ in_front nodes o.from) × (o.from ≤ o.to))
+    × ((o.to ≤ length nodes) × (o.stop ≤ length nodes))
 
 -- open replications, the outermost first, of which so many stand around the first
 unfoldable pub AreOpen : List Node → ℕ → List Open → Type 0
 AreOpen nodes depth [] = Unit {0}
 AreOpen nodes depth (o ∷ os) = IsOpen nodes depth o × AreOpen nodes (depth + 1) os
 
-pub AreOpen-prop : (nodes : List Node) (depth : ℕ) (os : List Open) → IsProp (AreOpen nodes depth os)
+-- this is a fact, however it is shown
+pub AreOpen-prop : (nodes : List Node) (depth : ℕ) (os : List Open)
+    → IsProp (AreOpen nodes depth os)
 unfolding AreOpen
 AreOpen-prop nodes depth [] = Unit-prop
 AreOpen-prop nodes depth (o ∷ os) =
-    ×_prop (×_prop (×_prop le_prop le_prop) (×_prop le_prop le_prop)) (AreOpen-prop nodes (depth + 1) os)
+    ×_prop (×_prop (×_prop le_prop le_prop) (×_prop le_prop le_prop))
+    (AreOpen-prop nodes (depth + 1) os)
 
 -- where the body begins that waits for its count, or the place at hand
 abbrev pub begin_or : Option ℕ → ℕ → ℕ
 begin_or None place = place
 begin_or (Some from) place = from
 
+-- where the nodes at hand begin
 abbrev pub begins : State → ℕ → ℕ
 begins states.Going place = place
 begins (states.Waiting asked) place = begin_or asked.body place
@@ -53,6 +60,7 @@ abbrev pub one_if : Option ℕ → ℕ
 one_if None = 0
 one_if (Some from) = 1
 
+-- of a state
 abbrev pub awaited : State → ℕ
 awaited states.Going = 0
 awaited (states.Waiting asked) = one_if asked.body

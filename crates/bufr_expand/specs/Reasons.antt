@@ -2,7 +2,12 @@
 use Rattle.std.specs.Prelude.{ℕ, List, ◌++◌, codes}
 use Rattle.bufr_tables.specs.Descriptors.{six_digits}
 use Rattle.bufr_expand.specs.declared.node.TemplateFault.{TemplateFault}
-use Rattle.bufr_expand.specs.declared.node.TemplateFault.TheVariants.{UnknownElement, UnknownSequence, UnsupportedOperator, BadReplication, BadFactor, BadOperand, Dangling206, TooDeep, TooManyNodes}
+use Rattle.bufr_expand.specs.declared.node.TemplateFault.TheVariants.{UnknownElement}
+use Rattle.bufr_expand.specs.declared.node.TemplateFault.TheVariants.{UnknownSequence}
+use Rattle.bufr_expand.specs.declared.node.TemplateFault.TheVariants.{UnsupportedOperator}
+use Rattle.bufr_expand.specs.declared.node.TemplateFault.TheVariants.{BadReplication, BadFactor}
+use Rattle.bufr_expand.specs.declared.node.TemplateFault.TheVariants.{BadOperand, Dangling206}
+use Rattle.bufr_expand.specs.declared.node.TemplateFault.TheVariants.{TooDeep, TooManyNodes}
 
 -- the reason that a list of descriptors has no template
 unfoldable pub template_reason : TemplateFault → List ℕ

@@ -1,5 +1,6 @@
 -- A walk, by the course that it has left.
-use Rattle.std.specs.Prelude.{◌≡◌, ℕ, ◌+◌, ◌*◌, ◌-◌, ◌<◌, ◌^◌, Bool, true, false, List, [], ◌∷◌, length, take, drop, Option, Some, None, Result, Ok, Err, MatchBool}
+use Rattle.std.specs.Prelude.{◌≡◌, ℕ, ◌+◌, ◌*◌, ◌-◌, ◌<◌, ◌^◌, Bool, true, false, List, [], ◌∷◌}
+use Rattle.std.specs.Prelude.{length, take, drop, Option, Some, None, Result, Ok, Err, MatchBool}
 use Rattle.bufr_tables.specs.declared.element.Kind.TheVariants as kinds
 use Rattle.bufr_tables.specs.Elements.{same_kind}
 use Rattle.bufr_expand.specs.declared.node.Node.{Node}
@@ -10,6 +11,7 @@ use Rattle.bufr_expand.specs.declared.standing.Open.{Open}
 use Rattle.bufr_expand.specs.declared.standing.State.{State}
 use Rattle.bufr_expand.specs.declared.standing.State.TheVariants as states
 use Rattle.bufr_expand.specs.declared.walk.Walk.{Walk}
+use Rattle.bufr_expand.specs.Limits.{most_items}
 use Rattle.bufr_expand.specs.Trees.{Tree, tree_of}
 use Rattle.bufr_expand.specs.Courses.{Course, ends, stops, asks, Then, turns, course_then}
 
@@ -21,15 +23,20 @@ tree_between nodes from to = tree_of (take (to - from) (drop from nodes))
 abbrev pub rest_then : List Node → ℕ → ℕ → Then → Then
 rest_then nodes from to after = λ q used. course_then (tree_between nodes from to) q used after
 
--- so many turns of the nodes from one place to another, the nodes behind them, and then what comes after these
+-- so many turns of the nodes from one place to another, the nodes behind them, and then what comes
+-- after these
 abbrev pub turns_then : List Node → ℕ → ℕ → ℕ → ℕ → Then → Then
-turns_then nodes n from to stop after = λ q used. turns n (course_then (tree_between nodes from to)) q used (rest_then nodes to stop after)
+turns_then nodes n from to stop after =
+    λ q used. turns n (course_then (tree_between nodes from to)) q used
+    (rest_then nodes to stop after)
 
--- what comes after the nodes at hand: for each open replication, the outermost first, the turns that it has left and the nodes behind it
+-- what comes after the nodes at hand: for each open replication, the outermost first, the turns
+-- that it has left and the nodes behind it
 unfoldable pub behind : List Node → List Open → Then → Then
 behind nodes [] after = after
 behind nodes (o ∷ os) after = behind nodes os (turns_then nodes o.turns o.from o.to o.stop after)
 
+-- what comes after the nodes at hand, to the end
 abbrev pub behind_all : List Node → List Open → Then
 behind_all nodes os = behind nodes os (λ q used. ends used)
 
@@ -42,9 +49,11 @@ abbrev pub told : Option ℕ → List Node → ℕ → ℕ → List Open → ℕ
 told None nodes place stop os n = going nodes place stop os
 told (Some from) nodes place stop os n = turns_then nodes n from place stop (behind_all nodes os)
 
+-- the course that is left, by what the walk does next
 abbrev pub left_in : State → List Node → ℕ → ℕ → List Open → Then
 left_in states.Going nodes place stop os q used = going nodes place stop os q used
-left_in (states.Waiting asked) nodes place stop os q used = asks used asked.fxy asked.spec (λ n. told asked.body nodes place stop os n q used)
+left_in (states.Waiting asked) nodes place stop os q used =
+    asks used asked.fxy asked.spec (λ n. told asked.body nodes place stop os n q used)
 left_in (states.Stopped fault) nodes place stop os q used = stops used fault
 
 -- the course that is left
@@ -57,6 +66,7 @@ is_waiting states.Going = false
 is_waiting (states.Waiting asked) = true
 is_waiting (states.Stopped fault) = false
 
+-- the same of a walk
 unfoldable pub waits : Walk → Bool
 waits w = is_waiting w.state
 
@@ -66,16 +76,20 @@ items_met w = w.items
 
 -- at most so many nodes, turns and ends of replications are passed before the next field
 unfoldable pub steps_left : Walk → ℕ
-steps_left w = 2 * (16777216 - w.items) + length w.loops.items
+steps_left w = 2 * (most_items - w.items) + length w.loops.items
 
 -- what one step answers and leaves: at a count the walk waits
 abbrev pub Goes : Course → Result Step WalkFault → Walk → Type 0
-Goes (ends n) answer w = (answer ≡ Ok steps.End) × (left w ≡ ends n) × (waits w ≡ false) × (items_met w ≡ n)
-Goes (stops n fault) answer w = (answer ≡ Err fault) × (left w ≡ stops n fault) × (waits w ≡ false) × (items_met w ≡ n)
+Goes (ends n) answer w = (answer ≡ Ok steps.End) × (left w ≡ ends n) × (waits w ≡ false)
+    × (items_met w ≡ n)
+Goes (stops n fault) answer w = (answer ≡ Err fault) × (left w ≡ stops n fault) × (waits w ≡ false)
+    × (items_met w ≡ n)
 Goes (asks met d spec more) answer w =
     MatchBool (same_kind spec.kind kinds.Count)
-    ((answer ≡ Ok (steps.Count d spec)) × (left w ≡ asks met d spec more) × (waits w ≡ true) × (items_met w ≡ met))
-    ((answer ≡ Ok (steps.Field d spec)) × (left w ≡ more 0) × (waits w ≡ false) × (items_met w ≡ met))
+    ((answer ≡ Ok (steps.Count d spec)) × (left w ≡ asks met d spec more) × (waits w ≡ true)
+    × (items_met w ≡ met))
+    ((answer ≡ Ok (steps.Field d spec)) × (left w ≡ more 0) × (waits w ≡ false)
+    × (items_met w ≡ met))
 
 -- what the answer to a count leaves
 abbrev pub Counted : Course → ℕ → Walk → Type 0

@@ -2,18 +2,17 @@
 
 ghost use Rattle.std.specs.Prelude.{◌≡◌, ◌+◌, ◌-◌, ◌<◌, suc, length, slice_set};
 ghost use Rattle.bufr_tables.specs.Answers.{Gives};
-ghost use Rattle.bufr_expand.specs.Expansion.{onto, expand_within, part_nodes, replication_nodes, single_nodes, head_node};
+ghost use Rattle.bufr_expand.specs.Expansion.{onto, expand_within, part_nodes, replication_nodes};
+ghost use Rattle.bufr_expand.specs.Expansion.{single_nodes, replication_node};
 ghost use Rattle.bufr_expand.specs.Parts.{seen_part};
 
-use crate::node::{Head, Node, TemplateFault};
+use crate::limits::MOST_NODES;
+use crate::node::{Node, Repetitions, TemplateFault};
 use crate::part::{Part, found_at};
 use bufr_tables::{Failure, Fxy, Tables};
 
-/// A template has at most so many nodes.
-const MOST_NODES: usize = 65_536;
-
-/// Adds the nodes of a list of descriptors, or tells its first fault, X1 to X9. So many sequences and replications may still
-/// stand in each other.
+/// Adds the nodes of a list of descriptors, or tells its first fault, X1 to X9. So many sequences
+/// and replications may still stand in each other.
 #[cycle(expand)]
 pub fn expand(
     tables: &Tables,
@@ -22,7 +21,10 @@ pub fn expand(
     list: &[Fxy],
     nodes: &mut Vec<Node>,
 ) -> Result<(), Failure<TemplateFault>>
-    ensures { Gives (λ _. nodes.new.items) result (onto nodes.old.items (expand_within (suc (sequences + replications)) tables.now sequences replications (length nodes.old.items) list.now)) }
+    ensures { Gives (λ _. nodes.new.items) result
+        (onto nodes.old.items (expand_within
+        (suc (sequences + replications)) tables.now sequences replications
+        (length nodes.old.items) list.now)) }
 {
     let mut rest = list;
     while let Some((first, behind)) = rest.split_first() {
@@ -45,7 +47,9 @@ fn add_part(
     part: &Part,
     nodes: &mut Vec<Node>,
 ) -> Result<(), Failure<TemplateFault>>
-    ensures { Gives (λ _. nodes.new.items) result (onto nodes.old.items (part_nodes (expand_within (sequences + replications) tables.now) sequences replications (length nodes.old.items) (seen_part part.now))) }
+    ensures { Gives (λ _. nodes.new.items) result
+        (onto nodes.old.items (part_nodes (expand_within (sequences + replications) tables.now)
+        sequences replications (length nodes.old.items) (seen_part part.now))) }
 {
     match part {
         Part::Single(node) => add_node(node, nodes),
@@ -55,38 +59,45 @@ fn add_part(
             }
             expand(tables, sequences - 1, replications, list, nodes)
         }
-        Part::Replication(head, body) => {
+        Part::Replication(repetitions, body) => {
             if replications == 0 {
                 return Err(Failure::Fault(TemplateFault::TooDeep));
             }
             let place = nodes.len();
-            add_head(head, nodes)?;
+            add_replication(repetitions, nodes)?;
             expand(tables, sequences, replications - 1, body, nodes)?;
-            close_head(place, head, nodes);
+            size_replication(place, repetitions, nodes);
             Ok(())
         }
     }
 }
 
 /// Adds the node of a replication, of no size yet. X9 where there are 65,536.
-fn add_head(head: &Head, nodes: &mut Vec<Node>) -> Result<(), Failure<TemplateFault>>
-    ensures { Gives (λ _. nodes.new.items) result (onto nodes.old.items (single_nodes (length nodes.old.items) (head_node head.now 0))) }
+fn add_replication(
+    repetitions: &Repetitions,
+    nodes: &mut Vec<Node>,
+) -> Result<(), Failure<TemplateFault>>
+    ensures { Gives (λ _. nodes.new.items) result
+        (onto nodes.old.items (single_nodes (length nodes.old.items)
+        (replication_node repetitions.now 0))) }
 {
-    add_node(&head_node(head, 0), nodes)
+    add_node(&replication_node(repetitions, 0), nodes)
 }
 
 /// Gives the node of a replication at a place the size of its body: all nodes behind it.
-fn close_head(place: usize, head: &Head, nodes: &mut Vec<Node>)
+fn size_replication(place: usize, repetitions: &Repetitions, nodes: &mut Vec<Node>)
     requires { place < length nodes.old.items }
-    ensures { nodes.new.items ≡ slice_set nodes.old.items place (head_node head.now (length nodes.old.items - place - 1)) }
+    ensures { nodes.new.items ≡ slice_set nodes.old.items place
+        (replication_node repetitions.now (length nodes.old.items - place - 1)) }
 {
     let size = nodes.len() - place - 1;
-    nodes[place] = head_node(head, size as u64);
+    nodes[place] = replication_node(repetitions, size as u64);
 }
 
 /// Adds one node. X9 where there are 65,536.
 fn add_node(node: &Node, nodes: &mut Vec<Node>) -> Result<(), Failure<TemplateFault>>
-    ensures { Gives (λ _. nodes.new.items) result (onto nodes.old.items (single_nodes (length nodes.old.items) node.now)) }
+    ensures { Gives (λ _. nodes.new.items) result
+        (onto nodes.old.items (single_nodes (length nodes.old.items) node.now)) }
 {
     if nodes.len() >= MOST_NODES {
         return Err(Failure::Fault(TemplateFault::TooManyNodes));
@@ -96,11 +107,11 @@ fn add_node(node: &Node, nodes: &mut Vec<Node>) -> Result<(), Failure<TemplateFa
 }
 
 /// The node of a replication whose body has so many nodes.
-fn head_node(head: &Head, size: u64) -> Node
-    ensures { result ≡ head_node head.now size }
+fn replication_node(repetitions: &Repetitions, size: u64) -> Node
+    ensures { result ≡ replication_node repetitions.now size }
 {
-    match *head {
-        Head::Times(times) => Node::Repeated(times, size),
-        Head::Factor(factor, element) => Node::Delayed(factor, element, size),
+    match *repetitions {
+        Repetitions::Times(times) => Node::Repeated(times, size),
+        Repetitions::Factor(factor, element) => Node::Delayed(factor, element, size),
     }
 }

@@ -3,7 +3,8 @@
 
 mod examples;
 mod expand;
-mod laws;
+pub mod laws;
+mod limits;
 mod node;
 mod operators;
 mod part;
@@ -11,16 +12,14 @@ mod standing;
 mod template;
 #[cfg(test)]
 mod tests;
-mod tree_laws;
 mod walk;
 
-pub use laws::{
-    courses_are_unrollings, courses_begin_unrollings, refusal_is_the_first_fault,
-    specs_are_effective,
+pub use limits::{
+    MOST_FACTOR_BITS, MOST_ITEMS, MOST_LEVELS, MOST_NODES, MOST_NUMBER_BITS, MOST_REFERENCE,
+    MOST_SCALE, MOST_TEXT_BITS,
 };
 pub use node::{Node, TemplateFault};
 pub use operators::{EffectiveRange, Operators, Spec};
 pub use std::alloc::AllocError as OutOfMemory;
 pub use template::Template;
-pub use tree_laws::expansion_is_the_tree_of_a_list;
 pub use walk::{Step, Walk, WalkFault};

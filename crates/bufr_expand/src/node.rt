@@ -24,7 +24,7 @@ pub enum Node {
 
 /// How often a replication's body stands: a number of times, or as its factor says.
 #[derive(Clone, Copy, Debug, PartialEq, Eq)]
-pub enum Head {
+pub enum Repetitions {
     Times(u64),
     Factor(Fxy, Element),
 }
@@ -38,11 +38,14 @@ pub enum TemplateFault {
     UnknownSequence(Fxy),
     /// X3: an operator other than 201, 202, 205, 206, 207 and 208.
     UnsupportedOperator(Fxy),
-    /// X4: a replication of no descriptor, without its factor, or of more descriptors than are left in the same list.
+    /// X4: a replication of no descriptor, without its factor, or of more descriptors than are left
+    /// in the same list.
     BadReplication(Fxy),
-    /// X5: a factor that is not 031000, 031001 or 031002, or whose row of Table B does not give a count.
+    /// X5: a factor that is not 031000, 031001 or 031002, or whose row of Table B does not give a
+    /// count.
     BadFactor(Fxy),
-    /// X6: 205000, 206000, or a width over 63 before an element that Table B does not have with that width.
+    /// X6: 205000, 206000, or a width over 63 before an element that Table B does not have with
+    /// that width.
     BadOperand(Fxy),
     /// X7: 206 with no element behind it in the same list.
     Dangling206(Fxy),

@@ -1,10 +1,13 @@
 //! Operators in force, and what they make of an element.
 
-ghost use Rattle.std.specs.Prelude.{◌≡◌, ◌⊎◌, ◌+ℤ◌, ◌*ℤ◌, ◌≤ℤ◌, ◌≤◌, ◌^◌, pos, negsuc, true, false, Some, None, MatchOption, MatchResult};
+ghost use Rattle.std.specs.Prelude.{◌≡◌, ◌⊎◌, ◌+ℤ◌, ◌*ℤ◌, ◌≤ℤ◌, ◌≤◌, ◌^◌, pos, negsuc, true, false};
+ghost use Rattle.std.specs.Prelude.{Some, None, MatchOption, MatchResult};
 ghost use Rattle.bufr_tables.specs.Descriptors.{f_of, x_of};
+ghost use Rattle.bufr_expand.specs.Limits.{most_scale, most_reference};
 ghost use Rattle.bufr_expand.specs.Operating as operating;
 ghost use Rattle.bufr_expand.specs.Operating.{none_in_force, in_force_after, effective, untouched};
 
+use crate::limits::{MOST_NUMBER_BITS, MOST_REFERENCE, MOST_SCALE, MOST_TEXT_BITS};
 use bufr_tables::{Element, Fxy, Kind};
 use thiserror::Error;
 
@@ -49,7 +52,8 @@ impl Operators {
         }
     }
 
-    /// Puts one of the operators 201, 202, 207 and 208 in force in place of its own former Y, or cancels it, where Y is 0.
+    /// Puts one of the operators 201, 202, 207 and 208 in force in place of its own former Y, or
+    /// cancels it, where Y is 0.
     pub fn apply(&mut self, op: Fxy)
         requires operator { f_of op ≡ 2 }
         requires stays { (x_of op ≡ 1) ⊎ (x_of op ≡ 2) ⊎ (x_of op ≡ 7) ⊎ (x_of op ≡ 8) }
@@ -58,9 +62,11 @@ impl Operators {
         self.put(op);
     }
 
-    /// The spec of an element under these operators. `EffectiveRange` comes exactly where that spec is outside the limits.
+    /// The spec of an element under these operators. `EffectiveRange` comes exactly where that spec
+    /// is outside the limits.
     pub fn effective(&self, element: &Element, fxy: Fxy) -> Result<Spec, EffectiveRange>
-        ensures { MatchResult result (λ s. effective fxy element.now self.now ≡ Some s) (λ e. (e ≡ record { 0 = fxy }) × (effective fxy element.now self.now ≡ None)) }
+        ensures { MatchResult result (λ s. effective fxy element.now self.now ≡ Some s)
+            (λ e. (e ≡ record { 0 = fxy }) × (effective fxy element.now self.now ≡ None)) }
     {
         let spec = match element.kind {
             Kind::Text => text_spec(self.text_width(element.width)),
@@ -97,7 +103,7 @@ impl Operators {
     fn quantity(&self, element: &Element) -> Option<Spec>
         ensures { result ≡ operating.quantity element.now self.now }
     {
-        if !is_within(127, i64::from(element.scale)) {
+        if !is_within(MOST_SCALE, i64::from(element.scale)) {
             return None;
         }
         let reference = increased(element.reference, self.increase())?;
@@ -115,15 +121,17 @@ impl Operators {
 
     /// The scale of a quantity.
     fn scale(&self, scale: i32) -> i32
-        requires { operating.is_within 127 scale ≡ true }
-        ensures { result ≡ scale +ℤ operating.added self.now.add_scale +ℤ pos (operating.increase_of self.now.increase) }
+        requires { operating.is_within most_scale scale ≡ true }
+        ensures { result ≡ scale +ℤ operating.added self.now.add_scale +ℤ pos
+            (operating.increase_of self.now.increase) }
     {
         scale + added(self.add_scale) + i32::from(self.increase())
     }
 
     /// The width of a quantity, which may be below 0.
     fn width(&self, width: u32) -> i64
-        ensures { result ≡ pos width +ℤ operating.added self.now.add_width +ℤ pos (operating.widening self.now.increase) }
+        ensures { result ≡ pos width +ℤ operating.added self.now.add_width +ℤ pos
+            (operating.widening self.now.increase) }
     {
         i64::from(width) + i64::from(added(self.add_width)) + i64::from(widening(self.increase))
     }
@@ -161,7 +169,8 @@ fn widening(operand: Option<u8>) -> i32
 
 /// A reference value times 10 to a power, unless it is then outside the limits.
 fn increased(reference: i64, power: u8) -> Option<i64>
-    ensures { MatchOption result (operating.is_within (2 ^ 62) (reference *ℤ pos (10 ^ power)) ≡ false) (λ r. r ≡ reference *ℤ pos (10 ^ power)) }
+    ensures { MatchOption result (operating.is_within most_reference (reference *ℤ pos (10 ^ power))
+        ≡ false) (λ r. r ≡ reference *ℤ pos (10 ^ power)) }
 {
     if reference == 0 {
         return Some(0);
@@ -191,7 +200,7 @@ fn is_within(limit: u64, number: i64) -> bool
 fn number_spec(kind: Kind, scale: i32, reference: i64, width: i64) -> Option<Spec>
     ensures { result ≡ operating.number_spec kind scale reference width }
 {
-    if width < 1 || width > 63 || !is_within(1 << 62, reference) {
+    if width < 1 || width > i64::from(MOST_NUMBER_BITS) || !is_within(MOST_REFERENCE, reference) {
         return None;
     }
     Some(Spec {
@@ -206,7 +215,7 @@ fn number_spec(kind: Kind, scale: i32, reference: i64, width: i64) -> Option<Spe
 fn text_spec(width: u32) -> Option<Spec>
     ensures { result ≡ operating.text_spec width }
 {
-    if width < 8 || width > 65528 || width % 8 != 0 {
+    if width < 8 || width > MOST_TEXT_BITS || width % 8 != 0 {
         return None;
     }
     Some(Spec {
@@ -224,7 +233,7 @@ pub(crate) fn unchanged(element: &Element) -> Option<Spec>
     match element.kind {
         Kind::Text => text_spec(element.width),
         kind => {
-            if !is_within(127, i64::from(element.scale)) {
+            if !is_within(MOST_SCALE, i64::from(element.scale)) {
                 return None;
             }
             number_spec(

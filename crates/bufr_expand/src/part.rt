@@ -4,11 +4,16 @@ ghost use Rattle.std.specs.Prelude.{◌≡◌, ◌≤◌, length, IfOk, IfSome, 
 ghost use Rattle.bufr_tables.specs.Answers.{result_map};
 ghost use Rattle.bufr_tables.specs.Descriptors.{f_of};
 ghost use Rattle.bufr_tables.specs.Entries.{element, sequence};
-ghost use Rattle.bufr_expand.specs.Expansion.{found_at, element_found, sequence_found, replication_found, repeated_found, factor_found, factor_row, is_factor_row, operator_found, width_found, local_found, number_found, characters, plain_number};
+ghost use Rattle.bufr_expand.specs.Expansion.{found_at, element_found, sequence_found};
+ghost use Rattle.bufr_expand.specs.Expansion.{replication_found, repeated_found, delayed_found};
+ghost use Rattle.bufr_expand.specs.Expansion.{factor_row, is_factor_row, operator_found};
+ghost use Rattle.bufr_expand.specs.Expansion.{width_found, local_found, number_found};
+ghost use Rattle.bufr_expand.specs.Expansion.{text_of_characters, plain_number};
 ghost use Rattle.bufr_expand.specs.Expansion as expansion;
 ghost use Rattle.bufr_expand.specs.Parts.{seen};
 
-use crate::node::{Head, Node, TemplateFault};
+use crate::limits::{MOST_FACTOR_BITS, MOST_NUMBER_BITS};
+use crate::node::{Node, Repetitions, TemplateFault};
 use bufr_tables::{Element, Fxy, Kind, Tables};
 
 /// One node, the list of a sequence, or a replication of the descriptors of a list.
@@ -16,32 +21,33 @@ use bufr_tables::{Element, Fxy, Kind, Tables};
 pub enum Part<'a> {
     Single(Node),
     Inner(&'a [Fxy]),
-    Replication(Head, &'a [Fxy]),
+    Replication(Repetitions, &'a [Fxy]),
 }
 
 /// A part, and how many of the descriptors behind its first belong to it.
 #[derive(Clone, Copy, Debug)]
-pub struct Found<'a> {
+pub struct FirstPart<'a> {
     pub part: Part<'a>,
     pub taken: usize,
 }
 
 /// One node, to which so many of the descriptors behind the first belong.
-fn single<'a>(node: Node, taken: usize) -> Found<'a>
+fn single<'a>(node: Node, taken: usize) -> FirstPart<'a>
     ensures { seen result ≡ record { part = expansion.single node; taken = taken } }
 {
-    Found {
+    FirstPart {
         part: Part::Single(node),
         taken,
     }
 }
 
-/// What a descriptor stands for, by those behind it in the same list. X1 to X7 where it stands for nothing.
+/// What a descriptor stands for, by those behind it in the same list. X1 to X7 where it stands for
+/// nothing.
 pub fn found_at<'a>(
     tables: &'a Tables,
     first: Fxy,
     behind: &'a [Fxy],
-) -> Result<Found<'a>, TemplateFault>
+) -> Result<FirstPart<'a>, TemplateFault>
     ensures value { result_map seen result ≡ found_at tables.now first behind.now }
     ensures taken { IfOk result (λ p. p.taken ≤ length behind.now) }
 {
@@ -54,7 +60,7 @@ pub fn found_at<'a>(
 }
 
 /// The element of Table B. X1 where it has none.
-fn element_found<'a>(tables: &Tables, first: Fxy) -> Result<Found<'a>, TemplateFault>
+fn element_found<'a>(tables: &Tables, first: Fxy) -> Result<FirstPart<'a>, TemplateFault>
     ensures value { result_map seen result ≡ element_found first (element tables.now first) }
     ensures taken { IfOk result (λ p. p.taken ≡ 0) }
 {
@@ -65,12 +71,12 @@ fn element_found<'a>(tables: &Tables, first: Fxy) -> Result<Found<'a>, TemplateF
 }
 
 /// The list of Table D. X2 where it has none.
-fn sequence_found<'a>(tables: &'a Tables, first: Fxy) -> Result<Found<'a>, TemplateFault>
+fn sequence_found<'a>(tables: &'a Tables, first: Fxy) -> Result<FirstPart<'a>, TemplateFault>
     ensures value { result_map seen result ≡ sequence_found first (sequence tables.now first) }
     ensures taken { IfOk result (λ p. p.taken ≡ 0) }
 {
     match tables.sequence(first) {
-        Some(list) => Ok(Found {
+        Some(list) => Ok(FirstPart {
             part: Part::Inner(list),
             taken: 0,
         }),
@@ -83,7 +89,7 @@ fn replication_found<'a>(
     tables: &Tables,
     first: Fxy,
     behind: &'a [Fxy],
-) -> Result<Found<'a>, TemplateFault>
+) -> Result<FirstPart<'a>, TemplateFault>
     ensures value { result_map seen result ≡ replication_found tables.now first behind.now }
     ensures taken { IfOk result (λ p. p.taken ≤ length behind.now) }
 {
@@ -97,7 +103,7 @@ fn replication_found<'a>(
 }
 
 /// A replication of the next X descriptors, Y times. X4 where fewer are left.
-fn repeated_found<'a>(first: Fxy, behind: &'a [Fxy]) -> Result<Found<'a>, TemplateFault>
+fn repeated_found<'a>(first: Fxy, behind: &'a [Fxy]) -> Result<FirstPart<'a>, TemplateFault>
     ensures value { result_map seen result ≡ repeated_found first behind.now }
     ensures taken { IfOk result (λ p. p.taken ≤ length behind.now) }
 {
@@ -105,20 +111,21 @@ fn repeated_found<'a>(first: Fxy, behind: &'a [Fxy]) -> Result<Found<'a>, Templa
     if behind.len() < count {
         return Err(TemplateFault::BadReplication(first));
     }
-    let head = Head::Times(first.y() as u64);
-    Ok(Found {
-        part: Part::Replication(head, &behind[..count]),
+    let repetitions = Repetitions::Times(first.y() as u64);
+    Ok(FirstPart {
+        part: Part::Replication(repetitions, &behind[..count]),
         taken: count,
     })
 }
 
-/// A replication by a factor. X4 where nothing follows, X5, then X4 where fewer than X descriptors are left.
+/// A replication by a factor. X4 where nothing follows, X5, then X4 where fewer than X descriptors
+/// are left.
 fn delayed_found<'a>(
     tables: &Tables,
     first: Fxy,
     behind: &'a [Fxy],
-) -> Result<Found<'a>, TemplateFault>
-    ensures value { result_map seen result ≡ factor_found tables.now first behind.now }
+) -> Result<FirstPart<'a>, TemplateFault>
+    ensures value { result_map seen result ≡ delayed_found tables.now first behind.now }
     ensures taken { IfOk result (λ p. p.taken ≤ length behind.now) }
 {
     let Some((factor, body)) = behind.split_first() else {
@@ -134,9 +141,9 @@ fn delayed_found<'a>(
     if body.len() < count {
         return Err(TemplateFault::BadReplication(first));
     }
-    let head = Head::Factor(*factor, element);
-    Ok(Found {
-        part: Part::Replication(head, &body[..count]),
+    let repetitions = Repetitions::Factor(*factor, element);
+    Ok(FirstPart {
+        part: Part::Replication(repetitions, &body[..count]),
         taken: count + 1,
     })
 }
@@ -156,7 +163,8 @@ fn factor_row(tables: &Tables, factor: Fxy) -> Option<Element>
     tables.element(factor).copied()
 }
 
-/// Whether a factor can be read by a row: a number of 1 to 16 bits, with neither scale nor reference value.
+/// Whether a factor can be read by a row: a number of 1 to 16 bits, with neither scale nor
+/// reference value.
 fn is_factor_row(element: &Element) -> bool
     ensures { result ≡ is_factor_row element.now }
 {
@@ -164,7 +172,7 @@ fn is_factor_row(element: &Element) -> bool
         && element.scale == 0
         && element.reference == 0
         && element.width >= 1
-        && element.width <= 16
+        && element.width <= MOST_FACTOR_BITS
 }
 
 /// An operator. X3, X6 or X7 where there is none.
@@ -172,22 +180,22 @@ fn operator_found<'a>(
     tables: &Tables,
     first: Fxy,
     behind: &[Fxy],
-) -> Result<Found<'a>, TemplateFault>
+) -> Result<FirstPart<'a>, TemplateFault>
     ensures value { result_map seen result ≡ operator_found tables.now first behind.now }
     ensures taken { IfOk result (λ p. p.taken ≤ length behind.now) }
 {
     match first.x() {
         1 | 2 | 7 | 8 => Ok(single(Node::Operator(first), 0)),
         5 | 6 if first.y() == 0 => Err(TemplateFault::BadOperand(first)),
-        5 => Ok(single(Node::Untouched(first, characters(first.y())), 0)),
+        5 => Ok(single(Node::Untouched(first, text_of_characters(first.y())), 0)),
         6 => width_found(tables, first, behind),
         _ => Err(TemplateFault::UnsupportedOperator(first)),
     }
 }
 
 /// So many characters stand in the data.
-fn characters(count: u8) -> Element
-    ensures { result ≡ characters count }
+fn text_of_characters(count: u8) -> Element
+    ensures { result ≡ text_of_characters count }
 {
     Element {
         kind: Kind::Text,
@@ -209,8 +217,13 @@ fn plain_number(width: u8) -> Element
     }
 }
 
-/// The element behind 206 with the width Y. X7 where there is none, X6 where it can't have this width.
-fn width_found<'a>(tables: &Tables, first: Fxy, behind: &[Fxy]) -> Result<Found<'a>, TemplateFault>
+/// The element behind 206 with the width Y. X7 where there is none, X6 where it can't have this
+/// width.
+fn width_found<'a>(
+    tables: &Tables,
+    first: Fxy,
+    behind: &[Fxy],
+) -> Result<FirstPart<'a>, TemplateFault>
     ensures value { result_map seen result ≡ width_found tables.now first behind.now }
     ensures taken { IfOk result (λ p. p.taken ≤ length behind.now) }
 {
@@ -220,8 +233,9 @@ fn width_found<'a>(tables: &Tables, first: Fxy, behind: &[Fxy]) -> Result<Found<
     }
 }
 
-/// An element by its row where that has the width Y, else as a number of Y bits. X6 where Y is over 63 then.
-fn local_found<'a>(tables: &Tables, first: Fxy, local: Fxy) -> Result<Found<'a>, TemplateFault>
+/// An element by its row where that has the width Y, else as a number of Y bits. X6 where Y is over
+/// 63 then.
+fn local_found<'a>(tables: &Tables, first: Fxy, local: Fxy) -> Result<FirstPart<'a>, TemplateFault>
     ensures value { result_map seen result ≡ local_found first local (element tables.now local) }
     ensures taken { IfOk result (λ p. p.taken ≡ 1) }
 {
@@ -229,7 +243,7 @@ fn local_found<'a>(tables: &Tables, first: Fxy, local: Fxy) -> Result<Found<'a>,
         Some(element) if element.width == first.y() as u32 => {
             Ok(single(Node::Untouched(local, *element), 1))
         }
-        _ if first.y() > 63 => Err(TemplateFault::BadOperand(first)),
+        _ if u32::from(first.y()) > MOST_NUMBER_BITS => Err(TemplateFault::BadOperand(first)),
         _ => Ok(single(Node::Untouched(local, plain_number(first.y())), 1)),
     }
 }

@@ -24,8 +24,8 @@ pub struct Asked {
     pub fxy: Fxy,
     /// The spec of its field.
     pub spec: Spec,
-    /// Where the body begins that stands as often as the number says; it ends at the place of the walk.
-    /// None for an element that only counts.
+    /// Where the body begins that stands as often as the number says; it ends at the place of the
+    /// walk. None for an element that only counts.
     pub body: Option<usize>,
 }
 

@@ -1,11 +1,12 @@
 //! Templates.
 
 ghost use Rattle.std.specs.Prelude.{◌≡◌, length};
-ghost use Rattle.bufr_tables.specs.Answers.{Gives, result_map};
-ghost use Rattle.bufr_expand.specs.Expansion.{expansion};
-ghost use Rattle.bufr_expand.specs.Trees.{tree_of, nodes_of};
+ghost use Rattle.bufr_tables.specs.Answers.{Gives};
+ghost use Rattle.bufr_expand.specs.Templates.{template};
+ghost use Rattle.bufr_expand.specs.Trees.{nodes_of};
 
 use crate::expand::expand;
+use crate::limits::MOST_LEVELS;
 use crate::node::{Node, TemplateFault};
 use bufr_tables::{Failure, Fxy, Tables};
 use std::alloc::Global;
@@ -31,9 +32,6 @@ impl Model for Template {
     ghost invariant = { λ t. nodes_of (tree_of t.nodes.items) ≡ t.nodes.items };
 }
 
-/// Sequences stand in each other at most so deep, and so do replications.
-const MOST_LEVELS: u8 = 16;
-
 impl Template {
     /// The template of a list of descriptors, or its first fault in depth-first order, X1 to X9.
     pub fn build(
@@ -41,7 +39,7 @@ impl Template {
         tables: &Tables,
         list: &[Fxy],
     ) -> Result<Template, Failure<TemplateFault>>
-        ensures { Gives (λ t. t) result (result_map tree_of (expansion tables.now list.now)) }
+        ensures { Gives (λ t. t) result (template tables.now list.now) }
     {
         let mut nodes = Vec::new(alloc);
         expand(tables, MOST_LEVELS, MOST_LEVELS, list, &mut nodes)?;

@@ -108,6 +108,99 @@ fn replaced_width(rt: HostRuntime) -> Result<(), Fail> {
     Ok(())
 }
 
+/// The operators of these X and Y, put in force one after the other.
+fn in_force(rt: &impl Abort, operators: &[(u8, u8)]) -> Operators {
+    let mut q = Operators::none();
+    for (x, y) in operators {
+        apply(&mut q, fxy(rt, 2, *x, *y));
+    }
+    q
+}
+
+#[test]
+fn widths_and_scales_of_a_temperature(rt: HostRuntime) {
+    let k = fxy(&rt, 0, 12, 101);
+    let cases: [(&[(u8, u8)], i32, u32); 11] = [
+        (&[(1, 120)], 2, 8),
+        (&[(1, 127)], 2, 15),
+        (&[(1, 128)], 2, 16),
+        (&[(1, 175)], 2, 63),
+        (&[(1, 113)], 2, 1),
+        (&[(2, 125)], -1, 16),
+        (&[(7, 2)], 4, 23),
+        (&[(7, 3)], 5, 26),
+        (&[(7, 4)], 6, 30),
+        (&[(7, 10)], 12, 50),
+        (&[(8, 10)], 2, 16),
+    ];
+    for (operators, scale, width) in cases {
+        let expected = Ok(spec(Kind::Quantity, scale, 0, width));
+        assert_eq!(rt;
+            in_force(&rt, operators).effective(&temperature(), k),
+            expected
+        );
+    }
+    for operator in [(1, 176), (1, 112), (1, 111)] {
+        let q = in_force(&rt, &[operator]);
+        assert_eq!(rt; q.effective(&temperature(), k), Err(EffectiveRange(k)));
+    }
+}
+
+#[test]
+fn increase_beside_width_and_scale(rt: HostRuntime) {
+    let k = fxy(&rt, 0, 5, 2);
+    let latitude = row(Kind::Quantity, 2, -9000, 15);
+    let cases: [(&[(u8, u8)], i32, i64, u32); 5] = [
+        (&[(7, 4)], 6, -90_000_000, 29),
+        (&[(7, 2), (1, 130), (2, 127)], 3, -900_000, 24),
+        (&[(1, 130), (2, 127), (7, 2)], 3, -900_000, 24),
+        (&[(1, 130), (7, 2), (7, 0)], 2, -9000, 17),
+        (&[(1, 130), (7, 2), (1, 0)], 4, -900_000, 22),
+    ];
+    for (operators, scale, reference, width) in cases {
+        let expected = Ok(spec(Kind::Quantity, scale, reference, width));
+        assert_eq!(rt; in_force(&rt, operators).effective(&latitude, k), expected);
+    }
+}
+
+#[test]
+fn texts_wider_and_narrower_than_their_row(rt: HostRuntime) {
+    let name = row(Kind::Text, 0, 0, 72);
+    let station = fxy(&rt, 0, 1, 11);
+    let cases: [(&[(u8, u8)], u32); 6] = [
+        (&[(8, 4)], 32),
+        (&[(8, 10)], 80),
+        (&[(8, 201)], 1608),
+        (&[(8, 255)], 2040),
+        (&[(8, 10), (8, 0)], 72),
+        (&[(1, 130), (2, 130), (7, 2)], 72),
+    ];
+    for (operators, width) in cases {
+        let expected = Ok(spec(Kind::Text, 0, 0, width));
+        assert_eq!(rt;
+            in_force(&rt, operators).effective(&name, station),
+            expected
+        );
+    }
+}
+
+#[test]
+fn class_31_codes_and_flags_stay(rt: HostRuntime) {
+    let q = in_force(&rt, &[(1, 130), (2, 129), (7, 1)]);
+    let factor = row(Kind::Quantity, 0, 0, 8);
+    let kept = Ok(spec(Kind::Quantity, 0, 0, 8));
+    assert_eq!(rt; q.effective(&factor, fxy(&rt, 0, 31, 1)), kept);
+    let changed = Ok(spec(Kind::Quantity, 2, 0, 14));
+    assert_eq!(rt; q.effective(&factor, fxy(&rt, 0, 30, 1)), changed);
+    assert_eq!(rt; q.effective(&factor, fxy(&rt, 0, 32, 1)), changed);
+    let code = row(Kind::Code, 0, 0, 2);
+    let kept = Ok(spec(Kind::Code, 0, 0, 2));
+    assert_eq!(rt; q.effective(&code, fxy(&rt, 0, 2, 1)), kept);
+    let flag = row(Kind::Flag, 0, 0, 4);
+    let kept = Ok(spec(Kind::Flag, 0, 0, 4));
+    assert_eq!(rt; q.effective(&flag, fxy(&rt, 0, 2, 2)), kept);
+}
+
 #[test]
 fn text_width(rt: HostRuntime) {
     let name = row(Kind::Text, 0, 0, 72);
@@ -217,11 +310,18 @@ struct Walked {
 /// Walks over nodes, after so many items, each count having this number.
 fn walk_over(alloc: Global, nodes: &[Node], used: u64, told: u64) -> Result<Walked, AllocError> {
     let mut walk = Walk::over(alloc, nodes, used)?;
+    finish_walk(alloc, &mut walk, told)
+}
+
+/// How a walk goes on, each count having this number.
+fn finish_walk(alloc: Global, walk: &mut Walk<'_>, told: u64) -> Result<Walked, AllocError>
+    requires { waits walk.old ≡ false }
+{
     let mut widths = Vec::new(alloc);
     let mut fields: u64 = 0;
     let mut last = Ok(Step::End);
     for _ in 0..20_000_000 {
-        last = step(&mut walk, told);
+        last = step(walk, told);
         let Some(bits) = width(&last) else {
             break;
         };
@@ -230,7 +330,7 @@ fn walk_over(alloc: Global, nodes: &[Node], used: u64, told: u64) -> Result<Walk
             widths.push(bits)?;
         }
     }
-    let again = step(&mut walk, told);
+    let again = step(walk, told);
     let items = walk.items();
     Ok(Walked {
         widths,
@@ -380,3 +480,5 @@ fn item_and_product_limits(rt: HostRuntime) -> Result<(), Fail> {
     assert_eq!(rt; large.items, 16_777_216);
     Ok(())
 }
+
+mod large;

@@ -3,10 +3,12 @@
 ghost use Rattle.std.specs.Prelude.{◌≡◌, ◌≤◌, ◌+◌, ◌-◌, min, length};
 ghost use Rattle.std.specs.Vec.{vec_capacity};
 ghost use Rattle.bufr_expand.specs.Places as places;
-ghost use Rattle.bufr_expand.specs.Places.{AreOpen, AreOpen-prop, in_front, replications, begins, awaited};
+ghost use Rattle.bufr_expand.specs.Places.{AreOpen, AreOpen-prop, in_front, replications, begins};
+ghost use Rattle.bufr_expand.specs.Places.{awaited};
 ghost use Rattle.bufr_expand.specs.Operating.{factor_spec};
 
 use crate::OutOfMemory;
+use crate::limits::MOST_ITEMS;
 use crate::node::Node;
 use crate::operators::{Operators, Spec, unchanged};
 use crate::standing::{Asked, Open, State};
@@ -14,9 +16,6 @@ use crate::template::Template;
 use bufr_tables::{Element, Fxy, Kind};
 use std::alloc::Global;
 use thiserror::Error;
-
-/// How many items a message may have.
-const ITEM_LIMIT: u64 = 16_777_216;
 
 /// What a walk meets next.
 #[derive(Clone, Copy, Debug, PartialEq, Eq)]
@@ -32,7 +31,8 @@ pub enum Step {
 /// Why a walk stops.
 #[derive(Clone, Copy, Debug, Error, PartialEq, Eq)]
 pub enum WalkFault {
-    /// An item up to and with the next field, or up to the end, would be more than a message may have.
+    /// An item up to and with the next field, or up to the end, would be more than a message may
+    /// have.
     #[error("V6 TooLarge")]
     TooLarge,
     /// The spec of the next field, of the element of this descriptor, is outside the limits.
@@ -40,7 +40,8 @@ pub enum WalkFault {
     EffectiveRange(Fxy),
 }
 
-/// A walk through a template: it meets the fields of one subset in their order, given the counts that were read.
+/// A walk through a template: it meets the fields of one subset in their order, given the counts
+/// that were read.
 #[derive(Debug, Drop)]
 pub struct Walk<'t> {
     nodes: &'t [Node],
@@ -53,7 +54,8 @@ pub struct Walk<'t> {
     ghost within: { (place ≤ length nodes.now) × (stop ≤ length nodes.now) },
     ghost in_bodies: { AreOpen nodes.now 0 loops.items } by { AreOpen-prop nodes.now 0 loops.items },
     ghost has_begun: { begins state place ≤ place },
-    ghost is_inside: { length loops.items + awaited state ≤ in_front nodes.now (begins state place) },
+    ghost is_inside: { length loops.items + awaited state ≤ in_front nodes.now
+        (begins state place) },
     ghost has_room: { replications nodes.now ≤ vec_capacity loops },
 }
 
@@ -61,12 +63,15 @@ impl<'t> Walk<'t> {
     ghost use Rattle.std.specs.Prelude.{◌<◌, ◌*◌, true, false, IfOk, IfSome, IfNone, option_map};
     ghost use Rattle.bufr_tables.specs.declared.element.Kind.TheVariants as kinds;
     ghost use Rattle.bufr_expand.specs.Operating.{in_force_after, untouched};
+    ghost use Rattle.bufr_expand.specs.Limits.{most_items};
     ghost use Rattle.bufr_expand.specs.Trees.{tree_of};
     ghost use Rattle.bufr_expand.specs.Courses.{course, ends, stops, asks, asks_if};
-    ghost use Rattle.bufr_expand.specs.Walks.{left, waits, items_met, steps_left, going, told, turns_then, behind_all, Goes, Counted, IsBelowCount};
+    ghost use Rattle.bufr_expand.specs.Walks.{left, waits, items_met, steps_left, going, told};
+    ghost use Rattle.bufr_expand.specs.Walks.{turns_then, behind_all, Goes, Counted, IsBelowCount};
     ghost use Rattle.bufr_expand.specs.declared.standing.State.TheVariants.{Going};
 
-    /// At the front of a template, after so many items of the message. It takes the room for all levels.
+    /// At the front of a template, after so many items of the message. It takes the room for all
+    /// levels.
     pub fn start(alloc: Global, template: &'t Template, used: u64) -> Result<Walk<'t>, OutOfMemory>
         ensures course { IfOk result (λ w. left w ≡ course template.now used) }
         ensures answered { IfOk result (λ w. waits w ≡ false) }
@@ -93,8 +98,8 @@ impl<'t> Walk<'t> {
         })
     }
 
-    /// What comes next: operators, turns and ends of replications are passed. After a refusal or `Step::End`
-    /// it answers the same again.
+    /// What comes next: operators, turns and ends of replications are passed. After a refusal or
+    /// `Step::End` it answers the same again.
     pub fn next(&mut self) -> Result<Step, WalkFault>
         requires { waits self.old ≡ false }
         ensures { Goes (left self.old) result self.new }
@@ -133,7 +138,8 @@ impl<'t> Walk<'t> {
     #[tactic(auto, unfolding(crate::specs::Walks::left, crate::specs::Walks::waits, crate::specs::Walks::items_met))]
     fn pass(&mut self) -> Option<Result<Step, WalkFault>>
         requires { waits self.old ≡ false }
-        ensures on { IfNone result ((left self.new ≡ left self.old) × (waits self.new ≡ false) × (steps_left self.new < steps_left self.old)) }
+        ensures on { IfNone result ((left self.new ≡ left self.old) × (waits self.new ≡ false)
+            × (steps_left self.new < steps_left self.old)) }
         ensures answer { IfSome result (λ a. Goes (left self.old) a self.new) }
     {
         match self.state {
@@ -148,10 +154,11 @@ impl<'t> Walk<'t> {
     fn visit(&mut self) -> Option<Result<Step, WalkFault>>
         requires goes { self.old.state ≡ Going }
         requires more { self.old.place < self.old.stop }
-        ensures on { IfNone result ((left self.new ≡ left self.old) × (waits self.new ≡ false) × (steps_left self.new < steps_left self.old)) }
+        ensures on { IfNone result ((left self.new ≡ left self.old) × (waits self.new ≡ false)
+            × (steps_left self.new < steps_left self.old)) }
         ensures answer { IfSome result (λ a. Goes (left self.old) a self.new) }
     {
-        if self.items >= ITEM_LIMIT {
+        if self.items >= MOST_ITEMS {
             self.refuse(WalkFault::TooLarge);
             return Some(Err(WalkFault::TooLarge));
         }
@@ -177,7 +184,8 @@ impl<'t> Walk<'t> {
     fn turn(&mut self) -> Option<Result<Step, WalkFault>>
         requires goes { self.old.state ≡ Going }
         requires passed { self.old.stop ≤ self.old.place }
-        ensures on { IfNone result ((left self.new ≡ left self.old) × (waits self.new ≡ false) × (steps_left self.new < steps_left self.old)) }
+        ensures on { IfNone result ((left self.new ≡ left self.old) × (waits self.new ≡ false)
+            × (steps_left self.new < steps_left self.old)) }
         ensures answer { IfSome result (λ a. Goes (left self.old) a self.new) }
     {
         let Some(turn) = self.loops.pop() else {
@@ -188,7 +196,7 @@ impl<'t> Walk<'t> {
             self.stop = turn.stop;
             return None;
         }
-        if self.items >= ITEM_LIMIT {
+        if self.items >= MOST_ITEMS {
             self.refuse(WalkFault::TooLarge);
             return Some(Err(WalkFault::TooLarge));
         }
@@ -221,8 +229,10 @@ impl<'t> Walk<'t> {
     fn field(&mut self, fxy: Fxy, spec: Option<Spec>) -> Result<Step, WalkFault>
         requires goes { self.old.state ≡ Going }
         requires more { self.old.place < self.old.stop }
-        requires fits { self.old.items < 16777216 }
-        ensures { Goes (asks_if spec (self.old.items + 1) fxy (λ n. going self.old.nodes.now (self.old.place + 1) self.old.stop self.old.loops.items self.old.operators (self.old.items + 1))) result self.new }
+        requires fits { self.old.items < most_items }
+        ensures { Goes (asks_if spec (self.old.items + 1) fxy
+            (λ n. going self.old.nodes.now (self.old.place + 1) self.old.stop
+            self.old.loops.items self.old.operators (self.old.items + 1))) result self.new }
     {
         self.items += 1;
         let Some(spec) = spec else {
@@ -248,10 +258,15 @@ impl<'t> Walk<'t> {
     fn ask(&mut self, fxy: Fxy, spec: Spec, len: u64) -> Result<Step, WalkFault>
         requires goes { self.old.state ≡ Going }
         requires more { self.old.place < self.old.stop }
-        requires fits { self.old.items < 16777216 }
-        requires room { length self.old.loops.items + 1 ≤ in_front self.old.nodes.now (self.old.place + 1) }
+        requires fits { self.old.items < most_items }
+        requires room { length self.old.loops.items + 1 ≤ in_front self.old.nodes.now
+            (self.old.place + 1) }
         requires counts { spec.kind ≡ kinds.Count }
-        ensures { let from = self.old.place + 1 in let to = from + min len (self.old.stop - from) in Goes (asks (self.old.items + 1) fxy spec (λ n. turns_then self.old.nodes.now n from to self.old.stop (behind_all self.old.nodes.now self.old.loops.items) self.old.operators (self.old.items + 1))) result self.new }
+        ensures { let from = self.old.place + 1 in let to = from + min len (self.old.stop - from) in
+            Goes (asks (self.old.items + 1) fxy spec
+            (λ n. turns_then self.old.nodes.now n from to self.old.stop
+            (behind_all self.old.nodes.now self.old.loops.items) self.old.operators
+            (self.old.items + 1))) result self.new }
     {
         let from = self.place + 1;
         self.items += 1;
@@ -269,8 +284,10 @@ impl<'t> Walk<'t> {
     fn pass_operator(&mut self, op: Fxy)
         requires goes { self.old.state ≡ Going }
         requires more { self.old.place < self.old.stop }
-        requires fits { self.old.items < 16777216 }
-        ensures course { left self.new ≡ going self.old.nodes.now (self.old.place + 1) self.old.stop self.old.loops.items (in_force_after self.old.operators op) (self.old.items + 1) }
+        requires fits { self.old.items < most_items }
+        ensures course { left self.new ≡ going self.old.nodes.now
+            (self.old.place + 1) self.old.stop self.old.loops.items
+            (in_force_after self.old.operators op) (self.old.items + 1) }
         ensures goes { waits self.new ≡ false }
         ensures nearer { steps_left self.new < steps_left self.old }
     {
@@ -284,9 +301,14 @@ impl<'t> Walk<'t> {
     fn repeat(&mut self, times: u64, len: u64)
         requires goes { self.old.state ≡ Going }
         requires more { self.old.place < self.old.stop }
-        requires fits { self.old.items < 16777216 }
-        requires room { length self.old.loops.items + 1 ≤ in_front self.old.nodes.now (self.old.place + 1) }
-        ensures course { let from = self.old.place + 1 in let to = from + min len (self.old.stop - from) in left self.new ≡ turns_then self.old.nodes.now times from to self.old.stop (behind_all self.old.nodes.now self.old.loops.items) self.old.operators (self.old.items + 1) }
+        requires fits { self.old.items < most_items }
+        requires room { length self.old.loops.items + 1 ≤ in_front self.old.nodes.now
+            (self.old.place + 1) }
+        ensures course { let from = self.old.place + 1 in
+            let to = from + min len (self.old.stop - from) in
+            left self.new ≡ turns_then self.old.nodes.now times from to self.old.stop
+            (behind_all self.old.nodes.now self.old.loops.items) self.old.operators
+            (self.old.items + 1) }
         ensures goes { waits self.new ≡ false }
         ensures nearer { steps_left self.new < steps_left self.old }
     {
@@ -296,12 +318,16 @@ impl<'t> Walk<'t> {
         self.enter(times, from);
     }
 
-    /// Enters a replication of the nodes in front of the place, so many turns of which are still to come.
+    /// Enters a replication of the nodes in front of the place, so many turns of which are still to
+    /// come.
     #[tactic(auto, unfolding(crate::specs::Walks::left, crate::specs::Walks::waits, crate::specs::Walks::items_met, crate::specs::Walks::steps_left))]
     fn enter(&mut self, turns: u64, from: usize)
         requires room { length self.old.loops.items + 1 ≤ in_front self.old.nodes.now from }
         requires order { from ≤ self.old.place }
-        ensures course { left self.new ≡ turns_then self.old.nodes.now turns from self.old.place self.old.stop (behind_all self.old.nodes.now self.old.loops.items) self.old.operators self.old.items }
+        ensures course { left self.new ≡ turns_then self.old.nodes.now turns from self.old.place
+            self.old.stop
+            (behind_all self.old.nodes.now self.old.loops.items) self.old.operators
+            self.old.items }
         ensures goes { waits self.new ≡ false }
         ensures items { items_met self.new ≡ self.old.items }
         ensures steps { steps_left self.new ≡ steps_left self.old + 1 }

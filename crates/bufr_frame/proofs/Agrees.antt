@@ -1,5 +1,6 @@
--- What a comparison of fronts says.
-use Rattle.std.proofs.Common.{◌≡◌, ℕ, zero, suc, true, false, cond, eqb, nat_eq, ◌&&◌, List, [], ◌∷◌, length, take, refl, arith, min}
+-- What a comparison of fronts says: for `agrees`, by which `feed` and `take_next` know a mark.
+use Rattle.std.proofs.Common.{◌≡◌, ℕ, zero, suc, true, false, cond, eqb, nat_eq, ◌&&◌, List, []}
+use Rattle.std.proofs.Common.{◌∷◌, length, take, refl, arith, min}
 use Rattle.std.specs.Cmp.Lexicographic.{pointwise}
 use Rattle.bufr_frame.specs.Starts.{agrees}
 

@@ -1,9 +1,11 @@
--- What a framer hands out for each stream for which it stands, and what it then stands for.
-use Rattle.std.proofs.Common.{◌≡◌, ℕ, ◌+◌, ◌-◌, true, false, List, ◌++◌, length, drop, sym, ap, ◌∙◌, subst}
+-- What a framer hands out for each stream for which it stands, and what it then stands for: for
+-- the clauses of `feed` and `look_end`.
+use Rattle.std.proofs.Common.{◌≡◌, ℕ, ◌+◌, ◌-◌, true, false, List, ◌++◌, length, drop, sym, ap, ◌∙◌}
+use Rattle.std.proofs.Common.{subst}
 use Rattle.bufr_frame.specs.declared.frames.Found.{Found}
 use Rattle.bufr_frame.specs.Framings.{Framing}
 use Rattle.bufr_frame.specs.Streams.{frames_from, cut, sure, rest_from, Stands}
-use Rattle.bufr_frame.proofs.StreamLaws.{Stands-found, Stands-all, Stands-ended}
+use Rattle.bufr_frame.specs.StreamLaws.{Stands-found, Stands-all, Stands-ended}
 
 abbrev framing : ℕ → List ℕ → Framing
 framing fed held = record { fed = fed; held = held }

@@ -1,5 +1,7 @@
 -- What a framer holds is what it must hold, in words.
-use Rattle.std.proofs.Common.{◌≡◌, ℕ, zero, suc, ◌+◌, ◌-◌, ◌<◌, ◌≤◌, false, Some, None, List, [], ◌∷◌, length, take, drop, refl, sym, ap, ◌∙◌, subst, arith, inl, inr, slice_get}
+use Rattle.std.proofs.Common.{◌≡◌, ℕ, zero, suc, ◌+◌, ◌-◌, ◌<◌, ◌≤◌, false, Some, None, List, []}
+use Rattle.std.proofs.Common.{◌∷◌, length, take, drop, refl, sym, ap, ◌∙◌, subst, arith, inl, inr}
+use Rattle.std.proofs.Common.{slice_get}
 use Rattle.std.specs.List.{AllByRecursion}
 use Rattle.std.proofs.lemmas.List.{length-take-le, length-drop, drop_all}
 use Rattle.std.proofs.lemmas.Bool.Decides.{leb_tells}
@@ -9,9 +11,10 @@ use Rattle.bufr_frame.specs.Framings.{Framing}
 use Rattle.bufr_frame.specs.Starts.{announced, start_of}
 use Rattle.bufr_frame.specs.Streams.{frames_from, sure, rest_from, Stands}
 use Rattle.bufr_frame.specs.Holdings.{IsNextAt, IsHeldAt, IsAfter, AreHeld, StandsFor}
-use Rattle.bufr_frame.proofs.StreamLaws.{announced-length, begins_from, frames_other, frames_open, frames_frame, rest_other, rest_open, rest_none, rest_frame}
+use Rattle.bufr_frame.specs.StreamLaws.{announced-length, begins_from, frames_other, frames_open}
+use Rattle.bufr_frame.specs.StreamLaws.{frames_frame, rest_other, rest_open, rest_none, rest_frame}
 use Rattle.bufr_frame.proofs.ScanLaws.{one_frame}
-use Rattle.bufr_frame.proofs.CutLaws.{all_weaker}
+use Rattle.bufr_frame.specs.CutLaws.{all_weaker}
 use Rattle.bufr_frame.proofs.OpenLaws.{open_from, open_to, tail_from, tail_to}
 use Rattle.bufr_frame.proofs.SureLaws.{all_past, sure_is, sure_only}
 
@@ -21,7 +24,8 @@ EndBy place fs = AllByRecursion (λ f. f.place + length f.bytes ≤ place) fs
 end_by : (p q : ℕ) (fs : List Found) → p ≤ q → EndBy p fs → EndBy q fs
 end_by p q fs h a = all_weaker (λ f. f.place + length f.bytes ≤ p) (λ f. f.place + length f.bytes ≤ q) (λ f b. omega arith) fs a
 
--- what is left begins at the first place, at or after the end of the frames handed out, at which something stands
+-- what is left begins at the first place, at or after the end of the frames handed out, at which
+-- something stands
 record RestsAt (place skip out : ℕ) (xs : List ℕ) (fs : List Found) (rest : List ℕ) : Type 0 where
   pub n : ℕ
   pub within : n ≤ length xs

@@ -1,4 +1,3 @@
-pub mod JoinedLaws
 pub mod HoldingLaws
 pub mod SureLaws
 pub mod OpenLaws
@@ -6,6 +5,5 @@ pub mod PieceLaws
 pub mod FramerLaws
 pub mod MarkLaws
 pub mod ScanLaws
+pub mod ReachLaws
 pub mod Agrees
-pub mod StreamLaws
-pub mod CutLaws

@@ -1,5 +1,7 @@
--- Where no `BUFR` begins, nothing stands.
-use Rattle.std.proofs.Common.{◌≡◌, ℕ, zero, suc, ◌+◌, ◌-◌, ◌<◌, ◌≤◌, true, false, cond, eqb, eq-eqb, Some, None, List, [], ◌∷◌, length, drop, get_or, refl, sym, ap, ◌∙◌, subst, arith}
+-- Where no `BUFR` begins, nothing stands: for the search that `feed`, `finish` and `take_next` use.
+use Rattle.std.proofs.Common.{◌≡◌, ℕ, zero, suc, ◌+◌, ◌-◌, ◌<◌, ◌≤◌, true, false, cond, eqb, eq-eqb}
+use Rattle.std.proofs.Common.{Some, None, List, [], ◌∷◌, length, drop, get_or, refl, sym, ap, ◌∙◌}
+use Rattle.std.proofs.Common.{subst, arith}
 use Rattle.std.proofs.lemmas.List.{length-drop, get_or-drop}
 use Rattle.std.proofs.lemmas.Bool.{eqb-true}
 use Rattle.memchr.specs.Find.{FindsNeedle, OccursAt}
@@ -27,27 +29,27 @@ occurs s from j room h = record {
       ∙ agrees_at (drop (from + j) s) bufr i h (let r : i < length (drop (from + j) s) = omega (arith, length-drop (from + j) s, l) in r) l;
 }
 
-passed : (s : List ℕ) (from j : ℕ) → (from + j) + 4 ≤ length s → (OccursAt (drop from s) bufr j → ⊥) → start_of (drop (from + j) s) ≡ Other
+passed : (s : List ℕ) (from j : ℕ) → (from + j) + 4 ≤ length s → (OccursAt (drop from s) bufr j → ⊥) → agrees (drop (from + j) s) bufr ≡ false
 passed s from j room nowhere =
-    elim (agrees (drop (from + j) s) bufr) as (λ b. agrees (drop (from + j) s) bufr ≡ b → start_of (drop (from + j) s) ≡ Other) [
+    elim (agrees (drop (from + j) s) bufr) as (λ b. agrees (drop (from + j) s) bufr ≡ b → b ≡ false) [
       | true ↦ λ h. absurd (nowhere (occurs s from j room h))
-      | false ↦ λ h. no_mark (drop (from + j) s) h
+      | false ↦ λ h. refl
     ] refl
 
 -- before the first `BUFR` that a search finds nothing stands
-pub found_others : (s needle : List ℕ) (from further : ℕ) → needle ≡ bufr → from ≤ length s → FindsNeedle (drop from s) needle 0 (Some further) → (k : ℕ) → from ≤ k → k < from + further → start_of (drop k s) ≡ Other
+pub found_others : (s needle : List ℕ) (from further : ℕ) → needle ≡ bufr → from ≤ length s → FindsNeedle (drop from s) needle 0 (Some further) → (k : ℕ) → from ≤ k → k < from + further → agrees (drop k s) bufr ≡ false
 found_others s needle from further e within found k low high =
     let f : FindsNeedle (drop from s) bufr 0 (Some further) = subst (λ n. FindsNeedle (drop from s) n 0 (Some further)) e found in
     let fits = f.1.fits in
     let whole : from + (k - from) ≡ k = omega arith in
-    subst (λ p. start_of (drop p s) ≡ Other) whole (passed s from (k - from) (omega (arith, length-drop from s)) (f.0.before (k - from) (omega arith) (omega arith)))
+    subst (λ p. agrees (drop p s) bufr ≡ false) whole (passed s from (k - from) (omega (arith, length-drop from s)) (f.0.before (k - from) (omega arith) (omega arith)))
 
 -- and where it finds none, at no place that four octets follow
-pub none_others : (s needle : List ℕ) (from : ℕ) → needle ≡ bufr → from ≤ length s → FindsNeedle (drop from s) needle 0 None → (k : ℕ) → from ≤ k → k + 4 ≤ length s → start_of (drop k s) ≡ Other
+pub none_others : (s needle : List ℕ) (from : ℕ) → needle ≡ bufr → from ≤ length s → FindsNeedle (drop from s) needle 0 None → (k : ℕ) → from ≤ k → k + 4 ≤ length s → agrees (drop k s) bufr ≡ false
 none_others s needle from e within found k low room =
     let f : FindsNeedle (drop from s) bufr 0 None = subst (λ n. FindsNeedle (drop from s) n 0 None) e found in
     let whole : from + (k - from) ≡ k = omega arith in
-    subst (λ p. start_of (drop p s) ≡ Other) whole (passed s from (k - from) (omega arith) (f (k - from) (omega arith) (omega (arith, length-drop from s))))
+    subst (λ p. agrees (drop p s) bufr ≡ false) whole (passed s from (k - from) (omega arith) (f (k - from) (omega arith) (omega (arith, length-drop from s))))
 
 -- lists with the same octets as far as both go agree
 agrees_by_octets : (xs ys : List ℕ) → ((i : ℕ) → i < length xs → i < length ys → get_or xs i 0 ≡ get_or ys i 0) → agrees xs ys ≡ true

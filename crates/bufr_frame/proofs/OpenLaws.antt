@@ -1,5 +1,8 @@
--- What is open, and what is a tail, by what stands there.
-use Rattle.std.proofs.Common.{◌≡◌, ℕ, ◌+◌, ◌-◌, ◌<◌, ◌≤◌, true, false, cond, eqb, nat_lt, nat_le, Some, None, List, [], ◌∷◌, length, take, drop, refl, sym, ap, ◌∙◌, subst, arith, eq-eqb, length-drop}
+-- What is open, and what is a tail, by what stands there: for the public laws
+-- `sure_is_the_longest_clear_front` and `framer_holds_what_it_must`.
+use Rattle.std.proofs.Common.{◌≡◌, ℕ, ◌+◌, ◌-◌, ◌<◌, ◌≤◌, true, false, cond, eqb, nat_lt, nat_le}
+use Rattle.std.proofs.Common.{Some, None, List, [], ◌∷◌, length, take, drop, refl, sym, ap, ◌∙◌}
+use Rattle.std.proofs.Common.{subst, arith, eq-eqb, length-drop}
 use Rattle.std.specs.List.{AllByRecursion}
 use Rattle.std.proofs.lemmas.List.{drop-drop}
 use Rattle.std.proofs.lemmas.Bool.{eqb-true, le-ltb, ltb-false, leb-false, lt-leb}
@@ -7,8 +10,8 @@ use Rattle.bufr_frame.specs.declared.places.Start.TheVariants.{Frame, Open, Othe
 use Rattle.bufr_frame.specs.Starts.{bufr, sevens, agrees, announced, start_by, start_of}
 use Rattle.bufr_frame.specs.Sures.{IsOpenAt}
 use Rattle.bufr_frame.specs.Holdings.{IsTailAt}
-use Rattle.bufr_frame.proofs.CutLaws.{agrees_take, agrees_from}
-use Rattle.bufr_frame.proofs.StreamLaws.{announced-length}
+use Rattle.bufr_frame.specs.CutLaws.{agrees_take, agrees_from}
+use Rattle.bufr_frame.specs.StreamLaws.{announced-length}
 
 -- lists of one octet agree
 all_agree : (xs ys : List ℕ) → AllByRecursion (λ x. x ≡ 55) xs → AllByRecursion (λ x. x ≡ 55) ys → agrees xs ys ≡ true

@@ -1,14 +1,16 @@
--- What was handed out for the pieces so far.
-use Rattle.std.proofs.Common.{◌≡◌, ℕ, ◌+◌, ◌<◌, List, [], ◌∷◌, ◌++◌, length, take, drop, get_or, sym, ap, ◌∙◌}
+-- What was handed out for the pieces so far: for the clause of `frames_of_pieces`.
+use Rattle.std.proofs.Common.{◌≡◌, ℕ, ◌+◌, ◌<◌, List, [], ◌∷◌, ◌++◌, length, take, drop, get_or}
+use Rattle.std.proofs.Common.{sym, ap, ◌∙◌}
 use Rattle.std.specs.List.{flat_map}
 use Rattle.std.proofs.lemmas.List.{take_more, append-nil}
 use Rattle.std.proofs.lemmas.Grind.{flat_map-append}
 use Rattle.bufr_frame.specs.declared.frames.Found.{Found}
 use Rattle.bufr_frame.specs.Framings.{Framing}
 use Rattle.bufr_frame.specs.Streams.{cut, sure, Stands}
-use Rattle.bufr_frame.proofs.StreamLaws.{sure-piece, cut-end}
+use Rattle.bufr_frame.specs.StreamLaws.{sure-piece, cut-end}
 
--- the framer stands for this stream with all its sure frames handed out, and those are what was found
+-- the framer stands for this stream with all its sure frames handed out, and those are what was
+-- found
 pub record HandedOut (framer : Framing) (stream : List ℕ) (frames : List Found) : Type 0 where
   pub stands : Stands framer stream (length (sure stream))
   pub frames_are : frames ≡ sure stream

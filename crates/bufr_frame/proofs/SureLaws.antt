@@ -1,5 +1,8 @@
--- What `sure` gives is the longest front of the cut in which no frame has an open place before it, outside the frames before.
-use Rattle.std.proofs.Common.{◌≡◌, ℕ, zero, suc, ◌+◌, ◌-◌, ◌<◌, ◌≤◌, Bool, true, false, Some, None, List, [], ◌∷◌, ◌++◌, length, take, drop, refl, sym, ap, ◌∙◌, subst, arith, append_assoc, inl, inr}
+-- What `sure` gives is the longest front of the cut in which no frame has an open place before it,
+-- outside the frames before.
+use Rattle.std.proofs.Common.{◌≡◌, ℕ, zero, suc, ◌+◌, ◌-◌, ◌<◌, ◌≤◌, Bool, true, false, Some, None}
+use Rattle.std.proofs.Common.{List, [], ◌∷◌, ◌++◌, length, take, drop, refl, sym, ap, ◌∙◌, subst}
+use Rattle.std.proofs.Common.{arith, append_assoc, inl, inr}
 use Rattle.std.specs.List.{AllByRecursion}
 use Rattle.std.proofs.lemmas.List.{length-take-le, take_at, length-drop}
 use Rattle.std.proofs.lemmas.Bool.Decides.{leb_tells}
@@ -9,8 +12,9 @@ use Rattle.bufr_frame.specs.Starts.{announced, start_of}
 use Rattle.bufr_frame.specs.Streams.{frames_from, cut, sure}
 use Rattle.bufr_frame.specs.Cuts.{IsInOne, IsCut}
 use Rattle.bufr_frame.specs.Sures.{IsOpenAt, AreClear, IsClear, IsSure}
-use Rattle.bufr_frame.proofs.StreamLaws.{begins_from, frames_other, frames_open, frames_frame, cut-end}
-use Rattle.bufr_frame.proofs.CutLaws.{Stood, good, all_weaker, frames_passed, cut_is, cut_only}
+use Rattle.bufr_frame.specs.StreamLaws.{begins_from, frames_other, frames_open, frames_frame}
+use Rattle.bufr_frame.specs.StreamLaws.{cut-end}
+use Rattle.bufr_frame.specs.CutLaws.{Stood, good, all_weaker, frames_passed, cut_is, cut_only}
 use Rattle.bufr_frame.proofs.OpenLaws.{open_from, open_to, unannounced_short}
 
 -- ---- frames come in order

@@ -1,15 +1,19 @@
--- Where a frame stands, and the frames of a stream taken from the left, as the one list with its property.
-use Rattle.std.specs.Prelude.{◌≡◌, ℕ, ◌+◌, ◌-◌, ◌<◌, ◌≤◌, ◌⊎◌, Some, List, [], ◌∷◌, length, take, drop}
-use Rattle.std.specs.List.{AllByRecursion}
+-- Where a frame stands, and the frames of a stream taken from the left, as the one list with its
+-- property.
+use Rattle.std.specs.Prelude.{◌≡◌, ℕ, ◌+◌, ◌-◌, ◌<◌, ◌≤◌, ◌⊎◌, Some, List, [], ◌∷◌, length, take}
+use Rattle.std.specs.Prelude.{drop}
+use Rattle.std.specs.List.{AllByRecursion, flat_map}
 use Rattle.bufr_frame.specs.declared.frames.Found.{Found}
+use Rattle.bufr_frame.specs.declared.places.TheConstants.{SHORTEST}
 use Rattle.bufr_frame.specs.Starts.{bufr, sevens, announced}
 
--- A frame of so many octets stands at this place: `BUFR` begins there, the next three octets are the length, which is 12 or
--- more, the stream has so many octets, and `7777` ends there (FM 94 BUFR, sections 0 and 5).
+-- A frame of so many octets stands at this place: `BUFR` begins there, the next three octets are
+-- the length, which is 12 or more, the stream has so many octets, and `7777` ends there (FM 94
+-- BUFR, sections 0 and 5).
 pub record IsFrameAt (stream : List ℕ) (place l : ℕ) : Type 0 where
   pub mark : take 4 (drop place stream) ≡ bufr
   pub told : announced (drop place stream) ≡ Some l
-  pub long : 12 ≤ l
+  pub long : SHORTEST ≤ l
   pub whole : place + l ≤ length stream
   pub end : take 4 (drop (l - 4) (drop place stream)) ≡ sevens
 
@@ -28,8 +32,8 @@ abbrev pub IsInOne : ℕ → List Found → Type 0
 IsInOne place [] = ⊥
 IsInOne place (f ∷ fs) = ((f.place ≤ place) × (place < f.place + length f.bytes)) ⊎ IsInOne place fs
 
--- The frames of a stream, taken from the left: they stand there, in order and apart, and each place at which a frame stands
--- lies in one of them.
+-- The frames of a stream, taken from the left: they stand there, in order and apart, and each place
+-- at which a frame stands lies in one of them.
 pub record IsCut (stream : List ℕ) (frames : List Found) : Type 0 where
   pub each : AllByRecursion (IsFrameOf stream) frames
   pub apart : AreApart frames
@@ -43,3 +47,7 @@ IsOneFrame octets = IsFrameAt octets 0 (length octets)
 abbrev pub frames_at : ℕ → List (List ℕ) → List Found
 frames_at place [] = []
 frames_at place (b ∷ bs) = record { place = place; bytes = b } ∷ frames_at (place + length b) bs
+
+-- octet lists one after another, as one
+abbrev pub joined : List (List ℕ) → List ℕ
+joined lists = flat_map (λ octets. octets) lists

@@ -1,5 +1,6 @@
--- Worked examples: a message of 62 octets (`sequences`); it, a stray `BUFR` and it again after a bulletin's heading; a message that
--- stands in the character data of another; a frame that could still have been the end of an outer one.
+-- Worked examples: a message of 62 octets (`sequences`); it, a stray `BUFR` and it again after a
+-- bulletin's heading; a message that stands in the character data of another; a frame that could
+-- still have been the end of an outer one.
 use Rattle.std.specs.Prelude.{◌≡◌, ℕ, List, [], ◌∷◌, ◌++◌, length, map, take, refl}
 use Rattle.bufr_frame.specs.Streams.{cut, sure, rest_from}
 

@@ -5,4 +5,10 @@ pub mod Cuts
 pub mod Sures
 pub mod Holdings
 pub mod Looks
+pub mod Takings
+pub mod StreamLaws
+pub mod CutLaws
+pub mod JoinedLaws
+pub mod TakingLaws
+pub mod Reaches
 pub mod Examples

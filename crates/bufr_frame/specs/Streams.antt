@@ -1,5 +1,7 @@
--- The frames of a stream of octets, which of them are sure while it goes on, and what a framer holds.
-use Rattle.std.specs.Prelude.{◌≡◌, ℕ, zero, suc, ◌+◌, ◌-◌, ◌≤◌, Bool, true, false, List, [], ◌∷◌, length, take}
+-- The frames of a stream of octets, which of them are sure while it goes on, and what a framer
+-- holds.
+use Rattle.std.specs.Prelude.{◌≡◌, ℕ, zero, suc, ◌+◌, ◌-◌, ◌≤◌, Bool, true, false, List, [], ◌∷◌}
+use Rattle.std.specs.Prelude.{length, take}
 use Rattle.bufr_frame.specs.declared.frames.Found.{Found}
 use Rattle.bufr_frame.specs.declared.places.Start.TheVariants.{Frame, Open, Other}
 use Rattle.bufr_frame.specs.Framings.{Framing}
@@ -12,12 +14,14 @@ frames_from ended place skip [] = []
 frames_from ended place (suc skip) (x ∷ xs) = frames_from ended (place + 1) skip xs
 frames_from ended place zero (x ∷ xs) =
     elim (start_of (x ∷ xs)) [
-      | Frame l ↦ record { place = place; bytes = take l (x ∷ xs) } ∷ frames_from ended (place + 1) (l - 1) xs
+      | Frame l ↦ record { place = place; bytes = take l (x ∷ xs) }
+          ∷ frames_from ended (place + 1) (l - 1) xs
       | Open ↦ elim ended [ true ↦ frames_from ended (place + 1) 0 xs | false ↦ [] ]
       | Other ↦ frames_from ended (place + 1) 0 xs
     ]
 
--- the frames of a stream that has ended: the first, then the first that begins at or after its end, and so on
+-- the frames of a stream that has ended: the first, then the first that begins at or after its end,
+-- and so on
 abbrev pub cut : List ℕ → List Found
 cut stream = frames_from true 0 0 stream
 
@@ -25,7 +29,8 @@ cut stream = frames_from true 0 0 stream
 abbrev pub sure : List ℕ → List Found
 sure stream = frames_from false 0 0 stream
 
--- the octets from the first place on that is open or has a frame, after so many frames and the skipped octets
+-- the octets from the first place on that is open or has a frame, after so many frames and the
+-- skipped octets
 abbrev pub rest_from : ℕ → ℕ → List ℕ → List ℕ
 rest_from frames skip [] = []
 rest_from frames (suc skip) (x ∷ xs) = rest_from frames skip xs

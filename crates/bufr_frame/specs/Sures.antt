@@ -1,26 +1,32 @@
 -- What the sure frames of a stream that goes on are, in words.
-use Rattle.std.specs.Prelude.{◌≡◌, ℕ, ◌+◌, ◌-◌, ◌<◌, ◌≤◌, Some, List, [], ◌∷◌, ◌++◌, length, take, drop}
+use Rattle.std.specs.Prelude.{◌≡◌, ℕ, ◌+◌, ◌-◌, ◌<◌, ◌≤◌, Some, List, [], ◌∷◌, ◌++◌, length, take}
+use Rattle.std.specs.Prelude.{drop}
 use Rattle.std.specs.List.{AllByRecursion}
 use Rattle.bufr_frame.specs.declared.frames.Found.{Found}
+use Rattle.bufr_frame.specs.declared.places.TheConstants.{SHORTEST}
 use Rattle.bufr_frame.specs.Starts.{bufr, announced}
 use Rattle.bufr_frame.specs.Cuts.{IsInOne, IsCut}
 
--- The place is open: `BUFR` begins there, the next three octets are a length of 12 or more, the stream ends before so many
--- octets, and what stands of the last four, if any, are all `7`. A frame may yet come to stand there.
+-- The place is open: `BUFR` begins there, the next three octets are a length of 12 or more, the
+-- stream ends before so many octets, and what stands of the last four, if any, are all `7`. A frame
+-- may yet come to stand there.
 pub record IsOpenAt (stream : List ℕ) (place : ℕ) : Type 0 where
   pub l : ℕ
   pub mark : take 4 (drop place stream) ≡ bufr
   pub told : announced (drop place stream) ≡ Some l
-  pub long : 12 ≤ l
+  pub long : SHORTEST ≤ l
   pub short : length stream < place + l
   pub end : AllByRecursion (λ x. x ≡ 55) (drop (place + l - 4) stream)
 
 -- after these frames, no frame has before it a place that is open and lies in no frame before it
 abbrev pub AreClear : List ℕ → List Found → List Found → Type 0
 AreClear stream before [] = Unit {0}
-AreClear stream before (f ∷ fs) = ((place : ℕ) → place < f.place → IsOpenAt stream place → IsInOne place before) × AreClear stream (before ++ f ∷ []) fs
+AreClear stream before (f ∷ fs) =
+    ((place : ℕ) → place < f.place → IsOpenAt stream place → IsInOne place before)
+    × AreClear stream (before ++ f ∷ []) fs
 
--- the first frames of the cut, of which no frame has before it a place that is open and lies in no earlier frame
+-- the first frames of the cut, of which no frame has before it a place that is open and lies in no
+-- earlier frame
 pub record IsClear (stream : List ℕ) (frames : List Found) : Type 0 where
   pub rest : List Found
   pub first : IsCut stream (frames ++ rest)

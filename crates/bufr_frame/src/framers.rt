@@ -1,12 +1,18 @@
 //! The framer of a stream.
-ghost use Rattle.std.specs.Prelude.{◌≡◌, ◌≤◌, ◌+◌, ◌^◌, ◌<◌, ◌++◌, [], List, ℕ, length, drop, IfOk, OnOk, OnErr};
-ghost use Rattle.bufr_frame.specs.Streams.{sure, cut, Stands};
+ghost use Rattle.std.specs.Prelude.{◌≡◌, ◌≤◌, ◌+◌, ◌^◌, ◌<◌, ◌++◌, [], List, ℕ, length, drop};
+ghost use Rattle.std.specs.Prelude.{None, IfOk, IfSome, OnOk, OnErr};
+ghost use Rattle.bufr_frame.specs.declared.places.TheConstants.{LONGEST};
+ghost use Rattle.bufr_frame.specs.Streams.{Stands};
 ghost use Rattle.bufr_frame.specs.Looks.{new_framing};
+ghost use Rattle.bufr_frame.specs.Takings.{taken_in, IsRestOf, IsNextFrame, IsNoFrame};
+ghost use Rattle.bufr_frame.specs.Takings.{StandsAfter, AreSureNext, AreLast, StandsWithAll};
 
 use crate::frames::Found;
 use crate::kept::take_in;
 use crate::looks::Look;
 use crate::scans::frames_in;
+use crate::taken::Taken;
+use crate::takes::take_one;
 use std::alloc::{AllocError, Global};
 use std::marker::Model;
 
@@ -53,7 +59,7 @@ impl Framer {
     /// How many octets it holds. Takes no memory.
     pub fn pending(&self) -> usize
         ensures held { result ≡ length self.now.held }
-        ensures bounded { result ≤ 16777215 }
+        ensures bounded { result ≤ LONGEST }
     {
         self.octets.len() - self.from
     }
@@ -61,8 +67,8 @@ impl Framer {
     /// What `feed` of this piece would hand out, and the framer after it.
     pub fn look(&self, piece: &[u8]) -> Result<Look, AllocError>
         requires { self.now.fed + length piece.now < 2 ^ 64 }
-        ensures found { IfOk result (λ look. (s : List ℕ) (out : ℕ) → Stands self.now s out → look.frames ≡ drop out (sure (s ++ piece.now))) }
-        ensures next { IfOk result (λ look. (s : List ℕ) (out : ℕ) → Stands self.now s out → Stands look.next (s ++ piece.now) (length (sure (s ++ piece.now)))) }
+        ensures found { IfOk result (λ look. AreSureNext self.now piece.now look.frames) }
+        ensures next { IfOk result (λ look. StandsWithAll self.now look.next piece.now) }
         ensures fed { IfOk result (λ look. look.next.fed ≡ self.now.fed + length piece.now) }
     {
         let alloc = *self.octets.allocator();
@@ -77,7 +83,7 @@ impl Framer {
 
     /// What `finish` would hand out, and the framer after it.
     pub fn look_end(&self) -> Result<Look, AllocError>
-        ensures found { IfOk result (λ look. (s : List ℕ) (out : ℕ) → Stands self.now s out → look.frames ≡ drop out (cut s)) }
+        ensures found { IfOk result (λ look. AreLast self.now look.frames) }
         ensures next { IfOk result (λ look. look.next ≡ new_framing) }
     {
         let alloc = *self.octets.allocator();
@@ -90,7 +96,8 @@ impl Framer {
         })
     }
 
-    /// Puts the look's framer in place of this one, whichever framer made the look, and hands out its frames. Takes no memory.
+    /// Puts the look's framer in place of this one, whichever framer made the look, and hands out
+    /// its frames. Takes no memory.
     pub fn settle(&mut self, look: Look) -> Vec<Found>
         ensures frames { result.items ≡ look.frames }
         ensures next { self.new ≡ look.next }
@@ -103,8 +110,8 @@ impl Framer {
     /// Takes in a piece, and hands out the frames that are sure now.
     pub fn feed(&mut self, piece: &[u8]) -> Result<Vec<Found>, AllocError>
         requires { self.old.fed + length piece.now < 2 ^ 64 }
-        ensures found { IfOk result (λ found. (s : List ℕ) (out : ℕ) → Stands self.old s out → found.items ≡ drop out (sure (s ++ piece.now))) }
-        ensures next { OnOk result ((s : List ℕ) (out : ℕ) → Stands self.old s out → Stands self.new (s ++ piece.now) (length (sure (s ++ piece.now)))) }
+        ensures found { IfOk result (λ found. AreSureNext self.old piece.now found.items) }
+        ensures next { OnOk result (StandsWithAll self.old self.new piece.now) }
         ensures fed { OnOk result (self.new.fed ≡ self.old.fed + length piece.now) }
         ensures err { OnErr result (self.new ≡ self.old) }
     {
@@ -115,9 +122,37 @@ impl Framer {
         Ok(scan.frames)
     }
 
+    /// Takes in a front of the piece and hands out the next frame that is sure then, or none where
+    /// it has taken in all of the piece and no further frame is sure. Call it again with the rest
+    /// until it hands out none: an empty rest alone does not say that no frame is left. Err where
+    /// memory runs out; nothing is changed then.
+    pub fn take_next<'p>(&mut self, piece: &'p [u8]) -> Result<Taken<'p>, AllocError>
+        requires { self.old.fed + length piece.now < 2 ^ 64 }
+        ensures rest { IfOk result (λ taken. IsRestOf piece.now taken.rest.now) }
+        ensures frame { IfOk result (λ taken. IfSome taken.found (λ frame.
+            IsNextFrame self.old (taken_in piece.now taken.rest.now) frame)) }
+        ensures next { IfOk result (λ taken. IfSome taken.found (λ frame.
+            StandsAfter self.old self.new (taken_in piece.now taken.rest.now) 1)) }
+        ensures all_taken { IfOk result (λ taken. taken.found ≡ None → taken.rest.now ≡ []) }
+        ensures none { IfOk result (λ taken. taken.found ≡ None → IsNoFrame self.old piece.now) }
+        ensures waits { IfOk result (λ taken. taken.found ≡ None
+            → StandsAfter self.old self.new piece.now 0) }
+        ensures fed { IfOk result (λ taken.
+            self.new.fed ≡ self.old.fed + length (taken_in piece.now taken.rest.now)) }
+        ensures err { OnErr result (self.new ≡ self.old) }
+    {
+        let taking = take_one(&mut self.octets, self.from, self.fed, piece)?;
+        self.from = taking.from;
+        self.fed += taking.taken as u64;
+        Ok(Taken {
+            found: taking.found,
+            rest: &piece[taking.taken..],
+        })
+    }
+
     /// Ends the stream, and hands out its last frames. The framer is then as new.
     pub fn finish(&mut self) -> Result<Vec<Found>, AllocError>
-        ensures found { IfOk result (λ found. (s : List ℕ) (out : ℕ) → Stands self.old s out → found.items ≡ drop out (cut s)) }
+        ensures found { IfOk result (λ found. AreLast self.old found.items) }
         ensures next { OnOk result (self.new ≡ new_framing) }
         ensures err { OnErr result (self.new ≡ self.old) }
     {

@@ -1,5 +1,7 @@
 //! The octets that a framer keeps.
-ghost use Rattle.std.specs.Prelude.{◌≡◌, ◌+◌, ◌-◌, ◌<◌, ◌≤◌, ◌^◌, ◌++◌, false, length, drop, IfOk, OnErr};
+ghost use Rattle.std.specs.Prelude.{◌≡◌, ◌+◌, ◌-◌, ◌<◌, ◌≤◌, ◌^◌, ◌++◌};
+ghost use Rattle.std.specs.Prelude.{false, length, drop, IfOk, OnErr};
+ghost use Rattle.bufr_frame.specs.declared.places.TheConstants.{LONGEST};
 ghost use Rattle.bufr_frame.specs.Streams.{frames_from, rest_from};
 
 use crate::scans::{Scan, frames_in};
@@ -8,9 +10,9 @@ use std::alloc::AllocError;
 /// Memory for four times so many octets is not given back, however few are kept.
 const ROOM: usize = 65_536;
 
-/// Lets go of the octets before a place where they are more than those after it, and gives back memory of which less than a
-/// quarter is needed then. Answers where the place is then.
-fn let_go(octets: &mut Vec<u8>, place: usize) -> usize
+/// Lets go of the octets before a place where they are more than those after it, and gives back
+/// memory of which less than a quarter is needed then. Answers where the place is then.
+pub fn let_go(octets: &mut Vec<u8>, place: usize) -> usize
     requires { place ≤ length octets.old.items }
     ensures held { drop result octets.new.items ≡ drop place octets.old.items }
     ensures half { result ≤ length (drop result octets.new.items) }
@@ -29,15 +31,19 @@ fn let_go(octets: &mut Vec<u8>, place: usize) -> usize
     0
 }
 
-/// Finds the frames that are sure in a piece that follows `place` octets of the stream, none of them held, and keeps what is
-/// left of it. The piece is searched where it stands. Answers the frames, and where the octets held begin.
+/// Finds the frames that are sure in a piece that follows `place` octets of the stream, none of
+/// them held, and keeps what is left of it. The piece is searched where it stands. Answers the
+/// frames, and where the octets held begin.
 fn take_in_anew(octets: &mut Vec<u8>, place: u64, piece: &[u8]) -> Result<Scan, AllocError>
     requires { place + length piece.now < 2 ^ 64 }
     ensures frames { IfOk result (λ scan. scan.frames.items ≡ frames_from false place 0 piece.now) }
-    ensures rest { IfOk result (λ scan. drop scan.rest octets.new.items ≡ rest_from (length scan.frames.items) 0 piece.now) }
-    ensures half { IfOk result (λ scan. scan.rest ≤ length (drop scan.rest octets.new.items)) }
+    ensures rest { IfOk result (λ scan. drop scan.rest octets.new.items
+        ≡ rest_from (length scan.frames.items) 0 piece.now) }
+    ensures half { IfOk result (λ scan.
+        scan.rest ≤ length (drop scan.rest octets.new.items)) }
     ensures within { IfOk result (λ scan. scan.rest ≤ length octets.new.items) }
-    ensures short { IfOk result (λ scan. length (drop scan.rest octets.new.items) ≤ 16777214) }
+    ensures short { IfOk result (λ scan.
+        length (drop scan.rest octets.new.items) < LONGEST) }
     ensures err { OnErr result (octets.new.items ≡ octets.old.items) }
 {
     let alloc = *octets.allocator();
@@ -48,8 +54,9 @@ fn take_in_anew(octets: &mut Vec<u8>, place: u64, piece: &[u8]) -> Result<Scan, 
     Ok(Scan { frames, rest })
 }
 
-/// Appends a piece to the octets kept and finds the frames that are sure now. Those from `from` on are held, and follow
-/// `place` octets of the stream. Answers the frames, and where the octets held begin then.
+/// Appends a piece to the octets kept and finds the frames that are sure now. Those from `from` on
+/// are held, and follow `place` octets of the stream. Answers the frames, and where the octets held
+/// begin then.
 pub fn take_in(
     octets: &mut Vec<u8>,
     from: usize,
@@ -58,11 +65,15 @@ pub fn take_in(
 ) -> Result<Scan, AllocError>
     requires within { from ≤ length octets.old.items }
     requires room { place + (length octets.old.items - from) + length piece.now < 2 ^ 64 }
-    ensures frames { IfOk result (λ scan. scan.frames.items ≡ frames_from false place 0 (drop from octets.old.items ++ piece.now)) }
-    ensures rest { IfOk result (λ scan. drop scan.rest octets.new.items ≡ rest_from (length scan.frames.items) 0 (drop from octets.old.items ++ piece.now)) }
-    ensures half { IfOk result (λ scan. scan.rest ≤ length (drop scan.rest octets.new.items)) }
+    ensures frames { IfOk result (λ scan. scan.frames.items
+        ≡ frames_from false place 0 (drop from octets.old.items ++ piece.now)) }
+    ensures rest { IfOk result (λ scan. drop scan.rest octets.new.items
+        ≡ rest_from (length scan.frames.items) 0 (drop from octets.old.items ++ piece.now)) }
+    ensures half { IfOk result (λ scan.
+        scan.rest ≤ length (drop scan.rest octets.new.items)) }
     ensures within { IfOk result (λ scan. scan.rest ≤ length octets.new.items) }
-    ensures short { IfOk result (λ scan. length (drop scan.rest octets.new.items) ≤ 16777214) }
+    ensures short { IfOk result (λ scan.
+        length (drop scan.rest octets.new.items) < LONGEST) }
     ensures err { OnErr result (octets.new.items ≡ octets.old.items) }
 {
     let kept = octets.len();

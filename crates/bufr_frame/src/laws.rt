@@ -1,46 +1,83 @@
 //! Laws of frames. Each function states one by its contract, and does nothing.
-ghost use Rattle.std.specs.Prelude.{◌≡◌, ◌↔◌, ◌≤◌, ◌++◌, ℕ, true, List, length, take, drop};
-ghost use Rattle.std.specs.List.{AllByRecursion, flat_map};
+ghost use Rattle.std.specs.Prelude.{◌≡◌, ◌↔◌, ◌≤◌, ◌+◌, ◌++◌, ◌∷◌, [], ℕ, true, List, length, take};
+ghost use Rattle.std.specs.Prelude.{drop};
+ghost use Rattle.std.specs.List.{AllByRecursion};
 ghost use Rattle.bufr_frame.specs.declared.frames.Found.{Found as FoundFrame};
 ghost use Rattle.bufr_frame.specs.Framings.{Framing};
 ghost use Rattle.bufr_frame.specs.Streams.{cut, frames_from, sure, Stands};
-ghost use Rattle.bufr_frame.specs.Cuts.{IsCut, IsOneFrame, frames_at};
+ghost use Rattle.bufr_frame.specs.Cuts.{IsCut, IsOneFrame, frames_at, joined};
 ghost use Rattle.bufr_frame.specs.Sures.{IsSure};
 ghost use Rattle.bufr_frame.specs.Holdings.{StandsFor};
+ghost use Rattle.bufr_frame.specs.Takings.{taken_in, IsRestOf, IsNextFrame, IsNoFrame};
+ghost use Rattle.bufr_frame.specs.Takings.{StandsAfter, HandedOut, IsTaking};
 
-/// The cut of a stream is the one list of frames that stand there, in order and apart, such that each place at which a frame
-/// stands lies in one of them.
+/// The cut of a stream is the one list of frames that stand there, in order and apart, such that
+/// each place at which a frame stands lies in one of them.
 pub fn cut_is_taken_from_the_left()
     ensures is { (stream : List ℕ) → IsCut stream (cut stream) }
-    ensures only { (stream : List ℕ) (frames : List FoundFrame) → IsCut stream frames → frames ≡ cut stream }
+    ensures only { (stream : List ℕ) (frames : List FoundFrame)
+        → IsCut stream frames → frames ≡ cut stream }
 {}
 
-/// The sure frames of a stream are the longest front of its cut in which no frame has before it an open place outside the
-/// frames before.
+/// The sure frames of a stream are the longest front of its cut in which no frame has before it an
+/// open place outside the frames before.
 pub fn sure_is_the_longest_clear_front()
     ensures is { (stream : List ℕ) → IsSure stream (sure stream) }
-    ensures only { (stream : List ℕ) (frames : List FoundFrame) → IsSure stream frames → frames ≡ sure stream }
+    ensures only { (stream : List ℕ) (frames : List FoundFrame)
+        → IsSure stream frames → frames ≡ sure stream }
 {}
 
-/// Sure frames stay sure however the stream goes on, and are frames of the cut when it ends. So all that was handed out for a
-/// stream is sure, and at its end it is the cut of the whole.
+/// Sure frames stay sure however the stream goes on, and are frames of the cut when it ends. So all
+/// that was handed out for a stream is sure, and at its end it is the cut of the whole.
 pub fn sure_stays()
-    ensures sure { (stream more : List ℕ) → sure (stream ++ more) ≡ sure stream ++ drop (length (sure stream)) (sure (stream ++ more)) }
-    ensures cut { (stream : List ℕ) → cut stream ≡ sure stream ++ drop (length (sure stream)) (cut stream) }
-    ensures longer_cut { (stream more : List ℕ) → cut (stream ++ more) ≡ sure stream ++ drop (length (sure stream)) (cut (stream ++ more)) }
+    ensures sure { (stream more : List ℕ) → sure (stream ++ more)
+        ≡ sure stream ++ drop (length (sure stream)) (sure (stream ++ more)) }
+    ensures cut { (stream : List ℕ) → cut stream
+        ≡ sure stream ++ drop (length (sure stream)) (cut stream) }
+    ensures longer_cut { (stream more : List ℕ) → cut (stream ++ more)
+        ≡ sure stream ++ drop (length (sure stream)) (cut (stream ++ more)) }
 {}
 
 /// What a framer holds, as it is computed, is what it must hold in words.
 pub fn framer_holds_what_it_must()
-    ensures { (framer : Framing) (stream : List ℕ) (out : ℕ) → Stands framer stream out ↔ StandsFor framer stream out }
+    ensures { (framer : Framing) (stream : List ℕ) (out : ℕ)
+        → Stands framer stream out ↔ StandsFor framer stream out }
 {}
 
-/// Octet lists each of which is one frame have, joined, exactly these frames as their cut, and the cut of a front that contains
-/// the first so many whole begins with these.
+/// Octet lists each of which is one frame have, joined, exactly these frames as their cut, and the
+/// cut of a front that contains the first so many whole begins with these.
 pub fn joined_frames_are_cut_apart()
-    ensures joined { (frames : List (List ℕ)) → AllByRecursion IsOneFrame frames → cut (flat_map (λ octets. octets) frames) ≡ frames_at 0 frames }
-    ensures front { (frames : List (List ℕ)) (k n : ℕ) → AllByRecursion IsOneFrame frames → k ≤ length frames → length (flat_map (λ octets. octets) (take k frames)) ≤ n
-        → take k (cut (take n (flat_map (λ octets. octets) frames))) ≡ frames_at 0 (take k frames) }
-    ensures followed { (frames : List (List ℕ)) (more : List ℕ) → AllByRecursion IsOneFrame frames
-        → cut (flat_map (λ octets. octets) frames ++ more) ≡ frames_at 0 frames ++ frames_from true (length (flat_map (λ octets. octets) frames)) 0 more }
+    ensures joined { (frames : List (List ℕ)) → AllByRecursion IsOneFrame frames
+        → cut (joined frames) ≡ frames_at 0 frames }
+    ensures front { (frames : List (List ℕ)) (k n : ℕ) → AllByRecursion IsOneFrame frames
+        → k ≤ length frames → length (joined (take k frames)) ≤ n
+        → take k (cut (take n (joined frames))) ≡ frames_at 0 (take k frames) }
+    ensures followed { (frames : List (List ℕ)) (more : List ℕ)
+        → AllByRecursion IsOneFrame frames → cut (joined frames ++ more)
+        ≡ frames_at 0 frames ++ frames_from true (length (joined frames)) 0 more }
+{}
+
+/// A reader that calls `take_next` with what is left of a piece until it hands out no frame has
+/// then handed out the sure frames of all that was read, and with those of `finish` the cut. So it
+/// is by the clauses of these calls: at first, where a piece begins, after each call and at the
+/// end.
+pub fn frames_taken_are_the_sure_ones()
+    ensures first { (framer : Framing) → Stands framer [] 0 → HandedOut framer [] [] }
+    ensures piece { (framer : Framing) (stream piece : List ℕ) (frames : List FoundFrame)
+        → HandedOut framer stream frames → IsTaking framer (stream ++ piece) piece frames }
+    ensures one { (before after : Framing) (stream piece rest : List ℕ)
+        (frames : List FoundFrame) (frame : FoundFrame)
+        → IsTaking before stream piece frames → IsRestOf piece rest
+        → IsNextFrame before (taken_in piece rest) frame
+        → StandsAfter before after (taken_in piece rest) 1
+        → IsTaking after stream rest (frames ++ frame ∷ []) }
+    ensures room { (framer : Framing) (stream rest : List ℕ) (frames : List FoundFrame)
+        → IsTaking framer stream rest frames → framer.fed + length rest ≡ length stream }
+    ensures none { (before after : Framing) (stream piece : List ℕ) (frames : List FoundFrame)
+        → IsTaking before stream piece frames → IsNoFrame before piece
+        → StandsAfter before after piece 0
+        → HandedOut after stream frames × (frames ≡ sure stream) }
+    ensures end { (framer : Framing) (stream : List ℕ) (frames last : List FoundFrame)
+        → HandedOut framer stream frames → last ≡ drop (length frames) (cut stream)
+        → frames ++ last ≡ cut stream }
 {}

@@ -6,7 +6,8 @@ ghost use Rattle.std.proofs.Common.{rules};
 
 use std::marker::Model;
 
-/// A list of octets, which contracts see as a list of numbers. It is made from a `Vec` and gives it back without taking memory.
+/// A list of octets, which contracts see as a list of numbers. It is made from a `Vec` and gives it
+/// back without taking memory.
 #[derive(Debug, Drop)]
 pub struct Octets {
     items: Vec<u8>,

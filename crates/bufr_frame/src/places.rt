@@ -1,5 +1,6 @@
 //! What stands at a place of a stream.
-ghost use Rattle.std.specs.Prelude.{◌≡◌, ◌+◌, ◌*◌, ◌≤◌, Some, None, length, IfSome, option_map};
+ghost use Rattle.std.specs.Prelude.{◌≡◌, ◌+◌, ◌*◌, ◌≤◌, ◌<◌, Some, None, length, IfSome};
+ghost use Rattle.std.specs.Prelude.{option_map};
 ghost use Rattle.bufr_frame.specs.Starts.{agrees, announced, start_of};
 
 /// `BUFR`, with which a message begins.
@@ -10,6 +11,12 @@ pub const END: &[u8] = b"7777";
 
 /// The least length that a frame may announce.
 pub const SHORTEST: usize = 12;
+
+/// The greatest length that three octets announce.
+pub const LONGEST: usize = 16_777_215;
+
+/// How many octets tell the length: `BUFR` and the three octets after it.
+pub const HEAD: usize = 7;
 
 /// What stands at a place.
 #[derive(Clone, Copy, Debug)]
@@ -34,7 +41,7 @@ pub fn agrees(octets: &[u8], mark: &[u8]) -> bool
 /// The length that the fifth to seventh octets announce.
 fn announced(octets: &[u8]) -> Option<usize>
     ensures told { result ≡ announced octets.now }
-    ensures short { IfSome result (λ l. l ≤ 16777215) }
+    ensures short { IfSome result (λ l. l ≤ LONGEST) }
 {
     let [_, _, _, _, high, middle, low, ..] = octets else {
         return None;
@@ -42,10 +49,11 @@ fn announced(octets: &[u8]) -> Option<usize>
     Some(65_536 * usize::from(*high) + 256 * usize::from(*middle) + usize::from(*low))
 }
 
-/// What stands where these octets follow, by their first seven and the four at the end of the length that they announce.
+/// What stands where these octets follow, by their first seven and the four at the end of the
+/// length that they announce.
 pub fn start_of(octets: &[u8]) -> Start
     ensures start { result ≡ start_of octets.now }
-    ensures open_is_short { result ≡ Start.Open → length octets.now ≤ 16777214 }
+    ensures open_is_short { result ≡ Start.Open → length octets.now < LONGEST }
 {
     if !agrees(octets, MARK) {
         return Start::Other;
@@ -64,4 +72,14 @@ pub fn start_of(octets: &[u8]) -> Start
     } else {
         Start::Open
     }
+}
+
+/// How many more octets decide what stands where these follow, which is open: those that the length
+/// lacks, and else those of which the frame would have so many.
+pub fn missing(octets: &[u8]) -> usize
+    requires { start_of octets.now ≡ Start.Open }
+    ensures some { 1 ≤ result }
+    ensures short { length octets.now + result ≤ LONGEST }
+{
+    announced(octets).unwrap_or(HEAD) - octets.len()
 }

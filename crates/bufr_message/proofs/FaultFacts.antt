@@ -1,115 +1,124 @@
--- Octets are refused for the first cause in the order of the sections, the kind, the descriptors and the data.
-use Rattle.std.proofs.Common.{◌≡◌, ◌⊎◌, ℕ, ◌/◌, Bool, true, false, List, length, Result, Ok, Err, refl, ap, subst, ◌∙◌, inl, inr}
+-- Octets are refused for the first cause in the order of the sections, the descriptors and the data: for
+-- the laws on refusals of octets.
+use Rattle.std.proofs.Common.{◌≡◌, ◌⊎◌, ℕ, ◌/◌, Bool, true, false, cond, List, length, Result, Ok, Err, refl, sym, ap, subst, ◌∙◌, inl, inr}
+use Rattle.std.proofs.lemmas.Bool.{both_ways}
 use Rattle.bufr_bits.specs.Bits.{bits}
 use Rattle.bufr_tables.specs.Answers.{◌>>=◌}
 use Rattle.bufr_tables.specs.Entries.{Entries}
-use Rattle.bufr_expand.specs.declared.node.Node.{Node}
 use Rattle.bufr_expand.specs.declared.node.TemplateFault.{TemplateFault}
-use Rattle.bufr_expand.specs.Expansion.{expansion}
+use Rattle.bufr_expand.specs.Templates.{template}
+use Rattle.bufr_expand.specs.Flat.{IsTreeOf}
 use Rattle.bufr_expand.specs.Trees.{Tree}
-use Rattle.bufr_expand.specs.Courses.{course}
+use Rattle.bufr_data.specs.declared.field.Subset.{Subset}
 use Rattle.bufr_data.specs.declared.fault.ReadFault.{ReadFault}
-use Rattle.bufr_data.specs.Plain.{AllFound, subsets_at}
-use Rattle.bufr_message.specs.declared.message.Decoded.{Decoded}
-use Rattle.bufr_message.specs.declared.fault.Refused.{Refused}
-use Rattle.bufr_message.specs.declared.fault.Refused.TheVariants.{NotYet, Template, Data}
-use Rattle.bufr_message.specs.Sections.{Envelope, AreOctets, envelope_of}
-use Rattle.bufr_message.specs.Stages.{is_covered}
-use Rattle.bufr_message.specs.Messages.{covered_or, template_or, data_or, message_with, message_in, message_of}
-use Rattle.bufr_message.specs.Refusals.{IsFirstRefusal, HasSections, HasTree, IsFirstFault}
-use Rattle.bufr_message.proofs.MessageFacts.{template_takes}
-use Rattle.bufr_message.proofs.SectionFacts.{envelope_of-spelling}
-use Rattle.bufr_message.proofs.SpellingFacts.{envelope_of_takes}
-use Rattle.bufr_message.proofs.RefusalFacts.{refused_gives_first, first_is_answered, is_of_sections, of_sections}
-
-pub bind_err : {A B F : Type 0} (x : Result A F) (f : A → Result B F) (fault : F) → (x >>= f) ≡ Err fault → (x ≡ Err fault) ⊎ ((a : A) × (x ≡ Ok a) × (f a ≡ Err fault))
-bind_err (Ok a) f fault e = inr (a, refl, e)
-bind_err (Err other) f fault e = inl (let same : other ≡ fault = cc in ap (λ g. Err g) same)
+use Rattle.bufr_data.specs.Data.{IsFirstReadFault, subsets_in}
+use Rattle.bufr_sections.specs.declared.message.Decoded.{Decoded}
+use Rattle.bufr_sections.specs.declared.fault.Refused.{Refused}
+use Rattle.bufr_sections.specs.declared.fault.Refused.TheVariants.{Template, Data}
+use Rattle.bufr_sections.specs.Sections.{Envelope, AreOctets, envelope_of}
+use Rattle.bufr_message.specs.Messages.{template_or, data_or, message_with, CanBeAlone, can_be_alone, ended, message_in, message_of}
+use Rattle.bufr_data.specs.declared.fault.ReadFault.TheVariants.{TooLarge}
+use Rattle.bufr_sections.specs.Causes.{IsFirstRefusal, HasSections, is_of_sections}
+use Rattle.bufr_message.specs.Refusals.{IsFirstFault}
+use Rattle.bufr_message.specs.Below.{Below}
+use Rattle.bufr_sections.specs.AnswerLaws.{bind_err}
+use Rattle.bufr_message.proofs.MessageFacts.{template_takes, data_takes}
+use Rattle.bufr_message.proofs.CanBeAlone.{alone_passes, alone_fails}
 
 -- ---- what refuses in each step
 
-covered_refuses : (e : Envelope) (fault : Refused) → covered_or e ≡ Err fault → (is_covered e.compressed ≡ false) × (NotYet ≡ fault)
-covered_refuses e fault refused = by_test (is_covered e.compressed) refl refused
-  where
-    by_test : (b : Bool) → is_covered e.compressed ≡ b → covered_or e ≡ Err fault → (is_covered e.compressed ≡ false) × (NotYet ≡ fault)
-    by_test true is refused = absurd (let b = rw is at refused in cc)
-    by_test false is refused = (is, let b = rw is at refused in cc)
-
-covered_passes : (e : Envelope) (x : Unit {0}) → covered_or e ≡ Ok x → is_covered e.compressed ≡ true
-covered_passes e x passed = by_test (is_covered e.compressed) refl
-  where
-    by_test : (b : Bool) → is_covered e.compressed ≡ b → is_covered e.compressed ≡ true
-    by_test true is = is
-    by_test false is = absurd (let b = rw is at passed in cc)
-
-template_refuses : (x : Result (List Node) TemplateFault) (fault : Refused) → template_or x ≡ Err fault → (why : TemplateFault) × (x ≡ Err why) × (Template why ≡ fault)
-template_refuses (Ok nodes) fault e = absurd cc
+-- descriptors that have no tree are refused for their fault
+template_refuses : (x : Result Tree TemplateFault) (fault : Refused) → template_or x ≡ Err fault → (why : TemplateFault) × (x ≡ Err why) × (Template why ≡ fault)
+template_refuses (Ok tree) fault e = absurd cc
 template_refuses (Err why) fault e = (why, refl, cc)
 
-data_refuses : (x : Result AllFound ReadFault) (fault : Refused) → data_or x ≡ Err fault → (why : ReadFault) × (x ≡ Err why) × (Data why ≡ fault)
+-- data that are refused are so for their fault
+data_refuses : {A : Type 0} (x : Result A ReadFault) (fault : Refused) → data_or x ≡ Err fault → (why : ReadFault) × (x ≡ Err why) × (Data why ≡ fault)
 data_refuses (Ok found) fault e = absurd cc
 data_refuses (Err why) fault e = (why, refl, cc)
 
 -- ---- octets that are refused
 
--- what follows the data, and the tree
-abbrev ended : Envelope → AllFound → Result Decoded Refused
-ended e found = Ok (record { message = message_with e found.subsets; slack_octets = length found.rest / 8 })
+-- a test without which there is a fault was not passed
+not_passed : {A F : Type 0} (b : Bool) (x : A) (fault other : F) → cond b (Ok x) (Err fault) ≡ Err other → (b ≡ false) × (fault ≡ other)
+not_passed true x fault other e = absurd cc
+not_passed false x fault other e = (refl, cc)
 
+-- what is read under a tree
 abbrev read : Envelope → Tree → Result Decoded Refused
-read e tree = data_or (subsets_at (course tree) 1 e.count 0 (bits e.contents)) >>= ended e
+read e tree = data_or (subsets_in tree e.compressed e.count (bits e.contents)) >>= ended e
 
+-- a fault of the sections is the first
 section_fault : (tables : Entries) (octets : List ℕ) (fault : Refused) → is_of_sections fault ≡ true → IsFirstRefusal octets fault → IsFirstFault tables octets fault
-section_fault tables octets NotYet of first = absurd cc
 section_fault tables octets (Template why) of first = absurd cc
 section_fault tables octets (Data why) of first = absurd cc
 section_fault tables octets fault of first = first
 
-data_fault : (tables : Entries) (octets : List ℕ) (fault : Refused) (e : Envelope) (tree : Tree) → HasTree tables octets e tree
-    → read e tree ≡ Err fault
+-- a fault of the data is the first
+data_fault : Below → (tables : Entries) (octets : List ℕ) (fault : Refused) (e : Envelope) (tree : Tree) → HasSections octets e
+    → IsTreeOf tables e.descriptors tree → read e tree ≡ Err fault
     → IsFirstFault tables octets fault
-data_fault tables octets fault e tree has refused = elim (bind_err (data_or (subsets_at (course tree) 1 e.count 0 (bits e.contents))) (ended e) fault refused) [
-  | inl not_so ↦ let d = data_refuses (subsets_at (course tree) 1 e.count 0 (bits e.contents)) fault not_so in subst (IsFirstFault tables octets) d.2 (e, tree, has, d.1)
-  | inr found ↦ absurd (let never = found.2 in cc)
+data_fault below tables octets fault e tree has built refused = elim (bind_err (data_or (subsets_in tree e.compressed e.count (bits e.contents))) (ended e) fault refused) [
+  | inl not_so ↦
+      let d = data_refuses (subsets_in tree e.compressed e.count (bits e.contents)) fault not_so in
+      let first = (below.unread tree e.compressed e.count (bits e.contents) d.0).0 d.1 in
+      subst (IsFirstFault tables octets) d.2 (e, tree, has, built, inl first)
+  | inr found ↦
+      let told : Decoded = record { message = message_with e found.0.0; slack_octets = length found.0.1 / 8 } in
+      let test = not_passed (can_be_alone e.descriptors found.0.0) told (Data TooLarge) fault found.2 in
+      let read = data_takes (subsets_in tree e.compressed e.count (bits e.contents)) found.0 found.1 in
+      let begins = (below.reads tree e.compressed e.count (bits e.contents) found.0).0 read in
+      let none = λ (all : CanBeAlone e.descriptors found.0.0). both_ways (can_be_alone e.descriptors found.0.0) test.0 (alone_passes e.descriptors found.0.0 all) in
+      subst (IsFirstFault tables octets) test.1 (e, tree, has, built, inr (refl, found.0, begins, none))
 ]
 
-tree_fault : (tables : Entries) (octets : List ℕ) (fault : Refused) (e : Envelope) → HasSections octets e → is_covered e.compressed ≡ true
-    → (template_or (expansion tables e.descriptors) >>= read e) ≡ Err fault
+-- a fault of the descriptors is the first
+tree_fault : Below → (tables : Entries) (octets : List ℕ) (fault : Refused) (e : Envelope) → HasSections octets e
+    → (template_or (template tables e.descriptors) >>= read e) ≡ Err fault
     → IsFirstFault tables octets fault
-tree_fault tables octets fault e has covered refused = elim (bind_err (template_or (expansion tables e.descriptors)) (read e) fault refused) [
-  | inl not_so ↦ let t = template_refuses (expansion tables e.descriptors) fault not_so in subst (IsFirstFault tables octets) t.2 (e, has, covered, t.1)
+tree_fault below tables octets fault e has refused = elim (bind_err (template_or (template tables e.descriptors)) (read e) fault refused) [
+  | inl not_so ↦
+      let t = template_refuses (template tables e.descriptors) fault not_so in
+      subst (IsFirstFault tables octets) t.2 (e, has, (below.refuses tables e.descriptors t.0).0 t.1)
   | inr tree ↦
-      let t = template_takes (expansion tables e.descriptors) tree.0 tree.1 in
-      data_fault tables octets fault e tree.0 (has, covered, t) tree.2
+      let built = (below.builds tables e.descriptors tree.0).0 (template_takes (template tables e.descriptors) tree.0 tree.1) in
+      data_fault below tables octets fault e tree.0 has built tree.2
 ]
 
-message_fault : (tables : Entries) (octets : List ℕ) (fault : Refused) (e : Envelope) → HasSections octets e → message_in tables e ≡ Err fault → IsFirstFault tables octets fault
+-- a fault of what stands in the sections is the first
+message_fault : Below → (tables : Entries) (octets : List ℕ) (fault : Refused) (e : Envelope) → HasSections octets e → message_in tables e ≡ Err fault → IsFirstFault tables octets fault
 unfolding message_in
-message_fault tables octets fault e has refused = elim (bind_err (covered_or e) _ fault refused) [
-  | inl not_so ↦ let c = covered_refuses e fault not_so in subst (IsFirstFault tables octets) c.1 (e, has, c.0)
-  | inr some ↦ tree_fault tables octets fault e has (covered_passes e some.0 some.1) some.2
-]
+message_fault below tables octets fault e has refused = tree_fault below tables octets fault e has refused
 
-pub fault_when_refused : (tables : Entries) (octets : List ℕ) (fault : Refused) → AreOctets octets → message_of tables octets ≡ Err fault → IsFirstFault tables octets fault
+-- octets that are refused are so for their first fault
+pub fault_when_refused : Below → (tables : Entries) (octets : List ℕ) (fault : Refused) → AreOctets octets → message_of tables octets ≡ Err fault → IsFirstFault tables octets fault
 unfolding message_of
-fault_when_refused tables octets fault all refused = elim (bind_err (envelope_of octets) (message_in tables) fault refused) [
-  | inl not_so ↦ section_fault tables octets fault (of_sections octets fault not_so) (refused_gives_first octets fault not_so)
-  | inr e ↦ message_fault tables octets fault e.0 (envelope_of_takes octets e.0 all e.1) e.2
+fault_when_refused below tables octets fault all refused = elim (bind_err (envelope_of octets) (message_in tables) fault refused) [
+  | inl not_so ↦ section_fault tables octets fault (below.theirs octets fault not_so) (below.first octets fault not_so)
+  | inr e ↦ message_fault below tables octets fault e.0 (below.takes octets e.0 all e.1) e.2
 ]
 
 -- ---- faults that octets have
 
-said : (octets : List ℕ) (e : Envelope) → HasSections octets e → envelope_of octets ≡ Ok e
-said octets e has = ap envelope_of has.1 ∙ envelope_of-spelling e has.0 has.2
+-- sections that are there are read
+said : Below → (octets : List ℕ) (e : Envelope) → HasSections octets e → envelope_of octets ≡ Ok e
+said below octets e has = ap envelope_of has.2 ∙ below.says has.0 e has.1 has.3
 
-sections_answered : (tables : Entries) (octets : List ℕ) (fault : Refused) → IsFirstRefusal octets fault → message_of tables octets ≡ Err fault
+-- the first cause of the sections is answered
+sections_answered : Below → (tables : Entries) (octets : List ℕ) (fault : Refused) → IsFirstRefusal octets fault → message_of tables octets ≡ Err fault
 unfolding message_of
-sections_answered tables octets fault first = rw (first_is_answered octets fault first) refl
+sections_answered below tables octets fault first = rw (below.answered octets fault first) refl
 
-pub refused_when_fault : (tables : Entries) (octets : List ℕ) (fault : Refused) → IsFirstFault tables octets fault → message_of tables octets ≡ Err fault
+-- the first fault of octets is answered
+pub refused_when_fault : Below → (tables : Entries) (octets : List ℕ) (fault : Refused) → IsFirstFault tables octets fault → message_of tables octets ≡ Err fault
 unfolding message_of message_in
-refused_when_fault tables octets NotYet (e, has, uncovered) = rw (said octets e has, uncovered) refl
-refused_when_fault tables octets (Template why) (e, has, covered, none) = rw (said octets e has, covered, none) refl
-refused_when_fault tables octets (Data why) (e, tree, (has, covered, (nodes, some, is)), none) =
-    rw (said octets e has, covered, some, is, none) refl
-refused_when_fault tables octets fault first = sections_answered tables octets fault first
+refused_when_fault below tables octets (Template why) (e, has, none) =
+    rw (said below octets e has, (below.refuses tables e.descriptors why).1 none) refl
+refused_when_fault below tables octets (Data why) (e, tree, has, built, inl none) =
+    let found = (below.builds tables e.descriptors tree).1 built in
+    rw (said below octets e has, found, (below.unread tree e.compressed e.count (bits e.contents) why).1 none) refl
+refused_when_fault below tables octets (Data why) (e, tree, has, built, inr (same, begun, begins, none)) =
+    let found = (below.builds tables e.descriptors tree).1 built in
+    let read = (below.reads tree e.compressed e.count (bits e.contents) begun).1 begins in
+    rw (said below octets e has, found, read, alone_fails e.descriptors begun.0 none, same) refl
+refused_when_fault below tables octets fault first = sections_answered below tables octets fault first

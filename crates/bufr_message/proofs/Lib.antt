@@ -1,14 +1,12 @@
 pub mod OnLiterals
-pub mod AnswerFacts
-pub mod ListFacts
+pub mod LengthFacts
+pub mod CanBeAlone
+pub mod AloneBits
 pub mod MessageFacts
-pub mod SectionFacts
-pub mod SpellingFacts
-pub mod SubsetFacts
+pub mod FaultFacts
 pub mod EncodingFacts
 pub mod WrittenFacts
-pub mod HeadFacts
-pub mod RefusalFacts
-pub mod FaultFacts
 pub mod UnwrittenFacts
-mod ListingFacts
+pub mod ReportFacts
+pub mod AloneFacts
+pub mod UnderFacts

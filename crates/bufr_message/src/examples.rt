@@ -1,28 +1,49 @@
 //! Worked examples of the definitions.
 
-ghost use Rattle.std.specs.Prelude.{◌≡◌, Ok, Err, codes};
+ghost use Rattle.std.specs.Prelude.{◌≡◌, ◌++◌, Ok, Err, codes};
 ghost use Rattle.bufr_tables.specs.Descriptors.{descriptor};
-ghost use Rattle.bufr_expand.specs.Samples.{sample};
-ghost use Rattle.bufr_message.specs.Messages.{message_of};
-ghost use Rattle.bufr_message.specs.Samples.{hex, written_again, slack_of};
+ghost use Rattle.bufr_sections.specs.Samples.{hex, framed, plain1, head4};
+ghost use Rattle.bufr_message.specs.Samples.{read, written_again, slack_of, head_of};
+ghost use Rattle.bufr_message.specs.Samples.{elements_only, elements3, local_octets_and_slack, local_octets};
+ghost use Rattle.bufr_message.specs.Samples.{distinct_head, compressed, edition_3_of, edition_3_written};
 
-use crate::fault::Refused;
 use bufr_data::ReadFault;
 use bufr_expand::TemplateFault;
+use bufr_sections::Refused;
 
 /// Messages that are read and written again.
 #[tactic(auto, unfolding(crate::proofs::OnLiterals::messages_on_literals))]
 pub fn messages()
-    ensures elements { written_again (message_of sample (hex (codes "42554652 000046 04 | 000016 00 0062 0000 00 00 00 02 00 25 00 07E8 01 0F 0C 00 00 | 000017 00 0001 80 0101 0102 0401 0402 0403 0404 0405 0C65 | 00000D 00 14C03F409EC01AACC0 | 37373737"))) ≡ hex (codes "42554652 000046 04 | 000016 00 0062 0000 00 00 00 02 00 25 00 07E8 01 0F 0C 00 00 | 000017 00 0001 80 0101 0102 0401 0402 0403 0404 0405 0C65 | 00000D 00 14C03F409EC01AACC0 | 37373737") }
-    ensures local { written_again (message_of sample (hex (codes "42554652 000051 04 | 000018 00 0062 0000 00 80 00 02 00 25 00 07E8 01 0F 0C 00 00 ABCD | 000006 00 0102 | 000018 00 0001 80 0101 0102 0401 0402 0403 0404 0405 0C65 FF | 00000F 00 14C03F409EC01AACC0 0000 | 37373737"))) ≡ hex (codes "42554652 00004E 04 | 000018 00 0062 0000 00 80 00 02 00 25 00 07E8 01 0F 0C 00 00 ABCD | 000006 00 0102 | 000017 00 0001 80 0101 0102 0401 0402 0403 0404 0405 0C65 | 00000D 00 14C03F409EC01AACC0 | 37373737") }
-    ensures slack { slack_of (message_of sample (hex (codes "42554652 000051 04 | 000018 00 0062 0000 00 80 00 02 00 25 00 07E8 01 0F 0C 00 00 ABCD | 000006 00 0102 | 000018 00 0001 80 0101 0102 0401 0402 0403 0404 0405 0C65 FF | 00000F 00 14C03F409EC01AACC0 0000 | 37373737"))) ≡ Ok 2 }
+    ensures elements { written_again elements_only ≡ elements_only }
+    ensures local { written_again local_octets_and_slack ≡ local_octets }
+    ensures slack { slack_of (read local_octets_and_slack) ≡ Ok 2 }
+    ensures distinct { head_of (read distinct_head) ≡ Ok head4 }
+    ensures distinct_again { written_again distinct_head ≡ distinct_head }
+{}
+
+/// Compressed messages that are read and written again: a missing value, increments of two bits.
+#[tactic(auto, unfolding(crate::proofs::OnLiterals::messages_on_literals))]
+pub fn compressed_messages()
+    ensures pair { written_again (compressed (codes "3050")) ≡ compressed (codes "3050") }
+    ensures increments { written_again (compressed (codes "3084")) ≡ compressed (codes "3084") }
+    ensures slack { slack_of (read (compressed (codes "3050"))) ≡ Ok 0 }
 {}
 
 /// Messages that are refused.
 #[tactic(auto, unfolding(crate::proofs::OnLiterals::messages_on_literals))]
 pub fn refusals()
-    ensures edition { message_of sample (hex (codes "42554652 000008 05")) ≡ Err (Refused.Edition 5) }
-    ensures section3 { message_of sample (hex (codes "42554652 00002E 04 | 000016 00 0062 0000 00 00 00 02 00 25 00 07E8 01 0F 0C 00 00 | 000008 00 0001 80 00 | 000004 00 | 37373737")) ≡ Err Refused.Section3Length }
-    ensures unknown { message_of sample (hex (codes "42554652 00002F 04 | 000016 00 0062 0000 00 00 00 02 00 25 00 07E8 01 0F 0C 00 00 | 000009 00 0001 80 01FA | 000004 00 | 37373737")) ≡ Err (Refused.Template (TemplateFault.UnknownElement (descriptor 0 1 250))) }
-    ensures data_end { message_of sample (hex (codes "42554652 000045 04 | 000016 00 0062 0000 00 00 00 02 00 25 00 07E8 01 0F 0C 00 00 | 000017 00 0001 80 0101 0102 0401 0402 0403 0404 0405 0C65 | 00000C 00 14C03F409EC01AAC | 37373737")) ≡ Err (Refused.Data (ReadFault.DataEnds 1 8)) }
+    ensures sections { read (hex (codes "42554652 000008 05")) ≡ Err (Refused.Edition 5) }
+    ensures unknown { read (framed (codes "00002F 04") (plain1 ++ hex (codes "000009 00 0001 80 01FA 000004 00")))
+        ≡ Err (Refused.Template (TemplateFault.UnknownElement (descriptor 0 1 250))) }
+    ensures data_end { read (framed (codes "000045 04")
+        (plain1 ++ elements3 ++ hex (codes "00000C 00 14C03F409EC01AAC")))
+        ≡ Err (Refused.Data (ReadFault.DataEnds 1 8)) }
+{}
+
+/// Messages of edition 3, and what is written for them: edition 4.
+#[tactic(auto, unfolding(crate::proofs::OnLiterals::messages_on_literals))]
+pub fn edition_3()
+    ensures written { written_again (edition_3_of (codes "18")) ≡ edition_3_written }
+    ensures slack { slack_of (read (edition_3_of (codes "18"))) ≡ Ok 1 }
+    ensures year_0 { head_of (read (edition_3_of (codes "00"))) ≡ head_of (read (edition_3_of (codes "64"))) }
 {}

@@ -1,42 +1,78 @@
 //! Laws of messages and the octets that they stand in.
 
-ghost use Rattle.bufr_message.specs.Laws.{SectionsReadAreSpelt, SectionsSpeltAreRead, SectionsRefusedGiveFirst, FirstGivenIsAnswered, MessagesReadAreSpelt, MessagesSpeltAreRead, RefusedForFirstFault, FirstFaultIsAnswered, MessagesWrittenAreBare, BareAreWritten, MessagesWrittenAreRead, UnwrittenForFirstFault, FirstEncodeFaultIsAnswered, MessagesSpeltAreWritten};
+ghost use Rattle.bufr_message.specs.Below.{Below};
+ghost use Rattle.bufr_message.specs.Reports.{CanonicalTellsApart, CanonicalIsRead, CanonicalIsAsLong, ReportsSpeltAreUnder};
+ghost use Rattle.bufr_message.specs.Laws.{MessagesReadAreSpelt, MessagesSpeltAreRead, RefusedForFirstFault, FirstFaultIsAnswered, MessagesWrittenAreBare, BareAreWritten, MessagesWrittenAreRead, UnwrittenForFirstFault, FirstEncodeFaultIsAnswered, PlainSpeltAreWritten, PackableSpeltAreWritten};
 
-/// The sections that are read of octets are those that the octets spell, and no others.
-pub fn sections_are_spelt()
-    ensures read { SectionsReadAreSpelt }
-    ensures spelt { SectionsSpeltAreRead }
-{}
+use bufr_data::data_hold_subsets;
+use bufr_expand::laws::templates_are_trees;
+use bufr_sections::laws::bare_spellings_are_shortest;
+pub use bufr_sections::laws::{refusals_of_sections_are_the_first, sections_are_spelt};
 
-/// Sections are refused exactly for the first cause that their octets give, in the order of `Refused`.
-pub fn refusals_of_sections_are_the_first()
-    ensures given { SectionsRefusedGiveFirst }
-    ensures answered { FirstGivenIsAnswered }
-{}
+/// What the crates below say of sections, descriptors and data.
+fn laws_below()
+    ensures { Below }
+{
+    sections_are_spelt();
+    refusals_of_sections_are_the_first();
+    bare_spellings_are_shortest();
+    templates_are_trees();
+    data_hold_subsets();
+}
 
 /// Reading answers a message exactly where the octets spell one, which is then the only one.
 pub fn messages_are_spelt()
     ensures read { MessagesReadAreSpelt }
     ensures spelt { MessagesSpeltAreRead }
-{}
+{
+    laws_below();
+}
 
-/// Octets are refused exactly for their first fault: of the sections, the kind, the descriptors, the data.
+/// Octets are refused exactly for their first fault: of the sections, the descriptors, the data.
 pub fn refusals_of_octets_are_the_first()
     ensures given { RefusedForFirstFault }
     ensures answered { FirstFaultIsAnswered }
-{}
+{
+    laws_below();
+}
 
-/// The octets that are written for a message are those that spell it with nothing in what is free, and are read as it. Each message that
-/// any octets spell is written.
+/// The octets that are written for a message are those that spell it with nothing in what is free,
+/// and are read as it. Each plain message that octets of edition 4 spell is written, and each
+/// compressed one that octets spell and whose subsets can stand in the columns that are written,
+/// unless it is too long.
 pub fn written_messages_are_spelt()
     ensures bare { MessagesWrittenAreBare }
     ensures only { BareAreWritten }
     ensures read { MessagesWrittenAreRead }
-    ensures written { MessagesSpeltAreWritten }
-{}
+    ensures plain { PlainSpeltAreWritten }
+    ensures packable { PackableSpeltAreWritten }
+{
+    laws_below();
+}
 
-/// Messages are refused exactly for their first fault: no descriptor, the kind, the descriptors, the subsets, the limits.
+/// Messages are refused exactly for their first fault: no descriptor, the descriptors, the subsets,
+/// the limits.
 pub fn refusals_of_messages_are_the_first()
     ensures given { UnwrittenForFirstFault }
     ensures answered { FirstEncodeFaultIsAnswered }
-{}
+{
+    laws_below();
+}
+
+/// Two reports under the tables that have one canonical message are one, and a canonical message is
+/// read as a message whose one report is that report. It has 45 octets, two for each descriptor, and
+/// those of the subset's bits.
+pub fn canonical_messages_are_reports()
+    ensures apart { CanonicalTellsApart }
+    ensures read { CanonicalIsRead }
+    ensures long { CanonicalIsAsLong }
+{
+    laws_below();
+}
+
+/// The reports of a message that octets spell, plain or compressed, have canonical messages: what is written of them can only run out of memory.
+pub fn reports_have_canonical_messages()
+    ensures { ReportsSpeltAreUnder }
+{
+    laws_below();
+}

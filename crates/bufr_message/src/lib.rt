@@ -1,24 +1,25 @@
-//! BUFR messages of edition 4 and the octets that they stand in.
+//! BUFR messages and the octets that they stand in: editions 3 and 4 are read, edition 4 is
+//! written.
 #![tactic(auto)]
 
+mod alone;
+#[cfg(test)]
+mod compression_tests;
 mod decoding;
 mod encoding;
 mod examples;
 mod fault;
-mod laws;
+pub mod laws;
+mod lent;
 pub mod listing;
-mod message;
-mod section_octets;
-mod sections;
-mod stages;
+mod ranges;
+mod report;
+mod report_examples;
 #[cfg(test)]
 mod test_samples;
 
+pub use bufr_sections::{Decoded, Head, Message, Refused};
 pub use decoding::decode;
 pub use encoding::encode;
-pub use fault::{EncodeFault, Refused};
-pub use laws::{
-    messages_are_spelt, refusals_of_messages_are_the_first, refusals_of_octets_are_the_first,
-    refusals_of_sections_are_the_first, sections_are_spelt, written_messages_are_spelt,
-};
-pub use message::{Decoded, Head, Message};
+pub use fault::EncodeFault;
+pub use report::{Report, ReportHead, canonical, reports};

@@ -1,11 +1,6 @@
 //! Listings: messages as lines of words.
 
-mod fields;
-mod text;
-mod writer;
-
-pub use text::text_of;
-pub use writer::{ListingWriteFault, write_message};
+pub use bufr_listing::{Cause, ListingFault, ListingWriteFault, read, text_of, write_message};
 
 #[cfg(test)]
 mod tests;

@@ -5,11 +5,12 @@ use std::alloc::Global;
 use std::test::Fail;
 
 /// Table B of the tests.
-const ELEMENTS: &str = "\
+const TABLE_B: &str = "\
 FXY,ElementName_en,BUFR_Unit,BUFR_Scale,BUFR_ReferenceValue,BUFR_DataWidth_Bits
 001001,block number,Numeric,0,0,7
 001002,station number,Numeric,0,0,10
 001011,ship or mobile station,CCITT IA5,0,0,72
+002001,type of station,Code table,0,0,2
 004001,year,a,0,0,12
 004002,month,mon,0,0,4
 004003,day,d,0,0,6
@@ -21,7 +22,7 @@ FXY,ElementName_en,BUFR_Unit,BUFR_Scale,BUFR_ReferenceValue,BUFR_DataWidth_Bits
 ";
 
 /// Table D of the tests.
-const SEQUENCES: &str = "\
+const TABLE_D: &str = "\
 FXY1,FXY2
 301001,001001
 301001,001002
@@ -35,17 +36,18 @@ FXY1,FXY2
 
 /// The tables of the tests.
 pub(crate) fn tables(alloc: Global) -> Result<Tables, Fail> {
-    tables_of(alloc, SEQUENCES)
+    tables_of(alloc, TABLE_D)
 }
 
 /// The tables of the tests with these sequences.
 pub(crate) fn tables_of(alloc: Global, sequences: &str) -> Result<Tables, Fail> {
-    let b = TableB::parse(alloc, ELEMENTS.as_bytes())?;
+    let b = TableB::parse(alloc, TABLE_B.as_bytes())?;
     let d = TableD::parse(alloc, sequences.as_bytes())?;
     Ok(Tables::new(b, d))
 }
 
-/// The octets that hexadecimal digits are. `S1` and `END` stand for the usual section 1 and for section 5; spaces and bars part the digits.
+/// The octets that hexadecimal digits are. `S1` and `END` stand for the usual section 1 and for
+/// section 5; spaces and bars part the digits.
 pub(crate) fn octets(alloc: Global, text: &str) -> Result<Vec<u8>, Fail> {
     let mut digits = String::new(alloc);
     for word in text.split_whitespace() {
@@ -59,3 +61,104 @@ pub(crate) fn octets(alloc: Global, text: &str) -> Result<Vec<u8>, Fail> {
     }
     Ok(hex::decode(alloc, digits.as_str())?)
 }
+
+/// One plain subset of eight elements: 70 octets.
+pub(crate) const ELEMENTS_ONLY: &str = "\
+42554652 000046 04 | S1 | 000017 00 0001 80 0101 0102 0401 0402 0403 0404 0405 0C65 |
+00000D 00 14C03F409EC01AACC0 | END";
+
+/// The same in sequences: 62 octets.
+pub(crate) const SEQUENCES: &str = "\
+42554652 00003E 04 | S1 | 00000F 00 0001 80 C101 C10B C10C 0C65 |
+00000D 00 14C03F409EC01AACC0 | END";
+
+/// The temperature is missing.
+pub(crate) const MISSING_TEMPERATURE: &str = "\
+42554652 00003E 04 | S1 | 00000F 00 0001 80 C101 C10B C10C 0C65 |
+00000D 00 14C03F409EC03FFFC0 | END";
+
+/// The data are not observed.
+pub(crate) const UNOBSERVED: &str = "\
+42554652 00003E 04 | S1 | 00000F 00 0001 00 C101 C10B C10C 0C65 |
+00000D 00 14C03F409EC01AACC0 | END";
+
+/// An empty section 2.
+pub(crate) const EMPTY_SECTION_2: &str = "\
+42554652 000042 04 | 000016 00 0062 0000 00 80 00 02 00 25 00 07E8 01 0F 0C 00 00 |
+000004 00 | 00000F 00 0001 80 C101 C10B C10C 0C65 | 00000D 00 14C03F409EC01AACC0 | END";
+
+/// A delayed count of 0: 52 octets.
+pub(crate) const DELAYED_COUNT_0: &str =
+    "42554652 000034 04 | S1 | 00000D 00 0001 80 4100 1F01 0C65 | 000005 00 00 | END";
+
+/// A delayed count of 1: 54 octets.
+pub(crate) const DELAYED_COUNT_1: &str =
+    "42554652 000036 04 | S1 | 00000D 00 0001 80 4100 1F01 0C65 | 000007 00 016AB3 | END";
+
+/// Two plain subsets of counts 0 and 1: 55 octets.
+pub(crate) const UNEQUAL_COUNTS: &str =
+    "42554652 000037 04 | S1 | 00000D 00 0002 80 4100 1F01 0C65 | 000008 00 00016AB3 | END";
+
+/// No subset: 53 octets.
+pub(crate) const NO_SUBSETS: &str =
+    "42554652 000035 04 | S1 | 00000F 00 0000 80 C101 C10B C10C 0C65 | 000004 00 | END";
+
+/// Two bits more and one more decimal place, and then neither.
+pub(crate) const OPERATORS: &str = "\
+42554652 00003E 04 | S1 | 000013 00 0001 80 8182 8281 0C65 8100 8200 0C65 |
+000009 00 F4241AACC0 | END";
+
+/// One bit more.
+pub(crate) const REPLACED_WIDTH: &str =
+    "42554652 000036 04 | S1 | 00000D 00 0001 80 8182 8181 0C65 | 000007 00 355980 | END";
+
+/// Scale, reference value and width raised together.
+pub(crate) const RAISED_TOGETHER: &str =
+    "42554652 000034 04 | S1 | 00000B 00 0001 80 8701 0C65 | 000007 00 42AFE0 | END";
+
+/// Four characters.
+pub(crate) const TEXT_WIDTH_AND_ESCAPES: &str =
+    "42554652 000035 04 | S1 | 00000B 00 0001 80 8804 010B | 000008 00 41225C0A | END";
+
+/// An element of no table, of 12 bits.
+pub(crate) const LOCAL_DESCRIPTOR: &str =
+    "42554652 000033 04 | S1 | 00000B 00 0001 80 860C 01FA | 000006 00 0050 | END";
+
+/// A message of 52 octets as characters: 99 octets.
+pub(crate) const MESSAGE_IN_CHARACTER_DATA: &str = "\
+42554652 000063 04 | S1 | 000009 00 0001 80 8534 | 000038 00 | 42554652 000034 04 | S1 |
+00000D 00 0001 80 4100 1F01 0C65 | 000005 00 00 | END | END";
+
+/// The first with two octets for local use, a section 2, an odd octet in section 3 and two octets
+/// after the data: 81 octets.
+pub(crate) const LOCAL_OCTETS_AND_SLACK: &str = "\
+42554652 000051 04 | 000018 00 0062 0000 00 80 00 02 00 25 00 07E8 01 0F 0C 00 00 ABCD |
+000006 00 0102 | 000018 00 0001 80 0101 0102 0401 0402 0403 0404 0405 0C65 FF |
+00000F 00 14C03F409EC01AACC0 0000 | END";
+
+/// What is written for it: 78 octets.
+pub(crate) const LOCAL_OCTETS: &str = "\
+42554652 00004E 04 | 000018 00 0062 0000 00 80 00 02 00 25 00 07E8 01 0F 0C 00 00 ABCD |
+000006 00 0102 | 000017 00 0001 80 0101 0102 0401 0402 0403 0404 0405 0C65 |
+00000D 00 14C03F409EC01AACC0 | END";
+
+/// The first with ones in all that is ignored: the reserved bits of sections 1 and 3, the reserved
+/// octets and the fill bits.
+pub(crate) const IGNORED_ONES: &str = "\
+42554652 000046 04 | 000016 00 0062 0000 00 7F 00 02 00 25 00 07E8 01 0F 0C 00 00 |
+000017 FF 0001 BF 0101 0102 0401 0402 0403 0404 0405 0C65 | 00000D FF 14C03F409EC01AACFF |
+END";
+
+/// No subset, with nine octets that no subset has.
+pub(crate) const NO_SUBSETS_AND_SLACK: &str = "\
+42554652 00003E 04 | S1 | 00000F 00 0000 80 C101 C10B C10C 0C65 |
+00000D 00 14C03F409EC01AACC0 | END";
+
+/// Fourteen numbers in section 1 that all differ, and two octets for local use.
+pub(crate) const DISTINCT_HEAD: &str = "\
+42554652 000033 04 | 000018 00 0102 0304 05 00 06 07 08 09 0A 0B0C 0D 0E 0F 10 11 1213 |
+000009 00 0001 80 0C65 | 000006 00 6AB3 | END";
+
+/// A text of each side of what is printed as it is, with a quote and a backslash.
+pub(crate) const CHARACTERS: &str =
+    "42554652 00003B 04 | S1 | 00000B 00 0001 80 880A 010B | 00000E 00 1F2021227D7E7F5C0AFF | END";

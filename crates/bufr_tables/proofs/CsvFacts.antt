@@ -1,4 +1,5 @@
--- What reading one record does to the records that are left.
+-- What reading one record does to the records that are left: the next of them is given, whatever
+-- the reader's buffers are. For `Records`, on which `TableB::parse` and `TableD::parse` stand.
 use Rattle.std.proofs.Common.{◌≡◌, ◌∙◌, ℕ, zero, suc, ◌<◌, ◌≤◌, ◌==◌, ◌||◌, ◌+◌, Bool, true, false, List, [], ◌∷◌, length, Option, Some, None, Result, Ok, Err, refl, ap, sym, arith, inl, inr, Bor}
 use Rattle.std.proofs.lemmas.Bool.{cases_Bool}
 use Rattle.std.specs.Prelude.{if◌then◌else◌, IfOk, OnOk, IfErr, MatchBool}
@@ -23,32 +24,41 @@ extra s = if ends_at_end s then 1 else 0
 record Good (p : State × Action) : Type 0 where
   ends : is_end p.1 ≡ true → ends_at_end p.0 ≡ false
 
+-- of two good steps either is one
 good-if : (w : Bool) (q r : State × Action) → Good q → Good r → Good (if w then q else r)
 good-if true q r a b = a
 good-if false q r a b = b
 
+-- to skip an octet is good
 good-skip : (s : State) → Good (s, act.Skip)
 good-skip s = record { ends = λ h. cc }
 
+-- to copy an octet is good
 good-copy : (s : State) → Good (s, act.Copy)
 good-copy s = record { ends = λ h. cc }
 
+-- to end a field is good
 good-field : (s : State) → Good (s, act.EndField)
 good-field s = record { ends = λ h. cc }
 
+-- to end a record is good, before a line feed or not
 good-after : (z : Bool) → Good ((if z then st.AfterCr else st.StartRecord), act.EndRecord)
 good-after true = record { ends = λ h. refl }
 good-after false = record { ends = λ h. refl }
 
+-- every step inside a field is good
 good-in_field : (c : ℕ) → Good (in_field default_config c)
 good-in_field c = good-if (c == 44) _ _ (good-field st.StartField) (good-if ((c == 13) || (c == 10)) _ _ (good-after (c == 13)) (good-copy st.InField))
 
+-- every step at the start of a field is good
 good-start_field : (c : ℕ) → Good (start_field default_config c)
 good-start_field c = good-if (c == 34) _ _ (good-skip st.InQuoted) (good-in_field c)
 
+-- every step at the start of a record is good
 good-start_record : (c : ℕ) → Good (start_record default_config c)
 good-start_record c = good-if ((c == 13) || (c == 10)) _ _ (good-skip st.StartRecord) (good-start_field c)
 
+-- every step is good
 good-step : (s : State) (c : ℕ) → Good (step default_config s c)
 good-step st.StartRecord c = good-start_record c
 good-step st.StartField c = good-start_field c
@@ -59,6 +69,7 @@ good-step st.AfterQuote c = good-if (c == 34) _ _ (good-copy st.InQuoted) (good-
 good-step st.InComment c = good-if (c == 10) _ _ (good-skip st.StartRecord) (good-skip st.InComment)
 good-step st.AfterCr c = good-if (c == 10) _ _ (good-skip st.StartRecord) (good-start_record c)
 
+-- a state counts for one octet at most
 extra-small : (s : State) → extra s ≤ 1
 unfolding extra
 extra-small s = elim (cases_Bool (ends_at_end s)) [ inl e ↦ rw e (omega arith) | inr e ↦ rw e (omega arith) ]
@@ -68,11 +79,13 @@ record Shorter (s : State) (n : ℕ) (q : Read) : Type 0 where
   less : length q.2 < n + extra s
   ends : ends_at_end q.1 ≡ false
 
+-- a record that ends with the text leaves nothing
 shorter-end : (s : State) (fields : List (List ℕ)) (b : Bool) (q : Read) → b ≡ ends_at_end s → (if b then Some (fields, st.StartRecord, []) else None) ≡ Some q → Shorter s 0 q
 unfolding extra
 shorter-end s fields true q e h = let k : (fields, st.StartRecord, []) ≡ q = cc in record { less = rw (← k, ← e) (omega arith); ends = rw (← k) refl }
 shorter-end s fields false q e h = absurd (cc)
 
+-- a record leaves fewer octets than there were
 shorter : (s : State) (fields : List (List ℕ)) (field xs : List ℕ) (q : Read) → next_record default_config s fields field xs ≡ Some q → Shorter s (length xs) q
 unfolding next_record
 shorter s fields field [] q h = shorter-end s _ (ends_at_end s) q refl h
@@ -96,6 +109,7 @@ none-extra : (s : State) → ends_at_end s ≡ false → extra s ≡ 0
 unfolding extra
 none-extra s e = rw e
 
+-- enough fuel for one record and for those behind it gives the same records
 next-enough : (n m : ℕ) (s : State) (xs : List ℕ) → length xs + extra s < suc n → length xs + extra s < suc m
     → ((t : State) (ys : List ℕ) → length ys + extra t < n → length ys + extra t < m → records_from default_config n t ys ≡ records_from default_config m t ys)
     → (o : Option Read) → next_record default_config s [] [] xs ≡ o → records_next (records_from default_config n) o ≡ records_next (records_from default_config m) o
@@ -118,14 +132,17 @@ pub all-records : (xs : List ℕ) → records_from default_config (length xs + 2
 unfolding extra
 all-records xs = enough (length xs + 2) (length xs + 1) st.StartRecord xs (omega arith) (omega arith)
 
+-- the records of octets are the next one and those behind it
 one-step : (n : ℕ) (s : State) (xs : List ℕ) → records_from default_config (n + 2) s xs ≡ records_next (records_from default_config (n + 1)) (next_record default_config s [] [] xs)
 unfolding records_from
 one-step n s xs = let e : n + 2 ≡ suc (n + 1) = omega arith in rw e
 
+-- reading from known octets leaves known octets
 reads-known : (s s2 : State) (xs : List ℕ) (k : Option (List ℕ)) (found : Bool) (fields : List (List ℕ)) → ReadsNext default_config s (Some xs) k found fields s2 → (z : List ℕ) × (k ≡ Some z)
 reads-known s s2 xs None found fields r = absurd r
 reads-known s s2 xs (Some z) found fields r = (z, refl)
 
+-- the next record is the first of those that were left
 read-one : (s s2 : State) (xs z : List ℕ) (found : Bool) (fields : List (List ℕ)) (o : Option Read) → next_record default_config s [] [] xs ≡ o → NextIs o found fields s2 z
     → MatchBool found (records_next (records_from default_config (length xs + 1)) o ≡ fields ∷ records_from default_config (length z + 2) s2 z) (records_next (records_from default_config (length xs + 1)) o ≡ [])
 read-one s s2 xs z found fields None e n = rw n refl
@@ -135,6 +152,7 @@ read-one s s2 xs z found fields (Some p) e n =
     let none = none-extra p.1 k.ends in
     rw (n.0, n.1, n.2, n.3) (ap (λ (t : List (List (List ℕ))). p.0 ∷ t) (enough (length xs + 1) (length p.2 + 2) p.1 p.2 (omega (arith, k.less, small, none)) (omega (arith, none))))
 
+-- what is left before a record is that record and what is left behind it
 read-left : (s s2 : State) (xs : List ℕ) (k : Option (List ℕ)) (found : Bool) (fields : List (List ℕ)) → ReadsNext default_config s (Some xs) k found fields s2
     → MatchBool found (left_from s (Some xs) ≡ fields ∷ left_from s2 k) (left_from s (Some xs) ≡ [])
 read-left s s2 xs None found fields r = absurd r
@@ -157,6 +175,7 @@ stops-only a b (kind.Utf8 pos err) x f s = let g = x.0 in cc
 stops-only a b (kind.Serialize why) x f s = x
 stops-only a b (kind.Deserialize pos err) x f s = x
 
+-- a reader keeps the settings of a table file from one record to the next
 pub step-plain : (a b : Reader (Bor (List ℕ))) (res : Result Bool Error) (fields : List (List ℕ)) → IsPlain a
     → (reader_trim a ≡ trim.None → OnOk res (took_first b ≡ true))
     → IfOk res (λ found. reader_trim a ≡ trim.None → Ready a → ReadRecord (λ s. Some s.now) a b found fields)
@@ -177,6 +196,7 @@ step-plain a b (Err e) fields plain ready reads flexible goes fails failed why =
       | inr f ↦ let w = plain f in absurd (stops-only a b (error_kind e) (why w.ready) w.flexible (sym fails ∙ fine))
     ]
 
+-- a reader gives the first of the records that it has left
 pub step-left : (a b : Reader (Bor (List ℕ))) (found : Bool) (fields : List (List ℕ)) → IsPlain a → (has_failed a ≡ true → found ≡ false)
     → (reader_trim a ≡ trim.None → Ready a → ReadRecord (λ s. Some s.now) a b found fields)
     → MatchBool found (left_of a ≡ fields ∷ left_of b) (left_of a ≡ [])

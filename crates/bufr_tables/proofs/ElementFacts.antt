@@ -1,4 +1,5 @@
--- Table B of a file is its rows, each once, and its fault is the first.
+-- Table B of a file is its rows, each once, and its fault is the first: for the laws
+-- `element_files` and `element_faults`.
 use Rattle.std.proofs.Common.{◌≡◌, ◌≢◌, ◌∙◌, ◌⊎◌, inl, inr, ℕ, ◌+◌, Bool, true, false, List, [], ◌∷◌, ◌++◌, length, Option, Some, None, Result, Ok, Err, refl, sym, ap, append_assoc}
 use Rattle.std.specs.Ordering.{nat_cmp}
 use Rattle.std.specs.BTreeMap.{insert_entry}
@@ -24,6 +25,7 @@ data Adding (so_far : List (ℕ × Element)) (d : ℕ) (e : Element) : Type 0 wh
   again : at d so_far ≡ Some e → with_element so_far (d, e) ≡ Ok so_far → Adding so_far d e
   differs : (old : Element) → at d so_far ≡ Some old → old ≢ e → with_element so_far (d, e) ≡ Err (Conflict d) → Adding so_far d e
 
+-- a row is new, or it stands there already, or it differs from one there
 adding : (so_far : List (ℕ × Element)) (d : ℕ) (e : Element) → Adding so_far d e
 adding so_far d e = by_old (at d so_far) refl
   where
@@ -39,6 +41,7 @@ adding so_far d e = by_old (at d so_far) refl
 moved : (so_far : List (ℕ × Element)) (row : ℕ × Element) (rows more : List (ℕ × Element)) → SameMembers more (so_far ++ row ∷ []) → SameMembers (more ++ rows) (so_far ++ row ∷ rows)
 moved so_far row rows more h = rw (← append_assoc so_far (row ∷ []) rows) (same-append more (so_far ++ row ∷ []) rows rows h (same-self rows))
 
+-- what rows add to elements has the members of both
 added-elements : (rows so_far total : List (ℕ × Element)) → added with_element so_far rows ≡ Ok total → Rising so_far → Rising total × SameMembers total (so_far ++ rows)
 added-elements [] so_far total h r = let e : so_far ≡ total = cc in (rw (← e) r, rw (← e, append-nil so_far) (same-self so_far))
 added-elements (row ∷ rows) so_far total h r = by_case (λ more. added-elements rows more total) (adding so_far row.0 row.1)
@@ -54,6 +57,7 @@ added-elements (row ∷ rows) so_far total h r = by_case (λ more. added-element
     by_case rest (again f e) = more_rows rest so_far e r (same-again so_far row (at-contained row.0 row.1 so_far f))
     by_case rest (differs old f n e) = absurd (let w : Err (Conflict row.0) ≡ Ok total = sym (then-stops (with_element so_far row) (λ t. added with_element t rows) (Conflict row.0) e) ∙ h in cc)
 
+-- elements in order with the members of both are what the rows add
 elements-added : (rows so_far total : List (ℕ × Element)) → Rising so_far → Rising total → SameMembers total (so_far ++ rows) → added with_element so_far rows ≡ Ok total
 elements-added [] so_far total r s h =
     ap {B = Result (List (ℕ × Element)) TableFault} (λ (t : List (ℕ × Element)). Ok t) (same-rising so_far total r s (same-back total so_far (rw append-nil at h)))
@@ -79,12 +83,15 @@ elements-added (row ∷ rows) so_far total r s h = by_case (λ more q k. element
 abbrev elements_of : List (List (List ℕ)) → Result (List (ℕ × Element)) TableFault
 elements_of file = after_file columns_b element_row with_element [] file
 
+-- a table from its rows and what they add
 abbrev table-of : (file : List (List (List ℕ))) (rows total : List (ℕ × Element)) → HasRows columns_b element_row file rows → added with_element [] rows ≡ Ok total → AreElementRows file total
 table-of file rows total h a = let k = added-elements rows [] total a tt in record { in_order = rows; rows = h; rising = k.0; same = k.1 }
 
+-- the rows of a table add up to it
 adds-up : (file : List (List (List ℕ))) (elements : List (ℕ × Element)) (h : AreElementRows file elements) → added with_element [] h.in_order ≡ Ok elements
 adds-up file elements h = elements-added h.in_order [] elements tt h.rising h.same
 
+-- what is read of a file are its rows
 pub elements-are : (file : List (List (List ℕ))) (elements : List (ℕ × Element)) → elements_of file ≡ Ok elements → AreElementRows file elements
 elements-are file elements a = by_run (file-run columns_b element_row with_element [] needs_b file)
   where
@@ -94,6 +101,7 @@ elements-are file elements a = by_run (file-run columns_b element_row with_eleme
     by_run (inr (inl h)) = absurd (let w : Err (NoColumn h.column) ≡ Ok elements = sym h.answer ∙ a in cc)
     by_run (inr (inr h)) = absurd (let w : Err h.fault ≡ Ok elements = sym h.answer ∙ a in cc)
 
+-- the rows of a file are what is read
 pub are-elements : (file : List (List (List ℕ))) (elements : List (ℕ × Element)) → AreElementRows file elements → elements_of file ≡ Ok elements
 are-elements file elements h = file-has columns_b element_row with_element [] file h.in_order h.rows ∙ adds-up file elements h
 
@@ -125,11 +133,13 @@ element-fault file fault a = by_run (file-run columns_b element_row with_element
     by_run (inr (inr h)) =
         let w : ◌≡◌ {A = Result (List (ℕ × Element)) TableFault} (Err h.fault) (Err fault) = sym h.answer ∙ a in let q : h.fault ≡ fault = cc in rw (← q) (by_stop h h.stops)
 
+-- a record that stops the reading behind records with a table is the fault of the file
 stops-here : (file : List (List (List ℕ))) (n : ℕ) (h : IsReached AreElementRows file n) (fault : TableFault)
     → Stops element_row with_element (header_of h.before) h.is_table.rows.places (length h.before + 1) h.raw h.table fault → elements_of file ≡ Err fault
 stops-here file n h fault s =
     rw h.splits (file-stops columns_b element_row with_element [] needs_b h.before h.raw h.behind h.is_table.in_order h.is_table.rows h.table fault (adds-up h.before h.table h.is_table) s)
 
+-- the first fault of a file is what it is refused with
 pub fault-element : (file : List (List (List ℕ))) (fault : TableFault) → IsFirstElementFault file fault → elements_of file ≡ Err fault
 fault-element file (NoColumn c) h = file-lacks columns_b element_row with_element [] file c h
 fault-element file (NotCsv n) h = stops-here file n h.0 (NotCsv n) (inl (ap NotCsv h.0.number, h.1))

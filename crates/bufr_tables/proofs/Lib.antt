@@ -1,5 +1,4 @@
 pub mod TableFacts
-pub mod TextFacts
 pub mod FieldFacts
 pub mod CsvFacts
 pub mod ColumnFacts

@@ -1,4 +1,5 @@
--- Laws of membership, and of lists of pairs in ascending order.
+-- Membership, and lists of pairs in ascending order: for the laws of files, which say what a table
+-- has and not in what order its rows came.
 use Rattle.std.proofs.Common.{◌≡◌, ◌≢◌, ◌∙◌, ◌⊎◌, inl, inr, ℕ, ◌<◌, ◌==◌, true, false, List, [], ◌∷◌, ◌++◌, Some, None, refl, sym, ap, arith}
 use Rattle.std.specs.Prelude.{Contains}
 use Rattle.std.proofs.lemmas.Bool.{cases_order}
@@ -14,15 +15,19 @@ use Rattle.bufr_tables.proofs.RowFacts.{less, greater, rising-rest}
 pub contains-none : {X : Type 0} (x : X) → Contains [] x → ⊥
 contains-none x h = absurd (omega (arith, h.1))
 
+-- the first element is a member
 pub contains-first : {X : Type 0} (x : X) (xs : List X) → Contains (x ∷ xs) x
 contains-first x xs = Contains-append_left (x ∷ []) xs x (Contains-push [] x)
 
+-- a member of the rest is a member
 pub contains-more : {X : Type 0} (x y : X) (xs : List X) → Contains xs y → Contains (x ∷ xs) y
 contains-more x y xs h = Contains-append_right (x ∷ []) xs y h
 
+-- a list of one has no other member
 pub contains-one : {X : Type 0} (x y : X) → Contains (x ∷ []) y → x ≡ y
 contains-one x y h = elim (Contains-push_cases [] x y h) [ inl n ↦ absurd (contains-none y n) | inr e ↦ e ]
 
+-- a member is the first or one of the rest
 pub contains-cases : {X : Type 0} (x y : X) (xs : List X) → Contains (x ∷ xs) y → (x ≡ y) ⊎ Contains xs y
 contains-cases x y xs h = elim (Contains-append_cases (x ∷ []) xs y h) [ inl l ↦ inl (contains-one x y l) | inr r ↦ inr r ]
 
@@ -30,22 +35,28 @@ contains-cases x y xs h = elim (Contains-append_cases (x ∷ []) xs y h) [ inl l
 pub same-self : {X : Type 0} (xs : List X) → SameMembers xs xs
 same-self xs x = (λ h. h, λ h. h)
 
+-- the same members, the other way round
 pub same-back : {X : Type 0} (xs ys : List X) → SameMembers xs ys → SameMembers ys xs
 same-back xs ys h x = ((h x).1, (h x).0)
 
+-- the same members by way of a third list
 pub same-through : {X : Type 0} (xs ys zs : List X) → SameMembers xs ys → SameMembers ys zs → SameMembers xs zs
 same-through xs ys zs h k x = (λ m. (k x).0 ((h x).0 m), λ m. (h x).1 ((k x).1 m))
 
+-- members of two lists by members of each
 either : {X : Type 0} (xs xs' ys ys' : List X) → ((x : X) → Contains xs x → Contains xs' x) → ((x : X) → Contains ys x → Contains ys' x) → (x : X) → Contains (xs ++ ys) x → Contains (xs' ++ ys') x
 either xs xs' ys ys' h k x m =
     elim (Contains-append_cases xs ys x m) [ inl l ↦ Contains-append_left xs' ys' x (h x l) | inr r ↦ Contains-append_right xs' ys' x (k x r) ]
 
+-- the same members in two parts
 pub same-append : {X : Type 0} (xs xs' ys ys' : List X) → SameMembers xs xs' → SameMembers ys ys' → SameMembers (xs ++ ys) (xs' ++ ys')
 same-append xs xs' ys ys' h k x = (either xs xs' ys ys' (λ z. (h z).0) (λ z. (k z).0) x, either xs' xs ys' ys (λ z. (h z).1) (λ z. (k z).1) x)
 
+-- a member of two lists, the other first
 turned : {X : Type 0} (xs ys : List X) (x : X) → Contains (xs ++ ys) x → Contains (ys ++ xs) x
 turned xs ys x m = elim (Contains-append_cases xs ys x m) [ inl l ↦ Contains-append_right ys xs x l | inr r ↦ Contains-append_left ys xs x r ]
 
+-- the same members, the other list first
 pub same-turned : {X : Type 0} (xs ys : List X) → SameMembers (xs ++ ys) (ys ++ xs)
 same-turned xs ys x = (turned xs ys x, turned ys xs x)
 
@@ -58,14 +69,17 @@ at-first : {X : Type 0} (d : ℕ) (e : ℕ × X) (es : List (ℕ × X)) → e.0 
 unfolding at
 at-first d e es h = let t : (e.0 == d) ≡ true = grind (arith, nat_tests) in rw t
 
+-- an entry of another descriptor is passed over
 at-other : {X : Type 0} (d : ℕ) (e : ℕ × X) (es : List (ℕ × X)) → e.0 ≢ d → at d (e ∷ es) ≡ at d es
 unfolding at
 at-other d e es h = let t : (e.0 == d) ≡ false = grind (arith, nat_tests) in rw t
 
+-- nothing stands in an empty list
 at-nil : {X : Type 0} (d : ℕ) → at {X = X} d [] ≡ None
 unfolding at
 at-nil d = refl
 
+-- what stands at a descriptor is a member
 pub at-contained : {X : Type 0} (d : ℕ) (v : X) (es : List (ℕ × X)) → at d es ≡ Some v → Contains es (d, v)
 at-contained d v [] h = absurd (let g : None ≡ Some v = sym (at-nil d) ∙ h in cc)
 at-contained d v (e ∷ es) h =
@@ -83,6 +97,7 @@ rising-below a (b ∷ es) x r h =
       | inr k ↦ let l : b.0 < x.0 = rising-below b es x r.1 k in let m : a.0 < b.0 = r.0 in omega arith
     ]
 
+-- in ascending order a member is what stands at its descriptor
 pub at-only : {X : Type 0} (d : ℕ) (v : X) (es : List (ℕ × X)) → Rising es → Contains es (d, v) → at d es ≡ Some v
 at-only d v [] r h = absurd (contains-none (d, v) h)
 at-only d v (e ∷ es) r h =
@@ -97,6 +112,7 @@ first-same x y xs ys r s (inl e) b = sym e
 first-same x y xs ys r s (inr m) (inl e) = e
 first-same x y xs ys r s (inr m) (inr n) = let p : y.0 < x.0 = rising-below y ys x s m in let q : x.0 < y.0 = rising-below x xs y r n in absurd (omega arith)
 
+-- a member behind equal first entries stands behind them in both lists
 rest-kept : {X : Type 0} (x y : ℕ × X) (xs ys : List (ℕ × X)) (z : ℕ × X) → x ≡ y → Rising (x ∷ xs) → (Contains (x ∷ xs) z → Contains (y ∷ ys) z) → Contains xs z → Contains ys z
 rest-kept {X} x y xs ys z e r k m =
     elim (contains-cases y z ys (k (contains-more x z xs m))) [
@@ -104,6 +120,7 @@ rest-kept {X} x y xs ys z e r k m =
       | inr n ↦ n
     ]
 
+-- lists in ascending order with the same members are equal
 pub same-rising : {X : Type 0} (xs ys : List (ℕ × X)) → Rising xs → Rising ys → SameMembers xs ys → xs ≡ ys
 same-rising [] [] r s h = refl
 same-rising [] (y ∷ ys) r s h = absurd (contains-none y ((h y).1 (contains-first y ys)))

@@ -1,4 +1,4 @@
--- The reading of a file, step by step: `whole` is the table of the file, or its first fault.
+-- The reading of a file, step by step, for `TableB::parse` and `TableD::parse`: `whole` is the table of the file, or its first fault.
 use Rattle.std.proofs.Common.{◌≡◌, ◌∙◌, ℕ, ◌+◌, Bool, true, false, List, [], ◌∷◌, Option, Result, Ok, Err, ap, map, Bor}
 use Rattle.std.specs.Prelude.{MatchBool, IsErrAnd}
 use Rattle.bufr_tables.specs.declared.file.Column.{Column}
@@ -24,6 +24,7 @@ fails-through view (Err y) e whole q h = rw q h
 pub then-fails : {X Y : Type 0} (e : Failure TableFault) (r : Result X TableFault) (f : X → Result Y TableFault) → Fails e r → Fails e (r >>= f)
 then-fails e r f h = fails-by e r (r >>= f) (λ x k. rw k) h
 
+-- a value and what follows it
 pub then-gives : {X Y : Type 0} (r : Result X TableFault) (f : X → Result Y TableFault) (x : X) (y : Result Y TableFault) → r ≡ Ok x → f x ≡ y → (r >>= f) ≡ y
 then-gives r f x y e g = rw e g
 

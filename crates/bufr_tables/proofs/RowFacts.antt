@@ -1,4 +1,5 @@
--- Laws of what a row adds.
+-- What a row adds, and that tables stay in ascending order: for `TableB::parse` and
+-- `TableD::parse`.
 use Rattle.std.proofs.Common.{◌≡◌, ◌≢◌, ◌∙◌, ℕ, ◌<◌, ◌==◌, Bool, true, false, List, [], ◌∷◌, ◌++◌, Option, Some, None, Ok, Err, refl, ap, sym, arith, inl, inr, ℤ}
 use Rattle.std.specs.Prelude.{is_some, option_and_then, option_map, if◌then◌else◌}
 use Rattle.std.proofs.lemmas.Bool.{cases_order}
@@ -17,12 +18,15 @@ use Rattle.bufr_tables.specs.Rows.{kind_of, cell, element_row, with_element, beg
 use Rattle.bufr_tables.specs.Numbers.{signed_of, unsigned_of, descriptor_of}
 use Rattle.bufr_tables.proofs.TableFacts.{element_eq-Decides, same_element-Decides}
 
+-- the order of two numbers, the first below
 pub less : (x y : ℕ) → x < y → nat_cmp x y ≡ Less
 less x y h = grind (arith, nat_tests)
 
+-- the order of equal numbers
 pub equal : (x y : ℕ) → x ≡ y → nat_cmp x y ≡ Equal
 equal x y h = grind (arith, nat_tests)
 
+-- the order of two numbers, the first above
 pub greater : (x y : ℕ) → y < x → nat_cmp x y ≡ Greater
 greater x y h = grind (arith, nat_tests)
 
@@ -31,20 +35,24 @@ Above : {X : Type 0} → ℕ → List (ℕ × X) → Type 0
 Above d [] = Unit {0}
 Above d (e ∷ es) = d < e.0
 
+-- in ascending order all others are above the first
 rising-first : {X : Type 0} (a : ℕ × X) (es : List (ℕ × X)) → Rising (a ∷ es) → Above a.0 es
 unfolding Above
 rising-first a [] r = tt
 rising-first a (b ∷ es) r = r.0
 
+-- the rest of an ascending list ascends
 pub rising-rest : {X : Type 0} (a : ℕ × X) (es : List (ℕ × X)) → Rising (a ∷ es) → Rising es
 rising-rest a [] r = tt
 rising-rest a (b ∷ es) r = r.1
 
+-- an ascending list with an entry below it
 rising-join : {X : Type 0} (a : ℕ × X) (es : List (ℕ × X)) → Above a.0 es → Rising es → Rising (a ∷ es)
 unfolding Above
 rising-join a [] h r = tt
 rising-join a (b ∷ es) h r = (h, r)
 
+-- an entry above a number, put among others above it
 above-insert : {X : Type 0} (b d : ℕ) (v : X) (es : List (ℕ × X)) → b < d → Above b es → Above b (insert_entry nat_cmp es d v)
 unfolding Above
 above-insert b d v [] h a = h
@@ -81,12 +89,15 @@ NoCounts-insert d v (e ∷ es) k n =
 same_test : (a b : Element) → element_eq.ghosts.eq a b ≡ same_element a b
 same_test a b = same_from_decides (element_eq.ghosts.eq a b) (same_element a b) (element_eq-Decides a b) (same_element-Decides a b)
 
+-- an equal row adds nothing
 pub with_element-same : (rows : List (ℕ × Element)) (d : ℕ) (e old : Element) → at d rows ≡ Some old → element_eq.ghosts.eq old e ≡ true → with_element rows (d, e) ≡ Ok rows
 with_element-same rows d e old f s = let t : same_element old e ≡ true = sym (same_test old e) ∙ s in rw (f, t)
 
+-- a differing row is a conflict
 pub with_element-other : (rows : List (ℕ × Element)) (d : ℕ) (e old : Element) → at d rows ≡ Some old → element_eq.ghosts.eq old e ≡ false → with_element rows (d, e) ≡ Err (Conflict d)
 with_element-other rows d e old f s = let t : same_element old e ≡ false = sym (same_test old e) ∙ s in rw (f, t)
 
+-- a row of a new descriptor is added
 pub with_element-new : (rows : List (ℕ × Element)) (d : ℕ) (e : Element) → at d rows ≡ None → with_element rows (d, e) ≡ Ok (insert_entry nat_cmp rows d e)
 with_element-new rows d e f = rw f
 
@@ -98,9 +109,11 @@ not_count false false true d = refl
 not_count false false false true = refl
 not_count false false false false = refl
 
+-- no unit makes a count
 pub kind_of-not_count : (unit : List ℕ) → same_kind (kind_of unit) kinds.Count ≡ false
 kind_of-not_count unit = not_count _ _ _ _
 
+-- the kind of a row's element is the one that was given
 made : (fxy : Option ℕ) (scale reference : Option ℤ) (width : Option ℕ) (kind : Kind) (d : ℕ) (e : Element)
     → option_and_then (λ d. option_and_then (λ s. option_and_then (λ r. option_map {U = ℕ × Element} (λ w. (d, record { kind = kind; scale = s; reference = r; width = w })) width) reference) scale) fxy ≡ Some (d, e)
     → e.kind ≡ kind
@@ -110,6 +123,7 @@ made (Some f) (Some s) None width kind d e h = absurd (cc)
 made (Some f) (Some s) (Some r) None kind d e h = absurd (cc)
 made (Some f) (Some s) (Some r) (Some w) kind d e h = let g : ◌≡◌ {A = ℕ × Element} (f, record { kind = kind; scale = s; reference = r; width = w }) (d, e) = cc in ap (λ (x : ℕ × Element). x.1.kind) (sym g)
 
+-- no row is a count
 pub element_row-not_count : (cells : List (List ℕ)) (row : ℕ × Element) → element_row cells ≡ Some row → same_kind row.1.kind kinds.Count ≡ false
 unfolding element_row
 element_row-not_count cells row h =
@@ -119,9 +133,11 @@ element_row-not_count cells row h =
 pub begins-again : (ended : List (ℕ × List ℕ)) (d m : ℕ) → is_some (at d ended) ≡ true → begins ended d m ≡ Err (SplitSequence d)
 begins-again ended d m h = rw h
 
+-- a sequence without rows before begins
 pub begins-new : (ended : List (ℕ × List ℕ)) (d m : ℕ) → is_some (at d ended) ≡ false → begins ended d m ≡ Ok (record { ended = ended; open_one = Some (d, m ∷ []) })
 begins-new ended d m h = rw h
 
+-- equal answers are both there or not
 pub is_some-at : {X : Type 0} (o : Option X) (p : Option X) → o ≡ p → is_some o ≡ is_some p
 is_some-at o p h = ap is_some h
 
@@ -129,8 +145,10 @@ is_some-at o p h = ap is_some h
 pub with_member-none : (s : Sequences) (d m : ℕ) → s.open_one ≡ None → with_member s (d, m) ≡ begins s.ended d m
 with_member-none s d m h = rw h
 
+-- a row of the sequence at hand joins it
 pub with_member-same : (s : Sequences) (d m : ℕ) (list : List ℕ) → s.open_one ≡ Some (d, list) → with_member s (d, m) ≡ Ok (record { ended = s.ended; open_one = Some (d, list ++ m ∷ []) })
 with_member-same s d m list h = let e : (d == d) ≡ true = grind (arith, nat_tests) in rw (h, e)
 
+-- a row of another sequence ends the one at hand and begins its own
 pub with_member-other : (s : Sequences) (d m o : ℕ) (list : List ℕ) → s.open_one ≡ Some (o, list) → o ≢ d → with_member s (d, m) ≡ begins (insert_entry nat_cmp s.ended o list) d m
 with_member-other s d m o list h n = let e : (o == d) ≡ false = grind (arith, nat_tests) in rw (h, e)

@@ -1,4 +1,5 @@
--- Table D of a file is its groups of rows, and its fault is the first.
+-- Table D of a file is its groups of rows, and its fault is the first: for the laws
+-- `sequence_files` and `sequence_faults`.
 use Rattle.std.proofs.Common.{◌≡◌, ◌≢◌, ◌∙◌, ◌⊎◌, inl, inr, ℕ, ◌+◌, ◌==◌, true, false, List, [], ◌∷◌, ◌++◌, length, map, Option, Some, None, Result, Ok, Err, refl, sym, ap, subst, append_assoc}
 use Rattle.std.specs.Prelude.{All, Contains, is_some}
 use Rattle.std.specs.Ordering.{nat_cmp}
@@ -32,6 +33,7 @@ pub record Grouped (s : Sequences) : Type 0 where
   pub begun : s.open_one ≡ None → front ≡ []
   pub apart : AreGroups (with_open front s.open_one)
 
+-- the groups of the sequences so far, the one at hand last
 abbrev pub groups_of : (s : Sequences) → Grouped s → List (ℕ × List ℕ)
 groups_of s h = with_open h.front s.open_one
 
@@ -40,21 +42,26 @@ pub all-rising : (ended : List (ℕ × List ℕ)) (o : Option (ℕ × List ℕ))
 all-rising ended None r = r
 all-rising ended (Some g) r = Rising-insert g.0 g.1 ended r
 
+-- all sequences so far have the members of the groups
 pub all-same : (ended front : List (ℕ × List ℕ)) (o : Option (ℕ × List ℕ)) → SameMembers ended front → AreGroups (with_open front o) → SameMembers (all_sequences (record { ended = ended; open_one = o })) (with_open front o)
 all-same ended front None h a = h
 all-same ended front (Some g) h a =
     let none : at g.0 ended ≡ None = not-at g.0 ended (λ v m. All-contains (λ (x : ℕ × List ℕ). x.0 ≢ g.0) front (g.0, v) (groups-split front g [] a).0 ((h (g.0, v)).0 m) refl) in
     same-through (insert_entry nat_cmp ended g.0 g.1) (ended ++ g ∷ []) (front ++ g ∷ []) (same-insert g.0 g.1 ended none) (same-append ended front (g ∷ []) (g ∷ []) h (same-self (g ∷ [])))
 
+-- all sequences so far ascend
 all_rising : (s : Sequences) → Grouped s → Rising (all_sequences s)
 all_rising s h = all-rising s.ended s.open_one h.rising
 
+-- all sequences so far have the members of their groups
 all_same : (s : Sequences) (h : Grouped s) → SameMembers (all_sequences s) (groups_of s h)
 all_same s h = all-same s.ended h.front s.open_one h.same h.apart
 
+-- a value is not none
 some-other : {X : Type 0} (x : X) → Some x ≡ None → ⊥
 some-other x q = cc
 
+-- a list of one is not empty
 one-other : {X : Type 0} (x : X) → x ∷ [] ≢ []
 one-other x q = cc
 
@@ -79,6 +86,7 @@ other ended None d m n = refl
 other ended (Some g) d m n =
     with_member-other (record { ended = ended; open_one = Some g }) d m g.0 g.1 refl (λ q. n g.1 (ap Some (ap {B = ℕ × List ℕ} (λ (x : ℕ). (x, g.1)) q)))
 
+-- a row of a descriptor that no group has begins a group
 starts : (s : Sequences) (h : Grouped s) (d m : ℕ) → All (λ g. g.0 ≢ d) (groups_of s h) → with_member s (d, m) ≡ Ok (record { ended = all_sequences s; open_one = Some (d, m ∷ []) })
 starts s h d m a =
     other s.ended s.open_one d m (λ list q. All-contains (λ (g : ℕ × List ℕ). g.0 ≢ d) (groups_of s h) (d, list) a (rw q (Contains-push h.front (d, list))) refl)
@@ -90,6 +98,7 @@ data Joining (s : Sequences) (h : Grouped s) (d m : ℕ) : Type 0 where
       → ((rows : List (ℕ × ℕ)) (last : ℕ × ℕ) → written_out (groups_of s h) ≡ rows ++ last ∷ [] → last.0 ≡ d) ⊎ All (λ g. g.0 ≢ d) (groups_of s h) → Joining s h d m
   splits : (rows : List (ℕ × ℕ)) (last : ℕ × ℕ) (k : ℕ) → with_member s (d, m) ≡ Err (SplitSequence d) → written_out (groups_of s h) ≡ rows ++ last ∷ [] → last.0 ≢ d → Contains rows (d, k) → Joining s h d m
 
+-- a row of the sequence at hand joins its group
 joining-same : (ended : List (ℕ × List ℕ)) (d m : ℕ) (list : List ℕ) (h : Grouped (record { ended = ended; open_one = Some (d, list) })) → Joining (record { ended = ended; open_one = Some (d, list) }) h d m
 joining-same ended d m list h =
     let some = written-last h.front d list (groups-split h.front (d, list) [] h.apart).1 in
@@ -97,6 +106,7 @@ joining-same ended d m list h =
     (written-more h.front d list m)
     (inl (λ rows last e. ap (λ (p : ℕ × ℕ). p.0) (last-only rows (written_out h.front ++ map (λ k. (d, k)) some.0) last (d, some.1) (sym e ∙ some.2))))
 
+-- a row of a new sequence begins a group
 joining-begun : (s : Sequences) (h : Grouped s) (d m : ℕ) → at d (all_sequences s) ≡ None → Joining s h d m
 joining-begun s h d m f =
     let none : All (λ (g : ℕ × List ℕ). g.0 ≢ d) (groups_of s h) =
@@ -105,6 +115,7 @@ joining-begun s h d m f =
     let w : None ≡ Some x.1 = sym f ∙ ap (λ (t : ℕ). at t (all_sequences s)) (sym q) ∙ there in cc) in
     joins (record { ended = all_sequences s; open_one = Some (d, m ∷ []) }) (started s h d m none) (starts s h d m none) (written-append (groups_of s h) ((d, m ∷ []) ∷ [])) (inr none)
 
+-- a row of a sequence that ended before is refused
 joining-again : (ended : List (ℕ × List ℕ)) (o : Option (ℕ × List ℕ)) (h : Grouped (record { ended = ended; open_one = o })) (d m : ℕ) (list : List ℕ) → ((list : List ℕ) → o ≡ Some (d, list) → ⊥)
     → at d (all_sequences (record { ended = ended; open_one = o })) ≡ Some list → Joining (record { ended = ended; open_one = o }) h d m
 joining-again ended None h d m list n f = absurd (contains-none (d, list) (subst (λ (t : List (ℕ × List ℕ)). Contains t (d, list)) (h.begun refl) ((h.same (d, list)).0 (at-contained d list ended f))))
@@ -127,10 +138,12 @@ joining-again ended (Some g) h d m list n f =
         splits (written_out h.front ++ map (λ k. (g.0, k)) some.0) (g.0, some.1) k stops some.2 off
         (Contains-append_left (written_out h.front) (map (λ k. (g.0, k)) some.0) (d, k) (written-member h.front d k list c))
 
+-- a row of another sequence than that at hand begins a group or is refused
 joining-other : (s : Sequences) (h : Grouped s) (d m : ℕ) → ((list : List ℕ) → s.open_one ≡ Some (d, list) → ⊥) → (o : Option (List ℕ)) → at d (all_sequences s) ≡ o → Joining s h d m
 joining-other s h d m n None f = joining-begun s h d m f
 joining-other s h d m n (Some list) f = joining-again s.ended s.open_one h d m list n f
 
+-- the three cases of a row, by the sequences and the one at hand
 joining-by : (ended : List (ℕ × List ℕ)) (o : Option (ℕ × List ℕ)) (h : Grouped (record { ended = ended; open_one = o })) (d m : ℕ) → Joining (record { ended = ended; open_one = o }) h d m
 joining-by ended None h d m = joining-other (record { ended = ended; open_one = None }) h d m (λ list q. some-other (d, list) (sym q)) (at d ended) refl
 joining-by ended (Some g) h d m =
@@ -142,6 +155,7 @@ joining-by ended (Some g) h d m =
     same : (o : ℕ) (list : List ℕ) (h : Grouped (record { ended = ended; open_one = Some (o, list) })) → o ≡ d → Joining (record { ended = ended; open_one = Some (o, list) }) h d m
     same o list h q = subst (λ (x : ℕ). Joining (record { ended = ended; open_one = Some (o, list) }) h x m) q (joining-same ended o m list h)
 
+-- the three cases of a row
 joining : (s : Sequences) (h : Grouped s) (d m : ℕ) → Joining s h d m
 joining s h d m = joining-by s.ended s.open_one h d m
 
@@ -190,9 +204,11 @@ members-added ((d, m ∷ list) ∷ groups) so_far h a =
 
 -- ---- files
 
+-- the sequences that are read of a file
 abbrev sequences_of : List (List (List ℕ)) → Result (List (ℕ × List ℕ)) TableFault
 sequences_of file = after_file columns_d member_row with_member no_sequences file >>= λ all. Ok (all_sequences all)
 
+-- equal lists of rows are the rows of one file
 moved-rows : (file : List (List (List ℕ))) (rows others : List (ℕ × ℕ)) → rows ≡ others → (h : HasRows columns_d member_row file rows) → AreRows member_row (header_of file) h.places (rows_of file) others
 moved-rows file rows others e h = subst (λ (t : List (ℕ × ℕ)). AreRows member_row (header_of file) h.places (rows_of file) t) e h.behind
 
@@ -218,9 +234,11 @@ adds-up file sequences h =
 finish-ok : (file : List (List (List ℕ))) (total : Sequences) → after_file columns_d member_row with_member no_sequences file ≡ Ok total → sequences_of file ≡ Ok (all_sequences total)
 finish-ok file total e = then-gives (after_file columns_d member_row with_member no_sequences file) (λ s. Ok (all_sequences s)) total (Ok (all_sequences total)) e refl
 
+-- a fault of the rows is the fault of the file
 finish-fault : (file : List (List (List ℕ))) (fault : TableFault) → after_file columns_d member_row with_member no_sequences file ≡ Err fault → sequences_of file ≡ Err fault
 finish-fault file fault e = then-stops (after_file columns_d member_row with_member no_sequences file) (λ s. Ok (all_sequences s)) fault e
 
+-- what is read of a file are its groups of rows
 pub sequences-are : (file : List (List (List ℕ))) (sequences : List (ℕ × List ℕ)) → sequences_of file ≡ Ok sequences → AreSequenceRows file sequences
 sequences-are file sequences a = by_run (file-run columns_d member_row with_member no_sequences needs_d file)
   where
@@ -233,6 +251,7 @@ sequences-are file sequences a = by_run (file-run columns_d member_row with_memb
     by_run (inr (inl h)) = absurd (let w : Err (NoColumn h.column) ≡ Ok sequences = sym (finish-fault file (NoColumn h.column) h.answer) ∙ a in cc)
     by_run (inr (inr h)) = absurd (let w : Err h.fault ≡ Ok sequences = sym (finish-fault file h.fault h.answer) ∙ a in cc)
 
+-- the groups of rows of a file are what is read
 pub are-sequences : (file : List (List (List ℕ))) (sequences : List (ℕ × List ℕ)) → AreSequenceRows file sequences → sequences_of file ≡ Ok sequences
 are-sequences file sequences h =
     let s = adds-up file sequences h in
@@ -273,12 +292,14 @@ sequence-fault file fault a = by_run (file-run columns_d member_row with_member 
         let q : h.fault ≡ fault = cc in
         subst (λ (t : TableFault). IsFirstSequenceFault file t) q (by_stop h k.0 k.1 h.stops)
 
+-- a record that stops the reading behind records with a table is the fault of the file
 stops-here : (file : List (List (List ℕ))) (n : ℕ) (h : IsReached AreSequenceRows file n) (fault : TableFault)
     → ((total : Sequences) (k : Grouped total) → groups_of total k ≡ h.is_table.groups → Stops member_row with_member (header_of h.before) h.is_table.rows.places (length h.before + 1) h.raw total fault) → sequences_of file ≡ Err fault
 stops-here file n h fault s =
     let t = adds-up h.before h.table h.is_table in
     finish-fault file fault (rw h.splits (file-stops columns_d member_row with_member no_sequences needs_d h.before h.raw h.behind (written_out h.is_table.groups) h.is_table.rows t.0 fault t.2 (s t.0 t.1 t.3)))
 
+-- the first fault of a file is what it is refused with
 pub fault-sequence : (file : List (List (List ℕ))) (fault : TableFault) → IsFirstSequenceFault file fault → sequences_of file ≡ Err fault
 fault-sequence file (NoColumn c) h = finish-fault file (NoColumn c) (file-lacks columns_d member_row with_member no_sequences file c h)
 fault-sequence file (NotCsv n) h = stops-here file n h.0 (NotCsv n) (λ total k q. inl (ap NotCsv h.0.number, h.1))

@@ -1,4 +1,5 @@
--- What the columns and the records of a file are, and what reading them one by one answers, for any kind of row and anything that rows add to.
+-- What the columns and the records of a file are, and what reading them one by one answers, for any
+-- kind of row and anything that rows add to: the half of the four laws of files that they share.
 use Rattle.std.proofs.Common.{◌≡◌, ◌∙◌, ◌⊎◌, inl, inr, ℕ, ◌+◌, ◌<◌, ◌==◌, Bool, true, false, List, [], ◌∷◌, ◌++◌, length, get_or, Option, Some, None, Result, Ok, Err, refl, sym, ap, subst, arith}
 use Rattle.std.specs.Prelude.{bytes_eq, position, Contains, All}
 use Rattle.std.specs.Bool.{Decides}
@@ -32,6 +33,7 @@ then-stops r f e h = rw h
 
 -- ---- columns
 
+-- where no place is found no element passes
 none-passes : {X : Type 0} (p : X → Bool) (n : ℕ) (xs : List X) → position_from p n xs ≡ None → (x : X) → Contains xs x → p x ≡ false
 none-passes p n [] h x m = absurd (contains-none x m)
 none-passes p n (y ∷ ys) h x m =
@@ -40,6 +42,7 @@ none-passes p n (y ∷ ys) h x m =
       | inr e ↦ elim (contains-cases y x ys m) [ inl q ↦ rw (← q) e | inr k ↦ none-passes p (n + 1) ys (rw e at h) x k ]
     ]
 
+-- a column stands at its first title, or is absent
 column-cases : (header : List (List ℕ)) (c : Column) → ((i : ℕ) × (column_at header c ≡ Ok i) × StandsAt header c i) ⊎ ((column_at header c ≡ Err (NoColumn c)) × (HasColumn header c → ⊥))
 column-cases header c = go (position (λ name. bytes_eq name (title c)) header) refl
   where
@@ -65,9 +68,11 @@ column-cases header c = go (position (λ name. bytes_eq name (title c)) header) 
           ),
         )
 
+-- a column that stands somewhere is there
 stands-has : (header : List (List ℕ)) (c : Column) (i : ℕ) → StandsAt header c i → HasColumn header c
 stands-has header c i s = subst (λ (t : List ℕ). Contains header t) s.1 (Contains-get_or header i [] s.0)
 
+-- where a column stands it is found
 column-is : (header : List (List ℕ)) (c : Column) (i : ℕ) → StandsAt header c i → column_at header c ≡ Ok i
 column-is header c i s =
     elim (column-cases header c) [
@@ -80,6 +85,7 @@ column-is header c i s =
     only {j} (inr (inl l)) t = absurd (s.2 j l t.1)
     only (inr (inr g)) t = absurd (t.2 i g s.1)
 
+-- a column that is absent is the fault
 column-lacks : (header : List (List ℕ)) (c : Column) → (HasColumn header c → ⊥) → column_at header c ≡ Err (NoColumn c)
 column-lacks header c n = elim (column-cases header c) [ inl h ↦ absurd (n (stands-has header c h.0 h.2)) | inr h ↦ h.0 ]
 
@@ -100,6 +106,7 @@ columns-cases header (c ∷ cs) =
       ]
     ]
 
+-- where the needed columns stand they are found
 pub columns-are : (header : List (List ℕ)) (needed : List Column) (places : List ℕ) → AllZip (StandsAt header) needed places → columns_at header needed ≡ Ok places
 columns-are header [] [] h = refl
 columns-are header [] (i ∷ is) h = absurd h
@@ -107,6 +114,7 @@ columns-are header (c ∷ cs) [] h = absurd h
 columns-are header (c ∷ cs) (i ∷ is) h =
     then-gives (column_at header c) (λ k. columns_at header cs >>= λ ks. Ok (k ∷ ks)) i (Ok (i ∷ is)) (column-is header c i h.0) (then-gives (columns_at header cs) (λ ks. Ok (i ∷ ks)) is (Ok (i ∷ is)) (columns-are header cs is h.1) refl)
 
+-- an absent column behind those that are there is the fault
 lacks-behind : (header : List (List ℕ)) (before : List Column) (c : Column) (behind : List Column) → All (HasColumn header) before → (HasColumn header c → ⊥) → columns_at header (before ++ c ∷ behind) ≡ Err (NoColumn c)
 lacks-behind header [] c behind a n = then-stops (column_at header c) (λ i. columns_at header behind >>= λ is. Ok (i ∷ is)) (NoColumn c) (column-lacks header c n)
 lacks-behind header (b ∷ bs) c behind a n =
@@ -116,15 +124,18 @@ lacks-behind header (b ∷ bs) c behind a n =
       | inr h ↦ absurd (h.1 (All-head (HasColumn header) b bs a))
     ]
 
+-- the first absent column is the fault
 pub columns-lack : (header : List (List ℕ)) (needed : List Column) (c : Column) → IsFirstAbsent header needed c → columns_at header needed ≡ Err (NoColumn c)
 columns-lack header needed c h = rw h.2 (lacks-behind header h.0 c h.1 h.3 h.4)
 
 -- ---- a record
 
+-- a text of no length is empty
 empty-true : (text : List ℕ) → (length text == 0) ≡ true → text ≡ []
 empty-true [] h = refl
 empty-true (c ∷ text) h = absurd (let e = (Decides-eqb (length (c ∷ text)) 0).0 h in omega arith)
 
+-- the test whether all cells are empty decides it
 empties : (cells : List (List ℕ)) → Decides (list_all (λ text. length text == 0) cells) (All (λ text. text ≡ []) cells)
 empties cells = (from cells, to cells)
   where
@@ -140,11 +151,13 @@ empties cells = (from cells, to cells)
     to [] h = refl
     to (x ∷ xs) h = rw (All-head (λ text. text ≡ []) x xs h) (to xs (All-tail (λ text. text ≡ []) x xs h))
 
+-- the test whether a record tells nothing decides it
 skips : (header : List (List ℕ)) (places : List ℕ) (raw : List (List ℕ)) → Decides (is_skipped header (used_fields raw) places) (TellsNothing header places raw)
 skips header places raw =
     Decides-or (pointwise bytes_eq (used_fields raw) header) (list_all (λ text. length text == 0) (cells_at (used_fields raw) places))
     (slice_eq-Decides bytes_eq-Decides (used_fields raw) header (pointwise bytes_eq (used_fields raw) header) refl) (empties (cells_at (used_fields raw) places))
 
+-- a record that tells something is not skipped
 tells : (header : List (List ℕ)) (places : List ℕ) (raw : List (List ℕ)) → (TellsNothing header places raw → ⊥) → is_skipped header (used_fields raw) places ≡ false
 tells header places raw n = elim (told (is_skipped header (used_fields raw) places)) [ inl e ↦ absurd (n ((skips header places raw).0 e)) | inr e ↦ e ]
 
@@ -155,6 +168,7 @@ pub data Kinds {R : Type 0} (row_of : List (List ℕ) → Option R) (header : Li
   bad : IsBadRow row_of header places raw → Kinds row_of header places raw
   good : (row : R) → IsRow row_of header places raw row → Kinds row_of header places raw
 
+-- a record is one of the four kinds
 pub kinds : {R : Type 0} (row_of : List (List ℕ) → Option R) (header : List (List ℕ)) (places : List ℕ) (raw : List (List ℕ)) → Kinds row_of header places raw
 kinds {R} row_of header places raw =
     elim (told (length raw == length header)) [

@@ -1,4 +1,5 @@
--- Laws of `at`, and of the tests that are equalities.
+-- What stands at a descriptor, and tests that are equalities: for `Tables::element`, `sequence` and
+-- `same`.
 use Rattle.std.proofs.Common.{◌≡◌, ◌∙◌, ℕ, ◌==◌, ◌&&◌, Bool, true, false, List, [], ◌∷◌, refl, ap, arith, ℤ, pos, negsuc}
 use Rattle.std.proofs.lemmas.Bool.Decides.{nat_tests, Decides-eqb, Decides-int_eq}
 use Rattle.std.specs.Bool.{Decides}
@@ -63,6 +64,7 @@ of_parts a b k s r w =
     ∙ ap {B = Element} (λ (x : ℤ). record { kind = b.kind; scale = b.scale; reference = x; width = a.width }) r
     ∙ ap {B = Element} (λ (x : ℕ). record { kind = b.kind; scale = b.scale; reference = b.reference; width = x }) w
 
+-- the test of four parts decides whether elements are equal
 parts-Decides : (a b : Element) (x y z w : Bool) → Decides x (a.kind ≡ b.kind) → Decides y (a.scale ≡ b.scale) → Decides z (a.reference ≡ b.reference) → Decides w (a.width ≡ b.width)
     → Decides (x && (y && (z && w))) (a ≡ b)
 parts-Decides a b x y z w p q r s =

@@ -1,7 +1,13 @@
--- Descriptors F XX YYY, each a number of 16 bits: F has 2 bits, X has 6, Y has 8 (FM 94 BUFR, section 3; regulation 94.1.4).
-use Rattle.std.specs.Prelude.{ℕ, ◌+◌, ◌-◌, ◌*◌, ◌/◌, ◌%◌, ◌&&◌, List, [], ◌∷◌, Option, Some, None, nat_le, if◌then◌else◌}
+-- Descriptors F XX YYY, each a number of 16 bits: F has 2 bits, X has 6, Y has 8 (FM 94 BUFR,
+-- section 3; regulation 94.1.4).
+use Rattle.std.specs.Prelude.{ℕ, ◌+◌, ◌-◌, ◌*◌, ◌/◌, ◌%◌, ◌^◌, ◌<◌, ◌&&◌, List, [], ◌∷◌, Option, Some, None, nat_le, if◌then◌else◌}
 use Rattle.std.specs.Char.{is_ascii_digit}
 use Rattle.std.specs.List.{list_all}
+use Rattle.bufr_tables.specs.declared.fxy.TheConstants.{GREATEST_F, GREATEST_X, GREATEST_Y}
+
+-- a descriptor has 16 bits
+abbrev pub IsDescriptor : ℕ → Type 0
+IsDescriptor d = d < 2 ^ 16
 
 -- the descriptor F XX YYY
 abbrev pub descriptor : ℕ → ℕ → ℕ → ℕ
@@ -26,16 +32,21 @@ digit_value c = c - 48
 
 -- its six digits
 abbrev pub six_digits : ℕ → List ℕ
-six_digits d = digit (f_of d) ∷ digit (x_of d / 10) ∷ digit (x_of d) ∷ digit (y_of d / 100) ∷ digit (y_of d / 10) ∷ digit (y_of d) ∷ []
+six_digits d =
+    digit (f_of d) ∷ digit (x_of d / 10) ∷ digit (x_of d)
+    ∷ digit (y_of d / 100) ∷ digit (y_of d / 10) ∷ digit (y_of d) ∷ []
 
 -- the descriptor of three parts, each in its range
 abbrev pub in_ranges : ℕ → ℕ → ℕ → Option ℕ
-in_ranges f x y = if nat_le f 3 && nat_le x 63 && nat_le y 255 then Some (descriptor f x y) else None
+in_ranges f x y =
+    if nat_le f GREATEST_F && nat_le x GREATEST_X && nat_le y GREATEST_Y
+    then Some (descriptor f x y) else None
 
 -- the descriptor that six digits are
 unfoldable pub of_text : List ℕ → Option ℕ
 of_text (a ∷ b ∷ c ∷ d ∷ e ∷ g ∷ []) =
     if list_all is_ascii_digit (a ∷ b ∷ c ∷ d ∷ e ∷ g ∷ [])
-    then in_ranges (digit_value a) (10 * digit_value b + digit_value c) (100 * digit_value d + 10 * digit_value e + digit_value g)
+    then in_ranges (digit_value a) (10 * digit_value b + digit_value c)
+    (100 * digit_value d + 10 * digit_value e + digit_value g)
     else None
 of_text _ = None

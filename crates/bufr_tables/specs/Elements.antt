@@ -1,4 +1,5 @@
--- When two rows of Table B are the same (FM 94 BUFR, Table B: unit, scale, reference value and data width), as a test that computes.
+-- When two rows of Table B are the same (FM 94 BUFR, Table B: unit, scale, reference value and data
+-- width), as a test that computes.
 use Rattle.std.specs.Prelude.{◌==◌, ◌&&◌, Bool, true, false, ℤ, pos, negsuc}
 use Rattle.bufr_tables.specs.declared.element.Element.{Element}
 use Rattle.bufr_tables.specs.declared.element.Kind.{Kind}
@@ -21,4 +22,6 @@ same_integer _ _ = false
 
 -- the same kind, scale, reference value and width
 abbrev pub same_element : Element → Element → Bool
-same_element a b = same_kind a.kind b.kind && (same_integer a.scale b.scale && (same_integer a.reference b.reference && a.width == b.width))
+same_element a b =
+    same_kind a.kind b.kind && (same_integer a.scale b.scale
+    && (same_integer a.reference b.reference && a.width == b.width))

@@ -1,10 +1,12 @@
--- What tables hold: the elements of Table B and the sequences of Table D, each by descriptor, in ascending order of descriptors (FM 94 BUFR, Tables B and D).
+-- What tables hold: the elements of Table B and the sequences of Table D, each by descriptor, in
+-- ascending order of descriptors (FM 94 BUFR, Tables B and D).
 use Rattle.std.specs.Prelude.{ℕ, ◌≡◌, ◌==◌, ◌<◌, false, List, [], ◌∷◌, Option, Some, None, if◌then◌else◌}
 use Rattle.bufr_tables.specs.declared.element.Element.{Element}
 use Rattle.bufr_tables.specs.declared.element.Kind.TheVariants as kinds
 use Rattle.bufr_tables.specs.Elements.{same_kind}
 
--- the tables: pairs of a descriptor and an element, and of a descriptor and the list that it stands for
+-- the tables: pairs of a descriptor and an element, and of a descriptor and the list that it stands
+-- for
 pub record Entries : Type 0 where
   pub elements : List (ℕ × Element)
   pub sequences : List (ℕ × List ℕ)

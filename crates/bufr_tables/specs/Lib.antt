@@ -1,5 +1,6 @@
 pub mod Answers
 pub mod CsvRecords
+pub mod DescriptorLaws
 pub mod Descriptors
 pub mod Elements
 pub mod Entries

@@ -10,22 +10,33 @@ digits_value text = fold (λ n c. 10 * n + (c - 48)) 0 text
 
 -- digits, at least one
 abbrev pub natural : List ℕ → Option ℕ
-natural text = if not (length text == 0) && list_all is_ascii_digit text then Some (digits_value text) else None
+natural text =
+    if not (length text == 0) && list_all is_ascii_digit text then Some (digits_value text)
+    else None
 
 -- minus a number
 abbrev pub negative : ℕ → ℤ
 negative zero = pos 0
 negative (suc n) = negsuc n
 
+-- the signs in ASCII
+abbrev pub plus_sign : ℕ
+plus_sign = 43
+
+abbrev pub minus_sign : ℕ
+minus_sign = 45
+
 -- digits behind a plus or none
 abbrev pub unsigned : List ℕ → Option ℕ
 unsigned [] = None
-unsigned (c ∷ rest) = natural (if c == 43 then rest else c ∷ rest)
+unsigned (c ∷ rest) = natural (if c == plus_sign then rest else c ∷ rest)
 
 -- digits behind a minus, or a plus or none
 abbrev pub integer : List ℕ → Option ℤ
 integer [] = None
-integer (c ∷ rest) = if c == 45 then option_map negative (natural rest) else option_map pos (unsigned (c ∷ rest))
+integer (c ∷ rest) =
+    if c == minus_sign then option_map negative (natural rest)
+    else option_map pos (unsigned (c ∷ rest))
 
 -- the least n for which the number is from -(n + 1) to n
 abbrev pub reach : ℤ → ℕ

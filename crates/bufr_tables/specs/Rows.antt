@@ -1,5 +1,6 @@
--- The rows of Tables B and D (FM 94 BUFR, Tables B and D, as the WMO publishes them in columns), and what a row adds to the rows before it.
-use Rattle.std.specs.Prelude.{ℕ, ◌==◌, List, [], ◌∷◌, ◌++◌, map, take, get_or, codes, bytes_eq, Option, Some, None, is_some, option_map, option_and_then, Result, Ok, Err, if◌then◌else◌}
+-- The rows of Tables B and D (FM 94 BUFR, Tables B and D, as the WMO publishes them in columns),
+-- and what a row adds to the rows before it.
+use Rattle.std.specs.Prelude.{ℕ, ◌==◌, Bool, List, [], ◌∷◌, ◌++◌, length, map, take, get_or, codes, bytes_eq, Option, Some, None, is_some, option_map, option_and_then, Result, Ok, Err, if◌then◌else◌}
 use Rattle.std.specs.Char.{to_ascii_lowercase}
 use Rattle.std.specs.Ordering.{nat_cmp}
 use Rattle.std.specs.BTreeMap.{insert_entry}
@@ -13,13 +14,17 @@ use Rattle.bufr_tables.specs.Elements.{same_element}
 use Rattle.bufr_tables.specs.Entries.{at}
 use Rattle.bufr_tables.specs.Numbers.{signed_of, unsigned_of, descriptor_of}
 
+-- whether a text begins with another
+abbrev pub begins_with : List ℕ → List ℕ → Bool
+begins_with front text = bytes_eq (take (length front) text) front
+
 -- what a unit, in lower case, says of an element's values: a common code table is a code table
 abbrev pub kind_in_lower : List ℕ → Kind
 kind_in_lower unit =
     if bytes_eq unit (codes "ccitt ia5") then kinds.Text
     else if bytes_eq unit (codes "code table") then kinds.Code
     else if bytes_eq unit (codes "flag table") then kinds.Flag
-    else if bytes_eq (take 17 unit) (codes "common code table") then kinds.Code
+    else if begins_with (codes "common code table") unit then kinds.Code
     else kinds.Quantity
 
 -- what a unit says, in either case
@@ -30,23 +35,30 @@ kind_of unit = kind_in_lower (map to_ascii_lowercase unit)
 abbrev pub cell : List (List ℕ) → ℕ → List ℕ
 cell cells i = get_or cells i []
 
--- a row of Table B, by its cells FXY, unit, scale, reference value and data width: its descriptor and its element
+-- a row of Table B, by its cells FXY, unit, scale, reference value and data width: its descriptor
+-- and its element
 unfoldable pub element_row : List (List ℕ) → Option (ℕ × Element)
 element_row cells =
     option_and_then (λ d. option_and_then (λ s. option_and_then (λ r. option_map
     (λ w. (d, record { kind = kind_of (cell cells 1); scale = s; reference = r; width = w }))
-    (unsigned_of 32 (cell cells 4))) (signed_of 64 (cell cells 3))) (signed_of 32 (cell cells 2))) (descriptor_of 0 (cell cells 0))
+    (unsigned_of 32 (cell cells 4))) (signed_of 64 (cell cells 3))) (signed_of 32 (cell cells 2)))
+    (descriptor_of 0 (cell cells 0))
 
 -- a row of Table D, by its cells FXY1 and FXY2: a sequence and one descriptor that it stands for
 unfoldable pub member_row : List (List ℕ) → Option (ℕ × ℕ)
-member_row cells = option_and_then (λ d. option_map (λ m. (d, m)) (of_text (cell cells 1))) (descriptor_of 3 (cell cells 0))
+member_row cells =
+    option_and_then (λ d. option_map (λ m. (d, m)) (of_text (cell cells 1)))
+    (descriptor_of 3 (cell cells 0))
 
--- the elements so far with one more: an equal row of an element is the same row, and a differing one a conflict
-abbrev pub element_joins : List (ℕ × Element) → ℕ → Element → Option Element → Result (List (ℕ × Element)) TableFault
+-- the elements so far with one more: an equal row of an element is the same row, and a differing
+-- one a conflict
+abbrev pub element_joins : List (ℕ × Element) → ℕ → Element → Option Element
+    → Result (List (ℕ × Element)) TableFault
 element_joins rows d e None = Ok (insert_entry nat_cmp rows d e)
 element_joins rows d e (Some old) = if same_element old e then Ok rows else Err (Conflict d)
 
-abbrev pub with_element : List (ℕ × Element) → ℕ × Element → Result (List (ℕ × Element)) TableFault
+abbrev pub with_element : List (ℕ × Element) → ℕ × Element
+    → Result (List (ℕ × Element)) TableFault
 with_element rows (d, e) = element_joins rows d e (at d rows)
 
 -- the sequences whose rows have ended, and the one whose rows are at hand
@@ -68,10 +80,13 @@ all_sequences s = sequences_with s.ended s.open_one
 
 -- a row of another sequence than the one at hand begins one, unless that had rows before
 abbrev pub begins : List (ℕ × List ℕ) → ℕ → ℕ → Result Sequences TableFault
-begins ended d m = if is_some (at d ended) then Err (SplitSequence d) else Ok (record { ended = ended; open_one = Some (d, m ∷ []) })
+begins ended d m =
+    if is_some (at d ended) then Err (SplitSequence d)
+    else Ok (record { ended = ended; open_one = Some (d, m ∷ []) })
 
 -- the sequences so far with one more row
-abbrev pub member_joins : Sequences → ℕ → ℕ → Option (ℕ × List ℕ) → Result Sequences TableFault
+abbrev pub member_joins : Sequences → ℕ → ℕ → Option (ℕ × List ℕ)
+    → Result Sequences TableFault
 member_joins so_far d m None = begins so_far.ended d m
 member_joins so_far d m (Some o) =
     if o.0 == d then Ok (record { ended = so_far.ended; open_one = Some (d, o.1 ++ m ∷ []) })

@@ -53,7 +53,8 @@ pub(crate) fn columns_at(
     names: &[&[u8]],
     needed: &[Column],
 ) -> Result<Vec<usize>, Failure<TableFault>>
-    ensures { Gives (λ v. v.items) result (columns_at (map (λ s. s.now) names.now) needed.now) }
+    ensures { Gives (λ v. v.items) result
+        (columns_at (map (λ s. s.now) names.now) needed.now) }
 {
     let mut places = Vec::new(alloc);
     for column in needed {
@@ -71,7 +72,8 @@ fn cells_at<'a>(
     fields: &[&'a [u8]],
     places: &[usize],
 ) -> Result<Vec<&'a [u8]>, AllocError>
-    ensures { IfOk result (λ v. map (λ s. s.now) v.items ≡ cells_at (map (λ s. s.now) fields.now) places.now) }
+    ensures { IfOk result (λ v. map (λ s. s.now) v.items
+        ≡ cells_at (map (λ s. s.now) fields.now) places.now) }
 {
     let mut cells = Vec::new(alloc);
     for place in places {
@@ -95,7 +97,8 @@ pub(crate) fn row_cells<'a>(
     number: u64,
     row: &'a ByteRecord,
 ) -> Result<Option<Vec<&'a [u8]>>, Failure<TableFault>>
-    ensures { Gives (option_map (λ v. map (λ s. s.now) v.items)) result (row_cells (map (λ s. s.now) names.now) places.now number (fields_of row.now)) }
+    ensures { Gives (option_map (λ v. map (λ s. s.now) v.items)) result
+        (row_cells (map (λ s. s.now) names.now) places.now number (fields_of row.now)) }
 {
     if row.len() != names.len() {
         return Err(Failure::Fault(TableFault::NotCsv(number)));

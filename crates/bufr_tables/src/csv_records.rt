@@ -39,7 +39,8 @@ impl<'a> Records<'a> {
 
     /// The next record into `row`, and whether there was one.
     pub(crate) fn next(&mut self, row: &mut ByteRecord) -> Result<bool, AllocError>
-        ensures { IfOk result (λ found. MatchBool found (self.old ≡ fields_of row.new ∷ self.new) (self.old ≡ [])) }
+        ensures { IfOk result (λ found. MatchBool found
+            (self.old ≡ fields_of row.new ∷ self.new) (self.old ≡ [])) }
     {
         let Ok(found) = self.reader.read_byte_record(row) else {
             // A slice gives no error of its own, so this is want of memory.

@@ -1,6 +1,7 @@
 //! Faults, and want of memory beside them.
 
 ghost use Rattle.std.specs.Prelude.{◌≡◌};
+ghost use Rattle.bufr_tables.specs.Answers.{ChangesFault};
 ghost use Rattle.bufr_tables.specs.declared.failure.Failure.TheVariants.{OutOfMemory};
 
 use std::alloc::{AllocError, AllocFailed};
@@ -17,6 +18,19 @@ pub enum Failure<F> {
     /// Memory ran out.
     #[error("out of memory")]
     OutOfMemory,
+}
+
+impl<F> Failure<F> {
+    /// The same failure with another fault in place of the one that it tells.
+    pub fn map<G, C: FnOnce(F) -> G>(self, change: C) -> Failure<G>
+        requires { C.IsAlwaysCallable change }
+        ensures { ChangesFault (C.post change) self result }
+    {
+        match self {
+            Failure::Fault(fault) => Failure::Fault(change(fault)),
+            Failure::OutOfMemory => Failure::OutOfMemory,
+        }
+    }
 }
 
 impl<F> From<AllocError> for Failure<F> {

@@ -101,7 +101,8 @@ pub(crate) fn cell<'a>(cells: &[&'a [u8]], i: usize) -> &'a [u8]
 
 /// Whether records have equal fields.
 pub(crate) fn same_fields(fields: &[&[u8]], others: &[&[u8]]) -> bool
-    ensures { result ≡ pointwise bytes_eq (map (λ s. s.now) fields.now) (map (λ s. s.now) others.now) }
+    ensures { result
+        ≡ pointwise bytes_eq (map (λ s. s.now) fields.now) (map (λ s. s.now) others.now) }
 {
     fields == others
 }

@@ -8,7 +8,15 @@ ghost use Rattle.bufr_tables.specs.Descriptors.{f_of, x_of, y_of, in_ranges, of_
 use std::fmt;
 use std::marker::Model;
 
-/// A descriptor F XX YYY: F from 0 to 3, X from 0 to 63, Y from 0 to 255. Contracts see its 16 bits as a number.
+/// The greatest F of a descriptor, which has 2 bits.
+pub const GREATEST_F: u8 = 3;
+/// The greatest X of a descriptor, which has 6 bits.
+pub const GREATEST_X: u8 = 63;
+/// The greatest Y of a descriptor, which has 8 bits.
+pub const GREATEST_Y: u16 = 255;
+
+/// A descriptor F XX YYY: F from 0 to 3, X from 0 to 63, Y from 0 to 255. Contracts see its 16 bits
+/// as a number.
 #[derive(Clone, Copy, Debug, PartialEq, Eq, PartialOrd, Ord)]
 pub struct Fxy(u16);
 
@@ -27,7 +35,7 @@ impl Fxy {
     pub fn new(f: u8, x: u8, y: u8) -> Option<Fxy>
         ensures { result ≡ in_ranges f x y }
     {
-        if f > 3 || x > 63 {
+        if f > GREATEST_F || x > GREATEST_X {
             return None;
         }
         Some(Fxy(16384 * f as u16 + 256 * x as u16 + y as u16))
@@ -94,7 +102,7 @@ fn from_digits(f: u8, x10: u8, x1: u8, y100: u8, y10: u8, y1: u8) -> Option<Fxy>
 {
     let x = 10 * (x10 - b'0') + (x1 - b'0');
     let y = 100 * u16::from(y100 - b'0') + 10 * u16::from(y10 - b'0') + u16::from(y1 - b'0');
-    if y > 255 {
+    if y > GREATEST_Y {
         return None;
     }
     Fxy::new(f - b'0', x, y as u8)

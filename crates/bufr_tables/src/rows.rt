@@ -8,6 +8,9 @@ use crate::fields::cell;
 use crate::fxy::Fxy;
 use crate::numbers::{descriptor_of, signed_of, small_signed_of, small_unsigned_of};
 
+/// What the unit of every common code table begins with.
+const COMMON_CODE_TABLE: &[u8] = b"Common Code table";
+
 // The first octets of a text, as many as n.
 fn front(text: &[u8], n: usize) -> &[u8]
     ensures { result.now ≡ take n text.now }
@@ -25,7 +28,7 @@ fn kind_of(unit: &[u8]) -> Kind
         Kind::Code
     } else if unit.eq_ignore_ascii_case(b"Flag table") {
         Kind::Flag
-    } else if front(unit, 17).eq_ignore_ascii_case(b"Common Code table") {
+    } else if front(unit, COMMON_CODE_TABLE.len()).eq_ignore_ascii_case(COMMON_CODE_TABLE) {
         Kind::Code
     } else {
         Kind::Quantity

@@ -31,7 +31,10 @@ impl Model for SequenceRows {
 
     ghost Value = { Sequences };
 
-    ghost view = { λ a. record { ended = a.ended.entries; open_one = option_map {U = ℕ × List ℕ} (λ o. (o.0, o.1.items)) a.open_one } };
+    ghost view = { λ a. record {
+      ended = a.ended.entries;
+      open_one = option_map {U = ℕ × List ℕ} (λ o. (o.0, o.1.items)) a.open_one;
+    } };
 
     ghost invariant = { λ a. Rising a.ended.entries };
 }
@@ -88,7 +91,8 @@ impl SequenceRows {
         number: u64,
         cells: &Option<Vec<&[u8]>>,
     ) -> Result<(), Failure<TableFault>>
-        ensures { Gives (λ _. self.new) result (joined member_row with_member number self.old (option_map (λ v. map (λ s. s.now) v.items) cells.now)) }
+        ensures { Gives (λ _. self.new) result (joined member_row with_member number self.old
+            (option_map (λ v. map (λ s. s.now) v.items) cells.now)) }
     {
         let Some(cells) = cells else {
             return Ok(());
@@ -123,7 +127,8 @@ fn end(
     list: Vec<Fxy>,
 ) -> Result<(), AllocError>
     requires { Rising ended.old.entries }
-    ensures ok { OnOk result (ended.new.entries ≡ insert_entry nat_cmp ended.old.entries sequence list.items) }
+    ensures ok { OnOk result (ended.new.entries
+        ≡ insert_entry nat_cmp ended.old.entries sequence list.items) }
     ensures rising { Rising ended.new.entries }
 {
     ended.insert(sequence, Items::from_vec(list))?;

@@ -100,7 +100,8 @@ impl TableB {
         number: u64,
         cells: &Option<Vec<&[u8]>>,
     ) -> Result<(), Failure<TableFault>>
-        ensures { Gives (λ _. self.new) result (joined element_row with_element number self.old (option_map (λ v. map (λ s. s.now) v.items) cells.now)) }
+        ensures { Gives (λ _. self.new) result (joined element_row with_element number self.old
+            (option_map (λ v. map (λ s. s.now) v.items) cells.now)) }
     {
         let Some(cells) = cells else {
             return Ok(());

@@ -1,5 +1,7 @@
 //! Table files as their format's examples give them.
 
+mod sizes;
+
 use crate::{Column, Element, Failure, Fxy, Items, Kind, TableB, TableD, TableFault, Tables};
 use std::alloc::{AllocError, Global};
 use std::test::Fail;
@@ -138,9 +140,11 @@ fn two_copies_joined(rt: HostRuntime) -> Result<(), Fail> {
 
 #[test]
 fn table_b_bad_rows(rt: HostRuntime) -> Result<(), Fail> {
-    let lines: [&[u8]; 8] = [
+    let lines: [&[u8]; 10] = [
         b"112101,x,K,2,0,16\n",
         b"012101,x,K,2,9223372036854775808,16\n",
+        b"012101,x,K,2,-9223372036854775809,16\n",
+        b"012101,x,K,-2147483649,0,16\n",
         b"012101,x,K,2,0,-16\n",
         b"012101,x,K,2,0,-0\n",
         b"012101,x,K,2,0,\n",
@@ -192,8 +196,13 @@ fn numbers_at_their_ends(rt: HostRuntime) -> Result<(), Fail> {
 
 #[test]
 fn units(rt: HostRuntime) -> Result<(), Fail> {
-    let lines: [(&[u8], Kind); 8] = [
+    let lines: [(&[u8], Kind); 13] = [
         (b"012101,x,CCITT IA5,0,0,160\n", Kind::Text),
+        (b"012101,x, CCITT IA5 ,0,0,160\n", Kind::Text),
+        (b"012101,x,CCITT IA5 x,0,0,160\n", Kind::Quantity),
+        (b"012101,x,CCITT IA,0,0,160\n", Kind::Quantity),
+        (b"012101,x,Flag table x,0,0,160\n", Kind::Quantity),
+        (b"012101,x,A Common code table,0,0,160\n", Kind::Quantity),
         (b"012101,x,ccitt ia5,0,0,160\n", Kind::Text),
         (b"012101,x,Code Table,0,0,160\n", Kind::Code),
         (b"012101,x,FLAG TABLE,0,0,160\n", Kind::Flag),
@@ -292,8 +301,10 @@ fn spellings_of_files(rt: HostRuntime) -> Result<(), Fail> {
         b"FXY,BUFR_Unit,BUFR_Scale,BUFR_ReferenceValue,BUFR_DataWidth_Bits\r\n012101,K,2,0,16\r\n",
         b"BUFR_DataWidth_Bits,BUFR_Unit,FXY,BUFR_ReferenceValue,BUFR_Scale\n16,K,012101,0,2\n",
         b" FXY , BUFR_Unit,BUFR_Scale,BUFR_ReferenceValue,BUFR_DataWidth_Bits \n012101,K,2,0,16\n",
-        b"\xEF\xBB\xBFFXY,BUFR_Unit,BUFR_Scale,BUFR_ReferenceValue,BUFR_DataWidth_Bits\n\xEF\xBB\xBF012101,K,2,0,16\n",
-        b"FXY,BUFR_Unit,BUFR_Scale,BUFR_ReferenceValue,BUFR_DataWidth_Bits,FXY\n012101,K,2,0,16,x\n",
+        b"\xEF\xBB\xBFFXY,BUFR_Unit,BUFR_Scale,BUFR_ReferenceValue,BUFR_DataWidth_Bits\n\
+          \xEF\xBB\xBF012101,K,2,0,16\n",
+        b"FXY,BUFR_Unit,BUFR_Scale,BUFR_ReferenceValue,BUFR_DataWidth_Bits,FXY\n\
+          012101,K,2,0,16,x\n",
     ];
     for text in files {
         assert_eq!(rt; element_of(rt.alloc(), text, b"012101")?, Some(TEMPERATURE));
@@ -363,32 +374,14 @@ fn faults_are_printed(rt: HostRuntime) -> Result<(), Fail> {
     Ok(())
 }
 
-// A Table B of some size: the elements 0 XX YYY for X below 9 and Y below 200.
-fn long_table(alloc: Global) -> Result<Vec<u8>, AllocError> {
-    let mut text = joined(alloc, &[HEADER])?;
-    for x in 0..9u8 {
-        for y in 0..200u8 {
-            if let Some(fxy) = Fxy::new(0, x, y) {
-                let line = format!(in alloc;
-                    "{fxy},\"name, of the element\",Code table,0,-1024,{y}\n"
-                )?;
-                text.extend_from_slice(line.as_bytes())?;
-            }
-        }
-    }
-    Ok(text)
-}
-
 #[test]
-fn eighteen_hundred_rows(rt: HostRuntime) -> Result<(), Fail> {
-    let alloc = rt.alloc();
-    let text = long_table(alloc)?;
-    let last = Element {
-        kind: Kind::Code,
-        scale: 0,
-        reference: -1024,
-        width: 199,
-    };
-    assert_eq!(rt; element_of(alloc, &text, b"008199")?, Some(last));
+fn faults_within_other_faults(rt: HostRuntime) -> Result<(), Fail> {
+    let fault = Failure::Fault(TableFault::NotCsv(7));
+    assert_eq!(rt;
+        fault.map(Some),
+        Failure::Fault(Some(TableFault::NotCsv(7)))
+    );
+    let refused: Failure<TableFault> = Failure::OutOfMemory;
+    assert_eq!(rt; refused.map(Some), Failure::OutOfMemory);
     Ok(())
 }

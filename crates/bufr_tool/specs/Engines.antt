@@ -1,12 +1,11 @@
 -- What engines do to their readers and their writer.
-use Rattle.std.specs.Prelude.{◌≡◌, ℕ, ◌≤◌, true, false, List, length, take, IfSome, Result, Ok, Err}
+use Rattle.std.specs.Prelude.{◌≡◌, ℕ, ◌+◌, ◌≤◌, true, false, Some, List, ◌++◌, length, take, IfSome}
+use Rattle.std.specs.Prelude.{Result, Ok, Err}
 use Rattle.bufr_bits.specs.Devices.{Reading, Writing, Writes}
-use Rattle.bufr_tables.specs.Entries.{Entries}
-use Rattle.bufr_tool.specs.declared.fault.Input.TheVariants.{Number}
-use Rattle.bufr_tool.specs.declared.fault.Tally.{Tally}
 use Rattle.bufr_tool.specs.declared.fault.ToolFault.{ToolFault}
 use Rattle.bufr_tool.specs.declared.fault.ToolFault.TheVariants as faults
-use Rattle.bufr_tool.specs.Output.{shown, refused_of}
+
+-- ---- readers
 
 -- the reader was not read, and works
 pub record IsFresh (r : Reading) : Type 0 where
@@ -29,6 +28,17 @@ pub record IsEndless (most : ℕ) (r : Reading) : Type 0 where
   pub works : r.failed ≡ false
   pub met_end : r.met_end ≡ false
 
+-- a reader that tells its octets gave these, the first of them, and has the others left
+abbrev pub HasGiven : Reading → Reading → List ℕ → Type 0
+HasGiven old new octets =
+    IfSome old.left (λ all. (rest : List ℕ) × (all ≡ octets ++ rest) × (new.left ≡ Some rest))
+
+-- these are all octets of a reader that tells them
+abbrev pub AreAllOf : Reading → List ℕ → Type 0
+AreAllOf old octets = IfSome old.left (λ all. all ≡ octets)
+
+-- ---- writers
+
 -- all of these octets were written, and the writer works
 pub record WritesAll (old new : Writing) (octets : List ℕ) : Type 0 where
   pub taken : Writes old new octets
@@ -40,28 +50,9 @@ pub record FailsAfter (written : ℕ) (old new : Writing) (octets : List ℕ) : 
   pub taken : Writes old new (take written octets)
   pub failed : new.failed ≡ true
 
--- all of a text was written and handed on, or the writer failed after a front of it
-abbrev pub WritesOut : List ℕ → Writing → Writing → Result (Unit {0}) ToolFault → Type 0
-WritesOut text writer writer' (Ok done) = WritesAll writer writer' text
-WritesOut text writer writer' (Err (faults.ReadFailed source)) = ⊥
-WritesOut text writer writer' (Err (faults.EndlessInput source)) = ⊥
-WritesOut text writer writer' (Err (faults.WriteFailed written)) = FailsAfter written writer writer' text
-WritesOut text writer writer' (Err (faults.Table source fault)) = ⊥
-WritesOut text writer writer' (Err faults.OutOfMemory) = ⊥
-
--- what `run_show` answers and does, from a reader and a writer that work to what it leaves of them. Where the reader tells its octets:
--- all of them were read, and what `show` prints of them was written; a writer that fails has taken a front of it. On any other
--- fault nothing was written.
-abbrev pub Shows : Entries → ℕ → Reading → Reading → Writing → Writing → Result Tally ToolFault → Type 0
-Shows tables reads reader reader' writer writer' (Ok tally) =
-    WasReadOut reader' × (writer'.failed ≡ false)
-    × IfSome reader.left (λ octets. WritesAll writer writer' (shown tables octets)
-    × (tally ≡ record { frames = 1; refused = refused_of tables octets; skipped = 0; reports = 0 }))
-Shows tables reads reader reader' writer writer' (Err (faults.ReadFailed source)) =
-    (source ≡ Number 1) × HasFailed reader' × (writer' ≡ writer)
-Shows tables reads reader reader' writer writer' (Err (faults.EndlessInput source)) =
-    (source ≡ Number 1) × IsEndless reads reader' × (writer' ≡ writer)
-Shows tables reads reader reader' writer writer' (Err (faults.WriteFailed written)) =
-    WasReadOut reader' × (writer'.failed ≡ true) × IfSome reader.left (λ octets. FailsAfter written writer writer' (shown tables octets))
-Shows tables reads reader reader' writer writer' (Err (faults.Table source fault)) = ⊥
-Shows tables reads reader reader' writer writer' (Err faults.OutOfMemory) = writer' ≡ writer
+-- a text was written all, behind so many octets before it, or the writer failed after a front of it
+abbrev pub WritesAfter : ℕ → List ℕ → Writing → Writing → Result (Unit {0}) ToolFault → Type 0
+WritesAfter before text writer writer' (Ok done) = WritesAll writer writer' text
+WritesAfter before text writer writer' (Err (faults.WriteFailed written)) =
+    (more : ℕ) × (written ≡ before + more) × FailsAfter more writer writer' text
+WritesAfter before text writer writer' (Err fault) = ⊥

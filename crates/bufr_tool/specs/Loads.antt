@@ -14,7 +14,8 @@ use Rattle.bufr_tool.specs.Engines.{WasReadOut, HasFailed, IsEndless}
 abbrev pub LoadsB : Reading → Reading → Type 0
 LoadsB b b' = WasReadOut b' × IfSome b.left (λ text. IsOk (table_b text))
 
--- the reading that was told failed: that of Table B, and Table D was not read; or that of Table D, after Table B
+-- the reading that was told failed: that of Table B, and Table D was not read; or that of Table D,
+-- after Table B
 abbrev pub FailsAt : Input → (Reading → Type 0) → Reading → Reading → Reading → Reading → Type 0
 FailsAt TableB Failing b b' d d' = Failing b' × (d' ≡ d)
 FailsAt TableD Failing b b' d d' = LoadsB b b' × Failing d'
@@ -22,16 +23,20 @@ FailsAt (Number n) Failing b b' d d' = ⊥
 
 -- the file that was told was read to its end and has this fault
 abbrev pub IsFaultOf : Input → TableFault → Reading → Reading → Reading → Reading → Type 0
-IsFaultOf TableB fault b b' d d' = WasReadOut b' × IfSome b.left (λ text. table_b text ≡ Err fault) × (d' ≡ d)
-IsFaultOf TableD fault b b' d d' = LoadsB b b' × WasReadOut d' × IfSome d.left (λ text. table_d text ≡ Err fault)
+IsFaultOf TableB fault b b' d d' = WasReadOut b' × IfSome b.left (λ text. table_b text ≡ Err fault)
+    × (d' ≡ d)
+IsFaultOf TableD fault b b' d d' = LoadsB b b' × WasReadOut d'
+    × IfSome d.left (λ text. table_d text ≡ Err fault)
 IsFaultOf (Number n) fault b b' d d' = ⊥
 
 -- the tables of two files that are read to their ends, Table B before Table D, or the first fault
 abbrev pub Loads : ℕ → Reading → Reading → Reading → Reading → Result Entries ToolFault → Type 0
 Loads reads b b' d d' (Ok tables) = WasReadOut b' × WasReadOut d'
-    × IfSome b.left (λ text. table_b text ≡ Ok tables.elements) × IfSome d.left (λ text. table_d text ≡ Ok tables.sequences)
+    × IfSome b.left (λ text. table_b text ≡ Ok tables.elements)
+    × IfSome d.left (λ text. table_d text ≡ Ok tables.sequences)
 Loads reads b b' d d' (Err (faults.ReadFailed source)) = FailsAt source HasFailed b b' d d'
-Loads reads b b' d d' (Err (faults.EndlessInput source)) = FailsAt source (IsEndless reads) b b' d d'
+Loads reads b b' d d' (Err (faults.EndlessInput source)) = FailsAt source
+    (IsEndless reads) b b' d d'
 Loads reads b b' d d' (Err (faults.WriteFailed written)) = ⊥
 Loads reads b b' d d' (Err (faults.Table source fault)) = IsFaultOf source fault b b' d d'
 Loads reads b b' d d' (Err faults.OutOfMemory) = Unit {0}

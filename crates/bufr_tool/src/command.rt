@@ -3,11 +3,14 @@
 ghost use Rattle.std.specs.Prelude.{◌≤◌, IfSome};
 ghost use Rattle.bufr_tool.specs.Engines.{IsFresh};
 
+use crate::check::run_check;
 use crate::fault::{Tally, ToolFault};
-use crate::show::{run_show, write_out};
+use crate::output::write_out;
+use crate::show::run_show;
 use crate::tables::load_tables;
 use crate::words::{CommandLine, Task, line};
 use bufr_bits::{FromRead, IntoWrite, Source};
+use clap::error::ErrorKind;
 use std::alloc::Global;
 use std::convert::AsStr;
 use std::io::Write;
@@ -15,7 +18,7 @@ use std::rt::Files;
 use std::{fmt, fs};
 
 /// The greatest number of reads of one input.
-const MOST_READS: u64 = 4_294_967_296;
+pub(crate) const MOST_READS: u64 = 4_294_967_296;
 
 /// All is well, or help was asked for and written.
 const WELL: u8 = 0;
@@ -26,9 +29,10 @@ const REFUSED: u8 = 1;
 /// A fault of the line, a file, a table or memory.
 const FAULT: u8 = 2;
 
-/// Carries out the command that words ask for, without the program's name, and answers the exit status: 0 where all is well or help was
-/// asked for, 1 where a message was refused, 2 on a fault of the line, a file, a table or memory. The output goes to `out`; a fault is one
-/// line on `err`, and a failed write to `err` is passed over. No words ask for help.
+/// Carries out the command that words ask for, without the program's name, and answers the exit
+/// status: 0 where all is well or help was asked for, 1 where a message was refused, 2 on a fault
+/// of the line, a file, a table or memory. The output goes to `out`; a fault is one line on `err`,
+/// and a failed write to `err` is passed over. No words ask for help.
 pub fn run_command<R: Files, O: Write + Drop, E: Write + Drop>(
     rt: &R,
     alloc: Global,
@@ -113,6 +117,7 @@ fn run_task<S: Source, O: Write + Drop>(
     let mut writer = IntoWrite::new(&mut *out);
     match task {
         Task::Show => run_show(alloc, MOST_READS, &tables, input, &mut writer),
+        Task::Check => run_check(alloc, MOST_READS, &tables, input, &mut writer),
     }
 }
 
@@ -132,7 +137,7 @@ fn cannot_open<E: Write + Drop>(path: &str, err: &mut E) -> u8
     FAULT
 }
 
-/// Writes help to `out`, and what is wrong with a line to `err`.
+/// Writes help and the version to `out`, and what is wrong with a line to `err`.
 fn explain<O: Write + Drop, E: Write + Drop>(
     alloc: Global,
     error: &clap::Error,
@@ -141,6 +146,9 @@ fn explain<O: Write + Drop, E: Write + Drop>(
 ) -> u8
     ensures { result ≤ 2 }
 {
+    if error.kind() == ErrorKind::OutOfMemory {
+        return say(&ToolFault::OutOfMemory, err);
+    }
     let Ok(text) = format!(in alloc; "{error}") else {
         return say(&ToolFault::OutOfMemory, err);
     };
@@ -148,7 +156,7 @@ fn explain<O: Write + Drop, E: Write + Drop>(
         let _ = err.write_all(text.as_bytes());
         return FAULT;
     }
-    match write_out(&mut IntoWrite::new(&mut *out), text.as_bytes()) {
+    match write_out(&mut IntoWrite::new(&mut *out), 0, text.as_bytes()) {
         Ok(()) => WELL,
         Err(fault) => say(&fault, err),
     }

@@ -1,9 +1,11 @@
 //! What an engine answers.
 
-ghost use Rattle.std.specs.Prelude.{Some};
+ghost use Rattle.std.specs.Prelude.{◌≡◌, Some};
 ghost use Rattle.bufr_tool.specs.Output.{input_text};
+ghost use Rattle.bufr_tool.specs.declared.fault.ToolFault.TheVariants.{OutOfMemory};
 
 use bufr_tables::TableFault;
+use std::alloc::AllocError;
 use std::fmt;
 use thiserror::Error;
 
@@ -62,4 +64,12 @@ pub enum ToolFault {
     /// Memory ran out.
     #[error("out of memory")]
     OutOfMemory,
+}
+
+impl From<AllocError> for ToolFault {
+    ghost from_gives = { λ _ fault. fault ≡ OutOfMemory };
+
+    fn from(_error: AllocError) -> ToolFault {
+        ToolFault::OutOfMemory
+    }
 }

@@ -13,7 +13,7 @@ use std::alloc::{AllocError, Global};
 pub const PIECE: usize = 65536;
 
 /// Room for one read.
-fn room(alloc: Global) -> Result<Vec<u8>, AllocError>
+pub fn room(alloc: Global) -> Result<Vec<u8>, AllocError>
     ensures { IfOk result (λ room. vec_len room ≡ 65536) }
 {
     vec![in alloc; 0u8; PIECE]
@@ -24,10 +24,8 @@ fn keep(octets: &mut Vec<u8>, room: &[u8], given: usize) -> Result<(), ToolFault
     requires { given ≤ length room.now }
     ensures { KeepsFront room.now given octets.old.items octets.new.items result }
 {
-    match octets.extend_from_slice(&room[..given]) {
-        Ok(()) => Ok(()),
-        Err(_) => Err(ToolFault::OutOfMemory),
-    }
+    octets.extend_from_slice(&room[..given])?;
+    Ok(())
 }
 
 /// All octets of a reader, by at most so many reads.
@@ -40,11 +38,10 @@ pub fn read_all<S: Source>(
     requires few { reads ≤ 4294967296 }
     requires fresh { IsFresh (S.reading reader.old) }
     ensures bounded { (S.reading reader.new).reads ≤ reads }
-    ensures all { ReadsAll source reads (S.reading reader.old) (S.reading reader.new) (result_map (λ octets. octets.items) result) }
+    ensures all { ReadsAll source reads (S.reading reader.old) (S.reading reader.new)
+        (result_map (λ octets. octets.items) result) }
 {
-    let Ok(mut room) = room(alloc) else {
-        return Err(ToolFault::OutOfMemory);
-    };
+    let mut room = room(alloc)?;
     let mut octets = Vec::new(alloc);
     gather(reads, source, reader, &mut room, &mut octets)?;
     Ok(octets)
@@ -63,7 +60,8 @@ fn gather<S: Source>(
     requires some { 0 < length room.old }
     requires empty { octets.old.items ≡ [] }
     ensures bounded { (S.reading reader.new).reads ≤ reads }
-    ensures all { ReadsAll source reads (S.reading reader.old) (S.reading reader.new) (result_map (λ done. octets.new.items) result) }
+    ensures all { ReadsAll source reads (S.reading reader.old) (S.reading reader.new)
+        (result_map (λ done. octets.new.items) result) }
 {
     for _ in 0..reads {
         let Ok(given) = reader.read(&mut *room) else {

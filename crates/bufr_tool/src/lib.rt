@@ -1,15 +1,21 @@
 //! The engines of `bufr` over any readers and writers, and its commands.
 #![tactic(auto)]
 
+mod check;
 mod command;
+mod counts;
 mod fault;
+mod frames;
 mod input;
+mod output;
+mod printing;
 mod show;
 mod tables;
 #[cfg(test)]
 mod tests;
 mod words;
 
+pub use check::run_check;
 pub use command::run_command;
 pub use fault::{Input, Tally, ToolFault};
 pub use show::run_show;

@@ -11,8 +11,8 @@ use bufr_bits::Source;
 use bufr_tables::{Failure, TableB, TableD, Tables};
 use std::alloc::Global;
 
-/// The tables of the files of Table B and Table D. Table B is read and parsed before Table D is read. A file with a fault is refused
-/// by its first one.
+/// The tables of the files of Table B and Table D. Table B is read and parsed before Table D is
+/// read. A file with a fault is refused by its first one.
 pub fn load_tables<S: Source>(
     alloc: Global,
     reads: u64,
@@ -24,7 +24,8 @@ pub fn load_tables<S: Source>(
     requires fresh_d { IsFresh (S.reading d.old) }
     ensures bounded_b { (S.reading b.new).reads ≤ reads }
     ensures bounded_d { (S.reading d.new).reads ≤ reads }
-    ensures loads { Loads reads (S.reading b.old) (S.reading b.new) (S.reading d.old) (S.reading d.new) (result_map (λ tables. tables) result) }
+    ensures loads { Loads reads (S.reading b.old) (S.reading b.new) (S.reading d.old)
+        (S.reading d.new) (result_map (λ tables. tables) result) }
 {
     let text = read_all(alloc, reads, Input::TableB, b)?;
     let elements = match TableB::parse(alloc, &text) {

@@ -1,25 +1,13 @@
 //! Messages that are read and refused. Octets and answers are typed from the rules of the format.
 
 use super::decode;
-use crate::message::{Decoded, Head, Message};
-use crate::test_samples::{octets, tables};
+use crate::test_samples::*;
 use bufr_data::Raw;
+use bufr_sections::{Decoded, Head, Message};
 use bufr_tables::{Fxy, Items, Tables};
 use std::alloc::Global;
 use std::process::Abort;
 use std::test::Fail;
-
-/// One plain subset of eight elements: 70 octets.
-const ELEMENTS_ONLY: &str =
-    "42554652 000046 04 | S1 | 000017 00 0001 80 0101 0102 0401 0402 0403 0404 0405 0C65 | 00000D 00 14C03F409EC01AACC0 | END";
-
-/// The same with two octets for local use, a section 2, an odd octet in section 3 and two octets after the data: 81 octets.
-const LOCAL_AND_SLACK: &str =
-    "42554652 000051 04 | 000018 00 0062 0000 00 80 00 02 00 25 00 07E8 01 0F 0C 00 00 ABCD | 000006 00 0102 | 000018 00 0001 80 0101 0102 0401 0402 0403 0404 0405 0C65 FF | 00000F 00 14C03F409EC01AACC0 0000 | END";
-
-/// The same as the first with ones in all that is ignored: the reserved bits of sections 1 and 3, the reserved octets and the fill bits.
-const IGNORED_ONES: &str =
-    "42554652 000046 04 | 000016 00 0062 0000 00 7F 00 02 00 25 00 07E8 01 0F 0C 00 00 | 000017 FF 0001 BF 0101 0102 0401 0402 0403 0404 0405 0C65 | 00000D FF 14C03F409EC01AACFF | END";
 
 /// What octets are read as.
 fn read(alloc: Global, tables: &Tables, text: &str) -> Result<Decoded, Fail> {
@@ -91,7 +79,7 @@ fn elements_only(rt: HostRuntime) -> Result<(), Fail> {
 fn local_octets_section_2_and_slack(rt: HostRuntime) -> Result<(), Fail> {
     let alloc = rt.alloc();
     let tables = tables(alloc)?;
-    let found = read(alloc, &tables, LOCAL_AND_SLACK)?;
+    let found = read(alloc, &tables, LOCAL_OCTETS_AND_SLACK)?;
     assert_eq!(rt; found.slack_octets, 2);
     assert_fields(&rt, &found.message)?;
     assert!(rt; found.message.head == head(octets(alloc, "ABCD")?));
@@ -100,21 +88,41 @@ fn local_octets_section_2_and_slack(rt: HostRuntime) -> Result<(), Fail> {
     Ok(())
 }
 
-/// Four elements in sequences and no subset, with nine octets that no subset has.
-const NO_SUBSETS: &str =
-    "42554652 00003E 04 | S1 | 00000F 00 0000 80 C101 C10B C10C 0C65 | 00000D 00 14C03F409EC01AACC0 | END";
-
 #[test]
 fn no_subsets(rt: HostRuntime) -> Result<(), Fail> {
     let alloc = rt.alloc();
     let tables = tables(alloc)?;
-    let text = "42554652 000035 04 | S1 | 00000F 00 0000 80 C101 C10B C10C 0C65 | 000004 00 | END";
-    let empty = read(alloc, &tables, text)?;
+    let empty = read(alloc, &tables, NO_SUBSETS)?;
     assert!(rt; empty.message.subsets.is_empty());
     assert_eq!(rt; empty.slack_octets, 0);
-    let slack = read(alloc, &tables, NO_SUBSETS)?;
+    let slack = read(alloc, &tables, NO_SUBSETS_AND_SLACK)?;
     assert!(rt; slack.message.subsets.is_empty());
     assert_eq!(rt; slack.slack_octets, 9);
+    Ok(())
+}
+
+#[test]
+fn distinct_head(rt: HostRuntime) -> Result<(), Fail> {
+    let alloc = rt.alloc();
+    let found = read(alloc, &tables(alloc)?, DISTINCT_HEAD)?;
+    let head = Head {
+        centre: 258,
+        sub_centre: 772,
+        update: 5,
+        category: 6,
+        international: 7,
+        local_category: 8,
+        master_version: 9,
+        local_version: 10,
+        year: 2828,
+        month: 13,
+        day: 14,
+        hour: 15,
+        minute: 16,
+        second: 17,
+        local: Items::from_vec(octets(alloc, "1213")?),
+    };
+    assert!(rt; found.message.head == head);
     Ok(())
 }
 
@@ -126,12 +134,9 @@ fn what_is_ignored(rt: HostRuntime) -> Result<(), Fail> {
     Ok(())
 }
 
-/// Octets that are refused, each with its reason behind `=`. Lines that begin with `#` say what follows.
+/// Octets that are refused, each with its reason behind `=`. Lines that begin with `#` say what
+/// follows.
 const REFUSED: &str = "\
-# the edition is 5
-42554652 00003E 05 | S1 | 00000F 00 0001 80 C101 C10B C10C 0C65 | 00000D 00 14C03F409EC01AACC0 | END = M2 Edition 5
-# the total is one too large
-42554652 00003F 04 | S1 | 00000F 00 0001 80 C101 C10B C10C 0C65 | 00000D 00 14C03F409EC01AACC0 | END = M3 TotalLength
 # section 3 has no descriptor
 42554652 00002E 04 | S1 | 000008 00 0001 80 00 | 000004 00 | END = M8 Section3Length
 # no table has the element
@@ -153,38 +158,22 @@ const REFUSED: &str = "\
 # the descriptors come before the data, and each subset in its turn
 42554652 000031 04 | S1 | 00000B 00 0001 80 0C65 01FA | 000004 00 | END = X1 UnknownElement 001250
 42554652 000031 04 | S1 | 000009 00 0002 80 0C65 | 000006 00 6AB3 | END = V2 DataEnds 2 1
-# the last field lacks six bits
-42554652 000045 04 | S1 | 000017 00 0001 80 0101 0102 0401 0402 0403 0404 0405 0C65 | 00000C 00 14C03F409EC01AAC | END = V2 DataEnds 1 8
 ";
 
-/// Octets whose sections are refused.
-const REFUSED_SECTIONS: &str = "\
-| = M1 NotBufr
-42554652 000007 = M1 NotBufr
-42554653 00000C 04 | END = M1 NotBufr
-42554652 00000D 04 | END = M3 TotalLength
-42554652 000008 04 = M4 NoEnd
-42554652 00000C 04 | 37373738 = M4 NoEnd
-42554652 00000C 04 | END = M5 Section1Length
-42554652 000021 04 | 000015 00 0062 0000 00 00 00 02 00 25 00 07E8 01 0F 0C 00 | END = M5 Section1Length
-42554652 000022 04 | 000017 00 0062 0000 00 00 00 02 00 25 00 07E8 01 0F 0C 00 00 | END = M5 Section1Length
-42554652 000022 04 | 000016 0A 0062 0000 00 00 00 02 00 25 00 07E8 01 0F 0C 00 00 | END = M6 MasterTable 10
-42554652 000025 04 | 000016 00 0062 0000 00 80 00 02 00 25 00 07E8 01 0F 0C 00 00 | 000003 | END = M7 Section2Length
-42554652 000026 04 | 000016 00 0062 0000 00 80 00 02 00 25 00 07E8 01 0F 0C 00 00 | 000005 00 | END = M7 Section2Length
-42554652 000022 04 | S1 | END = M8 Section3Length
-42554652 00002B 04 | S1 | 00000A 00 0001 80 0101 | END = M8 Section3Length
-42554652 00002B 04 | S1 | 000009 00 0001 80 0101 | END = M9 Section4Length
-42554652 00002F 04 | S1 | 000009 00 0001 80 0101 | 000003 00 | END = M9 Section4Length
-42554652 000031 04 | S1 | 000009 00 0001 80 0101 | 000005 00 14 00 | END = M9 Section4Length
-";
+/// The sequences in edition 5.
+const EDITION_5: &str = "\
+42554652 00003E 05 | S1 | 00000F 00 0001 80 C101 C10B C10C 0C65
+| 00000D 00 14C03F409EC01AACC0 | END";
 
-/// Octets of messages that are not read yet.
-const NOT_READ_YET: &str = "\
-# compressed
-42554652 000031 04 | S1 | 000009 00 0001 C0 0101 | 000006 00 1400 | END = M10 NotYet
-# the sections come first
-42554652 000031 04 | S1 | 000009 00 0001 C0 0101 | 000005 00 1400 | END = M9 Section4Length
-";
+/// The sequences with a total that is one too large.
+const TOTAL_TOO_LARGE: &str = "\
+42554652 00003F 04 | S1 | 00000F 00 0001 80 C101 C10B C10C 0C65
+| 00000D 00 14C03F409EC01AACC0 | END";
+
+/// The eight elements with a last field that lacks six bits.
+const DATA_ENDS: &str = "\
+42554652 000045 04 | S1 | 000017 00 0001 80 0101 0102 0401 0402 0403 0404 0405 0C65
+| 00000C 00 14C03F409EC01AAC | END";
 
 /// The reason for which octets are refused, or `read`.
 fn reason(alloc: Global, tables: &Tables, text: &str) -> Result<String, Fail> {
@@ -209,15 +198,15 @@ fn assert_reasons(rt: &impl Abort, alloc: Global, cases: &str) -> Result<(), Fai
 
 #[test]
 fn refusals(rt: HostRuntime) -> Result<(), Fail> {
-    assert_reasons(&rt, rt.alloc(), REFUSED)
-}
-
-#[test]
-fn refusals_of_sections(rt: HostRuntime) -> Result<(), Fail> {
-    assert_reasons(&rt, rt.alloc(), REFUSED_SECTIONS)
-}
-
-#[test]
-fn refusals_of_what_is_not_read_yet(rt: HostRuntime) -> Result<(), Fail> {
-    assert_reasons(&rt, rt.alloc(), NOT_READ_YET)
+    let alloc = rt.alloc();
+    let tables = tables(alloc)?;
+    for (text, wanted) in [
+        (EDITION_5, "M2 Edition 5"),
+        (TOTAL_TOO_LARGE, "M3 TotalLength"),
+        (DATA_ENDS, "V2 DataEnds 1 8"),
+    ] {
+        let found = reason(alloc, &tables, text)?;
+        assert_eq!(rt; found.as_str(), wanted);
+    }
+    assert_reasons(&rt, alloc, REFUSED)
 }

@@ -1,62 +1,35 @@
-//! Messages that are written and refused. Octets and answers are typed from the rules of the format.
+//! Messages that are written and refused. Octets and answers are typed from the rules of the
+//! format.
 
 use super::encode;
 use crate::decoding::decode;
-use crate::message::Message;
-use crate::test_samples::{octets, tables};
+use crate::test_samples::*;
 use bufr_data::Subset;
+use bufr_sections::Message;
 use bufr_tables::{Fxy, Items, Tables};
 use std::alloc::Global;
 use std::process::Abort;
 use std::test::Fail;
 
-/// Octets that are read and written again as they are. Lines that begin with `#` say what follows.
-const KEPT: &str = "\
-# elements_only: one plain subset of eight elements, 70 octets
-42554652 000046 04 | S1 | 000017 00 0001 80 0101 0102 0401 0402 0403 0404 0405 0C65 | 00000D 00 14C03F409EC01AACC0 | END
-# sequences: the same, 62 octets
-42554652 00003E 04 | S1 | 00000F 00 0001 80 C101 C10B C10C 0C65 | 00000D 00 14C03F409EC01AACC0 | END
-# missing_temperature
-42554652 00003E 04 | S1 | 00000F 00 0001 80 C101 C10B C10C 0C65 | 00000D 00 14C03F409EC03FFFC0 | END
-# the data are not observed
-42554652 00003E 04 | S1 | 00000F 00 0001 00 C101 C10B C10C 0C65 | 00000D 00 14C03F409EC01AACC0 | END
-# an empty section 2
-42554652 000042 04 | 000016 00 0062 0000 00 80 00 02 00 25 00 07E8 01 0F 0C 00 00 | 000004 00 | 00000F 00 0001 80 C101 C10B C10C 0C65 | 00000D 00 14C03F409EC01AACC0 | END
-# delayed_counts: a count of 0, 52 octets
-42554652 000034 04 | S1 | 00000D 00 0001 80 4100 1F01 0C65 | 000005 00 00 | END
-# delayed_counts: a count of 1, 54 octets
-42554652 000036 04 | S1 | 00000D 00 0001 80 4100 1F01 0C65 | 000007 00 016AB3 | END
-# unequal_counts: two plain subsets of counts 0 and 1, 55 octets
-42554652 000037 04 | S1 | 00000D 00 0002 80 4100 1F01 0C65 | 000008 00 00016AB3 | END
-# no_subsets: 53 octets
-42554652 000035 04 | S1 | 00000F 00 0000 80 C101 C10B C10C 0C65 | 000004 00 | END
-# operators: two bits more and one more decimal place, and then neither
-42554652 00003E 04 | S1 | 000013 00 0001 80 8182 8281 0C65 8100 8200 0C65 | 000009 00 F4241AACC0 | END
-# replaced_width: one bit more
-42554652 000036 04 | S1 | 00000D 00 0001 80 8182 8181 0C65 | 000007 00 355980 | END
-# operators: scale, reference value and width raised together
-42554652 000034 04 | S1 | 00000B 00 0001 80 8701 0C65 | 000007 00 42AFE0 | END
-# text_width_and_escapes: four characters
-42554652 000035 04 | S1 | 00000B 00 0001 80 8804 010B | 000008 00 41225C0A | END
-# local_descriptor: an element of no table, of 12 bits
-42554652 000033 04 | S1 | 00000B 00 0001 80 860C 01FA | 000006 00 0050 | END
-# message_in_character_data: a message of 52 octets as characters, 99 octets
-42554652 000063 04 | S1 | 000009 00 0001 80 8534 | 000038 00 | 42554652 000034 04 | S1 | 00000D 00 0001 80 4100 1F01 0C65 | 000005 00 00 | END | END
-";
-
-/// Octets that are read, and behind `=` those that are written for what was read.
-const NOT_KEPT: &str = "\
-# local_octets_section_2_and_slack: of 81 octets 78 are left
-42554652 000051 04 | 000018 00 0062 0000 00 80 00 02 00 25 00 07E8 01 0F 0C 00 00 ABCD | 000006 00 0102 | 000018 00 0001 80 0101 0102 0401 0402 0403 0404 0405 0C65 FF | 00000F 00 14C03F409EC01AACC0 0000 | END = 42554652 00004E 04 | 000018 00 0062 0000 00 80 00 02 00 25 00 07E8 01 0F 0C 00 00 ABCD | 000006 00 0102 | 000017 00 0001 80 0101 0102 0401 0402 0403 0404 0405 0C65 | 00000D 00 14C03F409EC01AACC0 | END
-# ones in all that is ignored
-42554652 000046 04 | 000016 00 0062 0000 00 7F 00 02 00 25 00 07E8 01 0F 0C 00 00 | 000017 FF 0001 BF 0101 0102 0401 0402 0403 0404 0405 0C65 | 00000D FF 14C03F409EC01AACFF | END = 42554652 000046 04 | S1 | 000017 00 0001 80 0101 0102 0401 0402 0403 0404 0405 0C65 | 00000D 00 14C03F409EC01AACC0 | END
-# no_subsets: nine octets that no subset has are left out
-42554652 00003E 04 | S1 | 00000F 00 0000 80 C101 C10B C10C 0C65 | 00000D 00 14C03F409EC01AACC0 | END = 42554652 000035 04 | S1 | 00000F 00 0000 80 C101 C10B C10C 0C65 | 000004 00 | END
-";
-
-/// One plain subset of eight elements.
-const ELEMENTS_ONLY: &str =
-    "42554652 000046 04 | S1 | 000017 00 0001 80 0101 0102 0401 0402 0403 0404 0405 0C65 | 00000D 00 14C03F409EC01AACC0 | END";
+/// Octets that are read and written again as they are.
+const KEPT: [&str; 16] = [
+    ELEMENTS_ONLY,
+    SEQUENCES,
+    MISSING_TEMPERATURE,
+    UNOBSERVED,
+    EMPTY_SECTION_2,
+    DELAYED_COUNT_0,
+    DELAYED_COUNT_1,
+    UNEQUAL_COUNTS,
+    NO_SUBSETS,
+    OPERATORS,
+    REPLACED_WIDTH,
+    RAISED_TOGETHER,
+    TEXT_WIDTH_AND_ESCAPES,
+    LOCAL_DESCRIPTOR,
+    MESSAGE_IN_CHARACTER_DATA,
+    DISTINCT_HEAD,
+];
 
 /// One temperature.
 const TEMPERATURE: &str = "42554652 000031 04 | S1 | 000009 00 0001 80 0C65 | 000006 00 6AB3 | END";
@@ -81,23 +54,17 @@ fn assert_written(rt: &impl Abort, alloc: Global, text: &str, wanted: &str) -> R
 
 #[test]
 fn written_as_they_were(rt: HostRuntime) -> Result<(), Fail> {
-    for line in KEPT.lines() {
-        if !line.starts_with('#') {
-            assert_written(&rt, rt.alloc(), line, line)?;
-        }
+    for text in KEPT {
+        assert_written(&rt, rt.alloc(), text, text)?;
     }
     Ok(())
 }
 
 #[test]
 fn written_without_what_is_free(rt: HostRuntime) -> Result<(), Fail> {
-    for line in NOT_KEPT.lines() {
-        if !line.starts_with('#') {
-            let (text, wanted) = line.split_once(" = ").ok_or("a case")?;
-            assert_written(&rt, rt.alloc(), text, wanted)?;
-        }
-    }
-    Ok(())
+    assert_written(&rt, rt.alloc(), LOCAL_OCTETS_AND_SLACK, LOCAL_OCTETS)?;
+    assert_written(&rt, rt.alloc(), IGNORED_ONES, ELEMENTS_ONLY)?;
+    assert_written(&rt, rt.alloc(), NO_SUBSETS_AND_SLACK, NO_SUBSETS)
 }
 
 /// A message is refused for this reason.
@@ -158,8 +125,6 @@ fn refusals_in_their_order(rt: HostRuntime) -> Result<(), Fail> {
     assert_refused(&rt, alloc, &message, "E1 DoesNotFit 1 8")?;
     message.descriptors = descriptors(alloc, Fxy::new(0, 1, 250))?;
     assert_refused(&rt, alloc, &message, "X1 UnknownElement 001250")?;
-    message.compressed = true;
-    assert_refused(&rt, alloc, &message, "E5 NotYet")?;
     message.descriptors = descriptors(alloc, None)?;
     assert_refused(&rt, alloc, &message, "E4 NoDescriptors")
 }

@@ -1,11 +1,11 @@
-//! Listings of messages. Octets and listings are typed from the rules of the format; each text is a line of octets and the listing of
-//! what they are read as.
+//! Listings of messages. Octets and listings are typed from the rules of the format; each text is a
+//! line of octets and the listing of what they are read as.
 
 use super::{ListingWriteFault, text_of, write_message};
 use crate::decoding::decode;
-use crate::message::Message;
-use crate::test_samples::{octets, tables};
+use crate::test_samples::*;
 use bufr_bits::device::IntoWrite;
+use bufr_sections::Message;
 use std::alloc::Global;
 use std::io;
 use std::io::{ErrorKind, Write};
@@ -13,8 +13,7 @@ use std::process::Abort;
 use std::test::Fail;
 
 /// One plain subset of eight elements.
-const ELEMENTS_ONLY: &str = "\
-42554652 000046 04 | S1 | 000017 00 0001 80 0101 0102 0401 0402 0403 0404 0405 0C65 | 00000D 00 14C03F409EC01AACC0 | END
+const ELEMENTS_ONLY_LISTED: &str = "\
 message
 section1 98 0 0 0 2 0 37 0
 time 2024 1 15 12 0 0
@@ -33,8 +32,7 @@ end
 ";
 
 /// The same in sequences.
-const SEQUENCES: &str = "\
-42554652 00003E 04 | S1 | 00000F 00 0001 80 C101 C10B C10C 0C65 | 00000D 00 14C03F409EC01AACC0 | END
+const SEQUENCES_LISTED: &str = "\
 message
 section1 98 0 0 0 2 0 37 0
 time 2024 1 15 12 0 0
@@ -53,8 +51,7 @@ end
 ";
 
 /// The temperature is missing.
-const MISSING_TEMPERATURE: &str = "\
-42554652 00003E 04 | S1 | 00000F 00 0001 80 C101 C10B C10C 0C65 | 00000D 00 14C03F409EC03FFFC0 | END
+const MISSING_TEMPERATURE_LISTED: &str = "\
 message
 section1 98 0 0 0 2 0 37 0
 time 2024 1 15 12 0 0
@@ -73,8 +70,7 @@ end
 ";
 
 /// The data are not observed.
-const UNOBSERVED: &str = "\
-42554652 00003E 04 | S1 | 00000F 00 0001 00 C101 C10B C10C 0C65 | 00000D 00 14C03F409EC01AACC0 | END
+const UNOBSERVED_LISTED: &str = "\
 message
 section1 98 0 0 0 2 0 37 0
 time 2024 1 15 12 0 0
@@ -93,8 +89,7 @@ end
 ";
 
 /// An empty section 2.
-const EMPTY_SECTION_2: &str = "\
-42554652 000042 04 | 000016 00 0062 0000 00 80 00 02 00 25 00 07E8 01 0F 0C 00 00 | 000004 00 | 00000F 00 0001 80 C101 C10B C10C 0C65 | 00000D 00 14C03F409EC01AACC0 | END
+const EMPTY_SECTION_2_LISTED: &str = "\
 message
 section1 98 0 0 0 2 0 37 0
 time 2024 1 15 12 0 0
@@ -114,8 +109,7 @@ end
 ";
 
 /// Octets for local use in both sections.
-const LOCAL_OCTETS_SECTION_2_AND_SLACK: &str = "\
-42554652 000051 04 | 000018 00 0062 0000 00 80 00 02 00 25 00 07E8 01 0F 0C 00 00 ABCD | 000006 00 0102 | 000018 00 0001 80 0101 0102 0401 0402 0403 0404 0405 0C65 FF | 00000F 00 14C03F409EC01AACC0 0000 | END
+const LOCAL_OCTETS_LISTED: &str = "\
 message
 section1 98 0 0 0 2 0 37 0
 time 2024 1 15 12 0 0
@@ -136,8 +130,7 @@ end
 ";
 
 /// Two subsets of counts 0 and 1.
-const UNEQUAL_COUNTS: &str = "\
-42554652 000037 04 | S1 | 00000D 00 0002 80 4100 1F01 0C65 | 000008 00 00016AB3 | END
+const UNEQUAL_COUNTS_LISTED: &str = "\
 message
 section1 98 0 0 0 2 0 37 0
 time 2024 1 15 12 0 0
@@ -152,8 +145,7 @@ end
 ";
 
 /// No subset.
-const NO_SUBSETS: &str = "\
-42554652 000035 04 | S1 | 00000F 00 0000 80 C101 C10B C10C 0C65 | 000004 00 | END
+const NO_SUBSETS_LISTED: &str = "\
 message
 section1 98 0 0 0 2 0 37 0
 time 2024 1 15 12 0 0
@@ -163,8 +155,7 @@ end
 ";
 
 /// Two bits more and one more decimal place, and then neither.
-const OPERATORS: &str = "\
-42554652 00003E 04 | S1 | 000013 00 0001 80 8182 8281 0C65 8100 8200 0C65 | 000009 00 F4241AACC0 | END
+const OPERATORS_LISTED: &str = "\
 message
 section1 98 0 0 0 2 0 37 0
 time 2024 1 15 12 0 0
@@ -177,8 +168,7 @@ end
 ";
 
 /// Characters that can be printed, and three that can't stand for themselves.
-const TEXT_WIDTH_AND_ESCAPES: &str = "\
-42554652 000035 04 | S1 | 00000B 00 0001 80 8804 010B | 000008 00 41225C0A | END
+const TEXT_WIDTH_AND_ESCAPES_LISTED: &str = "\
 message
 section1 98 0 0 0 2 0 37 0
 time 2024 1 15 12 0 0
@@ -190,8 +180,7 @@ end
 ";
 
 /// An element of no table.
-const LOCAL_DESCRIPTOR: &str = "\
-42554652 000033 04 | S1 | 00000B 00 0001 80 860C 01FA | 000006 00 0050 | END
+const LOCAL_DESCRIPTOR_LISTED: &str = "\
 message
 section1 98 0 0 0 2 0 37 0
 time 2024 1 15 12 0 0
@@ -202,14 +191,38 @@ subset
 end
 ";
 
+/// Fourteen numbers in section 1 that all differ.
+const DISTINCT_HEAD_LISTED: &str = "\
+message
+section1 258 772 5 6 7 8 9 10
+time 2828 13 14 15 16 17
+local1 1213
+flags observed
+descriptors 012101
+subset
+012101 273.15
+end
+";
+
+/// Characters at each side of those that stand for themselves.
+const CHARACTERS_LISTED: &str = "\
+message
+section1 98 0 0 0 2 0 37 0
+time 2024 1 15 12 0 0
+flags observed
+descriptors 208010 001011
+subset
+001011 \"\\1f !\\22}~\\7f\\5c\\0a\\ff\"
+end
+";
+
 /// What octets are read as.
 fn read(alloc: Global, text: &str) -> Result<Message, Fail> {
     Ok(decode(alloc, &tables(alloc)?, octets(alloc, text)?.as_slice())?.message)
 }
 
-/// The octets of the first line are listed as the lines behind it.
-fn assert_listed(rt: &impl Abort, alloc: Global, case: &str) -> Result<(), Fail> {
-    let (text, wanted) = case.split_once('\n').ok_or("a case")?;
+/// The octets are listed so.
+fn assert_listed(rt: &impl Abort, alloc: Global, text: &str, wanted: &str) -> Result<(), Fail> {
     let listing = text_of(alloc, &read(alloc, text)?)?;
     assert_eq!(rt; listing.as_slice(), wanted.as_bytes(), "at {text}");
     Ok(())
@@ -217,63 +230,68 @@ fn assert_listed(rt: &impl Abort, alloc: Global, case: &str) -> Result<(), Fail>
 
 #[test]
 fn elements_and_sequences(rt: HostRuntime) -> Result<(), Fail> {
-    for case in [
-        ELEMENTS_ONLY,
-        SEQUENCES,
-        MISSING_TEMPERATURE,
-        UNEQUAL_COUNTS,
-        NO_SUBSETS,
+    for (text, wanted) in [
+        (ELEMENTS_ONLY, ELEMENTS_ONLY_LISTED),
+        (SEQUENCES, SEQUENCES_LISTED),
+        (MISSING_TEMPERATURE, MISSING_TEMPERATURE_LISTED),
+        (UNEQUAL_COUNTS, UNEQUAL_COUNTS_LISTED),
+        (NO_SUBSETS, NO_SUBSETS_LISTED),
     ] {
-        assert_listed(&rt, rt.alloc(), case)?;
+        assert_listed(&rt, rt.alloc(), text, wanted)?;
     }
     Ok(())
 }
 
 #[test]
 fn flags_and_octets_for_local_use(rt: HostRuntime) -> Result<(), Fail> {
-    for case in [
-        UNOBSERVED,
-        EMPTY_SECTION_2,
-        LOCAL_OCTETS_SECTION_2_AND_SLACK,
+    for (text, wanted) in [
+        (UNOBSERVED, UNOBSERVED_LISTED),
+        (EMPTY_SECTION_2, EMPTY_SECTION_2_LISTED),
+        (LOCAL_OCTETS_AND_SLACK, LOCAL_OCTETS_LISTED),
+        (DISTINCT_HEAD, DISTINCT_HEAD_LISTED),
     ] {
-        assert_listed(&rt, rt.alloc(), case)?;
+        assert_listed(&rt, rt.alloc(), text, wanted)?;
     }
     Ok(())
 }
 
 #[test]
 fn operators_and_characters(rt: HostRuntime) -> Result<(), Fail> {
-    for case in [OPERATORS, TEXT_WIDTH_AND_ESCAPES, LOCAL_DESCRIPTOR] {
-        assert_listed(&rt, rt.alloc(), case)?;
+    for (text, wanted) in [
+        (OPERATORS, OPERATORS_LISTED),
+        (TEXT_WIDTH_AND_ESCAPES, TEXT_WIDTH_AND_ESCAPES_LISTED),
+        (CHARACTERS, CHARACTERS_LISTED),
+        (LOCAL_DESCRIPTOR, LOCAL_DESCRIPTOR_LISTED),
+    ] {
+        assert_listed(&rt, rt.alloc(), text, wanted)?;
     }
     Ok(())
 }
 
-/// A message that is said to be compressed is listed so.
+/// The lines before the flags.
+const COMMON_FRONT: &str = "\
+message
+section1 98 0 0 0 2 0 37 0
+time 2024 1 15 12 0 0
+";
+
+/// The line of the flags of a message that is said to be compressed is this one.
 fn assert_flags(rt: &impl Abort, alloc: Global, observed: bool, wanted: &str) -> Result<(), Fail> {
-    let (text, _listing) = NO_SUBSETS.split_once('\n').ok_or("a case")?;
-    let mut message = read(alloc, text)?;
+    let mut message = read(alloc, NO_SUBSETS)?;
     message.observed = observed;
     message.compressed = true;
+    let mut whole = String::from_str(alloc, COMMON_FRONT)?;
+    whole.push_str(wanted)?;
+    whole.push_str("descriptors 301001 301011 301012 012101\nend\n")?;
     let listing = text_of(alloc, &message)?;
-    assert_eq!(rt; listing.as_slice(), wanted.as_bytes());
+    assert_eq!(rt; listing.as_slice(), whole.as_str().as_bytes());
     Ok(())
 }
 
 #[test]
 fn flags_of_compressed_data(rt: HostRuntime) -> Result<(), Fail> {
-    assert_flags(
-        &rt,
-        rt.alloc(),
-        false,
-        "message\nsection1 98 0 0 0 2 0 37 0\ntime 2024 1 15 12 0 0\nflags compressed\ndescriptors 301001 301011 301012 012101\nend\n",
-    )?;
-    assert_flags(
-        &rt,
-        rt.alloc(),
-        true,
-        "message\nsection1 98 0 0 0 2 0 37 0\ntime 2024 1 15 12 0 0\nflags observed compressed\ndescriptors 301001 301011 301012 012101\nend\n",
-    )
+    assert_flags(&rt, rt.alloc(), false, "flags compressed\n")?;
+    assert_flags(&rt, rt.alloc(), true, "flags observed compressed\n")
 }
 
 /// A writer that has room for so many octets more, and takes at most 50 at a time.
@@ -298,15 +316,16 @@ impl Write for Narrow {
     }
 }
 
-/// The listing is written to a writer with so much room: the front that the writer takes is this one, and the answer is this.
+/// The listing is written to a writer with so much room: the front that the writer takes is this
+/// one, and the answer is this.
 fn assert_front(
     rt: &impl Abort,
     alloc: Global,
     room: usize,
     answer: Result<(), ListingWriteFault>,
 ) -> Result<(), Fail> {
-    let (text, wanted) = SEQUENCES.split_once('\n').ok_or("a case")?;
-    let message = read(alloc, text)?;
+    let wanted = SEQUENCES_LISTED;
+    let message = read(alloc, SEQUENCES)?;
     let taken = Vec::new(alloc);
     let mut sink = IntoWrite::new(Narrow { taken, room });
     assert_eq!(rt; write_message(alloc, &message, &mut sink), answer);

@@ -2,7 +2,7 @@ use Rattle.std.proofs.Common.{◌≡◌, ℕ, ◌+◌, ◌-◌, ◌≤◌, List,
 use Rattle.std.proofs.lemmas.List.{take_rest, length-take}
 use Rattle.bufr_bits.specs.Devices.{Writes}
 use Rattle.bufr_bits.proofs.BitLists.{take-more}
-use Rattle.bufr_bits.proofs.DeviceFacts.{Writes-more}
+use Rattle.bufr_bits.specs.DeviceLaws.{Writes-more}
 use Rattle.bufr_bits.proofs.device.write_all.Goals as goal
 
 pub loop-written-preserved : goal.loop-written-preserved

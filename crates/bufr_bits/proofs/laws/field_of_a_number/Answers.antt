@@ -1,5 +1,5 @@
 use Rattle.std.proofs.Common.{refl, ◌∙◌, ◌^◌, length}
-use Rattle.bufr_bits.proofs.BitFacts.{length-bin, number-bin, small_mod, bin-number}
+use Rattle.bufr_bits.specs.BitLaws.{length-bin, number-bin, small_mod, bin-number}
 use Rattle.bufr_bits.proofs.laws.field_of_a_number.Goals as goal
 
 pub returns-clause-width : goal.returns-clause-width

@@ -1,4 +1,4 @@
-use Rattle.bufr_bits.proofs.BitFacts.{number_at-bin}
+use Rattle.bufr_bits.specs.BitLaws.{number_at-bin}
 use Rattle.bufr_bits.proofs.laws.number_put_is_taken.Goals as goal
 
 pub returns : goal.returns

@@ -1,4 +1,4 @@
-use Rattle.bufr_bits.proofs.OctetFacts.{octets_at_is}
+use Rattle.bufr_bits.specs.OctetLaws.{octets_at_is}
 use Rattle.bufr_bits.proofs.laws.octets_taken_were_put.Goals as goal
 
 pub returns : goal.returns

@@ -3,7 +3,7 @@ use Rattle.bufr_data.proofs.ReadFacts.{field_goes_on, count_goes_on, field_is_re
 use Rattle.bufr_data.proofs.read.read_field.Goals as goal
 
 pub returns-in-Err-clause-err : goal.returns-in-Err-clause-err
-returns-in-Err-clause-err c = stop_is_read _ _ c.args.i _ _ _ c.in-Err.ensures c.fault_of.ensures
+returns-in-Err-clause-err c = stop_is_read _ _ c.args.i _ _ _ c.in-Err.ensures c.fault_of.ensures.fields
 
 pub returns-in_err-raw-in-Field-clause-err : goal.returns-in_err-raw-in-Field-clause-err
 returns-in_err-raw-in-Field-clause-err c =

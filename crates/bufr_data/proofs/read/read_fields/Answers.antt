@@ -1,5 +1,5 @@
 use Rattle.std.proofs.Common.{◌≡◌, ◌+◌, [], ◌∷◌, length, length-append, refl, ap, ◌∙◌, arith}
-use Rattle.bufr_data.proofs.CourseFacts.{course_steady}
+use Rattle.bufr_expand.specs.Steady.{course_steady}
 use Rattle.bufr_data.proofs.ReadFacts.{behind_none, fields_read}
 use Rattle.bufr_data.proofs.read.read_fields.Goals as goal
 

@@ -11,7 +11,8 @@ decreases-expand l = 2 * (l.sequences + l.replications) + 1
 -- what the nodes and the rest of the list come to stays the same
 abbrev pub invariant-expand-loop-first : goal.invariant-expand-loop-first
 invariant-expand-loop-first l =
-    expanded l.tables l.sequences l.replications l.fn.nodes.items l.fn.list ≡ expanded l.tables l.sequences l.replications l.nodes.items l.rest
+    expanded l.tables l.sequences l.replications l.fn.nodes.items l.fn.list
+    ≡ expanded l.tables l.sequences l.replications l.nodes.items l.rest
 
 abbrev pub decreases-expand-loop-first : goal.decreases-expand-loop-first
 decreases-expand-loop-first l = length l.rest

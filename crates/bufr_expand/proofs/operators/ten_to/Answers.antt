@@ -1,10 +1,11 @@
 use Rattle.std.proofs.Common.{rules, ◌≡◌, ◌≤◌, ◌<◌, ◌^◌, ◌∙◌, ap, pos, arith, w64}
 use Rattle.std.proofs.lemmas.Int.{to_z_pos}
-use Rattle.bufr_expand.proofs.Limits.{ten_power_below}
+use Rattle.bufr_expand.proofs.Powers.{ten_power_below}
 use Rattle.bufr_expand.proofs.operators.ten_to.Goals as goal
 
 pub pow-requires : goal.pow-requires
-pow-requires c = let below : c.from.result ≤ 18 = omega arith in let h = ten_power_below c.from.result below in omega arith
+pow-requires c = let below : c.from.result ≤ 18 = omega arith in
+    let h = ten_power_below c.from.result below in omega arith
 
 pub overflow_cast-result : goal.overflow_cast-result
 overflow_cast-result c = let h = ten_power_below c.args.power c.requires in search (rules, h)

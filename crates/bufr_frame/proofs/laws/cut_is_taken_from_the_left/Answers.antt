@@ -1,4 +1,4 @@
-use Rattle.bufr_frame.proofs.CutLaws.{cut_is, cut_only}
+use Rattle.bufr_frame.specs.CutLaws.{cut_is, cut_only}
 use Rattle.bufr_frame.proofs.laws.cut_is_taken_from_the_left.Goals as goal
 
 pub returns : goal.returns

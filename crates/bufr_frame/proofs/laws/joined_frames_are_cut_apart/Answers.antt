@@ -1,4 +1,4 @@
-use Rattle.bufr_frame.proofs.JoinedLaws.{cut-joined, cut-front, cut-followed}
+use Rattle.bufr_frame.specs.JoinedLaws.{cut-joined, cut-front, cut-followed}
 use Rattle.bufr_frame.proofs.laws.joined_frames_are_cut_apart.Goals as goal
 
 pub returns : goal.returns

@@ -1,4 +1,4 @@
-use Rattle.bufr_frame.proofs.StreamLaws.{sure-piece, cut-end, cut-piece}
+use Rattle.bufr_frame.specs.StreamLaws.{sure-piece, cut-end, cut-piece}
 use Rattle.bufr_frame.proofs.laws.sure_stays.Goals as goal
 
 pub returns : goal.returns

@@ -1,6 +1,17 @@
-use Rattle.std.proofs.Common.{arith}
-use Rattle.bufr_message.proofs.EncodingFacts.{whole_octets_are}
+use Rattle.std.proofs.Common.{◌≡◌, ℕ, List, Bool, arith, Err}
+use Rattle.bufr_bits.specs.Bits.{bits}
+use Rattle.bufr_sections.specs.AnswerLaws.{told_fault}
+use Rattle.bufr_message.specs.Lent.{whole}
+use Rattle.bufr_message.specs.Encodings.{filled}
+use Rattle.bufr_message.proofs.EncodingFacts.{whole_octets_are, enclosed_is}
 use Rattle.bufr_message.proofs.encoding.enclose.Goals as goal
 
-pub returns : goal.returns
-returns c data_bits same = let whole = whole_octets_are c.args.contents.now data_bits (λ i. omega (arith, c.type_inv.contents i)) same in rw whole c.enclose_octets.ensures
+pub returns-in-Ok : goal.returns-in-Ok
+returns-in-Ok c data_bits same =
+    let octets = whole_octets_are c.args.contents.now data_bits (λ i. omega (arith, c.type_inv.contents i)) same in
+    enclosed_is (whole c.args.message.now) c.args.contents.now data_bits _ octets c.in-Ok.ensures
+
+pub returns-in-Err-Fault : goal.returns-in-Err-Fault
+returns-in-Err-Fault c data_bits same =
+    let octets = whole_octets_are c.args.contents.now data_bits (λ i. omega (arith, c.type_inv.contents i)) same in
+    enclosed_is (whole c.args.message.now) c.args.contents.now data_bits (Err c.in-Err-Fault.fault) octets (told_fault _ _ _ c.in-Err-Fault.field-0-is c.in-Err-Fault.ensures)

@@ -1,8 +1,5 @@
 use Rattle.bufr_message.proofs.UnwrittenFacts.{fault_when_unwritten, unwritten_when_fault}
 use Rattle.bufr_message.proofs.laws.refusals_of_messages_are_the_first.Goals as goal
 
-pub returns-clause-given : goal.returns-clause-given
-returns-clause-given c = fault_when_unwritten
-
-pub returns-clause-answered : goal.returns-clause-answered
-returns-clause-answered c = unwritten_when_fault
+pub returns : goal.returns
+returns c = record { given = fault_when_unwritten c.laws_below.ensures; answered = unwritten_when_fault c.laws_below.ensures }

@@ -1,4 +1,4 @@
-use Rattle.bufr_tables.proofs.TextFacts.{of_text-only, of_text-six_digits}
+use Rattle.bufr_tables.specs.DescriptorLaws.{of_text-only, of_text-six_digits}
 use Rattle.bufr_tables.proofs.laws.descriptor_texts.Goals as goal
 
 pub returns : goal.returns

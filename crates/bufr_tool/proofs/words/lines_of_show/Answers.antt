@@ -1,24 +1,29 @@
 use Rattle.std.proofs.Common.{◌≡◌, true, codes, refl}
 use Rattle.clap.specs.Words.{takes}
 use Rattle.clap.proofs.OnLiterals.{clap_on_literals}
-use Rattle.bufr_tool.specs.CommandLines.{commands, show_words, value_of}
+use Rattle.bufr_tool.specs.CommandLines.{commands, line_words, task_of, value_of}
+use Rattle.bufr_tool.specs.declared.words.Task.TheVariants.{Show}
 use Rattle.bufr_tool.proofs.words.lines_of_show.Goals as goal
 
-is_taken : takes commands show_words ≡ true
+is_taken : takes commands (line_words (codes "show")) ≡ true
 unfolding clap_on_literals
 is_taken = refl
 
-has_b : value_of (codes "b") show_words ≡ codes "elements.csv"
+has_task : task_of (line_words (codes "show")) ≡ Show
+unfolding clap_on_literals
+has_task = refl
+
+has_b : value_of (codes "b") (line_words (codes "show")) ≡ codes "elements.csv"
 unfolding clap_on_literals
 has_b = refl
 
-has_d : value_of (codes "d") show_words ≡ codes "sequences.csv"
+has_d : value_of (codes "d") (line_words (codes "show")) ≡ codes "sequences.csv"
 unfolding clap_on_literals
 has_d = refl
 
-has_input : value_of (codes "FILE") show_words ≡ codes "bulletin"
+has_input : value_of (codes "input") (line_words (codes "show")) ≡ codes "bulletin"
 unfolding clap_on_literals
 has_input = refl
 
 pub returns : goal.returns
-returns c = record { taken = is_taken; b = has_b; d = has_d; input = has_input }
+returns c = record { taken = is_taken; task = has_task; b = has_b; d = has_d; input = has_input }

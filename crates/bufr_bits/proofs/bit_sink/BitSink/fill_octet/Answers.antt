@@ -1,7 +1,7 @@
 use Rattle.std.proofs.Common.{◌≡◌, ◌*◌, length, take, ap, ◌∙◌, arith}
 use Rattle.std.proofs.lemmas.List.{length-take-le}
 use Rattle.bufr_bits.specs.Bits.{bits}
-use Rattle.bufr_bits.proofs.BitLists.{length-bits}
+use Rattle.bufr_bits.specs.OctetLaws.{length-bits}
 use Rattle.bufr_bits.proofs.Puts.{filled_whole, fill_is}
 use Rattle.bufr_bits.proofs.bit_sink.BitSink.fill_octet.Goals as goal
 

@@ -1,7 +1,7 @@
 use Rattle.std.proofs.Common.{◌≡◌, ◌%◌, length, take, sym, ap, ◌∙◌, arith}
 use Rattle.std.proofs.lemmas.List.{length-take-le, take_all}
 use Rattle.bufr_bits.specs.Bits.{bits}
-use Rattle.bufr_bits.proofs.BitLists.{length-bits}
+use Rattle.bufr_bits.specs.OctetLaws.{length-bits}
 use Rattle.bufr_bits.proofs.bit_sink.BitSink.into_bytes.Goals as goal
 
 pub returns : goal.returns

@@ -1,7 +1,7 @@
 use Rattle.std.proofs.Common.{sym, arith}
 use Rattle.std.proofs.lemmas.List.{length-take-le}
 use Rattle.bufr_bits.specs.Bits.{bits}
-use Rattle.bufr_bits.proofs.BitLists.{length-bits}
+use Rattle.bufr_bits.specs.OctetLaws.{length-bits}
 use Rattle.bufr_bits.proofs.bit_sink.BitSink.len_bits.Goals as goal
 
 pub returns : goal.returns

@@ -1,4 +1,5 @@
-use Rattle.std.proofs.Common.{rules, refl, ◌≡◌, ◌*ℤ◌, ◌^◌, pos, true, FitsSigned, w32, w64, to_z, of_z}
+use Rattle.std.proofs.Common.{rules, refl, ◌≡◌, ◌*ℤ◌, ◌^◌, pos, true, FitsSigned, w32, w64, to_z}
+use Rattle.std.proofs.Common.{of_z}
 use Rattle.std.proofs.lemmas.Int.{to_z-of_z}
 use Rattle.bufr_expand.specs.Operating.{is_within}
 use Rattle.bufr_expand.proofs.operators.Operators.quantity.Goals as goal
@@ -11,8 +12,17 @@ returns c =
     let fit_new_scale : FitsSigned w32 c.scale-scale.result = search rules in
     let fit_new_reference : FitsSigned w64 c.in_ok-reference.reference = search rules in
     let fit_new_width : FitsSigned w64 c.width-width.result = search rules in
-    let raised : c.in_ok-reference.reference ≡ to_z w64 (of_z w64 c.args.element.now.reference) *ℤ pos (10 ^ c.increase.result) = c.in_ok-reference.ensures in
-    let reference = rw (to_z-of_z w64 c.args.element.now.reference fit_reference, c.increase.ensures) at raised in
+    let raised : c.in_ok-reference.reference
+    ≡ to_z w64 (of_z w64 c.args.element.now.reference) *ℤ pos (10 ^ c.increase.result) =
+    c.in_ok-reference.ensures in
+    let reference = rw (
+      to_z-of_z w64 c.args.element.now.reference fit_reference,
+      c.increase.ensures,
+    ) at raised in
     let scale = rw (to_z-of_z w32 c.args.element.now.scale fit_scale) at c.scale-scale.ensures in
-    let spec = rw (to_z-of_z w32 c.scale-scale.result fit_new_scale, to_z-of_z w64 c.in_ok-reference.reference fit_new_reference, to_z-of_z w64 c.width-width.result fit_new_width) at c.number_spec.ensures in
+    let spec = rw (
+      to_z-of_z w32 c.scale-scale.result fit_new_scale,
+      to_z-of_z w64 c.in_ok-reference.reference fit_new_reference,
+      to_z-of_z w64 c.width-width.result fit_new_width,
+    ) at c.number_spec.ensures in
     rw (inside, spec, scale, reference, c.width-width.ensures) refl

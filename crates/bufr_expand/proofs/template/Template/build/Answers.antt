@@ -3,4 +3,5 @@ use Rattle.bufr_expand.proofs.template.Template.build.Goals as goal
 
 pub invariant_of-result : goal.invariant_of-result
 invariant_of-result c =
-    built-well_formed c.args.tables.now c.args.list.now c.new-nodes.result.items c.expand.new.nodes.items c.new-nodes.ensures.items c.in_ok-expand.ensures
+    built-well_formed c.args.tables.now c.args.list.now c.new-nodes.result.items
+    c.expand.new.nodes.items c.new-nodes.ensures.items c.in_ok-expand.ensures

@@ -9,5 +9,14 @@ pub returns : goal.returns
 unfolding left waits items_met
 returns c =
     let w = c.args.self.now in
-    let k : same_kind c.args.spec.kind kinds.Count ≡ true = ap (λ v. same_kind v kinds.Count) c.requires.counts in
-    rw k (refl, ap (λ t. asks (w.items + 1) c.args.fxy c.args.spec (λ n. turns_then w.nodes.now n (w.place + 1) t w.stop (behind_all w.nodes.now w.loops.items) w.operators (w.items + 1))) c.body_end-self.ensures, refl, refl)
+    let k : same_kind c.args.spec.kind kinds.Count ≡ true =
+    ap (λ v. same_kind v kinds.Count) c.requires.counts in
+    rw k (
+      refl,
+      ap (λ t. asks (w.items + 1) c.args.fxy c.args.spec
+          (λ n. turns_then w.nodes.now n (w.place + 1) t w.stop
+          (behind_all w.nodes.now w.loops.items) w.operators (w.items + 1)))
+          c.body_end-self.ensures,
+      refl,
+      refl,
+    )

@@ -25,7 +25,8 @@ invariant_of-result c =
 pub returns-clause-course : goal.returns-clause-course
 unfolding left
 returns-clause-course c =
-    at_front c.args.nodes.now c.in_ok-loops.loops.items c.none.result c.args.used c.in_ok-loops.ensures.items c.none.ensures
+    at_front c.args.nodes.now c.in_ok-loops.loops.items c.none.result c.args.used
+    c.in_ok-loops.ensures.items c.none.ensures
 
 pub returns-clause-answered : goal.returns-clause-answered
 unfolding waits

@@ -8,6 +8,7 @@ use Rattle.bufr_expand.proofs.walk.Walk.start.Goals as goal
 
 pub returns-clause-course : goal.returns-clause-course
 returns-clause-course c =
-    let e : tree_of c.as_slice.result.now ≡ c.args.template.now = ap tree_of c.as_slice.ensures ∙ tree_of-nodes_of c.args.template.now in
+    let e : tree_of c.as_slice.result.now ≡ c.args.template.now = ap tree_of c.as_slice.ensures
+    ∙ tree_of-nodes_of c.args.template.now in
     let P : Tree → Type 0 = λ t. IfOk c.over.result (λ w. left w ≡ course t c.args.used) in
     subst P e c.over.ensures.course

@@ -1,5 +1,5 @@
 use Rattle.std.proofs.Common.{◌≡◌, ◌-◌, ◌++◌, length, drop, ap, arith, length-append, length-drop}
-use Rattle.bufr_frame.proofs.StreamLaws.{rest_from-length}
+use Rattle.bufr_frame.specs.StreamLaws.{rest_from-length}
 use Rattle.bufr_frame.proofs.FramerLaws.{feed_found, feed_next}
 use Rattle.bufr_frame.proofs.framers.Framer.feed.Goals as goal
 

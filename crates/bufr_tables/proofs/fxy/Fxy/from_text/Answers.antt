@@ -1,5 +1,5 @@
 use Rattle.std.proofs.Common.{◌∙◌, sym}
-use Rattle.bufr_tables.proofs.TextFacts.{of_text-length, of_text-other, six_by_place}
+use Rattle.bufr_tables.specs.DescriptorLaws.{of_text-length, of_text-other, six_by_place}
 use Rattle.bufr_tables.proofs.fxy.Fxy.from_text.Goals as goal
 use Rattle.bufr_tables.proofs.fxy.Fxy.from_text.Goals.{then-text-ne6-via-then-text-ne6, then-text-ne6-via-else-text-ne6+then-not-are_digits}
 

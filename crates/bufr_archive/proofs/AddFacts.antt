@@ -1,0 +1,118 @@
+-- Reports added one after the other, for the contracts of `Archive::add_all` and `add_one`.
+use Rattle.std.proofs.Common.{◌≡◌, ℕ, zero, suc, ◌+◌, ◌<◌, ◌≤◌, Bool, true, false, cond, Option, Some, None, List, [], ◌∷◌, ◌++◌, length, take, get_or, refl, sym, ap, ◌∙◌, arith, append_assoc}
+use Rattle.std.proofs.lemmas.List.{append-nil}
+use Rattle.std.proofs.lemmas.Grind.{flat_map-append}
+use Rattle.std.specs.Prelude.{option_to_list}
+use mir.Val.{bool_byte}
+use Rattle.bufr_shelves.specs.declared.entry.Entry.{Entry}
+use Rattle.bufr_shelves.specs.Entries.{kept, changes}
+use Rattle.bufr_shelves.specs.Orders.{kept-early, kept-kept}
+use Rattle.bufr_shelves.specs.ChangeLaws.{changes-kept}
+use Rattle.bufr_archive.specs.Archives.{ArchiveView, taken_in, entries_of, count_changes}
+
+-- the entry of each report
+abbrev Reports : Type 0
+Reports = List (Option Entry)
+
+-- the first so many reports were added
+pub record SoFar (old new : ArchiveView) (reports : Reports) (i changed : ℕ) : Type 0 where
+  pub archive : new ≡ taken_in old (take i reports)
+  pub changed_is : changed ≡ count_changes old.entries (entries_of (take i reports))
+  pub few : changed ≤ i
+
+-- at first none
+pub none_yet : (archive : ArchiveView) (reports : Reports) → kept archive.entries ≡ archive.entries
+    → SoFar archive archive reports 0 0
+none_yet archive reports order = record {
+  archive = ap (λ es. record archive { entries = es })
+      (sym order ∙ ap kept (sym (append-nil archive.entries)));
+  changed_is = refl;
+  few = omega arith;
+}
+
+-- entries change what is kept of others as they change these
+count_same : (old others es : List Entry) → kept old ≡ kept others
+    → count_changes old es ≡ count_changes others es
+count_same old others [] h = refl
+count_same old others (e ∷ es) h =
+    let tells : changes old e ≡ changes others e =
+    sym (changes-kept old e) ∙ ap (λ ks. changes ks e) h ∙ changes-kept others e in
+    let more : kept (old ++ e ∷ []) ≡ kept (others ++ e ∷ []) =
+    sym (kept-early old (e ∷ [])) ∙ ap (λ (ks : List Entry). kept (ks ++ e ∷ [])) h
+    ∙ kept-early others (e ∷ []) in
+    ap (λ b. cond b 1 0 + count_changes (old ++ e ∷ []) es) tells
+    ∙ ap (λ n. cond (changes others e) 1 0 + n)
+    (count_same (old ++ e ∷ []) (others ++ e ∷ []) es more)
+
+-- so they do of what is kept
+count_kept : (old es : List Entry) → count_changes (kept old) es ≡ count_changes old es
+count_kept old es = count_same (kept old) old es (kept-kept old)
+
+-- the changes of two lists of entries are those of the first and then of the second
+count_more : (old es fs : List Entry)
+    → count_changes old (es ++ fs) ≡ count_changes old es + count_changes (old ++ es) fs
+count_more old [] fs =
+    ap (λ (os : List Entry). count_changes os fs) (sym (append-nil old))
+    ∙ (let z : count_changes (old ++ []) fs ≡ 0 + count_changes (old ++ []) fs = omega arith in z)
+count_more old (e ∷ es) fs =
+    let rest = count_more (old ++ e ∷ []) es fs
+    ∙ ap (λ (os : List Entry). count_changes (old ++ e ∷ []) es + count_changes os fs)
+    (append_assoc old (e ∷ []) es) in
+    omega (arith, rest)
+
+-- a front with one report more
+take_more : (rs : Reports) (i : ℕ) → i < length rs → take (i + 1) rs
+    ≡ take i rs ++ get_or rs i None ∷ []
+take_more [] i h = absurd (omega arith)
+take_more (r ∷ rs) zero h = refl
+take_more (r ∷ rs) (suc i) h =
+    ap (λ n. take n (r ∷ rs)) (let e : suc i + 1 ≡ suc (i + 1) = omega arith in e)
+    ∙ ap (λ xs. r ∷ xs) (take_more rs i (omega arith))
+
+-- and its entries
+entries_more : (rs : Reports) (i : ℕ) → i < length rs
+    → entries_of (take (i + 1) rs) ≡ entries_of (take i rs) ++ entries_of (get_or rs i None ∷ [])
+entries_more rs i h =
+    ap entries_of (take_more rs i h)
+    ∙ flat_map-append option_to_list (take i rs) (get_or rs i None ∷ [])
+
+-- a truth value as a number
+byte_is : (b : Bool) → bool_byte b ≡ cond b 1 0
+byte_is true = refl
+byte_is false = refl
+
+-- which is 1 at most
+byte_small : (b : Bool) → bool_byte b ≤ 1
+byte_small true = omega arith
+byte_small false = omega arith
+
+-- one report more was added
+pub one_more : (old new next : ArchiveView) (rs : Reports) (i changed : ℕ) (b : Bool)
+    → i < length rs → SoFar old new rs i changed → next ≡ taken_in new (get_or rs i None ∷ [])
+    → cond b 1 0 ≡ count_changes new.entries (entries_of (get_or rs i None ∷ []))
+    → SoFar old next rs (i + 1) (changed + bool_byte b)
+one_more old new next rs i changed b h s is count =
+    let one = entries_of (get_or rs i None ∷ []) in
+    let before = entries_of (take i rs) in
+    let added = entries_more rs i h in
+    let held : new.entries ≡ kept (old.entries ++ before) =
+    ap (λ (a : ArchiveView). a.entries) s.archive in
+    let counted : bool_byte b ≡ count_changes (old.entries ++ before) one =
+    byte_is b ∙ count ∙ ap (λ ks. count_changes ks one) held
+    ∙ count_kept (old.entries ++ before) one in
+    let all : count_changes old.entries (entries_of (take (i + 1) rs))
+    ≡ count_changes old.entries before + count_changes (old.entries ++ before) one =
+    ap (count_changes old.entries) added ∙ count_more old.entries before one in
+    let changed_is = s.changed_is in
+    let few = s.few in
+    let small = byte_small b in
+    record {
+      archive = is
+          ∙ ap (λ (a : ArchiveView). record a { entries = kept (a.entries ++ one) }) s.archive
+          ∙ ap (λ es. record old { entries = es })
+          (kept-early (old.entries ++ before) one
+          ∙ ap kept (append_assoc old.entries before one
+          ∙ ap (λ (es : List Entry). old.entries ++ es) (sym added)));
+      changed_is = omega arith;
+      few = omega arith;
+    }

@@ -1,0 +1,105 @@
+-- An entry at the front of octets, for what reading a text answers.
+use Rattle.std.proofs.Common.{◌≡◌, ℕ, ◌*◌, ◌+◌, ◌^◌, ◌<◌, ◌≤◌, Bool, true, false, cond, List, [], ◌∷◌, ◌++◌, length, take, drop, get_or, Option, Some, None, refl, sym, ap, subst, ◌∙◌, arith, take-append-drop}
+use Rattle.std.specs.Prelude.{option_map}
+use Rattle.std.proofs.lemmas.List.{take_at, take_all}
+use Rattle.std.proofs.lemmas.List.Elements.{All-take}
+use Rattle.bufr_frame.specs.Starts.{announced}
+use Rattle.bufr_frame.specs.Cuts.{IsOneFrame}
+use Rattle.bufr_shelves.specs.declared.entry.Entry.{Entry}
+use Rattle.bufr_archive.specs.Texts.{AreOctets, ◌>>=◌, comes_after, front_of, right_entry}
+use Rattle.bufr_archive.specs.EntryLaws.{HasEntryLaws}
+
+-- ---- the octets that a total length announces
+
+-- what follows does not change the length announced
+announced_more : (b more : List ℕ) (l : ℕ) → announced b ≡ Some l → announced (b ++ more) ≡ Some l
+announced_more [] more l e = absurd cc
+announced_more (_ ∷ []) more l e = absurd cc
+announced_more (_ ∷ _ ∷ []) more l e = absurd cc
+announced_more (_ ∷ _ ∷ _ ∷ []) more l e = absurd cc
+announced_more (_ ∷ _ ∷ _ ∷ _ ∷ []) more l e = absurd cc
+announced_more (_ ∷ _ ∷ _ ∷ _ ∷ _ ∷ []) more l e = absurd cc
+announced_more (_ ∷ _ ∷ _ ∷ _ ∷ _ ∷ _ ∷ []) more l e = absurd cc
+announced_more (_ ∷ _ ∷ _ ∷ _ ∷ x ∷ y ∷ z ∷ rest) more l e = e
+
+-- a frame at the front is announced
+front_is : (octets more : List ℕ) → IsOneFrame octets → front_of (octets ++ more) ≡ Some octets
+front_is octets more f =
+    ap (option_map (λ l. take l (octets ++ more)))
+    (announced_more octets more (length octets) f.told)
+    ∙ ap Some (take_at octets more (length octets) refl)
+
+-- where fewer octets are there than announced, all are taken
+pub front_whole : (xs : List ℕ) → 7 ≤ length xs
+    → length xs < 65536 * get_or xs 4 0 + 256 * get_or xs 5 0 + get_or xs 6 0
+    → Some xs ≡ front_of xs
+front_whole [] long less = absurd (omega arith)
+front_whole (a ∷ []) long less = absurd (omega arith)
+front_whole (a ∷ b ∷ []) long less = absurd (omega arith)
+front_whole (a ∷ b ∷ c ∷ []) long less = absurd (omega arith)
+front_whole (a ∷ b ∷ c ∷ d ∷ []) long less = absurd (omega arith)
+front_whole (a ∷ b ∷ c ∷ d ∷ x ∷ []) long less = absurd (omega arith)
+front_whole (a ∷ b ∷ c ∷ d ∷ x ∷ y ∷ []) long less = absurd (omega arith)
+front_whole (a ∷ b ∷ c ∷ d ∷ x ∷ y ∷ z ∷ rest) long less =
+    ap Some (sym (take_all (65536 * x + 256 * y + z) (a ∷ b ∷ c ∷ d ∷ x ∷ y ∷ z ∷ rest)
+    (omega arith)))
+
+-- ---- steps of a chain
+
+-- what a chain answers follows from what its first step does
+bind_some : {A B : Type 0} (x : Option A) (f : A → Option B) (y : B) → (x >>= f) ≡ Some y
+    → (a : A) × (x ≡ Some a) × (f a ≡ Some y)
+bind_some (Some a) f y e = (a, refl, e)
+bind_some None f y e = absurd cc
+
+-- a value that is mapped
+mapped_some : {A B : Type 0} (f : A → B) (x : Option A) (y : B) → option_map f x ≡ Some y
+    → (a : A) × (y ≡ f a)
+mapped_some f (Some a) y e = (a, cc)
+mapped_some f None y e = absurd cc
+
+-- a value that is given where a test is true
+tested_some : {A : Type 0} (b : Bool) (x y : A) → cond b (Some x) None ≡ Some y
+    → (b ≡ true) × (x ≡ y)
+tested_some true x y e = (refl, cc)
+tested_some false x y e = absurd cc
+
+-- ---- right entries
+
+module _ (is_entry : Entry → Type 0) (entry_in : List ℕ → Option Entry)
+    (laws : HasEntryLaws is_entry entry_in) where
+  -- an entry after the one before it is right, whatever follows it
+  pub right_is : (before : Option Entry) (e : Entry) (more : List ℕ) → is_entry e
+      → comes_after before e ≡ true → right_entry entry_in before (e.bytes ++ more) ≡ Some e
+  right_is before e more is after =
+      let front = front_is e.bytes more (laws.frame e is) in
+      let found : entry_in e.bytes ≡ Some e = laws.found e is in
+      rw (front, found, after) refl
+
+  -- octets begin with an entry that comes after the one before it
+  pub record Takes (before : Option Entry) (octets : List ℕ) (e : Entry) : Type 0 where
+    pub entry : is_entry e
+    pub after : comes_after before e ≡ true
+    pub more : List ℕ
+    pub is : octets ≡ e.bytes ++ more
+
+  -- what is right is such an entry
+  pub right_takes : (before : Option Entry) (octets : List ℕ) (e : Entry) → AreOctets octets
+      → right_entry entry_in before octets ≡ Some e → Takes before octets e
+  right_takes before octets e all found =
+      let f = bind_some (front_of octets) _ e found in
+      let l = mapped_some (λ l. take l octets) (announced octets) f.0 f.1 in
+      let g = bind_some (entry_in f.0) _ e f.2 in
+      let t = tested_some (comes_after before g.0) g.0 e g.2 in
+      let front : AreOctets f.0 =
+      subst AreOctets (sym l.1) (All-take (λ x. x < 2 ^ 8) l.0 octets all) in
+      let own = laws.own f.0 g.0 front g.1 in
+      let parts : octets ≡ g.0.bytes ++ drop l.0 octets =
+      sym (take-append-drop l.0 octets)
+      ∙ ap (λ (b : List ℕ). b ++ drop l.0 octets) (sym (own ∙ l.1)) in
+      subst (Takes before octets) t.1 (record {
+        entry = laws.is f.0 g.0 front g.1;
+        after = t.0;
+        more = drop l.0 octets;
+        is = parts;
+      })

@@ -1,0 +1,89 @@
+-- Entries' octets as frames, for the law that texts are cut apart.
+use Rattle.std.proofs.Common.{◌≡◌, ℕ, zero, suc, ◌+◌, ◌≤◌, Option, Some, List, [], ◌∷◌, ◌++◌, length, take, refl, sym, ap, subst, ◌∙◌}
+use Rattle.std.specs.Prelude.{map}
+use Rattle.std.specs.List.{AllByRecursion, flat_map}
+use Rattle.bufr_frame.specs.Streams.{cut}
+use Rattle.bufr_frame.specs.Cuts.{IsOneFrame, frames_at}
+use Rattle.bufr_shelves.specs.declared.entry.Entry.{Entry}
+use Rattle.bufr_shelves.specs.Entries.{kept}
+use Rattle.bufr_shelves.specs.Orders.{kept-kept}
+use Rattle.bufr_archive.specs.Archives.{entries_of}
+use Rattle.bufr_archive.specs.Texts.{text}
+use Rattle.bufr_archive.specs.TextLaws.{AreFrames, FramesOfTexts, FramesOfFronts, TellOwn, TextsTell}
+use Rattle.bufr_archive.proofs.TextFacts.{kept_each}
+
+-- what bufr_frame says of frames that are joined, and of fronts of these
+abbrev Joined : Type 0
+Joined = (frames : List (List ℕ)) → AllByRecursion IsOneFrame frames
+    → cut (flat_map (λ octets. octets) frames) ≡ frames_at 0 frames
+
+-- and of fronts of these
+abbrev Fronts : Type 0
+Fronts = (frames : List (List ℕ)) (k n : ℕ) → AllByRecursion IsOneFrame frames → k ≤ length frames
+    → length (flat_map (λ octets. octets) (take k frames)) ≤ n
+    → take k (cut (take n (flat_map (λ octets. octets) frames))) ≡ frames_at 0 (take k frames)
+
+-- the octets of each entry
+abbrev octets_of : List Entry → List (List ℕ)
+octets_of es = map (λ e. e.bytes) es
+
+-- joined they are the text
+flat_bytes : (es : List Entry) → flat_map (λ b. b) (octets_of es) ≡ text es
+flat_bytes [] = refl
+flat_bytes (e ∷ es) = ap (λ (m : List ℕ). e.bytes ++ m) (flat_bytes es)
+
+-- each is one frame
+all_frames : (es : List Entry) → AreFrames es → AllByRecursion IsOneFrame (octets_of es)
+all_frames [] a = tt
+all_frames (e ∷ es) a = (a.0, all_frames es a.1)
+
+-- so is each that is kept
+kept_frames : (es : List Entry) → AreFrames es → AllByRecursion IsOneFrame (octets_of (kept es))
+kept_frames es a = all_frames (kept es) (kept_each (λ e. IsOneFrame e.bytes) es a)
+
+-- the octets of the first entries are the first octets
+map_take : (k : ℕ) (es : List Entry) → take k (octets_of es) ≡ octets_of (take k es)
+map_take zero es = refl
+map_take (suc k) [] = refl
+map_take (suc k) (e ∷ es) = ap (λ (m : List (List ℕ)). e.bytes ∷ m) (map_take k es)
+
+-- there are as many
+length_map : (es : List Entry) → length (octets_of es) ≡ length es
+length_map [] = refl
+length_map (e ∷ es) = ap suc (length_map es)
+
+-- the frames of a text
+pub frames_of_texts : Joined → FramesOfTexts
+frames_of_texts joined es a =
+    ap cut (sym (flat_bytes (kept es))) ∙ joined (octets_of (kept es)) (kept_frames es a)
+
+-- the first of them
+pub frames_of_fronts : Fronts → FramesOfFronts
+frames_of_fronts fronts es k n a few room =
+    let ks = kept es in
+    let bs = octets_of ks in
+    let whole : flat_map (λ b. b) (take k bs) ≡ text (take k ks) =
+    ap (flat_map (λ b. b)) (map_take k ks) ∙ flat_bytes (take k ks) in
+    ap (λ (s : List ℕ). take k (cut (take n s))) (sym (flat_bytes ks))
+    ∙ fronts bs k n (kept_frames es a) (subst (λ m. k ≤ m) (sym (length_map ks)) few)
+    (subst (λ (s : List ℕ). length s ≤ n) (sym whole) room)
+    ∙ ap (frames_at 0) (map_take k ks)
+
+-- the frames of entries tell these
+told_of_frames : (reports_in : List ℕ → List (Option Entry)) (place : ℕ) (es : List Entry)
+    → TellOwn reports_in es
+    → entries_of (flat_map (λ f. reports_in f.bytes) (frames_at place (octets_of es))) ≡ es
+told_of_frames reports_in place [] own = refl
+told_of_frames reports_in place (e ∷ es) own =
+    let frames = frames_at (place + length e.bytes) (octets_of es) in
+    let more = flat_map (λ f. reports_in f.bytes) frames in
+    ap (λ (rs : List (Option Entry)). entries_of (rs ++ more)) own.0
+    ∙ ap (λ (xs : List Entry). e ∷ xs) (told_of_frames reports_in (place + length e.bytes) es own.1)
+
+-- so a text tells what is kept
+pub texts_tell : Joined → TextsTell
+texts_tell joined reports_in es frames own =
+    let each = kept_each (λ e. reports_in e.bytes ≡ Some e ∷ []) es own in
+    ap (λ fs. kept (entries_of (flat_map (λ f. reports_in f.bytes) fs)))
+    (frames_of_texts joined es frames)
+    ∙ ap kept (told_of_frames reports_in 0 (kept es) each) ∙ kept-kept es

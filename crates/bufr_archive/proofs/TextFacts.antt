@@ -1,0 +1,183 @@
+-- Archive texts: what is kept of entries is a run, a run's text is read, and what is refused breaks
+-- where judging stops. For the clauses of `read_shelf`.
+use Rattle.std.proofs.Common.{◌≡◌, ℕ, ◌+◌, ◌<◌, ◌≤◌, ◌^◌, true, List, [], ◌∷◌, ◌++◌, length, take, drop, Option, Some, None, Result, Ok, Err, refl, sym, ap, subst, ◌∙◌, inl, inr, arith, length-append, take-append-drop}
+use Rattle.std.specs.Ordering.{is_lt}
+use Rattle.std.specs.declared.cmp.Ordering.{Ordering}
+use Rattle.std.specs.declared.cmp.Ordering.TheVariants.{Less, Equal, Greater}
+use Rattle.std.specs.List.{AllByRecursion}
+use Rattle.std.specs.List.Sorted.{IsStrictlySortedBy}
+use Rattle.std.proofs.lemmas.List.{append-nil, take_at, length-take-le}
+use Rattle.std.proofs.lemmas.List.Elements.{recursion_from_All, All-drop}
+use Rattle.bufr_tables.specs.Answers.{result_map}
+use Rattle.bufr_shelves.specs.declared.entry.Entry.{Entry}
+use Rattle.bufr_shelves.specs.Entries.{slot_cmp, kept}
+use Rattle.bufr_shelves.specs.Keeping.{Has}
+use Rattle.bufr_shelves.specs.Orders.{slots_total, kept-are, kept-sorted}
+use Rattle.bufr_archive.specs.Texts.{AreOctets, text, IsText, BreaksAt, comes_after, judged, entries_read}
+use Rattle.bufr_archive.specs.EntryLaws.{HasEntryLaws}
+use Rattle.bufr_archive.specs.TextLaws.{TextsAreRead, ReadAreTexts, RefusedBreakThere}
+use Rattle.bufr_archive.proofs.JudgeFacts.{last_of}
+use Rattle.bufr_archive.proofs.JudgeFacts as judging
+
+-- what holds of all holds of each
+has_each : (P : Entry → Type 0) (es : List Entry) (e : Entry) → AllByRecursion P es → Has es e → P e
+has_each P [] e a h = absurd h
+has_each P (f ∷ es) e a (inl q) = subst P (sym q) a.0
+has_each P (f ∷ es) e a (inr h) = has_each P es e a.1 h
+
+-- and back
+each_has : (P : Entry → Type 0) (es : List Entry) → ((e : Entry) → Has es e → P e)
+    → AllByRecursion P es
+each_has P [] h = tt
+each_has P (e ∷ es) h = (h e (inl refl), each_has P es (λ f m. h f (inr m)))
+
+-- what holds of all entries holds of those that are kept
+pub kept_each : (P : Entry → Type 0) (es : List Entry) → AllByRecursion P es
+    → AllByRecursion P (kept es)
+kept_each P es a =
+    each_has P (kept es) (λ e m. has_each P es e a ((kept-are es).only_best e m).member)
+
+-- the order that the test is true of
+lt_is : (o : Ordering) → is_lt o ≡ true → o ≡ Less
+lt_is Less h = refl
+lt_is Equal h = absurd cc
+lt_is Greater h = absurd cc
+
+-- what is greater comes after
+all_after : (e : Entry) (es : List Entry) → AllByRecursion (λ y. slot_cmp e y ≡ Less) es
+    → AllByRecursion (λ y. comes_after (Some e) y ≡ true) es
+all_after e [] a = tt
+all_after e (f ∷ fs) a = (ap is_lt a.0, all_after e fs a.1)
+
+-- all comes after none
+after_none : (es : List Entry) → AllByRecursion (λ y. comes_after None y ≡ true) es
+after_none [] = tt
+after_none (e ∷ es) = (refl, after_none es)
+
+-- what comes before one comes before all that follow
+below_all : (e f : Entry) (es : List Entry) → slot_cmp e f ≡ Less
+    → AllByRecursion (λ y. slot_cmp f y ≡ Less) es → AllByRecursion (λ y. slot_cmp e y ≡ Less) es
+below_all e f [] h a = tt
+below_all e f (y ∷ ys) h a = (slots_total.trans e f y h a.0, below_all e f ys h a.1)
+
+-- a refusal behind entries
+failed_after : (es : List Entry) (x : Result (List Entry) ℕ) (p : ℕ)
+    → result_map (λ fs. es ++ fs) x ≡ Err p → x ≡ Err p
+failed_after es (Ok fs) p h = absurd cc
+failed_after es (Err q) p h = ap Err cc
+
+module _ (is_entry : Entry → Type 0) (entry_in : List ℕ → Option Entry)
+    (laws : HasEntryLaws is_entry entry_in) where
+  -- entries, each after the one before
+  abbrev IsRun : Option Entry → List Entry → Type 0
+  IsRun before es = judging.IsRun is_entry entry_in laws before es
+
+  -- ---- runs are in order
+
+  -- entries in order are a run
+  run_of_sorted : (before : Option Entry) (es : List Entry) → IsStrictlySortedBy slot_cmp es
+      → AllByRecursion is_entry es → AllByRecursion (λ y. comes_after before y ≡ true) es
+      → IsRun before es
+  unfolding IsStrictlySortedBy
+  run_of_sorted before [] s each after = tt
+  run_of_sorted before (e ∷ es) s each after =
+      (each.0, after.0, run_of_sorted (Some e) es s.1 each.1 (all_after e es s.0))
+
+  -- all of a run comes after the one before it
+  run_below : (e : Entry) (es : List Entry) → IsRun (Some e) es
+      → AllByRecursion (λ y. slot_cmp e y ≡ Less) es
+  run_below e [] run = tt
+  run_below e (f ∷ fs) run =
+      let less = lt_is (slot_cmp e f) run.1 in
+      (less, below_all e f fs less (run_below f fs run.2))
+
+  -- a run is in order of slots
+  pub run_sorted : (before : Option Entry) (es : List Entry) → IsRun before es
+      → IsStrictlySortedBy slot_cmp es
+  unfolding IsStrictlySortedBy
+  run_sorted before [] run = tt
+  run_sorted before (e ∷ es) run = (run_below e es run.2, run_sorted (Some e) es run.2)
+
+  -- each of a run is an entry
+  run_each : (before : Option Entry) (es : List Entry) → IsRun before es
+      → AllByRecursion is_entry es
+  run_each before [] run = tt
+  run_each before (e ∷ es) run = (run.0, run_each (Some e) es run.2)
+
+  -- so it is all kept
+  pub kept_of_run : (before : Option Entry) (es : List Entry) → IsRun before es → kept es ≡ es
+  kept_of_run before es run = kept-sorted es (run_sorted before es run)
+
+  -- what is kept of entries is a run
+  run_of_kept : (es : List Entry) → AllByRecursion is_entry es → IsRun None (kept es)
+  run_of_kept es a =
+      run_of_sorted None (kept es) (kept-are es).ordered (kept_each is_entry es a)
+      (after_none (kept es))
+
+  -- the text of a run is a text
+  text_of_run : (octets : List ℕ) (es : List Entry) → IsRun None es → octets ≡ text es
+      → IsText is_entry octets
+  text_of_run octets es run is = record {
+    entries = es;
+    each = run_each None es run;
+    says = is ∙ ap text (sym (kept_of_run None es run));
+  }
+
+  -- ---- what is read
+
+  -- the text of entries is read
+  pub texts_are_read : TextsAreRead is_entry entry_in
+  unfolding judged
+  texts_are_read es a =
+      let ks = kept es in
+      ap (judged entry_in None 0 0) (sym (append-nil (text ks)))
+      ∙ judging.judged_past is_entry entry_in laws None 0 ks [] (run_of_kept es a)
+      ∙ ap Ok (append-nil ks)
+
+  -- what is read is a text
+  pub read_are_texts : ReadAreTexts is_entry entry_in
+  read_are_texts octets es all ok =
+      let each = recursion_from_All (λ x. x < 2 ^ 8) octets all in
+      let t = judging.judged_takes is_entry entry_in laws None 0 0 octets es each ok in
+      (run_each None es t.0, t.1, kept_of_run None es t.0)
+
+  -- a text in front is passed before judging stops
+  stops_behind : (octets : List ℕ) (place n : ℕ) → AreOctets octets
+      → entries_read entry_in octets ≡ Err place → place < n → n ≤ length octets
+      → IsText is_entry (take n octets) → ⊥
+  stops_behind octets place n all err before within t =
+      let es = kept t.entries in
+      let run = run_of_kept t.entries t.each in
+      let parts : octets ≡ text es ++ drop n octets =
+      sym (take-append-drop n octets) ∙ ap (λ (f : List ℕ). f ++ drop n octets) t.says in
+      let past = judging.judged_past is_entry entry_in laws None 0 es (drop n octets) run in
+      let inner = failed_after es
+      (judged entry_in (last_of None es) (0 + length (text es)) 0 (drop n octets)) place
+      (sym past ∙ ap (judged entry_in None 0 0) (sym parts) ∙ err) in
+      let each = recursion_from_All (λ x. x < 2 ^ 8) (drop n octets)
+      (All-drop (λ x. x < 2 ^ 8) n octets all) in
+      let stop = judging.judged_stops is_entry entry_in laws (last_of None es)
+      (0 + length (text es)) 0 (drop n octets) place each inner in
+      let size : length (text es) ≡ n = ap length (sym t.says) ∙ length-take-le n octets within in
+      let there = stop.there in
+      absurd (omega arith)
+
+  -- what is refused breaks where judging stops
+  pub refused_break_there : RefusedBreakThere is_entry entry_in
+  refused_break_there octets place all err =
+      let each = recursion_from_All (λ x. x < 2 ^ 8) octets all in
+      let stop = judging.judged_stops is_entry entry_in laws None 0 0 octets place each err in
+      let there : place ≡ length (text stop.taken) =
+      stop.there
+      ∙ (let z : 0 + 0 + length (text stop.taken) ≡ length (text stop.taken) =
+      omega arith in z) in
+      let front : take place octets ≡ text stop.taken =
+      ap (take place) stop.is ∙ take_at (text stop.taken) stop.more place (sym there) in
+      let size : length octets ≡ length (text stop.taken) + length stop.more =
+      ap length stop.is ∙ length-append (text stop.taken) stop.more in
+      let some = stop.some in
+      record {
+        front = text_of_run (take place octets) stop.taken stop.run front;
+        proper = omega arith;
+        longest = λ n before within t. stops_behind octets place n all err before within t;
+      }

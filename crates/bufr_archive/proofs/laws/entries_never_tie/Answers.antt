@@ -1,5 +1,0 @@
-use Rattle.bufr_archive.specs.Orders.{exact_entries, slots_total, ranks_total}
-use Rattle.bufr_archive.proofs.laws.entries_never_tie.Goals as goal
-
-pub returns : goal.returns
-returns c = record { ties = exact_entries; orders = (slots_total, ranks_total) }

@@ -1,6 +1,0 @@
-use Rattle.bufr_archive.specs.Orders.{kept-are, kept-only}
-use Rattle.bufr_archive.proofs.ChangeLemmas.{kept-changed, kept-unchanged}
-use Rattle.bufr_archive.proofs.laws.kept_is_the_best.Goals as goal
-
-pub returns : goal.returns
-returns c = record { best = kept-are; only = kept-only; tells = λ es e. (kept-changed es e, kept-unchanged es e) }

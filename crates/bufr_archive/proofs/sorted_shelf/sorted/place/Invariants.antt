@@ -1,9 +1,0 @@
-use Rattle.std.proofs.Common.{◌-◌}
-use Rattle.bufr_archive.proofs.SortedLemmas.{Narrowed}
-use Rattle.bufr_archive.proofs.sorted_shelf.sorted.place.Given as goal
-
-abbrev pub invariant-loop-low : goal.invariant-loop-low
-invariant-loop-low g l = Narrowed (g.K.Ord.cmp l.key) l.pairs.items l.low l.high
-
-abbrev pub decreases-loop-low : goal.decreases-loop-low
-decreases-loop-low g l = l.high - l.low

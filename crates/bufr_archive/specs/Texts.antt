@@ -1,0 +1,88 @@
+-- The texts of archives, and how octets are judged from the left.
+--
+-- Which entries are those of reports, and which entry octets are, is the layer's below: `is_entry`
+-- and `entry_in` stand for it here.
+use Rattle.std.specs.Prelude.{◌≡◌, ℕ, zero, suc, ◌+◌, ◌-◌, ◌<◌, ◌≤◌, ◌^◌, Bool, true, if◌then◌else◌, All, List, [], ◌∷◌, length, take, Option, Some, None, option_map, Result, Ok, Err}
+use Rattle.std.specs.List.{flat_map, AllByRecursion}
+use Rattle.std.specs.Ordering.{is_lt}
+use Rattle.bufr_tables.specs.Answers.{result_map}
+use Rattle.bufr_frame.specs.Starts.{announced}
+use Rattle.bufr_frame.specs.Streams.{cut}
+use Rattle.bufr_shelves.specs.declared.entry.Entry.{Entry}
+use Rattle.bufr_shelves.specs.Entries.{slot_cmp, kept}
+
+-- each number is an octet
+abbrev pub AreOctets : List ℕ → Type 0
+AreOctets xs = All (λ x. x < 2 ^ 8) xs
+
+-- ---- texts
+
+-- the octets of entries, joined
+abbrev pub text : List Entry → List ℕ
+text es = flat_map (λ e. e.bytes) es
+
+-- octets are an archive's text where they are the joined octets of what is kept of some entries
+pub record IsText (is_entry : Entry → Type 0) (octets : List ℕ) : Type 0 where
+  pub entries : List Entry
+  pub each : AllByRecursion is_entry entries
+  pub says : octets ≡ text (kept entries)
+
+-- octets whose longest front that is a text has so many octets, and is a proper one
+pub record BreaksAt (is_entry : Entry → Type 0) (octets : List ℕ) (place : ℕ) : Type 0 where
+  pub front : IsText is_entry (take place octets)
+  pub proper : place < length octets
+  pub longest : (n : ℕ) → place < n → n ≤ length octets
+      → IsText is_entry (take n octets) → ⊥
+
+-- ---- what a stream tells
+
+-- the entries of the reports that a stream tells: those of the messages that its frames spell, in
+-- order; a frame that spells none has none
+abbrev pub told : (List ℕ → List (Option Entry)) → List ℕ → List (Option Entry)
+told reports_in stream = flat_map (λ f. reports_in f.bytes) (cut stream)
+
+-- ---- judging from the left
+
+-- what follows a value, where there is one
+infixl 10 ◌>>=◌
+abbrev pub ◌>>=◌ : {A B : Type 0} → Option A → (A → Option B) → Option B
+(Some x) >>= f = f x
+None >>= f = None
+
+-- an entry comes after the one before it, if there is one
+abbrev pub comes_after : Option Entry → Entry → Bool
+comes_after None e = true
+comes_after (Some f) e = is_lt (slot_cmp f e)
+
+-- the octets of the message that begins here, as its total length announces them (FM 94 BUFR,
+-- section 0, octets 5 to 7)
+abbrev pub front_of : List ℕ → Option (List ℕ)
+front_of octets = option_map (λ l. take l octets) (announced octets)
+
+-- the right entry that begins here, where there is one: the octets announced are an entry, which
+-- comes after the one before
+abbrev pub right_entry : (List ℕ → Option Entry) → Option Entry → List ℕ → Option Entry
+right_entry entry_in before octets = do
+  front ← front_of octets
+  e ← entry_in front
+  if comes_after before e then Some e else None
+
+-- an entry, and the entries behind it
+abbrev pub entry_then : Option Entry → ℕ → (Entry → Result (List Entry) ℕ)
+    → Result (List Entry) ℕ
+entry_then None place more = Err place
+entry_then (Some e) place more = result_map (λ es. e ∷ es) (more e)
+
+-- the entries of octets from a place on, of which so many still belong to the entry before, or the
+-- place of the first that is not right
+unfoldable pub judged : (List ℕ → Option Entry) → Option Entry → ℕ → ℕ → List ℕ
+    → Result (List Entry) ℕ
+judged entry_in before place skip [] = Ok []
+judged entry_in before place (suc skip) (x ∷ xs) = judged entry_in before (place + 1) skip xs
+judged entry_in before place zero (x ∷ xs) =
+    entry_then (right_entry entry_in before (x ∷ xs)) place
+    (λ e. judged entry_in (Some e) (place + 1) (length e.bytes - 1) xs)
+
+-- the entries of a text, or the place of the first that is not right
+abbrev pub entries_read : (List ℕ → Option Entry) → List ℕ → Result (List Entry) ℕ
+entries_read entry_in octets = judged entry_in None 0 0 octets

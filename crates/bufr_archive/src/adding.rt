@@ -1,0 +1,78 @@
+//! Reports added to an archive one after the other.
+ghost use Rattle.std.specs.Prelude.{◌≡◌, ◌<◌, ◌∷◌, [], if◌then◌else◌, get_or, length, List, Option, IfOk, OnOk, OnErr};
+ghost use Rattle.bufr_shelves.specs.declared.entry.Entry.{Entry as AnEntry};
+ghost use Rattle.bufr_archive.specs.Archives.{IsKept, Adds, taken_in, entries_of, count_changes};
+
+use crate::archive::Archive;
+use bufr_shelves::{Entry, OutOfMemory, Shelf};
+use std::alloc::Global;
+
+/// What a message brought: how many reports it has, and how many of them, added one by one, changed
+/// what is kept.
+#[derive(Clone, Copy, Debug, Drop, PartialEq, Eq)]
+pub struct Added {
+    pub reports: u128,
+    pub changed: u128,
+}
+
+/// Memory ran out when the first `done` reports were joined, and no others.
+#[derive(Clone, Copy, Debug, Drop, PartialEq, Eq)]
+pub struct RanOut {
+    pub done: u128,
+}
+
+/// The reports of a message, of which one is held at a time.
+pub trait ReportList {
+    /// The entry of each report; none of a report that has no canonical message.
+    ghost entries: { Self → List (Option AnEntry) };
+
+    /// How many reports there are.
+    fn count(&self) -> usize
+        ensures { result ≡ length (entries self.now) };
+
+    /// The entry of a report, counted from 0. It can only run out of memory.
+    fn entry(&self, alloc: Global, index: usize) -> Result<Option<Entry>, OutOfMemory>
+        requires { index < length (entries self.now) }
+        ensures { IfOk result (λ found. found ≡ get_or (entries self.now) index None) };
+}
+
+impl<'t, S: Shelf> Archive<'t, S> {
+    /// Adds reports one after the other. Where memory runs out, the first `done` are joined.
+    pub fn add_all<L: ReportList>(&mut self, alloc: Global, reports: &L) -> Result<Added, RanOut>
+        ensures { Adds self.old self.new (L.entries reports.now) result }
+    {
+        let _held = self.len();
+        let count = reports.count();
+        let mut changed: u128 = 0;
+        for index in 0..count {
+            let Ok(changes) = self.add_one(alloc, reports, index) else {
+                let done = index as u128;
+                return Err(RanOut { done });
+            };
+            changed += changes as u128;
+        }
+        let reports = count as u128;
+        Ok(Added { reports, changed })
+    }
+
+    /// Adds one report, and answers whether that changed what is kept.
+    fn add_one<L: ReportList>(
+        &mut self,
+        alloc: Global,
+        reports: &L,
+        index: usize,
+    ) -> Result<bool, OutOfMemory>
+        requires { index < length (L.entries reports.now) }
+        ensures ok { OnOk result
+            (self.new ≡ taken_in self.old (get_or (L.entries reports.now) index None ∷ [])) }
+        ensures changed { IfOk result (λ b. (if b then 1 else 0) ≡ count_changes self.old.entries
+            (entries_of (get_or (L.entries reports.now) index None ∷ []))) }
+        ensures err { OnErr result (self.new ≡ self.old) }
+    {
+        let _held = self.len();
+        match reports.entry(alloc, index)? {
+            Some(Entry { key, update, bytes }) => self.put(key, update, bytes),
+            None => Ok(false),
+        }
+    }
+}

@@ -1,0 +1,41 @@
+-- Writing one text after another, for `write_all` and for whoever writes a message in several
+-- texts: what a sink has taken is what it had, then the first text, then the next.
+use Rattle.std.proofs.Common.{◌≡◌, ℕ, List, [], ◌++◌, Option, Some, None, sym, ap, ◌∙◌, append_assoc}
+use Rattle.std.specs.Prelude.{IfSome}
+use Rattle.std.proofs.lemmas.List.{append-nil}
+use Rattle.bufr_bits.specs.Devices.{Writing, Kept, Writes}
+
+-- nothing was written yet
+pub Writes-nothing : (w : Writing) → Writes w w []
+Writes-nothing w = elim w.taken as (λ t. IfSome t (λ before. t ≡ Some (before ++ []))) [
+  | None ↦ tt
+  | Some before ↦ ap Some (sym (append-nil before))
+]
+
+-- the same of what was taken at three times
+after : (a b c : Option (List ℕ)) (xs ys : List ℕ)
+    → IfSome a (λ before. b ≡ Some (before ++ xs)) → IfSome b (λ before. c ≡ Some (before ++ ys))
+    → IfSome a (λ before. c ≡ Some (before ++ (xs ++ ys)))
+after None b c xs ys h k = tt
+after (Some all) None c xs ys h k = cc
+after (Some all) (Some more) c xs ys h k =
+    let e : more ≡ all ++ xs = cc in
+    k ∙ ap (λ zs. Some (zs ++ ys)) e ∙ ap Some (append_assoc all xs ys)
+
+-- what was taken and then kept
+still : (a b c : Option (List ℕ)) (xs : List ℕ)
+    → IfSome a (λ before. b ≡ Some (before ++ xs)) → IfSome b (λ octets. c ≡ Some octets)
+    → IfSome a (λ before. c ≡ Some (before ++ xs))
+still None b c xs h k = tt
+still (Some all) None c xs h k = cc
+still (Some all) (Some more) c xs h k = k ∙ h
+
+-- one text after another
+pub Writes-more : (first middle last : Writing) (xs ys : List ℕ)
+    → Writes first middle xs → Writes middle last ys → Writes first last (xs ++ ys)
+Writes-more first middle last xs ys = after first.taken middle.taken last.taken xs ys
+
+-- a sink that keeps what it has
+pub Writes-kept : (first middle last : Writing) (xs : List ℕ)
+    → Writes first middle xs → Kept middle.taken last.taken → Writes first last xs
+Writes-kept first middle last xs = still first.taken middle.taken last.taken xs

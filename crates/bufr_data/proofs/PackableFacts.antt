@@ -1,0 +1,56 @@
+-- Which compressed subsets a writer can write: for the law on what messages know of data
+-- (`data_hold_subsets`).
+use Rattle.std.proofs.Common.{◌≡◌, ℕ, zero, suc, ◌+◌, ◌*◌, ◌<◌, ◌≤◌, Bool, true, false, List, [], ◌∷◌, length, map, refl, sym, ap, subst, ◌∙◌, arith, ◌⊎◌, inl, inr}
+use Rattle.std.specs.List.{AllByRecursion}
+use Rattle.std.proofs.lemmas.List.{length-map}
+use Rattle.bufr_tables.specs.declared.element.Kind.{Kind}
+use Rattle.bufr_tables.specs.declared.element.Kind.TheVariants as kinds
+use Rattle.bufr_tables.specs.Elements.{same_kind}
+use Rattle.bufr_expand.specs.Trees.{Tree}
+use Rattle.bufr_data.specs.declared.field.Field.{Field}
+use Rattle.bufr_data.specs.declared.field.Subset.{Subset}
+use Rattle.bufr_data.specs.Columns.{Column, HaveOneCount, AreColumns, field_of, subsets_from}
+use Rattle.bufr_data.specs.BestColumns.{widest, can_be_column, CanBeWritten, CanBePacked, AreBestColumns, best_bits, HasNarrowFields}
+use Rattle.bufr_data.specs.ColumnCauses.{CanBeColumn, same, narrow}
+use Rattle.bufr_data.specs.Data.{IsBareDataOf, PackedDataCanBeBare, NarrowDataCanBePacked}
+use Rattle.bufr_data.proofs.MisfitFacts.{can_passes}
+use Rattle.bufr_data.proofs.ColumnWalks.{kind_is}
+
+head_is : (s t : Subset) (ss ts : List Subset) → s ∷ ss ≡ t ∷ ts → s ≡ t
+head_is s t ss ts e = cc
+
+-- columns of the same subsets are as many
+as_many : (s : Subset) (subsets : List Subset) (n m : ℕ) (a b : List Column) → s ∷ subsets ≡ subsets_from 0 (suc n) a → s ∷ subsets ≡ subsets_from 0 (suc m) b → length a ≡ length b
+as_many s subsets n m a b e f =
+    let fields : map (field_of 0) a ≡ map (field_of 0) b =
+    ap (λ (t : Subset). t.fields) (sym (head_is _ _ _ _ e) ∙ head_is _ _ _ _ f) in
+    sym (length-map a (field_of 0)) ∙ ap (λ (fs : List Field). length fs) fields ∙ length-map b (field_of 0)
+
+pub packed_can_be_bare : (tree : Tree) (subsets : List Subset) (columns : List Column) (data_bits : List Bool) → PackedDataCanBeBare tree subsets columns data_bits
+packed_can_be_bare tree [] columns data_bits h can = ([], (h.0, [], refl, refl))
+packed_can_be_bare tree (s ∷ subsets) columns data_bits h can =
+    let many : length h.1.0 ≡ length columns = as_many s subsets (length subsets) (length subsets) h.1.0 columns h.1.1 can.0 in
+    let room : length columns * length (s ∷ subsets) ≤ 67108864 = subst (λ k. k * length (s ∷ subsets) ≤ 67108864) many h.1.2 in
+    (best_bits columns, (h.0, columns, (can.0, room, can.1), refl))
+
+kind_decides : (k : Kind) (b : Bool) → same_kind k kinds.Count ≡ b → (k ≡ kinds.Count) ⊎ (k ≡ kinds.Count → ⊥)
+kind_decides k true e = inl (kind_is k e)
+kind_decides k false e = inr (λ is. let bad : same_kind k kinds.Count ≡ true = ap (λ x. same_kind x kinds.Count) is in absurd (let worse = sym bad ∙ e in cc))
+
+narrow_column : (c : Column) → HaveOneCount c → widest c.spec ≤ 63 → can_be_column c.spec c.values ≡ true
+narrow_column c one short =
+    elim (kind_decides c.spec.kind (same_kind c.spec.kind kinds.Count) refl) [
+      | inl is ↦ let v = one is in can_passes c.spec c.values (same v.0 v.1)
+      | inr other ↦ can_passes c.spec c.values (narrow other short)
+    ]
+
+narrow_columns : (n : ℕ) (columns : List Column) (front : List Bool) → AreColumns n columns front → AllByRecursion (λ f. widest f.spec ≤ 63) (map (field_of 0) columns) → AllByRecursion (CanBeWritten n) columns
+narrow_columns n [] front are short = tt
+narrow_columns n (c ∷ cs) front are short =
+    ((are.3, narrow_column c are.5 short.0), narrow_columns n cs are.1 are.6 short.1)
+
+pub narrow_can_be_packed : (tree : Tree) (subsets : List Subset) (data_bits : List Bool) → NarrowDataCanBePacked tree subsets data_bits
+narrow_can_be_packed tree [] data_bits h short = ([], (refl, tt))
+narrow_can_be_packed tree (s ∷ subsets) data_bits h short =
+    let fields : s.fields ≡ map (field_of 0) h.1.0 = ap (λ (t : Subset). t.fields) (head_is _ _ _ _ h.1.1) in
+    (h.1.0, (h.1.1, narrow_columns (length (s ∷ subsets)) h.1.0 data_bits h.1.3 (subst (λ fs. AllByRecursion (λ f. widest f.spec ≤ 63) fs) fields short.0)))

@@ -1,0 +1,266 @@
+-- The index keeps a place for each column that is read, one by one along the course: for the index of
+-- compressed data (`Columns::index`).
+use Rattle.std.proofs.Common.{◌≡◌, ℕ, zero, suc, ◌+◌, ◌*◌, ◌^◌, ◌<◌, ◌≤◌, Bool, true, false, cond, List, [], ◌∷◌, ◌++◌, length, map, drop, Option, Some, None, Result, Ok, Err, refl, sym, ap, subst, ◌∙◌, arith, append_assoc, append-nil, length-append}
+use Rattle.std.specs.Prelude.{◌&&◌, not, IsOk, nat_lt}
+use Rattle.std.specs.List.{AllByRecursion, flat_map}
+use Rattle.std.proofs.lemmas.List.{length-drop}
+use Rattle.bufr_bits.specs.Bits.{bin, bits}
+use Rattle.bufr_bits.specs.BitLaws.{length-bin}
+use Rattle.bufr_tables.specs.Answers.{◌>>=◌, Fails, result_map}
+use Rattle.bufr_tables.specs.declared.failure.Failure.{Failure}
+use Rattle.bufr_tables.specs.declared.failure.Failure.TheVariants.{Fault, OutOfMemory}
+use Rattle.bufr_tables.specs.declared.element.Kind.TheVariants as kinds
+use Rattle.bufr_tables.specs.Elements.{same_kind}
+use Rattle.bufr_expand.specs.declared.operators.Spec.{Spec}
+use Rattle.bufr_expand.specs.declared.walk.Step.TheVariants as steps
+use Rattle.bufr_expand.specs.declared.walk.Walk.{Walk}
+use Rattle.bufr_expand.specs.declared.walk.WalkFault.{WalkFault}
+use Rattle.bufr_expand.specs.Courses.{Course, ends, stops, asks, course}
+use Rattle.bufr_expand.specs.Trees.{Tree}
+use Rattle.bufr_expand.specs.Walks.{left, items_met, Goes, Counted, IsBelowCount}
+use Rattle.bufr_data.specs.declared.field.Raw.{Raw}
+use Rattle.bufr_data.specs.declared.field.Subset.{Subset}
+use Rattle.bufr_data.specs.declared.fault.ReadFault.{ReadFault}
+use Rattle.bufr_data.specs.declared.fault.ReadFault.TheVariants as faults
+use Rattle.bufr_data.specs.declared.columns.Place.{Place}
+use Rattle.bufr_data.specs.Plain.{raw_bits, stopped}
+use Rattle.bufr_expand.specs.Steady.{IsSteady}
+use Rattle.bufr_data.specs.Steady.{IsReady}
+use Rattle.bufr_data.specs.Columns.{Column, subset_of, subsets_from, IsColumn, equal, numbers as number_column, texts as text_column}
+use Rattle.bufr_data.specs.ColumnReading.{column_at, agreeing, count_of, all_equal, ColumnsFound, within_limit, column_then, columns_at}
+use Rattle.bufr_data.specs.Passing.{Passes, PassesFactor, agreed_at}
+use Rattle.bufr_data.specs.Indexed.{Ahead, index_at, values_of, read_at, column_from, Opens, AllOpen, behind_columns, PassesPlace}
+use Rattle.bufr_data.specs.Data.{subsets_in}
+use Rattle.bufr_data.proofs.PlainFacts.{bind_ok, length-bits}
+use Rattle.bufr_data.proofs.ReadFacts.{asks_field, asks_count, ends_there, stops_there, steady_step}
+use Rattle.bufr_data.proofs.ColumnFacts.{column_found, column_again}
+use Rattle.bufr_data.proofs.ColumnWalks.{agreed, ok_same}
+use Rattle.bufr_data.proofs.PackedFacts.{map_ok}
+
+-- ---- the column at a place
+
+open_place : (octets : List ℕ) (n i bit : ℕ) (d : ℕ) (spec : Spec) (front : List Bool) (x : List Raw × List Bool) → column_at n i spec front ≡ Ok x → front ≡ drop bit (bits octets) → column_at n 1 spec (drop bit (bits octets)) ≡ Ok x
+open_place octets n i bit d spec front x e is =
+    let found = column_found n i spec front x e in
+    ap (column_at n 1 spec) (sym is ∙ found.3) ∙ column_again n 1 spec x.0 found.0 x.1 found.1 found.2
+
+-- a column has six bits at least, so its place is inside the octets
+column_bits : (spec : Spec) (values : List Raw) (column : List Bool) → IsColumn spec values column → 6 ≤ length column
+column_bits spec values column (equal minimum form all is) =
+    let size = ap length is ∙ length-append (raw_bits spec.width minimum) (bin 6 0) in omega (arith, size, length-bin 6 0)
+column_bits spec values column (number_column minimum k xs form some few each is) =
+    let size = ap length is ∙ length-append (bin spec.width minimum ++ bin 6 k) (flat_map (bin k) xs) in
+    omega (arith, size, length-append (bin spec.width minimum) (bin 6 k), length-bin 6 k)
+column_bits spec values column (text_column ignored k own form some few short each is) =
+    let size = ap length is ∙ length-append (bits ignored ++ bin 6 k) (flat_map bits own) in
+    omega (arith, size, length-append (bits ignored) (bin 6 k), length-bin 6 k)
+
+place_inside : (octets : List ℕ) (n bit : ℕ) (spec : Spec) (x : List Raw × List Bool) → column_at n 1 spec (drop bit (bits octets)) ≡ Ok x → bit ≤ 8 * length octets
+place_inside octets n bit spec x e =
+    let found = column_found n 1 spec (drop bit (bits octets)) x e in
+    let size = ap length found.3 ∙ length-append found.0 x.1 in
+    omega (arith, size, column_bits spec x.0 found.0 found.2, length-drop bit (bits octets), length-bits octets)
+
+ok_is : {A F : Type 0} (r : Result A F) (x : A) → r ≡ Ok x → IsOk r
+ok_is (Ok y) x e = refl
+ok_is (Err f) x e = absurd cc
+
+-- ---- one step
+
+within_is : {A : Type 0} (n i : ℕ) (r : Result A ReadFault) → within_limit {A = Unit {0}} n i (Ok tt) ≡ Ok tt → within_limit n i r ≡ r
+within_is n i r e = within_by (nat_lt 67108864 (i * n)) r e
+  where
+    within_by : {A : Type 0} (b : Bool) (r : Result A ReadFault) → ◌≡◌ {A = Result (Unit {0}) ReadFault} (cond b (Err faults.TooLarge) (Ok tt)) (Ok tt) → cond b (Err faults.TooLarge) r ≡ r
+    within_by true r e = absurd cc
+    within_by false r e = refl
+
+past_is : {A : Type 0} (n i : ℕ) (r : Result A ReadFault) (fault : ReadFault) → within_limit {A = Unit {0}} n i (Ok tt) ≡ Err fault → within_limit n i r ≡ Err fault
+past_is n i r fault e = past_by (nat_lt 67108864 (i * n)) r fault e
+  where
+    past_by : {A : Type 0} (b : Bool) (r : Result A ReadFault) (fault : ReadFault) → ◌≡◌ {A = Result (Unit {0}) ReadFault} (cond b (Err faults.TooLarge) (Ok tt)) (Err fault) → cond b (Err faults.TooLarge) r ≡ Err fault
+    past_by true r fault e = let same : faults.TooLarge ≡ fault = cc in ap (λ f. Err f) same
+    past_by false r fault e = absurd cc
+
+asked_at : (n i met d : ℕ) (spec : Spec) (more : ℕ → Course) (front : List Bool) → columns_at n i (asks met d spec more) front ≡ within_limit n i (agreed_at n i spec front >>= column_then d spec (λ count rest. columns_at n (i + 1) (more count) rest))
+unfolding columns_at
+asked_at n i met d spec more front = refl
+
+pub stop_refused : (old new : Walk) (n i : ℕ) (front : List Bool) (why : WalkFault) (fault : ReadFault) → Goes (left old) (Err why) new → within_limit {A = ColumnsFound} n i (stopped why) ≡ Err fault → columns_at n i (left old) front ≡ Err fault
+unfolding columns_at
+stop_refused old new n i front why fault g e =
+    let s = stops_there (left old) why new g in ap (λ c. columns_at n i c front) s.1 ∙ e
+
+pub end_passes : (old new : Walk) (n i : ℕ) (octets : List ℕ) (front : List Bool) → Goes (left old) (Ok steps.End) new → PassesPlace n i (left old) octets front None (left new) front
+unfolding columns_at
+end_passes old new n i octets front g = (items_met new, ap (λ c. columns_at n i c front) (ends_there (left old) new g))
+
+pub field_past : (old new : Walk) (n i d : ℕ) (spec : Spec) (front : List Bool) (fault : ReadFault) → Goes (left old) (Ok (steps.Field d spec)) new → within_limit {A = Unit {0}} n i (Ok tt) ≡ Err fault → columns_at n i (left old) front ≡ Err fault
+field_past old new n i d spec front fault g e =
+    let a = asks_field (left old) d spec new g in
+    ap (λ c. columns_at n i c front) a.is ∙ asked_at n i a.met d spec a.more front ∙ past_is n i _ fault e
+
+pub count_past : (old new : Walk) (n i d : ℕ) (spec : Spec) (front : List Bool) (fault : ReadFault) → Goes (left old) (Ok (steps.Count d spec)) new → within_limit {A = Unit {0}} n i (Ok tt) ≡ Err fault → columns_at n i (left old) front ≡ Err fault
+count_past old new n i d spec front fault g e =
+    let a = asks_count (left old) d spec new g in
+    ap (λ c. columns_at n i c front) a.is ∙ asked_at n i a.met d spec a.more front ∙ past_is n i _ fault e
+
+none_agreed : (n i met d : ℕ) (spec : Spec) (more : ℕ → Course) (front : List Bool) (fault : ReadFault) → within_limit {A = Unit {0}} n i (Ok tt) ≡ Ok tt → agreed_at n i spec front ≡ Err fault → columns_at n i (asks met d spec more) front ≡ Err fault
+none_agreed n i met d spec more front fault room e =
+    asked_at n i met d spec more front ∙ within_is n i _ room ∙ ap (λ r. r >>= column_then d spec (λ count rest. columns_at n (i + 1) (more count) rest)) e
+
+pub field_refused : (old new : Walk) (n i d : ℕ) (spec : Spec) (front : List Bool) (fault : ReadFault) → Goes (left old) (Ok (steps.Field d spec)) new → within_limit {A = Unit {0}} n i (Ok tt) ≡ Ok tt → column_at n i spec front ≡ Err fault → columns_at n i (left old) front ≡ Err fault
+field_refused old new n i d spec front fault g room e =
+    let a = asks_field (left old) d spec new g in
+    ap (λ c. columns_at n i c front) a.is ∙ none_agreed n i a.met d spec a.more front fault room (ap (λ r. r >>= agreeing i spec) e)
+
+pub count_refused : (old new : Walk) (n i d : ℕ) (spec : Spec) (front : List Bool) (fault : ReadFault) → Goes (left old) (Ok (steps.Count d spec)) new → within_limit {A = Unit {0}} n i (Ok tt) ≡ Ok tt → agreed_at n i spec front ≡ Err fault → columns_at n i (left old) front ≡ Err fault
+count_refused old new n i d spec front fault g room e =
+    let a = asks_count (left old) d spec new g in
+    ap (λ c. columns_at n i c front) a.is ∙ none_agreed n i a.met d spec a.more front fault room e
+
+column_joined : (d : ℕ) (spec : Spec) (values : List Raw) (o : Result ColumnsFound ReadFault) → (o >>= λ others. Ok (record others { columns = record { fxy = d; spec = spec; values = values } ∷ others.columns })) ≡ behind_columns (record { fxy = d; spec = spec; values = values } ∷ []) o
+column_joined d spec values (Ok found) = refl
+column_joined d spec values (Err e) = refl
+
+-- the column that agrees, and those behind it
+one_agreed : (octets : List ℕ) (n i met d bit : ℕ) (spec : Spec) (more : ℕ → Course) (front rest : List Bool) (values : List Raw) (next : Course) → within_limit {A = Unit {0}} n i (Ok tt) ≡ Ok tt → agreed_at n i spec front ≡ Ok (values, rest) → front ≡ drop bit (bits octets) → more (count_of values) ≡ next
+    → PassesPlace n i (asks met d spec more) octets front (Some (record { fxy = d; spec = spec; bit = bit })) next rest
+one_agreed octets n i met d bit spec more front rest values next room e is after =
+    let a = bind_ok (column_at n i spec front) _ (values, rest) e in
+    let same = agreed i spec a.0 (values, rest) a.2 in
+    let read : column_at n i spec front ≡ Ok (values, rest) = a.1 ∙ ap (λ x. Ok x) same.0 in
+    let there : column_at n 1 spec (drop bit (bits octets)) ≡ Ok (values, rest) = open_place octets n i bit d spec front (values, rest) read is in
+    let column : ◌≡◌ {A = Column} (record { fxy = d; spec = spec; values = values }) (column_from octets n (record { fxy = d; spec = spec; bit = bit })) =
+    λ t. record { fxy = d; spec = spec; values = values_of (sym there t) } in (
+      (place_inside octets n bit spec (values, rest) there, ok_is _ (values, rest) there),
+      asked_at n i met d spec more front ∙ within_is n i _ room
+          ∙ ap (λ r. r >>= column_then d spec (λ count rest. columns_at n (i + 1) (more count) rest)) e
+          ∙ column_joined d spec values (columns_at n (i + 1) (more (count_of values)) rest)
+          ∙ (λ t. behind_columns (column t ∷ []) (columns_at n (i + 1) (after t) rest)),
+    )
+
+agreeing_other : (b : Bool) (i : ℕ) (x : List Raw × List Bool) → b ≡ false → cond (b && not (all_equal x.0)) (Err (faults.UnequalCounts i)) (Ok x) ≡ Ok x
+agreeing_other true i x e = absurd cc
+agreeing_other false i x e = refl
+
+pub field_passes : (old new : Walk) (octets : List ℕ) (n i d bit : ℕ) (spec : Spec) (front rest : List Bool) → IsReady old → Goes (left old) (Ok (steps.Field d spec)) new → within_limit {A = Unit {0}} n i (Ok tt) ≡ Ok tt → Passes n i spec front rest → front ≡ drop bit (bits octets)
+    → PassesPlace n i (left old) octets front (Some (record { fxy = d; spec = spec; bit = bit })) (left new) rest
+field_passes old new octets n i d bit spec front rest ready g room passes is =
+    let a = asks_field (left old) d spec new g in
+    let s = steady_step (items_met old) a.met d spec a.more (subst (λ (x : Course). IsSteady (items_met old) x) a.is ready.steady) in
+    let agree : agreed_at n i spec front ≡ Ok (passes.0, rest) =
+    ap (λ r. r >>= agreeing i spec) passes.1 ∙ agreeing_other (same_kind spec.kind kinds.Count) i (passes.0, rest) a.kind in
+    let after : a.more (count_of passes.0) ≡ left new = s.2 a.kind (count_of passes.0) ∙ sym a.after in
+    subst (λ (c : Course). PassesPlace n i c octets front (Some (record { fxy = d; spec = spec; bit = bit })) (left new) rest) (sym a.is)
+    (one_agreed octets n i a.met d bit spec a.more front rest passes.0 (left new) room agree is after)
+
+pub count_passes : (old mid new : Walk) (octets : List ℕ) (n i d bit number : ℕ) (spec : Spec) (front rest : List Bool) → Goes (left old) (Ok (steps.Count d spec)) mid → Counted (left mid) number new → within_limit {A = Unit {0}} n i (Ok tt) ≡ Ok tt → PassesFactor n i spec front number rest → front ≡ drop bit (bits octets)
+    → PassesPlace n i (left old) octets front (Some (record { fxy = d; spec = spec; bit = bit })) (left new) rest
+count_passes old mid new octets n i d bit number spec front rest g counted room passes is =
+    let a = asks_count (left old) d spec mid g in
+    let told = subst (λ (x : Course). Counted x number new) a.waiting counted in
+    let after : a.more (count_of passes.0) ≡ left new = ap a.more passes.2 ∙ sym told.0 in
+    subst (λ (c : Course). PassesPlace n i c octets front (Some (record { fxy = d; spec = spec; bit = bit })) (left new) rest) (sym a.is)
+    (one_agreed octets n i a.met d bit spec a.more front rest passes.0 (left new) room passes.1 is after)
+
+pub count_is_below : (old mid : Walk) (d : ℕ) (spec : Spec) (n : ℕ) → Goes (left old) (Ok (steps.Count d spec)) mid → n < 2 ^ spec.width → IsBelowCount (left mid) n
+count_is_below old mid d spec n g below =
+    let a = asks_count (left old) d spec mid g in subst (λ (x : Course). IsBelowCount x n) (sym a.waiting) below
+
+pub is_count : (old mid : Walk) (d : ℕ) (spec : Spec) → Goes (left old) (Ok (steps.Count d spec)) mid → same_kind spec.kind kinds.Count ≡ true
+is_count old mid d spec g = (asks_count (left old) d spec mid g).kind
+
+-- ---- one column after the other
+
+pub behind_no_column : (o : Result ColumnsFound ReadFault) → o ≡ behind_columns [] o
+behind_no_column (Ok found) = refl
+behind_no_column (Err e) = refl
+
+behind_more : (cs : List Column) (c : Column) (o : Result ColumnsFound ReadFault) → behind_columns cs (behind_columns (c ∷ []) o) ≡ behind_columns (cs ++ c ∷ []) o
+behind_more cs c (Ok found) = ap (λ xs. Ok (record found { columns = xs })) (sym (append_assoc cs (c ∷ []) found.columns))
+behind_more cs c (Err e) = refl
+
+map-push : (f : Place → Column) (ps : List Place) (p : Place) → map f (ps ++ p ∷ []) ≡ map f ps ++ f p ∷ []
+map-push f [] p = refl
+map-push f (q ∷ ps) p = ap (λ xs. f q ∷ xs) (map-push f ps p)
+
+all_push : (octets : List ℕ) (n : ℕ) (ps : List Place) (p : Place) → AllOpen octets n ps → Opens octets n p → AllOpen octets n (ps ++ p ∷ [])
+all_push octets n [] p all one = (one, tt)
+all_push octets n (q ∷ ps) p all one = (all.0, all_push octets n ps p all.1 one)
+
+pub opened : (octets : List ℕ) (n : ℕ) (ps grown : List Place) (p : Place) → grown ≡ ps ++ p ∷ [] → AllOpen octets n ps → Opens octets n p → AllOpen octets n grown
+opened octets n ps grown p is all one = subst (AllOpen octets n) (sym is) (all_push octets n ps p all one)
+
+-- one place more
+pub place_kept : (octets : List ℕ) (n i : ℕ) (ps grown : List Place) (p : Place) (whole : Result ColumnsFound ReadFault) (c d : Course) (front rest : List Bool) → grown ≡ ps ++ p ∷ [] → i ≡ length ps + 1
+    → whole ≡ behind_columns (map (column_from octets n) ps) (columns_at n (length ps + 1) c front)
+    → PassesPlace n i c octets front (Some p) d rest
+    → whole ≡ behind_columns (map (column_from octets n) grown) (columns_at n (length grown + 1) d rest)
+place_kept octets n i ps grown p whole c d front rest is index so_far step =
+    let len : length grown ≡ length ps + 1 = ap length is ∙ length-append ps (p ∷ []) in
+    let next : i + 1 ≡ length grown + 1 = omega (arith, index, len) in
+    so_far
+    ∙ ap (λ m. behind_columns (map (column_from octets n) ps) (columns_at n m c front)) (sym index)
+    ∙ ap (behind_columns (map (column_from octets n) ps)) step.1
+    ∙ behind_more (map (column_from octets n) ps) (column_from octets n p) (columns_at n (i + 1) d rest)
+    ∙ ap (λ cs. behind_columns cs (columns_at n (i + 1) d rest)) (sym (ap (map (column_from octets n)) is ∙ map-push (column_from octets n) ps p))
+    ∙ ap (λ m. behind_columns (map (column_from octets n) grown) (columns_at n m d rest)) next
+
+pub places_end : (octets : List ℕ) (n i : ℕ) (ps : List Place) (whole : Result ColumnsFound ReadFault) (c d : Course) (front rest : List Bool) → i ≡ length ps + 1
+    → whole ≡ behind_columns (map (column_from octets n) ps) (columns_at n (length ps + 1) c front)
+    → PassesPlace n i c octets front None d rest
+    → (items : ℕ) × (whole ≡ Ok (record { columns = map (column_from octets n) ps; items = items; rest = rest }))
+places_end octets n i ps whole c d front rest index so_far step = (
+  step.0,
+  so_far
+      ∙ ap (λ m. behind_columns (map (column_from octets n) ps) (columns_at n m c front)) (sym index)
+      ∙ ap (behind_columns (map (column_from octets n) ps)) step.1
+      ∙ ap (λ cs. Ok (record { columns = cs; items = step.0; rest = rest })) (append-nil (map (column_from octets n) ps)),
+)
+
+pub places_fail : (octets : List ℕ) (n i : ℕ) (ps : List Place) (whole : Result ColumnsFound ReadFault) (c : Course) (front : List Bool) (fault : ReadFault) → i ≡ length ps + 1
+    → whole ≡ behind_columns (map (column_from octets n) ps) (columns_at n (length ps + 1) c front)
+    → columns_at n i c front ≡ Err fault → whole ≡ Err fault
+places_fail octets n i ps whole c front fault index so_far e =
+    so_far
+    ∙ ap (λ m. behind_columns (map (column_from octets n) ps) (columns_at n m c front)) (sym index)
+    ∙ ap (behind_columns (map (column_from octets n) ps)) e
+
+-- ---- the subsets of an index
+
+from_suc : (k n : ℕ) (columns : List Column) → subsets_from k (suc n) columns ≡ subsets_from k n columns ++ subset_of columns (k + n) ∷ []
+from_suc k zero columns = let same : k ≡ k + 0 = omega arith in ap (λ m. subset_of columns m ∷ []) same
+from_suc k (suc n) columns =
+    let same : k + 1 + n ≡ k + suc n = omega arith in
+    ap (λ ss. subset_of columns k ∷ ss) (from_suc (k + 1) n columns ∙ ap (λ m. subsets_from (k + 1) n columns ++ subset_of columns m ∷ []) same)
+
+pub one_subset_more : (i j : ℕ) (columns : List Column) (subsets grown : List Subset) (s : Subset) → grown ≡ subsets ++ s ∷ [] → subsets ≡ subsets_from 0 i columns → s ≡ subset_of columns j → j ≡ i → grown ≡ subsets_from 0 (i + 1) columns
+one_subset_more i j columns subsets grown s is so_far one same =
+    let next : suc i ≡ i + 1 = omega arith in
+    let here : 0 + i ≡ i = omega arith in
+    is ∙ (λ t. so_far t ++ (one ∙ ap (subset_of columns) same) t ∷ [])
+    ∙ ap (λ m. subsets_from 0 i columns ++ subset_of columns m ∷ []) (sym here)
+    ∙ sym (from_suc 0 i columns) ∙ ap (λ m. subsets_from 0 m columns) next
+
+pub index_subsets : (tree : Tree) (n : ℕ) (front : List Bool) (a : Ahead) → index_at tree n front ≡ Ok a → a.index.subsets ≡ n
+index_subsets tree zero front a e = ap (λ (x : Ahead). x.index.subsets) (sym (ok_same _ _ e))
+index_subsets tree (suc n) front a e =
+    let h = map_ok (λ (f : ColumnsFound). (let whole : Ahead = record { index = record { subsets = suc n; columns = f.columns }; rest = f.rest } in whole)) (columns_at (suc n) 1 (course tree 0) front) a e in
+    ap (λ (x : Ahead). x.index.subsets) (sym h.2)
+
+pub index_reads : (tree : Tree) (n : ℕ) (front : List Bool) (a : Ahead) → index_at tree n front ≡ Ok a → subsets_in tree true n front ≡ Ok (subsets_from 0 n a.index.columns, a.rest)
+index_reads tree zero front a e = ap (λ (x : Ahead). Ok ([], x.rest)) (ok_same _ _ e)
+index_reads tree (suc n) front a e =
+    let h = map_ok (λ (f : ColumnsFound). (let whole : Ahead = record { index = record { subsets = suc n; columns = f.columns }; rest = f.rest } in whole)) (columns_at (suc n) 1 (course tree 0) front) a e in
+    ap (result_map (λ (f : ColumnsFound). (subsets_from 0 (suc n) f.columns, f.rest))) h.1
+    ∙ ap (λ (x : Ahead). Ok (subsets_from 0 (suc n) x.index.columns, x.rest)) h.2
+
+map_err : {A B F : Type 0} (f : A → B) (o : Result A F) (fault : F) → result_map f o ≡ Err fault → o ≡ Err fault
+map_err f (Ok x) fault e = absurd cc
+map_err f (Err other) fault e = cc
+
+pub index_fails : (tree : Tree) (n : ℕ) (front : List Bool) (failure : Failure ReadFault) → Fails failure (index_at tree n front) → Fails failure (subsets_in tree true n front)
+index_fails tree n front OutOfMemory h = tt
+index_fails tree zero front (Fault fault) h = absurd cc
+index_fails tree (suc n) front (Fault fault) h =
+    ap (result_map (λ (f : ColumnsFound). (subsets_from 0 (suc n) f.columns, f.rest))) (map_err _ (columns_at (suc n) 1 (course tree 0) front) fault h)

@@ -1,0 +1,7 @@
+use Rattle.std.proofs.Common.{◌≡◌, take}
+use Rattle.bufr_data.specs.BestColumns.{present}
+use Rattle.bufr_data.specs.Places.{least_of}
+use Rattle.bufr_data.proofs.best.least_present.Given as goal
+
+abbrev pub invariant-loop-number : goal.invariant-loop-number
+invariant-loop-number l = l.found ≡ least_of (present l.width (take l.number-index l.numbers))

@@ -1,0 +1,8 @@
+use Rattle.std.proofs.Common.{◌≡◌, map, take}
+use Rattle.bufr_data.specs.Places.{rows_from, values_from}
+use Rattle.bufr_data.specs.Plain.{number_of}
+use Rattle.bufr_data.proofs.best.numbers_from.Given as goal
+
+abbrev pub invariant-loop-other : goal.invariant-loop-other
+invariant-loop-other l =
+    l.numbers.items ≡ map number_of (values_from l.field (rows_from l.place (take l.other-index l.others)))

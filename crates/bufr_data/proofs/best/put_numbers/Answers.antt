@@ -1,0 +1,39 @@
+use Rattle.std.proofs.Common.{◌≡◌, ◌∙◌, ◌++◌, ◌∷◌, [], ◌+◌, ◌-◌, ◌<◌, ◌≤◌, ℕ, length, map, take, get_or, append-nil, append_assoc, sym, ap, subst, arith}
+use Rattle.std.specs.List.{flat_map}
+use Rattle.std.proofs.lemmas.List.{take_more, take_all}
+use Rattle.bufr_bits.specs.Bits.{bin}
+use Rattle.bufr_data.specs.BestColumns.{present, least, greatest, fewest_bits, increment_of, best_numbers}
+use Rattle.bufr_data.proofs.PutFacts.{NumbersPut, numbers_put, numbers_put_of, fit_at_index, increments_push, put_step, put_two, kept_more, kept_same}
+use Rattle.bufr_data.proofs.best.put_numbers.Goals as goal
+
+pub loop-number-init : goal.loop-number-init
+loop-number-init c = put_two _ _ _ _ _ c.in_ok-put.ensures.ok (rw c.from.ensures at c.in_ok-put-2.ensures.ok)
+
+pub loop-number-preserved : goal.loop-number-preserved
+loop-number-preserved c =
+    let i = c.loop-number.number-index in
+    let ns = c.args.numbers.now in
+    let less : i < length ns = omega (arith, c.loop-number-test.true) in
+    let k = c.fewest_bits-k.result in
+    let minimum = c.least_present-minimum.result in
+    let put = rw c.increment.ensures at c.in_ok-put-3.ensures.ok in
+    put_step (bin k) (map (increment_of c.args.width minimum k) (take i ns)) _ (increment_of c.args.width minimum k (get_or ns i 0)) c.args.sink.now (bin c.args.width minimum ++ bin 6 k) _ _
+    (increments_push c.args.width minimum k ns i less) c.loop-number.invariant put
+
+pub put-requires-clause-fits : goal.put-requires-clause-fits
+put-requires-clause-fits c = let fits = numbers_put_of c.args.width c.args.numbers.now c.least_present-minimum.result c.greatest_present.result c.saturating_sub.result c.fewest_bits-k.result c.requires.narrow c.requires.forms c.least_present-minimum.ensures c.greatest_present.ensures c.saturating_sub.ensures c.fewest_bits-k.ensures in fits.below
+
+pub put-requires-2-clause-fits : goal.put-requires-2-clause-fits
+put-requires-2-clause-fits c = let fits = numbers_put_of c.args.width c.args.numbers.now c.least_present-minimum.result c.greatest_present.result c.saturating_sub.result c.fewest_bits-k.result c.requires.narrow c.requires.forms c.least_present-minimum.ensures c.greatest_present.ensures c.saturating_sub.ensures c.fewest_bits-k.ensures in omega (arith, fits.few, c.from.ensures)
+
+pub increment-requires : goal.increment-requires
+increment-requires c = let fits = numbers_put_of c.args.width c.args.numbers.now c.least_present-minimum.result c.greatest_present.result c.saturating_sub.result c.fewest_bits-k.result c.requires.narrow c.requires.forms c.least_present-minimum.ensures c.greatest_present.ensures c.saturating_sub.ensures c.fewest_bits-k.ensures in omega (arith, fits.few)
+
+pub put-requires-in-loop-number-clause-width : goal.put-requires-in-loop-number-clause-width
+put-requires-in-loop-number-clause-width c = let fits = numbers_put_of c.args.width c.args.numbers.now c.least_present-minimum.result c.greatest_present.result c.saturating_sub.result c.fewest_bits-k.result c.requires.narrow c.requires.forms c.least_present-minimum.ensures c.greatest_present.ensures c.saturating_sub.ensures c.fewest_bits-k.ensures in omega (arith, fits.few)
+
+pub put-requires-in-loop-number-clause-fits : goal.put-requires-in-loop-number-clause-fits
+put-requires-in-loop-number-clause-fits c =
+    let fits = numbers_put_of c.args.width c.args.numbers.now c.least_present-minimum.result c.greatest_present.result c.saturating_sub.result c.fewest_bits-k.result c.requires.narrow c.requires.forms c.least_present-minimum.ensures c.greatest_present.ensures c.saturating_sub.ensures c.fewest_bits-k.ensures in
+    let less : c.loop-number.number-index < length c.args.numbers.now = omega (arith, c.loop-number-test.true) in
+    rw c.increment.ensures (fit_at_index _ (increment_of c.args.width c.least_present-minimum.result c.fewest_bits-k.result) c.args.numbers.now c.loop-number.number-index fits.fit less)

@@ -1,0 +1,17 @@
+use Rattle.std.proofs.Common.{◌≡◌, ◌≤◌, ◌<◌, ◌+◌, ◌-◌, ◌*◌, ◌^◌, ℕ, List, Result, length, drop}
+use Rattle.bufr_bits.specs.Bits.{numbers}
+use Rattle.bufr_bits.specs.Ends.{left}
+use Rattle.bufr_data.specs.declared.field.Raw.{Raw}
+use Rattle.bufr_data.specs.ColumnReading.{all_raised, all_equal, count_of}
+use Rattle.bufr_data.proofs.IncrementFacts.{RaisedSoFar}
+use Rattle.bufr_data.proofs.column_pass.read_increments.Given as goal
+
+abbrev pub invariant-loop-j : goal.invariant-loop-j
+invariant-loop-j l = record {
+  octets : l.reader.octets ≡ l.fn.reader.octets;
+  onward : l.fn.reader.place ≤ l.reader.place;
+  enough : (l.n - l.j) * l.k ≤ length (left l.reader);
+  moved : left l.reader ≡ drop (l.j * l.k) (left l.fn.reader);
+  fits : 0 < l.j → l.first < 2 ^ l.width;
+  so_far : RaisedSoFar l.i l.width l.minimum l.k l.n l.j (left l.fn.reader) (left l.reader) l.first l.equal;
+}

@@ -1,0 +1,27 @@
+use Rattle.bufr_data.proofs.CauseFacts.{Laws}
+use Rattle.bufr_data.proofs.DataFacts.{reads_exactly, refuses_exactly, writes_exactly, misfits_exactly, bare_are_data, plain_are_bare}
+use Rattle.bufr_data.proofs.PackableFacts.{packed_can_be_bare, narrow_can_be_packed}
+use Rattle.bufr_data.proofs.laws.data_hold_subsets.Goals as goal
+
+pub returns : goal.returns
+returns c =
+    let ends = c.courses_are_unrollings.ensures in
+    let begins = c.courses_begin_unrollings.ensures in
+    let laws : Laws = record {
+      unrolled = ends.unrolled;
+      allowed = ends.allowed;
+      asked = begins.asked;
+      lacking = begins.lacking;
+      too_large = begins.too_large;
+      goes_on = begins.goes_on;
+    } in
+    record {
+      read = reads_exactly laws;
+      refused = refuses_exactly laws;
+      written = writes_exactly laws;
+      misfit = misfits_exactly laws;
+      bare = bare_are_data laws;
+      plain = plain_are_bare;
+      packable = packed_can_be_bare;
+      narrow = narrow_can_be_packed;
+    }

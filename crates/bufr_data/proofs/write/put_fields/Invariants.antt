@@ -1,0 +1,6 @@
+use Rattle.std.proofs.Common.{◌≡◌, ◌++◌, take}
+use Rattle.bufr_data.specs.Plain.{plain}
+use Rattle.bufr_data.proofs.write.put_fields.Given as goal
+
+abbrev pub invariant-loop-field : goal.invariant-loop-field
+invariant-loop-field l = l.sink ≡ l.fn.sink ++ plain (take l.field-index l.fields)

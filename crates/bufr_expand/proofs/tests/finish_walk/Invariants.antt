@@ -1,0 +1,6 @@
+use Rattle.std.proofs.Common.{◌≡◌, false}
+use Rattle.bufr_expand.specs.Walks.{waits}
+use Rattle.bufr_expand.proofs.tests.finish_walk.Given as goal
+
+abbrev pub invariant-loop : goal.invariant-loop
+invariant-loop l = waits l.walk ≡ false

@@ -1,5 +1,0 @@
-use Rattle.bufr_expand.proofs.Flattening.{expands_exactly, expands_to_trees, has_one_tree, has_enough_levels}
-use Rattle.bufr_expand.proofs.tree_laws.expansion_is_the_tree_of_a_list.Goals as goal
-
-pub returns : goal.returns
-returns c = record { exactly = expands_exactly; trees = expands_to_trees; one = has_one_tree; levels = has_enough_levels }

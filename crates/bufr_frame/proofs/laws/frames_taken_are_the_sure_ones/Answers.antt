@@ -1,0 +1,13 @@
+use Rattle.bufr_frame.specs.TakingLaws.{handed_first, handed_end}
+use Rattle.bufr_frame.specs.TakingLaws.{taking_fed, taking_first, taking_one, taking_none}
+use Rattle.bufr_frame.proofs.laws.frames_taken_are_the_sure_ones.Goals as goal
+
+pub returns : goal.returns
+returns c = record {
+  first = handed_first;
+  piece = taking_first;
+  one = taking_one;
+  room = taking_fed;
+  none = taking_none;
+  end = handed_end;
+}

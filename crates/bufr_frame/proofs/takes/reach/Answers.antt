@@ -1,0 +1,46 @@
+use Rattle.std.proofs.Common.{◌≡◌, ◌≤◌, false, length, drop, sym, ap, ◌∙◌, subst}
+use Rattle.std.proofs.lemmas.List.{take_rest}
+use Rattle.bufr_frame.specs.declared.places.Start.TheVariants.{Other}
+use Rattle.bufr_frame.specs.Starts.{agrees, bufr, start_of}
+use Rattle.bufr_frame.specs.Reaches.{KeepsMore, TakesMore}
+use Rattle.bufr_frame.proofs.ReachLaws.{reaching_other, reaching_more, less_to_do}
+use Rattle.bufr_frame.proofs.takes.reach.Goals as goal
+
+pub loop-length-preserved-in-Other : goal.loop-length-preserved-in-Other
+loop-length-preserved-in-Other c =
+    let kept = c.loop-length.octets.items in
+    let start = c.loop-length.start in
+    let here : start_of (drop start kept) ≡ Other =
+    ap start_of (sym (take_rest c.deref.result.now start ∙ ap (drop start) c.deref.ensures.value)) ∙ sym c.in-Other.ensures.start in
+    let next = c.next_mark-start.ensures in
+    let same = c.deref-in-Other.ensures.value in
+    reaching_other _ _ kept c.args.piece.now start c.loop-length.taken c.next_mark-start.result
+    c.loop-length.invariant here next.after
+    (subst (λ t. c.next_mark-start.result ≤ length t) same next.within)
+    (λ k a b. subst (λ t. agrees (drop k t) bufr ≡ false) same (next.others k a b))
+
+pub loop-length-smaller : goal.loop-length-smaller
+loop-length-smaller c =
+    let kept = c.loop-length.octets.items in
+    let start = c.loop-length.start in
+    let piece = c.args.piece.now in
+    let taken = c.loop-length.taken in
+    let after = c.take_more.new.octets.items in
+    let more : KeepsMore (drop start kept) kept after (drop taken piece) c.in_ok-skip-in-Open.field-0 =
+    subst (λ r. KeepsMore (drop start kept) kept after r c.in_ok-skip-in-Open.field-0) (take_rest piece taken) c.in_ok-skip-in-Open.ensures.more in
+    let m : TakesMore (drop start kept) kept after (drop taken piece) c.in-Octets.more =
+    subst (KeepsMore (drop start kept) kept after (drop taken piece)) c.in-Octets.is more in
+    less_to_do kept after piece start taken c.in-Octets.more c.loop-length.invariant.within c.loop-length.invariant.taken_in m
+
+pub loop-length-preserved : goal.loop-length-preserved
+loop-length-preserved c =
+    let kept = c.loop-length.octets.items in
+    let start = c.loop-length.start in
+    let piece = c.args.piece.now in
+    let taken = c.loop-length.taken in
+    let after = c.take_more.new.octets.items in
+    let more : KeepsMore (drop start kept) kept after (drop taken piece) c.in_ok-skip-in-Open.field-0 =
+    subst (λ r. KeepsMore (drop start kept) kept after r c.in_ok-skip-in-Open.field-0) (take_rest piece taken) c.in_ok-skip-in-Open.ensures.more in
+    let m : TakesMore (drop start kept) kept after (drop taken piece) c.in-Octets.more =
+    subst (KeepsMore (drop start kept) kept after (drop taken piece)) c.in-Octets.is more in
+    reaching_more _ _ kept after piece start taken c.in-Octets.more c.loop-length.invariant m

@@ -1,0 +1,3 @@
+pub mod BlankFacts
+pub mod MomentFacts
+pub mod UsableFacts

@@ -1,0 +1,23 @@
+-- What the crates below say of descriptors, specs and subsets: the premises of the laws of listings.
+use Rattle.std.specs.Prelude.{◌≡◌, ◌↔◌, ℕ, ◌<◌, List, Some}
+use Rattle.bufr_tables.specs.Descriptors.{of_text, six_digits}
+use Rattle.bufr_expand.specs.Effects.{IsInRange}
+use Rattle.bufr_expand.specs.Steady.{EachAsked}
+use Rattle.bufr_expand.specs.Trees.{Tree}
+use Rattle.bufr_expand.specs.Courses.{course}
+use Rattle.bufr_data.specs.Laws.{AllCountedFit, AllFittingAreCounted}
+
+-- a text is read as a descriptor exactly where it is what the descriptor prints
+abbrev pub DescriptorTexts : Type 0
+DescriptorTexts = (text : List ℕ) (d : ℕ) → ((of_text text ≡ Some d) ↔ ((d < 65536) × (text ≡ six_digits d)))
+
+-- each field that a course asks for is in range
+abbrev pub FieldsAreInRange : Type 0
+FieldsAreInRange = (tree : Tree) (used : ℕ) → EachAsked IsInRange (course tree used)
+
+-- all of them
+pub record LowerLaws : Type 0 where
+  pub descriptors : DescriptorTexts
+  pub specs : FieldsAreInRange
+  pub fit : AllCountedFit
+  pub counted : AllFittingAreCounted

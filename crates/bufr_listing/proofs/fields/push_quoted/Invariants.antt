@@ -1,0 +1,7 @@
+use Rattle.std.proofs.Common.{◌≡◌, ◌++◌, take, string_bytes}
+use Rattle.std.specs.List.{flat_map}
+use Rattle.bufr_listing.specs.Listings.{quoted_octet}
+use Rattle.bufr_listing.proofs.fields.push_quoted.Given as goal
+
+abbrev pub invariant-loop-octet : goal.invariant-loop-octet
+invariant-loop-octet l = string_bytes l.text ≡ string_bytes l.initial.text ++ flat_map quoted_octet (take l.octet-index l.octets)

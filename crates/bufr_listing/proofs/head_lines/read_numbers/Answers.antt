@@ -1,0 +1,35 @@
+use Rattle.std.proofs.Common.{◌∙◌, sym, ap, List, ℕ, Vec, Global, Err}
+use Rattle.std.specs.Prelude.{Option, option_map, if◌then◌else◌}
+use Rattle.bufr_tables.specs.declared.failure.Failure.TheVariants.{Fault}
+use Rattle.bufr_listing.specs.declared.fault.ListingFault.TheVariants.{BadLine, BadValue}
+use Rattle.bufr_listing.specs.Cursors.{left, past, printed}
+use Rattle.bufr_listing.specs.Lines.{first_word}
+use Rattle.bufr_listing.specs.Words.{words_left}
+use Rattle.bufr_listing.specs.Reading.{read_numbers}
+use Rattle.bufr_listing.proofs.FieldFacts.{bytes_same}
+use Rattle.bufr_listing.proofs.CallFacts.{taken_ok, taken_err, titled_words}
+use Rattle.bufr_listing.proofs.NumberFacts.{untitled_numbers, numbers_are, numbers_are_not}
+use Rattle.bufr_listing.proofs.head_lines.read_numbers.Goals as goal
+
+pub returns-then-not-begins-clause-read : goal.returns-then-not-begins-clause-read
+returns-then-not-begins-clause-read c =
+    rw c.bad_line.ensures (taken_err (read_numbers c.args.title.now c.args.limits.now) (past c.args.lines.now) (left c.args.lines.now) (printed c.in_ok-line.line) (left c.take.new.self) (Fault (BadLine c.in_ok-line.line.number)) c.in_ok-line.ensures.taken (untitled_numbers c.args.title.now c.args.limits.now c.in_ok-line.line.number c.in_ok-line.line.text.now c.requires.word (sym c.begins.ensures ∙ c.if-not-begins.true)))
+
+pub returns-in-Some-clause-read : goal.returns-in-Some-clause-read
+returns-in-Some-clause-read c =
+    let first = bytes_same (first_word c.in_ok-line.line.text.now) c.args.title.now (sym c.begins.ensures ∙ c.if-not-begins.false) in
+    let ws = words_left c.behind_first-words.result in
+    let e = titled_words c.in_ok-line.line.text.now c.args.title.now ws first c.behind_first-words.ensures in
+    let found = sym c.in_ok-found.ensures ∙ ap (λ (o : Option (Vec ℕ Global)). option_map (λ ns. ns.items) o) c.in-Some.is in
+    taken_ok (read_numbers c.args.title.now c.args.limits.now) (past c.args.lines.now) (left c.args.lines.now) (printed c.in_ok-line.line) (left c.take.new.self) c.in-Some.numbers.items c.in_ok-line.ensures.taken (numbers_are c.args.title.now c.args.limits.now c.in_ok-line.line.number c.in_ok-line.line.text.now ws c.in-Some.numbers.items c.requires.word c.requires.short c.requires.plain e found)
+
+pub returns-in-None-clause-read : goal.returns-in-None-clause-read
+returns-in-None-clause-read c =
+    let n = c.in_ok-line.line.number in
+    let first = bytes_same (first_word c.in_ok-line.line.text.now) c.args.title.now (sym c.begins.ensures ∙ c.if-not-begins.false) in
+    let ws = words_left c.behind_first-words.result in
+    let e = titled_words c.in_ok-line.line.text.now c.args.title.now ws first c.behind_first-words.ensures in
+    let none = sym c.in_ok-found.ensures ∙ ap (λ (o : Option (Vec ℕ Global)). option_map (λ ns. ns.items) o) c.in-None.is in
+    rw c.wrong_words.ensures (taken_err (read_numbers c.args.title.now c.args.limits.now) (past c.args.lines.now) (left c.args.lines.now) (printed c.in_ok-line.line) (left c.take.new.self) (Fault (if c.has_count.result then BadValue n else BadLine n)) c.in_ok-line.ensures.taken (
+    numbers_are_not c.args.title.now c.args.limits.now n c.in_ok-line.line.text.now ws c.requires.word c.requires.short c.requires.plain e none
+    ∙ ap (λ b. Err (if b then BadValue n else BadLine n)) (sym c.has_count.ensures)))

@@ -1,0 +1,8 @@
+use Rattle.bufr_listing.proofs.ShownFacts.{listing_joined, listing_read_back}
+use Rattle.bufr_listing.proofs.laws.listings_are_read_back.Goals as goal
+
+pub returns-clause-joined : goal.returns-clause-joined
+returns-clause-joined c = listing_joined
+
+pub returns-clause-read : goal.returns-clause-read
+returns-clause-read c = listing_read_back (record { descriptors = c.descriptor_texts.ensures; specs = c.courses_are_steady.ensures.in_range; fit = c.counted_subsets_fit.ensures.all_fit; counted = c.counted_subsets_fit.ensures.all_counted })

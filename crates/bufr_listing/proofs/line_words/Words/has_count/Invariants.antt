@@ -1,0 +1,6 @@
+use Rattle.std.proofs.Common.{◌≡◌, ◌+◌, length}
+use Rattle.bufr_listing.specs.Words.{words_left}
+use Rattle.bufr_listing.proofs.line_words.Words.has_count.Given as goal
+
+abbrev pub invariant-loop-i : goal.invariant-loop-i
+invariant-loop-i l = length (words_left l.fn.self) ≡ l._i + length (words_left l.self)

@@ -1,0 +1,7 @@
+use Rattle.std.proofs.Common.{◌≡◌, drop}
+use Rattle.bufr_listing.specs.Words.{words_left, numbers_of}
+use Rattle.bufr_listing.proofs.WordFacts.{behind}
+use Rattle.bufr_listing.proofs.line_words.Words.numbers.Given as goal
+
+abbrev pub invariant-loop-limit : goal.invariant-loop-limit
+invariant-loop-limit l = numbers_of l.limits (words_left l.fn.self) ≡ behind l.numbers.items (numbers_of (drop l.limit-index l.limits) (words_left l.self))

@@ -1,0 +1,7 @@
+use Rattle.std.proofs.Common.{◌≡◌, ◌-◌}
+use Rattle.bufr_listing.specs.RawWords.{octets_before}
+use Rattle.bufr_listing.proofs.WordFacts.{behind}
+use Rattle.bufr_listing.proofs.raw_values.octets_before.Given as goal
+
+abbrev pub invariant-loop-i : goal.invariant-loop-i
+invariant-loop-i l = octets_before l.count l.text ≡ behind l.octets.items (octets_before (l.count - l._i) l.rest)

@@ -1,0 +1,17 @@
+use Rattle.std.proofs.Common.{◌≡◌, ◌-◌}
+use Rattle.bufr_expand.specs.Courses.{course}
+use Rattle.bufr_expand.specs.Walks as walks
+use Rattle.bufr_listing.specs.Cursors.{left, past}
+use Rattle.bufr_listing.specs.Reading.{fields_read}
+use Rattle.bufr_listing.specs.Steps.{CanGoOn, behind_fields}
+use Rattle.bufr_listing.proofs.subsets.read_fields.Given as goal
+
+abbrev pub invariant-loop-fields : goal.invariant-loop-fields
+invariant-loop-fields l = record {
+  ready : CanGoOn l.walk;
+  last : past l.lines ≡ past l.fn.lines;
+  so_far : fields_read (past l.fn.lines) (course l.template l.fn.used) (left l.fn.lines) ≡ behind_fields l.fields.items (fields_read (past l.fn.lines) (walks.left l.walk) (left l.lines));
+}
+
+abbrev pub decreases-loop-fields : goal.decreases-loop-fields
+decreases-loop-fields l = 16777217 - walks.items_met l.walk

@@ -1,0 +1,28 @@
+-- What listings, the messages that they list, and what is read of them have to do with one another.
+use Rattle.std.specs.Prelude.{◌≡◌, ℕ, List, Ok}
+use Rattle.std.specs.List.{flat_map, AllByRecursion}
+use Rattle.bufr_tables.specs.Entries.{Entries}
+use Rattle.bufr_sections.specs.declared.message.Message.{Message}
+use Rattle.bufr_listing.specs.Listings.{listing}
+use Rattle.bufr_listing.specs.Lines.{lines_of, joined, Listed, CanBeListed}
+use Rattle.bufr_listing.specs.Reading.{messages_listed}
+
+-- the listing of a message is its joined lines
+abbrev pub ListingsAreJoinedLines : Type 0
+ListingsAreJoinedLines = (m : Message) → listing m ≡ joined (lines_of m)
+
+-- what is read of a text is listed by it
+abbrev pub MessagesReadAreListed : Type 0
+MessagesReadAreListed = (tables : Entries) (text : List ℕ) (messages : List Message)
+    → messages_listed tables text ≡ Ok messages → Listed tables text messages
+
+-- what a text lists is read of it, and nothing else
+abbrev pub MessagesListedAreRead : Type 0
+MessagesListedAreRead = (tables : Entries) (text : List ℕ) (messages : List Message)
+    → Listed tables text messages → messages_listed tables text ≡ Ok messages
+
+-- the joined listings of messages are read back as these messages
+abbrev pub ListingsAreReadBack : Type 0
+ListingsAreReadBack = (tables : Entries) (messages : List Message)
+    → AllByRecursion (λ m. CanBeListed tables m) messages
+    → messages_listed tables (flat_map listing messages) ≡ Ok messages

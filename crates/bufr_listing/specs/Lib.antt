@@ -1,0 +1,11 @@
+pub mod Listings
+pub mod Lines
+pub mod FieldLines
+pub mod Cursors
+pub mod Reading
+pub mod Words
+pub mod RawWords
+pub mod Steps
+pub mod Laws
+pub mod Samples
+pub mod Reasons

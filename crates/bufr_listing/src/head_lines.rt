@@ -1,0 +1,234 @@
+//! Reading the lines of a message before its subsets.
+
+ghost use Rattle.std.specs.Prelude.{◌≡◌, ◌∷◌, [], List, Option, ℕ, ◌≤◌, ◌==◌, length, codes, option_map, true, false, if◌then◌else◌};
+ghost use Rattle.std.specs.Str.{bytes_eq};
+ghost use Rattle.std.specs.List.{AllByRecursion};
+ghost use Rattle.hex.specs.declared.error.FromHexError.TheVariants.{OutOfMemory};
+ghost use Rattle.bufr_tables.specs.Answers.{Gives};
+ghost use Rattle.bufr_listing.specs.Cursors.{left, past};
+ghost use Rattle.bufr_listing.specs.Lines.{Line, as_printed, first_word, words_of, has_octets};
+ghost use Rattle.bufr_listing.specs.Reading as reading;
+ghost use Rattle.bufr_listing.specs.Reading.{read_line, read_if, read_word, read_numbers, read_octets, read_local, read_section2, read_flags, read_descriptors, Described};
+
+use crate::fault::{Cause, ListingFault};
+use crate::line_words::{Words, begins};
+use crate::lines::{Lines, TextLine};
+use bufr_expand::Template;
+use bufr_tables::laws::descriptor_texts;
+use bufr_tables::{Failure, Fxy, Items, Tables};
+use std::alloc::Global;
+
+/// Reads a line that is this word alone.
+pub fn read_word(lines: &mut Lines, word: &[u8]) -> Result<(), Failure<ListingFault>>
+    requires { has_octets word.now ≡ false }
+    ensures read { Gives {Y = Unit {0} × List Line} (λ u. (u, left lines.new)) result
+        (read_line (read_word word.now) (past lines.old) (left lines.old)) }
+    ensures past { past lines.new ≡ past lines.old }
+{
+    let line = lines.take()?;
+    if line.text == word {
+        Ok(())
+    } else {
+        Err(bad_line(line))
+    }
+}
+
+/// Reads a line of numbers behind this word, one for each limit and below it.
+pub fn read_numbers(
+    alloc: Global,
+    lines: &mut Lines,
+    title: &[u8],
+    limits: &[u64],
+) -> Result<Vec<u64>, Failure<ListingFault>>
+    requires word { AllByRecursion (λ c. (c == 32) ≡ false) title.now }
+    requires plain { has_octets title.now ≡ false }
+    requires short { AllByRecursion (λ l. l ≤ 65536) limits.now }
+    ensures read { Gives {Y = List ℕ × List Line} (λ ns. (ns.items, left lines.new)) result
+        (read_line (read_numbers title.now limits.now) (past lines.old) (left lines.old)) }
+    ensures past { past lines.new ≡ past lines.old }
+{
+    let line = lines.take()?;
+    if !begins(line.text, title) {
+        return Err(bad_line(line));
+    }
+    let words = Words::behind_first(line.text);
+    let found = words.numbers(alloc, limits)?;
+    match found {
+        Some(numbers) => Ok(numbers),
+        None => Err(wrong_words(line, words.has_count(limits.len()))),
+    }
+}
+
+/// Reads the line of the octets for local use of section 1, where it is there.
+pub fn read_local(
+    alloc: Global,
+    lines: &mut Lines,
+) -> Result<Option<Vec<u8>>, Failure<ListingFault>>
+    ensures read { Gives {Y = Option (List ℕ) × List Line}
+        (λ o. (option_map (λ v. v.items) o, left lines.new)) result
+        (read_if (codes "local1") read_local (left lines.old)) }
+    ensures past { past lines.new ≡ past lines.old }
+{
+    match lines.peek() {
+        Some(line) if begins(line.text, b"local1") => {
+            lines.pass();
+            Ok(Some(octets_of(alloc, line, b"local1")?))
+        }
+        _ => Ok(None),
+    }
+}
+
+/// Reads the line of section 2, where it is there.
+pub fn read_section2(
+    alloc: Global,
+    lines: &mut Lines,
+) -> Result<Option<Items<u8>>, Failure<ListingFault>>
+    ensures read { Gives {Y = Option (List ℕ) × List Line} (λ o. (o, left lines.new)) result
+        (read_if (codes "section2") read_section2 (left lines.old)) }
+    ensures past { past lines.new ≡ past lines.old }
+{
+    match lines.peek() {
+        Some(line) if begins(line.text, b"section2") => {
+            lines.pass();
+            if line.text == b"section2".as_slice() {
+                return Ok(Some(Items::from_vec(Vec::new(alloc))));
+            }
+            let octets = octets_of(alloc, line, b"section2")?;
+            Ok(Some(Items::from_vec(octets)))
+        }
+        _ => Ok(None),
+    }
+}
+
+/// The octets of a line, one at least, behind this first word.
+fn octets_of(alloc: Global, line: TextLine, title: &[u8]) -> Result<Vec<u8>, Failure<ListingFault>>
+    requires titled { first_word line.text.now ≡ title.now }
+    requires octets { has_octets title.now ≡ true }
+    ensures { let text = as_printed line.entry.text.now in Gives (λ v. v.items) result
+        (read_octets title.now (length (words_of text) == 2) line.entry.number text) }
+{
+    let Some(digits) = Words::behind_first(line.text).only() else {
+        return Err(bad_line(line));
+    };
+    match hex::decode(alloc, digits) {
+        Err(fault) => Err(undecoded(line, fault)),
+        Ok(octets) if octets.is_empty() => Err(bad_value(line)),
+        Ok(octets) => Ok(octets),
+    }
+}
+
+/// Want of memory, or L2 at a line whose digits are those of no octets.
+fn undecoded(line: TextLine, fault: hex::FromHexError) -> Failure<ListingFault>
+    ensures memory { fault ≡ OutOfMemory → result ≡ Failure.OutOfMemory }
+    ensures digits { (fault ≡ OutOfMemory → ⊥)
+        → result ≡ Failure.Fault (ListingFault.BadValue line.entry.number) }
+{
+    match fault {
+        hex::FromHexError::OutOfMemory => Failure::OutOfMemory,
+        _ => bad_value(line),
+    }
+}
+
+/// What the line of the flags says.
+#[derive(Clone, Copy, Debug, Drop)]
+pub struct Flags {
+    pub observed: bool,
+    pub compressed: bool,
+}
+
+/// Reads the line of the flags.
+pub fn read_flags(lines: &mut Lines) -> Result<Flags, Failure<ListingFault>>
+    ensures read { Gives {Y = reading.Flags × List Line}
+        (λ f. (record { observed = f.observed; compressed = f.compressed }, left lines.new)) result
+        (read_line read_flags (past lines.old) (left lines.old)) }
+    ensures past { past lines.new ≡ past lines.old }
+{
+    let line = lines.take()?;
+    if line.text == b"flags".as_slice() {
+        return Ok(flags_of(false, false));
+    }
+    if line.text == b"flags observed".as_slice() {
+        return Ok(flags_of(true, false));
+    }
+    if line.text == b"flags compressed".as_slice() {
+        return Ok(flags_of(false, true));
+    }
+    if line.text == b"flags observed compressed".as_slice() {
+        return Ok(flags_of(true, true));
+    }
+    if begins(line.text, b"flags") && Words::of(line.text).has_at_most(3) {
+        return Err(bad_value(line));
+    }
+    Err(bad_line(line))
+}
+
+/// These flags.
+fn flags_of(observed: bool, compressed: bool) -> Flags
+    ensures { result ≡ record { observed = observed; compressed = compressed } }
+{
+    Flags {
+        observed,
+        compressed,
+    }
+}
+
+/// Reads the line of the descriptors, one at least, which have a template.
+pub fn read_descriptors(
+    alloc: Global,
+    tables: &Tables,
+    lines: &mut Lines,
+) -> Result<(Vec<Fxy>, Template), Failure<ListingFault>>
+    ensures read { Gives {Y = Described × List Line}
+        (λ x. (record { descriptors = x.0.items; tree = x.1 }, left lines.new)) result
+        (read_line (read_descriptors tables.now) (past lines.old) (left lines.old)) }
+    ensures past { past lines.new ≡ past lines.old }
+{
+    descriptor_texts();
+    let line = lines.take()?;
+    if !begins(line.text, b"descriptors") {
+        return Err(bad_line(line));
+    }
+    let descriptors = match Words::behind_first(line.text).descriptors(alloc)? {
+        Some(descriptors) if !descriptors.is_empty() => descriptors,
+        _ => return Err(bad_line(line)),
+    };
+    match Template::build(alloc, tables, descriptors.as_slice()) {
+        Ok(template) => Ok((descriptors, template)),
+        Err(Failure::OutOfMemory) => Err(Failure::OutOfMemory),
+        Err(Failure::Fault(fault)) => Err(refused(line, Cause::Template(fault))),
+    }
+}
+
+/// L2 at a line that has the words of its kind, else L1.
+fn wrong_words(line: TextLine, has_count: bool) -> Failure<ListingFault>
+    ensures { result ≡ Failure.Fault (if has_count
+        then ListingFault.BadValue line.entry.number
+        else ListingFault.BadLine line.entry.number) }
+{
+    if has_count {
+        bad_value(line)
+    } else {
+        bad_line(line)
+    }
+}
+
+/// L1 at a line.
+pub fn bad_line(line: TextLine) -> Failure<ListingFault>
+    ensures { result ≡ Failure.Fault (ListingFault.BadLine line.entry.number) }
+{
+    Failure::Fault(ListingFault::BadLine(u128::from(line.number)))
+}
+
+/// L2 at a line.
+pub fn bad_value(line: TextLine) -> Failure<ListingFault>
+    ensures { result ≡ Failure.Fault (ListingFault.BadValue line.entry.number) }
+{
+    Failure::Fault(ListingFault::BadValue(u128::from(line.number)))
+}
+
+/// L3 at a line.
+pub fn refused(line: TextLine, cause: Cause) -> Failure<ListingFault>
+    ensures { result ≡ Failure.Fault (ListingFault.Refused line.entry.number cause) }
+{
+    Failure::Fault(ListingFault::Refused(u128::from(line.number), cause))
+}

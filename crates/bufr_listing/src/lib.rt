@@ -1,0 +1,25 @@
+//! Listings: messages as lines of words, written and read.
+#![tactic(auto)]
+
+mod examples;
+mod fault;
+mod fields;
+mod head_lines;
+mod laws;
+mod line_ends;
+mod line_words;
+mod lines;
+mod messages;
+mod raw_values;
+mod subsets;
+mod text;
+mod writer;
+
+pub use fault::{Cause, ListingFault};
+pub use laws::{listings_are_read_back, listings_list_messages};
+pub use messages::read;
+pub use text::text_of;
+pub use writer::{ListingWriteFault, write_message};
+
+#[cfg(test)]
+mod tests;

@@ -1,0 +1,109 @@
+//! Reading listings.
+
+ghost use Rattle.std.specs.Prelude.{◌≡◌, List, Some, true};
+ghost use Rattle.bufr_tables.specs.Answers.{Gives};
+ghost use Rattle.bufr_listing.specs.Cursors.{left, past};
+ghost use Rattle.bufr_listing.specs.Lines.{Line};
+ghost use Rattle.bufr_listing.specs.Reading.{messages_listed, message_read, MessageRead, head_read, head_with, are_below, section1_limits, time_limits};
+
+use crate::fault::ListingFault;
+use crate::head_lines::{
+    read_descriptors, read_flags, read_local, read_numbers, read_section2, read_word,
+};
+use crate::lines::Lines;
+use crate::subsets::read_subsets;
+use bufr_sections::{Head, Message};
+use bufr_tables::{Failure, Items, Tables};
+use std::alloc::Global;
+
+/// The limits of the numbers of section 1, but those of its time, in the order of their line.
+const SECTION1_LIMITS: [u64; 8] = [65536, 65536, 256, 256, 256, 256, 256, 256];
+
+/// The limits of the numbers of the time, from the year to the second.
+const TIME_LIMITS: [u64; 6] = [65536, 256, 256, 256, 256, 256];
+
+/// The messages that a listing lists, of zero or more blocks. Lines end with LF, which the last may
+/// lack, and a CR before it is cut; empty lines and lines that begin with `#` are skipped, and count
+/// as lines. Else the first fault in the order of lines, on one line L3, L1, L2: L1 `BadLine` where
+/// a line is not the one that is expected, or the text ends within a block; L2 `BadValue` where
+/// another word of it is none that its place can have; L3 `Refused` with X1 to X9 at the line of the
+/// descriptors, and with V1 `EffectiveRange` or V6 `TooLarge` at the line where a field or a subset's
+/// end is expected. Items count over the message. `OutOfMemory` where a growth was refused.
+pub fn read(
+    alloc: Global,
+    tables: &Tables,
+    text: &[u8],
+) -> Result<Vec<Message>, Failure<ListingFault>>
+    ensures { Gives (λ v. v.items) result (messages_listed tables.now text.now) }
+{
+    let mut lines = Lines::of(text);
+    let mut messages = Vec::new(alloc);
+    while lines.peek().is_some() {
+        messages.push(read_message(alloc, tables, &mut lines)?)?;
+    }
+    Ok(messages)
+}
+
+/// Reads the lines of one message.
+fn read_message(
+    alloc: Global,
+    tables: &Tables,
+    lines: &mut Lines,
+) -> Result<Message, Failure<ListingFault>>
+    ensures read { Gives {Y = MessageRead} (λ m. (m, left lines.new)) result (message_read tables.now (past lines.old) (left lines.old)) }
+    ensures past { past lines.new ≡ past lines.old }
+{
+    let head = read_head(alloc, lines)?;
+    let section2 = read_section2(alloc, lines)?;
+    let flags = read_flags(lines)?;
+    let (descriptors, template) = read_descriptors(alloc, tables, lines)?;
+    let subsets = read_subsets(alloc, &template, lines)?;
+    Ok(Message {
+        head,
+        section2,
+        observed: flags.observed,
+        compressed: flags.compressed,
+        descriptors: Items::from_vec(descriptors),
+        subsets: Items::from_vec(subsets),
+    })
+}
+
+/// Reads the lines of section 1.
+fn read_head(alloc: Global, lines: &mut Lines) -> Result<Head, Failure<ListingFault>>
+    ensures read { Gives {Y = Head × List Line} (λ h. (h, left lines.new)) result (head_read (past lines.old) (left lines.old)) }
+    ensures past { past lines.new ≡ past lines.old }
+{
+    read_word(lines, b"message")?;
+    let numbers = read_numbers(alloc, lines, b"section1", &SECTION1_LIMITS)?;
+    let time = read_numbers(alloc, lines, b"time", &TIME_LIMITS)?;
+    let local = match read_local(alloc, lines)? {
+        None => Vec::new(alloc),
+        Some(octets) => octets,
+    };
+    Ok(head_of(&numbers, &time, local))
+}
+
+/// Section 1 of its numbers, those of its time, and its octets for local use.
+fn head_of(numbers: &[u64], time: &[u64], local: Vec<u8>) -> Head
+    requires numbers { are_below section1_limits numbers.now ≡ true }
+    requires time { are_below time_limits time.now ≡ true }
+    ensures { result ≡ head_with numbers.now time.now (Some local.items) }
+{
+    Head {
+        centre: numbers[0] as u16,
+        sub_centre: numbers[1] as u16,
+        update: numbers[2] as u8,
+        category: numbers[3] as u8,
+        international: numbers[4] as u8,
+        local_category: numbers[5] as u8,
+        master_version: numbers[6] as u8,
+        local_version: numbers[7] as u8,
+        year: time[0] as u16,
+        month: time[1] as u8,
+        day: time[2] as u8,
+        hour: time[3] as u8,
+        minute: time[4] as u8,
+        second: time[5] as u8,
+        local: Items::from_vec(local),
+    }
+}

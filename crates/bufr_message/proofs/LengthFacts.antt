@@ -1,0 +1,59 @@
+-- How long the octets of a message are, of its parts: for the law that the reports of a message
+-- have canonical messages.
+use Rattle.std.proofs.Common.{◌≡◌, ℕ, ◌+◌, ◌*◌, ◌≤◌, Option, Some, None, List, [], ◌∷◌, ◌++◌, length, codes, refl, ap, ◌∙◌, arith}
+use Rattle.std.specs.List.{flat_map}
+use Rattle.std.specs.Int.{bytes_high_first}
+use Rattle.std.proofs.lemmas.List.{length-append}
+use Rattle.bufr_sections.specs.declared.layout.Layout.{Layout}
+use Rattle.bufr_sections.specs.declared.layout.Layout.TheVariants.{Edition4}
+use Rattle.bufr_sections.specs.Sections.{Envelope, Ignored, spelling, sections, enclosed, is_present, nothing_ignored, section1, section2, section3, section4}
+
+-- two octets a descriptor
+pairs : (ds : List ℕ) → length (flat_map (bytes_high_first 2) ds) ≡ 2 * length ds
+pairs [] = refl
+pairs (d ∷ ds) = let more = pairs ds in omega arith
+
+enclosed_long : (layout : Layout) (middle : List ℕ)
+    → length (enclosed layout middle) ≡ 12 + length middle
+enclosed_long layout middle = let both = length-append middle (codes "7777") in omega arith
+
+four_parts : (a b c d : List ℕ)
+    → length (a ++ b ++ c ++ d) ≡ length a + length b + length c + length d
+four_parts a b c d =
+    let first = length-append a b in
+    let second = length-append (a ++ b) c in
+    let third = length-append (a ++ b ++ c) d in
+    omega arith
+
+-- a message of edition 4 with nothing in what is free, no octets for local use and no section 2
+pub bare_long : (e : Envelope) → e.head.local ≡ [] → e.section2 ≡ None
+    → length (spelling Edition4 e nothing_ignored)
+    ≡ 45 + 2 * length e.descriptors + length e.contents
+unfolding spelling sections
+bare_long e no_local no_section2 =
+    let one = section1 Edition4 e.head (is_present e.section2) nothing_ignored in
+    let two = section2 e.section2 0 in
+    let three = section3 e nothing_ignored in
+    let four = section4 e.contents 0 in
+    let parts = four_parts one two three four in
+    let first = ap length no_local in
+    let second = ap (λ (s : Option (List ℕ)). length (section2 s 0)) no_section2 in
+    let list = pairs e.descriptors in
+    let third = length-append (flat_map (bytes_high_first 2) e.descriptors) [] in
+    let whole = enclosed_long Edition4 (one ++ two ++ three ++ four) in
+    omega arith
+
+-- no message of edition 4 with these descriptors and these octets in section 4 is shorter
+pub spelling_long : (e : Envelope) (i : Ignored)
+    → 45 + 2 * length e.descriptors + length e.contents ≤ length (spelling Edition4 e i)
+unfolding spelling sections
+spelling_long e i =
+    let one = section1 Edition4 e.head (is_present e.section2) i in
+    let two = section2 e.section2 i.octet2 in
+    let three = section3 e i in
+    let four = section4 e.contents i.octet4 in
+    let parts = four_parts one two three four in
+    let list = pairs e.descriptors in
+    let third = length-append (flat_map (bytes_high_first 2) e.descriptors) i.odd in
+    let whole = enclosed_long Edition4 (one ++ two ++ three ++ four) in
+    omega arith

@@ -1,0 +1,83 @@
+-- The canonical message of a report tells what the report is: for the laws on canonical messages.
+use Rattle.std.proofs.Common.{◌≡◌, ℕ, ◌+◌, ◌*◌, ◌/◌, Bool, List, [], ◌∷◌, ◌++◌, length, Option, Some, None, Result, Ok, Err, refl, sym, ap, ◌∙◌, arith, length-append}
+use Rattle.bufr_bits.specs.Bits.{bits}
+use Rattle.bufr_bits.specs.OctetLaws.{length-bits}
+use Rattle.bufr_data.specs.Plain.{plain}
+use Rattle.bufr_sections.specs.declared.layout.Layout.{Layout}
+use Rattle.bufr_sections.specs.declared.layout.Layout.TheVariants.{Edition4}
+use Rattle.bufr_sections.specs.Sections.{Envelope, Ignored, nothing_ignored, spelling}
+use Rattle.bufr_tables.specs.Entries.{Entries}
+use Rattle.bufr_sections.specs.declared.message.Message.{Message}
+use Rattle.bufr_sections.specs.declared.message.Decoded.{Decoded}
+use Rattle.bufr_message.specs.declared.fault.EncodeFault.{EncodeFault}
+use Rattle.bufr_message.specs.declared.report.Report.{Report}
+use Rattle.bufr_message.specs.Below.{Below}
+use Rattle.bufr_message.specs.Messages.{envelope_with, octets_alone, message_of}
+use Rattle.bufr_message.specs.Encodings.{code}
+use Rattle.bufr_message.specs.Reports.{reports_of, reports_read, reports_in, alone, if_written, IsCanonical}
+use Rattle.bufr_sections.specs.AnswerLaws.{ok_is}
+use Rattle.bufr_message.proofs.LengthFacts.{bare_long}
+use Rattle.bufr_message.proofs.WrittenFacts.{bare_when_written, read_when_written}
+
+-- what is written is octets
+written_takes : (x : Result (List ℕ) EncodeFault) (octets : List ℕ) → if_written x ≡ Some octets → x ≡ Ok octets
+written_takes (Ok o) octets e = ap Ok cc
+written_takes (Err fault) octets e = absurd cc
+
+-- the octets are those that are written for the report alone
+pub canonical_is_code : (tables : Entries) (r : Report) (octets : List ℕ) → IsCanonical tables r octets → code tables (alone r) ≡ Ok octets
+canonical_is_code tables r octets c = written_takes (code tables (alone r)) octets c.written
+
+-- they are read as the report alone
+pub canonical_is_read : Below → (tables : Entries) (r : Report) (octets : List ℕ) → IsCanonical tables r octets
+    → message_of tables octets ≡ Ok (record { message = alone r; slack_octets = 0 })
+canonical_is_read below tables r octets c = read_when_written below tables (alone r) octets c.fits (canonical_is_code tables r octets c)
+
+-- whose one report it is
+pub reports_alone : (r : Report) → reports_of (alone r) ≡ r ∷ []
+reports_alone r = refl
+
+-- the reports of a canonical message
+pub one_report : Below → (tables : Entries) (r : Report) (octets : List ℕ) → IsCanonical tables r octets → reports_in tables octets ≡ r ∷ []
+one_report below tables r octets c = ap reports_read (canonical_is_read below tables r octets c)
+
+-- the first of reports, or this one
+first_of : Report → List Report → Report
+first_of r [] = r
+first_of r (s ∷ ss) = s
+
+-- one canonical message is that of one report
+pub canonical_tells_apart : Below → (tables : Entries) (r s : Report) (octets : List ℕ)
+    → IsCanonical tables r octets → IsCanonical tables s octets → r ≡ s
+unfolding first_of
+canonical_tells_apart below tables r s octets c d =
+    ap (first_of r) (sym (one_report below tables r octets c) ∙ one_report below tables s octets d)
+
+-- octets that hold bits and fewer than eight more are as many as hold them
+contents_long : (own rest : List Bool) (contents : List ℕ) → bits contents ≡ own ++ rest → 0 ≡ length rest / 8
+    → length contents ≡ (length own + 7) / 8
+contents_long own rest contents begins few =
+    let size = ap length begins in
+    let both = length-append own rest in
+    let all = length-bits contents in
+    omega arith
+
+-- spellings in edition 4 with nothing in what is free
+spelt_bare : (layout : Layout) (i : Ignored) (e : Envelope) (octets : List ℕ) → layout ≡ Edition4 → i ≡ nothing_ignored
+    → octets ≡ spelling layout e i → length octets ≡ length (spelling Edition4 e nothing_ignored)
+spelt_bare layout i e octets four nothing is =
+    ap length (is ∙ ap (λ (l : Layout). spelling l e i) four ∙ ap (λ (j : Ignored). spelling Edition4 e j) nothing)
+
+-- a canonical message is as long as its parts say
+pub canonical_long : Below → (tables : Entries) (r : Report) (octets : List ℕ) → IsCanonical tables r octets
+    → length octets ≡ octets_alone r.descriptors r.subset
+canonical_long below tables r octets c =
+    let b = bare_when_written below tables (alone r) octets c.fits (canonical_is_code tables r octets c) in
+    let s = b.spells in
+    let e = envelope_with (alone r) s.contents in
+    let same = spelt_bare s.layout s.ignored e octets b.edition b.nothing s.spelled in
+    let long = bare_long e refl refl in
+    let contents = contents_long s.data_bits s.rest s.contents s.begins s.after in
+    let own = ap length s.holds.2 in
+    let bits_of = length-append (plain r.subset.fields) [] in
+    omega arith

@@ -1,0 +1,7 @@
+use Rattle.std.proofs.Common.{◌≡◌, ◌≤◌, length, take}
+use Rattle.bufr_data.specs.Plain.{plain}
+use Rattle.bufr_message.proofs.alone.is_short.Given as goal
+
+abbrev pub invariant-loop-field : goal.invariant-loop-field
+invariant-loop-field l =
+    (l.bits ≡ length (plain (take l.field-index l.subset.fields))) × (l.bits ≤ 134217720)

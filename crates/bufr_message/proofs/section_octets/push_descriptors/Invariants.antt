@@ -1,7 +1,0 @@
-use Rattle.std.proofs.Common.{◌≡◌, ◌++◌, take}
-use Rattle.std.specs.List.{flat_map}
-use Rattle.std.specs.Int.{bytes_high_first}
-use Rattle.bufr_message.proofs.section_octets.push_descriptors.Given as goal
-
-abbrev pub invariant-loop-descriptor : goal.invariant-loop-descriptor
-invariant-loop-descriptor l = l.out.items ≡ l.initial.out.items ++ flat_map (bytes_high_first 2) (take l.descriptor-index l.descriptors)

@@ -1,9 +1,0 @@
-use Rattle.std.proofs.Common.{◌≡◌, ◌++◌, length}
-use Rattle.bufr_message.specs.Sections.{descriptors_of}
-use Rattle.bufr_message.proofs.sections.descriptors_of.Given as goal
-
-abbrev pub invariant-loop-rest : goal.invariant-loop-rest
-invariant-loop-rest l = l.list.items ++ descriptors_of l.rest ≡ descriptors_of l.fn.octets
-
-abbrev pub decreases-loop-rest : goal.decreases-loop-rest
-decreases-loop-rest l = length l.rest

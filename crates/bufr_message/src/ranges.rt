@@ -1,0 +1,69 @@
+//! The ranges of a message's numbers, which its types keep.
+
+ghost use Rattle.std.specs.Prelude.{◌<◌, ◌^◌, All, IfSome};
+ghost use Rattle.bufr_sections.specs.Sections.{AreOctets, HeadFits};
+ghost use Rattle.bufr_message.specs.Laws.{NumbersFit};
+ghost use Rattle.bufr_message.specs.Lent.{whole};
+
+use crate::lent::Lent;
+use bufr_sections::Head;
+use bufr_tables::{Fxy, Items};
+
+/// The numbers of a message are in the ranges of their fields, by their types. Nothing is done with
+/// them.
+pub(crate) fn numbers_fit(message: &Lent<'_>)
+    ensures { NumbersFit (whole message.now) }
+{
+    head_fits(message.head);
+    section2_fits(message.section2);
+    descriptors_fit(message.descriptors);
+}
+
+/// The same of the head.
+fn head_fits(head: &Head)
+    ensures { HeadFits head.now }
+{
+    pairs_fit(&[head.centre, head.sub_centre, head.year]);
+    octets_fit(&[
+        head.update,
+        head.category,
+        head.international,
+        head.local_category,
+    ]);
+    octets_fit(&[
+        head.master_version,
+        head.local_version,
+        head.month,
+        head.day,
+    ]);
+    octets_fit(&[head.hour, head.minute, head.second]);
+    octets_fit(head.local.as_slice());
+}
+
+/// The same of section 2.
+fn section2_fits(section2: &Option<Items<u8>>)
+    ensures { IfSome section2.now AreOctets }
+{
+    if let Some(local) = section2 {
+        octets_fit(local.as_slice());
+    }
+}
+
+/// The same of octets.
+fn octets_fit(octets: &[u8])
+    ensures { AreOctets octets.now }
+{}
+
+/// The same of numbers of two octets.
+fn pairs_fit(numbers: &[u16])
+    ensures { All (λ n. n < 2 ^ 16) numbers.now }
+{}
+
+/// The same of descriptors.
+fn descriptors_fit(descriptors: &[Fxy])
+    ensures { All (λ d. d < 2 ^ 16) descriptors.now }
+{
+    for descriptor in descriptors {
+        let _bits = descriptor.bits();
+    }
+}

@@ -1,0 +1,179 @@
+//! Reports: one subset of a message with its head, and the message that says a report alone.
+
+ghost use Rattle.std.specs.Prelude.{◌≡◌, IfOk};
+ghost use Rattle.bufr_tables.specs.Answers.{Gives};
+ghost use Rattle.bufr_message.specs.Encodings.{code};
+ghost use Rattle.bufr_message.specs.Reports.{reports_of, with_parts, without_local, with_no_local};
+ghost use Rattle.bufr_message.specs.Reports.{alone, IsCanonical};
+
+use crate::encoding::octets_of;
+use crate::fault::EncodeFault;
+use crate::lent::Lent;
+use crate::ranges::numbers_fit;
+use bufr_data::Subset;
+use bufr_sections::{Head, Message};
+use bufr_tables::{Failure, Fxy, Items, OutOfMemory, Tables};
+use std::alloc::Global;
+use std::slice;
+
+/// What section 1 says of a report: all but the octets for local use.
+#[derive(Debug, Drop, PartialEq)]
+pub struct ReportHead {
+    /// The originating centre.
+    pub centre: u16,
+    /// The originating sub-centre.
+    pub sub_centre: u16,
+    /// The update sequence number, 0 for an original message.
+    pub update: u8,
+    /// The data category (Table A).
+    pub category: u8,
+    /// The international data sub-category.
+    pub international: u8,
+    /// The local data sub-category.
+    pub local_category: u8,
+    /// The version of the master tables.
+    pub master_version: u8,
+    /// The version of the local tables.
+    pub local_version: u8,
+    /// The year.
+    pub year: u16,
+    /// The month.
+    pub month: u8,
+    /// The day of the month.
+    pub day: u8,
+    /// The hour.
+    pub hour: u8,
+    /// The minute.
+    pub minute: u8,
+    /// The second.
+    pub second: u8,
+}
+
+impl ReportHead {
+    /// What a head says but for its octets for local use.
+    fn of_head(head: &Head) -> ReportHead
+        ensures { result ≡ without_local head.now }
+    {
+        ReportHead {
+            centre: head.centre,
+            sub_centre: head.sub_centre,
+            update: head.update,
+            category: head.category,
+            international: head.international,
+            local_category: head.local_category,
+            master_version: head.master_version,
+            local_version: head.local_version,
+            year: head.year,
+            month: head.month,
+            day: head.day,
+            hour: head.hour,
+            minute: head.minute,
+            second: head.second,
+        }
+    }
+
+    /// The head that says this with no octets for local use. It takes no memory.
+    fn with_no_local(&self, alloc: Global) -> Head
+        ensures { result ≡ with_no_local self.now }
+    {
+        Head {
+            centre: self.centre,
+            sub_centre: self.sub_centre,
+            update: self.update,
+            category: self.category,
+            international: self.international,
+            local_category: self.local_category,
+            master_version: self.master_version,
+            local_version: self.local_version,
+            year: self.year,
+            month: self.month,
+            day: self.day,
+            hour: self.hour,
+            minute: self.minute,
+            second: self.second,
+            local: Items::from_vec(Vec::new(alloc)),
+        }
+    }
+}
+
+/// One subset of a message, with all that an archive keeps of the message's sections.
+#[derive(Debug, Drop, PartialEq)]
+pub struct Report {
+    /// Section 1 without its octets for local use.
+    pub head: ReportHead,
+    /// Whether the data are observed.
+    pub observed: bool,
+    /// The descriptors of section 3.
+    pub descriptors: Items<Fxy>,
+    /// The fields.
+    pub subset: Subset,
+}
+
+/// The reports of a message, one a subset, in order. It can only run out of memory; the message is
+/// then gone.
+pub fn reports(alloc: Global, message: Message) -> Result<Vec<Report>, OutOfMemory>
+    ensures { IfOk result (λ found. found.items ≡ reports_of message) }
+{
+    let Message {
+        head,
+        section2: _,
+        observed,
+        compressed: _,
+        descriptors,
+        subsets,
+    } = message;
+    let mut found = Vec::new(alloc);
+    for subset in subsets.into_vec() {
+        found.push(report_with(alloc, &head, observed, &descriptors, subset)?)?;
+    }
+    Ok(found)
+}
+
+/// The report of a subset with this head and these descriptors.
+fn report_with(
+    alloc: Global,
+    head: &Head,
+    observed: bool,
+    descriptors: &Items<Fxy>,
+    subset: Subset,
+) -> Result<Report, OutOfMemory>
+    ensures { IfOk result (λ r. r ≡ with_parts head.now observed descriptors.now subset) }
+{
+    let descriptors = Items::from_vec(Vec::from_slice(alloc, descriptors.as_slice())?);
+    Ok(Report {
+        head: ReportHead::of_head(head),
+        observed,
+        descriptors,
+        subset,
+    })
+}
+
+/// The canonical message of a report: the octets of the message that has its head, no octets for
+/// local use, no section 2 and this one subset, not compressed. Of a report of a decoded message it
+/// can only run out of memory; else the first fault of that message is answered, as `encode` does.
+pub fn canonical(
+    alloc: Global,
+    tables: &Tables,
+    report: &Report,
+) -> Result<Vec<u8>, Failure<EncodeFault>>
+    // What is answered is the report's canonical message.
+    ensures canonical { IfOk result (λ v. IsCanonical tables.now report.now v.items) }
+    // Which octets, or which fault, it is.
+    ensures exact { Gives (λ v. v.items) result (code tables.now (alone report.now)) }
+{
+    let head = report.head.with_no_local(alloc);
+    let none = None;
+    let lent = Lent {
+        head: &head,
+        section2: &none,
+        observed: report.observed,
+        compressed: false,
+        descriptors: report.descriptors.as_slice(),
+        subsets: slice::from_ref(&report.subset),
+    };
+    numbers_fit(&lent);
+    octets_of(alloc, tables, &lent)
+}
+
+#[cfg(test)]
+mod tests;

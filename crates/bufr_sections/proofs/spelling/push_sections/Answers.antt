@@ -1,0 +1,9 @@
+use Rattle.std.proofs.Common.{arith}
+use Rattle.bufr_sections.specs.SectionsRead.{lent}
+use Rattle.bufr_sections.proofs.LengthFacts.{length_of_spelling}
+use Rattle.bufr_sections.proofs.spelling.push_sections.Goals as goal
+
+pub push_section3-requires : goal.push_section3-requires
+push_section3-requires c =
+    let long = length_of_spelling (lent c.args.parts.now) in
+    omega (arith, long, c.requires.long, c.requires.short)

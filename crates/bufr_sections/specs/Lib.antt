@@ -1,0 +1,8 @@
+pub mod Sections
+pub mod SectionsRead
+pub mod Spelt
+pub mod Causes
+pub mod SectionLaws
+pub mod Reasons
+pub mod AnswerLaws
+pub mod Samples

@@ -1,0 +1,87 @@
+-- What the sections that the program holds say, and the places of what section 1 says behind its
+-- length.
+use Rattle.std.specs.Prelude.{ℕ, List, get_or}
+use Rattle.bufr_sections.specs.declared.message.Head.{Head}
+use Rattle.bufr_sections.specs.declared.envelope.Envelope.{Envelope}
+use Rattle.bufr_sections.specs.declared.envelope.Parts.{Parts}
+use Rattle.bufr_sections.specs.declared.sections.Description.{Description}
+use Rattle.bufr_sections.specs.Sections as said
+
+abbrev pub envelope : Envelope → said.Envelope
+envelope e =
+    record {
+      head = e.head;
+      section2 = e.section2;
+      observed = e.observed;
+      compressed = e.compressed;
+      descriptors = e.descriptors;
+      count = e.count;
+      contents = e.contents.now;
+    }
+
+-- what the sections that are to be written say
+abbrev pub lent : Parts → said.Envelope
+lent p =
+    record {
+      head = p.head.now;
+      section2 = p.section2.now;
+      observed = p.observed;
+      compressed = p.compressed;
+      descriptors = p.descriptors.now;
+      count = p.count;
+      contents = p.contents.now;
+    }
+
+-- what section 3 says
+abbrev pub description : Description → said.Description
+description s =
+    record {
+      count = s.count;
+      observed = s.observed;
+      compressed = s.compressed;
+      descriptors = s.descriptors;
+    }
+
+-- the numbers of section 1 of edition 3 at their places behind its length, with these octets for
+-- local use (octets 5 to 17)
+abbrev pub head3_with : List ℕ → List ℕ → Head
+head3_with octets local =
+    record {
+      centre = get_or octets 2 0;
+      sub_centre = get_or octets 1 0;
+      update = get_or octets 3 0;
+      category = get_or octets 5 0;
+      international = 255;
+      local_category = get_or octets 6 0;
+      master_version = get_or octets 7 0;
+      local_version = get_or octets 8 0;
+      year = said.year_of_century (get_or octets 9 0);
+      month = get_or octets 10 0;
+      day = get_or octets 11 0;
+      hour = get_or octets 12 0;
+      minute = get_or octets 13 0;
+      second = 0;
+      local = local;
+    }
+
+-- the numbers of section 1 at their places behind its length, with these octets for local use (FM
+-- 94 BUFR, section 1: octets 5 to 22)
+abbrev pub head_with : List ℕ → List ℕ → Head
+head_with octets local =
+    record {
+      centre = said.two (get_or octets 1 0) (get_or octets 2 0);
+      sub_centre = said.two (get_or octets 3 0) (get_or octets 4 0);
+      update = get_or octets 5 0;
+      category = get_or octets 7 0;
+      international = get_or octets 8 0;
+      local_category = get_or octets 9 0;
+      master_version = get_or octets 10 0;
+      local_version = get_or octets 11 0;
+      year = said.two (get_or octets 12 0) (get_or octets 13 0);
+      month = get_or octets 14 0;
+      day = get_or octets 15 0;
+      hour = get_or octets 16 0;
+      minute = get_or octets 17 0;
+      second = get_or octets 18 0;
+      local = local;
+    }

@@ -1,0 +1,33 @@
+-- The octets that are written for the sections of a message (FM 94 BUFR, WMO-No. 306 Volume I.2:
+-- sections 0 to 5): edition 4, with nothing in what is free.
+use Rattle.std.specs.Prelude.{ℕ, ◌+◌, ◌||◌, Bool, List, ◌∷◌, ◌++◌, length, Result, Ok, Err, nat_lt, if◌then◌else◌}
+use Rattle.std.specs.List.{flat_map}
+use Rattle.std.specs.Int.{bytes_high_first}
+use Rattle.bufr_data.specs.declared.fault.WriteFault.{WriteFault}
+use Rattle.bufr_data.specs.declared.fault.WriteFault.TheVariants.{TooLarge}
+use Rattle.bufr_sections.specs.declared.layout.Layout.TheVariants.{Edition4}
+use Rattle.bufr_sections.specs.Sections.{Envelope, nothing_ignored, section, flag, spelling}
+
+-- section 3 with nothing in what is free
+abbrev pub bare_section3 : ℕ → Bool → Bool → List ℕ → List ℕ
+bare_section3 count observed compressed descriptors = section
+    (0 ∷ bytes_high_first 2 count ++ (flag observed 128 + flag compressed 64 + 0)
+    ∷ flat_map (bytes_high_first 2) descriptors)
+
+-- the greatest number of subsets: it stands in two octets of section 3
+abbrev pub most_subsets : ℕ
+most_subsets = 65535
+
+-- the greatest number of octets: it stands in three octets of section 0
+abbrev pub longest : ℕ
+longest = 16777215
+
+-- the octets of these sections with nothing in what is free
+abbrev pub bare : Envelope → List ℕ
+bare e = spelling Edition4 e nothing_ignored
+
+-- the octets that are written, where there are not too many subsets or octets
+unfoldable pub spelt_or : Envelope → Result (List ℕ) WriteFault
+spelt_or e =
+    if nat_lt most_subsets e.count || nat_lt longest (length (bare e)) then Err TooLarge
+    else Ok (bare e)

@@ -1,0 +1,42 @@
+//! What the sections of a message say.
+
+use crate::message::Head;
+use bufr_tables::{Fxy, Items};
+
+/// What the sections that were read say. The octets of section 4 after its fourth are lent.
+#[derive(Debug, Drop)]
+pub struct Envelope<'a> {
+    /// Section 1.
+    pub head: Head,
+    /// The octets for local use of section 2, where there is one.
+    pub section2: Option<Items<u8>>,
+    /// Whether the data are observed.
+    pub observed: bool,
+    /// Whether the data are compressed.
+    pub compressed: bool,
+    /// The descriptors of section 3.
+    pub descriptors: Items<Fxy>,
+    /// How many subsets are announced.
+    pub count: u16,
+    /// The octets of section 4 after its fourth.
+    pub contents: &'a [u8],
+}
+
+/// What sections are to say, lent by a message or a report that is written.
+#[derive(Clone, Copy, Debug)]
+pub struct Parts<'a> {
+    /// Section 1.
+    pub head: &'a Head,
+    /// The octets for local use of section 2, where there is to be one.
+    pub section2: &'a Option<Items<u8>>,
+    /// Whether the data are observed.
+    pub observed: bool,
+    /// Whether the data are compressed.
+    pub compressed: bool,
+    /// The descriptors of section 3.
+    pub descriptors: &'a [Fxy],
+    /// How many subsets there are.
+    pub count: usize,
+    /// The octets of section 4 after its fourth.
+    pub contents: &'a [u8],
+}

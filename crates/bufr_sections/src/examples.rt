@@ -1,0 +1,103 @@
+//! Worked examples of the definitions: the place of each octet, and each length at both sides of
+//! its threshold.
+
+ghost use Rattle.std.specs.Prelude.{◌≡◌, ◌++◌, Ok, Err, IsOk, Some, None, true, false, [], ◌∷◌, take, codes};
+ghost use Rattle.bufr_data.specs.declared.fault.WriteFault.TheVariants.{TooLarge};
+ghost use Rattle.bufr_sections.specs.Sections.{three, two, layout_of, year_of_century, envelope_of, descriptors_of};
+ghost use Rattle.bufr_sections.specs.Spelt.{bare, spelt_or, longest};
+ghost use Rattle.bufr_sections.specs.Samples.{hex, said4, octets4, octets4_filled, said3, octets3, octets3_with_section2, many_subsets, framed, usual1, plain1, announcing1, short_section3};
+
+use crate::fault::Refused;
+
+/// Numbers of two and of three octets, the high octet first (94.1).
+#[tactic(auto, unfolding(crate::specs::Sections::descriptors_of))]
+pub fn numbers()
+    ensures of_three { three 1 2 3 ≡ 66051 }
+    ensures of_two { two 1 2 ≡ 258 }
+    ensures descriptors { descriptors_of (1 ∷ 2 ∷ 3 ∷ 4 ∷ 5 ∷ []) ≡ 258 ∷ 772 ∷ [] }
+    ensures longest { longest ≡ three 255 255 255 }
+{}
+
+/// Sections of edition 4 that are read: what stands at each place, each flag, and what is ignored.
+#[tactic(auto, unfolding(crate::proofs::OnLiterals::sections_on_literals))]
+pub fn sections_read()
+    ensures observed { envelope_of (octets4 (codes "80")) ≡ Ok (said4 true false) }
+    ensures compressed { envelope_of (octets4 (codes "40")) ≡ Ok (said4 false true) }
+    ensures neither { envelope_of (octets4 (codes "3F")) ≡ Ok (said4 false false) }
+    ensures both { envelope_of (octets4 (codes "FF")) ≡ Ok (said4 true true) }
+    ensures ignored { envelope_of octets4_filled ≡ Ok (said4 true false) }
+{}
+
+/// Sections that are written.
+#[tactic(auto, unfolding(crate::proofs::OnLiterals::sections_on_literals))]
+pub fn sections_written()
+    ensures observed { bare (said4 true false) ≡ octets4 (codes "80") }
+    ensures compressed { bare (said4 false true) ≡ octets4 (codes "40") }
+    ensures few { spelt_or (many_subsets 65535) ≡ Ok (bare (many_subsets 65535)) }
+    ensures many { spelt_or (many_subsets 65536) ≡ Err TooLarge }
+{}
+
+/// Sections of edition 3 that are read.
+#[tactic(auto, unfolding(crate::proofs::OnLiterals::sections_on_literals))]
+pub fn edition_3_read()
+    ensures read { envelope_of octets3 ≡ Ok (said3 None) }
+    ensures section2 { envelope_of octets3_with_section2 ≡ Ok (said3 (Some (20 ∷ []))) }
+    ensures year_69 { year_of_century 69 ≡ 2069 }
+    ensures year_70 { year_of_century 70 ≡ 1970 }
+    ensures year_99 { year_of_century 99 ≡ 1999 }
+    ensures year_100 { year_of_century 100 ≡ 2000 }
+    ensures edition_2 { layout_of 2 ≡ None }
+    ensures edition_5 { layout_of 5 ≡ None }
+{}
+
+/// Sections 0 that are refused, and the end.
+#[tactic(auto, unfolding(crate::proofs::OnLiterals::sections_on_literals))]
+pub fn starts_refused()
+    ensures seven_octets { envelope_of (hex (codes "42554652 000007")) ≡ Err Refused.NotBufr }
+    ensures bufs { envelope_of (hex (codes "42554653 00000C 04 37373737")) ≡ Err Refused.NotBufr }
+    ensures edition_5 { envelope_of (hex (codes "42554652 000008 05")) ≡ Err (Refused.Edition 5) }
+    ensures eight_octets { envelope_of (hex (codes "42554652 000008 04")) ≡ Err Refused.NoEnd }
+    ensures total { envelope_of (hex (codes "42554652 00000D 04 37373737"))
+        ≡ Err Refused.TotalLength }
+    ensures eleven { envelope_of (hex (codes "42554652 00000B 04 373737")) ≡ Err Refused.NoEnd }
+    ensures end { envelope_of (hex (codes "42554652 00000C 04 37373738")) ≡ Err Refused.NoEnd }
+    ensures twelve { envelope_of (hex (codes "42554652 00000C 04 37373737"))
+        ≡ Err Refused.Section1Length }
+{}
+
+/// Sections 1 that are refused: an octet too few in each edition, and another master table.
+#[tactic(auto, unfolding(crate::proofs::OnLiterals::sections_on_literals))]
+pub fn sections_1_refused()
+    ensures short { envelope_of (framed (codes "000021 04") (take 21 (usual1 (codes "000015 00") (codes "00"))))
+        ≡ Err Refused.Section1Length }
+    ensures long { envelope_of (framed (codes "000022 04") (usual1 (codes "000017 00") (codes "00")))
+        ≡ Err Refused.Section1Length }
+    ensures passed { envelope_of (framed (codes "000022 04") plain1) ≡ Err Refused.Section3Length }
+    ensures short3 { envelope_of (framed (codes "00001C 03")
+        (hex (codes "000010 00 00 62 00 00 00 02 25 00 18 01 0F 0C")))
+        ≡ Err Refused.Section1Length }
+    ensures passed3 { envelope_of (framed (codes "00001D 03")
+        (hex (codes "000011 00 00 62 00 00 00 02 25 00 18 01 0F 0C 00")))
+        ≡ Err Refused.Section3Length }
+    ensures table { envelope_of (framed (codes "000022 04") (usual1 (codes "000016 0A") (codes "00")))
+        ≡ Err (Refused.MasterTable 10) }
+{}
+
+/// Sections 2, 3 and 4 that are refused: an octet too few in each, and one too many behind the
+/// last.
+#[tactic(auto, unfolding(crate::proofs::OnLiterals::sections_on_literals))]
+pub fn later_sections_refused()
+    ensures short2 { envelope_of (framed (codes "000025 04") (announcing1 ++ hex (codes "000003")))
+        ≡ Err Refused.Section2Length }
+    ensures passed2 { envelope_of (framed (codes "000026 04") (announcing1 ++ hex (codes "000004 00")))
+        ≡ Err Refused.Section3Length }
+    ensures short3 { envelope_of (framed (codes "00002A 04") (plain1 ++ hex (codes "000008 00 0001 80 00")))
+        ≡ Err Refused.Section3Length }
+    ensures short4 { envelope_of (framed (codes "00002E 04") (plain1 ++ short_section3 ++ hex (codes "000003")))
+        ≡ Err Refused.Section4Length }
+    ensures passed4 { IsOk (envelope_of (framed (codes "00002F 04")
+        (plain1 ++ short_section3 ++ hex (codes "000004 00")))) }
+    ensures room { envelope_of (framed (codes "000030 04")
+        (plain1 ++ short_section3 ++ hex (codes "000004 00 14")))
+        ≡ Err Refused.Section4Length }
+{}

@@ -1,0 +1,37 @@
+//! How the editions of the standard lay section 1 out.
+
+ghost use Rattle.std.specs.Prelude.{◌≡◌};
+ghost use Rattle.bufr_sections.specs.Sections.{layout_of, shortest1, announcing};
+
+/// The layout of section 1 in an edition that is read. The other sections are the same in all of
+/// them.
+#[derive(Clone, Copy, Debug, PartialEq, Eq)]
+pub enum Layout {
+    /// That of edition 4.
+    Edition4,
+    /// That of edition 3.
+    Edition3,
+}
+
+impl Layout {
+    /// The layout of the edition of this number, where it is read.
+    pub(crate) fn of_edition(edition: u8) -> Option<Layout>
+        ensures { result ≡ layout_of edition }
+    {
+        match edition {
+            4 => Some(Layout::Edition4),
+            3 => Some(Layout::Edition3),
+            _ => None,
+        }
+    }
+
+    /// The least length of section 1: its octets before those for local use.
+    pub(crate) fn shortest(self) -> usize
+        ensures { result ≡ shortest1 self }
+    {
+        match self {
+            Layout::Edition4 => 22,
+            Layout::Edition3 => 17,
+        }
+    }
+}

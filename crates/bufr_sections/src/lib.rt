@@ -1,0 +1,23 @@
+//! The sections of BUFR messages: what they say, and the octets that they stand in, with no regard
+//! to what the data bits mean.
+#![tactic(auto)]
+
+mod envelope;
+mod examples;
+mod fault;
+pub mod laws;
+mod layout;
+mod message;
+mod section_octets;
+mod sections;
+mod spelling;
+
+pub use envelope::{Envelope, Parts};
+pub use fault::Refused;
+pub use layout::Layout;
+pub use message::{Decoded, Head, Message};
+pub use sections::read_sections;
+pub use spelling::spell;
+
+#[cfg(test)]
+mod tests;

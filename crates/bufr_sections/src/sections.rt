@@ -1,0 +1,312 @@
+//! The sections of a message, with no regard to what the data bits mean.
+
+ghost use Rattle.std.specs.Prelude.{◌≡◌, List, ℕ, Bool, Option, ◌≤◌, IfOk, length, drop};
+ghost use Rattle.bufr_tables.specs.Answers.{Gives};
+ghost use Rattle.bufr_sections.specs.declared.message.Head.{Head};
+ghost use Rattle.bufr_sections.specs.Sections.{three, two, section_at, room_in, room_of, head4_of, head3_of, head_of, year_of_century, local_at, descriptors_of, description_of, contents_of, sections_of, envelope_of};
+ghost use Rattle.bufr_sections.specs.SectionsRead.{envelope, description, head_with, head3_with};
+
+use crate::envelope::Envelope;
+use crate::fault::Refused;
+use crate::layout::Layout;
+use crate::message::Head;
+use bufr_tables::{Failure, Fxy, Items, OutOfMemory};
+use std::alloc::Global;
+
+/// What section 3 says.
+#[derive(Debug, Drop)]
+struct Description {
+    count: u16,
+    observed: bool,
+    compressed: bool,
+    descriptors: Items<Fxy>,
+}
+
+/// The number of three octets.
+fn number_of_three(high: u8, middle: u8, low: u8) -> usize
+    ensures { result ≡ three high middle low }
+{
+    65536 * high as usize + 256 * middle as usize + low as usize
+}
+
+/// The number of two octets.
+fn number_of_two(high: u8, low: u8) -> u16
+    ensures { result ≡ two high low }
+{
+    256 * high as u16 + low as u16
+}
+
+/// The layout of the edition, and the room between section 0 and `7777`.
+#[tactic(auto, unfolding(crate::specs::Sections::room_of))]
+fn room_of(octets: &[u8]) -> Result<(Layout, &[u8]), Failure<Refused>>
+    ensures { Gives {Y = Layout × List ℕ} (λ x. (x.0, x.1.now)) result (room_of octets.now) }
+{
+    let [b, u, f, r, l1, l2, l3, edition, rest @ ..] = octets else {
+        return Err(Failure::Fault(Refused::NotBufr));
+    };
+    if [*b, *u, *f, *r] != *b"BUFR" {
+        return Err(Failure::Fault(Refused::NotBufr));
+    }
+    let Some(layout) = Layout::of_edition(*edition) else {
+        return Err(Failure::Fault(Refused::Edition(*edition)));
+    };
+    let room = room_in(number_of_three(*l1, *l2, *l3), rest)?;
+    Ok((layout, room))
+}
+
+/// The room before `7777`, of the octets behind section 0, where the message is declared to have so
+/// many octets.
+#[tactic(auto, unfolding(crate::specs::Sections::room_in))]
+fn room_in(total: usize, rest: &[u8]) -> Result<&[u8], Failure<Refused>>
+    ensures { Gives {Y = List ℕ} (λ room. room.now) result (room_in total rest.now) }
+{
+    if total != 8 + rest.len() {
+        return Err(Failure::Fault(Refused::TotalLength));
+    }
+    if rest.len() < 4 {
+        return Err(Failure::Fault(Refused::NoEnd));
+    }
+    let (room, end) = rest.split_at(rest.len() - 4);
+    if end != b"7777".as_slice() {
+        return Err(Failure::Fault(Refused::NoEnd));
+    }
+    Ok(room)
+}
+
+/// A section of at least so many octets at the front of the room: what stands behind its length,
+/// and the room that is left.
+#[tactic(auto, unfolding(crate::specs::Sections::section_at))]
+fn section_at(
+    shortest: usize,
+    fault: Refused,
+    room: &[u8],
+) -> Result<(&[u8], &[u8]), Failure<Refused>>
+    requires { 3 ≤ shortest }
+    ensures { Gives {Y = List ℕ × List ℕ} (λ x. (x.0.now, x.1.now)) result
+        (section_at shortest fault room.now) }
+{
+    match room {
+        [a, b, c, rest @ ..] => {
+            let length = number_of_three(*a, *b, *c);
+            if length < shortest || 3 + rest.len() < length {
+                return Err(Failure::Fault(fault));
+            }
+            Ok(rest.split_at(length - 3))
+        }
+        _ => Err(Failure::Fault(fault)),
+    }
+}
+
+/// What stands behind the first octet, which is reserved.
+fn behind_first(octets: &[u8]) -> &[u8]
+    ensures { result.now ≡ drop 1 octets.now }
+{
+    match octets {
+        [_reserved, rest @ ..] => rest,
+        [] => octets,
+    }
+}
+
+/// The octets for local use, copied.
+fn copied(alloc: Global, octets: &[u8]) -> Result<Items<u8>, OutOfMemory>
+    ensures { IfOk result (λ items. items ≡ octets.now) }
+{
+    Ok(Items::from_vec(Vec::from_slice(alloc, octets)?))
+}
+
+/// What the octets of section 1 behind its length say, with these octets for local use behind the
+/// nineteenth.
+fn head_with(octets: &[u8], local: Items<u8>) -> Head
+    requires { 19 ≤ length octets.now }
+    ensures { result ≡ head_with octets.now local }
+{
+    Head {
+        centre: number_of_two(octets[1], octets[2]),
+        sub_centre: number_of_two(octets[3], octets[4]),
+        update: octets[5],
+        category: octets[7],
+        international: octets[8],
+        local_category: octets[9],
+        master_version: octets[10],
+        local_version: octets[11],
+        year: number_of_two(octets[12], octets[13]),
+        month: octets[14],
+        day: octets[15],
+        hour: octets[16],
+        minute: octets[17],
+        second: octets[18],
+        local,
+    }
+}
+
+/// Section 1 behind its length: what it says, and whether section 2 is announced.
+fn head_of(alloc: Global, layout: Layout, octets: &[u8]) -> Result<(Head, bool), Failure<Refused>>
+    ensures { Gives {Y = Head × Bool} (λ x. (x.0, x.1)) result (head_of layout octets.now) }
+{
+    match layout {
+        Layout::Edition4 => head4_of(alloc, octets),
+        Layout::Edition3 => head3_of(alloc, octets),
+    }
+}
+
+/// The year of an octet that has the year of the century: below 70 it is of this century.
+fn year_of_century(octet: u8) -> u16
+    ensures { result ≡ year_of_century octet }
+{
+    if octet < 70 {
+        2000 + octet as u16
+    } else {
+        1900 + octet as u16
+    }
+}
+
+/// What the octets of section 1 of edition 3 behind its length say, with these octets for local use
+/// behind the fourteenth.
+fn head3_with(octets: &[u8], local: Items<u8>) -> Head
+    requires { 14 ≤ length octets.now }
+    ensures { result ≡ head3_with octets.now local }
+{
+    Head {
+        centre: octets[2] as u16,
+        sub_centre: octets[1] as u16,
+        update: octets[3],
+        category: octets[5],
+        international: 255,
+        local_category: octets[6],
+        master_version: octets[7],
+        local_version: octets[8],
+        year: year_of_century(octets[9]),
+        month: octets[10],
+        day: octets[11],
+        hour: octets[12],
+        minute: octets[13],
+        second: 0,
+        local,
+    }
+}
+
+/// Section 1 of edition 3.
+fn head3_of(alloc: Global, octets: &[u8]) -> Result<(Head, bool), Failure<Refused>>
+    ensures { Gives {Y = Head × Bool} (λ x. (x.0, x.1)) result (head3_of octets.now) }
+{
+    if octets.len() < 14 {
+        return Err(Failure::Fault(Refused::Section1Length));
+    }
+    let table = octets[0];
+    if table != 0 {
+        return Err(Failure::Fault(Refused::MasterTable(table)));
+    }
+    let (_, local) = octets.split_at(14);
+    let local = copied(alloc, local)?;
+    Ok((head3_with(octets, local), octets[4] >= 128))
+}
+
+/// Section 1 of edition 4.
+fn head4_of(alloc: Global, octets: &[u8]) -> Result<(Head, bool), Failure<Refused>>
+    ensures { Gives {Y = Head × Bool} (λ x. (x.0, x.1)) result (head4_of octets.now) }
+{
+    if octets.len() < 19 {
+        return Err(Failure::Fault(Refused::Section1Length));
+    }
+    let master = octets[0];
+    if master != 0 {
+        return Err(Failure::Fault(Refused::MasterTable(master)));
+    }
+    let (_, local) = octets.split_at(19);
+    let local = copied(alloc, local)?;
+    Ok((head_with(octets, local), octets[6] >= 128))
+}
+
+/// The octets for local use of section 2, where it is announced, and the room that is left.
+fn local_at(
+    alloc: Global,
+    announced: bool,
+    room: &[u8],
+) -> Result<(Option<Items<u8>>, &[u8]), Failure<Refused>>
+    ensures { Gives {Y = Option (List ℕ) × List ℕ} (λ x. (x.0, x.1.now)) result
+        (local_at announced room.now) }
+{
+    if !announced {
+        return Ok((None, room));
+    }
+    let (octets, left) = section_at(4, Refused::Section2Length, room)?;
+    Ok((Some(copied(alloc, behind_first(octets))?), left))
+}
+
+/// The descriptors of two octets each; an odd octet is none.
+fn descriptors_of(alloc: Global, octets: &[u8]) -> Result<Items<Fxy>, OutOfMemory>
+    ensures { IfOk result (λ list. list ≡ descriptors_of octets.now) }
+{
+    let mut list = Vec::with_capacity(alloc, octets.len() / 2)?;
+    let mut rest = octets;
+    while let [high, low, others @ ..] = rest {
+        list.push(Fxy::from_bits(number_of_two(*high, *low)))?;
+        rest = others;
+    }
+    Ok(Items::from_vec(list))
+}
+
+/// Section 3 behind its length.
+#[tactic(auto, unfolding(crate::specs::Sections::description_of))]
+fn description_of(alloc: Global, octets: &[u8]) -> Result<Description, Failure<Refused>>
+    ensures { Gives description result (description_of octets.now) }
+{
+    let [_ignored, n1, n2, flags, list @ ..] = octets else {
+        return Err(Failure::Fault(Refused::Section3Length));
+    };
+    Ok(Description {
+        count: number_of_two(*n1, *n2),
+        observed: *flags >= 128,
+        compressed: *flags / 64 % 2 == 1,
+        descriptors: descriptors_of(alloc, list)?,
+    })
+}
+
+/// What stands after the fourth octet of section 4, which fills the room.
+fn contents_of<'a>(octets: &'a [u8], left: &[u8]) -> Result<&'a [u8], Failure<Refused>>
+    ensures { Gives {Y = List ℕ} (λ x. x.now) result (contents_of (octets.now, left.now)) }
+{
+    if !left.is_empty() {
+        return Err(Failure::Fault(Refused::Section4Length));
+    }
+    Ok(behind_first(octets))
+}
+
+/// Sections 1 to 4, which fill the room.
+#[tactic(auto, unfolding(crate::specs::Sections::sections_of))]
+fn sections_of(alloc: Global, layout: Layout, room: &[u8]) -> Result<Envelope<'_>, Failure<Refused>>
+    ensures { Gives envelope result (sections_of layout room.now) }
+{
+    let (one, room) = section_at(layout.shortest(), Refused::Section1Length, room)?;
+    let (head, announced) = head_of(alloc, layout, one)?;
+    let (section2, room) = local_at(alloc, announced, room)?;
+    let (three, room) = section_at(9, Refused::Section3Length, room)?;
+    let description = description_of(alloc, three)?;
+    let (four, left) = section_at(4, Refused::Section4Length, room)?;
+    let contents = contents_of(four, left)?;
+    let Description {
+        count,
+        observed,
+        compressed,
+        descriptors,
+    } = description;
+    Ok(Envelope {
+        head,
+        section2,
+        observed,
+        compressed,
+        descriptors,
+        count,
+        contents,
+    })
+}
+
+/// What octets say that are the sections of a message, or the first cause, of M1 to M9, for which
+/// they are refused; memory may run out.
+#[tactic(auto, unfolding(crate::specs::Sections::envelope_of))]
+pub fn read_sections(alloc: Global, octets: &[u8]) -> Result<Envelope<'_>, Failure<Refused>>
+    ensures { Gives envelope result (envelope_of octets.now) }
+{
+    let (layout, room) = room_of(octets)?;
+    sections_of(alloc, layout, room)
+}

@@ -1,0 +1,5 @@
+pub mod KeyFacts
+pub mod PairLemmas
+pub mod PutLemmas
+pub mod ShelvedLemmas
+pub mod SortedLemmas

@@ -1,0 +1,5 @@
+use Rattle.bufr_shelves.specs.Orders.{exact_entries, slots_total, ranks_total}
+use Rattle.bufr_shelves.proofs.laws.entries_never_tie.Goals as goal
+
+pub returns : goal.returns
+returns c = record { ties = exact_entries; orders = (slots_total, ranks_total) }

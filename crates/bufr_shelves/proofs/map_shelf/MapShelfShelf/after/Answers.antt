@@ -1,0 +1,32 @@
+use Rattle.std.proofs.Common.{◌∙◌, ap, sym}
+use Rattle.std.specs.Option.{option_map, option_copied}
+use Rattle.bufr_shelves.specs.Entries.{entry_after}
+use Rattle.bufr_shelves.specs.Pairs.{with_key, without_key}
+use Rattle.bufr_shelves.specs.Shelves.{lent}
+use Rattle.bufr_shelves.proofs.ShelvedLemmas.{after-keyed, after-last-key, after-unkeyed, entries-are}
+use Rattle.bufr_shelves.proofs.map_shelf.MapShelfShelf.after.Goals as goal
+
+pub returns-in_default : goal.returns-in_default
+returns-in_default c =
+    c.held_without_key.ensures ∙ ap (option_map without_key) c.next_after.ensures
+    ∙ after-unkeyed c.self.inside.keyed.entries c.self.inside.unkeyed.entries (lent c.args.held)
+    (ap option_copied c.in_default.is)
+    ∙ ap (λ es. entry_after es (lent c.args.held))
+    (sym (entries-are c.args.self.now _ c.self.view_is c.self.invariant))
+
+pub returns-in-Some-held_with_key : goal.returns-in-Some-held_with_key
+returns-in-Some-held_with_key c =
+    after-keyed c.self.inside.keyed.entries c.self.inside.unkeyed.entries (lent c.args.held)
+    c.in-Some.key.now (ap option_copied c.in-Some.is) (lent c.in-Some-held_with_key.next)
+    (c.in-Some-held_with_key.ensures ∙ ap (option_map with_key) c.next_after-2.ensures)
+    ∙ ap (λ es. entry_after es (lent c.args.held))
+    (sym (entries-are c.args.self.now _ c.self.view_is c.self.invariant))
+
+pub returns-in-None : goal.returns-in-None
+returns-in-None c =
+    c.held_without_key-in-None.ensures ∙ ap (option_map without_key) c.first_pair.ensures
+    ∙ after-last-key c.self.inside.keyed.entries c.self.inside.unkeyed.entries (lent c.args.held)
+    c.in-Some.key.now (ap option_copied c.in-Some.is)
+    (c.in-None.ensures ∙ ap (option_map with_key) c.next_after-2.ensures)
+    ∙ ap (λ es. entry_after es (lent c.args.held))
+    (sym (entries-are c.args.self.now _ c.self.view_is c.self.invariant))

@@ -1,0 +1,50 @@
+use Rattle.bufr_shelves.proofs.PutLemmas.{keyed-stays, unkeyed-stays, keyed-changes, unkeyed-changes, keyed-put, unkeyed-put}
+use Rattle.bufr_shelves.proofs.ShelvedLemmas.{sorted-keyed, sorted-unkeyed}
+use Rattle.bufr_shelves.proofs.sorted_shelf.SortedShelfShelf.put.Goals as goal
+
+pub invariant_of-self : goal.invariant_of-self
+invariant_of-self c =
+    keyed-stays c.raise.result c.self.inside.keyed.items c.self.inside.unkeyed.items
+    c.raise.new.pairs.items (c.in-Some.key, record { update = c.args.update; bytes = c.args.bytes })
+    c.self.invariant c.raise.ensures.ok c.raise.ensures.err
+
+pub invariant_of-self-in-None : goal.invariant_of-self-in-None
+invariant_of-self-in-None c =
+    unkeyed-stays c.raise-in-None.result c.self.inside.keyed.items c.self.inside.unkeyed.items
+    c.raise-in-None.new.pairs.items (c.args.bytes, c.args.update)
+    c.self.invariant c.raise-in-None.ensures.ok c.raise-in-None.ensures.err
+
+pub returns-in-Some-clause-changed : goal.returns-in-Some-clause-changed
+returns-in-Some-clause-changed c =
+    keyed-changes c.raise.result c.self.inside.keyed.items c.self.inside.unkeyed.items
+    c.args.self.now c.self.view_is c.args.key
+    (c.in-Some.key, record { update = c.args.update; bytes = c.args.bytes })
+    c.in-Some.is c.raise.ensures.changed
+
+pub returns-in-Some-clause-ok : goal.returns-in-Some-clause-ok
+returns-in-Some-clause-ok c =
+    keyed-put c.raise.result c.self.inside.keyed.items c.self.inside.unkeyed.items
+    c.args.self.now c.self.view_is c.args.key c.raise.new.pairs.items
+    (c.in-Some.key, record { update = c.args.update; bytes = c.args.bytes })
+    c.self.invariant c.in-Some.is c.raise.ensures.ok
+
+pub returns-in-None-clause-changed : goal.returns-in-None-clause-changed
+returns-in-None-clause-changed c =
+    unkeyed-changes c.raise-in-None.result c.self.inside.keyed.items c.self.inside.unkeyed.items
+    c.args.self.now c.self.view_is c.args.key (c.args.bytes, c.args.update)
+    c.in-None.is c.raise-in-None.ensures.changed
+
+pub returns-in-None-clause-ok : goal.returns-in-None-clause-ok
+returns-in-None-clause-ok c =
+    unkeyed-put c.raise-in-None.result c.self.inside.keyed.items c.self.inside.unkeyed.items
+    c.args.self.now c.self.view_is c.args.key c.raise-in-None.new.pairs.items
+    (c.args.bytes, c.args.update)
+    c.self.invariant c.in-None.is c.raise-in-None.ensures.ok
+
+pub raise-requires : goal.raise-requires
+raise-requires c =
+    sorted-keyed c.self.inside.keyed.items c.self.inside.unkeyed.items c.self.invariant
+
+pub raise-requires-in-None : goal.raise-requires-in-None
+raise-requires-in-None c =
+    sorted-unkeyed c.self.inside.keyed.items c.self.inside.unkeyed.items c.self.invariant

@@ -1,0 +1,115 @@
+-- Keys, entries and their order, and what an archive keeps of entries.
+use Rattle.std.specs.Prelude.{ℕ, Bool, false, find, Option, Some, None, List}
+use Rattle.std.specs.Cmp.Lexicographic.{slice_cmp}
+use Rattle.std.specs.Ordering.{nat_cmp, int_cmp, ordering_then, is_eq, is_lt}
+use Rattle.std.specs.declared.cmp.Ordering.{Ordering}
+use Rattle.std.specs.declared.cmp.Ordering.TheVariants.{Less, Greater}
+use Rattle.bufr_shelves.specs.Keeping.{kept_by, changes_by}
+use Rattle.bufr_shelves.specs.declared.key.Station.{Station}
+use Rattle.bufr_shelves.specs.declared.key.Station.TheVariants.{Wmo, Wigos, Mobile}
+use Rattle.bufr_shelves.specs.declared.key.Moment.{Moment}
+use Rattle.bufr_shelves.specs.declared.key.Key.{Key}
+use Rattle.bufr_shelves.specs.declared.entry.Entry.{Entry}
+
+-- ---- keys
+
+-- octet by octet, a list before those that it begins
+abbrev pub octets_cmp : List ℕ → List ℕ → Ordering
+octets_cmp a b = slice_cmp nat_cmp a b
+
+-- WMO block and station number (FM 94 BUFR, Table B 001001 and 001002), then WIGOS identifiers
+-- (001125 to 001128), then ship or mobile identifiers (001011); of one kind part by part, names by
+-- octets
+abbrev pub station_cmp : Station → Station → Ordering
+station_cmp (Wmo b n) (Wmo c m) = ordering_then (int_cmp b c) (int_cmp n m)
+station_cmp (Wmo _ _) (Wigos _ _ _ _) = Less
+station_cmp (Wmo _ _) (Mobile _) = Less
+station_cmp (Wigos _ _ _ _) (Wmo _ _) = Greater
+station_cmp (Wigos s i n a) (Wigos t j m b) =
+    ordering_then (int_cmp s t) (ordering_then (int_cmp i j)
+    (ordering_then (int_cmp n m) (octets_cmp a b)))
+station_cmp (Wigos _ _ _ _) (Mobile _) = Less
+station_cmp (Mobile _) (Wmo _ _) = Greater
+station_cmp (Mobile _) (Wigos _ _ _ _) = Greater
+station_cmp (Mobile a) (Mobile b) = octets_cmp a b
+
+-- year, month, day, hour, minute, second (Table B 004001 to 004006)
+abbrev pub moment_cmp : Moment → Moment → Ordering
+moment_cmp a b =
+    ordering_then (nat_cmp a.year b.year) (ordering_then (nat_cmp a.month b.month)
+    (ordering_then (nat_cmp a.day b.day) (ordering_then (nat_cmp a.hour b.hour)
+    (ordering_then (nat_cmp a.minute b.minute) (nat_cmp a.second b.second)))))
+
+-- part by part: originating centre (FM 94 BUFR edition 4, section 1, octets 5 and 6), data
+-- category, international and local sub-category (octets 11 to 13), station, moment, originating
+-- sub-centre (octets 7 and 8)
+abbrev pub key_cmp : Key → Key → Ordering
+key_cmp a b =
+    ordering_then (nat_cmp a.centre b.centre) (ordering_then (nat_cmp a.category b.category)
+    (ordering_then (nat_cmp a.international b.international)
+    (ordering_then (nat_cmp a.local_category b.local_category)
+    (ordering_then (station_cmp a.station b.station)
+    (ordering_then (moment_cmp a.moment b.moment) (nat_cmp a.sub_centre b.sub_centre))))))
+
+-- the same without the sub-centre
+abbrev pub coarse_key_cmp : Key → Key → Ordering
+coarse_key_cmp a b =
+    ordering_then (nat_cmp a.centre b.centre) (ordering_then (nat_cmp a.category b.category)
+    (ordering_then (nat_cmp a.international b.international)
+    (ordering_then (nat_cmp a.local_category b.local_category)
+    (ordering_then (station_cmp a.station b.station) (moment_cmp a.moment b.moment)))))
+
+-- ---- slots and ranks
+
+-- those with a key by key, and after them those without by octets
+abbrev pub slot_in : (Key → Key → Ordering) → Option Key → Option Key → Ordering → Ordering
+slot_in order (Some k) (Some l) by_octets = order k l
+slot_in order (Some k) None by_octets = Less
+slot_in order None (Some l) by_octets = Greater
+slot_in order None None by_octets = by_octets
+
+-- the order of slots, of which each is a key or, where there is none, octets
+abbrev pub slot_by : Option Key → Option Key → Ordering → Ordering
+slot_by a b by_octets = slot_in key_cmp a b by_octets
+
+-- the order of an archive; entries that tie in it contend for one slot
+abbrev pub slot_cmp : Entry → Entry → Ordering
+slot_cmp a b = slot_by a.key b.key (octets_cmp a.bytes b.bytes)
+
+-- the same, by keys without the sub-centre
+abbrev pub coarse_slot_cmp : Entry → Entry → Ordering
+coarse_slot_cmp a b = slot_in coarse_key_cmp a.key b.key (octets_cmp a.bytes b.bytes)
+
+-- by update sequence number (FM 94 BUFR edition 4, section 1, octet 9), and then by octets: of one
+-- slot the greatest is kept
+abbrev pub rank_cmp : Entry → Entry → Ordering
+rank_cmp a b = ordering_then (nat_cmp a.update b.update) (octets_cmp a.bytes b.bytes)
+
+-- ---- what is kept
+
+-- the entries that are kept of some, in order of slots
+abbrev pub kept : List Entry → List Entry
+kept entries = kept_by slot_cmp rank_cmp entries
+
+-- what was kept of some while keys had no sub-centre
+abbrev pub coarsely_kept : List Entry → List Entry
+coarsely_kept entries = kept_by coarse_slot_cmp rank_cmp entries
+
+-- an entry changes what is kept where none of its slot is of its rank or a greater one
+abbrev pub changes : List Entry → Entry → Bool
+changes entries e = changes_by slot_cmp rank_cmp entries e
+
+-- ---- what is looked up
+
+-- the key is this one
+abbrev pub has_key : Key → Option Key → Bool
+has_key key None = false
+has_key key (Some k) = is_eq (key_cmp key k)
+
+-- the entry of a key, if there is one
+abbrev pub entry_at : List Entry → Key → Option Entry
+entry_at entries key = find (λ e. has_key key e.key) entries
+
+-- the first entry whose slot comes after that of e
+abbrev pub entry_after : List Entry → Entry → Option Entry
+entry_after entries e = find (λ f. is_lt (slot_cmp e f)) entries

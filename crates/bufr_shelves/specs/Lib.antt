@@ -1,0 +1,11 @@
+pub mod Keeping
+pub mod KeepingLaws
+pub mod Entries
+pub mod Orders
+pub mod Ranks
+pub mod Merging
+pub mod Pairs
+pub mod Shelves
+pub mod ChangeLaws
+pub mod WalkLaws
+pub mod Laws

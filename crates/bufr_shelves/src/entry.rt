@@ -1,0 +1,41 @@
+//! Entries of a shelf.
+use crate::key::Key;
+use crate::octets::Octets;
+use std::alloc::AllocError;
+pub use std::alloc::AllocError as OutOfMemory;
+use thiserror::Error;
+
+/// An entry: its key, if it has one, its update number and its octets.
+#[derive(Debug, Drop)]
+pub struct Entry {
+    pub key: Option<Key>,
+    pub update: u8,
+    pub bytes: Octets,
+}
+
+/// An entry that a shelf lends.
+#[derive(Clone, Copy, Debug, Drop)]
+pub struct Held<'a> {
+    pub key: Option<&'a Key>,
+    pub update: u8,
+    pub bytes: &'a Octets,
+}
+
+/// Why nothing was joined.
+#[derive(Clone, Copy, Debug, Drop, Error)]
+pub enum JoinFault {
+    /// Memory was refused.
+    #[error("out of memory")]
+    OutOfMemory,
+}
+
+impl From<AllocError> for JoinFault {
+    ghost use Rattle.std.specs.Prelude.{◌≡◌};
+    ghost use Rattle.bufr_shelves.specs.declared.entry.JoinFault.TheVariants.{OutOfMemory as NothingJoined};
+
+    ghost from_gives = { λ _ fault. fault ≡ NothingJoined };
+
+    fn from(_: AllocError) -> JoinFault {
+        JoinFault::OutOfMemory
+    }
+}

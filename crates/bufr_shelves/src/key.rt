@@ -1,0 +1,83 @@
+//! Keys of reports, and their order.
+ghost use Rattle.std.specs.Prelude.{◌≡◌};
+
+use crate::octets::Octets;
+
+/// The station of a report. WMO numbers come before WIGOS identifiers, and these before mobile
+/// names; of one kind they are ordered part by part, names by octets.
+#[derive(Clone, Debug, Drop, PartialEq, Eq, PartialOrd, Ord)]
+pub enum Station {
+    /// WMO block number and WMO station number (Table B 001001 and 001002).
+    Wmo {
+        block: i128,
+        number: i128,
+    },
+    /// WIGOS identifier: series, issuer, issue number and local identifier (Table B 001125 to
+    /// 001128).
+    Wigos {
+        series: i128,
+        issuer: i128,
+        number: i128,
+        name: Octets,
+    },
+    /// Ship or mobile land station identifier (Table B 001011).
+    Mobile {
+        name: Octets,
+    },
+}
+
+// Contracts see the parts of a station by their place: these clauses pin the places.
+impl Station {
+    /// WMO block number and WMO station number (Table B 001001 and 001002).
+    pub fn wmo(block: i128, number: i128) -> Station
+        ensures { result ≡ Station.Wmo block number }
+    {
+        Station::Wmo { block, number }
+    }
+
+    /// WIGOS identifier: series, issuer, issue number and local identifier (Table B 001125 to
+    /// 001128).
+    pub fn wigos(series: i128, issuer: i128, number: i128, name: Octets) -> Station
+        ensures { result ≡ Station.Wigos series issuer number name }
+    {
+        Station::Wigos {
+            series,
+            issuer,
+            number,
+            name,
+        }
+    }
+
+    /// Ship or mobile land station identifier (Table B 001011).
+    pub fn mobile(name: Octets) -> Station
+        ensures { result ≡ Station.Mobile name }
+    {
+        Station::Mobile { name }
+    }
+}
+
+/// The time of a report, ordered by year, month, day, hour, minute and second (Table B 004001 to
+/// 004006).
+#[derive(Clone, Copy, Debug, Drop, PartialEq, Eq, PartialOrd, Ord)]
+pub struct Moment {
+    pub year: u16,
+    pub month: u8,
+    pub day: u8,
+    pub hour: u8,
+    pub minute: u8,
+    pub second: u8,
+}
+
+/// What two reports of one observation have in common: originating centre, data category,
+/// international and local sub-category, station, moment and originating sub-centre. Keys are
+/// ordered part by part. Centre, categories and sub-centre are those of section 1 (FM 94 BUFR).
+#[derive(Clone, Debug, Drop, PartialEq, Eq, PartialOrd, Ord)]
+pub struct Key {
+    pub centre: u16,
+    pub category: u8,
+    pub international: u8,
+    pub local_category: u8,
+    pub station: Station,
+    pub moment: Moment,
+    pub sub_centre: u16,
+}

@@ -1,0 +1,46 @@
+//! Shelves: what an archive of reports keeps.
+//!
+//! An entry is a key or none, an update number and octets. It contends for a slot: its key, or its
+//! octets where it has no key. Of the entries of one slot the one of greatest rank is kept, by
+//! update number and then by octets; all are in order of slots, those with a key first. So a shelf
+//! holds the same whatever order its entries came in, and whichever shelves were joined first.
+//!
+//! [`MapShelf`] stands on ordered maps, where `put` takes logarithmic time. [`SortedShelf`] stands
+//! on sorted vectors, where `put` also moves all that comes after its place, eight octets for each
+//! entry: it is for entries that come nearly in order, and for joins. Times in seconds, of entries
+//! with a key and 63 octets each, compiled by LLVM, on a machine of four cores with other work:
+//!
+//! | | `MapShelf` | `SortedShelf` |
+//! |---|---|---|
+//! | 1,000,000 put in random order | 1.6 | 79 |
+//! | 100,000 put in random order | 0.1 | 0.5 |
+//! | 1,000,000 put in rising order | 0.8 | 0.4 |
+//! | two shelves of 500,000 joined | 0.9 | 0.3 |
+//! | 1,000,000 copied | 0.4 | 0.4 |
+//! | 1,000,000 met by `first` and `after` | 0.2 | 0.2 |
+//!
+//! What is joined, copied and met was put in random order.
+#![tactic(auto)]
+
+pub mod entry;
+pub mod held;
+pub mod key;
+pub mod laws;
+pub mod map_shelf;
+pub mod octets;
+mod rank;
+pub mod shelf;
+pub mod shelving;
+pub mod sorted_shelf;
+
+pub use entry::{Entry, Held, JoinFault, OutOfMemory};
+pub use held::slot_order;
+pub use key::{Key, Moment, Station};
+pub use map_shelf::MapShelf;
+pub use octets::Octets;
+pub use shelf::Shelf;
+pub use shelving::shelve;
+pub use sorted_shelf::SortedShelf;
+
+#[cfg(test)]
+mod tests;

@@ -1,0 +1,18 @@
+-- The pieces of a printed line, joined from the left as they are defined and from the right as they are
+-- formatted. The contracts of `message_text` and `text_of_tally` need it.
+use Rattle.std.proofs.Common.{◌≡◌, ℕ, List, ◌∷◌, ◌++◌, append_assoc}
+
+five : (a b c d e f : List ℕ) → a ++ (b ++ (c ++ (d ++ (e ++ f)))) ≡ ((((a ++ b) ++ c) ++ d) ++ e) ++ f
+five a b c d e f = simp append_assoc
+
+-- the line of a frame that spells a message
+pub checked_joined : (place long ok subsets slack end : List ℕ)
+    → place ++ (32 ∷ (long ++ (ok ++ (subsets ++ (32 ∷ (slack ++ end))))))
+    ≡ ((((place ++ 32 ∷ long) ++ ok) ++ subsets) ++ 32 ∷ slack) ++ end
+checked_joined place long ok subsets slack end = five place (32 ∷ long) ok subsets (32 ∷ slack) end
+
+-- the last line
+pub tally_joined : (one frames two refused three skipped end : List ℕ)
+    → one ++ (frames ++ (two ++ (refused ++ (three ++ (skipped ++ end)))))
+    ≡ (((((one ++ frames) ++ two) ++ refused) ++ three) ++ skipped) ++ end
+tally_joined one frames two refused three skipped end = simp append_assoc

@@ -1,0 +1,84 @@
+use Rattle.std.proofs.Common.{◌≡◌, ◌++◌, arith, ap, length-append, None}
+use Rattle.bufr_tool.specs.declared.fault.ToolFault.TheVariants as faults
+use Rattle.bufr_tool.specs.StreamEngines.{PrintsPiece}
+use Rattle.bufr_tool.proofs.PrintingFacts.{refused_at_most, passed, some_is}
+use Rattle.bufr_tool.proofs.StreamFacts.{amid_fits, amid_more, amid_none, amid_halted, amid_stopped}
+use Rattle.bufr_frame.specs.TakingLaws.{taking_fed}
+use Rattle.bufr_tool.proofs.frames.print_piece.Goals as goal
+
+pub take_next-requires : goal.take_next-requires
+take_next-requires g c =
+    let so_far = c.requires.so_far in
+    let a = c.loop-found.invariant so_far.0 so_far.1 so_far.2 in
+    let fed = taking_fed _ _ _ _ a.taking in
+    let whole = length-append so_far.1 c.args.piece.now in
+    let start = so_far.2.handed.stands.fed in
+    let room = c.requires.room in
+    omega arith
+
+pub loop-found-preserved : goal.loop-found-preserved
+loop-found-preserved g c first stream h =
+    let e = c.in-Some.is in
+    amid_more _ _ first _ _ _ _ _ _ _ _ _ c.in-Some.frame c.in_ok-print_frame.field-0
+    (c.loop-found.invariant first stream h) c.in_ok-found.ensures.rest
+    (some_is _ _ _ e c.in_ok-found.ensures.frame) (some_is _ _ _ e c.in_ok-found.ensures.next)
+    c.in_ok-print_frame.ensures
+
+pub returns-in_err-found : goal.returns-in_err-found
+returns-in_err-found g c first stream h =
+    passed (PrintsPiece c.args.printing c.args.tables.now (stream ++ c.args.piece.now) c.take_next.new.self c.loop-found.counts first (g.W.Sink.writing c.loop-found.writer))
+    c.from_residual.result faults.OutOfMemory c.from_residual.ensures.1
+    (amid_halted _ _ first _ _ _ c.loop-found.counts _ _ (c.loop-found.invariant first stream h))
+
+pub returns-in_default : goal.returns-in_default
+returns-in_default g c first stream h =
+    let e : c.in_ok-found.field-0.found ≡ None = c.in_default.is in
+    amid_none _ _ first _ _ _ _ _ _ (c.loop-found.invariant first stream h) (c.in_ok-found.ensures.none e) (c.in_ok-found.ensures.waits e)
+
+pub print_frame-requires-clause-few : goal.print_frame-requires-clause-few
+print_frame-requires-clause-few g c =
+    let so_far = c.requires.so_far in
+    let e = c.in-Some.is in
+    let fits = amid_fits _ _ _ _ _ _ _ _ _ _ c.in-Some.frame (c.loop-found.invariant so_far.0 so_far.1 so_far.2) c.in_ok-found.ensures.rest (some_is _ _ _ e c.in_ok-found.ensures.frame) (some_is _ _ _ e c.in_ok-found.ensures.next) in
+    let one = fits.0 in
+    let whole = length-append so_far.1 c.args.piece.now in
+    let start = so_far.2.handed.stands.fed in
+    let room = c.requires.room in
+    omega arith
+
+pub print_frame-requires-clause-refused : goal.print_frame-requires-clause-refused
+print_frame-requires-clause-refused g c =
+    let so_far = c.requires.so_far in
+    refused_at_most _ _ _ _ _ _ (c.loop-found.invariant so_far.0 so_far.1 so_far.2).printed
+
+pub print_frame-requires-clause-octets : goal.print_frame-requires-clause-octets
+print_frame-requires-clause-octets g c =
+    let so_far = c.requires.so_far in
+    let e = c.in-Some.is in
+    let fits = amid_fits _ _ _ _ _ _ _ _ _ _ c.in-Some.frame (c.loop-found.invariant so_far.0 so_far.1 so_far.2) c.in_ok-found.ensures.rest (some_is _ _ _ e c.in_ok-found.ensures.frame) (some_is _ _ _ e c.in_ok-found.ensures.next) in
+    let two = fits.1 in
+    let whole = length-append so_far.1 c.args.piece.now in
+    let start = so_far.2.handed.stands.fed in
+    let room = c.requires.room in
+    omega arith
+
+pub returns-in_err-print_frame : goal.returns-in_err-print_frame
+returns-in_err-print_frame g c first stream h =
+    let e = c.in-Some.is in
+    passed (PrintsPiece c.args.printing c.args.tables.now (stream ++ c.args.piece.now) c.take_next.new.self c.print_frame.new.counts first (g.W.Sink.writing c.print_frame.new.writer))
+    c.from_residual-in_err-print_frame.result c.in_err-print_frame.field-0.0 c.from_residual-in_err-print_frame.ensures.1
+    (amid_stopped _ _ first _ _ _ _ _ c.print_frame.new.counts c.print_frame.new.counts _ _ _ c.in-Some.frame c.in_err-print_frame.field-0.0
+    (c.loop-found.invariant first stream h) c.in_ok-found.ensures.rest
+    (some_is _ _ _ e c.in_ok-found.ensures.frame) (some_is _ _ _ e c.in_ok-found.ensures.next)
+    c.in_err-print_frame.ensures)
+
+pub loop-found-smaller : goal.loop-found-smaller
+loop-found-smaller g c =
+    let so_far = c.requires.so_far in
+    let e = c.in-Some.is in
+    let fits = amid_fits _ _ _ _ _ _ _ _ _ _ c.in-Some.frame (c.loop-found.invariant so_far.0 so_far.1 so_far.2) c.in_ok-found.ensures.rest (some_is _ _ _ e c.in_ok-found.ensures.frame) (some_is _ _ _ e c.in_ok-found.ensures.next) in
+    let one = fits.0 in
+    let whole = length-append so_far.1 c.args.piece.now in
+    let start = so_far.2.handed.stands.fed in
+    let more = ap (λ k. k.frames) c.in_ok-print_frame.ensures.1 in
+    omega arith

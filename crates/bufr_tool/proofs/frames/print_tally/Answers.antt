@@ -1,0 +1,33 @@
+use Rattle.std.proofs.Common.{arith, ◌∙◌}
+use Rattle.bufr_tool.specs.declared.fault.ToolFault.TheVariants as faults
+use Rattle.bufr_tool.specs.StreamEngines.{PrintsEnd}
+use Rattle.bufr_tool.proofs.FrameBounds.{cut_short}
+use Rattle.bufr_tool.proofs.PrintingFacts.{passed}
+use Rattle.bufr_tool.proofs.StreamFacts.{end_tally, end_done, end_fails, end_halted}
+use Rattle.bufr_tool.proofs.frames.print_tally.Goals as goal
+
+pub skipped-requires : goal.skipped-requires
+skipped-requires g c =
+    let h = c.requires.3 in
+    let a = h.long in
+    let b = h.printed.octets_are in
+    let s = cut_short c.requires.2 in
+    omega arith
+
+pub returns-in_err-text : goal.returns-in_err-text
+returns-in_err-text g c tables first stream h =
+    passed (PrintsEnd c.args.printing tables stream first (g.W.Sink.writing c.args.writer.now))
+    c.from_residual.result faults.OutOfMemory c.from_residual.ensures.1
+    (end_halted _ _ first _ _ stream h.printed)
+
+pub returns-in_err-write_out : goal.returns-in_err-write_out
+returns-in_err-write_out g c tables first stream h =
+    let tally = end_tally _ tables first _ _ _ _ stream h c.skipped.ensures in
+    passed (PrintsEnd c.args.printing tables stream first (g.W.Sink.writing c.write_out.new.writer))
+    c.from_residual-in_err-write_out.result c.in_err-write_out.field-0.0 c.from_residual-in_err-write_out.ensures.1
+    (end_fails _ tables first _ _ c.args.counts.now c.args.fed stream c.deref.result.now _ _ h tally (c.deref.ensures.value ∙ c.in_ok-text.ensures) c.in_err-write_out.ensures)
+
+pub returns : goal.returns
+returns g c tables first stream h =
+    let tally = end_tally _ tables first _ _ _ _ stream h c.skipped.ensures in
+    end_done _ tables first _ _ c.args.counts.now c.args.fed stream c.deref.result.now _ h tally (c.deref.ensures.value ∙ c.in_ok-text.ensures) c.in_ok-write_out.ensures

@@ -1,0 +1,29 @@
+use Rattle.std.proofs.Common.{◌≡◌, true, codes, refl}
+use Rattle.clap.specs.Words.{takes}
+use Rattle.clap.proofs.OnLiterals.{clap_on_literals}
+use Rattle.bufr_tool.specs.CommandLines.{commands, line_words, task_of, value_of}
+use Rattle.bufr_tool.specs.declared.words.Task.TheVariants.{Check}
+use Rattle.bufr_tool.proofs.words.lines_of_check.Goals as goal
+
+is_taken : takes commands (line_words (codes "check")) ≡ true
+unfolding clap_on_literals
+is_taken = refl
+
+has_task : task_of (line_words (codes "check")) ≡ Check
+unfolding clap_on_literals
+has_task = refl
+
+has_b : value_of (codes "b") (line_words (codes "check")) ≡ codes "elements.csv"
+unfolding clap_on_literals
+has_b = refl
+
+has_d : value_of (codes "d") (line_words (codes "check")) ≡ codes "sequences.csv"
+unfolding clap_on_literals
+has_d = refl
+
+has_input : value_of (codes "input") (line_words (codes "check")) ≡ codes "bulletin"
+unfolding clap_on_literals
+has_input = refl
+
+pub returns : goal.returns
+returns c = record { taken = is_taken; task = has_task; b = has_b; d = has_d; input = has_input }

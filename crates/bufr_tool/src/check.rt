@@ -1,0 +1,33 @@
+//! The engine of `check`.
+
+ghost use Rattle.std.specs.Prelude.{◌≡◌, ◌≤◌, false};
+ghost use Rattle.bufr_tool.specs.Engines.{IsFresh};
+ghost use Rattle.bufr_tool.specs.StreamEngines.{Prints};
+ghost use Rattle.bufr_tool.specs.declared.printing.Printing.TheVariants.{Checked};
+
+use crate::fault::{Tally, ToolFault};
+use crate::frames::print_stream;
+use crate::printing::Printing;
+use bufr_bits::{Sink, Source};
+use bufr_tables::Tables;
+use std::alloc::Global;
+
+/// Writes a line for each frame of a reader's stream: its place, its length and whether it spells a
+/// message. Each is written as soon as its frame is sure. A last line counts the frames, those that
+/// are refused, and the octets outside frames; so does the tally.
+pub fn run_check<S: Source, W: Sink>(
+    alloc: Global,
+    reads: u64,
+    tables: &Tables,
+    reader: &mut S,
+    writer: &mut W,
+) -> Result<Tally, ToolFault>
+    requires few { reads ≤ 4294967296 }
+    requires fresh { IsFresh (S.reading reader.old) }
+    requires works { (W.writing writer.old).failed ≡ false }
+    ensures bounded { (S.reading reader.new).reads ≤ reads }
+    ensures checks { Prints Checked tables.now reads (S.reading reader.old) (S.reading reader.new)
+        (W.writing writer.old) (W.writing writer.new) result }
+{
+    print_stream(alloc, Printing::Checked, reads, tables, reader, writer)
+}
