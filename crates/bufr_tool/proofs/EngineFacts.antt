@@ -9,17 +9,17 @@ use Rattle.bufr_frame.specs.Streams.{cut, sure, Stands}
 use Rattle.bufr_frame.specs.StreamLaws.{cut-piece}
 use Rattle.bufr_frame.specs.TakingLaws.{handed_first}
 use Rattle.bufr_tool.specs.declared.counts.Counts.{Counts}
-use Rattle.bufr_tool.specs.declared.fault.Input.TheVariants.{Number}
-use Rattle.bufr_tool.specs.declared.fault.Tally.{Tally}
-use Rattle.bufr_tool.specs.declared.fault.ToolFault.{ToolFault}
-use Rattle.bufr_tool.specs.declared.fault.ToolFault.TheVariants as faults
+use Rattle.bufr_engines.specs.declared.fault.Input.TheVariants.{Number}
+use Rattle.bufr_engines.specs.declared.fault.Tally.{Tally}
+use Rattle.bufr_engines.specs.declared.fault.ToolFault.{ToolFault}
+use Rattle.bufr_engines.specs.declared.fault.ToolFault.TheVariants as faults
 use Rattle.bufr_tool.specs.declared.printing.Printing.{Printing}
-use Rattle.bufr_tool.specs.Engines.{IsFresh, WasReadOut, HasGiven, AreAllOf, WritesAll, FailsAfter}
-use Rattle.bufr_tool.specs.Inputs.{GoesOn}
+use Rattle.bufr_engines.specs.Engines.{IsFresh, WasReadOut, HasGiven, AreAllOf, WritesAll, FailsAfter}
+use Rattle.bufr_engines.specs.Inputs.{GoesOn}
 use Rattle.bufr_tool.specs.Output.{frames_text, stream_text, last_text, tally_of}
 use Rattle.bufr_tool.specs.StreamEngines.{frames_by, text_by, Prints, PrintsFrames, HasPrintedSure, PrintsEnd}
-use Rattle.bufr_tool.proofs.InputFacts.{HasGiven_none}
-use Rattle.bufr_tool.proofs.WriterFacts.{writes_none, fails_longer}
+use Rattle.bufr_engines.specs.ReadingLaws.{HasGiven_none}
+use Rattle.bufr_engines.specs.WritingLaws.{writes_none, fails_longer}
 use Rattle.bufr_tool.proofs.PrintingFacts.{no_counts, printed_none, fails_further}
 
 -- between two reads: these octets were given, and what is sure of them was printed
@@ -89,6 +89,9 @@ prints_part printing tables reads old new first now counts read count faults.Out
 prints_part printing tables reads old new first now counts read count (faults.ReadFailed source) g p = absurd p
 prints_part printing tables reads old new first now counts read count (faults.EndlessInput source) g p = absurd p
 prints_part printing tables reads old new first now counts read count (faults.Table source fault) g p = absurd p
+prints_part printing tables reads old new first now counts read count (faults.Listing why) g p = absurd p
+prints_part printing tables reads old new first now counts read count (faults.Encode number why) g p = absurd p
+prints_part printing tables reads old new first now counts read count (faults.NotAnArchive input place) g p = absurd p
 
 -- a text of all octets is one of those that were read
 of_all : (left : Option (List ℕ)) (read : List ℕ) (P : List ℕ → Type 0) → IfSome left (λ all. all ≡ read) → P read → IfSome left P
@@ -112,6 +115,9 @@ prints_whole printing tables reads old new first now read (Err faults.OutOfMemor
 prints_whole printing tables reads old new first now read (Err (faults.ReadFailed source)) out all given p = absurd p
 prints_whole printing tables reads old new first now read (Err (faults.EndlessInput source)) out all given p = absurd p
 prints_whole printing tables reads old new first now read (Err (faults.Table source fault)) out all given p = absurd p
+prints_whole printing tables reads old new first now read (Err (faults.Listing why)) out all given p = absurd p
+prints_whole printing tables reads old new first now read (Err (faults.Encode number why)) out all given p = absurd p
+prints_whole printing tables reads old new first now read (Err (faults.NotAnArchive input place)) out all given p = absurd p
 
 -- nothing was read
 pub prints_nothing : (printing : Printing) (tables : Entries) (reads : ℕ) (reader : Reading) (writer : Writing) → IsFresh reader → writer.failed ≡ false

@@ -1,6 +1,4 @@
-mod InputFacts
 mod TextFacts
-mod WriterFacts
 mod FrameBounds
 mod PrintingFacts
 mod StreamFacts

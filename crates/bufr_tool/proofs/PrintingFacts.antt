@@ -13,13 +13,13 @@ use Rattle.bufr_message.specs.declared.Refused.{Refused}
 use Rattle.bufr_message.specs.declared.Decoded.{Decoded}
 use Rattle.bufr_message.specs.Messages.{message_of}
 use Rattle.bufr_tool.specs.declared.counts.Counts.{Counts}
-use Rattle.bufr_tool.specs.declared.fault.ToolFault.{ToolFault}
-use Rattle.bufr_tool.specs.declared.fault.ToolFault.TheVariants as faults
+use Rattle.bufr_engines.specs.declared.fault.ToolFault.{ToolFault}
+use Rattle.bufr_engines.specs.declared.fault.ToolFault.TheVariants as faults
 use Rattle.bufr_tool.specs.declared.printing.Printing.{Printing}
-use Rattle.bufr_tool.specs.Engines.{WritesAll, FailsAfter}
+use Rattle.bufr_engines.specs.Engines.{WritesAll, FailsAfter}
 use Rattle.bufr_tool.specs.Output.{frame_text, frame_refused, refused_as, frames_text}
 use Rattle.bufr_tool.specs.StreamEngines.{PrintsFrame, HasPrinted, PrintsFrames}
-use Rattle.bufr_tool.proofs.WriterFacts.{writes_none, writes_more, fails_more, fails_longer}
+use Rattle.bufr_engines.specs.WritingLaws.{writes_none, writes_more, fails_more, fails_longer}
 
 -- the text of frames and one more, and of more frames
 pub text_more : (printing : Printing) (tables : Entries) (frames : List Found) (frame : Found)
@@ -120,6 +120,9 @@ stopped printing tables first mid now counts counts' last frames more all frame 
 stopped printing tables first mid now counts counts' last frames more all frame (faults.ReadFailed source) is h p = absurd p
 stopped printing tables first mid now counts counts' last frames more all frame (faults.EndlessInput source) is h p = absurd p
 stopped printing tables first mid now counts counts' last frames more all frame (faults.Table source fault) is h p = absurd p
+stopped printing tables first mid now counts counts' last frames more all frame (faults.Listing why) is h p = absurd p
+stopped printing tables first mid now counts counts' last frames more all frame (faults.Encode number why) is h p = absurd p
+stopped printing tables first mid now counts counts' last frames more all frame (faults.NotAnArchive input place) is h p = absurd p
 
 -- memory ran out after some of all frames
 pub halted : (printing : Printing) (tables : Entries) (first now : Writing) (counts last : Counts) (frames more all : List Found)

@@ -12,15 +12,15 @@ use Rattle.bufr_frame.specs.Takings.{taken_in, IsRestOf, IsNextFrame, IsNoFrame,
 use Rattle.bufr_frame.specs.TakingLaws.{handed_front, handed_end, taking_first, taking_one, taking_none}
 use Rattle.bufr_frame.specs.StreamLaws.{sure-piece, cut-end}
 use Rattle.bufr_tool.specs.declared.counts.Counts.{Counts}
-use Rattle.bufr_tool.specs.declared.fault.ToolFault.{ToolFault}
-use Rattle.bufr_tool.specs.declared.fault.ToolFault.TheVariants as faults
+use Rattle.bufr_engines.specs.declared.fault.ToolFault.{ToolFault}
+use Rattle.bufr_engines.specs.declared.fault.ToolFault.TheVariants as faults
 use Rattle.bufr_tool.specs.declared.printing.Printing.{Printing}
-use Rattle.bufr_tool.specs.declared.fault.Tally.{Tally}
-use Rattle.bufr_tool.specs.Engines.{WritesAll, WritesAfter, FailsAfter}
+use Rattle.bufr_engines.specs.declared.fault.Tally.{Tally}
+use Rattle.bufr_engines.specs.Engines.{WritesAll, WritesAfter, FailsAfter}
 use Rattle.bufr_tool.specs.Output.{octets_of, frames_text, stream_text, last_text, tally_of, skipped_by}
 use Rattle.bufr_tool.specs.StreamEngines.{PrintsFrame, HasPrinted, PrintsFrames, HasPrintedSure, HasEnded, PrintsEnd}
 use Rattle.bufr_tool.proofs.FrameBounds.{sure_few, sure_short, cut_few, cut_short}
-use Rattle.bufr_tool.proofs.WriterFacts.{writes_more, fails_more, fails_longer}
+use Rattle.bufr_engines.specs.WritingLaws.{writes_more, fails_more, fails_longer}
 use Rattle.bufr_tool.proofs.PrintingFacts.{printed_more, stopped, halted}
 
 -- within a piece: all but the rest of the stream was taken in, and the frames handed out were printed
@@ -174,6 +174,9 @@ end_fails printing tables first mid now counts fed stream text tally faults.OutO
 end_fails printing tables first mid now counts fed stream text tally (faults.ReadFailed source) h is last w = absurd w
 end_fails printing tables first mid now counts fed stream text tally (faults.EndlessInput source) h is last w = absurd w
 end_fails printing tables first mid now counts fed stream text tally (faults.Table source fault) h is last w = absurd w
+end_fails printing tables first mid now counts fed stream text tally (faults.Listing why) h is last w = absurd w
+end_fails printing tables first mid now counts fed stream text tally (faults.Encode number why) h is last w = absurd w
+end_fails printing tables first mid now counts fed stream text tally (faults.NotAnArchive input place) h is last w = absurd w
 
 -- memory ran out before the last line
 pub end_halted : (printing : Printing) (tables : Entries) (first now : Writing) (counts : Counts) (stream : List ℕ)
@@ -189,3 +192,6 @@ end_early printing tables first now counts stream faults.OutOfMemory p = p
 end_early printing tables first now counts stream (faults.ReadFailed source) p = absurd p
 end_early printing tables first now counts stream (faults.EndlessInput source) p = absurd p
 end_early printing tables first now counts stream (faults.Table source fault) p = absurd p
+end_early printing tables first now counts stream (faults.Listing why) p = absurd p
+end_early printing tables first now counts stream (faults.Encode number why) p = absurd p
+end_early printing tables first now counts stream (faults.NotAnArchive input place) p = absurd p

@@ -4,11 +4,11 @@ use Rattle.bufr_bits.specs.Devices.{Reading}
 use Rattle.bufr_tables.specs.declared.file.TableFault.{TableFault}
 use Rattle.bufr_tables.specs.Entries.{Entries}
 use Rattle.bufr_tables.specs.TableFiles.{table_b, table_d}
-use Rattle.bufr_tool.specs.declared.fault.Input.{Input}
-use Rattle.bufr_tool.specs.declared.fault.Input.TheVariants.{TableB, TableD, Number}
-use Rattle.bufr_tool.specs.declared.fault.ToolFault.{ToolFault}
-use Rattle.bufr_tool.specs.declared.fault.ToolFault.TheVariants as faults
-use Rattle.bufr_tool.specs.Engines.{WasReadOut, HasFailed, IsEndless}
+use Rattle.bufr_engines.specs.declared.fault.Input.{Input}
+use Rattle.bufr_engines.specs.declared.fault.Input.TheVariants.{TableB, TableD, Number}
+use Rattle.bufr_engines.specs.declared.fault.ToolFault.{ToolFault}
+use Rattle.bufr_engines.specs.declared.fault.ToolFault.TheVariants as faults
+use Rattle.bufr_engines.specs.Engines.{WasReadOut, HasFailed, IsEndless}
 
 -- Table B was read to its end and has no fault
 abbrev pub LoadsB : Reading → Reading → Type 0
@@ -37,6 +37,6 @@ Loads reads b b' d d' (Ok tables) = WasReadOut b' × WasReadOut d'
 Loads reads b b' d d' (Err (faults.ReadFailed source)) = FailsAt source HasFailed b b' d d'
 Loads reads b b' d d' (Err (faults.EndlessInput source)) = FailsAt source
     (IsEndless reads) b b' d d'
-Loads reads b b' d d' (Err (faults.WriteFailed written)) = ⊥
 Loads reads b b' d d' (Err (faults.Table source fault)) = IsFaultOf source fault b b' d d'
 Loads reads b b' d d' (Err faults.OutOfMemory) = Unit {0}
+Loads reads b b' d d' (Err fault) = ⊥

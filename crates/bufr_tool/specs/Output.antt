@@ -10,17 +10,9 @@ use Rattle.bufr_message.specs.declared.Refused.{Refused}
 use Rattle.bufr_message.specs.Messages.{message_of}
 use Rattle.bufr_message.specs.Listings.{listing}
 use Rattle.bufr_message.specs.Reasons.{reason}
-use Rattle.bufr_tool.specs.declared.fault.Input.{Input}
-use Rattle.bufr_tool.specs.declared.fault.Input.TheVariants.{TableB, TableD, Number}
-use Rattle.bufr_tool.specs.declared.fault.Tally.{Tally}
+use Rattle.bufr_engines.specs.declared.fault.Tally.{Tally}
 use Rattle.bufr_tool.specs.declared.printing.Printing.{Printing}
 use Rattle.bufr_tool.specs.declared.printing.Printing.TheVariants.{Shown, Checked}
-
--- what the lines of faults call an input
-unfoldable pub input_text : Input → List ℕ
-input_text TableB = codes "table B"
-input_text TableD = codes "table D"
-input_text (Number n) = codes "input " ++ decimal n
 
 -- ---- one frame
 

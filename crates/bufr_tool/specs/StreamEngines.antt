@@ -8,13 +8,13 @@ use Rattle.bufr_frame.specs.Framings.{Framing}
 use Rattle.bufr_frame.specs.Streams.{cut, sure}
 use Rattle.bufr_frame.specs.Takings.{HandedOut}
 use Rattle.bufr_tool.specs.declared.counts.Counts.{Counts}
-use Rattle.bufr_tool.specs.declared.fault.Input.TheVariants.{Number}
-use Rattle.bufr_tool.specs.declared.fault.Tally.{Tally}
-use Rattle.bufr_tool.specs.declared.fault.ToolFault.{ToolFault}
-use Rattle.bufr_tool.specs.declared.fault.ToolFault.TheVariants as faults
+use Rattle.bufr_engines.specs.declared.fault.Input.TheVariants.{Number}
+use Rattle.bufr_engines.specs.declared.fault.Tally.{Tally}
+use Rattle.bufr_engines.specs.declared.fault.ToolFault.{ToolFault}
+use Rattle.bufr_engines.specs.declared.fault.ToolFault.TheVariants as faults
 use Rattle.bufr_tool.specs.declared.printing.Printing.{Printing}
-use Rattle.bufr_tool.specs.Engines.{WasReadOut, HasFailed, IsEndless, HasGiven, AreAllOf, WritesAll}
-use Rattle.bufr_tool.specs.Engines.{FailsAfter}
+use Rattle.bufr_engines.specs.Engines.{WasReadOut, HasFailed, IsEndless, HasGiven, AreAllOf, WritesAll}
+use Rattle.bufr_engines.specs.Engines.{FailsAfter}
 use Rattle.bufr_tool.specs.Output.{frame_text, frame_refused, frames_text, refused_of, octets_of}
 use Rattle.bufr_tool.specs.Output.{stream_text, tally_of}
 

@@ -1,15 +1,14 @@
 //! The commands of the program, over a runtime with files and any two writers.
 
 ghost use Rattle.std.specs.Prelude.{◌≤◌, IfSome};
-ghost use Rattle.bufr_tool.specs.Engines.{IsFresh};
+ghost use Rattle.bufr_engines.specs.Engines.{IsFresh};
 
 use crate::check::run_check;
-use crate::fault::{Tally, ToolFault};
-use crate::output::write_out;
 use crate::show::run_show;
 use crate::tables::load_tables;
 use crate::words::{CommandLine, Task, line};
 use bufr_bits::{FromRead, IntoWrite, Source};
+use bufr_engines::{Tally, ToolFault, write_out};
 use clap::error::ErrorKind;
 use std::alloc::Global;
 use std::convert::AsStr;

@@ -4,10 +4,7 @@
 mod check;
 mod command;
 mod counts;
-mod fault;
 mod frames;
-mod input;
-mod output;
 mod printing;
 mod show;
 mod tables;
@@ -15,9 +12,9 @@ mod tables;
 mod tests;
 mod words;
 
+pub use bufr_engines::{Input, Tally, ToolFault};
 pub use check::run_check;
 pub use command::run_command;
-pub use fault::{Input, Tally, ToolFault};
 pub use show::run_show;
 pub use tables::load_tables;
 pub use words::{CommandLine, Task, line, lines_of_show};

@@ -5,7 +5,7 @@ ghost use Rattle.bufr_tables.specs.Answers.{result_map};
 ghost use Rattle.bufr_message.specs.Messages.{message_of};
 ghost use Rattle.bufr_tool.specs.Output.{frame_text, frame_refused, last_text, printed_as};
 
-use crate::fault::Tally;
+use bufr_engines::Tally;
 use bufr_frame::Found;
 use bufr_message::{Decoded, Refused, decode, listing};
 use bufr_tables::{Failure, Tables};

@@ -2,12 +2,11 @@
 
 ghost use Rattle.std.specs.Prelude.{◌≤◌};
 ghost use Rattle.bufr_tables.specs.Answers.{result_map};
-ghost use Rattle.bufr_tool.specs.Engines.{IsFresh};
+ghost use Rattle.bufr_engines.specs.Engines.{IsFresh};
 ghost use Rattle.bufr_tool.specs.Loads.{Loads};
 
-use crate::fault::{Input, ToolFault};
-use crate::input::read_all;
 use bufr_bits::Source;
+use bufr_engines::{Input, ToolFault, read_all};
 use bufr_tables::{Failure, TableB, TableD, Tables};
 use std::alloc::Global;
 

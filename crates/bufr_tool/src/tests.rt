@@ -6,10 +6,10 @@ ghost use Rattle.std.specs.Prelude.{Some, None};
 mod streams;
 
 use crate::command::run_command;
-use crate::fault::{Input, ToolFault};
 use crate::show::run_show;
 use crate::tables::load_tables;
 use bufr_bits::{Failed, FromRead, IntoWrite, Sink, Source};
+use bufr_engines::{Input, ToolFault};
 use bufr_tables::{Column, TableB, TableD, TableFault, Tables};
 use std::alloc::Global;
 use std::process::Abort;

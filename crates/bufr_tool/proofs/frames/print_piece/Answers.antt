@@ -1,5 +1,5 @@
 use Rattle.std.proofs.Common.{◌≡◌, ◌++◌, arith, ap, length-append, None}
-use Rattle.bufr_tool.specs.declared.fault.ToolFault.TheVariants as faults
+use Rattle.bufr_engines.specs.declared.fault.ToolFault.TheVariants as faults
 use Rattle.bufr_tool.specs.StreamEngines.{PrintsPiece}
 use Rattle.bufr_tool.proofs.PrintingFacts.{refused_at_most, passed, some_is}
 use Rattle.bufr_tool.proofs.StreamFacts.{amid_fits, amid_more, amid_none, amid_halted, amid_stopped}

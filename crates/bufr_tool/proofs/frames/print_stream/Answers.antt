@@ -1,4 +1,4 @@
-use Rattle.bufr_tool.specs.declared.fault.ToolFault.TheVariants as faults
+use Rattle.bufr_engines.specs.declared.fault.ToolFault.TheVariants as faults
 use Rattle.bufr_tool.specs.StreamEngines.{Prints}
 use Rattle.bufr_tool.proofs.PrintingFacts.{passed}
 use Rattle.bufr_tool.proofs.EngineFacts.{prints_nothing}

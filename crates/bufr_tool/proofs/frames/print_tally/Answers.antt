@@ -1,5 +1,5 @@
 use Rattle.std.proofs.Common.{arith, ◌∙◌}
-use Rattle.bufr_tool.specs.declared.fault.ToolFault.TheVariants as faults
+use Rattle.bufr_engines.specs.declared.fault.ToolFault.TheVariants as faults
 use Rattle.bufr_tool.specs.StreamEngines.{PrintsEnd}
 use Rattle.bufr_tool.proofs.FrameBounds.{cut_short}
 use Rattle.bufr_tool.proofs.PrintingFacts.{passed}

@@ -1,5 +1,5 @@
-use Rattle.bufr_tool.specs.Inputs.{GoesOn}
-use Rattle.bufr_tool.proofs.input.gather.Given as goal
+use Rattle.bufr_engines.specs.Inputs.{GoesOn}
+use Rattle.bufr_engines.proofs.input.gather.Given as goal
 
 -- what was read so far
 abbrev pub invariant-loop : goal.invariant-loop

@@ -1,7 +1,7 @@
 use Rattle.std.proofs.Common.{arith, take, length, ◌<◌, refl}
 use Rattle.std.proofs.lemmas.List.{length-take}
-use Rattle.bufr_tool.proofs.InputFacts.{GoesOn_more, GoesOn_ends}
-use Rattle.bufr_tool.proofs.input.gather.Goals as goal
+use Rattle.bufr_engines.specs.ReadingLaws.{GoesOn_more, GoesOn_ends}
+use Rattle.bufr_engines.proofs.input.gather.Goals as goal
 
 pub returns-then-given-eq0-clause-all : goal.returns-then-given-eq0-clause-all
 returns-then-given-eq0-clause-all g c = GoesOn_ends _ _ _ _ _ _ c.loop.invariant c.in-Ok.ensures.gave (rw c.if-given-eq0.true refl)

@@ -1,7 +1,7 @@
 //! Writing a text.
 
 ghost use Rattle.std.specs.Prelude.{◌≡◌, ◌+◌, ◌<◌, ◌^◌, false, length};
-ghost use Rattle.bufr_tool.specs.Engines.{WritesAfter};
+ghost use Rattle.bufr_engines.specs.Engines.{WritesAfter};
 
 use crate::fault::ToolFault;
 use bufr_bits::Sink;

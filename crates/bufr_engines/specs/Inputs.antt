@@ -1,10 +1,10 @@
 -- What is read of an input.
 use Rattle.std.specs.Prelude.{◌≡◌, ℕ, false, List, ◌++◌, take, Result, Ok, Err}
 use Rattle.bufr_bits.specs.Devices.{Reading}
-use Rattle.bufr_tool.specs.declared.fault.Input.{Input}
-use Rattle.bufr_tool.specs.declared.fault.ToolFault.{ToolFault}
-use Rattle.bufr_tool.specs.declared.fault.ToolFault.TheVariants as faults
-use Rattle.bufr_tool.specs.Engines.{WasReadOut, HasFailed, IsEndless, HasGiven, AreAllOf}
+use Rattle.bufr_engines.specs.declared.fault.Input.{Input}
+use Rattle.bufr_engines.specs.declared.fault.ToolFault.{ToolFault}
+use Rattle.bufr_engines.specs.declared.fault.ToolFault.TheVariants as faults
+use Rattle.bufr_engines.specs.Engines.{WasReadOut, HasFailed, IsEndless, HasGiven, AreAllOf}
 
 -- a reader that was read so often, works, has not met its end, and gave these octets
 pub record GoesOn (old new : Reading) (octets : List ℕ) (count : ℕ) : Type 0 where

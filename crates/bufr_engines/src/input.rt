@@ -2,8 +2,8 @@
 
 ghost use Rattle.std.specs.Prelude.{◌≡◌, ◌≤◌, ◌<◌, [], IfOk, length, vec_len};
 ghost use Rattle.bufr_tables.specs.Answers.{result_map};
-ghost use Rattle.bufr_tool.specs.Engines.{IsFresh};
-ghost use Rattle.bufr_tool.specs.Inputs.{KeepsFront, ReadsAll};
+ghost use Rattle.bufr_engines.specs.Engines.{IsFresh};
+ghost use Rattle.bufr_engines.specs.Inputs.{KeepsFront, ReadsAll};
 
 use crate::fault::{Input, ToolFault};
 use bufr_bits::Source;

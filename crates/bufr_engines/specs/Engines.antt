@@ -2,8 +2,8 @@
 use Rattle.std.specs.Prelude.{◌≡◌, ℕ, ◌+◌, ◌≤◌, true, false, Some, List, ◌++◌, length, take, IfSome}
 use Rattle.std.specs.Prelude.{Result, Ok, Err}
 use Rattle.bufr_bits.specs.Devices.{Reading, Writing, Writes}
-use Rattle.bufr_tool.specs.declared.fault.ToolFault.{ToolFault}
-use Rattle.bufr_tool.specs.declared.fault.ToolFault.TheVariants as faults
+use Rattle.bufr_engines.specs.declared.fault.ToolFault.{ToolFault}
+use Rattle.bufr_engines.specs.declared.fault.ToolFault.TheVariants as faults
 
 -- ---- readers
 

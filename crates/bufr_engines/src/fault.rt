@@ -1,9 +1,11 @@
 //! What an engine answers.
 
 ghost use Rattle.std.specs.Prelude.{◌≡◌, Some};
-ghost use Rattle.bufr_tool.specs.Output.{input_text};
-ghost use Rattle.bufr_tool.specs.declared.fault.ToolFault.TheVariants.{OutOfMemory};
+ghost use Rattle.bufr_engines.specs.Faults.{input_text};
+ghost use Rattle.bufr_engines.specs.declared.fault.ToolFault.TheVariants.{OutOfMemory};
 
+use bufr_message::EncodeFault;
+use bufr_message::listing::ListingFault;
 use bufr_tables::TableFault;
 use std::alloc::AllocError;
 use std::fmt;
@@ -12,7 +14,7 @@ use thiserror::Error;
 /// What an engine has read and written.
 #[derive(Clone, Copy, Debug, Drop, PartialEq, Eq)]
 pub struct Tally {
-    /// The frames that were found.
+    /// The frames that were found; the messages that were written, the archives that were read.
     pub frames: u128,
     /// Those of them that spell no message.
     pub refused: u128,
@@ -36,7 +38,7 @@ pub enum Input {
 impl fmt::Display for Input {
     ghost output = { λ input. Some (input_text input) };
 
-    #[tactic(auto, unfolding(crate::specs::Output::input_text))]
+    #[tactic(auto, unfolding(crate::specs::Faults::input_text))]
     fn fmt<W: fmt::Write>(&self, f: &mut fmt::Formatter<W>) -> fmt::Result {
         match self {
             Input::TableB => write!(f, "table B"),
@@ -61,6 +63,15 @@ pub enum ToolFault {
     /// The file of a table has a fault.
     #[error("{0}: {1}")]
     Table(Input, TableFault),
+    /// The listing has a fault.
+    #[error("listing: {0}")]
+    Listing(ListingFault),
+    /// A message of the listing, counted from 1, is not written.
+    #[error("message {0}: {1}")]
+    Encode(u128, EncodeFault),
+    /// An input, counted from 1, is no archive: the start of its first entry that is not right.
+    #[error("not an archive input {input} at {place}")]
+    NotAnArchive { input: u128, place: u64 },
     /// Memory ran out.
     #[error("out of memory")]
     OutOfMemory,

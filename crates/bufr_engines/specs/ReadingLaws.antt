@@ -4,8 +4,8 @@ use Rattle.std.proofs.Common.{◌≡◌, ℕ, ◌+◌, ◌<◌, false, nat_eq, O
 use Rattle.std.proofs.lemmas.List.{take-append-drop, append-nil}
 use Rattle.std.proofs.lemmas.Bool.Decides.{nat_tests}
 use Rattle.bufr_bits.specs.Devices.{Reading, Gave}
-use Rattle.bufr_tool.specs.Engines.{WasReadOut, HasGiven, AreAllOf}
-use Rattle.bufr_tool.specs.Inputs.{GoesOn}
+use Rattle.bufr_engines.specs.Engines.{WasReadOut, HasGiven, AreAllOf}
+use Rattle.bufr_engines.specs.Inputs.{GoesOn}
 
 -- a fresh reader gave nothing
 given_none : (left : Option (List ℕ)) → IfSome left (λ all. (rest : List ℕ) × (all ≡ [] ++ rest) × (left ≡ Some rest))

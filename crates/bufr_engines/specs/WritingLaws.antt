@@ -3,7 +3,7 @@ use Rattle.std.proofs.Common.{◌≡◌, ℕ, ◌+◌, Option, Some, None, List,
 use Rattle.std.proofs.lemmas.List.{append-nil, take-append-le}
 use Rattle.std.proofs.Math.Seq.{take-append-add}
 use Rattle.bufr_bits.specs.Devices.{Writing}
-use Rattle.bufr_tool.specs.Engines.{WritesAll, FailsAfter}
+use Rattle.bufr_engines.specs.Engines.{WritesAll, FailsAfter}
 
 -- one text after another
 taken_more : (first mid now : Option (List ℕ)) (a b : List ℕ) → IfSome first (λ x. mid ≡ Some (x ++ a)) → IfSome mid (λ x. now ≡ Some (x ++ b))
