@@ -6,7 +6,8 @@ use Rattle.std.proofs.lemmas.List.Elements.{All-take}
 use Rattle.bufr_frame.specs.Starts.{announced}
 use Rattle.bufr_frame.specs.Cuts.{IsOneFrame}
 use Rattle.bufr_shelves.specs.declared.entry.Entry.{Entry}
-use Rattle.bufr_archive.specs.Texts.{AreOctets, ◌>>=◌, comes_after, front_of, right_entry}
+use Rattle.bufr_sections.specs.Sections.{AreOctets}
+use Rattle.bufr_archive.specs.Texts.{◌>>=◌, comes_after, front_of, right_entry}
 use Rattle.bufr_archive.specs.EntryLaws.{HasEntryLaws}
 
 -- ---- the octets that a total length announces
@@ -47,7 +48,7 @@ front_whole (a ∷ b ∷ c ∷ d ∷ x ∷ y ∷ z ∷ rest) long less =
 -- ---- steps of a chain
 
 -- what a chain answers follows from what its first step does
-bind_some : {A B : Type 0} (x : Option A) (f : A → Option B) (y : B) → (x >>= f) ≡ Some y
+pub bind_some : {A B : Type 0} (x : Option A) (f : A → Option B) (y : B) → (x >>= f) ≡ Some y
     → (a : A) × (x ≡ Some a) × (f a ≡ Some y)
 bind_some (Some a) f y e = (a, refl, e)
 bind_some None f y e = absurd cc
@@ -59,7 +60,7 @@ mapped_some f (Some a) y e = (a, cc)
 mapped_some f None y e = absurd cc
 
 -- a value that is given where a test is true
-tested_some : {A : Type 0} (b : Bool) (x y : A) → cond b (Some x) None ≡ Some y
+pub tested_some : {A : Type 0} (b : Bool) (x y : A) → cond b (Some x) None ≡ Some y
     → (b ≡ true) × (x ≡ y)
 tested_some true x y e = (refl, cc)
 tested_some false x y e = absurd cc

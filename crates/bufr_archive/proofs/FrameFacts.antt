@@ -13,12 +13,12 @@ use Rattle.bufr_archive.specs.TextLaws.{AreFrames, FramesOfTexts, FramesOfFronts
 use Rattle.bufr_archive.proofs.TextFacts.{kept_each}
 
 -- what bufr_frame says of frames that are joined, and of fronts of these
-abbrev Joined : Type 0
+abbrev pub Joined : Type 0
 Joined = (frames : List (List ℕ)) → AllByRecursion IsOneFrame frames
     → cut (flat_map (λ octets. octets) frames) ≡ frames_at 0 frames
 
 -- and of fronts of these
-abbrev Fronts : Type 0
+abbrev pub Fronts : Type 0
 Fronts = (frames : List (List ℕ)) (k n : ℕ) → AllByRecursion IsOneFrame frames → k ≤ length frames
     → length (flat_map (λ octets. octets) (take k frames)) ≤ n
     → take k (cut (take n (flat_map (λ octets. octets) frames))) ≡ frames_at 0 (take k frames)

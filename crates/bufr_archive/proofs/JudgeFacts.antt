@@ -6,7 +6,8 @@ use Rattle.std.proofs.lemmas.List.{drop_at}
 use Rattle.std.proofs.lemmas.List.Elements.{All-from_recursion}
 use Rattle.bufr_tables.specs.Answers.{result_map}
 use Rattle.bufr_shelves.specs.declared.entry.Entry.{Entry}
-use Rattle.bufr_archive.specs.Texts.{AreOctets, text, comes_after, right_entry, entry_then, judged}
+use Rattle.bufr_sections.specs.Sections.{AreOctets}
+use Rattle.bufr_archive.specs.Texts.{text, comes_after, right_entry, entry_then, judged}
 use Rattle.bufr_archive.specs.EntryLaws.{HasEntryLaws}
 use Rattle.bufr_archive.proofs.EntryFacts as facts
 
@@ -80,16 +81,17 @@ drop_rest x xs (y ∷ b) more long is =
     ap (λ k. drop k xs) (let n : suc (length b) - 1 ≡ length b = omega arith in n)
     ∙ ap (drop (length b)) same ∙ drop_at b more (length b) refl
 
+-- entries, each after the one before
+abbrev pub IsRun : (Entry → Type 0) → Option Entry → List Entry → Type 0
+IsRun is_entry before [] = Unit {0}
+IsRun is_entry before (e ∷ es) =
+    is_entry e × (comes_after before e ≡ true) × IsRun is_entry (Some e) es
+
 module _ (is_entry : Entry → Type 0) (entry_in : List ℕ → Option Entry)
     (laws : HasEntryLaws is_entry entry_in) where
   -- octets begin with an entry
   abbrev Takes : Option Entry → List ℕ → Entry → Type 0
   Takes before octets e = facts.Takes is_entry entry_in laws before octets e
-
-  -- entries, each after the one before
-  abbrev pub IsRun : Option Entry → List Entry → Type 0
-  IsRun before [] = Unit {0}
-  IsRun before (e ∷ es) = is_entry e × (comes_after before e ≡ true) × IsRun (Some e) es
 
   -- ---- what is right is taken
 
@@ -133,7 +135,7 @@ module _ (is_entry : Entry → Type 0) (entry_in : List ℕ → Option Entry)
 
   -- the entries of a run are taken, and what follows them is judged after them
   pub judged_past : (before : Option Entry) (place : ℕ) (es : List Entry) (more : List ℕ)
-      → IsRun before es
+      → IsRun is_entry before es
       → judged entry_in before place 0 (text es ++ more)
       ≡ result_map (λ fs. es ++ fs) (judged entry_in (last_of before es)
       (place + length (text es)) 0 more)
@@ -159,12 +161,12 @@ module _ (is_entry : Entry → Type 0) (entry_in : List ℕ → Option Entry)
   -- what is accepted is a run, and its octets are the text
   pub judged_takes : (before : Option Entry) (place skip : ℕ) (xs : List ℕ) (es : List Entry)
       → EachOctet xs → judged entry_in before place skip xs ≡ Ok es
-      → IsRun before es × (drop skip xs ≡ text es)
+      → IsRun is_entry before es × (drop skip xs ≡ text es)
   unfolding judged
   judged_takes before place zero [] es a h =
-      let none : [] ≡ es = cc in (subst (IsRun before) none tt, ap text none)
+      let none : [] ≡ es = cc in (subst (IsRun is_entry before) none tt, ap text none)
   judged_takes before place (suc skip) [] es a h =
-      let none : [] ≡ es = cc in (subst (IsRun before) none tt, ap text none)
+      let none : [] ≡ es = cc in (subst (IsRun is_entry before) none tt, ap text none)
   judged_takes before place (suc skip) (x ∷ xs) es a h =
       judged_takes before (place + 1) skip xs es a.1 h
   judged_takes before place zero (x ∷ xs) es a h =
@@ -175,7 +177,7 @@ module _ (is_entry : Entry → Type 0) (entry_in : List ℕ → Option Entry)
       let rest = judged_takes (Some t.0) (place + 1) (length t.0.bytes - 1) xs t.1 a.1 t.3 in
       let long = long_entry t.0 k.entry in
       let behind = drop_rest x xs t.0.bytes k.more (omega arith) k.is in (
-        subst (IsRun before) t.4 (k.entry, k.after, rest.0),
+        subst (IsRun is_entry before) t.4 (k.entry, k.after, rest.0),
         k.is ∙ ap (λ (m : List ℕ). t.0.bytes ++ m) (sym behind ∙ rest.1) ∙ ap text t.4,
       )
 
@@ -184,7 +186,7 @@ module _ (is_entry : Entry → Type 0) (entry_in : List ℕ → Option Entry)
   -- after these entries come octets of which no right entry is the first
   pub record Stops (before : Option Entry) (octets : List ℕ) (place stop : ℕ) : Type 0 where
     pub taken : List Entry
-    pub run : IsRun before taken
+    pub run : IsRun is_entry before taken
     pub more : List ℕ
     pub is : octets ≡ text taken ++ more
     pub some : 0 < length more

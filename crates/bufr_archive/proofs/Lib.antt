@@ -2,6 +2,10 @@ pub mod AddFacts
 pub mod EntryFacts
 pub mod FrameFacts
 pub mod JudgeFacts
+pub mod OnLiterals
 pub mod ReadFacts
+pub mod ReportFacts
+pub mod ReportTextFacts
 pub mod TextFacts
 pub mod TextLemmas
+pub mod ToldFacts

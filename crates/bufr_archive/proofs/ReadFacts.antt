@@ -1,18 +1,12 @@
--- Reading a text step by step, and what it answers in words: for the loop of `read_entries` and the
--- clauses of `read_shelf`.
-use Rattle.std.proofs.Common.{◌≡◌, ℕ, ◌+◌, ◌-◌, ◌<◌, ◌≤◌, ◌^◌, true, List, [], ◌∷◌, ◌++◌, length, drop, Option, Some, None, Result, Ok, Err, refl, sym, ap, subst, ◌∙◌, arith, append_assoc, length-append}
-use Rattle.std.specs.Prelude.{IfOk, IfErr}
-use Rattle.std.specs.List.{AllByRecursion}
+-- Reading a text step by step: for the loop of `Archive::read_entries`.
+use Rattle.std.proofs.Common.{◌≡◌, ℕ, ◌+◌, ◌-◌, ◌<◌, ◌≤◌, ◌^◌, true, List, [], ◌∷◌, ◌++◌, length, drop, Option, Some, None, Ok, Err, refl, sym, ap, subst, ◌∙◌, arith, append_assoc, length-append}
 use Rattle.std.proofs.lemmas.List.{append-nil, drop_at}
 use Rattle.std.proofs.lemmas.List.Elements.{All-drop}
-use Rattle.bufr_tables.specs.Answers.{result_map, Gives}
-use Rattle.bufr_tables.specs.declared.failure.Failure.{Failure}
-use Rattle.bufr_tables.specs.declared.failure.Failure.TheVariants.{Fault, OutOfMemory}
+use Rattle.bufr_tables.specs.Answers.{result_map}
 use Rattle.bufr_shelves.specs.declared.entry.Entry.{Entry}
 use Rattle.bufr_shelves.specs.Entries.{kept}
-use Rattle.bufr_archive.specs.declared.reading.NotAnArchive.{NotAnArchive}
-use Rattle.bufr_archive.specs.Texts.{AreOctets, text, comes_after, right_entry, entry_then, judged, entries_read}
-use Rattle.bufr_archive.specs.Reading.{entries_or, shelf_read, IsShelfOf, RefusedAt}
+use Rattle.bufr_sections.specs.Sections.{AreOctets}
+use Rattle.bufr_archive.specs.Texts.{text, comes_after, right_entry, entry_then, judged, entries_read}
 use Rattle.bufr_archive.specs.EntryLaws.{HasEntryLaws}
 use Rattle.bufr_archive.proofs.TextLemmas.{text-push}
 use Rattle.bufr_archive.proofs.EntryFacts as facts
@@ -26,34 +20,23 @@ last_more : (before : Option Entry) (es : List Entry) (e : Entry)
 last_more before [] e = refl
 last_more before (f ∷ fs) e = last_more (Some f) fs e
 
--- what was read
-or_ok : (x : Result (List Entry) ℕ) (held : List Entry) → entries_or x ≡ Ok held → x ≡ Ok held
-or_ok (Ok es) held e = ap Ok cc
-or_ok (Err p) held e = absurd cc
-
--- or where not
-or_err : (x : Result (List Entry) ℕ) (f : NotAnArchive) → entries_or x ≡ Err f → x ≡ Err f.place
-or_err (Ok es) f e = absurd cc
-or_err (Err p) f e =
-    let same : record { place = p } ≡ f = cc in ap (λ (f : NotAnArchive). Err f.place) same
+-- these entries were read, and these octets are left
+pub record ReadSoFar (is_entry : Entry → Type 0) (octets : List ℕ) (entries : List Entry)
+    (before : Option Entry) (place : ℕ) (rest : List ℕ) : Type 0 where
+  pub run : judging.IsRun is_entry None entries
+  pub last : last_of None entries ≡ before
+  pub parts : octets ≡ text entries ++ rest
+  pub there : place ≡ length (text entries)
+  pub some : AreOctets rest
 
 module _ (is_entry : Entry → Type 0) (entry_in : List ℕ → Option Entry)
     (laws : HasEntryLaws is_entry entry_in) where
   -- entries, each after the one before
   abbrev IsRun : Option Entry → List Entry → Type 0
-  IsRun before es = judging.IsRun is_entry entry_in laws before es
-
-  -- these entries were read, and these octets are left
-  pub record ReadSoFar (octets : List ℕ) (entries : List Entry) (before : Option Entry) (place : ℕ)
-      (rest : List ℕ) : Type 0 where
-    pub run : IsRun None entries
-    pub last : last_of None entries ≡ before
-    pub parts : octets ≡ text entries ++ rest
-    pub there : place ≡ length (text entries)
-    pub some : AreOctets rest
+  IsRun before es = judging.IsRun is_entry before es
 
   -- at first nothing was read
-  pub none_read : (octets : List ℕ) → AreOctets octets → ReadSoFar octets [] None 0 octets
+  pub none_read : (octets : List ℕ) → AreOctets octets → ReadSoFar is_entry octets [] None 0 octets
   none_read octets all =
       record { run = tt; last = refl; parts = refl; there = refl; some = all }
 
@@ -66,7 +49,7 @@ module _ (is_entry : Entry → Type 0) (entry_in : List ℕ → Option Entry)
 
   -- the next entry has some octets, and no more than are left
   pub read_long : (octets : List ℕ) (es : List Entry) (before : Option Entry) (place : ℕ)
-      (rest : List ℕ) (e : Entry) → ReadSoFar octets es before place rest
+      (rest : List ℕ) (e : Entry) → ReadSoFar is_entry octets es before place rest
       → right_entry entry_in before rest ≡ Some e
       → (12 ≤ length e.bytes) × (length e.bytes ≤ length rest)
       × (place + length rest ≡ length octets)
@@ -80,9 +63,9 @@ module _ (is_entry : Entry → Type 0) (entry_in : List ℕ → Option Entry)
 
   -- one entry more was read
   pub read_more : (octets : List ℕ) (es : List Entry) (before : Option Entry) (place : ℕ)
-      (rest : List ℕ) (e : Entry) → ReadSoFar octets es before place rest
+      (rest : List ℕ) (e : Entry) → ReadSoFar is_entry octets es before place rest
       → right_entry entry_in before rest ≡ Some e
-      → ReadSoFar octets (kept (es ++ e ∷ [])) (Some e) (place + length e.bytes)
+      → ReadSoFar is_entry octets (kept (es ++ e ∷ [])) (Some e) (place + length e.bytes)
       (drop (length e.bytes) rest)
   read_more octets es before place rest e s found =
       let k = facts.right_takes is_entry entry_in laws before rest e s.some found in
@@ -96,7 +79,7 @@ module _ (is_entry : Entry → Type 0) (entry_in : List ℕ → Option Entry)
       let long : length (text (es ++ e ∷ [])) ≡ length (text es) + length e.bytes =
       ap length (text-push es e) ∙ length-append (text es) e.bytes in
       let left = drop (length e.bytes) rest in
-      let so_far : ReadSoFar octets (es ++ e ∷ []) (Some e) (place + length e.bytes) left = record {
+      let so_far : ReadSoFar is_entry octets (es ++ e ∷ []) (Some e) (place + length e.bytes) left = record {
         run = run;
         last = last_more None es e;
         parts = s.parts
@@ -107,12 +90,12 @@ module _ (is_entry : Entry → Type 0) (entry_in : List ℕ → Option Entry)
         there = omega arith;
         some = All-drop (λ x. x < 2 ^ 8) (length e.bytes) rest s.some;
       } in
-      subst (λ (xs : List Entry). ReadSoFar octets xs (Some e) (place + length e.bytes) left)
+      subst (λ (xs : List Entry). ReadSoFar is_entry octets xs (Some e) (place + length e.bytes) left)
       same so_far
 
   -- all was read
   pub read_all : (octets : List ℕ) (es : List Entry) (before : Option Entry) (place : ℕ)
-      (rest : List ℕ) → ReadSoFar octets es before place rest → length rest ≡ 0
+      (rest : List ℕ) → ReadSoFar is_entry octets es before place rest → length rest ≡ 0
       → entries_read entry_in octets ≡ Ok es
   unfolding judged
   read_all octets es before place [] s none =
@@ -122,7 +105,7 @@ module _ (is_entry : Entry → Type 0) (entry_in : List ℕ → Option Entry)
 
   -- what is left does not begin with a right entry
   pub read_stops : (octets : List ℕ) (es : List Entry) (before : Option Entry) (place : ℕ)
-      (rest : List ℕ) → ReadSoFar octets es before place rest → 0 < length rest
+      (rest : List ℕ) → ReadSoFar is_entry octets es before place rest → 0 < length rest
       → right_entry entry_in before rest ≡ None → entries_read entry_in octets ≡ Err place
   unfolding judged
   read_stops octets es before place [] s some none = absurd (omega arith)
@@ -137,40 +120,3 @@ module _ (is_entry : Entry → Type 0) (entry_in : List ℕ → Option Entry)
       ∙ ap (λ (o : Option Entry). result_map (λ fs. es ++ fs) (entry_then o here
       (λ e. judged entry_in (Some e) (here + 1) (length e.bytes - 1) rest))) wrong
       ∙ ap Err at
-
-  -- ---- what is answered, in words
-
-  module _ {S : Type 0} (view : S → List Entry) (octets : List ℕ)
-      (x : Result S (Failure NotAnArchive)) (gives : Gives view x
-      (shelf_read entry_in octets)) where
-    -- what is accepted is the text of what is held
-    pub accepted : AreOctets octets → IfOk x (λ s. IsShelfOf is_entry octets (view s))
-    accepted all = by x gives
-      where
-        by : (x : Result S (Failure NotAnArchive)) → Gives view x (shelf_read entry_in octets)
-            → IfOk x (λ s. IsShelfOf is_entry octets (view s))
-        by (Ok s) g =
-            let t = texts.read_are_texts is_entry entry_in laws octets (view s) all
-            (or_ok (entries_read entry_in octets) (view s) g) in
-            (view s, t.0, t.1 ∙ ap text (sym t.2), sym t.2)
-        by (Err f) g = tt
-
-    -- a text is accepted
-    pub only : (es : List Entry) → AllByRecursion is_entry es → octets ≡ text (kept es)
-        → Gives view x (Ok (kept es))
-    only es each says =
-        subst (Gives view x)
-        (ap (λ (o : List ℕ). shelf_read entry_in o) says
-        ∙ ap entries_or (texts.texts_are_read is_entry entry_in laws es each)) gives
-
-    -- what is refused breaks there
-    pub refused : AreOctets octets → IfErr x (RefusedAt is_entry octets)
-    refused all = by x gives
-      where
-        by : (x : Result S (Failure NotAnArchive)) → Gives view x (shelf_read entry_in octets)
-            → IfErr x (RefusedAt is_entry octets)
-        by (Ok s) g = tt
-        by (Err (Fault f)) g =
-            texts.refused_break_there is_entry entry_in laws octets f.place all
-            (or_err (entries_read entry_in octets) f g)
-        by (Err OutOfMemory) g = tt

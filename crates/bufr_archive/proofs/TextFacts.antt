@@ -13,7 +13,8 @@ use Rattle.bufr_shelves.specs.declared.entry.Entry.{Entry}
 use Rattle.bufr_shelves.specs.Entries.{slot_cmp, kept}
 use Rattle.bufr_shelves.specs.Keeping.{Has}
 use Rattle.bufr_shelves.specs.Orders.{slots_total, kept-are, kept-sorted}
-use Rattle.bufr_archive.specs.Texts.{AreOctets, text, IsText, BreaksAt, comes_after, judged, entries_read}
+use Rattle.bufr_sections.specs.Sections.{AreOctets}
+use Rattle.bufr_archive.specs.Texts.{text, IsEntryText, comes_after, judged, entries_read}
 use Rattle.bufr_archive.specs.EntryLaws.{HasEntryLaws}
 use Rattle.bufr_archive.specs.TextLaws.{TextsAreRead, ReadAreTexts, RefusedBreakThere}
 use Rattle.bufr_archive.proofs.JudgeFacts.{last_of}
@@ -70,7 +71,7 @@ module _ (is_entry : Entry → Type 0) (entry_in : List ℕ → Option Entry)
     (laws : HasEntryLaws is_entry entry_in) where
   -- entries, each after the one before
   abbrev IsRun : Option Entry → List Entry → Type 0
-  IsRun before es = judging.IsRun is_entry entry_in laws before es
+  IsRun before es = judging.IsRun is_entry before es
 
   -- ---- runs are in order
 
@@ -116,7 +117,7 @@ module _ (is_entry : Entry → Type 0) (entry_in : List ℕ → Option Entry)
 
   -- the text of a run is a text
   text_of_run : (octets : List ℕ) (es : List Entry) → IsRun None es → octets ≡ text es
-      → IsText is_entry octets
+      → IsEntryText is_entry octets
   text_of_run octets es run is = record {
     entries = es;
     each = run_each None es run;
@@ -144,7 +145,7 @@ module _ (is_entry : Entry → Type 0) (entry_in : List ℕ → Option Entry)
   -- a text in front is passed before judging stops
   stops_behind : (octets : List ℕ) (place n : ℕ) → AreOctets octets
       → entries_read entry_in octets ≡ Err place → place < n → n ≤ length octets
-      → IsText is_entry (take n octets) → ⊥
+      → IsEntryText is_entry (take n octets) → ⊥
   stops_behind octets place n all err before within t =
       let es = kept t.entries in
       let run = run_of_kept t.entries t.each in

@@ -2,7 +2,7 @@
 use Rattle.std.specs.Prelude.{◌≡◌, ℕ, List, Option, Some}
 use Rattle.bufr_frame.specs.Cuts.{IsOneFrame}
 use Rattle.bufr_shelves.specs.declared.entry.Entry.{Entry}
-use Rattle.bufr_archive.specs.Texts.{AreOctets}
+use Rattle.bufr_sections.specs.Sections.{AreOctets}
 
 -- an entry is found in its octets, octets in which one is found are its own, and an entry's octets
 -- are one frame

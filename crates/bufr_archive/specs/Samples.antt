@@ -1,44 +1,102 @@
--- Entries of fourteen octets that stand for whole messages in tests and examples: a station number
--- of two octets and an update sequence number between the length and the end.
-use Rattle.std.specs.Prelude.{◌≡◌, ℕ, ◌+◌, ◌*◌, ◌==◌, if◌then◌else◌, bytes_eq, get_or, ◌/◌, ◌%◌, List, [], ◌∷◌, Option, Some, None, pos}
+-- What the examples speak of: worked messages of 62 octets, and what is made of reports under the
+-- tables of the examples.
+use Rattle.std.specs.Prelude.{ℕ, List, [], ◌++◌, map, codes, Option, Result, pos}
+use Rattle.bufr_expand.specs.Samples.{sample}
+use Rattle.bufr_sections.specs.Samples.{hex, framed, plain1}
+use Rattle.bufr_message.specs.declared.report.Report.{Report}
+use Rattle.bufr_message.specs.Reports.{reports_in}
 use Rattle.bufr_shelves.specs.declared.key.Station.TheVariants.{Wmo}
 use Rattle.bufr_shelves.specs.declared.key.Key.{Key}
 use Rattle.bufr_shelves.specs.declared.entry.Entry.{Entry}
+use Rattle.bufr_archive.specs.Archives.{entries_of}
+use Rattle.bufr_archive.specs.Texts.{entries_read}
+use Rattle.bufr_archive.specs.ReportEntries.{key_of, report_entries, text_of, entry_in}
+use Rattle.bufr_archive.specs.ReportTexts.{told}
 
--- `BUFR`, the length 14, three octets, and `7777`
-abbrev pub short_message : ℕ → ℕ → ℕ → List ℕ
-short_message x y u = 66 ∷ 85 ∷ 70 ∷ 82 ∷ 0 ∷ 0 ∷ 14 ∷ x ∷ y ∷ u ∷ 55 ∷ 55 ∷ 55 ∷ 55 ∷ []
+-- ---- what is made of octets
 
--- stations below 256 are none
-abbrev pub short_key : ℕ → ℕ → Option Key
-short_key x y = if x == 0 then None else Some (record {
+-- the keys of the reports that octets spell
+abbrev pub keys_in : List ℕ → List (Option Key)
+keys_in octets = map key_of (reports_in sample octets)
+
+-- their update sequence numbers
+abbrev pub updates_in : List ℕ → List ℕ
+updates_in octets =
+    map (λ (e : Entry). e.update) (entries_of (report_entries sample (reports_in sample octets)))
+
+-- the text of the reports that octets spell and of those that others spell
+abbrev pub text_of_both : List ℕ → List ℕ → List ℕ
+text_of_both first second =
+    text_of sample (reports_in sample first ++ reports_in sample second)
+
+-- the text of the reports that a stream tells
+abbrev pub text_told : List ℕ → List ℕ
+text_told stream = text_of sample (told sample stream)
+
+-- the entries that octets are the text of, or the place where they break
+abbrev pub judged : List ℕ → Result (List Entry) ℕ
+judged octets = entries_read (entry_in sample) octets
+
+-- the entries of the reports that octets spell, and of those that others spell
+abbrev pub entries_of_both : List ℕ → List ℕ → List Entry
+entries_of_both first second =
+    entries_of (report_entries sample (reports_in sample first ++ reports_in sample second))
+
+-- ---- messages: block 10, station 384, 2024-01-15 12:00
+
+-- the key of `original`
+abbrev pub key_of_original : Key
+key_of_original = record {
   centre = 98;
-  category = 2;
-  international = 0;
-  local_category = 37;
-  station = Wmo (pos 10) (pos (256 * x + y));
+  category = 0;
+  international = 2;
+  local_category = 0;
+  station = Wmo (pos 10) (pos 384);
   moment = record { year = 2024; month = 1; day = 15; hour = 12; minute = 0; second = 0 };
   sub_centre = 0;
-})
+}
 
--- the entry of such a message
-abbrev pub short_entry : ℕ → ℕ → ℕ → Entry
-short_entry x y u = record { key = short_key x y; update = u; bytes = short_message x y u }
+-- with this section 1 and these data
+abbrev pub message : List ℕ → List ℕ → List ℕ
+message section1 content =
+    framed (codes "00003E 04")
+    (section1 ++ hex (codes "00000F 00 0001 80 C101 C10B C10C 0C65")
+    ++ hex (codes "00000D 00") ++ hex content)
 
--- an entry is one of these
-abbrev pub IsShortEntry : Entry → Type 0
-IsShortEntry e = (x : ℕ) × (y : ℕ) × (u : ℕ) × (e ≡ short_entry x y u)
+-- 273.15 K
+abbrev pub original : List ℕ
+original = message plain1 (codes "14C03F409EC01AACC0")
 
--- the entry where octets are its message
-abbrev pub short_entry_if : List ℕ → ℕ → ℕ → ℕ → Option Entry
-short_entry_if octets x y u =
-    if bytes_eq octets (short_message x y u) then Some (short_entry x y u) else None
+-- update sequence number 1 and 274.00 K
+abbrev pub updated : List ℕ
+updated = message (hex (codes "000016 00 0062 0000 01 00 00 02 00 25 00 07E8 01 0F 0C 00 00"))
+    (codes "14C03F409EC01AC200")
 
--- the entry that octets are
-abbrev pub short_entry_in : List ℕ → Option Entry
-short_entry_in octets =
-    short_entry_if octets (get_or octets 7 0) (get_or octets 8 0) (get_or octets 9 0)
+-- 273.16 K
+abbrev pub warmer : List ℕ
+warmer = message plain1 (codes "14C03F409EC01AAD00")
 
--- the entry of a report of this station and update number
-abbrev pub report : ℕ → ℕ → Option Entry
-report number u = Some (short_entry (number / 256) (number % 256) u)
+-- month 13
+abbrev pub month_13 : List ℕ
+month_13 = message plain1 (codes "14C03F469EC01AACC0")
+
+-- numbers in section 1 that all differ: centre 258, sub-centre 772, update 5, categories 6 to 8
+abbrev pub distinct : List ℕ
+distinct = message (hex (codes "000016 00 0102 0304 05 00 06 07 08 09 0A 0B0C 0D 0E 0F 10 11"))
+    (codes "14C03F409EC01AACC0")
+
+-- the key of `distinct`
+abbrev pub key_of_distinct : Key
+key_of_distinct = record key_of_original {
+  centre = 258;
+  category = 6;
+  international = 7;
+  local_category = 8;
+  sub_centre = 772;
+}
+
+-- sub-centre 1
+abbrev pub other_sub_centre : List ℕ
+other_sub_centre =
+    message (hex (codes "000016 00 0062 0001 00 00 00 02 00 25 00 07E8 01 0F 0C 00 00"))
+    (codes "14C03F409EC01AACC0")

@@ -7,7 +7,8 @@ use Rattle.bufr_frame.specs.Cuts.{IsOneFrame, frames_at}
 use Rattle.bufr_shelves.specs.declared.entry.Entry.{Entry}
 use Rattle.bufr_shelves.specs.Entries.{kept}
 use Rattle.bufr_archive.specs.Archives.{entries_of}
-use Rattle.bufr_archive.specs.Texts.{AreOctets, text, told, BreaksAt, entries_read}
+use Rattle.bufr_sections.specs.Sections.{AreOctets}
+use Rattle.bufr_archive.specs.Texts.{text, stream_entries, EntriesBreakAt, entries_read}
 
 module _ (is_entry : Entry → Type 0) (entry_in : List ℕ → Option Entry) where
   -- the text of entries is read, and what is kept of them is what it says
@@ -24,7 +25,7 @@ module _ (is_entry : Entry → Type 0) (entry_in : List ℕ → Option Entry) wh
   -- else the place is where the longest front ends that is a text, and this front is a proper one
   abbrev pub RefusedBreakThere : Type 0
   RefusedBreakThere = (octets : List ℕ) (place : ℕ) → AreOctets octets
-      → entries_read entry_in octets ≡ Err place → BreaksAt is_entry octets place
+      → entries_read entry_in octets ≡ Err place → EntriesBreakAt is_entry octets place
 
 -- each entry's octets are one frame
 abbrev pub AreFrames : List Entry → Type 0
@@ -48,4 +49,4 @@ TellOwn reports_in es = AllByRecursion (λ e. reports_in e.bytes ≡ Some e ∷ 
 -- a text told as a stream gives what it was written of
 abbrev pub TextsTell : Type 0
 TextsTell = (reports_in : List ℕ → List (Option Entry)) (es : List Entry) → AreFrames es
-    → TellOwn reports_in es → kept (entries_of (told reports_in (text (kept es)))) ≡ kept es
+    → TellOwn reports_in es → kept (entries_of (stream_entries reports_in (text (kept es)))) ≡ kept es

@@ -1,8 +1,8 @@
 -- The texts of archives, and how octets are judged from the left.
 --
--- Which entries are those of reports, and which entry octets are, is the layer's below: `is_entry`
--- and `entry_in` stand for it here.
-use Rattle.std.specs.Prelude.{◌≡◌, ℕ, zero, suc, ◌+◌, ◌-◌, ◌<◌, ◌≤◌, ◌^◌, Bool, true, if◌then◌else◌, All, List, [], ◌∷◌, length, take, Option, Some, None, option_map, Result, Ok, Err}
+-- Which entries are those of reports, and which entry octets are, is said in `ReportEntries`:
+-- `is_entry` and `entry_in` stand for it here.
+use Rattle.std.specs.Prelude.{◌≡◌, ℕ, zero, suc, ◌+◌, ◌-◌, ◌<◌, ◌≤◌, Bool, true, if◌then◌else◌, List, [], ◌∷◌, length, take, Option, Some, None, option_map, Result, Ok, Err}
 use Rattle.std.specs.List.{flat_map, AllByRecursion}
 use Rattle.std.specs.Ordering.{is_lt}
 use Rattle.bufr_tables.specs.Answers.{result_map}
@@ -11,35 +11,30 @@ use Rattle.bufr_frame.specs.Streams.{cut}
 use Rattle.bufr_shelves.specs.declared.entry.Entry.{Entry}
 use Rattle.bufr_shelves.specs.Entries.{slot_cmp, kept}
 
--- each number is an octet
-abbrev pub AreOctets : List ℕ → Type 0
-AreOctets xs = All (λ x. x < 2 ^ 8) xs
-
 -- ---- texts
 
 -- the octets of entries, joined
 abbrev pub text : List Entry → List ℕ
 text es = flat_map (λ e. e.bytes) es
 
--- octets are an archive's text where they are the joined octets of what is kept of some entries
-pub record IsText (is_entry : Entry → Type 0) (octets : List ℕ) : Type 0 where
+-- octets that are the joined octets of what is kept of some entries
+pub record IsEntryText (is_entry : Entry → Type 0) (octets : List ℕ) : Type 0 where
   pub entries : List Entry
   pub each : AllByRecursion is_entry entries
   pub says : octets ≡ text (kept entries)
 
 -- octets whose longest front that is a text has so many octets, and is a proper one
-pub record BreaksAt (is_entry : Entry → Type 0) (octets : List ℕ) (place : ℕ) : Type 0 where
-  pub front : IsText is_entry (take place octets)
+pub record EntriesBreakAt (is_entry : Entry → Type 0) (octets : List ℕ) (place : ℕ) : Type 0 where
+  pub front : IsEntryText is_entry (take place octets)
   pub proper : place < length octets
   pub longest : (n : ℕ) → place < n → n ≤ length octets
-      → IsText is_entry (take n octets) → ⊥
+      → IsEntryText is_entry (take n octets) → ⊥
 
 -- ---- what a stream tells
 
--- the entries of the reports that a stream tells: those of the messages that its frames spell, in
--- order; a frame that spells none has none
-abbrev pub told : (List ℕ → List (Option Entry)) → List ℕ → List (Option Entry)
-told reports_in stream = flat_map (λ f. reports_in f.bytes) (cut stream)
+-- the entries that a stream tells: those of its frames in order, of which each has some
+abbrev pub stream_entries : (List ℕ → List (Option Entry)) → List ℕ → List (Option Entry)
+stream_entries entries_in stream = flat_map (λ f. entries_in f.bytes) (cut stream)
 
 -- ---- judging from the left
 

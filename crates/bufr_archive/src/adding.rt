@@ -2,9 +2,13 @@
 ghost use Rattle.std.specs.Prelude.{◌≡◌, ◌<◌, ◌∷◌, [], if◌then◌else◌, get_or, length, List, Option, IfOk, OnOk, OnErr};
 ghost use Rattle.bufr_shelves.specs.declared.entry.Entry.{Entry as AnEntry};
 ghost use Rattle.bufr_archive.specs.Archives.{IsKept, Adds, taken_in, entries_of, count_changes};
+ghost use Rattle.bufr_archive.specs.Adding.{AddsMessage};
 
 use crate::archive::Archive;
+use crate::report_entry::MessageReports;
+use bufr_message::{Refused, decode, reports};
 use bufr_shelves::{Entry, OutOfMemory, Shelf};
+use bufr_tables::Failure;
 use std::alloc::Global;
 
 /// What a message brought: how many reports it has, and how many of them, added one by one, changed
@@ -19,6 +23,15 @@ pub struct Added {
 #[derive(Clone, Copy, Debug, Drop, PartialEq, Eq)]
 pub struct RanOut {
     pub done: u128,
+}
+
+/// Why a message was not added, or not wholly.
+#[derive(Debug, Drop, PartialEq)]
+pub enum AddFault {
+    /// The octets spell no message, for this cause; nothing is changed.
+    Refused(Refused),
+    /// Memory ran out when the first `done` reports were joined, and no others.
+    OutOfMemory { done: u128 },
 }
 
 /// The reports of a message, of which one is held at a time.
@@ -37,15 +50,38 @@ pub trait ReportList {
 }
 
 impl<'t, S: Shelf> Archive<'t, S> {
+    /// Adds the reports of the message that octets spell, one after the other. Octets that spell
+    /// none are refused as `decode` refuses them, and nothing is changed. Where memory runs out,
+    /// the first `done` reports are joined; the call may be repeated.
+    pub fn add_message(&mut self, octets: &[u8]) -> Result<Added, AddFault>
+        ensures { AddsMessage self.old self.new octets.now result }
+    {
+        let _held = self.len();
+        let alloc = self.alloc;
+        let message = match decode(alloc, self.tables, octets) {
+            Ok(decoded) => decoded.message,
+            Err(Failure::Fault(why)) => return Err(AddFault::Refused(why)),
+            Err(Failure::OutOfMemory) => return Err(AddFault::OutOfMemory { done: 0 }),
+        };
+        let Ok(reports) = reports(alloc, message) else {
+            return Err(AddFault::OutOfMemory { done: 0 });
+        };
+        let tables = self.tables;
+        match self.add_all(&MessageReports { tables, reports }) {
+            Ok(added) => Ok(added),
+            Err(RanOut { done }) => Err(AddFault::OutOfMemory { done }),
+        }
+    }
+
     /// Adds reports one after the other. Where memory runs out, the first `done` are joined.
-    pub fn add_all<L: ReportList>(&mut self, alloc: Global, reports: &L) -> Result<Added, RanOut>
+    pub fn add_all<L: ReportList>(&mut self, reports: &L) -> Result<Added, RanOut>
         ensures { Adds self.old self.new (L.entries reports.now) result }
     {
         let _held = self.len();
         let count = reports.count();
         let mut changed: u128 = 0;
         for index in 0..count {
-            let Ok(changes) = self.add_one(alloc, reports, index) else {
+            let Ok(changes) = self.add_one(reports, index) else {
                 let done = index as u128;
                 return Err(RanOut { done });
             };
@@ -56,12 +92,7 @@ impl<'t, S: Shelf> Archive<'t, S> {
     }
 
     /// Adds one report, and answers whether that changed what is kept.
-    fn add_one<L: ReportList>(
-        &mut self,
-        alloc: Global,
-        reports: &L,
-        index: usize,
-    ) -> Result<bool, OutOfMemory>
+    fn add_one<L: ReportList>(&mut self, reports: &L, index: usize) -> Result<bool, OutOfMemory>
         requires { index < length (L.entries reports.now) }
         ensures ok { OnOk result
             (self.new ≡ taken_in self.old (get_or (L.entries reports.now) index None ∷ [])) }
@@ -70,7 +101,7 @@ impl<'t, S: Shelf> Archive<'t, S> {
         ensures err { OnErr result (self.new ≡ self.old) }
     {
         let _held = self.len();
-        match reports.entry(alloc, index)? {
+        match reports.entry(self.alloc, index)? {
             Some(Entry { key, update, bytes }) => self.put(key, update, bytes),
             None => Ok(false),
         }

@@ -16,8 +16,9 @@ use std::marker::Model;
 /// ones that of the greatest octets, and each report without key once.
 #[derive(Drop)]
 pub struct Archive<'t, S: Shelf> {
-    tables: &'t Tables,
-    shelf: S,
+    pub(crate) alloc: Global,
+    pub(crate) tables: &'t Tables,
+    pub(crate) shelf: S,
 }
 
 impl<'t, S: Shelf> Model for Archive<'t, S> {
@@ -40,6 +41,7 @@ impl<'t, S: Shelf> Archive<'t, S> {
         ensures { result ≡ record { tables = tables.now; entries = [] } }
     {
         Archive {
+            alloc,
             tables,
             shelf: S::new(alloc),
         }
@@ -60,6 +62,7 @@ impl<'t, S: Shelf> Archive<'t, S> {
         ensures { IfOk result (λ copied. copied ≡ self.now) }
     {
         Ok(Archive {
+            alloc: self.alloc,
             tables: self.tables,
             shelf: self.shelf.copy()?,
         })

@@ -1,6 +1,12 @@
 //! Laws of archives: each function states some by its contract, and does nothing.
 ghost use Rattle.bufr_archive.specs.Laws.{MergeCommutes, MergeAssociates, MergeIsIdempotent, MergedIsKept};
-ghost use Rattle.bufr_archive.specs.TextLaws.{FramesOfTexts, FramesOfFronts, TextsTell};
+ghost use Rattle.bufr_archive.specs.ReportLaws.{ReportsAreEntries, FramesOfReports, FramesOfReportFronts, ReportTextsTell, ToldAreTold, OnlyToldAreTold};
+
+use bufr_frame::laws::{cut_is_taken_from_the_left, joined_frames_are_cut_apart};
+use bufr_message::laws::{
+    canonical_messages_are_reports, messages_are_spelt, reports_have_canonical_messages,
+    written_messages_are_spelt,
+};
 
 /// Merges agree whatever their route: on archives under the same tables they are commutative,
 /// associative and idempotent.
@@ -11,13 +17,35 @@ pub fn merges_agree()
     ensures kept { MergedIsKept }
 {}
 
-/// The frames of a text are its entries' octets in order, whatever their character data hold, and
-/// those of a front that has the first k whole begin with these; a text told as a stream gives what
-/// it was written of.
-pub fn texts_are_cut_apart()
-    ensures frames { FramesOfTexts }
-    ensures fronts { FramesOfFronts }
-    ensures told { TextsTell }
+/// The entry of a report under tables is found in its own octets and in no others, and these are
+/// one frame.
+pub fn reports_are_entries()
+    ensures { ReportsAreEntries }
 {
-    bufr_frame::laws::joined_frames_are_cut_apart();
+    messages_are_spelt();
+    written_messages_are_spelt();
+    canonical_messages_are_reports();
+    reports_have_canonical_messages();
+}
+
+/// The frames of an archive's text are its canonical messages in order, whatever their character
+/// data hold, and those of a front that has the first k whole begin with these; a text told as a
+/// stream gives what it was written of.
+pub fn texts_are_cut_apart()
+    ensures frames { FramesOfReports }
+    ensures fronts { FramesOfReportFronts }
+    ensures told { ReportTextsTell }
+{
+    joined_frames_are_cut_apart();
+    reports_are_entries();
+    canonical_messages_are_reports();
+}
+
+/// The reports that a stream tells are exactly those of the messages that its frames spell.
+pub fn told_are_of_messages()
+    ensures are { ToldAreTold }
+    ensures only { OnlyToldAreTold }
+{
+    cut_is_taken_from_the_left();
+    messages_are_spelt();
 }

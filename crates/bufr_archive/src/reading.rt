@@ -1,16 +1,19 @@
 //! An archive's text, judged from the left.
-ghost use Rattle.std.specs.Prelude.{◌≡◌, ◌≤◌, ◌++◌, ◌∷◌, [], ℕ, List, Option, length, drop, IfOk, IfErr, OnOk, Ok};
+ghost use Rattle.std.specs.Prelude.{◌≡◌, ◌≤◌, ◌++◌, ◌∷◌, [], List, length, drop, IfOk, IfErr, OnOk, Ok};
 ghost use Rattle.std.specs.Option.{option_map};
-ghost use Rattle.std.specs.List.{AllByRecursion};
 ghost use Rattle.bufr_tables.specs.Answers.{Gives};
-ghost use Rattle.bufr_shelves.specs.declared.entry.Entry.{Entry};
+ghost use Rattle.bufr_message.specs.declared.report.Report.{Report as AReport};
 ghost use Rattle.bufr_shelves.specs.Entries.{kept};
-ghost use Rattle.bufr_archive.specs.EntryLaws.{HasEntryLaws};
-ghost use Rattle.bufr_archive.specs.Texts.{text, comes_after, front_of, right_entry};
-ghost use Rattle.bufr_archive.specs.Reading.{read, shelf_read, IsShelfOf, RefusedAt};
+ghost use Rattle.bufr_archive.specs.Texts.{comes_after, front_of, right_entry};
+ghost use Rattle.bufr_archive.specs.Reading.{read, archive_read};
+ghost use Rattle.bufr_archive.specs.ReportEntries.{AreUnder, text_of, entry_in};
+ghost use Rattle.bufr_archive.specs.ReportTexts.{IsArchiveOf, RefusedAt, archive_of};
 
+use crate::archive::Archive;
+use crate::laws::reports_are_entries;
+use crate::report_entry::entry_in;
 use bufr_shelves::{Key, Octets, OutOfMemory, Shelf, slot_order};
-use bufr_tables::Failure;
+use bufr_tables::{Failure, Tables};
 use std::alloc::Global;
 
 /// The start of the first entry that is not right.
@@ -21,30 +24,10 @@ pub struct NotAnArchive {
 
 /// An entry whose octets stand in what is read.
 #[derive(Debug, Drop)]
-pub struct ReadEntry<'a> {
-    pub key: Option<Key>,
-    pub update: u8,
-    pub bytes: &'a [u8],
-}
-
-/// What tells which entry octets are: a decoder under its tables.
-pub trait EntryReader {
-    /// The entries that there are: those of reports.
-    ghost is_entry: { Self → Entry → Type 0 };
-
-    /// The entry that octets are, where they are one.
-    ghost entry_in: { Self → List ℕ → Option Entry };
-
-    /// The entry that octets are, where they are one. It can only run out of memory.
-    fn entry_in<'a>(
-        &self,
-        alloc: Global,
-        octets: &'a [u8],
-    ) -> Result<Option<ReadEntry<'a>>, OutOfMemory>
-        ensures { IfOk result (λ found. option_map read found ≡ entry_in self.now octets.now) };
-
-    /// An entry is found in its own octets and in no others, and these are one frame.
-    ghost entry_laws: { (reader : Self) → HasEntryLaws (is_entry reader) (entry_in reader) };
+pub(crate) struct ReadEntry<'a> {
+    pub(crate) key: Option<Key>,
+    pub(crate) update: u8,
+    pub(crate) bytes: &'a [u8],
 }
 
 /// The octets of the message that begins here, as its total length announces them.
@@ -78,19 +61,19 @@ fn comes_after(before: &Option<ReadEntry>, entry: &ReadEntry) -> bool
 }
 
 /// The right entry that begins here, where there is one.
-fn right_entry<'a, R: EntryReader>(
+fn right_entry<'a>(
     alloc: Global,
-    reader: &R,
+    tables: &Tables,
     before: &Option<ReadEntry>,
     octets: &'a [u8],
 ) -> Result<Option<ReadEntry<'a>>, OutOfMemory>
     ensures { IfOk result (λ found. option_map read found
-        ≡ right_entry (R.entry_in reader.now) (option_map read before.now) octets.now) }
+        ≡ right_entry (entry_in tables.now) (option_map read before.now) octets.now) }
 {
     let Some(front) = front_of(octets) else {
         return Ok(None);
     };
-    let Some(entry) = reader.entry_in(alloc, front)? else {
+    let Some(entry) = entry_in(alloc, tables, front)? else {
         return Ok(None);
     };
     if comes_after(before, &entry) {
@@ -118,48 +101,57 @@ fn behind(octets: &[u8], count: usize) -> &[u8]
     &octets[count..]
 }
 
-/// The shelf of the entries that octets are the text of, or the place of the first that is not
-/// right.
-fn read_entries<R: EntryReader, S: Shelf>(
-    alloc: Global,
-    reader: &R,
-    octets: &[u8],
-) -> Result<S, Failure<NotAnArchive>>
-    ensures { Gives S.entries result (shelf_read (R.entry_in reader.now) octets.now) }
-{
-    let mut shelf = S::new(alloc);
-    let mut before: Option<ReadEntry> = None;
-    let mut place: usize = 0;
-    let mut rest = octets;
-    while rest.len() > 0 {
-        let Some(entry) = right_entry(alloc, reader, &before, rest)? else {
-            let place = place as u64;
-            return Err(Failure::Fault(NotAnArchive { place }));
-        };
-        keep(alloc, &mut shelf, &entry)?;
-        place += entry.bytes.len();
-        rest = behind(rest, entry.bytes.len());
-        before = Some(entry);
+impl<'t, S: Shelf> Archive<'t, S> {
+    /// The archive that octets are the text of. Refused is the place of the first entry that is not
+    /// right: where the longest front of the octets ends that is a text. Memory may run out.
+    pub fn read(
+        alloc: Global,
+        tables: &'t Tables,
+        octets: &[u8],
+    ) -> Result<Self, Failure<NotAnArchive>>
+        // What is accepted is the text of some reports under the tables, and what is kept of them
+        // is held.
+        ensures accepted { IfOk result (IsArchiveOf tables.now octets.now) }
+        // The text of reports under the tables is accepted, unless memory runs out.
+        ensures only { (rs : List AReport) → AreUnder tables.now rs
+            → octets.now ≡ text_of tables.now rs
+            → Gives (λ a. a) result (Ok (archive_of tables.now rs)) }
+        // What is refused is told the length of its longest front that is a text, which is a proper
+        // one.
+        ensures refused { IfErr result (RefusedAt tables.now octets.now) }
+    {
+        reports_are_entries();
+        Archive::read_entries(alloc, tables, octets)
     }
-    Ok(shelf)
-}
 
-/// The shelf that octets are the text of. Refused is the place of the first entry that is not
-/// right: where the longest front of the octets ends that is a text. Memory may run out.
-pub fn read_shelf<R: EntryReader, S: Shelf>(
-    alloc: Global,
-    reader: &R,
-    octets: &[u8],
-) -> Result<S, Failure<NotAnArchive>>
-    // What is accepted is the text of some entries, and what is kept of them is held.
-    ensures accepted { IfOk result (λ shelf.
-        IsShelfOf (R.is_entry reader.now) octets.now (S.entries shelf)) }
-    // A text is accepted, unless memory runs out.
-    ensures only { (es : List Entry) → AllByRecursion (R.is_entry reader.now) es
-        → octets.now ≡ text (kept es) → Gives S.entries result (Ok (kept es)) }
-    // What is refused is told the length of its longest front that is a text, which is a proper
-    // one.
-    ensures refused { IfErr result (RefusedAt (R.is_entry reader.now) octets.now) }
-{
-    read_entries(alloc, reader, octets)
+    /// The archive of the entries that octets are the text of, or the place of the first that is
+    /// not right.
+    fn read_entries(
+        alloc: Global,
+        tables: &'t Tables,
+        octets: &[u8],
+    ) -> Result<Self, Failure<NotAnArchive>>
+        ensures { Gives (λ a. a) result (archive_read tables.now octets.now) }
+    {
+        reports_are_entries();
+        let mut shelf = S::new(alloc);
+        let mut before: Option<ReadEntry> = None;
+        let mut place: usize = 0;
+        let mut rest = octets;
+        while rest.len() > 0 {
+            let Some(entry) = right_entry(alloc, tables, &before, rest)? else {
+                let place = place as u64;
+                return Err(Failure::Fault(NotAnArchive { place }));
+            };
+            keep(alloc, &mut shelf, &entry)?;
+            place += entry.bytes.len();
+            rest = behind(rest, entry.bytes.len());
+            before = Some(entry);
+        }
+        Ok(Archive {
+            alloc,
+            tables,
+            shelf,
+        })
+    }
 }

@@ -18,6 +18,7 @@ pub mod PackableFacts
 pub mod PackedFacts
 pub mod PackedMisfits
 pub mod PassFacts
+pub mod PassedFacts
 pub mod PlaceFacts
 pub mod PlainFacts
 pub mod PutFacts
@@ -25,6 +26,8 @@ pub mod RangeFacts
 pub mod ReadFacts
 pub mod RefusalFacts
 pub mod RowFacts
+pub mod ShownFacts
+pub mod StartFacts
 pub mod SubsetFacts
 pub mod ValueFacts
 pub mod WriteFacts

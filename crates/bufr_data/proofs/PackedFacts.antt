@@ -30,7 +30,7 @@ use Rattle.bufr_data.proofs.BestFacts.{best_column, one_count}
 
 -- ---- reading
 
-length-from : (k n : ℕ) (columns : List Column) → length (subsets_from k n columns) ≡ n
+pub length-from : (k n : ℕ) (columns : List Column) → length (subsets_from k n columns) ≡ n
 length-from k zero columns = refl
 length-from k (suc n) columns = ap suc (length-from (k + 1) n columns)
 

@@ -22,3 +22,5 @@ pub mod ColumnLaws
 pub mod Indexed
 pub mod Passing
 pub mod Places
+pub mod Starts
+pub mod Shown

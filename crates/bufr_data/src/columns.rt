@@ -80,6 +80,13 @@ impl<'a> Columns<'a> {
         answer
     }
 
+    /// How many subsets there are.
+    pub fn count(&self) -> u16
+        ensures { result ≡ self.now.subsets }
+    {
+        self.subsets
+    }
+
     /// The subset of this number, from 1. `OutOfMemory` where a growth was refused.
     pub fn subset(&self, alloc: Global, number: u16) -> Result<Subset, OutOfMemory>
         requires first { 1 ≤ number }

@@ -17,9 +17,12 @@ mod laws;
 mod limits;
 mod pack;
 mod parse;
+mod pass;
 mod places;
+mod plain_index;
 mod plain_subsets;
 mod read;
+mod subset_index;
 mod subsets;
 #[cfg(test)]
 mod tests;
@@ -37,6 +40,7 @@ pub use laws::{
 };
 pub use pack::write_compressed;
 pub use read::read_plain;
+pub use subset_index::SubsetIndex;
 pub use subsets::{read_subsets, write_subsets};
 pub use text_laws::{courses_go_on_steadily, texts_have_one_decimal};
 pub use write::write_plain;

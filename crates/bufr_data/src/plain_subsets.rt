@@ -58,7 +58,7 @@ fn read_subset(
 }
 
 /// A failure of the subset of this number.
-fn of_subset(number: u64, failure: Failure<ReadFault>) -> Failure<ReadFault>
+pub(crate) fn of_subset(number: u64, failure: Failure<ReadFault>) -> Failure<ReadFault>
     ensures { result ≡ failure_of_subset number failure }
 {
     match failure {

@@ -2,5 +2,6 @@
 
 mod compressed;
 mod data;
+mod index;
 mod samples;
 mod values;

@@ -2,6 +2,7 @@ pub mod OnLiterals
 pub mod ListFacts
 pub mod LowerLaws
 mod ListingFacts
+pub mod HeadingFacts
 pub mod FieldFacts
 pub mod CourseFacts
 pub mod SubsetFacts
@@ -24,3 +25,8 @@ pub mod MessageSteps
 pub mod TextFacts
 mod ShownFacts
 pub mod ValueFacts
+pub mod FormFacts
+pub mod FaultFacts
+pub mod FaultFields
+pub mod FaultHeadings
+pub mod FaultMessages

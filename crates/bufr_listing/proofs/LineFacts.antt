@@ -123,7 +123,7 @@ decoded_octets : (digits : List ℕ) (r : Result (List ℕ) FromHexError) → de
 decoded_octets digits (Ok os) h = octets_from os (decode_of-ok digits os h).3
 decoded_octets digits (Err e) h = tt
 
-not_empty : (xs : List ℕ) → not (length xs == 0) ≡ true → 0 < length xs
+pub not_empty : (xs : List ℕ) → not (length xs == 0) ≡ true → 0 < length xs
 not_empty [] h = absurd cc
 not_empty (x ∷ xs) h = omega arith
 
@@ -251,14 +251,20 @@ not_empty_from : (xs : List ℕ) → 0 < length xs → not (length xs == 0) ≡ 
 not_empty_from [] h = absurd (omega arith)
 not_empty_from (x ∷ xs) h = some_not_empty (length xs)
 
+-- a line of descriptors passes the test of one
+pub descriptors_pass : DescriptorTexts → (ds : List ℕ) → 0 < length ds → All (λ d. d < 2 ^ 16) ds
+    → (not (length (descriptors_in (descriptors_line ds)) == 0) && bytes_eq (descriptors_line (descriptors_in (descriptors_line ds))) (descriptors_line ds)) ≡ true
+descriptors_pass texts ds some small =
+    let back = descriptors_back_in texts ds (recursion_from_All (λ d. d < 65536) ds small) in
+    let own = descriptors_in (descriptors_line ds) in
+    both (subst (λ (ys : List ℕ). not (length ys == 0) ≡ true) (sym back) (not_empty_from ds some)) (same_bytes (descriptors_line own) (descriptors_line ds) (ap descriptors_line back))
+
 pub descriptors_back : DescriptorTexts → (tables : Entries) (n : ℕ) (ds : List ℕ) (tree : Tree) → 0 < length ds → All (λ d. d < 2 ^ 16) ds → template tables ds ≡ Ok tree
     → read_descriptors tables n (descriptors_line ds) ≡ Ok (record { descriptors = ds; tree = tree })
 descriptors_back texts tables n ds tree some small has_template =
     let back = descriptors_back_in texts ds (recursion_from_All (λ d. d < 65536) ds small) in
     let own = descriptors_in (descriptors_line ds) in
-    let passes : (not (length own == 0) && bytes_eq (descriptors_line own) (descriptors_line ds)) ≡ true =
-    both (subst (λ (ys : List ℕ). not (length ys == 0) ≡ true) (sym back) (not_empty_from ds some)) (same_bytes (descriptors_line own) (descriptors_line ds) (ap descriptors_line back)) in
-    given _ (described n own (template tables own)) (BadLine n) passes
+    given _ (described n own (template tables own)) (BadLine n) (descriptors_pass texts ds some small)
     ∙ ap (λ ys. described n ys (template tables ys)) back ∙ ap (described n ds) has_template
   where
     given : (b : Bool) (r : Result Described ListingFault) (e : ListingFault) → b ≡ true → (if b then r else Err e) ≡ r

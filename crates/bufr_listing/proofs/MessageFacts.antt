@@ -27,7 +27,7 @@ use Rattle.bufr_listing.proofs.LineFacts.{literal_word, both, numbers_take, numb
 
 -- ---- lines that may be absent
 
-abbrev IfTaken : {A : Type 0} → (ℕ → List ℕ → Result A ListingFault) → List Line → Option A → List Line → Type 0
+abbrev pub IfTaken : {A : Type 0} → (ℕ → List ℕ → Result A ListingFault) → List Line → Option A → List Line → Type 0
 IfTaken read ls None rest = ls ≡ rest
 IfTaken read ls (Some a) rest = LineTaken read ls a rest
 
@@ -38,7 +38,7 @@ if_takes_by {A} true read l ls x h =
     subst (λ (y : Option A × List Line). IfTaken read (l ∷ ls) y.0 y.1) (ok_is _ _ p.2) (record { line = l; front = refl; reads = p.1 })
 if_takes_by {A} false read l ls x h = subst (λ (y : Option A × List Line). IfTaken read (l ∷ ls) y.0 y.1) (ok_is _ _ h) refl
 
-if_takes : {A : Type 0} (title : List ℕ) (read : ℕ → List ℕ → Result A ListingFault) (ls : List Line) (x : Option A × List Line) → read_if title read ls ≡ Ok x → IfTaken read ls x.0 x.1
+pub if_takes : {A : Type 0} (title : List ℕ) (read : ℕ → List ℕ → Result A ListingFault) (ls : List Line) (x : Option A × List Line) → read_if title read ls ≡ Ok x → IfTaken read ls x.0 x.1
 if_takes {A} title read [] x h = subst (λ (y : Option A × List Line). IfTaken read [] y.0 y.1) (ok_is _ _ h) refl
 if_takes title read (l ∷ ls) x h = if_takes_by (bytes_eq (first_word l.text) title) read l ls x h
 
@@ -64,14 +64,14 @@ present title read (l ∷ ls) text others a is each e =
 
 -- ---- local octets and section 2
 
-local_takes : (ls : List Line) (o : Option (List ℕ)) (rest : List Line) → IfTaken read_local ls o rest → (texts ls ≡ local_lines (unwrap_or o []) ++ texts rest) × AreOctets (unwrap_or o [])
+pub local_takes : (ls : List Line) (o : Option (List ℕ)) (rest : List Line) → IfTaken read_local ls o rest → (texts ls ≡ local_lines (unwrap_or o []) ++ texts rest) × AreOctets (unwrap_or o [])
 local_takes ls None rest h = (ap texts h, All-from_recursion IsOctet [] tt)
 local_takes ls (Some []) rest h = let p = octets_take (codes "local1") _ h.line.number h.line.text [] h.reads in let some = p.some in absurd (omega (arith, some))
 local_takes ls (Some (x ∷ xs)) rest h =
     let p = octets_take (codes "local1") _ h.line.number h.line.text (x ∷ xs) h.reads in
     (ap texts h.front ∙ ap (λ t. t ∷ texts rest) p.line, p.octets)
 
-section2_takes : (ls : List Line) (o : Option (List ℕ)) (rest : List Line) → IfTaken read_section2 ls o rest → (texts ls ≡ section2_lines o ++ texts rest) × IfSome o AreOctets
+pub section2_takes : (ls : List Line) (o : Option (List ℕ)) (rest : List Line) → IfTaken read_section2 ls o rest → (texts ls ≡ section2_lines o ++ texts rest) × IfSome o AreOctets
 section2_takes ls None rest h = (ap texts h, tt)
 section2_takes ls (Some os) rest h =
     let p = section2_take h.line.number h.line.text os h.reads in
@@ -87,7 +87,7 @@ local_backs ls [] next octets other e = record { found = None; is = refl; back =
 local_backs ls (x ∷ xs) next octets other e =
     record { found = Some (x ∷ xs); is = refl; back = present (codes "local1") read_local ls (octets_line (codes "local1") (x ∷ xs)) next (x ∷ xs) refl (λ n. local_back n x xs octets) e }
 
-section2_titled : (os : List ℕ) → bytes_eq (first_word (section2_line os)) (codes "section2") ≡ true
+pub section2_titled : (os : List ℕ) → bytes_eq (first_word (section2_line os)) (codes "section2") ≡ true
 section2_titled [] = refl
 section2_titled (x ∷ xs) = refl
 
@@ -96,13 +96,13 @@ section2_backs ls None next octets other e = record { rest = ls; reads = absent 
 section2_backs ls (Some os) next octets other e =
     present (codes "section2") read_section2 ls (section2_line os) next os (section2_titled os) (λ n. section2_back n os octets) e
 
-flags_not_section2 : (observed compressed : Bool) → bytes_eq (first_word (flags_line observed compressed)) (codes "section2") ≡ false
+pub flags_not_section2 : (observed compressed : Bool) → bytes_eq (first_word (flags_line observed compressed)) (codes "section2") ≡ false
 flags_not_section2 false false = refl
 flags_not_section2 true false = refl
 flags_not_section2 false true = refl
 flags_not_section2 true true = refl
 
-flags_not_local : (observed compressed : Bool) → bytes_eq (first_word (flags_line observed compressed)) (codes "local1") ≡ false
+pub flags_not_local : (observed compressed : Bool) → bytes_eq (first_word (flags_line observed compressed)) (codes "local1") ≡ false
 flags_not_local false false = refl
 flags_not_local true false = refl
 flags_not_local false true = refl
@@ -134,14 +134,14 @@ regrouped m others =
 
 -- ---- the numbers of section 1
 
-head_below : (h : Head) → HeadFits h → (are_below section1_limits (section1_numbers h) ≡ true) × (are_below time_limits (time_numbers h) ≡ true)
+pub head_below : (h : Head) → HeadFits h → (are_below section1_limits (section1_numbers h) ≡ true) × (are_below time_limits (time_numbers h) ≡ true)
 unfolding are_below
 head_below h fits = (
   both (lt-ltb h.centre 65536 fits.centre) (both (lt-ltb h.sub_centre 65536 fits.sub_centre) (both (lt-ltb h.update 256 fits.update) (both (lt-ltb h.category 256 fits.category) (both (lt-ltb h.international 256 fits.international) (both (lt-ltb h.local_category 256 fits.local_category) (both (lt-ltb h.master_version 256 fits.master_version) (both (lt-ltb h.local_version 256 fits.local_version) refl))))))),
   both (lt-ltb h.year 65536 fits.year) (both (lt-ltb h.month 256 fits.month) (both (lt-ltb h.day 256 fits.day) (both (lt-ltb h.hour 256 fits.hour) (both (lt-ltb h.minute 256 fits.minute) (both (lt-ltb h.second 256 fits.second) refl))))),
 )
 
-head_fits : (ns ts : List ℕ) (local : Option (List ℕ)) → are_below section1_limits ns ≡ true → are_below time_limits ts ≡ true → AreOctets (unwrap_or local []) → HeadFits (head_with ns ts local)
+pub head_fits : (ns ts : List ℕ) (local : Option (List ℕ)) → are_below section1_limits ns ≡ true → are_below time_limits ts ≡ true → AreOctets (unwrap_or local []) → HeadFits (head_with ns ts local)
 head_fits ns ts local n t octets = record {
   centre = below_at section1_limits ns 0 n (omega arith);
   sub_centre = below_at section1_limits ns 1 n (omega arith);
@@ -166,7 +166,7 @@ pub record MessageTaken (tables : Entries) (ls : List Line) (x : MessageRead) : 
   pub front : texts ls ≡ lines_of x.0 ++ texts x.1
   pub can : CanBeListed tables x.0
 
-none_used : 0 ≤ 16777216
+pub none_used : 0 ≤ 16777216
 none_used = omega arith
 
 pub message_takes : LowerLaws → (tables : Entries) (past : ℕ) (ls : List Line) (x : MessageRead) → message_read tables past ls ≡ Ok x → MessageTaken tables ls x
@@ -252,10 +252,10 @@ goes_on o k x y is next = ap (λ r. r >>= k) is ∙ next
 word_back : (word : List ℕ) (n : ℕ) → read_word word n word ≡ Ok tt
 word_back word n = rw (same_bytes word word refl) refl
 
-limits_most : AllByRecursion (λ l. l ≤ 65536) section1_limits
+pub limits_most : AllByRecursion (λ l. l ≤ 65536) section1_limits
 limits_most = (omega arith, (omega arith, (omega arith, (omega arith, (omega arith, (omega arith, (omega arith, (omega arith, tt))))))))
 
-time_limits_most : AllByRecursion (λ l. l ≤ 65536) time_limits
+pub time_limits_most : AllByRecursion (λ l. l ≤ 65536) time_limits
 time_limits_most = (omega arith, (omega arith, (omega arith, (omega arith, (omega arith, (omega arith, tt))))))
 
 pub message_back : LowerLaws → (tables : Entries) (past : ℕ) (ls : List Line) (m : Message) (others : List (List ℕ)) → CanBeListed tables m → texts ls ≡ lines_of m ++ others → MessageBack tables past ls m others
@@ -303,7 +303,7 @@ messages_take laws (suc left) tables past (l ∷ ls) messages h =
       each = (own.can, others.each);
     })
 
-some_line : (m : Message) (others : List (List ℕ)) → 0 < length (lines_of m ++ others)
+pub some_line : (m : Message) (others : List (List ℕ)) → 0 < length (lines_of m ++ others)
 unfolding lines_of
 some_line m others = omega arith
 

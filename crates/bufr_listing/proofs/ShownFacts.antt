@@ -29,7 +29,7 @@ use Rattle.bufr_sections.specs.declared.message.Message.{Message}
 use Rattle.bufr_sections.specs.Sections.{AreOctets, HeadFits, IsOctet}
 use Rattle.bufr_sections.specs.declared.message.Head.{Head}
 use Rattle.bufr_listing.specs.Listings as old
-use Rattle.bufr_listing.specs.Listings.{line, listing, value_word, words}
+use Rattle.bufr_listing.specs.Listings.{line, heading_lines, listing, value_word, words}
 use Rattle.bufr_listing.specs.Lines.{Line, texts, section1_numbers, time_numbers, numbers_line, is_skipped, lower_digit, as_printed, has_octets, first_word, counting_from, counting_lines, joined, octets_line, local_lines, section2_line, section2_lines, flags_line, descriptors_line, field_line, subset_lines, flags_and_on, lines_of, CanBeListed, Listed}
 use Rattle.bufr_listing.specs.Reading.{messages_listed}
 use Rattle.bufr_listing.proofs.PrintedFacts.{own_printed}
@@ -382,7 +382,7 @@ nine_joined a b c d e f g h k =
     ∙ append_assoc a b (c ++ (d ++ (e ++ (f ++ (g ++ (h ++ k))))))
 
 pub listing_joined : (m : Message) → listing m ≡ joined (lines_of m)
-unfolding listing lines_of
+unfolding listing heading_lines lines_of
 listing_joined m =
     let two = joined_append (section2_lines m.section2) (flags_and_on m) ∙ (λ i. joined_section2 m.section2 i ++ joined_from_flags m i) in
     let local = joined_append (local_lines m.head.local) (section2_lines m.section2 ++ flags_and_on m) ∙ (λ i. joined_local m.head.local i ++ two i) in

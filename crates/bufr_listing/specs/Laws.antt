@@ -1,15 +1,23 @@
 -- What listings, the messages that they list, and what is read of them have to do with one another.
-use Rattle.std.specs.Prelude.{◌≡◌, ℕ, List, Ok}
+use Rattle.std.specs.Prelude.{◌≡◌, ℕ, List, ◌++◌, Ok, Err}
 use Rattle.std.specs.List.{flat_map, AllByRecursion}
 use Rattle.bufr_tables.specs.Entries.{Entries}
 use Rattle.bufr_sections.specs.declared.message.Message.{Message}
-use Rattle.bufr_listing.specs.Listings.{listing}
+use Rattle.bufr_listing.specs.Listings.{heading_of, heading_lines, subset_lines, end_line, listing}
 use Rattle.bufr_listing.specs.Lines.{lines_of, joined, Listed, CanBeListed}
 use Rattle.bufr_listing.specs.Reading.{messages_listed}
+use Rattle.bufr_listing.specs.FirstFaults.{FirstFault}
+use Rattle.bufr_listing.specs.declared.fault.ListingFault.{ListingFault}
 
 -- the listing of a message is its joined lines
 abbrev pub ListingsAreJoinedLines : Type 0
 ListingsAreJoinedLines = (m : Message) → listing m ≡ joined (lines_of m)
+
+-- the listing of a message is its parts, joined: the lines before the first subset, those of each
+-- subset, and the last
+abbrev pub ListingsAreJoinedParts : Type 0
+ListingsAreJoinedParts = (m : Message)
+    → listing m ≡ heading_lines (heading_of m) ++ flat_map subset_lines m.subsets ++ end_line
 
 -- what is read of a text is listed by it
 abbrev pub MessagesReadAreListed : Type 0
@@ -26,3 +34,8 @@ abbrev pub ListingsAreReadBack : Type 0
 ListingsAreReadBack = (tables : Entries) (messages : List Message)
     → AllByRecursion (λ m. CanBeListed tables m) messages
     → messages_listed tables (flat_map listing messages) ≡ Ok messages
+
+-- the fault that reading answers is the first of the text
+abbrev pub FaultsReadAreFirst : Type 0
+FaultsReadAreFirst = (tables : Entries) (text : List ℕ) (fault : ListingFault)
+    → messages_listed tables text ≡ Err fault → FirstFault tables text fault

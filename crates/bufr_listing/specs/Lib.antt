@@ -1,4 +1,5 @@
 pub mod Listings
+pub mod Heading
 pub mod Lines
 pub mod FieldLines
 pub mod Cursors
@@ -7,5 +8,6 @@ pub mod Words
 pub mod RawWords
 pub mod Steps
 pub mod Laws
+pub mod FirstFaults
 pub mod Samples
 pub mod Reasons

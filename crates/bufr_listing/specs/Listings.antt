@@ -82,7 +82,36 @@ flags_line observed compressed = line (words (codes "flags") (word_if observed (
 abbrev pub descriptors_line : List ℕ → List ℕ
 descriptors_line descriptors = line (codes "descriptors" ++ flat_map (λ d. 32 ∷ six_digits d) descriptors)
 
+-- what the lines before the first subset say: section 1, section 2 where there is one, the flags
+-- and the descriptors of section 3
+pub record Heading : Type 0 where
+  pub head : Head
+  pub section2 : Option (List ℕ)
+  pub observed : Bool
+  pub compressed : Bool
+  pub descriptors : List ℕ
+
+-- what those of a message's listing say
+abbrev pub heading_of : Message → Heading
+heading_of m =
+    record {
+      head = m.head;
+      section2 = m.section2;
+      observed = m.observed;
+      compressed = m.compressed;
+      descriptors = m.descriptors;
+    }
+
+-- the lines before the first subset, in this order
+unfoldable pub heading_lines : Heading → List ℕ
+heading_lines h =
+    codes "message\n" ++ section1_line h.head ++ time_line h.head ++ local_line h.head.local
+    ++ section2_line h.section2 ++ flags_line h.observed h.compressed ++ descriptors_line h.descriptors
+
+-- the last line
+abbrev pub end_line : List ℕ
+end_line = codes "end\n"
+
 -- the listing of a message: its lines, in this order
 unfoldable pub listing : Message → List ℕ
-listing m = codes "message\n" ++ section1_line m.head ++ time_line m.head ++ local_line m.head.local ++ section2_line m.section2
-    ++ flags_line m.observed m.compressed ++ descriptors_line m.descriptors ++ flat_map subset_lines m.subsets ++ codes "end\n"
+listing m = heading_lines (heading_of m) ++ flat_map subset_lines m.subsets ++ end_line

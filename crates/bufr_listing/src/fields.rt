@@ -2,7 +2,8 @@
 
 ghost use Rattle.std.specs.Prelude.{◌≡◌, ◌++◌, OnOk, string_bytes};
 ghost use Rattle.bufr_data.specs.Values.{value};
-ghost use Rattle.bufr_listing.specs.Listings.{quoted_octet, quoted, number_word, value_word, field_line, subset_lines};
+ghost use Rattle.bufr_listing.specs.Listings.{quoted_octet, quoted, number_word, value_word};
+ghost use Rattle.bufr_listing.specs.Listings.{field_line, subset_lines};
 
 use bufr_data::{Field, Raw, Subset};
 use bufr_tables::OutOfMemory;
@@ -14,7 +15,8 @@ pub(crate) fn push_subset(
     text: &mut String,
     subset: &Subset,
 ) -> Result<(), OutOfMemory>
-    ensures { OnOk result (string_bytes text.new ≡ string_bytes text.old ++ subset_lines subset.now) }
+    ensures { OnOk result (string_bytes text.new
+        ≡ string_bytes text.old ++ subset_lines subset.now) }
 {
     text.push_str("subset\n")?;
     for field in subset.fields.as_slice() {
@@ -25,7 +27,8 @@ pub(crate) fn push_subset(
 
 /// Adds the line of a field.
 fn push_field(alloc: Global, text: &mut String, field: &Field) -> Result<(), OutOfMemory>
-    ensures { OnOk result (string_bytes text.new ≡ string_bytes text.old ++ field_line field.now) }
+    ensures { OnOk result (string_bytes text.new
+        ≡ string_bytes text.old ++ field_line field.now) }
 {
     let fxy = field.fxy;
     write!(text, "{fxy} ")?;
@@ -35,7 +38,8 @@ fn push_field(alloc: Global, text: &mut String, field: &Field) -> Result<(), Out
 
 /// Adds the value of a field.
 fn push_value(alloc: Global, text: &mut String, field: &Field) -> Result<(), OutOfMemory>
-    ensures { OnOk result (string_bytes text.new ≡ string_bytes text.old ++ value_word field.now) }
+    ensures { OnOk result (string_bytes text.new
+        ≡ string_bytes text.old ++ value_word field.now) }
 {
     if field.is_missing() {
         return text.push_str("missing");
@@ -48,7 +52,8 @@ fn push_value(alloc: Global, text: &mut String, field: &Field) -> Result<(), Out
 
 /// Adds the digits of a field's value, where it has one.
 fn push_number(text: &mut String, field: &Field) -> Result<(), OutOfMemory>
-    ensures { OnOk result (string_bytes text.new ≡ string_bytes text.old ++ number_word (value field.now)) }
+    ensures { OnOk result (string_bytes text.new
+        ≡ string_bytes text.old ++ number_word (value field.now)) }
 {
     match field.value() {
         None => Ok(()),
@@ -58,7 +63,8 @@ fn push_number(text: &mut String, field: &Field) -> Result<(), OutOfMemory>
 
 /// Adds characters between quotes.
 fn push_quoted(alloc: Global, text: &mut String, octets: &[u8]) -> Result<(), OutOfMemory>
-    ensures { OnOk result (string_bytes text.new ≡ string_bytes text.old ++ quoted octets.now) }
+    ensures { OnOk result (string_bytes text.new
+        ≡ string_bytes text.old ++ quoted octets.now) }
 {
     text.push_str("\"")?;
     for octet in octets {
@@ -69,7 +75,8 @@ fn push_quoted(alloc: Global, text: &mut String, octets: &[u8]) -> Result<(), Ou
 
 /// Adds an octet of a text: itself where it can be printed, else its two digits behind a backslash.
 fn push_octet(alloc: Global, text: &mut String, octet: u8) -> Result<(), OutOfMemory>
-    ensures { OnOk result (string_bytes text.new ≡ string_bytes text.old ++ quoted_octet octet) }
+    ensures { OnOk result (string_bytes text.new
+        ≡ string_bytes text.old ++ quoted_octet octet) }
 {
     if octet >= 32 && octet <= 126 && octet != b'"' && octet != b'\\' {
         text.push(octet as char)

@@ -1,6 +1,7 @@
 //! Reading the lines of a message before its subsets.
 
-ghost use Rattle.std.specs.Prelude.{◌≡◌, ◌∷◌, [], List, Option, ℕ, ◌≤◌, ◌==◌, length, codes, option_map, true, false, if◌then◌else◌};
+ghost use Rattle.std.specs.Prelude.{◌≡◌, ◌∷◌, [], List, Option, ℕ, ◌≤◌, ◌==◌, length, codes};
+ghost use Rattle.std.specs.Prelude.{option_map, true, false, if◌then◌else◌};
 ghost use Rattle.std.specs.Str.{bytes_eq};
 ghost use Rattle.std.specs.List.{AllByRecursion};
 ghost use Rattle.hex.specs.declared.error.FromHexError.TheVariants.{OutOfMemory};
@@ -8,7 +9,9 @@ ghost use Rattle.bufr_tables.specs.Answers.{Gives};
 ghost use Rattle.bufr_listing.specs.Cursors.{left, past};
 ghost use Rattle.bufr_listing.specs.Lines.{Line, as_printed, first_word, words_of, has_octets};
 ghost use Rattle.bufr_listing.specs.Reading as reading;
-ghost use Rattle.bufr_listing.specs.Reading.{read_line, read_if, read_word, read_numbers, read_octets, read_local, read_section2, read_flags, read_descriptors, Described};
+ghost use Rattle.bufr_listing.specs.Reading.{read_line, read_if, read_word, read_numbers};
+ghost use Rattle.bufr_listing.specs.Reading.{read_octets, read_local, read_section2, read_flags};
+ghost use Rattle.bufr_listing.specs.Reading.{read_descriptors, Described};
 
 use crate::fault::{Cause, ListingFault};
 use crate::line_words::{Words, begins};

@@ -1,9 +1,11 @@
 //! Laws of listings and the messages that they list.
 
-ghost use Rattle.bufr_listing.specs.Laws.{ListingsAreJoinedLines, MessagesReadAreListed, MessagesListedAreRead, ListingsAreReadBack};
+ghost use Rattle.bufr_listing.specs.Laws.{ListingsAreJoinedLines, ListingsAreJoinedParts};
+ghost use Rattle.bufr_listing.specs.Laws.{MessagesReadAreListed, MessagesListedAreRead};
+ghost use Rattle.bufr_listing.specs.Laws.{ListingsAreReadBack, FaultsReadAreFirst};
 
 use bufr_data::counted_subsets_fit;
-use bufr_expand::laws::courses_are_steady;
+use bufr_expand::laws::{courses_are_steady, courses_are_unrollings, courses_begin_unrollings};
 use bufr_tables::laws::descriptor_texts;
 
 /// Reading a text answers messages exactly where the text lists them, and these messages alone.
@@ -16,7 +18,15 @@ pub fn listings_list_messages()
     counted_subsets_fit();
 }
 
-/// The listing of a message is its joined lines, and the joined listings of messages are read back as these messages.
+/// The listing of a message is the lines before its first subset, those of each subset and the last
+/// line, joined.
+#[tactic(auto, unfolding(crate::specs::Listings::listing))]
+pub fn listings_are_joined_parts()
+    ensures { ListingsAreJoinedParts }
+{}
+
+/// The listing of a message is its joined lines, and the joined listings of messages are read back
+/// as these messages.
 pub fn listings_are_read_back()
     ensures joined { ListingsAreJoinedLines }
     ensures read { ListingsAreReadBack }
@@ -24,4 +34,19 @@ pub fn listings_are_read_back()
     descriptor_texts();
     courses_are_steady();
     counted_subsets_fit();
+}
+
+/// The fault that reading answers is the first of the text: the messages before it are listed, the
+/// lines of this one before it are those of some head, or of a head whose descriptors have a
+/// template, of subsets that fit and of fields with which a subset can begin; and the next line is
+/// none that could follow (L1, L2), or there is none (L1), or the descriptors have no template or
+/// no field can follow (L3).
+pub fn faults_of_listings_are_the_first()
+    ensures { FaultsReadAreFirst }
+{
+    descriptor_texts();
+    courses_are_steady();
+    counted_subsets_fit();
+    courses_are_unrollings();
+    courses_begin_unrollings();
 }

@@ -5,7 +5,8 @@ mod examples;
 mod fault;
 mod fields;
 mod head_lines;
-mod laws;
+mod heading;
+pub mod laws;
 mod line_ends;
 mod line_words;
 mod lines;
@@ -16,9 +17,13 @@ mod text;
 mod writer;
 
 pub use fault::{Cause, ListingFault};
-pub use laws::{listings_are_read_back, listings_list_messages};
+pub use heading::HeadingParts;
+pub use laws::{
+    faults_of_listings_are_the_first, listings_are_joined_parts, listings_are_read_back,
+    listings_list_messages,
+};
 pub use messages::read;
-pub use text::text_of;
+pub use text::{end_text, heading_text, subset_text, text_of};
 pub use writer::{ListingWriteFault, write_message};
 
 #[cfg(test)]

@@ -1,10 +1,12 @@
 //! The words of a line.
 
-ghost use Rattle.std.specs.Prelude.{◌≡◌, ◌==◌, ◌^◌, ◌∷◌, [], length, drop, nat_le, IfOk, IfNone, IfSome, option_map};
+ghost use Rattle.std.specs.Prelude.{◌≡◌, ◌==◌, ◌^◌, ◌∷◌, [], length, drop, nat_le, IfOk, IfNone};
+ghost use Rattle.std.specs.Prelude.{IfSome, option_map};
 ghost use Rattle.std.specs.List.{position};
 ghost use Rattle.std.specs.Str.{bytes_eq};
 ghost use Rattle.bufr_listing.specs.Lines.{first_word, words_of};
-ghost use Rattle.bufr_listing.specs.Words.{words_left, below, number_below, numbers_of, descriptors_of};
+ghost use Rattle.bufr_listing.specs.Words.{words_left, below, number_below, numbers_of};
+ghost use Rattle.bufr_listing.specs.Words.{descriptors_of};
 
 use bufr_data::Decimal;
 use bufr_tables::{Fxy, OutOfMemory};

@@ -4,7 +4,8 @@ ghost use Rattle.std.specs.Prelude.{◌≡◌, List, Some, true};
 ghost use Rattle.bufr_tables.specs.Answers.{Gives};
 ghost use Rattle.bufr_listing.specs.Cursors.{left, past};
 ghost use Rattle.bufr_listing.specs.Lines.{Line};
-ghost use Rattle.bufr_listing.specs.Reading.{messages_listed, message_read, MessageRead, head_read, head_with, are_below, section1_limits, time_limits};
+ghost use Rattle.bufr_listing.specs.Reading.{messages_listed, message_read, MessageRead, head_read};
+ghost use Rattle.bufr_listing.specs.Reading.{head_with, are_below, section1_limits, time_limits};
 
 use crate::fault::ListingFault;
 use crate::head_lines::{
@@ -23,12 +24,12 @@ const SECTION1_LIMITS: [u64; 8] = [65536, 65536, 256, 256, 256, 256, 256, 256];
 const TIME_LIMITS: [u64; 6] = [65536, 256, 256, 256, 256, 256];
 
 /// The messages that a listing lists, of zero or more blocks. Lines end with LF, which the last may
-/// lack, and a CR before it is cut; empty lines and lines that begin with `#` are skipped, and count
-/// as lines. Else the first fault in the order of lines, on one line L3, L1, L2: L1 `BadLine` where
-/// a line is not the one that is expected, or the text ends within a block; L2 `BadValue` where
-/// another word of it is none that its place can have; L3 `Refused` with X1 to X9 at the line of the
-/// descriptors, and with V1 `EffectiveRange` or V6 `TooLarge` at the line where a field or a subset's
-/// end is expected. Items count over the message. `OutOfMemory` where a growth was refused.
+/// lack, and a CR before it is cut; empty lines and lines that begin with `#` are skipped, and
+/// count as lines. Else the first fault in the order of lines, on one line L3, L1, L2: L1 `BadLine`
+/// where a line is not the one that is expected, or the text ends within a block; L2 `BadValue`
+/// where another word of it is none that its place can have; L3 `Refused` with X1 to X9 at the line
+/// of the descriptors, and with V1 `EffectiveRange` or V6 `TooLarge` at the line where a field or a
+/// subset's end is expected. Items count over the message. `OutOfMemory` where a growth was refused.
 pub fn read(
     alloc: Global,
     tables: &Tables,
@@ -50,7 +51,8 @@ fn read_message(
     tables: &Tables,
     lines: &mut Lines,
 ) -> Result<Message, Failure<ListingFault>>
-    ensures read { Gives {Y = MessageRead} (λ m. (m, left lines.new)) result (message_read tables.now (past lines.old) (left lines.old)) }
+    ensures read { Gives {Y = MessageRead} (λ m. (m, left lines.new)) result
+        (message_read tables.now (past lines.old) (left lines.old)) }
     ensures past { past lines.new ≡ past lines.old }
 {
     let head = read_head(alloc, lines)?;
@@ -70,7 +72,8 @@ fn read_message(
 
 /// Reads the lines of section 1.
 fn read_head(alloc: Global, lines: &mut Lines) -> Result<Head, Failure<ListingFault>>
-    ensures read { Gives {Y = Head × List Line} (λ h. (h, left lines.new)) result (head_read (past lines.old) (left lines.old)) }
+    ensures read { Gives {Y = Head × List Line} (λ h. (h, left lines.new)) result
+        (head_read (past lines.old) (left lines.old)) }
     ensures past { past lines.new ≡ past lines.old }
 {
     read_word(lines, b"message")?;

@@ -3,7 +3,8 @@
 ghost use Rattle.bufr_listing.specs.Words.{below};
 ghost use Rattle.std.specs.Prelude.{◌≡◌, ◌≤◌, ◌^◌, ◌-◌, ◌-ℤ◌, IfOk, option_map};
 ghost use Rattle.bufr_listing.specs.RawWords as words;
-ghost use Rattle.bufr_listing.specs.RawWords.{raw_of, number_of, text_of, octets_of, first_octet, is_plain, lower_value};
+ghost use Rattle.bufr_listing.specs.RawWords.{raw_of, number_of, text_of, octets_of, first_octet};
+ghost use Rattle.bufr_listing.specs.RawWords.{is_plain, lower_value};
 
 use crate::line_words::natural;
 use bufr_data::{Decimal, Raw};
@@ -143,7 +144,8 @@ fn octets_of(alloc: Global, count: usize, word: &[u8]) -> Result<Option<Vec<u8>>
 
 /// The octets, so many, that stand before the quote at the end of a text.
 fn octets_before(alloc: Global, count: usize, text: &[u8]) -> Result<Option<Vec<u8>>, OutOfMemory>
-    ensures { IfOk result (λ o. option_map (λ v. v.items) o ≡ words.octets_before count text.now) }
+    ensures { IfOk result (λ o. option_map (λ v. v.items) o
+        ≡ words.octets_before count text.now) }
 {
     let mut rest = text;
     let mut octets = Vec::new(alloc);

@@ -28,7 +28,8 @@ pub fn read_subsets(
     template: &Template,
     lines: &mut Lines,
 ) -> Result<Vec<Subset>, Failure<ListingFault>>
-    ensures read { Gives {Y = List Subset × List Line} (λ v. (v.items, left lines.new)) result (subsets_of (past lines.old) (course template.now) (left lines.old)) }
+    ensures read { Gives {Y = List Subset × List Line} (λ v. (v.items, left lines.new)) result
+        (subsets_of (past lines.old) (course template.now) (left lines.old)) }
     ensures past { past lines.new ≡ past lines.old }
 {
     let mut used = 0;
@@ -61,7 +62,9 @@ fn read_fields(
     lines: &mut Lines,
     used: u64,
 ) -> Result<(Items<Field>, u64), Failure<ListingFault>>
-    ensures read { Gives {Y = FieldsListed} (λ x. record { fields = x.0; items = x.1; rest = left lines.new }) result (fields_read (past lines.old) (course template.now used) (left lines.old)) }
+    ensures read { Gives {Y = FieldsListed}
+        (λ x. record { fields = x.0; items = x.1; rest = left lines.new }) result
+        (fields_read (past lines.old) (course template.now used) (left lines.old)) }
     ensures past { past lines.new ≡ past lines.old }
 {
     courses_go_on_steadily();
@@ -80,8 +83,10 @@ fn read_field(
     lines: &mut Lines,
 ) -> Result<Option<Field>, Failure<ListingFault>>
     requires { CanGoOn walk.old }
-    ensures ok { IfOk result (λ o. Reads (past lines.old) (walks.left walk.old) (left lines.old) o (walks.left walk.new) (walks.items_met walk.new) (left lines.new)) }
-    ensures err { IfErr result (λ e. Fails e (fields_read (past lines.old) (walks.left walk.old) (left lines.old))) }
+    ensures ok { IfOk result (λ o. Reads (past lines.old) (walks.left walk.old) (left lines.old) o
+        (walks.left walk.new) (walks.items_met walk.new) (left lines.new)) }
+    ensures err { IfErr result (λ e.
+        Fails e (fields_read (past lines.old) (walks.left walk.old) (left lines.old))) }
     ensures advances { IfOk result (λ o. OnSome o (Advances walk.old walk.new)) }
     ensures past { past lines.new ≡ past lines.old }
 {
@@ -105,7 +110,8 @@ fn read_field(
 
 /// The fault of a walk that stops: L3 at the next line, or L1 where there is none.
 fn stopped(lines: &mut Lines, fault: WalkFault) -> Failure<ListingFault>
-    ensures fails { (met : ℕ) → Fails result (fields_read (past lines.old) (stops met fault) (left lines.old)) }
+    ensures fails { (met : ℕ)
+        → Fails result (fields_read (past lines.old) (stops met fault) (left lines.old)) }
     ensures past { past lines.new ≡ past lines.old }
 {
     match lines.take() {
@@ -131,7 +137,8 @@ fn read_value(
     fxy: Fxy,
     spec: Spec,
 ) -> Result<Field, Failure<ListingFault>>
-    ensures read { Gives {Y = Field × List Line} (λ f. (f, left lines.new)) result (read_line (read_field fxy spec) (past lines.old) (left lines.old)) }
+    ensures read { Gives {Y = Field × List Line} (λ f. (f, left lines.new)) result
+        (read_line (read_field fxy spec) (past lines.old) (left lines.old)) }
     ensures past { past lines.new ≡ past lines.old }
 {
     let line = lines.take()?;

@@ -29,12 +29,17 @@ pub fn write_message<W: Sink>(
     writer: &mut W,
 ) -> Result<(), ListingWriteFault>
     requires { (W.writing writer.old).failed ≡ false }
-    ensures ok { OnOk result (Writes (W.writing writer.old) (W.writing writer.new) (listing message.now)) }
+    ensures ok { OnOk result
+        (Writes (W.writing writer.old) (W.writing writer.new) (listing message.now)) }
     ensures works { OnOk result ((W.writing writer.new).failed ≡ false) }
-    ensures within { (n : ℕ) → result ≡ Err (ListingWriteFault.WriteFailed n) → n ≤ length (listing message.now) }
-    ensures front { (n : ℕ) → result ≡ Err (ListingWriteFault.WriteFailed n) → Writes (W.writing writer.old) (W.writing writer.new) (take n (listing message.now)) }
-    ensures failed { (n : ℕ) → result ≡ Err (ListingWriteFault.WriteFailed n) → (W.writing writer.new).failed ≡ true }
-    ensures nothing { result ≡ Err ListingWriteFault.OutOfMemory → W.writing writer.new ≡ W.writing writer.old }
+    ensures within { (n : ℕ) → result ≡ Err (ListingWriteFault.WriteFailed n)
+        → n ≤ length (listing message.now) }
+    ensures front { (n : ℕ) → result ≡ Err (ListingWriteFault.WriteFailed n)
+        → Writes (W.writing writer.old) (W.writing writer.new) (take n (listing message.now)) }
+    ensures failed { (n : ℕ) → result ≡ Err (ListingWriteFault.WriteFailed n)
+        → (W.writing writer.new).failed ≡ true }
+    ensures nothing { result ≡ Err ListingWriteFault.OutOfMemory
+        → W.writing writer.new ≡ W.writing writer.old }
 {
     let Ok(text) = text_of(alloc, message) else {
         return Err(ListingWriteFault::OutOfMemory);

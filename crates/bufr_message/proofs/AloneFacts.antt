@@ -1,6 +1,6 @@
 -- Each subset of the data of a message stands in plain data of its own, which are no longer than those:
 -- for the law that the reports of a message have canonical messages.
-use Rattle.std.proofs.Common.{◌≡◌, ℕ, zero, suc, ◌+◌, ◌*◌, ◌/◌, ◌≤◌, Bool, true, false, List, [], ◌∷◌, ◌++◌, length, map, refl, sym, ap, subst, ◌∙◌, arith, length-append}
+use Rattle.std.proofs.Common.{◌≡◌, ℕ, zero, suc, ◌+◌, ◌≤◌, Bool, true, false, List, [], ◌∷◌, ◌++◌, length, map, sym, ap, subst, ◌∙◌, arith, length-append}
 use Rattle.std.specs.List.{AllByRecursion, flat_map}
 use Rattle.bufr_bits.specs.Bits.{bin, bits}
 use Rattle.bufr_bits.specs.BitLaws.{length-bin}

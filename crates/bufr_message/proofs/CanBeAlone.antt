@@ -1,6 +1,6 @@
 -- Whether each subset of a message can be said alone, and that in edition 4 each can: for the laws
 -- on messages that are read and on reports.
-use Rattle.std.proofs.Common.{◌≡◌, ℕ, ◌+◌, ◌*◌, ◌/◌, ◌<◌, ◌≤◌, ◌^◌, Bool, true, false, List, [], ◌∷◌, ◌++◌, length, Option, Some, None, refl, sym, ap, ◌∙◌, arith, length-append}
+use Rattle.std.proofs.Common.{◌≡◌, ℕ, ◌+◌, ◌*◌, ◌/◌, ◌<◌, ◌≤◌, ◌^◌, Bool, true, false, List, [], ◌∷◌, ◌++◌, length, refl, ap, arith, length-append}
 use Rattle.std.specs.Prelude.{nat_le}
 use Rattle.std.specs.List.{AllByRecursion}
 use Rattle.std.proofs.lemmas.Bool.{leb-true, le-leb, and_parts}
@@ -8,7 +8,7 @@ use Rattle.bufr_bits.specs.Bits.{bits}
 use Rattle.bufr_bits.specs.OctetLaws.{length-bits}
 use Rattle.bufr_expand.specs.Trees.{Tree}
 use Rattle.bufr_data.specs.declared.field.Subset.{Subset}
-use Rattle.bufr_data.specs.Plain.{plain, plain_subsets}
+use Rattle.bufr_data.specs.Plain.{plain}
 use Rattle.bufr_data.specs.Data.{IsDataOf}
 use Rattle.bufr_sections.specs.declared.message.Message.{Message}
 use Rattle.bufr_sections.specs.declared.layout.Layout.TheVariants.{Edition4}
@@ -50,7 +50,7 @@ alone_fails descriptors subsets none = by_test (can_be_alone descriptors subsets
 -- ---- edition 4
 
 -- subsets whose plain bits are so many at most
-all_short : (descriptors : List ℕ) (tree : Tree) (most : ℕ) (subsets : List Subset)
+pub all_short : (descriptors : List ℕ) (tree : Tree) (most : ℕ) (subsets : List Subset)
     → 45 + 2 * length descriptors + (most + 7) / 8 ≤ longest
     → AllByRecursion (StandsAlone tree most) subsets → CanBeAlone descriptors subsets
 all_short descriptors tree most [] few each = tt

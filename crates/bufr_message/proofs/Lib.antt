@@ -10,3 +10,4 @@ pub mod UnwrittenFacts
 pub mod ReportFacts
 pub mod AloneFacts
 pub mod UnderFacts
+pub mod ViewFacts

@@ -12,13 +12,13 @@ use Rattle.bufr_expand.specs.Flat.{IsTreeOf}
 use Rattle.bufr_expand.specs.Trees.{Tree}
 use Rattle.bufr_data.specs.declared.field.Subset.{Subset}
 use Rattle.bufr_data.specs.declared.fault.ReadFault.{ReadFault}
-use Rattle.bufr_data.specs.Data.{IsDataOf, subsets_in}
+use Rattle.bufr_data.specs.Data.{subsets_in}
 use Rattle.bufr_sections.specs.declared.message.Message.{Message}
 use Rattle.bufr_sections.specs.declared.layout.Layout.{Layout}
 use Rattle.bufr_sections.specs.declared.message.Decoded.{Decoded}
 use Rattle.bufr_sections.specs.declared.fault.Refused.{Refused}
 use Rattle.bufr_sections.specs.Sections.{Envelope, Ignored, AreOctets, EnvelopeFits, spelling, envelope_of}
-use Rattle.bufr_message.specs.Messages.{envelope_with, Spells, template_or, data_or, message_with, CanBeAlone, can_be_alone, ended, message_in, message_of}
+use Rattle.bufr_message.specs.Messages.{envelope_with, Spells, template_or, data_or, message_with, CanBeAlone, can_be_alone, message_in, message_of}
 use Rattle.bufr_message.specs.Laws.{MessagesReadAreSpelt, MessagesSpeltAreRead}
 use Rattle.bufr_sections.specs.AnswerLaws.{bind_ok, passed_ok, ok_is}
 use Rattle.bufr_sections.specs.declared.fault.Refused.TheVariants.{Data}

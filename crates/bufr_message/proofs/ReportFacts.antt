@@ -1,5 +1,5 @@
 -- The canonical message of a report tells what the report is: for the laws on canonical messages.
-use Rattle.std.proofs.Common.{◌≡◌, ℕ, ◌+◌, ◌*◌, ◌/◌, Bool, List, [], ◌∷◌, ◌++◌, length, Option, Some, None, Result, Ok, Err, refl, sym, ap, ◌∙◌, arith, length-append}
+use Rattle.std.proofs.Common.{◌≡◌, ℕ, ◌+◌, ◌/◌, Bool, List, [], ◌∷◌, ◌++◌, length, Some, Result, Ok, Err, refl, sym, ap, ◌∙◌, arith, length-append}
 use Rattle.bufr_bits.specs.Bits.{bits}
 use Rattle.bufr_bits.specs.OctetLaws.{length-bits}
 use Rattle.bufr_data.specs.Plain.{plain}
@@ -7,15 +7,12 @@ use Rattle.bufr_sections.specs.declared.layout.Layout.{Layout}
 use Rattle.bufr_sections.specs.declared.layout.Layout.TheVariants.{Edition4}
 use Rattle.bufr_sections.specs.Sections.{Envelope, Ignored, nothing_ignored, spelling}
 use Rattle.bufr_tables.specs.Entries.{Entries}
-use Rattle.bufr_sections.specs.declared.message.Message.{Message}
-use Rattle.bufr_sections.specs.declared.message.Decoded.{Decoded}
 use Rattle.bufr_message.specs.declared.fault.EncodeFault.{EncodeFault}
 use Rattle.bufr_message.specs.declared.report.Report.{Report}
 use Rattle.bufr_message.specs.Below.{Below}
 use Rattle.bufr_message.specs.Messages.{envelope_with, octets_alone, message_of}
 use Rattle.bufr_message.specs.Encodings.{code}
 use Rattle.bufr_message.specs.Reports.{reports_of, reports_read, reports_in, alone, if_written, IsCanonical}
-use Rattle.bufr_sections.specs.AnswerLaws.{ok_is}
 use Rattle.bufr_message.proofs.LengthFacts.{bare_long}
 use Rattle.bufr_message.proofs.WrittenFacts.{bare_when_written, read_when_written}
 

@@ -1,10 +1,9 @@
 -- Each report of a message that octets spell has a canonical message: for the law on reports.
-use Rattle.std.proofs.Common.{◌≡◌, ◌≢◌, ℕ, ◌+◌, ◌*◌, ◌/◌, ◌<◌, ◌≤◌, ◌^◌, Bool, true, false, List, [], ◌∷◌, ◌++◌, length, replicate, map, Ok, refl, ap, subst, ◌∙◌, arith, length-append}
+use Rattle.std.proofs.Common.{◌≡◌, ◌≢◌, ℕ, ◌+◌, ◌/◌, ◌<◌, ◌≤◌, ◌^◌, Bool, true, false, List, [], ◌∷◌, length, replicate, map, Ok, refl, ap, arith, length-append}
 use Rattle.std.specs.Prelude.{nat_lt}
 use Rattle.std.specs.List.{AllByRecursion}
 use Rattle.std.proofs.lemmas.Bool.{le-ltb}
 use Rattle.std.proofs.lemmas.List.{length-replicate}
-use Rattle.bufr_bits.specs.Bits.{bits}
 use Rattle.bufr_bits.specs.OctetLaws.{length-bits}
 use Rattle.bufr_tables.specs.Entries.{Entries}
 use Rattle.bufr_data.specs.declared.field.Subset.{Subset}
@@ -20,7 +19,6 @@ use Rattle.bufr_sections.specs.Spelt.{bare, longest, spelt_or}
 use Rattle.bufr_message.specs.Below.{Below}
 use Rattle.bufr_message.specs.Messages.{Spells, octets_alone, CanBeAlone}
 use Rattle.bufr_message.specs.Encodings.{whole_octets, code}
-use Rattle.bufr_message.specs.Laws.{NumbersFit}
 use Rattle.bufr_message.specs.Reports.{report_of, reports_of, alone, if_written, IsUnder}
 use Rattle.bufr_message.proofs.AloneFacts.{StandsAlone, each_alone}
 use Rattle.bufr_message.proofs.LengthFacts.{bare_long}

@@ -1,9 +1,7 @@
 -- A message is refused for the first cause in the order of the descriptors, the template, the subsets
 -- and the limits, and a message that octets spell is written: for the laws on messages that are written.
-use Rattle.std.proofs.Common.{◌≡◌, ◌≢◌, ◌⊎◌, ℕ, ◌+◌, ◌-◌, ◌*◌, ◌/◌, ◌%◌, ◌^◌, ◌<◌, ◌≤◌, Bool, true, false, get_or, List, [], ◌∷◌, ◌++◌, length, replicate, Option, Some, None, Result, Ok, Err, refl, sym, ap, subst, ◌∙◌, arith, inl, inr, length-append}
+use Rattle.std.proofs.Common.{◌≡◌, ◌≢◌, ◌⊎◌, ℕ, ◌-◌, ◌/◌, ◌%◌, ◌^◌, ◌<◌, ◌≤◌, Bool, true, false, get_or, List, [], ◌∷◌, ◌++◌, length, replicate, Result, Ok, Err, refl, sym, ap, subst, ◌∙◌, arith, inl, inr, length-append}
 use Rattle.std.specs.Prelude.{◌||◌, nat_lt}
-use Rattle.std.specs.List.{flat_map}
-use Rattle.std.specs.Int.{bytes_high_first}
 use Rattle.std.proofs.lemmas.Bool.{cases_lt, ltb-true, lt-ltb, le-ltb}
 use Rattle.std.proofs.lemmas.List.{length-replicate, get_or_past}
 use Rattle.bufr_bits.specs.Bits.{bits}
@@ -16,7 +14,7 @@ use Rattle.bufr_expand.specs.Flat.{IsTreeOf}
 use Rattle.bufr_expand.specs.Trees.{Tree}
 use Rattle.bufr_data.specs.declared.fault.WriteFault.{WriteFault}
 use Rattle.bufr_data.specs.declared.fault.WriteFault.TheVariants.{TooLarge}
-use Rattle.bufr_data.specs.Data.{IsDataOf, IsBareDataOf, IsFirstWriteFault, written_bits}
+use Rattle.bufr_data.specs.Data.{IsDataOf, IsBareDataOf, written_bits}
 use Rattle.bufr_data.specs.Columns.{Column}
 use Rattle.bufr_data.specs.BestColumns.{CanBePacked}
 use Rattle.bufr_sections.specs.declared.message.Message.{Message}

@@ -1,6 +1,6 @@
 -- Why octets are no message, and why a message has no octets (FM 94 BUFR, WMO-No. 306 Volume I.2:
 -- the sections' causes first, then those of regulation 94.5).
-use Rattle.std.specs.Prelude.{◌≡◌, ◌≢◌, ◌⊎◌, ℕ, ◌<◌, Bool, true, false, List, [], length}
+use Rattle.std.specs.Prelude.{◌≡◌, ◌≢◌, ◌⊎◌, ℕ, ◌<◌, Bool, List, [], length}
 use Rattle.bufr_bits.specs.Bits.{bits}
 use Rattle.bufr_tables.specs.Entries.{Entries}
 use Rattle.bufr_expand.specs.FirstFaults as templates

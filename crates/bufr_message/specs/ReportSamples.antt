@@ -1,6 +1,6 @@
 -- What the examples of reports speak of: worked messages, and the reports of the messages that
 -- octets spell.
-use Rattle.std.specs.Prelude.{ℕ, Bool, List, [], ◌∷◌, ◌++◌, map, codes, Option}
+use Rattle.std.specs.Prelude.{ℕ, Bool, List, ◌++◌, map, codes, Option}
 use Rattle.bufr_expand.specs.Samples.{sample}
 use Rattle.bufr_sections.specs.Samples.{hex, framed, plain1}
 use Rattle.bufr_message.specs.declared.report.Report.{Report}

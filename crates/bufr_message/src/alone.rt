@@ -1,6 +1,7 @@
 //! Whether each subset of a message can be said alone in edition 4.
 
-ghost use Rattle.std.specs.Prelude.{◌≡◌, ◌<◌, ◌^◌, length, nat_le};
+ghost use Rattle.std.specs.Prelude.{◌≡◌, ◌+◌, ◌*◌, ◌<◌, ◌≤◌, ◌^◌, length, nat_le};
+ghost use Rattle.std.specs.Bool.{OnTrue};
 ghost use Rattle.bufr_data.specs.Plain.{field_bits};
 ghost use Rattle.bufr_sections.specs.Spelt.{longest};
 ghost use Rattle.bufr_message.specs.Messages.{octets_alone, can_be_alone};
@@ -19,7 +20,7 @@ pub(crate) fn can_be_alone(descriptors: &[Fxy], subsets: &[Subset]) -> bool
 }
 
 /// Whether the message of edition 4 that says this subset alone has 16,777,215 octets at most.
-fn is_short(descriptors: &[Fxy], subset: &Subset) -> bool
+pub(crate) fn is_short(descriptors: &[Fxy], subset: &Subset) -> bool
     ensures { result ≡ nat_le (octets_alone descriptors.now subset.now) longest }
 {
     let mut bits = 0u128;
@@ -30,6 +31,14 @@ fn is_short(descriptors: &[Fxy], subset: &Subset) -> bool
         }
     }
     45 + 2 * descriptors.len() as u128 + (bits + 7) / 8 <= LONGEST
+}
+
+/// Whether a subset with so many octets of plain data at most, under so many descriptors, is that
+/// short at any rate.
+pub(crate) fn are_short(descriptors: usize, octets: usize) -> bool
+    ensures { OnTrue result (45 + 2 * descriptors + octets ≤ longest) }
+{
+    45 + 2 * descriptors as u128 + octets as u128 <= LONGEST
 }
 
 /// How many bits a field has.

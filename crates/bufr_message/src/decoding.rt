@@ -84,7 +84,7 @@ fn message_in(
 }
 
 /// The template of descriptors.
-fn template_of(
+pub(crate) fn template_of(
     alloc: Global,
     tables: &Tables,
     descriptors: &[Fxy],

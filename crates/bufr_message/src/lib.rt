@@ -12,14 +12,18 @@ mod fault;
 pub mod laws;
 mod lent;
 pub mod listing;
+mod message_view;
 mod ranges;
 mod report;
 mod report_examples;
 #[cfg(test)]
 mod test_samples;
+mod viewing;
 
 pub use bufr_sections::{Decoded, Head, Message, Refused};
 pub use decoding::decode;
 pub use encoding::encode;
 pub use fault::EncodeFault;
+pub use message_view::View;
 pub use report::{Report, ReportHead, canonical, reports};
+pub use viewing::view;

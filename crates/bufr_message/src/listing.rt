@@ -1,6 +1,12 @@
 //! Listings: messages as lines of words.
 
-pub use bufr_listing::{Cause, ListingFault, ListingWriteFault, read, text_of, write_message};
+mod viewed;
+
+pub use bufr_listing::{
+    Cause, HeadingParts, ListingFault, ListingWriteFault, end_text, heading_text,
+    listings_are_joined_parts, read, subset_text, text_of, write_message,
+};
+pub use viewed::{heading_of_view, subset_of_view};
 
 #[cfg(test)]
 mod tests;

@@ -130,7 +130,7 @@ pub fn reports(alloc: Global, message: Message) -> Result<Vec<Report>, OutOfMemo
 }
 
 /// The report of a subset with this head and these descriptors.
-fn report_with(
+pub(crate) fn report_with(
     alloc: Global,
     head: &Head,
     observed: bool,

@@ -1,19 +1,19 @@
 -- The command line of the program, by the words of `clap`.
-use Rattle.std.specs.Prelude.{ℕ, true, List, [], ◌∷◌, codes, Some, unwrap_or, if◌then◌else◌}
+use Rattle.std.specs.Prelude.{ℕ, Bool, true, List, [], ◌∷◌, codes, Option, Some, unwrap_or, if◌then◌else◌}
 use Rattle.std.specs.Option.{option_map_or}
 use Rattle.std.specs.Str.{bytes_eq}
-use Rattle.clap.specs.Words.{App, Rule, Shape, first_of, new_app, new_rule, subcommand_of}
+use Rattle.clap.specs.Words.{App, Row, Rule, Shape, all_of, first_of, new_app, new_rule, subcommand_of}
 use Rattle.clap.specs.Words.{with_subcommand}
 use Rattle.clap.specs.Simple.{new_shape, on_top}
-use Rattle.clap.specs.declared.builder.action.ArgAction.TheVariants.{Set}
+use Rattle.clap.specs.declared.builder.action.ArgAction.TheVariants.{Set, SetTrue, Append}
 use Rattle.bufr_tool.specs.declared.words.Task.{Task}
-use Rattle.bufr_tool.specs.declared.words.Task.TheVariants.{Show, Check}
+use Rattle.bufr_tool.specs.declared.words.Task.TheVariants.{Show, Check, Encode, Add, Merge}
 
 -- ---- the commands
 
--- the option of a table file: a letter and the file's path, which has to be there
-abbrev pub table_option : List ℕ → ℕ → Rule
-table_option id letter = record
+-- the option of a file: a letter and the file's path, which has to be there
+abbrev pub path_option : List ℕ → ℕ → Rule
+path_option id letter = record
     (new_rule id) { short = Some letter; action = Some Set; value_names = 1; required = true }
 
 -- the path of the file that is read, which has to be there
@@ -24,7 +24,30 @@ input_argument = record
 -- `NAME -b TABLE_B -d TABLE_D INPUT`
 abbrev pub reading_command : List ℕ → Shape
 reading_command name = record (new_shape name) {
-  rules = table_option (codes "b") 98 ∷ table_option (codes "d") 100 ∷ input_argument ∷ [];
+  rules = path_option (codes "b") 98 ∷ path_option (codes "d") 100 ∷ input_argument ∷ [];
+}
+
+-- the paths of the files that are read, at least one
+abbrev pub inputs_argument : Rule
+inputs_argument = record
+    (new_rule (codes "input")) { action = Some Append; value_names = 1; required = true }
+
+-- `NAME -b TABLE_B -d TABLE_D -o OUT INPUT...`
+abbrev pub collecting_command : List ℕ → Shape
+collecting_command name = record (new_shape name) {
+  rules = path_option (codes "b") 98 ∷ path_option (codes "d") 100 ∷ path_option (codes "out") 111
+      ∷ inputs_argument ∷ [];
+}
+
+-- a flag, by its word
+abbrev pub flag : List ℕ → Rule
+flag id = record (new_rule id) { long = Some id; action = Some SetTrue }
+
+-- `encode -b TABLE_B -d TABLE_D [--compressed] INPUT`
+abbrev pub encoding_command : Shape
+encoding_command = record (new_shape (codes "encode")) {
+  rules = path_option (codes "b") 98 ∷ path_option (codes "d") 100 ∷ flag (codes "compressed")
+      ∷ input_argument ∷ [];
 }
 
 -- the program's name and settings: the words come without the name, a version is told, and one of
@@ -34,27 +57,71 @@ program = on_top (λ s. record s
     { has_version = true; no_binary_name = true; subcommand_required = true })
     (new_app (codes "bufr"))
 
--- the program's commands
+-- the program's commands that write no archive
+abbrev pub plain_commands : App
+plain_commands = with_subcommand
+    (with_subcommand (with_subcommand program (reading_command (codes "show")))
+    (reading_command (codes "check")))
+    encoding_command
+
+-- all its commands
 abbrev pub commands : App
-commands = with_subcommand (with_subcommand program (reading_command (codes "show")))
-    (reading_command (codes "check"))
+commands = with_subcommand (with_subcommand plain_commands (collecting_command (codes "add")))
+    (collecting_command (codes "merge"))
 
 -- ---- what a line asks for
 
--- the value that `clap` gives an argument of the command that words name; none is the empty text
-abbrev pub value_of : List ℕ → List (List ℕ) → List ℕ
-value_of id words = option_map_or (λ found. unwrap_or (first_of id found.1) [])
-    (subcommand_of commands words) []
+-- the command that words name, if any, with the values of its arguments
+abbrev pub Named : Type 0
+Named = Option (List ℕ × List Row)
+
+-- the value that an argument has there; none is the empty text
+abbrev pub value_in : List ℕ → Named → List ℕ
+value_in id named = option_map_or (λ found. unwrap_or (first_of id found.1) []) named []
+
+-- all values that it has there, in order
+abbrev pub values_in : List ℕ → Named → List (List ℕ)
+values_in id named = option_map_or (λ found. unwrap_or (all_of id found.1) []) named []
+
+-- whether a flag is up there
+abbrev pub flag_in : List ℕ → Named → Bool
+flag_in id named = bytes_eq (value_in id named) (codes "true")
 
 -- the task of a command's name
 abbrev pub task_named : List ℕ → Task
-task_named name = if bytes_eq name (codes "check") then Check else Show
+task_named name = if bytes_eq name (codes "check") then Check
+    else if bytes_eq name (codes "encode") then Encode
+    else if bytes_eq name (codes "add") then Add
+    else if bytes_eq name (codes "merge") then Merge else Show
 
--- the task of the command that words name
+-- the task of the command that is named
+abbrev pub task_in : Named → Task
+task_in named = task_named (option_map_or (λ found. found.0) named [])
+
+-- the same of words, by the parse that `clap` defines for them
+abbrev pub value_of : List ℕ → List (List ℕ) → List ℕ
+value_of id words = value_in id (subcommand_of commands words)
+
+abbrev pub values_of : List ℕ → List (List ℕ) → List (List ℕ)
+values_of id words = values_in id (subcommand_of commands words)
+
+abbrev pub flag_of : List ℕ → List (List ℕ) → Bool
+flag_of id words = flag_in id (subcommand_of commands words)
+
 abbrev pub task_of : List (List ℕ) → Task
-task_of words = task_named (option_map_or (λ found. found.0) (subcommand_of commands words) [])
+task_of words = task_in (subcommand_of commands words)
 
 -- a line of a command, written out: its options stand in any order
 abbrev pub line_words : List ℕ → List (List ℕ)
 line_words name = name ∷ codes "-d" ∷ codes "sequences.csv" ∷ codes "bulletin" ∷ codes "-b" ∷ codes
     "elements.csv" ∷ []
+
+-- a line of `encode` with the flag, written out
+abbrev pub compressed_words : List (List ℕ)
+compressed_words = codes "encode" ∷ codes "-b" ∷ codes "elements.csv" ∷ codes "--compressed" ∷ codes
+    "-d" ∷ codes "sequences.csv" ∷ codes "bulletin" ∷ []
+
+-- a line of a command that writes an archive, written out
+abbrev pub collecting_words : List ℕ → List (List ℕ)
+collecting_words name = name ∷ codes "-b" ∷ codes "elements.csv" ∷ codes "first" ∷ codes "-d"
+    ∷ codes "sequences.csv" ∷ codes "-o" ∷ codes "archive" ∷ codes "second" ∷ []

@@ -1,4 +1,5 @@
 pub mod Output
 pub mod Loads
 pub mod StreamEngines
+pub mod Encoding
 pub mod CommandLines

@@ -102,3 +102,15 @@ shown tables stream = frames_text Shown tables (cut stream)
 abbrev pub checked : Entries → List ℕ → List ℕ
 checked tables stream =
     frames_text Checked tables (cut stream) ++ tally_line (tally_of Checked tables stream)
+
+-- ---- an archive that was written
+
+-- what `add` prints then: the frames, those that spell no message, and the reports of the archive
+abbrev pub added_line : Tally → List ℕ
+added_line tally = codes "frames " ++ decimal tally.frames ++ codes " refused "
+    ++ decimal tally.refused ++ codes " reports " ++ decimal tally.reports ++ 10 ∷ []
+
+-- what `merge` prints: the archives that were read, and the reports of the one that was written
+abbrev pub merged_line : Tally → List ℕ
+merged_line tally = codes "archives " ++ decimal tally.frames ++ codes " reports "
+    ++ decimal tally.reports ++ 10 ∷ []

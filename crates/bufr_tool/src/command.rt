@@ -1,16 +1,22 @@
 //! The commands of the program, over a runtime with files and any two writers.
 
-ghost use Rattle.std.specs.Prelude.{◌≤◌, IfSome};
+ghost use Rattle.std.specs.Prelude.{◌≡◌, ◌≤◌, map, IfOk, IfSome};
+ghost use Rattle.bufr_collect.specs.Readers.{AreFresh};
 ghost use Rattle.bufr_engines.specs.Engines.{IsFresh};
+ghost use Rattle.bufr_tool.specs.Output.{added_line, merged_line};
 
 use crate::check::run_check;
+use crate::encode::run_encode;
+use crate::late_file::LateFile;
 use crate::show::run_show;
 use crate::tables::load_tables;
 use crate::words::{CommandLine, Task, line};
 use bufr_bits::{FromRead, IntoWrite, Source};
-use bufr_engines::{Tally, ToolFault, write_out};
+use bufr_collect::{run_add, run_merge};
+use bufr_engines::{Input, Tally, ToolFault, write_out};
+use bufr_tables::Tables;
 use clap::error::ErrorKind;
-use std::alloc::Global;
+use std::alloc::{AllocError, Global};
 use std::convert::AsStr;
 use std::io::Write;
 use std::rt::Files;
@@ -25,13 +31,13 @@ const WELL: u8 = 0;
 /// A message was refused.
 const REFUSED: u8 = 1;
 
-/// A fault of the line, a file, a table or memory.
+/// A fault of the line, a file, a table, a listing or memory.
 const FAULT: u8 = 2;
 
 /// Carries out the command that words ask for, without the program's name, and answers the exit
 /// status: 0 where all is well or help was asked for, 1 where a message was refused, 2 on a fault
-/// of the line, a file, a table or memory. The output goes to `out`; a fault is one line on `err`,
-/// and a failed write to `err` is passed over. No words ask for help.
+/// of the line, a file, a table, a listing or memory. The output goes to `out`; a fault is one line
+/// on `err`, and a failed write to `err` is passed over. No words ask for help.
 pub fn run_command<R: Files, O: Write + Drop, E: Write + Drop>(
     rt: &R,
     alloc: Global,
@@ -79,14 +85,45 @@ fn run_line<R: Files, O: Write + Drop, E: Write + Drop>(
     let Some(mut d) = open(rt, line.d) else {
         return cannot_open(line.d, err);
     };
-    let Some(mut input) = open(rt, line.input) else {
-        return cannot_open(line.input, err);
+    let mut inputs = match open_all(rt, alloc, &line.inputs) {
+        Ok(inputs) => inputs,
+        Err(Unopened::Path(path)) => return cannot_open(path, err),
+        Err(Unopened::OutOfMemory) => return say(&ToolFault::OutOfMemory, err),
     };
-    match run_task(alloc, line.task, &mut b, &mut d, &mut input, out) {
+    match run_task(rt, alloc, line, &mut b, &mut d, &mut inputs, out) {
         Ok(tally) if tally.refused == 0 => WELL,
         Ok(_) => REFUSED,
         Err(fault) => say(&fault, err),
     }
+}
+
+/// Why inputs are not all open.
+enum Unopened<'a> {
+    /// The file of this path can't be opened.
+    Path(&'a str),
+    /// Memory ran out.
+    OutOfMemory,
+}
+
+/// Readers of the files of some paths, opened in order; or the first path that can't be opened.
+fn open_all<'a, R: Files>(
+    rt: &R,
+    alloc: Global,
+    paths: &[&'a str],
+) -> Result<Vec<FromRead<R::File>>, Unopened<'a>>
+    ensures { IfOk result (λ readers. AreFresh
+        (map ⟦<FromRead<R::File> as Source>⟧.reading readers.items)) }
+{
+    let mut readers = Vec::new(alloc);
+    for path in paths {
+        let Some(reader) = open(rt, path) else {
+            return Err(Unopened::Path(path));
+        };
+        let Ok(()) = readers.push(reader) else {
+            return Err(Unopened::OutOfMemory);
+        };
+    }
+    Ok(readers)
 }
 
 /// A reader of the file of a path, where it can be opened.
@@ -99,25 +136,91 @@ fn open<R: Files>(rt: &R, path: &str) -> Option<FromRead<R::File>>
     }
 }
 
-/// Loads the tables and runs a task's engine over its input.
-fn run_task<S: Source, O: Write + Drop>(
+/// Loads the tables and runs the engine of a line's task over its inputs.
+fn run_task<R: Files, S: Source, O: Write + Drop>(
+    rt: &R,
     alloc: Global,
-    task: Task,
+    line: &CommandLine,
     b: &mut S,
     d: &mut S,
-    input: &mut S,
+    inputs: &mut [S],
     out: &mut O,
 ) -> Result<Tally, ToolFault>
     requires fresh_b { IsFresh (S.reading b.old) }
     requires fresh_d { IsFresh (S.reading d.old) }
-    requires fresh_input { IsFresh (S.reading input.old) }
+    requires fresh_inputs { AreFresh (map S.reading inputs.old) }
 {
     let tables = load_tables(alloc, MOST_READS, b, d)?;
-    let mut writer = IntoWrite::new(&mut *out);
-    match task {
-        Task::Show => run_show(alloc, MOST_READS, &tables, input, &mut writer),
-        Task::Check => run_check(alloc, MOST_READS, &tables, input, &mut writer),
+    if let Task::Add | Task::Merge = line.task {
+        return run_collecting(rt, alloc, line, &tables, inputs, out);
     }
+    match inputs.first_mut() {
+        Some(input) => run_plain(alloc, line, &tables, input, out),
+        None => Err(ToolFault::ReadFailed(Input::Number(1))),
+    }
+}
+
+/// Runs an engine that writes to the output.
+fn run_plain<S: Source, O: Write + Drop>(
+    alloc: Global,
+    line: &CommandLine,
+    tables: &Tables,
+    input: &mut S,
+    out: &mut O,
+) -> Result<Tally, ToolFault>
+    requires { IsFresh (S.reading input.old) }
+{
+    let mut writer = IntoWrite::new(&mut *out);
+    let compressed = line.compressed;
+    match line.task {
+        Task::Encode => run_encode(alloc, MOST_READS, tables, compressed, input, &mut writer),
+        Task::Check => run_check(alloc, MOST_READS, tables, input, &mut writer),
+        _ => run_show(alloc, MOST_READS, tables, input, &mut writer),
+    }
+}
+
+/// Runs an engine that writes an archive, and then prints what was counted.
+fn run_collecting<R: Files, S: Source, O: Write + Drop>(
+    rt: &R,
+    alloc: Global,
+    line: &CommandLine,
+    tables: &Tables,
+    inputs: &mut [S],
+    out: &mut O,
+) -> Result<Tally, ToolFault>
+    requires { AreFresh (map S.reading inputs.old) }
+{
+    let mut archive = LateFile::new(rt, line.out);
+    let mut writer = IntoWrite::new(&mut *out);
+    if line.task == Task::Merge {
+        let tally = run_merge(alloc, MOST_READS, tables, inputs, &mut archive)?;
+        write_out(&mut writer, 0, &merged_line(alloc, &tally)?)?;
+        return Ok(tally);
+    }
+    let tally = run_add(alloc, MOST_READS, tables, inputs, &mut archive)?;
+    write_out(&mut writer, 0, &added_line(alloc, &tally)?)?;
+    Ok(tally)
+}
+
+/// What is printed after an archive of streams was written.
+fn added_line(alloc: Global, tally: &Tally) -> Result<Vec<u8>, AllocError>
+    ensures { IfOk result (λ text. text.items ≡ added_line tally.now) }
+{
+    let frames = tally.frames;
+    let refused = tally.refused;
+    let reports = tally.reports;
+    let line = format!(in alloc; "frames {frames} refused {refused} reports {reports}\n")?;
+    Ok(line.into_bytes())
+}
+
+/// What is printed after an archive of archives was written.
+fn merged_line(alloc: Global, tally: &Tally) -> Result<Vec<u8>, AllocError>
+    ensures { IfOk result (λ text. text.items ≡ merged_line tally.now) }
+{
+    let archives = tally.frames;
+    let reports = tally.reports;
+    let line = format!(in alloc; "archives {archives} reports {reports}\n")?;
+    Ok(line.into_bytes())
 }
 
 /// Says a fault on `err`.

@@ -4,7 +4,9 @@
 mod check;
 mod command;
 mod counts;
+mod encode;
 mod frames;
+mod late_file;
 mod printing;
 mod show;
 mod tables;
@@ -15,6 +17,10 @@ mod words;
 pub use bufr_engines::{Input, Tally, ToolFault};
 pub use check::run_check;
 pub use command::run_command;
+pub use encode::run_encode;
 pub use show::run_show;
 pub use tables::load_tables;
-pub use words::{CommandLine, Task, line, lines_of_show};
+pub use words::{
+    CommandLine, Task, line, lines_of_add, lines_of_check, lines_of_compressed_encode,
+    lines_of_encode, lines_of_merge, lines_of_show,
+};

@@ -2,12 +2,13 @@
 
 ghost use Rattle.std.specs.Prelude.{◌≡◌, ◌≤◌, length, IfOk};
 ghost use Rattle.bufr_tables.specs.Answers.{result_map};
+ghost use Rattle.bufr_message.specs.Listings.{listing};
 ghost use Rattle.bufr_message.specs.Messages.{message_of};
 ghost use Rattle.bufr_tool.specs.Output.{frame_text, frame_refused, last_text, printed_as};
 
 use bufr_engines::Tally;
 use bufr_frame::Found;
-use bufr_message::{Decoded, Refused, decode, listing};
+use bufr_message::{Refused, View, listing, view};
 use bufr_tables::{Failure, Tables};
 use std::alloc::{AllocError, Global};
 
@@ -27,37 +28,52 @@ pub struct FrameText {
     pub refused: u64,
 }
 
-/// The message that the octets of a frame spell, or why they spell none.
-fn judge(
+/// The message that the octets of a frame spell, none of whose subsets is built yet, or why they
+/// spell none.
+fn judge<'a>(
     alloc: Global,
     tables: &Tables,
-    octets: &[u8],
-) -> Result<Result<Decoded, Refused>, AllocError>
+    octets: &'a [u8],
+) -> Result<Result<View<'a>, Refused>, AllocError>
     ensures { IfOk result (λ found. found ≡ message_of tables.now octets.now) }
 {
-    match decode(alloc, tables, octets) {
+    match view(alloc, tables, octets) {
         Ok(found) => Ok(Ok(found)),
         Err(Failure::Fault(why)) => Ok(Err(why)),
         Err(Failure::OutOfMemory) => Err(AllocError),
     }
 }
 
-/// What is printed of a frame that spells a message.
+/// The listing of a message, of which one subset at a time is built.
+fn listing_of(alloc: Global, found: &View<'_>) -> Result<Vec<u8>, AllocError>
+    ensures { IfOk result (λ text. text.items ≡ listing found.now.message) }
+{
+    listing::listings_are_joined_parts();
+    let mut text = listing::heading_of_view(alloc, found)?;
+    for index in 0..found.count() {
+        let lines = listing::subset_of_view(alloc, found, index + 1)?;
+        text.extend_from_slice(&lines)?;
+    }
+    text.extend_from_slice(listing::end_text())?;
+    Ok(text)
+}
+
+/// What is printed of a frame that spells a message. For `check` no subset is built.
 fn message_text(
     alloc: Global,
     printing: Printing,
     frame: &Found,
-    found: &Decoded,
+    found: &View<'_>,
 ) -> Result<Vec<u8>, AllocError>
     ensures { IfOk result (λ text. text.items ≡ printed_as printing frame.now (Ok found.now)) }
 {
     match printing {
-        Printing::Shown => listing::text_of(alloc, &found.message),
+        Printing::Shown => listing_of(alloc, found),
         Printing::Checked => {
             let place = frame.place;
             let length = frame.bytes.as_slice().len();
-            let subsets = found.message.subsets.as_slice().len();
-            let slack = found.slack_octets;
+            let subsets = found.count();
+            let slack = found.slack();
             let line = format!(in alloc; "{place} {length} ok {subsets} {slack}\n")?;
             Ok(line.into_bytes())
         }

@@ -3,6 +3,8 @@
 
 ghost use Rattle.std.specs.Prelude.{Some, None};
 
+mod collecting;
+mod encoding;
 mod streams;
 
 use crate::command::run_command;
@@ -24,7 +26,8 @@ const TABLE_B: &[u8] = b"FXY,BUFR_Unit,BUFR_Scale,BUFR_ReferenceValue,BUFR_DataW
 004003,d,0,0,6\n\
 004004,h,0,0,5\n\
 004005,min,0,0,6\n\
-012101,K,2,0,16\n";
+012101,K,2,0,16\n\
+031001,Numeric,0,0,8\n";
 
 const TABLE_D: &[u8] = b"FXY1,FXY2\n\
 301001,001001\n\
@@ -39,6 +42,13 @@ const TABLE_D: &[u8] = b"FXY1,FXY2\n\
 const ELEMENTS_ONLY: &[u8] = b"BUFR\x00\x00\x46\x04\
 \x00\x00\x16\x00\x00\x62\x00\x00\x00\x00\x00\x02\x00\x25\x00\x07\xE8\x01\x0F\x0C\x00\x00\
 \x00\x00\x17\x00\x00\x01\x80\x01\x01\x01\x02\x04\x01\x04\x02\x04\x03\x04\x04\x04\x05\x0C\x65\
+\x00\x00\x0D\x00\x14\xC0\x3F\x40\x9E\xC0\x1A\xAC\xC0\
+7777";
+
+/// One plain subset of a station, a time and a temperature: 62 octets.
+const SEQUENCES: &[u8] = b"BUFR\x00\x00\x3E\x04\
+\x00\x00\x16\x00\x00\x62\x00\x00\x00\x00\x00\x02\x00\x25\x00\x07\xE8\x01\x0F\x0C\x00\x00\
+\x00\x00\x0F\x00\x00\x01\x80\xC1\x01\xC1\x0B\xC1\x0C\x0C\x65\
 \x00\x00\x0D\x00\x14\xC0\x3F\x40\x9E\xC0\x1A\xAC\xC0\
 7777";
 
@@ -294,8 +304,16 @@ fn path(rt: &HostRuntime, name: &str) -> Result<String, Fail> {
     Ok(format!(in rt.alloc(); "{folder}/bufr_test_{number}_{name}")?)
 }
 
-/// The exit status of a command, and what it wrote on standard output and on standard error.
+/// The exit status of a command, and the texts that it wrote on standard output and on standard
+/// error.
 fn run(rt: &HostRuntime, words: &[&str]) -> Result<(u8, String, String), Fail> {
+    let (status, out, err) = run_for_octets(rt, words)?;
+    Ok((status, String::from_utf8(out)?, err))
+}
+
+/// The exit status of a command, the octets that it wrote on standard output, and the text that it
+/// wrote on standard error.
+fn run_for_octets(rt: &HostRuntime, words: &[&str]) -> Result<(u8, Vec<u8>, String), Fail> {
     let alloc = rt.alloc();
     let mut owned = Vec::new(alloc);
     for word in words {
@@ -304,7 +322,7 @@ fn run(rt: &HostRuntime, words: &[&str]) -> Result<(u8, String, String), Fail> {
     let mut out = Vec::new(alloc);
     let mut err = Vec::new(alloc);
     let status = run_command(rt, alloc, &owned, &mut out, &mut err);
-    Ok((status, String::from_utf8(out)?, String::from_utf8(err)?))
+    Ok((status, out, String::from_utf8(err)?))
 }
 
 #[test]

@@ -1,13 +1,15 @@
 //! The command line.
 
-ghost use Rattle.std.specs.Prelude.{◌≡◌, true, false, [], map, codes, unwrap_or, IfOk, IfErr};
-ghost use Rattle.std.specs.Option.{option_map_or};
-ghost use Rattle.clap.specs.Words.{app_of, first_of, kind_of, rule_of, shape_of};
-ghost use Rattle.clap.specs.Words.{subcommand_rows_of, takes};
+ghost use Rattle.std.specs.Prelude.{◌≡◌, ◌∷◌, true, false, [], map, codes, IfOk, IfErr};
+ghost use Rattle.clap.specs.Words.{app_of, kind_of, rule_of, shape_of, subcommand_rows_of, takes};
 ghost use Rattle.clap.specs.declared.error.ErrorKind.TheVariants.{OutOfMemory};
-ghost use Rattle.bufr_tool.specs.CommandLines.{commands, line_words, reading_command, table_option};
-ghost use Rattle.bufr_tool.specs.CommandLines.{task_named, task_of, value_of};
-ghost use Rattle.bufr_tool.specs.declared.words.Task.TheVariants.{Show, Check};
+ghost use Rattle.bufr_tool.specs.CommandLines.{collecting_command, collecting_words, commands};
+ghost use Rattle.bufr_tool.specs.CommandLines.{compressed_words, encoding_command, flag, flag_in};
+ghost use Rattle.bufr_tool.specs.CommandLines.{flag_of, input_argument, inputs_argument};
+ghost use Rattle.bufr_tool.specs.CommandLines.{line_words, path_option, plain_commands};
+ghost use Rattle.bufr_tool.specs.CommandLines.{reading_command, task_in, task_of, value_in};
+ghost use Rattle.bufr_tool.specs.CommandLines.{value_of, values_in, values_of};
+ghost use Rattle.bufr_tool.specs.declared.words.Task.TheVariants.{Show, Check, Encode, Add, Merge};
 
 use clap::{Arg, ArgAction, ArgMatches, Command, Error};
 use std::alloc::{AllocError, Global};
@@ -23,38 +25,75 @@ pub enum Task {
     Show,
     /// A line for each frame of a file.
     Check,
+    /// The messages of a listing.
+    Encode,
+    /// An archive of the reports of streams.
+    Add,
+    /// An archive of the reports of archives.
+    Merge,
 }
 
-/// A command line that asks for work: the task, the paths of the table files, and that of the
-/// input.
-#[derive(Clone, Copy, Debug, Drop)]
+/// A command line that asks for work.
+#[derive(Debug, Drop)]
 pub struct CommandLine<'a> {
+    /// What it asks for.
     pub task: Task,
+    /// The path of the file of Table B.
     pub b: &'a str,
+    /// The path of the file of Table D.
     pub d: &'a str,
-    pub input: &'a str,
+    /// Whether every message is to be compressed.
+    pub compressed: bool,
+    /// The path of the archive that is written, empty where the command writes none.
+    pub out: &'a str,
+    /// The paths of the inputs, in order.
+    pub inputs: Vec<&'a str>,
 }
 
 /// The command line that words are, without the program's name. Words that are none, or that ask
 /// for help or the version, are an error of `clap`, whose text and exit status are the answer to
 /// them; it is also answered where memory runs out.
 pub fn line<'a, S: AsStr>(alloc: Global, words: &'a [S]) -> Result<CommandLine<'a>, Error>
-    // The task and the paths are the subcommand and the values that `clap` defines for the words.
+    // The task, the paths and the flag are the subcommand, the values and the flag that `clap`
+    // defines for the words.
     ensures task { IfOk result (λ l. l.task ≡ task_of (map S.text words.now)) }
     ensures b { IfOk result (λ l. l.b.now ≡ value_of (codes "b") (map S.text words.now)) }
     ensures d { IfOk result (λ l. l.d.now ≡ value_of (codes "d") (map S.text words.now)) }
-    ensures input { IfOk result
-        (λ l. l.input.now ≡ value_of (codes "input") (map S.text words.now)) }
+    ensures compressed { IfOk result
+        (λ l. l.compressed ≡ flag_of (codes "compressed") (map S.text words.now)) }
+    ensures out { IfOk result (λ l. l.out.now ≡ value_of (codes "out") (map S.text words.now)) }
+    ensures inputs { IfOk result (λ l. map (λ path. path.now) l.inputs.items
+        ≡ values_of (codes "input") (map S.text words.now)) }
     // Words that `clap` defines as taken are refused for memory alone.
     ensures taken { IfErr result
         (λ e. takes commands (map S.text words.now) ≡ true → kind_of e ≡ OutOfMemory) }
 {
     let matches = bufr(alloc)?.try_get_matches_from(words)?;
+    Ok(line_of(alloc, &matches)?)
+}
+
+/// The command line of the command that was named.
+fn line_of<'a>(alloc: Global, matches: &ArgMatches<'a>) -> Result<CommandLine<'a>, AllocError>
+    ensures task { IfOk result (λ l. l.task ≡ task_in (subcommand_rows_of matches.now)) }
+    ensures b { IfOk result
+        (λ l. l.b.now ≡ value_in (codes "b") (subcommand_rows_of matches.now)) }
+    ensures d { IfOk result
+        (λ l. l.d.now ≡ value_in (codes "d") (subcommand_rows_of matches.now)) }
+    ensures compressed { IfOk result
+        (λ l. l.compressed ≡ flag_in (codes "compressed") (subcommand_rows_of matches.now)) }
+    ensures out { IfOk result
+        (λ l. l.out.now ≡ value_in (codes "out") (subcommand_rows_of matches.now)) }
+    ensures inputs { IfOk result (λ l. map (λ path. path.now) l.inputs.items
+        ≡ values_in (codes "input") (subcommand_rows_of matches.now)) }
+{
+    let inputs = values(alloc, matches, "input")?;
     Ok(CommandLine {
-        task: asked_task(&matches),
-        b: value(&matches, "b"),
-        d: value(&matches, "d"),
-        input: value(&matches, "input"),
+        task: asked_task(matches),
+        b: value(matches, "b"),
+        d: value(matches, "d"),
+        compressed: is_up(matches, "compressed"),
+        out: value(matches, "out"),
+        inputs,
     })
 }
 
@@ -64,7 +103,8 @@ pub fn lines_of_show()
     ensures task { task_of (line_words (codes "show")) ≡ Show }
     ensures b { value_of (codes "b") (line_words (codes "show")) ≡ codes "elements.csv" }
     ensures d { value_of (codes "d") (line_words (codes "show")) ≡ codes "sequences.csv" }
-    ensures input { value_of (codes "input") (line_words (codes "show")) ≡ codes "bulletin" }
+    ensures inputs { values_of (codes "input") (line_words (codes "show"))
+        ≡ codes "bulletin" ∷ [] }
 {}
 
 /// So has one of `check`.
@@ -73,24 +113,70 @@ pub fn lines_of_check()
     ensures task { task_of (line_words (codes "check")) ≡ Check }
     ensures b { value_of (codes "b") (line_words (codes "check")) ≡ codes "elements.csv" }
     ensures d { value_of (codes "d") (line_words (codes "check")) ≡ codes "sequences.csv" }
-    ensures input { value_of (codes "input") (line_words (codes "check")) ≡ codes "bulletin" }
+    ensures inputs { values_of (codes "input") (line_words (codes "check"))
+        ≡ codes "bulletin" ∷ [] }
+{}
+
+/// So has one of `encode`, and its flag is not up.
+pub fn lines_of_encode()
+    ensures taken { takes commands (line_words (codes "encode")) ≡ true }
+    ensures task { task_of (line_words (codes "encode")) ≡ Encode }
+    ensures b { value_of (codes "b") (line_words (codes "encode")) ≡ codes "elements.csv" }
+    ensures d { value_of (codes "d") (line_words (codes "encode")) ≡ codes "sequences.csv" }
+    ensures compressed { flag_of (codes "compressed") (line_words (codes "encode")) ≡ false }
+    ensures inputs { values_of (codes "input") (line_words (codes "encode"))
+        ≡ codes "bulletin" ∷ [] }
+{}
+
+/// So has one of `encode` with its flag, which is up.
+pub fn lines_of_compressed_encode()
+    ensures taken { takes commands compressed_words ≡ true }
+    ensures task { task_of compressed_words ≡ Encode }
+    ensures b { value_of (codes "b") compressed_words ≡ codes "elements.csv" }
+    ensures d { value_of (codes "d") compressed_words ≡ codes "sequences.csv" }
+    ensures compressed { flag_of (codes "compressed") compressed_words ≡ true }
+    ensures inputs { values_of (codes "input") compressed_words
+        ≡ codes "bulletin" ∷ [] }
+{}
+
+/// So has one of `add`, with the archive that it writes and two inputs.
+pub fn lines_of_add()
+    ensures taken { takes commands (collecting_words (codes "add")) ≡ true }
+    ensures task { task_of (collecting_words (codes "add")) ≡ Add }
+    ensures b { value_of (codes "b") (collecting_words (codes "add")) ≡ codes "elements.csv" }
+    ensures d { value_of (codes "d") (collecting_words (codes "add")) ≡ codes "sequences.csv" }
+    ensures out { value_of (codes "out") (collecting_words (codes "add")) ≡ codes "archive" }
+    ensures inputs { values_of (codes "input") (collecting_words (codes "add"))
+        ≡ codes "first" ∷ codes "second" ∷ [] }
+{}
+
+/// So has one of `merge`.
+pub fn lines_of_merge()
+    ensures taken { takes commands (collecting_words (codes "merge")) ≡ true }
+    ensures task { task_of (collecting_words (codes "merge")) ≡ Merge }
+    ensures b { value_of (codes "b") (collecting_words (codes "merge")) ≡ codes "elements.csv" }
+    ensures d { value_of (codes "d") (collecting_words (codes "merge")) ≡ codes "sequences.csv" }
+    ensures out { value_of (codes "out") (collecting_words (codes "merge")) ≡ codes "archive" }
+    ensures inputs { values_of (codes "input") (collecting_words (codes "merge"))
+        ≡ codes "first" ∷ codes "second" ∷ [] }
 {}
 
 /// The task of the command that was named.
 fn asked_task<'a>(matches: &ArgMatches<'a>) -> Task
-    ensures { result ≡ task_named
-        (option_map_or (λ found. found.0) (subcommand_rows_of matches.now) []) }
+    ensures { result ≡ task_in (subcommand_rows_of matches.now) }
 {
     match matches.subcommand_name().unwrap_or("") {
         "check" => Task::Check,
+        "encode" => Task::Encode,
+        "add" => Task::Add,
+        "merge" => Task::Merge,
         _ => Task::Show,
     }
 }
 
 /// The value of an argument of the command that was named, the empty text where it has none.
 fn value<'a>(matches: &ArgMatches<'a>, id: &str) -> &'a str
-    ensures { result.now ≡ option_map_or (λ found. unwrap_or (first_of id.now found.1) [])
-        (subcommand_rows_of matches.now) [] }
+    ensures { result.now ≡ value_in id.now (subcommand_rows_of matches.now) }
 {
     match matches.subcommand() {
         Some((_, found)) => found.get_str(id).unwrap_or(""),
@@ -98,20 +184,53 @@ fn value<'a>(matches: &ArgMatches<'a>, id: &str) -> &'a str
     }
 }
 
+/// All values of an argument of the command that was named, in order.
+fn values<'a>(alloc: Global, matches: &ArgMatches<'a>, id: &str) -> Result<Vec<&'a str>, AllocError>
+    ensures { IfOk result (λ found. map (λ value. value.now) found.items
+        ≡ values_in id.now (subcommand_rows_of matches.now)) }
+{
+    match matches.subcommand() {
+        Some((_, found)) => match found.get_strs(id) {
+            Some(values) => Vec::from_slice(alloc, values),
+            None => Ok(Vec::new(alloc)),
+        },
+        None => Ok(Vec::new(alloc)),
+    }
+}
+
+/// Whether a flag of the command that was named is up.
+fn is_up<'a>(matches: &ArgMatches<'a>, id: &str) -> bool
+    ensures { result ≡ flag_in id.now (subcommand_rows_of matches.now) }
+{
+    value(matches, id) == "true"
+}
+
 /// The commands of the program.
 fn bufr<'a>(alloc: Global) -> Result<Command<'a>, AllocError>
     ensures { IfOk result (λ c. app_of c ≡ commands) }
 {
+    let add = "Makes an archive of files: one copy of each report";
+    let merge = "Makes one archive of several";
+    plain(alloc)?
+        .subcommand(collecting(alloc, "add", add, "FILE", "The files of the messages")?)?
+        .subcommand(collecting(alloc, "merge", merge, "ARCHIVE", "The archives")?)
+}
+
+/// The commands that write no archive.
+fn plain<'a>(alloc: Global) -> Result<Command<'a>, AllocError>
+    ensures { IfOk result (λ c. app_of c ≡ plain_commands) }
+{
     let show = "Shows the messages of a file as a listing";
     let check = "Says of each message of a file whether it can be read";
     Command::new(alloc, "bufr")
-        .about("Reads BUFR edition 4 messages of the world's weather services")
+        .about("Reads, writes and collects BUFR messages of the world's weather services")
         .version(VERSION)
         .bin_name("bufr")?
         .no_binary_name(true)
         .subcommand_required(true)
         .subcommand(reading(alloc, "show", show)?)?
-        .subcommand(reading(alloc, "check", check)?)
+        .subcommand(reading(alloc, "check", check)?)?
+        .subcommand(encoding(alloc)?)
 }
 
 /// A command that reads a file of messages under tables.
@@ -122,24 +241,82 @@ fn reading<'a>(alloc: Global, name: &'a str, about: &'a str) -> Result<Command<'
     let d = "The CSV file of Table D: the sequences";
     Command::new(alloc, name)
         .about(about)
-        .arg(table(alloc, "b", 'b', "TABLE_B", b))?
-        .arg(table(alloc, "d", 'd', "TABLE_D", d))?
+        .arg(path(alloc, "b", 'b', "TABLE_B", b))?
+        .arg(path(alloc, "d", 'd', "TABLE_D", d))?
+        .arg(input(alloc, "FILE", "The file of the messages"))
+}
+
+/// The command that reads a listing under tables.
+fn encoding<'a>(alloc: Global) -> Result<Command<'a>, AllocError>
+    ensures { IfOk result (λ c. shape_of c ≡ encoding_command) }
+{
+    let b = "The CSV file of Table B: the elements";
+    let d = "The CSV file of Table D: the sequences";
+    Command::new(alloc, "encode")
+        .about("Writes the messages of a listing")
+        .arg(path(alloc, "b", 'b', "TABLE_B", b))?
+        .arg(path(alloc, "d", 'd', "TABLE_D", d))?
+        .arg(switch(alloc, "compressed", "Compresses every message"))?
+        .arg(input(alloc, "LISTING", "The file of the listing"))
+}
+
+/// A command that writes an archive of what it reads under tables.
+fn collecting<'a>(
+    alloc: Global,
+    name: &'a str,
+    about: &'a str,
+    inputs: &'a str,
+    help: &'a str,
+) -> Result<Command<'a>, AllocError>
+    ensures { IfOk result (λ c. shape_of c ≡ collecting_command name.now) }
+{
+    let b = "The CSV file of Table B: the elements";
+    let d = "The CSV file of Table D: the sequences";
+    let out = "The archive that is written, once all was read";
+    Command::new(alloc, name)
+        .about(about)
+        .arg(path(alloc, "b", 'b', "TABLE_B", b))?
+        .arg(path(alloc, "d", 'd', "TABLE_D", d))?
+        .arg(path(alloc, "out", 'o', "OUT", out))?
         .arg(
             Arg::new(alloc, "input")
-                .value_name("FILE")
-                .help("The file of the messages")
+                .value_name(inputs)
+                .help(help)
                 .required(true)
-                .action(ArgAction::Set),
+                .action(ArgAction::Append),
         )
 }
 
-/// The option of a table file.
-fn table<'a>(alloc: Global, id: &'a str, short: char, name: &'a str, help: &'a str) -> Arg<'a>
-    ensures rule { rule_of result ≡ table_option id.now short }
+/// The option of a file.
+fn path<'a>(alloc: Global, id: &'a str, short: char, name: &'a str, help: &'a str) -> Arg<'a>
+    ensures rule { rule_of result ≡ path_option id.now short }
     ensures local { result.global ≡ false }
 {
     Arg::new(alloc, id)
         .short(short)
+        .value_name(name)
+        .help(help)
+        .required(true)
+        .action(ArgAction::Set)
+}
+
+/// A flag, by its word.
+fn switch<'a>(alloc: Global, id: &'a str, help: &'a str) -> Arg<'a>
+    ensures rule { rule_of result ≡ flag id.now }
+    ensures local { result.global ≡ false }
+{
+    Arg::new(alloc, id)
+        .long(id)
+        .help(help)
+        .action(ArgAction::SetTrue)
+}
+
+/// The file that is read.
+fn input<'a>(alloc: Global, name: &'a str, help: &'a str) -> Arg<'a>
+    ensures rule { rule_of result ≡ input_argument }
+    ensures local { result.global ≡ false }
+{
+    Arg::new(alloc, "input")
         .value_name(name)
         .help(help)
         .required(true)

@@ -8,7 +8,7 @@ use std::process::Abort;
 use std::test::Fail;
 
 /// The joined listings of the messages that a text lists, or its fault.
-fn listed_again(alloc: Global, text: &str) -> Result<String, Fail> {
+pub(super) fn listed_again(alloc: Global, text: &str) -> Result<String, Fail> {
     match read(alloc, &tables(alloc)?, text.as_bytes()) {
         Ok(messages) => {
             let mut all = Vec::new(alloc);
@@ -22,13 +22,18 @@ fn listed_again(alloc: Global, text: &str) -> Result<String, Fail> {
 }
 
 /// A text is read, and its messages are listed so, or it is refused so.
-fn assert_read(rt: &impl Abort, alloc: Global, text: &str, wanted: &str) -> Result<(), Fail> {
+pub(super) fn assert_read(
+    rt: &impl Abort,
+    alloc: Global,
+    text: &str,
+    wanted: &str,
+) -> Result<(), Fail> {
     assert_eq!(rt; listed_again(alloc, text)?.as_str(), wanted, "at {text}");
     Ok(())
 }
 
 /// The head of a message and these lines.
-fn behind_head(alloc: Global, lines: &str) -> Result<String, Fail> {
+pub(super) fn behind_head(alloc: Global, lines: &str) -> Result<String, Fail> {
     let mut text = String::new(alloc);
     text.push_str(HEAD)?;
     text.push_str(lines)?;
@@ -36,7 +41,12 @@ fn behind_head(alloc: Global, lines: &str) -> Result<String, Fail> {
 }
 
 /// The same lines behind the head are read as themselves, or refused so.
-fn assert_behind(rt: &impl Abort, alloc: Global, lines: &str, fault: &str) -> Result<(), Fail> {
+pub(super) fn assert_behind(
+    rt: &impl Abort,
+    alloc: Global,
+    lines: &str,
+    fault: &str,
+) -> Result<(), Fail> {
     let text = behind_head(alloc, lines)?;
     let wanted = if fault.is_empty() {
         text.as_str()
@@ -313,10 +323,6 @@ fn walks_that_stop(rt: HostRuntime) -> Result<(), Fail> {
         (
             "descriptors 105255 104255 103255 102255 101255 201000\nsubset\n\n\n#\nx",
             "L3 Refused 10 V6 TooLarge",
-        ),
-        (
-            "descriptors 105255 104255 103255 102255 101255 201000\nsubset\n\n\n#\n",
-            "L1 BadLine 10",
         ),
     ] {
         assert_behind(&rt, alloc, lines, fault)?;

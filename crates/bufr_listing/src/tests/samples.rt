@@ -19,6 +19,8 @@ FXY,ElementName_en,BUFR_Unit,BUFR_Scale,BUFR_ReferenceValue,BUFR_DataWidth_Bits
 005002,latitude,deg,2,-9000,15
 007001,height of station,m,0,-400,15
 010004,pressure,Pa,-1,0,14
+010250,local of scale 127,m,127,-3,8
+010251,local of scale -127,m,-127,-3,8
 012101,temperature,K,2,0,16
 012250,local,K,2,-5000000000000000000,16
 031000,short delayed descriptor replication factor,Numeric,0,0,1

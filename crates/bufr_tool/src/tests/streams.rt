@@ -2,7 +2,7 @@
 
 ghost use Rattle.std.specs.Prelude.{◌≡◌, Some, None, false};
 
-use super::{ELEMENTS_ONLY, LISTING, TABLE_B, TABLE_D, path, run, tables};
+use super::{ELEMENTS_ONLY, LISTING, SEQUENCES, TABLE_B, TABLE_D, path, run, tables};
 use crate::check::run_check;
 use crate::command::{MOST_READS, run_command};
 use crate::show::run_show;
@@ -12,13 +12,6 @@ use std::alloc::Global;
 use std::fs;
 use std::io::Cursor;
 use std::test::Fail;
-
-/// One plain subset of a station, a time and a temperature: 62 octets.
-const SEQUENCES: &[u8] = b"BUFR\x00\x00\x3E\x04\
-\x00\x00\x16\x00\x00\x62\x00\x00\x00\x00\x00\x02\x00\x25\x00\x07\xE8\x01\x0F\x0C\x00\x00\
-\x00\x00\x0F\x00\x00\x01\x80\xC1\x01\xC1\x0B\xC1\x0C\x0C\x65\
-\x00\x00\x0D\x00\x14\xC0\x3F\x40\x9E\xC0\x1A\xAC\xC0\
-7777";
 
 const CHECKED: &str = "18 62 ok 1 0\n84 62 ok 1 0\nframes 2 refused 0 skipped 22\n";
 

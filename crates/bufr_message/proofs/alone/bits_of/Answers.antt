@@ -1,4 +1,4 @@
-use Rattle.std.proofs.Common.{◌≡◌, ℕ, ◌*◌, length, ap, sym, ◌∙◌}
+use Rattle.std.proofs.Common.{ℕ, ◌*◌, length, ap, sym, ◌∙◌}
 use Rattle.bufr_bits.specs.BitLaws.{length-bin}
 use Rattle.bufr_bits.specs.OctetLaws.{length-bits}
 use Rattle.bufr_data.specs.declared.field.Raw.{Raw}

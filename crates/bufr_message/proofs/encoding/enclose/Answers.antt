@@ -1,8 +1,6 @@
-use Rattle.std.proofs.Common.{◌≡◌, ℕ, List, Bool, arith, Err}
-use Rattle.bufr_bits.specs.Bits.{bits}
+use Rattle.std.proofs.Common.{arith, Err}
 use Rattle.bufr_sections.specs.AnswerLaws.{told_fault}
 use Rattle.bufr_message.specs.Lent.{whole}
-use Rattle.bufr_message.specs.Encodings.{filled}
 use Rattle.bufr_message.proofs.EncodingFacts.{whole_octets_are, enclosed_is}
 use Rattle.bufr_message.proofs.encoding.enclose.Goals as goal
 

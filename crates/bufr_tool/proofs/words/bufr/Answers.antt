@@ -1,7 +1,6 @@
 use Rattle.std.proofs.Common.{rules, ◌≡◌, ap, ap₂, ◌∙◌, Bool, true, false, not, ◌&&◌, refl}
 use Rattle.std.proofs.lemmas.Result.{IfOk-weaker}
 use Rattle.clap.specs.Words.{Shape, app_of, with_subcommand}
-use Rattle.bufr_tool.specs.CommandLines.{program}
 use Rattle.bufr_tool.proofs.words.bufr.Goals as goal
 
 third : (a b g rest : Bool) → (a && (not b && (not g && rest))) ≡ true → g ≡ false
@@ -12,7 +11,6 @@ third true true true rest h = cc
 
 pub returns : goal.returns
 returns c =
-    let top : app_of c.subcommand_required.result ≡ program = search rules in
     let plain = λ (s : Shape). s.is_plain in
-    let one = c.in_ok-subcommand.ensures.shape (third _ _ _ _ (ap plain c.in_ok-reading.ensures)) ∙ ap₂ with_subcommand top c.in_ok-reading.ensures in
-    IfOk-weaker c.subcommand-2.result _ _ (λ r a. a.shape (third _ _ _ _ (ap plain c.in_ok-reading-2.ensures)) ∙ ap₂ with_subcommand one c.in_ok-reading-2.ensures) c.subcommand-2.ensures
+    let one = c.in_ok-subcommand.ensures.shape (third _ _ _ _ (ap plain c.in_ok-collecting.ensures)) ∙ ap₂ with_subcommand c.in_ok-plain.ensures c.in_ok-collecting.ensures in
+    IfOk-weaker c.subcommand-2.result _ _ (λ r a. a.shape (third _ _ _ _ (ap plain c.in_ok-collecting-2.ensures)) ∙ ap₂ with_subcommand one c.in_ok-collecting-2.ensures) c.subcommand-2.ensures

@@ -1,7 +1,7 @@
-use Rattle.std.proofs.Common.{◌≡◌, true, codes, refl}
+use Rattle.std.proofs.Common.{◌≡◌, ◌∷◌, [], true, codes, refl}
 use Rattle.clap.specs.Words.{takes}
 use Rattle.clap.proofs.OnLiterals.{clap_on_literals}
-use Rattle.bufr_tool.specs.CommandLines.{commands, line_words, task_of, value_of}
+use Rattle.bufr_tool.specs.CommandLines.{commands, line_words, task_of, value_of, values_of}
 use Rattle.bufr_tool.specs.declared.words.Task.TheVariants.{Check}
 use Rattle.bufr_tool.proofs.words.lines_of_check.Goals as goal
 
@@ -21,9 +21,9 @@ has_d : value_of (codes "d") (line_words (codes "check")) ≡ codes "sequences.c
 unfolding clap_on_literals
 has_d = refl
 
-has_input : value_of (codes "input") (line_words (codes "check")) ≡ codes "bulletin"
+has_inputs : values_of (codes "input") (line_words (codes "check")) ≡ codes "bulletin" ∷ []
 unfolding clap_on_literals
-has_input = refl
+has_inputs = refl
 
 pub returns : goal.returns
-returns c = record { taken = is_taken; task = has_task; b = has_b; d = has_d; input = has_input }
+returns c = record { taken = is_taken; task = has_task; b = has_b; d = has_d; inputs = has_inputs }

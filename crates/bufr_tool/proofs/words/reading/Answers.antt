@@ -1,14 +1,14 @@
 use Rattle.std.proofs.Common.{rules, ◌≡◌, ap, ap₂, ◌∙◌, codes}
 use Rattle.std.proofs.lemmas.Result.{IfOk-weaker}
 use Rattle.clap.specs.Words.{App, app_of, new_app, rule_of, with_rule}
-use Rattle.bufr_tool.specs.CommandLines.{table_option, input_argument}
+use Rattle.bufr_tool.specs.CommandLines.{path_option, input_argument}
 use Rattle.bufr_tool.proofs.words.reading.Goals as goal
 
 pub returns : goal.returns
 returns c =
-    let b_is : rule_of c.table.result ≡ table_option (codes "b") 98 = search rules in
-    let d_is : rule_of c.table-2.result ≡ table_option (codes "d") 100 = search rules in
-    let file_is : rule_of c.action.result ≡ input_argument = search rules in
+    let b_is : rule_of c.path.result ≡ path_option (codes "b") 98 = search rules in
+    let d_is : rule_of c.path-2.result ≡ path_option (codes "d") 100 = search rules in
+    let file_is : rule_of c.input.result ≡ input_argument = search rules in
     let none : app_of c.about.result ≡ new_app c.args.name.now = search rules in
     let one = c.in_ok-arg.ensures.shape (search rules) ∙ ap₂ with_rule none b_is in
     let two = c.in_ok-arg-2.ensures.shape (search rules) ∙ ap₂ with_rule one d_is in

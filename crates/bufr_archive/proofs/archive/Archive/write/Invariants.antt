@@ -1,4 +1,4 @@
-use Rattle.std.proofs.Common.{◌≡◌, ◌<◌, ◌≤◌, ◌++◌, [], false, true, List, length, ℕ, ◌+◌, ◌-◌, ◌*◌, ◌^◌}
+use Rattle.std.proofs.Common.{◌≡◌, ◌≤◌, ◌++◌, false, List, length, ◌*◌, ◌^◌}
 use Rattle.std.specs.Option.{option_map}
 use Rattle.bufr_bits.specs.Devices.{Writes}
 use Rattle.bufr_shelves.specs.Keeping.{first_of}

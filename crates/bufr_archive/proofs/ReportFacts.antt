@@ -1,0 +1,148 @@
+-- The entries of reports: for the law that they keep the laws of entries.
+use Rattle.std.proofs.Common.{◌≡◌, ℕ, ◌+◌, ◌-◌, ◌*◌, ◌/◌, ◌%◌, ◌^◌, ◌<◌, true, cond, List, [], ◌∷◌, ◌++◌, length, take, drop, Option, Some, None, Result, Ok, Err, refl, sym, ap, subst, ◌∙◌, arith, length-append}
+use Rattle.std.specs.Prelude.{codes, bytes_eq}
+use Rattle.std.specs.Int.{bytes_high_first}
+use Rattle.std.specs.List.{AllByRecursion}
+use Rattle.std.proofs.lemmas.List.{drop_at}
+use Rattle.std.proofs.lemmas.Slice.Eq.{bytes_eq-Decides}
+use Rattle.bufr_tables.specs.Entries.{Entries}
+use Rattle.bufr_frame.specs.Starts.{sevens}
+use Rattle.bufr_frame.specs.Cuts.{IsOneFrame}
+use Rattle.bufr_sections.specs.declared.layout.Layout.{Layout}
+use Rattle.bufr_sections.specs.declared.message.Decoded.{Decoded}
+use Rattle.bufr_sections.specs.declared.fault.Refused.{Refused}
+use Rattle.bufr_sections.specs.Sections.{Envelope, Ignored, EnvelopeFits, sections, enclosed, spelling, edition_number}
+use Rattle.bufr_message.specs.declared.fault.EncodeFault.{EncodeFault}
+use Rattle.bufr_message.specs.declared.report.Report.{Report}
+use Rattle.bufr_message.specs.Encodings.{code}
+use Rattle.bufr_message.specs.Messages.{message_of}
+use Rattle.bufr_message.specs.Laws.{MessagesReadAreSpelt, MessagesWrittenAreBare, NumbersFit}
+use Rattle.bufr_message.specs.Reports.{reports_of, reports_read, reports_in, alone, canonical, if_written, IsCanonical, IsUnder, CanonicalIsRead, ReportsSpeltAreUnder}
+use Rattle.bufr_shelves.specs.declared.entry.Entry.{Entry}
+use Rattle.bufr_sections.specs.Sections.{AreOctets}
+use Rattle.bufr_archive.specs.Texts.{◌>>=◌}
+use Rattle.bufr_archive.specs.ReportEntries.{entry_with, IsReportEntry, is_canonical, only_one, own_entry, entry_in}
+use Rattle.bufr_archive.specs.ReportLaws.{ReportsAreEntries}
+use Rattle.bufr_archive.proofs.EntryFacts.{bind_some, tested_some}
+
+-- ---- octets that spell a message are one frame
+
+-- three octets have their number
+three_is : (n : ℕ) → n < 2 ^ 24
+    → 65536 * (n / 2 ^ 16 % 256) + 256 * (n / 2 ^ 8 % 256) + n % 256 ≡ n
+three_is n h = omega arith
+
+-- sections between section 0 and `7777` are one frame
+enclosed_is_frame : (layout : Layout) (middle : List ℕ) → 12 + length middle < 2 ^ 24
+    → IsOneFrame (enclosed layout middle)
+enclosed_is_frame layout middle small =
+    let n = 12 + length middle in
+    let whole = enclosed layout middle in
+    let front : List ℕ =
+    codes "BUFR" ++ bytes_high_first 3 n ++ edition_number layout ∷ middle in
+    let long : length whole ≡ n = omega (arith, length-append middle (codes "7777")) in
+    let behind : length whole - 4 ≡ length front =
+    omega (arith, length-append middle (codes "7777")) in
+    record {
+      mark = refl;
+      told = ap Some (three_is n small ∙ sym long);
+      long = omega arith;
+      whole = omega arith;
+      end = ap (λ k. take 4 (drop k (front ++ sevens))) behind
+          ∙ ap (take 4) (drop_at front sevens (length front) refl);
+    }
+
+-- so is what is spelt
+spelling_is_frame : (layout : Layout) (e : Envelope) (i : Ignored) → EnvelopeFits layout e i
+    → IsOneFrame (spelling layout e i)
+unfolding spelling
+spelling_is_frame layout e i fits =
+    let middle = sections layout e i in
+    let total : length (enclosed layout middle) < 2 ^ 24 = fits.total in
+    enclosed_is_frame layout middle (omega (arith, length-append middle (codes "7777")))
+
+-- ---- an entry in its octets
+
+-- what is written
+written_is : (x : Result (List ℕ) EncodeFault) (octets : List ℕ) → if_written x ≡ Some octets
+    → x ≡ Ok octets
+written_is (Ok o) octets e = ap Ok cc
+written_is (Err fault) octets e = absurd cc
+
+-- a canonical message is one frame
+canonical_is_frame : MessagesWrittenAreBare → (tables : Entries) (r : Report) (octets : List ℕ)
+    → IsCanonical tables r octets → IsOneFrame octets
+canonical_is_frame bare tables r octets c =
+    let s = bare tables (alone r) octets c.fits (written_is (code tables (alone r)) octets c.written) in
+    subst IsOneFrame (sym s.spells.spelled) (spelling_is_frame _ _ _ s.spells.fits)
+
+-- octets are the same as themselves
+same_bytes : (octets : List ℕ) → bytes_eq octets octets ≡ true
+same_bytes octets = (bytes_eq-Decides octets octets).1 refl
+
+-- the entry of a report is found in its canonical message
+entry_found : CanonicalIsRead → (tables : Entries) (r : Report) (octets : List ℕ)
+    → IsCanonical tables r octets → entry_in tables octets ≡ Some (entry_with r octets)
+entry_found reads tables r octets c =
+    let one = (reads tables r octets c).1 in
+    let own : own_entry tables octets r ≡ Some (entry_with r octets) =
+    ap (λ x. cond (is_canonical x octets) (Some (entry_with r octets)) None) c.written
+    ∙ ap (λ b. cond b (Some (entry_with r octets)) None) (same_bytes octets) in
+    ap (λ rs. only_one rs >>= own_entry tables octets) one ∙ own
+
+-- ---- octets in which an entry is found
+
+-- the one of some
+only_one_is : (rs : List Report) (r : Report) → only_one rs ≡ Some r → rs ≡ r ∷ []
+only_one_is [] r e = absurd cc
+only_one_is (x ∷ []) r e = ap (λ y. y ∷ []) cc
+only_one_is (x ∷ y ∷ rs) r e = absurd cc
+
+-- the octets that were compared
+canonical_of : (x : Option (List ℕ)) (octets : List ℕ) → is_canonical x octets ≡ true
+    → x ≡ Some octets
+canonical_of None octets e = absurd cc
+canonical_of (Some canon) octets e = ap Some ((bytes_eq-Decides canon octets).0 e)
+
+-- one report is that of a message
+read_one : (x : Result Decoded Refused) (r : Report) → reports_read x ≡ r ∷ []
+    → (d : Decoded) × (x ≡ Ok d) × (reports_of d.message ≡ r ∷ [])
+read_one (Ok d) r e = (d, refl, e)
+read_one (Err fault) r e = absurd cc
+
+-- the numbers of a report that was read are in their ranges
+report_fits : MessagesReadAreSpelt → ReportsSpeltAreUnder → (tables : Entries) (octets : List ℕ)
+    (r : Report) → AreOctets octets → reports_in tables octets ≡ r ∷ [] → NumbersFit (alone r)
+report_fits read_spelt under tables octets r all e =
+    let d = read_one (message_of tables octets) r e in
+    let spells = read_spelt tables octets d.0 all d.1 in
+    let each = under tables d.0.message octets d.0.slack_octets spells in
+    let one = subst (AllByRecursion (IsUnder tables)) d.2 each in
+    one.0.1.fits
+
+-- the entry is that of a report, and has these octets
+entry_takes : MessagesReadAreSpelt → ReportsSpeltAreUnder → (tables : Entries) (octets : List ℕ)
+    (e : Entry) → AreOctets octets → entry_in tables octets ≡ Some e
+    → IsReportEntry tables e × (e.bytes ≡ octets)
+entry_takes read_spelt under tables octets e all found =
+    let r = bind_some (only_one (reports_in tables octets)) _ e found in
+    let one = only_one_is (reports_in tables octets) r.0 r.1 in
+    let t = tested_some (is_canonical (canonical tables r.0) octets) (entry_with r.0 octets) e r.2 in
+    let canon : IsCanonical tables r.0 octets = record {
+      fits = report_fits read_spelt under tables octets r.0 all one;
+      written = canonical_of (canonical tables r.0) octets t.0;
+    } in
+    let entry : IsReportEntry tables (entry_with r.0 octets) =
+    record { report = r.0; canon = canon; is = refl } in
+    (subst (IsReportEntry tables) t.1 entry, ap (λ (e : Entry). e.bytes) (sym t.1))
+
+-- ---- so they keep the laws of entries
+
+pub reports_are_entries : MessagesReadAreSpelt → MessagesWrittenAreBare → CanonicalIsRead
+    → ReportsSpeltAreUnder → ReportsAreEntries
+reports_are_entries read_spelt bare reads under tables = record {
+  found = λ e is. entry_found reads tables is.report e.bytes is.canon ∙ ap Some (sym is.is);
+  is = λ octets e all h. (entry_takes read_spelt under tables octets e all h).0;
+  own = λ octets e all h. (entry_takes read_spelt under tables octets e all h).1;
+  frame = λ e is. canonical_is_frame bare tables is.report e.bytes is.canon;
+}

@@ -1,0 +1,84 @@
+-- The reports that a stream tells are those of the messages that its frames spell.
+use Rattle.std.proofs.Common.{◌≡◌, ◌⊎◌, inl, inr, ℕ, List, [], ◌∷◌, ◌++◌, length, take, drop, Result, Ok, Err, refl, sym, ap, subst}
+use Rattle.std.specs.List.{AllByRecursion, flat_map}
+use Rattle.std.proofs.lemmas.List.Elements.{All-take, All-drop}
+use Rattle.bufr_tables.specs.Entries.{Entries}
+use Rattle.bufr_frame.specs.declared.frames.Found.{Found}
+use Rattle.bufr_frame.specs.Streams.{cut}
+use Rattle.bufr_frame.specs.Cuts.{IsFrameOf, IsCut}
+use Rattle.bufr_sections.specs.declared.message.Decoded.{Decoded}
+use Rattle.bufr_sections.specs.declared.fault.Refused.{Refused}
+use Rattle.bufr_sections.specs.Sections.{IsOctet, AreOctets}
+use Rattle.bufr_message.specs.declared.report.Report.{Report}
+use Rattle.bufr_message.specs.Messages.{message_of}
+use Rattle.bufr_message.specs.Laws.{MessagesReadAreSpelt, MessagesSpeltAreRead}
+use Rattle.bufr_message.specs.Reports.{reports_of, reports_read, reports_in}
+use Rattle.bufr_shelves.specs.Keeping.{Has}
+use Rattle.bufr_shelves.specs.KeepingLaws.{Has-left, Has-right, Has-append}
+use Rattle.bufr_archive.specs.ReportTexts.{told}
+use Rattle.bufr_archive.specs.ReportLaws.{IsTold, ToldAreTold, OnlyToldAreTold}
+
+-- what the layer of frames says of a cut
+abbrev CutsAre : Type 0
+CutsAre = (stream : List ℕ) → IsCut stream (cut stream)
+
+-- what holds of all frames holds of each
+has_each : (P : Found → Type 0) (fs : List Found) (f : Found) → AllByRecursion P fs → Has fs f
+    → P f
+has_each P [] f a h = absurd h
+has_each P (g ∷ fs) f a (inl e) = subst P (sym e) a.0
+has_each P (g ∷ fs) f a (inr h) = has_each P fs f a.1 h
+
+-- the frames of octets have octets
+frame_octets : CutsAre → (stream : List ℕ) (f : Found) → AreOctets stream → Has (cut stream) f
+    → AreOctets f.bytes
+frame_octets cuts stream f all h =
+    let is = has_each (IsFrameOf stream) (cut stream) f (cuts stream).each h in
+    subst AreOctets (sym is.octets)
+    (All-take IsOctet (length f.bytes) (drop f.place stream)
+    (All-drop IsOctet f.place stream all))
+
+-- what frames give is given by one of them
+from_frames : (g : Found → List Report) (fs : List Found) (r : Report) → Has (flat_map g fs) r
+    → (f : Found) × Has fs f × Has (g f) r
+from_frames g [] r h = absurd h
+from_frames g (f ∷ fs) r h = elim (Has-append (g f) (flat_map g fs) r h) [
+  | inl k ↦ (f, inl refl, k)
+  | inr k ↦ let t = from_frames g fs r k in (t.0, inr t.1, t.2)
+]
+
+-- and back
+of_frames : (g : Found → List Report) (fs : List Found) (f : Found) (r : Report) → Has fs f
+    → Has (g f) r → Has (flat_map g fs) r
+of_frames g [] f r h k = absurd h
+of_frames g (e ∷ fs) f r (inl q) k =
+    Has-left (g e) (flat_map g fs) r (subst (λ f. Has (g f) r) q k)
+of_frames g (e ∷ fs) f r (inr h) k =
+    Has-right (g e) (flat_map g fs) r (of_frames g fs f r h k)
+
+-- reports are those of a message that was read
+from_read : (x : Result Decoded Refused) (r : Report) → Has (reports_read x) r
+    → (d : Decoded) × (x ≡ Ok d) × Has (reports_of d.message) r
+from_read (Ok d) r h = (d, refl, h)
+from_read (Err fault) r h = absurd h
+
+-- what is told is told by a message
+pub told_are_told : CutsAre → MessagesReadAreSpelt → ToldAreTold
+told_are_told cuts spelt tables stream r all h =
+    let f = from_frames (λ f. reports_in tables f.bytes) (cut stream) r h in
+    let d = from_read (message_of tables f.0.bytes) r f.2 in
+    record {
+      frame = f.0;
+      stands = f.1;
+      message = d.0.message;
+      slack = d.0.slack_octets;
+      spells = spelt tables f.0.bytes d.0 (frame_octets cuts stream f.0 all f.1) d.1;
+      says = d.2;
+    }
+
+-- and what a message tells is told
+pub only_told_are_told : MessagesSpeltAreRead → OnlyToldAreTold
+only_told_are_told reads tables stream r t =
+    let read = ap reports_read (reads tables t.frame.bytes t.message t.slack t.spells) in
+    of_frames (λ f. reports_in tables f.bytes) (cut stream) t.frame r t.stands
+    (subst (λ (rs : List Report). Has rs r) (sym read) t.says)

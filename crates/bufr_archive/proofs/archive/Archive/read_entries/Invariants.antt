@@ -1,0 +1,14 @@
+use Rattle.std.proofs.Common.{length}
+use Rattle.std.specs.Option.{option_map}
+use Rattle.bufr_archive.specs.Reading.{read}
+use Rattle.bufr_archive.specs.ReportEntries.{IsReportEntry}
+use Rattle.bufr_archive.proofs.ReadFacts.{ReadSoFar}
+use Rattle.bufr_archive.proofs.archive.Archive.read_entries.Given as goal
+
+abbrev pub invariant-loop-rest : goal.invariant-loop-rest
+invariant-loop-rest g l =
+    ReadSoFar (IsReportEntry l.fn.tables) l.fn.octets (g.S.Shelf.entries l.shelf)
+    (option_map read l.before) l.place l.rest
+
+abbrev pub decreases-loop-rest : goal.decreases-loop-rest
+decreases-loop-rest g l = length l.rest

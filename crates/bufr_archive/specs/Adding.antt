@@ -1,0 +1,22 @@
+-- What adding a message does.
+use Rattle.std.specs.Prelude.{◌≡◌, ℕ, List, Result, Ok, Err}
+use Rattle.bufr_sections.specs.declared.message.Decoded.{Decoded}
+use Rattle.bufr_message.specs.Messages.{message_of}
+use Rattle.bufr_message.specs.Reports.{reports_of}
+use Rattle.bufr_archive.specs.declared.adding.Added.{Added}
+use Rattle.bufr_archive.specs.declared.adding.AddFault.{AddFault}
+use Rattle.bufr_archive.specs.declared.adding.AddFault.TheVariants.{Refused, OutOfMemory}
+use Rattle.bufr_archive.specs.Archives.{ArchiveView, AddsAll, AddsFirst}
+use Rattle.bufr_archive.specs.ReportEntries.{report_entries, entries_told}
+
+-- What a call that adds a message does, by its answer: the octets spell a message, and all its
+-- reports were added; or they spell none, for this cause, and nothing is changed; or memory ran
+-- out, and the first so many of the message's reports were added.
+abbrev pub AddsMessage : ArchiveView → ArchiveView → List ℕ → Result Added AddFault → Type 0
+AddsMessage old new octets (Ok added) =
+    (d : Decoded) × (message_of old.tables octets ≡ Ok d)
+    × AddsAll old new (report_entries old.tables (reports_of d.message)) added
+AddsMessage old new octets (Err (Refused why)) =
+    (message_of old.tables octets ≡ Err why) × (new ≡ old)
+AddsMessage old new octets (Err (OutOfMemory done)) =
+    AddsFirst old new (entries_told old.tables octets) done

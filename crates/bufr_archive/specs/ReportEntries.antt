@@ -1,0 +1,88 @@
+-- Reports as entries of an archive: their keys, their entries, and the entry that octets are (this
+-- project's own, over FM 94 BUFR edition 4).
+use Rattle.std.specs.Prelude.{◌≡◌, ℕ, Bool, false, bytes_eq, if◌then◌else◌, List, [], ◌∷◌, Option, Some, None, option_map, map}
+use Rattle.std.specs.List.{AllByRecursion}
+use Rattle.bufr_tables.specs.Entries.{Entries}
+use Rattle.bufr_keys.specs.declared.keys.KeyHead.{KeyHead}
+use Rattle.bufr_keys.specs.Keys.{key}
+use Rattle.bufr_message.specs.declared.report.Report.{Report}
+use Rattle.bufr_message.specs.declared.report.ReportHead.{ReportHead}
+use Rattle.bufr_message.specs.Reports.{reports_in, canonical, IsCanonical, IsUnder}
+use Rattle.bufr_shelves.specs.declared.key.Key.{Key}
+use Rattle.bufr_shelves.specs.declared.entry.Entry.{Entry}
+use Rattle.bufr_shelves.specs.Entries.{kept}
+use Rattle.bufr_archive.specs.Archives.{entries_of}
+use Rattle.bufr_archive.specs.Texts.{◌>>=◌, text}
+
+-- ---- keys
+
+-- what section 1 says of a report's key
+abbrev pub key_head : ReportHead → KeyHead
+key_head h = record {
+  centre = h.centre;
+  sub_centre = h.sub_centre;
+  category = h.category;
+  international = h.international;
+  local_category = h.local_category;
+}
+
+-- the key of a report, where its subset says a station and a moment
+abbrev pub key_of : Report → Option Key
+key_of r = key (key_head r.head) r.subset.fields
+
+-- ---- entries
+
+-- the entry of a report with these octets: its key and its update number
+abbrev pub entry_with : Report → List ℕ → Entry
+entry_with r octets = record { key = key_of r; update = r.head.update; bytes = octets }
+
+-- the entry of a report under the tables: that with its canonical message
+abbrev pub entry_of : Entries → Report → Option Entry
+entry_of tables r = option_map (entry_with r) (canonical tables r)
+
+-- the entry of each of some reports
+abbrev pub report_entries : Entries → List Report → List (Option Entry)
+report_entries tables rs = map (entry_of tables) rs
+
+-- the entries of all reports of the message that octets spell
+abbrev pub entries_told : Entries → List ℕ → List (Option Entry)
+entries_told tables octets = report_entries tables (reports_in tables octets)
+
+-- what is kept of reports
+abbrev pub kept_of : Entries → List Report → List Entry
+kept_of tables rs = kept (entries_of (report_entries tables rs))
+
+-- the text of reports: the canonical messages of those that are kept, in archive order
+abbrev pub text_of : Entries → List Report → List ℕ
+text_of tables rs = text (kept_of tables rs)
+
+-- an entry is that of a report under the tables
+pub record IsReportEntry (tables : Entries) (e : Entry) : Type 0 where
+  pub report : Report
+  pub canon : IsCanonical tables report e.bytes
+  pub is : e ≡ entry_with report e.bytes
+
+-- each report is one under the tables
+abbrev pub AreUnder : Entries → List Report → Type 0
+AreUnder tables rs = AllByRecursion (IsUnder tables) rs
+
+-- ---- the entry that octets are
+
+-- whether octets are the canonical message of a report
+abbrev pub is_canonical : Option (List ℕ) → List ℕ → Bool
+is_canonical None octets = false
+is_canonical (Some canon) octets = bytes_eq canon octets
+
+-- the one report of some
+abbrev pub only_one : List Report → Option Report
+only_one (r ∷ []) = Some r
+only_one _ = None
+
+-- the entry of a report that has these octets as its canonical message
+abbrev pub own_entry : Entries → List ℕ → Report → Option Entry
+own_entry tables octets r =
+    if is_canonical (canonical tables r) octets then Some (entry_with r octets) else None
+
+-- the entry that octets are: they spell a message of one subset whose canonical message they are
+abbrev pub entry_in : Entries → List ℕ → Option Entry
+entry_in tables octets = only_one (reports_in tables octets) >>= own_entry tables octets

@@ -1,0 +1,125 @@
+//! Reports as entries of an archive.
+ghost use Rattle.std.specs.Prelude.{◌≡◌, ◌<◌, IfOk, get_or, length};
+ghost use Rattle.std.specs.Option.{option_map};
+ghost use Rattle.bufr_archive.specs.ReportEntries.{key_head, key_of, entry_of, only_one, entry_in, report_entries};
+ghost use Rattle.bufr_message.specs.Reports.{reports_in};
+ghost use Rattle.bufr_archive.specs.Reading.{read};
+
+use crate::adding::ReportList;
+use crate::reading::ReadEntry;
+use bufr_keys::{KeyHead, key_in};
+use bufr_message::{Report, ReportHead, canonical, decode, reports};
+use bufr_shelves::{Entry, Key, Octets, OutOfMemory};
+use bufr_tables::{Failure, Tables};
+use std::alloc::{AllocError, Global};
+
+/// What section 1 says of a report's key.
+fn key_head(head: &ReportHead) -> KeyHead
+    ensures { result ≡ key_head head.now }
+{
+    KeyHead {
+        centre: head.centre,
+        sub_centre: head.sub_centre,
+        category: head.category,
+        international: head.international,
+        local_category: head.local_category,
+    }
+}
+
+/// The key of a report: originating centre, data category, international and local sub-category,
+/// station, moment and originating sub-centre. `None` where its subset does not say a station, or
+/// not a moment. It can only run out of memory.
+pub fn key_of(alloc: Global, report: &Report) -> Result<Option<Key>, OutOfMemory>
+    ensures { IfOk result (λ found. found ≡ key_of report.now) }
+{
+    key_in(
+        alloc,
+        key_head(&report.head),
+        report.subset.fields.as_slice(),
+    )
+}
+
+/// The entry of a report under tables: its key, its update sequence number and its canonical
+/// message. `None` where it has none, which no report of a decoded message does. It can only run
+/// out of memory.
+pub fn entry_of(
+    alloc: Global,
+    tables: &Tables,
+    report: &Report,
+) -> Result<Option<Entry>, OutOfMemory>
+    ensures { IfOk result (λ found. found ≡ entry_of tables.now report.now) }
+{
+    let octets = match canonical(alloc, tables, report) {
+        Ok(octets) => octets,
+        Err(Failure::Fault(_)) => return Ok(None),
+        Err(Failure::OutOfMemory) => return Err(AllocError),
+    };
+    Ok(Some(Entry {
+        key: key_of(alloc, report)?,
+        update: report.head.update,
+        bytes: Octets::new(octets),
+    }))
+}
+
+/// The one report of the message that octets spell, where they spell one of one subset. It can
+/// only run out of memory.
+fn only_report(alloc: Global, tables: &Tables, octets: &[u8]) -> Result<Option<Report>, OutOfMemory>
+    ensures { IfOk result (λ found. found ≡ only_one (reports_in tables.now octets.now)) }
+{
+    let message = match decode(alloc, tables, octets) {
+        Ok(decoded) => decoded.message,
+        Err(Failure::Fault(_)) => return Ok(None),
+        Err(Failure::OutOfMemory) => return Err(AllocError),
+    };
+    let mut found = reports(alloc, message)?;
+    if found.len() != 1 {
+        return Ok(None);
+    }
+    Ok(found.pop())
+}
+
+/// The entry that octets are: they spell a message of one subset whose canonical message they are.
+/// It can only run out of memory.
+pub(crate) fn entry_in<'a>(
+    alloc: Global,
+    tables: &Tables,
+    octets: &'a [u8],
+) -> Result<Option<ReadEntry<'a>>, OutOfMemory>
+    ensures { IfOk result (λ found. option_map read found ≡ entry_in tables.now octets.now) }
+{
+    let Some(report) = only_report(alloc, tables, octets)? else {
+        return Ok(None);
+    };
+    let bytes = match canonical(alloc, tables, &report) {
+        Ok(bytes) => bytes,
+        Err(Failure::Fault(_)) => return Ok(None),
+        Err(Failure::OutOfMemory) => return Err(AllocError),
+    };
+    if bytes.as_slice() != octets {
+        return Ok(None);
+    }
+    Ok(Some(ReadEntry {
+        key: key_of(alloc, &report)?,
+        update: report.head.update,
+        bytes: octets,
+    }))
+}
+
+/// The reports of a message under some tables, one of which is written out at a time.
+#[derive(Drop)]
+pub(crate) struct MessageReports<'t> {
+    pub(crate) tables: &'t Tables,
+    pub(crate) reports: Vec<Report>,
+}
+
+impl ReportList for MessageReports<'_> {
+    ghost entries = { λ s. report_entries s.tables.now s.reports.items };
+
+    fn count(&self) -> usize {
+        self.reports.len()
+    }
+
+    fn entry(&self, alloc: Global, index: usize) -> Result<Option<Entry>, OutOfMemory> {
+        entry_of(alloc, self.tables, &self.reports[index])
+    }
+}

@@ -1,0 +1,5 @@
+pub mod FrameFacts
+pub mod StreamFacts
+pub mod ReaderFacts
+pub mod EngineFacts
+pub mod LawFacts

@@ -1,0 +1,194 @@
+-- The messages of a stream added to an archive as its pieces come: the steps of `add_piece`,
+-- `add_rest` and `add_stream`.
+use Rattle.std.proofs.Common.{◌≡◌, ℕ, zero, suc, ◌+◌, ◌-◌, ◌*◌, ◌^◌, ◌<◌, ◌≤◌, Bool, true, false, List, [], ◌∷◌, ◌++◌, length, take, drop, Ok, Err, refl, sym, ap, ◌∙◌, subst, arith, length-append, append_assoc}
+use Rattle.std.proofs.lemmas.List.{append-nil}
+use Rattle.bufr_bits.specs.Devices.{Reading}
+use Rattle.bufr_tables.specs.Entries.{Entries}
+use Rattle.bufr_frame.specs.declared.frames.Found.{Found}
+use Rattle.bufr_frame.specs.declared.places.Start.TheVariants.{Frame, Open, Other}
+use Rattle.bufr_frame.specs.Framings.{Framing}
+use Rattle.bufr_frame.specs.Starts.{start_of}
+use Rattle.bufr_frame.specs.Streams.{frames_from, cut, sure, Stands}
+use Rattle.bufr_frame.specs.StreamLaws.{sure-piece, cut-end, frames_other, frames_open, frames_frame}
+use Rattle.bufr_frame.specs.Takings.{taken_in, IsRestOf, IsNextFrame, IsNoFrame, StandsAfter, AreLast, HandedOut, IsTaking}
+use Rattle.bufr_frame.specs.TakingLaws.{handed_first, handed_front, handed_end, taking_first, taking_one, taking_none, taking_fed}
+use Rattle.bufr_archive.specs.Archives.{ArchiveView}
+use Rattle.bufr_engines.specs.declared.fault.Input.{Input}
+use Rattle.bufr_engines.specs.Engines.{IsFresh}
+use Rattle.bufr_engines.specs.Inputs.{GoesOn}
+use Rattle.bufr_engines.specs.ReadingLaws.{HasGiven_none}
+use Rattle.bufr_collect.specs.declared.counts.Counts.{Counts}
+use Rattle.bufr_collect.specs.Adds.{HasAdded, HasAddedSure}
+
+-- ---- no more frames than octets
+
+-- at an open place of a stream that has ended the search goes on
+frames_past : (place x : ℕ) (xs : List ℕ) → start_of (x ∷ xs) ≡ Open → frames_from true place 0 (x ∷ xs) ≡ frames_from true (place + 1) 0 xs
+frames_past place x xs h = rw (h, frames_from) refl
+
+few_frame : (frames others : List Found) (place l x : ℕ) (xs : List ℕ) → frames ≡ record { place = place; bytes = take l (x ∷ xs) } ∷ others
+    → length others ≤ length xs → length frames ≤ suc (length xs)
+few_frame frames others place l x xs e h = rw e (omega arith)
+
+few_same : (frames others : List Found) (long : ℕ) → frames ≡ others → length others ≤ long → length frames ≤ suc long
+few_same frames others long e h = rw e (omega arith)
+
+few : (ended : Bool) (place skip : ℕ) (xs : List ℕ) → length (frames_from ended place skip xs) ≤ length xs
+few ended place skip [] = omega arith
+few ended place (suc skip) (x ∷ xs) = let h = few ended (place + 1) skip xs in omega arith
+few ended place zero (x ∷ xs) =
+    elim (start_of (x ∷ xs)) as (λ u. start_of (x ∷ xs) ≡ u → length (frames_from ended place zero (x ∷ xs)) ≤ length (x ∷ xs)) [
+      | Other ↦ λ h. few_same _ _ (length xs) (frames_other ended place x xs h) (few ended (place + 1) 0 xs)
+      | Open ↦ λ h. elim ended as (λ b. length (frames_from b place zero (x ∷ xs)) ≤ length (x ∷ xs)) [
+        | true ↦ few_same _ _ (length xs) (frames_past place x xs h) (few true (place + 1) 0 xs)
+        | false ↦ rw (frames_open place x xs h) (omega arith)
+      ]
+      | Frame l ↦ λ h. few_frame _ _ place l x xs (frames_frame ended place l x xs h) (few ended (place + 1) (l - 1) xs)
+    ] refl
+
+pub sure_few : (stream : List ℕ) → length (sure stream) ≤ length stream
+sure_few stream = few false 0 0 stream
+
+pub cut_few : (stream : List ℕ) → length (cut stream) ≤ length stream
+cut_few stream = few true 0 0 stream
+
+-- ---- within a piece
+
+-- all but the rest of the stream was taken in, and the messages of the frames handed out were added
+pub record Amid (tables : Entries) (archive : ArchiveView) (counts : Counts) (before : List Found) (framer : Framing) (stream rest : List ℕ) : Type 0 where
+  pub frames : List Found
+  pub taking : IsTaking framer stream rest frames
+  pub added : HasAdded tables archive counts (before ++ frames)
+  pub few : length before < 2 ^ 127
+
+-- where a piece begins
+pub amid_first : (tables : Entries) (archive : ArchiveView) (counts : Counts) (before : List Found) (framer : Framing) (stream piece : List ℕ)
+    → HasAddedSure tables archive counts before framer stream → Amid tables archive counts before framer (stream ++ piece) piece
+amid_first tables archive counts before framer stream piece h = record {
+  frames = sure stream;
+  taking = taking_first framer stream piece (sure stream) h.handed;
+  added = h.added;
+  few = h.few;
+}
+
+-- the frames that were handed out are the first of the sure frames
+amid_front : (framer : Framing) (stream rest : List ℕ) (frames : List Found) → IsTaking framer stream rest frames
+    → (more : List Found) × (sure stream ≡ frames ++ more)
+amid_front framer stream rest frames t =
+    let here = drop (length frames) (sure t.taken) in
+    let there = drop (length (sure t.taken)) (sure (t.taken ++ rest)) in (
+      here ++ there,
+      ap sure t.parted ∙ sure-piece t.taken rest
+          ∙ ap (λ (fs : List Found). fs ++ there) (handed_front framer t.taken frames t.handed)
+          ∙ append_assoc frames here there,
+    )
+
+-- and so no more than the stream's octets
+amid_few : (framer : Framing) (stream rest : List ℕ) (frames : List Found) → IsTaking framer stream rest frames
+    → length frames ≤ length stream
+amid_few framer stream rest frames t =
+    let front = amid_front framer stream rest frames t in
+    let long : length (sure stream) ≡ length frames + length front.0 = ap length front.1 ∙ length-append frames front.0 in
+    let a = sure_few stream in
+    omega arith
+
+-- a frame that was handed out can be counted
+pub amid_fits : (tables : Entries) (archive : ArchiveView) (counts : Counts) (before : List Found) (framer after : Framing) (stream rest left : List ℕ) (frame : Found)
+    → Amid tables archive counts before framer stream rest → IsRestOf rest left
+    → IsNextFrame framer (taken_in rest left) frame → StandsAfter framer after (taken_in rest left) 1
+    → counts.frames + 1 ≤ length before + length stream
+amid_fits tables archive counts before framer after stream rest left frame a parted next stands =
+    let t = taking_one framer after stream rest left a.frames frame a.taking parted next stands in
+    let one = amid_few after stream left (a.frames ++ frame ∷ []) t in
+    let long = length-append a.frames (frame ∷ []) in
+    let all = length-append before a.frames in
+    let f = a.added.frames_are in
+    omega arith
+
+-- a frame more was handed out and its message added
+pub amid_more : (tables : Entries) (archive archive' : ArchiveView) (counts counts' : Counts) (before : List Found) (framer after : Framing) (stream rest left : List ℕ) (frame : Found)
+    → Amid tables archive counts before framer stream rest → IsRestOf rest left
+    → IsNextFrame framer (taken_in rest left) frame → StandsAfter framer after (taken_in rest left) 1
+    → ((frames : List Found) → HasAdded tables archive counts frames → HasAdded tables archive' counts' (frames ++ frame ∷ []))
+    → Amid tables archive' counts' before after stream left
+amid_more tables archive archive' counts counts' before framer after stream rest left frame a parted next stands adds = record {
+  frames = a.frames ++ frame ∷ [];
+  taking = taking_one framer after stream rest left a.frames frame a.taking parted next stands;
+  added = subst (HasAdded tables archive' counts') (append_assoc before a.frames (frame ∷ [])) (adds (before ++ a.frames) a.added);
+  few = a.few;
+}
+
+-- no frame more is sure: the piece was taken in, and the messages of all that is sure were added
+pub amid_none : (tables : Entries) (archive : ArchiveView) (counts : Counts) (before : List Found) (framer after : Framing) (stream rest : List ℕ)
+    → Amid tables archive counts before framer stream rest → IsNoFrame framer rest → StandsAfter framer after rest 0
+    → HasAddedSure tables archive counts before after stream
+amid_none tables archive counts before framer after stream rest a none stands =
+    let both = taking_none framer after stream rest a.frames a.taking none stands in
+    record {
+      handed = subst (HandedOut after stream) both.1 both.0;
+      added = subst (λ (fs : List Found). HasAdded tables archive counts (before ++ fs)) both.1 a.added;
+      few = a.few;
+    }
+
+-- the condition of the next call
+pub amid_room : (tables : Entries) (archive : ArchiveView) (counts : Counts) (before : List Found) (framer : Framing) (stream rest : List ℕ)
+    → Amid tables archive counts before framer stream rest → framer.fed + length rest ≡ length stream
+amid_room tables archive counts before framer stream rest a = taking_fed _ _ _ _ a.taking
+
+-- ---- the end
+
+-- no more frames than octets: also behind the sure ones
+pub rest_few : (framer : Framing) (stream : List ℕ) (last : List Found) → HandedOut framer stream (sure stream)
+    → last ≡ drop (length (sure stream)) (cut stream)
+    → length (sure stream) + length last ≤ length stream
+rest_few framer stream last h is =
+    let whole = handed_end framer stream (sure stream) last h is in
+    let long : length (cut stream) ≡ length (sure stream) + length last = ap length (sym whole) ∙ length-append (sure stream) last in
+    let a = cut_few stream in
+    omega arith
+
+-- the frames before, the sure ones and the last are all
+pub rest_whole : (framer : Framing) (stream : List ℕ) (before last : List Found) → HandedOut framer stream (sure stream)
+    → last ≡ drop (length (sure stream)) (cut stream)
+    → (before ++ sure stream) ++ last ≡ before ++ cut stream
+rest_whole framer stream before last h is =
+    append_assoc before (sure stream) last ∙ ap (λ (fs : List Found). before ++ fs) (handed_end framer stream (sure stream) last h is)
+
+-- the messages of frames that were handed out at the end were added: then those of the whole stream
+pub rest_added : (archive archive' : ArchiveView) (counts counts' : Counts) (framer : Framing) (last frames : List Found)
+    → AreLast framer last → frames ≡ last
+    → ((tables : Entries) (before : List Found) → HasAdded tables archive counts before → HasAdded tables archive' counts' (before ++ frames))
+    → ((tables : Entries) (before : List Found) (stream : List ℕ) → HasAddedSure tables archive counts before framer stream → HasAdded tables archive' counts' (before ++ cut stream))
+rest_added archive archive' counts counts' framer last frames are is adds tables before stream h =
+    let found = are stream (length (sure stream)) h.handed.stands in
+    let whole = ap (λ (fs : List Found). (before ++ sure stream) ++ fs) is ∙ rest_whole framer stream before last h.handed found in
+    subst (HasAdded tables archive' counts') whole (adds tables (before ++ sure stream) h.added)
+
+-- ---- between two reads
+
+-- these octets were given, and whatever was added before, the messages of what is sure of them were
+-- added after it
+pub record Between (old now : Reading) (first archive : ArchiveView) (start counts : Counts) (framer : Framing) (count : ℕ) : Type 0 where
+  pub read : List ℕ
+  pub goes_on : GoesOn old now read count
+  pub short : length read ≤ 65536 * count
+  pub added : (tables : Entries) (before : List Found) → HasAdded tables first start before → length before < 2 ^ 127
+      → HasAddedSure tables archive counts before framer read
+
+-- before the first
+pub between_first : (reader : Reading) (archive : ArchiveView) (counts : Counts) (framer : Framing)
+    → IsFresh reader → Stands framer [] 0 → Between reader reader archive archive counts counts framer 0
+between_first reader archive counts framer fresh stands = record {
+  read = [];
+  goes_on = record { so_far = HasGiven_none reader; works = fresh.failed; reads = fresh.reads; met_end = fresh.met_end };
+  short = omega arith;
+  added = λ tables before h few. record {
+    handed = handed_first framer stands;
+    added = subst (HasAdded tables archive counts) (sym (append-nil before)) h;
+    few = few;
+  };
+}
+
+-- the frames of a stream that was read so often are no more than the octets asked for
+pub cut_bounded : (stream : List ℕ) (count reads : ℕ) → length stream ≤ 65536 * count → count ≤ reads → length (cut stream) ≤ 65536 * reads
+cut_bounded stream count reads short most = let few = cut_few stream in omega arith

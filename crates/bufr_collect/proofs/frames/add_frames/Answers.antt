@@ -1,0 +1,21 @@
+use Rattle.std.proofs.Common.{◌+◌, ◌<◌, length, take, subst, arith, length-append}
+use Rattle.std.proofs.lemmas.List.{length-take}
+use Rattle.bufr_collect.specs.Adds.{HasAdded}
+use Rattle.bufr_collect.proofs.FrameFacts.{refused_at_most, taken_to}
+use Rattle.bufr_collect.proofs.frames.add_frames.Goals as goal
+
+pub add_frame-requires-clause-few : goal.add_frame-requires-clause-few
+add_frame-requires-clause-few g c =
+    let before = c.requires.so_far.1 in
+    let i = c.loop-frame.frame-index in
+    let now = (c.loop-frame.invariant c.requires.so_far.0 before c.requires.so_far.2).frames_are in
+    let old = c.requires.so_far.2.frames_are in
+    let long = length-append before (take i c.args.frames.now) in
+    let front = length-take i c.args.frames.now in
+    let inside = c.loop-frame-test.true in
+    let few = c.requires.few in
+    omega arith
+
+pub add_frame-requires-clause-refused : goal.add_frame-requires-clause-refused
+add_frame-requires-clause-refused g c =
+    refused_at_most _ _ _ _ (c.loop-frame.invariant c.requires.so_far.0 c.requires.so_far.1 c.requires.so_far.2)

@@ -1,0 +1,59 @@
+use Rattle.std.proofs.Common.{◌≡◌, ◌++◌, ◌∷◌, [], arith, length-append, None}
+use Rattle.bufr_frame.specs.Streams.{sure}
+use Rattle.bufr_collect.proofs.FrameFacts.{refused_at_most, some_is}
+use Rattle.bufr_collect.proofs.StreamFacts.{amid_first, amid_fits, amid_more, amid_none, amid_room}
+use Rattle.bufr_collect.proofs.frames.add_piece.Goals as goal
+
+pub take_next-requires : goal.take_next-requires
+take_next-requires g c =
+    let so_far = c.requires.so_far in
+    let a = c.loop-found.invariant so_far.0 so_far.1 so_far.2 so_far.3 in
+    let fed = amid_room _ _ _ _ _ _ _ a in
+    let whole = length-append so_far.2 c.args.piece.now in
+    let start = so_far.3.handed.stands.fed in
+    let room = c.requires.room in
+    omega arith
+
+pub returns-in_default : goal.returns-in_default
+returns-in_default g c tables before stream h =
+    let e : c.in_ok-found.field-0.found ≡ None = c.in_default.is in
+    amid_none _ _ _ _ _ _ _ _ (c.loop-found.invariant tables before stream h) (c.in_ok-found.ensures.none e) (c.in_ok-found.ensures.waits e)
+
+pub add_frame-requires-clause-few : goal.add_frame-requires-clause-few
+add_frame-requires-clause-few g c =
+    let so_far = c.requires.so_far in
+    let e = c.in-Some.is in
+    let fits = amid_fits _ _ _ _ _ _ _ _ _ c.in-Some.frame (c.loop-found.invariant so_far.0 so_far.1 so_far.2 so_far.3) c.in_ok-found.ensures.rest (some_is _ _ _ e c.in_ok-found.ensures.frame) (some_is _ _ _ e c.in_ok-found.ensures.next) in
+    let whole = length-append so_far.2 c.args.piece.now in
+    let start = so_far.3.handed.stands.fed in
+    let room = c.requires.room in
+    let few = so_far.3.few in
+    omega arith
+
+pub add_frame-requires-clause-refused : goal.add_frame-requires-clause-refused
+add_frame-requires-clause-refused g c =
+    let so_far = c.requires.so_far in
+    refused_at_most _ _ _ _ (c.loop-found.invariant so_far.0 so_far.1 so_far.2 so_far.3).added
+
+pub loop-found-preserved : goal.loop-found-preserved
+loop-found-preserved g c tables before stream h =
+    let e = c.in-Some.is in
+    amid_more tables _ _ _ _ before _ _ _ _ _ c.in-Some.frame
+    (c.loop-found.invariant tables before stream h) c.in_ok-found.ensures.rest
+    (some_is _ _ _ e c.in_ok-found.ensures.frame) (some_is _ _ _ e c.in_ok-found.ensures.next)
+    (c.in_ok-add_frame.ensures tables)
+
+pub loop-found-smaller : goal.loop-found-smaller
+loop-found-smaller g c =
+    let so_far = c.requires.so_far in
+    let e = c.in-Some.is in
+    let a = c.loop-found.invariant so_far.0 so_far.1 so_far.2 so_far.3 in
+    let fits = amid_fits _ _ _ _ _ _ _ _ _ c.in-Some.frame a c.in_ok-found.ensures.rest (some_is _ _ _ e c.in_ok-found.ensures.frame) (some_is _ _ _ e c.in_ok-found.ensures.next) in
+    let whole = length-append so_far.2 c.args.piece.now in
+    let start = so_far.3.handed.stands.fed in
+    let first = so_far.3.added.frames_are in
+    let parts = length-append so_far.1 (sure so_far.2) in
+    let more = (c.in_ok-add_frame.ensures so_far.0 (so_far.1 ++ a.frames) a.added).frames_are in
+    let now = a.added.frames_are in
+    let one = length-append (so_far.1 ++ a.frames) (c.in-Some.frame ∷ []) in
+    omega arith

@@ -1,0 +1,28 @@
+use Rattle.std.proofs.Common.{◌++◌, List, length, arith, ap, subst, ◌∙◌, length-append}
+use Rattle.bufr_frame.specs.declared.frames.Found.{Found}
+use Rattle.bufr_frame.specs.Streams.{cut, sure}
+use Rattle.bufr_collect.specs.Adds.{HasAdded}
+use Rattle.bufr_collect.proofs.FrameFacts.{ok_then}
+use Rattle.bufr_collect.proofs.StreamFacts.{rest_few, rest_added}
+use Rattle.bufr_collect.proofs.frames.add_rest.Goals as goal
+
+pub add_frames-requires-clause-few : goal.add_frames-requires-clause-few
+add_frames-requires-clause-few g c =
+    let h = c.requires.so_far.3 in
+    let stream = c.requires.so_far.2 in
+    let found = c.in_ok-frames.ensures.found stream (length (sure stream)) h.handed.stands in
+    let few = rest_few _ stream _ h.handed found in
+    let start = h.handed.stands.fed in
+    let counted = h.added.frames_are in
+    let all = length-append c.requires.so_far.1 (sure stream) in
+    let same = ap length c.deref.ensures.value in
+    let long = c.requires.long in
+    let before = h.few in
+    omega arith
+
+pub returns : goal.returns
+returns g c =
+    ok_then _ _ _
+    (rest_added c.args.archive.now c.add_frames.new.archive c.args.counts.now c.add_frames.new.counts c.args.framer.now _ _
+    c.in_ok-frames.ensures.found c.deref.ensures.value)
+    c.add_frames.ensures

@@ -1,0 +1,69 @@
+use Rattle.std.proofs.Common.{◌≡◌, ◌<◌, ◌≤◌, ◌+◌, ◌++◌, length, take, arith, refl, length-append}
+use Rattle.std.proofs.lemmas.List.{length-take}
+use Rattle.bufr_engines.specs.ReadingLaws.{GoesOn_more, GoesOn_ends}
+use Rattle.bufr_collect.proofs.StreamFacts.{between_first, cut_bounded}
+use Rattle.bufr_collect.proofs.streams.add_stream.Goals as goal
+
+pub loop-init : goal.loop-init
+loop-init g c = between_first _ _ _ _ c.requires.fresh c.new-framer.ensures.starts
+
+pub add_rest-requires-clause-so_far : goal.add_rest-requires-clause-so_far
+add_rest-requires-clause-so_far g c =
+    let so_far = c.requires.so_far in
+    (so_far.0, so_far.1, c.loop.invariant.read, c.loop.invariant.added so_far.0 so_far.1 so_far.2 so_far.3)
+
+pub add_rest-requires-clause-long : goal.add_rest-requires-clause-long
+add_rest-requires-clause-long g c =
+    let so_far = c.requires.so_far in
+    let fed = (c.loop.invariant.added so_far.0 so_far.1 so_far.2 so_far.3).handed.stands.fed in
+    let short = c.loop.invariant.short in
+    let few = c.requires.few in
+    let turn = c.loop-test.true in
+    omega arith
+
+pub add_piece-requires-clause-so_far : goal.add_piece-requires-clause-so_far
+add_piece-requires-clause-so_far g c =
+    let so_far = c.requires.so_far in
+    (so_far.0, so_far.1, c.loop.invariant.read, c.loop.invariant.added so_far.0 so_far.1 so_far.2 so_far.3)
+
+pub add_piece-requires-clause-room : goal.add_piece-requires-clause-room
+add_piece-requires-clause-room g c =
+    let so_far = c.requires.so_far in
+    let fed = (c.loop.invariant.added so_far.0 so_far.1 so_far.2 so_far.3).handed.stands.fed in
+    let short = c.loop.invariant.short in
+    let long = length-take c.in-Ok.given c.read.new.buffer in
+    let room = c.requires.short in
+    let few = c.requires.few in
+    let turn = c.loop-test.true in
+    omega arith
+
+pub loop-preserved : goal.loop-preserved
+loop-preserved g c =
+    let b = c.loop.invariant in
+    let piece = take c.in-Ok.given c.read.new.buffer in
+    let long = length-take c.in-Ok.given c.read.new.buffer in
+    let whole = length-append b.read piece in
+    let short = b.short in
+    let room = c.requires.short in
+    let some : 0 < length piece = omega (arith, long, c.in-Ok.ensures.within, c.if-given-eq0.false) in
+    record {
+      read = b.read ++ piece;
+      goes_on = GoesOn_more _ _ _ _ _ _ b.goes_on c.in-Ok.ensures.gave some;
+      short = omega arith;
+      added = λ tables before h few. c.in_ok-add_piece.ensures tables before b.read (b.added tables before h few);
+    }
+
+pub returns-then-given-eq0-clause-adds : goal.returns-then-given-eq0-clause-adds
+returns-then-given-eq0-clause-adds g c tables before h few =
+    let b = c.loop.invariant in
+    let gave = c.in-Ok.ensures.gave in
+    let none : length (take c.in-Ok.given c.read.new.buffer) ≡ 0 = rw c.if-given-eq0.true refl in
+    let ends = GoesOn_ends _ _ _ _ _ _ b.goes_on gave none in
+    let turn = c.loop-test.true in
+    let most : c.loop.counter ≤ c.args.reads = omega arith in (
+      ends.0,
+      b.read,
+      ends.1,
+      c.in_ok-add_rest.ensures tables before b.read (b.added tables before h few),
+      cut_bounded b.read c.loop.counter c.args.reads b.short most,
+    )

@@ -1,0 +1,7 @@
+use Rattle.bufr_collect.proofs.StreamFacts.{Between}
+use Rattle.bufr_collect.proofs.streams.add_stream.Given as goal
+
+-- what was read and added so far
+abbrev pub invariant-loop : goal.invariant-loop
+invariant-loop g l =
+    Between (g.S.Source.reading l.initial.reader) (g.S.Source.reading l.reader) l.initial.archive l.archive l.initial.counts l.counts l.framer l.counter

@@ -1,0 +1,8 @@
+use Rattle.std.proofs.Common.{map}
+use Rattle.bufr_collect.proofs.EngineFacts.{AddedThrough}
+use Rattle.bufr_collect.proofs.streams.add_streams.Given as goal
+
+-- the streams of the readers so far were added
+abbrev pub invariant-loop-index : goal.invariant-loop-index
+invariant-loop-index g l =
+    AddedThrough l.initial.archive.tables l.reads (map g.S.Source.reading l.initial.readers) (map g.S.Source.reading l.readers) l.archive l.counts l.index

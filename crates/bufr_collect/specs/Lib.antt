@@ -1,0 +1,6 @@
+pub mod Collected
+pub mod Readers
+pub mod Collects
+pub mod Adds
+pub mod Laws
+pub mod ReaderLaws

@@ -1,0 +1,35 @@
+-- What becomes of readers that are read one after the other.
+use Rattle.std.specs.Prelude.{◌≡◌, ℕ, ◌+◌, ◌≤◌, List, [], ◌∷◌, ◌++◌, length}
+use Rattle.std.specs.List.{AllByRecursion}
+use Rattle.bufr_bits.specs.Devices.{Reading}
+use Rattle.bufr_engines.specs.Engines.{IsFresh, WasReadOut, AreAllOf}
+
+-- none of the readers was read, and all work
+abbrev pub AreFresh : List Reading → Type 0
+AreFresh readers = AllByRecursion IsFresh readers
+
+-- so often each was read at the most
+abbrev pub AreReadAtMost : ℕ → List Reading → Type 0
+AreReadAtMost reads readers = AllByRecursion (λ r. r.reads ≤ reads) readers
+
+-- each of the readers was read out, and had these octets if it tells its octets
+abbrev pub WereReadOut : List Reading → List Reading → List (List ℕ) → Type 0
+WereReadOut [] [] [] = Unit {0}
+WereReadOut (old ∷ olds) (new ∷ news) (octets ∷ more) =
+    WasReadOut new × AreAllOf old octets × WereReadOut olds news more
+WereReadOut olds news octets = ⊥
+
+-- It ended at the reader of this number, counted from 1: of those before it the one holds, of it
+-- the other, and those behind it were not read.
+pub record EndsAt (Before : List Reading → List Reading → Type 0)
+    (Ends : Reading → Reading → Type 0) (number : ℕ) (old new : List Reading) : Type 0 where
+  pub before_old : List Reading
+  pub before_new : List Reading
+  pub at_old : Reading
+  pub at_new : Reading
+  pub behind : List Reading
+  pub old_are : old ≡ before_old ++ at_old ∷ behind
+  pub new_are : new ≡ before_new ++ at_new ∷ behind
+  pub number_is : number ≡ length before_old + 1
+  pub before : Before before_old before_new
+  pub ends : Ends at_old at_new

@@ -1,0 +1,95 @@
+//! The messages of frames, added to an archive.
+
+ghost use Rattle.std.specs.Prelude.{◌≡◌, ◌≤◌, ◌<◌, ◌+◌, ◌^◌, ◌++◌, ◌∷◌, [], ℕ, List, OnOk, length};
+ghost use Rattle.bufr_frame.specs.declared.frames.Found.{Found as FoundFrame};
+ghost use Rattle.bufr_frame.specs.Streams.{cut};
+ghost use Rattle.bufr_tables.specs.Entries.{Entries};
+ghost use Rattle.bufr_collect.specs.Adds.{HasAdded, HasAddedSure};
+
+use crate::counts::Counts;
+use bufr_archive::{AddFault, Archive, Shelf};
+use bufr_frame::{Found, Framer, Taken};
+use std::alloc::AllocError;
+
+/// Adds the message of a frame, where it spells one, and counts it.
+fn add_frame<K: Shelf>(
+    frame: &Found,
+    archive: &mut Archive<'_, K>,
+    counts: &mut Counts,
+) -> Result<(), AllocError>
+    requires few { counts.old.frames + 1 < 2 ^ 128 }
+    requires refused { counts.old.refused ≤ counts.old.frames }
+    ensures { OnOk result ((tables : Entries) (frames : List FoundFrame)
+        → HasAdded tables archive.old counts.old frames
+        → HasAdded tables archive.new counts.new (frames ++ frame.now ∷ [])) }
+{
+    let refused = match archive.add_message(frame.bytes.as_slice()) {
+        Ok(_) => 0,
+        Err(AddFault::Refused(_)) => 1,
+        Err(AddFault::OutOfMemory { done: _ }) => return Err(AllocError),
+    };
+    counts.frames += 1;
+    counts.refused += refused;
+    Ok(())
+}
+
+/// Adds the messages of frames after those of others.
+fn add_frames<K: Shelf>(
+    frames: &[Found],
+    archive: &mut Archive<'_, K>,
+    counts: &mut Counts,
+) -> Result<(), AllocError>
+    requires so_far { (tables : Entries) × (before : List FoundFrame)
+        × HasAdded tables archive.old counts.old before }
+    requires few { counts.old.frames + length frames.now < 2 ^ 128 }
+    ensures { OnOk result ((tables : Entries) (before : List FoundFrame)
+        → HasAdded tables archive.old counts.old before
+        → HasAdded tables archive.new counts.new (before ++ frames.now)) }
+{
+    for frame in frames {
+        add_frame(frame, archive, counts)?;
+    }
+    Ok(())
+}
+
+/// Takes in a piece of a stream, and adds the messages of the frames that are sure then.
+pub(crate) fn add_piece<K: Shelf>(
+    piece: &[u8],
+    framer: &mut Framer,
+    archive: &mut Archive<'_, K>,
+    counts: &mut Counts,
+) -> Result<(), AllocError>
+    requires so_far { (tables : Entries) × (before : List FoundFrame) × (stream : List ℕ)
+        × HasAddedSure tables archive.old counts.old before framer.old stream }
+    requires room { framer.old.fed + length piece.now < 2 ^ 64 }
+    ensures { OnOk result ((tables : Entries) (before : List FoundFrame) (stream : List ℕ)
+        → HasAddedSure tables archive.old counts.old before framer.old stream
+        → HasAddedSure tables archive.new counts.new before framer.new (stream ++ piece.now)) }
+{
+    let mut rest = piece;
+    loop {
+        let Taken { found, rest: left } = framer.take_next(rest)?;
+        let Some(frame) = found else {
+            return Ok(());
+        };
+        add_frame(&frame, archive, counts)?;
+        rest = left;
+    }
+}
+
+/// Ends a stream, and adds the messages of the frames that are left.
+pub(crate) fn add_rest<K: Shelf>(
+    framer: &mut Framer,
+    archive: &mut Archive<'_, K>,
+    counts: &mut Counts,
+) -> Result<(), AllocError>
+    requires long { framer.old.fed < 2 ^ 64 }
+    requires so_far { (tables : Entries) × (before : List FoundFrame) × (stream : List ℕ)
+        × HasAddedSure tables archive.old counts.old before framer.old stream }
+    ensures { OnOk result ((tables : Entries) (before : List FoundFrame) (stream : List ℕ)
+        → HasAddedSure tables archive.old counts.old before framer.old stream
+        → HasAdded tables archive.new counts.new (before ++ cut stream)) }
+{
+    let frames = framer.finish()?;
+    add_frames(&frames, archive, counts)
+}

@@ -1,0 +1,93 @@
+//! The engine of `merge`.
+
+ghost use Rattle.std.specs.Prelude.{◌≡◌, ◌≤◌, false, map};
+ghost use Rattle.bufr_tables.specs.Answers.{result_map};
+ghost use Rattle.bufr_engines.specs.Engines.{IsFresh};
+ghost use Rattle.bufr_collect.specs.Adds.{ReadsArchive, MergesReaders};
+ghost use Rattle.bufr_collect.specs.Collects.{Merges};
+ghost use Rattle.bufr_collect.specs.Readers.{AreFresh, AreReadAtMost};
+
+use crate::text::text_of_archive;
+use bufr_archive::{Archive, NotAnArchive, Shelf, SortedShelf};
+use bufr_bits::{Sink, Source};
+use bufr_engines::{Input, Tally, ToolFault, read_all, write_out};
+use bufr_tables::{Failure, Tables};
+use std::alloc::Global;
+
+/// The archive whose text a reader has, which has this number.
+fn read_archive<'t, K: Shelf, S: Source>(
+    alloc: Global,
+    reads: u64,
+    tables: &'t Tables,
+    number: u128,
+    reader: &mut S,
+) -> Result<Archive<'t, K>, ToolFault>
+    requires few { reads ≤ 4294967296 }
+    requires fresh { IsFresh (S.reading reader.old) }
+    ensures bounded { (S.reading reader.new).reads ≤ reads }
+    ensures reads { ReadsArchive tables.now number reads (S.reading reader.old)
+        (S.reading reader.new) (result_map (λ archive. archive) result) }
+{
+    let octets = read_all(alloc, reads, Input::Number(number), reader)?;
+    match Archive::read(alloc, tables, &octets) {
+        Ok(archive) => Ok(archive),
+        Err(Failure::Fault(NotAnArchive { place })) => Err(ToolFault::NotAnArchive {
+            input: number,
+            place,
+        }),
+        Err(Failure::OutOfMemory) => Err(ToolFault::OutOfMemory),
+    }
+}
+
+/// The archive of the reports of all readers' archives.
+fn merge_readers<'t, K: Shelf, S: Source>(
+    alloc: Global,
+    reads: u64,
+    tables: &'t Tables,
+    readers: &mut [S],
+) -> Result<Archive<'t, K>, ToolFault>
+    requires few { reads ≤ 4294967296 }
+    requires fresh { AreFresh (map S.reading readers.old) }
+    ensures bounded { AreReadAtMost reads (map S.reading readers.new) }
+    ensures merges { MergesReaders tables.now reads (map S.reading readers.old)
+        (map S.reading readers.new) (result_map (λ archive. archive) result) }
+{
+    let mut merged: Archive<'t, K> = Archive::new(alloc, tables);
+    for (index, reader) in readers.iter_mut().enumerate() {
+        let number = index as u128 + 1;
+        let archive = read_archive(alloc, reads, tables, number, reader)?;
+        let Ok(()) = merged.merge(&archive) else {
+            return Err(ToolFault::OutOfMemory);
+        };
+    }
+    Ok(merged)
+}
+
+/// Reads the archives of all readers, each of which is judged before the next is read, and then
+/// writes the text of an archive of the reports of all. The first that is no archive is told, with
+/// the start of its first entry that is not right. Nothing is written before every reader was read
+/// out.
+pub fn run_merge<S: Source, W: Sink>(
+    alloc: Global,
+    reads: u64,
+    tables: &Tables,
+    readers: &mut [S],
+    writer: &mut W,
+) -> Result<Tally, ToolFault>
+    requires few { reads ≤ 4294967296 }
+    requires fresh { AreFresh (map S.reading readers.old) }
+    requires works { (W.writing writer.old).failed ≡ false }
+    ensures bounded { AreReadAtMost reads (map S.reading readers.new) }
+    ensures merges { Merges tables.now reads (map S.reading readers.old)
+        (map S.reading readers.new) (W.writing writer.old) (W.writing writer.new) result }
+{
+    let merged: Archive<'_, SortedShelf> = merge_readers(alloc, reads, tables, readers)?;
+    let text = text_of_archive(alloc, &merged)?;
+    write_out(writer, 0, &text)?;
+    Ok(Tally {
+        frames: readers.len() as u128,
+        refused: 0,
+        skipped: 0,
+        reports: merged.len() as u128,
+    })
+}

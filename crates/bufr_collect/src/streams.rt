@@ -1,0 +1,77 @@
+//! The streams of readers, added to an archive one after the other.
+
+ghost use Rattle.std.specs.Prelude.{◌≡◌, ◌≤◌, ◌<◌, ◌*◌, ◌^◌, [], List, length, map};
+ghost use Rattle.bufr_frame.specs.declared.frames.Found.{Found as FoundFrame};
+ghost use Rattle.bufr_tables.specs.Entries.{Entries};
+ghost use Rattle.bufr_engines.specs.Engines.{IsFresh};
+ghost use Rattle.bufr_collect.specs.Adds.{AddsStream, AddsStreams, HasAdded};
+ghost use Rattle.bufr_collect.specs.Readers.{AreFresh, AreReadAtMost};
+
+use crate::counts::Counts;
+use crate::frames::{add_piece, add_rest};
+use bufr_archive::{Archive, Shelf};
+use bufr_bits::Source;
+use bufr_engines::{Input, ToolFault};
+use bufr_frame::Framer;
+use std::alloc::Global;
+
+/// Adds the messages of the stream of a reader, read through some room.
+fn add_stream<K: Shelf, S: Source>(
+    alloc: Global,
+    reads: u64,
+    source: Input,
+    reader: &mut S,
+    room: &mut [u8],
+    archive: &mut Archive<'_, K>,
+    counts: &mut Counts,
+) -> Result<(), ToolFault>
+    requires few { reads ≤ 4294967296 }
+    requires fresh { IsFresh (S.reading reader.old) }
+    requires some { 0 < length room.old }
+    requires short { length room.old ≤ 65536 }
+    requires so_far { (tables : Entries) × (before : List FoundFrame)
+        × HasAdded tables archive.old counts.old before × (length before < 2 ^ 127) }
+    ensures bounded { (S.reading reader.new).reads ≤ reads }
+    ensures adds { (tables : Entries) (before : List FoundFrame)
+        → HasAdded tables archive.old counts.old before → length before < 2 ^ 127
+        → AddsStream tables source reads (S.reading reader.old) (S.reading reader.new) archive.new
+        counts.new before result }
+{
+    let mut framer = Framer::new(alloc);
+    for _ in 0..reads {
+        let Ok(given) = reader.read(&mut *room) else {
+            return Err(ToolFault::ReadFailed(source));
+        };
+        if given == 0 {
+            add_rest(&mut framer, archive, counts)?;
+            return Ok(());
+        }
+        add_piece(&room[..given], &mut framer, archive, counts)?;
+    }
+    Err(ToolFault::EndlessInput(source))
+}
+
+/// Adds the messages of the streams of all readers to a new archive.
+pub(crate) fn add_streams<K: Shelf, S: Source>(
+    alloc: Global,
+    reads: u64,
+    readers: &mut [S],
+    room: &mut [u8],
+    archive: &mut Archive<'_, K>,
+    counts: &mut Counts,
+) -> Result<(), ToolFault>
+    requires few { reads ≤ 4294967296 }
+    requires fresh { AreFresh (map S.reading readers.old) }
+    requires some { 0 < length room.old }
+    requires short { length room.old ≤ 65536 }
+    requires empty { HasAdded archive.old.tables archive.old counts.old [] }
+    ensures bounded { AreReadAtMost reads (map S.reading readers.new) }
+    ensures adds { AddsStreams archive.old.tables reads (map S.reading readers.old)
+        (map S.reading readers.new) archive.new counts.new result }
+{
+    for (index, reader) in readers.iter_mut().enumerate() {
+        let source = Input::Number(index as u128 + 1);
+        add_stream(alloc, reads, source, reader, &mut *room, archive, counts)?;
+    }
+    Ok(())
+}

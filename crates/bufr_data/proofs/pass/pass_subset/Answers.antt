@@ -1,0 +1,32 @@
+use Rattle.std.proofs.Common.{◌≡◌, ◌+◌, [], refl, ◌∙◌, arith}
+use Rattle.bufr_expand.specs.Steady.{course_steady}
+use Rattle.bufr_expand.specs.Walks as walks
+use Rattle.bufr_data.proofs.ReadFacts.{behind_none}
+use Rattle.bufr_data.proofs.PassedFacts.{one_passed, all_passed, one_refused}
+use Rattle.bufr_data.proofs.pass.pass_subset.Goals as goal
+
+pub loop-fault-init : goal.loop-fault-init
+loop-fault-init c = record {
+  ready = record {
+    answered = c.in_ok-walk.ensures.answered;
+    steady = rw (c.in_ok-walk.ensures.items, c.in_ok-walk.ensures.course) (course_steady _ _);
+  };
+  few = omega arith;
+  items = omega arith;
+  octets = refl;
+  onward = omega arith;
+  so_far = ([], rw c.in_ok-walk.ensures.course (behind_none _));
+}
+
+pub loop-fault-preserved : goal.loop-fault-preserved
+loop-fault-preserved c =
+    let step = rw c.in-Ok-true.field-0-test at c.in-Ok-true.ensures.ok in
+    let goes = rw c.in-Ok-true.field-0-test at c.in-Ok-true.ensures.advances in
+    record {
+      ready = goes.ready;
+      few = omega (arith, goes.further, goes.within, c.loop-fault.invariant.items);
+      items = omega (arith, goes.further, c.loop-fault.invariant.items);
+      octets = c.in-Ok-true.ensures.octets ∙ c.loop-fault.invariant.octets;
+      onward = omega (arith, c.in-Ok-true.ensures.onward, c.loop-fault.invariant.onward);
+      so_far = one_passed _ c.loop-fault.i (c.loop-fault.i + 1) _ _ _ _ (walks.items_met c.pass_field.new.walk) refl c.loop-fault.invariant.so_far step;
+    }

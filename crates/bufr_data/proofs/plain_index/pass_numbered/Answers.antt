@@ -1,0 +1,9 @@
+use Rattle.bufr_expand.specs.Courses.{course}
+use Rattle.bufr_bits.specs.Ends.{left}
+use Rattle.bufr_data.proofs.SubsetFacts.{fields_at_numbered, fails_numbered}
+use Rattle.bufr_data.proofs.plain_index.pass_numbered.Goals as goal
+
+pub returns-in-Err-clause-err : goal.returns-in-Err-clause-err
+returns-in-Err-clause-err c =
+    rw (c.of_subset.ensures, fields_at_numbered c.args.number 1 (course c.args.template.now c.args.used) (left c.args.reader.now))
+    (fails_numbered c.args.number c.in-Err.failure _ c.in-Err.ensures.err)

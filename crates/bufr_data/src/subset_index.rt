@@ -1,0 +1,114 @@
+//! The subsets of a message, plain or compressed, one at a time.
+
+ghost use Rattle.std.specs.Prelude.{◌≡◌, ◌-◌, ◌≤◌, length, slice_get, Bool, List, Some, IfOk, OnErr};
+ghost use Rattle.bufr_bits.specs.Ends.{left};
+ghost use Rattle.bufr_tables.specs.Answers.{Gives};
+ghost use Rattle.bufr_data.specs.declared.field.Subset.{Subset};
+ghost use Rattle.bufr_data.specs.Data.{subsets_in};
+ghost use Rattle.bufr_data.specs.Shown.{shown};
+
+use crate::columns::Columns;
+use crate::fault::ReadFault;
+use crate::field::Subset;
+use crate::plain_index::PlainSubsets;
+use bufr_bits::{BitReader, OutOfMemory};
+use bufr_expand::Template;
+use bufr_tables::Failure;
+use std::alloc::Global;
+use std::marker::Model;
+
+/// Where the subsets stand, plain or compressed.
+#[derive(Debug, Drop)]
+pub(crate) enum Standing<'a> {
+    Plain(PlainSubsets<'a>),
+    Compressed(Columns<'a>),
+}
+
+/// The subsets of a message, plain or compressed, none of which is built before it is asked for. It
+/// borrows the octets. Contracts see the list of the subsets.
+#[derive(Debug, Drop)]
+pub struct SubsetIndex<'a> {
+    standing: Standing<'a>,
+}
+
+impl<'a> Model for SubsetIndex<'a> {
+    ghost use Rattle.std.specs.Prelude.{List};
+    ghost use Rattle.bufr_data.specs.declared.field.Subset.{Subset};
+    ghost use Rattle.bufr_data.specs.Shown.{shown};
+
+    ghost Value = { List Subset };
+
+    ghost view = { λ s. shown s.standing };
+}
+
+impl<'a> SubsetIndex<'a> {
+    /// The subsets of a message: so many, whose data the bits begin with, plain or compressed. The
+    /// reader moves past exactly their data; on an error it stays where it is. It is refused as
+    /// `read_subsets` is. Plain data are walked once, and compressed data column by column.
+    /// `OutOfMemory` where a growth was refused; the template is gone after an error.
+    pub fn index(
+        alloc: Global,
+        template: Template,
+        compressed: bool,
+        reader: &mut BitReader<'a>,
+        count: u16,
+    ) -> Result<SubsetIndex<'a>, Failure<ReadFault>>
+        ensures exact { Gives {Y = List Subset × List Bool} (λ subsets. (subsets, left reader.new)) result (subsets_in template compressed count (left reader.old)) }
+        ensures octets { reader.new.octets ≡ reader.old.octets }
+        ensures err { OnErr result (reader.new ≡ reader.old) }
+    {
+        let place = reader.place();
+        let answer = index_of(alloc, template, compressed, reader, count);
+        if answer.is_err() {
+            reader.return_to(place);
+        }
+        answer
+    }
+
+    /// How many subsets there are.
+    pub fn count(&self) -> usize
+        ensures { result ≡ length self.now }
+    {
+        match &self.standing {
+            Standing::Plain(subsets) => subsets.count(),
+            Standing::Compressed(columns) => usize::from(columns.count()),
+        }
+    }
+
+    /// The subset of this number, from 1, which is built anew. `OutOfMemory` where a growth was
+    /// refused.
+    pub fn subset(&self, alloc: Global, number: usize) -> Result<Subset, OutOfMemory>
+        requires first { 1 ≤ number }
+        requires last { number ≤ length self.now }
+        ensures { IfOk result (λ s. slice_get self.now (number - 1) ≡ Some s) }
+    {
+        match &self.standing {
+            Standing::Plain(subsets) => subsets.subset(alloc, number),
+            Standing::Compressed(columns) => {
+                let _count = columns.count();
+                columns.subset(alloc, number as u16)
+            }
+        }
+    }
+}
+
+/// The index of so many subsets, whose data the bits begin with. After an error the reader may have
+/// moved on.
+fn index_of<'a>(
+    alloc: Global,
+    template: Template,
+    compressed: bool,
+    reader: &mut BitReader<'a>,
+    count: u16,
+) -> Result<SubsetIndex<'a>, Failure<ReadFault>>
+    ensures exact { Gives {Y = List Subset × List Bool} (λ subsets. (subsets, left reader.new)) result (subsets_in template compressed count (left reader.old)) }
+    ensures octets { reader.new.octets ≡ reader.old.octets }
+    ensures onward { reader.old.place ≤ reader.new.place }
+{
+    let standing = if compressed {
+        Standing::Compressed(Columns::index(alloc, &template, reader, count)?)
+    } else {
+        Standing::Plain(PlainSubsets::index(alloc, template, reader, count)?)
+    };
+    Ok(SubsetIndex { standing })
+}

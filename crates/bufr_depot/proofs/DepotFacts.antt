@@ -1,0 +1,203 @@
+-- Slots of a depot: which are there, and what merging one into another leaves.
+use Rattle.std.proofs.Common.{◌≡◌, inl, inr, ℕ, zero, suc, ◌+◌, ◌<◌, Option, Some, None, Result, Ok, Err, List, [], ◌∷◌, ◌++◌, length, set, get_or, refl, sym, ap, ◌∙◌, subst, arith}
+use Rattle.std.specs.Prelude.{slice_get}
+use Rattle.bufr_tables.specs.Entries.{Entries}
+use Rattle.bufr_frame.specs.Framings.{Framing}
+use Rattle.bufr_message.specs.declared.report.Report.{Report}
+use Rattle.bufr_shelves.specs.declared.entry.Entry.{Entry}
+use Rattle.bufr_shelves.specs.Entries.{kept}
+use Rattle.bufr_shelves.specs.Orders.{kept-early, kept-late, kept-twice}
+use Rattle.bufr_archive.specs.Archives.{ArchiveView, merged, entries_of}
+use Rattle.bufr_archive.specs.ReportEntries.{AreUnder, kept_of, report_entries, text_of}
+use Rattle.bufr_archive.specs.Texts.{text}
+use Rattle.bufr_archive.specs.declared.reading.NotAnArchive.{NotAnArchive}
+use Rattle.bufr_archive.specs.ReportTexts.{archive_of}
+use Rattle.bufr_depot.specs.Slots.{Slot}
+use Rattle.bufr_depot.specs.Holdings.{Holding, DepotView, HoldsSlot}
+use Rattle.bufr_depot.specs.HeldSteps.{StepDoes, AreThere, TakesIn, IsJoin, IsAsGood}
+use Rattle.bufr_depot.specs.declared.steps.Step.{Step}
+use Rattle.bufr_depot.specs.declared.steps.Answer.{Answer}
+use Rattle.bufr_depot.specs.declared.steps.Answer.TheVariants.{Joined}
+use Rattle.bufr_depot.specs.declared.steps.StepFault.{StepFault}
+use Rattle.bufr_depot.specs.declared.steps.StepFault.TheVariants.{OutOfMemory}
+use Rattle.bufr_depot.proofs.HeldFacts.{archive_joined}
+use Rattle.bufr_depot.proofs.JoinFacts.{join_done, join_ran_out, as_good, same_there, set_same, set_twice}
+
+-- ---- places in lists
+
+-- one at a place
+pub at_below : {A : Type 0} (xs : List A) (i : ℕ) → i < length xs
+    → (x : A) × (slice_get xs i ≡ Some x)
+at_below [] i h = absurd (omega arith)
+at_below (x ∷ xs) zero h = (x, refl)
+at_below (x ∷ xs) (suc i) h = at_below xs i (omega arith)
+
+pub below_at : {A : Type 0} (xs : List A) (i : ℕ) (x : A) → slice_get xs i ≡ Some x
+    → i < length xs
+below_at [] i x e = absurd cc
+below_at (y ∷ xs) zero x e = omega arith
+below_at (y ∷ xs) (suc i) x e = let h = below_at xs i x e in omega (arith, h)
+
+-- one that was set
+set_here : {A : Type 0} (xs : List A) (i : ℕ) (x y : A) → slice_get xs i ≡ Some x
+    → slice_get (set xs i y) i ≡ Some y
+set_here [] i x y e = absurd cc
+set_here (a ∷ xs) zero x y e = refl
+set_here (a ∷ xs) (suc i) x y e = set_here xs i x y e
+
+-- and the others
+set_other : {A : Type 0} (xs : List A) (i j : ℕ) (y : A) → (j ≡ i → ⊥)
+    → slice_get (set xs i y) j ≡ slice_get xs j
+set_other [] i j y apart = refl
+set_other (a ∷ xs) zero zero y apart = absurd (apart refl)
+set_other (a ∷ xs) zero (suc j) y apart = refl
+set_other (a ∷ xs) (suc i) zero y apart = refl
+set_other (a ∷ xs) (suc i) (suc j) y apart = set_other xs i j y (λ e. apart (ap suc e))
+
+pub length_set : {A : Type 0} (xs : List A) (i : ℕ) (y : A) → length (set xs i y) ≡ length xs
+length_set [] i y = refl
+length_set (a ∷ xs) zero y = refl
+length_set (a ∷ xs) (suc i) y = ap suc (length_set xs i y)
+
+-- ---- slots that are there
+
+pub are_there : (d : DepotView) (from into : ℕ) → from < length d.slots → into < length d.slots
+    → AreThere d from into
+are_there d from into f i =
+    let s = at_below d.slots from f in let t = at_below d.slots into i in
+    record { source = s.0; source_there = s.1; target = t.0; target_there = t.1 }
+
+-- the source of a join is the one that is held there
+pub source_is : (d e : DepotView) (from into : ℕ) (there : AreThere d from into) (h : Holding)
+    → e ≡ d → slice_get e.slots from ≡ Some h → h ≡ there.source
+source_is d e from into there h same at =
+    same_there (slice_get d.slots from) h there.source
+    (subst (λ (x : DepotView). slice_get x.slots from ≡ Some h) same at) there.source_there
+
+-- ---- an archive that takes in another
+
+-- what is held with an archive merged in
+pub held_merged : (x n a : ArchiveView) (f : Framing) (h : Holding)
+    → record { archive = x; framer = f } ≡ h → n ≡ merged x a
+    → record { archive = n; framer = f } ≡ record h { archive = merged h.archive a }
+held_merged x n a f h is e =
+    subst (λ (h : Holding). record { archive = n; framer = f }
+    ≡ record h { archive = merged h.archive a }) is
+    (ap (λ (z : ArchiveView). let k : Holding = record { archive = z; framer = f } in k) e)
+
+pub held_still : (x n : ArchiveView) (f : Framing) (h : Holding)
+    → record { archive = x; framer = f } ≡ h → n ≡ x → record { archive = n; framer = f } ≡ h
+held_still x n f h is e =
+    ap (λ (z : ArchiveView). let k : Holding = record { archive = z; framer = f } in k) e ∙ is
+
+pub took_all : (d : DepotView) (into : ℕ) (h k : Holding) (a : ArchiveView)
+    → slice_get d.slots into ≡ Some h → k ≡ record h { archive = merged h.archive a }
+    → TakesIn d (record d { slots = set d.slots into k }) into a (Ok Joined)
+took_all d into h k a at e =
+    (h, at, ap (λ (k : Holding). record d { slots = set d.slots into k }) e)
+
+pub took_nothing : (d : DepotView) (into : ℕ) (h k : Holding) (a : ArchiveView)
+    → slice_get d.slots into ≡ Some h → k ≡ h
+    → TakesIn d (record d { slots = set d.slots into k }) into a (Err (OutOfMemory 0))
+took_nothing d into h k a at e = (
+  refl,
+  ap (λ (k : Holding). record d { slots = set d.slots into k }) e
+      ∙ ap (λ (hs : List Holding). record d { slots = hs }) (set_same d.slots into h at),
+)
+
+-- ---- an archive that takes in itself
+
+twice : (tables : Entries) (rs : List Report)
+    → merged (archive_of tables rs) (archive_of tables rs) ≡ archive_of tables rs
+twice tables rs =
+    let es = entries_of (report_entries tables rs) in
+    ap (λ (es : List Entry). let a : ArchiveView = record { tables = tables; entries = es } in a)
+    (kept-early es (kept es) ∙ kept-late es es ∙ kept-twice es)
+
+pub self_joined : (d : DepotView) (from into : ℕ) → AreThere d from into → from ≡ into
+    → (step : Step) → IsJoin step from into → StepDoes d d step (Ok Joined)
+self_joined d from into there e step is =
+    let same : there.source ≡ there.target =
+    same_there (slice_get d.slots into) there.source there.target
+    (subst (λ n. slice_get d.slots n ≡ Some there.source) e there.source_there)
+    there.target_there in
+    let holds : (s t : Slot) → HoldsSlot d.tables there.source s → HoldsSlot d.tables there.target t
+    → there.target.archive ≡ archive_of d.tables (t.reports ++ s.reports) = λ s t hs ht.
+    let both : archive_of d.tables s.reports ≡ archive_of d.tables t.reports =
+    sym hs.archive ∙ ap (λ (h : Holding). h.archive) same ∙ ht.archive in
+    ht.archive ∙ sym (twice d.tables t.reports)
+    ∙ ap (merged (archive_of d.tables t.reports)) (sym both)
+    ∙ archive_joined d.tables t.reports s.reports in
+    subst (λ (hs : List Holding). StepDoes d (record d { slots = hs }) step (Ok Joined))
+    (set_same d.slots into there.target there.target_there)
+    (join_done d from into there there.target.archive holds step is)
+
+-- ---- an archive that is taken out, merged into and put back
+
+module _ (d : DepotView) (from into : ℕ) (there : AreThere d from into) (apart : from ≡ into → ⊥)
+    (h h2 h3 k1 k2 : Holding) (at : slice_get d.slots into ≡ Some h)
+    (framer1 : k1.framer ≡ h.framer) (at2 : slice_get (set d.slots into k1) from ≡ Some h2)
+    (at3 : slice_get (set d.slots into k1) into ≡ Some h3) (framer2 : k2.framer ≡ h3.framer) where
+  is_target : h ≡ there.target
+  is_target = same_there (slice_get d.slots into) h there.target at there.target_there
+
+  is_source : h2 ≡ there.source
+  is_source = same_there (slice_get d.slots from) h2 there.source
+      (sym (set_other d.slots into from k1 apart) ∙ at2) there.source_there
+
+  framer_stays : k2.framer ≡ there.target.framer
+  framer_stays =
+      let put : h3 ≡ k1 = same_there (slice_get (set d.slots into k1) into) h3 k1 at3
+      (set_here d.slots into h k1 at) in
+      framer2 ∙ ap (λ (k : Holding). k.framer) put ∙ framer1
+      ∙ ap (λ (k : Holding). k.framer) is_target
+
+  put_back : (a : ArchiveView) → k2.archive ≡ a
+      → set (set d.slots into k1) into k2 ≡ set d.slots into (record there.target { archive = a })
+  put_back a e =
+      let whole : k2 ≡ record there.target { archive = a } =
+      ap (λ (x : ArchiveView). let k : Holding = record { archive = x; framer = k2.framer } in k) e
+      ∙ ap (λ (f : Framing). let k : Holding = record { archive = a; framer = f } in k) framer_stays in
+      set_twice d.slots into k1 k2 ∙ ap (set d.slots into) whole
+
+  pub merged_back : k2.archive ≡ merged h.archive h2.archive → (step : Step) → IsJoin step from into
+      → StepDoes d (record d { slots = set (set d.slots into k1) into k2 }) step (Ok Joined)
+  merged_back e step is =
+      let a = merged there.target.archive there.source.archive in
+      let e2 : k2.archive ≡ a = e
+      ∙ ap (λ (x : Holding). merged x.archive h2.archive) is_target
+      ∙ ap (λ (x : Holding). merged there.target.archive x.archive) is_source in
+      subst (λ (hs : List Holding). StepDoes d (record d { slots = hs }) step (Ok Joined))
+      (sym (put_back a e2))
+      (join_done d from into there a
+      (as_good d there.source there.target there.source.archive (λ rs u x. refl)) step is)
+
+  pub still_back : k2.archive ≡ h.archive → (step : Step) → IsJoin step from into
+      → StepDoes d (record d { slots = set (set d.slots into k1) into k2 }) step
+      (Err (OutOfMemory 0))
+  still_back e step is =
+      let e2 : k2.archive ≡ there.target.archive = e ∙ ap (λ (x : Holding). x.archive) is_target in
+      subst (λ (hs : List Holding). StepDoes d (record d { slots = hs }) step (Err (OutOfMemory 0)))
+      (sym (put_back there.target.archive e2
+      ∙ set_same d.slots into there.target there.target_there))
+      (join_ran_out d from into there step is)
+
+pub both_merged : (a b x y : ArchiveView) → a ≡ x → b ≡ y → merged a b ≡ merged x y
+both_merged a b x y e f = ap (λ (z : ArchiveView). merged z b) e ∙ ap (merged x) f
+
+-- ---- an archive that was written and read back
+
+pub some_same : {A : Type 0} (x y : A) → Some x ≡ Some y → x ≡ y
+some_same x y e = cc
+
+pub read_back : (t1 t2 : Entries) (source back : ArchiveView) (octets : List ℕ) → t1 ≡ t2
+    → octets ≡ text source.entries
+    → ((rs : List Report) → AreUnder t1 rs → octets ≡ text_of t1 rs
+    → (let x : Result ArchiveView NotAnArchive = Ok (archive_of t1 rs) in x) ≡ Ok back)
+    → IsAsGood t2 source back
+read_back t1 t2 source back octets same wrote only reports under e =
+    let got = only reports (subst (λ t. AreUnder t reports) (sym same) under)
+    (wrote ∙ ap (λ (a : ArchiveView). text a.entries) e
+    ∙ ap (λ t. text_of t reports) (sym same)) in
+    let back_is : archive_of t1 reports ≡ back = cc in
+    sym back_is ∙ ap (λ t. archive_of t reports) same ∙ sym e

@@ -1,0 +1,405 @@
+-- What a step does to what a depot holds, and to the slots for which it stands.
+use Rattle.std.proofs.Common.{◌≡◌, ◌⊎◌, inl, inr, ℕ, zero, suc, ◌+◌, ◌-◌, ◌<◌, ◌≤◌, ◌^◌, Bool, true, false, ltb as nat_lt, cond, Option, Some, None, Result, Ok, Err, List, [], ◌∷◌, ◌++◌, length, map, take, drop, set, replicate, refl, sym, ap, ◌∙◌, subst, arith, append_assoc}
+use Rattle.std.specs.Prelude.{slice_get, option_to_list}
+use Rattle.std.specs.List.{AllZip, AllByRecursion, flat_map}
+use Rattle.std.proofs.lemmas.List.{append-nil, map-append, length-map, take-map}
+use Rattle.std.proofs.lemmas.List.Elements.{All-append, All-nil}
+use Rattle.std.proofs.lemmas.Bool.{le-ltb, lt-ltb}
+use Rattle.std.proofs.lemmas.Grind.{flat_map-append}
+use Rattle.std.proofs.Math.Seq.{drop-append_seam}
+use Rattle.bufr_tables.specs.Entries.{Entries}
+use Rattle.bufr_frame.specs.declared.frames.Found.{Found}
+use Rattle.bufr_frame.specs.Framings.{Framing}
+use Rattle.bufr_frame.specs.Looks.{new_framing}
+use Rattle.bufr_frame.specs.Streams.{sure, cut, Stands}
+use Rattle.bufr_frame.specs.StreamLaws.{cut-end, sure-piece}
+use Rattle.bufr_sections.specs.Sections.{AreOctets}
+use Rattle.bufr_message.specs.declared.report.Report.{Report}
+use Rattle.bufr_message.specs.Reports.{IsUnder, reports_in}
+use Rattle.bufr_shelves.specs.declared.entry.Entry.{Entry}
+use Rattle.bufr_shelves.specs.Entries.{kept}
+use Rattle.bufr_shelves.specs.Orders.{kept-early, kept-late}
+use Rattle.bufr_archive.specs.Archives.{ArchiveView, taken_in, merged, entries_of, count_changes}
+use Rattle.bufr_archive.specs.ReportEntries.{AreUnder, entry_of, report_entries, kept_of}
+use Rattle.bufr_archive.specs.ReportTexts.{archive_of}
+use Rattle.bufr_depot.specs.Slots.{reports_among, count_messages, count_refused, Slot, slot_at, changed_at, gains, gains_all, new_slot, new_slots}
+use Rattle.bufr_depot.specs.Runs.{frames_of_piece, frames_of_end, is_too_long, frames_of_step, new_reports, slot_of, changes_of, fed_answer, ended_answer, joined_with, joined, done, after, answer_of, feed_answer, end_answer, join_answer, RanOut, IsAnswer, Run, after_all}
+use Rattle.bufr_depot.specs.Holdings.{Holding, DepotView, HoldsSlot, StandsFor}
+use Rattle.bufr_depot.specs.HeldSteps.{AddsFrames, AddsSome, Feeds, Ends, fed_of, ended_of, StepDoes, AreThere, IsFirstMissing, IsAsGood, with_merged, TakesIn, IsJoin, AreAllUnder}
+use Rattle.bufr_depot.specs.Agreements.{ReportsToldAreUnder}
+use Rattle.bufr_depot.specs.declared.counts.Counts.{Counts}
+use Rattle.bufr_depot.specs.declared.steps.Step.{Step}
+use Rattle.bufr_depot.specs.declared.steps.Step.TheVariants.{Feed, End, Merge, Transfer, Copy}
+use Rattle.bufr_depot.specs.declared.steps.Answer.{Answer}
+use Rattle.bufr_depot.specs.declared.steps.Answer.TheVariants.{Fed, Ended, Joined}
+use Rattle.bufr_depot.specs.declared.steps.StepFault.{StepFault}
+use Rattle.bufr_depot.specs.declared.steps.StepFault.TheVariants.{NoSlot, StreamTooLong, OutOfMemory}
+use Rattle.bufr_depot.proofs.CountFacts.{count_kept}
+use Rattle.bufr_depot.proofs.UnderFacts.{both, second_of, first_of, front_of}
+
+-- ---- lists at each other's side
+
+module _ {A B : Type 0} (R : A → B → Type 0) where
+  -- the one at a place
+  pub zip_at : (xs : List A) (ys : List B) (i : ℕ) (x : A) → AllZip R xs ys → slice_get xs i ≡ Some x
+      → (y : B) × (slice_get ys i ≡ Some y) × R x y
+  zip_at [] ys i x z h = absurd cc
+  zip_at (a ∷ xs) [] i x z h = absurd z
+  zip_at (a ∷ xs) (b ∷ ys) zero x z h =
+      let e : a ≡ x = cc in (b, refl, subst (λ k. R k b) e z.0)
+  zip_at (a ∷ xs) (b ∷ ys) (suc i) x z h = zip_at xs ys i x z.1 h
+
+  -- none at a place
+  pub zip_none : (xs : List A) (ys : List B) (i : ℕ) → AllZip R xs ys → slice_get xs i ≡ None
+      → slice_get ys i ≡ None
+  zip_none [] [] i z h = refl
+  zip_none [] (b ∷ ys) i z h = absurd z
+  zip_none (a ∷ xs) [] i z h = absurd z
+  zip_none (a ∷ xs) (b ∷ ys) zero z h = absurd cc
+  zip_none (a ∷ xs) (b ∷ ys) (suc i) z h = zip_none xs ys i z.1 h
+
+-- one slot is changed
+pub zip_set : (tables : Entries) (hs : List Holding) (ss : List Slot) (i : ℕ) (k : Holding) (s : Slot)
+    (change : Slot → Slot) → AllZip (HoldsSlot tables) hs ss → slice_get ss i ≡ Some s
+    → HoldsSlot tables k (change s) → AllZip (HoldsSlot tables) (set hs i k) (changed_at ss i change)
+zip_set tables [] [] i k s change z h r = tt
+zip_set tables [] (b ∷ ss) i k s change z h r = absurd z
+zip_set tables (a ∷ hs) [] i k s change z h r = absurd z
+zip_set tables (a ∷ hs) (b ∷ ss) zero k s change z h r =
+    let e : b ≡ s = cc in (subst (λ t. HoldsSlot tables k (change t)) (sym e) r, z.1)
+zip_set tables (a ∷ hs) (b ∷ ss) (suc i) k s change z h r =
+    (z.0, zip_set tables hs ss i k s change z.1 h r)
+
+-- one holding is changed for another under the same tables
+pub all_set : (tables : Entries) (hs : List Holding) (i : ℕ) (k : Holding)
+    → AreAllUnder tables hs → k.archive.tables ≡ tables → AreAllUnder tables (set hs i k)
+all_set tables [] i k all h = tt
+all_set tables (a ∷ hs) zero k all h = (h, all.1)
+all_set tables (a ∷ hs) (suc i) k all h = (all.0, all_set tables hs i k all.1 h)
+
+-- the one at a place
+pub all_at : (tables : Entries) (hs : List Holding) (i : ℕ) (h : Holding)
+    → AreAllUnder tables hs → slice_get hs i ≡ Some h → h.archive.tables ≡ tables
+all_at tables [] i h all e = absurd cc
+all_at tables (a ∷ hs) zero h all e =
+    let same : a ≡ h = cc in subst (λ (k : Holding). k.archive.tables ≡ tables) same all.0
+all_at tables (a ∷ hs) (suc i) h all e = all_at tables hs i h all.1 e
+
+-- ---- archives of reports
+
+entries-append : (tables : Entries) (rs qs : List Report)
+    → entries_of (report_entries tables (rs ++ qs))
+    ≡ entries_of (report_entries tables rs) ++ entries_of (report_entries tables qs)
+entries-append tables rs qs =
+    ap entries_of (map-append (entry_of tables) rs qs)
+    ∙ flat_map-append option_to_list (report_entries tables rs) (report_entries tables qs)
+
+-- more reports taken in
+archive_more : (tables : Entries) (rs qs : List Report)
+    → taken_in (archive_of tables rs) (report_entries tables qs) ≡ archive_of tables (rs ++ qs)
+archive_more tables rs qs =
+    ap (λ (es : List Entry). record { tables = tables; entries = es })
+    (kept-early (entries_of (report_entries tables rs)) (entries_of (report_entries tables qs))
+    ∙ ap kept (sym (entries-append tables rs qs)))
+
+-- another archive merged
+pub archive_joined : (tables : Entries) (rs qs : List Report)
+    → merged (archive_of tables rs) (archive_of tables qs) ≡ archive_of tables (rs ++ qs)
+archive_joined tables rs qs =
+    ap (λ (es : List Entry). record { tables = tables; entries = es })
+    (kept-early (entries_of (report_entries tables rs)) (kept_of tables qs)
+    ∙ kept-late (entries_of (report_entries tables rs)) (entries_of (report_entries tables qs))
+    ∙ ap kept (sym (entries-append tables rs qs)))
+
+-- ---- what frames tell
+
+module _ (told_under : ReportsToldAreUnder) where
+  among-append : (tables : Entries) (fs gs : List Found)
+      → reports_among tables (fs ++ gs) ≡ reports_among tables fs ++ reports_among tables gs
+  among-append tables fs gs = flat_map-append (λ (f : Found). reports_in tables f.bytes) fs gs
+
+  -- the reports that a stream's end brings
+  end_under : (tables : Entries) (s : List ℕ) → AreOctets s
+      → AreUnder tables (reports_among tables (frames_of_end s))
+  end_under tables s all =
+      let parts = ap (reports_among tables) (cut-end s)
+      ∙ among-append tables (sure s) (frames_of_end s) in
+      second_of (IsUnder tables) (reports_among tables (sure s))
+      (reports_among tables (frames_of_end s))
+      (subst (AreUnder tables) parts (told_under tables s all))
+
+  -- the reports of sure frames
+  sure_under : (tables : Entries) (s : List ℕ) → AreOctets s
+      → AreUnder tables (reports_among tables (sure s))
+  sure_under tables s all =
+      let parts = ap (reports_among tables) (cut-end s)
+      ∙ among-append tables (sure s) (frames_of_end s) in
+      first_of (IsUnder tables) (reports_among tables (sure s))
+      (reports_among tables (frames_of_end s))
+      (subst (AreUnder tables) parts (told_under tables s all))
+
+  -- the reports that a piece brings
+  piece_under : (tables : Entries) (s piece : List ℕ) → AreOctets (s ++ piece)
+      → AreUnder tables (reports_among tables (frames_of_piece s piece))
+  piece_under tables s piece all =
+      let parts = ap (reports_among tables) (sure-piece s piece)
+      ∙ among-append tables (sure s) (frames_of_piece s piece) in
+      second_of (IsUnder tables) (reports_among tables (sure s))
+      (reports_among tables (frames_of_piece s piece))
+      (subst (AreUnder tables) parts (sure_under tables (s ++ piece) all))
+
+-- ---- one slot
+
+-- the archive after all reports of frames
+archive_all : (tables : Entries) (h k : ArchiveView) (rs : List Report) (frames : List Found)
+    (counts : Counts) → h ≡ archive_of tables rs → AddsFrames h k frames counts
+    → k ≡ archive_of tables (rs ++ reports_among tables frames)
+archive_all tables h k rs frames counts is adds =
+    subst (λ (a : ArchiveView). k ≡ taken_in a (report_entries a.tables (reports_among a.tables frames))) is adds.archive
+    ∙ archive_more tables rs (reports_among tables frames)
+
+-- and after the first so many
+archive_some : (tables : Entries) (h k : ArchiveView) (rs : List Report) (frames : List Found)
+    (n : ℕ) → h ≡ archive_of tables rs → AddsSome h k frames n
+    → k ≡ archive_of tables (rs ++ take n (reports_among tables frames))
+archive_some tables h k rs frames n is adds =
+    subst (λ (a : ArchiveView). k ≡ taken_in a (take n (report_entries a.tables (reports_among a.tables frames)))) is adds.archive
+    ∙ ap (taken_in (archive_of tables rs)) (take-map (entry_of tables) n (reports_among tables frames))
+    ∙ archive_more tables rs (take n (reports_among tables frames))
+
+few_some : (tables : Entries) (h k : ArchiveView) (rs : List Report) (frames : List Found)
+    (n : ℕ) → h ≡ archive_of tables rs → AddsSome h k frames n
+    → n ≤ length (reports_among tables frames)
+few_some tables h k rs frames n is adds =
+    let few : n ≤ length (report_entries tables (reports_among tables frames)) =
+    subst (λ (a : ArchiveView). n ≤ length (report_entries a.tables (reports_among a.tables frames))) is adds.few in
+    let long = length-map (reports_among tables frames) (entry_of tables) in
+    omega (arith, few, long)
+
+-- the counts of frames are those of the slot
+counts_are : (tables : Entries) (h k : ArchiveView) (slot : Slot) (frames : List Found)
+    (counts : Counts) → h ≡ archive_of tables slot.reports → AddsFrames h k frames counts
+    → (fed_of counts ≡ fed_answer tables frames slot)
+    × (ended_of counts ≡ ended_answer tables frames slot)
+counts_are tables h k slot frames counts is adds =
+    let old = entries_of (report_entries tables slot.reports) in
+    let new = entries_of (report_entries tables (reports_among tables frames)) in
+    let same : AddsFrames (archive_of tables slot.reports) k frames counts =
+    subst (λ a. AddsFrames a k frames counts) is adds in
+    let changed : counts.changed ≡ changes_of tables frames slot =
+    same.changed ∙ count_kept old new in
+    let m = count_messages tables frames in
+    let r = count_refused tables frames in (
+      ap (λ x. Fed x counts.refused counts.changed) same.messages
+          ∙ ap (λ x. Fed m x counts.changed) same.refused ∙ ap (λ x. Fed m r x) changed,
+      ap (λ x. Ended x counts.refused counts.changed) same.messages
+          ∙ ap (λ x. Ended m x counts.changed) same.refused ∙ ap (λ x. Ended m r x) changed,
+    )
+
+-- a stream that fits is not too long
+fits : (framer : Framing) (s piece : List ℕ) (out : ℕ) → Stands framer s out
+    → framer.fed + length piece < 2 ^ 64 → is_too_long s piece ≡ false
+fits framer s piece out st room =
+    let fed = st.fed in
+    let most = 2 ^ 64 - 1 in
+    le-ltb (2 ^ 64 - 1) (length s + length piece) (omega (arith, fed, room))
+
+too_long : (framer : Framing) (s piece : List ℕ) (out : ℕ) → Stands framer s out
+    → 2 ^ 64 - 1 < framer.fed + length piece → is_too_long s piece ≡ true
+too_long framer s piece out st room =
+    let fed = st.fed in
+    lt-ltb (2 ^ 64 - 1) (length s + length piece) (omega (arith, fed, room))
+
+-- ---- steps that name one slot
+
+-- a slot that is not there
+pub none_there : (d : DepotView) (i : ℕ) (piece : List ℕ) → slice_get d.slots i ≡ None
+    → StepDoes d d (Feed i piece) (Err (NoSlot i)) × StepDoes d d (End i) (Err (NoSlot i))
+none_there d i piece none = (
+  record {
+    tables = refl;
+    answer = λ slots z. ap (feed_answer d.tables i piece)
+        (zip_none (HoldsSlot d.tables) d.slots slots i z none);
+    slots = λ slots z. z;
+  },
+  record {
+    tables = refl;
+    answer = λ slots z. ap (end_answer d.tables i)
+        (zip_none (HoldsSlot d.tables) d.slots slots i z none);
+    slots = λ slots z. z;
+  },
+)
+
+module _ (told_under : ReportsToldAreUnder) (d : DepotView) (i : ℕ) (h k : Holding)
+    (there : slice_get d.slots i ≡ Some h) where
+  -- the depot with the slot changed
+  abbrev changed : DepotView
+  changed = record d { slots = set d.slots i k }
+
+  -- a piece that was taken in
+  fed_slot : (piece : List ℕ) (answer : Answer) (s : Slot) → HoldsSlot d.tables h s
+      → Feeds h k piece (Ok answer)
+      → (feed_answer d.tables i piece (Some s) ≡ Ok answer)
+      × HoldsSlot d.tables k
+      (record (gains (new_reports d.tables (Feed i piece) s) s) {
+        open_stream = s.open_stream ++ piece;
+      })
+  fed_slot piece answer s holds feeds =
+      let t = d.tables in
+      let out = length (sure s.open_stream) in
+      let frames = frames_of_piece s.open_stream piece in
+      let short = fits h.framer s.open_stream piece out holds.framer feeds.0 in
+      let f = feeds.3 s.open_stream out holds.framer in
+      let octets : AreOctets (s.open_stream ++ piece) =
+      All-append (λ (x : ℕ). x < 2 ^ 8) s.open_stream piece holds.octets feeds.1 in
+      let new : new_reports t (Feed i piece) s ≡ reports_among t frames = rw short refl in
+      let counted = counts_are t h.archive k.archive s frames f.0 holds.archive f.2 in (
+        rw short (ap Ok (sym counted.0 ∙ sym f.1)),
+        record {
+          under = both (IsUnder t) s.reports (new_reports t (Feed i piece) s) holds.under
+              (subst (AreUnder t) (sym new) (piece_under told_under t s.open_stream piece octets));
+          archive = archive_all t h.archive k.archive s.reports frames f.0 holds.archive f.2
+              ∙ ap (λ rs. archive_of t (s.reports ++ rs)) (sym new);
+          octets = octets;
+          framer = feeds.2 s.open_stream out holds.framer;
+        },
+      )
+
+  -- a piece for which memory ran out
+  fed_some : (piece : List ℕ) (n : ℕ) (s : Slot) → HoldsSlot d.tables h s
+      → Feeds h k piece (Err (OutOfMemory n))
+      → (n ≤ length (new_reports d.tables (Feed i piece) s))
+      × (feed_answer d.tables i piece (Some s)
+      ≡ Ok (fed_answer d.tables (frames_of_piece s.open_stream piece) s))
+      × HoldsSlot d.tables k (gains (take n (new_reports d.tables (Feed i piece) s)) s)
+  fed_some piece n s holds feeds =
+      let t = d.tables in
+      let out = length (sure s.open_stream) in
+      let frames = frames_of_piece s.open_stream piece in
+      let short = fits h.framer s.open_stream piece out holds.framer feeds.0 in
+      let adds = feeds.3 s.open_stream out holds.framer in
+      let octets : AreOctets (s.open_stream ++ piece) =
+      All-append (λ (x : ℕ). x < 2 ^ 8) s.open_stream piece holds.octets feeds.1 in
+      let new : new_reports t (Feed i piece) s ≡ reports_among t frames = rw short refl in
+      let few = few_some t h.archive k.archive s.reports frames n holds.archive adds in (
+        subst (λ rs. n ≤ length rs) (sym new) few,
+        rw short refl,
+        record {
+          under = both (IsUnder t) s.reports (take n (new_reports t (Feed i piece) s)) holds.under
+              (front_of (IsUnder t) n (new_reports t (Feed i piece) s)
+              (subst (AreUnder t) (sym new) (piece_under told_under t s.open_stream piece octets)));
+          archive = archive_some t h.archive k.archive s.reports frames n holds.archive adds
+              ∙ ap (λ rs. archive_of t (s.reports ++ take n rs)) (sym new);
+          octets = holds.octets;
+          framer = subst (λ f. Stands f s.open_stream out) (sym feeds.2) holds.framer;
+        },
+      )
+
+  pub feed_does : (piece : List ℕ) (result : Result Answer StepFault) → Feeds h k piece result
+      → StepDoes d changed (Feed i piece) result
+  feed_does piece (Ok answer) feeds = record {
+    tables = refl;
+    answer = λ slots z. let s = zip_at (HoldsSlot d.tables) d.slots slots i h z there in
+        ap (feed_answer d.tables i piece) s.1 ∙ (fed_slot piece answer s.0 s.2 feeds).0;
+    slots = λ slots z. let s = zip_at (HoldsSlot d.tables) d.slots slots i h z there in
+        zip_set d.tables d.slots slots i k s.0 _ z s.1 (fed_slot piece answer s.0 s.2 feeds).1;
+  }
+  feed_does piece (Err (NoSlot j)) feeds = absurd feeds
+  feed_does piece (Err StreamTooLong) feeds = record {
+    tables = refl;
+    answer = λ slots z. let s = zip_at (HoldsSlot d.tables) d.slots slots i h z there in
+        let long = too_long h.framer s.0.open_stream piece (length (sure s.0.open_stream)) s.2.framer feeds.0 in
+        ap (feed_answer d.tables i piece) s.1 ∙ (rw long refl);
+    slots = λ slots z. same_stands slots z feeds.1;
+  }
+    where
+      same_set : (hs : List Holding) (j : ℕ) → slice_get hs j ≡ Some h → set hs j h ≡ hs
+      same_set [] j e = refl
+      same_set (a ∷ hs) zero e = let same : a ≡ h = cc in ap (λ x. x ∷ hs) (sym same)
+      same_set (a ∷ hs) (suc j) e = ap (λ xs. a ∷ xs) (same_set hs j e)
+
+      same_stands : (slots : List Slot) → StandsFor d slots → k ≡ h → StandsFor changed slots
+      same_stands slots z same =
+          subst (λ (hs : List Holding). AllZip (HoldsSlot d.tables) hs slots)
+          (sym (ap (set d.slots i) same ∙ same_set d.slots i there)) z
+  feed_does piece (Err (OutOfMemory n)) feeds = record {
+    tables = refl;
+    answer = λ slots z. let s = zip_at (HoldsSlot d.tables) d.slots slots i h z there in
+        let f = fed_some piece n s.0 s.2 feeds in
+        record {
+          few = rw s.1 f.0;
+          answer = fed_answer d.tables (frames_of_piece s.0.open_stream piece) s.0;
+          else_done = ap (feed_answer d.tables i piece) s.1 ∙ f.1;
+        };
+    slots = λ slots z. let s = zip_at (HoldsSlot d.tables) d.slots slots i h z there in
+        zip_set d.tables d.slots slots i k s.0 _ z s.1 (fed_some piece n s.0 s.2 feeds).2;
+  }
+
+  -- a stream that was ended
+  ended_slot : (answer : Answer) (s : Slot) → HoldsSlot d.tables h s → Ends h k (Ok answer)
+      → (end_answer d.tables i (Some s) ≡ Ok answer)
+      × HoldsSlot d.tables k
+      (record (gains (new_reports d.tables (End i) s) s) {
+        ended = s.ended ++ s.open_stream ∷ [];
+        open_stream = [];
+      })
+  ended_slot answer s holds ends =
+      let t = d.tables in
+      let out = length (sure s.open_stream) in
+      let frames = frames_of_end s.open_stream in
+      let f = ends.1 s.open_stream out holds.framer in
+      let counted = counts_are t h.archive k.archive s frames f.0 holds.archive f.2 in
+      let fresh : Stands new_framing [] 0 = record { fed = refl; out_of_sure = omega arith; held = refl } in (
+        ap Ok (sym counted.1 ∙ sym f.1),
+        record {
+          under = both (IsUnder t) s.reports (reports_among t frames) holds.under
+              (end_under told_under t s.open_stream holds.octets);
+          archive = archive_all t h.archive k.archive s.reports frames f.0 holds.archive f.2;
+          octets = All-nil (λ (x : ℕ). x < 2 ^ 8);
+          framer = subst (λ v. Stands v [] 0) (sym ends.0) fresh;
+        },
+      )
+
+  -- a stream for whose end memory ran out
+  ended_some : (n : ℕ) (s : Slot) → HoldsSlot d.tables h s → Ends h k (Err (OutOfMemory n))
+      → (n ≤ length (new_reports d.tables (End i) s))
+      × HoldsSlot d.tables k (gains (take n (new_reports d.tables (End i) s)) s)
+  ended_some n s holds ends =
+      let t = d.tables in
+      let out = length (sure s.open_stream) in
+      let frames = frames_of_end s.open_stream in
+      let adds = ends.1 s.open_stream out holds.framer in (
+        few_some t h.archive k.archive s.reports frames n holds.archive adds,
+        record {
+          under = both (IsUnder t) s.reports (take n (reports_among t frames)) holds.under
+              (front_of (IsUnder t) n (reports_among t frames)
+              (end_under told_under t s.open_stream holds.octets));
+          archive = archive_some t h.archive k.archive s.reports frames n holds.archive adds;
+          octets = holds.octets;
+          framer = subst (λ f. Stands f s.open_stream out) (sym ends.0) holds.framer;
+        },
+      )
+
+  pub end_does : (result : Result Answer StepFault) → Ends h k result
+      → StepDoes d changed (End i) result
+  end_does (Ok answer) ends = record {
+    tables = refl;
+    answer = λ slots z. let s = zip_at (HoldsSlot d.tables) d.slots slots i h z there in
+        ap (end_answer d.tables i) s.1 ∙ (ended_slot answer s.0 s.2 ends).0;
+    slots = λ slots z. let s = zip_at (HoldsSlot d.tables) d.slots slots i h z there in
+        zip_set d.tables d.slots slots i k s.0 _ z s.1 (ended_slot answer s.0 s.2 ends).1;
+  }
+  end_does (Err (NoSlot j)) ends = absurd ends
+  end_does (Err StreamTooLong) ends = absurd ends
+  end_does (Err (OutOfMemory n)) ends = record {
+    tables = refl;
+    answer = λ slots z. let s = zip_at (HoldsSlot d.tables) d.slots slots i h z there in
+        let f = ended_some n s.0 s.2 ends in
+        record {
+          few = rw s.1 f.0;
+          answer = ended_answer d.tables (frames_of_end s.0.open_stream) s.0;
+          else_done = ap (end_answer d.tables i) s.1;
+        };
+    slots = λ slots z. let s = zip_at (HoldsSlot d.tables) d.slots slots i h z there in
+        zip_set d.tables d.slots slots i k s.0 _ z s.1 (ended_some n s.0 s.2 ends).1;
+  }

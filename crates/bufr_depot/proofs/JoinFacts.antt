@@ -1,0 +1,269 @@
+-- What a step that joins one slot to another does, new depots and whole runs.
+use Rattle.std.proofs.Common.{◌≡◌, ◌⊎◌, inl, inr, ℕ, zero, suc, ◌+◌, ◌<◌, ◌≤◌, ◌^◌, Option, Some, None, Result, Ok, Err, List, [], ◌∷◌, ◌++◌, length, map, take, set, get_or, replicate, refl, sym, ap, ◌∙◌, subst, arith, append_assoc, length-append}
+use Rattle.std.specs.Prelude.{slice_get}
+use Rattle.std.specs.List.{AllZip}
+use Rattle.std.proofs.lemmas.List.{append-nil}
+use Rattle.std.proofs.lemmas.List.Elements.{All-nil}
+use Rattle.std.proofs.lemmas.Bool.Decides.{eqb_tells}
+use Rattle.bufr_tables.specs.Entries.{Entries}
+use Rattle.bufr_frame.specs.Framings.{Framing}
+use Rattle.bufr_frame.specs.Looks.{new_framing}
+use Rattle.bufr_frame.specs.Streams.{Stands}
+use Rattle.bufr_message.specs.declared.report.Report.{Report}
+use Rattle.bufr_message.specs.Reports.{IsUnder}
+use Rattle.bufr_shelves.specs.Entries.{kept}
+use Rattle.bufr_shelves.specs.Orders.{kept-kept, kept-twice, kept-early, kept-late}
+use Rattle.bufr_archive.specs.Archives.{ArchiveView, merged}
+use Rattle.bufr_archive.specs.ReportTexts.{archive_of}
+use Rattle.bufr_depot.specs.Slots.{Slot, slot_at, changed_at, gains, gains_all, new_slot, new_slots}
+use Rattle.bufr_depot.specs.Runs.{join_answer, joined_with, joined, after, answer_of, RanOut, IsAnswer, Run, after_all}
+use Rattle.bufr_depot.specs.Holdings.{Holding, DepotView, HoldsSlot, StandsFor}
+use Rattle.bufr_depot.specs.HeldSteps.{StepDoes, AreThere, IsFirstMissing, IsAsGood, with_merged, TakesIn, IsJoin, AreAllUnder}
+use Rattle.bufr_depot.specs.declared.steps.Step.{Step}
+use Rattle.bufr_depot.specs.declared.steps.Step.TheVariants.{Feed, End, Merge, Transfer, Copy}
+use Rattle.bufr_depot.specs.declared.steps.Answer.{Answer}
+use Rattle.bufr_depot.specs.declared.steps.Answer.TheVariants.{Fed, Ended, Joined}
+use Rattle.bufr_depot.specs.declared.steps.StepFault.{StepFault}
+use Rattle.bufr_depot.specs.declared.steps.StepFault.TheVariants.{NoSlot, StreamTooLong, OutOfMemory}
+use Rattle.bufr_depot.proofs.UnderFacts.{both}
+use Rattle.bufr_depot.proofs.HeldFacts.{zip_at, zip_none, zip_set, archive_joined}
+use Rattle.bufr_depot.proofs.StepFacts.{nothing_gained, runs_join}
+
+-- what a join does, by the step that it is: the same for all three
+by_join : (d new : DepotView) (from into : ℕ) (result : Result Answer StepFault)
+    → StepDoes d new (Merge from into) result → StepDoes d new (Transfer from into) result
+    → StepDoes d new (Copy from into) result
+    → (step : Step) → IsJoin step from into → StepDoes d new step result
+by_join d new from into result m t c step (inl e) = subst (λ s. StepDoes d new s result) (sym e) m
+by_join d new from into result m t c step (inr (inl e)) = subst (λ s. StepDoes d new s result) (sym e) t
+by_join d new from into result m t c step (inr (inr e)) = subst (λ s. StepDoes d new s result) (sym e) c
+
+-- ---- the slots that are not there
+
+missing_answer : (d : DepotView) (from into i : ℕ) → IsFirstMissing d from into i
+    → (slots : List Slot) → StandsFor d slots
+    → join_answer from into (slot_at slots from) (slot_at slots into) ≡ Err (NoSlot i)
+missing_answer d from into i (inl m) slots z =
+    ap (λ o. join_answer from into o (slot_at slots into)) (zip_none (HoldsSlot d.tables) d.slots slots from z m.1)
+    ∙ ap (λ n. Err (NoSlot n)) (sym m.0)
+missing_answer d from into i (inr m) slots z =
+    let s = zip_at (HoldsSlot d.tables) d.slots slots from m.0 z m.1 in
+    ap (λ o. join_answer from into o (slot_at slots into)) s.1
+    ∙ ap (join_answer from into (Some s.0)) (zip_none (HoldsSlot d.tables) d.slots slots into z m.3)
+    ∙ ap (λ n. Err (NoSlot n)) (sym m.2)
+
+pub join_missing : (d : DepotView) (from into i : ℕ) → IsFirstMissing d from into i
+    → (step : Step) → IsJoin step from into → StepDoes d d step (Err (NoSlot i))
+join_missing d from into i missing = by_join d d from into (Err (NoSlot i))
+    (record { tables = refl; answer = missing_answer d from into i missing; slots = λ slots z. z })
+    (record { tables = refl; answer = missing_answer d from into i missing; slots = λ slots z. z })
+    (record { tables = refl; answer = missing_answer d from into i missing; slots = λ slots z. z })
+
+-- ---- slots that are there
+
+there_answer : (d : DepotView) (from into : ℕ) → AreThere d from into
+    → (slots : List Slot) → StandsFor d slots
+    → join_answer from into (slot_at slots from) (slot_at slots into) ≡ Ok Joined
+there_answer d from into there slots z =
+    let s = zip_at (HoldsSlot d.tables) d.slots slots from there.source z there.source_there in
+    let t = zip_at (HoldsSlot d.tables) d.slots slots into there.target z there.target_there in
+    ap (λ o. join_answer from into o (slot_at slots into)) s.1
+    ∙ ap (join_answer from into (Some s.0)) t.1
+
+none_joined : (into : ℕ) (slots : List Slot)
+    → changed_at slots into (λ s. gains (take 0 (let none : List Report = [] in none)) s) ≡ slots
+none_joined into slots = nothing_gained slots into (λ s. take 0 (let none : List Report = [] in none)) (λ s. refl)
+
+-- memory ran out, and nothing was joined
+pub join_ran_out : (d : DepotView) (from into : ℕ) → AreThere d from into
+    → (step : Step) → IsJoin step from into → StepDoes d d step (Err (OutOfMemory 0))
+join_ran_out d from into there = by_join d d from into (Err (OutOfMemory 0))
+    (record {
+      tables = refl;
+      answer = λ slots z. record { few = omega arith; answer = Joined; else_done = there_answer d from into there slots z };
+      slots = λ slots z. subst (StandsFor d) (sym (none_joined into slots)) z;
+    })
+    (record {
+      tables = refl;
+      answer = λ slots z. record { few = omega arith; answer = Joined; else_done = there_answer d from into there slots z };
+      slots = λ slots z. subst (StandsFor d) (sym (none_joined into slots)) z;
+    })
+    (record {
+      tables = refl;
+      answer = λ slots z. record { few = omega arith; answer = Joined; else_done = there_answer d from into there slots z };
+      slots = λ slots z. subst (StandsFor d) (sym (none_joined into slots)) z;
+    })
+
+-- the depot after an archive was merged into that of a slot
+joined_stands : (d : DepotView) (from into : ℕ) (there : AreThere d from into) (a : ArchiveView)
+    → ((s t : Slot) → HoldsSlot d.tables there.source s → HoldsSlot d.tables there.target t
+    → a ≡ archive_of d.tables (t.reports ++ s.reports))
+    → (slots : List Slot) → StandsFor d slots
+    → StandsFor (record d { slots = set d.slots into (record there.target { archive = a }) })
+    (joined from into slots)
+joined_stands d from into there a is slots z =
+    let s = zip_at (HoldsSlot d.tables) d.slots slots from there.source z there.source_there in
+    let t = zip_at (HoldsSlot d.tables) d.slots slots into there.target z there.target_there in
+    let holds : HoldsSlot d.tables (record there.target { archive = a }) (gains_all s.0 t.0) = record {
+      under = both (IsUnder d.tables) t.0.reports s.0.reports t.2.under s.2.under;
+      archive = is s.0 t.0 s.2 t.2;
+      octets = t.2.octets;
+      framer = t.2.framer;
+    } in
+    subst (λ o. StandsFor (record d { slots = set d.slots into (record there.target { archive = a }) }) (joined_with o into slots)) (sym s.1)
+    (zip_set d.tables d.slots slots into (record there.target { archive = a }) t.0 (gains_all s.0) z t.1 holds)
+
+pub join_done : (d : DepotView) (from into : ℕ) (there : AreThere d from into) (a : ArchiveView)
+    → ((s t : Slot) → HoldsSlot d.tables there.source s → HoldsSlot d.tables there.target t
+    → a ≡ archive_of d.tables (t.reports ++ s.reports))
+    → (step : Step) → IsJoin step from into
+    → StepDoes d (record d { slots = set d.slots into (record there.target { archive = a }) }) step (Ok Joined)
+join_done d from into there a is = by_join d (record d { slots = set d.slots into (record there.target { archive = a }) }) from into (Ok Joined)
+    (record { tables = refl; answer = there_answer d from into there; slots = joined_stands d from into there a is })
+    (record { tables = refl; answer = there_answer d from into there; slots = joined_stands d from into there a is })
+    (record { tables = refl; answer = there_answer d from into there; slots = joined_stands d from into there a is })
+
+-- an archive as good as that of a slot, merged
+pub as_good : (d : DepotView) (source target : Holding) (a : ArchiveView)
+    → IsAsGood d.tables source.archive a → (s t : Slot)
+    → HoldsSlot d.tables source s → HoldsSlot d.tables target t
+    → merged target.archive a ≡ archive_of d.tables (t.reports ++ s.reports)
+as_good d source target a good s t hs ht =
+    let same : a ≡ archive_of d.tables s.reports = good s.reports hs.under hs.archive ∙ hs.archive in
+    ap (merged target.archive) same
+    ∙ ap (λ (b : ArchiveView). merged b (archive_of d.tables s.reports)) ht.archive
+    ∙ archive_joined d.tables t.reports s.reports
+
+-- a slot is one alone
+pub same_there : {A : Type 0} (o : Option A) (x y : A) → o ≡ Some x → o ≡ Some y → x ≡ y
+same_there o x y e f = let g : Some x ≡ Some y = sym e ∙ f in cc
+
+-- what taking in such an archive does
+pub took : (d new : DepotView) (from into : ℕ) (there : AreThere d from into) (a : ArchiveView)
+    (result : Result Answer StepFault) → IsAsGood d.tables there.source.archive a
+    → TakesIn d new into a result → (step : Step) → IsJoin step from into
+    → StepDoes d new step result
+took d new from into there a (Ok Joined) good takes step is =
+    let same : takes.0 ≡ there.target = same_there (slice_get d.slots into) takes.0 there.target takes.1 there.target_there in
+    let done = join_done d from into there (merged there.target.archive a) (as_good d there.source there.target a good) step is in
+    subst (λ n. StepDoes d n step (Ok Joined))
+    (sym (takes.2 ∙ ap (λ (t : Holding). record d { slots = with_merged d.slots into t a }) same)) done
+took d new from into there a (Ok (Fed m r c)) good takes step is = absurd takes
+took d new from into there a (Ok (Ended m r c)) good takes step is = absurd takes
+took d new from into there a (Err (NoSlot i)) good takes step is = absurd takes
+took d new from into there a (Err StreamTooLong) good takes step is = absurd takes
+took d new from into there a (Err (OutOfMemory k)) good takes step is =
+    subst (λ n. StepDoes d n step (Err (OutOfMemory k))) (sym takes.1)
+    (subst (λ j. StepDoes d d step (Err (OutOfMemory j))) (sym takes.0) (join_ran_out d from into there step is))
+
+-- ---- places in lists
+
+pub set_twice : {A : Type 0} (xs : List A) (i : ℕ) (x y : A) → set (set xs i x) i y ≡ set xs i y
+set_twice [] i x y = refl
+set_twice (a ∷ xs) zero x y = refl
+set_twice (a ∷ xs) (suc i) x y = ap (λ ys. a ∷ ys) (set_twice xs i x y)
+
+pub set_same : {A : Type 0} (xs : List A) (i : ℕ) (x : A) → slice_get xs i ≡ Some x → set xs i x ≡ xs
+set_same [] i x e = refl
+set_same (a ∷ xs) zero x e = let same : a ≡ x = cc in ap (λ y. y ∷ xs) (sym same)
+set_same (a ∷ xs) (suc i) x e = ap (λ ys. a ∷ ys) (set_same xs i x e)
+
+pub get_is : {A : Type 0} (xs : List A) (i : ℕ) (d : A) → i < length xs → slice_get xs i ≡ Some (get_or xs i d)
+get_is [] i d h = absurd (omega arith)
+get_is (a ∷ xs) zero d h = refl
+get_is (a ∷ xs) (suc i) d h = get_is xs i d (omega arith)
+
+pub get_is_at : {A : Type 0} (xs : List A) (i : ℕ) (d : A) → i < length xs → d ≡ get_or xs i d → slice_get xs i ≡ Some d
+get_is_at xs i d h e = get_is xs i d h ∙ ap Some (sym e)
+
+pub get_none : {A : Type 0} (xs : List A) (i : ℕ) → length xs ≤ i → slice_get xs i ≡ None
+get_none [] i h = refl
+get_none (a ∷ xs) zero h = absurd (omega arith)
+get_none (a ∷ xs) (suc i) h = get_none xs i (omega arith)
+
+-- ---- new depots
+
+-- what is held for a new slot
+abbrev pub new_holding : Entries → Holding
+new_holding tables = record {
+  archive = record { tables = tables; entries = [] };
+  framer = new_framing;
+}
+
+new_holds : (tables : Entries) → HoldsSlot tables (new_holding tables) new_slot
+new_holds tables = record {
+  under = tt;
+  archive = refl;
+  octets = All-nil (λ (x : ℕ). x < 2 ^ 8);
+  framer = record { fed = refl; out_of_sure = omega arith; held = refl };
+}
+
+pub new_stands : (tables : Entries) (n : ℕ)
+    → StandsFor (record { tables = tables; slots = replicate n (new_holding tables) }) (new_slots n)
+new_stands tables zero = tt
+new_stands tables (suc n) = (new_holds tables, new_stands tables n)
+
+pub new_under : (tables : Entries) (n : ℕ) → AreAllUnder tables (replicate n (new_holding tables))
+new_under tables zero = tt
+new_under tables (suc n) = (refl, new_under tables n)
+
+pub one_new : {A : Type 0} (n : ℕ) (x : A) → replicate n x ++ x ∷ [] ≡ replicate (n + 1) x
+one_new zero x = refl
+one_new (suc n) x =
+    ap (λ xs. x ∷ xs) (one_new n x)
+    ∙ ap (λ m. replicate m x) (let e : suc (n + 1) ≡ suc n + 1 = omega arith in e)
+
+-- ---- runs
+
+-- the first so many steps were done
+pub record RunSoFar (old new : DepotView) (steps : List Step)
+    (answers : List (Result Answer StepFault)) (i : ℕ) : Type 0 where
+  pub tables : new.tables ≡ old.tables
+  pub count : length answers ≡ i
+  pub run : (slots : List Slot) → StandsFor old slots → Run old.tables (take i steps) answers slots
+  pub stands : (slots : List Slot) → StandsFor old slots
+      → StandsFor new (after_all old.tables (take i steps) answers slots)
+
+pub none_run : (d : DepotView) (steps : List Step) → RunSoFar d d steps [] 0
+none_run d steps = record { tables = refl; count = refl; run = λ slots z. tt; stands = λ slots z. z }
+
+take_more : (xs : List Step) (i : ℕ) (x : Step) → i < length xs → x ≡ get_or xs i x
+    → take (i + 1) xs ≡ take i xs ++ x ∷ []
+take_more [] i x h e = absurd (omega arith)
+take_more (y ∷ xs) zero x h e = ap (λ z. z ∷ []) (sym e)
+take_more (y ∷ xs) (suc i) x h e =
+    ap (λ n. take n (y ∷ xs)) (let e : suc i + 1 ≡ suc (i + 1) = omega arith in e)
+    ∙ ap (λ ys. y ∷ ys) (take_more xs i x (omega arith) e)
+
+length-take-all : (xs : List Step) (i : ℕ) → i ≤ length xs → length (take i xs) ≡ i
+length-take-all xs zero h = refl
+length-take-all [] (suc i) h = absurd (omega arith)
+length-take-all (x ∷ xs) (suc i) h = ap suc (length-take-all xs i (omega arith))
+
+pub one_run : (old new next : DepotView) (steps : List Step) (answers : List (Result Answer StepFault))
+    (i : ℕ) (step : Step) (answer : Result Answer StepFault) → i < length steps
+    → step ≡ get_or steps i step → RunSoFar old new steps answers i
+    → StepDoes new next step answer → RunSoFar old next steps (answers ++ answer ∷ []) (i + 1)
+one_run old new next steps answers i step answer h is s does =
+    let t = old.tables in
+    let more = take_more steps i step h is in
+    let counted = s.count in
+    let long : length (take i steps) ≡ length answers =
+    length-take-all steps i (omega (arith, h)) ∙ sym counted in
+    let turn : (slots : List Slot) → _ = λ slots. runs_join t (take i steps) (step ∷ []) answers (answer ∷ []) slots long in
+    let one : (slots : List Slot) → StandsFor old slots
+    → IsAnswer t step (after_all t (take i steps) answers slots) answer = λ slots z.
+    subst (λ u. IsAnswer u step (after_all t (take i steps) answers slots) answer) s.tables
+    (does.answer (after_all t (take i steps) answers slots) (s.stands slots z)) in
+    let left : (slots : List Slot) → StandsFor old slots
+    → StandsFor next (after t step answer (after_all t (take i steps) answers slots)) = λ slots z.
+    subst (λ u. StandsFor next (after u step answer (after_all t (take i steps) answers slots))) s.tables
+    (does.slots (after_all t (take i steps) answers slots) (s.stands slots z)) in
+    record {
+      tables = does.tables ∙ s.tables;
+      count = length-append answers (answer ∷ []) ∙ ap (λ n. n + 1) counted;
+      run = λ slots z. subst (λ ss. Run t ss (answers ++ answer ∷ []) slots) (sym more)
+          ((turn slots).both (s.run slots z) (one slots z, tt));
+      stands = λ slots z. subst (λ ss. StandsFor next (after_all t ss (answers ++ answer ∷ []) slots)) (sym more)
+          (subst (StandsFor next) (sym (turn slots).left) (left slots z));
+    }

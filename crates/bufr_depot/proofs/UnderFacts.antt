@@ -1,0 +1,67 @@
+-- The reports that a stream tells are reports under the tables.
+use Rattle.std.proofs.Common.{◌≡◌, ℕ, zero, suc, ◌<◌, ◌^◌, Ok, Err, List, [], ◌∷◌, ◌++◌, length, take, drop, refl, sym, subst}
+use Rattle.std.specs.List.{AllByRecursion}
+use Rattle.std.proofs.lemmas.List.Elements.{All-take, All-drop}
+use Rattle.bufr_tables.specs.Entries.{Entries}
+use Rattle.bufr_frame.specs.declared.frames.Found.{Found}
+use Rattle.bufr_frame.specs.Streams.{cut}
+use Rattle.bufr_frame.specs.Cuts.{IsCut, IsFrameOf}
+use Rattle.bufr_message.specs.Messages.{message_of}
+use Rattle.bufr_message.specs.Reports.{IsUnder, ReportsSpeltAreUnder, reports_in, reports_read}
+use Rattle.bufr_message.specs.Laws.{MessagesReadAreSpelt}
+use Rattle.bufr_sections.specs.Sections.{AreOctets}
+use Rattle.bufr_archive.specs.ReportEntries.{AreUnder}
+use Rattle.bufr_depot.specs.Slots.{reports_among}
+use Rattle.bufr_depot.specs.Agreements.{ReportsToldAreUnder}
+
+-- all of two lists
+pub both : {A : Type 0} (P : A → Type 0) (xs ys : List A) → AllByRecursion P xs
+    → AllByRecursion P ys → AllByRecursion P (xs ++ ys)
+both P [] ys p q = q
+both P (x ∷ xs) ys p q = (p.0, both P xs ys p.1 q)
+
+-- all of the second of two
+pub second_of : {A : Type 0} (P : A → Type 0) (xs ys : List A) → AllByRecursion P (xs ++ ys)
+    → AllByRecursion P ys
+second_of P [] ys p = p
+second_of P (x ∷ xs) ys p = second_of P xs ys p.1
+
+-- all of the first of two
+pub first_of : {A : Type 0} (P : A → Type 0) (xs ys : List A) → AllByRecursion P (xs ++ ys)
+    → AllByRecursion P xs
+first_of P [] ys p = tt
+first_of P (x ∷ xs) ys p = (p.0, first_of P xs ys p.1)
+
+-- all of a front
+pub front_of : {A : Type 0} (P : A → Type 0) (n : ℕ) (xs : List A) → AllByRecursion P xs
+    → AllByRecursion P (take n xs)
+front_of P zero xs p = tt
+front_of P (suc n) [] p = tt
+front_of P (suc n) (x ∷ xs) p = (p.0, front_of P n xs p.1)
+
+under_frame : MessagesReadAreSpelt → ReportsSpeltAreUnder → (tables : Entries) (octets : List ℕ)
+    → AreOctets octets → AreUnder tables (reports_in tables octets)
+under_frame read under tables octets all =
+    elim (message_of tables octets) as (λ m. message_of tables octets ≡ m
+    → AllByRecursion (IsUnder tables) (reports_read m)) [
+      | Ok d ↦ λ e. under tables d.message octets d.slack_octets (read tables octets d all e)
+      | Err why ↦ λ e. tt
+    ] refl
+
+under_frames : MessagesReadAreSpelt → ReportsSpeltAreUnder → (tables : Entries)
+    (stream : List ℕ) → AreOctets stream → (frames : List Found)
+    → AllByRecursion (IsFrameOf stream) frames → AreUnder tables (reports_among tables frames)
+under_frames read under tables stream all [] each = tt
+under_frames read under tables stream all (f ∷ fs) each =
+    let octets : AreOctets f.bytes =
+    subst (λ (o : List ℕ). AreOctets o) (sym each.0.octets)
+    (All-take (λ (x : ℕ). x < 2 ^ 8) (length f.bytes) (drop f.place stream)
+    (All-drop (λ (x : ℕ). x < 2 ^ 8) f.place stream all)) in
+    both (IsUnder tables) (reports_in tables f.bytes) (reports_among tables fs)
+    (under_frame read under tables f.bytes octets)
+    (under_frames read under tables stream all fs each.1)
+
+pub told_under : ((stream : List ℕ) → IsCut stream (cut stream)) → MessagesReadAreSpelt
+    → ReportsSpeltAreUnder → ReportsToldAreUnder
+told_under is read under tables stream all =
+    under_frames read under tables stream all (cut stream) (is stream).each

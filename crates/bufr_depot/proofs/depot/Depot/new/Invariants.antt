@@ -1,0 +1,6 @@
+use Rattle.std.proofs.Common.{◌≡◌, replicate}
+use Rattle.bufr_depot.proofs.JoinFacts.{new_holding}
+use Rattle.bufr_depot.proofs.depot.Depot.new.Given as goal
+
+abbrev pub invariant-loop : goal.invariant-loop
+invariant-loop g l = l.held.items ≡ replicate l.counter (new_holding l.fn.tables)

@@ -1,0 +1,19 @@
+use Rattle.std.proofs.Common.{◌≡◌, ◌∙◌, ℕ, List, drop, ap, sym, subst}
+use Rattle.bufr_frame.specs.Streams.{cut, Stands}
+use Rattle.bufr_depot.specs.Holdings.{Holding}
+use Rattle.bufr_depot.specs.HeldSteps.{AddsFrames}
+use Rattle.bufr_depot.proofs.CountFacts.{frames_added}
+use Rattle.bufr_depot.proofs.intakes.Intake.end.Goals as goal
+
+pub returns-in-Ok-add_frames-clause-ends : goal.returns-in-Ok-add_frames-clause-ends
+returns-in-Ok-add_frames-clause-ends g c =
+    let v = c.self.view_is in (
+      c.settle.ensures.next ∙ c.in-Ok.ensures.next,
+      λ stream out st. (
+        c.in-Ok-add_frames.counts,
+        c.ended.ensures,
+        subst (λ (h : Holding). AddsFrames h.archive c.add_frames.new.archive (drop out (cut stream)) c.in-Ok-add_frames.counts) v
+            (frames_added c.self.inside.archive c.add_frames.new.archive c.found.result.now (drop out (cut stream)) c.in-Ok-add_frames.counts
+            c.in-Ok-add_frames.ensures.adds (c.found.ensures ∙ c.in-Ok.ensures.found stream out (subst (λ (h : Holding). Stands h.framer stream out) (sym v) st))),
+      ),
+    )

@@ -1,0 +1,151 @@
+-- The headline: archives that took in the same messages agree, whatever the route.
+use Rattle.std.specs.Prelude.{◌≡◌, ℕ, Some, Result, Ok, Err, List, [], ◌∷◌, ◌++◌, length, true}
+use Rattle.std.specs.List.{AllZip}
+use Rattle.bufr_tables.specs.Entries.{Entries}
+use Rattle.bufr_frame.specs.Streams.{sure}
+use Rattle.bufr_shelves.specs.Keeping.{Has, SameMembers}
+use Rattle.bufr_archive.specs.ReportEntries.{AreUnder, kept_of, text_of}
+use Rattle.bufr_archive.specs.ReportTexts.{told}
+use Rattle.bufr_sections.specs.Sections.{AreOctets}
+use Rattle.bufr_depot.specs.Slots.{spells, reports_among, all_told, frames_of, Slot, slot_at, new_slots}
+use Rattle.bufr_depot.specs.Runs.{after, Run, after_all}
+use Rattle.bufr_depot.specs.declared.steps.Step.{Step}
+use Rattle.bufr_depot.specs.declared.steps.Step.TheVariants.{Feed, End, Merge, Transfer, Copy}
+use Rattle.bufr_depot.specs.declared.steps.Answer.{Answer}
+use Rattle.bufr_depot.specs.declared.steps.StepFault.{StepFault}
+use Rattle.bufr_depot.specs.declared.steps.StepFault.TheVariants.{NoSlot, StreamTooLong, OutOfMemory}
+
+-- ---- the premises
+
+-- memory ran out
+abbrev pub IsOutOfMemory : Result Answer StepFault → Type 0
+IsOutOfMemory (Err (OutOfMemory k)) = Unit {0}
+IsOutOfMemory (Err (NoSlot i)) = ⊥
+IsOutOfMemory (Err StreamTooLong) = ⊥
+IsOutOfMemory (Ok answer) = ⊥
+
+-- this step comes next
+abbrev pub ComesNext : Step → List Step → Type 0
+ComesNext step [] = ⊥
+ComesNext step (next ∷ steps) = next ≡ step
+
+-- each step that was refused for want of memory was repeated at once
+abbrev pub AreRepeated : List Step → List (Result Answer StepFault) → Type 0
+AreRepeated (step ∷ steps) (answer ∷ answers) =
+    (IsOutOfMemory answer → ComesNext step steps) × AreRepeated steps answers
+AreRepeated [] answers = Unit {0}
+AreRepeated (step ∷ steps) [] = Unit {0}
+
+-- no stream is open in the slot
+abbrev pub IsClosed : List Slot → ℕ → Type 0
+IsClosed slots i = (s : Slot) → slot_at slots i ≡ Some s → s.open_stream ≡ []
+
+-- the slot from which a step joins has no open stream
+abbrev pub JoinsClosed : Step → List Slot → Type 0
+JoinsClosed (Feed i piece) slots = Unit {0}
+JoinsClosed (End i) slots = Unit {0}
+JoinsClosed (Merge from into) slots = IsClosed slots from
+JoinsClosed (Transfer from into) slots = IsClosed slots from
+JoinsClosed (Copy from into) slots = IsClosed slots from
+
+-- and so it is at each step
+abbrev pub AllJoinClosed : Entries → List Step → List (Result Answer StepFault) → List Slot
+    → Type 0
+AllJoinClosed tables (step ∷ steps) (answer ∷ answers) slots =
+    JoinsClosed step slots × AllJoinClosed tables steps answers (after tables step answer slots)
+AllJoinClosed tables [] answers slots = Unit {0}
+AllJoinClosed tables (step ∷ steps) [] slots = Unit {0}
+
+-- A run of a new depot of so many slots: each step that was refused for want of memory was repeated
+-- at once, and each join was from a slot with no open stream.
+pub record IsWholeRun (tables : Entries) (count : ℕ) (steps : List Step)
+    (answers : List (Result Answer StepFault)) : Type 0 where
+  pub run : Run tables steps answers (new_slots count)
+  pub repeated : AreRepeated steps answers
+  pub joins_closed : AllJoinClosed tables steps answers (new_slots count)
+
+-- such a run has this slot at its end, and its stream is not open
+pub record EndsRun (tables : Entries) (slot : Slot) : Type 0 where
+  pub count : ℕ
+  pub steps : List Step
+  pub answers : List (Result Answer StepFault)
+  pub whole : IsWholeRun tables count steps answers
+  pub number : ℕ
+  pub there : slot_at (after_all tables steps answers (new_slots count)) number ≡ Some slot
+  pub closed : slot.open_stream ≡ []
+
+-- the streams hold the same set of messages: each frame of the one that spells a message is a frame
+-- of the other, however often and wherever it stands
+pub record HoldSameMessages (tables : Entries) (a b : List (List ℕ)) : Type 0 where
+  pub first : (octets : List ℕ) → spells tables octets ≡ true
+      → Has (frames_of a) octets → Has (frames_of b) octets
+  pub second : (octets : List ℕ) → spells tables octets ≡ true
+      → Has (frames_of b) octets → Has (frames_of a) octets
+
+-- ---- the laws
+
+-- In such a run each slot has exactly the reports that its ended streams and the sure frames of its
+-- open one tell.
+abbrev pub TookExactly : Entries → Type 0
+TookExactly tables = (count : ℕ) (steps : List Step) (answers : List (Result Answer StepFault))
+    → IsWholeRun tables count steps answers → (i : ℕ) (slot : Slot)
+    → slot_at (after_all tables steps answers (new_slots count)) i ≡ Some slot
+    → SameMembers slot.reports
+    (all_told tables slot.ended ++ reports_among tables (sure slot.open_stream))
+
+-- What an archive keeps at the end of such a run is what is kept of all that its streams tell.
+abbrev pub KeepsWhatWasTold : Entries → Type 0
+KeepsWhatWasTold tables = (slot : Slot) → EndsRun tables slot
+    → kept_of tables slot.reports ≡ kept_of tables (all_told tables slot.ended)
+
+-- two archives hold the same reports and entries and write the same text, the stated text of what
+-- their ended streams tell
+pub record Agree (tables : Entries) (a b : Slot) : Type 0 where
+  pub reports : SameMembers a.reports b.reports
+  pub entries : kept_of tables a.reports ≡ kept_of tables b.reports
+  pub texts : text_of tables a.reports ≡ text_of tables b.reports
+  pub stated : text_of tables a.reports ≡ text_of tables (all_told tables a.ended)
+
+-- Whatever streams any archives take in under the same tables, cut into any pieces, in any order,
+-- with repeats, and through any merges, copies and transfers, of this depot or another: two whose
+-- ended streams hold the same set of messages agree.
+abbrev pub Converges : Entries → Type 0
+Converges tables = (a b : Slot) → EndsRun tables a → EndsRun tables b
+    → HoldSameMessages tables a.ended b.ended → Agree tables a b
+
+-- two slots have taken in the same
+pub record SameSlot (s t : Slot) : Type 0 where
+  pub reports : SameMembers s.reports t.reports
+  pub ended : s.ended ≡ t.ended
+  pub open_stream : s.open_stream ≡ t.open_stream
+
+-- A step that ran out of memory, done again, leaves what it would have left at once.
+abbrev pub RepeatCompletes : Entries → Type 0
+RepeatCompletes tables = (step : Step) (slots : List Slot) (k : ℕ) (a b : Answer)
+    → AllZip SameSlot (after tables step (Ok a) (after tables step (Err (OutOfMemory k)) slots))
+    (after tables step (Ok b) slots)
+
+-- A run of two lists of steps is a run of the one and then of the other, and leaves what these
+-- leave.
+pub record RunsInTurn (tables : Entries) (steps more : List Step)
+    (answers others : List (Result Answer StepFault)) (slots : List Slot) : Type 0 where
+  pub first : Run tables (steps ++ more) (answers ++ others) slots → Run tables steps answers slots
+  pub second : Run tables (steps ++ more) (answers ++ others) slots
+      → Run tables more others (after_all tables steps answers slots)
+  pub both : Run tables steps answers slots
+      → Run tables more others (after_all tables steps answers slots)
+      → Run tables (steps ++ more) (answers ++ others) slots
+  pub left : after_all tables (steps ++ more) (answers ++ others) slots
+      ≡ after_all tables more others (after_all tables steps answers slots)
+
+-- and so it is wherever a run is parted
+abbrev pub RunsJoin : Entries → Type 0
+RunsJoin tables = (steps more : List Step) (answers others : List (Result Answer StepFault))
+    (slots : List Slot) → length steps ≡ length answers
+    → RunsInTurn tables steps more answers others slots
+
+-- the reports that a stream of octets tells are reports under the tables: each has its canonical
+-- message
+abbrev pub ReportsToldAreUnder : Type 0
+ReportsToldAreUnder = (tables : Entries) (stream : List ℕ) → AreOctets stream
+    → AreUnder tables (told tables stream)

@@ -1,0 +1,121 @@
+//! Depots.
+ghost use Rattle.std.specs.Prelude.{◌≡◌, ◌<◌, List, length, slice_get, IfOk, OnErr, vec_len};
+ghost use Rattle.std.specs.Option.{option_map};
+ghost use Rattle.bufr_depot.specs.Slots.{Slot, new_slots};
+ghost use Rattle.bufr_depot.specs.Runs.{IsAnswer, after, Run, after_all};
+ghost use Rattle.bufr_depot.specs.Holdings.{StandsFor};
+ghost use Rattle.bufr_depot.specs.HeldSteps.{StepDoes};
+ghost use Rattle.bufr_depot.specs.declared.steps.Step.TheVariants.{Feed, End};
+
+use crate::intakes::Intake;
+use crate::laws::reports_told_are_under;
+use crate::steps::{Answer, Step, StepFault};
+use bufr_archive::{Archive, OutOfMemory, Shelf};
+use bufr_tables::Tables;
+use std::alloc::Global;
+use std::marker::Model;
+
+/// Archives under some tables, each of which takes in a stream.
+#[derive(Drop)]
+pub struct Depot<'t, S: Shelf> {
+    pub(crate) alloc: Global,
+    pub(crate) tables: &'t Tables,
+    pub(crate) slots: Vec<Intake<'t, S>>,
+}
+
+impl<'t, S: Shelf> Model for Depot<'t, S> {
+    ghost use Rattle.bufr_depot.specs.Holdings.{DepotView};
+    ghost use Rattle.bufr_depot.specs.HeldSteps.{AreAllUnder};
+
+    ghost Value = { DepotView };
+
+    ghost view = { λ d. record { tables = d.tables.now; slots = d.slots.items } };
+
+    ghost invariant = { λ d. AreAllUnder d.tables.now d.slots.items };
+}
+
+impl<'t, S: Shelf> Depot<'t, S> {
+    /// A depot of so many slots, whose archives have no reports and whose streams are empty. It can
+    /// only run out of memory.
+    pub fn new(alloc: Global, tables: &'t Tables, slots: usize) -> Result<Self, OutOfMemory>
+        ensures tables { IfOk result (λ depot. depot.tables ≡ tables.now) }
+        ensures slots { IfOk result (λ depot. StandsFor depot (new_slots slots)) }
+    {
+        let mut held = Vec::new(alloc);
+        for _ in 0..slots {
+            held.push(Intake::new(alloc, tables))?;
+        }
+        Ok(Depot {
+            alloc,
+            tables,
+            slots: held,
+        })
+    }
+
+    /// Does a step, and answers what it did. Messages that come whole with a piece are added at
+    /// once. A step that ran out of memory may be done again, and then leaves what it would have
+    /// left.
+    pub fn step(&mut self, step: &Step) -> Result<Answer, StepFault>
+        ensures tables { self.new.tables ≡ self.old.tables }
+        ensures answer { (slots : List Slot) → StandsFor self.old slots
+            → IsAnswer self.old.tables step.now slots result }
+        ensures slots { (slots : List Slot) → StandsFor self.old slots
+            → StandsFor self.new (after self.old.tables step.now result slots) }
+    {
+        match step {
+            Step::Feed { slot, piece } => self.feed(*slot, piece.as_slice()),
+            Step::End { slot } => self.end(*slot),
+            Step::Merge { from, into } => self.merge(*from, *into),
+            Step::Transfer { from, into } => self.transfer(*from, *into),
+            Step::Copy { from, into } => self.copy(*from, *into),
+        }
+    }
+
+    /// Does steps one after another, and answers what each did or why not. It can only run out of
+    /// memory for this list, which is made first: then no step was done.
+    pub fn run(&mut self, steps: &[Step]) -> Result<Vec<Result<Answer, StepFault>>, OutOfMemory>
+        ensures tables { self.new.tables ≡ self.old.tables }
+        ensures answers { IfOk result (λ answers. (slots : List Slot) → StandsFor self.old slots
+            → Run self.old.tables steps.now answers.items slots) }
+        ensures slots { IfOk result (λ answers. (slots : List Slot) → StandsFor self.old slots
+            → StandsFor self.new (after_all self.old.tables steps.now answers.items slots)) }
+        ensures err { OnErr result (self.new ≡ self.old) }
+    {
+        let mut answers = Vec::with_capacity(self.alloc, steps.len())?;
+        for step in steps {
+            answers.push_reserved(self.step(step));
+        }
+        Ok(answers)
+    }
+
+    /// The archive of a slot, if the slot is there.
+    pub fn archive(&self, slot: usize) -> Option<&Archive<'t, S>>
+        ensures { option_map (λ a. a.now) result
+            ≡ option_map (λ h. h.archive) (slice_get self.now.slots slot) }
+    {
+        let intake = self.slots.get(slot)?;
+        Some(&intake.archive)
+    }
+
+    /// Feeds a piece to the stream of a slot.
+    fn feed(&mut self, slot: usize, piece: &[u8]) -> Result<Answer, StepFault>
+        ensures { StepDoes self.old self.new (Feed slot piece.now) result }
+    {
+        reports_told_are_under();
+        if slot >= self.slots.len() {
+            return Err(StepFault::NoSlot(slot));
+        }
+        self.slots[slot].feed(piece)
+    }
+
+    /// Ends the stream of a slot.
+    fn end(&mut self, slot: usize) -> Result<Answer, StepFault>
+        ensures { StepDoes self.old self.new (End slot) result }
+    {
+        reports_told_are_under();
+        if slot >= self.slots.len() {
+            return Err(StepFault::NoSlot(slot));
+        }
+        self.slots[slot].end()
+    }
+}

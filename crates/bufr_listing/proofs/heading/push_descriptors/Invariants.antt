@@ -1,0 +1,7 @@
+use Rattle.std.proofs.Common.{◌≡◌, ◌++◌, ◌∷◌, take, string_bytes}
+use Rattle.std.specs.List.{flat_map}
+use Rattle.bufr_tables.specs.Descriptors.{six_digits}
+use Rattle.bufr_listing.proofs.heading.push_descriptors.Given as goal
+
+abbrev pub invariant-loop-fxy : goal.invariant-loop-fxy
+invariant-loop-fxy l = string_bytes l.text ≡ string_bytes l.initial.text ++ flat_map (λ d. 32 ∷ six_digits d) (take l.fxy-index l.descriptors)

@@ -1,0 +1,6 @@
+use Rattle.std.proofs.Common.{◌≡◌, true, take}
+use Rattle.bufr_message.specs.Messages.{can_be_alone}
+use Rattle.bufr_message.proofs.message_view.each_is_short.Given as goal
+
+abbrev pub invariant-loop-index : goal.invariant-loop-index
+invariant-loop-index l = can_be_alone l.descriptors (take l.index l.subsets) ≡ true

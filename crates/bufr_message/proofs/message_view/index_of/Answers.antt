@@ -1,0 +1,9 @@
+use Rattle.std.proofs.Common.{◌∙◌, sym, ap}
+use Rattle.bufr_bits.specs.Ends.{left}
+use Rattle.bufr_data.specs.Data.{subsets_in}
+use Rattle.bufr_message.proofs.message_view.index_of.Goals as goal
+
+pub returns-in-Ok-clause-stand : goal.returns-in-Ok-clause-stand
+returns-in-Ok-clause-stand c =
+    let front = ap left c.new-reader.ensures in
+    (c.args.template, c.args.count, _, ap (subsets_in c.args.template c.args.compressed c.args.count) (sym front) ∙ c.in-Ok.ensures.exact)

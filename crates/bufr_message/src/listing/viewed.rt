@@ -1,0 +1,36 @@
+//! The listing of a view, one subset at a time. The text of the heading, those of the subsets from
+//! the first on, and `end_text` are, one behind the other, the listing of the message.
+
+ghost use Rattle.std.specs.Prelude.{◌≡◌, ◌-◌, ◌≤◌, length, slice_get, Some, IfOk};
+ghost use Rattle.bufr_listing.specs.Listings.{heading_of, heading_lines};
+ghost use Rattle.bufr_message.specs.Views.{ListsSubset};
+
+use crate::message_view::View;
+use bufr_listing::{HeadingParts, heading_text, subset_text};
+use bufr_tables::OutOfMemory;
+use std::alloc::Global;
+
+/// The lines of the listing before its first subset.
+pub fn heading_of_view(alloc: Global, view: &View<'_>) -> Result<Vec<u8>, OutOfMemory>
+    ensures { IfOk result (λ text. text.items ≡ heading_lines (heading_of view.now.message)) }
+{
+    let parts = HeadingParts {
+        head: view.head(),
+        section2: view.section2(),
+        observed: view.observed(),
+        compressed: view.compressed(),
+        descriptors: view.descriptors(),
+    };
+    heading_text(alloc, &parts)
+}
+
+/// The lines of the subset of this number, from 1, which is built for them and let go.
+pub fn subset_of_view(alloc: Global, view: &View<'_>, number: usize) -> Result<Vec<u8>, OutOfMemory>
+    requires first { 1 ≤ number }
+    requires last { number ≤ length view.now.message.subsets }
+    ensures { IfOk result (λ text.
+        ListsSubset (slice_get view.now.message.subsets (number - 1)) text.items) }
+{
+    let subset = view.subset(alloc, number)?;
+    subset_text(alloc, &subset)
+}

@@ -1,0 +1,234 @@
+//! Messages whose reports are built one at a time.
+
+ghost use Rattle.std.specs.Prelude.{◌≡◌, ℕ, ◌-◌, ◌/◌, ◌≤◌, List, Bool, length, slice_get, Some, IfOk};
+ghost use Rattle.bufr_bits.specs.Bits.{bits};
+ghost use Rattle.bufr_tables.specs.Answers.{Gives, result_map};
+ghost use Rattle.bufr_data.specs.declared.field.Subset.{Subset};
+ghost use Rattle.bufr_data.specs.Data.{subsets_in};
+ghost use Rattle.bufr_sections.specs.SectionsRead.{envelope};
+ghost use Rattle.bufr_message.specs.Messages.{data_or, message_in, message_of, can_be_alone};
+ghost use Rattle.bufr_message.specs.Reports.{reports_of};
+ghost use Rattle.bufr_message.specs.Views.{StandIn};
+
+use crate::alone::{are_short, is_short};
+use crate::decoding::template_of;
+use crate::report::{Report, report_with};
+use bufr_bits::BitReader;
+use bufr_data::{ReadFault, Subset, SubsetIndex, data_hold_subsets};
+use bufr_expand::Template;
+use bufr_sections::{Envelope, Head, Refused, read_sections};
+use bufr_tables::{Failure, Fxy, Items, OutOfMemory, Tables};
+use std::alloc::Global;
+use std::marker::Model;
+
+/// A message that was read, none of whose subsets is built before it is asked for. It borrows the
+/// octets. Contracts see what `decode` answers.
+#[derive(Debug, Drop)]
+pub struct View<'a> {
+    head: Head,
+    section2: Option<Items<u8>>,
+    observed: bool,
+    compressed: bool,
+    descriptors: Items<Fxy>,
+    subsets: SubsetIndex<'a>,
+    slack_octets: u64,
+}
+
+impl<'a> Model for View<'a> {
+    ghost use Rattle.bufr_sections.specs.declared.message.Decoded.{Decoded};
+
+    ghost Value = { Decoded };
+
+    ghost view = { λ v. record {
+      message = record {
+        head = v.head;
+        section2 = v.section2;
+        observed = v.observed;
+        compressed = v.compressed;
+        descriptors = v.descriptors;
+        subsets = v.subsets;
+      };
+      slack_octets = v.slack_octets;
+    } };
+}
+
+impl<'a> View<'a> {
+    /// How many reports the message has, one a subset.
+    pub fn count(&self) -> usize
+        ensures { result ≡ length self.now.message.subsets }
+    {
+        self.subsets.count()
+    }
+
+    /// How many octets of section 4 stand after its data, as `Decoded` says it.
+    pub fn slack(&self) -> u64
+        ensures { result ≡ self.now.slack_octets }
+    {
+        self.slack_octets
+    }
+
+    /// Section 1.
+    pub fn head(&self) -> &Head
+        ensures { result.now ≡ self.now.message.head }
+    {
+        &self.head
+    }
+
+    /// The octets for local use of section 2, where there is one.
+    pub fn section2(&self) -> &Option<Items<u8>>
+        ensures { result.now ≡ self.now.message.section2 }
+    {
+        &self.section2
+    }
+
+    /// Whether the data are observed.
+    pub fn observed(&self) -> bool
+        ensures { result ≡ self.now.message.observed }
+    {
+        self.observed
+    }
+
+    /// Whether the data are compressed.
+    pub fn compressed(&self) -> bool
+        ensures { result ≡ self.now.message.compressed }
+    {
+        self.compressed
+    }
+
+    /// The descriptors of section 3.
+    pub fn descriptors(&self) -> &[Fxy]
+        ensures { result.now ≡ self.now.message.descriptors }
+    {
+        self.descriptors.as_slice()
+    }
+
+    /// The subset of this number, from 1, which is built anew. It can only run out of memory.
+    pub fn subset(&self, alloc: Global, number: usize) -> Result<Subset, OutOfMemory>
+        requires first { 1 ≤ number }
+        requires last { number ≤ length self.now.message.subsets }
+        ensures { IfOk result (λ s. slice_get self.now.message.subsets (number - 1) ≡ Some s) }
+    {
+        self.subsets.subset(alloc, number)
+    }
+
+    /// The report of this number, from 1, which is built anew. It can only run out of memory.
+    pub fn report(&self, alloc: Global, number: usize) -> Result<Report, OutOfMemory>
+        requires first { 1 ≤ number }
+        requires last { number ≤ length self.now.message.subsets }
+        ensures { IfOk result (λ r.
+            slice_get (reports_of self.now.message) (number - 1) ≡ Some r) }
+    {
+        let subset = self.subsets.subset(alloc, number)?;
+        report_with(alloc, &self.head, self.observed, &self.descriptors, subset)
+    }
+}
+
+/// The message that octets spell: the one clause from which `view` has its others.
+#[tactic(auto, unfolding(crate::specs::Messages::message_of))]
+pub(crate) fn view_of<'a>(
+    alloc: Global,
+    tables: &Tables,
+    octets: &'a [u8],
+) -> Result<View<'a>, Failure<Refused>>
+    ensures { Gives (λ d. d) result (message_of tables.now octets.now) }
+{
+    let sections = read_sections(alloc, octets)?;
+    view_in(alloc, tables, sections)
+}
+
+/// The message of sections.
+#[tactic(auto, unfolding(crate::specs::Messages::message_in))]
+fn view_in<'a>(
+    alloc: Global,
+    tables: &Tables,
+    sections: Envelope<'a>,
+) -> Result<View<'a>, Failure<Refused>>
+    ensures { Gives (λ d. d) result (message_in tables.now (envelope sections.entry)) }
+{
+    let Envelope {
+        head,
+        section2,
+        observed,
+        compressed,
+        descriptors,
+        count,
+        contents,
+    } = sections;
+    let template = template_of(alloc, tables, descriptors.as_slice())?;
+    let (subsets, slack_octets) = index_of(alloc, template, compressed, count, contents)?;
+    if !can_be_alone(
+        alloc,
+        descriptors.as_slice(),
+        compressed,
+        contents,
+        &subsets,
+    )? {
+        return Err(Failure::Fault(Refused::Data(ReadFault::TooLarge)));
+    }
+    Ok(View {
+        head,
+        section2,
+        observed,
+        compressed,
+        descriptors,
+        subsets,
+        slack_octets,
+    })
+}
+
+/// So many subsets at the front of the octets behind the fourth of section 4, and how many octets
+/// stand after their bits.
+fn index_of<'a>(
+    alloc: Global,
+    template: Template,
+    compressed: bool,
+    count: u16,
+    contents: &'a [u8],
+) -> Result<(SubsetIndex<'a>, u64), Failure<Refused>>
+    ensures exact { Gives {Y = List Subset × ℕ} (λ x. (x.0, x.1)) result
+        (data_or (result_map (λ found. (found.0, length found.1 / 8))
+        (subsets_in template compressed count (bits contents.now)))) }
+    ensures stand { IfOk result (λ x. StandIn contents.now compressed x.0) }
+{
+    let mut reader = BitReader::new(contents);
+    match SubsetIndex::index(alloc, template, compressed, &mut reader, count) {
+        Ok(subsets) => Ok((subsets, (reader.left() / 8) as u64)),
+        Err(failure) => Err(failure.map(Refused::Data)),
+    }
+}
+
+/// Whether each of the subsets, which stand at the front of these octets, can be said alone. They
+/// are built one by one only where the octets are so many that one of them could be too long.
+fn can_be_alone(
+    alloc: Global,
+    descriptors: &[Fxy],
+    compressed: bool,
+    contents: &[u8],
+    subsets: &SubsetIndex,
+) -> Result<bool, OutOfMemory>
+    requires { StandIn contents.now compressed subsets.now }
+    ensures { IfOk result (λ b. b ≡ can_be_alone descriptors.now subsets.now) }
+{
+    data_hold_subsets();
+    if are_short(descriptors.len(), contents.len()) {
+        return Ok(true);
+    }
+    each_is_short(alloc, descriptors, subsets)
+}
+
+/// The same, subset by subset.
+fn each_is_short(
+    alloc: Global,
+    descriptors: &[Fxy],
+    subsets: &SubsetIndex,
+) -> Result<bool, OutOfMemory>
+    ensures { IfOk result (λ b. b ≡ can_be_alone descriptors.now subsets.now) }
+{
+    for index in 0..subsets.count() {
+        let subset = subsets.subset(alloc, index + 1)?;
+        if !is_short(descriptors, &subset) {
+            return Ok(false);
+        }
+    }
+    Ok(true)
+}

@@ -1,0 +1,124 @@
+-- What `encode` answers and does.
+use Rattle.std.specs.Prelude.{◌≡◌, ℕ, ◌+◌, Bool, ◌||◌, List, [], ◌∷◌, ◌++◌, length, map}
+use Rattle.std.specs.Prelude.{Result, Ok, Err}
+use Rattle.std.specs.List.{flat_map}
+use Rattle.bufr_bits.specs.Devices.{Reading, Writing}
+use Rattle.bufr_tables.specs.Entries.{Entries}
+use Rattle.bufr_message.specs.Encodings.{code}
+use Rattle.bufr_message.specs.declared.EncodeFault.{EncodeFault}
+use Rattle.bufr_message.specs.declared.Message.{Message}
+use Rattle.bufr_listing.specs.Reading.{messages_listed}
+use Rattle.bufr_listing.specs.declared.ListingFault.{ListingFault}
+use Rattle.bufr_engines.specs.declared.fault.Input.TheVariants.{Number}
+use Rattle.bufr_engines.specs.declared.fault.Tally.{Tally}
+use Rattle.bufr_engines.specs.declared.fault.ToolFault.{ToolFault}
+use Rattle.bufr_engines.specs.declared.fault.ToolFault.TheVariants as faults
+use Rattle.bufr_engines.specs.Engines.{WasReadOut, HasFailed, IsEndless, AreAllOf, WritesAll}
+use Rattle.bufr_engines.specs.Engines.{FailsAfter}
+
+-- ---- messages
+
+-- a message as it is asked for: compressed too where that is asked
+abbrev pub as_asked : Bool → Message → Message
+as_asked compressed m = record m { compressed = m.compressed || compressed }
+
+-- the octets of a message as it is asked for, or its first fault
+abbrev pub code_as_asked : Entries → Bool → Message → Result (List ℕ) EncodeFault
+code_as_asked tables compressed m = code tables (as_asked compressed m)
+
+-- octets are the encodings of messages, one behind another
+pub record AreEncodings (tables : Entries) (compressed : Bool) (messages : List Message)
+    (octets : List ℕ) : Type 0 where
+  pub codes : List (List ℕ)
+  pub each : map (code_as_asked tables compressed) messages ≡ map Ok codes
+  pub joined : octets ≡ flat_map (λ c. c) codes
+
+-- of messages that of this number, counted from 1, is the first that has no encoding, and this is
+-- its fault
+pub record IsFirstFault (tables : Entries) (compressed : Bool) (messages : List Message)
+    (number : ℕ) (fault : EncodeFault) : Type 0 where
+  pub before : List Message
+  pub message : Message
+  pub after : List Message
+  pub parted : messages ≡ before ++ message ∷ after
+  pub counted : number ≡ length before + 1
+  pub octets : List ℕ
+  pub encoded : AreEncodings tables compressed before octets
+  pub refused : code_as_asked tables compressed message ≡ Err fault
+
+-- ---- the engine
+
+-- the reader was read to its end, and its octets list these messages
+pub record ListsMessages (tables : Entries) (reader reader' : Reading) (messages : List Message)
+    : Type 0 where
+  pub ended : WasReadOut reader'
+  pub text : List ℕ
+  pub all : AreAllOf reader text
+  pub listed : messages_listed tables text ≡ Ok messages
+
+-- the reader was read to its end, and this is the first fault of its octets as a listing
+pub record HasListingFault (tables : Entries) (reader reader' : Reading) (fault : ListingFault)
+    : Type 0 where
+  pub ended : WasReadOut reader'
+  pub text : List ℕ
+  pub all : AreAllOf reader text
+  pub refused : messages_listed tables text ≡ Err fault
+
+-- what is counted of so many messages that were written
+abbrev pub tally_written : ℕ → Tally
+tally_written count = record { frames = count; refused = 0; skipped = 0; reports = 0 }
+
+-- What `run_encode` answers and does, from a reader and a writer that work to what they leave of
+-- them. Without a fault: the whole listing was read, and the encodings of its messages were
+-- written, one behind another. A fault of the listing comes before that of a message, and the
+-- first of either is told. Where the writer failed: a front, so many octets long, of these
+-- encodings. On every other fault nothing was written.
+abbrev pub Encodes : Bool → Entries → ℕ → Reading → Reading → Writing → Writing
+    → Result Tally ToolFault → Type 0
+Encodes compressed tables reads reader reader' writer writer' (Ok tally) =
+    (messages : List Message) × ListsMessages tables reader reader' messages
+    × (octets : List ℕ) × AreEncodings tables compressed messages octets
+    × WritesAll writer writer' octets × (tally ≡ tally_written (length messages))
+Encodes compressed tables reads reader reader' writer writer' (Err (faults.WriteFailed written)) =
+    (messages : List Message) × ListsMessages tables reader reader' messages
+    × (octets : List ℕ) × AreEncodings tables compressed messages octets
+    × FailsAfter written writer writer' octets
+Encodes compressed tables reads reader reader' writer writer' (Err (faults.Listing why)) =
+    HasListingFault tables reader reader' why × (writer' ≡ writer)
+Encodes compressed tables reads reader reader' writer writer' (Err (faults.Encode number why)) =
+    (messages : List Message) × ListsMessages tables reader reader' messages
+    × IsFirstFault tables compressed messages number why × (writer' ≡ writer)
+Encodes compressed tables reads reader reader' writer writer' (Err (faults.ReadFailed source)) =
+    (source ≡ Number 1) × HasFailed reader' × (writer' ≡ writer)
+Encodes compressed tables reads reader reader' writer writer' (Err (faults.EndlessInput source)) =
+    (source ≡ Number 1) × IsEndless reads reader' × (writer' ≡ writer)
+Encodes compressed tables reads reader reader' writer writer' (Err faults.OutOfMemory) =
+    writer' ≡ writer
+Encodes compressed tables reads reader reader' writer writer' (Err fault) = ⊥
+
+-- ---- message by message
+
+-- the encoding of a message of this number was added to octets, or why it has none
+abbrev pub AddsEncoding : Entries → Bool → ℕ → Message → List ℕ → List ℕ
+    → Result (Unit {0}) ToolFault → Type 0
+AddsEncoding tables compressed number m octets octets' (Ok done) =
+    (more : List ℕ) × (code_as_asked tables compressed m ≡ Ok more) × (octets' ≡ octets ++ more)
+AddsEncoding tables compressed number m octets octets' (Err (faults.Encode which why)) =
+    (which ≡ number) × (code_as_asked tables compressed m ≡ Err why)
+AddsEncoding tables compressed number m octets octets' (Err faults.OutOfMemory) = Unit {0}
+AddsEncoding tables compressed number m octets octets' (Err fault) = ⊥
+
+-- the encodings of messages, or the first fault
+abbrev pub EncodesAll : Entries → Bool → List Message → Result (List ℕ) ToolFault → Type 0
+EncodesAll tables compressed messages (Ok octets) = AreEncodings tables compressed messages octets
+EncodesAll tables compressed messages (Err (faults.Encode number why)) =
+    IsFirstFault tables compressed messages number why
+EncodesAll tables compressed messages (Err faults.OutOfMemory) = Unit {0}
+EncodesAll tables compressed messages (Err fault) = ⊥
+
+-- the messages that a text lists, or its first fault
+abbrev pub ReadsListing : Entries → List ℕ → Result (List Message) ToolFault → Type 0
+ReadsListing tables text (Ok messages) = messages_listed tables text ≡ Ok messages
+ReadsListing tables text (Err (faults.Listing why)) = messages_listed tables text ≡ Err why
+ReadsListing tables text (Err faults.OutOfMemory) = Unit {0}
+ReadsListing tables text (Err fault) = ⊥

@@ -1,0 +1,204 @@
+//! The bits of subsets.
+
+ghost use Rattle.std.specs.Prelude.{◌≤◌};
+
+use crate::tests::samples::{is_refused, repeated, tables};
+use bufr_bits::{BitReader, BitSink};
+use bufr_data::{Columns, Raw, Subset, read_compressed, read_plain, write_compressed, write_plain};
+use bufr_expand::Template;
+use bufr_tables::{Fxy, Items, TableB, TableD};
+use std::alloc::Global;
+use std::process::Abort;
+use std::test::Fail;
+
+/// A delayed replication of a temperature, and then two characters.
+const DESCRIPTORS: [(u8, u8, u8); 4] = [(1, 1, 0), (0, 31, 1), (0, 12, 101), (2, 5, 2)];
+
+/// One subset: one temperature, 273.15 K, and `AB`.
+const PLAIN: &[u8] = b"\x01\x6A\xB3AB";
+
+/// Two subsets: 273.15 K and `AB`, 273.16 K and `CD`.
+const PACKED: &[u8] = b"\x01\x01\xAA\xCC\x21\x00\x00\x09\x05\x09\x0D\x10";
+
+/// The template of the descriptors.
+fn template(alloc: Global) -> Result<Template, Fail> {
+    let tables = tables(alloc)?;
+    let mut list = repeated!(Vec::with_capacity(alloc, 4))?;
+    for (f, x, y) in DESCRIPTORS {
+        let fxy = Fxy::new(f, x, y).ok_or("no descriptor")?;
+        list.push(fxy)?;
+    }
+    Ok(repeated!(Template::build(alloc, &tables, list.as_slice()))?)
+}
+
+/// Whether the fields of a subset are a count of 1, a temperature and a text.
+fn has_values(subset: &Subset, temperature: u64, text: &[u8]) -> bool {
+    let [count, number, characters] = subset.fields.as_slice() else {
+        return false;
+    };
+    match (&count.raw, &number.raw, &characters.raw) {
+        (Raw::Number(1), Raw::Number(raw), Raw::Text(octets)) => {
+            *raw == temperature && octets.as_slice() == text
+        }
+        _ => false,
+    }
+}
+
+/// The two subsets.
+fn pair(alloc: Global) -> Result<Items<Subset>, Fail> {
+    let template = template(alloc)?;
+    Ok(repeated!(read_compressed(alloc, &template, &mut BitReader::new(PACKED), 2))?)
+}
+
+#[test]
+fn tables_parsed(rt: HostRuntime) -> Result<(), Fail> {
+    let alloc = rt.alloc();
+    let b = repeated!(TableB::parse(alloc, crate::tests::samples::TABLE_B))?;
+    let d = repeated!(TableD::parse(alloc, crate::tests::samples::TABLE_D))?;
+    let once = bufr_tables::Tables::new(b, d);
+    assert!(rt; once.same(&tables(alloc)?));
+    let temperature = Fxy::new(0, 12, 101).ok_or("no descriptor")?;
+    let found = once.element(temperature).ok_or("no element")?;
+    assert_eq!(rt; (found.scale, found.reference, found.width), (2, 0, 16));
+    Ok(())
+}
+
+#[test]
+fn templates_built(rt: HostRuntime) -> Result<(), Fail> {
+    assert_eq!(rt; template(rt.alloc())?.nodes(), 3);
+    Ok(())
+}
+
+#[test]
+fn plain_subsets_read(rt: HostRuntime) -> Result<(), Fail> {
+    let alloc = rt.alloc();
+    let template = template(alloc)?;
+    let mut reader = BitReader::new(PLAIN);
+    let mut answer = read_plain(alloc, &template, &mut reader, 5);
+    if is_refused(&answer) {
+        assert_eq!(rt; reader.place(), 0);
+        answer = read_plain(alloc, &template, &mut reader, 5);
+    }
+    let (subset, items) = answer?;
+    assert!(rt; has_values(&subset, 27315, b"AB".as_slice()));
+    assert_eq!(rt; items, 9);
+    assert_eq!(rt; reader.place(), 40);
+    Ok(())
+}
+
+#[test]
+fn compressed_subsets_read(rt: HostRuntime) -> Result<(), Fail> {
+    let alloc = rt.alloc();
+    let template = template(alloc)?;
+    let mut reader = BitReader::new(PACKED);
+    let mut answer = read_compressed(alloc, &template, &mut reader, 2);
+    if is_refused(&answer) {
+        assert_eq!(rt; reader.place(), 0);
+        answer = read_compressed(alloc, &template, &mut reader, 2);
+    }
+    let subsets = answer?;
+    assert_eq!(rt; reader.place(), 94);
+    let [first, second] = subsets.as_slice() else {
+        return Err("two subsets".into());
+    };
+    assert!(rt; has_values(first, 27315, b"AB".as_slice()));
+    assert!(rt; has_values(second, 27316, b"CD".as_slice()));
+    Ok(())
+}
+
+/// The two subsets of indexed columns, the second first.
+fn assert_taken_out(rt: &impl Abort, alloc: Global, columns: &Columns) -> Result<(), Fail>
+    requires two { 2 ≤ columns.now.subsets }
+{
+    let second = repeated!(columns.subset(alloc, 2))?;
+    let first = repeated!(columns.subset(alloc, 1))?;
+    assert!(rt; has_values(&first, 27315, b"AB".as_slice()));
+    assert!(rt; has_values(&second, 27316, b"CD".as_slice()));
+    Ok(())
+}
+
+#[test]
+fn columns_indexed_and_taken_out(rt: HostRuntime) -> Result<(), Fail> {
+    let alloc = rt.alloc();
+    let template = template(alloc)?;
+    let mut reader = BitReader::new(PACKED);
+    if let Ok(columns) = Columns::index(alloc, &template, &mut reader, 2) {
+        assert_eq!(rt; reader.place(), 94);
+        return assert_taken_out(&rt, alloc, &columns);
+    }
+    assert_eq!(rt; reader.place(), 0);
+    let columns = Columns::index(alloc, &template, &mut reader, 2)?;
+    assert_eq!(rt; reader.place(), 94);
+    assert_taken_out(&rt, alloc, &columns)
+}
+
+/// A sink that has one octet.
+fn begun(alloc: Global) -> Result<BitSink, Fail> {
+    let mut sink = BitSink::new(alloc);
+    repeated!(sink.put(8, 0xEE))?;
+    Ok(sink)
+}
+
+/// The octets of a sink, the last filled with zero bits.
+fn octets_of(mut sink: BitSink) -> Vec<u8> {
+    sink.fill_octet();
+    sink.into_bytes()
+}
+
+#[test]
+fn plain_subsets_written(rt: HostRuntime) -> Result<(), Fail> {
+    let alloc = rt.alloc();
+    let template = template(alloc)?;
+    let subsets = pair(alloc)?;
+    let mut sink = begun(alloc)?;
+    let mut answer = write_plain(alloc, &template, subsets.as_slice(), &mut sink);
+    if is_refused(&answer) {
+        assert_eq!(rt; sink.len_bits(), 8);
+        answer = write_plain(alloc, &template, subsets.as_slice(), &mut sink);
+    }
+    answer?;
+    assert_eq!(rt;
+        octets_of(sink).as_slice(),
+        b"\xEE\x01\x6A\xB3AB\x01\x6A\xB4CD".as_slice()
+    );
+    Ok(())
+}
+
+#[test]
+fn compressed_subsets_written(rt: HostRuntime) -> Result<(), Fail> {
+    let alloc = rt.alloc();
+    let template = template(alloc)?;
+    let subsets = pair(alloc)?;
+    let mut sink = begun(alloc)?;
+    let mut answer = write_compressed(alloc, &template, subsets.as_slice(), &mut sink);
+    if is_refused(&answer) {
+        assert_eq!(rt; sink.len_bits(), 8);
+        answer = write_compressed(alloc, &template, subsets.as_slice(), &mut sink);
+    }
+    answer?;
+    let written = octets_of(sink);
+    assert_eq!(rt; written.as_slice().get(1..), Some(PACKED));
+    Ok(())
+}
+
+#[test]
+fn bits_put_and_taken(rt: HostRuntime) -> Result<(), Fail> {
+    let alloc = rt.alloc();
+    let mut sink = begun(alloc)?;
+    let mut answer = sink.put_bytes(b"0123456789ABCDEF".as_slice());
+    if is_refused(&answer) {
+        assert_eq!(rt; sink.len_bits(), 8);
+        answer = sink.put_bytes(b"0123456789ABCDEF".as_slice());
+    }
+    answer?;
+    let written = octets_of(sink);
+    let mut reader = BitReader::new(written.as_slice());
+    let mut taken = reader.take_bytes(alloc, 17);
+    if is_refused(&taken) {
+        assert_eq!(rt; reader.place(), 0);
+        taken = reader.take_bytes(alloc, 17);
+    }
+    let octets = taken?.ok_or("too few bits")?;
+    assert_eq!(rt; octets.as_slice(), b"\xEE0123456789ABCDEF".as_slice());
+    Ok(())
+}
