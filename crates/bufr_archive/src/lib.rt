@@ -25,3 +25,6 @@ pub use bufr_shelves::{
 };
 pub use reading::NotAnArchive;
 pub use report_entry::{entry_of, key_of};
+
+#[cfg(test)]
+mod tests;

@@ -1,0 +1,236 @@
+//! Archives written and read back.
+ghost use Rattle.std.specs.Prelude.{◌≡◌, IfOk};
+
+use super::samples::*;
+use super::*;
+use bufr_tables::Failure;
+use std::alloc::Global;
+use std::io;
+use std::io::{ErrorKind, Write};
+use std::process::Abort;
+use std::test::Fail;
+
+// A writer that takes so many octets, one in a write, and then fails.
+struct Breaks {
+    left: usize,
+    taken: Vec<u8>,
+}
+
+impl Write for Breaks {
+    fn write(&mut self, piece: &[u8]) -> io::Result<usize> {
+        let [first, ..] = piece else {
+            return Ok(0);
+        };
+        if self.left == 0 || self.taken.push(*first).is_err() {
+            return Err(io::Error::from(ErrorKind::Other));
+        }
+        self.left -= 1;
+        Ok(1)
+    }
+
+    fn flush(&mut self) -> io::Result<()> {
+        Ok(())
+    }
+}
+
+// What is written of an archive to a writer that takes so many octets is the front of its text.
+fn write_some<S: Shelf>(
+    rt: &impl Abort,
+    alloc: Global,
+    archive: &Archive<S>,
+    text: &[u8],
+    left: usize,
+) {
+    let mut sink = IntoWrite::new(Breaks {
+        left,
+        taken: Vec::new(alloc),
+    });
+    let answer = archive.write(&mut sink);
+    let Breaks { left: _, taken } = sink.into_inner();
+    if left < text.len() {
+        assert_eq!(rt;
+            answer,
+            Err(WriteFault {
+                written: left as u128
+            })
+        );
+    } else {
+        assert_eq!(rt; answer, Ok(()));
+    }
+    assert_eq!(rt; taken.len(), left.min(text.len()));
+    assert!(rt; text.starts_with(taken.as_slice()), "{left}");
+}
+
+fn write_until_it_fails<S: Shelf>(rt: &impl Abort, alloc: Global) -> Result<(), Fail> {
+    let tables = tables(alloc)?;
+    let reports = [(300, 0), (384, 2), (1005, 0)];
+    let mut archive: Archive<S> = Archive::new(alloc, &tables);
+    add_reports(rt, alloc, &mut archive, &reports, 3)?;
+    let text = joined(alloc, &reports)?;
+    assert_eq!(rt; text.len(), 186);
+    for left in 0..189usize {
+        write_some(rt, alloc, &archive, text.as_slice(), left);
+    }
+    Ok(())
+}
+
+#[test]
+fn failing_writer(rt: HostRuntime) -> Result<(), Fail> {
+    write_until_it_fails::<MapShelf>(&rt, rt.alloc())?;
+    write_until_it_fails::<SortedShelf>(&rt, rt.alloc())
+}
+
+// Where octets break, if they are no archive's text.
+fn breaks_at<S: Shelf>(alloc: Global, tables: &Tables, octets: &[u8]) -> Option<u64> {
+    match Archive::<S>::read(alloc, tables, octets) {
+        Err(Failure::Fault(NotAnArchive { place })) => Some(place),
+        _ => None,
+    }
+}
+
+fn refused_at<S: Shelf>(
+    rt: &impl Abort,
+    alloc: Global,
+    messages: [&str; 3],
+    place: u64,
+) -> Result<(), Fail> {
+    let tables = tables(alloc)?;
+    let mut text = Vec::new(alloc);
+    for message in &messages {
+        text.extend_from_slice(octets(alloc, message)?.as_slice())?;
+    }
+    let found = breaks_at::<S>(alloc, &tables, text.as_slice());
+    assert_eq!(rt; found, Some(place), "{messages:?}");
+    Ok(())
+}
+
+fn refuse<S: Shelf>(rt: &impl Abort, alloc: Global) -> Result<(), Fail> {
+    refused_at::<S>(rt, alloc, [MONTH_13, UPDATED, ""], 62)?;
+    refused_at::<S>(rt, alloc, [ROW_1, UPDATED, ""], 62)?;
+    refused_at::<S>(rt, alloc, [ROW_1, MONTH_13, MONTH_13], 124)?;
+    refused_at::<S>(rt, alloc, [OTHER_SUB_CENTRE, ROW_1, ""], 62)?;
+    refused_at::<S>(rt, alloc, [ROW_1, "00", MONTH_13], 62)?;
+    refused_at::<S>(rt, alloc, [ROW_1, EDITION_5, ""], 62)
+}
+
+// A message that is not canonical is no entry: compressed, of two subsets, with octets for local
+// use, or with an octet after its data.
+fn refuse_not_canonical<S: Shelf>(rt: &impl Abort, alloc: Global) -> Result<(), Fail> {
+    refused_at::<S>(rt, alloc, [COMPRESSED_PAIR, "", ""], 0)?;
+    refused_at::<S>(rt, alloc, [PAIR_OF_STATIONS, "", ""], 0)?;
+    refused_at::<S>(rt, alloc, [WITH_LOCAL_OCTETS, "", ""], 0)?;
+    refused_at::<S>(rt, alloc, [WITH_SLACK, "", ""], 0)?;
+    refused_at::<S>(rt, alloc, [ROW_1, WITH_SLACK, ""], 62)
+}
+
+#[test]
+fn not_canonical(rt: HostRuntime) -> Result<(), Fail> {
+    refuse_not_canonical::<MapShelf>(&rt, rt.alloc())?;
+    refuse_not_canonical::<SortedShelf>(&rt, rt.alloc())
+}
+
+// Whole entries are read, and a part of one is refused at its start.
+fn read_each_front<S: Shelf>(rt: &impl Abort, alloc: Global) -> Result<(), Fail> {
+    let tables = tables(alloc)?;
+    let text = joined(alloc, &[(300, 9), (384, 0), (1005, 0), (1007, 0)])?;
+    assert_eq!(rt; text.len(), 248);
+    for count in 0..249usize {
+        let front = text.as_slice().get(..count).ok_or("a front")?;
+        if count % 62 == 0 {
+            let archive = Archive::<S>::read(alloc, &tables, front)?;
+            assert_text(rt, alloc, &archive, count / 62, front)?;
+        } else {
+            assert_eq!(rt;
+                breaks_at::<S>(alloc, &tables, front),
+                Some((count / 62 * 62) as u64)
+            );
+        }
+    }
+    refuse::<S>(rt, alloc)
+}
+
+#[test]
+fn archive_not_in_order(rt: HostRuntime) -> Result<(), Fail> {
+    read_each_front::<MapShelf>(&rt, rt.alloc())?;
+    read_each_front::<SortedShelf>(&rt, rt.alloc())
+}
+
+// What was read takes in more.
+fn read_and_add<S: Shelf>(rt: &impl Abort, alloc: Global) -> Result<(), Fail> {
+    let tables = tables(alloc)?;
+    let text = octets(alloc, ROW_1)?;
+    let mut archive: Archive<S> = Archive::read(alloc, &tables, text.as_slice())?;
+    add(rt, alloc, &mut archive, MONTH_13, added(1, 1))?;
+    add(rt, alloc, &mut archive, UPDATED, added(1, 1))?;
+    let all = format!(in alloc; "{UPDATED} {MONTH_13}")?;
+    assert_messages(rt, alloc, &archive, 2, all.as_str())
+}
+
+#[test]
+fn archives_from_before(rt: HostRuntime) -> Result<(), Fail> {
+    read_and_add::<MapShelf>(&rt, rt.alloc())?;
+    read_and_add::<SortedShelf>(&rt, rt.alloc())
+}
+
+// A thousand stations in no order, all with this update number.
+fn thousand_of(alloc: Global, update: u8) -> Result<Vec<(u16, u8)>, OutOfMemory> {
+    let mut reports = Vec::new(alloc);
+    for place in 0..1000u16 {
+        reports.push(((place as u32 * 389 % 1000) as u16, update))?;
+    }
+    Ok(reports)
+}
+
+// The text of a thousand stations, all with this update number.
+fn text_of_thousand(alloc: Global, update: u8) -> Result<Vec<u8>, OutOfMemory> {
+    let mut reports = Vec::new(alloc);
+    for number in 0..1000u16 {
+        reports.push((number, update))?;
+    }
+    joined(alloc, reports.as_slice())
+}
+
+// A thousand stations are added, written and read back.
+fn a_thousand<S: Shelf>(rt: &impl Abort, alloc: Global) -> Result<(), Fail> {
+    let tables = tables(alloc)?;
+    let text = text_of_thousand(alloc, 1)?;
+    assert_eq!(rt; text.len(), 62000);
+    let reports = thousand_of(alloc, 1)?;
+    let mut archive: Archive<S> = Archive::new(alloc, &tables);
+    add_reports(rt, alloc, &mut archive, reports.as_slice(), 1000)?;
+    assert_text(rt, alloc, &archive, 1000, text.as_slice())?;
+    let read: Archive<S> = Archive::read(alloc, &tables, text.as_slice())?;
+    assert_text(rt, alloc, &read, 1000, text.as_slice())
+}
+
+// The archive of a text under tables.
+fn read_text<'t, S: Shelf>(
+    alloc: Global,
+    tables: &'t Tables,
+    text: &[u8],
+) -> Result<Archive<'t, S>, Fail>
+    ensures { IfOk result (λ a. a.tables ≡ tables.now) }
+{
+    let archive = Archive::read(alloc, tables, text)?;
+    Ok(archive)
+}
+
+// A thousand stations are merged into as many with smaller update numbers.
+fn merge_a_thousand<S: Shelf>(rt: &impl Abort, alloc: Global) -> Result<(), Fail> {
+    let tables = tables(alloc)?;
+    let text = text_of_thousand(alloc, 1)?;
+    let before = text_of_thousand(alloc, 0)?;
+    let updates: Archive<S> = read_text(alloc, &tables, text.as_slice())?;
+    let mut archive: Archive<S> = read_text(alloc, &tables, before.as_slice())?;
+    archive.merge(&updates)?;
+    assert_text(rt, alloc, &archive, 1000, text.as_slice())?;
+    assert_text(rt, alloc, &archive.copy()?, 1000, text.as_slice())
+}
+
+#[test]
+fn thousand_reports(rt: HostRuntime) -> Result<(), Fail> {
+    a_thousand::<MapShelf>(&rt, rt.alloc())?;
+    a_thousand::<SortedShelf>(&rt, rt.alloc())?;
+    merge_a_thousand::<MapShelf>(&rt, rt.alloc())?;
+    merge_a_thousand::<SortedShelf>(&rt, rt.alloc())
+}
