@@ -1,4 +1,4 @@
--- Entries' octets as frames, for the law that texts are cut apart.
+-- Entries' octets as frames, for `laws::texts_are_cut_apart`.
 use Rattle.std.proofs.Common.{◌≡◌, ℕ, zero, suc, ◌+◌, ◌≤◌, Option, Some, List, [], ◌∷◌, ◌++◌, length, take, refl, sym, ap, subst, ◌∙◌}
 use Rattle.std.specs.Prelude.{map}
 use Rattle.std.specs.List.{AllByRecursion, flat_map}

@@ -1,6 +1,7 @@
--- The entries of reports: for the law that they keep the laws of entries.
-use Rattle.std.proofs.Common.{◌≡◌, ℕ, ◌+◌, ◌-◌, ◌*◌, ◌/◌, ◌%◌, ◌^◌, ◌<◌, true, cond, List, [], ◌∷◌, ◌++◌, length, take, drop, Option, Some, None, Result, Ok, Err, refl, sym, ap, subst, ◌∙◌, arith, length-append}
-use Rattle.std.specs.Prelude.{codes, bytes_eq}
+-- The entries of reports: for `laws::reports_are_entries`.
+use Rattle.std.proofs.Common.{◌≡◌, ℕ, ◌+◌, ◌-◌, ◌*◌, ◌/◌, ◌%◌, ◌^◌, ◌<◌, true, cond, List, [], ◌∷◌, ◌++◌, length, take, drop, Option, Some, None, Result, Ok, Err, refl, sym, ap, subst, ◌∙◌, arith, length-append, get_or}
+use Rattle.std.specs.Prelude.{codes, bytes_eq, option_map, slice_get}
+use Rattle.std.proofs.lemmas.Option.{slice_get-map, get_or_from_slice_get}
 use Rattle.std.specs.Int.{bytes_high_first}
 use Rattle.std.specs.List.{AllByRecursion}
 use Rattle.std.proofs.lemmas.List.{drop_at}
@@ -16,12 +17,13 @@ use Rattle.bufr_message.specs.declared.fault.EncodeFault.{EncodeFault}
 use Rattle.bufr_message.specs.declared.report.Report.{Report}
 use Rattle.bufr_message.specs.Encodings.{code}
 use Rattle.bufr_message.specs.Messages.{message_of}
+use Rattle.bufr_message.specs.OwnBits.{CanonicalIsOwn}
 use Rattle.bufr_message.specs.Laws.{MessagesReadAreSpelt, MessagesWrittenAreBare, NumbersFit}
 use Rattle.bufr_message.specs.Reports.{reports_of, reports_read, reports_in, alone, canonical, if_written, IsCanonical, IsUnder, CanonicalIsRead, ReportsSpeltAreUnder}
 use Rattle.bufr_shelves.specs.declared.entry.Entry.{Entry}
 use Rattle.bufr_sections.specs.Sections.{AreOctets}
 use Rattle.bufr_archive.specs.Texts.{◌>>=◌}
-use Rattle.bufr_archive.specs.ReportEntries.{entry_with, IsReportEntry, is_canonical, only_one, own_entry, entry_in}
+use Rattle.bufr_archive.specs.ReportEntries.{AreUnder, entry_of, entry_with, IsReportEntry, is_canonical, only_one, own_entry, entry_in, report_entries, spelt_entry, spelt_entries}
 use Rattle.bufr_archive.specs.ReportLaws.{ReportsAreEntries}
 use Rattle.bufr_archive.proofs.EntryFacts.{bind_some, tested_some}
 
@@ -146,3 +148,28 @@ reports_are_entries read_spelt bare reads under tables = record {
   own = λ octets e all h. (entry_takes read_spelt under tables octets e all h).1;
   frame = λ e is. canonical_is_frame bare tables is.report e.bytes is.canon;
 }
+
+-- ---- entries by what reports' own fields spell: for `Archive::add_message` and `Archive::read`
+
+-- the entry of a report under tables is the one that its own fields spell
+pub spelt_is_entry : CanonicalIsOwn → (tables : Entries) (r : Report) → IsUnder tables r
+    → spelt_entry r ≡ entry_of tables r
+spelt_is_entry own tables r u =
+    ap (option_map (entry_with r)) (own tables r u.0 u.1 ∙ sym u.1.written)
+
+-- so it is of each of some
+pub spelt_are_entries : CanonicalIsOwn → (tables : Entries) (rs : List Report) → AreUnder tables rs
+    → spelt_entries rs ≡ report_entries tables rs
+spelt_are_entries own tables [] u = refl
+spelt_are_entries own tables (r ∷ rs) u =
+    ap (λ e. e ∷ spelt_entries rs) (spelt_is_entry own tables r u.0)
+    ∙ ap (λ es. entry_of tables r ∷ es) (spelt_are_entries own tables rs u.1)
+
+-- the entry at an index is that of the report there, which is counted from 1
+pub spelt_at : (rs : List Report) (i : ℕ) (r : Report) → slice_get rs (i + 1 - 1) ≡ Some r
+    → spelt_entry r ≡ get_or (spelt_entries rs) i None
+spelt_at rs i r e =
+    let same : i + 1 - 1 ≡ i = omega arith in
+    let there = subst (λ k. slice_get rs k ≡ Some r) same e in
+    sym (get_or_from_slice_get (spelt_entries rs) i (spelt_entry r) None
+    (slice_get-map spelt_entry rs i ∙ ap (option_map spelt_entry) there))

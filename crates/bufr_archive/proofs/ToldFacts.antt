@@ -1,4 +1,5 @@
--- The reports that a stream tells are those of the messages that its frames spell.
+-- The reports that a stream tells are those of the messages that its frames spell: for
+-- `laws::told_are_of_messages`.
 use Rattle.std.proofs.Common.{◌≡◌, ◌⊎◌, inl, inr, ℕ, List, [], ◌∷◌, ◌++◌, length, take, drop, Result, Ok, Err, refl, sym, ap, subst}
 use Rattle.std.specs.List.{AllByRecursion, flat_map}
 use Rattle.std.proofs.lemmas.List.Elements.{All-take, All-drop}

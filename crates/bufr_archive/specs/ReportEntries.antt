@@ -7,6 +7,7 @@ use Rattle.bufr_keys.specs.declared.keys.KeyHead.{KeyHead}
 use Rattle.bufr_keys.specs.Keys.{key}
 use Rattle.bufr_message.specs.declared.report.Report.{Report}
 use Rattle.bufr_message.specs.declared.report.ReportHead.{ReportHead}
+use Rattle.bufr_message.specs.OwnBits.{spelt_alone}
 use Rattle.bufr_message.specs.Reports.{reports_in, canonical, IsCanonical, IsUnder}
 use Rattle.bufr_shelves.specs.declared.key.Key.{Key}
 use Rattle.bufr_shelves.specs.declared.entry.Entry.{Entry}
@@ -43,6 +44,15 @@ entry_of tables r = option_map (entry_with r) (canonical tables r)
 -- the entry of each of some reports
 abbrev pub report_entries : Entries → List Report → List (Option Entry)
 report_entries tables rs = map (entry_of tables) rs
+
+-- the entry of a report as its own fields spell it, with no tables asked: of a report under some
+-- tables it is that under them
+abbrev pub spelt_entry : Report → Option Entry
+spelt_entry r = option_map (entry_with r) (spelt_alone r)
+
+-- that of each of some
+abbrev pub spelt_entries : List Report → List (Option Entry)
+spelt_entries rs = map spelt_entry rs
 
 -- the entries of all reports of the message that octets spell
 abbrev pub entries_told : Entries → List ℕ → List (Option Entry)

@@ -49,4 +49,5 @@ TellOwn reports_in es = AllByRecursion (λ e. reports_in e.bytes ≡ Some e ∷ 
 -- a text told as a stream gives what it was written of
 abbrev pub TextsTell : Type 0
 TextsTell = (reports_in : List ℕ → List (Option Entry)) (es : List Entry) → AreFrames es
-    → TellOwn reports_in es → kept (entries_of (stream_entries reports_in (text (kept es)))) ≡ kept es
+    → TellOwn reports_in es
+    → kept (entries_of (stream_entries reports_in (text (kept es)))) ≡ kept es

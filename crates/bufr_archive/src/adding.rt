@@ -6,10 +6,11 @@ ghost use Rattle.bufr_archive.specs.Adding.{AddsMessage};
 
 use crate::archive::Archive;
 use crate::report_entry::MessageReports;
-use bufr_message::{Refused, decode, reports};
+use bufr_message::Refused;
 use bufr_shelves::{Entry, OutOfMemory, Shelf};
 use bufr_tables::Failure;
 use std::alloc::Global;
+use thiserror::Error;
 
 /// What a message brought: how many reports it has, and how many of them, added one by one, changed
 /// what is kept.
@@ -20,17 +21,20 @@ pub struct Added {
 }
 
 /// Memory ran out when the first `done` reports were joined, and no others.
-#[derive(Clone, Copy, Debug, Drop, PartialEq, Eq)]
+#[derive(Clone, Copy, Debug, Drop, Error, PartialEq, Eq)]
+#[error("out of memory, {done} reports joined")]
 pub struct RanOut {
     pub done: u128,
 }
 
 /// Why a message was not added, or not wholly.
-#[derive(Debug, Drop, PartialEq)]
+#[derive(Debug, Drop, Error, PartialEq)]
 pub enum AddFault {
     /// The octets spell no message, for this cause; nothing is changed.
+    #[error("{0}")]
     Refused(Refused),
     /// Memory ran out when the first `done` reports were joined, and no others.
+    #[error("out of memory, {done} reports joined")]
     OutOfMemory { done: u128 },
 }
 
@@ -50,24 +54,20 @@ pub trait ReportList {
 }
 
 impl<'t, S: Shelf> Archive<'t, S> {
-    /// Adds the reports of the message that octets spell, one after the other. Octets that spell
-    /// none are refused as `decode` refuses them, and nothing is changed. Where memory runs out,
-    /// the first `done` reports are joined; the call may be repeated.
+    /// Adds the reports of the message that octets spell, one after the other, of which one is held
+    /// at a time. Octets that spell none are refused as `decode` refuses them, and nothing is
+    /// changed. Where memory runs out, the first `done` reports are joined; the call may be
+    /// repeated.
     pub fn add_message(&mut self, octets: &[u8]) -> Result<Added, AddFault>
         ensures { AddsMessage self.old self.new octets.now result }
     {
         let _held = self.len();
-        let alloc = self.alloc;
-        let message = match decode(alloc, self.tables, octets) {
-            Ok(decoded) => decoded.message,
+        let reports = match MessageReports::of_octets(self.alloc, self.tables, octets) {
+            Ok(reports) => reports,
             Err(Failure::Fault(why)) => return Err(AddFault::Refused(why)),
             Err(Failure::OutOfMemory) => return Err(AddFault::OutOfMemory { done: 0 }),
         };
-        let Ok(reports) = reports(alloc, message) else {
-            return Err(AddFault::OutOfMemory { done: 0 });
-        };
-        let tables = self.tables;
-        match self.add_all(&MessageReports { tables, reports }) {
+        match self.add_all(&reports) {
             Ok(added) => Ok(added),
             Err(RanOut { done }) => Err(AddFault::OutOfMemory { done }),
         }

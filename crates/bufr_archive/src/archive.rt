@@ -11,6 +11,7 @@ use bufr_shelves::{JoinFault, Key, Octets, OutOfMemory, Shelf};
 use bufr_tables::Tables;
 use std::alloc::Global;
 use std::marker::Model;
+use thiserror::Error;
 
 /// Reports under some tables: of each key that of the greatest update sequence number, of equal
 /// ones that of the greatest octets, and each report without key once.
@@ -30,7 +31,8 @@ impl<'t, S: Shelf> Model for Archive<'t, S> {
 }
 
 /// A sink failed, once it had taken the first `written` octets of an archive's text.
-#[derive(Clone, Copy, Debug, Drop, PartialEq, Eq)]
+#[derive(Clone, Copy, Debug, Drop, Error, PartialEq, Eq)]
+#[error("write failed after {written} octets")]
 pub struct WriteFault {
     pub written: u128,
 }

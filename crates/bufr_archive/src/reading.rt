@@ -15,9 +15,11 @@ use crate::report_entry::entry_in;
 use bufr_shelves::{Key, Octets, OutOfMemory, Shelf, slot_order};
 use bufr_tables::{Failure, Tables};
 use std::alloc::Global;
+use thiserror::Error;
 
 /// The start of the first entry that is not right.
-#[derive(Clone, Copy, Debug, Drop, PartialEq, Eq)]
+#[derive(Clone, Copy, Debug, Drop, Error, PartialEq, Eq)]
+#[error("N1 NotAnArchive {place}")]
 pub struct NotAnArchive {
     pub place: u64,
 }

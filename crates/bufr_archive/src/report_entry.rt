@@ -1,14 +1,19 @@
 //! Reports as entries of an archive.
-ghost use Rattle.std.specs.Prelude.{◌≡◌, ◌<◌, IfOk, get_or, length};
+ghost use Rattle.std.specs.Prelude.{◌≡◌, ◌<◌, IfOk, IfSome, get_or, length};
 ghost use Rattle.std.specs.Option.{option_map};
-ghost use Rattle.bufr_archive.specs.ReportEntries.{key_head, key_of, entry_of, only_one, entry_in, report_entries};
-ghost use Rattle.bufr_message.specs.Reports.{reports_in};
+ghost use Rattle.bufr_tables.specs.Answers.{Gives};
+ghost use Rattle.bufr_archive.specs.ReportEntries.{key_head, key_of, entry_with, entry_of, spelt_entry, spelt_entries, only_one, entry_in, report_entries};
+ghost use Rattle.bufr_message.specs.Messages.{message_of};
+ghost use Rattle.bufr_message.specs.Reports.{reports_in, reports_of, IsUnder};
 ghost use Rattle.bufr_archive.specs.Reading.{read};
 
 use crate::adding::ReportList;
 use crate::reading::ReadEntry;
 use bufr_keys::{KeyHead, key_in};
-use bufr_message::{Report, ReportHead, canonical, decode, reports};
+use bufr_message::laws::{canonical_messages_are_own, reports_have_canonical_messages};
+use bufr_message::{
+    Refused, Report, ReportHead, View, canonical, canonical_of_read, decode, reports, view,
+};
 use bufr_shelves::{Entry, Key, Octets, OutOfMemory};
 use bufr_tables::{Failure, Tables};
 use std::alloc::{AllocError, Global};
@@ -39,6 +44,18 @@ pub fn key_of(alloc: Global, report: &Report) -> Result<Option<Key>, OutOfMemory
     )
 }
 
+/// The entry of a report with these octets: its key and its update sequence number. It can only run
+/// out of memory.
+fn entry_with(alloc: Global, report: &Report, octets: Vec<u8>) -> Result<Entry, OutOfMemory>
+    ensures { IfOk result (λ entry. entry ≡ entry_with report.now octets.items) }
+{
+    Ok(Entry {
+        key: key_of(alloc, report)?,
+        update: report.head.update,
+        bytes: Octets::new(octets),
+    })
+}
+
 /// The entry of a report under tables: its key, its update sequence number and its canonical
 /// message. `None` where it has none, which no report of a decoded message does. It can only run
 /// out of memory.
@@ -54,18 +71,27 @@ pub fn entry_of(
         Err(Failure::Fault(_)) => return Ok(None),
         Err(Failure::OutOfMemory) => return Err(AllocError),
     };
-    Ok(Some(Entry {
-        key: key_of(alloc, report)?,
-        update: report.head.update,
-        bytes: Octets::new(octets),
-    }))
+    Ok(Some(entry_with(alloc, report, octets)?))
+}
+
+/// The entry of a report as its own fields spell it, with no tables asked: of a report that was
+/// read it is its entry. It can only run out of memory.
+fn spelt_entry(alloc: Global, report: &Report) -> Result<Option<Entry>, OutOfMemory>
+    ensures { IfOk result (λ found. found ≡ spelt_entry report.now) }
+{
+    let Some(octets) = canonical_of_read(alloc, report)? else {
+        return Ok(None);
+    };
+    Ok(Some(entry_with(alloc, report, octets)?))
 }
 
 /// The one report of the message that octets spell, where they spell one of one subset. It can
 /// only run out of memory.
 fn only_report(alloc: Global, tables: &Tables, octets: &[u8]) -> Result<Option<Report>, OutOfMemory>
-    ensures { IfOk result (λ found. found ≡ only_one (reports_in tables.now octets.now)) }
+    ensures is { IfOk result (λ found. found ≡ only_one (reports_in tables.now octets.now)) }
+    ensures under { IfOk result (λ found. IfSome found (IsUnder tables.now)) }
 {
+    reports_have_canonical_messages();
     let message = match decode(alloc, tables, octets) {
         Ok(decoded) => decoded.message,
         Err(Failure::Fault(_)) => return Ok(None),
@@ -90,10 +116,8 @@ pub(crate) fn entry_in<'a>(
     let Some(report) = only_report(alloc, tables, octets)? else {
         return Ok(None);
     };
-    let bytes = match canonical(alloc, tables, &report) {
-        Ok(bytes) => bytes,
-        Err(Failure::Fault(_)) => return Ok(None),
-        Err(Failure::OutOfMemory) => return Err(AllocError),
+    let Some(bytes) = canonical_of_read(alloc, &report)? else {
+        return Ok(None);
     };
     if bytes.as_slice() != octets {
         return Ok(None);
@@ -105,21 +129,41 @@ pub(crate) fn entry_in<'a>(
     }))
 }
 
-/// The reports of a message under some tables, one of which is written out at a time.
+/// The reports of a message that was read, one of which is built at a time.
 #[derive(Drop)]
-pub(crate) struct MessageReports<'t> {
-    pub(crate) tables: &'t Tables,
-    pub(crate) reports: Vec<Report>,
+pub(crate) struct MessageReports<'a> {
+    pub(crate) view: View<'a>,
+}
+
+impl<'a> MessageReports<'a> {
+    /// The reports of the message that octets spell. The octets are refused as `decode` refuses
+    /// them. Memory may run out.
+    pub(crate) fn of_octets(
+        alloc: Global,
+        tables: &Tables,
+        octets: &'a [u8],
+    ) -> Result<Self, Failure<Refused>>
+        ensures is { Gives (λ s. s.view) result (message_of tables.now octets.now) }
+        ensures entries { IfOk result (λ s. spelt_entries (reports_of s.view.message)
+            ≡ report_entries tables.now (reports_of s.view.message)) }
+    {
+        reports_have_canonical_messages();
+        canonical_messages_are_own();
+        let view = view(alloc, tables, octets)?;
+        Ok(MessageReports { view })
+    }
 }
 
 impl ReportList for MessageReports<'_> {
-    ghost entries = { λ s. report_entries s.tables.now s.reports.items };
+    ghost entries = { λ s. spelt_entries (reports_of s.view.message) };
 
     fn count(&self) -> usize {
-        self.reports.len()
+        self.view.count()
     }
 
     fn entry(&self, alloc: Global, index: usize) -> Result<Option<Entry>, OutOfMemory> {
-        entry_of(alloc, self.tables, &self.reports[index])
+        let _count = self.view.count();
+        let report = self.view.report(alloc, index + 1)?;
+        spelt_entry(alloc, &report)
     }
 }

@@ -1,5 +1,6 @@
 -- What readers and writers of octets are in contracts.
-use Rattle.std.specs.Prelude.{◌≡◌, ℕ, ◌+◌, Bool, true, false, ◌||◌, nat_eq, Option, Some, List, [], ◌++◌, length, take, drop, IfSome}
+use Rattle.std.specs.Prelude.{◌≡◌, ℕ, ◌+◌, Bool, true, false, ◌||◌, nat_eq, Option, Some, List, []}
+use Rattle.std.specs.Prelude.{◌++◌, length, take, drop, IfSome}
 
 -- a reader: the octets that are left, where it tells them; whether a read has failed; how often it
 -- was read; whether a read met the end

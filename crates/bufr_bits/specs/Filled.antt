@@ -1,6 +1,7 @@
 -- Whole octets in which bits stand (FM 94 BUFR, general regulations 94.1: sections are whole
 -- octets, filled with bits set to zero).
-use Rattle.std.specs.Prelude.{◌≡◌, ℕ, ◌<◌, ◌≤◌, ◌+◌, ◌-◌, ◌*◌, Bool, false, List, ◌++◌, length, take, drop, replicate}
+use Rattle.std.specs.Prelude.{◌≡◌, ℕ, ◌<◌, ◌≤◌, ◌+◌, ◌-◌, ◌*◌, Bool, false, List, ◌++◌, length}
+use Rattle.std.specs.Prelude.{take, drop, replicate}
 use Rattle.bufr_bits.specs.Bits.{bits}
 
 -- so many bits stand in the octets, and fewer than eight zero bits after them

@@ -1,11 +1,15 @@
 -- Numbers of one width, one behind another: fields that were put are taken again, and what is taken
 -- was put. The laws on octets rest on them, and so do those on columns of increments.
-use Rattle.std.proofs.Common.{◌≡◌, ℕ, zero, suc, ◌*◌, ◌^◌, ◌<◌, ◌≤◌, Bool, true, false, ltb, List, [], ◌∷◌, ◌++◌, length, take, drop, Some, refl, sym, ap, subst, ◌∙◌, inl, inr, arith, append_assoc}
+use Rattle.std.proofs.Common.{◌≡◌, ℕ, zero, suc, ◌*◌, ◌^◌, ◌<◌, ◌≤◌, Bool, true, false, ltb, List}
+use Rattle.std.proofs.Common.{[], ◌∷◌, ◌++◌, length, take, drop, Some, refl, sym, ap, subst, ◌∙◌}
+use Rattle.std.proofs.Common.{inl, inr, arith, append_assoc}
 use Rattle.std.specs.List.{AllByRecursion, flat_map}
 use Rattle.std.proofs.lemmas.Bool.{cases_lt, le-ltb, lt-ltb}
-use Rattle.std.proofs.lemmas.List.{take_at, drop_at, take-append-drop, drop-drop, length-take, length-drop, length-append}
+use Rattle.std.proofs.lemmas.List.{take_at, drop_at, take-append-drop, drop-drop, length-take}
+use Rattle.std.proofs.lemmas.List.{length-drop, length-append}
 use Rattle.bufr_bits.specs.Bits.{bin, number, numbers, numbers_at}
-use Rattle.bufr_bits.specs.BitLaws.{length-bin, number-bin, small_mod, number_below, bin-number, some_is}
+use Rattle.bufr_bits.specs.BitLaws.{length-bin, number-bin, small_mod, number_below, bin-number}
+use Rattle.bufr_bits.specs.BitLaws.{some_is}
 
 -- as many numbers as were asked for
 pub length-numbers : (n width : ℕ) (text : List Bool) → length (numbers n width text) ≡ n
@@ -32,7 +36,8 @@ numbers-fields width (x ∷ xs) rest all =
     let apart : flat_map (bin width) (x ∷ xs) ++ rest ≡ bin width x ++ behind =
     append_assoc (bin width x) (flat_map (bin width) xs) rest in
     rw (apart, take_at (bin width x) behind width size, drop_at (bin width x) behind width size)
-    (rw (number-bin width x, small_mod x (2 ^ width) all.0, numbers-fields width xs rest all.1) refl)
+    (rw (number-bin width x, small_mod x (2 ^ width) all.0, numbers-fields width xs rest all.1)
+    refl)
 
 -- numbers that were put are taken again, whatever follows them
 pub numbers_at_again : (width n : ℕ) (xs : List ℕ) (rest : List Bool)
@@ -97,6 +102,9 @@ numbers_at_found n width text x e =
           subst
           (λ (p : List ℕ × List Bool). (length p.0 ≡ n) × AllByRecursion (λ y. y < 2 ^ width) p.0
           × (text ≡ flat_map (bin width) p.0 ++ p.1))
-          pair
-          (length-numbers n width text, numbers_fit n width text le, sym (fields-numbers n width text le))
+          pair (
+            length-numbers n width text,
+            numbers_fit n width text le,
+            sym (fields-numbers n width text le),
+          )
     ]

@@ -1,13 +1,15 @@
 -- Octets and their bits, both ways: the laws of a text in the data and of the octets of a sink, for
 -- `take_bytes`, `put_bytes` and `into_bytes` and whoever reads and writes messages with them.
-use Rattle.std.proofs.Common.{◌≡◌, ℕ, suc, ◌*◌, ◌<◌, ◌≤◌, Bool, List, [], ◌∷◌, ◌++◌, length, drop, get_or, Some, refl, sym, ap, ◌∙◌, arith, length-append}
+use Rattle.std.proofs.Common.{◌≡◌, ℕ, suc, ◌*◌, ◌<◌, ◌≤◌, Bool, List, [], ◌∷◌, ◌++◌, length, drop}
+use Rattle.std.proofs.Common.{get_or, Some, refl, sym, ap, ◌∙◌, arith, length-append}
 use Rattle.std.specs.Prelude.{All}
 use Rattle.std.specs.List.{AllByRecursion}
 use Rattle.std.proofs.lemmas.List.Concat.{flat_map-append}
 use Rattle.std.proofs.lemmas.List.Elements.{All-from_recursion, recursion_from_All}
 use Rattle.bufr_bits.specs.Bits.{bin, bits, numbers, octets_at}
 use Rattle.bufr_bits.specs.BitLaws.{length-bin}
-use Rattle.bufr_bits.specs.NumberLaws.{numbers-fields, fields-numbers, numbers_fit, numbers_at_again, numbers_at_found}
+use Rattle.bufr_bits.specs.NumberLaws.{numbers-fields, fields-numbers, numbers_fit}
+use Rattle.bufr_bits.specs.NumberLaws.{numbers_at_again, numbers_at_found}
 
 -- eight bits an octet
 pub length-bits : (octets : List ℕ) → length (bits octets) ≡ 8 * length octets
@@ -43,7 +45,8 @@ pub bits-numbers : (n : ℕ) (text : List Bool)
     → n * 8 ≤ length text
     → (text ≡ bits (numbers n 8 text) ++ drop (n * 8) text) × All (λ x. x < 256) (numbers n 8 text)
 bits-numbers n text within =
-    let small = All-from_recursion (λ x. x < 256) (numbers n 8 text) (numbers_fit n 8 text within) in
+    let small = All-from_recursion (λ x. x < 256) (numbers n 8 text)
+    (numbers_fit n 8 text within) in
     (sym (fields-numbers n 8 text within), small)
 
 -- octets that are taken were put: they begin the bits, so many, and each is one

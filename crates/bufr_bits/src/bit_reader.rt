@@ -1,6 +1,7 @@
 //! Reading bits.
 
-ghost use Rattle.std.specs.Prelude.{◌≡◌, ◌+◌, ◌*◌, ◌<◌, ◌≤◌, length, drop, Some, None, IfSome, IfNone, OnSome, OnErr, OnOk, IfOk, option_map};
+ghost use Rattle.std.specs.Prelude.{◌≡◌, ◌+◌, ◌*◌, ◌<◌, ◌≤◌, length, drop, Some, None, IfSome};
+ghost use Rattle.std.specs.Prelude.{IfNone, OnSome, OnErr, OnOk, IfOk, option_map};
 ghost use Rattle.std.specs.Bool.{OnTrue, OnFalse};
 ghost use Rattle.bufr_bits.specs.Bits.{number_at, octets_at};
 ghost use Rattle.bufr_bits.specs.Ends.{BitPlace, left};

@@ -1,6 +1,7 @@
 //! Writing bits.
 
-ghost use Rattle.std.specs.Prelude.{◌≡◌, ◌≤◌, ◌<◌, ◌^◌, ◌++◌, ◌%◌, ◌-◌, [], length, take, replicate, false, OnOk, OnErr};
+ghost use Rattle.std.specs.Prelude.{◌≡◌, ◌≤◌, ◌<◌, ◌^◌, ◌++◌, ◌%◌, ◌-◌, [], length, take};
+ghost use Rattle.std.specs.Prelude.{replicate, false, OnOk, OnErr};
 ghost use Rattle.bufr_bits.specs.Bits.{bin, bits};
 
 use super::append::{append, append_octets, cut_after};

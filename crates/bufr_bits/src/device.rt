@@ -1,6 +1,7 @@
 //! Readers and writers of octets, which tell whether they failed.
 
-ghost use Rattle.std.specs.Prelude.{◌≡◌, ◌≤◌, ◌<◌, ◌+◌, ◌^◌, true, false, length, take, IfOk, IfErr, OnErr, OnOk};
+ghost use Rattle.std.specs.Prelude.{◌≡◌, ◌≤◌, ◌<◌, ◌+◌, ◌^◌, true, false, length, take, IfOk};
+ghost use Rattle.std.specs.Prelude.{IfErr, OnErr, OnOk};
 ghost use Rattle.bufr_bits.specs.Devices.{Reading, Writing, Kept, Gave, FailedRead, Writes};
 ghost use Rattle.bufr_bits.specs.Inner.{reader_of, writer_of};
 

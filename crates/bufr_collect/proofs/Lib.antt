@@ -3,3 +3,4 @@ pub mod StreamFacts
 pub mod ReaderFacts
 pub mod EngineFacts
 pub mod LawFacts
+pub mod WayFacts

@@ -1,23 +1,25 @@
--- The first column that cannot stand, told by the course that is left, and that it is the one told by
--- the template's tree: for the law on what messages know of data (`data_hold_subsets`).
-use Rattle.std.proofs.Common.{◌≡◌, ℕ, ◌+◌, ◌*◌, ◌<◌, ◌≤◌, Bool, List, length, map, ◌++◌, subst, arith, ◌⊎◌, inl, inr}
+-- The first column that cannot stand, told by the course that is left, and that it is the one told
+-- by the template's tree: for the law on what messages know of data (`data_hold_subsets`).
+use Rattle.std.proofs.Common.{◌≡◌, ℕ, ◌+◌, ◌*◌, ◌<◌, ◌≤◌, Bool, List, length, map, ◌++◌}
+use Rattle.std.proofs.Common.{arith, ◌⊎◌, inl, inr}
 use Rattle.std.proofs.lemmas.Bool.{cases_lt}
-use Rattle.bufr_expand.specs.declared.operators.Spec.{Spec}
 use Rattle.bufr_expand.specs.declared.walk.WalkFault.{WalkFault}
 use Rattle.bufr_expand.specs.declared.walk.WalkFault.TheVariants as walks
 use Rattle.bufr_expand.specs.Courses.{Course, ends, stops, asks, course}
 use Rattle.bufr_expand.specs.Trees.{Tree}
 use Rattle.bufr_expand.specs.Unrolling.{After}
 use Rattle.bufr_expand.specs.Beginning.{Next, wants, lacks, BeginsWithin}
-use Rattle.bufr_data.specs.declared.field.Field.{Field}
+use Rattle.bufr_expand.specs.Limits.{most_items}
 use Rattle.bufr_data.specs.declared.fault.ReadFault.{ReadFault}
 use Rattle.bufr_data.specs.declared.fault.ReadFault.TheVariants as faults
-use Rattle.bufr_data.specs.Fits.{told_of}
 use Rattle.bufr_data.specs.Refusals.{Passes}
 use Rattle.bufr_data.specs.Causes.{Begin}
 use Rattle.bufr_data.specs.Columns.{Column, AreColumns, field_of}
-use Rattle.bufr_data.specs.ColumnCauses.{ColumnRefused, told_first, NoColumnFollows, no_room, too_many_values, no_spec, no_column, FirstColumnRefused}
-use Rattle.bufr_data.proofs.CauseFacts.{Laws, passes_after, after_passes, begun, begun_after, limit_passed}
+use Rattle.bufr_data.specs.ColumnCauses.{ColumnRefused, told_first, NoColumnFollows, no_room}
+use Rattle.bufr_data.specs.ColumnCauses.{too_many_values, no_spec, no_column, FirstColumnRefused}
+use Rattle.bufr_data.proofs.CauseFacts.{Laws, passes_after, begun, limit_passed, passes_full}
+use Rattle.bufr_data.proofs.CauseFacts.{passes_lacking, passes_asked}
+use Rattle.bufr_data.specs.Limits.{most_values}
 
 -- the fault of data at which the walk stops
 abbrev pub IsStop : WalkFault → ReadFault → Type 0
@@ -27,7 +29,7 @@ IsStop (walks.EffectiveRange d) fault = fault ≡ faults.EffectiveRange d
 -- field i of n subsets would be more than 67,108,864 values; or it would not, and this holds
 abbrev pub PastOr : ℕ → ℕ → ReadFault → Type 0 → Type 0
 PastOr n i fault Refused =
-    ((67108864 < i * n) × (fault ≡ faults.TooLarge)) ⊎ ((i * n ≤ 67108864) × Refused)
+    ((most_values < i * n) × (fault ≡ faults.TooLarge)) ⊎ ((i * n ≤ most_values) × Refused)
 
 -- neither does a column of field i stand, nor do the subsets end
 abbrev pub NoneByCourse : ℕ → ℕ → Course → List Bool → ReadFault → Type 0
@@ -59,14 +61,18 @@ column_cause laws tree n before (stops m walks.TooLarge) rest fault after (inl h
 column_cause laws tree n before (stops m walks.TooLarge) rest fault after (inr h) =
     no_room (limit_passed laws tree 0 m (told_first before) (omega arith) after) h.1
 column_cause laws tree n before (stops m (walks.EffectiveRange d)) rest fault after (inl h) =
-    too_many_values (lacks d) m ((laws.lacking tree 0 (told_first before) m d (omega arith)).0 after) h.0 h.1
+    too_many_values (lacks d) m ((laws.lacking tree 0 (told_first before) m d (omega arith)).0
+    after) h.0 h.1
 column_cause laws tree n before (stops m (walks.EffectiveRange d)) rest fault after (inr h) =
     no_spec d m ((laws.lacking tree 0 (told_first before) m d (omega arith)).0 after) h.0 h.1
 column_cause laws tree n before (asks met d spec more) rest fault after (inl h) =
-    too_many_values (wants d spec) met ((laws.asked tree 0 (told_first before) met d spec (omega arith)).0 (more, after)) h.0 h.1
+    too_many_values (wants d spec) met
+    ((laws.asked tree 0 (told_first before) met d spec (omega arith)).0 (more, after)) h.0 h.1
 column_cause laws tree n before (asks met d spec more) rest fault after (inr h) =
-    no_column d met spec ((laws.asked tree 0 (told_first before) met d spec (omega arith)).0 (more, after)) h.0 h.1
+    no_column d met spec ((laws.asked tree 0 (told_first before) met d spec (omega arith)).0
+    (more, after)) h.0 h.1
 
+-- the first column refused by the course is the first by the tree
 pub first_of_columns : Laws → (tree : Tree) (n : ℕ) (front : List Bool) (fault : ReadFault)
     → RefusedByCourse n 1 (course tree 0) front fault → FirstColumnRefused tree n front fault
 first_of_columns laws tree n front fault r =
@@ -83,45 +89,47 @@ first_of_columns laws tree n front fault r =
 
 -- what a course leaves and why no column follows
 abbrev Left : Tree → ℕ → List Column → List Bool → ReadFault → Type 0
-Left tree n before rest fault = (next : Course) × Passes (course tree 0) (map (field_of 0) before) next
+Left tree n before rest fault =
+    (next : Course) × Passes (course tree 0) (map (field_of 0) before) next
     × NoneByCourse n (1 + length before) next rest fault
 
+-- a course that is too large answers so whatever the number of values
 stopped_either : (n i met : ℕ) (rest : List Bool) (fault : ReadFault) → fault ≡ faults.TooLarge
     → NoneByCourse n i (stops met walks.TooLarge) rest fault
 stopped_either n i met rest fault e =
-    elim (cases_lt 67108864 (i * n)) [ inl lt ↦ inl (lt, e) | inr le ↦ inr (le, e) ]
+    elim (cases_lt most_values (i * n)) [ inl lt ↦ inl (lt, e) | inr le ↦ inr (le, e) ]
 
-past_next : Laws → (tree : Tree) (n : ℕ) (before : List Column) (rest : List Bool) (fault : ReadFault)
+-- with too many values no column follows, whatever comes next
+past_next : Laws → (tree : Tree) (n : ℕ) (before : List Column) (rest : List Bool)
+    (fault : ReadFault)
     (next : Next) (met : ℕ) → Begin tree 0 (map (field_of 0) before)
-    → BeginsWithin tree 0 (told_first before) next met → 67108864 < (1 + length before) * n
+    → BeginsWithin tree 0 (told_first before) next met → most_values < (1 + length before) * n
     → fault ≡ faults.TooLarge → Left tree n before rest fault
 past_next laws tree n before rest fault (wants d spec) met b w lt e =
-    let a = (laws.asked tree 0 (told_first before) met d spec (omega arith)).1 w in
-    (asks met d spec a.0, after_passes (course tree 0) (map (field_of 0) before) _ a.1 b.formed, inl (lt, e))
+    let a = passes_asked laws tree 0 (map (field_of 0) before) d met spec (omega arith) b w in
+    (asks met d spec a.0, a.1, inl (lt, e))
 past_next laws tree n before rest fault (lacks d) met b w lt e =
-    let after = (laws.lacking tree 0 (told_first before) met d (omega arith)).1 w in
-    (stops met (walks.EffectiveRange d), after_passes (course tree 0) (map (field_of 0) before) _ after b.formed, inl (lt, e))
+    let passed = passes_lacking laws tree 0 (map (field_of 0) before) d met (omega arith) b w in
+    (stops met (walks.EffectiveRange d), passed, inl (lt, e))
 
 -- and from the tree to the course
 cause_column : Laws → (tree : Tree) (n : ℕ) (before : List Column) (rest : List Bool)
     (fault : ReadFault) → Begin tree 0 (map (field_of 0) before)
     → NoColumnFollows tree n before rest fault → Left tree n before rest fault
 cause_column laws tree n before rest fault b (no_room p e) =
-    let fields = map (field_of 0) before in
-    let a = begun_after laws tree 0 fields (omega arith) b in
-    let is : a.0 ≡ stops 16777216 walks.TooLarge = (laws.too_large tree 0 (told_first before) a.0 (omega arith) a.1).1 p in
-    let after : After (course tree 0) (told_first before) (stops 16777216 walks.TooLarge) =
-    subst (λ (c : Course). After (course tree 0) (told_first before) c) is a.1 in
-    (stops 16777216 walks.TooLarge, after_passes (course tree 0) fields _ after b.formed, stopped_either n (1 + length before) 16777216 rest fault e)
+    let passed = passes_full laws tree 0 (map (field_of 0) before) (omega arith) b p in
+    let refused = stopped_either n (1 + length before) most_items rest fault e in
+    (stops most_items walks.TooLarge, passed, refused)
 cause_column laws tree n before rest fault b (too_many_values next met w lt e) =
     past_next laws tree n before rest fault next met b w lt e
 cause_column laws tree n before rest fault b (no_spec d met w le e) =
-    let after = (laws.lacking tree 0 (told_first before) met d (omega arith)).1 w in
-    (stops met (walks.EffectiveRange d), after_passes (course tree 0) (map (field_of 0) before) _ after b.formed, inr (le, e))
+    let passed = passes_lacking laws tree 0 (map (field_of 0) before) d met (omega arith) b w in
+    (stops met (walks.EffectiveRange d), passed, inr (le, e))
 cause_column laws tree n before rest fault b (no_column d met spec w le refused) =
-    let a = (laws.asked tree 0 (told_first before) met d spec (omega arith)).1 w in
-    (asks met d spec a.0, after_passes (course tree 0) (map (field_of 0) before) _ a.1 b.formed, inr (le, refused))
+    let a = passes_asked laws tree 0 (map (field_of 0) before) d met spec (omega arith) b w in
+    (asks met d spec a.0, a.1, inr (le, refused))
 
+-- the first column refused by the tree is the first by the course
 pub columns_of_first : Laws → (tree : Tree) (n : ℕ) (front : List Bool) (fault : ReadFault)
     → FirstColumnRefused tree n front fault → RefusedByCourse n 1 (course tree 0) front fault
 columns_of_first laws tree n front fault r =

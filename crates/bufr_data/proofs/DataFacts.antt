@@ -1,7 +1,6 @@
 -- The words on data, from the laws of plain data and of columns: for the law on what messages know of
 -- data (`data_hold_subsets`).
-use Rattle.std.proofs.Common.{◌≡◌, ℕ, zero, suc, ◌+◌, ◌≤◌, Bool, true, false, List, [], ◌∷◌, ◌++◌, length, map, Result, Ok, Err, refl, sym, ap, subst, ◌∙◌, arith}
-use Rattle.std.specs.List.{AllByRecursion}
+use Rattle.std.proofs.Common.{◌≡◌, ℕ, zero, suc, Bool, true, false, List, ◌++◌, Result, Ok, Err, refl, sym, ap, subst, ◌∙◌, arith}
 use Rattle.bufr_tables.specs.Answers.{result_map}
 use Rattle.bufr_expand.specs.Trees.{Tree}
 use Rattle.bufr_expand.specs.Courses.{course}
@@ -9,11 +8,9 @@ use Rattle.bufr_data.specs.declared.field.Subset.{Subset}
 use Rattle.bufr_data.specs.declared.fault.ReadFault.{ReadFault}
 use Rattle.bufr_data.specs.declared.fault.WriteFault.{WriteFault}
 use Rattle.bufr_data.specs.Plain.{SubsetsRead, plain_subsets, subsets_at}
-use Rattle.bufr_data.specs.Columns.{Column, subsets_from}
+use Rattle.bufr_data.specs.Columns.{subsets_from}
 use Rattle.bufr_data.specs.ColumnReading.{ColumnsFound, columns_at}
-use Rattle.bufr_data.specs.BestColumns.{AreBestColumns, best_bits}
-use Rattle.bufr_data.specs.Laws.{SubsetsReadStand, SubsetsStandingAreRead, WrittenFit, FittingAreWritten, SubsetsReadRefusedIsFirst, FirstSubsetsReadIsRefused, WrittenRefusedIsFirst, FirstWrittenIsRefused}
-use Rattle.bufr_data.specs.Data.{BeginsWithData, IsDataOf, IsBareDataOf, subsets_in, written_bits, ReadsExactly, RefusesExactly, WritesExactly, MisfitsExactly, BareDataAreData, PlainDataAreBare}
+use Rattle.bufr_data.specs.Data.{BeginsWithData, subsets_in, ReadsExactly, RefusesExactly, WritesExactly, MisfitsExactly, BareDataAreData, PlainDataAreBare}
 use Rattle.bufr_data.proofs.FitFacts.{AreUnrolled, AreAllowed, written_fit, fitting_written, all_read_stand, all_standing_read}
 use Rattle.bufr_data.proofs.CauseFacts.{Laws, subsets_refused_first, first_subsets_refused, written_refused_first, first_written_refused}
 use Rattle.bufr_data.proofs.ColumnCourses.{first_of_columns, columns_of_first}
@@ -27,12 +24,14 @@ mapped_ok : {A B F : Type 0} (f : A → B) (x : Result A F) (y : B) → result_m
 mapped_ok f (Ok a) y e = (a, refl, cc)
 mapped_ok f (Err fault) y e = absurd cc
 
+-- an error of what is mapped is an error before
 mapped_err : {A B F : Type 0} (f : A → B) (x : Result A F) (fault : F) → result_map f x ≡ Err fault → x ≡ Err fault
 mapped_err f (Ok a) fault e = absurd cc
 mapped_err f (Err other) fault e = cc
 
 -- ---- reading
 
+-- plain subsets that are read are data at the front
 plain_stand : AreUnrolled → (tree : Tree) (count : ℕ) (front : List Bool) (found : List Subset × List Bool)
     → subsets_in tree false count front ≡ Ok found → BeginsWithData tree false count front found
 plain_stand law tree count front found e =
@@ -40,6 +39,7 @@ plain_stand law tree count front found e =
     let h = all_read_stand law tree 1 count 0 front all.0 (omega arith) all.1 in
     subst (BeginsWithData tree false count front) all.2 (plain_subsets all.0.subsets, (all.0.items, h.1, refl), h.0, h.2)
 
+-- and plain data at the front are read
 plain_read : AreAllowed → (tree : Tree) (count : ℕ) (front : List Bool) (found : List Subset × List Bool)
     → BeginsWithData tree false count front found → subsets_in tree false count front ≡ Ok found
 plain_read law tree count front (subsets, rest) (data_bits, (items, fit, same), many, joined) =
@@ -48,18 +48,21 @@ plain_read law tree count front (subsets, rest) (data_bits, (items, fit, same), 
     all_standing_read law tree 1 count 0 front f (many, fit, joined ∙ ap (λ (xs : List Bool). xs ++ rest) same) in
     rw is refl
 
+-- compressed data at the front are read
 packed_read : AreAllowed → (tree : Tree) (count : ℕ) (front : List Bool) (found : List Subset × List Bool)
     → BeginsWithData tree true count front found → subsets_in tree true count front ≡ Ok found
 packed_read law tree count front (subsets, rest) (data_bits, is, many, joined) =
     ap (subsets_in tree true count) joined
     ∙ compressed_read law tree count data_bits rest subsets many is.0 is.1
 
+-- `ReadsExactly`, plain and compressed
 pub reads_exactly : Laws → (tree : Tree) (compressed : Bool) (count : ℕ) (front : List Bool) (found : List Subset × List Bool) → ReadsExactly tree compressed count front found
 reads_exactly laws tree false count front found =
     (plain_stand laws.unrolled tree count front found, plain_read laws.allowed tree count front found)
 reads_exactly laws tree true count front found =
     (compressed_stand laws.unrolled tree count front found, packed_read laws.allowed tree count front found)
 
+-- `RefusesExactly`, plain and compressed
 pub refuses_exactly : Laws → (tree : Tree) (compressed : Bool) (count : ℕ) (front : List Bool) (fault : ReadFault) → RefusesExactly tree compressed count front fault
 refuses_exactly laws tree false count front fault = (
   λ e. subsets_refused_first laws tree count front fault (mapped_err _ (subsets_at (course tree) 1 count 0 front) fault e),
@@ -75,6 +78,7 @@ refuses_exactly laws tree true (suc n) front fault = (
 
 -- ---- writing
 
+-- `WritesExactly`, plain and compressed
 pub writes_exactly : Laws → (tree : Tree) (compressed : Bool) (subsets : List Subset) (data_bits : List Bool) → WritesExactly tree compressed subsets data_bits
 writes_exactly laws tree false subsets data_bits = (
   λ e. written_fit laws.unrolled tree subsets data_bits e,
@@ -85,16 +89,19 @@ writes_exactly laws tree true subsets data_bits = (
   λ h. fitting_columns_written laws.allowed tree subsets h.1 h.0 h.2 ∙ ap (λ (xs : List Bool). Ok xs) (sym h.3),
 )
 
+-- `MisfitsExactly`, plain and compressed
 pub misfits_exactly : Laws → (tree : Tree) (compressed : Bool) (subsets : List Subset) (fault : WriteFault) → MisfitsExactly tree compressed subsets fault
 misfits_exactly laws tree false subsets fault =
     (λ e. written_refused_first laws tree subsets fault e, λ h. first_written_refused laws tree subsets fault h)
 misfits_exactly laws tree true subsets fault =
     (λ e. unpacked_is laws tree subsets fault e, λ h. unpacked_again laws tree subsets fault h)
 
+-- `BareDataAreData`, plain and compressed
 pub bare_are_data : Laws → (tree : Tree) (compressed : Bool) (subsets : List Subset) (data_bits : List Bool) → BareDataAreData tree compressed subsets data_bits
 bare_are_data laws tree false subsets data_bits h = h
 bare_are_data laws tree true subsets data_bits h =
     compressed_hold laws.unrolled tree subsets data_bits ((writes_exactly laws tree true subsets data_bits).1 h)
 
+-- `PlainDataAreBare`
 pub plain_are_bare : (tree : Tree) (subsets : List Subset) (data_bits : List Bool) → PlainDataAreBare tree subsets data_bits
 plain_are_bare tree subsets data_bits h = h

@@ -1,6 +1,6 @@
 -- The number of a text's digits, one character after the other: what `Decimal::parse` counts.
-use Rattle.std.proofs.Common.{◌≡◌, ℕ, zero, suc, ◌+◌, ◌-◌, ◌*◌, ◌^◌, ◌<◌, ◌≤◌, Bool, true, false, List, [], ◌∷◌, ◌++◌, length, take, drop, get_or, Option, Some, None, refl, sym, ap, ◌∙◌, arith, subst, take-append-drop}
-use Rattle.std.specs.Prelude.{filter, nat_lt, if◌then◌else◌}
+use Rattle.std.proofs.Common.{◌≡◌, ℕ, zero, suc, ◌+◌, ◌-◌, ◌*◌, ◌^◌, ◌<◌, ◌≤◌, true, false, List, [], ◌∷◌, ◌++◌, length, take, drop, get_or, Option, Some, None, refl, sym, ap, ◌∙◌, arith, subst, take-append-drop}
+use Rattle.std.specs.Prelude.{nat_lt, if◌then◌else◌}
 use Rattle.std.specs.Char.{is_ascii_digit, digit_value}
 use Rattle.std.specs.Int.{IsInRange}
 use Rattle.std.specs.Str.Parse.{digits_value}
@@ -17,16 +17,19 @@ use Rattle.bufr_data.specs.DecimalTexts.{digits_in}
 abbrev pub number_of : List ℕ → ℕ
 number_of text = digits_value 10 (digits_in text)
 
+-- the front with one more character
 front_more : (t : List ℕ) (k : ℕ) → k < length t → take (suc k) t ≡ take k t ++ get_or t k 0 ∷ []
 front_more [] k h = absurd (omega arith)
 front_more (x ∷ t) zero h = refl
 front_more (x ∷ t) (suc k) h = ap (λ xs. x ∷ xs) (front_more t k (omega arith))
 
+-- and its digits
 digits_more : (t : List ℕ) (k : ℕ) → k < length t → digits_in (take (k + 1) t) ≡ digits_in (take k t) ++ digits_in (get_or t k 0 ∷ [])
 digits_more t k h =
     let next : k + 1 ≡ suc k = omega arith in
     ap (λ n. digits_in (take n t)) next ∙ ap (λ xs. digits_in xs) (front_more t k h) ∙ filter-append is_ascii_digit (take k t) (get_or t k 0 ∷ [])
 
+-- a digit lies between 0 and 9
 digit_range : (c : ℕ) → is_ascii_digit c ≡ true → IsInRange 48 57 c
 digit_range c is = grind arith
 
@@ -40,6 +43,7 @@ number_more t k h is =
     let same : digit_value c ≡ c - 48 = omega (arith, digit) in
     whole ∙ ap (λ d. number_of (take k t) * 10 + d) same
 
+-- nothing behind a list leaves it
 append_none : (xs : List ℕ) → xs ++ [] ≡ xs
 append_none [] = refl
 append_none (x ∷ xs) = ap (λ ys. x ∷ ys) (append_none xs)
@@ -59,22 +63,27 @@ number_front t k =
     let cut : take (length front) (digits_in t) ≡ front = ap (take (length front)) whole ∙ take_at front (digits_in (drop k t)) _ refl in
     subst (λ ds. digits_value 10 ds ≤ number_of t) cut (digits_value-take-le 10 (digits_in t) (length front) (omega arith))
 
+-- a number below 2 to the power of 128, else none
 abbrev pub number_if : ℕ → Option ℕ
 number_if n = if nat_lt n (2 ^ 128) then Some n else None
 
+-- a greater number is none
 large : (n : ℕ) → 2 ^ 128 ≤ n → number_if n ≡ None
 large n h = let no : nat_lt n (2 ^ 128) ≡ false = grind (arith, nat_tests) in rw no refl
 
+-- with a digit that makes it too great, the number is none
 pub number_large : (t : List ℕ) (k v : ℕ) → k < length t → v ≡ number_of (take k t) → is_ascii_digit (get_or t k 0) ≡ true → 2 ^ 128 ≤ v * 10 + (get_or t k 0 - 48) → number_if (number_of t) ≡ None
 number_large t k v h e is over =
     let more = number_more t k h is in
     let all = number_front t (k + 1) in
     large (number_of t) (omega (arith, more, all, e, over))
 
+-- the whole front is the list
 take-all : (t : List ℕ) → take (length t) t ≡ t
 take-all [] = refl
 take-all (x ∷ t) = ap (λ (u : List ℕ). x ∷ u) (take-all t)
 
+-- the number of the whole front is that of the text
 pub number_all : (t : List ℕ) (k v : ℕ) → k ≡ length t → v ≡ number_of (take k t) → v < 2 ^ 128 → number_if (number_of t) ≡ Some v
 number_all t k v all e fits =
     let whole : v ≡ number_of t = e ∙ ap (λ (n : ℕ). number_of (take n t)) all ∙ ap number_of (take-all t) in

@@ -1,6 +1,6 @@
 -- Increments read one after the other have the values of their list: for the index of compressed data
 -- (`Columns::index`).
-use Rattle.std.proofs.Common.{◌≡◌, ℕ, zero, suc, ◌+◌, ◌-◌, ◌*◌, ◌^◌, ◌<◌, ◌≤◌, Bool, true, false, cond, List, [], ◌∷◌, ◌++◌, length, take, drop, Some, None, Result, inl, inr, Ok, Err, refl, sym, ap, subst, ◌∙◌, arith, append_assoc, append-nil, length-append}
+use Rattle.std.proofs.Common.{◌≡◌, ℕ, zero, suc, ◌+◌, ◌-◌, ◌*◌, ◌<◌, ◌≤◌, Bool, true, false, cond, List, [], ◌∷◌, ◌++◌, length, take, drop, Some, None, Result, inl, inr, Ok, Err, refl, sym, ap, ◌∙◌, arith, append_assoc, append-nil, length-append}
 use Rattle.std.specs.Prelude.{◌&&◌, ◌==◌}
 use Rattle.std.specs.List.{AllByRecursion, list_all}
 use Rattle.std.proofs.lemmas.Bool.{le-ltb, eq-eqb, cases_lt, lt-ltb}
@@ -13,7 +13,7 @@ use Rattle.bufr_data.proofs.ColumnFacts.{not_equal}
 use Rattle.bufr_bits.specs.BitLaws.{some_is}
 use Rattle.bufr_bits.specs.Bits.{number, numbers, number_at}
 use Rattle.bufr_data.specs.declared.field.Raw.{Raw}
-use Rattle.bufr_data.specs.declared.field.Raw.TheVariants.{Number, Text}
+use Rattle.bufr_data.specs.declared.field.Raw.TheVariants.{Number}
 use Rattle.bufr_data.specs.declared.fault.ReadFault.{ReadFault}
 use Rattle.bufr_data.specs.ColumnReading.{raised, value_then, all_raised, all_equal, count_of, same_raw}
 
@@ -31,21 +31,26 @@ pub record RaisedSoFar (i width minimum k n j : ℕ) (front rest : List Bool) (f
   pub equal_is : all_equal values ≡ equal
   pub are_numbers : AllByRecursion (λ v. v ≡ Number (number_of v)) values
 
+-- nothing stands before the values at first
 behind_none : (o : Result (List Raw) ReadFault) → o ≡ behind_values [] o
 behind_none (Ok vs) = refl
 behind_none (Err e) = refl
 
+-- one more times a number
 next_times : (n k : ℕ) → suc n * k ≡ k + n * k
 next_times n k = omega arith
 
+-- true beside a truth leaves it
 and_true : (b : Bool) → (b && true) ≡ b
 and_true true = refl
 and_true false = refl
 
+-- three truths in either grouping
 and_again : (a b c : Bool) → (a && (b && c)) ≡ ((a && b) && c)
 and_again true b c = refl
 and_again false b c = refl
 
+-- a number that is taken is that of the front, which is dropped
 taken_is : (k x : ℕ) (rest last : List Bool) → number_at k rest ≡ Some (x, last) → (x ≡ number (take k rest)) × (last ≡ drop k rest)
 unfolding number_at
 taken_is k x rest last e =
@@ -58,13 +63,16 @@ taken_is k x rest last e =
           (ap (λ (p : ℕ × List Bool). p.0) (sym pair), ap (λ (p : ℕ × List Bool). p.1) (sym pair))
     ]
 
+-- the front of a number that is taken is dropped
 pub drop_is : (k x : ℕ) (rest last : List Bool) → number_at k rest ≡ Some (x, last) → last ≡ drop k rest
 drop_is k x rest last e = (taken_is k x rest last e).1
 
+-- one more number, and all are numbers
 all_pushed : (values : List Raw) (n : ℕ) → AllByRecursion (λ v. v ≡ Number (number_of v)) values → AllByRecursion (λ v. v ≡ Number (number_of v)) (values ++ Number n ∷ [])
 all_pushed [] n all = (refl, tt)
 all_pushed (v ∷ values) n all = (all.0, all_pushed values n all.1)
 
+-- a number is the same as the first where their numbers are
 with_first : (u : Raw) (number first : ℕ) → u ≡ Number (number_of u) → number_of u ≡ first → same_raw (Number number) u ≡ (number == first)
 with_first u number first is head = ap (same_raw (Number number)) (is ∙ ap (λ n. Number n) head)
 
@@ -90,10 +98,12 @@ next_number k n j x rest last less e =
     let h = taken_is k x rest last e in
     ap (λ m. numbers m k rest) some ∙ (λ t. sym h.0 t ∷ numbers (n - (j + 1)) k (sym h.1 t))
 
+-- one more value in front of the others
 behind_joined : (values : List Raw) (v : Raw) (o : Result (List Raw) ReadFault) → behind_values values (o >>= λ vs. Ok (v ∷ vs)) ≡ behind_values (values ++ v ∷ []) o
 behind_joined values v (Ok vs) = ap (λ xs. Ok xs) (sym (append_assoc values (v ∷ []) vs))
 behind_joined values v (Err e) = refl
 
+-- a test of all and one more
 all_push : (u v : Raw) (us : List Raw) → list_all (λ w. same_raw w u) (us ++ v ∷ []) ≡ (list_all (λ w. same_raw w u) us && same_raw v u)
 all_push u v [] = and_true (same_raw v u)
 all_push u v (w ∷ us) = ap (λ b. same_raw w u && b) (all_push u v us) ∙ and_again (same_raw w u) (list_all (λ x. same_raw x u) us) (same_raw v u)
@@ -102,6 +112,7 @@ all_push u v (w ∷ us) = ap (λ b. same_raw w u && b) (all_push u v us) ∙ and
 not_zero : (j : ℕ) → (suc j == 0) ≡ false
 not_zero j = not_equal (suc j) 0 (λ e. absurd (omega (arith, e)))
 
+-- with one more number: the first, and whether all are the same
 pushed : (j first x : ℕ) (equal : Bool) (values : List Raw) → length values ≡ j → AllByRecursion (λ v. v ≡ Number (number_of v)) values → count_of values ≡ first → all_equal values ≡ equal
     → (count_of (values ++ Number x ∷ []) ≡ cond (j == 0) x first)
     × (all_equal (values ++ Number x ∷ []) ≡ (equal && (x == cond (j == 0) x first)))
@@ -111,6 +122,7 @@ pushed zero first x equal (u ∷ us) many all head same = absurd (omega (arith, 
 pushed (suc j) first x equal (u ∷ us) many all head same =
     rw (not_zero j) (head, all_push u (Number x) us ∙ (λ t. same t && with_first u x first all.0 head t))
 
+-- one more increment that has a value keeps what is known so far
 pub one_raised : (i width minimum k n j x number : ℕ) (front rest last : List Bool) (first : ℕ) (equal : Bool) → j < n → RaisedSoFar i width minimum k n j front rest first equal → number_at k rest ≡ Some (x, last) → Some (Number number) ≡ raised width minimum k x
     → RaisedSoFar i width minimum k n (j + 1) front last (cond (j == 0) number first) (equal && (number == cond (j == 0) number first))
 one_raised i width minimum k n j x number front rest last first equal less so_far e value =
@@ -128,6 +140,7 @@ one_raised i width minimum k n j x number front rest last first equal less so_fa
       are_numbers = all_pushed so_far.values number so_far.are_numbers;
     }
 
+-- an increment that has none is the fault
 pub raised_fails : (i width minimum k n j x : ℕ) (front rest last : List Bool) (first : ℕ) (equal : Bool) → j < n → RaisedSoFar i width minimum k n j front rest first equal → number_at k rest ≡ Some (x, last) → None ≡ raised width minimum k x
     → all_raised 1 i width minimum k (numbers n k front) ≡ Err (faults.IncrementRange (j + 1) i)
 raised_fails i width minimum k n j x front rest last first equal less so_far e value =
@@ -135,6 +148,7 @@ raised_fails i width minimum k n j x front rest last first equal less so_far e v
     ∙ ap (λ xs. behind_values so_far.values (all_raised (j + 1) i width minimum k xs)) (next_number k n j x rest last less e)
     ∙ ap (λ o. behind_values so_far.values (value_then (j + 1) i o (all_raised (j + 1 + 1) i width minimum k (numbers (n - (j + 1)) k last)))) (sym value)
 
+-- at the end all increments have values
 pub all_raised_so_far : (i width minimum k n j : ℕ) (front rest : List Bool) (first : ℕ) (equal : Bool) → n ≤ j → RaisedSoFar i width minimum k n j front rest first equal → AreRaised i width minimum k (numbers n k front) first equal
 unfolding numbers
 all_raised_so_far i width minimum k n j front rest first equal done so_far =
@@ -152,6 +166,7 @@ enough_left n j k front less enough =
     let times : (n - j) * k ≡ k + (n - (j + 1)) * k = ap (λ m. m * k) some ∙ next_times (n - (j + 1)) k in
     omega (arith, enough, times)
 
+-- as long as increments are to come there is one
 pub none_left : (n j k : ℕ) (front : List Bool) → j < n → (n - j) * k ≤ length front → number_at k front ≡ None → ⊥
 unfolding number_at
 none_left n j k front less enough none =
@@ -160,6 +175,7 @@ none_left n j k front less enough none =
     at-least : k ≤ length front
     at-least = enough_left n j k front less enough
 
+-- behind one increment there are enough bits for the others
 pub enough_behind : (n j k : ℕ) (rest last : List Bool) → j < n → (n - j) * k ≤ length rest → last ≡ drop k rest → (n - (j + 1)) * k ≤ length last
 enough_behind n j k rest last less enough is =
     let some : n - j ≡ suc (n - (j + 1)) = omega (arith, less) in
@@ -167,11 +183,13 @@ enough_behind n j k rest last less enough is =
     let size : length last ≡ length rest - k = ap length is ∙ length-drop k rest in
     omega (arith, enough, times, size)
 
+-- the bits behind one more increment
 pub moved_on : (j k : ℕ) (front rest last : List Bool) → rest ≡ drop (j * k) front → last ≡ drop k rest → last ≡ drop ((j + 1) * k) front
 moved_on j k front rest last so_far is =
     let times : j * k + k ≡ (j + 1) * k = omega arith in
     is ∙ ap (drop k) so_far ∙ drop-drop k (j * k) front ∙ ap (λ m. drop m front) times
 
+-- the first number fits where each one does
 pub first_below : (j x first p : ℕ) → x < p → (0 < j → first < p) → cond (j == 0) x first < p
 first_below zero x first p now before = now
 first_below (suc j) x first p now before = rw (not_zero j) (before (omega arith))

@@ -4,6 +4,7 @@ pub mod ColumnCourses
 pub mod ColumnFacts
 pub mod ColumnRefusals
 pub mod ColumnWalks
+pub mod CourseRefusals
 pub mod DataFacts
 pub mod DigitFacts
 pub mod DigitRunFacts

@@ -1,4 +1,4 @@
--- The octets of a slice of `u8`.
+-- The octets of a slice of `u8`: for `write_subsets`, which tests the form of a text.
 use Rattle.std.proofs.Common.{◌≡◌, ℕ, suc, Bool, true, false, List, [], ◌∷◌, get_or, Fits, w8, refl, arith}
 use Rattle.std.specs.Prelude.{◌&&◌, nat_lt}
 use Rattle.std.specs.List.{list_all}
@@ -11,6 +11,7 @@ octets_below (x ∷ xs) each =
     let first : Fits w8 x = each 0 in
     rw (lt-ltb x 256 (omega arith), octets_below xs (λ i. each (suc i))) refl
 
+-- a truth beside true is itself
 pub and_true : (a b : Bool) → b ≡ true → a ≡ (a && b)
 and_true true true e = refl
 and_true false b e = refl

@@ -1,6 +1,6 @@
 -- Which compressed subsets a writer can write: for the law on what messages know of data
 -- (`data_hold_subsets`).
-use Rattle.std.proofs.Common.{◌≡◌, ℕ, zero, suc, ◌+◌, ◌*◌, ◌<◌, ◌≤◌, Bool, true, false, List, [], ◌∷◌, length, map, refl, sym, ap, subst, ◌∙◌, arith, ◌⊎◌, inl, inr}
+use Rattle.std.proofs.Common.{◌≡◌, ℕ, suc, ◌*◌, ◌≤◌, Bool, true, false, List, [], ◌∷◌, length, map, refl, sym, ap, subst, ◌∙◌, ◌⊎◌, inl, inr}
 use Rattle.std.specs.List.{AllByRecursion}
 use Rattle.std.proofs.lemmas.List.{length-map}
 use Rattle.bufr_tables.specs.declared.element.Kind.{Kind}
@@ -10,12 +10,14 @@ use Rattle.bufr_expand.specs.Trees.{Tree}
 use Rattle.bufr_data.specs.declared.field.Field.{Field}
 use Rattle.bufr_data.specs.declared.field.Subset.{Subset}
 use Rattle.bufr_data.specs.Columns.{Column, HaveOneCount, AreColumns, field_of, subsets_from}
-use Rattle.bufr_data.specs.BestColumns.{widest, can_be_column, CanBeWritten, CanBePacked, AreBestColumns, best_bits, HasNarrowFields}
-use Rattle.bufr_data.specs.ColumnCauses.{CanBeColumn, same, narrow}
-use Rattle.bufr_data.specs.Data.{IsBareDataOf, PackedDataCanBeBare, NarrowDataCanBePacked}
+use Rattle.bufr_data.specs.BestColumns.{widest, can_be_column, CanBeWritten, best_bits}
+use Rattle.bufr_data.specs.ColumnCauses.{same, narrow}
+use Rattle.bufr_data.specs.Data.{PackedDataCanBeBare, NarrowDataCanBePacked}
 use Rattle.bufr_data.proofs.MisfitFacts.{can_passes}
 use Rattle.bufr_data.proofs.ColumnWalks.{kind_is}
+use Rattle.bufr_data.specs.Limits.{most_values}
 
+-- equal lists begin with the same
 head_is : (s t : Subset) (ss ts : List Subset) → s ∷ ss ≡ t ∷ ts → s ≡ t
 head_is s t ss ts e = cc
 
@@ -26,17 +28,20 @@ as_many s subsets n m a b e f =
     ap (λ (t : Subset). t.fields) (sym (head_is _ _ _ _ e) ∙ head_is _ _ _ _ f) in
     sym (length-map a (field_of 0)) ∙ ap (λ (fs : List Field). length fs) fields ∙ length-map b (field_of 0)
 
+-- `PackedDataCanBeBare`
 pub packed_can_be_bare : (tree : Tree) (subsets : List Subset) (columns : List Column) (data_bits : List Bool) → PackedDataCanBeBare tree subsets columns data_bits
 packed_can_be_bare tree [] columns data_bits h can = ([], (h.0, [], refl, refl))
 packed_can_be_bare tree (s ∷ subsets) columns data_bits h can =
     let many : length h.1.0 ≡ length columns = as_many s subsets (length subsets) (length subsets) h.1.0 columns h.1.1 can.0 in
-    let room : length columns * length (s ∷ subsets) ≤ 67108864 = subst (λ k. k * length (s ∷ subsets) ≤ 67108864) many h.1.2 in
+    let room : length columns * length (s ∷ subsets) ≤ most_values = subst (λ k. k * length (s ∷ subsets) ≤ most_values) many h.1.2 in
     (best_bits columns, (h.0, columns, (can.0, room, can.1), refl))
 
+-- a kind is a factor's or is not
 kind_decides : (k : Kind) (b : Bool) → same_kind k kinds.Count ≡ b → (k ≡ kinds.Count) ⊎ (k ≡ kinds.Count → ⊥)
 kind_decides k true e = inl (kind_is k e)
 kind_decides k false e = inr (λ is. let bad : same_kind k kinds.Count ≡ true = ap (λ x. same_kind x kinds.Count) is in absurd (let worse = sym bad ∙ e in cc))
 
+-- a column of a narrow field can be written
 narrow_column : (c : Column) → HaveOneCount c → widest c.spec ≤ 63 → can_be_column c.spec c.values ≡ true
 narrow_column c one short =
     elim (kind_decides c.spec.kind (same_kind c.spec.kind kinds.Count) refl) [
@@ -44,11 +49,13 @@ narrow_column c one short =
       | inr other ↦ can_passes c.spec c.values (narrow other short)
     ]
 
+-- so can all columns of narrow fields
 narrow_columns : (n : ℕ) (columns : List Column) (front : List Bool) → AreColumns n columns front → AllByRecursion (λ f. widest f.spec ≤ 63) (map (field_of 0) columns) → AllByRecursion (CanBeWritten n) columns
 narrow_columns n [] front are short = tt
 narrow_columns n (c ∷ cs) front are short =
     ((are.3, narrow_column c are.5 short.0), narrow_columns n cs are.1 are.6 short.1)
 
+-- `NarrowDataCanBePacked`
 pub narrow_can_be_packed : (tree : Tree) (subsets : List Subset) (data_bits : List Bool) → NarrowDataCanBePacked tree subsets data_bits
 narrow_can_be_packed tree [] data_bits h short = ([], (refl, tt))
 narrow_can_be_packed tree (s ∷ subsets) data_bits h short =

@@ -15,25 +15,28 @@ use Rattle.bufr_data.specs.declared.field.Field.{Field}
 use Rattle.bufr_data.specs.declared.field.Subset.{Subset}
 use Rattle.bufr_data.specs.declared.fault.WriteFault.{WriteFault}
 use Rattle.bufr_data.specs.declared.fault.WriteFault.TheVariants as misfits
-use Rattle.bufr_data.specs.Plain.{plain_subsets, SubsetsRead, subsets_at, items_of, same_spec}
+use Rattle.bufr_data.specs.Plain.{items_of, same_spec}
 use Rattle.bufr_data.specs.Fits.{HasForm, FitsAlone}
 use Rattle.bufr_data.specs.Columns.{Column, AreColumns, field_of, subsets_from, Packed}
 use Rattle.bufr_data.specs.ColumnReading.{ColumnsFound, columns_at}
 use Rattle.bufr_data.specs.BestColumns.{best, can_be_column, begins_like, first_raw, is_empty, column_or, columns_of, columns_of_all, packed}
 use Rattle.bufr_data.specs.Data.{BeginsWithData, subsets_in, each_fits, written_bits}
 use Rattle.bufr_data.proofs.PlainFacts.{and_first, and_second, equal_is, same_spec_is, bind_ok}
-use Rattle.bufr_data.proofs.FitFacts.{AreUnrolled, AreAllowed, counted_fit, fitting_counted, all_read_stand, all_standing_read, written_fit}
+use Rattle.bufr_data.proofs.FitFacts.{AreUnrolled, AreAllowed, counted_fit, fitting_counted}
 use Rattle.bufr_expand.specs.Steady.{course_steady}
 use Rattle.bufr_data.proofs.ColumnFacts.{guarded}
 use Rattle.bufr_data.proofs.ColumnWalks.{AllForm, ok_same, columns_again, columns_found}
 use Rattle.bufr_data.proofs.BestFacts.{best_column, one_count}
+use Rattle.bufr_data.specs.Limits.{most_values}
 
 -- ---- reading
 
+-- so many subsets from an index on
 pub length-from : (k n : ℕ) (columns : List Column) → length (subsets_from k n columns) ≡ n
 length-from k zero columns = refl
 length-from k (suc n) columns = ap suc (length-from (k + 1) n columns)
 
+-- what is answered of a mapped answer was answered before
 pub map_ok : {A B F : Type 0} (f : A → B) (o : Result A F) (y : B) → result_map f o ≡ Ok y → (x : A) × (o ≡ Ok x) × (f x ≡ y)
 map_ok f (Ok x) y e = (x, refl, ok_same _ _ e)
 map_ok f (Err g) y e = absurd cc
@@ -44,11 +47,13 @@ fit_from law tree n k zero columns items within asked = tt
 fit_from law tree n k (suc m) columns items within asked =
     ((items, counted_fit law tree 1 0 items (map (field_of k) columns) (omega arith) (asked 1 k (omega (arith, within)))), fit_from law tree n (k + 1) m columns items (omega (arith, within)) asked)
 
-packed_from : (n : ℕ) (columns : List Column) (content : List Bool) → length columns * suc n ≤ 67108864 → AreColumns (suc n) columns content → Packed (subsets_from 0 (suc n) columns) content
+-- columns that stand are packed subsets
+packed_from : (n : ℕ) (columns : List Column) (content : List Bool) → length columns * suc n ≤ most_values → AreColumns (suc n) columns content → Packed (subsets_from 0 (suc n) columns) content
 packed_from n columns content room are =
     let many : suc n ≡ length (subsets_from 0 (suc n) columns) = sym (length-from 0 (suc n) columns) in
-    subst (λ l. (cs : List Column) × (subsets_from 0 (suc n) columns ≡ subsets_from 0 l cs) × (length cs * l ≤ 67108864) × AreColumns l cs content) many (columns, refl, room, are)
+    subst (λ l. (cs : List Column) × (subsets_from 0 (suc n) columns ≡ subsets_from 0 l cs) × (length cs * l ≤ most_values) × AreColumns l cs content) many (columns, refl, room, are)
 
+-- compressed subsets that are read fit and stand there
 pub compressed_stand : AreUnrolled → (tree : Tree) (n : ℕ) (front : List Bool) (found : List Subset × List Bool)
     → subsets_in tree true n front ≡ Ok found → BeginsWithData tree true n front found
 compressed_stand law tree zero front found e =
@@ -60,9 +65,11 @@ compressed_stand law tree (suc n) front found e =
     subst (λ g. BeginsWithData tree true (suc n) front g) h.2
     (walk.packed, (fit, packed_from n h.0.columns walk.packed (omega (arith, walk.room)) walk.columns), length-from 0 (suc n) h.0.columns, walk.spelt)
 
+-- equal lists begin with the same
 cons_head : (s t : Subset) (ss ts : List Subset) → s ∷ ss ≡ t ∷ ts → s ≡ t
 cons_head s t ss ts e = cc
 
+-- the step of `compressed_read`: some subset
 compressed_read_by : AreAllowed → (tree : Tree) (n : ℕ) (content rest : List Bool) (s : Subset) (subsets : List Subset) → length (s ∷ subsets) ≡ suc n → FitsAlone tree s → Packed (s ∷ subsets) content → subsets_in tree true (suc n) (content ++ rest) ≡ Ok (s ∷ subsets, rest)
 compressed_read_by law tree n content rest s subsets many fit pack =
     let columns = pack.0 in
@@ -71,10 +78,11 @@ compressed_read_by law tree n content rest s subsets many fit pack =
     let counted : items_of 1 1 (course tree 0) (map (field_of 0) columns) ≡ Ok fit.0 =
     subst (λ fs. items_of 1 1 (course tree 0) fs ≡ Ok fit.0) first (fitting_counted law tree 1 0 fit.0 s.fields fit.1) in
     let are : AreColumns (suc n) columns content = subst (λ l. AreColumns l columns content) many pack.3 in
-    let room : length columns * suc n ≤ 67108864 = subst (λ l. length columns * l ≤ 67108864) many pack.2 in
+    let room : length columns * suc n ≤ most_values = subst (λ l. length columns * l ≤ most_values) many pack.2 in
     let read = columns_again (suc n) 1 1 (course tree 0) columns fit.0 content rest (omega arith) are counted (omega (arith, room)) in
     ap (λ x. result_map (λ (f : ColumnsFound). (subsets_from 0 (suc n) f.columns, f.rest)) x) read ∙ ap (λ ss. Ok (ss, rest)) (sym from)
 
+-- packed subsets that fit are read
 pub compressed_read : AreAllowed → (tree : Tree) (n : ℕ) (content rest : List Bool) (subsets : List Subset) → length subsets ≡ n → AllByRecursion (FitsAlone tree) subsets → Packed subsets content → subsets_in tree true n (content ++ rest) ≡ Ok (subsets, rest)
 compressed_read law tree zero content rest [] many fit pack = ap (λ xs. Ok ([], xs ++ rest)) pack
 compressed_read law tree zero content rest (s ∷ subsets) many fit pack = absurd (omega (arith, many))
@@ -83,6 +91,7 @@ compressed_read law tree (suc n) content rest (s ∷ subsets) many fit pack = co
 
 -- ---- subsets and their columns
 
+-- a subset that has ended has no field
 none_like : (others : List (List Field)) (k : ℕ) → list_all is_empty others ≡ true → get_or others k [] ≡ []
 none_like [] k e = refl
 none_like ([] ∷ others) zero e = refl
@@ -90,11 +99,13 @@ none_like ((f ∷ fs) ∷ others) zero e = absurd cc
 none_like ([] ∷ others) (suc k) e = none_like others k e
 none_like ((f ∷ fs) ∷ others) (suc k) e = absurd cc
 
+-- the subset at an index begins like the first
 like_at : (f : Field) (others : List (List Field)) (k : ℕ) → list_all (begins_like f) others ≡ true → k < length others → begins_like f (get_or others k []) ≡ true
 like_at f [] k e short = absurd (omega (arith, short))
 like_at f (fs ∷ others) zero e short = and_first (begins_like f fs) (list_all (begins_like f) others) e
 like_at f (fs ∷ others) (suc k) e short = like_at f others k (and_second (begins_like f fs) (list_all (begins_like f) others) e) (omega (arith, short))
 
+-- such a subset begins with the first's descriptor and spec, and a value of its own
 like_is : (f : Field) (fs : List Field) → begins_like f fs ≡ true → fs ≡ record { fxy = f.fxy; spec = f.spec; raw = first_raw fs } ∷ drop 1 fs
 like_is f [] e = absurd cc
 like_is f (g ∷ gs) e =
@@ -110,21 +121,25 @@ pub record Taken (i : ℕ) (f : Field) (fs : List Field) (others : List (List Fi
   pub can : can_be_column f.spec (f.raw ∷ map first_raw others) ≡ true
   pub rest : columns_of (i + 1) fs (map (drop 1) others) ≡ Ok behind
 
+-- where columns are answered, this place is one and the others are
 column_taken : (i : ℕ) (b : Bool) (c : Column) (others : Result (List Column) WriteFault) (columns : List Column) → column_or i b c others ≡ Ok columns → (behind : List Column) × (b ≡ true) × (others ≡ Ok behind) × (columns ≡ c ∷ behind)
 column_taken i true c (Ok cs) columns e = (cs, refl, refl, sym (ok_same _ _ e))
 column_taken i true c (Err g) columns e = absurd cc
 column_taken i false c others columns e = absurd cc
 
+-- what is known where a place is a column
 pub taken : (i : ℕ) (f : Field) (fs : List Field) (others : List (List Field)) (columns : List Column) → columns_of i (f ∷ fs) others ≡ Ok columns → Taken i f fs others columns
 unfolding columns_of
 taken i f fs others columns e =
     let h = column_taken i (list_all (begins_like f) others && can_be_column f.spec (f.raw ∷ map first_raw others)) _ (columns_of (i + 1) fs (map (drop 1) others)) columns e in
     record { behind = h.0; is = h.3; like = and_first _ _ h.1; can = and_second (list_all (begins_like f) others) _ h.1; rest = h.2 }
 
+-- the step of `none_taken`
 none_taken_by : (i : ℕ) (b : Bool) (columns : List Column) → cond b (Ok []) (Err (misfits.NotCompressible i)) ≡ Ok columns → (b ≡ true) × (columns ≡ [])
 none_taken_by i true columns e = (refl, sym (ok_same _ _ e))
 none_taken_by i false columns e = absurd cc
 
+-- where columns end all subsets end
 pub none_taken : (i : ℕ) (others : List (List Field)) (columns : List Column) → columns_of i [] others ≡ Ok columns → (list_all is_empty others ≡ true) × (columns ≡ [])
 unfolding columns_of
 none_taken i others columns e = none_taken_by i (list_all is_empty others) columns e
@@ -148,6 +163,7 @@ rows i (f ∷ fs) others columns e (suc k) short =
     let after : drop 1 (get_or others k []) ≡ map (field_of (suc k)) h.behind = sym (get_or-map (drop 1) others k [] [] inside) ∙ behind in
     here ∙ (λ t. (record { fxy = f.fxy; spec = f.spec; raw = sym own t }) ∷ after t) ∙ ap (map (field_of (suc k))) (sym h.is)
 
+-- subsets whose fields are those of columns are the subsets of these
 pub each_row : (k : ℕ) (subsets : List Subset) (columns : List Column) → ((l : ℕ) → l < length subsets → get_or (map (λ (t : Subset). t.fields) subsets) l [] ≡ map (field_of (k + l)) columns) → subsets ≡ subsets_from k (length subsets) columns
 each_row k [] columns h = refl
 each_row k (s ∷ subsets) columns h =
@@ -157,16 +173,20 @@ each_row k (s ∷ subsets) columns h =
 
 -- ---- writing
 
+-- each raw value has its spec's form
 abbrev AreFormed : List Field → Type 0
 AreFormed fields = AllByRecursion (λ f. HasForm f.spec f.raw) fields
 
+-- so has each value of each of so many subsets
 abbrev Formed : ℕ → List Column → Type 0
 Formed n columns = (k : ℕ) → k < n → AreFormed (map (field_of k) columns)
 
+-- values that have their form at each index have it all
 all_formed : (spec : Spec) (values : List Raw) → ((k : ℕ) → k < length values → HasForm spec (get_or values k (Number 0))) → AllForm spec values
 all_formed spec [] h = tt
 all_formed spec (v ∷ vs) h = (h 0 (omega arith), all_formed spec vs (λ k short. h (suc k) (omega (arith, short))))
 
+-- the best columns of places are columns
 are_columns : (i : ℕ) (fs : List Field) (others : List (List Field)) (columns : List Column) → columns_of i fs others ≡ Ok columns → Formed (1 + length others) columns → AreColumns (1 + length others) columns (flat_map (λ c. best c.spec c.values) columns)
 are_columns i [] others columns e formed =
     let none = (none_taken i others columns e).1 in
@@ -184,20 +204,24 @@ are_columns i (f ∷ fs) others columns e formed =
     subst (λ cs. AreColumns (1 + length others) cs (flat_map (λ c. best c.spec c.values) cs)) (sym h.is)
     (best f.spec values, flat_map (λ c. best c.spec c.values) h.behind, refl, size, best_column f.spec values (omega (arith, size)) form h.can, one_count f.spec values h.can, behind)
 
+-- subsets that are counted one by one fit one by one
 pub each_fit : AreUnrolled → (tree : Tree) (j : ℕ) (subsets : List Subset) (u : Unit {0}) → each_fits tree j subsets ≡ Ok u → AllByRecursion (FitsAlone tree) subsets
 each_fit law tree j [] u e = tt
 each_fit law tree j (s ∷ subsets) u e =
     let h = bind_ok (items_of j 1 (course tree 0) s.fields) _ u e in
     ((h.0, counted_fit law tree j 0 h.0 s.fields (omega arith) h.1), each_fit law tree (j + 1) subsets u h.2)
 
+-- the subset at an index has raw values of their form
 formed_at : (tree : Tree) (subsets : List Subset) (k : ℕ) → AllByRecursion (FitsAlone tree) subsets → k < length subsets → AreFormed (get_or (map (λ (t : Subset). t.fields) subsets) k [])
 formed_at tree [] k fit short = absurd (omega (arith, short))
 formed_at tree (s ∷ subsets) zero fit short = fit.0.1.1.formed
 formed_at tree (s ∷ subsets) (suc k) fit short = formed_at tree subsets k fit.1 (omega (arith, short))
 
+-- what is written of subsets holds them
 abbrev pub WrittenHold : Tree → List Subset → List Bool → Type 0
 WrittenHold tree subsets content = AllByRecursion (FitsAlone tree) subsets × Packed subsets content
 
+-- the best columns of subsets that fit are packed subsets
 written_pack : (tree : Tree) (s : Subset) (subsets : List Subset) (columns : List Column) (content : List Bool) → AllByRecursion (FitsAlone tree) (s ∷ subsets) → columns_of 1 s.fields (map (λ (t : Subset). t.fields) subsets) ≡ Ok columns → packed (length (s ∷ subsets)) columns ≡ Ok content → Packed (s ∷ subsets) content
 written_pack tree s subsets columns content fit e p =
     let others = map (λ (t : Subset). t.fields) subsets in
@@ -207,10 +231,11 @@ written_pack tree s subsets columns content fit e p =
     let formed : Formed (1 + length others) columns = λ k short. subst AreFormed (row k short) (formed_at tree (s ∷ subsets) k fit (omega (arith, short, many))) in
     let are = are_columns 1 s.fields others columns e formed in
     let size : 1 + length others ≡ length (s ∷ subsets) = omega (arith, many) in
-    let g = guarded (nat_lt 67108864 (length columns * length (s ∷ subsets))) _ _ content p in
+    let g = guarded (nat_lt most_values (length columns * length (s ∷ subsets))) _ _ content p in
     let bits_are = ok_same _ _ g.1 in
     (columns, whole, ltb-false _ _ g.0, subst (λ b. AreColumns (length (s ∷ subsets)) columns b) bits_are (subst (λ l. AreColumns l columns (flat_map (λ c. best c.spec c.values) columns)) size are))
 
+-- so what is written compressed holds its subsets
 pub compressed_hold : AreUnrolled → (tree : Tree) (subsets : List Subset) (content : List Bool) → written_bits tree true subsets ≡ Ok content → WrittenHold tree subsets content
 compressed_hold law tree [] content e = (tt, sym (ok_same _ _ e))
 compressed_hold law tree (s ∷ subsets) content e =

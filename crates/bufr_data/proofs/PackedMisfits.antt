@@ -1,6 +1,6 @@
 -- The fault of subsets that are written compressed is the first misfit: for the law on what messages
 -- know of data (`data_hold_subsets`).
-use Rattle.std.proofs.Common.{◌≡◌, ℕ, suc, ◌+◌, ◌*◌, ◌<◌, Bool, true, false, List, [], ◌∷◌, ◌++◌, length, map, Ok, Err, refl, sym, ap, subst, ◌∙◌, arith, inl, inr}
+use Rattle.std.proofs.Common.{◌≡◌, ℕ, suc, ◌+◌, ◌*◌, ◌<◌, true, List, [], ◌∷◌, ◌++◌, length, map, Ok, Err, refl, sym, ap, subst, ◌∙◌, arith, inl, inr}
 use Rattle.std.specs.Prelude.{nat_lt}
 use Rattle.std.specs.List.{AllByRecursion}
 use Rattle.std.proofs.lemmas.Bool.{lt-ltb, ltb-true}
@@ -23,6 +23,7 @@ use Rattle.bufr_data.proofs.ColumnRefusals.{bind_err, guard_err}
 use Rattle.bufr_data.proofs.PackedFacts.{rows, each_row, each_fit}
 use Rattle.bufr_data.proofs.WrittenColumns.{all_can, columns_written, each_counted}
 use Rattle.bufr_data.proofs.MisfitFacts.{columns_apart, apart_columns}
+use Rattle.bufr_data.specs.Limits.{most_values}
 
 -- a subset that does not fit by itself, and those before it
 abbrev MisfitFrom : Tree → ℕ → List Subset → WriteFault → Type 0
@@ -30,6 +31,7 @@ MisfitFrom tree j subsets fault =
     (before : List Subset) × (s : Subset) × (behind : List Subset) × (subsets ≡ before ++ s ∷ behind) × AllByRecursion (FitsAlone tree) before
     × FirstMisfit tree (j + length before) 0 s.fields fault
 
+-- the fault of subsets that are counted one by one is the first misfit
 each_misfit : Laws → (tree : Tree) (j : ℕ) (subsets : List Subset) (fault : WriteFault) → each_fits tree j subsets ≡ Err fault → MisfitFrom tree j subsets fault
 each_misfit laws tree j [] fault e = absurd cc
 each_misfit laws tree j (s ∷ subsets) fault e =
@@ -43,6 +45,7 @@ each_misfit laws tree j (s ∷ subsets) fault e =
           (s ∷ h.0, h.1, h.2, ap (λ ss. s ∷ ss) h.3, ((x.0, counted_fit laws.unrolled tree j 0 x.0 s.fields (omega arith) x.1), h.4), subst (λ k. FirstMisfit tree k 0 h.1.fields fault) same h.5)
     ]
 
+-- and the first misfit is their fault
 misfit_each : Laws → (tree : Tree) (j : ℕ) (before : List Subset) (s : Subset) (behind : List Subset) (fault : WriteFault) → AllByRecursion (FitsAlone tree) before → FirstMisfit tree (j + length before) 0 s.fields fault → each_fits tree j (before ++ s ∷ behind) ≡ Err fault
 misfit_each laws tree j [] s behind fault fit h =
     let same : j + 0 ≡ j = omega arith in
@@ -51,6 +54,7 @@ misfit_each laws tree j (t ∷ before) s behind fault fit h =
     let same : j + suc (length before) ≡ j + 1 + length before = omega arith in
     rw (fitting_counted laws.allowed tree j 0 fit.0.0 t.fields fit.0.1) (misfit_each laws tree (j + 1) before s behind fault fit.1 (subst (λ k. FirstMisfit tree k 0 s.fields fault) same h))
 
+-- the fault of packed columns is that they are too many
 too_many_err : (tree : Tree) (s : Subset) (subsets : List Subset) (columns : List Column) (fault : WriteFault) → AllByRecursion (FitsAlone tree) (s ∷ subsets) → columns_of 1 s.fields (map (λ (t : Subset). t.fields) subsets) ≡ Ok columns → packed (length (s ∷ subsets)) columns ≡ Err fault → FirstUnpacked tree (s ∷ subsets) fault
 too_many_err tree s subsets columns fault fit e p =
     let others = map (λ (t : Subset). t.fields) subsets in
@@ -58,11 +62,12 @@ too_many_err tree s subsets columns fault fit e p =
     let row = rows 1 s.fields others columns e in
     let whole = each_row 0 (s ∷ subsets) columns (λ l short. row l (omega (arith, short, many)) ∙ ap (λ n. map (field_of n) columns) (omega arith)) in
     let size : 1 + length others ≡ length (s ∷ subsets) = omega (arith, many) in
-    elim (guard_err (nat_lt 67108864 (length columns * length (s ∷ subsets))) _ fault _ p) [
+    elim (guard_err (nat_lt most_values (length columns * length (s ∷ subsets))) _ fault _ p) [
       | inl past ↦ too_many columns fit (omega arith) whole (subst (λ l. AllByRecursion (CanBeWritten l) columns) size (all_can 1 s.fields others columns e)) (ltb-true _ _ past.0) (sym past.1)
       | inr ok ↦ let bad = ok.1 in absurd cc
     ]
 
+-- the fault of what is written compressed is the first
 pub unpacked_is : Laws → (tree : Tree) (subsets : List Subset) (fault : WriteFault) → written_bits tree true subsets ≡ Err fault → FirstUnpacked tree subsets fault
 unpacked_is laws tree [] fault e = absurd cc
 unpacked_is laws tree (s ∷ subsets) fault e =
@@ -76,12 +81,14 @@ unpacked_is laws tree (s ∷ subsets) fault e =
           ]
     ]
 
-too_many_again : Laws → (tree : Tree) (subsets : List Subset) (columns : List Column) (fault : WriteFault) → AllByRecursion (FitsAlone tree) subsets → 0 < length subsets → subsets ≡ subsets_from 0 (length subsets) columns → AllByRecursion (CanBeWritten (length subsets)) columns → 67108864 < length columns * length subsets → fault ≡ misfits.TooLarge → written_bits tree true subsets ≡ Err fault
+-- columns that are too many are refused so
+too_many_again : Laws → (tree : Tree) (subsets : List Subset) (columns : List Column) (fault : WriteFault) → AllByRecursion (FitsAlone tree) subsets → 0 < length subsets → subsets ≡ subsets_from 0 (length subsets) columns → AllByRecursion (CanBeWritten (length subsets)) columns → most_values < length columns * length subsets → fault ≡ misfits.TooLarge → written_bits tree true subsets ≡ Err fault
 too_many_again laws tree [] columns fault fit some whole can past is = absurd (omega (arith, some))
 too_many_again laws tree (s ∷ subsets) columns fault fit some whole can past is =
     let found : columns_of_all (s ∷ subsets) ≡ Ok columns = ap columns_of_all whole ∙ columns_written 1 (length subsets) columns can in
-    rw (each_counted laws.allowed tree 1 (s ∷ subsets) fit, found, lt-ltb 67108864 (length columns * length (s ∷ subsets)) past) (ap (λ f. Err f) (sym is))
+    rw (each_counted laws.allowed tree 1 (s ∷ subsets) fit, found, lt-ltb most_values (length columns * length (s ∷ subsets)) past) (ap (λ f. Err f) (sym is))
 
+-- and the first fault is answered
 pub unpacked_again : Laws → (tree : Tree) (subsets : List Subset) (fault : WriteFault) → FirstUnpacked tree subsets fault → written_bits tree true subsets ≡ Err fault
 unpacked_again laws tree subsets fault (misfit before s behind is fit h) =
     ap (written_bits tree true) is ∙ rw (misfit_each laws tree 1 before s behind fault fit h) refl

@@ -1,4 +1,5 @@
--- What is read from bits are exactly the fields that a course allows, and the bits are theirs.
+-- What is read from bits are exactly the fields that a course allows, and the bits are theirs: for
+-- the law `plain_data_spell_subsets`.
 use Rattle.bufr_tables.specs.Answers.{◌>>=◌}
 use Rattle.std.proofs.Common.{◌≡◌, ℕ, zero, suc, ◌+◌, ◌*◌, ◌/◌, ◌^◌, ◌<◌, ◌≤◌, Bool, true, false, cond, ltb, List, [], ◌∷◌, ◌++◌, length, take, drop, Option, Some, None, Result, Ok, Err, ℤ, pos, negsuc, refl, sym, ap, subst, ◌∙◌, arith, append_assoc, length-append, inl, inr}
 use Rattle.std.specs.Prelude.{◌==◌, ◌&&◌, nat_lt, nat_le, option_map}
@@ -24,17 +25,21 @@ use Rattle.bufr_data.specs.Plain.{raw_bits, field_bits, plain, plain_subsets, Su
 
 -- ---- tests
 
+-- the first of two truths
 pub and_first : (a b : Bool) → (a && b) ≡ true → a ≡ true
 and_first true b e = refl
 and_first false b e = absurd cc
 
+-- and the second
 pub and_second : (a b : Bool) → (a && b) ≡ true → b ≡ true
 and_second true b e = e
 and_second false b e = absurd cc
 
+-- numbers that are told equal are one
 pub equal_is : (a b : ℕ) → (a == b) ≡ true → a ≡ b
 equal_is a b e = eqb-true a b e
 
+-- so are kinds
 pub same_kind_is : (a b : Kind) → same_kind a b ≡ true → a ≡ b
 same_kind_is kinds.Text kinds.Text e = refl
 same_kind_is kinds.Code kinds.Code e = refl
@@ -43,12 +48,14 @@ same_kind_is kinds.Quantity kinds.Quantity e = refl
 same_kind_is kinds.Count kinds.Count e = refl
 same_kind_is _ _ e = absurd cc
 
+-- and whole numbers
 same_integer_is : (a b : ℤ) → same_integer a b ≡ true → a ≡ b
 same_integer_is (pos a) (pos b) e = ap (λ n. pos n) (equal_is a b e)
 same_integer_is (negsuc a) (negsuc b) e = ap (λ n. negsuc n) (equal_is a b e)
 same_integer_is (pos a) (negsuc b) e = absurd cc
 same_integer_is (negsuc a) (pos b) e = absurd cc
 
+-- and specs
 pub same_spec_is : (a b : Spec) → same_spec a b ≡ true → a ≡ b
 same_spec_is a b e =
     let e1 = and_first _ _ e in
@@ -61,10 +68,12 @@ same_spec_is a b e =
 
 -- ---- octets
 
+-- octets begin with one, and the others are octets
 all_below : (x : ℕ) (xs : List ℕ) → list_all (λ c. nat_lt c 256) (x ∷ xs) ≡ true → (x < 256) × (list_all (λ c. nat_lt c 256) xs ≡ true)
 all_below x xs e =
     (ltb-true x 256 (and_first (nat_lt x 256) (list_all (λ c. nat_lt c 256) xs) e), and_second (nat_lt x 256) (list_all (λ c. nat_lt c 256) xs) e)
 
+-- the numbers of eight bits of octets are these
 numbers_of_octets : (os : List ℕ) (rest : List Bool) → list_all (λ c. nat_lt c 256) os ≡ true → numbers (length os) 8 (bits os ++ rest) ≡ os
 unfolding numbers
 numbers_of_octets [] rest all = refl
@@ -73,13 +82,16 @@ numbers_of_octets (x ∷ os) rest all =
     let e : bits (x ∷ os) ++ rest ≡ bin 8 x ++ (bits os ++ rest) = append_assoc (bin 8 x) (bits os) rest in
     rw (e, take_at (bin 8 x) (bits os ++ rest) 8 (length-bin 8 x), drop_at (bin 8 x) (bits os ++ rest) 8 (length-bin 8 x), number-bin 8 x, small_mod x 256 h.0, numbers_of_octets os rest h.1) refl
 
+-- octets have eight bits each
 pub length-bits : (os : List ℕ) → length (bits os) ≡ length os * 8
 length-bits [] = refl
 length-bits (x ∷ os) = omega (arith, length-append (bin 8 x) (bits os), length-bin 8 x, length-bits os)
 
+-- behind the bits of octets stands the rest
 drop_bits : (os : List ℕ) (rest : List Bool) → drop (length os * 8) (bits os ++ rest) ≡ rest
 drop_bits os rest = drop_at (bits os) rest (length os * 8) (length-bits os)
 
+-- octets are read of their bits
 numbers_at-bits : (os : List ℕ) (rest : List Bool) → list_all (λ c. nat_lt c 256) os ≡ true → numbers_at (length os) 8 (bits os ++ rest) ≡ Some (os, rest)
 unfolding numbers_at
 numbers_at-bits os rest all =
@@ -88,12 +100,14 @@ numbers_at-bits os rest all =
 
 -- ---- fields
 
+-- a number is read of its bits
 number_again : (width n : ℕ) (rest : List Bool) → (nat_le width 64 && nat_lt n (2 ^ width)) ≡ true → option_map {U = Raw × List Bool} (λ x. (Number x.0, x.1)) (field_number_at width (bin width n ++ rest)) ≡ Some (Number n, rest)
 number_again width n rest e =
     let short : nat_le width 64 ≡ true = and_first _ _ e in
     let below : n < 2 ^ width = ltb-true _ _ (and_second (nat_le width 64) (nat_lt n (2 ^ width)) e) in
     rw (short, number_at-bin width n rest below) refl
 
+-- a raw value of its form is read of its bits
 pub raw_again : (kind : Kind) (width : ℕ) (raw : Raw) (rest : List Bool) → has_form_by kind width raw ≡ true → raw_at_by kind width (raw_bits width raw ++ rest) ≡ Some (raw, rest)
 raw_again kinds.Text width (Text os) rest e =
     let size : length os ≡ width / 8 = equal_is _ _ (and_first _ _ e) in
@@ -110,13 +124,16 @@ raw_again kinds.Flag width (Text os) rest e = absurd cc
 raw_again kinds.Quantity width (Text os) rest e = absurd cc
 raw_again kinds.Count width (Text os) rest e = absurd cc
 
+-- what is answered past a test has passed it
 pub guard_ok : (b : Bool) (x : Result ℕ WriteFault) (f : WriteFault) (n : ℕ) → cond b x (Err f) ≡ Ok n → (b ≡ true) × (x ≡ Ok n)
 guard_ok true x f n e = (refl, e)
 guard_ok false x f n e = absurd cc
 
+-- equal answers have equal values
 pub ok_is : (m n : ℕ) → ◌≡◌ {A = Result ℕ WriteFault} (Ok m) (Ok n) → m ≡ n
 ok_is m n e = cc
 
+-- fields that are counted are read of their bits
 pub fields_at-plain : (j i : ℕ) (c : Course) (fs : List Field) (n : ℕ) (rest : List Bool) → items_of j i c fs ≡ Ok n → fields_at j i c (plain fs ++ rest) ≡ Ok (record { fields = fs; items = n; rest = rest })
 unfolding items_of fields_at
 fields_at-plain j i (ends m) [] n rest e = ap (λ k. Ok (record { fields = []; items = k; rest = rest })) (ok_is m n e)
@@ -139,6 +156,7 @@ fields_at-plain j i (asks met d spec more) (f ∷ fs) n rest e =
 
 -- ---- what is read has its form, and the bits are its own
 
+-- a kind is told the same as itself
 kind_is_same : (k : Kind) → same_kind k k ≡ true
 kind_is_same kinds.Text = refl
 kind_is_same kinds.Code = refl
@@ -146,24 +164,30 @@ kind_is_same kinds.Flag = refl
 kind_is_same kinds.Quantity = refl
 kind_is_same kinds.Count = refl
 
+-- so is a whole number
 integer_is_same : (z : ℤ) → same_integer z z ≡ true
 integer_is_same (pos n) = eq-eqb n n refl
 integer_is_same (negsuc n) = eq-eqb n n refl
 
+-- and a spec
 pub spec_is_same : (s : Spec) → same_spec s s ≡ true
 spec_is_same s = rw (kind_is_same s.kind, integer_is_same s.scale, integer_is_same s.reference, eq-eqb s.width s.width refl) refl
 
+-- equal values that there are are one
 some_is : {A : Type 0} (x y : A) → Some x ≡ Some y → x ≡ y
 some_is x y e = cc
 
+-- equal answers have equal values
 ok_found : {A : Type 0} (x y : A) → ◌≡◌ {A = Result A ReadFault} (Ok x) (Ok y) → x ≡ y
 ok_found x y e = cc
 
+-- so many numbers are read
 pub length-numbers : (n width : ℕ) (front : List Bool) → length (numbers n width front) ≡ n
 unfolding numbers
 length-numbers zero width front = refl
 length-numbers (suc n) width front = ap suc (length-numbers n width (drop width front))
 
+-- numbers of eight bits are octets
 pub numbers_below : (n : ℕ) (front : List Bool) → n * 8 ≤ length front → list_all (λ c. nat_lt c 256) (numbers n 8 front) ≡ true
 unfolding numbers
 numbers_below zero front long = refl
@@ -173,6 +197,7 @@ numbers_below (suc n) front long =
     let others : n * 8 ≤ length (drop 8 front) = omega (arith, length-drop 8 front) in
     rw (lt-ltb (number (take 8 front)) 256 below, numbers_below n (drop 8 front) others) refl
 
+-- their bits are the front
 pub bits_of_numbers : (n : ℕ) (front : List Bool) → n * 8 ≤ length front → bits (numbers n 8 front) ++ drop (n * 8) front ≡ front
 unfolding numbers
 bits_of_numbers zero front long = refl
@@ -186,6 +211,7 @@ bits_of_numbers (suc n) front long =
     ∙ ap (λ xs. take 8 front ++ xs) (bits_of_numbers n (drop 8 front) others)
     ∙ take-append-drop 8 front
 
+-- octets that are read stand there
 numbers_at_is : (n : ℕ) (os : List ℕ) (front rest : List Bool) → numbers_at n 8 front ≡ Some (os, rest) → (length os ≡ n) × (list_all (λ c. nat_lt c 256) os ≡ true) × (front ≡ bits os ++ rest)
 unfolding numbers_at
 numbers_at_is n os front rest e =
@@ -199,9 +225,11 @@ numbers_at_is n os front rest e =
           (length-numbers n 8 front, numbers_below n front le, sym (bits_of_numbers n front le))
     ]
 
+-- a raw value of its form stands at the front, and these bits are left
 abbrev pub IsRaw : Kind → ℕ → List Bool → Raw × List Bool → Type 0
 IsRaw kind width front x = (has_form_by kind width x.0 ≡ true) × (front ≡ raw_bits width x.0 ++ x.1)
 
+-- a number that is read stands there
 number_read : (width : ℕ) (front : List Bool) (short : Bool) (o : Option (ℕ × List Bool)) (x : Raw × List Bool) → nat_le width 64 ≡ short → number_at width front ≡ o → option_map {U = Raw × List Bool} (λ y. (Number y.0, y.1)) (cond short o None) ≡ Some x → ((nat_le width 64 && nat_lt (number_of x.0) (2 ^ width)) ≡ true) × (x.0 ≡ Number (number_of x.0)) × (front ≡ raw_bits width x.0 ++ x.1)
 number_read width front false o x s found e = absurd cc
 number_read width front true None x s found e = absurd cc
@@ -212,6 +240,7 @@ number_read width front true (Some y) x s found e =
     subst (λ (p : Raw × List Bool). ((nat_le width 64 && nat_lt (number_of p.0) (2 ^ width)) ≡ true) × (p.0 ≡ Number (number_of p.0)) × (front ≡ raw_bits width p.0 ++ p.1)) same
     (fits, refl, is.0)
 
+-- so does a text
 text_read : (width : ℕ) (front : List Bool) (o : Option (List ℕ × List Bool)) (x : Raw × List Bool) → numbers_at (width / 8) 8 front ≡ o → option_map {U = Raw × List Bool} (λ y. (Text y.0, y.1)) o ≡ Some x → IsRaw kinds.Text width front x
 text_read width front None x found e = absurd cc
 text_read width front (Some y) x found e =
@@ -220,6 +249,7 @@ text_read width front (Some y) x found e =
     let form : has_form_by kinds.Text width (Text y.0) ≡ true = rw (eq-eqb (length y.0) (width / 8) is.0, is.1) refl in
     subst (λ (p : Raw × List Bool). IsRaw kinds.Text width front p) same (form, is.2)
 
+-- a number within its width has the form of its kind
 number_form : (kind : Kind) (width : ℕ) (raw : Raw) → same_kind kind kinds.Text ≡ false → (nat_le width 64 && nat_lt (number_of raw) (2 ^ width)) ≡ true → raw ≡ Number (number_of raw) → has_form_by kind width raw ≡ true
 number_form kinds.Text width raw other below is = absurd cc
 number_form kinds.Code width raw other below is = rw is below
@@ -227,6 +257,7 @@ number_form kinds.Flag width raw other below is = rw is below
 number_form kinds.Quantity width raw other below is = rw is below
 number_form kinds.Count width raw other below is = rw is below
 
+-- a raw value that is read stands there
 pub raw_read : (kind : Kind) (width : ℕ) (front : List Bool) (x : Raw × List Bool) → raw_at_by kind width front ≡ Some x → IsRaw kind width front x
 raw_read kinds.Text width front x e = text_read width front _ x refl e
 raw_read kinds.Code width front x e = let is = number_read width front _ _ x refl refl e in (number_form kinds.Code width x.0 refl is.0 is.1, is.2)
@@ -234,12 +265,15 @@ raw_read kinds.Flag width front x e = let is = number_read width front _ _ x ref
 raw_read kinds.Quantity width front x e = let is = number_read width front _ _ x refl refl e in (number_form kinds.Quantity width x.0 refl is.0 is.1, is.2)
 raw_read kinds.Count width front x e = let is = number_read width front _ _ x refl refl e in (number_form kinds.Count width x.0 refl is.0 is.1, is.2)
 
+-- a raw value of a spec's form makes a field that is asked for
 stands : (d : ℕ) (spec : Spec) (raw : Raw) → has_form_by spec.kind spec.width raw ≡ true → stands_for d spec (record { fxy = d; spec = spec; raw = raw }) ≡ true
 stands d spec raw form = rw (eq-eqb d d refl, spec_is_same spec, form) refl
 
+-- fields that the course allows stand at the front
 abbrev IsFound : ℕ → ℕ → Course → List Bool → SubsetRead → Type 0
 IsFound j i c front f = (items_of j i c f.fields ≡ Ok f.items) × (front ≡ plain f.fields ++ f.rest)
 
+-- what is read later stands
 abbrev FoundAfter : ℕ → ℕ → (ℕ → Course) → Type 0
 FoundAfter j i more = (n : ℕ) (front : List Bool) (f : SubsetRead) → fields_at j i (more n) front ≡ Ok f → IsFound j i (more n) front f
 
@@ -256,11 +290,13 @@ field_joined j i met d spec more front x (Ok g) f raw after e =
     raw.1 ∙ ap (λ xs. raw_bits spec.width x.0 ++ xs) others.1 ∙ sym (append_assoc (raw_bits spec.width x.0) (plain g.fields) g.rest) in
     subst (λ (h : SubsetRead). IsFound j i (asks met d spec more) front h) same (fits, spelt)
 
+-- so a field that is read stands, and then the others
 field_found : (j i met d : ℕ) (spec : Spec) (more : ℕ → Course) (front : List Bool) (o : Option (Raw × List Bool)) (f : SubsetRead) → raw_at spec front ≡ o → FoundAfter j (i + 1) more → field_then j i d spec (λ n rest. fields_at j (i + 1) (more n) rest) o ≡ Ok f → IsFound j i (asks met d spec more) front f
 field_found j i met d spec more front None f found after e = absurd cc
 field_found j i met d spec more front (Some x) f found after e =
     field_joined j i met d spec more front x (fields_at j (i + 1) (more (number_of x.0)) x.1) f (raw_read spec.kind spec.width front x found) (after (number_of x.0) x.1) e
 
+-- what was read did not stop at a fault
 not_stopped : (fault : WalkFault) (f : SubsetRead) → stopped fault ≡ Ok f → ⊥
 not_stopped walks.TooLarge f e = cc
 not_stopped (walks.EffectiveRange d) f e = cc
@@ -276,10 +312,12 @@ fields_at-found j i (asks met d spec more) front f e =
 
 -- ---- subsets
 
+-- what is answered of two steps is answered of each
 pub bind_ok : {A B F : Type 0} (o : Result A F) (k : A → Result B F) (y : B) → (o >>= k) ≡ Ok y → (x : A) × (o ≡ Ok x) × (k x ≡ Ok y)
 bind_ok (Ok x) k y e = (x, refl, e)
 bind_ok (Err fault) k y e = absurd cc
 
+-- subsets that their courses allow stand at the front
 abbrev AreFound : (ℕ → Course) → ℕ → ℕ → ℕ → List Bool → SubsetsRead → Type 0
 AreFound course j n used front f = (length f.subsets ≡ n) × (items_of_all course j used f.subsets ≡ Ok f.items) × (front ≡ plain_subsets f.subsets ++ f.rest)
 
@@ -303,6 +341,7 @@ subsets_at-found course j (suc n) used front f e =
     front_is.1 ∙ ap (λ xs. plain first.fields ++ xs) rest_is.2 ∙ sym (append_assoc (plain first.fields) (plain_subsets others.subsets) others.rest) in
     subst (λ (h : SubsetsRead). AreFound course j (suc n) used front h) same (many, fits, spelt)
 
+-- subsets that are counted are read of their bits
 subsets_again : (course : ℕ → Course) (j used : ℕ) (subsets : List Subset) (n : ℕ) (rest : List Bool) → items_of_all course j used subsets ≡ Ok n → subsets_at course j (length subsets) used (plain_subsets subsets ++ rest) ≡ Ok (record { subsets = subsets; items = n; rest = rest })
 unfolding subsets_at items_of_all
 subsets_again course j used [] n rest e = ap (λ k. Ok (record { subsets = []; items = k; rest = rest })) (ok_is used n e)

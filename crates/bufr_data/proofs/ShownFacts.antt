@@ -1,5 +1,5 @@
--- The subsets that an index of compressed data shows, by their numbers.
-use Rattle.std.proofs.Common.{◌≡◌, ℕ, zero, suc, ◌+◌, ◌<◌, List, length, Some, Result, Ok, Err, refl, sym, ap, ◌∙◌, arith}
+-- The subsets that an index of compressed data shows, by their numbers: for `SubsetIndex::subset`.
+use Rattle.std.proofs.Common.{◌≡◌, ℕ, zero, suc, ◌+◌, ◌<◌, List, length, Some, Result, Ok, Err, sym, ap, ◌∙◌, arith}
 use Rattle.std.specs.Prelude.{slice_get, IfOk}
 use Rattle.bufr_data.specs.declared.field.Subset.{Subset}
 use Rattle.bufr_data.specs.declared.subset_index.Standing.{Standing}
@@ -9,6 +9,7 @@ use Rattle.bufr_data.specs.Indexed.{Indexed}
 use Rattle.bufr_data.specs.Shown.{shown}
 use Rattle.bufr_data.proofs.PackedFacts.{length-from}
 
+-- the subset at an index of so many
 one_from : (k n i : ℕ) (columns : List Column) → i < n → slice_get (subsets_from k n columns) i ≡ Some (subset_of columns (k + i))
 one_from k zero i columns below = absurd (omega (arith, below))
 one_from k (suc n) zero columns below = let same : k ≡ k + 0 = omega arith in ap (λ j. Some (subset_of columns j)) same

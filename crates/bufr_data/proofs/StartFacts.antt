@@ -4,9 +4,6 @@ use Rattle.std.proofs.Common.{◌≡◌, ℕ, ◌+◌, ◌-◌, ◌*◌, ◌<◌
 use Rattle.std.specs.Prelude.{IsOk}
 use Rattle.std.proofs.lemmas.List.{map-append}
 use Rattle.bufr_bits.specs.Bits.{bits}
-use Rattle.bufr_tables.specs.Answers.{Fails}
-use Rattle.bufr_tables.specs.declared.failure.Failure.{Failure}
-use Rattle.bufr_tables.specs.declared.failure.Failure.TheVariants.{Fault, OutOfMemory}
 use Rattle.bufr_expand.specs.Courses.{course}
 use Rattle.bufr_expand.specs.Trees.{Tree}
 use Rattle.bufr_data.specs.declared.field.Subset.{Subset}
@@ -14,14 +11,16 @@ use Rattle.bufr_data.specs.declared.fault.ReadFault.{ReadFault}
 use Rattle.bufr_data.specs.declared.plain_index.Start.{Start}
 use Rattle.bufr_data.specs.Plain.{SubsetRead, SubsetsRead, fields_at, subsets_at}
 use Rattle.bufr_data.specs.Numbered.{numbered, after}
-use Rattle.bufr_data.specs.Starts.{PassesSubset, fields_of, subset_at, subset_from, Stands, AllStand}
+use Rattle.bufr_data.specs.Starts.{PassesSubset, fields_of, subset_at, subset_from, BeginsAtStart, AllStand}
 use Rattle.bufr_data.proofs.SubsetFacts.{fields_at_numbered, one_more}
 
+-- an answer that is known is an answer
 ok_is : {A F : Type 0} (r : Result A F) (x : A) → r ≡ Ok x → IsOk r
 ok_is (Ok y) x e = refl
 ok_is (Err f) x e = absurd cc
 
-all_push : (octets : List ℕ) (tree : Tree) (starts : List Start) (s : Start) → AllStand octets tree starts → Stands octets tree s → AllStand octets tree (starts ++ s ∷ [])
+-- one more start at the end, and a subset begins at each
+all_push : (octets : List ℕ) (tree : Tree) (starts : List Start) (s : Start) → AllStand octets tree starts → BeginsAtStart octets tree s → AllStand octets tree (starts ++ s ∷ [])
 all_push octets tree [] s all one = (one, tt)
 all_push octets tree (t ∷ starts) s all one = (all.0, all_push octets tree starts s all.1 one)
 

@@ -1,4 +1,4 @@
--- What is read of one subset after another.
+-- What is read of one subset after another: for `read_subsets`.
 use Rattle.std.proofs.Common.{◌≡◌, ℕ, suc, ◌+◌, ◌-◌, ◌<◌, ◌≤◌, Bool, List, [], ◌∷◌, ◌++◌, Option, Some, None, Result, Ok, Err, refl, sym, ap, ◌∙◌, arith, append_assoc}
 use Rattle.std.proofs.lemmas.List.{append-nil}
 use Rattle.bufr_tables.specs.Answers.{◌>>=◌, Fails, result_map}
@@ -16,14 +16,17 @@ use Rattle.bufr_data.specs.Numbered.{failure_of_subset, numbered, after}
 
 -- ---- the number of a subset is told by its faults alone
 
+-- a fault at which a walk stops has no number of a subset
 stopped_numbered : {A : Type 0} (j : ℕ) (fault : WalkFault) → stopped {A = A} fault ≡ numbered j (stopped {A = A} fault)
 stopped_numbered j walks.TooLarge = refl
 stopped_numbered j (walks.EffectiveRange d) = refl
 
+-- a value that is changed keeps its number
 ok_numbered : {A B : Type 0} (j : ℕ) (f : A → B) (x : Result A ReadFault) → (numbered j x >>= λ a. Ok (f a)) ≡ numbered j (x >>= λ a. Ok (f a))
 ok_numbered j f (Ok a) = refl
 ok_numbered j f (Err e) = refl
 
+-- the step of `fields_at_numbered` at one field
 field_numbered : (j i d : ℕ) (spec : Spec) (one other : ℕ → List Bool → Result SubsetRead ReadFault) (x : Option (Raw × List Bool))
     → ((n : ℕ) (rest : List Bool) → other n rest ≡ numbered j (one n rest))
     → field_then j i d spec other x ≡ numbered j (field_then 1 i d spec one x)
@@ -31,6 +34,7 @@ field_numbered j i d spec one other None same = refl
 field_numbered j i d spec one other (Some x) same =
     rw (same (number_of x.0) x.1) (ok_numbered j (λ (found : SubsetRead). record found { fields = record { fxy = d; spec = spec; raw = x.0 } ∷ found.fields }) (one (number_of x.0) x.1))
 
+-- a subset is read in the same way whatever its number, which its faults tell
 pub fields_at_numbered : (j i : ℕ) (c : Course) (text : List Bool) → fields_at j i c text ≡ numbered j (fields_at 1 i c text)
 unfolding fields_at
 fields_at_numbered j i (ends n) text = refl
@@ -38,16 +42,19 @@ fields_at_numbered j i (stops met fault) text = stopped_numbered j fault
 fields_at_numbered j i (asks met d spec more) text =
     field_numbered j i d spec (λ n rest. fields_at 1 (i + 1) (more n) rest) (λ n rest. fields_at j (i + 1) (more n) rest) (raw_at spec text) (λ n rest. fields_at_numbered j (i + 1) (more n) rest)
 
+-- a failure of a subset of a number
 pub fails_numbered : {A : Type 0} (j : ℕ) (failure : Failure ReadFault) (x : Result A ReadFault) → Fails failure x → Fails (failure_of_subset j failure) (numbered j x)
 fails_numbered j (Fault f) x fails = ap (numbered j) fails
 fails_numbered j OutOfMemory x fails = tt
 
 -- ---- subset after subset
 
+-- a failure of the first of two steps is one of both
 pub fails_then : {A B F : Type 0} (failure : Failure F) (x : Result A F) (f : A → Result B F) → Fails failure x → Fails failure (x >>= f)
 fails_then (Fault fault) x f fails = ap (λ y. y >>= f) fails
 fails_then OutOfMemory x f fails = tt
 
+-- one of so many is behind
 one_less : (n index : ℕ) → index < n → n - index ≡ suc (n - (index + 1))
 one_less n index h = omega arith
 
@@ -56,6 +63,7 @@ pub none_before : (x : Result SubsetsRead ReadFault) → x ≡ after [] x
 none_before (Ok found) = refl
 none_before (Err e) = refl
 
+-- a subset behind those before it, and then the others
 join_after : (before : List Subset) (s : Subset) (x : Result SubsetsRead ReadFault)
     → after before (x >>= λ others. Ok (record others { subsets = s ∷ others.subsets })) ≡ after (before ++ s ∷ []) x
 join_after before s (Ok others) = ap (λ (xs : List Subset). Ok (record others { subsets = xs })) (sym (append_assoc before (s ∷ []) others.subsets))

@@ -1,10 +1,10 @@
 -- One value of a column behind its minimum and width: for the subset of an index (`Columns::subset`).
-use Rattle.std.proofs.Common.{◌≡◌, ℕ, zero, suc, ◌+◌, ◌-◌, ◌*◌, ◌/◌, ◌<◌, ◌≤◌, Bool, true, false, cond, List, [], ◌∷◌, ◌++◌, length, take, drop, replicate, get_or, Option, Some, None, Result, Ok, Err, refl, sym, ap, subst, ◌∙◌, arith}
+use Rattle.std.proofs.Common.{◌≡◌, ℕ, zero, suc, ◌+◌, ◌-◌, ◌*◌, ◌/◌, ◌<◌, ◌≤◌, Bool, true, false, cond, List, ◌∷◌, ◌++◌, length, take, drop, replicate, get_or, Option, Some, None, Result, Ok, Err, refl, sym, ap, ◌∙◌, arith}
 use Rattle.std.specs.Prelude.{◌==◌, option_map, IsSome, IsOk}
 use Rattle.std.specs.List.{list_all}
 use Rattle.std.proofs.lemmas.Bool.{le-ltb, lt-ltb, le-leb}
 use Rattle.std.proofs.lemmas.List.{length-drop, take_all}
-use Rattle.bufr_bits.specs.Bits.{bin, bits, numbers, number_at, numbers_at, octets_at}
+use Rattle.bufr_bits.specs.Bits.{bin, bits, numbers, number_at, octets_at}
 use Rattle.bufr_bits.specs.BitLaws.{number_at-bin}
 use Rattle.bufr_bits.specs.NumberLaws.{numbers_at_found}
 use Rattle.bufr_tables.specs.declared.element.Kind.TheVariants as kinds
@@ -16,7 +16,7 @@ use Rattle.bufr_data.specs.declared.columns.Place.{Place}
 use Rattle.bufr_data.specs.Plain.{raw_at, field_number_at}
 use Rattle.bufr_data.specs.Columns.{IsColumn}
 use Rattle.bufr_data.specs.ColumnReading.{filled}
-use Rattle.bufr_data.specs.Indexed.{values_of, read_at, Opens, raised_of, one_behind, one_at}
+use Rattle.bufr_data.specs.Indexed.{values_of, read_at, Opens, one_behind, one_at}
 use Rattle.bufr_data.proofs.PlainFacts.{raw_again}
 use Rattle.bufr_data.proofs.FitFacts.{form_passes}
 use Rattle.bufr_data.proofs.ColumnFacts.{column_found, ones_of}
@@ -25,23 +25,28 @@ use Rattle.bufr_data.proofs.PassFacts.{octets_none, minimum_there, text_raw, num
 
 -- ---- texts
 
+-- a column of texts without its minimum has no value
 pub text_without_minimum : (spec : Spec) (index : ℕ) (front : List Bool) (b : ℕ) → spec.kind ≡ kinds.Text → b ≡ spec.width / 8 * 8 → length front < b → None ≡ one_at spec index front
 text_without_minimum spec index front b is size short =
     let less : length front < spec.width / 8 * 8 = omega (arith, size, short) in
     rw (text_raw spec front is, octets_none (spec.width / 8) front less) refl
 
+-- nor has one without its width
 pub text_without_width : (spec : Spec) (index : ℕ) (front mid : List Bool) (b : ℕ) → spec.kind ≡ kinds.Text → b ≡ spec.width / 8 * 8 → b ≤ length front → mid ≡ drop b front → number_at 6 mid ≡ None → None ≡ one_at spec index front
 text_without_width spec index front mid b is size long left none =
     rw (minimum_there spec front mid b is size long left, none) refl
 
+-- behind both the value is read at its place
 behind_width : (spec : Spec) (index : ℕ) (front mid : List Bool) (b k : ℕ) (rest : List Bool) → spec.kind ≡ kinds.Text → b ≡ spec.width / 8 * 8 → b ≤ length front → mid ≡ drop b front → number_at 6 mid ≡ Some (k, rest) → one_at spec index front ≡ one_behind spec (Text (numbers (spec.width / 8) 8 front)) k index rest
 behind_width spec index front mid b k rest is size long left found =
     rw (minimum_there spec front mid b is size long left, found) refl
 
+-- texts of more octets than the field have none
 wide_behind : (spec : Spec) (own : List ℕ) (k index : ℕ) (rest : List Bool) → spec.width / 8 < k → one_behind spec (Text own) k index rest ≡ None
 wide_behind spec own zero index rest lt = absurd (omega (arith, lt))
 wide_behind spec own (suc k) index rest lt = rw (lt-ltb (spec.width / 8) (suc k) lt) refl
 
+-- nor has a column of such texts
 pub text_too_wide : (spec : Spec) (index : ℕ) (front mid : List Bool) (b k : ℕ) (rest : List Bool) → spec.kind ≡ kinds.Text → b ≡ spec.width / 8 * 8 → b ≤ length front → mid ≡ drop b front → number_at 6 mid ≡ Some (k, rest) → spec.width / 8 < k → None ≡ one_at spec index front
 text_too_wide spec index front mid b k rest is size long left found lt =
     sym (behind_width spec index front mid b k rest is size long left found ∙ wide_behind spec (numbers (spec.width / 8) 8 front) k index rest lt)
@@ -51,10 +56,12 @@ text_behind : (spec : Spec) (own : List ℕ) (k index : ℕ) (rest : List Bool) 
 text_behind spec own zero index rest some le = absurd (some refl)
 text_behind spec own (suc k) index rest some le = rw (le-ltb (spec.width / 8) (suc k) le) refl
 
+-- past the end there is no text
 nothing_there : (k c : ℕ) (rest : List Bool) → (k ≡ 0 → ⊥) → length rest < c → octets_at k (drop c rest) ≡ None
 nothing_there k c rest some short =
     let less : length (drop c rest) < k * 8 = omega (arith, length-drop c rest, short, some) in octets_none k (drop c rest) less
 
+-- so a text past the end has no value
 pub text_past : (spec : Spec) (index : ℕ) (front mid : List Bool) (b k : ℕ) (rest : List Bool) (c : ℕ) → spec.kind ≡ kinds.Text → b ≡ spec.width / 8 * 8 → b ≤ length front → mid ≡ drop b front → number_at 6 mid ≡ Some (k, rest) → (k ≡ 0 → ⊥) → k ≤ spec.width / 8 → c ≡ index * (k * 8) → length rest < c → None ≡ one_at spec index front
 text_past spec index front mid b k rest c is size long left found some le times short =
     sym
@@ -62,6 +69,7 @@ text_past spec index front mid b k rest c is size long left found some le times 
     ∙ ap (λ m. option_map (λ x. filled (spec.width / 8) x.0) (octets_at k (drop m rest))) (sym times)
     ∙ ap (option_map (λ x. filled (spec.width / 8) x.0)) (nothing_there k c rest some short))
 
+-- a text that is there has its value
 pub text_there_is : (spec : Spec) (index : ℕ) (front mid : List Bool) (b k : ℕ) (rest : List Bool) (c : ℕ) (last : List Bool) (o : Option (List ℕ × List Bool)) → spec.kind ≡ kinds.Text → b ≡ spec.width / 8 * 8 → b ≤ length front → mid ≡ drop b front → number_at 6 mid ≡ Some (k, rest) → (k ≡ 0 → ⊥) → k ≤ spec.width / 8 → c ≡ index * (k * 8) → last ≡ drop c rest → octets_at k last ≡ o → option_map (λ x. filled (spec.width / 8) x.0) o ≡ one_at spec index front
 text_there_is spec index front mid b k rest c last o is size long left found some le times behind there =
     sym
@@ -70,15 +78,18 @@ text_there_is spec index front mid b k rest c last o is size long left found som
     ∙ ap (λ xs. option_map (λ x. filled (spec.width / 8) x.0) (octets_at k xs)) (sym behind)
     ∙ ap (option_map (λ x. filled (spec.width / 8) x.0)) there)
 
+-- a text that is read has its octets
 pub own_octets : (k : ℕ) (front : List Bool) (own : List ℕ) (rest : List Bool) → octets_at k front ≡ Some (own, rest) → length own ≡ k
 own_octets k front own rest e = (numbers_at_found k 8 front (own, rest) e).0
 
+-- so many and so many of the same
 replicate-append : (a b x : ℕ) → replicate a x ++ replicate b x ≡ replicate (a + b) x
 replicate-append zero b x = let same : b ≡ 0 + b = omega arith in ap (λ n. replicate n x) same
 replicate-append (suc a) b x =
     let same : suc (a + b) ≡ suc a + b = omega arith in
     ap (λ xs. x ∷ xs) (replicate-append a b x) ∙ ap (λ n. replicate n x) same
 
+-- a text is filled as the code does
 pub filled_is : (octets : ℕ) (own : List ℕ) (filler : ℕ) (t : Bool) → list_all (λ x. x == 255) own ≡ t → filler ≡ cond t 255 32 → length own ≤ octets → ◌≡◌ {A = Raw} (Text (take octets own ++ replicate (octets - length own) filler)) (filled octets own)
 filled_is octets own filler true ones is short =
     let whole : own ≡ replicate (length own) 255 = ones_of own ones in
@@ -95,9 +106,11 @@ filled_is octets own filler false ones is short =
 
 -- ---- numbers
 
+-- a field of 64 bits at most has a number where its bits are there
 pub narrow_number : (width : ℕ) (front : List Bool) (x : ℕ × List Bool) → width ≤ 64 → number_at width front ≡ Some x → field_number_at width front ≡ Some x
 narrow_number width front x le e = rw (le-leb width 64 le) e
 
+-- an increment past the end has no value
 pub number_past : (spec : Spec) (index : ℕ) (front mid rest : List Bool) (m k c : ℕ) → same_kind spec.kind kinds.Text ≡ false → field_number_at spec.width front ≡ Some (m, mid) → number_at 6 mid ≡ Some (k, rest) → (k ≡ 0 → ⊥) → c ≡ index * k → length rest < c → None ≡ one_at spec index front
 unfolding number_at
 number_past spec index front mid rest m zero c other first second some times short = absurd (some refl)
@@ -107,10 +120,12 @@ number_past spec index front mid rest m (suc k) c other first second some times 
 
 -- ---- the value of an open place
 
+-- an answer has its value
 ok_of : {A F : Type 0} (r : Result A F) → IsOk r → (x : A) × (r ≡ Ok x)
 ok_of (Ok x) h = (x, refl)
 ok_of (Err e) h = absurd cc
 
+-- the value at an index of a column
 value_at_column : (spec : Spec) (values : List Raw) (column rest : List Bool) (index : ℕ) → IsColumn spec values column → index < length values → one_at spec index (column ++ rest) ≡ Some (get_or values index (Number 0))
 value_at_column spec values column rest index is inside =
     let one = one_value spec values column rest index is inside in
@@ -119,6 +134,7 @@ value_at_column spec values column rest index is inside =
     let second : number_at 6 (bin 6 one.k ++ one.rest) ≡ Some (one.k, one.rest) = number_at-bin 6 one.k one.rest one.heads.few in
     rw (first, second) one.value
 
+-- the value at an index of a column at a place
 pub value_there : (octets : List ℕ) (n index : ℕ) (p : Place) → Opens octets n p → index < n → one_at p.spec index (drop p.bit (bits octets)) ≡ Some (get_or (values_of (read_at octets n p)) index (Number 0))
 value_there octets n index p opens inside =
     let x = ok_of (read_at octets n p) opens.1 in
@@ -128,12 +144,15 @@ value_there octets n index p opens inside =
     ∙ value_at_column p.spec x.0.0 found.0 x.0.1 index found.2 short
     ∙ ap (λ vs. Some (get_or vs index (Number 0))) (ap values_of (sym x.1))
 
+-- a value that is known is one
 pub some_there : {A : Type 0} (o : Option A) (x : A) → o ≡ Some x → IsSome o
 some_there (Some y) x e = refl
 some_there None x e = absurd cc
 
+-- equal values that there are are one
 pub some_same : {A : Type 0} (x y : A) → ◌≡◌ {A = Option A} (Some x) (Some y) → x ≡ y
 some_same x y e = cc
 
+-- the bits before a text, in either order of the factors
 pub behind_is : (a b index k : ℕ) → a ≡ index → b ≡ k → a * (8 * b) ≡ index * (k * 8)
 behind_is a b index k e f = rw (e, f) (omega arith)

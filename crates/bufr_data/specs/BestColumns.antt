@@ -1,6 +1,9 @@
 -- Writing compressed data (FM 94 BUFR, regulation 94.6.3): the one column that is written, whose
 -- increments are as narrow as they can be.
-use Rattle.std.specs.Prelude.{◌≡◌, ◌≤◌, ℕ, zero, suc, ◌+◌, ◌-◌, ◌*◌, ◌/◌, ◌^◌, ◌==◌, ◌&&◌, ◌||◌, not, min, max, Bool, true, false, List, [], ◌∷◌, ◌++◌, length, map, filter, drop, replicate, Result, Ok, Err, nat_lt, nat_le, if◌then◌else◌}
+use Rattle.std.specs.Prelude.{◌≡◌, ◌≤◌, ℕ, zero, suc, ◌+◌, ◌-◌, ◌*◌, ◌/◌, ◌^◌, ◌==◌, ◌&&◌, ◌||◌}
+use Rattle.std.specs.Prelude.{not, min, max, Bool, true, false, List, [], ◌∷◌, ◌++◌, length, map}
+use Rattle.std.specs.Prelude.{filter, drop, replicate, Result, Ok, Err, nat_lt, nat_le}
+use Rattle.std.specs.Prelude.{if◌then◌else◌}
 use Rattle.std.specs.List.{AllByRecursion, flat_map, list_all}
 use Rattle.bufr_bits.specs.Bits.{bin, bits, all_ones}
 use Rattle.bufr_tables.specs.Answers.{result_map}
@@ -17,6 +20,7 @@ use Rattle.bufr_data.specs.declared.fault.WriteFault.TheVariants as misfits
 use Rattle.bufr_data.specs.Plain.{raw_bits, number_of, same_spec}
 use Rattle.bufr_data.specs.Columns.{Column, subsets_from}
 use Rattle.bufr_data.specs.ColumnReading.{all_equal}
+use Rattle.bufr_data.specs.Limits.{most_values}
 
 -- ---- the bits that are written
 
@@ -24,6 +28,7 @@ use Rattle.bufr_data.specs.ColumnReading.{all_equal}
 abbrev pub present : ℕ → List ℕ → List ℕ
 present width ns = filter (λ n. not (all_ones width n)) ns
 
+-- the least of a number and others
 abbrev pub least_with : ℕ → List ℕ → ℕ
 least_with n [] = n
 least_with n (m ∷ ms) = min m (least_with n ms)
@@ -59,14 +64,17 @@ best_numbers width ns =
 abbrev pub best_texts : ℕ → List (List ℕ) → List Bool
 best_texts octets texts = bits (replicate octets 0) ++ bin 6 octets ++ flat_map bits texts
 
+-- the octets of a text; a number has none
 abbrev pub octets_of : Raw → List ℕ
 octets_of (Number n) = []
 octets_of (Text octets) = octets
 
+-- the column of values that are not all the same, by their kind
 abbrev pub best_differing : Kind → ℕ → List Raw → List Bool
 best_differing kinds.Text width values = best_texts (width / 8) (map octets_of values)
 best_differing kind width values = best_numbers width (map number_of values)
 
+-- the bits of the first value
 abbrev pub first_bits : ℕ → List Raw → List Bool
 first_bits width [] = []
 first_bits width (v ∷ values) = raw_bits width v
@@ -103,14 +111,17 @@ abbrev pub begins_like : Field → List Field → Bool
 begins_like f [] = false
 begins_like f (g ∷ gs) = f.fxy == g.fxy && same_spec g.spec f.spec
 
+-- the raw value of the first field; a number 0 where there is none
 abbrev pub first_raw : List Field → Raw
 first_raw [] = Number 0
 first_raw (f ∷ fs) = f.raw
 
+-- whether no field is left
 abbrev pub is_empty : List Field → Bool
 is_empty [] = true
 is_empty (f ∷ fs) = false
 
+-- a column in front of the others, or the place at which there is none
 abbrev pub column_or : ℕ → Bool → Column → Result (List Column) WriteFault
     → Result (List Column) WriteFault
 column_or i true c others = result_map (λ cs. c ∷ cs) others
@@ -138,7 +149,7 @@ best_bits columns = flat_map (λ c. best c.spec c.values) columns
 -- their bits, where there are 67,108,864 values at most
 abbrev pub packed : ℕ → List Column → Result (List Bool) WriteFault
 packed n columns =
-    if nat_lt 67108864 (length columns * n) then Err misfits.TooLarge else Ok (best_bits columns)
+    if nat_lt most_values (length columns * n) then Err misfits.TooLarge else Ok (best_bits columns)
 
 -- a column of so many subsets that can be written
 abbrev pub CanBeWritten : ℕ → Column → Type 0
@@ -155,5 +166,5 @@ abbrev pub AreBestColumns : List Subset → List Column → Type 0
 AreBestColumns [] columns = columns ≡ []
 AreBestColumns (s ∷ subsets) columns =
     (s ∷ subsets ≡ subsets_from 0 (length (s ∷ subsets)) columns)
-    × (length columns * length (s ∷ subsets) ≤ 67108864)
+    × (length columns * length (s ∷ subsets) ≤ most_values)
     × AllByRecursion (CanBeWritten (length (s ∷ subsets))) columns

@@ -1,4 +1,5 @@
--- Why data or subsets are refused after some fields, by what the template's tree stands for (FM 94 BUFR, regulations 94.1.3, 94.5.4 and 94.5.5).
+-- Why data or subsets are refused after some fields, by what the template's tree stands for (FM 94
+-- BUFR, regulations 94.1.3, 94.5.4 and 94.5.5).
 use Rattle.std.specs.Prelude.{◌≡◌, ℕ, ◌+◌, ◌<◌, Bool, List, ◌∷◌, ◌++◌, length, map}
 use Rattle.std.specs.List.{AllByRecursion}
 use Rattle.bufr_expand.specs.declared.operators.Spec.{Spec}
@@ -15,30 +16,39 @@ use Rattle.bufr_data.specs.Plain.{plain, plain_subsets}
 use Rattle.bufr_data.specs.Fits.{HasForm, told_of, AllFitWithin}
 use Rattle.bufr_data.specs.Refusals.{IsAsked, NoneStands}
 
--- fields with which a subset can begin: each comes next in an unrolling after those before it, within the items that a message may have, and
--- each raw value has its spec's form
+-- fields with which a subset can begin: each comes next in an unrolling after those before it,
+-- within the items that a message may have, and each raw value has its spec's form
 pub record Begin (tree : Tree) (used : ℕ) (fields : List Field) : Type 0 where
-  pub each : (before others : List Field) (f : Field) → fields ≡ before ++ f ∷ others → (met : ℕ) × BeginsWithin tree used (map told_of before) (wants f.fxy f.spec) met
+  pub each : (before others : List Field) (f : Field) → fields ≡ before ++ f ∷ others
+      → (met : ℕ) × BeginsWithin tree used (map told_of before) (wants f.fxy f.spec) met
   pub formed : AllByRecursion (λ f. HasForm f.spec f.raw) fields
 
--- why neither a next field of subset j stands at the front of the bits, after these fields, nor the subset's end: an item up to and with the next
--- field, or up to the end, would be more than a message may have; or the next field has no spec; or the data end within it
-pub data NoneFollows (tree : Tree) (used j : ℕ) (before : List Field) (front : List Bool) (fault : ReadFault) : Type 0 where
-  no_room : PassesLimit tree used (map told_of before) → fault ≡ faults.TooLarge → NoneFollows tree used j before front fault
-  no_spec : (d met : ℕ) → BeginsWithin tree used (map told_of before) (lacks d) met → fault ≡ faults.EffectiveRange d → NoneFollows tree used j before front fault
-  no_bits : (d met : ℕ) (spec : Spec) → BeginsWithin tree used (map told_of before) (wants d spec) met → NoneStands spec front
+-- why neither a next field of subset j stands at the front of the bits, after these fields, nor the
+-- subset's end: an item up to and with the next field, or up to the end, would be more than a
+-- message may have; or the next field has no spec; or the data end within it
+pub data NoneFollows (tree : Tree) (used j : ℕ) (before : List Field) (front : List Bool)
+    (fault : ReadFault) : Type 0 where
+  no_room : PassesLimit tree used (map told_of before) → fault ≡ faults.TooLarge
+      → NoneFollows tree used j before front fault
+  no_spec : (d met : ℕ) → BeginsWithin tree used (map told_of before) (lacks d) met
+      → fault ≡ faults.EffectiveRange d → NoneFollows tree used j before front fault
+  no_bits : (d met : ℕ) (spec : Spec)
+      → BeginsWithin tree used (map told_of before) (wants d spec) met → NoneStands spec front
       → fault ≡ faults.DataEnds j (1 + length before) → NoneFollows tree used j before front fault
 
 -- the first field of subset j that cannot stand: those before it stand in the data
-pub record FirstRefused (tree : Tree) (j used : ℕ) (front : List Bool) (fault : ReadFault) : Type 0 where
+pub record FirstRefused (tree : Tree) (j used : ℕ) (front : List Bool) (fault : ReadFault)
+    : Type 0 where
   pub before : List Field
   pub rest : List Bool
   pub begin : Begin tree used before
   pub stand : front ≡ plain before ++ rest
   pub refused : NoneFollows tree used j before rest fault
 
--- the first of so many subsets that has a field that cannot stand: the subsets before it fit, and stand in the data
-pub record FirstSubsetRefused (tree : Tree) (n : ℕ) (front : List Bool) (fault : ReadFault) : Type 0 where
+-- the first of so many subsets that has a field that cannot stand: the subsets before it fit, and
+-- stand in the data
+pub record FirstSubsetRefused (tree : Tree) (n : ℕ) (front : List Bool) (fault : ReadFault)
+    : Type 0 where
   pub before : List Subset
   pub items : ℕ
   pub rest : List Bool
@@ -47,20 +57,29 @@ pub record FirstSubsetRefused (tree : Tree) (n : ℕ) (front : List Bool) (fault
   pub stand : front ≡ plain_subsets before ++ rest
   pub refused : FirstRefused tree (1 + length before) items rest fault
 
--- why fields after these ones are not what the template allows: one is too many; or an item would be more than a message may have; or the next
--- field has no spec; or there is none, or its descriptor or its spec is another, or its raw value has not its spec's form
-pub data NotAllowed (tree : Tree) (used j : ℕ) (before others : List Field) (fault : WriteFault) : Type 0 where
-  too_many : (f : Field) (behind : List Field) (n : ℕ) → Unrolls tree used (map told_of before) n → others ≡ f ∷ behind
-      → fault ≡ misfits.DoesNotFit j (1 + length before) → NotAllowed tree used j before others fault
-  past_limit : PassesLimit tree used (map told_of before) → fault ≡ misfits.TooLarge → NotAllowed tree used j before others fault
-  without_spec : (d met : ℕ) → BeginsWithin tree used (map told_of before) (lacks d) met → fault ≡ misfits.DoesNotFit j (1 + length before)
+-- why fields after these ones are not what the template allows: one is too many; or an item would
+-- be more than a message may have; or the next field has no spec; or there is none, or its
+-- descriptor or its spec is another, or its raw value has not its spec's form
+pub data NotAllowed (tree : Tree) (used j : ℕ) (before others : List Field) (fault : WriteFault)
+    : Type 0 where
+  too_many : (f : Field) (behind : List Field) (n : ℕ) → Unrolls tree used (map told_of before) n
+      → others ≡ f ∷ behind
+      → fault ≡ misfits.DoesNotFit j (1 + length before)
       → NotAllowed tree used j before others fault
-  another : (d met : ℕ) (spec : Spec) → BeginsWithin tree used (map told_of before) (wants d spec) met
+  past_limit : PassesLimit tree used (map told_of before) → fault ≡ misfits.TooLarge
+      → NotAllowed tree used j before others fault
+  without_spec : (d met : ℕ) → BeginsWithin tree used (map told_of before) (lacks d) met
+      → fault ≡ misfits.DoesNotFit j (1 + length before)
+      → NotAllowed tree used j before others fault
+  another : (d met : ℕ) (spec : Spec)
+      → BeginsWithin tree used (map told_of before) (wants d spec) met
       → ((f : Field) (behind : List Field) → others ≡ f ∷ behind → IsAsked d spec f → ⊥)
-      → fault ≡ misfits.DoesNotFit j (1 + length before) → NotAllowed tree used j before others fault
+      → fault ≡ misfits.DoesNotFit j (1 + length before)
+      → NotAllowed tree used j before others fault
 
 -- the first place of subset j at which its fields are not what the template allows
-pub record FirstMisfit (tree : Tree) (j used : ℕ) (fields : List Field) (fault : WriteFault) : Type 0 where
+pub record FirstMisfit (tree : Tree) (j used : ℕ) (fields : List Field) (fault : WriteFault)
+    : Type 0 where
   pub before : List Field
   pub others : List Field
   pub begin : Begin tree used before
@@ -68,7 +87,8 @@ pub record FirstMisfit (tree : Tree) (j used : ℕ) (fields : List Field) (fault
   pub refused : NotAllowed tree used j before others fault
 
 -- the first subset that does not fit: those before it do
-pub record FirstSubsetMisfit (tree : Tree) (subsets : List Subset) (fault : WriteFault) : Type 0 where
+pub record FirstSubsetMisfit (tree : Tree) (subsets : List Subset) (fault : WriteFault)
+    : Type 0 where
   pub before : List Subset
   pub here : Subset
   pub others : List Subset

@@ -1,7 +1,8 @@
 -- Where compressed data are refused (FM 94 BUFR, regulation 94.6.3): at the first column that
 -- cannot stand. Where subsets are refused: at the first that does not fit, else at the first place
 -- at which they cannot stand in a column.
-use Rattle.std.specs.Prelude.{◌≡◌, ℕ, ◌+◌, ◌*◌, ◌/◌, ◌^◌, ◌<◌, ◌≤◌, Bool, List, [], ◌∷◌, ◌++◌, length, map, drop, ◌⊎◌}
+use Rattle.std.specs.Prelude.{◌≡◌, ℕ, ◌+◌, ◌*◌, ◌/◌, ◌^◌, ◌<◌, ◌≤◌, Bool, List, [], ◌∷◌, ◌++◌}
+use Rattle.std.specs.Prelude.{length, map, drop, ◌⊎◌}
 use Rattle.std.specs.List.{AllByRecursion, flat_map}
 use Rattle.bufr_bits.specs.Bits.{bin, bits}
 use Rattle.bufr_tables.specs.declared.element.Kind.TheVariants as kinds
@@ -22,6 +23,7 @@ use Rattle.bufr_data.specs.declared.field.Field.{Field}
 use Rattle.bufr_data.specs.declared.fault.WriteFault.{WriteFault}
 use Rattle.bufr_data.specs.declared.fault.WriteFault.TheVariants as misfits
 use Rattle.bufr_data.specs.BestColumns.{widest, first_raw, CanBeWritten}
+use Rattle.bufr_data.specs.Limits.{most_values}
 
 -- ---- one column
 
@@ -94,14 +96,14 @@ pub data NoColumnFollows (tree : Tree) (n : ℕ) (before : List Column) (front :
   no_room : PassesLimit tree 0 (told_first before) → fault ≡ faults.TooLarge
       → NoColumnFollows tree n before front fault
   too_many_values : (next : Next) (met : ℕ) → BeginsWithin tree 0 (told_first before) next met
-      → 67108864 < (1 + length before) * n → fault ≡ faults.TooLarge
+      → most_values < (1 + length before) * n → fault ≡ faults.TooLarge
       → NoColumnFollows tree n before front fault
   no_spec : (d met : ℕ) → BeginsWithin tree 0 (told_first before) (lacks d) met
-      → (1 + length before) * n ≤ 67108864 → fault ≡ faults.EffectiveRange d
+      → (1 + length before) * n ≤ most_values → fault ≡ faults.EffectiveRange d
       → NoColumnFollows tree n before front fault
   no_column : (d met : ℕ) (spec : Spec)
       → BeginsWithin tree 0 (told_first before) (wants d spec) met
-      → (1 + length before) * n ≤ 67108864
+      → (1 + length before) * n ≤ most_values
       → ColumnRefused n (1 + length before) spec front fault
       → NoColumnFollows tree n before front fault
 
@@ -143,8 +145,8 @@ FirstApart i (f ∷ fs) others fault =
     ((AreOnePlace f others → ⊥) × (fault ≡ misfits.NotCompressible i))
     ⊎ (AreOnePlace f others × FirstApart (i + 1) fs (map (drop 1) others) fault)
 
--- why subsets are not written compressed, in this order: one does not fit by itself; places are apart;
--- there are more than 67,108,864 values
+-- why subsets are not written compressed, in this order: one does not fit by itself; places are
+-- apart; there are more than 67,108,864 values
 pub data FirstUnpacked (tree : Tree) (subsets : List Subset) (fault : WriteFault) : Type 0 where
   misfit : (before : List Subset) (s : Subset) (behind : List Subset)
       → subsets ≡ before ++ s ∷ behind → AllByRecursion (FitsAlone tree) before
@@ -155,5 +157,5 @@ pub data FirstUnpacked (tree : Tree) (subsets : List Subset) (fault : WriteFault
   too_many : (columns : List Column) → AllByRecursion (FitsAlone tree) subsets → 0 < length subsets
       → subsets ≡ subsets_from 0 (length subsets) columns
       → AllByRecursion (CanBeWritten (length subsets)) columns
-      → 67108864 < length columns * length subsets → fault ≡ misfits.TooLarge
+      → most_values < length columns * length subsets → fault ≡ misfits.TooLarge
       → FirstUnpacked tree subsets fault

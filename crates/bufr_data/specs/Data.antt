@@ -2,7 +2,8 @@
 -- template's tree (FM 94 BUFR, WMO-No. 306 Volume I.2: regulations 94.5 and 94.6). Whether the data
 -- are compressed is said here and nowhere above: what is said of messages cites these words alone.
 -- Each word has a case for plain data and one for compressed data.
-use Rattle.std.specs.Prelude.{◌≡◌, ◌↔◌, ℕ, zero, suc, ◌+◌, Bool, true, false, List, [], ◌∷◌, ◌++◌, length, Result, Ok, Err}
+use Rattle.std.specs.Prelude.{◌≡◌, ◌↔◌, ℕ, zero, suc, ◌+◌, Bool, true, false, List, [], ◌∷◌, ◌++◌}
+use Rattle.std.specs.Prelude.{length, Result, Ok, Err}
 use Rattle.std.specs.List.{AllByRecursion}
 use Rattle.bufr_tables.specs.Answers.{◌>>=◌, result_map}
 use Rattle.bufr_expand.specs.Trees.{Tree}
@@ -15,7 +16,8 @@ use Rattle.bufr_data.specs.Fits.{AllFitWithin, FitsAlone}
 use Rattle.bufr_data.specs.Causes.{FirstSubsetRefused, FirstSubsetMisfit}
 use Rattle.bufr_data.specs.Columns.{Column, Packed, subsets_from}
 use Rattle.bufr_data.specs.ColumnReading.{columns_at}
-use Rattle.bufr_data.specs.BestColumns.{columns_of_all, packed, best_bits, AreBestColumns, CanBePacked, HasNarrowFields}
+use Rattle.bufr_data.specs.BestColumns.{columns_of_all, packed, best_bits, AreBestColumns}
+use Rattle.bufr_data.specs.BestColumns.{CanBePacked, HasNarrowFields}
 use Rattle.bufr_data.specs.ColumnCauses.{FirstColumnRefused, FirstUnpacked}
 
 -- ---- the data of subsets

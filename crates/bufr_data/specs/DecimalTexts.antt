@@ -1,6 +1,8 @@
 -- The only decimal that a text can be the text of, at a given scale. No grammar of numbers is
 -- needed: a text is that of a decimal where this one has it.
-use Rattle.std.specs.Prelude.{◌≡◌, ℕ, zero, suc, ◌-◌, ◌^◌, ◌<◌, ◌==◌, Bool, true, false, List, [], ◌∷◌, length, take, drop, get_or, filter, nat_lt, Option, Some, None, ℤ, pos, negsuc, neg_ℤ, FitsSigned, if◌then◌else◌}
+use Rattle.std.specs.Prelude.{◌≡◌, ℕ, zero, suc, ◌-◌, ◌^◌, ◌==◌, Bool, true, false, List, []}
+use Rattle.std.specs.Prelude.{◌∷◌, length, take, drop, get_or, filter, nat_lt, Option, Some, None}
+use Rattle.std.specs.Prelude.{ℤ, pos, negsuc, neg_ℤ, FitsSigned, if◌then◌else◌}
 use Rattle.std.specs.Char.{is_ascii_digit}
 use Rattle.std.specs.Int.{w128}
 use Rattle.std.specs.Str.{bytes_eq}
@@ -42,6 +44,7 @@ pub record IsDecimal (d : Decimal) : Type 0 where
 abbrev pub is_minus : List ℕ → Bool
 is_minus text = get_or text 0 0 == 45
 
+-- a text without the minus that it begins with
 abbrev pub without_minus : List ℕ → List ℕ
 without_minus text = if is_minus text then drop 1 text else text
 
@@ -51,6 +54,7 @@ units_by false n = if nat_lt n (2 ^ 127) then Some (pos n) else None
 units_by true zero = None
 units_by true (suc n) = if nat_lt n (2 ^ 127) then Some (negsuc n) else None
 
+-- the decimal of these units, where there are units and the text is its own
 abbrev pub decimal_if : Bool → ℤ → Option ℤ → Option Decimal
 decimal_if holds scale None = None
 decimal_if holds scale (Some units) =
@@ -59,11 +63,13 @@ decimal_if holds scale (Some units) =
 -- the decimal of these digits behind a sign or none, where they are the text's
 abbrev pub decimal_by : ℤ → List ℕ → ℕ → Option Decimal
 decimal_by scale text n =
-    decimal_if (bytes_eq (digits_by scale n) (without_minus text)) scale (units_by (is_minus text) n)
+    decimal_if (bytes_eq (digits_by scale n) (without_minus text)) scale
+    (units_by (is_minus text) n)
 
 -- the decimal of this scale that a text is the text of
 abbrev pub decimal_of : ℤ → List ℕ → Option Decimal
-decimal_of scale text = if is_within 600 scale then decimal_by scale text (size_in scale text) else None
+decimal_of scale text = if is_within 600 scale then decimal_by scale text (size_in scale text)
+    else None
 
 -- ---- laws
 

@@ -1,5 +1,7 @@
 -- Compressed data that are indexed: where each column begins, and its values there.
-use Rattle.std.specs.Prelude.{◌≡◌, ℕ, zero, suc, ◌+◌, ◌*◌, ◌/◌, ◌≤◌, Bool, List, [], ◌∷◌, ◌++◌, drop, length, Option, Some, None, option_map, Result, Ok, Err, IsOk, nat_lt, if◌then◌else◌}
+use Rattle.std.specs.Prelude.{◌≡◌, ℕ, zero, suc, ◌+◌, ◌*◌, ◌/◌, ◌≤◌, Bool, List, [], ◌∷◌, ◌++◌}
+use Rattle.std.specs.Prelude.{drop, length, Option, Some, None, option_map, Result, Ok, Err, IsOk}
+use Rattle.std.specs.Prelude.{nat_lt, if◌then◌else◌}
 use Rattle.std.specs.List.{AllByRecursion}
 use Rattle.bufr_bits.specs.Bits.{bits, number_at, octets_at}
 use Rattle.bufr_tables.specs.Answers.{result_map}
@@ -19,6 +21,7 @@ pub record Indexed : Type 0 where
   pub subsets : ℕ
   pub columns : List Column
 
+-- the values that were read of a column
 abbrev pub values_of : Result (List Raw × List Bool) ReadFault → List Raw
 values_of (Ok x) = x.0
 values_of (Err e) = []
@@ -39,6 +42,7 @@ column_from octets n p = record {
 abbrev pub Opens : List ℕ → ℕ → Place → Type 0
 Opens octets n p = (p.bit ≤ 8 * length octets) × IsOk (read_at octets n p)
 
+-- a column is read at each place
 abbrev pub AllOpen : List ℕ → ℕ → List Place → Type 0
 AllOpen octets n places = AllByRecursion (Opens octets n) places
 
@@ -64,6 +68,7 @@ index_at tree (suc n) front =
 
 -- ---- one value of a column
 
+-- the value of an increment that is there
 abbrev pub raised_of : ℕ → ℕ → ℕ → Option (ℕ × List Bool) → Option Raw
 raised_of width minimum k None = None
 raised_of width minimum k (Some x) = raised width minimum k x.0
@@ -78,10 +83,12 @@ one_behind spec (Text ignored) (suc k) index rest =
     else option_map (λ x. filled (spec.width / 8) x.0)
     (octets_at (suc k) (drop (index * (suc k * 8)) rest))
 
+-- the value at an index behind the width
 abbrev pub one_after_width : Spec → Raw → ℕ → Option (ℕ × List Bool) → Option Raw
 one_after_width spec minimum index None = None
 one_after_width spec minimum index (Some k) = one_behind spec minimum k.0 index k.1
 
+-- the value at an index behind the minimum
 abbrev pub one_after_minimum : Spec → ℕ → Option (Raw × List Bool) → Option Raw
 one_after_minimum spec index None = None
 one_after_minimum spec index (Some x) = one_after_width spec x.0 index (number_at 6 x.1)
@@ -93,15 +100,18 @@ one_at spec index front = one_after_minimum spec index (raw_at spec front)
 -- ---- indexing
 
 -- these columns, and then those that are found
-abbrev pub behind_columns : List Column → Result ColumnsFound ReadFault → Result ColumnsFound ReadFault
+abbrev pub behind_columns : List Column → Result ColumnsFound ReadFault
+    → Result ColumnsFound ReadFault
 behind_columns columns (Ok found) = Ok (record found { columns = columns ++ found.columns })
 behind_columns columns (Err e) = Err e
 
 -- the column of field i was passed and begins at a place, or the subsets end
-abbrev pub PassesPlace : ℕ → ℕ → Course → List ℕ → List Bool → Option Place → Course → List Bool → Type 0
+abbrev pub PassesPlace : ℕ → ℕ → Course → List ℕ → List Bool → Option Place → Course → List Bool
+    → Type 0
 PassesPlace n i c octets front (Some p) next rest =
     Opens octets n p
     × (columns_at n i c front
     ≡ behind_columns (column_from octets n p ∷ []) (columns_at n (i + 1) next rest))
 PassesPlace n i c octets front None next rest =
-    (items : ℕ) × (columns_at n i c front ≡ Ok (record { columns = []; items = items; rest = rest }))
+    (items : ℕ) × (columns_at n i c front
+    ≡ Ok (record { columns = []; items = items; rest = rest }))

@@ -1,137 +1,148 @@
--- What is read from plain data are exactly the subsets that fit the template (FM 94 BUFR, regulation 94.5).
+-- What is read from plain data are exactly the subsets that fit the template (FM 94 BUFR,
+-- regulation 94.5).
 use Rattle.std.specs.Prelude.{◌≡◌, ℕ, ◌<◌, ◌≤◌, Bool, false, List, ◌++◌, length, Ok, Err}
 use Rattle.bufr_expand.specs.declared.operators.Spec.{Spec}
 use Rattle.bufr_expand.specs.Courses.{Course, course}
 use Rattle.bufr_expand.specs.Trees.{Tree}
+use Rattle.bufr_expand.specs.Limits.{most_items}
 use Rattle.bufr_data.specs.declared.field.Field.{Field}
 use Rattle.bufr_data.specs.declared.field.Subset.{Subset}
 use Rattle.bufr_data.specs.declared.fault.ReadFault.{ReadFault}
 use Rattle.bufr_data.specs.declared.fault.WriteFault.{WriteFault}
-use Rattle.bufr_data.specs.Plain.{SubsetRead, SubsetsRead, plain_subsets, fields_at, subsets_at, items_of, items_of_all}
+use Rattle.bufr_data.specs.Plain.{SubsetRead, SubsetsRead, plain_subsets, fields_at, subsets_at}
+use Rattle.bufr_data.specs.Plain.{items_of, items_of_all}
 use Rattle.bufr_data.specs.Data.{written_bits}
 use Rattle.bufr_data.specs.Fits.{FitsWithin, AllFitWithin, SubsetStands, SubsetsStand}
-use Rattle.bufr_data.specs.Refusals.{IsWithinLimits, NoneStands, FieldRefused, SubsetRefused, FieldMisfits, SubsetMisfits}
+use Rattle.bufr_data.specs.Refusals.{IsWithinLimits, NoneStands}
 use Rattle.bufr_data.specs.Causes.{FirstRefused, FirstSubsetRefused, FirstMisfit, FirstSubsetMisfit}
 
--- these subsets are so many and fit their courses, and the bits are theirs and then those that are left
+-- these subsets are so many and fit their courses, and the bits are theirs and then those that are
+-- left
 abbrev pub AreSubsets : (ℕ → Course) → ℕ → ℕ → ℕ → List Bool → SubsetsRead → Type 0
 AreSubsets course j n used front f =
-    (length f.subsets ≡ n) × (items_of_all course j used f.subsets ≡ Ok f.items) × (front ≡ plain_subsets f.subsets ++ f.rest)
+    (length f.subsets ≡ n) × (items_of_all course j used f.subsets ≡ Ok f.items)
+    × (front ≡ plain_subsets f.subsets ++ f.rest)
 
 -- subsets that are read stand in the bits
 abbrev pub ReadStand : Type 0
-ReadStand = (course : ℕ → Course) (j n used : ℕ) (front : List Bool) (f : SubsetsRead) → subsets_at course j n used front ≡ Ok f → AreSubsets course j n used front f
+ReadStand = (course : ℕ → Course) (j n used : ℕ) (front : List Bool) (f : SubsetsRead)
+    → subsets_at course j n used front ≡ Ok f → AreSubsets course j n used front f
 
 -- subsets that stand in the bits are read, and no others
 abbrev pub StandingAreRead : Type 0
-StandingAreRead = (course : ℕ → Course) (j n used : ℕ) (front : List Bool) (f : SubsetsRead) → AreSubsets course j n used front f → subsets_at course j n used front ≡ Ok f
+StandingAreRead = (course : ℕ → Course) (j n used : ℕ) (front : List Bool) (f : SubsetsRead)
+    → AreSubsets course j n used front f → subsets_at course j n used front ≡ Ok f
 
 -- ---- what fits a template
 
 -- fields that are counted fit the template, with so many items
 abbrev pub CountedFit : Type 0
-CountedFit = (tree : Tree) (j used n : ℕ) (fields : List Field) → used ≤ 16777216 → items_of j 1 (course tree used) fields ≡ Ok n → FitsWithin tree used fields n
+CountedFit = (tree : Tree) (j used n : ℕ) (fields : List Field) → used ≤ most_items
+    → items_of j 1 (course tree used) fields ≡ Ok n → FitsWithin tree used fields n
 
 -- fields that fit the template are counted
 abbrev pub FittingAreCounted : Type 0
-FittingAreCounted = (tree : Tree) (j used n : ℕ) (fields : List Field) → FitsWithin tree used fields n → items_of j 1 (course tree used) fields ≡ Ok n
+FittingAreCounted = (tree : Tree) (j used n : ℕ) (fields : List Field)
+    → FitsWithin tree used fields n → items_of j 1 (course tree used) fields ≡ Ok n
 
 -- the same of subsets
 abbrev pub AllCountedFit : Type 0
-AllCountedFit = (tree : Tree) (j used n : ℕ) (subsets : List Subset) → used ≤ 16777216 → items_of_all (course tree) j used subsets ≡ Ok n → AllFitWithin tree used subsets n
+AllCountedFit = (tree : Tree) (j used n : ℕ) (subsets : List Subset) → used ≤ most_items
+    → items_of_all (course tree) j used subsets ≡ Ok n → AllFitWithin tree used subsets n
 
+-- and subsets that fit are counted
 abbrev pub AllFittingAreCounted : Type 0
-AllFittingAreCounted = (tree : Tree) (j used n : ℕ) (subsets : List Subset) → AllFitWithin tree used subsets n → items_of_all (course tree) j used subsets ≡ Ok n
+AllFittingAreCounted = (tree : Tree) (j used n : ℕ) (subsets : List Subset)
+    → AllFitWithin tree used subsets n → items_of_all (course tree) j used subsets ≡ Ok n
 
 -- ---- where there are bits and subsets
 
 -- a subset that is read fits the template and stands in the bits
 abbrev pub SubsetReadStands : Type 0
-SubsetReadStands = (tree : Tree) (j used : ℕ) (front : List Bool) (f : SubsetRead) → used ≤ 16777216 → fields_at j 1 (course tree used) front ≡ Ok f → SubsetStands tree used front f
+SubsetReadStands = (tree : Tree) (j used : ℕ) (front : List Bool) (f : SubsetRead)
+    → used ≤ most_items
+    → fields_at j 1 (course tree used) front ≡ Ok f → SubsetStands tree used front f
 
 -- a subset that fits the template and stands in the bits is read, and no other
 abbrev pub SubsetStandingIsRead : Type 0
-SubsetStandingIsRead = (tree : Tree) (j used : ℕ) (front : List Bool) (f : SubsetRead) → SubsetStands tree used front f → fields_at j 1 (course tree used) front ≡ Ok f
+SubsetStandingIsRead = (tree : Tree) (j used : ℕ) (front : List Bool) (f : SubsetRead)
+    → SubsetStands tree used front f → fields_at j 1 (course tree used) front ≡ Ok f
 
 -- the same of so many subsets
 abbrev pub SubsetsReadStand : Type 0
-SubsetsReadStand = (tree : Tree) (j n used : ℕ) (front : List Bool) (f : SubsetsRead) → used ≤ 16777216 → subsets_at (course tree) j n used front ≡ Ok f → SubsetsStand tree n used front f
+SubsetsReadStand = (tree : Tree) (j n used : ℕ) (front : List Bool) (f : SubsetsRead)
+    → used ≤ most_items → subsets_at (course tree) j n used front ≡ Ok f
+    → SubsetsStand tree n used front f
 
+-- and subsets that stand are read
 abbrev pub SubsetsStandingAreRead : Type 0
-SubsetsStandingAreRead = (tree : Tree) (j n used : ℕ) (front : List Bool) (f : SubsetsRead) → SubsetsStand tree n used front f → subsets_at (course tree) j n used front ≡ Ok f
+SubsetsStandingAreRead = (tree : Tree) (j n used : ℕ) (front : List Bool) (f : SubsetsRead)
+    → SubsetsStand tree n used front f → subsets_at (course tree) j n used front ≡ Ok f
 
 -- bits that are written are those of subsets that fit the template, with 16,777,216 items at most
 abbrev pub WrittenFit : Type 0
-WrittenFit = (tree : Tree) (subsets : List Subset) (added : List Bool) → written_bits tree false subsets ≡ Ok added → (items : ℕ) × AllFitWithin tree 0 subsets items × (added ≡ plain_subsets subsets)
+WrittenFit = (tree : Tree) (subsets : List Subset) (added : List Bool)
+    → written_bits tree false subsets ≡ Ok added → (items : ℕ) × AllFitWithin tree 0 subsets items
+    × (added ≡ plain_subsets subsets)
 
 -- such subsets are written
 abbrev pub FittingAreWritten : Type 0
-FittingAreWritten = (tree : Tree) (subsets : List Subset) (items : ℕ) → AllFitWithin tree 0 subsets items → written_bits tree false subsets ≡ Ok (plain_subsets subsets)
-
--- ---- refusals
-
--- the fault that reading answers is that of the first field that cannot stand
-abbrev pub FieldsRefusedCannotStand : Type 0
-FieldsRefusedCannotStand = (j i : ℕ) (c : Course) (front : List Bool) (fault : ReadFault) → fields_at j i c front ≡ Err fault → FieldRefused j i c front fault
-
--- where a field is the first that cannot stand, its fault is answered
-abbrev pub FieldsThatCannotStandAreRefused : Type 0
-FieldsThatCannotStandAreRefused = (j i : ℕ) (c : Course) (front : List Bool) (fault : ReadFault) → FieldRefused j i c front fault → fields_at j i c front ≡ Err fault
-
--- the same of so many subsets, of which the earlier ones stand
-abbrev pub SubsetsRefusedCannotStand : Type 0
-SubsetsRefusedCannotStand = (tree : Tree) (j n used : ℕ) (front : List Bool) (fault : ReadFault) → used ≤ 16777216 → subsets_at (course tree) j n used front ≡ Err fault → SubsetRefused tree j n used front fault
-
-abbrev pub SubsetsThatCannotStandAreRefused : Type 0
-SubsetsThatCannotStandAreRefused = (tree : Tree) (j n used : ℕ) (front : List Bool) (fault : ReadFault) → SubsetRefused tree j n used front fault → subsets_at (course tree) j n used front ≡ Err fault
-
--- within the limits no field stands exactly where there are fewer bits than it has
-abbrev pub NoneStandsOnFewBits : Type 0
-NoneStandsOnFewBits = (spec : Spec) (front : List Bool) → IsWithinLimits spec → length front < spec.width → NoneStands spec front
-
-abbrev pub FewBitsWhereNoneStands : Type 0
-FewBitsWhereNoneStands = (spec : Spec) (front : List Bool) → IsWithinLimits spec → NoneStands spec front → length front < spec.width
-
--- the fault of fields is that of the first place at which they are not what the template allows
-abbrev pub FieldsRefusedMisfit : Type 0
-FieldsRefusedMisfit = (j i : ℕ) (c : Course) (fields : List Field) (fault : WriteFault) → items_of j i c fields ≡ Err fault → FieldMisfits j i c fields fault
-
-abbrev pub FieldMisfitsAreRefused : Type 0
-FieldMisfitsAreRefused = (j i : ℕ) (c : Course) (fields : List Field) (fault : WriteFault) → FieldMisfits j i c fields fault → items_of j i c fields ≡ Err fault
-
--- the same of subsets, of which the earlier ones fit
-abbrev pub SubsetsRefusedMisfit : Type 0
-SubsetsRefusedMisfit = (tree : Tree) (subsets : List Subset) (fault : WriteFault) → written_bits tree false subsets ≡ Err fault → SubsetMisfits tree 1 0 subsets fault
-
-abbrev pub SubsetMisfitsAreRefused : Type 0
-SubsetMisfitsAreRefused = (tree : Tree) (subsets : List Subset) (fault : WriteFault) → SubsetMisfits tree 1 0 subsets fault → written_bits tree false subsets ≡ Err fault
+FittingAreWritten = (tree : Tree) (subsets : List Subset) (items : ℕ)
+    → AllFitWithin tree 0 subsets items → written_bits tree false subsets
+    ≡ Ok (plain_subsets subsets)
 
 -- ---- refusals, by what the template's tree stands for
 
+-- within the limits no field stands exactly where there are fewer bits than it has
+abbrev pub NoneStandsOnFewBits : Type 0
+NoneStandsOnFewBits = (spec : Spec) (front : List Bool) → IsWithinLimits spec
+    → length front < spec.width → NoneStands spec front
+
+-- and where none stands there are fewer bits
+abbrev pub FewBitsWhereNoneStands : Type 0
+FewBitsWhereNoneStands = (spec : Spec) (front : List Bool) → IsWithinLimits spec
+    → NoneStands spec front → length front < spec.width
+
 -- the fault that reading answers is that of the first field that cannot stand
 abbrev pub ReadRefusedIsFirst : Type 0
-ReadRefusedIsFirst = (tree : Tree) (j used : ℕ) (front : List Bool) (fault : ReadFault) → used ≤ 16777216 → fields_at j 1 (course tree used) front ≡ Err fault → FirstRefused tree j used front fault
+ReadRefusedIsFirst = (tree : Tree) (j used : ℕ) (front : List Bool) (fault : ReadFault)
+    → used ≤ most_items → fields_at j 1 (course tree used) front ≡ Err fault
+    → FirstRefused tree j used front fault
 
+-- and the first that cannot stand has its fault answered
 abbrev pub FirstReadIsRefused : Type 0
-FirstReadIsRefused = (tree : Tree) (j used : ℕ) (front : List Bool) (fault : ReadFault) → used ≤ 16777216 → FirstRefused tree j used front fault → fields_at j 1 (course tree used) front ≡ Err fault
+FirstReadIsRefused = (tree : Tree) (j used : ℕ) (front : List Bool) (fault : ReadFault)
+    → used ≤ most_items → FirstRefused tree j used front fault
+    → fields_at j 1 (course tree used) front ≡ Err fault
 
 -- the same of the subsets of a message
 abbrev pub SubsetsReadRefusedIsFirst : Type 0
-SubsetsReadRefusedIsFirst = (tree : Tree) (n : ℕ) (front : List Bool) (fault : ReadFault) → subsets_at (course tree) 1 n 0 front ≡ Err fault → FirstSubsetRefused tree n front fault
+SubsetsReadRefusedIsFirst = (tree : Tree) (n : ℕ) (front : List Bool) (fault : ReadFault)
+    → subsets_at (course tree) 1 n 0 front ≡ Err fault → FirstSubsetRefused tree n front fault
 
+-- and the first subset that cannot stand has its fault answered
 abbrev pub FirstSubsetsReadIsRefused : Type 0
-FirstSubsetsReadIsRefused = (tree : Tree) (n : ℕ) (front : List Bool) (fault : ReadFault) → FirstSubsetRefused tree n front fault → subsets_at (course tree) 1 n 0 front ≡ Err fault
+FirstSubsetsReadIsRefused = (tree : Tree) (n : ℕ) (front : List Bool) (fault : ReadFault)
+    → FirstSubsetRefused tree n front fault → subsets_at (course tree) 1 n 0 front ≡ Err fault
 
 -- the fault of fields is that of the first place at which they are not what the template allows
 abbrev pub WriteRefusedIsFirst : Type 0
-WriteRefusedIsFirst = (tree : Tree) (j used : ℕ) (fields : List Field) (fault : WriteFault) → used ≤ 16777216 → items_of j 1 (course tree used) fields ≡ Err fault → FirstMisfit tree j used fields fault
+WriteRefusedIsFirst = (tree : Tree) (j used : ℕ) (fields : List Field) (fault : WriteFault)
+    → used ≤ most_items → items_of j 1 (course tree used) fields ≡ Err fault
+    → FirstMisfit tree j used fields fault
 
+-- and the first such place has its fault answered
 abbrev pub FirstWriteIsRefused : Type 0
-FirstWriteIsRefused = (tree : Tree) (j used : ℕ) (fields : List Field) (fault : WriteFault) → used ≤ 16777216 → FirstMisfit tree j used fields fault → items_of j 1 (course tree used) fields ≡ Err fault
+FirstWriteIsRefused = (tree : Tree) (j used : ℕ) (fields : List Field) (fault : WriteFault)
+    → used ≤ most_items → FirstMisfit tree j used fields fault
+    → items_of j 1 (course tree used) fields ≡ Err fault
 
 -- the same of the subsets of a message
 abbrev pub WrittenRefusedIsFirst : Type 0
-WrittenRefusedIsFirst = (tree : Tree) (subsets : List Subset) (fault : WriteFault) → written_bits tree false subsets ≡ Err fault → FirstSubsetMisfit tree subsets fault
+WrittenRefusedIsFirst = (tree : Tree) (subsets : List Subset) (fault : WriteFault)
+    → written_bits tree false subsets ≡ Err fault → FirstSubsetMisfit tree subsets fault
 
+-- and the first such subset has its fault answered
 abbrev pub FirstWrittenIsRefused : Type 0
-FirstWrittenIsRefused = (tree : Tree) (subsets : List Subset) (fault : WriteFault) → FirstSubsetMisfit tree subsets fault → written_bits tree false subsets ≡ Err fault
+FirstWrittenIsRefused = (tree : Tree) (subsets : List Subset) (fault : WriteFault)
+    → FirstSubsetMisfit tree subsets fault → written_bits tree false subsets ≡ Err fault

@@ -5,6 +5,7 @@ pub mod Digits
 pub mod DecimalTexts
 pub mod DecimalTextFacts
 pub mod Laws
+pub mod Limits
 pub mod Numbered
 pub mod Steady
 pub mod Reads

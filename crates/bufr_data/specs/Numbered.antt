@@ -1,4 +1,5 @@
--- Faults of subsets by the number that a subset has in its message, and what is read after some subsets.
+-- Faults of subsets by the number that a subset has in its message, and what is read after some
+-- subsets.
 use Rattle.std.specs.Prelude.{ℕ, List, ◌++◌, Result, Ok, Err}
 use Rattle.bufr_tables.specs.Answers.{◌>>=◌}
 use Rattle.bufr_tables.specs.declared.failure.Failure.{Failure}
@@ -17,6 +18,7 @@ of_subset j (faults.IncrementRange k i) = faults.IncrementRange k i
 of_subset j (faults.CharIncrement i) = faults.CharIncrement i
 of_subset j faults.TooLarge = faults.TooLarge
 
+-- the failure of a subset that has this number
 abbrev pub failure_of_subset : ℕ → Failure ReadFault → Failure ReadFault
 failure_of_subset j (Fault fault) = Fault (of_subset j fault)
 failure_of_subset j OutOfMemory = OutOfMemory

@@ -1,5 +1,7 @@
--- The places of subsets that are written compressed (FM 94 BUFR, regulation 94.6.3): one column each.
-use Rattle.std.specs.Prelude.{ℕ, ◌+◌, List, [], ◌∷◌, map, drop, min, max, Option, Some, None, if◌then◌else◌}
+-- The places of subsets that are written compressed (FM 94 BUFR, regulation 94.6.3): one column
+-- each.
+use Rattle.std.specs.Prelude.{ℕ, List, [], ◌∷◌, map, drop, min, max, Option, Some, None}
+use Rattle.std.specs.Prelude.{if◌then◌else◌}
 use Rattle.bufr_bits.specs.Bits.{all_ones}
 use Rattle.bufr_data.specs.declared.field.Raw.{Raw}
 use Rattle.bufr_data.specs.declared.field.Field.{Field}

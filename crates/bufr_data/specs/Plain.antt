@@ -1,6 +1,8 @@
--- Subsets one after the other, bit by bit (FM 94 BUFR, regulations 94.1.3 and 94.5): the bits of fields, the fields that bits spell, and
--- the fields that a course allows.
-use Rattle.std.specs.Prelude.{ℕ, zero, suc, ◌+◌, ◌/◌, ◌^◌, ◌==◌, ◌&&◌, Bool, false, List, [], ◌∷◌, length, Option, Some, None, option_map, Result, Ok, Err, nat_lt, nat_le, if◌then◌else◌}
+-- Subsets one after the other, bit by bit (FM 94 BUFR, regulations 94.1.3 and 94.5): the bits of
+-- fields, the fields that bits spell, and the fields that a course allows.
+use Rattle.std.specs.Prelude.{ℕ, zero, suc, ◌+◌, ◌/◌, ◌^◌, ◌==◌, ◌&&◌, Bool, false, List, [], ◌∷◌}
+use Rattle.std.specs.Prelude.{length, Option, Some, None, option_map, Result, Ok, Err, nat_lt}
+use Rattle.std.specs.Prelude.{nat_le, if◌then◌else◌}
 use Rattle.std.specs.List.{flat_map, list_all}
 use Rattle.bufr_bits.specs.Bits.{bin, bits, number_at, octets_at}
 use Rattle.bufr_tables.specs.Answers.{◌>>=◌}
@@ -41,7 +43,8 @@ plain_subsets subsets = flat_map (λ s. plain s.fields) subsets
 
 -- ---- fields of bits
 
--- what was read: the fields of a subset, the items that the message has met by then, and the bits after them
+-- what was read: the fields of a subset, the items that the message has met by then, and the bits
+-- after them
 pub record SubsetRead : Type 0 where
   pub fields : List Field
   pub items : ℕ
@@ -53,7 +56,8 @@ pub record SubsetsRead : Type 0 where
   pub items : ℕ
   pub rest : List Bool
 
--- the number of a field at the front of bits; a field of more than 64 bits has none (the limits say 63, which each spec of a template keeps)
+-- the number of a field at the front of bits; a field of more than 64 bits has none (the limits say
+-- 63, which each spec of a template keeps)
 abbrev pub field_number_at : ℕ → List Bool → Option (ℕ × List Bool)
 field_number_at width front = if nat_le width 64 then number_at width front else None
 
@@ -72,21 +76,25 @@ number_of (Number n) = n
 number_of (Text octets) = 0
 
 -- a field and the fields after it, or where the data end
-abbrev pub field_then : ℕ → ℕ → ℕ → Spec → (ℕ → List Bool → Result SubsetRead ReadFault) → Option (Raw × List Bool) → Result SubsetRead ReadFault
+abbrev pub field_then : ℕ → ℕ → ℕ → Spec → (ℕ → List Bool → Result SubsetRead ReadFault)
+    → Option (Raw × List Bool) → Result SubsetRead ReadFault
 field_then j i d spec after None = Err (faults.DataEnds j i)
 field_then j i d spec after (Some x) =
-    after (number_of x.0) x.1 >>= λ found. Ok (record found { fields = record { fxy = d; spec = spec; raw = x.0 } ∷ found.fields })
+    after (number_of x.0) x.1 >>= λ found.
+    Ok (record found { fields = record { fxy = d; spec = spec; raw = x.0 } ∷ found.fields })
 
 -- the fault of data at which the walk stops
 abbrev pub stopped : {A : Type 0} → WalkFault → Result A ReadFault
 stopped walks.TooLarge = Err faults.TooLarge
 stopped (walks.EffectiveRange d) = Err (faults.EffectiveRange d)
 
--- the fields of subset j from field i on that a course asks for, at the front of bits, or the first fault
+-- the fields of subset j from field i on that a course asks for, at the front of bits, or the first
+-- fault
 unfoldable pub fields_at : ℕ → ℕ → Course → List Bool → Result SubsetRead ReadFault
 fields_at j i (ends n) front = Ok (record { fields = []; items = n; rest = front })
 fields_at j i (stops met fault) front = stopped fault
-fields_at j i (asks met d spec more) front = field_then j i d spec (λ n rest. fields_at j (i + 1) (more n) rest) (raw_at spec front)
+fields_at j i (asks met d spec more) front =
+    field_then j i d spec (λ n rest. fields_at j (i + 1) (more n) rest) (raw_at spec front)
 
 -- so many subsets from subset j on, the items counted through all of them
 unfoldable pub subsets_at : (ℕ → Course) → ℕ → ℕ → ℕ → List Bool → Result SubsetsRead ReadFault
@@ -100,11 +108,14 @@ subsets_at course j (suc n) used front = do
 
 -- the same kind, scale, reference value and width
 abbrev pub same_spec : Spec → Spec → Bool
-same_spec a b = same_kind a.kind b.kind && same_integer a.scale b.scale && same_integer a.reference b.reference && a.width == b.width
+same_spec a b = same_kind a.kind b.kind && same_integer a.scale b.scale
+    && same_integer a.reference b.reference && a.width == b.width
 
--- a raw value has its spec's form: a number below 2 to the power of the width, of at most 64 bits, or width / 8 octets
+-- a raw value has its spec's form: a number below 2 to the power of the width, of at most 64 bits,
+-- or width / 8 octets
 abbrev pub has_form_by : Kind → ℕ → Raw → Bool
-has_form_by kinds.Text width (Text octets) = length octets == width / 8 && list_all (λ x. nat_lt x 256) octets
+has_form_by kinds.Text width (Text octets) =
+    length octets == width / 8 && list_all (λ x. nat_lt x 256) octets
 has_form_by kinds.Text width (Number n) = false
 has_form_by kind width (Number n) = nat_le width 64 && nat_lt n (2 ^ width)
 has_form_by kind width (Text octets) = false
@@ -118,15 +129,19 @@ abbrev pub misfit : ℕ → ℕ → WalkFault → WriteFault
 misfit j i walks.TooLarge = misfits.TooLarge
 misfit j i (walks.EffectiveRange d) = misfits.DoesNotFit j i
 
--- the items that were met where the fields of subset j, from field i on, are those that a course asks for, or the first fault
+-- the items that were met where the fields of subset j, from field i on, are those that a course
+-- asks for, or the first fault
 unfoldable pub items_of : ℕ → ℕ → Course → List Field → Result ℕ WriteFault
 items_of j i (ends n) [] = Ok n
 items_of j i (ends n) (f ∷ fs) = Err (misfits.DoesNotFit j i)
 items_of j i (stops met fault) fs = Err (misfit j i fault)
 items_of j i (asks met d spec more) [] = Err (misfits.DoesNotFit j i)
-items_of j i (asks met d spec more) (f ∷ fs) = if stands_for d spec f then items_of j (i + 1) (more (number_of f.raw)) fs else Err (misfits.DoesNotFit j i)
+items_of j i (asks met d spec more) (f ∷ fs) =
+    if stands_for d spec f then items_of j (i + 1) (more (number_of f.raw)) fs
+    else Err (misfits.DoesNotFit j i)
 
 -- the same of subsets from subset j on, plain: the items are counted through all of them
 unfoldable pub items_of_all : (ℕ → Course) → ℕ → ℕ → List Subset → Result ℕ WriteFault
 items_of_all course j used [] = Ok used
-items_of_all course j used (s ∷ subsets) = items_of j 1 (course used) s.fields >>= λ n. items_of_all course (j + 1) n subsets
+items_of_all course j used (s ∷ subsets) =
+    items_of j 1 (course used) s.fields >>= λ n. items_of_all course (j + 1) n subsets

@@ -1,5 +1,6 @@
 -- Reading a subset field by field: what one step says of all that follows.
-use Rattle.std.specs.Prelude.{◌≡◌, ℕ, ◌+◌, Bool, List, [], ◌∷◌, ◌++◌, Option, Some, None, Result, Ok, Err}
+use Rattle.std.specs.Prelude.{◌≡◌, ℕ, ◌+◌, Bool, List, [], ◌∷◌, ◌++◌, Option, Some, None, Result}
+use Rattle.std.specs.Prelude.{Ok, Err}
 use Rattle.bufr_expand.specs.Courses.{Course}
 use Rattle.bufr_data.specs.declared.field.Raw.{Raw}
 use Rattle.bufr_data.specs.declared.field.Field.{Field}
@@ -19,5 +20,7 @@ behind_fields fields (Err e) = Err e
 
 -- field i of subset j was read, or there is none and the message has met so many items
 abbrev pub Reads : ℕ → ℕ → Course → List Bool → Option Field → Course → ℕ → List Bool → Type 0
-Reads j i course front (Some field) after items rest = fields_at j i course front ≡ behind_fields (field ∷ []) (fields_at j (i + 1) after rest)
-Reads j i course front None after items rest = fields_at j i course front ≡ Ok (record { fields = []; items = items; rest = rest })
+Reads j i course front (Some field) after items rest =
+    fields_at j i course front ≡ behind_fields (field ∷ []) (fields_at j (i + 1) after rest)
+Reads j i course front None after items rest = fields_at j i course front
+    ≡ Ok (record { fields = []; items = items; rest = rest })

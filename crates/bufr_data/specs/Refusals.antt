@@ -1,20 +1,13 @@
--- Where plain data are refused (FM 94 BUFR, regulations 94.1.3 and 94.5): at the first field that cannot stand in the data. Where subsets are
--- refused: at the first place at which they are not what the template allows.
-use Rattle.std.specs.Prelude.{◌≡◌, ℕ, ◌+◌, ◌<◌, ◌≤◌, ◌%◌, Bool, List, [], ◌∷◌, ◌++◌, length}
+-- The words of both first refusals of plain data (FM 94 BUFR, regulations 94.1.3 and 94.5): fields
+-- that are asked for in turn, and where no field stands in the data.
+use Rattle.std.specs.Prelude.{◌≡◌, ℕ, ◌≤◌, ◌%◌, Bool, List, [], ◌∷◌, ◌++◌}
 use Rattle.bufr_tables.specs.declared.element.Kind.TheVariants as kinds
 use Rattle.bufr_expand.specs.declared.operators.Spec.{Spec}
-use Rattle.bufr_expand.specs.declared.walk.WalkFault.TheVariants as walks
-use Rattle.bufr_expand.specs.Courses.{Course, ends, stops, asks, course}
-use Rattle.bufr_expand.specs.Trees.{Tree}
+use Rattle.bufr_expand.specs.Courses.{Course, ends, stops, asks}
 use Rattle.bufr_data.specs.declared.field.Raw.{Raw}
 use Rattle.bufr_data.specs.declared.field.Field.{Field}
-use Rattle.bufr_data.specs.declared.field.Subset.{Subset}
-use Rattle.bufr_data.specs.declared.fault.ReadFault.{ReadFault}
-use Rattle.bufr_data.specs.declared.fault.ReadFault.TheVariants as faults
-use Rattle.bufr_data.specs.declared.fault.WriteFault.{WriteFault}
-use Rattle.bufr_data.specs.declared.fault.WriteFault.TheVariants as misfits
-use Rattle.bufr_data.specs.Plain.{raw_bits, number_of, plain, plain_subsets}
-use Rattle.bufr_data.specs.Fits.{HasForm, AllFitWithin}
+use Rattle.bufr_data.specs.Plain.{raw_bits, number_of}
+use Rattle.bufr_data.specs.Fits.{HasForm}
 
 -- a field is the one that is asked for: this descriptor, this spec, and a raw value of its form
 abbrev pub IsAsked : ℕ → Spec → Field → Type 0
@@ -25,73 +18,16 @@ abbrev pub Passes : Course → List Field → Course → Type 0
 Passes c [] next = c ≡ next
 Passes (ends n) (f ∷ fields) next = ⊥
 Passes (stops n fault) (f ∷ fields) next = ⊥
-Passes (asks met d spec more) (f ∷ fields) next = IsAsked d spec f × Passes (more (number_of f.raw)) fields next
-
--- ---- reading
+Passes (asks met d spec more) (f ∷ fields) next = IsAsked d spec f
+    × Passes (more (number_of f.raw)) fields next
 
 -- no field of this spec stands at the front of the bits
 abbrev pub NoneStands : Spec → List Bool → Type 0
-NoneStands spec front = (raw : Raw) (rest : List Bool) → HasForm spec raw → front ≡ raw_bits spec.width raw ++ rest → ⊥
+NoneStands spec front = (raw : Raw) (rest : List Bool) → HasForm spec raw
+    → front ≡ raw_bits spec.width raw ++ rest → ⊥
 
--- the limits by which a field stands wherever there are as many bits as it has: a text has whole octets, and a number at most 64 bits
+-- the limits by which a field stands wherever there are as many bits as it has: a text has whole
+-- octets, and a number at most 64 bits
 pub record IsWithinLimits (spec : Spec) : Type 0 where
   pub whole_octets : spec.kind ≡ kinds.Text → spec.width % 8 ≡ 0
   pub few_bits : (spec.kind ≡ kinds.Text → ⊥) → spec.width ≤ 64
-
--- neither does a next field stand, which is field i of subset j, nor does the subset end: there is room for no further item, or the next
--- field's spec is out of range, or the data end within the field
-abbrev pub CannotStand : ℕ → ℕ → Course → List Bool → ReadFault → Type 0
-CannotStand j i (ends n) front fault = ⊥
-CannotStand j i (stops n walks.TooLarge) front fault = fault ≡ faults.TooLarge
-CannotStand j i (stops n (walks.EffectiveRange d)) front fault = fault ≡ faults.EffectiveRange d
-CannotStand j i (asks met d spec more) front fault = (fault ≡ faults.DataEnds j i) × NoneStands spec front
-
--- the first field of subset j, from field i on, that cannot stand: the course asks for the fields before it, and they stand in the data
-pub record FieldRefused (j i : ℕ) (c : Course) (front : List Bool) (fault : ReadFault) : Type 0 where
-  pub before : List Field
-  pub next : Course
-  pub rest : List Bool
-  pub passed : Passes c before next
-  pub stand : front ≡ plain before ++ rest
-  pub refused : CannotStand j (i + length before) next rest fault
-
--- the first of so many subsets, from subset j on, that has a field that cannot stand: the subsets before it fit, and stand in the data
-pub record SubsetRefused (tree : Tree) (j n used : ℕ) (front : List Bool) (fault : ReadFault) : Type 0 where
-  pub before : List Subset
-  pub items : ℕ
-  pub rest : List Bool
-  pub fewer : length before < n
-  pub fit : AllFitWithin tree used before items
-  pub stand : front ≡ plain_subsets before ++ rest
-  pub refused : FieldRefused (j + length before) 1 (course tree items) rest fault
-
--- ---- writing
-
--- these fields, from field i of subset j on, are at once not what the template allows: there is a field too many, or room for no further
--- item, or a spec out of range, or a field too few, or another descriptor, another spec or a raw value that has not its spec's form
-abbrev pub CannotGoOn : ℕ → ℕ → Course → List Field → WriteFault → Type 0
-CannotGoOn j i (ends n) [] fault = ⊥
-CannotGoOn j i (ends n) (f ∷ fields) fault = fault ≡ misfits.DoesNotFit j i
-CannotGoOn j i (stops n walks.TooLarge) fields fault = fault ≡ misfits.TooLarge
-CannotGoOn j i (stops n (walks.EffectiveRange d)) fields fault = fault ≡ misfits.DoesNotFit j i
-CannotGoOn j i (asks met d spec more) [] fault = fault ≡ misfits.DoesNotFit j i
-CannotGoOn j i (asks met d spec more) (f ∷ fields) fault = (fault ≡ misfits.DoesNotFit j i) × (IsAsked d spec f → ⊥)
-
--- the first place, from field i of subset j on, at which fields are not what the template allows: the course asks for those before it
-pub record FieldMisfits (j i : ℕ) (c : Course) (fields : List Field) (fault : WriteFault) : Type 0 where
-  pub before : List Field
-  pub others : List Field
-  pub next : Course
-  pub passed : Passes c before next
-  pub joined : fields ≡ before ++ others
-  pub refused : CannotGoOn j (i + length before) next others fault
-
--- the first subset, from subset j on, that does not fit: those before it do
-pub record SubsetMisfits (tree : Tree) (j used : ℕ) (subsets : List Subset) (fault : WriteFault) : Type 0 where
-  pub before : List Subset
-  pub here : Subset
-  pub others : List Subset
-  pub items : ℕ
-  pub joined : subsets ≡ before ++ here ∷ others
-  pub fit : AllFitWithin tree used before items
-  pub refused : FieldMisfits (j + length before) 1 (course tree items) here.fields fault

@@ -33,6 +33,7 @@ raws (Err e) = Err e
 
 -- ---- compressed data
 
+-- the tree of a list of descriptors by the tables of the examples
 abbrev pub sample_tree : List ℕ → Tree
 sample_tree list = tree_or_done (expansion sample list)
 
@@ -42,6 +43,7 @@ sample_raws list compressed n octets =
     result_map (λ found. map (λ s. map (λ f. f.raw) s.fields) found.0)
     (subsets_in (sample_tree list) compressed n (bits octets))
 
+-- what is written compressed of the subsets that were read
 abbrev pub written_compressed :
     Tree → Result (List Subset × List Bool) ReadFault → Result (List Bool) WriteFault
 written_compressed tree (Ok found) = written_bits tree true found.0
@@ -54,7 +56,10 @@ recompressed list compressed n octets =
 
 -- a column of numbers of so many bits
 abbrev pub number_spec : ℕ → Spec
-number_spec width = record { kind = kinds.Quantity; scale = pos 0; reference = pos 0; width = width }
+number_spec width =
+    record { kind = kinds.Quantity; scale = pos 0; reference = pos 0; width = width }
 
+-- a text of so many octets
 abbrev pub text_spec : ℕ → Spec
-text_spec octets = record { kind = kinds.Text; scale = pos 0; reference = pos 0; width = octets * 8 }
+text_spec octets =
+    record { kind = kinds.Text; scale = pos 0; reference = pos 0; width = octets * 8 }

@@ -1,6 +1,7 @@
 -- Plain data that are indexed: where each subset begins, and its fields there (FM 94 BUFR,
 -- regulations 94.1.3 and 94.5).
-use Rattle.std.specs.Prelude.{◌≡◌, ℕ, ◌+◌, ◌*◌, ◌≤◌, Bool, true, false, List, [], ◌∷◌, drop, length, Result, Ok, Err, IsOk}
+use Rattle.std.specs.Prelude.{◌≡◌, ℕ, ◌+◌, ◌*◌, ◌≤◌, Bool, true, false, List, [], ◌∷◌, drop, length}
+use Rattle.std.specs.Prelude.{Result, Ok, Err, IsOk}
 use Rattle.std.specs.List.{AllByRecursion}
 use Rattle.bufr_bits.specs.Bits.{bits}
 use Rattle.bufr_expand.specs.declared.operators.Spec.{Spec}
@@ -37,6 +38,7 @@ PassesSubset found items rest =
 
 -- ---- the subset at a place
 
+-- the fields that were read
 abbrev pub fields_of : Result SubsetRead ReadFault → List Field
 fields_of (Ok found) = found.fields
 fields_of (Err e) = []
@@ -50,8 +52,9 @@ abbrev pub subset_from : List ℕ → Tree → Start → Subset
 subset_from octets tree s = record { fields = fields_of (subset_at octets tree s) }
 
 -- a subset begins there
-abbrev pub Stands : List ℕ → Tree → Start → Type 0
-Stands octets tree s = (s.bit ≤ 8 * length octets) × IsOk (subset_at octets tree s)
+abbrev pub BeginsAtStart : List ℕ → Tree → Start → Type 0
+BeginsAtStart octets tree s = (s.bit ≤ 8 * length octets) × IsOk (subset_at octets tree s)
 
+-- a subset begins at each start
 abbrev pub AllStand : List ℕ → Tree → List Start → Type 0
-AllStand octets tree starts = AllByRecursion (Stands octets tree) starts
+AllStand octets tree starts = AllByRecursion (BeginsAtStart octets tree) starts

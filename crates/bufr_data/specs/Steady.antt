@@ -1,8 +1,10 @@
--- Walks that go on steadily: what is left of each is a steady course (FM 94 BUFR, regulation 94.5.4).
-use Rattle.std.specs.Prelude.{◌≡◌, ℕ, ◌<◌, ◌≤◌, false}
+-- Walks that go on steadily: what is left of each is a steady course (FM 94 BUFR, regulation
+-- 94.5.4).
+use Rattle.std.specs.Prelude.{◌≡◌, ◌<◌, ◌≤◌, false}
 use Rattle.bufr_expand.specs.declared.walk.Walk.{Walk}
 use Rattle.bufr_expand.specs.Steady.{IsSteady}
 use Rattle.bufr_expand.specs.Walks.{left, waits, items_met}
+use Rattle.bufr_expand.specs.Limits.{most_items}
 
 -- a walk that can go on
 pub record IsReady (w : Walk) : Type 0 where
@@ -13,4 +15,4 @@ pub record IsReady (w : Walk) : Type 0 where
 pub record WalkAdvances (old new : Walk) : Type 0 where
   pub ready : IsReady new
   pub further : items_met old < items_met new
-  pub within : items_met new ≤ 16777216
+  pub within : items_met new ≤ most_items

@@ -20,7 +20,8 @@ fits_or j i true = Ok tt
 fits_or j i false = Err (misfits.DoesNotFit j i)
 
 -- a call that puts bits at the end of those that there were, or changes nothing
-abbrev pub Appends : {X F : Type 0} → List Bool → List Bool → Result X (Failure F) → Result (List Bool) F → Type 0
+abbrev pub Appends : {X F : Type 0} → List Bool → List Bool → Result X (Failure F)
+    → Result (List Bool) F → Type 0
 Appends old new (Ok x) meant = (added : List Bool) × (meant ≡ Ok added) × (new ≡ old ++ added)
 Appends old new (Err e) meant = Fails e meant × (new ≡ old)
 

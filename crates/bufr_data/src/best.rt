@@ -1,12 +1,14 @@
 //! The best column of the values of one place.
 
-ghost use Rattle.std.specs.Prelude.{◌≡◌, ◌+◌, ◌^◌, ◌<◌, ◌≤◌, ◌/◌, ◌∷◌, ◌++◌, ◌==◌, map, drop, true, false, OnOk, IfOk, nat_lt};
+ghost use Rattle.std.specs.Prelude.{◌≡◌, ◌+◌, ◌^◌, ◌<◌, ◌≤◌, ◌/◌, ◌∷◌, ◌++◌, ◌==◌, map, drop, true};
+ghost use Rattle.std.specs.Prelude.{false, OnOk, IfOk, nat_lt};
 ghost use Rattle.std.specs.List.{list_all, flat_map};
 ghost use Rattle.bufr_bits.specs.Bits.{bin, bits};
 ghost use Rattle.bufr_tables.specs.declared.element.Kind.TheVariants.{Text};
 ghost use Rattle.bufr_tables.specs.Elements.{same_kind};
 ghost use Rattle.bufr_data.specs.BestColumns as bests;
-ghost use Rattle.bufr_data.specs.BestColumns.{first_raw, present, least, greatest, increment_of, octets_of, can_be_column};
+ghost use Rattle.bufr_data.specs.BestColumns.{first_raw, present, least, greatest, increment_of};
+ghost use Rattle.bufr_data.specs.BestColumns.{octets_of, can_be_column};
 ghost use Rattle.bufr_data.specs.ColumnReading as reading;
 ghost use Rattle.bufr_data.specs.Places.{rows_from, values_from, least_step, greatest_step};
 ghost use Rattle.bufr_data.specs.Plain.{has_form_by, number_of};
@@ -29,9 +31,12 @@ pub(crate) fn put_best(
     place: usize,
     sink: &mut BitSink,
 ) -> Result<(), OutOfMemory>
-    requires can { can_be_column field.now.spec (values_from field.now (rows_from place others.now)) ≡ true }
-    requires forms { have_form field.now.spec (values_from field.now (rows_from place others.now)) ≡ true }
-    ensures put { OnOk result (sink.new ≡ sink.old ++ bests.best field.now.spec (values_from field.now (rows_from place others.now))) }
+    requires can { can_be_column field.now.spec (values_from field.now (rows_from place others.now))
+        ≡ true }
+    requires forms { have_form field.now.spec (values_from field.now (rows_from place others.now))
+        ≡ true }
+    ensures put { OnOk result (sink.new ≡ sink.old ++ bests.best field.now.spec
+        (values_from field.now (rows_from place others.now))) }
     ensures kept { Extends sink.old sink.new }
 {
     if are_equal(&field.raw, others, place) {
@@ -50,7 +55,8 @@ pub(crate) fn put_best(
 /// As many zero octets as a text column's minimum has at most.
 const ZEROS: [u8; 63] = [0; 63];
 
-/// Puts the best column of texts that are not all the same: each whole, behind a minimum of zero bits.
+/// Puts the best column of texts that are not all the same: each whole, behind a minimum of zero
+/// bits.
 fn put_texts(
     field: &Field,
     others: &[Subset],
@@ -58,7 +64,8 @@ fn put_texts(
     sink: &mut BitSink,
 ) -> Result<(), OutOfMemory>
     requires { field.now.spec.width / 8 ≤ 63 }
-    ensures put { OnOk result (sink.new ≡ sink.old ++ bests.best_texts (field.now.spec.width / 8) (map octets_of (values_from field.now (rows_from place others.now)))) }
+    ensures put { OnOk result (sink.new ≡ sink.old ++ bests.best_texts (field.now.spec.width / 8)
+        (map octets_of (values_from field.now (rows_from place others.now)))) }
     ensures kept { Extends sink.old sink.new }
 {
     let octets = field.spec.width / 8;
@@ -73,7 +80,8 @@ fn put_texts(
 
 /// Puts the octets of a subset's text at a place.
 fn put_text_at(subset: &Subset, place: usize, sink: &mut BitSink) -> Result<(), OutOfMemory>
-    ensures put { OnOk result (sink.new ≡ sink.old ++ bits (octets_of (first_raw (drop place subset.now.fields)))) }
+    ensures put { OnOk result (sink.new ≡ sink.old ++ bits
+        (octets_of (first_raw (drop place subset.now.fields)))) }
     ensures kept { Extends sink.old sink.new }
 {
     match subset.fields.get(place) {
@@ -103,7 +111,8 @@ fn numbers_from(
     others: &[Subset],
     place: usize,
 ) -> Result<Vec<u64>, OutOfMemory>
-    ensures { IfOk result (λ numbers. numbers.items ≡ map number_of (values_from field.now (rows_from place others.now))) }
+    ensures { IfOk result (λ numbers. numbers.items ≡ map number_of
+        (values_from field.now (rows_from place others.now))) }
 {
     let mut numbers = Vec::new(alloc);
     numbers.push(field.raw.number())?;

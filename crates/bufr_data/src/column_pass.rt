@@ -1,13 +1,15 @@
 //! Moving past one column of compressed data.
 
-ghost use Rattle.std.specs.Prelude.{◌≡◌, ◌≤◌, ◌<◌, ◌*◌, ◌^◌, length, drop, List, Ok, Err, IfOk, IfErr, OnOk, true, false, ◌==◌, ◌&&◌, if◌then◌else◌};
+ghost use Rattle.std.specs.Prelude.{◌≡◌, ◌≤◌, ◌<◌, ◌*◌, ◌^◌, length, drop, List, Ok, Err, IfOk};
+ghost use Rattle.std.specs.Prelude.{IfErr, OnOk, true, false, ◌==◌, ◌&&◌, if◌then◌else◌};
 ghost use Rattle.bufr_bits.specs.Bits.{numbers};
 ghost use Rattle.bufr_bits.specs.Ends.{left};
 ghost use Rattle.bufr_tables.specs.declared.element.Kind.TheVariants.{Count, Text};
 ghost use Rattle.bufr_tables.specs.Elements.{same_kind};
 ghost use Rattle.bufr_data.specs.declared.field.Raw.{Raw};
 ghost use Rattle.bufr_data.specs.ColumnReading.{column_at, all_raised};
-ghost use Rattle.bufr_data.specs.Passing.{head_at, Passes, PassesFactor, AreRaised, agreed_at};
+ghost use Rattle.bufr_data.specs.Passing.{head_at, PassesColumn, PassesFactor, AreRaised};
+ghost use Rattle.bufr_data.specs.Passing.{agreed_at};
 
 use crate::fault::ReadFault;
 use crate::increment::{never_passes, raised};
@@ -23,7 +25,7 @@ pub(crate) fn pass_column(
     n: u16,
     i: u64,
 ) -> Result<(), ReadFault>
-    ensures ok { OnOk result (Passes n i spec (left reader.old) (left reader.new)) }
+    ensures ok { OnOk result (PassesColumn n i spec (left reader.old) (left reader.new)) }
     ensures err { IfErr result (λ fault. column_at n i spec (left reader.old) ≡ Err fault) }
     ensures octets { reader.new.octets ≡ reader.old.octets }
     ensures onward { reader.old.place ≤ reader.new.place }
@@ -37,7 +39,7 @@ pub(crate) fn pass_column(
 /// The same of a column of texts, none of which is read.
 fn pass_texts(reader: &mut BitReader, spec: Spec, n: u16, i: u64) -> Result<(), ReadFault>
     requires { spec.kind ≡ Text }
-    ensures ok { OnOk result (Passes n i spec (left reader.old) (left reader.new)) }
+    ensures ok { OnOk result (PassesColumn n i spec (left reader.old) (left reader.new)) }
     ensures err { IfErr result (λ fault. column_at n i spec (left reader.old) ≡ Err fault) }
     ensures octets { reader.new.octets ≡ reader.old.octets }
     ensures onward { reader.old.place ≤ reader.new.place }
@@ -64,7 +66,7 @@ fn pass_texts(reader: &mut BitReader, spec: Spec, n: u16, i: u64) -> Result<(), 
 /// The same of a column of numbers, which are read only where an increment may pass the width.
 fn pass_numbers(reader: &mut BitReader, spec: Spec, n: u16, i: u64) -> Result<(), ReadFault>
     requires { same_kind spec.kind Text ≡ false }
-    ensures ok { OnOk result (Passes n i spec (left reader.old) (left reader.new)) }
+    ensures ok { OnOk result (PassesColumn n i spec (left reader.old) (left reader.new)) }
     ensures err { IfErr result (λ fault. column_at n i spec (left reader.old) ≡ Err fault) }
     ensures octets { reader.new.octets ≡ reader.old.octets }
     ensures onward { reader.old.place ≤ reader.new.place }
@@ -95,7 +97,8 @@ pub(crate) fn pass_factor(
 ) -> Result<u64, ReadFault>
     requires counts { same_kind spec.kind Count ≡ true }
     requires some { 0 < n }
-    ensures ok { IfOk result (λ number. PassesFactor n i spec (left reader.old) number (left reader.new)) }
+    ensures ok { IfOk result (λ number. PassesFactor n i spec (left reader.old) number
+        (left reader.new)) }
     ensures fits { IfOk result (λ number. number < 2 ^ spec.width) }
     ensures err { IfErr result (λ fault. agreed_at n i spec (left reader.old) ≡ Err fault) }
     ensures octets { reader.new.octets ≡ reader.old.octets }
@@ -118,7 +121,8 @@ pub(crate) fn pass_factor(
 
 /// The minimum R0 and the width NBINC of a column of numbers.
 fn column_head(reader: &mut BitReader, width: u32, i: u64) -> Result<(u64, u32), ReadFault>
-    ensures ok { IfOk result (λ head. head_at i width (left reader.old) ≡ Ok (head, left reader.new)) }
+    ensures ok { IfOk result (λ head. head_at i width (left reader.old)
+        ≡ Ok (head, left reader.new)) }
     ensures narrow { OnOk result (width ≤ 64) }
     ensures below { IfOk result (λ head. head.0 < 2 ^ width) }
     ensures few { IfOk result (λ head. head.1 < 64) }
@@ -152,10 +156,12 @@ fn read_increments(
     requires narrow { width ≤ 64 }
     requires few { k < 64 }
     requires enough { n * k ≤ length (left reader.old) }
-    ensures ok { IfOk result (λ found. AreRaised i width minimum k (numbers n k (left reader.old)) found.0 found.1) }
+    ensures ok { IfOk result (λ found. AreRaised i width minimum k (numbers n k (left reader.old))
+        found.0 found.1) }
     ensures fits { IfOk result (λ found. 0 < n → found.0 < 2 ^ width) }
     ensures moved { OnOk result (left reader.new ≡ drop (n * k) (left reader.old)) }
-    ensures err { IfErr result (λ fault. all_raised 1 i width minimum k (numbers n k (left reader.old)) ≡ Err fault) }
+    ensures err { IfErr result (λ fault. all_raised 1 i width minimum k
+        (numbers n k (left reader.old)) ≡ Err fault) }
     ensures octets { reader.new.octets ≡ reader.old.octets }
     ensures onward { reader.old.place ≤ reader.new.place }
 {

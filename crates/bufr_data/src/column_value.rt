@@ -1,6 +1,7 @@
 //! One value of a column of compressed data.
 
-ghost use Rattle.std.specs.Prelude.{◌≡◌, ◌≤◌, ◌<◌, ◌*◌, ◌/◌, length, drop, option_map, get_or, false, IfOk, Some};
+ghost use Rattle.std.specs.Prelude.{◌≡◌, ◌≤◌, ◌<◌, ◌*◌, ◌/◌, length, drop, option_map, get_or};
+ghost use Rattle.std.specs.Prelude.{false, IfOk, Some};
 ghost use Rattle.bufr_bits.specs.Bits.{bits};
 ghost use Rattle.bufr_bits.specs.Ends.{left};
 ghost use Rattle.bufr_tables.specs.declared.element.Kind.TheVariants.{Text};
@@ -88,8 +89,8 @@ fn text_value(
     }
 }
 
-/// A text in a field of so many octets, which it does not pass: filled with spaces, or all ones where
-/// it is all ones.
+/// A text in a field of so many octets, which it does not pass: filled with spaces, or all ones
+/// where it is all ones.
 fn filled(mut own: Vec<u8>, octets: u64) -> Result<Items<u8>, OutOfMemory>
     requires { length own.items ≤ octets }
     ensures { IfOk result (λ text. raws.Text text ≡ reading.filled octets own.items) }

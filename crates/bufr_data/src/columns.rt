@@ -1,9 +1,11 @@
 //! Compressed data, one subset at a time.
 
-ghost use Rattle.std.specs.Prelude.{◌≡◌, ◌-◌, ◌<◌, ◌≤◌, map, get_or, true, Bool, List, Ok, Err, IfOk, IfErr, OnErr, OnSome};
+ghost use Rattle.std.specs.Prelude.{◌≡◌, ◌-◌, ◌<◌, ◌≤◌, map, get_or, true, Bool, List, Ok, Err};
+ghost use Rattle.std.specs.Prelude.{IfOk, IfErr, OnErr, OnSome, ◌+◌};
 ghost use Rattle.bufr_bits.specs.Ends.{left};
 ghost use Rattle.bufr_tables.specs.Answers.{Gives};
 ghost use Rattle.bufr_expand.specs.Walks as walks;
+ghost use Rattle.bufr_expand.specs.Limits.{most_items};
 ghost use Rattle.bufr_data.specs.declared.field.Raw.TheVariants.{Number};
 ghost use Rattle.bufr_data.specs.declared.field.Subset.{Subset};
 ghost use Rattle.bufr_data.specs.ColumnReading as reading;
@@ -11,7 +13,8 @@ ghost use Rattle.bufr_data.specs.ColumnReading.{ColumnsFound, columns_at};
 ghost use Rattle.bufr_data.specs.Plain.{stopped};
 ghost use Rattle.bufr_data.specs.Columns.{subset_of, subsets_from};
 ghost use Rattle.bufr_data.specs.Data.{subsets_in};
-ghost use Rattle.bufr_data.specs.Indexed.{Indexed, Ahead, Opens, PassesPlace, column_from, index_at};
+ghost use Rattle.bufr_data.specs.Indexed.{Indexed, Ahead, Opens, PassesPlace, column_from};
+ghost use Rattle.bufr_data.specs.Indexed.{index_at};
 ghost use Rattle.bufr_data.specs.Steady.{IsReady, WalkAdvances};
 
 use crate::column_pass::{pass_column, pass_factor};
@@ -48,26 +51,31 @@ impl<'a> Model for Columns<'a> {
 
     ghost Value = { Indexed };
 
-    ghost view = { λ c. record { subsets = c.subsets; columns = map (column_from c.octets.now c.subsets) c.places.items } };
+    ghost view = { λ c. record {
+      subsets = c.subsets;
+      columns =
+          map (column_from c.octets.now c.subsets) c.places.items;
+    } };
 
     ghost invariant = { λ c. AllOpen c.octets.now c.subsets c.places.items };
 }
 
 impl<'a> Columns<'a> {
-    /// The columns of so many subsets at the front of the bits (94.6.3). The reader moves past exactly
-    /// their bits; on an error it stays where it is. The first fault is answered, at one field in this
-    /// order: V6 `TooLarge` where an item would be the 16,777,217th or with this field there would be
-    /// more than 67,108,864 values, V1 `EffectiveRange`, V2 `DataEnds` with subset 0 where minimum or
-    /// width are not all there, V5 `CharIncrement`, V2 where the increments are not all there, V4
-    /// `IncrementRange` with the subset, from 1, V3 `UnequalCounts`. `OutOfMemory` where a growth was
-    /// refused.
+    /// The columns of so many subsets at the front of the bits (94.6.3). The reader moves past
+    /// exactly their bits; on an error it stays where it is. The first fault is answered, at one
+    /// field in this order: V6 `TooLarge` where an item would be the 16,777,217th or with this
+    /// field there would be more than 67,108,864 values, V1 `EffectiveRange`, V2 `DataEnds` with
+    /// subset 0 where minimum or width are not all there, V5 `CharIncrement`, V2 where the
+    /// increments are not all there, V4 `IncrementRange` with the subset, from 1, V3
+    /// `UnequalCounts`. `OutOfMemory` where a growth was refused.
     pub fn index(
         alloc: Global,
         template: &Template,
         reader: &mut BitReader<'a>,
         subsets: u16,
     ) -> Result<Columns<'a>, Failure<ReadFault>>
-        ensures exact { Gives {Y = Ahead} (λ c. record { index = c; rest = left reader.new }) result (index_at template.now subsets (left reader.old)) }
+        ensures exact { Gives {Y = Ahead} (λ c. record { index = c; rest = left reader.new }) result
+            (index_at template.now subsets (left reader.old)) }
         ensures octets { reader.new.octets ≡ reader.old.octets }
         ensures err { OnErr result (reader.new ≡ reader.old) }
         ensures onward { reader.old.place ≤ reader.new.place }
@@ -107,15 +115,16 @@ impl<'a> Columns<'a> {
     }
 }
 
-/// The columns of so many subsets at the front of the bits. After an error the reader may have moved
-/// on.
+/// The columns of so many subsets at the front of the bits. After an error the reader may have
+/// moved on.
 fn index_columns<'a>(
     alloc: Global,
     template: &Template,
     reader: &mut BitReader<'a>,
     subsets: u16,
 ) -> Result<Columns<'a>, Failure<ReadFault>>
-    ensures exact { Gives {Y = Ahead} (λ c. record { index = c; rest = left reader.new }) result (index_at template.now subsets (left reader.old)) }
+    ensures exact { Gives {Y = Ahead} (λ c. record { index = c; rest = left reader.new }) result
+        (index_at template.now subsets (left reader.old)) }
     ensures octets { reader.new.octets ≡ reader.old.octets }
     ensures onward { reader.old.place ≤ reader.new.place }
 {
@@ -152,10 +161,12 @@ fn next_place(
 ) -> Result<Option<Place>, ReadFault>
     requires ready { IsReady walk.old }
     requires some { 0 < n }
-    requires few { i ≤ 16777217 }
-    ensures ok { IfOk result (λ place. PassesPlace n i (walks.left walk.old) reader.old.octets (left reader.old) place (walks.left walk.new) (left reader.new)) }
+    requires few { i ≤ most_items + 1 }
+    ensures ok { IfOk result (λ place. PassesPlace n i (walks.left walk.old) reader.old.octets
+        (left reader.old) place (walks.left walk.new) (left reader.new)) }
     ensures advances { IfOk result (λ place. OnSome place (WalkAdvances walk.old walk.new)) }
-    ensures err { IfErr result (λ fault. columns_at n i (walks.left walk.old) (left reader.old) ≡ Err fault) }
+    ensures err { IfErr result (λ fault. columns_at n i (walks.left walk.old) (left reader.old)
+        ≡ Err fault) }
     ensures octets { reader.new.octets ≡ reader.old.octets }
     ensures onward { reader.old.place ≤ reader.new.place }
 {
@@ -182,7 +193,7 @@ fn next_place(
 
 /// Nothing, where `i` fields of `n` subsets are no more values than compressed data may have.
 fn within_limit(n: u16, i: u64) -> Result<(), ReadFault>
-    requires { i ≤ 16777217 }
+    requires { i ≤ most_items + 1 }
     ensures { result ≡ reading.within_limit n i (Ok tt) }
 {
     if i * u64::from(n) > MOST_VALUES {
@@ -193,7 +204,7 @@ fn within_limit(n: u16, i: u64) -> Result<(), ReadFault>
 
 /// The fault of field `i` of `n` subsets, at which the walk stops.
 fn stop_fault(fault: WalkFault, n: u16, i: u64) -> ReadFault
-    requires { i ≤ 16777217 }
+    requires { i ≤ most_items + 1 }
     ensures { reading.within_limit {A = ColumnsFound} n i (stopped fault) ≡ Err result }
 {
     match within_limit(n, i) {
@@ -212,7 +223,8 @@ fn value(
 ) -> Result<Raw, OutOfMemory>
     requires stands { Opens octets.now subsets place }
     requires inside { index < subsets }
-    ensures { IfOk result (λ v. v ≡ get_or (column_from octets.now subsets place).values index (Number 0)) }
+    ensures { IfOk result (λ v. v ≡ get_or (column_from octets.now subsets place).values index
+        (Number 0)) }
 {
     let mut reader = BitReader::at(octets, place.bit);
     let value = column_value(alloc, &mut reader, place.spec, index)?;
@@ -228,7 +240,8 @@ pub fn read_compressed(
     reader: &mut BitReader,
     count: u16,
 ) -> Result<Items<Subset>, Failure<ReadFault>>
-    ensures exact { Gives {Y = List Subset × List Bool} (λ subsets. (subsets, left reader.new)) result (subsets_in template.now true count (left reader.old)) }
+    ensures exact { Gives {Y = List Subset × List Bool} (λ subsets. (subsets, left reader.new))
+        result (subsets_in template.now true count (left reader.old)) }
     ensures octets { reader.new.octets ≡ reader.old.octets }
     ensures err { OnErr result (reader.new ≡ reader.old) }
 {
@@ -245,7 +258,8 @@ pub fn read_compressed(
 
 /// All subsets, from the first on.
 fn all_subsets(alloc: Global, columns: &Columns) -> Result<Items<Subset>, OutOfMemory>
-    ensures { IfOk result (λ subsets. subsets ≡ subsets_from 0 columns.now.subsets columns.now.columns) }
+    ensures { IfOk result (λ subsets. subsets ≡ subsets_from 0 columns.now.subsets
+        columns.now.columns) }
 {
     let mut subsets = Vec::new(alloc);
     for index in 0..columns.subsets {

@@ -13,11 +13,27 @@ use crate::field::Raw;
 /// Plain data: sequences, a count of one, operators, a local descriptor, and data that end.
 #[tactic(auto, unfolding(crate::proofs::OnLiterals::data_on_literals))]
 pub fn plain_data()
-    ensures sequences { raws (fields_at 1 1 (sample_course (descriptor 3 1 1 ∷ descriptor 3 1 11 ∷ descriptor 3 1 12 ∷ descriptor 0 12 101 ∷ []) 0) (bits (0x14 ∷ 0xC0 ∷ 0x3F ∷ 0x40 ∷ 0x9E ∷ 0xC0 ∷ 0x1A ∷ 0xAC ∷ 0xC0 ∷ []))) ≡ Ok (Raw.Number 10 ∷ Raw.Number 384 ∷ Raw.Number 2024 ∷ Raw.Number 1 ∷ Raw.Number 15 ∷ Raw.Number 12 ∷ Raw.Number 0 ∷ Raw.Number 27315 ∷ []) }
-    ensures delayed { raws (fields_at 1 1 (sample_course (descriptor 1 1 0 ∷ descriptor 0 31 1 ∷ descriptor 0 12 101 ∷ []) 0) (bits (0x01 ∷ 0x6A ∷ 0xB3 ∷ []))) ≡ Ok (Raw.Number 1 ∷ Raw.Number 27315 ∷ []) }
-    ensures operators { raws (fields_at 1 1 (sample_course (descriptor 2 1 130 ∷ descriptor 2 2 129 ∷ descriptor 0 12 101 ∷ descriptor 2 1 0 ∷ descriptor 2 2 0 ∷ descriptor 0 12 101 ∷ []) 0) (bits (0xF4 ∷ 0x24 ∷ 0x1A ∷ 0xAC ∷ 0xC0 ∷ []))) ≡ Ok (Raw.Number 250000 ∷ Raw.Number 27315 ∷ []) }
-    ensures local { raws (fields_at 1 1 (sample_course (descriptor 2 6 12 ∷ descriptor 0 1 250 ∷ []) 0) (bits (0x00 ∷ 0x50 ∷ []))) ≡ Ok (Raw.Number 5 ∷ []) }
-    ensures ends { fields_at 1 1 (sample_course (descriptor 3 1 1 ∷ descriptor 3 1 11 ∷ descriptor 3 1 12 ∷ descriptor 0 12 101 ∷ []) 0) (bits (0x14 ∷ 0xC0 ∷ 0x3F ∷ 0x40 ∷ 0x9E ∷ 0xC0 ∷ 0x1A ∷ 0xAC ∷ [])) ≡ Err (ReadFault.DataEnds 1 8) }
+    ensures sequences { raws (fields_at 1 1
+        (sample_course (descriptor 3 1 1 ∷ descriptor 3 1 11 ∷ descriptor 3 1 12
+        ∷ descriptor 0 12 101 ∷ []) 0)
+        (bits (0x14 ∷ 0xC0 ∷ 0x3F ∷ 0x40 ∷ 0x9E ∷ 0xC0 ∷ 0x1A ∷ 0xAC ∷ 0xC0 ∷ [])))
+        ≡ Ok (Raw.Number 10 ∷ Raw.Number 384 ∷ Raw.Number 2024 ∷ Raw.Number 1 ∷ Raw.Number 15
+        ∷ Raw.Number 12 ∷ Raw.Number 0 ∷ Raw.Number 27315 ∷ []) }
+    ensures delayed { raws (fields_at 1 1
+        (sample_course (descriptor 1 1 0 ∷ descriptor 0 31 1 ∷ descriptor 0 12 101 ∷ []) 0)
+        (bits (0x01 ∷ 0x6A ∷ 0xB3 ∷ []))) ≡ Ok (Raw.Number 1 ∷ Raw.Number 27315 ∷ []) }
+    ensures operators { raws (fields_at 1 1
+        (sample_course (descriptor 2 1 130 ∷ descriptor 2 2 129 ∷ descriptor 0 12 101
+        ∷ descriptor 2 1 0 ∷ descriptor 2 2 0 ∷ descriptor 0 12 101 ∷ []) 0)
+        (bits (0xF4 ∷ 0x24 ∷ 0x1A ∷ 0xAC ∷ 0xC0 ∷ [])))
+        ≡ Ok (Raw.Number 250000 ∷ Raw.Number 27315 ∷ []) }
+    ensures local { raws (fields_at 1 1
+        (sample_course (descriptor 2 6 12 ∷ descriptor 0 1 250 ∷ []) 0) (bits (0x00 ∷ 0x50 ∷ [])))
+        ≡ Ok (Raw.Number 5 ∷ []) }
+    ensures ends { fields_at 1 1 (sample_course
+        (descriptor 3 1 1 ∷ descriptor 3 1 11 ∷ descriptor 3 1 12 ∷ descriptor 0 12 101 ∷ []) 0)
+        (bits (0x14 ∷ 0xC0 ∷ 0x3F ∷ 0x40 ∷ 0x9E ∷ 0xC0 ∷ 0x1A ∷ 0xAC ∷ []))
+        ≡ Err (ReadFault.DataEnds 1 8) }
 {}
 
 /// The texts of values.

@@ -71,7 +71,8 @@ impl Field {
         self.fxy == fxy && is_same(self.spec, spec) && self.raw.has_form(spec.kind, spec.width)
     }
 
-    /// Whether all bits are one, the width is not 1 and the kind is not `Count`. A raw value that has not its spec's form is never missing.
+    /// Whether all bits are one, the width is not 1 and the kind is not `Count`. A raw value that
+    /// has not its spec's form is never missing.
     pub fn is_missing(&self) -> bool
         ensures { result ≡ is_missing self.now }
     {
@@ -82,8 +83,9 @@ impl Field {
             && !matches!(self.spec.kind, Kind::Count)
     }
 
-    /// The value of a number: raw value and reference value, with the spec's scale. `None` where the field is missing, where its kind or its
-    /// raw value is a text, and where the scale is not -600 to 600.
+    /// The value of a number: raw value and reference value, with the spec's scale. `None` where
+    /// the field is missing, where its kind or its raw value is a text, and where the scale is not
+    /// -600 to 600.
     pub fn value(&self) -> Option<Decimal>
         ensures { result ≡ value self.now }
     {
@@ -125,7 +127,8 @@ impl Decimal {
         Some(Decimal { units, scale })
     }
 
-    /// The value of a raw value above a reference value, or `None` where the scale is not -600 to 600.
+    /// The value of a raw value above a reference value, or `None` where the scale is not -600 to
+    /// 600.
     fn from_raw(number: u64, reference: i64, scale: i32) -> Option<Decimal>
         ensures { result ≡ decimal_within (pos number +ℤ reference) scale }
     {

@@ -37,9 +37,12 @@ pub(crate) fn fit_fields(
 /// Moves past field `i` of subset `j`, where it is the one that the walk asks for next.
 fn fit_field(walk: &mut Walk, field: &Field, j: u64, i: u64) -> Result<(), Failure<WriteFault>>
     requires { IsReady walk.old }
-    ensures ok { OnOk result ((rest : List Field) → items_of j i (walks.left walk.old) (field.now ∷ rest) ≡ items_of j (i + 1) (walks.left walk.new) rest) }
+    ensures ok { OnOk result ((rest : List Field)
+        → items_of j i (walks.left walk.old) (field.now ∷ rest)
+        ≡ items_of j (i + 1) (walks.left walk.new) rest) }
     ensures goes_on { OnOk result (WalkAdvances walk.old walk.new) }
-    ensures err { IfErr result (λ e. (rest : List Field) → Fails e (items_of j i (walks.left walk.old) (field.now ∷ rest))) }
+    ensures err { IfErr result (λ e. (rest : List Field)
+        → Fails e (items_of j i (walks.left walk.old) (field.now ∷ rest))) }
 {
     let step = match walk.next() {
         Err(fault) => return Err(Failure::Fault(misfit(fault, j, i))),

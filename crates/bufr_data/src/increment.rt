@@ -6,8 +6,8 @@ ghost use Rattle.bufr_data.specs.ColumnReading as reading;
 
 use crate::form::is_greatest;
 
-/// The number of an increment of `k` bits above a minimum in a field of so many bits: all ones where
-/// the increment is all ones. `None` where the sum passes the field's greatest number.
+/// The number of an increment of `k` bits above a minimum in a field of so many bits: all ones
+/// where the increment is all ones. `None` where the sum passes the field's greatest number.
 pub(crate) fn raised(width: u32, minimum: u64, k: u32, increment: u64) -> Option<u64>
     requires narrow { width ≤ 64 }
     requires few { k < 64 }

@@ -1,31 +1,41 @@
-//! Laws of data, for any template.
+//! Laws of data, for any template, and of the texts of decimals.
 
-ghost use Rattle.bufr_data.specs.Laws.{ReadStand, StandingAreRead, CountedFit, FittingAreCounted, AllCountedFit, AllFittingAreCounted};
-ghost use Rattle.bufr_data.specs.Laws.{SubsetReadStands, SubsetStandingIsRead, SubsetsReadStand, SubsetsStandingAreRead, WrittenFit, FittingAreWritten};
-ghost use Rattle.bufr_data.specs.Laws.{FieldsRefusedCannotStand, FieldsThatCannotStandAreRefused, SubsetsRefusedCannotStand, SubsetsThatCannotStandAreRefused};
-ghost use Rattle.bufr_data.specs.Laws.{NoneStandsOnFewBits, FewBitsWhereNoneStands, FieldsRefusedMisfit, FieldMisfitsAreRefused};
-ghost use Rattle.bufr_data.specs.Laws.{SubsetsRefusedMisfit, SubsetMisfitsAreRefused};
-ghost use Rattle.bufr_data.specs.Laws.{ReadRefusedIsFirst, FirstReadIsRefused, SubsetsReadRefusedIsFirst, FirstSubsetsReadIsRefused};
-ghost use Rattle.bufr_data.specs.Laws.{WriteRefusedIsFirst, FirstWriteIsRefused, WrittenRefusedIsFirst, FirstWrittenIsRefused};
+ghost use Rattle.bufr_data.specs.Laws.{ReadStand, StandingAreRead, CountedFit, FittingAreCounted};
+ghost use Rattle.bufr_data.specs.Laws.{AllCountedFit, AllFittingAreCounted};
+ghost use Rattle.bufr_data.specs.Laws.{SubsetReadStands, SubsetStandingIsRead, SubsetsReadStand};
+ghost use Rattle.bufr_data.specs.Laws.{SubsetsStandingAreRead, WrittenFit, FittingAreWritten};
+ghost use Rattle.bufr_data.specs.Laws.{NoneStandsOnFewBits, FewBitsWhereNoneStands};
+ghost use Rattle.bufr_data.specs.Laws.{ReadRefusedIsFirst, FirstReadIsRefused};
+ghost use Rattle.bufr_data.specs.Laws.{SubsetsReadRefusedIsFirst, FirstSubsetsReadIsRefused};
+ghost use Rattle.bufr_data.specs.Laws.{WriteRefusedIsFirst, FirstWriteIsRefused};
+ghost use Rattle.bufr_data.specs.Laws.{WrittenRefusedIsFirst, FirstWrittenIsRefused};
 ghost use Rattle.std.specs.Prelude.{ℕ, Bool, List};
+ghost use Rattle.bufr_expand.specs.Courses.{course};
+ghost use Rattle.bufr_expand.specs.Steady.{IsSteady};
 ghost use Rattle.bufr_expand.specs.Trees.{Tree};
-ghost use Rattle.bufr_data.specs.Data.{ReadsExactly, RefusesExactly, WritesExactly, MisfitsExactly, BareDataAreData, PlainDataAreBare, PackedDataCanBeBare, NarrowDataCanBePacked};
+ghost use Rattle.bufr_data.specs.Data.{ReadsExactly, RefusesExactly, WritesExactly, MisfitsExactly};
+ghost use Rattle.bufr_data.specs.Data.{BareDataAreData, PlainDataAreBare, PackedDataCanBeBare};
+ghost use Rattle.bufr_data.specs.Data.{NarrowDataCanBePacked};
+ghost use Rattle.bufr_data.specs.DecimalTexts.{UnitsOfTexts};
 ghost use Rattle.bufr_data.specs.Columns.{Column};
-ghost use Rattle.bufr_data.specs.ColumnLaws.{ColumnReadStands, StandingColumnIsRead, BestIsColumn, BestIsShortest};
+ghost use Rattle.bufr_data.specs.ColumnLaws.{ColumnReadStands, StandingColumnIsRead, BestIsColumn};
+ghost use Rattle.bufr_data.specs.ColumnLaws.{BestIsShortest};
 ghost use Rattle.bufr_data.specs.declared.field.Subset.{Subset};
 ghost use Rattle.bufr_data.specs.declared.fault.ReadFault.{ReadFault};
 ghost use Rattle.bufr_data.specs.declared.fault.WriteFault.{WriteFault};
 
 use bufr_expand::laws::{courses_are_unrollings, courses_begin_unrollings};
 
-/// Reading answers subsets exactly where they fit the template and their bits stand at the front, item counts and rest included.
+/// Reading answers subsets exactly where they fit the template and their bits stand at the front,
+/// item counts and rest included.
 pub fn plain_data_spell_subsets()
     ensures read_stand { ReadStand }
     ensures standing_are_read { StandingAreRead }
 {}
 
-/// The subsets that are counted are those that fit the template: their fields are what its tree stands for, each raw value has its spec's
-/// form, and the items, which are those of the tree, add up to 16,777,216 at most.
+/// The subsets that are counted are those that fit the template: their fields are what its tree
+/// stands for, each raw value has its spec's form, and the items, which are those of the tree, add
+/// up to 16,777,216 at most.
 pub fn counted_subsets_fit()
     ensures fit { CountedFit }
     ensures counted { FittingAreCounted }
@@ -35,8 +45,8 @@ pub fn counted_subsets_fit()
     courses_are_unrollings();
 }
 
-/// Reading answers exactly the subsets that fit the template and stand at the front of the bits, and writing answers bits exactly where the
-/// subsets fit, and then theirs.
+/// Reading answers exactly the subsets that fit the template and stand at the front of the bits,
+/// and writing answers bits exactly where the subsets fit, and then theirs.
 pub fn fitting_subsets_are_read_and_written()
     ensures subset_stands { SubsetReadStands }
     ensures subset_is_read { SubsetStandingIsRead }
@@ -48,43 +58,26 @@ pub fn fitting_subsets_are_read_and_written()
     courses_are_unrollings();
 }
 
-/// The fault of reading is that of the first field that cannot stand in the data: the subsets and the fields before it stand there, and
-/// neither a next field nor the subset's end does.
-pub fn read_refusals_are_the_first()
-    ensures refused { FieldsRefusedCannotStand }
-    ensures cannot_stand { FieldsThatCannotStandAreRefused }
-    ensures subsets_refused { SubsetsRefusedCannotStand }
-    ensures subsets_cannot_stand { SubsetsThatCannotStandAreRefused }
-    ensures few_bits { NoneStandsOnFewBits }
-    ensures none_stands { FewBitsWhereNoneStands }
-{
-    courses_are_unrollings();
-}
-
-/// The fault of writing is that of the first place at which a subset is not a list of fields that the template allows.
-pub fn write_refusals_are_the_first()
-    ensures refused { FieldsRefusedMisfit }
-    ensures misfit { FieldMisfitsAreRefused }
-    ensures subsets_refused { SubsetsRefusedMisfit }
-    ensures subsets_misfit { SubsetMisfitsAreRefused }
-{
-    courses_are_unrollings();
-}
-
-/// The same told by what the template's tree stands for: each field before it comes next in an unrolling, and after them an item would be too
-/// many, or the next field has no spec, or the data end within it.
+/// The fault of reading is that of the first field that cannot stand: the subsets and the fields
+/// before it stand in the data, and each field before it comes next in an unrolling of the
+/// template's tree; after them an item would be too many, or the next field has no spec, or the
+/// data end within it. Within the limits of fields this is where there are fewer bits than it has.
 pub fn read_refusals_follow_the_tree()
     ensures refused { ReadRefusedIsFirst }
     ensures cannot_stand { FirstReadIsRefused }
     ensures subsets_refused { SubsetsReadRefusedIsFirst }
     ensures subsets_cannot_stand { FirstSubsetsReadIsRefused }
+    ensures few_bits { NoneStandsOnFewBits }
+    ensures none_stands { FewBitsWhereNoneStands }
 {
     courses_are_unrollings();
     courses_begin_unrollings();
 }
 
-/// The same of writing: each field before it comes next in an unrolling, and after them there is a field too many, or an item would be too
-/// many, or the next field has no spec, or is not there, or is another one.
+/// The fault of writing is that of the first place at which a subset is not what the template
+/// allows: each field before it comes next in an unrolling, and after them there is a field too
+/// many, or an item would be too many, or the next field has no spec, or is not there, or is
+/// another one.
 pub fn write_refusals_follow_the_tree()
     ensures refused { WriteRefusedIsFirst }
     ensures misfit { FirstWriteIsRefused }
@@ -106,18 +99,38 @@ pub fn columns_hold_values()
 {}
 
 /// What a message's crate knows of data, plain or compressed: subsets are read exactly where the
-/// bits begin with their data, else refused exactly for the first fault; they are written exactly as
-/// their data with nothing in what is free, else refused exactly for the first fault.
+/// bits begin with their data, else refused exactly for the first fault; they are written exactly
+/// as their data with nothing in what is free, else refused exactly for the first fault.
 pub fn data_hold_subsets()
-    ensures read { (tree : Tree) (compressed : Bool) (count : ℕ) (front : List Bool) (found : List Subset × List Bool) → ReadsExactly tree compressed count front found }
-    ensures refused { (tree : Tree) (compressed : Bool) (count : ℕ) (front : List Bool) (fault : ReadFault) → RefusesExactly tree compressed count front fault }
-    ensures written { (tree : Tree) (compressed : Bool) (subsets : List Subset) (data_bits : List Bool) → WritesExactly tree compressed subsets data_bits }
-    ensures misfit { (tree : Tree) (compressed : Bool) (subsets : List Subset) (fault : WriteFault) → MisfitsExactly tree compressed subsets fault }
-    ensures bare { (tree : Tree) (compressed : Bool) (subsets : List Subset) (data_bits : List Bool) → BareDataAreData tree compressed subsets data_bits }
-    ensures plain { (tree : Tree) (subsets : List Subset) (data_bits : List Bool) → PlainDataAreBare tree subsets data_bits }
-    ensures packable { (tree : Tree) (subsets : List Subset) (columns : List Column) (data_bits : List Bool) → PackedDataCanBeBare tree subsets columns data_bits }
-    ensures narrow { (tree : Tree) (subsets : List Subset) (data_bits : List Bool) → NarrowDataCanBePacked tree subsets data_bits }
+    ensures read { (tree : Tree) (compressed : Bool) (count : ℕ) (front : List Bool)
+        (found : List Subset × List Bool) → ReadsExactly tree compressed count front found }
+    ensures refused { (tree : Tree) (compressed : Bool) (count : ℕ) (front : List Bool)
+        (fault : ReadFault) → RefusesExactly tree compressed count front fault }
+    ensures written { (tree : Tree) (compressed : Bool) (subsets : List Subset)
+        (data_bits : List Bool) → WritesExactly tree compressed subsets data_bits }
+    ensures misfit { (tree : Tree) (compressed : Bool) (subsets : List Subset) (fault : WriteFault)
+        → MisfitsExactly tree compressed subsets fault }
+    ensures bare { (tree : Tree) (compressed : Bool) (subsets : List Subset) (data_bits : List Bool)
+        → BareDataAreData tree compressed subsets data_bits }
+    ensures plain { (tree : Tree) (subsets : List Subset) (data_bits : List Bool)
+        → PlainDataAreBare tree subsets data_bits }
+    ensures packable { (tree : Tree) (subsets : List Subset) (columns : List Column)
+        (data_bits : List Bool) → PackedDataCanBeBare tree subsets columns data_bits }
+    ensures narrow { (tree : Tree) (subsets : List Subset) (data_bits : List Bool)
+        → NarrowDataCanBePacked tree subsets data_bits }
 {
     courses_are_unrollings();
     courses_begin_unrollings();
 }
+
+/// The units of a decimal are the only ones that its text can have at its scale: so a decimal is
+/// read of its text by one candidate.
+pub fn texts_have_one_decimal()
+    ensures { UnitsOfTexts }
+{}
+
+/// The course of a template goes on steadily: each field that it asks for has one more item at
+/// least, and only a count decides what comes after it (regulation 94.5.4).
+pub fn courses_go_on_steadily()
+    ensures { (tree : Tree) (used : ℕ) → IsSteady used (course tree used) }
+{}

@@ -13,7 +13,7 @@ mod field;
 mod fit;
 mod form;
 mod increment;
-mod laws;
+pub mod laws;
 mod limits;
 mod pack;
 mod parse;
@@ -27,20 +27,15 @@ mod subsets;
 #[cfg(test)]
 mod tests;
 mod text;
-mod text_laws;
 mod write;
 
 pub use columns::{Columns, read_compressed};
 pub use fault::{ReadFault, WriteFault};
 pub use field::{Decimal, Field, Raw, Subset};
-pub use laws::{
-    columns_hold_values, counted_subsets_fit, data_hold_subsets,
-    fitting_subsets_are_read_and_written, plain_data_spell_subsets, read_refusals_are_the_first,
-    read_refusals_follow_the_tree, write_refusals_are_the_first, write_refusals_follow_the_tree,
-};
+pub use laws::{counted_subsets_fit, courses_go_on_steadily, data_hold_subsets};
+pub use limits::MOST_VALUES;
 pub use pack::write_compressed;
 pub use read::read_plain;
 pub use subset_index::SubsetIndex;
 pub use subsets::{read_subsets, write_subsets};
-pub use text_laws::{courses_go_on_steadily, texts_have_one_decimal};
 pub use write::write_plain;

@@ -20,9 +20,9 @@ use bufr_tables::Failure;
 use std::alloc::Global;
 
 /// Puts the best column of each place of the subsets at the sink's end, one after the other. On an
-/// error the sink is as before. The first fault is answered: subset by subset E1 `DoesNotFit`, and E3
-/// `TooLarge` where an item would be the subset's 16,777,217th; then E2 `NotCompressible` with the
-/// field at which the subsets cannot stand in one column; then E3 where there are more than
+/// error the sink is as before. The first fault is answered: subset by subset E1 `DoesNotFit`, and
+/// E3 `TooLarge` where an item would be the subset's 16,777,217th; then E2 `NotCompressible` with
+/// the field at which the subsets cannot stand in one column; then E3 where there are more than
 /// 67,108,864 values. `OutOfMemory` where a growth was refused.
 pub fn write_compressed(
     alloc: Global,
@@ -81,10 +81,12 @@ fn put_columns(
     others: &[Subset],
     sink: &mut BitSink,
 ) -> Result<(), OutOfMemory>
-    requires can { columns_of 1 fields.now (rows_from 0 others.now) ≡ Ok (columns_here fields.now (rows_from 0 others.now)) }
+    requires can { columns_of 1 fields.now (rows_from 0 others.now)
+        ≡ Ok (columns_here fields.now (rows_from 0 others.now)) }
     requires forms { list_all has_own_form fields.now ≡ true }
     requires other_forms { list_all (λ s. list_all has_own_form s.fields) others.now ≡ true }
-    ensures put { OnOk result (sink.new ≡ sink.old ++ best_bits (columns_here fields.now (rows_from 0 others.now))) }
+    ensures put { OnOk result (sink.new ≡ sink.old ++ best_bits
+        (columns_here fields.now (rows_from 0 others.now))) }
     ensures kept { Extends sink.old sink.new }
 {
     for (place, field) in fields.iter().enumerate() {

@@ -17,8 +17,10 @@ impl Decimal {
     /// scale is not -600 to 600, the units do not fit 128 bits with a sign, or the text is another
     /// spelling. It takes no memory, and its work is linear in the text.
     pub fn parse(text: &[u8], scale: i32) -> Option<Decimal>
-        ensures found { IfSome result (λ d. (d.scale ≡ scale) × IsDecimal d × (text_of d ≡ text.now)) }
-        ensures only { (d : declared.Decimal) → IsDecimal d → d.scale ≡ scale → text_of d ≡ text.now → result ≡ Some d }
+        ensures found { IfSome result (λ d. (d.scale ≡ scale) × IsDecimal d
+            × (text_of d ≡ text.now)) }
+        ensures only { (d : declared.Decimal) → IsDecimal d → d.scale ≡ scale → text_of d ≡ text.now
+            → result ≡ Some d }
     {
         parse(text, scale)
     }
@@ -55,7 +57,8 @@ fn without_zeros(text: &[u8], scale: i32) -> &[u8]
 
 /// The number of the digits of a text, whatever stands beside them, if it fits 128 bits.
 fn number_in(text: &[u8]) -> Option<u128>
-    ensures { result ≡ (if nat_lt (digits_value 10 (digits_in text.now)) (2 ^ 128) then Some (digits_value 10 (digits_in text.now)) else None) }
+    ensures { result ≡ (if nat_lt (digits_value 10 (digits_in text.now)) (2 ^ 128)
+        then Some (digits_value 10 (digits_in text.now)) else None) }
 {
     let mut value = 0u128;
     for c in text {

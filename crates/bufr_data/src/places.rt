@@ -17,8 +17,10 @@ use bufr_tables::Kind;
 /// Nothing, where each place of the first subset's fields can stand in one column with those of the
 /// other subsets, and none of these has more; else E2 with the first place that cannot, from 1.
 pub(crate) fn check_places(fields: &[Field], others: &[Subset]) -> Result<(), WriteFault>
-    ensures ok { OnOk result (columns_of 1 fields.now (rows_from 0 others.now) ≡ Ok (columns_here fields.now (rows_from 0 others.now))) }
-    ensures err { IfErr result (λ fault. columns_of 1 fields.now (rows_from 0 others.now) ≡ Err fault) }
+    ensures ok { OnOk result (columns_of 1 fields.now (rows_from 0 others.now)
+        ≡ Ok (columns_here fields.now (rows_from 0 others.now))) }
+    ensures err { IfErr result (λ fault. columns_of 1 fields.now (rows_from 0 others.now)
+        ≡ Err fault) }
 {
     for (place, field) in fields.iter().enumerate() {
         if !is_one_place(field, others, place) {
@@ -32,16 +34,18 @@ pub(crate) fn check_places(fields: &[Field], others: &[Subset]) -> Result<(), Wr
     }
 }
 
-/// Whether a field of the first subset and those of the others at its place can stand in one column.
+/// Whether a field of the first subset and those of the others at its place can stand in one
+/// column.
 fn is_one_place(field: &Field, others: &[Subset], place: usize) -> bool
-    ensures { result ≡ (list_all (begins_like field.now) (rows_from place others.now) && best.can_be_column field.now.spec (values_from field.now (rows_from place others.now))) }
+    ensures { result ≡ (list_all (begins_like field.now) (rows_from place others.now)
+        && best.can_be_column field.now.spec (values_from field.now (rows_from place others.now))) }
 {
     are_alike(field, others, place)
         && (are_equal(&field.raw, others, place) || can_differ(field.spec))
 }
 
-/// Whether differing values of this spec can stand in a column: no factor, and at most 63 bits or, of
-/// a text, 63 octets.
+/// Whether differing values of this spec can stand in a column: no factor, and at most 63 bits or,
+/// of a text, 63 octets.
 fn can_differ(spec: Spec) -> bool
     ensures { result ≡ best.can_differ spec }
 {

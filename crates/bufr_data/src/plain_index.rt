@@ -1,6 +1,7 @@
 //! Plain data, one subset at a time.
 
-ghost use Rattle.std.specs.Prelude.{◌≡◌, ◌-◌, ◌*◌, ◌≤◌, map, length, slice_get, false, Bool, List, Some, IfOk, IfErr};
+ghost use Rattle.std.specs.Prelude.{◌≡◌, ◌-◌, ◌*◌, ◌≤◌, map, length, slice_get, false, Bool, List};
+ghost use Rattle.std.specs.Prelude.{Some, IfOk, IfErr};
 ghost use Rattle.bufr_bits.specs.Ends.{left};
 ghost use Rattle.bufr_tables.specs.Answers.{Gives, Fails};
 ghost use Rattle.bufr_expand.specs.Courses.{course};
@@ -56,7 +57,8 @@ impl<'a> PlainSubsets<'a> {
         reader: &mut BitReader<'a>,
         count: u16,
     ) -> Result<PlainSubsets<'a>, Failure<ReadFault>>
-        ensures exact { Gives {Y = List Subset × List Bool} (λ subsets. (subsets, left reader.new)) result (subsets_in template false count (left reader.old)) }
+        ensures exact { Gives {Y = List Subset × List Bool} (λ subsets. (subsets, left reader.new))
+            result (subsets_in template false count (left reader.old)) }
         ensures octets { reader.new.octets ≡ reader.old.octets }
         ensures onward { reader.old.place ≤ reader.new.place }
     {
@@ -100,7 +102,9 @@ fn starts_of(
     reader: &mut BitReader,
     count: u16,
 ) -> Result<Vec<Start>, Failure<ReadFault>>
-    ensures exact { Gives {Y = List Subset × List Bool} (λ starts. (map (subset_from reader.old.octets template.now) starts.items, left reader.new)) result (subsets_in template.now false count (left reader.old)) }
+    ensures exact { Gives {Y = List Subset × List Bool}
+        (λ starts. (map (subset_from reader.old.octets template.now) starts.items, left reader.new))
+        result (subsets_in template.now false count (left reader.old)) }
     ensures stand { IfOk result (λ starts. AllStand reader.old.octets template.now starts.items) }
     ensures octets { reader.new.octets ≡ reader.old.octets }
     ensures onward { reader.old.place ≤ reader.new.place }

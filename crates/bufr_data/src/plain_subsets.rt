@@ -25,7 +25,8 @@ pub(crate) fn read_each(
     count: u16,
     reader: &mut BitReader,
 ) -> Result<Items<Subset>, Failure<ReadFault>>
-    ensures exact { Gives {Y = List Subset × List Bool} (λ subsets. (subsets, left reader.new)) result (subsets_in template.now false count (left reader.old)) }
+    ensures exact { Gives {Y = List Subset × List Bool} (λ subsets. (subsets, left reader.new))
+        result (subsets_in template.now false count (left reader.old)) }
     ensures octets { reader.new.octets ≡ reader.old.octets }
     ensures onward { reader.old.place ≤ reader.new.place }
 {
@@ -47,7 +48,8 @@ fn read_subset(
     number: u64,
     used: u64,
 ) -> Result<(Subset, u64), Failure<ReadFault>>
-    ensures exact { Gives (λ x. record { fields = x.0.fields; items = x.1; rest = left reader.new }) result (fields_at number 1 (course template.now used) (left reader.old)) }
+    ensures exact { Gives (λ x. record { fields = x.0.fields; items = x.1; rest = left reader.new })
+        result (fields_at number 1 (course template.now used) (left reader.old)) }
     ensures octets { reader.new.octets ≡ reader.old.octets }
     ensures onward { reader.old.place ≤ reader.new.place }
 {

@@ -17,17 +17,19 @@ use bufr_expand::{Spec, Step, Template, Walk, WalkFault};
 use bufr_tables::{Failure, Items, Kind};
 use std::alloc::Global;
 
-/// The subset at the front of the bits, and how many items the message has met by then, where it had met `used` before. The reader moves
-/// past exactly the subset's bits; on an error it stays where it is. The first fault is answered: V1 `EffectiveRange` with the element whose
-/// spec is out of range, V2 `DataEnds` with subset 1 and the field whose bits are not all there, V6 `TooLarge` where an item would be the
-/// message's 16,777,217th. `OutOfMemory` where a growth was refused.
+/// The subset at the front of the bits, and how many items the message has met by then, where it
+/// had met `used` before. The reader moves past exactly the subset's bits; on an error it stays
+/// where it is. The first fault is answered: V1 `EffectiveRange` with the element whose spec is out
+/// of range, V2 `DataEnds` with subset 1 and the field whose bits are not all there, V6 `TooLarge`
+/// where an item would be the message's 16,777,217th. `OutOfMemory` where a growth was refused.
 pub fn read_plain(
     alloc: Global,
     template: &Template,
     reader: &mut BitReader,
     used: u64,
 ) -> Result<(Subset, u64), Failure<ReadFault>>
-    ensures exact { Gives (λ x. record { fields = x.0.fields; items = x.1; rest = left reader.new }) result (fields_at 1 1 (course template.now used) (left reader.old)) }
+    ensures exact { Gives (λ x. record { fields = x.0.fields; items = x.1; rest = left reader.new })
+        result (fields_at 1 1 (course template.now used) (left reader.old)) }
     ensures octets { reader.new.octets ≡ reader.old.octets }
     ensures err { OnErr result (reader.new ≡ reader.old) }
     ensures onward { reader.old.place ≤ reader.new.place }
@@ -47,7 +49,8 @@ fn read_fields(
     reader: &mut BitReader,
     used: u64,
 ) -> Result<(Subset, u64), Failure<ReadFault>>
-    ensures exact { Gives (λ x. record { fields = x.0.fields; items = x.1; rest = left reader.new }) result (fields_at 1 1 (course template.now used) (left reader.old)) }
+    ensures exact { Gives (λ x. record { fields = x.0.fields; items = x.1; rest = left reader.new })
+        result (fields_at 1 1 (course template.now used) (left reader.old)) }
     ensures octets { reader.new.octets ≡ reader.old.octets }
     ensures onward { reader.old.place ≤ reader.new.place }
 {
@@ -68,8 +71,10 @@ fn read_field(
     i: u64,
 ) -> Result<Option<Field>, Failure<ReadFault>>
     requires { IsReady walk.old }
-    ensures ok { IfOk result (λ o. Reads 1 i (walks.left walk.old) (left reader.old) o (walks.left walk.new) (walks.items_met walk.new) (left reader.new)) }
-    ensures err { IfErr result (λ e. Fails e (fields_at 1 i (walks.left walk.old) (left reader.old))) }
+    ensures ok { IfOk result (λ o. Reads 1 i (walks.left walk.old) (left reader.old) o
+        (walks.left walk.new) (walks.items_met walk.new) (left reader.new)) }
+    ensures err { IfErr result (λ e. Fails e
+        (fields_at 1 i (walks.left walk.old) (left reader.old))) }
     ensures goes_on { IfOk result (λ o. OnSome o (WalkAdvances walk.old walk.new)) }
     ensures octets { reader.new.octets ≡ reader.old.octets }
     ensures onward { reader.old.place ≤ reader.new.place }
@@ -110,7 +115,8 @@ fn read_raw(
     reader: &mut BitReader,
     i: u64,
 ) -> Result<Raw, Failure<ReadFault>>
-    ensures exact { Gives {Y = Raw × List Bool} (λ raw. (raw, left reader.new)) result (raw_or_ends 1 i (raw_at spec (left reader.old))) }
+    ensures exact { Gives {Y = Raw × List Bool} (λ raw. (raw, left reader.new)) result
+        (raw_or_ends 1 i (raw_at spec (left reader.old))) }
     ensures octets { reader.new.octets ≡ reader.old.octets }
     ensures onward { reader.old.place ≤ reader.new.place }
 {

@@ -1,6 +1,7 @@
 //! The subsets of a message, plain or compressed, one at a time.
 
-ghost use Rattle.std.specs.Prelude.{◌≡◌, ◌-◌, ◌≤◌, length, slice_get, Bool, List, Some, IfOk, OnErr};
+ghost use Rattle.std.specs.Prelude.{◌≡◌, ◌-◌, ◌≤◌, length, slice_get, Bool, List, Some, IfOk};
+ghost use Rattle.std.specs.Prelude.{OnErr};
 ghost use Rattle.bufr_bits.specs.Ends.{left};
 ghost use Rattle.bufr_tables.specs.Answers.{Gives};
 ghost use Rattle.bufr_data.specs.declared.field.Subset.{Subset};
@@ -53,7 +54,8 @@ impl<'a> SubsetIndex<'a> {
         reader: &mut BitReader<'a>,
         count: u16,
     ) -> Result<SubsetIndex<'a>, Failure<ReadFault>>
-        ensures exact { Gives {Y = List Subset × List Bool} (λ subsets. (subsets, left reader.new)) result (subsets_in template compressed count (left reader.old)) }
+        ensures exact { Gives {Y = List Subset × List Bool} (λ subsets. (subsets, left reader.new))
+            result (subsets_in template compressed count (left reader.old)) }
         ensures octets { reader.new.octets ≡ reader.old.octets }
         ensures err { OnErr result (reader.new ≡ reader.old) }
     {
@@ -101,7 +103,8 @@ fn index_of<'a>(
     reader: &mut BitReader<'a>,
     count: u16,
 ) -> Result<SubsetIndex<'a>, Failure<ReadFault>>
-    ensures exact { Gives {Y = List Subset × List Bool} (λ subsets. (subsets, left reader.new)) result (subsets_in template compressed count (left reader.old)) }
+    ensures exact { Gives {Y = List Subset × List Bool} (λ subsets. (subsets, left reader.new))
+        result (subsets_in template compressed count (left reader.old)) }
     ensures octets { reader.new.octets ≡ reader.old.octets }
     ensures onward { reader.old.place ≤ reader.new.place }
 {

@@ -29,7 +29,8 @@ pub fn read_subsets(
     count: u16,
     reader: &mut BitReader,
 ) -> Result<Items<Subset>, Failure<ReadFault>>
-    ensures exact { Gives {Y = List Subset × List Bool} (λ subsets. (subsets, left reader.new)) result (subsets_in template.now compressed count (left reader.old)) }
+    ensures exact { Gives {Y = List Subset × List Bool} (λ subsets. (subsets, left reader.new))
+        result (subsets_in template.now compressed count (left reader.old)) }
     ensures octets { reader.new.octets ≡ reader.old.octets }
     ensures err { OnErr result (reader.new ≡ reader.old) }
 {

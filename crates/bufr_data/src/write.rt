@@ -16,10 +16,11 @@ use bufr_expand::{Spec, Template};
 use bufr_tables::Failure;
 use std::alloc::Global;
 
-/// Puts the bits of all subsets at the sink's end, one subset after the other. On an error the sink is as before. The first fault is
-/// answered: E1 `DoesNotFit` with the subset and the field, from 1, where another field, a field more or none more is asked for, its raw value
-/// has not its spec's form, or its spec is out of range; E3 `TooLarge` where an item would be the message's 16,777,217th. `OutOfMemory` where
-/// a growth was refused.
+/// Puts the bits of all subsets at the sink's end, one subset after the other. On an error the sink
+/// is as before. The first fault is answered: E1 `DoesNotFit` with the subset and the field, from
+/// 1, where another field, a field more or none more is asked for, its raw value has not its spec's
+/// form, or its spec is out of range; E3 `TooLarge` where an item would be the message's
+/// 16,777,217th. `OutOfMemory` where a growth was refused.
 pub fn write_plain(
     alloc: Global,
     template: &Template,
@@ -43,7 +44,8 @@ fn write_each(
     subsets: &[Subset],
     sink: &mut BitSink,
 ) -> Result<(), Failure<WriteFault>>
-    ensures ok { OnOk result (written_bits template.now false subsets.now ≡ Ok (plain_subsets subsets.now)) }
+    ensures ok { OnOk result (written_bits template.now false subsets.now
+        ≡ Ok (plain_subsets subsets.now)) }
     ensures put { OnOk result (sink.new ≡ sink.old ++ plain_subsets subsets.now) }
     ensures err { IfErr result (λ e. Fails e (written_bits template.now false subsets.now)) }
     ensures kept { Extends sink.old sink.new }

@@ -1,4 +1,5 @@
--- Any two runs whose ended streams hold the same messages agree.
+-- Any two runs whose ended streams hold the same messages agree: for the clauses of
+-- `laws::archives_converge`, and the headline.
 use Rattle.std.proofs.Common.{sym, Ok, Err, is_ok, ◌≡◌, inl, inr, ℕ, true, List, [], ◌∷◌, map, refl, ap, subst}
 use Rattle.std.specs.List.{flat_map}
 use Rattle.std.specs.Option.{option_to_list}
@@ -16,7 +17,8 @@ use Rattle.bufr_archive.specs.ReportTexts.{told}
 use Rattle.bufr_archive.specs.ReportEntries.{entry_of, report_entries, kept_of}
 use Rattle.bufr_message.specs.Messages.{message_of}
 use Rattle.bufr_depot.specs.Slots.{spells, all_told, frames_of, Slot, new_slots}
-use Rattle.bufr_depot.specs.Agreements.{EndsRun, HoldSameMessages, TookExactly, KeepsWhatWasTold, Converges}
+use Rattle.bufr_depot.specs.Headline.{HoldSameMessages}
+use Rattle.bufr_depot.specs.Agreements.{SameMessagesSameKept, EndsRun, TookExactly, KeepsWhatWasTold, Converges}
 use Rattle.bufr_depot.proofs.RunFacts.{Reports, told_so_far, closed_told, nothing_more, run_holds, new_holds}
 
 -- a member of a list of lists joined, by the list in which it is
@@ -104,6 +106,11 @@ told_within tables a b same x h =
 
 pub same_told : (tables : Entries) (a b : List (List ℕ)) → HoldSameMessages tables a b → SameMembers (all_told tables a) (all_told tables b)
 same_told tables a b same = (told_within tables a b same.first, told_within tables b a same.second)
+
+-- so that of both the same is kept, for `laws::same_messages_same_kept`
+pub same_kept : SameMessagesSameKept
+same_kept tables a b same =
+    kept_of-same tables (all_told tables a) (all_told tables b) (same_told tables a b same)
 
 pub took_exactly : (tables : Entries) → TookExactly tables
 took_exactly tables count steps answers w i slot there =

@@ -1,4 +1,5 @@
--- The messages of frames, added to an archive one after the other.
+-- The messages of frames, added to an archive one after the other: for the answers of `Depot::step`
+-- to pieces and ends.
 use Rattle.std.proofs.Common.{◌≡◌, ℕ, zero, suc, ◌+◌, ◌*◌, ◌<◌, ◌≤◌, ◌^◌, Bool, true, false, not, cond, Option, Some, None, Result, Ok, Err, IfOk, is_ok, List, [], ◌∷◌, ◌++◌, length, map, take, get_or, refl, sym, ap, ◌∙◌, subst, arith, append_assoc, length-append}
 use Rattle.std.specs.Prelude.{option_to_list}
 use Rattle.std.specs.List.{flat_map, count_by}

@@ -1,4 +1,5 @@
--- Slots of a depot: which are there, and what merging one into another leaves.
+-- Slots of a depot: which are there, and what merging one into another leaves. For the clauses of
+-- `Depot::step` on joins.
 use Rattle.std.proofs.Common.{◌≡◌, inl, inr, ℕ, zero, suc, ◌+◌, ◌<◌, Option, Some, None, Result, Ok, Err, List, [], ◌∷◌, ◌++◌, length, set, get_or, refl, sym, ap, ◌∙◌, subst, arith}
 use Rattle.std.specs.Prelude.{slice_get}
 use Rattle.bufr_tables.specs.Entries.{Entries}

@@ -1,4 +1,5 @@
--- What a step does to what a depot holds, and to the slots for which it stands.
+-- What a step does to what a depot holds, and to the slots for which it stands: for the clauses of
+-- `Depot::step`.
 use Rattle.std.proofs.Common.{◌≡◌, ◌⊎◌, inl, inr, ℕ, zero, suc, ◌+◌, ◌-◌, ◌<◌, ◌≤◌, ◌^◌, Bool, true, false, ltb as nat_lt, cond, Option, Some, None, Result, Ok, Err, List, [], ◌∷◌, ◌++◌, length, map, take, drop, set, replicate, refl, sym, ap, ◌∙◌, subst, arith, append_assoc}
 use Rattle.std.specs.Prelude.{slice_get, option_to_list}
 use Rattle.std.specs.List.{AllZip, AllByRecursion, flat_map}

@@ -1,4 +1,5 @@
--- What a step that joins one slot to another does, new depots and whole runs.
+-- What a step that joins one slot to another does, new depots and whole runs: for the clauses of
+-- `Depot::step`, `Depot::new` and `Depot::run`.
 use Rattle.std.proofs.Common.{◌≡◌, ◌⊎◌, inl, inr, ℕ, zero, suc, ◌+◌, ◌<◌, ◌≤◌, ◌^◌, Option, Some, None, Result, Ok, Err, List, [], ◌∷◌, ◌++◌, length, map, take, set, get_or, replicate, refl, sym, ap, ◌∙◌, subst, arith, append_assoc, length-append}
 use Rattle.std.specs.Prelude.{slice_get}
 use Rattle.std.specs.List.{AllZip}

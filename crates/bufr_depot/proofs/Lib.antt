@@ -1,6 +1,7 @@
 pub mod AgreementFacts
 pub mod CountFacts
 pub mod DepotFacts
+pub mod HeadlineFacts
 pub mod HeldFacts
 pub mod JoinFacts
 pub mod RunFacts

@@ -1,5 +1,6 @@
 -- In each run in which refused steps were repeated and joins were from closed slots, a slot has the
--- reports of its ended streams and of the sure frames of its open one.
+-- reports of its ended streams and of the sure frames of its open one: for the clause `exactly` of
+-- `laws::archives_converge`.
 use Rattle.std.proofs.Common.{◌≡◌, ◌≢◌, ◌⊎◌, inl, inr, ℕ, zero, suc, true, false, eqb as nat_eq, cond, Some, None, Result, Ok, Err, List, [], ◌∷◌, ◌++◌, take, refl, sym, ap, ◌∙◌, subst, arith, append_assoc, eq-eqb}
 use Rattle.std.proofs.lemmas.List.{append-nil}
 use Rattle.std.proofs.lemmas.Grind.{flat_map-append}
@@ -15,7 +16,7 @@ use Rattle.bufr_message.specs.Reports.{reports_in}
 use Rattle.bufr_archive.specs.ReportTexts.{told}
 use Rattle.bufr_depot.specs.Slots.{reports_among, all_told, Slot, slot_at, changed_at, gains, gains_all, new_slot, new_slots}
 use Rattle.bufr_depot.specs.Runs.{frames_of_piece, frames_of_end, is_too_long, new_reports, slot_of, joined_with, joined, done, after, fed_answer, feed_answer, end_answer, answer_of, IsAnswer, Run, after_all}
-use Rattle.bufr_depot.specs.Agreements.{IsOutOfMemory, ComesNext, AreRepeated, IsClosed, JoinsClosed, AllJoinClosed}
+use Rattle.bufr_depot.specs.Headline.{IsOutOfMemory, ComesNext, AreRepeated, IsClosed, JoinsClosed, AllJoinClosed}
 use Rattle.bufr_depot.specs.declared.steps.Step.{Step}
 use Rattle.bufr_depot.specs.declared.steps.Step.TheVariants.{Feed, End, Merge, Transfer, Copy}
 use Rattle.bufr_depot.specs.declared.steps.Answer.{Answer}

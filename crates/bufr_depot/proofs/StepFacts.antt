@@ -1,4 +1,5 @@
--- A step that ran out, done again, and runs one after another.
+-- A step that ran out, done again, and runs one after another: for `laws::repeated_steps_complete`
+-- and `laws::runs_join`.
 use Rattle.std.proofs.Common.{◌≡◌, ℕ, zero, suc, List, [], ◌∷◌, ◌++◌, take, refl, sym, ap, ◌∙◌, subst, arith}
 use Rattle.std.specs.List.{AllZip}
 use Rattle.std.proofs.lemmas.List.{append-nil}

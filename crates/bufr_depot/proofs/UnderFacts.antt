@@ -1,4 +1,4 @@
--- The reports that a stream tells are reports under the tables.
+-- The reports that a stream tells are reports under the tables: for `laws::reports_told_are_under`.
 use Rattle.std.proofs.Common.{◌≡◌, ℕ, zero, suc, ◌<◌, ◌^◌, Ok, Err, List, [], ◌∷◌, ◌++◌, length, take, drop, refl, sym, subst}
 use Rattle.std.specs.List.{AllByRecursion}
 use Rattle.std.proofs.lemmas.List.Elements.{All-take, All-drop}

@@ -1,60 +1,22 @@
--- The headline: archives that took in the same messages agree, whatever the route.
-use Rattle.std.specs.Prelude.{◌≡◌, ℕ, Some, Result, Ok, Err, List, [], ◌∷◌, ◌++◌, length, true}
+-- Archives that took in the same messages agree, whatever the route: of runs alone, without the
+-- depot that does them. The headline itself, of what `Depot::run` leaves, is said in `Headline`.
+use Rattle.std.specs.Prelude.{◌≡◌, ℕ, Some, Result, Ok, Err, List, [], ◌++◌, length}
 use Rattle.std.specs.List.{AllZip}
 use Rattle.bufr_tables.specs.Entries.{Entries}
 use Rattle.bufr_frame.specs.Streams.{sure}
-use Rattle.bufr_shelves.specs.Keeping.{Has, SameMembers}
+use Rattle.bufr_shelves.specs.Keeping.{SameMembers}
 use Rattle.bufr_archive.specs.ReportEntries.{AreUnder, kept_of, text_of}
 use Rattle.bufr_archive.specs.ReportTexts.{told}
 use Rattle.bufr_sections.specs.Sections.{AreOctets}
-use Rattle.bufr_depot.specs.Slots.{spells, reports_among, all_told, frames_of, Slot, slot_at, new_slots}
+use Rattle.bufr_depot.specs.Slots.{reports_among, all_told, Slot, slot_at, new_slots}
 use Rattle.bufr_depot.specs.Runs.{after, Run, after_all}
 use Rattle.bufr_depot.specs.declared.steps.Step.{Step}
-use Rattle.bufr_depot.specs.declared.steps.Step.TheVariants.{Feed, End, Merge, Transfer, Copy}
+use Rattle.bufr_depot.specs.Headline.{AreRepeated, AllJoinClosed, HoldSameMessages}
 use Rattle.bufr_depot.specs.declared.steps.Answer.{Answer}
 use Rattle.bufr_depot.specs.declared.steps.StepFault.{StepFault}
-use Rattle.bufr_depot.specs.declared.steps.StepFault.TheVariants.{NoSlot, StreamTooLong, OutOfMemory}
+use Rattle.bufr_depot.specs.declared.steps.StepFault.TheVariants.{OutOfMemory}
 
 -- ---- the premises
-
--- memory ran out
-abbrev pub IsOutOfMemory : Result Answer StepFault → Type 0
-IsOutOfMemory (Err (OutOfMemory k)) = Unit {0}
-IsOutOfMemory (Err (NoSlot i)) = ⊥
-IsOutOfMemory (Err StreamTooLong) = ⊥
-IsOutOfMemory (Ok answer) = ⊥
-
--- this step comes next
-abbrev pub ComesNext : Step → List Step → Type 0
-ComesNext step [] = ⊥
-ComesNext step (next ∷ steps) = next ≡ step
-
--- each step that was refused for want of memory was repeated at once
-abbrev pub AreRepeated : List Step → List (Result Answer StepFault) → Type 0
-AreRepeated (step ∷ steps) (answer ∷ answers) =
-    (IsOutOfMemory answer → ComesNext step steps) × AreRepeated steps answers
-AreRepeated [] answers = Unit {0}
-AreRepeated (step ∷ steps) [] = Unit {0}
-
--- no stream is open in the slot
-abbrev pub IsClosed : List Slot → ℕ → Type 0
-IsClosed slots i = (s : Slot) → slot_at slots i ≡ Some s → s.open_stream ≡ []
-
--- the slot from which a step joins has no open stream
-abbrev pub JoinsClosed : Step → List Slot → Type 0
-JoinsClosed (Feed i piece) slots = Unit {0}
-JoinsClosed (End i) slots = Unit {0}
-JoinsClosed (Merge from into) slots = IsClosed slots from
-JoinsClosed (Transfer from into) slots = IsClosed slots from
-JoinsClosed (Copy from into) slots = IsClosed slots from
-
--- and so it is at each step
-abbrev pub AllJoinClosed : Entries → List Step → List (Result Answer StepFault) → List Slot
-    → Type 0
-AllJoinClosed tables (step ∷ steps) (answer ∷ answers) slots =
-    JoinsClosed step slots × AllJoinClosed tables steps answers (after tables step answer slots)
-AllJoinClosed tables [] answers slots = Unit {0}
-AllJoinClosed tables (step ∷ steps) [] slots = Unit {0}
 
 -- A run of a new depot of so many slots: each step that was refused for want of memory was repeated
 -- at once, and each join was from a slot with no open stream.
@@ -73,14 +35,6 @@ pub record EndsRun (tables : Entries) (slot : Slot) : Type 0 where
   pub number : ℕ
   pub there : slot_at (after_all tables steps answers (new_slots count)) number ≡ Some slot
   pub closed : slot.open_stream ≡ []
-
--- the streams hold the same set of messages: each frame of the one that spells a message is a frame
--- of the other, however often and wherever it stands
-pub record HoldSameMessages (tables : Entries) (a b : List (List ℕ)) : Type 0 where
-  pub first : (octets : List ℕ) → spells tables octets ≡ true
-      → Has (frames_of a) octets → Has (frames_of b) octets
-  pub second : (octets : List ℕ) → spells tables octets ≡ true
-      → Has (frames_of b) octets → Has (frames_of a) octets
 
 -- ---- the laws
 
@@ -112,6 +66,12 @@ pub record Agree (tables : Entries) (a b : Slot) : Type 0 where
 abbrev pub Converges : Entries → Type 0
 Converges tables = (a b : Slot) → EndsRun tables a → EndsRun tables b
     → HoldSameMessages tables a.ended b.ended → Agree tables a b
+
+-- Streams that hold the same messages tell reports of which the same is kept, however often and in
+-- whatever order they stand.
+abbrev pub SameMessagesSameKept : Type 0
+SameMessagesSameKept = (tables : Entries) (a b : List (List ℕ)) → HoldSameMessages tables a b
+    → kept_of tables (all_told tables a) ≡ kept_of tables (all_told tables b)
 
 -- two slots have taken in the same
 pub record SameSlot (s t : Slot) : Type 0 where

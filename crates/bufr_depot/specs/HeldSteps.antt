@@ -141,4 +141,5 @@ TakesIn old new into joined (Err (OutOfMemory k)) = (k ≡ 0) × (new ≡ old)
 
 -- a step that joins one slot to another
 abbrev pub IsJoin : Step → ℕ → ℕ → Type 0
-IsJoin step from into = (step ≡ Merge from into) ⊎ ((step ≡ Transfer from into) ⊎ (step ≡ Copy from into))
+IsJoin step from into =
+    (step ≡ Merge from into) ⊎ ((step ≡ Transfer from into) ⊎ (step ≡ Copy from into))

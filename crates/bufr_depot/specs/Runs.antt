@@ -106,7 +106,8 @@ fed_answer tables frames slot =
 -- the counts of the frames that a stream's end brings
 abbrev pub ended_answer : Entries → List Found → Slot → Answer
 ended_answer tables frames slot =
-    Ended (count_messages tables frames) (count_refused tables frames) (changes_of tables frames slot)
+    Ended (count_messages tables frames) (count_refused tables frames)
+    (changes_of tables frames slot)
 
 -- the answer to a piece, by the slot
 abbrev pub feed_answer : Entries → ℕ → List ℕ → Option Slot → Result Answer StepFault

@@ -10,12 +10,14 @@
 
 mod counts;
 mod depot;
+mod headline;
 mod intakes;
 mod joins;
 pub mod laws;
 pub mod steps;
 
 pub use depot::Depot;
+pub use headline::{Plan, Ran, run_both};
 pub use steps::{Answer, Step, StepFault};
 
 #[cfg(test)]

@@ -1,12 +1,13 @@
 //! Depots over both shelves. Octets and answers are typed from the rules of the format and of
 //! depots.
 use super::*;
-use bufr_archive::{MapShelf, Octets, OutOfMemory, Shelf, SortedShelf};
+use bufr_archive::{MapShelf, Octets, Shelf, SortedShelf};
 use bufr_bits::device::IntoWrite;
 use bufr_tables::{TableB, TableD, Tables};
 use std::alloc::Global;
 use std::process::Abort;
-use std::test::Fail;
+
+mod random;
 
 const TABLE_B: &str = "\
 FXY,ElementName_en,BUFR_Unit,BUFR_Scale,BUFR_ReferenceValue,BUFR_DataWidth_Bits
@@ -64,16 +65,26 @@ const EDITION_5: [u8; 62] = [
 ];
 
 // The tables of the tests.
-fn tables(alloc: Global) -> Result<Tables, Fail> {
-    let b = TableB::parse(alloc, TABLE_B.as_bytes())?;
-    let d = TableD::parse(alloc, TABLE_D.as_bytes())?;
-    Ok(Tables::new(b, d))
+fn tables(rt: &impl Abort, alloc: Global) -> Tables {
+    let b = TableB::parse(alloc, TABLE_B.as_bytes()).expect(rt, "table B");
+    let d = TableD::parse(alloc, TABLE_D.as_bytes()).expect(rt, "table D");
+    Tables::new(b, d)
+}
+
+// A new depot of so many slots.
+fn depot_of<'t, S: Shelf>(
+    rt: &impl Abort,
+    alloc: Global,
+    tables: &'t Tables,
+    slots: usize,
+) -> Depot<'t, S> {
+    Depot::new(alloc, tables, slots).expect(rt, "room")
 }
 
 // A piece for a slot.
-fn feed(alloc: Global, slot: usize, octets: &[u8]) -> Result<Step, OutOfMemory> {
-    let piece = Octets::new(Vec::from_slice(alloc, octets)?);
-    Ok(Step::Feed { slot, piece })
+fn feed(rt: &impl Abort, alloc: Global, slot: usize, octets: &[u8]) -> Step {
+    let piece = Octets::new(Vec::from_slice(alloc, octets).expect(rt, "room"));
+    Step::Feed { slot, piece }
 }
 
 fn fed(messages: u128, refused: u128, changed: u128) -> Result<Answer, StepFault> {
@@ -111,10 +122,9 @@ fn feeds<S: Shelf>(
     slot: usize,
     octets: &[u8],
     answer: Result<Answer, StepFault>,
-) -> Result<(), Fail> {
-    let step = feed(alloc, slot, octets)?;
+) {
+    let step = feed(rt, alloc, slot, octets);
     does(rt, depot, &step, answer);
-    Ok(())
 }
 
 // All is joined.
@@ -134,60 +144,58 @@ fn assert_writes<S: Shelf>(
     depot: &Depot<S>,
     slot: usize,
     text: &[u8],
-) -> Result<(), Fail> {
-    let archive = depot.archive(slot).ok_or("slot")?;
+) {
+    let archive = depot.archive(slot).expect(rt, "a slot");
     let mut sink = IntoWrite::new(Vec::new(alloc));
-    archive.write(&mut sink)?;
+    archive.write(&mut sink).expect(rt, "room");
     assert!(rt; sink.into_inner().as_slice() == text, "{slot}");
-    Ok(())
 }
 
 // The first message in two pieces, and what the other slot takes in.
-fn first_steps<S: Shelf>(rt: &impl Abort, alloc: Global, depot: &mut Depot<S>) -> Result<(), Fail> {
-    let front = ROW_1.get(..30).ok_or("front")?;
-    let rest = ROW_1.get(30..).ok_or("rest")?;
-    feeds(rt, alloc, depot, 0, front, fed(0, 0, 0))?;
-    feeds(rt, alloc, depot, 0, rest, fed(1, 0, 1))?;
+fn first_steps<S: Shelf>(rt: &impl Abort, alloc: Global, depot: &mut Depot<S>) {
+    let front = ROW_1.get(..30).expect(rt, "front");
+    let rest = ROW_1.get(30..).expect(rt, "rest");
+    feeds(rt, alloc, depot, 0, front, fed(0, 0, 0));
+    feeds(rt, alloc, depot, 0, rest, fed(1, 0, 1));
     does(rt, depot, &Step::End { slot: 0 }, ended(0, 0, 0));
-    assert_writes(rt, alloc, depot, 1, &[])?;
+    assert_writes(rt, alloc, depot, 1, &[]);
     joins(rt, depot, &Step::Transfer { from: 0, into: 1 });
-    assert_writes(rt, alloc, depot, 1, ROW_1.as_slice())
+    assert_writes(rt, alloc, depot, 1, ROW_1.as_slice());
 }
 
 // The update, and what both slots then hold.
-fn later_steps<S: Shelf>(rt: &impl Abort, alloc: Global, depot: &mut Depot<S>) -> Result<(), Fail> {
-    feeds(rt, alloc, depot, 1, UPDATED.as_slice(), fed(1, 0, 1))?;
+fn later_steps<S: Shelf>(rt: &impl Abort, alloc: Global, depot: &mut Depot<S>) {
+    feeds(rt, alloc, depot, 1, UPDATED.as_slice(), fed(1, 0, 1));
     does(rt, depot, &Step::End { slot: 1 }, ended(0, 0, 0));
     joins(rt, depot, &Step::Merge { from: 1, into: 0 });
     joins(rt, depot, &Step::Copy { from: 0, into: 1 });
-    assert_writes(rt, alloc, depot, 0, UPDATED.as_slice())?;
-    assert_writes(rt, alloc, depot, 1, UPDATED.as_slice())?;
+    assert_writes(rt, alloc, depot, 0, UPDATED.as_slice());
+    assert_writes(rt, alloc, depot, 1, UPDATED.as_slice());
     misses(rt, depot, &Step::End { slot: 9 }, 9);
-    Ok(())
 }
 
-fn stepped<S: Shelf>(rt: &impl Abort, alloc: Global) -> Result<(), Fail> {
-    let tables = tables(alloc)?;
-    let mut depot: Depot<S> = Depot::new(alloc, &tables, 2)?;
-    first_steps(rt, alloc, &mut depot)?;
-    later_steps(rt, alloc, &mut depot)
+fn stepped<S: Shelf>(rt: &impl Abort, alloc: Global) {
+    let tables = tables(rt, alloc);
+    let mut depot: Depot<S> = depot_of(rt, alloc, &tables, 2);
+    first_steps(rt, alloc, &mut depot);
+    later_steps(rt, alloc, &mut depot);
 }
 
 #[test]
-fn depot(rt: HostRuntime) -> Result<(), Fail> {
-    stepped::<MapShelf>(&rt, rt.alloc())?;
-    stepped::<SortedShelf>(&rt, rt.alloc())
+fn depot(rt: HostRuntime) {
+    stepped::<MapShelf>(&rt, rt.alloc());
+    stepped::<SortedShelf>(&rt, rt.alloc());
 }
 
 // A run answers each step and does them in turn.
-fn runs<S: Shelf>(rt: &impl Abort, alloc: Global, depot: &mut Depot<S>) -> Result<(), Fail> {
+fn runs<S: Shelf>(rt: &impl Abort, alloc: Global, depot: &mut Depot<S>) {
     let steps = [
-        feed(alloc, 0, ROW_1.as_slice())?,
+        feed(rt, alloc, 0, ROW_1.as_slice()),
         Step::End { slot: 0 },
         Step::Transfer { from: 0, into: 1 },
         Step::End { slot: 9 },
     ];
-    let answers = depot.run(steps.as_slice())?;
+    let answers = depot.run(steps.as_slice()).expect(rt, "room");
     let expected = [
         fed(1, 0, 1),
         ended(0, 0, 0),
@@ -195,47 +203,42 @@ fn runs<S: Shelf>(rt: &impl Abort, alloc: Global, depot: &mut Depot<S>) -> Resul
         Err(StepFault::NoSlot(9)),
     ];
     assert!(rt; answers.as_slice() == expected.as_slice());
-    Ok(())
 }
 
-fn run_at_once<S: Shelf>(rt: &impl Abort, alloc: Global) -> Result<(), Fail> {
-    let tables = tables(alloc)?;
-    let mut depot: Depot<S> = Depot::new(alloc, &tables, 2)?;
-    runs(rt, alloc, &mut depot)?;
-    assert_writes(rt, alloc, &depot, 1, ROW_1.as_slice())
+fn run_at_once<S: Shelf>(rt: &impl Abort, alloc: Global) {
+    let tables = tables(rt, alloc);
+    let mut depot: Depot<S> = depot_of(rt, alloc, &tables, 2);
+    runs(rt, alloc, &mut depot);
+    assert_writes(rt, alloc, &depot, 1, ROW_1.as_slice());
 }
 
 #[test]
-fn run_of_steps(rt: HostRuntime) -> Result<(), Fail> {
-    run_at_once::<MapShelf>(&rt, rt.alloc())?;
-    run_at_once::<SortedShelf>(&rt, rt.alloc())
+fn run_of_steps(rt: HostRuntime) {
+    run_at_once::<MapShelf>(&rt, rt.alloc());
+    run_at_once::<SortedShelf>(&rt, rt.alloc());
 }
 
 // A slot that takes in itself stays as it is, reports without key too.
-fn joins_itself<S: Shelf>(
-    rt: &impl Abort,
-    alloc: Global,
-    depot: &mut Depot<S>,
-) -> Result<(), Fail> {
-    feeds(rt, alloc, depot, 0, MONTH_13.as_slice(), fed(1, 0, 1))?;
+fn joins_itself<S: Shelf>(rt: &impl Abort, alloc: Global, depot: &mut Depot<S>) {
+    feeds(rt, alloc, depot, 0, MONTH_13.as_slice(), fed(1, 0, 1));
     joins(rt, depot, &Step::Merge { from: 0, into: 0 });
-    assert_writes(rt, alloc, depot, 0, MONTH_13.as_slice())?;
+    assert_writes(rt, alloc, depot, 0, MONTH_13.as_slice());
     joins(rt, depot, &Step::Transfer { from: 0, into: 0 });
-    assert_writes(rt, alloc, depot, 0, MONTH_13.as_slice())?;
+    assert_writes(rt, alloc, depot, 0, MONTH_13.as_slice());
     joins(rt, depot, &Step::Copy { from: 0, into: 0 });
-    assert_writes(rt, alloc, depot, 0, MONTH_13.as_slice())
+    assert_writes(rt, alloc, depot, 0, MONTH_13.as_slice());
 }
 
-fn joined_to_itself<S: Shelf>(rt: &impl Abort, alloc: Global) -> Result<(), Fail> {
-    let tables = tables(alloc)?;
-    let mut depot: Depot<S> = Depot::new(alloc, &tables, 1)?;
-    joins_itself(rt, alloc, &mut depot)
+fn joined_to_itself<S: Shelf>(rt: &impl Abort, alloc: Global) {
+    let tables = tables(rt, alloc);
+    let mut depot: Depot<S> = depot_of(rt, alloc, &tables, 1);
+    joins_itself(rt, alloc, &mut depot);
 }
 
 #[test]
-fn self_merge(rt: HostRuntime) -> Result<(), Fail> {
-    joined_to_itself::<MapShelf>(&rt, rt.alloc())?;
-    joined_to_itself::<SortedShelf>(&rt, rt.alloc())
+fn self_merge(rt: HostRuntime) {
+    joined_to_itself::<MapShelf>(&rt, rt.alloc());
+    joined_to_itself::<SortedShelf>(&rt, rt.alloc());
 }
 
 // The first slot that is not there is named.
@@ -249,65 +252,69 @@ fn misses_slots<S: Shelf>(rt: &impl Abort, depot: &mut Depot<S>) {
     misses(rt, depot, &Step::Copy { from: 0, into: 8 }, 8);
 }
 
-fn missing_slots<S: Shelf>(rt: &impl Abort, alloc: Global) -> Result<(), Fail> {
-    let tables = tables(alloc)?;
-    let mut depot: Depot<S> = Depot::new(alloc, &tables, 1)?;
+fn missing_slots<S: Shelf>(rt: &impl Abort, alloc: Global) {
+    let tables = tables(rt, alloc);
+    let mut depot: Depot<S> = depot_of(rt, alloc, &tables, 1);
     let no_slot = Err(StepFault::NoSlot(1));
-    feeds(rt, alloc, &mut depot, 1, ROW_1.as_slice(), no_slot)?;
+    feeds(rt, alloc, &mut depot, 1, ROW_1.as_slice(), no_slot);
     misses_slots(rt, &mut depot);
-    assert_writes(rt, alloc, &depot, 0, &[])
+    assert_writes(rt, alloc, &depot, 0, &[]);
 }
 
 #[test]
-fn no_slot(rt: HostRuntime) -> Result<(), Fail> {
-    missing_slots::<MapShelf>(&rt, rt.alloc())?;
-    missing_slots::<SortedShelf>(&rt, rt.alloc())
+fn no_slot(rt: HostRuntime) {
+    missing_slots::<MapShelf>(&rt, rt.alloc());
+    missing_slots::<SortedShelf>(&rt, rt.alloc());
 }
 
 // A frame that spells no message is counted; one that an end brings is added with it.
-fn frames_come<S: Shelf>(rt: &impl Abort, alloc: Global, depot: &mut Depot<S>) -> Result<(), Fail> {
-    feeds(rt, alloc, depot, 0, EDITION_5.as_slice(), fed(0, 1, 0))?;
-    feeds(rt, alloc, depot, 0, b"BUFR", fed(0, 0, 0))?;
-    feeds(rt, alloc, depot, 0, ROW_1.as_slice(), fed(0, 0, 0))?;
+fn frames_come<S: Shelf>(rt: &impl Abort, alloc: Global, depot: &mut Depot<S>) {
+    feeds(rt, alloc, depot, 0, EDITION_5.as_slice(), fed(0, 1, 0));
+    feeds(rt, alloc, depot, 0, b"BUFR", fed(0, 0, 0));
+    feeds(rt, alloc, depot, 0, ROW_1.as_slice(), fed(0, 0, 0));
     does(rt, depot, &Step::End { slot: 0 }, ended(1, 0, 1));
-    feeds(rt, alloc, depot, 0, ROW_1.as_slice(), fed(1, 0, 0))?;
-    assert_writes(rt, alloc, depot, 0, ROW_1.as_slice())
+    feeds(rt, alloc, depot, 0, ROW_1.as_slice(), fed(1, 0, 0));
+    assert_writes(rt, alloc, depot, 0, ROW_1.as_slice());
 }
 
-fn refused_frames<S: Shelf>(rt: &impl Abort, alloc: Global) -> Result<(), Fail> {
-    let tables = tables(alloc)?;
-    let mut depot: Depot<S> = Depot::new(alloc, &tables, 1)?;
-    frames_come(rt, alloc, &mut depot)
-}
-
-#[test]
-fn frames_of_the_end(rt: HostRuntime) -> Result<(), Fail> {
-    refused_frames::<MapShelf>(&rt, rt.alloc())?;
-    refused_frames::<SortedShelf>(&rt, rt.alloc())
+fn refused_frames<S: Shelf>(rt: &impl Abort, alloc: Global) {
+    let tables = tables(rt, alloc);
+    let mut depot: Depot<S> = depot_of(rt, alloc, &tables, 1);
+    frames_come(rt, alloc, &mut depot);
 }
 
 #[test]
-fn texts_of_faults(rt: HostRuntime) -> Result<(), Fail> {
-    let missing = format!(in rt.alloc(); "{}", StepFault::NoSlot(9))?;
-    assert!(rt; missing.as_str() == "P1 NoSlot 9");
-    let long = format!(in rt.alloc(); "{}", StepFault::StreamTooLong)?;
-    assert!(rt; long.as_str() == "P2 StreamTooLong");
-    let ran_out = format!(in rt.alloc(); "{}", StepFault::OutOfMemory { joined: 3 })?;
-    assert!(rt; ran_out.as_str() == "out of memory, 3 reports joined");
-    Ok(())
+fn frames_of_the_end(rt: HostRuntime) {
+    refused_frames::<MapShelf>(&rt, rt.alloc());
+    refused_frames::<SortedShelf>(&rt, rt.alloc());
+}
+
+// This is printed of a fault.
+fn assert_prints(rt: &impl Abort, alloc: Global, fault: StepFault, text: &str) {
+    let said = format!(in alloc; "{fault}").expect(rt, "room");
+    assert!(rt; said.as_str() == text, "{text}");
+}
+
+#[test]
+fn texts_of_faults(rt: HostRuntime) {
+    let alloc = rt.alloc();
+    assert_prints(&rt, alloc, StepFault::NoSlot(9), "P1 NoSlot 9");
+    assert_prints(&rt, alloc, StepFault::StreamTooLong, "P2 StreamTooLong");
+    let ran_out = StepFault::OutOfMemory { joined: 3 };
+    assert_prints(&rt, alloc, ran_out, "out of memory, 3 reports joined");
 }
 
 // A thousand slots, the last of which takes in a message.
-fn many_slots<S: Shelf>(rt: &impl Abort, alloc: Global) -> Result<(), Fail> {
-    let tables = tables(alloc)?;
-    let mut depot: Depot<S> = Depot::new(alloc, &tables, 1000)?;
-    feeds(rt, alloc, &mut depot, 999, ROW_1.as_slice(), fed(1, 0, 1))?;
-    assert_writes(rt, alloc, &depot, 0, &[])?;
-    assert_writes(rt, alloc, &depot, 999, ROW_1.as_slice())
+fn many_slots<S: Shelf>(rt: &impl Abort, alloc: Global) {
+    let tables = tables(rt, alloc);
+    let mut depot: Depot<S> = depot_of(rt, alloc, &tables, 1000);
+    feeds(rt, alloc, &mut depot, 999, ROW_1.as_slice(), fed(1, 0, 1));
+    assert_writes(rt, alloc, &depot, 0, &[]);
+    assert_writes(rt, alloc, &depot, 999, ROW_1.as_slice());
 }
 
 #[test]
-fn thousand_slots(rt: HostRuntime) -> Result<(), Fail> {
-    many_slots::<MapShelf>(&rt, rt.alloc())?;
-    many_slots::<SortedShelf>(&rt, rt.alloc())
+fn thousand_slots(rt: HostRuntime) {
+    many_slots::<MapShelf>(&rt, rt.alloc());
+    many_slots::<SortedShelf>(&rt, rt.alloc());
 }

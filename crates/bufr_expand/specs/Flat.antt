@@ -57,12 +57,13 @@ pub data Flat : Entries → ℕ → ℕ → List ℕ → Tree → Type 0 where
   operator_first : {tables : Entries} {s r d : ℕ} {behind : List ℕ} {rest : Tree} → f_of d ≡ 2
       → StaysInForce (x_of d)
       → Flat tables s r behind rest → Flat tables s r (d ∷ behind) (trees.operator d rest)
-  -- and 205 YYY, YYY characters
+  -- and "signify character" (205), Y characters
   text_first : {tables : Entries} {s r d : ℕ} {behind : List ℕ} {rest : Tree} → f_of d ≡ 2
       → x_of d ≡ 5 → 0 < y_of d
       → Flat tables s r behind rest → Flat tables s r (d ∷ behind)
       (trees.untouched d (text_of_characters (y_of d)) rest)
-  -- 206 YYY and the element behind it are one node
+  -- "signify data width for the immediately following local descriptor" (206) and the element
+  -- behind it are one node
   width_first : {tables : Entries} {s r d local : ℕ} {e : Element} {behind : List ℕ} {rest : Tree}
       → f_of d ≡ 2 → x_of d ≡ 6 → 0 < y_of d
       → f_of local ≡ 0 → ReadAt tables local (y_of d) e

@@ -7,6 +7,7 @@ use Rattle.bufr_frame.specs.Framings.{Framing}
 use Rattle.bufr_frame.specs.Streams.{frames_from, cut, sure, rest_from, Stands}
 use Rattle.bufr_frame.specs.StreamLaws.{Stands-found, Stands-all, Stands-ended}
 
+-- a framer that was fed so many octets and holds these
 abbrev framing : ℕ → List ℕ → Framing
 framing fed held = record { fed = fed; held = held }
 

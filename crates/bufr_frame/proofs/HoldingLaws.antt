@@ -18,9 +18,11 @@ use Rattle.bufr_frame.specs.CutLaws.{all_weaker}
 use Rattle.bufr_frame.proofs.OpenLaws.{open_from, open_to, tail_from, tail_to}
 use Rattle.bufr_frame.proofs.SureLaws.{all_past, sure_is, sure_only}
 
+-- frames that end up to a place
 abbrev EndBy : ℕ → List Found → Type 0
 EndBy place fs = AllByRecursion (λ f. f.place + length f.bytes ≤ place) fs
 
+-- and up to any later one
 end_by : (p q : ℕ) (fs : List Found) → p ≤ q → EndBy p fs → EndBy q fs
 end_by p q fs h a = all_weaker (λ f. f.place + length f.bytes ≤ p) (λ f. f.place + length f.bytes ≤ q) (λ f b. omega arith) fs a
 
@@ -36,6 +38,7 @@ record RestsAt (place skip out : ℕ) (xs : List ℕ) (fs : List Found) (rest : 
   pub stop : start_of (drop n xs) ≡ Other → ⊥
   pub later : drop out fs ≡ frames_from false (place + n) 0 (drop n xs)
 
+-- the rest behind an octet that is skipped
 rests_later : (place skip out x : ℕ) (xs : List ℕ) (fs : List Found) (rest : List ℕ) → RestsAt (place + 1) skip out xs fs rest → RestsAt place (suc skip) out (x ∷ xs) fs rest
 rests_later place skip out x xs fs rest r =
     let within = r.within in
@@ -56,6 +59,7 @@ rests_later place skip out x xs fs rest r =
     later_others place skip out x xs fs n o zero a b l = absurd (omega arith)
     later_others place skip out x xs fs n o (suc j) a b l = o j (omega arith) (end_by (place + suc j) ((place + 1) + j) (take out fs) (omega arith) b) (omega arith)
 
+-- the rest behind an octet at which no frame begins
 rests_passed : (place out x : ℕ) (xs : List ℕ) (fs : List Found) (rest : List ℕ) → start_of (x ∷ xs) ≡ Other → RestsAt (place + 1) 0 out xs fs rest → RestsAt place 0 out (x ∷ xs) fs rest
 rests_passed place out x xs fs rest h r =
     let t = rests_later place 0 out x xs fs rest r in
@@ -75,6 +79,7 @@ rests_passed place out x xs fs rest h r =
     passed_others place out x xs fs n h o zero a b l = h
     passed_others place out x xs fs n h o (suc j) a b l = o (suc j) (omega arith) b l
 
+-- the rest behind a frame
 rests_frame : (place l out x : ℕ) (xs b : List ℕ) (fs : List Found) (rest : List ℕ) → length b ≡ l → 1 ≤ l → RestsAt (place + 1) (l - 1) out xs fs rest →
     RestsAt place 0 (suc out) (x ∷ xs) (record { place = place; bytes = b } ∷ fs) rest
 rests_frame place l out x xs b fs rest size long r =
@@ -104,6 +109,7 @@ rests_here place out x xs fs none h e = record {
   later = ap (λ k. drop k fs) none ∙ e ∙ ap (λ p. frames_from false p 0 (x ∷ xs)) (let z : place ≡ place + 0 = omega arith in z);
 }
 
+-- where the rest behind some frames begins
 rests_at : (place skip out : ℕ) (xs : List ℕ) → skip ≤ length xs → out ≤ length (frames_from false place skip xs) → RestsAt place skip out xs (frames_from false place skip xs) (rest_from out skip xs)
 rests_at place zero zero [] s o = record { n = 0; within = omega arith; rest_is = refl; past = omega arith; ended = tt; others = λ j a b l. absurd (omega arith); stop = λ e. cc; later = refl }
 rests_at place zero (suc out) [] s o = absurd (omega arith)
@@ -144,6 +150,7 @@ get_dropped [] (suc k) y ys e = cc
 get_dropped (x ∷ xs) zero y ys e = let same : x ≡ y = cc in ap Some same
 get_dropped (x ∷ xs) (suc k) y ys e = get_dropped xs k y ys e
 
+-- what holds of all from an index on holds of the one there
 got_of_all : (P : Found → Type 0) (xs : List Found) (k : ℕ) (y : Found) → slice_get xs k ≡ Some y → AllByRecursion P (drop k xs) → P y
 got_of_all P [] zero y e a = cc
 got_of_all P [] (suc k) y e a = cc
@@ -240,6 +247,7 @@ stands_to v s out st = record {
   held = subst (AreHeld s (sure s) out) (sym st.held) (held_is s out st.out_of_sure);
 }
 
+-- a framer that stands for a stream stands as its definition says
 pub stands_from : (v : Framing) (s : List ℕ) (out : ℕ) → StandsFor v s out → Stands v s out
 stands_from v s out st =
     let same = sure_only s st.frames st.are_sure in

@@ -29,6 +29,7 @@ occurs s from j room h = record {
       ∙ agrees_at (drop (from + j) s) bufr i h (let r : i < length (drop (from + j) s) = omega (arith, length-drop (from + j) s, l) in r) l;
 }
 
+-- octets that the search passes are no mark
 passed : (s : List ℕ) (from j : ℕ) → (from + j) + 4 ≤ length s → (OccursAt (drop from s) bufr j → ⊥) → agrees (drop (from + j) s) bufr ≡ false
 passed s from j room nowhere =
     elim (agrees (drop (from + j) s) bufr) as (λ b. agrees (drop (from + j) s) bufr ≡ b → b ≡ false) [

@@ -29,6 +29,7 @@ agree_all (x ∷ xs) (y ∷ ys) l h b =
       | false ↦ λ _ k. cc
     ] refl h
 
+-- the end mark is sevens
 sevens_all : AllByRecursion (λ x. x ≡ 55) sevens
 sevens_all = (refl, (refl, (refl, (refl, tt))))
 
@@ -43,6 +44,7 @@ agrees_fronts (x ∷ xs) (y ∷ ys) h =
       | false ↦ λ _ k. cc
     ] refl h
 
+-- octets of which one begins with the other agree
 fronts_agree : (xs ys : List ℕ) → take (length ys) xs ≡ take (length xs) ys → agrees xs ys ≡ true
 fronts_agree [] ys h = refl
 fronts_agree (x ∷ xs) [] h = refl
@@ -55,6 +57,7 @@ record Opens (t : List ℕ) (l : ℕ) : Type 0 where
   pub end : agrees (drop (l - 4) t) sevens ≡ true
   pub short : length t < l
 
+-- why a place with a length is open
 open_parts : (l : ℕ) (t : List ℕ) → start_by (Some l) t ≡ Open → Opens t l
 open_parts l t h =
     elim (nat_lt l 12) as (λ b. nat_lt l 12 ≡ b → cond b Other (cond (agrees (drop (l - 4) t) sevens) (cond (nat_le l (length t)) (Frame l) Open) Other) ≡ Open → Opens t l) [

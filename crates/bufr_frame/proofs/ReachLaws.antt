@@ -31,9 +31,11 @@ use Rattle.bufr_frame.proofs.ScanLaws.{open_rest, frame_fits, frame_moves}
 
 -- ---- lists that go on
 
+-- octets that go on and more octets go on too
 pub extends_more : (a b more : List ℕ) → Extends a b → Extends a (b ++ more)
 extends_more a b more e = (e.0 ++ more, ap (λ xs. xs ++ more) e.1 ∙ append_assoc a e.0 more)
 
+-- they begin as before
 pub extends_front : (a b : List ℕ) → Extends a b → take (length a) b ≡ a
 extends_front a b e =
     ap (take (length a)) e.1 ∙ take-append-le (length a) a e.0 (omega arith) ∙ take_all (length a) a (omega arith)
@@ -445,6 +447,7 @@ pub taken_is : (piece : List ℕ) (taken : ℕ) → taken ≤ length piece
 taken_is piece taken room =
     ap (λ n. take n piece) (let e : length piece - length (take (length piece - taken) (drop taken piece)) ≡ taken = omega (arith, ap length (take_rest piece taken), length-drop taken piece) in e)
 
+-- the first behind a list is that of the next
 get_after : (xs ys : List Found) → slice_get (xs ++ ys) (length xs) ≡ slice_get ys 0
 get_after [] ys = refl
 get_after (x ∷ xs) ys = get_after xs ys

@@ -24,6 +24,7 @@ frames_skip ended place zero (x ∷ xs) h = ap (λ p. frames_from ended p 0 (x �
 frames_skip ended place (suc skip) [] h = absurd (omega arith)
 frames_skip ended place (suc skip) (x ∷ xs) h = frames_skip ended (place + 1) skip xs (omega arith) ∙ ap (λ p. frames_from ended p 0 (drop skip xs)) (let e : (place + 1) + skip ≡ place + suc skip = omega arith in e)
 
+-- the rest behind octets that are skipped
 rest_skip : (n skip : ℕ) (xs : List ℕ) → skip ≤ length xs → rest_from n skip xs ≡ rest_from n 0 (drop skip xs)
 rest_skip n zero xs h = refl
 rest_skip n (suc skip) [] h = absurd (omega arith)
@@ -37,6 +38,7 @@ frames_pass ended place (suc d) (x ∷ xs) h o =
     frames_other ended place x xs (o 0 (omega arith)) ∙ frames_pass ended (place + 1) d xs (omega arith) (λ k l. o (suc k) (omega arith))
     ∙ ap (λ p. frames_from ended p 0 (drop d xs)) (let e : (place + 1) + d ≡ place + suc d = omega arith in e)
 
+-- the rest behind octets at which no frame begins
 pub rest_pass : (n d : ℕ) (xs : List ℕ) → d ≤ length xs → ((k : ℕ) → k < d → start_of (drop k xs) ≡ Other) → rest_from n 0 xs ≡ rest_from n 0 (drop d xs)
 rest_pass n zero xs h o = refl
 rest_pass n (suc d) [] h o = absurd (omega arith)
@@ -101,6 +103,7 @@ passed : (place : ℕ) (t : List ℕ) → start_of t ≡ Open → frames_from tr
 passed place [] h = refl
 passed place (x ∷ xs) h = rw (h, frames_from) refl
 
+-- at the end of the stream an open place is passed too
 pub passed_past : (ended : Bool) (octets : List ℕ) (from here : ℕ) → ended ≡ true
     → Passed ended octets from here → here < length octets → start_of (drop here octets) ≡ Open
     → Passed ended octets from (here + 1)
@@ -143,6 +146,7 @@ one_frame ended place (suc l) (x ∷ xs) h =
     frames_frame ended place (suc l) x xs h ∙ ap (λ fs. record { place = place; bytes = take (suc l) (x ∷ xs) } ∷ fs)
     (ap (λ k. frames_from ended (place + 1) k xs) less ∙ frames_skip ended (place + 1) l xs (omega arith) ∙ ap (λ p. frames_from ended p 0 (drop l xs)) (let e : (place + 1) + l ≡ place + suc l = omega arith in e))
 
+-- the rest behind one frame
 pub one_rest : (n l : ℕ) (t : List ℕ) → start_of t ≡ Frame l → rest_from (suc n) 0 t ≡ rest_from n 0 (drop l t)
 one_rest n l [] h = let b = (begins_from [] l h).whole in let c = (begins_from [] l h).long in absurd (omega arith)
 one_rest n zero (x ∷ xs) h = let c = (begins_from (x ∷ xs) zero h).long in absurd (omega arith)
@@ -155,6 +159,7 @@ one_rest n (suc l) (x ∷ xs) h =
 pub frame_fits : (octets : List ℕ) (l : ℕ) → start_of octets ≡ Frame l → l ≤ length octets
 frame_fits octets l h = (begins_from octets l h).whole
 
+-- a frame has twelve octets at least
 pub frame_moves : (octets : List ℕ) (l : ℕ) → start_of octets ≡ Frame l → 12 ≤ l
 frame_moves octets l h = (begins_from octets l h).long
 
@@ -189,10 +194,12 @@ scanned_out ended place octets frames here s h =
       rest_is = λ e. sym (ap (λ k. rest_from k 0 octets) (let z : length frames ≡ length frames + 0 = omega arith in z) ∙ s.all_rest e 0 ∙ ap (λ t. rest_from 0 0 t) none ∙ sym none);
     }
 
+-- at an open place no frame is sure
 pub open_frames : (place : ℕ) (t : List ℕ) → start_of t ≡ Open → frames_from false place 0 t ≡ []
 open_frames place [] h = refl
 open_frames place (x ∷ xs) h = frames_open place x xs h
 
+-- and all is left
 pub open_rest : (t : List ℕ) → start_of t ≡ Open → rest_from 0 0 t ≡ t
 open_rest [] h = refl
 open_rest (x ∷ xs) h = rest_open 0 x xs h

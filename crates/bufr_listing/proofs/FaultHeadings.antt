@@ -17,7 +17,7 @@ use Rattle.bufr_listing.specs.declared.fault.ListingFault.TheVariants.{BadLine, 
 use Rattle.bufr_listing.specs.declared.fault.Cause.TheVariants as causes
 use Rattle.bufr_listing.specs.Lines.{Line, texts, words_of, first_word, section1_numbers, time_numbers, numbers_line, octets_line, section2_line, section2_lines, flags_line, descriptors_line}
 use Rattle.bufr_listing.specs.Reading.{with_rest, read_line, read_if, read_word, are_below, numbers_in, read_numbers, octets_in, read_octets, read_local, read_section2, Flags, read_flags, descriptors_in, Described, described, read_descriptors, fault_behind, section1_limits, time_limits, head_with}
-use Rattle.bufr_listing.specs.FirstFaults.{Unfit, text_ends, bad_line, Place, at_message, at_section1, at_time, behind_time, behind_local, behind_section2, at_descriptors, AreBefore, CouldStand, IsOfKindAt, IsLocal, IsSection2, IsFlags, AreOfLine, HasWords, HasWordsOfFlags, section1_line, time_line, up_to_time, up_to_local, MessageFault, in_heading, no_template}
+use Rattle.bufr_listing.specs.FirstFaults.{Unfit, text_ends, bad_line, Place, at_message, at_section1, at_time, behind_time, behind_local, behind_section2, at_descriptors, AreBefore, CouldStand, IsOfKindAt, IsLocal, IsSection2, IsFlags, AreOfLine, HasWords, HasWordsOfFlags, section1_line, time_line, up_to_time, up_to_local, MessageFault, in_heading}
 use Rattle.bufr_listing.proofs.ListFacts.{equal_is}
 use Rattle.bufr_listing.proofs.LowerLaws.{DescriptorTexts}
 use Rattle.bufr_listing.proofs.FieldFacts.{bytes_same, same_bytes}
@@ -108,11 +108,11 @@ flags_err n text fault h = (
 -- a line that is none of descriptors, or one of descriptors that have no template
 pub data DescriptorsErr (tables : Entries) (n : ℕ) (text : List ℕ) (fault : ListingFault) : Type 0 where
   no_line : (CouldStand at_descriptors text → ⊥) → fault ≡ BadLine n → DescriptorsErr tables n text fault
-  no_tree : (ds : List ℕ) (why : TemplateFault) → AreOfLine text ds → template tables ds ≡ Err why → fault ≡ Refused n (causes.Template why) → DescriptorsErr tables n text fault
+  no_template : (ds : List ℕ) (why : TemplateFault) → AreOfLine text ds → template tables ds ≡ Err why → fault ≡ Refused n (causes.Template why) → DescriptorsErr tables n text fault
 
 no_template_of : (tables : Entries) (n : ℕ) (text ds : List ℕ) (fault : ListingFault) (r : Result Tree TemplateFault) → AreOfLine text ds → template tables ds ≡ r → described n ds r ≡ Err fault → DescriptorsErr tables n text fault
 no_template_of tables n text ds fault (Ok tree) line is h = absurd cc
-no_template_of tables n text ds fault (Err why) line is h = no_tree ds why line is (sym (err_is {A = Described} (Refused n (causes.Template why)) fault h))
+no_template_of tables n text ds fault (Err why) line is h = no_template ds why line is (sym (err_is {A = Described} (Refused n (causes.Template why)) fault h))
 
 descriptors_by : (b : Bool) → DescriptorTexts → (tables : Entries) (n : ℕ) (text : List ℕ) (fault : ListingFault)
     → (not (length (descriptors_in text) == 0) && bytes_eq (descriptors_line (descriptors_in text)) text) ≡ b

@@ -19,7 +19,8 @@ use Rattle.bufr_listing.specs.declared.fault.ListingFault.{ListingFault}
 use Rattle.bufr_listing.specs.declared.fault.ListingFault.TheVariants.{BadLine, BadValue, Refused}
 use Rattle.bufr_listing.specs.Lines.{Line, texts, section1_numbers, time_numbers, numbers_line, local_lines, section2_lines, flags_line, lines_of, counting_lines, CanBeListed}
 use Rattle.bufr_listing.specs.Reading.{with_rest, read_line, read_if, read_word, are_below, read_numbers, read_local, read_section2, Flags, read_flags, Described, read_descriptors, subsets_read, section1_limits, time_limits, head_with, MessageRead, message_read, messages_read, messages_listed}
-use Rattle.bufr_listing.specs.FirstFaults.{Unfit, text_ends, bad_line, Place, at_message, at_section1, at_time, behind_time, behind_local, behind_section2, at_descriptors, AreBefore, CouldStand, IsOfKindAt, AreOfLine, section1_line, time_line, up_to_time, up_to_local, MessageFault, in_heading, no_template, in_subsets, FirstFault}
+use Rattle.bufr_listing.specs.FirstFaults as faults
+use Rattle.bufr_listing.specs.FirstFaults.{Unfit, text_ends, bad_line, Place, at_message, at_section1, at_time, behind_time, behind_local, behind_section2, at_descriptors, AreBefore, CouldStand, IsOfKindAt, AreOfLine, section1_line, time_line, up_to_time, up_to_local, MessageFault, in_heading, in_subsets, FirstFault}
 use Rattle.bufr_listing.proofs.ListFacts.{bind_ok, six_by_place}
 use Rattle.bufr_listing.proofs.FieldFacts.{bytes_same, if_ok}
 use Rattle.bufr_listing.proofs.SubsetFacts.{ok_is, LineTaken, line_takes}
@@ -27,7 +28,7 @@ use Rattle.bufr_listing.proofs.LineFacts.{numbers_take, octets_take, flags_take,
 use Rattle.bufr_listing.proofs.MessageFacts.{IfTaken, if_takes, local_takes, section2_takes, head_fits, message_takes, some_line, length-texts}
 use Rattle.bufr_listing.proofs.FaultFacts.{err_is, bind_err, line_err, unfit_line, other_kind}
 use Rattle.bufr_listing.proofs.FaultFields.{FaultLaws, IsBehind, same_front, subsets_fault, subsets_behind}
-use Rattle.bufr_listing.proofs.FaultHeadings.{UpTo, go_on, at_place, IfErr, if_err_at, IsNotTitled, if_absent, section1_err, time_err, message_err, local_at, section2_at, flags_at, place_behind, descriptors_err, DescriptorsErr, no_line, no_tree}
+use Rattle.bufr_listing.proofs.FaultHeadings.{UpTo, go_on, at_place, IfErr, if_err_at, IsNotTitled, if_absent, section1_err, time_err, message_err, local_at, section2_at, flags_at, place_behind, descriptors_err, DescriptorsErr, no_line, no_template}
 
 -- ---- the places of a heading, by what was read
 
@@ -112,7 +113,7 @@ flags_fault laws tables past ls fault ns ts local two mid fits some octets u no_
                         | no_line other is ↦
                             in_heading at_descriptors u5.own p5.0.1 u5.in_order stands
                             (unfit_line (CouldStand at_descriptors) (IsOfKindAt at_descriptors) past p5.0.1 fault l.0 l.1 l.2 other (other_kind ⊥ l.0.number fault (λ k. k) (sym is)))
-                        | no_tree ds why line has is ↦ no_template u5.own l.0 l.1 ds why (u5.in_order ∙ ap (λ xs. u5.own ++ xs) l.2) stands line has is
+                        | no_template ds why line has is ↦ faults.no_tree u5.own l.0 l.1 ds why (u5.in_order ∙ ap (λ xs. u5.own ++ xs) l.2) stands line ((laws.lower.refuses tables ds why).0 has) is
                       ]
                 ]
             | inr p6 ↦
@@ -120,7 +121,7 @@ flags_fault laws tables past ls fault ns ts local two mid fits some octets u no_
                 let w6 = descriptors_take laws.lower.descriptors tables l6.line.number l6.line.text p6.0.0 l6.reads in
                 elim (bind_err (subsets_read (length p6.0.1) past (course p6.0.0.tree) 0 p6.0.1) _ fault p6.2) [
                   | inl e ↦
-                      in_subsets u5.own l6.line p6.0.1 p6.0.0.descriptors p6.0.0.tree (u5.in_order ∙ ap (λ xs. u5.own ++ xs) l6.front) stands (w6.some, w6.small, w6.line) w6.has_template
+                      in_subsets u5.own l6.line p6.0.1 p6.0.0.descriptors p6.0.0.tree (u5.in_order ∙ ap (λ xs. u5.own ++ xs) l6.front) stands (w6.some, w6.small, w6.line) ((laws.lower.builds tables p6.0.0.descriptors p6.0.0.tree).0 w6.has_template)
                       (subsets_fault laws p6.0.0.tree past p6.0.1 fault e)
                   | inr all ↦ absurd cc
                 ]

@@ -1,7 +1,10 @@
 -- What the crates below say of descriptors, specs and subsets: the premises of the laws of listings.
 use Rattle.std.specs.Prelude.{◌≡◌, ◌↔◌, ℕ, ◌<◌, List, Some}
 use Rattle.bufr_tables.specs.Descriptors.{of_text, six_digits}
+use Rattle.bufr_tables.specs.Entries.{Entries}
+use Rattle.bufr_expand.specs.declared.node.TemplateFault.{TemplateFault}
 use Rattle.bufr_expand.specs.Effects.{IsInRange}
+use Rattle.bufr_expand.specs.Templates.{BuildsExactly, RefusesExactly}
 use Rattle.bufr_expand.specs.Steady.{EachAsked}
 use Rattle.bufr_expand.specs.Trees.{Tree}
 use Rattle.bufr_expand.specs.Courses.{course}
@@ -19,5 +22,8 @@ FieldsAreInRange = (tree : Tree) (used : ℕ) → EachAsked IsInRange (course tr
 pub record LowerLaws : Type 0 where
   pub descriptors : DescriptorTexts
   pub specs : FieldsAreInRange
+  pub builds : (tables : Entries) (list : List ℕ) (tree : Tree) → BuildsExactly tables list tree
+  pub refuses : (tables : Entries) (list : List ℕ) (fault : TemplateFault)
+      → RefusesExactly tables list fault
   pub fit : AllCountedFit
   pub counted : AllFittingAreCounted

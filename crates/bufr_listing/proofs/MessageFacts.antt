@@ -212,7 +212,7 @@ message_takes laws tables past ls x h =
         descriptors = w6.small;
         some_descriptor = w6.some;
         tree = p6.0.0.tree;
-        has_template = w6.has_template;
+        has_tree = (laws.builds tables p6.0.0.descriptors p6.0.0.tree).0 w6.has_template;
         items = p7.0.items;
         fit = fit;
       };
@@ -271,7 +271,7 @@ message_back laws tables past ls m others can e =
     let b4 = section2_backs b3.back.rest m.section2 (from_flags m others) can.section2 (flags_not_section2 m.observed m.compressed) b3.back.same in
     let b5 = line_back read_flags past b4.rest (flags_line m.observed m.compressed) _ (record { observed = m.observed; compressed = m.compressed }) (λ n. flags_back n m.observed m.compressed) b4.same in
     let b6 = line_back (read_descriptors tables) past b5.rest (descriptors_line m.descriptors) _ (record { descriptors = m.descriptors; tree = can.tree })
-    (λ n. descriptors_back laws.descriptors tables n m.descriptors can.tree can.some_descriptor can.descriptors can.has_template) b5.same in
+    (λ n. descriptors_back laws.descriptors tables n m.descriptors can.tree can.some_descriptor can.descriptors ((laws.builds tables m.descriptors can.tree).1 can.has_tree)) b5.same in
     let few = fewer_subsets b6.rest m.subsets others b6.same in
     let b7 = subsets_back (length b6.rest) past 1 (course can.tree) 0 b6.rest m.subsets can.items others (λ n. course_printable laws.specs can.tree n) few
     (laws.counted can.tree 1 0 can.items m.subsets can.fit) b6.same in

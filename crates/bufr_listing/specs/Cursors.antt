@@ -63,6 +63,8 @@ abbrev pub is_end : List Line → Bool
 is_end [] = false
 is_end (l ∷ ls) = bytes_eq l.text (codes "end")
 
-pub next_is : (next : Option TextLine) (found : ℕ) (rest : List ℕ) → IsNext (left_by next found rest) next
+-- the line that was found comes next, for `Lines::peek`
+pub next_is : (next : Option TextLine) (found : ℕ) (rest : List ℕ)
+    → IsNext (left_by next found rest) next
 next_is None found rest = refl
 next_is (Some l) found rest = (counting_from (found + 1) (lines rest), refl)

@@ -1,6 +1,6 @@
 -- Why a text is no listing: its first fault in the order of its lines, told by the lines before it
 -- and by what could stand there.
-use Rattle.std.specs.Prelude.{◌≡◌, ◌⊎◌, ℕ, ◌+◌, ◌<◌, ◌≤◌, ◌^◌, Bool, List, [], ◌∷◌, ◌++◌, length, map, take, codes, Option, All, IfSome, Ok, Err}
+use Rattle.std.specs.Prelude.{◌≡◌, ◌⊎◌, ℕ, ◌+◌, ◌<◌, ◌≤◌, ◌^◌, Bool, List, [], ◌∷◌, ◌++◌, length, map, take, codes, Option, All, IfSome}
 use Rattle.std.specs.List.{flat_map, AllByRecursion}
 use Rattle.std.specs.Str.Lines.{lines}
 use Rattle.bufr_tables.specs.Descriptors.{six_digits}
@@ -9,7 +9,8 @@ use Rattle.bufr_expand.specs.declared.node.TemplateFault.{TemplateFault}
 use Rattle.bufr_expand.specs.declared.operators.Spec.{Spec}
 use Rattle.bufr_expand.specs.declared.walk.WalkFault.{WalkFault}
 use Rattle.bufr_expand.specs.declared.walk.WalkFault.TheVariants.{TooLarge, EffectiveRange}
-use Rattle.bufr_expand.specs.Templates.{template}
+use Rattle.bufr_expand.specs.FirstFaults.{IsFirstFault}
+use Rattle.bufr_expand.specs.Flat.{IsTreeOf}
 use Rattle.bufr_expand.specs.Trees.{Tree}
 use Rattle.bufr_expand.specs.Beginning.{wants, lacks, BeginsWithin, PassesLimit}
 use Rattle.bufr_data.specs.declared.field.Field.{Field}
@@ -144,8 +145,8 @@ IsLineOf d spec text = (f : Field) × IsAsked d spec f × (text ≡ field_line f
 abbrev pub BeginsWith : ℕ → List ℕ → Type 0
 BeginsWith d text = take 7 text ≡ six_digits d ++ 32 ∷ []
 
--- why no field follows these ones of a subset, nor its end: the line of the field that comes next is
--- not there; or an item up to and with the next field, or up to the end, would be more than a
+-- why no field follows these ones of a subset, nor its end: the line of the field that comes next
+-- is not there; or an item up to and with the next field, or up to the end, would be more than a
 -- message may have; or the next field has no spec
 pub data NoFieldFollows (tree : Tree) (used : ℕ) (before : List Field) (past : ℕ)
     (rest : List Line) (fault : ListingFault) : Type 0 where
@@ -196,25 +197,25 @@ pub record SubsetsFault (tree : Tree) (past : ℕ) (ls : List Line) (fault : Lis
 
 -- ---- messages
 
--- the first fault of a message: at a place of its heading; or its descriptors have no template; or
--- they have one, and the fault is one of its subsets
+-- the first fault of a message: at a place of its heading; or its descriptors have no tree, for
+-- their first fault; or they have one, and the fault is one of its subsets
 pub data MessageFault (tables : Entries) (past : ℕ) (ls : List Line) (fault : ListingFault)
     : Type 0 where
   in_heading : (place : Place) (own rest : List Line) → ls ≡ own ++ rest
       → AreBefore place (texts own)
       → Unfit (CouldStand place) (IsOfKindAt place) past rest fault
       → MessageFault tables past ls fault
-  no_template : (own : List Line) (l : Line) (rest : List Line) (ds : List ℕ) (why : TemplateFault)
+  no_tree : (own : List Line) (l : Line) (rest : List Line) (ds : List ℕ) (why : TemplateFault)
       → ls ≡ own ++ l ∷ rest → AreBefore at_descriptors (texts own) → AreOfLine l.text ds
-      → template tables ds ≡ Err why → fault ≡ Refused l.number (causes.Template why)
+      → IsFirstFault tables ds why → fault ≡ Refused l.number (causes.Template why)
       → MessageFault tables past ls fault
   in_subsets : (own : List Line) (l : Line) (rest : List Line) (ds : List ℕ) (tree : Tree)
       → ls ≡ own ++ l ∷ rest → AreBefore at_descriptors (texts own) → AreOfLine l.text ds
-      → template tables ds ≡ Ok tree → SubsetsFault tree past rest fault
+      → IsTreeOf tables ds tree → SubsetsFault tree past rest fault
       → MessageFault tables past ls fault
 
--- the first fault of a text: the messages before it are listed, and that of the next message is this
--- one
+-- the first fault of a text: the messages before it are listed, and that of the next message is
+-- this one
 pub record FirstFault (tables : Entries) (text : List ℕ) (fault : ListingFault) : Type 0 where
   pub before : List Message
   pub own : List Line

@@ -1,13 +1,13 @@
 -- The lines of a listing (this project's own text form of a message of FM 94 BUFR): which lines a
 -- text has that count, and which lines messages have.
-use Rattle.std.specs.Prelude.{◌≡◌, ℕ, ◌+◌, ◌<◌, ◌^◌, ◌==◌, ◌&&◌, ◌||◌, not, Bool, true, List, [], ◌∷◌, ◌++◌, length, map, codes, decimal, Option, Some, None, nat_le, get_or, if◌then◌else◌, IfSome, All, Ok}
+use Rattle.std.specs.Prelude.{◌≡◌, ℕ, ◌+◌, ◌<◌, ◌^◌, ◌==◌, ◌&&◌, ◌||◌, not, Bool, true, List, [], ◌∷◌, ◌++◌, length, map, codes, decimal, Option, Some, None, nat_le, get_or, if◌then◌else◌, IfSome, All}
 use Rattle.std.specs.List.{flat_map, slice_split, AllByRecursion}
 use Rattle.std.specs.Str.{bytes_eq}
 use Rattle.std.specs.Str.Lines.{lines}
 use Rattle.hex.specs.Hex.{encode_lower}
 use Rattle.bufr_tables.specs.Descriptors.{six_digits}
 use Rattle.bufr_tables.specs.Entries.{Entries}
-use Rattle.bufr_expand.specs.Templates.{template}
+use Rattle.bufr_expand.specs.Flat.{IsTreeOf}
 use Rattle.bufr_expand.specs.Trees.{Tree}
 use Rattle.bufr_data.specs.declared.field.Field.{Field}
 use Rattle.bufr_data.specs.declared.field.Subset.{Subset}
@@ -52,7 +52,8 @@ section2_lines (Some octets) = section2_line octets ∷ []
 
 abbrev pub flags_line : Bool → Bool → List ℕ
 flags_line observed compressed =
-    words (codes "flags") (word_if observed (codes "observed") ++ word_if compressed (codes "compressed"))
+    words (codes "flags")
+    (word_if observed (codes "observed") ++ word_if compressed (codes "compressed"))
 
 abbrev pub descriptors_line : List ℕ → List ℕ
 descriptors_line descriptors = words (codes "descriptors") (map six_digits descriptors)
@@ -101,7 +102,8 @@ lower_digit c = if nat_le 65 c && nat_le c 70 then c + 32 else c
 
 -- a line of octets, by its first word
 abbrev pub has_octets : List ℕ → Bool
-has_octets text = bytes_eq (first_word text) (codes "local1") || bytes_eq (first_word text) (codes "section2")
+has_octets text =
+    bytes_eq (first_word text) (codes "local1") || bytes_eq (first_word text) (codes "section2")
 
 abbrev pub as_printed : List ℕ → List ℕ
 as_printed text = if has_octets text then map lower_digit text else text
@@ -129,7 +131,7 @@ texts ls = map (λ l. l.text) ls
 -- ---- which messages a text lists
 
 -- a message that can be listed and read: its numbers are in the ranges of their fields, it has a
--- descriptor, its descriptors have a template, and its subsets fit it with 16,777,216 items at
+-- descriptor, its descriptors have a tree, and its subsets fit it with 16,777,216 items at
 -- most
 pub record CanBeListed (tables : Entries) (m : Message) : Type 0 where
   pub head : HeadFits m.head
@@ -137,7 +139,7 @@ pub record CanBeListed (tables : Entries) (m : Message) : Type 0 where
   pub descriptors : All (λ d. d < 2 ^ 16) m.descriptors
   pub some_descriptor : 0 < length m.descriptors
   pub tree : Tree
-  pub has_template : template tables m.descriptors ≡ Ok tree
+  pub has_tree : IsTreeOf tables m.descriptors tree
   pub items : ℕ
   pub fit : AllFitWithin tree 0 m.subsets items
 

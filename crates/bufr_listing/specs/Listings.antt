@@ -1,4 +1,5 @@
--- The listing of a message: lines of words (this project's own text form of a message of FM 94 BUFR).
+-- The listing of a message: lines of words (this project's own text form of a message of FM 94
+-- BUFR).
 use Rattle.std.specs.Prelude.{ℕ, ◌==◌, ◌&&◌, not, Bool, true, false, List, [], ◌∷◌, ◌++◌, map, codes, decimal, Option, Some, None, nat_le, if◌then◌else◌}
 use Rattle.std.specs.List.{flat_map}
 use Rattle.hex.specs.Hex.{encode_lower}
@@ -36,9 +37,13 @@ abbrev pub word_if : Bool → List ℕ → List (List ℕ)
 word_if true word = word ∷ []
 word_if false word = []
 
--- octets 0x20 to 0x7E other than the quote and the backslash stand for themselves, every other as a backslash and two digits
+-- octets 0x20 to 0x7E other than the quote and the backslash stand for themselves, every other as
+-- a backslash and two digits
 abbrev pub quoted_octet : ℕ → List ℕ
-quoted_octet c = if nat_le 32 c && nat_le c 126 && not (c == 34) && not (c == 92) then c ∷ [] else 92 ∷ encode_lower (c ∷ [])
+quoted_octet c =
+    if nat_le 32 c && nat_le c 126 && not (c == 34) && not (c == 92)
+    then c ∷ []
+    else 92 ∷ encode_lower (c ∷ [])
 
 -- characters between quotes
 abbrev pub quoted : List ℕ → List ℕ
@@ -69,18 +74,22 @@ subset_lines s = codes "subset\n" ++ flat_map field_line s.fields
 -- the line of section 1 but its time, and that of the time
 abbrev pub section1_line : Head → List ℕ
 section1_line h = line (words (codes "section1") (map decimal
-    (h.centre ∷ h.sub_centre ∷ h.update ∷ h.category ∷ h.international ∷ h.local_category ∷ h.master_version ∷ h.local_version ∷ [])))
+    (h.centre ∷ h.sub_centre ∷ h.update ∷ h.category ∷ h.international ∷ h.local_category
+    ∷ h.master_version ∷ h.local_version ∷ [])))
 
 abbrev pub time_line : Head → List ℕ
-time_line h = line (words (codes "time") (map decimal (h.year ∷ h.month ∷ h.day ∷ h.hour ∷ h.minute ∷ h.second ∷ [])))
+time_line h = line (words (codes "time") (map decimal
+    (h.year ∷ h.month ∷ h.day ∷ h.hour ∷ h.minute ∷ h.second ∷ [])))
 
 -- the line of the flags
 abbrev pub flags_line : Bool → Bool → List ℕ
-flags_line observed compressed = line (words (codes "flags") (word_if observed (codes "observed") ++ word_if compressed (codes "compressed")))
+flags_line observed compressed = line (words (codes "flags")
+    (word_if observed (codes "observed") ++ word_if compressed (codes "compressed")))
 
 -- the line of the descriptors: each behind a space
 abbrev pub descriptors_line : List ℕ → List ℕ
-descriptors_line descriptors = line (codes "descriptors" ++ flat_map (λ d. 32 ∷ six_digits d) descriptors)
+descriptors_line descriptors =
+    line (codes "descriptors" ++ flat_map (λ d. 32 ∷ six_digits d) descriptors)
 
 -- what the lines before the first subset say: section 1, section 2 where there is one, the flags
 -- and the descriptors of section 3
@@ -106,7 +115,8 @@ heading_of m =
 unfoldable pub heading_lines : Heading → List ℕ
 heading_lines h =
     codes "message\n" ++ section1_line h.head ++ time_line h.head ++ local_line h.head.local
-    ++ section2_line h.section2 ++ flags_line h.observed h.compressed ++ descriptors_line h.descriptors
+    ++ section2_line h.section2 ++ flags_line h.observed h.compressed
+    ++ descriptors_line h.descriptors
 
 -- the last line
 abbrev pub end_line : List ℕ

@@ -52,7 +52,8 @@ then_octets c octets = option_map (λ cs. c ∷ cs) octets
 -- so many octets, and then the quote that ends them
 unfoldable pub octets_before : ℕ → List ℕ → Option (List ℕ)
 octets_before zero text = if bytes_eq text (34 ∷ []) then Some [] else None
-octets_before (suc n) text = option_and_then (λ (x : ℕ × List ℕ). then_octets x.0 (octets_before n x.1)) (first_octet text)
+octets_before (suc n) text =
+    option_and_then (λ (x : ℕ × List ℕ). then_octets x.0 (octets_before n x.1)) (first_octet text)
 
 -- the octets, so many, that stand between quotes as a word
 abbrev pub octets_of : ℕ → List ℕ → Option (List ℕ)
@@ -65,7 +66,8 @@ are_ones octets = list_all (λ x. x == 255) octets
 -- octets that are not those of a missing value
 abbrev pub unless_ones : Bool → Option (List ℕ) → Option (List ℕ)
 unless_ones may_be_missing None = None
-unless_ones may_be_missing (Some octets) = if may_be_missing && are_ones octets then None else Some octets
+unless_ones may_be_missing (Some octets) =
+    if may_be_missing && are_ones octets then None else Some octets
 
 -- the octets of a text field of so many bits that print a word
 abbrev pub text_of : ℕ → List ℕ → Option (List ℕ)
@@ -87,7 +89,9 @@ missing_number spec = if may_be_missing spec then Some (2 ^ spec.width - 1) else
 -- a number that is in so many bits and not that of a missing value
 abbrev pub unless_missing : Spec → ℕ → Option ℕ
 unless_missing spec n =
-    if nat_lt (2 ^ spec.width - 1) n || (n == 2 ^ spec.width - 1 && may_be_missing spec) then None else Some n
+    if nat_lt (2 ^ spec.width - 1) n || (n == 2 ^ spec.width - 1 && may_be_missing spec)
+    then None
+    else Some n
 
 abbrev pub number_above : Spec → ℤ → Option ℕ
 number_above spec (pos n) = unless_missing spec n
@@ -99,7 +103,8 @@ number_of spec word =
     if nat_lt 64 spec.width then None
     else if is_missing_word word
     then missing_number spec
-    else option_and_then (λ (d : Decimal). number_above spec (d.units -ℤ spec.reference)) (decimal_of spec.scale word)
+    else option_and_then (λ (d : Decimal). number_above spec (d.units -ℤ spec.reference))
+    (decimal_of spec.scale word)
 
 -- ---- raw values
 

@@ -165,7 +165,8 @@ fields_read past (asks met d spec more) ls = do
   Ok (record others { fields = first.0 ∷ others.fields })
 
 -- subsets up to the line `end`; no more than so many lines are left
-unfoldable pub subsets_read : ℕ → ℕ → (ℕ → Course) → ℕ → List Line → Result SubsetsListed ListingFault
+unfoldable pub subsets_read : ℕ → ℕ → (ℕ → Course) → ℕ → List Line
+    → Result SubsetsListed ListingFault
 subsets_read left past course used [] = Err (BadLine past)
 subsets_read zero past course used (l ∷ ls) = Err (BadLine past)
 subsets_read (suc left) past course used (l ∷ ls) =
@@ -174,12 +175,15 @@ subsets_read (suc left) past course used (l ∷ ls) =
       | false ↦ read_word (codes "subset") l.number l.text
           >>= λ _. fields_read past (course used) ls
           >>= λ first. subsets_read left past course first.items first.rest
-          >>= λ others. Ok (record others { subsets = record { fields = first.fields } ∷ others.subsets })
+          >>= λ others. Ok (record others {
+            subsets = record { fields = first.fields } ∷ others.subsets;
+          })
     ]
 
 -- the subsets up to the line `end` and the lines after it
 abbrev pub subsets_of : ℕ → (ℕ → Course) → List Line → Result (List Subset × List Line) ListingFault
-subsets_of past course ls = result_map (λ r. (r.subsets, r.rest)) (subsets_read (length ls) past course 0 ls)
+subsets_of past course ls =
+    result_map (λ r. (r.subsets, r.rest)) (subsets_read (length ls) past course 0 ls)
 
 -- ---- messages
 
@@ -248,9 +252,11 @@ unfoldable pub messages_read : ℕ → Entries → ℕ → List Line → Result 
 messages_read left tables past [] = Ok []
 messages_read zero tables past (l ∷ ls) = Err (BadLine past)
 messages_read (suc left) tables past (l ∷ ls) =
-    message_read tables past (l ∷ ls) >>= λ first. messages_read left tables past first.1 >>= λ others. Ok (first.0 ∷ others)
+    message_read tables past (l ∷ ls) >>= λ first. messages_read left tables past first.1
+    >>= λ others. Ok (first.0 ∷ others)
 
 -- the messages that a text lists, or the first fault
 abbrev pub messages_listed : Entries → List ℕ → Result (List Message) ListingFault
 messages_listed tables text =
-    messages_read (length (counting_lines text)) tables (length (lines text) + 1) (counting_lines text)
+    messages_read (length (counting_lines text)) tables (length (lines text) + 1)
+    (counting_lines text)

@@ -22,16 +22,20 @@ pub record Advances (old new : Walk) : Type 0 where
   pub within : walks.items_met new ≤ 16777216
 
 -- these fields, and then those that are read
-abbrev pub behind_fields : List Field → Result FieldsListed ListingFault → Result FieldsListed ListingFault
+abbrev pub behind_fields : List Field → Result FieldsListed ListingFault
+    → Result FieldsListed ListingFault
 behind_fields fields (Ok found) = Ok (record found { fields = fields ++ found.fields })
 behind_fields fields (Err e) = Err e
 
 -- these subsets, and then those that are read
-abbrev pub behind_subsets : List Subset → Result SubsetsListed ListingFault → Result SubsetsListed ListingFault
+abbrev pub behind_subsets : List Subset → Result SubsetsListed ListingFault
+    → Result SubsetsListed ListingFault
 behind_subsets subsets (Ok found) = Ok (record found { subsets = subsets ++ found.subsets })
 behind_subsets subsets (Err e) = Err e
 
 -- a field was read, or there is none and the message has met so many items
 abbrev pub Reads : ℕ → Course → List Line → Option Field → Course → ℕ → List Line → Type 0
-Reads past course ls (Some field) after items rest = fields_read past course ls ≡ behind_fields (field ∷ []) (fields_read past after rest)
-Reads past course ls None after items rest = fields_read past course ls ≡ Ok (record { fields = []; items = items; rest = rest })
+Reads past course ls (Some field) after items rest =
+    fields_read past course ls ≡ behind_fields (field ∷ []) (fields_read past after rest)
+Reads past course ls None after items rest =
+    fields_read past course ls ≡ Ok (record { fields = []; items = items; rest = rest })

@@ -20,7 +20,8 @@ below limit (negsuc n) = None
 
 -- the number below a limit that a word is the digits of
 abbrev pub number_below : ℕ → List ℕ → Option ℕ
-number_below limit word = option_and_then (λ (d : Decimal). below limit d.units) (decimal_of (pos 0) word)
+number_below limit word =
+    option_and_then (λ (d : Decimal). below limit d.units) (decimal_of (pos 0) word)
 
 abbrev pub onto : {A : Type 0} → Option A → Option (List A) → Option (List A)
 onto None xs = None

@@ -5,7 +5,9 @@ ghost use Rattle.bufr_listing.specs.Laws.{MessagesReadAreListed, MessagesListedA
 ghost use Rattle.bufr_listing.specs.Laws.{ListingsAreReadBack, FaultsReadAreFirst};
 
 use bufr_data::counted_subsets_fit;
-use bufr_expand::laws::{courses_are_steady, courses_are_unrollings, courses_begin_unrollings};
+use bufr_expand::laws::{
+    courses_are_steady, courses_are_unrollings, courses_begin_unrollings, templates_are_trees,
+};
 use bufr_tables::laws::descriptor_texts;
 
 /// Reading a text answers messages exactly where the text lists them, and these messages alone.
@@ -15,6 +17,7 @@ pub fn listings_list_messages()
 {
     descriptor_texts();
     courses_are_steady();
+    templates_are_trees();
     counted_subsets_fit();
 }
 
@@ -33,19 +36,21 @@ pub fn listings_are_read_back()
 {
     descriptor_texts();
     courses_are_steady();
+    templates_are_trees();
     counted_subsets_fit();
 }
 
 /// The fault that reading answers is the first of the text: the messages before it are listed, the
 /// lines of this one before it are those of some head, or of a head whose descriptors have a
 /// template, of subsets that fit and of fields with which a subset can begin; and the next line is
-/// none that could follow (L1, L2), or there is none (L1), or the descriptors have no template or
+/// none that could follow (L1, L2), or there is none (L1), or the descriptors have no tree or
 /// no field can follow (L3).
 pub fn faults_of_listings_are_the_first()
     ensures { FaultsReadAreFirst }
 {
     descriptor_texts();
     courses_are_steady();
+    templates_are_trees();
     counted_subsets_fit();
     courses_are_unrollings();
     courses_begin_unrollings();

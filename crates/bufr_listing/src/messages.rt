@@ -29,7 +29,8 @@ const TIME_LIMITS: [u64; 6] = [65536, 256, 256, 256, 256, 256];
 /// where a line is not the one that is expected, or the text ends within a block; L2 `BadValue`
 /// where another word of it is none that its place can have; L3 `Refused` with X1 to X9 at the line
 /// of the descriptors, and with V1 `EffectiveRange` or V6 `TooLarge` at the line where a field or a
-/// subset's end is expected. Items count over the message. `OutOfMemory` where a growth was refused.
+/// subset's end is expected. Items count over the message. `OutOfMemory` where a growth was
+/// refused.
 pub fn read(
     alloc: Global,
     tables: &Tables,

@@ -11,3 +11,4 @@ pub mod ReportFacts
 pub mod AloneFacts
 pub mod UnderFacts
 pub mod ViewFacts
+pub mod OwnBitsFacts

@@ -125,7 +125,7 @@ abbrev pub HasBits : Entries → Message → List Bool → Type 0
 HasBits tables m data_bits = (tree : Tree) × (m.descriptors ≢ []) × IsTreeOf tables m.descriptors tree × IsBareDataOf tree m.compressed m.subsets data_bits
 
 -- data bits that are found are those of the message
-bits_found : Below → (tables : Entries) (m : Message) (data_bits : List Bool) → data_bits_or tables m ≡ Ok data_bits → HasBits tables m data_bits
+pub bits_found : Below → (tables : Entries) (m : Message) (data_bits : List Bool) → data_bits_or tables m ≡ Ok data_bits → HasBits tables m data_bits
 unfolding data_bits_or
 bits_found below tables m data_bits found =
     let list = bind_ok (some_descriptors m.descriptors) (templated tables m) data_bits found in

@@ -1,7 +1,9 @@
--- Whether the subsets of a view can be said alone, and the reports of a view.
-use Rattle.std.proofs.Common.{◌≡◌, ℕ, zero, suc, ◌+◌, ◌*◌, ◌<◌, ◌≤◌, Bool, true, false, List, [], ◌∷◌, length, take, Some, Result, Ok, Err, refl, sym, ap, ◌∙◌, arith, length-append}
+-- Whether the subsets of a view can be said alone, for `view`; and that its reports are under the
+-- tables, for `View::report`.
+use Rattle.std.proofs.Common.{◌≡◌, ℕ, zero, suc, ◌+◌, ◌*◌, ◌<◌, ◌≤◌, Bool, true, false, List, [], ◌∷◌, length, take, Some, Result, Ok, Err, refl, sym, ap, subst, ◌∙◌, arith, length-append}
 use Rattle.std.specs.Prelude.{◌&&◌, nat_le, slice_get, IfOk, option_map}
 use Rattle.std.proofs.lemmas.List.Folds.{list_all_more}
+use Rattle.std.specs.List.{AllByRecursion}
 use Rattle.std.proofs.lemmas.Option.{get_or_from_slice_get, slice_get-map}
 use Rattle.bufr_bits.specs.Bits.{bits}
 use Rattle.bufr_bits.specs.OctetLaws.{length-bits}
@@ -11,8 +13,9 @@ use Rattle.bufr_data.specs.Data.{ReadsExactly}
 use Rattle.bufr_sections.specs.declared.message.Message.{Message}
 use Rattle.bufr_sections.specs.Spelt.{longest}
 use Rattle.bufr_message.specs.declared.report.Report.{Report}
-use Rattle.bufr_message.specs.Messages.{octets_alone, can_be_alone}
-use Rattle.bufr_message.specs.Reports.{report_of, reports_of, with_parts}
+use Rattle.bufr_tables.specs.Entries.{Entries}
+use Rattle.bufr_message.specs.Messages.{octets_alone, can_be_alone, Spells}
+use Rattle.bufr_message.specs.Reports.{report_of, reports_of, with_parts, IsUnder, ReportsSpeltAreUnder}
 use Rattle.bufr_message.specs.Views.{StandIn}
 use Rattle.bufr_message.proofs.AloneFacts.{each_alone}
 use Rattle.bufr_message.proofs.CanBeAlone.{all_short, alone_passes}
@@ -60,3 +63,20 @@ pub one_report : {E : Type 0} (m : Message) (i : ℕ) (s : Subset) (answer : Res
 one_report m i s (Ok r) is made =
     slice_get-map (report_of m) m.subsets i ∙ ap (option_map (report_of m)) is ∙ ap (λ x. Some x) (sym made)
 one_report m i s (Err e) is made = made
+
+-- one of reports that are under the tables is
+under_at : (tables : Entries) (rs : List Report) (i : ℕ) (r : Report) → AllByRecursion (IsUnder tables) rs
+    → slice_get rs i ≡ Some r → IsUnder tables r
+under_at tables [] i r all is = absurd cc
+under_at tables (x ∷ xs) zero r all is =
+    let same : x ≡ r = cc in
+    subst (IsUnder tables) same all.0
+under_at tables (x ∷ xs) (suc i) r all is = under_at tables xs i r all.1 is
+
+-- the report of a view that is answered is under the tables by which octets spell the message
+pub under_answer : {E : Type 0} (law : ReportsSpeltAreUnder) (m : Message) (i : ℕ) (answer : Result Report E)
+    → IfOk answer (λ r. slice_get (reports_of m) i ≡ Some r)
+    → (tables : Entries) (octets : List ℕ) (slack : ℕ) → Spells tables m octets slack → IfOk answer (IsUnder tables)
+under_answer law m i (Ok r) is tables octets slack spells =
+    under_at tables (reports_of m) i r (law tables m octets slack spells) is
+under_answer law m i (Err e) is tables octets slack spells = is

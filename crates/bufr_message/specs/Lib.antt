@@ -5,6 +5,7 @@ pub mod Below
 pub mod Laws
 pub mod Lent
 pub mod Reports
+pub mod OwnBits
 pub mod Views
 pub mod Samples
 pub mod ReportSamples

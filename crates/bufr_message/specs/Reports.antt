@@ -1,5 +1,5 @@
--- Reports: one subset of a message with its head, and the one message that says a report alone (this
--- project's own, over FM 94 BUFR edition 4).
+-- Reports: one subset of a message with its head, and the one message that says a report alone
+-- (this project's own, over FM 94 BUFR edition 4).
 use Rattle.std.specs.Prelude.{◌≡◌, ℕ, Bool, false, List, [], ◌∷◌, map, length, Option, Some, None, Result, Ok, Err}
 use Rattle.std.specs.List.{AllByRecursion}
 use Rattle.bufr_tables.specs.Entries.{Entries}
@@ -39,7 +39,12 @@ without_local h = record {
 -- a subset with the head, the flag and the descriptors of its message
 abbrev pub with_parts : Head → Bool → List ℕ → Subset → Report
 with_parts head observed descriptors subset =
-    record { head = without_local head; observed = observed; descriptors = descriptors; subset = subset }
+    record {
+      head = without_local head;
+      observed = observed;
+      descriptors = descriptors;
+      subset = subset;
+    }
 
 -- one subset of a message, as a report
 abbrev pub report_of : Message → Subset → Report

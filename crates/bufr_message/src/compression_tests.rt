@@ -1,7 +1,9 @@
 //! Compressed messages that are read, written and refused. Octets and answers are typed from the
 //! rules of the format.
 
-use crate::test_samples::{SEQUENCES, UNEQUAL_COUNTS, octets, tables};
+use crate::test_samples::{
+    COMPRESSED_PAIR, COMPRESSED_TEXTS, SEQUENCES, UNEQUAL_COUNTS, octets, tables,
+};
 use crate::{Message, decode, encode};
 use bufr_data::Raw;
 use bufr_tables::Items;
@@ -9,12 +11,7 @@ use std::alloc::Global;
 use std::process::Abort;
 use std::test::Fail;
 
-/// Two subsets whose temperatures are 27315 and missing: 68 octets.
-const COMPRESSED_PAIR: &str = "\
-42554652 000044 04 | S1 | 00000F 00 0002 C0 C101 C10B C10C 0C65
-| 000013 00 14030003F400201E03000006AB3050 | END";
-
-/// The same with 27315 and 27316, whose increments need two bits.
+/// Two subsets whose temperatures are 27315 and 27316, whose increments need two bits.
 const COMPRESSED_INCREMENTS: &str = "\
 42554652 000044 04 | S1 | 00000F 00 0002 C0 C101 C10B C10C 0C65
 | 000013 00 14030003F400201E03000006AB3084 | END";
@@ -35,10 +32,6 @@ const FACTOR_WRITTEN: &str = "\
 /// An element of one bit that is no factor, 0 and 1.
 const COMPRESSED_NOT_A_FACTOR: &str = "\
 42554652 000031 04 | S1 | 000009 00 0002 C0 1F00 | 000006 00 0280 | END";
-
-/// Texts of three characters, the first filled with a space, the second missing.
-const COMPRESSED_TEXTS: &str = "\
-42554652 000039 04 | S1 | 00000B 00 0002 C0 8803 010B | 00000C 00 00000009050BFFFC | END";
 
 /// What octets are read as, with no slack.
 fn read(rt: &impl Abort, alloc: Global, text: &str) -> Result<Message, Fail> {

@@ -23,7 +23,8 @@ use std::alloc::Global;
 /// is the whole message, from `BUFR` to `7777`, of edition 3 or 4. Octets that spell no message are
 /// refused for the first cause in this order: M1 to M9 of the sections, X1 to X9 of the
 /// descriptors, V1 to V6 of the data, as they come, and last V6 for a message of edition 3 one of
-/// whose subsets is too long for a message of edition 4 of its own. `OutOfMemory` where a growth was refused.
+/// whose subsets is too long for a message of edition 4 of its own. `OutOfMemory` where a growth was
+/// refused.
 pub fn decode(alloc: Global, tables: &Tables, octets: &[u8]) -> Result<Decoded, Failure<Refused>>
     // What is read is spelt so.
     ensures found { IfOk result (λ d. Spells tables.now d.message octets.now d.slack_octets) }
@@ -93,8 +94,7 @@ pub(crate) fn template_of(
 {
     match Template::build(alloc, tables, descriptors) {
         Ok(template) => Ok(template),
-        Err(Failure::Fault(fault)) => Err(Failure::Fault(Refused::Template(fault))),
-        Err(Failure::OutOfMemory) => Err(Failure::OutOfMemory),
+        Err(failure) => Err(failure.map(Refused::Template)),
     }
 }
 
@@ -114,8 +114,7 @@ fn data_of(
     let mut reader = BitReader::new(contents);
     match read_subsets(alloc, template, compressed, count, &mut reader) {
         Ok(subsets) => Ok((subsets, (reader.left() / 8) as u64)),
-        Err(Failure::Fault(fault)) => Err(Failure::Fault(Refused::Data(fault))),
-        Err(Failure::OutOfMemory) => Err(Failure::OutOfMemory),
+        Err(failure) => Err(failure.map(Refused::Data)),
     }
 }
 

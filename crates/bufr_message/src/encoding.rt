@@ -6,7 +6,8 @@ ghost use Rattle.bufr_expand.specs.Templates.{template};
 ghost use Rattle.bufr_bits.specs.Bits.{bits};
 ghost use Rattle.bufr_data.specs.Data.{written_bits};
 ghost use Rattle.bufr_message.specs.Lent.{whole};
-ghost use Rattle.bufr_message.specs.Encodings.{filled, template_or, data_or, data_bits_or, enclosed_or, code, SpellsBare};
+ghost use Rattle.bufr_message.specs.Encodings.{filled, template_or, data_or, data_bits_or};
+ghost use Rattle.bufr_message.specs.Encodings.{enclosed_or, code, SpellsBare};
 
 use crate::fault::EncodeFault;
 use crate::laws::written_messages_are_spelt;
@@ -52,7 +53,7 @@ pub(crate) fn octets_of(
 }
 
 /// The octets of a message whose data bits, filled, are these octets.
-fn enclose(
+pub(crate) fn enclose(
     alloc: Global,
     message: &Lent<'_>,
     contents: &[u8],
@@ -104,8 +105,7 @@ fn template_of(
 {
     match Template::build(alloc, tables, descriptors) {
         Ok(template) => Ok(template),
-        Err(Failure::Fault(fault)) => Err(Failure::Fault(EncodeFault::Template(fault))),
-        Err(Failure::OutOfMemory) => Err(Failure::OutOfMemory),
+        Err(failure) => Err(failure.map(EncodeFault::Template)),
     }
 }
 
@@ -125,8 +125,7 @@ fn data_of(
             sink.fill_octet();
             Ok(sink.into_bytes())
         }
-        Err(Failure::Fault(fault)) => Err(Failure::Fault(EncodeFault::Data(fault))),
-        Err(Failure::OutOfMemory) => Err(Failure::OutOfMemory),
+        Err(failure) => Err(failure.map(EncodeFault::Data)),
     }
 }
 

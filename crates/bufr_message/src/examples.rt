@@ -4,8 +4,9 @@ ghost use Rattle.std.specs.Prelude.{◌≡◌, ◌++◌, Ok, Err, codes};
 ghost use Rattle.bufr_tables.specs.Descriptors.{descriptor};
 ghost use Rattle.bufr_sections.specs.Samples.{hex, framed, plain1, head4};
 ghost use Rattle.bufr_message.specs.Samples.{read, written_again, slack_of, head_of};
-ghost use Rattle.bufr_message.specs.Samples.{elements_only, elements3, local_octets_and_slack, local_octets};
-ghost use Rattle.bufr_message.specs.Samples.{distinct_head, compressed, edition_3_of, edition_3_written};
+ghost use Rattle.bufr_message.specs.Samples.{elements_only, elements3, local_octets_and_slack};
+ghost use Rattle.bufr_message.specs.Samples.{local_octets, distinct_head, compressed};
+ghost use Rattle.bufr_message.specs.Samples.{edition_3_of, edition_3_written};
 
 use bufr_data::ReadFault;
 use bufr_expand::TemplateFault;
@@ -33,7 +34,8 @@ pub fn compressed_messages()
 #[tactic(auto, unfolding(crate::proofs::OnLiterals::messages_on_literals))]
 pub fn refusals()
     ensures sections { read (hex (codes "42554652 000008 05")) ≡ Err (Refused.Edition 5) }
-    ensures unknown { read (framed (codes "00002F 04") (plain1 ++ hex (codes "000009 00 0001 80 01FA 000004 00")))
+    ensures unknown { read (framed (codes "00002F 04")
+        (plain1 ++ hex (codes "000009 00 0001 80 01FA 000004 00")))
         ≡ Err (Refused.Template (TemplateFault.UnknownElement (descriptor 0 1 250))) }
     ensures data_end { read (framed (codes "000045 04")
         (plain1 ++ elements3 ++ hex (codes "00000C 00 14C03F409EC01AAC")))
@@ -45,5 +47,6 @@ pub fn refusals()
 pub fn edition_3()
     ensures written { written_again (edition_3_of (codes "18")) ≡ edition_3_written }
     ensures slack { slack_of (read (edition_3_of (codes "18"))) ≡ Ok 1 }
-    ensures year_0 { head_of (read (edition_3_of (codes "00"))) ≡ head_of (read (edition_3_of (codes "64"))) }
+    ensures year_0 { head_of (read (edition_3_of (codes "00")))
+        ≡ head_of (read (edition_3_of (codes "64"))) }
 {}

@@ -1,8 +1,15 @@
 //! Laws of messages and the octets that they stand in.
 
 ghost use Rattle.bufr_message.specs.Below.{Below};
-ghost use Rattle.bufr_message.specs.Reports.{CanonicalTellsApart, CanonicalIsRead, CanonicalIsAsLong, ReportsSpeltAreUnder};
-ghost use Rattle.bufr_message.specs.Laws.{MessagesReadAreSpelt, MessagesSpeltAreRead, RefusedForFirstFault, FirstFaultIsAnswered, MessagesWrittenAreBare, BareAreWritten, MessagesWrittenAreRead, UnwrittenForFirstFault, FirstEncodeFaultIsAnswered, PlainSpeltAreWritten, PackableSpeltAreWritten};
+ghost use Rattle.bufr_message.specs.OwnBits.{CanonicalIsOwn};
+ghost use Rattle.bufr_message.specs.Reports.{CanonicalTellsApart, CanonicalIsRead};
+ghost use Rattle.bufr_message.specs.Reports.{CanonicalIsAsLong, ReportsSpeltAreUnder};
+ghost use Rattle.bufr_message.specs.Laws.{MessagesReadAreSpelt, MessagesSpeltAreRead};
+ghost use Rattle.bufr_message.specs.Laws.{RefusedForFirstFault, FirstFaultIsAnswered};
+ghost use Rattle.bufr_message.specs.Laws.{MessagesWrittenAreBare, BareAreWritten};
+ghost use Rattle.bufr_message.specs.Laws.{MessagesWrittenAreRead, UnwrittenForFirstFault};
+ghost use Rattle.bufr_message.specs.Laws.{FirstEncodeFaultIsAnswered, PlainSpeltAreWritten};
+ghost use Rattle.bufr_message.specs.Laws.{PackableSpeltAreWritten};
 
 use bufr_data::data_hold_subsets;
 use bufr_expand::laws::templates_are_trees;
@@ -60,8 +67,8 @@ pub fn refusals_of_messages_are_the_first()
 }
 
 /// Two reports under the tables that have one canonical message are one, and a canonical message is
-/// read as a message whose one report is that report. It has 45 octets, two for each descriptor, and
-/// those of the subset's bits.
+/// read as a message whose one report is that report. It has 45 octets, two for each descriptor,
+/// and those of the subset's bits.
 pub fn canonical_messages_are_reports()
     ensures apart { CanonicalTellsApart }
     ensures read { CanonicalIsRead }
@@ -70,7 +77,15 @@ pub fn canonical_messages_are_reports()
     laws_below();
 }
 
-/// The reports of a message that octets spell, plain or compressed, have canonical messages: what is written of them can only run out of memory.
+/// The canonical message of a report, under whatever tables, is what its own fields spell.
+pub fn canonical_messages_are_own()
+    ensures { CanonicalIsOwn }
+{
+    laws_below();
+}
+
+/// The reports of a message that octets spell, plain or compressed, have canonical messages: what
+/// is written of them can only run out of memory.
 pub fn reports_have_canonical_messages()
     ensures { ReportsSpeltAreUnder }
 {

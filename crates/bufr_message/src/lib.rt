@@ -6,6 +6,8 @@ mod alone;
 #[cfg(test)]
 mod compression_tests;
 mod decoding;
+#[cfg(test)]
+mod edition_3_tests;
 mod encoding;
 mod examples;
 mod fault;
@@ -13,6 +15,7 @@ pub mod laws;
 mod lent;
 pub mod listing;
 mod message_view;
+mod own_bits;
 mod ranges;
 mod report;
 mod report_examples;
@@ -25,5 +28,6 @@ pub use decoding::decode;
 pub use encoding::encode;
 pub use fault::EncodeFault;
 pub use message_view::View;
+pub use own_bits::canonical_of_read;
 pub use report::{Report, ReportHead, canonical, reports};
 pub use viewing::view;

@@ -3,15 +3,18 @@
 ghost use Rattle.std.specs.Prelude.{◌≡◌, ℕ, ◌-◌, ◌/◌, ◌≤◌, List, Bool, length, slice_get, Some, IfOk};
 ghost use Rattle.bufr_bits.specs.Bits.{bits};
 ghost use Rattle.bufr_tables.specs.Answers.{Gives, result_map};
+ghost use Rattle.bufr_tables.specs.Entries.{Entries};
 ghost use Rattle.bufr_data.specs.declared.field.Subset.{Subset};
 ghost use Rattle.bufr_data.specs.Data.{subsets_in};
 ghost use Rattle.bufr_sections.specs.SectionsRead.{envelope};
 ghost use Rattle.bufr_message.specs.Messages.{data_or, message_in, message_of, can_be_alone};
-ghost use Rattle.bufr_message.specs.Reports.{reports_of};
+ghost use Rattle.bufr_message.specs.Messages.{Spells};
+ghost use Rattle.bufr_message.specs.Reports.{reports_of, IsUnder};
 ghost use Rattle.bufr_message.specs.Views.{StandIn};
 
 use crate::alone::{are_short, is_short};
 use crate::decoding::template_of;
+use crate::laws::reports_have_canonical_messages;
 use crate::report::{Report, report_with};
 use bufr_bits::BitReader;
 use bufr_data::{ReadFault, Subset, SubsetIndex, data_hold_subsets};
@@ -115,9 +118,14 @@ impl<'a> View<'a> {
     pub fn report(&self, alloc: Global, number: usize) -> Result<Report, OutOfMemory>
         requires first { 1 ≤ number }
         requires last { number ≤ length self.now.message.subsets }
-        ensures { IfOk result (λ r.
+        ensures is { IfOk result (λ r.
             slice_get (reports_of self.now.message) (number - 1) ≡ Some r) }
+        // Under tables by which octets spell the message it has a canonical message.
+        ensures under { (tables : Entries) (octets : List ℕ) (slack : ℕ)
+            → Spells tables self.now.message octets slack
+            → IfOk result (IsUnder tables) }
     {
+        reports_have_canonical_messages();
         let subset = self.subsets.subset(alloc, number)?;
         report_with(alloc, &self.head, self.observed, &self.descriptors, subset)
     }

@@ -73,7 +73,7 @@ impl ReportHead {
     }
 
     /// The head that says this with no octets for local use. It takes no memory.
-    fn with_no_local(&self, alloc: Global) -> Head
+    pub(crate) fn with_no_local(&self, alloc: Global) -> Head
         ensures { result ≡ with_no_local self.now }
     {
         Head {

@@ -1,8 +1,11 @@
 //! Worked examples of reports and their canonical messages.
 
 ghost use Rattle.std.specs.Prelude.{◌≡◌, false, [], ◌∷◌, Some, codes};
-ghost use Rattle.bufr_message.specs.Samples.{elements_only, local_octets_and_slack, distinct_head, compressed, edition_3_of};
-ghost use Rattle.bufr_message.specs.ReportSamples.{reports, canonicals, observed_flags, in_sequences, plain_pair, distinct_alone, edition_3_alone};
+ghost use Rattle.bufr_message.specs.Samples.{elements_only, local_octets_and_slack};
+ghost use Rattle.bufr_message.specs.Samples.{distinct_head, compressed, edition_3_of};
+ghost use Rattle.bufr_message.specs.ReportSamples.{reports, canonicals, observed_flags};
+ghost use Rattle.bufr_message.specs.ReportSamples.{in_sequences, plain_pair, distinct_alone};
+ghost use Rattle.bufr_message.specs.ReportSamples.{edition_3_alone};
 
 /// The reports of compressed subsets are those of the same subsets, plain.
 #[tactic(auto, unfolding(crate::proofs::OnLiterals::messages_on_literals))]
@@ -22,7 +25,8 @@ pub fn canonical_messages_of_a_pair()
 pub fn canonical_messages()
     ensures local { canonicals local_octets_and_slack ≡ Some elements_only ∷ [] }
     ensures distinct { canonicals distinct_head ≡ Some (distinct_alone (codes "80")) ∷ [] }
-    ensures unobserved { canonicals (distinct_alone (codes "00")) ≡ Some (distinct_alone (codes "00")) ∷ [] }
+    ensures unobserved { canonicals (distinct_alone (codes "00"))
+        ≡ Some (distinct_alone (codes "00")) ∷ [] }
     ensures edition_3 { canonicals (edition_3_of (codes "18")) ≡ Some edition_3_alone ∷ [] }
     ensures flags { observed_flags (distinct_alone (codes "00")) ≡ false ∷ [] }
 {}

@@ -162,3 +162,12 @@ pub(crate) const DISTINCT_HEAD: &str = "\
 /// A text of each side of what is printed as it is, with a quote and a backslash.
 pub(crate) const CHARACTERS: &str =
     "42554652 00003B 04 | S1 | 00000B 00 0001 80 880A 010B | 00000E 00 1F2021227D7E7F5C0AFF | END";
+
+/// Two compressed subsets whose temperatures are 27315 and missing: 68 octets.
+pub(crate) const COMPRESSED_PAIR: &str = "\
+42554652 000044 04 | S1 | 00000F 00 0002 C0 C101 C10B C10C 0C65
+| 000013 00 14030003F400201E03000006AB3050 | END";
+
+/// Texts of three characters, compressed, the first filled with a space, the second missing.
+pub(crate) const COMPRESSED_TEXTS: &str = "\
+42554652 000039 04 | S1 | 00000B 00 0002 C0 8803 010B | 00000C 00 00000009050BFFFC | END";

@@ -11,8 +11,8 @@ use bufr_sections::Refused;
 use bufr_tables::{Failure, Tables};
 use std::alloc::Global;
 
-/// The message that octets spell, none of whose subsets is built yet. The octets are refused exactly
-/// as `decode` refuses them. `OutOfMemory` where a growth was refused.
+/// The message that octets spell, none of whose subsets is built yet. The octets are refused
+/// exactly as `decode` refuses them. `OutOfMemory` where a growth was refused.
 pub fn view<'a>(
     alloc: Global,
     tables: &Tables,
@@ -29,3 +29,6 @@ pub fn view<'a>(
     messages_are_spelt();
     view_of(alloc, tables, octets)
 }
+
+#[cfg(test)]
+mod tests;

@@ -1,22 +1,26 @@
 -- What an answer says of the steps that it was made by: for the laws of sections and of messages.
-use Rattle.std.proofs.Common.{◌≡◌, ◌⊎◌, Bool, true, false, not, cond, Result, Ok, Err, refl, ap, subst, inl, inr}
+use Rattle.std.proofs.Common.{◌≡◌, ◌⊎◌, Bool, true, false, not, cond, Result, Ok, Err, refl, ap}
+use Rattle.std.proofs.Common.{subst, inl, inr}
 use Rattle.std.specs.Prelude.{◌||◌, IsOk}
 use Rattle.bufr_tables.specs.Answers.{◌>>=◌, Fails}
 use Rattle.bufr_tables.specs.declared.failure.Failure.{Failure}
 use Rattle.bufr_tables.specs.declared.failure.Failure.TheVariants.{Fault}
 
 -- what was answered first, and what was made of it
-pub bind_ok : {A B F : Type 0} (x : Result A F) (f : A → Result B F) (y : B) → (x >>= f) ≡ Ok y → (a : A) × (x ≡ Ok a) × (f a ≡ Ok y)
+pub bind_ok : {A B F : Type 0} (x : Result A F) (f : A → Result B F) (y : B) → (x >>= f) ≡ Ok y
+    → (a : A) × (x ≡ Ok a) × (f a ≡ Ok y)
 bind_ok (Ok a) f y e = (a, refl, e)
 bind_ok (Err fault) f y e = absurd cc
 
 -- a test that was passed
-pub guard_ok : {A F : Type 0} (b : Bool) (fault : F) (x : Result A F) (y : A) → cond b (Err fault) x ≡ Ok y → (b ≡ false) × (x ≡ Ok y)
+pub guard_ok : {A F : Type 0} (b : Bool) (fault : F) (x : Result A F) (y : A)
+    → cond b (Err fault) x ≡ Ok y → (b ≡ false) × (x ≡ Ok y)
 guard_ok true fault x y e = absurd cc
 guard_ok false fault x y e = (refl, e)
 
 -- a test without which there is a fault
-pub passed_ok : {A F : Type 0} (b : Bool) (x : A) (fault : F) (y : A) → cond b (Ok x) (Err fault) ≡ Ok y → (b ≡ true) × (x ≡ y)
+pub passed_ok : {A F : Type 0} (b : Bool) (x : A) (fault : F) (y : A)
+    → cond b (Ok x) (Err fault) ≡ Ok y → (b ≡ true) × (x ≡ y)
 passed_ok true x fault y e = (refl, cc)
 passed_ok false x fault y e = absurd cc
 
@@ -29,6 +33,7 @@ pub or_first : (a b : Bool) → (a || b) ≡ false → a ≡ false
 or_first true b e = absurd cc
 or_first false b e = refl
 
+-- where neither of two tests holds, the second does not
 pub or_second : (a b : Bool) → (a || b) ≡ false → b ≡ false
 or_second true b e = absurd cc
 or_second false b e = e
@@ -44,8 +49,10 @@ ok_value (Ok a) h = (a, refl)
 ok_value (Err fault) h = absurd cc
 
 -- a failure that is a fault tells it
-pub told_fault : {Y F : Type 0} (e : Failure F) (f : F) (meant : Result Y F) → e ≡ Fault f → Fails e meant → meant ≡ Err f
-told_fault {Y} {F} e f meant is told = let here = subst (λ (e : Failure F). Fails e meant) is told in here
+pub told_fault : {Y F : Type 0} (e : Failure F) (f : F) (meant : Result Y F) → e ≡ Fault f
+    → Fails e meant → meant ≡ Err f
+told_fault {Y} {F} e f meant is told = let here =
+    subst (λ (e : Failure F). Fails e meant) is told in here
 
 -- a fault is that of the first step, or of what was made of its answer
 pub bind_err : {A B F : Type 0} (x : Result A F) (f : A → Result B F) (fault : F)

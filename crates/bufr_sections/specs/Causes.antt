@@ -1,11 +1,18 @@
 -- Why octets are not the sections of a message: the causes are tests of the octets at their places,
 -- in the order in which they are looked for (FM 94 BUFR, WMO-No. 306 Volume I.2: regulations 94.1
 -- and 94.2 and the specifications of sections 0 to 5).
-use Rattle.std.specs.Prelude.{◌≡◌, ℕ, ◌+◌, ◌-◌, ◌==◌, ◌||◌, ◌&&◌, not, Bool, true, false, Option, Some, None, List, [], ◌∷◌, ◌++◌, length, take, drop, get_or, All, codes, bytes_eq, nat_lt, nat_le, if◌then◌else◌}
+use Rattle.std.specs.Prelude.{◌≡◌, ℕ, ◌+◌, ◌-◌, ◌==◌, ◌||◌, ◌&&◌, not, Bool, true, false, Option}
+use Rattle.std.specs.Prelude.{Some, None, List, [], ◌∷◌, ◌++◌, length, take, drop, get_or, All}
+use Rattle.std.specs.Prelude.{codes, bytes_eq, nat_lt, nat_le, if◌then◌else◌}
 use Rattle.bufr_sections.specs.declared.layout.Layout.{Layout}
 use Rattle.bufr_sections.specs.declared.fault.Refused.{Refused}
-use Rattle.bufr_sections.specs.declared.fault.Refused.TheVariants.{NotBufr, Edition, TotalLength, NoEnd, Section1Length, MasterTable, Section2Length, Section3Length, Section4Length, Template, Data}
-use Rattle.bufr_sections.specs.Sections.{three, layout_of, shortest1, announcing, Envelope, Ignored, EnvelopeFits, spelling}
+use Rattle.bufr_sections.specs.declared.fault.Refused.TheVariants.{NotBufr, Edition, TotalLength}
+use Rattle.bufr_sections.specs.declared.fault.Refused.TheVariants.{NoEnd, Section1Length}
+use Rattle.bufr_sections.specs.declared.fault.Refused.TheVariants.{MasterTable, Section2Length}
+use Rattle.bufr_sections.specs.declared.fault.Refused.TheVariants.{Section3Length, Section4Length}
+use Rattle.bufr_sections.specs.declared.fault.Refused.TheVariants.{Template, Data}
+use Rattle.bufr_sections.specs.Sections.{three, layout_of, shortest1, announcing, Envelope, Ignored}
+use Rattle.bufr_sections.specs.Sections.{EnvelopeFits, spelling}
 
 -- ---- places, counted from 0: octet 8 stands at place 7
 
@@ -70,7 +77,8 @@ causes_in (Some layout) octets =
     ∷ (
       Section4Length,
       no_section octets 4 (place4 layout octets)
-          || not (place4 layout octets + length_at octets (place4 layout octets) == room_end octets),
+          || not (place4 layout octets + length_at octets (place4 layout octets)
+          == room_end octets),
     )
     ∷ []
 
@@ -95,6 +103,7 @@ HasSections octets e =
 
 -- ---- which causes are those of the sections: M1 to M9
 
+-- whether a fault is one of the sections, before the template and the data
 abbrev pub is_of_sections : Refused → Bool
 is_of_sections (Template why) = false
 is_of_sections (Data why) = false

@@ -3,7 +3,11 @@ use Rattle.std.specs.Prelude.{ℕ, List, ◌++◌, codes, decimal}
 use Rattle.bufr_expand.specs.Reasons.{template_reason}
 use Rattle.bufr_data.specs.Reasons.{read_reason}
 use Rattle.bufr_sections.specs.declared.fault.Refused.{Refused}
-use Rattle.bufr_sections.specs.declared.fault.Refused.TheVariants.{NotBufr, Edition, TotalLength, NoEnd, Section1Length, MasterTable, Section2Length, Section3Length, Section4Length, Template, Data}
+use Rattle.bufr_sections.specs.declared.fault.Refused.TheVariants.{NotBufr, Edition, TotalLength}
+use Rattle.bufr_sections.specs.declared.fault.Refused.TheVariants.{NoEnd, Section1Length}
+use Rattle.bufr_sections.specs.declared.fault.Refused.TheVariants.{MasterTable, Section2Length}
+use Rattle.bufr_sections.specs.declared.fault.Refused.TheVariants.{Section3Length, Section4Length}
+use Rattle.bufr_sections.specs.declared.fault.Refused.TheVariants.{Template, Data}
 
 -- the reason that octets spell no message
 unfoldable pub reason : Refused → List ℕ

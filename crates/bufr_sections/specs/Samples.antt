@@ -1,5 +1,6 @@
 -- What the examples speak of.
-use Rattle.std.specs.Prelude.{ℕ, ◌*◌, ◌+◌, Bool, true, false, List, [], ◌∷◌, ◌++◌, codes, option_to_list, Option, Some}
+use Rattle.std.specs.Prelude.{ℕ, ◌*◌, ◌+◌, Bool, true, false, List, [], ◌∷◌, ◌++◌, codes}
+use Rattle.std.specs.Prelude.{option_to_list, Option, Some}
 use Rattle.std.specs.List.{flat_map}
 use Rattle.hex.specs.Hex.{hex_digit_value}
 use Rattle.bufr_sections.specs.declared.message.Head.{Head}
@@ -9,10 +10,12 @@ use Rattle.bufr_sections.specs.Sections.{Envelope}
 abbrev pub hex_digits : List ℕ → List ℕ
 hex_digits text = flat_map (λ c. option_to_list (hex_digit_value c)) text
 
+-- the octets that pairs of hexadecimal digits spell
 abbrev pub pairs : List ℕ → List ℕ
 pairs (a ∷ b ∷ rest) = (16 * a + b) ∷ pairs rest
 pairs _ = []
 
+-- the same, with spaces between them left out
 abbrev pub hex : List ℕ → List ℕ
 hex text = pairs (hex_digits text)
 
@@ -92,6 +95,7 @@ head3 =
       local = 13 ∷ [];
     }
 
+-- what the octets of edition 3 say, with or without a section 2
 abbrev pub said3 : Option (List ℕ) → Envelope
 said3 section2 =
     record {
@@ -111,6 +115,7 @@ octets3 =
     ++ hex (codes "000012 00 01 02 03 7F 04 05 06 07 08 09 0A 0B 0C 0D")
     ++ hex (codes "000009 00 0001 80 1718") ++ hex (codes "000004 00") ++ hex (codes "37373737")
 
+-- the octets of edition 3 with a section 2
 abbrev pub octets3_with_section2 : List ℕ
 octets3_with_section2 =
     hex (codes "42554652 000030 03")
@@ -133,6 +138,7 @@ abbrev pub usual1 : List ℕ → List ℕ → List ℕ
 usual1 start flags =
     hex (start ++ codes "0062 0000 00" ++ flags ++ codes "00 02 00 25 00 07E8 01 0F 0C 00 00")
 
+-- section 1 of a message without section 2
 abbrev pub plain1 : List ℕ
 plain1 = usual1 (codes "000016 00") (codes "00")
 

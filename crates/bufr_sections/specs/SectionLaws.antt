@@ -4,7 +4,8 @@ use Rattle.bufr_sections.specs.declared.layout.Layout.{Layout}
 use Rattle.bufr_sections.specs.declared.layout.Layout.TheVariants.{Edition4}
 use Rattle.bufr_sections.specs.declared.fault.Refused.{Refused}
 use Rattle.bufr_sections.specs.Causes.{HasSections, IsFirstRefusal, is_of_sections}
-use Rattle.bufr_sections.specs.Sections.{Envelope, Ignored, AreOctets, EnvelopeFits, section2, spelling, envelope_of}
+use Rattle.bufr_sections.specs.Sections.{Envelope, Ignored, AreOctets, EnvelopeFits, section2}
+use Rattle.bufr_sections.specs.Sections.{spelling, envelope_of}
 use Rattle.bufr_sections.specs.Spelt.{bare}
 
 -- the sections that are read of octets are spelt so
@@ -36,8 +37,8 @@ SectionsRefusedForTheirs =
     (octets : List ℕ) (fault : Refused)
     → envelope_of octets ≡ Err fault → is_of_sections fault ≡ true
 
--- sections that have no more octets in any part are, with nothing in what is free, no longer than any
--- spelling of the others in edition 4
+-- sections that have no more octets in any part are, with nothing in what is free, no longer than
+-- any spelling of the others in edition 4
 abbrev pub BareSpellingsAreShortest : Type 0
 BareSpellingsAreShortest = (e small : Envelope) (ignored : Ignored)
     → length small.head.local ≤ length e.head.local

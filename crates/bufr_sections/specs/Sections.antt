@@ -1,14 +1,20 @@
 -- The sections of a message, with no regard to what the data bits mean (FM 94 BUFR, WMO-No. 306
 -- Volume I.2: regulations 94.1 and 94.2 and the specifications of sections 0 to 5).
 use Rattle.bufr_tables.specs.Answers.{◌>>=◌}
-use Rattle.std.specs.Prelude.{◌≡◌, ℕ, ◌+◌, ◌-◌, ◌*◌, ◌/◌, ◌%◌, ◌^◌, ◌<◌, ◌≤◌, ◌==◌, ◌||◌, not, Bool, true, false, List, [], ◌∷◌, ◌++◌, length, take, drop, All, codes, bytes_eq, Option, Some, None, IfSome, Result, Ok, Err, nat_lt, nat_le, if◌then◌else◌}
+use Rattle.std.specs.Prelude.{◌≡◌, ℕ, ◌+◌, ◌-◌, ◌*◌, ◌/◌, ◌%◌, ◌^◌, ◌<◌, ◌≤◌, ◌==◌, ◌||◌, not, Bool}
+use Rattle.std.specs.Prelude.{true, false, List, [], ◌∷◌, ◌++◌, length, take, drop, All, codes}
+use Rattle.std.specs.Prelude.{bytes_eq, Option, Some, None, IfSome, Result, Ok, Err, nat_lt, nat_le}
+use Rattle.std.specs.Prelude.{if◌then◌else◌}
 use Rattle.std.specs.List.{flat_map}
 use Rattle.std.specs.Int.{bytes_high_first}
 use Rattle.bufr_sections.specs.declared.message.Head.{Head}
 use Rattle.bufr_sections.specs.declared.layout.Layout.{Layout}
 use Rattle.bufr_sections.specs.declared.layout.Layout.TheVariants.{Edition4, Edition3}
 use Rattle.bufr_sections.specs.declared.fault.Refused.{Refused}
-use Rattle.bufr_sections.specs.declared.fault.Refused.TheVariants.{NotBufr, Edition, TotalLength, NoEnd, Section1Length, MasterTable, Section2Length, Section3Length, Section4Length}
+use Rattle.bufr_sections.specs.declared.fault.Refused.TheVariants.{NotBufr, Edition, TotalLength}
+use Rattle.bufr_sections.specs.declared.fault.Refused.TheVariants.{NoEnd, Section1Length}
+use Rattle.bufr_sections.specs.declared.fault.Refused.TheVariants.{MasterTable, Section2Length}
+use Rattle.bufr_sections.specs.declared.fault.Refused.TheVariants.{Section3Length, Section4Length}
 
 -- what the sections say
 pub record Envelope : Type 0 where
@@ -70,10 +76,12 @@ year_of_century n = if nat_lt n 70 then 2000 + n else 1900 + n
 abbrev pub section : List ℕ → List ℕ
 section contents = bytes_high_first 3 (3 + length contents) ++ contents
 
+-- a bit of an octet, where a flag is set
 abbrev pub flag : Bool → ℕ → ℕ
 flag true weight = weight
 flag false weight = 0
 
+-- whether there is a section 2
 abbrev pub is_present : Option (List ℕ) → Bool
 is_present None = false
 is_present (Some local) = true
@@ -90,19 +98,23 @@ head_octets Edition3 h announced i =
     ∷ h.local_category ∷ h.master_version ∷ h.local_version ∷ i.year_octet
     ∷ h.month ∷ h.day ∷ h.hour ∷ h.minute ∷ h.local
 
+-- section 1 of an edition
 abbrev pub section1 : Layout → Head → Bool → Ignored → List ℕ
 section1 layout h announced i = section (head_octets layout h announced i)
 
+-- section 2, where there is one
 abbrev pub section2 : Option (List ℕ) → ℕ → List ℕ
 section2 None ignored = []
 section2 (Some local) ignored = section (ignored ∷ local)
 
+-- section 3
 abbrev pub section3 : Envelope → Ignored → List ℕ
 section3 e i = section
     (i.octet3 ∷ bytes_high_first 2 e.count
     ++ (flag e.observed 128 + flag e.compressed 64 + i.bits3)
     ∷ flat_map (bytes_high_first 2) e.descriptors ++ i.odd)
 
+-- section 4
 abbrev pub section4 : List ℕ → ℕ → List ℕ
 section4 contents ignored = section (ignored ∷ contents)
 
@@ -118,14 +130,17 @@ enclosed layout middle =
     codes "BUFR" ++ bytes_high_first 3 (12 + length middle)
     ++ edition_number layout ∷ middle ++ codes "7777"
 
+-- the octets of sections, from section 0 to section 5
 unfoldable pub spelling : Layout → Envelope → Ignored → List ℕ
 spelling layout e i = enclosed layout (sections layout e i)
 
 -- ---- what has a spelling
 
+-- a number below 256
 abbrev pub IsOctet : ℕ → Type 0
 IsOctet n = n < 2 ^ 8
 
+-- each is an octet
 abbrev pub AreOctets : List ℕ → Type 0
 AreOctets octets = All IsOctet octets
 
@@ -190,6 +205,7 @@ pub record EnvelopeFits (layout : Layout) (e : Envelope) (i : Ignored) : Type 0 
 abbrev pub three : ℕ → ℕ → ℕ → ℕ
 three a b c = 65536 * a + 256 * b + c
 
+-- a number of two octets, the high one first
 abbrev pub two : ℕ → ℕ → ℕ
 two a b = 256 * a + b
 
@@ -302,6 +318,7 @@ pub record Description : Type 0 where
   pub compressed : Bool
   pub descriptors : List ℕ
 
+-- what section 3 says
 unfoldable pub description_of : List ℕ → Result Description Refused
 description_of (ignored ∷ n1 ∷ n2 ∷ flags ∷ list) =
     Ok (
@@ -318,6 +335,7 @@ description_of _ = Err Section3Length
 abbrev pub contents_of : List ℕ × List ℕ → Result (List ℕ) Refused
 contents_of found = if length found.1 == 0 then Ok (drop 1 found.0) else Err Section4Length
 
+-- the sections of an edition, or the first fault
 unfoldable pub sections_of : Layout → List ℕ → Result Envelope Refused
 sections_of layout room = do
   one ← section_at (shortest1 layout) Section1Length room

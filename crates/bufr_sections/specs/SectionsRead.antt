@@ -7,6 +7,7 @@ use Rattle.bufr_sections.specs.declared.envelope.Parts.{Parts}
 use Rattle.bufr_sections.specs.declared.sections.Description.{Description}
 use Rattle.bufr_sections.specs.Sections as said
 
+-- the sections as the definitions see them
 abbrev pub envelope : Envelope → said.Envelope
 envelope e =
     record {

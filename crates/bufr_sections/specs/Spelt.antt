@@ -1,11 +1,13 @@
 -- The octets that are written for the sections of a message (FM 94 BUFR, WMO-No. 306 Volume I.2:
 -- sections 0 to 5): edition 4, with nothing in what is free.
-use Rattle.std.specs.Prelude.{ℕ, ◌+◌, ◌||◌, Bool, List, ◌∷◌, ◌++◌, length, Result, Ok, Err, nat_lt, if◌then◌else◌}
+use Rattle.std.specs.Prelude.{ℕ, ◌+◌, ◌||◌, Bool, List, ◌∷◌, ◌++◌, length, Result, Ok, Err, nat_lt}
+use Rattle.std.specs.Prelude.{if◌then◌else◌}
 use Rattle.std.specs.List.{flat_map}
 use Rattle.std.specs.Int.{bytes_high_first}
 use Rattle.bufr_data.specs.declared.fault.WriteFault.{WriteFault}
 use Rattle.bufr_data.specs.declared.fault.WriteFault.TheVariants.{TooLarge}
 use Rattle.bufr_sections.specs.declared.layout.Layout.TheVariants.{Edition4}
+use Rattle.bufr_sections.specs.declared.spelling.TheConstants.{LONGEST, MOST_SUBSETS}
 use Rattle.bufr_sections.specs.Sections.{Envelope, nothing_ignored, section, flag, spelling}
 
 -- section 3 with nothing in what is free
@@ -16,11 +18,11 @@ bare_section3 count observed compressed descriptors = section
 
 -- the greatest number of subsets: it stands in two octets of section 3
 abbrev pub most_subsets : ℕ
-most_subsets = 65535
+most_subsets = MOST_SUBSETS
 
 -- the greatest number of octets: it stands in three octets of section 0
 abbrev pub longest : ℕ
-longest = 16777215
+longest = LONGEST
 
 -- the octets of these sections with nothing in what is free
 abbrev pub bare : Envelope → List ℕ

@@ -1,11 +1,15 @@
 //! Worked examples of the definitions: the place of each octet, and each length at both sides of
 //! its threshold.
 
-ghost use Rattle.std.specs.Prelude.{◌≡◌, ◌++◌, Ok, Err, IsOk, Some, None, true, false, [], ◌∷◌, take, codes};
+ghost use Rattle.std.specs.Prelude.{◌≡◌, ◌++◌, Ok, Err, IsOk, Some, None, true, false, [], ◌∷◌};
+ghost use Rattle.std.specs.Prelude.{take, codes};
 ghost use Rattle.bufr_data.specs.declared.fault.WriteFault.TheVariants.{TooLarge};
-ghost use Rattle.bufr_sections.specs.Sections.{three, two, layout_of, year_of_century, envelope_of, descriptors_of};
+ghost use Rattle.bufr_sections.specs.Sections.{three, two, layout_of, year_of_century, envelope_of};
+ghost use Rattle.bufr_sections.specs.Sections.{descriptors_of};
 ghost use Rattle.bufr_sections.specs.Spelt.{bare, spelt_or, longest};
-ghost use Rattle.bufr_sections.specs.Samples.{hex, said4, octets4, octets4_filled, said3, octets3, octets3_with_section2, many_subsets, framed, usual1, plain1, announcing1, short_section3};
+ghost use Rattle.bufr_sections.specs.Samples.{hex, said4, octets4, octets4_filled, said3, octets3};
+ghost use Rattle.bufr_sections.specs.Samples.{octets3_with_section2, many_subsets, framed, usual1};
+ghost use Rattle.bufr_sections.specs.Samples.{plain1, announcing1, short_section3};
 
 use crate::fault::Refused;
 
@@ -68,9 +72,11 @@ pub fn starts_refused()
 /// Sections 1 that are refused: an octet too few in each edition, and another master table.
 #[tactic(auto, unfolding(crate::proofs::OnLiterals::sections_on_literals))]
 pub fn sections_1_refused()
-    ensures short { envelope_of (framed (codes "000021 04") (take 21 (usual1 (codes "000015 00") (codes "00"))))
+    ensures short { envelope_of (framed (codes "000021 04")
+        (take 21 (usual1 (codes "000015 00") (codes "00"))))
         ≡ Err Refused.Section1Length }
-    ensures long { envelope_of (framed (codes "000022 04") (usual1 (codes "000017 00") (codes "00")))
+    ensures long { envelope_of (framed (codes "000022 04")
+        (usual1 (codes "000017 00") (codes "00")))
         ≡ Err Refused.Section1Length }
     ensures passed { envelope_of (framed (codes "000022 04") plain1) ≡ Err Refused.Section3Length }
     ensures short3 { envelope_of (framed (codes "00001C 03")
@@ -79,7 +85,8 @@ pub fn sections_1_refused()
     ensures passed3 { envelope_of (framed (codes "00001D 03")
         (hex (codes "000011 00 00 62 00 00 00 02 25 00 18 01 0F 0C 00")))
         ≡ Err Refused.Section3Length }
-    ensures table { envelope_of (framed (codes "000022 04") (usual1 (codes "000016 0A") (codes "00")))
+    ensures table { envelope_of (framed (codes "000022 04")
+        (usual1 (codes "000016 0A") (codes "00")))
         ≡ Err (Refused.MasterTable 10) }
 {}
 
@@ -89,11 +96,14 @@ pub fn sections_1_refused()
 pub fn later_sections_refused()
     ensures short2 { envelope_of (framed (codes "000025 04") (announcing1 ++ hex (codes "000003")))
         ≡ Err Refused.Section2Length }
-    ensures passed2 { envelope_of (framed (codes "000026 04") (announcing1 ++ hex (codes "000004 00")))
+    ensures passed2 { envelope_of (framed (codes "000026 04")
+        (announcing1 ++ hex (codes "000004 00")))
         ≡ Err Refused.Section3Length }
-    ensures short3 { envelope_of (framed (codes "00002A 04") (plain1 ++ hex (codes "000008 00 0001 80 00")))
+    ensures short3 { envelope_of (framed (codes "00002A 04")
+        (plain1 ++ hex (codes "000008 00 0001 80 00")))
         ≡ Err Refused.Section3Length }
-    ensures short4 { envelope_of (framed (codes "00002E 04") (plain1 ++ short_section3 ++ hex (codes "000003")))
+    ensures short4 { envelope_of (framed (codes "00002E 04")
+        (plain1 ++ short_section3 ++ hex (codes "000003")))
         ≡ Err Refused.Section4Length }
     ensures passed4 { IsOk (envelope_of (framed (codes "00002F 04")
         (plain1 ++ short_section3 ++ hex (codes "000004 00")))) }

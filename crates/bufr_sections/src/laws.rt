@@ -1,6 +1,9 @@
 //! Laws of the sections of messages and the octets that they stand in.
 
-ghost use Rattle.bufr_sections.specs.SectionLaws.{SectionsReadAreSpelt, SectionsSpeltAreRead, SectionsRefusedGiveFirst, FirstGivenIsAnswered, SectionsRefusedForTheirs, BareSpellingsAreShortest};
+ghost use Rattle.bufr_sections.specs.SectionLaws.{SectionsReadAreSpelt, SectionsSpeltAreRead};
+ghost use Rattle.bufr_sections.specs.SectionLaws.{SectionsRefusedGiveFirst, FirstGivenIsAnswered};
+ghost use Rattle.bufr_sections.specs.SectionLaws.{SectionsRefusedForTheirs};
+ghost use Rattle.bufr_sections.specs.SectionLaws.{BareSpellingsAreShortest};
 
 /// The sections that are read of octets are those that the octets spell, and no others.
 pub fn sections_are_spelt()

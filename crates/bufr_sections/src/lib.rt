@@ -17,7 +17,7 @@ pub use fault::Refused;
 pub use layout::Layout;
 pub use message::{Decoded, Head, Message};
 pub use sections::read_sections;
-pub use spelling::spell;
+pub use spelling::{LONGEST, MOST_SUBSETS, spell};
 
 #[cfg(test)]
 mod tests;

@@ -3,7 +3,8 @@
 ghost use Rattle.std.specs.Prelude.{◌≡◌, ◌+◌, ◌*◌, ◌<◌, ◌^◌, ◌++◌, ◌∷◌, [], length, OnOk};
 ghost use Rattle.std.specs.List.{flat_map};
 ghost use Rattle.std.specs.Int.{byte_at, bytes_high_first};
-ghost use Rattle.bufr_sections.specs.Sections.{section, section1, section2, section4, flag, nothing_ignored};
+ghost use Rattle.bufr_sections.specs.Sections.{section, section1, section2, section4, flag};
+ghost use Rattle.bufr_sections.specs.Sections.{nothing_ignored};
 ghost use Rattle.bufr_sections.specs.Spelt.{bare_section3};
 ghost use Rattle.bufr_sections.specs.declared.layout.Layout.TheVariants.{Edition4};
 

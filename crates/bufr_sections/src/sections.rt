@@ -3,7 +3,10 @@
 ghost use Rattle.std.specs.Prelude.{◌≡◌, List, ℕ, Bool, Option, ◌≤◌, IfOk, length, drop};
 ghost use Rattle.bufr_tables.specs.Answers.{Gives};
 ghost use Rattle.bufr_sections.specs.declared.message.Head.{Head};
-ghost use Rattle.bufr_sections.specs.Sections.{three, two, section_at, room_in, room_of, head4_of, head3_of, head_of, year_of_century, local_at, descriptors_of, description_of, contents_of, sections_of, envelope_of};
+ghost use Rattle.bufr_sections.specs.Sections.{three, two, section_at, room_in, room_of, head4_of};
+ghost use Rattle.bufr_sections.specs.Sections.{head3_of, head_of, year_of_century, local_at};
+ghost use Rattle.bufr_sections.specs.Sections.{descriptors_of, description_of, contents_of};
+ghost use Rattle.bufr_sections.specs.Sections.{sections_of, envelope_of};
 ghost use Rattle.bufr_sections.specs.SectionsRead.{envelope, description, head_with, head3_with};
 
 use crate::envelope::Envelope;

@@ -14,11 +14,11 @@ use bufr_data::WriteFault;
 use bufr_tables::{Failure, Items, OutOfMemory};
 use std::alloc::Global;
 
-/// The greatest number of octets of a message.
-const LONGEST: u128 = 16_777_215;
+/// The greatest number of octets of a message: it stands in three octets of section 0.
+pub const LONGEST: u128 = 16_777_215;
 
-/// The greatest number of subsets of a message.
-const MOST_SUBSETS: usize = 65_535;
+/// The greatest number of subsets of a message: it stands in two octets of section 3.
+pub const MOST_SUBSETS: usize = 65_535;
 
 /// How many octets section 2 has: none where there is none.
 fn section2_length(local: &Option<Items<u8>>) -> u128

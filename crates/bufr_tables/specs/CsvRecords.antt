@@ -1,7 +1,8 @@
 -- What a reader of `csv` over a slice has left, as a list of records.
 use Rattle.std.specs.Prelude.{ℕ, ◌+◌, ◌≡◌, true, false, List, [], Option, Some, None, length}
 use Rattle.std.specs.Borrow.{Bor}
-use Rattle.csv.specs.Reading.{records_from, default_config, source_of, has_failed, reader_state, reader_trim, reader_config, is_flexible, Ready}
+use Rattle.csv.specs.Reading.{records_from, default_config, source_of, has_failed, reader_state}
+use Rattle.csv.specs.Reading.{reader_trim, reader_config, is_flexible, Ready}
 use Rattle.csv.specs.declared.parser.State.{State}
 use Rattle.csv.specs.declared.reader.Reader.{Reader}
 use Rattle.csv.specs.declared.reader.Trim.TheVariants as trim
@@ -10,6 +11,7 @@ use Rattle.csv.specs.declared.reader.Trim.TheVariants as trim
 abbrev pub source : Reader (Bor (List ℕ)) → Option (List ℕ)
 source r = source_of (λ s. Some s.now) r
 
+-- the records that a reader in this state still has of its text
 abbrev pub left_from : State → Option (List ℕ) → List (List (List ℕ))
 left_from s None = []
 left_from s (Some bytes) = records_from default_config (length bytes + 2) s bytes

@@ -1,11 +1,14 @@
 -- Descriptors as six digits: for `Fxy::from_text`, the law `descriptor_texts` and whoever prints
 -- and reads them.
-use Rattle.std.proofs.Common.{◌≡◌, ◌≢◌, ◌∙◌, ℕ, ◌<◌, ◌≤◌, ◌&&◌, ◌+◌, ◌*◌, ◌-◌, ◌/◌, Bool, true, false, List, [], ◌∷◌, length, get_or, Some, None, refl, ap, sym, arith, inl, inr}
+use Rattle.std.proofs.Common.{◌≡◌, ◌≢◌, ◌∙◌, ℕ, ◌<◌, ◌≤◌, ◌&&◌, ◌+◌, ◌*◌, ◌-◌, ◌/◌, Bool, true}
+use Rattle.std.proofs.Common.{false, List, [], ◌∷◌, length, get_or, Some, None, refl, ap, sym}
+use Rattle.std.proofs.Common.{arith, inl, inr}
 use Rattle.std.proofs.lemmas.Bool.Decides.{nat_tests}
 use Rattle.std.proofs.lemmas.Bool.{cases_eq, cases_Bool}
 use Rattle.std.specs.Char.{is_ascii_digit}
 use Rattle.std.specs.List.{list_all}
-use Rattle.bufr_tables.specs.Descriptors.{of_text, in_ranges, digit_value, descriptor, six_digits, digit, f_of, x_of, y_of}
+use Rattle.bufr_tables.specs.Descriptors.{of_text, in_ranges, digit_value, descriptor, six_digits}
+use Rattle.bufr_tables.specs.Descriptors.{digit, f_of, x_of, y_of}
 
 -- a digit's range
 pub digit_range : (c : ℕ) → is_ascii_digit c ≡ true → (48 ≤ c) × (c ≤ 57)
@@ -117,12 +120,19 @@ and_six a b c d e g p q r s t u = rw (p, q, r, s, t, u)
 -- the six digits of a descriptor spell it
 pub of_text-six_digits : (d : ℕ) → d < 65536 → of_text (six_digits d) ≡ Some d
 of_text-six_digits d h =
-    let all : list_all is_ascii_digit (six_digits d) ≡ true = and_six _ _ _ _ _ _ (is_digit-digit (f_of d)) (is_digit-digit (x_of d / 10)) (is_digit-digit (x_of d)) (is_digit-digit (y_of d / 100)) (is_digit-digit (y_of d / 10)) (is_digit-digit (y_of d)) in
+    let all : list_all is_ascii_digit (six_digits d) ≡ true =
+    and_six _ _ _ _ _ _ (is_digit-digit (f_of d)) (is_digit-digit (x_of d / 10))
+    (is_digit-digit (x_of d)) (is_digit-digit (y_of d / 100)) (is_digit-digit (y_of d / 10))
+    (is_digit-digit (y_of d)) in
     let f : digit_value (digit (f_of d)) ≡ f_of d = omega arith in
-    let x : 10 * digit_value (digit (x_of d / 10)) + digit_value (digit (x_of d)) ≡ x_of d = omega arith in
-    let y : 100 * digit_value (digit (y_of d / 100)) + 10 * digit_value (digit (y_of d / 10)) + digit_value (digit (y_of d)) ≡ y_of d = omega arith in
+    let x : 10 * digit_value (digit (x_of d / 10)) + digit_value (digit (x_of d)) ≡ x_of d =
+    omega arith in
+    let y : 100 * digit_value (digit (y_of d / 100)) + 10 * digit_value (digit (y_of d / 10))
+    + digit_value (digit (y_of d)) ≡ y_of d = omega arith in
     let back : descriptor (f_of d) (x_of d) (y_of d) ≡ d = omega arith in
-    of_text-digits _ _ _ _ _ _ all ∙ rw (f, x, y) (in_ranges-within (f_of d) (x_of d) (y_of d) (omega arith) (omega arith) (omega arith) ∙ ap Some back)
+    of_text-digits _ _ _ _ _ _ all
+    ∙ rw (f, x, y) (in_ranges-within (f_of d) (x_of d) (y_of d) (omega arith) (omega arith)
+    (omega arith) ∙ ap Some back)
 
 -- a descriptor has 16 bits
 below_all : (d f x y : ℕ) → f ≤ 3 → x ≤ 63 → y ≤ 255 → d ≡ descriptor f x y → d < 65536
@@ -135,11 +145,16 @@ only_digits : (a b c k e g d : ℕ) (t : List ℕ)
     → of_text (a ∷ b ∷ c ∷ k ∷ e ∷ g ∷ []) ≡ Some d
     → (d < 65536) × (t ≡ six_digits d)
 only_digits a b c k e g d t shape all h =
-    let r1 = and_rest _ _ all in let r2 = and_rest _ _ r1 in let r3 = and_rest _ _ r2 in let r4 = and_rest _ _ r3 in let r5 = and_rest _ _ r4 in
-    let da = digit_range a (and_first _ _ all) in let db = digit_range b (and_first _ _ r1) in let dc = digit_range c (and_first _ _ r2) in
-    let dk = digit_range k (and_first _ _ r3) in let de = digit_range e (and_first _ _ r4) in let dg = digit_range g (and_first _ _ r5) in
-    let some = in_ranges-some _ _ _ d (sym (of_text-digits a b c k e g all) ∙ h) in
-    (below_all d _ _ _ some.0 some.1 some.2 some.3, shape ∙ sym (rw some.3 (six_digits-of a b c k e g da db dc dk de dg some.0 some.1 some.2)))
+    let r1 = and_rest _ _ all in let r2 = and_rest _ _ r1 in let r3 = and_rest _ _ r2 in let r4 =
+    and_rest _ _ r3 in let r5 = and_rest _ _ r4 in
+    let da = digit_range a (and_first _ _ all) in let db =
+    digit_range b (and_first _ _ r1) in let dc = digit_range c (and_first _ _ r2) in
+    let dk = digit_range k (and_first _ _ r3) in let de =
+    digit_range e (and_first _ _ r4) in let dg = digit_range g (and_first _ _ r5) in
+    let some = in_ranges-some _ _ _ d (sym (of_text-digits a b c k e g all) ∙ h) in (
+      below_all d _ _ _ some.0 some.1 some.2 some.3,
+      shape ∙ sym (rw some.3 (six_digits-of a b c k e g da db dc dk de dg some.0 some.1 some.2)),
+    )
 
 -- what spells a descriptor is its six digits
 pub of_text-only : (t : List ℕ) (d : ℕ) → of_text t ≡ Some d → (d < 65536) × (t ≡ six_digits d)
@@ -149,6 +164,7 @@ of_text-only t d h =
       | inl six ↦ elim (cases_Bool (list_all is_ascii_digit t)) [
         | inr other ↦ let none = of_text-other t other in absurd (cc)
         | inl all ↦ let shape = six_by_place t six in
-            only_digits (get_or t 0 0) (get_or t 1 0) (get_or t 2 0) (get_or t 3 0) (get_or t 4 0) (get_or t 5 0) d t shape (rw shape at all) (rw shape at h)
+            only_digits (get_or t 0 0) (get_or t 1 0) (get_or t 2 0) (get_or t 3 0) (get_or t 4 0)
+            (get_or t 5 0) d t shape (rw shape at all) (rw shape at h)
       ]
     ]

@@ -1,6 +1,7 @@
 -- Descriptors F XX YYY, each a number of 16 bits: F has 2 bits, X has 6, Y has 8 (FM 94 BUFR,
 -- section 3; regulation 94.1.4).
-use Rattle.std.specs.Prelude.{ℕ, ◌+◌, ◌-◌, ◌*◌, ◌/◌, ◌%◌, ◌^◌, ◌<◌, ◌&&◌, List, [], ◌∷◌, Option, Some, None, nat_le, if◌then◌else◌}
+use Rattle.std.specs.Prelude.{ℕ, ◌+◌, ◌-◌, ◌*◌, ◌/◌, ◌%◌, ◌^◌, ◌<◌, ◌&&◌, List, [], ◌∷◌, Option}
+use Rattle.std.specs.Prelude.{Some, None, nat_le, if◌then◌else◌}
 use Rattle.std.specs.Char.{is_ascii_digit}
 use Rattle.std.specs.List.{list_all}
 use Rattle.bufr_tables.specs.declared.fxy.TheConstants.{GREATEST_F, GREATEST_X, GREATEST_Y}
@@ -17,9 +18,11 @@ descriptor f x y = 16384 * f + 256 * x + y
 abbrev pub f_of : ℕ → ℕ
 f_of d = d / 16384
 
+-- its X: six bits
 abbrev pub x_of : ℕ → ℕ
 x_of d = d / 256 % 64
 
+-- its Y: eight bits
 abbrev pub y_of : ℕ → ℕ
 y_of d = d % 256
 
@@ -27,6 +30,7 @@ y_of d = d % 256
 abbrev pub digit : ℕ → ℕ
 digit n = 48 + n % 10
 
+-- the value of a digit
 abbrev pub digit_value : ℕ → ℕ
 digit_value c = c - 48
 

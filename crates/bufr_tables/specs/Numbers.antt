@@ -1,5 +1,7 @@
 -- Numbers in the fields of a table file: a sign or none, and at least one ASCII digit.
-use Rattle.std.specs.Prelude.{ℕ, zero, suc, ◌+◌, ◌-◌, ◌*◌, ◌^◌, ◌==◌, ◌&&◌, not, List, [], ◌∷◌, length, fold, Option, Some, None, option_map, option_and_then, ℤ, pos, negsuc, nat_lt, if◌then◌else◌}
+use Rattle.std.specs.Prelude.{ℕ, zero, suc, ◌+◌, ◌-◌, ◌*◌, ◌^◌, ◌==◌, ◌&&◌, not, List, [], ◌∷◌}
+use Rattle.std.specs.Prelude.{length, fold, Option, Some, None, option_map, option_and_then, ℤ, pos}
+use Rattle.std.specs.Prelude.{negsuc, nat_lt, if◌then◌else◌}
 use Rattle.std.specs.Char.{is_ascii_digit}
 use Rattle.std.specs.List.{list_all}
 use Rattle.bufr_tables.specs.Descriptors.{f_of, of_text}
@@ -23,6 +25,7 @@ negative (suc n) = negsuc n
 abbrev pub plus_sign : ℕ
 plus_sign = 43
 
+-- the sign of a number below 0
 abbrev pub minus_sign : ℕ
 minus_sign = 45
 
@@ -55,6 +58,7 @@ unsigned_fit width n = if nat_lt n (2 ^ width) then Some n else None
 abbrev pub signed_of : ℕ → List ℕ → Option ℤ
 signed_of width text = option_and_then (signed_fit width) (integer text)
 
+-- a number without sign of so many bits
 abbrev pub unsigned_of : ℕ → List ℕ → Option ℕ
 unsigned_of width text = option_and_then (unsigned_fit width) (unsigned text)
 

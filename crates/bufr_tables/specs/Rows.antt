@@ -1,6 +1,8 @@
 -- The rows of Tables B and D (FM 94 BUFR, Tables B and D, as the WMO publishes them in columns),
 -- and what a row adds to the rows before it.
-use Rattle.std.specs.Prelude.{ℕ, ◌==◌, Bool, List, [], ◌∷◌, ◌++◌, length, map, take, get_or, codes, bytes_eq, Option, Some, None, is_some, option_map, option_and_then, Result, Ok, Err, if◌then◌else◌}
+use Rattle.std.specs.Prelude.{ℕ, ◌==◌, Bool, List, [], ◌∷◌, ◌++◌, length, map, take, get_or, codes}
+use Rattle.std.specs.Prelude.{bytes_eq, Option, Some, None, is_some, option_map, option_and_then}
+use Rattle.std.specs.Prelude.{Result, Ok, Err, if◌then◌else◌}
 use Rattle.std.specs.Char.{to_ascii_lowercase}
 use Rattle.std.specs.Ordering.{nat_cmp}
 use Rattle.std.specs.BTreeMap.{insert_entry}
@@ -57,6 +59,7 @@ abbrev pub element_joins : List (ℕ × Element) → ℕ → Element → Option 
 element_joins rows d e None = Ok (insert_entry nat_cmp rows d e)
 element_joins rows d e (Some old) = if same_element old e then Ok rows else Err (Conflict d)
 
+-- the elements so far with the row of one more
 abbrev pub with_element : List (ℕ × Element) → ℕ × Element
     → Result (List (ℕ × Element)) TableFault
 with_element rows (d, e) = element_joins rows d e (at d rows)
@@ -92,5 +95,6 @@ member_joins so_far d m (Some o) =
     if o.0 == d then Ok (record { ended = so_far.ended; open_one = Some (d, o.1 ++ m ∷ []) })
     else begins (insert_entry nat_cmp so_far.ended o.0 o.1) d m
 
+-- the sequences so far with the row of one more member
 abbrev pub with_member : Sequences → ℕ × ℕ → Result Sequences TableFault
 with_member so_far (d, m) = member_joins so_far d m so_far.open_one

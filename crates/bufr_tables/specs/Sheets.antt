@@ -1,12 +1,14 @@
 -- Tables B and D of a file in the words of their rules (table files, this project's own), with no
 -- order of work: where the needed columns stand, what each record is, which rows a file has, and
 -- which fault is its first.
-use Rattle.std.specs.Prelude.{ℕ, ◌+◌, ◌<◌, ◌≡◌, ◌≢◌, ◌⊎◌, ◌↔◌, List, [], ◌∷◌, ◌++◌, length, map, get_or, flat_map, All, Contains, Option, Some, None}
+use Rattle.std.specs.Prelude.{ℕ, ◌+◌, ◌<◌, ◌≡◌, ◌≢◌, ◌⊎◌, ◌↔◌, List, [], ◌∷◌, ◌++◌, length, map}
+use Rattle.std.specs.Prelude.{get_or, flat_map, All, Contains, Option, Some, None}
 use Rattle.std.specs.List.{AllZip}
 use Rattle.bufr_tables.specs.declared.element.Element.{Element}
 use Rattle.bufr_tables.specs.declared.file.Column.{Column}
 use Rattle.bufr_tables.specs.declared.file.TableFault.{TableFault}
-use Rattle.bufr_tables.specs.declared.file.TableFault.TheVariants.{NoColumn, NotCsv, BadRow, Conflict, SplitSequence}
+use Rattle.bufr_tables.specs.declared.file.TableFault.TheVariants.{NoColumn, NotCsv, BadRow}
+use Rattle.bufr_tables.specs.declared.file.TableFault.TheVariants.{Conflict, SplitSequence}
 use Rattle.bufr_tables.specs.Entries.{Rising}
 use Rattle.bufr_tables.specs.Fields.{Record, used_fields}
 use Rattle.bufr_tables.specs.Rows.{element_row, member_row}

@@ -1,5 +1,7 @@
 -- Tables B and D as the records of CSV files, read in order, with the first fault.
-use Rattle.std.specs.Prelude.{ℕ, ◌≡◌, ◌+◌, ◌==◌, ◌||◌, not, Bool, List, [], ◌∷◌, length, map, get_or, codes, bytes_eq, Option, Some, None, position, Result, Ok, Err, if◌then◌else◌}
+use Rattle.std.specs.Prelude.{ℕ, ◌≡◌, ◌+◌, ◌==◌, ◌||◌, not, Bool, List, [], ◌∷◌, length, map}
+use Rattle.std.specs.Prelude.{get_or, codes, bytes_eq, Option, Some, None, position, Result, Ok}
+use Rattle.std.specs.Prelude.{Err, if◌then◌else◌}
 use Rattle.std.specs.List.{list_all}
 use Rattle.std.specs.Cmp.Lexicographic.{pointwise}
 use Rattle.csv.specs.Reading.{records, default_config, strip_bom}
@@ -10,7 +12,8 @@ use Rattle.bufr_tables.specs.declared.file.Column.TheVariants as columns
 use Rattle.bufr_tables.specs.declared.file.TableFault.{TableFault}
 use Rattle.bufr_tables.specs.declared.file.TableFault.TheVariants.{NoColumn, NotCsv, BadRow}
 use Rattle.bufr_tables.specs.Fields.{used_fields}
-use Rattle.bufr_tables.specs.Rows.{element_row, member_row, with_element, with_member, no_sequences, all_sequences}
+use Rattle.bufr_tables.specs.Rows.{element_row, member_row, with_element, with_member, no_sequences}
+use Rattle.bufr_tables.specs.Rows.{all_sequences}
 
 -- ---- the header
 
@@ -24,6 +27,7 @@ title columns.DataWidth = codes "BUFR_DataWidth_Bits"
 title columns.Fxy1 = codes "FXY1"
 title columns.Fxy2 = codes "FXY2"
 
+-- the place of a column, or that the header lacks it
 abbrev pub found_or_absent : Column → Option ℕ → Result ℕ TableFault
 found_or_absent column None = Err (NoColumn column)
 found_or_absent column (Some i) = Ok i
@@ -92,6 +96,7 @@ abbrev pub header_of : List (List (List ℕ)) → List (List ℕ)
 header_of [] = []
 header_of (raw ∷ rest) = used_fields raw
 
+-- the records behind the header
 abbrev pub rows_of : List (List (List ℕ)) → List (List (List ℕ))
 rows_of [] = []
 rows_of (raw ∷ rest) = rest
@@ -119,6 +124,7 @@ abbrev pub columns_b : List Column
 columns_b =
     columns.Fxy ∷ columns.Unit ∷ columns.Scale ∷ columns.ReferenceValue ∷ columns.DataWidth ∷ []
 
+-- the columns of a Table D
 abbrev pub columns_d : List Column
 columns_d = columns.Fxy1 ∷ columns.Fxy2 ∷ []
 

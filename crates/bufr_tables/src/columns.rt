@@ -1,12 +1,14 @@
 //! The columns of a table file.
 
-ghost use Rattle.std.specs.Prelude.{◌≡◌, ◌||◌, ◌==◌, length, map, bytes_eq, option_map, position, IfOk};
+ghost use Rattle.std.specs.Prelude.{◌≡◌, ◌||◌, ◌==◌, length, map, bytes_eq, option_map, position};
+ghost use Rattle.std.specs.Prelude.{IfOk};
 ghost use Rattle.std.specs.List.{list_all};
 ghost use Rattle.std.specs.Cmp.Lexicographic.{pointwise};
 ghost use Rattle.csv.specs.Records.{fields_of};
 ghost use Rattle.bufr_tables.specs.Answers.{Gives};
 ghost use Rattle.bufr_tables.specs.Fields.{used_fields};
-ghost use Rattle.bufr_tables.specs.TableFiles.{title, column_at, columns_at, cells_at, row_cells, TakesHeader};
+ghost use Rattle.bufr_tables.specs.TableFiles.{title, column_at, columns_at, cells_at, row_cells};
+ghost use Rattle.bufr_tables.specs.TableFiles.{TakesHeader};
 
 use crate::csv_records::Records;
 use crate::failure::Failure;

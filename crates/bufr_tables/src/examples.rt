@@ -1,6 +1,7 @@
 //! Worked examples of the definitions.
 
-ghost use Rattle.std.specs.Prelude.{◌≡◌, ◌∷◌, ◌++◌, [], Some, None, true, false, pos, negsuc, codes};
+ghost use Rattle.std.specs.Prelude.{◌≡◌, ◌∷◌, ◌++◌, [], Some, None, true, false, pos, negsuc};
+ghost use Rattle.std.specs.Prelude.{codes};
 ghost use Rattle.bufr_tables.specs.declared.element.Kind.TheVariants as kinds;
 ghost use Rattle.bufr_tables.specs.Descriptors.{descriptor, f_of, x_of, y_of, six_digits, of_text};
 ghost use Rattle.bufr_tables.specs.Elements.{same_element};

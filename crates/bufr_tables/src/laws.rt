@@ -4,7 +4,8 @@ ghost use Rattle.std.specs.Prelude.{◌≡◌, ◌↔◌, ℕ, List, Some, Ok, E
 ghost use Rattle.bufr_tables.specs.declared.element.Element.{Element};
 ghost use Rattle.bufr_tables.specs.declared.file.TableFault.{TableFault};
 ghost use Rattle.bufr_tables.specs.Descriptors.{IsDescriptor, of_text, six_digits};
-ghost use Rattle.bufr_tables.specs.Sheets.{AreElementRows, AreSequenceRows, IsFirstElementFault, IsFirstSequenceFault};
+ghost use Rattle.bufr_tables.specs.Sheets.{AreElementRows, AreSequenceRows, IsFirstElementFault};
+ghost use Rattle.bufr_tables.specs.Sheets.{IsFirstSequenceFault};
 ghost use Rattle.bufr_tables.specs.TableFiles.{records_of, table_b, table_d};
 
 /// A text is read as a descriptor exactly where it is what the descriptor prints.

@@ -1,7 +1,8 @@
 //! Numbers in the fields of a table file.
 
 ghost use Rattle.std.specs.Prelude.{◌≡◌, option_and_then, pos, if◌then◌else◌};
-ghost use Rattle.bufr_tables.specs.Numbers.{natural, negative, integer, unsigned, signed_fit, unsigned_fit, signed_of, unsigned_of, descriptor_of};
+ghost use Rattle.bufr_tables.specs.Numbers.{natural, negative, integer, unsigned, signed_fit};
+ghost use Rattle.bufr_tables.specs.Numbers.{unsigned_fit, signed_of, unsigned_of, descriptor_of};
 
 use crate::fxy::{Fxy, are_digits};
 

@@ -5,7 +5,8 @@ ghost use Rattle.std.specs.Ordering.{nat_cmp};
 ghost use Rattle.std.specs.BTreeMap.{insert_entry};
 ghost use Rattle.bufr_tables.specs.Answers.{Gives};
 ghost use Rattle.bufr_tables.specs.Entries.{Rising};
-ghost use Rattle.bufr_tables.specs.Rows.{member_row, with_member, begins, no_sequences, all_sequences};
+ghost use Rattle.bufr_tables.specs.Rows.{member_row, with_member, begins, no_sequences};
+ghost use Rattle.bufr_tables.specs.Rows.{all_sequences};
 ghost use Rattle.bufr_tables.specs.TableFiles.{joined};
 
 use crate::failure::Failure;

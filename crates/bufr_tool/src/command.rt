@@ -1,6 +1,6 @@
 //! The commands of the program, over a runtime with files and any two writers.
 
-ghost use Rattle.std.specs.Prelude.{◌≡◌, ◌≤◌, map, IfOk, IfSome};
+ghost use Rattle.std.specs.Prelude.{◌≡◌, ◌≤◌, ◌++◌, map, string_bytes, IfOk, OnOk, IfSome};
 ghost use Rattle.bufr_collect.specs.Readers.{AreFresh};
 ghost use Rattle.bufr_engines.specs.Engines.{IsFresh};
 ghost use Rattle.bufr_tool.specs.Output.{added_line, merged_line};
@@ -24,6 +24,9 @@ use std::{fmt, fs};
 
 /// The greatest number of reads of one input.
 pub(crate) const MOST_READS: u64 = 4_294_967_296;
+
+/// No last line of a command that writes an archive has more octets.
+const LONGEST_LINE: usize = 160;
 
 /// All is well, or help was asked for and written.
 const WELL: u8 = 0;
@@ -190,37 +193,42 @@ fn run_collecting<R: Files, S: Source, O: Write + Drop>(
 ) -> Result<Tally, ToolFault>
     requires { AreFresh (map S.reading inputs.old) }
 {
+    // No memory is asked for once the archive is written: then only writing can fail.
+    let mut text = String::with_capacity(alloc, LONGEST_LINE)?;
     let mut archive = LateFile::new(rt, line.out);
-    let mut writer = IntoWrite::new(&mut *out);
-    if line.task == Task::Merge {
+    let tally = if line.task == Task::Merge {
         let tally = run_merge(alloc, MOST_READS, tables, inputs, &mut archive)?;
-        write_out(&mut writer, 0, &merged_line(alloc, &tally)?)?;
-        return Ok(tally);
-    }
-    let tally = run_add(alloc, MOST_READS, tables, inputs, &mut archive)?;
-    write_out(&mut writer, 0, &added_line(alloc, &tally)?)?;
+        push_merged(&mut text, &tally)?;
+        tally
+    } else {
+        let tally = run_add(alloc, MOST_READS, tables, inputs, &mut archive)?;
+        push_added(&mut text, &tally)?;
+        tally
+    };
+    write_out(&mut IntoWrite::new(&mut *out), 0, text.as_bytes())?;
     Ok(tally)
 }
 
-/// What is printed after an archive of streams was written.
-fn added_line(alloc: Global, tally: &Tally) -> Result<Vec<u8>, AllocError>
-    ensures { IfOk result (λ text. text.items ≡ added_line tally.now) }
+/// Adds what is printed after an archive of streams was written.
+fn push_added(text: &mut String, tally: &Tally) -> Result<(), AllocError>
+    ensures { OnOk result (string_bytes text.new ≡ string_bytes text.old ++ added_line tally.now) }
 {
     let frames = tally.frames;
     let refused = tally.refused;
     let reports = tally.reports;
-    let line = format!(in alloc; "frames {frames} refused {refused} reports {reports}\n")?;
-    Ok(line.into_bytes())
+    write!(
+        text,
+        "frames {frames} refused {refused} reports {reports}\n"
+    )
 }
 
-/// What is printed after an archive of archives was written.
-fn merged_line(alloc: Global, tally: &Tally) -> Result<Vec<u8>, AllocError>
-    ensures { IfOk result (λ text. text.items ≡ merged_line tally.now) }
+/// Adds what is printed after an archive of archives was written.
+fn push_merged(text: &mut String, tally: &Tally) -> Result<(), AllocError>
+    ensures { OnOk result (string_bytes text.new ≡ string_bytes text.old ++ merged_line tally.now) }
 {
     let archives = tally.frames;
     let reports = tally.reports;
-    let line = format!(in alloc; "archives {archives} reports {reports}\n")?;
-    Ok(line.into_bytes())
+    write!(text, "archives {archives} reports {reports}\n")
 }
 
 /// Says a fault on `err`.

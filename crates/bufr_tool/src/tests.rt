@@ -3,11 +3,9 @@
 
 ghost use Rattle.std.specs.Prelude.{Some, None};
 
-mod collecting;
 mod encoding;
 mod streams;
 
-use crate::command::run_command;
 use crate::show::run_show;
 use crate::tables::load_tables;
 use bufr_bits::{Failed, FromRead, IntoWrite, Sink, Source};
@@ -16,7 +14,6 @@ use bufr_tables::{Column, TableB, TableD, TableFault, Tables};
 use std::alloc::Global;
 use std::process::Abort;
 use std::test::Fail;
-use std::{env, fs};
 
 const TABLE_B: &[u8] = b"FXY,BUFR_Unit,BUFR_Scale,BUFR_ReferenceValue,BUFR_DataWidth_Bits\n\
 001001,Numeric,0,0,7\n\
@@ -288,174 +285,5 @@ fn lines_of_faults(rt: HostRuntime) -> Result<(), Fail> {
     for (fault, text) in faults {
         assert_eq!(rt; fault.to_string(rt.alloc())?.as_str(), text);
     }
-    Ok(())
-}
-
-/// The folder for temporary files.
-fn folder(rt: &HostRuntime) -> Result<String, Fail> {
-    let folder = env::temp_dir(rt)?;
-    Ok(format!(in rt.alloc(); "{}", folder.display())?)
-}
-
-/// The path of a file of this run of the tests.
-fn path(rt: &HostRuntime, name: &str) -> Result<String, Fail> {
-    let folder = folder(rt)?;
-    let number = std::process::id(rt.process());
-    Ok(format!(in rt.alloc(); "{folder}/bufr_test_{number}_{name}")?)
-}
-
-/// The exit status of a command, and the texts that it wrote on standard output and on standard
-/// error.
-fn run(rt: &HostRuntime, words: &[&str]) -> Result<(u8, String, String), Fail> {
-    let (status, out, err) = run_for_octets(rt, words)?;
-    Ok((status, String::from_utf8(out)?, err))
-}
-
-/// The exit status of a command, the octets that it wrote on standard output, and the text that it
-/// wrote on standard error.
-fn run_for_octets(rt: &HostRuntime, words: &[&str]) -> Result<(u8, Vec<u8>, String), Fail> {
-    let alloc = rt.alloc();
-    let mut owned = Vec::new(alloc);
-    for word in words {
-        owned.push(String::from_str(alloc, word)?)?;
-    }
-    let mut out = Vec::new(alloc);
-    let mut err = Vec::new(alloc);
-    let status = run_command(rt, alloc, &owned, &mut out, &mut err);
-    Ok((status, out, String::from_utf8(err)?))
-}
-
-#[test]
-fn commands(rt: HostRuntime) -> Result<(), Fail> {
-    let b = path(&rt, "table_b.csv")?;
-    let d = path(&rt, "table_d.csv")?;
-    let whole = path(&rt, "elements_only.bufr")?;
-    let refused = path(&rt, "refused.bufr")?;
-    let missing = path(&rt, "missing.bufr")?;
-    let folder = folder(&rt)?;
-    fs::write(&rt, b.as_str(), TABLE_B)?;
-    fs::write(&rt, d.as_str(), TABLE_D)?;
-    fs::write(&rt, whole.as_str(), ELEMENTS_ONLY)?;
-    fs::write(
-        &rt,
-        refused.as_str(),
-        b"BUFR\x00\x00\x0C\x047777".as_slice(),
-    )?;
-
-    let (status, out, err) = run(
-        &rt,
-        &["show", "-b", b.as_str(), "-d", d.as_str(), whole.as_str()],
-    )?;
-    assert_eq!(rt; status, 0);
-    assert_eq!(rt; out.as_bytes(), LISTING);
-    assert_eq!(rt; err.as_str(), "");
-
-    let (status, out, err) = run(
-        &rt,
-        &["show", "-b", b.as_str(), "-d", d.as_str(), refused.as_str()],
-    )?;
-    assert_eq!(rt; status, 1);
-    assert_eq!(rt; out.as_str(), "# refused 0 M5 Section1Length\n");
-    assert_eq!(rt; err.as_str(), "");
-
-    let (status, out, err) = run(
-        &rt,
-        &["show", "-b", b.as_str(), "-d", d.as_str(), missing.as_str()],
-    )?;
-    assert_eq!(rt; status, 2);
-    assert_eq!(rt; out.as_str(), "");
-    let wanted = format!(in rt.alloc(); "bufr: cannot open {missing}\n")?;
-    assert_eq!(rt; err.as_str(), wanted.as_str());
-
-    let (status, _, err) = run(
-        &rt,
-        &["show", "-b", d.as_str(), "-d", b.as_str(), whole.as_str()],
-    )?;
-    assert_eq!(rt; status, 2);
-    assert_eq!(rt; err.as_str(), "bufr: table B: B1 NoColumn FXY\n");
-
-    let (status, _, err) = run(
-        &rt,
-        &["show", "-b", b.as_str(), "-d", d.as_str(), folder.as_str()],
-    )?;
-    assert_eq!(rt; status, 2);
-    assert_eq!(rt; err.as_str(), "bufr: read failed input 1\n");
-
-    let (status, out, err) = run(
-        &rt,
-        &[
-            "show",
-            "-b",
-            folder.as_str(),
-            "-d",
-            d.as_str(),
-            whole.as_str(),
-        ],
-    )?;
-    assert_eq!(rt; status, 2);
-    assert_eq!(rt; out.as_str(), "");
-    assert_eq!(rt; err.as_str(), "bufr: read failed table B\n");
-
-    for file in [&b, &d, &whole, &refused] {
-        fs::remove_file(&rt, file.as_str())?;
-    }
-    Ok(())
-}
-
-#[test]
-fn empty_files_and_lines_ended_by_two_octets(rt: HostRuntime) -> Result<(), Fail> {
-    let b = path(&rt, "crlf_b.csv")?;
-    let d = path(&rt, "crlf_d.csv")?;
-    let empty = path(&rt, "empty.bufr")?;
-    let header: &[u8] = b"FXY,BUFR_Unit,BUFR_Scale,BUFR_ReferenceValue,BUFR_DataWidth_Bits\r\n";
-    fs::write(&rt, b.as_str(), header)?;
-    fs::write(
-        &rt,
-        d.as_str(),
-        b"FXY1,FXY2\r\n301001,001001\r\n".as_slice(),
-    )?;
-    fs::write(&rt, empty.as_str(), b"".as_slice())?;
-
-    let (status, out, err) = run(
-        &rt,
-        &["show", "-b", b.as_str(), "-d", d.as_str(), empty.as_str()],
-    )?;
-    assert_eq!(rt; status, 0);
-    assert_eq!(rt; out.as_str(), "");
-    assert_eq!(rt; err.as_str(), "");
-
-    let (status, out, err) = run(
-        &rt,
-        &["show", "-b", empty.as_str(), "-d", d.as_str(), b.as_str()],
-    )?;
-    assert_eq!(rt; status, 2);
-    assert_eq!(rt; out.as_str(), "");
-    assert_eq!(rt; err.as_str(), "bufr: table B: B1 NoColumn FXY\n");
-
-    for file in [&b, &d, &empty] {
-        fs::remove_file(&rt, file.as_str())?;
-    }
-    Ok(())
-}
-
-#[test]
-fn lines_that_are_no_command(rt: HostRuntime) -> Result<(), Fail> {
-    let (status, out, err) = run(&rt, &[])?;
-    assert_eq!(rt; status, 0);
-    assert!(rt; out.contains("Usage: bufr"));
-    assert_eq!(rt; err.as_str(), "");
-    for words in [
-        ["archive"].as_slice(),
-        ["check"].as_slice(),
-        ["show"].as_slice(),
-        ["show", "--compressed"].as_slice(),
-    ] {
-        let (status, out, err) = run(&rt, words)?;
-        assert_eq!(rt; status, 2);
-        assert_eq!(rt; out.as_str(), "");
-        assert!(rt; err.starts_with("error:"));
-    }
-    let (_, _, err) = run(&rt, &["show"])?;
-    assert!(rt; err.contains("Usage: bufr show -b <TABLE_B> -d <TABLE_D> <FILE>\n"));
     Ok(())
 }

@@ -18,6 +18,18 @@ use std::convert::AsStr;
 /// The version that the program tells.
 const VERSION: &str = "0.1.0";
 
+/// An example of each command, at the end of its help.
+const SHOW: &str = "Example: bufr show -b elements.csv -d sequences.csv bulletins.bufr";
+
+const CHECK: &str = "Example: bufr check -b elements.csv -d sequences.csv bulletins.bufr";
+
+const ENCODE: &str = "Example: bufr encode -b elements.csv -d sequences.csv listing.txt > out.bufr";
+
+const ADD: &str = "Example: bufr add -b elements.csv -d sequences.csv -o day.bufr 06.bufr 12.bufr";
+
+const MERGE: &str =
+    "Example: bufr merge -b elements.csv -d sequences.csv -o week.bufr mon.bufr tue.bufr";
+
 /// What a command line asks for.
 #[derive(Clone, Copy, Debug, Drop, PartialEq, Eq)]
 pub enum Task {
@@ -212,8 +224,14 @@ fn bufr<'a>(alloc: Global) -> Result<Command<'a>, AllocError>
     let add = "Makes an archive of files: one copy of each report";
     let merge = "Makes one archive of several";
     plain(alloc)?
-        .subcommand(collecting(alloc, "add", add, "FILE", "The files of the messages")?)?
-        .subcommand(collecting(alloc, "merge", merge, "ARCHIVE", "The archives")?)
+        .subcommand(collecting(
+            alloc,
+            "add",
+            [add, ADD],
+            "FILE",
+            "The files of the messages",
+        )?)?
+        .subcommand(collecting(alloc, "merge", [merge, MERGE], "ARCHIVE", "The archives")?)
 }
 
 /// The commands that write no archive.
@@ -228,19 +246,21 @@ fn plain<'a>(alloc: Global) -> Result<Command<'a>, AllocError>
         .bin_name("bufr")?
         .no_binary_name(true)
         .subcommand_required(true)
-        .subcommand(reading(alloc, "show", show)?)?
-        .subcommand(reading(alloc, "check", check)?)?
+        .subcommand(reading(alloc, "show", [show, SHOW])?)?
+        .subcommand(reading(alloc, "check", [check, CHECK])?)?
         .subcommand(encoding(alloc)?)
 }
 
-/// A command that reads a file of messages under tables.
-fn reading<'a>(alloc: Global, name: &'a str, about: &'a str) -> Result<Command<'a>, AllocError>
+/// A command that reads a file of messages under tables, with what it does and an example.
+fn reading<'a>(alloc: Global, name: &'a str, texts: [&'a str; 2]) -> Result<Command<'a>, AllocError>
     ensures { IfOk result (λ c. shape_of c ≡ reading_command name.now) }
 {
     let b = "The CSV file of Table B: the elements";
     let d = "The CSV file of Table D: the sequences";
+    let [about, example] = texts;
     Command::new(alloc, name)
         .about(about)
+        .after_help(example)
         .arg(path(alloc, "b", 'b', "TABLE_B", b))?
         .arg(path(alloc, "d", 'd', "TABLE_D", d))?
         .arg(input(alloc, "FILE", "The file of the messages"))
@@ -254,17 +274,19 @@ fn encoding<'a>(alloc: Global) -> Result<Command<'a>, AllocError>
     let d = "The CSV file of Table D: the sequences";
     Command::new(alloc, "encode")
         .about("Writes the messages of a listing")
+        .after_help(ENCODE)
         .arg(path(alloc, "b", 'b', "TABLE_B", b))?
         .arg(path(alloc, "d", 'd', "TABLE_D", d))?
         .arg(switch(alloc, "compressed", "Compresses every message"))?
         .arg(input(alloc, "LISTING", "The file of the listing"))
 }
 
-/// A command that writes an archive of what it reads under tables.
+/// A command that writes an archive of what it reads under tables, with what it does and an
+/// example.
 fn collecting<'a>(
     alloc: Global,
     name: &'a str,
-    about: &'a str,
+    texts: [&'a str; 2],
     inputs: &'a str,
     help: &'a str,
 ) -> Result<Command<'a>, AllocError>
@@ -273,8 +295,10 @@ fn collecting<'a>(
     let b = "The CSV file of Table B: the elements";
     let d = "The CSV file of Table D: the sequences";
     let out = "The archive that is written, once all was read";
+    let [about, example] = texts;
     Command::new(alloc, name)
         .about(about)
+        .after_help(example)
         .arg(path(alloc, "b", 'b', "TABLE_B", b))?
         .arg(path(alloc, "d", 'd', "TABLE_D", d))?
         .arg(path(alloc, "out", 'o', "OUT", out))?

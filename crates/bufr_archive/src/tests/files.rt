@@ -1,5 +1,5 @@
 //! Archives written and read back.
-ghost use Rattle.std.specs.Prelude.{◌≡◌, IfOk};
+ghost use Rattle.std.specs.Prelude.{◌≡◌};
 
 use super::samples::*;
 use super::*;
@@ -8,7 +8,6 @@ use std::alloc::Global;
 use std::io;
 use std::io::{ErrorKind, Write};
 use std::process::Abort;
-use std::test::Fail;
 
 // A writer that takes so many octets, one in a write, and then fails.
 struct Breaks {
@@ -61,23 +60,22 @@ fn write_some<S: Shelf>(
     assert!(rt; text.starts_with(taken.as_slice()), "{left}");
 }
 
-fn write_until_it_fails<S: Shelf>(rt: &impl Abort, alloc: Global) -> Result<(), Fail> {
-    let tables = tables(alloc)?;
+fn write_until_it_fails<S: Shelf>(rt: &impl Abort, alloc: Global) {
+    let tables = tables(rt, alloc);
     let reports = [(300, 0), (384, 2), (1005, 0)];
     let mut archive: Archive<S> = Archive::new(alloc, &tables);
-    add_reports(rt, alloc, &mut archive, &reports, 3)?;
-    let text = joined(alloc, &reports)?;
+    add_reports(rt, alloc, &mut archive, &reports, 3);
+    let text = joined(rt, alloc, &reports);
     assert_eq!(rt; text.len(), 186);
     for left in 0..189usize {
         write_some(rt, alloc, &archive, text.as_slice(), left);
     }
-    Ok(())
 }
 
 #[test]
-fn failing_writer(rt: HostRuntime) -> Result<(), Fail> {
-    write_until_it_fails::<MapShelf>(&rt, rt.alloc())?;
-    write_until_it_fails::<SortedShelf>(&rt, rt.alloc())
+fn failing_writer(rt: HostRuntime) {
+    write_until_it_fails::<MapShelf>(&rt, rt.alloc());
+    write_until_it_fails::<SortedShelf>(&rt, rt.alloc());
 }
 
 // Where octets break, if they are no archive's text.
@@ -88,149 +86,155 @@ fn breaks_at<S: Shelf>(alloc: Global, tables: &Tables, octets: &[u8]) -> Option<
     }
 }
 
-fn refused_at<S: Shelf>(
-    rt: &impl Abort,
-    alloc: Global,
-    messages: [&str; 3],
-    place: u64,
-) -> Result<(), Fail> {
-    let tables = tables(alloc)?;
+fn refused_at<S: Shelf>(rt: &impl Abort, alloc: Global, messages: [&str; 3], place: u64) {
+    let tables = tables(rt, alloc);
     let mut text = Vec::new(alloc);
     for message in &messages {
-        text.extend_from_slice(octets(alloc, message)?.as_slice())?;
+        let next = octets(rt, alloc, message);
+        text.extend_from_slice(next.as_slice()).expect(rt, "room");
     }
     let found = breaks_at::<S>(alloc, &tables, text.as_slice());
     assert_eq!(rt; found, Some(place), "{messages:?}");
-    Ok(())
 }
 
-fn refuse<S: Shelf>(rt: &impl Abort, alloc: Global) -> Result<(), Fail> {
-    refused_at::<S>(rt, alloc, [MONTH_13, UPDATED, ""], 62)?;
-    refused_at::<S>(rt, alloc, [ROW_1, UPDATED, ""], 62)?;
-    refused_at::<S>(rt, alloc, [ROW_1, MONTH_13, MONTH_13], 124)?;
-    refused_at::<S>(rt, alloc, [OTHER_SUB_CENTRE, ROW_1, ""], 62)?;
-    refused_at::<S>(rt, alloc, [ROW_1, "00", MONTH_13], 62)?;
-    refused_at::<S>(rt, alloc, [ROW_1, EDITION_5, ""], 62)
+fn refuse<S: Shelf>(rt: &impl Abort, alloc: Global) {
+    refused_at::<S>(rt, alloc, [MONTH_13, UPDATED, ""], 62);
+    refused_at::<S>(rt, alloc, [ROW_1, UPDATED, ""], 62);
+    refused_at::<S>(rt, alloc, [ROW_1, MONTH_13, MONTH_13], 124);
+    refused_at::<S>(rt, alloc, [OTHER_SUB_CENTRE, ROW_1, ""], 62);
+    refused_at::<S>(rt, alloc, [ROW_1, "00", MONTH_13], 62);
+    refused_at::<S>(rt, alloc, [ROW_1, EDITION_5, ""], 62);
 }
 
 // A message that is not canonical is no entry: compressed, of two subsets, with octets for local
 // use, or with an octet after its data.
-fn refuse_not_canonical<S: Shelf>(rt: &impl Abort, alloc: Global) -> Result<(), Fail> {
-    refused_at::<S>(rt, alloc, [COMPRESSED_PAIR, "", ""], 0)?;
-    refused_at::<S>(rt, alloc, [PAIR_OF_STATIONS, "", ""], 0)?;
-    refused_at::<S>(rt, alloc, [WITH_LOCAL_OCTETS, "", ""], 0)?;
-    refused_at::<S>(rt, alloc, [WITH_SLACK, "", ""], 0)?;
-    refused_at::<S>(rt, alloc, [ROW_1, WITH_SLACK, ""], 62)
+fn refuse_not_canonical<S: Shelf>(rt: &impl Abort, alloc: Global) {
+    refused_at::<S>(rt, alloc, [COMPRESSED_PAIR, "", ""], 0);
+    refused_at::<S>(rt, alloc, [PAIR_OF_STATIONS, "", ""], 0);
+    refused_at::<S>(rt, alloc, [WITH_LOCAL_OCTETS, "", ""], 0);
+    refused_at::<S>(rt, alloc, [WITH_SLACK, "", ""], 0);
+    refused_at::<S>(rt, alloc, [ROW_1, WITH_SLACK, ""], 62);
 }
 
 #[test]
-fn not_canonical(rt: HostRuntime) -> Result<(), Fail> {
-    refuse_not_canonical::<MapShelf>(&rt, rt.alloc())?;
-    refuse_not_canonical::<SortedShelf>(&rt, rt.alloc())
+fn not_canonical(rt: HostRuntime) {
+    refuse_not_canonical::<MapShelf>(&rt, rt.alloc());
+    refuse_not_canonical::<SortedShelf>(&rt, rt.alloc());
+}
+
+// What is read of a text is written again.
+fn read_again<S: Shelf>(rt: &impl Abort, alloc: Global, count: usize, text: &[u8]) {
+    let tables = tables(rt, alloc);
+    let archive = Archive::<S>::read(alloc, &tables, text).expect(rt, "an archive");
+    assert_text(rt, alloc, &archive, count, text);
 }
 
 // Whole entries are read, and a part of one is refused at its start.
-fn read_each_front<S: Shelf>(rt: &impl Abort, alloc: Global) -> Result<(), Fail> {
-    let tables = tables(alloc)?;
-    let text = joined(alloc, &[(300, 9), (384, 0), (1005, 0), (1007, 0)])?;
+fn read_each_front<S: Shelf>(rt: &impl Abort, alloc: Global) {
+    let tables = tables(rt, alloc);
+    let text = joined(rt, alloc, &[(300, 9), (384, 0), (1005, 0), (1007, 0)]);
     assert_eq!(rt; text.len(), 248);
     for count in 0..249usize {
-        let front = text.as_slice().get(..count).ok_or("a front")?;
+        let front = text.as_slice().get(..count).expect(rt, "a front");
         if count % 62 == 0 {
-            let archive = Archive::<S>::read(alloc, &tables, front)?;
-            assert_text(rt, alloc, &archive, count / 62, front)?;
+            read_again::<S>(rt, alloc, count / 62, front);
         } else {
-            assert_eq!(rt;
-                breaks_at::<S>(alloc, &tables, front),
-                Some((count / 62 * 62) as u64)
-            );
+            let place = (count / 62 * 62) as u64;
+            assert_eq!(rt; breaks_at::<S>(alloc, &tables, front), Some(place));
         }
     }
-    refuse::<S>(rt, alloc)
+    refuse::<S>(rt, alloc);
 }
 
 #[test]
-fn archive_not_in_order(rt: HostRuntime) -> Result<(), Fail> {
-    read_each_front::<MapShelf>(&rt, rt.alloc())?;
-    read_each_front::<SortedShelf>(&rt, rt.alloc())
+fn archive_not_in_order(rt: HostRuntime) {
+    read_each_front::<MapShelf>(&rt, rt.alloc());
+    read_each_front::<SortedShelf>(&rt, rt.alloc());
 }
 
-// What was read takes in more.
-fn read_and_add<S: Shelf>(rt: &impl Abort, alloc: Global) -> Result<(), Fail> {
-    let tables = tables(alloc)?;
-    let text = octets(alloc, ROW_1)?;
-    let mut archive: Archive<S> = Archive::read(alloc, &tables, text.as_slice())?;
-    add(rt, alloc, &mut archive, MONTH_13, added(1, 1))?;
-    add(rt, alloc, &mut archive, UPDATED, added(1, 1))?;
-    let all = format!(in alloc; "{UPDATED} {MONTH_13}")?;
-    assert_messages(rt, alloc, &archive, 2, all.as_str())
+// An archive in the order of stations, whose sub-centres fall, is read as before, and takes in
+// more.
+fn read_and_add<S: Shelf>(rt: &impl Abort, alloc: Global) {
+    let tables = tables(rt, alloc);
+    let before = format!(in alloc; "{OTHER_SUB_CENTRE} {NEXT_STATION}").expect(rt, "room");
+    let text = octets(rt, alloc, before.as_str());
+    let read = Archive::read(alloc, &tables, text.as_slice());
+    let mut archive: Archive<S> = read.expect(rt, "an archive");
+    assert_text(rt, alloc, &archive, 2, text.as_slice());
+    add(rt, alloc, &mut archive, MONTH_13, added(1, 1));
+    add(rt, alloc, &mut archive, UPDATED, added(1, 1));
+    let all = format!(in alloc; "{UPDATED} {before} {MONTH_13}").expect(rt, "room");
+    assert_messages(rt, alloc, &archive, 4, all.as_str());
 }
 
 #[test]
-fn archives_from_before(rt: HostRuntime) -> Result<(), Fail> {
-    read_and_add::<MapShelf>(&rt, rt.alloc())?;
-    read_and_add::<SortedShelf>(&rt, rt.alloc())
+fn archives_from_before(rt: HostRuntime) {
+    read_and_add::<MapShelf>(&rt, rt.alloc());
+    read_and_add::<SortedShelf>(&rt, rt.alloc());
 }
 
 // A thousand stations in no order, all with this update number.
-fn thousand_of(alloc: Global, update: u8) -> Result<Vec<(u16, u8)>, OutOfMemory> {
+fn thousand_of(rt: &impl Abort, alloc: Global, update: u8) -> Vec<(u16, u8)> {
     let mut reports = Vec::new(alloc);
     for place in 0..1000u16 {
-        reports.push(((place as u32 * 389 % 1000) as u16, update))?;
+        let number = (place as u32 * 389 % 1000) as u16;
+        reports.push((number, update)).expect(rt, "room");
     }
-    Ok(reports)
+    reports
 }
 
 // The text of a thousand stations, all with this update number.
-fn text_of_thousand(alloc: Global, update: u8) -> Result<Vec<u8>, OutOfMemory> {
+fn text_of_thousand(rt: &impl Abort, alloc: Global, update: u8) -> Vec<u8> {
     let mut reports = Vec::new(alloc);
     for number in 0..1000u16 {
-        reports.push((number, update))?;
+        reports.push((number, update)).expect(rt, "room");
     }
-    joined(alloc, reports.as_slice())
+    joined(rt, alloc, reports.as_slice())
 }
 
 // A thousand stations are added, written and read back.
-fn a_thousand<S: Shelf>(rt: &impl Abort, alloc: Global) -> Result<(), Fail> {
-    let tables = tables(alloc)?;
-    let text = text_of_thousand(alloc, 1)?;
+fn a_thousand<S: Shelf>(rt: &impl Abort, alloc: Global) {
+    let tables = tables(rt, alloc);
+    let text = text_of_thousand(rt, alloc, 1);
     assert_eq!(rt; text.len(), 62000);
-    let reports = thousand_of(alloc, 1)?;
+    let reports = thousand_of(rt, alloc, 1);
     let mut archive: Archive<S> = Archive::new(alloc, &tables);
-    add_reports(rt, alloc, &mut archive, reports.as_slice(), 1000)?;
-    assert_text(rt, alloc, &archive, 1000, text.as_slice())?;
-    let read: Archive<S> = Archive::read(alloc, &tables, text.as_slice())?;
-    assert_text(rt, alloc, &read, 1000, text.as_slice())
+    add_reports(rt, alloc, &mut archive, reports.as_slice(), 1000);
+    assert_text(rt, alloc, &archive, 1000, text.as_slice());
+    read_again::<S>(rt, alloc, 1000, text.as_slice());
+    let found = archive.get(&key_of_number(777)).expect(rt, "there");
+    assert!(rt; found == message(rt, alloc, 777, 1).as_slice());
 }
 
 // The archive of a text under tables.
 fn read_text<'t, S: Shelf>(
+    rt: &impl Abort,
     alloc: Global,
     tables: &'t Tables,
     text: &[u8],
-) -> Result<Archive<'t, S>, Fail>
-    ensures { IfOk result (λ a. a.tables ≡ tables.now) }
+) -> Archive<'t, S>
+    ensures { result.tables ≡ tables.now }
 {
-    let archive = Archive::read(alloc, tables, text)?;
-    Ok(archive)
+    Archive::read(alloc, tables, text).expect(rt, "an archive")
 }
 
 // A thousand stations are merged into as many with smaller update numbers.
-fn merge_a_thousand<S: Shelf>(rt: &impl Abort, alloc: Global) -> Result<(), Fail> {
-    let tables = tables(alloc)?;
-    let text = text_of_thousand(alloc, 1)?;
-    let before = text_of_thousand(alloc, 0)?;
-    let updates: Archive<S> = read_text(alloc, &tables, text.as_slice())?;
-    let mut archive: Archive<S> = read_text(alloc, &tables, before.as_slice())?;
-    archive.merge(&updates)?;
-    assert_text(rt, alloc, &archive, 1000, text.as_slice())?;
-    assert_text(rt, alloc, &archive.copy()?, 1000, text.as_slice())
+fn merge_a_thousand<S: Shelf>(rt: &impl Abort, alloc: Global) {
+    let tables = tables(rt, alloc);
+    let text = text_of_thousand(rt, alloc, 1);
+    let before = text_of_thousand(rt, alloc, 0);
+    let updates: Archive<S> = read_text(rt, alloc, &tables, text.as_slice());
+    let mut archive: Archive<S> = read_text(rt, alloc, &tables, before.as_slice());
+    archive.merge(&updates).expect(rt, "room");
+    assert_text(rt, alloc, &archive, 1000, text.as_slice());
+    let copied = archive.copy().expect(rt, "room");
+    assert_text(rt, alloc, &copied, 1000, text.as_slice());
 }
 
 #[test]
-fn thousand_reports(rt: HostRuntime) -> Result<(), Fail> {
-    a_thousand::<MapShelf>(&rt, rt.alloc())?;
-    a_thousand::<SortedShelf>(&rt, rt.alloc())?;
-    merge_a_thousand::<MapShelf>(&rt, rt.alloc())?;
-    merge_a_thousand::<SortedShelf>(&rt, rt.alloc())
+fn thousand_reports(rt: HostRuntime) {
+    a_thousand::<MapShelf>(&rt, rt.alloc());
+    a_thousand::<SortedShelf>(&rt, rt.alloc());
+    merge_a_thousand::<MapShelf>(&rt, rt.alloc());
+    merge_a_thousand::<SortedShelf>(&rt, rt.alloc());
 }

@@ -2,30 +2,27 @@
 use super::samples::*;
 use super::*;
 use bufr_message::{Report, decode, reports};
-use bufr_tables::Tables;
 use std::alloc::Global;
 use std::process::Abort;
-use std::test::Fail;
 
 // The reports of a message.
-fn reports_of(alloc: Global, tables: &Tables, message: &str) -> Result<Vec<Report>, Fail> {
-    let decoded = decode(alloc, tables, octets(alloc, message)?.as_slice())?;
-    Ok(reports(alloc, decoded.message)?)
+fn reports_of(rt: &impl Abort, alloc: Global, message: &str) -> Vec<Report> {
+    let tables = tables(rt, alloc);
+    let octets = octets(rt, alloc, message);
+    let decoded = decode(alloc, &tables, octets.as_slice()).expect(rt, "a message");
+    reports(alloc, decoded.message).expect(rt, "room")
 }
 
 // The first report of a message has this key.
-fn assert_key(
-    rt: &impl Abort,
-    alloc: Global,
-    message: &str,
-    expected: Option<Key>,
-) -> Result<(), Fail> {
-    let tables = tables(alloc)?;
-    let found = reports_of(alloc, &tables, message)?;
-    let report = found.as_slice().get(0).ok_or("a report")?;
-    let key = key_of(alloc, report)?;
+fn assert_key(rt: &impl Abort, alloc: Global, message: &str, expected: Option<Key>) {
+    let found = reports_of(rt, alloc, message);
+    let report = found.as_slice().get(0).expect(rt, "a report");
+    let key = key_of(alloc, report).expect(rt, "room");
     assert!(rt; key == expected, "{key:?}");
-    Ok(())
+}
+
+fn name(rt: &impl Abort, alloc: Global, octets: &[u8]) -> Octets {
+    Octets::new(Vec::from_slice(alloc, octets).expect(rt, "room"))
 }
 
 fn with_station(station: Station) -> Option<Key> {
@@ -34,90 +31,116 @@ fn with_station(station: Station) -> Option<Key> {
     Some(key)
 }
 
-#[test]
-fn keys(rt: HostRuntime) -> Result<(), Fail> {
-    let alloc = rt.alloc();
-    assert_key(&rt, alloc, ROW_1, Some(first_key()))?;
-    let name = Octets::new(Vec::from_slice(alloc, b"10384")?);
-    let wigos = with_station(Station::wigos(0, 20000, 0, name));
-    assert_key(&rt, alloc, WIGOS, wigos)?;
-    assert_key(&rt, alloc, WIGOS_AND_WMO, Some(first_key()))?;
-    let name = Octets::new(Vec::from_slice(alloc, b"10384")?);
-    let wigos = with_station(Station::wigos(0, 20000, 0, name));
-    assert_key(&rt, alloc, WIGOS_AND_BLOCK_MISSING, wigos)?;
-    let name = Octets::new(Vec::from_slice(alloc, b"AB 1")?);
-    let ship = with_station(Station::mobile(name));
-    assert_key(&rt, alloc, SHIP, ship)?;
-    assert_key(&rt, alloc, SHIP_OF_BLANKS, None)?;
-    assert_key(&rt, alloc, SHIP_OF_NULS, None)
+fn with_wigos(rt: &impl Abort, alloc: Global) -> Option<Key> {
+    with_station(Station::wigos(0, 20000, 0, name(rt, alloc, b"10384")))
 }
 
 #[test]
-fn moments(rt: HostRuntime) -> Result<(), Fail> {
+fn keys(rt: HostRuntime) {
     let alloc = rt.alloc();
+    assert_key(&rt, alloc, ROW_1, Some(first_key()));
+    assert_key(&rt, alloc, WIGOS, with_wigos(&rt, alloc));
+    assert_key(&rt, alloc, WIGOS_AND_WMO, Some(first_key()));
+    assert_key(&rt, alloc, WIGOS_AND_BLOCK_MISSING, with_wigos(&rt, alloc));
+    let ship = with_station(Station::mobile(name(&rt, alloc, b"AB 1")));
+    assert_key(&rt, alloc, SHIP, ship);
+}
+
+#[test]
+fn without_station(rt: HostRuntime) {
+    let none = [
+        SHIP_OF_BLANKS,
+        SHIP_OF_NULS,
+        BLOCK_MISSING,
+        STATION_MISSING,
+        NO_STATION,
+    ];
+    for message in none {
+        assert_key(&rt, rt.alloc(), message, None);
+    }
+}
+
+#[test]
+fn moments(rt: HostRuntime) {
     let mut key = first_key();
     key.moment.month = 2;
     key.moment.day = 29;
-    assert_key(&rt, alloc, LEAP_DAY, Some(key))?;
-    assert_key(&rt, alloc, FEBRUARY_30, None)?;
-    assert_key(&rt, alloc, MONTH_13, None)?;
-    assert_key(&rt, alloc, HOUR_24, None)?;
-    assert_key(&rt, alloc, YEAR_0, None)?;
+    assert_key(&rt, rt.alloc(), LEAP_DAY, Some(key));
     let mut key = first_key();
     key.moment.second = 59;
-    assert_key(&rt, alloc, SECOND_59, Some(key))?;
-    assert_key(&rt, alloc, SECOND_60, None)
+    assert_key(&rt, rt.alloc(), SECOND_59, Some(key));
+}
+
+#[test]
+fn without_moment(rt: HostRuntime) {
+    for message in [FEBRUARY_30, MONTH_13, HOUR_24, YEAR_0, SECOND_60] {
+        assert_key(&rt, rt.alloc(), message, None);
+    }
 }
 
 // An operator changes the scale of the block number, or its width alone.
 #[test]
-fn scaled_block(rt: HostRuntime) -> Result<(), Fail> {
-    let alloc = rt.alloc();
-    assert_key(&rt, alloc, BLOCK_OF_SCALE_1, None)?;
-    assert_key(&rt, alloc, WIDE_BLOCK, Some(first_key()))
+fn scaled_block(rt: HostRuntime) {
+    assert_key(&rt, rt.alloc(), BLOCK_OF_SCALE_1, None);
+    assert_key(&rt, rt.alloc(), WIDE_BLOCK, Some(first_key()));
+}
+
+// The archive has this message at a key.
+fn assert_at<S: Shelf>(
+    rt: &impl Abort,
+    alloc: Global,
+    archive: &Archive<S>,
+    key: &Key,
+    message: &str,
+) {
+    let found = archive.get(key).expect(rt, "there");
+    assert!(rt; found == octets(rt, alloc, message).as_slice());
 }
 
 // A report of another sub-centre has another key and comes behind.
-fn kept_apart<S: Shelf>(rt: &impl Abort, alloc: Global) -> Result<(), Fail> {
-    let tables = tables(alloc)?;
+fn kept_apart<S: Shelf>(rt: &impl Abort, alloc: Global) {
+    let tables = tables(rt, alloc);
     let mut archive: Archive<S> = Archive::new(alloc, &tables);
-    add(rt, alloc, &mut archive, OTHER_SUB_CENTRE, added(1, 1))?;
-    add(rt, alloc, &mut archive, ROW_1, added(1, 1))?;
-    let both = format!(in alloc; "{ROW_1} {OTHER_SUB_CENTRE}")?;
-    assert_messages(rt, alloc, &archive, 2, both.as_str())?;
+    add(rt, alloc, &mut archive, OTHER_SUB_CENTRE, added(1, 1));
+    add(rt, alloc, &mut archive, ROW_1, added(1, 1));
+    let both = format!(in alloc; "{ROW_1} {OTHER_SUB_CENTRE}").expect(rt, "room");
+    assert_messages(rt, alloc, &archive, 2, both.as_str());
     let mut key = first_key();
     key.sub_centre = 7;
-    let found = archive.get(&key).ok_or("the other")?;
-    assert!(rt; found == octets(alloc, OTHER_SUB_CENTRE)?.as_slice());
-    let found = archive.get(&first_key()).ok_or("the first")?;
-    assert!(rt; found == octets(alloc, ROW_1)?.as_slice());
-    Ok(())
+    assert_at(rt, alloc, &archive, &key, OTHER_SUB_CENTRE);
+    assert_at(rt, alloc, &archive, &first_key(), ROW_1);
 }
 
 #[test]
-fn sub_centres_apart(rt: HostRuntime) -> Result<(), Fail> {
-    kept_apart::<MapShelf>(&rt, rt.alloc())?;
-    kept_apart::<SortedShelf>(&rt, rt.alloc())
+fn sub_centres_apart(rt: HostRuntime) {
+    kept_apart::<MapShelf>(&rt, rt.alloc());
+    kept_apart::<SortedShelf>(&rt, rt.alloc());
+}
+
+// A report of a message, counted from 0, has this entry, of the first key.
+fn assert_entry(
+    rt: &impl Abort,
+    alloc: Global,
+    message: &str,
+    index: usize,
+    update: u8,
+    bytes: &str,
+) {
+    let tables = tables(rt, alloc);
+    let found = reports_of(rt, alloc, message);
+    let report = found.as_slice().get(index).expect(rt, "a report");
+    let made = entry_of(alloc, &tables, report).expect(rt, "room");
+    let entry = made.expect(rt, "an entry");
+    assert!(rt; entry.key == Some(first_key()));
+    assert_eq!(rt; entry.update, update);
+    assert!(rt; entry.bytes.as_slice() == octets(rt, alloc, bytes).as_slice());
 }
 
 // The entry of a report has its canonical message.
 #[test]
-fn entries(rt: HostRuntime) -> Result<(), Fail> {
-    let alloc = rt.alloc();
-    let tables = tables(alloc)?;
-    let found = reports_of(alloc, &tables, COMPRESSED_PAIR)?;
-    let [first, second] = found.as_slice() else {
-        return Err("two reports")?;
-    };
-    let entry = entry_of(alloc, &tables, first)?.ok_or("an entry")?;
-    assert!(rt; entry.key == Some(first_key()));
-    assert_eq!(rt; entry.update, 0);
-    assert!(rt; entry.bytes.as_slice() == octets(alloc, ROW_1)?.as_slice());
-    let entry = entry_of(alloc, &tables, second)?.ok_or("an entry")?;
-    assert!(rt; entry.bytes.as_slice() == octets(alloc, MISSING_TEMPERATURE)?.as_slice());
-    let found = reports_of(alloc, &tables, UPDATED)?;
-    let update = found.as_slice().get(0).ok_or("a report")?;
-    let entry = entry_of(alloc, &tables, update)?.ok_or("an entry")?;
-    assert_eq!(rt; entry.update, 1);
-    Ok(())
+fn entries(rt: HostRuntime) {
+    let pair = COMPRESSED_PAIR;
+    assert_entry(&rt, rt.alloc(), pair, 0, 0, ROW_1);
+    assert_entry(&rt, rt.alloc(), pair, 1, 0, MISSING_TEMPERATURE);
+    assert_entry(&rt, rt.alloc(), UPDATED, 0, 1, UPDATED);
 }

@@ -1,10 +1,10 @@
 //! The tables and messages of the tests.
 ghost use Rattle.std.specs.Prelude.{◌≡◌, Some, None};
 
-use crate::{Key, Moment, OutOfMemory, Station};
+use crate::{Key, Moment, Station};
 use bufr_tables::{TableB, TableD, Tables};
 use std::alloc::Global;
-use std::test::Fail;
+use std::process::Abort;
 
 const TABLE_B: &str = "\
 FXY,ElementName_en,BUFR_Unit,BUFR_Scale,BUFR_ReferenceValue,BUFR_DataWidth_Bits
@@ -41,15 +41,15 @@ FXY1,FXY2
 ";
 
 /// The tables of the tests.
-pub(crate) fn tables(alloc: Global) -> Result<Tables, Fail> {
-    let b = TableB::parse(alloc, TABLE_B.as_bytes())?;
-    let d = TableD::parse(alloc, TABLE_D.as_bytes())?;
-    Ok(Tables::new(b, d))
+pub(crate) fn tables(rt: &impl Abort, alloc: Global) -> Tables {
+    let b = TableB::parse(alloc, TABLE_B.as_bytes()).expect(rt, "table B");
+    let d = TableD::parse(alloc, TABLE_D.as_bytes()).expect(rt, "table D");
+    Tables::new(b, d)
 }
 
 /// The octets that hexadecimal digits are. `S1` and `END` stand for the usual section 1 and for
 /// section 5; spaces and bars part the digits.
-pub(crate) fn octets(alloc: Global, text: &str) -> Result<Vec<u8>, Fail> {
+pub(crate) fn octets(rt: &impl Abort, alloc: Global, text: &str) -> Vec<u8> {
     let mut digits = String::new(alloc);
     for word in text.split_whitespace() {
         let part = match word {
@@ -58,9 +58,9 @@ pub(crate) fn octets(alloc: Global, text: &str) -> Result<Vec<u8>, Fail> {
             "|" => "",
             other => other,
         };
-        digits.push_str(part)?;
+        digits.push_str(part).expect(rt, "room");
     }
-    Ok(hex::decode(alloc, digits.as_str())?)
+    hex::decode(alloc, digits.as_str()).expect(rt, "digits")
 }
 
 /// Block 10 and station 384 at noon of 15 January 2024, 273.15 K: 62 octets.
@@ -158,6 +158,21 @@ pub(crate) const FEBRUARY_30: &str = "\
 42554652 00003E 04 | S1 | 00000F 00 0001 80 C101 C10B C10C 0C65 |
 00000D 00 14C03F413CC01AACC0 | END";
 
+/// The first with a missing block number: 62 octets.
+pub(crate) const BLOCK_MISSING: &str = "\
+42554652 00003E 04 | S1 | 00000F 00 0001 80 C101 C10B C10C 0C65 |
+00000D 00 FEC03F409EC01AACC0 | END";
+
+/// The first with a missing station number: 62 octets.
+pub(crate) const STATION_MISSING: &str = "\
+42554652 00003E 04 | S1 | 00000F 00 0001 80 C101 C10B C10C 0C65 |
+00000D 00 15FFBF409EC01AACC0 | END";
+
+/// The first with station 385: 62 octets.
+pub(crate) const NEXT_STATION: &str = "\
+42554652 00003E 04 | S1 | 00000F 00 0001 80 C101 C10B C10C 0C65 |
+00000D 00 14C0BF409EC01AACC0 | END";
+
 /// The first at hour 24: 62 octets.
 pub(crate) const HOUR_24: &str = "\
 42554652 00003E 04 | S1 | 00000F 00 0001 80 C101 C10B C10C 0C65 |
@@ -201,7 +216,7 @@ const MIDDLE: &[u8] = b"\x00\x00\x02\x00\x25\x00\x07\xE8\x01\x0F\x0C\x00\x00\
 
 /// The first with this station number and update sequence number. Numbers from 1000 on are those
 /// less 1000 with month 13: these have no key.
-pub(crate) fn message(alloc: Global, number: u16, update: u8) -> Result<Vec<u8>, OutOfMemory> {
+pub(crate) fn message(rt: &impl Abort, alloc: Global, number: u16, update: u8) -> Vec<u8> {
     let (station, month) = if number < 1000 {
         (number, 1)
     } else {
@@ -210,12 +225,13 @@ pub(crate) fn message(alloc: Global, number: u16, update: u8) -> Result<Vec<u8>,
     let place = (10u128 << 59) | ((station % 1024) as u128) << 49;
     let date = (2024u128 << 37) | (month as u128) << 33 | (15u128 << 27) | (12u128 << 22);
     let bits = (place | date | 27315) << 6;
-    let mut octets = Vec::from_slice(alloc, FRONT)?;
-    octets.push(update)?;
-    octets.extend_from_slice(MIDDLE)?;
-    octets.extend_from_slice(&bits.to_be_bytes()[7..])?;
-    octets.extend_from_slice(b"7777")?;
-    Ok(octets)
+    let mut octets = Vec::from_slice(alloc, FRONT).expect(rt, "room");
+    octets.push(update).expect(rt, "room");
+    octets.extend_from_slice(MIDDLE).expect(rt, "room");
+    let data = &bits.to_be_bytes()[7..];
+    octets.extend_from_slice(data).expect(rt, "room");
+    octets.extend_from_slice(b"7777").expect(rt, "room");
+    octets
 }
 
 /// The key of the first.
@@ -238,12 +254,9 @@ pub(crate) fn first_key() -> Key {
     }
 }
 
-/// The key of the message of a number, if it has one.
-pub(crate) fn key_of_number(number: u16) -> Option<Key> {
-    if number >= 1000 {
-        return None;
-    }
+/// The key of the message of a number below 1000.
+pub(crate) fn key_of_number(number: u16) -> Key {
     let mut key = first_key();
     key.station = Station::wmo(10, number as i128);
-    Some(key)
+    key
 }

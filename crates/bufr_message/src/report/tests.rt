@@ -8,11 +8,6 @@ use std::alloc::Global;
 use std::process::Abort;
 use std::test::Fail;
 
-/// Two subsets whose temperatures are 27315 and missing.
-const COMPRESSED_PAIR: &str = "\
-42554652 000044 04 | S1 | 00000F 00 0002 C0 C101 C10B C10C 0C65
-| 000013 00 14030003F400201E03000006AB3050 | END";
-
 /// What octets are read as.
 fn read(alloc: Global, text: &str) -> Result<Message, Fail> {
     Ok(decode(alloc, &tables(alloc)?, octets(alloc, text)?.as_slice())?.message)

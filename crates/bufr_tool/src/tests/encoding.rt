@@ -1,9 +1,6 @@
-//! Listings through the engine and the command of `encode`: each fault, every failing device.
+//! Listings through the engine of `encode`: each fault, every failing device.
 
-use super::{
-    Breaks, Drips, ELEMENTS_ONLY, LISTING, SEQUENCES, TABLE_B, TABLE_D, path, run, run_for_octets,
-    tables,
-};
+use super::{Breaks, Drips, ELEMENTS_ONLY, LISTING, SEQUENCES, tables};
 use crate::encode::run_encode;
 use crate::show::run_show;
 use bufr_bits::{FromRead, IntoWrite};
@@ -11,7 +8,6 @@ use bufr_engines::{Input, Tally, ToolFault};
 use bufr_message::EncodeFault;
 use bufr_message::listing::ListingFault;
 use std::alloc::Global;
-use std::fs;
 use std::test::Fail;
 
 const SEQUENCES_LISTING: &[u8] = b"message\n\
@@ -362,115 +358,6 @@ fn lines_of_faults(rt: HostRuntime) -> Result<(), Fail> {
     ];
     for (fault, text) in faults {
         assert_eq!(rt; fault.to_string(rt.alloc())?.as_str(), text);
-    }
-    Ok(())
-}
-
-/// A listing with one of its lines in place of another.
-fn with_line(alloc: Global, old: &str, new: &str) -> Result<String, Fail> {
-    let text = str::from_utf8(SEQUENCES_LISTING)?;
-    Ok(text.replace(alloc, old, new)?)
-}
-
-#[test]
-fn commands(rt: HostRuntime) -> Result<(), Fail> {
-    let alloc = rt.alloc();
-    let b = path(&rt, "encode_b.csv")?;
-    let d = path(&rt, "encode_d.csv")?;
-    let file = path(&rt, "encode.txt")?;
-    fs::write(&rt, b.as_str(), TABLE_B)?;
-    fs::write(&rt, d.as_str(), TABLE_D)?;
-    fs::write(&rt, file.as_str(), SEQUENCES_LISTING)?;
-    let line = ["encode", "-b", b.as_str(), "-d", d.as_str(), file.as_str()];
-
-    let (status, out, err) = run_for_octets(&rt, &line)?;
-    assert_eq!(rt; status, 0);
-    assert_eq!(rt; out.as_slice(), SEQUENCES);
-    assert_eq!(rt; err.as_str(), "");
-
-    fs::write(&rt, file.as_str(), PAIR_LISTING)?;
-    let (status, out, err) = run_for_octets(
-        &rt,
-        &[
-            "encode",
-            "--compressed",
-            file.as_str(),
-            "-d",
-            d.as_str(),
-            "-b",
-            b.as_str(),
-        ],
-    )?;
-    assert_eq!(rt; status, 0);
-    assert_eq!(rt; out.as_slice(), PAIR_COMPRESSED);
-    assert_eq!(rt; err.as_str(), "");
-
-    for (old, new, fault) in [
-        ("time", "date", "bufr: listing: L1 BadLine 3\n"),
-        ("273.15", "273.1", "bufr: listing: L2 BadValue 14\n"),
-        (
-            "301011",
-            "001250",
-            "bufr: listing: L3 Refused 5 X1 UnknownElement 001250\n",
-        ),
-        (
-            "301011",
-            "201255 004001",
-            "bufr: listing: L3 Refused 9 V1 EffectiveRange 004001\n",
-        ),
-    ] {
-        fs::write(&rt, file.as_str(), with_line(alloc, old, new)?.as_bytes())?;
-        let (status, out, err) = run(&rt, &line)?;
-        assert_eq!(rt; status, 2);
-        assert_eq!(rt; out.as_str(), "");
-        assert_eq!(rt; err.as_str(), fault);
-    }
-    for file in [&b, &d, &file] {
-        fs::remove_file(&rt, file.as_str())?;
-    }
-    Ok(())
-}
-
-/// A message that cannot be compressed is told by its number, with nothing written; without the
-/// flag it is written.
-#[test]
-fn refused_message_by_command(rt: HostRuntime) -> Result<(), Fail> {
-    let alloc = rt.alloc();
-    let b = path(&rt, "refused_b.csv")?;
-    let d = path(&rt, "refused_d.csv")?;
-    let file = path(&rt, "refused.txt")?;
-    let mut listing = Vec::from_slice(alloc, PAIR_LISTING)?;
-    listing.extend_from_slice(UNEQUAL_COUNTS_LISTING)?;
-    fs::write(&rt, b.as_str(), TABLE_B)?;
-    fs::write(&rt, d.as_str(), TABLE_D)?;
-    fs::write(&rt, file.as_str(), listing.as_slice())?;
-
-    let (status, out, err) = run(
-        &rt,
-        &[
-            "encode",
-            "-b",
-            b.as_str(),
-            "-d",
-            d.as_str(),
-            file.as_str(),
-            "--compressed",
-        ],
-    )?;
-    assert_eq!(rt; status, 2);
-    assert_eq!(rt; out.as_str(), "");
-    assert_eq!(rt; err.as_str(), "bufr: message 2: E2 NotCompressible 1\n");
-
-    let (status, out, err) = run_for_octets(
-        &rt,
-        &["encode", "-b", b.as_str(), "-d", d.as_str(), file.as_str()],
-    )?;
-    assert_eq!(rt; status, 0);
-    assert!(rt; out.ends_with(UNEQUAL_COUNTS));
-    assert_eq!(rt; err.as_str(), "");
-
-    for file in [&b, &d, &file] {
-        fs::remove_file(&rt, file.as_str())?;
     }
     Ok(())
 }

@@ -1,15 +1,14 @@
-//! Streams of frames through the engines and the commands: every piece, every failing device.
+//! Streams of frames through the engines: every piece, every failing device.
 
 ghost use Rattle.std.specs.Prelude.{◌≡◌, Some, None, false};
 
-use super::{ELEMENTS_ONLY, LISTING, SEQUENCES, TABLE_B, TABLE_D, path, run, tables};
+use super::{ELEMENTS_ONLY, LISTING, SEQUENCES, tables};
 use crate::check::run_check;
 use crate::command::{MOST_READS, run_command};
 use crate::show::run_show;
 use bufr_bits::{Failed, FromRead, IntoWrite, Sink, Source};
 use bufr_engines::{Input, Tally, ToolFault};
 use std::alloc::Global;
-use std::fs;
 use std::io::Cursor;
 use std::test::Fail;
 
@@ -368,74 +367,8 @@ fn several_messages_shown(rt: HostRuntime) -> Result<(), Fail> {
     Ok(())
 }
 
-#[test]
-fn commands(rt: HostRuntime) -> Result<(), Fail> {
-    let alloc = rt.alloc();
-    let b = path(&rt, "streams_b.csv")?;
-    let d = path(&rt, "streams_d.csv")?;
-    let file = path(&rt, "stream.bufr")?;
-    fs::write(&rt, b.as_str(), TABLE_B)?;
-    fs::write(&rt, d.as_str(), TABLE_D)?;
-    fs::write(
-        &rt,
-        file.as_str(),
-        two_frames_and_a_stray(alloc)?.as_slice(),
-    )?;
-    let line = ["check", "-b", b.as_str(), "-d", d.as_str(), file.as_str()];
-
-    let (status, out, err) = run(&rt, &line)?;
-    assert_eq!(rt; status, 0);
-    assert_eq!(rt; out.as_str(), CHECKED);
-    assert_eq!(rt; err.as_str(), "");
-
-    let mut edition_5 = Vec::from_slice(alloc, SEQUENCES)?;
-    edition_5[7] = 5;
-    fs::write(&rt, file.as_str(), edition_5.as_slice())?;
-    let (status, out, err) = run(&rt, &line)?;
-    assert_eq!(rt; status, 1);
-    assert_eq!(rt;
-        out.as_str(),
-        "0 62 refused M2 Edition 5\nframes 1 refused 1 skipped 0\n"
-    );
-    assert_eq!(rt; err.as_str(), "");
-
-    fs::write(&rt, file.as_str(), b"".as_slice())?;
-    let (status, out, _) = run(&rt, &line)?;
-    assert_eq!(rt; status, 0);
-    assert_eq!(rt; out.as_str(), "frames 0 refused 0 skipped 0\n");
-
-    for file in [&b, &d, &file] {
-        fs::remove_file(&rt, file.as_str())?;
-    }
-    Ok(())
-}
-
-/// The tables are opened first, Table B before Table D, and then the input; none is read before all
-/// are open.
-#[test]
-fn order_of_files(rt: HostRuntime) -> Result<(), Fail> {
-    let alloc = rt.alloc();
-    let bad = path(&rt, "order_bad.csv")?;
-    let one = path(&rt, "order_missing_1")?;
-    let two = path(&rt, "order_missing_2")?;
-    fs::write(&rt, bad.as_str(), b"FXY\n".as_slice())?;
-    for (b, d, input, named) in [
-        (&one, &two, &two, &one),
-        (&bad, &one, &two, &one),
-        (&bad, &bad, &one, &one),
-    ] {
-        let line = ["show", "-b", b.as_str(), "-d", d.as_str(), input.as_str()];
-        let (status, out, err) = run(&rt, &line)?;
-        assert_eq!(rt; status, 2);
-        assert_eq!(rt; out.as_str(), "");
-        let wanted = format!(in alloc; "bufr: cannot open {named}\n")?;
-        assert_eq!(rt; err.as_str(), wanted.as_str());
-    }
-    fs::remove_file(&rt, bad.as_str())?;
-    Ok(())
-}
-
-/// Help that cannot be written is a fault, and the version is the name and the number.
+/// Help that cannot be written is a fault, and the version is the name and the number. The commands
+/// on files are tried by `tests/commands` at the top.
 #[test]
 fn help_and_version(rt: HostRuntime) -> Result<(), Fail> {
     let alloc = rt.alloc();
@@ -448,10 +381,13 @@ fn help_and_version(rt: HostRuntime) -> Result<(), Fail> {
         err.as_slice(),
         b"bufr: write failed after 4 octets\n".as_slice()
     );
-    let (status, out, err) = run(&rt, &["--version"])?;
+    let words = [String::from_str(alloc, "--version")?];
+    let mut out = Vec::new(alloc);
+    let mut err = Vec::new(alloc);
+    let status = run_command(&rt, alloc, words.as_slice(), &mut out, &mut err);
     assert_eq!(rt; status, 0);
-    assert_eq!(rt; out.as_str(), "bufr 0.1.0\n");
-    assert_eq!(rt; err.as_str(), "");
+    assert_eq!(rt; out.as_slice(), b"bufr 0.1.0\n".as_slice());
+    assert!(rt; err.is_empty());
     assert_eq!(rt; MOST_READS, 4_294_967_296);
     Ok(())
 }

@@ -1,4 +1,4 @@
-use Rattle.std.proofs.Common.{◌≡◌, ◌∙◌, ◌≤◌, ◌<◌, ◌+◌, ◌^◌, sym, arith}
+use Rattle.std.proofs.Common.{◌∙◌, ◌≤◌, ◌<◌, ◌+◌, ◌^◌, sym, arith}
 use Rattle.bufr_data.proofs.PutFacts.{fewest_here, fewest_later, fewest_done, shift_is}
 use Rattle.bufr_data.proofs.best.fewest_bits.Goals as goal
 

@@ -1,4 +1,4 @@
-use Rattle.std.proofs.Common.{◌≡◌, ◌≤◌, ◌-◌}
+use Rattle.std.proofs.Common.{◌≡◌, ◌-◌}
 use Rattle.bufr_data.specs.BestColumns.{fewest_bits}
 use Rattle.bufr_data.proofs.best.fewest_bits.Given as goal
 

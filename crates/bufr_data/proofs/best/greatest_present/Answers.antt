@@ -1,4 +1,4 @@
-use Rattle.std.proofs.Common.{◌≡◌, ◌∙◌, ◌<◌, ◌≤◌, length, take, get_or, sym, ap, arith}
+use Rattle.std.proofs.Common.{◌∙◌, ◌<◌, ◌≤◌, length, take, get_or, sym, ap, arith}
 use Rattle.std.proofs.lemmas.List.{take_more, take_all}
 use Rattle.bufr_data.specs.BestColumns.{present, greatest}
 use Rattle.bufr_data.specs.Places.{greatest_step}

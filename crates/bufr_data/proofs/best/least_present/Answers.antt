@@ -1,6 +1,6 @@
-use Rattle.std.proofs.Common.{◌≡◌, ◌∙◌, ◌<◌, ◌≤◌, length, take, get_or, sym, ap, arith}
+use Rattle.std.proofs.Common.{◌∙◌, ◌<◌, ◌≤◌, length, take, get_or, sym, ap, arith}
 use Rattle.std.proofs.lemmas.List.{take_more, take_all}
-use Rattle.bufr_data.specs.BestColumns.{present, least}
+use Rattle.bufr_data.specs.BestColumns.{present}
 use Rattle.bufr_data.specs.Places.{least_of, least_step}
 use Rattle.bufr_data.proofs.PutFacts.{least_more, least_or}
 use Rattle.bufr_data.proofs.best.least_present.Goals as goal

@@ -1,9 +1,7 @@
-use Rattle.std.proofs.Common.{◌≡◌, ◌∙◌, ◌++◌, ◌∷◌, [], ◌+◌, ◌-◌, ◌<◌, ◌≤◌, ℕ, length, map, take, get_or, append-nil, append_assoc, sym, ap, subst, arith}
-use Rattle.std.specs.List.{flat_map}
-use Rattle.std.proofs.lemmas.List.{take_more, take_all}
+use Rattle.std.proofs.Common.{◌++◌, ◌<◌, length, map, take, get_or, arith}
 use Rattle.bufr_bits.specs.Bits.{bin}
-use Rattle.bufr_data.specs.BestColumns.{present, least, greatest, fewest_bits, increment_of, best_numbers}
-use Rattle.bufr_data.proofs.PutFacts.{NumbersPut, numbers_put, numbers_put_of, fit_at_index, increments_push, put_step, put_two, kept_more, kept_same}
+use Rattle.bufr_data.specs.BestColumns.{increment_of}
+use Rattle.bufr_data.proofs.PutFacts.{numbers_put_of, fit_at_index, increments_push, put_step, put_two}
 use Rattle.bufr_data.proofs.best.put_numbers.Goals as goal
 
 pub loop-number-init : goal.loop-number-init

@@ -1,11 +1,11 @@
-use Rattle.std.proofs.Common.{◌≡◌, ◌∙◌, ◌++◌, ◌∷◌, [], ◌+◌, ◌/◌, ◌<◌, ◌≤◌, length, map, take, drop, sym, ap, arith}
+use Rattle.std.proofs.Common.{◌≡◌, ◌∙◌, ◌++◌, ◌∷◌, [], ◌+◌, ◌/◌, ◌<◌, ◌≤◌, length, map, take, drop, ap, arith}
 use Rattle.std.specs.Prelude.{replicate}
 use Rattle.std.specs.List.{flat_map}
 use Rattle.std.proofs.lemmas.List.{take_all}
 use Rattle.bufr_bits.specs.Bits.{bin, bits}
 use Rattle.bufr_data.specs.BestColumns.{first_raw, octets_of}
 use Rattle.bufr_data.specs.Places.{rows_from, values_from}
-use Rattle.bufr_data.proofs.PutFacts.{front_is, values_push, octets_push, put_step, put_text_head, zeros_are, kept_more, kept_same}
+use Rattle.bufr_data.proofs.PutFacts.{front_is, values_push, octets_push, put_step, put_text_head, zeros_are, kept_more}
 use Rattle.bufr_data.proofs.best.put_texts.Goals as goal
 
 pub loop-other-init : goal.loop-other-init

@@ -1,8 +1,8 @@
-use Rattle.std.proofs.Common.{◌≡◌, ◌++◌, ◌/◌, map, take}
+use Rattle.std.proofs.Common.{◌≡◌, ◌++◌, map, take}
 use Rattle.std.specs.Prelude.{replicate}
 use Rattle.std.specs.List.{flat_map}
 use Rattle.bufr_bits.specs.Bits.{bin, bits}
-use Rattle.bufr_data.specs.BestColumns.{first_raw, octets_of}
+use Rattle.bufr_data.specs.BestColumns.{octets_of}
 use Rattle.bufr_data.specs.Places.{rows_from, values_from}
 use Rattle.bufr_data.proofs.best.put_texts.Given as goal
 

@@ -1,7 +1,7 @@
-use Rattle.std.proofs.Common.{◌≡◌, ◌∙◌, ◌*◌, ◌<◌, ◌≤◌, length, arith}
+use Rattle.std.proofs.Common.{◌*◌, ◌<◌, ◌≤◌, length, arith}
 use Rattle.std.proofs.lemmas.Result.{err_from_is_err_and}
 use Rattle.bufr_bits.specs.Ends.{left}
-use Rattle.bufr_data.proofs.PassFacts.{product_is, some_bits, no_text, factor_refused, factor_equal, factor_agrees, factor_differs, numbers_no_head, numbers_end, numbers_refused}
+use Rattle.bufr_data.proofs.PassFacts.{product_is, some_bits, no_text, factor_refused, factor_equal, factor_agrees, factor_differs, numbers_end, numbers_refused}
 use Rattle.bufr_data.proofs.column_pass.pass_factor.Goals as goal
 
 pub returns-then-k-eq0-clause-ok : goal.returns-then-k-eq0-clause-ok

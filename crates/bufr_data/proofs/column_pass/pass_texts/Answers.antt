@@ -1,4 +1,4 @@
-use Rattle.std.proofs.Common.{◌≡◌, ◌*◌, ◌/◌, arith}
+use Rattle.std.proofs.Common.{◌*◌, arith}
 use Rattle.bufr_bits.specs.Ends.{left}
 use Rattle.bufr_data.proofs.PassFacts.{texts_no_minimum, texts_no_width, texts_too_wide, texts_end, texts_pass, times_is}
 use Rattle.bufr_data.proofs.column_pass.pass_texts.Goals as goal

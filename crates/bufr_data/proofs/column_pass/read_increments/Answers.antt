@@ -1,6 +1,5 @@
-use Rattle.std.proofs.Common.{◌≡◌, ◌∙◌, ◌+◌, ◌-◌, ◌*◌, drop, refl, ap, sym, arith}
+use Rattle.std.proofs.Common.{◌≡◌, ◌∙◌, ◌-◌, ◌*◌, drop, refl, ap, sym, arith}
 use Rattle.bufr_bits.specs.Ends.{left}
-use Rattle.bufr_data.specs.declared.fault.ReadFault.TheVariants as faults
 use Rattle.bufr_data.proofs.IncrementFacts.{none_yet, none_left, one_raised, raised_fails, all_raised_so_far, enough_behind, moved_on, drop_is, first_below}
 use Rattle.bufr_data.proofs.column_pass.read_increments.Goals as goal
 

@@ -1,8 +1,5 @@
-use Rattle.std.proofs.Common.{◌≡◌, ◌≤◌, ◌<◌, ◌+◌, ◌-◌, ◌*◌, ◌^◌, ℕ, List, Result, length, drop}
-use Rattle.bufr_bits.specs.Bits.{numbers}
+use Rattle.std.proofs.Common.{◌≡◌, ◌≤◌, ◌<◌, ◌-◌, ◌*◌, ◌^◌, length, drop}
 use Rattle.bufr_bits.specs.Ends.{left}
-use Rattle.bufr_data.specs.declared.field.Raw.{Raw}
-use Rattle.bufr_data.specs.ColumnReading.{all_raised, all_equal, count_of}
 use Rattle.bufr_data.proofs.IncrementFacts.{RaisedSoFar}
 use Rattle.bufr_data.proofs.column_pass.read_increments.Given as goal
 

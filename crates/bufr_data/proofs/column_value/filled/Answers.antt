@@ -1,5 +1,4 @@
 use Rattle.std.proofs.Common.{◌∙◌, length, ap, sym}
-use Rattle.bufr_data.specs.declared.field.Raw.TheVariants.{Text}
 use Rattle.bufr_data.proofs.column_value.filled.Goals.{then-are_ones, else-are_ones}
 use Rattle.bufr_data.proofs.ValueFacts.{filled_is}
 use Rattle.bufr_data.proofs.column_value.filled.Goals as goal

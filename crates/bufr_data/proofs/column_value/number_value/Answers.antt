@@ -1,4 +1,4 @@
-use Rattle.std.proofs.Common.{◌∙◌, arith}
+use Rattle.std.proofs.Common.{arith}
 use Rattle.bufr_bits.specs.Ends.{left}
 use Rattle.bufr_bits.specs.BitLaws.{number_at_is}
 use Rattle.bufr_data.proofs.PassFacts.{product_is}

@@ -1,4 +1,4 @@
-use Rattle.std.proofs.Common.{◌≡◌, ◌*◌, ◌∙◌, Some, ap, sym, arith}
+use Rattle.std.proofs.Common.{◌*◌, ◌∙◌, Some, ap, arith}
 use Rattle.bufr_bits.specs.Ends.{left}
 use Rattle.bufr_data.proofs.ValueFacts.{text_without_minimum, text_without_width, text_too_wide, text_past, text_there_is, own_octets, behind_is}
 use Rattle.bufr_data.proofs.column_value.text_value.Goals as goal

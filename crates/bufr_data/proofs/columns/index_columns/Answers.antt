@@ -1,4 +1,4 @@
-use Rattle.std.proofs.Common.{◌≡◌, ◌∙◌, ◌+◌, ◌∷◌, [], Some, length, length-append, refl, sym, ap, subst, arith}
+use Rattle.std.proofs.Common.{◌≡◌, ◌∙◌, ◌+◌, ◌∷◌, [], Some, length, length-append, refl, ap, subst, arith}
 use Rattle.bufr_bits.specs.Ends.{left}
 use Rattle.bufr_expand.specs.Walks as walks
 use Rattle.bufr_data.specs.Indexed.{PassesPlace}

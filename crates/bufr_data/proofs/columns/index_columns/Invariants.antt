@@ -2,6 +2,7 @@ use Rattle.std.proofs.Common.{◌≡◌, ◌≤◌, ◌+◌, ◌-◌, length, ma
 use Rattle.bufr_bits.specs.Ends.{left}
 use Rattle.bufr_expand.specs.Courses.{course}
 use Rattle.bufr_expand.specs.Walks as walks
+use Rattle.bufr_expand.specs.Limits.{most_items}
 use Rattle.bufr_data.specs.ColumnReading.{columns_at}
 use Rattle.bufr_data.specs.Indexed.{AllOpen, behind_columns, column_from}
 use Rattle.bufr_data.specs.Steady.{IsReady}
@@ -11,7 +12,7 @@ abbrev pub invariant-loop-fault : goal.invariant-loop-fault
 invariant-loop-fault l = record {
   ready : IsReady l.walk;
   few : length l.places.items ≤ walks.items_met l.walk;
-  limit : walks.items_met l.walk ≤ 16777216;
+  limit : walks.items_met l.walk ≤ most_items;
   octets : l.reader.octets ≡ l.fn.reader.octets;
   onward : l.fn.reader.place ≤ l.reader.place;
   open_all : AllOpen l.fn.reader.octets l.subsets l.places.items;
@@ -21,4 +22,4 @@ invariant-loop-fault l = record {
 }
 
 abbrev pub decreases-loop-fault : goal.decreases-loop-fault
-decreases-loop-fault l = 16777217 - walks.items_met l.walk
+decreases-loop-fault l = most_items + 1 - walks.items_met l.walk

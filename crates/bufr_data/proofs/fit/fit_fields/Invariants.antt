@@ -1,6 +1,7 @@
 use Rattle.std.proofs.Common.{◌≡◌, ◌≤◌, ◌+◌, drop}
 use Rattle.bufr_expand.specs.Courses.{course}
 use Rattle.bufr_expand.specs.Walks as walks
+use Rattle.bufr_expand.specs.Limits.{most_items}
 use Rattle.bufr_data.specs.Plain.{items_of}
 use Rattle.bufr_data.specs.Steady.{IsReady}
 use Rattle.bufr_data.proofs.fit.fit_fields.Given as goal
@@ -8,7 +9,7 @@ use Rattle.bufr_data.proofs.fit.fit_fields.Given as goal
 abbrev pub invariant-loop-index : goal.invariant-loop-index
 invariant-loop-index l = record {
   ready : IsReady l.walk;
-  few : l.index ≤ 16777216;
+  few : l.index ≤ most_items;
   items : l.fn.used + l.index ≤ walks.items_met l.walk;
   so_far : items_of l.fn.j 1 (course l.fn.template l.fn.used) l.fields ≡ items_of l.fn.j (l.index + 1) (walks.left l.walk) (drop l.index l.fields);
 }

@@ -1,4 +1,5 @@
 use Rattle.bufr_data.proofs.CauseFacts.{Laws, read_refused_first, first_read_refused, subsets_refused_first, first_subsets_refused}
+use Rattle.bufr_data.proofs.RefusalFacts.{none_on_few, few_where_none}
 use Rattle.bufr_data.proofs.laws.read_refusals_follow_the_tree.Goals as goal
 
 pub returns : goal.returns
@@ -18,4 +19,6 @@ returns c =
       cannot_stand = first_read_refused laws;
       subsets_refused = subsets_refused_first laws;
       subsets_cannot_stand = first_subsets_refused laws;
+      few_bits = none_on_few;
+      none_stands = few_where_none;
     }

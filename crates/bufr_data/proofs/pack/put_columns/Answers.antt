@@ -1,9 +1,8 @@
-use Rattle.std.proofs.Common.{◌≡◌, ◌∙◌, ◌+◌, ◌++◌, ◌∷◌, ◌<◌, ◌≤◌, length, drop, append-nil, append_assoc, Ok, List, Bool, refl, sym, ap, subst, arith}
+use Rattle.std.proofs.Common.{◌∙◌, ◌+◌, ◌++◌, ◌<◌, length, drop, append-nil, append_assoc, sym, ap, arith}
 use Rattle.std.proofs.lemmas.List.{drop_all}
-use Rattle.bufr_data.specs.declared.field.Field.{Field}
-use Rattle.bufr_data.specs.BestColumns.{best, best_bits, columns_of}
+use Rattle.bufr_data.specs.BestColumns.{best, best_bits}
 use Rattle.bufr_data.specs.Places.{rows_from, values_from, columns_here}
-use Rattle.bufr_data.proofs.PutFacts.{PlaceHere, place_here, next_field, place_forms, row_forms, own_at, best_next, best_none, kept_more, kept_same, columns_step}
+use Rattle.bufr_data.proofs.PutFacts.{next_field, place_forms, row_forms, own_at, best_next, best_none, kept_more, columns_step}
 use Rattle.bufr_data.proofs.pack.put_columns.Goals as goal
 
 pub put_best-requires-clause-can : goal.put_best-requires-clause-can

@@ -1,4 +1,4 @@
-use Rattle.std.proofs.Common.{◌≡◌, ◌+◌, ◌++◌, List, Bool, Ok, drop}
+use Rattle.std.proofs.Common.{◌≡◌, ◌+◌, ◌++◌, Ok, drop}
 use Rattle.bufr_data.specs.BestColumns.{best_bits, columns_of}
 use Rattle.bufr_data.specs.Places.{rows_from, columns_here}
 use Rattle.bufr_data.specs.Subsets.{Extends}

@@ -1,5 +1,5 @@
 use Rattle.std.proofs.Common.{◌∙◌}
-use Rattle.bufr_data.proofs.PassedFacts.{text_passes, text_ends, number_passes, number_ends, other_wide}
+use Rattle.bufr_data.proofs.PassedFacts.{text_passes, text_ends, number_passes, number_ends}
 use Rattle.bufr_data.proofs.pass.pass_raw.Goals.{in-Text, in_default-2}
 use Rattle.bufr_data.proofs.pass.pass_raw.Goals as goal
 

@@ -1,8 +1,8 @@
-use Rattle.std.proofs.Common.{◌≡◌, ◌+◌, [], refl, ◌∙◌, arith}
+use Rattle.std.proofs.Common.{◌+◌, [], refl, ◌∙◌, arith}
 use Rattle.bufr_expand.specs.Steady.{course_steady}
 use Rattle.bufr_expand.specs.Walks as walks
 use Rattle.bufr_data.proofs.ReadFacts.{behind_none}
-use Rattle.bufr_data.proofs.PassedFacts.{one_passed, all_passed, one_refused}
+use Rattle.bufr_data.proofs.PassedFacts.{one_passed}
 use Rattle.bufr_data.proofs.pass.pass_subset.Goals as goal
 
 pub loop-fault-init : goal.loop-fault-init

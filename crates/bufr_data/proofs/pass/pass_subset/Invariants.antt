@@ -2,6 +2,7 @@ use Rattle.std.proofs.Common.{◌≡◌, ◌≤◌, ◌+◌, ◌-◌, List}
 use Rattle.bufr_bits.specs.Ends.{left}
 use Rattle.bufr_expand.specs.Courses.{course}
 use Rattle.bufr_expand.specs.Walks as walks
+use Rattle.bufr_expand.specs.Limits.{most_items}
 use Rattle.bufr_data.specs.declared.field.Field.{Field}
 use Rattle.bufr_data.specs.Plain.{fields_at}
 use Rattle.bufr_data.specs.Reads.{behind_fields}
@@ -11,7 +12,7 @@ use Rattle.bufr_data.proofs.pass.pass_subset.Given as goal
 abbrev pub invariant-loop-fault : goal.invariant-loop-fault
 invariant-loop-fault l = record {
   ready : IsReady l.walk;
-  few : l.i ≤ 16777217;
+  few : l.i ≤ most_items + 1;
   items : l.i ≤ walks.items_met l.walk + 1;
   octets : l.reader.octets ≡ l.fn.reader.octets;
   onward : l.fn.reader.place ≤ l.reader.place;
@@ -20,4 +21,4 @@ invariant-loop-fault l = record {
 }
 
 abbrev pub decreases-loop-fault : goal.decreases-loop-fault
-decreases-loop-fault l = 16777217 - walks.items_met l.walk
+decreases-loop-fault l = most_items + 1 - walks.items_met l.walk

@@ -1,6 +1,6 @@
-use Rattle.std.proofs.Common.{◌≡◌, ◌∙◌, ◌<◌, ◌≤◌, length, drop, sym, ap, arith}
+use Rattle.std.proofs.Common.{◌∙◌, ◌<◌, ◌≤◌, length, drop, sym, arith}
 use Rattle.bufr_data.specs.declared.field.Subset.{Subset}
-use Rattle.bufr_data.specs.BestColumns.{begins_like, first_raw, is_empty}
+use Rattle.bufr_data.specs.BestColumns.{first_raw}
 use Rattle.bufr_data.specs.ColumnReading.{same_raw}
 use Rattle.bufr_data.proofs.RowFacts.{all_false, all_step, all_end, values_all}
 use Rattle.bufr_data.proofs.places.are_equal.Goals as goal

@@ -1,7 +1,4 @@
-use Rattle.std.proofs.Common.{◌≡◌, ◌∙◌, ◌<◌, ◌≤◌, length, drop, refl, sym, ap, arith}
-use Rattle.bufr_data.specs.declared.field.Subset.{Subset}
-use Rattle.bufr_data.specs.BestColumns.{begins_like, first_raw, is_empty}
-use Rattle.bufr_data.specs.ColumnReading.{same_raw}
+use Rattle.std.proofs.Common.{◌∙◌, ◌<◌, length, refl, sym, arith}
 use Rattle.bufr_data.proofs.RowFacts.{no_place_yet, place_more, place_refused, places_pass, places_end_apart}
 use Rattle.bufr_data.proofs.places.check_places.Goals as goal
 

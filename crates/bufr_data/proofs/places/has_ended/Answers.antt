@@ -1,7 +1,5 @@
-use Rattle.std.proofs.Common.{◌≡◌, ◌∙◌, ◌<◌, ◌≤◌, length, drop, sym, ap, arith}
-use Rattle.bufr_data.specs.declared.field.Subset.{Subset}
-use Rattle.bufr_data.specs.BestColumns.{begins_like, first_raw, is_empty}
-use Rattle.bufr_data.specs.ColumnReading.{same_raw}
+use Rattle.std.proofs.Common.{sym, ap}
+use Rattle.bufr_data.specs.BestColumns.{is_empty}
 use Rattle.bufr_data.proofs.RowFacts.{next_is, none_next}
 use Rattle.bufr_data.proofs.places.has_ended.Goals as goal
 

@@ -2,6 +2,7 @@ use Rattle.std.proofs.Common.{◌≡◌, ◌≤◌, ◌+◌, ◌-◌, length}
 use Rattle.bufr_bits.specs.Ends.{left}
 use Rattle.bufr_expand.specs.Courses.{course}
 use Rattle.bufr_expand.specs.Walks as walks
+use Rattle.bufr_expand.specs.Limits.{most_items}
 use Rattle.bufr_data.specs.Plain.{fields_at}
 use Rattle.bufr_data.specs.Reads.{behind_fields}
 use Rattle.bufr_data.specs.Steady.{IsReady}
@@ -10,7 +11,7 @@ use Rattle.bufr_data.proofs.read.read_fields.Given as goal
 abbrev pub invariant-loop-fields : goal.invariant-loop-fields
 invariant-loop-fields l = record {
   ready : IsReady l.walk;
-  few : length l.fields.items ≤ 16777216;
+  few : length l.fields.items ≤ most_items;
   items : l.fn.used + length l.fields.items ≤ walks.items_met l.walk;
   octets : l.reader.octets ≡ l.fn.reader.octets;
   onward : l.fn.reader.place ≤ l.reader.place;
@@ -18,4 +19,4 @@ invariant-loop-fields l = record {
 }
 
 abbrev pub decreases-loop-fields : goal.decreases-loop-fields
-decreases-loop-fields l = 16777217 - walks.items_met l.walk
+decreases-loop-fields l = most_items + 1 - walks.items_met l.walk

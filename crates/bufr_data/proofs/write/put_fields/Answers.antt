@@ -1,4 +1,4 @@
-use Rattle.std.proofs.Common.{◌<◌, ◌∙◌, length, take, arith}
+use Rattle.std.proofs.Common.{◌∙◌, take, arith}
 use Rattle.bufr_data.specs.Plain.{plain}
 use Rattle.bufr_data.proofs.WriteFacts.{bits_step, bits_end}
 use Rattle.bufr_data.proofs.write.put_fields.Goals as goal

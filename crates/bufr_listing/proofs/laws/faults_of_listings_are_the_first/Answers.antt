@@ -8,6 +8,8 @@ returns c =
     let lower : LowerLaws = record {
       descriptors = c.descriptor_texts.ensures;
       specs = c.courses_are_steady.ensures.in_range;
+      builds = c.templates_are_trees.ensures.built;
+      refuses = c.templates_are_trees.ensures.refused;
       fit = c.counted_subsets_fit.ensures.all_fit;
       counted = c.counted_subsets_fit.ensures.all_counted;
     } in

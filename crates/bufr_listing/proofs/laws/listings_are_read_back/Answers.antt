@@ -5,4 +5,4 @@ pub returns-clause-joined : goal.returns-clause-joined
 returns-clause-joined c = listing_joined
 
 pub returns-clause-read : goal.returns-clause-read
-returns-clause-read c = listing_read_back (record { descriptors = c.descriptor_texts.ensures; specs = c.courses_are_steady.ensures.in_range; fit = c.counted_subsets_fit.ensures.all_fit; counted = c.counted_subsets_fit.ensures.all_counted })
+returns-clause-read c = listing_read_back (record { descriptors = c.descriptor_texts.ensures; specs = c.courses_are_steady.ensures.in_range; builds = c.templates_are_trees.ensures.built; refuses = c.templates_are_trees.ensures.refused; fit = c.counted_subsets_fit.ensures.all_fit; counted = c.counted_subsets_fit.ensures.all_counted })

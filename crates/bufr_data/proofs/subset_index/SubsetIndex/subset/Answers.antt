@@ -1,4 +1,4 @@
-use Rattle.std.proofs.Common.{◌∙◌, ◌-◌, sym, arith}
+use Rattle.std.proofs.Common.{◌-◌, arith}
 use Rattle.bufr_data.proofs.ShownFacts.{many_shown, one_shown}
 use Rattle.bufr_data.proofs.subset_index.SubsetIndex.subset.Goals as goal
 

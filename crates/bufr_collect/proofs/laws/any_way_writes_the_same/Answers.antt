@@ -1,0 +1,7 @@
+use Rattle.bufr_collect.proofs.WayFacts.{any_way}
+use Rattle.bufr_collect.proofs.laws.any_way_writes_the_same.Goals as goal
+
+pub returns : goal.returns
+returns c =
+    any_way c.texts_are_cut_apart.ensures.told c.reports_told_are_under.ensures
+    c.same_messages_same_kept.ensures

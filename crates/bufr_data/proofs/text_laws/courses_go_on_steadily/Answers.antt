@@ -1,5 +1,0 @@
-use Rattle.bufr_expand.specs.Steady.{course_steady}
-use Rattle.bufr_data.proofs.text_laws.courses_go_on_steadily.Goals as goal
-
-pub returns : goal.returns
-returns c = course_steady

@@ -1,0 +1,40 @@
+-- The octets that a report's own fields spell alone. The tables are not asked: a report under some
+-- tables has this one canonical message under each tables under which it has one.
+use Rattle.std.specs.Prelude.{◌≡◌, ℕ, ◌^◌, ◌&&◌, Bool, true, List, Option, Some, None, nat_lt, nat_le, option_map, if◌then◌else◌}
+use Rattle.std.specs.List.{list_all}
+use Rattle.bufr_tables.specs.Entries.{Entries}
+use Rattle.bufr_data.specs.declared.field.Raw.{Raw}
+use Rattle.bufr_data.specs.declared.field.Raw.TheVariants.{Number, Text}
+use Rattle.bufr_data.specs.declared.field.Field.{Field}
+use Rattle.bufr_data.specs.Plain.{plain}
+use Rattle.bufr_message.specs.declared.report.Report.{Report}
+use Rattle.bufr_message.specs.Encodings.{enclosed_or}
+use Rattle.bufr_message.specs.Reports.{alone, if_written, IsCanonical}
+
+-- a raw value can be put in so many bits: a number is below 2 to their power, and they are at most
+-- 64 (FM 94 BUFR, regulation 94.1.3)
+abbrev pub has_room : ℕ → Raw → Bool
+has_room width (Number n) = nat_le width 64 && nat_lt n (2 ^ width)
+has_room width (Text octets) = true
+
+-- each field's raw value can be put in the bits that it has
+abbrev pub have_room : List Field → Bool
+have_room fields = list_all (λ (f : Field). has_room f.spec.width f.raw) fields
+
+-- the bits of fields, where each has room
+abbrev pub own_bits : List Field → Option (List Bool)
+own_bits fields = if have_room fields then Some (plain fields) else None
+
+-- the octets of the report alone with these data bits, where it is not too long
+abbrev pub spelt_with : Report → Option (List Bool) → Option (List ℕ)
+spelt_with r None = None
+spelt_with r (Some data_bits) = if_written (enclosed_or (alone r) data_bits)
+
+-- the octets that the report's own fields spell
+abbrev pub spelt_alone : Report → Option (List ℕ)
+spelt_alone r = spelt_with r (own_bits r.subset.fields)
+
+-- a canonical message, under whatever tables, is what the report's own fields spell
+abbrev pub CanonicalIsOwn : Type 0
+CanonicalIsOwn = (tables : Entries) (r : Report) (octets : List ℕ)
+    → IsCanonical tables r octets → spelt_alone r ≡ Some octets

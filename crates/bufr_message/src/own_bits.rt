@@ -1,0 +1,112 @@
+//! The canonical message of a report that was read, from its own fields alone.
+
+ghost use Rattle.std.specs.Prelude.{◌≡◌, ◌++◌, ◌^◌, ◌&&◌, ℕ, List, true, Some, IfOk, OnOk};
+ghost use Rattle.std.specs.Prelude.{option_map, nat_lt, nat_le};
+ghost use Rattle.bufr_bits.specs.Bits.{bits};
+ghost use Rattle.bufr_tables.specs.Entries.{Entries};
+ghost use Rattle.bufr_data.specs.Plain.{raw_bits};
+ghost use Rattle.bufr_message.specs.Encodings.{filled};
+ghost use Rattle.bufr_message.specs.OwnBits.{has_room, own_bits, spelt_alone};
+ghost use Rattle.bufr_message.specs.Reports.{IsCanonical};
+
+use crate::encoding::enclose;
+use crate::laws::canonical_messages_are_own;
+use crate::lent::Lent;
+use crate::report::Report;
+use bufr_bits::BitSink;
+use bufr_data::{Field, Raw};
+use bufr_tables::{Failure, OutOfMemory};
+use std::alloc::Global;
+use std::slice;
+
+/// The canonical message of a report that has one under some tables, as each report of a decoded
+/// message and of a view has: the octets that `canonical` answers, written from the report's own
+/// fields, with no tables asked and no template built. Of any other report it answers what its
+/// fields spell so, or `None` where a number has no room in its field or the message is too long.
+/// It can only run out of memory.
+pub fn canonical_of_read(alloc: Global, report: &Report) -> Result<Option<Vec<u8>>, OutOfMemory>
+    // A report that has a canonical message under some tables has this one.
+    ensures canonical { (tables : Entries) (octets : List ℕ)
+        → IsCanonical tables report.now octets
+        → IfOk result (λ found. option_map (λ v. v.items) found ≡ Some octets) }
+    // Which octets it is.
+    ensures exact { IfOk result (λ found.
+        option_map (λ v. v.items) found ≡ spelt_alone report.now) }
+{
+    canonical_messages_are_own();
+    octets_alone(alloc, report)
+}
+
+/// The octets that the report's own fields spell: the one clause from which `canonical_of_read` has
+/// its other.
+fn octets_alone(alloc: Global, report: &Report) -> Result<Option<Vec<u8>>, OutOfMemory>
+    ensures { IfOk result (λ found.
+        option_map (λ v. v.items) found ≡ spelt_alone report.now) }
+{
+    let fields = report.subset.fields.as_slice();
+    let Some(contents) = bits_of_fields(alloc, fields)? else {
+        return Ok(None);
+    };
+    let head = report.head.with_no_local(alloc);
+    let none = None;
+    let lent = Lent {
+        head: &head,
+        section2: &none,
+        observed: report.observed,
+        compressed: false,
+        descriptors: report.descriptors.as_slice(),
+        subsets: slice::from_ref(&report.subset),
+    };
+    match enclose(alloc, &lent, &contents) {
+        Ok(octets) => Ok(Some(octets)),
+        Err(Failure::Fault(_)) => Ok(None),
+        Err(Failure::OutOfMemory) => Err(OutOfMemory),
+    }
+}
+
+/// The bits of fields, filled to whole octets; `None` where a number has no room in its field.
+fn bits_of_fields(alloc: Global, fields: &[Field]) -> Result<Option<Vec<u8>>, OutOfMemory>
+    ensures { IfOk result (λ found.
+        option_map (λ v. bits v.items) found ≡ option_map filled (own_bits fields.now)) }
+{
+    let mut sink = BitSink::new(alloc);
+    for field in fields {
+        if !has_room(&field.raw, field.spec.width) {
+            return Ok(None);
+        }
+        put_raw(&field.raw, field.spec.width, &mut sink)?;
+    }
+    sink.fill_octet();
+    Ok(Some(sink.into_bytes()))
+}
+
+/// Whether a raw value can be put in so many bits.
+fn has_room(raw: &Raw, width: u32) -> bool
+    ensures { result ≡ has_room width raw.now }
+{
+    match raw {
+        Raw::Number(number) => is_below(*number, width),
+        Raw::Text(_) => true,
+    }
+}
+
+/// Whether a number stands in so many bits, which are at most 64.
+fn is_below(number: u64, width: u32) -> bool
+    ensures { result ≡ (nat_le width 64 && nat_lt number (2 ^ width)) }
+{
+    if width > 64 {
+        return false;
+    }
+    width == 64 || number < 1 << width
+}
+
+/// Puts a raw value in so many bits.
+fn put_raw(raw: &Raw, width: u32, sink: &mut BitSink) -> Result<(), OutOfMemory>
+    requires { has_room width raw.now ≡ true }
+    ensures { OnOk result (sink.new ≡ sink.old ++ raw_bits width raw.now) }
+{
+    match raw {
+        Raw::Number(number) => sink.put(width, *number),
+        Raw::Text(octets) => sink.put_bytes(octets.as_slice()),
+    }
+}
