@@ -1,4 +1,4 @@
--- Reports added one after the other, for the contracts of `Archive::add_all` and `add_one`.
+-- Reports added one after the other: for `Archive::add_all`, and so for `Archive::add_message`.
 use Rattle.std.proofs.Common.{◌≡◌, ℕ, zero, suc, ◌+◌, ◌<◌, ◌≤◌, Bool, true, false, cond, Option, None, List, [], ◌∷◌, ◌++◌, length, take, get_or, refl, sym, ap, ◌∙◌, arith, append_assoc}
 use Rattle.std.proofs.lemmas.List.{append-nil}
 use Rattle.std.proofs.lemmas.Grind.{flat_map-append}

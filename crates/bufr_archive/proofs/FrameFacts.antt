@@ -12,7 +12,7 @@ use Rattle.bufr_archive.specs.Texts.{text}
 use Rattle.bufr_archive.specs.TextLaws.{AreFrames, FramesOfTexts, FramesOfFronts, TellOwn, TextsTell}
 use Rattle.bufr_archive.proofs.TextFacts.{kept_each}
 
--- what bufr_frame says of frames that are joined, and of fronts of these
+-- what bufr_frame says of frames that are joined
 abbrev pub Joined : Type 0
 Joined = (frames : List (List ℕ)) → AllByRecursion IsOneFrame frames
     → cut (flat_map (λ octets. octets) frames) ≡ frames_at 0 frames

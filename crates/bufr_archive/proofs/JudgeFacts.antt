@@ -47,6 +47,7 @@ then_ok : (x : Option Entry) (place : ℕ) (more : Entry → Answer) (es : List 
 then_ok None place more es h = absurd cc
 then_ok (Some e) place more es h = mapped_ok (more e) refl
   where
+    -- by what was read
     mapped_ok : (y : Answer) → more e ≡ y
         → (f : Entry) × (fs : List Entry) × (Some e ≡ Some f) × (more f ≡ Ok fs) × (f ∷ fs ≡ es)
     mapped_ok (Ok fs) is = (
@@ -68,6 +69,7 @@ then_err : (x : Option Entry) (place : ℕ) (more : Entry → Answer) (stop : �
 then_err None place more stop h = inl cc
 then_err (Some e) place more stop h = inr (e, refl, mapped_err (more e) h)
   where
+    -- by what was read
     mapped_err : (y : Answer) → result_map (λ fs. e ∷ fs) y ≡ Err stop → y ≡ Err stop
     mapped_err (Ok fs) g = absurd cc
     mapped_err (Err p) g = ap Err cc

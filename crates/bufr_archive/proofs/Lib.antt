@@ -1,4 +1,6 @@
+-- What the contracts and laws of archives are proved from.
 pub mod AddFacts
+pub mod BeforeFacts
 pub mod EntryFacts
 pub mod FrameFacts
 pub mod JudgeFacts

@@ -1,4 +1,4 @@
--- Reading a text step by step: for the loop of `Archive::read_entries`.
+-- Reading a text step by step: for the loop of `Archive::read_entries`, and so for `Archive::read`.
 use Rattle.std.proofs.Common.{◌≡◌, ℕ, ◌+◌, ◌-◌, ◌<◌, ◌≤◌, ◌^◌, true, List, [], ◌∷◌, ◌++◌, length, drop, Option, Some, None, Ok, Err, refl, sym, ap, subst, ◌∙◌, arith, append_assoc, length-append}
 use Rattle.std.proofs.lemmas.List.{append-nil, drop_at}
 use Rattle.std.proofs.lemmas.List.Elements.{All-drop}
@@ -79,7 +79,8 @@ module _ (is_entry : Entry → Type 0) (entry_in : List ℕ → Option Entry)
       let long : length (text (es ++ e ∷ [])) ≡ length (text es) + length e.bytes =
       ap length (text-push es e) ∙ length-append (text es) e.bytes in
       let left = drop (length e.bytes) rest in
-      let so_far : ReadSoFar is_entry octets (es ++ e ∷ []) (Some e) (place + length e.bytes) left = record {
+      let next = place + length e.bytes in
+      let so_far : ReadSoFar is_entry octets (es ++ e ∷ []) (Some e) next left = record {
         run = run;
         last = last_more None es e;
         parts = s.parts
@@ -90,8 +91,7 @@ module _ (is_entry : Entry → Type 0) (entry_in : List ℕ → Option Entry)
         there = omega arith;
         some = All-drop (λ x. x < 2 ^ 8) (length e.bytes) rest s.some;
       } in
-      subst (λ (xs : List Entry). ReadSoFar is_entry octets xs (Some e) (place + length e.bytes) left)
-      same so_far
+      subst (λ (xs : List Entry). ReadSoFar is_entry octets xs (Some e) next left) same so_far
 
   -- all was read
   pub read_all : (octets : List ℕ) (es : List Entry) (before : Option Entry) (place : ℕ)

@@ -75,7 +75,8 @@ written_is (Err fault) octets e = absurd cc
 canonical_is_frame : MessagesWrittenAreBare → (tables : Entries) (r : Report) (octets : List ℕ)
     → IsCanonical tables r octets → IsOneFrame octets
 canonical_is_frame bare tables r octets c =
-    let s = bare tables (alone r) octets c.fits (written_is (code tables (alone r)) octets c.written) in
+    let written = written_is (code tables (alone r)) octets c.written in
+    let s = bare tables (alone r) octets c.fits written in
     subst IsOneFrame (sym s.spells.spelled) (spelling_is_frame _ _ _ s.spells.fits)
 
 -- octets are the same as themselves
@@ -129,17 +130,19 @@ entry_takes : MessagesReadAreSpelt → ReportsSpeltAreUnder → (tables : Entrie
 entry_takes read_spelt under tables octets e all found =
     let r = bind_some (only_one (reports_in tables octets)) _ e found in
     let one = only_one_is (reports_in tables octets) r.0 r.1 in
-    let t = tested_some (is_canonical (canonical tables r.0) octets) (entry_with r.0 octets) e r.2 in
+    let own = entry_with r.0 octets in
+    let t = tested_some (is_canonical (canonical tables r.0) octets) own e r.2 in
     let canon : IsCanonical tables r.0 octets = record {
       fits = report_fits read_spelt under tables octets r.0 all one;
       written = canonical_of (canonical tables r.0) octets t.0;
     } in
-    let entry : IsReportEntry tables (entry_with r.0 octets) =
+    let entry : IsReportEntry tables own =
     record { report = r.0; canon = canon; is = refl } in
     (subst (IsReportEntry tables) t.1 entry, ap (λ (e : Entry). e.bytes) (sym t.1))
 
 -- ---- so they keep the laws of entries
 
+-- the entry of a report is found in its own octets and in no others, and these are one frame
 pub reports_are_entries : MessagesReadAreSpelt → MessagesWrittenAreBare → CanonicalIsRead
     → ReportsSpeltAreUnder → ReportsAreEntries
 reports_are_entries read_spelt bare reads under tables = record {

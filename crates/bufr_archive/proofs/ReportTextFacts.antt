@@ -1,4 +1,4 @@
--- Texts in words over reports: for the clauses of `Archive::read` and the law on texts as streams.
+-- Texts in words over reports: for the clauses of `Archive::read` and `laws::texts_are_cut_apart`.
 use Rattle.std.proofs.Common.{◌≡◌, ℕ, List, [], ◌∷◌, ◌++◌, take, Option, Some, Result, Ok, Err, refl, sym, ap, subst, ◌∙◌}
 use Rattle.std.specs.Prelude.{IfOk, IfErr, option_map, option_to_list}
 use Rattle.std.specs.List.{AllByRecursion, flat_map}
@@ -9,7 +9,7 @@ use Rattle.bufr_tables.specs.declared.failure.Failure.TheVariants.{Fault, OutOfM
 use Rattle.bufr_frame.specs.declared.frames.Found.{Found}
 use Rattle.bufr_frame.specs.Streams.{cut}
 use Rattle.bufr_message.specs.declared.report.Report.{Report}
-use Rattle.bufr_message.specs.Reports.{reports_in, CanonicalIsRead}
+use Rattle.bufr_message.specs.Reports.{reports_in, IsUnder, CanonicalIsRead}
 use Rattle.bufr_shelves.specs.declared.entry.Entry.{Entry}
 use Rattle.bufr_shelves.specs.Entries.{kept}
 use Rattle.bufr_archive.specs.declared.reading.NotAnArchive.{NotAnArchive}
@@ -26,18 +26,21 @@ use Rattle.bufr_archive.proofs.FrameFacts.{Joined, Fronts, frames_of_texts, fram
 
 -- ---- reports and their entries
 
+-- a report under the tables has its entry
+pub entry_is : (tables : Entries) (r : Report) (u : IsUnder tables r)
+    → entry_of tables r ≡ Some (entry_with r u.0)
+entry_is tables r u = ap (option_map (entry_with r)) u.1.written
+
 -- the entries of reports under the tables
-entries_are : (tables : Entries) (rs : List Report) → AreUnder tables rs
+pub entries_are : (tables : Entries) (rs : List Report) → AreUnder tables rs
     → AllByRecursion (IsReportEntry tables) (entries_of (report_entries tables rs))
 entries_are tables [] a = tt
 entries_are tables (r ∷ rs) a =
     let octets = a.0.0 in
-    let own : entry_of tables r ≡ Some (entry_with r octets) =
-    ap (option_map (entry_with r)) a.0.1.written in
     let is : IsReportEntry tables (entry_with r octets) =
     record { report = r; canon = a.0.1; is = refl } in
     subst (λ (x : Option Entry). AllByRecursion (IsReportEntry tables)
-    (option_to_list x ++ entries_of (report_entries tables rs))) (sym own)
+    (option_to_list x ++ entries_of (report_entries tables rs))) (sym (entry_is tables r a.0))
     (is, entries_are tables rs a.1)
 
 -- entries of reports have some
@@ -110,6 +113,7 @@ module _ (laws : ReportsAreEntries) (tables : Entries) (octets : List ℕ)
   pub accepted : AreOctets octets → IfOk x (IsArchiveOf tables octets)
   accepted all = by x gives
     where
+      -- by what was answered
       by : (x : Result ArchiveView (Failure NotAnArchive))
           → Gives (λ a. a) x (archive_read tables octets) → IfOk x (IsArchiveOf tables octets)
       by (Ok a) g =
@@ -138,6 +142,7 @@ module _ (laws : ReportsAreEntries) (tables : Entries) (octets : List ℕ)
   pub refused : AreOctets octets → IfErr x (RefusedAt tables octets)
   refused all = by x gives
     where
+      -- by what was answered
       by : (x : Result ArchiveView (Failure NotAnArchive))
           → Gives (λ a. a) x (archive_read tables octets) → IfErr x (RefusedAt tables octets)
       by (Ok a) g = tt

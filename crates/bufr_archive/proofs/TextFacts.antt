@@ -21,7 +21,8 @@ use Rattle.bufr_archive.proofs.JudgeFacts.{last_of}
 use Rattle.bufr_archive.proofs.JudgeFacts as judging
 
 -- what holds of all holds of each
-has_each : (P : Entry → Type 0) (es : List Entry) (e : Entry) → AllByRecursion P es → Has es e → P e
+pub has_each : (P : Entry → Type 0) (es : List Entry) (e : Entry) → AllByRecursion P es → Has es e
+    → P e
 has_each P [] e a h = absurd h
 has_each P (f ∷ es) e a (inl q) = subst P (sym q) a.0
 has_each P (f ∷ es) e a (inr h) = has_each P es e a.1 h

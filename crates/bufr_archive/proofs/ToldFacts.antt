@@ -1,9 +1,8 @@
 -- The reports that a stream tells are those of the messages that its frames spell: for
 -- `laws::told_are_of_messages`.
-use Rattle.std.proofs.Common.{◌≡◌, ◌⊎◌, inl, inr, ℕ, List, [], ◌∷◌, ◌++◌, length, take, drop, Result, Ok, Err, refl, sym, ap, subst}
+use Rattle.std.proofs.Common.{◌≡◌, inl, inr, ℕ, List, [], ◌∷◌, length, drop, Result, Ok, Err, refl, sym, ap, subst}
 use Rattle.std.specs.List.{AllByRecursion, flat_map}
 use Rattle.std.proofs.lemmas.List.Elements.{All-take, All-drop}
-use Rattle.bufr_tables.specs.Entries.{Entries}
 use Rattle.bufr_frame.specs.declared.frames.Found.{Found}
 use Rattle.bufr_frame.specs.Streams.{cut}
 use Rattle.bufr_frame.specs.Cuts.{IsFrameOf, IsCut}
@@ -16,8 +15,7 @@ use Rattle.bufr_message.specs.Laws.{MessagesReadAreSpelt, MessagesSpeltAreRead}
 use Rattle.bufr_message.specs.Reports.{reports_of, reports_read, reports_in}
 use Rattle.bufr_shelves.specs.Keeping.{Has}
 use Rattle.bufr_shelves.specs.KeepingLaws.{Has-left, Has-right, Has-append}
-use Rattle.bufr_archive.specs.ReportTexts.{told}
-use Rattle.bufr_archive.specs.ReportLaws.{IsTold, ToldAreTold, OnlyToldAreTold}
+use Rattle.bufr_archive.specs.ReportLaws.{ToldAreTold, OnlyToldAreTold}
 
 -- what the layer of frames says of a cut
 abbrev CutsAre : Type 0

@@ -1,5 +1,5 @@
 -- What the entries, the texts and the streams of reports have to do with one another.
-use Rattle.std.specs.Prelude.{◌≡◌, ℕ, ◌≤◌, List, length, take, map}
+use Rattle.std.specs.Prelude.{◌≡◌, ℕ, ◌≤◌, List, length, take, map, Some}
 use Rattle.bufr_tables.specs.Entries.{Entries}
 use Rattle.bufr_frame.specs.declared.frames.Found.{Found}
 use Rattle.bufr_frame.specs.Streams.{cut}
@@ -9,11 +9,14 @@ use Rattle.bufr_sections.specs.Sections.{AreOctets}
 use Rattle.bufr_message.specs.declared.report.Report.{Report}
 use Rattle.bufr_message.specs.Messages.{Spells}
 use Rattle.bufr_message.specs.Reports.{reports_of}
-use Rattle.bufr_shelves.specs.Keeping.{Has}
+use Rattle.bufr_shelves.specs.declared.entry.Entry.{Entry}
+use Rattle.bufr_shelves.specs.Entries.{coarse_slot_cmp, rank_cmp}
+use Rattle.bufr_shelves.specs.Keeping.{Has, Within, AreKept}
+use Rattle.bufr_archive.specs.Archives.{entries_of}
 use Rattle.bufr_archive.specs.EntryLaws.{HasEntryLaws}
 use Rattle.bufr_archive.specs.Texts.{text}
-use Rattle.bufr_archive.specs.ReportEntries.{IsReportEntry, AreUnder, entry_in, kept_of, text_of}
-use Rattle.bufr_archive.specs.ReportTexts.{told}
+use Rattle.bufr_archive.specs.ReportEntries.{IsReportEntry, AreUnder, entry_in, report_entries, kept_of, text_of}
+use Rattle.bufr_archive.specs.ReportTexts.{IsText, IsTextFromBefore, kept_before, told}
 
 -- the entry of a report under the tables is found in its own octets and in no others, and these are
 -- one frame
@@ -36,6 +39,31 @@ FramesOfReportFronts = (tables : Entries) (rs : List Report) (k n : ℕ) → Are
 abbrev pub ReportTextsTell : Type 0
 ReportTextsTell = (tables : Entries) (rs : List Report) → AreUnder tables rs
     → kept_of tables (told tables (text_of tables rs)) ≡ kept_of tables rs
+
+-- of some reports these have these entries, one each and in this order
+pub record HaveEntries (tables : Entries) (rs ks : List Report) (es : List Entry) : Type 0 where
+  pub under : AreUnder tables ks
+  pub from : Within ks rs
+  pub entries : report_entries tables ks ≡ map Some es
+
+-- A text from before, when keys had no sub-centre, is the text of the reports that were kept then:
+-- each of them is kept now too, with the same entry and in the same order.
+abbrev pub TextsFromBefore : Type 0
+TextsFromBefore = (tables : Entries) (rs : List Report) → AreUnder tables rs
+    → (ks : List Report) × HaveEntries tables rs ks (kept_before tables rs)
+    × (kept_of tables ks ≡ kept_before tables rs)
+    × (text_of tables ks ≡ text (kept_before tables rs))
+
+-- so a text from before is a text
+abbrev pub FromBeforeAreTexts : Type 0
+FromBeforeAreTexts = (tables : Entries) (octets : List ℕ) → IsTextFromBefore tables octets
+    → IsText tables octets
+
+-- what was kept before are the best of each slot of then, in order
+abbrev pub KeptBeforeIsTheBest : Type 0
+KeptBeforeIsTheBest = (tables : Entries) (rs : List Report) → AreUnder tables rs
+    → AreKept coarse_slot_cmp rank_cmp (entries_of (report_entries tables rs))
+    (kept_before tables rs)
 
 -- a report is told by a stream: it is one of a message that a frame of the stream spells
 pub record IsTold (tables : Entries) (stream : List ℕ) (r : Report) : Type 0 where

@@ -7,9 +7,12 @@ use Rattle.bufr_tables.specs.declared.failure.Failure.TheVariants.{Fault, OutOfM
 use Rattle.bufr_frame.specs.Streams.{cut}
 use Rattle.bufr_message.specs.declared.report.Report.{Report}
 use Rattle.bufr_message.specs.Reports.{reports_in}
+use Rattle.bufr_shelves.specs.declared.entry.Entry.{Entry}
+use Rattle.bufr_shelves.specs.Entries.{coarsely_kept}
 use Rattle.bufr_archive.specs.declared.reading.NotAnArchive.{NotAnArchive}
-use Rattle.bufr_archive.specs.Archives.{ArchiveView}
-use Rattle.bufr_archive.specs.ReportEntries.{AreUnder, kept_of, text_of}
+use Rattle.bufr_archive.specs.Archives.{ArchiveView, entries_of}
+use Rattle.bufr_archive.specs.Texts.{text}
+use Rattle.bufr_archive.specs.ReportEntries.{AreUnder, report_entries, kept_of, text_of}
 
 -- octets are an archive's text where they are the text of some reports under the tables
 pub record IsText (tables : Entries) (octets : List ℕ) : Type 0 where
@@ -36,6 +39,19 @@ IsArchiveOf tables octets archive = (rs : List Report) × AreUnder tables rs
 abbrev pub RefusedAt : Entries → List ℕ → Failure NotAnArchive → Type 0
 RefusedAt tables octets OutOfMemory = Unit {0}
 RefusedAt tables octets (Fault f) = BreaksAt tables octets f.place
+
+-- ---- texts from before, when keys had no sub-centre
+
+-- what an archive kept of reports while keys had no sub-centre
+abbrev pub kept_before : Entries → List Report → List Entry
+kept_before tables rs = coarsely_kept (entries_of (report_entries tables rs))
+
+-- octets are a text from before where they are what was kept of some reports under the tables while
+-- keys had no sub-centre, their canonical messages joined
+pub record IsTextFromBefore (tables : Entries) (octets : List ℕ) : Type 0 where
+  pub reports : List Report
+  pub under : AreUnder tables reports
+  pub says : octets ≡ text (kept_before tables reports)
 
 -- ---- what a stream tells
 

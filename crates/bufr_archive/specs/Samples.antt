@@ -1,17 +1,16 @@
 -- What the examples speak of: worked messages of 62 octets, and what is made of reports under the
 -- tables of the examples.
-use Rattle.std.specs.Prelude.{ℕ, List, [], ◌++◌, map, codes, Option, Result, pos}
+use Rattle.std.specs.Prelude.{ℕ, List, ◌++◌, map, codes, Option, Result, pos}
 use Rattle.bufr_expand.specs.Samples.{sample}
 use Rattle.bufr_sections.specs.Samples.{hex, framed, plain1}
-use Rattle.bufr_message.specs.declared.report.Report.{Report}
 use Rattle.bufr_message.specs.Reports.{reports_in}
 use Rattle.bufr_shelves.specs.declared.key.Station.TheVariants.{Wmo}
 use Rattle.bufr_shelves.specs.declared.key.Key.{Key}
 use Rattle.bufr_shelves.specs.declared.entry.Entry.{Entry}
 use Rattle.bufr_archive.specs.Archives.{entries_of}
-use Rattle.bufr_archive.specs.Texts.{entries_read}
+use Rattle.bufr_archive.specs.Texts.{text, entries_read}
 use Rattle.bufr_archive.specs.ReportEntries.{key_of, report_entries, text_of, entry_in}
-use Rattle.bufr_archive.specs.ReportTexts.{told}
+use Rattle.bufr_archive.specs.ReportTexts.{kept_before, told}
 
 -- ---- what is made of octets
 
@@ -28,6 +27,11 @@ updates_in octets =
 abbrev pub text_of_both : List ℕ → List ℕ → List ℕ
 text_of_both first second =
     text_of sample (reports_in sample first ++ reports_in sample second)
+
+-- their text from before, when keys had no sub-centre
+abbrev pub text_of_both_before : List ℕ → List ℕ → List ℕ
+text_of_both_before first second =
+    text (kept_before sample (reports_in sample first ++ reports_in sample second))
 
 -- the text of the reports that a stream tells
 abbrev pub text_told : List ℕ → List ℕ
@@ -79,6 +83,10 @@ warmer = message plain1 (codes "14C03F409EC01AAD00")
 -- month 13
 abbrev pub month_13 : List ℕ
 month_13 = message plain1 (codes "14C03F469EC01AACC0")
+
+-- station 385
+abbrev pub next_station : List ℕ
+next_station = message plain1 (codes "14C0BF409EC01AACC0")
 
 -- numbers in section 1 that all differ: centre 258, sub-centre 772, update 5, categories 6 to 8
 abbrev pub distinct : List ℕ

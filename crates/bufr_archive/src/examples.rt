@@ -1,6 +1,6 @@
 //! Worked examples of the definitions.
 ghost use Rattle.std.specs.Prelude.{◌≡◌, ◌++◌, ◌∷◌, [], Some, None, Ok, Err, codes};
-ghost use Rattle.bufr_archive.specs.Samples.{keys_in, updates_in, text_of_both, text_told, judged, entries_of_both, key_of_original, original, updated, warmer, month_13, distinct, key_of_distinct, other_sub_centre};
+ghost use Rattle.bufr_archive.specs.Samples.{keys_in, updates_in, text_of_both, text_told, judged, entries_of_both, key_of_original, original, updated, warmer, month_13, distinct, key_of_distinct, other_sub_centre, next_station, text_of_both_before};
 
 /// Keys and update sequence numbers of whole messages.
 #[tactic(auto, unfolding(crate::proofs::OnLiterals::archives_on_literals))]
@@ -21,6 +21,18 @@ pub fn texts()
     ensures sub_centres_apart { text_of_both other_sub_centre original
         ≡ original ++ other_sub_centre }
     ensures told { text_told (original ++ codes "BU" ++ updated) ≡ updated }
+{}
+
+/// Texts from before, when keys had no sub-centre, and now.
+#[tactic(auto, unfolding(crate::proofs::OnLiterals::archives_on_literals))]
+pub fn texts_from_before()
+    ensures one_key { text_of_both_before original other_sub_centre ≡ other_sub_centre }
+    ensures one_key_after { text_of_both_before other_sub_centre original ≡ other_sub_centre }
+    ensures update_number { text_of_both_before updated other_sub_centre ≡ updated }
+    ensures stations { text_of_both_before next_station other_sub_centre
+        ≡ other_sub_centre ++ next_station }
+    ensures stations_now { text_of_both next_station other_sub_centre
+        ≡ other_sub_centre ++ next_station }
 {}
 
 /// Texts that are read, and the place of the first entry that is not right.

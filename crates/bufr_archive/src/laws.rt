@@ -1,12 +1,13 @@
 //! Laws of archives: each function states some by its contract, and does nothing.
 ghost use Rattle.bufr_archive.specs.Laws.{MergeCommutes, MergeAssociates, MergeIsIdempotent, MergedIsKept};
-ghost use Rattle.bufr_archive.specs.ReportLaws.{ReportsAreEntries, FramesOfReports, FramesOfReportFronts, ReportTextsTell, ToldAreTold, OnlyToldAreTold};
+ghost use Rattle.bufr_archive.specs.ReportLaws.{ReportsAreEntries, FramesOfReports, FramesOfReportFronts, ReportTextsTell, TextsFromBefore, FromBeforeAreTexts, KeptBeforeIsTheBest, ToldAreTold, OnlyToldAreTold};
 
 use bufr_frame::laws::{cut_is_taken_from_the_left, joined_frames_are_cut_apart};
 use bufr_message::laws::{
     canonical_messages_are_reports, messages_are_spelt, reports_have_canonical_messages,
     written_messages_are_spelt,
 };
+use bufr_shelves::laws::sorted_are_kept;
 
 /// Merges agree whatever their route: on archives under the same tables they are commutative,
 /// associative and idempotent.
@@ -39,6 +40,18 @@ pub fn texts_are_cut_apart()
     joined_frames_are_cut_apart();
     reports_are_entries();
     canonical_messages_are_reports();
+}
+
+/// An archive's text from before, when keys had no sub-centre, is the text of the reports that were
+/// kept then, so that `Archive::read` takes it and holds these. One that was replaced then does not
+/// come back.
+pub fn texts_from_before()
+    ensures kept { TextsFromBefore }
+    ensures texts { FromBeforeAreTexts }
+    ensures best { KeptBeforeIsTheBest }
+{
+    reports_are_entries();
+    sorted_are_kept();
 }
 
 /// The reports that a stream tells are exactly those of the messages that its frames spell.

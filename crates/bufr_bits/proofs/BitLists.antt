@@ -1,5 +1,6 @@
--- Bits of octets, taken apart and put together: a field by the octets in which it stands, a number's
--- octets, one octet from two neighbours. For `BitReader::take`, `take_bytes` and `BitSink::put`.
+-- Bits of octets, taken apart and put together: a field by the octets in which it stands, a
+-- number's octets, one octet from two neighbours. For `BitReader::take`, `take_bytes` and
+-- `BitSink::put`.
 use Rattle.std.proofs.Common.{◌≡◌, ℕ, zero, suc, ◌+◌, ◌-◌, ◌*◌, ◌/◌, ◌%◌, ◌^◌, ◌<◌, ◌≤◌, Bool, true, false, List, [], ◌∷◌, ◌++◌, length, take, drop, replicate, get_or, refl, inl, inr, lit<, sym, ap, subst, ◌∙◌, arith, length-append, length-drop, append_assoc}
 use Rattle.std.specs.Prelude.{bit_and}
 use Rattle.std.specs.Int.{byte_at, bytes_high_first}
@@ -12,14 +13,16 @@ use Rattle.bufr_bits.specs.BitLaws.{length-bin, number_below, number-bin, number
 use Rattle.bufr_bits.specs.OctetLaws.{length-bits, bits-append, numbers-bits}
 
 -- the bits of the first octets
-pub take-bits : (k n : ℕ) (xs : List ℕ) → n ≡ 8 * k → k ≤ length xs → take n (bits xs) ≡ bits (take k xs)
+pub take-bits : (k n : ℕ) (xs : List ℕ) → n ≡ 8 * k → k ≤ length xs
+    → take n (bits xs) ≡ bits (take k xs)
 take-bits k n xs e le =
     let len : length (bits (take k xs)) ≡ n = omega (arith, length-bits (take k xs), length-take-le k xs le) in
     subst (λ (ys : List ℕ). take n (bits ys) ≡ bits (take k xs)) (take-append-drop k xs)
     (rw (bits-append (take k xs) (drop k xs)) (take_at (bits (take k xs)) (bits (drop k xs)) n len))
 
 -- the bits of the octets after them
-pub drop-bits : (k n : ℕ) (xs : List ℕ) → n ≡ 8 * k → k ≤ length xs → drop n (bits xs) ≡ bits (drop k xs)
+pub drop-bits : (k n : ℕ) (xs : List ℕ) → n ≡ 8 * k → k ≤ length xs
+    → drop n (bits xs) ≡ bits (drop k xs)
 drop-bits k n xs e le =
     let len : length (bits (take k xs)) ≡ n = omega (arith, length-bits (take k xs), length-take-le k xs le) in
     subst (λ (ys : List ℕ). drop n (bits ys) ≡ bits (drop k xs)) (take-append-drop k xs)
@@ -34,7 +37,8 @@ number-append (true ∷ xs) ys =
 number-append (false ∷ xs) ys = omega (arith, number-append xs ys)
 
 -- the number of the bits in the middle
-pub number_middle : (x y z : List Bool) (after width : ℕ) → length z ≡ after → length y ≡ width → number (x ++ (y ++ z)) / 2 ^ after % 2 ^ width ≡ number y
+pub number_middle : (x y z : List Bool) (after width : ℕ) → length z ≡ after → length y ≡ width
+    → number (x ++ (y ++ z)) / 2 ^ after % 2 ^ width ≡ number y
 number_middle x y z after width lz ly =
     let small : number z < 2 ^ after = subst (λ k. number z < 2 ^ k) lz (number_below z) in
     let small_y : number y < 2 ^ width = subst (λ k. number y < 2 ^ k) ly (number_below y) in
@@ -111,13 +115,17 @@ bits-bytes (suc k) t n e =
     (sym (bin-split t 8 (8 * k) n (omega arith)))
 
 -- the first bits of a list, in two parts
-pub take-more : {X : Type 0} → (a b : ℕ) (xs : List X) → take (a + b) xs ≡ take a xs ++ take b (drop a xs)
+pub take-more : {X : Type 0} → (a b : ℕ) (xs : List X)
+    → take (a + b) xs ≡ take a xs ++ take b (drop a xs)
 take-more a b xs =
     sym (take-append-drop a (take (a + b) xs)) ∙ ap (λ ys. ys ++ drop a (take (a + b) xs)) (take-take a (a + b) xs (omega arith))
     ∙ ap (λ ys. take a xs ++ ys) (drop-take a b xs)
 
 -- a field's number, from the number of the octets in which it stands
-pub field_is : (octets : List ℕ) (first end place width spare : ℕ) → 8 * first ≤ place → place + width + spare ≡ 8 * end → end ≤ length octets → number (bits (take (end - first) (drop first octets))) / 2 ^ spare % 2 ^ width ≡ number (take width (drop place (bits octets)))
+pub field_is : (octets : List ℕ) (first end place width spare : ℕ) → 8 * first ≤ place
+    → place + width + spare ≡ 8 * end → end ≤ length octets
+    → number (bits (take (end - first) (drop first octets))) / 2 ^ spare % 2 ^ width
+    ≡ number (take width (drop place (bits octets)))
 field_is octets first end place width spare begins ends within =
     let a = place - 8 * first in
     let all = bits (drop first octets) in
@@ -140,7 +148,8 @@ field_is octets first end place width spare begins ends within =
     ∙ ap (λ ys. number (take width ys)) e3)
 
 -- one octet more
-pub number_push : (xs : List ℕ) (x : ℕ) → x < 256 → number (bits (xs ++ x ∷ [])) ≡ number (bits xs) * 256 + x
+pub number_push : (xs : List ℕ) (x : ℕ) → x < 256
+    → number (bits (xs ++ x ∷ [])) ≡ number (bits xs) * 256 + x
 number_push xs x h =
     let one : number (bits (x ∷ [])) ≡ x =
     ap number (append-nil (bin 8 x)) ∙ number-bin 8 x ∙ small_mod x (2 ^ 8) h in
@@ -156,12 +165,17 @@ number_of_octets xs k h =
     omega arith
 
 -- the same, cut out by a mask
-pub field_masked : (octets : List ℕ) (n first end place width spare : ℕ) → n ≡ number (bits (take (end - first) (drop first octets))) → 8 * first ≤ place → place + width + spare ≡ 8 * end → end ≤ length octets → width < 128 → bit_and (n / 2 ^ spare) (1 * 2 ^ width % 2 ^ 128 - 1) ≡ number (take width (drop place (bits octets)))
+pub field_masked : (octets : List ℕ) (n first end place width spare : ℕ)
+    → n ≡ number (bits (take (end - first) (drop first octets))) → 8 * first ≤ place
+    → place + width + spare ≡ 8 * end → end ≤ length octets → width < 128
+    → bit_and (n / 2 ^ spare) (1 * 2 ^ width % 2 ^ 128 - 1)
+    ≡ number (take width (drop place (bits octets)))
 field_masked octets n first end place width spare spelt begins ends within narrow =
     rw (one_shl width 128 narrow, and_mask (n / 2 ^ spare) width, spelt) (field_is octets first end place width spare begins ends within)
 
 -- one number more of a row of numbers
-pub numbers-more : (k width t : ℕ) (text : List Bool) → t ≡ k * width → numbers (k + 1) width text ≡ numbers k width text ++ number (take width (drop t text)) ∷ []
+pub numbers-more : (k width t : ℕ) (text : List Bool) → t ≡ k * width
+    → numbers (k + 1) width text ≡ numbers k width text ++ number (take width (drop t text)) ∷ []
 unfolding numbers
 numbers-more zero width t text e = let none : t ≡ 0 = omega arith in rw none refl
 numbers-more (suc k) width t text e =
@@ -171,7 +185,9 @@ numbers-more (suc k) width t text e =
     rw (one, ← at) (ap (λ ys. number (take width text) ∷ ys) (numbers-more k width (k * width) (drop width text) refl))
 
 -- octets read on an octet's edge
-pub numbers_aligned : (octets : List ℕ) (first n place : ℕ) → place ≡ 8 * first → first + n ≤ length octets → ((i : ℕ) → get_or octets i 0 < 256) → numbers n 8 (drop place (bits octets)) ≡ take n (drop first octets)
+pub numbers_aligned : (octets : List ℕ) (first n place : ℕ) → place ≡ 8 * first
+    → first + n ≤ length octets → ((i : ℕ) → get_or octets i 0 < 256)
+    → numbers n 8 (drop place (bits octets)) ≡ take n (drop first octets)
 numbers_aligned octets first n place e within small =
     let xs = take n (drop first octets) in
     let rest = bits (drop n (drop first octets)) in
@@ -185,7 +201,8 @@ numbers_aligned octets first n place e within small =
     rw text (subst (λ k. numbers k 8 (bits xs ++ rest) ≡ xs) len (numbers-bits xs rest below))
 
 -- two neighbours in a list
-two_octets : (xs : List ℕ) (k : ℕ) → k + 1 < length xs → take 2 (drop k xs) ≡ get_or xs k 0 ∷ get_or xs (k + 1) 0 ∷ []
+two_octets : (xs : List ℕ) (k : ℕ) → k + 1 < length xs
+    → take 2 (drop k xs) ≡ get_or xs k 0 ∷ get_or xs (k + 1) 0 ∷ []
 two_octets xs k h =
     rw (drop_more xs k 0 (omega arith), drop_more xs (k + 1) 0 h) refl
 
@@ -195,7 +212,10 @@ unfolding number
 number_nil = refl
 
 -- an octet off the edge, from its two neighbours
-pub number_of_two : (octets : List ℕ) (k shift spare a b : ℕ) → shift + spare ≡ 8 → k + 1 < length octets → a ≡ get_or octets k 0 → b ≡ get_or octets (k + 1) 0 → a < 256 → b < 256 → (a * 256 + b) / 2 ^ spare % 256 ≡ number (take 8 (drop (8 * k) (drop shift (bits octets))))
+pub number_of_two : (octets : List ℕ) (k shift spare a b : ℕ) → shift + spare ≡ 8
+    → k + 1 < length octets → a ≡ get_or octets k 0 → b ≡ get_or octets (k + 1) 0 → a < 256
+    → b < 256
+    → (a * 256 + b) / 2 ^ spare % 256 ≡ number (take 8 (drop (8 * k) (drop shift (bits octets))))
 number_of_two octets k shift spare a b e within a_is b_is a_small b_small =
     let two : take 2 (drop k octets) ≡ a ∷ b ∷ [] =
     two_octets octets k within ∙ ap (λ x. x ∷ get_or octets (k + 1) 0 ∷ []) (sym a_is) ∙ ap (λ y. a ∷ y ∷ []) (sym b_is) in

@@ -9,7 +9,10 @@ use Rattle.bufr_bits.proofs.BitLists.{bin-split, bin-mod, bin-zeros, bin-shifted
 use Rattle.bufr_bits.proofs.Puts.{closed, closed_filled, last_split, last_clear, filled, cut_front, sum_fits}
 
 -- nothing is moved yet
-pub move_none : (octets : List ℕ) (from free : ℕ) → from < length octets → free < 8 → get_or octets from 0 % 2 ^ free ≡ 0 → bits (take (from + 1) octets) ≡ (take (8 * (from + 1) - free) (bits octets) ++ bits (take (from - from) (drop (from + 1) octets))) ++ replicate free false
+pub move_none : (octets : List ℕ) (from free : ℕ) → from < length octets → free < 8
+    → get_or octets from 0 % 2 ^ free ≡ 0
+    → bits (take (from + 1) octets) ≡ (take (8 * (from + 1) - free) (bits octets)
+    ++ bits (take (from - from) (drop (from + 1) octets))) ++ replicate free false
 move_none octets from free begun few clear =
     let w = take (from + 1) octets in
     let len = 8 * (from + 1) - free in
@@ -32,10 +35,14 @@ pub record Moving (octets initial : List ℕ) (from i free : ℕ) : Type 0 where
   pub some : 0 < free
   pub few : free < 8
   pub rest : drop (i + 1) octets ≡ drop (i + 1) initial
-  pub moved : bits (take (i + 1) octets) ≡ (take (8 * (from + 1) - free) (bits initial) ++ bits (take (i - from) (drop (from + 1) initial))) ++ replicate free false
+  pub moved : bits (take (i + 1) octets) ≡ (take (8 * (from + 1) - free) (bits initial)
+      ++ bits (take (i - from) (drop (from + 1) initial))) ++ replicate free false
 
 -- the low bits of the last of them are zero, and its high bits end what was moved
-pub moving_last : (octets initial : List ℕ) (from i free : ℕ) → Moving octets initial from i free → (get_or octets i 0 % 2 ^ free ≡ 0) × (bits (take i octets) ++ bin (8 - free) (get_or octets i 0 / 2 ^ free) ≡ take (8 * (from + 1) - free) (bits initial) ++ bits (take (i - from) (drop (from + 1) initial)))
+pub moving_last : (octets initial : List ℕ) (from i free : ℕ) → Moving octets initial from i free
+    → (get_or octets i 0 % 2 ^ free ≡ 0) × (bits (take i octets)
+    ++ bin (8 - free) (get_or octets i 0 / 2 ^ free) ≡ take (8 * (from + 1) - free) (bits initial)
+    ++ bits (take (i - from) (drop (from + 1) initial)))
 moving_last octets initial from i free m =
     let w = take (i + 1) octets in
     let len = 8 * (i + 1) - free in
@@ -57,7 +64,9 @@ moving_last octets initial from i free m =
     )
 
 -- the next octet's first bits go into it
-pub move_fits : (octets initial : List ℕ) (from i free : ℕ) → Moving octets initial from i free → get_or octets i 0 < 256 → get_or octets (i + 1) 0 < 256 → get_or octets i 0 + get_or octets (i + 1) 0 / 2 ^ (8 - free) < 256
+pub move_fits : (octets initial : List ℕ) (from i free : ℕ) → Moving octets initial from i free
+    → get_or octets i 0 < 256 → get_or octets (i + 1) 0 < 256
+    → get_or octets i 0 + get_or octets (i + 1) 0 / 2 ^ (8 - free) < 256
 move_fits octets initial from i free m a_small x_small =
     let x = get_or octets (i + 1) 0 in
     let all : free + (8 - free) ≡ 8 = omega (arith, m.few) in
@@ -65,7 +74,16 @@ move_fits octets initial from i free m a_small x_small =
     sum_fits (get_or octets i 0) (x / 2 ^ (8 - free)) free (omega (arith, m.few)) a_small (moving_last octets initial from i free m).0 top
 
 -- one octet more is moved
-pub move_more : (octets initial : List ℕ) (from i free : ℕ) → Moving octets initial from i free → get_or octets (i + 1) 0 < 256 → (drop (i + 1 + 1) (set (set octets i (get_or octets i 0 + get_or octets (i + 1) 0 / 2 ^ (8 - free))) (i + 1) (get_or octets (i + 1) 0 * 2 ^ free % 256)) ≡ drop (i + 1 + 1) initial) × (bits (take (i + 1 + 1) (set (set octets i (get_or octets i 0 + get_or octets (i + 1) 0 / 2 ^ (8 - free))) (i + 1) (get_or octets (i + 1) 0 * 2 ^ free % 256))) ≡ (take (8 * (from + 1) - free) (bits initial) ++ bits (take (i + 1 - from) (drop (from + 1) initial))) ++ replicate free false)
+pub move_more : (octets initial : List ℕ) (from i free : ℕ) → Moving octets initial from i free
+    → get_or octets (i + 1) 0 < 256
+    → (drop (i + 1 + 1) (set (set octets i
+    (get_or octets i 0 + get_or octets (i + 1) 0 / 2 ^ (8 - free))) (i + 1)
+    (get_or octets (i + 1) 0 * 2 ^ free % 256)) ≡ drop (i + 1 + 1) initial)
+    × (bits (take (i + 1 + 1) (set (set octets i
+    (get_or octets i 0 + get_or octets (i + 1) 0 / 2 ^ (8 - free))) (i + 1)
+    (get_or octets (i + 1) 0 * 2 ^ free % 256)))
+    ≡ (take (8 * (from + 1) - free) (bits initial)
+    ++ bits (take (i + 1 - from) (drop (from + 1) initial))) ++ replicate free false)
 move_more octets initial from i free m x_small =
     let a = get_or octets i 0 in
     let x = get_or octets (i + 1) 0 in
@@ -114,12 +132,16 @@ move_more octets initial from i free m x_small =
     )
 
 -- what a slice's write leaves
-pub written_back : (ws xs : List ℕ) (n : ℕ) → length ws ≡ length xs → n ≡ length xs → take n (ws ++ drop (length ws) xs) ≡ ws
+pub written_back : (ws xs : List ℕ) (n : ℕ) → length ws ≡ length xs → n ≡ length xs
+    → take n (ws ++ drop (length ws) xs) ≡ ws
 written_back ws xs n same all =
     ap (λ k. take n (ws ++ drop k xs)) same ∙ ap (λ ys. take n (ws ++ ys)) (drop_all (length xs) xs (omega arith)) ∙ ap (λ ys. take n ys) (append-nil ws) ∙ take_all n ws (omega arith)
 
 -- octets put after bits, on an octet's edge
-pub put_octets_whole : (octets extended more : List ℕ) (len all count : ℕ) → IsFilled len octets → count ≡ length octets → 8 * count ≤ len → all ≡ len + 8 * length more → extended ≡ octets ++ more → (take all (bits extended) ≡ take len (bits octets) ++ bits more) × IsFilled all extended
+pub put_octets_whole : (octets extended more : List ℕ) (len all count : ℕ) → IsFilled len octets
+    → count ≡ length octets → 8 * count ≤ len → all ≡ len + 8 * length more
+    → extended ≡ octets ++ more
+    → (take all (bits extended) ≡ take len (bits octets) ++ bits more) × IsFilled all extended
 put_octets_whole octets extended more len all count filled_to count_is full all_is extended_is =
     let text = take len (bits octets) ++ bits more in
     let same : take len (bits octets) ≡ bits octets = take_all len (bits octets) (omega (arith, length-bits octets)) in
@@ -130,7 +152,10 @@ put_octets_whole octets extended more len all count filled_to count_is full all_
     closed_filled extended text all 0 e long (omega arith)
 
 -- and inside an octet
-pub put_octets_moved : (octets extended moved more : List ℕ) (len all count : ℕ) → IsFilled len octets → count ≡ length octets → len < 8 * count → all ≡ len + 8 * length more → extended ≡ octets ++ more → bits moved ≡ moved_up (count - 1 + 1) (8 * count - len) extended → (take all (bits moved) ≡ take len (bits octets) ++ bits more) × IsFilled all moved
+pub put_octets_moved : (octets extended moved more : List ℕ) (len all count : ℕ)
+    → IsFilled len octets → count ≡ length octets → len < 8 * count → all ≡ len + 8 * length more
+    → extended ≡ octets ++ more → bits moved ≡ moved_up (count - 1 + 1) (8 * count - len) extended
+    → (take all (bits moved) ≡ take len (bits octets) ++ bits more) × IsFilled all moved
 put_octets_moved octets extended moved more len all count filled_to count_is begun all_is extended_is moved_is =
     let free = 8 * count - len in
     let text = take len (bits octets) ++ bits more in
@@ -149,7 +174,9 @@ put_octets_moved octets extended moved more len all count filled_to count_is beg
     closed_filled moved text all free e long (omega (arith, filled_to.1))
 
 -- the octet that is then last is still so clear
-pub clear_read : (octets extended more : List ℕ) (len count : ℕ) → IsFilled len octets → count ≡ length octets → len < 8 * count → extended ≡ octets ++ more → get_or extended (count - 1) 0 % 2 ^ (8 * count - len) ≡ 0
+pub clear_read : (octets extended more : List ℕ) (len count : ℕ) → IsFilled len octets
+    → count ≡ length octets → len < 8 * count → extended ≡ octets ++ more
+    → get_or extended (count - 1) 0 % 2 ^ (8 * count - len) ≡ 0
 clear_read octets extended more len count filled_to count_is begun extended_is =
     let free = 8 * count - len in
     let i = count - 1 in

@@ -12,7 +12,10 @@ use Rattle.bufr_bits.specs.OctetLaws.{length-bits, bits-append}
 use Rattle.bufr_bits.proofs.BitLists.{bin-split, bin_same, bin-shifted, bits-bytes, number-zeros, take-bits}
 
 -- octets whose bits are a text and some zeros
-pub closed : (octets : List ℕ) (text : List Bool) (len zeros : ℕ) → bits octets ≡ text ++ replicate zeros false → length text ≡ len → (take len (bits octets) ≡ text) × (8 * length octets ≡ len + zeros) × (drop len (bits octets) ≡ replicate (8 * length octets - len) false)
+pub closed : (octets : List ℕ) (text : List Bool) (len zeros : ℕ)
+    → bits octets ≡ text ++ replicate zeros false → length text ≡ len
+    → (take len (bits octets) ≡ text) × (8 * length octets ≡ len + zeros)
+    × (drop len (bits octets) ≡ replicate (8 * length octets - len) false)
 closed octets text len zeros e l =
     let long : 8 * length octets ≡ len + zeros =
     omega (arith, length-bits octets, ap length e, length-append text (replicate zeros false), length-replicate zeros false) in
@@ -20,13 +23,18 @@ closed octets text len zeros e l =
     (rw e (take_at text (replicate zeros false) len l), long, rw (e, count) (drop_at text (replicate zeros false) len l))
 
 -- the last octet, apart from the others
-pub last_apart : (octets : List ℕ) (i : ℕ) → i + 1 ≡ length octets → octets ≡ take i octets ++ get_or octets i 0 ∷ []
+pub last_apart : (octets : List ℕ) (i : ℕ) → i + 1 ≡ length octets
+    → octets ≡ take i octets ++ get_or octets i 0 ∷ []
 last_apart octets i e =
     let all : take (i + 1) octets ≡ octets = take_all (i + 1) octets (omega arith) in
     sym all ∙ take_more octets i 0 (omega arith)
 
 -- bits up to a place in the last octet, and those after it
-pub last_split : (octets : List ℕ) (i len free : ℕ) → i + 1 ≡ length octets → free ≤ 8 → len + free ≡ 8 * length octets → (take len (bits octets) ≡ bits (take i octets) ++ bin (8 - free) (get_or octets i 0 / 2 ^ free)) × (drop len (bits octets) ≡ bin free (get_or octets i 0))
+pub last_split : (octets : List ℕ) (i len free : ℕ) → i + 1 ≡ length octets → free ≤ 8
+    → len + free ≡ 8 * length octets
+    → (take len (bits octets) ≡ bits (take i octets)
+    ++ bin (8 - free) (get_or octets i 0 / 2 ^ free))
+    × (drop len (bits octets) ≡ bin free (get_or octets i 0))
 last_split octets i len free e few ends =
     let a = take i octets in
     let l = get_or octets i 0 in
@@ -41,7 +49,8 @@ last_split octets i len free e few ends =
     (rw all (take_at front (bin free l) len long), rw all (drop_at front (bin free l) len long))
 
 -- an octet whose low bits are zero, with other bits in their place
-pub filled : (l top free : ℕ) → free ≤ 8 → l % 2 ^ free ≡ 0 → top < 2 ^ free → bin 8 (l + top) ≡ bin (8 - free) (l / 2 ^ free) ++ bin free top
+pub filled : (l top free : ℕ) → free ≤ 8 → l % 2 ^ free ≡ 0 → top < 2 ^ free
+    → bin 8 (l + top) ≡ bin (8 - free) (l / 2 ^ free) ++ bin free top
 filled l top free few clear small =
     let high : l ≡ l / 2 ^ free * 2 ^ free = omega (arith, shr_split l free) in
     let sum : l + top ≡ l / 2 ^ free * 2 ^ free + top = ap (λ m. m + top) high in
@@ -62,7 +71,10 @@ last_bytes (suc k) zero m n e = absurd (omega arith)
 last_bytes (suc k) (suc t) m n e = last_bytes k t m n (omega arith)
 
 -- a number put at the end of whole octets
-pub put_whole : (octets new : List ℕ) (width n grown zeros wide : ℕ) → width + zeros ≡ 8 * grown → grown ≤ 16 → wide ≡ n * 2 ^ zeros → new ≡ octets ++ drop (16 - grown) (bytes_high_first 16 wide) → bits new ≡ (bits octets ++ bin width n) ++ replicate zeros false
+pub put_whole : (octets new : List ℕ) (width n grown zeros wide : ℕ) → width + zeros ≡ 8 * grown
+    → grown ≤ 16 → wide ≡ n * 2 ^ zeros
+    → new ≡ octets ++ drop (16 - grown) (bytes_high_first 16 wide)
+    → bits new ≡ (bits octets ++ bin width n) ++ replicate zeros false
 put_whole octets new width n grown zeros wide ends few wide_is new_is =
     let added : bits (drop (16 - grown) (bytes_high_first 16 wide)) ≡ bin width n ++ replicate zeros false =
     ap bits (last_bytes (16 - grown) 16 grown wide (omega arith)) ∙ bits-bytes grown (8 * grown) wide refl
@@ -71,7 +83,13 @@ put_whole octets new width n grown zeros wide ends few wide_is new_is =
     ∙ sym (append_assoc (bits octets) (bin width n) (replicate zeros false))
 
 -- a number put inside the last octet
-pub put_inside : (octets new : List ℕ) (i len free width n grown zeros wide : ℕ) → i + 1 ≡ length octets → free ≤ 8 → len + free ≡ 8 * length octets → drop len (bits octets) ≡ replicate free false → width + zeros ≡ 8 * grown + free → grown ≤ 16 → n < 2 ^ width → wide ≡ n * 2 ^ zeros → new ≡ take i octets ++ (get_or octets i 0 + wide / 2 ^ (8 * grown)) ∷ drop (16 - grown) (bytes_high_first 16 wide) → bits new ≡ (take len (bits octets) ++ bin width n) ++ replicate zeros false
+pub put_inside : (octets new : List ℕ) (i len free width n grown zeros wide : ℕ)
+    → i + 1 ≡ length octets → free ≤ 8 → len + free ≡ 8 * length octets
+    → drop len (bits octets) ≡ replicate free false → width + zeros ≡ 8 * grown + free → grown ≤ 16
+    → n < 2 ^ width → wide ≡ n * 2 ^ zeros
+    → new ≡ take i octets ++ (get_or octets i 0 + wide / 2 ^ (8 * grown)) ∷ drop (16 - grown)
+    (bytes_high_first 16 wide)
+    → bits new ≡ (take len (bits octets) ++ bin width n) ++ replicate zeros false
 put_inside octets new i len free width n grown zeros wide e few filled_to clear ends some small wide_is new_is =
     let a = take i octets in
     let l = get_or octets i 0 in
@@ -94,13 +112,16 @@ put_inside octets new i len free width n grown zeros wide e few filled_to clear 
     ∙ sym (append_assoc (bits a) h (bin width n ++ replicate zeros false)) ∙ sym (append_assoc (bits a ++ h) (bin width n) (replicate zeros false)))
 
 -- the same, as a sink sees it
-pub closed_filled : (octets : List ℕ) (text : List Bool) (len zeros : ℕ) → bits octets ≡ text ++ replicate zeros false → length text ≡ len → zeros < 8 → (take len (bits octets) ≡ text) × IsFilled len octets
+pub closed_filled : (octets : List ℕ) (text : List Bool) (len zeros : ℕ)
+    → bits octets ≡ text ++ replicate zeros false → length text ≡ len → zeros < 8
+    → (take len (bits octets) ≡ text) × IsFilled len octets
 closed_filled octets text len zeros e l few =
     let c = closed octets text len zeros e l in
     (c.0, (omega (arith, c.1), omega (arith, c.1), c.2))
 
 -- an octet whose low bits are zero has room for them
-pub sum_fits : (l top free : ℕ) → free ≤ 8 → l < 256 → l % 2 ^ free ≡ 0 → top < 2 ^ free → l + top < 256
+pub sum_fits : (l top free : ℕ) → free ≤ 8 → l < 256 → l % 2 ^ free ≡ 0 → top < 2 ^ free
+    → l + top < 256
 sum_fits l top free few small clear top_small =
     let high : l ≡ l / 2 ^ free * 2 ^ free = omega (arith, shr_split l free) in
     let e : 8 - free + free ≡ 8 = omega arith in
@@ -109,17 +130,21 @@ sum_fits l top free few small clear top_small =
     omega (arith, high, all, mul-add-lt (l / 2 ^ free) (2 ^ free) top (2 ^ (8 - free)) quotient top_small)
 
 -- a field at its place in the octets that it needs
-pub wide_is : (n width zeros : ℕ) → width ≤ 64 → zeros < 8 → n < 2 ^ width → n * 2 ^ zeros % 2 ^ 128 ≡ n * 2 ^ zeros
+pub wide_is : (n width zeros : ℕ) → width ≤ 64 → zeros < 8 → n < 2 ^ width
+    → n * 2 ^ zeros % 2 ^ 128 ≡ n * 2 ^ zeros
 wide_is n width zeros narrow few small = shl_whole n width zeros 128 small (omega arith)
 
 -- the bits of it that go into the last octet
-pub top_below : (n width zeros free grown : ℕ) → n < 2 ^ width → width + zeros ≡ 8 * grown + free → n * 2 ^ zeros / 2 ^ (8 * grown) < 2 ^ free
+pub top_below : (n width zeros free grown : ℕ) → n < 2 ^ width → width + zeros ≡ 8 * grown + free
+    → n * 2 ^ zeros / 2 ^ (8 * grown) < 2 ^ free
 top_below n width zeros free grown small ends =
     let sum : width + zeros ≡ free + 8 * grown = omega arith in
     shr_below (n * 2 ^ zeros) free (8 * grown) (subst (λ k. n * 2 ^ zeros < 2 ^ k) sum (shl_below n width zeros small))
 
 -- the low bits of the last octet, in octets that are filled
-pub last_clear : (octets : List ℕ) (i len free : ℕ) → i + 1 ≡ length octets → free ≤ 8 → len + free ≡ 8 * length octets → drop len (bits octets) ≡ replicate free false → get_or octets i 0 % 2 ^ free ≡ 0
+pub last_clear : (octets : List ℕ) (i len free : ℕ) → i + 1 ≡ length octets → free ≤ 8
+    → len + free ≡ 8 * length octets → drop len (bits octets) ≡ replicate free false
+    → get_or octets i 0 % 2 ^ free ≡ 0
 last_clear octets i len free e few ends clear =
     low_clear (get_or octets i 0) free (sym (last_split octets i len free e few ends).1 ∙ clear)
 
@@ -129,7 +154,8 @@ length-bytes zero n = refl
 length-bytes (suc k) n = ap suc (length-bytes k n)
 
 -- the last octets of sixteen
-last_of_16 : (be : List ℕ) (grown wide : ℕ) → grown ≤ 16 → be ≡ bytes_high_first 16 wide → take (16 - (16 - grown)) (drop (16 - grown) be) ≡ drop (16 - grown) (bytes_high_first 16 wide)
+last_of_16 : (be : List ℕ) (grown wide : ℕ) → grown ≤ 16 → be ≡ bytes_high_first 16 wide
+    → take (16 - (16 - grown)) (drop (16 - grown) be) ≡ drop (16 - grown) (bytes_high_first 16 wide)
 last_of_16 be grown wide few e =
     let same : drop (16 - grown) (bytes_high_first 16 wide) ≡ bytes_high_first grown wide = last_bytes (16 - grown) 16 grown wide (omega arith) in
     ap (λ bs. take (16 - (16 - grown)) (drop (16 - grown) bs)) e
@@ -147,7 +173,12 @@ pub record Putting (octets extended : List ℕ) (len width n count grown zeros :
   pub extended_is : extended ≡ octets ++ drop (16 - grown) (bytes_high_first 16 (n * 2 ^ zeros))
 
 -- the octets with the new ones at the end
-pub putting : (octets be extended : List ℕ) (len width n count grown : ℕ) → IsFilled len octets → count ≡ length octets → width ≤ 64 → n < 2 ^ width → grown ≡ div_ceil (width - (8 * count - len)) 8 → be ≡ bytes_high_first 16 (n * 2 ^ (8 * grown + (8 * count - len) - width) % 2 ^ 128) → extended ≡ octets ++ take (16 - (16 - grown)) (drop (16 - grown) be) → Putting octets extended len width n count grown (8 * grown + (8 * count - len) - width)
+pub putting : (octets be extended : List ℕ) (len width n count grown : ℕ) → IsFilled len octets
+    → count ≡ length octets → width ≤ 64 → n < 2 ^ width
+    → grown ≡ div_ceil (width - (8 * count - len)) 8
+    → be ≡ bytes_high_first 16 (n * 2 ^ (8 * grown + (8 * count - len) - width) % 2 ^ 128)
+    → extended ≡ octets ++ take (16 - (16 - grown)) (drop (16 - grown) be)
+    → Putting octets extended len width n count grown (8 * grown + (8 * count - len) - width)
 putting octets be extended len width n count grown filled count_is narrow fits grown_is be_is extended_is =
     let free = 8 * count - len in
     let zeros = 8 * grown + free - width in
@@ -167,7 +198,9 @@ putting octets be extended len width n count grown filled count_is narrow fits g
     }
 
 -- the octet that is last before, as it is read after the growth
-pub last_read : (octets extended : List ℕ) (len width n count grown zeros x : ℕ) → Putting octets extended len width n count grown zeros → len < 8 * count → x ≡ get_or extended (count - 1) x → x ≡ get_or octets (count - 1) 0
+pub last_read : (octets extended : List ℕ) (len width n count grown zeros x : ℕ)
+    → Putting octets extended len width n count grown zeros → len < 8 * count
+    → x ≡ get_or extended (count - 1) x → x ≡ get_or octets (count - 1) 0
 last_read octets extended len width n count grown zeros x p begun x_is =
     let inside : count - 1 < length octets = omega (arith, p.count_is) in
     let longer : count - 1 < length extended =
@@ -177,7 +210,13 @@ last_read octets extended len width n count grown zeros x p begun x_is =
     ∙ get_or_append_left octets (drop (16 - grown) (bytes_high_first 16 (n * 2 ^ zeros))) 0 (count - 1) inside
 
 -- a last octet that is not full takes the field's first bits
-pub put_last : (octets extended : List ℕ) (len width n count grown zeros x : ℕ) → Putting octets extended len width n count grown zeros → len < 8 * count → x ≡ get_or extended (count - 1) x → (take (len + width) (bits (set extended (count - 1) (x + n * 2 ^ zeros % 2 ^ 128 / 2 ^ (8 * grown)))) ≡ take len (bits octets) ++ bin width n) × IsFilled (len + width) (set extended (count - 1) (x + n * 2 ^ zeros % 2 ^ 128 / 2 ^ (8 * grown)))
+pub put_last : (octets extended : List ℕ) (len width n count grown zeros x : ℕ)
+    → Putting octets extended len width n count grown zeros → len < 8 * count
+    → x ≡ get_or extended (count - 1) x
+    → (take (len + width) (bits (set extended (count - 1)
+    (x + n * 2 ^ zeros % 2 ^ 128 / 2 ^ (8 * grown)))) ≡ take len (bits octets) ++ bin width n)
+    × IsFilled (len + width) (set extended (count - 1)
+    (x + n * 2 ^ zeros % 2 ^ 128 / 2 ^ (8 * grown)))
 put_last octets extended len width n count grown zeros x p begun x_is =
     let i = count - 1 in
     let free = 8 * count - len in
@@ -202,7 +241,10 @@ put_last octets extended len width n count grown zeros x p begun x_is =
     closed_filled (set extended i (x + n * 2 ^ zeros % 2 ^ 128 / 2 ^ (8 * grown))) (take len (bits octets) ++ bin width n) (len + width) zeros all long p.few
 
 -- after a full octet the field begins a new one
-pub put_after : (octets extended : List ℕ) (len width n count grown zeros : ℕ) → Putting octets extended len width n count grown zeros → 8 * count ≤ len → (take (len + width) (bits extended) ≡ take len (bits octets) ++ bin width n) × IsFilled (len + width) extended
+pub put_after : (octets extended : List ℕ) (len width n count grown zeros : ℕ)
+    → Putting octets extended len width n count grown zeros → 8 * count ≤ len
+    → (take (len + width) (bits extended) ≡ take len (bits octets) ++ bin width n)
+    × IsFilled (len + width) extended
 put_after octets extended len width n count grown zeros p full =
     let same : take len (bits octets) ≡ bits octets = take_all len (bits octets) (omega (arith, length-bits octets, p.count_is)) in
     let all = put_whole octets extended width n grown zeros (n * 2 ^ zeros) (omega (arith, p.ends)) (omega (arith, p.grown_few)) refl p.extended_is in
@@ -211,7 +253,9 @@ put_after octets extended len width n count grown zeros p full =
     rw same (closed_filled extended (bits octets ++ bin width n) (len + width) zeros all long p.few)
 
 -- the field's first bits fit an octet
-pub cast_fits : (octets extended : List ℕ) (len width n count grown zeros : ℕ) → Putting octets extended len width n count grown zeros → n * 2 ^ zeros % 2 ^ 128 / 2 ^ (8 * grown) < 256
+pub cast_fits : (octets extended : List ℕ) (len width n count grown zeros : ℕ)
+    → Putting octets extended len width n count grown zeros
+    → n * 2 ^ zeros % 2 ^ 128 / 2 ^ (8 * grown) < 256
 cast_fits octets extended len width n count grown zeros p =
     let free = 8 * count - len in
     let top = top_below n width zeros free grown p.fits p.ends in
@@ -220,7 +264,10 @@ cast_fits octets extended len width n count grown zeros p =
     rw (wide_is n width zeros p.narrow p.few p.fits) (omega arith)
 
 -- and the last octet has room for them
-pub add_fits : (octets extended : List ℕ) (len width n count grown zeros x : ℕ) → Putting octets extended len width n count grown zeros → len < 8 * count → x ≡ get_or extended (count - 1) x → x < 256 → x + n * 2 ^ zeros % 2 ^ 128 / 2 ^ (8 * grown) < 256
+pub add_fits : (octets extended : List ℕ) (len width n count grown zeros x : ℕ)
+    → Putting octets extended len width n count grown zeros → len < 8 * count
+    → x ≡ get_or extended (count - 1) x → x < 256
+    → x + n * 2 ^ zeros % 2 ^ 128 / 2 ^ (8 * grown) < 256
 add_fits octets extended len width n count grown zeros x p begun x_is small =
     let free = 8 * count - len in
     let i = count - 1 in
@@ -238,7 +285,9 @@ filled_whole octets all e =
     (omega arith, omega arith, drop_all all (bits octets) (omega (arith, length-bits octets)) ∙ ap (λ k. replicate k false) (sym none))
 
 -- the zero bits up to the octet's end, as bits put
-pub fill_is : (octets : List ℕ) (len all : ℕ) → IsFilled len octets → all ≡ 8 * length octets → take all (bits octets) ≡ take len (bits octets) ++ replicate ((8 - length (take len (bits octets)) % 8) % 8) false
+pub fill_is : (octets : List ℕ) (len all : ℕ) → IsFilled len octets → all ≡ 8 * length octets
+    → take all (bits octets)
+    ≡ take len (bits octets) ++ replicate ((8 - length (take len (bits octets)) % 8) % 8) false
 fill_is octets len all filled e =
     let long : length (take len (bits octets)) ≡ len = length-take-le len (bits octets) (omega (arith, length-bits octets, filled.0)) in
     let zeros : 8 * length octets - len ≡ (8 - len % 8) % 8 = omega (arith, filled.0, filled.1) in
@@ -247,12 +296,16 @@ fill_is octets len all filled e =
     ∙ ap (λ bs. take len (bits octets) ++ bs) (filled.2 ∙ ap (λ k. replicate k false) zeros))
 
 -- the octets in which the first bits stand
-pub cut_front : (octets : List ℕ) (k len : ℕ) → len ≤ 8 * k → k ≤ length octets → take len (bits (take k octets)) ≡ take len (bits octets)
+pub cut_front : (octets : List ℕ) (k len : ℕ) → len ≤ 8 * k → k ≤ length octets
+    → take len (bits (take k octets)) ≡ take len (bits octets)
 cut_front octets k len inside within =
     ap (λ bs. take len bs) (sym (take-bits k (8 * k) octets refl within)) ∙ take-take len (8 * k) (bits octets) inside
 
 -- octets cut on an octet's edge
-pub cut_whole : (octets cut : List ℕ) (len count : ℕ) → count ≡ length octets → len ≤ 8 * length octets → (8 * count - len) % 8 ≡ 0 → cut ≡ take (count - (8 * count - len) / 8) octets → (take len (bits cut) ≡ take len (bits octets)) × IsFilled len cut
+pub cut_whole : (octets cut : List ℕ) (len count : ℕ) → count ≡ length octets
+    → len ≤ 8 * length octets → (8 * count - len) % 8 ≡ 0
+    → cut ≡ take (count - (8 * count - len) / 8) octets
+    → (take len (bits cut) ≡ take len (bits octets)) × IsFilled len cut
 cut_whole octets cut len count count_is inside edge cut_is =
     let k = count - (8 * count - len) / 8 in
     let within : k ≤ length octets = omega (arith, count_is) in
@@ -261,7 +314,12 @@ cut_whole octets cut len count count_is inside edge cut_is =
     (ap (λ xs. take len (bits xs)) cut_is ∙ cut_front octets k len (omega (arith, all, long)) within, filled_whole cut len all)
 
 -- octets cut inside an octet, whose low bits are then zero
-pub cut_inside : (octets cut : List ℕ) (len count at x low : ℕ) → count ≡ length octets → len ≤ 8 * length octets → low ≡ (8 * count - len) % 8 → 0 < low → cut ≡ take (count - (8 * count - len) / 8) octets → at ≡ length cut → x ≡ get_or cut (at - 1) x → (take len (bits (set cut (at - 1) (x - x % (1 * 2 ^ low % 256)))) ≡ take len (bits octets)) × IsFilled len (set cut (at - 1) (x - x % (1 * 2 ^ low % 256)))
+pub cut_inside : (octets cut : List ℕ) (len count at x low : ℕ) → count ≡ length octets
+    → len ≤ 8 * length octets → low ≡ (8 * count - len) % 8 → 0 < low
+    → cut ≡ take (count - (8 * count - len) / 8) octets → at ≡ length cut
+    → x ≡ get_or cut (at - 1) x
+    → (take len (bits (set cut (at - 1) (x - x % (1 * 2 ^ low % 256)))) ≡ take len (bits octets))
+    × IsFilled len (set cut (at - 1) (x - x % (1 * 2 ^ low % 256)))
 cut_inside octets cut len count at x low count_is inside low_is some cut_is at_is x_is =
     let k = count - (8 * count - len) / 8 in
     let i = at - 1 in

@@ -40,8 +40,9 @@ pub record AddedThrough (tables : Entries) (reads : ℕ) (old new : List Reading
   pub bounded : AreReadAtMost reads new
 
 -- before the first
-pub added_first : (tables : Entries) (reads : ℕ) (readers : List Reading) (archive : ArchiveView) (counts : Counts)
-    → AreFresh readers → HasAdded tables archive counts [] → AddedThrough tables reads readers readers archive counts 0
+pub added_first : (tables : Entries) (reads : ℕ) (readers : List Reading) (archive : ArchiveView)
+    (counts : Counts) → AreFresh readers → HasAdded tables archive counts []
+    → AddedThrough tables reads readers readers archive counts 0
 added_first tables reads readers archive counts fresh empty = record {
   streams = [];
   through = through_first readers;
@@ -51,13 +52,17 @@ added_first tables reads readers archive counts fresh empty = record {
 }
 
 -- the frames of streams and of one more
-frames_more : (streams : List (List ℕ)) (stream : List ℕ) → frames_of (streams ++ stream ∷ []) ≡ frames_of streams ++ cut stream
+frames_more : (streams : List (List ℕ)) (stream : List ℕ)
+    → frames_of (streams ++ stream ∷ []) ≡ frames_of streams ++ cut stream
 frames_more streams stream =
     flat_map-append cut streams (stream ∷ []) ∙ ap (λ (fs : List Found). frames_of streams ++ fs) (append-nil (cut stream))
 
 -- one more
-pub added_next : (tables : Entries) (reads : ℕ) (old new new' : List Reading) (archive archive' : ArchiveView) (counts counts' : Counts) (i : ℕ) (r r' : Reading) (done : Unit {0})
-    → reads ≤ 4294967296 → (a : AddedThrough tables reads old new archive counts i) → Reached old new a.streams i r → new' ≡ set new i r' → r'.reads ≤ reads
+pub added_next : (tables : Entries) (reads : ℕ) (old new new' : List Reading)
+    (archive archive' : ArchiveView) (counts counts' : Counts) (i : ℕ) (r r' : Reading)
+    (done : Unit {0}) → reads ≤ 4294967296
+    → (a : AddedThrough tables reads old new archive counts i) → Reached old new a.streams i r
+    → new' ≡ set new i r' → r'.reads ≤ reads
     → AddsStream tables (Number (i + 1)) reads r r' archive' counts' (frames_of a.streams) (Ok done)
     → AddedThrough tables reads old new' archive' counts' (i + 1)
 added_next tables reads old new new' archive archive' counts counts' i r r' done most a at is bounded adds =
@@ -75,18 +80,21 @@ added_next tables reads old new new' archive archive' counts counts' i r r' done
     }
 
 -- the bound stays
-pub bounded_next : (reads : ℕ) (new new' : List Reading) (i : ℕ) (r' : Reading) → AreReadAtMost reads new → new' ≡ set new i r' → r'.reads ≤ reads
-    → AreReadAtMost reads new'
+pub bounded_next : (reads : ℕ) (new new' : List Reading) (i : ℕ) (r' : Reading)
+    → AreReadAtMost reads new → new' ≡ set new i r' → r'.reads ≤ reads → AreReadAtMost reads new'
 bounded_next reads new new' i r' all is bounded = subst (AreReadAtMost reads) (sym is) (at_most_set reads new i r' all bounded)
 
 -- after the last
-pub added_all : (tables : Entries) (reads : ℕ) (old new : List Reading) (archive : ArchiveView) (counts : Counts) (i : ℕ) (done : Unit {0})
-    → AddedThrough tables reads old new archive counts i → length new ≤ i → AddsStreams tables reads old new archive counts (Ok done)
+pub added_all : (tables : Entries) (reads : ℕ) (old new : List Reading) (archive : ArchiveView)
+    (counts : Counts) (i : ℕ) (done : Unit {0}) → AddedThrough tables reads old new archive counts i
+    → length new ≤ i → AddsStreams tables reads old new archive counts (Ok done)
 added_all tables reads old new archive counts i done a all = (a.streams, through_all old new a.streams i a.through all, a.added)
 
 -- it ended at one
-pub added_ends : (tables : Entries) (reads : ℕ) (old new new' : List Reading) (archive archive' : ArchiveView) (counts counts' : Counts) (streams : List (List ℕ)) (before : List Found) (i : ℕ) (r r' : Reading) (e : ToolFault)
-    → Reached old new streams i r → new' ≡ set new i r'
+pub added_ends : (tables : Entries) (reads : ℕ) (old new new' : List Reading)
+    (archive archive' : ArchiveView) (counts counts' : Counts) (streams : List (List ℕ))
+    (before : List Found) (i : ℕ) (r r' : Reading) (e : ToolFault) → Reached old new streams i r
+    → new' ≡ set new i r'
     → AddsStream tables (Number (i + 1)) reads r r' archive counts before (Err e)
     → AddsStreams tables reads old new' archive' counts' (Err e)
 added_ends tables reads old new new' archive archive' counts counts' streams before i r r' (faults.ReadFailed source) at is adds =
@@ -103,15 +111,17 @@ added_ends tables reads old new new' archive archive' counts counts' streams bef
 added_ends tables reads old new new' archive archive' counts counts' streams before i r r' (faults.NotAnArchive input place) at is adds = absurd adds
 
 -- the reports of the frames of streams are those that the streams tell
-pub told_frames : (tables : Entries) (streams : List (List ℕ)) → reports_of_frames tables (frames_of streams) ≡ all_told tables streams
+pub told_frames : (tables : Entries) (streams : List (List ℕ))
+    → reports_of_frames tables (frames_of streams) ≡ all_told tables streams
 told_frames tables [] = refl
 told_frames tables (stream ∷ streams) =
     flat_map-append (λ (f : Found). reports_in tables f.bytes) (cut stream) (frames_of streams)
     ∙ ap (λ (rs : List Report). told tables stream ++ rs) (told_frames tables streams)
 
 -- the text of the archive is that of all reports that the streams tell
-pub collected_text_is : (tables : Entries) (archive : ArchiveView) (counts : Counts) (streams : List (List ℕ)) (octets : List ℕ)
-    → HasAdded tables archive counts (frames_of streams) → octets ≡ text archive.entries → octets ≡ collected_text tables streams
+pub collected_text_is : (tables : Entries) (archive : ArchiveView) (counts : Counts)
+    (streams : List (List ℕ)) (octets : List ℕ) → HasAdded tables archive counts (frames_of streams)
+    → octets ≡ text archive.entries → octets ≡ collected_text tables streams
 collected_text_is tables archive counts streams octets h is =
     is ∙ ap (λ (a : ArchiveView). text a.entries) h.archive_is ∙ ap (text_of tables) (told_frames tables streams)
 
@@ -119,8 +129,10 @@ collected_text_is tables archive counts streams octets h is =
 abbrev pub counted : ℕ → ℕ → ℕ → Tally
 counted frames refused reports = record { frames = frames; refused = refused; skipped = 0; reports = reports }
 
-pub collected_tally_is : (tables : Entries) (archive : ArchiveView) (counts : Counts) (streams : List (List ℕ)) (reports : ℕ)
-    → HasAdded tables archive counts (frames_of streams) → reports ≡ length archive.entries
+-- the counts of frames, of refused ones and of reports are those of the streams
+pub collected_tally_is : (tables : Entries) (archive : ArchiveView) (counts : Counts)
+    (streams : List (List ℕ)) (reports : ℕ) → HasAdded tables archive counts (frames_of streams)
+    → reports ≡ length archive.entries
     → counted counts.frames counts.refused reports ≡ collected_tally tables streams
 collected_tally_is tables archive counts streams reports h is =
     ap (λ (n : ℕ). counted n counts.refused reports) h.frames_are
@@ -129,10 +141,12 @@ collected_tally_is tables archive counts streams reports h is =
     (is ∙ ap (λ (a : ArchiveView). length a.entries) h.archive_is ∙ ap (λ (rs : List Report). length (kept_of tables rs)) (told_frames tables streams))
 
 -- without a fault
-pub collects_ok : (tables : Entries) (reads : ℕ) (old new : List Reading) (writer writer' : Writing) (archive : ArchiveView) (counts : Counts) (octets : List ℕ) (reports : ℕ) (done : Unit {0})
-    → AddsStreams tables reads old new archive counts (Ok done) → octets ≡ text archive.entries → reports ≡ length archive.entries
-    → WritesAll writer writer' octets
-    → Collects tables reads old new writer writer' (Ok (counted counts.frames counts.refused reports))
+pub collects_ok : (tables : Entries) (reads : ℕ) (old new : List Reading) (writer writer' : Writing)
+    (archive : ArchiveView) (counts : Counts) (octets : List ℕ) (reports : ℕ) (done : Unit {0})
+    → AddsStreams tables reads old new archive counts (Ok done) → octets ≡ text archive.entries
+    → reports ≡ length archive.entries → WritesAll writer writer' octets
+    → Collects tables reads old new writer writer'
+    (Ok (counted counts.frames counts.refused reports))
 collects_ok tables reads old new writer writer' archive counts octets reports done adds is count writes = (
   adds.0,
   adds.1,
@@ -141,9 +155,10 @@ collects_ok tables reads old new writer writer' archive counts octets reports do
 )
 
 -- the writer failed
-pub collects_fails : (tables : Entries) (reads : ℕ) (old new : List Reading) (writer writer' : Writing) (archive : ArchiveView) (counts : Counts) (octets : List ℕ) (done : Unit {0}) (e : ToolFault)
-    → AddsStreams tables reads old new archive counts (Ok done) → octets ≡ text archive.entries
-    → WritesAfter 0 octets writer writer' (Err e)
+pub collects_fails : (tables : Entries) (reads : ℕ) (old new : List Reading)
+    (writer writer' : Writing) (archive : ArchiveView) (counts : Counts) (octets : List ℕ)
+    (done : Unit {0}) (e : ToolFault) → AddsStreams tables reads old new archive counts (Ok done)
+    → octets ≡ text archive.entries → WritesAfter 0 octets writer writer' (Err e)
     → Collects tables reads old new writer writer' (Err e)
 collects_fails tables reads old new writer writer' archive counts octets done (faults.WriteFailed written) adds is w =
     let same : written ≡ w.0 = omega (arith, w.1) in (
@@ -161,8 +176,10 @@ collects_fails tables reads old new writer writer' archive counts octets done (f
 collects_fails tables reads old new writer writer' archive counts octets done (faults.NotAnArchive input place) adds is w = absurd w
 
 -- it ended at a reader, or memory ran out
-pub collects_ends : (tables : Entries) (reads : ℕ) (old new : List Reading) (writer : Writing) (archive : ArchiveView) (counts : Counts) (e : ToolFault)
-    → AddsStreams tables reads old new archive counts (Err e) → Collects tables reads old new writer writer (Err e)
+pub collects_ends : (tables : Entries) (reads : ℕ) (old new : List Reading) (writer : Writing)
+    (archive : ArchiveView) (counts : Counts) (e : ToolFault)
+    → AddsStreams tables reads old new archive counts (Err e)
+    → Collects tables reads old new writer writer (Err e)
 collects_ends tables reads old new writer archive counts (faults.ReadFailed source) adds = (adds, refl)
 collects_ends tables reads old new writer archive counts (faults.EndlessInput source) adds = (adds, refl)
 collects_ends tables reads old new writer archive counts faults.OutOfMemory adds = refl
@@ -173,7 +190,8 @@ collects_ends tables reads old new writer archive counts (faults.Encode number w
 collects_ends tables reads old new writer archive counts (faults.NotAnArchive input place) adds = absurd adds
 
 -- a new archive
-pub empty_added : (archive : ArchiveView) (tables : Entries) → archive ≡ record { tables = tables; entries = [] }
+pub empty_added : (archive : ArchiveView) (tables : Entries)
+    → archive ≡ record { tables = tables; entries = [] }
     → HasAdded archive.tables archive (record { frames = 0; refused = 0 }) []
 empty_added archive tables is = record {
   archive_is = subst (λ (a : ArchiveView). a ≡ archive_of a.tables []) (sym is) refl;
@@ -194,7 +212,8 @@ pub record MergedThrough (tables : Entries) (reads : ℕ) (old new : List Readin
 
 -- before the first
 pub merged_first : (tables : Entries) (reads : ℕ) (readers : List Reading) (archive : ArchiveView)
-    → AreFresh readers → archive ≡ record { tables = tables; entries = [] } → MergedThrough tables reads readers readers archive 0
+    → AreFresh readers → archive ≡ record { tables = tables; entries = [] }
+    → MergedThrough tables reads readers readers archive 0
 merged_first tables reads readers archive fresh empty = record {
   texts = [];
   through = through_first readers;
@@ -205,29 +224,32 @@ merged_first tables reads readers archive fresh empty = record {
 }
 
 -- one more text
-texts_more : (tables : Entries) (texts : List (List ℕ)) (lists : List (List Report)) (octets : List ℕ) (rs : List Report)
-    → AreTextsOf tables texts lists → AreUnder tables rs → octets ≡ text_of tables rs
-    → AreTextsOf tables (texts ++ octets ∷ []) (lists ++ rs ∷ [])
+texts_more : (tables : Entries) (texts : List (List ℕ)) (lists : List (List Report))
+    (octets : List ℕ) (rs : List Report) → AreTextsOf tables texts lists → AreUnder tables rs
+    → octets ≡ text_of tables rs → AreTextsOf tables (texts ++ octets ∷ []) (lists ++ rs ∷ [])
 texts_more tables [] [] octets rs are under is = (under, is, tt)
 texts_more tables (t ∷ texts) (l ∷ lists) octets rs are under is = (are.0, are.1, texts_more tables texts lists octets rs are.2 under is)
 texts_more tables [] (l ∷ lists) octets rs are under is = absurd are
 texts_more tables (t ∷ texts) [] octets rs are under is = absurd are
 
 -- the reports of lists and of one more
-all_more : (lists : List (List Report)) (rs : List Report) → all_of (lists ++ rs ∷ []) ≡ all_of lists ++ rs
+all_more : (lists : List (List Report)) (rs : List Report)
+    → all_of (lists ++ rs ∷ []) ≡ all_of lists ++ rs
 all_more lists rs =
     flat_map-append (λ (xs : List Report). xs) lists (rs ∷ []) ∙ ap (λ (xs : List Report). all_of lists ++ xs) (append-nil rs)
 
 -- what is kept of two lists
-pub kept_both : (tables : Entries) (rs more : List Report) → kept (kept_of tables rs ++ kept_of tables more) ≡ kept_of tables (rs ++ more)
+pub kept_both : (tables : Entries) (rs more : List Report)
+    → kept (kept_of tables rs ++ kept_of tables more) ≡ kept_of tables (rs ++ more)
 kept_both tables rs more =
     kept-late (kept_of tables rs) (entries_of (report_entries tables more)) ∙ kept_more tables rs more
 
 -- one more
-pub merged_next : (tables : Entries) (reads : ℕ) (old new new' : List Reading) (archive more archive' : ArchiveView) (i : ℕ) (r r' : Reading)
-    → (m : MergedThrough tables reads old new archive i) → Reached old new m.texts i r → new' ≡ set new i r' → r'.reads ≤ reads
-    → ReadsArchive tables (i + 1) reads r r' (Ok more) → archive' ≡ merged archive more
-    → MergedThrough tables reads old new' archive' (i + 1)
+pub merged_next : (tables : Entries) (reads : ℕ) (old new new' : List Reading)
+    (archive more archive' : ArchiveView) (i : ℕ) (r r' : Reading)
+    → (m : MergedThrough tables reads old new archive i) → Reached old new m.texts i r
+    → new' ≡ set new i r' → r'.reads ≤ reads → ReadsArchive tables (i + 1) reads r r' (Ok more)
+    → archive' ≡ merged archive more → MergedThrough tables reads old new' archive' (i + 1)
 merged_next tables reads old new new' archive more archive' i r r' m at is bounded read merged_is =
     let octets = read.1 in
     let rs = read.3.0 in
@@ -245,20 +267,24 @@ merged_next tables reads old new new' archive more archive' i r r' m at is bound
     }
 
 -- the tables of the two
-pub merged_tables : (tables : Entries) (reads : ℕ) (old new : List Reading) (archive more : ArchiveView) (number i : ℕ) (r r' : Reading)
-    → MergedThrough tables reads old new archive i → ReadsArchive tables number reads r r' (Ok more) → archive.tables ≡ more.tables
+pub merged_tables : (tables : Entries) (reads : ℕ) (old new : List Reading)
+    (archive more : ArchiveView) (number i : ℕ) (r r' : Reading)
+    → MergedThrough tables reads old new archive i → ReadsArchive tables number reads r r' (Ok more)
+    → archive.tables ≡ more.tables
 merged_tables tables reads old new archive more number i r r' m read =
     ap (λ (a : ArchiveView). a.tables) m.merged_is ∙ sym (ap (λ (a : ArchiveView). a.tables) read.3.3)
 
 -- after the last
-pub merged_all : (tables : Entries) (reads : ℕ) (old new : List Reading) (archive : ArchiveView) (i : ℕ)
-    → MergedThrough tables reads old new archive i → length new ≤ i → MergesReaders tables reads old new (Ok archive)
+pub merged_all : (tables : Entries) (reads : ℕ) (old new : List Reading) (archive : ArchiveView)
+    (i : ℕ) → MergedThrough tables reads old new archive i → length new ≤ i
+    → MergesReaders tables reads old new (Ok archive)
 merged_all tables reads old new archive i m all = (m.texts, through_all old new m.texts i m.through all, m.lists, m.are, m.merged_is)
 
 -- it ended at one
-pub merged_ends : (tables : Entries) (reads : ℕ) (old new new' : List Reading) (archive : ArchiveView) (i : ℕ) (r r' : Reading) (e : ToolFault)
-    → (m : MergedThrough tables reads old new archive i) → Reached old new m.texts i r → new' ≡ set new i r'
-    → ReadsArchive tables (i + 1) reads r r' (Err e)
+pub merged_ends : (tables : Entries) (reads : ℕ) (old new new' : List Reading)
+    (archive : ArchiveView) (i : ℕ) (r r' : Reading) (e : ToolFault)
+    → (m : MergedThrough tables reads old new archive i) → Reached old new m.texts i r
+    → new' ≡ set new i r' → ReadsArchive tables (i + 1) reads r r' (Err e)
     → MergesReaders tables reads old new' (Err e)
 merged_ends tables reads old new new' archive i r r' (faults.ReadFailed source) m at is read =
     subst (λ s. ArchivesEndAt tables HasFailed s old new') (sym read.0)
@@ -276,13 +302,16 @@ merged_ends tables reads old new new' archive i r r' (faults.Listing why) m at i
 merged_ends tables reads old new new' archive i r r' (faults.Encode number why) m at is read = absurd read
 
 -- as many lists as readers
-as_many_lists : (tables : Entries) (texts : List (List ℕ)) (lists : List (List Report)) → AreTextsOf tables texts lists → length lists ≡ length texts
+as_many_lists : (tables : Entries) (texts : List (List ℕ)) (lists : List (List Report))
+    → AreTextsOf tables texts lists → length lists ≡ length texts
 as_many_lists tables [] [] are = refl
 as_many_lists tables (t ∷ texts) (l ∷ lists) are = ap (λ (n : ℕ). suc n) (as_many_lists tables texts lists are.2)
 as_many_lists tables [] (l ∷ lists) are = absurd are
 as_many_lists tables (t ∷ texts) [] are = absurd are
 
-as_many_readers : (old new : List Reading) (texts : List (List ℕ)) → WereReadOut old new texts → length new ≡ length texts
+-- as many texts as readers that were read out
+as_many_readers : (old new : List Reading) (texts : List (List ℕ)) → WereReadOut old new texts
+    → length new ≡ length texts
 as_many_readers [] [] [] out = refl
 as_many_readers (o ∷ old) (n ∷ new) (x ∷ texts) out = ap (λ (k : ℕ). suc k) (as_many_readers old new texts out.2)
 as_many_readers [] [] (x ∷ texts) out = absurd out
@@ -291,9 +320,10 @@ as_many_readers (o ∷ old) [] texts out = absurd out
 as_many_readers (o ∷ old) (n ∷ new) [] out = absurd out
 
 -- without a fault
-pub merges_ok : (tables : Entries) (reads : ℕ) (old new : List Reading) (writer writer' : Writing) (archive : ArchiveView) (octets : List ℕ) (frames reports : ℕ)
-    → MergesReaders tables reads old new (Ok archive) → octets ≡ text archive.entries → frames ≡ length new → reports ≡ length archive.entries
-    → WritesAll writer writer' octets
+pub merges_ok : (tables : Entries) (reads : ℕ) (old new : List Reading) (writer writer' : Writing)
+    (archive : ArchiveView) (octets : List ℕ) (frames reports : ℕ)
+    → MergesReaders tables reads old new (Ok archive) → octets ≡ text archive.entries
+    → frames ≡ length new → reports ≡ length archive.entries → WritesAll writer writer' octets
     → Merges tables reads old new writer writer' (Ok (counted frames 0 reports))
 merges_ok tables reads old new writer writer' archive octets frames reports m is many count writes =
     let lists = m.2 in
@@ -308,7 +338,8 @@ merges_ok tables reads old new writer writer' archive octets frames reports m is
     )
 
 -- the writer failed
-pub merges_fails : (tables : Entries) (reads : ℕ) (old new : List Reading) (writer writer' : Writing) (archive : ArchiveView) (octets : List ℕ) (e : ToolFault)
+pub merges_fails : (tables : Entries) (reads : ℕ) (old new : List Reading)
+    (writer writer' : Writing) (archive : ArchiveView) (octets : List ℕ) (e : ToolFault)
     → MergesReaders tables reads old new (Ok archive) → octets ≡ text archive.entries
     → WritesAfter 0 octets writer writer' (Err e)
     → Merges tables reads old new writer writer' (Err e)
@@ -330,8 +361,9 @@ merges_fails tables reads old new writer writer' archive octets (faults.Encode n
 merges_fails tables reads old new writer writer' archive octets (faults.NotAnArchive input place) m is w = absurd w
 
 -- it ended at a reader, or memory ran out
-pub merges_ends : (tables : Entries) (reads : ℕ) (old new : List Reading) (writer : Writing) (e : ToolFault)
-    → MergesReaders tables reads old new (Err e) → Merges tables reads old new writer writer (Err e)
+pub merges_ends : (tables : Entries) (reads : ℕ) (old new : List Reading) (writer : Writing)
+    (e : ToolFault) → MergesReaders tables reads old new (Err e)
+    → Merges tables reads old new writer writer (Err e)
 merges_ends tables reads old new writer (faults.ReadFailed source) m = (m, refl)
 merges_ends tables reads old new writer (faults.EndlessInput source) m = (m, refl)
 merges_ends tables reads old new writer (faults.NotAnArchive input place) m = (m, refl)

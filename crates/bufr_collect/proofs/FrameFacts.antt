@@ -25,7 +25,8 @@ use Rattle.bufr_collect.specs.Adds.{reports_of_frames, HasAdded}
 
 -- what is kept of reports and of more
 pub kept_more : (tables : Entries) (rs more : List Report)
-    → kept (kept_of tables rs ++ entries_of (report_entries tables more)) ≡ kept_of tables (rs ++ more)
+    → kept (kept_of tables rs ++ entries_of (report_entries tables more))
+    ≡ kept_of tables (rs ++ more)
 kept_more tables rs more =
     kept-early (entries_of (report_entries tables rs)) (entries_of (report_entries tables more))
     ∙ ap kept (sym (flat_map-append option_to_list (report_entries tables rs) (report_entries tables more))
@@ -33,7 +34,8 @@ kept_more tables rs more =
 
 -- the reports of frames and of one more
 told_one : (tables : Entries) (frames : List Found) (frame : Found)
-    → reports_of_frames tables (frames ++ frame ∷ []) ≡ reports_of_frames tables frames ++ reports_in tables frame.bytes
+    → reports_of_frames tables (frames ++ frame ∷ [])
+    ≡ reports_of_frames tables frames ++ reports_in tables frame.bytes
 told_one tables frames frame =
     flat_map-append (λ (f : Found). reports_in tables f.bytes) frames (frame ∷ [])
     ∙ ap (λ rs. reports_of_frames tables frames ++ rs) (append-nil (reports_in tables frame.bytes))
@@ -43,9 +45,10 @@ abbrev pub archive_with : Entries → List Entry → ArchiveView
 archive_with tables es = record { tables = tables; entries = es }
 
 -- the archive with the reports of one more frame
-archive_more : (tables : Entries) (frames : List Found) (frame : Found) (rs : List Report) (new : ArchiveView)
-    → reports_in tables frame.bytes ≡ rs
-    → new ≡ taken_in (archive_of tables (reports_of_frames tables frames)) (report_entries tables rs)
+archive_more : (tables : Entries) (frames : List Found) (frame : Found) (rs : List Report)
+    (new : ArchiveView) → reports_in tables frame.bytes ≡ rs
+    → new
+    ≡ taken_in (archive_of tables (reports_of_frames tables frames)) (report_entries tables rs)
     → new ≡ archive_of tables (reports_of_frames tables (frames ++ frame ∷ []))
 archive_more tables frames frame rs new is new_is =
     new_is
@@ -54,7 +57,8 @@ archive_more tables frames frame rs new is new_is =
 
 -- one more frame is counted
 refused_more : (tables : Entries) (frames : List Found) (frame : Found)
-    → refused_of tables (frames ++ frame ∷ []) ≡ refused_of tables frames + frame_refused tables frame
+    → refused_of tables (frames ++ frame ∷ [])
+    ≡ refused_of tables frames + frame_refused tables frame
 refused_more tables frames frame = sum_by_push (frame_refused tables) frames frame
 
 -- no more frames are refused than there are
@@ -62,12 +66,14 @@ refused_one : (tables : Entries) (frame : Found) → frame_refused tables frame 
 refused_one tables frame =
     elim (message_of tables frame.bytes) as (λ (r : Result Decoded Refused). refused_as r ≤ 1) [ Ok d ↦ omega arith | Err why ↦ omega arith ]
 
+-- no more of some frames spell no message than there are
 refused_few : (tables : Entries) (frames : List Found) → refused_of tables frames ≤ length frames
 refused_few tables frames =
     omega (arith, sum_by-le (frame_refused tables) 1 frames (λ k d lt. refused_one tables (slice_index_or frames k d)))
 
-pub refused_at_most : (tables : Entries) (archive : ArchiveView) (counts : Counts) (frames : List Found)
-    → HasAdded tables archive counts frames → counts.refused ≤ counts.frames
+-- of the frames added no more are counted as refused than there are
+pub refused_at_most : (tables : Entries) (archive : ArchiveView) (counts : Counts)
+    (frames : List Found) → HasAdded tables archive counts frames → counts.refused ≤ counts.frames
 refused_at_most tables archive counts frames h =
     let few = refused_few tables frames in
     let a = h.frames_are in
@@ -75,7 +81,8 @@ refused_at_most tables archive counts frames h =
     omega arith
 
 -- a frame that spells a message
-pub added_ok : (tables : Entries) (old new : ArchiveView) (counts counts' : Counts) (frames : List Found) (frame : Found) (octets : List ℕ) (d : Decoded)
+pub added_ok : (tables : Entries) (old new : ArchiveView) (counts counts' : Counts)
+    (frames : List Found) (frame : Found) (octets : List ℕ) (d : Decoded)
     → HasAdded tables old counts frames → octets ≡ frame.bytes → message_of old.tables octets ≡ Ok d
     → new ≡ taken_in old (report_entries old.tables (reports_of d.message))
     → counts'.frames ≡ counts.frames + 1 → counts'.refused ≡ counts.refused
@@ -97,10 +104,11 @@ added_ok tables old new counts counts' frames frame octets d h is spells new_is 
     }
 
 -- a frame that spells none
-pub added_none : (tables : Entries) (old new : ArchiveView) (counts counts' : Counts) (frames : List Found) (frame : Found) (octets : List ℕ) (why : Refused)
-    → HasAdded tables old counts frames → octets ≡ frame.bytes → message_of old.tables octets ≡ Err why → new ≡ old
-    → counts'.frames ≡ counts.frames + 1 → counts'.refused ≡ counts.refused + 1
-    → HasAdded tables new counts' (frames ++ frame ∷ [])
+pub added_none : (tables : Entries) (old new : ArchiveView) (counts counts' : Counts)
+    (frames : List Found) (frame : Found) (octets : List ℕ) (why : Refused)
+    → HasAdded tables old counts frames → octets ≡ frame.bytes
+    → message_of old.tables octets ≡ Err why → new ≡ old → counts'.frames ≡ counts.frames + 1
+    → counts'.refused ≡ counts.refused + 1 → HasAdded tables new counts' (frames ++ frame ∷ [])
 added_none tables old new counts counts' frames frame octets why h is spells new_is one more =
     let was = h.archive_is in
     let here : message_of tables frame.bytes ≡ Err why = subst (λ (o : List ℕ). message_of tables o ≡ Err why) is (subst (λ (a : ArchiveView). message_of a.tables octets ≡ Err why) was spells) in
@@ -119,7 +127,8 @@ added_none tables old new counts counts' frames frame octets why h is spells new
     }
 
 -- the frames up to one and that one are the first of one more
-pub taken_to : (frames : List Found) (i : ℕ) (frame : Found) (before : List Found) → i < length frames → frame ≡ get_or frames i frame
+pub taken_to : (frames : List Found) (i : ℕ) (frame : Found) (before : List Found)
+    → i < length frames → frame ≡ get_or frames i frame
     → (before ++ take i frames) ++ frame ∷ [] ≡ before ++ take (i + 1) frames
 taken_to frames i frame before inside is =
     append_assoc before (take i frames) (frame ∷ [])
@@ -130,7 +139,8 @@ pub some_is : {A : Type 0} (P : A → Type 0) (o : Option A) (x : A) → o ≡ S
 some_is P o x e p = subst (λ w. IfSome w P) e p
 
 -- an error that is passed up as it is
-pub passed : {A F : Type 0} (P : Result A F → Type 0) (r : Result A F) (e : F) → IsErrAnd r (λ y. y ≡ e) → P (Err e) → P r
+pub passed : {A F : Type 0} (P : Result A F → Type 0) (r : Result A F) (e : F)
+    → IsErrAnd r (λ y. y ≡ e) → P (Err e) → P r
 passed P (Ok x) e is p = absurd is
 passed P (Err y) e is p = subst (λ z. P (Err z)) (sym is) p
 

@@ -14,10 +14,13 @@ use Rattle.bufr_collect.specs.Collected.{all_told, collected_text, AreTextsOf, a
 use Rattle.bufr_collect.specs.Laws.{SharedOutAnyhow}
 use Rattle.bufr_collect.proofs.EngineFacts.{kept_both}
 
-shared_kept : ReportTextsTell → (tables : Entries) (groups : List (List (List ℕ))) (lists : List (List Report))
+-- what is kept of the reports of the texts of groups is what is kept of all that their streams tell
+shared_kept : ReportTextsTell
+    → (tables : Entries) (groups : List (List (List ℕ))) (lists : List (List Report))
     → AllByRecursion (λ (streams : List (List ℕ)). AreUnder tables (all_told tables streams)) groups
     → AreTextsOf tables (map (collected_text tables) groups) lists
-    → kept_of tables (all_of lists) ≡ kept_of tables (all_told tables (flat_map (λ (streams : List (List ℕ)). streams) groups))
+    → kept_of tables (all_of lists)
+    ≡ kept_of tables (all_told tables (flat_map (λ (streams : List (List ℕ)). streams) groups))
 shared_kept tell tables [] [] under are = refl
 shared_kept tell tables (g ∷ groups) (rs ∷ lists) under are =
     let all = flat_map (λ (streams : List (List ℕ)). streams) groups in
@@ -32,5 +35,6 @@ shared_kept tell tables (g ∷ groups) (rs ∷ lists) under are =
 shared_kept tell tables [] (rs ∷ lists) under are = absurd are
 shared_kept tell tables (g ∷ groups) [] under are = absurd are
 
+-- archives of groups of streams merged write the text of one archive of all the streams
 pub shared : ReportTextsTell → SharedOutAnyhow
 shared tell tables groups lists under are = ap text (shared_kept tell tables groups lists under are)

@@ -10,27 +10,33 @@ use Rattle.bufr_collect.specs.Readers.{AreFresh, AreReadAtMost, WereReadOut, End
 -- ---- lists
 
 -- what holds of all holds of one of them
-all_mid : {A : Type 0} (P : A → Type 0) (front : List A) (x : A) (behind : List A) → AllByRecursion P (front ++ x ∷ behind) → P x
+all_mid : {A : Type 0} (P : A → Type 0) (front : List A) (x : A) (behind : List A)
+    → AllByRecursion P (front ++ x ∷ behind) → P x
 all_mid P [] x behind all = all.0
 all_mid P (y ∷ front) x behind all = all_mid P front x behind all.1
 
 -- and still of all where one is replaced by one of which it holds
-all_set : {A : Type 0} (P : A → Type 0) (xs : List A) (i : ℕ) (x : A) → AllByRecursion P xs → P x → AllByRecursion P (set xs i x)
+all_set : {A : Type 0} (P : A → Type 0) (xs : List A) (i : ℕ) (x : A) → AllByRecursion P xs → P x
+    → AllByRecursion P (set xs i x)
 all_set P [] i x all here = all
 all_set P (y ∷ xs) zero x all here = (here, all.1)
 all_set P (y ∷ xs) (suc i) x all here = (all.0, all_set P xs i x all.1 here)
 
 -- the element behind a front, and another in its place
-get_mid : (front : List Reading) (x : Reading) (behind : List Reading) (d : Reading) → get_or (front ++ x ∷ behind) (length front) d ≡ x
+get_mid : (front : List Reading) (x : Reading) (behind : List Reading) (d : Reading)
+    → get_or (front ++ x ∷ behind) (length front) d ≡ x
 get_mid [] x behind d = refl
 get_mid (y ∷ front) x behind d = get_mid front x behind d
 
-set_mid : (front : List Reading) (x : Reading) (behind : List Reading) (y : Reading) → set (front ++ x ∷ behind) (length front) y ≡ front ++ y ∷ behind
+-- an element set behind a front takes the place of the one that stood there
+set_mid : (front : List Reading) (x : Reading) (behind : List Reading) (y : Reading)
+    → set (front ++ x ∷ behind) (length front) y ≡ front ++ y ∷ behind
 set_mid [] x behind y = refl
 set_mid (z ∷ front) x behind y = ap (λ (xs : List Reading). z ∷ xs) (set_mid front x behind y)
 
 -- an element of a list that is looked at
-item_at : {A : Type 0} (f : A → Reading) (xs : List A) (i : ℕ) (d : A) → i < length xs → f (get_or xs i d) ≡ get_or (map f xs) i (f (get_or xs i d))
+item_at : {A : Type 0} (f : A → Reading) (xs : List A) (i : ℕ) (d : A) → i < length xs
+    → f (get_or xs i d) ≡ get_or (map f xs) i (f (get_or xs i d))
 item_at f [] i d inside = absurd (omega arith)
 item_at f (x ∷ xs) zero d inside = refl
 item_at f (x ∷ xs) (suc i) d inside = item_at f xs i d (omega arith)
@@ -43,12 +49,14 @@ none_left (x ∷ xs) h = absurd (omega arith)
 -- ---- readers
 
 -- readers that were not read were read at most so often
-pub at_most_fresh : (reads : ℕ) (readers : List Reading) → AreFresh readers → AreReadAtMost reads readers
+pub at_most_fresh : (reads : ℕ) (readers : List Reading) → AreFresh readers
+    → AreReadAtMost reads readers
 at_most_fresh reads [] fresh = tt
 at_most_fresh reads (r ∷ readers) fresh = let none = fresh.0.reads in (omega arith, at_most_fresh reads readers fresh.1)
 
-pub at_most_set : (reads : ℕ) (readers : List Reading) (i : ℕ) (r : Reading) → AreReadAtMost reads readers → r.reads ≤ reads
-    → AreReadAtMost reads (set readers i r)
+-- readers of which each was read at most so often stay so where one such is put in a place
+pub at_most_set : (reads : ℕ) (readers : List Reading) (i : ℕ) (r : Reading)
+    → AreReadAtMost reads readers → r.reads ≤ reads → AreReadAtMost reads (set readers i r)
 at_most_set reads readers i r all here = all_set (λ (x : Reading). x.reads ≤ reads) readers i r all here
 
 -- one more was read out
@@ -98,7 +106,8 @@ through_first readers = record {
 }
 
 -- after the last
-pub through_all : (old new : List Reading) (octets : List (List ℕ)) (i : ℕ) → Through old new octets i → length new ≤ i → WereReadOut old new octets
+pub through_all : (old new : List Reading) (octets : List (List ℕ)) (i : ℕ)
+    → Through old new octets i → length new ≤ i → WereReadOut old new octets
 through_all old new octets i t all =
     let long = ap length t.new_are ∙ length-append t.left t.behind in
     let many = t.so_many in
@@ -108,9 +117,10 @@ through_all old new octets i t all =
     subst (λ (xs : List Reading). WereReadOut old xs octets) left (subst (λ (xs : List Reading). WereReadOut xs t.left octets) front t.out)
 
 -- the next
-reach_in : (old new : List Reading) (octets : List (List ℕ)) (i : ℕ) (r : Reading) (front left behind : List Reading)
-    → old ≡ front ++ behind → new ≡ left ++ behind → length front ≡ i → length left ≡ i → WereReadOut front left octets
-    → i < length new → r ≡ get_or new i r → Reached old new octets i r
+reach_in : (old new : List Reading) (octets : List (List ℕ)) (i : ℕ) (r : Reading)
+    (front left behind : List Reading) → old ≡ front ++ behind → new ≡ left ++ behind
+    → length front ≡ i → length left ≡ i → WereReadOut front left octets → i < length new
+    → r ≡ get_or new i r → Reached old new octets i r
 reach_in old new octets i r front left [] old_are new_are as_many so_many out inside is =
     let long = ap length new_are ∙ length-append left [] in absurd (omega arith)
 reach_in old new octets i r front left (x ∷ behind) old_are new_are as_many so_many out inside is =
@@ -127,30 +137,35 @@ reach_in old new octets i r front left (x ∷ behind) old_are new_are as_many so
       out = out;
     }
 
-pub reach : (old new : List Reading) (octets : List (List ℕ)) (i : ℕ) (r : Reading) → Through old new octets i → i < length new → r ≡ get_or new i r
-    → Reached old new octets i r
+-- the reader after those read out parts the readers in those before it and those behind it
+pub reach : (old new : List Reading) (octets : List (List ℕ)) (i : ℕ) (r : Reading)
+    → Through old new octets i → i < length new → r ≡ get_or new i r → Reached old new octets i r
 reach old new octets i r t inside is = reach_in old new octets i r t.front t.left t.behind t.old_are t.new_are t.as_many t.so_many t.out inside is
 
-pub reach_item : {A : Type 0} (f : A → Reading) (old : List Reading) (xs : List A) (octets : List (List ℕ)) (i : ℕ) (d : A)
-    → Through old (map f xs) octets i → i < length xs → Reached old (map f xs) octets i (f (get_or xs i d))
+-- so does one that is told by what contracts see of a reader
+pub reach_item : {A : Type 0} (f : A → Reading) (old : List Reading) (xs : List A)
+    (octets : List (List ℕ)) (i : ℕ) (d : A) → Through old (map f xs) octets i → i < length xs
+    → Reached old (map f xs) octets i (f (get_or xs i d))
 reach_item f old xs octets i d t inside =
     let long = length-map xs f in
     reach old (map f xs) octets i (f (get_or xs i d)) t (omega arith) (item_at f xs i d inside)
 
 -- it is fresh
-pub fresh_next : (old new : List Reading) (octets : List (List ℕ)) (i : ℕ) (r : Reading) → AreFresh old → Reached old new octets i r → IsFresh r
+pub fresh_next : (old new : List Reading) (octets : List (List ℕ)) (i : ℕ) (r : Reading)
+    → AreFresh old → Reached old new octets i r → IsFresh r
 fresh_next old new octets i r fresh at = all_mid IsFresh at.front r at.behind (subst AreFresh at.old_are fresh)
 
 -- the readers where it is replaced
-put_next : (old new new' : List Reading) (octets : List (List ℕ)) (i : ℕ) (r r' : Reading) → (at : Reached old new octets i r) → new' ≡ set new i r'
-    → new' ≡ at.left ++ r' ∷ at.behind
+put_next : (old new new' : List Reading) (octets : List (List ℕ)) (i : ℕ) (r r' : Reading)
+    → (at : Reached old new octets i r) → new' ≡ set new i r' → new' ≡ at.left ++ r' ∷ at.behind
 put_next old new new' octets i r r' at is =
     is ∙ ap (λ (xs : List Reading). set xs i r') at.new_are
     ∙ subst (λ (k : ℕ). set (at.left ++ r ∷ at.behind) k r' ≡ at.left ++ r' ∷ at.behind) at.so_many (set_mid at.left r at.behind r')
 
 -- it was read out
-pub through_more : (old new new' : List Reading) (octets : List (List ℕ)) (more : List ℕ) (i : ℕ) (r r' : Reading)
-    → Reached old new octets i r → new' ≡ set new i r' → WasReadOut r' → AreAllOf r more → Through old new' (octets ++ more ∷ []) (i + 1)
+pub through_more : (old new new' : List Reading) (octets : List (List ℕ)) (more : List ℕ) (i : ℕ)
+    (r r' : Reading) → Reached old new octets i r → new' ≡ set new i r' → WasReadOut r'
+    → AreAllOf r more → Through old new' (octets ++ more ∷ []) (i + 1)
 through_more old new new' octets more i r r' at is out all =
     let front = length-append at.front (r ∷ []) in
     let left = length-append at.left (r' ∷ []) in
@@ -168,8 +183,10 @@ through_more old new new' octets more i r r' at is out all =
     }
 
 -- it ended there
-pub ends_here : (Before : List Reading → List Reading → Type 0) (Ends : Reading → Reading → Type 0) (old new new' : List Reading) (octets : List (List ℕ)) (i : ℕ) (r r' : Reading)
-    → (at : Reached old new octets i r) → new' ≡ set new i r' → ((xs ys : List Reading) → WereReadOut xs ys octets → Before xs ys) → Ends r r'
+pub ends_here : (Before : List Reading → List Reading → Type 0) (Ends : Reading → Reading → Type 0)
+    (old new new' : List Reading) (octets : List (List ℕ)) (i : ℕ) (r r' : Reading)
+    → (at : Reached old new octets i r) → new' ≡ set new i r'
+    → ((xs ys : List Reading) → WereReadOut xs ys octets → Before xs ys) → Ends r r'
     → EndsAt Before Ends (i + 1) old new'
 ends_here Before Ends old new new' octets i r r' at is before ends =
     record {

@@ -23,17 +23,24 @@ use Rattle.bufr_collect.specs.Adds.{HasAdded, HasAddedSure}
 -- ---- no more frames than octets
 
 -- at an open place of a stream that has ended the search goes on
-frames_past : (place x : ℕ) (xs : List ℕ) → start_of (x ∷ xs) ≡ Open → frames_from true place 0 (x ∷ xs) ≡ frames_from true (place + 1) 0 xs
+frames_past : (place x : ℕ) (xs : List ℕ) → start_of (x ∷ xs) ≡ Open
+    → frames_from true place 0 (x ∷ xs) ≡ frames_from true (place + 1) 0 xs
 frames_past place x xs h = rw (h, frames_from) refl
 
-few_frame : (frames others : List Found) (place l x : ℕ) (xs : List ℕ) → frames ≡ record { place = place; bytes = take l (x ∷ xs) } ∷ others
+-- a frame before others that are no more than the octets left is one more at most
+few_frame : (frames others : List Found) (place l x : ℕ) (xs : List ℕ)
+    → frames ≡ record { place = place; bytes = take l (x ∷ xs) } ∷ others
     → length others ≤ length xs → length frames ≤ suc (length xs)
 few_frame frames others place l x xs e h = rw e (omega arith)
 
-few_same : (frames others : List Found) (long : ℕ) → frames ≡ others → length others ≤ long → length frames ≤ suc long
+-- frames that are no more than the octets left are no more where an octet is before these
+few_same : (frames others : List Found) (long : ℕ) → frames ≡ others → length others ≤ long
+    → length frames ≤ suc long
 few_same frames others long e h = rw e (omega arith)
 
-few : (ended : Bool) (place skip : ℕ) (xs : List ℕ) → length (frames_from ended place skip xs) ≤ length xs
+-- octets have no more frames than octets, whether the stream has ended or not
+few : (ended : Bool) (place skip : ℕ) (xs : List ℕ)
+    → length (frames_from ended place skip xs) ≤ length xs
 few ended place skip [] = omega arith
 few ended place (suc skip) (x ∷ xs) = let h = few ended (place + 1) skip xs in omega arith
 few ended place zero (x ∷ xs) =
@@ -46,9 +53,11 @@ few ended place zero (x ∷ xs) =
       | Frame l ↦ λ h. few_frame _ _ place l x xs (frames_frame ended place l x xs h) (few ended (place + 1) (l - 1) xs)
     ] refl
 
+-- a stream has no more sure frames than octets
 pub sure_few : (stream : List ℕ) → length (sure stream) ≤ length stream
 sure_few stream = few false 0 0 stream
 
+-- a stream's cut has no more frames than the stream has octets
 pub cut_few : (stream : List ℕ) → length (cut stream) ≤ length stream
 cut_few stream = few true 0 0 stream
 
@@ -62,8 +71,10 @@ pub record Amid (tables : Entries) (archive : ArchiveView) (counts : Counts) (be
   pub few : length before < 2 ^ 127
 
 -- where a piece begins
-pub amid_first : (tables : Entries) (archive : ArchiveView) (counts : Counts) (before : List Found) (framer : Framing) (stream piece : List ℕ)
-    → HasAddedSure tables archive counts before framer stream → Amid tables archive counts before framer (stream ++ piece) piece
+pub amid_first : (tables : Entries) (archive : ArchiveView) (counts : Counts) (before : List Found)
+    (framer : Framing) (stream piece : List ℕ)
+    → HasAddedSure tables archive counts before framer stream
+    → Amid tables archive counts before framer (stream ++ piece) piece
 amid_first tables archive counts before framer stream piece h = record {
   frames = sure stream;
   taking = taking_first framer stream piece (sure stream) h.handed;
@@ -72,8 +83,8 @@ amid_first tables archive counts before framer stream piece h = record {
 }
 
 -- the frames that were handed out are the first of the sure frames
-amid_front : (framer : Framing) (stream rest : List ℕ) (frames : List Found) → IsTaking framer stream rest frames
-    → (more : List Found) × (sure stream ≡ frames ++ more)
+amid_front : (framer : Framing) (stream rest : List ℕ) (frames : List Found)
+    → IsTaking framer stream rest frames → (more : List Found) × (sure stream ≡ frames ++ more)
 amid_front framer stream rest frames t =
     let here = drop (length frames) (sure t.taken) in
     let there = drop (length (sure t.taken)) (sure (t.taken ++ rest)) in (
@@ -84,8 +95,8 @@ amid_front framer stream rest frames t =
     )
 
 -- and so no more than the stream's octets
-amid_few : (framer : Framing) (stream rest : List ℕ) (frames : List Found) → IsTaking framer stream rest frames
-    → length frames ≤ length stream
+amid_few : (framer : Framing) (stream rest : List ℕ) (frames : List Found)
+    → IsTaking framer stream rest frames → length frames ≤ length stream
 amid_few framer stream rest frames t =
     let front = amid_front framer stream rest frames t in
     let long : length (sure stream) ≡ length frames + length front.0 = ap length front.1 ∙ length-append frames front.0 in
@@ -93,9 +104,11 @@ amid_few framer stream rest frames t =
     omega arith
 
 -- a frame that was handed out can be counted
-pub amid_fits : (tables : Entries) (archive : ArchiveView) (counts : Counts) (before : List Found) (framer after : Framing) (stream rest left : List ℕ) (frame : Found)
+pub amid_fits : (tables : Entries) (archive : ArchiveView) (counts : Counts) (before : List Found)
+    (framer after : Framing) (stream rest left : List ℕ) (frame : Found)
     → Amid tables archive counts before framer stream rest → IsRestOf rest left
-    → IsNextFrame framer (taken_in rest left) frame → StandsAfter framer after (taken_in rest left) 1
+    → IsNextFrame framer (taken_in rest left) frame
+    → StandsAfter framer after (taken_in rest left) 1
     → counts.frames + 1 ≤ length before + length stream
 amid_fits tables archive counts before framer after stream rest left frame a parted next stands =
     let t = taking_one framer after stream rest left a.frames frame a.taking parted next stands in
@@ -106,10 +119,13 @@ amid_fits tables archive counts before framer after stream rest left frame a par
     omega arith
 
 -- a frame more was handed out and its message added
-pub amid_more : (tables : Entries) (archive archive' : ArchiveView) (counts counts' : Counts) (before : List Found) (framer after : Framing) (stream rest left : List ℕ) (frame : Found)
+pub amid_more : (tables : Entries) (archive archive' : ArchiveView) (counts counts' : Counts)
+    (before : List Found) (framer after : Framing) (stream rest left : List ℕ) (frame : Found)
     → Amid tables archive counts before framer stream rest → IsRestOf rest left
-    → IsNextFrame framer (taken_in rest left) frame → StandsAfter framer after (taken_in rest left) 1
-    → ((frames : List Found) → HasAdded tables archive counts frames → HasAdded tables archive' counts' (frames ++ frame ∷ []))
+    → IsNextFrame framer (taken_in rest left) frame
+    → StandsAfter framer after (taken_in rest left) 1
+    → ((frames : List Found) → HasAdded tables archive counts frames
+    → HasAdded tables archive' counts' (frames ++ frame ∷ []))
     → Amid tables archive' counts' before after stream left
 amid_more tables archive archive' counts counts' before framer after stream rest left frame a parted next stands adds = record {
   frames = a.frames ++ frame ∷ [];
@@ -119,9 +135,10 @@ amid_more tables archive archive' counts counts' before framer after stream rest
 }
 
 -- no frame more is sure: the piece was taken in, and the messages of all that is sure were added
-pub amid_none : (tables : Entries) (archive : ArchiveView) (counts : Counts) (before : List Found) (framer after : Framing) (stream rest : List ℕ)
-    → Amid tables archive counts before framer stream rest → IsNoFrame framer rest → StandsAfter framer after rest 0
-    → HasAddedSure tables archive counts before after stream
+pub amid_none : (tables : Entries) (archive : ArchiveView) (counts : Counts) (before : List Found)
+    (framer after : Framing) (stream rest : List ℕ)
+    → Amid tables archive counts before framer stream rest → IsNoFrame framer rest
+    → StandsAfter framer after rest 0 → HasAddedSure tables archive counts before after stream
 amid_none tables archive counts before framer after stream rest a none stands =
     let both = taking_none framer after stream rest a.frames a.taking none stands in
     record {
@@ -131,15 +148,16 @@ amid_none tables archive counts before framer after stream rest a none stands =
     }
 
 -- the condition of the next call
-pub amid_room : (tables : Entries) (archive : ArchiveView) (counts : Counts) (before : List Found) (framer : Framing) (stream rest : List ℕ)
-    → Amid tables archive counts before framer stream rest → framer.fed + length rest ≡ length stream
+pub amid_room : (tables : Entries) (archive : ArchiveView) (counts : Counts) (before : List Found)
+    (framer : Framing) (stream rest : List ℕ) → Amid tables archive counts before framer stream rest
+    → framer.fed + length rest ≡ length stream
 amid_room tables archive counts before framer stream rest a = taking_fed _ _ _ _ a.taking
 
 -- ---- the end
 
 -- no more frames than octets: also behind the sure ones
-pub rest_few : (framer : Framing) (stream : List ℕ) (last : List Found) → HandedOut framer stream (sure stream)
-    → last ≡ drop (length (sure stream)) (cut stream)
+pub rest_few : (framer : Framing) (stream : List ℕ) (last : List Found)
+    → HandedOut framer stream (sure stream) → last ≡ drop (length (sure stream)) (cut stream)
     → length (sure stream) + length last ≤ length stream
 rest_few framer stream last h is =
     let whole = handed_end framer stream (sure stream) last h is in
@@ -148,17 +166,20 @@ rest_few framer stream last h is =
     omega arith
 
 -- the frames before, the sure ones and the last are all
-pub rest_whole : (framer : Framing) (stream : List ℕ) (before last : List Found) → HandedOut framer stream (sure stream)
-    → last ≡ drop (length (sure stream)) (cut stream)
+pub rest_whole : (framer : Framing) (stream : List ℕ) (before last : List Found)
+    → HandedOut framer stream (sure stream) → last ≡ drop (length (sure stream)) (cut stream)
     → (before ++ sure stream) ++ last ≡ before ++ cut stream
 rest_whole framer stream before last h is =
     append_assoc before (sure stream) last ∙ ap (λ (fs : List Found). before ++ fs) (handed_end framer stream (sure stream) last h is)
 
 -- the messages of frames that were handed out at the end were added: then those of the whole stream
-pub rest_added : (archive archive' : ArchiveView) (counts counts' : Counts) (framer : Framing) (last frames : List Found)
-    → AreLast framer last → frames ≡ last
-    → ((tables : Entries) (before : List Found) → HasAdded tables archive counts before → HasAdded tables archive' counts' (before ++ frames))
-    → ((tables : Entries) (before : List Found) (stream : List ℕ) → HasAddedSure tables archive counts before framer stream → HasAdded tables archive' counts' (before ++ cut stream))
+pub rest_added : (archive archive' : ArchiveView) (counts counts' : Counts) (framer : Framing)
+    (last frames : List Found) → AreLast framer last → frames ≡ last
+    → ((tables : Entries) (before : List Found) → HasAdded tables archive counts before
+    → HasAdded tables archive' counts' (before ++ frames))
+    → ((tables : Entries) (before : List Found) (stream : List ℕ)
+    → HasAddedSure tables archive counts before framer stream
+    → HasAdded tables archive' counts' (before ++ cut stream))
 rest_added archive archive' counts counts' framer last frames are is adds tables before stream h =
     let found = are stream (length (sure stream)) h.handed.stands in
     let whole = ap (λ (fs : List Found). (before ++ sure stream) ++ fs) is ∙ rest_whole framer stream before last h.handed found in
@@ -177,7 +198,8 @@ pub record Between (old now : Reading) (first archive : ArchiveView) (start coun
 
 -- before the first
 pub between_first : (reader : Reading) (archive : ArchiveView) (counts : Counts) (framer : Framing)
-    → IsFresh reader → Stands framer [] 0 → Between reader reader archive archive counts counts framer 0
+    → IsFresh reader → Stands framer [] 0
+    → Between reader reader archive archive counts counts framer 0
 between_first reader archive counts framer fresh stands = record {
   read = [];
   goes_on = record { so_far = HasGiven_none reader; works = fresh.failed; reads = fresh.reads; met_end = fresh.met_end };
@@ -190,5 +212,6 @@ between_first reader archive counts framer fresh stands = record {
 }
 
 -- the frames of a stream that was read so often are no more than the octets asked for
-pub cut_bounded : (stream : List ℕ) (count reads : ℕ) → length stream ≤ 65536 * count → count ≤ reads → length (cut stream) ≤ 65536 * reads
+pub cut_bounded : (stream : List ℕ) (count reads : ℕ) → length stream ≤ 65536 * count
+    → count ≤ reads → length (cut stream) ≤ 65536 * reads
 cut_bounded stream count reads short most = let few = cut_few stream in omega arith

@@ -84,6 +84,7 @@ made_one tell under tables streams file octets was =
     ap first_of (made tell under tables (streams ∷ []) (file ∷ [])
     (all_both AreOctets streams [] octets tt) was)
 
+-- two files made of streams that hold the same messages are the same text, of what the streams tell
 pub any_way : ReportTextsTell → ReportsToldAreUnder → SameMessagesSameKept → AnyWayWritesTheSame
 any_way tell under kept tables a b x y octets others one two same =
     let first = made_one tell under tables a x octets one in

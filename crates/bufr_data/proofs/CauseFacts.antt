@@ -10,8 +10,8 @@ use Rattle.bufr_expand.specs.declared.walk.WalkFault.TheVariants as walks
 use Rattle.bufr_expand.specs.Courses.{Course, ends, stops, asks, course}
 use Rattle.bufr_expand.specs.Trees.{Tree}
 use Rattle.bufr_expand.specs.Unrolling.{Told, After, SubsetUnrolls}
-use Rattle.bufr_expand.specs.Beginning.{Next, wants, lacks, SubsetBegins, BeginsWithin, MeetsItems}
-use Rattle.bufr_expand.specs.Beginning.{PassesLimit, AsksAfter}
+use Rattle.bufr_expand.specs.NextFields.{Next, wants, lacks, SubsetBegins, BeginsWithin, MeetsItems}
+use Rattle.bufr_expand.specs.NextFields.{PassesLimit, AsksAfter}
 use Rattle.bufr_expand.specs.Limits.{most_items}
 use Rattle.bufr_data.specs.declared.field.Field.{Field}
 use Rattle.bufr_data.specs.declared.fault.ReadFault.{ReadFault}

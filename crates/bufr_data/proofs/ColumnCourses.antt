@@ -8,7 +8,7 @@ use Rattle.bufr_expand.specs.declared.walk.WalkFault.TheVariants as walks
 use Rattle.bufr_expand.specs.Courses.{Course, ends, stops, asks, course}
 use Rattle.bufr_expand.specs.Trees.{Tree}
 use Rattle.bufr_expand.specs.Unrolling.{After}
-use Rattle.bufr_expand.specs.Beginning.{Next, wants, lacks, BeginsWithin}
+use Rattle.bufr_expand.specs.NextFields.{Next, wants, lacks, BeginsWithin}
 use Rattle.bufr_expand.specs.Limits.{most_items}
 use Rattle.bufr_data.specs.declared.fault.ReadFault.{ReadFault}
 use Rattle.bufr_data.specs.declared.fault.ReadFault.TheVariants as faults

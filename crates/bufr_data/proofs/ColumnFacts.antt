@@ -41,7 +41,8 @@ pub not_equal : (a b : ℕ) → (a ≡ b → ⊥) → (a == b) ≡ false
 not_equal a b other = not_equal_by a b (a == b) refl other
 
 -- an increment of a value is read as this value
-pub raised_again : (width minimum k x : ℕ) (v : Raw) → HasIncrement width minimum k x v → raised width minimum k x ≡ Some v
+pub raised_again : (width minimum k x : ℕ) (v : Raw) → HasIncrement width minimum k x v
+    → raised width minimum k x ≡ Some v
 raised_again width minimum k x v (above below room is) =
     let some : x + 1 == 2 ^ k ≡ false = not_equal (x + 1) (2 ^ k) (λ e. omega (arith, below, e)) in
     rw (some, lt-ltb (minimum + x) (2 ^ width) room) (ap (λ r. Some r) (sym is))
@@ -56,18 +57,23 @@ strictly a b le other =
     ]
 
 -- the step of `raised_found`: all ones, or within the field
-raised_by : (width minimum k x : ℕ) (v : Raw) → x < 2 ^ k → (ones : Bool) (room : Bool) → (x + 1 == 2 ^ k) ≡ ones → nat_lt (minimum + x) (2 ^ width) ≡ room → cond ones (Some (Number (2 ^ width - 1))) (cond room (Some (Number (minimum + x))) None) ≡ Some v → HasIncrement width minimum k x v
+raised_by : (width minimum k x : ℕ) (v : Raw) → x < 2 ^ k → (ones : Bool) (room : Bool)
+    → (x + 1 == 2 ^ k) ≡ ones → nat_lt (minimum + x) (2 ^ width) ≡ room
+    → cond ones (Some (Number (2 ^ width - 1))) (cond room (Some (Number (minimum + x))) None)
+    ≡ Some v → HasIncrement width minimum k x v
 raised_by width minimum k x v below true room o r e = missing (eqb-true (x + 1) (2 ^ k) o) (sym (some_is _ _ e))
 raised_by width minimum k x v below false true o r e =
     above (strictly (x + 1) (2 ^ k) (omega (arith, below)) (eqb-false (x + 1) (2 ^ k) o)) (ltb-true (minimum + x) (2 ^ width) r) (sym (some_is _ _ e))
 raised_by width minimum k x v below false false o r e = absurd cc
 
 -- what is read of an increment is its value
-raised_found : (width minimum k x : ℕ) (v : Raw) → x < 2 ^ k → raised width minimum k x ≡ Some v → HasIncrement width minimum k x v
+raised_found : (width minimum k x : ℕ) (v : Raw) → x < 2 ^ k → raised width minimum k x ≡ Some v
+    → HasIncrement width minimum k x v
 raised_found width minimum k x v below e = raised_by width minimum k x v below _ _ refl refl e
 
 -- increments of values are read as these values
-all_raised_again : (j i width minimum k : ℕ) (xs : List ℕ) (vs : List Raw) → Pairwise (HasIncrement width minimum k) xs vs → all_raised j i width minimum k xs ≡ Ok vs
+all_raised_again : (j i width minimum k : ℕ) (xs : List ℕ) (vs : List Raw)
+    → Pairwise (HasIncrement width minimum k) xs vs → all_raised j i width minimum k xs ≡ Ok vs
 all_raised_again j i width minimum k [] [] h = refl
 all_raised_again j i width minimum k (x ∷ xs) (v ∷ vs) h =
     rw (raised_again width minimum k x v h.0, all_raised_again (j + 1) i width minimum k xs vs h.1) refl
@@ -75,13 +81,17 @@ all_raised_again j i width minimum k [] (v ∷ vs) h = absurd h
 all_raised_again j i width minimum k (x ∷ xs) [] h = absurd h
 
 -- where values are read, the first is and the others are
-value_then_found : (j i : ℕ) (o : Option Raw) (others : Result (List Raw) ReadFault) (vs : List Raw) → value_then j i o others ≡ Ok vs → (v : Raw) × (ws : List Raw) × (o ≡ Some v) × (others ≡ Ok ws) × (v ∷ ws ≡ vs)
+value_then_found : (j i : ℕ) (o : Option Raw) (others : Result (List Raw) ReadFault) (vs : List Raw)
+    → value_then j i o others ≡ Ok vs
+    → (v : Raw) × (ws : List Raw) × (o ≡ Some v) × (others ≡ Ok ws) × (v ∷ ws ≡ vs)
 value_then_found j i None others vs e = absurd cc
 value_then_found j i (Some v) (Ok ws) vs e = (v, ws, refl, refl, ok_is _ _ e)
 value_then_found j i (Some v) (Err f) vs e = absurd cc
 
 -- what is read of increments are their values
-all_raised_found : (j i width minimum k : ℕ) (xs : List ℕ) (vs : List Raw) → AllByRecursion (λ x. x < 2 ^ k) xs → all_raised j i width minimum k xs ≡ Ok vs → Pairwise (HasIncrement width minimum k) xs vs
+all_raised_found : (j i width minimum k : ℕ) (xs : List ℕ) (vs : List Raw)
+    → AllByRecursion (λ x. x < 2 ^ k) xs → all_raised j i width minimum k xs ≡ Ok vs
+    → Pairwise (HasIncrement width minimum k) xs vs
 all_raised_found j i width minimum k [] [] all e = tt
 all_raised_found j i width minimum k [] (v ∷ vs) all e = absurd cc
 all_raised_found j i width minimum k (x ∷ xs) vs all e =
@@ -92,7 +102,8 @@ all_raised_found j i width minimum k (x ∷ xs) vs all e =
 -- ---- texts
 
 -- a text of all ones is as many octets of all ones
-pub ones_of : (own : List ℕ) → list_all (λ x. x == 255) own ≡ true → own ≡ replicate (length own) 255
+pub ones_of : (own : List ℕ) → list_all (λ x. x == 255) own ≡ true
+    → own ≡ replicate (length own) 255
 ones_of [] e = refl
 ones_of (x ∷ own) e =
     let first : x ≡ 255 = eqb-true x 255 (and_first (x == 255) (list_all (λ x. x == 255) own) e) in
@@ -110,35 +121,45 @@ ones_below zero = tt
 ones_below (suc k) = (omega arith, ones_below k)
 
 -- the step of `filled_again`: a text that is not all ones is filled with spaces
-filled_by : (octets k : ℕ) (own : List ℕ) (b : Bool) → length own ≡ k → list_all (λ x. x == 255) own ≡ b → (own ≡ replicate k 255 → ⊥) → cond b (Text (replicate octets 255)) (Text (own ++ replicate (octets - length own) 32)) ≡ Text (own ++ replicate (octets - k) 32)
+filled_by : (octets k : ℕ) (own : List ℕ) (b : Bool) → length own ≡ k
+    → list_all (λ x. x == 255) own ≡ b → (own ≡ replicate k 255 → ⊥)
+    → cond b (Text (replicate octets 255)) (Text (own ++ replicate (octets - length own) 32))
+    ≡ Text (own ++ replicate (octets - k) 32)
 filled_by octets k own true size e other = absurd (other (ones_of own e ∙ ap (λ n. replicate n 255) size))
 filled_by octets k own false size e other = ap (λ n. Text (own ++ replicate (octets - n) 32)) size
 
 -- a text in a column is filled to its value
-pub filled_again : (octets k : ℕ) (own : List ℕ) (v : Raw) → HasText octets k own v → filled octets own ≡ v
+pub filled_again : (octets k : ℕ) (own : List ℕ) (v : Raw) → HasText octets k own v
+    → filled octets own ≡ v
 filled_again octets k own v (is_filled size all other is) = filled_by octets k own _ size refl other ∙ sym is
 filled_again octets k own v (ones_text is value) =
     rw (is, all_ones_of k) (sym value)
 
 -- such a text has its octets
-pub text_octets : (octets k : ℕ) (own : List ℕ) (v : Raw) → HasText octets k own v → (length own ≡ k) × AllByRecursion (λ x. x < 256) own
+pub text_octets : (octets k : ℕ) (own : List ℕ) (v : Raw) → HasText octets k own v
+    → (length own ≡ k) × AllByRecursion (λ x. x < 256) own
 text_octets octets k own v (is_filled size all other is) = (size, all)
 text_octets octets k own v (ones_text is value) =
     (ap length is ∙ length-replicate k 255, subst (λ os. AllByRecursion (λ x. x < 256) os) (sym is) (ones_below k))
 
 -- the step of `filled_found`, by whether it is all ones
-filled_found_by : (octets k : ℕ) (own : List ℕ) (b : Bool) → length own ≡ k → AllByRecursion (λ x. x < 256) own → list_all (λ x. x == 255) own ≡ b → HasText octets k own (cond b (Text (replicate octets 255)) (Text (own ++ replicate (octets - length own) 32)))
+filled_found_by : (octets k : ℕ) (own : List ℕ) (b : Bool) → length own ≡ k
+    → AllByRecursion (λ x. x < 256) own → list_all (λ x. x == 255) own ≡ b
+    → HasText octets k own
+    (cond b (Text (replicate octets 255)) (Text (own ++ replicate (octets - length own) 32)))
 filled_found_by octets k own true size all e = ones_text (ones_of own e ∙ ap (λ n. replicate n 255) size) refl
 filled_found_by octets k own false size all e =
     is_filled size all (λ is. let ones : list_all (λ x. x == 255) own ≡ true = ap (list_all (λ x. x == 255)) is ∙ all_ones_of k in let no = sym ones ∙ e in cc)
     (ap (λ n. Text (own ++ replicate (octets - n) 32)) size)
 
 -- what a text is filled to is its value
-filled_found : (octets k : ℕ) (own : List ℕ) → length own ≡ k → AllByRecursion (λ x. x < 256) own → HasText octets k own (filled octets own)
+filled_found : (octets k : ℕ) (own : List ℕ) → length own ≡ k → AllByRecursion (λ x. x < 256) own
+    → HasText octets k own (filled octets own)
 filled_found octets k own size all = filled_found_by octets k own _ size all refl
 
 -- texts in a column are filled to their values
-all_filled_again : (octets k : ℕ) (own : List (List ℕ)) (vs : List Raw) → Pairwise (HasText octets k) own vs → map (filled octets) own ≡ vs
+all_filled_again : (octets k : ℕ) (own : List (List ℕ)) (vs : List Raw)
+    → Pairwise (HasText octets k) own vs → map (filled octets) own ≡ vs
 all_filled_again octets k [] [] h = refl
 all_filled_again octets k (x ∷ own) (v ∷ vs) h =
     let first = filled_again octets k x v h.0 in
@@ -148,7 +169,9 @@ all_filled_again octets k [] (v ∷ vs) h = absurd h
 all_filled_again octets k (x ∷ own) [] h = absurd h
 
 -- the octets of texts are read as these texts
-texts_at_again : (octets k : ℕ) (own : List (List ℕ)) (vs : List Raw) (rest : List Bool) → Pairwise (HasText octets k) own vs → texts_at (length own) k (flat_map bits own ++ rest) ≡ Some (own, rest)
+texts_at_again : (octets k : ℕ) (own : List (List ℕ)) (vs : List Raw) (rest : List Bool)
+    → Pairwise (HasText octets k) own vs
+    → texts_at (length own) k (flat_map bits own ++ rest) ≡ Some (own, rest)
 texts_at_again octets k [] vs rest h = refl
 texts_at_again octets k (x ∷ own) [] rest h = absurd h
 texts_at_again octets k (x ∷ own) (v ∷ vs) rest h =
@@ -161,7 +184,11 @@ abbrev AreTexts : ℕ → ℕ → List Bool → List (List ℕ) × List Bool →
 AreTexts n k front x = (length x.0 ≡ n) × AllByRecursion (λ own. (length own ≡ k) × AllByRecursion (λ x. x < 256) own) x.0 × (front ≡ flat_map bits x.0 ++ x.1)
 
 -- the step of `texts_at_found`: one text and those behind it
-text_behind : (n k : ℕ) (front : List Bool) (y : List ℕ × List Bool) (o : Option (List (List ℕ) × List Bool)) (x : List (List ℕ) × List Bool) → (length y.0 ≡ k) × AllByRecursion (λ x. x < 256) y.0 × (front ≡ bits y.0 ++ y.1) → ((z : List (List ℕ) × List Bool) → o ≡ Some z → AreTexts n k y.1 z) → text_then o y.0 ≡ Some x → AreTexts (suc n) k front x
+text_behind : (n k : ℕ) (front : List Bool) (y : List ℕ × List Bool)
+    (o : Option (List (List ℕ) × List Bool)) (x : List (List ℕ) × List Bool)
+    → (length y.0 ≡ k) × AllByRecursion (λ x. x < 256) y.0 × (front ≡ bits y.0 ++ y.1)
+    → ((z : List (List ℕ) × List Bool) → o ≡ Some z → AreTexts n k y.1 z) → text_then o y.0 ≡ Some x
+    → AreTexts (suc n) k front x
 text_behind n k front y None x own behind e = absurd cc
 text_behind n k front y (Some z) x own behind e =
     let is = behind z refl in
@@ -169,43 +196,56 @@ text_behind n k front y (Some z) x own behind e =
     subst (λ p. AreTexts (suc n) k front p) (some_is _ _ e) (ap suc is.0, ((own.0, own.1), is.1), spelt)
 
 -- the same, where the first is read or is not
-texts_joined : (n k : ℕ) (front : List Bool) (o : Option (List ℕ × List Bool)) (others : List Bool → Option (List (List ℕ) × List Bool)) (x : List (List ℕ) × List Bool) → ((y : List ℕ × List Bool) → o ≡ Some y → (length y.0 ≡ k) × AllByRecursion (λ x. x < 256) y.0 × (front ≡ bits y.0 ++ y.1)) → ((rest : List Bool) (z : List (List ℕ) × List Bool) → others rest ≡ Some z → AreTexts n k rest z) → texts_then o others ≡ Some x → AreTexts (suc n) k front x
+texts_joined : (n k : ℕ) (front : List Bool) (o : Option (List ℕ × List Bool))
+    (others : List Bool → Option (List (List ℕ) × List Bool)) (x : List (List ℕ) × List Bool)
+    → ((y : List ℕ × List Bool) → o ≡ Some y
+    → (length y.0 ≡ k) × AllByRecursion (λ x. x < 256) y.0 × (front ≡ bits y.0 ++ y.1))
+    → ((rest : List Bool) (z : List (List ℕ) × List Bool) → others rest ≡ Some z
+    → AreTexts n k rest z)
+    → texts_then o others ≡ Some x → AreTexts (suc n) k front x
 texts_joined n k front None others x first behind e = absurd cc
 texts_joined n k front (Some y) others x first behind e = text_behind n k front y (others y.1) x (first y refl) (λ z h. behind y.1 z h) e
 
 -- texts that are read stand there
-pub texts_at_found : (n k : ℕ) (front : List Bool) (x : List (List ℕ) × List Bool) → texts_at n k front ≡ Some x → AreTexts n k front x
+pub texts_at_found : (n k : ℕ) (front : List Bool) (x : List (List ℕ) × List Bool)
+    → texts_at n k front ≡ Some x → AreTexts n k front x
 texts_at_found zero k front x e = subst (λ p. AreTexts 0 k front p) (some_is _ _ e) (refl, tt, refl)
 texts_at_found (suc n) k front x e =
     texts_joined n k front (octets_at k front) (λ rest. texts_at n k rest) x (λ y h. numbers_at_found k 8 front y h) (λ rest z h. texts_at_found n k rest z h) e
 
 -- what texts are filled to are their values
-all_filled_found : (octets k : ℕ) (own : List (List ℕ)) → AllByRecursion (λ x. (length x ≡ k) × AllByRecursion (λ y. y < 256) x) own → Pairwise (HasText octets k) own (map (filled octets) own)
+all_filled_found : (octets k : ℕ) (own : List (List ℕ))
+    → AllByRecursion (λ x. (length x ≡ k) × AllByRecursion (λ y. y < 256) x) own
+    → Pairwise (HasText octets k) own (map (filled octets) own)
 all_filled_found octets k [] all = tt
 all_filled_found octets k (x ∷ own) all = (filled_found octets k x all.0.0 all.0.1, all_filled_found octets k own all.1)
 
 -- ---- columns
 
 -- lists that belong together are of one length
-pub pairwise_length : {A B : Type 0} (Belong : A → B → Type 0) (xs : List A) (ys : List B) → Pairwise Belong xs ys → length xs ≡ length ys
+pub pairwise_length : {A B : Type 0} (Belong : A → B → Type 0) (xs : List A) (ys : List B)
+    → Pairwise Belong xs ys → length xs ≡ length ys
 pairwise_length Belong [] [] h = refl
 pairwise_length Belong (x ∷ xs) (y ∷ ys) h = ap suc (pairwise_length Belong xs ys h.1)
 pairwise_length Belong [] (y ∷ ys) h = absurd h
 pairwise_length Belong (x ∷ xs) [] h = absurd h
 
 -- an increment of a value fits its width
-pub increment_fits : (width minimum k x : ℕ) (v : Raw) → HasIncrement width minimum k x v → x < 2 ^ k
+pub increment_fits : (width minimum k x : ℕ) (v : Raw) → HasIncrement width minimum k x v
+    → x < 2 ^ k
 increment_fits width minimum k x v (above below room is) = omega (arith, below)
 increment_fits width minimum k x v (missing ones is) = omega (arith, ones)
 
 -- so does each of them
-pub increments_fit : (width minimum k : ℕ) (xs : List ℕ) (vs : List Raw) → Pairwise (HasIncrement width minimum k) xs vs → AllByRecursion (λ x. x < 2 ^ k) xs
+pub increments_fit : (width minimum k : ℕ) (xs : List ℕ) (vs : List Raw)
+    → Pairwise (HasIncrement width minimum k) xs vs → AllByRecursion (λ x. x < 2 ^ k) xs
 increments_fit width minimum k [] vs h = tt
 increments_fit width minimum k (x ∷ xs) [] h = absurd h
 increments_fit width minimum k (x ∷ xs) (v ∷ vs) h = (increment_fits width minimum k x v h.0, increments_fit width minimum k xs vs h.1)
 
 -- equal values are one value so many times
-pub replicated : (v : Raw) (vs : List Raw) → AllByRecursion (λ w. w ≡ v) vs → replicate (length vs) v ≡ vs
+pub replicated : (v : Raw) (vs : List Raw) → AllByRecursion (λ w. w ≡ v) vs
+    → replicate (length vs) v ≡ vs
 replicated v [] all = refl
 replicated v (w ∷ vs) all =
     let others = replicated v vs all.1 in
@@ -217,7 +257,10 @@ replicate_equal zero v = tt
 replicate_equal (suc n) v = (refl, replicate_equal n v)
 
 -- R0 and NBINC, and what is left to read
-head_again : (n i : ℕ) (spec : Spec) (minimum : Raw) (k : ℕ) (rest : List Bool) → HasForm spec minimum → k < 64 → column_at n i spec (raw_bits spec.width minimum ++ (bin 6 k ++ rest)) ≡ values_at n i spec minimum k rest
+head_again : (n i : ℕ) (spec : Spec) (minimum : Raw) (k : ℕ) (rest : List Bool)
+    → HasForm spec minimum → k < 64
+    → column_at n i spec (raw_bits spec.width minimum ++ (bin 6 k ++ rest))
+    ≡ values_at n i spec minimum k rest
 head_again n i spec minimum k rest form small =
     rw (raw_again spec.kind spec.width minimum (bin 6 k ++ rest) (form_passes spec minimum form), number_at-bin 6 k rest small) refl
 
@@ -226,7 +269,9 @@ pub regrouped : (a b c rest : List Bool) → (a ++ b ++ c) ++ rest ≡ a ++ (b +
 regrouped a b c rest = append_assoc (a ++ b) c rest ∙ append_assoc a b (c ++ rest)
 
 -- a column that stands at the front is read as its values
-pub column_again : (n i : ℕ) (spec : Spec) (values : List Raw) (column rest : List Bool) → length values ≡ n → IsColumn spec values column → column_at n i spec (column ++ rest) ≡ Ok (values, rest)
+pub column_again : (n i : ℕ) (spec : Spec) (values : List Raw) (column rest : List Bool)
+    → length values ≡ n → IsColumn spec values column
+    → column_at n i spec (column ++ rest) ≡ Ok (values, rest)
 column_again n i spec values column rest many (equal minimum form same is) =
     let front : column ++ rest ≡ raw_bits spec.width minimum ++ (bin 6 0 ++ rest) = ap (λ xs. xs ++ rest) is ∙ append_assoc (raw_bits spec.width minimum) (bin 6 0) rest in
     let all : replicate n minimum ≡ values = ap (λ k. replicate k minimum) (sym many) ∙ replicated minimum values same in
@@ -263,16 +308,20 @@ record HeadFound (spec : Spec) (front : List Bool) (minimum : Raw) (k : ℕ) (re
   pub spelt : front ≡ raw_bits spec.width minimum ++ (bin 6 k ++ rest)
 
 -- the parts of a column are the front of the bits
-ungrouped : (front a b c rest : List Bool) → front ≡ a ++ (b ++ (c ++ rest)) → front ≡ (a ++ b ++ c) ++ rest
+ungrouped : (front a b c rest : List Bool) → front ≡ a ++ (b ++ (c ++ rest))
+    → front ≡ (a ++ b ++ c) ++ rest
 ungrouped front a b c rest e = e ∙ sym (regrouped a b c rest)
 
 -- what is answered past a test has passed it
-pub guarded : {A F : Type 0} (b : Bool) (f : F) (x : Result A F) (y : A) → cond b (Err f) x ≡ Ok y → (b ≡ false) × (x ≡ Ok y)
+pub guarded : {A F : Type 0} (b : Bool) (f : F) (x : Result A F) (y : A) → cond b (Err f) x ≡ Ok y
+    → (b ≡ false) × (x ≡ Ok y)
 guarded true f x y e = absurd cc
 guarded false f x y e = (refl, e)
 
 -- values that are read behind minimum and width are a column's
-values_found : (n i : ℕ) (spec : Spec) (front : List Bool) (minimum : Raw) (k : ℕ) (rest : List Bool) (x : List Raw × List Bool) → HeadFound spec front minimum k rest → values_at n i spec minimum k rest ≡ Ok x → ColumnFound n spec front x
+values_found : (n i : ℕ) (spec : Spec) (front : List Bool) (minimum : Raw) (k : ℕ)
+    (rest : List Bool) (x : List Raw × List Bool) → HeadFound spec front minimum k rest
+    → values_at n i spec minimum k rest ≡ Ok x → ColumnFound n spec front x
 values_found n i spec front minimum zero rest x h e =
     let all = replicate_equal n minimum in
     let spelt : front ≡ (raw_bits spec.width minimum ++ bin 6 0) ++ rest = h.spelt ∙ sym (append_assoc (raw_bits spec.width minimum) (bin 6 0) rest) in
@@ -304,7 +353,8 @@ values_found n i spec front (Text ignored) (suc k) rest x h e =
     (column, length-map own.0 (filled (spec.width / 8)) ∙ is.0, text_column ignored (suc k) own.0 h.form (omega arith) h.few (ltb-false _ _ g.0) each refl, spelt)
 
 -- values that are read stand in a column
-pub column_found : (n i : ℕ) (spec : Spec) (front : List Bool) (x : List Raw × List Bool) → column_at n i spec front ≡ Ok x → ColumnFound n spec front x
+pub column_found : (n i : ℕ) (spec : Spec) (front : List Bool) (x : List Raw × List Bool)
+    → column_at n i spec front ≡ Ok x → ColumnFound n spec front x
 column_found n i spec front x e =
     let a = bind_ok (or_ends i (raw_at spec front)) _ x e in
     let b = bind_ok (or_ends i (number_at 6 a.0.1)) _ x a.2 in

@@ -35,12 +35,14 @@ err_is : {A F : Type 0} (f g : F) → ◌≡◌ {A = Result A F} (Err f) (Err g)
 err_is f g e = cc
 
 -- an error of two steps is one of the first or of the second
-pub bind_err : {A B F : Type 0} (o : Result A F) (k : A → Result B F) (fault : F) → (o >>= k) ≡ Err fault → (o ≡ Err fault) ⊎ ((x : A) × (o ≡ Ok x) × (k x ≡ Err fault))
+pub bind_err : {A B F : Type 0} (o : Result A F) (k : A → Result B F) (fault : F)
+    → (o >>= k) ≡ Err fault → (o ≡ Err fault) ⊎ ((x : A) × (o ≡ Ok x) × (k x ≡ Err fault))
 bind_err (Ok x) k fault e = inr (x, refl, e)
 bind_err (Err g) k fault e = inl (ap (λ f. Err f) (err_is _ _ e))
 
 -- where the data end nothing was there
-or_ends_err : {A : Type 0} (i : ℕ) (o : Option A) (fault : ReadFault) → or_ends i o ≡ Err fault → (o ≡ None) × (fault ≡ faults.DataEnds 0 i)
+or_ends_err : {A : Type 0} (i : ℕ) (o : Option A) (fault : ReadFault) → or_ends i o ≡ Err fault
+    → (o ≡ None) × (fault ≡ faults.DataEnds 0 i)
 or_ends_err i None fault e = (refl, sym (err_is _ _ e))
 or_ends_err i (Some x) fault e = absurd cc
 
@@ -50,7 +52,8 @@ or_ends_some i None x e = absurd cc
 or_ends_some i (Some y) x e = cc
 
 -- a minimum that stands there is read
-head_read : (spec : Spec) (front : List Bool) (minimum : Raw) (k : ℕ) (rest : List Bool) → Heads spec front minimum k rest → raw_at spec front ≡ Some (minimum, bin 6 k ++ rest)
+head_read : (spec : Spec) (front : List Bool) (minimum : Raw) (k : ℕ) (rest : List Bool)
+    → Heads spec front minimum k rest → raw_at spec front ≡ Some (minimum, bin 6 k ++ rest)
 head_read spec front minimum k rest h = ap (raw_at spec) h.spelt ∙ raw_again spec.kind spec.width minimum (bin 6 k ++ rest) (form_passes spec minimum h.form)
 
 -- so is a width
@@ -62,7 +65,9 @@ one_some : {A : Type 0} (o : Option A) (x y : A) → o ≡ Some x → o ≡ Some
 one_some o x y a b = let e = sym a ∙ b in cc
 
 -- the octets of texts are read as these texts
-texts_again : (k : ℕ) (own : List (List ℕ)) (rest : List Bool) → AllByRecursion (λ t. (length t ≡ k) × AllByRecursion (λ x. x < 256) t) own → texts_at (length own) k (flat_map bits own ++ rest) ≡ Some (own, rest)
+texts_again : (k : ℕ) (own : List (List ℕ)) (rest : List Bool)
+    → AllByRecursion (λ t. (length t ≡ k) × AllByRecursion (λ x. x < 256) t) own
+    → texts_at (length own) k (flat_map bits own ++ rest) ≡ Some (own, rest)
 texts_again k [] rest all = refl
 texts_again k (t ∷ own) rest all =
     let e : flat_map bits (t ∷ own) ++ rest ≡ bits t ++ (flat_map bits own ++ rest) = append_assoc (bits t) (flat_map bits own) rest in
@@ -75,7 +80,10 @@ RangePassed j i width minimum k xs fault =
     × (HasValue width minimum k x → ⊥) × (fault ≡ faults.IncrementRange (j + length before) i)
 
 -- the step of `value_or`: all ones, or within the field
-value_by : (width minimum k x : ℕ) (ones room : Bool) → (x + 1 == 2 ^ k) ≡ ones → nat_lt (minimum + x) (2 ^ width) ≡ room → ((raised width minimum k x ≡ None) × (HasValue width minimum k x → ⊥)) ⊎ ((v : Raw) × (raised width minimum k x ≡ Some v) × HasValue width minimum k x)
+value_by : (width minimum k x : ℕ) (ones room : Bool) → (x + 1 == 2 ^ k) ≡ ones
+    → nat_lt (minimum + x) (2 ^ width) ≡ room
+    → ((raised width minimum k x ≡ None) × (HasValue width minimum k x → ⊥)) ⊎ ((v : Raw)
+    × (raised width minimum k x ≡ Some v) × HasValue width minimum k x)
 value_by width minimum k x true room o r = inr (Number (2 ^ width - 1), rw o refl, inl (eqb-true _ _ o))
 value_by width minimum k x false true o r = inr (Number (minimum + x), rw (o, r) refl, inr (ltb-true _ _ r))
 value_by width minimum k x false false o r =
@@ -88,16 +96,20 @@ value_by width minimum k x false false o r =
     )
 
 -- an increment has no value and is read as none, or has the one that is read
-value_or : (width minimum k x : ℕ) → ((raised width minimum k x ≡ None) × (HasValue width minimum k x → ⊥)) ⊎ ((v : Raw) × (raised width minimum k x ≡ Some v) × HasValue width minimum k x)
+value_or : (width minimum k x : ℕ)
+    → ((raised width minimum k x ≡ None) × (HasValue width minimum k x → ⊥)) ⊎ ((v : Raw)
+    × (raised width minimum k x ≡ Some v) × HasValue width minimum k x)
 value_or width minimum k x = value_by width minimum k x _ _ refl refl
 
 -- an error behind a value is that of the others
-then_err : (j i : ℕ) (v : Raw) (others : Result (List Raw) ReadFault) (fault : ReadFault) → value_then j i (Some v) others ≡ Err fault → others ≡ Err fault
+then_err : (j i : ℕ) (v : Raw) (others : Result (List Raw) ReadFault) (fault : ReadFault)
+    → value_then j i (Some v) others ≡ Err fault → others ≡ Err fault
 then_err j i v (Ok ws) fault e = absurd cc
 then_err j i v (Err g) fault e = ap (λ f. Err f) (err_is _ _ e)
 
 -- an error of increments is that of the first that passes the width
-range_passed : (j i width minimum k : ℕ) (xs : List ℕ) (fault : ReadFault) → all_raised j i width minimum k xs ≡ Err fault → RangePassed j i width minimum k xs fault
+range_passed : (j i width minimum k : ℕ) (xs : List ℕ) (fault : ReadFault)
+    → all_raised j i width minimum k xs ≡ Err fault → RangePassed j i width minimum k xs fault
 range_passed j i width minimum k [] fault e = absurd cc
 range_passed j i width minimum k (x ∷ xs) fault e =
     elim (value_or width minimum k x) [
@@ -113,7 +125,10 @@ range_passed j i width minimum k (x ∷ xs) fault e =
     ]
 
 -- and the first that passes the width is the error
-range_again : (j i width minimum k : ℕ) (before : List ℕ) (x : ℕ) (behind : List ℕ) → AllByRecursion (HasValue width minimum k) before → (HasValue width minimum k x → ⊥) → all_raised j i width minimum k (before ++ x ∷ behind) ≡ Err (faults.IncrementRange (j + length before) i)
+range_again : (j i width minimum k : ℕ) (before : List ℕ) (x : ℕ) (behind : List ℕ)
+    → AllByRecursion (HasValue width minimum k) before → (HasValue width minimum k x → ⊥)
+    → all_raised j i width minimum k (before ++ x ∷ behind)
+    ≡ Err (faults.IncrementRange (j + length before) i)
 range_again j i width minimum k [] x behind all none =
     elim (value_or width minimum k x) [
       | inl h ↦ rw h.0 (ap (λ l. Err (faults.IncrementRange l i)) (omega arith))
@@ -130,40 +145,49 @@ range_again j i width minimum k (y ∷ before) x behind all none =
 -- ---- one column is refused
 
 -- where no minimum is read, none stands there
-no_raw : (spec : Spec) (front : List Bool) → raw_at spec front ≡ None → (minimum : Raw) (k : ℕ) (rest : List Bool) → Heads spec front minimum k rest → ⊥
+no_raw : (spec : Spec) (front : List Bool) → raw_at spec front ≡ None
+    → (minimum : Raw) (k : ℕ) (rest : List Bool) → Heads spec front minimum k rest → ⊥
 no_raw spec front e minimum k rest h = let some = sym e ∙ head_read spec front minimum k rest h in cc
 
 -- where no width is read, none stands there
-no_width : (spec : Spec) (front : List Bool) (x : Raw × List Bool) → raw_at spec front ≡ Some x → number_at 6 x.1 ≡ None → (minimum : Raw) (k : ℕ) (rest : List Bool) → Heads spec front minimum k rest → ⊥
+no_width : (spec : Spec) (front : List Bool) (x : Raw × List Bool) → raw_at spec front ≡ Some x
+    → number_at 6 x.1 ≡ None → (minimum : Raw) (k : ℕ) (rest : List Bool)
+    → Heads spec front minimum k rest → ⊥
 no_width spec front x first e minimum k rest h =
     let same : x ≡ (minimum, bin 6 k ++ rest) = one_some (raw_at spec front) _ _ first (head_read spec front minimum k rest h) in
     let some = sym e ∙ ap (λ (y : Raw × List Bool). number_at 6 y.1) same ∙ width_read k rest h.few in
     cc
 
 -- a minimum and a width that are read stand there
-heads_found : (spec : Spec) (front : List Bool) (x : Raw × List Bool) (y : ℕ × List Bool) → raw_at spec front ≡ Some x → number_at 6 x.1 ≡ Some y → Heads spec front x.0 y.0 y.1
+heads_found : (spec : Spec) (front : List Bool) (x : Raw × List Bool) (y : ℕ × List Bool)
+    → raw_at spec front ≡ Some x → number_at 6 x.1 ≡ Some y → Heads spec front x.0 y.0 y.1
 heads_found spec front x y first second =
     let a = raw_read spec.kind spec.width front x first in
     let b = number_at_is 6 y.0 x.1 y.1 second in
     record { form = form_is spec x.0 a.0; few = b.1; spelt = a.1 ∙ ap (λ xs. raw_bits spec.width x.0 ++ xs) b.0 }
 
 -- where increments are not read, none stand there
-none_numbers : (n k : ℕ) (front : List Bool) → numbers_at n k front ≡ None → (xs : List ℕ) → Increments n k front xs → ⊥
+none_numbers : (n k : ℕ) (front : List Bool) → numbers_at n k front ≡ None → (xs : List ℕ)
+    → Increments n k front xs → ⊥
 none_numbers n k front e xs h =
     let some = sym e ∙ ap (numbers_at n k) h.spelt ∙ numbers_at_again k n xs h.rest h.many h.fit in cc
 
 -- where texts are not read, none stand there
-none_texts : (n k : ℕ) (front : List Bool) → texts_at n k front ≡ None → (own : List (List ℕ)) → Texts n k front own → ⊥
+none_texts : (n k : ℕ) (front : List Bool) → texts_at n k front ≡ None → (own : List (List ℕ))
+    → Texts n k front own → ⊥
 none_texts n k front e own h =
     let some = sym e ∙ (λ t. texts_at (sym h.many t) k (h.spelt t)) ∙ texts_again k own h.rest h.octets in cc
 
 -- an error past a test is the test's or one behind it
-pub guard_err : {A F : Type 0} (b : Bool) (f fault : F) (x : Result A F) → cond b (Err f) x ≡ Err fault → ((b ≡ true) × (f ≡ fault)) ⊎ ((b ≡ false) × (x ≡ Err fault))
+pub guard_err : {A F : Type 0} (b : Bool) (f fault : F) (x : Result A F)
+    → cond b (Err f) x ≡ Err fault → ((b ≡ true) × (f ≡ fault)) ⊎ ((b ≡ false) × (x ≡ Err fault))
 guard_err true f fault x e = inl (refl, err_is _ _ e)
 guard_err false f fault x e = inr (refl, e)
 
 -- the fault behind minimum and width is the column's first
-values_refused : (n i : ℕ) (spec : Spec) (front : List Bool) (minimum : Raw) (k : ℕ) (rest : List Bool) (fault : ReadFault) → Heads spec front minimum k rest → values_at n i spec minimum k rest ≡ Err fault → ColumnRefused n i spec front fault
+values_refused : (n i : ℕ) (spec : Spec) (front : List Bool) (minimum : Raw) (k : ℕ)
+    (rest : List Bool) (fault : ReadFault) → Heads spec front minimum k rest
+    → values_at n i spec minimum k rest ≡ Err fault → ColumnRefused n i spec front fault
 values_refused n i spec front minimum zero rest fault h e = absurd cc
 values_refused n i spec front (Number minimum) (suc k) rest fault h e =
     elim (bind_err (or_ends i (numbers_at n (suc k) rest)) _ fault e) [
@@ -194,7 +218,8 @@ values_refused n i spec front (Text ignored) (suc k) rest fault h e =
     ]
 
 -- the fault of a column is its first
-column_refused : (n i : ℕ) (spec : Spec) (front : List Bool) (fault : ReadFault) → column_at n i spec front ≡ Err fault → ColumnRefused n i spec front fault
+column_refused : (n i : ℕ) (spec : Spec) (front : List Bool) (fault : ReadFault)
+    → column_at n i spec front ≡ Err fault → ColumnRefused n i spec front fault
 column_refused n i spec front fault e =
     elim (bind_err (or_ends i (raw_at spec front)) _ fault e) [
       | inl none ↦ let is = or_ends_err i (raw_at spec front) fault none in no_head (no_raw spec front is.0) is.1
@@ -214,7 +239,9 @@ not_true true e = absurd cc
 not_true false e = refl
 
 -- a column whose values must agree and do not is a factor's
-unequal_err : (i : ℕ) (spec : Spec) (x : List Raw × List Bool) (fault : ReadFault) → agreeing i spec x ≡ Err fault → (spec.kind ≡ kinds.Count) × (all_equal x.0 ≡ false) × (fault ≡ faults.UnequalCounts i)
+unequal_err : (i : ℕ) (spec : Spec) (x : List Raw × List Bool) (fault : ReadFault)
+    → agreeing i spec x ≡ Err fault
+    → (spec.kind ≡ kinds.Count) × (all_equal x.0 ≡ false) × (fault ≡ faults.UnequalCounts i)
 unequal_err i spec x fault e =
     elim (guard_err (same_kind spec.kind kinds.Count && not (all_equal x.0)) _ fault _ e) [
       | inl is ↦ (kind_is spec.kind (and_first (same_kind spec.kind kinds.Count) (not (all_equal x.0)) is.0), not_true (all_equal x.0) (and_second (same_kind spec.kind kinds.Count) (not (all_equal x.0)) is.0), sym is.1)
@@ -222,7 +249,9 @@ unequal_err i spec x fault e =
     ]
 
 -- the fault of a column, its agreement included, is its first
-pub read_column_refused : (n i : ℕ) (spec : Spec) (front : List Bool) (fault : ReadFault) → (column_at n i spec front >>= agreeing i spec) ≡ Err fault → ColumnRefused n i spec front fault
+pub read_column_refused : (n i : ℕ) (spec : Spec) (front : List Bool) (fault : ReadFault)
+    → (column_at n i spec front >>= agreeing i spec) ≡ Err fault
+    → ColumnRefused n i spec front fault
 read_column_refused n i spec front fault e =
     elim (bind_err (column_at n i spec front) _ fault e) [
       | inl none ↦ column_refused n i spec front fault none
@@ -241,34 +270,47 @@ none_by None none = refl
 none_by (Some x) none = absurd (none x refl)
 
 -- behind its minimum and width a column is read as its values
-head_at : (n i : ℕ) (spec : Spec) (front : List Bool) (minimum : Raw) (k : ℕ) (rest : List Bool) → Heads spec front minimum k rest → column_at n i spec front ≡ values_at n i spec minimum k rest
+head_at : (n i : ℕ) (spec : Spec) (front : List Bool) (minimum : Raw) (k : ℕ) (rest : List Bool)
+    → Heads spec front minimum k rest → column_at n i spec front ≡ values_at n i spec minimum k rest
 head_at n i spec front minimum k rest h = rw (head_read spec front minimum k rest h, width_read k rest h.few) refl
 
 -- the step of `no_head_read`: the width is not there
-no_width_by : (n i : ℕ) (spec : Spec) (front : List Bool) (x : Raw × List Bool) (o : Option (ℕ × List Bool)) → raw_at spec front ≡ Some x → number_at 6 x.1 ≡ o → ((minimum : Raw) (k : ℕ) (rest : List Bool) → Heads spec front minimum k rest → ⊥) → column_at n i spec front ≡ Err (faults.DataEnds 0 i)
+no_width_by : (n i : ℕ) (spec : Spec) (front : List Bool) (x : Raw × List Bool)
+    (o : Option (ℕ × List Bool)) → raw_at spec front ≡ Some x → number_at 6 x.1 ≡ o
+    → ((minimum : Raw) (k : ℕ) (rest : List Bool) → Heads spec front minimum k rest → ⊥)
+    → column_at n i spec front ≡ Err (faults.DataEnds 0 i)
 no_width_by n i spec front x None first e none = rw (first, e) refl
 no_width_by n i spec front x (Some y) first e none = absurd (none x.0 y.0 y.1 (heads_found spec front x y first e))
 
 -- the step of `no_head_read`: the minimum is not there
-no_head_by : (n i : ℕ) (spec : Spec) (front : List Bool) (o : Option (Raw × List Bool)) → raw_at spec front ≡ o → ((minimum : Raw) (k : ℕ) (rest : List Bool) → Heads spec front minimum k rest → ⊥) → column_at n i spec front ≡ Err (faults.DataEnds 0 i)
+no_head_by : (n i : ℕ) (spec : Spec) (front : List Bool) (o : Option (Raw × List Bool))
+    → raw_at spec front ≡ o
+    → ((minimum : Raw) (k : ℕ) (rest : List Bool) → Heads spec front minimum k rest → ⊥)
+    → column_at n i spec front ≡ Err (faults.DataEnds 0 i)
 no_head_by n i spec front None e none = rw e refl
 no_head_by n i spec front (Some x) e none = no_width_by n i spec front x (number_at 6 x.1) e refl none
 
 -- the step of `not_equal_values`
-equal_values_by : (values : List Raw) (b : Bool) → all_equal values ≡ b → ((v : Raw) → AllByRecursion (λ w. w ≡ v) values → ⊥) → b ≡ false
+equal_values_by : (values : List Raw) (b : Bool) → all_equal values ≡ b
+    → ((v : Raw) → AllByRecursion (λ w. w ≡ v) values → ⊥) → b ≡ false
 equal_values_by values true e differ = let h = all_equal_is values e in absurd (differ h.0 h.1)
 equal_values_by values false e differ = refl
 
 -- values that are not all one value differ
-not_equal_values : (values : List Raw) → ((v : Raw) → AllByRecursion (λ w. w ≡ v) values → ⊥) → all_equal values ≡ false
+not_equal_values : (values : List Raw) → ((v : Raw) → AllByRecursion (λ w. w ≡ v) values → ⊥)
+    → all_equal values ≡ false
 not_equal_values values differ = equal_values_by values (all_equal values) refl differ
 
 -- a column without minimum and width is refused where the data end
-no_head_read : (n i : ℕ) (spec : Spec) (front : List Bool) → ((minimum : Raw) (k : ℕ) (rest : List Bool) → Heads spec front minimum k rest → ⊥) → column_at n i spec front ≡ Err (faults.DataEnds 0 i)
+no_head_read : (n i : ℕ) (spec : Spec) (front : List Bool)
+    → ((minimum : Raw) (k : ℕ) (rest : List Bool) → Heads spec front minimum k rest → ⊥)
+    → column_at n i spec front ≡ Err (faults.DataEnds 0 i)
 no_head_read n i spec front none = no_head_by n i spec front (raw_at spec front) refl none
 
 -- the first fault of a column is answered
-pub column_refused_again : (n i : ℕ) (spec : Spec) (front : List Bool) (fault : ReadFault) → ColumnRefused n i spec front fault → (column_at n i spec front >>= agreeing i spec) ≡ Err fault
+pub column_refused_again : (n i : ℕ) (spec : Spec) (front : List Bool) (fault : ReadFault)
+    → ColumnRefused n i spec front fault
+    → (column_at n i spec front >>= agreeing i spec) ≡ Err fault
 column_refused_again n i spec front fault (no_head none is) =
     ap (λ o. o >>= agreeing i spec) (no_head_read n i spec front none) ∙ ap (λ f. Err f) (sym is)
 column_refused_again n i spec front fault (wide_texts ignored zero rest h wide is) = absurd (omega (arith, wide))
@@ -293,23 +335,30 @@ column_refused_again n i spec front fault (unequal values column rest c many spe
 -- ---- the first column that is refused
 
 -- the fault at which a walk stops is that of its course
-stop_is : (why : WalkFault) (fault : ReadFault) → stopped {A = ColumnsFound} why ≡ Err fault → IsStop why fault
+stop_is : (why : WalkFault) (fault : ReadFault) → stopped {A = ColumnsFound} why ≡ Err fault
+    → IsStop why fault
 stop_is walks.TooLarge fault e = sym (err_is _ _ e)
 stop_is (walks.EffectiveRange d) fault e = sym (err_is _ _ e)
 
 -- and the other way round
-stop_again : (why : WalkFault) (fault : ReadFault) → IsStop why fault → stopped {A = ColumnsFound} why ≡ Err fault
+stop_again : (why : WalkFault) (fault : ReadFault) → IsStop why fault
+    → stopped {A = ColumnsFound} why ≡ Err fault
 stop_again walks.TooLarge fault is = ap (λ f. Err f) (sym is)
 stop_again (walks.EffectiveRange d) fault is = ap (λ f. Err f) (sym is)
 
 -- no column at all is the first one refused
-refused_here : (n i : ℕ) (c : Course) (front : List Bool) (fault : ReadFault) → NoneByCourse n i c front fault → RefusedByCourse n i c front fault
+refused_here : (n i : ℕ) (c : Course) (front : List Bool) (fault : ReadFault)
+    → NoneByCourse n i c front fault → RefusedByCourse n i c front fault
 refused_here n i c front fault h =
     let same : i ≡ i + 0 = omega arith in
     record { before = []; packed = []; rest = front; next = c; columns = refl; passed = refl; spelt = refl; refused = subst (λ k. NoneByCourse n k c front fault) same h }
 
 -- the first one refused behind a column is the first of all
-refused_behind : (n i met d : ℕ) (spec : Spec) (more : ℕ → Course) (front : List Bool) (x : List Raw × List Bool) (fault : ReadFault) → 0 < n → ColumnFound n spec front x → (spec.kind ≡ kinds.Count → (v : Raw) × AllByRecursion (λ w. w ≡ v) x.0) → RefusedByCourse n (i + 1) (more (count_of x.0)) x.1 fault → RefusedByCourse n i (asks met d spec more) front fault
+refused_behind : (n i met d : ℕ) (spec : Spec) (more : ℕ → Course) (front : List Bool)
+    (x : List Raw × List Bool) (fault : ReadFault) → 0 < n → ColumnFound n spec front x
+    → (spec.kind ≡ kinds.Count → (v : Raw) × AllByRecursion (λ w. w ≡ v) x.0)
+    → RefusedByCourse n (i + 1) (more (count_of x.0)) x.1 fault
+    → RefusedByCourse n i (asks met d spec more) front fault
 refused_behind n i met d spec more front x fault some found one r =
     let column : Column = record { fxy = d; spec = spec; values = x.0 } in
     let inside : 0 < length x.0 = omega (arith, some, found.1) in
@@ -328,7 +377,8 @@ refused_behind n i met d spec more front x fault some found one r =
     }
 
 -- the fault of columns is that of the first that is refused
-pub columns_refused : (n i : ℕ) (c : Course) (front : List Bool) (fault : ReadFault) → 0 < n → columns_at n i c front ≡ Err fault → RefusedByCourse n i c front fault
+pub columns_refused : (n i : ℕ) (c : Course) (front : List Bool) (fault : ReadFault) → 0 < n
+    → columns_at n i c front ≡ Err fault → RefusedByCourse n i c front fault
 unfolding columns_at
 columns_refused n i (ends met) front fault some e = absurd cc
 columns_refused n i (stops met why) front fault some e =
@@ -359,7 +409,8 @@ columns_refused n i (asks met d spec more) front fault some e =
 -- ---- and only that
 
 -- past the limit on values the fault is that one
-past_is : (n i : ℕ) (next : Course) (rest : List Bool) (fault : ReadFault) → most_values < i * n → NoneByCourse n i next rest fault → fault ≡ faults.TooLarge
+past_is : (n i : ℕ) (next : Course) (rest : List Bool) (fault : ReadFault) → most_values < i * n
+    → NoneByCourse n i next rest fault → fault ≡ faults.TooLarge
 past_is n i (ends met) rest fault past h = absurd h
 past_is n i (stops met why) rest fault past (inl h) = h.1
 past_is n i (stops met why) rest fault past (inr h) = absurd (omega (arith, past, h.0))
@@ -375,7 +426,8 @@ grown : (i l n : ℕ) → most_values < i * n → most_values < (i + l) * n
 grown i l n past = let le : i * n ≤ (i + l) * n = mul_le i (i + l) n (omega arith) in omega (arith, past, le)
 
 -- where no column follows, its fault is answered
-here_again : (n i : ℕ) (next : Course) (front : List Bool) (fault : ReadFault) → NoneByCourse n i next front fault → columns_at n i next front ≡ Err fault
+here_again : (n i : ℕ) (next : Course) (front : List Bool) (fault : ReadFault)
+    → NoneByCourse n i next front fault → columns_at n i next front ≡ Err fault
 unfolding columns_at
 here_again n i (ends met) front fault h = absurd h
 here_again n i (stops met why) front fault (inl h) = rw (lt-ltb _ _ h.0) (ap (λ f. Err f) (sym h.1))
@@ -384,7 +436,11 @@ here_again n i (asks met d spec more) front fault (inl h) = rw (lt-ltb _ _ h.0) 
 here_again n i (asks met d spec more) front fault (inr h) = rw (le-ltb _ _ h.0, column_refused_again n i spec front fault h.1) refl
 
 -- behind a column that stands, the fault of the others is answered
-step_again : (n i met : ℕ) (x : Column) (more : ℕ → Course) (column others : List Bool) (fault : ReadFault) → 0 < n → length x.values ≡ n → IsColumn x.spec x.values column → HaveOneCount x → (most_values < i * n → fault ≡ faults.TooLarge) → columns_at n (i + 1) (more (number_of (get_or x.values 0 (Number 0)))) others ≡ Err fault → columns_at n i (asks met x.fxy x.spec more) (column ++ others) ≡ Err fault
+step_again : (n i met : ℕ) (x : Column) (more : ℕ → Course) (column others : List Bool)
+    (fault : ReadFault) → 0 < n → length x.values ≡ n → IsColumn x.spec x.values column
+    → HaveOneCount x → (most_values < i * n → fault ≡ faults.TooLarge)
+    → columns_at n (i + 1) (more (number_of (get_or x.values 0 (Number 0)))) others ≡ Err fault
+    → columns_at n i (asks met x.fxy x.spec more) (column ++ others) ≡ Err fault
 unfolding columns_at
 step_again n i met x more column others fault some many is one past after =
     elim (cases_lt most_values (i * n)) [
@@ -395,7 +451,10 @@ step_again n i met x more column others fault some many is one past after =
     ]
 
 -- so it is behind all columns before it
-refused_again : (n i : ℕ) (c : Course) (before : List Column) (packed rest : List Bool) (next : Course) (fault : ReadFault) → 0 < n → AreColumns n before packed → Passes c (map (field_of 0) before) next → NoneByCourse n (i + length before) next rest fault → columns_at n i c (packed ++ rest) ≡ Err fault
+refused_again : (n i : ℕ) (c : Course) (before : List Column) (packed rest : List Bool)
+    (next : Course) (fault : ReadFault) → 0 < n → AreColumns n before packed
+    → Passes c (map (field_of 0) before) next → NoneByCourse n (i + length before) next rest fault
+    → columns_at n i c (packed ++ rest) ≡ Err fault
 refused_again n i c [] packed rest next fault some are passed h =
     let same : i + 0 ≡ i = omega arith in
     rw are (here_again n i c rest fault (subst (λ k. NoneByCourse n k c rest fault) same (subst (λ d. NoneByCourse n (i + 0) d rest fault) (sym passed) h)))
@@ -412,6 +471,7 @@ refused_again n i (asks met d spec more) (x ∷ before) packed rest next fault s
     ∙ sym (ap (λ c. columns_at n i c (are.0 ++ (are.1 ++ rest))) course) ∙ step
 
 -- the first column that is refused has its fault answered
-pub columns_refused_again : (n i : ℕ) (c : Course) (front : List Bool) (fault : ReadFault) → 0 < n → RefusedByCourse n i c front fault → columns_at n i c front ≡ Err fault
+pub columns_refused_again : (n i : ℕ) (c : Course) (front : List Bool) (fault : ReadFault) → 0 < n
+    → RefusedByCourse n i c front fault → columns_at n i c front ≡ Err fault
 columns_refused_again n i c front fault some r =
     ap (columns_at n i c) r.spelt ∙ refused_again n i c r.before r.packed r.rest r.next fault some r.columns r.passed r.refused

@@ -34,12 +34,14 @@ abbrev pub AllForm : Spec → List Raw → Type 0
 AllForm spec values = AllByRecursion (λ v. HasForm spec v) values
 
 -- equal values have the form of the minimum
-equal_form : (spec : Spec) (minimum : Raw) (vs : List Raw) → HasForm spec minimum → AllByRecursion (λ v. v ≡ minimum) vs → AllForm spec vs
+equal_form : (spec : Spec) (minimum : Raw) (vs : List Raw) → HasForm spec minimum
+    → AllByRecursion (λ v. v ≡ minimum) vs → AllForm spec vs
 equal_form spec minimum [] form all = tt
 equal_form spec minimum (v ∷ vs) form all = (subst (λ w. HasForm spec w) (sym all.0) form, equal_form spec minimum vs form all.1)
 
 -- a number has no text's spec, and 64 bits at most
-number_kind : (spec : Spec) (n : ℕ) → HasForm spec (Number n) → (spec.kind ≡ kinds.Text → ⊥) × (spec.width ≤ 64)
+number_kind : (spec : Spec) (n : ℕ) → HasForm spec (Number n)
+    → (spec.kind ≡ kinds.Text → ⊥) × (spec.width ≤ 64)
 number_kind spec n (of_number m other few below) = (other, few)
 
 -- a text has a text's spec
@@ -47,13 +49,16 @@ pub text_kind : (spec : Spec) (os : List ℕ) → HasForm spec (Text os) → spe
 text_kind spec os (of_text bs is size all) = is
 
 -- the value of an increment has its spec's form
-increment_form : (spec : Spec) (minimum k x : ℕ) (v : Raw) → (spec.kind ≡ kinds.Text → ⊥) → spec.width ≤ 64 → HasIncrement spec.width minimum k x v → HasForm spec v
+increment_form : (spec : Spec) (minimum k x : ℕ) (v : Raw) → (spec.kind ≡ kinds.Text → ⊥)
+    → spec.width ≤ 64 → HasIncrement spec.width minimum k x v → HasForm spec v
 increment_form spec minimum k x v other few (above below room is) = subst (λ w. HasForm spec w) (sym is) (of_number (minimum + x) other few room)
 increment_form spec minimum k x v other few (missing ones is) =
     subst (λ w. HasForm spec w) (sym is) (of_number (2 ^ spec.width - 1) other few (omega (arith, power_positive spec.width)))
 
 -- so has each of them
-increments_form : (spec : Spec) (minimum k : ℕ) (xs : List ℕ) (vs : List Raw) → (spec.kind ≡ kinds.Text → ⊥) → spec.width ≤ 64 → Pairwise (HasIncrement spec.width minimum k) xs vs → AllForm spec vs
+increments_form : (spec : Spec) (minimum k : ℕ) (xs : List ℕ) (vs : List Raw)
+    → (spec.kind ≡ kinds.Text → ⊥) → spec.width ≤ 64
+    → Pairwise (HasIncrement spec.width minimum k) xs vs → AllForm spec vs
 increments_form spec minimum k [] [] other few h = tt
 increments_form spec minimum k (x ∷ xs) (v ∷ vs) other few h = (increment_form spec minimum k x v other few h.0, increments_form spec minimum k xs vs other few h.1)
 increments_form spec minimum k [] (v ∷ vs) other few h = absurd h
@@ -65,12 +70,14 @@ spaces_below zero = tt
 spaces_below (suc n) = (omega arith, spaces_below n)
 
 -- octets and octets behind them are octets
-joined_below : (xs ys : List ℕ) → AllByRecursion (λ x. x < 256) xs → AllByRecursion (λ x. x < 256) ys → AllByRecursion (λ x. x < 256) (xs ++ ys)
+joined_below : (xs ys : List ℕ) → AllByRecursion (λ x. x < 256) xs
+    → AllByRecursion (λ x. x < 256) ys → AllByRecursion (λ x. x < 256) (xs ++ ys)
 joined_below [] ys a b = b
 joined_below (x ∷ xs) ys a b = (a.0, joined_below xs ys a.1 b)
 
 -- a text in a column has its spec's form
-text_form : (spec : Spec) (k : ℕ) (own : List ℕ) (v : Raw) → spec.kind ≡ kinds.Text → k ≤ spec.width / 8 → HasText (spec.width / 8) k own v → HasForm spec v
+text_form : (spec : Spec) (k : ℕ) (own : List ℕ) (v : Raw) → spec.kind ≡ kinds.Text
+    → k ≤ spec.width / 8 → HasText (spec.width / 8) k own v → HasForm spec v
 text_form spec k own v is short (is_filled size all other value) =
     let spaces : length {A = ℕ} (replicate (spec.width / 8 - k) 32) ≡ spec.width / 8 - k = length-replicate _ _ in
     let whole : length (own ++ replicate (spec.width / 8 - k) 32) ≡ spec.width / 8 = omega (arith, length-append own (replicate (spec.width / 8 - k) 32), size, spaces, short) in
@@ -79,14 +86,16 @@ text_form spec k own v is short (ones_text ones value) =
     subst (λ w. HasForm spec w) (sym value) (of_text (replicate (spec.width / 8) 255) is (length-replicate _ _) (ones_below _))
 
 -- so has each of them
-texts_form : (spec : Spec) (k : ℕ) (own : List (List ℕ)) (vs : List Raw) → spec.kind ≡ kinds.Text → k ≤ spec.width / 8 → Pairwise (HasText (spec.width / 8) k) own vs → AllForm spec vs
+texts_form : (spec : Spec) (k : ℕ) (own : List (List ℕ)) (vs : List Raw) → spec.kind ≡ kinds.Text
+    → k ≤ spec.width / 8 → Pairwise (HasText (spec.width / 8) k) own vs → AllForm spec vs
 texts_form spec k [] [] is short h = tt
 texts_form spec k (x ∷ xs) (v ∷ vs) is short h = (text_form spec k x v is short h.0, texts_form spec k xs vs is short h.1)
 texts_form spec k [] (v ∷ vs) is short h = absurd h
 texts_form spec k (x ∷ xs) [] is short h = absurd h
 
 -- the values of a column have its spec's form
-pub column_form : (spec : Spec) (values : List Raw) (column : List Bool) → IsColumn spec values column → AllForm spec values
+pub column_form : (spec : Spec) (values : List Raw) (column : List Bool)
+    → IsColumn spec values column → AllForm spec values
 column_form spec values column (equal minimum form same is) = equal_form spec minimum values form same
 column_form spec values column (number_column minimum k increments form some few each is) =
     let kind = number_kind spec minimum form in increments_form spec minimum k increments values kind.0 kind.1 each
@@ -94,7 +103,8 @@ column_form spec values column (text_column ignored k own form some few short ea
     texts_form spec k own values (text_kind spec ignored form) short each
 
 -- so has the value at an index
-pub form_of : (spec : Spec) (values : List Raw) (k : ℕ) → AllForm spec values → k < length values → HasForm spec (get_or values k (Number 0))
+pub form_of : (spec : Spec) (values : List Raw) (k : ℕ) → AllForm spec values → k < length values
+    → HasForm spec (get_or values k (Number 0))
 form_of spec [] k all short = absurd (omega (arith, short))
 form_of spec (v ∷ vs) zero all short = all.0
 form_of spec (v ∷ vs) (suc k) all short = form_of spec vs k all.1 (omega (arith, short))
@@ -114,25 +124,29 @@ same_raw_again (Number a) = eq-eqb a a refl
 same_raw_again (Text a) = (bytes_eq-Decides a a).1 refl
 
 -- values that are all told the same as one are this one
-pub are_equal : (v : Raw) (vs : List Raw) → list_all (λ w. same_raw w v) vs ≡ true → AllByRecursion (λ w. w ≡ v) vs
+pub are_equal : (v : Raw) (vs : List Raw) → list_all (λ w. same_raw w v) vs ≡ true
+    → AllByRecursion (λ w. w ≡ v) vs
 are_equal v [] e = tt
 are_equal v (w ∷ vs) e =
     (same_raw_is w v (and_first (same_raw w v) (list_all (λ u. same_raw u v) vs) e), are_equal v vs (and_second (same_raw w v) (list_all (λ u. same_raw u v) vs) e))
 
 -- and the other way round
-are_equal_again : (u v : Raw) (vs : List Raw) → v ≡ u → AllByRecursion (λ w. w ≡ u) vs → list_all (λ w. same_raw w v) vs ≡ true
+are_equal_again : (u v : Raw) (vs : List Raw) → v ≡ u → AllByRecursion (λ w. w ≡ u) vs
+    → list_all (λ w. same_raw w v) vs ≡ true
 are_equal_again u v [] is all = refl
 are_equal_again u v (w ∷ vs) is all =
     let same : same_raw w v ≡ true = ap (λ x. same_raw x v) (all.0 ∙ sym is) ∙ same_raw_again v in
     rw (same, are_equal_again u v vs is all.1) refl
 
 -- values that are told equal are all one value
-pub all_equal_is : (vs : List Raw) → all_equal vs ≡ true → (v : Raw) × AllByRecursion (λ w. w ≡ v) vs
+pub all_equal_is : (vs : List Raw) → all_equal vs ≡ true
+    → (v : Raw) × AllByRecursion (λ w. w ≡ v) vs
 all_equal_is [] e = (Number 0, tt)
 all_equal_is (v ∷ vs) e = (v, (refl, are_equal v vs e))
 
 -- and values that are all one are told equal
-pub all_equal_again : (v : Raw) (vs : List Raw) → AllByRecursion (λ w. w ≡ v) vs → all_equal vs ≡ true
+pub all_equal_again : (v : Raw) (vs : List Raw) → AllByRecursion (λ w. w ≡ v) vs
+    → all_equal vs ≡ true
 all_equal_again v [] all = refl
 all_equal_again v (w ∷ vs) all = are_equal_again v w vs all.0 all.1
 
@@ -147,13 +161,18 @@ kind_is kinds.Quantity e = absurd cc
 kind_is kinds.Count e = refl
 
 -- the step of `agreeing_again`, by whether it is a factor's
-agreeing_again_by : (i : ℕ) (spec : Spec) (x : List Raw × List Bool) (b : Bool) → same_kind spec.kind kinds.Count ≡ b → (spec.kind ≡ kinds.Count → (v : Raw) × AllByRecursion (λ w. w ≡ v) x.0) → cond (b && not (all_equal x.0)) (Err (faults.UnequalCounts i)) (Ok x) ≡ Ok x
+agreeing_again_by : (i : ℕ) (spec : Spec) (x : List Raw × List Bool) (b : Bool)
+    → same_kind spec.kind kinds.Count ≡ b
+    → (spec.kind ≡ kinds.Count → (v : Raw) × AllByRecursion (λ w. w ≡ v) x.0)
+    → cond (b && not (all_equal x.0)) (Err (faults.UnequalCounts i)) (Ok x) ≡ Ok x
 agreeing_again_by i spec x false e one = refl
 agreeing_again_by i spec x true e one =
     let h = one (kind_is spec.kind e) in rw (all_equal_again h.0 x.0 h.1) refl
 
 -- values agree where those of a factor are all one
-pub agreeing_again : (i : ℕ) (spec : Spec) (x : List Raw × List Bool) → (spec.kind ≡ kinds.Count → (v : Raw) × AllByRecursion (λ w. w ≡ v) x.0) → agreeing i spec x ≡ Ok x
+pub agreeing_again : (i : ℕ) (spec : Spec) (x : List Raw × List Bool)
+    → (spec.kind ≡ kinds.Count → (v : Raw) × AllByRecursion (λ w. w ≡ v) x.0)
+    → agreeing i spec x ≡ Ok x
 agreeing_again i spec x one = agreeing_again_by i spec x _ refl one
 
 -- what is not false is true
@@ -162,7 +181,9 @@ not_false true e = refl
 not_false false e = absurd cc
 
 -- the step of `agreed`, by whether it is a factor's
-agreed_by : (spec : Spec) (x : List Raw × List Bool) (b : Bool) → same_kind spec.kind kinds.Count ≡ b → (b && not (all_equal x.0)) ≡ false → spec.kind ≡ kinds.Count → all_equal x.0 ≡ true
+agreed_by : (spec : Spec) (x : List Raw × List Bool) (b : Bool)
+    → same_kind spec.kind kinds.Count ≡ b → (b && not (all_equal x.0)) ≡ false
+    → spec.kind ≡ kinds.Count → all_equal x.0 ≡ true
 agreed_by spec x false e agree is = let no : same_kind spec.kind kinds.Count ≡ true = ap (λ k. same_kind k kinds.Count) is in let bad = sym no ∙ e in cc
 agreed_by spec x true e agree is = not_false (all_equal x.0) agree
 
@@ -171,18 +192,21 @@ pub ok_same : {A F : Type 0} (x y : A) → ◌≡◌ {A = Result A F} (Ok x) (Ok
 ok_same x y e = cc
 
 -- values that agree are those that were read, and a factor's are equal
-pub agreed : (i : ℕ) (spec : Spec) (x y : List Raw × List Bool) → agreeing i spec x ≡ Ok y → (x ≡ y) × (spec.kind ≡ kinds.Count → all_equal x.0 ≡ true)
+pub agreed : (i : ℕ) (spec : Spec) (x y : List Raw × List Bool) → agreeing i spec x ≡ Ok y
+    → (x ≡ y) × (spec.kind ≡ kinds.Count → all_equal x.0 ≡ true)
 agreed i spec x y e =
     let g = guarded (same_kind spec.kind kinds.Count && not (all_equal x.0)) _ _ y e in
     (ok_same x y g.1, agreed_by spec x _ refl g.0)
 
 -- the number of a factor is its first value's
-pub count_is : (values : List Raw) → 0 < length values → count_of values ≡ number_of (get_or values 0 (Number 0))
+pub count_is : (values : List Raw) → 0 < length values
+    → count_of values ≡ number_of (get_or values 0 (Number 0))
 count_is [] some = absurd (omega (arith, some))
 count_is (v ∷ vs) some = refl
 
 -- each of equal values is this one
-pub value_is : (v : Raw) (vs : List Raw) (k : ℕ) → AllByRecursion (λ w. w ≡ v) vs → k < length vs → get_or vs k (Number 0) ≡ v
+pub value_is : (v : Raw) (vs : List Raw) (k : ℕ) → AllByRecursion (λ w. w ≡ v) vs → k < length vs
+    → get_or vs k (Number 0) ≡ v
 value_is v [] k all short = absurd (omega (arith, short))
 value_is v (w ∷ vs) zero all short = all.0
 value_is v (w ∷ vs) (suc k) all short = value_is v vs k all.1 (omega (arith, short))
@@ -190,11 +214,18 @@ value_is v (w ∷ vs) (suc k) all short = value_is v vs k all.1 (omega (arith, s
 -- ---- what stands is read
 
 -- within the limit on values there is room for one field after the other
-limit_step : (i l n : ℕ) → (i + suc l) * n ≤ most_values + n → (i * n ≤ most_values) × ((i + 1 + l) * n ≤ most_values + n)
+limit_step : (i l n : ℕ) → (i + suc l) * n ≤ most_values + n
+    → (i * n ≤ most_values) × ((i + 1 + l) * n ≤ most_values + n)
 limit_step i l n h = (omega (arith, h), omega (arith, h))
 
 -- a column that stands is read, and then the others
-column_step : (n i met : ℕ) (x : Column) (cs : List Column) (more : ℕ → Course) (column others rest : List Bool) (items : ℕ) → 0 < n → length x.values ≡ n → IsColumn x.spec x.values column → HaveOneCount x → i * n ≤ most_values → columns_at n (i + 1) (more (number_of (get_or x.values 0 (Number 0)))) (others ++ rest) ≡ Ok (record { columns = cs; items = items; rest = rest }) → columns_at n i (asks met x.fxy x.spec more) ((column ++ others) ++ rest) ≡ Ok (record { columns = x ∷ cs; items = items; rest = rest })
+column_step : (n i met : ℕ) (x : Column) (cs : List Column) (more : ℕ → Course)
+    (column others rest : List Bool) (items : ℕ) → 0 < n → length x.values ≡ n
+    → IsColumn x.spec x.values column → HaveOneCount x → i * n ≤ most_values
+    → columns_at n (i + 1) (more (number_of (get_or x.values 0 (Number 0)))) (others ++ rest)
+    ≡ Ok (record { columns = cs; items = items; rest = rest })
+    → columns_at n i (asks met x.fxy x.spec more) ((column ++ others) ++ rest)
+    ≡ Ok (record { columns = x ∷ cs; items = items; rest = rest })
 unfolding columns_at
 column_step n i met x cs more column others rest items some many is one room after =
     let within : ltb most_values (i * n) ≡ false = le-ltb _ _ room in
@@ -202,7 +233,10 @@ column_step n i met x cs more column others rest items some many is one room aft
     rw (within, append_assoc column others rest, column_again n i x.spec x.values column (others ++ rest) many is, agreeing_again i x.spec (x.values, others ++ rest) one, count, after) refl
 
 -- columns that stand along a course are read
-pub columns_again : (n i j : ℕ) (c : Course) (cs : List Column) (items : ℕ) (front rest : List Bool) → 0 < n → AreColumns n cs front → items_of j i c (map (field_of 0) cs) ≡ Ok items → (i + length cs) * n ≤ most_values + n → columns_at n i c (front ++ rest) ≡ Ok (record { columns = cs; items = items; rest = rest })
+pub columns_again : (n i j : ℕ) (c : Course) (cs : List Column) (items : ℕ) (front rest : List Bool)
+    → 0 < n → AreColumns n cs front → items_of j i c (map (field_of 0) cs) ≡ Ok items
+    → (i + length cs) * n ≤ most_values + n
+    → columns_at n i c (front ++ rest) ≡ Ok (record { columns = cs; items = items; rest = rest })
 unfolding items_of columns_at
 columns_again n i j (ends m) [] items front rest some are e room =
     rw are (ap (λ k. Ok (record { columns = []; items = k; rest = rest })) (ok_same m items e))
@@ -231,7 +265,11 @@ pub record WalkFound (n i : ℕ) (c : Course) (front : List Bool) (f : ColumnsFo
   pub room : (i + length f.columns) * n ≤ most_values + n
 
 -- the course after a factor, or after another field, is that of each subset
-same_course : (spec : Spec) (more : ℕ → Course) (values : List Raw) (k : ℕ) (b : Bool) → same_kind spec.kind kinds.Count ≡ b → (same_kind spec.kind kinds.Count ≡ false → (n : ℕ) → more n ≡ more 0) → (spec.kind ≡ kinds.Count → all_equal values ≡ true) → k < length values → more (count_of values) ≡ more (number_of (get_or values k (Number 0)))
+same_course : (spec : Spec) (more : ℕ → Course) (values : List Raw) (k : ℕ) (b : Bool)
+    → same_kind spec.kind kinds.Count ≡ b
+    → (same_kind spec.kind kinds.Count ≡ false → (n : ℕ) → more n ≡ more 0)
+    → (spec.kind ≡ kinds.Count → all_equal values ≡ true) → k < length values
+    → more (count_of values) ≡ more (number_of (get_or values k (Number 0)))
 same_course spec more values k false e steady agree short = steady e (count_of values) ∙ sym (steady e (number_of (get_or values k (Number 0))))
 same_course spec more values k true e steady agree short =
     let all = all_equal_is values (agree (kind_is spec.kind e)) in
@@ -240,11 +278,18 @@ same_course spec more values k true e steady agree short =
     ap more (count_is values (omega (arith, short)) ∙ ap number_of (first ∙ sym here))
 
 -- a raw value of a spec's form makes a field that is asked for
-field_stands : (d : ℕ) (spec : Spec) (raw : Raw) → HasForm spec raw → stands_for d spec (record { fxy = d; spec = spec; raw = raw }) ≡ true
+field_stands : (d : ℕ) (spec : Spec) (raw : Raw) → HasForm spec raw
+    → stands_for d spec (record { fxy = d; spec = spec; raw = raw }) ≡ true
 field_stands d spec raw form = rw (eq-eqb d d refl, spec_is_same spec, form_passes spec raw form) refl
 
 -- the column that was read and those after it
-column_joined : (n i met d : ℕ) (spec : Spec) (more : ℕ → Course) (front : List Bool) (x : List Raw × List Bool) (f : ColumnsFound) → i * n ≤ most_values → (same_kind spec.kind kinds.Count ≡ false → (n : ℕ) → more n ≡ more 0) → ColumnFound n spec front x → (spec.kind ≡ kinds.Count → all_equal x.0 ≡ true) → WalkFound n (i + 1) (more (count_of x.0)) x.1 f → WalkFound n i (asks met d spec more) front (record f { columns = record { fxy = d; spec = spec; values = x.0 } ∷ f.columns })
+column_joined : (n i met d : ℕ) (spec : Spec) (more : ℕ → Course) (front : List Bool)
+    (x : List Raw × List Bool) (f : ColumnsFound) → i * n ≤ most_values
+    → (same_kind spec.kind kinds.Count ≡ false → (n : ℕ) → more n ≡ more 0)
+    → ColumnFound n spec front x → (spec.kind ≡ kinds.Count → all_equal x.0 ≡ true)
+    → WalkFound n (i + 1) (more (count_of x.0)) x.1 f
+    → WalkFound n i (asks met d spec more) front
+    (record f { columns = record { fxy = d; spec = spec; values = x.0 } ∷ f.columns })
 unfolding items_of
 column_joined n i met d spec more front x f room steady found agree after =
     let column : Column = record { fxy = d; spec = spec; values = x.0 } in
@@ -262,13 +307,16 @@ column_joined n i met d spec more front x f room steady found agree after =
     }
 
 -- what was read did not stop at a fault
-not_stopped : (n i : ℕ) (fault : WalkFault) (f : ColumnsFound) (b : Bool) → cond b (Err faults.TooLarge) (stopped fault) ≡ Ok f → ⊥
+not_stopped : (n i : ℕ) (fault : WalkFault) (f : ColumnsFound) (b : Bool)
+    → cond b (Err faults.TooLarge) (stopped fault) ≡ Ok f → ⊥
 not_stopped n i fault f true e = cc
 not_stopped n i walks.TooLarge f false e = cc
 not_stopped n i (walks.EffectiveRange d) f false e = cc
 
 -- columns that are read stand along the course, one field of each for every subset
-pub columns_found : (n i used : ℕ) (c : Course) (front : List Bool) (f : ColumnsFound) → IsSteady used c → i * n ≤ most_values + n → columns_at n i c front ≡ Ok f → WalkFound n i c front f
+pub columns_found : (n i used : ℕ) (c : Course) (front : List Bool) (f : ColumnsFound)
+    → IsSteady used c → i * n ≤ most_values + n → columns_at n i c front ≡ Ok f
+    → WalkFound n i c front f
 unfolding columns_at items_of IsSteady
 columns_found n i used (ends m) front f steady room e =
     subst (λ g. WalkFound n i (ends m) front g) (ok_same _ _ e)

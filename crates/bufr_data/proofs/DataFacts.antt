@@ -1,5 +1,5 @@
--- The words on data, from the laws of plain data and of columns: for the law on what messages know of
--- data (`data_hold_subsets`).
+-- The words on data, from the laws of plain data and of columns: for the law on what messages know
+-- of data (`data_hold_subsets`).
 use Rattle.std.proofs.Common.{◌≡◌, ℕ, zero, suc, Bool, true, false, List, ◌++◌, Result, Ok, Err, refl, sym, ap, subst, ◌∙◌, arith}
 use Rattle.bufr_tables.specs.Answers.{result_map}
 use Rattle.bufr_expand.specs.Trees.{Tree}
@@ -20,19 +20,22 @@ use Rattle.bufr_data.proofs.WrittenColumns.{fitting_columns_written, written_bes
 use Rattle.bufr_data.proofs.PackedMisfits.{unpacked_is, unpacked_again}
 
 -- what a view of an answer says of the answer
-mapped_ok : {A B F : Type 0} (f : A → B) (x : Result A F) (y : B) → result_map f x ≡ Ok y → (a : A) × (x ≡ Ok a) × (f a ≡ y)
+mapped_ok : {A B F : Type 0} (f : A → B) (x : Result A F) (y : B) → result_map f x ≡ Ok y
+    → (a : A) × (x ≡ Ok a) × (f a ≡ y)
 mapped_ok f (Ok a) y e = (a, refl, cc)
 mapped_ok f (Err fault) y e = absurd cc
 
 -- an error of what is mapped is an error before
-mapped_err : {A B F : Type 0} (f : A → B) (x : Result A F) (fault : F) → result_map f x ≡ Err fault → x ≡ Err fault
+mapped_err : {A B F : Type 0} (f : A → B) (x : Result A F) (fault : F) → result_map f x ≡ Err fault
+    → x ≡ Err fault
 mapped_err f (Ok a) fault e = absurd cc
 mapped_err f (Err other) fault e = cc
 
 -- ---- reading
 
 -- plain subsets that are read are data at the front
-plain_stand : AreUnrolled → (tree : Tree) (count : ℕ) (front : List Bool) (found : List Subset × List Bool)
+plain_stand : AreUnrolled
+    → (tree : Tree) (count : ℕ) (front : List Bool) (found : List Subset × List Bool)
     → subsets_in tree false count front ≡ Ok found → BeginsWithData tree false count front found
 plain_stand law tree count front found e =
     let all = mapped_ok (λ (f : SubsetsRead). (f.subsets, f.rest)) (subsets_at (course tree) 1 count 0 front) found e in
@@ -40,7 +43,8 @@ plain_stand law tree count front found e =
     subst (BeginsWithData tree false count front) all.2 (plain_subsets all.0.subsets, (all.0.items, h.1, refl), h.0, h.2)
 
 -- and plain data at the front are read
-plain_read : AreAllowed → (tree : Tree) (count : ℕ) (front : List Bool) (found : List Subset × List Bool)
+plain_read : AreAllowed
+    → (tree : Tree) (count : ℕ) (front : List Bool) (found : List Subset × List Bool)
     → BeginsWithData tree false count front found → subsets_in tree false count front ≡ Ok found
 plain_read law tree count front (subsets, rest) (data_bits, (items, fit, same), many, joined) =
     let f : SubsetsRead = record { subsets = subsets; items = items; rest = rest } in
@@ -49,21 +53,26 @@ plain_read law tree count front (subsets, rest) (data_bits, (items, fit, same), 
     rw is refl
 
 -- compressed data at the front are read
-packed_read : AreAllowed → (tree : Tree) (count : ℕ) (front : List Bool) (found : List Subset × List Bool)
+packed_read : AreAllowed
+    → (tree : Tree) (count : ℕ) (front : List Bool) (found : List Subset × List Bool)
     → BeginsWithData tree true count front found → subsets_in tree true count front ≡ Ok found
 packed_read law tree count front (subsets, rest) (data_bits, is, many, joined) =
     ap (subsets_in tree true count) joined
     ∙ compressed_read law tree count data_bits rest subsets many is.0 is.1
 
 -- `ReadsExactly`, plain and compressed
-pub reads_exactly : Laws → (tree : Tree) (compressed : Bool) (count : ℕ) (front : List Bool) (found : List Subset × List Bool) → ReadsExactly tree compressed count front found
+pub reads_exactly : Laws
+    → (tree : Tree) (compressed : Bool) (count : ℕ) (front : List Bool)
+    (found : List Subset × List Bool) → ReadsExactly tree compressed count front found
 reads_exactly laws tree false count front found =
     (plain_stand laws.unrolled tree count front found, plain_read laws.allowed tree count front found)
 reads_exactly laws tree true count front found =
     (compressed_stand laws.unrolled tree count front found, packed_read laws.allowed tree count front found)
 
 -- `RefusesExactly`, plain and compressed
-pub refuses_exactly : Laws → (tree : Tree) (compressed : Bool) (count : ℕ) (front : List Bool) (fault : ReadFault) → RefusesExactly tree compressed count front fault
+pub refuses_exactly : Laws
+    → (tree : Tree) (compressed : Bool) (count : ℕ) (front : List Bool) (fault : ReadFault)
+    → RefusesExactly tree compressed count front fault
 refuses_exactly laws tree false count front fault = (
   λ e. subsets_refused_first laws tree count front fault (mapped_err _ (subsets_at (course tree) 1 count 0 front) fault e),
   λ h. rw (first_subsets_refused laws tree count front fault h) refl,
@@ -79,7 +88,9 @@ refuses_exactly laws tree true (suc n) front fault = (
 -- ---- writing
 
 -- `WritesExactly`, plain and compressed
-pub writes_exactly : Laws → (tree : Tree) (compressed : Bool) (subsets : List Subset) (data_bits : List Bool) → WritesExactly tree compressed subsets data_bits
+pub writes_exactly : Laws
+    → (tree : Tree) (compressed : Bool) (subsets : List Subset) (data_bits : List Bool)
+    → WritesExactly tree compressed subsets data_bits
 writes_exactly laws tree false subsets data_bits = (
   λ e. written_fit laws.unrolled tree subsets data_bits e,
   λ h. fitting_written laws.allowed tree subsets h.0 h.1 ∙ ap (λ (xs : List Bool). Ok xs) (sym h.2),
@@ -90,18 +101,23 @@ writes_exactly laws tree true subsets data_bits = (
 )
 
 -- `MisfitsExactly`, plain and compressed
-pub misfits_exactly : Laws → (tree : Tree) (compressed : Bool) (subsets : List Subset) (fault : WriteFault) → MisfitsExactly tree compressed subsets fault
+pub misfits_exactly : Laws
+    → (tree : Tree) (compressed : Bool) (subsets : List Subset) (fault : WriteFault)
+    → MisfitsExactly tree compressed subsets fault
 misfits_exactly laws tree false subsets fault =
     (λ e. written_refused_first laws tree subsets fault e, λ h. first_written_refused laws tree subsets fault h)
 misfits_exactly laws tree true subsets fault =
     (λ e. unpacked_is laws tree subsets fault e, λ h. unpacked_again laws tree subsets fault h)
 
 -- `BareDataAreData`, plain and compressed
-pub bare_are_data : Laws → (tree : Tree) (compressed : Bool) (subsets : List Subset) (data_bits : List Bool) → BareDataAreData tree compressed subsets data_bits
+pub bare_are_data : Laws
+    → (tree : Tree) (compressed : Bool) (subsets : List Subset) (data_bits : List Bool)
+    → BareDataAreData tree compressed subsets data_bits
 bare_are_data laws tree false subsets data_bits h = h
 bare_are_data laws tree true subsets data_bits h =
     compressed_hold laws.unrolled tree subsets data_bits ((writes_exactly laws tree true subsets data_bits).1 h)
 
 -- `PlainDataAreBare`
-pub plain_are_bare : (tree : Tree) (subsets : List Subset) (data_bits : List Bool) → PlainDataAreBare tree subsets data_bits
+pub plain_are_bare : (tree : Tree) (subsets : List Subset) (data_bits : List Bool)
+    → PlainDataAreBare tree subsets data_bits
 plain_are_bare tree subsets data_bits h = h

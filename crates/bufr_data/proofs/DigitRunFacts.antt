@@ -24,7 +24,8 @@ front_more (x ∷ t) zero h = refl
 front_more (x ∷ t) (suc k) h = ap (λ xs. x ∷ xs) (front_more t k (omega arith))
 
 -- and its digits
-digits_more : (t : List ℕ) (k : ℕ) → k < length t → digits_in (take (k + 1) t) ≡ digits_in (take k t) ++ digits_in (get_or t k 0 ∷ [])
+digits_more : (t : List ℕ) (k : ℕ) → k < length t
+    → digits_in (take (k + 1) t) ≡ digits_in (take k t) ++ digits_in (get_or t k 0 ∷ [])
 digits_more t k h =
     let next : k + 1 ≡ suc k = omega arith in
     ap (λ n. digits_in (take n t)) next ∙ ap (λ xs. digits_in xs) (front_more t k h) ∙ filter-append is_ascii_digit (take k t) (get_or t k 0 ∷ [])
@@ -34,7 +35,8 @@ digit_range : (c : ℕ) → is_ascii_digit c ≡ true → IsInRange 48 57 c
 digit_range c is = grind arith
 
 -- a digit more
-pub number_more : (t : List ℕ) (k : ℕ) → k < length t → is_ascii_digit (get_or t k 0) ≡ true → number_of (take (k + 1) t) ≡ number_of (take k t) * 10 + (get_or t k 0 - 48)
+pub number_more : (t : List ℕ) (k : ℕ) → k < length t → is_ascii_digit (get_or t k 0) ≡ true
+    → number_of (take (k + 1) t) ≡ number_of (take k t) * 10 + (get_or t k 0 - 48)
 number_more t k h is =
     let c = get_or t k 0 in
     let own : digits_in (c ∷ []) ≡ c ∷ [] = rw is refl in
@@ -49,7 +51,8 @@ append_none [] = refl
 append_none (x ∷ xs) = ap (λ ys. x ∷ ys) (append_none xs)
 
 -- another character
-pub number_same : (t : List ℕ) (k : ℕ) → k < length t → is_ascii_digit (get_or t k 0) ≡ false → number_of (take (k + 1) t) ≡ number_of (take k t)
+pub number_same : (t : List ℕ) (k : ℕ) → k < length t → is_ascii_digit (get_or t k 0) ≡ false
+    → number_of (take (k + 1) t) ≡ number_of (take k t)
 number_same t k h is =
     let own : digits_in (get_or t k 0 ∷ []) ≡ [] = rw is refl in
     ap (digits_value 10) (digits_more t k h ∙ ap (λ ds. digits_in (take k t) ++ ds) own ∙ append_none (digits_in (take k t)))
@@ -72,7 +75,9 @@ large : (n : ℕ) → 2 ^ 128 ≤ n → number_if n ≡ None
 large n h = let no : nat_lt n (2 ^ 128) ≡ false = grind (arith, nat_tests) in rw no refl
 
 -- with a digit that makes it too great, the number is none
-pub number_large : (t : List ℕ) (k v : ℕ) → k < length t → v ≡ number_of (take k t) → is_ascii_digit (get_or t k 0) ≡ true → 2 ^ 128 ≤ v * 10 + (get_or t k 0 - 48) → number_if (number_of t) ≡ None
+pub number_large : (t : List ℕ) (k v : ℕ) → k < length t → v ≡ number_of (take k t)
+    → is_ascii_digit (get_or t k 0) ≡ true → 2 ^ 128 ≤ v * 10 + (get_or t k 0 - 48)
+    → number_if (number_of t) ≡ None
 number_large t k v h e is over =
     let more = number_more t k h is in
     let all = number_front t (k + 1) in
@@ -84,7 +89,8 @@ take-all [] = refl
 take-all (x ∷ t) = ap (λ (u : List ℕ). x ∷ u) (take-all t)
 
 -- the number of the whole front is that of the text
-pub number_all : (t : List ℕ) (k v : ℕ) → k ≡ length t → v ≡ number_of (take k t) → v < 2 ^ 128 → number_if (number_of t) ≡ Some v
+pub number_all : (t : List ℕ) (k v : ℕ) → k ≡ length t → v ≡ number_of (take k t) → v < 2 ^ 128
+    → number_if (number_of t) ≡ Some v
 number_all t k v all e fits =
     let whole : v ≡ number_of t = e ∙ ap (λ (n : ℕ). number_of (take n t)) all ∙ ap number_of (take-all t) in
     rw (sym whole, lt-ltb v (2 ^ 128) fits) refl

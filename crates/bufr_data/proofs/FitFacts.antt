@@ -1,5 +1,6 @@
--- What is counted fits the template: its fields are an unrolling of the tree, and each raw value has
--- its spec's form. For the laws `counted_subsets_fit` and `fitting_subsets_are_read_and_written`.
+-- What is counted fits the template: its fields are an unrolling of the tree, and each raw value
+-- has its spec's form. For the laws `counted_subsets_fit` and
+-- `fitting_subsets_are_read_and_written`.
 use Rattle.std.proofs.Common.{◌≡◌, ℕ, ◌+◌, ◌/◌, ◌^◌, ◌<◌, ◌≤◌, Bool, true, false, List, [], ◌∷◌, length, Result, Ok, Err, refl, sym, ap, subst, ◌∙◌, arith}
 use Rattle.std.specs.Prelude.{◌==◌, ◌&&◌, nat_lt, nat_le, map}
 use Rattle.std.specs.List.{list_all, AllByRecursion}
@@ -26,22 +27,26 @@ use Rattle.bufr_data.proofs.PlainFacts.{and_first, and_second, equal_is, same_sp
 -- ---- forms
 
 -- octets pass the test of octets
-octets_pass : (os : List ℕ) → AllByRecursion (λ x. x < 256) os → list_all (λ x. nat_lt x 256) os ≡ true
+octets_pass : (os : List ℕ) → AllByRecursion (λ x. x < 256) os
+    → list_all (λ x. nat_lt x 256) os ≡ true
 octets_pass [] h = refl
 octets_pass (x ∷ os) h = rw (lt-ltb x 256 h.0, octets_pass os h.1) refl
 
 -- and what passes it are octets
-pub octets_are : (os : List ℕ) → list_all (λ x. nat_lt x 256) os ≡ true → AllByRecursion (λ x. x < 256) os
+pub octets_are : (os : List ℕ) → list_all (λ x. nat_lt x 256) os ≡ true
+    → AllByRecursion (λ x. x < 256) os
 octets_are [] e = tt
 octets_are (x ∷ os) e =
     (ltb-true x 256 (and_first (nat_lt x 256) (list_all (λ c. nat_lt c 256) os) e), octets_are os (and_second (nat_lt x 256) (list_all (λ c. nat_lt c 256) os) e))
 
 -- a text of the field's octets passes the test of forms
-text_passes : (kind : Kind) (width : ℕ) (os : List ℕ) → kind ≡ kinds.Text → length os ≡ width / 8 → AllByRecursion (λ x. x < 256) os → has_form_by kind width (Text os) ≡ true
+text_passes : (kind : Kind) (width : ℕ) (os : List ℕ) → kind ≡ kinds.Text → length os ≡ width / 8
+    → AllByRecursion (λ x. x < 256) os → has_form_by kind width (Text os) ≡ true
 text_passes kind width os is size all = rw (is, eq-eqb (length os) (width / 8) size, octets_pass os all) refl
 
 -- so does a number that fits
-number_passes : (kind : Kind) (width n : ℕ) → (kind ≡ kinds.Text → ⊥) → width ≤ 64 → n < 2 ^ width → has_form_by kind width (Number n) ≡ true
+number_passes : (kind : Kind) (width n : ℕ) → (kind ≡ kinds.Text → ⊥) → width ≤ 64 → n < 2 ^ width
+    → has_form_by kind width (Number n) ≡ true
 number_passes kinds.Text width n other few below = absurd (other refl)
 number_passes kinds.Code width n other few below = rw (le-leb width 64 few, lt-ltb n (2 ^ width) below) refl
 number_passes kinds.Flag width n other few below = rw (le-leb width 64 few, lt-ltb n (2 ^ width) below) refl
@@ -49,12 +54,14 @@ number_passes kinds.Quantity width n other few below = rw (le-leb width 64 few, 
 number_passes kinds.Count width n other few below = rw (le-leb width 64 few, lt-ltb n (2 ^ width) below) refl
 
 -- so does each raw value of its spec's form
-pub form_passes : (spec : Spec) (raw : Raw) → HasForm spec raw → has_form_by spec.kind spec.width raw ≡ true
+pub form_passes : (spec : Spec) (raw : Raw) → HasForm spec raw
+    → has_form_by spec.kind spec.width raw ≡ true
 form_passes spec raw (of_text os is size all) = text_passes spec.kind spec.width os is size all
 form_passes spec raw (of_number n other few below) = number_passes spec.kind spec.width n other few below
 
 -- a number that passes has its spec's form
-number_is : (spec : Spec) (n : ℕ) → (spec.kind ≡ kinds.Text → ⊥) → (nat_le spec.width 64 && nat_lt n (2 ^ spec.width)) ≡ true → HasForm spec (Number n)
+number_is : (spec : Spec) (n : ℕ) → (spec.kind ≡ kinds.Text → ⊥)
+    → (nat_le spec.width 64 && nat_lt n (2 ^ spec.width)) ≡ true → HasForm spec (Number n)
 number_is spec n other e =
     of_number n other (leb-true spec.width 64 (and_first (nat_le spec.width 64) (nat_lt n (2 ^ spec.width)) e)) (ltb-true n (2 ^ spec.width) (and_second (nat_le spec.width 64) (nat_lt n (2 ^ spec.width)) e))
 
@@ -63,7 +70,8 @@ not_text : (k m : Kind) → k ≡ m → (m ≡ kinds.Text → ⊥) → k ≡ kin
 not_text k m e other is = other (sym e ∙ is)
 
 -- the step of `form_is`, by the kind
-form_by : (kind : Kind) (spec : Spec) (raw : Raw) → spec.kind ≡ kind → has_form_by kind spec.width raw ≡ true → HasForm spec raw
+form_by : (kind : Kind) (spec : Spec) (raw : Raw) → spec.kind ≡ kind
+    → has_form_by kind spec.width raw ≡ true → HasForm spec raw
 form_by kinds.Text spec (Text os) is e =
     of_text os is (equal_is (length os) (spec.width / 8) (and_first _ _ e)) (octets_are os (and_second (length os == spec.width / 8) (list_all (λ x. nat_lt x 256) os) e))
 form_by kinds.Text spec (Number n) is e = absurd cc
@@ -77,7 +85,8 @@ form_by kinds.Quantity spec (Text os) is e = absurd cc
 form_by kinds.Count spec (Text os) is e = absurd cc
 
 -- a raw value that passes has its spec's form
-pub form_is : (spec : Spec) (raw : Raw) → has_form_by spec.kind spec.width raw ≡ true → HasForm spec raw
+pub form_is : (spec : Spec) (raw : Raw) → has_form_by spec.kind spec.width raw ≡ true
+    → HasForm spec raw
 form_is spec raw e = form_by spec.kind spec raw refl e
 
 -- a field that passes is the one that is asked for
@@ -104,7 +113,8 @@ abbrev pub Formed : List Field → Type 0
 Formed fields = AllByRecursion (λ f. HasForm f.spec f.raw) fields
 
 -- fields that are counted are allowed by the course, each of its form
-counted_allowed : (j i : ℕ) (c : Course) (fields : List Field) (n : ℕ) → items_of j i c fields ≡ Ok n → Allows c (map told_of fields) n × Formed fields
+counted_allowed : (j i : ℕ) (c : Course) (fields : List Field) (n : ℕ)
+    → items_of j i c fields ≡ Ok n → Allows c (map told_of fields) n × Formed fields
 unfolding items_of After
 counted_allowed j i (ends m) [] n e = (ap (λ k. ends k) (ok_is m n e), tt)
 counted_allowed j i (ends m) (f ∷ fields) n e = absurd cc
@@ -117,7 +127,8 @@ counted_allowed j i (asks met d spec more) (f ∷ fields) n e =
     ((is.0, is.1, others.0), (subst (λ (s : Spec). HasForm s f.raw) (sym is.1) is.2, others.1))
 
 -- and such fields are counted
-allowed_counted : (j i : ℕ) (c : Course) (fields : List Field) (n : ℕ) → Allows c (map told_of fields) n → Formed fields → items_of j i c fields ≡ Ok n
+allowed_counted : (j i : ℕ) (c : Course) (fields : List Field) (n : ℕ)
+    → Allows c (map told_of fields) n → Formed fields → items_of j i c fields ≡ Ok n
 unfolding items_of After
 allowed_counted j i (ends m) [] n h formed = let is : m ≡ n = cc in ap (λ k. Ok k) is
 allowed_counted j i (ends m) (f ∷ fields) n h formed = absurd h
@@ -139,25 +150,31 @@ abbrev pub AreAllowed : Type 0
 AreAllowed = (tree : Tree) (used : ℕ) (fields : List Told) (n : ℕ) → Unrolls tree used fields n → Allows (course tree used) fields n
 
 -- fields that are counted fit the tree
-pub counted_fit : AreUnrolled → (tree : Tree) (j used n : ℕ) (fields : List Field) → used ≤ most_items → items_of j 1 (course tree used) fields ≡ Ok n → FitsWithin tree used fields n
+pub counted_fit : AreUnrolled → (tree : Tree) (j used n : ℕ) (fields : List Field)
+    → used ≤ most_items → items_of j 1 (course tree used) fields ≡ Ok n
+    → FitsWithin tree used fields n
 counted_fit law tree j used n fields le e =
     let a = counted_allowed j 1 (course tree used) fields n e in
     let u = law tree used (map told_of fields) n le a.0 in
     (u.1, record { operators = u.0; unrolled = u.2; formed = a.1 }, u.3, u.4)
 
 -- and fields that fit are counted
-pub fitting_counted : AreAllowed → (tree : Tree) (j used n : ℕ) (fields : List Field) → FitsWithin tree used fields n → items_of j 1 (course tree used) fields ≡ Ok n
+pub fitting_counted : AreAllowed → (tree : Tree) (j used n : ℕ) (fields : List Field)
+    → FitsWithin tree used fields n → items_of j 1 (course tree used) fields ≡ Ok n
 fitting_counted law tree j used n fields h =
     allowed_counted j 1 (course tree used) fields n (law tree used (map told_of fields) n (h.1.operators, h.0, h.1.unrolled, h.2, h.3)) h.1.formed
 
 -- a subset that is read fits and stands there
-pub read_stands : AreUnrolled → (tree : Tree) (j used : ℕ) (front : List Bool) (f : SubsetRead) → used ≤ most_items → fields_at j 1 (course tree used) front ≡ Ok f → SubsetStands tree used front f
+pub read_stands : AreUnrolled → (tree : Tree) (j used : ℕ) (front : List Bool) (f : SubsetRead)
+    → used ≤ most_items → fields_at j 1 (course tree used) front ≡ Ok f
+    → SubsetStands tree used front f
 read_stands law tree j used front f le e =
     let is = fields_at-found j 1 (course tree used) front f e in
     (counted_fit law tree j used f.items f.fields le is.0, is.1)
 
 -- and such a subset is read
-pub standing_read : AreAllowed → (tree : Tree) (j used : ℕ) (front : List Bool) (f : SubsetRead) → SubsetStands tree used front f → fields_at j 1 (course tree used) front ≡ Ok f
+pub standing_read : AreAllowed → (tree : Tree) (j used : ℕ) (front : List Bool) (f : SubsetRead)
+    → SubsetStands tree used front f → fields_at j 1 (course tree used) front ≡ Ok f
 standing_read law tree j used front f h =
     ap (fields_at j 1 (course tree used)) h.1
     ∙ fields_at-plain j 1 (course tree used) f.fields f.items f.rest (fitting_counted law tree j used f.items f.fields h.0)
@@ -165,7 +182,9 @@ standing_read law tree j used front f h =
 -- ---- subsets
 
 -- subsets that are counted fit the tree
-pub all_counted_fit : AreUnrolled → (tree : Tree) (j used n : ℕ) (subsets : List Subset) → used ≤ most_items → items_of_all (course tree) j used subsets ≡ Ok n → AllFitWithin tree used subsets n
+pub all_counted_fit : AreUnrolled → (tree : Tree) (j used n : ℕ) (subsets : List Subset)
+    → used ≤ most_items → items_of_all (course tree) j used subsets ≡ Ok n
+    → AllFitWithin tree used subsets n
 unfolding items_of_all
 all_counted_fit law tree j used n [] le e =
     let is : used ≡ n = ok_is used n e in
@@ -177,7 +196,8 @@ all_counted_fit law tree j used n (s ∷ subsets) le e =
     (first.0 + others.0, (first.0, others.0, first.1, others.1, refl), omega (arith, first.2, others.2), others.3)
 
 -- and subsets that fit are counted
-pub all_fitting_counted : AreAllowed → (tree : Tree) (j used n : ℕ) (subsets : List Subset) → AllFitWithin tree used subsets n → items_of_all (course tree) j used subsets ≡ Ok n
+pub all_fitting_counted : AreAllowed → (tree : Tree) (j used n : ℕ) (subsets : List Subset)
+    → AllFitWithin tree used subsets n → items_of_all (course tree) j used subsets ≡ Ok n
 unfolding items_of_all
 all_fitting_counted law tree j used n [] h = ap (λ k. Ok k) (let none : h.0 ≡ 0 = h.1 in let end : n ≡ used + h.0 = h.2 in omega arith)
 all_fitting_counted law tree j used n (s ∷ subsets) h =
@@ -190,27 +210,36 @@ all_fitting_counted law tree j used n (s ∷ subsets) h =
     rw first (all_fitting_counted law tree (j + 1) (used + own) n subsets (others, h.1.3, omega arith, few))
 
 -- subsets that are read fit and stand there
-pub all_read_stand : AreUnrolled → (tree : Tree) (j n used : ℕ) (front : List Bool) (f : SubsetsRead) → used ≤ most_items → subsets_at (course tree) j n used front ≡ Ok f → SubsetsStand tree n used front f
+pub all_read_stand : AreUnrolled
+    → (tree : Tree) (j n used : ℕ) (front : List Bool) (f : SubsetsRead) → used ≤ most_items
+    → subsets_at (course tree) j n used front ≡ Ok f → SubsetsStand tree n used front f
 all_read_stand law tree j n used front f le e =
     let is = subsets_at-found (course tree) j n used front f e in
     (is.0, all_counted_fit law tree j used f.items f.subsets le is.1, is.2)
 
 -- and such subsets are read
-pub all_standing_read : AreAllowed → (tree : Tree) (j n used : ℕ) (front : List Bool) (f : SubsetsRead) → SubsetsStand tree n used front f → subsets_at (course tree) j n used front ≡ Ok f
+pub all_standing_read : AreAllowed
+    → (tree : Tree) (j n used : ℕ) (front : List Bool) (f : SubsetsRead)
+    → SubsetsStand tree n used front f → subsets_at (course tree) j n used front ≡ Ok f
 all_standing_read law tree j n used front f h =
     subsets_at-plain (course tree) j n used front f h.0 (all_fitting_counted law tree j used f.items f.subsets h.1) h.2
 
 -- what is answered of a mapped answer was answered before
-map_ok : (o : Result ℕ WriteFault) (bits added : List Bool) → result_map (λ items. bits) o ≡ Ok added → (n : ℕ) × (o ≡ Ok n) × (added ≡ bits)
+map_ok : (o : Result ℕ WriteFault) (bits added : List Bool)
+    → result_map (λ items. bits) o ≡ Ok added → (n : ℕ) × (o ≡ Ok n) × (added ≡ bits)
 map_ok (Ok n) bits added e = (n, refl, cc)
 map_ok (Err fault) bits added e = absurd cc
 
 -- subsets that are written fit, and the bits are theirs
-pub written_fit : AreUnrolled → (tree : Tree) (subsets : List Subset) (added : List Bool) → written_bits tree false subsets ≡ Ok added → (items : ℕ) × AllFitWithin tree 0 subsets items × (added ≡ plain_subsets subsets)
+pub written_fit : AreUnrolled → (tree : Tree) (subsets : List Subset) (added : List Bool)
+    → written_bits tree false subsets ≡ Ok added
+    → (items : ℕ) × AllFitWithin tree 0 subsets items × (added ≡ plain_subsets subsets)
 written_fit law tree subsets added e =
     let is = map_ok (items_of_all (course tree) 1 0 subsets) (plain_subsets subsets) added e in
     (is.0, all_counted_fit law tree 1 0 is.0 subsets (omega arith) is.1, is.2)
 
 -- and subsets that fit are written
-pub fitting_written : AreAllowed → (tree : Tree) (subsets : List Subset) (items : ℕ) → AllFitWithin tree 0 subsets items → written_bits tree false subsets ≡ Ok (plain_subsets subsets)
+pub fitting_written : AreAllowed → (tree : Tree) (subsets : List Subset) (items : ℕ)
+    → AllFitWithin tree 0 subsets items
+    → written_bits tree false subsets ≡ Ok (plain_subsets subsets)
 fitting_written law tree subsets items h = rw (all_fitting_counted law tree 1 0 items subsets h) refl

@@ -1,5 +1,5 @@
--- Increments read one after the other have the values of their list: for the index of compressed data
--- (`Columns::index`).
+-- Increments read one after the other have the values of their list: for the index of compressed
+-- data (`Columns::index`).
 use Rattle.std.proofs.Common.{◌≡◌, ℕ, zero, suc, ◌+◌, ◌-◌, ◌*◌, ◌<◌, ◌≤◌, Bool, true, false, cond, List, [], ◌∷◌, ◌++◌, length, take, drop, Some, None, Result, inl, inr, Ok, Err, refl, sym, ap, ◌∙◌, arith, append_assoc, append-nil, length-append}
 use Rattle.std.specs.Prelude.{◌&&◌, ◌==◌}
 use Rattle.std.specs.List.{AllByRecursion, list_all}
@@ -8,7 +8,7 @@ use Rattle.std.proofs.lemmas.List.{length-drop, drop-drop}
 use Rattle.bufr_tables.specs.Answers.{◌>>=◌}
 use Rattle.bufr_data.specs.declared.fault.ReadFault.TheVariants as faults
 use Rattle.bufr_data.specs.Plain.{number_of}
-use Rattle.bufr_data.specs.Passing.{AreRaised}
+use Rattle.bufr_data.specs.PassedColumns.{AreRaised}
 use Rattle.bufr_data.proofs.ColumnFacts.{not_equal}
 use Rattle.bufr_bits.specs.BitLaws.{some_is}
 use Rattle.bufr_bits.specs.Bits.{number, numbers, number_at}
@@ -51,7 +51,8 @@ and_again true b c = refl
 and_again false b c = refl
 
 -- a number that is taken is that of the front, which is dropped
-taken_is : (k x : ℕ) (rest last : List Bool) → number_at k rest ≡ Some (x, last) → (x ≡ number (take k rest)) × (last ≡ drop k rest)
+taken_is : (k x : ℕ) (rest last : List Bool) → number_at k rest ≡ Some (x, last)
+    → (x ≡ number (take k rest)) × (last ≡ drop k rest)
 unfolding number_at
 taken_is k x rest last e =
     elim (cases_lt (length rest) k) [
@@ -64,20 +65,24 @@ taken_is k x rest last e =
     ]
 
 -- the front of a number that is taken is dropped
-pub drop_is : (k x : ℕ) (rest last : List Bool) → number_at k rest ≡ Some (x, last) → last ≡ drop k rest
+pub drop_is : (k x : ℕ) (rest last : List Bool) → number_at k rest ≡ Some (x, last)
+    → last ≡ drop k rest
 drop_is k x rest last e = (taken_is k x rest last e).1
 
 -- one more number, and all are numbers
-all_pushed : (values : List Raw) (n : ℕ) → AllByRecursion (λ v. v ≡ Number (number_of v)) values → AllByRecursion (λ v. v ≡ Number (number_of v)) (values ++ Number n ∷ [])
+all_pushed : (values : List Raw) (n : ℕ) → AllByRecursion (λ v. v ≡ Number (number_of v)) values
+    → AllByRecursion (λ v. v ≡ Number (number_of v)) (values ++ Number n ∷ [])
 all_pushed [] n all = (refl, tt)
 all_pushed (v ∷ values) n all = (all.0, all_pushed values n all.1)
 
 -- a number is the same as the first where their numbers are
-with_first : (u : Raw) (number first : ℕ) → u ≡ Number (number_of u) → number_of u ≡ first → same_raw (Number number) u ≡ (number == first)
+with_first : (u : Raw) (number first : ℕ) → u ≡ Number (number_of u) → number_of u ≡ first
+    → same_raw (Number number) u ≡ (number == first)
 with_first u number first is head = ap (same_raw (Number number)) (is ∙ ap (λ n. Number n) head)
 
 -- before the first increment
-pub none_yet : (i width minimum k n first : ℕ) (front : List Bool) → RaisedSoFar i width minimum k n 0 front front 0 true
+pub none_yet : (i width minimum k n first : ℕ) (front : List Bool)
+    → RaisedSoFar i width minimum k n 0 front front 0 true
 none_yet i width minimum k n first front = record {
   values = [];
   many = refl;
@@ -91,7 +96,8 @@ none_yet i width minimum k n first front = record {
 }
 
 -- the increment that was taken is the next of the list
-next_number : (k n j x : ℕ) (rest last : List Bool) → j < n → number_at k rest ≡ Some (x, last) → numbers (n - j) k rest ≡ x ∷ numbers (n - (j + 1)) k last
+next_number : (k n j x : ℕ) (rest last : List Bool) → j < n → number_at k rest ≡ Some (x, last)
+    → numbers (n - j) k rest ≡ x ∷ numbers (n - (j + 1)) k last
 unfolding numbers number_at
 next_number k n j x rest last less e =
     let some : n - j ≡ suc (n - (j + 1)) = omega (arith, less) in
@@ -99,12 +105,15 @@ next_number k n j x rest last less e =
     ap (λ m. numbers m k rest) some ∙ (λ t. sym h.0 t ∷ numbers (n - (j + 1)) k (sym h.1 t))
 
 -- one more value in front of the others
-behind_joined : (values : List Raw) (v : Raw) (o : Result (List Raw) ReadFault) → behind_values values (o >>= λ vs. Ok (v ∷ vs)) ≡ behind_values (values ++ v ∷ []) o
+behind_joined : (values : List Raw) (v : Raw) (o : Result (List Raw) ReadFault)
+    → behind_values values (o >>= λ vs. Ok (v ∷ vs)) ≡ behind_values (values ++ v ∷ []) o
 behind_joined values v (Ok vs) = ap (λ xs. Ok xs) (sym (append_assoc values (v ∷ []) vs))
 behind_joined values v (Err e) = refl
 
 -- a test of all and one more
-all_push : (u v : Raw) (us : List Raw) → list_all (λ w. same_raw w u) (us ++ v ∷ []) ≡ (list_all (λ w. same_raw w u) us && same_raw v u)
+all_push : (u v : Raw) (us : List Raw)
+    → list_all (λ w. same_raw w u) (us ++ v ∷ [])
+    ≡ (list_all (λ w. same_raw w u) us && same_raw v u)
 all_push u v [] = and_true (same_raw v u)
 all_push u v (w ∷ us) = ap (λ b. same_raw w u && b) (all_push u v us) ∙ and_again (same_raw w u) (list_all (λ x. same_raw x u) us) (same_raw v u)
 
@@ -113,7 +122,9 @@ not_zero : (j : ℕ) → (suc j == 0) ≡ false
 not_zero j = not_equal (suc j) 0 (λ e. absurd (omega (arith, e)))
 
 -- with one more number: the first, and whether all are the same
-pushed : (j first x : ℕ) (equal : Bool) (values : List Raw) → length values ≡ j → AllByRecursion (λ v. v ≡ Number (number_of v)) values → count_of values ≡ first → all_equal values ≡ equal
+pushed : (j first x : ℕ) (equal : Bool) (values : List Raw) → length values ≡ j
+    → AllByRecursion (λ v. v ≡ Number (number_of v)) values → count_of values ≡ first
+    → all_equal values ≡ equal
     → (count_of (values ++ Number x ∷ []) ≡ cond (j == 0) x first)
     × (all_equal (values ++ Number x ∷ []) ≡ (equal && (x == cond (j == 0) x first)))
 pushed zero first x equal [] many all head same = (refl, rw (← same, eq-eqb x x refl) refl)
@@ -123,8 +134,11 @@ pushed (suc j) first x equal (u ∷ us) many all head same =
     rw (not_zero j) (head, all_push u (Number x) us ∙ (λ t. same t && with_first u x first all.0 head t))
 
 -- one more increment that has a value keeps what is known so far
-pub one_raised : (i width minimum k n j x number : ℕ) (front rest last : List Bool) (first : ℕ) (equal : Bool) → j < n → RaisedSoFar i width minimum k n j front rest first equal → number_at k rest ≡ Some (x, last) → Some (Number number) ≡ raised width minimum k x
-    → RaisedSoFar i width minimum k n (j + 1) front last (cond (j == 0) number first) (equal && (number == cond (j == 0) number first))
+pub one_raised : (i width minimum k n j x number : ℕ) (front rest last : List Bool) (first : ℕ)
+    (equal : Bool) → j < n → RaisedSoFar i width minimum k n j front rest first equal
+    → number_at k rest ≡ Some (x, last) → Some (Number number) ≡ raised width minimum k x
+    → RaisedSoFar i width minimum k n (j + 1) front last (cond (j == 0) number first)
+    (equal && (number == cond (j == 0) number first))
 one_raised i width minimum k n j x number front rest last first equal less so_far e value =
     let now = pushed j first number equal so_far.values so_far.many so_far.are_numbers so_far.first_is so_far.equal_is in
     record {
@@ -141,7 +155,9 @@ one_raised i width minimum k n j x number front rest last first equal less so_fa
     }
 
 -- an increment that has none is the fault
-pub raised_fails : (i width minimum k n j x : ℕ) (front rest last : List Bool) (first : ℕ) (equal : Bool) → j < n → RaisedSoFar i width minimum k n j front rest first equal → number_at k rest ≡ Some (x, last) → None ≡ raised width minimum k x
+pub raised_fails : (i width minimum k n j x : ℕ) (front rest last : List Bool) (first : ℕ)
+    (equal : Bool) → j < n → RaisedSoFar i width minimum k n j front rest first equal
+    → number_at k rest ≡ Some (x, last) → None ≡ raised width minimum k x
     → all_raised 1 i width minimum k (numbers n k front) ≡ Err (faults.IncrementRange (j + 1) i)
 raised_fails i width minimum k n j x front rest last first equal less so_far e value =
     so_far.found
@@ -149,7 +165,9 @@ raised_fails i width minimum k n j x front rest last first equal less so_far e v
     ∙ ap (λ o. behind_values so_far.values (value_then (j + 1) i o (all_raised (j + 1 + 1) i width minimum k (numbers (n - (j + 1)) k last)))) (sym value)
 
 -- at the end all increments have values
-pub all_raised_so_far : (i width minimum k n j : ℕ) (front rest : List Bool) (first : ℕ) (equal : Bool) → n ≤ j → RaisedSoFar i width minimum k n j front rest first equal → AreRaised i width minimum k (numbers n k front) first equal
+pub all_raised_so_far : (i width minimum k n j : ℕ) (front rest : List Bool) (first : ℕ)
+    (equal : Bool) → n ≤ j → RaisedSoFar i width minimum k n j front rest first equal
+    → AreRaised i width minimum k (numbers n k front) first equal
 unfolding numbers
 all_raised_so_far i width minimum k n j front rest first equal done so_far =
     let none : n - j ≡ 0 = omega (arith, done) in (
@@ -160,14 +178,16 @@ all_raised_so_far i width minimum k n j front rest first equal done so_far =
     )
 
 -- while there are increments left there are bits of the next one
-pub enough_left : (n j k : ℕ) (front : List Bool) → j < n → (n - j) * k ≤ length front → k ≤ length front
+pub enough_left : (n j k : ℕ) (front : List Bool) → j < n → (n - j) * k ≤ length front
+    → k ≤ length front
 enough_left n j k front less enough =
     let some : n - j ≡ suc (n - (j + 1)) = omega (arith, less) in
     let times : (n - j) * k ≡ k + (n - (j + 1)) * k = ap (λ m. m * k) some ∙ next_times (n - (j + 1)) k in
     omega (arith, enough, times)
 
 -- as long as increments are to come there is one
-pub none_left : (n j k : ℕ) (front : List Bool) → j < n → (n - j) * k ≤ length front → number_at k front ≡ None → ⊥
+pub none_left : (n j k : ℕ) (front : List Bool) → j < n → (n - j) * k ≤ length front
+    → number_at k front ≡ None → ⊥
 unfolding number_at
 none_left n j k front less enough none =
     let long = le-ltb (length front) k at-least in cc
@@ -176,7 +196,8 @@ none_left n j k front less enough none =
     at-least = enough_left n j k front less enough
 
 -- behind one increment there are enough bits for the others
-pub enough_behind : (n j k : ℕ) (rest last : List Bool) → j < n → (n - j) * k ≤ length rest → last ≡ drop k rest → (n - (j + 1)) * k ≤ length last
+pub enough_behind : (n j k : ℕ) (rest last : List Bool) → j < n → (n - j) * k ≤ length rest
+    → last ≡ drop k rest → (n - (j + 1)) * k ≤ length last
 enough_behind n j k rest last less enough is =
     let some : n - j ≡ suc (n - (j + 1)) = omega (arith, less) in
     let times : (n - j) * k ≡ k + (n - (j + 1)) * k = ap (λ m. m * k) some ∙ next_times (n - (j + 1)) k in
@@ -184,7 +205,8 @@ enough_behind n j k rest last less enough is =
     omega (arith, enough, times, size)
 
 -- the bits behind one more increment
-pub moved_on : (j k : ℕ) (front rest last : List Bool) → rest ≡ drop (j * k) front → last ≡ drop k rest → last ≡ drop ((j + 1) * k) front
+pub moved_on : (j k : ℕ) (front rest last : List Bool) → rest ≡ drop (j * k) front
+    → last ≡ drop k rest → last ≡ drop ((j + 1) * k) front
 moved_on j k front rest last so_far is =
     let times : j * k + k ≡ (j + 1) * k = omega arith in
     is ∙ ap (drop k) so_far ∙ drop-drop k (j * k) front ∙ ap (λ m. drop m front) times

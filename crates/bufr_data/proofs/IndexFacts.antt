@@ -26,14 +26,19 @@ use Rattle.bufr_data.specs.Columns.{Column, field_of, subset_of}
 use Rattle.bufr_data.specs.Indexed.{column_from}
 
 -- at the end each place gave its field
-fields_all : (octets : List ℕ) (n k i : ℕ) (places : List Place) → length places ≤ i → map (λ p. field_of k (column_from octets n p)) (take i places) ≡ map (field_of k) (map (column_from octets n) places)
+fields_all : (octets : List ℕ) (n k i : ℕ) (places : List Place) → length places ≤ i
+    → map (λ p. field_of k (column_from octets n p)) (take i places)
+    ≡ map (field_of k) (map (column_from octets n) places)
 fields_all octets n k zero [] all = refl
 fields_all octets n k (suc i) [] all = refl
 fields_all octets n k zero (p ∷ ps) all = absurd (omega (arith, all))
 fields_all octets n k (suc i) (p ∷ ps) all = ap (λ fs. field_of k (column_from octets n p) ∷ fs) (fields_all octets n k i ps (omega (arith, all)))
 
 -- so the fields are those of the subset
-pub subset_end : (octets : List ℕ) (n k i : ℕ) (places : List Place) (fields : List Field) (columns : List Column) → columns ≡ map (column_from octets n) places → length places ≤ i → fields ≡ map (λ p. field_of k (column_from octets n p)) (take i places) → ◌≡◌ {A = Subset} (record { fields = fields }) (subset_of columns k)
+pub subset_end : (octets : List ℕ) (n k i : ℕ) (places : List Place) (fields : List Field)
+    (columns : List Column) → columns ≡ map (column_from octets n) places → length places ≤ i
+    → fields ≡ map (λ p. field_of k (column_from octets n p)) (take i places)
+    → ◌≡◌ {A = Subset} (record { fields = fields }) (subset_of columns k)
 subset_end octets n k i places fields columns view all is =
     let same : fields ≡ map (field_of k) columns = is ∙ fields_all octets n k i places all ∙ ap (map (field_of k)) (sym view) in
     λ t. record { fields = same t }
@@ -49,7 +54,10 @@ next_times : (index k : ℕ) → suc index * k ≡ k + index * k
 next_times index k = omega arith
 
 -- the increment at an index has the value at this index
-number_there : (width minimum k index : ℕ) (xs : List ℕ) (vs : List Raw) (rest : List Bool) → Pairwise (HasIncrement width minimum k) xs vs → index < length vs → raised_of width minimum k (number_at k (drop (index * k) (flat_map (bin k) xs ++ rest))) ≡ Some (get_or vs index (Number 0))
+number_there : (width minimum k index : ℕ) (xs : List ℕ) (vs : List Raw) (rest : List Bool)
+    → Pairwise (HasIncrement width minimum k) xs vs → index < length vs
+    → raised_of width minimum k (number_at k (drop (index * k) (flat_map (bin k) xs ++ rest)))
+    ≡ Some (get_or vs index (Number 0))
 number_there width minimum k index [] [] rest h short = absurd (omega (arith, short))
 number_there width minimum k index [] (v ∷ vs) rest h short = absurd h
 number_there width minimum k index (x ∷ xs) [] rest h short = absurd h
@@ -64,7 +72,11 @@ number_there width minimum k (suc index) (x ∷ xs) (v ∷ vs) rest h short =
     ap (λ front. raised_of width minimum k (number_at k front)) behind ∙ number_there width minimum k index xs vs rest h.1 (omega (arith, short))
 
 -- so has the text at an index
-text_there : (octets k index : ℕ) (own : List (List ℕ)) (vs : List Raw) (rest : List Bool) → Pairwise (HasText octets k) own vs → index < length vs → option_map (λ (x : List ℕ × List Bool). filled octets x.0) (octets_at k (drop (index * (k * 8)) (flat_map bits own ++ rest))) ≡ Some (get_or vs index (Number 0))
+text_there : (octets k index : ℕ) (own : List (List ℕ)) (vs : List Raw) (rest : List Bool)
+    → Pairwise (HasText octets k) own vs → index < length vs
+    → option_map (λ (x : List ℕ × List Bool). filled octets x.0)
+    (octets_at k (drop (index * (k * 8)) (flat_map bits own ++ rest)))
+    ≡ Some (get_or vs index (Number 0))
 text_there octets k index [] [] rest h short = absurd (omega (arith, short))
 text_there octets k index [] (v ∷ vs) rest h short = absurd h
 text_there octets k index (x ∷ own) [] rest h short = absurd h
@@ -90,7 +102,9 @@ pub record OneValue (spec : Spec) (values : List Raw) (index : ℕ) (front : Lis
   pub value : one_behind spec minimum k index rest ≡ Some (get_or values index (Number 0))
 
 -- the one value that is read of a column is the one at its index
-pub one_value : (spec : Spec) (values : List Raw) (column rest : List Bool) (index : ℕ) → IsColumn spec values column → index < length values → OneValue spec values index (column ++ rest)
+pub one_value : (spec : Spec) (values : List Raw) (column rest : List Bool) (index : ℕ)
+    → IsColumn spec values column → index < length values
+    → OneValue spec values index (column ++ rest)
 one_value spec values column rest index (equal minimum form same is) short = record {
   minimum = minimum;
   k = 0;

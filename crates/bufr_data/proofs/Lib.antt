@@ -1,3 +1,6 @@
+-- The proofs of the crate: facts of courses, fields, columns, walks and texts, for the clauses of
+-- reading and writing and for [`laws`]; those of each function stand in the folder of its file.
+pub mod AlikeFacts
 pub mod BestFacts
 pub mod CauseFacts
 pub mod ColumnCourses

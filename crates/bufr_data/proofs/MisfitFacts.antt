@@ -36,17 +36,20 @@ like_is f [] e = absurd cc
 like_is f (g ∷ gs) e = (equal_is _ _ (and_first (f.fxy == g.fxy) (same_spec g.spec f.spec) e), same_spec_is _ _ (and_second (f.fxy == g.fxy) (same_spec g.spec f.spec) e))
 
 -- subsets that all begin like the first pass
-all_like_pass : (f : Field) (others : List (List Field)) → AllByRecursion (BeginsLike f) others → list_all (begins_like f) others ≡ true
+all_like_pass : (f : Field) (others : List (List Field)) → AllByRecursion (BeginsLike f) others
+    → list_all (begins_like f) others ≡ true
 all_like_pass f [] h = refl
 all_like_pass f (gs ∷ others) h = rw (like_passes f gs h.0, all_like_pass f others h.1) refl
 
 -- and those that pass do
-all_like_is : (f : Field) (others : List (List Field)) → list_all (begins_like f) others ≡ true → AllByRecursion (BeginsLike f) others
+all_like_is : (f : Field) (others : List (List Field)) → list_all (begins_like f) others ≡ true
+    → AllByRecursion (BeginsLike f) others
 all_like_is f [] e = tt
 all_like_is f (gs ∷ others) e = (like_is f gs (and_first (begins_like f gs) (list_all (begins_like f) others) e), all_like_is f others (and_second (begins_like f gs) (list_all (begins_like f) others) e))
 
 -- a kind that is no factor's is not told one
-no_count_by : (spec : Spec) (b : Bool) → same_kind spec.kind kinds.Count ≡ b → (spec.kind ≡ kinds.Count → ⊥) → b ≡ false
+no_count_by : (spec : Spec) (b : Bool) → same_kind spec.kind kinds.Count ≡ b
+    → (spec.kind ≡ kinds.Count → ⊥) → b ≡ false
 no_count_by spec true e other = absurd (other (kind_is spec.kind e))
 no_count_by spec false e other = refl
 
@@ -56,41 +59,52 @@ or_right true b e = refl
 or_right false b e = e
 
 -- values that can be a column pass the test
-pub can_passes : (spec : Spec) (values : List Raw) → CanBeColumn spec values → can_be_column spec values ≡ true
+pub can_passes : (spec : Spec) (values : List Raw) → CanBeColumn spec values
+    → can_be_column spec values ≡ true
 can_passes spec values (same v all) = rw (all_equal_again v values all) refl
 can_passes spec values (narrow other short) =
     let inner : (not (same_kind spec.kind kinds.Count) && nat_le (widest spec) 63) ≡ true = rw (no_count_by spec (same_kind spec.kind kinds.Count) refl other, le-leb (widest spec) 63 short) refl in
     or_right (all_equal values) (not (same_kind spec.kind kinds.Count) && nat_le (widest spec) 63) inner
 
 -- the step of `can_is`, by whether they are all the same and a factor's
-can_is_by : (spec : Spec) (values : List Raw) (b c : Bool) → all_equal values ≡ b → same_kind spec.kind kinds.Count ≡ c → (b || (not c && nat_le (widest spec) 63)) ≡ true → CanBeColumn spec values
+can_is_by : (spec : Spec) (values : List Raw) (b c : Bool) → all_equal values ≡ b
+    → same_kind spec.kind kinds.Count ≡ c → (b || (not c && nat_le (widest spec) 63)) ≡ true
+    → CanBeColumn spec values
 can_is_by spec values true c e k can = let h = all_equal_is values e in same h.0 h.1
 can_is_by spec values false true e k can = absurd cc
 can_is_by spec values false false e k can =
     narrow (λ is. let yes : same_kind spec.kind kinds.Count ≡ true = ap (λ x. same_kind x kinds.Count) is in let bad = sym yes ∙ k in cc) (leb-true _ _ can)
 
 -- and values that pass can be a column
-can_is : (spec : Spec) (values : List Raw) → can_be_column spec values ≡ true → CanBeColumn spec values
+can_is : (spec : Spec) (values : List Raw) → can_be_column spec values ≡ true
+    → CanBeColumn spec values
 can_is spec values e = can_is_by spec values _ _ refl refl e
 
 -- subsets that have all ended pass the test
-all_empty_passes : (others : List (List Field)) → AllByRecursion (λ fs. fs ≡ []) others → list_all is_empty others ≡ true
+all_empty_passes : (others : List (List Field)) → AllByRecursion (λ fs. fs ≡ []) others
+    → list_all is_empty others ≡ true
 all_empty_passes [] h = refl
 all_empty_passes (fs ∷ others) h = rw (h.0, all_empty_passes others h.1) refl
 
 -- and those that pass have ended
-all_empty_is : (others : List (List Field)) → list_all is_empty others ≡ true → AllByRecursion (λ fs. fs ≡ []) others
+all_empty_is : (others : List (List Field)) → list_all is_empty others ≡ true
+    → AllByRecursion (λ fs. fs ≡ []) others
 all_empty_is [] e = tt
 all_empty_is ([] ∷ others) e = (refl, all_empty_is others e)
 all_empty_is ((f ∷ fs) ∷ others) e = absurd cc
 
 -- an error at the end is that a subset has more fields
-ended_err : (i : ℕ) (others : List (List Field)) (b : Bool) (fault : WriteFault) → list_all is_empty others ≡ b → ◌≡◌ {A = Result (List Column) WriteFault} (cond b (Ok []) (Err (misfits.NotCompressible i))) (Err fault) → (AllByRecursion (λ fs. fs ≡ []) others → ⊥) × (fault ≡ misfits.NotCompressible i)
+ended_err : (i : ℕ) (others : List (List Field)) (b : Bool) (fault : WriteFault)
+    → list_all is_empty others ≡ b
+    → ◌≡◌ {A = Result (List Column) WriteFault} (cond b (Ok []) (Err (misfits.NotCompressible i)))
+    (Err fault) → (AllByRecursion (λ fs. fs ≡ []) others → ⊥) × (fault ≡ misfits.NotCompressible i)
 ended_err i others true fault e h = absurd cc
 ended_err i others false fault e h = ((λ all. let yes = all_empty_passes others all in let bad = sym yes ∙ e in cc), sym (err_is _ _ h))
 
 -- an error at a place is its own, or that of the others
-column_err : (i : ℕ) (b : Bool) (c : Column) (others : Result (List Column) WriteFault) (fault : WriteFault) → column_or i b c others ≡ Err fault → ((b ≡ false) × (fault ≡ misfits.NotCompressible i)) ⊎ ((b ≡ true) × (others ≡ Err fault))
+column_err : (i : ℕ) (b : Bool) (c : Column) (others : Result (List Column) WriteFault)
+    (fault : WriteFault) → column_or i b c others ≡ Err fault
+    → ((b ≡ false) × (fault ≡ misfits.NotCompressible i)) ⊎ ((b ≡ true) × (others ≡ Err fault))
 column_err i true c (Ok cs) fault e = absurd cc
 column_err i true c (Err g) fault e = inr (refl, ap (λ f. Err f) (err_is _ _ e))
 column_err i false c others fault e = inl (refl, sym (err_is _ _ e))
@@ -100,7 +114,8 @@ both_true : (a b : Bool) → a ≡ true → b ≡ true → (a && b) ≡ true
 both_true a b ea eb = rw ea eb
 
 -- the fault of columns is that of the first place at which subsets are apart
-pub columns_apart : (i : ℕ) (fs : List Field) (others : List (List Field)) (fault : WriteFault) → columns_of i fs others ≡ Err fault → FirstApart i fs others fault
+pub columns_apart : (i : ℕ) (fs : List Field) (others : List (List Field)) (fault : WriteFault)
+    → columns_of i fs others ≡ Err fault → FirstApart i fs others fault
 unfolding columns_of
 columns_apart i [] others fault e = ended_err i others _ fault refl e
 columns_apart i (f ∷ fs) others fault e =
@@ -112,21 +127,29 @@ columns_apart i (f ∷ fs) others fault e =
     ]
 
 -- a place at which they are apart is the fault
-apart_by : (i : ℕ) (b : Bool) (c : Column) (others : Result (List Column) WriteFault) (fault : WriteFault) → (b ≡ true → ⊥) → fault ≡ misfits.NotCompressible i → column_or i b c others ≡ Err fault
+apart_by : (i : ℕ) (b : Bool) (c : Column) (others : Result (List Column) WriteFault)
+    (fault : WriteFault) → (b ≡ true → ⊥) → fault ≡ misfits.NotCompressible i
+    → column_or i b c others ≡ Err fault
 apart_by i true c others fault none is = absurd (none refl)
 apart_by i false c others fault none is = ap (λ f. Err f) (sym is)
 
 -- so is one behind a place at which they are not
-apart_behind : (i : ℕ) (b : Bool) (c : Column) (others : Result (List Column) WriteFault) (fault : WriteFault) → b ≡ true → others ≡ Err fault → column_or i b c others ≡ Err fault
+apart_behind : (i : ℕ) (b : Bool) (c : Column) (others : Result (List Column) WriteFault)
+    (fault : WriteFault) → b ≡ true → others ≡ Err fault → column_or i b c others ≡ Err fault
 apart_behind i b c others fault is e = rw (is, e) refl
 
 -- so is a subset that has more fields
-ended_again : (i : ℕ) (others : List (List Field)) (b : Bool) (fault : WriteFault) → list_all is_empty others ≡ b → (AllByRecursion (λ fs. fs ≡ []) others → ⊥) → fault ≡ misfits.NotCompressible i → ◌≡◌ {A = Result (List Column) WriteFault} (cond b (Ok []) (Err (misfits.NotCompressible i))) (Err fault)
+ended_again : (i : ℕ) (others : List (List Field)) (b : Bool) (fault : WriteFault)
+    → list_all is_empty others ≡ b → (AllByRecursion (λ fs. fs ≡ []) others → ⊥)
+    → fault ≡ misfits.NotCompressible i
+    → ◌≡◌ {A = Result (List Column) WriteFault} (cond b (Ok []) (Err (misfits.NotCompressible i)))
+    (Err fault)
 ended_again i others true fault e none is = absurd (none (all_empty_is others e))
 ended_again i others false fault e none is = ap (λ f. Err f) (sym is)
 
 -- the first place at which subsets are apart is the fault
-pub apart_columns : (i : ℕ) (fs : List Field) (others : List (List Field)) (fault : WriteFault) → FirstApart i fs others fault → columns_of i fs others ≡ Err fault
+pub apart_columns : (i : ℕ) (fs : List Field) (others : List (List Field)) (fault : WriteFault)
+    → FirstApart i fs others fault → columns_of i fs others ≡ Err fault
 unfolding columns_of
 apart_columns i [] others fault h = ended_again i others _ fault refl h.0 h.1
 apart_columns i (f ∷ fs) others fault (inl h) =

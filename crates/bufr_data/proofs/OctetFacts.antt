@@ -5,7 +5,8 @@ use Rattle.std.specs.List.{list_all}
 use Rattle.std.proofs.lemmas.Bool.{lt-ltb}
 
 -- they are below 256
-pub octets_below : (xs : List ℕ) → ((i : ℕ) → Fits w8 (get_or xs i 0)) → list_all (λ x. nat_lt x 256) xs ≡ true
+pub octets_below : (xs : List ℕ) → ((i : ℕ) → Fits w8 (get_or xs i 0))
+    → list_all (λ x. nat_lt x 256) xs ≡ true
 octets_below [] each = refl
 octets_below (x ∷ xs) each =
     let first : Fits w8 x = each 0 in

@@ -22,14 +22,17 @@ head_is : (s t : Subset) (ss ts : List Subset) → s ∷ ss ≡ t ∷ ts → s �
 head_is s t ss ts e = cc
 
 -- columns of the same subsets are as many
-as_many : (s : Subset) (subsets : List Subset) (n m : ℕ) (a b : List Column) → s ∷ subsets ≡ subsets_from 0 (suc n) a → s ∷ subsets ≡ subsets_from 0 (suc m) b → length a ≡ length b
+as_many : (s : Subset) (subsets : List Subset) (n m : ℕ) (a b : List Column)
+    → s ∷ subsets ≡ subsets_from 0 (suc n) a → s ∷ subsets ≡ subsets_from 0 (suc m) b
+    → length a ≡ length b
 as_many s subsets n m a b e f =
     let fields : map (field_of 0) a ≡ map (field_of 0) b =
     ap (λ (t : Subset). t.fields) (sym (head_is _ _ _ _ e) ∙ head_is _ _ _ _ f) in
     sym (length-map a (field_of 0)) ∙ ap (λ (fs : List Field). length fs) fields ∙ length-map b (field_of 0)
 
 -- `PackedDataCanBeBare`
-pub packed_can_be_bare : (tree : Tree) (subsets : List Subset) (columns : List Column) (data_bits : List Bool) → PackedDataCanBeBare tree subsets columns data_bits
+pub packed_can_be_bare : (tree : Tree) (subsets : List Subset) (columns : List Column)
+    (data_bits : List Bool) → PackedDataCanBeBare tree subsets columns data_bits
 packed_can_be_bare tree [] columns data_bits h can = ([], (h.0, [], refl, refl))
 packed_can_be_bare tree (s ∷ subsets) columns data_bits h can =
     let many : length h.1.0 ≡ length columns = as_many s subsets (length subsets) (length subsets) h.1.0 columns h.1.1 can.0 in
@@ -37,12 +40,14 @@ packed_can_be_bare tree (s ∷ subsets) columns data_bits h can =
     (best_bits columns, (h.0, columns, (can.0, room, can.1), refl))
 
 -- a kind is a factor's or is not
-kind_decides : (k : Kind) (b : Bool) → same_kind k kinds.Count ≡ b → (k ≡ kinds.Count) ⊎ (k ≡ kinds.Count → ⊥)
+kind_decides : (k : Kind) (b : Bool) → same_kind k kinds.Count ≡ b
+    → (k ≡ kinds.Count) ⊎ (k ≡ kinds.Count → ⊥)
 kind_decides k true e = inl (kind_is k e)
 kind_decides k false e = inr (λ is. let bad : same_kind k kinds.Count ≡ true = ap (λ x. same_kind x kinds.Count) is in absurd (let worse = sym bad ∙ e in cc))
 
 -- a column of a narrow field can be written
-narrow_column : (c : Column) → HaveOneCount c → widest c.spec ≤ 63 → can_be_column c.spec c.values ≡ true
+narrow_column : (c : Column) → HaveOneCount c → widest c.spec ≤ 63
+    → can_be_column c.spec c.values ≡ true
 narrow_column c one short =
     elim (kind_decides c.spec.kind (same_kind c.spec.kind kinds.Count) refl) [
       | inl is ↦ let v = one is in can_passes c.spec c.values (same v.0 v.1)
@@ -50,13 +55,16 @@ narrow_column c one short =
     ]
 
 -- so can all columns of narrow fields
-narrow_columns : (n : ℕ) (columns : List Column) (front : List Bool) → AreColumns n columns front → AllByRecursion (λ f. widest f.spec ≤ 63) (map (field_of 0) columns) → AllByRecursion (CanBeWritten n) columns
+narrow_columns : (n : ℕ) (columns : List Column) (front : List Bool) → AreColumns n columns front
+    → AllByRecursion (λ f. widest f.spec ≤ 63) (map (field_of 0) columns)
+    → AllByRecursion (CanBeWritten n) columns
 narrow_columns n [] front are short = tt
 narrow_columns n (c ∷ cs) front are short =
     ((are.3, narrow_column c are.5 short.0), narrow_columns n cs are.1 are.6 short.1)
 
 -- `NarrowDataCanBePacked`
-pub narrow_can_be_packed : (tree : Tree) (subsets : List Subset) (data_bits : List Bool) → NarrowDataCanBePacked tree subsets data_bits
+pub narrow_can_be_packed : (tree : Tree) (subsets : List Subset) (data_bits : List Bool)
+    → NarrowDataCanBePacked tree subsets data_bits
 narrow_can_be_packed tree [] data_bits h short = ([], (refl, tt))
 narrow_can_be_packed tree (s ∷ subsets) data_bits h short =
     let fields : s.fields ≡ map (field_of 0) h.1.0 = ap (λ (t : Subset). t.fields) (head_is _ _ _ _ h.1.1) in

@@ -37,24 +37,30 @@ length-from k zero columns = refl
 length-from k (suc n) columns = ap suc (length-from (k + 1) n columns)
 
 -- what is answered of a mapped answer was answered before
-pub map_ok : {A B F : Type 0} (f : A → B) (o : Result A F) (y : B) → result_map f o ≡ Ok y → (x : A) × (o ≡ Ok x) × (f x ≡ y)
+pub map_ok : {A B F : Type 0} (f : A → B) (o : Result A F) (y : B) → result_map f o ≡ Ok y
+    → (x : A) × (o ≡ Ok x) × (f x ≡ y)
 map_ok f (Ok x) y e = (x, refl, ok_same _ _ e)
 map_ok f (Err g) y e = absurd cc
 
 -- each of the subsets of columns fits
-fit_from : AreUnrolled → (tree : Tree) (n k m : ℕ) (columns : List Column) (items : ℕ) → k + m ≤ n → ((j l : ℕ) → l < n → items_of j 1 (course tree 0) (map (field_of l) columns) ≡ Ok items) → AllByRecursion (FitsAlone tree) (subsets_from k m columns)
+fit_from : AreUnrolled → (tree : Tree) (n k m : ℕ) (columns : List Column) (items : ℕ) → k + m ≤ n
+    → ((j l : ℕ) → l < n → items_of j 1 (course tree 0) (map (field_of l) columns) ≡ Ok items)
+    → AllByRecursion (FitsAlone tree) (subsets_from k m columns)
 fit_from law tree n k zero columns items within asked = tt
 fit_from law tree n k (suc m) columns items within asked =
     ((items, counted_fit law tree 1 0 items (map (field_of k) columns) (omega arith) (asked 1 k (omega (arith, within)))), fit_from law tree n (k + 1) m columns items (omega (arith, within)) asked)
 
 -- columns that stand are packed subsets
-packed_from : (n : ℕ) (columns : List Column) (content : List Bool) → length columns * suc n ≤ most_values → AreColumns (suc n) columns content → Packed (subsets_from 0 (suc n) columns) content
+packed_from : (n : ℕ) (columns : List Column) (content : List Bool)
+    → length columns * suc n ≤ most_values → AreColumns (suc n) columns content
+    → Packed (subsets_from 0 (suc n) columns) content
 packed_from n columns content room are =
     let many : suc n ≡ length (subsets_from 0 (suc n) columns) = sym (length-from 0 (suc n) columns) in
     subst (λ l. (cs : List Column) × (subsets_from 0 (suc n) columns ≡ subsets_from 0 l cs) × (length cs * l ≤ most_values) × AreColumns l cs content) many (columns, refl, room, are)
 
 -- compressed subsets that are read fit and stand there
-pub compressed_stand : AreUnrolled → (tree : Tree) (n : ℕ) (front : List Bool) (found : List Subset × List Bool)
+pub compressed_stand : AreUnrolled
+    → (tree : Tree) (n : ℕ) (front : List Bool) (found : List Subset × List Bool)
     → subsets_in tree true n front ≡ Ok found → BeginsWithData tree true n front found
 compressed_stand law tree zero front found e =
     subst (λ h. BeginsWithData tree true 0 front h) (ok_same _ _ e) ([], (tt, refl), refl, refl)
@@ -70,7 +76,10 @@ cons_head : (s t : Subset) (ss ts : List Subset) → s ∷ ss ≡ t ∷ ts → s
 cons_head s t ss ts e = cc
 
 -- the step of `compressed_read`: some subset
-compressed_read_by : AreAllowed → (tree : Tree) (n : ℕ) (content rest : List Bool) (s : Subset) (subsets : List Subset) → length (s ∷ subsets) ≡ suc n → FitsAlone tree s → Packed (s ∷ subsets) content → subsets_in tree true (suc n) (content ++ rest) ≡ Ok (s ∷ subsets, rest)
+compressed_read_by : AreAllowed
+    → (tree : Tree) (n : ℕ) (content rest : List Bool) (s : Subset) (subsets : List Subset)
+    → length (s ∷ subsets) ≡ suc n → FitsAlone tree s → Packed (s ∷ subsets) content
+    → subsets_in tree true (suc n) (content ++ rest) ≡ Ok (s ∷ subsets, rest)
 compressed_read_by law tree n content rest s subsets many fit pack =
     let columns = pack.0 in
     let from : s ∷ subsets ≡ subsets_from 0 (suc n) columns = pack.1 ∙ ap (λ l. subsets_from 0 l columns) many in
@@ -83,7 +92,10 @@ compressed_read_by law tree n content rest s subsets many fit pack =
     ap (λ x. result_map (λ (f : ColumnsFound). (subsets_from 0 (suc n) f.columns, f.rest)) x) read ∙ ap (λ ss. Ok (ss, rest)) (sym from)
 
 -- packed subsets that fit are read
-pub compressed_read : AreAllowed → (tree : Tree) (n : ℕ) (content rest : List Bool) (subsets : List Subset) → length subsets ≡ n → AllByRecursion (FitsAlone tree) subsets → Packed subsets content → subsets_in tree true n (content ++ rest) ≡ Ok (subsets, rest)
+pub compressed_read : AreAllowed
+    → (tree : Tree) (n : ℕ) (content rest : List Bool) (subsets : List Subset) → length subsets ≡ n
+    → AllByRecursion (FitsAlone tree) subsets → Packed subsets content
+    → subsets_in tree true n (content ++ rest) ≡ Ok (subsets, rest)
 compressed_read law tree zero content rest [] many fit pack = ap (λ xs. Ok ([], xs ++ rest)) pack
 compressed_read law tree zero content rest (s ∷ subsets) many fit pack = absurd (omega (arith, many))
 compressed_read law tree (suc n) content rest [] many fit pack = absurd (omega (arith, many))
@@ -92,7 +104,8 @@ compressed_read law tree (suc n) content rest (s ∷ subsets) many fit pack = co
 -- ---- subsets and their columns
 
 -- a subset that has ended has no field
-none_like : (others : List (List Field)) (k : ℕ) → list_all is_empty others ≡ true → get_or others k [] ≡ []
+none_like : (others : List (List Field)) (k : ℕ) → list_all is_empty others ≡ true
+    → get_or others k [] ≡ []
 none_like [] k e = refl
 none_like ([] ∷ others) zero e = refl
 none_like ((f ∷ fs) ∷ others) zero e = absurd cc
@@ -100,13 +113,15 @@ none_like ([] ∷ others) (suc k) e = none_like others k e
 none_like ((f ∷ fs) ∷ others) (suc k) e = absurd cc
 
 -- the subset at an index begins like the first
-like_at : (f : Field) (others : List (List Field)) (k : ℕ) → list_all (begins_like f) others ≡ true → k < length others → begins_like f (get_or others k []) ≡ true
+like_at : (f : Field) (others : List (List Field)) (k : ℕ) → list_all (begins_like f) others ≡ true
+    → k < length others → begins_like f (get_or others k []) ≡ true
 like_at f [] k e short = absurd (omega (arith, short))
 like_at f (fs ∷ others) zero e short = and_first (begins_like f fs) (list_all (begins_like f) others) e
 like_at f (fs ∷ others) (suc k) e short = like_at f others k (and_second (begins_like f fs) (list_all (begins_like f) others) e) (omega (arith, short))
 
 -- such a subset begins with the first's descriptor and spec, and a value of its own
-like_is : (f : Field) (fs : List Field) → begins_like f fs ≡ true → fs ≡ record { fxy = f.fxy; spec = f.spec; raw = first_raw fs } ∷ drop 1 fs
+like_is : (f : Field) (fs : List Field) → begins_like f fs ≡ true
+    → fs ≡ record { fxy = f.fxy; spec = f.spec; raw = first_raw fs } ∷ drop 1 fs
 like_is f [] e = absurd cc
 like_is f (g ∷ gs) e =
     let same_d : f.fxy ≡ g.fxy = equal_is _ _ (and_first (f.fxy == g.fxy) (same_spec g.spec f.spec) e) in
@@ -122,30 +137,38 @@ pub record Taken (i : ℕ) (f : Field) (fs : List Field) (others : List (List Fi
   pub rest : columns_of (i + 1) fs (map (drop 1) others) ≡ Ok behind
 
 -- where columns are answered, this place is one and the others are
-column_taken : (i : ℕ) (b : Bool) (c : Column) (others : Result (List Column) WriteFault) (columns : List Column) → column_or i b c others ≡ Ok columns → (behind : List Column) × (b ≡ true) × (others ≡ Ok behind) × (columns ≡ c ∷ behind)
+column_taken : (i : ℕ) (b : Bool) (c : Column) (others : Result (List Column) WriteFault)
+    (columns : List Column) → column_or i b c others ≡ Ok columns
+    → (behind : List Column) × (b ≡ true) × (others ≡ Ok behind) × (columns ≡ c ∷ behind)
 column_taken i true c (Ok cs) columns e = (cs, refl, refl, sym (ok_same _ _ e))
 column_taken i true c (Err g) columns e = absurd cc
 column_taken i false c others columns e = absurd cc
 
 -- what is known where a place is a column
-pub taken : (i : ℕ) (f : Field) (fs : List Field) (others : List (List Field)) (columns : List Column) → columns_of i (f ∷ fs) others ≡ Ok columns → Taken i f fs others columns
+pub taken : (i : ℕ) (f : Field) (fs : List Field) (others : List (List Field))
+    (columns : List Column) → columns_of i (f ∷ fs) others ≡ Ok columns
+    → Taken i f fs others columns
 unfolding columns_of
 taken i f fs others columns e =
     let h = column_taken i (list_all (begins_like f) others && can_be_column f.spec (f.raw ∷ map first_raw others)) _ (columns_of (i + 1) fs (map (drop 1) others)) columns e in
     record { behind = h.0; is = h.3; like = and_first _ _ h.1; can = and_second (list_all (begins_like f) others) _ h.1; rest = h.2 }
 
 -- the step of `none_taken`
-none_taken_by : (i : ℕ) (b : Bool) (columns : List Column) → cond b (Ok []) (Err (misfits.NotCompressible i)) ≡ Ok columns → (b ≡ true) × (columns ≡ [])
+none_taken_by : (i : ℕ) (b : Bool) (columns : List Column)
+    → cond b (Ok []) (Err (misfits.NotCompressible i)) ≡ Ok columns → (b ≡ true) × (columns ≡ [])
 none_taken_by i true columns e = (refl, sym (ok_same _ _ e))
 none_taken_by i false columns e = absurd cc
 
 -- where columns end all subsets end
-pub none_taken : (i : ℕ) (others : List (List Field)) (columns : List Column) → columns_of i [] others ≡ Ok columns → (list_all is_empty others ≡ true) × (columns ≡ [])
+pub none_taken : (i : ℕ) (others : List (List Field)) (columns : List Column)
+    → columns_of i [] others ≡ Ok columns → (list_all is_empty others ≡ true) × (columns ≡ [])
 unfolding columns_of
 none_taken i others columns e = none_taken_by i (list_all is_empty others) columns e
 
 -- each subset has the fields of the columns at its index
-pub rows : (i : ℕ) (fs : List Field) (others : List (List Field)) (columns : List Column) → columns_of i fs others ≡ Ok columns → (k : ℕ) → k < 1 + length others → get_or (fs ∷ others) k [] ≡ map (field_of k) columns
+pub rows : (i : ℕ) (fs : List Field) (others : List (List Field)) (columns : List Column)
+    → columns_of i fs others ≡ Ok columns → (k : ℕ) → k < 1 + length others
+    → get_or (fs ∷ others) k [] ≡ map (field_of k) columns
 rows i [] others columns e zero short = ap (map (field_of 0)) (sym (none_taken i others columns e).1)
 rows i [] others columns e (suc k) short =
     let h = none_taken i others columns e in none_like others k h.0 ∙ ap (map (field_of (suc k))) (sym h.1)
@@ -164,7 +187,10 @@ rows i (f ∷ fs) others columns e (suc k) short =
     here ∙ (λ t. (record { fxy = f.fxy; spec = f.spec; raw = sym own t }) ∷ after t) ∙ ap (map (field_of (suc k))) (sym h.is)
 
 -- subsets whose fields are those of columns are the subsets of these
-pub each_row : (k : ℕ) (subsets : List Subset) (columns : List Column) → ((l : ℕ) → l < length subsets → get_or (map (λ (t : Subset). t.fields) subsets) l [] ≡ map (field_of (k + l)) columns) → subsets ≡ subsets_from k (length subsets) columns
+pub each_row : (k : ℕ) (subsets : List Subset) (columns : List Column)
+    → ((l : ℕ) → l < length subsets
+    → get_or (map (λ (t : Subset). t.fields) subsets) l [] ≡ map (field_of (k + l)) columns)
+    → subsets ≡ subsets_from k (length subsets) columns
 each_row k [] columns h = refl
 each_row k (s ∷ subsets) columns h =
     let here : s.fields ≡ map (field_of k) columns = h 0 (omega arith) ∙ ap (λ n. map (field_of n) columns) (omega arith) in
@@ -182,12 +208,16 @@ abbrev Formed : ℕ → List Column → Type 0
 Formed n columns = (k : ℕ) → k < n → AreFormed (map (field_of k) columns)
 
 -- values that have their form at each index have it all
-all_formed : (spec : Spec) (values : List Raw) → ((k : ℕ) → k < length values → HasForm spec (get_or values k (Number 0))) → AllForm spec values
+all_formed : (spec : Spec) (values : List Raw)
+    → ((k : ℕ) → k < length values → HasForm spec (get_or values k (Number 0)))
+    → AllForm spec values
 all_formed spec [] h = tt
 all_formed spec (v ∷ vs) h = (h 0 (omega arith), all_formed spec vs (λ k short. h (suc k) (omega (arith, short))))
 
 -- the best columns of places are columns
-are_columns : (i : ℕ) (fs : List Field) (others : List (List Field)) (columns : List Column) → columns_of i fs others ≡ Ok columns → Formed (1 + length others) columns → AreColumns (1 + length others) columns (flat_map (λ c. best c.spec c.values) columns)
+are_columns : (i : ℕ) (fs : List Field) (others : List (List Field)) (columns : List Column)
+    → columns_of i fs others ≡ Ok columns → Formed (1 + length others) columns
+    → AreColumns (1 + length others) columns (flat_map (λ c. best c.spec c.values) columns)
 are_columns i [] others columns e formed =
     let none = (none_taken i others columns e).1 in
     subst (λ cs. AreColumns (1 + length others) cs (flat_map (λ c. best c.spec c.values) cs)) (sym none) refl
@@ -205,14 +235,16 @@ are_columns i (f ∷ fs) others columns e formed =
     (best f.spec values, flat_map (λ c. best c.spec c.values) h.behind, refl, size, best_column f.spec values (omega (arith, size)) form h.can, one_count f.spec values h.can, behind)
 
 -- subsets that are counted one by one fit one by one
-pub each_fit : AreUnrolled → (tree : Tree) (j : ℕ) (subsets : List Subset) (u : Unit {0}) → each_fits tree j subsets ≡ Ok u → AllByRecursion (FitsAlone tree) subsets
+pub each_fit : AreUnrolled → (tree : Tree) (j : ℕ) (subsets : List Subset) (u : Unit {0})
+    → each_fits tree j subsets ≡ Ok u → AllByRecursion (FitsAlone tree) subsets
 each_fit law tree j [] u e = tt
 each_fit law tree j (s ∷ subsets) u e =
     let h = bind_ok (items_of j 1 (course tree 0) s.fields) _ u e in
     ((h.0, counted_fit law tree j 0 h.0 s.fields (omega arith) h.1), each_fit law tree (j + 1) subsets u h.2)
 
 -- the subset at an index has raw values of their form
-formed_at : (tree : Tree) (subsets : List Subset) (k : ℕ) → AllByRecursion (FitsAlone tree) subsets → k < length subsets → AreFormed (get_or (map (λ (t : Subset). t.fields) subsets) k [])
+formed_at : (tree : Tree) (subsets : List Subset) (k : ℕ) → AllByRecursion (FitsAlone tree) subsets
+    → k < length subsets → AreFormed (get_or (map (λ (t : Subset). t.fields) subsets) k [])
 formed_at tree [] k fit short = absurd (omega (arith, short))
 formed_at tree (s ∷ subsets) zero fit short = fit.0.1.1.formed
 formed_at tree (s ∷ subsets) (suc k) fit short = formed_at tree subsets k fit.1 (omega (arith, short))
@@ -222,7 +254,10 @@ abbrev pub WrittenHold : Tree → List Subset → List Bool → Type 0
 WrittenHold tree subsets content = AllByRecursion (FitsAlone tree) subsets × Packed subsets content
 
 -- the best columns of subsets that fit are packed subsets
-written_pack : (tree : Tree) (s : Subset) (subsets : List Subset) (columns : List Column) (content : List Bool) → AllByRecursion (FitsAlone tree) (s ∷ subsets) → columns_of 1 s.fields (map (λ (t : Subset). t.fields) subsets) ≡ Ok columns → packed (length (s ∷ subsets)) columns ≡ Ok content → Packed (s ∷ subsets) content
+written_pack : (tree : Tree) (s : Subset) (subsets : List Subset) (columns : List Column)
+    (content : List Bool) → AllByRecursion (FitsAlone tree) (s ∷ subsets)
+    → columns_of 1 s.fields (map (λ (t : Subset). t.fields) subsets) ≡ Ok columns
+    → packed (length (s ∷ subsets)) columns ≡ Ok content → Packed (s ∷ subsets) content
 written_pack tree s subsets columns content fit e p =
     let others = map (λ (t : Subset). t.fields) subsets in
     let many : length others ≡ length subsets = length-map subsets (λ (t : Subset). t.fields) in
@@ -236,7 +271,8 @@ written_pack tree s subsets columns content fit e p =
     (columns, whole, ltb-false _ _ g.0, subst (λ b. AreColumns (length (s ∷ subsets)) columns b) bits_are (subst (λ l. AreColumns l columns (flat_map (λ c. best c.spec c.values) columns)) size are))
 
 -- so what is written compressed holds its subsets
-pub compressed_hold : AreUnrolled → (tree : Tree) (subsets : List Subset) (content : List Bool) → written_bits tree true subsets ≡ Ok content → WrittenHold tree subsets content
+pub compressed_hold : AreUnrolled → (tree : Tree) (subsets : List Subset) (content : List Bool)
+    → written_bits tree true subsets ≡ Ok content → WrittenHold tree subsets content
 compressed_hold law tree [] content e = (tt, sym (ok_same _ _ e))
 compressed_hold law tree (s ∷ subsets) content e =
     let a = bind_ok (each_fits tree 1 (s ∷ subsets)) _ content e in

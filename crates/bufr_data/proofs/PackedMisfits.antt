@@ -1,5 +1,5 @@
--- The fault of subsets that are written compressed is the first misfit: for the law on what messages
--- know of data (`data_hold_subsets`).
+-- The fault of subsets that are written compressed is the first misfit: for the law on what
+-- messages know of data (`data_hold_subsets`).
 use Rattle.std.proofs.Common.{◌≡◌, ℕ, suc, ◌+◌, ◌*◌, ◌<◌, true, List, [], ◌∷◌, ◌++◌, length, map, Ok, Err, refl, sym, ap, subst, ◌∙◌, arith, inl, inr}
 use Rattle.std.specs.Prelude.{nat_lt}
 use Rattle.std.specs.List.{AllByRecursion}
@@ -32,7 +32,8 @@ MisfitFrom tree j subsets fault =
     × FirstMisfit tree (j + length before) 0 s.fields fault
 
 -- the fault of subsets that are counted one by one is the first misfit
-each_misfit : Laws → (tree : Tree) (j : ℕ) (subsets : List Subset) (fault : WriteFault) → each_fits tree j subsets ≡ Err fault → MisfitFrom tree j subsets fault
+each_misfit : Laws → (tree : Tree) (j : ℕ) (subsets : List Subset) (fault : WriteFault)
+    → each_fits tree j subsets ≡ Err fault → MisfitFrom tree j subsets fault
 each_misfit laws tree j [] fault e = absurd cc
 each_misfit laws tree j (s ∷ subsets) fault e =
     elim (bind_err (items_of j 1 (course tree 0) s.fields) _ fault e) [
@@ -46,7 +47,11 @@ each_misfit laws tree j (s ∷ subsets) fault e =
     ]
 
 -- and the first misfit is their fault
-misfit_each : Laws → (tree : Tree) (j : ℕ) (before : List Subset) (s : Subset) (behind : List Subset) (fault : WriteFault) → AllByRecursion (FitsAlone tree) before → FirstMisfit tree (j + length before) 0 s.fields fault → each_fits tree j (before ++ s ∷ behind) ≡ Err fault
+misfit_each : Laws
+    → (tree : Tree) (j : ℕ) (before : List Subset) (s : Subset) (behind : List Subset)
+    (fault : WriteFault) → AllByRecursion (FitsAlone tree) before
+    → FirstMisfit tree (j + length before) 0 s.fields fault
+    → each_fits tree j (before ++ s ∷ behind) ≡ Err fault
 misfit_each laws tree j [] s behind fault fit h =
     let same : j + 0 ≡ j = omega arith in
     rw (first_write_refused laws tree j 0 s.fields fault (omega arith) (subst (λ k. FirstMisfit tree k 0 s.fields fault) same h)) refl
@@ -55,7 +60,10 @@ misfit_each laws tree j (t ∷ before) s behind fault fit h =
     rw (fitting_counted laws.allowed tree j 0 fit.0.0 t.fields fit.0.1) (misfit_each laws tree (j + 1) before s behind fault fit.1 (subst (λ k. FirstMisfit tree k 0 s.fields fault) same h))
 
 -- the fault of packed columns is that they are too many
-too_many_err : (tree : Tree) (s : Subset) (subsets : List Subset) (columns : List Column) (fault : WriteFault) → AllByRecursion (FitsAlone tree) (s ∷ subsets) → columns_of 1 s.fields (map (λ (t : Subset). t.fields) subsets) ≡ Ok columns → packed (length (s ∷ subsets)) columns ≡ Err fault → FirstUnpacked tree (s ∷ subsets) fault
+too_many_err : (tree : Tree) (s : Subset) (subsets : List Subset) (columns : List Column)
+    (fault : WriteFault) → AllByRecursion (FitsAlone tree) (s ∷ subsets)
+    → columns_of 1 s.fields (map (λ (t : Subset). t.fields) subsets) ≡ Ok columns
+    → packed (length (s ∷ subsets)) columns ≡ Err fault → FirstUnpacked tree (s ∷ subsets) fault
 too_many_err tree s subsets columns fault fit e p =
     let others = map (λ (t : Subset). t.fields) subsets in
     let many : length others ≡ length subsets = length-map subsets (λ (t : Subset). t.fields) in
@@ -68,7 +76,8 @@ too_many_err tree s subsets columns fault fit e p =
     ]
 
 -- the fault of what is written compressed is the first
-pub unpacked_is : Laws → (tree : Tree) (subsets : List Subset) (fault : WriteFault) → written_bits tree true subsets ≡ Err fault → FirstUnpacked tree subsets fault
+pub unpacked_is : Laws → (tree : Tree) (subsets : List Subset) (fault : WriteFault)
+    → written_bits tree true subsets ≡ Err fault → FirstUnpacked tree subsets fault
 unpacked_is laws tree [] fault e = absurd cc
 unpacked_is laws tree (s ∷ subsets) fault e =
     elim (bind_err (each_fits tree 1 (s ∷ subsets)) _ fault e) [
@@ -82,14 +91,21 @@ unpacked_is laws tree (s ∷ subsets) fault e =
     ]
 
 -- columns that are too many are refused so
-too_many_again : Laws → (tree : Tree) (subsets : List Subset) (columns : List Column) (fault : WriteFault) → AllByRecursion (FitsAlone tree) subsets → 0 < length subsets → subsets ≡ subsets_from 0 (length subsets) columns → AllByRecursion (CanBeWritten (length subsets)) columns → most_values < length columns * length subsets → fault ≡ misfits.TooLarge → written_bits tree true subsets ≡ Err fault
+too_many_again : Laws
+    → (tree : Tree) (subsets : List Subset) (columns : List Column) (fault : WriteFault)
+    → AllByRecursion (FitsAlone tree) subsets → 0 < length subsets
+    → subsets ≡ subsets_from 0 (length subsets) columns
+    → AllByRecursion (CanBeWritten (length subsets)) columns
+    → most_values < length columns * length subsets → fault ≡ misfits.TooLarge
+    → written_bits tree true subsets ≡ Err fault
 too_many_again laws tree [] columns fault fit some whole can past is = absurd (omega (arith, some))
 too_many_again laws tree (s ∷ subsets) columns fault fit some whole can past is =
     let found : columns_of_all (s ∷ subsets) ≡ Ok columns = ap columns_of_all whole ∙ columns_written 1 (length subsets) columns can in
     rw (each_counted laws.allowed tree 1 (s ∷ subsets) fit, found, lt-ltb most_values (length columns * length (s ∷ subsets)) past) (ap (λ f. Err f) (sym is))
 
 -- and the first fault is answered
-pub unpacked_again : Laws → (tree : Tree) (subsets : List Subset) (fault : WriteFault) → FirstUnpacked tree subsets fault → written_bits tree true subsets ≡ Err fault
+pub unpacked_again : Laws → (tree : Tree) (subsets : List Subset) (fault : WriteFault)
+    → FirstUnpacked tree subsets fault → written_bits tree true subsets ≡ Err fault
 unpacked_again laws tree subsets fault (misfit before s behind is fit h) =
     ap (written_bits tree true) is ∙ rw (misfit_each laws tree 1 before s behind fault fit h) refl
 unpacked_again laws tree subsets fault (apart s others fit is h) =

@@ -38,53 +38,70 @@ eight_times : (b w : ℕ) → b ≡ 8 * w → b ≡ w * 8
 eight_times b w e = omega (arith, e)
 
 -- a text that is there is passed
-pub text_passes : (i : ℕ) (spec : Spec) (front rest : List Bool) (b w : ℕ) → spec.kind ≡ kinds.Text → b ≡ 8 * w → w ≡ spec.width / 8 → b ≤ length front → rest ≡ drop b front → PassesRaw i spec front rest
+pub text_passes : (i : ℕ) (spec : Spec) (front rest : List Bool) (b w : ℕ) → spec.kind ≡ kinds.Text
+    → b ≡ 8 * w → w ≡ spec.width / 8 → b ≤ length front → rest ≡ drop b front
+    → PassesRaw i spec front rest
 text_passes i spec front rest b w is times eighth enough behind =
     let size : b ≡ spec.width / 8 * 8 = eight_times b w times ∙ ap (λ n. n * 8) eighth in
     (_, ap (raw_or_ends 1 i) (minimum_there spec front rest b is size enough behind))
 
 -- one that is not ends the data
-pub text_ends : (i : ℕ) (spec : Spec) (front : List Bool) (b w : ℕ) → spec.kind ≡ kinds.Text → b ≡ 8 * w → w ≡ spec.width / 8 → length front < b → raw_or_ends 1 i (raw_at spec front) ≡ Err (faults.DataEnds 1 i)
+pub text_ends : (i : ℕ) (spec : Spec) (front : List Bool) (b w : ℕ) → spec.kind ≡ kinds.Text
+    → b ≡ 8 * w → w ≡ spec.width / 8 → length front < b
+    → raw_or_ends 1 i (raw_at spec front) ≡ Err (faults.DataEnds 1 i)
 text_ends i spec front b w is times eighth short =
     let size : b ≡ spec.width / 8 * 8 = eight_times b w times ∙ ap (λ n. n * 8) eighth in
     let less : length front < spec.width / 8 * 8 = omega (arith, size, short) in
     rw (text_raw spec front is, octets_none (spec.width / 8) front less) refl
 
 -- a field of 64 bits at most has a number where its bits are there
-there : (width : ℕ) (front : List Bool) → width ≤ 64 → field_number_at width front ≡ number_at width front
+there : (width : ℕ) (front : List Bool) → width ≤ 64
+    → field_number_at width front ≡ number_at width front
 there width front few = rw (le-leb width 64 few) refl
 
 -- a number is the front of enough bits
-number_found : (width : ℕ) (front : List Bool) → width ≤ length front → number_at width front ≡ Some (number (take width front), drop width front)
+number_found : (width : ℕ) (front : List Bool) → width ≤ length front
+    → number_at width front ≡ Some (number (take width front), drop width front)
 unfolding number_at
 number_found width front long = rw (le-ltb (length front) width long) refl
 
 -- too few bits have none
-number_missing : (width : ℕ) (front : List Bool) → length front < width → number_at width front ≡ None
+number_missing : (width : ℕ) (front : List Bool) → length front < width
+    → number_at width front ≡ None
 unfolding number_at
 number_missing width front short = rw (lt-ltb (length front) width short) refl
 
 -- a raw value of no text is a number
-raw_number : (spec : Spec) (front : List Bool) → same_kind spec.kind kinds.Text ≡ false → spec.width ≤ 64 → raw_at spec front ≡ option_map (λ x. (Number x.0, x.1)) (number_at spec.width front)
+raw_number : (spec : Spec) (front : List Bool) → same_kind spec.kind kinds.Text ≡ false
+    → spec.width ≤ 64
+    → raw_at spec front ≡ option_map (λ x. (Number x.0, x.1)) (number_at spec.width front)
 raw_number spec front other few = number_raw spec.kind spec.width front other ∙ ap (option_map (λ x. (Number x.0, x.1))) (there spec.width front few)
 
 -- one that is there is read
-pub number_taken : (i : ℕ) (spec : Spec) (front rest : List Bool) (n : ℕ) → same_kind spec.kind kinds.Text ≡ false → spec.width ≤ 64 → number_at spec.width front ≡ Some (n, rest) → raw_or_ends 1 i (raw_at spec front) ≡ Ok (Number n, rest)
+pub number_taken : (i : ℕ) (spec : Spec) (front rest : List Bool) (n : ℕ)
+    → same_kind spec.kind kinds.Text ≡ false → spec.width ≤ 64
+    → number_at spec.width front ≡ Some (n, rest)
+    → raw_or_ends 1 i (raw_at spec front) ≡ Ok (Number n, rest)
 number_taken i spec front rest n other few found =
     ap (raw_or_ends 1 i) (raw_number spec front other few ∙ ap (option_map (λ x. (Number x.0, x.1))) found)
 
 -- one that is not ends the data
-pub number_short : (i : ℕ) (spec : Spec) (front : List Bool) → same_kind spec.kind kinds.Text ≡ false → spec.width ≤ 64 → number_at spec.width front ≡ None → raw_or_ends 1 i (raw_at spec front) ≡ Err (faults.DataEnds 1 i)
+pub number_short : (i : ℕ) (spec : Spec) (front : List Bool)
+    → same_kind spec.kind kinds.Text ≡ false → spec.width ≤ 64 → number_at spec.width front ≡ None
+    → raw_or_ends 1 i (raw_at spec front) ≡ Err (faults.DataEnds 1 i)
 number_short i spec front other few none =
     ap (raw_or_ends 1 i) (raw_number spec front other few ∙ ap (option_map (λ x. (Number x.0, x.1))) none)
 
 -- so does one of more than 64 bits
-pub number_wide : (i : ℕ) (spec : Spec) (front : List Bool) → same_kind spec.kind kinds.Text ≡ false → 64 < spec.width → raw_or_ends 1 i (raw_at spec front) ≡ Err (faults.DataEnds 1 i)
+pub number_wide : (i : ℕ) (spec : Spec) (front : List Bool) → same_kind spec.kind kinds.Text ≡ false
+    → 64 < spec.width → raw_or_ends 1 i (raw_at spec front) ≡ Err (faults.DataEnds 1 i)
 number_wide i spec front other wide =
     rw (number_raw spec.kind spec.width front other, lt-leb spec.width 64 wide) refl
 
 -- a number that is there is passed
-pub number_passes : (i : ℕ) (spec : Spec) (front rest : List Bool) (b : ℕ) → IsOther spec → spec.width ≤ 64 → b ≡ spec.width → b ≤ length front → rest ≡ drop b front → PassesRaw i spec front rest
+pub number_passes : (i : ℕ) (spec : Spec) (front rest : List Bool) (b : ℕ) → IsOther spec
+    → spec.width ≤ 64 → b ≡ spec.width → b ≤ length front → rest ≡ drop b front
+    → PassesRaw i spec front rest
 number_passes i spec front rest b other few size enough behind =
     let long : spec.width ≤ length front = omega (arith, size, enough) in
     let same : drop spec.width front ≡ rest = sym (behind ∙ ap (λ w. drop w front) size) in (
@@ -94,20 +111,25 @@ number_passes i spec front rest b other few size enough behind =
     )
 
 -- one that is not ends the data
-pub number_ends : (i : ℕ) (spec : Spec) (front : List Bool) (b : ℕ) → IsOther spec → spec.width ≤ 64 → b ≡ spec.width → length front < b → raw_or_ends 1 i (raw_at spec front) ≡ Err (faults.DataEnds 1 i)
+pub number_ends : (i : ℕ) (spec : Spec) (front : List Bool) (b : ℕ) → IsOther spec → spec.width ≤ 64
+    → b ≡ spec.width → length front < b
+    → raw_or_ends 1 i (raw_at spec front) ≡ Err (faults.DataEnds 1 i)
 number_ends i spec front b other few size short =
     let less : length front < spec.width = omega (arith, size, short) in
     number_short i spec front (other_kind spec.kind other) few (number_missing spec.width front less)
 
 -- so does one of more than 64 bits
-pub other_wide : (i : ℕ) (spec : Spec) (front : List Bool) → IsOther spec → 64 < spec.width → raw_or_ends 1 i (raw_at spec front) ≡ Err (faults.DataEnds 1 i)
+pub other_wide : (i : ℕ) (spec : Spec) (front : List Bool) → IsOther spec → 64 < spec.width
+    → raw_or_ends 1 i (raw_at spec front) ≡ Err (faults.DataEnds 1 i)
 other_wide i spec front other wide = number_wide i spec front (other_kind spec.kind other) wide
 
 -- ---- field after field
 
 -- one field more was passed
-pub one_passed : (whole : Result SubsetRead ReadFault) (i j : ℕ) (c next : Course) (front rest : List Bool) (items : ℕ) → j ≡ i + 1
-    → (fields : List Field) × (whole ≡ behind_fields fields (fields_at 1 i c front)) → PassesField i c front true next items rest
+pub one_passed : (whole : Result SubsetRead ReadFault) (i j : ℕ) (c next : Course)
+    (front rest : List Bool) (items : ℕ) → j ≡ i + 1
+    → (fields : List Field) × (whole ≡ behind_fields fields (fields_at 1 i c front))
+    → PassesField i c front true next items rest
     → (fields : List Field) × (whole ≡ behind_fields fields (fields_at 1 j next rest))
 one_passed whole i j c next front rest items index so_far step = (
   so_far.0 ++ step.0 ∷ [],
@@ -116,14 +138,16 @@ one_passed whole i j c next front rest items index so_far step = (
 )
 
 -- all were passed
-pub all_passed : (whole : Result SubsetRead ReadFault) (i : ℕ) (c next : Course) (front rest : List Bool) (items : ℕ)
-    → (fields : List Field) × (whole ≡ behind_fields fields (fields_at 1 i c front)) → PassesField i c front false next items rest
-    → PassesSubset whole items rest
+pub all_passed : (whole : Result SubsetRead ReadFault) (i : ℕ) (c next : Course)
+    (front rest : List Bool) (items : ℕ)
+    → (fields : List Field) × (whole ≡ behind_fields fields (fields_at 1 i c front))
+    → PassesField i c front false next items rest → PassesSubset whole items rest
 all_passed whole i c next front rest items so_far step =
     (so_far.0 ++ [], so_far.1 ∙ ap (behind_fields so_far.0) step)
 
 -- the next field cannot be passed
-pub one_refused : (whole : Result SubsetRead ReadFault) (i : ℕ) (c : Course) (front : List Bool) (fault : ReadFault)
-    → (fields : List Field) × (whole ≡ behind_fields fields (fields_at 1 i c front)) → fields_at 1 i c front ≡ Err fault
-    → whole ≡ Err fault
+pub one_refused : (whole : Result SubsetRead ReadFault) (i : ℕ) (c : Course) (front : List Bool)
+    (fault : ReadFault)
+    → (fields : List Field) × (whole ≡ behind_fields fields (fields_at 1 i c front))
+    → fields_at 1 i c front ≡ Err fault → whole ≡ Err fault
 one_refused whole i c front fault so_far e = so_far.1 ∙ ap (behind_fields so_far.0) e

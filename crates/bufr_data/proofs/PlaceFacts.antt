@@ -1,5 +1,5 @@
--- The index keeps a place for each column that is read, one by one along the course: for the index of
--- compressed data (`Columns::index`).
+-- The index keeps a place for each column that is read, one by one along the course: for the index
+-- of compressed data (`Columns::index`).
 use Rattle.std.proofs.Common.{◌≡◌, ℕ, zero, suc, ◌+◌, ◌*◌, ◌^◌, ◌<◌, ◌≤◌, Bool, true, false, cond, List, [], ◌∷◌, ◌++◌, length, map, drop, Some, None, Result, Ok, Err, refl, sym, ap, subst, ◌∙◌, arith, append_assoc, append-nil, length-append}
 use Rattle.std.specs.Prelude.{◌&&◌, not, IsOk, nat_lt}
 use Rattle.std.specs.List.{flat_map}
@@ -28,7 +28,7 @@ use Rattle.bufr_expand.specs.Steady.{IsSteady}
 use Rattle.bufr_data.specs.Steady.{IsReady}
 use Rattle.bufr_data.specs.Columns.{Column, subset_of, subsets_from, IsColumn, equal, numbers as number_column, texts as text_column}
 use Rattle.bufr_data.specs.ColumnReading.{column_at, agreeing, count_of, all_equal, ColumnsFound, within_limit, column_then, columns_at}
-use Rattle.bufr_data.specs.Passing.{PassesColumn, PassesFactor, agreed_at}
+use Rattle.bufr_data.specs.PassedColumns.{PassesColumn, PassesFactor, agreed_at}
 use Rattle.bufr_data.specs.Indexed.{Ahead, index_at, values_of, column_from, Opens, AllOpen, behind_columns, PassesPlace}
 use Rattle.bufr_data.specs.Data.{subsets_in}
 use Rattle.bufr_data.proofs.PlainFacts.{bind_ok, length-bits}
@@ -41,13 +41,16 @@ use Rattle.bufr_data.specs.Limits.{most_values}
 -- ---- the column at a place
 
 -- a column is read whatever its field is called
-open_place : (octets : List ℕ) (n i bit : ℕ) (d : ℕ) (spec : Spec) (front : List Bool) (x : List Raw × List Bool) → column_at n i spec front ≡ Ok x → front ≡ drop bit (bits octets) → column_at n 1 spec (drop bit (bits octets)) ≡ Ok x
+open_place : (octets : List ℕ) (n i bit : ℕ) (d : ℕ) (spec : Spec) (front : List Bool)
+    (x : List Raw × List Bool) → column_at n i spec front ≡ Ok x → front ≡ drop bit (bits octets)
+    → column_at n 1 spec (drop bit (bits octets)) ≡ Ok x
 open_place octets n i bit d spec front x e is =
     let found = column_found n i spec front x e in
     ap (column_at n 1 spec) (sym is ∙ found.3) ∙ column_again n 1 spec x.0 found.0 x.1 found.1 found.2
 
 -- a column has six bits at least, so its place is inside the octets
-column_bits : (spec : Spec) (values : List Raw) (column : List Bool) → IsColumn spec values column → 6 ≤ length column
+column_bits : (spec : Spec) (values : List Raw) (column : List Bool) → IsColumn spec values column
+    → 6 ≤ length column
 column_bits spec values column (equal minimum form all is) =
     let size = ap length is ∙ length-append (raw_bits spec.width minimum) (bin 6 0) in omega (arith, size, length-bin 6 0)
 column_bits spec values column (number_column minimum k xs form some few each is) =
@@ -58,7 +61,8 @@ column_bits spec values column (text_column ignored k own form some few short ea
     omega (arith, size, length-append (bits ignored) (bin 6 k), length-bin 6 k)
 
 -- a place at which a column is read lies within the octets
-place_inside : (octets : List ℕ) (n bit : ℕ) (spec : Spec) (x : List Raw × List Bool) → column_at n 1 spec (drop bit (bits octets)) ≡ Ok x → bit ≤ 8 * length octets
+place_inside : (octets : List ℕ) (n bit : ℕ) (spec : Spec) (x : List Raw × List Bool)
+    → column_at n 1 spec (drop bit (bits octets)) ≡ Ok x → bit ≤ 8 * length octets
 place_inside octets n bit spec x e =
     let found = column_found n 1 spec (drop bit (bits octets)) x e in
     let size = ap length found.3 ∙ length-append found.0 x.1 in
@@ -72,74 +76,110 @@ ok_is (Err f) x e = absurd cc
 -- ---- one step
 
 -- within the limit on values the answer is what is behind it
-within_is : {A : Type 0} (n i : ℕ) (r : Result A ReadFault) → within_limit {A = Unit {0}} n i (Ok tt) ≡ Ok tt → within_limit n i r ≡ r
+within_is : {A : Type 0} (n i : ℕ) (r : Result A ReadFault)
+    → within_limit {A = Unit {0}} n i (Ok tt) ≡ Ok tt → within_limit n i r ≡ r
 within_is n i r e = within_by (nat_lt most_values (i * n)) r e
   where
-    within_by : {A : Type 0} (b : Bool) (r : Result A ReadFault) → ◌≡◌ {A = Result (Unit {0}) ReadFault} (cond b (Err faults.TooLarge) (Ok tt)) (Ok tt) → cond b (Err faults.TooLarge) r ≡ r
+    within_by : {A : Type 0} (b : Bool) (r : Result A ReadFault)
+        → ◌≡◌ {A = Result (Unit {0}) ReadFault} (cond b (Err faults.TooLarge) (Ok tt)) (Ok tt)
+        → cond b (Err faults.TooLarge) r ≡ r
     within_by true r e = absurd cc
     within_by false r e = refl
 
 -- past this limit it is its fault
-past_is : {A : Type 0} (n i : ℕ) (r : Result A ReadFault) (fault : ReadFault) → within_limit {A = Unit {0}} n i (Ok tt) ≡ Err fault → within_limit n i r ≡ Err fault
+past_is : {A : Type 0} (n i : ℕ) (r : Result A ReadFault) (fault : ReadFault)
+    → within_limit {A = Unit {0}} n i (Ok tt) ≡ Err fault → within_limit n i r ≡ Err fault
 past_is n i r fault e = past_by (nat_lt most_values (i * n)) r fault e
   where
-    past_by : {A : Type 0} (b : Bool) (r : Result A ReadFault) (fault : ReadFault) → ◌≡◌ {A = Result (Unit {0}) ReadFault} (cond b (Err faults.TooLarge) (Ok tt)) (Err fault) → cond b (Err faults.TooLarge) r ≡ Err fault
+    past_by : {A : Type 0} (b : Bool) (r : Result A ReadFault) (fault : ReadFault)
+        → ◌≡◌ {A = Result (Unit {0}) ReadFault} (cond b (Err faults.TooLarge) (Ok tt)) (Err fault)
+        → cond b (Err faults.TooLarge) r ≡ Err fault
     past_by true r fault e = let same : faults.TooLarge ≡ fault = cc in ap (λ f. Err f) same
     past_by false r fault e = absurd cc
 
 -- a column that a course asks for is tested for the limit and read
-asked_at : (n i met d : ℕ) (spec : Spec) (more : ℕ → Course) (front : List Bool) → columns_at n i (asks met d spec more) front ≡ within_limit n i (agreed_at n i spec front >>= column_then d spec (λ count rest. columns_at n (i + 1) (more count) rest))
+asked_at : (n i met d : ℕ) (spec : Spec) (more : ℕ → Course) (front : List Bool)
+    → columns_at n i (asks met d spec more) front
+    ≡ within_limit n i
+    (agreed_at n i spec front
+    >>= column_then d spec (λ count rest. columns_at n (i + 1) (more count) rest))
 unfolding columns_at
 asked_at n i met d spec more front = refl
 
 -- where the walk stops at a fault, the columns are refused for it
-pub stop_refused : (old new : Walk) (n i : ℕ) (front : List Bool) (why : WalkFault) (fault : ReadFault) → Goes (left old) (Err why) new → within_limit {A = ColumnsFound} n i (stopped why) ≡ Err fault → columns_at n i (left old) front ≡ Err fault
+pub stop_refused : (old new : Walk) (n i : ℕ) (front : List Bool) (why : WalkFault)
+    (fault : ReadFault) → Goes (left old) (Err why) new
+    → within_limit {A = ColumnsFound} n i (stopped why) ≡ Err fault
+    → columns_at n i (left old) front ≡ Err fault
 unfolding columns_at
 stop_refused old new n i front why fault g e =
     let s = stops_there (left old) why new g in ap (λ c. columns_at n i c front) s.1 ∙ e
 
 -- where the walk ends, the columns end
-pub end_passes : (old new : Walk) (n i : ℕ) (octets : List ℕ) (front : List Bool) → Goes (left old) (Ok steps.End) new → PassesPlace n i (left old) octets front None (left new) front
+pub end_passes : (old new : Walk) (n i : ℕ) (octets : List ℕ) (front : List Bool)
+    → Goes (left old) (Ok steps.End) new
+    → PassesPlace n i (left old) octets front None (left new) front
 unfolding columns_at
 end_passes old new n i octets front g = (items_met new, ap (λ c. columns_at n i c front) (ends_there (left old) new g))
 
 -- a field past the limit refuses the columns
-pub field_past : (old new : Walk) (n i d : ℕ) (spec : Spec) (front : List Bool) (fault : ReadFault) → Goes (left old) (Ok (steps.Field d spec)) new → within_limit {A = Unit {0}} n i (Ok tt) ≡ Err fault → columns_at n i (left old) front ≡ Err fault
+pub field_past : (old new : Walk) (n i d : ℕ) (spec : Spec) (front : List Bool) (fault : ReadFault)
+    → Goes (left old) (Ok (steps.Field d spec)) new
+    → within_limit {A = Unit {0}} n i (Ok tt) ≡ Err fault
+    → columns_at n i (left old) front ≡ Err fault
 field_past old new n i d spec front fault g e =
     let a = asks_field (left old) d spec new g in
     ap (λ c. columns_at n i c front) a.is ∙ asked_at n i a.met d spec a.more front ∙ past_is n i _ fault e
 
 -- so does a factor
-pub count_past : (old new : Walk) (n i d : ℕ) (spec : Spec) (front : List Bool) (fault : ReadFault) → Goes (left old) (Ok (steps.Count d spec)) new → within_limit {A = Unit {0}} n i (Ok tt) ≡ Err fault → columns_at n i (left old) front ≡ Err fault
+pub count_past : (old new : Walk) (n i d : ℕ) (spec : Spec) (front : List Bool) (fault : ReadFault)
+    → Goes (left old) (Ok (steps.Count d spec)) new
+    → within_limit {A = Unit {0}} n i (Ok tt) ≡ Err fault
+    → columns_at n i (left old) front ≡ Err fault
 count_past old new n i d spec front fault g e =
     let a = asks_count (left old) d spec new g in
     ap (λ c. columns_at n i c front) a.is ∙ asked_at n i a.met d spec a.more front ∙ past_is n i _ fault e
 
 -- a column that is refused refuses those from it on
-none_agreed : (n i met d : ℕ) (spec : Spec) (more : ℕ → Course) (front : List Bool) (fault : ReadFault) → within_limit {A = Unit {0}} n i (Ok tt) ≡ Ok tt → agreed_at n i spec front ≡ Err fault → columns_at n i (asks met d spec more) front ≡ Err fault
+none_agreed : (n i met d : ℕ) (spec : Spec) (more : ℕ → Course) (front : List Bool)
+    (fault : ReadFault) → within_limit {A = Unit {0}} n i (Ok tt) ≡ Ok tt
+    → agreed_at n i spec front ≡ Err fault → columns_at n i (asks met d spec more) front ≡ Err fault
 none_agreed n i met d spec more front fault room e =
     asked_at n i met d spec more front ∙ within_is n i _ room ∙ ap (λ r. r >>= column_then d spec (λ count rest. columns_at n (i + 1) (more count) rest)) e
 
 -- so it does at a field
-pub field_refused : (old new : Walk) (n i d : ℕ) (spec : Spec) (front : List Bool) (fault : ReadFault) → Goes (left old) (Ok (steps.Field d spec)) new → within_limit {A = Unit {0}} n i (Ok tt) ≡ Ok tt → column_at n i spec front ≡ Err fault → columns_at n i (left old) front ≡ Err fault
+pub field_refused : (old new : Walk) (n i d : ℕ) (spec : Spec) (front : List Bool)
+    (fault : ReadFault) → Goes (left old) (Ok (steps.Field d spec)) new
+    → within_limit {A = Unit {0}} n i (Ok tt) ≡ Ok tt → column_at n i spec front ≡ Err fault
+    → columns_at n i (left old) front ≡ Err fault
 field_refused old new n i d spec front fault g room e =
     let a = asks_field (left old) d spec new g in
     ap (λ c. columns_at n i c front) a.is ∙ none_agreed n i a.met d spec a.more front fault room (ap (λ r. r >>= agreeing i spec) e)
 
 -- and at a factor
-pub count_refused : (old new : Walk) (n i d : ℕ) (spec : Spec) (front : List Bool) (fault : ReadFault) → Goes (left old) (Ok (steps.Count d spec)) new → within_limit {A = Unit {0}} n i (Ok tt) ≡ Ok tt → agreed_at n i spec front ≡ Err fault → columns_at n i (left old) front ≡ Err fault
+pub count_refused : (old new : Walk) (n i d : ℕ) (spec : Spec) (front : List Bool)
+    (fault : ReadFault) → Goes (left old) (Ok (steps.Count d spec)) new
+    → within_limit {A = Unit {0}} n i (Ok tt) ≡ Ok tt → agreed_at n i spec front ≡ Err fault
+    → columns_at n i (left old) front ≡ Err fault
 count_refused old new n i d spec front fault g room e =
     let a = asks_count (left old) d spec new g in
     ap (λ c. columns_at n i c front) a.is ∙ none_agreed n i a.met d spec a.more front fault room e
 
 -- one more column in front of the others
-column_joined : (d : ℕ) (spec : Spec) (values : List Raw) (o : Result ColumnsFound ReadFault) → (o >>= λ others. Ok (record others { columns = record { fxy = d; spec = spec; values = values } ∷ others.columns })) ≡ behind_columns (record { fxy = d; spec = spec; values = values } ∷ []) o
+column_joined : (d : ℕ) (spec : Spec) (values : List Raw) (o : Result ColumnsFound ReadFault)
+    → (o >>= λ others. Ok (record others
+    { columns = record { fxy = d; spec = spec; values = values } ∷ others.columns }))
+    ≡ behind_columns (record { fxy = d; spec = spec; values = values } ∷ []) o
 column_joined d spec values (Ok found) = refl
 column_joined d spec values (Err e) = refl
 
 -- the column that agrees, and those behind it
-one_agreed : (octets : List ℕ) (n i met d bit : ℕ) (spec : Spec) (more : ℕ → Course) (front rest : List Bool) (values : List Raw) (next : Course) → within_limit {A = Unit {0}} n i (Ok tt) ≡ Ok tt → agreed_at n i spec front ≡ Ok (values, rest) → front ≡ drop bit (bits octets) → more (count_of values) ≡ next
-    → PassesPlace n i (asks met d spec more) octets front (Some (record { fxy = d; spec = spec; bit = bit })) next rest
+one_agreed : (octets : List ℕ) (n i met d bit : ℕ) (spec : Spec) (more : ℕ → Course)
+    (front rest : List Bool) (values : List Raw) (next : Course)
+    → within_limit {A = Unit {0}} n i (Ok tt) ≡ Ok tt → agreed_at n i spec front ≡ Ok (values, rest)
+    → front ≡ drop bit (bits octets) → more (count_of values) ≡ next
+    → PassesPlace n i (asks met d spec more) octets front
+    (Some (record { fxy = d; spec = spec; bit = bit })) next rest
 one_agreed octets n i met d bit spec more front rest values next room e is after =
     let a = bind_ok (column_at n i spec front) _ (values, rest) e in
     let same = agreed i spec a.0 (values, rest) a.2 in
@@ -155,13 +195,18 @@ one_agreed octets n i met d bit spec more front rest values next room e is after
     )
 
 -- values of no factor always agree
-agreeing_other : (b : Bool) (i : ℕ) (x : List Raw × List Bool) → b ≡ false → cond (b && not (all_equal x.0)) (Err (faults.UnequalCounts i)) (Ok x) ≡ Ok x
+agreeing_other : (b : Bool) (i : ℕ) (x : List Raw × List Bool) → b ≡ false
+    → cond (b && not (all_equal x.0)) (Err (faults.UnequalCounts i)) (Ok x) ≡ Ok x
 agreeing_other true i x e = absurd cc
 agreeing_other false i x e = refl
 
 -- a field whose column was passed is a place
-pub field_passes : (old new : Walk) (octets : List ℕ) (n i d bit : ℕ) (spec : Spec) (front rest : List Bool) → IsReady old → Goes (left old) (Ok (steps.Field d spec)) new → within_limit {A = Unit {0}} n i (Ok tt) ≡ Ok tt → PassesColumn n i spec front rest → front ≡ drop bit (bits octets)
-    → PassesPlace n i (left old) octets front (Some (record { fxy = d; spec = spec; bit = bit })) (left new) rest
+pub field_passes : (old new : Walk) (octets : List ℕ) (n i d bit : ℕ) (spec : Spec)
+    (front rest : List Bool) → IsReady old → Goes (left old) (Ok (steps.Field d spec)) new
+    → within_limit {A = Unit {0}} n i (Ok tt) ≡ Ok tt → PassesColumn n i spec front rest
+    → front ≡ drop bit (bits octets)
+    → PassesPlace n i (left old) octets front (Some (record { fxy = d; spec = spec; bit = bit }))
+    (left new) rest
 field_passes old new octets n i d bit spec front rest ready g room passes is =
     let a = asks_field (left old) d spec new g in
     let s = steady_step (items_met old) a.met d spec a.more (subst (λ (x : Course). IsSteady (items_met old) x) a.is ready.steady) in
@@ -172,8 +217,12 @@ field_passes old new octets n i d bit spec front rest ready g room passes is =
     (one_agreed octets n i a.met d bit spec a.more front rest passes.0 (left new) room agree is after)
 
 -- so is a factor
-pub count_passes : (old mid new : Walk) (octets : List ℕ) (n i d bit number : ℕ) (spec : Spec) (front rest : List Bool) → Goes (left old) (Ok (steps.Count d spec)) mid → Counted (left mid) number new → within_limit {A = Unit {0}} n i (Ok tt) ≡ Ok tt → PassesFactor n i spec front number rest → front ≡ drop bit (bits octets)
-    → PassesPlace n i (left old) octets front (Some (record { fxy = d; spec = spec; bit = bit })) (left new) rest
+pub count_passes : (old mid new : Walk) (octets : List ℕ) (n i d bit number : ℕ) (spec : Spec)
+    (front rest : List Bool) → Goes (left old) (Ok (steps.Count d spec)) mid
+    → Counted (left mid) number new → within_limit {A = Unit {0}} n i (Ok tt) ≡ Ok tt
+    → PassesFactor n i spec front number rest → front ≡ drop bit (bits octets)
+    → PassesPlace n i (left old) octets front (Some (record { fxy = d; spec = spec; bit = bit }))
+    (left new) rest
 count_passes old mid new octets n i d bit number spec front rest g counted room passes is =
     let a = asks_count (left old) d spec mid g in
     let told = subst (λ (x : Course). Counted x number new) a.waiting counted in
@@ -182,12 +231,14 @@ count_passes old mid new octets n i d bit number spec front rest g counted room 
     (one_agreed octets n i a.met d bit spec a.more front rest passes.0 (left new) room passes.1 is after)
 
 -- the number of a factor is within its width
-pub count_is_below : (old mid : Walk) (d : ℕ) (spec : Spec) (n : ℕ) → Goes (left old) (Ok (steps.Count d spec)) mid → n < 2 ^ spec.width → IsBelowCount (left mid) n
+pub count_is_below : (old mid : Walk) (d : ℕ) (spec : Spec) (n : ℕ)
+    → Goes (left old) (Ok (steps.Count d spec)) mid → n < 2 ^ spec.width → IsBelowCount (left mid) n
 count_is_below old mid d spec n g below =
     let a = asks_count (left old) d spec mid g in subst (λ (x : Course). IsBelowCount x n) (sym a.waiting) below
 
 -- a step that counts has a factor's spec
-pub is_count : (old mid : Walk) (d : ℕ) (spec : Spec) → Goes (left old) (Ok (steps.Count d spec)) mid → same_kind spec.kind kinds.Count ≡ true
+pub is_count : (old mid : Walk) (d : ℕ) (spec : Spec)
+    → Goes (left old) (Ok (steps.Count d spec)) mid → same_kind spec.kind kinds.Count ≡ true
 is_count old mid d spec g = (asks_count (left old) d spec mid g).kind
 
 -- ---- one column after the other
@@ -198,29 +249,36 @@ behind_no_column (Ok found) = refl
 behind_no_column (Err e) = refl
 
 -- one more column behind those before
-behind_more : (cs : List Column) (c : Column) (o : Result ColumnsFound ReadFault) → behind_columns cs (behind_columns (c ∷ []) o) ≡ behind_columns (cs ++ c ∷ []) o
+behind_more : (cs : List Column) (c : Column) (o : Result ColumnsFound ReadFault)
+    → behind_columns cs (behind_columns (c ∷ []) o) ≡ behind_columns (cs ++ c ∷ []) o
 behind_more cs c (Ok found) = ap (λ xs. Ok (record found { columns = xs })) (sym (append_assoc cs (c ∷ []) found.columns))
 behind_more cs c (Err e) = refl
 
 -- one more at the end of what is mapped
-map-push : (f : Place → Column) (ps : List Place) (p : Place) → map f (ps ++ p ∷ []) ≡ map f ps ++ f p ∷ []
+map-push : (f : Place → Column) (ps : List Place) (p : Place)
+    → map f (ps ++ p ∷ []) ≡ map f ps ++ f p ∷ []
 map-push f [] p = refl
 map-push f (q ∷ ps) p = ap (λ xs. f q ∷ xs) (map-push f ps p)
 
 -- one more place at the end, and all are open
-all_push : (octets : List ℕ) (n : ℕ) (ps : List Place) (p : Place) → AllOpen octets n ps → Opens octets n p → AllOpen octets n (ps ++ p ∷ [])
+all_push : (octets : List ℕ) (n : ℕ) (ps : List Place) (p : Place) → AllOpen octets n ps
+    → Opens octets n p → AllOpen octets n (ps ++ p ∷ [])
 all_push octets n [] p all one = (one, tt)
 all_push octets n (q ∷ ps) p all one = (all.0, all_push octets n ps p all.1 one)
 
 -- the same of a grown list
-pub opened : (octets : List ℕ) (n : ℕ) (ps grown : List Place) (p : Place) → grown ≡ ps ++ p ∷ [] → AllOpen octets n ps → Opens octets n p → AllOpen octets n grown
+pub opened : (octets : List ℕ) (n : ℕ) (ps grown : List Place) (p : Place) → grown ≡ ps ++ p ∷ []
+    → AllOpen octets n ps → Opens octets n p → AllOpen octets n grown
 opened octets n ps grown p is all one = subst (AllOpen octets n) (sym is) (all_push octets n ps p all one)
 
 -- one place more
-pub place_kept : (octets : List ℕ) (n i : ℕ) (ps grown : List Place) (p : Place) (whole : Result ColumnsFound ReadFault) (c d : Course) (front rest : List Bool) → grown ≡ ps ++ p ∷ [] → i ≡ length ps + 1
+pub place_kept : (octets : List ℕ) (n i : ℕ) (ps grown : List Place) (p : Place)
+    (whole : Result ColumnsFound ReadFault) (c d : Course) (front rest : List Bool)
+    → grown ≡ ps ++ p ∷ [] → i ≡ length ps + 1
     → whole ≡ behind_columns (map (column_from octets n) ps) (columns_at n (length ps + 1) c front)
     → PassesPlace n i c octets front (Some p) d rest
-    → whole ≡ behind_columns (map (column_from octets n) grown) (columns_at n (length grown + 1) d rest)
+    → whole
+    ≡ behind_columns (map (column_from octets n) grown) (columns_at n (length grown + 1) d rest)
 place_kept octets n i ps grown p whole c d front rest is index so_far step =
     let len : length grown ≡ length ps + 1 = ap length is ∙ length-append ps (p ∷ []) in
     let next : i + 1 ≡ length grown + 1 = omega (arith, index, len) in
@@ -232,10 +290,13 @@ place_kept octets n i ps grown p whole c d front rest is index so_far step =
     ∙ ap (λ m. behind_columns (map (column_from octets n) grown) (columns_at n m d rest)) next
 
 -- where the columns end, all places are theirs
-pub places_end : (octets : List ℕ) (n i : ℕ) (ps : List Place) (whole : Result ColumnsFound ReadFault) (c d : Course) (front rest : List Bool) → i ≡ length ps + 1
+pub places_end : (octets : List ℕ) (n i : ℕ) (ps : List Place)
+    (whole : Result ColumnsFound ReadFault) (c d : Course) (front rest : List Bool)
+    → i ≡ length ps + 1
     → whole ≡ behind_columns (map (column_from octets n) ps) (columns_at n (length ps + 1) c front)
     → PassesPlace n i c octets front None d rest
-    → (items : ℕ) × (whole ≡ Ok (record { columns = map (column_from octets n) ps; items = items; rest = rest }))
+    → (items : ℕ)
+    × (whole ≡ Ok (record { columns = map (column_from octets n) ps; items = items; rest = rest }))
 places_end octets n i ps whole c d front rest index so_far step = (
   step.0,
   so_far
@@ -245,7 +306,9 @@ places_end octets n i ps whole c d front rest index so_far step = (
 )
 
 -- where they fail, all fail
-pub places_fail : (octets : List ℕ) (n i : ℕ) (ps : List Place) (whole : Result ColumnsFound ReadFault) (c : Course) (front : List Bool) (fault : ReadFault) → i ≡ length ps + 1
+pub places_fail : (octets : List ℕ) (n i : ℕ) (ps : List Place)
+    (whole : Result ColumnsFound ReadFault) (c : Course) (front : List Bool) (fault : ReadFault)
+    → i ≡ length ps + 1
     → whole ≡ behind_columns (map (column_from octets n) ps) (columns_at n (length ps + 1) c front)
     → columns_at n i c front ≡ Err fault → whole ≡ Err fault
 places_fail octets n i ps whole c front fault index so_far e =
@@ -256,14 +319,17 @@ places_fail octets n i ps whole c front fault index so_far e =
 -- ---- the subsets of an index
 
 -- so many subsets and one more
-from_suc : (k n : ℕ) (columns : List Column) → subsets_from k (suc n) columns ≡ subsets_from k n columns ++ subset_of columns (k + n) ∷ []
+from_suc : (k n : ℕ) (columns : List Column)
+    → subsets_from k (suc n) columns ≡ subsets_from k n columns ++ subset_of columns (k + n) ∷ []
 from_suc k zero columns = let same : k ≡ k + 0 = omega arith in ap (λ m. subset_of columns m ∷ []) same
 from_suc k (suc n) columns =
     let same : k + 1 + n ≡ k + suc n = omega arith in
     ap (λ ss. subset_of columns k ∷ ss) (from_suc (k + 1) n columns ∙ ap (λ m. subsets_from (k + 1) n columns ++ subset_of columns m ∷ []) same)
 
 -- a subset at the end of those before it is one more
-pub one_subset_more : (i j : ℕ) (columns : List Column) (subsets grown : List Subset) (s : Subset) → grown ≡ subsets ++ s ∷ [] → subsets ≡ subsets_from 0 i columns → s ≡ subset_of columns j → j ≡ i → grown ≡ subsets_from 0 (i + 1) columns
+pub one_subset_more : (i j : ℕ) (columns : List Column) (subsets grown : List Subset) (s : Subset)
+    → grown ≡ subsets ++ s ∷ [] → subsets ≡ subsets_from 0 i columns → s ≡ subset_of columns j
+    → j ≡ i → grown ≡ subsets_from 0 (i + 1) columns
 one_subset_more i j columns subsets grown s is so_far one same =
     let next : suc i ≡ i + 1 = omega arith in
     let here : 0 + i ≡ i = omega arith in
@@ -272,14 +338,17 @@ one_subset_more i j columns subsets grown s is so_far one same =
     ∙ sym (from_suc 0 i columns) ∙ ap (λ m. subsets_from 0 m columns) next
 
 -- an index has as many subsets as were asked for
-pub index_subsets : (tree : Tree) (n : ℕ) (front : List Bool) (a : Ahead) → index_at tree n front ≡ Ok a → a.index.subsets ≡ n
+pub index_subsets : (tree : Tree) (n : ℕ) (front : List Bool) (a : Ahead)
+    → index_at tree n front ≡ Ok a → a.index.subsets ≡ n
 index_subsets tree zero front a e = ap (λ (x : Ahead). x.index.subsets) (sym (ok_same _ _ e))
 index_subsets tree (suc n) front a e =
     let h = map_ok (λ (f : ColumnsFound). (let whole : Ahead = record { index = record { subsets = suc n; columns = f.columns }; rest = f.rest } in whole)) (columns_at (suc n) 1 (course tree 0) front) a e in
     ap (λ (x : Ahead). x.index.subsets) (sym h.2)
 
 -- what an index has is what is read
-pub index_reads : (tree : Tree) (n : ℕ) (front : List Bool) (a : Ahead) → index_at tree n front ≡ Ok a → subsets_in tree true n front ≡ Ok (subsets_from 0 n a.index.columns, a.rest)
+pub index_reads : (tree : Tree) (n : ℕ) (front : List Bool) (a : Ahead)
+    → index_at tree n front ≡ Ok a
+    → subsets_in tree true n front ≡ Ok (subsets_from 0 n a.index.columns, a.rest)
 index_reads tree zero front a e = ap (λ (x : Ahead). Ok ([], x.rest)) (ok_same _ _ e)
 index_reads tree (suc n) front a e =
     let h = map_ok (λ (f : ColumnsFound). (let whole : Ahead = record { index = record { subsets = suc n; columns = f.columns }; rest = f.rest } in whole)) (columns_at (suc n) 1 (course tree 0) front) a e in
@@ -287,12 +356,14 @@ index_reads tree (suc n) front a e =
     ∙ ap (λ (x : Ahead). Ok (subsets_from 0 (suc n) x.index.columns, x.rest)) h.2
 
 -- an error of what is mapped is an error before
-map_err : {A B F : Type 0} (f : A → B) (o : Result A F) (fault : F) → result_map f o ≡ Err fault → o ≡ Err fault
+map_err : {A B F : Type 0} (f : A → B) (o : Result A F) (fault : F) → result_map f o ≡ Err fault
+    → o ≡ Err fault
 map_err f (Ok x) fault e = absurd cc
 map_err f (Err other) fault e = cc
 
 -- where an index fails, reading fails
-pub index_fails : (tree : Tree) (n : ℕ) (front : List Bool) (failure : Failure ReadFault) → Fails failure (index_at tree n front) → Fails failure (subsets_in tree true n front)
+pub index_fails : (tree : Tree) (n : ℕ) (front : List Bool) (failure : Failure ReadFault)
+    → Fails failure (index_at tree n front) → Fails failure (subsets_in tree true n front)
 index_fails tree n front OutOfMemory h = tt
 index_fails tree zero front (Fault fault) h = absurd cc
 index_fails tree (suc n) front (Fault fault) h =

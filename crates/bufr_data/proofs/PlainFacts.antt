@@ -69,12 +69,14 @@ same_spec_is a b e =
 -- ---- octets
 
 -- octets begin with one, and the others are octets
-all_below : (x : ℕ) (xs : List ℕ) → list_all (λ c. nat_lt c 256) (x ∷ xs) ≡ true → (x < 256) × (list_all (λ c. nat_lt c 256) xs ≡ true)
+all_below : (x : ℕ) (xs : List ℕ) → list_all (λ c. nat_lt c 256) (x ∷ xs) ≡ true
+    → (x < 256) × (list_all (λ c. nat_lt c 256) xs ≡ true)
 all_below x xs e =
     (ltb-true x 256 (and_first (nat_lt x 256) (list_all (λ c. nat_lt c 256) xs) e), and_second (nat_lt x 256) (list_all (λ c. nat_lt c 256) xs) e)
 
 -- the numbers of eight bits of octets are these
-numbers_of_octets : (os : List ℕ) (rest : List Bool) → list_all (λ c. nat_lt c 256) os ≡ true → numbers (length os) 8 (bits os ++ rest) ≡ os
+numbers_of_octets : (os : List ℕ) (rest : List Bool) → list_all (λ c. nat_lt c 256) os ≡ true
+    → numbers (length os) 8 (bits os ++ rest) ≡ os
 unfolding numbers
 numbers_of_octets [] rest all = refl
 numbers_of_octets (x ∷ os) rest all =
@@ -92,7 +94,8 @@ drop_bits : (os : List ℕ) (rest : List Bool) → drop (length os * 8) (bits os
 drop_bits os rest = drop_at (bits os) rest (length os * 8) (length-bits os)
 
 -- octets are read of their bits
-numbers_at-bits : (os : List ℕ) (rest : List Bool) → list_all (λ c. nat_lt c 256) os ≡ true → numbers_at (length os) 8 (bits os ++ rest) ≡ Some (os, rest)
+numbers_at-bits : (os : List ℕ) (rest : List Bool) → list_all (λ c. nat_lt c 256) os ≡ true
+    → numbers_at (length os) 8 (bits os ++ rest) ≡ Some (os, rest)
 unfolding numbers_at
 numbers_at-bits os rest all =
     let long : ltb (length (bits os ++ rest)) (length os * 8) ≡ false = le-ltb _ _ (omega (arith, length-append (bits os) rest, length-bits os)) in
@@ -101,14 +104,18 @@ numbers_at-bits os rest all =
 -- ---- fields
 
 -- a number is read of its bits
-number_again : (width n : ℕ) (rest : List Bool) → (nat_le width 64 && nat_lt n (2 ^ width)) ≡ true → option_map {U = Raw × List Bool} (λ x. (Number x.0, x.1)) (field_number_at width (bin width n ++ rest)) ≡ Some (Number n, rest)
+number_again : (width n : ℕ) (rest : List Bool) → (nat_le width 64 && nat_lt n (2 ^ width)) ≡ true
+    → option_map {U = Raw × List Bool} (λ x. (Number x.0, x.1))
+    (field_number_at width (bin width n ++ rest)) ≡ Some (Number n, rest)
 number_again width n rest e =
     let short : nat_le width 64 ≡ true = and_first _ _ e in
     let below : n < 2 ^ width = ltb-true _ _ (and_second (nat_le width 64) (nat_lt n (2 ^ width)) e) in
     rw (short, number_at-bin width n rest below) refl
 
 -- a raw value of its form is read of its bits
-pub raw_again : (kind : Kind) (width : ℕ) (raw : Raw) (rest : List Bool) → has_form_by kind width raw ≡ true → raw_at_by kind width (raw_bits width raw ++ rest) ≡ Some (raw, rest)
+pub raw_again : (kind : Kind) (width : ℕ) (raw : Raw) (rest : List Bool)
+    → has_form_by kind width raw ≡ true
+    → raw_at_by kind width (raw_bits width raw ++ rest) ≡ Some (raw, rest)
 raw_again kinds.Text width (Text os) rest e =
     let size : length os ≡ width / 8 = equal_is _ _ (and_first _ _ e) in
     let count : width / 8 ≡ length os = sym size in
@@ -125,7 +132,8 @@ raw_again kinds.Quantity width (Text os) rest e = absurd cc
 raw_again kinds.Count width (Text os) rest e = absurd cc
 
 -- what is answered past a test has passed it
-pub guard_ok : (b : Bool) (x : Result ℕ WriteFault) (f : WriteFault) (n : ℕ) → cond b x (Err f) ≡ Ok n → (b ≡ true) × (x ≡ Ok n)
+pub guard_ok : (b : Bool) (x : Result ℕ WriteFault) (f : WriteFault) (n : ℕ)
+    → cond b x (Err f) ≡ Ok n → (b ≡ true) × (x ≡ Ok n)
 guard_ok true x f n e = (refl, e)
 guard_ok false x f n e = absurd cc
 
@@ -134,7 +142,9 @@ pub ok_is : (m n : ℕ) → ◌≡◌ {A = Result ℕ WriteFault} (Ok m) (Ok n) 
 ok_is m n e = cc
 
 -- fields that are counted are read of their bits
-pub fields_at-plain : (j i : ℕ) (c : Course) (fs : List Field) (n : ℕ) (rest : List Bool) → items_of j i c fs ≡ Ok n → fields_at j i c (plain fs ++ rest) ≡ Ok (record { fields = fs; items = n; rest = rest })
+pub fields_at-plain : (j i : ℕ) (c : Course) (fs : List Field) (n : ℕ) (rest : List Bool)
+    → items_of j i c fs ≡ Ok n
+    → fields_at j i c (plain fs ++ rest) ≡ Ok (record { fields = fs; items = n; rest = rest })
 unfolding items_of fields_at
 fields_at-plain j i (ends m) [] n rest e = ap (λ k. Ok (record { fields = []; items = k; rest = rest })) (ok_is m n e)
 fields_at-plain j i (ends m) (f ∷ fs) n rest e = absurd cc
@@ -188,7 +198,8 @@ length-numbers zero width front = refl
 length-numbers (suc n) width front = ap suc (length-numbers n width (drop width front))
 
 -- numbers of eight bits are octets
-pub numbers_below : (n : ℕ) (front : List Bool) → n * 8 ≤ length front → list_all (λ c. nat_lt c 256) (numbers n 8 front) ≡ true
+pub numbers_below : (n : ℕ) (front : List Bool) → n * 8 ≤ length front
+    → list_all (λ c. nat_lt c 256) (numbers n 8 front) ≡ true
 unfolding numbers
 numbers_below zero front long = refl
 numbers_below (suc n) front long =
@@ -198,7 +209,8 @@ numbers_below (suc n) front long =
     rw (lt-ltb (number (take 8 front)) 256 below, numbers_below n (drop 8 front) others) refl
 
 -- their bits are the front
-pub bits_of_numbers : (n : ℕ) (front : List Bool) → n * 8 ≤ length front → bits (numbers n 8 front) ++ drop (n * 8) front ≡ front
+pub bits_of_numbers : (n : ℕ) (front : List Bool) → n * 8 ≤ length front
+    → bits (numbers n 8 front) ++ drop (n * 8) front ≡ front
 unfolding numbers
 bits_of_numbers zero front long = refl
 bits_of_numbers (suc n) front long =
@@ -212,7 +224,9 @@ bits_of_numbers (suc n) front long =
     ∙ take-append-drop 8 front
 
 -- octets that are read stand there
-numbers_at_is : (n : ℕ) (os : List ℕ) (front rest : List Bool) → numbers_at n 8 front ≡ Some (os, rest) → (length os ≡ n) × (list_all (λ c. nat_lt c 256) os ≡ true) × (front ≡ bits os ++ rest)
+numbers_at_is : (n : ℕ) (os : List ℕ) (front rest : List Bool)
+    → numbers_at n 8 front ≡ Some (os, rest)
+    → (length os ≡ n) × (list_all (λ c. nat_lt c 256) os ≡ true) × (front ≡ bits os ++ rest)
 unfolding numbers_at
 numbers_at_is n os front rest e =
     elim (cases_lt (length front) (n * 8)) [
@@ -230,7 +244,11 @@ abbrev pub IsRaw : Kind → ℕ → List Bool → Raw × List Bool → Type 0
 IsRaw kind width front x = (has_form_by kind width x.0 ≡ true) × (front ≡ raw_bits width x.0 ++ x.1)
 
 -- a number that is read stands there
-number_read : (width : ℕ) (front : List Bool) (short : Bool) (o : Option (ℕ × List Bool)) (x : Raw × List Bool) → nat_le width 64 ≡ short → number_at width front ≡ o → option_map {U = Raw × List Bool} (λ y. (Number y.0, y.1)) (cond short o None) ≡ Some x → ((nat_le width 64 && nat_lt (number_of x.0) (2 ^ width)) ≡ true) × (x.0 ≡ Number (number_of x.0)) × (front ≡ raw_bits width x.0 ++ x.1)
+number_read : (width : ℕ) (front : List Bool) (short : Bool) (o : Option (ℕ × List Bool))
+    (x : Raw × List Bool) → nat_le width 64 ≡ short → number_at width front ≡ o
+    → option_map {U = Raw × List Bool} (λ y. (Number y.0, y.1)) (cond short o None) ≡ Some x
+    → ((nat_le width 64 && nat_lt (number_of x.0) (2 ^ width)) ≡ true)
+    × (x.0 ≡ Number (number_of x.0)) × (front ≡ raw_bits width x.0 ++ x.1)
 number_read width front false o x s found e = absurd cc
 number_read width front true None x s found e = absurd cc
 number_read width front true (Some y) x s found e =
@@ -241,7 +259,10 @@ number_read width front true (Some y) x s found e =
     (fits, refl, is.0)
 
 -- so does a text
-text_read : (width : ℕ) (front : List Bool) (o : Option (List ℕ × List Bool)) (x : Raw × List Bool) → numbers_at (width / 8) 8 front ≡ o → option_map {U = Raw × List Bool} (λ y. (Text y.0, y.1)) o ≡ Some x → IsRaw kinds.Text width front x
+text_read : (width : ℕ) (front : List Bool) (o : Option (List ℕ × List Bool)) (x : Raw × List Bool)
+    → numbers_at (width / 8) 8 front ≡ o
+    → option_map {U = Raw × List Bool} (λ y. (Text y.0, y.1)) o ≡ Some x
+    → IsRaw kinds.Text width front x
 text_read width front None x found e = absurd cc
 text_read width front (Some y) x found e =
     let same : (Text y.0, y.1) ≡ x = some_is _ _ e in
@@ -250,7 +271,9 @@ text_read width front (Some y) x found e =
     subst (λ (p : Raw × List Bool). IsRaw kinds.Text width front p) same (form, is.2)
 
 -- a number within its width has the form of its kind
-number_form : (kind : Kind) (width : ℕ) (raw : Raw) → same_kind kind kinds.Text ≡ false → (nat_le width 64 && nat_lt (number_of raw) (2 ^ width)) ≡ true → raw ≡ Number (number_of raw) → has_form_by kind width raw ≡ true
+number_form : (kind : Kind) (width : ℕ) (raw : Raw) → same_kind kind kinds.Text ≡ false
+    → (nat_le width 64 && nat_lt (number_of raw) (2 ^ width)) ≡ true → raw ≡ Number (number_of raw)
+    → has_form_by kind width raw ≡ true
 number_form kinds.Text width raw other below is = absurd cc
 number_form kinds.Code width raw other below is = rw is below
 number_form kinds.Flag width raw other below is = rw is below
@@ -258,7 +281,8 @@ number_form kinds.Quantity width raw other below is = rw is below
 number_form kinds.Count width raw other below is = rw is below
 
 -- a raw value that is read stands there
-pub raw_read : (kind : Kind) (width : ℕ) (front : List Bool) (x : Raw × List Bool) → raw_at_by kind width front ≡ Some x → IsRaw kind width front x
+pub raw_read : (kind : Kind) (width : ℕ) (front : List Bool) (x : Raw × List Bool)
+    → raw_at_by kind width front ≡ Some x → IsRaw kind width front x
 raw_read kinds.Text width front x e = text_read width front _ x refl e
 raw_read kinds.Code width front x e = let is = number_read width front _ _ x refl refl e in (number_form kinds.Code width x.0 refl is.0 is.1, is.2)
 raw_read kinds.Flag width front x e = let is = number_read width front _ _ x refl refl e in (number_form kinds.Flag width x.0 refl is.0 is.1, is.2)
@@ -266,7 +290,8 @@ raw_read kinds.Quantity width front x e = let is = number_read width front _ _ x
 raw_read kinds.Count width front x e = let is = number_read width front _ _ x refl refl e in (number_form kinds.Count width x.0 refl is.0 is.1, is.2)
 
 -- a raw value of a spec's form makes a field that is asked for
-stands : (d : ℕ) (spec : Spec) (raw : Raw) → has_form_by spec.kind spec.width raw ≡ true → stands_for d spec (record { fxy = d; spec = spec; raw = raw }) ≡ true
+stands : (d : ℕ) (spec : Spec) (raw : Raw) → has_form_by spec.kind spec.width raw ≡ true
+    → stands_for d spec (record { fxy = d; spec = spec; raw = raw }) ≡ true
 stands d spec raw form = rw (eq-eqb d d refl, spec_is_same spec, form) refl
 
 -- fields that the course allows stand at the front
@@ -278,7 +303,13 @@ abbrev FoundAfter : ℕ → ℕ → (ℕ → Course) → Type 0
 FoundAfter j i more = (n : ℕ) (front : List Bool) (f : SubsetRead) → fields_at j i (more n) front ≡ Ok f → IsFound j i (more n) front f
 
 -- the field that was read and those after it
-field_joined : (j i met d : ℕ) (spec : Spec) (more : ℕ → Course) (front : List Bool) (x : Raw × List Bool) (o : Result SubsetRead ReadFault) (f : SubsetRead) → IsRaw spec.kind spec.width front x → ((g : SubsetRead) → o ≡ Ok g → IsFound j (i + 1) (more (number_of x.0)) x.1 g) → (o >>= λ found. Ok (record found { fields = record { fxy = d; spec = spec; raw = x.0 } ∷ found.fields })) ≡ Ok f → IsFound j i (asks met d spec more) front f
+field_joined : (j i met d : ℕ) (spec : Spec) (more : ℕ → Course) (front : List Bool)
+    (x : Raw × List Bool) (o : Result SubsetRead ReadFault) (f : SubsetRead)
+    → IsRaw spec.kind spec.width front x
+    → ((g : SubsetRead) → o ≡ Ok g → IsFound j (i + 1) (more (number_of x.0)) x.1 g)
+    → (o >>= λ found. Ok (record found
+    { fields = record { fxy = d; spec = spec; raw = x.0 } ∷ found.fields }))
+    ≡ Ok f → IsFound j i (asks met d spec more) front f
 unfolding items_of
 field_joined j i met d spec more front x (Err fault) f raw after e = absurd cc
 field_joined j i met d spec more front x (Ok g) f raw after e =
@@ -291,7 +322,11 @@ field_joined j i met d spec more front x (Ok g) f raw after e =
     subst (λ (h : SubsetRead). IsFound j i (asks met d spec more) front h) same (fits, spelt)
 
 -- so a field that is read stands, and then the others
-field_found : (j i met d : ℕ) (spec : Spec) (more : ℕ → Course) (front : List Bool) (o : Option (Raw × List Bool)) (f : SubsetRead) → raw_at spec front ≡ o → FoundAfter j (i + 1) more → field_then j i d spec (λ n rest. fields_at j (i + 1) (more n) rest) o ≡ Ok f → IsFound j i (asks met d spec more) front f
+field_found : (j i met d : ℕ) (spec : Spec) (more : ℕ → Course) (front : List Bool)
+    (o : Option (Raw × List Bool)) (f : SubsetRead) → raw_at spec front ≡ o
+    → FoundAfter j (i + 1) more
+    → field_then j i d spec (λ n rest. fields_at j (i + 1) (more n) rest) o ≡ Ok f
+    → IsFound j i (asks met d spec more) front f
 field_found j i met d spec more front None f found after e = absurd cc
 field_found j i met d spec more front (Some x) f found after e =
     field_joined j i met d spec more front x (fields_at j (i + 1) (more (number_of x.0)) x.1) f (raw_read spec.kind spec.width front x found) (after (number_of x.0) x.1) e
@@ -302,7 +337,9 @@ not_stopped walks.TooLarge f e = cc
 not_stopped (walks.EffectiveRange d) f e = cc
 
 -- what was read fits the course, and the bits are those of its fields and what is left
-pub fields_at-found : (j i : ℕ) (c : Course) (front : List Bool) (f : SubsetRead) → fields_at j i c front ≡ Ok f → (items_of j i c f.fields ≡ Ok f.items) × (front ≡ plain f.fields ++ f.rest)
+pub fields_at-found : (j i : ℕ) (c : Course) (front : List Bool) (f : SubsetRead)
+    → fields_at j i c front ≡ Ok f
+    → (items_of j i c f.fields ≡ Ok f.items) × (front ≡ plain f.fields ++ f.rest)
 unfolding items_of fields_at
 fields_at-found j i (ends n) front f e =
     subst (λ (h : SubsetRead). IsFound j i (ends n) front h) (ok_found (record { fields = []; items = n; rest = front }) f e) (refl, refl)
@@ -313,7 +350,8 @@ fields_at-found j i (asks met d spec more) front f e =
 -- ---- subsets
 
 -- what is answered of two steps is answered of each
-pub bind_ok : {A B F : Type 0} (o : Result A F) (k : A → Result B F) (y : B) → (o >>= k) ≡ Ok y → (x : A) × (o ≡ Ok x) × (k x ≡ Ok y)
+pub bind_ok : {A B F : Type 0} (o : Result A F) (k : A → Result B F) (y : B) → (o >>= k) ≡ Ok y
+    → (x : A) × (o ≡ Ok x) × (k x ≡ Ok y)
 bind_ok (Ok x) k y e = (x, refl, e)
 bind_ok (Err fault) k y e = absurd cc
 
@@ -322,7 +360,10 @@ abbrev AreFound : (ℕ → Course) → ℕ → ℕ → ℕ → List Bool → Sub
 AreFound course j n used front f = (length f.subsets ≡ n) × (items_of_all course j used f.subsets ≡ Ok f.items) × (front ≡ plain_subsets f.subsets ++ f.rest)
 
 -- subsets that were read are so many, fit their courses, and the bits are theirs and what is left
-pub subsets_at-found : (course : ℕ → Course) (j n used : ℕ) (front : List Bool) (f : SubsetsRead) → subsets_at course j n used front ≡ Ok f → (length f.subsets ≡ n) × (items_of_all course j used f.subsets ≡ Ok f.items) × (front ≡ plain_subsets f.subsets ++ f.rest)
+pub subsets_at-found : (course : ℕ → Course) (j n used : ℕ) (front : List Bool) (f : SubsetsRead)
+    → subsets_at course j n used front ≡ Ok f
+    → (length f.subsets ≡ n) × (items_of_all course j used f.subsets ≡ Ok f.items)
+    × (front ≡ plain_subsets f.subsets ++ f.rest)
 unfolding subsets_at items_of_all
 subsets_at-found course j zero used front f e =
     subst (λ (h : SubsetsRead). AreFound course j 0 used front h) (ok_found (record { subsets = []; items = used; rest = front }) f e) (refl, refl, refl)
@@ -342,7 +383,10 @@ subsets_at-found course j (suc n) used front f e =
     subst (λ (h : SubsetsRead). AreFound course j (suc n) used front h) same (many, fits, spelt)
 
 -- subsets that are counted are read of their bits
-subsets_again : (course : ℕ → Course) (j used : ℕ) (subsets : List Subset) (n : ℕ) (rest : List Bool) → items_of_all course j used subsets ≡ Ok n → subsets_at course j (length subsets) used (plain_subsets subsets ++ rest) ≡ Ok (record { subsets = subsets; items = n; rest = rest })
+subsets_again : (course : ℕ → Course) (j used : ℕ) (subsets : List Subset) (n : ℕ)
+    (rest : List Bool) → items_of_all course j used subsets ≡ Ok n
+    → subsets_at course j (length subsets) used (plain_subsets subsets ++ rest)
+    ≡ Ok (record { subsets = subsets; items = n; rest = rest })
 unfolding subsets_at items_of_all
 subsets_again course j used [] n rest e = ap (λ k. Ok (record { subsets = []; items = k; rest = rest })) (ok_is used n e)
 subsets_again course j used (s ∷ subsets) n rest e =
@@ -351,6 +395,8 @@ subsets_again course j used (s ∷ subsets) n rest e =
     rw (regrouped, fields_at-plain j 1 (course used) s.fields a.0 (plain_subsets subsets ++ rest) a.1, subsets_again course (j + 1) a.0 subsets n rest a.2) refl
 
 -- subsets that are so many and fit their courses are read again from their bits, whatever follows
-pub subsets_at-plain : (course : ℕ → Course) (j n used : ℕ) (front : List Bool) (f : SubsetsRead) → length f.subsets ≡ n → items_of_all course j used f.subsets ≡ Ok f.items → front ≡ plain_subsets f.subsets ++ f.rest → subsets_at course j n used front ≡ Ok f
+pub subsets_at-plain : (course : ℕ → Course) (j n used : ℕ) (front : List Bool) (f : SubsetsRead)
+    → length f.subsets ≡ n → items_of_all course j used f.subsets ≡ Ok f.items
+    → front ≡ plain_subsets f.subsets ++ f.rest → subsets_at course j n used front ≡ Ok f
 subsets_at-plain course j n used front f many fits spelt =
     rw (← many, spelt) (subsets_again course j used f.subsets f.items f.rest fits)

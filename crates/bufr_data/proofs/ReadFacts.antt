@@ -52,7 +52,8 @@ match_bool true P Q h = inl (refl, h)
 match_bool false P Q h = inr (refl, h)
 
 -- a walk that steps to a field has a course that asks for it
-pub asks_field : (c : Course) (d : ℕ) (spec : Spec) (w : Walk) → Goes c (Ok (steps.Field d spec)) w → AsksField c d spec w
+pub asks_field : (c : Course) (d : ℕ) (spec : Spec) (w : Walk) → Goes c (Ok (steps.Field d spec)) w
+    → AsksField c d spec w
 asks_field (ends n) d spec w g = absurd (let e = g.0 in cc)
 asks_field (stops n fault) d spec w g = absurd (let e = g.0 in cc)
 asks_field (asks met b s more) d spec w g =
@@ -66,7 +67,8 @@ asks_field (asks met b s more) d spec w g =
     ]
 
 -- so has one that steps to a count
-pub asks_count : (c : Course) (d : ℕ) (spec : Spec) (w : Walk) → Goes c (Ok (steps.Count d spec)) w → AsksCount c d spec w
+pub asks_count : (c : Course) (d : ℕ) (spec : Spec) (w : Walk) → Goes c (Ok (steps.Count d spec)) w
+    → AsksCount c d spec w
 asks_count (ends n) d spec w g = absurd (let e = g.0 in cc)
 asks_count (stops n fault) d spec w g = absurd (let e = g.0 in cc)
 asks_count (asks met b s more) d spec w g =
@@ -90,7 +92,8 @@ ends_there (asks met b s more) w g =
     ]
 
 -- a walk that stops has a course that stops
-pub stops_there : (c : Course) (fault : WalkFault) (w : Walk) → Goes c (Err fault) w → (n : ℕ) × (c ≡ stops n fault)
+pub stops_there : (c : Course) (fault : WalkFault) (w : Walk) → Goes c (Err fault) w
+    → (n : ℕ) × (c ≡ stops n fault)
 stops_there (ends n) fault w g = absurd (let e = g.0 in cc)
 stops_there (stops n f) fault w g = let e = g.0 in let same : f ≡ fault = cc in (n, ap (λ x. stops n x) same)
 stops_there (asks met b s more) fault w g =
@@ -102,12 +105,17 @@ stops_there (asks met b s more) fault w g =
 -- ---- steady courses
 
 -- a steady course asks for one item more at least, and only a count decides what comes next
-pub steady_step : (used met d : ℕ) (spec : Spec) (more : ℕ → Course) → IsSteady used (asks met d spec more) → (used < met) × (met ≤ most_items) × (same_kind spec.kind kinds.Count ≡ false → (n : ℕ) → more n ≡ more 0) × ((n : ℕ) → IsSteady met (more n))
+pub steady_step : (used met d : ℕ) (spec : Spec) (more : ℕ → Course)
+    → IsSteady used (asks met d spec more)
+    → (used < met) × (met ≤ most_items)
+    × (same_kind spec.kind kinds.Count ≡ false → (n : ℕ) → more n ≡ more 0)
+    × ((n : ℕ) → IsSteady met (more n))
 unfolding IsSteady
 steady_step used met d spec more s = s
 
 -- after a field that is no count the walk goes on, whatever its number is
-pub field_goes_on : (old new : Walk) (d : ℕ) (spec : Spec) → IsReady old → Goes (left old) (Ok (steps.Field d spec)) new → WalkAdvances old new
+pub field_goes_on : (old new : Walk) (d : ℕ) (spec : Spec) → IsReady old
+    → Goes (left old) (Ok (steps.Field d spec)) new → WalkAdvances old new
 field_goes_on old new d spec ready g =
     let a = asks_field (left old) d spec new g in
     let s = steady_step (items_met old) a.met d spec a.more (subst (λ (x : Course). IsSteady (items_met old) x) a.is ready.steady) in
@@ -119,7 +127,9 @@ field_goes_on old new d spec ready g =
     }
 
 -- a walk that is told its count is on its way
-pub count_goes_on : (old mid new : Walk) (d : ℕ) (spec : Spec) (n : ℕ) → IsReady old → Goes (left old) (Ok (steps.Count d spec)) mid → Counted (left mid) n new → WalkAdvances old new
+pub count_goes_on : (old mid new : Walk) (d : ℕ) (spec : Spec) (n : ℕ) → IsReady old
+    → Goes (left old) (Ok (steps.Count d spec)) mid → Counted (left mid) n new
+    → WalkAdvances old new
 count_goes_on old mid new d spec n ready g counted =
     let a = asks_count (left old) d spec mid g in
     let s = steady_step (items_met old) a.met d spec a.more (subst (λ (x : Course). IsSteady (items_met old) x) a.is ready.steady) in
@@ -134,28 +144,42 @@ count_goes_on old mid new d spec n ready g counted =
 -- ---- reading
 
 -- one more field in front of the others
-joined : (field : Field) (o : Result SubsetRead ReadFault) → (o >>= λ found. Ok (record found { fields = field ∷ found.fields })) ≡ behind_fields (field ∷ []) o
+joined : (field : Field) (o : Result SubsetRead ReadFault)
+    → (o >>= λ found. Ok (record found { fields = field ∷ found.fields }))
+    ≡ behind_fields (field ∷ []) o
 joined field (Ok found) = refl
 joined field (Err e) = refl
 
 -- a field that is asked for and there is read
-asked_field : (j i met d : ℕ) (spec : Spec) (more : ℕ → Course) (front rest : List Bool) (raw : Raw) → raw_at spec front ≡ Some (raw, rest) → fields_at j i (asks met d spec more) front ≡ behind_fields (record { fxy = d; spec = spec; raw = raw } ∷ []) (fields_at j (i + 1) (more (number_of raw)) rest)
+pub asked_field : (j i met d : ℕ) (spec : Spec) (more : ℕ → Course) (front rest : List Bool)
+    (raw : Raw) → raw_at spec front ≡ Some (raw, rest)
+    → fields_at j i (asks met d spec more) front
+    ≡ behind_fields (record { fxy = d; spec = spec; raw = raw } ∷ [])
+    (fields_at j (i + 1) (more (number_of raw)) rest)
 unfolding fields_at
 asked_field j i met d spec more front rest raw e = rw e (joined (record { fxy = d; spec = spec; raw = raw }) (fields_at j (i + 1) (more (number_of raw)) rest))
 
 -- one that is not there is the fault
-missing_field : (j i met d : ℕ) (spec : Spec) (more : ℕ → Course) (front : List Bool) (o : Option (Raw × List Bool)) (f : ReadFault) → raw_at spec front ≡ o → raw_or_ends j i o ≡ Err f → fields_at j i (asks met d spec more) front ≡ Err f
+missing_field : (j i met d : ℕ) (spec : Spec) (more : ℕ → Course) (front : List Bool)
+    (o : Option (Raw × List Bool)) (f : ReadFault) → raw_at spec front ≡ o
+    → raw_or_ends j i o ≡ Err f → fields_at j i (asks met d spec more) front ≡ Err f
 unfolding fields_at
 missing_field j i met d spec more front None f e h = rw e (let same = h in cc)
 missing_field j i met d spec more front (Some x) f e h = absurd cc
 
 -- what was read was there
-found_is : (j i : ℕ) (o : Option (Raw × List Bool)) (x : Raw × List Bool) → raw_or_ends j i o ≡ Ok x → o ≡ Some x
+pub found_is : (j i : ℕ) (o : Option (Raw × List Bool)) (x : Raw × List Bool)
+    → raw_or_ends j i o ≡ Ok x → o ≡ Some x
 found_is j i None x e = absurd cc
 found_is j i (Some y) x e = cc
 
 -- a field at which the walk steps is read
-pub field_is_read : (old new : Walk) (i d : ℕ) (spec : Spec) (front rest : List Bool) (raw : Raw) → IsReady old → Goes (left old) (Ok (steps.Field d spec)) new → raw_or_ends 1 i (raw_at spec front) ≡ Ok (raw, rest) → fields_at 1 i (left old) front ≡ behind_fields (record { fxy = d; spec = spec; raw = raw } ∷ []) (fields_at 1 (i + 1) (left new) rest)
+pub field_is_read : (old new : Walk) (i d : ℕ) (spec : Spec) (front rest : List Bool) (raw : Raw)
+    → IsReady old → Goes (left old) (Ok (steps.Field d spec)) new
+    → raw_or_ends 1 i (raw_at spec front) ≡ Ok (raw, rest)
+    → fields_at 1 i (left old) front
+    ≡ behind_fields (record { fxy = d; spec = spec; raw = raw } ∷ [])
+    (fields_at 1 (i + 1) (left new) rest)
 field_is_read old new i d spec front rest raw ready g e =
     let a = asks_field (left old) d spec new g in
     let s = steady_step (items_met old) a.met d spec a.more (subst (λ (x : Course). IsSteady (items_met old) x) a.is ready.steady) in
@@ -165,7 +189,13 @@ field_is_read old new i d spec front rest raw ready g e =
     ∙ ap (λ c. behind_fields (record { fxy = d; spec = spec; raw = raw } ∷ []) (fields_at 1 (i + 1) c rest)) same
 
 -- so is a count
-pub count_is_read : (old mid new : Walk) (i d : ℕ) (spec : Spec) (front rest : List Bool) (raw : Raw) → Goes (left old) (Ok (steps.Count d spec)) mid → Counted (left mid) (number_of raw) new → raw_or_ends 1 i (raw_at spec front) ≡ Ok (raw, rest) → fields_at 1 i (left old) front ≡ behind_fields (record { fxy = d; spec = spec; raw = raw } ∷ []) (fields_at 1 (i + 1) (left new) rest)
+pub count_is_read : (old mid new : Walk) (i d : ℕ) (spec : Spec) (front rest : List Bool)
+    (raw : Raw)
+    → Goes (left old) (Ok (steps.Count d spec)) mid → Counted (left mid) (number_of raw) new
+    → raw_or_ends 1 i (raw_at spec front) ≡ Ok (raw, rest)
+    → fields_at 1 i (left old) front
+    ≡ behind_fields (record { fxy = d; spec = spec; raw = raw } ∷ [])
+    (fields_at 1 (i + 1) (left new) rest)
 count_is_read old mid new i d spec front rest raw g counted e =
     let a = asks_count (left old) d spec mid g in
     let told = subst (λ (x : Course). Counted x (number_of raw) new) a.waiting counted in
@@ -174,33 +204,42 @@ count_is_read old mid new i d spec front rest raw g counted e =
     ∙ ap (λ c. behind_fields (record { fxy = d; spec = spec; raw = raw } ∷ []) (fields_at 1 (i + 1) c rest)) (sym told.0)
 
 -- where its bits are not there, the fields are refused
-pub field_is_missing : (old new : Walk) (i d : ℕ) (spec : Spec) (front : List Bool) (e : Failure ReadFault) → Goes (left old) (Ok (steps.Field d spec)) new → Fails e (raw_or_ends 1 i (raw_at spec front)) → Fails e (fields_at 1 i (left old) front)
+pub field_is_missing : (old new : Walk) (i d : ℕ) (spec : Spec) (front : List Bool)
+    (e : Failure ReadFault) → Goes (left old) (Ok (steps.Field d spec)) new
+    → Fails e (raw_or_ends 1 i (raw_at spec front)) → Fails e (fields_at 1 i (left old) front)
 field_is_missing old new i d spec front OutOfMemory g h = tt
 field_is_missing old new i d spec front (Fault f) g h =
     let a = asks_field (left old) d spec new g in
     ap (λ c. fields_at 1 i c front) a.is ∙ missing_field 1 i a.met d spec a.more front _ f refl h
 
 -- so they are at a count
-pub count_is_missing : (old mid : Walk) (i d : ℕ) (spec : Spec) (front : List Bool) (e : Failure ReadFault) → Goes (left old) (Ok (steps.Count d spec)) mid → Fails e (raw_or_ends 1 i (raw_at spec front)) → Fails e (fields_at 1 i (left old) front)
+pub count_is_missing : (old mid : Walk) (i d : ℕ) (spec : Spec) (front : List Bool)
+    (e : Failure ReadFault) → Goes (left old) (Ok (steps.Count d spec)) mid
+    → Fails e (raw_or_ends 1 i (raw_at spec front)) → Fails e (fields_at 1 i (left old) front)
 count_is_missing old mid i d spec front OutOfMemory g h = tt
 count_is_missing old mid i d spec front (Fault f) g h =
     let a = asks_count (left old) d spec mid g in
     ap (λ c. fields_at 1 i c front) a.is ∙ missing_field 1 i a.met d spec a.more front _ f refl h
 
 -- where the walk ends, the subset ends
-pub end_is_read : (old new : Walk) (i : ℕ) (front : List Bool) → Goes (left old) (Ok steps.End) new → fields_at 1 i (left old) front ≡ Ok (record { fields = []; items = items_met new; rest = front })
+pub end_is_read : (old new : Walk) (i : ℕ) (front : List Bool) → Goes (left old) (Ok steps.End) new
+    → fields_at 1 i (left old) front
+    ≡ Ok (record { fields = []; items = items_met new; rest = front })
 unfolding fields_at
 end_is_read old new i front g = ap (λ c. fields_at 1 i c front) (ends_there (left old) new g)
 
 -- where it stops, the fields are refused for its fault
-pub stop_is_read : (old new : Walk) (i : ℕ) (front : List Bool) (fault : WalkFault) (f : ReadFault) → Goes (left old) (Err fault) new → stopped {A = SubsetRead} fault ≡ Err f → fields_at 1 i (left old) front ≡ Err f
+pub stop_is_read : (old new : Walk) (i : ℕ) (front : List Bool) (fault : WalkFault) (f : ReadFault)
+    → Goes (left old) (Err fault) new → stopped {A = SubsetRead} fault ≡ Err f
+    → fields_at 1 i (left old) front ≡ Err f
 unfolding fields_at
 stop_is_read old new i front fault f g e = let s = stops_there (left old) fault new g in ap (λ c. fields_at 1 i c front) s.1 ∙ e
 
 -- ---- counts that were read
 
 -- a count of its spec's form is within its width
-count_form : (kind : Kind) (width : ℕ) (raw : Raw) → same_kind kind kinds.Count ≡ true → has_form_by kind width raw ≡ true → number_of raw < 2 ^ width
+count_form : (kind : Kind) (width : ℕ) (raw : Raw) → same_kind kind kinds.Count ≡ true
+    → has_form_by kind width raw ≡ true → number_of raw < 2 ^ width
 count_form kinds.Text width raw k e = absurd cc
 count_form kinds.Code width raw k e = absurd cc
 count_form kinds.Flag width raw k e = absurd cc
@@ -212,18 +251,23 @@ count_form kinds.Count width (Number n) k e = ltb-true n (2 ^ width) (second (na
   second false b e = absurd cc
 
 -- so it may be told to the walk
-pub count_fits : (old mid : Walk) (d : ℕ) (spec : Spec) (raw : Raw) → Goes (left old) (Ok (steps.Count d spec)) mid → has_form_by spec.kind spec.width raw ≡ true → IsBelowCount (left mid) (number_of raw)
+pub count_fits : (old mid : Walk) (d : ℕ) (spec : Spec) (raw : Raw)
+    → Goes (left old) (Ok (steps.Count d spec)) mid → has_form_by spec.kind spec.width raw ≡ true
+    → IsBelowCount (left mid) (number_of raw)
 count_fits old mid d spec raw g form =
     let a = asks_count (left old) d spec mid g in
     rw a.waiting (count_form spec.kind spec.width raw a.kind form)
 
 -- so may a count that was read
-pub count_read_fits : (old mid : Walk) (i d : ℕ) (spec : Spec) (front rest : List Bool) (raw : Raw) → Goes (left old) (Ok (steps.Count d spec)) mid → raw_or_ends 1 i (raw_at spec front) ≡ Ok (raw, rest) → IsBelowCount (left mid) (number_of raw)
+pub count_read_fits : (old mid : Walk) (i d : ℕ) (spec : Spec) (front rest : List Bool) (raw : Raw)
+    → Goes (left old) (Ok (steps.Count d spec)) mid
+    → raw_or_ends 1 i (raw_at spec front) ≡ Ok (raw, rest) → IsBelowCount (left mid) (number_of raw)
 count_read_fits old mid i d spec front rest raw g e =
     count_fits old mid d spec raw g (raw_read spec.kind spec.width front (raw, rest) (found_is 1 i _ _ e)).0
 
 -- a walk that steps to a count waits for it
-pub count_asked : (old mid : Walk) (d : ℕ) (spec : Spec) → Goes (left old) (Ok (steps.Count d spec)) mid → waits mid ≡ true
+pub count_asked : (old mid : Walk) (d : ℕ) (spec : Spec)
+    → Goes (left old) (Ok (steps.Count d spec)) mid → waits mid ≡ true
 count_asked old mid d spec g = (asks_count (left old) d spec mid g).asked
 
 -- ---- fields one after the other
@@ -234,17 +278,23 @@ behind_none (Ok found) = refl
 behind_none (Err e) = refl
 
 -- one more field behind those before
-pub behind_more : (fields : List Field) (field : Field) (o : Result SubsetRead ReadFault) → behind_fields fields (behind_fields (field ∷ []) o) ≡ behind_fields (fields ++ field ∷ []) o
+pub behind_more : (fields : List Field) (field : Field) (o : Result SubsetRead ReadFault)
+    → behind_fields fields (behind_fields (field ∷ []) o) ≡ behind_fields (fields ++ field ∷ []) o
 behind_more fields field (Ok found) = ap (λ fs. Ok (record found { fields = fs })) (sym (append_assoc fields (field ∷ []) found.fields))
 behind_more fields field (Err e) = refl
 
 -- where the others fail, all fail
-pub behind_fails : (fields : List Field) (e : Failure ReadFault) (o : Result SubsetRead ReadFault) → Fails e o → Fails e (behind_fields fields o)
+pub behind_fails : (fields : List Field) (e : Failure ReadFault) (o : Result SubsetRead ReadFault)
+    → Fails e o → Fails e (behind_fields fields o)
 behind_fails fields OutOfMemory o h = tt
 behind_fails fields (Fault f) o h = rw h refl
 
 -- one field more was read
-pub fields_read : (fields grown : List Field) (field : Field) (whole : Result SubsetRead ReadFault) (i : ℕ) (c d : Course) (front rest : List Bool) → grown ≡ fields ++ field ∷ [] → i ≡ length fields + 1 → whole ≡ behind_fields fields (fields_at 1 (length fields + 1) c front) → fields_at 1 i c front ≡ behind_fields (field ∷ []) (fields_at 1 (i + 1) d rest) → whole ≡ behind_fields grown (fields_at 1 (length grown + 1) d rest)
+pub fields_read : (fields grown : List Field) (field : Field) (whole : Result SubsetRead ReadFault)
+    (i : ℕ) (c d : Course) (front rest : List Bool) → grown ≡ fields ++ field ∷ []
+    → i ≡ length fields + 1 → whole ≡ behind_fields fields (fields_at 1 (length fields + 1) c front)
+    → fields_at 1 i c front ≡ behind_fields (field ∷ []) (fields_at 1 (i + 1) d rest)
+    → whole ≡ behind_fields grown (fields_at 1 (length grown + 1) d rest)
 fields_read fields grown field whole i c d front rest e index so_far step =
     let len : length grown ≡ length fields + 1 = ap length e ∙ length-append fields (field ∷ []) in
     let next : i + 1 ≡ length grown + 1 = omega arith in

@@ -34,7 +34,8 @@ use Rattle.bufr_data.proofs.FitFacts.{AreUnrolled, AreAllowed, form_passes, form
 -- ---- whether a field stands
 
 -- the step of `none_read`
-none_by : (spec : Spec) (front : List Bool) (o : Option (Raw × List Bool)) → raw_at spec front ≡ o → NoneStands spec front → raw_at spec front ≡ None
+none_by : (spec : Spec) (front : List Bool) (o : Option (Raw × List Bool)) → raw_at spec front ≡ o
+    → NoneStands spec front → raw_at spec front ≡ None
 none_by spec front None e none = e
 none_by spec front (Some x) e none =
     let is = raw_read spec.kind spec.width front x e in
@@ -51,19 +52,22 @@ none_stands spec front e = λ raw rest form is.
     cc
 
 -- within the limits a raw value has as many bits as its spec says
-raw_length : (spec : Spec) (raw : Raw) → IsWithinLimits spec → HasForm spec raw → length (raw_bits spec.width raw) ≡ spec.width
+raw_length : (spec : Spec) (raw : Raw) → IsWithinLimits spec → HasForm spec raw
+    → length (raw_bits spec.width raw) ≡ spec.width
 raw_length spec raw limits (of_text os is size all) =
     let whole : spec.width % 8 ≡ 0 = limits.whole_octets is in
     omega (arith, length-bits os)
 raw_length spec raw limits (of_number n other few below) = length-bin spec.width n
 
 -- too few bits have no field
-pub none_on_few : (spec : Spec) (front : List Bool) → IsWithinLimits spec → length front < spec.width → NoneStands spec front
+pub none_on_few : (spec : Spec) (front : List Bool) → IsWithinLimits spec
+    → length front < spec.width → NoneStands spec front
 none_on_few spec front limits short = λ raw rest form is.
     omega (arith, ap length is, length-append (raw_bits spec.width raw) rest, raw_length spec raw limits form)
 
 -- enough bits have a number
-number_stands : (spec : Spec) (front : List Bool) → (spec.kind ≡ kinds.Text → ⊥) → IsWithinLimits spec → spec.width ≤ length front → NoneStands spec front → ⊥
+number_stands : (spec : Spec) (front : List Bool) → (spec.kind ≡ kinds.Text → ⊥)
+    → IsWithinLimits spec → spec.width ≤ length front → NoneStands spec front → ⊥
 number_stands spec front other limits long none =
     let size : length (take spec.width front) ≡ spec.width = omega (arith, length-take spec.width front) in
     let below : number (take spec.width front) < 2 ^ spec.width = subst (λ k. number (take spec.width front) < 2 ^ k) size (number_below (take spec.width front)) in
@@ -72,7 +76,8 @@ number_stands spec front other limits long none =
     (sym (ap (λ xs. xs ++ drop spec.width front) spelt ∙ take-append-drop spec.width front))
 
 -- enough bits have a text
-text_stands : (spec : Spec) (front : List Bool) → spec.kind ≡ kinds.Text → IsWithinLimits spec → spec.width ≤ length front → NoneStands spec front → ⊥
+text_stands : (spec : Spec) (front : List Bool) → spec.kind ≡ kinds.Text → IsWithinLimits spec
+    → spec.width ≤ length front → NoneStands spec front → ⊥
 text_stands spec front is limits long none =
     let n = spec.width / 8 in
     let whole : spec.width % 8 ≡ 0 = limits.whole_octets is in
@@ -82,7 +87,8 @@ text_stands spec front is limits long none =
     (sym (bits_of_numbers n front room))
 
 -- enough bits have a field of any kind
-stands_by : (kind : Kind) (spec : Spec) (front : List Bool) → spec.kind ≡ kind → IsWithinLimits spec → spec.width ≤ length front → NoneStands spec front → ⊥
+stands_by : (kind : Kind) (spec : Spec) (front : List Bool) → spec.kind ≡ kind → IsWithinLimits spec
+    → spec.width ≤ length front → NoneStands spec front → ⊥
 stands_by kinds.Text spec front is limits long none = text_stands spec front is limits long none
 stands_by kinds.Code spec front is limits long none = number_stands spec front (λ t. let e = sym is ∙ t in cc) limits long none
 stands_by kinds.Flag spec front is limits long none = number_stands spec front (λ t. let e = sym is ∙ t in cc) limits long none
@@ -90,7 +96,8 @@ stands_by kinds.Quantity spec front is limits long none = number_stands spec fro
 stands_by kinds.Count spec front is limits long none = number_stands spec front (λ t. let e = sym is ∙ t in cc) limits long none
 
 -- where no field stands there are too few bits
-pub few_where_none : (spec : Spec) (front : List Bool) → IsWithinLimits spec → NoneStands spec front → length front < spec.width
+pub few_where_none : (spec : Spec) (front : List Bool) → IsWithinLimits spec → NoneStands spec front
+    → length front < spec.width
 few_where_none spec front limits none =
     elim (cases_lt (length front) spec.width) [
       | inl lt ↦ lt
@@ -100,23 +107,29 @@ few_where_none spec front limits none =
 -- ---- fields that are read
 
 -- where the course stops, no field can stand
-stop_refused : (j i met : ℕ) (w : WalkFault) (front : List Bool) (fault : ReadFault) → stopped {A = SubsetRead} w ≡ Err fault → CannotStand j i (stops met w) front fault
+stop_refused : (j i met : ℕ) (w : WalkFault) (front : List Bool) (fault : ReadFault)
+    → stopped {A = SubsetRead} w ≡ Err fault → CannotStand j i (stops met w) front fault
 stop_refused j i met walks.TooLarge front fault e = cc
 stop_refused j i met (walks.EffectiveRange d) front fault e = cc
 
 -- and its fault is the one at which it stops
-stopped_again : (j i met : ℕ) (w : WalkFault) (front : List Bool) (fault : ReadFault) → CannotStand j i (stops met w) front fault → stopped {A = SubsetRead} w ≡ Err fault
+stopped_again : (j i met : ℕ) (w : WalkFault) (front : List Bool) (fault : ReadFault)
+    → CannotStand j i (stops met w) front fault → stopped {A = SubsetRead} w ≡ Err fault
 stopped_again j i met walks.TooLarge front fault e = ap (λ x. Err x) (sym e)
 stopped_again j i met (walks.EffectiveRange d) front fault e = ap (λ x. Err x) (sym e)
 
 -- the refusal of the first field left
-refused_here : (j i : ℕ) (c : Course) (front : List Bool) (fault : ReadFault) → CannotStand j i c front fault → FieldRefused j i c front fault
+refused_here : (j i : ℕ) (c : Course) (front : List Bool) (fault : ReadFault)
+    → CannotStand j i c front fault → FieldRefused j i c front fault
 refused_here j i c front fault h =
     let same : i ≡ i + 0 = omega arith in
     record { before = []; next = c; rest = front; passed = refl; stand = refl; refused = subst (λ k. CannotStand j k c front fault) same h }
 
 -- the refusal of a field behind one that stands
-refused_behind : (j i met d : ℕ) (spec : Spec) (more : ℕ → Course) (front : List Bool) (x : Raw × List Bool) (fault : ReadFault) → raw_at spec front ≡ Some x → FieldRefused j (i + 1) (more (number_of x.0)) x.1 fault → FieldRefused j i (asks met d spec more) front fault
+refused_behind : (j i met d : ℕ) (spec : Spec) (more : ℕ → Course) (front : List Bool)
+    (x : Raw × List Bool) (fault : ReadFault) → raw_at spec front ≡ Some x
+    → FieldRefused j (i + 1) (more (number_of x.0)) x.1 fault
+    → FieldRefused j i (asks met d spec more) front fault
 refused_behind j i met d spec more front x fault e r =
     let is = raw_read spec.kind spec.width front x e in
     let field : Field = record { fxy = d; spec = spec; raw = x.0 } in
@@ -127,7 +140,8 @@ refused_behind j i met d spec more front x fault e r =
     record { before = field ∷ r.before; next = r.next; rest = r.rest; passed = (asked, r.passed); stand = spelt; refused = subst (λ k. CannotStand j k r.next r.rest fault) same r.refused }
 
 -- an error of two steps is one of the first or of the second
-bind_err : {A B F : Type 0} (o : Result A F) (k : A → Result B F) (fault : F) → (o >>= k) ≡ Err fault → (o ≡ Err fault) ⊎ ((x : A) × (o ≡ Ok x) × (k x ≡ Err fault))
+bind_err : {A B F : Type 0} (o : Result A F) (k : A → Result B F) (fault : F)
+    → (o >>= k) ≡ Err fault → (o ≡ Err fault) ⊎ ((x : A) × (o ≡ Ok x) × (k x ≡ Err fault))
 bind_err (Ok x) k fault e = inr (x, refl, e)
 bind_err (Err g) k fault e = inl cc
 
@@ -140,7 +154,12 @@ err_is : {A F : Type 0} (f g : F) → ◌≡◌ {A = Result A F} (Err f) (Err g)
 err_is f g e = cc
 
 -- the first refusal where a field is asked for: here, or behind it
-asked_refused : (j i met d : ℕ) (spec : Spec) (more : ℕ → Course) (front : List Bool) (o : Option (Raw × List Bool)) (fault : ReadFault) → raw_at spec front ≡ o → ((n : ℕ) (rest : List Bool) → fields_at j (i + 1) (more n) rest ≡ Err fault → FieldRefused j (i + 1) (more n) rest fault) → field_then j i d spec (λ n rest. fields_at j (i + 1) (more n) rest) o ≡ Err fault → FieldRefused j i (asks met d spec more) front fault
+asked_refused : (j i met d : ℕ) (spec : Spec) (more : ℕ → Course) (front : List Bool)
+    (o : Option (Raw × List Bool)) (fault : ReadFault) → raw_at spec front ≡ o
+    → ((n : ℕ) (rest : List Bool) → fields_at j (i + 1) (more n) rest ≡ Err fault
+    → FieldRefused j (i + 1) (more n) rest fault)
+    → field_then j i d spec (λ n rest. fields_at j (i + 1) (more n) rest) o ≡ Err fault
+    → FieldRefused j i (asks met d spec more) front fault
 asked_refused j i met d spec more front None fault read after e =
     refused_here j i (asks met d spec more) front fault (sym (err_is {A = SubsetRead} (faults.DataEnds j i) fault e), none_stands spec front read)
 asked_refused j i met d spec more front (Some x) fault read after e =
@@ -150,7 +169,8 @@ asked_refused j i met d spec more front (Some x) fault read after e =
     ]
 
 -- the fault of fields is that of the first that cannot stand
-pub refused_stand : (j i : ℕ) (c : Course) (front : List Bool) (fault : ReadFault) → fields_at j i c front ≡ Err fault → FieldRefused j i c front fault
+pub refused_stand : (j i : ℕ) (c : Course) (front : List Bool) (fault : ReadFault)
+    → fields_at j i c front ≡ Err fault → FieldRefused j i c front fault
 unfolding fields_at
 refused_stand j i (ends n) front fault e = absurd (not_err _ fault e)
 refused_stand j i (stops met w) front fault e = refused_here j i (stops met w) front fault (stop_refused j i met w front fault e)
@@ -158,14 +178,17 @@ refused_stand j i (asks met d spec more) front fault e =
     asked_refused j i met d spec more front _ fault refl (λ n rest h. refused_stand j (i + 1) (more n) rest fault h) e
 
 -- where a field cannot stand, its fault is answered
-here_again : (j i : ℕ) (c : Course) (front : List Bool) (fault : ReadFault) → CannotStand j i c front fault → fields_at j i c front ≡ Err fault
+here_again : (j i : ℕ) (c : Course) (front : List Bool) (fault : ReadFault)
+    → CannotStand j i c front fault → fields_at j i c front ≡ Err fault
 unfolding fields_at
 here_again j i (ends n) front fault h = absurd h
 here_again j i (stops met w) front fault h = stopped_again j i met w front fault h
 here_again j i (asks met d spec more) front fault h = rw (none_read spec front h.1) (ap (λ x. Err x) (sym h.0))
 
 -- so it is behind fields that stand
-behind_again : (j i : ℕ) (before : List Field) (c next : Course) (rest : List Bool) (fault : ReadFault) → Passes c before next → CannotStand j (i + length before) next rest fault → fields_at j i c (plain before ++ rest) ≡ Err fault
+behind_again : (j i : ℕ) (before : List Field) (c next : Course) (rest : List Bool)
+    (fault : ReadFault) → Passes c before next → CannotStand j (i + length before) next rest fault
+    → fields_at j i c (plain before ++ rest) ≡ Err fault
 unfolding fields_at
 behind_again j i [] c next rest fault passed h =
     let same : i + 0 ≡ i = omega arith in
@@ -182,14 +205,17 @@ behind_again j i (f ∷ fields) (asks met d spec more) next rest fault passed h 
     ∙ rw (raw_again spec.kind spec.width f.raw (plain fields ++ rest) (form_passes spec f.raw passed.0.2), others) refl
 
 -- the first field that cannot stand has its fault answered
-pub standing_refused : (j i : ℕ) (c : Course) (front : List Bool) (fault : ReadFault) → FieldRefused j i c front fault → fields_at j i c front ≡ Err fault
+pub standing_refused : (j i : ℕ) (c : Course) (front : List Bool) (fault : ReadFault)
+    → FieldRefused j i c front fault → fields_at j i c front ≡ Err fault
 standing_refused j i c front fault r =
     ap (fields_at j i c) r.stand ∙ behind_again j i r.before c r.next r.rest fault r.passed r.refused
 
 -- ---- subsets that are read
 
 -- a first subset that is refused is the first of all
-first_refused : (tree : Tree) (j n used : ℕ) (front : List Bool) (fault : ReadFault) → used ≤ most_items → fields_at j 1 (course tree used) front ≡ Err fault → SubsetRefused tree j (suc n) used front fault
+first_refused : (tree : Tree) (j n used : ℕ) (front : List Bool) (fault : ReadFault)
+    → used ≤ most_items → fields_at j 1 (course tree used) front ≡ Err fault
+    → SubsetRefused tree j (suc n) used front fault
 first_refused tree j n used front fault le e =
     let same : j ≡ j + 0 = omega arith in
     record {
@@ -203,7 +229,10 @@ first_refused tree j n used front fault le e =
     }
 
 -- one that is refused behind a subset that stands is the first of all
-later_refused : (tree : Tree) (j n used : ℕ) (front : List Bool) (first : SubsetRead) (fault : ReadFault) → SubsetStands tree used front first → SubsetRefused tree (j + 1) n first.items first.rest fault → SubsetRefused tree j (suc n) used front fault
+later_refused : (tree : Tree) (j n used : ℕ) (front : List Bool) (first : SubsetRead)
+    (fault : ReadFault) → SubsetStands tree used front first
+    → SubsetRefused tree (j + 1) n first.items first.rest fault
+    → SubsetRefused tree j (suc n) used front fault
 later_refused tree j n used front first fault h r =
     let s : Subset = record { fields = first.fields } in
     let own = h.0 in
@@ -223,7 +252,9 @@ later_refused tree j n used front first fault h r =
     }
 
 -- the fault of subsets is that of the first that is refused
-pub subsets_refused_stand : AreUnrolled → (tree : Tree) (j n used : ℕ) (front : List Bool) (fault : ReadFault) → used ≤ most_items → subsets_at (course tree) j n used front ≡ Err fault → SubsetRefused tree j n used front fault
+pub subsets_refused_stand : AreUnrolled
+    → (tree : Tree) (j n used : ℕ) (front : List Bool) (fault : ReadFault) → used ≤ most_items
+    → subsets_at (course tree) j n used front ≡ Err fault → SubsetRefused tree j n used front fault
 unfolding subsets_at
 subsets_refused_stand law tree j zero used front fault le e = absurd (not_err _ fault e)
 subsets_refused_stand law tree j (suc n) used front fault le e =
@@ -240,7 +271,11 @@ subsets_refused_stand law tree j (suc n) used front fault le e =
     ]
 
 -- behind subsets that stand, the fault of one is answered
-subsets_again : AreAllowed → (tree : Tree) (before : List Subset) (j n used items : ℕ) (rest : List Bool) (fault : ReadFault) → length before < n → AllFitWithin tree used before items → FieldRefused (j + length before) 1 (course tree items) rest fault → subsets_at (course tree) j n used (plain_subsets before ++ rest) ≡ Err fault
+subsets_again : AreAllowed
+    → (tree : Tree) (before : List Subset) (j n used items : ℕ) (rest : List Bool)
+    (fault : ReadFault) → length before < n → AllFitWithin tree used before items
+    → FieldRefused (j + length before) 1 (course tree items) rest fault
+    → subsets_at (course tree) j n used (plain_subsets before ++ rest) ≡ Err fault
 unfolding subsets_at
 subsets_again law tree before j zero used items rest fault fewer fit r = absurd (omega arith)
 subsets_again law tree [] j (suc n) used items rest fault fewer fit r =
@@ -268,20 +303,26 @@ subsets_again law tree (s ∷ before) j (suc n) used items rest fault fewer fit 
     rw (regrouped, first, behind) refl
 
 -- the first subset that is refused has its fault answered
-pub subsets_standing_refused : AreAllowed → (tree : Tree) (j n used : ℕ) (front : List Bool) (fault : ReadFault) → SubsetRefused tree j n used front fault → subsets_at (course tree) j n used front ≡ Err fault
+pub subsets_standing_refused : AreAllowed
+    → (tree : Tree) (j n used : ℕ) (front : List Bool) (fault : ReadFault)
+    → SubsetRefused tree j n used front fault → subsets_at (course tree) j n used front ≡ Err fault
 subsets_standing_refused law tree j n used front fault r =
     ap (subsets_at (course tree) j n used) r.stand ∙ subsets_again law tree r.before j n used r.items r.rest fault r.fewer r.fit r.refused
 
 -- ---- fields that are written
 
 -- fields that are at once not allowed are the first misfit
-misfit_here : (j i : ℕ) (c : Course) (fields : List Field) (fault : WriteFault) → CannotGoOn j i c fields fault → FieldMisfits j i c fields fault
+misfit_here : (j i : ℕ) (c : Course) (fields : List Field) (fault : WriteFault)
+    → CannotGoOn j i c fields fault → FieldMisfits j i c fields fault
 misfit_here j i c fields fault h =
     let same : i ≡ i + 0 = omega arith in
     record { before = []; others = fields; next = c; passed = refl; joined = refl; refused = subst (λ k. CannotGoOn j k c fields fault) same h }
 
 -- so are those behind a field that is asked for
-misfit_behind : (j i met d : ℕ) (spec : Spec) (more : ℕ → Course) (f : Field) (fields : List Field) (fault : WriteFault) → IsAsked d spec f → FieldMisfits j (i + 1) (more (number_of f.raw)) fields fault → FieldMisfits j i (asks met d spec more) (f ∷ fields) fault
+misfit_behind : (j i met d : ℕ) (spec : Spec) (more : ℕ → Course) (f : Field) (fields : List Field)
+    (fault : WriteFault) → IsAsked d spec f
+    → FieldMisfits j (i + 1) (more (number_of f.raw)) fields fault
+    → FieldMisfits j i (asks met d spec more) (f ∷ fields) fault
 misfit_behind j i met d spec more f fields fault asked m =
     let same : i + 1 + length m.before ≡ i + suc (length m.before) = omega arith in
     record {
@@ -294,24 +335,32 @@ misfit_behind j i met d spec more f fields fault asked m =
     }
 
 -- where the course stops, no field is allowed
-stop_misfits : (j i met : ℕ) (w : WalkFault) (fields : List Field) (fault : WriteFault) → misfit j i w ≡ fault → CannotGoOn j i (stops met w) fields fault
+stop_misfits : (j i met : ℕ) (w : WalkFault) (fields : List Field) (fault : WriteFault)
+    → misfit j i w ≡ fault → CannotGoOn j i (stops met w) fields fault
 stop_misfits j i met walks.TooLarge fields fault e = sym e
 stop_misfits j i met (walks.EffectiveRange d) fields fault e = sym e
 
 -- and its fault is the one at which it stops
-stops_again : (j i met : ℕ) (w : WalkFault) (fields : List Field) (fault : WriteFault) → CannotGoOn j i (stops met w) fields fault → misfit j i w ≡ fault
+stops_again : (j i met : ℕ) (w : WalkFault) (fields : List Field) (fault : WriteFault)
+    → CannotGoOn j i (stops met w) fields fault → misfit j i w ≡ fault
 stops_again j i met walks.TooLarge fields fault e = sym e
 stops_again j i met (walks.EffectiveRange d) fields fault e = sym e
 
 -- the test of the field that is asked for
-asked_misfits : (j i met d : ℕ) (spec : Spec) (more : ℕ → Course) (f : Field) (fields : List Field) (fault : WriteFault) (is : Bool) → stands_for d spec f ≡ is → (items_of j (i + 1) (more (number_of f.raw)) fields ≡ Err fault → FieldMisfits j (i + 1) (more (number_of f.raw)) fields fault) → cond is (items_of j (i + 1) (more (number_of f.raw)) fields) (Err (misfits.DoesNotFit j i)) ≡ Err fault → FieldMisfits j i (asks met d spec more) (f ∷ fields) fault
+asked_misfits : (j i met d : ℕ) (spec : Spec) (more : ℕ → Course) (f : Field) (fields : List Field)
+    (fault : WriteFault) (is : Bool) → stands_for d spec f ≡ is
+    → (items_of j (i + 1) (more (number_of f.raw)) fields ≡ Err fault
+    → FieldMisfits j (i + 1) (more (number_of f.raw)) fields fault)
+    → cond is (items_of j (i + 1) (more (number_of f.raw)) fields) (Err (misfits.DoesNotFit j i))
+    ≡ Err fault → FieldMisfits j i (asks met d spec more) (f ∷ fields) fault
 asked_misfits j i met d spec more f fields fault true is after e = misfit_behind j i met d spec more f fields fault (asked_is d spec f is) (after e)
 asked_misfits j i met d spec more f fields fault false is after e =
     misfit_here j i (asks met d spec more) (f ∷ fields) fault
     (sym (err_is {A = ℕ} (misfits.DoesNotFit j i) fault e), λ asked. let yes : stands_for d spec f ≡ true = asked_passes d spec f asked in cc)
 
 -- the fault of fields is that of the first misfit
-pub refused_misfit : (j i : ℕ) (c : Course) (fields : List Field) (fault : WriteFault) → items_of j i c fields ≡ Err fault → FieldMisfits j i c fields fault
+pub refused_misfit : (j i : ℕ) (c : Course) (fields : List Field) (fault : WriteFault)
+    → items_of j i c fields ≡ Err fault → FieldMisfits j i c fields fault
 unfolding items_of
 refused_misfit j i (ends n) [] fault e = absurd (not_err _ fault e)
 refused_misfit j i (ends n) (f ∷ fields) fault e = misfit_here j i (ends n) (f ∷ fields) fault (sym (err_is {A = ℕ} (misfits.DoesNotFit j i) fault e))
@@ -322,12 +371,14 @@ refused_misfit j i (asks met d spec more) (f ∷ fields) fault e =
     asked_misfits j i met d spec more f fields fault (stands_for d spec f) refl (refused_misfit j (i + 1) (more (number_of f.raw)) fields fault) e
 
 -- a field that is not asked for does not pass
-not_asked : (d : ℕ) (spec : Spec) (f : Field) (is : Bool) → stands_for d spec f ≡ is → (IsAsked d spec f → ⊥) → stands_for d spec f ≡ false
+not_asked : (d : ℕ) (spec : Spec) (f : Field) (is : Bool) → stands_for d spec f ≡ is
+    → (IsAsked d spec f → ⊥) → stands_for d spec f ≡ false
 not_asked d spec f false e none = e
 not_asked d spec f true e none = absurd (none (asked_is d spec f e))
 
 -- fields that are at once not allowed have their fault answered
-go_on_again : (j i : ℕ) (c : Course) (fields : List Field) (fault : WriteFault) → CannotGoOn j i c fields fault → items_of j i c fields ≡ Err fault
+go_on_again : (j i : ℕ) (c : Course) (fields : List Field) (fault : WriteFault)
+    → CannotGoOn j i c fields fault → items_of j i c fields ≡ Err fault
 unfolding items_of
 go_on_again j i (ends n) [] fault h = absurd h
 go_on_again j i (ends n) (f ∷ fields) fault h = ap (λ x. Err x) (sym h)
@@ -336,7 +387,9 @@ go_on_again j i (asks met d spec more) [] fault h = ap (λ x. Err x) (sym h)
 go_on_again j i (asks met d spec more) (f ∷ fields) fault h = rw (not_asked d spec f (stands_for d spec f) refl h.1) (ap (λ x. Err x) (sym h.0))
 
 -- so they have behind fields that are asked for
-misfit_again : (j i : ℕ) (before others : List Field) (c next : Course) (fault : WriteFault) → Passes c before next → CannotGoOn j (i + length before) next others fault → items_of j i c (before ++ others) ≡ Err fault
+misfit_again : (j i : ℕ) (before others : List Field) (c next : Course) (fault : WriteFault)
+    → Passes c before next → CannotGoOn j (i + length before) next others fault
+    → items_of j i c (before ++ others) ≡ Err fault
 unfolding items_of
 misfit_again j i [] others c next fault passed h =
     let same : i + 0 ≡ i = omega arith in
@@ -349,14 +402,17 @@ misfit_again j i (f ∷ before) others (asks met d spec more) next fault passed 
     rw (asked_passes d spec f passed.0) behind
 
 -- the first misfit has its fault answered
-pub misfit_refused : (j i : ℕ) (c : Course) (fields : List Field) (fault : WriteFault) → FieldMisfits j i c fields fault → items_of j i c fields ≡ Err fault
+pub misfit_refused : (j i : ℕ) (c : Course) (fields : List Field) (fault : WriteFault)
+    → FieldMisfits j i c fields fault → items_of j i c fields ≡ Err fault
 misfit_refused j i c fields fault m =
     ap (items_of j i c) m.joined ∙ misfit_again j i m.before m.others c m.next fault m.passed m.refused
 
 -- ---- subsets that are written
 
 -- a first subset that does not fit is the first of all
-first_misfits : (tree : Tree) (j used : ℕ) (s : Subset) (subsets : List Subset) (fault : WriteFault) → used ≤ most_items → items_of j 1 (course tree used) s.fields ≡ Err fault → SubsetMisfits tree j used (s ∷ subsets) fault
+first_misfits : (tree : Tree) (j used : ℕ) (s : Subset) (subsets : List Subset) (fault : WriteFault)
+    → used ≤ most_items → items_of j 1 (course tree used) s.fields ≡ Err fault
+    → SubsetMisfits tree j used (s ∷ subsets) fault
 first_misfits tree j used s subsets fault le e =
     let same : j ≡ j + 0 = omega arith in
     record {
@@ -370,7 +426,9 @@ first_misfits tree j used s subsets fault le e =
     }
 
 -- one that does not fit behind a subset that fits is the first of all
-later_misfits : (tree : Tree) (j used n : ℕ) (s : Subset) (subsets : List Subset) (fault : WriteFault) → FitsWithin tree used s.fields n → SubsetMisfits tree (j + 1) n subsets fault → SubsetMisfits tree j used (s ∷ subsets) fault
+later_misfits : (tree : Tree) (j used n : ℕ) (s : Subset) (subsets : List Subset)
+    (fault : WriteFault) → FitsWithin tree used s.fields n
+    → SubsetMisfits tree (j + 1) n subsets fault → SubsetMisfits tree j used (s ∷ subsets) fault
 later_misfits tree j used n s subsets fault own m =
     let others = m.fit in
     let same : j + 1 + length m.before ≡ j + suc (length m.before) = omega arith in
@@ -385,7 +443,10 @@ later_misfits tree j used n s subsets fault own m =
     }
 
 -- the fault of subsets is that of the first that does not fit
-all_refused_misfit : AreUnrolled → (tree : Tree) (j used : ℕ) (subsets : List Subset) (fault : WriteFault) → used ≤ most_items → items_of_all (course tree) j used subsets ≡ Err fault → SubsetMisfits tree j used subsets fault
+all_refused_misfit : AreUnrolled
+    → (tree : Tree) (j used : ℕ) (subsets : List Subset) (fault : WriteFault) → used ≤ most_items
+    → items_of_all (course tree) j used subsets ≡ Err fault
+    → SubsetMisfits tree j used subsets fault
 unfolding items_of_all
 all_refused_misfit law tree j used [] fault le e = absurd (not_err _ fault e)
 all_refused_misfit law tree j used (s ∷ subsets) fault le e =
@@ -397,7 +458,11 @@ all_refused_misfit law tree j used (s ∷ subsets) fault le e =
     ]
 
 -- behind subsets that fit, the fault of one is answered
-all_misfit_again : AreAllowed → (tree : Tree) (before : List Subset) (j used items : ℕ) (here : Subset) (others : List Subset) (fault : WriteFault) → AllFitWithin tree used before items → FieldMisfits (j + length before) 1 (course tree items) here.fields fault → items_of_all (course tree) j used (before ++ here ∷ others) ≡ Err fault
+all_misfit_again : AreAllowed
+    → (tree : Tree) (before : List Subset) (j used items : ℕ) (here : Subset) (others : List Subset)
+    (fault : WriteFault) → AllFitWithin tree used before items
+    → FieldMisfits (j + length before) 1 (course tree items) here.fields fault
+    → items_of_all (course tree) j used (before ++ here ∷ others) ≡ Err fault
 unfolding items_of_all
 all_misfit_again law tree [] j used items here others fault fit m =
     let none : fit.0 ≡ 0 = fit.1 in
@@ -419,17 +484,21 @@ all_misfit_again law tree (s ∷ before) j used items here others fault fit m =
     (all_misfit_again law tree before (j + 1) (used + own) items here others fault (rest, fit.1.3, omega arith, few) (subst (λ k. FieldMisfits k 1 (course tree items) here.fields fault) place m))
 
 -- an error of what is mapped is an error before
-map_err : (o : Result ℕ WriteFault) (bits : List Bool) (fault : WriteFault) → result_map (λ items. bits) o ≡ Err fault → o ≡ Err fault
+map_err : (o : Result ℕ WriteFault) (bits : List Bool) (fault : WriteFault)
+    → result_map (λ items. bits) o ≡ Err fault → o ≡ Err fault
 map_err (Ok n) bits fault e = absurd (not_err bits fault e)
 map_err (Err g) bits fault e = cc
 
 -- the fault of what is written is that of the first subset that does not fit
-pub written_refused_misfit : AreUnrolled → (tree : Tree) (subsets : List Subset) (fault : WriteFault) → written_bits tree false subsets ≡ Err fault → SubsetMisfits tree 1 0 subsets fault
+pub written_refused_misfit : AreUnrolled
+    → (tree : Tree) (subsets : List Subset) (fault : WriteFault)
+    → written_bits tree false subsets ≡ Err fault → SubsetMisfits tree 1 0 subsets fault
 written_refused_misfit law tree subsets fault e =
     all_refused_misfit law tree 1 0 subsets fault (omega arith) (map_err (items_of_all (course tree) 1 0 subsets) (plain_subsets subsets) fault e)
 
 -- the first subset that does not fit has its fault answered
-pub written_misfit_refused : AreAllowed → (tree : Tree) (subsets : List Subset) (fault : WriteFault) → SubsetMisfits tree 1 0 subsets fault → written_bits tree false subsets ≡ Err fault
+pub written_misfit_refused : AreAllowed → (tree : Tree) (subsets : List Subset) (fault : WriteFault)
+    → SubsetMisfits tree 1 0 subsets fault → written_bits tree false subsets ≡ Err fault
 written_misfit_refused law tree subsets fault m =
     let e : items_of_all (course tree) 1 0 subsets ≡ Err fault =
     ap (items_of_all (course tree) 1 0) m.joined ∙ all_misfit_again law tree m.before 1 0 m.items m.here m.others fault m.fit m.refused in

@@ -20,28 +20,38 @@ ok_is (Ok y) x e = refl
 ok_is (Err f) x e = absurd cc
 
 -- one more start at the end, and a subset begins at each
-all_push : (octets : List ℕ) (tree : Tree) (starts : List Start) (s : Start) → AllStand octets tree starts → BeginsAtStart octets tree s → AllStand octets tree (starts ++ s ∷ [])
+all_push : (octets : List ℕ) (tree : Tree) (starts : List Start) (s : Start)
+    → AllStand octets tree starts → BeginsAtStart octets tree s
+    → AllStand octets tree (starts ++ s ∷ [])
 all_push octets tree [] s all one = (one, tt)
 all_push octets tree (t ∷ starts) s all one = (all.0, all_push octets tree starts s all.1 one)
 
 -- what was passed is read from the start on
-read_there : (octets : List ℕ) (tree : Tree) (s : Start) (front rest : List Bool) (items : ℕ) → front ≡ drop s.bit (bits octets)
-    → (p : PassesSubset (fields_at 1 1 (course tree s.used) front) items rest) → subset_at octets tree s ≡ Ok (record { fields = p.0; items = items; rest = rest })
+read_there : (octets : List ℕ) (tree : Tree) (s : Start) (front rest : List Bool) (items : ℕ)
+    → front ≡ drop s.bit (bits octets)
+    → (p : PassesSubset (fields_at 1 1 (course tree s.used) front) items rest)
+    → subset_at octets tree s ≡ Ok (record { fields = p.0; items = items; rest = rest })
 read_there octets tree s front rest items is p = ap (fields_at 1 1 (course tree s.used)) (sym is) ∙ p.1
 
 -- one start more stands
-pub one_stands : (octets : List ℕ) (tree : Tree) (s : Start) (front rest : List Bool) (items : ℕ) (starts grown : List Start) → grown ≡ starts ++ s ∷ []
-    → front ≡ drop s.bit (bits octets) → s.bit ≤ 8 * length octets → AllStand octets tree starts → PassesSubset (fields_at 1 1 (course tree s.used) front) items rest
+pub one_stands : (octets : List ℕ) (tree : Tree) (s : Start) (front rest : List Bool) (items : ℕ)
+    (starts grown : List Start) → grown ≡ starts ++ s ∷ [] → front ≡ drop s.bit (bits octets)
+    → s.bit ≤ 8 * length octets → AllStand octets tree starts
+    → PassesSubset (fields_at 1 1 (course tree s.used) front) items rest
     → AllStand octets tree grown
 one_stands octets tree s front rest items starts grown is there inside all p =
     subst (AllStand octets tree) (sym is) (all_push octets tree starts s all (inside, ok_is _ _ (read_there octets tree s front rest items there p)))
 
 -- one start more is that of one subset more
-pub one_start : (octets : List ℕ) (tree : Tree) (s : Start) (n index : ℕ) (front rest : List Bool) (items : ℕ) (starts grown : List Start) (all : Result SubsetsRead ReadFault) → grown ≡ starts ++ s ∷ []
+pub one_start : (octets : List ℕ) (tree : Tree) (s : Start) (n index : ℕ)
+    (front rest : List Bool) (items : ℕ) (starts grown : List Start)
+    (all : Result SubsetsRead ReadFault) → grown ≡ starts ++ s ∷ []
     → front ≡ drop s.bit (bits octets) → index < n
-    → all ≡ after (map (subset_from octets tree) starts) (subsets_at (course tree) (index + 1) (n - index) s.used front)
+    → all ≡ after (map (subset_from octets tree) starts)
+    (subsets_at (course tree) (index + 1) (n - index) s.used front)
     → PassesSubset (fields_at 1 1 (course tree s.used) front) items rest
-    → all ≡ after (map (subset_from octets tree) grown) (subsets_at (course tree) (index + 1 + 1) (n - (index + 1)) items rest)
+    → all ≡ after (map (subset_from octets tree) grown)
+    (subsets_at (course tree) (index + 1 + 1) (n - (index + 1)) items rest)
 one_start octets tree s n index front rest items starts grown all is there below so_far p =
     let first : SubsetRead = record { fields = p.0; items = items; rest = rest } in
     let found : fields_at (index + 1) 1 (course tree s.used) front ≡ Ok first = fields_at_numbered (index + 1) 1 (course tree s.used) front ∙ ap (numbered (index + 1)) p.1 in

@@ -17,17 +17,20 @@ use Rattle.bufr_data.specs.Numbered.{failure_of_subset, numbered, after}
 -- ---- the number of a subset is told by its faults alone
 
 -- a fault at which a walk stops has no number of a subset
-stopped_numbered : {A : Type 0} (j : ℕ) (fault : WalkFault) → stopped {A = A} fault ≡ numbered j (stopped {A = A} fault)
+stopped_numbered : {A : Type 0} (j : ℕ) (fault : WalkFault)
+    → stopped {A = A} fault ≡ numbered j (stopped {A = A} fault)
 stopped_numbered j walks.TooLarge = refl
 stopped_numbered j (walks.EffectiveRange d) = refl
 
 -- a value that is changed keeps its number
-ok_numbered : {A B : Type 0} (j : ℕ) (f : A → B) (x : Result A ReadFault) → (numbered j x >>= λ a. Ok (f a)) ≡ numbered j (x >>= λ a. Ok (f a))
+ok_numbered : {A B : Type 0} (j : ℕ) (f : A → B) (x : Result A ReadFault)
+    → (numbered j x >>= λ a. Ok (f a)) ≡ numbered j (x >>= λ a. Ok (f a))
 ok_numbered j f (Ok a) = refl
 ok_numbered j f (Err e) = refl
 
 -- the step of `fields_at_numbered` at one field
-field_numbered : (j i d : ℕ) (spec : Spec) (one other : ℕ → List Bool → Result SubsetRead ReadFault) (x : Option (Raw × List Bool))
+field_numbered : (j i d : ℕ) (spec : Spec) (one other : ℕ → List Bool → Result SubsetRead ReadFault)
+    (x : Option (Raw × List Bool))
     → ((n : ℕ) (rest : List Bool) → other n rest ≡ numbered j (one n rest))
     → field_then j i d spec other x ≡ numbered j (field_then 1 i d spec one x)
 field_numbered j i d spec one other None same = refl
@@ -35,7 +38,8 @@ field_numbered j i d spec one other (Some x) same =
     rw (same (number_of x.0) x.1) (ok_numbered j (λ (found : SubsetRead). record found { fields = record { fxy = d; spec = spec; raw = x.0 } ∷ found.fields }) (one (number_of x.0) x.1))
 
 -- a subset is read in the same way whatever its number, which its faults tell
-pub fields_at_numbered : (j i : ℕ) (c : Course) (text : List Bool) → fields_at j i c text ≡ numbered j (fields_at 1 i c text)
+pub fields_at_numbered : (j i : ℕ) (c : Course) (text : List Bool)
+    → fields_at j i c text ≡ numbered j (fields_at 1 i c text)
 unfolding fields_at
 fields_at_numbered j i (ends n) text = refl
 fields_at_numbered j i (stops met fault) text = stopped_numbered j fault
@@ -43,14 +47,16 @@ fields_at_numbered j i (asks met d spec more) text =
     field_numbered j i d spec (λ n rest. fields_at 1 (i + 1) (more n) rest) (λ n rest. fields_at j (i + 1) (more n) rest) (raw_at spec text) (λ n rest. fields_at_numbered j (i + 1) (more n) rest)
 
 -- a failure of a subset of a number
-pub fails_numbered : {A : Type 0} (j : ℕ) (failure : Failure ReadFault) (x : Result A ReadFault) → Fails failure x → Fails (failure_of_subset j failure) (numbered j x)
+pub fails_numbered : {A : Type 0} (j : ℕ) (failure : Failure ReadFault) (x : Result A ReadFault)
+    → Fails failure x → Fails (failure_of_subset j failure) (numbered j x)
 fails_numbered j (Fault f) x fails = ap (numbered j) fails
 fails_numbered j OutOfMemory x fails = tt
 
 -- ---- subset after subset
 
 -- a failure of the first of two steps is one of both
-pub fails_then : {A B F : Type 0} (failure : Failure F) (x : Result A F) (f : A → Result B F) → Fails failure x → Fails failure (x >>= f)
+pub fails_then : {A B F : Type 0} (failure : Failure F) (x : Result A F) (f : A → Result B F)
+    → Fails failure x → Fails failure (x >>= f)
 fails_then (Fault fault) x f fails = ap (λ y. y >>= f) fails
 fails_then OutOfMemory x f fails = tt
 
@@ -65,31 +71,36 @@ none_before (Err e) = refl
 
 -- a subset behind those before it, and then the others
 join_after : (before : List Subset) (s : Subset) (x : Result SubsetsRead ReadFault)
-    → after before (x >>= λ others. Ok (record others { subsets = s ∷ others.subsets })) ≡ after (before ++ s ∷ []) x
+    → after before (x >>= λ others. Ok (record others { subsets = s ∷ others.subsets }))
+    ≡ after (before ++ s ∷ []) x
 join_after before s (Ok others) = ap (λ (xs : List Subset). Ok (record others { subsets = xs })) (sym (append_assoc before (s ∷ []) others.subsets))
 join_after before s (Err e) = refl
 
 -- one subset more was read
-pub one_more : (course : ℕ → Course) (n index used : ℕ) (text : List Bool) (before : List Subset) (all : Result SubsetsRead ReadFault) (first : SubsetRead)
-    → index < n → all ≡ after before (subsets_at course (index + 1) (n - index) used text)
+pub one_more : (course : ℕ → Course) (n index used : ℕ) (text : List Bool) (before : List Subset)
+    (all : Result SubsetsRead ReadFault) (first : SubsetRead) → index < n
+    → all ≡ after before (subsets_at course (index + 1) (n - index) used text)
     → fields_at (index + 1) 1 (course used) text ≡ Ok first
-    → all ≡ after (before ++ record { fields = first.fields } ∷ []) (subsets_at course (index + 1 + 1) (n - (index + 1)) first.items first.rest)
+    → all
+    ≡ after (before ++ record { fields = first.fields } ∷ [])
+    (subsets_at course (index + 1 + 1) (n - (index + 1)) first.items first.rest)
 unfolding subsets_at
 one_more course n index used text before all first below is found =
     is ∙ rw (one_less n index below, found) (join_after before (record { fields = first.fields }) (subsets_at course (index + 1 + 1) (n - (index + 1)) first.items first.rest))
 
 -- the next subset cannot be read
-pub one_fails : (course : ℕ → Course) (n index used : ℕ) (text : List Bool) (before : List Subset) (all : Result SubsetsRead ReadFault) (failure : Failure ReadFault)
-    → index < n → all ≡ after before (subsets_at course (index + 1) (n - index) used text)
-    → Fails failure (fields_at (index + 1) 1 (course used) text)
-    → Fails failure all
+pub one_fails : (course : ℕ → Course) (n index used : ℕ) (text : List Bool) (before : List Subset)
+    (all : Result SubsetsRead ReadFault) (failure : Failure ReadFault) → index < n
+    → all ≡ after before (subsets_at course (index + 1) (n - index) used text)
+    → Fails failure (fields_at (index + 1) 1 (course used) text) → Fails failure all
 unfolding subsets_at
 one_fails course n index used text before all (Fault fault) below is fails = is ∙ rw (one_less n index below, fails) refl
 one_fails course n index used text before all OutOfMemory below is fails = tt
 
 -- all were read
-pub all_read : (course : ℕ → Course) (j n index used : ℕ) (text : List Bool) (before : List Subset) (all : Result SubsetsRead ReadFault)
-    → n ≤ index → all ≡ after before (subsets_at course j (n - index) used text)
+pub all_read : (course : ℕ → Course) (j n index used : ℕ) (text : List Bool) (before : List Subset)
+    (all : Result SubsetsRead ReadFault) → n ≤ index
+    → all ≡ after before (subsets_at course j (n - index) used text)
     → all ≡ Ok (record { subsets = before; items = used; rest = text })
 unfolding subsets_at
 all_read course j n index used text before all past is =
@@ -97,6 +108,7 @@ all_read course j n index used text before all past is =
     is ∙ rw (none, append-nil before) refl
 
 -- a view of what was read fails as the reading does
-pub fails_map : {A B F : Type 0} (failure : Failure F) (f : A → B) (x : Result A F) → Fails failure x → Fails failure (result_map f x)
+pub fails_map : {A B F : Type 0} (failure : Failure F) (f : A → B) (x : Result A F)
+    → Fails failure x → Fails failure (result_map f x)
 fails_map (Fault fault) f x fails = ap (result_map f) fails
 fails_map OutOfMemory f x fails = tt

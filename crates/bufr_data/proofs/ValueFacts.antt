@@ -1,4 +1,5 @@
--- One value of a column behind its minimum and width: for the subset of an index (`Columns::subset`).
+-- One value of a column behind its minimum and width: for the subset of an index
+-- (`Columns::subset`).
 use Rattle.std.proofs.Common.{◌≡◌, ℕ, zero, suc, ◌+◌, ◌-◌, ◌*◌, ◌/◌, ◌<◌, ◌≤◌, Bool, true, false, cond, List, ◌∷◌, ◌++◌, length, take, drop, replicate, get_or, Option, Some, None, Result, Ok, Err, refl, sym, ap, ◌∙◌, arith}
 use Rattle.std.specs.Prelude.{◌==◌, option_map, IsSome, IsOk}
 use Rattle.std.specs.List.{list_all}
@@ -26,43 +27,61 @@ use Rattle.bufr_data.proofs.PassFacts.{octets_none, minimum_there, text_raw, num
 -- ---- texts
 
 -- a column of texts without its minimum has no value
-pub text_without_minimum : (spec : Spec) (index : ℕ) (front : List Bool) (b : ℕ) → spec.kind ≡ kinds.Text → b ≡ spec.width / 8 * 8 → length front < b → None ≡ one_at spec index front
+pub text_without_minimum : (spec : Spec) (index : ℕ) (front : List Bool) (b : ℕ)
+    → spec.kind ≡ kinds.Text → b ≡ spec.width / 8 * 8 → length front < b
+    → None ≡ one_at spec index front
 text_without_minimum spec index front b is size short =
     let less : length front < spec.width / 8 * 8 = omega (arith, size, short) in
     rw (text_raw spec front is, octets_none (spec.width / 8) front less) refl
 
 -- nor has one without its width
-pub text_without_width : (spec : Spec) (index : ℕ) (front mid : List Bool) (b : ℕ) → spec.kind ≡ kinds.Text → b ≡ spec.width / 8 * 8 → b ≤ length front → mid ≡ drop b front → number_at 6 mid ≡ None → None ≡ one_at spec index front
+pub text_without_width : (spec : Spec) (index : ℕ) (front mid : List Bool) (b : ℕ)
+    → spec.kind ≡ kinds.Text → b ≡ spec.width / 8 * 8 → b ≤ length front → mid ≡ drop b front
+    → number_at 6 mid ≡ None → None ≡ one_at spec index front
 text_without_width spec index front mid b is size long left none =
     rw (minimum_there spec front mid b is size long left, none) refl
 
 -- behind both the value is read at its place
-behind_width : (spec : Spec) (index : ℕ) (front mid : List Bool) (b k : ℕ) (rest : List Bool) → spec.kind ≡ kinds.Text → b ≡ spec.width / 8 * 8 → b ≤ length front → mid ≡ drop b front → number_at 6 mid ≡ Some (k, rest) → one_at spec index front ≡ one_behind spec (Text (numbers (spec.width / 8) 8 front)) k index rest
+behind_width : (spec : Spec) (index : ℕ) (front mid : List Bool) (b k : ℕ) (rest : List Bool)
+    → spec.kind ≡ kinds.Text → b ≡ spec.width / 8 * 8 → b ≤ length front → mid ≡ drop b front
+    → number_at 6 mid ≡ Some (k, rest)
+    → one_at spec index front
+    ≡ one_behind spec (Text (numbers (spec.width / 8) 8 front)) k index rest
 behind_width spec index front mid b k rest is size long left found =
     rw (minimum_there spec front mid b is size long left, found) refl
 
 -- texts of more octets than the field have none
-wide_behind : (spec : Spec) (own : List ℕ) (k index : ℕ) (rest : List Bool) → spec.width / 8 < k → one_behind spec (Text own) k index rest ≡ None
+wide_behind : (spec : Spec) (own : List ℕ) (k index : ℕ) (rest : List Bool) → spec.width / 8 < k
+    → one_behind spec (Text own) k index rest ≡ None
 wide_behind spec own zero index rest lt = absurd (omega (arith, lt))
 wide_behind spec own (suc k) index rest lt = rw (lt-ltb (spec.width / 8) (suc k) lt) refl
 
 -- nor has a column of such texts
-pub text_too_wide : (spec : Spec) (index : ℕ) (front mid : List Bool) (b k : ℕ) (rest : List Bool) → spec.kind ≡ kinds.Text → b ≡ spec.width / 8 * 8 → b ≤ length front → mid ≡ drop b front → number_at 6 mid ≡ Some (k, rest) → spec.width / 8 < k → None ≡ one_at spec index front
+pub text_too_wide : (spec : Spec) (index : ℕ) (front mid : List Bool) (b k : ℕ) (rest : List Bool)
+    → spec.kind ≡ kinds.Text → b ≡ spec.width / 8 * 8 → b ≤ length front → mid ≡ drop b front
+    → number_at 6 mid ≡ Some (k, rest) → spec.width / 8 < k → None ≡ one_at spec index front
 text_too_wide spec index front mid b k rest is size long left found lt =
     sym (behind_width spec index front mid b k rest is size long left found ∙ wide_behind spec (numbers (spec.width / 8) 8 front) k index rest lt)
 
 -- a text is there exactly where its octets are
-text_behind : (spec : Spec) (own : List ℕ) (k index : ℕ) (rest : List Bool) → (k ≡ 0 → ⊥) → k ≤ spec.width / 8 → one_behind spec (Text own) k index rest ≡ option_map (λ x. filled (spec.width / 8) x.0) (octets_at k (drop (index * (k * 8)) rest))
+text_behind : (spec : Spec) (own : List ℕ) (k index : ℕ) (rest : List Bool) → (k ≡ 0 → ⊥)
+    → k ≤ spec.width / 8
+    → one_behind spec (Text own) k index rest
+    ≡ option_map (λ x. filled (spec.width / 8) x.0) (octets_at k (drop (index * (k * 8)) rest))
 text_behind spec own zero index rest some le = absurd (some refl)
 text_behind spec own (suc k) index rest some le = rw (le-ltb (spec.width / 8) (suc k) le) refl
 
 -- past the end there is no text
-nothing_there : (k c : ℕ) (rest : List Bool) → (k ≡ 0 → ⊥) → length rest < c → octets_at k (drop c rest) ≡ None
+nothing_there : (k c : ℕ) (rest : List Bool) → (k ≡ 0 → ⊥) → length rest < c
+    → octets_at k (drop c rest) ≡ None
 nothing_there k c rest some short =
     let less : length (drop c rest) < k * 8 = omega (arith, length-drop c rest, short, some) in octets_none k (drop c rest) less
 
 -- so a text past the end has no value
-pub text_past : (spec : Spec) (index : ℕ) (front mid : List Bool) (b k : ℕ) (rest : List Bool) (c : ℕ) → spec.kind ≡ kinds.Text → b ≡ spec.width / 8 * 8 → b ≤ length front → mid ≡ drop b front → number_at 6 mid ≡ Some (k, rest) → (k ≡ 0 → ⊥) → k ≤ spec.width / 8 → c ≡ index * (k * 8) → length rest < c → None ≡ one_at spec index front
+pub text_past : (spec : Spec) (index : ℕ) (front mid : List Bool) (b k : ℕ) (rest : List Bool)
+    (c : ℕ) → spec.kind ≡ kinds.Text → b ≡ spec.width / 8 * 8 → b ≤ length front
+    → mid ≡ drop b front → number_at 6 mid ≡ Some (k, rest) → (k ≡ 0 → ⊥) → k ≤ spec.width / 8
+    → c ≡ index * (k * 8) → length rest < c → None ≡ one_at spec index front
 text_past spec index front mid b k rest c is size long left found some le times short =
     sym
     (behind_width spec index front mid b k rest is size long left found ∙ text_behind spec (numbers (spec.width / 8) 8 front) k index rest some le
@@ -70,7 +89,12 @@ text_past spec index front mid b k rest c is size long left found some le times 
     ∙ ap (option_map (λ x. filled (spec.width / 8) x.0)) (nothing_there k c rest some short))
 
 -- a text that is there has its value
-pub text_there_is : (spec : Spec) (index : ℕ) (front mid : List Bool) (b k : ℕ) (rest : List Bool) (c : ℕ) (last : List Bool) (o : Option (List ℕ × List Bool)) → spec.kind ≡ kinds.Text → b ≡ spec.width / 8 * 8 → b ≤ length front → mid ≡ drop b front → number_at 6 mid ≡ Some (k, rest) → (k ≡ 0 → ⊥) → k ≤ spec.width / 8 → c ≡ index * (k * 8) → last ≡ drop c rest → octets_at k last ≡ o → option_map (λ x. filled (spec.width / 8) x.0) o ≡ one_at spec index front
+pub text_there_is : (spec : Spec) (index : ℕ) (front mid : List Bool) (b k : ℕ) (rest : List Bool)
+    (c : ℕ) (last : List Bool) (o : Option (List ℕ × List Bool)) → spec.kind ≡ kinds.Text
+    → b ≡ spec.width / 8 * 8 → b ≤ length front → mid ≡ drop b front
+    → number_at 6 mid ≡ Some (k, rest) → (k ≡ 0 → ⊥) → k ≤ spec.width / 8 → c ≡ index * (k * 8)
+    → last ≡ drop c rest → octets_at k last ≡ o
+    → option_map (λ x. filled (spec.width / 8) x.0) o ≡ one_at spec index front
 text_there_is spec index front mid b k rest c last o is size long left found some le times behind there =
     sym
     (behind_width spec index front mid b k rest is size long left found ∙ text_behind spec (numbers (spec.width / 8) 8 front) k index rest some le
@@ -79,7 +103,8 @@ text_there_is spec index front mid b k rest c last o is size long left found som
     ∙ ap (option_map (λ x. filled (spec.width / 8) x.0)) there)
 
 -- a text that is read has its octets
-pub own_octets : (k : ℕ) (front : List Bool) (own : List ℕ) (rest : List Bool) → octets_at k front ≡ Some (own, rest) → length own ≡ k
+pub own_octets : (k : ℕ) (front : List Bool) (own : List ℕ) (rest : List Bool)
+    → octets_at k front ≡ Some (own, rest) → length own ≡ k
 own_octets k front own rest e = (numbers_at_found k 8 front (own, rest) e).0
 
 -- so many and so many of the same
@@ -90,7 +115,10 @@ replicate-append (suc a) b x =
     ap (λ xs. x ∷ xs) (replicate-append a b x) ∙ ap (λ n. replicate n x) same
 
 -- a text is filled as the code does
-pub filled_is : (octets : ℕ) (own : List ℕ) (filler : ℕ) (t : Bool) → list_all (λ x. x == 255) own ≡ t → filler ≡ cond t 255 32 → length own ≤ octets → ◌≡◌ {A = Raw} (Text (take octets own ++ replicate (octets - length own) filler)) (filled octets own)
+pub filled_is : (octets : ℕ) (own : List ℕ) (filler : ℕ) (t : Bool)
+    → list_all (λ x. x == 255) own ≡ t → filler ≡ cond t 255 32 → length own ≤ octets
+    → ◌≡◌ {A = Raw} (Text (take octets own ++ replicate (octets - length own) filler))
+    (filled octets own)
 filled_is octets own filler true ones is short =
     let whole : own ≡ replicate (length own) 255 = ones_of own ones in
     let size : length own + (octets - length own) ≡ octets = omega (arith, short) in
@@ -107,11 +135,15 @@ filled_is octets own filler false ones is short =
 -- ---- numbers
 
 -- a field of 64 bits at most has a number where its bits are there
-pub narrow_number : (width : ℕ) (front : List Bool) (x : ℕ × List Bool) → width ≤ 64 → number_at width front ≡ Some x → field_number_at width front ≡ Some x
+pub narrow_number : (width : ℕ) (front : List Bool) (x : ℕ × List Bool) → width ≤ 64
+    → number_at width front ≡ Some x → field_number_at width front ≡ Some x
 narrow_number width front x le e = rw (le-leb width 64 le) e
 
 -- an increment past the end has no value
-pub number_past : (spec : Spec) (index : ℕ) (front mid rest : List Bool) (m k c : ℕ) → same_kind spec.kind kinds.Text ≡ false → field_number_at spec.width front ≡ Some (m, mid) → number_at 6 mid ≡ Some (k, rest) → (k ≡ 0 → ⊥) → c ≡ index * k → length rest < c → None ≡ one_at spec index front
+pub number_past : (spec : Spec) (index : ℕ) (front mid rest : List Bool) (m k c : ℕ)
+    → same_kind spec.kind kinds.Text ≡ false → field_number_at spec.width front ≡ Some (m, mid)
+    → number_at 6 mid ≡ Some (k, rest) → (k ≡ 0 → ⊥) → c ≡ index * k → length rest < c
+    → None ≡ one_at spec index front
 unfolding number_at
 number_past spec index front mid rest m zero c other first second some times short = absurd (some refl)
 number_past spec index front mid rest m (suc k) c other first second some times short =
@@ -126,7 +158,9 @@ ok_of (Ok x) h = (x, refl)
 ok_of (Err e) h = absurd cc
 
 -- the value at an index of a column
-value_at_column : (spec : Spec) (values : List Raw) (column rest : List Bool) (index : ℕ) → IsColumn spec values column → index < length values → one_at spec index (column ++ rest) ≡ Some (get_or values index (Number 0))
+value_at_column : (spec : Spec) (values : List Raw) (column rest : List Bool) (index : ℕ)
+    → IsColumn spec values column → index < length values
+    → one_at spec index (column ++ rest) ≡ Some (get_or values index (Number 0))
 value_at_column spec values column rest index is inside =
     let one = one_value spec values column rest index is inside in
     let first : raw_at spec (column ++ rest) ≡ Some (one.minimum, bin 6 one.k ++ one.rest) =
@@ -135,7 +169,9 @@ value_at_column spec values column rest index is inside =
     rw (first, second) one.value
 
 -- the value at an index of a column at a place
-pub value_there : (octets : List ℕ) (n index : ℕ) (p : Place) → Opens octets n p → index < n → one_at p.spec index (drop p.bit (bits octets)) ≡ Some (get_or (values_of (read_at octets n p)) index (Number 0))
+pub value_there : (octets : List ℕ) (n index : ℕ) (p : Place) → Opens octets n p → index < n
+    → one_at p.spec index (drop p.bit (bits octets))
+    ≡ Some (get_or (values_of (read_at octets n p)) index (Number 0))
 value_there octets n index p opens inside =
     let x = ok_of (read_at octets n p) opens.1 in
     let found = column_found n 1 p.spec (drop p.bit (bits octets)) x.0 x.1 in

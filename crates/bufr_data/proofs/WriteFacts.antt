@@ -26,27 +26,36 @@ use Rattle.bufr_data.proofs.ReadFacts.{asks_field, asks_count, ends_there, stops
 -- ---- one field
 
 -- a field that is asked for is counted, and then the others
-asked_fits : (j i met d : ℕ) (spec : Spec) (more : ℕ → Course) (f : Field) (rest : List Field) → stands_for d spec f ≡ true → items_of j i (asks met d spec more) (f ∷ rest) ≡ items_of j (i + 1) (more (number_of f.raw)) rest
+asked_fits : (j i met d : ℕ) (spec : Spec) (more : ℕ → Course) (f : Field) (rest : List Field)
+    → stands_for d spec f ≡ true
+    → items_of j i (asks met d spec more) (f ∷ rest)
+    ≡ items_of j (i + 1) (more (number_of f.raw)) rest
 unfolding items_of
 asked_fits j i met d spec more f rest e = rw e refl
 
 -- the fault of a test is that of what it guards
-misfit_is : (b : Bool) (j i : ℕ) (o : Result ℕ WriteFault) (f : WriteFault) → fits_or j i b ≡ Err f → cond b o (Err (misfits.DoesNotFit j i)) ≡ Err f
+misfit_is : (b : Bool) (j i : ℕ) (o : Result ℕ WriteFault) (f : WriteFault) → fits_or j i b ≡ Err f
+    → cond b o (Err (misfits.DoesNotFit j i)) ≡ Err f
 misfit_is true j i o f e = absurd cc
 misfit_is false j i o f e = let same = e in cc
 
 -- a field that is not asked for is the fault
-asked_misfits : (j i met d : ℕ) (spec : Spec) (more : ℕ → Course) (f : Field) (rest : List Field) (fault : WriteFault) → fits_or j i (stands_for d spec f) ≡ Err fault → items_of j i (asks met d spec more) (f ∷ rest) ≡ Err fault
+asked_misfits : (j i met d : ℕ) (spec : Spec) (more : ℕ → Course) (f : Field) (rest : List Field)
+    (fault : WriteFault) → fits_or j i (stands_for d spec f) ≡ Err fault
+    → items_of j i (asks met d spec more) (f ∷ rest) ≡ Err fault
 unfolding items_of
 asked_misfits j i met d spec more f rest fault e = misfit_is (stands_for d spec f) j i (items_of j (i + 1) (more (number_of f.raw)) rest) fault e
 
 -- no field where one is asked for is the fault
-asked_lacks : (j i met d : ℕ) (spec : Spec) (more : ℕ → Course) → items_of j i (asks met d spec more) [] ≡ Err (misfits.DoesNotFit j i)
+asked_lacks : (j i met d : ℕ) (spec : Spec) (more : ℕ → Course)
+    → items_of j i (asks met d spec more) [] ≡ Err (misfits.DoesNotFit j i)
 unfolding items_of
 asked_lacks j i met d spec more = refl
 
 -- a field at which the walk steps is counted
-pub field_is_written : (old new : Walk) (j i d : ℕ) (spec : Spec) (f : Field) (rest : List Field) → IsReady old → Goes (left old) (Ok (steps.Field d spec)) new → stands_for d spec f ≡ true → items_of j i (left old) (f ∷ rest) ≡ items_of j (i + 1) (left new) rest
+pub field_is_written : (old new : Walk) (j i d : ℕ) (spec : Spec) (f : Field) (rest : List Field)
+    → IsReady old → Goes (left old) (Ok (steps.Field d spec)) new → stands_for d spec f ≡ true
+    → items_of j i (left old) (f ∷ rest) ≡ items_of j (i + 1) (left new) rest
 field_is_written old new j i d spec f rest ready g e =
     let a = asks_field (left old) d spec new g in
     let s = steady_step (items_met old) a.met d spec a.more (subst (λ (x : Course). IsSteady (items_met old) x) a.is ready.steady) in
@@ -55,7 +64,10 @@ field_is_written old new j i d spec f rest ready g e =
     ∙ ap (λ c. items_of j (i + 1) c rest) (s.2 a.kind (number_of f.raw) ∙ sym a.after)
 
 -- so is a count
-pub count_is_written : (old mid new : Walk) (j i d : ℕ) (spec : Spec) (f : Field) (rest : List Field) → Goes (left old) (Ok (steps.Count d spec)) mid → Counted (left mid) (number_of f.raw) new → stands_for d spec f ≡ true → items_of j i (left old) (f ∷ rest) ≡ items_of j (i + 1) (left new) rest
+pub count_is_written : (old mid new : Walk) (j i d : ℕ) (spec : Spec) (f : Field)
+    (rest : List Field) → Goes (left old) (Ok (steps.Count d spec)) mid
+    → Counted (left mid) (number_of f.raw) new → stands_for d spec f ≡ true
+    → items_of j i (left old) (f ∷ rest) ≡ items_of j (i + 1) (left new) rest
 count_is_written old mid new j i d spec f rest g counted e =
     let a = asks_count (left old) d spec mid g in
     let told = subst (λ (x : Course). Counted x (number_of f.raw) new) a.waiting counted in
@@ -69,48 +81,63 @@ form_of true b e = e
 form_of false b e = absurd cc
 
 -- a count of its spec's form may be told to the walk
-pub count_written_fits : (old mid : Walk) (d : ℕ) (spec : Spec) (f : Field) → Goes (left old) (Ok (steps.Count d spec)) mid → stands_for d spec f ≡ true → IsBelowCount (left mid) (number_of f.raw)
+pub count_written_fits : (old mid : Walk) (d : ℕ) (spec : Spec) (f : Field)
+    → Goes (left old) (Ok (steps.Count d spec)) mid → stands_for d spec f ≡ true
+    → IsBelowCount (left mid) (number_of f.raw)
 count_written_fits old mid d spec f g e =
     count_fits old mid d spec f.raw g (form_of (f.fxy == d && same_spec f.spec spec) (has_form_by spec.kind spec.width f.raw) e)
 
 -- a field that is not the one asked for is the fault
-pub field_misfits : (old new : Walk) (j i d : ℕ) (spec : Spec) (f : Field) (rest : List Field) (e : Failure WriteFault) → Goes (left old) (Ok (steps.Field d spec)) new → Fails e (fits_or j i (stands_for d spec f)) → Fails e (items_of j i (left old) (f ∷ rest))
+pub field_misfits : (old new : Walk) (j i d : ℕ) (spec : Spec) (f : Field) (rest : List Field)
+    (e : Failure WriteFault) → Goes (left old) (Ok (steps.Field d spec)) new
+    → Fails e (fits_or j i (stands_for d spec f)) → Fails e (items_of j i (left old) (f ∷ rest))
 field_misfits old new j i d spec f rest OutOfMemory g h = tt
 field_misfits old new j i d spec f rest (Fault fault) g h =
     let a = asks_field (left old) d spec new g in
     ap (λ c. items_of j i c (f ∷ rest)) a.is ∙ asked_misfits j i a.met d spec a.more f rest fault h
 
 -- so is a count
-pub count_misfits : (old mid : Walk) (j i d : ℕ) (spec : Spec) (f : Field) (rest : List Field) (e : Failure WriteFault) → Goes (left old) (Ok (steps.Count d spec)) mid → Fails e (fits_or j i (stands_for d spec f)) → Fails e (items_of j i (left old) (f ∷ rest))
+pub count_misfits : (old mid : Walk) (j i d : ℕ) (spec : Spec) (f : Field) (rest : List Field)
+    (e : Failure WriteFault) → Goes (left old) (Ok (steps.Count d spec)) mid
+    → Fails e (fits_or j i (stands_for d spec f)) → Fails e (items_of j i (left old) (f ∷ rest))
 count_misfits old mid j i d spec f rest OutOfMemory g h = tt
 count_misfits old mid j i d spec f rest (Fault fault) g h =
     let a = asks_count (left old) d spec mid g in
     ap (λ c. items_of j i c (f ∷ rest)) a.is ∙ asked_misfits j i a.met d spec a.more f rest fault h
 
 -- a field too many is the fault
-pub end_misfits : (old new : Walk) (j i : ℕ) (f : Field) (rest : List Field) → Goes (left old) (Ok steps.End) new → items_of j i (left old) (f ∷ rest) ≡ Err (misfits.DoesNotFit j i)
+pub end_misfits : (old new : Walk) (j i : ℕ) (f : Field) (rest : List Field)
+    → Goes (left old) (Ok steps.End) new
+    → items_of j i (left old) (f ∷ rest) ≡ Err (misfits.DoesNotFit j i)
 unfolding items_of
 end_misfits old new j i f rest g = ap (λ c. items_of j i c (f ∷ rest)) (ends_there (left old) new g)
 
 -- where the walk stops, its fault is
-pub stop_misfits : (old new : Walk) (j i : ℕ) (fields : List Field) (fault : WalkFault) (f : WriteFault) → Goes (left old) (Err fault) new → f ≡ misfit j i fault → items_of j i (left old) fields ≡ Err f
+pub stop_misfits : (old new : Walk) (j i : ℕ) (fields : List Field) (fault : WalkFault)
+    (f : WriteFault) → Goes (left old) (Err fault) new → f ≡ misfit j i fault
+    → items_of j i (left old) fields ≡ Err f
 unfolding items_of
 stop_misfits old new j i fields fault f g e =
     ap (λ c. items_of j i c fields) (stops_there (left old) fault new g).1 ∙ ap (λ x. Err x) (sym e)
 
 -- where the walk ends, the fields end
-pub end_fits : (old new : Walk) (j i n : ℕ) → Goes (left old) (Ok steps.End) new → n ≡ items_met new → items_of j i (left old) [] ≡ Ok n
+pub end_fits : (old new : Walk) (j i n : ℕ) → Goes (left old) (Ok steps.End) new → n ≡ items_met new
+    → items_of j i (left old) [] ≡ Ok n
 unfolding items_of
 end_fits old new j i n g e = ap (λ c. items_of j i c []) (ends_there (left old) new g) ∙ ap (λ x. Ok x) (sym e)
 
 -- a field too few is the fault
-pub field_lacks : (old new : Walk) (j i d : ℕ) (spec : Spec) → Goes (left old) (Ok (steps.Field d spec)) new → items_of j i (left old) [] ≡ Err (misfits.DoesNotFit j i)
+pub field_lacks : (old new : Walk) (j i d : ℕ) (spec : Spec)
+    → Goes (left old) (Ok (steps.Field d spec)) new
+    → items_of j i (left old) [] ≡ Err (misfits.DoesNotFit j i)
 field_lacks old new j i d spec g =
     let a = asks_field (left old) d spec new g in
     ap (λ c. items_of j i c []) a.is ∙ asked_lacks j i a.met d spec a.more
 
 -- so is a count too few
-pub count_lacks : (old mid : Walk) (j i d : ℕ) (spec : Spec) → Goes (left old) (Ok (steps.Count d spec)) mid → items_of j i (left old) [] ≡ Err (misfits.DoesNotFit j i)
+pub count_lacks : (old mid : Walk) (j i d : ℕ) (spec : Spec)
+    → Goes (left old) (Ok (steps.Count d spec)) mid
+    → items_of j i (left old) [] ≡ Err (misfits.DoesNotFit j i)
 count_lacks old mid j i d spec g =
     let a = asks_count (left old) d spec mid g in
     ap (λ c. items_of j i c []) a.is ∙ asked_lacks j i a.met d spec a.more
@@ -123,11 +150,13 @@ fits_is j i false u e = absurd cc
 -- ---- fields one after the other
 
 -- the list from an index on begins with the one there
-next_is : {X : Type 0} → (xs : List X) (k : ℕ) (x : X) → k < length xs → x ≡ get_or xs k x → drop k xs ≡ x ∷ drop (k + 1) xs
+next_is : {X : Type 0} → (xs : List X) (k : ℕ) (x : X) → k < length xs → x ≡ get_or xs k x
+    → drop k xs ≡ x ∷ drop (k + 1) xs
 next_is xs k x h is = rw (add-one k) (drop-cons xs k x h ∙ ap (λ y. y ∷ drop (suc k) xs) (sym is))
 
 -- the front with one more
-front_is : {X : Type 0} → (xs : List X) (k : ℕ) (x : X) → k < length xs → x ≡ get_or xs k x → take (k + 1) xs ≡ take k xs ++ x ∷ []
+front_is : {X : Type 0} → (xs : List X) (k : ℕ) (x : X) → k < length xs → x ≡ get_or xs k x
+    → take (k + 1) xs ≡ take k xs ++ x ∷ []
 front_is xs k x h is = take_more xs k x h ∙ ap (λ y. take k xs ++ y ∷ []) (sym is)
 
 -- the bits of fields with one more
@@ -136,43 +165,60 @@ plain-push [] f = append-nil (field_bits f)
 plain-push (g ∷ fs) f = ap (λ xs. field_bits g ++ xs) (plain-push fs f) ∙ sym (append_assoc (field_bits g) (plain fs) (field_bits f))
 
 -- the bits of subsets with one more
-subsets-push : (ss : List Subset) (s : Subset) → plain_subsets (ss ++ s ∷ []) ≡ plain_subsets ss ++ plain s.fields
+subsets-push : (ss : List Subset) (s : Subset)
+    → plain_subsets (ss ++ s ∷ []) ≡ plain_subsets ss ++ plain s.fields
 subsets-push [] s = append-nil (plain s.fields)
 subsets-push (t ∷ ss) s = ap (λ xs. plain t.fields ++ xs) (subsets-push ss s) ∙ sym (append_assoc (plain t.fields) (plain_subsets ss) (plain s.fields))
 
 -- the fields from the next one on
-pub fields_step : (j k : ℕ) (c d : Course) (fields : List Field) (f : Field) (whole : Result ℕ WriteFault) → k < length fields → f ≡ get_or fields k f → whole ≡ items_of j (k + 1) c (drop k fields) → ((rest : List Field) → items_of j (k + 1) c (f ∷ rest) ≡ items_of j (k + 1 + 1) d rest) → whole ≡ items_of j (k + 1 + 1) d (drop (k + 1) fields)
+pub fields_step : (j k : ℕ) (c d : Course) (fields : List Field) (f : Field)
+    (whole : Result ℕ WriteFault) → k < length fields → f ≡ get_or fields k f
+    → whole ≡ items_of j (k + 1) c (drop k fields)
+    → ((rest : List Field) → items_of j (k + 1) c (f ∷ rest) ≡ items_of j (k + 1 + 1) d rest)
+    → whole ≡ items_of j (k + 1 + 1) d (drop (k + 1) fields)
 fields_step j k c d fields f whole h is so_far step =
     so_far ∙ ap (λ fs. items_of j (k + 1) c fs) (next_is fields k f h is) ∙ step (drop (k + 1) fields)
 
 -- where they fail, all fail
-pub fields_fail : (j k : ℕ) (c : Course) (fields : List Field) (f : Field) (whole : Result ℕ WriteFault) (e : Failure WriteFault) → k < length fields → f ≡ get_or fields k f → whole ≡ items_of j (k + 1) c (drop k fields) → ((rest : List Field) → Fails e (items_of j (k + 1) c (f ∷ rest))) → Fails e whole
+pub fields_fail : (j k : ℕ) (c : Course) (fields : List Field) (f : Field)
+    (whole : Result ℕ WriteFault) (e : Failure WriteFault) → k < length fields
+    → f ≡ get_or fields k f → whole ≡ items_of j (k + 1) c (drop k fields)
+    → ((rest : List Field) → Fails e (items_of j (k + 1) c (f ∷ rest))) → Fails e whole
 fields_fail j k c fields f whole e h is so_far fails =
     rw (so_far, next_is fields k f h is) (fails (drop (k + 1) fields))
 
 -- at the end no field is left
-pub fields_end : (j k n : ℕ) (c : Course) (fields : List Field) (whole : Result ℕ WriteFault) → length fields ≤ k → whole ≡ items_of j (k + 1) c (drop k fields) → whole ≡ items_of j (k + 1) c []
+pub fields_end : (j k n : ℕ) (c : Course) (fields : List Field) (whole : Result ℕ WriteFault)
+    → length fields ≤ k → whole ≡ items_of j (k + 1) c (drop k fields)
+    → whole ≡ items_of j (k + 1) c []
 fields_end j k n c fields whole h so_far = so_far ∙ ap (λ fs. items_of j (k + 1) c fs) (drop_all k fields h)
 
 -- the bits that were put with those of one more field
-pub bits_step : (k : ℕ) (fields : List Field) (f : Field) (old mid new : List Bool) → k < length fields → f ≡ get_or fields k f → mid ≡ old ++ plain (take k fields) → new ≡ mid ++ field_bits f → new ≡ old ++ plain (take (k + 1) fields)
+pub bits_step : (k : ℕ) (fields : List Field) (f : Field) (old mid new : List Bool)
+    → k < length fields → f ≡ get_or fields k f → mid ≡ old ++ plain (take k fields)
+    → new ≡ mid ++ field_bits f → new ≡ old ++ plain (take (k + 1) fields)
 bits_step k fields f old mid new h is so_far put =
     put ∙ ap (λ xs. xs ++ field_bits f) so_far ∙ append_assoc old (plain (take k fields)) (field_bits f)
     ∙ ap (λ xs. old ++ xs) (sym (plain-push (take k fields) f)) ∙ ap (λ fs. old ++ plain fs) (sym (front_is fields k f h is))
 
 -- at the end they are those of all
-pub bits_end : (k : ℕ) (fields : List Field) (old new : List Bool) → length fields ≤ k → new ≡ old ++ plain (take k fields) → new ≡ old ++ plain fields
+pub bits_end : (k : ℕ) (fields : List Field) (old new : List Bool) → length fields ≤ k
+    → new ≡ old ++ plain (take k fields) → new ≡ old ++ plain fields
 bits_end k fields old new h so_far = so_far ∙ ap (λ fs. old ++ plain fs) (take_all k fields h)
 
 -- ---- subsets one after the other
 
 -- behind a subset that fits the others are counted
-one_more : (course : ℕ → Course) (j used n : ℕ) (s : Subset) (rest : List Subset) → items_of j 1 (course used) s.fields ≡ Ok n → items_of_all course j used (s ∷ rest) ≡ items_of_all course (j + 1) n rest
+one_more : (course : ℕ → Course) (j used n : ℕ) (s : Subset) (rest : List Subset)
+    → items_of j 1 (course used) s.fields ≡ Ok n
+    → items_of_all course j used (s ∷ rest) ≡ items_of_all course (j + 1) n rest
 unfolding items_of_all
 one_more course j used n s rest e = rw e refl
 
 -- one that does not fails for all
-one_fails : (course : ℕ → Course) (j used : ℕ) (s : Subset) (rest : List Subset) (e : Failure WriteFault) → Fails e (items_of j 1 (course used) s.fields) → Fails e (items_of_all course j used (s ∷ rest))
+one_fails : (course : ℕ → Course) (j used : ℕ) (s : Subset) (rest : List Subset)
+    (e : Failure WriteFault) → Fails e (items_of j 1 (course used) s.fields)
+    → Fails e (items_of_all course j used (s ∷ rest))
 unfolding items_of_all
 one_fails course j used s rest OutOfMemory h = tt
 one_fails course j used s rest (Fault f) h = rw h refl
@@ -183,37 +229,53 @@ unfolding items_of_all
 none_left course j used = refl
 
 -- before the first subset all are left
-pub subsets_none : (course : ℕ → Course) (subsets : List Subset) → items_of_all course 1 0 subsets ≡ items_of_all course (0 + 1) 0 (drop 0 subsets)
+pub subsets_none : (course : ℕ → Course) (subsets : List Subset)
+    → items_of_all course 1 0 subsets ≡ items_of_all course (0 + 1) 0 (drop 0 subsets)
 subsets_none course subsets = refl
 
 -- the subsets from the next one on
-pub subsets_step : (course : ℕ → Course) (k used n : ℕ) (subsets : List Subset) (s : Subset) (whole : Result ℕ WriteFault) → k < length subsets → s ≡ get_or subsets k s → whole ≡ items_of_all course (k + 1) used (drop k subsets) → items_of (k + 1) 1 (course used) s.fields ≡ Ok n → whole ≡ items_of_all course (k + 1 + 1) n (drop (k + 1) subsets)
+pub subsets_step : (course : ℕ → Course) (k used n : ℕ) (subsets : List Subset) (s : Subset)
+    (whole : Result ℕ WriteFault) → k < length subsets → s ≡ get_or subsets k s
+    → whole ≡ items_of_all course (k + 1) used (drop k subsets)
+    → items_of (k + 1) 1 (course used) s.fields ≡ Ok n
+    → whole ≡ items_of_all course (k + 1 + 1) n (drop (k + 1) subsets)
 subsets_step course k used n subsets s whole h is so_far e =
     so_far ∙ ap (λ ss. items_of_all course (k + 1) used ss) (next_is subsets k s h is) ∙ one_more course (k + 1) used n s (drop (k + 1) subsets) e
 
 -- where one fails, what is written fails
-pub subsets_fail : (course : ℕ → Course) (k used : ℕ) (subsets : List Subset) (s : Subset) (whole : Result ℕ WriteFault) (e : Failure WriteFault) → k < length subsets → s ≡ get_or subsets k s → whole ≡ items_of_all course (k + 1) used (drop k subsets) → Fails e (items_of (k + 1) 1 (course used) s.fields) → Fails e (result_map (λ items. plain_subsets subsets) whole)
+pub subsets_fail : (course : ℕ → Course) (k used : ℕ) (subsets : List Subset) (s : Subset)
+    (whole : Result ℕ WriteFault) (e : Failure WriteFault) → k < length subsets
+    → s ≡ get_or subsets k s → whole ≡ items_of_all course (k + 1) used (drop k subsets)
+    → Fails e (items_of (k + 1) 1 (course used) s.fields)
+    → Fails e (result_map (λ items. plain_subsets subsets) whole)
 subsets_fail course k used subsets s whole OutOfMemory h is so_far fails = tt
 subsets_fail course k used subsets s whole (Fault f) h is so_far fails =
     ap (result_map (λ items. plain_subsets subsets)) (so_far ∙ ap (λ ss. items_of_all course (k + 1) used ss) (next_is subsets k s h is) ∙ one_fails course (k + 1) used s (drop (k + 1) subsets) (Fault f) fails)
 
 -- at the end all are written
-pub subsets_end : (course : ℕ → Course) (k used : ℕ) (subsets : List Subset) (whole : Result ℕ WriteFault) → length subsets ≤ k → whole ≡ items_of_all course (k + 1) used (drop k subsets) → result_map (λ items. plain_subsets subsets) whole ≡ Ok (plain_subsets subsets)
+pub subsets_end : (course : ℕ → Course) (k used : ℕ) (subsets : List Subset)
+    (whole : Result ℕ WriteFault) → length subsets ≤ k
+    → whole ≡ items_of_all course (k + 1) used (drop k subsets)
+    → result_map (λ items. plain_subsets subsets) whole ≡ Ok (plain_subsets subsets)
 subsets_end course k used subsets whole h so_far =
     ap (result_map (λ items. plain_subsets subsets)) (so_far ∙ ap (λ ss. items_of_all course (k + 1) used ss) (drop_all k subsets h) ∙ none_left course (k + 1) used)
 
 -- the bits that were put with those of one more subset
-pub subset_bits_step : (k : ℕ) (subsets : List Subset) (s : Subset) (old mid new : List Bool) → k < length subsets → s ≡ get_or subsets k s → mid ≡ old ++ plain_subsets (take k subsets) → new ≡ mid ++ plain s.fields → new ≡ old ++ plain_subsets (take (k + 1) subsets)
+pub subset_bits_step : (k : ℕ) (subsets : List Subset) (s : Subset) (old mid new : List Bool)
+    → k < length subsets → s ≡ get_or subsets k s → mid ≡ old ++ plain_subsets (take k subsets)
+    → new ≡ mid ++ plain s.fields → new ≡ old ++ plain_subsets (take (k + 1) subsets)
 subset_bits_step k subsets s old mid new h is so_far put =
     put ∙ ap (λ xs. xs ++ plain s.fields) so_far ∙ append_assoc old (plain_subsets (take k subsets)) (plain s.fields)
     ∙ ap (λ xs. old ++ xs) (sym (subsets-push (take k subsets) s)) ∙ ap (λ ss. old ++ plain_subsets ss) (sym (front_is subsets k s h is))
 
 -- at the end they are those of all
-pub subset_bits_end : (k : ℕ) (subsets : List Subset) (old new : List Bool) → length subsets ≤ k → new ≡ old ++ plain_subsets (take k subsets) → new ≡ old ++ plain_subsets subsets
+pub subset_bits_end : (k : ℕ) (subsets : List Subset) (old new : List Bool) → length subsets ≤ k
+    → new ≡ old ++ plain_subsets (take k subsets) → new ≡ old ++ plain_subsets subsets
 subset_bits_end k subsets old new h so_far = so_far ∙ ap (λ ss. old ++ plain_subsets ss) (take_all k subsets h)
 
 -- bits that were put stay at the front
-pub extends_more : (old mid new : List Bool) (added : List Bool) → mid ≡ old ++ added → (more : List Bool) × (new ≡ mid ++ more) → (all : List Bool) × (new ≡ old ++ all)
+pub extends_more : (old mid new : List Bool) (added : List Bool) → mid ≡ old ++ added
+    → (more : List Bool) × (new ≡ mid ++ more) → (all : List Bool) × (new ≡ old ++ all)
 extends_more old mid new added e m = (added ++ m.0, m.1 ∙ ap (λ xs. xs ++ m.0) e ∙ append_assoc old added m.0)
 
 -- ---- fields that were counted have their forms
@@ -227,7 +289,8 @@ own_form d spec f e =
     ∙ and_second (f.fxy == d && same_spec f.spec spec) (has_form_by spec.kind spec.width f.raw) e
 
 -- so has each field that is counted
-pub counted_forms : (j i : ℕ) (c : Course) (fields : List Field) (n : ℕ) → items_of j i c fields ≡ Ok n → list_all has_own_form fields ≡ true
+pub counted_forms : (j i : ℕ) (c : Course) (fields : List Field) (n : ℕ)
+    → items_of j i c fields ≡ Ok n → list_all has_own_form fields ≡ true
 unfolding items_of
 counted_forms j i c [] n e = refl
 counted_forms j i (ends m) (f ∷ fields) n e = absurd cc

@@ -35,14 +35,16 @@ all_empty k zero = refl
 all_empty k (suc m) = all_empty (k + 1) m
 
 -- each subset begins like the first
-all_like : (k m : ℕ) (f : Field) (c : Column) (cs : List Column) → f.fxy ≡ c.fxy → f.spec ≡ c.spec → list_all (begins_like f) (fields_from k m (c ∷ cs)) ≡ true
+all_like : (k m : ℕ) (f : Field) (c : Column) (cs : List Column) → f.fxy ≡ c.fxy → f.spec ≡ c.spec
+    → list_all (begins_like f) (fields_from k m (c ∷ cs)) ≡ true
 all_like k zero f c cs d s = refl
 all_like k (suc m) f c cs d s =
     let same : same_spec c.spec f.spec ≡ true = ap (λ t. same_spec c.spec t) s ∙ spec_is_same c.spec in
     rw (eq-eqb f.fxy c.fxy d, same, all_like (k + 1) m f c cs d s) refl
 
 -- behind a column stand the fields of the others
-all_behind : (k m : ℕ) (c : Column) (cs : List Column) → map (drop 1) (fields_from k m (c ∷ cs)) ≡ fields_from k m cs
+all_behind : (k m : ℕ) (c : Column) (cs : List Column)
+    → map (drop 1) (fields_from k m (c ∷ cs)) ≡ fields_from k m cs
 all_behind k zero c cs = refl
 all_behind k (suc m) c cs = ap (λ rows. map (field_of k) cs ∷ rows) (all_behind (k + 1) m c cs)
 
@@ -54,7 +56,8 @@ drop_whole zero (v ∷ vs) all = absurd (omega (arith, all))
 drop_whole (suc k) (v ∷ vs) all = drop_whole k vs (omega (arith, all))
 
 -- the values from an index on begin with the one there
-drop_next : (k : ℕ) (vs : List Raw) → k < length vs → drop k vs ≡ get_or vs k (Number 0) ∷ drop (k + 1) vs
+drop_next : (k : ℕ) (vs : List Raw) → k < length vs
+    → drop k vs ≡ get_or vs k (Number 0) ∷ drop (k + 1) vs
 drop_next k [] short = absurd (omega (arith, short))
 drop_next zero (v ∷ vs) short = refl
 drop_next (suc k) (v ∷ vs) short =
@@ -62,7 +65,8 @@ drop_next (suc k) (v ∷ vs) short =
     drop_next k vs (omega (arith, short)) ∙ ap (λ n. get_or vs k (Number 0) ∷ drop n (v ∷ vs)) (sym same)
 
 -- the first values of subsets are those of the column
-values_behind : (k m : ℕ) (c : Column) (cs : List Column) → length c.values ≡ k + m → map first_raw (fields_from k m (c ∷ cs)) ≡ drop k c.values
+values_behind : (k m : ℕ) (c : Column) (cs : List Column) → length c.values ≡ k + m
+    → map first_raw (fields_from k m (c ∷ cs)) ≡ drop k c.values
 values_behind k zero c cs size = sym (drop_whole k c.values (omega (arith, size)))
 values_behind k (suc m) c cs size =
     ap (λ vs. get_or c.values k (Number 0) ∷ vs) (values_behind (k + 1) m c cs (omega (arith, size))) ∙ sym (drop_next k c.values (omega (arith, size)))
@@ -72,11 +76,14 @@ both_true : (a b : Bool) → a ≡ true → b ≡ true → (a && b) ≡ true
 both_true a b ea eb = rw ea eb
 
 -- a place that is a column, and then the others
-column_or_ok : (i : ℕ) (b : Bool) (c d : Column) (others : Result (List Column) WriteFault) (cs : List Column) → b ≡ true → c ≡ d → others ≡ Ok cs → column_or i b c others ≡ Ok (d ∷ cs)
+column_or_ok : (i : ℕ) (b : Bool) (c d : Column) (others : Result (List Column) WriteFault)
+    (cs : List Column) → b ≡ true → c ≡ d → others ≡ Ok cs → column_or i b c others ≡ Ok (d ∷ cs)
 column_or_ok i b c d others cs can same ok = rw (can, ok) (ap (λ x. Ok (x ∷ cs)) same)
 
 -- columns each of which can be written are the columns of their subsets
-pub columns_written : (i m : ℕ) (columns : List Column) → AllByRecursion (CanBeWritten (suc m)) columns → columns_of i (map (field_of 0) columns) (fields_from 1 m columns) ≡ Ok columns
+pub columns_written : (i m : ℕ) (columns : List Column)
+    → AllByRecursion (CanBeWritten (suc m)) columns
+    → columns_of i (map (field_of 0) columns) (fields_from 1 m columns) ≡ Ok columns
 unfolding columns_of
 columns_written i m [] all = rw (all_empty 1 m) refl
 columns_written i m (c ∷ cs) all =
@@ -88,12 +95,16 @@ columns_written i m (c ∷ cs) all =
     (ap (columns_of (i + 1) (map (field_of 0) cs)) (all_behind 1 m c cs) ∙ columns_written (i + 1) m cs all.1)
 
 -- subsets that fit one by one are counted one by one
-pub each_counted : AreAllowed → (tree : Tree) (j : ℕ) (subsets : List Subset) → AllByRecursion (FitsAlone tree) subsets → each_fits tree j subsets ≡ Ok tt
+pub each_counted : AreAllowed → (tree : Tree) (j : ℕ) (subsets : List Subset)
+    → AllByRecursion (FitsAlone tree) subsets → each_fits tree j subsets ≡ Ok tt
 each_counted law tree j [] fit = refl
 each_counted law tree j (s ∷ subsets) fit = rw (fitting_counted law tree j 0 fit.0.0 s.fields fit.0.1) (each_counted law tree (j + 1) subsets fit.1)
 
 -- so the best columns are what is written
-pub fitting_columns_written : AreAllowed → (tree : Tree) (subsets : List Subset) (columns : List Column) → AllByRecursion (FitsAlone tree) subsets → AreBestColumns subsets columns → written_bits tree true subsets ≡ Ok (best_bits columns)
+pub fitting_columns_written : AreAllowed
+    → (tree : Tree) (subsets : List Subset) (columns : List Column)
+    → AllByRecursion (FitsAlone tree) subsets → AreBestColumns subsets columns
+    → written_bits tree true subsets ≡ Ok (best_bits columns)
 fitting_columns_written law tree [] columns fit are = ap (λ cs. Ok (best_bits cs)) (sym are)
 fitting_columns_written law tree (s ∷ subsets) columns fit are =
     let whole : subsets_from 0 (suc (length subsets)) columns ≡ s ∷ subsets = sym are.0 in
@@ -103,7 +114,9 @@ fitting_columns_written law tree (s ∷ subsets) columns fit are =
 -- ---- what is written are the best columns
 
 -- columns of places can each be written
-pub all_can : (i : ℕ) (fs : List Field) (others : List (List Field)) (columns : List Column) → columns_of i fs others ≡ Ok columns → AllByRecursion (CanBeWritten (1 + length others)) columns
+pub all_can : (i : ℕ) (fs : List Field) (others : List (List Field)) (columns : List Column)
+    → columns_of i fs others ≡ Ok columns
+    → AllByRecursion (CanBeWritten (1 + length others)) columns
 all_can i [] others columns e =
     subst (λ cs. AllByRecursion (CanBeWritten (1 + length others)) cs) (sym (none_taken i others columns e).1) tt
 all_can i (f ∷ fs) others columns e =
@@ -114,7 +127,10 @@ all_can i (f ∷ fs) others columns e =
     subst (λ cs. AllByRecursion (CanBeWritten (1 + length others)) cs) (sym h.is) ((size, h.can), after)
 
 -- columns that are packed are the best
-best_pack : (s : Subset) (subsets : List Subset) (columns : List Column) (content : List Bool) → columns_of 1 s.fields (map (λ (t : Subset). t.fields) subsets) ≡ Ok columns → packed (length (s ∷ subsets)) columns ≡ Ok content → AreBestColumns (s ∷ subsets) columns × (content ≡ best_bits columns)
+best_pack : (s : Subset) (subsets : List Subset) (columns : List Column) (content : List Bool)
+    → columns_of 1 s.fields (map (λ (t : Subset). t.fields) subsets) ≡ Ok columns
+    → packed (length (s ∷ subsets)) columns ≡ Ok content
+    → AreBestColumns (s ∷ subsets) columns × (content ≡ best_bits columns)
 best_pack s subsets columns content e p =
     let others = map (λ (t : Subset). t.fields) subsets in
     let many : length others ≡ length subsets = length-map subsets (λ (t : Subset). t.fields) in
@@ -125,7 +141,10 @@ best_pack s subsets columns content e p =
     ((whole, ltb-false _ _ g.0, subst (λ l. AllByRecursion (CanBeWritten l) columns) size (all_can 1 s.fields others columns e)), sym (ok_same _ _ g.1))
 
 -- what is written compressed are the best columns of subsets that fit
-pub written_best : AreUnrolled → (tree : Tree) (subsets : List Subset) (content : List Bool) → written_bits tree true subsets ≡ Ok content → AllByRecursion (FitsAlone tree) subsets × (columns : List Column) × AreBestColumns subsets columns × (content ≡ best_bits columns)
+pub written_best : AreUnrolled → (tree : Tree) (subsets : List Subset) (content : List Bool)
+    → written_bits tree true subsets ≡ Ok content
+    → AllByRecursion (FitsAlone tree) subsets × (columns : List Column)
+    × AreBestColumns subsets columns × (content ≡ best_bits columns)
 written_best law tree [] content e = (tt, [], refl, sym (ok_same _ _ e))
 written_best law tree (s ∷ subsets) content e =
     let a = bind_ok (each_fits tree 1 (s ∷ subsets)) _ content e in

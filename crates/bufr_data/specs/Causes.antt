@@ -5,7 +5,7 @@ use Rattle.std.specs.List.{AllByRecursion}
 use Rattle.bufr_expand.specs.declared.operators.Spec.{Spec}
 use Rattle.bufr_expand.specs.Trees.{Tree}
 use Rattle.bufr_expand.specs.Unrolling.{Unrolls}
-use Rattle.bufr_expand.specs.Beginning.{wants, lacks, BeginsWithin, PassesLimit}
+use Rattle.bufr_expand.specs.NextFields.{wants, lacks, BeginsWithin, PassesLimit}
 use Rattle.bufr_data.specs.declared.field.Field.{Field}
 use Rattle.bufr_data.specs.declared.field.Subset.{Subset}
 use Rattle.bufr_data.specs.declared.fault.ReadFault.{ReadFault}

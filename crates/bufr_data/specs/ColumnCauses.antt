@@ -9,7 +9,7 @@ use Rattle.bufr_tables.specs.declared.element.Kind.TheVariants as kinds
 use Rattle.bufr_expand.specs.declared.operators.Spec.{Spec}
 use Rattle.bufr_expand.specs.Trees.{Tree}
 use Rattle.bufr_expand.specs.Unrolling.{Told}
-use Rattle.bufr_expand.specs.Beginning.{Next, wants, lacks, BeginsWithin, PassesLimit}
+use Rattle.bufr_expand.specs.NextFields.{Next, wants, lacks, BeginsWithin, PassesLimit}
 use Rattle.bufr_data.specs.declared.field.Raw.{Raw}
 use Rattle.bufr_data.specs.declared.field.Raw.TheVariants.{Number, Text}
 use Rattle.bufr_data.specs.declared.field.Subset.{Subset}

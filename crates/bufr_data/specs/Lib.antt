@@ -21,7 +21,8 @@ pub mod ColumnCauses
 pub mod Data
 pub mod ColumnLaws
 pub mod Indexed
-pub mod Passing
+pub mod PassedColumns
 pub mod Places
 pub mod Starts
 pub mod Shown
+pub mod Alike

@@ -8,8 +8,8 @@ ghost use Rattle.bufr_tables.specs.declared.element.Kind.TheVariants.{Count, Tex
 ghost use Rattle.bufr_tables.specs.Elements.{same_kind};
 ghost use Rattle.bufr_data.specs.declared.field.Raw.{Raw};
 ghost use Rattle.bufr_data.specs.ColumnReading.{column_at, all_raised};
-ghost use Rattle.bufr_data.specs.Passing.{head_at, PassesColumn, PassesFactor, AreRaised};
-ghost use Rattle.bufr_data.specs.Passing.{agreed_at};
+ghost use Rattle.bufr_data.specs.PassedColumns.{head_at, PassesColumn, PassesFactor, AreRaised};
+ghost use Rattle.bufr_data.specs.PassedColumns.{agreed_at};
 
 use crate::fault::ReadFault;
 use crate::increment::{never_passes, raised};

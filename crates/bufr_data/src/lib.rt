@@ -1,6 +1,7 @@
 //! The values of fields, and the bits that subsets stand in.
 #![tactic(auto)]
 
+mod alike;
 mod best;
 mod column_examples;
 mod column_pass;

@@ -1,6 +1,7 @@
 //! Moving past one plain subset, of which only the counts are read.
 
-ghost use Rattle.std.specs.Prelude.{◌≡◌, ◌≤◌, true, Ok, Err, IfOk, IfErr, OnOk};
+ghost use Rattle.std.specs.Prelude.{◌≡◌, ◌≤◌, true, Ok, Err, IfOk, IfErr, OnOk, IfSome};
+ghost use Rattle.std.specs.Prelude.{IfNone};
 ghost use Rattle.std.specs.Bool.{OnTrue};
 ghost use Rattle.bufr_bits.specs.Ends.{left};
 ghost use Rattle.bufr_tables.specs.Answers.{Fails};
@@ -9,6 +10,7 @@ ghost use Rattle.bufr_tables.specs.Elements.{same_kind};
 ghost use Rattle.bufr_expand.specs.Courses.{course};
 ghost use Rattle.bufr_expand.specs.Walks as walks;
 ghost use Rattle.bufr_data.specs.declared.field.Raw.TheVariants.{Number};
+ghost use Rattle.bufr_data.specs.Alike.{Takes, NeverStands};
 ghost use Rattle.bufr_data.specs.Plain.{raw_at, fields_at};
 ghost use Rattle.bufr_data.specs.Reads.{raw_or_ends};
 ghost use Rattle.bufr_data.specs.Starts.{PassesRaw, PassesField, PassesSubset};
@@ -85,15 +87,21 @@ fn pass_raw(spec: Spec, reader: &mut BitReader, i: u64) -> Result<(), ReadFault>
     ensures octets { reader.new.octets ≡ reader.old.octets }
     ensures onward { reader.old.place ≤ reader.new.place }
 {
-    let bits = match spec.kind {
-        Kind::Text => 8 * u128::from(spec.width / 8),
-        _ if spec.width > 64 => return Err(ReadFault::DataEnds(1, i)),
-        _ => u128::from(spec.width),
-    };
-    if reader.pass(bits) {
-        Ok(())
-    } else {
-        Err(ReadFault::DataEnds(1, i))
+    match bits_of(spec) {
+        Some(bits) if reader.pass(bits) => Ok(()),
+        _ => Err(ReadFault::DataEnds(1, i)),
+    }
+}
+
+/// How many bits a field of this spec has: octets where it is a text, and else 64 bits at most.
+pub(crate) fn bits_of(spec: Spec) -> Option<u128>
+    ensures takes { IfSome result (Takes spec) }
+    ensures never { IfNone result (NeverStands spec) }
+{
+    match spec.kind {
+        Kind::Text => Some(8 * u128::from(spec.width / 8)),
+        _ if spec.width > 64 => None,
+        _ => Some(u128::from(spec.width)),
     }
 }
 

@@ -1,15 +1,17 @@
 //! Plain data, one subset at a time.
 
 ghost use Rattle.std.specs.Prelude.{◌≡◌, ◌-◌, ◌*◌, ◌≤◌, map, length, slice_get, false, Bool, List};
-ghost use Rattle.std.specs.Prelude.{Some, IfOk, IfErr};
+ghost use Rattle.std.specs.Prelude.{Some, IfOk, IfErr, IfSome};
 ghost use Rattle.bufr_bits.specs.Ends.{left};
 ghost use Rattle.bufr_tables.specs.Answers.{Gives, Fails};
 ghost use Rattle.bufr_expand.specs.Courses.{course};
 ghost use Rattle.bufr_data.specs.declared.field.Subset.{Subset};
+ghost use Rattle.bufr_data.specs.Alike.{IsAlike};
 ghost use Rattle.bufr_data.specs.Data.{subsets_in};
 ghost use Rattle.bufr_data.specs.Plain.{fields_at};
 ghost use Rattle.bufr_data.specs.Starts.{PassesSubset, AllStand, subset_from};
 
+use crate::alike::Alike;
 use crate::fault::ReadFault;
 use crate::field::Subset;
 use crate::pass::pass_subset;
@@ -17,6 +19,7 @@ use crate::plain_subsets::of_subset;
 use crate::read::read_plain;
 use bufr_bits::{BitReader, OutOfMemory};
 use bufr_expand::Template;
+use bufr_expand::laws::courses_are_unrollings;
 use bufr_tables::Failure;
 use std::alloc::Global;
 use std::marker::Model;
@@ -49,7 +52,7 @@ impl<'a> Model for PlainSubsets<'a> {
 }
 
 impl<'a> PlainSubsets<'a> {
-    /// So many subsets, whose data the bits begin with: each is walked once, and none is built. The
+    /// So many subsets, whose data the bits begin with: each is passed once, and none is built. The
     /// reader moves past exactly their data; after an error it may have moved on.
     pub(crate) fn index(
         alloc: Global,
@@ -95,7 +98,8 @@ impl<'a> PlainSubsets<'a> {
 }
 
 /// Where so many subsets begin, whose data the bits begin with. After an error the reader may have
-/// moved on.
+/// moved on. Where the template asks for no count it is walked once, and each subset is then passed
+/// by its bits alone.
 fn starts_of(
     alloc: Global,
     template: &Template,
@@ -109,18 +113,49 @@ fn starts_of(
     ensures octets { reader.new.octets ≡ reader.old.octets }
     ensures onward { reader.old.place ≤ reader.new.place }
 {
+    let alike = if count > 1 {
+        Alike::within(alloc, template, reader.left())?
+    } else {
+        None
+    };
     let mut starts = Vec::new(alloc);
     let mut used = 0;
     for index in 0..count {
         let bit = bit_of(reader);
-        let items = pass_numbered(alloc, template, reader, index as u64 + 1, used)?;
+        let items = pass_one(alloc, template, reader, alike, index as u64 + 1, used)?;
         starts.push(Start { bit, used })?;
         used = items;
     }
     Ok(starts)
 }
 
-/// The same of one subset, which has this number.
+/// How many items the message has met behind the subset of this number, where it had met `used`
+/// before. The reader moves past exactly its bits; after an error it may have moved on. Where all
+/// subsets are alike it is walked only to be refused.
+fn pass_one(
+    alloc: Global,
+    template: &Template,
+    reader: &mut BitReader,
+    alike: Option<Alike>,
+    number: u64,
+    used: u64,
+) -> Result<u64, Failure<ReadFault>>
+    requires { IfSome alike (IsAlike template.now) }
+    ensures ok { IfOk result (λ items. PassesSubset
+        (fields_at 1 1 (course template.now used) (left reader.old)) items (left reader.new)) }
+    ensures err { IfErr result (λ e. Fails e
+        (fields_at number 1 (course template.now used) (left reader.old))) }
+    ensures octets { reader.new.octets ≡ reader.old.octets }
+    ensures onward { reader.old.place ≤ reader.new.place }
+{
+    courses_are_unrollings();
+    match alike {
+        Some(alike) if alike.pass(reader, used) => Ok(used + alike.items),
+        _ => pass_numbered(alloc, template, reader, number, used),
+    }
+}
+
+/// The same, field by field.
 fn pass_numbered(
     alloc: Global,
     template: &Template,

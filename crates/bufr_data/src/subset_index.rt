@@ -45,7 +45,8 @@ impl<'a> Model for SubsetIndex<'a> {
 impl<'a> SubsetIndex<'a> {
     /// The subsets of a message: so many, whose data the bits begin with, plain or compressed. The
     /// reader moves past exactly their data; on an error it stays where it is. It is refused as
-    /// `read_subsets` is. Plain data are walked once, and compressed data column by column.
+    /// `read_subsets` is. Plain data are walked once, where the template asks for a count, and else
+    /// passed by the bits that each subset has; compressed data are walked column by column.
     /// `OutOfMemory` where a growth was refused; the template is gone after an error.
     pub fn index(
         alloc: Global,

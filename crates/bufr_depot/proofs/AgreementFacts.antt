@@ -27,21 +27,28 @@ record IsIn {A B : Type 0} (f : A → List B) (xs : List A) (b : B) : Type 0 whe
   pub member : Has xs of
   pub inside : Has (f of) b
 
-in_flat_map : {A B : Type 0} (f : A → List B) (xs : List A) (b : B) → Has (flat_map f xs) b → IsIn f xs b
+-- a member of the lists joined is in one of them
+in_flat_map : {A B : Type 0} (f : A → List B) (xs : List A) (b : B) → Has (flat_map f xs) b
+    → IsIn f xs b
 in_flat_map f [] b h = absurd h
 in_flat_map f (x ∷ xs) b h = elim (Has-append (f x) (flat_map f xs) b h) [
   | inl k ↦ record { of = x; member = inl refl; inside = k }
   | inr k ↦ let i = in_flat_map f xs b k in record { of = i.of; member = inr i.member; inside = i.inside }
 ]
 
-Has-flat_map : {A B : Type 0} (f : A → List B) (xs : List A) (x : A) (b : B) → Has xs x → Has (f x) b → Has (flat_map f xs) b
+-- a member of one of the lists is in the lists joined
+Has-flat_map : {A B : Type 0} (f : A → List B) (xs : List A) (x : A) (b : B) → Has xs x
+    → Has (f x) b → Has (flat_map f xs) b
 Has-flat_map f [] x b h k = absurd h
 Has-flat_map f (y ∷ xs) x b (inl e) k = Has-left (f y) (flat_map f xs) b (subst (λ z. Has (f z) b) e k)
 Has-flat_map f (y ∷ xs) x b (inr h) k = Has-right (f y) (flat_map f xs) b (Has-flat_map f xs x b h k)
 
-Within-flat_map : {A B : Type 0} (f : A → List B) (xs ys : List A) → Within xs ys → Within (flat_map f xs) (flat_map f ys)
+-- the lists of more members, joined, have all members of the lists of fewer
+Within-flat_map : {A B : Type 0} (f : A → List B) (xs ys : List A) → Within xs ys
+    → Within (flat_map f xs) (flat_map f ys)
 Within-flat_map f xs ys w b h = let i = in_flat_map f xs b h in Has-flat_map f ys i.of b (w i.of i.member) i.inside
 
+-- what a member is mapped to is in the mapped list
 Has-map : {A B : Type 0} (f : A → B) (xs : List A) (x : A) → Has xs x → Has (map f xs) (f x)
 Has-map f [] x h = absurd h
 Has-map f (y ∷ xs) x (inl e) = inl (ap f e)
@@ -53,13 +60,15 @@ record IsOf {A B : Type 0} (f : A → B) (xs : List A) (b : B) : Type 0 where
   pub member : Has xs of
   pub same : b ≡ f of
 
+-- a member of the mapped list comes from a member
 in_map : {A B : Type 0} (f : A → B) (xs : List A) (b : B) → Has (map f xs) b → IsOf f xs b
 in_map f [] b h = absurd h
 in_map f (x ∷ xs) b (inl e) = record { of = x; member = inl refl; same = e }
 in_map f (x ∷ xs) b (inr h) = let i = in_map f xs b h in record { of = i.of; member = inr i.member; same = i.same }
 
 -- what is kept of reports depends on their set
-pub kept_of-same : (tables : Entries) (rs qs : Reports) → SameMembers rs qs → kept_of tables rs ≡ kept_of tables qs
+pub kept_of-same : (tables : Entries) (rs qs : Reports) → SameMembers rs qs
+    → kept_of tables rs ≡ kept_of tables qs
 kept_of-same tables rs qs s =
     let within : (xs ys : Reports) → Within xs ys → Within (report_entries tables xs) (report_entries tables ys) = λ xs ys w e h.
     let i = in_map (entry_of tables) xs e h in subst (Has (report_entries tables ys)) (sym i.same) (Has-map (entry_of tables) ys i.of (w i.of i.member)) in
@@ -69,7 +78,8 @@ kept_of-same tables rs qs s =
     )
 
 -- octets that have a report spell a message
-spells_message : (tables : Entries) (octets : List ℕ) (x : Report) → Has (reports_in tables octets) x → spells tables octets ≡ true
+spells_message : (tables : Entries) (octets : List ℕ) (x : Report)
+    → Has (reports_in tables octets) x → spells tables octets ≡ true
 spells_message tables octets x h =
     elim (message_of tables octets) as (λ m. Has (reports_read m) x → is_ok m ≡ true) [
       | Ok d ↦ λ _. refl
@@ -82,7 +92,9 @@ record IsTold (tables : Entries) (streams : List (List ℕ)) (x : Report) : Type
   pub frame : Has (frames_of streams) octets
   pub report : Has (reports_in tables octets) x
 
-told_from : (tables : Entries) (streams : List (List ℕ)) (x : Report) → Has (all_told tables streams) x → IsTold tables streams x
+-- a report that streams tell is told by a frame of one of them
+told_from : (tables : Entries) (streams : List (List ℕ)) (x : Report)
+    → Has (all_told tables streams) x → IsTold tables streams x
 told_from tables streams x h =
     let a = in_flat_map (told tables) streams x h in
     let b = in_flat_map (λ (f : Found). reports_in tables f.bytes) (cut a.of) x a.inside in
@@ -92,19 +104,27 @@ told_from tables streams x h =
       report = b.inside;
     }
 
-told_to : (tables : Entries) (streams : List (List ℕ)) (octets : List ℕ) (x : Report) → Has (frames_of streams) octets → Has (reports_in tables octets) x → Has (all_told tables streams) x
+-- a report of a frame of one of the streams is told by them
+told_to : (tables : Entries) (streams : List (List ℕ)) (octets : List ℕ) (x : Report)
+    → Has (frames_of streams) octets → Has (reports_in tables octets) x
+    → Has (all_told tables streams) x
 told_to tables streams octets x h k =
     let a = in_flat_map (λ s. map (λ (f : Found). f.bytes) (cut s)) streams octets h in
     let b = in_map (λ (f : Found). f.bytes) (cut a.of) octets a.inside in
     Has-flat_map (told tables) streams a.of x a.member (Has-flat_map (λ (f : Found). reports_in tables f.bytes) (cut a.of) b.of x b.member (subst (λ o. Has (reports_in tables o) x) b.same k))
 
 -- streams that hold the same messages tell the same reports
-told_within : (tables : Entries) (a b : List (List ℕ)) → ((octets : List ℕ) → spells tables octets ≡ true → Has (frames_of a) octets → Has (frames_of b) octets) → Within (all_told tables a) (all_told tables b)
+told_within : (tables : Entries) (a b : List (List ℕ))
+    → ((octets : List ℕ) → spells tables octets ≡ true → Has (frames_of a) octets
+    → Has (frames_of b) octets)
+    → Within (all_told tables a) (all_told tables b)
 told_within tables a b same x h =
     let t = told_from tables a x h in
     told_to tables b t.octets x (same t.octets (spells_message tables t.octets x t.report) t.frame) t.report
 
-pub same_told : (tables : Entries) (a b : List (List ℕ)) → HoldSameMessages tables a b → SameMembers (all_told tables a) (all_told tables b)
+-- streams that hold the same messages tell the same set of reports
+pub same_told : (tables : Entries) (a b : List (List ℕ)) → HoldSameMessages tables a b
+    → SameMembers (all_told tables a) (all_told tables b)
 same_told tables a b same = (told_within tables a b same.first, told_within tables b a same.second)
 
 -- so that of both the same is kept, for `laws::same_messages_same_kept`
@@ -112,19 +132,23 @@ pub same_kept : SameMessagesSameKept
 same_kept tables a b same =
     kept_of-same tables (all_told tables a) (all_told tables b) (same_told tables a b same)
 
+-- at the end of a whole run each slot has exactly the reports that its streams tell so far
 pub took_exactly : (tables : Entries) → TookExactly tables
 took_exactly tables count steps answers w i slot there =
     let h = run_holds tables steps answers (new_slots count) w.run w.repeated w.joins_closed (new_holds tables steps count) i slot there in
     (nothing_more slot.reports (told_so_far tables slot) h.high, h.low)
 
 -- a slot at the end of a run has the reports that its streams tell
-ends_with : (tables : Entries) (slot : Slot) → EndsRun tables slot → SameMembers slot.reports (all_told tables slot.ended)
+ends_with : (tables : Entries) (slot : Slot) → EndsRun tables slot
+    → SameMembers slot.reports (all_told tables slot.ended)
 ends_with tables slot e =
     subst (SameMembers slot.reports) (closed_told tables slot e.closed) (took_exactly tables e.count e.steps e.answers e.whole e.number slot e.there)
 
+-- what is kept of a closed slot is what is kept of all that its ended streams tell
 pub keeps_what_was_told : (tables : Entries) → KeepsWhatWasTold tables
 keeps_what_was_told tables slot e = kept_of-same tables slot.reports (all_told tables slot.ended) (ends_with tables slot e)
 
+-- two closed slots whose ended streams hold the same messages hold and write the same
 pub converges : (tables : Entries) → Converges tables
 converges tables a b p q same =
     let first = ends_with tables a p in

@@ -93,6 +93,7 @@ few_reports read tables octets d all e =
     let each = length-map d.message.subsets (report_of d.message) in
     omega (arith, few, long, each)
 
+-- a message that was added has fewer than 2^16 reports
 pub added_few : MessagesReadAreSpelt → (old new : ArchiveView) (octets : List ℕ)
     (result : Result Added AddFault) → AreOctets octets → AddsMessage old new octets result
     → IfOk result (λ (added : Added). added.reports < 2 ^ 16)
@@ -101,6 +102,7 @@ added_few read old new octets (Ok added) all h =
     let count = h.2.reports_added in omega (arith, few, count)
 added_few read old new octets (Err fault) all h = tt
 
+-- no more of the reports of a message change what is kept than there are
 pub changed_few : (old new : ArchiveView) (octets : List ℕ)
     (result : Result Added AddFault) → AddsMessage old new octets result
     → IfOk result (λ (added : Added). added.changed ≤ added.reports)
@@ -112,6 +114,7 @@ changed_few old new octets (Ok added) h =
     omega (arith, few, each, all, some)
 changed_few old new octets (Err fault) h = tt
 
+-- octets tell fewer than 2^16 reports, whether they spell a message or not
 few_told : MessagesReadAreSpelt → (tables : Entries) (octets : List ℕ)
     → AreOctets octets → length (entries_told tables octets) < 2 ^ 16
 few_told read tables octets all =
@@ -120,6 +123,7 @@ few_told read tables octets all =
       | Err why ↦ λ e. omega arith
     ] refl
 
+-- where memory ran out in a message, fewer than 2^16 of its reports were added
 pub done_few : MessagesReadAreSpelt → (old new : ArchiveView) (octets : List ℕ)
     (result : Result Added AddFault) → AreOctets octets → AddsMessage old new octets result
     → (k : ℕ) → result ≡ Err (OutOfMemory k) → k < 2 ^ 16
@@ -145,6 +149,7 @@ take_more (g ∷ fs) (suc i) f h =
     ap (λ n. take n (g ∷ fs)) (let e : suc i + 1 ≡ suc (i + 1) = omega arith in e)
     ∙ ap (λ xs. g ∷ xs) (take_more fs i f (omega arith))
 
+-- the entries among two lists of frames are those of the one and then of the other
 entries_among-append : (tables : Entries) (fs gs : List Found)
     → entries_among tables (fs ++ gs) ≡ entries_among tables fs ++ entries_among tables gs
 entries_among-append tables fs gs =
@@ -388,6 +393,7 @@ pub tables_stay : (old new : ArchiveView) (fs : List Found) (k : ℕ) → AddsSo
     → new.tables ≡ old.tables
 tables_stay old new fs k adds = ap (λ (a : ArchiveView). a.tables) adds.archive
 
+-- and where the first so many frames were gone through
 pub tables_so_far : (old new : ArchiveView) (fs : List Found) (i : ℕ) (counts : Counts)
     (joined : ℕ) → SoFar old new fs i counts joined → new.tables ≡ old.tables
 tables_so_far old new fs i counts joined s = ap (λ (a : ArchiveView). a.tables) s.archive
@@ -416,6 +422,7 @@ pub frames_added : (old new : ArchiveView) (frames others : List Found) (counts 
 frames_added old new frames others counts adds same =
     subst (λ fs. AddsFrames old new fs counts) same adds
 
+-- the same where the first so many reports were added
 pub frames_some : (old new : ArchiveView) (frames others : List Found) (k : ℕ)
     → AddsSome old new frames k → frames ≡ others → AddsSome old new others k
 frames_some old new frames others k adds same = subst (λ fs. AddsSome old new fs k) same adds

@@ -33,6 +33,7 @@ at_below [] i h = absurd (omega arith)
 at_below (x ∷ xs) zero h = (x, refl)
 at_below (x ∷ xs) (suc i) h = at_below xs i (omega arith)
 
+-- a place at which a value stands is below the length
 pub below_at : {A : Type 0} (xs : List A) (i : ℕ) (x : A) → slice_get xs i ≡ Some x
     → i < length xs
 below_at [] i x e = absurd cc
@@ -55,6 +56,7 @@ set_other (a ∷ xs) zero (suc j) y apart = refl
 set_other (a ∷ xs) (suc i) zero y apart = refl
 set_other (a ∷ xs) (suc i) (suc j) y apart = set_other xs i j y (λ e. apart (ap suc e))
 
+-- a list in which a value was set is as long as it was
 pub length_set : {A : Type 0} (xs : List A) (i : ℕ) (y : A) → length (set xs i y) ≡ length xs
 length_set [] i y = refl
 length_set (a ∷ xs) zero y = refl
@@ -62,6 +64,7 @@ length_set (a ∷ xs) (suc i) y = ap suc (length_set xs i y)
 
 -- ---- slots that are there
 
+-- two slots below the number of slots are there
 pub are_there : (d : DepotView) (from into : ℕ) → from < length d.slots → into < length d.slots
     → AreThere d from into
 are_there d from into f i =
@@ -86,17 +89,20 @@ held_merged x n a f h is e =
     ≡ record h { archive = merged h.archive a }) is
     (ap (λ (z : ArchiveView). let k : Holding = record { archive = z; framer = f } in k) e)
 
+-- what is held with its archive as it was is the same
 pub held_still : (x n : ArchiveView) (f : Framing) (h : Holding)
     → record { archive = x; framer = f } ≡ h → n ≡ x → record { archive = n; framer = f } ≡ h
 held_still x n f h is e =
     ap (λ (z : ArchiveView). let k : Holding = record { archive = z; framer = f } in k) e ∙ is
 
+-- a slot whose archive takes in another has taken it in
 pub took_all : (d : DepotView) (into : ℕ) (h k : Holding) (a : ArchiveView)
     → slice_get d.slots into ≡ Some h → k ≡ record h { archive = merged h.archive a }
     → TakesIn d (record d { slots = set d.slots into k }) into a (Ok Joined)
 took_all d into h k a at e =
     (h, at, ap (λ (k : Holding). record d { slots = set d.slots into k }) e)
 
+-- a slot that is put back as it was has taken in nothing
 pub took_nothing : (d : DepotView) (into : ℕ) (h k : Holding) (a : ArchiveView)
     → slice_get d.slots into ≡ Some h → k ≡ h
     → TakesIn d (record d { slots = set d.slots into k }) into a (Err (OutOfMemory 0))
@@ -108,6 +114,7 @@ took_nothing d into h k a at e = (
 
 -- ---- an archive that takes in itself
 
+-- an archive merged with itself is as it was
 twice : (tables : Entries) (rs : List Report)
     → merged (archive_of tables rs) (archive_of tables rs) ≡ archive_of tables rs
 twice tables rs =
@@ -115,6 +122,7 @@ twice tables rs =
     ap (λ (es : List Entry). let a : ArchiveView = record { tables = tables; entries = es } in a)
     (kept-early es (kept es) ∙ kept-late es es ∙ kept-twice es)
 
+-- a step that joins a slot to itself is done and changes nothing
 pub self_joined : (d : DepotView) (from into : ℕ) → AreThere d from into → from ≡ into
     → (step : Step) → IsJoin step from into → StepDoes d d step (Ok Joined)
 self_joined d from into there e step is =
@@ -139,13 +147,16 @@ module _ (d : DepotView) (from into : ℕ) (there : AreThere d from into) (apart
     (h h2 h3 k1 k2 : Holding) (at : slice_get d.slots into ≡ Some h)
     (framer1 : k1.framer ≡ h.framer) (at2 : slice_get (set d.slots into k1) from ≡ Some h2)
     (at3 : slice_get (set d.slots into k1) into ≡ Some h3) (framer2 : k2.framer ≡ h3.framer) where
+  -- the slot that is taken out is the target
   is_target : h ≡ there.target
   is_target = same_there (slice_get d.slots into) h there.target at there.target_there
 
+  -- the slot that is merged into it is the source, which was not touched
   is_source : h2 ≡ there.source
   is_source = same_there (slice_get d.slots from) h2 there.source
       (sym (set_other d.slots into from k1 apart) ∙ at2) there.source_there
 
+  -- the framer that is put back is that of the target
   framer_stays : k2.framer ≡ there.target.framer
   framer_stays =
       let put : h3 ≡ k1 = same_there (slice_get (set d.slots into k1) into) h3 k1 at3
@@ -153,6 +164,7 @@ module _ (d : DepotView) (from into : ℕ) (there : AreThere d from into) (apart
       framer2 ∙ ap (λ (k : Holding). k.framer) put ∙ framer1
       ∙ ap (λ (k : Holding). k.framer) is_target
 
+  -- all in all the target has this archive and nothing else was changed
   put_back : (a : ArchiveView) → k2.archive ≡ a
       → set (set d.slots into k1) into k2 ≡ set d.slots into (record there.target { archive = a })
   put_back a e =
@@ -161,6 +173,7 @@ module _ (d : DepotView) (from into : ℕ) (there : AreThere d from into) (apart
       ∙ ap (λ (f : Framing). let k : Holding = record { archive = a; framer = f } in k) framer_stays in
       set_twice d.slots into k1 k2 ∙ ap (set d.slots into) whole
 
+  -- put back with the source merged in, the step is done
   pub merged_back : k2.archive ≡ merged h.archive h2.archive → (step : Step) → IsJoin step from into
       → StepDoes d (record d { slots = set (set d.slots into k1) into k2 }) step (Ok Joined)
   merged_back e step is =
@@ -173,6 +186,7 @@ module _ (d : DepotView) (from into : ℕ) (there : AreThere d from into) (apart
       (join_done d from into there a
       (as_good d there.source there.target there.source.archive (λ rs u x. refl)) step is)
 
+  -- put back as it was, memory ran out and nothing was joined
   pub still_back : k2.archive ≡ h.archive → (step : Step) → IsJoin step from into
       → StepDoes d (record d { slots = set (set d.slots into k1) into k2 }) step
       (Err (OutOfMemory 0))
@@ -183,14 +197,18 @@ module _ (d : DepotView) (from into : ℕ) (there : AreThere d from into) (apart
       ∙ set_same d.slots into there.target there.target_there))
       (join_ran_out d from into there step is)
 
+-- the same two archives merge to the same
 pub both_merged : (a b x y : ArchiveView) → a ≡ x → b ≡ y → merged a b ≡ merged x y
 both_merged a b x y e f = ap (λ (z : ArchiveView). merged z b) e ∙ ap (merged x) f
 
 -- ---- an archive that was written and read back
 
+-- two values that are there alike are the same
 pub some_same : {A : Type 0} (x y : A) → Some x ≡ Some y → x ≡ y
 some_same x y e = cc
 
+-- what is read back from the text of an archive is as good as it, where a text of reports
+-- is read as what is kept of these
 pub read_back : (t1 t2 : Entries) (source back : ArchiveView) (octets : List ℕ) → t1 ≡ t2
     → octets ≡ text source.entries
     → ((rs : List Report) → AreUnder t1 rs → octets ≡ text_of t1 rs

@@ -47,6 +47,8 @@ ends r i a streams w t = record {
   closed = t.closed;
 }
 
+-- of two runs under the same tables, archives whose streams hold the same messages are
+-- the same, and write the stated text of these
 pub headline : Headline
 headline one other w v i j a b streams others tables t u hold =
     let first = ends one i a streams w t in

@@ -42,8 +42,8 @@ use Rattle.bufr_depot.proofs.UnderFacts.{both, second_of, first_of, front_of}
 
 module _ {A B : Type 0} (R : A → B → Type 0) where
   -- the one at a place
-  pub zip_at : (xs : List A) (ys : List B) (i : ℕ) (x : A) → AllZip R xs ys → slice_get xs i ≡ Some x
-      → (y : B) × (slice_get ys i ≡ Some y) × R x y
+  pub zip_at : (xs : List A) (ys : List B) (i : ℕ) (x : A) → AllZip R xs ys
+      → slice_get xs i ≡ Some x → (y : B) × (slice_get ys i ≡ Some y) × R x y
   zip_at [] ys i x z h = absurd cc
   zip_at (a ∷ xs) [] i x z h = absurd z
   zip_at (a ∷ xs) (b ∷ ys) zero x z h =
@@ -60,9 +60,10 @@ module _ {A B : Type 0} (R : A → B → Type 0) where
   zip_none (a ∷ xs) (b ∷ ys) (suc i) z h = zip_none xs ys i z.1 h
 
 -- one slot is changed
-pub zip_set : (tables : Entries) (hs : List Holding) (ss : List Slot) (i : ℕ) (k : Holding) (s : Slot)
-    (change : Slot → Slot) → AllZip (HoldsSlot tables) hs ss → slice_get ss i ≡ Some s
-    → HoldsSlot tables k (change s) → AllZip (HoldsSlot tables) (set hs i k) (changed_at ss i change)
+pub zip_set : (tables : Entries) (hs : List Holding) (ss : List Slot) (i : ℕ) (k : Holding)
+    (s : Slot) (change : Slot → Slot) → AllZip (HoldsSlot tables) hs ss → slice_get ss i ≡ Some s
+    → HoldsSlot tables k (change s)
+    → AllZip (HoldsSlot tables) (set hs i k) (changed_at ss i change)
 zip_set tables [] [] i k s change z h r = tt
 zip_set tables [] (b ∷ ss) i k s change z h r = absurd z
 zip_set tables (a ∷ hs) [] i k s change z h r = absurd z
@@ -88,6 +89,7 @@ all_at tables (a ∷ hs) (suc i) h all e = all_at tables hs i h all.1 e
 
 -- ---- archives of reports
 
+-- the entries of two lists of reports are those of the one and then of the other
 entries-append : (tables : Entries) (rs qs : List Report)
     → entries_of (report_entries tables (rs ++ qs))
     ≡ entries_of (report_entries tables rs) ++ entries_of (report_entries tables qs)
@@ -168,6 +170,7 @@ archive_some tables h k rs frames n is adds =
     ∙ ap (taken_in (archive_of tables rs)) (take-map (entry_of tables) n (reports_among tables frames))
     ∙ archive_more tables rs (take n (reports_among tables frames))
 
+-- no more reports of frames were added than there are
 few_some : (tables : Entries) (h k : ArchiveView) (rs : List Report) (frames : List Found)
     (n : ℕ) → h ≡ archive_of tables rs → AddsSome h k frames n
     → n ≤ length (reports_among tables frames)
@@ -205,6 +208,7 @@ fits framer s piece out st room =
     let most = 2 ^ 64 - 1 in
     le-ltb (2 ^ 64 - 1) (length s + length piece) (omega (arith, fed, room))
 
+-- and one that does not fit is
 too_long : (framer : Framing) (s piece : List ℕ) (out : ℕ) → Stands framer s out
     → 2 ^ 64 - 1 < framer.fed + length piece → is_too_long s piece ≡ true
 too_long framer s piece out st room =

@@ -41,6 +41,7 @@ by_join d new from into result m t c step (inr (inr e)) = subst (λ s. StepDoes 
 
 -- ---- the slots that are not there
 
+-- where the first slot not there is told, the answer to a join is that it is missing
 missing_answer : (d : DepotView) (from into i : ℕ) → IsFirstMissing d from into i
     → (slots : List Slot) → StandsFor d slots
     → join_answer from into (slot_at slots from) (slot_at slots into) ≡ Err (NoSlot i)
@@ -53,6 +54,7 @@ missing_answer d from into i (inr m) slots z =
     ∙ ap (join_answer from into (Some s.0)) (zip_none (HoldsSlot d.tables) d.slots slots into z m.3)
     ∙ ap (λ n. Err (NoSlot n)) (sym m.2)
 
+-- a step that joins, of which a slot is missing, is answered so and changes nothing
 pub join_missing : (d : DepotView) (from into i : ℕ) → IsFirstMissing d from into i
     → (step : Step) → IsJoin step from into → StepDoes d d step (Err (NoSlot i))
 join_missing d from into i missing = by_join d d from into (Err (NoSlot i))
@@ -62,6 +64,7 @@ join_missing d from into i missing = by_join d d from into (Err (NoSlot i))
 
 -- ---- slots that are there
 
+-- where both slots are there, the answer to a join is that all was joined
 there_answer : (d : DepotView) (from into : ℕ) → AreThere d from into
     → (slots : List Slot) → StandsFor d slots
     → join_answer from into (slot_at slots from) (slot_at slots into) ≡ Ok Joined
@@ -71,6 +74,7 @@ there_answer d from into there slots z =
     ap (λ o. join_answer from into o (slot_at slots into)) s.1
     ∙ ap (join_answer from into (Some s.0)) t.1
 
+-- a slot that gains no reports leaves the slots as they were
 none_joined : (into : ℕ) (slots : List Slot)
     → changed_at slots into (λ s. gains (take 0 (let none : List Report = [] in none)) s) ≡ slots
 none_joined into slots = nothing_gained slots into (λ s. take 0 (let none : List Report = [] in none)) (λ s. refl)
@@ -114,11 +118,13 @@ joined_stands d from into there a is slots z =
     subst (λ o. StandsFor (record d { slots = set d.slots into (record there.target { archive = a }) }) (joined_with o into slots)) (sym s.1)
     (zip_set d.tables d.slots slots into (record there.target { archive = a }) t.0 (gains_all s.0) z t.1 holds)
 
+-- a step that joins is done where the archive then holds what is kept of the reports of both slots
 pub join_done : (d : DepotView) (from into : ℕ) (there : AreThere d from into) (a : ArchiveView)
     → ((s t : Slot) → HoldsSlot d.tables there.source s → HoldsSlot d.tables there.target t
     → a ≡ archive_of d.tables (t.reports ++ s.reports))
     → (step : Step) → IsJoin step from into
-    → StepDoes d (record d { slots = set d.slots into (record there.target { archive = a }) }) step (Ok Joined)
+    → StepDoes d (record d { slots = set d.slots into (record there.target { archive = a }) }) step
+    (Ok Joined)
 join_done d from into there a is = by_join d (record d { slots = set d.slots into (record there.target { archive = a }) }) from into (Ok Joined)
     (record { tables = refl; answer = there_answer d from into there; slots = joined_stands d from into there a is })
     (record { tables = refl; answer = there_answer d from into there; slots = joined_stands d from into there a is })
@@ -159,24 +165,32 @@ took d new from into there a (Err (OutOfMemory k)) good takes step is =
 
 -- ---- places in lists
 
+-- of two values set at one place the second stays
 pub set_twice : {A : Type 0} (xs : List A) (i : ℕ) (x y : A) → set (set xs i x) i y ≡ set xs i y
 set_twice [] i x y = refl
 set_twice (a ∷ xs) zero x y = refl
 set_twice (a ∷ xs) (suc i) x y = ap (λ ys. a ∷ ys) (set_twice xs i x y)
 
-pub set_same : {A : Type 0} (xs : List A) (i : ℕ) (x : A) → slice_get xs i ≡ Some x → set xs i x ≡ xs
+-- the value that stands at a place, set there, changes nothing
+pub set_same : {A : Type 0} (xs : List A) (i : ℕ) (x : A) → slice_get xs i ≡ Some x
+    → set xs i x ≡ xs
 set_same [] i x e = refl
 set_same (a ∷ xs) zero x e = let same : a ≡ x = cc in ap (λ y. y ∷ xs) (sym same)
 set_same (a ∷ xs) (suc i) x e = ap (λ ys. a ∷ ys) (set_same xs i x e)
 
-pub get_is : {A : Type 0} (xs : List A) (i : ℕ) (d : A) → i < length xs → slice_get xs i ≡ Some (get_or xs i d)
+-- below the length of a list a value stands at the place
+pub get_is : {A : Type 0} (xs : List A) (i : ℕ) (d : A) → i < length xs
+    → slice_get xs i ≡ Some (get_or xs i d)
 get_is [] i d h = absurd (omega arith)
 get_is (a ∷ xs) zero d h = refl
 get_is (a ∷ xs) (suc i) d h = get_is xs i d (omega arith)
 
-pub get_is_at : {A : Type 0} (xs : List A) (i : ℕ) (d : A) → i < length xs → d ≡ get_or xs i d → slice_get xs i ≡ Some d
+-- and it is this one
+pub get_is_at : {A : Type 0} (xs : List A) (i : ℕ) (d : A) → i < length xs → d ≡ get_or xs i d
+    → slice_get xs i ≡ Some d
 get_is_at xs i d h e = get_is xs i d h ∙ ap Some (sym e)
 
+-- from the length of a list on no value stands
 pub get_none : {A : Type 0} (xs : List A) (i : ℕ) → length xs ≤ i → slice_get xs i ≡ None
 get_none [] i h = refl
 get_none (a ∷ xs) zero h = absurd (omega arith)
@@ -191,6 +205,7 @@ new_holding tables = record {
   framer = new_framing;
 }
 
+-- what is held for a new slot is an archive with no reports and a framer of an empty stream
 new_holds : (tables : Entries) → HoldsSlot tables (new_holding tables) new_slot
 new_holds tables = record {
   under = tt;
@@ -199,15 +214,18 @@ new_holds tables = record {
   framer = record { fed = refl; out_of_sure = omega arith; held = refl };
 }
 
+-- a depot of so many new archives and framers stands for so many new slots
 pub new_stands : (tables : Entries) (n : ℕ)
     → StandsFor (record { tables = tables; slots = replicate n (new_holding tables) }) (new_slots n)
 new_stands tables zero = tt
 new_stands tables (suc n) = (new_holds tables, new_stands tables n)
 
+-- and each of its archives reads under the same tables
 pub new_under : (tables : Entries) (n : ℕ) → AreAllUnder tables (replicate n (new_holding tables))
 new_under tables zero = tt
 new_under tables (suc n) = (refl, new_under tables n)
 
+-- so many of the same and one more are one more of them
 pub one_new : {A : Type 0} (n : ℕ) (x : A) → replicate n x ++ x ∷ [] ≡ replicate (n + 1) x
 one_new zero x = refl
 one_new (suc n) x =
@@ -225,9 +243,11 @@ pub record RunSoFar (old new : DepotView) (steps : List Step)
   pub stands : (slots : List Slot) → StandsFor old slots
       → StandsFor new (after_all old.tables (take i steps) answers slots)
 
+-- of no steps none are done, and the depot is as it was
 pub none_run : (d : DepotView) (steps : List Step) → RunSoFar d d steps [] 0
 none_run d steps = record { tables = refl; count = refl; run = λ slots z. tt; stands = λ slots z. z }
 
+-- a front of steps with one step more
 take_more : (xs : List Step) (i : ℕ) (x : Step) → i < length xs → x ≡ get_or xs i x
     → take (i + 1) xs ≡ take i xs ++ x ∷ []
 take_more [] i x h e = absurd (omega arith)
@@ -236,15 +256,18 @@ take_more (y ∷ xs) (suc i) x h e =
     ap (λ n. take n (y ∷ xs)) (let e : suc i + 1 ≡ suc (i + 1) = omega arith in e)
     ∙ ap (λ ys. y ∷ ys) (take_more xs i x (omega arith) e)
 
+-- a front of so many steps has so many
 length-take-all : (xs : List Step) (i : ℕ) → i ≤ length xs → length (take i xs) ≡ i
 length-take-all xs zero h = refl
 length-take-all [] (suc i) h = absurd (omega arith)
 length-take-all (x ∷ xs) (suc i) h = ap suc (length-take-all xs i (omega arith))
 
-pub one_run : (old new next : DepotView) (steps : List Step) (answers : List (Result Answer StepFault))
-    (i : ℕ) (step : Step) (answer : Result Answer StepFault) → i < length steps
-    → step ≡ get_or steps i step → RunSoFar old new steps answers i
-    → StepDoes new next step answer → RunSoFar old next steps (answers ++ answer ∷ []) (i + 1)
+-- one step more is done: the answers so far and its own are those of a run of one step more
+pub one_run : (old new next : DepotView) (steps : List Step)
+    (answers : List (Result Answer StepFault)) (i : ℕ) (step : Step)
+    (answer : Result Answer StepFault) → i < length steps → step ≡ get_or steps i step
+    → RunSoFar old new steps answers i → StepDoes new next step answer
+    → RunSoFar old next steps (answers ++ answer ∷ []) (i + 1)
 one_run old new next steps answers i step answer h is s does =
     let t = old.tables in
     let more = take_more steps i step h is in

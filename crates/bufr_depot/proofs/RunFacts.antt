@@ -23,6 +23,7 @@ use Rattle.bufr_depot.specs.declared.steps.Answer.{Answer}
 use Rattle.bufr_depot.specs.declared.steps.StepFault.{StepFault}
 use Rattle.bufr_depot.specs.declared.steps.StepFault.TheVariants.{NoSlot, StreamTooLong, OutOfMemory}
 
+-- a list of reports
 abbrev pub Reports : Type 0
 Reports = List Report
 
@@ -50,7 +51,9 @@ pub record IsChanged (slots : List Slot) (i : ℕ) (f : Slot → Slot) (j : ℕ)
   pub stood : slot_at slots j ≡ Some before
   pub now : ((i ≡ j) × (s ≡ f before)) ⊎ ((i ≢ j) × (s ≡ before))
 
-at_changed : (slots : List Slot) (i : ℕ) (f : Slot → Slot) (j : ℕ) (s : Slot) → slot_at (changed_at slots i f) j ≡ Some s → IsChanged slots i f j s
+-- of slots with one changed, the slot at a place is the changed one or as it was
+at_changed : (slots : List Slot) (i : ℕ) (f : Slot → Slot) (j : ℕ) (s : Slot)
+    → slot_at (changed_at slots i f) j ≡ Some s → IsChanged slots i f j s
 at_changed [] i f j s h = cc
 at_changed (a ∷ slots) zero f zero s h = let e : f a ≡ s = cc in record { before = a; stood = refl; now = inl (refl, sym e) }
 at_changed (a ∷ slots) zero f (suc j) s h = record { before = s; stood = h; now = inr (λ e. omega (arith, e), refl) }
@@ -59,44 +62,56 @@ at_changed (a ∷ slots) (suc i) f (suc j) s h =
     let r = at_changed slots i f j s h in
     record { before = r.before; stood = r.stood; now = elim r.now [ inl p ↦ inl (ap suc p.0, p.1) | inr p ↦ inr (λ e. let apart = p.0 in omega (arith, e), p.1) ] }
 
+-- two numbers that differ compare as not equal
 eqb-false-from : (a b : ℕ) → a ≢ b → nat_eq a b ≡ false
 eqb-false-from a b ne = elim (eqb_tells a b) [ inl p ↦ absurd (ne p.1) | inr p ↦ p.0 ]
 
+-- what is within a list with nothing more is within the list
 pub nothing_more : (xs ys : Reports) → Within xs (ys ++ []) → Within xs ys
 nothing_more xs ys w = rw (append-nil ys) at w
 
 -- a slot that the step does not feed
-stays : (tables : Entries) (step : Step) (steps : List Step) (j : ℕ) (s : Slot) → slot_of step ≢ j → Holds tables (step ∷ steps) j s → Holds tables steps j s
+stays : (tables : Entries) (step : Step) (steps : List Step) (j : ℕ) (s : Slot) → slot_of step ≢ j
+    → Holds tables (step ∷ steps) j s → Holds tables steps j s
 stays tables step steps j s apart h =
     let none : coming tables (step ∷ steps) j s ≡ [] = rw (eqb-false-from (slot_of step) j apart) refl in
     let exact : Within s.reports (told_so_far tables s) = nothing_more s.reports (told_so_far tables s) (subst (λ c. Within s.reports (told_so_far tables s ++ c)) none h.high) in
     record { low = h.low; high = λ x m. Has-left (told_so_far tables s) (coming tables steps j s) x (exact x m) }
 
 -- what comes does not depend on the reports
-new_reports-gains : (tables : Entries) (step : Step) (rs : Reports) (s : Slot) → new_reports tables step (gains rs s) ≡ new_reports tables step s
+new_reports-gains : (tables : Entries) (step : Step) (rs : Reports) (s : Slot)
+    → new_reports tables step (gains rs s) ≡ new_reports tables step s
 new_reports-gains tables (Feed i piece) rs s = refl
 new_reports-gains tables (End i) rs s = refl
 new_reports-gains tables (Merge i j) rs s = refl
 new_reports-gains tables (Transfer i j) rs s = refl
 new_reports-gains tables (Copy i j) rs s = refl
 
+-- a front of a list has only members of it
 pub taken_within : {A : Type 0} (n : ℕ) (xs : List A) → Within (take n xs) xs
 taken_within zero xs x h = absurd h
 taken_within (suc n) [] x h = absurd h
 taken_within (suc n) (y ∷ xs) x (inl e) = inl e
 taken_within (suc n) (y ∷ xs) x (inr h) = inr (taken_within n xs x h)
 
-among-append : (tables : Entries) (fs gs : List Found) → reports_among tables (fs ++ gs) ≡ reports_among tables fs ++ reports_among tables gs
+-- the reports among two lists of frames are those of the one and then of the other
+among-append : (tables : Entries) (fs gs : List Found)
+    → reports_among tables (fs ++ gs) ≡ reports_among tables fs ++ reports_among tables gs
 among-append tables fs gs = flat_map-append (λ f. reports_in tables f.bytes) fs gs
 
-told-append : (tables : Entries) (xs ys : List (List ℕ)) → all_told tables (xs ++ ys) ≡ all_told tables xs ++ all_told tables ys
+-- what two lists of streams tell is what the one tells and then the other
+told-append : (tables : Entries) (xs ys : List (List ℕ))
+    → all_told tables (xs ++ ys) ≡ all_told tables xs ++ all_told tables ys
 told-append tables xs ys = flat_map-append (told tables) xs ys
 
+-- one stream tells the reports of its cut
 told-one : (tables : Entries) (s : List ℕ) → all_told tables (s ∷ []) ≡ reports_among tables (cut s)
 told-one tables s = append-nil (reports_among tables (cut s))
 
 -- a step that ran out, and that comes again
-again : (tables : Entries) (step : Step) (steps : List Step) (k j : ℕ) (s : Slot) → ComesNext step steps → slot_of step ≡ j → Holds tables (step ∷ steps) j s → Holds tables steps j (gains (take k (new_reports tables step s)) s)
+again : (tables : Entries) (step : Step) (steps : List Step) (k j : ℕ) (s : Slot)
+    → ComesNext step steps → slot_of step ≡ j → Holds tables (step ∷ steps) j s
+    → Holds tables steps j (gains (take k (new_reports tables step s)) s)
 again tables step [] k j s next here h = absurd next
 again tables step (more ∷ steps) k j s next here h =
     let new = new_reports tables step s in
@@ -109,7 +124,10 @@ again tables step (more ∷ steps) k j s next here h =
     }
 
 -- a slot that has gained what came
-grown : (tables : Entries) (step : Step) (steps : List Step) (j : ℕ) (s t : Slot) → slot_of step ≡ j → told_so_far tables t ≡ told_so_far tables s ++ new_reports tables step s → t.reports ≡ s.reports ++ new_reports tables step s → Holds tables (step ∷ steps) j s → Holds tables steps j t
+grown : (tables : Entries) (step : Step) (steps : List Step) (j : ℕ) (s t : Slot) → slot_of step ≡ j
+    → told_so_far tables t ≡ told_so_far tables s ++ new_reports tables step s
+    → t.reports ≡ s.reports ++ new_reports tables step s → Holds tables (step ∷ steps) j s
+    → Holds tables steps j t
 grown tables step steps j s t here streams reports h =
     let new = new_reports tables step s in
     let same : nat_eq (slot_of step) j ≡ true = eq-eqb (slot_of step) j here in
@@ -120,7 +138,11 @@ grown tables step steps j s t here streams reports h =
       high = λ x m. Has-left (told_so_far tables t) (coming tables steps j t) x (subst (λ rs. Has rs x) (sym streams) (Within-append s.reports new (told_so_far tables s ++ new) high (Has-right (told_so_far tables s) new) x (subst (λ rs. Has rs x) reports m)));
     }
 
-feed_told : (tables : Entries) (i : ℕ) (piece : List ℕ) (s t : Slot) → is_too_long s.open_stream piece ≡ false → t.ended ≡ s.ended → t.open_stream ≡ s.open_stream ++ piece → told_so_far tables t ≡ told_so_far tables s ++ new_reports tables (Feed i piece) s
+-- with a piece that fits, the streams of a slot tell what they told and what the piece brings
+feed_told : (tables : Entries) (i : ℕ) (piece : List ℕ) (s t : Slot)
+    → is_too_long s.open_stream piece ≡ false → t.ended ≡ s.ended
+    → t.open_stream ≡ s.open_stream ++ piece
+    → told_so_far tables t ≡ told_so_far tables s ++ new_reports tables (Feed i piece) s
 feed_told tables i piece s t fits ended longer =
     let came : new_reports tables (Feed i piece) s ≡ reports_among tables (frames_of_piece s.open_stream piece) = rw fits refl in
     ap (λ w. all_told tables w ++ reports_among tables (sure t.open_stream)) ended
@@ -130,7 +152,10 @@ feed_told tables i piece s t fits ended longer =
     ∙ sym (append_assoc (all_told tables s.ended) (reports_among tables (sure s.open_stream)) (reports_among tables (frames_of_piece s.open_stream piece)))
     ∙ ap (λ rs. told_so_far tables s ++ rs) (sym came)
 
-end_told : (tables : Entries) (i : ℕ) (s t : Slot) → t.ended ≡ s.ended ++ s.open_stream ∷ [] → t.open_stream ≡ [] → told_so_far tables t ≡ told_so_far tables s ++ new_reports tables (End i) s
+-- with the end of its stream, the streams of a slot tell what they told and what the end brings
+end_told : (tables : Entries) (i : ℕ) (s t : Slot) → t.ended ≡ s.ended ++ s.open_stream ∷ []
+    → t.open_stream ≡ []
+    → told_so_far tables t ≡ told_so_far tables s ++ new_reports tables (End i) s
 end_told tables i s t ended closed =
     let came = reports_among tables (frames_of_end s.open_stream) in
     ap (λ w. all_told tables w ++ reports_among tables (sure t.open_stream)) ended
@@ -141,7 +166,9 @@ end_told tables i s t ended closed =
     ∙ sym (append_assoc (all_told tables s.ended) (reports_among tables (sure s.open_stream)) came)
 
 -- a fault brings nothing
-fault_brings_nothing : (tables : Entries) (step : Step) (slots : List Slot) (s : Slot) (fault : StepFault) → slot_at slots (slot_of step) ≡ Some s → answer_of tables step slots ≡ Err fault → new_reports tables step s ≡ []
+fault_brings_nothing : (tables : Entries) (step : Step) (slots : List Slot) (s : Slot)
+    (fault : StepFault) → slot_at slots (slot_of step) ≡ Some s
+    → answer_of tables step slots ≡ Err fault → new_reports tables step s ≡ []
 fault_brings_nothing tables (Feed i piece) slots s fault here a =
     let b : feed_answer tables i piece (Some s) ≡ Err fault = sym (ap (feed_answer tables i piece) here) ∙ a in
     elim (is_too_long s.open_stream piece) as (λ t. is_too_long s.open_stream piece ≡ t → cond t (Err StreamTooLong) (Ok (fed_answer tables (frames_of_piece s.open_stream piece) s)) ≡ Err fault → new_reports tables (Feed i piece) s ≡ []) [
@@ -155,14 +182,17 @@ fault_brings_nothing tables (Transfer i j) slots s fault here a = refl
 fault_brings_nothing tables (Copy i j) slots s fault here a = refl
 
 -- a slot to which nothing comes
-idle : (tables : Entries) (step : Step) (steps more : List Step) (j : ℕ) (s : Slot) → new_reports tables step s ≡ [] → Holds tables (step ∷ steps) j s → Holds tables more j s
+idle : (tables : Entries) (step : Step) (steps more : List Step) (j : ℕ) (s : Slot)
+    → new_reports tables step s ≡ [] → Holds tables (step ∷ steps) j s → Holds tables more j s
 idle tables step steps more j s none h =
     let nothing : coming tables (step ∷ steps) j s ≡ [] = elim (nat_eq (slot_of step) j) as (λ b. cond b (new_reports tables step s) [] ≡ []) [ true ↦ none | false ↦ refl ] in
     let exact : Within s.reports (told_so_far tables s) = nothing_more s.reports (told_so_far tables s) (subst (λ c. Within s.reports (told_so_far tables s ++ c)) nothing h.high) in
     record { low = h.low; high = λ x m. Has-left (told_so_far tables s) (coming tables more j s) x (exact x m) }
 
 -- the slots where a fault came
-faulted : (tables : Entries) (step : Step) (steps : List Step) (slots : List Slot) (fault : StepFault) → answer_of tables step slots ≡ Err fault → AllHold tables (step ∷ steps) slots → AllHold tables steps slots
+faulted : (tables : Entries) (step : Step) (steps : List Step) (slots : List Slot)
+    (fault : StepFault) → answer_of tables step slots ≡ Err fault
+    → AllHold tables (step ∷ steps) slots → AllHold tables steps slots
 faulted tables step steps slots fault a all j s stood =
     elim (eqb_tells (slot_of step) j) [
       | inl p ↦ idle tables step steps steps j s (fault_brings_nothing tables step slots s fault (subst (λ k. slot_at slots k ≡ Some s) (sym p.1) stood) a) (all j s stood)
@@ -170,7 +200,9 @@ faulted tables step steps slots fault a all j s stood =
     ]
 
 -- the slots where memory ran out
-ran_out : (tables : Entries) (step : Step) (steps : List Step) (slots : List Slot) (k : ℕ) → ComesNext step steps → AllHold tables (step ∷ steps) slots → AllHold tables steps (after tables step (Err (OutOfMemory k)) slots)
+ran_out : (tables : Entries) (step : Step) (steps : List Step) (slots : List Slot) (k : ℕ)
+    → ComesNext step steps → AllHold tables (step ∷ steps) slots
+    → AllHold tables steps (after tables step (Err (OutOfMemory k)) slots)
 ran_out tables step steps slots k next all j t stood =
     let c = at_changed slots (slot_of step) (λ s. gains (take k (new_reports tables step s)) s) j t stood in
     elim c.now [
@@ -179,17 +211,22 @@ ran_out tables step steps slots k next all j t stood =
     ]
 
 -- an answer to a piece says that the stream is not too long
-fits_from : (tables : Entries) (i : ℕ) (piece : List ℕ) (slots : List Slot) (s : Slot) (answer : Answer) → slot_at slots i ≡ Some s → answer_of tables (Feed i piece) slots ≡ Ok answer → is_too_long s.open_stream piece ≡ false
+fits_from : (tables : Entries) (i : ℕ) (piece : List ℕ) (slots : List Slot) (s : Slot)
+    (answer : Answer) → slot_at slots i ≡ Some s → answer_of tables (Feed i piece) slots ≡ Ok answer
+    → is_too_long s.open_stream piece ≡ false
 fits_from tables i piece slots s answer here a =
     let b : feed_answer tables i piece (Some s) ≡ Ok answer = sym (ap (feed_answer tables i piece) here) ∙ a in
     elim (is_too_long s.open_stream piece) as (λ t. cond t (Err StreamTooLong) (Ok (fed_answer tables (frames_of_piece s.open_stream piece) s)) ≡ Ok answer → t ≡ false) [ true ↦ λ e. cc | false ↦ λ _. refl ] b
 
 -- a closed slot has what its ended streams tell
-pub closed_told : (tables : Entries) (s : Slot) → s.open_stream ≡ [] → told_so_far tables s ≡ all_told tables s.ended
+pub closed_told : (tables : Entries) (s : Slot) → s.open_stream ≡ []
+    → told_so_far tables s ≡ all_told tables s.ended
 closed_told tables s closed = ap (λ o. all_told tables s.ended ++ reports_among tables (sure o)) closed ∙ append-nil (all_told tables s.ended)
 
 -- the slots after a join
-joined_hold : (tables : Entries) (step : Step) (steps : List Step) (from into : ℕ) (slots : List Slot) → ((s : Slot) → new_reports tables step s ≡ []) → IsClosed slots from → AllHold tables (step ∷ steps) slots → AllHold tables steps (joined from into slots)
+joined_hold : (tables : Entries) (step : Step) (steps : List Step) (from into : ℕ)
+    (slots : List Slot) → ((s : Slot) → new_reports tables step s ≡ []) → IsClosed slots from
+    → AllHold tables (step ∷ steps) slots → AllHold tables steps (joined from into slots)
 joined_hold tables step steps from into slots none closed all j t stood =
     elim (slot_at slots from) as (λ o. slot_at slots from ≡ o → slot_at (joined_with o into slots) j ≡ Some t → Holds tables steps j t) [
       | None ↦ λ _ st. idle tables step steps steps j t (none t) (all j t st)
@@ -227,7 +264,9 @@ joined_hold tables step steps from into slots none closed all j t stood =
     ] refl stood
 
 -- the slots after an answer
-answered : (tables : Entries) (step : Step) (steps : List Step) (slots : List Slot) (answer : Answer) → answer_of tables step slots ≡ Ok answer → JoinsClosed step slots → AllHold tables (step ∷ steps) slots → AllHold tables steps (done tables step slots)
+answered : (tables : Entries) (step : Step) (steps : List Step) (slots : List Slot)
+    (answer : Answer) → answer_of tables step slots ≡ Ok answer → JoinsClosed step slots
+    → AllHold tables (step ∷ steps) slots → AllHold tables steps (done tables step slots)
 answered tables (Feed i piece) steps slots answer a closed all j t stood =
     let c = at_changed slots i (λ s. record (gains (new_reports tables (Feed i piece) s) s) { open_stream = s.open_stream ++ piece }) j t stood in
     elim c.now [
@@ -247,24 +286,32 @@ answered tables (Transfer from into) steps slots answer a closed all j t stood =
 answered tables (Copy from into) steps slots answer a closed all j t stood = joined_hold tables (Copy from into) steps from into slots (λ s. refl) closed all j t stood
 
 -- one step
-step_holds : (tables : Entries) (step : Step) (steps : List Step) (slots : List Slot) (answer : Result Answer StepFault) → IsAnswer tables step slots answer → (IsOutOfMemory answer → ComesNext step steps) → JoinsClosed step slots → AllHold tables (step ∷ steps) slots → AllHold tables steps (after tables step answer slots)
+step_holds : (tables : Entries) (step : Step) (steps : List Step) (slots : List Slot)
+    (answer : Result Answer StepFault) → IsAnswer tables step slots answer
+    → (IsOutOfMemory answer → ComesNext step steps) → JoinsClosed step slots
+    → AllHold tables (step ∷ steps) slots → AllHold tables steps (after tables step answer slots)
 step_holds tables step steps slots (Ok answer) a next closed all = answered tables step steps slots answer a closed all
 step_holds tables step steps slots (Err (OutOfMemory k)) a next closed all = ran_out tables step steps slots k (next tt) all
 step_holds tables step steps slots (Err (NoSlot i)) a next closed all = faulted tables step steps slots (NoSlot i) a all
 step_holds tables step steps slots (Err StreamTooLong) a next closed all = faulted tables step steps slots StreamTooLong a all
 
 -- a whole run
-pub run_holds : (tables : Entries) (steps : List Step) (answers : List (Result Answer StepFault)) (slots : List Slot) → Run tables steps answers slots → AreRepeated steps answers → AllJoinClosed tables steps answers slots → AllHold tables steps slots → AllHold tables [] (after_all tables steps answers slots)
+pub run_holds : (tables : Entries) (steps : List Step) (answers : List (Result Answer StepFault))
+    (slots : List Slot) → Run tables steps answers slots → AreRepeated steps answers
+    → AllJoinClosed tables steps answers slots → AllHold tables steps slots
+    → AllHold tables [] (after_all tables steps answers slots)
 run_holds tables [] [] slots r p q all = all
 run_holds tables [] (answer ∷ answers) slots r p q all = absurd r
 run_holds tables (step ∷ steps) [] slots r p q all = absurd r
 run_holds tables (step ∷ steps) (answer ∷ answers) slots r p q all =
     run_holds tables steps answers (after tables step answer slots) r.1 p.1 q.1 (step_holds tables step steps slots answer r.0 p.0 q.0 all)
 
+-- each slot of new slots is a new one
 new_at : (n i : ℕ) (s : Slot) → slot_at (new_slots n) i ≡ Some s → new_slot ≡ s
 new_at zero i s h = cc
 new_at (suc n) zero s h = cc
 new_at (suc n) (suc i) s h = new_at n i s h
 
+-- new slots have what their streams tell, which is nothing
 pub new_holds : (tables : Entries) (steps : List Step) (n : ℕ) → AllHold tables steps (new_slots n)
 new_holds tables steps n i s h = subst (Holds tables steps i) (new_at n i s h) (record { low = λ x m. absurd m; high = λ x m. absurd m })

@@ -12,15 +12,19 @@ use Rattle.bufr_depot.specs.Agreements.{SameSlot, RepeatCompletes, RunsJoin}
 use Rattle.bufr_depot.specs.declared.steps.Step.TheVariants.{Feed, End, Merge, Transfer, Copy}
 use Rattle.bufr_depot.proofs.RunFacts.{Reports, taken_within}
 
+-- a slot has taken in the same as itself
 same_slot : (s : Slot) → SameSlot s s
 same_slot s = record { reports = (λ x h. h, λ x h. h); ended = refl; open_stream = refl }
 
+-- so has each of some slots
 same_slots : (slots : List Slot) → AllZip SameSlot slots slots
 same_slots [] = tt
 same_slots (s ∷ slots) = (same_slot s, same_slots slots)
 
 -- a slot changed twice, where the second change does all that the first does
-twice_changed : (slots : List Slot) (i : ℕ) (f g : Slot → Slot) → ((s : Slot) → SameSlot (g (f s)) (g s)) → AllZip SameSlot (changed_at (changed_at slots i f) i g) (changed_at slots i g)
+twice_changed : (slots : List Slot) (i : ℕ) (f g : Slot → Slot)
+    → ((s : Slot) → SameSlot (g (f s)) (g s))
+    → AllZip SameSlot (changed_at (changed_at slots i f) i g) (changed_at slots i g)
 twice_changed [] i f g e = tt
 twice_changed (s ∷ slots) zero f g e = (e s, same_slots slots)
 twice_changed (s ∷ slots) (suc i) f g e = (same_slot s, twice_changed slots i f g e)
@@ -32,20 +36,26 @@ again_within k xs new = (
   Within-append xs new ((xs ++ take k new) ++ new) (λ x m. Has-left (xs ++ take k new) new x (Has-left xs (take k new) x m)) (Has-right (xs ++ take k new) new),
 )
 
+-- a front of no reports has none
 take-none : (k : ℕ) → take k (let none : Reports = [] in none) ≡ []
 take-none zero = refl
 take-none (suc k) = refl
 
 -- no reports change nothing
-pub nothing_gained : (slots : List Slot) (i : ℕ) (none : Slot → Reports) → ((s : Slot) → none s ≡ []) → changed_at slots i (λ s. gains (none s) s) ≡ slots
+pub nothing_gained : (slots : List Slot) (i : ℕ) (none : Slot → Reports)
+    → ((s : Slot) → none s ≡ []) → changed_at slots i (λ s. gains (none s) s) ≡ slots
 nothing_gained [] i none e = refl
 nothing_gained (s ∷ slots) zero none e = ap (λ t. t ∷ slots) (ap (λ rs. gains rs s) (e s) ∙ ap (λ rs. record s { reports = rs }) (append-nil s.reports))
 nothing_gained (s ∷ slots) (suc i) none e = ap (λ ts. s ∷ ts) (nothing_gained slots i none e)
 
 -- a join done again
-join_again : (from into k : ℕ) (slots : List Slot) → AllZip SameSlot (joined from into (changed_at slots into (λ s. gains (take k (let none : Reports = [] in none)) s))) (joined from into slots)
+join_again : (from into k : ℕ) (slots : List Slot)
+    → AllZip SameSlot
+    (joined from into (changed_at slots into (λ s. gains (take k (let none : Reports = [] in none)) s)))
+    (joined from into slots)
 join_again from into k slots = subst (λ s. AllZip SameSlot (joined from into s) (joined from into slots)) (sym (nothing_gained slots into (λ s. take k []) (λ s. take-none k))) (same_slots (joined from into slots))
 
+-- each step that ran out, done again, leaves what it leaves at once
 pub repeat_completes : (tables : Entries) → RepeatCompletes tables
 repeat_completes tables (Feed i piece) slots k a b = twice_changed slots i _ _ (λ s. record { reports = again_within k s.reports (new_reports tables (Feed i piece) s); ended = refl; open_stream = refl })
 repeat_completes tables (End i) slots k a b = twice_changed slots i _ _ (λ s. record { reports = again_within k s.reports (new_reports tables (End i) s); ended = refl; open_stream = refl })
@@ -53,6 +63,7 @@ repeat_completes tables (Merge from into) slots k a b = join_again from into k s
 repeat_completes tables (Transfer from into) slots k a b = join_again from into k slots
 repeat_completes tables (Copy from into) slots k a b = join_again from into k slots
 
+-- a run parted anywhere is the first run and then the second, and leaves what these leave
 pub runs_join : (tables : Entries) → RunsJoin tables
 runs_join tables [] more [] others slots l = record { first = λ r. tt; second = λ r. r; both = λ p q. q; left = refl }
 runs_join tables [] more (answer ∷ answers) others slots l = cc

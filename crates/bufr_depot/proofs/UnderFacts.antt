@@ -39,6 +39,7 @@ front_of P zero xs p = tt
 front_of P (suc n) [] p = tt
 front_of P (suc n) (x ∷ xs) p = (p.0, front_of P n xs p.1)
 
+-- the reports of the message that octets spell are under the tables, and else there are none
 under_frame : MessagesReadAreSpelt → ReportsSpeltAreUnder → (tables : Entries) (octets : List ℕ)
     → AreOctets octets → AreUnder tables (reports_in tables octets)
 under_frame read under tables octets all =
@@ -48,6 +49,7 @@ under_frame read under tables octets all =
       | Err why ↦ λ e. tt
     ] refl
 
+-- so are the reports of the frames of a stream, for each frame has octets of the stream
 under_frames : MessagesReadAreSpelt → ReportsSpeltAreUnder → (tables : Entries)
     (stream : List ℕ) → AreOctets stream → (frames : List Found)
     → AllByRecursion (IsFrameOf stream) frames → AreUnder tables (reports_among tables frames)
@@ -61,6 +63,7 @@ under_frames read under tables stream all (f ∷ fs) each =
     (under_frame read under tables f.bytes octets)
     (under_frames read under tables stream all fs each.1)
 
+-- so are the reports that a stream tells, which are those of the frames of its cut
 pub told_under : ((stream : List ℕ) → IsCut stream (cut stream)) → MessagesReadAreSpelt
     → ReportsSpeltAreUnder → ReportsToldAreUnder
 told_under is read under tables stream all =

@@ -1,5 +1,5 @@
 -- The tree of the nodes from one place to another, for the contracts of `Walk::start` and
--- `Walk::next`, by way of `Passing`.
+-- `Walk::next`, by way of `PassFacts`.
 use Rattle.std.proofs.Common.{◌≡◌, ℕ, zero, suc, ◌+◌, ◌-◌, ◌<◌, ◌≤◌, min, List, [], ◌∷◌, length}
 use Rattle.std.proofs.Common.{get_or, take, drop, refl, ap, ◌∙◌, arith, inl, inr}
 use Rattle.std.proofs.lemmas.List.{take-take, take_all, drop-drop, drop-take, drop_more, drop_all}

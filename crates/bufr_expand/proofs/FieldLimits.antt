@@ -14,8 +14,8 @@ use Rattle.bufr_expand.specs.declared.operators.Operators.{Operators}
 use Rattle.bufr_expand.specs.declared.operators.Spec.{Spec}
 use Rattle.bufr_expand.specs.declared.walk.WalkFault.TheVariants.{TooLarge}
 use Rattle.bufr_expand.specs.Limits.{most_items, most_levels}
-use Rattle.bufr_expand.specs.Operating.{none_in_force, operand, in_force_after, effective}
-use Rattle.bufr_expand.specs.Operating.{untouched, factor_spec}
+use Rattle.bufr_expand.specs.OperatorsInForce.{none_in_force, operand, in_force_after, effective}
+use Rattle.bufr_expand.specs.OperatorsInForce.{untouched, factor_spec}
 use Rattle.bufr_expand.specs.Effects.{IsText, IsAsRow, AsInTable, text, number, Adds}
 use Rattle.bufr_expand.specs.Effects.{Increases, IsChanged, Effective, of_text, changed, unchanged}
 use Rattle.bufr_expand.specs.Effects.{IsInRange, CanBeAsked}

@@ -1,15 +1,16 @@
+-- The lemmas behind the contracts and laws of this crate: trees, expansions, specs, courses, walks.
 pub mod Between
-pub mod Expanding
+pub mod ExpansionFacts
 pub mod FieldLimits
-pub mod Finding
-pub mod FirstFaulting
-pub mod Flattening
-pub mod Following
-pub mod Loops
+pub mod FirstFaultFacts
+pub mod FlatFacts
+pub mod FollowedFacts
+pub mod FoundFacts
+pub mod LoopFacts
 pub mod NoCases
-pub mod Passing
+pub mod PassFacts
 pub mod Powers
-pub mod Readings
+pub mod ReadingFacts
 pub mod SpecFacts
 pub mod Steps
 pub mod TemplateFacts

@@ -28,8 +28,8 @@ use Rattle.bufr_expand.specs.FirstFaults.{unsupported_operator, replicates_none,
 use Rattle.bufr_expand.specs.FirstFaults.{not_a_factor, factor_without_row, factor_without_count}
 use Rattle.bufr_expand.specs.FirstFaults.{too_few_left, too_few_behind_factor, no_text, no_width}
 use Rattle.bufr_expand.specs.FirstFaults.{width_of_nothing, width_of_no_element, too_wide}
-use Rattle.bufr_expand.proofs.Readings.{count_is, count_tells, stays_is, stays_tells, local_other}
-use Rattle.bufr_expand.proofs.Readings.{operator_is, replication_is}
+use Rattle.bufr_expand.proofs.ReadingFacts.{count_is, count_tells, stays_is, stays_tells, local_other}
+use Rattle.bufr_expand.proofs.ReadingFacts.{operator_is, replication_is}
 
 -- ---- for a fault that is found there is no case
 

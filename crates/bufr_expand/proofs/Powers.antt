@@ -8,7 +8,7 @@ use Rattle.std.proofs.lemmas.Int.{unsigned_abs-mul, fits_signed_from_abs}
 use Rattle.std.proofs.lemmas.Bool.Decides.{nat_tests}
 use Rattle.std.proofs.Math.Nat.{pow-le-pow_right, mul-le-mul}
 use Rattle.bufr_expand.specs.Limits.{most_reference}
-use Rattle.bufr_expand.specs.Operating.{is_within}
+use Rattle.bufr_expand.specs.OperatorsInForce.{is_within}
 
 -- what is multiplied by 10 up to eighteen times fits 64 bits
 pub ten_power_below : (y : ℕ) → y ≤ 18 → 10 ^ y ≤ 1000000000000000000

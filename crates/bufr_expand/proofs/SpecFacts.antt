@@ -13,8 +13,8 @@ use Rattle.bufr_tables.specs.Descriptors.{x_of}
 use Rattle.bufr_expand.specs.declared.operators.Operators.{Operators}
 use Rattle.bufr_expand.specs.declared.operators.Spec.{Spec}
 use Rattle.bufr_expand.specs.Limits.{most_number_bits, most_text_bits, most_scale, most_reference}
-use Rattle.bufr_expand.specs.Operating.{added, increase_of, widening, text_width, is_within}
-use Rattle.bufr_expand.specs.Operating.{number_spec, text_spec, untouched, effective}
+use Rattle.bufr_expand.specs.OperatorsInForce.{added, increase_of, widening, text_width, is_within}
+use Rattle.bufr_expand.specs.OperatorsInForce.{number_spec, text_spec, untouched, effective}
 use Rattle.bufr_expand.specs.Effects.{IsText, IsAsRow, AsInTable, text, number, Adds}
 use Rattle.bufr_expand.specs.Effects.{Increases, IsChanged, HasTextBits, Effective, of_text}
 use Rattle.bufr_expand.specs.Effects.{changed, unchanged}

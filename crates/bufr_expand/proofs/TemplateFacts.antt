@@ -9,8 +9,8 @@ use Rattle.bufr_expand.specs.Flat.{IsTreeOf}
 use Rattle.bufr_expand.specs.Trees.{Tree, tree_of}
 use Rattle.bufr_expand.specs.TreeCodes.{tree_of-nodes_of}
 use Rattle.bufr_expand.specs.Templates.{template, BuildsExactly, RefusesExactly}
-use Rattle.bufr_expand.proofs.Flattening.{expands_exactly, expands_to_trees}
-use Rattle.bufr_expand.proofs.FirstFaulting.{refuses_exactly}
+use Rattle.bufr_expand.proofs.FlatFacts.{expands_exactly, expands_to_trees}
+use Rattle.bufr_expand.proofs.FirstFaultFacts.{refuses_exactly}
 
 -- the nodes that were found, where there is a tree, and the fault, where there is none
 nodes_found : (x : Expansion) (tree : Tree) → result_map tree_of x ≡ Ok tree → (nodes : List Node)

@@ -7,16 +7,16 @@ use Rattle.bufr_expand.specs.Limits.{most_items}
 use Rattle.bufr_expand.specs.declared.operators.Operators.{Operators}
 use Rattle.bufr_expand.specs.declared.operators.Spec.{Spec}
 use Rattle.bufr_expand.specs.declared.walk.WalkFault.TheVariants.{TooLarge, EffectiveRange}
-use Rattle.bufr_expand.specs.Operating.{none_in_force}
+use Rattle.bufr_expand.specs.OperatorsInForce.{none_in_force}
 use Rattle.bufr_expand.specs.Courses.{Course, ends, stops, asks, course}
 use Rattle.bufr_expand.specs.Trees as trees
 use Rattle.bufr_expand.specs.Unrolling.{Told, SubsetUnrolls, After, Unrolls}
-use Rattle.bufr_expand.specs.Beginning.{Next, wants, lacks, SubsetBegins, BeginsWithin, MeetsItems}
-use Rattle.bufr_expand.specs.Beginning.{PassesLimit, AsksAfter}
-use Rattle.bufr_expand.proofs.Following.{Comes, come_true, come_to, with_fields, Late, Ahead}
-use Rattle.bufr_expand.proofs.Following.{tree_follows, Shows, Arrives, tree_meets}
-use Rattle.bufr_expand.proofs.Passing.{stops_at}
-use Rattle.bufr_expand.proofs.Finding.{Still, none_told, tree_finds}
+use Rattle.bufr_expand.specs.NextFields.{Next, wants, lacks, SubsetBegins, BeginsWithin, MeetsItems}
+use Rattle.bufr_expand.specs.NextFields.{PassesLimit, AsksAfter}
+use Rattle.bufr_expand.proofs.FollowedFacts.{Comes, come_true, come_to, with_fields, Late, Ahead}
+use Rattle.bufr_expand.proofs.FollowedFacts.{tree_follows, Shows, Arrives, tree_meets}
+use Rattle.bufr_expand.proofs.PassFacts.{stops_at}
+use Rattle.bufr_expand.proofs.FoundFacts.{Still, none_told, tree_finds}
 
 -- a field comes next, within the items of a message or beyond
 AtField : Next → ℕ → Course → Type 0

@@ -6,8 +6,8 @@ use Rattle.bufr_expand.specs.declared.operators.Spec.{Spec}
 use Rattle.bufr_expand.specs.declared.walk.WalkFault.{WalkFault}
 use Rattle.bufr_expand.specs.declared.walk.WalkFault.TheVariants.{TooLarge, EffectiveRange}
 use Rattle.bufr_expand.specs.Limits.{most_items}
-use Rattle.bufr_expand.specs.Operating.{none_in_force, in_force_after, effective, untouched}
-use Rattle.bufr_expand.specs.Operating.{factor_spec}
+use Rattle.bufr_expand.specs.OperatorsInForce.{none_in_force, in_force_after, effective, untouched}
+use Rattle.bufr_expand.specs.OperatorsInForce.{factor_spec}
 use Rattle.bufr_expand.specs.Trees as trees
 
 -- ends met: no further field, after so many items; stops met fault: no further field can stand,

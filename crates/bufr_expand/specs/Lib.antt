@@ -1,12 +1,12 @@
-pub mod Answering
-pub mod Beginning
+pub mod StepAnswers
+pub mod NextFields
 pub mod Courses
 pub mod Effects
 pub mod Expansion
 pub mod FirstFaults
 pub mod Flat
 pub mod Limits
-pub mod Operating
+pub mod OperatorsInForce
 pub mod Parts
 pub mod Places
 pub mod Reasons

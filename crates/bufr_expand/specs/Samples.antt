@@ -7,7 +7,7 @@ use Rattle.bufr_tables.specs.Descriptors.{descriptor}
 use Rattle.bufr_tables.specs.Entries.{Entries}
 use Rattle.bufr_expand.specs.declared.operators.Operators.{Operators}
 use Rattle.bufr_expand.specs.declared.operators.Spec.{Spec}
-use Rattle.bufr_expand.specs.Operating.{none_in_force, in_force_after, effective}
+use Rattle.bufr_expand.specs.OperatorsInForce.{none_in_force, in_force_after, effective}
 
 -- ---- rows
 

@@ -9,7 +9,7 @@ use Rattle.bufr_expand.specs.declared.operators.Operators.{Operators}
 use Rattle.bufr_expand.specs.declared.operators.Spec.{Spec}
 use Rattle.bufr_expand.specs.declared.walk.WalkFault.TheVariants.{TooLarge}
 use Rattle.bufr_expand.specs.Limits.{most_items}
-use Rattle.bufr_expand.specs.Operating.{in_force_after, effective, untouched}
+use Rattle.bufr_expand.specs.OperatorsInForce.{in_force_after, effective, untouched}
 use Rattle.bufr_expand.specs.Trees as trees
 use Rattle.bufr_expand.specs.Courses.{Course, ends, stops, asks, Then, item, asks_if, turns}
 use Rattle.bufr_expand.specs.Courses.{course_then, course}

@@ -5,7 +5,7 @@ use Rattle.std.specs.Prelude.{◌≡◌, ℕ, zero, suc, ◌+◌, ◌≤◌, Lis
 use Rattle.bufr_expand.specs.declared.operators.Operators.{Operators}
 use Rattle.bufr_expand.specs.declared.operators.Spec.{Spec}
 use Rattle.bufr_expand.specs.Limits.{most_items}
-use Rattle.bufr_expand.specs.Operating.{none_in_force, in_force_after, factor_spec}
+use Rattle.bufr_expand.specs.OperatorsInForce.{none_in_force, in_force_after, factor_spec}
 use Rattle.bufr_expand.specs.Effects.{Effective, AsInTable}
 use Rattle.bufr_expand.specs.Courses.{Course, ends, stops, asks}
 use Rattle.bufr_expand.specs.Trees as trees

@@ -9,7 +9,7 @@ ghost use Rattle.bufr_expand.specs.declared.operators.Operators.{Operators};
 ghost use Rattle.bufr_expand.specs.declared.operators.Spec.{Spec};
 ghost use Rattle.bufr_expand.specs.declared.walk.WalkFault.TheVariants.{TooLarge, EffectiveRange};
 ghost use Rattle.bufr_expand.specs.Limits.{most_items};
-ghost use Rattle.bufr_expand.specs.Operating.{effective, untouched};
+ghost use Rattle.bufr_expand.specs.OperatorsInForce.{effective, untouched};
 ghost use Rattle.bufr_expand.specs.Effects.{Effective, AsInTable, IsInRange, CanBeAsked};
 ghost use Rattle.bufr_expand.specs.Courses.{Course, stops, course};
 ghost use Rattle.bufr_expand.specs.FirstFaults as first_faults;
@@ -21,8 +21,8 @@ ghost use Rattle.bufr_expand.specs.Steady.{IsSteady, EachAsked};
 ghost use Rattle.bufr_expand.specs.Templates.{BuildsExactly, RefusesExactly};
 ghost use Rattle.bufr_expand.specs.Trees.{Tree, done};
 ghost use Rattle.bufr_expand.specs.Unrolling.{Told, After, Allows, Unrolls};
-ghost use Rattle.bufr_expand.specs.Beginning.{wants, lacks, BeginsWithin, MeetsItems, PassesLimit};
-ghost use Rattle.bufr_expand.specs.Beginning.{AsksAfter};
+ghost use Rattle.bufr_expand.specs.NextFields.{wants, lacks, BeginsWithin, MeetsItems, PassesLimit};
+ghost use Rattle.bufr_expand.specs.NextFields.{AsksAfter};
 
 /// A list of descriptors is expanded exactly where it has a tree within the limits, to the nodes of
 /// this tree, the only one. No list is refused for want of levels in the definition.

@@ -4,8 +4,8 @@ ghost use Rattle.std.specs.Prelude.{◌≡◌, ◌⊎◌, ◌+ℤ◌, ◌*ℤ◌
 ghost use Rattle.std.specs.Prelude.{Some, None, MatchOption, MatchResult};
 ghost use Rattle.bufr_tables.specs.Descriptors.{f_of, x_of};
 ghost use Rattle.bufr_expand.specs.Limits.{most_scale, most_reference};
-ghost use Rattle.bufr_expand.specs.Operating as operating;
-ghost use Rattle.bufr_expand.specs.Operating.{none_in_force, in_force_after, effective, untouched};
+ghost use Rattle.bufr_expand.specs.OperatorsInForce as operating;
+ghost use Rattle.bufr_expand.specs.OperatorsInForce.{none_in_force, in_force_after, effective, untouched};
 
 use crate::limits::{MOST_NUMBER_BITS, MOST_REFERENCE, MOST_SCALE, MOST_TEXT_BITS};
 use bufr_tables::{Element, Fxy, Kind};

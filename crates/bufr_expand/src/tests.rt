@@ -2,7 +2,7 @@
 
 ghost use Rattle.std.specs.Prelude.{◌≡◌, ◌<◌, ◌^◌, false};
 ghost use Rattle.bufr_expand.specs.Walks.{waits};
-ghost use Rattle.bufr_expand.specs.Answering.{asked_width};
+ghost use Rattle.bufr_expand.specs.StepAnswers.{asked_width};
 
 use crate::node::Node;
 use crate::operators::{EffectiveRange, Operators, Spec};
@@ -218,42 +218,33 @@ fn limits_of_specs(rt: HostRuntime) {
     let d = fxy(&rt, 0, 12, 101);
     let q = Operators::none();
     let limit: i64 = 4_611_686_018_427_387_904;
-    assert_eq!(rt;
-        q.effective(&row(Kind::Quantity, 127, limit, 63), d),
-        Ok(spec(Kind::Quantity, 127, limit, 63))
-    );
-    assert_eq!(rt;
-        q.effective(&row(Kind::Quantity, 127, -limit, 1), d),
-        Ok(spec(Kind::Quantity, 127, -limit, 1))
-    );
-    assert_eq!(rt;
-        q.effective(&row(Kind::Quantity, 127, limit + 1, 63), d),
-        Err(EffectiveRange(d))
-    );
-    assert_eq!(rt;
-        q.effective(&row(Kind::Quantity, 128, 0, 63), d),
-        Err(EffectiveRange(d))
-    );
-    assert_eq!(rt;
-        q.effective(&row(Kind::Quantity, 0, 0, 64), d),
-        Err(EffectiveRange(d))
-    );
-    assert_eq!(rt;
-        q.effective(&row(Kind::Quantity, 0, 0, 0), d),
-        Err(EffectiveRange(d))
-    );
-    assert_eq!(rt;
-        q.effective(&row(Kind::Text, 0, 0, 65528), d),
-        Ok(spec(Kind::Text, 0, 0, 65528))
-    );
-    assert_eq!(rt;
-        q.effective(&row(Kind::Text, 200, 5, 7), d),
-        Err(EffectiveRange(d))
-    );
-    assert_eq!(rt;
-        q.effective(&row(Kind::Text, 200, 5, 65536), d),
-        Err(EffectiveRange(d))
-    );
+    let within = [
+        (Kind::Quantity, 127, limit, 63),
+        (Kind::Quantity, 127, -limit, 1),
+        (Kind::Text, 0, 0, 65528),
+    ];
+    for (kind, scale, reference, width) in within {
+        let expected = Ok(spec(kind, scale, reference, width));
+        assert_eq!(rt;
+            q.effective(&row(kind, scale, reference, width), d),
+            expected
+        );
+    }
+    let beyond = [
+        (Kind::Quantity, 127, limit + 1, 63),
+        (Kind::Quantity, 128, 0, 63),
+        (Kind::Quantity, 0, 0, 64),
+        (Kind::Quantity, 0, 0, 0),
+        (Kind::Text, 200, 5, 7),
+        (Kind::Text, 200, 5, 65536),
+    ];
+    for (kind, scale, reference, width) in beyond {
+        let refused = Err(EffectiveRange(d));
+        assert_eq!(rt;
+            q.effective(&row(kind, scale, reference, width), d),
+            refused
+        );
+    }
 }
 
 /// A number that a count of this width can have.

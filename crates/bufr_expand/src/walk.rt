@@ -5,7 +5,7 @@ ghost use Rattle.std.specs.Vec.{vec_capacity};
 ghost use Rattle.bufr_expand.specs.Places as places;
 ghost use Rattle.bufr_expand.specs.Places.{AreOpen, AreOpen-prop, in_front, replications, begins};
 ghost use Rattle.bufr_expand.specs.Places.{awaited};
-ghost use Rattle.bufr_expand.specs.Operating.{factor_spec};
+ghost use Rattle.bufr_expand.specs.OperatorsInForce.{factor_spec};
 
 use crate::OutOfMemory;
 use crate::limits::MOST_ITEMS;
@@ -62,7 +62,7 @@ pub struct Walk<'t> {
 impl<'t> Walk<'t> {
     ghost use Rattle.std.specs.Prelude.{◌<◌, ◌*◌, true, false, IfOk, IfSome, IfNone, option_map};
     ghost use Rattle.bufr_tables.specs.declared.element.Kind.TheVariants as kinds;
-    ghost use Rattle.bufr_expand.specs.Operating.{in_force_after, untouched};
+    ghost use Rattle.bufr_expand.specs.OperatorsInForce.{in_force_after, untouched};
     ghost use Rattle.bufr_expand.specs.Limits.{most_items};
     ghost use Rattle.bufr_expand.specs.Trees.{tree_of};
     ghost use Rattle.bufr_expand.specs.Courses.{course, ends, stops, asks, asks_if};

@@ -5,7 +5,8 @@ use Rattle.std.specs.Cmp.Lexicographic.{pointwise}
 use Rattle.bufr_frame.specs.Starts.{agrees}
 
 -- the fronts of the lesser length are equal where the lists agree as far as both go
-pub agrees_by : (xs ys : List ℕ) (n : ℕ) → n ≡ min (length xs) (length ys) → pointwise nat_eq (take n xs) (take n ys) ≡ agrees xs ys
+pub agrees_by : (xs ys : List ℕ) (n : ℕ) → n ≡ min (length xs) (length ys)
+    → pointwise nat_eq (take n xs) (take n ys) ≡ agrees xs ys
 agrees_by [] ys zero e = refl
 agrees_by [] ys (suc n) e = absurd (omega arith)
 agrees_by (x ∷ xs) [] zero e = refl

@@ -12,25 +12,32 @@ abbrev framing : ℕ → List ℕ → Framing
 framing fed held = record { fed = fed; held = held }
 
 -- the same octets held
-pub same_held : (fed : ℕ) (h k : List ℕ) (v : Framing) → h ≡ k → framing fed k ≡ v → framing fed h ≡ v
+pub same_held : (fed : ℕ) (h k : List ℕ) (v : Framing) → h ≡ k → framing fed k ≡ v
+    → framing fed h ≡ v
 same_held fed h k v e is = ap (framing fed) e ∙ is
 
 -- the frames found in what is held and the piece are those that are sure and not handed out
-pub feed_found : (fed place : ℕ) (held piece : List ℕ) (v : Framing) (frames : List Found) → framing fed held ≡ v → place ≡ fed - length held → frames ≡ frames_from false place 0 (held ++ piece) →
-    (s : List ℕ) (out : ℕ) → Stands v s out → frames ≡ drop out (sure (s ++ piece))
+pub feed_found : (fed place : ℕ) (held piece : List ℕ) (v : Framing) (frames : List Found)
+    → framing fed held ≡ v → place ≡ fed - length held
+    → frames ≡ frames_from false place 0 (held ++ piece) → (s : List ℕ) (out : ℕ) → Stands v s out
+    → frames ≡ drop out (sure (s ++ piece))
 feed_found fed place held piece v frames is here e s out st =
     e ∙ ap (λ p. frames_from false p 0 (held ++ piece)) here ∙ sym (Stands-found (framing fed held) s out piece (subst (λ x. Stands x s out) (sym is) st))
 
 -- and what is left after them is what a framer holds with all of them handed out
-pub feed_next : (fed place : ℕ) (held piece rest : List ℕ) (v : Framing) (frames : List Found) → framing fed held ≡ v → place ≡ fed - length held → frames ≡ frames_from false place 0 (held ++ piece) →
-    rest ≡ rest_from (length frames) 0 (held ++ piece) → (s : List ℕ) (out : ℕ) → Stands v s out → Stands (framing (fed + length piece) rest) (s ++ piece) (length (sure (s ++ piece)))
+pub feed_next : (fed place : ℕ) (held piece rest : List ℕ) (v : Framing) (frames : List Found)
+    → framing fed held ≡ v → place ≡ fed - length held
+    → frames ≡ frames_from false place 0 (held ++ piece)
+    → rest ≡ rest_from (length frames) 0 (held ++ piece) → (s : List ℕ) (out : ℕ) → Stands v s out
+    → Stands (framing (fed + length piece) rest) (s ++ piece) (length (sure (s ++ piece)))
 feed_next fed place held piece rest v frames is here e left s out st =
     let same : frames ≡ frames_from false (fed - length held) 0 (held ++ piece) = e ∙ ap (λ p. frames_from false p 0 (held ++ piece)) here in
     subst (λ r. Stands (framing (fed + length piece) r) (s ++ piece) (length (sure (s ++ piece)))) (sym (left ∙ ap (λ fs. rest_from (length fs) 0 (held ++ piece)) same))
     (Stands-all (framing fed held) s out piece (subst (λ x. Stands x s out) (sym is) st))
 
 -- at the end the frames found in what is held are those of the stream that were not handed out
-pub end_found : (fed place : ℕ) (held : List ℕ) (v : Framing) (frames : List Found) → framing fed held ≡ v → place ≡ fed - length held → frames ≡ frames_from true place 0 held →
-    (s : List ℕ) (out : ℕ) → Stands v s out → frames ≡ drop out (cut s)
+pub end_found : (fed place : ℕ) (held : List ℕ) (v : Framing) (frames : List Found)
+    → framing fed held ≡ v → place ≡ fed - length held → frames ≡ frames_from true place 0 held
+    → (s : List ℕ) (out : ℕ) → Stands v s out → frames ≡ drop out (cut s)
 end_found fed place held v frames is here e s out st =
     e ∙ ap (λ p. frames_from true p 0 held) here ∙ sym (Stands-ended (framing fed held) s out (subst (λ x. Stands x s out) (sym is) st))

@@ -39,7 +39,8 @@ record RestsAt (place skip out : ℕ) (xs : List ℕ) (fs : List Found) (rest : 
   pub later : drop out fs ≡ frames_from false (place + n) 0 (drop n xs)
 
 -- the rest behind an octet that is skipped
-rests_later : (place skip out x : ℕ) (xs : List ℕ) (fs : List Found) (rest : List ℕ) → RestsAt (place + 1) skip out xs fs rest → RestsAt place (suc skip) out (x ∷ xs) fs rest
+rests_later : (place skip out x : ℕ) (xs : List ℕ) (fs : List Found) (rest : List ℕ)
+    → RestsAt (place + 1) skip out xs fs rest → RestsAt place (suc skip) out (x ∷ xs) fs rest
 rests_later place skip out x xs fs rest r =
     let within = r.within in
     let past = r.past in
@@ -54,13 +55,18 @@ rests_later place skip out x xs fs rest r =
       later = r.later ∙ ap (λ p. frames_from false p 0 (drop r.n xs)) (let e : (place + 1) + r.n ≡ place + suc r.n = omega arith in e);
     }
   where
-    later_others : (place skip out x : ℕ) (xs : List ℕ) (fs : List Found) (n : ℕ) → ((j : ℕ) → skip ≤ j → EndBy ((place + 1) + j) (take out fs) → j < n → start_of (drop j xs) ≡ Other) →
-        (j : ℕ) → suc skip ≤ j → EndBy (place + j) (take out fs) → j < suc n → start_of (drop j (x ∷ xs)) ≡ Other
+    later_others : (place skip out x : ℕ) (xs : List ℕ) (fs : List Found) (n : ℕ)
+        → ((j : ℕ) → skip ≤ j → EndBy ((place + 1) + j) (take out fs) → j < n
+        → start_of (drop j xs) ≡ Other)
+        → (j : ℕ) → suc skip ≤ j → EndBy (place + j) (take out fs) → j < suc n
+        → start_of (drop j (x ∷ xs)) ≡ Other
     later_others place skip out x xs fs n o zero a b l = absurd (omega arith)
     later_others place skip out x xs fs n o (suc j) a b l = o j (omega arith) (end_by (place + suc j) ((place + 1) + j) (take out fs) (omega arith) b) (omega arith)
 
 -- the rest behind an octet at which no frame begins
-rests_passed : (place out x : ℕ) (xs : List ℕ) (fs : List Found) (rest : List ℕ) → start_of (x ∷ xs) ≡ Other → RestsAt (place + 1) 0 out xs fs rest → RestsAt place 0 out (x ∷ xs) fs rest
+rests_passed : (place out x : ℕ) (xs : List ℕ) (fs : List Found) (rest : List ℕ)
+    → start_of (x ∷ xs) ≡ Other → RestsAt (place + 1) 0 out xs fs rest
+    → RestsAt place 0 out (x ∷ xs) fs rest
 rests_passed place out x xs fs rest h r =
     let t = rests_later place 0 out x xs fs rest r in
     record {
@@ -74,14 +80,19 @@ rests_passed place out x xs fs rest h r =
       later = t.later;
     }
   where
-    passed_others : (place out x : ℕ) (xs : List ℕ) (fs : List Found) (n : ℕ) → start_of (x ∷ xs) ≡ Other → ((j : ℕ) → 1 ≤ j → EndBy (place + j) (take out fs) → j < n → start_of (drop j (x ∷ xs)) ≡ Other) →
-        (j : ℕ) → 0 ≤ j → EndBy (place + j) (take out fs) → j < n → start_of (drop j (x ∷ xs)) ≡ Other
+    passed_others : (place out x : ℕ) (xs : List ℕ) (fs : List Found) (n : ℕ)
+        → start_of (x ∷ xs) ≡ Other
+        → ((j : ℕ) → 1 ≤ j → EndBy (place + j) (take out fs) → j < n
+        → start_of (drop j (x ∷ xs)) ≡ Other)
+        → (j : ℕ) → 0 ≤ j → EndBy (place + j) (take out fs) → j < n
+        → start_of (drop j (x ∷ xs)) ≡ Other
     passed_others place out x xs fs n h o zero a b l = h
     passed_others place out x xs fs n h o (suc j) a b l = o (suc j) (omega arith) b l
 
 -- the rest behind a frame
-rests_frame : (place l out x : ℕ) (xs b : List ℕ) (fs : List Found) (rest : List ℕ) → length b ≡ l → 1 ≤ l → RestsAt (place + 1) (l - 1) out xs fs rest →
-    RestsAt place 0 (suc out) (x ∷ xs) (record { place = place; bytes = b } ∷ fs) rest
+rests_frame : (place l out x : ℕ) (xs b : List ℕ) (fs : List Found) (rest : List ℕ) → length b ≡ l
+    → 1 ≤ l → RestsAt (place + 1) (l - 1) out xs fs rest
+    → RestsAt place 0 (suc out) (x ∷ xs) (record { place = place; bytes = b } ∷ fs) rest
 rests_frame place l out x xs b fs rest size long r =
     let t = rests_later place (l - 1) out x xs fs rest r in
     let past = t.past in
@@ -97,7 +108,9 @@ rests_frame place l out x xs b fs rest size long r =
     }
 
 -- where something stands it is the first such place
-rests_here : (place out x : ℕ) (xs : List ℕ) (fs : List Found) → out ≡ 0 → (start_of (x ∷ xs) ≡ Other → ⊥) → fs ≡ frames_from false place 0 (x ∷ xs) → RestsAt place 0 out (x ∷ xs) fs (x ∷ xs)
+rests_here : (place out x : ℕ) (xs : List ℕ) (fs : List Found) → out ≡ 0
+    → (start_of (x ∷ xs) ≡ Other → ⊥) → fs ≡ frames_from false place 0 (x ∷ xs)
+    → RestsAt place 0 out (x ∷ xs) fs (x ∷ xs)
 rests_here place out x xs fs none h e = record {
   n = 0;
   within = omega arith;
@@ -110,7 +123,9 @@ rests_here place out x xs fs none h e = record {
 }
 
 -- where the rest behind some frames begins
-rests_at : (place skip out : ℕ) (xs : List ℕ) → skip ≤ length xs → out ≤ length (frames_from false place skip xs) → RestsAt place skip out xs (frames_from false place skip xs) (rest_from out skip xs)
+rests_at : (place skip out : ℕ) (xs : List ℕ) → skip ≤ length xs
+    → out ≤ length (frames_from false place skip xs)
+    → RestsAt place skip out xs (frames_from false place skip xs) (rest_from out skip xs)
 rests_at place zero zero [] s o = record { n = 0; within = omega arith; rest_is = refl; past = omega arith; ended = tt; others = λ j a b l. absurd (omega arith); stop = λ e. cc; later = refl }
 rests_at place zero (suc out) [] s o = absurd (omega arith)
 rests_at place (suc skip) out [] s o = absurd (omega arith)
@@ -128,9 +143,12 @@ rests_at place zero out (x ∷ xs) s o =
       | Frame l ↦ λ h. rests_at_frame place l out x xs h o (λ k fits. rests_at (place + 1) (l - 1) k xs (let b = (begins_from (x ∷ xs) l h).whole in let c = (begins_from (x ∷ xs) l h).long in omega arith) fits)
     ] refl
   where
-    rests_at_frame : (place l out x : ℕ) (xs : List ℕ) → start_of (x ∷ xs) ≡ Frame l → out ≤ length (frames_from false place 0 (x ∷ xs)) →
-        ((k : ℕ) → k ≤ length (frames_from false (place + 1) (l - 1) xs) → RestsAt (place + 1) (l - 1) k xs (frames_from false (place + 1) (l - 1) xs) (rest_from k (l - 1) xs)) →
-        RestsAt place 0 out (x ∷ xs) (frames_from false place 0 (x ∷ xs)) (rest_from out 0 (x ∷ xs))
+    rests_at_frame : (place l out x : ℕ) (xs : List ℕ) → start_of (x ∷ xs) ≡ Frame l
+        → out ≤ length (frames_from false place 0 (x ∷ xs))
+        → ((k : ℕ) → k ≤ length (frames_from false (place + 1) (l - 1) xs)
+        → RestsAt (place + 1) (l - 1) k xs (frames_from false (place + 1) (l - 1) xs) (rest_from k (l - 1) xs))
+        → RestsAt place 0 out (x ∷ xs) (frames_from false place 0 (x ∷ xs))
+        (rest_from out 0 (x ∷ xs))
     rests_at_frame place l zero x xs h o more =
         subst (λ r. RestsAt place 0 0 (x ∷ xs) (frames_from false place 0 (x ∷ xs)) r) (sym (rest_none l x xs h))
         (rests_here place 0 x xs (frames_from false place 0 (x ∷ xs)) refl (λ e. let n : Frame l ≡ Other = sym h ∙ e in cc) refl)
@@ -144,14 +162,16 @@ rests_at place zero out (x ∷ xs) s o =
         (more out (omega (arith, ap length (frames_frame false place l x xs h))))))
 
 -- ---- in words
-get_dropped : (xs : List Found) (k : ℕ) (y : Found) (ys : List Found) → drop k xs ≡ y ∷ ys → slice_get xs k ≡ Some y
+get_dropped : (xs : List Found) (k : ℕ) (y : Found) (ys : List Found) → drop k xs ≡ y ∷ ys
+    → slice_get xs k ≡ Some y
 get_dropped [] zero y ys e = cc
 get_dropped [] (suc k) y ys e = cc
 get_dropped (x ∷ xs) zero y ys e = let same : x ≡ y = cc in ap Some same
 get_dropped (x ∷ xs) (suc k) y ys e = get_dropped xs k y ys e
 
 -- what holds of all from an index on holds of the one there
-got_of_all : (P : Found → Type 0) (xs : List Found) (k : ℕ) (y : Found) → slice_get xs k ≡ Some y → AllByRecursion P (drop k xs) → P y
+got_of_all : (P : Found → Type 0) (xs : List Found) (k : ℕ) (y : Found) → slice_get xs k ≡ Some y
+    → AllByRecursion P (drop k xs) → P y
 got_of_all P [] zero y e a = cc
 got_of_all P [] (suc k) y e a = cc
 got_of_all P (x ∷ xs) zero y e a = let same : x ≡ y = cc in subst P same a.0
@@ -200,7 +220,8 @@ module _ (s : List ℕ) (out : ℕ) (fits : out ≤ length (sure s)) where
       ] refl
 
   -- where nothing is left, nothing is held at any place
-  none_at_all : length s ≤ rests.n → (q : ℕ) → IsAfter (sure s) out q → IsHeldAt s (sure s) out q → ⊥
+  none_at_all : length s ≤ rests.n → (q : ℕ) → IsAfter (sure s) out q → IsHeldAt s (sure s) out q
+      → ⊥
   none_at_all out_of q after h =
       let within = rests.within in
       elim (leb_tells (suc q) rests.n) [
@@ -224,7 +245,8 @@ module _ (s : List ℕ) (out : ℕ) (fits : out ≤ length (sure s)) where
   ]
 
 -- there is one such list
-held_once : (s : List ℕ) (fs : List Found) (out : ℕ) (h k : List ℕ) → AreHeld s fs out h → AreHeld s fs out k → h ≡ k
+held_once : (s : List ℕ) (fs : List Found) (out : ℕ) (h k : List ℕ) → AreHeld s fs out h
+    → AreHeld s fs out k → h ≡ k
 held_once s fs out h k (inl a) (inl b) =
     elim (leb_tells (suc a.0) b.0) [
       | inl below ↦ absurd (b.1.first a.0 a.1.after below.1 a.1.is)

@@ -14,13 +14,15 @@ use Rattle.bufr_frame.specs.CutLaws.{agrees_take, agrees_from}
 use Rattle.bufr_frame.specs.StreamLaws.{announced-length}
 
 -- lists of one octet agree
-all_agree : (xs ys : List ℕ) → AllByRecursion (λ x. x ≡ 55) xs → AllByRecursion (λ x. x ≡ 55) ys → agrees xs ys ≡ true
+all_agree : (xs ys : List ℕ) → AllByRecursion (λ x. x ≡ 55) xs → AllByRecursion (λ x. x ≡ 55) ys
+    → agrees xs ys ≡ true
 all_agree [] ys a b = refl
 all_agree (x ∷ xs) [] a b = refl
 all_agree (x ∷ xs) (y ∷ ys) a b = let e : eqb x y ≡ true = eq-eqb x y (a.0 ∙ sym b.0) in rw e (all_agree xs ys a.1 b.1)
 
 -- what agrees with a longer list of one octet has no other
-agree_all : (xs ys : List ℕ) → length xs ≤ length ys → agrees xs ys ≡ true → AllByRecursion (λ x. x ≡ 55) ys → AllByRecursion (λ x. x ≡ 55) xs
+agree_all : (xs ys : List ℕ) → length xs ≤ length ys → agrees xs ys ≡ true
+    → AllByRecursion (λ x. x ≡ 55) ys → AllByRecursion (λ x. x ≡ 55) xs
 agree_all [] ys l h b = tt
 agree_all (x ∷ xs) [] l h b = absurd (omega arith)
 agree_all (x ∷ xs) (y ∷ ys) l h b =
@@ -72,7 +74,8 @@ open_parts l t h =
     ] refl h
 
 -- what begins as `BUFR`
-marked : (t : List ℕ) → start_of t ≡ Open → (agrees t bufr ≡ true) × (start_by (announced t) t ≡ Open)
+marked : (t : List ℕ) → start_of t ≡ Open
+    → (agrees t bufr ≡ true) × (start_by (announced t) t ≡ Open)
 marked t h =
     elim (agrees t bufr) as (λ b. agrees t bufr ≡ b → cond b (start_by (announced t) t) Other ≡ Open → (agrees t bufr ≡ true) × (start_by (announced t) t ≡ Open)) [
       | true ↦ λ mark e. (mark, e)
@@ -95,7 +98,8 @@ open_from s p o =
     rw (mark, o.told, at_least, end, not_whole) refl
 
 -- and an open start whose length is there is an open place
-pub open_to : (s : List ℕ) (p l : ℕ) → start_of (drop p s) ≡ Open → announced (drop p s) ≡ Some l → IsOpenAt s p
+pub open_to : (s : List ℕ) (p l : ℕ) → start_of (drop p s) ≡ Open → announced (drop p s) ≡ Some l
+    → IsOpenAt s p
 open_to s p l h told =
     let m = marked (drop p s) h in
     let parts = open_parts l (drop p s) (subst (λ o. start_by o (drop p s) ≡ Open) told m.1) in
@@ -146,7 +150,8 @@ tail_from s p t =
     rw (mark, short_unannounced (drop p s) few) refl
 
 -- and an open start whose length is not there is a tail
-pub tail_to : (s : List ℕ) (p : ℕ) → p < length s → start_of (drop p s) ≡ Open → announced (drop p s) ≡ None → IsTailAt s p
+pub tail_to : (s : List ℕ) (p : ℕ) → p < length s → start_of (drop p s) ≡ Open
+    → announced (drop p s) ≡ None → IsTailAt s p
 tail_to s p inside h none =
     let few = unannounced_short (drop p s) none in
     let m = marked (drop p s) h in

@@ -52,7 +52,8 @@ passed_none held piece = record {
 }
 
 -- more octets may come
-pub passed_more : (all held more : List ℕ) → IsPassedTo all held → IsPassedTo (all ++ more) (held ++ more)
+pub passed_more : (all held more : List ℕ) → IsPassedTo all held
+    → IsPassedTo (all ++ more) (held ++ more)
 passed_more all held more p =
     let within = p.within in
     record {
@@ -64,7 +65,8 @@ passed_more all held more p =
     }
 
 -- places of what is held may be passed over
-pub passed_then : (all held later : List ℕ) → IsPassedTo all held → IsPassedTo held later → IsPassedTo all later
+pub passed_then : (all held later : List ℕ) → IsPassedTo all held → IsPassedTo held later
+    → IsPassedTo all later
 passed_then all held later p q =
     let within = p.within in
     let further = q.within in
@@ -98,7 +100,8 @@ passed_other held next first room others = record {
 }
 
 -- what disagrees does so in its first octets
-disagrees_front : (n : ℕ) (xs ys : List ℕ) → (length ys ≤ n) ⊎ (length xs ≤ n) → agrees xs ys ≡ false → agrees (take n xs) ys ≡ false
+disagrees_front : (n : ℕ) (xs ys : List ℕ) → (length ys ≤ n) ⊎ (length xs ≤ n)
+    → agrees xs ys ≡ false → agrees (take n xs) ys ≡ false
 disagrees_front zero xs [] l h = elim xs as (λ (zs : List ℕ). agrees zs [] ≡ false → agrees (take 0 zs) [] ≡ false) [ [] ↦ λ e. e | x ∷ zs ↦ λ e. cc ] h
 disagrees_front zero [] (y ∷ ys) l h = h
 disagrees_front zero (x ∷ xs) (y ∷ ys) l h = elim l [ inl a ↦ absurd (omega arith) | inr a ↦ absurd (omega arith) ]
@@ -148,11 +151,13 @@ passed_frames place all held p =
     ∙ ap (λ q. frames_from false q 0 held) (let e : place + p.n ≡ place + (length all - length held) = omega arith in e)
 
 -- and so is what is left after them
-pub passed_rest : (out : ℕ) (all held : List ℕ) → IsPassedTo all held → rest_from out 0 all ≡ rest_from out 0 held
+pub passed_rest : (out : ℕ) (all held : List ℕ) → IsPassedTo all held
+    → rest_from out 0 all ≡ rest_from out 0 held
 passed_rest out all held p = rest_pass out p.n all p.within p.others ∙ ap (rest_from out 0) (sym p.rest)
 
 -- where what is held is open, there is no frame
-pub takes_none : (place : ℕ) (all held : List ℕ) → IsPassedTo all held → start_of held ≡ Open → TakesNone place all held
+pub takes_none : (place : ℕ) (all held : List ℕ) → IsPassedTo all held → start_of held ≡ Open
+    → TakesNone place all held
 takes_none place all held p h = record {
   none = passed_frames place all held p ∙ open_frames (place + (length all - length held)) held h;
   held_is = sym (passed_rest 0 all held p ∙ open_rest held h);
@@ -171,7 +176,8 @@ takes_held place l all held left frame p h rest is =
     }
 
 -- a frame is one by its own octets
-pub frame_front : (octets : List ℕ) (l : ℕ) → start_of octets ≡ Frame l → start_of (take l octets) ≡ Frame l
+pub frame_front : (octets : List ℕ) (l : ℕ) → start_of octets ≡ Frame l
+    → start_of (take l octets) ≡ Frame l
 frame_front octets l h =
     let size : length (take l octets) ≡ l = length-take-le l octets (frame_fits octets l h) in
     let long = frame_moves octets l h in
@@ -183,7 +189,8 @@ frame_front octets l h =
       | Open ↦ λ e. absurd (open_front octets l h e)
     ] refl
   where
-    open_front : (octets : List ℕ) (l : ℕ) → start_of octets ≡ Frame l → start_of (take l octets) ≡ Open → ⊥
+    open_front : (octets : List ℕ) (l : ℕ) → start_of octets ≡ Frame l
+        → start_of (take l octets) ≡ Open → ⊥
     open_front octets l h e =
         let size : length (take l octets) ≡ l = length-take-le l octets (frame_fits octets l h) in
         let long = frame_moves octets l h in
@@ -249,7 +256,8 @@ reaching_first kept piece from within short = record {
 }
 
 -- where nothing can stand, octets follow
-pub other_inside : (octets : List ℕ) (from : ℕ) → start_of (drop from octets) ≡ Other → from + 1 ≤ length octets
+pub other_inside : (octets : List ℕ) (from : ℕ) → start_of (drop from octets) ≡ Other
+    → from + 1 ≤ length octets
 other_inside octets from h = elim (leb_tells (from + 1) (length octets)) [
   | inl inside ↦ inside.1
   | inr outside ↦
@@ -312,8 +320,8 @@ abbrev pub left_to_do : List ℕ → List ℕ → ℕ → ℕ → ℕ
 left_to_do kept piece from taken = (length piece - taken) + (length piece - taken) + (length kept - from)
 
 -- it gets less
-pub less_to_do : (kept after piece : List ℕ) (from taken n : ℕ) → from ≤ length kept → taken ≤ length piece
-    → TakesMore (drop from kept) kept after (drop taken piece) n
+pub less_to_do : (kept after piece : List ℕ) (from taken n : ℕ) → from ≤ length kept
+    → taken ≤ length piece → TakesMore (drop from kept) kept after (drop taken piece) n
     → left_to_do after piece from (taken + n) < left_to_do kept piece from taken
 less_to_do kept after piece from taken n within inside m =
     let some = m.some in
@@ -345,13 +353,14 @@ length_all held piece taken room =
     length-append held (take taken piece) ∙ ap (λ n. length held + n) (length-take-le taken piece room)
 
 -- a frame that begins what is held
-pub answers_held : (fed : ℕ) (held kept after piece : List ℕ) (r : Reached) (l next from : ℕ) (frame : Found)
-    → length held ≤ fed → Reaches held kept piece r → r.stop ≡ Held l
+pub answers_held : (fed : ℕ) (held kept after piece : List ℕ) (r : Reached) (l next from : ℕ)
+    (frame : Found) → length held ≤ fed → Reaches held kept piece r → r.stop ≡ Held l
     → r.from + l ≤ next → next ≤ length kept
     → rest_from 0 0 (drop (r.from + l) kept) ≡ rest_from 0 0 (drop next kept)
-    → rest_from 0 0 (drop next kept) ≡ drop next kept
-    → drop from after ≡ drop next kept → from ≤ length after → from ≤ length (drop from after)
-    → frame ≡ record { place = (fed + r.taken) - (length kept - r.from); bytes = take l (drop r.from kept) }
+    → rest_from 0 0 (drop next kept) ≡ drop next kept → drop from after ≡ drop next kept
+    → from ≤ length after → from ≤ length (drop from after)
+    → frame
+    ≡ record { place = (fed + r.taken) - (length kept - r.from); bytes = take l (drop r.from kept) }
     → Takes fed held after piece (record { found = Some frame; from = from; taken = r.taken })
 answers_held fed held kept after piece r l next from frame known s stop past room passed here same within half is =
     let now = drop r.from kept in
@@ -388,11 +397,13 @@ piece_room held kept piece r skip l s stop =
     omega (arith, length-drop skip (drop r.taken piece), length-drop r.taken piece)
 
 -- a frame in the piece
-pub answers_piece : (fed : ℕ) (held kept after piece : List ℕ) (r : Reached) (skip l from : ℕ) (frame : Found)
-    → length held ≤ fed → Reaches held kept piece r → r.stop ≡ Piece skip l
+pub answers_piece : (fed : ℕ) (held kept after piece : List ℕ) (r : Reached) (skip l from : ℕ)
+    (frame : Found) → length held ≤ fed → Reaches held kept piece r → r.stop ≡ Piece skip l
     → drop from after ≡ drop r.from kept → from ≤ length after → from ≤ length (drop from after)
-    → frame ≡ record { place = fed + (r.taken + skip); bytes = take l (drop (r.taken + skip) piece) }
-    → Takes fed held after piece (record { found = Some frame; from = from; taken = (r.taken + skip) + l })
+    → frame
+    ≡ record { place = fed + (r.taken + skip); bytes = take l (drop (r.taken + skip) piece) }
+    → Takes fed held after piece
+    (record { found = Some frame; from = from; taken = (r.taken + skip) + l })
 answers_piece fed held kept after piece r skip l from frame known s stop same within half is =
     let now = drop r.from kept in
     let rest = drop r.taken piece in
@@ -465,8 +476,8 @@ next_frame v taken held (Some frame) t = λ stream out stands.
     ∙ get_after (take out (sure stream)) later ∙ t.next
 
 -- and the framer has then handed it out
-pub stands_next : (v : Framing) (taken held : List ℕ) (n : ℕ) (found : Option Found) → length taken ≡ n
-    → TakesOneOrNone found (place_of v) (v.held ++ taken) held
+pub stands_next : (v : Framing) (taken held : List ℕ) (n : ℕ) (found : Option Found)
+    → length taken ≡ n → TakesOneOrNone found (place_of v) (v.held ++ taken) held
     → IfSome found (λ frame. StandsAfter v (record { fed = v.fed + n; held = held }) taken 1)
 stands_next v taken held n None size t = tt
 stands_next v taken held n (Some frame) size t = λ stream out stands.
@@ -477,7 +488,8 @@ stands_next v taken held n (Some frame) size t = λ stream out stands.
     (subst (λ h. Stands (record { fed = v.fed + length taken; held = h }) (stream ++ taken) (out + 1)) (sym t.held_is) st)
 
 -- where there is none, no frame is sure
-pub no_frame : (v : Framing) (taken held : List ℕ) → TakesNone (place_of v) (v.held ++ taken) held → IsNoFrame v taken
+pub no_frame : (v : Framing) (taken held : List ℕ) → TakesNone (place_of v) (v.held ++ taken) held
+    → IsNoFrame v taken
 no_frame v taken held t = λ stream out stands.
     let fits = stands.out_of_sure in
     let all = Stands-sure v stream out taken stands in
@@ -493,7 +505,7 @@ stands_on v taken held n size t = λ stream out stands.
     (subst (λ h. Stands (record { fed = v.fed + length taken; held = h }) (stream ++ taken) (out + 0)) (sym t.held_is) st)
 
 -- no more is held than was held and taken in
-pub held_taken : (place : ℕ) (all held : List ℕ) (found : Option Found) → TakesOneOrNone found place all held
-    → length held ≤ length all
+pub held_taken : (place : ℕ) (all held : List ℕ) (found : Option Found)
+    → TakesOneOrNone found place all held → length held ≤ length all
 held_taken place all held None t = omega (arith, ap length t.held_is, rest_from-length 0 0 all)
 held_taken place all held (Some frame) t = omega (arith, ap length t.held_is, rest_from-length 1 0 all)

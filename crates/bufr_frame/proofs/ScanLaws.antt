@@ -18,20 +18,24 @@ pub record Scanned (ended : Bool) (place : ℕ) (octets : List ℕ) (frames : Li
   pub all_rest : ended ≡ false → (n : ℕ) → rest_from (length frames + n) 0 octets ≡ rest_from n 0 (drop here octets)
 
 -- octets that belong to the frame before are passed over
-frames_skip : (ended : Bool) (place skip : ℕ) (xs : List ℕ) → skip ≤ length xs → frames_from ended place skip xs ≡ frames_from ended (place + skip) 0 (drop skip xs)
+frames_skip : (ended : Bool) (place skip : ℕ) (xs : List ℕ) → skip ≤ length xs
+    → frames_from ended place skip xs ≡ frames_from ended (place + skip) 0 (drop skip xs)
 frames_skip ended place zero [] h = refl
 frames_skip ended place zero (x ∷ xs) h = ap (λ p. frames_from ended p 0 (x ∷ xs)) (let e : place ≡ place + 0 = omega arith in e)
 frames_skip ended place (suc skip) [] h = absurd (omega arith)
 frames_skip ended place (suc skip) (x ∷ xs) h = frames_skip ended (place + 1) skip xs (omega arith) ∙ ap (λ p. frames_from ended p 0 (drop skip xs)) (let e : (place + 1) + skip ≡ place + suc skip = omega arith in e)
 
 -- the rest behind octets that are skipped
-rest_skip : (n skip : ℕ) (xs : List ℕ) → skip ≤ length xs → rest_from n skip xs ≡ rest_from n 0 (drop skip xs)
+rest_skip : (n skip : ℕ) (xs : List ℕ) → skip ≤ length xs
+    → rest_from n skip xs ≡ rest_from n 0 (drop skip xs)
 rest_skip n zero xs h = refl
 rest_skip n (suc skip) [] h = absurd (omega arith)
 rest_skip n (suc skip) (x ∷ xs) h = rest_skip n skip xs (omega arith)
 
 -- places at which no frame stands or can come to stand are passed over
-pub frames_pass : (ended : Bool) (place d : ℕ) (xs : List ℕ) → d ≤ length xs → ((k : ℕ) → k < d → start_of (drop k xs) ≡ Other) → frames_from ended place 0 xs ≡ frames_from ended (place + d) 0 (drop d xs)
+pub frames_pass : (ended : Bool) (place d : ℕ) (xs : List ℕ) → d ≤ length xs
+    → ((k : ℕ) → k < d → start_of (drop k xs) ≡ Other)
+    → frames_from ended place 0 xs ≡ frames_from ended (place + d) 0 (drop d xs)
 frames_pass ended place zero xs h o = ap (λ p. frames_from ended p 0 xs) (let e : place ≡ place + 0 = omega arith in e)
 frames_pass ended place (suc d) [] h o = absurd (omega arith)
 frames_pass ended place (suc d) (x ∷ xs) h o =
@@ -39,7 +43,9 @@ frames_pass ended place (suc d) (x ∷ xs) h o =
     ∙ ap (λ p. frames_from ended p 0 (drop d xs)) (let e : (place + 1) + d ≡ place + suc d = omega arith in e)
 
 -- the rest behind octets at which no frame begins
-pub rest_pass : (n d : ℕ) (xs : List ℕ) → d ≤ length xs → ((k : ℕ) → k < d → start_of (drop k xs) ≡ Other) → rest_from n 0 xs ≡ rest_from n 0 (drop d xs)
+pub rest_pass : (n d : ℕ) (xs : List ℕ) → d ≤ length xs
+    → ((k : ℕ) → k < d → start_of (drop k xs) ≡ Other)
+    → rest_from n 0 xs ≡ rest_from n 0 (drop d xs)
 rest_pass n zero xs h o = refl
 rest_pass n (suc d) [] h o = absurd (omega arith)
 rest_pass n (suc d) (x ∷ xs) h o = rest_other n x xs (o 0 (omega arith)) ∙ rest_pass n d xs (omega arith) (λ k l. o (suc k) (omega arith))
@@ -99,7 +105,8 @@ passed_on ended octets from here next s later room others =
     }
 
 -- at the end of the stream an open place is passed over
-passed : (place : ℕ) (t : List ℕ) → start_of t ≡ Open → frames_from true place 0 t ≡ frames_from true (place + 1) 0 (drop 1 t)
+passed : (place : ℕ) (t : List ℕ) → start_of t ≡ Open
+    → frames_from true place 0 t ≡ frames_from true (place + 1) 0 (drop 1 t)
 passed place [] h = refl
 passed place (x ∷ xs) h = rw (h, frames_from) refl
 
@@ -137,7 +144,9 @@ scanned_passed ended place octets frames from here s within same_frames same_res
 }
 
 -- the frame that stands here, what follows it, and what is left after it
-pub one_frame : (ended : Bool) (place l : ℕ) (t : List ℕ) → start_of t ≡ Frame l → frames_from ended place 0 t ≡ record { place = place; bytes = take l t } ∷ frames_from ended (place + l) 0 (drop l t)
+pub one_frame : (ended : Bool) (place l : ℕ) (t : List ℕ) → start_of t ≡ Frame l
+    → frames_from ended place 0 t
+    ≡ record { place = place; bytes = take l t } ∷ frames_from ended (place + l) 0 (drop l t)
 one_frame ended place l [] h = let b = (begins_from [] l h).whole in let c = (begins_from [] l h).long in absurd (omega arith)
 one_frame ended place zero (x ∷ xs) h = let c = (begins_from (x ∷ xs) zero h).long in absurd (omega arith)
 one_frame ended place (suc l) (x ∷ xs) h =
@@ -147,7 +156,8 @@ one_frame ended place (suc l) (x ∷ xs) h =
     (ap (λ k. frames_from ended (place + 1) k xs) less ∙ frames_skip ended (place + 1) l xs (omega arith) ∙ ap (λ p. frames_from ended p 0 (drop l xs)) (let e : (place + 1) + l ≡ place + suc l = omega arith in e))
 
 -- the rest behind one frame
-pub one_rest : (n l : ℕ) (t : List ℕ) → start_of t ≡ Frame l → rest_from (suc n) 0 t ≡ rest_from n 0 (drop l t)
+pub one_rest : (n l : ℕ) (t : List ℕ) → start_of t ≡ Frame l
+    → rest_from (suc n) 0 t ≡ rest_from n 0 (drop l t)
 one_rest n l [] h = let b = (begins_from [] l h).whole in let c = (begins_from [] l h).long in absurd (omega arith)
 one_rest n zero (x ∷ xs) h = let c = (begins_from (x ∷ xs) zero h).long in absurd (omega arith)
 one_rest n (suc l) (x ∷ xs) h =
@@ -164,8 +174,10 @@ pub frame_moves : (octets : List ℕ) (l : ℕ) → start_of octets ≡ Frame l 
 frame_moves octets l h = (begins_from octets l h).long
 
 -- a frame that stands here is found
-pub scanned_frame : (ended : Bool) (place : ℕ) (octets : List ℕ) (frames : List Found) (here l : ℕ) → Scanned ended place octets frames here → start_of (drop here octets) ≡ Frame l →
-    Scanned ended place octets (frames ++ record { place = place + here; bytes = take l (drop here octets) } ∷ []) (here + l)
+pub scanned_frame : (ended : Bool) (place : ℕ) (octets : List ℕ) (frames : List Found) (here l : ℕ)
+    → Scanned ended place octets frames here → start_of (drop here octets) ≡ Frame l
+    → Scanned ended place octets
+    (frames ++ record { place = place + here; bytes = take l (drop here octets) } ∷ []) (here + l)
 scanned_frame ended place octets frames here l s h =
     let fits = frame_fits (drop here octets) l h in
     let w = s.within in
@@ -186,7 +198,9 @@ pub record ScannedAll (ended : Bool) (place : ℕ) (octets : List ℕ) (frames :
   pub rest_is : ended ≡ false → drop here octets ≡ rest_from (length frames) 0 octets
 
 -- it has come to its end where no octets are left
-pub scanned_out : (ended : Bool) (place : ℕ) (octets : List ℕ) (frames : List Found) (here : ℕ) → Scanned ended place octets frames here → length octets ≤ here → ScannedAll ended place octets frames here
+pub scanned_out : (ended : Bool) (place : ℕ) (octets : List ℕ) (frames : List Found) (here : ℕ)
+    → Scanned ended place octets frames here → length octets ≤ here
+    → ScannedAll ended place octets frames here
 scanned_out ended place octets frames here s h =
     let none : drop here octets ≡ [] = drop_all here octets h in
     record {
@@ -205,7 +219,9 @@ open_rest [] h = refl
 open_rest (x ∷ xs) h = rest_open 0 x xs h
 
 -- and in a stream that goes on, at an open place
-pub scanned_open : (ended : Bool) (place : ℕ) (octets : List ℕ) (frames : List Found) (here : ℕ) → ended ≡ false → Scanned ended place octets frames here → start_of (drop here octets) ≡ Open → ScannedAll ended place octets frames here
+pub scanned_open : (ended : Bool) (place : ℕ) (octets : List ℕ) (frames : List Found) (here : ℕ)
+    → ended ≡ false → Scanned ended place octets frames here → start_of (drop here octets) ≡ Open
+    → ScannedAll ended place octets frames here
 scanned_open ended place octets frames here is s h = record {
   frames_are = sym (s.all_frames ∙ ap (λ fs. frames ++ fs) (ap (λ b. frames_from b (place + here) 0 (drop here octets)) is ∙ open_frames (place + here) (drop here octets) h) ∙ append-nil frames);
   rest_is = λ e. sym (ap (λ k. rest_from k 0 octets) (let z : length frames ≡ length frames + 0 = omega arith in z) ∙ s.all_rest e 0 ∙ open_rest (drop here octets) h);

@@ -18,11 +18,13 @@ use Rattle.bufr_frame.specs.CutLaws.{Stood, good, all_weaker, frames_passed, cut
 use Rattle.bufr_frame.proofs.OpenLaws.{open_from, open_to, unannounced_short}
 
 -- ---- frames come in order
-past_by : (place from : ℕ) (fs : List Found) → place ≤ from → AllByRecursion (λ f. from ≤ f.place) fs → AllByRecursion (λ f. place ≤ f.place) fs
+past_by : (place from : ℕ) (fs : List Found) → place ≤ from
+    → AllByRecursion (λ f. from ≤ f.place) fs → AllByRecursion (λ f. place ≤ f.place) fs
 past_by place from fs h a = all_weaker (λ f. from ≤ f.place) (λ f. place ≤ f.place) (λ f b. omega arith) fs a
 
 -- no frame begins before the place from which it is searched
-pub all_past : (ended : Bool) (place skip : ℕ) (xs : List ℕ) → AllByRecursion (λ f. place + skip ≤ f.place) (frames_from ended place skip xs)
+pub all_past : (ended : Bool) (place skip : ℕ) (xs : List ℕ)
+    → AllByRecursion (λ f. place + skip ≤ f.place) (frames_from ended place skip xs)
 all_past ended place skip [] = tt
 all_past ended place (suc skip) (x ∷ xs) = past_by (place + suc skip) ((place + 1) + skip) _ (omega arith) (all_past ended (place + 1) skip xs)
 all_past ended place zero (x ∷ xs) =
@@ -42,33 +44,46 @@ GapsClear place xs low [] = Unit {0}
 GapsClear place xs low (f ∷ fs) = ((n : ℕ) → low ≤ place + n → place + n < f.place → start_of (drop n xs) ≡ Open → ⊥) × GapsClear place xs (f.place + length f.bytes) fs
 
 -- the gaps behind an octet are those from it on
-gaps_later : (place x : ℕ) (xs : List ℕ) (low : ℕ) (fs : List Found) → place < low → AllByRecursion (λ f. place < f.place) fs → GapsClear (place + 1) xs low fs → GapsClear place (x ∷ xs) low fs
+gaps_later : (place x : ℕ) (xs : List ℕ) (low : ℕ) (fs : List Found) → place < low
+    → AllByRecursion (λ f. place < f.place) fs → GapsClear (place + 1) xs low fs
+    → GapsClear place (x ∷ xs) low fs
 gaps_later place x xs low [] below past g = tt
 gaps_later place x xs low (f ∷ fs) below past g =
     let here = past.0 in
     (one_later place x xs low f below g.0, gaps_later place x xs (f.place + length f.bytes) fs (omega arith) past.1 g.1)
   where
-    one_later : (place x : ℕ) (xs : List ℕ) (low : ℕ) (f : Found) → place < low → ((n : ℕ) → low ≤ (place + 1) + n → (place + 1) + n < f.place → start_of (drop n xs) ≡ Open → ⊥) → (n : ℕ) → low ≤ place + n → place + n < f.place → start_of (drop n (x ∷ xs)) ≡ Open → ⊥
+    one_later : (place x : ℕ) (xs : List ℕ) (low : ℕ) (f : Found) → place < low
+        → ((n : ℕ) → low ≤ (place + 1) + n → (place + 1) + n < f.place → start_of (drop n xs) ≡ Open
+        → ⊥)
+        → (n : ℕ) → low ≤ place + n → place + n < f.place → start_of (drop n (x ∷ xs)) ≡ Open → ⊥
     one_later place x xs low f below g zero a b h = omega arith
     one_later place x xs low f below g (suc n) a b h = g n (omega arith) (omega arith) h
 
 -- so they are behind an octet at which no frame begins
-gaps_first : (place x : ℕ) (xs : List ℕ) (fs : List Found) → start_of (x ∷ xs) ≡ Other → AllByRecursion (λ f. place < f.place) fs → GapsClear (place + 1) xs ((place + 1) + 0) fs → GapsClear place (x ∷ xs) (place + 0) fs
+gaps_first : (place x : ℕ) (xs : List ℕ) (fs : List Found) → start_of (x ∷ xs) ≡ Other
+    → AllByRecursion (λ f. place < f.place) fs → GapsClear (place + 1) xs ((place + 1) + 0) fs
+    → GapsClear place (x ∷ xs) (place + 0) fs
 gaps_first place x xs [] other past g = tt
 gaps_first place x xs (f ∷ fs) other past g =
     let here = past.0 in
     (one_first place x xs f other g.0, gaps_later place x xs (f.place + length f.bytes) fs (omega arith) past.1 g.1)
   where
-    one_first : (place x : ℕ) (xs : List ℕ) (f : Found) → start_of (x ∷ xs) ≡ Other → ((n : ℕ) → (place + 1) + 0 ≤ (place + 1) + n → (place + 1) + n < f.place → start_of (drop n xs) ≡ Open → ⊥) → (n : ℕ) → place + 0 ≤ place + n → place + n < f.place → start_of (drop n (x ∷ xs)) ≡ Open → ⊥
+    one_first : (place x : ℕ) (xs : List ℕ) (f : Found) → start_of (x ∷ xs) ≡ Other
+        → ((n : ℕ) → (place + 1) + 0 ≤ (place + 1) + n → (place + 1) + n < f.place
+        → start_of (drop n xs) ≡ Open → ⊥)
+        → (n : ℕ) → place + 0 ≤ place + n → place + n < f.place → start_of (drop n (x ∷ xs)) ≡ Open
+        → ⊥
     one_first place x xs f other g zero a b h = let e : Other ≡ Open = sym other ∙ h in cc
     one_first place x xs f other g (suc n) a b h = g n (omega arith) (omega arith) h
 
 -- frames behind an octet begin after it
-past_strictly : (place skip : ℕ) (xs : List ℕ) → AllByRecursion (λ f. place < f.place) (frames_from false (place + 1) skip xs)
+past_strictly : (place skip : ℕ) (xs : List ℕ)
+    → AllByRecursion (λ f. place < f.place) (frames_from false (place + 1) skip xs)
 past_strictly place skip xs = all_weaker (λ f. (place + 1) + skip ≤ f.place) (λ f. place < f.place) (λ f b. omega arith) (frames_from false (place + 1) skip xs) (all_past false (place + 1) skip xs)
 
 -- between the sure frames no place is open
-gaps : (place skip : ℕ) (xs : List ℕ) → GapsClear place xs (place + skip) (frames_from false place skip xs)
+gaps : (place skip : ℕ) (xs : List ℕ)
+    → GapsClear place xs (place + skip) (frames_from false place skip xs)
 gaps place skip [] = tt
 gaps place (suc skip) (x ∷ xs) =
     gaps_later place x xs (place + suc skip) (frames_from false (place + 1) skip xs) (omega arith) (past_strictly place skip xs)
@@ -100,7 +115,9 @@ in_right place [] gs i = i
 in_right place (f ∷ fs) gs i = inr (in_right place fs gs i)
 
 -- so the sure frames are clear
-clear_by : (s : List ℕ) (before : List Found) (low : ℕ) (fs : List Found) → ((q : ℕ) → q < low → IsOpenAt s q → IsInOne q before) → GapsClear 0 s low fs → AreClear s before fs
+clear_by : (s : List ℕ) (before : List Found) (low : ℕ) (fs : List Found)
+    → ((q : ℕ) → q < low → IsOpenAt s q → IsInOne q before) → GapsClear 0 s low fs
+    → AreClear s before fs
 clear_by s before low [] covered g = tt
 clear_by s before low (f ∷ fs) covered g =
     let here : (q : ℕ) → q < f.place → IsOpenAt s q → IsInOne q before = λ q below o.
@@ -135,7 +152,8 @@ record Stopped (place skip : ℕ) (xs : List ℕ) (fs : List Found) (g : Found) 
   pub outside : IsInOne (place + n) fs → ⊥
 
 -- where the sure frames stop behind an octet that is skipped
-stopped_later : (place skip x : ℕ) (xs : List ℕ) (fs : List Found) (g : Found) → Stopped (place + 1) skip xs fs g → Stopped place (suc skip) (x ∷ xs) fs g
+stopped_later : (place skip x : ℕ) (xs : List ℕ) (fs : List Found) (g : Found)
+    → Stopped (place + 1) skip xs fs g → Stopped place (suc skip) (x ∷ xs) fs g
 stopped_later place skip x xs fs g t = let past = t.past in let below = t.before in record {
   n = suc t.n;
   l = t.l;
@@ -147,11 +165,14 @@ stopped_later place skip x xs fs g t = let past = t.past in let below = t.before
 }
 
 -- or behind none
-stopped_any : (place skip : ℕ) (xs : List ℕ) (fs : List Found) (g : Found) → Stopped place skip xs fs g → Stopped place 0 xs fs g
+stopped_any : (place skip : ℕ) (xs : List ℕ) (fs : List Found) (g : Found)
+    → Stopped place skip xs fs g → Stopped place 0 xs fs g
 stopped_any place skip xs fs g t = record { n = t.n; l = t.l; past = omega arith; opens = t.opens; told = t.told; before = t.before; outside = t.outside }
 
 -- or behind a frame
-stopped_frame : (place l x : ℕ) (xs b : List ℕ) (fs : List Found) (g : Found) → length b ≡ l → 1 ≤ l → Stopped (place + 1) (l - 1) xs fs g → Stopped place 0 (x ∷ xs) (record { place = place; bytes = b } ∷ fs) g
+stopped_frame : (place l x : ℕ) (xs b : List ℕ) (fs : List Found) (g : Found) → length b ≡ l → 1 ≤ l
+    → Stopped (place + 1) (l - 1) xs fs g
+    → Stopped place 0 (x ∷ xs) (record { place = place; bytes = b } ∷ fs) g
 unfolding stopped_later
 stopped_frame place l x xs b fs g size long t =
     let past = t.past in
@@ -176,7 +197,8 @@ nothing_after place xs g few t =
     omega (arith, length-drop t.n xs)
 
 -- or at an open place
-stopped_open : (place x : ℕ) (xs : List ℕ) (g : Found) (gs : List Found) → start_of (x ∷ xs) ≡ Open → frames_from true (place + 1) 0 xs ≡ g ∷ gs → Stopped place 0 (x ∷ xs) [] g
+stopped_open : (place x : ℕ) (xs : List ℕ) (g : Found) (gs : List Found) → start_of (x ∷ xs) ≡ Open
+    → frames_from true (place + 1) 0 xs ≡ g ∷ gs → Stopped place 0 (x ∷ xs) [] g
 stopped_open place x xs g gs h e =
     let all : AllByRecursion (Stood (place + 1) 0 xs) (g ∷ gs) = subst (AllByRecursion (Stood (place + 1) 0 xs)) e (good (place + 1) 0 xs).each in
     let here = all.0.at in
@@ -186,7 +208,9 @@ stopped_open place x xs g gs h e =
     ] refl
 
 -- the next frame of the whole stream begins behind an open place
-stopped : (place skip : ℕ) (xs : List ℕ) (g : Found) (gs : List Found) → frames_from true place skip xs ≡ frames_from false place skip xs ++ g ∷ gs → Stopped place skip xs (frames_from false place skip xs) g
+stopped : (place skip : ℕ) (xs : List ℕ) (g : Found) (gs : List Found)
+    → frames_from true place skip xs ≡ frames_from false place skip xs ++ g ∷ gs
+    → Stopped place skip xs (frames_from false place skip xs) g
 stopped place skip [] g gs e = cc
 stopped place (suc skip) (x ∷ xs) g gs e = stopped_later place skip x xs (frames_from false (place + 1) skip xs) g (stopped (place + 1) skip xs g gs e)
 stopped place zero (x ∷ xs) g gs e =
@@ -216,7 +240,8 @@ record Splits (xs ys us vs : List Found) : Type 0 where
   pub others : vs ≡ g ∷ (gs ++ ys)
 
 -- two lists of which one is cut further on
-splits : (xs ys us vs : List Found) → xs ++ ys ≡ us ++ vs → length us < length xs → Splits xs ys us vs
+splits : (xs ys us vs : List Found) → xs ++ ys ≡ us ++ vs → length us < length xs
+    → Splits xs ys us vs
 splits [] ys us vs e l = absurd (omega arith)
 splits (x ∷ xs) ys [] vs e l = record { g = x; gs = xs; longer = refl; others = sym e }
 splits (x ∷ xs) ys (u ∷ us) vs e l =
@@ -227,12 +252,15 @@ splits (x ∷ xs) ys (u ∷ us) vs e l =
     record { g = t.g; gs = t.gs; longer = cc; others = t.others }
 
 -- before a frame of clear ones each open place is in an earlier one
-clear_at : (s : List ℕ) (before us : List Found) (g : Found) (gs : List Found) → AreClear s before (us ++ g ∷ gs) → (q : ℕ) → q < g.place → IsOpenAt s q → IsInOne q (before ++ us)
+clear_at : (s : List ℕ) (before us : List Found) (g : Found) (gs : List Found)
+    → AreClear s before (us ++ g ∷ gs) → (q : ℕ) → q < g.place → IsOpenAt s q
+    → IsInOne q (before ++ us)
 clear_at s before [] g gs c q below o = in_left q before [] (c.0 q below o)
 clear_at s before (u ∷ us) g gs c q below o = subst (IsInOne q) (append_assoc before (u ∷ []) us) (clear_at s (before ++ u ∷ []) us g gs c.1 q below o)
 
 -- no clear front is longer than the sure frames
-sure_longest : (s : List ℕ) (others : List Found) → IsClear s others → length others ≤ length (sure s)
+sure_longest : (s : List ℕ) (others : List Found) → IsClear s others
+    → length others ≤ length (sure s)
 sure_longest s others c =
     elim (leb_tells (length others) (length (sure s))) [
       | inl fits ↦ fits.1

@@ -1,5 +1,5 @@
--- Octets without the blanks that they end with: for the function of that name, and for the law on
--- usable texts.
+-- Octets without the blanks that they end with: for `without_last_blanks`, and so for `key_in`, and
+-- for `laws::usable_values`.
 use Rattle.std.proofs.Common.{◌≡◌, ◌⊎◌, inl, inr, ℕ, true, false, cond, Some, List, [], ◌∷◌, ◌++◌, refl, sym, ap, ◌∙◌, append_assoc}
 use Rattle.std.proofs.lemmas.List.{append-nil}
 use Rattle.std.specs.List.{AllByRecursion}

@@ -1,5 +1,4 @@
--- The time that fields say, part by part: for the law that a moment is what the fields say and a
--- date of the civil calendar.
+-- The time that fields say, part by part: for `laws::moments_are_dates`.
 use Rattle.std.proofs.Common.{◌≡◌, ℕ, ◌≤◌, Bool, true, false, cond, Option, Some, None, List, ℤ, pos, negsuc, ◌≤ℤ◌, refl, ap, ◌∙◌, subst, arith}
 use Rattle.std.specs.Prelude.{◌&&◌, int_le, unsigned_abs}
 use Rattle.jiff.specs.Words.{days_in_month}

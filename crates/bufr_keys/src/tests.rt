@@ -111,10 +111,6 @@ fn assert_station(rt: &impl Abort, alloc: Global, fields: &[Field], expected: Op
 #[test]
 fn keys(rt: HostRuntime) -> Result<(), Fail> {
     let alloc = rt.alloc();
-    let wmo = || Some(Station::Wmo {
-        block: 10,
-        number: 384,
-    });
     let mut fields = Vec::new(alloc);
     add_wmo(&mut fields)?;
     add_date(&mut fields, NOON)?;
@@ -123,33 +119,37 @@ fn keys(rt: HostRuntime) -> Result<(), Fail> {
         category: 2,
         international: 3,
         local_category: 37,
-        station: Station::Wmo {
-            block: 10,
-            number: 384,
-        },
+        station: Station::wmo(10, 384),
         moment: AT_NOON,
         sub_centre: 7,
     };
     assert!(rt; key_in(alloc, HEAD, fields.as_slice())?.ok_or("a key")? == expected);
+    Ok(())
+}
+
+// A WMO station counts before a WIGOS identifier, and this where a WMO number is missing.
+#[test]
+fn stations_of_two_kinds(rt: HostRuntime) -> Result<(), Fail> {
+    let alloc = rt.alloc();
+    let wigos = Station::wigos(0, 20000, 1, octets(alloc, b"10384")?);
     let mut fields = Vec::new(alloc);
     add_wigos(alloc, &mut fields)?;
     add_date(&mut fields, NOON)?;
-    let name = octets(alloc, b"10384")?;
-    let wigos = Station::Wigos {
-        series: 0,
-        issuer: 20000,
-        number: 1,
-        name,
-    };
     assert_station(&rt, alloc, fields.as_slice(), Some(wigos.clone()?));
     add_wmo(&mut fields)?;
-    assert_station(&rt, alloc, fields.as_slice(), wmo());
+    assert_station(&rt, alloc, fields.as_slice(), Some(Station::wmo(10, 384)));
     let mut fields = Vec::new(alloc);
     fields.push(missing(1, 1))?;
     fields.push(number(1, 2, 384))?;
     add_wigos(alloc, &mut fields)?;
     add_date(&mut fields, NOON)?;
     assert_station(&rt, alloc, fields.as_slice(), Some(wigos));
+    Ok(())
+}
+
+#[test]
+fn names_of_blanks(rt: HostRuntime) -> Result<(), Fail> {
+    let alloc = rt.alloc();
     let mut fields = Vec::new(alloc);
     fields.push(text(alloc, 1, 11, b"         ")?)?;
     add_date(&mut fields, NOON)?;

@@ -4,7 +4,7 @@ use Rattle.std.proofs.Common.{◌≡◌, ℕ, ◌<◌, ◌≤◌, true, ℤ, pos
 use Rattle.std.specs.Int.RustNames.{unsigned_abs}
 use Rattle.std.proofs.lemmas.Bool.{le-leb, lt-ltb}
 use Rattle.bufr_expand.specs.declared.operators.Spec.{Spec}
-use Rattle.bufr_expand.specs.Operating.{is_within}
+use Rattle.bufr_expand.specs.OperatorsInForce.{is_within}
 use Rattle.bufr_expand.specs.Effects.{IsInRange}
 use Rattle.bufr_expand.specs.Steady.{EachAsked}
 use Rattle.bufr_expand.specs.Trees.{Tree}

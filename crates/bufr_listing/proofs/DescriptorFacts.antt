@@ -1,21 +1,23 @@
--- The descriptors of words are those of the line: for the reader of the line of descriptors.
-use Rattle.std.proofs.Common.{◌≡◌, ℕ, ◌<◌, Bool, true, false, List, [], ◌∷◌, length, map, get_or, drop, codes, unwrap_or, refl, sym, ap, ◌∙◌, subst}
-use Rattle.std.specs.Prelude.{◌==◌, ◌&&◌, ◌||◌, not, Option, Some, None, Result, Ok, Err, if◌then◌else◌}
+-- The descriptors of words are those of the line: for the reader of the line of descriptors, which
+-- `read` calls.
+use Rattle.std.proofs.Common.{◌≡◌, ℕ, ◌<◌, Bool, true, false, List, [], ◌∷◌, length, map, get_or}
+use Rattle.std.proofs.Common.{drop, codes, unwrap_or, refl, sym, ap, ◌∙◌, subst}
+use Rattle.std.specs.Prelude.{◌==◌, ◌&&◌, not, Option, Some, None, Result, Err, if◌then◌else◌}
 use Rattle.std.specs.List.{AllByRecursion}
 use Rattle.std.specs.Str.{bytes_eq}
 use Rattle.std.proofs.lemmas.Bool.{and_parts}
 use Rattle.bufr_tables.specs.Descriptors.{of_text, six_digits}
 use Rattle.bufr_tables.specs.Entries.{Entries}
 use Rattle.bufr_expand.specs.Templates.{template}
-use Rattle.bufr_listing.specs.declared.fault.ListingFault.{ListingFault}
 use Rattle.bufr_listing.specs.declared.fault.ListingFault.TheVariants.{BadLine}
 use Rattle.bufr_listing.specs.Listings.{words}
-use Rattle.bufr_listing.specs.Lines.{words_of, first_word, descriptors_line, has_octets, as_printed}
+use Rattle.bufr_listing.specs.Lines.{words_of, first_word, descriptors_line, as_printed}
 use Rattle.bufr_listing.specs.Words.{onto, descriptors_of}
-use Rattle.bufr_listing.specs.Reading.{Described, descriptors_in, described, read_descriptors}
+use Rattle.bufr_listing.specs.Reading.{descriptors_in, described, read_descriptors}
 use Rattle.bufr_listing.proofs.FieldFacts.{bytes_same, same_bytes}
 use Rattle.bufr_listing.proofs.LowerLaws.{DescriptorTexts}
-use Rattle.bufr_listing.proofs.LineFacts.{IsWord, literal_word, words_back, six_words, both, descriptors_small}
+use Rattle.bufr_listing.proofs.LineFacts.{IsWord, literal_word, words_back, six_words, both}
+use Rattle.bufr_listing.proofs.LineFacts.{descriptors_small}
 use Rattle.bufr_listing.proofs.PrintedFacts.{own_printed, first_printed, line_of_words}
 use Rattle.bufr_listing.proofs.NumberFacts.{onto_taken, first_of_words, false_true, titled_plain}
 
@@ -24,21 +26,28 @@ pub record DescriptorsFound (ws : List (List ℕ)) (ds : List ℕ) : Type 0 wher
   pub texts : map six_digits ds ≡ ws
   pub values : map (λ w. unwrap_or (of_text w) 0) ws ≡ ds
 
+-- no word, no descriptor
 no_more : (ds : List ℕ) → ◌≡◌ {A = Option (List ℕ)} (Some []) (Some ds) → [] ≡ ds
 no_more ds e = cc
 
-pub descriptors_found : DescriptorTexts → (ws : List (List ℕ)) (ds : List ℕ) → descriptors_of ws ≡ Some ds → DescriptorsFound ws ds
+-- descriptors that are read of words, word by word
+pub descriptors_found : DescriptorTexts → (ws : List (List ℕ)) (ds : List ℕ) → descriptors_of ws
+    ≡ Some ds → DescriptorsFound ws ds
 unfolding descriptors_of
-descriptors_found law [] ds h = subst (λ xs. DescriptorsFound [] xs) (no_more ds h) (record { texts = refl; values = refl })
+descriptors_found law [] ds h =
+    subst (λ xs. DescriptorsFound [] xs) (no_more ds h) (record { texts = refl; values = refl })
 descriptors_found law (w ∷ ws) ds h =
     let p = onto_taken (of_text w) (descriptors_of ws) ds h in
     let own = (law w p.0).0 p.2 in
     let text = sym own.1 in
     let others = descriptors_found law ws p.1 p.3 in
     let value = ap (λ (o : Option ℕ). unwrap_or o 0) p.2 in
-    subst (λ xs. DescriptorsFound (w ∷ ws) xs) p.4 (record { texts = λ i. text i ∷ others.texts i; values = λ i. value i ∷ others.values i })
+    subst (λ xs. DescriptorsFound (w ∷ ws) xs) p.4
+    (record { texts = λ i. text i ∷ others.texts i; values = λ i. value i ∷ others.values i })
 
-descriptors_again : DescriptorTexts → (ds : List ℕ) → AllByRecursion (λ d. d < 65536) ds → descriptors_of (map six_digits ds) ≡ Some ds
+-- descriptors are read of the words that they print
+descriptors_again : DescriptorTexts → (ds : List ℕ) → AllByRecursion (λ d. d < 65536) ds
+    → descriptors_of (map six_digits ds) ≡ Some ds
 unfolding descriptors_of
 descriptors_again law [] h = refl
 descriptors_again law (d ∷ ds) h =
@@ -48,69 +57,116 @@ descriptors_again law (d ∷ ds) h =
 
 -- ---- the line of the descriptors
 
+-- the first word of the line is a word
 title_word : IsWord (codes "descriptors")
 title_word = literal_word (codes "descriptors") refl
 
-refused : {A F : Type 0} (b : Bool) (r : Result A F) (e : F) → (b ≡ true → ⊥) → (if b then r else Err e) ≡ Err e
+-- a test that can't pass tells the fault
+refused : {A F : Type 0} (b : Bool) (r : Result A F) (e : F) → (b ≡ true → ⊥)
+    → (if b then r else Err e) ≡ Err e
 refused true r e h = absurd (h refl)
 refused false r e h = refl
 
+-- a test that passes takes the answer
 taken : {A F : Type 0} (b : Bool) (r : Result A F) (e : F) → b ≡ true → (if b then r else Err e) ≡ r
 taken true r e h = refl
 taken false r e h = absurd (false_true h)
 
 -- a line that does not begin with the title is another one
-pub untitled_descriptors : (tables : Entries) (n : ℕ) (text : List ℕ) → bytes_eq (first_word text) (codes "descriptors") ≡ false → read_descriptors tables n (as_printed text) ≡ Err (BadLine n)
+pub untitled_descriptors : (tables : Entries) (n : ℕ) (text : List ℕ) → bytes_eq (first_word text)
+    (codes "descriptors") ≡ false → read_descriptors tables n (as_printed text) ≡ Err (BadLine n)
 untitled_descriptors tables n text other =
     let t = as_printed text in
     let ds = descriptors_in t in
-    let first : bytes_eq (first_word t) (codes "descriptors") ≡ false = ap (λ w. bytes_eq w (codes "descriptors")) (first_printed text) ∙ other in
-    refused (not (length ds == 0) && bytes_eq (descriptors_line ds) t) (described n ds (template tables ds)) (BadLine n) (λ e.
-    let line = bytes_same (descriptors_line ds) t (and_parts (not (length ds == 0)) (bytes_eq (descriptors_line ds) t) e).1 in
-    false_true (sym first ∙ same_bytes (first_word t) (codes "descriptors") (ap first_word (sym line) ∙ first_of_words (codes "descriptors") (map six_digits ds) title_word)))
+    let first : bytes_eq (first_word t) (codes "descriptors") ≡ false =
+    ap (λ w. bytes_eq w (codes "descriptors")) (first_printed text) ∙ other in
+    refused (not (length ds == 0) && bytes_eq (descriptors_line ds) t)
+    (described n ds (template tables ds)) (BadLine n) (λ e.
+    let line =
+    bytes_same (descriptors_line ds) t
+    (and_parts (not (length ds == 0)) (bytes_eq (descriptors_line ds) t) e).1 in
+    false_true (sym first ∙ same_bytes (first_word t) (codes "descriptors")
+    (ap first_word (sym line) ∙ first_of_words (codes "descriptors")
+    (map six_digits ds) title_word)))
 
-plain_line : (text : List ℕ) (ws : List (List ℕ)) → words_of text ≡ codes "descriptors" ∷ ws → as_printed text ≡ text
-plain_line text ws e = own_printed text (titled_plain (codes "descriptors") text title_word (ap (λ us. get_or us 0 []) e) refl)
+-- a line of descriptors has no octets
+plain_line : (text : List ℕ) (ws : List (List ℕ)) → words_of text ≡ codes "descriptors" ∷ ws
+    → as_printed text ≡ text
+plain_line text ws e =
+    own_printed text (titled_plain (codes "descriptors") text title_word
+    (ap (λ us. get_or us 0 []) e) refl)
 
+-- an answer is not at once there and not there
 none_some : {A : Type 0} (x : A) → ◌≡◌ {A = Option A} (Some x) None → ⊥
 none_some x e = cc e
 
 -- a word that is no descriptor
-pub descriptors_are_not : DescriptorTexts → (tables : Entries) (n : ℕ) (text : List ℕ) (ws : List (List ℕ)) → words_of text ≡ codes "descriptors" ∷ ws → descriptors_of ws ≡ None
+pub descriptors_are_not : DescriptorTexts → (tables : Entries) (n : ℕ) (text : List ℕ)
+    (ws : List (List ℕ)) → words_of text ≡ codes "descriptors" ∷ ws → descriptors_of ws ≡ None
     → read_descriptors tables n (as_printed text) ≡ Err (BadLine n)
 descriptors_are_not law tables n text ws e h =
     let ds = descriptors_in text in
     ap (read_descriptors tables n) (plain_line text ws e)
-    ∙ refused (not (length ds == 0) && bytes_eq (descriptors_line ds) text) (described n ds (template tables ds)) (BadLine n) (λ holds.
-    let line = bytes_same (descriptors_line ds) text (and_parts (not (length ds == 0)) (bytes_eq (descriptors_line ds) text) holds).1 in
-    let back : words_of text ≡ codes "descriptors" ∷ map six_digits ds = ap words_of (sym line) ∙ words_back (codes "descriptors") (map six_digits ds) title_word (six_words ds) in
+    ∙ refused (not (length ds == 0) && bytes_eq (descriptors_line ds) text)
+    (described n ds (template tables ds)) (BadLine n) (λ holds.
+    let line =
+    bytes_same (descriptors_line ds) text
+    (and_parts (not (length ds == 0)) (bytes_eq (descriptors_line ds) text) holds).1 in
+    let back : words_of text ≡ codes "descriptors" ∷ map six_digits ds =
+    ap words_of (sym line) ∙ words_back (codes "descriptors") (map six_digits ds) title_word
+    (six_words ds) in
     let same : ws ≡ map six_digits ds = ap (λ (us : List (List ℕ)). drop 1 us) (sym e ∙ back) in
-    none_some ds (sym (descriptors_again law ds (descriptors_small law (drop 1 (words_of text)))) ∙ ap descriptors_of (sym same) ∙ h))
+    none_some ds (sym (descriptors_again law ds (descriptors_small law (drop 1 (words_of text))))
+    ∙ ap descriptors_of (sym same) ∙ h))
 
 -- the values of the words are the descriptors
-values_are : DescriptorTexts → (text : List ℕ) (ws : List (List ℕ)) (ds : List ℕ) → words_of text ≡ codes "descriptors" ∷ ws → descriptors_of ws ≡ Some ds → descriptors_in text ≡ ds
+values_are : DescriptorTexts → (text : List ℕ) (ws : List (List ℕ)) (ds : List ℕ)
+    → words_of text ≡ codes "descriptors" ∷ ws → descriptors_of ws ≡ Some ds → descriptors_in text
+    ≡ ds
 values_are law text ws ds e h =
-    ap (λ (us : List (List ℕ)). map (λ w. unwrap_or (of_text w) 0) (drop 1 us)) e ∙ (descriptors_found law ws ds h).values
+    ap (λ (us : List (List ℕ)). map (λ w. unwrap_or (of_text w) 0) (drop 1 us)) e
+    ∙ (descriptors_found law ws ds h).values
 
 -- no descriptor
-pub no_descriptor : DescriptorTexts → (tables : Entries) (n : ℕ) (text : List ℕ) (ws : List (List ℕ)) (ds : List ℕ) → words_of text ≡ codes "descriptors" ∷ ws → descriptors_of ws ≡ Some ds → (length ds == 0) ≡ true
+pub no_descriptor : DescriptorTexts → (tables : Entries) (n : ℕ) (text : List ℕ)
+    (ws : List (List ℕ)) (ds : List ℕ) → words_of text ≡ codes "descriptors" ∷ ws
+    → descriptors_of ws ≡ Some ds → (length ds == 0) ≡ true
     → read_descriptors tables n (as_printed text) ≡ Err (BadLine n)
 no_descriptor law tables n text ws ds e h none =
     let own = descriptors_in text in
-    let count : not (length own == 0) ≡ false = ap (λ (xs : List ℕ). not (length xs == 0)) (values_are law text ws ds e h) ∙ ap not none in
+    let count : not (length own == 0) ≡ false =
+    ap (λ (xs : List ℕ). not (length xs == 0)) (values_are law text ws ds e h) ∙ ap not none in
     ap (read_descriptors tables n) (plain_line text ws e)
-    ∙ refused (not (length own == 0) && bytes_eq (descriptors_line own) text) (described n own (template tables own)) (BadLine n) (λ holds.
-    false_true (sym count ∙ (and_parts (not (length own == 0)) (bytes_eq (descriptors_line own) text) holds).0))
+    ∙ refused (not (length own == 0) && bytes_eq (descriptors_line own) text)
+    (described n own (template tables own)) (BadLine n) (λ holds.
+    false_true
+    (sym count
+    ∙ (and_parts (not (length own == 0)) (bytes_eq (descriptors_line own) text) holds).0))
 
 -- the descriptors of a line that begins with the title
-pub descriptors_are : DescriptorTexts → (tables : Entries) (n : ℕ) (text : List ℕ) (ws : List (List ℕ)) (ds : List ℕ) → words_of text ≡ codes "descriptors" ∷ ws → descriptors_of ws ≡ Some ds → (length ds == 0) ≡ false
+pub descriptors_are : DescriptorTexts → (tables : Entries) (n : ℕ) (text : List ℕ)
+    (ws : List (List ℕ)) (ds : List ℕ) → words_of text ≡ codes "descriptors" ∷ ws
+    → descriptors_of ws ≡ Some ds → (length ds == 0) ≡ false
     → read_descriptors tables n (as_printed text) ≡ described n ds (template tables ds)
 descriptors_are law tables n text ws ds e h some =
     let own = descriptors_in text in
     let same : own ≡ ds = values_are law text ws ds e h in
-    let line : text ≡ descriptors_line ds = line_of_words text (codes "descriptors") ws e ∙ ap (words (codes "descriptors")) (sym (descriptors_found law ws ds h).texts) in
-    let count : not (length own == 0) ≡ true = ap (λ (xs : List ℕ). not (length xs == 0)) same ∙ ap not some in
-    let spelled : bytes_eq (descriptors_line own) text ≡ true = same_bytes (descriptors_line own) text (ap descriptors_line same ∙ sym line) in
+    let line : text ≡ descriptors_line ds = line_of_words text (codes "descriptors") ws e
+    ∙ ap (words (codes "descriptors")) (sym (descriptors_found law ws ds h).texts) in
+    let count : not (length own == 0) ≡ true = ap (λ (xs : List ℕ). not (length xs == 0)) same
+    ∙ ap not some in
+    let spelled : bytes_eq (descriptors_line own) text ≡ true =
+    same_bytes (descriptors_line own) text (ap descriptors_line same ∙ sym line) in
     ap (read_descriptors tables n) (plain_line text ws e)
-    ∙ taken (not (length own == 0) && bytes_eq (descriptors_line own) text) (described n own (template tables own)) (BadLine n) (both count spelled)
+    ∙ taken (not (length own == 0) && bytes_eq (descriptors_line own) text)
+    (described n own (template tables own)) (BadLine n) (both count spelled)
     ∙ ap (λ ys. described n ys (template tables ys)) same
+
+-- the same of descriptors that are lent
+pub lent_descriptors : DescriptorTexts → (tables : Entries) (n : ℕ) (text : List ℕ)
+    (ws : List (List ℕ)) (ds lent : List ℕ) → words_of text ≡ codes "descriptors" ∷ ws
+    → descriptors_of ws ≡ Some ds → (length ds == 0) ≡ false → lent ≡ ds
+    → read_descriptors tables n (as_printed text) ≡ described n lent (template tables lent)
+lent_descriptors law tables n text ws ds lent e h some same =
+    descriptors_are law tables n text ws ds e h some
+    ∙ ap (λ (xs : List ℕ). described n xs (template tables xs)) (sym same)

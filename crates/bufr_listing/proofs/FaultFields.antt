@@ -1,60 +1,84 @@
 -- Where reading the lines of fields and subsets fails. For the first faults of listings
 -- (`faults_of_listings_are_the_first`).
-use Rattle.std.proofs.Common.{◌≡◌, ◌⊎◌, inl, inr, ℕ, zero, suc, ◌+◌, ◌<◌, ◌≤◌, Bool, true, false, List, [], ◌∷◌, ◌++◌, length, map, codes, Result, Ok, Err, refl, sym, ap, ◌∙◌, subst, arith, append_assoc, length-append}
-use Rattle.std.specs.Prelude.{◌↔◌, if◌then◌else◌}
+use Rattle.std.proofs.Common.{◌≡◌, inl, inr, ℕ, zero, suc, ◌+◌, ◌≤◌, false, List, [], ◌∷◌, ◌++◌}
+use Rattle.std.proofs.Common.{length, map, codes, Ok, Err, refl, sym, ap, ◌∙◌, subst, arith}
+use Rattle.std.proofs.Common.{append_assoc, length-append}
+use Rattle.std.specs.Prelude.{◌↔◌}
 use Rattle.std.specs.List.{flat_map, AllByRecursion}
 use Rattle.std.specs.Str.{bytes_eq}
 use Rattle.std.proofs.lemmas.Bool.{cases_Bool, cases_lt}
 use Rattle.std.proofs.lemmas.List.{append_cancel_right, map-append}
-use Rattle.bufr_tables.specs.Answers.{◌>>=◌}
 use Rattle.bufr_expand.specs.declared.operators.Spec.{Spec}
-use Rattle.bufr_expand.specs.declared.walk.WalkFault.{WalkFault}
 use Rattle.bufr_expand.specs.declared.walk.WalkFault.TheVariants.{TooLarge, EffectiveRange}
 use Rattle.bufr_expand.specs.Courses.{Course, ends, stops, asks, course}
 use Rattle.bufr_expand.specs.Trees.{Tree}
 use Rattle.bufr_expand.specs.Unrolling.{Told, After, Allows, Unrolls}
-use Rattle.bufr_expand.specs.Beginning.{wants, lacks, BeginsWithin, MeetsItems, PassesLimit, AsksAfter}
+use Rattle.bufr_expand.specs.NextFields.{wants, lacks, BeginsWithin, MeetsItems, PassesLimit}
+use Rattle.bufr_expand.specs.NextFields.{AsksAfter}
 use Rattle.bufr_data.specs.declared.field.Field.{Field}
 use Rattle.bufr_data.specs.declared.field.Subset.{Subset}
 use Rattle.bufr_data.specs.Plain.{number_of, items_of, items_of_all}
-use Rattle.bufr_data.specs.Fits.{HasForm, told_of, AllFitWithin}
+use Rattle.bufr_data.specs.Fits.{HasForm, told_of}
 use Rattle.bufr_data.specs.Refusals.{IsAsked, Passes}
 use Rattle.bufr_data.specs.Causes.{Begin}
 use Rattle.bufr_listing.specs.declared.fault.ListingFault.{ListingFault}
-use Rattle.bufr_listing.specs.declared.fault.ListingFault.TheVariants.{BadLine, BadValue, Refused}
+use Rattle.bufr_listing.specs.declared.fault.ListingFault.TheVariants.{BadLine, Refused}
 use Rattle.bufr_listing.specs.declared.fault.Cause.TheVariants as causes
 use Rattle.bufr_listing.specs.Lines.{Line, texts, field_line, subset_lines}
 use Rattle.bufr_listing.specs.FieldLines.{read_field}
-use Rattle.bufr_listing.specs.Reading.{with_rest, read_line, read_word, FieldsListed, SubsetsListed, fields_read, subsets_read}
-use Rattle.bufr_listing.specs.FirstFaults.{Unfit, text_ends, bad_line, Halted, halted, IsLineOf, BeginsWith, NoFieldFollows, unfit, no_room, no_spec, FieldsFault, BeginsOrEnds, SubsetFault, inside, SubsetsFault}
+use Rattle.bufr_listing.specs.Reading.{read_line, read_word, FieldsListed, SubsetsListed}
+use Rattle.bufr_listing.specs.Reading.{fields_read, subsets_read}
+use Rattle.bufr_listing.specs.FirstFaults.{Unfit, text_ends, bad_line, Halted, halted, IsLineOf}
+use Rattle.bufr_listing.specs.FirstFaults.{BeginsWith, NoFieldFollows, unfit, no_room, no_spec}
+use Rattle.bufr_listing.specs.FirstFaults.{FieldsFault, BeginsOrEnds, SubsetFault, inside}
+use Rattle.bufr_listing.specs.FirstFaults.{SubsetsFault}
 use Rattle.bufr_listing.proofs.ListFacts.{bind_ok}
 use Rattle.bufr_listing.proofs.LowerLaws.{LowerLaws}
 use Rattle.bufr_listing.proofs.FieldFacts.{bytes_same, same_bytes, if_ok, read_field_takes}
 use Rattle.bufr_listing.proofs.CourseFacts.{AsksPrintable, course_printable}
+use Rattle.bufr_listing.proofs.MessageFacts.{none_used}
 use Rattle.bufr_listing.proofs.SubsetFacts.{ok_is, line_takes, FieldsTaken, fields_take}
 use Rattle.bufr_listing.proofs.FormFacts.{asked_is}
-use Rattle.bufr_listing.proofs.FaultFacts.{err_is, not_both, bind_err, line_err, unfit_line, field_err}
+use Rattle.bufr_listing.proofs.FaultFacts.{err_is, bind_err, line_err, unfit_line, field_err}
 
 -- ---- what the lower crates say of the fields that come next
 
+-- a course asks for a field exactly where it comes next
 abbrev pub IsAskedNext : Type 0
-IsAskedNext = (t : Tree) (used : ℕ) (fields : List Told) (met d : ℕ) (spec : Spec) → used ≤ 16777216 → AsksAfter (course t used) fields met d spec ↔ BeginsWithin t used fields (wants d spec) met
+IsAskedNext = (t : Tree) (used : ℕ) (fields : List Told) (met d : ℕ) (spec : Spec)
+    → used ≤ 16777216 → AsksAfter (course t used) fields met d spec ↔ BeginsWithin t used fields
+    (wants d spec) met
 
+-- it stops for want of a spec exactly where the next field has none
 abbrev pub IsLackingNext : Type 0
-IsLackingNext = (t : Tree) (used : ℕ) (fields : List Told) (met d : ℕ) → used ≤ 16777216 → After (course t used) fields (stops met (EffectiveRange d)) ↔ BeginsWithin t used fields (lacks d) met
+IsLackingNext = (t : Tree) (used : ℕ) (fields : List Told) (met d : ℕ) → used ≤ 16777216
+    → After (course t used) fields (stops met (EffectiveRange d)) ↔ BeginsWithin t used fields
+    (lacks d) met
 
+-- behind fields that a course asked for, some items are met
 abbrev pub IsOnward : Type 0
-IsOnward = (t : Tree) (used : ℕ) (fields : List Told) (later : Course) → used ≤ 16777216 → After (course t used) fields later → (n : ℕ) × MeetsItems t fields n
+IsOnward = (t : Tree) (used : ℕ) (fields : List Told) (later : Course) → used ≤ 16777216
+    → After (course t used) fields later → (n : ℕ) × MeetsItems t fields n
 
+-- a course asks for the fields of an unrolling
 abbrev pub AreAllowed : Type 0
-AreAllowed = (t : Tree) (used : ℕ) (fields : List Told) (met : ℕ) → Unrolls t used fields met → Allows (course t used) fields met
+AreAllowed = (t : Tree) (used : ℕ) (fields : List Told) (met : ℕ) → Unrolls t used fields met
+    → Allows (course t used) fields met
 
+-- it is too large exactly where an item would be more than a message may have
+abbrev pub IsTooLarge : Type 0
+IsTooLarge = (t : Tree) (used : ℕ) (fields : List Told) (later : Course) → used ≤ 16777216
+    → After (course t used) fields later
+    → (later ≡ stops 16777216 TooLarge) ↔ PassesLimit t used fields
+
+-- all of them
 pub record FaultLaws : Type 0 where
   pub lower : LowerLaws
   pub allowed : AreAllowed
   pub goes_on : IsOnward
   pub asked : IsAskedNext
   pub lacking : IsLackingNext
+  pub too_large : IsTooLarge
 
 -- ---- fields, by their course
 
@@ -62,8 +86,10 @@ pub record FaultLaws : Type 0 where
 abbrev NextRefused : ℕ → Course → List Line → ListingFault → Type 0
 NextRefused past (ends n) rest fault = ⊥
 NextRefused past (stops met why) rest fault = Halted why past rest fault
-NextRefused past (asks met d spec more) rest fault = Unfit (IsLineOf d spec) (BeginsWith d) past rest fault
+NextRefused past (asks met d spec more) rest fault =
+    Unfit (IsLineOf d spec) (BeginsWith d) past rest fault
 
+-- the first line that a course refuses, behind those of fields that it asked for
 record CourseFault (past : ℕ) (c : Course) (ls : List Line) (fault : ListingFault) : Type 0 where
   before : List Field
   own : List Line
@@ -74,11 +100,28 @@ record CourseFault (past : ℕ) (c : Course) (ls : List Line) (fault : ListingFa
   passed : Passes c before next
   refused : NextRefused past next rest fault
 
-here : (past : ℕ) (c : Course) (ls : List Line) (fault : ListingFault) → NextRefused past c ls fault → CourseFault past c ls fault
-here past c ls fault r = record { before = []; own = []; rest = ls; next = c; in_order = refl; spelled = refl; passed = refl; refused = r }
+-- it is the next line
+here : (past : ℕ) (c : Course) (ls : List Line) (fault : ListingFault)
+    → NextRefused past c ls fault → CourseFault past c ls fault
+here past c ls fault r =
+    record {
+      before = [];
+      own = [];
+      rest = ls;
+      next = c;
+      in_order = refl;
+      spelled = refl;
+      passed =
+          refl;
+      refused = r;
+    }
 
-behind_field : (past met d : ℕ) (spec : Spec) (more : ℕ → Course) (l : Line) (f : Field) (ls behind : List Line) (fault : ListingFault)
-    → ls ≡ l ∷ behind → l.text ≡ field_line f → IsAsked d spec f → CourseFault past (more (number_of f.raw)) behind fault → CourseFault past (asks met d spec more) ls fault
+-- it is behind the line of one field more
+behind_field : (past met d : ℕ) (spec : Spec) (more : ℕ → Course) (l : Line) (f : Field)
+    (ls behind : List Line) (fault : ListingFault)
+    → ls ≡ l ∷ behind → l.text ≡ field_line f → IsAsked d spec f
+    → CourseFault past (more (number_of f.raw)) behind fault
+    → CourseFault past (asks met d spec more) ls fault
 behind_field past met d spec more l f ls behind fault e is asked r =
     record {
       before = f ∷ r.before;
@@ -91,12 +134,18 @@ behind_field past met d spec more l f ls behind fault e is asked r =
       refused = r.refused;
     }
 
-course_fault : (past : ℕ) (c : Course) (ls : List Line) (fault : ListingFault) → AsksPrintable c → fields_read past c ls ≡ Err fault → CourseFault past c ls fault
+-- the fault of reading fields is that of such a line
+course_fault : (past : ℕ) (c : Course) (ls : List Line) (fault : ListingFault) → AsksPrintable c
+    → fields_read past c ls ≡ Err fault → CourseFault past c ls fault
 unfolding fields_read AsksPrintable
 course_fault past (ends n) ls fault fit h = absurd cc
-course_fault past (stops met why) [] fault fit h = here past (stops met why) [] fault (text_ends refl (sym (err_is {A = FieldsListed} (BadLine past) fault h)))
+course_fault past (stops met why) [] fault fit h =
+    here past (stops met why) [] fault
+    (text_ends refl (sym (err_is {A = FieldsListed} (BadLine past) fault h)))
 course_fault past (stops met why) (l ∷ ls) fault fit h =
-    here past (stops met why) (l ∷ ls) fault (halted l ls refl (sym (err_is {A = FieldsListed} (Refused l.number (causes.Walk why)) fault h)))
+    here past (stops met why) (l ∷ ls) fault
+    (halted l ls refl
+    (sym (err_is {A = FieldsListed} (Refused l.number (causes.Walk why)) fault h)))
 course_fault past (asks met d spec more) ls fault fit h =
     elim (bind_err (read_line (read_field d spec) past ls) _ fault h) [
       | inl own ↦
@@ -104,25 +153,33 @@ course_fault past (asks met d spec more) ls fault fit h =
             | inl none ↦ here past (asks met d spec more) ls fault (text_ends none.0 none.1)
             | inr some ↦
                 let p = field_err d spec some.0.number some.0.text fault fit.0 some.3 in
-                here past (asks met d spec more) ls fault (unfit_line (IsLineOf d spec) (BeginsWith d) past ls fault some.0 some.1 some.2 p.0 p.1)
+                here past (asks met d spec more) ls fault
+                (unfit_line (IsLineOf d spec) (BeginsWith d) past ls fault some.0 some.1 some.2
+                p.0 p.1)
           ]
       | inr first ↦
           let one = line_takes (read_field d spec) past ls first.0 first.1 in
           let own = read_field_takes d spec one.line.number one.line.text first.0.0 one.reads in
-          elim (bind_err (fields_read past (more (number_of first.0.0.raw)) first.0.1) _ fault first.2) [
+          elim (bind_err (fields_read past (more (number_of first.0.0.raw)) first.0.1) _ fault
+          first.2) [
             | inl others ↦
-                behind_field past met d spec more one.line first.0.0 ls first.0.1 fault one.front own.0 (asked_is d spec first.0.0 own.1)
-                (course_fault past (more (number_of first.0.0.raw)) first.0.1 fault (fit.1 (number_of first.0.0.raw)) others)
+                behind_field past met d spec more one.line first.0.0 ls first.0.1 fault one.front
+                own.0 (asked_is d spec first.0.0 own.1)
+                (course_fault past (more (number_of first.0.0.raw)) first.0.1 fault
+                (fit.1 (number_of first.0.0.raw)) others)
             | inr all ↦ absurd cc
           ]
     ]
 
 -- ---- fields, by the tree
 
-abbrev Formed : List Field → Type 0
+-- each raw value has the form of its spec
+abbrev pub Formed : List Field → Type 0
 Formed fields = AllByRecursion (λ f. HasForm f.spec f.raw) fields
 
-passes_after : (c : Course) (fields : List Field) (next : Course) → Passes c fields next → After c (map told_of fields) next × Formed fields
+-- fields that a course asked for in turn, as it tells of them, and their forms
+pub passes_after : (c : Course) (fields : List Field) (next : Course) → Passes c fields next
+    → After c (map told_of fields) next × Formed fields
 unfolding After
 passes_after c [] next h = (h, tt)
 passes_after (ends n) (f ∷ fields) next h = absurd h
@@ -131,29 +188,37 @@ passes_after (asks met d spec more) (f ∷ fields) next h =
     let others = passes_after (more (number_of f.raw)) fields next h.1 in
     ((h.0.0, h.0.1, others.0), (subst (λ (s : Spec). HasForm s f.raw) (sym h.0.1) h.0.2, others.1))
 
-split_asks : (c : Course) (before others : List Field) (f : Field) (next : Course) → After c (map told_of (before ++ f ∷ others)) next → (met : ℕ) × AsksAfter c (map told_of before) met f.fxy f.spec
+-- each of them was asked for after those before it
+split_asks : (c : Course) (before others : List Field) (f : Field) (next : Course)
+    → After c (map told_of (before ++ f ∷ others)) next → (met : ℕ) × AsksAfter c
+    (map told_of before) met f.fxy f.spec
 unfolding After
 split_asks (ends n) [] others f next h = absurd h
 split_asks (stops n w) [] others f next h = absurd h
-split_asks (asks met d spec more) [] others f next h = (met, (more, λ i. asks met (sym h.0 i) (sym h.1 i) more))
+split_asks (asks met d spec more) [] others f next h =
+    (met, (more, λ i. asks met (sym h.0 i) (sym h.1 i) more))
 split_asks (ends n) (g ∷ before) others f next h = absurd h
 split_asks (stops n w) (g ∷ before) others f next h = absurd h
 split_asks (asks met d spec more) (g ∷ before) others f next h =
     let r = split_asks (more (number_of g.raw)) before others f next h.2 in
     (r.0, (r.1.0, (h.0, h.1, r.1.1)))
 
-begun : FaultLaws → (tree : Tree) (used : ℕ) (fields : List Field) (next : Course) → used ≤ 16777216 → Passes (course tree used) fields next → Begin tree used fields
+-- so a subset can begin with them
+begun : FaultLaws → (tree : Tree) (used : ℕ) (fields : List Field) (next : Course)
+    → used ≤ 16777216 → Passes (course tree used) fields next → Begin tree used fields
 begun laws tree used fields next le h =
     let a = passes_after (course tree used) fields next h in
     record {
       each = λ before others f e.
-          let r = split_asks (course tree used) before others f next (subst (λ (fs : List Field). After (course tree used) (map told_of fs) next) e a.0) in
+          let r = split_asks (course tree used) before others f next
+          (subst (λ (fs : List Field). After (course tree used) (map told_of fs) next) e a.0) in
           (r.0, (laws.asked tree used (map told_of before) r.0 f.fxy f.spec le).0 r.1);
       formed = a.1;
     }
 
 -- only one course is left after fields
-one_left : (c : Course) (fields : List Told) (a b : Course) → After c fields a → After c fields b → a ≡ b
+pub one_left : (c : Course) (fields : List Told) (a b : Course) → After c fields a
+    → After c fields b → a ≡ b
 unfolding After
 one_left c [] a b h k = sym h ∙ k
 one_left (ends n) (f ∷ fields) a b h k = absurd h
@@ -161,21 +226,27 @@ one_left (stops n w) (f ∷ fields) a b h k = absurd h
 one_left (asks met d spec more) (f ∷ fields) a b h k = one_left (more f.number) fields a b h.2 k.2
 
 -- where the items go on within the limit, a course is not too large
-fits_anyway : FaultLaws → (tree : Tree) (used k n : ℕ) (fields : List Told) → used ≤ 16777216 → used + k ≤ 16777216 → MeetsItems tree fields k → After (course tree used) fields (stops n TooLarge) → ⊥
+fits_anyway : FaultLaws → (tree : Tree) (used k n : ℕ) (fields : List Told) → used ≤ 16777216
+    → used + k ≤ 16777216 → MeetsItems tree fields k → After (course tree used) fields
+    (stops n TooLarge) → ⊥
 fits_anyway laws tree used k n fields le room (inl (wants d spec, begins)) stopped =
     let r = (laws.asked tree used fields (used + k) d spec le).1 (k, begins, refl, room) in
-    let e : ◌≡◌ {A = Course} (stops n TooLarge) (asks (used + k) d spec r.0) = one_left (course tree used) fields _ _ stopped r.1 in
+    let e : ◌≡◌ {A = Course} (stops n TooLarge) (asks (used + k) d spec r.0) =
+    one_left (course tree used) fields _ _ stopped r.1 in
     cc
 fits_anyway laws tree used k n fields le room (inl (lacks d, begins)) stopped =
     let r = (laws.lacking tree used fields (used + k) d le).1 (k, begins, refl, room) in
-    let e : stops n TooLarge ≡ stops (used + k) (EffectiveRange d) = one_left (course tree used) fields _ _ stopped r in
+    let e : stops n TooLarge ≡ stops (used + k) (EffectiveRange d) =
+    one_left (course tree used) fields _ _ stopped r in
     cc
 fits_anyway laws tree used k n fields le room (inr end) stopped =
     let a = laws.allowed tree used fields (used + k) (end.0, k, end.1, refl, room) in
     let e : stops n TooLarge ≡ ends (used + k) = one_left (course tree used) fields _ _ stopped a in
     cc
 
-limit_passed : FaultLaws → (tree : Tree) (used n : ℕ) (fields : List Told) → used ≤ 16777216 → After (course tree used) fields (stops n TooLarge) → PassesLimit tree used fields
+-- where a course is too large, an item would be more than a message may have
+limit_passed : FaultLaws → (tree : Tree) (used n : ℕ) (fields : List Told) → used ≤ 16777216
+    → After (course tree used) fields (stops n TooLarge) → PassesLimit tree used fields
 limit_passed laws tree used n fields le stopped =
     let g = laws.goes_on tree used fields _ le stopped in
     elim (cases_lt 16777216 (used + g.0)) [
@@ -183,17 +254,26 @@ limit_passed laws tree used n fields le stopped =
       | inr room ↦ absurd (fits_anyway laws tree used g.0 n fields le room g.1 stopped)
     ]
 
-follows : FaultLaws → (tree : Tree) (used past : ℕ) (before : List Field) (next : Course) (rest : List Line) (fault : ListingFault)
-    → used ≤ 16777216 → After (course tree used) (map told_of before) next → NextRefused past next rest fault → NoFieldFollows tree used before past rest fault
+-- what a course refuses next is why no field follows
+follows : FaultLaws → (tree : Tree) (used past : ℕ) (before : List Field) (next : Course)
+    (rest : List Line) (fault : ListingFault)
+    → used ≤ 16777216 → After (course tree used) (map told_of before) next
+    → NextRefused past next rest fault → NoFieldFollows tree used before past rest fault
 follows laws tree used past before (ends n) rest fault le after h = absurd h
-follows laws tree used past before (stops n TooLarge) rest fault le after h = no_room (limit_passed laws tree used n (map told_of before) le after) h
-follows laws tree used past before (stops n (EffectiveRange d)) rest fault le after h = no_spec d n ((laws.lacking tree used (map told_of before) n d le).0 after) h
-follows laws tree used past before (asks met d spec more) rest fault le after h = unfit d met spec ((laws.asked tree used (map told_of before) met d spec le).0 (more, after)) h
+follows laws tree used past before (stops n TooLarge) rest fault le after h =
+    no_room (limit_passed laws tree used n (map told_of before) le after) h
+follows laws tree used past before (stops n (EffectiveRange d)) rest fault le after h =
+    no_spec d n ((laws.lacking tree used (map told_of before) n d le).0 after) h
+follows laws tree used past before (asks met d spec more) rest fault le after h =
+    unfit d met spec ((laws.asked tree used (map told_of before) met d spec le).0 (more, after)) h
 
 -- the first fault of a subset's fields
-pub fields_fault : FaultLaws → (tree : Tree) (used past : ℕ) (ls : List Line) (fault : ListingFault) → used ≤ 16777216 → fields_read past (course tree used) ls ≡ Err fault → FieldsFault tree used past ls fault
+pub fields_fault : FaultLaws → (tree : Tree) (used past : ℕ) (ls : List Line)
+    (fault : ListingFault) → used ≤ 16777216 → fields_read past (course tree used) ls ≡ Err fault
+    → FieldsFault tree used past ls fault
 fields_fault laws tree used past ls fault le h =
-    let r = course_fault past (course tree used) ls fault (course_printable laws.lower.specs tree used) h in
+    let r = course_fault past (course tree used) ls fault
+    (course_printable laws.lower.specs tree used) h in
     record {
       before = r.before;
       own = r.own;
@@ -201,7 +281,8 @@ fields_fault laws tree used past ls fault le h =
       in_order = r.in_order;
       spelled = r.spelled;
       begin = begun laws tree used r.before r.next le r.passed;
-      refused = follows laws tree used past r.before r.next r.rest fault le (passes_after (course tree used) r.before r.next r.passed).0 r.refused;
+      refused = follows laws tree used past r.before r.next r.rest fault le
+          (passes_after (course tree used) r.before r.next r.passed).0 r.refused;
     }
 
 -- ---- subsets
@@ -211,9 +292,13 @@ pub record IsBehind (ls rest : List Line) : Type 0 where
   pub own : List Line
   pub in_order : ls ≡ own ++ rest
 
-pub fields_behind : (past : ℕ) (c : Course) (ls : List Line) (r : FieldsListed) → fields_read past c ls ≡ Ok r → IsBehind ls r.rest
+-- the lines behind those of fields are left
+pub fields_behind : (past : ℕ) (c : Course) (ls : List Line) (r : FieldsListed)
+    → fields_read past c ls ≡ Ok r → IsBehind ls r.rest
 unfolding fields_read
-fields_behind past (ends n) ls r h = subst (λ (r : FieldsListed). IsBehind ls r.rest) (ok_is _ _ h) (record { own = []; in_order = refl })
+fields_behind past (ends n) ls r h =
+    subst (λ (r : FieldsListed). IsBehind ls r.rest) (ok_is _ _ h)
+    (record { own = []; in_order = refl })
 fields_behind past (stops met fault) [] r h = absurd cc
 fields_behind past (stops met fault) (l ∷ ls) r h = absurd cc
 fields_behind past (asks met d spec more) ls r h =
@@ -221,14 +306,23 @@ fields_behind past (asks met d spec more) ls r h =
     let q = bind_ok (fields_read past (more (number_of p.0.0.raw)) p.0.1) _ r p.2 in
     let one = line_takes (read_field d spec) past ls p.0 p.1 in
     let others = fields_behind past (more (number_of p.0.0.raw)) p.0.1 q.0 q.1 in
-    subst (λ (r : FieldsListed). IsBehind ls r.rest) (ok_is _ _ q.2) (record { own = one.line ∷ others.own; in_order = one.front ∙ ap (λ xs. one.line ∷ xs) others.in_order })
+    subst (λ (r : FieldsListed). IsBehind ls r.rest) (ok_is _ _ q.2)
+    (record {
+      own = one.line ∷ others.own;
+      in_order = one.front
+          ∙ ap (λ xs. one.line ∷ xs) others.in_order;
+    })
 
 -- lines with the same texts behind them have their own texts alone
-pub same_front : (own rest : List Line) (front : List (List ℕ)) → texts (own ++ rest) ≡ front ++ texts rest → texts own ≡ front
-same_front own rest front e = append_cancel_right (texts own) front (texts rest) (sym (map-append (λ (l : Line). l.text) own rest) ∙ e)
+pub same_front : (own rest : List Line) (front : List (List ℕ)) → texts (own ++ rest)
+    ≡ front ++ texts rest → texts own ≡ front
+same_front own rest front e =
+    append_cancel_right (texts own) front (texts rest)
+    (sym (map-append (λ (l : Line). l.text) own rest) ∙ e)
 
 -- the subsets that were read before some lines, and the first fault of the lines
-pub record LaterFault (tree : Tree) (j used past : ℕ) (ls : List Line) (fault : ListingFault) : Type 0 where
+pub record LaterFault (tree : Tree) (j used past : ℕ) (ls : List Line) (fault : ListingFault) :
+    Type 0 where
   pub before : List Subset
   pub items : ℕ
   pub own : List Line
@@ -238,56 +332,93 @@ pub record LaterFault (tree : Tree) (j used past : ℕ) (ls : List Line) (fault 
   pub fit : items_of_all (course tree) j used before ≡ Ok items
   pub refused : SubsetFault tree items past rest fault
 
-fault_here : (tree : Tree) (j used past : ℕ) (ls : List Line) (fault : ListingFault) → SubsetFault tree used past ls fault → LaterFault tree j used past ls fault
+-- no subset stands before the fault
+fault_here : (tree : Tree) (j used past : ℕ) (ls : List Line) (fault : ListingFault)
+    → SubsetFault tree used past ls fault → LaterFault tree j used past ls fault
 unfolding items_of_all
-fault_here tree j used past ls fault r = record { before = []; items = used; own = []; rest = ls; in_order = refl; spelled = refl; fit = refl; refused = r }
+fault_here tree j used past ls fault r =
+    record {
+      before = [];
+      items = used;
+      own = [];
+      rest = ls;
+      in_order = refl;
+      spelled = refl;
+      fit = refl;
+      refused = r;
+    }
 
+-- texts that differ are not the same
 pub not_title : (text word : List ℕ) → bytes_eq text word ≡ false → text ≡ word → ⊥
 not_title text word e is = let t = same_bytes text word is in absurd cc
 
-neither : (text : List ℕ) → bytes_eq text (codes "end") ≡ false → bytes_eq text (codes "subset") ≡ false → BeginsOrEnds text → ⊥
+-- a line that is neither word begins no subset and ends no message
+neither : (text : List ℕ) → bytes_eq text (codes "end") ≡ false → bytes_eq text (codes "subset")
+    ≡ false → BeginsOrEnds text → ⊥
 neither text e s (inl is) = not_title text (codes "subset") s is
 neither text e s (inr is) = not_title text (codes "end") e is
 
-pub word_err : (word : List ℕ) (n : ℕ) (text : List ℕ) (fault : ListingFault) → read_word word n text ≡ Err fault → (bytes_eq text word ≡ false) × (BadLine n ≡ fault)
+-- a line that is read as no word is another
+pub word_err : (word : List ℕ) (n : ℕ) (text : List ℕ) (fault : ListingFault)
+    → read_word word n text ≡ Err fault → (bytes_eq text word ≡ false) × (BadLine n ≡ fault)
 word_err word n text fault h = elim (cases_Bool (bytes_eq text word)) [
   | inl is ↦ let g = rw (is) at h in absurd cc
   | inr other ↦ let g = rw (other) at h in (other, err_is {A = Unit {0}} (BadLine n) fault g)
 ]
 
 -- the items of a message are within the limit behind a subset too
-few_items : FaultLaws → (tree : Tree) (used items : ℕ) (fields : List Field) → used ≤ 16777216 → items_of 1 1 (course tree used) fields ≡ Ok items → items ≤ 16777216
+few_items : FaultLaws → (tree : Tree) (used items : ℕ) (fields : List Field) → used ≤ 16777216
+    → items_of 1 1 (course tree used) fields ≡ Ok items → items ≤ 16777216
 unfolding items_of_all
 few_items laws tree used items fields le h =
-    let one : items_of_all (course tree) 1 used (record { fields = fields } ∷ []) ≡ Ok items = rw h refl in
+    let one : items_of_all (course tree) 1 used (record { fields = fields } ∷ []) ≡ Ok items =
+    rw h refl in
     (laws.lower.fit tree 1 used items (record { fields = fields } ∷ []) le one).3
 
 -- a subset before the others
-subset_before : (tree : Tree) (j used past : ℕ) (l : Line) (ls : List Line) (first : FieldsListed) (fault : ListingFault) → l.text ≡ codes "subset" → IsBehind ls first.rest
-    → FieldsTaken j 1 (course tree used) ls first → LaterFault tree (j + 1) first.items past first.rest fault → LaterFault tree j used past (l ∷ ls) fault
+subset_before : (tree : Tree) (j used past : ℕ) (l : Line) (ls : List Line) (first : FieldsListed)
+    (fault : ListingFault) → l.text ≡ codes "subset" → IsBehind ls first.rest
+    → FieldsTaken j 1 (course tree used) ls first
+    → LaterFault tree (j + 1) first.items past first.rest fault → LaterFault tree j used past
+    (l ∷ ls) fault
 unfolding items_of_all
 subset_before tree j used past l ls first fault title behind taken r =
-    let own : texts behind.own ≡ map field_line first.fields = same_front behind.own first.rest (map field_line first.fields) (sym (ap texts behind.in_order) ∙ taken.front) in
-    let spelled : texts (behind.own ++ r.own) ≡ map field_line first.fields ++ flat_map subset_lines r.before = map-append (λ (l : Line). l.text) behind.own r.own ∙ (λ i. own i ++ r.spelled i) in
+    let own : texts behind.own ≡ map field_line first.fields =
+    same_front behind.own first.rest (map field_line first.fields) (sym (ap texts behind.in_order)
+    ∙ taken.front) in
+    let spelled : texts (behind.own ++ r.own) ≡ map field_line first.fields ++ flat_map
+    subset_lines r.before = map-append (λ (l : Line). l.text) behind.own r.own
+    ∙ (λ i. own i ++ r.spelled i) in
     record {
       before = record { fields = first.fields } ∷ r.before;
       items = r.items;
       own = l ∷ behind.own ++ r.own;
       rest = r.rest;
-      in_order = ap (λ xs. l ∷ xs) (behind.in_order ∙ ap (λ xs. behind.own ++ xs) r.in_order ∙ sym (append_assoc behind.own r.own r.rest));
+      in_order =
+          ap (λ xs. l ∷ xs) (behind.in_order ∙ ap (λ xs. behind.own ++ xs) r.in_order
+          ∙ sym (append_assoc behind.own r.own r.rest));
       spelled = λ i. title i ∷ spelled i;
       fit = rw taken.fit r.fit;
       refused = r.refused;
     }
 
+-- lines behind others are not more
 not_longer : (ls own rest : List Line) (n : ℕ) → ls ≡ own ++ rest → length ls ≤ n → length rest ≤ n
-not_longer ls own rest n e few = let same = ap length e in let sum = length-append own rest in omega (arith, same, sum, few)
+not_longer ls own rest n e few = let same = ap length e in let sum = length-append own rest in
+    omega (arith, same, sum, few)
 
-later_fault : FaultLaws → (left past j : ℕ) (tree : Tree) (used : ℕ) (ls : List Line) (fault : ListingFault)
-    → length ls ≤ left → used ≤ 16777216 → subsets_read left past (course tree) used ls ≡ Err fault → LaterFault tree j used past ls fault
+-- the fault of reading subsets is behind those that were read
+later_fault : FaultLaws → (left past j : ℕ) (tree : Tree) (used : ℕ) (ls : List Line)
+    (fault : ListingFault)
+    → length ls ≤ left → used ≤ 16777216 → subsets_read left past (course tree) used ls
+    ≡ Err fault → LaterFault tree j used past ls fault
 unfolding subsets_read
-later_fault laws zero past j tree used [] fault few le h = fault_here tree j used past [] fault (unfit (text_ends refl (sym (err_is {A = SubsetsListed} (BadLine past) fault h))))
-later_fault laws (suc left) past j tree used [] fault few le h = fault_here tree j used past [] fault (unfit (text_ends refl (sym (err_is {A = SubsetsListed} (BadLine past) fault h))))
+later_fault laws zero past j tree used [] fault few le h =
+    fault_here tree j used past [] fault
+    (unfit (text_ends refl (sym (err_is {A = SubsetsListed} (BadLine past) fault h))))
+later_fault laws (suc left) past j tree used [] fault few le h =
+    fault_here tree j used past [] fault
+    (unfit (text_ends refl (sym (err_is {A = SubsetsListed} (BadLine past) fault h))))
 later_fault laws zero past j tree used (l ∷ ls) fault few le h = absurd (omega (arith, few))
 later_fault laws (suc left) past j tree used (l ∷ ls) fault few le h =
     elim (cases_Bool (bytes_eq l.text (codes "end"))) [
@@ -297,30 +428,38 @@ later_fault laws (suc left) past j tree used (l ∷ ls) fault few le h =
           elim (bind_err (read_word (codes "subset") l.number l.text) _ fault g) [
             | inl e ↦
                 let p = word_err (codes "subset") l.number l.text fault e in
-                fault_here tree j used past (l ∷ ls) fault (unfit (bad_line l ls refl (neither l.text other p.0) (λ k. k) (sym p.1)))
+                fault_here tree j used past (l ∷ ls) fault
+                (unfit (bad_line l ls refl (neither l.text other p.0) (λ k. k) (sym p.1)))
             | inr begin ↦
-                let title = bytes_same l.text (codes "subset") (if_ok (bytes_eq l.text (codes "subset")) tt begin.0 _ begin.1).0 in
+                let title =
+                bytes_same l.text (codes "subset")
+                (if_ok (bytes_eq l.text (codes "subset")) tt begin.0 _ begin.1).0 in
                 elim (bind_err (fields_read past (course tree used) ls) _ fault begin.2) [
-                  | inl e ↦ fault_here tree j used past (l ∷ ls) fault (inside l ls refl title (fields_fault laws tree used past ls fault le e))
+                  | inl e ↦
+                      fault_here tree j used past (l ∷ ls) fault
+                      (inside l ls refl title (fields_fault laws tree used past ls fault le e))
                   | inr first ↦
                       let behind = fields_behind past (course tree used) ls first.0 first.1 in
                       let taken = fields_take past j 1 (course tree used) ls first.0 first.1 in
                       let one = fields_take past 1 1 (course tree used) ls first.0 first.1 in
-                      elim (bind_err (subsets_read left past (course tree) first.0.items first.0.rest) _ fault first.2) [
+                      elim (bind_err
+                      (subsets_read left past (course tree) first.0.items first.0.rest) _ fault
+                      first.2) [
                         | inl e ↦
                             subset_before tree j used past l ls first.0 fault title behind taken
-                            (later_fault laws left past (j + 1) tree first.0.items first.0.rest fault (not_longer ls behind.own first.0.rest left behind.in_order (omega (arith, few))) (few_items laws tree used first.0.items first.0.fields le one.fit) e)
+                            (later_fault laws left past (j + 1) tree first.0.items first.0.rest
+                            fault (not_longer ls behind.own first.0.rest left behind.in_order
+                            (omega (arith, few)))
+                            (few_items laws tree used first.0.items first.0.fields le one.fit) e)
                         | inr all ↦ absurd cc
                       ]
                 ]
           ]
     ]
 
-none_used : 0 ≤ 16777216
-none_used = omega arith
-
 -- the first fault of subsets
-pub subsets_fault : FaultLaws → (tree : Tree) (past : ℕ) (ls : List Line) (fault : ListingFault) → subsets_read (length ls) past (course tree) 0 ls ≡ Err fault → SubsetsFault tree past ls fault
+pub subsets_fault : FaultLaws → (tree : Tree) (past : ℕ) (ls : List Line) (fault : ListingFault)
+    → subsets_read (length ls) past (course tree) 0 ls ≡ Err fault → SubsetsFault tree past ls fault
 subsets_fault laws tree past ls fault h =
     let r = later_fault laws (length ls) past 1 tree 0 ls fault (omega arith) none_used h in
     record {
@@ -335,7 +474,8 @@ subsets_fault laws tree past ls fault h =
     }
 
 -- the lines of the subsets that were read stand before those that are left
-pub subsets_behind : (left past : ℕ) (course : ℕ → Course) (used : ℕ) (ls : List Line) (r : SubsetsListed) → subsets_read left past course used ls ≡ Ok r → IsBehind ls r.rest
+pub subsets_behind : (left past : ℕ) (course : ℕ → Course) (used : ℕ) (ls : List Line)
+    (r : SubsetsListed) → subsets_read left past course used ls ≡ Ok r → IsBehind ls r.rest
 unfolding subsets_read
 subsets_behind zero past course used [] r h = absurd cc
 subsets_behind (suc left) past course used [] r h = absurd cc
@@ -344,14 +484,21 @@ subsets_behind (suc left) past course used (l ∷ ls) r h =
     elim (cases_Bool (bytes_eq l.text (codes "end"))) [
       | inl is ↦
           let g = rw (subsets_read, is) at h in
-          subst (λ (r : SubsetsListed). IsBehind (l ∷ ls) r.rest) (ok_is _ _ g) (record { own = l ∷ []; in_order = refl })
+          subst (λ (r : SubsetsListed). IsBehind (l ∷ ls) r.rest) (ok_is _ _ g)
+          (record { own = l ∷ []; in_order = refl })
       | inr other ↦
           let g = rw (subsets_read, other) at h in
           let begin = bind_ok (read_word (codes "subset") l.number l.text) _ r g in
           let first = bind_ok (fields_read past (course used) ls) _ r begin.2 in
-          let rest = bind_ok (subsets_read left past course first.0.items first.0.rest) _ r first.2 in
+          let rest =
+          bind_ok (subsets_read left past course first.0.items first.0.rest) _ r first.2 in
           let own = fields_behind past (course used) ls first.0 first.1 in
           let others = subsets_behind left past course first.0.items first.0.rest rest.0 rest.1 in
           subst (λ (r : SubsetsListed). IsBehind (l ∷ ls) r.rest) (ok_is _ _ rest.2)
-          (record { own = l ∷ own.own ++ others.own; in_order = ap (λ xs. l ∷ xs) (own.in_order ∙ ap (λ xs. own.own ++ xs) others.in_order ∙ sym (append_assoc own.own others.own rest.0.rest)) })
+          (record {
+            own = l ∷ own.own ++ others.own;
+            in_order =
+                ap (λ xs. l ∷ xs) (own.in_order ∙ ap (λ xs. own.own ++ xs) others.in_order
+                ∙ sym (append_assoc own.own others.own rest.0.rest));
+          })
     ]

@@ -1,6 +1,10 @@
--- The raw value that is read of a field's line is the only one that prints it.
-use Rattle.std.proofs.Common.{◌≡◌, ℕ, zero, suc, ◌+◌, ◌-◌, ◌*◌, ◌/◌, ◌%◌, ◌^◌, ◌<◌, ◌≤◌, Bool, true, false, List, [], ◌∷◌, ◌++◌, length, take, drop, get_or, replicate, codes, unwrap_or, refl, sym, ap, ◌∙◌, subst, arith, append_assoc, inl, inr}
-use Rattle.std.specs.Prelude.{ℤ, pos, negsuc, ◌+ℤ◌, ◌-ℤ◌, ◌==◌, ◌&&◌, not, Option, Some, None, Result, Ok, Err, nat_lt, nat_le, slice_index, if◌then◌else◌}
+-- The raw value that is read of a field's line is the only one that prints it: for the laws of
+-- listings, `listings_list_messages` and `listings_are_read_back`.
+use Rattle.std.proofs.Common.{◌≡◌, ℕ, suc, ◌+◌, ◌/◌, ◌%◌, ◌^◌, ◌<◌, ◌≤◌, Bool, true, false, List}
+use Rattle.std.proofs.Common.{[], ◌∷◌, ◌++◌, length, drop, replicate, codes, refl, sym, ap, ◌∙◌}
+use Rattle.std.proofs.Common.{subst, arith, append_assoc, inl, inr}
+use Rattle.std.specs.Prelude.{ℤ, pos, negsuc, ◌+ℤ◌, ◌-ℤ◌, ◌==◌, ◌&&◌, not, None, Ok, Err, nat_lt}
+use Rattle.std.specs.Prelude.{nat_le, if◌then◌else◌}
 use Rattle.std.specs.List.{flat_map, list_all}
 use Rattle.std.specs.Str.{bytes_eq}
 use Rattle.std.specs.Int.RustNames.{unsigned_abs}
@@ -10,34 +14,36 @@ use Rattle.std.proofs.Math.IntN.{+ℤ-neg_ℤ_cancel}
 use Rattle.std.proofs.lemmas.Bool.Decides.{Decides-eqb}
 use Rattle.std.proofs.lemmas.Int.{ints}
 use Rattle.std.proofs.lemmas.Slice.Eq.{bytes_eq-Decides}
-use Rattle.hex.specs.Hex.{hex_digit_value, lower_digits, encode_with, encode_lower}
+use Rattle.hex.specs.Hex.{encode_with, encode_lower}
 use Rattle.hex.proofs.HexLemmas.{IsDigits-lower_digits}
 use Rattle.bufr_tables.specs.declared.element.Kind.{Kind}
 use Rattle.bufr_tables.specs.declared.element.Kind.TheVariants as kinds
-use Rattle.bufr_tables.specs.Descriptors.{six_digits}
 use Rattle.bufr_expand.specs.declared.operators.Spec.{Spec}
-use Rattle.bufr_expand.specs.Operating.{is_within}
+use Rattle.bufr_expand.specs.OperatorsInForce.{is_within}
 use Rattle.bufr_data.specs.declared.field.Raw.{Raw}
 use Rattle.bufr_data.specs.declared.field.Raw.TheVariants.{Number, Text}
-use Rattle.bufr_data.specs.declared.field.Decimal.{Decimal}
 use Rattle.bufr_data.specs.declared.field.Field.{Field}
 use Rattle.bufr_data.specs.Plain.{has_form_by, stands_for, same_spec}
-use Rattle.bufr_data.specs.Values.{size_of, is_all_ones, is_missing, decimal_within, value, text_of}
-use Rattle.bufr_data.specs.DecimalTexts.{units_in}
+use Rattle.bufr_data.specs.Values.{size_of, is_all_ones, is_missing, decimal_within, text_of}
 use Rattle.bufr_data.specs.DecimalTextFacts.{units_of_text, no_letter}
 use Rattle.bufr_listing.proofs.ListFacts.{equal_is, same_spec_is, spec_is_same}
 use Rattle.bufr_listing.specs.Listings.{quoted_octet, quoted, number_word, value_word}
 use Rattle.bufr_listing.specs.Lines.{field_line}
-use Rattle.bufr_listing.specs.FieldLines.{hex_value, octet_at, behind_octet, unquoted, is_missing_word, natural_part, text_in, number_in, raw_by, raw_in, field_in, field_fault, read_field}
+use Rattle.bufr_listing.specs.FieldLines.{octet_at, behind_octet, unquoted, is_missing_word}
+use Rattle.bufr_listing.specs.FieldLines.{natural_part, text_in, number_in, raw_in, field_in}
+use Rattle.bufr_listing.specs.FieldLines.{field_fault, read_field}
 
 -- ---- tests
 
+-- texts that compare alike are the same
 pub bytes_same : (xs ys : List ℕ) → bytes_eq xs ys ≡ true → xs ≡ ys
 bytes_same xs ys e = (bytes_eq-Decides xs ys).0 e
 
+-- the same texts compare alike
 pub same_bytes : (xs ys : List ℕ) → xs ≡ ys → bytes_eq xs ys ≡ true
 same_bytes xs ys e = (bytes_eq-Decides xs ys).1 e
 
+-- other texts do not
 pub other_bytes : (xs ys : List ℕ) → (xs ≡ ys → ⊥) → bytes_eq xs ys ≡ false
 other_bytes xs ys different =
     elim (cases_Bool (bytes_eq xs ys)) [
@@ -45,12 +51,15 @@ other_bytes xs ys different =
       | inr e ↦ e
     ]
 
-pub if_ok : {A F : Type 0} (b : Bool) (x y : A) (e : F) → (if b then Ok x else Err e) ≡ Ok y → (b ≡ true) × (x ≡ y)
+-- a test that passed, and its answer
+pub if_ok : {A F : Type 0} (b : Bool) (x y : A) (e : F) → (if b then Ok x else Err e) ≡ Ok y
+    → (b ≡ true) × (x ≡ y)
 if_ok true x y e h = (refl, cc)
 if_ok false x y e h = absurd cc
 
 -- ---- quoted octets
 
+-- an escaped octet is read of its digits
 escaped_back : (c : ℕ) (more : List ℕ) → c < 256 → octet_at (92 ∷ encode_lower (c ∷ []) ++ more) ≡ c
 unfolding encode_with
 escaped_back c more small =
@@ -58,42 +67,57 @@ escaped_back c more small =
     let low = IsDigits-lower_digits (c % 16) (omega arith) in
     rw (high, low) (omega arith)
 
+-- what stands behind an escaped octet
 escaped_behind : (c : ℕ) (more : List ℕ) → behind_octet (92 ∷ encode_lower (c ∷ []) ++ more) ≡ more
 unfolding encode_with
 escaped_behind c more = refl
 
-plain_back : (c : ℕ) (more : List ℕ) → (c == 92) ≡ false → (octet_at (c ∷ more) ≡ c) × (behind_octet (c ∷ more) ≡ more)
+-- an octet that stands for itself, and what stands behind it
+plain_back : (c : ℕ) (more : List ℕ) → (c == 92) ≡ false → (octet_at (c ∷ more) ≡ c)
+    × (behind_octet (c ∷ more) ≡ more)
 plain_back c more e = (rw e refl, rw e refl)
 
+-- a test whose opposite passes fails
 not_true : (b : Bool) → not b ≡ true → b ≡ false
 not_true true e = absurd cc
 not_true false e = refl
 
+-- an octet by whether it stands for itself
 octet_by : (printed : Bool) (c : ℕ) (more : List ℕ) → c < 256 → (printed ≡ true → (c == 92) ≡ false)
-    → (octet_at ((if printed then c ∷ [] else 92 ∷ encode_lower (c ∷ [])) ++ more) ≡ c) × (behind_octet ((if printed then c ∷ [] else 92 ∷ encode_lower (c ∷ [])) ++ more) ≡ more)
+    → (octet_at ((if printed then c ∷ [] else 92 ∷ encode_lower (c ∷ [])) ++ more) ≡ c)
+    × (behind_octet ((if printed then c ∷ [] else 92 ∷ encode_lower (c ∷ [])) ++ more) ≡ more)
 octet_by true c more small plain = plain_back c more (plain refl)
 octet_by false c more small plain = (escaped_back c more small, escaped_behind c more)
 
-octet_back : (c : ℕ) (more : List ℕ) → c < 256 → (octet_at (quoted_octet c ++ more) ≡ c) × (behind_octet (quoted_octet c ++ more) ≡ more)
+-- an octet is read of what is quoted for it
+octet_back : (c : ℕ) (more : List ℕ) → c < 256 → (octet_at (quoted_octet c ++ more) ≡ c)
+    × (behind_octet (quoted_octet c ++ more) ≡ more)
 octet_back c more small =
     octet_by (nat_le 32 c && nat_le c 126 && not (c == 34) && not (c == 92)) c more small
-    (λ e. not_true (c == 92) (and_parts (nat_le 32 c && nat_le c 126 && not (c == 34)) (not (c == 92)) e).1)
+    (λ e. not_true (c == 92) (and_parts (nat_le 32 c && nat_le c 126 && not (c == 34))
+    (not (c == 92)) e).1)
 
-unquoted_back : (os more : List ℕ) → list_all (λ x. nat_lt x 256) os ≡ true → unquoted (length os) (flat_map quoted_octet os ++ more) ≡ os
+-- octets are read of what is quoted for them
+unquoted_back : (os more : List ℕ) → list_all (λ x. nat_lt x 256) os ≡ true → unquoted (length os)
+    (flat_map quoted_octet os ++ more) ≡ os
 unfolding unquoted
 unquoted_back [] more h = refl
 unquoted_back (c ∷ os) more h =
     let p = and_parts (nat_lt c 256) (list_all (λ x. nat_lt x 256) os) h in
     let back = octet_back c (flat_map quoted_octet os ++ more) (ltb-true c 256 p.0) in
-    rw (append_assoc (quoted_octet c) (flat_map quoted_octet os) more, back.0, back.1) (ap (λ xs. c ∷ xs) (unquoted_back os more p.1))
+    rw (append_assoc (quoted_octet c) (flat_map quoted_octet os) more, back.0, back.1)
+    (ap (λ xs. c ∷ xs) (unquoted_back os more p.1))
 
+-- octets that are all 255
 all_255 : (os : List ℕ) → list_all (λ x. x == 255) os ≡ true → replicate (length os) 255 ≡ os
 all_255 [] h = refl
 all_255 (c ∷ os) h =
     let p = and_parts (c == 255) (list_all (λ x. x == 255) os) h in
     λ i. sym (eqb-true c 255 p.0) i ∷ all_255 os p.1 i
 
-text_by : (missing : Bool) (count : ℕ) (os : List ℕ) → length os ≡ count → list_all (λ x. nat_lt x 256) os ≡ true → (missing ≡ true → list_all (λ x. x == 255) os ≡ true)
+-- the octets of a text, by whether it is missing
+text_by : (missing : Bool) (count : ℕ) (os : List ℕ) → length os ≡ count
+    → list_all (λ x. nat_lt x 256) os ≡ true → (missing ≡ true → list_all (λ x. x == 255) os ≡ true)
     → text_in count (if missing then codes "missing" else quoted os) ≡ os
 text_by true count os len small ones = rw (sym len) (all_255 os (ones refl))
 text_by false count os len small ones = rw (sym len) (unquoted_back os (34 ∷ []) small)
@@ -105,26 +129,35 @@ pub record IsPrintable (spec : Spec) : Type 0 where
   pub scale : is_within 600 spec.scale ≡ true
   pub reference : unsigned_abs spec.reference ≤ 9223372036854775808
 
-pub size_small : (n : ℕ) (reference : ℤ) → n < 18446744073709551616 → unsigned_abs reference ≤ 9223372036854775808 → size_of (pos n +ℤ reference) < 10 ^ 64
+-- a value has few digits enough to be printed
+pub size_small : (n : ℕ) (reference : ℤ) → n < 18446744073709551616
+    → unsigned_abs reference ≤ 9223372036854775808 → size_of (pos n +ℤ reference) < 10 ^ 64
 size_small n (pos m) small within = omega (arith, small, within)
 size_small n (negsuc m) small within = elim (cases_Bool (nat_lt n (suc m))) [
   | inl below ↦ grind (arith, ints)
   | inr above ↦ grind (arith, ints)
 ]
 
+-- a number behind its reference
 natural_back : (n : ℕ) (reference : ℤ) → natural_part (pos n +ℤ reference -ℤ reference) ≡ n
 natural_back n reference = ap natural_part (+ℤ-neg_ℤ_cancel (pos n) reference)
 
-number_back : (spec : Spec) (n : ℕ) → IsPrintable spec → n < 18446744073709551616 → number_in spec (text_of (record { units = pos n +ℤ spec.reference; scale = spec.scale })) ≡ n
+-- a number is read of what is printed for it
+number_back : (spec : Spec) (n : ℕ) → IsPrintable spec → n < 18446744073709551616
+    → number_in spec (text_of (record { units = pos n +ℤ spec.reference; scale = spec.scale })) ≡ n
 number_back spec n fit small =
     let size = size_small n spec.reference small fit.reference in
     let units = pos n +ℤ spec.reference in
     let word = text_of (record { units = units; scale = spec.scale }) in
-    let not_missing : is_missing_word word ≡ false = other_bytes word (codes "missing") (λ e. no_letter units spec.scale _ size e) in
+    let not_missing : is_missing_word word ≡ false =
+    other_bytes word (codes "missing") (λ e. no_letter units spec.scale _ size e) in
     rw (not_missing, units_of_text units spec.scale size) (natural_back n spec.reference)
 
-number_by : (missing : Bool) (spec : Spec) (n : ℕ) → IsPrintable spec → n < 18446744073709551616 → (missing ≡ true → n + 1 ≡ 2 ^ spec.width)
-    → number_in spec (if missing then codes "missing" else number_word (if missing then None else decimal_within (pos n +ℤ spec.reference) spec.scale)) ≡ n
+-- a number, by whether it is missing
+number_by : (missing : Bool) (spec : Spec) (n : ℕ) → IsPrintable spec → n < 18446744073709551616
+    → (missing ≡ true → n + 1 ≡ 2 ^ spec.width)
+    → number_in spec (if missing then codes "missing" else number_word
+    (if missing then None else decimal_within (pos n +ℤ spec.reference) spec.scale)) ≡ n
 number_by true spec n fit small ones = let e = ones refl in omega (arith, e)
 number_by false spec n fit small ones = rw fit.scale (number_back spec n fit small)
 
@@ -133,79 +166,145 @@ missing_ones : (f : Field) → is_missing f ≡ true → is_all_ones f.spec.widt
 missing_ones f e =
     let a = (and_parts _ _ e).0 in let b = (and_parts _ _ a).0 in (and_parts _ _ b).1
 
-pub number_small : (width n : ℕ) → (nat_le width 64 && nat_lt n (2 ^ width)) ≡ true → n < 18446744073709551616
+-- a number of at most 64 bits
+pub number_small : (width n : ℕ) → (nat_le width 64 && nat_lt n (2 ^ width)) ≡ true
+    → n < 18446744073709551616
 number_small width n form =
     let p = and_parts (nat_le width 64) (nat_lt n (2 ^ width)) form in
-    let most = pow-le-pow_right {n = 2} (omega arith) {i = width} {j = 64} (leb-true width 64 p.0) in
+    let most = pow-le-pow_right {n = 2} (omega arith) {i = width} {j = 64}
+    (leb-true width 64 p.0) in
     omega (arith, most, ltb-true n (2 ^ width) p.1)
 
 -- the raw value of a field's word is the field's own
-pub raw_back : (d : ℕ) (spec : Spec) (raw : Raw) → has_form_by spec.kind spec.width raw ≡ true → IsPrintable spec → raw_in spec (value_word (record { fxy = d; spec = spec; raw = raw })) ≡ raw
-raw_back d spec raw form fit = raw_by_kind spec.kind spec.scale spec.reference spec.width raw form fit
+pub raw_back : (d : ℕ) (spec : Spec) (raw : Raw) → has_form_by spec.kind spec.width raw ≡ true
+    → IsPrintable spec → raw_in spec (value_word (record { fxy = d; spec = spec; raw = raw })) ≡ raw
+raw_back d spec raw form fit =
+    raw_by_kind spec.kind spec.scale spec.reference spec.width raw form fit
   where
-    raw_by_kind : (kind : Kind) (scale reference : ℤ) (width : ℕ) (raw : Raw) → has_form_by kind width raw ≡ true → IsPrintable (record { kind = kind; scale = scale; reference = reference; width = width })
-        → raw_in (record { kind = kind; scale = scale; reference = reference; width = width }) (value_word (record { fxy = d; spec = record { kind = kind; scale = scale; reference = reference; width = width }; raw = raw })) ≡ raw
+    raw_by_kind : (kind : Kind) (scale reference : ℤ) (width : ℕ) (raw : Raw)
+        → has_form_by kind width raw ≡ true
+        → IsPrintable (record {
+          kind = kind;
+          scale = scale;
+          reference = reference;
+          width =
+              width;
+        })
+        → raw_in (record { kind = kind; scale = scale; reference = reference; width = width })
+        (value_word
+        (record {
+          fxy = d;
+          spec = record {
+            kind = kind;
+            scale = scale;
+            reference =
+                reference;
+            width = width;
+          };
+          raw = raw;
+        })) ≡ raw
     raw_by_kind kinds.Text scale reference width (Number n) form fit = absurd cc
     raw_by_kind kinds.Text scale reference width (Text os) form fit =
-        let f : Field = record { fxy = d; spec = record { kind = kinds.Text; scale = scale; reference = reference; width = width }; raw = Text os } in
+        let f : Field =
+        record {
+          fxy = d;
+          spec = record {
+            kind = kinds.Text;
+            scale = scale;
+            reference =
+                reference;
+            width = width;
+          };
+          raw = Text os;
+        } in
         let p = and_parts (length os == width / 8) (list_all (λ x. nat_lt x 256) os) form in
-        ap Text (text_by (is_missing f) (width / 8) os (eqb-true (length os) (width / 8) p.0) p.1 (λ e. missing_ones f e))
+        ap Text (text_by (is_missing f) (width / 8) os (eqb-true (length os) (width / 8) p.0) p.1
+        (λ e. missing_ones f e))
     raw_by_kind kinds.Code scale reference width (Text os) form fit = absurd cc
     raw_by_kind kinds.Code scale reference width (Number n) form fit =
-        let spec : Spec = record { kind = kinds.Code; scale = scale; reference = reference; width = width } in
+        let spec : Spec =
+        record { kind = kinds.Code; scale = scale; reference = reference; width = width } in
         let f : Field = record { fxy = d; spec = spec; raw = Number n } in
-        ap Number (number_by (is_missing f) spec n fit (number_small width n form) (λ e. eqb-true (n + 1) (2 ^ width) (missing_ones f e)))
+        ap Number (number_by (is_missing f) spec n fit (number_small width n form)
+        (λ e. eqb-true (n + 1) (2 ^ width) (missing_ones f e)))
     raw_by_kind kinds.Flag scale reference width (Text os) form fit = absurd cc
     raw_by_kind kinds.Flag scale reference width (Number n) form fit =
-        let spec : Spec = record { kind = kinds.Flag; scale = scale; reference = reference; width = width } in
+        let spec : Spec =
+        record { kind = kinds.Flag; scale = scale; reference = reference; width = width } in
         let f : Field = record { fxy = d; spec = spec; raw = Number n } in
-        ap Number (number_by (is_missing f) spec n fit (number_small width n form) (λ e. eqb-true (n + 1) (2 ^ width) (missing_ones f e)))
+        ap Number (number_by (is_missing f) spec n fit (number_small width n form)
+        (λ e. eqb-true (n + 1) (2 ^ width) (missing_ones f e)))
     raw_by_kind kinds.Quantity scale reference width (Text os) form fit = absurd cc
     raw_by_kind kinds.Quantity scale reference width (Number n) form fit =
-        let spec : Spec = record { kind = kinds.Quantity; scale = scale; reference = reference; width = width } in
+        let spec : Spec =
+        record { kind = kinds.Quantity; scale = scale; reference = reference; width = width } in
         let f : Field = record { fxy = d; spec = spec; raw = Number n } in
-        ap Number (number_by (is_missing f) spec n fit (number_small width n form) (λ e. eqb-true (n + 1) (2 ^ width) (missing_ones f e)))
+        ap Number (number_by (is_missing f) spec n fit (number_small width n form)
+        (λ e. eqb-true (n + 1) (2 ^ width) (missing_ones f e)))
     raw_by_kind kinds.Count scale reference width (Text os) form fit = absurd cc
     raw_by_kind kinds.Count scale reference width (Number n) form fit =
-        let spec : Spec = record { kind = kinds.Count; scale = scale; reference = reference; width = width } in
+        let spec : Spec =
+        record { kind = kinds.Count; scale = scale; reference = reference; width = width } in
         let f : Field = record { fxy = d; spec = spec; raw = Number n } in
-        ap Number (number_by (is_missing f) spec n fit (number_small width n form) (λ e. eqb-true (n + 1) (2 ^ width) (missing_ones f e)))
+        ap Number (number_by (is_missing f) spec n fit (number_small width n form)
+        (λ e. eqb-true (n + 1) (2 ^ width) (missing_ones f e)))
 
 -- ---- lines of fields
 
 -- the candidate of a field's own line is the field
-candidate_back : (f : Field) → has_form_by f.spec.kind f.spec.width f.raw ≡ true → IsPrintable f.spec → raw_in f.spec (drop 7 (field_line f)) ≡ f.raw
+candidate_back : (f : Field) → has_form_by f.spec.kind f.spec.width f.raw ≡ true
+    → IsPrintable f.spec → raw_in f.spec (drop 7 (field_line f)) ≡ f.raw
 candidate_back f form fit = raw_back f.fxy f.spec f.raw form fit
 
+-- two tests that pass
 both : {a b : Bool} → a ≡ true → b ≡ true → (a && b) ≡ true
 both {a} {b} p q = rw (p, q) refl
 
-accepted : {F : Type 0} (b : Bool) (c f : Field) (e : F) → b ≡ true → c ≡ f → (if b then Ok c else Err e) ≡ Ok f
+-- a candidate that passes the test is read
+accepted : {F : Type 0} (b : Bool) (c f : Field) (e : F) → b ≡ true → c ≡ f
+    → (if b then Ok c else Err e) ≡ Ok f
 accepted b c f e holds same = rw holds (ap Ok same)
 
 -- a field is read of its own line
-own_line : (n : ℕ) (f : Field) → IsPrintable f.spec → has_form_by f.spec.kind f.spec.width f.raw ≡ true → read_field f.fxy f.spec n (field_line f) ≡ Ok f
+own_line : (n : ℕ) (f : Field) → IsPrintable f.spec → has_form_by f.spec.kind f.spec.width f.raw
+    ≡ true → read_field f.fxy f.spec n (field_line f) ≡ Ok f
 own_line n f fit form =
     let back = candidate_back f form fit in
-    let same : field_in f.fxy f.spec (field_line f) ≡ f = λ i. record { fxy = f.fxy; spec = f.spec; raw = back i } in
-    let formed : has_form_by f.spec.kind f.spec.width (raw_in f.spec (drop 7 (field_line f))) ≡ true = subst (λ (r : Raw). has_form_by f.spec.kind f.spec.width r ≡ true) (sym back) form in
-    accepted _ (field_in f.fxy f.spec (field_line f)) f (field_fault f.fxy n (field_line f)) (both (both fit.scale formed) (same_bytes (field_line (field_in f.fxy f.spec (field_line f))) (field_line f) (ap field_line same))) same
+    let same : field_in f.fxy f.spec (field_line f) ≡ f =
+    λ i. record { fxy = f.fxy; spec = f.spec; raw = back i } in
+    let formed : has_form_by f.spec.kind f.spec.width (raw_in f.spec (drop 7 (field_line f)))
+    ≡ true = subst (λ (r : Raw). has_form_by f.spec.kind f.spec.width r ≡ true) (sym back) form in
+    accepted _ (field_in f.fxy f.spec (field_line f)) f (field_fault f.fxy n (field_line f))
+    (both (both fit.scale formed) (same_bytes (field_line (field_in f.fxy f.spec (field_line f)))
+    (field_line f) (ap field_line same))) same
 
 -- a field that is asked for is read of its line
-pub read_field_back : (d : ℕ) (spec : Spec) (n : ℕ) (f : Field) → IsPrintable spec → stands_for d spec f ≡ true → read_field d spec n (field_line f) ≡ Ok f
+pub read_field_back : (d : ℕ) (spec : Spec) (n : ℕ) (f : Field) → IsPrintable spec
+    → stands_for d spec f ≡ true → read_field d spec n (field_line f) ≡ Ok f
 read_field_back d spec n f fit stands =
-    let p = and_parts (f.fxy == d && same_spec f.spec spec) (has_form_by spec.kind spec.width f.raw) stands in
+    let p = and_parts (f.fxy == d && same_spec f.spec spec)
+    (has_form_by spec.kind spec.width f.raw) stands in
     let q = and_parts (f.fxy == d) (same_spec f.spec spec) p.0 in
     let own = same_spec_is f.spec spec q.1 in
     subst (λ e. read_field e spec n (field_line f) ≡ Ok f) (equal_is f.fxy d q.0)
     (subst (λ (s : Spec). read_field f.fxy s n (field_line f) ≡ Ok f) own
-    (own_line n f (subst IsPrintable (sym own) fit) (subst (λ (s : Spec). has_form_by s.kind s.width f.raw ≡ true) (sym own) p.1)))
+    (own_line n f (subst IsPrintable (sym own) fit)
+    (subst (λ (s : Spec). has_form_by s.kind s.width f.raw ≡ true) (sym own) p.1)))
 
 -- a field that is read is asked for, and the line is its own
-pub read_field_takes : (d : ℕ) (spec : Spec) (n : ℕ) (text : List ℕ) (f : Field) → read_field d spec n text ≡ Ok f → (text ≡ field_line f) × (stands_for d spec f ≡ true)
+pub read_field_takes : (d : ℕ) (spec : Spec) (n : ℕ) (text : List ℕ) (f : Field)
+    → read_field d spec n text ≡ Ok f → (text ≡ field_line f) × (stands_for d spec f ≡ true)
 read_field_takes d spec n text f h =
-    let p = if_ok (is_within 600 spec.scale && has_form_by spec.kind spec.width (raw_in spec (drop 7 text)) && bytes_eq (field_line (field_in d spec text)) text) (field_in d spec text) f (field_fault d n text) h in
-    let q = and_parts (is_within 600 spec.scale && has_form_by spec.kind spec.width (raw_in spec (drop 7 text))) (bytes_eq (field_line (field_in d spec text)) text) p.0 in
-    let formed = (and_parts (is_within 600 spec.scale) (has_form_by spec.kind spec.width (raw_in spec (drop 7 text))) q.0).1 in
-    let same : stands_for d spec (field_in d spec text) ≡ true = rw (spec_is_same spec, formed, (Decides-eqb d d).1 refl) refl in
-    (sym (bytes_same (field_line (field_in d spec text)) text q.1) ∙ ap field_line p.1, subst (λ (g : Field). stands_for d spec g ≡ true) p.1 same)
+    let p = if_ok (is_within 600 spec.scale && has_form_by spec.kind spec.width
+    (raw_in spec (drop 7 text)) && bytes_eq (field_line (field_in d spec text)) text)
+    (field_in d spec text) f (field_fault d n text) h in
+    let q = and_parts (is_within 600 spec.scale && has_form_by spec.kind spec.width
+    (raw_in spec (drop 7 text))) (bytes_eq (field_line (field_in d spec text)) text) p.0 in
+    let formed =
+    (and_parts (is_within 600 spec.scale)
+    (has_form_by spec.kind spec.width (raw_in spec (drop 7 text))) q.0).1 in
+    let same : stands_for d spec (field_in d spec text) ≡ true =
+    rw (spec_is_same spec, formed, (Decides-eqb d d).1 refl) refl in (
+      sym (bytes_same (field_line (field_in d spec text)) text q.1) ∙ ap field_line p.1,
+      subst (λ (g : Field). stands_for d spec g ≡ true) p.1 same,
+    )

@@ -1,3 +1,4 @@
+-- What the contracts and laws of listings are proved from.
 pub mod OnLiterals
 pub mod ListFacts
 pub mod LowerLaws
@@ -30,3 +31,7 @@ pub mod FaultFacts
 pub mod FaultFields
 pub mod FaultHeadings
 pub mod FaultMessages
+pub mod RefusedLines
+pub mod RefusedFields
+pub mod RefusedHeadings
+pub mod RefusedMessages

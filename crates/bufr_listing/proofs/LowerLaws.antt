@@ -1,4 +1,5 @@
--- What the crates below say of descriptors, specs and subsets: the premises of the laws of listings.
+-- What the crates below say of descriptors, specs and subsets: the premises of the laws of
+-- listings.
 use Rattle.std.specs.Prelude.{◌≡◌, ◌↔◌, ℕ, ◌<◌, List, Some}
 use Rattle.bufr_tables.specs.Descriptors.{of_text, six_digits}
 use Rattle.bufr_tables.specs.Entries.{Entries}

@@ -1,16 +1,17 @@
--- What is read of the lines of messages is what they spell.
-use Rattle.std.proofs.Common.{◌≡◌, ℕ, zero, suc, ◌+◌, ◌-◌, ◌<◌, ◌≤◌, Bool, true, false, List, [], ◌∷◌, ◌++◌, length, map, get_or, drop, codes, unwrap_or, refl, sym, ap, ◌∙◌, subst, arith, append_assoc, length-append}
-use Rattle.std.specs.Prelude.{◌&&◌, All, IfSome, Option, Some, None, Result, Ok, Err, nat_lt, if◌then◌else◌}
+-- What is read of the lines of messages is what they spell: for the laws of listings,
+-- `listings_list_messages` and `listings_are_read_back`.
+use Rattle.std.proofs.Common.{◌≡◌, ℕ, zero, suc, ◌<◌, ◌≤◌, Bool, true, false, List, [], ◌∷◌, ◌++◌}
+use Rattle.std.proofs.Common.{length, map, get_or, drop, codes, unwrap_or, refl, sym, ap, ◌∙◌}
+use Rattle.std.proofs.Common.{subst, arith, append_assoc, length-append}
+use Rattle.std.specs.Prelude.{IfSome, Option, Some, None, Result, Ok, if◌then◌else◌}
 use Rattle.std.specs.List.{flat_map, AllByRecursion}
 use Rattle.std.specs.Str.{bytes_eq}
 use Rattle.std.proofs.lemmas.Bool.{lt-ltb}
 use Rattle.std.proofs.lemmas.List.Elements.{All-from_recursion}
 use Rattle.bufr_tables.specs.Answers.{◌>>=◌}
 use Rattle.bufr_tables.specs.Entries.{Entries}
-use Rattle.bufr_expand.specs.Trees.{Tree}
 use Rattle.bufr_expand.specs.Courses.{course}
 use Rattle.bufr_data.specs.declared.field.Subset.{Subset}
-use Rattle.bufr_data.specs.Plain.{items_of_all}
 use Rattle.bufr_data.specs.Fits.{AllFitWithin}
 use Rattle.bufr_listing.proofs.ListFacts.{bind_ok, six_by_place}
 use Rattle.bufr_listing.proofs.LowerLaws.{LowerLaws}
@@ -18,130 +19,231 @@ use Rattle.bufr_sections.specs.declared.message.Head.{Head}
 use Rattle.bufr_sections.specs.declared.message.Message.{Message}
 use Rattle.bufr_listing.specs.declared.fault.ListingFault.{ListingFault}
 use Rattle.bufr_sections.specs.Sections.{AreOctets, HeadFits, IsOctet}
-use Rattle.bufr_listing.specs.Lines.{Line, texts, first_word, section1_numbers, time_numbers, numbers_line, octets_line, local_lines, section2_line, section2_lines, flags_line, descriptors_line, field_line, subset_lines, flags_and_on, lines_of, CanBeListed}
-use Rattle.bufr_listing.specs.Reading.{with_rest, read_line, read_if, read_word, are_below, read_numbers, read_local, read_section2, Flags, read_flags, Described, read_descriptors, SubsetsListed, subsets_read, section1_limits, time_limits, head_with, MessageRead, message_read, messages_read}
+use Rattle.bufr_listing.specs.Lines.{Line, texts, first_word, section1_numbers, time_numbers}
+use Rattle.bufr_listing.specs.Lines.{numbers_line, octets_line, local_lines, section2_line}
+use Rattle.bufr_listing.specs.Lines.{section2_lines, flags_line, descriptors_line, field_line}
+use Rattle.bufr_listing.specs.Lines.{subset_lines, flags_and_on, lines_of, CanBeListed}
+use Rattle.bufr_listing.specs.Reading.{with_rest, read_line, read_if, read_word, are_below}
+use Rattle.bufr_listing.specs.Reading.{read_numbers, read_local, read_section2, read_flags}
+use Rattle.bufr_listing.specs.Reading.{read_descriptors, subsets_read, section1_limits, time_limits}
+use Rattle.bufr_listing.specs.Reading.{head_with, MessageRead, message_read, messages_read}
 use Rattle.bufr_listing.proofs.FieldFacts.{bytes_same, same_bytes, if_ok}
 use Rattle.bufr_listing.proofs.CourseFacts.{course_printable}
-use Rattle.bufr_listing.proofs.SubsetFacts.{ok_is, LineTaken, line_takes, LineBack, line_back, subsets_take, SubsetsBack, subsets_back}
-use Rattle.bufr_listing.proofs.LineFacts.{literal_word, both, numbers_take, numbers_back, octets_take, local_back, section2_take, section2_back, flags_take, flags_back, DescriptorsTaken, descriptors_take, descriptors_back, eight_by_place, below_length, below_at}
+use Rattle.bufr_listing.proofs.LoopFacts.{goes_on, texts_length}
+use Rattle.bufr_listing.proofs.SubsetFacts.{ok_is, LineTaken, line_takes, line_back, subsets_take}
+use Rattle.bufr_listing.proofs.SubsetFacts.{subsets_back}
+use Rattle.bufr_listing.proofs.LineFacts.{literal_word, both, numbers_take, numbers_back}
+use Rattle.bufr_listing.proofs.LineFacts.{octets_take, local_back, section2_take, section2_back}
+use Rattle.bufr_listing.proofs.LineFacts.{flags_take, flags_back, descriptors_take}
+use Rattle.bufr_listing.proofs.LineFacts.{descriptors_back, eight_by_place, below_length, below_at}
 
 -- ---- lines that may be absent
 
-abbrev pub IfTaken : {A : Type 0} → (ℕ → List ℕ → Result A ListingFault) → List Line → Option A → List Line → Type 0
+-- a line that may be absent was read, or none was
+abbrev pub IfTaken : {A : Type 0} → (ℕ → List ℕ → Result A ListingFault) → List Line → Option A
+    → List Line → Type 0
 IfTaken read ls None rest = ls ≡ rest
 IfTaken read ls (Some a) rest = LineTaken read ls a rest
 
-if_takes_by : {A : Type 0} (b : Bool) (read : ℕ → List ℕ → Result A ListingFault) (l : Line) (ls : List Line) (x : Option A × List Line)
-    → (if b then (read l.number l.text >>= λ a. with_rest ls (Some a)) else with_rest (l ∷ ls) None) ≡ Ok x → IfTaken read (l ∷ ls) x.0 x.1
+-- what was read of one, by whether the next line has its first word
+if_takes_by : {A : Type 0} (b : Bool) (read : ℕ → List ℕ → Result A ListingFault) (l : Line)
+    (ls : List Line) (x : Option A × List Line)
+    → (if b then (read l.number l.text >>= λ a. with_rest ls (Some a)) else with_rest
+    (l ∷ ls) None) ≡ Ok x → IfTaken read (l ∷ ls) x.0 x.1
 if_takes_by {A} true read l ls x h =
     let p = bind_ok (read l.number l.text) (λ a. with_rest ls (Some a)) x h in
-    subst (λ (y : Option A × List Line). IfTaken read (l ∷ ls) y.0 y.1) (ok_is _ _ p.2) (record { line = l; front = refl; reads = p.1 })
-if_takes_by {A} false read l ls x h = subst (λ (y : Option A × List Line). IfTaken read (l ∷ ls) y.0 y.1) (ok_is _ _ h) refl
+    subst (λ (y : Option A × List Line). IfTaken read (l ∷ ls) y.0 y.1) (ok_is _ _ p.2)
+    (record { line = l; front = refl; reads = p.1 })
+if_takes_by {A} false read l ls x h =
+    subst (λ (y : Option A × List Line). IfTaken read (l ∷ ls) y.0 y.1) (ok_is _ _ h) refl
 
-pub if_takes : {A : Type 0} (title : List ℕ) (read : ℕ → List ℕ → Result A ListingFault) (ls : List Line) (x : Option A × List Line) → read_if title read ls ≡ Ok x → IfTaken read ls x.0 x.1
-if_takes {A} title read [] x h = subst (λ (y : Option A × List Line). IfTaken read [] y.0 y.1) (ok_is _ _ h) refl
+-- what was read of one
+pub if_takes : {A : Type 0} (title : List ℕ) (read : ℕ → List ℕ → Result A ListingFault)
+    (ls : List Line) (x : Option A × List Line) → read_if title read ls ≡ Ok x
+    → IfTaken read ls x.0 x.1
+if_takes {A} title read [] x h = subst (λ (y : Option A × List Line). IfTaken read [] y.0 y.1)
+    (ok_is _ _ h) refl
 if_takes title read (l ∷ ls) x h = if_takes_by (bytes_eq (first_word l.text) title) read l ls x h
 
-absent : {A : Type 0} (title : List ℕ) (read : ℕ → List ℕ → Result A ListingFault) (ls : List Line) (next : List (List ℕ)) → texts ls ≡ next → bytes_eq (first_word (get_or next 0 [])) title ≡ false → read_if title read ls ≡ with_rest ls None
+-- a line with another first word is left
+absent : {A : Type 0} (title : List ℕ) (read : ℕ → List ℕ → Result A ListingFault)
+    (ls : List Line) (next : List (List ℕ)) → texts ls ≡ next
+    → bytes_eq (first_word (get_or next 0 [])) title ≡ false → read_if title read ls
+    ≡ with_rest ls None
 absent title read [] next e other = refl
 absent title read (l ∷ ls) next e other =
-    let own : bytes_eq (first_word l.text) title ≡ false = subst (λ ts. bytes_eq (first_word (get_or ts 0 [])) title ≡ false) (sym e) other in
+    let own : bytes_eq (first_word l.text) title ≡ false =
+    subst (λ ts. bytes_eq (first_word (get_or ts 0 [])) title ≡ false) (sym e) other in
     rw own refl
 
-record IfBack {A : Type 0} (title : List ℕ) (read : ℕ → List ℕ → Result A ListingFault) (ls : List Line) (o : Option A) (others : List (List ℕ)) : Type 0 where
+-- the lines after one that may be absent
+record IfBack {A : Type 0} (title : List ℕ) (read : ℕ → List ℕ → Result A ListingFault)
+    (ls : List Line) (o : Option A) (others : List (List ℕ)) : Type 0 where
   rest : List Line
   reads : read_if title read ls ≡ with_rest rest o
   same : texts rest ≡ others
 
-present : {A : Type 0} (title : List ℕ) (read : ℕ → List ℕ → Result A ListingFault) (ls : List Line) (text : List ℕ) (others : List (List ℕ)) (a : A)
-    → bytes_eq (first_word text) title ≡ true → ((n : ℕ) → read n text ≡ Ok a) → texts ls ≡ text ∷ others → IfBack title read ls (Some a) others
+-- a line with this first word is read
+present : {A : Type 0} (title : List ℕ) (read : ℕ → List ℕ → Result A ListingFault)
+    (ls : List Line) (text : List ℕ) (others : List (List ℕ)) (a : A)
+    → bytes_eq (first_word text) title ≡ true → ((n : ℕ) → read n text ≡ Ok a)
+    → texts ls ≡ text ∷ others → IfBack title read ls (Some a) others
 present title read [] text others a is each e = absurd cc
 present title read (l ∷ ls) text others a is each e =
     let first : l.text ≡ text = ap (λ xs. get_or xs 0 []) e in
-    let own : read l.number l.text ≡ Ok a = subst (λ t. read l.number t ≡ Ok a) (sym first) (each l.number) in
-    let titled : bytes_eq (first_word l.text) title ≡ true = subst (λ t. bytes_eq (first_word t) title ≡ true) (sym first) is in
+    let own : read l.number l.text ≡ Ok a =
+    subst (λ t. read l.number t ≡ Ok a) (sym first) (each l.number) in
+    let titled : bytes_eq (first_word l.text) title ≡ true =
+    subst (λ t. bytes_eq (first_word t) title ≡ true) (sym first) is in
     record { rest = ls; reads = rw (titled, own) refl; same = ap (λ xs. drop 1 xs) e }
 
 -- ---- local octets and section 2
 
-pub local_takes : (ls : List Line) (o : Option (List ℕ)) (rest : List Line) → IfTaken read_local ls o rest → (texts ls ≡ local_lines (unwrap_or o []) ++ texts rest) × AreOctets (unwrap_or o [])
+-- the octets for local use that were read are those of the lines
+pub local_takes : (ls : List Line) (o : Option (List ℕ)) (rest : List Line)
+    → IfTaken read_local ls o rest → (texts ls ≡ local_lines (unwrap_or o []) ++ texts rest)
+    × AreOctets (unwrap_or o [])
 local_takes ls None rest h = (ap texts h, All-from_recursion IsOctet [] tt)
-local_takes ls (Some []) rest h = let p = octets_take (codes "local1") _ h.line.number h.line.text [] h.reads in let some = p.some in absurd (omega (arith, some))
+local_takes ls (Some []) rest h = let p =
+    octets_take (codes "local1") _ h.line.number h.line.text [] h.reads in let some = p.some in
+    absurd (omega (arith, some))
 local_takes ls (Some (x ∷ xs)) rest h =
     let p = octets_take (codes "local1") _ h.line.number h.line.text (x ∷ xs) h.reads in
     (ap texts h.front ∙ ap (λ t. t ∷ texts rest) p.line, p.octets)
 
-pub section2_takes : (ls : List Line) (o : Option (List ℕ)) (rest : List Line) → IfTaken read_section2 ls o rest → (texts ls ≡ section2_lines o ++ texts rest) × IfSome o AreOctets
+-- the section 2 that was read is that of the lines
+pub section2_takes : (ls : List Line) (o : Option (List ℕ)) (rest : List Line)
+    → IfTaken read_section2 ls o rest → (texts ls ≡ section2_lines o ++ texts rest)
+    × IfSome o AreOctets
 section2_takes ls None rest h = (ap texts h, tt)
 section2_takes ls (Some os) rest h =
     let p = section2_take h.line.number h.line.text os h.reads in
     (ap texts h.front ∙ ap (λ t. t ∷ texts rest) p.0, p.1)
 
+-- the lines after the octets for local use
 record LocalBack (ls : List Line) (local : List ℕ) (others : List (List ℕ)) : Type 0 where
   found : Option (List ℕ)
   is : unwrap_or found [] ≡ local
   back : IfBack (codes "local1") read_local ls found others
 
-local_backs : (ls : List Line) (local : List ℕ) (next : List (List ℕ)) → AreOctets local → bytes_eq (first_word (get_or next 0 [])) (codes "local1") ≡ false → texts ls ≡ local_lines local ++ next → LocalBack ls local next
-local_backs ls [] next octets other e = record { found = None; is = refl; back = record { rest = ls; reads = absent (codes "local1") read_local ls next e other; same = e } }
+-- octets for local use are read of their line, where there are any
+local_backs : (ls : List Line) (local : List ℕ) (next : List (List ℕ)) → AreOctets local
+    → bytes_eq (first_word (get_or next 0 [])) (codes "local1") ≡ false
+    → texts ls ≡ local_lines local ++ next → LocalBack ls local next
+local_backs ls [] next octets other e =
+    record {
+      found = None;
+      is = refl;
+      back =
+          record {
+            rest = ls;
+            reads = absent (codes "local1") read_local ls next e other;
+            same =
+                e;
+          };
+    }
 local_backs ls (x ∷ xs) next octets other e =
-    record { found = Some (x ∷ xs); is = refl; back = present (codes "local1") read_local ls (octets_line (codes "local1") (x ∷ xs)) next (x ∷ xs) refl (λ n. local_back n x xs octets) e }
+    record {
+      found = Some (x ∷ xs);
+      is = refl;
+      back = present (codes "local1") read_local ls
+          (octets_line (codes "local1") (x ∷ xs)) next (x ∷ xs) refl
+          (λ n. local_back n x xs octets) e;
+    }
 
-pub section2_titled : (os : List ℕ) → bytes_eq (first_word (section2_line os)) (codes "section2") ≡ true
+-- the line of section 2 has its first word
+pub section2_titled : (os : List ℕ) → bytes_eq (first_word (section2_line os)) (codes "section2")
+    ≡ true
 section2_titled [] = refl
 section2_titled (x ∷ xs) = refl
 
-section2_backs : (ls : List Line) (two : Option (List ℕ)) (next : List (List ℕ)) → IfSome two AreOctets → bytes_eq (first_word (get_or next 0 [])) (codes "section2") ≡ false → texts ls ≡ section2_lines two ++ next → IfBack (codes "section2") read_section2 ls two next
-section2_backs ls None next octets other e = record { rest = ls; reads = absent (codes "section2") read_section2 ls next e other; same = e }
+-- section 2 is read of its line, where there is one
+section2_backs : (ls : List Line) (two : Option (List ℕ)) (next : List (List ℕ))
+    → IfSome two AreOctets → bytes_eq (first_word (get_or next 0 [])) (codes "section2") ≡ false
+    → texts ls ≡ section2_lines two ++ next → IfBack (codes "section2") read_section2 ls two next
+section2_backs ls None next octets other e =
+    record { rest = ls; reads = absent (codes "section2") read_section2 ls next e other; same = e }
 section2_backs ls (Some os) next octets other e =
-    present (codes "section2") read_section2 ls (section2_line os) next os (section2_titled os) (λ n. section2_back n os octets) e
+    present (codes "section2") read_section2 ls (section2_line os) next os (section2_titled os)
+    (λ n. section2_back n os octets) e
 
-pub flags_not_section2 : (observed compressed : Bool) → bytes_eq (first_word (flags_line observed compressed)) (codes "section2") ≡ false
+-- the line of flags has not the first word of section 2
+pub flags_not_section2 : (observed compressed : Bool)
+    → bytes_eq (first_word (flags_line observed compressed)) (codes "section2") ≡ false
 flags_not_section2 false false = refl
 flags_not_section2 true false = refl
 flags_not_section2 false true = refl
 flags_not_section2 true true = refl
 
-pub flags_not_local : (observed compressed : Bool) → bytes_eq (first_word (flags_line observed compressed)) (codes "local1") ≡ false
+-- nor that of local octets
+pub flags_not_local : (observed compressed : Bool)
+    → bytes_eq (first_word (flags_line observed compressed)) (codes "local1") ≡ false
 flags_not_local false false = refl
 flags_not_local true false = refl
 flags_not_local false true = refl
 flags_not_local true true = refl
 
-not_local : (two : Option (List ℕ)) (observed compressed : Bool) (others : List (List ℕ)) → bytes_eq (first_word (get_or (section2_lines two ++ flags_line observed compressed ∷ others) 0 [])) (codes "local1") ≡ false
+-- what follows the octets for local use has another first word
+pub not_local : (two : Option (List ℕ)) (observed compressed : Bool) (others : List (List ℕ))
+    → bytes_eq
+    (first_word (get_or (section2_lines two ++ flags_line observed compressed ∷ others) 0 []))
+    (codes "local1") ≡ false
 not_local None observed compressed others = flags_not_local observed compressed
 not_local (Some []) observed compressed others = refl
 not_local (Some (x ∷ xs)) observed compressed others = refl
 
 -- ---- the lines of a message, one after the other
 
+-- the lines of a message from its flags on, and others
 abbrev from_flags : Message → List (List ℕ) → List (List ℕ)
-from_flags m others = flags_line m.observed m.compressed ∷ descriptors_line m.descriptors ∷ flat_map subset_lines m.subsets ++ codes "end" ∷ others
+from_flags m others =
+    flags_line m.observed m.compressed ∷ descriptors_line m.descriptors ∷ flat_map subset_lines
+    m.subsets ++ codes "end" ∷ others
 
+-- the lines of a message in turn, and others
 abbrev in_turn : Message → List (List ℕ) → List (List ℕ)
 in_turn m others =
-    codes "message" ∷ numbers_line (codes "section1") (section1_numbers m.head) ∷ numbers_line (codes "time") (time_numbers m.head)
+    codes "message" ∷ numbers_line (codes "section1") (section1_numbers m.head) ∷ numbers_line
+    (codes "time") (time_numbers m.head)
     ∷ local_lines m.head.local ++ (section2_lines m.section2 ++ from_flags m others)
 
+-- they are its lines before the others
 pub regrouped : (m : Message) (others : List (List ℕ)) → lines_of m ++ others ≡ in_turn m others
 unfolding lines_of
 regrouped m others =
     let last : flags_and_on m ++ others ≡ from_flags m others =
-    ap (λ ls. flags_line m.observed m.compressed ∷ descriptors_line m.descriptors ∷ ls) (append_assoc (flat_map subset_lines m.subsets) (codes "end" ∷ []) others) in
-    ap (λ ls. codes "message" ∷ numbers_line (codes "section1") (section1_numbers m.head) ∷ numbers_line (codes "time") (time_numbers m.head) ∷ ls)
+    ap (λ ls. flags_line m.observed m.compressed ∷ descriptors_line m.descriptors ∷ ls)
+    (append_assoc (flat_map subset_lines m.subsets) (codes "end" ∷ []) others) in
+    ap (λ ls. codes "message" ∷ numbers_line (codes "section1") (section1_numbers m.head)
+    ∷ numbers_line (codes "time") (time_numbers m.head) ∷ ls)
     (append_assoc (local_lines m.head.local) (section2_lines m.section2 ++ flags_and_on m) others
-    ∙ ap (λ ls. local_lines m.head.local ++ ls) (append_assoc (section2_lines m.section2) (flags_and_on m) others ∙ ap (λ ls. section2_lines m.section2 ++ ls) last))
+    ∙ ap (λ ls. local_lines m.head.local ++ ls) (append_assoc (section2_lines m.section2)
+    (flags_and_on m) others ∙ ap (λ ls. section2_lines m.section2 ++ ls) last))
 
 -- ---- the numbers of section 1
 
-pub head_below : (h : Head) → HeadFits h → (are_below section1_limits (section1_numbers h) ≡ true) × (are_below time_limits (time_numbers h) ≡ true)
+-- the numbers of a head are below the limits of their lines
+pub head_below : (h : Head) → HeadFits h → (are_below section1_limits (section1_numbers h) ≡ true)
+    × (are_below time_limits (time_numbers h) ≡ true)
 unfolding are_below
 head_below h fits = (
-  both (lt-ltb h.centre 65536 fits.centre) (both (lt-ltb h.sub_centre 65536 fits.sub_centre) (both (lt-ltb h.update 256 fits.update) (both (lt-ltb h.category 256 fits.category) (both (lt-ltb h.international 256 fits.international) (both (lt-ltb h.local_category 256 fits.local_category) (both (lt-ltb h.master_version 256 fits.master_version) (both (lt-ltb h.local_version 256 fits.local_version) refl))))))),
-  both (lt-ltb h.year 65536 fits.year) (both (lt-ltb h.month 256 fits.month) (both (lt-ltb h.day 256 fits.day) (both (lt-ltb h.hour 256 fits.hour) (both (lt-ltb h.minute 256 fits.minute) (both (lt-ltb h.second 256 fits.second) refl))))),
+  both (lt-ltb h.centre 65536 fits.centre) (both (lt-ltb h.sub_centre 65536 fits.sub_centre)
+      (both (lt-ltb h.update 256 fits.update) (both (lt-ltb h.category 256 fits.category)
+      (both (lt-ltb h.international 256 fits.international)
+      (both (lt-ltb h.local_category 256 fits.local_category)
+      (both (lt-ltb h.master_version 256 fits.master_version)
+      (both (lt-ltb h.local_version 256 fits.local_version) refl))))))),
+  both (lt-ltb h.year 65536 fits.year)
+      (both (lt-ltb h.month 256 fits.month)
+      (both (lt-ltb h.day 256 fits.day)
+      (both (lt-ltb h.hour 256 fits.hour)
+      (both (lt-ltb h.minute 256 fits.minute) (both (lt-ltb h.second 256 fits.second) refl))))),
 )
 
-pub head_fits : (ns ts : List ℕ) (local : Option (List ℕ)) → are_below section1_limits ns ≡ true → are_below time_limits ts ≡ true → AreOctets (unwrap_or local []) → HeadFits (head_with ns ts local)
+-- numbers below these limits are those of a head
+pub head_fits : (ns ts : List ℕ) (local : Option (List ℕ)) → are_below section1_limits ns ≡ true
+    → are_below time_limits ts ≡ true → AreOctets (unwrap_or local [])
+    → HeadFits (head_with ns ts local)
 head_fits ns ts local n t octets = record {
   centre = below_at section1_limits ns 0 n (omega arith);
   sub_centre = below_at section1_limits ns 1 n (omega arith);
@@ -162,18 +264,23 @@ head_fits ns ts local n t octets = record {
 
 -- ---- a message that is read
 
+-- the lines of a message that was read, which can be listed
 pub record MessageTaken (tables : Entries) (ls : List Line) (x : MessageRead) : Type 0 where
   pub front : texts ls ≡ lines_of x.0 ++ texts x.1
   pub can : CanBeListed tables x.0
 
+-- no item is within the limit
 pub none_used : 0 ≤ 16777216
 none_used = omega arith
 
-pub message_takes : LowerLaws → (tables : Entries) (past : ℕ) (ls : List Line) (x : MessageRead) → message_read tables past ls ≡ Ok x → MessageTaken tables ls x
+-- a message that is read is that of the lines
+pub message_takes : LowerLaws → (tables : Entries) (past : ℕ) (ls : List Line) (x : MessageRead)
+    → message_read tables past ls ≡ Ok x → MessageTaken tables ls x
 unfolding message_read
 message_takes laws tables past ls x h =
     let p0 = bind_ok (read_line (read_word (codes "message")) past ls) _ x h in
-    let p1 = bind_ok (read_line (read_numbers (codes "section1") section1_limits) past p0.0.1) _ x p0.2 in
+    let p1 = bind_ok (read_line (read_numbers (codes "section1") section1_limits) past p0.0.1) _ x
+    p0.2 in
     let p2 = bind_ok (read_line (read_numbers (codes "time") time_limits) past p1.0.1) _ x p1.2 in
     let p3 = bind_ok (read_if (codes "local1") read_local p2.0.1) _ x p2.2 in
     let p4 = bind_ok (read_if (codes "section2") read_section2 p3.0.1) _ x p3.2 in
@@ -183,27 +290,43 @@ message_takes laws tables past ls x h =
     let l0 = line_takes (read_word (codes "message")) past ls p0.0 p0.1 in
     let l1 = line_takes (read_numbers (codes "section1") section1_limits) past p0.0.1 p1.0 p1.1 in
     let l2 = line_takes (read_numbers (codes "time") time_limits) past p1.0.1 p2.0 p2.1 in
-    let l3 = local_takes p2.0.1 p3.0.0 p3.0.1 (if_takes (codes "local1") read_local p2.0.1 p3.0 p3.1) in
-    let l4 = section2_takes p3.0.1 p4.0.0 p4.0.1 (if_takes (codes "section2") read_section2 p3.0.1 p4.0 p4.1) in
+    let l3 =
+    local_takes p2.0.1 p3.0.0 p3.0.1 (if_takes (codes "local1") read_local p2.0.1 p3.0 p3.1) in
+    let l4 =
+    section2_takes p3.0.1 p4.0.0 p4.0.1
+    (if_takes (codes "section2") read_section2 p3.0.1 p4.0 p4.1) in
     let l5 = line_takes read_flags past p4.0.1 p5.0 p5.1 in
     let l6 = line_takes (read_descriptors tables) past p5.0.1 p6.0 p6.1 in
-    let w0 = bytes_same l0.line.text (codes "message") (if_ok (bytes_eq l0.line.text (codes "message")) tt p0.0.0 _ l0.reads).0 in
-    let w1 = numbers_take (codes "section1") section1_limits l1.line.number l1.line.text p1.0.0 l1.reads in
+    let w0 =
+    bytes_same l0.line.text (codes "message")
+    (if_ok (bytes_eq l0.line.text (codes "message")) tt p0.0.0 _ l0.reads).0 in
+    let w1 = numbers_take (codes "section1") section1_limits l1.line.number l1.line.text p1.0.0
+    l1.reads in
     let w2 = numbers_take (codes "time") time_limits l2.line.number l2.line.text p2.0.0 l2.reads in
     let w5 = flags_take l5.line.number l5.line.text p5.0.0 l5.reads in
     let w6 = descriptors_take laws.descriptors tables l6.line.number l6.line.text p6.0.0 l6.reads in
     let w7 = subsets_take (length p6.0.1) past 1 (course p6.0.0.tree) 0 p6.0.1 p7.0 p7.1 in
     let eight = eight_by_place p1.0.0 (below_length section1_limits p1.0.0 w1.1) in
     let six = six_by_place p2.0.0 (below_length time_limits p2.0.0 w2.1) in
-    let m : Message = record { head = head_with p1.0.0 p2.0.0 p3.0.0; section2 = p4.0.0; observed = p5.0.0.observed; compressed = p5.0.0.compressed; descriptors = p6.0.0.descriptors; subsets = p7.0.subsets } in
+    let m : Message =
+    record {
+      head = head_with p1.0.0 p2.0.0 p3.0.0;
+      section2 = p4.0.0;
+      observed = p5.0.0.observed;
+      compressed = p5.0.0.compressed;
+      descriptors = p6.0.0.descriptors;
+      subsets = p7.0.subsets;
+    } in
     let e6 = ap texts l6.front ∙ (λ k. w6.line k ∷ w7.front k) in
     let e5 = ap texts l5.front ∙ (λ k. w5 k ∷ e6 k) in
     let e4 = l4.0 ∙ ap (λ zs. section2_lines p4.0.0 ++ zs) e5 in
     let e3 = l3.0 ∙ ap (λ zs. local_lines (unwrap_or p3.0.0 []) ++ zs) e4 in
     let e2 = ap texts l2.front ∙ (λ k. (w2.0 ∙ ap (numbers_line (codes "time")) six) k ∷ e3 k) in
-    let e1 = ap texts l1.front ∙ (λ k. (w1.0 ∙ ap (numbers_line (codes "section1")) (sym eight)) k ∷ e2 k) in
+    let e1 =
+    ap texts l1.front ∙ (λ k. (w1.0 ∙ ap (numbers_line (codes "section1")) (sym eight)) k ∷ e2 k) in
     let e0 = ap texts l0.front ∙ (λ k. w0 k ∷ e1 k) in
-    let fit : AllFitWithin p6.0.0.tree 0 p7.0.subsets p7.0.items = laws.fit p6.0.0.tree 1 0 p7.0.items p7.0.subsets none_used w7.fit in
+    let fit : AllFitWithin p6.0.0.tree 0 p7.0.subsets p7.0.items =
+    laws.fit p6.0.0.tree 1 0 p7.0.items p7.0.subsets none_used w7.fit in
     subst (λ (y : MessageRead). MessageTaken tables ls y) (ok_is _ _ p7.2) (record {
       front = e0 ∙ sym (regrouped m (texts p7.0.rest));
       can = record {
@@ -220,78 +343,134 @@ message_takes laws tables past ls x h =
 
 -- ---- a message that is spelt
 
-pub record MessageBack (tables : Entries) (past : ℕ) (ls : List Line) (m : Message) (others : List (List ℕ)) : Type 0 where
+-- the lines after a message
+pub record MessageBack (tables : Entries) (past : ℕ) (ls : List Line) (m : Message)
+    (others : List (List ℕ)) : Type 0 where
   pub rest : List Line
   pub reads : message_read tables past ls ≡ with_rest rest m
   pub same : texts rest ≡ others
 
 -- there are more lines than subsets
-more_lines : (subsets : List Subset) (others : List (List ℕ)) → length subsets < length (flat_map subset_lines subsets ++ codes "end" ∷ others)
+more_lines : (subsets : List Subset) (others : List (List ℕ)) → length subsets < length
+    (flat_map subset_lines subsets ++ codes "end" ∷ others)
 more_lines [] others = omega arith
 more_lines (s ∷ subsets) others =
     let ih = more_lines subsets others in
-    let joined = append_assoc (map field_line s.fields) (flat_map subset_lines subsets) (codes "end" ∷ others) in
+    let joined = append_assoc (map field_line s.fields) (flat_map subset_lines subsets)
+    (codes "end" ∷ others) in
     let len = ap length joined in
-    let sum = length-append (map field_line s.fields) (flat_map subset_lines subsets ++ codes "end" ∷ others) in
+    let sum =
+    length-append (map field_line s.fields)
+    (flat_map subset_lines subsets ++ codes "end" ∷ others) in
     omega (arith, ih, len, sum)
 
-pub length-texts : (ls : List Line) → length (texts ls) ≡ length ls
-length-texts [] = refl
-length-texts (l ∷ ls) = ap suc (length-texts ls)
-
-fewer_subsets : (ls : List Line) (subsets : List Subset) (others : List (List ℕ)) → texts ls ≡ flat_map subset_lines subsets ++ codes "end" ∷ others → length subsets < length ls
+-- a message has fewer subsets than lines
+fewer_subsets : (ls : List Line) (subsets : List Subset) (others : List (List ℕ))
+    → texts ls ≡ flat_map subset_lines subsets ++ codes "end" ∷ others → length subsets < length ls
 fewer_subsets ls subsets others e =
     let more = more_lines subsets others in
     let same = ap length e in
-    let own = length-texts ls in
+    let own = texts_length ls in
     omega (arith, more, same, own)
 
-goes_on : {A B F : Type 0} (o : Result A F) (k : A → Result B F) (x : A) (y : Result B F) → o ≡ Ok x → k x ≡ y → (o >>= k) ≡ y
-goes_on o k x y is next = ap (λ r. r >>= k) is ∙ next
-
-word_back : (word : List ℕ) (n : ℕ) → read_word word n word ≡ Ok tt
+-- a word is read of itself
+pub word_back : (word : List ℕ) (n : ℕ) → read_word word n word ≡ Ok tt
 word_back word n = rw (same_bytes word word refl) refl
 
+-- no limit of section 1 is above 65,536
 pub limits_most : AllByRecursion (λ l. l ≤ 65536) section1_limits
-limits_most = (omega arith, (omega arith, (omega arith, (omega arith, (omega arith, (omega arith, (omega arith, (omega arith, tt))))))))
+limits_most = (
+  omega arith,
+  (
+    omega arith,
+    (omega arith, (omega arith, (omega arith, (omega arith, (omega arith, (omega arith, tt)))))),
+  ),
+)
 
+-- nor one of the time
 pub time_limits_most : AllByRecursion (λ l. l ≤ 65536) time_limits
-time_limits_most = (omega arith, (omega arith, (omega arith, (omega arith, (omega arith, (omega arith, tt))))))
+time_limits_most =
+    (omega arith, (omega arith, (omega arith, (omega arith, (omega arith, (omega arith, tt))))))
 
-pub message_back : LowerLaws → (tables : Entries) (past : ℕ) (ls : List Line) (m : Message) (others : List (List ℕ)) → CanBeListed tables m → texts ls ≡ lines_of m ++ others → MessageBack tables past ls m others
+-- the line of section 1 but its time is read
+pub section1_back : (n : ℕ) (h : Head) → HeadFits h
+    → read_numbers (codes "section1") section1_limits n
+    (numbers_line (codes "section1") (section1_numbers h))
+    ≡ Ok (section1_numbers h)
+section1_back n h fits =
+    numbers_back (codes "section1") section1_limits n (section1_numbers h)
+    (literal_word (codes "section1") refl) limits_most (head_below h fits).0
+
+-- the line of the time is read
+pub time_back : (n : ℕ) (h : Head) → HeadFits h
+    → read_numbers (codes "time") time_limits n (numbers_line (codes "time") (time_numbers h))
+    ≡ Ok (time_numbers h)
+time_back n h fits =
+    numbers_back (codes "time") time_limits n (time_numbers h)
+    (literal_word (codes "time") refl) time_limits_most (head_below h fits).1
+
+-- a message is read of its lines
+pub message_back : LowerLaws → (tables : Entries) (past : ℕ) (ls : List Line) (m : Message)
+    (others : List (List ℕ)) → CanBeListed tables m → texts ls ≡ lines_of m ++ others
+    → MessageBack tables past ls m others
 unfolding message_read
 message_back laws tables past ls m others can e =
-    let below = head_below m.head can.head in
-    let b0 = line_back (read_word (codes "message")) past ls (codes "message") _ tt (λ n. word_back (codes "message") n) (e ∙ regrouped m others) in
-    let b1 = line_back (read_numbers (codes "section1") section1_limits) past b0.rest (numbers_line (codes "section1") (section1_numbers m.head)) _ (section1_numbers m.head)
-    (λ n. numbers_back (codes "section1") section1_limits n (section1_numbers m.head) (literal_word (codes "section1") refl) limits_most below.0) b0.same in
-    let b2 = line_back (read_numbers (codes "time") time_limits) past b1.rest (numbers_line (codes "time") (time_numbers m.head)) _ (time_numbers m.head)
-    (λ n. numbers_back (codes "time") time_limits n (time_numbers m.head) (literal_word (codes "time") refl) time_limits_most below.1) b1.same in
-    let b3 = local_backs b2.rest m.head.local (section2_lines m.section2 ++ from_flags m others) can.head.local (not_local m.section2 m.observed m.compressed _) b2.same in
-    let b4 = section2_backs b3.back.rest m.section2 (from_flags m others) can.section2 (flags_not_section2 m.observed m.compressed) b3.back.same in
-    let b5 = line_back read_flags past b4.rest (flags_line m.observed m.compressed) _ (record { observed = m.observed; compressed = m.compressed }) (λ n. flags_back n m.observed m.compressed) b4.same in
-    let b6 = line_back (read_descriptors tables) past b5.rest (descriptors_line m.descriptors) _ (record { descriptors = m.descriptors; tree = can.tree })
-    (λ n. descriptors_back laws.descriptors tables n m.descriptors can.tree can.some_descriptor can.descriptors ((laws.builds tables m.descriptors can.tree).1 can.has_tree)) b5.same in
+    let b0 = line_back (read_word (codes "message")) past ls (codes "message") _ tt
+    (λ n. word_back (codes "message") n) (e ∙ regrouped m others) in
+    let b1 = line_back (read_numbers (codes "section1") section1_limits) past b0.rest
+    (numbers_line (codes "section1") (section1_numbers m.head)) _ (section1_numbers m.head)
+    (λ n. section1_back n m.head can.head) b0.same in
+    let b2 = line_back (read_numbers (codes "time") time_limits) past b1.rest
+    (numbers_line (codes "time") (time_numbers m.head)) _ (time_numbers m.head)
+    (λ n. time_back n m.head can.head) b1.same in
+    let b3 = local_backs b2.rest m.head.local (section2_lines m.section2 ++ from_flags m others)
+    can.head.local (not_local m.section2 m.observed m.compressed _) b2.same in
+    let b4 = section2_backs b3.back.rest m.section2 (from_flags m others) can.section2
+    (flags_not_section2 m.observed m.compressed) b3.back.same in
+    let b5 = line_back read_flags past b4.rest (flags_line m.observed m.compressed) _
+    (record { observed = m.observed; compressed = m.compressed })
+    (λ n. flags_back n m.observed m.compressed) b4.same in
+    let b6 = line_back (read_descriptors tables) past b5.rest (descriptors_line m.descriptors) _
+    (record { descriptors = m.descriptors; tree = can.tree })
+    (λ n. descriptors_back laws.descriptors tables n m.descriptors can.tree can.some_descriptor
+    can.descriptors ((laws.builds tables m.descriptors can.tree).1 can.has_tree)) b5.same in
     let few = fewer_subsets b6.rest m.subsets others b6.same in
-    let b7 = subsets_back (length b6.rest) past 1 (course can.tree) 0 b6.rest m.subsets can.items others (λ n. course_printable laws.specs can.tree n) few
+    let b7 = subsets_back (length b6.rest) past 1 (course can.tree) 0 b6.rest m.subsets can.items
+    others (λ n. course_printable laws.specs can.tree n) few
     (laws.counted can.tree 1 0 can.items m.subsets can.fit) b6.same in
-    let head : head_with (section1_numbers m.head) (time_numbers m.head) b3.found ≡ m.head = λ k. record m.head { local = b3.is k } in
+    let head : head_with (section1_numbers m.head) (time_numbers m.head) b3.found ≡ m.head =
+    λ k. record m.head { local = b3.is k } in
     record {
       rest = b7.rest;
-      reads = goes_on _ _ _ _ b0.reads (goes_on _ _ _ _ b1.reads (goes_on _ _ _ _ b2.reads (goes_on _ _ _ _ b3.back.reads (goes_on _ _ _ _ b4.reads (goes_on _ _ _ _ b5.reads (goes_on _ _ _ _ b6.reads (goes_on _ _ _ _ b7.reads (ap (λ (h : Head). with_rest b7.rest (record m { head = h })) head))))))));
+      reads = goes_on _ _ _ _ b0.reads
+          (goes_on _ _ _ _ b1.reads
+          (goes_on _ _ _ _ b2.reads
+          (goes_on _ _ _ _ b3.back.reads
+          (goes_on _ _ _ _ b4.reads
+          (goes_on _ _ _ _ b5.reads
+          (goes_on _ _ _ _ b6.reads
+          (goes_on _ _ _ _ b7.reads
+          (ap (λ (h : Head). with_rest b7.rest (record m { head = h })) head))))))));
       same = b7.same;
     }
 
 -- ---- messages
 
-pub record MessagesTaken (tables : Entries) (ls : List Line) (messages : List Message) : Type 0 where
-  pub front : texts ls ≡ flat_map lines_of messages
-  pub each : AllByRecursion (λ m. CanBeListed tables m) messages
+-- the lines of messages that were read, which can be listed
+pub record MessagesTaken (tables : Entries) (ls : List Line) (messages : List Message) : Type 0
+  where
+    pub front : texts ls ≡ flat_map lines_of messages
+    pub each : AllByRecursion (λ m. CanBeListed tables m) messages
 
-pub messages_take : LowerLaws → (left : ℕ) (tables : Entries) (past : ℕ) (ls : List Line) (messages : List Message) → messages_read left tables past ls ≡ Ok messages → MessagesTaken tables ls messages
+-- messages that are read are those of the lines
+pub messages_take : LowerLaws → (left : ℕ) (tables : Entries) (past : ℕ) (ls : List Line)
+    (messages : List Message) → messages_read left tables past ls ≡ Ok messages
+    → MessagesTaken tables ls messages
 unfolding messages_read
-messages_take laws zero tables past [] messages h = subst (λ ms. MessagesTaken tables [] ms) (ok_is _ _ h) (record { front = refl; each = tt })
-messages_take laws (suc left) tables past [] messages h = subst (λ ms. MessagesTaken tables [] ms) (ok_is _ _ h) (record { front = refl; each = tt })
+messages_take laws zero tables past [] messages h =
+    subst (λ ms. MessagesTaken tables [] ms) (ok_is _ _ h) (record { front = refl; each = tt })
+messages_take laws (suc left) tables past [] messages h =
+    subst (λ ms. MessagesTaken tables [] ms) (ok_is _ _ h) (record { front = refl; each = tt })
 messages_take laws zero tables past (l ∷ ls) messages h = absurd cc
 messages_take laws (suc left) tables past (l ∷ ls) messages h =
     let p = bind_ok (message_read tables past (l ∷ ls)) _ messages h in
@@ -303,11 +482,14 @@ messages_take laws (suc left) tables past (l ∷ ls) messages h =
       each = (own.can, others.each);
     })
 
+-- a message has a line
 pub some_line : (m : Message) (others : List (List ℕ)) → 0 < length (lines_of m ++ others)
 unfolding lines_of
 some_line m others = omega arith
 
-pub length-messages : (messages : List Message) → length messages ≤ length (flat_map lines_of messages)
+-- there are no more messages than lines
+pub length-messages : (messages : List Message) → length messages ≤ length
+    (flat_map lines_of messages)
 length-messages [] = omega arith
 length-messages (m ∷ messages) =
     let ih = length-messages messages in
@@ -316,7 +498,10 @@ length-messages (m ∷ messages) =
     let sum = length-append (lines_of m) (flat_map lines_of messages) in
     omega (arith, ih, some, none, sum)
 
-pub messages_back : LowerLaws → (left : ℕ) (tables : Entries) (past : ℕ) (ls : List Line) (messages : List Message) → length messages ≤ left → AllByRecursion (λ m. CanBeListed tables m) messages
+-- messages are read of their lines
+pub messages_back : LowerLaws → (left : ℕ) (tables : Entries) (past : ℕ) (ls : List Line)
+    (messages : List Message) → length messages ≤ left
+    → AllByRecursion (λ m. CanBeListed tables m) messages
     → texts ls ≡ flat_map lines_of messages → messages_read left tables past ls ≡ Ok messages
 unfolding messages_read
 messages_back laws zero tables past [] [] few each e = refl
@@ -325,8 +510,10 @@ messages_back laws left tables past (l ∷ ls) [] few each e = absurd cc
 messages_back laws zero tables past [] (m ∷ messages) few each e = absurd (omega (arith, few))
 messages_back laws zero tables past (l ∷ ls) (m ∷ messages) few each e = absurd (omega (arith, few))
 messages_back laws (suc left) tables past [] (m ∷ messages) few each e =
-    let some = some_line m (flat_map lines_of messages) in let none = ap length e in absurd (omega (arith, some, none))
+    let some = some_line m (flat_map lines_of messages) in let none = ap length e in
+    absurd (omega (arith, some, none))
 messages_back laws (suc left) tables past (l ∷ ls) (m ∷ messages) few each e =
     let own = message_back laws tables past (l ∷ ls) m (flat_map lines_of messages) each.0 e in
-    let others = messages_back laws left tables past own.rest messages (omega (arith, few)) each.1 own.same in
+    let others = messages_back laws left tables past own.rest messages (omega (arith, few)) each.1
+    own.same in
     rw (own.reads, others) refl

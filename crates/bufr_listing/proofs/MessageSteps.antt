@@ -1,5 +1,8 @@
--- The lines of a message one after the other, and messages one after the other: for their readers.
-use Rattle.std.proofs.Common.{◌≡◌, ℕ, zero, suc, ◌+◌, ◌<◌, ◌≤◌, Bool, true, false, List, [], ◌∷◌, ◌++◌, append_assoc, length, length-append, codes, Result, Ok, Err, refl, sym, ap, ◌∙◌, subst, arith}
+-- The lines of a message one after the other, and messages one after the other: for their readers,
+-- and so for `read`.
+use Rattle.std.proofs.Common.{◌≡◌, ℕ, zero, suc, ◌+◌, ◌<◌, ◌≤◌, Bool, true, false, List, [], ◌∷◌}
+use Rattle.std.proofs.Common.{◌++◌, append_assoc, length, length-append, codes, Result, Ok, Err}
+use Rattle.std.proofs.Common.{refl, sym, ap, ◌∙◌, arith}
 use Rattle.std.specs.Prelude.{Option, Some, None, if◌then◌else◌}
 use Rattle.std.specs.List.{flat_map}
 use Rattle.std.specs.Str.{bytes_eq}
@@ -17,46 +20,78 @@ use Rattle.std.specs.Option.{is_some}
 use Rattle.bufr_listing.specs.declared.lines.TextLine.{TextLine}
 use Rattle.bufr_listing.specs.Cursors.{IsNext, printed}
 use Rattle.bufr_listing.specs.Lines.{Line, texts, first_word, subset_lines}
-use Rattle.bufr_listing.specs.Reading.{with_rest, read_line, read_if, read_word, read_numbers, read_local, read_section2, Flags, read_flags, Described, read_descriptors, SubsetsListed, subsets_read, subsets_of, section1_limits, time_limits, head_with, head_read, MessageRead, message_read, messages_read}
+use Rattle.bufr_listing.specs.Reading.{with_rest, read_line, read_if, read_word, read_numbers}
+use Rattle.bufr_listing.specs.Reading.{read_local, read_section2, Flags, read_flags, Described}
+use Rattle.bufr_listing.specs.Reading.{read_descriptors, SubsetsListed, subsets_read, subsets_of}
+use Rattle.bufr_listing.specs.Reading.{section1_limits, time_limits, head_with, head_read}
+use Rattle.bufr_listing.specs.Reading.{MessageRead, message_read, messages_read}
 use Rattle.bufr_listing.proofs.ListFacts.{bind_ok}
 use Rattle.bufr_listing.proofs.SubsetFacts.{ok_is, subsets_take}
-use Rattle.bufr_listing.proofs.LoopFacts.{goes_on, fails_on, texts_length, line_shorter}
+use Rattle.bufr_listing.proofs.LoopFacts.{goes_on, texts_length, line_shorter}
 
 -- ---- section 1 first
 
-bind_one : {D E G F : Type 0} (d : Result D F) (e : D → Result E F) (k : E → Result G F) → ((d >>= λ w. e w) >>= k) ≡ (d >>= λ w. (e w >>= k))
+-- an answer from one step, and then another
+bind_one : {D E G F : Type 0} (d : Result D F) (e : D → Result E F) (k : E → Result G F)
+    → ((d >>= λ w. e w) >>= k) ≡ (d >>= λ w. (e w >>= k))
 bind_one (Ok w) e k = refl
 bind_one (Err f) e k = refl
 
-bind_two : {C D E G F : Type 0} (c : Result C F) (d : C → Result D F) (e : C → D → Result E F) (k : E → Result G F)
+-- from two steps
+bind_two : {C D E G F : Type 0} (c : Result C F) (d : C → Result D F) (e : C → D → Result E F)
+    (k : E → Result G F)
     → ((c >>= λ z. d z >>= λ w. e z w) >>= k) ≡ (c >>= λ z. d z >>= λ w. (e z w >>= k))
 bind_two (Ok z) d e k = bind_one (d z) (e z) k
 bind_two (Err f) d e k = refl
 
-bind_three : {B C D E G F : Type 0} (b : Result B F) (c : B → Result C F) (d : B → C → Result D F) (e : B → C → D → Result E F) (k : E → Result G F)
-    → ((b >>= λ y. c y >>= λ z. d y z >>= λ w. e y z w) >>= k) ≡ (b >>= λ y. c y >>= λ z. d y z >>= λ w. (e y z w >>= k))
+-- from three steps
+bind_three : {B C D E G F : Type 0} (b : Result B F) (c : B → Result C F) (d : B → C → Result D F)
+    (e : B → C → D → Result E F) (k : E → Result G F)
+    → ((b >>= λ y. c y >>= λ z. d y z >>= λ w. e y z w) >>= k)
+    ≡ (b >>= λ y. c y >>= λ z. d y z >>= λ w. (e y z w >>= k))
 bind_three (Ok y) c d e k = bind_two (c y) (d y) (e y) k
 bind_three (Err f) c d e k = refl
 
-bind_four : {A B C D E G F : Type 0} (a : Result A F) (b : A → Result B F) (c : A → B → Result C F) (d : A → B → C → Result D F) (e : A → B → C → D → Result E F) (k : E → Result G F)
-    → ((a >>= λ x. b x >>= λ y. c x y >>= λ z. d x y z >>= λ w. e x y z w) >>= k) ≡ (a >>= λ x. b x >>= λ y. c x y >>= λ z. d x y z >>= λ w. (e x y z w >>= k))
+-- from four steps
+bind_four : {A B C D E G F : Type 0} (a : Result A F) (b : A → Result B F)
+    (c : A → B → Result C F) (d : A → B → C → Result D F) (e : A → B → C → D → Result E F)
+    (k : E → Result G F)
+    → ((a >>= λ x. b x >>= λ y. c x y >>= λ z. d x y z >>= λ w. e x y z w) >>= k)
+    ≡ (a >>= λ x. b x >>= λ y. c x y >>= λ z. d x y z >>= λ w. (e x y z w >>= k))
 bind_four (Ok x) b c d e k = bind_three (b x) (c x) (d x) (e x) k
 bind_four (Err f) b c d e k = refl
 
 -- what follows section 1, section 2 and the flags
-abbrev pub from_descriptors : Entries → ℕ → Head → Option (List ℕ) → Flags → List Line → Result MessageRead ListingFault
+abbrev pub from_descriptors : Entries → ℕ → Head → Option (List ℕ) → Flags → List Line
+    → Result MessageRead ListingFault
 from_descriptors tables past head two flags ls =
     read_line (read_descriptors tables) past ls
     >>= λ list. subsets_read (length list.1) past (course list.0.tree) 0 list.1
-    >>= λ found. with_rest found.rest (record { head = head; section2 = two; observed = flags.observed; compressed = flags.compressed; descriptors = list.0.descriptors; subsets = found.subsets })
+    >>= λ found. with_rest found.rest
+    (record {
+      head = head;
+      section2 = two;
+      observed = flags.observed;
+      compressed =
+          flags.compressed;
+      descriptors = list.0.descriptors;
+      subsets = found.subsets;
+    })
 
-abbrev pub from_flags : Entries → ℕ → Head → Option (List ℕ) → List Line → Result MessageRead ListingFault
-from_flags tables past head two ls = read_line read_flags past ls >>= λ flags. from_descriptors tables past head two flags.0 flags.1
+-- what follows section 1 and section 2
+abbrev pub from_flags : Entries → ℕ → Head → Option (List ℕ) → List Line
+    → Result MessageRead ListingFault
+from_flags tables past head two ls =
+    read_line read_flags past ls >>= λ flags. from_descriptors tables past head two flags.0 flags.1
 
+-- what follows section 1
 abbrev pub from_section2 : Entries → ℕ → Head → List Line → Result MessageRead ListingFault
-from_section2 tables past head ls = read_if (codes "section2") read_section2 ls >>= λ two. from_flags tables past head two.0 two.1
+from_section2 tables past head ls = read_if (codes "section2") read_section2 ls >>= λ two.
+    from_flags tables past head two.0 two.1
 
-by_head : (tables : Entries) (past : ℕ) (ls : List Line) → message_read tables past ls ≡ (head_read past ls >>= λ h. from_section2 tables past h.0 h.1)
+-- a message is section 1 and what follows
+by_head : (tables : Entries) (past : ℕ) (ls : List Line) → message_read tables past ls
+    ≡ (head_read past ls >>= λ h. from_section2 tables past h.0 h.1)
 unfolding message_read
 by_head tables past ls =
     sym (bind_four
@@ -69,104 +104,207 @@ by_head tables past ls =
 
 -- ---- step by step
 
-pub at_section2 : (tables : Entries) (past : ℕ) (ls l1 : List Line) (h : Head) → head_read past ls ≡ Ok (h, l1) → message_read tables past ls ≡ from_section2 tables past h l1
-at_section2 tables past ls l1 h e = by_head tables past ls ∙ ap (λ (r : Result (Head × List Line) ListingFault). r >>= λ x. from_section2 tables past x.0 x.1) e
+-- where section 1 was read
+pub at_section2 : (tables : Entries) (past : ℕ) (ls l1 : List Line) (h : Head) → head_read past ls
+    ≡ Ok (h, l1) → message_read tables past ls ≡ from_section2 tables past h l1
+at_section2 tables past ls l1 h e =
+    by_head tables past ls ∙ ap (λ (r : Result (Head × List Line) ListingFault). r >>= λ x.
+    from_section2 tables past x.0 x.1) e
 
-pub at_flags : (tables : Entries) (past : ℕ) (ls l1 l2 : List Line) (h : Head) (two : Option (List ℕ)) → head_read past ls ≡ Ok (h, l1) → read_if (codes "section2") read_section2 l1 ≡ Ok (two, l2)
+-- where section 2 was read too
+pub at_flags : (tables : Entries) (past : ℕ) (ls l1 l2 : List Line) (h : Head)
+    (two : Option (List ℕ)) → head_read past ls ≡ Ok (h, l1)
+    → read_if (codes "section2") read_section2 l1 ≡ Ok (two, l2)
     → message_read tables past ls ≡ from_flags tables past h two l2
-at_flags tables past ls l1 l2 h two e f = at_section2 tables past ls l1 h e ∙ ap (λ (r : Result (Option (List ℕ) × List Line) ListingFault). r >>= λ x. from_flags tables past h x.0 x.1) f
+at_flags tables past ls l1 l2 h two e f =
+    at_section2 tables past ls l1 h e
+    ∙ ap (λ (r : Result (Option (List ℕ) × List Line) ListingFault). r >>= λ x.
+    from_flags tables past h x.0 x.1) f
 
-pub at_descriptors : (tables : Entries) (past : ℕ) (ls l1 l2 l3 : List Line) (h : Head) (two : Option (List ℕ)) (flags : Flags) → head_read past ls ≡ Ok (h, l1) → read_if (codes "section2") read_section2 l1 ≡ Ok (two, l2)
-    → read_line read_flags past l2 ≡ Ok (flags, l3) → message_read tables past ls ≡ from_descriptors tables past h two flags l3
-at_descriptors tables past ls l1 l2 l3 h two flags e f g = at_flags tables past ls l1 l2 h two e f ∙ ap (λ (r : Result (Flags × List Line) ListingFault). r >>= λ x. from_descriptors tables past h two x.0 x.1) g
+-- where the flags were read too
+pub at_descriptors : (tables : Entries) (past : ℕ) (ls l1 l2 l3 : List Line) (h : Head)
+    (two : Option (List ℕ)) (flags : Flags) → head_read past ls ≡ Ok (h, l1)
+    → read_if (codes "section2") read_section2 l1 ≡ Ok (two, l2)
+    → read_line read_flags past l2 ≡ Ok (flags, l3) → message_read tables past ls
+    ≡ from_descriptors tables past h two flags l3
+at_descriptors tables past ls l1 l2 l3 h two flags e f g = at_flags tables past ls l1 l2 h two e f
+    ∙ ap (λ (r : Result (Flags × List Line) ListingFault). r >>= λ x. from_descriptors tables past
+    h two x.0 x.1) g
 
 -- what follows the descriptors
-abbrev pub from_subsets : ℕ → Head → Option (List ℕ) → Flags → Described → List Line → Result MessageRead ListingFault
+abbrev pub from_subsets : ℕ → Head → Option (List ℕ) → Flags → Described → List Line
+    → Result MessageRead ListingFault
 from_subsets past head two flags list ls =
     subsets_read (length ls) past (course list.tree) 0 ls
-    >>= λ found. with_rest found.rest (record { head = head; section2 = two; observed = flags.observed; compressed = flags.compressed; descriptors = list.descriptors; subsets = found.subsets })
+    >>= λ found. with_rest found.rest
+    (record {
+      head = head;
+      section2 = two;
+      observed = flags.observed;
+      compressed =
+          flags.compressed;
+      descriptors = list.descriptors;
+      subsets = found.subsets;
+    })
 
-pub at_subsets : (tables : Entries) (past : ℕ) (ls l1 l2 l3 l4 : List Line) (h : Head) (two : Option (List ℕ)) (flags : Flags) (list : Described) → head_read past ls ≡ Ok (h, l1) → read_if (codes "section2") read_section2 l1 ≡ Ok (two, l2)
-    → read_line read_flags past l2 ≡ Ok (flags, l3) → read_line (read_descriptors tables) past l3 ≡ Ok (list, l4) → message_read tables past ls ≡ from_subsets past h two flags list l4
+-- where the descriptors were read too
+pub at_subsets : (tables : Entries) (past : ℕ) (ls l1 l2 l3 l4 : List Line) (h : Head)
+    (two : Option (List ℕ)) (flags : Flags) (list : Described) → head_read past ls ≡ Ok (h, l1)
+    → read_if (codes "section2") read_section2 l1 ≡ Ok (two, l2)
+    → read_line read_flags past l2 ≡ Ok (flags, l3) → read_line (read_descriptors tables) past l3
+    ≡ Ok (list, l4) → message_read tables past ls ≡ from_subsets past h two flags list l4
 at_subsets tables past ls l1 l2 l3 l4 h two flags list e f g d =
-    at_descriptors tables past ls l1 l2 l3 h two flags e f g ∙ ap (λ (r : Result (Described × List Line) ListingFault). r >>= λ x. from_subsets past h two flags x.0 x.1) d
+    at_descriptors tables past ls l1 l2 l3 h two flags e f g
+    ∙ ap (λ (r : Result (Described × List Line) ListingFault). r >>= λ x.
+    from_subsets past h two flags x.0 x.1) d
 
 -- ---- faults
 
-pub bind_fails : {A B : Type 0} (o : Result A ListingFault) (k : A → Result B ListingFault) (e : Failure ListingFault) → Fails e o → Fails e (o >>= k)
+-- what fails first fails
+pub bind_fails : {A B : Type 0} (o : Result A ListingFault) (k : A → Result B ListingFault)
+    (e : Failure ListingFault) → Fails e o → Fails e (o >>= k)
 bind_fails o k OutOfMemory h = tt
 bind_fails o k (Fault f) h = ap (λ r. r >>= k) h
 
-pub same_fails : {A : Type 0} (x y : Result A ListingFault) (e : Failure ListingFault) → x ≡ y → Fails e y → Fails e x
+-- the same answers fail alike
+pub same_fails : {A : Type 0} (x y : Result A ListingFault) (e : Failure ListingFault) → x ≡ y
+    → Fails e y → Fails e x
 same_fails x y OutOfMemory is h = tt
 same_fails x y (Fault f) is h = is ∙ h
 
-pub head_fails : (tables : Entries) (past : ℕ) (ls : List Line) (e : Failure ListingFault) → Fails e (head_read past ls) → Fails e (message_read tables past ls)
-head_fails tables past ls e h = same_fails _ _ e (by_head tables past ls) (bind_fails (head_read past ls) (λ x. from_section2 tables past x.0 x.1) e h)
+-- where section 1 fails, the message does
+pub head_fails : (tables : Entries) (past : ℕ) (ls : List Line) (e : Failure ListingFault)
+    → Fails e (head_read past ls) → Fails e (message_read tables past ls)
+head_fails tables past ls e h =
+    same_fails _ _ e (by_head tables past ls)
+    (bind_fails (head_read past ls) (λ x. from_section2 tables past x.0 x.1) e h)
 
-pub section2_fails : (tables : Entries) (past : ℕ) (ls l1 : List Line) (h : Head) (e : Failure ListingFault) → head_read past ls ≡ Ok (h, l1)
+-- where section 2 fails, it does
+pub section2_fails : (tables : Entries) (past : ℕ) (ls l1 : List Line) (h : Head)
+    (e : Failure ListingFault) → head_read past ls ≡ Ok (h, l1)
     → Fails e (read_if (codes "section2") read_section2 l1) → Fails e (message_read tables past ls)
-section2_fails tables past ls l1 h e a fails = same_fails _ _ e (at_section2 tables past ls l1 h a) (bind_fails (read_if (codes "section2") read_section2 l1) (λ x. from_flags tables past h x.0 x.1) e fails)
+section2_fails tables past ls l1 h e a fails =
+    same_fails _ _ e (at_section2 tables past ls l1 h a)
+    (bind_fails (read_if (codes "section2") read_section2 l1)
+    (λ x. from_flags tables past h x.0 x.1) e fails)
 
-pub flags_fail : (tables : Entries) (past : ℕ) (ls l1 l2 : List Line) (h : Head) (two : Option (List ℕ)) (e : Failure ListingFault) → head_read past ls ≡ Ok (h, l1) → read_if (codes "section2") read_section2 l1 ≡ Ok (two, l2)
+-- where the flags fail, it does
+pub flags_fail : (tables : Entries) (past : ℕ) (ls l1 l2 : List Line) (h : Head)
+    (two : Option (List ℕ)) (e : Failure ListingFault) → head_read past ls ≡ Ok (h, l1)
+    → read_if (codes "section2") read_section2 l1 ≡ Ok (two, l2)
     → Fails e (read_line read_flags past l2) → Fails e (message_read tables past ls)
-flags_fail tables past ls l1 l2 h two e a b fails = same_fails _ _ e (at_flags tables past ls l1 l2 h two a b) (bind_fails (read_line read_flags past l2) (λ x. from_descriptors tables past h two x.0 x.1) e fails)
+flags_fail tables past ls l1 l2 h two e a b fails =
+    same_fails _ _ e (at_flags tables past ls l1 l2 h two a b)
+    (bind_fails (read_line read_flags past l2) (λ x. from_descriptors tables past h two x.0 x.1) e
+    fails)
 
-pub descriptors_fail : (tables : Entries) (past : ℕ) (ls l1 l2 l3 : List Line) (h : Head) (two : Option (List ℕ)) (flags : Flags) (e : Failure ListingFault) → head_read past ls ≡ Ok (h, l1) → read_if (codes "section2") read_section2 l1 ≡ Ok (two, l2)
-    → read_line read_flags past l2 ≡ Ok (flags, l3) → Fails e (read_line (read_descriptors tables) past l3) → Fails e (message_read tables past ls)
+-- where the descriptors fail, it does
+pub descriptors_fail : (tables : Entries) (past : ℕ) (ls l1 l2 l3 : List Line) (h : Head)
+    (two : Option (List ℕ)) (flags : Flags) (e : Failure ListingFault) → head_read past ls
+    ≡ Ok (h, l1) → read_if (codes "section2") read_section2 l1 ≡ Ok (two, l2)
+    → read_line read_flags past l2 ≡ Ok (flags, l3)
+    → Fails e (read_line (read_descriptors tables) past l3) → Fails e (message_read tables past ls)
 descriptors_fail tables past ls l1 l2 l3 h two flags e a b c fails =
-    same_fails _ _ e (at_descriptors tables past ls l1 l2 l3 h two flags a b c) (bind_fails (read_line (read_descriptors tables) past l3) (λ x. from_subsets past h two flags x.0 x.1) e fails)
+    same_fails _ _ e (at_descriptors tables past ls l1 l2 l3 h two flags a b c)
+    (bind_fails (read_line (read_descriptors tables) past l3)
+    (λ x. from_subsets past h two flags x.0 x.1) e fails)
 
-map_fails : (o : Result SubsetsListed ListingFault) (e : Failure ListingFault) → Fails {Y = List Subset × List Line} e (result_map (λ r. (r.subsets, r.rest)) o) → Fails e o
+-- what fails when it is changed failed before
+map_fails : (o : Result SubsetsListed ListingFault) (e : Failure ListingFault)
+    → Fails {Y = List Subset × List Line} e (result_map (λ r. (r.subsets, r.rest)) o) → Fails e o
 map_fails o OutOfMemory h = tt
 map_fails (Ok r) (Fault f) h = absurd cc
 map_fails (Err g) (Fault f) h = let same : g ≡ f = cc in ap Err same
 
-pub subsets_fail : (tables : Entries) (past : ℕ) (ls l1 l2 l3 l4 : List Line) (h : Head) (two : Option (List ℕ)) (flags : Flags) (list : Described) (e : Failure ListingFault) → head_read past ls ≡ Ok (h, l1)
-    → read_if (codes "section2") read_section2 l1 ≡ Ok (two, l2) → read_line read_flags past l2 ≡ Ok (flags, l3) → read_line (read_descriptors tables) past l3 ≡ Ok (list, l4)
+-- where the subsets fail, the message does
+pub subsets_fail : (tables : Entries) (past : ℕ) (ls l1 l2 l3 l4 : List Line) (h : Head)
+    (two : Option (List ℕ)) (flags : Flags) (list : Described) (e : Failure ListingFault)
+    → head_read past ls ≡ Ok (h, l1)
+    → read_if (codes "section2") read_section2 l1 ≡ Ok (two, l2) → read_line read_flags past l2
+    ≡ Ok (flags, l3) → read_line (read_descriptors tables) past l3 ≡ Ok (list, l4)
     → Fails e (subsets_of past (course list.tree) l4) → Fails e (message_read tables past ls)
 subsets_fail tables past ls l1 l2 l3 l4 h two flags list e a b c d fails =
     same_fails _ _ e (at_subsets tables past ls l1 l2 l3 l4 h two flags list a b c d)
-    (bind_fails (subsets_read (length l4) past (course list.tree) 0 l4) _ e (map_fails (subsets_read (length l4) past (course list.tree) 0 l4) e fails))
+    (bind_fails (subsets_read (length l4) past (course list.tree) 0 l4) _ e
+    (map_fails (subsets_read (length l4) past (course list.tree) 0 l4) e fails))
 
-map_ok : (o : Result SubsetsListed ListingFault) (x : List Subset × List Line) → result_map (λ r. (r.subsets, r.rest)) o ≡ Ok x → (r : SubsetsListed) × (o ≡ Ok r) × ((r.subsets, r.rest) ≡ x)
+-- what was answered before it was changed
+map_ok : (o : Result SubsetsListed ListingFault) (x : List Subset × List Line)
+    → result_map (λ r. (r.subsets, r.rest)) o ≡ Ok x → (r : SubsetsListed) × (o ≡ Ok r)
+    × ((r.subsets, r.rest) ≡ x)
 map_ok (Ok r) x h = (r, refl, ok_is (r.subsets, r.rest) x h)
 map_ok (Err f) x h = absurd cc
 
 -- the message of its lines
-pub message_is : (tables : Entries) (past : ℕ) (ls l1 l2 l3 l4 l5 : List Line) (h : Head) (two : Option (List ℕ)) (flags : Flags) (list : Described) (subsets : List Subset) → head_read past ls ≡ Ok (h, l1)
-    → read_if (codes "section2") read_section2 l1 ≡ Ok (two, l2) → read_line read_flags past l2 ≡ Ok (flags, l3) → read_line (read_descriptors tables) past l3 ≡ Ok (list, l4)
+pub message_is : (tables : Entries) (past : ℕ) (ls l1 l2 l3 l4 l5 : List Line) (h : Head)
+    (two : Option (List ℕ)) (flags : Flags) (list : Described) (subsets : List Subset)
+    → head_read past ls ≡ Ok (h, l1)
+    → read_if (codes "section2") read_section2 l1 ≡ Ok (two, l2) → read_line read_flags past l2
+    ≡ Ok (flags, l3) → read_line (read_descriptors tables) past l3 ≡ Ok (list, l4)
     → subsets_of past (course list.tree) l4 ≡ Ok (subsets, l5)
-    → message_read tables past ls ≡ Ok (record { head = h; section2 = two; observed = flags.observed; compressed = flags.compressed; descriptors = list.descriptors; subsets = subsets }, l5)
+    → message_read tables past ls
+    ≡ Ok (
+      record {
+        head = h;
+        section2 = two;
+        observed = flags.observed;
+        compressed =
+            flags.compressed;
+        descriptors = list.descriptors;
+        subsets = subsets;
+      },
+      l5,
+    )
 message_is tables past ls l1 l2 l3 l4 l5 h two flags list subsets a b c d s =
     let p = map_ok (subsets_read (length l4) past (course list.tree) 0 l4) (subsets, l5) s in
     at_subsets tables past ls l1 l2 l3 l4 h two flags list a b c d
-    ∙ goes_on _ _ p.0 _ p.1 (ap (λ (x : List Subset × List Line). with_rest x.1 (record { head = h; section2 = two; observed = flags.observed; compressed = flags.compressed; descriptors = list.descriptors; subsets = x.0 })) p.2)
+    ∙ goes_on _ _ p.0 _ p.1
+    (ap (λ (x : List Subset × List Line). with_rest x.1
+    (record {
+      head = h;
+      section2 = two;
+      observed = flags.observed;
+      compressed = flags.compressed;
+      descriptors = list.descriptors;
+      subsets = x.0;
+    })) p.2)
 
 -- ---- messages
 
 -- whether there is a next line
-pub some_next : (ls : List Line) (o : Option TextLine) → IsNext ls o → is_some o ≡ true → ls ≡ [] → ⊥
+pub some_next : (ls : List Line) (o : Option TextLine) → IsNext ls o → is_some o ≡ true → ls ≡ []
+    → ⊥
 some_next ls None next h none = cc h
 some_next ls (Some l) next h none = let e : printed l ∷ next.0 ≡ [] = sym next.1 ∙ none in cc e
 
+-- no line comes next, no line is left
 pub none_next : (ls : List Line) (o : Option TextLine) → IsNext ls o → is_some o ≡ false → ls ≡ []
 none_next ls None next h = next
 none_next ls (Some l) next h = absurd cc
 
 -- a message takes a line at least
-if_shorter_by : {A : Type 0} (b : Bool) (o : Result A ListingFault) (l : Line) (ls : List Line) (x : Option A × List Line) → (if b then (o >>= λ a. with_rest ls (Some a)) else with_rest (l ∷ ls) None) ≡ Ok x → length x.1 ≤ length (l ∷ ls)
+if_shorter_by : {A : Type 0} (b : Bool) (o : Result A ListingFault) (l : Line) (ls : List Line)
+    (x : Option A × List Line) → (if b then (o >>= λ a. with_rest ls (Some a)) else with_rest
+    (l ∷ ls) None) ≡ Ok x → length x.1 ≤ length (l ∷ ls)
 if_shorter_by {A} true o l ls x h =
     let p = bind_ok o (λ a. with_rest ls (Some a)) x h in
     let e = ap (λ (y : Option A × List Line). length y.1) (ok_is _ _ p.2) in
     omega (arith, e)
-if_shorter_by {A} false o l ls x h = let e = ap (λ (y : Option A × List Line). length y.1) (ok_is _ _ h) in omega (arith, e)
+if_shorter_by {A} false o l ls x h = let e =
+    ap (λ (y : Option A × List Line). length y.1) (ok_is _ _ h) in omega (arith, e)
 
-if_shorter : {A : Type 0} (title : List ℕ) (read : ℕ → List ℕ → Result A ListingFault) (ls : List Line) (x : Option A × List Line) → read_if title read ls ≡ Ok x → length x.1 ≤ length ls
-if_shorter {A} title read [] x h = let e = ap (λ (y : Option A × List Line). length y.1) (ok_is _ _ h) in omega (arith, e)
-if_shorter title read (l ∷ ls) x h = if_shorter_by (bytes_eq (first_word l.text) title) (read l.number l.text) l ls x h
+-- behind a line that may be absent there are no more lines than before
+if_shorter : {A : Type 0} (title : List ℕ) (read : ℕ → List ℕ → Result A ListingFault)
+    (ls : List Line) (x : Option A × List Line) → read_if title read ls ≡ Ok x
+    → length x.1 ≤ length ls
+if_shorter {A} title read [] x h = let e =
+    ap (λ (y : Option A × List Line). length y.1) (ok_is _ _ h) in omega (arith, e)
+if_shorter title read (l ∷ ls) x h =
+    if_shorter_by (bytes_eq (first_word l.text) title) (read l.number l.text) l ls x h
 
-subsets_shorter : (left past : ℕ) (c : ℕ → Course) (ls : List Line) (r : SubsetsListed) → subsets_read left past c 0 ls ≡ Ok r → length r.rest ≤ length ls
+-- behind subsets there are no more
+subsets_shorter : (left past : ℕ) (c : ℕ → Course) (ls : List Line) (r : SubsetsListed)
+    → subsets_read left past c 0 ls ≡ Ok r → length r.rest ≤ length ls
 subsets_shorter left past c ls r h =
     let own = subsets_take left past 1 c 0 ls r h in
     let front = ap length own.front in
@@ -175,11 +313,14 @@ subsets_shorter left past c ls r h =
     let b = texts_length r.rest in
     omega (arith, front, sum, a, b)
 
-pub message_shorter : (tables : Entries) (past : ℕ) (ls : List Line) (x : MessageRead) → message_read tables past ls ≡ Ok x → length x.1 < length ls
+-- behind a message there are fewer
+pub message_shorter : (tables : Entries) (past : ℕ) (ls : List Line) (x : MessageRead)
+    → message_read tables past ls ≡ Ok x → length x.1 < length ls
 unfolding message_read
 message_shorter tables past ls x h =
     let p0 = bind_ok (read_line (read_word (codes "message")) past ls) _ x h in
-    let p1 = bind_ok (read_line (read_numbers (codes "section1") section1_limits) past p0.0.1) _ x p0.2 in
+    let p1 = bind_ok (read_line (read_numbers (codes "section1") section1_limits) past p0.0.1) _ x
+    p0.2 in
     let p2 = bind_ok (read_line (read_numbers (codes "time") time_limits) past p1.0.1) _ x p1.2 in
     let p3 = bind_ok (read_if (codes "local1") read_local p2.0.1) _ x p2.2 in
     let p4 = bind_ok (read_if (codes "section2") read_section2 p3.0.1) _ x p3.2 in
@@ -197,72 +338,111 @@ message_shorter tables past ls x h =
     let l8 = ap (λ (y : MessageRead). length y.1) (ok_is _ _ p7.2) in
     by_lengths _ _ _ _ _ _ _ _ _ _ l0 l1 l2 l3 l4 l5 l6 l7 l8
   where
-    by_lengths : (a b c d e f g i j k : ℕ) → a ≡ b + 1 → b ≡ c + 1 → c ≡ d + 1 → e ≤ d → f ≤ e → f ≡ g + 1 → g ≡ i + 1 → j ≤ i → j ≡ k → k < a
+    by_lengths : (a b c d e f g i j k : ℕ) → a ≡ b + 1 → b ≡ c + 1 → c ≡ d + 1 → e ≤ d → f ≤ e
+        → f ≡ g + 1 → g ≡ i + 1 → j ≤ i → j ≡ k → k < a
     by_lengths a b c d e f g i j k l0 l1 l2 l3 l4 l5 l6 l7 l8 = omega arith
 
 -- these messages, and then those that are read
-abbrev pub behind_messages : List Message → Result (List Message) ListingFault → Result (List Message) ListingFault
+abbrev pub behind_messages : List Message → Result (List Message) ListingFault
+    → Result (List Message) ListingFault
 behind_messages messages (Ok more) = Ok (messages ++ more)
 behind_messages messages (Err e) = Err e
 
+-- behind no message stands what is read
 messages_none : (o : Result (List Message) ListingFault) → o ≡ behind_messages [] o
 messages_none (Ok more) = refl
 messages_none (Err e) = refl
 
-messages_joined : (messages : List Message) (m : Message) (o : Result (List Message) ListingFault) → behind_messages messages (o >>= λ others. Ok (m ∷ others)) ≡ behind_messages (messages ++ m ∷ []) o
+-- one message more, and then what is read
+messages_joined : (messages : List Message) (m : Message) (o : Result (List Message) ListingFault)
+    → behind_messages messages (o >>= λ others. Ok (m ∷ others)) ≡ behind_messages
+    (messages ++ m ∷ []) o
 messages_joined messages m (Ok more) = ap Ok (sym (append_assoc messages (m ∷ []) more))
 messages_joined messages m (Err e) = refl
 
 -- what has been read of messages: these, and those that follow, of which there are lines enough
-pub record MessagesSoFar (tables : Entries) (past : ℕ) (start : List Line) (messages : List Message) (ls : List Line) : Type 0 where
+pub record MessagesSoFar (tables : Entries) (past : ℕ) (start : List Line)
+    (messages : List Message) (ls : List Line) : Type 0 where
   pub fuel : ℕ
   pub few : length ls ≤ fuel
-  pub so_far : messages_read (length start) tables past start ≡ behind_messages messages (messages_read fuel tables past ls)
+  pub so_far : messages_read (length start) tables past start ≡ behind_messages messages
+      (messages_read fuel tables past ls)
 
+-- before the first message nothing was read
 pub no_message : (tables : Entries) (past : ℕ) (ls : List Line) → MessagesSoFar tables past ls [] ls
-no_message tables past ls = record { fuel = length ls; few = omega arith; so_far = messages_none (messages_read (length ls) tables past ls) }
+no_message tables past ls =
+    record {
+      fuel = length ls;
+      few = omega arith;
+      so_far =
+          messages_none (messages_read (length ls) tables past ls);
+    }
 
-more_by : (fuel : ℕ) (tables : Entries) (past : ℕ) (start : List Line) (messages grown : List Message) (m : Message) (l : Line) (ls rest : List Line) → grown ≡ messages ++ m ∷ [] → length (l ∷ ls) ≤ fuel
-    → messages_read (length start) tables past start ≡ behind_messages messages (messages_read fuel tables past (l ∷ ls)) → message_read tables past (l ∷ ls) ≡ Ok (m, rest) → MessagesSoFar tables past start grown rest
+-- one message more was read, by how many lines may be left
+more_by : (fuel : ℕ) (tables : Entries) (past : ℕ) (start : List Line)
+    (messages grown : List Message) (m : Message) (l : Line) (ls rest : List Line)
+    → grown ≡ messages ++ m ∷ [] → length (l ∷ ls) ≤ fuel
+    → messages_read (length start) tables past start ≡ behind_messages messages
+    (messages_read fuel tables past (l ∷ ls)) → message_read tables past (l ∷ ls) ≡ Ok (m, rest)
+    → MessagesSoFar tables past start grown rest
 unfolding messages_read
-more_by zero tables past start messages grown m l ls rest e few so_far h = absurd (omega (arith, few))
+more_by zero tables past start messages grown m l ls rest e few so_far h =
+    absurd (omega (arith, few))
 more_by (suc fuel) tables past start messages grown m l ls rest e few so_far h =
     let shorter = message_shorter tables past (l ∷ ls) (m, rest) h in
     record {
       fuel = fuel;
       few = omega (arith, few, shorter);
       so_far = so_far
-          ∙ ap (λ (r : Result MessageRead ListingFault). behind_messages messages (r >>= λ first. messages_read fuel tables past first.1 >>= λ others. Ok (first.0 ∷ others))) h
+          ∙ ap (λ (r : Result MessageRead ListingFault). behind_messages messages
+          (r >>= λ first. messages_read fuel tables past first.1 >>= λ others.
+          Ok (first.0 ∷ others))) h
           ∙ messages_joined messages m (messages_read fuel tables past rest)
           ∙ ap (λ ms. behind_messages ms (messages_read fuel tables past rest)) (sym e);
     }
 
 -- one message more was read
-pub one_message : (tables : Entries) (past : ℕ) (start : List Line) (messages grown : List Message) (m : Message) (ls rest : List Line) → grown ≡ messages ++ m ∷ [] → MessagesSoFar tables past start messages ls
-    → (ls ≡ [] → ⊥) → message_read tables past ls ≡ Ok (m, rest) → MessagesSoFar tables past start grown rest
+pub one_message : (tables : Entries) (past : ℕ) (start : List Line)
+    (messages grown : List Message) (m : Message) (ls rest : List Line)
+    → grown ≡ messages ++ m ∷ [] → MessagesSoFar tables past start messages ls
+    → (ls ≡ [] → ⊥) → message_read tables past ls ≡ Ok (m, rest)
+    → MessagesSoFar tables past start grown rest
 one_message tables past start messages grown m [] rest e so some h = absurd (some refl)
-one_message tables past start messages grown m (l ∷ ls) rest e so some h = more_by so.fuel tables past start messages grown m l ls rest e so.few so.so_far h
+one_message tables past start messages grown m (l ∷ ls) rest e so some h =
+    more_by so.fuel tables past start messages grown m l ls rest e so.few so.so_far h
 
-fails_by : (fuel : ℕ) (tables : Entries) (past : ℕ) (start : List Line) (messages : List Message) (l : Line) (ls : List Line) (f : ListingFault) → length (l ∷ ls) ≤ fuel
-    → messages_read (length start) tables past start ≡ behind_messages messages (messages_read fuel tables past (l ∷ ls)) → message_read tables past (l ∷ ls) ≡ Err f → messages_read (length start) tables past start ≡ Err f
+-- the next message fails, by the same
+fails_by : (fuel : ℕ) (tables : Entries) (past : ℕ) (start : List Line) (messages : List Message)
+    (l : Line) (ls : List Line) (f : ListingFault) → length (l ∷ ls) ≤ fuel
+    → messages_read (length start) tables past start ≡ behind_messages messages
+    (messages_read fuel tables past (l ∷ ls)) → message_read tables past (l ∷ ls) ≡ Err f
+    → messages_read (length start) tables past start ≡ Err f
 unfolding messages_read
 fails_by zero tables past start messages l ls f few so_far h = absurd (omega (arith, few))
 fails_by (suc fuel) tables past start messages l ls f few so_far h =
-    so_far ∙ ap (λ (r : Result MessageRead ListingFault). behind_messages messages (r >>= λ first. messages_read fuel tables past first.1 >>= λ others. Ok (first.0 ∷ others))) h
+    so_far ∙ ap (λ (r : Result MessageRead ListingFault). behind_messages messages
+    (r >>= λ first. messages_read fuel tables past first.1 >>= λ others. Ok (first.0 ∷ others))) h
 
-pub message_fails : (tables : Entries) (past : ℕ) (start : List Line) (messages : List Message) (ls : List Line) (e : Failure ListingFault) → MessagesSoFar tables past start messages ls
-    → (ls ≡ [] → ⊥) → Fails e (message_read tables past ls) → Fails e (messages_read (length start) tables past start)
+-- the next message fails
+pub message_fails : (tables : Entries) (past : ℕ) (start : List Line) (messages : List Message)
+    (ls : List Line) (e : Failure ListingFault) → MessagesSoFar tables past start messages ls
+    → (ls ≡ [] → ⊥) → Fails e (message_read tables past ls)
+    → Fails e (messages_read (length start) tables past start)
 message_fails tables past start messages ls OutOfMemory so some h = tt
 message_fails tables past start messages [] (Fault f) so some h = absurd (some refl)
-message_fails tables past start messages (l ∷ ls) (Fault f) so some h = fails_by so.fuel tables past start messages l ls f so.few so.so_far h
+message_fails tables past start messages (l ∷ ls) (Fault f) so some h =
+    fails_by so.fuel tables past start messages l ls f so.few so.so_far h
 
+-- where no line is left, no message is
 ended : (fuel : ℕ) (tables : Entries) (past : ℕ) → messages_read fuel tables past [] ≡ Ok []
 unfolding messages_read
 ended zero tables past = refl
 ended (suc fuel) tables past = refl
 
 -- the end of the text
-pub messages_end : (tables : Entries) (past : ℕ) (start : List Line) (messages : List Message) (ls : List Line) → MessagesSoFar tables past start messages ls → ls ≡ [] → messages_read (length start) tables past start ≡ Ok messages
+pub messages_end : (tables : Entries) (past : ℕ) (start : List Line) (messages : List Message)
+    (ls : List Line) → MessagesSoFar tables past start messages ls → ls ≡ []
+    → messages_read (length start) tables past start ≡ Ok messages
 messages_end tables past start messages ls so none =
     so.so_far
     ∙ ap (λ (t : List Line). behind_messages messages (messages_read so.fuel tables past t)) none

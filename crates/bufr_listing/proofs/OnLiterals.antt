@@ -1,4 +1,4 @@
--- What opens the definitions on literals.
+-- What opens the definitions on literals: for the examples, which the gate computes.
 use Rattle.std.specs.Fmt.{digits}
 use Rattle.hex.specs.Hex.{encode_with, decode_pairs}
 use Rattle.bufr_tables.specs.Descriptors.{of_text}
@@ -9,8 +9,12 @@ use Rattle.bufr_expand.specs.Courses.{turns, course_then}
 use Rattle.bufr_listing.specs.Listings.{heading_lines, listing}
 use Rattle.bufr_listing.specs.Lines.{counting_from}
 use Rattle.bufr_listing.specs.FieldLines.{unquoted}
-use Rattle.bufr_listing.specs.Reading.{are_below, fields_read, subsets_read, message_read, messages_read}
+use Rattle.bufr_listing.specs.Reading.{are_below, fields_read, subsets_read, message_read}
+use Rattle.bufr_listing.specs.Reading.{messages_read}
 
+-- opens them
 unfoldable pub listings_on_literals : Unit {0}
-unfolding at expand_list expand_within tree_within turns course_then counting_from are_below unquoted fields_read subsets_read message_read messages_read heading_lines listing of_text encode_with decode_pairs digits
+unfolding at expand_list expand_within tree_within turns course_then counting_from are_below
+    unquoted fields_read subsets_read message_read messages_read heading_lines listing of_text
+    encode_with decode_pairs digits
 listings_on_literals = tt

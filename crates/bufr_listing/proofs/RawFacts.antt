@@ -1,6 +1,9 @@
--- The number that a word prints, by what was found of it: for the reader of raw values.
-use Rattle.std.proofs.Common.{◌≡◌, ℕ, suc, ◌+◌, ◌-◌, ◌^◌, ◌<◌, ◌≤◌, Bool, true, false, List, [], ◌∷◌, ◌++◌, append_assoc, inl, inr, refl, sym, ap, ◌∙◌, arith}
-use Rattle.std.specs.Prelude.{◌==◌, ◌&&◌, ◌||◌, Option, Some, None, option_and_then, ℤ, pos, negsuc, ◌-ℤ◌, nat_lt, if◌then◌else◌}
+-- The number that a word prints, by what was found of it: for the reader of raw values, which
+-- `read` calls.
+use Rattle.std.proofs.Common.{◌≡◌, ℕ, suc, ◌-◌, ◌^◌, ◌≤◌, true, false, List, [], ◌∷◌, ◌++◌}
+use Rattle.std.proofs.Common.{append_assoc, inl, inr, refl, sym, ap, ◌∙◌, arith}
+use Rattle.std.specs.Prelude.{Option, Some, None, option_and_then, ℤ, pos, negsuc, ◌-ℤ◌, nat_lt}
+use Rattle.std.specs.Prelude.{if◌then◌else◌}
 use Rattle.std.proofs.lemmas.Bool.{cases_Bool, lt-ltb}
 use Rattle.std.proofs.lemmas.Bool.Decides.{nat_tests}
 use Rattle.std.proofs.Math.Nat.{pow-le-pow_right}
@@ -10,61 +13,87 @@ use Rattle.bufr_data.specs.DecimalTexts.{decimal_of}
 use Rattle.bufr_listing.specs.FieldLines.{is_missing_word}
 use Rattle.bufr_listing.specs.Words.{below}
 use Rattle.std.specs.Str.{bytes_eq}
-use Rattle.bufr_listing.specs.RawWords.{unless_missing, number_above, number_of, first_octet, then_octets, octets_before}
+use Rattle.bufr_listing.specs.RawWords.{unless_missing, number_above, number_of, first_octet}
+use Rattle.bufr_listing.specs.RawWords.{then_octets, octets_before}
 use Rattle.bufr_listing.proofs.WordFacts.{behind, behind_end}
 
-pub number_none : (spec : Spec) (word : List ℕ) → nat_lt 64 spec.width ≡ false → is_missing_word word ≡ false → decimal_of spec.scale word ≡ None → number_of spec word ≡ None
+-- a word of no decimal has no number
+pub number_none : (spec : Spec) (word : List ℕ) → nat_lt 64 spec.width ≡ false
+    → is_missing_word word ≡ false → decimal_of spec.scale word ≡ None → number_of spec word ≡ None
 number_none spec word small other h = rw (small, other, h) refl
 
-pub number_some : (spec : Spec) (word : List ℕ) (d : Decimal) → nat_lt 64 spec.width ≡ false → is_missing_word word ≡ false → decimal_of spec.scale word ≡ Some d
+-- a word of a decimal has the number above the reference
+pub number_some : (spec : Spec) (word : List ℕ) (d : Decimal) → nat_lt 64 spec.width ≡ false
+    → is_missing_word word ≡ false → decimal_of spec.scale word ≡ Some d
     → number_of spec word ≡ number_above spec (d.units -ℤ spec.reference)
 number_some spec word d small other h = rw (small, other, h) refl
 
 -- a number of more than 64 bits is above each width
-pub above_none : (spec : Spec) (z : ℤ) → spec.width ≤ 64 → below (2 ^ 64) z ≡ None → number_above spec z ≡ None
+pub above_none : (spec : Spec) (z : ℤ) → spec.width ≤ 64 → below (2 ^ 64) z ≡ None
+    → number_above spec z ≡ None
 above_none spec (negsuc n) small h = refl
 above_none spec (pos n) small h =
     elim (cases_Bool (nat_lt n (2 ^ 64))) [
       | inl e ↦ absurd (let own : below (2 ^ 64) (pos n) ≡ Some n = rw e refl in cc (sym own ∙ h))
       | inr e ↦
           let most = pow-le-pow_right {n = 2} (omega arith) {i = spec.width} {j = 64} small in
-          let over : nat_lt (2 ^ spec.width - 1) n ≡ true = lt-ltb (2 ^ spec.width - 1) n (grind (arith, nat_tests)) in
+          let over : nat_lt (2 ^ spec.width - 1) n ≡ true =
+          lt-ltb (2 ^ spec.width - 1) n (grind (arith, nat_tests)) in
           rw over refl
     ]
 
-pub above_some : (spec : Spec) (z : ℤ) (n : ℕ) → below (2 ^ 64) z ≡ Some n → number_above spec z ≡ unless_missing spec n
+-- a number of 64 bits above the reference
+pub above_some : (spec : Spec) (z : ℤ) (n : ℕ) → below (2 ^ 64) z ≡ Some n → number_above spec z
+    ≡ unless_missing spec n
 above_some spec (negsuc m) n h = absurd cc
 above_some spec (pos m) n h =
     elim (cases_Bool (nat_lt m (2 ^ 64))) [
-      | inl e ↦ let own : below (2 ^ 64) (pos m) ≡ Some m = rw e refl in let same : m ≡ n = cc (sym own ∙ h) in ap (unless_missing spec) same
+      | inl e ↦ let own : below (2 ^ 64) (pos m) ≡ Some m = rw e refl in
+          let same : m ≡ n = cc (sym own ∙ h) in ap (unless_missing spec) same
       | inr e ↦ absurd (let own : below (2 ^ 64) (pos m) ≡ None = rw e refl in cc (sym own ∙ h))
     ]
 
 -- ---- octets one after the other
 
-pub octets_next : (k m : ℕ) (text rest : List ℕ) (c : ℕ) → k ≡ suc m → first_octet text ≡ Some (c, rest) → octets_before k text ≡ then_octets c (octets_before m rest)
+-- one octet more
+pub octets_next : (k m : ℕ) (text rest : List ℕ) (c : ℕ) → k ≡ suc m → first_octet text ≡ Some
+    (c, rest) → octets_before k text ≡ then_octets c (octets_before m rest)
 unfolding octets_before
-octets_next k m text rest c e h = ap (λ n. octets_before n text) e ∙ ap (λ o. option_and_then (λ (x : ℕ × List ℕ). then_octets x.0 (octets_before m x.1)) o) h
+octets_next k m text rest c e h =
+    ap (λ n. octets_before n text) e
+    ∙ ap (λ o. option_and_then (λ (x : ℕ × List ℕ). then_octets x.0 (octets_before m x.1)) o) h
 
-pub octets_bad : (k m : ℕ) (text : List ℕ) → k ≡ suc m → first_octet text ≡ None → octets_before k text ≡ None
+-- no octet, no text
+pub octets_bad : (k m : ℕ) (text : List ℕ) → k ≡ suc m → first_octet text ≡ None
+    → octets_before k text ≡ None
 unfolding octets_before
-octets_bad k m text e h = ap (λ n. octets_before n text) e ∙ ap (λ o. option_and_then (λ (x : ℕ × List ℕ). then_octets x.0 (octets_before m x.1)) o) h
+octets_bad k m text e h =
+    ap (λ n. octets_before n text) e
+    ∙ ap (λ o. option_and_then (λ (x : ℕ × List ℕ). then_octets x.0 (octets_before m x.1)) o) h
 
-pub octets_last : (k : ℕ) (text : List ℕ) → k ≡ 0 → octets_before k text ≡ (if bytes_eq text (34 ∷ []) then Some [] else None)
+-- behind the last octet stands a quote
+pub octets_last : (k : ℕ) (text : List ℕ) → k ≡ 0 → octets_before k text
+    ≡ (if bytes_eq text (34 ∷ []) then Some [] else None)
 unfolding octets_before
 octets_last k text e = ap (λ n. octets_before n text) e
 
-pub octets_more : (xs grown : List ℕ) (c : ℕ) (o : Option (List ℕ)) → grown ≡ xs ++ c ∷ [] → behind xs (then_octets c o) ≡ behind grown o
+-- one octet more behind those that were read
+pub octets_more : (xs grown : List ℕ) (c : ℕ) (o : Option (List ℕ)) → grown ≡ xs ++ c ∷ []
+    → behind xs (then_octets c o) ≡ behind grown o
 octets_more xs grown c None e = refl
-octets_more xs grown c (Some ys) e = ap Some (sym (append_assoc xs (c ∷ []) ys) ∙ ap (λ zs. zs ++ ys) (sym e))
+octets_more xs grown c (Some ys) e =
+    ap Some (sym (append_assoc xs (c ∷ []) ys) ∙ ap (λ zs. zs ++ ys) (sym e))
 
 -- the quote at the end, and another octet there
-pub octets_ended : (k : ℕ) (text xs : List ℕ) → k ≡ 0 → bytes_eq text (34 ∷ []) ≡ true → behind xs (octets_before k text) ≡ Some xs
+pub octets_ended : (k : ℕ) (text xs : List ℕ) → k ≡ 0 → bytes_eq text (34 ∷ []) ≡ true
+    → behind xs (octets_before k text) ≡ Some xs
 octets_ended k text xs e h =
     let last : octets_before k text ≡ Some [] = octets_last k text e ∙ rw h refl in
     ap (behind xs) last ∙ behind_end xs
 
-pub octets_unended : (k : ℕ) (text xs : List ℕ) → k ≡ 0 → bytes_eq text (34 ∷ []) ≡ false → behind xs (octets_before k text) ≡ None
+-- where no quote ends the octets, there is no text
+pub octets_unended : (k : ℕ) (text xs : List ℕ) → k ≡ 0 → bytes_eq text (34 ∷ []) ≡ false
+    → behind xs (octets_before k text) ≡ None
 octets_unended k text xs e h =
     let last : octets_before k text ≡ None = octets_last k text e ∙ rw h refl in
     ap (behind xs) last

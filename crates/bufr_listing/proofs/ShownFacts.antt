@@ -1,16 +1,18 @@
--- The lines of messages are the lines of their joined listings.
-use Rattle.std.proofs.Common.{◌≡◌, ℕ, zero, suc, ◌+◌, ◌-◌, ◌*◌, ◌/◌, ◌%◌, ◌^◌, ◌<◌, ◌≤◌, Bool, true, false, List, [], ◌∷◌, ◌++◌, length, map, get_or, take, drop, replicate, codes, refl, sym, ap, ◌∙◌, subst, arith, append_assoc, inl, inr}
-use Rattle.std.specs.Prelude.{◌==◌, ◌&&◌, ◌||◌, not, decimal, IfSome, Option, Some, None, nat_le, nat_lt, slice_index, ℤ, pos, negsuc, ◌+ℤ◌, Ok, if◌then◌else◌}
-use Rattle.std.specs.Char.{is_ascii_digit}
+-- The lines of messages are the lines of their joined listings: for `listings_are_read_back`.
+use Rattle.std.proofs.Common.{◌≡◌, ℕ, zero, suc, ◌+◌, ◌-◌, ◌/◌, ◌%◌, ◌<◌, ◌≤◌, Bool, true, false}
+use Rattle.std.proofs.Common.{List, [], ◌∷◌, ◌++◌, length, map, get_or, codes, refl, sym, ap, ◌∙◌}
+use Rattle.std.proofs.Common.{subst, arith, append_assoc}
+use Rattle.std.specs.Prelude.{◌==◌, ◌&&◌, not, decimal, IfSome, Option, Some, None, nat_le, nat_lt}
+use Rattle.std.specs.Prelude.{slice_index, ℤ, pos, ◌+ℤ◌, Ok, if◌then◌else◌}
 use Rattle.std.specs.List.{flat_map, list_all, slice_split, AllByRecursion}
 use Rattle.std.specs.Str.{bytes_eq}
 use Rattle.std.specs.Str.Lines.{lines, lines_of_parts, strip_carriage_return}
-use Rattle.std.proofs.lemmas.Bool.{and_parts, cases_Bool, leb-true, ltb-true, eqb-true}
+use Rattle.std.proofs.lemmas.Bool.{and_parts, leb-true, ltb-true, eqb-true}
 use Rattle.std.proofs.lemmas.List.{append-nil}
 use Rattle.std.proofs.lemmas.List.Elements.{All-from_recursion, recursion_from_All}
 use Rattle.std.proofs.lemmas.List.Splits.{slice_split_at}
 use Rattle.hex.specs.Hex.{lower_digits, encode_with, encode_lower}
-use Rattle.bufr_tables.specs.Descriptors.{six_digits, digit}
+use Rattle.bufr_tables.specs.Descriptors.{six_digits}
 use Rattle.bufr_tables.specs.Entries.{Entries}
 use Rattle.bufr_data.specs.declared.field.Field.{Field}
 use Rattle.bufr_data.specs.declared.field.Subset.{Subset}
@@ -20,17 +22,23 @@ use Rattle.bufr_expand.specs.declared.operators.Spec.{Spec}
 use Rattle.bufr_expand.specs.Courses.{Course, ends, stops, asks, course}
 use Rattle.bufr_data.specs.declared.field.Raw.{Raw}
 use Rattle.bufr_data.specs.declared.field.Raw.TheVariants.{Number, Text}
-use Rattle.bufr_data.specs.Plain.{number_of, has_form_by, same_spec, stands_for, items_of, items_of_all}
+use Rattle.bufr_data.specs.Plain.{number_of, has_form_by, same_spec, stands_for, items_of}
+use Rattle.bufr_data.specs.Plain.{items_of_all}
 use Rattle.bufr_data.specs.Values.{is_missing, decimal_within}
 use Rattle.bufr_listing.proofs.LowerLaws.{LowerLaws}
 use Rattle.bufr_listing.proofs.ListFacts.{bind_ok, same_spec_is}
-use Rattle.bufr_data.specs.DecimalTextFacts.{AreDigits, ArePlain, digits_plain, decimal_digits, text_plain}
+use Rattle.bufr_data.specs.DecimalTextFacts.{digits_plain, decimal_digits, text_plain}
 use Rattle.bufr_sections.specs.declared.message.Message.{Message}
 use Rattle.bufr_sections.specs.Sections.{AreOctets, HeadFits, IsOctet}
 use Rattle.bufr_sections.specs.declared.message.Head.{Head}
 use Rattle.bufr_listing.specs.Listings as old
 use Rattle.bufr_listing.specs.Listings.{line, heading_lines, listing, value_word, words}
-use Rattle.bufr_listing.specs.Lines.{Line, texts, section1_numbers, time_numbers, numbers_line, is_skipped, lower_digit, as_printed, has_octets, first_word, counting_from, counting_lines, joined, octets_line, local_lines, section2_line, section2_lines, flags_line, descriptors_line, field_line, subset_lines, flags_and_on, lines_of, CanBeListed, Listed}
+use Rattle.bufr_listing.specs.Lines.{texts, section1_numbers, time_numbers, numbers_line}
+use Rattle.bufr_listing.specs.Lines.{is_skipped, lower_digit, as_printed, has_octets, first_word}
+use Rattle.bufr_listing.specs.Lines.{counting_from, counting_lines, joined, octets_line}
+use Rattle.bufr_listing.specs.Lines.{local_lines, section2_line, section2_lines, flags_line}
+use Rattle.bufr_listing.specs.Lines.{descriptors_line, field_line, subset_lines, flags_and_on}
+use Rattle.bufr_listing.specs.Lines.{lines_of, CanBeListed}
 use Rattle.bufr_listing.specs.Reading.{messages_listed}
 use Rattle.bufr_listing.proofs.PrintedFacts.{own_printed}
 use Rattle.bufr_listing.proofs.FieldFacts.{IsPrintable, other_bytes, size_small, number_small}
@@ -45,72 +53,97 @@ use Rattle.bufr_listing.proofs.TextFacts.{listed_read}
 abbrev IsPlain : List ℕ → Type 0
 IsPlain text = AllByRecursion (λ c. 32 ≤ c) text
 
+-- what can be printed is no LF
 no_end : (c : ℕ) → 32 ≤ c → (c == 10) ≡ false
 no_end c h = grind arith
 
+-- a plain text has no LF
 no_ends : (text : List ℕ) → IsPlain text → AllByRecursion (λ c. (c == 10) ≡ false) text
 no_ends [] h = tt
 no_ends (c ∷ cs) h = (no_end c h.0, no_ends cs h.1)
 
+-- what can be printed is no CR
 no_return : (c : ℕ) → 32 ≤ c → (c == 13) ≡ false
 no_return c h = grind arith
 
+-- a plain text has no CR
 no_return_at : (text : List ℕ) (i : ℕ) → IsPlain text → (slice_index text i == 13) ≡ false
 no_return_at [] i h = refl
 no_return_at (c ∷ cs) zero h = no_return c h.0
 no_return_at (c ∷ cs) (suc i) h = no_return_at cs i h.1
 
+-- so none is cut from it
 not_stripped : (text : List ℕ) → IsPlain text → strip_carriage_return text ≡ text
 not_stripped text h = rw (no_return_at text (length text - 1) h) refl
 
-split_joined : (ls : List (List ℕ)) → AllByRecursion (λ l. IsPlain l) ls → slice_split (λ c. c == 10) (joined ls) ≡ ls ++ [] ∷ []
+-- joined lines are parted at their ends
+split_joined : (ls : List (List ℕ)) → AllByRecursion (λ l. IsPlain l) ls
+    → slice_split (λ c. c == 10) (joined ls) ≡ ls ++ [] ∷ []
 split_joined [] h = refl
 split_joined (l ∷ ls) h =
     ap (slice_split (λ c. c == 10)) (append_assoc l (10 ∷ []) (joined ls))
-    ∙ slice_split_at (λ c. c == 10) l 10 (joined ls) (All-from_recursion (λ c. (c == 10) ≡ false) l (no_ends l h.0)) refl
+    ∙ slice_split_at (λ c. c == 10) l 10 (joined ls)
+    (All-from_recursion (λ c. (c == 10) ≡ false) l (no_ends l h.0)) refl
     ∙ ap (λ parts. l ∷ parts) (split_joined ls h.1)
 
-parts_back : (ls : List (List ℕ)) → AllByRecursion (λ l. IsPlain l) ls → lines_of_parts (ls ++ [] ∷ []) ≡ ls
+-- the parts are the lines
+parts_back : (ls : List (List ℕ)) → AllByRecursion (λ l. IsPlain l) ls
+    → lines_of_parts (ls ++ [] ∷ []) ≡ ls
 parts_back [] h = refl
 parts_back (x ∷ []) h = ap (λ y. y ∷ []) (not_stripped x h.0)
 parts_back (x ∷ y ∷ ls) h = let e = not_stripped x h.0 in λ i. e i ∷ parts_back (y ∷ ls) h.1 i
 
+-- the lines of joined lines are these
 lines_joined : (ls : List (List ℕ)) → AllByRecursion (λ l. IsPlain l) ls → lines (joined ls) ≡ ls
 lines_joined ls h = ap lines_of_parts (split_joined ls h) ∙ parts_back ls h
 
 -- ---- lines that count as they are
 
+-- a line that is read as it is written: plain, not skipped, in lower case where it has octets
 record IsShown (text : List ℕ) : Type 0 where
   plain : IsPlain text
   kept : is_skipped text ≡ false
   own : as_printed text ≡ text
 
-plain_lines : (ls : List (List ℕ)) → AllByRecursion (λ l. IsShown l) ls → AllByRecursion (λ l. IsPlain l) ls
+-- such lines are plain
+plain_lines : (ls : List (List ℕ)) → AllByRecursion (λ l. IsShown l) ls
+    → AllByRecursion (λ l. IsPlain l) ls
 plain_lines [] h = tt
 plain_lines (l ∷ ls) h = (h.0.plain, plain_lines ls h.1)
 
-counted_as_shown : (n : ℕ) (ls : List (List ℕ)) → AllByRecursion (λ l. IsShown l) ls → texts (counting_from n ls) ≡ ls
+-- and they are the lines that count
+counted_as_shown : (n : ℕ) (ls : List (List ℕ)) → AllByRecursion (λ l. IsShown l) ls
+    → texts (counting_from n ls) ≡ ls
 unfolding counting_from
 counted_as_shown n [] h = refl
-counted_as_shown n (l ∷ ls) h = rw h.0.kept (let e = h.0.own in λ i. e i ∷ counted_as_shown (n + 1) ls h.1 i)
+counted_as_shown n (l ∷ ls) h =
+    rw h.0.kept (let e = h.0.own in λ i. e i ∷ counted_as_shown (n + 1) ls h.1 i)
 
-shown_append : (xs ys : List (List ℕ)) → AllByRecursion (λ l. IsShown l) xs → AllByRecursion (λ l. IsShown l) ys → AllByRecursion (λ l. IsShown l) (xs ++ ys)
+-- such lines behind such lines
+shown_append : (xs ys : List (List ℕ)) → AllByRecursion (λ l. IsShown l) xs
+    → AllByRecursion (λ l. IsShown l) ys → AllByRecursion (λ l. IsShown l) (xs ++ ys)
 shown_append [] ys a b = b
 shown_append (x ∷ xs) ys a b = (a.0, shown_append xs ys a.1 b)
 
 -- ---- characters
 
+-- a plain text behind a plain text
 plain_append : (xs ys : List ℕ) → IsPlain xs → IsPlain ys → IsPlain (xs ++ ys)
 plain_append [] ys a b = b
 plain_append (x ∷ xs) ys a b = (a.0, plain_append xs ys a.1 b)
 
+-- a word that is written out
 literal_plain : (text : List ℕ) → list_all (λ c. nat_le 32 c) text ≡ true → IsPlain text
 literal_plain [] h = tt
-literal_plain (c ∷ cs) h = let p = and_parts (nat_le 32 c) (list_all (λ c. nat_le 32 c) cs) h in (leb-true 32 c p.0, literal_plain cs p.1)
+literal_plain (c ∷ cs) h = let p = and_parts (nat_le 32 c) (list_all (λ c. nat_le 32 c) cs) h in
+    (leb-true 32 c p.0, literal_plain cs p.1)
 
-plain_words : (ws : List (List ℕ)) → AllByRecursion (λ w. IsPlain w) ws → IsPlain (flat_map (λ w. 32 ∷ w) ws)
+-- words behind spaces are plain
+plain_words : (ws : List (List ℕ)) → AllByRecursion (λ w. IsPlain w) ws
+    → IsPlain (flat_map (λ w. 32 ∷ w) ws)
 plain_words [] h = tt
-plain_words (w ∷ ws) h = (omega arith, plain_append w (flat_map (λ w. 32 ∷ w) ws) h.0 (plain_words ws h.1))
+plain_words (w ∷ ws) h =
+    (omega arith, plain_append w (flat_map (λ w. 32 ∷ w) ws) h.0 (plain_words ws h.1))
 
 -- ---- hexadecimal digits
 
@@ -118,21 +151,29 @@ plain_words (w ∷ ws) h = (omega arith, plain_append w (flat_map (λ w. 32 ∷ 
 abbrev is_lower : ℕ → Bool
 is_lower c = nat_le 32 c && (lower_digit c == c)
 
-digits_lower : (t : List ℕ) (k : ℕ) → list_all is_lower t ≡ true → k < length t → is_lower (slice_index t k) ≡ true
+-- a digit of some in lower case is so
+digits_lower : (t : List ℕ) (k : ℕ) → list_all is_lower t ≡ true → k < length t
+    → is_lower (slice_index t k) ≡ true
 digits_lower [] k h few = absurd (omega arith)
 digits_lower (c ∷ cs) zero h few = (and_parts (is_lower c) (list_all is_lower cs) h).0
-digits_lower (c ∷ cs) (suc k) h few = digits_lower cs k (and_parts (is_lower c) (list_all is_lower cs) h).1 (omega arith)
+digits_lower (c ∷ cs) (suc k) h few =
+    digits_lower cs k (and_parts (is_lower c) (list_all is_lower cs) h).1 (omega arith)
 
+-- octets, each below 256
 abbrev AreBytes : List ℕ → Type 0
 AreBytes os = AllByRecursion (λ x. x < 256) os
 
-digit_shown : (k : ℕ) → k < 16 → (32 ≤ slice_index lower_digits k) × (lower_digit (slice_index lower_digits k) ≡ slice_index lower_digits k)
+-- a digit as it is printed is plain and in lower case
+digit_shown : (k : ℕ) → k < 16 → (32 ≤ slice_index lower_digits k)
+    × (lower_digit (slice_index lower_digits k) ≡ slice_index lower_digits k)
 digit_shown k few =
     let c = slice_index lower_digits k in
     let p = and_parts (nat_le 32 c) (lower_digit c == c) (digits_lower lower_digits k refl few) in
     (leb-true 32 c p.0, eqb-true (lower_digit c) c p.1)
 
-hex_shown : (os : List ℕ) → AreBytes os → IsPlain (encode_lower os) × (map lower_digit (encode_lower os) ≡ encode_lower os)
+-- the digits of octets are
+hex_shown : (os : List ℕ) → AreBytes os → IsPlain (encode_lower os)
+    × (map lower_digit (encode_lower os) ≡ encode_lower os)
 unfolding encode_with
 hex_shown [] h = (tt, refl)
 hex_shown (x ∷ xs) h =
@@ -142,236 +183,454 @@ hex_shown (x ∷ xs) h =
     let others = hex_shown xs h.1 in
     ((high.0, (low.0, others.0)), λ i. high.1 i ∷ low.1 i ∷ others.1 i)
 
-hex_word : (os : List ℕ) → AreBytes os → IsPlain (encode_lower os ++ []) × (map lower_digit (encode_lower os ++ []) ≡ encode_lower os ++ [])
-hex_word os h = subst (λ e. IsPlain e × (map lower_digit e ≡ e)) (sym (append-nil (encode_lower os))) (hex_shown os h)
+-- a word of digits is
+hex_word : (os : List ℕ) → AreBytes os → IsPlain (encode_lower os ++ [])
+    × (map lower_digit (encode_lower os ++ []) ≡ encode_lower os ++ [])
+hex_word os h =
+    subst (λ e. IsPlain e × (map lower_digit e ≡ e)) (sym (append-nil (encode_lower os)))
+    (hex_shown os h)
 
+-- the line of octets for local use
 local_shown : (os : List ℕ) → AreBytes os → IsShown (octets_line (codes "local1") os)
 local_shown os h =
     let p = hex_word os h in
-    record { plain = plain_append (codes "local1") (32 ∷ encode_lower os ++ []) (literal_plain (codes "local1") refl) (omega arith, p.0); kept = refl; own = ap (λ e. codes "local1" ++ 32 ∷ e) p.1 }
+    record {
+      plain = plain_append (codes "local1") (32 ∷ encode_lower os ++ [])
+          (literal_plain (codes "local1") refl) (omega arith, p.0);
+      kept = refl;
+      own =
+          ap (λ e. codes "local1" ++ 32 ∷ e) p.1;
+    }
 
+-- the line of section 2
 section2_shown : (os : List ℕ) → AreBytes os → IsShown (section2_line os)
-section2_shown [] h = record { plain = literal_plain (codes "section2") refl; kept = refl; own = refl }
+section2_shown [] h = record {
+  plain = literal_plain (codes "section2") refl;
+  kept = refl;
+  own =
+      refl;
+}
 section2_shown (x ∷ xs) h =
     let p = hex_word (x ∷ xs) h in
-    record { plain = plain_append (codes "section2") (32 ∷ encode_lower (x ∷ xs) ++ []) (literal_plain (codes "section2") refl) (omega arith, p.0); kept = refl; own = ap (λ e. codes "section2" ++ 32 ∷ e) p.1 }
+    record {
+      plain = plain_append (codes "section2") (32 ∷ encode_lower (x ∷ xs) ++ [])
+          (literal_plain (codes "section2") refl) (omega arith, p.0);
+      kept = refl;
+      own =
+          ap (λ e. codes "section2" ++ 32 ∷ e) p.1;
+    }
 
+-- the line of octets for local use, where there are any
 locals_shown : (os : List ℕ) → AreBytes os → AllByRecursion (λ l. IsShown l) (local_lines os)
 locals_shown [] h = tt
 locals_shown (x ∷ xs) h = (local_shown (x ∷ xs) h, tt)
 
-sections_shown : (two : Option (List ℕ)) → IfSome two AreOctets → AllByRecursion (λ l. IsShown l) (section2_lines two)
+-- the line of section 2, where there is one
+sections_shown : (two : Option (List ℕ)) → IfSome two AreOctets → AllByRecursion (λ l. IsShown l)
+    (section2_lines two)
 sections_shown None h = tt
 sections_shown (Some os) h = (section2_shown os (recursion_from_All IsOctet os h), tt)
 
 -- ---- numbers, flags, descriptors
 
-decimals_plain : (ns : List ℕ) → AllByRecursion (λ n. n < 65536) ns → AllByRecursion (λ w. IsPlain w) (map decimal ns)
+-- numbers print plain words
+decimals_plain : (ns : List ℕ) → AllByRecursion (λ n. n < 65536) ns
+    → AllByRecursion (λ w. IsPlain w) (map decimal ns)
 decimals_plain [] h = tt
-decimals_plain (n ∷ ns) h = let below = h.0 in (digits_plain (decimal n) (decimal_digits n (omega (arith, below))), decimals_plain ns h.1)
+decimals_plain (n ∷ ns) h = let below = h.0 in
+    (digits_plain (decimal n) (decimal_digits n (omega (arith, below))), decimals_plain ns h.1)
 
+-- the line of flags
 flags_shown : (observed compressed : Bool) → IsShown (flags_line observed compressed)
-flags_shown false false = record { plain = literal_plain (flags_line false false) refl; kept = refl; own = refl }
-flags_shown true false = record { plain = literal_plain (flags_line true false) refl; kept = refl; own = refl }
-flags_shown false true = record { plain = literal_plain (flags_line false true) refl; kept = refl; own = refl }
-flags_shown true true = record { plain = literal_plain (flags_line true true) refl; kept = refl; own = refl }
+flags_shown false false =
+    record { plain = literal_plain (flags_line false false) refl; kept = refl; own = refl }
+flags_shown true false =
+    record { plain = literal_plain (flags_line true false) refl; kept = refl; own = refl }
+flags_shown false true =
+    record { plain = literal_plain (flags_line false true) refl; kept = refl; own = refl }
+flags_shown true true =
+    record { plain = literal_plain (flags_line true true) refl; kept = refl; own = refl }
 
+-- six digits are plain
 six_plain : (d : ℕ) → IsPlain (six_digits d)
-six_plain d = (omega arith, (omega arith, (omega arith, (omega arith, (omega arith, (omega arith, tt))))))
+six_plain d =
+    (omega arith, (omega arith, (omega arith, (omega arith, (omega arith, (omega arith, tt))))))
 
+-- descriptors print plain words
 sixes_plain : (ds : List ℕ) → AllByRecursion (λ w. IsPlain w) (map six_digits ds)
 sixes_plain [] = tt
 sixes_plain (d ∷ ds) = (six_plain d, sixes_plain ds)
 
+-- the line of descriptors
 descriptors_shown : (ds : List ℕ) → 0 < length ds → IsShown (descriptors_line ds)
 descriptors_shown [] some = absurd (omega arith)
 descriptors_shown (d ∷ ds) some =
-    record { plain = plain_append (codes "descriptors") (flat_map (λ w. 32 ∷ w) (map six_digits (d ∷ ds))) (literal_plain (codes "descriptors") refl) (plain_words (map six_digits (d ∷ ds)) (sixes_plain (d ∷ ds))); kept = refl; own = refl }
+    record {
+      plain = plain_append (codes "descriptors")
+          (flat_map (λ w. 32 ∷ w) (map six_digits (d ∷ ds)))
+          (literal_plain (codes "descriptors") refl)
+          (plain_words (map six_digits (d ∷ ds)) (sixes_plain (d ∷ ds)));
+      kept = refl;
+      own = refl;
+    }
 
 -- ---- fields
 
+-- what is quoted for an octet is plain
 octet_plain : (c : ℕ) → c < 256 → IsPlain (old.quoted_octet c)
-octet_plain c small = by_test (nat_le 32 c && nat_le c 126 && not (c == 34) && not (c == 92)) (λ e. leb-true 32 c (and_parts _ _ (and_parts _ _ (and_parts _ _ e).0).0).0)
+octet_plain c small = by_test (nat_le 32 c && nat_le c 126 && not (c == 34) && not (c == 92))
+    (λ e. leb-true 32 c (and_parts _ _ (and_parts _ _ (and_parts _ _ e).0).0).0)
   where
-    by_test : (b : Bool) → (b ≡ true → 32 ≤ c) → IsPlain (if b then c ∷ [] else 92 ∷ encode_lower (c ∷ []))
+    by_test : (b : Bool) → (b ≡ true → 32 ≤ c)
+        → IsPlain (if b then c ∷ [] else 92 ∷ encode_lower (c ∷ []))
     by_test true low = (low refl, tt)
     by_test false low = (omega arith, (hex_shown (c ∷ []) (small, tt)).0)
 
+-- what is quoted for octets is plain
 quoted_plain : (os : List ℕ) → AreBytes os → IsPlain (flat_map old.quoted_octet os ++ 34 ∷ [])
 quoted_plain [] h = (omega arith, tt)
 quoted_plain (c ∷ os) h =
-    subst IsPlain (sym (append_assoc (old.quoted_octet c) (flat_map old.quoted_octet os) (34 ∷ []))) (plain_append (old.quoted_octet c) (flat_map old.quoted_octet os ++ 34 ∷ []) (octet_plain c h.0) (quoted_plain os h.1))
+    subst IsPlain
+    (sym (append_assoc (old.quoted_octet c) (flat_map old.quoted_octet os) (34 ∷ [])))
+    (plain_append (old.quoted_octet c) (flat_map old.quoted_octet os ++ 34 ∷ [])
+    (octet_plain c h.0) (quoted_plain os h.1))
 
+-- the word of a number is plain
 number_plain : (missing : Bool) (spec : Spec) (n : ℕ) → IsPrintable spec → n < 18446744073709551616
-    → IsPlain (if missing then codes "missing" else old.number_word (if missing then None else decimal_within (pos n +ℤ spec.reference) spec.scale))
+    → IsPlain (if missing then codes "missing" else old.number_word
+    (if missing then None else decimal_within (pos n +ℤ spec.reference) spec.scale))
 number_plain true spec n fit small = literal_plain (codes "missing") refl
-number_plain false spec n fit small = rw fit.scale (text_plain (pos n +ℤ spec.reference) spec.scale (size_small n spec.reference small fit.reference))
+number_plain false spec n fit small =
+    rw fit.scale (text_plain (pos n +ℤ spec.reference) spec.scale
+    (size_small n spec.reference small fit.reference))
 
-text_word_plain : (missing : Bool) (os : List ℕ) → AreBytes os → IsPlain (if missing then codes "missing" else old.quoted os)
+-- the word of a text is plain
+text_word_plain : (missing : Bool) (os : List ℕ) → AreBytes os
+    → IsPlain (if missing then codes "missing" else old.quoted os)
 text_word_plain true os small = literal_plain (codes "missing") refl
 text_word_plain false os small = (omega arith, quoted_plain os small)
 
+-- octets that pass the test are octets
 bytes_of : (os : List ℕ) → list_all (λ x. nat_lt x 256) os ≡ true → AreBytes os
 bytes_of [] h = tt
-bytes_of (x ∷ xs) h = let p = and_parts (nat_lt x 256) (list_all (λ x. nat_lt x 256) xs) h in (ltb-true x 256 p.0, bytes_of xs p.1)
+bytes_of (x ∷ xs) h = let p = and_parts (nat_lt x 256) (list_all (λ x. nat_lt x 256) xs) h in
+    (ltb-true x 256 p.0, bytes_of xs p.1)
 
-value_plain : (d : ℕ) (kind : Kind) (scale reference : ℤ) (width : ℕ) (raw : Raw) → has_form_by kind width raw ≡ true → IsPrintable (record { kind = kind; scale = scale; reference = reference; width = width })
-    → IsPlain (value_word (record { fxy = d; spec = record { kind = kind; scale = scale; reference = reference; width = width }; raw = raw }))
+-- the word of a value is plain
+value_plain : (d : ℕ) (kind : Kind) (scale reference : ℤ) (width : ℕ) (raw : Raw)
+    → has_form_by kind width raw ≡ true
+    → IsPrintable (record { kind = kind; scale = scale; reference = reference; width = width })
+    → IsPlain
+    (value_word
+    (record {
+      fxy = d;
+      spec = record {
+        kind = kind;
+        scale = scale;
+        reference = reference;
+        width =
+            width;
+      };
+      raw = raw;
+    }))
 value_plain d kinds.Text scale reference width (Number n) form fit = absurd cc
 value_plain d kinds.Text scale reference width (Text os) form fit =
-    text_word_plain (is_missing (record { fxy = d; spec = record { kind = kinds.Text; scale = scale; reference = reference; width = width }; raw = Text os })) os (bytes_of os (and_parts (length os == width / 8) (list_all (λ x. nat_lt x 256) os) form).1)
+    text_word_plain
+    (is_missing
+    (record {
+      fxy = d;
+      spec = record {
+        kind = kinds.Text;
+        scale = scale;
+        reference = reference;
+        width = width;
+      };
+      raw = Text os;
+    })) os
+    (bytes_of os (and_parts (length os == width / 8) (list_all (λ x. nat_lt x 256) os) form).1)
 value_plain d kinds.Code scale reference width (Text os) form fit = absurd cc
 value_plain d kinds.Code scale reference width (Number n) form fit =
-    let spec : Spec = record { kind = kinds.Code; scale = scale; reference = reference; width = width } in
-    number_plain (is_missing (record { fxy = d; spec = spec; raw = Number n })) spec n fit (number_small width n form)
+    let spec : Spec =
+    record { kind = kinds.Code; scale = scale; reference = reference; width = width } in
+    number_plain (is_missing (record { fxy = d; spec = spec; raw = Number n })) spec n fit
+    (number_small width n form)
 value_plain d kinds.Flag scale reference width (Text os) form fit = absurd cc
 value_plain d kinds.Flag scale reference width (Number n) form fit =
-    let spec : Spec = record { kind = kinds.Flag; scale = scale; reference = reference; width = width } in
-    number_plain (is_missing (record { fxy = d; spec = spec; raw = Number n })) spec n fit (number_small width n form)
+    let spec : Spec =
+    record { kind = kinds.Flag; scale = scale; reference = reference; width = width } in
+    number_plain (is_missing (record { fxy = d; spec = spec; raw = Number n })) spec n fit
+    (number_small width n form)
 value_plain d kinds.Quantity scale reference width (Text os) form fit = absurd cc
 value_plain d kinds.Quantity scale reference width (Number n) form fit =
-    let spec : Spec = record { kind = kinds.Quantity; scale = scale; reference = reference; width = width } in
-    number_plain (is_missing (record { fxy = d; spec = spec; raw = Number n })) spec n fit (number_small width n form)
+    let spec : Spec =
+    record { kind = kinds.Quantity; scale = scale; reference = reference; width = width } in
+    number_plain (is_missing (record { fxy = d; spec = spec; raw = Number n })) spec n fit
+    (number_small width n form)
 value_plain d kinds.Count scale reference width (Text os) form fit = absurd cc
 value_plain d kinds.Count scale reference width (Number n) form fit =
-    let spec : Spec = record { kind = kinds.Count; scale = scale; reference = reference; width = width } in
-    number_plain (is_missing (record { fxy = d; spec = spec; raw = Number n })) spec n fit (number_small width n form)
+    let spec : Spec = record {
+      kind = kinds.Count;
+      scale = scale;
+      reference = reference;
+      width =
+          width;
+    } in
+    number_plain (is_missing (record { fxy = d; spec = spec; raw = Number n })) spec n fit
+    (number_small width n form)
 
+-- a line that begins with six digits is not skipped
 six_not_skipped : (d : ℕ) (rest : List ℕ) → is_skipped (six_digits d ++ rest) ≡ false
 six_not_skipped d rest = grind arith
 
+-- six digits do not begin with the letter l
 not_l : (d : ℕ) (rest : List ℕ) → six_digits d ≡ 108 ∷ rest → ⊥
 not_l d rest e = let same = ap (λ xs. get_or xs 0 0) e in omega (arith, same)
 
+-- nor with the letter s
 not_s : (d : ℕ) (rest : List ℕ) → six_digits d ≡ 115 ∷ rest → ⊥
 not_s d rest e = let same = ap (λ xs. get_or xs 0 0) e in omega (arith, same)
 
+-- a field's line has no octets
 pub field_plain : (d : ℕ) (word : List ℕ) → has_octets (six_digits d ++ 32 ∷ word) ≡ false
 field_plain d word =
-    let first : first_word (six_digits d ++ 32 ∷ word) ≡ six_digits d = ap (λ (ws : List (List ℕ)). get_or ws 0 []) (word_then (six_digits d) word (six_word d)) in
-    by_first (six_digits d ++ 32 ∷ word) (ap (λ w. bytes_eq w (codes "local1")) first ∙ other_bytes (six_digits d) (codes "local1") (not_l d _)) (ap (λ w. bytes_eq w (codes "section2")) first ∙ other_bytes (six_digits d) (codes "section2") (not_s d _))
+    let first : first_word (six_digits d ++ 32 ∷ word) ≡ six_digits d =
+    ap (λ (ws : List (List ℕ)). get_or ws 0 []) (word_then (six_digits d) word (six_word d)) in
+    by_first (six_digits d ++ 32 ∷ word) (ap (λ w. bytes_eq w (codes "local1")) first
+    ∙ other_bytes (six_digits d) (codes "local1") (not_l d _))
+    (ap (λ w. bytes_eq w (codes "section2")) first ∙ other_bytes (six_digits d) (codes "section2")
+    (not_s d _))
   where
-    by_first : (text : List ℕ) → bytes_eq (first_word text) (codes "local1") ≡ false → bytes_eq (first_word text) (codes "section2") ≡ false → has_octets text ≡ false
+    by_first : (text : List ℕ) → bytes_eq (first_word text) (codes "local1") ≡ false
+        → bytes_eq (first_word text) (codes "section2") ≡ false → has_octets text ≡ false
     by_first text a b = rw (a, b) refl
 
-pub field_own : (d : ℕ) (word : List ℕ) → as_printed (six_digits d ++ 32 ∷ word) ≡ six_digits d ++ 32 ∷ word
+-- so it is printed as it is
+pub field_own : (d : ℕ) (word : List ℕ) → as_printed (six_digits d ++ 32 ∷ word)
+    ≡ six_digits d ++ 32 ∷ word
 field_own d word = own_printed (six_digits d ++ 32 ∷ word) (field_plain d word)
 
-field_shown : (f : Field) → has_form_by f.spec.kind f.spec.width f.raw ≡ true → IsPrintable f.spec → IsShown (field_line f)
+-- the line of a field
+field_shown : (f : Field) → has_form_by f.spec.kind f.spec.width f.raw ≡ true → IsPrintable f.spec
+    → IsShown (field_line f)
 field_shown f form fit = record {
-  plain = plain_append (six_digits f.fxy) (32 ∷ value_word f) (six_plain f.fxy) (omega arith, value_plain f.fxy f.spec.kind f.spec.scale f.spec.reference f.spec.width f.raw form fit);
+  plain = plain_append (six_digits f.fxy) (32 ∷ value_word f) (six_plain f.fxy) (
+    omega arith,
+    value_plain f.fxy f.spec.kind f.spec.scale f.spec.reference f.spec.width f.raw
+        form fit,
+  );
   kept = six_not_skipped f.fxy (32 ∷ value_word f);
   own = field_own f.fxy (value_word f);
 }
 
-asked_shown : (d : ℕ) (spec : Spec) (f : Field) → IsPrintable spec → stands_for d spec f ≡ true → IsShown (field_line f)
+-- the line of a field that is asked for
+asked_shown : (d : ℕ) (spec : Spec) (f : Field) → IsPrintable spec → stands_for d spec f ≡ true
+    → IsShown (field_line f)
 asked_shown d spec f fit stands =
-    let p = and_parts (f.fxy == d && same_spec f.spec spec) (has_form_by spec.kind spec.width f.raw) stands in
+    let p = and_parts (f.fxy == d && same_spec f.spec spec)
+    (has_form_by spec.kind spec.width f.raw) stands in
     let own = same_spec_is f.spec spec (and_parts (f.fxy == d) (same_spec f.spec spec) p.0).1 in
-    field_shown f (subst (λ (s : Spec). has_form_by s.kind s.width f.raw ≡ true) (sym own) p.1) (subst IsPrintable (sym own) fit)
+    field_shown f (subst (λ (s : Spec). has_form_by s.kind s.width f.raw ≡ true) (sym own) p.1)
+    (subst IsPrintable (sym own) fit)
 
-fields_shown : (j i : ℕ) (c : Course) (fields : List Field) (n : ℕ) → AsksPrintable c → items_of j i c fields ≡ Ok n → AllByRecursion (λ l. IsShown l) (map field_line fields)
+-- the lines of the fields of a subset
+fields_shown : (j i : ℕ) (c : Course) (fields : List Field) (n : ℕ) → AsksPrintable c
+    → items_of j i c fields ≡ Ok n → AllByRecursion (λ l. IsShown l) (map field_line fields)
 unfolding items_of AsksPrintable
 fields_shown j i (ends m) [] n fit h = tt
 fields_shown j i (ends m) (f ∷ fields) n fit h = absurd cc
 fields_shown j i (stops met fault) fields n fit h = absurd cc
 fields_shown j i (asks met d spec more) [] n fit h = absurd cc
 fields_shown j i (asks met d spec more) (f ∷ fields) n fit h =
-    let p = if_same (stands_for d spec f) (items_of j (i + 1) (more (number_of f.raw)) fields) _ n h in
-    (asked_shown d spec f fit.0 p.0, fields_shown j (i + 1) (more (number_of f.raw)) fields n (fit.1 (number_of f.raw)) p.1)
+    let p = if_same (stands_for d spec f) (items_of j (i + 1) (more (number_of f.raw)) fields) _ n
+    h in (
+      asked_shown d spec f fit.0 p.0,
+      fields_shown j (i + 1) (more (number_of f.raw)) fields n
+          (fit.1 (number_of f.raw)) p.1,
+    )
 
-subsets_shown : (j used : ℕ) (course : ℕ → Course) (subsets : List Subset) (n : ℕ) → ((k : ℕ) → AsksPrintable (course k)) → items_of_all course j used subsets ≡ Ok n → AllByRecursion (λ l. IsShown l) (flat_map subset_lines subsets)
+-- the lines of subsets
+subsets_shown : (j used : ℕ) (course : ℕ → Course) (subsets : List Subset) (n : ℕ)
+    → ((k : ℕ) → AsksPrintable (course k)) → items_of_all course j used subsets ≡ Ok n
+    → AllByRecursion (λ l. IsShown l) (flat_map subset_lines subsets)
 unfolding items_of_all
 subsets_shown j used course [] n fit h = tt
 subsets_shown j used course (s ∷ subsets) n fit h =
     let p = bind_ok (items_of j 1 (course used) s.fields) _ n h in (
       record { plain = literal_plain (codes "subset") refl; kept = refl; own = refl },
-      shown_append (map field_line s.fields) (flat_map subset_lines subsets) (fields_shown j 1 (course used) s.fields p.0 (fit used) p.1) (subsets_shown (j + 1) p.0 course subsets n fit p.2),
+      shown_append (map field_line s.fields) (flat_map subset_lines subsets)
+          (fields_shown j 1 (course used) s.fields p.0 (fit used) p.1)
+          (subsets_shown (j + 1) p.0 course subsets n fit p.2),
     )
 
 -- ---- messages
 
-short_plain : (title ns : List ℕ) → list_all (λ c. nat_le 32 c) title ≡ true → AllByRecursion (λ n. n < 65536) ns → IsPlain (numbers_line title ns)
-short_plain title ns literal small = plain_append title (flat_map (λ w. 32 ∷ w) (map decimal ns)) (literal_plain title literal) (plain_words (map decimal ns) (decimals_plain ns small))
+-- a line of numbers is plain
+short_plain : (title ns : List ℕ) → list_all (λ c. nat_le 32 c) title ≡ true
+    → AllByRecursion (λ n. n < 65536) ns → IsPlain (numbers_line title ns)
+short_plain title ns literal small = plain_append title (flat_map (λ w. 32 ∷ w) (map decimal ns))
+    (literal_plain title literal) (plain_words (map decimal ns) (decimals_plain ns small))
 
+-- a number of 8 bits has 16
 octet_short : (n : ℕ) → n < 256 → n < 65536
 octet_short n h = omega arith
 
-head_shown : (h : Head) → HeadFits h → IsShown (numbers_line (codes "section1") (section1_numbers h)) × IsShown (numbers_line (codes "time") (time_numbers h))
+-- the lines of section 1
+head_shown : (h : Head) → HeadFits h
+    → IsShown (numbers_line (codes "section1") (section1_numbers h)) × IsShown
+    (numbers_line (codes "time") (time_numbers h))
 head_shown h fits = (
   record {
-    plain = short_plain (codes "section1") (section1_numbers h) refl
-        (fits.centre, (fits.sub_centre, (octet_short h.update fits.update, (octet_short h.category fits.category, (octet_short h.international fits.international, (octet_short h.local_category fits.local_category, (octet_short h.master_version fits.master_version, (octet_short h.local_version fits.local_version, tt))))))));
+    plain = short_plain (codes "section1") (section1_numbers h) refl (
+      fits.centre,
+      (
+        fits.sub_centre,
+        (
+          octet_short h.update fits.update,
+          (
+            octet_short h.category fits.category,
+            (
+              octet_short h.international fits.international,
+              (
+                octet_short h.local_category fits.local_category,
+                (
+                  octet_short h.master_version fits.master_version,
+                  (octet_short h.local_version fits.local_version, tt),
+                ),
+              ),
+            ),
+          ),
+        ),
+      ),
+    );
     kept = refl;
     own = refl;
   },
   record {
-    plain = short_plain (codes "time") (time_numbers h) refl
-        (fits.year, (octet_short h.month fits.month, (octet_short h.day fits.day, (octet_short h.hour fits.hour, (octet_short h.minute fits.minute, (octet_short h.second fits.second, tt))))));
+    plain = short_plain (codes "time") (time_numbers h) refl (
+      fits.year,
+      (
+        octet_short h.month fits.month,
+        (
+          octet_short h.day fits.day,
+          (
+            octet_short h.hour fits.hour,
+            (octet_short h.minute fits.minute, (octet_short h.second fits.second, tt)),
+          ),
+        ),
+      ),
+    );
     kept = refl;
     own = refl;
   },
 )
 
-message_shown : LowerLaws → (tables : Entries) (m : Message) → CanBeListed tables m → AllByRecursion (λ l. IsShown l) (lines_of m)
+-- the lines of a message
+message_shown : LowerLaws → (tables : Entries) (m : Message) → CanBeListed tables m
+    → AllByRecursion (λ l. IsShown l) (lines_of m)
 unfolding lines_of
 message_shown laws tables m can =
     let numbers = head_shown m.head can.head in
-    let last : IsShown (codes "end") = record { plain = literal_plain (codes "end") refl; kept = refl; own = refl } in
-    let subsets = subsets_shown 1 0 (course can.tree) m.subsets can.items (λ n. course_printable laws.specs can.tree n) (laws.counted can.tree 1 0 can.items m.subsets can.fit) in
-    let behind : AllByRecursion (λ l. IsShown l) (flags_and_on m) = (flags_shown m.observed m.compressed, (descriptors_shown m.descriptors can.some_descriptor, shown_append (flat_map subset_lines m.subsets) (codes "end" ∷ []) subsets (last, tt))) in
-    let local = locals_shown m.head.local (recursion_from_All IsOctet m.head.local can.head.local) in
+    let last : IsShown (codes "end") =
+    record { plain = literal_plain (codes "end") refl; kept = refl; own = refl } in
+    let subsets =
+    subsets_shown 1 0 (course can.tree) m.subsets can.items
+    (λ n. course_printable laws.specs can.tree n)
+    (laws.counted can.tree 1 0 can.items m.subsets can.fit) in
+    let behind : AllByRecursion (λ l. IsShown l) (flags_and_on m) = (
+      flags_shown m.observed m.compressed,
+      (
+        descriptors_shown m.descriptors can.some_descriptor,
+        shown_append (flat_map subset_lines m.subsets) (codes "end" ∷ []) subsets (last, tt),
+      ),
+    ) in
+    let local =
+    locals_shown m.head.local (recursion_from_All IsOctet m.head.local can.head.local) in
     let two = sections_shown m.section2 can.section2 in
-    let first : IsShown (codes "message") = record { plain = literal_plain (codes "message") refl; kept = refl; own = refl } in (
+    let first : IsShown (codes "message") =
+    record { plain = literal_plain (codes "message") refl; kept = refl; own = refl } in (
       first,
-      (numbers.0, (numbers.1, shown_append (local_lines m.head.local) (section2_lines m.section2 ++ flags_and_on m) local (shown_append (section2_lines m.section2) (flags_and_on m) two behind))),
+      (
+        numbers.0,
+        (
+          numbers.1,
+          shown_append (local_lines m.head.local)
+              (section2_lines m.section2 ++ flags_and_on m) local
+              (shown_append (section2_lines m.section2) (flags_and_on m) two behind),
+        ),
+      ),
     )
 
-messages_shown : LowerLaws → (tables : Entries) (messages : List Message) → AllByRecursion (λ m. CanBeListed tables m) messages → AllByRecursion (λ l. IsShown l) (flat_map lines_of messages)
+-- the lines of messages
+messages_shown : LowerLaws → (tables : Entries) (messages : List Message)
+    → AllByRecursion (λ m. CanBeListed tables m) messages → AllByRecursion (λ l. IsShown l)
+    (flat_map lines_of messages)
 messages_shown laws tables [] h = tt
-messages_shown laws tables (m ∷ messages) h = shown_append (lines_of m) (flat_map lines_of messages) (message_shown laws tables m h.0) (messages_shown laws tables messages h.1)
+messages_shown laws tables (m ∷ messages) h =
+    shown_append (lines_of m) (flat_map lines_of messages) (message_shown laws tables m h.0)
+    (messages_shown laws tables messages h.1)
 
 -- ---- the listing of a message is its joined lines
 
+-- lines behind lines are joined one behind the other
 joined_append : (xs ys : List (List ℕ)) → joined (xs ++ ys) ≡ joined xs ++ joined ys
 joined_append [] ys = refl
-joined_append (x ∷ xs) ys = ap (λ zs. line x ++ zs) (joined_append xs ys) ∙ sym (append_assoc (line x) (joined xs) (joined ys))
+joined_append (x ∷ xs) ys = ap (λ zs. line x ++ zs) (joined_append xs ys)
+    ∙ sym (append_assoc (line x) (joined xs) (joined ys))
 
+-- the line of a field, as a listing has it
 joined_field : (f : Field) → line (field_line f) ≡ old.field_line f
 joined_field f = ap (λ w. line (six_digits f.fxy ++ 32 ∷ w)) (sym (append-nil (value_word f)))
 
-joined_fields : (fields : List Field) → joined (map field_line fields) ≡ flat_map old.field_line fields
+-- the lines of fields
+joined_fields : (fields : List Field) → joined (map field_line fields)
+    ≡ flat_map old.field_line fields
 joined_fields [] = refl
 joined_fields (f ∷ fields) = λ i. joined_field f i ++ joined_fields fields i
 
-joined_subsets : (subsets : List Subset) → joined (flat_map subset_lines subsets) ≡ flat_map old.subset_lines subsets
+-- the lines of subsets
+joined_subsets : (subsets : List Subset) → joined (flat_map subset_lines subsets)
+    ≡ flat_map old.subset_lines subsets
 joined_subsets [] = refl
 joined_subsets (s ∷ subsets) =
-    joined_append (subset_lines s) (flat_map subset_lines subsets) ∙ (λ i. (codes "subset\n" ++ joined_fields s.fields i) ++ joined_subsets subsets i)
+    joined_append (subset_lines s) (flat_map subset_lines subsets)
+    ∙ (λ i. (codes "subset\n" ++ joined_fields s.fields i) ++ joined_subsets subsets i)
 
+-- digits with nothing behind them
 joined_hex : (os : List ℕ) → ((encode_lower os ++ []) ++ 10 ∷ []) ++ [] ≡ encode_lower os ++ 10 ∷ []
-joined_hex os = append-nil ((encode_lower os ++ []) ++ 10 ∷ []) ∙ ap (λ e. e ++ 10 ∷ []) (append-nil (encode_lower os))
+joined_hex os = append-nil ((encode_lower os ++ []) ++ 10 ∷ []) ∙ ap (λ e. e ++ 10 ∷ [])
+    (append-nil (encode_lower os))
 
+-- the line of octets for local use
 joined_local : (os : List ℕ) → joined (local_lines os) ≡ old.local_line os
 joined_local [] = refl
 joined_local (x ∷ xs) = ap (λ e. codes "local1 " ++ e) (joined_hex (x ∷ xs))
 
+-- the line of section 2
 joined_section2 : (two : Option (List ℕ)) → joined (section2_lines two) ≡ old.section2_line two
 joined_section2 None = refl
 joined_section2 (Some []) = refl
 joined_section2 (Some (x ∷ xs)) = ap (λ e. codes "section2 " ++ e) (joined_hex (x ∷ xs))
 
-joined_sixes : (ds : List ℕ) → flat_map (λ w. 32 ∷ w) (map six_digits ds) ≡ flat_map (λ d. 32 ∷ six_digits d) ds
+-- descriptors behind spaces
+joined_sixes : (ds : List ℕ) → flat_map (λ w. 32 ∷ w) (map six_digits ds) ≡ flat_map
+    (λ d. 32 ∷ six_digits d) ds
 joined_sixes [] = refl
 joined_sixes (d ∷ ds) = ap (λ zs. (32 ∷ six_digits d) ++ zs) (joined_sixes ds)
 
-joined_from_flags : (m : Message) → joined (flags_and_on m) ≡ old.flags_line m.observed m.compressed ++ (old.descriptors_line m.descriptors ++ (flat_map old.subset_lines m.subsets ++ codes "end\n"))
+-- the lines from the flags on
+joined_from_flags : (m : Message) → joined (flags_and_on m)
+    ≡ old.flags_line m.observed m.compressed
+    ++ (old.descriptors_line m.descriptors ++ (flat_map old.subset_lines m.subsets ++ codes
+    "end\n"))
 joined_from_flags m =
-    let last = joined_append (flat_map subset_lines m.subsets) (codes "end" ∷ []) ∙ ap (λ zs. zs ++ codes "end\n") (joined_subsets m.subsets) in
-    λ i. line (flags_line m.observed m.compressed) ++ (line (codes "descriptors" ++ joined_sixes m.descriptors i) ++ last i)
+    let last = joined_append (flat_map subset_lines m.subsets) (codes "end" ∷ [])
+    ∙ ap (λ zs. zs ++ codes "end\n") (joined_subsets m.subsets) in
+    λ i. line (flags_line m.observed m.compressed)
+    ++ (line (codes "descriptors" ++ joined_sixes m.descriptors i) ++ last i)
 
 -- nine lists, joined from either end
-nine_joined : (a b c d e f g h k : List ℕ) → a ++ b ++ c ++ d ++ e ++ f ++ g ++ h ++ k ≡ a ++ (b ++ (c ++ (d ++ (e ++ (f ++ (g ++ (h ++ k)))))))
+nine_joined : (a b c d e f g h k : List ℕ) → a ++ b ++ c ++ d ++ e ++ f ++ g ++ h ++ k
+    ≡ a ++ (b ++ (c ++ (d ++ (e ++ (f ++ (g ++ (h ++ k)))))))
 nine_joined a b c d e f g h k =
     append_assoc (a ++ b ++ c ++ d ++ e ++ f ++ g) h k
     ∙ append_assoc (a ++ b ++ c ++ d ++ e ++ f) g (h ++ k)
@@ -381,25 +640,43 @@ nine_joined a b c d e f g h k =
     ∙ append_assoc (a ++ b) c (d ++ (e ++ (f ++ (g ++ (h ++ k)))))
     ∙ append_assoc a b (c ++ (d ++ (e ++ (f ++ (g ++ (h ++ k))))))
 
+-- the listing of a message is its joined lines
 pub listing_joined : (m : Message) → listing m ≡ joined (lines_of m)
 unfolding listing heading_lines lines_of
 listing_joined m =
-    let two = joined_append (section2_lines m.section2) (flags_and_on m) ∙ (λ i. joined_section2 m.section2 i ++ joined_from_flags m i) in
-    let local = joined_append (local_lines m.head.local) (section2_lines m.section2 ++ flags_and_on m) ∙ (λ i. joined_local m.head.local i ++ two i) in
-    nine_joined (codes "message\n") (old.section1_line m.head) (old.time_line m.head) (old.local_line m.head.local) (old.section2_line m.section2) (old.flags_line m.observed m.compressed) (old.descriptors_line m.descriptors) (flat_map old.subset_lines m.subsets) (codes "end\n")
-    ∙ sym (ap (λ zs. line (codes "message") ++ (line (numbers_line (codes "section1") (section1_numbers m.head)) ++ (line (numbers_line (codes "time") (time_numbers m.head)) ++ zs))) local)
+    let two = joined_append (section2_lines m.section2) (flags_and_on m)
+    ∙ (λ i. joined_section2 m.section2 i ++ joined_from_flags m i) in
+    let local =
+    joined_append (local_lines m.head.local) (section2_lines m.section2 ++ flags_and_on m)
+    ∙ (λ i. joined_local m.head.local i ++ two i) in
+    nine_joined (codes "message\n") (old.section1_line m.head) (old.time_line m.head)
+    (old.local_line m.head.local) (old.section2_line m.section2)
+    (old.flags_line m.observed m.compressed) (old.descriptors_line m.descriptors)
+    (flat_map old.subset_lines m.subsets) (codes "end\n")
+    ∙ sym (ap
+    (λ zs. line (codes "message")
+    ++ (line (numbers_line (codes "section1") (section1_numbers m.head))
+    ++ (line (numbers_line (codes "time") (time_numbers m.head)) ++ zs))) local)
 
-listings_joined : (messages : List Message) → flat_map listing messages ≡ joined (flat_map lines_of messages)
+-- so it is of several
+listings_joined : (messages : List Message) → flat_map listing messages ≡ joined
+    (flat_map lines_of messages)
 listings_joined [] = refl
-listings_joined (m ∷ messages) = (λ i. listing_joined m i ++ listings_joined messages i) ∙ sym (joined_append (lines_of m) (flat_map lines_of messages))
+listings_joined (m ∷ messages) = (λ i. listing_joined m i ++ listings_joined messages i)
+    ∙ sym (joined_append (lines_of m) (flat_map lines_of messages))
 
 -- ---- what is listed is read back
 
-pub listing_read_back : LowerLaws → (tables : Entries) (messages : List Message) → AllByRecursion (λ m. CanBeListed tables m) messages
+-- joined listings are read back
+pub listing_read_back : LowerLaws → (tables : Entries) (messages : List Message)
+    → AllByRecursion (λ m. CanBeListed tables m) messages
     → messages_listed tables (flat_map listing messages) ≡ Ok messages
 listing_read_back laws tables messages each =
     let shown = messages_shown laws tables messages each in
     let all = flat_map lines_of messages in
     let own : texts (counting_lines (flat_map listing messages)) ≡ all =
-    ap (λ text. texts (counting_lines text)) (listings_joined messages) ∙ ap (λ ls. texts (counting_from 1 ls)) (lines_joined all (plain_lines all shown)) ∙ counted_as_shown 1 all shown in
-    listed_read laws tables (flat_map listing messages) messages (record { spelled = own; each = each })
+    ap (λ text. texts (counting_lines text)) (listings_joined messages)
+    ∙ ap (λ ls. texts (counting_from 1 ls)) (lines_joined all (plain_lines all shown))
+    ∙ counted_as_shown 1 all shown in
+    listed_read laws tables (flat_map listing messages) messages
+    (record { spelled = own; each = each })

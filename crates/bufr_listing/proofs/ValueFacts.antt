@@ -1,6 +1,10 @@
--- The line of a field, read from the left, gives the field that prints it: for the reader of the line of a field.
-use Rattle.std.proofs.Common.{◌≡◌, ℕ, zero, suc, ◌+◌, ◌-◌, ◌/◌, ◌^◌, ◌<◌, ◌≤◌, Bool, true, false, List, [], ◌∷◌, ◌++◌, length, take, drop, replicate, codes, Result, Ok, Err, refl, sym, ap, ◌∙◌, subst, arith, inl, inr}
-use Rattle.std.specs.Prelude.{ℤ, pos, negsuc, ◌==◌, ◌&&◌, not, Option, Some, None, option_map, FitsSigned, nat_lt, nat_le, if◌then◌else◌}
+-- The line of a field, read from the left, gives the field that prints it: for the reader of the
+-- line of a field, which `read` calls.
+use Rattle.std.proofs.Common.{◌≡◌, ℕ, zero, suc, ◌/◌, ◌≤◌, Bool, true, false, List, [], ◌∷◌, ◌++◌}
+use Rattle.std.proofs.Common.{length, take, drop, replicate, codes, Ok, Err, refl, sym, ap, ◌∙◌}
+use Rattle.std.proofs.Common.{subst, arith, inl, inr}
+use Rattle.std.specs.Prelude.{ℤ, pos, negsuc, ◌==◌, ◌&&◌, not, Option, Some, None, option_map}
+use Rattle.std.specs.Prelude.{FitsSigned, nat_lt, if◌then◌else◌}
 use Rattle.std.specs.Int.{w64}
 use Rattle.std.specs.List.{list_all, flat_map}
 use Rattle.std.specs.Str.{bytes_eq}
@@ -12,40 +16,47 @@ use Rattle.bufr_tables.specs.declared.element.Kind.TheVariants as kinds
 use Rattle.bufr_tables.specs.Descriptors.{six_digits}
 use Rattle.bufr_tables.specs.Elements.{same_kind}
 use Rattle.bufr_expand.specs.declared.operators.Spec.{Spec}
-use Rattle.bufr_expand.specs.Operating.{is_within}
+use Rattle.bufr_expand.specs.OperatorsInForce.{is_within}
 use Rattle.bufr_data.specs.declared.field.Raw.{Raw}
 use Rattle.bufr_data.specs.declared.field.Raw.TheVariants.{Number, Text}
 use Rattle.bufr_data.specs.declared.field.Field.{Field}
 use Rattle.bufr_data.specs.Plain.{has_form_by, stands_for}
-use Rattle.bufr_listing.specs.declared.fault.ListingFault.{ListingFault}
 use Rattle.bufr_listing.specs.declared.fault.ListingFault.TheVariants.{BadLine, BadValue}
 use Rattle.bufr_listing.specs.Listings.{quoted_octet, quoted, value_word}
 use Rattle.bufr_listing.specs.Lines.{field_line, has_octets, as_printed}
-use Rattle.bufr_listing.specs.FieldLines.{is_missing_word, raw_in, field_in, field_fault, read_field}
+use Rattle.bufr_listing.specs.FieldLines.{is_missing_word, raw_in, field_in, field_fault}
+use Rattle.bufr_listing.specs.FieldLines.{read_field}
 use Rattle.bufr_listing.specs.RawWords as words
-use Rattle.bufr_listing.specs.RawWords.{octets_of, octets_before, are_ones, unless_ones, number_of, raw_of_kind, raw_of}
+use Rattle.bufr_listing.specs.RawWords.{octets_of, octets_before, are_ones, unless_ones, number_of}
+use Rattle.bufr_listing.specs.RawWords.{raw_of_kind, raw_of}
 use Rattle.bufr_listing.proofs.ListFacts.{spec_is_same}
-use Rattle.bufr_listing.proofs.FieldFacts.{bytes_same, same_bytes, other_bytes, IsPrintable, read_field_back, read_field_takes}
+use Rattle.bufr_listing.proofs.FieldFacts.{bytes_same, same_bytes, IsPrintable, read_field_back}
 use Rattle.bufr_listing.proofs.LineFacts.{both}
 use Rattle.bufr_listing.proofs.PrintedFacts.{own_printed, octets_printed}
-use Rattle.bufr_listing.proofs.QuotedFacts.{QuotedIs, quoted_is, quoted_back}
-use Rattle.bufr_listing.proofs.PrintsFacts.{NumberIs, number_is, number_back}
-use Rattle.bufr_listing.proofs.ShownFacts.{field_plain, field_own}
+use Rattle.bufr_listing.proofs.QuotedFacts.{quoted_is, quoted_back}
+use Rattle.bufr_listing.proofs.PrintsFacts.{number_is, number_back}
+use Rattle.bufr_listing.proofs.ShownFacts.{field_plain}
 
+-- the same answers are of the same values
 some_is : {A : Type 0} (x y : A) → ◌≡◌ {A = Option A} (Some x) (Some y) → x ≡ y
 some_is x y e = cc
 
 -- ---- texts
 
+-- whether octets are as many as so many bits have
 abbrev has_octets_for : ℕ → List ℕ → Bool
 has_octets_for width os = length os == width / 8 && list_all (λ x. nat_lt x 256) os
 
+-- whether they are those of a missing value
 abbrev is_missing_text : ℕ → List ℕ → Bool
-is_missing_text width os = has_octets_for width os && list_all (λ x. x == 255) os && not (width == 1) && not (same_kind kinds.Text kinds.Count)
+is_missing_text width os = has_octets_for width os && list_all (λ x. x == 255) os && not
+    (width == 1) && not (same_kind kinds.Text kinds.Count)
 
+-- the word that they print
 abbrev print_text : Bool → List ℕ → List ℕ
 print_text missing os = if missing then codes "missing" else quoted os
 
+-- octets of the form, which print the word
 record TextIs (width : ℕ) (word os : List ℕ) : Type 0 where
   bits : has_octets_for width os ≡ true
   printed : print_text (is_missing_text width os) os ≡ word
@@ -56,28 +67,35 @@ record AllOnes (k : ℕ) (os : List ℕ) : Type 0 where
   small : list_all (λ x. nat_lt x 256) os ≡ true
   ones : list_all (λ x. x == 255) os ≡ true
 
+-- octets of 255 have all bits
 all_ones : (k : ℕ) → AllOnes k (replicate k 255)
 all_ones zero = record { count = refl; small = refl; ones = refl }
-all_ones (suc k) = let h = all_ones k in record { count = ap suc h.count; small = h.small; ones = h.ones }
+all_ones (suc k) = let h = all_ones k in
+    record { count = ap suc h.count; small = h.small; ones = h.ones }
 
+-- octets that are all 255
 ones_are : (os : List ℕ) → list_all (λ x. x == 255) os ≡ true → replicate (length os) 255 ≡ os
 ones_are [] h = refl
 ones_are (c ∷ os) h =
     let p = and_parts (c == 255) (list_all (λ x. x == 255) os) h in
     λ i. sym (eqb-true c 255 p.0) i ∷ ones_are os p.1 i
 
+-- the same numbers compare alike
 equal_counts : (n k : ℕ) → n ≡ k → (n == k) ≡ true
 equal_counts n k e = (Decides-eqb n k).1 e
 
+-- a test of four parts passes
 three : (p q a b : Bool) → p ≡ true → q ≡ true → a ≡ true → b ≡ true → (p && q && a && b) ≡ true
 three p q a b hp hq ha hb = rw (hp, hq, ha, hb) refl
 
+-- a test of four parts fails where two of them do
 four : (p q a b : Bool) → (a && q) ≡ false → (p && q && a && b) ≡ false
 four false q a b h = refl
 four true false a b h = refl
 four true true false b h = refl
 four true true true b h = absurd cc
 
+-- one of four parts fails where the whole does and two pass
 left_out : (p q a b : Bool) → p ≡ true → b ≡ true → (p && q && a && b) ≡ false → (a && q) ≡ false
 left_out false q a b hp hb h = absurd cc
 left_out true q a false hp hb h = absurd cc
@@ -86,15 +104,29 @@ left_out true false true true hp hb h = refl
 left_out true true false true hp hb h = refl
 left_out true true true true hp hb h = h
 
-missing_text : (width : ℕ) (os : List ℕ) → (if not (width == 1) then Some (replicate (width / 8) 255) else None) ≡ Some os → TextIs width (codes "missing") os
+-- the octets of a missing text
+missing_text : (width : ℕ) (os : List ℕ)
+    → (if not (width == 1) then Some (replicate (width / 8) 255) else None) ≡ Some os
+    → TextIs width (codes "missing") os
 missing_text width os h =
     elim (cases_Bool (not (width == 1))) [
       | inl may ↦
           let own = rw may at h in
           let ones = all_ones (width / 8) in
-          let bits : has_octets_for width (replicate (width / 8) 255) ≡ true = both (equal_counts (length (replicate (width / 8) 255)) (width / 8) ones.count) ones.small in
-          let missing : is_missing_text width (replicate (width / 8) 255) ≡ true = three (has_octets_for width (replicate (width / 8) 255)) (list_all (λ x. x == 255) (replicate (width / 8) 255)) (not (width == 1)) (not (same_kind kinds.Text kinds.Count)) bits ones.ones may refl in
-          subst (λ xs. TextIs width (codes "missing") xs) (some_is (replicate (width / 8) 255) os own) (record { bits = bits; printed = ap (λ b. print_text b (replicate (width / 8) 255)) missing })
+          let bits : has_octets_for width (replicate (width / 8) 255) ≡ true =
+          both (equal_counts (length (replicate (width / 8) 255)) (width / 8) ones.count)
+          ones.small in
+          let missing : is_missing_text width (replicate (width / 8) 255) ≡ true =
+          three (has_octets_for width (replicate (width / 8) 255))
+          (list_all (λ x. x == 255) (replicate (width / 8) 255)) (not (width == 1))
+          (not (same_kind kinds.Text kinds.Count)) bits ones.ones may refl in
+          subst (λ xs. TextIs width (codes "missing") xs)
+          (some_is (replicate (width / 8) 255) os own)
+          (record {
+            bits = bits;
+            printed = ap (λ b. print_text b (replicate (width / 8) 255))
+                missing;
+          })
       | inr one ↦ absurd (let own = rw one at h in cc own)
     ]
 
@@ -103,17 +135,22 @@ record NotOnes (may : Bool) (o : Option (List ℕ)) (os : List ℕ) : Type 0 whe
   is : o ≡ Some os
   other : (may && are_ones os) ≡ false
 
-not_ones : (may : Bool) (o : Option (List ℕ)) (os : List ℕ) → unless_ones may o ≡ Some os → NotOnes may o os
+-- octets that are not those of a missing value
+not_ones : (may : Bool) (o : Option (List ℕ)) (os : List ℕ) → unless_ones may o ≡ Some os
+    → NotOnes may o os
 not_ones may None os h = absurd cc
 not_ones may (Some xs) os h =
     elim (cases_Bool (may && are_ones xs)) [
       | inl e ↦ absurd (let own : unless_ones may (Some xs) ≡ None = rw e refl in cc (sym own ∙ h))
       | inr e ↦
           let own : unless_ones may (Some xs) ≡ Some xs = rw e refl in
-          subst (λ ys. NotOnes may (Some xs) ys) (some_is xs os (sym own ∙ h)) (record { is = refl; other = e })
+          subst (λ ys. NotOnes may (Some xs) ys) (some_is xs os (sym own ∙ h))
+          (record { is = refl; other = e })
     ]
 
-quoted_word : (count : ℕ) (word os : List ℕ) → octets_of count word ≡ Some os → (length os ≡ count) × (list_all (λ x. nat_lt x 256) os ≡ true) × (quoted os ≡ word)
+-- octets that are read between quotes print the word
+quoted_word : (count : ℕ) (word os : List ℕ) → octets_of count word ≡ Some os
+    → (length os ≡ count) × (list_all (λ x. nat_lt x 256) os ≡ true) × (quoted os ≡ word)
 quoted_word count [] os h = absurd cc
 quoted_word count (c ∷ rest) os h =
     elim (cases_Bool (c == 34)) [
@@ -124,43 +161,69 @@ quoted_word count (c ∷ rest) os h =
       | inr e ↦ absurd (let own : octets_of count (c ∷ rest) ≡ None = rw e refl in cc (sym own ∙ h))
     ]
 
+-- octets that are read print the word
 text_is : (width : ℕ) (word os : List ℕ) → words.text_of width word ≡ Some os → TextIs width word os
 text_is width word os h =
     elim (cases_Bool (is_missing_word word)) [
       | inl is ↦
-          let own : words.text_of width word ≡ (if not (width == 1) then Some (replicate (width / 8) 255) else None) = rw is refl in
-          subst (λ w. TextIs width w os) (sym (bytes_same word (codes "missing") is)) (missing_text width os (sym own ∙ h))
+          let own : words.text_of width word
+          ≡ (if not (width == 1) then Some (replicate (width / 8) 255) else None) = rw is refl in
+          subst (λ w. TextIs width w os) (sym (bytes_same word (codes "missing") is))
+          (missing_text width os (sym own ∙ h))
       | inr other ↦
-          let own : words.text_of width word ≡ unless_ones (not (width == 1)) (octets_of (width / 8) word) = rw other refl in
+          let own : words.text_of width word ≡ unless_ones (not (width == 1))
+          (octets_of (width / 8) word) = rw other refl in
           let n = not_ones (not (width == 1)) (octets_of (width / 8) word) os (sym own ∙ h) in
           let q = quoted_word (width / 8) word os n.is in
-          let missing : is_missing_text width os ≡ false = four (has_octets_for width os) (list_all (λ x. x == 255) os) (not (width == 1)) (not (same_kind kinds.Text kinds.Count)) n.other in
-          record { bits = both (equal_counts (length os) (width / 8) q.0) q.1; printed = ap (λ b. print_text b os) missing ∙ q.2 }
+          let missing : is_missing_text width os ≡ false =
+          four (has_octets_for width os) (list_all (λ x. x == 255) os) (not (width == 1))
+          (not (same_kind kinds.Text kinds.Count)) n.other in
+          record {
+            bits = both (equal_counts (length os) (width / 8) q.0) q.1;
+            printed =
+                ap (λ b. print_text b os) missing ∙ q.2;
+          }
     ]
 
-text_by : (missing : Bool) (width : ℕ) (word os : List ℕ) → has_octets_for width os ≡ true → is_missing_text width os ≡ missing → print_text missing os ≡ word → words.text_of width word ≡ Some os
+-- octets are read of what they print, by whether they are missing
+text_by : (missing : Bool) (width : ℕ) (word os : List ℕ) → has_octets_for width os ≡ true
+    → is_missing_text width os ≡ missing → print_text missing os ≡ word → words.text_of width word
+    ≡ Some os
 text_by true width word os bits is e =
-    let a = and_parts (has_octets_for width os && list_all (λ x. x == 255) os && not (width == 1)) (not (same_kind kinds.Text kinds.Count)) is in
-    let b = and_parts (has_octets_for width os && list_all (λ x. x == 255) os) (not (width == 1)) a.0 in
+    let a = and_parts (has_octets_for width os && list_all (λ x. x == 255) os && not (width == 1))
+    (not (same_kind kinds.Text kinds.Count)) is in
+    let b = and_parts (has_octets_for width os && list_all (λ x. x == 255) os)
+    (not (width == 1)) a.0 in
     let ones = (and_parts (has_octets_for width os) (list_all (λ x. x == 255) os) b.0).1 in
-    let count = eqb-true (length os) (width / 8) (and_parts (length os == width / 8) (list_all (λ x. nat_lt x 256) os) bits).0 in
+    let count =
+    eqb-true (length os) (width / 8)
+    (and_parts (length os == width / 8) (list_all (λ x. nat_lt x 256) os) bits).0 in
     let missing : is_missing_word word ≡ true = same_bytes word (codes "missing") (sym e) in
-    let own : words.text_of width word ≡ Some (replicate (width / 8) 255) = rw (missing, b.1) refl in
+    let own : words.text_of width word ≡ Some (replicate (width / 8) 255) =
+    rw (missing, b.1) refl in
     own ∙ ap (λ k. Some (replicate k 255)) (sym count) ∙ ap Some (ones_are os ones)
 text_by false width word os bits is e =
     let p = and_parts (length os == width / 8) (list_all (λ x. nat_lt x 256) os) bits in
     let count = eqb-true (length os) (width / 8) p.0 in
-    let back : octets_of (width / 8) (quoted os) ≡ Some os = ap (λ k. octets_before k (flat_map quoted_octet os ++ 34 ∷ [])) (sym count) ∙ quoted_back os p.1 in
-    let other : (not (width == 1) && are_ones os) ≡ false = left_out (has_octets_for width os) (list_all (λ x. x == 255) os) (not (width == 1)) (not (same_kind kinds.Text kinds.Count)) bits refl is in
+    let back : octets_of (width / 8) (quoted os) ≡ Some os =
+    ap (λ k. octets_before k (flat_map quoted_octet os ++ 34 ∷ [])) (sym count)
+    ∙ quoted_back os p.1 in
+    let other : (not (width == 1) && are_ones os) ≡ false =
+    left_out (has_octets_for width os) (list_all (λ x. x == 255) os) (not (width == 1))
+    (not (same_kind kinds.Text kinds.Count)) bits refl is in
     let own : unless_ones (not (width == 1)) (Some os) ≡ Some os = rw other refl in
     ap (λ w. words.text_of width w) (sym e) ∙ ap (unless_ones (not (width == 1))) back ∙ own
 
-text_back : (width : ℕ) (word os : List ℕ) → TextIs width word os → words.text_of width word ≡ Some os
+-- octets are read of the word that they print
+text_back : (width : ℕ) (word os : List ℕ) → TextIs width word os → words.text_of width word
+    ≡ Some os
 text_back width word os h = text_by (is_missing_text width os) width word os h.bits refl h.printed
 
 -- ---- raw values
 
-map_some : {A B : Type 0} (o : Option A) (f : A → B) (y : B) → option_map f o ≡ Some y → (x : A) × (o ≡ Some x) × (f x ≡ y)
+-- what was answered before it was changed
+map_some : {A B : Type 0} (o : Option A) (f : A → B) (y : B) → option_map f o ≡ Some y
+    → (x : A) × (o ≡ Some x) × (f x ≡ y)
 map_some None f y h = absurd cc
 map_some (Some x) f y h = (x, refl, some_is (f x) y h)
 
@@ -169,107 +232,238 @@ record RawIs (d : ℕ) (spec : Spec) (word : List ℕ) (raw : Raw) : Type 0 wher
   form : has_form_by spec.kind spec.width raw ≡ true
   printed : value_word (record { fxy = d; spec = spec; raw = raw }) ≡ word
 
-raw_by_kind : (d : ℕ) (kind : Kind) (scale reference : ℤ) (width : ℕ) (word : List ℕ) (raw : Raw) → raw_of_kind kind (record { kind = kind; scale = scale; reference = reference; width = width }) word ≡ Some raw
+-- a raw value that is read prints the word, by its kind
+raw_by_kind : (d : ℕ) (kind : Kind) (scale reference : ℤ) (width : ℕ) (word : List ℕ) (raw : Raw)
+    → raw_of_kind kind (record {
+      kind = kind;
+      scale = scale;
+      reference = reference;
+      width =
+          width;
+    }) word ≡ Some raw
     → RawIs d (record { kind = kind; scale = scale; reference = reference; width = width }) word raw
 raw_by_kind d kinds.Text scale reference width word raw h =
     let p = map_some (words.text_of width word) (λ octets. Text octets) raw h in
     let t = text_is width word p.0 p.1 in
-    subst (λ r. RawIs d (record { kind = kinds.Text; scale = scale; reference = reference; width = width }) word r) p.2 (record { form = t.bits; printed = t.printed })
+    subst (λ r. RawIs d (record {
+      kind = kinds.Text;
+      scale = scale;
+      reference = reference;
+      width =
+          width;
+    }) word r) p.2 (record { form = t.bits; printed = t.printed })
 raw_by_kind d kinds.Code scale reference width word raw h =
-    let spec : Spec = record { kind = kinds.Code; scale = scale; reference = reference; width = width } in
+    let spec : Spec =
+    record { kind = kinds.Code; scale = scale; reference = reference; width = width } in
     let p = map_some (number_of spec word) (λ n. Number n) raw h in
     let t = number_is spec word p.0 p.1 in
-    subst (λ r. RawIs d (record { kind = kinds.Code; scale = scale; reference = reference; width = width }) word r) p.2 (record { form = t.bits; printed = t.printed })
+    subst (λ r. RawIs d (record {
+      kind = kinds.Code;
+      scale = scale;
+      reference = reference;
+      width =
+          width;
+    }) word r) p.2 (record { form = t.bits; printed = t.printed })
 raw_by_kind d kinds.Flag scale reference width word raw h =
-    let spec : Spec = record { kind = kinds.Flag; scale = scale; reference = reference; width = width } in
+    let spec : Spec =
+    record { kind = kinds.Flag; scale = scale; reference = reference; width = width } in
     let p = map_some (number_of spec word) (λ n. Number n) raw h in
     let t = number_is spec word p.0 p.1 in
-    subst (λ r. RawIs d (record { kind = kinds.Flag; scale = scale; reference = reference; width = width }) word r) p.2 (record { form = t.bits; printed = t.printed })
+    subst (λ r. RawIs d (record {
+      kind = kinds.Flag;
+      scale = scale;
+      reference = reference;
+      width =
+          width;
+    }) word r) p.2 (record { form = t.bits; printed = t.printed })
 raw_by_kind d kinds.Quantity scale reference width word raw h =
-    let spec : Spec = record { kind = kinds.Quantity; scale = scale; reference = reference; width = width } in
+    let spec : Spec =
+    record { kind = kinds.Quantity; scale = scale; reference = reference; width = width } in
     let p = map_some (number_of spec word) (λ n. Number n) raw h in
     let t = number_is spec word p.0 p.1 in
-    subst (λ r. RawIs d (record { kind = kinds.Quantity; scale = scale; reference = reference; width = width }) word r) p.2 (record { form = t.bits; printed = t.printed })
+    subst (λ r. RawIs d (record {
+      kind = kinds.Quantity;
+      scale = scale;
+      reference = reference;
+      width = width;
+    }) word r) p.2 (record { form = t.bits; printed = t.printed })
 raw_by_kind d kinds.Count scale reference width word raw h =
-    let spec : Spec = record { kind = kinds.Count; scale = scale; reference = reference; width = width } in
+    let spec : Spec = record {
+      kind = kinds.Count;
+      scale = scale;
+      reference = reference;
+      width =
+          width;
+    } in
     let p = map_some (number_of spec word) (λ n. Number n) raw h in
     let t = number_is spec word p.0 p.1 in
-    subst (λ r. RawIs d (record { kind = kinds.Count; scale = scale; reference = reference; width = width }) word r) p.2 (record { form = t.bits; printed = t.printed })
+    subst (λ r. RawIs d (record {
+      kind = kinds.Count;
+      scale = scale;
+      reference = reference;
+      width = width;
+    }) word r) p.2 (record { form = t.bits; printed = t.printed })
 
-back_by_kind : (d : ℕ) (kind : Kind) (scale reference : ℤ) (width : ℕ) (word : List ℕ) (raw : Raw) → IsPrintable (record { kind = kind; scale = scale; reference = reference; width = width })
-    → has_form_by kind width raw ≡ true → value_word (record { fxy = d; spec = record { kind = kind; scale = scale; reference = reference; width = width }; raw = raw }) ≡ word
-    → raw_of_kind kind (record { kind = kind; scale = scale; reference = reference; width = width }) word ≡ Some raw
+-- a raw value is read of the word that it prints, by its kind
+back_by_kind : (d : ℕ) (kind : Kind) (scale reference : ℤ) (width : ℕ) (word : List ℕ) (raw : Raw)
+    → IsPrintable (record { kind = kind; scale = scale; reference = reference; width = width })
+    → has_form_by kind width raw ≡ true
+    → value_word
+    (record {
+      fxy = d;
+      spec = record {
+        kind = kind;
+        scale = scale;
+        reference = reference;
+        width =
+            width;
+      };
+      raw = raw;
+    }) ≡ word
+    → raw_of_kind kind (record {
+      kind = kind;
+      scale = scale;
+      reference = reference;
+      width =
+          width;
+    }) word ≡ Some raw
 back_by_kind d kinds.Text scale reference width word (Number n) fit form e = absurd cc
-back_by_kind d kinds.Text scale reference width word (Text os) fit form e = ap (option_map (λ octets. Text octets)) (text_back width word os (record { bits = form; printed = e }))
+back_by_kind d kinds.Text scale reference width word (Text os) fit form e =
+    ap (option_map (λ octets. Text octets))
+    (text_back width word os (record { bits = form; printed = e }))
 back_by_kind d kinds.Code scale reference width word (Text os) fit form e = absurd cc
-back_by_kind d kinds.Code scale reference width word (Number n) fit form e = ap (option_map (λ n. Number n)) (number_back (record { kind = kinds.Code; scale = scale; reference = reference; width = width }) n word fit (record { bits = form; printed = e }))
+back_by_kind d kinds.Code scale reference width word (Number n) fit form e =
+    ap (option_map (λ n. Number n))
+    (number_back (record {
+      kind = kinds.Code;
+      scale = scale;
+      reference = reference;
+      width =
+          width;
+    }) n word fit (record { bits = form; printed = e }))
 back_by_kind d kinds.Flag scale reference width word (Text os) fit form e = absurd cc
-back_by_kind d kinds.Flag scale reference width word (Number n) fit form e = ap (option_map (λ n. Number n)) (number_back (record { kind = kinds.Flag; scale = scale; reference = reference; width = width }) n word fit (record { bits = form; printed = e }))
+back_by_kind d kinds.Flag scale reference width word (Number n) fit form e =
+    ap (option_map (λ n. Number n))
+    (number_back (record {
+      kind = kinds.Flag;
+      scale = scale;
+      reference = reference;
+      width =
+          width;
+    }) n word fit (record { bits = form; printed = e }))
 back_by_kind d kinds.Quantity scale reference width word (Text os) fit form e = absurd cc
-back_by_kind d kinds.Quantity scale reference width word (Number n) fit form e = ap (option_map (λ n. Number n)) (number_back (record { kind = kinds.Quantity; scale = scale; reference = reference; width = width }) n word fit (record { bits = form; printed = e }))
+back_by_kind d kinds.Quantity scale reference width word (Number n) fit form e =
+    ap (option_map (λ n. Number n))
+    (number_back (record {
+      kind = kinds.Quantity;
+      scale = scale;
+      reference = reference;
+      width =
+          width;
+    }) n word fit (record { bits = form; printed = e }))
 back_by_kind d kinds.Count scale reference width word (Text os) fit form e = absurd cc
-back_by_kind d kinds.Count scale reference width word (Number n) fit form e = ap (option_map (λ n. Number n)) (number_back (record { kind = kinds.Count; scale = scale; reference = reference; width = width }) n word fit (record { bits = form; printed = e }))
+back_by_kind d kinds.Count scale reference width word (Number n) fit form e =
+    ap (option_map (λ n. Number n))
+    (number_back (record {
+      kind = kinds.Count;
+      scale = scale;
+      reference = reference;
+      width =
+          width;
+    }) n word fit (record { bits = form; printed = e }))
 
-if_some : {A : Type 0} (b : Bool) (o : Option A) (x : A) → (if b then o else None) ≡ Some x → (b ≡ true) × (o ≡ Some x)
+-- a test that passed, and what was answered then
+if_some : {A : Type 0} (b : Bool) (o : Option A) (x : A) → (if b then o else None) ≡ Some x
+    → (b ≡ true) × (o ≡ Some x)
 if_some true o x h = (refl, h)
 if_some false o x h = absurd cc
 
-raw_is : (d : ℕ) (spec : Spec) (word : List ℕ) (raw : Raw) → raw_of spec word ≡ Some raw → (is_within 600 spec.scale ≡ true) × RawIs d spec word raw
+-- a raw value that is read prints the word
+raw_is : (d : ℕ) (spec : Spec) (word : List ℕ) (raw : Raw) → raw_of spec word ≡ Some raw
+    → (is_within 600 spec.scale ≡ true) × RawIs d spec word raw
 raw_is d spec word raw h =
     let p = if_some (is_within 600 spec.scale) (raw_of_kind spec.kind spec word) raw h in
     (p.0, raw_by_kind d spec.kind spec.scale spec.reference spec.width word raw p.1)
 
-raw_back : (d : ℕ) (spec : Spec) (word : List ℕ) (raw : Raw) → IsPrintable spec → has_form_by spec.kind spec.width raw ≡ true → value_word (record { fxy = d; spec = spec; raw = raw }) ≡ word → raw_of spec word ≡ Some raw
-raw_back d spec word raw fit form e = rw fit.scale (back_by_kind d spec.kind spec.scale spec.reference spec.width word raw fit form e)
+-- a raw value is read of the word that it prints
+raw_back : (d : ℕ) (spec : Spec) (word : List ℕ) (raw : Raw) → IsPrintable spec
+    → has_form_by spec.kind spec.width raw ≡ true
+    → value_word (record { fxy = d; spec = spec; raw = raw }) ≡ word → raw_of spec word ≡ Some raw
+raw_back d spec word raw fit form e =
+    rw fit.scale (back_by_kind d spec.kind spec.scale spec.reference spec.width word raw fit form e)
 
 -- ---- lines
 
+-- an integer of 64 bits has a size that fits
 abs_fits : (z : ℤ) → FitsSigned w64 z → unsigned_abs z ≤ 9223372036854775808
 abs_fits (pos n) fits = omega (arith, fits)
 abs_fits (negsuc n) fits = omega (arith, fits)
 
+-- a front and what stands behind it
 take_drop : (k : ℕ) (xs : List ℕ) → take k xs ++ drop k xs ≡ xs
 take_drop zero xs = refl
 take_drop (suc k) [] = refl
 take_drop (suc k) (c ∷ cs) = ap (λ ds. c ∷ ds) (take_drop k cs)
 
-line_is : (d : ℕ) (text : List ℕ) → bytes_eq (take 7 text) (six_digits d ++ 32 ∷ []) ≡ true → text ≡ six_digits d ++ 32 ∷ drop 7 text
-line_is d text h = sym (take_drop 7 text) ∙ ap (λ t. t ++ drop 7 text) (bytes_same (take 7 text) (six_digits d ++ 32 ∷ []) h)
+-- a line that begins with the descriptor and a space
+line_is : (d : ℕ) (text : List ℕ) → bytes_eq (take 7 text) (six_digits d ++ 32 ∷ []) ≡ true
+    → text ≡ six_digits d ++ 32 ∷ drop 7 text
+line_is d text h =
+    sym (take_drop 7 text) ∙ ap (λ t. t ++ drop 7 text)
+    (bytes_same (take 7 text) (six_digits d ++ 32 ∷ []) h)
 
+-- a test does not both pass and fail
 true_false : {P : Type 0} → true ≡ false → P
 true_false h = absurd cc
 
-own_text : (d : ℕ) (text : List ℕ) → bytes_eq (take 7 text) (six_digits d ++ 32 ∷ []) ≡ true → as_printed text ≡ text
+-- such a line has no octets, and is printed as it is
+own_text : (d : ℕ) (text : List ℕ) → bytes_eq (take 7 text) (six_digits d ++ 32 ∷ []) ≡ true
+    → as_printed text ≡ text
 own_text d text h =
     own_printed text (ap has_octets (line_is d text h) ∙ field_plain d (drop 7 text))
 
-not_plain : (d : ℕ) (text : List ℕ) → has_octets text ≡ true → bytes_eq (take 7 text) (six_digits d ++ 32 ∷ []) ≡ false
+-- a line of octets does not begin so
+not_plain : (d : ℕ) (text : List ℕ) → has_octets text ≡ true → bytes_eq (take 7 text)
+    (six_digits d ++ 32 ∷ []) ≡ false
 not_plain d text octets =
     elim (cases_Bool (bytes_eq (take 7 text) (six_digits d ++ 32 ∷ []))) [
-      | inl h ↦ true_false (sym octets ∙ ap has_octets (line_is d text h) ∙ field_plain d (drop 7 text))
+      | inl h ↦
+          true_false (sym octets ∙ ap has_octets (line_is d text h) ∙ field_plain d (drop 7 text))
       | inr h ↦ h
     ]
 
-front_printed : (d : ℕ) (text : List ℕ) → bytes_eq (take 7 text) (six_digits d ++ 32 ∷ []) ≡ false → bytes_eq (take 7 (as_printed text)) (six_digits d ++ 32 ∷ []) ≡ false
+-- a line that does not begin so does not as it is printed
+front_printed : (d : ℕ) (text : List ℕ) → bytes_eq (take 7 text) (six_digits d ++ 32 ∷ []) ≡ false
+    → bytes_eq (take 7 (as_printed text)) (six_digits d ++ 32 ∷ []) ≡ false
 front_printed d text h =
     elim (cases_Bool (has_octets text)) [
       | inl octets ↦ not_plain d (as_printed text) (octets_printed text ∙ octets)
-      | inr plain ↦ ap (λ t. bytes_eq (take 7 t) (six_digits d ++ 32 ∷ [])) (own_printed text plain) ∙ h
+      | inr plain ↦
+          ap (λ t. bytes_eq (take 7 t) (six_digits d ++ 32 ∷ [])) (own_printed text plain) ∙ h
     ]
 
-pub value_some : (d : ℕ) (spec : Spec) (n : ℕ) (text : List ℕ) (raw : Raw) → FitsSigned w64 spec.reference → bytes_eq (take 7 text) (six_digits d ++ 32 ∷ []) ≡ true → raw_of spec (drop 7 text) ≡ Some raw
+-- where a raw value is read, the field is
+pub value_some : (d : ℕ) (spec : Spec) (n : ℕ) (text : List ℕ) (raw : Raw)
+    → FitsSigned w64 spec.reference → bytes_eq (take 7 text) (six_digits d ++ 32 ∷ []) ≡ true
+    → raw_of spec (drop 7 text) ≡ Some raw
     → read_field d spec n (as_printed text) ≡ Ok (record { fxy = d; spec = spec; raw = raw })
 value_some d spec n text raw fits begins h =
     let p = raw_is d spec (drop 7 text) raw h in
     let f : Field = record { fxy = d; spec = spec; raw = raw } in
-    let stands : stands_for d spec (record { fxy = d; spec = spec; raw = raw }) ≡ true = rw (spec_is_same spec, p.1.form, (Decides-eqb d d).1 refl) refl in
-    let line : field_line (record { fxy = d; spec = spec; raw = raw }) ≡ text = ap (λ w. six_digits d ++ 32 ∷ w) p.1.printed ∙ sym (line_is d text begins) in
+    let stands : stands_for d spec (record { fxy = d; spec = spec; raw = raw }) ≡ true =
+    rw (spec_is_same spec, p.1.form, (Decides-eqb d d).1 refl) refl in
+    let line : field_line (record { fxy = d; spec = spec; raw = raw }) ≡ text =
+    ap (λ w. six_digits d ++ 32 ∷ w) p.1.printed ∙ sym (line_is d text begins) in
     ap (read_field d spec n) (own_text d text begins ∙ sym line)
-    ∙ read_field_back d spec n (record { fxy = d; spec = spec; raw = raw }) (record { scale = p.0; reference = abs_fits spec.reference fits }) stands
+    ∙ read_field_back d spec n (record { fxy = d; spec = spec; raw = raw })
+    (record { scale = p.0; reference = abs_fits spec.reference fits }) stands
 
-refused : {A F : Type 0} (b : Bool) (x : A) (e : F) → b ≡ false → (if b then Ok x else Err e) ≡ Err e
+-- a test that failed tells the fault
+refused : {A F : Type 0} (b : Bool) (x : A) (e : F) → b ≡ false → (if b then Ok x else Err e)
+    ≡ Err e
 refused b x e h = rw h refl
 
+-- a test that passed takes the answer
 if_taken : {A F : Type 0} (b : Bool) (x : A) (e : F) → b ≡ true → (if b then Ok x else Err e) ≡ Ok x
 if_taken b x e h = rw h refl
 
@@ -280,40 +474,61 @@ record Accepted (d : ℕ) (spec : Spec) (text : List ℕ) : Type 0 where
   within : is_within 600 spec.scale ≡ true
   form : has_form_by spec.kind spec.width raw ≡ true
 
+-- whether the candidate of a line is accepted
 abbrev accepts : ℕ → Spec → List ℕ → Bool
 accepts d spec text =
     is_within 600 spec.scale
     && has_form_by spec.kind spec.width (raw_in spec (drop 7 text))
     && bytes_eq (field_line (field_in d spec text)) text
 
+-- a candidate that is accepted prints the line
 accepted : (d : ℕ) (spec : Spec) (text : List ℕ) → accepts d spec text ≡ true → Accepted d spec text
 accepted d spec text h =
-    let q = and_parts (is_within 600 spec.scale && has_form_by spec.kind spec.width (raw_in spec (drop 7 text))) (bytes_eq (field_line (field_in d spec text)) text) h in
-    let r = and_parts (is_within 600 spec.scale) (has_form_by spec.kind spec.width (raw_in spec (drop 7 text))) q.0 in
-    record { raw = raw_in spec (drop 7 text); line = sym (bytes_same (field_line (field_in d spec text)) text q.1); within = r.0; form = r.1 }
+    let q = and_parts (is_within 600 spec.scale && has_form_by spec.kind spec.width
+    (raw_in spec (drop 7 text))) (bytes_eq (field_line (field_in d spec text)) text) h in
+    let r = and_parts (is_within 600 spec.scale)
+    (has_form_by spec.kind spec.width (raw_in spec (drop 7 text))) q.0 in
+    record {
+      raw = raw_in spec (drop 7 text);
+      line =
+          sym (bytes_same (field_line (field_in d spec text)) text q.1);
+      within = r.0;
+      form = r.1;
+    }
 
+-- an answer is not at once there and not there
 none_some : {A P : Type 0} (x : A) → ◌≡◌ {A = Option A} None (Some x) → P
 none_some x h = absurd cc
 
-pub value_none : (d : ℕ) (spec : Spec) (n : ℕ) (text : List ℕ) → FitsSigned w64 spec.reference → bytes_eq (take 7 text) (six_digits d ++ 32 ∷ []) ≡ true → raw_of spec (drop 7 text) ≡ None
+-- where no raw value is read, that is L2
+pub value_none : (d : ℕ) (spec : Spec) (n : ℕ) (text : List ℕ) → FitsSigned w64 spec.reference
+    → bytes_eq (take 7 text) (six_digits d ++ 32 ∷ []) ≡ true → raw_of spec (drop 7 text) ≡ None
     → read_field d spec n (as_printed text) ≡ Err (BadValue n)
 value_none d spec n text fits begins h =
     ap (read_field d spec n) (own_text d text begins)
     ∙ elim (cases_Bool (accepts d spec text)) [
       | inl is ↦
           let a = accepted d spec text is in
-          let word : value_word (record { fxy = d; spec = spec; raw = a.raw }) ≡ drop 7 text = sym (ap (drop 7) a.line) in
-          none_some a.raw (sym h ∙ raw_back d spec (drop 7 text) a.raw (record { scale = a.within; reference = abs_fits spec.reference fits }) a.form word)
-      | inr not ↦ refused (accepts d spec text) (field_in d spec text) (field_fault d n text) not ∙ rw begins refl
+          let word : value_word (record { fxy = d; spec = spec; raw = a.raw }) ≡ drop 7 text =
+          sym (ap (drop 7) a.line) in
+          none_some a.raw (sym h ∙ raw_back d spec (drop 7 text) a.raw
+          (record { scale = a.within; reference = abs_fits spec.reference fits }) a.form word)
+      | inr not ↦ refused (accepts d spec text) (field_in d spec text) (field_fault d n text) not
+          ∙ rw begins refl
     ]
 
-pub value_elsewhere : (d : ℕ) (spec : Spec) (n : ℕ) (text : List ℕ) → bytes_eq (take 7 text) (six_digits d ++ 32 ∷ []) ≡ false → read_field d spec n (as_printed text) ≡ Err (BadLine n)
+-- where the line begins otherwise, that is L1
+pub value_elsewhere : (d : ℕ) (spec : Spec) (n : ℕ) (text : List ℕ) → bytes_eq (take 7 text)
+    (six_digits d ++ 32 ∷ []) ≡ false → read_field d spec n (as_printed text) ≡ Err (BadLine n)
 value_elsewhere d spec n text other =
     let t = as_printed text in
     let no = front_printed d text other in
     elim (cases_Bool (accepts d spec (as_printed text))) [
       | inl is ↦
           let a = accepted d spec (as_printed text) is in
-          true_false (sym (same_bytes (take 7 (as_printed text)) (six_digits d ++ 32 ∷ []) (ap (take 7) a.line)) ∙ no)
-      | inr not ↦ refused (accepts d spec (as_printed text)) (field_in d spec (as_printed text)) (field_fault d n (as_printed text)) not ∙ rw no refl
+          true_false
+          (sym (same_bytes (take 7 (as_printed text)) (six_digits d ++ 32 ∷ [])
+          (ap (take 7) a.line)) ∙ no)
+      | inr not ↦ refused (accepts d spec (as_printed text)) (field_in d spec (as_printed text))
+          (field_fault d n (as_printed text)) not ∙ rw no refl
     ]

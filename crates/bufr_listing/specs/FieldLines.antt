@@ -1,14 +1,16 @@
 -- Reading the line of a field. Its value is read by the only raw value that could print it, and
 -- accepted where the field then prints this very line: there is no second grammar of numbers,
 -- quotes and `missing`.
-use Rattle.std.specs.Prelude.{ℕ, zero, suc, ◌+◌, ◌-◌, ◌*◌, ◌/◌, ◌^◌, ◌==◌, ◌&&◌, Bool, List, [], ◌∷◌, ◌++◌, take, drop, get_or, replicate, codes, unwrap_or, Result, Ok, Err, ℤ, pos, negsuc, ◌-ℤ◌, if◌then◌else◌}
+use Rattle.std.specs.Prelude.{ℕ, zero, suc, ◌+◌, ◌-◌, ◌*◌, ◌/◌, ◌^◌, ◌==◌, ◌&&◌, Bool, List, []}
+use Rattle.std.specs.Prelude.{◌∷◌, ◌++◌, take, drop, get_or, replicate, codes, unwrap_or, Result}
+use Rattle.std.specs.Prelude.{Ok, Err, ℤ, pos, negsuc, ◌-ℤ◌, if◌then◌else◌}
 use Rattle.std.specs.Str.{bytes_eq}
 use Rattle.hex.specs.Hex.{hex_digit_value}
 use Rattle.bufr_tables.specs.declared.element.Kind.{Kind}
 use Rattle.bufr_tables.specs.declared.element.Kind.TheVariants as kinds
 use Rattle.bufr_tables.specs.Descriptors.{six_digits}
 use Rattle.bufr_expand.specs.declared.operators.Spec.{Spec}
-use Rattle.bufr_expand.specs.Operating.{is_within}
+use Rattle.bufr_expand.specs.OperatorsInForce.{is_within}
 use Rattle.bufr_data.specs.declared.field.Raw.{Raw}
 use Rattle.bufr_data.specs.declared.field.Raw.TheVariants.{Number, Text}
 use Rattle.bufr_data.specs.declared.field.Field.{Field}

@@ -1,6 +1,7 @@
 -- Why a text is no listing: its first fault in the order of its lines, told by the lines before it
 -- and by what could stand there.
-use Rattle.std.specs.Prelude.{◌≡◌, ◌⊎◌, ℕ, ◌+◌, ◌<◌, ◌≤◌, ◌^◌, Bool, List, [], ◌∷◌, ◌++◌, length, map, take, codes, Option, All, IfSome}
+use Rattle.std.specs.Prelude.{◌≡◌, ◌⊎◌, ℕ, ◌+◌, ◌<◌, ◌≤◌, ◌^◌, Bool, List, [], ◌∷◌, ◌++◌, length}
+use Rattle.std.specs.Prelude.{map, take, codes, Option, All, IfSome}
 use Rattle.std.specs.List.{flat_map, AllByRecursion}
 use Rattle.std.specs.Str.Lines.{lines}
 use Rattle.bufr_tables.specs.Descriptors.{six_digits}
@@ -12,7 +13,7 @@ use Rattle.bufr_expand.specs.declared.walk.WalkFault.TheVariants.{TooLarge, Effe
 use Rattle.bufr_expand.specs.FirstFaults.{IsFirstFault}
 use Rattle.bufr_expand.specs.Flat.{IsTreeOf}
 use Rattle.bufr_expand.specs.Trees.{Tree}
-use Rattle.bufr_expand.specs.Beginning.{wants, lacks, BeginsWithin, PassesLimit}
+use Rattle.bufr_expand.specs.NextFields.{wants, lacks, BeginsWithin, PassesLimit}
 use Rattle.bufr_data.specs.declared.field.Field.{Field}
 use Rattle.bufr_data.specs.declared.field.Subset.{Subset}
 use Rattle.bufr_data.specs.Fits.{told_of, AllFitWithin}

@@ -39,3 +39,9 @@ ListingsAreReadBack = (tables : Entries) (messages : List Message)
 abbrev pub FaultsReadAreFirst : Type 0
 FaultsReadAreFirst = (tables : Entries) (text : List ℕ) (fault : ListingFault)
     → messages_listed tables text ≡ Err fault → FirstFault tables text fault
+
+-- and the first fault of a text is what reading answers: so a text has one at most, and one that
+-- has it lists no messages
+abbrev pub FirstFaultsAreRead : Type 0
+FirstFaultsAreRead = (tables : Entries) (text : List ℕ) (fault : ListingFault)
+    → FirstFault tables text fault → messages_listed tables text ≡ Err fault

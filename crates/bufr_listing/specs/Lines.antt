@@ -1,6 +1,8 @@
 -- The lines of a listing (this project's own text form of a message of FM 94 BUFR): which lines a
 -- text has that count, and which lines messages have.
-use Rattle.std.specs.Prelude.{◌≡◌, ℕ, ◌+◌, ◌<◌, ◌^◌, ◌==◌, ◌&&◌, ◌||◌, not, Bool, true, List, [], ◌∷◌, ◌++◌, length, map, codes, decimal, Option, Some, None, nat_le, get_or, if◌then◌else◌, IfSome, All}
+use Rattle.std.specs.Prelude.{◌≡◌, ℕ, ◌+◌, ◌<◌, ◌^◌, ◌==◌, ◌&&◌, ◌||◌, Bool, true, List, [], ◌∷◌}
+use Rattle.std.specs.Prelude.{◌++◌, length, map, codes, decimal, Option, Some, None, nat_le, get_or}
+use Rattle.std.specs.Prelude.{if◌then◌else◌, IfSome, All}
 use Rattle.std.specs.List.{flat_map, slice_split, AllByRecursion}
 use Rattle.std.specs.Str.{bytes_eq}
 use Rattle.std.specs.Str.Lines.{lines}

@@ -1,6 +1,8 @@
 -- Reading a listing, line by line, with the first fault: the messages that it lists, or L1
 -- BadLine, L2 BadValue or L3 Refused and the line.
-use Rattle.std.specs.Prelude.{ℕ, zero, suc, ◌+◌, ◌-◌, ◌==◌, ◌&&◌, ◌||◌, not, Bool, true, false, List, [], ◌∷◌, ◌++◌, length, map, get_or, drop, codes, unwrap_or, Option, Some, None, Result, Ok, Err, nat_le, nat_lt, if◌then◌else◌}
+use Rattle.std.specs.Prelude.{ℕ, zero, suc, ◌+◌, ◌==◌, ◌&&◌, not, Bool, true, false, List, [], ◌∷◌}
+use Rattle.std.specs.Prelude.{length, map, get_or, drop, codes, unwrap_or, Option, Some, None}
+use Rattle.std.specs.Prelude.{Result, Ok, Err, nat_le, nat_lt, if◌then◌else◌}
 use Rattle.std.specs.Str.{bytes_eq}
 use Rattle.std.specs.Str.Lines.{lines}
 use Rattle.std.specs.Str.Parse.{digits_value}
@@ -10,7 +12,6 @@ use Rattle.bufr_tables.specs.Answers.{◌>>=◌, result_map}
 use Rattle.bufr_tables.specs.Descriptors.{of_text}
 use Rattle.bufr_tables.specs.Entries.{Entries}
 use Rattle.bufr_expand.specs.declared.node.TemplateFault.{TemplateFault}
-use Rattle.bufr_expand.specs.declared.operators.Spec.{Spec}
 use Rattle.bufr_expand.specs.Templates.{template}
 use Rattle.bufr_expand.specs.Trees.{Tree}
 use Rattle.bufr_expand.specs.Courses.{Course, ends, stops, asks, course}
@@ -22,7 +23,8 @@ use Rattle.bufr_sections.specs.declared.message.Message.{Message}
 use Rattle.bufr_listing.specs.declared.fault.Cause.TheVariants as causes
 use Rattle.bufr_listing.specs.declared.fault.ListingFault.{ListingFault}
 use Rattle.bufr_listing.specs.declared.fault.ListingFault.TheVariants.{BadLine, BadValue, Refused}
-use Rattle.bufr_listing.specs.Lines.{Line, words_of, first_word, numbers_line, octets_line, section2_line, flags_line, descriptors_line, counting_lines}
+use Rattle.bufr_listing.specs.Lines.{Line, words_of, first_word, numbers_line, octets_line}
+use Rattle.bufr_listing.specs.Lines.{flags_line, descriptors_line, counting_lines}
 use Rattle.bufr_listing.specs.FieldLines.{read_field}
 
 -- ---- one line

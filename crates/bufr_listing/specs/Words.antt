@@ -1,5 +1,6 @@
 -- The words of a line that are left, and the numbers and descriptors that words are.
-use Rattle.std.specs.Prelude.{◌≡◌, ℕ, ◌+◌, List, [], ◌∷◌, Option, Some, None, option_map, option_and_then, ℤ, pos, negsuc, nat_lt, if◌then◌else◌}
+use Rattle.std.specs.Prelude.{ℕ, List, [], ◌∷◌, Option, Some, None, option_map, option_and_then, ℤ}
+use Rattle.std.specs.Prelude.{pos, negsuc, nat_lt, if◌then◌else◌}
 use Rattle.bufr_tables.specs.Descriptors.{of_text}
 use Rattle.bufr_data.specs.declared.field.Decimal.{Decimal}
 use Rattle.bufr_data.specs.DecimalTexts.{decimal_of}

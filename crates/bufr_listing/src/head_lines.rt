@@ -6,12 +6,13 @@ ghost use Rattle.std.specs.Str.{bytes_eq};
 ghost use Rattle.std.specs.List.{AllByRecursion};
 ghost use Rattle.hex.specs.declared.error.FromHexError.TheVariants.{OutOfMemory};
 ghost use Rattle.bufr_tables.specs.Answers.{Gives};
+ghost use Rattle.bufr_expand.specs.Templates.{template};
 ghost use Rattle.bufr_listing.specs.Cursors.{left, past};
 ghost use Rattle.bufr_listing.specs.Lines.{Line, as_printed, first_word, words_of, has_octets};
 ghost use Rattle.bufr_listing.specs.Reading as reading;
 ghost use Rattle.bufr_listing.specs.Reading.{read_line, read_if, read_word, read_numbers};
 ghost use Rattle.bufr_listing.specs.Reading.{read_octets, read_local, read_section2, read_flags};
-ghost use Rattle.bufr_listing.specs.Reading.{read_descriptors, Described};
+ghost use Rattle.bufr_listing.specs.Reading.{read_descriptors, Described, described};
 
 use crate::fault::{Cause, ListingFault};
 use crate::line_words::{Words, begins};
@@ -195,10 +196,25 @@ pub fn read_descriptors(
         Some(descriptors) if !descriptors.is_empty() => descriptors,
         _ => return Err(bad_line(line)),
     };
-    match Template::build(alloc, tables, descriptors.as_slice()) {
-        Ok(template) => Ok((descriptors, template)),
-        Err(Failure::OutOfMemory) => Err(Failure::OutOfMemory),
-        Err(Failure::Fault(fault)) => Err(refused(line, Cause::Template(fault))),
+    let template = template_of(alloc, tables, line, descriptors.as_slice())?;
+    Ok((descriptors, template))
+}
+
+/// The template of the descriptors of a line, or L3 at this line where they have none.
+fn template_of(
+    alloc: Global,
+    tables: &Tables,
+    line: TextLine,
+    descriptors: &[Fxy],
+) -> Result<Template, Failure<ListingFault>>
+    ensures { Gives (λ t. record { descriptors = descriptors.now; tree = t }) result
+        (described line.entry.number descriptors.now (template tables.now descriptors.now)) }
+{
+    match Template::build(alloc, tables, descriptors) {
+        Ok(template) => Ok(template),
+        Err(failure) => Err(failure.map(|fault| {
+            ListingFault::Refused(u128::from(line.number), Cause::Template(fault))
+        })),
     }
 }
 

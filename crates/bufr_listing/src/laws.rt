@@ -3,6 +3,7 @@
 ghost use Rattle.bufr_listing.specs.Laws.{ListingsAreJoinedLines, ListingsAreJoinedParts};
 ghost use Rattle.bufr_listing.specs.Laws.{MessagesReadAreListed, MessagesListedAreRead};
 ghost use Rattle.bufr_listing.specs.Laws.{ListingsAreReadBack, FaultsReadAreFirst};
+ghost use Rattle.bufr_listing.specs.Laws.{FirstFaultsAreRead};
 
 use bufr_data::counted_subsets_fit;
 use bufr_expand::laws::{
@@ -40,13 +41,15 @@ pub fn listings_are_read_back()
     counted_subsets_fit();
 }
 
-/// The fault that reading answers is the first of the text: the messages before it are listed, the
-/// lines of this one before it are those of some head, or of a head whose descriptors have a
-/// template, of subsets that fit and of fields with which a subset can begin; and the next line is
-/// none that could follow (L1, L2), or there is none (L1), or the descriptors have no tree or
-/// no field can follow (L3).
+/// Reading answers a fault exactly where it is the first of the text: the messages before it are
+/// listed, the lines of this one before it are those of some head, or of a head whose descriptors
+/// have a template, of subsets that fit and of fields with which a subset can begin; and the next
+/// line is none that could follow (L1, L2), or there is none (L1), or the descriptors have no tree
+/// or no field can follow (L3). So a text has one first fault at most, and has it exactly where it
+/// lists no messages.
 pub fn faults_of_listings_are_the_first()
-    ensures { FaultsReadAreFirst }
+    ensures given { FaultsReadAreFirst }
+    ensures answered { FirstFaultsAreRead }
 {
     descriptor_texts();
     courses_are_steady();

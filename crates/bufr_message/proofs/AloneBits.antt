@@ -11,7 +11,8 @@ use Rattle.bufr_sections.specs.Spelt.{longest}
 use Rattle.bufr_message.specs.Messages.{octets_alone}
 
 -- one field more
-pub bits_more : (fields : List Field) (i : ℕ) (f : Field) → i < length fields → f ≡ get_or fields i f
+pub bits_more : (fields : List Field) (i : ℕ) (f : Field) → i < length fields
+    → f ≡ get_or fields i f
     → length (plain (take (i + 1) fields)) ≡ length (plain (take i fields)) + length (field_bits f)
 bits_more fields i f below is =
     let more = take_more fields i f below in
@@ -24,7 +25,8 @@ bits_more fields i f below is =
     omega arith
 
 -- a front has no more bits than all fields
-pub front_bits : (fields : List Field) (i : ℕ) → length (plain (take i fields)) ≤ length (plain fields)
+pub front_bits : (fields : List Field) (i : ℕ)
+    → length (plain (take i fields)) ≤ length (plain fields)
 front_bits fields i =
     let whole = ap (λ (fs : List Field). length (plain fs)) (take-append-drop i fields) in
     let split = ap length (flat_map-append field_bits (take i fields) (drop i fields)) in

@@ -1,5 +1,5 @@
--- Each subset of the data of a message stands in plain data of its own, which are no longer than those:
--- for the law that the reports of a message have canonical messages.
+-- Each subset of the data of a message stands in plain data of its own, which are no longer than
+-- those: for the law that the reports of a message have canonical messages.
 use Rattle.std.proofs.Common.{◌≡◌, ℕ, zero, suc, ◌+◌, ◌≤◌, Bool, true, false, List, [], ◌∷◌, ◌++◌, length, map, sym, ap, subst, ◌∙◌, arith, length-append}
 use Rattle.std.specs.List.{AllByRecursion, flat_map}
 use Rattle.bufr_bits.specs.Bits.{bin, bits}
@@ -19,14 +19,16 @@ use Rattle.bufr_data.specs.Data.{IsDataOf}
 -- ---- one value and its column
 
 -- two values of one spec's form take as many bits
-same_room : (spec : Spec) (a b : Raw) → HasForm spec a → HasForm spec b → length (raw_bits spec.width a) ≡ length (raw_bits spec.width b)
+same_room : (spec : Spec) (a b : Raw) → HasForm spec a → HasForm spec b
+    → length (raw_bits spec.width a) ≡ length (raw_bits spec.width b)
 same_room spec a b (of_text xs kind long small) (of_text ys kind2 long2 small2) = omega (arith, length-bits xs, length-bits ys)
 same_room spec a b (of_text xs kind long small) (of_number n other few least) = absurd (other kind)
 same_room spec a b (of_number n other few least) (of_text ys kind long small) = absurd (other kind)
 same_room spec a b (of_number n other few least) (of_number k other2 few2 least2) = length-bin spec.width n ∙ sym (length-bin spec.width k)
 
 -- a column is no shorter than a value of its spec's form
-column_is_long : (spec : Spec) (values : List Raw) (column : List Bool) (v : Raw) → IsColumn spec values column → HasForm spec v → length (raw_bits spec.width v) ≤ length column
+column_is_long : (spec : Spec) (values : List Raw) (column : List Bool) (v : Raw)
+    → IsColumn spec values column → HasForm spec v → length (raw_bits spec.width v) ≤ length column
 column_is_long spec values column v (equal minimum form same is) has =
     let room = same_room spec v minimum has form in
     let all = ap length is in
@@ -47,7 +49,8 @@ abbrev FieldsHaveForm : List Field → Type 0
 FieldsHaveForm fields = AllByRecursion (λ f. HasForm f.spec f.raw) fields
 
 -- columns are no shorter than the fields of one subset
-columns_are_long : (n k : ℕ) (columns : List Column) (front : List Bool) → AreColumns n columns front → FieldsHaveForm (map (field_of k) columns)
+columns_are_long : (n k : ℕ) (columns : List Column) (front : List Bool)
+    → AreColumns n columns front → FieldsHaveForm (map (field_of k) columns)
     → length (plain (map (field_of k) columns)) ≤ length front
 columns_are_long n k [] front are forms = omega arith
 columns_are_long n k (c ∷ cs) front (column, others, is, many, held, one_count, more) (form, forms) =
@@ -66,12 +69,15 @@ pub record StandsAlone (tree : Tree) (most : ℕ) (s : Subset) : Type 0 where
   pub short : length (plain_subsets (s ∷ [])) ≤ most
 
 -- a subset that fits stands alone
-alone_is : (tree : Tree) (most : ℕ) (s : Subset) (items : ℕ) → Fits tree s.fields items → items ≤ 16777216 → length (plain s.fields) ≤ most → StandsAlone tree most s
+alone_is : (tree : Tree) (most : ℕ) (s : Subset) (items : ℕ) → Fits tree s.fields items
+    → items ≤ 16777216 → length (plain s.fields) ≤ most → StandsAlone tree most s
 alone_is tree most s items fits few short = record { items = items; fits = fits; few = few; short = omega (arith, length-append (plain s.fields) []) }
 
 -- the subsets of columns stand alone
-packed_alone : (tree : Tree) (n : ℕ) (columns : List Column) (front : List Bool) → AreColumns n columns front
-    → (k count : ℕ) → AllByRecursion (FitsAlone tree) (subsets_from k count columns) → AllByRecursion (StandsAlone tree (length front)) (subsets_from k count columns)
+packed_alone : (tree : Tree) (n : ℕ) (columns : List Column) (front : List Bool)
+    → AreColumns n columns front → (k count : ℕ)
+    → AllByRecursion (FitsAlone tree) (subsets_from k count columns)
+    → AllByRecursion (StandsAlone tree (length front)) (subsets_from k count columns)
 packed_alone tree n columns front are k zero fit = tt
 packed_alone tree n columns front are k (suc count) ((total, (items, fits, sum, few)), others) = (
   alone_is tree (length front) (subset_of columns k) items fits (omega arith) (columns_are_long n k columns front are fits.formed),
@@ -79,7 +85,8 @@ packed_alone tree n columns front are k (suc count) ((total, (items, fits, sum, 
 )
 
 -- plain subsets stand alone
-plain_alone : (tree : Tree) (most : ℕ) (subsets : List Subset) (items : ℕ) → AllFit tree subsets items → items ≤ 16777216 → length (plain_subsets subsets) ≤ most
+plain_alone : (tree : Tree) (most : ℕ) (subsets : List Subset) (items : ℕ)
+    → AllFit tree subsets items → items ≤ 16777216 → length (plain_subsets subsets) ≤ most
     → AllByRecursion (StandsAlone tree most) subsets
 plain_alone tree most [] items fit few short = tt
 plain_alone tree most (s ∷ ss) items (own, others, fits, more, sum) few short =
@@ -89,7 +96,8 @@ plain_alone tree most (s ∷ ss) items (own, others, fits, more, sum) few short 
     )
 
 -- each subset of data stands alone in no more bits
-pub each_alone : (tree : Tree) (compressed : Bool) (subsets : List Subset) (data_bits : List Bool) → IsDataOf tree compressed subsets data_bits
+pub each_alone : (tree : Tree) (compressed : Bool) (subsets : List Subset) (data_bits : List Bool)
+    → IsDataOf tree compressed subsets data_bits
     → AllByRecursion (StandsAlone tree (length data_bits)) subsets
 each_alone tree false subsets data_bits (items, (own, fit, sum, few), are) = plain_alone tree (length data_bits) subsets own fit (omega arith) (let all = ap length are in omega arith)
 each_alone tree true [] data_bits (fit, none) = tt

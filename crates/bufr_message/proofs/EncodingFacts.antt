@@ -10,8 +10,9 @@ use Rattle.bufr_message.specs.Messages.{envelope_with}
 use Rattle.bufr_message.specs.Encodings.{filled, whole_octets, data_or, enclosed_or}
 
 -- bits filled to whole octets, as octets
-pub whole_octets_are : (octets : List ℕ) (data_bits : List Bool) → ((i : ℕ) → get_or octets i 0 < 256)
-    → bits octets ≡ filled data_bits → whole_octets data_bits ≡ octets
+pub whole_octets_are : (octets : List ℕ) (data_bits : List Bool)
+    → ((i : ℕ) → get_or octets i 0 < 256) → bits octets ≡ filled data_bits
+    → whole_octets data_bits ≡ octets
 whole_octets_are octets data_bits small same =
     let long = length-append data_bits (replicate ((8 - length data_bits % 8) % 8) false) in
     let fill = length-replicate ((8 - length data_bits % 8) % 8) false in
@@ -23,6 +24,7 @@ whole_octets_are octets data_bits small same =
     rw (count, pad, ← same) (rw (append-nil (bits octets)) at back)
 
 -- what is answered for the sections of a message with these octets behind the fourth of section 4
-pub enclosed_is : (m : Message) (contents : List ℕ) (data_bits : List Bool) (x : Result (List ℕ) WriteFault)
-    → whole_octets data_bits ≡ contents → spelt_or (envelope_with m contents) ≡ x → enclosed_or m data_bits ≡ data_or x
+pub enclosed_is : (m : Message) (contents : List ℕ) (data_bits : List Bool)
+    (x : Result (List ℕ) WriteFault) → whole_octets data_bits ≡ contents
+    → spelt_or (envelope_with m contents) ≡ x → enclosed_or m data_bits ≡ data_or x
 enclosed_is m contents data_bits x whole told = rw (whole, told) refl

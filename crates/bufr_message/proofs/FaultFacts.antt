@@ -1,5 +1,5 @@
--- Octets are refused for the first cause in the order of the sections, the descriptors and the data: for
--- the laws on refusals of octets.
+-- Octets are refused for the first cause in the order of the sections, the descriptors and the
+-- data: for the laws on refusals of octets.
 use Rattle.std.proofs.Common.{◌≡◌, ℕ, ◌/◌, Bool, true, false, cond, List, length, Result, Ok, Err, refl, ap, subst, ◌∙◌, inl, inr}
 use Rattle.std.proofs.lemmas.Bool.{both_ways}
 use Rattle.bufr_bits.specs.Bits.{bits}
@@ -27,19 +27,22 @@ use Rattle.bufr_message.proofs.CanBeAlone.{alone_passes, alone_fails}
 -- ---- what refuses in each step
 
 -- descriptors that have no tree are refused for their fault
-template_refuses : (x : Result Tree TemplateFault) (fault : Refused) → template_or x ≡ Err fault → (why : TemplateFault) × (x ≡ Err why) × (Template why ≡ fault)
+template_refuses : (x : Result Tree TemplateFault) (fault : Refused) → template_or x ≡ Err fault
+    → (why : TemplateFault) × (x ≡ Err why) × (Template why ≡ fault)
 template_refuses (Ok tree) fault e = absurd cc
 template_refuses (Err why) fault e = (why, refl, cc)
 
 -- data that are refused are so for their fault
-data_refuses : {A : Type 0} (x : Result A ReadFault) (fault : Refused) → data_or x ≡ Err fault → (why : ReadFault) × (x ≡ Err why) × (Data why ≡ fault)
+data_refuses : {A : Type 0} (x : Result A ReadFault) (fault : Refused) → data_or x ≡ Err fault
+    → (why : ReadFault) × (x ≡ Err why) × (Data why ≡ fault)
 data_refuses (Ok found) fault e = absurd cc
 data_refuses (Err why) fault e = (why, refl, cc)
 
 -- ---- octets that are refused
 
 -- a test without which there is a fault was not passed
-not_passed : {A F : Type 0} (b : Bool) (x : A) (fault other : F) → cond b (Ok x) (Err fault) ≡ Err other → (b ≡ false) × (fault ≡ other)
+not_passed : {A F : Type 0} (b : Bool) (x : A) (fault other : F)
+    → cond b (Ok x) (Err fault) ≡ Err other → (b ≡ false) × (fault ≡ other)
 not_passed true x fault other e = absurd cc
 not_passed false x fault other e = (refl, cc)
 
@@ -48,14 +51,16 @@ abbrev read : Envelope → Tree → Result Decoded Refused
 read e tree = data_or (subsets_in tree e.compressed e.count (bits e.contents)) >>= ended e
 
 -- a fault of the sections is the first
-section_fault : (tables : Entries) (octets : List ℕ) (fault : Refused) → is_of_sections fault ≡ true → IsFirstRefusal octets fault → IsFirstFault tables octets fault
+section_fault : (tables : Entries) (octets : List ℕ) (fault : Refused) → is_of_sections fault ≡ true
+    → IsFirstRefusal octets fault → IsFirstFault tables octets fault
 section_fault tables octets (Template why) of first = absurd cc
 section_fault tables octets (Data why) of first = absurd cc
 section_fault tables octets fault of first = first
 
 -- a fault of the data is the first
-data_fault : Below → (tables : Entries) (octets : List ℕ) (fault : Refused) (e : Envelope) (tree : Tree) → HasSections octets e
-    → IsTreeOf tables e.descriptors tree → read e tree ≡ Err fault
+data_fault : Below
+    → (tables : Entries) (octets : List ℕ) (fault : Refused) (e : Envelope) (tree : Tree)
+    → HasSections octets e → IsTreeOf tables e.descriptors tree → read e tree ≡ Err fault
     → IsFirstFault tables octets fault
 data_fault below tables octets fault e tree has built refused = elim (bind_err (data_or (subsets_in tree e.compressed e.count (bits e.contents))) (ended e) fault refused) [
   | inl not_so ↦
@@ -72,8 +77,8 @@ data_fault below tables octets fault e tree has built refused = elim (bind_err (
 ]
 
 -- a fault of the descriptors is the first
-tree_fault : Below → (tables : Entries) (octets : List ℕ) (fault : Refused) (e : Envelope) → HasSections octets e
-    → (template_or (template tables e.descriptors) >>= read e) ≡ Err fault
+tree_fault : Below → (tables : Entries) (octets : List ℕ) (fault : Refused) (e : Envelope)
+    → HasSections octets e → (template_or (template tables e.descriptors) >>= read e) ≡ Err fault
     → IsFirstFault tables octets fault
 tree_fault below tables octets fault e has refused = elim (bind_err (template_or (template tables e.descriptors)) (read e) fault refused) [
   | inl not_so ↦
@@ -85,12 +90,14 @@ tree_fault below tables octets fault e has refused = elim (bind_err (template_or
 ]
 
 -- a fault of what stands in the sections is the first
-message_fault : Below → (tables : Entries) (octets : List ℕ) (fault : Refused) (e : Envelope) → HasSections octets e → message_in tables e ≡ Err fault → IsFirstFault tables octets fault
+message_fault : Below → (tables : Entries) (octets : List ℕ) (fault : Refused) (e : Envelope)
+    → HasSections octets e → message_in tables e ≡ Err fault → IsFirstFault tables octets fault
 unfolding message_in
 message_fault below tables octets fault e has refused = tree_fault below tables octets fault e has refused
 
 -- octets that are refused are so for their first fault
-pub fault_when_refused : Below → (tables : Entries) (octets : List ℕ) (fault : Refused) → AreOctets octets → message_of tables octets ≡ Err fault → IsFirstFault tables octets fault
+pub fault_when_refused : Below → (tables : Entries) (octets : List ℕ) (fault : Refused)
+    → AreOctets octets → message_of tables octets ≡ Err fault → IsFirstFault tables octets fault
 unfolding message_of
 fault_when_refused below tables octets fault all refused = elim (bind_err (envelope_of octets) (message_in tables) fault refused) [
   | inl not_so ↦ section_fault tables octets fault (below.theirs octets fault not_so) (below.first octets fault not_so)
@@ -104,12 +111,14 @@ said : Below → (octets : List ℕ) (e : Envelope) → HasSections octets e →
 said below octets e has = ap envelope_of has.2 ∙ below.says has.0 e has.1 has.3
 
 -- the first cause of the sections is answered
-sections_answered : Below → (tables : Entries) (octets : List ℕ) (fault : Refused) → IsFirstRefusal octets fault → message_of tables octets ≡ Err fault
+sections_answered : Below → (tables : Entries) (octets : List ℕ) (fault : Refused)
+    → IsFirstRefusal octets fault → message_of tables octets ≡ Err fault
 unfolding message_of
 sections_answered below tables octets fault first = rw (below.answered octets fault first) refl
 
 -- the first fault of octets is answered
-pub refused_when_fault : Below → (tables : Entries) (octets : List ℕ) (fault : Refused) → IsFirstFault tables octets fault → message_of tables octets ≡ Err fault
+pub refused_when_fault : Below → (tables : Entries) (octets : List ℕ) (fault : Refused)
+    → IsFirstFault tables octets fault → message_of tables octets ≡ Err fault
 unfolding message_of message_in
 refused_when_fault below tables octets (Template why) (e, has, none) =
     rw (said below octets e has, (below.refuses tables e.descriptors why).1 none) refl

@@ -13,10 +13,12 @@ pairs : (ds : List ℕ) → length (flat_map (bytes_high_first 2) ds) ≡ 2 * le
 pairs [] = refl
 pairs (d ∷ ds) = let more = pairs ds in omega arith
 
+-- section 0 and `7777` are 12 octets around the sections
 enclosed_long : (layout : Layout) (middle : List ℕ)
     → length (enclosed layout middle) ≡ 12 + length middle
 enclosed_long layout middle = let both = length-append middle (codes "7777") in omega arith
 
+-- four parts, one behind another, are as long as all of them
 four_parts : (a b c d : List ℕ)
     → length (a ++ b ++ c ++ d) ≡ length a + length b + length c + length d
 four_parts a b c d =

@@ -1,3 +1,5 @@
+-- The lemmas behind the contracts and laws of this crate: messages read, written and refused,
+-- reports.
 pub mod OnLiterals
 pub mod LengthFacts
 pub mod CanBeAlone

@@ -1,5 +1,5 @@
--- The message that is read is the one that the octets spell: for `decode` and the laws on messages that
--- are read.
+-- The message that is read is the one that the octets spell: for `decode` and the laws on messages
+-- that are read.
 use Rattle.bufr_tables.specs.Answers.{Gives}
 use Rattle.bufr_tables.specs.declared.failure.Failure.{Failure}
 use Rattle.std.proofs.Common.{◌≡◌, ℕ, ◌/◌, Bool, true, List, length, Result, Ok, Err, refl, sym, ap, subst, ◌∙◌}
@@ -30,13 +30,17 @@ use Rattle.bufr_message.proofs.CanBeAlone.{alone_passes, alone_takes}
 
 -- what the tree and the data are, each step answers
 in_turn : (tables : Entries) (e : Envelope) (tree : Tree) (found : List Subset × List Bool)
-    → template tables e.descriptors ≡ Ok tree → subsets_in tree e.compressed e.count (bits e.contents) ≡ Ok found
-    → can_be_alone e.descriptors found.0 ≡ true → message_in tables e ≡ Ok (record { message = message_with e found.0; slack_octets = length found.1 / 8 })
+    → template tables e.descriptors ≡ Ok tree
+    → subsets_in tree e.compressed e.count (bits e.contents) ≡ Ok found
+    → can_be_alone e.descriptors found.0 ≡ true
+    → message_in tables e
+    ≡ Ok (record { message = message_with e found.0; slack_octets = length found.1 / 8 })
 unfolding message_in
 in_turn tables e tree found built read alone = rw (built, read, alone) refl
 
 -- the message that octets spell is read of them
-pub message_of_spelt : Below → (tables : Entries) (octets : List ℕ) (m : Message) (slack : ℕ) → Spells tables m octets slack
+pub message_of_spelt : Below → (tables : Entries) (octets : List ℕ) (m : Message) (slack : ℕ)
+    → Spells tables m octets slack
     → message_of tables octets ≡ Ok (record { message = m; slack_octets = slack })
 unfolding message_of
 message_of_spelt below tables octets m slack s =
@@ -51,7 +55,8 @@ message_of_spelt below tables octets m slack s =
 -- ---- what is read is spelt
 
 -- a tree that is answered is that of the descriptors, and data those that are held
-pub template_takes : (x : Result Tree TemplateFault) (tree : Tree) → template_or x ≡ Ok tree → x ≡ Ok tree
+pub template_takes : (x : Result Tree TemplateFault) (tree : Tree) → template_or x ≡ Ok tree
+    → x ≡ Ok tree
 template_takes (Ok found) tree e = ap (λ (t : Tree). Ok t) (ok_is _ _ e)
 template_takes (Err fault) tree e = absurd cc
 
@@ -61,9 +66,12 @@ data_takes (Ok found) f e = ap (λ g. Ok g) (ok_is _ _ e)
 data_takes (Err fault) f e = absurd cc
 
 -- what is read spells its message
-spells_read : Below → (tables : Entries) (octets : List ℕ) (layout : Layout) (e : Envelope) (i : Ignored) (tree : Tree) (found : List Subset × List Bool)
-    → octets ≡ spelling layout e i → EnvelopeFits layout e i → IsTreeOf tables e.descriptors tree
-    → subsets_in tree e.compressed e.count (bits e.contents) ≡ Ok found → CanBeAlone e.descriptors found.0
+spells_read : Below
+    → (tables : Entries) (octets : List ℕ) (layout : Layout) (e : Envelope) (i : Ignored)
+    (tree : Tree) (found : List Subset × List Bool) → octets ≡ spelling layout e i
+    → EnvelopeFits layout e i → IsTreeOf tables e.descriptors tree
+    → subsets_in tree e.compressed e.count (bits e.contents) ≡ Ok found
+    → CanBeAlone e.descriptors found.0
     → Spells tables (message_with e found.0) octets (length found.1 / 8)
 spells_read below tables octets layout e i tree found spelt fits has read alone =
     let stands = (below.reads tree e.compressed e.count (bits e.contents) found).0 read in
@@ -85,7 +93,8 @@ spells_read below tables octets layout e i tree found spelt fits has read alone 
     }
 
 -- a message that is read is spelt so
-pub message_of_takes : Below → (tables : Entries) (octets : List ℕ) (d : Decoded) → AreOctets octets → message_of tables octets ≡ Ok d → Spells tables d.message octets d.slack_octets
+pub message_of_takes : Below → (tables : Entries) (octets : List ℕ) (d : Decoded) → AreOctets octets
+    → message_of tables octets ≡ Ok d → Spells tables d.message octets d.slack_octets
 unfolding message_of message_in
 message_of_takes below tables octets d all ok =
     let e = bind_ok (envelope_of octets) (message_in tables) d ok in
@@ -103,12 +112,17 @@ message_of_takes below tables octets d all ok =
 -- ---- what a call answers that answers the message that is read
 
 -- so is what `decode` answers
-pub answer_spelt : MessagesReadAreSpelt → (tables : Entries) (octets : List ℕ) (r : Result Decoded (Failure Refused)) → AreOctets octets → Gives (λ (d : Decoded). d) r (message_of tables octets)
+pub answer_spelt : MessagesReadAreSpelt
+    → (tables : Entries) (octets : List ℕ) (r : Result Decoded (Failure Refused)) → AreOctets octets
+    → Gives (λ (d : Decoded). d) r (message_of tables octets)
     → IfOk r (λ d. Spells tables d.message octets d.slack_octets)
 answer_spelt law tables octets (Ok d) all exact = law tables octets d all exact
 answer_spelt law tables octets (Err e) all exact = tt
 
 -- and it answers what is spelt
-pub spelt_answered : MessagesSpeltAreRead → (tables : Entries) (octets : List ℕ) (r : Result Decoded (Failure Refused)) → Gives (λ (d : Decoded). d) r (message_of tables octets)
-    → (m : Message) (z : ℕ) → Spells tables m octets z → Gives (λ (d : Decoded). d) r (Ok (record { message = m; slack_octets = z }))
+pub spelt_answered : MessagesSpeltAreRead
+    → (tables : Entries) (octets : List ℕ) (r : Result Decoded (Failure Refused))
+    → Gives (λ (d : Decoded). d) r (message_of tables octets) → (m : Message) (z : ℕ)
+    → Spells tables m octets z
+    → Gives (λ (d : Decoded). d) r (Ok (record { message = m; slack_octets = z }))
 spelt_answered law tables octets r exact m z s = subst (Gives (λ (d : Decoded). d) r) (law tables octets m z s) exact

@@ -31,13 +31,14 @@ room_of spec raw (of_number n other few below) =
     both_true (nat_le spec.width 64) (nat_lt n (2 ^ spec.width)) (le-leb _ _ few) (lt-ltb _ _ below)
 
 -- so have all of them
-rooms_of : (fields : List Field) → AllByRecursion (λ f. HasForm f.spec f.raw) fields → have_room fields ≡ true
+rooms_of : (fields : List Field) → AllByRecursion (λ f. HasForm f.spec f.raw) fields
+    → have_room fields ≡ true
 rooms_of [] forms = refl
 rooms_of (f ∷ fs) (form, forms) = both_true _ (have_room fs) (room_of f.spec f.raw form) (rooms_of fs forms)
 
 -- a canonical message is what the report's own fields spell
-pub canonical_is_own : Below → (tables : Entries) (r : Report) (octets : List ℕ) → IsCanonical tables r octets
-    → spelt_alone r ≡ Some octets
+pub canonical_is_own : Below → (tables : Entries) (r : Report) (octets : List ℕ)
+    → IsCanonical tables r octets → spelt_alone r ≡ Some octets
 unfolding code
 canonical_is_own below tables r octets c =
     let found = bind_ok (data_bits_or tables (alone r)) (enclosed_or (alone r)) octets (canonical_is_code tables r octets c) in

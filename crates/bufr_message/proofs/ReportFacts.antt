@@ -17,16 +17,19 @@ use Rattle.bufr_message.proofs.LengthFacts.{bare_long}
 use Rattle.bufr_message.proofs.WrittenFacts.{bare_when_written, read_when_written}
 
 -- what is written is octets
-written_takes : (x : Result (List ℕ) EncodeFault) (octets : List ℕ) → if_written x ≡ Some octets → x ≡ Ok octets
+written_takes : (x : Result (List ℕ) EncodeFault) (octets : List ℕ) → if_written x ≡ Some octets
+    → x ≡ Ok octets
 written_takes (Ok o) octets e = ap Ok cc
 written_takes (Err fault) octets e = absurd cc
 
 -- the octets are those that are written for the report alone
-pub canonical_is_code : (tables : Entries) (r : Report) (octets : List ℕ) → IsCanonical tables r octets → code tables (alone r) ≡ Ok octets
+pub canonical_is_code : (tables : Entries) (r : Report) (octets : List ℕ)
+    → IsCanonical tables r octets → code tables (alone r) ≡ Ok octets
 canonical_is_code tables r octets c = written_takes (code tables (alone r)) octets c.written
 
 -- they are read as the report alone
-pub canonical_is_read : Below → (tables : Entries) (r : Report) (octets : List ℕ) → IsCanonical tables r octets
+pub canonical_is_read : Below → (tables : Entries) (r : Report) (octets : List ℕ)
+    → IsCanonical tables r octets
     → message_of tables octets ≡ Ok (record { message = alone r; slack_octets = 0 })
 canonical_is_read below tables r octets c = read_when_written below tables (alone r) octets c.fits (canonical_is_code tables r octets c)
 
@@ -35,7 +38,8 @@ pub reports_alone : (r : Report) → reports_of (alone r) ≡ r ∷ []
 reports_alone r = refl
 
 -- the reports of a canonical message
-pub one_report : Below → (tables : Entries) (r : Report) (octets : List ℕ) → IsCanonical tables r octets → reports_in tables octets ≡ r ∷ []
+pub one_report : Below → (tables : Entries) (r : Report) (octets : List ℕ)
+    → IsCanonical tables r octets → reports_in tables octets ≡ r ∷ []
 one_report below tables r octets c = ap reports_read (canonical_is_read below tables r octets c)
 
 -- the first of reports, or this one
@@ -51,8 +55,8 @@ canonical_tells_apart below tables r s octets c d =
     ap (first_of r) (sym (one_report below tables r octets c) ∙ one_report below tables s octets d)
 
 -- octets that hold bits and fewer than eight more are as many as hold them
-contents_long : (own rest : List Bool) (contents : List ℕ) → bits contents ≡ own ++ rest → 0 ≡ length rest / 8
-    → length contents ≡ (length own + 7) / 8
+contents_long : (own rest : List Bool) (contents : List ℕ) → bits contents ≡ own ++ rest
+    → 0 ≡ length rest / 8 → length contents ≡ (length own + 7) / 8
 contents_long own rest contents begins few =
     let size = ap length begins in
     let both = length-append own rest in
@@ -60,14 +64,15 @@ contents_long own rest contents begins few =
     omega arith
 
 -- spellings in edition 4 with nothing in what is free
-spelt_bare : (layout : Layout) (i : Ignored) (e : Envelope) (octets : List ℕ) → layout ≡ Edition4 → i ≡ nothing_ignored
-    → octets ≡ spelling layout e i → length octets ≡ length (spelling Edition4 e nothing_ignored)
+spelt_bare : (layout : Layout) (i : Ignored) (e : Envelope) (octets : List ℕ) → layout ≡ Edition4
+    → i ≡ nothing_ignored → octets ≡ spelling layout e i
+    → length octets ≡ length (spelling Edition4 e nothing_ignored)
 spelt_bare layout i e octets four nothing is =
     ap length (is ∙ ap (λ (l : Layout). spelling l e i) four ∙ ap (λ (j : Ignored). spelling Edition4 e j) nothing)
 
 -- a canonical message is as long as its parts say
-pub canonical_long : Below → (tables : Entries) (r : Report) (octets : List ℕ) → IsCanonical tables r octets
-    → length octets ≡ octets_alone r.descriptors r.subset
+pub canonical_long : Below → (tables : Entries) (r : Report) (octets : List ℕ)
+    → IsCanonical tables r octets → length octets ≡ octets_alone r.descriptors r.subset
 canonical_long below tables r octets c =
     let b = bare_when_written below tables (alone r) octets c.fits (canonical_is_code tables r octets c) in
     let s = b.spells in

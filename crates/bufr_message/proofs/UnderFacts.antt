@@ -98,8 +98,10 @@ none_with : (n : ℕ) → n ≡ 0 + n
 none_with n = omega arith
 
 -- a subset that stands alone, and can be said alone, is written alone
-under_alone : Below → (tables : Entries) (m : Message) (octets : List ℕ) (slack : ℕ) (spells : Spells tables m octets slack)
-    → (s : Subset) → StandsAlone spells.tree (length spells.data_bits) s → octets_alone m.descriptors s ≤ longest
+under_alone : Below
+    → (tables : Entries) (m : Message) (octets : List ℕ) (slack : ℕ)
+    (spells : Spells tables m octets slack) → (s : Subset)
+    → StandsAlone spells.tree (length spells.data_bits) s → octets_alone m.descriptors s ≤ longest
     → IsUnder tables (report_of m s)
 unfolding code spelt_or
 under_alone below tables m octets slack spells s stands few =
@@ -124,15 +126,18 @@ under_alone below tables m octets slack spells s stands few =
     )
 
 -- so is each of them
-all_under : Below → (tables : Entries) (m : Message) (octets : List ℕ) (slack : ℕ) (spells : Spells tables m octets slack)
-    → (subsets : List Subset) → AllByRecursion (StandsAlone spells.tree (length spells.data_bits)) subsets → CanBeAlone m.descriptors subsets
-    → AllByRecursion (IsUnder tables) (map (report_of m) subsets)
+all_under : Below
+    → (tables : Entries) (m : Message) (octets : List ℕ) (slack : ℕ)
+    (spells : Spells tables m octets slack) → (subsets : List Subset)
+    → AllByRecursion (StandsAlone spells.tree (length spells.data_bits)) subsets
+    → CanBeAlone m.descriptors subsets → AllByRecursion (IsUnder tables) (map (report_of m) subsets)
 all_under below tables m octets slack spells [] all few = tt
 all_under below tables m octets slack spells (s ∷ ss) (first, others) (few, fewer) =
     (under_alone below tables m octets slack spells s first few, all_under below tables m octets slack spells ss others fewer)
 
 -- the reports of a message that octets spell have canonical messages
-pub reports_under : Below → (tables : Entries) (m : Message) (octets : List ℕ) (slack : ℕ) (spells : Spells tables m octets slack)
-    → AllByRecursion (IsUnder tables) (reports_of m)
+pub reports_under : Below
+    → (tables : Entries) (m : Message) (octets : List ℕ) (slack : ℕ)
+    (spells : Spells tables m octets slack) → AllByRecursion (IsUnder tables) (reports_of m)
 reports_under below tables m octets slack spells =
     all_under below tables m octets slack spells m.subsets (each_alone spells.tree m.compressed m.subsets spells.data_bits spells.holds) spells.alone

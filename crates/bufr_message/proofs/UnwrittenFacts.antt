@@ -1,5 +1,6 @@
--- A message is refused for the first cause in the order of the descriptors, the template, the subsets
--- and the limits, and a message that octets spell is written: for the laws on messages that are written.
+-- A message is refused for the first cause in the order of the descriptors, the template, the
+-- subsets and the limits, and a message that octets spell is written: for the laws on messages that
+-- are written.
 use Rattle.std.proofs.Common.{◌≡◌, ◌≢◌, ◌⊎◌, ℕ, ◌-◌, ◌/◌, ◌%◌, ◌^◌, ◌<◌, ◌≤◌, Bool, true, false, get_or, List, [], ◌∷◌, ◌++◌, length, replicate, Result, Ok, Err, refl, sym, ap, subst, ◌∙◌, arith, inl, inr, length-append}
 use Rattle.std.specs.Prelude.{◌||◌, nat_lt}
 use Rattle.std.proofs.lemmas.Bool.{cases_lt, ltb-true, lt-ltb, le-ltb}
@@ -35,7 +36,8 @@ use Rattle.bufr_message.proofs.WrittenFacts.{fill, whole_octets_spelt, template_
 -- ---- what refuses in each step
 
 -- no descriptor is refused
-descriptors_refuse : (ds : List ℕ) (fault : EncodeFault) → some_descriptors ds ≡ Err fault → (ds ≡ []) × (NoDescriptors ≡ fault)
+descriptors_refuse : (ds : List ℕ) (fault : EncodeFault) → some_descriptors ds ≡ Err fault
+    → (ds ≡ []) × (NoDescriptors ≡ fault)
 descriptors_refuse [] fault e = (refl, cc)
 descriptors_refuse (d ∷ ds) fault e = absurd cc
 
@@ -50,12 +52,14 @@ descriptors_are [] some = absurd (some refl)
 descriptors_are (d ∷ ds) some = refl
 
 -- descriptors that have no tree are refused for their fault
-template_refuses : (x : Result Tree TemplateFault) (fault : EncodeFault) → template_or x ≡ Err fault → (why : TemplateFault) × (x ≡ Err why) × (Template why ≡ fault)
+template_refuses : (x : Result Tree TemplateFault) (fault : EncodeFault) → template_or x ≡ Err fault
+    → (why : TemplateFault) × (x ≡ Err why) × (Template why ≡ fault)
 template_refuses (Ok tree) fault e = absurd cc
 template_refuses (Err why) fault e = (why, refl, cc)
 
 -- subsets that have no data are refused for their fault
-data_refuses : {A : Type 0} (x : Result A WriteFault) (fault : EncodeFault) → data_or x ≡ Err fault → (why : WriteFault) × (x ≡ Err why) × (Data why ≡ fault)
+data_refuses : {A : Type 0} (x : Result A WriteFault) (fault : EncodeFault) → data_or x ≡ Err fault
+    → (why : WriteFault) × (x ≡ Err why) × (Data why ≡ fault)
 data_refuses (Ok found) fault e = absurd cc
 data_refuses (Err why) fault e = (why, refl, cc)
 
@@ -64,7 +68,9 @@ abbrev pub told : Message → List Bool → Envelope
 told m data_bits = envelope_with m (whole_octets data_bits)
 
 -- a message that fails the test is too long
-too_long_is : (m : Message) (data_bits : List Bool) → (nat_lt most_subsets (length m.subsets) || nat_lt longest (length (bare (told m data_bits)))) ≡ true → IsTooLong m data_bits
+too_long_is : (m : Message) (data_bits : List Bool)
+    → (nat_lt most_subsets (length m.subsets) || nat_lt longest (length (bare (told m data_bits))))
+    ≡ true → IsTooLong m data_bits
 too_long_is m data_bits e = by_count (nat_lt most_subsets (length m.subsets)) refl
   where
     by_count : (t : Bool) → nat_lt most_subsets (length m.subsets) ≡ t → IsTooLong m data_bits
@@ -72,7 +78,8 @@ too_long_is m data_bits e = by_count (nat_lt most_subsets (length m.subsets)) re
     by_count false is = inr (ltb-true _ _ (rw is at e))
 
 -- sections are refused for their length alone
-spelt_refuses : (e : Envelope) (why : WriteFault) → spelt_or e ≡ Err why → ((nat_lt most_subsets e.count || nat_lt longest (length (bare e))) ≡ true) × (TooLarge ≡ why)
+spelt_refuses : (e : Envelope) (why : WriteFault) → spelt_or e ≡ Err why
+    → ((nat_lt most_subsets e.count || nat_lt longest (length (bare e))) ≡ true) × (TooLarge ≡ why)
 unfolding spelt_or
 spelt_refuses e why refused = by_test (nat_lt most_subsets e.count || nat_lt longest (length (bare e))) refl
   where
@@ -81,7 +88,8 @@ spelt_refuses e why refused = by_test (nat_lt most_subsets e.count || nat_lt lon
     by_test false is = absurd (let b = rw is at refused in cc)
 
 -- and so is a message
-limits_refuse : (m : Message) (data_bits : List Bool) (fault : EncodeFault) → enclosed_or m data_bits ≡ Err fault → IsTooLong m data_bits × (Data TooLarge ≡ fault)
+limits_refuse : (m : Message) (data_bits : List Bool) (fault : EncodeFault)
+    → enclosed_or m data_bits ≡ Err fault → IsTooLong m data_bits × (Data TooLarge ≡ fault)
 limits_refuse m data_bits fault refused =
     let d = data_refuses (spelt_or (told m data_bits)) fault refused in
     let large = spelt_refuses (told m data_bits) d.0 d.1 in
@@ -98,7 +106,8 @@ abbrev templated : Entries → Message → List ℕ → Result (List Bool) Encod
 templated tables m list = template_or (template tables list) >>= held m
 
 -- a fault of the descriptors or of the subsets is the first
-tree_fault : Below → (tables : Entries) (m : Message) (fault : EncodeFault) → m.descriptors ≢ [] → templated tables m m.descriptors ≡ Err fault → IsFirstEncodeFault tables m fault
+tree_fault : Below → (tables : Entries) (m : Message) (fault : EncodeFault) → m.descriptors ≢ []
+    → templated tables m m.descriptors ≡ Err fault → IsFirstEncodeFault tables m fault
 tree_fault below tables m fault some refused = elim (bind_err (template_or (template tables m.descriptors)) (held m) fault refused) [
   | inl not_so ↦
       let t = template_refuses (template tables m.descriptors) fault not_so in
@@ -111,7 +120,8 @@ tree_fault below tables m fault some refused = elim (bind_err (template_or (temp
 ]
 
 -- a fault of the data bits is the first
-bits_fault : Below → (tables : Entries) (m : Message) (fault : EncodeFault) → data_bits_or tables m ≡ Err fault → IsFirstEncodeFault tables m fault
+bits_fault : Below → (tables : Entries) (m : Message) (fault : EncodeFault)
+    → data_bits_or tables m ≡ Err fault → IsFirstEncodeFault tables m fault
 unfolding data_bits_or
 bits_fault below tables m fault refused = elim (bind_err (some_descriptors m.descriptors) (templated tables m) fault refused) [
   | inl not_so ↦ let d = descriptors_refuse m.descriptors fault not_so in subst (IsFirstEncodeFault tables m) d.1 d.0
@@ -125,7 +135,8 @@ abbrev pub HasBits : Entries → Message → List Bool → Type 0
 HasBits tables m data_bits = (tree : Tree) × (m.descriptors ≢ []) × IsTreeOf tables m.descriptors tree × IsBareDataOf tree m.compressed m.subsets data_bits
 
 -- data bits that are found are those of the message
-pub bits_found : Below → (tables : Entries) (m : Message) (data_bits : List Bool) → data_bits_or tables m ≡ Ok data_bits → HasBits tables m data_bits
+pub bits_found : Below → (tables : Entries) (m : Message) (data_bits : List Bool)
+    → data_bits_or tables m ≡ Ok data_bits → HasBits tables m data_bits
 unfolding data_bits_or
 bits_found below tables m data_bits found =
     let list = bind_ok (some_descriptors m.descriptors) (templated tables m) data_bits found in
@@ -140,7 +151,8 @@ bits_found below tables m data_bits found =
     )
 
 -- a message that has no octets is refused for its first fault
-pub fault_when_unwritten : Below → (tables : Entries) (m : Message) (fault : EncodeFault) → code tables m ≡ Err fault → IsFirstEncodeFault tables m fault
+pub fault_when_unwritten : Below → (tables : Entries) (m : Message) (fault : EncodeFault)
+    → code tables m ≡ Err fault → IsFirstEncodeFault tables m fault
 unfolding code
 fault_when_unwritten below tables m fault refused = elim (bind_err (data_bits_or tables m) (enclosed_or m) fault refused) [
   | inl not_so ↦ bits_fault below tables m fault not_so
@@ -153,7 +165,8 @@ fault_when_unwritten below tables m fault refused = elim (bind_err (data_bits_or
 -- ---- faults that messages have
 
 -- data bits that a message has are found
-pub bits_are : Below → (tables : Entries) (m : Message) (data_bits : List Bool) → HasBits tables m data_bits → data_bits_or tables m ≡ Ok data_bits
+pub bits_are : Below → (tables : Entries) (m : Message) (data_bits : List Bool)
+    → HasBits tables m data_bits → data_bits_or tables m ≡ Ok data_bits
 unfolding data_bits_or
 bits_are below tables m data_bits (tree, some, has, held_bare) =
     let found = (below.builds tables m.descriptors tree).1 has in
@@ -161,7 +174,8 @@ bits_are below tables m data_bits (tree, some, has, held_bare) =
     rw (descriptors_are m.descriptors some, found, written) refl
 
 -- a message that is too long is refused
-too_long_refuses : (m : Message) (data_bits : List Bool) → IsTooLong m data_bits → enclosed_or m data_bits ≡ Err (Data TooLarge)
+too_long_refuses : (m : Message) (data_bits : List Bool) → IsTooLong m data_bits
+    → enclosed_or m data_bits ≡ Err (Data TooLarge)
 unfolding spelt_or
 too_long_refuses m data_bits (inl many) = let t : nat_lt most_subsets (length m.subsets) ≡ true = lt-ltb _ _ many in rw t refl
 too_long_refuses m data_bits (inr long) = by_count (nat_lt most_subsets (length m.subsets)) refl
@@ -171,7 +185,8 @@ too_long_refuses m data_bits (inr long) = by_count (nat_lt most_subsets (length 
     by_count false is = let t : nat_lt longest (length (bare (told m data_bits))) ≡ true = lt-ltb _ _ long in rw (is, t) refl
 
 -- the first fault of a message is answered
-pub unwritten_when_fault : Below → (tables : Entries) (m : Message) (fault : EncodeFault) → IsFirstEncodeFault tables m fault → code tables m ≡ Err fault
+pub unwritten_when_fault : Below → (tables : Entries) (m : Message) (fault : EncodeFault)
+    → IsFirstEncodeFault tables m fault → code tables m ≡ Err fault
 unfolding code data_bits_or
 unwritten_when_fault below tables m NoDescriptors none = rw none refl
 unwritten_when_fault below tables m (Template why) (some, refused) =
@@ -185,7 +200,8 @@ unwritten_when_fault below tables m (Data why) (tree, some, has, inr (same, data
 -- ---- messages that are spelt are written
 
 -- data bits in whole octets are no longer than octets that begin with them
-bits_are_short : (data_bits rest : List Bool) (contents : List ℕ) → bits contents ≡ data_bits ++ rest → length (whole_octets data_bits) ≤ length contents
+bits_are_short : (data_bits rest : List Bool) (contents : List ℕ)
+    → bits contents ≡ data_bits ++ rest → length (whole_octets data_bits) ≤ length contents
 bits_are_short data_bits rest contents begins =
     let whole = ap length (whole_octets_spelt data_bits).0 in
     let filled = length-append data_bits (replicate (fill data_bits) false) in
@@ -196,9 +212,13 @@ bits_are_short data_bits rest contents begins =
     let two = length-bits contents in
     omega arith
 
--- a message that octets spell is written with the data that leave no choice, where these are no longer than those in the octets
-spelt_has_code : Below → (tables : Entries) (m : Message) (octets : List ℕ) (slack : ℕ) (s : Spells tables m octets slack)
-    → s.layout ≡ Edition4 → IsBareDataOf s.tree m.compressed m.subsets s.data_bits → code tables m ≡ Ok (bare (told m s.data_bits))
+-- a message that octets spell is written with the data that leave no choice, where these are no
+-- longer than those in the octets
+spelt_has_code : Below
+    → (tables : Entries) (m : Message) (octets : List ℕ) (slack : ℕ)
+    (s : Spells tables m octets slack) → s.layout ≡ Edition4
+    → IsBareDataOf s.tree m.compressed m.subsets s.data_bits
+    → code tables m ≡ Ok (bare (told m s.data_bits))
 unfolding code spelt_or
 spelt_has_code below tables m octets slack s four nothing_free =
     let some : m.descriptors ≢ [] = λ none. let size = ap length none in let one = s.fits.some_descriptor in absurd (omega arith) in
@@ -212,8 +232,10 @@ spelt_has_code below tables m octets slack s four nothing_free =
     rw (data_bits, few, short) refl
 
 -- a plain message that octets of edition 4 spell is written
-pub plain_is_written : Below → (tables : Entries) (m : Message) (octets : List ℕ) (slack : ℕ) (s : Spells tables m octets slack)
-    → s.layout ≡ Edition4 → m.compressed ≡ false → (written : List ℕ) × (code tables m ≡ Ok written)
+pub plain_is_written : Below
+    → (tables : Entries) (m : Message) (octets : List ℕ) (slack : ℕ)
+    (s : Spells tables m octets slack) → s.layout ≡ Edition4 → m.compressed ≡ false
+    → (written : List ℕ) × (code tables m ≡ Ok written)
 plain_is_written below tables m octets slack s four plain =
     let here = subst (λ (c : Bool). IsDataOf s.tree c m.subsets s.data_bits) plain s.holds in
     let held_bare = below.plain s.tree m.subsets s.data_bits here in
@@ -231,8 +253,9 @@ spelt_or_large e = by_test (nat_lt most_subsets e.count || nat_lt longest (lengt
 
 -- a compressed message that octets spell is written where its subsets can stand in columns that are
 -- written, or is too long with them
-pub packable_is_written : Below → (tables : Entries) (m : Message) (octets : List ℕ) (slack : ℕ) → Spells tables m octets slack
-    → m.compressed ≡ true → (columns : List Column) → CanBePacked m.subsets columns
+pub packable_is_written : Below → (tables : Entries) (m : Message) (octets : List ℕ) (slack : ℕ)
+    → Spells tables m octets slack → m.compressed ≡ true → (columns : List Column)
+    → CanBePacked m.subsets columns
     → ((written : List ℕ) × (code tables m ≡ Ok written)) ⊎ (code tables m ≡ Err (Data TooLarge))
 unfolding code
 packable_is_written below tables m octets slack s packed columns can =
@@ -254,7 +277,8 @@ octet_at_any octets i all = elim (cases_lt i (length octets)) [
 ]
 
 -- octets whose bits are these and fewer than eight zero bits are these bits filled
-contents_are : (data_bits rest : List Bool) (contents : List ℕ) → AreOctets contents → bits contents ≡ data_bits ++ rest → 0 ≡ length rest / 8 → rest ≡ replicate (length rest) false
+contents_are : (data_bits rest : List Bool) (contents : List ℕ) → AreOctets contents
+    → bits contents ≡ data_bits ++ rest → 0 ≡ length rest / 8 → rest ≡ replicate (length rest) false
     → whole_octets data_bits ≡ contents
 contents_are data_bits rest contents all begins few zeros =
     let long = ap length begins in
@@ -265,7 +289,8 @@ contents_are data_bits rest contents all begins few zeros =
     whole_octets_are contents data_bits (λ i. octet_at_any contents i all) same
 
 -- octets that spell a message with nothing in what is free are written
-pub bare_is_written : Below → (tables : Entries) (m : Message) (octets : List ℕ) → SpellsBare tables m octets → code tables m ≡ Ok octets
+pub bare_is_written : Below → (tables : Entries) (m : Message) (octets : List ℕ)
+    → SpellsBare tables m octets → code tables m ≡ Ok octets
 bare_is_written below tables m octets b =
     let s = b.spells in
     let contents = contents_are s.data_bits s.rest s.contents s.fits.contents s.begins s.after b.zeros in

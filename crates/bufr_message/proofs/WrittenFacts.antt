@@ -33,7 +33,9 @@ abbrev pub fill : List Bool → ℕ
 fill data_bits = 8 * ((length data_bits + 7) / 8) - length data_bits
 
 -- data bits in whole octets are those and zero bits
-pub whole_octets_spelt : (data_bits : List Bool) → (bits (whole_octets data_bits) ≡ data_bits ++ replicate (fill data_bits) false) × AreOctets (whole_octets data_bits)
+pub whole_octets_spelt : (data_bits : List Bool)
+    → (bits (whole_octets data_bits) ≡ data_bits ++ replicate (fill data_bits) false)
+    × AreOctets (whole_octets data_bits)
 whole_octets_spelt data_bits =
     let n = (length data_bits + 7) / 8 in
     let text = data_bits ++ replicate (fill data_bits) false in
@@ -49,22 +51,26 @@ fill_short data_bits = omega (arith, length-replicate (fill data_bits) false)
 -- ---- what the steps of writing take
 
 -- some descriptor is there
-descriptors_take : (ds list : List ℕ) → some_descriptors ds ≡ Ok list → (0 < length ds) × (ds ≡ list)
+descriptors_take : (ds list : List ℕ) → some_descriptors ds ≡ Ok list
+    → (0 < length ds) × (ds ≡ list)
 descriptors_take [] list e = absurd cc
 descriptors_take (d ∷ ds) list e = (omega arith, ok_is _ _ e)
 
 -- a tree that is answered is that of the descriptors
-pub template_takes : (x : Result Tree TemplateFault) (tree : Tree) → template_or x ≡ Ok tree → x ≡ Ok tree
+pub template_takes : (x : Result Tree TemplateFault) (tree : Tree) → template_or x ≡ Ok tree
+    → x ≡ Ok tree
 template_takes (Ok found) tree e = ap (λ (t : Tree). Ok t) (ok_is _ _ e)
 template_takes (Err fault) tree e = absurd cc
 
 -- data that are answered are those that were found
-pub data_takes : {A : Type 0} (x : Result A WriteFault) (found : A) → data_or x ≡ Ok found → x ≡ Ok found
+pub data_takes : {A : Type 0} (x : Result A WriteFault) (found : A) → data_or x ≡ Ok found
+    → x ≡ Ok found
 data_takes (Ok held) found e = ap (λ b. Ok b) (ok_is _ _ e)
 data_takes (Err fault) found e = absurd cc
 
 -- what is written is within the limits
-limits_take : (e : Envelope) (found : List ℕ) → spelt_or e ≡ Ok found → (e.count < 2 ^ 16) × (length (bare e) < 2 ^ 24) × (found ≡ bare e)
+limits_take : (e : Envelope) (found : List ℕ) → spelt_or e ≡ Ok found
+    → (e.count < 2 ^ 16) × (length (bare e) < 2 ^ 24) × (found ≡ bare e)
 unfolding spelt_or
 limits_take e found passed =
     let many = nat_lt most_subsets e.count in
@@ -77,9 +83,11 @@ limits_take e found passed =
 -- ---- together
 
 -- what is written with these data bits spells the message
-spells_written : Below → (tables : Entries) (m : Message) (octets : List ℕ) (tree : Tree) (data_bits : List Bool) → NumbersFit m
-    → 0 < length m.descriptors → IsTreeOf tables m.descriptors tree
-    → IsBareDataOf tree m.compressed m.subsets data_bits → enclosed_or m data_bits ≡ Ok octets → SpellsBare tables m octets
+spells_written : Below
+    → (tables : Entries) (m : Message) (octets : List ℕ) (tree : Tree) (data_bits : List Bool)
+    → NumbersFit m → 0 < length m.descriptors → IsTreeOf tables m.descriptors tree
+    → IsBareDataOf tree m.compressed m.subsets data_bits → enclosed_or m data_bits ≡ Ok octets
+    → SpellsBare tables m octets
 spells_written below tables m octets tree data_bits fit some has holds e =
     let whole = whole_octets_spelt data_bits in
     let told : Envelope = envelope_with m (whole_octets data_bits) in
@@ -117,7 +125,8 @@ spells_written below tables m octets tree data_bits fit some has holds e =
     }
 
 -- what is written spells the message with nothing in what is free
-pub bare_when_written : Below → (tables : Entries) (m : Message) (octets : List ℕ) → NumbersFit m → code tables m ≡ Ok octets → SpellsBare tables m octets
+pub bare_when_written : Below → (tables : Entries) (m : Message) (octets : List ℕ) → NumbersFit m
+    → code tables m ≡ Ok octets → SpellsBare tables m octets
 unfolding code data_bits_or
 bare_when_written below tables m octets fit ok =
     let found = bind_ok (data_bits_or tables m) (enclosed_or m) octets ok in
@@ -130,5 +139,7 @@ bare_when_written below tables m octets fit ok =
     spells_written below tables m octets tree.0 found.0 fit some.0 (subst (λ (ds : List ℕ). IsTreeOf tables ds tree.0) (sym some.1) has) holds found.2
 
 -- and is read as it
-pub read_when_written : Below → (tables : Entries) (m : Message) (octets : List ℕ) → NumbersFit m → code tables m ≡ Ok octets → message_of tables octets ≡ Ok (record { message = m; slack_octets = 0 })
+pub read_when_written : Below → (tables : Entries) (m : Message) (octets : List ℕ) → NumbersFit m
+    → code tables m ≡ Ok octets
+    → message_of tables octets ≡ Ok (record { message = m; slack_octets = 0 })
 read_when_written below tables m octets fit ok = message_of_spelt below tables octets m 0 (bare_when_written below tables m octets fit ok).spells

@@ -23,8 +23,8 @@ use std::alloc::Global;
 /// is the whole message, from `BUFR` to `7777`, of edition 3 or 4. Octets that spell no message are
 /// refused for the first cause in this order: M1 to M9 of the sections, X1 to X9 of the
 /// descriptors, V1 to V6 of the data, as they come, and last V6 for a message of edition 3 one of
-/// whose subsets is too long for a message of edition 4 of its own. `OutOfMemory` where a growth was
-/// refused.
+/// whose subsets is too long for a message of edition 4 of its own. `OutOfMemory` where a growth
+/// was refused.
 pub fn decode(alloc: Global, tables: &Tables, octets: &[u8]) -> Result<Decoded, Failure<Refused>>
     // What is read is spelt so.
     ensures found { IfOk result (λ d. Spells tables.now d.message octets.now d.slack_octets) }
@@ -119,6 +119,6 @@ fn data_of(
 }
 
 #[cfg(test)]
-mod limits;
+mod limit_tests;
 #[cfg(test)]
 mod tests;

@@ -1,5 +1,5 @@
--- What section 1 says, by the places of its octets behind its length: for `head4_of` and `head3_of`, and
--- for the law on refusals.
+-- What section 1 says, by the places of its octets behind its length: for `head4_of` and
+-- `head3_of`, and for the law on refusals.
 use Rattle.std.proofs.Common.{◌≡◌, ℕ, ◌<◌, ◌≤◌, cond, get_or, List, ◌∷◌, length, drop, Ok, Err, refl, arith}
 use Rattle.std.specs.Prelude.{◌==◌, nat_le}
 use Rattle.bufr_sections.specs.declared.fault.Refused.TheVariants.{Section1Length, MasterTable}
@@ -8,7 +8,8 @@ use Rattle.bufr_sections.specs.SectionsRead.{head_with, head3_with}
 
 -- where there are enough octets, the master table decides
 pub head_is : (xs : List ℕ) → 19 ≤ length xs
-    → head4_of xs ≡ cond (get_or xs 0 0 == 0) (Ok (head_with xs (drop 19 xs), nat_le 128 (get_or xs 6 0))) (Err (MasterTable (get_or xs 0 0)))
+    → head4_of xs ≡ cond (get_or xs 0 0 == 0) (Ok
+    (head_with xs (drop 19 xs), nat_le 128 (get_or xs 6 0))) (Err (MasterTable (get_or xs 0 0)))
 unfolding head4_of
 head_is (master ∷ c1 ∷ c2 ∷ s1 ∷ s2 ∷ update ∷ flags ∷ category ∷ international ∷ local_category ∷ master_version ∷ local_version ∷ y1 ∷ y2 ∷ month ∷ day ∷ hour ∷ minute ∷ second ∷ local) long = refl
 head_is _ long = absurd (omega arith)
@@ -21,7 +22,8 @@ head_short _ short = refl
 
 -- the same of edition 3
 pub head3_is : (xs : List ℕ) → 14 ≤ length xs
-    → head3_of xs ≡ cond (get_or xs 0 0 == 0) (Ok (head3_with xs (drop 14 xs), nat_le 128 (get_or xs 4 0))) (Err (MasterTable (get_or xs 0 0)))
+    → head3_of xs ≡ cond (get_or xs 0 0 == 0) (Ok
+    (head3_with xs (drop 14 xs), nat_le 128 (get_or xs 4 0))) (Err (MasterTable (get_or xs 0 0)))
 unfolding head3_of
 head3_is (master ∷ sub_centre ∷ centre ∷ update ∷ flags ∷ category ∷ local_category ∷ master_version ∷ local_version ∷ year ∷ month ∷ day ∷ hour ∷ minute ∷ local) long = refl
 head3_is _ long = absurd (omega arith)

@@ -9,7 +9,8 @@ use Rattle.bufr_sections.specs.Spelt.{bare}
 use Rattle.bufr_sections.specs.Sections.{flag, Envelope, Ignored, spelling, sections, enclosed, is_present, nothing_ignored, section, section1, section2, section3, section4}
 
 -- two octets a descriptor
-pub length_of_descriptors : (ds : List ℕ) → length (flat_map (bytes_high_first 2) ds) ≡ 2 * length ds
+pub length_of_descriptors : (ds : List ℕ)
+    → length (flat_map (bytes_high_first 2) ds) ≡ 2 * length ds
 length_of_descriptors [] = refl
 length_of_descriptors (d ∷ ds) = let more = length_of_descriptors ds in omega arith
 
@@ -18,23 +19,27 @@ length_of_section : (contents : List ℕ) → length (section contents) ≡ 3 + 
 length_of_section contents = omega arith
 
 -- section 0 and `7777`
-pub length_of_enclosed : (layout : Layout) (middle : List ℕ) → length (enclosed layout middle) ≡ 12 + length middle
+pub length_of_enclosed : (layout : Layout) (middle : List ℕ)
+    → length (enclosed layout middle) ≡ 12 + length middle
 length_of_enclosed layout middle = let both = length-append middle (codes "7777") in omega arith
 
 -- section 3 without what is free
-length_of_section3 : (e : Envelope) → length (section3 e nothing_ignored) ≡ 7 + 2 * length e.descriptors
+length_of_section3 : (e : Envelope)
+    → length (section3 e nothing_ignored) ≡ 7 + 2 * length e.descriptors
 length_of_section3 e =
     let pairs = length_of_descriptors e.descriptors in
     let both = length-append (flat_map (bytes_high_first 2) e.descriptors) [] in
     omega arith
 
 -- four lists joined
-pub four_parts : (a b c d : List ℕ) → length (a ++ b ++ c ++ d) ≡ length a + length b + length c + length d
+pub four_parts : (a b c d : List ℕ)
+    → length (a ++ b ++ c ++ d) ≡ length a + length b + length c + length d
 four_parts a b c d = let first = length-append a b in let second = length-append (a ++ b) c in let third = length-append (a ++ b ++ c) d in omega arith
 
 -- sections 1 to 4 without what is free
 pub length_of_sections : (e : Envelope)
-    → length (sections Edition4 e nothing_ignored) ≡ 33 + length e.head.local + length (section2 e.section2 0) + 2 * length e.descriptors + length e.contents
+    → length (sections Edition4 e nothing_ignored) ≡ 33 + length e.head.local
+    + length (section2 e.section2 0) + 2 * length e.descriptors + length e.contents
 unfolding sections
 length_of_sections e =
     let parts = four_parts (section1 Edition4 e.head (is_present e.section2) nothing_ignored) (section2 e.section2 0) (section3 e nothing_ignored) (section4 e.contents 0) in
@@ -43,18 +48,22 @@ length_of_sections e =
 
 -- a message without what is free
 pub length_of_spelling : (e : Envelope)
-    → length (spelling Edition4 e nothing_ignored) ≡ 45 + length e.head.local + length (section2 e.section2 0) + 2 * length e.descriptors + length e.contents
+    → length (spelling Edition4 e nothing_ignored) ≡ 45 + length e.head.local
+    + length (section2 e.section2 0) + 2 * length e.descriptors + length e.contents
 unfolding spelling
 length_of_spelling e = let all = length_of_sections e in let whole = length_of_enclosed Edition4 (sections Edition4 e nothing_ignored) in omega arith
 
 -- section 3 without an odd octet
-pub section3_is : (e : Envelope) → section3 e nothing_ignored
-    ≡ section (0 ∷ bytes_high_first 2 e.count ++ (flag e.observed 128 + flag e.compressed 64 + 0) ∷ flat_map (bytes_high_first 2) e.descriptors)
+pub section3_is : (e : Envelope)
+    → section3 e nothing_ignored ≡ section (0 ∷ bytes_high_first 2 e.count
+    ++ (flag e.observed 128 + flag e.compressed 64 + 0) ∷ flat_map
+    (bytes_high_first 2) e.descriptors)
 section3_is e = rw (append-nil (flat_map (bytes_high_first 2) e.descriptors)) refl
 
 -- a section that is written in pieces: its length, its first octets and the rest
-pub section_of_pieces : (old one two new front back : List ℕ) (n : ℕ) → n ≡ 3 + length front + length back → one ≡ old ++ bytes_high_first 3 n
-    → two ≡ one ++ front → new ≡ two ++ back → new ≡ old ++ section (front ++ back)
+pub section_of_pieces : (old one two new front back : List ℕ) (n : ℕ)
+    → n ≡ 3 + length front + length back → one ≡ old ++ bytes_high_first 3 n → two ≡ one ++ front
+    → new ≡ two ++ back → new ≡ old ++ section (front ++ back)
 section_of_pieces old one two new front back n long first second third =
     let both = length-append front back in
     let total : n ≡ 3 + length (front ++ back) = omega arith in
@@ -63,14 +72,15 @@ section_of_pieces old one two new front back n long first second third =
     ∙ append_assoc old (bytes_high_first 3 (3 + length (front ++ back))) (front ++ back)
 
 -- what is ignored in section 2 adds nothing
-length_of_section2 : (local : Option (List ℕ)) (i : ℕ) → length (section2 local i) ≡ length (section2 local 0)
+length_of_section2 : (local : Option (List ℕ)) (i : ℕ)
+    → length (section2 local i) ≡ length (section2 local 0)
 length_of_section2 None i = refl
 length_of_section2 (Some local) i = refl
 
 -- no spelling is shorter than the one without what is ignored
 spelling_is_long : (e : Envelope) (i : Ignored)
-    → 45 + length e.head.local + length (section2 e.section2 0) + 2 * length e.descriptors + length e.contents
-    ≤ length (spelling Edition4 e i)
+    → 45 + length e.head.local + length (section2 e.section2 0) + 2 * length e.descriptors
+    + length e.contents ≤ length (spelling Edition4 e i)
 unfolding spelling sections
 spelling_is_long e i =
     let parts = four_parts (section1 Edition4 e.head (is_present e.section2) i) (section2 e.section2 i.octet2) (section3 e i) (section4 e.contents i.octet4) in
@@ -81,9 +91,11 @@ spelling_is_long e i =
     omega arith
 
 -- with no more octets in any part and nothing in what is free, a message is no longer
-pub bare_is_shortest : (e small : Envelope) (i : Ignored) → length small.head.local ≤ length e.head.local
-    → length (section2 small.section2 0) ≤ length (section2 e.section2 0) → length small.descriptors ≤ length e.descriptors
-    → length small.contents ≤ length e.contents → length (bare small) ≤ length (spelling Edition4 e i)
+pub bare_is_shortest : (e small : Envelope) (i : Ignored)
+    → length small.head.local ≤ length e.head.local
+    → length (section2 small.section2 0) ≤ length (section2 e.section2 0)
+    → length small.descriptors ≤ length e.descriptors → length small.contents ≤ length e.contents
+    → length (bare small) ≤ length (spelling Edition4 e i)
 bare_is_shortest e small i fewer1 fewer2 fewer3 fewer4 =
     let any = spelling_is_long e i in
     let least = length_of_spelling small in

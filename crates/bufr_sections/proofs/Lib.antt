@@ -1,3 +1,4 @@
+-- The lemmas behind the contracts and laws of this crate: sections read, spelt and refused.
 pub mod OnLiterals
 pub mod ListFacts
 pub mod SectionFacts

@@ -10,8 +10,9 @@ take_whole (x ∷ xs) zero e = absurd (omega arith)
 take_whole (x ∷ xs) (suc n) e = ap (λ ys. x ∷ ys) (take_whole xs n (omega arith))
 
 -- two octets more are one descriptor more
-pub descriptors_more : (before rest : List ℕ) (d : ℕ) (all : List ℕ) → 2 ≤ length rest → before ++ descriptors_of rest ≡ all
-    → d ≡ two (get_or rest 0 0) (get_or rest 1 0) → (before ++ d ∷ []) ++ descriptors_of (drop 2 rest) ≡ all
+pub descriptors_more : (before rest : List ℕ) (d : ℕ) (all : List ℕ) → 2 ≤ length rest
+    → before ++ descriptors_of rest ≡ all → d ≡ two (get_or rest 0 0) (get_or rest 1 0)
+    → (before ++ d ∷ []) ++ descriptors_of (drop 2 rest) ≡ all
 unfolding descriptors_of
 descriptors_more before [] d all h e is = absurd (omega arith)
 descriptors_more before (a ∷ []) d all h e is = absurd (omega arith)

@@ -1,5 +1,5 @@
--- The sections of octets are refused for the first cause that the octets give: for the laws on refusals
--- of sections.
+-- The sections of octets are refused for the first cause that the octets give: for the laws on
+-- refusals of sections.
 use Rattle.std.proofs.Common.{◌≡◌, ℕ, ◌+◌, ◌-◌, ◌/◌, ◌%◌, ◌<◌, ◌≤◌, Bool, true, false, not, cond, get_or, List, [], ◌∷◌, ◌++◌, length, take, drop, Option, Some, None, Result, Ok, Err, refl, sym, ap, ◌∙◌, arith, inl, inr, length-drop, length-take, get_or-take, get_or-drop}
 use Rattle.std.specs.Prelude.{◌==◌, ◌||◌, ◌&&◌, nat_lt, nat_le, if◌then◌else◌, codes, bytes_eq, All}
 use Rattle.std.specs.List.{AllByRecursion}
@@ -30,7 +30,8 @@ abbrev Split : List Cause → Refused → Type 0
 Split cs fault = (before : List Cause) × (after : List Cause) × (cs ≡ before ++ (fault, true) ∷ after) × All (λ c. c.1 ≡ false) before
 
 -- one cause more in front
-split_more : (g : Refused) (b : Bool) (cs : List Cause) (f : Refused) → cond b (Some g) (first cs) ≡ Some f → (first cs ≡ Some f → Split cs f) → Split ((g, b) ∷ cs) f
+split_more : (g : Refused) (b : Bool) (cs : List Cause) (f : Refused)
+    → cond b (Some g) (first cs) ≡ Some f → (first cs ≡ Some f → Split cs f) → Split ((g, b) ∷ cs) f
 split_more g true cs f e more =
     let same : g ≡ f = cc in
     ([], cs, ap (λ h. (h, true) ∷ cs) same, All-nil (λ c. c.1 ≡ false))
@@ -44,7 +45,8 @@ first_takes [] f e = absurd cc
 first_takes (c ∷ cs) f e = split_more c.0 c.1 cs f e (first_takes cs f)
 
 -- a cause with none given before it is the first
-first_gives : (before after : List Cause) (f : Refused) → All (λ c. c.1 ≡ false) before → first (before ++ (f, true) ∷ after) ≡ Some f
+first_gives : (before after : List Cause) (f : Refused) → All (λ c. c.1 ≡ false) before
+    → first (before ++ (f, true) ∷ after) ≡ Some f
 first_gives [] after f all = refl
 first_gives (c ∷ before) after f all = rw (All-head (λ c. c.1 ≡ false) c before all) (first_gives before after f (All-tail (λ c. c.1 ≡ false) c before all))
 
@@ -56,24 +58,30 @@ fault_of (Ok x) = None
 fault_of (Err fault) = Some fault
 
 -- a test that is made before what follows
-tested_bind : {A B : Type 0} (b c : Bool) (fault : Refused) (x : Result A Refused) (f : A → Result B Refused) (cs : List Cause)
-    → b ≡ c → (b ≡ false → fault_of (x >>= f) ≡ first cs) → fault_of (cond b (Err fault) x >>= f) ≡ cond c (Some fault) (first cs)
+tested_bind : {A B : Type 0} (b c : Bool) (fault : Refused) (x : Result A Refused)
+    (f : A → Result B Refused) (cs : List Cause) → b ≡ c
+    → (b ≡ false → fault_of (x >>= f) ≡ first cs)
+    → fault_of (cond b (Err fault) x >>= f) ≡ cond c (Some fault) (first cs)
 tested_bind true c fault x f cs same more = rw (← same) refl
 tested_bind false c fault x f cs same more = rw (← same) (more refl)
 
 -- a step that answers, and what follows
-found_then : {A B : Type 0} (x : Result A Refused) (f : A → Result B Refused) (v : A) (cs : List Cause) → x ≡ Ok v → fault_of (f v) ≡ first cs → fault_of (x >>= f) ≡ first cs
+found_then : {A B : Type 0} (x : Result A Refused) (f : A → Result B Refused) (v : A)
+    (cs : List Cause) → x ≡ Ok v → fault_of (f v) ≡ first cs → fault_of (x >>= f) ≡ first cs
 found_then x f v cs is more = rw is more
 
 -- a step that a test may refuse, and what follows
-tested_then : {A B : Type 0} (x : Result A Refused) (f : A → Result B Refused) (b : Bool) (fault : Refused) (v : A) (cs : List Cause)
-    → x ≡ cond b (Err fault) (Ok v) → (b ≡ false → fault_of (f v) ≡ first cs) → fault_of (x >>= f) ≡ cond b (Some fault) (first cs)
+tested_then : {A B : Type 0} (x : Result A Refused) (f : A → Result B Refused) (b : Bool)
+    (fault : Refused) (v : A) (cs : List Cause) → x ≡ cond b (Err fault) (Ok v)
+    → (b ≡ false → fault_of (f v) ≡ first cs) → fault_of (x >>= f) ≡ cond b (Some fault) (first cs)
 tested_then x f true fault v cs is more = rw is refl
 tested_then x f false fault v cs is more = rw is (more refl)
 
 -- the same where the test has to be passed
-passed_then : {A B : Type 0} (x : Result A Refused) (f : A → Result B Refused) (b : Bool) (fault : Refused) (v : A) (cs : List Cause)
-    → x ≡ cond b (Ok v) (Err fault) → (b ≡ true → fault_of (f v) ≡ first cs) → fault_of (x >>= f) ≡ cond (not b) (Some fault) (first cs)
+passed_then : {A B : Type 0} (x : Result A Refused) (f : A → Result B Refused) (b : Bool)
+    (fault : Refused) (v : A) (cs : List Cause) → x ≡ cond b (Ok v) (Err fault)
+    → (b ≡ true → fault_of (f v) ≡ first cs)
+    → fault_of (x >>= f) ≡ cond (not b) (Some fault) (first cs)
 passed_then x f true fault v cs is more = rw is (more refl)
 passed_then x f false fault v cs is more = rw is refl
 
@@ -107,7 +115,8 @@ same_eq a b c d there back = by_test (a == b) refl
 -- ---- a section at a place
 
 -- no length stands in fewer than three octets
-short_room : (shortest : ℕ) (fault : Refused) (room : List ℕ) → length room < 3 → section_at shortest fault room ≡ Err fault
+short_room : (shortest : ℕ) (fault : Refused) (room : List ℕ) → length room < 3
+    → section_at shortest fault room ≡ Err fault
 unfolding section_at
 short_room shortest fault [] h = refl
 short_room shortest fault (a ∷ []) h = refl
@@ -115,9 +124,12 @@ short_room shortest fault (a ∷ b ∷ []) h = refl
 short_room shortest fault (a ∷ b ∷ c ∷ rest) h = absurd (omega arith)
 
 -- a section whose length stands in the room
-long_room : (shortest : ℕ) (fault : Refused) (a b c : ℕ) (more rest : List ℕ) (past : Bool) → nat_lt (3 + length more) (three a b c) ≡ past
+long_room : (shortest : ℕ) (fault : Refused) (a b c : ℕ) (more rest : List ℕ) (past : Bool)
+    → nat_lt (3 + length more) (three a b c) ≡ past
     → (shortest ≤ three a b c → drop (three a b c - 3) more ≡ rest)
-    → section_at shortest fault (a ∷ b ∷ c ∷ more) ≡ cond (nat_lt (three a b c) shortest || past) (Err fault) (Ok (take (three a b c - 3) more, rest))
+    → section_at shortest fault (a ∷ b ∷ c ∷ more)
+    ≡ cond (nat_lt (three a b c) shortest || past) (Err fault)
+    (Ok (take (three a b c - 3) more, rest))
 unfolding section_at
 long_room shortest fault a b c more rest past is left = rw is (by_length (nat_lt (three a b c) shortest) refl)
   where
@@ -140,7 +152,8 @@ room_length octets = omega (arith, length-take (room_end octets) octets)
 
 -- a length at a place of the room
 room_three : (octets : List ℕ) (p : ℕ) → p + 3 ≤ room_end octets
-    → from octets p ≡ octet_at octets p ∷ octet_at octets (p + 1) ∷ octet_at octets (p + 2) ∷ from octets (p + 3)
+    → from octets p
+    ≡ octet_at octets p ∷ octet_at octets (p + 1) ∷ octet_at octets (p + 2) ∷ from octets (p + 3)
 room_three octets p h =
     let room : List ℕ = take (room_end octets) octets in
     let long = room_length octets in
@@ -157,7 +170,8 @@ room_three octets p h =
 
 -- the section at a place, by its length alone
 section_is : (octets : List ℕ) (shortest p : ℕ) (fault : Refused) → 3 ≤ shortest
-    → section_at shortest fault (from octets p) ≡ cond (no_section octets shortest p) (Err fault) (Ok (behind octets p, from octets (p + length_at octets p)))
+    → section_at shortest fault (from octets p) ≡ cond (no_section octets shortest p) (Err fault)
+    (Ok (behind octets p, from octets (p + length_at octets p)))
 section_is octets shortest p fault least = by_room (nat_lt (room_end octets) (p + 3)) refl
   where
     by_room : (b : Bool) → nat_lt (room_end octets) (p + 3) ≡ b
@@ -184,7 +198,9 @@ description_is _ long = absurd (omega arith)
 
 -- section 2, where it is announced
 local_is : (announced : Bool) (octets : List ℕ) (p : ℕ)
-    → (local : Option (List ℕ)) × (local_at announced (from octets p) ≡ cond (announced && no_section octets 4 p) (Err Section2Length) (Ok (local, from octets (if announced then p + length_at octets p else p))))
+    → (local : Option (List ℕ)) × (local_at announced (from octets p)
+    ≡ cond (announced && no_section octets 4 p) (Err Section2Length)
+    (Ok (local, from octets (if announced then p + length_at octets p else p))))
 local_is false octets p = (None, refl)
 local_is true octets p = (Some (drop 1 (behind octets p)), rw (section_is octets 4 p Section2Length (omega arith)) (by_test (no_section octets 4 p)))
   where
@@ -195,7 +211,8 @@ local_is true octets p = (Some (drop 1 (behind octets p)), rw (section_is octets
 
 -- a section that is there: how long it is, and the octets behind its length
 behind_length : (octets : List ℕ) (shortest p : ℕ) → no_section octets shortest p ≡ false
-    → (shortest ≤ 3 + length (behind octets p)) × (p + length_at octets p ≤ room_end octets) × (shortest ≤ length_at octets p)
+    → (shortest ≤ 3 + length (behind octets p)) × (p + length_at octets p ≤ room_end octets)
+    × (shortest ≤ length_at octets p)
 behind_length octets shortest p there =
     let t = none_of (nat_lt (room_end octets) (p + 3)) (nat_lt (length_at octets p) shortest) (nat_lt (room_end octets) (p + length_at octets p)) there in
     let inside = ltb-false _ _ t.0 in
@@ -204,7 +221,8 @@ behind_length octets shortest p there =
     (omega (arith, length-take (length_at octets p - 3) (from octets (p + 3)), length-drop (p + 3) (take (room_end octets) octets), room_length octets), within, long)
 
 -- an octet behind the length of a section
-behind_at : (octets : List ℕ) (p i : ℕ) → p + length_at octets p ≤ room_end octets → i + 3 < length_at octets p → get_or (behind octets p) i 0 ≡ octet_at octets (p + 3 + i)
+behind_at : (octets : List ℕ) (p i : ℕ) → p + length_at octets p ≤ room_end octets
+    → i + 3 < length_at octets p → get_or (behind octets p) i 0 ≡ octet_at octets (p + 3 + i)
 behind_at octets p i inside h =
     get_or-take (length_at octets p - 3) (from octets (p + 3)) i 0 (omega arith)
     ∙ get_or-drop (p + 3) (take (room_end octets) octets) i 0
@@ -212,7 +230,9 @@ behind_at octets p i inside h =
 
 -- what the head is, where section 1 is there: the master table decides
 head_here : (layout : Layout) (octets : List ℕ) → no_section octets (shortest1 layout) 8 ≡ false
-    → (h : Head) × (head_of layout (behind octets 8) ≡ cond (octet_at octets 11 == 0) (Ok (h, announces_section2 layout octets)) (Err (MasterTable (octet_at octets 11))))
+    → (h : Head) × (head_of layout (behind octets 8)
+    ≡ cond (octet_at octets 11 == 0) (Ok (h, announces_section2 layout octets))
+    (Err (MasterTable (octet_at octets 11))))
 head_here Edition4 octets there =
     let l = behind_length octets 22 8 there in
     let master : get_or (behind octets 8) 0 0 ≡ octet_at octets 11 = behind_at octets 8 0 l.1 (omega (arith, l.2)) in
@@ -230,9 +250,11 @@ least_is Edition4 = omega arith
 least_is Edition3 = omega arith
 
 -- section 4, which fills the room
-last_then : {B : Type 0} (octets : List ℕ) (p : ℕ) (f : List ℕ → Result B Refused) → ((c : List ℕ) → fault_of (f c) ≡ None)
+last_then : {B : Type 0} (octets : List ℕ) (p : ℕ) (f : List ℕ → Result B Refused)
+    → ((c : List ℕ) → fault_of (f c) ≡ None)
     → fault_of (section_at 4 Section4Length (from octets p) >>= λ four. contents_of four >>= f)
-    ≡ cond (no_section octets 4 p || not (p + length_at octets p == room_end octets)) (Some Section4Length) None
+    ≡ cond (no_section octets 4 p || not (p + length_at octets p == room_end octets))
+    (Some Section4Length) None
 last_then {B} octets p f ends = rw (section_is octets 4 p Section4Length (omega arith)) (by_test (no_section octets 4 p) refl)
   where
     by_room : (b : Bool) → fault_of (cond b (Ok (drop 1 (behind octets p))) (Err Section4Length) >>= f) ≡ cond (not b) (Some Section4Length) None
@@ -257,7 +279,8 @@ abbrev later : Layout → List ℕ → List Cause
 later layout octets = drop 2 (causes_in (Some layout) octets)
 
 -- the fault of the sections is the first cause after the end
-sections_fault : (layout : Layout) (octets : List ℕ) → fault_of (sections_of layout (from octets 8)) ≡ first (later layout octets)
+sections_fault : (layout : Layout) (octets : List ℕ)
+    → fault_of (sections_of layout (from octets 8)) ≡ first (later layout octets)
 unfolding sections_of
 sections_fault layout octets =
     tested_then (section_at (shortest1 layout) Section1Length (from octets 8)) _ (no_section octets (shortest1 layout) 8) Section1Length (behind octets 8, from octets (place2 octets)) (drop 1 (later layout octets))
@@ -276,7 +299,9 @@ sections_fault layout octets =
     (last_then octets (place4 layout octets) _ (λ c. refl))))))
 
 -- what is read by a layout, in one step or in two
-with_layout : {A B : Type 0} (layout : Layout) (x : Result A Refused) (f : Layout × A → Result B Refused) → ((x >>= λ a. Ok (layout, a)) >>= f) ≡ (x >>= λ a. f (layout, a))
+with_layout : {A B : Type 0} (layout : Layout) (x : Result A Refused)
+    (f : Layout × A → Result B Refused)
+    → ((x >>= λ a. Ok (layout, a)) >>= f) ≡ (x >>= λ a. f (layout, a))
 with_layout layout (Ok a) f = refl
 with_layout layout (Err fault) f = refl
 
@@ -286,7 +311,8 @@ by_layout found = sections_of found.0 found.1
 
 -- the room and what stands in it
 room_fault : (b u f r l1 l2 l3 edition : ℕ) (rest : List ℕ) (layout : Layout)
-    → fault_of (room_in (three l1 l2 l3) rest >>= λ room. sections_of layout room) ≡ first (causes_in (Some layout) (b ∷ u ∷ f ∷ r ∷ l1 ∷ l2 ∷ l3 ∷ edition ∷ rest))
+    → fault_of (room_in (three l1 l2 l3) rest >>= λ room. sections_of layout room)
+    ≡ first (causes_in (Some layout) (b ∷ u ∷ f ∷ r ∷ l1 ∷ l2 ∷ l3 ∷ edition ∷ rest))
 unfolding room_in
 room_fault b u f r l1 l2 l3 edition rest layout =
     let octets : List ℕ = b ∷ u ∷ f ∷ r ∷ l1 ∷ l2 ∷ l3 ∷ edition ∷ rest in
@@ -305,14 +331,17 @@ room_fault b u f r l1 l2 l3 edition rest layout =
 
 -- by the layout that octet 8 names
 edition_fault : (b u f r l1 l2 l3 edition : ℕ) (rest : List ℕ) (layout : Option Layout)
-    → fault_of ((layout_or edition layout >>= λ layout. room_in (three l1 l2 l3) rest >>= λ room. Ok (layout, room)) >>= by_layout)
-    ≡ first (causes_in layout (b ∷ u ∷ f ∷ r ∷ l1 ∷ l2 ∷ l3 ∷ edition ∷ rest))
+    → fault_of ((layout_or edition layout >>= λ layout. room_in (three l1 l2 l3) rest >>= λ room. Ok
+    (layout, room)) >>= by_layout) ≡ first (causes_in layout
+    (b ∷ u ∷ f ∷ r ∷ l1 ∷ l2 ∷ l3 ∷ edition ∷ rest))
 edition_fault b u f r l1 l2 l3 edition rest None = refl
 edition_fault b u f r l1 l2 l3 edition rest (Some layout) =
     ap fault_of (with_layout layout (room_in (three l1 l2 l3) rest) by_layout) ∙ room_fault b u f r l1 l2 l3 edition rest layout
 
 -- section 0
-start_fault : (b u f r l1 l2 l3 edition : ℕ) (rest : List ℕ) → fault_of (envelope_of (b ∷ u ∷ f ∷ r ∷ l1 ∷ l2 ∷ l3 ∷ edition ∷ rest)) ≡ first (causes (b ∷ u ∷ f ∷ r ∷ l1 ∷ l2 ∷ l3 ∷ edition ∷ rest))
+start_fault : (b u f r l1 l2 l3 edition : ℕ) (rest : List ℕ)
+    → fault_of (envelope_of (b ∷ u ∷ f ∷ r ∷ l1 ∷ l2 ∷ l3 ∷ edition ∷ rest))
+    ≡ first (causes (b ∷ u ∷ f ∷ r ∷ l1 ∷ l2 ∷ l3 ∷ edition ∷ rest))
 unfolding envelope_of causes room_of
 start_fault b u f r l1 l2 l3 edition rest =
     let octets : List ℕ = b ∷ u ∷ f ∷ r ∷ l1 ∷ l2 ∷ l3 ∷ edition ∷ rest in
@@ -327,33 +356,39 @@ envelope_fault (b ∷ u ∷ f ∷ r ∷ l1 ∷ l2 ∷ l3 ∷ edition ∷ rest) =
 envelope_fault _ = refl
 
 -- the fault of a refusal is its own
-is_refused : {A : Type 0} (x : Result A Refused) (fault : Refused) → fault_of x ≡ Some fault → x ≡ Err fault
+is_refused : {A : Type 0} (x : Result A Refused) (fault : Refused) → fault_of x ≡ Some fault
+    → x ≡ Err fault
 is_refused (Ok v) fault e = absurd cc
 is_refused (Err other) fault e = let same : other ≡ fault = cc in ap (λ f. Err f) same
 
 -- octets are refused for their first cause
-pub refused_gives_first : (octets : List ℕ) (fault : Refused) → envelope_of octets ≡ Err fault → IsFirstRefusal octets fault
+pub refused_gives_first : (octets : List ℕ) (fault : Refused) → envelope_of octets ≡ Err fault
+    → IsFirstRefusal octets fault
 refused_gives_first octets fault e = first_takes (causes octets) fault (sym (envelope_fault octets) ∙ ap fault_of e)
 
 -- the first cause is answered
-pub first_is_answered : (octets : List ℕ) (fault : Refused) → IsFirstRefusal octets fault → envelope_of octets ≡ Err fault
+pub first_is_answered : (octets : List ℕ) (fault : Refused) → IsFirstRefusal octets fault
+    → envelope_of octets ≡ Err fault
 first_is_answered octets fault s = is_refused (envelope_of octets) fault (envelope_fault octets ∙ ap first s.2 ∙ first_gives s.0 s.1 fault s.3)
 
 -- ---- which faults the sections have
 
 -- one cause more that is of the sections
-among : (g : Refused) (b : Bool) (cs : List Cause) (f : Refused) → is_of_sections g ≡ true → cond b (Some g) (first cs) ≡ Some f
-    → (first cs ≡ Some f → is_of_sections f ≡ true) → is_of_sections f ≡ true
+among : (g : Refused) (b : Bool) (cs : List Cause) (f : Refused) → is_of_sections g ≡ true
+    → cond b (Some g) (first cs) ≡ Some f → (first cs ≡ Some f → is_of_sections f ≡ true)
+    → is_of_sections f ≡ true
 among g true cs f of e more = let same : g ≡ f = cc in ap is_of_sections (sym same) ∙ of
 among g false cs f of e more = more e
 
 -- the first of causes of the sections is one
-first_among : (cs : List Cause) (f : Refused) → AllByRecursion (λ c. is_of_sections c.0 ≡ true) cs → first cs ≡ Some f → is_of_sections f ≡ true
+first_among : (cs : List Cause) (f : Refused) → AllByRecursion (λ c. is_of_sections c.0 ≡ true) cs
+    → first cs ≡ Some f → is_of_sections f ≡ true
 first_among [] f all e = absurd cc
 first_among (c ∷ cs) f all e = among c.0 c.1 cs f all.0 e (first_among cs f all.1)
 
 -- sections are refused for M1 to M9 alone
-pub of_sections : (octets : List ℕ) (fault : Refused) → envelope_of octets ≡ Err fault → is_of_sections fault ≡ true
+pub of_sections : (octets : List ℕ) (fault : Refused) → envelope_of octets ≡ Err fault
+    → is_of_sections fault ≡ true
 unfolding causes
 of_sections octets fault e =
     first_among (causes octets) fault (refl, of_layout (layout_of (octet_at octets 7))) (sym (envelope_fault octets) ∙ ap fault_of e)

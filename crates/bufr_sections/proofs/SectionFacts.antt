@@ -19,7 +19,9 @@ three_is : (n : ℕ) → n < 2 ^ 24 → three (n / 2 ^ 16 % 256) (n / 2 ^ 8 % 25
 three_is n h = omega arith
 
 -- a section that is spelt is read, and what stands behind it
-pub section_at-section : (shortest : ℕ) (fault : Refused) (contents rest : List ℕ) → shortest ≤ 3 + length contents → 3 + length contents < 2 ^ 24 → section_at shortest fault (section contents ++ rest) ≡ Ok (contents, rest)
+pub section_at-section : (shortest : ℕ) (fault : Refused) (contents rest : List ℕ)
+    → shortest ≤ 3 + length contents → 3 + length contents < 2 ^ 24
+    → section_at shortest fault (section contents ++ rest) ≡ Ok (contents, rest)
 unfolding section_at
 section_at-section shortest fault contents rest long small =
     let n = three_is (3 + length contents) small in
@@ -30,7 +32,8 @@ section_at-section shortest fault contents rest long small =
 
 -- the room before `7777`
 pub room_in-whole : (middle : List ℕ) → 12 + length middle < 2 ^ 24
-    → room_in (three ((12 + length middle) / 2 ^ 16 % 256) ((12 + length middle) / 2 ^ 8 % 256) ((12 + length middle) % 256)) (middle ++ codes "7777") ≡ Ok middle
+    → room_in (three ((12 + length middle) / 2 ^ 16 % 256) ((12 + length middle) / 2 ^ 8 % 256)
+    ((12 + length middle) % 256)) (middle ++ codes "7777") ≡ Ok middle
 unfolding room_in
 room_in-whole middle small =
     let n = three_is (12 + length middle) small in
@@ -45,7 +48,8 @@ layout_of-number Edition4 = refl
 layout_of-number Edition3 = refl
 
 -- the room of a whole message, and its layout
-pub room_of-enclosed : (layout : Layout) (middle : List ℕ) → 12 + length middle < 2 ^ 24 → room_of (enclosed layout middle) ≡ Ok (layout, middle)
+pub room_of-enclosed : (layout : Layout) (middle : List ℕ) → 12 + length middle < 2 ^ 24
+    → room_of (enclosed layout middle) ≡ Ok (layout, middle)
 unfolding room_of
 room_of-enclosed layout middle small = rw (layout_of-number layout, room_in-whole middle small) refl
 
@@ -56,12 +60,14 @@ two_is : (n : ℕ) → n < 2 ^ 16 → two (n / 2 ^ 8 % 256) (n % 256) ≡ n
 two_is n h = omega arith
 
 -- the first bit announces, whatever the others are
-announced_is : (announced : Bool) (ignored : ℕ) → ignored < 128 → nat_le 128 (flag announced 128 + ignored) ≡ announced
+announced_is : (announced : Bool) (ignored : ℕ) → ignored < 128
+    → nat_le 128 (flag announced 128 + ignored) ≡ announced
 announced_is true ignored h = le-leb _ _ (omega arith)
 announced_is false ignored h = lt-leb _ _ (omega arith)
 
 -- the head that a layout spells is read again
-pub head_of-section1 : (layout : Layout) (h : Head) (announced : Bool) (i : Ignored) → HasSection1 layout h i → i.bits1 < 128
+pub head_of-section1 : (layout : Layout) (h : Head) (announced : Bool) (i : Ignored)
+    → HasSection1 layout h i → i.bits1 < 128
     → head_of layout (head_octets layout h announced i) ≡ Ok (h, announced)
 unfolding head4_of head3_of
 head_of-section1 Edition4 h announced i fits small =
@@ -70,14 +76,16 @@ head_of-section1 Edition3 h announced i fits small =
     rw (announced_is announced i.bits1 small, ← fits.year, ← fits.international, ← fits.second) refl
 
 -- and is no shorter than the layout says
-pub head_is_long : (layout : Layout) (h : Head) (announced : Bool) (i : Ignored) → (3 ≤ shortest1 layout) × (shortest1 layout ≤ 3 + length (head_octets layout h announced i))
+pub head_is_long : (layout : Layout) (h : Head) (announced : Bool) (i : Ignored)
+    → (3 ≤ shortest1 layout) × (shortest1 layout ≤ 3 + length (head_octets layout h announced i))
 head_is_long Edition4 h announced i = (omega arith, omega arith)
 head_is_long Edition3 h announced i = (omega arith, omega arith)
 
 -- ---- section 3
 
 -- descriptors that are spelt are read, and an odd octet is none
-pub descriptors_of-flat_map : (ds odd : List ℕ) → AllByRecursion (λ d. d < 2 ^ 16) ds → length odd ≤ 1 → descriptors_of (flat_map (bytes_high_first 2) ds ++ odd) ≡ ds
+pub descriptors_of-flat_map : (ds odd : List ℕ) → AllByRecursion (λ d. d < 2 ^ 16) ds
+    → length odd ≤ 1 → descriptors_of (flat_map (bytes_high_first 2) ds ++ odd) ≡ ds
 unfolding descriptors_of
 descriptors_of-flat_map [] [] all short = refl
 descriptors_of-flat_map [] (x ∷ []) all short = refl
@@ -101,16 +109,27 @@ compressed_is false false b h = let e : (0 + 0 + b) / 64 % 2 ≡ 0 = omega arith
 -- ---- the sections together
 
 -- what each part of the room is, in turn
-steps : (layout : Layout) (room c1 room2 room3 c3 room4 c4 : List ℕ) (h : Head × Bool) (local : Option (List ℕ)) (d : Description)
-    → section_at (shortest1 layout) Section1Length room ≡ Ok (c1, room2) → head_of layout c1 ≡ Ok h → local_at h.1 room2 ≡ Ok (local, room3)
-    → section_at 9 Section3Length room3 ≡ Ok (c3, room4) → description_of c3 ≡ Ok d
-    → section_at 4 Section4Length room4 ≡ Ok (c4, [])
-    → sections_of layout room ≡ Ok (record { head = h.0; section2 = local; observed = d.observed; compressed = d.compressed; descriptors = d.descriptors; count = d.count; contents = drop 1 c4 })
+steps : (layout : Layout) (room c1 room2 room3 c3 room4 c4 : List ℕ) (h : Head × Bool)
+    (local : Option (List ℕ)) (d : Description)
+    → section_at (shortest1 layout) Section1Length room ≡ Ok (c1, room2) → head_of layout c1 ≡ Ok h
+    → local_at h.1 room2 ≡ Ok (local, room3) → section_at 9 Section3Length room3 ≡ Ok (c3, room4)
+    → description_of c3 ≡ Ok d → section_at 4 Section4Length room4 ≡ Ok (c4, [])
+    → sections_of layout room ≡ Ok (record {
+      head = h.0;
+      section2 = local;
+      observed = d.observed;
+      compressed = d.compressed;
+      descriptors = d.descriptors;
+      count = d.count;
+      contents = drop 1 c4;
+    })
 unfolding sections_of
 steps layout room c1 room2 room3 c3 room4 c4 h local d e1 e2 e3 e4 e5 e6 = rw (e1, e2, e3, e4, e5, e6) refl
 
 -- section 2 that is spelt is read
-local_at-section2 : (local : Option (List ℕ)) (ignored : ℕ) (rest : List ℕ) → length (section2 local ignored) < 2 ^ 24 → local_at (is_present local) (section2 local ignored ++ rest) ≡ Ok (local, rest)
+local_at-section2 : (local : Option (List ℕ)) (ignored : ℕ) (rest : List ℕ)
+    → length (section2 local ignored) < 2 ^ 24
+    → local_at (is_present local) (section2 local ignored ++ rest) ≡ Ok (local, rest)
 local_at-section2 None ignored rest small = refl
 local_at-section2 (Some local) ignored rest small =
     rw (section_at-section 4 Section2Length (ignored ∷ local) rest (omega arith) (omega arith)) refl
@@ -124,7 +143,8 @@ abbrev described : Envelope → Description
 described e = record { count = e.count; observed = e.observed; compressed = e.compressed; descriptors = e.descriptors }
 
 -- section 3 that is spelt is read
-description_of-section3 : (layout : Layout) (e : Envelope) (i : Ignored) → EnvelopeFits layout e i → description_of (contents3 e i) ≡ Ok (described e)
+description_of-section3 : (layout : Layout) (e : Envelope) (i : Ignored) → EnvelopeFits layout e i
+    → description_of (contents3 e i) ≡ Ok (described e)
 unfolding description_of
 description_of-section3 layout e i fits =
     rw (two_is e.count fits.count, observed_is e.observed e.compressed i.bits3 fits.ignored.3, compressed_is e.observed e.compressed i.bits3 fits.ignored.3, descriptors_of-flat_map e.descriptors i.odd (recursion_from_All (λ d. d < 2 ^ 16) e.descriptors fits.descriptors) fits.ignored.4) refl
@@ -135,7 +155,8 @@ some_octets [] h = absurd (omega arith)
 some_octets (d ∷ ds) h = omega arith
 
 -- four lists joined
-length_of_four : (a b c d : List ℕ) → length (a ++ b ++ c ++ d) ≡ length a + length b + length c + length d
+length_of_four : (a b c d : List ℕ)
+    → length (a ++ b ++ c ++ d) ≡ length a + length b + length c + length d
 length_of_four a b c d = simp length-append
 
 -- nothing behind a list
@@ -148,8 +169,8 @@ pub regrouped : (a b c d : List ℕ) → a ++ b ++ c ++ d ≡ a ++ (b ++ (c ++ (
 regrouped a b c d = rw (append_none d) (simp append_assoc)
 
 -- the sections that are spelt are read
-sections_of-sections : (layout : Layout) (e : Envelope) (i : Ignored) → EnvelopeFits layout e i → length (sections layout e i) < 2 ^ 24
-    → sections_of layout (sections layout e i) ≡ Ok e
+sections_of-sections : (layout : Layout) (e : Envelope) (i : Ignored) → EnvelopeFits layout e i
+    → length (sections layout e i) < 2 ^ 24 → sections_of layout (sections layout e i) ≡ Ok e
 unfolding sections
 sections_of-sections layout e i fits small =
     let s1 = section1 layout e.head (is_present e.section2) i in
@@ -173,7 +194,8 @@ sections_of-sections layout e i fits small =
     (section_at-section 4 Section4Length c4 [] (omega arith) (omega arith))
 
 -- what the sections spell is read again
-pub envelope_of-spelling : (layout : Layout) (e : Envelope) (i : Ignored) → EnvelopeFits layout e i → envelope_of (spelling layout e i) ≡ Ok e
+pub envelope_of-spelling : (layout : Layout) (e : Envelope) (i : Ignored) → EnvelopeFits layout e i
+    → envelope_of (spelling layout e i) ≡ Ok e
 unfolding envelope_of spelling
 envelope_of-spelling layout e i fits =
     let small : 12 + length (sections layout e i) < 2 ^ 24 = omega (arith, fits.total, length-append (sections layout e i) (codes "7777")) in

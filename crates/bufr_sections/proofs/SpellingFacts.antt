@@ -20,7 +20,8 @@ use Rattle.bufr_sections.specs.AnswerLaws.{bind_ok, guard_ok, passed_ok, ok_is, 
 -- ---- numbers of octets
 
 -- a number of three octets is spelt by them
-three_spelt : (n a b c : ℕ) → n ≡ three a b c → a < 256 → b < 256 → c < 256 → bytes_high_first 3 n ≡ a ∷ b ∷ c ∷ []
+three_spelt : (n a b c : ℕ) → n ≡ three a b c → a < 256 → b < 256 → c < 256
+    → bytes_high_first 3 n ≡ a ∷ b ∷ c ∷ []
 three_spelt n a b c e la lb lc =
     let h : n / 65536 % 256 ≡ a = omega arith in
     let m : n / 256 % 256 ≡ b = omega arith in
@@ -28,22 +29,27 @@ three_spelt n a b c e la lb lc =
     rw (h, m, l) refl
 
 -- a number of two octets is spelt by them
-two_spelt : (a b : ℕ) → a < 256 → b < 256 → (bytes_high_first 2 (two a b) ≡ a ∷ b ∷ []) × (two a b < 2 ^ 16)
+two_spelt : (a b : ℕ) → a < 256 → b < 256
+    → (bytes_high_first 2 (two a b) ≡ a ∷ b ∷ []) × (two a b < 2 ^ 16)
 two_spelt a b la lb =
     let m : two a b / 256 % 256 ≡ a = omega arith in
     let l : two a b % 256 ≡ b = omega arith in
     (rw (m, l) refl, omega arith)
 
 -- its octets, one by one
-two_cells : (a b : ℕ) → a < 256 → b < 256 → (two a b / 256 % 256 ≡ a) × (two a b % 256 ≡ b) × (two a b < 2 ^ 16)
+two_cells : (a b : ℕ) → a < 256 → b < 256
+    → (two a b / 256 % 256 ≡ a) × (two a b % 256 ≡ b) × (two a b < 2 ^ 16)
 two_cells a b la lb = (omega arith, omega arith, omega arith)
 
 -- ---- section 0 and the end
 
 -- the room is spelt with its length and its end
-room_spelt : (layout : Layout) (l1 l2 l3 : ℕ) (rest : List ℕ) → l1 < 256 → l2 < 256 → l3 < 256 → three l1 l2 l3 ≡ 8 + length rest → 4 ≤ length rest
+room_spelt : (layout : Layout) (l1 l2 l3 : ℕ) (rest : List ℕ) → l1 < 256 → l2 < 256 → l3 < 256
+    → three l1 l2 l3 ≡ 8 + length rest → 4 ≤ length rest
     → drop (length rest - 4) rest ≡ codes "7777"
-    → (codes "BUFR" ++ l1 ∷ l2 ∷ l3 ∷ edition_number layout ∷ rest ≡ enclosed layout (take (length rest - 4) rest)) × (12 + length (take (length rest - 4) rest) < 2 ^ 24)
+    → (codes "BUFR" ++ l1 ∷ l2 ∷ l3 ∷ edition_number layout ∷ rest
+    ≡ enclosed layout (take (length rest - 4) rest))
+    × (12 + length (take (length rest - 4) rest) < 2 ^ 24)
 room_spelt layout l1 l2 l3 rest h1 h2 h3 total long end =
     let room : List ℕ = take (length rest - 4) rest in
     let size : length room ≡ length rest - 4 = omega (arith, length-take (length rest - 4) rest) in
@@ -53,7 +59,8 @@ room_spelt layout l1 l2 l3 rest h1 h2 h3 total long end =
 
 -- the room is there and before `7777`
 room_in_takes : (total : ℕ) (rest room : List ℕ) → room_in total rest ≡ Ok room
-    → (total ≡ 8 + length rest) × (4 ≤ length rest) × (drop (length rest - 4) rest ≡ codes "7777") × (take (length rest - 4) rest ≡ room)
+    → (total ≡ 8 + length rest) × (4 ≤ length rest) × (drop (length rest - 4) rest ≡ codes "7777")
+    × (take (length rest - 4) rest ≡ room)
 unfolding room_in
 room_in_takes total rest room e =
     let g3 = guard_ok (not (total == 8 + length rest)) TotalLength _ room e in
@@ -65,7 +72,8 @@ room_in_takes total rest room e =
     )
 
 -- a layout is that of its edition's number
-layout_takes : (edition : ℕ) (layout : Layout) → layout_or edition (layout_of edition) ≡ Ok layout → edition ≡ edition_number layout
+layout_takes : (edition : ℕ) (layout : Layout) → layout_or edition (layout_of edition) ≡ Ok layout
+    → edition ≡ edition_number layout
 layout_takes edition layout e = by_test (edition == 4) refl (edition == 3) refl e
   where
     by_test : (four : Bool) → (edition == 4) ≡ four → (three : Bool) → (edition == 3) ≡ three
@@ -75,7 +83,8 @@ layout_takes edition layout e = by_test (edition == 4) refl (edition == 3) refl 
     by_test false not_four false not_three e = absurd cc
 
 -- the room that is read is spelt so
-pub room_of_takes : (octets : List ℕ) (found : Layout × List ℕ) → AreOctets octets → room_of octets ≡ Ok found
+pub room_of_takes : (octets : List ℕ) (found : Layout × List ℕ) → AreOctets octets
+    → room_of octets ≡ Ok found
     → (octets ≡ enclosed found.0 found.1) × (12 + length found.1 < 2 ^ 24) × AreOctets found.1
 unfolding room_of
 room_of_takes (b ∷ u ∷ f ∷ r ∷ l1 ∷ l2 ∷ l3 ∷ edition ∷ rest) found octets e =
@@ -94,8 +103,10 @@ room_of_takes _ found octets e = absurd cc
 -- ---- a section
 
 -- a section that is read is spelt so
-pub section_at_takes : (shortest : ℕ) (fault : Refused) (room contents rest : List ℕ) → 3 ≤ shortest → AreOctets room → section_at shortest fault room ≡ Ok (contents, rest)
-    → (room ≡ section contents ++ rest) × (shortest ≤ 3 + length contents) × AreOctets contents × AreOctets rest
+pub section_at_takes : (shortest : ℕ) (fault : Refused) (room contents rest : List ℕ) → 3 ≤ shortest
+    → AreOctets room → section_at shortest fault room ≡ Ok (contents, rest)
+    → (room ≡ section contents ++ rest) × (shortest ≤ 3 + length contents) × AreOctets contents
+    × AreOctets rest
 unfolding section_at
 section_at_takes shortest fault [] contents rest least octets e = absurd cc
 section_at_takes shortest fault (a ∷ []) contents rest least octets e = absurd cc
@@ -114,7 +125,8 @@ section_at_takes shortest fault (a ∷ b ∷ c ∷ more) contents rest least oct
 -- ---- section 1
 
 -- the octet that announces section 2, in its two parts
-flags1 : (flags : ℕ) → flags < 256 → (flags ≡ flag (nat_le 128 flags) 128 + flags % 128) × (flags % 128 < 128)
+flags1 : (flags : ℕ) → flags < 256
+    → (flags ≡ flag (nat_le 128 flags) 128 + flags % 128) × (flags % 128 < 128)
 flags1 flags h = elim (cases_lt flags 128) [
   | inl lt ↦ let e : nat_le 128 flags ≡ false = lt-leb _ _ lt in (rw e (omega arith), omega arith)
   | inr le ↦ let e : nat_le 128 flags ≡ true = le-leb _ _ le in (rw e (omega arith), omega arith)
@@ -129,7 +141,8 @@ abbrev pub SpeltHead : Layout → List ℕ → Head × Bool → Type 0
 SpeltHead layout octets h = (i : Ignored) × (i.bits1 < 128) × (octets ≡ head_octets layout h.0 h.1 i) × HasSection1 layout h.0 i
 
 -- a head of edition 4 that is read is spelt so
-head4_of_takes : (octets : List ℕ) (h : Head × Bool) → AreOctets octets → head4_of octets ≡ Ok h → SpeltHead Edition4 octets h
+head4_of_takes : (octets : List ℕ) (h : Head × Bool) → AreOctets octets → head4_of octets ≡ Ok h
+    → SpeltHead Edition4 octets h
 unfolding head4_of
 head4_of_takes (master ∷ c1 ∷ c2 ∷ s1 ∷ s2 ∷ update ∷ flags ∷ category ∷ international ∷ local_category ∷ master_version ∷ local_version ∷ y1 ∷ y2 ∷ month ∷ day ∷ hour ∷ minute ∷ second ∷ local) h octets e =
     let p = passed_ok (master == 0) _ (MasterTable master) h e in
@@ -147,7 +160,8 @@ head4_of_takes (master ∷ c1 ∷ c2 ∷ s1 ∷ s2 ∷ update ∷ flags ∷ cate
 head4_of_takes _ h octets e = absurd cc
 
 -- a head of edition 3 that is read is spelt so
-head3_of_takes : (octets : List ℕ) (h : Head × Bool) → AreOctets octets → head3_of octets ≡ Ok h → SpeltHead Edition3 octets h
+head3_of_takes : (octets : List ℕ) (h : Head × Bool) → AreOctets octets → head3_of octets ≡ Ok h
+    → SpeltHead Edition3 octets h
 unfolding head3_of
 head3_of_takes (master ∷ sub_centre ∷ centre ∷ update ∷ flags ∷ category ∷ local_category ∷ master_version ∷ local_version ∷ year ∷ month ∷ day ∷ hour ∷ minute ∷ local) h octets e =
     let p = passed_ok (master == 0) _ (MasterTable master) h e in
@@ -162,15 +176,18 @@ head3_of_takes (master ∷ sub_centre ∷ centre ∷ update ∷ flags ∷ catego
 head3_of_takes _ h octets e = absurd cc
 
 -- a head that is read is spelt so
-pub head_of_takes : (layout : Layout) (octets : List ℕ) (h : Head × Bool) → AreOctets octets → head_of layout octets ≡ Ok h → SpeltHead layout octets h
+pub head_of_takes : (layout : Layout) (octets : List ℕ) (h : Head × Bool) → AreOctets octets
+    → head_of layout octets ≡ Ok h → SpeltHead layout octets h
 head_of_takes Edition4 octets h all e = head4_of_takes octets h all e
 head_of_takes Edition3 octets h all e = head3_of_takes octets h all e
 
 -- ---- section 2
 
 -- section 2 that is read is spelt so
-pub local_at_takes : (announced : Bool) (room rest : List ℕ) (local : Option (List ℕ)) → AreOctets room → local_at announced room ≡ Ok (local, rest)
-    → (ignored : ℕ) × IsOctet ignored × (room ≡ section2 local ignored ++ rest) × (is_present local ≡ announced) × IfSome local AreOctets × AreOctets rest
+pub local_at_takes : (announced : Bool) (room rest : List ℕ) (local : Option (List ℕ))
+    → AreOctets room → local_at announced room ≡ Ok (local, rest)
+    → (ignored : ℕ) × IsOctet ignored × (room ≡ section2 local ignored ++ rest)
+    × (is_present local ≡ announced) × IfSome local AreOctets × AreOctets rest
 local_at_takes false room rest local octets e =
     subst (λ (p : Option (List ℕ) × List ℕ). (ignored : ℕ) × IsOctet ignored × (room ≡ section2 p.0 ignored ++ p.1) × (is_present p.0 ≡ false) × IfSome p.0 AreOctets × AreOctets p.1) (ok_is _ _ e)
     (0, omega arith, refl, refl, tt, octets)
@@ -189,7 +206,8 @@ local_at_takes true room rest local octets e =
 
 -- descriptors that are read are spelt so, and an odd octet
 pub list_spelt : (list : List ℕ) → AreOctets list
-    → (odd : List ℕ) × (list ≡ flat_map (bytes_high_first 2) (descriptors_of list) ++ odd) × (length odd ≤ 1) × AreOctets odd × All (λ d. d < 2 ^ 16) (descriptors_of list)
+    → (odd : List ℕ) × (list ≡ flat_map (bytes_high_first 2) (descriptors_of list) ++ odd)
+    × (length odd ≤ 1) × AreOctets odd × All (λ d. d < 2 ^ 16) (descriptors_of list)
 unfolding descriptors_of
 list_spelt [] octets = ([], refl, omega arith, All-nil IsOctet, All-nil (λ d. d < 2 ^ 16))
 list_spelt (a ∷ []) octets = (a ∷ [], refl, omega arith, octets, All-nil (λ d. d < 2 ^ 16))
@@ -199,7 +217,9 @@ list_spelt (a ∷ b ∷ rest) octets =
     (more.0, rw (cells.0, cells.1) (ap (λ xs. a ∷ b ∷ xs) more.1), more.2, more.3, All-cons (λ d. d < 2 ^ 16) (two a b) (descriptors_of rest) cells.2 more.4)
 
 -- the octet of the flags, in its three parts
-flags3 : (flags : ℕ) → flags < 256 → (flags ≡ flag (nat_le 128 flags) 128 + flag (flags / 64 % 2 == 1) 64 + flags % 64) × (flags % 64 < 64)
+flags3 : (flags : ℕ) → flags < 256
+    → (flags ≡ flag (nat_le 128 flags) 128 + flag (flags / 64 % 2 == 1) 64 + flags % 64)
+    × (flags % 64 < 64)
 flags3 flags h = (whole (cases_lt flags 128) (cases_lt (flags / 64 % 2) 1), omega arith)
   where
     whole : (flags < 128) ⊎ (128 ≤ flags) → (flags / 64 % 2 < 1) ⊎ (1 ≤ flags / 64 % 2) → flags ≡ flag (nat_le 128 flags) 128 + flag (flags / 64 % 2 == 1) 64 + flags % 64
@@ -225,7 +245,9 @@ pub record Described (octets : List ℕ) (d : Description) : Type 0 where
   pub octet3 : ℕ
   pub bits3 : ℕ
   pub odd : List ℕ
-  pub spelt : octets ≡ octet3 ∷ bytes_high_first 2 d.count ++ (flag d.observed 128 + flag d.compressed 64 + bits3) ∷ flat_map (bytes_high_first 2) d.descriptors ++ odd
+  pub spelt : octets ≡ octet3 ∷ bytes_high_first 2 d.count
+      ++ (flag d.observed 128 + flag d.compressed 64 + bits3)
+      ∷ flat_map (bytes_high_first 2) d.descriptors ++ odd
   pub is_octet : IsOctet octet3
   pub few : bits3 < 64
   pub short : length odd ≤ 1
@@ -242,7 +264,8 @@ some_listed (a ∷ []) h = absurd (omega arith)
 some_listed (a ∷ b ∷ rest) h = omega arith
 
 -- section 3 that is read is spelt so
-pub description_of_takes : (octets : List ℕ) (d : Description) → AreOctets octets → 6 ≤ length octets → description_of octets ≡ Ok d → Described octets d
+pub description_of_takes : (octets : List ℕ) (d : Description) → AreOctets octets
+    → 6 ≤ length octets → description_of octets ≡ Ok d → Described octets d
 unfolding description_of
 description_of_takes [] d octets long e = absurd cc
 description_of_takes (x ∷ []) d octets long e = absurd cc
@@ -270,13 +293,17 @@ description_of_takes (x ∷ n1 ∷ n2 ∷ flags ∷ list) d octets long e =
 -- ---- section 4
 
 -- section 4 of any octets is spelt so
-contents_spelt : (octets : List ℕ) → 4 ≤ 3 + length octets → AreOctets octets → (ignored : ℕ) × IsOctet ignored × (section octets ≡ section4 (drop 1 octets) ignored) × AreOctets (drop 1 octets)
+contents_spelt : (octets : List ℕ) → 4 ≤ 3 + length octets → AreOctets octets
+    → (ignored : ℕ) × IsOctet ignored × (section octets ≡ section4 (drop 1 octets) ignored)
+    × AreOctets (drop 1 octets)
 contents_spelt [] long octets = absurd (omega arith)
 contents_spelt (x ∷ xs) long octets = (x, All-head IsOctet x xs octets, refl, All-tail IsOctet x xs octets)
 
 -- section 4 that is read is spelt so
-pub contents_of_takes : (octets rest contents : List ℕ) → 4 ≤ 3 + length octets → AreOctets octets → contents_of (octets, rest) ≡ Ok contents
-    → (ignored : ℕ) × IsOctet ignored × (section octets ++ rest ≡ section4 contents ignored ++ []) × AreOctets contents
+pub contents_of_takes : (octets rest contents : List ℕ) → 4 ≤ 3 + length octets → AreOctets octets
+    → contents_of (octets, rest) ≡ Ok contents
+    → (ignored : ℕ) × IsOctet ignored × (section octets ++ rest ≡ section4 contents ignored ++ [])
+    × AreOctets contents
 contents_of_takes octets [] contents long all e =
     subst (λ (xs : List ℕ). (ignored : ℕ) × IsOctet ignored × (section octets ++ [] ≡ section4 xs ignored ++ []) × AreOctets xs) (ok_is _ _ e)
     (let c = contents_spelt octets long all in (c.0, c.1, ap (λ xs. xs ++ []) c.2, c.3))
@@ -291,7 +318,8 @@ abbrev enveloped : Head → Option (List ℕ) → Description → List ℕ → E
 enveloped h local d contents = record { head = h; section2 = local; observed = d.observed; compressed = d.compressed; descriptors = d.descriptors; count = d.count; contents = contents }
 
 -- sections that are each spelt are spelt together
-together : (layout : Layout) (room room2 room3 room4 : List ℕ) (h : Head) (announced : Bool) (local : Option (List ℕ)) (d : Description) (contents : List ℕ) (i : Ignored)
+together : (layout : Layout) (room room2 room3 room4 : List ℕ) (h : Head) (announced : Bool)
+    (local : Option (List ℕ)) (d : Description) (contents : List ℕ) (i : Ignored)
     → room ≡ section1 layout h announced i ++ room2 → is_present local ≡ announced
     → room2 ≡ section2 local i.octet2 ++ room3
     → room3 ≡ section3 (enveloped h local d contents) i ++ room4
@@ -308,9 +336,12 @@ together layout room room2 room3 room4 h announced local d contents i e1 present
     ∙ sym (regrouped s1 s2 s3 s4)
 
 -- what was read fits its envelope
-fits_together : (layout : Layout) (room : List ℕ) (h : Head) (local : Option (List ℕ)) (d : Description) (contents : List ℕ) (i : Ignored) (octets3 : List ℕ) (said : Described octets3 d)
-    → 12 + length room < 2 ^ 24 → room ≡ sections layout (enveloped h local d contents) i → HasSection1 layout h i → IfSome local AreOctets → AreOctets contents
-    → i.bits1 < 128 → IsOctet i.octet2 → IsOctet i.octet4 → i.octet3 ≡ said.octet3 → i.bits3 ≡ said.bits3 → i.odd ≡ said.odd
+fits_together : (layout : Layout) (room : List ℕ) (h : Head) (local : Option (List ℕ))
+    (d : Description) (contents : List ℕ) (i : Ignored) (octets3 : List ℕ)
+    (said : Described octets3 d) → 12 + length room < 2 ^ 24
+    → room ≡ sections layout (enveloped h local d contents) i → HasSection1 layout h i
+    → IfSome local AreOctets → AreOctets contents → i.bits1 < 128 → IsOctet i.octet2
+    → IsOctet i.octet4 → i.octet3 ≡ said.octet3 → i.bits3 ≡ said.bits3 → i.odd ≡ said.odd
     → EnvelopeFits layout (enveloped h local d contents) i
 unfolding spelling
 fits_together layout room h local d contents i octets3 said small is head section2 all bits1 octet2 octet4 same3 same_bits same_odd =
@@ -327,8 +358,10 @@ fits_together layout room h local d contents i octets3 said small is head sectio
     }
 
 -- the rest of what is ignored leaves section 1 as it is
-pub same_head : (layout : Layout) (h : Head) (announced : Bool) (i j : Ignored) → j.bits1 ≡ i.bits1 → j.year_octet ≡ i.year_octet
-    → (head_octets layout h announced i ≡ head_octets layout h announced j) × (HasSection1 layout h i → HasSection1 layout h j)
+pub same_head : (layout : Layout) (h : Head) (announced : Bool) (i j : Ignored) → j.bits1 ≡ i.bits1
+    → j.year_octet ≡ i.year_octet
+    → (head_octets layout h announced i ≡ head_octets layout h announced j)
+    × (HasSection1 layout h i → HasSection1 layout h j)
 same_head Edition4 h announced i j same same_year = (rw same refl, λ fits. fits)
 same_head Edition3 h announced i j same same_year = (
   rw (same, same_year) refl,
@@ -353,7 +386,8 @@ same_head Edition3 h announced i j same same_year = (
 )
 
 -- the sections that are read of a room are spelt so
-pub sections_of_takes : (layout : Layout) (room : List ℕ) (e : Envelope) → AreOctets room → 12 + length room < 2 ^ 24 → sections_of layout room ≡ Ok e
+pub sections_of_takes : (layout : Layout) (room : List ℕ) (e : Envelope) → AreOctets room
+    → 12 + length room < 2 ^ 24 → sections_of layout room ≡ Ok e
     → (i : Ignored) × (room ≡ sections layout e i) × EnvelopeFits layout e i
 unfolding sections_of
 sections_of_takes layout room e octets small ok =
@@ -379,7 +413,8 @@ sections_of_takes layout room e octets small ok =
     (i, spelt, fits_together layout room head.0.0 two.0.0 said.0 last.0 i three.0.0 td small spelt (h.1 th.3) t2.4 tc.3 th.1 t2.1 tc.1 refl refl refl)
 
 -- the sections that are read of octets are spelt so
-pub envelope_of_takes : (octets : List ℕ) (e : Envelope) → AreOctets octets → envelope_of octets ≡ Ok e → HasSections octets e
+pub envelope_of_takes : (octets : List ℕ) (e : Envelope) → AreOctets octets
+    → envelope_of octets ≡ Ok e → HasSections octets e
 unfolding envelope_of spelling
 envelope_of_takes octets e all ok =
     let room = bind_ok (room_of octets) _ e ok in

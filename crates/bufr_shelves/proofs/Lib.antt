@@ -1,3 +1,4 @@
+-- The lemmas behind the contracts and laws of this crate: keys, pairs in order, and both shelves.
 pub mod KeyFacts
 pub mod PairLemmas
 pub mod PutLemmas

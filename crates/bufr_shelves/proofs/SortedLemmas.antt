@@ -1,6 +1,5 @@
 -- Pairs in order of keys in a list: where a key stands, and two such lists merged. For the
--- functions
--- of sorted vectors below `SortedShelf`.
+-- functions of sorted vectors below `SortedShelf`.
 use Rattle.std.proofs.Common.{◌≡◌, ℕ, zero, suc, ◌+◌, ◌<◌, ◌≤◌, true, false, cond, Option, Some, None, Result, Ok, Err, List, [], ◌∷◌, length, take, drop, find, slice_get, slice_set, refl, sym, ap, ◌∙◌, subst, arith, add-one}
 use Rattle.std.specs.List.{AllByRecursion, insert}
 use Rattle.std.specs.List.Sorted.{IsStrictlySortedBy}
@@ -85,17 +84,17 @@ module _ {K V : Type 0} (c : K → Ordering) where
 -- what a binary search knows: the key is after all below `low` and before all from `high` on
 pub record Narrowed {K V : Type 0} (c : K → Ordering) (ps : List (K × V)) (low high : ℕ)
     : Type 0 where
-  -- keys before and behind an index
+  -- the lower bound is not above the upper one
   pub ordered : low ≤ high
-  -- what holds of all holds at an index
+  -- both stand inside the list
   pub within : high ≤ length ps
-  -- a key above one at an index is above those before
+  -- the key is above all before the lower bound
   pub below : AllByRecursion (λ p. c p.0 ≡ Greater) (take low ps)
-  -- a key below one is below those behind
+  -- and below all from the upper bound on
   pub above : AllByRecursion (λ p. c p.0 ≡ Less) (drop high ps)
 
 module _ {K V : Type 0} (c : K → K → Ordering) (o : IsTotalOrder c) where
-  -- the front before an index
+  -- keys before an index are below the one there
   before : (ps : List (K × V)) (i : ℕ) (p : K × V) → IsStrictlySortedBy c (keys_of ps)
       → slice_get ps i ≡ Some p → AllByRecursion (λ q. c q.0 p.0 ≡ Less) (take i ps)
   before [] zero p s h = tt
@@ -107,7 +106,7 @@ module _ {K V : Type 0} (c : K → K → Ordering) (o : IsTotalOrder c) where
     before ps i p (sorted_tail c q.0 (keys_of ps) s) h,
   )
 
-  -- the end behind it
+  -- keys behind it are above
   behind : (ps : List (K × V)) (i : ℕ) (p : K × V) → IsStrictlySortedBy c (keys_of ps)
       → slice_get ps i ≡ Some p → AllByRecursion (λ q. c p.0 q.0 ≡ Less) (drop (suc i) ps)
   behind [] i p s h = tt
@@ -163,7 +162,7 @@ module _ {K V : Type 0} (c : K → K → Ordering) (o : IsTotalOrder c) where
       (before ps i p s h))
       e
 
-  -- a key above the first
+  -- a key below all that is above the first is below the others
   above_head : (k : K) (q : K × V) (ps : List (K × V)) → IsStrictlySortedBy c (keys_of (q ∷ ps))
       → ((y : K) → c q.0 y ≡ Less → c k y ≡ Less) → AllByRecursion (λ p. c k p.0 ≡ Less) ps
   above_head k q ps s f =

@@ -5,7 +5,7 @@ use Rattle.std.specs.Ordering.{is_gt, is_eq}
 use Rattle.std.specs.declared.cmp.Ordering.{Ordering}
 use Rattle.std.specs.declared.cmp.Ordering.TheVariants.{Less, Equal, Greater}
 use Rattle.bufr_shelves.specs.Keeping.{Has}
-use Rattle.bufr_shelves.specs.KeepingLaws.{Covers, Keeps, Has-left, Has-right, Has-append, Within-append}
+use Rattle.bufr_shelves.specs.KeepingLaws.{Covers, Keeps, Has-left, Has-right, Has-append}
 use Rattle.bufr_shelves.specs.KeepingLaws as laws
 use Rattle.bufr_shelves.specs.Entries.{slot_cmp, rank_cmp, kept, changes}
 use Rattle.bufr_shelves.specs.declared.entry.Entry.{Entry}

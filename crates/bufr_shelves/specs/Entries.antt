@@ -51,13 +51,9 @@ key_cmp a b =
     (ordering_then (station_cmp a.station b.station)
     (ordering_then (moment_cmp a.moment b.moment) (nat_cmp a.sub_centre b.sub_centre))))))
 
--- the same without the sub-centre
+-- the same without the sub-centre: as if all were 0
 abbrev pub coarse_key_cmp : Key → Key → Ordering
-coarse_key_cmp a b =
-    ordering_then (nat_cmp a.centre b.centre) (ordering_then (nat_cmp a.category b.category)
-    (ordering_then (nat_cmp a.international b.international)
-    (ordering_then (nat_cmp a.local_category b.local_category)
-    (ordering_then (station_cmp a.station b.station) (moment_cmp a.moment b.moment)))))
+coarse_key_cmp a b = key_cmp (record a { sub_centre = 0 }) (record b { sub_centre = 0 })
 
 -- ---- slots and ranks
 

@@ -298,6 +298,28 @@ module _ {A : Type 0} (slot rank : A → A → Ordering) where
       | Greater ↦ λ _ z. cc
     ] refl h
 
+    -- the kept are the best members in order, where no two members tie
+    pub kept_are_best : (es : List A)
+        → ((x y : A) → Has es x → Has es y → slot x y ≡ Equal → rank x y ≡ Equal → x ≡ y)
+        → AreKept slot rank es (kept_by slot rank es)
+    kept_are_best es exact = let k = kept_keeps es in record {
+      ordered = k.ordered;
+      only_best = λ e m. record {
+        member = k.from e m;
+        best = λ f h s. let c = k.covered f h in
+            let same : e ≡ c.by =
+            same_slot (kept_by slot rank es) e c.by k.ordered m c.member
+            (so.congr e f c.by (flipped f e s) ∙ c.same) in
+            subst (λ z. is_gt (rank f z) ≡ false) (sym same) c.up;
+      };
+      all_best = λ e b. let c = k.covered e b.member in
+          let there = k.from c.by c.member in
+          let down : is_gt (rank c.by e) ≡ false =
+          b.best c.by there (flipped e c.by c.same) in
+          subst (Has (kept_by slot rank es))
+          (sym (exact e c.by b.member there c.same (even e c.by c.up down))) c.member;
+    }
+
     module _ (exact : (x y : A) → slot x y ≡ Equal → rank x y ≡ Equal → x ≡ y) where
       -- what is kept by one such list is kept by another
       keeps_within : (es ks ls : List A) → Keeps slot rank es ks → Keeps slot rank es ls
@@ -383,22 +405,7 @@ module _ {A : Type 0} (slot rank : A → A → Ordering) where
 
       -- the kept are the best members in order
       pub kept_are : (es : List A) → AreKept slot rank es (kept_by slot rank es)
-      kept_are es = let k = kept_keeps es in record {
-        ordered = k.ordered;
-        only_best = λ e m. record {
-          member = k.from e m;
-          best = λ f h s. let c = k.covered f h in
-              let same : e ≡ c.by =
-              same_slot (kept_by slot rank es) e c.by k.ordered m c.member
-              (so.congr e f c.by (flipped f e s) ∙ c.same) in
-              subst (λ z. is_gt (rank f z) ≡ false) (sym same) c.up;
-        };
-        all_best = λ e b. let c = k.covered e b.member in
-            let down : is_gt (rank c.by e) ≡ false =
-            b.best c.by (k.from c.by c.member) (flipped e c.by c.same) in
-            subst (Has (kept_by slot rank es)) (sym (exact e c.by c.same (even e c.by c.up down)))
-            c.member;
-      }
+      kept_are es = kept_are_best es (λ x y _ _ s r. exact x y s r)
 
       -- and no other list is that
       pub kept_only : (es ks : List A) → AreKept slot rank es ks → ks ≡ kept_by slot rank es

@@ -3,8 +3,8 @@ use Rattle.std.specs.Prelude.{◌≡◌, ◌≢◌, true, false, List, [], ◌�
 use Rattle.std.specs.Cmp.{IsTotalOrder}
 use Rattle.std.specs.List.Sorted.{IsStrictlySortedBy}
 use Rattle.std.specs.declared.cmp.Ordering.TheVariants.{Equal}
-use Rattle.bufr_shelves.specs.Keeping.{SameMembers, AreKept}
-use Rattle.bufr_shelves.specs.Entries.{slot_cmp, rank_cmp, kept, coarsely_kept, changes}
+use Rattle.bufr_shelves.specs.Keeping.{Has, SameMembers, AreKept}
+use Rattle.bufr_shelves.specs.Entries.{slot_cmp, coarse_slot_cmp, rank_cmp, kept, coarsely_kept, changes}
 use Rattle.bufr_shelves.specs.declared.entry.Entry.{Entry}
 
 -- `kept` gives the best of each slot, in order of slots
@@ -52,6 +52,13 @@ SortedAreKept = (es : List Entry) → IsStrictlySortedBy slot_cmp es → kept es
 -- what was kept while keys had no sub-centre is all kept now, in the same order
 abbrev pub CoarselyKeptAreKept : Type 0
 CoarselyKeptAreKept = (es : List Entry) → kept (coarsely_kept es) ≡ coarsely_kept es
+
+-- it was the best of each slot by keys without the sub-centre, in order of these, where octets tell
+-- entries apart
+abbrev pub CoarselyKeptIsTheBest : Type 0
+CoarselyKeptIsTheBest = (es : List Entry)
+    → ((e f : Entry) → Has es e → Has es f → e.bytes ≡ f.bytes → e ≡ f)
+    → AreKept coarse_slot_cmp rank_cmp es (coarsely_kept es)
 
 -- slots and ranks are each in one order
 abbrev pub InOneOrder : Type 0

@@ -16,7 +16,7 @@ use Rattle.bufr_shelves.specs.declared.key.Moment.{Moment}
 use Rattle.bufr_shelves.specs.declared.key.Key.{Key}
 use Rattle.bufr_shelves.specs.Entries.{octets_cmp, station_cmp, moment_cmp, key_cmp, coarse_key_cmp, slot_in, slot_by, slot_cmp, coarse_slot_cmp, rank_cmp, kept, coarsely_kept}
 use Rattle.bufr_shelves.specs.declared.entry.Entry.{Entry}
-use Rattle.bufr_shelves.specs.Keeping.{SameMembers, AreKept}
+use Rattle.bufr_shelves.specs.Keeping.{Has, SameMembers, AreKept}
 use Rattle.bufr_shelves.specs.KeepingLaws as laws
 
 -- an order that agrees with a total one
@@ -167,13 +167,7 @@ then_less Greater p q f h = cc
 
 -- keys without the sub-centre are in one order
 coarse_keys_total : IsTotalOrder coarse_key_cmp
-coarse_keys_total =
-    then_total (on_total (λ (k : Key). k.centre) nat_cmp_total)
-    (then_total (on_total (λ (k : Key). k.category) nat_cmp_total)
-    (then_total (on_total (λ (k : Key). k.international) nat_cmp_total)
-    (then_total (on_total (λ (k : Key). k.local_category) nat_cmp_total)
-    (then_total (on_total (λ (k : Key). k.station) stations_total)
-    (on_total (λ (k : Key). k.moment) moments_total)))))
+coarse_keys_total = on_total (λ (k : Key). record k { sub_centre = 0 }) keys_total
 
 -- the sub-centre comes last, so it parts only keys that were one
 finer_keys : (a b : Key) → coarse_key_cmp a b ≡ Less → key_cmp a b ≡ Less
@@ -183,7 +177,7 @@ finer_keys a b =
     (then_less (nat_cmp a.international b.international) _ _
     (then_less (nat_cmp a.local_category b.local_category) _ _
     (then_less (station_cmp a.station b.station) _ _
-    (λ h. rw h refl)))))
+    (then_less (moment_cmp a.moment b.moment) _ _ (λ h. cc))))))
 
 -- slots are in one order where keys are
 module _ (order : Key → Key → Ordering) (total : IsTotalOrder order) where
@@ -305,6 +299,17 @@ kept-kept es = ap kept (sym (append-nil (kept es))) ∙ kept-early es [] ∙ ap 
 -- a list in order of slots, no slot twice, is all kept
 pub kept-sorted : (es : List Entry) → IsStrictlySortedBy slot_cmp es → kept es ≡ es
 kept-sorted es s = laws.kept_sorted slot_cmp rank_cmp slots_total ranks_total exact_entries es s
+
+-- what was kept while keys had no sub-centre are the best of each slot of then, in order, where
+-- octets tell entries apart
+pub coarsely-kept-are : (es : List Entry)
+    → ((e f : Entry) → Has es e → Has es f → e.bytes ≡ f.bytes → e ≡ f)
+    → AreKept coarse_slot_cmp rank_cmp es (coarsely_kept es)
+coarsely-kept-are es exact =
+    laws.kept_are_best coarse_slot_cmp rank_cmp coarse_slots_total ranks_total es
+    (λ e f h k s r. exact e f h k
+    (exact_bytes e.bytes f.bytes
+    (both_equal (nat_cmp e.update f.update) (octets_cmp e.bytes f.bytes) r).1))
 
 -- what was kept while keys had no sub-centre is all kept now
 pub kept-coarsely : (es : List Entry) → kept (coarsely_kept es) ≡ coarsely_kept es

@@ -1,7 +1,7 @@
 //! What is kept of entries, and that joining shelves by any route gives the same.
 ghost use Rattle.std.specs.Prelude.{◌≡◌, ℕ, List};
 ghost use Rattle.bufr_shelves.specs.Entries.{station_cmp, moment_cmp, key_cmp};
-ghost use Rattle.bufr_shelves.specs.Laws.{KeptIsTheBest, OnlyKeptIsTheBest, SameEntriesSameKept, KeptEarly, JoinCommutes, JoinAssociates, JoinIsIdempotent, ChangesTells, NoTies, InOneOrder, SortedAreKept, CoarselyKeptAreKept};
+ghost use Rattle.bufr_shelves.specs.Laws.{KeptIsTheBest, OnlyKeptIsTheBest, SameEntriesSameKept, KeptEarly, JoinCommutes, JoinAssociates, JoinIsIdempotent, ChangesTells, NoTies, InOneOrder, SortedAreKept, CoarselyKeptAreKept, CoarselyKeptIsTheBest};
 ghost use Rattle.bufr_shelves.specs.declared.key.Key.{Key as AKey};
 ghost use Rattle.bufr_shelves.specs.declared.key.Station.{Station as AStation};
 ghost use Rattle.bufr_shelves.specs.declared.key.Moment.{Moment as AMoment};
@@ -27,10 +27,12 @@ pub fn joins_agree()
 {}
 
 /// A list in order of slots is all kept. So is what was kept while keys had no sub-centre, which is
-/// what an archive from before holds; an entry that was replaced then does not come back.
+/// what an archive from before holds, the best of each slot of then; an entry that was replaced
+/// then does not come back.
 pub fn sorted_are_kept()
     ensures sorted { SortedAreKept }
     ensures from_before { CoarselyKeptAreKept }
+    ensures before { CoarselyKeptIsTheBest }
 {}
 
 /// Different entries never tie.

@@ -207,37 +207,32 @@ fn self_merge(rt: HostRuntime) -> Result<(), Fail> {
     join_with_itself::<SortedShelf>(&rt, rt.alloc())
 }
 
+// Puts this text at a key.
+fn put_text<S: Shelf>(alloc: Global, shelf: &mut S, key: Key, text: &[u8]) -> Result<(), Fail> {
+    shelf.put(Some(key), 0, octets(alloc, text)?)?;
+    Ok(())
+}
+
+// A WIGOS identifier of this name.
+fn identified(alloc: Global, name: &[u8]) -> Result<Station, Fail> {
+    Ok(Station::wigos(0, 20000, 0, octets(alloc, name)?))
+}
+
 // Keys go part by part: centre, categories, station (numbers, identifiers, names), moment.
 fn keys_go_part_by_part<S: Shelf>(rt: &impl Abort, alloc: Global) -> Result<(), Fail> {
     let mut shelf = S::new(alloc);
-    let ship = Station::Mobile {
-        name: octets(alloc, b"SHIP1")?,
-    };
-    shelf.put(Some(key(ship, 0)), 0, octets(alloc, b"6 ship")?)?;
-    let longer = Station::Wigos {
-        series: 0,
-        issuer: 20000,
-        number: 0,
-        name: octets(alloc, b"103840")?,
-    };
-    shelf.put(Some(key(longer, 0)), 0, octets(alloc, b"5 longer")?)?;
-    let identified = Station::Wigos {
-        series: 0,
-        issuer: 20000,
-        number: 0,
-        name: octets(alloc, b"10384")?,
-    };
-    shelf.put(
-        Some(key(identified, 23)),
-        0,
-        octets(alloc, b"4 identified")?,
-    )?;
-    shelf.put(Some(key(wmo(384), 18)), 0, octets(alloc, b"3 evening")?)?;
-    shelf.put(Some(key(wmo(-1), 19)), 0, octets(alloc, b"1 negative")?)?;
-    shelf.put(Some(key(wmo(384), 6)), 0, octets(alloc, b"2 morning")?)?;
+    let ship = Station::mobile(octets(alloc, b"SHIP1")?);
+    put_text(alloc, &mut shelf, key(ship, 0), b"6 ship")?;
+    let longer = identified(alloc, b"103840")?;
+    put_text(alloc, &mut shelf, key(longer, 0), b"5 longer")?;
+    let shorter = identified(alloc, b"10384")?;
+    put_text(alloc, &mut shelf, key(shorter, 23), b"4 identified")?;
+    put_text(alloc, &mut shelf, key(wmo(384), 18), b"3 evening")?;
+    put_text(alloc, &mut shelf, key(wmo(-1), 19), b"1 negative")?;
+    put_text(alloc, &mut shelf, key(wmo(384), 6), b"2 morning")?;
     let mut centre = key(wmo(999), 23);
     centre.centre = 7;
-    shelf.put(Some(centre), 0, octets(alloc, b"0 other centre")?)?;
+    put_text(alloc, &mut shelf, centre, b"0 other centre")?;
     assert_holds(
         rt,
         &shelf,

@@ -80,13 +80,15 @@ record Shorter (s : State) (n : ℕ) (q : Read) : Type 0 where
   ends : ends_at_end q.1 ≡ false
 
 -- a record that ends with the text leaves nothing
-shorter-end : (s : State) (fields : List (List ℕ)) (b : Bool) (q : Read) → b ≡ ends_at_end s → (if b then Some (fields, st.StartRecord, []) else None) ≡ Some q → Shorter s 0 q
+shorter-end : (s : State) (fields : List (List ℕ)) (b : Bool) (q : Read) → b ≡ ends_at_end s
+    → (if b then Some (fields, st.StartRecord, []) else None) ≡ Some q → Shorter s 0 q
 unfolding extra
 shorter-end s fields true q e h = let k : (fields, st.StartRecord, []) ≡ q = cc in record { less = rw (← k, ← e) (omega arith); ends = rw (← k) refl }
 shorter-end s fields false q e h = absurd (cc)
 
 -- a record leaves fewer octets than there were
-shorter : (s : State) (fields : List (List ℕ)) (field xs : List ℕ) (q : Read) → next_record default_config s fields field xs ≡ Some q → Shorter s (length xs) q
+shorter : (s : State) (fields : List (List ℕ)) (field xs : List ℕ) (q : Read)
+    → next_record default_config s fields field xs ≡ Some q → Shorter s (length xs) q
 unfolding next_record
 shorter s fields field [] q h = shorter-end s _ (ends_at_end s) q refl h
 shorter s fields field (c ∷ rest) q h =
@@ -110,9 +112,13 @@ unfolding extra
 none-extra s e = rw e
 
 -- enough fuel for one record and for those behind it gives the same records
-next-enough : (n m : ℕ) (s : State) (xs : List ℕ) → length xs + extra s < suc n → length xs + extra s < suc m
-    → ((t : State) (ys : List ℕ) → length ys + extra t < n → length ys + extra t < m → records_from default_config n t ys ≡ records_from default_config m t ys)
-    → (o : Option Read) → next_record default_config s [] [] xs ≡ o → records_next (records_from default_config n) o ≡ records_next (records_from default_config m) o
+next-enough : (n m : ℕ) (s : State) (xs : List ℕ) → length xs + extra s < suc n
+    → length xs + extra s < suc m
+    → ((t : State) (ys : List ℕ) → length ys + extra t < n → length ys + extra t < m
+    → records_from default_config n t ys ≡ records_from default_config m t ys) → (o : Option Read)
+    → next_record default_config s [] [] xs ≡ o
+    → records_next (records_from default_config n) o
+    ≡ records_next (records_from default_config m) o
 next-enough n m s xs p q more None e = refl
 next-enough n m s xs p q more (Some r) e =
     let k = shorter s [] [] xs r e in
@@ -120,7 +126,8 @@ next-enough n m s xs p q more (Some r) e =
     ap (λ (t : List (List (List ℕ))). r.0 ∷ t) (more r.1 r.2 (omega (arith, k.less, z)) (omega (arith, k.less, z)))
 
 -- enough steps give all records
-pub enough : (n m : ℕ) (s : State) (xs : List ℕ) → length xs + extra s < n → length xs + extra s < m → records_from default_config n s xs ≡ records_from default_config m s xs
+pub enough : (n m : ℕ) (s : State) (xs : List ℕ) → length xs + extra s < n → length xs + extra s < m
+    → records_from default_config n s xs ≡ records_from default_config m s xs
 unfolding records_from
 enough zero m s xs p q = absurd (omega arith)
 enough (suc n) zero s xs p q = absurd (omega arith)
@@ -128,23 +135,32 @@ enough (suc n) (suc m) s xs p q =
     next-enough n m s xs p q (λ t ys a b. enough n m t ys a b) (next_record default_config s [] [] xs) refl
 
 -- a text has all its records left
-pub all-records : (xs : List ℕ) → records_from default_config (length xs + 2) st.StartRecord xs ≡ records_from default_config (length xs + 1) st.StartRecord xs
+pub all-records : (xs : List ℕ)
+    → records_from default_config (length xs + 2) st.StartRecord xs
+    ≡ records_from default_config (length xs + 1) st.StartRecord xs
 unfolding extra
 all-records xs = enough (length xs + 2) (length xs + 1) st.StartRecord xs (omega arith) (omega arith)
 
 -- the records of octets are the next one and those behind it
-one-step : (n : ℕ) (s : State) (xs : List ℕ) → records_from default_config (n + 2) s xs ≡ records_next (records_from default_config (n + 1)) (next_record default_config s [] [] xs)
+one-step : (n : ℕ) (s : State) (xs : List ℕ)
+    → records_from default_config (n + 2) s xs
+    ≡ records_next (records_from default_config (n + 1)) (next_record default_config s [] [] xs)
 unfolding records_from
 one-step n s xs = let e : n + 2 ≡ suc (n + 1) = omega arith in rw e
 
 -- reading from known octets leaves known octets
-reads-known : (s s2 : State) (xs : List ℕ) (k : Option (List ℕ)) (found : Bool) (fields : List (List ℕ)) → ReadsNext default_config s (Some xs) k found fields s2 → (z : List ℕ) × (k ≡ Some z)
+reads-known : (s s2 : State) (xs : List ℕ) (k : Option (List ℕ)) (found : Bool)
+    (fields : List (List ℕ)) → ReadsNext default_config s (Some xs) k found fields s2
+    → (z : List ℕ) × (k ≡ Some z)
 reads-known s s2 xs None found fields r = absurd r
 reads-known s s2 xs (Some z) found fields r = (z, refl)
 
 -- the next record is the first of those that were left
-read-one : (s s2 : State) (xs z : List ℕ) (found : Bool) (fields : List (List ℕ)) (o : Option Read) → next_record default_config s [] [] xs ≡ o → NextIs o found fields s2 z
-    → MatchBool found (records_next (records_from default_config (length xs + 1)) o ≡ fields ∷ records_from default_config (length z + 2) s2 z) (records_next (records_from default_config (length xs + 1)) o ≡ [])
+read-one : (s s2 : State) (xs z : List ℕ) (found : Bool) (fields : List (List ℕ)) (o : Option Read)
+    → next_record default_config s [] [] xs ≡ o → NextIs o found fields s2 z
+    → MatchBool found (records_next (records_from default_config (length xs + 1)) o
+    ≡ fields ∷ records_from default_config (length z + 2) s2 z)
+    (records_next (records_from default_config (length xs + 1)) o ≡ [])
 read-one s s2 xs z found fields None e n = rw n refl
 read-one s s2 xs z found fields (Some p) e n =
     let k = shorter s [] [] xs p e in
@@ -153,7 +169,8 @@ read-one s s2 xs z found fields (Some p) e n =
     rw (n.0, n.1, n.2, n.3) (ap (λ (t : List (List (List ℕ))). p.0 ∷ t) (enough (length xs + 1) (length p.2 + 2) p.1 p.2 (omega (arith, k.less, small, none)) (omega (arith, none))))
 
 -- what is left before a record is that record and what is left behind it
-read-left : (s s2 : State) (xs : List ℕ) (k : Option (List ℕ)) (found : Bool) (fields : List (List ℕ)) → ReadsNext default_config s (Some xs) k found fields s2
+read-left : (s s2 : State) (xs : List ℕ) (k : Option (List ℕ)) (found : Bool)
+    (fields : List (List ℕ)) → ReadsNext default_config s (Some xs) k found fields s2
     → MatchBool found (left_from s (Some xs) ≡ fields ∷ left_from s2 k) (left_from s (Some xs) ≡ [])
 read-left s s2 xs None found fields r = absurd r
 read-left s s2 xs (Some z) found fields r = rw (one-step (length xs) s xs) (read-one s s2 xs z found fields (next_record default_config s [] [] xs) refl r)
@@ -163,11 +180,13 @@ bytes_of : Bor (List ℕ) → Option (List ℕ)
 bytes_of s = Some s.now
 
 -- after a read a reader has no byte order mark to look for
-source-after : (b : Reader (Bor (List ℕ))) → b.bom_checked ≡ true → source b ≡ pending_of (Some b.rdr.now) b
+source-after : (b : Reader (Bor (List ℕ))) → b.bom_checked ≡ true
+    → source b ≡ pending_of (Some b.rdr.now) b
 source-after b h = rw h
 
 -- what the answer of a read is under the invariant
-stops-only : (a b : Reader (Bor (List ℕ))) (k : ErrorKind) → ExplainsRead (λ s. Some s.now) a b false k → is_flexible a ≡ true → stops_reader k ≡ false → ⊥
+stops-only : (a b : Reader (Bor (List ℕ))) (k : ErrorKind)
+    → ExplainsRead (λ s. Some s.now) a b false k → is_flexible a ≡ true → stops_reader k ≡ false → ⊥
 stops-only a b (kind.Io e) x f s = cc
 stops-only a b kind.OutOfMemory x f s = cc
 stops-only a b (kind.UnequalLengths pos expected len) x f s = let g = x.0 in cc
@@ -176,15 +195,14 @@ stops-only a b (kind.Serialize why) x f s = x
 stops-only a b (kind.Deserialize pos err) x f s = x
 
 -- a reader keeps the settings of a table file from one record to the next
-pub step-plain : (a b : Reader (Bor (List ℕ))) (res : Result Bool Error) (fields : List (List ℕ)) → IsPlain a
-    → (reader_trim a ≡ trim.None → OnOk res (took_first b ≡ true))
-    → IfOk res (λ found. reader_trim a ≡ trim.None → Ready a → ReadRecord (λ s. Some s.now) a b found fields)
-    → OnOk res (is_flexible b ≡ is_flexible a)
+pub step-plain : (a b : Reader (Bor (List ℕ))) (res : Result Bool Error) (fields : List (List ℕ))
+    → IsPlain a → (reader_trim a ≡ trim.None → OnOk res (took_first b ≡ true))
+    → IfOk res (λ found. reader_trim a ≡ trim.None → Ready a
+    → ReadRecord (λ s. Some s.now) a b found fields) → OnOk res (is_flexible b ≡ is_flexible a)
     → OnOk res (has_failed b ≡ has_failed a)
     → IfErr res (λ e. has_failed b ≡ stops_reader (error_kind e))
     → (has_failed a ≡ true → res ≡ Ok false)
-    → IfErr res (λ e. Ready a → ExplainsRead (λ s. Some s.now) a b false (error_kind e))
-    → IsPlain b
+    → IfErr res (λ e. Ready a → ExplainsRead (λ s. Some s.now) a b false (error_kind e)) → IsPlain b
 step-plain a b (Ok found) fields plain ready reads flexible goes fails failed why = λ fine.
     let w = plain (sym goes ∙ fine) in
     let r = reads w.plain w.ready in
@@ -197,7 +215,8 @@ step-plain a b (Err e) fields plain ready reads flexible goes fails failed why =
     ]
 
 -- a reader gives the first of the records that it has left
-pub step-left : (a b : Reader (Bor (List ℕ))) (found : Bool) (fields : List (List ℕ)) → IsPlain a → (has_failed a ≡ true → found ≡ false)
+pub step-left : (a b : Reader (Bor (List ℕ))) (found : Bool) (fields : List (List ℕ)) → IsPlain a
+    → (has_failed a ≡ true → found ≡ false)
     → (reader_trim a ≡ trim.None → Ready a → ReadRecord (λ s. Some s.now) a b found fields)
     → MatchBool found (left_of a ≡ fields ∷ left_of b) (left_of a ≡ [])
 step-left a b found fields plain failed reads =

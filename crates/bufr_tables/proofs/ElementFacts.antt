@@ -5,8 +5,8 @@ use Rattle.std.specs.Ordering.{nat_cmp}
 use Rattle.std.specs.BTreeMap.{insert_entry}
 use Rattle.std.proofs.lemmas.List.Elements.{Contains-append_left, Contains-append_right}
 use Rattle.bufr_tables.specs.declared.element.Element.{Element}
-use Rattle.bufr_tables.specs.declared.file.TableFault.{TableFault}
-use Rattle.bufr_tables.specs.declared.file.TableFault.TheVariants.{NoColumn, NotCsv, BadRow, Conflict, SplitSequence}
+use Rattle.bufr_tables.specs.declared.table_faults.TableFault.{TableFault}
+use Rattle.bufr_tables.specs.declared.table_faults.TableFault.TheVariants.{NoColumn, NotCsv, BadRow, Conflict, SplitSequence}
 use Rattle.bufr_tables.specs.Elements.{same_element}
 use Rattle.bufr_tables.specs.Entries.{at, Rising}
 use Rattle.bufr_tables.specs.Rows.{element_row, with_element}
@@ -21,9 +21,11 @@ use Rattle.bufr_tables.proofs.TableFacts.{same_element-Decides}
 
 -- what an element adds to those so far
 data Adding (so_far : List (ℕ × Element)) (d : ℕ) (e : Element) : Type 0 where
-  new : at d so_far ≡ None → with_element so_far (d, e) ≡ Ok (insert_entry nat_cmp so_far d e) → Adding so_far d e
+  new : at d so_far ≡ None → with_element so_far (d, e) ≡ Ok (insert_entry nat_cmp so_far d e)
+      → Adding so_far d e
   again : at d so_far ≡ Some e → with_element so_far (d, e) ≡ Ok so_far → Adding so_far d e
-  differs : (old : Element) → at d so_far ≡ Some old → old ≢ e → with_element so_far (d, e) ≡ Err (Conflict d) → Adding so_far d e
+  differs : (old : Element) → at d so_far ≡ Some old → old ≢ e
+      → with_element so_far (d, e) ≡ Err (Conflict d) → Adding so_far d e
 
 -- a row is new, or it stands there already, or it differs from one there
 adding : (so_far : List (ℕ × Element)) (d : ℕ) (e : Element) → Adding so_far d e
@@ -38,11 +40,14 @@ adding so_far d e = by_old (at d so_far) refl
     by_old (Some old) f = by_test old (same_element old e) f refl
 
 -- the elements so far with one more, in the words of membership
-moved : (so_far : List (ℕ × Element)) (row : ℕ × Element) (rows more : List (ℕ × Element)) → SameMembers more (so_far ++ row ∷ []) → SameMembers (more ++ rows) (so_far ++ row ∷ rows)
+moved : (so_far : List (ℕ × Element)) (row : ℕ × Element) (rows more : List (ℕ × Element))
+    → SameMembers more (so_far ++ row ∷ []) → SameMembers (more ++ rows) (so_far ++ row ∷ rows)
 moved so_far row rows more h = rw (← append_assoc so_far (row ∷ []) rows) (same-append more (so_far ++ row ∷ []) rows rows h (same-self rows))
 
 -- what rows add to elements has the members of both
-added-elements : (rows so_far total : List (ℕ × Element)) → added with_element so_far rows ≡ Ok total → Rising so_far → Rising total × SameMembers total (so_far ++ rows)
+added-elements : (rows so_far total : List (ℕ × Element))
+    → added with_element so_far rows ≡ Ok total → Rising so_far
+    → Rising total × SameMembers total (so_far ++ rows)
 added-elements [] so_far total h r = let e : so_far ≡ total = cc in (rw (← e) r, rw (← e, append-nil so_far) (same-self so_far))
 added-elements (row ∷ rows) so_far total h r = by_case (λ more. added-elements rows more total) (adding so_far row.0 row.1)
   where
@@ -58,7 +63,8 @@ added-elements (row ∷ rows) so_far total h r = by_case (λ more. added-element
     by_case rest (differs old f n e) = absurd (let w : Err (Conflict row.0) ≡ Ok total = sym (then-stops (with_element so_far row) (λ t. added with_element t rows) (Conflict row.0) e) ∙ h in cc)
 
 -- elements in order with the members of both are what the rows add
-elements-added : (rows so_far total : List (ℕ × Element)) → Rising so_far → Rising total → SameMembers total (so_far ++ rows) → added with_element so_far rows ≡ Ok total
+elements-added : (rows so_far total : List (ℕ × Element)) → Rising so_far → Rising total
+    → SameMembers total (so_far ++ rows) → added with_element so_far rows ≡ Ok total
 elements-added [] so_far total r s h =
     ap {B = Result (List (ℕ × Element)) TableFault} (λ (t : List (ℕ × Element)). Ok t) (same-rising so_far total r s (same-back total so_far (rw append-nil at h)))
 elements-added (row ∷ rows) so_far total r s h = by_case (λ more q k. elements-added rows more total q s k) (adding so_far row.0 row.1)
@@ -84,15 +90,19 @@ abbrev elements_of : List (List (List ℕ)) → Result (List (ℕ × Element)) T
 elements_of file = after_file columns_b element_row with_element [] file
 
 -- a table from its rows and what they add
-abbrev table-of : (file : List (List (List ℕ))) (rows total : List (ℕ × Element)) → HasRows columns_b element_row file rows → added with_element [] rows ≡ Ok total → AreElementRows file total
+abbrev table-of : (file : List (List (List ℕ))) (rows total : List (ℕ × Element))
+    → HasRows columns_b element_row file rows → added with_element [] rows ≡ Ok total
+    → AreElementRows file total
 table-of file rows total h a = let k = added-elements rows [] total a tt in record { in_order = rows; rows = h; rising = k.0; same = k.1 }
 
 -- the rows of a table add up to it
-adds-up : (file : List (List (List ℕ))) (elements : List (ℕ × Element)) (h : AreElementRows file elements) → added with_element [] h.in_order ≡ Ok elements
+adds-up : (file : List (List (List ℕ))) (elements : List (ℕ × Element))
+    (h : AreElementRows file elements) → added with_element [] h.in_order ≡ Ok elements
 adds-up file elements h = elements-added h.in_order [] elements tt h.rising h.same
 
 -- what is read of a file are its rows
-pub elements-are : (file : List (List (List ℕ))) (elements : List (ℕ × Element)) → elements_of file ≡ Ok elements → AreElementRows file elements
+pub elements-are : (file : List (List (List ℕ))) (elements : List (ℕ × Element))
+    → elements_of file ≡ Ok elements → AreElementRows file elements
 elements-are file elements a = by_run (file-run columns_b element_row with_element [] needs_b file)
   where
     by_run : IsWhole columns_b element_row with_element [] file ⊎ (IsLacking columns_b element_row with_element [] file ⊎ IsCutShort columns_b element_row with_element [] file) → AreElementRows file elements
@@ -102,11 +112,13 @@ elements-are file elements a = by_run (file-run columns_b element_row with_eleme
     by_run (inr (inr h)) = absurd (let w : Err h.fault ≡ Ok elements = sym h.answer ∙ a in cc)
 
 -- the rows of a file are what is read
-pub are-elements : (file : List (List (List ℕ))) (elements : List (ℕ × Element)) → AreElementRows file elements → elements_of file ≡ Ok elements
+pub are-elements : (file : List (List (List ℕ))) (elements : List (ℕ × Element))
+    → AreElementRows file elements → elements_of file ≡ Ok elements
 are-elements file elements h = file-has columns_b element_row with_element [] file h.in_order h.rows ∙ adds-up file elements h
 
 -- the first fault
-pub element-fault : (file : List (List (List ℕ))) (fault : TableFault) → elements_of file ≡ Err fault → IsFirstElementFault file fault
+pub element-fault : (file : List (List (List ℕ))) (fault : TableFault)
+    → elements_of file ≡ Err fault → IsFirstElementFault file fault
 element-fault file fault a = by_run (file-run columns_b element_row with_element [] needs_b file)
   where
     here : (h : IsCutShort columns_b element_row with_element [] file) → IsReached AreElementRows file (length h.before + 1)
@@ -134,13 +146,16 @@ element-fault file fault a = by_run (file-run columns_b element_row with_element
         let w : ◌≡◌ {A = Result (List (ℕ × Element)) TableFault} (Err h.fault) (Err fault) = sym h.answer ∙ a in let q : h.fault ≡ fault = cc in rw (← q) (by_stop h h.stops)
 
 -- a record that stops the reading behind records with a table is the fault of the file
-stops-here : (file : List (List (List ℕ))) (n : ℕ) (h : IsReached AreElementRows file n) (fault : TableFault)
-    → Stops element_row with_element (header_of h.before) h.is_table.rows.places (length h.before + 1) h.raw h.table fault → elements_of file ≡ Err fault
+stops-here : (file : List (List (List ℕ))) (n : ℕ) (h : IsReached AreElementRows file n)
+    (fault : TableFault)
+    → Stops element_row with_element (header_of h.before) h.is_table.rows.places
+    (length h.before + 1) h.raw h.table fault → elements_of file ≡ Err fault
 stops-here file n h fault s =
     rw h.splits (file-stops columns_b element_row with_element [] needs_b h.before h.raw h.behind h.is_table.in_order h.is_table.rows h.table fault (adds-up h.before h.table h.is_table) s)
 
 -- the first fault of a file is what it is refused with
-pub fault-element : (file : List (List (List ℕ))) (fault : TableFault) → IsFirstElementFault file fault → elements_of file ≡ Err fault
+pub fault-element : (file : List (List (List ℕ))) (fault : TableFault)
+    → IsFirstElementFault file fault → elements_of file ≡ Err fault
 fault-element file (NoColumn c) h = file-lacks columns_b element_row with_element [] file c h
 fault-element file (NotCsv n) h = stops-here file n h.0 (NotCsv n) (inl (ap NotCsv h.0.number, h.1))
 fault-element file (BadRow n) h = stops-here file n h.0 (BadRow n) (inr (inl (ap BadRow h.0.number, h.1)))

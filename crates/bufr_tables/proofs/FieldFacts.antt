@@ -24,7 +24,8 @@ unfolding skip_spaces
 skip_spaces-none = refl
 
 -- equality of lists of what each element shows
-pub pointwise-map : {X Y : Type 0} (E : Y → Y → Bool) (f : X → Y) (xs ys : List X) → pointwise E (map f xs) (map f ys) ≡ pointwise (λ x y. E (f x) (f y)) xs ys
+pub pointwise-map : {X Y : Type 0} (E : Y → Y → Bool) (f : X → Y) (xs ys : List X)
+    → pointwise E (map f xs) (map f ys) ≡ pointwise (λ x y. E (f x) (f y)) xs ys
 pointwise-map E f [] [] = refl
 pointwise-map E f [] (y ∷ ys) = refl
 pointwise-map E f (x ∷ xs) [] = refl
@@ -38,7 +39,8 @@ three_tests true false z b h = h
 three_tests false y z b h = h
 
 -- a byte order mark is taken off
-pub strip_bom-mark : (t : List ℕ) → pointwise nat_eq (take 3 t) (0xEF ∷ 0xBB ∷ 0xBF ∷ []) ≡ true → strip_bom t ≡ drop 3 t
+pub strip_bom-mark : (t : List ℕ) → pointwise nat_eq (take 3 t) (0xEF ∷ 0xBB ∷ 0xBF ∷ []) ≡ true
+    → strip_bom t ≡ drop 3 t
 unfolding strip_bom
 strip_bom-mark [] h = cc
 strip_bom-mark (a ∷ []) h = absurd (false_and (a == 0xEF) h)
@@ -55,7 +57,8 @@ strip_bom-mark (a ∷ b ∷ []) h = absurd (false_and (a == 0xEF) (b == 0xBB) h)
 strip_bom-mark (a ∷ b ∷ c ∷ rest) h = rw (three_tests (a == 0xEF) (b == 0xBB) (c == 0xBF) true h)
 
 -- where there is none, nothing is taken off
-pub strip_bom-none : (t : List ℕ) → pointwise nat_eq (take 3 t) (0xEF ∷ 0xBB ∷ 0xBF ∷ []) ≡ false → strip_bom t ≡ t
+pub strip_bom-none : (t : List ℕ) → pointwise nat_eq (take 3 t) (0xEF ∷ 0xBB ∷ 0xBF ∷ []) ≡ false
+    → strip_bom t ≡ t
 unfolding strip_bom
 strip_bom-none [] h = refl
 strip_bom-none (a ∷ []) h = refl
@@ -63,7 +66,8 @@ strip_bom-none (a ∷ b ∷ []) h = refl
 strip_bom-none (a ∷ b ∷ c ∷ rest) h = rw (three_tests (a == 0xEF) (b == 0xBB) (c == 0xBF) false h)
 
 -- a field of a record by its place
-pub get_or-field_at : (fs : List (List ℕ)) (i : ℕ) (f : List ℕ) → field_at fs i ≡ Some f → get_or fs i [] ≡ f
+pub get_or-field_at : (fs : List (List ℕ)) (i : ℕ) (f : List ℕ) → field_at fs i ≡ Some f
+    → get_or fs i [] ≡ f
 unfolding field_at
 get_or-field_at [] i f h = absurd (cc)
 get_or-field_at (g ∷ fs) zero f h = cc
@@ -82,19 +86,22 @@ unfolding skip_spaces
 nothing-left = refl
 
 -- the first field loses a mark and its spaces
-pub used_fields-first : (fs : List (List ℕ)) → get_or (used_fields fs) 0 [] ≡ without_spaces (strip_bom (get_or fs 0 []))
+pub used_fields-first : (fs : List (List ℕ))
+    → get_or (used_fields fs) 0 [] ≡ without_spaces (strip_bom (get_or fs 0 []))
 unfolding strip_bom skip_spaces
 used_fields-first [] = refl
 used_fields-first (f ∷ fs) = refl
 
 -- a field of trimmed fields is that field, trimmed
-get_or-trimmed : (fs : List (List ℕ)) (i : ℕ) → get_or (map without_spaces fs) i [] ≡ without_spaces (get_or fs i [])
+get_or-trimmed : (fs : List (List ℕ)) (i : ℕ)
+    → get_or (map without_spaces fs) i [] ≡ without_spaces (get_or fs i [])
 get_or-trimmed [] i = sym nothing-left
 get_or-trimmed (f ∷ fs) zero = refl
 get_or-trimmed (f ∷ fs) (suc i) = get_or-trimmed fs i
 
 -- each later field loses its spaces
-pub used_fields-later : (fs : List (List ℕ)) (i : ℕ) → i ≢ 0 → get_or (used_fields fs) i [] ≡ without_spaces (get_or fs i [])
+pub used_fields-later : (fs : List (List ℕ)) (i : ℕ) → i ≢ 0
+    → get_or (used_fields fs) i [] ≡ without_spaces (get_or fs i [])
 used_fields-later [] i h = sym nothing-left
 used_fields-later (f ∷ fs) zero h = absurd (h refl)
 used_fields-later (f ∷ fs) (suc i) h = get_or-trimmed fs i
@@ -114,11 +121,13 @@ reverse-push : (xs : List ℕ) (c : ℕ) → reverse (xs ++ c ∷ []) ≡ c ∷ 
 reverse-push xs c = reverse-append xs (c ∷ [])
 
 -- a space at the end is skipped from behind
-pub skip_back-space : (xs : List ℕ) → skip_spaces (reverse (xs ++ 32 ∷ [])) ≡ skip_spaces (reverse xs)
+pub skip_back-space : (xs : List ℕ)
+    → skip_spaces (reverse (xs ++ 32 ∷ [])) ≡ skip_spaces (reverse xs)
 skip_back-space xs = ap skip_spaces (reverse-push xs 32) ∙ skip_spaces-space (reverse xs)
 
 -- another octet at the end stays
-pub skip_back-other : (xs : List ℕ) (c : ℕ) → c ≢ 32 → reverse (skip_spaces (reverse (xs ++ c ∷ []))) ≡ xs ++ c ∷ []
+pub skip_back-other : (xs : List ℕ) (c : ℕ) → c ≢ 32
+    → reverse (skip_spaces (reverse (xs ++ c ∷ []))) ≡ xs ++ c ∷ []
 skip_back-other xs c h = ap (λ (t : List ℕ). reverse (skip_spaces t)) (reverse-push xs c) ∙ ap reverse (skip_spaces-other c (reverse xs) h) ∙ ap reverse (sym (reverse-push xs c)) ∙ reverse-reverse (xs ++ c ∷ [])
 
 -- nothing has no space at its end

@@ -11,11 +11,13 @@ use Rattle.bufr_tables.proofs.ColumnFacts.{append-nil}
 use Rattle.bufr_tables.proofs.MemberFacts.{contains-none, contains-first, contains-more, contains-cases, at-contained}
 
 -- what holds of each member holds of all
-pub all-by : {X : Type 0} (P : X → Type 0) (xs : List X) → ((x : X) → Contains xs x → P x) → All P xs
+pub all-by : {X : Type 0} (P : X → Type 0) (xs : List X) → ((x : X) → Contains xs x → P x)
+    → All P xs
 all-by P xs f k d l = f (get_or xs k d) (Contains-get_or xs k d l)
 
 -- a descriptor that no entry has
-pub not-at : {X : Type 0} (d : ℕ) (es : List (ℕ × X)) → ((v : X) → Contains es (d, v) → ⊥) → at d es ≡ None
+pub not-at : {X : Type 0} (d : ℕ) (es : List (ℕ × X)) → ((v : X) → Contains es (d, v) → ⊥)
+    → at d es ≡ None
 not-at {X} d es n = by_entry (at d es) refl
   where
     by_entry : (o : Option X) → at d es ≡ o → at d es ≡ None
@@ -25,7 +27,8 @@ not-at {X} d es n = by_entry (at d es) refl
 -- ---- the last of a list
 
 -- a list that is not empty has a last element
-pub last-of : {X : Type 0} (xs : List X) → xs ≢ [] → (front : List X) × (x : X) × (xs ≡ front ++ x ∷ [])
+pub last-of : {X : Type 0} (xs : List X) → xs ≢ []
+    → (front : List X) × (x : X) × (xs ≡ front ++ x ∷ [])
 last-of [] n = absurd (n refl)
 last-of (x ∷ []) n = ([], x, refl)
 last-of {X} (x ∷ y ∷ ys) n = let h = last-of (y ∷ ys) (λ q. absurd (cc)) in (x ∷ h.0, h.1, ap (λ (t : List X). x ∷ t) h.2)
@@ -45,7 +48,8 @@ last-only (a ∷ xs) (b ∷ ys) x y h = last-only xs ys x y (cc)
 -- ---- groups
 
 -- groups with one more, whose descriptor none of them has
-pub groups-push : (groups : List (ℕ × List ℕ)) (d : ℕ) (list : List ℕ) → AreGroups groups → All (λ g. g.0 ≢ d) groups → list ≢ [] → AreGroups (groups ++ (d, list) ∷ [])
+pub groups-push : (groups : List (ℕ × List ℕ)) (d : ℕ) (list : List ℕ) → AreGroups groups
+    → All (λ g. g.0 ≢ d) groups → list ≢ [] → AreGroups (groups ++ (d, list) ∷ [])
 groups-push [] d list h a n = (n, All-nil (λ (g : ℕ × List ℕ). g.0 ≢ d), tt)
 groups-push (g ∷ groups) d list h a n = (
   h.0,
@@ -54,7 +58,8 @@ groups-push (g ∷ groups) d list h a n = (
 )
 
 -- a group differs from those before it
-pub groups-split : (before : List (ℕ × List ℕ)) (g : ℕ × List ℕ) (behind : List (ℕ × List ℕ)) → AreGroups (before ++ g ∷ behind) → All (λ x. x.0 ≢ g.0) before × (g.1 ≢ []) × AreGroups before
+pub groups-split : (before : List (ℕ × List ℕ)) (g : ℕ × List ℕ) (behind : List (ℕ × List ℕ))
+    → AreGroups (before ++ g ∷ behind) → All (λ x. x.0 ≢ g.0) before × (g.1 ≢ []) × AreGroups before
 groups-split [] g behind h = (All-nil (λ (x : ℕ × List ℕ). x.0 ≢ g.0), h.0, tt)
 groups-split (a ∷ before) g behind h =
     let rest = groups-split before g behind h.2 in (
@@ -67,18 +72,22 @@ groups-split (a ∷ before) g behind h =
     )
 
 -- each group has members
-pub groups-members : (groups : List (ℕ × List ℕ)) (x : ℕ × List ℕ) → AreGroups groups → Contains groups x → x.1 ≢ []
+pub groups-members : (groups : List (ℕ × List ℕ)) (x : ℕ × List ℕ) → AreGroups groups
+    → Contains groups x → x.1 ≢ []
 groups-members [] x h m = absurd (contains-none x m)
 groups-members (g ∷ groups) x h m = elim (contains-cases g x groups m) [ inl e ↦ λ q. h.0 (ap (λ (p : ℕ × List ℕ). p.1) e ∙ q) | inr k ↦ groups-members groups x h.2 k ]
 
 -- ---- their rows
 
 -- the rows of groups and of more groups
-pub written-append : (xs ys : List (ℕ × List ℕ)) → written_out (xs ++ ys) ≡ written_out xs ++ written_out ys
+pub written-append : (xs ys : List (ℕ × List ℕ))
+    → written_out (xs ++ ys) ≡ written_out xs ++ written_out ys
 written-append xs ys = flat_map-append (λ (g : ℕ × List ℕ). map (λ (m : ℕ). (g.0, m)) g.1) xs ys
 
 -- a group at the end, with one more member
-pub written-more : (front : List (ℕ × List ℕ)) (d : ℕ) (list : List ℕ) (m : ℕ) → written_out (front ++ (d, list ++ m ∷ []) ∷ []) ≡ written_out (front ++ (d, list) ∷ []) ++ (d, m) ∷ []
+pub written-more : (front : List (ℕ × List ℕ)) (d : ℕ) (list : List ℕ) (m : ℕ)
+    → written_out (front ++ (d, list ++ m ∷ []) ∷ [])
+    ≡ written_out (front ++ (d, list) ∷ []) ++ (d, m) ∷ []
 written-more front d list m =
     written-append front ((d, list ++ m ∷ []) ∷ [])
     ∙ ap (λ (t : List (ℕ × ℕ)). written_out front ++ t) (append-nil (map (λ (k : ℕ). (d, k)) (list ++ m ∷ [])) ∙ map-append (λ (k : ℕ). (d, k)) list (m ∷ []))
@@ -86,7 +95,9 @@ written-more front d list m =
     ∙ ap (λ (t : List (ℕ × ℕ)). t ++ (d, m) ∷ []) (ap (λ (t : List (ℕ × ℕ)). written_out front ++ t) (sym (append-nil (map (λ (k : ℕ). (d, k)) list))) ∙ sym (written-append front ((d, list) ∷ [])))
 
 -- the last row is the last group's
-pub written-last : (front : List (ℕ × List ℕ)) (d : ℕ) (list : List ℕ) → list ≢ [] → (some : List ℕ) × (m : ℕ) × (written_out (front ++ (d, list) ∷ []) ≡ (written_out front ++ map (λ k. (d, k)) some) ++ (d, m) ∷ [])
+pub written-last : (front : List (ℕ × List ℕ)) (d : ℕ) (list : List ℕ) → list ≢ []
+    → (some : List ℕ) × (m : ℕ) × (written_out (front ++ (d, list) ∷ [])
+    ≡ (written_out front ++ map (λ k. (d, k)) some) ++ (d, m) ∷ [])
 written-last front d list n =
     let h = last-of list n in (
       h.0,
@@ -101,7 +112,8 @@ mapped d [] row h = absurd (contains-none row h)
 mapped d (m ∷ list) row h = elim (contains-cases (d, m) row (map (λ k. (d, k)) list) h) [ inl e ↦ sym (ap (λ (p : ℕ × ℕ). p.0) e) | inr k ↦ mapped d list row k ]
 
 -- a row is of one of the groups
-pub written-from : (groups : List (ℕ × List ℕ)) (d m : ℕ) → Contains (written_out groups) (d, m) → (list : List ℕ) × Contains groups (d, list)
+pub written-from : (groups : List (ℕ × List ℕ)) (d m : ℕ) → Contains (written_out groups) (d, m)
+    → (list : List ℕ) × Contains groups (d, list)
 written-from [] d m h = absurd (contains-none (d, m) h)
 written-from (g ∷ groups) d m h =
     elim (Contains-append_cases (map (λ k. (g.0, k)) g.1) (written_out groups) (d, m) h) [
@@ -110,7 +122,8 @@ written-from (g ∷ groups) d m h =
     ]
 
 -- each member of a group has its row
-pub written-member : (groups : List (ℕ × List ℕ)) (d m : ℕ) (list : List ℕ) → Contains groups (d, m ∷ list) → Contains (written_out groups) (d, m)
+pub written-member : (groups : List (ℕ × List ℕ)) (d m : ℕ) (list : List ℕ)
+    → Contains groups (d, m ∷ list) → Contains (written_out groups) (d, m)
 written-member [] d m list h = absurd (contains-none (d, m ∷ list) h)
 written-member (g ∷ groups) d m list h =
     elim (contains-cases g (d, m ∷ list) groups h) [

@@ -1,3 +1,4 @@
+-- The lemmas behind the contracts and laws of this crate: records, columns, cells, rows and tables.
 pub mod TableFacts
 pub mod FieldFacts
 pub mod CsvFacts

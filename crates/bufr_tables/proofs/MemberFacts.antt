@@ -28,7 +28,8 @@ pub contains-one : {X : Type 0} (x y : X) → Contains (x ∷ []) y → x ≡ y
 contains-one x y h = elim (Contains-push_cases [] x y h) [ inl n ↦ absurd (contains-none y n) | inr e ↦ e ]
 
 -- a member is the first or one of the rest
-pub contains-cases : {X : Type 0} (x y : X) (xs : List X) → Contains (x ∷ xs) y → (x ≡ y) ⊎ Contains xs y
+pub contains-cases : {X : Type 0} (x y : X) (xs : List X) → Contains (x ∷ xs) y
+    → (x ≡ y) ⊎ Contains xs y
 contains-cases x y xs h = elim (Contains-append_cases (x ∷ []) xs y h) [ inl l ↦ inl (contains-one x y l) | inr r ↦ inr r ]
 
 -- the same elements
@@ -40,16 +41,20 @@ pub same-back : {X : Type 0} (xs ys : List X) → SameMembers xs ys → SameMemb
 same-back xs ys h x = ((h x).1, (h x).0)
 
 -- the same members by way of a third list
-pub same-through : {X : Type 0} (xs ys zs : List X) → SameMembers xs ys → SameMembers ys zs → SameMembers xs zs
+pub same-through : {X : Type 0} (xs ys zs : List X) → SameMembers xs ys → SameMembers ys zs
+    → SameMembers xs zs
 same-through xs ys zs h k x = (λ m. (k x).0 ((h x).0 m), λ m. (h x).1 ((k x).1 m))
 
 -- members of two lists by members of each
-either : {X : Type 0} (xs xs' ys ys' : List X) → ((x : X) → Contains xs x → Contains xs' x) → ((x : X) → Contains ys x → Contains ys' x) → (x : X) → Contains (xs ++ ys) x → Contains (xs' ++ ys') x
+either : {X : Type 0} (xs xs' ys ys' : List X) → ((x : X) → Contains xs x → Contains xs' x)
+    → ((x : X) → Contains ys x → Contains ys' x) → (x : X) → Contains (xs ++ ys) x
+    → Contains (xs' ++ ys') x
 either xs xs' ys ys' h k x m =
     elim (Contains-append_cases xs ys x m) [ inl l ↦ Contains-append_left xs' ys' x (h x l) | inr r ↦ Contains-append_right xs' ys' x (k x r) ]
 
 -- the same members in two parts
-pub same-append : {X : Type 0} (xs xs' ys ys' : List X) → SameMembers xs xs' → SameMembers ys ys' → SameMembers (xs ++ ys) (xs' ++ ys')
+pub same-append : {X : Type 0} (xs xs' ys ys' : List X) → SameMembers xs xs' → SameMembers ys ys'
+    → SameMembers (xs ++ ys) (xs' ++ ys')
 same-append xs xs' ys ys' h k x = (either xs xs' ys ys' (λ z. (h z).0) (λ z. (k z).0) x, either xs' xs ys' ys (λ z. (h z).1) (λ z. (k z).1) x)
 
 -- a member of two lists, the other first
@@ -80,7 +85,8 @@ unfolding at
 at-nil d = refl
 
 -- what stands at a descriptor is a member
-pub at-contained : {X : Type 0} (d : ℕ) (v : X) (es : List (ℕ × X)) → at d es ≡ Some v → Contains es (d, v)
+pub at-contained : {X : Type 0} (d : ℕ) (v : X) (es : List (ℕ × X)) → at d es ≡ Some v
+    → Contains es (d, v)
 at-contained d v [] h = absurd (let g : None ≡ Some v = sym (at-nil d) ∙ h in cc)
 at-contained d v (e ∷ es) h =
     elim (cases_order e.0 d) [
@@ -89,7 +95,8 @@ at-contained d v (e ∷ es) h =
     ]
 
 -- in ascending order the first descriptor is below all others
-pub rising-below : {X : Type 0} (a : ℕ × X) (es : List (ℕ × X)) (x : ℕ × X) → Rising (a ∷ es) → Contains es x → a.0 < x.0
+pub rising-below : {X : Type 0} (a : ℕ × X) (es : List (ℕ × X)) (x : ℕ × X) → Rising (a ∷ es)
+    → Contains es x → a.0 < x.0
 rising-below a [] x r h = absurd (contains-none x h)
 rising-below a (b ∷ es) x r h =
     elim (contains-cases b x es h) [
@@ -98,7 +105,8 @@ rising-below a (b ∷ es) x r h =
     ]
 
 -- in ascending order a member is what stands at its descriptor
-pub at-only : {X : Type 0} (d : ℕ) (v : X) (es : List (ℕ × X)) → Rising es → Contains es (d, v) → at d es ≡ Some v
+pub at-only : {X : Type 0} (d : ℕ) (v : X) (es : List (ℕ × X)) → Rising es → Contains es (d, v)
+    → at d es ≡ Some v
 at-only d v [] r h = absurd (contains-none (d, v) h)
 at-only d v (e ∷ es) r h =
     elim (contains-cases e (d, v) es h) [
@@ -107,13 +115,15 @@ at-only d v (e ∷ es) r h =
     ]
 
 -- a list in ascending order is known by its elements
-first-same : {X : Type 0} (x y : ℕ × X) (xs ys : List (ℕ × X)) → Rising (x ∷ xs) → Rising (y ∷ ys) → (y ≡ x) ⊎ Contains ys x → (x ≡ y) ⊎ Contains xs y → x ≡ y
+first-same : {X : Type 0} (x y : ℕ × X) (xs ys : List (ℕ × X)) → Rising (x ∷ xs) → Rising (y ∷ ys)
+    → (y ≡ x) ⊎ Contains ys x → (x ≡ y) ⊎ Contains xs y → x ≡ y
 first-same x y xs ys r s (inl e) b = sym e
 first-same x y xs ys r s (inr m) (inl e) = e
 first-same x y xs ys r s (inr m) (inr n) = let p : y.0 < x.0 = rising-below y ys x s m in let q : x.0 < y.0 = rising-below x xs y r n in absurd (omega arith)
 
 -- a member behind equal first entries stands behind them in both lists
-rest-kept : {X : Type 0} (x y : ℕ × X) (xs ys : List (ℕ × X)) (z : ℕ × X) → x ≡ y → Rising (x ∷ xs) → (Contains (x ∷ xs) z → Contains (y ∷ ys) z) → Contains xs z → Contains ys z
+rest-kept : {X : Type 0} (x y : ℕ × X) (xs ys : List (ℕ × X)) (z : ℕ × X) → x ≡ y → Rising (x ∷ xs)
+    → (Contains (x ∷ xs) z → Contains (y ∷ ys) z) → Contains xs z → Contains ys z
 rest-kept {X} x y xs ys z e r k m =
     elim (contains-cases y z ys (k (contains-more x z xs m))) [
       | inl q ↦ let lt : x.0 < z.0 = rising-below x xs z r m in let same : x.0 ≡ z.0 = ap (λ (p : ℕ × X). p.0) (e ∙ q) in absurd (omega arith)
@@ -121,7 +131,8 @@ rest-kept {X} x y xs ys z e r k m =
     ]
 
 -- lists in ascending order with the same members are equal
-pub same-rising : {X : Type 0} (xs ys : List (ℕ × X)) → Rising xs → Rising ys → SameMembers xs ys → xs ≡ ys
+pub same-rising : {X : Type 0} (xs ys : List (ℕ × X)) → Rising xs → Rising ys → SameMembers xs ys
+    → xs ≡ ys
 same-rising [] [] r s h = refl
 same-rising [] (y ∷ ys) r s h = absurd (contains-none y ((h y).1 (contains-first y ys)))
 same-rising (x ∷ xs) [] r s h = absurd (contains-none x ((h x).0 (contains-first x xs)))
@@ -130,7 +141,8 @@ same-rising (x ∷ xs) (y ∷ ys) r s h =
     let rest : xs ≡ ys = same-rising xs ys (rising-rest x xs r) (rising-rest y ys s) (λ z. (rest-kept x y xs ys z e r (h z).0, rest-kept y x ys xs z (sym e) s (h z).1)) in cc
 
 -- a new entry is one more element
-pub same-insert : {X : Type 0} (d : ℕ) (v : X) (es : List (ℕ × X)) → at d es ≡ None → SameMembers (insert_entry nat_cmp es d v) (es ++ (d, v) ∷ [])
+pub same-insert : {X : Type 0} (d : ℕ) (v : X) (es : List (ℕ × X)) → at d es ≡ None
+    → SameMembers (insert_entry nat_cmp es d v) (es ++ (d, v) ∷ [])
 same-insert d v [] h = same-self ((d, v) ∷ [])
 same-insert d v (e ∷ es) h =
     elim (cases_order d e.0) [

@@ -10,7 +10,7 @@ use Rattle.std.specs.BTreeMap.{insert_entry}
 use Rattle.bufr_tables.specs.declared.element.Element.{Element}
 use Rattle.bufr_tables.specs.declared.element.Kind.{Kind}
 use Rattle.bufr_tables.specs.declared.element.Kind.TheVariants as kinds
-use Rattle.bufr_tables.specs.declared.file.TableFault.TheVariants.{Conflict, SplitSequence}
+use Rattle.bufr_tables.specs.declared.table_faults.TableFault.TheVariants.{Conflict, SplitSequence}
 use Rattle.bufr_tables.specs.contracts.element.ElementPartialEq.TheImpl as element_eq
 use Rattle.bufr_tables.specs.Elements.{same_kind, same_element}
 use Rattle.bufr_tables.specs.Entries.{at, Rising, NoCounts}
@@ -47,13 +47,15 @@ rising-rest a [] r = tt
 rising-rest a (b ∷ es) r = r.1
 
 -- an ascending list with an entry below it
-rising-join : {X : Type 0} (a : ℕ × X) (es : List (ℕ × X)) → Above a.0 es → Rising es → Rising (a ∷ es)
+rising-join : {X : Type 0} (a : ℕ × X) (es : List (ℕ × X)) → Above a.0 es → Rising es
+    → Rising (a ∷ es)
 unfolding Above
 rising-join a [] h r = tt
 rising-join a (b ∷ es) h r = (h, r)
 
 -- an entry above a number, put among others above it
-above-insert : {X : Type 0} (b d : ℕ) (v : X) (es : List (ℕ × X)) → b < d → Above b es → Above b (insert_entry nat_cmp es d v)
+above-insert : {X : Type 0} (b d : ℕ) (v : X) (es : List (ℕ × X)) → b < d → Above b es
+    → Above b (insert_entry nat_cmp es d v)
 unfolding Above
 above-insert b d v [] h a = h
 above-insert b d v (e ∷ es) h a =
@@ -63,7 +65,8 @@ above-insert b d v (e ∷ es) h a =
     ]
 
 -- an insertion keeps the order
-pub Rising-insert : {X : Type 0} (d : ℕ) (v : X) (es : List (ℕ × X)) → Rising es → Rising (insert_entry nat_cmp es d v)
+pub Rising-insert : {X : Type 0} (d : ℕ) (v : X) (es : List (ℕ × X)) → Rising es
+    → Rising (insert_entry nat_cmp es d v)
 Rising-insert d v [] r = tt
 Rising-insert d v (e ∷ es) r =
     let more = Rising-insert d v es (rising-rest e es r) in
@@ -76,7 +79,8 @@ Rising-insert d v (e ∷ es) r =
     ]
 
 -- and brings no count
-pub NoCounts-insert : (d : ℕ) (v : Element) (es : List (ℕ × Element)) → same_kind v.kind kinds.Count ≡ false → NoCounts es → NoCounts (insert_entry nat_cmp es d v)
+pub NoCounts-insert : (d : ℕ) (v : Element) (es : List (ℕ × Element))
+    → same_kind v.kind kinds.Count ≡ false → NoCounts es → NoCounts (insert_entry nat_cmp es d v)
 NoCounts-insert d v [] k n = (k, tt)
 NoCounts-insert d v (e ∷ es) k n =
     let more = NoCounts-insert d v es k n.1 in
@@ -90,19 +94,25 @@ same_test : (a b : Element) → element_eq.ghosts.eq a b ≡ same_element a b
 same_test a b = same_from_decides (element_eq.ghosts.eq a b) (same_element a b) (element_eq-Decides a b) (same_element-Decides a b)
 
 -- an equal row adds nothing
-pub with_element-same : (rows : List (ℕ × Element)) (d : ℕ) (e old : Element) → at d rows ≡ Some old → element_eq.ghosts.eq old e ≡ true → with_element rows (d, e) ≡ Ok rows
+pub with_element-same : (rows : List (ℕ × Element)) (d : ℕ) (e old : Element) → at d rows ≡ Some old
+    → element_eq.ghosts.eq old e ≡ true → with_element rows (d, e) ≡ Ok rows
 with_element-same rows d e old f s = let t : same_element old e ≡ true = sym (same_test old e) ∙ s in rw (f, t)
 
 -- a differing row is a conflict
-pub with_element-other : (rows : List (ℕ × Element)) (d : ℕ) (e old : Element) → at d rows ≡ Some old → element_eq.ghosts.eq old e ≡ false → with_element rows (d, e) ≡ Err (Conflict d)
+pub with_element-other : (rows : List (ℕ × Element)) (d : ℕ) (e old : Element)
+    → at d rows ≡ Some old → element_eq.ghosts.eq old e ≡ false
+    → with_element rows (d, e) ≡ Err (Conflict d)
 with_element-other rows d e old f s = let t : same_element old e ≡ false = sym (same_test old e) ∙ s in rw (f, t)
 
 -- a row of a new descriptor is added
-pub with_element-new : (rows : List (ℕ × Element)) (d : ℕ) (e : Element) → at d rows ≡ None → with_element rows (d, e) ≡ Ok (insert_entry nat_cmp rows d e)
+pub with_element-new : (rows : List (ℕ × Element)) (d : ℕ) (e : Element) → at d rows ≡ None
+    → with_element rows (d, e) ≡ Ok (insert_entry nat_cmp rows d e)
 with_element-new rows d e f = rw f
 
 -- no unit is that of a count
-not_count : (a b c d : Bool) → same_kind (if a then kinds.Text else if b then kinds.Code else if c then kinds.Flag else if d then kinds.Code else kinds.Quantity) kinds.Count ≡ false
+not_count : (a b c d : Bool)
+    → same_kind (if a then kinds.Text else if b then kinds.Code else if c then kinds.Flag
+    else if d then kinds.Code else kinds.Quantity) kinds.Count ≡ false
 not_count true b c d = refl
 not_count false true c d = refl
 not_count false false true d = refl
@@ -114,9 +124,11 @@ pub kind_of-not_count : (unit : List ℕ) → same_kind (kind_of unit) kinds.Cou
 kind_of-not_count unit = not_count _ _ _ _
 
 -- the kind of a row's element is the one that was given
-made : (fxy : Option ℕ) (scale reference : Option ℤ) (width : Option ℕ) (kind : Kind) (d : ℕ) (e : Element)
-    → option_and_then (λ d. option_and_then (λ s. option_and_then (λ r. option_map {U = ℕ × Element} (λ w. (d, record { kind = kind; scale = s; reference = r; width = w })) width) reference) scale) fxy ≡ Some (d, e)
-    → e.kind ≡ kind
+made : (fxy : Option ℕ) (scale reference : Option ℤ) (width : Option ℕ) (kind : Kind) (d : ℕ)
+    (e : Element)
+    → option_and_then (λ d. option_and_then (λ s. option_and_then (λ r. option_map {U = ℕ × Element}
+    (λ w. (d, record { kind = kind; scale = s; reference = r; width = w })) width) reference) scale)
+    fxy ≡ Some (d, e) → e.kind ≡ kind
 made None scale reference width kind d e h = absurd (cc)
 made (Some f) None reference width kind d e h = absurd (cc)
 made (Some f) (Some s) None width kind d e h = absurd (cc)
@@ -124,17 +136,20 @@ made (Some f) (Some s) (Some r) None kind d e h = absurd (cc)
 made (Some f) (Some s) (Some r) (Some w) kind d e h = let g : ◌≡◌ {A = ℕ × Element} (f, record { kind = kind; scale = s; reference = r; width = w }) (d, e) = cc in ap (λ (x : ℕ × Element). x.1.kind) (sym g)
 
 -- no row is a count
-pub element_row-not_count : (cells : List (List ℕ)) (row : ℕ × Element) → element_row cells ≡ Some row → same_kind row.1.kind kinds.Count ≡ false
+pub element_row-not_count : (cells : List (List ℕ)) (row : ℕ × Element)
+    → element_row cells ≡ Some row → same_kind row.1.kind kinds.Count ≡ false
 unfolding element_row
 element_row-not_count cells row h =
     rw (made (descriptor_of 0 (cell cells 0)) (signed_of 32 (cell cells 2)) (signed_of 64 (cell cells 3)) (unsigned_of 32 (cell cells 4)) (kind_of (cell cells 1)) row.0 row.1 h) (kind_of-not_count (cell cells 1))
 
 -- what begins a sequence
-pub begins-again : (ended : List (ℕ × List ℕ)) (d m : ℕ) → is_some (at d ended) ≡ true → begins ended d m ≡ Err (SplitSequence d)
+pub begins-again : (ended : List (ℕ × List ℕ)) (d m : ℕ) → is_some (at d ended) ≡ true
+    → begins ended d m ≡ Err (SplitSequence d)
 begins-again ended d m h = rw h
 
 -- a sequence without rows before begins
-pub begins-new : (ended : List (ℕ × List ℕ)) (d m : ℕ) → is_some (at d ended) ≡ false → begins ended d m ≡ Ok (record { ended = ended; open_one = Some (d, m ∷ []) })
+pub begins-new : (ended : List (ℕ × List ℕ)) (d m : ℕ) → is_some (at d ended) ≡ false
+    → begins ended d m ≡ Ok (record { ended = ended; open_one = Some (d, m ∷ []) })
 begins-new ended d m h = rw h
 
 -- equal answers are both there or not
@@ -142,13 +157,16 @@ pub is_some-at : {X : Type 0} (o : Option X) (p : Option X) → o ≡ p → is_s
 is_some-at o p h = ap is_some h
 
 -- a row of the sequence at hand
-pub with_member-none : (s : Sequences) (d m : ℕ) → s.open_one ≡ None → with_member s (d, m) ≡ begins s.ended d m
+pub with_member-none : (s : Sequences) (d m : ℕ) → s.open_one ≡ None
+    → with_member s (d, m) ≡ begins s.ended d m
 with_member-none s d m h = rw h
 
 -- a row of the sequence at hand joins it
-pub with_member-same : (s : Sequences) (d m : ℕ) (list : List ℕ) → s.open_one ≡ Some (d, list) → with_member s (d, m) ≡ Ok (record { ended = s.ended; open_one = Some (d, list ++ m ∷ []) })
+pub with_member-same : (s : Sequences) (d m : ℕ) (list : List ℕ) → s.open_one ≡ Some (d, list)
+    → with_member s (d, m) ≡ Ok (record { ended = s.ended; open_one = Some (d, list ++ m ∷ []) })
 with_member-same s d m list h = let e : (d == d) ≡ true = grind (arith, nat_tests) in rw (h, e)
 
 -- a row of another sequence ends the one at hand and begins its own
-pub with_member-other : (s : Sequences) (d m o : ℕ) (list : List ℕ) → s.open_one ≡ Some (o, list) → o ≢ d → with_member s (d, m) ≡ begins (insert_entry nat_cmp s.ended o list) d m
+pub with_member-other : (s : Sequences) (d m o : ℕ) (list : List ℕ) → s.open_one ≡ Some (o, list)
+    → o ≢ d → with_member s (d, m) ≡ begins (insert_entry nat_cmp s.ended o list) d m
 with_member-other s d m o list h n = let e : (o == d) ≡ false = grind (arith, nat_tests) in rw (h, e)

@@ -11,9 +11,9 @@ use Rattle.std.proofs.lemmas.Iterator.Adapters.{position_from-zero}
 use Rattle.std.proofs.lemmas.List.Elements.{Contains-get_or, All-nil, All-cons, All-head, All-tail}
 use Rattle.std.proofs.lemmas.List.Quantifiers.{position-Some}
 use Rattle.std.proofs.lemmas.Slice.Eq.{bytes_eq-Decides, slice_eq-Decides}
-use Rattle.bufr_tables.specs.declared.file.Column.{Column}
-use Rattle.bufr_tables.specs.declared.file.TableFault.{TableFault}
-use Rattle.bufr_tables.specs.declared.file.TableFault.TheVariants.{NoColumn, NotCsv, BadRow}
+use Rattle.bufr_tables.specs.declared.table_faults.Column.{Column}
+use Rattle.bufr_tables.specs.declared.table_faults.TableFault.{TableFault}
+use Rattle.bufr_tables.specs.declared.table_faults.TableFault.TheVariants.{NoColumn, NotCsv, BadRow}
 use Rattle.bufr_tables.specs.Answers.{◌>>=◌}
 use Rattle.bufr_tables.specs.Fields.{used_fields}
 use Rattle.bufr_tables.specs.Sheets.{HasColumn, StandsAt, IsFirstAbsent, IsNotCsv, TellsNothing, IsSkipped, IsRow, IsBadRow, AreRows, no_record, skipped_first, row_first, HasRows}
@@ -28,13 +28,15 @@ told true = inl refl
 told false = inr refl
 
 -- what follows a fault
-pub then-stops : {X Y : Type 0} (r : Result X TableFault) (f : X → Result Y TableFault) (e : TableFault) → r ≡ Err e → (r >>= f) ≡ Err e
+pub then-stops : {X Y : Type 0} (r : Result X TableFault) (f : X → Result Y TableFault)
+    (e : TableFault) → r ≡ Err e → (r >>= f) ≡ Err e
 then-stops r f e h = rw h
 
 -- ---- columns
 
 -- where no place is found no element passes
-none-passes : {X : Type 0} (p : X → Bool) (n : ℕ) (xs : List X) → position_from p n xs ≡ None → (x : X) → Contains xs x → p x ≡ false
+none-passes : {X : Type 0} (p : X → Bool) (n : ℕ) (xs : List X) → position_from p n xs ≡ None
+    → (x : X) → Contains xs x → p x ≡ false
 none-passes p n [] h x m = absurd (contains-none x m)
 none-passes p n (y ∷ ys) h x m =
     elim (told (p y)) [
@@ -43,7 +45,9 @@ none-passes p n (y ∷ ys) h x m =
     ]
 
 -- a column stands at its first title, or is absent
-column-cases : (header : List (List ℕ)) (c : Column) → ((i : ℕ) × (column_at header c ≡ Ok i) × StandsAt header c i) ⊎ ((column_at header c ≡ Err (NoColumn c)) × (HasColumn header c → ⊥))
+column-cases : (header : List (List ℕ)) (c : Column)
+    → ((i : ℕ) × (column_at header c ≡ Ok i) × StandsAt header c i) ⊎
+    ((column_at header c ≡ Err (NoColumn c)) × (HasColumn header c → ⊥))
 column-cases header c = go (position (λ name. bytes_eq name (title c)) header) refl
   where
     go : (o : Option ℕ) → position (λ name. bytes_eq name (title c)) header ≡ o → ((i : ℕ) × (column_at header c ≡ Ok i) × StandsAt header c i) ⊎ ((column_at header c ≡ Err (NoColumn c)) × (HasColumn header c → ⊥))
@@ -69,11 +73,13 @@ column-cases header c = go (position (λ name. bytes_eq name (title c)) header) 
         )
 
 -- a column that stands somewhere is there
-stands-has : (header : List (List ℕ)) (c : Column) (i : ℕ) → StandsAt header c i → HasColumn header c
+stands-has : (header : List (List ℕ)) (c : Column) (i : ℕ) → StandsAt header c i
+    → HasColumn header c
 stands-has header c i s = subst (λ (t : List ℕ). Contains header t) s.1 (Contains-get_or header i [] s.0)
 
 -- where a column stands it is found
-column-is : (header : List (List ℕ)) (c : Column) (i : ℕ) → StandsAt header c i → column_at header c ≡ Ok i
+column-is : (header : List (List ℕ)) (c : Column) (i : ℕ) → StandsAt header c i
+    → column_at header c ≡ Ok i
 column-is header c i s =
     elim (column-cases header c) [
       | inl h ↦ h.1 ∙ ap {B = Result ℕ TableFault} (λ (k : ℕ). Ok k) (only (cases_order h.0 i) h.2)
@@ -86,12 +92,15 @@ column-is header c i s =
     only (inr (inr g)) t = absurd (t.2 i g s.1)
 
 -- a column that is absent is the fault
-column-lacks : (header : List (List ℕ)) (c : Column) → (HasColumn header c → ⊥) → column_at header c ≡ Err (NoColumn c)
+column-lacks : (header : List (List ℕ)) (c : Column) → (HasColumn header c → ⊥)
+    → column_at header c ≡ Err (NoColumn c)
 column-lacks header c n = elim (column-cases header c) [ inl h ↦ absurd (n (stands-has header c h.0 h.2)) | inr h ↦ h.0 ]
 
 -- the needed columns stand in a header, or one is the first that is absent
 pub columns-cases : (header : List (List ℕ)) (needed : List Column)
-    → ((places : List ℕ) × (columns_at header needed ≡ Ok places) × AllZip (StandsAt header) needed places) ⊎ ((c : Column) × (columns_at header needed ≡ Err (NoColumn c)) × IsFirstAbsent header needed c)
+    → ((places : List ℕ) × (columns_at header needed ≡ Ok places)
+    × AllZip (StandsAt header) needed places) ⊎ ((c : Column)
+    × (columns_at header needed ≡ Err (NoColumn c)) × IsFirstAbsent header needed c)
 columns-cases header [] = inl ([], refl, tt)
 columns-cases header (c ∷ cs) =
     elim (column-cases header c) [
@@ -107,7 +116,8 @@ columns-cases header (c ∷ cs) =
     ]
 
 -- where the needed columns stand they are found
-pub columns-are : (header : List (List ℕ)) (needed : List Column) (places : List ℕ) → AllZip (StandsAt header) needed places → columns_at header needed ≡ Ok places
+pub columns-are : (header : List (List ℕ)) (needed : List Column) (places : List ℕ)
+    → AllZip (StandsAt header) needed places → columns_at header needed ≡ Ok places
 columns-are header [] [] h = refl
 columns-are header [] (i ∷ is) h = absurd h
 columns-are header (c ∷ cs) [] h = absurd h
@@ -115,7 +125,9 @@ columns-are header (c ∷ cs) (i ∷ is) h =
     then-gives (column_at header c) (λ k. columns_at header cs >>= λ ks. Ok (k ∷ ks)) i (Ok (i ∷ is)) (column-is header c i h.0) (then-gives (columns_at header cs) (λ ks. Ok (i ∷ ks)) is (Ok (i ∷ is)) (columns-are header cs is h.1) refl)
 
 -- an absent column behind those that are there is the fault
-lacks-behind : (header : List (List ℕ)) (before : List Column) (c : Column) (behind : List Column) → All (HasColumn header) before → (HasColumn header c → ⊥) → columns_at header (before ++ c ∷ behind) ≡ Err (NoColumn c)
+lacks-behind : (header : List (List ℕ)) (before : List Column) (c : Column) (behind : List Column)
+    → All (HasColumn header) before → (HasColumn header c → ⊥)
+    → columns_at header (before ++ c ∷ behind) ≡ Err (NoColumn c)
 lacks-behind header [] c behind a n = then-stops (column_at header c) (λ i. columns_at header behind >>= λ is. Ok (i ∷ is)) (NoColumn c) (column-lacks header c n)
 lacks-behind header (b ∷ bs) c behind a n =
     elim (column-cases header b) [
@@ -125,7 +137,8 @@ lacks-behind header (b ∷ bs) c behind a n =
     ]
 
 -- the first absent column is the fault
-pub columns-lack : (header : List (List ℕ)) (needed : List Column) (c : Column) → IsFirstAbsent header needed c → columns_at header needed ≡ Err (NoColumn c)
+pub columns-lack : (header : List (List ℕ)) (needed : List Column) (c : Column)
+    → IsFirstAbsent header needed c → columns_at header needed ≡ Err (NoColumn c)
 columns-lack header needed c h = rw h.2 (lacks-behind header h.0 c h.1 h.3 h.4)
 
 -- ---- a record
@@ -136,7 +149,8 @@ empty-true [] h = refl
 empty-true (c ∷ text) h = absurd (let e = (Decides-eqb (length (c ∷ text)) 0).0 h in omega arith)
 
 -- the test whether all cells are empty decides it
-empties : (cells : List (List ℕ)) → Decides (list_all (λ text. length text == 0) cells) (All (λ text. text ≡ []) cells)
+empties : (cells : List (List ℕ))
+    → Decides (list_all (λ text. length text == 0) cells) (All (λ text. text ≡ []) cells)
 empties cells = (from cells, to cells)
   where
     from : (xs : List (List ℕ)) → list_all (λ text. length text == 0) xs ≡ true → All (λ text. text ≡ []) xs
@@ -152,24 +166,28 @@ empties cells = (from cells, to cells)
     to (x ∷ xs) h = rw (All-head (λ text. text ≡ []) x xs h) (to xs (All-tail (λ text. text ≡ []) x xs h))
 
 -- the test whether a record tells nothing decides it
-skips : (header : List (List ℕ)) (places : List ℕ) (raw : List (List ℕ)) → Decides (is_skipped header (used_fields raw) places) (TellsNothing header places raw)
+skips : (header : List (List ℕ)) (places : List ℕ) (raw : List (List ℕ))
+    → Decides (is_skipped header (used_fields raw) places) (TellsNothing header places raw)
 skips header places raw =
     Decides-or (pointwise bytes_eq (used_fields raw) header) (list_all (λ text. length text == 0) (cells_at (used_fields raw) places))
     (slice_eq-Decides bytes_eq-Decides (used_fields raw) header (pointwise bytes_eq (used_fields raw) header) refl) (empties (cells_at (used_fields raw) places))
 
 -- a record that tells something is not skipped
-tells : (header : List (List ℕ)) (places : List ℕ) (raw : List (List ℕ)) → (TellsNothing header places raw → ⊥) → is_skipped header (used_fields raw) places ≡ false
+tells : (header : List (List ℕ)) (places : List ℕ) (raw : List (List ℕ))
+    → (TellsNothing header places raw → ⊥) → is_skipped header (used_fields raw) places ≡ false
 tells header places raw n = elim (told (is_skipped header (used_fields raw) places)) [ inl e ↦ absurd (n ((skips header places raw).0 e)) | inr e ↦ e ]
 
 -- what a record is, under a header and with the needed columns at these places
-pub data Kinds {R : Type 0} (row_of : List (List ℕ) → Option R) (header : List (List ℕ)) (places : List ℕ) (raw : List (List ℕ)) : Type 0 where
+pub data Kinds {R : Type 0} (row_of : List (List ℕ) → Option R) (header : List (List ℕ))
+    (places : List ℕ) (raw : List (List ℕ)) : Type 0 where
   not_csv : IsNotCsv header raw → Kinds row_of header places raw
   skipped : IsSkipped header places raw → Kinds row_of header places raw
   bad : IsBadRow row_of header places raw → Kinds row_of header places raw
   good : (row : R) → IsRow row_of header places raw row → Kinds row_of header places raw
 
 -- a record is one of the four kinds
-pub kinds : {R : Type 0} (row_of : List (List ℕ) → Option R) (header : List (List ℕ)) (places : List ℕ) (raw : List (List ℕ)) → Kinds row_of header places raw
+pub kinds : {R : Type 0} (row_of : List (List ℕ) → Option R) (header : List (List ℕ))
+    (places : List ℕ) (raw : List (List ℕ)) → Kinds row_of header places raw
 kinds {R} row_of header places raw =
     elim (told (length raw == length header)) [
       | inr e ↦ not_csv (λ q. let t : (length raw == length header) ≡ true = (Decides-eqb (length raw) (length header)).1 q in let w : true ≡ false = sym t ∙ e in cc)
@@ -184,19 +202,28 @@ kinds {R} row_of header places raw =
     by_row l n (Some row) e = good row (l, n, e)
 
 -- and what it adds
-module _ {A R : Type 0} (row_of : List (List ℕ) → Option R) (add : A → R → Result A TableFault) (header : List (List ℕ)) (places : List ℕ) (n : ℕ) (raw : List (List ℕ)) (so_far : A) where
-  pub adds_not_csv : IsNotCsv header raw → after_record row_of add header places n raw so_far ≡ Err (NotCsv n)
+module _ {A R : Type 0} (row_of : List (List ℕ) → Option R) (add : A → R → Result A TableFault)
+    (header : List (List ℕ)) (places : List ℕ) (n : ℕ) (raw : List (List ℕ)) (so_far : A) where
+  -- another number of fields than the header has is a fault
+  pub adds_not_csv : IsNotCsv header raw
+      → after_record row_of add header places n raw so_far ≡ Err (NotCsv n)
   adds_not_csv h = then-stops (row_cells header places n raw) (joined row_of add n so_far) (NotCsv n) (row_cells-unequal header places n raw h)
 
-  pub adds_nothing : IsSkipped header places raw → after_record row_of add header places n raw so_far ≡ Ok so_far
+  -- a record that is skipped adds nothing
+  pub adds_nothing : IsSkipped header places raw
+      → after_record row_of add header places n raw so_far ≡ Ok so_far
   adds_nothing h =
       then-gives (row_cells header places n raw) (joined row_of add n so_far) None (Ok so_far) (row_cells-skipped header places n raw h.0 ((skips header places raw).1 h.1)) refl
 
-  pub adds_bad_row : IsBadRow row_of header places raw → after_record row_of add header places n raw so_far ≡ Err (BadRow n)
+  -- cells that are no row are a fault
+  pub adds_bad_row : IsBadRow row_of header places raw
+      → after_record row_of add header places n raw so_far ≡ Err (BadRow n)
   adds_bad_row h =
       then-gives (row_cells header places n raw) (joined row_of add n so_far) (Some (cells_at (used_fields raw) places)) (Err (BadRow n)) (row_cells-used header places n raw h.0 (tells header places raw h.1)) (rw h.2)
 
-  pub adds_row : (row : R) → IsRow row_of header places raw row → after_record row_of add header places n raw so_far ≡ add so_far row
+  -- a row is added, if it can be
+  pub adds_row : (row : R) → IsRow row_of header places raw row
+      → after_record row_of add header places n raw so_far ≡ add so_far row
   adds_row row h =
       then-gives (row_cells header places n raw) (joined row_of add n so_far) (Some (cells_at (used_fields raw) places)) (add so_far row) (row_cells-used header places n raw h.0 (tells header places raw h.1)) (rw h.2)
 
@@ -208,12 +235,15 @@ added add so_far [] = Ok so_far
 added add so_far (row ∷ rows) = add so_far row >>= λ more. added add more rows
 
 -- why record n, behind rows that add up to this, has no table
-abbrev pub Stops : {A R : Type 0} → (List (List ℕ) → Option R) → (A → R → Result A TableFault) → List (List ℕ) → List ℕ → ℕ → List (List ℕ) → A → TableFault → Type 0
+abbrev pub Stops : {A R : Type 0} → (List (List ℕ) → Option R) → (A → R → Result A TableFault)
+    → List (List ℕ) → List ℕ → ℕ → List (List ℕ) → A → TableFault → Type 0
 Stops {A} {R} row_of add header places n raw so_far f =
     ((f ≡ NotCsv n) × IsNotCsv header raw) ⊎ (((f ≡ BadRow n) × IsBadRow row_of header places raw) ⊎ ((row : R) × IsRow row_of header places raw row × (add so_far row ≡ Err f)))
 
 -- records from n on that are all read
-pub record IsRead {A R : Type 0} (row_of : List (List ℕ) → Option R) (add : A → R → Result A TableFault) (header : List (List ℕ)) (places : List ℕ) (n : ℕ) (records : List (List (List ℕ))) (so_far : A) : Type 0 where
+pub record IsRead {A R : Type 0} (row_of : List (List ℕ) → Option R)
+    (add : A → R → Result A TableFault) (header : List (List ℕ)) (places : List ℕ) (n : ℕ)
+    (records : List (List (List ℕ))) (so_far : A) : Type 0 where
   pub rows : List R
   pub total : A
   pub are : AreRows row_of header places records rows
@@ -221,7 +251,9 @@ pub record IsRead {A R : Type 0} (row_of : List (List ℕ) → Option R) (add : 
   pub answer : after_records row_of add header places n records so_far ≡ Ok total
 
 -- records from n on that are not
-pub record IsStopped {A R : Type 0} (row_of : List (List ℕ) → Option R) (add : A → R → Result A TableFault) (header : List (List ℕ)) (places : List ℕ) (n : ℕ) (records : List (List (List ℕ))) (so_far : A) : Type 0 where
+pub record IsStopped {A R : Type 0} (row_of : List (List ℕ) → Option R)
+    (add : A → R → Result A TableFault) (header : List (List ℕ)) (places : List ℕ) (n : ℕ)
+    (records : List (List (List ℕ))) (so_far : A) : Type 0 where
   pub before : List (List (List ℕ))
   pub raw : List (List ℕ)
   pub behind : List (List (List ℕ))
@@ -234,28 +266,41 @@ pub record IsStopped {A R : Type 0} (row_of : List (List ℕ) → Option R) (add
   pub stops : Stops row_of add header places (n + length before) raw total fault
   pub answer : after_records row_of add header places n records so_far ≡ Err fault
 
-module _ {A R : Type 0} (row_of : List (List ℕ) → Option R) (add : A → R → Result A TableFault) (header : List (List ℕ)) (places : List ℕ) where
-  records-nil : (n : ℕ) (so_far : A) → after_records row_of add header places n [] so_far ≡ Ok so_far
+module _ {A R : Type 0} (row_of : List (List ℕ) → Option R) (add : A → R → Result A TableFault)
+    (header : List (List ℕ)) (places : List ℕ) where
+  -- no records add nothing
+  records-nil : (n : ℕ) (so_far : A)
+      → after_records row_of add header places n [] so_far ≡ Ok so_far
   unfolding after_records
   records-nil n so_far = refl
 
+  -- records add what the first one adds, and then what the others add
   records-cons : (n : ℕ) (raw : List (List ℕ)) (behind : List (List (List ℕ))) (so_far : A)
-      → after_records row_of add header places n (raw ∷ behind) so_far ≡ (after_record row_of add header places n raw so_far >>= after_records row_of add header places (n + 1) behind)
+      → after_records row_of add header places n (raw ∷ behind) so_far
+      ≡ (after_record row_of add header places n raw so_far
+      >>= after_records row_of add header places (n + 1) behind)
   unfolding after_records
   records-cons n raw behind so_far = refl
 
-  records-more : (n : ℕ) (raw : List (List ℕ)) (behind : List (List (List ℕ))) (so_far more : A) (r : Result A TableFault) → after_record row_of add header places n raw so_far ≡ Ok more
-      → after_records row_of add header places (n + 1) behind more ≡ r → after_records row_of add header places n (raw ∷ behind) so_far ≡ r
+  -- behind a record that was added, they come to what the others add
+  records-more : (n : ℕ) (raw : List (List ℕ)) (behind : List (List (List ℕ))) (so_far more : A)
+      (r : Result A TableFault) → after_record row_of add header places n raw so_far ≡ Ok more
+      → after_records row_of add header places (n + 1) behind more ≡ r
+      → after_records row_of add header places n (raw ∷ behind) so_far ≡ r
   records-more n raw behind so_far more r e h =
       records-cons n raw behind so_far ∙ then-gives (after_record row_of add header places n raw so_far) (after_records row_of add header places (n + 1) behind) more r e h
 
-  records-stop : (n : ℕ) (raw : List (List ℕ)) (behind : List (List (List ℕ))) (so_far : A) (f : TableFault) → after_record row_of add header places n raw so_far ≡ Err f
+  -- the fault of the first one is theirs
+  records-stop : (n : ℕ) (raw : List (List ℕ)) (behind : List (List (List ℕ))) (so_far : A)
+      (f : TableFault) → after_record row_of add header places n raw so_far ≡ Err f
       → after_records row_of add header places n (raw ∷ behind) so_far ≡ Err f
   records-stop n raw behind so_far f e =
       records-cons n raw behind so_far ∙ then-stops (after_record row_of add header places n raw so_far) (after_records row_of add header places (n + 1) behind) f e
 
   -- rows behind records that are rows
-  pub records-are : (records : List (List (List ℕ))) (rows : List R) (n : ℕ) (so_far : A) → AreRows row_of header places records rows → after_records row_of add header places n records so_far ≡ added add so_far rows
+  pub records-are : (records : List (List (List ℕ))) (rows : List R) (n : ℕ) (so_far : A)
+      → AreRows row_of header places records rows
+      → after_records row_of add header places n records so_far ≡ added add so_far rows
   records-are _ _ n so_far no_record = records-nil n so_far
   records-are _ _ n so_far (skipped_first {raw} {behind} {rows} s r) =
       records-more n raw behind so_far so_far (added add so_far rows) (adds_nothing row_of add header places n raw so_far s) (records-are behind rows (n + 1) so_far r)
@@ -267,14 +312,20 @@ module _ {A R : Type 0} (row_of : List (List ℕ) → Option R) (add : A → R �
           records-more n raw behind so_far more (added add so_far (row ∷ rows)) (adds_row row_of add header places n raw so_far row s ∙ e) (rest more ∙ sym (then-gives (add so_far row) (λ t. added add t rows) more (added add more rows) e refl))
       by_row rest (Err f) e = records-stop n raw behind so_far f (adds_row row_of add header places n raw so_far row s ∙ e) ∙ sym (then-stops (add so_far row) (λ t. added add t rows) f e)
 
-  -- a record that has no table behind records that are rows
-  stop-adds : (n : ℕ) (raw : List (List ℕ)) (so_far : A) (f : TableFault) → Stops row_of add header places n raw so_far f → after_record row_of add header places n raw so_far ≡ Err f
+  -- a record that has no table gives its fault
+  stop-adds : (n : ℕ) (raw : List (List ℕ)) (so_far : A) (f : TableFault)
+      → Stops row_of add header places n raw so_far f
+      → after_record row_of add header places n raw so_far ≡ Err f
   stop-adds n raw so_far f (inl h) = rw h.0 (adds_not_csv row_of add header places n raw so_far h.1)
   stop-adds n raw so_far f (inr (inl h)) = rw h.0 (adds_bad_row row_of add header places n raw so_far h.1)
   stop-adds n raw so_far f (inr (inr h)) = adds_row row_of add header places n raw so_far h.0 h.1 ∙ h.2
 
-  pub records-stopped : (before : List (List (List ℕ))) (rows : List R) (n : ℕ) (so_far total : A) (raw : List (List ℕ)) (behind : List (List (List ℕ))) (f : TableFault) → AreRows row_of header places before rows
-      → added add so_far rows ≡ Ok total → Stops row_of add header places (n + length before) raw total f → after_records row_of add header places n (before ++ raw ∷ behind) so_far ≡ Err f
+  -- behind records that are rows this is the fault of all
+  pub records-stopped : (before : List (List (List ℕ))) (rows : List R) (n : ℕ) (so_far total : A)
+      (raw : List (List ℕ)) (behind : List (List (List ℕ))) (f : TableFault)
+      → AreRows row_of header places before rows → added add so_far rows ≡ Ok total
+      → Stops row_of add header places (n + length before) raw total f
+      → after_records row_of add header places n (before ++ raw ∷ behind) so_far ≡ Err f
   records-stopped _ _ n so_far total raw behind f no_record a s =
       let same : so_far ≡ total = cc in
       let zero_more : n + 0 ≡ n = omega arith in
@@ -292,7 +343,9 @@ module _ {A R : Type 0} (row_of : List (List ℕ) → Option R) (add : A → R �
       by_row rest (Err g) e = absurd (let w : Err g ≡ Ok total = sym (then-stops (add so_far row) (λ t. added add t rows) g e) ∙ a in cc)
 
   -- records are all read, or there is a first one that is not
-  pub records-run : (records : List (List (List ℕ))) (n : ℕ) (so_far : A) → IsRead row_of add header places n records so_far ⊎ IsStopped row_of add header places n records so_far
+  pub records-run : (records : List (List (List ℕ))) (n : ℕ) (so_far : A)
+      → IsRead row_of add header places n records so_far
+      ⊎ IsStopped row_of add header places n records so_far
   records-run [] n so_far = inl (record { rows = []; total = so_far; are = no_record; adds = refl; answer = records-nil n so_far })
   records-run (raw ∷ behind) n so_far = by_kind (λ more. records-run behind (n + 1) more) (kinds row_of header places raw)
     where
@@ -382,7 +435,8 @@ module _ {A R : Type 0} (row_of : List (List ℕ) → Option R) (add : A → R �
 -- ---- files
 
 -- a file that is all read
-pub record IsWhole {A R : Type 0} (needed : List Column) (row_of : List (List ℕ) → Option R) (add : A → R → Result A TableFault) (none : A) (file : List (List (List ℕ))) : Type 0 where
+pub record IsWhole {A R : Type 0} (needed : List Column) (row_of : List (List ℕ) → Option R)
+    (add : A → R → Result A TableFault) (none : A) (file : List (List (List ℕ))) : Type 0 where
   pub rows : List R
   pub total : A
   pub has : HasRows needed row_of file rows
@@ -390,13 +444,15 @@ pub record IsWhole {A R : Type 0} (needed : List Column) (row_of : List (List �
   pub answer : after_file needed row_of add none file ≡ Ok total
 
 -- a file whose header lacks a column
-pub record IsLacking {A R : Type 0} (needed : List Column) (row_of : List (List ℕ) → Option R) (add : A → R → Result A TableFault) (none : A) (file : List (List (List ℕ))) : Type 0 where
+pub record IsLacking {A R : Type 0} (needed : List Column) (row_of : List (List ℕ) → Option R)
+    (add : A → R → Result A TableFault) (none : A) (file : List (List (List ℕ))) : Type 0 where
   pub column : Column
   pub absent : IsFirstAbsent (header_of file) needed column
   pub answer : after_file needed row_of add none file ≡ Err (NoColumn column)
 
 -- a file with a first record that is not read
-pub record IsCutShort {A R : Type 0} (needed : List Column) (row_of : List (List ℕ) → Option R) (add : A → R → Result A TableFault) (none : A) (file : List (List (List ℕ))) : Type 0 where
+pub record IsCutShort {A R : Type 0} (needed : List Column) (row_of : List (List ℕ) → Option R)
+    (add : A → R → Result A TableFault) (none : A) (file : List (List (List ℕ))) : Type 0 where
   pub before : List (List (List ℕ))
   pub raw : List (List ℕ)
   pub behind : List (List (List ℕ))
@@ -409,21 +465,29 @@ pub record IsCutShort {A R : Type 0} (needed : List Column) (row_of : List (List
   pub stops : Stops row_of add (header_of before) has.places (length before + 1) raw total fault
   pub answer : after_file needed row_of add none file ≡ Err fault
 
-module _ {A R : Type 0} (needed : List Column) (row_of : List (List ℕ) → Option R) (add : A → R → Result A TableFault) (none : A) where
+module _ {A R : Type 0} (needed : List Column) (row_of : List (List ℕ) → Option R)
+    (add : A → R → Result A TableFault) (none : A) where
   -- a file with rows
-  pub file-has : (file : List (List (List ℕ))) (rows : List R) → HasRows needed row_of file rows → after_file needed row_of add none file ≡ added add none rows
+  pub file-has : (file : List (List (List ℕ))) (rows : List R) → HasRows needed row_of file rows
+      → after_file needed row_of add none file ≡ added add none rows
   file-has file rows h =
       then-gives (columns_at (header_of file) needed) (λ places. after_records row_of add (header_of file) places 2 (rows_of file) none) h.places (added add none rows) (columns-are (header_of file) needed h.places h.columns)
       (records-are row_of add (header_of file) h.places (rows_of file) rows 2 none h.behind)
 
   -- one without a column
-  pub file-lacks : (file : List (List (List ℕ))) (c : Column) → IsFirstAbsent (header_of file) needed c → after_file needed row_of add none file ≡ Err (NoColumn c)
+  pub file-lacks : (file : List (List (List ℕ))) (c : Column)
+      → IsFirstAbsent (header_of file) needed c
+      → after_file needed row_of add none file ≡ Err (NoColumn c)
   file-lacks file c h =
       then-stops (columns_at (header_of file) needed) (λ places. after_records row_of add (header_of file) places 2 (rows_of file) none) (NoColumn c) (columns-lack (header_of file) needed c h)
 
   -- one with a record that has no table
-  pub file-stops : ((p : List ℕ) → columns_at [] needed ≡ Ok p → ⊥) → (before : List (List (List ℕ))) (raw : List (List ℕ)) (behind : List (List (List ℕ))) (rows : List R) (h : HasRows needed row_of before rows) (total : A) (f : TableFault)
-      → added add none rows ≡ Ok total → Stops row_of add (header_of before) h.places (length before + 1) raw total f → after_file needed row_of add none (before ++ raw ∷ behind) ≡ Err f
+  pub file-stops : ((p : List ℕ) → columns_at [] needed ≡ Ok p → ⊥)
+      → (before : List (List (List ℕ))) (raw : List (List ℕ)) (behind : List (List (List ℕ)))
+      (rows : List R) (h : HasRows needed row_of before rows) (total : A) (f : TableFault)
+      → added add none rows ≡ Ok total
+      → Stops row_of add (header_of before) h.places (length before + 1) raw total f
+      → after_file needed row_of add none (before ++ raw ∷ behind) ≡ Err f
   file-stops absent [] raw behind rows h total f a s = absurd (absent h.places (columns-are [] needed h.places h.columns))
   file-stops absent (first ∷ before) raw behind rows h total f a s =
       let moved : 2 + length before ≡ length (first ∷ before) + 1 = omega arith in
@@ -431,7 +495,9 @@ module _ {A R : Type 0} (needed : List Column) (row_of : List (List ℕ) → Opt
       (records-stopped row_of add (used_fields first) h.places before rows 2 none total raw behind f h.behind a (rw moved s))
 
   -- and there is no other
-  pub file-run : ((p : List ℕ) → columns_at [] needed ≡ Ok p → ⊥) → (file : List (List (List ℕ))) → IsWhole needed row_of add none file ⊎ (IsLacking needed row_of add none file ⊎ IsCutShort needed row_of add none file)
+  pub file-run : ((p : List ℕ) → columns_at [] needed ≡ Ok p → ⊥) → (file : List (List (List ℕ)))
+      → IsWhole needed row_of add none file ⊎
+      (IsLacking needed row_of add none file ⊎ IsCutShort needed row_of add none file)
   file-run absent [] =
       elim (columns-cases [] needed) [
         | inl h ↦ absurd (absent h.0 h.1)

@@ -57,7 +57,8 @@ and-Decides false true P Q p q = (λ h. cc, λ h. p.1 h.0)
 and-Decides false false P Q p q = (λ h. cc, λ h. p.1 h.0)
 
 -- elements are equal where their parts are
-of_parts : (a b : Element) → a.kind ≡ b.kind → a.scale ≡ b.scale → a.reference ≡ b.reference → a.width ≡ b.width → a ≡ b
+of_parts : (a b : Element) → a.kind ≡ b.kind → a.scale ≡ b.scale → a.reference ≡ b.reference
+    → a.width ≡ b.width → a ≡ b
 of_parts a b k s r w =
     ap {B = Element} (λ (x : Kind). record { kind = x; scale = a.scale; reference = a.reference; width = a.width }) k
     ∙ ap {B = Element} (λ (x : ℤ). record { kind = b.kind; scale = x; reference = a.reference; width = a.width }) s
@@ -65,8 +66,9 @@ of_parts a b k s r w =
     ∙ ap {B = Element} (λ (x : ℕ). record { kind = b.kind; scale = b.scale; reference = b.reference; width = x }) w
 
 -- the test of four parts decides whether elements are equal
-parts-Decides : (a b : Element) (x y z w : Bool) → Decides x (a.kind ≡ b.kind) → Decides y (a.scale ≡ b.scale) → Decides z (a.reference ≡ b.reference) → Decides w (a.width ≡ b.width)
-    → Decides (x && (y && (z && w))) (a ≡ b)
+parts-Decides : (a b : Element) (x y z w : Bool) → Decides x (a.kind ≡ b.kind)
+    → Decides y (a.scale ≡ b.scale) → Decides z (a.reference ≡ b.reference)
+    → Decides w (a.width ≡ b.width) → Decides (x && (y && (z && w))) (a ≡ b)
 parts-Decides a b x y z w p q r s =
     let all = and-Decides x (y && (z && w)) _ _ p (and-Decides y (z && w) _ _ q (and-Decides z w _ _ r s)) in (
       λ h. of_parts a b (all.0 h).0 (all.0 h).1.0 (all.0 h).1.1.0 (all.0 h).1.1.1,

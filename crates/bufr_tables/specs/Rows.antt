@@ -9,8 +9,8 @@ use Rattle.std.specs.BTreeMap.{insert_entry}
 use Rattle.bufr_tables.specs.declared.element.Element.{Element}
 use Rattle.bufr_tables.specs.declared.element.Kind.{Kind}
 use Rattle.bufr_tables.specs.declared.element.Kind.TheVariants as kinds
-use Rattle.bufr_tables.specs.declared.file.TableFault.{TableFault}
-use Rattle.bufr_tables.specs.declared.file.TableFault.TheVariants.{Conflict, SplitSequence}
+use Rattle.bufr_tables.specs.declared.table_faults.TableFault.{TableFault}
+use Rattle.bufr_tables.specs.declared.table_faults.TableFault.TheVariants.{Conflict, SplitSequence}
 use Rattle.bufr_tables.specs.Descriptors.{of_text}
 use Rattle.bufr_tables.specs.Elements.{same_element}
 use Rattle.bufr_tables.specs.Entries.{at}

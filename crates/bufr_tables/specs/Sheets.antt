@@ -5,10 +5,10 @@ use Rattle.std.specs.Prelude.{ℕ, ◌+◌, ◌<◌, ◌≡◌, ◌≢◌, ◌�
 use Rattle.std.specs.Prelude.{get_or, flat_map, All, Contains, Option, Some, None}
 use Rattle.std.specs.List.{AllZip}
 use Rattle.bufr_tables.specs.declared.element.Element.{Element}
-use Rattle.bufr_tables.specs.declared.file.Column.{Column}
-use Rattle.bufr_tables.specs.declared.file.TableFault.{TableFault}
-use Rattle.bufr_tables.specs.declared.file.TableFault.TheVariants.{NoColumn, NotCsv, BadRow}
-use Rattle.bufr_tables.specs.declared.file.TableFault.TheVariants.{Conflict, SplitSequence}
+use Rattle.bufr_tables.specs.declared.table_faults.Column.{Column}
+use Rattle.bufr_tables.specs.declared.table_faults.TableFault.{TableFault}
+use Rattle.bufr_tables.specs.declared.table_faults.TableFault.TheVariants.{NoColumn, NotCsv, BadRow}
+use Rattle.bufr_tables.specs.declared.table_faults.TableFault.TheVariants.{Conflict, SplitSequence}
 use Rattle.bufr_tables.specs.Entries.{Rising}
 use Rattle.bufr_tables.specs.Fields.{Record, used_fields}
 use Rattle.bufr_tables.specs.Rows.{element_row, member_row}

@@ -7,10 +7,10 @@ use Rattle.std.specs.Cmp.Lexicographic.{pointwise}
 use Rattle.csv.specs.Reading.{records, default_config, strip_bom}
 use Rattle.bufr_tables.specs.Answers.{◌>>=◌}
 use Rattle.bufr_tables.specs.declared.element.Element.{Element}
-use Rattle.bufr_tables.specs.declared.file.Column.{Column}
-use Rattle.bufr_tables.specs.declared.file.Column.TheVariants as columns
-use Rattle.bufr_tables.specs.declared.file.TableFault.{TableFault}
-use Rattle.bufr_tables.specs.declared.file.TableFault.TheVariants.{NoColumn, NotCsv, BadRow}
+use Rattle.bufr_tables.specs.declared.table_faults.Column.{Column}
+use Rattle.bufr_tables.specs.declared.table_faults.Column.TheVariants as columns
+use Rattle.bufr_tables.specs.declared.table_faults.TableFault.{TableFault}
+use Rattle.bufr_tables.specs.declared.table_faults.TableFault.TheVariants.{NoColumn, NotCsv, BadRow}
 use Rattle.bufr_tables.specs.Fields.{used_fields}
 use Rattle.bufr_tables.specs.Rows.{element_row, member_row, with_element, with_member, no_sequences}
 use Rattle.bufr_tables.specs.Rows.{all_sequences}

@@ -13,7 +13,7 @@ ghost use Rattle.bufr_tables.specs.TableFiles.{TakesHeader};
 use crate::csv_records::Records;
 use crate::failure::Failure;
 use crate::fields::{cell, same_fields, used_fields};
-use crate::file::{Column, TableFault};
+use crate::table_faults::{Column, TableFault};
 use csv::ByteRecord;
 use std::alloc::{AllocError, Global};
 

@@ -2,7 +2,7 @@
 
 ghost use Rattle.std.specs.Prelude.{◌≡◌, ◌↔◌, ℕ, List, Some, Ok, Err};
 ghost use Rattle.bufr_tables.specs.declared.element.Element.{Element};
-ghost use Rattle.bufr_tables.specs.declared.file.TableFault.{TableFault};
+ghost use Rattle.bufr_tables.specs.declared.table_faults.TableFault.{TableFault};
 ghost use Rattle.bufr_tables.specs.Descriptors.{IsDescriptor, of_text, six_digits};
 ghost use Rattle.bufr_tables.specs.Sheets.{AreElementRows, AreSequenceRows, IsFirstElementFault};
 ghost use Rattle.bufr_tables.specs.Sheets.{IsFirstSequenceFault};

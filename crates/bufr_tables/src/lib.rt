@@ -7,7 +7,6 @@ mod element;
 mod examples;
 mod failure;
 mod fields;
-mod file;
 mod fxy;
 mod items;
 pub mod laws;
@@ -16,16 +15,17 @@ mod rows;
 mod sequence_rows;
 mod table_b;
 mod table_d;
+mod table_faults;
 mod tables;
 
 pub use element::{Element, Kind};
 pub use failure::Failure;
-pub use file::{Column, TableFault};
 pub use fxy::{Fxy, GREATEST_F, GREATEST_X, GREATEST_Y};
 pub use items::Items;
 pub use std::alloc::AllocError as OutOfMemory;
 pub use table_b::TableB;
 pub use table_d::TableD;
+pub use table_faults::{Column, TableFault};
 pub use tables::Tables;
 
 #[cfg(test)]

@@ -10,10 +10,10 @@ ghost use Rattle.bufr_tables.specs.Rows.{all_sequences};
 ghost use Rattle.bufr_tables.specs.TableFiles.{joined};
 
 use crate::failure::Failure;
-use crate::file::TableFault;
 use crate::fxy::Fxy;
 use crate::items::Items;
 use crate::rows::member_row;
+use crate::table_faults::TableFault;
 use std::alloc::{AllocError, Global};
 use std::collections::BTreeMap;
 use std::marker::Model;

@@ -1,6 +1,6 @@
 -- What an engine over a stream answers at each of its ends: the last step to the contracts of `run_show` and
 -- `run_check`.
-use Rattle.std.proofs.Common.{◌≡◌, ℕ, ◌*◌, ◌≤◌, false, Option, Some, None, List, [], ◌++◌, length, take, drop, Result, Ok, Err, refl, sym, subst, arith, IfSome}
+use Rattle.std.proofs.Common.{◌≡◌, ℕ, ◌*◌, ◌≤◌, false, Option, Some, None, List, [], ◌++◌, length, drop, Result, Ok, Err, refl, sym, subst, arith, IfSome}
 use Rattle.bufr_bits.specs.Devices.{Reading, Writing, FailedRead}
 use Rattle.bufr_tables.specs.Entries.{Entries}
 use Rattle.bufr_frame.specs.declared.frames.Found.{Found}
@@ -14,12 +14,14 @@ use Rattle.bufr_engines.specs.declared.fault.Tally.{Tally}
 use Rattle.bufr_engines.specs.declared.fault.ToolFault.{ToolFault}
 use Rattle.bufr_engines.specs.declared.fault.ToolFault.TheVariants as faults
 use Rattle.bufr_tool.specs.declared.printing.Printing.{Printing}
-use Rattle.bufr_engines.specs.Engines.{IsFresh, WasReadOut, HasGiven, AreAllOf, WritesAll, FailsAfter}
+use Rattle.bufr_engines.specs.Engines.{IsFresh, WasReadOut, HasGiven, AreAllOf, FailsAfter}
 use Rattle.bufr_engines.specs.Inputs.{GoesOn}
 use Rattle.bufr_tool.specs.Output.{frames_text, stream_text, last_text, tally_of}
+use Rattle.bufr_tool.specs.Lines.{WritesLines}
 use Rattle.bufr_tool.specs.StreamEngines.{frames_by, text_by, Prints, PrintsFrames, HasPrintedSure, PrintsEnd}
 use Rattle.bufr_engines.specs.ReadingLaws.{HasGiven_none}
-use Rattle.bufr_engines.specs.WritingLaws.{writes_none, fails_longer}
+use Rattle.bufr_engines.specs.WritingLaws.{fails_longer}
+use Rattle.bufr_tool.proofs.LineFacts.{lines_none}
 use Rattle.bufr_tool.proofs.PrintingFacts.{no_counts, printed_none, fails_further}
 
 -- between two reads: these octets were given, and what is sure of them was printed
@@ -30,7 +32,8 @@ pub record Between (printing : Printing) (tables : Entries) (old now : Reading) 
   pub short : length read ≤ 65536 * count
 
 -- before the first
-pub between_first : (printing : Printing) (tables : Entries) (reader : Reading) (writer : Writing) (framer : Framing) → IsFresh reader → writer.failed ≡ false → Stands framer [] 0
+pub between_first : (printing : Printing) (tables : Entries) (reader : Reading) (writer : Writing)
+    (framer : Framing) → IsFresh reader → writer.failed ≡ false → Stands framer [] 0
     → Between printing tables reader reader writer writer framer no_counts 0
 between_first printing tables reader writer framer fresh works stands = record {
   read = [];
@@ -39,27 +42,33 @@ between_first printing tables reader writer framer fresh works stands = record {
   short = omega arith;
 }
 
-given_kept : (old mid new : Option (List ℕ)) (read : List ℕ) → IfSome old (λ all. (rest : List ℕ) × (all ≡ read ++ rest) × (mid ≡ Some rest))
-    → IfSome mid (λ octets. new ≡ Some octets) → IfSome old (λ all. (rest : List ℕ) × (all ≡ read ++ rest) × (new ≡ Some rest))
+-- a read that took nothing leaves what was given as it was
+given_kept : (old mid new : Option (List ℕ)) (read : List ℕ)
+    → IfSome old (λ all. (rest : List ℕ) × (all ≡ read ++ rest) × (mid ≡ Some rest))
+    → IfSome mid (λ octets. new ≡ Some octets)
+    → IfSome old (λ all. (rest : List ℕ) × (all ≡ read ++ rest) × (new ≡ Some rest))
 given_kept None mid new read so_far kept = tt
 given_kept (Some all) mid new read so_far kept = (so_far.0, so_far.1, (let h = rw so_far.2 at kept in h))
 
 -- a read failed
-pub prints_failed : (printing : Printing) (tables : Entries) (reads : ℕ) (old mid new : Reading) (first now : Writing) (framer : Framing) (counts : Counts) (count : ℕ)
+pub prints_failed : (printing : Printing) (tables : Entries) (reads : ℕ) (old mid new : Reading)
+    (first now : Writing) (framer : Framing) (counts : Counts) (count : ℕ)
     → Between printing tables old mid first now framer counts count → FailedRead mid new
     → Prints printing tables reads old new first now (Err (faults.ReadFailed (Number 1)))
 prints_failed printing tables reads old mid new first now framer counts count b f =
     (refl, f.failed, b.read, given_kept old.left mid.left new.left b.read b.goes_on.so_far f.left, b.printed.printed.text)
 
 -- all reads answered octets
-pub prints_endless : (printing : Printing) (tables : Entries) (reads : ℕ) (old new : Reading) (first now : Writing) (framer : Framing) (counts : Counts)
+pub prints_endless : (printing : Printing) (tables : Entries) (reads : ℕ) (old new : Reading)
+    (first now : Writing) (framer : Framing) (counts : Counts)
     → Between printing tables old new first now framer counts reads
     → Prints printing tables reads old new first now (Err (faults.EndlessInput (Number 1)))
 prints_endless printing tables reads old new first now framer counts b =
     (refl, record { reads = b.goes_on.reads; works = b.goes_on.works; met_end = b.goes_on.met_end }, b.read, b.goes_on.so_far, b.printed.printed.text)
 
 -- a front of what is printed of sure frames is one of what is printed of the whole stream
-front_of_all : (printing : Printing) (tables : Entries) (left now : Option (List ℕ)) (read : List ℕ) (first last : Writing) (written : ℕ)
+front_of_all : (printing : Printing) (tables : Entries) (left now : Option (List ℕ)) (read : List ℕ)
+    (first last : Writing) (written : ℕ)
     → IfSome left (λ all. (rest : List ℕ) × (all ≡ read ++ rest) × (now ≡ Some rest))
     → FailsAfter written first last (frames_text printing tables (sure read))
     → IfSome left (λ stream. FailsAfter written first last (stream_text printing tables stream))
@@ -74,7 +83,8 @@ front_of_all printing tables (Some all) now read first last written given f =
     (fails_longer first last _ (last_text printing (tally_of printing tables (read ++ rest))) written longer)
 
 -- printing stopped within a piece
-pub prints_part : (printing : Printing) (tables : Entries) (reads : ℕ) (old new : Reading) (first now : Writing) (counts : Counts) (read : List ℕ) (count : ℕ) (e : ToolFault)
+pub prints_part : (printing : Printing) (tables : Entries) (reads : ℕ) (old new : Reading)
+    (first now : Writing) (counts : Counts) (read : List ℕ) (count : ℕ) (e : ToolFault)
     → GoesOn old new read count → PrintsFrames printing tables (sure read) counts first now (Err e)
     → Prints printing tables reads old new first now (Err e)
 prints_part printing tables reads old new first now counts read count (faults.WriteFailed written) g p = (
@@ -85,7 +95,7 @@ prints_part printing tables reads old new first now counts read count (faults.Wr
   front_of_all printing tables old.left new.left read first now written g.so_far p,
 )
 prints_part printing tables reads old new first now counts read count faults.OutOfMemory g p =
-    (g.works, read, g.so_far, p.0, subst (λ b. WritesAll first now (frames_text printing tables (take p.0 (frames_by b read)))) (sym g.met_end) p.1)
+    (g.works, read, g.so_far, subst (λ b. WritesLines first now (frames_text printing tables (frames_by b read))) (sym g.met_end) p)
 prints_part printing tables reads old new first now counts read count (faults.ReadFailed source) g p = absurd p
 prints_part printing tables reads old new first now counts read count (faults.EndlessInput source) g p = absurd p
 prints_part printing tables reads old new first now counts read count (faults.Table source fault) g p = absurd p
@@ -94,13 +104,15 @@ prints_part printing tables reads old new first now counts read count (faults.En
 prints_part printing tables reads old new first now counts read count (faults.NotAnArchive input place) g p = absurd p
 
 -- a text of all octets is one of those that were read
-of_all : (left : Option (List ℕ)) (read : List ℕ) (P : List ℕ → Type 0) → IfSome left (λ all. all ≡ read) → P read → IfSome left P
+of_all : (left : Option (List ℕ)) (read : List ℕ) (P : List ℕ → Type 0)
+    → IfSome left (λ all. all ≡ read) → P read → IfSome left P
 of_all None read P same p = tt
 of_all (Some all) read P same p = subst P (sym same) p
 
 -- the end was read
-pub prints_whole : (printing : Printing) (tables : Entries) (reads : ℕ) (old new : Reading) (first now : Writing) (read : List ℕ) (r : Result Tally ToolFault)
-    → WasReadOut new → AreAllOf old read → HasGiven old new read → PrintsEnd printing tables read first now r
+pub prints_whole : (printing : Printing) (tables : Entries) (reads : ℕ) (old new : Reading)
+    (first now : Writing) (read : List ℕ) (r : Result Tally ToolFault) → WasReadOut new
+    → AreAllOf old read → HasGiven old new read → PrintsEnd printing tables read first now r
     → Prints printing tables reads old new first now r
 prints_whole printing tables reads old new first now read (Ok tally) out all given p = (out, read, all, p.0, p.1)
 prints_whole printing tables reads old new first now read (Err (faults.WriteFailed written)) out all given p = (
@@ -111,7 +123,7 @@ prints_whole printing tables reads old new first now read (Err (faults.WriteFail
   of_all old.left read (λ stream. FailsAfter written first now (stream_text printing tables stream)) all p,
 )
 prints_whole printing tables reads old new first now read (Err faults.OutOfMemory) out all given p =
-    (out.works, read, given, p.0, subst (λ b. WritesAll first now (frames_text printing tables (take p.0 (frames_by b read)))) (sym out.met_end) p.1)
+    (out.works, read, given, subst (λ b. WritesLines first now (frames_text printing tables (frames_by b read))) (sym out.met_end) p)
 prints_whole printing tables reads old new first now read (Err (faults.ReadFailed source)) out all given p = absurd p
 prints_whole printing tables reads old new first now read (Err (faults.EndlessInput source)) out all given p = absurd p
 prints_whole printing tables reads old new first now read (Err (faults.Table source fault)) out all given p = absurd p
@@ -120,6 +132,7 @@ prints_whole printing tables reads old new first now read (Err (faults.Encode nu
 prints_whole printing tables reads old new first now read (Err (faults.NotAnArchive input place)) out all given p = absurd p
 
 -- nothing was read
-pub prints_nothing : (printing : Printing) (tables : Entries) (reads : ℕ) (reader : Reading) (writer : Writing) → IsFresh reader → writer.failed ≡ false
+pub prints_nothing : (printing : Printing) (tables : Entries) (reads : ℕ) (reader : Reading)
+    (writer : Writing) → IsFresh reader → writer.failed ≡ false
     → Prints printing tables reads reader reader writer writer (Err faults.OutOfMemory)
-prints_nothing printing tables reads reader writer fresh works = (fresh.failed, [], HasGiven_none reader, 0, writes_none writer works)
+prints_nothing printing tables reads reader writer fresh works = (fresh.failed, [], HasGiven_none reader, lines_none writer _ works)

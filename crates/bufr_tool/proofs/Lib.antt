@@ -1,7 +1,10 @@
+-- What the contracts of the engines and of the command line are proved from.
 mod TextFacts
 mod FrameBounds
-mod PrintingFacts
+mod LineFacts
 mod ListingFacts
+mod PartFacts
+mod PrintingFacts
 mod StreamFacts
 mod EngineFacts
 mod EncodingFacts

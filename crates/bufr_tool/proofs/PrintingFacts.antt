@@ -4,7 +4,6 @@ use Rattle.std.proofs.Common.{◌≡◌, ℕ, ◌+◌, ◌<◌, ◌≤◌, false
 use Rattle.std.specs.List.{sum_by, slice_index_or}
 use Rattle.std.proofs.lemmas.List.{append-nil, drop_more, take_more}
 use Rattle.std.proofs.lemmas.List.Sums.{sum_by_push, sum_by-le}
-use Rattle.std.proofs.Math.Seq.{take-append_seam}
 use Rattle.std.proofs.lemmas.Grind.{flat_map-append}
 use Rattle.bufr_bits.specs.Devices.{Writing}
 use Rattle.bufr_tables.specs.Entries.{Entries}
@@ -19,28 +18,35 @@ use Rattle.bufr_tool.specs.declared.printing.Printing.{Printing}
 use Rattle.bufr_engines.specs.Engines.{WritesAll, FailsAfter}
 use Rattle.bufr_tool.specs.Output.{frame_text, frame_refused, refused_as, frames_text}
 use Rattle.bufr_tool.specs.StreamEngines.{PrintsFrame, HasPrinted, PrintsFrames}
+use Rattle.bufr_tool.proofs.LineFacts.{frames_whole, lines_of, lines_longer, lines_more}
 use Rattle.bufr_engines.specs.WritingLaws.{writes_none, writes_more, fails_more, fails_longer}
 
--- the text of frames and one more, and of more frames
+-- the text of frames and one more
 pub text_more : (printing : Printing) (tables : Entries) (frames : List Found) (frame : Found)
-    → frames_text printing tables (frames ++ frame ∷ []) ≡ frames_text printing tables frames ++ frame_text printing tables frame
+    → frames_text printing tables (frames ++ frame ∷ [])
+    ≡ frames_text printing tables frames ++ frame_text printing tables frame
 text_more printing tables frames frame =
     flat_map-append (frame_text printing tables) frames (frame ∷ [])
     ∙ ap (λ t. frames_text printing tables frames ++ t) (append-nil (frame_text printing tables frame))
 
+-- the text of frames and of more frames
 pub text_append : (printing : Printing) (tables : Entries) (frames more : List Found)
-    → frames_text printing tables (frames ++ more) ≡ frames_text printing tables frames ++ frames_text printing tables more
+    → frames_text printing tables (frames ++ more)
+    ≡ frames_text printing tables frames ++ frames_text printing tables more
 text_append printing tables frames more = flat_map-append (frame_text printing tables) frames more
 
 -- a sum over frames and one more
-sum_more : (f : Found → ℕ) (frames : List Found) (frame : Found) → sum_by f (frames ++ frame ∷ []) ≡ sum_by f frames + f frame
+sum_more : (f : Found → ℕ) (frames : List Found) (frame : Found)
+    → sum_by f (frames ++ frame ∷ []) ≡ sum_by f frames + f frame
 sum_more f frames frame = sum_by_push f frames frame
 
 -- what counts are before the first frame
 abbrev pub no_counts : Counts
 no_counts = record { frames = 0; refused = 0; octets = 0; written = 0 }
 
-pub printed_none : (printing : Printing) (tables : Entries) (first : Writing) → first.failed ≡ false → HasPrinted printing tables first first no_counts []
+-- before the first frame none was printed
+pub printed_none : (printing : Printing) (tables : Entries) (first : Writing) → first.failed ≡ false
+    → HasPrinted printing tables first first no_counts []
 printed_none printing tables first works = record {
   text = writes_none first works;
   frames_are = refl;
@@ -51,8 +57,10 @@ printed_none printing tables first works = record {
 }
 
 -- one frame more was printed
-pub printed_more : (printing : Printing) (tables : Entries) (first mid now : Writing) (counts counts' : Counts) (frames : List Found) (frame : Found) (done : Unit {0})
-    → HasPrinted printing tables first mid counts frames → PrintsFrame printing tables frame counts counts' mid now (Ok done)
+pub printed_more : (printing : Printing) (tables : Entries) (first mid now : Writing)
+    (counts counts' : Counts) (frames : List Found) (frame : Found) (done : Unit {0})
+    → HasPrinted printing tables first mid counts frames
+    → PrintsFrame printing tables frame counts counts' mid now (Ok done)
     → HasPrinted printing tables first now counts' (frames ++ frame ∷ [])
 printed_more printing tables first mid now counts counts' frames frame done h p =
     let e = p.1 in
@@ -68,8 +76,10 @@ printed_more printing tables first mid now counts counts' frames frame done h p 
     }
 
 -- the writer failed within the next frame: a front of the text of all
-pub printed_fails : (printing : Printing) (tables : Entries) (first mid now : Writing) (counts counts' : Counts) (frames : List Found) (frame : Found) (written : ℕ)
-    → HasPrinted printing tables first mid counts frames → PrintsFrame printing tables frame counts counts' mid now (Err (faults.WriteFailed written))
+pub printed_fails : (printing : Printing) (tables : Entries) (first mid now : Writing)
+    (counts counts' : Counts) (frames : List Found) (frame : Found) (written : ℕ)
+    → HasPrinted printing tables first mid counts frames
+    → PrintsFrame printing tables frame counts counts' mid now (Err (faults.WriteFailed written))
     → FailsAfter written first now (frames_text printing tables (frames ++ frame ∷ []))
 printed_fails printing tables first mid now counts counts' frames frame written h p =
     let at : written ≡ length (frames_text printing tables frames) + p.0 = p.1 ∙ ap (λ n. n + p.0) h.written_are in
@@ -77,13 +87,16 @@ printed_fails printing tables first mid now counts counts' frames frame written 
     (subst (FailsAfter (length (frames_text printing tables frames) + p.0) first now) (sym (text_more printing tables frames frame)) (fails_more first mid now _ _ p.0 h.text p.2))
 
 -- a front of the text of some frames is one of the text of more
-pub fails_further : (printing : Printing) (tables : Entries) (first now : Writing) (frames more : List Found) (written : ℕ)
-    → FailsAfter written first now (frames_text printing tables frames) → FailsAfter written first now (frames_text printing tables (frames ++ more))
+pub fails_further : (printing : Printing) (tables : Entries) (first now : Writing)
+    (frames more : List Found) (written : ℕ)
+    → FailsAfter written first now (frames_text printing tables frames)
+    → FailsAfter written first now (frames_text printing tables (frames ++ more))
 fails_further printing tables first now frames more written h =
     subst (FailsAfter written first now) (sym (text_append printing tables frames more)) (fails_longer first now _ _ written h)
 
 -- the sum of how many are refused is at most how many there are
-refused_few : (f : Found → ℕ) (frames : List Found) → ((x : Found) → f x ≤ 1) → sum_by f frames ≤ length frames
+refused_few : (f : Found → ℕ) (frames : List Found) → ((x : Found) → f x ≤ 1)
+    → sum_by f frames ≤ length frames
 refused_few f frames most = omega (arith, sum_by-le f 1 frames (λ k d lt. most (slice_index_or frames k d)))
 
 -- how many are refused of a frame is at most one
@@ -91,19 +104,23 @@ refused_one : (tables : Entries) (frame : Found) → frame_refused tables frame 
 refused_one tables frame =
     elim (message_of tables frame.bytes) as (λ (r : Result Decoded Refused). refused_as r ≤ 1) [ Ok found ↦ omega arith | Err why ↦ omega arith ]
 
-pub refused_at_most : (printing : Printing) (tables : Entries) (first now : Writing) (counts : Counts) (frames : List Found)
-    → HasPrinted printing tables first now counts frames → counts.refused ≤ counts.frames
+-- and so of the frames that were printed
+pub refused_at_most : (printing : Printing) (tables : Entries) (first now : Writing)
+    (counts : Counts) (frames : List Found) → HasPrinted printing tables first now counts frames
+    → counts.refused ≤ counts.frames
 refused_at_most printing tables first now counts frames h =
     let a = h.refused_are in let b = h.frames_are in
     omega (arith, refused_few (frame_refused tables) frames (refused_one tables))
 
 -- an error that is passed up as it is
-pub passed : {A F : Type 0} (P : Result A F → Type 0) (r : Result A F) (e : F) → IsErrAnd r (λ y. y ≡ e) → P (Err e) → P r
+pub passed : {A F : Type 0} (P : Result A F → Type 0) (r : Result A F) (e : F)
+    → IsErrAnd r (λ y. y ≡ e) → P (Err e) → P r
 passed P (Ok x) e is p = absurd is
 passed P (Err y) e is p = subst (λ z. P (Err z)) (sym is) p
 
 -- what printing answers that stopped at a frame, of all frames that there are
-pub stopped : (printing : Printing) (tables : Entries) (first mid now : Writing) (counts counts' last : Counts) (frames more all : List Found) (frame : Found) (e : ToolFault)
+pub stopped : (printing : Printing) (tables : Entries) (first mid now : Writing)
+    (counts counts' last : Counts) (frames more all : List Found) (frame : Found) (e : ToolFault)
     → all ≡ (frames ++ frame ∷ []) ++ more → HasPrinted printing tables first mid counts frames
     → PrintsFrame printing tables frame counts counts' mid now (Err e)
     → PrintsFrames printing tables all last first now (Err e)
@@ -111,12 +128,12 @@ stopped printing tables first mid now counts counts' last frames more all frame 
     subst (λ (fs : List Found). FailsAfter written first now (frames_text printing tables fs)) (sym is)
     (fails_further printing tables first now (frames ++ frame ∷ []) more written (printed_fails printing tables first mid now counts counts' frames frame written h p))
 stopped printing tables first mid now counts counts' last frames more all frame faults.OutOfMemory is h p =
-    let same : take (length frames) all ≡ frames =
-    ap (take (length frames)) (is ∙ append_assoc frames (frame ∷ []) more) ∙ take-append_seam frames (frame ∷ [] ++ more) in (
-      length frames,
-      subst (λ (fs : List Found). WritesAll first now (frames_text printing tables fs)) (sym same)
-          (subst (λ (w : Writing). WritesAll first w (frames_text printing tables frames)) (sym p) h.text),
-    )
+    let behind = frames_text printing tables frames ++ frame_text printing tables frame in
+    let whole : frames_text printing tables all ≡ behind ++ frames_text printing tables more =
+    ap (frames_text printing tables) is ∙ text_append printing tables (frames ++ frame ∷ []) more
+    ∙ ap (λ (t : List ℕ). t ++ frames_text printing tables more) (text_more printing tables frames frame) in
+    lines_longer first now behind (frames_text printing tables more) (frames_text printing tables all) whole
+    (lines_more first mid now (frames_text printing tables frames) (frame_text printing tables frame) (frames_whole printing tables frames) h.text p)
 stopped printing tables first mid now counts counts' last frames more all frame (faults.ReadFailed source) is h p = absurd p
 stopped printing tables first mid now counts counts' last frames more all frame (faults.EndlessInput source) is h p = absurd p
 stopped printing tables first mid now counts counts' last frames more all frame (faults.Table source fault) is h p = absurd p
@@ -124,16 +141,18 @@ stopped printing tables first mid now counts counts' last frames more all frame 
 stopped printing tables first mid now counts counts' last frames more all frame (faults.Encode number why) is h p = absurd p
 stopped printing tables first mid now counts counts' last frames more all frame (faults.NotAnArchive input place) is h p = absurd p
 
--- memory ran out after some of all frames
-pub halted : (printing : Printing) (tables : Entries) (first now : Writing) (counts last : Counts) (frames more all : List Found)
-    → all ≡ frames ++ more → HasPrinted printing tables first now counts frames
+-- memory ran out behind some of all frames
+pub halted : (printing : Printing) (tables : Entries) (first now : Writing) (counts last : Counts)
+    (frames more all : List Found) → all ≡ frames ++ more
+    → HasPrinted printing tables first now counts frames
     → PrintsFrames printing tables all last first now (Err faults.OutOfMemory)
 halted printing tables first now counts last frames more all is h =
-    let same : take (length frames) all ≡ frames = ap (take (length frames)) is ∙ take-append_seam frames more in
-    (length frames, subst (λ (fs : List Found). WritesAll first now (frames_text printing tables fs)) (sym same) h.text)
+    lines_of first now (frames_text printing tables frames) (frames_text printing tables more) (frames_text printing tables all)
+    (ap (frames_text printing tables) is ∙ text_append printing tables frames more) (frames_whole printing tables frames) h.text
 
 -- the frames of a list up to one, that one, and those behind it
-pub parted_at : (frames : List Found) (i : ℕ) (frame : Found) (before : List Found) → i < length frames → frame ≡ get_or frames i frame
+pub parted_at : (frames : List Found) (i : ℕ) (frame : Found) (before : List Found)
+    → i < length frames → frame ≡ get_or frames i frame
     → before ++ frames ≡ ((before ++ take i frames) ++ frame ∷ []) ++ drop (i + 1) frames
 parted_at frames i frame before inside is =
     let here : drop i frames ≡ frame ∷ drop (i + 1) frames = drop_more frames i frame inside ∙ ap (λ (f : Found). f ∷ drop (i + 1) frames) (sym is) in
@@ -142,7 +161,8 @@ parted_at frames i frame before inside is =
     ∙ sym (append_assoc (before ++ take i frames) (frame ∷ []) (drop (i + 1) frames))
 
 -- and with it they are the first of one more
-pub taken_to : (frames : List Found) (i : ℕ) (frame : Found) (before : List Found) → i < length frames → frame ≡ get_or frames i frame
+pub taken_to : (frames : List Found) (i : ℕ) (frame : Found) (before : List Found)
+    → i < length frames → frame ≡ get_or frames i frame
     → (before ++ take i frames) ++ frame ∷ [] ≡ before ++ take (i + 1) frames
 taken_to frames i frame before inside is =
     append_assoc before (take i frames) (frame ∷ [])

@@ -2,7 +2,7 @@
 -- `print_stream`, and so of the contracts of `run_show` and `run_check`.
 use Rattle.std.proofs.Common.{◌≡◌, ℕ, ◌+◌, ◌≤◌, List, [], ◌∷◌, ◌++◌, length, drop, Ok, Err, refl, sym, ap, ◌∙◌, subst, arith, length-append, append_assoc}
 use Rattle.std.proofs.lemmas.List.Sums.{sum_by-append, sum_by_push}
-use Rattle.std.proofs.Math.Seq.{take-length}
+use Rattle.std.proofs.lemmas.List.{append-nil}
 use Rattle.bufr_bits.specs.Devices.{Writing}
 use Rattle.bufr_tables.specs.Entries.{Entries}
 use Rattle.bufr_frame.specs.declared.frames.Found.{Found}
@@ -30,8 +30,10 @@ pub record Amid (printing : Printing) (tables : Entries) (first now : Writing) (
   pub printed : HasPrinted printing tables first now counts frames
 
 -- where a piece begins
-pub amid_first : (printing : Printing) (tables : Entries) (first now : Writing) (framer : Framing) (counts : Counts) (stream piece : List ℕ)
-    → HasPrintedSure printing tables first now framer counts stream → Amid printing tables first now framer counts (stream ++ piece) piece
+pub amid_first : (printing : Printing) (tables : Entries) (first now : Writing) (framer : Framing)
+    (counts : Counts) (stream piece : List ℕ)
+    → HasPrintedSure printing tables first now framer counts stream
+    → Amid printing tables first now framer counts (stream ++ piece) piece
 amid_first printing tables first now framer counts stream piece h = record {
   frames = sure stream;
   taking = taking_first framer stream piece (sure stream) h.handed;
@@ -39,8 +41,8 @@ amid_first printing tables first now framer counts stream piece h = record {
 }
 
 -- the frames that were handed out are the first of the sure frames
-pub amid_front : (framer : Framing) (stream rest : List ℕ) (frames : List Found) → IsTaking framer stream rest frames
-    → (more : List Found) × (sure stream ≡ frames ++ more)
+pub amid_front : (framer : Framing) (stream rest : List ℕ) (frames : List Found)
+    → IsTaking framer stream rest frames → (more : List Found) × (sure stream ≡ frames ++ more)
 amid_front framer stream rest frames t =
     let here = drop (length frames) (sure t.taken) in
     let there = drop (length (sure t.taken)) (sure (t.taken ++ rest)) in (
@@ -51,7 +53,8 @@ amid_front framer stream rest frames t =
     )
 
 -- and so no more than the stream's octets, and have no more octets
-pub amid_few : (framer : Framing) (stream rest : List ℕ) (frames : List Found) → IsTaking framer stream rest frames
+pub amid_few : (framer : Framing) (stream rest : List ℕ) (frames : List Found)
+    → IsTaking framer stream rest frames
     → (length frames ≤ length stream) × (octets_of frames ≤ length stream)
 amid_few framer stream rest frames t =
     let front = amid_front framer stream rest frames t in
@@ -62,9 +65,11 @@ amid_few framer stream rest frames t =
     (omega arith, omega arith)
 
 -- a frame that was handed out can be counted
-pub amid_fits : (printing : Printing) (tables : Entries) (first now : Writing) (before after : Framing) (counts : Counts) (stream rest left : List ℕ) (frame : Found)
+pub amid_fits : (printing : Printing) (tables : Entries) (first now : Writing)
+    (before after : Framing) (counts : Counts) (stream rest left : List ℕ) (frame : Found)
     → (a : Amid printing tables first now before counts stream rest) → IsRestOf rest left
-    → IsNextFrame before (taken_in rest left) frame → StandsAfter before after (taken_in rest left) 1
+    → IsNextFrame before (taken_in rest left) frame
+    → StandsAfter before after (taken_in rest left) 1
     → (counts.frames + 1 ≤ length stream) × (counts.octets + length frame.bytes ≤ length stream)
 amid_fits printing tables first now before after counts stream rest left frame a parted next stands =
     let t = taking_one before after stream rest left a.frames frame a.taking parted next stands in
@@ -78,9 +83,11 @@ amid_fits printing tables first now before after counts stream rest left frame a
     (omega arith, omega arith)
 
 -- a frame more was handed out and printed
-pub amid_more : (printing : Printing) (tables : Entries) (first mid now : Writing) (before after : Framing) (counts counts' : Counts) (stream rest left : List ℕ) (frame : Found) (done : Unit {0})
-    → Amid printing tables first mid before counts stream rest → IsRestOf rest left
-    → IsNextFrame before (taken_in rest left) frame → StandsAfter before after (taken_in rest left) 1
+pub amid_more : (printing : Printing) (tables : Entries) (first mid now : Writing)
+    (before after : Framing) (counts counts' : Counts) (stream rest left : List ℕ) (frame : Found)
+    (done : Unit {0}) → Amid printing tables first mid before counts stream rest
+    → IsRestOf rest left → IsNextFrame before (taken_in rest left) frame
+    → StandsAfter before after (taken_in rest left) 1
     → PrintsFrame printing tables frame counts counts' mid now (Ok done)
     → Amid printing tables first now after counts' stream left
 amid_more printing tables first mid now before after counts counts' stream rest left frame done a parted next stands p = record {
@@ -90,9 +97,10 @@ amid_more printing tables first mid now before after counts counts' stream rest 
 }
 
 -- no frame more is sure: the piece was taken in, and all that is sure was printed
-pub amid_none : (printing : Printing) (tables : Entries) (first now : Writing) (before after : Framing) (counts : Counts) (stream rest : List ℕ)
-    → Amid printing tables first now before counts stream rest → IsNoFrame before rest → StandsAfter before after rest 0
-    → HasPrintedSure printing tables first now after counts stream
+pub amid_none : (printing : Printing) (tables : Entries) (first now : Writing)
+    (before after : Framing) (counts : Counts) (stream rest : List ℕ)
+    → Amid printing tables first now before counts stream rest → IsNoFrame before rest
+    → StandsAfter before after rest 0 → HasPrintedSure printing tables first now after counts stream
 amid_none printing tables first now before after counts stream rest a none stands =
     let both = taking_none before after stream rest a.frames a.taking none stands in
     record {
@@ -101,7 +109,8 @@ amid_none printing tables first now before after counts stream rest a none stand
     }
 
 -- memory ran out between two frames
-pub amid_halted : (printing : Printing) (tables : Entries) (first now : Writing) (framer : Framing) (counts last : Counts) (stream rest : List ℕ)
+pub amid_halted : (printing : Printing) (tables : Entries) (first now : Writing) (framer : Framing)
+    (counts last : Counts) (stream rest : List ℕ)
     → Amid printing tables first now framer counts stream rest
     → PrintsFrames printing tables (sure stream) last first now (Err faults.OutOfMemory)
 amid_halted printing tables first now framer counts last stream rest a =
@@ -109,9 +118,11 @@ amid_halted printing tables first now framer counts last stream rest a =
     halted printing tables first now counts last a.frames front.0 (sure stream) front.1 a.printed
 
 -- printing stopped at the frame that was handed out
-pub amid_stopped : (printing : Printing) (tables : Entries) (first mid now : Writing) (before after : Framing) (counts counts' last : Counts) (stream rest left : List ℕ) (frame : Found) (e : ToolFault)
-    → Amid printing tables first mid before counts stream rest → IsRestOf rest left
-    → IsNextFrame before (taken_in rest left) frame → StandsAfter before after (taken_in rest left) 1
+pub amid_stopped : (printing : Printing) (tables : Entries) (first mid now : Writing)
+    (before after : Framing) (counts counts' last : Counts) (stream rest left : List ℕ)
+    (frame : Found) (e : ToolFault) → Amid printing tables first mid before counts stream rest
+    → IsRestOf rest left → IsNextFrame before (taken_in rest left) frame
+    → StandsAfter before after (taken_in rest left) 1
     → PrintsFrame printing tables frame counts counts' mid now (Err e)
     → PrintsFrames printing tables (sure stream) last first now (Err e)
 amid_stopped printing tables first mid now before after counts counts' last stream rest left frame e a parted next stands p =
@@ -122,9 +133,10 @@ amid_stopped printing tables first mid now before after counts counts' last stre
 -- ---- the end
 
 -- no more frames than octets, and no more octets in them: also behind the sure ones
-pub rest_few : (framer : Framing) (stream : List ℕ) (last : List Found) → HandedOut framer stream (sure stream)
-    → last ≡ drop (length (sure stream)) (cut stream)
-    → (length (sure stream) + length last ≤ length stream) × (octets_of (sure stream) + octets_of last ≤ length stream)
+pub rest_few : (framer : Framing) (stream : List ℕ) (last : List Found)
+    → HandedOut framer stream (sure stream) → last ≡ drop (length (sure stream)) (cut stream)
+    → (length (sure stream) + length last ≤ length stream)
+    × (octets_of (sure stream) + octets_of last ≤ length stream)
 rest_few framer stream last h is =
     let whole = handed_end framer stream (sure stream) last h is in
     let long : length (cut stream) ≡ length (sure stream) + length last = ap length (sym whole) ∙ length-append (sure stream) last in
@@ -134,7 +146,8 @@ rest_few framer stream last h is =
     (omega arith, omega arith)
 
 -- memory ran out before the frames that are left were handed out
-pub rest_halted : (printing : Printing) (tables : Entries) (first now : Writing) (framer : Framing) (counts last : Counts) (stream : List ℕ)
+pub rest_halted : (printing : Printing) (tables : Entries) (first now : Writing) (framer : Framing)
+    (counts last : Counts) (stream : List ℕ)
     → HasPrintedSure printing tables first now framer counts stream
     → PrintsFrames printing tables (cut stream) last first now (Err faults.OutOfMemory)
 rest_halted printing tables first now framer counts last stream h =
@@ -148,23 +161,29 @@ end_text printing tables stream text tally is last =
     ap (λ (t : List ℕ). frames_text printing tables (cut stream) ++ t) (last ∙ ap (last_text printing) is)
 
 -- what is counted at the end
-pub end_tally : (printing : Printing) (tables : Entries) (first now : Writing) (counts : Counts) (fed skipped : ℕ) (stream : List ℕ)
-    → HasEnded printing tables first now counts fed stream → skipped ≡ skipped_by printing fed counts.octets
-    → record { frames = counts.frames; refused = counts.refused; skipped = skipped; reports = 0 } ≡ tally_of printing tables stream
+pub end_tally : (printing : Printing) (tables : Entries) (first now : Writing) (counts : Counts)
+    (fed skipped : ℕ) (stream : List ℕ) → HasEnded printing tables first now counts fed stream
+    → skipped ≡ skipped_by printing fed counts.octets
+    → record { frames = counts.frames; refused = counts.refused; skipped = skipped; reports = 0 }
+    ≡ tally_of printing tables stream
 end_tally printing tables first now counts fed skipped stream h is =
     rw (h.printed.frames_are, h.printed.refused_are, is, h.long, h.printed.octets_are) refl
 
 -- the whole text was written
-pub end_done : (printing : Printing) (tables : Entries) (first mid now : Writing) (counts : Counts) (fed : ℕ) (stream text : List ℕ) (tally : Tally)
-    → HasEnded printing tables first mid counts fed stream → tally ≡ tally_of printing tables stream → text ≡ last_text printing tally
-    → WritesAll mid now text → PrintsEnd printing tables stream first now (Ok tally)
+pub end_done : (printing : Printing) (tables : Entries) (first mid now : Writing) (counts : Counts)
+    (fed : ℕ) (stream text : List ℕ) (tally : Tally)
+    → HasEnded printing tables first mid counts fed stream → tally ≡ tally_of printing tables stream
+    → text ≡ last_text printing tally → WritesAll mid now text
+    → PrintsEnd printing tables stream first now (Ok tally)
 end_done printing tables first mid now counts fed stream text tally h is last w =
     (subst (WritesAll first now) (end_text printing tables stream text tally is last) (writes_more first mid now _ text h.printed.text w), is)
 
 -- the writer failed after a front of the last line
-pub end_fails : (printing : Printing) (tables : Entries) (first mid now : Writing) (counts : Counts) (fed : ℕ) (stream text : List ℕ) (tally : Tally) (e : ToolFault)
-    → HasEnded printing tables first mid counts fed stream → tally ≡ tally_of printing tables stream → text ≡ last_text printing tally
-    → WritesAfter counts.written text mid now (Err e) → PrintsEnd printing tables stream first now (Err e)
+pub end_fails : (printing : Printing) (tables : Entries) (first mid now : Writing) (counts : Counts)
+    (fed : ℕ) (stream text : List ℕ) (tally : Tally) (e : ToolFault)
+    → HasEnded printing tables first mid counts fed stream → tally ≡ tally_of printing tables stream
+    → text ≡ last_text printing tally → WritesAfter counts.written text mid now (Err e)
+    → PrintsEnd printing tables stream first now (Err e)
 end_fails printing tables first mid now counts fed stream text tally (faults.WriteFailed written) h is last w =
     let at : written ≡ length (frames_text printing tables (cut stream)) + w.0 = w.1 ∙ ap (λ n. n + w.0) h.printed.written_are in
     subst (λ n. FailsAfter n first now (stream_text printing tables stream)) (sym at)
@@ -179,14 +198,17 @@ end_fails printing tables first mid now counts fed stream text tally (faults.Enc
 end_fails printing tables first mid now counts fed stream text tally (faults.NotAnArchive input place) h is last w = absurd w
 
 -- memory ran out before the last line
-pub end_halted : (printing : Printing) (tables : Entries) (first now : Writing) (counts : Counts) (stream : List ℕ)
-    → HasPrinted printing tables first now counts (cut stream) → PrintsEnd printing tables stream first now (Err faults.OutOfMemory)
+pub end_halted : (printing : Printing) (tables : Entries) (first now : Writing) (counts : Counts)
+    (stream : List ℕ) → HasPrinted printing tables first now counts (cut stream)
+    → PrintsEnd printing tables stream first now (Err faults.OutOfMemory)
 end_halted printing tables first now counts stream h =
-    (length (cut stream), subst (λ (fs : List Found). WritesAll first now (frames_text printing tables fs)) (sym (take-length (cut stream))) h.text)
+    halted printing tables first now counts counts (cut stream) [] (cut stream) (sym (append-nil (cut stream))) h
 
 -- printing stopped before the last line
-pub end_early : (printing : Printing) (tables : Entries) (first now : Writing) (counts : Counts) (stream : List ℕ) (e : ToolFault)
-    → PrintsFrames printing tables (cut stream) counts first now (Err e) → PrintsEnd printing tables stream first now (Err e)
+pub end_early : (printing : Printing) (tables : Entries) (first now : Writing) (counts : Counts)
+    (stream : List ℕ) (e : ToolFault)
+    → PrintsFrames printing tables (cut stream) counts first now (Err e)
+    → PrintsEnd printing tables stream first now (Err e)
 end_early printing tables first now counts stream (faults.WriteFailed written) p = fails_longer first now _ _ written p
 end_early printing tables first now counts stream faults.OutOfMemory p = p
 end_early printing tables first now counts stream (faults.ReadFailed source) p = absurd p

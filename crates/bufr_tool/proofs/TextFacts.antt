@@ -2,7 +2,9 @@
 -- formatted. The contracts of `message_text` and `text_of_tally` need it.
 use Rattle.std.proofs.Common.{◌≡◌, ℕ, List, ◌∷◌, ◌++◌, append_assoc}
 
-five : (a b c d e f : List ℕ) → a ++ (b ++ (c ++ (d ++ (e ++ f)))) ≡ ((((a ++ b) ++ c) ++ d) ++ e) ++ f
+-- six pieces, however they are joined
+five : (a b c d e f : List ℕ)
+    → a ++ (b ++ (c ++ (d ++ (e ++ f)))) ≡ ((((a ++ b) ++ c) ++ d) ++ e) ++ f
 five a b c d e f = simp append_assoc
 
 -- the line of a frame that spells a message
@@ -19,5 +21,6 @@ tally_joined one frames two refused three skipped end = simp append_assoc
 
 -- the line of `merge`
 pub merged_joined : (one archives two reports end : List ℕ)
-    → one ++ (archives ++ (two ++ (reports ++ end))) ≡ (((one ++ archives) ++ two) ++ reports) ++ end
+    → one ++ (archives ++ (two ++ (reports ++ end)))
+    ≡ (((one ++ archives) ++ two) ++ reports) ++ end
 merged_joined one archives two reports end = simp append_assoc

@@ -1,4 +1,5 @@
 pub mod Output
+pub mod Lines
 pub mod Loads
 pub mod StreamEngines
 pub mod Encoding

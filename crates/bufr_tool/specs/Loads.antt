@@ -1,7 +1,7 @@
 -- What loading the two table files answers.
 use Rattle.std.specs.Prelude.{◌≡◌, ℕ, IfSome, Result, Ok, Err, IsOk}
 use Rattle.bufr_bits.specs.Devices.{Reading}
-use Rattle.bufr_tables.specs.declared.file.TableFault.{TableFault}
+use Rattle.bufr_tables.specs.declared.table_faults.TableFault.{TableFault}
 use Rattle.bufr_tables.specs.Entries.{Entries}
 use Rattle.bufr_tables.specs.TableFiles.{table_b, table_d}
 use Rattle.bufr_engines.specs.declared.fault.Input.{Input}

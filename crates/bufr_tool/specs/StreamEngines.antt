@@ -1,5 +1,5 @@
 -- What the engines over the frames of a stream answer and do.
-use Rattle.std.specs.Prelude.{◌≡◌, ℕ, ◌+◌, ◌*◌, ◌^◌, ◌≤◌, Bool, true, false, List, length, take}
+use Rattle.std.specs.Prelude.{◌≡◌, ℕ, ◌+◌, ◌*◌, ◌^◌, ◌≤◌, Bool, true, false, List, ◌++◌, length}
 use Rattle.std.specs.Prelude.{IfSome, Result, Ok, Err}
 use Rattle.bufr_bits.specs.Devices.{Reading, Writing}
 use Rattle.bufr_tables.specs.Entries.{Entries}
@@ -17,6 +17,7 @@ use Rattle.bufr_engines.specs.Engines.{WasReadOut, HasFailed, IsEndless, HasGive
 use Rattle.bufr_engines.specs.Engines.{FailsAfter}
 use Rattle.bufr_tool.specs.Output.{frame_text, frame_refused, frames_text, refused_of, octets_of}
 use Rattle.bufr_tool.specs.Output.{stream_text, tally_of}
+use Rattle.bufr_tool.specs.Lines.{AreWholeLines, WritesLines}
 
 -- ---- an engine
 
@@ -34,10 +35,10 @@ text_by printing tables false read = frames_text printing tables (sure read)
 -- What `run_show` and `run_check` answer and do, from a reader and a writer that work to what they
 -- leave of them. Without a fault: the whole stream was read, and all that is printed of it was
 -- written. Where a read failed or the input was endless: of the octets that were read the lines of
--- the sure frames were written, and nothing else. Where memory ran out: the lines of a front of the
--- frames that may be handed out by what was read. Where the writer failed: a front, so many octets
--- long, of what may be printed by what was read, which is one of what is printed of the whole
--- stream.
+-- the sure frames were written, and nothing else. Where memory ran out: the first lines, each of
+-- them whole, of what is printed of the frames that may be handed out by what was read, and nothing
+-- else. Where the writer failed: a front, so many octets long, of what may be printed by what was
+-- read, which is one of what is printed of the whole stream.
 abbrev pub Prints : Printing → Entries → ℕ → Reading → Reading → Writing → Writing
     → Result Tally ToolFault → Type 0
 Prints printing tables reads reader reader' writer writer' (Ok tally) =
@@ -57,14 +58,45 @@ Prints printing tables reads reader reader' writer writer' (Err (faults.WriteFai
     (stream_text printing tables stream))
 Prints printing tables reads reader reader' writer writer' (Err faults.OutOfMemory) =
     (reader'.failed ≡ false) × (read : List ℕ) × HasGiven reader reader' read
-    × (count : ℕ) × WritesAll writer writer'
-    (frames_text printing tables (take count (frames_by reader'.met_end read)))
+    × WritesLines writer writer' (frames_text printing tables (frames_by reader'.met_end read))
 Prints printing tables reads reader reader' writer writer' (Err fault) = ⊥
+
+-- ---- text by text
+
+-- a text was written all behind so many octets before it, and so many are written now; or the
+-- writer failed after a front of it; or memory ran out after some of its lines
+abbrev pub PrintsText : ℕ → List ℕ → Writing → Writing → Result ℕ ToolFault → Type 0
+PrintsText before text writer writer' (Ok now) =
+    WritesAll writer writer' text × (now ≡ before + length text)
+PrintsText before text writer writer' (Err (faults.WriteFailed written)) =
+    (more : ℕ) × (written ≡ before + more) × FailsAfter more writer writer' text
+PrintsText before text writer writer' (Err faults.OutOfMemory) = WritesLines writer writer' text
+PrintsText before text writer writer' (Err fault) = ⊥
+
+-- of a text the first lines were written behind so many octets before it, so that so many are
+-- written now, and what is held is the rest of it: whole lines both
+pub record WritesAllBut (held text : List ℕ) (before now : ℕ) (writer writer' : Writing) : Type 0
+  where
+    pub front : List ℕ
+    pub parted : text ≡ front ++ held
+    pub front_whole : AreWholeLines front
+    pub held_whole : AreWholeLines held
+    pub written : WritesAll writer writer' front
+    pub counted : now ≡ before + length front
+
+-- so it is with lines that were held, of which fewer are held now; or the writer failed after a
+-- front of them
+abbrev pub WritesHeld : List ℕ → List ℕ → ℕ → ℕ → Writing → Writing → Result (Unit {0}) ToolFault
+    → Type 0
+WritesHeld held held' before now writer writer' (Ok done) =
+    WritesAllBut held' held before now writer writer'
+WritesHeld held held' before now writer writer' (Err fault) =
+    PrintsText before held writer writer' (Err fault)
 
 -- ---- frame by frame
 
--- a frame was printed and counted, or the writer failed after a front of its text; where memory ran
--- out nothing of it was written
+-- a frame was printed and counted, or the writer failed after a front of its text, or memory ran
+-- out after some of its lines
 abbrev pub PrintsFrame : Printing → Entries → Found → Counts → Counts → Writing → Writing
     → Result (Unit {0}) ToolFault → Type 0
 PrintsFrame printing tables frame counts counts' writer writer' (Ok done) =
@@ -75,13 +107,9 @@ PrintsFrame printing tables frame counts counts' writer writer' (Ok done) =
       octets = counts.octets + length frame.bytes;
       written = counts.written + length (frame_text printing tables frame);
     })
-    × (length (frame_text printing tables frame) ≤ 2 ^ 64)
-PrintsFrame printing tables frame counts counts' writer writer' (Err (faults.WriteFailed written)) =
-    (more : ℕ) × (written ≡ counts.written + more)
-    × FailsAfter more writer writer' (frame_text printing tables frame)
-PrintsFrame printing tables frame counts counts' writer writer' (Err faults.OutOfMemory) = writer'
-    ≡ writer
-PrintsFrame printing tables frame counts counts' writer writer' (Err fault) = ⊥
+    × (length (frame_text printing tables frame) ≤ 2 ^ 80)
+PrintsFrame printing tables frame counts counts' writer writer' (Err fault) =
+    PrintsText counts.written (frame_text printing tables frame) writer writer' (Err fault)
 
 -- these frames were printed since the first of the two states of the writer, and counted
 pub record HasPrinted (printing : Printing) (tables : Entries) (first now : Writing)
@@ -91,10 +119,10 @@ pub record HasPrinted (printing : Printing) (tables : Entries) (first now : Writ
   pub refused_are : counts.refused ≡ refused_of tables frames
   pub octets_are : counts.octets ≡ octets_of frames
   pub written_are : counts.written ≡ length (frames_text printing tables frames)
-  pub short : counts.written ≤ 2 ^ 64 * counts.frames
+  pub short : counts.written ≤ 2 ^ 80 * counts.frames
 
 -- so it is with these frames; or the writer failed after a front of their text; or memory ran out
--- after some of them
+-- after some of their lines
 abbrev pub PrintsFrames : Printing → Entries → List Found → Counts → Writing → Writing
     → Result (Unit {0}) ToolFault → Type 0
 PrintsFrames printing tables frames counts first now (Ok done) =
@@ -102,7 +130,7 @@ PrintsFrames printing tables frames counts first now (Ok done) =
 PrintsFrames printing tables frames counts first now (Err (faults.WriteFailed written)) =
     FailsAfter written first now (frames_text printing tables frames)
 PrintsFrames printing tables frames counts first now (Err faults.OutOfMemory) =
-    (count : ℕ) × WritesAll first now (frames_text printing tables (take count frames))
+    WritesLines first now (frames_text printing tables frames)
 PrintsFrames printing tables frames counts first now (Err fault) = ⊥
 
 -- of this stream all sure frames were handed out and printed
@@ -125,7 +153,8 @@ pub record HasEnded (printing : Printing) (tables : Entries) (first now : Writin
   pub printed : HasPrinted printing tables first now counts (cut stream)
   pub long : fed ≡ length stream
 
--- and what stands after them was written, or a front of all that is printed of the stream
+-- and what stands after them was written, or a front of all that is printed of the stream; where
+-- memory ran out, some lines of its frames
 abbrev pub PrintsEnd : Printing → Entries → List ℕ → Writing → Writing → Result Tally ToolFault
     → Type 0
 PrintsEnd printing tables stream first now (Ok tally) =
@@ -134,5 +163,5 @@ PrintsEnd printing tables stream first now (Ok tally) =
 PrintsEnd printing tables stream first now (Err (faults.WriteFailed written)) =
     FailsAfter written first now (stream_text printing tables stream)
 PrintsEnd printing tables stream first now (Err faults.OutOfMemory) =
-    (count : ℕ) × WritesAll first now (frames_text printing tables (take count (cut stream)))
+    WritesLines first now (frames_text printing tables (cut stream))
 PrintsEnd printing tables stream first now (Err fault) = ⊥

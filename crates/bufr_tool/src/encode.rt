@@ -13,9 +13,9 @@ use bufr_tables::{Failure, Tables};
 use std::alloc::Global;
 
 /// Writes the octets of each message that a reader's text lists, one behind another, each
-/// compressed where that is asked. The whole listing is read and all its messages are encoded before
-/// the first octet is written. The first fault of the listing is told before that of a message. The
-/// tally counts the messages.
+/// compressed where that is asked. The whole listing is read and all its messages are encoded
+/// before the first octet is written. The first fault of the listing is told before that of a
+/// message. The tally counts the messages.
 pub fn run_encode<S: Source, W: Sink>(
     alloc: Global,
     reads: u64,

@@ -11,9 +11,9 @@ ghost use Rattle.bufr_tool.specs.StreamEngines.{HasEnded, HasPrinted, HasPrinted
 ghost use Rattle.bufr_tool.specs.StreamEngines.{PrintsEnd, PrintsFrame, PrintsFrames, PrintsPiece};
 
 use crate::counts::Counts;
-use crate::printing::{FrameText, Printing, text_of_frame, text_of_tally};
+use crate::printing::{Printed, Printing, print_judged, text_of_tally};
 use bufr_bits::{Sink, Source};
-use bufr_engines::{Input, Tally, ToolFault, room, write_after, write_out};
+use bufr_engines::{Input, Tally, ToolFault, room, write_out};
 use bufr_frame::{Found, Framer, Taken};
 use bufr_tables::Tables;
 use std::alloc::Global;
@@ -28,19 +28,25 @@ fn print_frame<W: Sink>(
     writer: &mut W,
 ) -> Result<(), ToolFault>
     requires works { (W.writing writer.old).failed ≡ false }
-    requires few { counts.old.frames + 1 < 2 ^ 64 }
+    requires few { counts.old.frames + 1 ≤ 2 ^ 48 }
     requires refused { counts.old.refused ≤ counts.old.frames }
     requires octets { counts.old.octets + length frame.now.bytes < 2 ^ 64 }
-    requires short { counts.old.written ≤ 2 ^ 64 * counts.old.frames }
+    requires short { counts.old.written ≤ 2 ^ 80 * counts.old.frames }
     ensures { PrintsFrame printing tables.now frame.now counts.old counts.new (W.writing writer.old)
         (W.writing writer.new) result }
 {
-    let FrameText { text, refused } = text_of_frame(alloc, printing, tables, frame)?;
-    write_after(writer, counts.written, &text)?;
+    let Printed { written, refused } = print_judged(
+        alloc,
+        printing,
+        tables,
+        frame,
+        counts.written,
+        writer,
+    )?;
     counts.frames += 1;
     counts.refused += refused;
     counts.octets += frame.bytes.as_slice().len() as u64;
-    counts.written += text.len() as u128;
+    counts.written = written;
     Ok(())
 }
 
@@ -55,7 +61,7 @@ fn print_frames<W: Sink>(
 ) -> Result<(), ToolFault>
     requires so_far { (first : Writing) × (before : List FoundFrame)
         × HasPrinted printing tables.now first (W.writing writer.old) counts.old before }
-    requires few { counts.old.frames + length frames.now < 2 ^ 64 }
+    requires few { counts.old.frames + length frames.now ≤ 2 ^ 48 }
     requires short { counts.old.octets + octets_of frames.now < 2 ^ 64 }
     ensures { (first : Writing) (before : List FoundFrame)
         → HasPrinted printing tables.now first (W.writing writer.old) counts.old before
@@ -81,7 +87,7 @@ fn print_piece<W: Sink>(
     requires so_far { (first : Writing) × (stream : List ℕ)
         × HasPrintedSure printing tables.now first
         (W.writing writer.old) framer.old counts.old stream }
-    requires room { framer.old.fed + length piece.now < 2 ^ 64 }
+    requires room { framer.old.fed + length piece.now ≤ 2 ^ 48 }
     ensures { (first : Writing) (stream : List ℕ)
         → HasPrintedSure printing tables.now first
         (W.writing writer.old) framer.old counts.old stream
@@ -108,7 +114,7 @@ fn print_rest<W: Sink>(
     counts: &mut Counts,
     writer: &mut W,
 ) -> Result<(), ToolFault>
-    requires long { framer.old.fed < 2 ^ 64 }
+    requires long { framer.old.fed < 2 ^ 48 }
     requires so_far { (first : Writing) × (stream : List ℕ)
         × HasPrintedSure printing tables.now first
         (W.writing writer.old) framer.old counts.old stream }
@@ -142,7 +148,8 @@ fn print_tally<W: Sink>(
     counts: &Counts,
     writer: &mut W,
 ) -> Result<Tally, ToolFault>
-    requires { (tables : Entries) × (first : Writing) × (stream : List ℕ)
+    requires long { fed < 2 ^ 48 }
+    requires ended { (tables : Entries) × (first : Writing) × (stream : List ℕ)
         × HasEnded printing tables first (W.writing writer.old) counts.now fed stream }
     ensures { (tables : Entries) (first : Writing) (stream : List ℕ)
         → HasEnded printing tables first (W.writing writer.old) counts.now fed stream
@@ -168,7 +175,8 @@ fn print_end<W: Sink>(
     counts: &mut Counts,
     writer: &mut W,
 ) -> Result<Tally, ToolFault>
-    requires { (first : Writing) × (stream : List ℕ)
+    requires long { framer.old.fed < 2 ^ 48 }
+    requires so_far { (first : Writing) × (stream : List ℕ)
         × HasPrintedSure printing tables.now first
         (W.writing writer.old) framer.old counts.old stream }
     ensures { (first : Writing) (stream : List ℕ)

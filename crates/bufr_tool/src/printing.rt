@@ -1,14 +1,17 @@
 //! What is printed of a frame, and after the last.
 
-ghost use Rattle.std.specs.Prelude.{◌≡◌, ◌≤◌, length, IfOk};
+ghost use Rattle.std.specs.Prelude.{◌≡◌, ◌≤◌, ◌<◌, ◌+◌, ◌^◌, false, length, Ok, IfOk};
 ghost use Rattle.bufr_tables.specs.Answers.{result_map};
-ghost use Rattle.bufr_message.specs.Listings.{listing};
 ghost use Rattle.bufr_message.specs.Messages.{message_of};
-ghost use Rattle.bufr_tool.specs.Output.{frame_text, frame_refused, last_text, printed_as};
+ghost use Rattle.bufr_tool.specs.Output.{checked_as, frame_text, frame_refused, last_text};
+ghost use Rattle.bufr_tool.specs.Output.{printed_as};
+ghost use Rattle.bufr_tool.specs.StreamEngines.{PrintsText};
 
-use bufr_engines::Tally;
+use crate::parts::{print_listing, print_text};
+use bufr_bits::Sink;
+use bufr_engines::{Tally, ToolFault};
 use bufr_frame::Found;
-use bufr_message::{Refused, View, listing, view};
+use bufr_message::{Refused, View, view};
 use bufr_tables::{Failure, Tables};
 use std::alloc::{AllocError, Global};
 
@@ -21,10 +24,11 @@ pub enum Printing {
     Checked,
 }
 
-/// What is printed of a frame, and how many messages (0 or 1) are refused in it.
-#[derive(Debug, Drop)]
-pub struct FrameText {
-    pub text: Vec<u8>,
+/// How many octets are written once a frame was printed, and how many messages (0 or 1) are refused
+/// in it.
+#[derive(Clone, Copy, Debug, Drop, PartialEq, Eq)]
+pub struct Printed {
+    pub written: u128,
     pub refused: u64,
 }
 
@@ -35,7 +39,8 @@ fn judge<'a>(
     tables: &Tables,
     octets: &'a [u8],
 ) -> Result<Result<View<'a>, Refused>, AllocError>
-    ensures { IfOk result (λ found. found ≡ message_of tables.now octets.now) }
+    ensures exact { IfOk result (λ found. found ≡ message_of tables.now octets.now) }
+    ensures few { IfOk result (λ found. IfOk found (λ d. length d.message.subsets < 2 ^ 16)) }
 {
     match view(alloc, tables, octets) {
         Ok(found) => Ok(Ok(found)),
@@ -44,50 +49,52 @@ fn judge<'a>(
     }
 }
 
-/// The listing of a message, of which one subset at a time is built.
-fn listing_of(alloc: Global, found: &View<'_>) -> Result<Vec<u8>, AllocError>
-    ensures { IfOk result (λ text. text.items ≡ listing found.now.message) }
+/// The line of `check` of a frame that spells a message. No subset is built for it.
+fn checked_line(alloc: Global, frame: &Found, found: &View<'_>) -> Result<Vec<u8>, AllocError>
+    ensures { IfOk result (λ line. line.items ≡ checked_as frame.now (Ok found.now)) }
 {
-    listing::listings_are_joined_parts();
-    let mut text = listing::heading_of_view(alloc, found)?;
-    for index in 0..found.count() {
-        let lines = listing::subset_of_view(alloc, found, index + 1)?;
-        text.extend_from_slice(&lines)?;
-    }
-    text.extend_from_slice(listing::end_text())?;
-    Ok(text)
+    let place = frame.place;
+    let length = frame.bytes.as_slice().len();
+    let subsets = found.count();
+    let slack = found.slack();
+    let line = format!(in alloc; "{place} {length} ok {subsets} {slack}\n")?;
+    Ok(line.into_bytes())
 }
 
-/// What is printed of a frame that spells a message. For `check` no subset is built.
-fn message_text(
+/// Prints a frame that spells a message behind so many octets, and answers how many are written
+/// then.
+fn print_message<W: Sink>(
     alloc: Global,
     printing: Printing,
     frame: &Found,
     found: &View<'_>,
-) -> Result<Vec<u8>, AllocError>
-    ensures { IfOk result (λ text. text.items ≡ printed_as printing frame.now (Ok found.now)) }
+    before: u128,
+    writer: &mut W,
+) -> Result<u128, ToolFault>
+    requires works { (W.writing writer.old).failed ≡ false }
+    requires few { length found.now.message.subsets < 2 ^ 16 }
+    requires fits { before + 2 ^ 80 ≤ 2 ^ 128 }
+    ensures prints { PrintsText before (printed_as printing frame.now (Ok found.now))
+        (W.writing writer.old) (W.writing writer.new) result }
+    ensures short { IfOk result (λ now. now ≤ before + 2 ^ 80) }
 {
     match printing {
-        Printing::Shown => listing_of(alloc, found),
+        Printing::Shown => print_listing(alloc, found, before, writer),
         Printing::Checked => {
-            let place = frame.place;
-            let length = frame.bytes.as_slice().len();
-            let subsets = found.count();
-            let slack = found.slack();
-            let line = format!(in alloc; "{place} {length} ok {subsets} {slack}\n")?;
-            Ok(line.into_bytes())
+            let line = checked_line(alloc, frame, found)?;
+            print_text(writer, before, &line)
         }
     }
 }
 
-/// What is printed of a frame that spells no message.
-fn refused_text(
+/// The line of a frame that spells no message.
+fn refused_line(
     alloc: Global,
     printing: Printing,
     frame: &Found,
     why: &Refused,
 ) -> Result<Vec<u8>, AllocError>
-    ensures { IfOk result (λ text. text.items ≡ printed_as printing frame.now (Err why.now)) }
+    ensures { IfOk result (λ line. line.items ≡ printed_as printing frame.now (Err why.now)) }
 {
     let place = frame.place;
     let length = frame.bytes.as_slice().len();
@@ -98,24 +105,37 @@ fn refused_text(
     Ok(line.into_bytes())
 }
 
-/// What is printed of a frame.
-pub fn text_of_frame(
+/// Prints a frame behind so many octets.
+pub fn print_judged<W: Sink>(
     alloc: Global,
     printing: Printing,
     tables: &Tables,
     frame: &Found,
-) -> Result<FrameText, AllocError>
-    ensures text { IfOk result (λ t. t.text.items ≡ frame_text printing tables.now frame.now) }
-    ensures refused { IfOk result (λ t. t.refused ≡ frame_refused tables.now frame.now) }
+    before: u128,
+    writer: &mut W,
+) -> Result<Printed, ToolFault>
+    requires works { (W.writing writer.old).failed ≡ false }
+    requires fits { before + 2 ^ 80 ≤ 2 ^ 128 }
+    ensures prints { PrintsText before (frame_text printing tables.now frame.now)
+        (W.writing writer.old) (W.writing writer.new) (result_map (λ p. p.written) result) }
+    ensures short { IfOk result (λ p. p.written ≤ before + 2 ^ 80) }
+    ensures refused { IfOk result (λ p. p.refused ≡ frame_refused tables.now frame.now) }
 {
     match judge(alloc, tables, frame.bytes.as_slice())? {
         Ok(found) => {
-            let text = message_text(alloc, printing, frame, &found)?;
-            Ok(FrameText { text, refused: 0 })
+            let written = print_message(alloc, printing, frame, &found, before, writer)?;
+            Ok(Printed {
+                written,
+                refused: 0,
+            })
         }
         Err(why) => {
-            let text = refused_text(alloc, printing, frame, &why)?;
-            Ok(FrameText { text, refused: 1 })
+            let line = refused_line(alloc, printing, frame, &why)?;
+            let written = print_text(writer, before, &line)?;
+            Ok(Printed {
+                written,
+                refused: 1,
+            })
         }
     }
 }

@@ -4,6 +4,7 @@
 ghost use Rattle.std.specs.Prelude.{Some, None};
 
 mod encoding;
+mod parts;
 mod streams;
 
 use crate::show::run_show;

@@ -1,4 +1,5 @@
-//! Trials of the whole: every growth refused in turn, and failing devices. It has tests only.
+//! Trials of the whole: every growth refused in turn, failing devices and hostile streams. It has
+//! tests only.
 #![tactic(auto)]
 
 #[cfg(test)]

@@ -153,62 +153,35 @@ fn item_and_product_limits(rt: HostRuntime) -> Result<(), Fail> {
 }
 
 #[test]
-fn compressed_refusals_and_texts(rt: HostRuntime) -> Result<(), Fail> {
+fn refused_numbers(rt: HostRuntime) -> Result<(), Fail> {
     let alloc = rt.alloc();
     let code = [(0, 2, 1)];
-    refuses(
-        &rt,
-        alloc,
-        &code,
-        2,
-        &[0x82, 0x80],
-        ReadFault::IncrementRange(1, 1),
-    )?;
-    refuses(
-        &rt,
-        alloc,
-        &code,
-        2,
-        &[0x82, 0x20],
-        ReadFault::IncrementRange(2, 1),
-    )?;
-    refuses(
-        &rt,
-        alloc,
-        &code,
-        5,
-        &[0x82, 0x80],
-        ReadFault::DataEnds(0, 1),
-    )?;
+    let fault = ReadFault::IncrementRange(1, 1);
+    refuses(&rt, alloc, &code, 2, &[0x82, 0x80], fault)?;
+    let fault = ReadFault::IncrementRange(2, 1);
+    refuses(&rt, alloc, &code, 2, &[0x82, 0x20], fault)?;
+    let ends = ReadFault::DataEnds(0, 1);
+    refuses(&rt, alloc, &code, 5, &[0x82, 0x80], ends)
+}
+
+#[test]
+fn refused_texts(rt: HostRuntime) -> Result<(), Fail> {
+    let alloc = rt.alloc();
     let one_octet = [(2, 8, 1), (0, 1, 11)];
     let wide = [0x00, 0x08, 0x00, 0x00, 0x00, 0x00];
-    refuses(
-        &rt,
-        alloc,
-        &one_octet,
-        2,
-        &wide,
-        ReadFault::CharIncrement(1),
-    )?;
-    refuses(
-        &rt,
-        alloc,
-        &one_octet,
-        2,
-        &[0x00, 0x08],
-        ReadFault::CharIncrement(1),
-    )?;
-    refuses(
-        &rt,
-        alloc,
-        &one_octet,
-        2,
-        &[0x00],
-        ReadFault::DataEnds(0, 1),
-    )?;
+    let fault = ReadFault::CharIncrement(1);
+    refuses(&rt, alloc, &one_octet, 2, &wide, fault)?;
+    let fault = ReadFault::CharIncrement(1);
+    refuses(&rt, alloc, &one_octet, 2, &[0x00, 0x08], fault)?;
+    let ends = ReadFault::DataEnds(0, 1);
+    refuses(&rt, alloc, &one_octet, 2, &[0x00], ends)
+}
+
+#[test]
+fn texts_of_increments(rt: HostRuntime) -> Result<(), Fail> {
     let list = [(2, 8, 3), (0, 1, 11)];
     let octets = [0x00, 0x00, 0x00, 0x09, 0x05, 0x0B, 0xFF, 0xFC];
-    let subsets = read(alloc, &list, true, 2, &octets)?;
+    let subsets = read(rt.alloc(), &list, true, 2, &octets)?;
     let texts: [&[u8]; 2] = [b"AB ", &[255, 255, 255]];
     assert_eq!(rt; subsets.len(), 2);
     for (subset, wanted) in subsets.as_slice().iter().zip(texts) {

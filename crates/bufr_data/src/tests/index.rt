@@ -12,6 +12,10 @@ type Descriptors<'a> = &'a [(u8, u8, u8)];
 
 const TEMPERATURE: [(u8, u8, u8); 1] = [(0, 12, 101)];
 
+const STATION: [(u8, u8, u8); 1] = [(3, 1, 1)];
+
+const TWICE: [(u8, u8, u8); 2] = [(1, 1, 2), (0, 12, 101)];
+
 const DELAYED: [(u8, u8, u8); 3] = [(1, 1, 0), (0, 31, 1), (0, 12, 101)];
 
 /// Compares the numbers of one subset of an index, which is built when asked.
@@ -136,6 +140,62 @@ fn refused_as_reading(rt: HostRuntime) -> Result<(), Fail> {
     let columns = [0x82, 0x20];
     let fault = ReadFault::IncrementRange(2, 1);
     refuses(&rt, alloc, &[(0, 2, 1)], true, 2, &columns, fault)
+}
+
+#[test]
+fn plain_subsets_without_counts(rt: HostRuntime) -> Result<(), Fail> {
+    let alloc = rt.alloc();
+    // 7 bits and 10 bits, three times: 94 and 578, 3 and 1000, 127 and 0; five bits are left
+    let octets = [0xBD, 0x21, 0x03, 0xFA, 0x3F, 0x80, 0x1F];
+    let mut reader = BitReader::new(&octets);
+    let index = SubsetIndex::index(alloc, template(alloc, &STATION)?, false, &mut reader, 3)?;
+    assert_eq!(rt; reader.place(), 51);
+    assert_eq!(rt; index.count(), 3);
+    has_numbers(&rt, alloc, &index, 2, &[3, 1000])?;
+    has_numbers(&rt, alloc, &index, 3, &[127, 0])?;
+    has_numbers(&rt, alloc, &index, 1, &[94, 578])?;
+    let ends = ReadFault::DataEnds(3, 2);
+    refuses(&rt, alloc, &STATION, false, 3, &octets[..6], ends)?;
+    let ends = ReadFault::DataEnds(3, 1);
+    refuses(&rt, alloc, &STATION, false, 3, &octets[..5], ends)
+}
+
+#[test]
+fn plain_subsets_of_turns(rt: HostRuntime) -> Result<(), Fail> {
+    let alloc = rt.alloc();
+    let octets = [
+        0x6A, 0xB3, 0x6A, 0xB4, 0x00, 0x01, 0x00, 0x02, 0xFF, 0xFF, 0x00, 0x00, 0x07,
+    ];
+    let mut reader = BitReader::new(&octets);
+    let index = SubsetIndex::index(alloc, template(alloc, &TWICE)?, false, &mut reader, 3)?;
+    assert_eq!(rt; reader.place(), 96);
+    assert_eq!(rt; index.count(), 3);
+    has_numbers(&rt, alloc, &index, 1, &[27315, 27316])?;
+    has_numbers(&rt, alloc, &index, 2, &[1, 2])?;
+    has_numbers(&rt, alloc, &index, 3, &[65535, 0])?;
+    let ends = ReadFault::DataEnds(3, 2);
+    refuses(&rt, alloc, &TWICE, false, 3, &octets[..11], ends)?;
+    let ends = ReadFault::DataEnds(4, 1);
+    refuses(&rt, alloc, &TWICE, false, 4, &octets, ends)
+}
+
+#[test]
+fn items_up_to_the_limit(rt: HostRuntime) -> Result<(), Fail> {
+    let alloc = rt.alloc();
+    // a replication, 255 turns of an operator, and one field of two bits: 512 items a subset, so
+    // that 32,768 subsets have 16,777,216
+    let list = [(1, 1, 255), (2, 1, 129), (0, 2, 1)];
+    let mut octets = vec![in alloc; 0x1B; 8193]?;
+    octets[8191] = 0x01;
+    let mut reader = BitReader::new(octets.as_slice());
+    let index = SubsetIndex::index(alloc, template(alloc, &list)?, false, &mut reader, 32768)?;
+    assert_eq!(rt; reader.place(), 65536);
+    assert_eq!(rt; index.count(), 32768);
+    has_numbers(&rt, alloc, &index, 3, &[2])?;
+    has_numbers(&rt, alloc, &index, 32767, &[0])?;
+    has_numbers(&rt, alloc, &index, 32768, &[1])?;
+    let fault = ReadFault::TooLarge;
+    refuses(&rt, alloc, &list, false, 32769, octets.as_slice(), fault)
 }
 
 #[test]

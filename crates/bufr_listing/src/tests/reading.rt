@@ -192,6 +192,8 @@ fn lines_of_octets_flags_and_descriptors(rt: HostRuntime) -> Result<(), Fail> {
     Ok(())
 }
 
+/// A line has the field's descriptor, one space and its value, and there are as many as the tree
+/// asks for.
 #[test]
 fn lines_of_fields(rt: HostRuntime) -> Result<(), Fail> {
     let alloc = rt.alloc();
@@ -223,6 +225,17 @@ fn lines_of_fields(rt: HostRuntime) -> Result<(), Fail> {
             "descriptors 001001\nsubset\n001001 1\nend\nx",
             "L1 BadLine 9",
         ),
+    ] {
+        assert_behind(&rt, alloc, lines, fault)?;
+    }
+    Ok(())
+}
+
+/// The greatest number of 63 bits is missing, and no greater one can be read.
+#[test]
+fn lines_of_large_numbers(rt: HostRuntime) -> Result<(), Fail> {
+    let alloc = rt.alloc();
+    for (lines, fault) in [
         (
             "descriptors 048001\nsubset\n048001 9223372036854775806\nend\n",
             "",
@@ -239,6 +252,17 @@ fn lines_of_fields(rt: HostRuntime) -> Result<(), Fail> {
             "descriptors 048001\nsubset\n048001 999999999999999999999999999999999999999999\n",
             "L2 BadValue 7",
         ),
+    ] {
+        assert_behind(&rt, alloc, lines, fault)?;
+    }
+    Ok(())
+}
+
+/// Numbers at both ends of their ranges, by reference and by scale.
+#[test]
+fn lines_of_references(rt: HostRuntime) -> Result<(), Fail> {
+    let alloc = rt.alloc();
+    for (lines, fault) in [
         ("descriptors 007001\nsubset\n007001 -400\nend\n", ""),
         (
             "descriptors 007001\nsubset\n007001 -401\nend\n",
@@ -268,6 +292,17 @@ fn lines_of_fields(rt: HostRuntime) -> Result<(), Fail> {
             "descriptors 010004\nsubset\n010004 00\nend\n",
             "L2 BadValue 7",
         ),
+    ] {
+        assert_behind(&rt, alloc, lines, fault)?;
+    }
+    Ok(())
+}
+
+/// A count that is never missing, and the fields that stand as often as it says.
+#[test]
+fn lines_of_counts(rt: HostRuntime) -> Result<(), Fail> {
+    let alloc = rt.alloc();
+    for (lines, fault) in [
         ("descriptors 031000\nsubset\n031000 1\nend\n", ""),
         (
             "descriptors 031000\nsubset\n031000 missing\nend\n",
@@ -289,6 +324,17 @@ fn lines_of_fields(rt: HostRuntime) -> Result<(), Fail> {
             "descriptors 101000 031001 001001\nsubset\n031001 2\n001001 1\nend\n",
             "L1 BadLine 9",
         ),
+    ] {
+        assert_behind(&rt, alloc, lines, fault)?;
+    }
+    Ok(())
+}
+
+/// An element of a width of its own, and one whose width and scale are changed.
+#[test]
+fn lines_under_operators(rt: HostRuntime) -> Result<(), Fail> {
+    let alloc = rt.alloc();
+    for (lines, fault) in [
         ("descriptors 206012 001250\nsubset\n001250 5\nend\n", ""),
         (
             "descriptors 201130 202129 012101 201000 202000 012101\nsubset\n012101 250.000\n012101 273.15\nend\n",
@@ -330,18 +376,15 @@ fn walks_that_stop(rt: HostRuntime) -> Result<(), Fail> {
     Ok(())
 }
 
+/// One character between quotes, and a text that is missing.
 #[test]
-fn texts(rt: HostRuntime) -> Result<(), Fail> {
+fn texts_between_quotes(rt: HostRuntime) -> Result<(), Fail> {
     let alloc = rt.alloc();
     for (lines, fault) in [
         ("descriptors 208001 001011\nsubset\n001011 \"a\"\nend\n", ""),
         (
             "descriptors 208001 001011\nsubset\n001011 missing\nend\n",
             "",
-        ),
-        (
-            "descriptors 208001 001011\nsubset\n001011 \"\\ff\"\nend\n",
-            "L2 BadValue 7",
         ),
         (
             "descriptors 208001 001011\nsubset\n001011 \"\"\nend\n",
@@ -361,6 +404,21 @@ fn texts(rt: HostRuntime) -> Result<(), Fail> {
         ),
         (
             "descriptors 208001 001011\nsubset\n001011 \"a\" \nend\n",
+            "L2 BadValue 7",
+        ),
+    ] {
+        assert_behind(&rt, alloc, lines, fault)?;
+    }
+    Ok(())
+}
+
+/// A character is escaped exactly where it does not stand for itself.
+#[test]
+fn texts_of_escapes(rt: HostRuntime) -> Result<(), Fail> {
+    let alloc = rt.alloc();
+    for (lines, fault) in [
+        (
+            "descriptors 208001 001011\nsubset\n001011 \"\\ff\"\nend\n",
             "L2 BadValue 7",
         ),
         (

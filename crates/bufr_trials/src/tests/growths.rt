@@ -3,7 +3,9 @@
 //! are, no growth is refused; `tests/refuse-each-growth` runs each test once for each of its
 //! growths, which then fails.
 
+mod archives;
 mod data;
+mod depots;
 mod engines;
 mod frames;
 mod messages;

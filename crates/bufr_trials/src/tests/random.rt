@@ -26,6 +26,12 @@ impl Numbers {
         [first, second, third, fourth]
     }
 
+    /// The next octet.
+    pub(super) fn octet(&mut self) -> u8 {
+        let [first, ..] = self.octets();
+        first
+    }
+
     /// The next number below a bound, 0 where that is 0.
     pub(super) fn below(&mut self, bound: usize) -> usize
         ensures { result ≤ bound }

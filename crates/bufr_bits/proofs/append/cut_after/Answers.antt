@@ -1,7 +1,10 @@
+-- For `cut_after`: what is dropped stands behind the bits that are kept, and zero bits take its
+-- place.
 use Rattle.std.proofs.Common.{◌-◌, ◌*◌, ◌%◌, arith, ◌∙◌, refl}
 use Rattle.bufr_bits.proofs.Puts.{cut_whole, cut_inside}
 use Rattle.bufr_bits.proofs.append.cut_after.Goals as goal
 
+-- a cut inside an octet keeps the bits before it
 pub returns-then-low-gt0-clause-kept : goal.returns-then-low-gt0-clause-kept
 returns-then-low-gt0-clause-kept c =
     let o = c.args.octets.now in
@@ -10,6 +13,7 @@ returns-then-low-gt0-clause-kept c =
     (cut_inside o.items cut.items c.args.len count c.len-at.result c.index-last.result.now ((8 * count - c.args.len) % 8)
     (c.len-count.ensures ∙ o.ok.0) c.requires refl c.if-low-gt0.true c.truncate.ensures.items (c.len-at.ensures ∙ cut.ok.0) c.index-last.ensures).0
 
+-- and fills that octet with zero bits
 pub returns-then-low-gt0-clause-filled : goal.returns-then-low-gt0-clause-filled
 returns-then-low-gt0-clause-filled c =
     let o = c.args.octets.now in
@@ -18,11 +22,13 @@ returns-then-low-gt0-clause-filled c =
     (cut_inside o.items cut.items c.args.len count c.len-at.result c.index-last.result.now ((8 * count - c.args.len) % 8)
     (c.len-count.ensures ∙ o.ok.0) c.requires refl c.if-low-gt0.true c.truncate.ensures.items (c.len-at.ensures ∙ cut.ok.0) c.index-last.ensures).1
 
+-- a cut on an octet's edge keeps the bits before it
 pub returns-else-low-gt0-clause-kept : goal.returns-else-low-gt0-clause-kept
 returns-else-low-gt0-clause-kept c =
     let o = c.args.octets.now in
     (cut_whole o.items c.truncate.new.self.items c.args.len c.len-count.result (c.len-count.ensures ∙ o.ok.0) c.requires (omega (arith, c.if-low-gt0.false)) c.truncate.ensures.items).0
 
+-- and leaves no bit behind them
 pub returns-else-low-gt0-clause-filled : goal.returns-else-low-gt0-clause-filled
 returns-else-low-gt0-clause-filled c =
     let o = c.args.octets.now in

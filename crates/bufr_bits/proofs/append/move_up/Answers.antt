@@ -1,10 +1,13 @@
+-- For `move_up`: each round moves one octet's bits up into the free bits of the one before it.
 use Rattle.std.proofs.Common.{◌+◌, ◌<◌, get_or, arith, refl}
 use Rattle.bufr_bits.proofs.Moves.{Moving, move_none, move_fits, move_more}
 use Rattle.bufr_bits.proofs.append.move_up.Goals as goal
 
+-- nothing has moved, and the free bits of the first octet are zero
 pub loop-i-init : goal.loop-i-init
 loop-i-init c = record { rest = refl; moved = move_none c.args.octets.now c.args.from c.args.free c.requires.begun c.requires.few c.requires.clear }
 
+-- an octet and what moves into its free bits fit an octet
 pub overflow_add-octets : goal.overflow_add-octets
 overflow_add-octets c =
     let m : Moving c.loop-i.octets c.args.octets.now c.args.from c.loop-i.i c.args.free = record {
@@ -20,6 +23,7 @@ overflow_add-octets c =
     let next : get_or c.loop-i.octets (c.loop-i.i + 1) 0 < 256 = omega arith in
     omega (arith, move_fits c.loop-i.octets c.args.octets.now c.args.from c.loop-i.i c.args.free m first next)
 
+-- a round moves the bits of the next octet up, and leaves the octets behind it
 pub loop-i-preserved : goal.loop-i-preserved
 loop-i-preserved c =
     let m : Moving c.loop-i.octets c.args.octets.now c.args.from c.loop-i.i c.args.free = record {

@@ -1,3 +1,4 @@
+-- For `write_all`: a front that was written and what the sink took next are a longer front.
 use Rattle.std.proofs.Common.{◌≡◌, ℕ, ◌+◌, ◌-◌, ◌≤◌, List, ◌++◌, length, take, drop, sym, ap, subst, ◌∙◌, arith}
 use Rattle.std.proofs.lemmas.List.{take_rest, length-take}
 use Rattle.bufr_bits.specs.Devices.{Writes}
@@ -5,6 +6,7 @@ use Rattle.bufr_bits.proofs.BitLists.{take-more}
 use Rattle.bufr_bits.specs.DeviceLaws.{Writes-more}
 use Rattle.bufr_bits.proofs.device.write_all.Goals as goal
 
+-- after a write that did not fail the front of the text is longer by what it took
 pub loop-written-preserved : goal.loop-written-preserved
 loop-written-preserved g c =
     let text = c.args.text.now in

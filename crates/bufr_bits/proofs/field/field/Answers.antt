@@ -1,7 +1,9 @@
+-- For `field`: the octets in which a field stands spell its number, once shifted and masked.
 use Rattle.std.proofs.Common.{◌+◌, ◌-◌, ◌*◌, ◌/◌, arith}
 use Rattle.bufr_bits.proofs.BitLists.{field_masked}
 use Rattle.bufr_bits.proofs.field.field.Goals as goal
 
+-- the number of those octets, less the spare bits behind and masked, is that of the field
 pub returns : goal.returns
 returns c =
     let place = c.args.place in

@@ -1,3 +1,4 @@
+-- The clauses of `add_on`: the text of the archive after all streams were added, and the counts.
 use Rattle.std.proofs.Common.{Ok, Err, map, ap, subst, ◌∙◌}
 use Rattle.bufr_tables.specs.Entries.{Entries}
 use Rattle.bufr_archive.specs.Archives.{ArchiveView}
@@ -7,6 +8,7 @@ use Rattle.bufr_collect.proofs.FrameFacts.{passed}
 use Rattle.bufr_collect.proofs.EngineFacts.{collects_ok, collects_fails}
 use Rattle.bufr_collect.proofs.adding.add_on.Goals as goal
 
+-- where the writer fails, what it took is a front of the text
 pub returns-in_err-write_out-clause-adds : goal.returns-in_err-write_out-clause-adds
 returns-in_err-write_out-clause-adds g c =
     let olds = map g.S.Source.reading c.args.readers.now in
@@ -21,6 +23,7 @@ returns-in_err-write_out-clause-adds g c =
     (c.deref.ensures.value ∙ c.in_ok-text.ensures)
     c.in_err-write_out.ensures)
 
+-- where all is written, it is the text of what all streams tell, and the counts are theirs
 pub returns-clause-adds : goal.returns-clause-adds
 returns-clause-adds g c =
     let olds = map g.S.Source.reading c.args.readers.now in

@@ -1,8 +1,10 @@
+-- The clause of `add_frame`: a frame whose octets spell a message adds it, and another only counts.
 use Rattle.std.proofs.Common.{◌≡◌, ◌+◌, refl, arith}
 use Rattle.bufr_collect.proofs.FrameFacts.{added_ok, added_none}
 use Rattle.bufr_collect.proofs.frames.add_frame.Goals as goal
 use Rattle.bufr_collect.proofs.frames.add_frame.Goals.{in-Ok, in-Err-Refused}
 
+-- after some frames this one was added and counted, whether it spells a message or not
 pub returns : goal.returns
 returns g c tables frames h =
     let old = c.args.archive.now in

@@ -1,9 +1,11 @@
+-- The clauses of `add_frames`: frame by frame, with counts that stay within their word.
 use Rattle.std.proofs.Common.{◌+◌, ◌<◌, length, take, subst, arith, length-append}
 use Rattle.std.proofs.lemmas.List.{length-take}
 use Rattle.bufr_collect.specs.Adds.{HasAdded}
 use Rattle.bufr_collect.proofs.FrameFacts.{refused_at_most, taken_to}
 use Rattle.bufr_collect.proofs.frames.add_frames.Goals as goal
 
+-- one frame more can be counted, for all of them can
 pub add_frame-requires-clause-few : goal.add_frame-requires-clause-few
 add_frame-requires-clause-few g c =
     let before = c.requires.so_far.1 in
@@ -16,6 +18,7 @@ add_frame-requires-clause-few g c =
     let few = c.requires.few in
     omega arith
 
+-- no more frames are counted as refused than there are
 pub add_frame-requires-clause-refused : goal.add_frame-requires-clause-refused
 add_frame-requires-clause-refused g c =
     refused_at_most _ _ _ _ (c.loop-frame.invariant c.requires.so_far.0 c.requires.so_far.1 c.requires.so_far.2)

@@ -1,3 +1,4 @@
+-- The loop of `add_frames`: the frames added so far.
 use Rattle.std.proofs.Common.{◌++◌, List, take}
 use Rattle.bufr_tables.specs.Entries.{Entries}
 use Rattle.bufr_frame.specs.declared.frames.Found.{Found}

@@ -1,9 +1,11 @@
+-- The clauses of `add_piece`: frame by frame, until `take_next` hands out none.
 use Rattle.std.proofs.Common.{◌≡◌, ◌++◌, ◌∷◌, [], arith, length-append, None}
 use Rattle.bufr_frame.specs.Streams.{sure}
 use Rattle.bufr_collect.proofs.FrameFacts.{refused_at_most, some_is}
 use Rattle.bufr_collect.proofs.StreamFacts.{amid_first, amid_fits, amid_more, amid_none, amid_room}
 use Rattle.bufr_collect.proofs.frames.add_piece.Goals as goal
 
+-- the octets taken in and those left of the piece can be counted
 pub take_next-requires : goal.take_next-requires
 take_next-requires g c =
     let so_far = c.requires.so_far in
@@ -14,11 +16,13 @@ take_next-requires g c =
     let room = c.requires.room in
     omega arith
 
+-- where no frame is handed out, all sure frames of the stream with the piece are added
 pub returns-in_default : goal.returns-in_default
 returns-in_default g c tables before stream h =
     let e : c.in_ok-found.field-0.found ≡ None = c.in_default.is in
     amid_none _ _ _ _ _ _ _ _ (c.loop-found.invariant tables before stream h) (c.in_ok-found.ensures.none e) (c.in_ok-found.ensures.waits e)
 
+-- one frame more can be counted, for there are no more than octets
 pub add_frame-requires-clause-few : goal.add_frame-requires-clause-few
 add_frame-requires-clause-few g c =
     let so_far = c.requires.so_far in
@@ -30,11 +34,13 @@ add_frame-requires-clause-few g c =
     let few = so_far.3.few in
     omega arith
 
+-- no more frames are counted as refused than there are
 pub add_frame-requires-clause-refused : goal.add_frame-requires-clause-refused
 add_frame-requires-clause-refused g c =
     let so_far = c.requires.so_far in
     refused_at_most _ _ _ _ (c.loop-found.invariant so_far.0 so_far.1 so_far.2 so_far.3).added
 
+-- the frame handed out is added, and the rest of the piece is left
 pub loop-found-preserved : goal.loop-found-preserved
 loop-found-preserved g c tables before stream h =
     let e = c.in-Some.is in
@@ -43,6 +49,7 @@ loop-found-preserved g c tables before stream h =
     (some_is _ _ _ e c.in_ok-found.ensures.frame) (some_is _ _ _ e c.in_ok-found.ensures.next)
     (c.in_ok-add_frame.ensures tables)
 
+-- it is one of no more frames than octets, so fewer can follow
 pub loop-found-smaller : goal.loop-found-smaller
 loop-found-smaller g c =
     let so_far = c.requires.so_far in

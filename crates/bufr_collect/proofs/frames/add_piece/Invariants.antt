@@ -1,3 +1,4 @@
+-- The loop of `add_piece`: how far the piece is taken in, and the frames added so far.
 use Rattle.std.proofs.Common.{ℕ, ◌+◌, ◌-◌, ◌++◌, List, length}
 use Rattle.bufr_tables.specs.Entries.{Entries}
 use Rattle.bufr_frame.specs.declared.frames.Found.{Found}

@@ -1,3 +1,4 @@
+-- The clause of `add_rest`: the frames that come with the end of a stream, added after the others.
 use Rattle.std.proofs.Common.{◌++◌, List, length, arith, ap, subst, ◌∙◌, length-append}
 use Rattle.bufr_frame.specs.declared.frames.Found.{Found}
 use Rattle.bufr_frame.specs.Streams.{cut, sure}
@@ -6,6 +7,7 @@ use Rattle.bufr_collect.proofs.FrameFacts.{ok_then}
 use Rattle.bufr_collect.proofs.StreamFacts.{rest_few, rest_added}
 use Rattle.bufr_collect.proofs.frames.add_rest.Goals as goal
 
+-- no more frames are counted than octets, so their count fits its word
 pub add_frames-requires-clause-few : goal.add_frames-requires-clause-few
 add_frames-requires-clause-few g c =
     let h = c.requires.so_far.3 in
@@ -20,6 +22,7 @@ add_frames-requires-clause-few g c =
     let before = h.few in
     omega arith
 
+-- after the sure frames of the stream the last ones are added, so its whole cut is
 pub returns : goal.returns
 returns g c =
     ok_then _ _ _

@@ -1,3 +1,4 @@
+-- The clauses of `merge_readers`: reader by reader, until one is no archive or cannot be read.
 use Rattle.std.proofs.Common.{◌<◌, ◌+◌, length, map, arith, slice_set, Result}
 use Rattle.std.proofs.lemmas.List.{map-set}
 use Rattle.bufr_tables.specs.Answers.{result_map}
@@ -9,15 +10,18 @@ use Rattle.bufr_collect.proofs.ReaderFacts.{reach_item, fresh_next}
 use Rattle.bufr_collect.proofs.EngineFacts.{merged_first, merged_next, bounded_next, merged_ends}
 use Rattle.bufr_collect.proofs.merging.merge_readers.Goals as goal
 
+-- at first no reader was read, and nothing is merged
 pub loop-index-init : goal.loop-index-init
 loop-index-init g c = merged_first _ _ _ _ c.requires.fresh c.new-merged.ensures
 
+-- the next reader was not read before
 pub read_archive-requires-clause-fresh : goal.read_archive-requires-clause-fresh
 read_archive-requires-clause-fresh g c =
     let inv = c.loop-index.invariant in
     let inside : c.loop-index.index < length c.loop-index.readers = omega arith in
     fresh_next _ _ _ _ _ c.requires.fresh (reach_item g.S.Source.reading _ c.loop-index.readers inv.texts c.loop-index.index c.index-readers-index.result inv.through inside)
 
+-- the archive of one reader more is merged
 pub loop-index-preserved : goal.loop-index-preserved
 loop-index-preserved g c =
     let inv = c.loop-index.invariant in
@@ -31,18 +35,21 @@ loop-index-preserved g c =
     c.in_ok-archive.ensures.reads
     c.in-Ok.ensures.ok
 
+-- each reader was read at most so often, the one that cannot be read or is no archive too
 pub returns-in_err-archive-clause-bounded : goal.returns-in_err-archive-clause-bounded
 returns-in_err-archive-clause-bounded g c =
     bounded_next c.args.reads (map g.S.Source.reading c.loop-index.readers) _ c.loop-index.index (g.S.Source.reading c.read_archive.new.reader) c.loop-index.invariant.bounded
     (map-set g.S.Source.reading c.loop-index.readers c.loop-index.index c.read_archive.new.reader)
     c.in_err-archive.ensures.bounded
 
+-- and so it is where no memory is had to merge
 pub returns-in_default-clause-bounded : goal.returns-in_default-clause-bounded
 returns-in_default-clause-bounded g c =
     bounded_next c.args.reads (map g.S.Source.reading c.loop-index.readers) _ c.loop-index.index (g.S.Source.reading c.read_archive.new.reader) c.loop-index.invariant.bounded
     (map-set g.S.Source.reading c.loop-index.readers c.loop-index.index c.read_archive.new.reader)
     c.in_ok-archive.ensures.bounded
 
+-- where a reader cannot be read or is no archive, its fault is told
 pub returns-in_err-archive-clause-merges : goal.returns-in_err-archive-clause-merges
 returns-in_err-archive-clause-merges g c =
     let inv = c.loop-index.invariant in

@@ -1,3 +1,4 @@
+-- The loop of `merge_readers`: the readers read out so far, and what was merged of them.
 use Rattle.std.proofs.Common.{map}
 use Rattle.bufr_collect.proofs.EngineFacts.{MergedThrough}
 use Rattle.bufr_collect.proofs.merging.merge_readers.Given as goal

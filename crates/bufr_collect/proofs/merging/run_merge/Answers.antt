@@ -1,8 +1,10 @@
+-- The clause `merges` of `run_merge`: the text of the merged archive, and the counts.
 use Rattle.std.proofs.Common.{length, map, refl, sym, ◌∙◌}
 use Rattle.std.proofs.lemmas.List.{length-map}
 use Rattle.bufr_collect.proofs.EngineFacts.{merges_ok}
 use Rattle.bufr_collect.proofs.merging.run_merge.Goals as goal
 
+-- where all is read, merged and written, the octets are the text of the reports of all archives
 pub returns-clause-merges : goal.returns-clause-merges
 returns-clause-merges g c =
     let olds = map g.S.Source.reading c.args.readers.now in

@@ -1,17 +1,21 @@
+-- The clauses of `add_stream`: read by read, with counts that the number of reads bounds.
 use Rattle.std.proofs.Common.{◌≡◌, ◌<◌, ◌≤◌, ◌+◌, ◌++◌, length, take, arith, refl, length-append}
 use Rattle.std.proofs.lemmas.List.{length-take}
 use Rattle.bufr_engines.specs.ReadingLaws.{GoesOn_more, GoesOn_ends}
 use Rattle.bufr_collect.proofs.StreamFacts.{between_first, cut_bounded}
 use Rattle.bufr_collect.proofs.streams.add_stream.Goals as goal
 
+-- at first nothing was read or added
 pub loop-init : goal.loop-init
 loop-init g c = between_first _ _ _ _ c.requires.fresh c.new-framer.ensures.starts
 
+-- of the octets read the messages of the sure frames were added
 pub add_rest-requires-clause-so_far : goal.add_rest-requires-clause-so_far
 add_rest-requires-clause-so_far g c =
     let so_far = c.requires.so_far in
     (so_far.0, so_far.1, c.loop.invariant.read, c.loop.invariant.added so_far.0 so_far.1 so_far.2 so_far.3)
 
+-- so many reads give no more octets than a word counts
 pub add_rest-requires-clause-long : goal.add_rest-requires-clause-long
 add_rest-requires-clause-long g c =
     let so_far = c.requires.so_far in
@@ -21,11 +25,13 @@ add_rest-requires-clause-long g c =
     let turn = c.loop-test.true in
     omega arith
 
+-- of the octets read before the messages of the sure frames were added
 pub add_piece-requires-clause-so_far : goal.add_piece-requires-clause-so_far
 add_piece-requires-clause-so_far g c =
     let so_far = c.requires.so_far in
     (so_far.0, so_far.1, c.loop.invariant.read, c.loop.invariant.added so_far.0 so_far.1 so_far.2 so_far.3)
 
+-- so many reads, and one more, give no more octets than a word counts
 pub add_piece-requires-clause-room : goal.add_piece-requires-clause-room
 add_piece-requires-clause-room g c =
     let so_far = c.requires.so_far in
@@ -37,6 +43,7 @@ add_piece-requires-clause-room g c =
     let turn = c.loop-test.true in
     omega arith
 
+-- the octets of one read more are taken in, and the messages of the frames sure then added
 pub loop-preserved : goal.loop-preserved
 loop-preserved g c =
     let b = c.loop.invariant in
@@ -53,6 +60,7 @@ loop-preserved g c =
       added = λ tables before h few. c.in_ok-add_piece.ensures tables before b.read (b.added tables before h few);
     }
 
+-- where a read gives nothing, the reader was read out and the whole cut of its stream is added
 pub returns-then-given-eq0-clause-adds : goal.returns-then-given-eq0-clause-adds
 returns-then-given-eq0-clause-adds g c tables before h few =
     let b = c.loop.invariant in

@@ -1,3 +1,4 @@
+-- The loop of `add_stream`: the octets read so far, and the messages of their sure frames added.
 use Rattle.bufr_collect.proofs.StreamFacts.{Between}
 use Rattle.bufr_collect.proofs.streams.add_stream.Given as goal
 

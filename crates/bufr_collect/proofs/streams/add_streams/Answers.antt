@@ -1,3 +1,4 @@
+-- The clauses of `add_streams`: reader by reader, until one cannot be read.
 use Rattle.std.proofs.Common.{◌<◌, ◌^◌, length, map, arith, slice_set}
 use Rattle.std.proofs.lemmas.List.{map-set}
 use Rattle.bufr_collect.specs.Adds.{AddsStreams}
@@ -7,15 +8,18 @@ use Rattle.bufr_collect.proofs.ReaderFacts.{reach_item, fresh_next}
 use Rattle.bufr_collect.proofs.EngineFacts.{added_first, added_next, bounded_next, added_ends}
 use Rattle.bufr_collect.proofs.streams.add_streams.Goals as goal
 
+-- at first no reader was read, and nothing is added
 pub loop-index-init : goal.loop-index-init
 loop-index-init g c = added_first _ _ _ _ _ c.requires.fresh c.requires.empty
 
+-- the next reader was not read before
 pub add_stream-requires-clause-fresh : goal.add_stream-requires-clause-fresh
 add_stream-requires-clause-fresh g c =
     let inv = c.loop-index.invariant in
     let inside : c.loop-index.index < length c.loop-index.readers = omega arith in
     fresh_next _ _ _ _ _ c.requires.fresh (reach_item g.S.Source.reading _ c.loop-index.readers inv.streams c.loop-index.index c.index-readers-index.result inv.through inside)
 
+-- the stream of one reader more is added
 pub loop-index-preserved : goal.loop-index-preserved
 loop-index-preserved g c =
     let inv = c.loop-index.invariant in
@@ -30,12 +34,14 @@ loop-index-preserved g c =
     c.in_ok-add_stream.ensures.bounded
     (c.in_ok-add_stream.ensures.adds c.args.archive.now.tables (frames_of inv.streams) inv.added fit)
 
+-- each reader was read at most so often, the one that cannot be read too
 pub returns-in_err-add_stream-clause-bounded : goal.returns-in_err-add_stream-clause-bounded
 returns-in_err-add_stream-clause-bounded g c =
     bounded_next c.args.reads (map g.S.Source.reading c.loop-index.readers) _ c.loop-index.index (g.S.Source.reading c.add_stream.new.reader) c.loop-index.invariant.bounded
     (map-set g.S.Source.reading c.loop-index.readers c.loop-index.index c.add_stream.new.reader)
     c.in_err-add_stream.ensures.bounded
 
+-- where a reader cannot be read, its fault is told
 pub returns-in_err-add_stream-clause-adds : goal.returns-in_err-add_stream-clause-adds
 returns-in_err-add_stream-clause-adds g c =
     let inv = c.loop-index.invariant in

@@ -1,3 +1,4 @@
+-- The loop of `add_streams`: the readers read out so far, and what was added of their streams.
 use Rattle.std.proofs.Common.{map}
 use Rattle.bufr_collect.proofs.EngineFacts.{AddedThrough}
 use Rattle.bufr_collect.proofs.streams.add_streams.Given as goal

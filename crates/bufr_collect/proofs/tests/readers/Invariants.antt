@@ -1,3 +1,4 @@
+-- The loop of the tests' `readers`: none of the readers made so far was read.
 use Rattle.std.proofs.Common.{◌≡◌, ℕ, Bool, false, List, [], ◌∷◌, ◌++◌, map}
 use Rattle.std.specs.List.{AllByRecursion}
 use Rattle.bufr_bits.specs.Devices.{Reading}

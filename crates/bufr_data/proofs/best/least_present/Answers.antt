@@ -1,3 +1,4 @@
+-- The clause of `least_present`: number by number.
 use Rattle.std.proofs.Common.{◌∙◌, ◌<◌, ◌≤◌, length, take, get_or, sym, ap, arith}
 use Rattle.std.proofs.lemmas.List.{take_more, take_all}
 use Rattle.bufr_data.specs.BestColumns.{present}
@@ -5,6 +6,7 @@ use Rattle.bufr_data.specs.Places.{least_of, least_step}
 use Rattle.bufr_data.proofs.PutFacts.{least_more, least_or}
 use Rattle.bufr_data.proofs.best.least_present.Goals as goal
 
+-- one number more is missing, or the least or not
 pub loop-number-preserved : goal.loop-number-preserved
 loop-number-preserved c =
     let i = c.loop-number.number-index in
@@ -14,6 +16,7 @@ loop-number-preserved c =
     ∙ least_more c.args.width (take i ns) (get_or ns i 0)
     ∙ ap (λ xs. least_of (present c.args.width xs)) (sym (take_more ns i 0 less))
 
+-- where no number is left, the least of all is found, and 0 where all are missing
 pub returns : goal.returns
 returns c =
     let done : length c.args.numbers.now ≤ c.loop-number.number-index = omega (arith, c.loop-number-test.false) in

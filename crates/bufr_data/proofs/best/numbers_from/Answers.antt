@@ -1,3 +1,4 @@
+-- The clause of `numbers_from`: subset by subset.
 use Rattle.std.proofs.Common.{◌≡◌, ◌∙◌, ◌++◌, ◌∷◌, [], ◌+◌, ◌<◌, ◌≤◌, length, map, take, drop, sym, ap, arith}
 use Rattle.std.proofs.lemmas.List.{take_all}
 use Rattle.bufr_data.specs.BestColumns.{first_raw}
@@ -6,9 +7,11 @@ use Rattle.bufr_data.specs.Places.{rows_from, values_from}
 use Rattle.bufr_data.proofs.PutFacts.{front_is, values_push, numbers_push}
 use Rattle.bufr_data.proofs.best.numbers_from.Goals as goal
 
+-- at first the number of the field is there
 pub loop-other-init : goal.loop-other-init
 loop-other-init c = c.in_ok-push.ensures.items ∙ (λ t. c.new-numbers.ensures.items t ++ c.number.ensures t ∷ [])
 
+-- the number of one subset more is behind those so far
 pub loop-other-preserved : goal.loop-other-preserved
 loop-other-preserved c =
     let less : c.loop-other.other-index < length c.args.others.now = omega (arith, c.loop-other-test.true) in
@@ -23,6 +26,7 @@ loop-other-preserved c =
     ∙ (λ t. c.loop-other.invariant t ++ c.number_at.ensures t ∷ [])
     ∙ sym (numbers_push (values_from f (rows_from c.args.place before)) (values_from f (rows_from c.args.place after)) v more)
 
+-- where no subset is left, the numbers are those of the place
 pub returns : goal.returns
 returns c =
     let done : length c.args.others.now ≤ c.loop-other.other-index = omega (arith, c.loop-other-test.false) in

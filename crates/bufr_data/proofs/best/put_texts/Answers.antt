@@ -1,3 +1,4 @@
+-- The clauses of `put_texts`: the head of the column, and then text by text.
 use Rattle.std.proofs.Common.{◌≡◌, ◌∙◌, ◌++◌, ◌∷◌, [], ◌+◌, ◌/◌, ◌<◌, ◌≤◌, length, map, take, drop, ap, arith}
 use Rattle.std.specs.Prelude.{replicate}
 use Rattle.std.specs.List.{flat_map}
@@ -8,6 +9,7 @@ use Rattle.bufr_data.specs.Places.{rows_from, values_from}
 use Rattle.bufr_data.proofs.PutFacts.{front_is, values_push, octets_push, put_step, put_text_head, zeros_are, kept_more}
 use Rattle.bufr_data.proofs.best.put_texts.Goals as goal
 
+-- at first the minimum of zeros, the width and the text of the first subset are put
 pub loop-other-init : goal.loop-other-init
 loop-other-init c =
     let octets = c.args.field.now.spec.width / 8 in
@@ -15,6 +17,7 @@ loop-other-init c =
     let put = rw c.from.ensures at c.in_ok-put.ensures.ok in
     put_text_head c.args.sink.now _ _ _ octets _ c.args.field.now.raw zeros c.in_ok-put_bytes.ensures.ok put c.in_ok-put_text.ensures.put
 
+-- the text of one subset more is put
 pub loop-other-preserved : goal.loop-other-preserved
 loop-other-preserved c =
     let less : c.loop-other.other-index < length c.args.others.now = omega (arith, c.loop-other-test.true) in
@@ -30,9 +33,11 @@ loop-other-preserved c =
     put_step bits (map octets_of old) (map octets_of new) (octets_of v) c.args.sink.now (bits (replicate octets 0) ++ bin 6 octets) c.loop-other.sink c.put_text_at.new.sink
     (octets_push old new v (values_push f c.args.place before after c.other-item.result grown)) c.loop-other.invariant c.in_ok-put_text_at.ensures.put
 
+-- where memory runs out, the sink begins as before
 pub returns-in_err-put_text_at-clause-kept : goal.returns-in_err-put_text_at-clause-kept
 returns-in_err-put_text_at-clause-kept c = kept_more _ _ _ (_, c.loop-other.invariant) c.in_err-put_text_at.ensures.kept
 
+-- where no subset is left, the best column of the texts is put
 pub returns-clause-put : goal.returns-clause-put
 returns-clause-put c =
     let done : length c.args.others.now ≤ c.loop-other.other-index = omega (arith, c.loop-other-test.false) in
@@ -40,5 +45,6 @@ returns-clause-put c =
     c.loop-other.invariant
     ∙ ap (λ ss. c.args.sink.now ++ (bits (replicate octets 0) ++ bin 6 octets ++ flat_map bits (map octets_of (values_from c.args.field.now (rows_from c.args.place ss))))) (take_all c.loop-other.other-index c.args.others.now done)
 
+-- and the sink begins as before
 pub returns-clause-kept : goal.returns-clause-kept
 returns-clause-kept c = (_, c.loop-other.invariant)

@@ -1,3 +1,4 @@
+-- The loop of `put_texts`: the texts put behind the minimum of zero bits and their width.
 use Rattle.std.proofs.Common.{◌≡◌, ◌++◌, map, take}
 use Rattle.std.specs.Prelude.{replicate}
 use Rattle.std.specs.List.{flat_map}
@@ -6,6 +7,7 @@ use Rattle.bufr_data.specs.BestColumns.{octets_of}
 use Rattle.bufr_data.specs.Places.{rows_from, values_from}
 use Rattle.bufr_data.proofs.best.put_texts.Given as goal
 
+-- the sink has the minimum, the width of the texts and those of the subsets so far
 abbrev pub invariant-loop-other : goal.invariant-loop-other
 invariant-loop-other l =
     l.sink ≡ l.fn.sink ++ (bits (replicate (l.octets) 0) ++ bin 6 l.octets

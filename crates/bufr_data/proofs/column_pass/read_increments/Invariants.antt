@@ -1,8 +1,11 @@
+-- The loop of `read_increments`: the increments read so far, and the bits left for the others.
 use Rattle.std.proofs.Common.{◌≡◌, ◌≤◌, ◌<◌, ◌-◌, ◌*◌, ◌^◌, length, drop}
 use Rattle.bufr_bits.specs.Ends.{left}
 use Rattle.bufr_data.proofs.IncrementFacts.{RaisedSoFar}
 use Rattle.bufr_data.proofs.column_pass.read_increments.Given as goal
 
+-- so many increments are read, the first number and whether all are the same are known,
+-- and the bits of the others are there
 abbrev pub invariant-loop-j : goal.invariant-loop-j
 invariant-loop-j l = record {
   octets : l.reader.octets ≡ l.fn.reader.octets;

@@ -1,3 +1,4 @@
+-- The clause `exact` of `index_columns`: column by column along the walk.
 use Rattle.std.proofs.Common.{◌≡◌, ◌∙◌, ◌+◌, ◌∷◌, [], Some, length, length-append, refl, ap, subst, arith}
 use Rattle.bufr_bits.specs.Ends.{left}
 use Rattle.bufr_expand.specs.Walks as walks
@@ -6,6 +7,7 @@ use Rattle.bufr_expand.specs.Steady.{course_steady}
 use Rattle.bufr_data.proofs.PlaceFacts.{behind_no_column, opened, place_kept}
 use Rattle.bufr_data.proofs.columns.index_columns.Goals as goal
 
+-- at first the walk stands at the start of the course, and no column is passed
 pub loop-fault-init : goal.loop-fault-init
 loop-fault-init c =
     rw c.new-places.ensures.items (record {
@@ -21,6 +23,7 @@ loop-fault-init c =
       so_far = rw c.in_ok-walk.ensures.course (behind_no_column _);
     })
 
+-- one column more is passed, and its place kept
 pub loop-fault-preserved : goal.loop-fault-preserved
 loop-fault-preserved c =
     let octets = c.args.reader.now.octets in

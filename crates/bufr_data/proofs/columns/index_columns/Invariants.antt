@@ -1,3 +1,4 @@
+-- The loop of `index_columns`: the places of the columns passed so far.
 use Rattle.std.proofs.Common.{◌≡◌, ◌≤◌, ◌+◌, ◌-◌, length, map}
 use Rattle.bufr_bits.specs.Ends.{left}
 use Rattle.bufr_expand.specs.Courses.{course}
@@ -8,6 +9,8 @@ use Rattle.bufr_data.specs.Indexed.{AllOpen, behind_columns, column_from}
 use Rattle.bufr_data.specs.Steady.{IsReady}
 use Rattle.bufr_data.proofs.columns.index_columns.Given as goal
 
+-- the walk is ready, at each place so far a column begins, and the index of all is the columns
+-- there and those from the next on
 abbrev pub invariant-loop-fault : goal.invariant-loop-fault
 invariant-loop-fault l = record {
   ready : IsReady l.walk;
@@ -21,5 +24,6 @@ invariant-loop-fault l = record {
       (columns_at l.subsets (length l.places.items + 1) (walks.left l.walk) (left l.reader));
 }
 
+-- each field is one item more at least, and there is a limit to items
 abbrev pub decreases-loop-fault : goal.decreases-loop-fault
 decreases-loop-fault l = most_items + 1 - walks.items_met l.walk

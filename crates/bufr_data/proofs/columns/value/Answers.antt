@@ -1,13 +1,16 @@
+-- The clause of `value`: where a column stands, each of its subsets has a value.
 use Rattle.std.proofs.Common.{◌∙◌, sym}
 use Rattle.bufr_data.proofs.ValueFacts.{value_there, some_there, some_same}
 use Rattle.bufr_data.proofs.columns.value.Goals as goal
 
+-- there is a value at each index below the number of subsets
 pub unwrap-requires : goal.unwrap-requires
 unwrap-requires c =
     let at = c.at-reader.ensures in
     let is = rw at at c.in_ok-value.ensures in
     some_there c.in_ok-value.value _ (is ∙ value_there c.args.octets.now c.args.subsets c.args.index c.args.place c.requires.stands c.requires.inside)
 
+-- and it is the one of the column at this index
 pub returns : goal.returns
 returns c =
     let at = c.at-reader.ensures in

@@ -1,3 +1,4 @@
+-- The loop of `fit_fields`: the fields that the walk has gone past.
 use Rattle.std.proofs.Common.{◌≡◌, ◌≤◌, ◌+◌, drop}
 use Rattle.bufr_expand.specs.Courses.{course}
 use Rattle.bufr_expand.specs.Walks as walks
@@ -6,6 +7,8 @@ use Rattle.bufr_data.specs.Plain.{items_of}
 use Rattle.bufr_data.specs.Steady.{IsReady}
 use Rattle.bufr_data.proofs.fit.fit_fields.Given as goal
 
+-- the walk is ready, has met at least as many items as fields, and fits those from this one on
+-- as the course fits all
 abbrev pub invariant-loop-index : goal.invariant-loop-index
 invariant-loop-index l = record {
   ready : IsReady l.walk;

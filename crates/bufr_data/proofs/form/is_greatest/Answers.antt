@@ -1,11 +1,14 @@
+-- The clause of `is_greatest`: where the width is above 64.
 use Rattle.std.proofs.Common.{◌≡◌, ◌^◌, ◌≤◌, ◌<◌, ◌+◌, eqb, false, ℕ, arith}
 use Rattle.std.proofs.lemmas.Bool.Decides.{nat_tests}
 use Rattle.std.proofs.Math.Pow.{pow_mono}
 use Rattle.bufr_data.proofs.form.is_greatest.Goals as goal
 
+-- a lesser number compares as not equal to a greater one
 apart : (a b : ℕ) → a < b → false ≡ eqb a b
 apart a b h = grind (arith, nat_tests)
 
+-- no number of 64 bits is the greatest of more bits
 pub returns-then-width-gt64 : goal.returns-then-width-gt64
 returns-then-width-gt64 c =
     let wide : 65 ≤ c.args.width = omega arith in

@@ -1,3 +1,4 @@
+-- The clauses of `pass_subset`: field by field, until one is refused or none is left.
 use Rattle.std.proofs.Common.{◌+◌, [], refl, ◌∙◌, arith}
 use Rattle.bufr_expand.specs.Steady.{course_steady}
 use Rattle.bufr_expand.specs.Walks as walks
@@ -5,6 +6,7 @@ use Rattle.bufr_data.proofs.ReadFacts.{behind_none}
 use Rattle.bufr_data.proofs.PassedFacts.{one_passed}
 use Rattle.bufr_data.proofs.pass.pass_subset.Goals as goal
 
+-- at first no field was passed
 pub loop-fault-init : goal.loop-fault-init
 loop-fault-init c = record {
   ready = record {
@@ -18,6 +20,7 @@ loop-fault-init c = record {
   so_far = ([], rw c.in_ok-walk.ensures.course (behind_none _));
 }
 
+-- one field more was passed, and the walk and the reader are behind it
 pub loop-fault-preserved : goal.loop-fault-preserved
 loop-fault-preserved c =
     let step = rw c.in-Ok-true.field-0-test at c.in-Ok-true.ensures.ok in

@@ -1,3 +1,4 @@
+-- The loop of `pass_subset`: the fields passed so far.
 use Rattle.std.proofs.Common.{◌≡◌, ◌≤◌, ◌+◌, ◌-◌, List}
 use Rattle.bufr_bits.specs.Ends.{left}
 use Rattle.bufr_expand.specs.Courses.{course}
@@ -9,6 +10,7 @@ use Rattle.bufr_data.specs.Reads.{behind_fields}
 use Rattle.bufr_data.specs.Steady.{IsReady}
 use Rattle.bufr_data.proofs.pass.pass_subset.Given as goal
 
+-- what is read of the subset is the fields passed so far and what is read behind them
 abbrev pub invariant-loop-fault : goal.invariant-loop-fault
 invariant-loop-fault l = record {
   ready : IsReady l.walk;
@@ -20,5 +22,6 @@ invariant-loop-fault l = record {
       × (fields_at 1 1 (course l.template l.fn.used) (left l.fn.reader) ≡ behind_fields fields (fields_at 1 l.i (walks.left l.walk) (left l.reader)));
 }
 
+-- each turn meets an item more, and a message has only so many
 abbrev pub decreases-loop-fault : goal.decreases-loop-fault
 decreases-loop-fault l = most_items + 1 - walks.items_met l.walk

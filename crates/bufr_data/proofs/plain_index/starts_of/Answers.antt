@@ -1,3 +1,4 @@
+-- The clauses of `starts_of`: subset by subset, until one is refused or none is left.
 use Rattle.std.proofs.Common.{◌≡◌, ◌+◌, ◌∙◌, drop, refl, sym, ap, subst, arith}
 use Rattle.std.specs.Prelude.{◌≤◌, ◌*◌, length}
 use Rattle.std.proofs.lemmas.Result.{err_from_is_err_and}
@@ -10,15 +11,17 @@ use Rattle.bufr_data.proofs.StartFacts.{one_start, one_stands}
 use Rattle.bufr_data.proofs.SubsetFacts.{one_fails, all_read, fails_map}
 use Rattle.bufr_data.proofs.plain_index.starts_of.Goals as goal
 
+-- where a subset is refused, the subsets are refused with its fault
 pub returns-in_err-items-clause-exact : goal.returns-in_err-items-clause-exact
 returns-in_err-items-clause-exact c =
     let all = subsets_at (course c.args.template.now) 1 c.args.count 0 (left c.args.reader.now) in
-    let p = err_from_is_err_and c.from_residual.result c.from_residual.ensures.1 in
+    let p = err_from_is_err_and c.from_residual-in_err-items.result c.from_residual-in_err-items.ensures.1 in
     rw (p.1, p.2)
     (fails_map c.in_err-items.field-0.0 _ all
     (one_fails (course c.args.template.now) c.args.count c.loop-index.index c.loop-index.used (left c.loop-index.reader) _ all c.in_err-items.field-0.0
     c.loop-index-test.true c.loop-index.invariant.read c.in_err-items.ensures.err))
 
+-- one subset more was passed, and begins at the start that was put behind the others
 pub loop-index-preserved : goal.loop-index-preserved
 loop-index-preserved c =
     let octets = c.args.reader.now.octets in
@@ -35,6 +38,7 @@ loop-index-preserved c =
           one_start octets c.args.template.now s c.args.count c.loop-index.index _ _ _ _ _ _ c.in_ok-push.ensures.items there c.loop-index-test.true c.loop-index.invariant.read c.in_ok-items.ensures.ok;
     }
 
+-- where no subset is left, those at the starts are all
 pub returns-clause-exact : goal.returns-clause-exact
 returns-clause-exact c =
     rw (all_read (course c.args.template.now) (c.loop-index.index + 1) c.args.count c.loop-index.index c.loop-index.used (left c.loop-index.reader) _ _

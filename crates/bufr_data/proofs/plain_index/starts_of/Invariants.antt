@@ -1,3 +1,4 @@
+-- The loop of `starts_of`: where the subsets so far begin.
 use Rattle.std.proofs.Common.{◌≡◌, ◌+◌, ◌-◌, ◌≤◌, map}
 use Rattle.bufr_bits.specs.Ends.{left}
 use Rattle.bufr_expand.specs.Courses.{course}
@@ -6,6 +7,7 @@ use Rattle.bufr_data.specs.Numbered.{after}
 use Rattle.bufr_data.specs.Starts.{AllStand, subset_from}
 use Rattle.bufr_data.proofs.plain_index.starts_of.Given as goal
 
+-- a subset begins at each start so far, and these and those read behind them are all subsets
 abbrev pub invariant-loop-index : goal.invariant-loop-index
 invariant-loop-index l = record {
   onward : l.fn.reader.place ≤ l.reader.place;

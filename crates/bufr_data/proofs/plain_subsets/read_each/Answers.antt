@@ -1,3 +1,4 @@
+-- The clause `exact` of `read_each`: subset by subset, until one is refused or none is left.
 use Rattle.std.proofs.Common.{◌+◌, ◌∙◌, refl, arith}
 use Rattle.std.proofs.lemmas.Result.{err_from_is_err_and}
 use Rattle.bufr_bits.specs.Ends.{left}
@@ -6,6 +7,7 @@ use Rattle.bufr_data.specs.Plain.{subsets_at}
 use Rattle.bufr_data.proofs.SubsetFacts.{one_more, one_fails, all_read, fails_map}
 use Rattle.bufr_data.proofs.plain_subsets.read_each.Goals as goal
 
+-- the fault of the first subset that is refused is that of all
 pub returns-in_err-subset-clause-exact : goal.returns-in_err-subset-clause-exact
 returns-in_err-subset-clause-exact c =
     let all = subsets_at (course c.args.template.now) 1 c.args.count 0 (left c.args.reader.now) in
@@ -15,6 +17,7 @@ returns-in_err-subset-clause-exact c =
     (one_fails (course c.args.template.now) c.args.count c.loop-index.index c.loop-index.used (left c.loop-index.reader) c.loop-index.subsets.items all c.in_err-subset.field-0.0
     c.loop-index-test.true c.loop-index.invariant.read c.in_err-subset.ensures.exact))
 
+-- one subset more is read behind those so far
 pub loop-index-preserved : goal.loop-index-preserved
 loop-index-preserved c = record {
   onward = omega (arith, c.in_ok-subset.ensures.onward, c.loop-index.invariant.onward);
@@ -27,6 +30,7 @@ loop-index-preserved c = record {
       c.loop-index-test.true c.loop-index.invariant.read c.in_ok-subset.ensures.exact);
 }
 
+-- where no subset is left, all are read
 pub returns-clause-exact : goal.returns-clause-exact
 returns-clause-exact c =
     let all = subsets_at (course c.args.template.now) 1 c.args.count 0 (left c.args.reader.now) in

@@ -1,8 +1,10 @@
+-- The clause `exact` of `read_fields`: field by field along the walk.
 use Rattle.std.proofs.Common.{◌≡◌, ◌+◌, [], ◌∷◌, length, length-append, refl, ap, ◌∙◌, arith}
 use Rattle.bufr_expand.specs.Steady.{course_steady}
 use Rattle.bufr_data.proofs.ReadFacts.{behind_none, fields_read}
 use Rattle.bufr_data.proofs.read.read_fields.Goals as goal
 
+-- at first the walk stands at the start of the course, and no field is read
 pub loop-fields-init : goal.loop-fields-init
 loop-fields-init c =
     rw c.new-fields.ensures.items (record {
@@ -17,6 +19,7 @@ loop-fields-init c =
       so_far = rw c.in_ok-walk.ensures.course (behind_none _);
     })
 
+-- one field more is read behind those so far
 pub loop-fields-preserved : goal.loop-fields-preserved
 loop-fields-preserved c =
     let step = rw c.in-Some.is at c.in_ok-field.ensures.ok in

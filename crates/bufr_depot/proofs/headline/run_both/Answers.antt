@@ -1,6 +1,8 @@
+-- The clause `converge` of `run_both`: the headline, of the two runs.
 use Rattle.bufr_depot.specs.Headline.{run_of}
 use Rattle.bufr_depot.proofs.headline.run_both.Goals as goal
 
+-- the first run and the second are runs of new depots, so the headline is said of them
 pub returns-clause-converge : goal.returns-clause-converge
 returns-clause-converge g c =
     c.headline.ensures.converges

@@ -1,3 +1,4 @@
+-- For `gather`: what its loop keeps.
 use Rattle.bufr_engines.specs.Inputs.{GoesOn}
 use Rattle.bufr_engines.proofs.input.gather.Given as goal
 

@@ -1,6 +1,8 @@
+-- For `finish_walk` of the tests: what its loop keeps.
 use Rattle.std.proofs.Common.{◌≡◌, false}
 use Rattle.bufr_expand.specs.Walks.{waits}
 use Rattle.bufr_expand.proofs.tests.finish_walk.Given as goal
 
+-- the walk waits for no number
 abbrev pub invariant-loop : goal.invariant-loop
 invariant-loop l = waits l.walk ≡ false

@@ -1,3 +1,4 @@
+-- The clauses of `frames_in`: frame by frame those found so far and those still to come are all.
 use Rattle.std.proofs.Common.{◌≡◌, ℕ, ◌+◌, ◌-◌, ◌<◌, [], ◌∷◌, ◌++◌, length, drop, take, sym, ap, ◌∙◌, subst, arith}
 use Rattle.std.specs.Prelude.{IfSome}
 use Rattle.bufr_frame.specs.declared.frames.Found.{Found}
@@ -7,6 +8,7 @@ use Rattle.bufr_frame.specs.Starts.{start_of}
 use Rattle.bufr_frame.proofs.ScanLaws.{Scanned, scanned_first, scanned_frame, scanned_passed, scanned_end, frame_fits, frame_moves}
 use Rattle.bufr_frame.proofs.scans.frames_in.Goals as goal
 
+-- a frame has octets, so the next place is further on
 pub loop-next-smaller : goal.loop-next-smaller
 loop-next-smaller c =
     let octets = c.args.octets.now in
@@ -19,6 +21,7 @@ loop-next-smaller c =
     let goes : length octets - c.next_start-next-in-Some.result.place < length octets - here = omega (arith, length-drop here octets) in
     goes
 
+-- the frame copied out is the next one, and the scan goes on after its end
 pub loop-next-preserved : goal.loop-next-preserved
 loop-next-preserved c =
     let octets = c.args.octets.now in
@@ -35,6 +38,7 @@ loop-next-preserved c =
     let then = subst (λ fs. Scanned c.args.ended place octets fs (here + l)) (sym grown) (scanned_frame c.args.ended place octets frames here l c.loop-next.invariant.0 start) in
     (scanned_passed c.args.ended place octets c.push.new.self.items (here + l) c.next_start-next-in-Some.result.place then next.within next.frames next.rest, next.frame, next.open, next.all, next.short)
 
+-- before the first place that is open or has a frame there is no frame
 pub loop-next-init : goal.loop-next-init
 loop-next-init c =
     let octets = c.args.octets.now in
@@ -42,6 +46,7 @@ loop-next-init c =
     let first : Scanned c.args.ended c.args.place octets c.new-frames.result.items 0 = subst (λ fs. Scanned c.args.ended c.args.place octets fs 0) (sym c.new-frames.ensures.items) (scanned_first c.args.ended c.args.place octets) in
     (scanned_passed c.args.ended c.args.place octets c.new-frames.result.items 0 c.next_start-next.result.place first next.within next.frames next.rest, next.frame, next.open, next.all, next.short)
 
+-- where no frame is left, those found are all
 pub returns-clause-frames : goal.returns-clause-frames
 returns-clause-frames c =
     let inv = c.loop-next.invariant in
@@ -49,6 +54,7 @@ returns-clause-frames c =
     (scanned_end c.args.ended c.args.place c.args.octets.now c.loop-next.frames.items
     c.loop-next.next.place inv.0 (inv.2 none) (inv.3 none)).frames_are
 
+-- the octets from the place on are what is left after the frames found
 pub returns-clause-rest : goal.returns-clause-rest
 returns-clause-rest c =
     let inv = c.loop-next.invariant in
@@ -56,5 +62,6 @@ returns-clause-rest c =
     (scanned_end c.args.ended c.args.place c.args.octets.now c.loop-next.frames.items
     c.loop-next.next.place inv.0 (inv.2 none) (inv.3 none)).rest_is
 
+-- what is left is shorter than the greatest length that a frame announces
 pub returns-clause-short : goal.returns-clause-short
 returns-clause-short c = λ _. c.loop-next.invariant.4 c.in_default.is

@@ -1,3 +1,4 @@
+-- The clauses of `reach`: each round passes over octets at which nothing stands, or takes in more.
 use Rattle.std.proofs.Common.{◌≡◌, ◌≤◌, false, length, drop, sym, ap, ◌∙◌, subst}
 use Rattle.std.proofs.lemmas.List.{take_rest}
 use Rattle.bufr_frame.specs.declared.places.Start.TheVariants.{Other}
@@ -6,6 +7,7 @@ use Rattle.bufr_frame.specs.Reaches.{KeepsMore, TakesMore}
 use Rattle.bufr_frame.proofs.ReachLaws.{reaching_other, reaching_more, less_to_do}
 use Rattle.bufr_frame.proofs.takes.reach.Goals as goal
 
+-- where nothing stands at the start, all up to the next mark is passed over
 pub loop-length-preserved-in-Other : goal.loop-length-preserved-in-Other
 loop-length-preserved-in-Other c =
     let kept = c.loop-length.octets.items in
@@ -19,6 +21,7 @@ loop-length-preserved-in-Other c =
     (subst (λ t. c.next_mark-start.result ≤ length t) same next.within)
     (λ k a b. subst (λ t. agrees (drop k t) bufr ≡ false) same (next.others k a b))
 
+-- taking in more of the piece leaves less to do
 pub loop-length-smaller : goal.loop-length-smaller
 loop-length-smaller c =
     let kept = c.loop-length.octets.items in
@@ -32,6 +35,7 @@ loop-length-smaller c =
     subst (KeepsMore (drop start kept) kept after (drop taken piece)) c.in-Octets.is more in
     less_to_do kept after piece start taken c.in-Octets.more c.loop-length.invariant.within c.loop-length.invariant.taken_in m
 
+-- what is taken in of the piece is kept, or passed over where nothing is held
 pub loop-length-preserved : goal.loop-length-preserved
 loop-length-preserved c =
     let kept = c.loop-length.octets.items in

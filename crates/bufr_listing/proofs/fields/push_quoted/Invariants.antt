@@ -1,7 +1,9 @@
+-- For `push_quoted`: the octets that were written so far.
 use Rattle.std.proofs.Common.{◌≡◌, ◌++◌, take, string_bytes}
 use Rattle.std.specs.List.{flat_map}
 use Rattle.bufr_listing.specs.Listings.{quoted_octet}
 use Rattle.bufr_listing.proofs.fields.push_quoted.Given as goal
 
+-- behind the text's first octets stand those octets as they are printed
 abbrev pub invariant-loop-octet : goal.invariant-loop-octet
 invariant-loop-octet l = string_bytes l.text ≡ string_bytes l.initial.text ++ flat_map quoted_octet (take l.octet-index l.octets)

@@ -1,4 +1,5 @@
-use Rattle.std.proofs.Common.{◌∙◌, sym, ap, List, ℕ, Vec, Global, Err}
+-- For the clause `read` of `read_numbers`: numbers, L1 or L2, by the line's words.
+use Rattle.std.proofs.Common.{◌∙◌, sym, ap, ℕ, Vec, Global, Err}
 use Rattle.std.specs.Prelude.{Option, option_map, if◌then◌else◌}
 use Rattle.bufr_tables.specs.declared.failure.Failure.TheVariants.{Fault}
 use Rattle.bufr_listing.specs.declared.fault.ListingFault.TheVariants.{BadLine, BadValue}
@@ -11,10 +12,12 @@ use Rattle.bufr_listing.proofs.CallFacts.{taken_ok, taken_err, titled_words}
 use Rattle.bufr_listing.proofs.NumberFacts.{untitled_numbers, numbers_are, numbers_are_not}
 use Rattle.bufr_listing.proofs.head_lines.read_numbers.Goals as goal
 
+-- a line that does not begin with the title has L1
 pub returns-then-not-begins-clause-read : goal.returns-then-not-begins-clause-read
 returns-then-not-begins-clause-read c =
     rw c.bad_line.ensures (taken_err (read_numbers c.args.title.now c.args.limits.now) (past c.args.lines.now) (left c.args.lines.now) (printed c.in_ok-line.line) (left c.take.new.self) (Fault (BadLine c.in_ok-line.line.number)) c.in_ok-line.ensures.taken (untitled_numbers c.args.title.now c.args.limits.now c.in_ok-line.line.number c.in_ok-line.line.text.now c.requires.word (sym c.begins.ensures ∙ c.if-not-begins.true)))
 
+-- numbers that its words are, are the line's
 pub returns-in-Some-clause-read : goal.returns-in-Some-clause-read
 returns-in-Some-clause-read c =
     let first = bytes_same (first_word c.in_ok-line.line.text.now) c.args.title.now (sym c.begins.ensures ∙ c.if-not-begins.false) in
@@ -23,6 +26,7 @@ returns-in-Some-clause-read c =
     let found = sym c.in_ok-found.ensures ∙ ap (λ (o : Option (Vec ℕ Global)). option_map (λ ns. ns.items) o) c.in-Some.is in
     taken_ok (read_numbers c.args.title.now c.args.limits.now) (past c.args.lines.now) (left c.args.lines.now) (printed c.in_ok-line.line) (left c.take.new.self) c.in-Some.numbers.items c.in_ok-line.ensures.taken (numbers_are c.args.title.now c.args.limits.now c.in_ok-line.line.number c.in_ok-line.line.text.now ws c.in-Some.numbers.items c.requires.word c.requires.short c.requires.plain e found)
 
+-- where they are none, it has L2 if they are as many as the limits, else L1
 pub returns-in-None-clause-read : goal.returns-in-None-clause-read
 returns-in-None-clause-read c =
     let n = c.in_ok-line.line.number in

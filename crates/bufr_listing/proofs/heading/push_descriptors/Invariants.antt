@@ -1,7 +1,9 @@
+-- For `push_descriptors`: the descriptors that were written so far.
 use Rattle.std.proofs.Common.{◌≡◌, ◌++◌, ◌∷◌, take, string_bytes}
 use Rattle.std.specs.List.{flat_map}
 use Rattle.bufr_tables.specs.Descriptors.{six_digits}
 use Rattle.bufr_listing.proofs.heading.push_descriptors.Given as goal
 
+-- behind the text's first octets stand those descriptors, each behind a space
 abbrev pub invariant-loop-fxy : goal.invariant-loop-fxy
 invariant-loop-fxy l = string_bytes l.text ≡ string_bytes l.initial.text ++ flat_map (λ d. 32 ∷ six_digits d) (take l.fxy-index l.descriptors)

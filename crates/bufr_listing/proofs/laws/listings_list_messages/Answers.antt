@@ -1,8 +1,33 @@
+-- For the clauses `read` and `listed` of the law `listings_list_messages`.
 use Rattle.bufr_listing.proofs.TextFacts.{read_listed, listed_read}
 use Rattle.bufr_listing.proofs.laws.listings_list_messages.Goals as goal
 
+-- what is read of a text is listed by it, by the laws of the crates below
 pub returns-clause-read : goal.returns-clause-read
-returns-clause-read c = read_listed (record { descriptors = c.descriptor_texts.ensures; specs = c.courses_are_steady.ensures.in_range; builds = c.templates_are_trees.ensures.built; refuses = c.templates_are_trees.ensures.refused; fit = c.counted_subsets_fit.ensures.all_fit; counted = c.counted_subsets_fit.ensures.all_counted })
+returns-clause-read c =
+    read_listed (record {
+      descriptors = c.descriptor_texts.ensures;
+      specs =
+          c.courses_are_steady.ensures.in_range;
+      builds = c.templates_are_trees.ensures.built;
+      refuses =
+          c.templates_are_trees.ensures.refused;
+      fit = c.counted_subsets_fit.ensures.all_fit;
+      counted =
+          c.counted_subsets_fit.ensures.all_counted;
+    })
 
+-- and what a text lists is read of it
 pub returns-clause-listed : goal.returns-clause-listed
-returns-clause-listed c = listed_read (record { descriptors = c.descriptor_texts.ensures; specs = c.courses_are_steady.ensures.in_range; builds = c.templates_are_trees.ensures.built; refuses = c.templates_are_trees.ensures.refused; fit = c.counted_subsets_fit.ensures.all_fit; counted = c.counted_subsets_fit.ensures.all_counted })
+returns-clause-listed c =
+    listed_read (record {
+      descriptors = c.descriptor_texts.ensures;
+      specs =
+          c.courses_are_steady.ensures.in_range;
+      builds = c.templates_are_trees.ensures.built;
+      refuses =
+          c.templates_are_trees.ensures.refused;
+      fit = c.counted_subsets_fit.ensures.all_fit;
+      counted =
+          c.counted_subsets_fit.ensures.all_counted;
+    })

@@ -1,4 +1,5 @@
-use Rattle.std.proofs.Common.{◌≡◌, ◌∙◌, sym, ap, arith, false, FitsSigned, rules}
+-- For `number_of`: the number of a word, by what was found of it.
+use Rattle.std.proofs.Common.{◌≡◌, ◌∙◌, sym, arith, false, FitsSigned, rules}
 use Rattle.std.specs.Prelude.{nat_lt}
 use Rattle.std.specs.Int.{w32, w64, w128}
 use Rattle.std.proofs.lemmas.Int.{to_z-of_z}
@@ -8,6 +9,7 @@ use Rattle.bufr_listing.proofs.ParseFacts.{parsed}
 use Rattle.bufr_listing.proofs.RawFacts.{number_none, number_some, above_none, above_some}
 use Rattle.bufr_listing.proofs.raw_values.number_of.Goals as goal
 
+-- a word that is no decimal has no number
 pub returns-in_err-value : goal.returns-in_err-value
 returns-in_err-value c =
     let whole : FitsSigned w32 c.args.spec.scale = search rules in
@@ -18,6 +20,7 @@ returns-in_err-value c =
     let other : is_missing_word c.args.word.now ≡ false = sym c.eq.ensures ∙ c.if-eq.false in
     c.from_residual.ensures ∙ sym (number_none c.args.spec c.args.word.now small other (sym e ∙ c.in_err-value.was))
 
+-- nor has one whose units are no number of 64 bits above the reference value
 pub returns-in_err-number : goal.returns-in_err-number
 returns-in_err-number c =
     let whole : FitsSigned w32 c.args.spec.scale = search rules in
@@ -33,6 +36,7 @@ returns-in_err-number c =
     ∙ sym (number_some c.args.spec c.args.word.now c.in_ok-value.value small other (sym e ∙ c.in_ok-value.was)
     ∙ above_none c.args.spec _ (omega arith) (sym exact ∙ c.in_err-number.was))
 
+-- else it is that number, unless it does not fit or is the missing one
 pub returns : goal.returns
 returns c =
     let whole : FitsSigned w32 c.args.spec.scale = search rules in

@@ -1,3 +1,4 @@
+-- For `read_fields`: the fields that were read so far.
 use Rattle.std.proofs.Common.{◌≡◌, ◌-◌}
 use Rattle.bufr_expand.specs.Courses.{course}
 use Rattle.bufr_expand.specs.Walks as walks
@@ -6,6 +7,7 @@ use Rattle.bufr_listing.specs.Reading.{fields_read}
 use Rattle.bufr_listing.specs.Steps.{CanGoOn, behind_fields}
 use Rattle.bufr_listing.proofs.subsets.read_fields.Given as goal
 
+-- the walk can go on, and the subset's fields are these and then those that it asks for
 abbrev pub invariant-loop-fields : goal.invariant-loop-fields
 invariant-loop-fields l = record {
   ready : CanGoOn l.walk;
@@ -13,5 +15,6 @@ invariant-loop-fields l = record {
   so_far : fields_read (past l.fn.lines) (course l.template l.fn.used) (left l.fn.lines) ≡ behind_fields l.fields.items (fields_read (past l.fn.lines) (walks.left l.walk) (left l.lines));
 }
 
+-- fewer items can still be met after each field
 abbrev pub decreases-loop-fields : goal.decreases-loop-fields
 decreases-loop-fields l = 16777217 - walks.items_met l.walk

@@ -1,14 +1,17 @@
+-- For `each_is_short`: the subsets can each be said alone where each one can.
 use Rattle.std.proofs.Common.{◌≡◌, ◌<◌, ◌+◌, ◌-◌, length, ◌∙◌, sym, ap, arith}
 use Rattle.std.specs.Prelude.{slice_get}
 use Rattle.bufr_message.proofs.ViewFacts.{one_more_short, one_too_long}
 use Rattle.bufr_message.proofs.message_view.each_is_short.Goals as goal
 
+-- with one subset too long, not each can be said alone
 pub returns-then-not-is_short : goal.returns-then-not-is_short
 returns-then-not-is_short c =
     let back : c.loop-index.index + 1 - 1 ≡ c.loop-index.index = omega arith in
     let here = ap (slice_get c.args.subsets.now) (sym back) ∙ c.in_ok-subset.ensures in
     sym (one_too_long c.args.descriptors.now c.args.subsets.now c.loop-index.index c.in_ok-subset.subset here (sym c.is_short.ensures ∙ c.if-not-is_short.true))
 
+-- with one more that is short, so many subsets can each be said alone
 pub loop-index-preserved : goal.loop-index-preserved
 loop-index-preserved c =
     let back : c.loop-index.index + 1 - 1 ≡ c.loop-index.index = omega arith in

@@ -1,6 +1,8 @@
+-- For `each_is_short`: what its loop keeps.
 use Rattle.std.proofs.Common.{◌≡◌, true, take}
 use Rattle.bufr_message.specs.Messages.{can_be_alone}
 use Rattle.bufr_message.proofs.message_view.each_is_short.Given as goal
 
+-- each of the subsets so far can be said alone
 abbrev pub invariant-loop-index : goal.invariant-loop-index
 invariant-loop-index l = can_be_alone l.descriptors (take l.index l.subsets) ≡ true

@@ -1,3 +1,4 @@
+-- For `push_section3`: its pieces, put one behind another, are the section.
 use Rattle.std.proofs.Common.{arith, ◌≡◌, ◌∷◌, [], ◌+◌, ◌*◌, length}
 use Rattle.std.specs.List.{flat_map}
 use Rattle.std.specs.Int.{bytes_high_first}
@@ -5,6 +6,7 @@ use Rattle.bufr_sections.specs.Sections.{flag}
 use Rattle.bufr_sections.proofs.LengthFacts.{length_of_descriptors, section_of_pieces}
 use Rattle.bufr_sections.proofs.section_octets.push_section3.Goals as goal
 
+-- the length, the octets of the count and the flags, and the descriptors are section 3
 pub returns : goal.returns
 returns c =
     let pairs = length_of_descriptors c.args.descriptors.now in

@@ -1,14 +1,17 @@
+-- For `descriptors_of`: each two octets are a descriptor, and an odd octet is none.
 use Rattle.std.proofs.Common.{◌≡◌, ◌∙◌, length, drop, ◌-◌, sym, arith, length-drop, append-nil}
 use Rattle.bufr_sections.proofs.ListFacts.{take_whole, descriptors_more, descriptors_none}
 use Rattle.bufr_sections.specs.Sections.{descriptors_of}
 use Rattle.bufr_sections.proofs.sections.descriptors_of.Goals as goal
 
+-- with the descriptor of the next two octets put, the list and the rest come to the same
 pub loop-rest-preserved : goal.loop-rest-preserved
 loop-rest-preserved c =
     let more = descriptors_more c.loop-rest.list.items c.loop-rest.rest.now c.from_bits.result (descriptors_of c.args.octets.now) c.in-len2-up.len_at_least c.loop-rest.invariant (c.from_bits.ensures ∙ c.number_of_two.ensures) in
     let size : length c.loop-rest.rest.now - 2 ≡ length (drop 2 c.loop-rest.rest.now) = omega (arith, length-drop 2 c.loop-rest.rest.now) in
     rw (c.in_ok-push.ensures.items, take_whole (drop 2 c.loop-rest.rest.now) (length c.loop-rest.rest.now - 2) size) more
 
+-- fewer than two octets hold no descriptor
 pub returns : goal.returns
 returns c =
     let none = descriptors_none c.loop-rest.rest.now (omega (arith, c.in_default.len_below)) in

@@ -1,17 +1,21 @@
+-- For `head3_of`: section 1 of edition 3 by its length and its master table.
 use Rattle.std.proofs.Common.{◌≡◌, ◌∙◌, true, false, get_or, drop, arith, refl}
 use Rattle.std.specs.Prelude.{◌==◌}
 use Rattle.std.proofs.lemmas.Bool.{eq-eqb, ne_eqb}
 use Rattle.bufr_sections.proofs.HeadFacts.{head3_is, head3_short}
 use Rattle.bufr_sections.proofs.sections.head3_of.Goals as goal
 
+-- fewer than 14 octets are refused for their length
 pub returns-then-octets-lt14 : goal.returns-then-octets-lt14
 returns-then-octets-lt14 c = head3_short c.args.octets.now c.if-octets-lt14.true
 
+-- another master table than 0 is refused
 pub returns-then-table-ne0 : goal.returns-then-table-ne0
 returns-then-table-ne0 c =
     let other : (get_or c.args.octets.now 0 0 == 0) ≡ false = ne_eqb _ _ (λ h. omega (arith, c.if-table-ne0.true)) in
     head3_is c.args.octets.now c.if-octets-lt14.false ∙ rw other refl
 
+-- else the octets say the head, those behind the fourteenth for local use
 pub returns : goal.returns
 returns c =
     let none : (get_or c.args.octets.now 0 0 == 0) ≡ true = eq-eqb _ _ (omega (arith, c.if-table-ne0.false)) in

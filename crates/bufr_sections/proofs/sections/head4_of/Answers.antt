@@ -1,17 +1,21 @@
+-- For `head4_of`: section 1 of edition 4 by its length and its master table.
 use Rattle.std.proofs.Common.{◌≡◌, ◌∙◌, true, false, get_or, drop, arith, refl}
 use Rattle.std.specs.Prelude.{◌==◌}
 use Rattle.std.proofs.lemmas.Bool.{eq-eqb, ne_eqb}
 use Rattle.bufr_sections.proofs.HeadFacts.{head_is, head_short}
 use Rattle.bufr_sections.proofs.sections.head4_of.Goals as goal
 
+-- fewer than 19 octets are refused for their length
 pub returns-then-octets-lt19 : goal.returns-then-octets-lt19
 returns-then-octets-lt19 c = head_short c.args.octets.now c.if-octets-lt19.true
 
+-- another master table than 0 is refused
 pub returns-then-master-ne0 : goal.returns-then-master-ne0
 returns-then-master-ne0 c =
     let other : (get_or c.args.octets.now 0 0 == 0) ≡ false = ne_eqb _ _ (λ h. omega (arith, c.if-master-ne0.true)) in
     head_is c.args.octets.now c.if-octets-lt19.false ∙ rw other refl
 
+-- else the octets say the head, those behind the nineteenth for local use
 pub returns : goal.returns
 returns c =
     let none : (get_or c.args.octets.now 0 0 == 0) ≡ true = eq-eqb _ _ (omega (arith, c.if-master-ne0.false)) in

@@ -1,9 +1,11 @@
+-- For `header`: the first record, or an empty one where a text has none.
 use Rattle.std.proofs.Common.{◌∙◌, ap}
 use Rattle.csv.specs.Records.{fields_of}
 use Rattle.bufr_tables.proofs.ColumnFacts.{header-none, header-some}
 use Rattle.bufr_tables.proofs.columns.header.Goals as goal
 use Rattle.bufr_tables.proofs.columns.header.Goals.{then-not-branch, else-not-branch}
 
+-- a record that was found is the header, and where none was found the cleared one is
 pub returns : goal.returns
 returns c =
     elim c.if-not-branch.branch [

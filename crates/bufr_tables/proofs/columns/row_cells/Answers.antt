@@ -1,3 +1,4 @@
+-- For `row_cells`: a record of another length is a fault, and one like the header or empty no row.
 use Rattle.std.proofs.Common.{◌≡◌, ◌∙◌, sym, ap, map, length, ◌==◌, Ok, Some, List, ℕ, Bor, true, false, Bool, Option, Result}
 use Rattle.std.specs.Prelude.{bytes_eq}
 use Rattle.std.specs.Cmp.Lexicographic.{pointwise}
@@ -6,28 +7,35 @@ use Rattle.std.proofs.lemmas.List.Folds.{list_all-map}
 use Rattle.csv.specs.Records.{fields_of}
 use Rattle.bufr_tables.specs.Fields.{used_fields}
 use Rattle.bufr_tables.specs.TableFiles.{cells_at}
-use Rattle.bufr_tables.specs.declared.file.TableFault.{TableFault}
+use Rattle.bufr_tables.specs.declared.table_faults.TableFault.{TableFault}
 use Rattle.bufr_tables.proofs.ColumnFacts.{row_cells-unequal, row_cells-skipped, row_cells-used, is_skipped-same, is_skipped-by, length-map}
 use Rattle.bufr_tables.proofs.columns.row_cells.Goals as goal
 use Rattle.bufr_tables.proofs.columns.row_cells.Goals.{then-same_fields-via-then-same_fields, then-same_fields-via-else-same_fields+then-are_empty}
 
 -- whether the fields are those of the header
-header_test : (names fields deref : List (Bor (List ℕ))) (used : List (List ℕ)) (b t : Bool) → b ≡ pointwise bytes_eq (map (λ s. s.now) deref) (map (λ s. s.now) names) → deref ≡ fields → map (λ s. s.now) fields ≡ used → b ≡ t
-    → pointwise bytes_eq used (map (λ s. s.now) names) ≡ t
+header_test : (names fields deref : List (Bor (List ℕ))) (used : List (List ℕ)) (b t : Bool)
+    → b ≡ pointwise bytes_eq (map (λ s. s.now) deref) (map (λ s. s.now) names) → deref ≡ fields
+    → map (λ s. s.now) fields ≡ used → b ≡ t → pointwise bytes_eq used (map (λ s. s.now) names) ≡ t
 header_test names fields deref used b t p q r s = rw (← r, ← q) (sym p ∙ s)
 
 -- the cells
-cells_are : (fields deref : List (Bor (List ℕ))) (used cells : List (List ℕ)) (places : List ℕ) → cells ≡ cells_at (map (λ s. s.now) deref) places → deref ≡ fields → map (λ s. s.now) fields ≡ used → cells ≡ cells_at used places
+cells_are : (fields deref : List (Bor (List ℕ))) (used cells : List (List ℕ)) (places : List ℕ)
+    → cells ≡ cells_at (map (λ s. s.now) deref) places → deref ≡ fields
+    → map (λ s. s.now) fields ≡ used → cells ≡ cells_at used places
 cells_are fields deref used cells places p q r = rw (← r, ← q) p
 
 -- whether they are empty
-empty_test : (cells deref : List (Bor (List ℕ))) (all : List (List ℕ)) (b t : Bool) → b ≡ list_all (λ text. length text.now == 0) deref → deref ≡ cells → map (λ s. s.now) cells ≡ all → b ≡ t → list_all (λ text. length text == 0) all ≡ t
+empty_test : (cells deref : List (Bor (List ℕ))) (all : List (List ℕ)) (b t : Bool)
+    → b ≡ list_all (λ text. length text.now == 0) deref → deref ≡ cells
+    → map (λ s. s.now) cells ≡ all → b ≡ t → list_all (λ text. length text == 0) all ≡ t
 empty_test cells deref all b t p q r s = rw (← r, ← q) (list_all-map (λ (text : List ℕ). length text == 0) (λ (s : Bor (List ℕ)). s.now) deref ∙ sym p ∙ s)
 
+-- a record with another number of fields than the header is no CSV row
 pub returns-then-len-names : goal.returns-then-len-names
 returns-then-len-names c =
     row_cells-unequal _ c.args.places.now c.args.number (fields_of c.args.row.now) (λ e. c.if-len-names.true (c.len.ensures ∙ e ∙ length-map _ c.args.names.now))
 
+-- a record that repeats the header, or has empty cells only, is skipped
 pub returns-then-same_fields : goal.returns-then-same_fields
 returns-then-same_fields c =
     let same = sym c.len.ensures ∙ c.if-len-names.false ∙ sym (length-map (λ (s : Bor (List ℕ)). s.now) c.args.names.now) in
@@ -40,6 +48,7 @@ returns-then-same_fields c =
           (empty_test _ _ _ _ true w.are_empty.ensures w.deref-else-same_fields.ensures.value cells w.if-are_empty.true)
     ])
 
+-- any other record of so many fields is a row, by its cells
 pub returns : goal.returns
 returns c =
     let same = sym c.len.ensures ∙ c.if-len-names.false ∙ sym (length-map (λ (s : Bor (List ℕ)). s.now) c.args.names.now) in

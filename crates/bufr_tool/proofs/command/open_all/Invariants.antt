@@ -1,3 +1,4 @@
+-- The loop of `open_all`: the readers opened so far.
 use Rattle.std.specs.List.{AllByRecursion}
 use Rattle.bufr_tool.proofs.OpenFacts.{Unread}
 use Rattle.bufr_tool.proofs.command.open_all.Given as goal

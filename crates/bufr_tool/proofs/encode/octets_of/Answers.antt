@@ -1,3 +1,4 @@
+-- The clause of `octets_of`: message by message, until one has no encoding or none is left.
 use Rattle.std.proofs.Common.{◌≡◌, ◌+◌, ◌∙◌, length, take, sym, ap, Result, List, ℕ, map}
 use Rattle.std.proofs.lemmas.List.{map-id}
 use Rattle.std.proofs.lemmas.Iterator.Adapters.{YieldsList-from_vec}
@@ -9,12 +10,14 @@ use Rattle.bufr_tool.proofs.PrintingFacts.{passed}
 use Rattle.bufr_tool.proofs.EncodingFacts.{encodings_more, encoding_stopped}
 use Rattle.bufr_tool.proofs.encode.octets_of.Goals as goal
 
+-- the encoding of one message more stands behind the others, and it is counted
 pub loop-message-preserved : goal.loop-message-preserved
 loop-message-preserved c =
     let so_far = c.loop-message.invariant in
     let added = c.in_ok-add_octets.ensures in
     (encodings_more _ _ _ _ _ _ added.0 so_far.0 added.1 added.2, ap (λ n. n + 1) so_far.1 ∙ sym (length_push c.loop-message.yielded c.in-Some.message))
 
+-- a message that has no encoding is the first such, and is told; want of memory tells nothing
 pub returns-in_err-add_octets : goal.returns-in_err-add_octets
 returns-in_err-add_octets c =
     let so_far = c.loop-message.invariant in

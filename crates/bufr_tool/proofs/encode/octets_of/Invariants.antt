@@ -1,3 +1,4 @@
+-- The loop of `octets_of`: the messages encoded so far.
 use Rattle.std.proofs.Common.{◌≡◌, length}
 use Rattle.bufr_tool.specs.Encoding.{AreEncodings}
 use Rattle.bufr_tool.proofs.encode.octets_of.Given as goal

@@ -1,3 +1,4 @@
+-- The clause of `print_frames`: frame by frame, with counts that stay within their word.
 use Rattle.std.proofs.Common.{◌+◌, ◌++◌, ℕ, length, take, arith, ap}
 use Rattle.std.proofs.lemmas.List.Sums.{sum_by-append, sum_by_more, sum_by-take-le}
 use Rattle.bufr_frame.specs.declared.frames.Found.{Found}
@@ -5,13 +6,16 @@ use Rattle.bufr_tool.specs.StreamEngines.{PrintsFrames}
 use Rattle.bufr_tool.proofs.PrintingFacts.{refused_at_most, passed, stopped, parted_at}
 use Rattle.bufr_tool.proofs.frames.print_frames.Goals as goal
 
+-- how many octets a frame has
 abbrev long : Found → ℕ
 long frame = length frame.bytes
 
+-- no more frames are counted as refused than as printed
 pub print_frame-requires-clause-refused : goal.print_frame-requires-clause-refused
 print_frame-requires-clause-refused g c =
     refused_at_most _ _ _ _ _ _ (c.loop-frame.invariant c.requires.so_far.0 c.requires.so_far.1 c.requires.so_far.2)
 
+-- the octets of the frames so far and of the next can be counted
 pub print_frame-requires-clause-octets : goal.print_frame-requires-clause-octets
 print_frame-requires-clause-octets g c =
     let before = c.requires.so_far.1 in
@@ -27,6 +31,7 @@ print_frame-requires-clause-octets g c =
     let short = c.requires.short in
     omega arith
 
+-- where printing a frame stops, a front of what is printed of all was written, or some of its lines
 pub returns-in_err-print_frame : goal.returns-in_err-print_frame
 returns-in_err-print_frame g c first before h =
     passed (PrintsFrames c.args.printing c.args.tables.now (before ++ c.args.frames.now) c.print_frame.new.counts first (g.W.Sink.writing c.print_frame.new.writer))

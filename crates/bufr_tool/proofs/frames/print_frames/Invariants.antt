@@ -1,3 +1,4 @@
+-- The loop of `print_frames`: the frames printed so far.
 use Rattle.std.proofs.Common.{◌++◌, List, take}
 use Rattle.bufr_bits.specs.Devices.{Writing}
 use Rattle.bufr_frame.specs.declared.frames.Found.{Found}

@@ -1,3 +1,4 @@
+-- The loop of `print_piece`: how far the piece is taken in, and the frames printed so far.
 use Rattle.std.proofs.Common.{ℕ, ◌+◌, ◌-◌, ◌++◌, List, length}
 use Rattle.bufr_bits.specs.Devices.{Writing}
 use Rattle.bufr_tool.specs.StreamEngines.{HasPrintedSure}

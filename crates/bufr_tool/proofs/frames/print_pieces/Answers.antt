@@ -1,3 +1,4 @@
+-- The clause `prints` of `print_pieces`: read by read, until one takes nothing or printing stops.
 use Rattle.std.proofs.Common.{◌≡◌, ◌<◌, ◌+◌, ◌++◌, length, take, arith, refl, length-append}
 use Rattle.std.proofs.lemmas.List.{length-take}
 use Rattle.bufr_tool.specs.StreamEngines.{Prints}
@@ -6,9 +7,11 @@ use Rattle.bufr_tool.proofs.PrintingFacts.{passed}
 use Rattle.bufr_tool.proofs.EngineFacts.{between_first, prints_part, prints_whole}
 use Rattle.bufr_tool.proofs.frames.print_pieces.Goals as goal
 
+-- before the first read nothing was read or printed
 pub loop-init : goal.loop-init
 loop-init g c = between_first _ _ _ _ _ c.requires.fresh c.requires.works c.new-framer.ensures.starts
 
+-- a read that takes nothing ends the stream, which is all that was read
 pub returns-then-given-eq0-clause-prints : goal.returns-then-given-eq0-clause-prints
 returns-then-given-eq0-clause-prints g c =
     let b = c.loop.invariant in
@@ -21,12 +24,24 @@ returns-then-given-eq0-clause-prints g c =
     prints_whole _ _ _ old new (g.W.Sink.writing c.args.writer.now) _ b.read c.print_end.result ends.0 ends.1 (HasGiven_more old mid new _ _ b.goes_on.so_far gave none)
     (c.print_end.ensures (g.W.Sink.writing c.args.writer.now) b.read b.printed)
 
-pub print_end-requires : goal.print_end-requires
-print_end-requires g c = (g.W.Sink.writing c.args.writer.now, c.loop.invariant.read, c.loop.invariant.printed)
+-- fewer than 2 ^ 48 octets were read
+pub print_end-requires-clause-long : goal.print_end-requires-clause-long
+print_end-requires-clause-long g c =
+    let fed = c.loop.invariant.printed.handed.stands.fed in
+    let short = c.loop.invariant.short in
+    let few = c.requires.few in
+    let turn = c.loop-test.true in
+    omega arith
 
+-- of the octets that were read all sure frames were printed
+pub print_end-requires-clause-so_far : goal.print_end-requires-clause-so_far
+print_end-requires-clause-so_far g c = (g.W.Sink.writing c.args.writer.now, c.loop.invariant.read, c.loop.invariant.printed)
+
+-- of the octets that were read before the piece all sure frames were printed
 pub print_piece-requires-clause-so_far : goal.print_piece-requires-clause-so_far
 print_piece-requires-clause-so_far g c = (g.W.Sink.writing c.args.writer.now, c.loop.invariant.read, c.loop.invariant.printed)
 
+-- with the piece there are at most 2 ^ 48 octets
 pub print_piece-requires-clause-room : goal.print_piece-requires-clause-room
 print_piece-requires-clause-room g c =
     let fed = c.loop.invariant.printed.handed.stands.fed in
@@ -37,6 +52,7 @@ print_piece-requires-clause-room g c =
     let turn = c.loop-test.true in
     omega arith
 
+-- one piece more was read, and the frames that are sure with it were printed
 pub loop-preserved : goal.loop-preserved
 loop-preserved g c =
     let b = c.loop.invariant in
@@ -53,6 +69,8 @@ loop-preserved g c =
       short = omega arith;
     }
 
+-- where printing a piece stops, a front of what may be printed by then was written, or some of
+-- its lines
 pub returns-in_err-print_piece-clause-prints : goal.returns-in_err-print_piece-clause-prints
 returns-in_err-print_piece-clause-prints g c =
     let b = c.loop.invariant in

@@ -1,3 +1,4 @@
+-- The loop of `print_pieces`: the reads so far, and what was printed of their octets.
 use Rattle.bufr_tool.proofs.EngineFacts.{Between}
 use Rattle.bufr_tool.proofs.frames.print_pieces.Given as goal
 

@@ -1,3 +1,4 @@
+-- The clause of `print_rest`: the frames that come with the end of a stream, after the others.
 use Rattle.std.proofs.Common.{◌++◌, List, length, arith, ap, subst, ◌∙◌}
 use Rattle.bufr_frame.specs.declared.frames.Found.{Found}
 use Rattle.bufr_frame.specs.Streams.{cut, sure}
@@ -9,15 +10,18 @@ use Rattle.bufr_tool.proofs.PrintingFacts.{passed}
 use Rattle.bufr_tool.proofs.StreamFacts.{rest_few, rest_halted}
 use Rattle.bufr_tool.proofs.frames.print_rest.Goals as goal
 
+-- where memory runs out before they are handed out, only lines of frames were written
 pub returns-in_err-frames : goal.returns-in_err-frames
 returns-in_err-frames g c first stream h =
     passed (PrintsFrames c.args.printing c.args.tables.now (cut stream) c.args.counts.now first (g.W.Sink.writing c.args.writer.now))
     c.from_residual.result faults.OutOfMemory c.from_residual.ensures.1
     (rest_halted _ _ first _ _ _ c.args.counts.now stream h)
 
+-- the sure frames of the stream were printed before
 pub print_frames-requires-clause-so_far : goal.print_frames-requires-clause-so_far
 print_frames-requires-clause-so_far g c = (c.requires.so_far.0, sure c.requires.so_far.1, c.requires.so_far.2.printed)
 
+-- there are no more frames than octets, so their count fits its word
 pub print_frames-requires-clause-few : goal.print_frames-requires-clause-few
 print_frames-requires-clause-few g c =
     let h = c.requires.so_far.2 in
@@ -29,6 +33,7 @@ print_frames-requires-clause-few g c =
     let long = c.requires.long in
     omega arith
 
+-- nor have they more octets, so these can be counted
 pub print_frames-requires-clause-short : goal.print_frames-requires-clause-short
 print_frames-requires-clause-short g c =
     let h = c.requires.so_far.2 in
@@ -40,6 +45,7 @@ print_frames-requires-clause-short g c =
     let long = c.requires.long in
     omega arith
 
+-- printing the last frames after the sure ones is printing those of the whole cut
 pub returns : goal.returns
 returns g c first stream h =
     let found = c.in_ok-frames.ensures.found stream (length (sure stream)) h.handed.stands in

@@ -1,9 +1,11 @@
+-- The clause of `reading`: the shape of the command, argument by argument.
 use Rattle.std.proofs.Common.{rules, ◌≡◌, ap, ap₂, ◌∙◌, codes}
 use Rattle.std.proofs.lemmas.Result.{IfOk-weaker}
 use Rattle.clap.specs.Words.{App, app_of, new_app, rule_of, with_rule}
 use Rattle.bufr_tool.specs.CommandLines.{path_option, input_argument}
 use Rattle.bufr_tool.proofs.words.reading.Goals as goal
 
+-- a command of this name, with the options of both tables and the input
 pub returns : goal.returns
 returns c =
     let b_is : rule_of c.path.result ≡ path_option (codes "b") 98 = search rules in

@@ -1,18 +1,25 @@
+-- The clause of `value`: the value that an argument has in the rows of the named command.
 use Rattle.std.proofs.Common.{◌≡◌, [], ap, refl, ◌∙◌, List, Option, Some, None, option_map, unwrap_or, Bor}
 use Rattle.std.specs.Option.{option_map_or}
 use Rattle.clap.specs.Words.{Row, Text, first_of, subcommand_rows_of, rows_of, found_of}
 use Rattle.clap.proofs.WalkLemmas.{first_value-rows}
 use Rattle.bufr_tool.proofs.words.value.Goals as goal
 
-in_rows : (entered : Option (Text × List Row)) (rows : List Row) (id : Text) → Some rows ≡ option_map (λ p. p.1) entered →
-    unwrap_or (first_of id rows) [] ≡ option_map_or (λ found. unwrap_or (first_of id found.1) []) entered []
+-- the value of the command that was named is the first in its rows
+in_rows : (entered : Option (Text × List Row)) (rows : List Row) (id : Text)
+    → Some rows ≡ option_map (λ p. p.1) entered
+    → unwrap_or (first_of id rows) []
+    ≡ option_map_or (λ found. unwrap_or (first_of id found.1) []) entered []
 in_rows None rows id h = cc
 in_rows (Some p) rows id h = ap (λ (o : Option (List Row)). unwrap_or (first_of id (unwrap_or o [])) []) h
 
-text_or : (o : Option (Bor Text)) (fallback : Bor Text) → (unwrap_or o fallback).now ≡ unwrap_or (option_map (λ s. s.now) o) fallback.now
+-- the octets of a text, or else of another, are those of the one that is taken
+text_or : (o : Option (Bor Text)) (fallback : Bor Text)
+    → (unwrap_or o fallback).now ≡ unwrap_or (option_map (λ s. s.now) o) fallback.now
 text_or None fallback = refl
 text_or (Some s) fallback = refl
 
+-- where a command was named, the answer is its value, or the empty text where it has none
 pub returns-in-Some : goal.returns-in-Some
 returns-in-Some c =
     ap (λ (b : Bor Text). b.now) c.unwrap_or.ensures

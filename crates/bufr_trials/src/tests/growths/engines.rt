@@ -1,7 +1,8 @@
 //! The engines, over fresh devices each time.
 
 use crate::tests::samples::{
-    COMPRESSED_PAIR, SEQUENCES, SEQUENCES_LISTED, TABLE_B, TABLE_D, is_refused, repeated, tables,
+    COMPRESSED_PAIR, SEQUENCES, SEQUENCES_LISTED, TABLE_B, TABLE_D, is_refused, joined, repeated,
+    tables,
 };
 use bufr_bits::{FromRead, IntoWrite};
 use bufr_engines::{Tally, ToolFault};
@@ -12,11 +13,7 @@ use std::test::Fail;
 
 /// The stream of the engines: a heading, a message, a stray `BUFR`, and a compressed message.
 fn stream(alloc: Global) -> Result<Vec<u8>, Fail> {
-    let mut octets = repeated!(Vec::with_capacity(alloc, 200))?;
-    for part in [b"heading ".as_slice(), SEQUENCES, b"BUFR", COMPRESSED_PAIR] {
-        repeated!(octets.extend_from_slice(part))?;
-    }
-    Ok(octets)
+    joined(alloc, &[b"heading ", SEQUENCES, b"BUFR", COMPRESSED_PAIR])
 }
 
 /// What is checked of it.
@@ -97,9 +94,7 @@ fn streams_checked(rt: HostRuntime) -> Result<(), Fail> {
 
 #[test]
 fn streams_shown(rt: HostRuntime) -> Result<(), Fail> {
-    let mut wanted = repeated!(Vec::with_capacity(rt.alloc(), 1000))?;
-    repeated!(wanted.extend_from_slice(SEQUENCES_LISTED))?;
-    repeated!(wanted.extend_from_slice(PAIR_LISTED))?;
+    let wanted = joined(rt.alloc(), &[SEQUENCES_LISTED, PAIR_LISTED])?;
     writes!(rt, Engine::Show, wanted.as_slice(), 0);
     Ok(())
 }

@@ -1,3 +1,4 @@
+-- The clause of `Archive::read_entries`: entry by entry, until one is not right or none is left.
 use Rattle.std.proofs.Common.{◌≡◌, ◌++◌, ◌∷◌, [], ◌+◌, ◌-◌, length, Some, None, List, ℕ, sym, ap, subst, ◌∙◌, arith}
 use Rattle.std.specs.Option.{option_map}
 use Rattle.std.proofs.lemmas.List.{length-drop}
@@ -9,6 +10,7 @@ use Rattle.bufr_archive.specs.ReportEntries.{IsReportEntry, entry_in}
 use Rattle.bufr_archive.proofs.ReadFacts.{ReadSoFar, read_long, read_more, read_all, read_stops}
 use Rattle.bufr_archive.proofs.archive.Archive.read_entries.Goals as goal
 
+-- where no right entry begins, its place is told
 pub returns-in_default : goal.returns-in_default
 returns-in_default g c =
     let tables = c.args.tables.now in
@@ -20,6 +22,7 @@ returns-in_default g c =
     c.args.octets.now (g.S.Shelf.entries c.loop-rest.shelf)
     before c.loop-rest.place c.loop-rest.rest.now c.loop-rest.invariant (omega arith) none)
 
+-- a right entry has no more octets than are left
 pub behind-rest-requires : goal.behind-rest-requires
 behind-rest-requires g c =
     let tables = c.args.tables.now in
@@ -33,6 +36,7 @@ behind-rest-requires g c =
     c.loop-rest.invariant found in
     long.1
 
+-- one entry more was read and put on the shelf, and the octets behind it are left
 pub loop-rest-preserved : goal.loop-rest-preserved
 loop-rest-preserved g c =
     let tables = c.args.tables.now in
@@ -50,6 +54,7 @@ loop-rest-preserved g c =
     subst (λ (es : List Entry). ReadSoFar (IsReportEntry tables) c.args.octets.now
     es (Some e) place c.behind-rest.result.now) (sym c.in_ok-keep.ensures) left
 
+-- a right entry has some octets, so fewer are left
 pub loop-rest-smaller : goal.loop-rest-smaller
 loop-rest-smaller g c =
     let tables = c.args.tables.now in
@@ -66,6 +71,7 @@ loop-rest-smaller g c =
     ap length c.behind-rest.ensures ∙ length-drop n c.loop-rest.rest.now in
     omega (arith, long, size)
 
+-- where no octets are left, the entries of the whole text were read
 pub returns : goal.returns
 returns g c =
     let tables = c.args.tables.now in

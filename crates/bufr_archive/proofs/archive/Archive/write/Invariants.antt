@@ -1,3 +1,4 @@
+-- The loop of `Archive::write`: the entries written so far, and those that are still to write.
 use Rattle.std.proofs.Common.{◌≡◌, ◌≤◌, ◌++◌, false, List, length, ◌*◌, ◌^◌}
 use Rattle.std.specs.Option.{option_map}
 use Rattle.bufr_bits.specs.Devices.{Writes}
@@ -7,6 +8,7 @@ use Rattle.bufr_archive.specs.Texts.{text}
 use Rattle.bufr_shelves.specs.declared.entry.Entry.{Entry}
 use Rattle.bufr_archive.proofs.archive.Archive.write.Given as goal
 
+-- the text of the entries so far was written and counted, and the next is the first of the others
 abbrev pub invariant-loop : goal.invariant-loop
 invariant-loop g l =
     record {

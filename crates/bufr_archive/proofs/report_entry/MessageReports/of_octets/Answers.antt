@@ -1,7 +1,9 @@
+-- The clause `entries` of `MessageReports::of_octets`: reports that were read spell their entries.
 use Rattle.bufr_message.specs.Reports.{reports_of}
 use Rattle.bufr_archive.proofs.ReportFacts.{spelt_are_entries}
 use Rattle.bufr_archive.proofs.report_entry.MessageReports.of_octets.Goals as goal
 
+-- what the own fields of the reports of a message spell are their entries under the tables
 pub returns-clause-entries : goal.returns-clause-entries
 returns-clause-entries c =
     spelt_are_entries c.canonical_messages_are_own.ensures c.args.tables.now

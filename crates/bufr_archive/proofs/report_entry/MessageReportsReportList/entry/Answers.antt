@@ -1,3 +1,4 @@
+-- The clause of `entry` of `MessageReports`: reports counted from 0, and from 1 in a message.
 use Rattle.std.proofs.Common.{◌≡◌, Option, subst}
 use Rattle.std.specs.Prelude.{IfOk}
 use Rattle.bufr_message.specs.Reports.{reports_of}
@@ -5,6 +6,7 @@ use Rattle.bufr_shelves.specs.declared.entry.Entry.{Entry}
 use Rattle.bufr_archive.proofs.ReportFacts.{spelt_at}
 use Rattle.bufr_archive.proofs.report_entry.MessageReportsReportList.entry.Goals as goal
 
+-- the entry at an index is that of the report built there
 pub returns : goal.returns
 returns c =
     subst (λ (e : Option Entry). IfOk c.spelt_entry.result (λ found. found ≡ e))

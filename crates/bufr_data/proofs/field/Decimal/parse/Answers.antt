@@ -1,9 +1,11 @@
+-- The clause `only` of `Decimal::parse`: a decimal that prints the text is the one candidate.
 use Rattle.std.proofs.Common.{◌∙◌, FitsSigned, rules}
 use Rattle.std.specs.Int.{w32}
 use Rattle.std.proofs.lemmas.Int.{to_z-of_z}
 use Rattle.bufr_data.specs.DecimalTextFacts.{decimal_only}
 use Rattle.bufr_data.proofs.field.Decimal.parse.Goals as goal
 
+-- the decimal of this scale that prints the text is the one that is answered
 pub returns-clause-only : goal.returns-clause-only
 returns-clause-only c d is own e =
     let fits : FitsSigned w32 c.args.scale = search rules in

@@ -1,3 +1,4 @@
+-- The clause `writes` of `LastDigits`' `fmt`: digit by digit from the first of the last ones on.
 use Rattle.std.proofs.Common.{◌≡◌, ◌%◌, ◌+◌, ◌<◌, [], ◌∷◌, ◌++◌, take, sym, ap, ◌∙◌, refl, arith}
 use Rattle.std.specs.Prelude.{decimal}
 use Rattle.std.proofs.Output.{has_written_append, has_written_of_eq}
@@ -7,6 +8,7 @@ use Rattle.bufr_data.specs.Digits.{last_digits}
 use Rattle.bufr_data.proofs.DigitFacts.{last_digit_at, length-last_digits}
 use Rattle.bufr_data.proofs.text.LastDigitsDisplay.fmt.Goals as goal
 
+-- the digit at this place among the last ones is written behind those so far
 pub loop-i-preserved : goal.loop-i-preserved
 loop-i-preserved g c =
     λ plain.
@@ -19,6 +21,7 @@ loop-i-preserved g c =
     let more = take_more all i 0 (omega (arith, length-last_digits d.places d.number)) in
     has_written_of_eq _ _ _ _ _ (ap (λ ds. take i all ++ ds) same ∙ sym more) (has_written_append _ _ _ _ _ _ (c.loop-i.invariant plain) (c.in_ok-write.ensures.writes (c.loop-i.invariant plain).plain refl))
 
+-- where no place is left, the last digits are written
 pub returns-clause-writes : goal.returns-clause-writes
 returns-clause-writes g c =
     λ plain ok.

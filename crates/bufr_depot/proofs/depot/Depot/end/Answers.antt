@@ -1,3 +1,4 @@
+-- The clause of `Depot::end`: the end of one slot's stream, as a step of the depot.
 use Rattle.std.proofs.Common.{◌≡◌, ◌∙◌, Some, Err, ap, sym, subst, set, ◌<◌, ◌≤◌, List, []}
 use Rattle.std.specs.Prelude.{slice_get}
 use Rattle.bufr_depot.specs.Holdings.{Holding, DepotView}
@@ -8,12 +9,14 @@ use Rattle.bufr_depot.proofs.HeldFacts.{none_there, end_does}
 use Rattle.bufr_depot.proofs.JoinFacts.{get_is_at, get_none}
 use Rattle.bufr_depot.proofs.depot.Depot.end.Goals as goal
 
+-- a slot that is not there is answered so
 pub returns-then-slot-len : goal.returns-then-slot-len
 returns-then-slot-len g c =
     subst (λ (d : DepotView). StepDoes d d (End c.args.slot) (Err (NoSlot c.args.slot))) c.self.view_is
     (none_there (record { tables = c.self.inside.tables.now; slots = c.self.inside.slots.items }) c.args.slot []
     (get_none c.self.inside.slots.items c.args.slot (subst (λ n. n ≤ c.args.slot) (c.len.ensures ∙ c.self.inside.slots.ok.0) c.if-slot-len.true))).1
 
+-- the slot that is there has ended its stream, and the others are as they were
 pub returns : goal.returns
 returns g c =
     let d : DepotView = record { tables = c.self.inside.tables.now; slots = c.self.inside.slots.items } in

@@ -1,9 +1,11 @@
+-- The clause `there` of `Depot::find`: two slots below the number of slots are there.
 use Rattle.std.proofs.Common.{◌≡◌, ◌∙◌, ◌<◌, subst}
 use Rattle.bufr_depot.specs.Holdings.{DepotView}
 use Rattle.bufr_depot.specs.HeldSteps.{AreThere}
 use Rattle.bufr_depot.proofs.DepotFacts.{are_there}
 use Rattle.bufr_depot.proofs.depot.Depot.find.Goals as goal
 
+-- both numbers are below the number of slots
 pub returns-clause-there : goal.returns-clause-there
 returns-clause-there g c =
     let d : DepotView = record { tables = c.self.inside.tables.now; slots = c.self.inside.slots.items } in

@@ -1,3 +1,4 @@
+-- The clause of `Depot::merge`: the target's archive is taken out, merged into and put back.
 use Rattle.std.proofs.Common.{◌≡◌, ◌∙◌, ◌<◌, Some, Err, sym, ap, subst, set, length}
 use Rattle.std.proofs.lemmas.Result.{err_from_is_err_and}
 use Rattle.std.specs.Prelude.{slice_get}
@@ -11,6 +12,7 @@ use Rattle.bufr_depot.proofs.JoinFacts.{get_is_at, join_missing}
 use Rattle.bufr_depot.proofs.depot.Depot.merge.Goals.{in-Ok, in-Err}
 use Rattle.bufr_depot.proofs.depot.Depot.merge.Goals as goal
 
+-- a slot that is not there is answered so
 pub returns-in_err-find : goal.returns-in_err-find
 returns-in_err-find g c =
     let d = c.args.self.now in
@@ -19,10 +21,12 @@ returns-in_err-find g c =
     subst (λ r. (step : Step) → IsJoin step c.args.from c.args.into → StepDoes d d step r)
     (sym (p.1 ∙ ap Err (p.2 ∙ m.1))) (join_missing d c.args.from c.args.into m.0 m.2)
 
+-- a slot that is to take in itself stays as it is
 pub returns-then-from-into : goal.returns-then-from-into
 returns-then-from-into g c =
     self_joined c.args.self.now c.args.from c.args.into c.in_ok-find.ensures.there c.if-from-into.true
 
+-- the target is there, so its archive can be taken out
 pub index_mut-requires : goal.index_mut-requires
 index_mut-requires g c =
     let there = c.in_ok-find.ensures.there in
@@ -30,6 +34,7 @@ index_mut-requires g c =
     subst (λ n. c.args.into < n) (sym c.self.inside.slots.ok.0)
     (subst (λ (e : DepotView). c.args.into < length e.slots) (sym c.self.view_is) below)
 
+-- the source is there
 pub index-requires : goal.index-requires
 index-requires g c =
     let there = c.in_ok-find.ensures.there in
@@ -37,6 +42,7 @@ index-requires g c =
     subst (λ n. c.args.from < n) (sym c.self.inside.slots.ok.0)
     (subst (λ (e : DepotView). c.args.from < length e.slots) (sym c.self.view_is) below)
 
+-- the target is there still, so its archive can be put back
 pub index_mut-requires-2 : goal.index_mut-requires-2
 index_mut-requires-2 g c =
     let there = c.in_ok-find.ensures.there in
@@ -44,6 +50,7 @@ index_mut-requires-2 g c =
     subst (λ n. c.args.into < n) (sym c.self.inside.slots.ok.0)
     (subst (λ (e : DepotView). c.args.into < length e.slots) (sym c.self.view_is) below)
 
+-- the archives of both slots read under the same tables
 pub merge-merged-requires : goal.merge-merged-requires
 merge-merged-requires g c =
     let there = c.in_ok-find.ensures.there in
@@ -66,6 +73,7 @@ merge-merged-requires g c =
     ∙ sym (ap (λ (k : Holding). k.archive.tables) c.behind-self-2.view_is
     ∙ all_at d.tables (set d.slots c.args.into k1) c.args.from h2 (all_set d.tables d.slots c.args.into k1 c.self.invariant new) at2)
 
+-- where both slots are there, the target has taken in the source, or all is as it was
 pub returns : goal.returns
 returns g c =
     let there = c.in_ok-find.ensures.there in

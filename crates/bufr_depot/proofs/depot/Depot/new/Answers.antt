@@ -1,9 +1,11 @@
+-- The clause `slots` of `Depot::new`: so many new archives and framers stand for so many new slots.
 use Rattle.std.proofs.Common.{◌≡◌, ◌∙◌, List, replicate, sym, ap, subst, arith}
 use Rattle.bufr_depot.specs.Slots.{new_slots}
 use Rattle.bufr_depot.specs.Holdings.{Holding, StandsFor}
 use Rattle.bufr_depot.proofs.JoinFacts.{new_holding, new_stands}
 use Rattle.bufr_depot.proofs.depot.Depot.new.Goals as goal
 
+-- after as many rounds as slots were asked for, the depot stands for so many new ones
 pub returns-clause-slots : goal.returns-clause-slots
 returns-clause-slots g c =
     let a = c.loop.auto.counter-end in let b = c.loop-test.false in

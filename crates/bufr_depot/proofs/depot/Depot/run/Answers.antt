@@ -1,3 +1,4 @@
+-- The clauses of `Depot::run`: step by step, what is answered and left is that of a run.
 use Rattle.std.proofs.Common.{◌≡◌, ◌∙◌, ◌++◌, ◌∷◌, [], ◌+◌, Result, List, sym, subst, arith}
 use Rattle.std.proofs.lemmas.List.{take_all}
 use Rattle.bufr_depot.specs.Runs.{Run, after_all}
@@ -6,6 +7,7 @@ use Rattle.bufr_depot.specs.HeldSteps.{StepDoes}
 use Rattle.bufr_depot.proofs.JoinFacts.{RunSoFar, none_run, one_run}
 use Rattle.bufr_depot.proofs.depot.Depot.run.Goals as goal
 
+-- at first no step is done, and no answer is given
 pub loop-step-init : goal.loop-step-init
 loop-step-init g c =
     let d = c.args.self.now in (
@@ -14,12 +16,14 @@ loop-step-init g c =
       c.in_ok-answers.ensures.exact,
     )
 
+-- the list of answers has room for one of each step
 pub push_reserved-requires : goal.push_reserved-requires
 push_reserved-requires g c =
     let a = c.loop-step.answers.ok.0 in let b = c.loop-step.invariant.0.count in
     let room = c.loop-step.invariant.1 in let below = c.loop-step-test.true in
     omega (arith, a, b, room, below)
 
+-- one step more is done and answered
 pub loop-step-preserved : goal.loop-step-preserved
 loop-step-preserved g c =
     let does : StepDoes c.loop-step.self c.step.new.self c.step-item.result c.step.result = record {
@@ -33,14 +37,17 @@ loop-step-preserved g c =
       c.push_reserved.ensures.capacity ∙ c.loop-step.invariant.1,
     )
 
+-- the tables stay
 pub returns-clause-tables : goal.returns-clause-tables
 returns-clause-tables g c = c.loop-step.invariant.0.tables
 
+-- where no step is left, the answers are those of a run of all
 pub returns-clause-answers : goal.returns-clause-answers
 returns-clause-answers g c = λ slots z.
     subst (λ steps. Run c.args.self.now.tables steps c.loop-step.answers.items slots)
     (take_all c.loop-step.step-index c.args.steps.now c.loop-step-test.false) (c.loop-step.invariant.0.run slots z)
 
+-- and the depot stands for the slots after all of them
 pub returns-clause-slots : goal.returns-clause-slots
 returns-clause-slots g c = λ slots z.
     subst (λ steps. StandsFor c.loop-step.self (after_all c.args.self.now.tables steps c.loop-step.answers.items slots))

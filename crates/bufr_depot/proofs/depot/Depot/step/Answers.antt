@@ -1,30 +1,40 @@
+-- The clauses of `Depot::step` on joins, from what the three functions that join say of each step.
 use Rattle.std.proofs.Common.{◌≡◌, inl, inr}
 use Rattle.bufr_depot.specs.HeldSteps.{StepDoes}
 use Rattle.bufr_depot.proofs.depot.Depot.step.Goals as goal
 
+-- a merge leaves the tables
 pub returns-in-Merge-clause-tables : goal.returns-in-Merge-clause-tables
 returns-in-Merge-clause-tables g c = (c.merge.ensures c.args.step.now (inl c.in-Merge.is)).tables
 
+-- its answer is one to the step
 pub returns-in-Merge-clause-answer : goal.returns-in-Merge-clause-answer
 returns-in-Merge-clause-answer g c = (c.merge.ensures c.args.step.now (inl c.in-Merge.is)).answer
 
+-- and the depot stands for the slots after it
 pub returns-in-Merge-clause-slots : goal.returns-in-Merge-clause-slots
 returns-in-Merge-clause-slots g c = (c.merge.ensures c.args.step.now (inl c.in-Merge.is)).slots
 
+-- a transfer leaves the tables
 pub returns-in-Transfer-clause-tables : goal.returns-in-Transfer-clause-tables
 returns-in-Transfer-clause-tables g c = (c.transfer.ensures c.args.step.now (inr (inl c.in-Transfer.is))).tables
 
+-- its answer is one to the step
 pub returns-in-Transfer-clause-answer : goal.returns-in-Transfer-clause-answer
 returns-in-Transfer-clause-answer g c = (c.transfer.ensures c.args.step.now (inr (inl c.in-Transfer.is))).answer
 
+-- and the depot stands for the slots after it
 pub returns-in-Transfer-clause-slots : goal.returns-in-Transfer-clause-slots
 returns-in-Transfer-clause-slots g c = (c.transfer.ensures c.args.step.now (inr (inl c.in-Transfer.is))).slots
 
+-- a copy leaves the tables
 pub returns-in-Copy-clause-tables : goal.returns-in-Copy-clause-tables
 returns-in-Copy-clause-tables g c = (c.copy.ensures c.args.step.now (inr (inr c.in-Copy.is))).tables
 
+-- its answer is one to the step
 pub returns-in-Copy-clause-answer : goal.returns-in-Copy-clause-answer
 returns-in-Copy-clause-answer g c = (c.copy.ensures c.args.step.now (inr (inr c.in-Copy.is))).answer
 
+-- and the depot stands for the slots after it
 pub returns-in-Copy-clause-slots : goal.returns-in-Copy-clause-slots
 returns-in-Copy-clause-slots g c = (c.copy.ensures c.args.step.now (inr (inr c.in-Copy.is))).slots

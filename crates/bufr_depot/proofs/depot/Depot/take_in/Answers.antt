@@ -1,3 +1,4 @@
+-- The clause of `Depot::take_in`: an archive, merged into that of a slot.
 use Rattle.std.proofs.Common.{◌≡◌, ◌∙◌, ◌<◌, Some, sym, ap, subst, set, length}
 use Rattle.std.specs.Prelude.{slice_get}
 use Rattle.bufr_depot.specs.Holdings.{Holding, DepotView}
@@ -7,6 +8,7 @@ use Rattle.bufr_depot.proofs.JoinFacts.{get_is_at}
 use Rattle.bufr_depot.proofs.depot.Depot.take_in.Goals.{in-Ok, in-Err}
 use Rattle.bufr_depot.proofs.depot.Depot.take_in.Goals as goal
 
+-- the archive of the slot has taken in the other, or nothing is changed where memory ran out
 pub returns : goal.returns
 returns g c =
     let d : DepotView = record { tables = c.self.inside.tables.now; slots = c.self.inside.slots.items } in

@@ -1,3 +1,4 @@
+-- The clause of `Depot::transfer`: the source's archive, written, read back and merged.
 use Rattle.std.proofs.Common.{◌≡◌, ◌∙◌, ◌<◌, ◌++◌, ℕ, List, Some, Err, sym, ap, subst, length}
 use Rattle.std.proofs.lemmas.Result.{err_from_is_err_and}
 use Rattle.std.specs.Prelude.{slice_get}
@@ -10,6 +11,7 @@ use Rattle.bufr_depot.proofs.DepotFacts.{below_at, source_is, read_back, some_sa
 use Rattle.bufr_depot.proofs.JoinFacts.{get_is_at, join_missing, join_ran_out, took}
 use Rattle.bufr_depot.proofs.depot.Depot.transfer.Goals as goal
 
+-- a slot that is not there is answered so
 pub returns-in_err-find : goal.returns-in_err-find
 returns-in_err-find g c =
     let d = c.args.self.now in
@@ -18,6 +20,7 @@ returns-in_err-find g c =
     subst (λ r. (step : Step) → IsJoin step c.args.from c.args.into → StepDoes d d step r)
     (sym (p.1 ∙ ap Err (p.2 ∙ m.1))) (join_missing d c.args.from c.args.into m.0 m.2)
 
+-- the source is there
 pub index-requires : goal.index-requires
 index-requires g c =
     let there = c.in_ok-find.ensures.there in
@@ -25,19 +28,23 @@ index-requires g c =
     subst (λ n. c.args.from < n) (sym c.self.inside.slots.ok.0)
     (subst (λ (e : DepotView). c.args.from < length e.slots) (sym c.self.view_is) below)
 
+-- where no memory is had to write, nothing is joined
 pub returns-in_default : goal.returns-in_default
 returns-in_default g c =
     join_ran_out c.args.self.now c.args.from c.args.into c.in_ok-find.ensures.there
 
+-- the target is there
 pub take_in-requires-clause-there : goal.take_in-requires-clause-there
 take_in-requires-clause-there g c =
     let there = c.in_ok-find.ensures.there in
     below_at c.args.self.now.slots c.args.into there.target there.target_there
 
+-- where no memory is had to read, nothing is joined
 pub returns-in_default-read : goal.returns-in_default-read
 returns-in_default-read g c =
     join_ran_out c.args.self.now c.args.from c.args.into c.in_ok-find.ensures.there
 
+-- what was read back is as good as the source's archive, so the step is done by merging it
 pub returns : goal.returns
 returns g c =
     let there = c.in_ok-find.ensures.there in

@@ -1,3 +1,4 @@
+-- The clause `ends` of `Intake::end`: the last frames of the stream, added to the archive.
 use Rattle.std.proofs.Common.{◌≡◌, ◌∙◌, ℕ, List, drop, ap, sym, subst}
 use Rattle.bufr_frame.specs.Streams.{cut, Stands}
 use Rattle.bufr_depot.specs.Holdings.{Holding}
@@ -5,6 +6,7 @@ use Rattle.bufr_depot.specs.HeldSteps.{AddsFrames}
 use Rattle.bufr_depot.proofs.CountFacts.{frames_added}
 use Rattle.bufr_depot.proofs.intakes.Intake.end.Goals as goal
 
+-- the framer is as new, and the messages of the last frames are added and counted
 pub returns-in-Ok-add_frames-clause-ends : goal.returns-in-Ok-add_frames-clause-ends
 returns-in-Ok-add_frames-clause-ends g c =
     let v = c.self.view_is in (

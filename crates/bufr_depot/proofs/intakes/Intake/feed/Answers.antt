@@ -1,3 +1,4 @@
+-- The clause `feeds` of `Intake::feed`: the frames that are sure now, added to the archive.
 use Rattle.std.proofs.Common.{◌≡◌, ◌∙◌, ◌<◌, ◌+◌, ◌^◌, ℕ, List, Ok, ◌++◌, drop, length, refl, ap, sym, subst, arith}
 use Rattle.std.proofs.lemmas.List.Elements.{All-from_get_or}
 use Rattle.bufr_frame.specs.Streams.{sure, Stands}
@@ -7,6 +8,7 @@ use Rattle.bufr_depot.specs.HeldSteps.{AddsAllFrames, AddsFrames, AddsSome}
 use Rattle.bufr_depot.proofs.CountFacts.{added_none, frames_added, frames_some}
 use Rattle.bufr_depot.proofs.intakes.Intake.feed.Goals as goal
 
+-- where no memory is had for the look, no report is added and the framer is as it was
 pub returns-in_default-clause-feeds : goal.returns-in_default-clause-feeds
 returns-in_default-clause-feeds g c =
     let v = c.self.view_is in
@@ -17,6 +19,7 @@ returns-in_default-clause-feeds g c =
       λ stream out st. added_none c.args.self.now.archive (drop out (sure (stream ++ c.args.piece.now))) (subst (λ (h : Holding). IsKept h.archive) v c.len-held.ensures.kept),
     )
 
+-- the framer has taken in the piece, and the messages of the new frames are added and counted
 pub returns-in-Ok-add_frames-clause-feeds : goal.returns-in-Ok-add_frames-clause-feeds
 returns-in-Ok-add_frames-clause-feeds g c =
     let v = c.self.view_is in
@@ -35,6 +38,7 @@ returns-in-Ok-add_frames-clause-feeds g c =
       ),
     )
 
+-- where memory runs out in a message, the first reports are added and the framer is as it was
 pub returns-in-Err-clause-feeds : goal.returns-in-Err-clause-feeds
 returns-in-Err-clause-feeds g c =
     let v = c.self.view_is in

@@ -1,9 +1,11 @@
+-- For `Operators::quantity`: no step of the arithmetic leaves its type.
 use Rattle.std.proofs.Common.{rules, refl, ◌≡◌, ◌*ℤ◌, ◌^◌, pos, true, FitsSigned, w32, w64, to_z}
 use Rattle.std.proofs.Common.{of_z}
 use Rattle.std.proofs.lemmas.Int.{to_z-of_z}
-use Rattle.bufr_expand.specs.Operating.{is_within}
+use Rattle.bufr_expand.specs.OperatorsInForce.{is_within}
 use Rattle.bufr_expand.proofs.operators.Operators.quantity.Goals as goal
 
+-- the scale, reference value and width that are computed are those of the equations
 pub returns : goal.returns
 returns c =
     let inside : is_within 127 c.args.element.now.scale ≡ true = search rules in

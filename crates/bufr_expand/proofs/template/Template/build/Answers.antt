@@ -1,6 +1,8 @@
-use Rattle.bufr_expand.proofs.Flattening.{built-well_formed}
+-- For `Template::build`: what an expansion adds to no nodes is a template.
+use Rattle.bufr_expand.proofs.FlatFacts.{built-well_formed}
 use Rattle.bufr_expand.proofs.template.Template.build.Goals as goal
 
+-- the nodes of an expansion are those of the tree that they make
 pub invariant_of-result : goal.invariant_of-result
 invariant_of-result c =
     built-well_formed c.args.tables.now c.args.list.now c.new-nodes.result.items

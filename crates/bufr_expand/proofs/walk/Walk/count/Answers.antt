@@ -1,9 +1,11 @@
+-- For `Walk::count`: what is left once the number of a count is told.
 use Rattle.std.proofs.Common.{Some, None, refl, ap, ◌∙◌}
 use Rattle.bufr_expand.specs.Walks.{left, waits, items_met, told, left_in}
 use Rattle.bufr_expand.specs.Courses.{asks}
-use Rattle.bufr_expand.proofs.Passing.{counted_as, waits_for}
+use Rattle.bufr_expand.proofs.PassFacts.{counted_as, waits_for}
 use Rattle.bufr_expand.proofs.walk.Walk.count.Goals as goal
 
+-- the number of a field that stands once leaves what comes behind the field
 pub returns-in-None : goal.returns-in-None
 unfolding left waits items_met
 returns-in-None c =
@@ -18,6 +20,7 @@ returns-in-None c =
     (λ n. told None w.nodes.now w.place w.stop w.loops.items n w.operators w.items)) c.args.n _
     (e ∙ f) (refl, refl, refl)
 
+-- the number of a factor leaves as many turns of the body, and what comes behind
 pub returns-in-Some : goal.returns-in-Some
 unfolding left
 returns-in-Some c =
@@ -33,6 +36,7 @@ returns-in-Some c =
     w.items)) c.args.n c.enter.new.self (e ∙ f)
     (c.enter.ensures.course, c.enter.ensures.goes, c.enter.ensures.items)
 
+-- a walk in another state waits for no number
 pub returns-in_default : goal.returns-in_default
 unfolding waits
 returns-in_default c = absurd (waits_for c.args.self.now.state c.requires.asked

@@ -1,12 +1,14 @@
+-- For `Walk::enter`: one more replication is open, at the end of its body.
 use Rattle.std.proofs.Common.{◌≡◌, ◌+◌, ◌≤◌, List, [], ◌∷◌, ◌++◌, length, sym, ap, ◌∙◌, subst}
 use Rattle.std.proofs.Common.{arith}
 use Rattle.bufr_expand.specs.declared.standing.Open.{Open}
 use Rattle.bufr_expand.specs.Places.{in_front, AreOpen}
-use Rattle.bufr_expand.proofs.Loops.{in_front-mono, AreOpen-push, length_snoc}
+use Rattle.bufr_expand.proofs.LoopFacts.{in_front-mono, AreOpen-push, length_snoc}
 use Rattle.bufr_expand.specs.Walks.{left, going}
-use Rattle.bufr_expand.proofs.Passing.{going-entered}
+use Rattle.bufr_expand.proofs.PassFacts.{going-entered}
 use Rattle.bufr_expand.proofs.walk.Walk.enter.Goals as goal
 
+-- with one more replication open, what a walk keeps true of itself holds
 pub invariant_of-self : goal.invariant_of-self
 invariant_of-self c =
     let w = c.args.self.now in
@@ -36,6 +38,7 @@ invariant_of-self c =
       has_room = omega (arith, w.has_room, c.push.ensures.capacity);
     }
 
+-- the course that is left are the turns of this replication, and what was left
 pub returns-clause-course : goal.returns-clause-course
 unfolding left
 returns-clause-course c =

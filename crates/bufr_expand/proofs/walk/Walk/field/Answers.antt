@@ -1,8 +1,10 @@
+-- For `Walk::field`: what a walk keeps true of itself holds past a field.
 use Rattle.std.proofs.Common.{◌+◌, ◌≤◌, length, arith}
 use Rattle.bufr_expand.specs.Places.{in_front}
-use Rattle.bufr_expand.proofs.Loops.{in_front-mono, inside_of, inside_going, begun_going}
+use Rattle.bufr_expand.proofs.LoopFacts.{in_front-mono, inside_of, inside_going, begun_going}
 use Rattle.bufr_expand.proofs.walk.Walk.field.Goals as goal
 
+-- it holds past a field that is no count
 pub invariant_of-self-in_default-kind : goal.invariant_of-self-in_default-kind
 invariant_of-self-in_default-kind c =
     let w = c.args.self.now in
@@ -18,6 +20,7 @@ invariant_of-self-in_default-kind c =
       has_room = w.has_room;
     }
 
+-- it holds past a count, for whose number the walk waits
 pub invariant_of-self-in-Count : goal.invariant_of-self-in-Count
 invariant_of-self-in-Count c =
     let w = c.args.self.now in

@@ -1,10 +1,12 @@
+-- For `Walk::over`: at the front of nodes no replication is open.
 use Rattle.std.proofs.Common.{◌≡◌, ◌+◌, ◌≤◌, List, [], length, refl, sym, ap, subst, arith}
 use Rattle.bufr_expand.specs.declared.standing.Open.{Open}
 use Rattle.bufr_expand.specs.Places.{in_front, AreOpen}
 use Rattle.bufr_expand.specs.Walks.{left, waits, items_met}
-use Rattle.bufr_expand.proofs.Passing.{at_front}
+use Rattle.bufr_expand.proofs.PassFacts.{at_front}
 use Rattle.bufr_expand.proofs.walk.Walk.over.Goals as goal
 
+-- at the front of nodes, what a walk keeps true of itself holds
 pub invariant_of-result : goal.invariant_of-result
 unfolding AreOpen
 invariant_of-result c =
@@ -22,16 +24,19 @@ invariant_of-result c =
       has_room = omega (arith, c.in_ok-loops.ensures.exact, c.levels.ensures);
     }
 
+-- the course that is left is that of the tree of the nodes
 pub returns-clause-course : goal.returns-clause-course
 unfolding left
 returns-clause-course c =
     at_front c.args.nodes.now c.in_ok-loops.loops.items c.none.result c.args.used
     c.in_ok-loops.ensures.items c.none.ensures
 
+-- the walk waits for no number
 pub returns-clause-answered : goal.returns-clause-answered
 unfolding waits
 returns-clause-answered c = refl
 
+-- the items met are those that were used before
 pub returns-clause-items : goal.returns-clause-items
 unfolding items_met
 returns-clause-items c = refl

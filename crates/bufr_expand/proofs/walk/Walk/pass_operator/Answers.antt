@@ -1,7 +1,9 @@
+-- For `Walk::pass_operator`: an operator is one item.
 use Rattle.std.proofs.Common.{◌+◌, length, arith}
-use Rattle.bufr_expand.proofs.Loops.{in_front-mono, inside_of, inside_going, begun_going}
+use Rattle.bufr_expand.proofs.LoopFacts.{in_front-mono, inside_of, inside_going, begun_going}
 use Rattle.bufr_expand.proofs.walk.Walk.pass_operator.Goals as goal
 
+-- past an operator, what a walk keeps true of itself holds
 pub invariant_of-self : goal.invariant_of-self
 invariant_of-self c =
     let w = c.args.self.now in

@@ -1,7 +1,9 @@
+-- For `Walk::repeat`: the body of a replication is passed before it is entered.
 use Rattle.std.proofs.Common.{length, arith}
-use Rattle.bufr_expand.proofs.Loops.{in_front-mono, inside_of, inside_going, begun_going}
+use Rattle.bufr_expand.proofs.LoopFacts.{in_front-mono, inside_of, inside_going, begun_going}
 use Rattle.bufr_expand.proofs.walk.Walk.repeat.Goals as goal
 
+-- at the end of the body, what a walk keeps true of itself holds
 pub invariant_of-self : goal.invariant_of-self
 invariant_of-self c =
     let w = c.args.self.now in let e = c.body_end-self.ensures in

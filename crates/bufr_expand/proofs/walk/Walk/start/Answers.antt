@@ -1,3 +1,4 @@
+-- For `Walk::start`: the clause `course`, by that of `Walk::over`.
 use Rattle.std.proofs.Common.{◌≡◌, ap, ◌∙◌, subst}
 use Rattle.std.specs.Result.{IfOk}
 use Rattle.bufr_expand.specs.Trees.{Tree, tree_of}
@@ -6,6 +7,7 @@ use Rattle.bufr_expand.specs.Courses.{course}
 use Rattle.bufr_expand.specs.Walks.{left}
 use Rattle.bufr_expand.proofs.walk.Walk.start.Goals as goal
 
+-- the course of the tree of a template's nodes is that of the template
 pub returns-clause-course : goal.returns-clause-course
 returns-clause-course c =
     let e : tree_of c.as_slice.result.now ≡ c.args.template.now = ap tree_of c.as_slice.ensures

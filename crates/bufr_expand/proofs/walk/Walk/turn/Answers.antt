@@ -1,18 +1,20 @@
+-- For `Walk::turn`: at the end of a turn the replication is over, too large, or has one turn less.
 use Rattle.std.proofs.Common.{rules, ◌≡◌, ◌+◌, ◌-◌, List, [], ◌∷◌, ◌++◌, length, Ok, Err, refl, sym}
 use Rattle.std.proofs.Common.{ap, ◌∙◌, subst, arith}
 use Rattle.bufr_expand.specs.declared.standing.Open.{Open}
 use Rattle.bufr_expand.specs.Places.{AreOpen}
 use Rattle.bufr_expand.specs.Walks.{left, waits, items_met, steps_left, going, is_waiting}
 use Rattle.bufr_expand.specs.Courses.{stops, ends}
-use Rattle.bufr_expand.proofs.Loops.{in_front-mono, AreOpen-push, AreOpen-pop, length_snoc}
-use Rattle.bufr_expand.proofs.Loops.{inside_of, inside_going, begun_going}
+use Rattle.bufr_expand.proofs.LoopFacts.{in_front-mono, AreOpen-push, AreOpen-pop, length_snoc}
+use Rattle.bufr_expand.proofs.LoopFacts.{inside_of, inside_going, begun_going}
 use Rattle.std.proofs.lemmas.List.{nil_from_length}
 use Rattle.bufr_expand.specs.declared.walk.Step.TheVariants as steps
 use Rattle.bufr_expand.specs.declared.walk.WalkFault.TheVariants.{TooLarge}
-use Rattle.bufr_expand.proofs.Passing.{goes_as, left_in-going, going-none, turn-over, turn-more}
-use Rattle.bufr_expand.proofs.Passing.{turn-limit}
+use Rattle.bufr_expand.proofs.PassFacts.{goes_as, left_in-going, going-none, turn-over, turn-more}
+use Rattle.bufr_expand.proofs.PassFacts.{turn-limit}
 use Rattle.bufr_expand.proofs.walk.Walk.turn.Goals as goal
 
+-- behind a replication that is over, what a walk keeps true of itself holds
 pub invariant_of-self-then-turn-eq0 : goal.invariant_of-self-then-turn-eq0
 invariant_of-self-then-turn-eq0 c =
     let w = c.args.self.now in
@@ -31,6 +33,7 @@ invariant_of-self-then-turn-eq0 c =
       has_room = omega (arith, w.has_room, c.pop.ensures.capacity);
     }
 
+-- with no turn left, the course behind the replication is the one that was left
 pub returns-then-turn-eq0-clause-on : goal.returns-then-turn-eq0-clause-on
 unfolding left waits steps_left
 returns-then-turn-eq0-clause-on c =
@@ -49,6 +52,7 @@ returns-then-turn-eq0-clause-on c =
       omega (arith, number),
     )
 
+-- it holds with the replication closed, where the next turn is refused
 pub invariant_of-self-then-self-ge-MOST_ITEMS : goal.invariant_of-self-then-self-ge-MOST_ITEMS
 invariant_of-self-then-self-ge-MOST_ITEMS c =
     let w = c.args.self.now in
@@ -70,6 +74,7 @@ invariant_of-self-then-self-ge-MOST_ITEMS c =
       has_room = omega (arith, w.has_room, c.pop.ensures.capacity);
     }
 
+-- a turn that would be an item too many makes the course too large
 pub returns-then-self-ge-MOST_ITEMS-clause-answer :
     goal.returns-then-self-ge-MOST_ITEMS-clause-answer
 unfolding left
@@ -85,6 +90,7 @@ returns-then-self-ge-MOST_ITEMS-clause-answer c =
     (omega arith) c.if-self-ge-MOST_ITEMS.true)
     (refl, c.refuse.ensures.course, c.refuse.ensures.goes, c.refuse.ensures.items)
 
+-- it holds at the front of the body, with one turn less to come
 pub invariant_of-self-2 : goal.invariant_of-self-2
 invariant_of-self-2 c =
     let w = c.args.self.now in
@@ -108,6 +114,7 @@ invariant_of-self-2 c =
       has_room = omega (arith, w.has_room, c.pop.ensures.capacity, c.push.ensures.capacity);
     }
 
+-- the course from the front of the body is the one that was left, one step nearer to its end
 pub returns-clause-on : goal.returns-clause-on
 unfolding left waits steps_left
 returns-clause-on c =
@@ -133,6 +140,7 @@ returns-clause-on c =
       omega (arith, number, number_old),
     )
 
+-- with no replication open the course has ended
 pub returns-in_default-clause-answer : goal.returns-in_default-clause-answer
 unfolding left waits items_met
 returns-in_default-clause-answer c =

@@ -1,15 +1,17 @@
+-- For `Walk::visit`: what is left of the course at a node, by its kind.
 use Rattle.std.proofs.Common.{◌≡◌, ℕ, ◌+◌, ◌-◌, min, Option, Err, refl, sym, ◌∙◌, subst}
 use Rattle.bufr_expand.specs.Walks.{left, going, turns_then, behind_all, Goes}
 use Rattle.bufr_expand.specs.declared.operators.Spec.{Spec}
 use Rattle.bufr_expand.specs.Courses.{asks, stops}
 use Rattle.bufr_expand.specs.declared.walk.WalkFault.TheVariants.{TooLarge}
-use Rattle.bufr_expand.specs.Operating.{effective, untouched, factor_spec}
+use Rattle.bufr_expand.specs.OperatorsInForce.{effective, untouched, factor_spec}
 use Rattle.bufr_expand.specs.Courses.{asks_if}
-use Rattle.bufr_expand.proofs.Passing.{goes_as, left_in-going, visit-limit, visit-element}
-use Rattle.bufr_expand.proofs.Passing.{visit-untouched, visit-operator, visit-repeated}
-use Rattle.bufr_expand.proofs.Passing.{visit-delayed, spec_ok}
+use Rattle.bufr_expand.proofs.PassFacts.{goes_as, left_in-going, visit-limit, visit-element}
+use Rattle.bufr_expand.proofs.PassFacts.{visit-untouched, visit-operator, visit-repeated}
+use Rattle.bufr_expand.proofs.PassFacts.{visit-delayed, spec_ok}
 use Rattle.bufr_expand.proofs.walk.Walk.visit.Goals as goal
 
+-- a node that would be an item too many makes the course too large
 pub returns-then-self-ge-MOST_ITEMS-clause-answer :
     goal.returns-then-self-ge-MOST_ITEMS-clause-answer
 unfolding left
@@ -22,6 +24,7 @@ returns-then-self-ge-MOST_ITEMS-clause-answer c =
     w.within.1 c.if-self-ge-MOST_ITEMS.true)
     (refl, c.refuse.ensures.course, c.refuse.ensures.goes, c.refuse.ensures.items)
 
+-- an element is asked for with its spec under the operators, if it has one
 pub returns-in-Element-clause-answer : goal.returns-in-Element-clause-answer
 unfolding left
 returns-in-Element-clause-answer c =
@@ -41,6 +44,7 @@ returns-in-Element-clause-answer c =
     (λ n. going w.nodes.now (w.place + 1) w.stop w.loops.items w.operators (w.items + 1)))
     c.field.result c.field.new.self old (subst P spec c.field.ensures)
 
+-- an element that no operator touches is asked for with the spec of its row, if it has one
 pub returns-in-Untouched-clause-answer : goal.returns-in-Untouched-clause-answer
 unfolding left
 returns-in-Untouched-clause-answer c =
@@ -57,6 +61,7 @@ returns-in-Untouched-clause-answer c =
     (λ n. going w.nodes.now (w.place + 1) w.stop w.loops.items w.operators (w.items + 1)))
     met.result met.new.self old (subst P c.unchanged.ensures met.ensures)
 
+-- the course past an operator, which is then in force, is the one that was left
 pub returns-in-Operator-clause-on : goal.returns-in-Operator-clause-on
 unfolding left
 returns-in-Operator-clause-on c =
@@ -70,6 +75,7 @@ returns-in-Operator-clause-on c =
       c.pass_operator.ensures.nearer,
     )
 
+-- the course of the turns of a replication, and what comes behind, is the one that was left
 pub returns-in-Repeated-clause-on : goal.returns-in-Repeated-clause-on
 unfolding left
 returns-in-Repeated-clause-on c =
@@ -80,6 +86,7 @@ returns-in-Repeated-clause-on c =
     w.items o.times o.len _ c.requires.more w.within.1 o.is c.if-self-ge-MOST_ITEMS.false in
     (c.repeat.ensures.course ∙ sym old, c.repeat.ensures.goes, c.repeat.ensures.nearer)
 
+-- a delayed replication asks for its factor, and then has as many turns as this says
 pub returns-in-Delayed-clause-answer : goal.returns-in-Delayed-clause-answer
 unfolding left
 returns-in-Delayed-clause-answer c =

@@ -1,9 +1,10 @@
+-- For the clauses `lines` and `past` of `Lines::find`: the next line that counts, if there is one.
 use Rattle.std.proofs.Common.{◌∙◌, ◌+◌, sym, ap, length, arith}
-use Rattle.std.specs.Str.Lines.{lines}
 use Rattle.bufr_listing.specs.Cursors.{left, left_by, past, past_by}
 use Rattle.bufr_listing.proofs.CursorFacts.{behind_first, no_first, skipped, counted, none_counted}
 use Rattle.bufr_listing.proofs.lines.Lines.find.Goals as goal
 
+-- a line that is not skipped is the first of those that count
 pub returns-then-not-is_comment-clause-lines : goal.returns-then-not-is_comment-clause-lines
 unfolding left
 returns-then-not-is_comment-clause-lines c =
@@ -11,6 +12,7 @@ returns-then-not-is_comment-clause-lines c =
     let b = behind_first c.loop-line.self.rest.now c.in-Some.line.now c.in-Some.rest.now (sym h) in
     sym (counted (c.loop-line.self.found + 1) c.loop-line.self.rest.now c.in-Some.line.now c.in-Some.rest.now b.lines (sym c.is_comment.ensures ∙ c.if-not-is_comment.true)) ∙ c.loop-line.invariant.counted
 
+-- and the number of the last line stays
 pub returns-then-not-is_comment-clause-past : goal.returns-then-not-is_comment-clause-past
 unfolding past
 returns-then-not-is_comment-clause-past c =
@@ -19,6 +21,7 @@ returns-then-not-is_comment-clause-past c =
     let len = ap length b.lines in
     omega (arith, len, c.loop-line.invariant.last)
 
+-- a line that is skipped does not count, but has its number
 pub loop-line-preserved : goal.loop-line-preserved
 loop-line-preserved c =
     let h = rw c.in-Some.is at c.first_line.ensures in
@@ -30,6 +33,7 @@ loop-line-preserved c =
       last = omega (arith, len, c.loop-line.invariant.last);
     }
 
+-- where the text has no more lines, none counts
 pub returns-clause-lines : goal.returns-clause-lines
 unfolding left
 returns-clause-lines c =
@@ -38,6 +42,7 @@ returns-clause-lines c =
     ∙ sym (none_counted (c.loop-line.self.found + 1) c.loop-line.self.rest.now (no_first c.loop-line.self.rest.now (sym h)))
     ∙ c.loop-line.invariant.counted
 
+-- and the last line is the last that was found
 pub returns-clause-past : goal.returns-clause-past
 unfolding past
 returns-clause-past c =

@@ -1,3 +1,4 @@
+-- For `join` of `SortedShelf`: both vectors merged with those of the other shelf.
 use Rattle.std.proofs.Common.{◌∙◌, ◌++◌, ap, sym, subst}
 use Rattle.std.specs.List.Sorted.{IsStrictlySortedBy}
 use Rattle.std.specs.Map.{keys_of}
@@ -9,16 +10,19 @@ use Rattle.bufr_shelves.specs.Ranks.{key_order, rank_order}
 use Rattle.bufr_shelves.proofs.ShelvedLemmas.{shelved-all, kept-of, entries-join, sorted-keyed, sorted-unkeyed}
 use Rattle.bufr_shelves.proofs.sorted_shelf.SortedShelfShelf.join.Goals as goal
 
+-- the copied pairs with a key are in order
 pub merge-requires-clause-sorted : goal.merge-requires-clause-sorted
 merge-requires-clause-sorted c =
     subst (λ xs. IsStrictlySortedBy key_order (keys_of xs)) (sym c.in_ok-keyed.ensures)
     (sorted-keyed c.other.inside.keyed.items c.other.inside.unkeyed.items c.other.invariant)
 
+-- the copied pairs without key are in order
 pub merge-requires-2-clause-sorted : goal.merge-requires-2-clause-sorted
 merge-requires-2-clause-sorted c =
     subst (λ xs. IsStrictlySortedBy (slice_cmp nat_cmp) (keys_of xs)) (sym c.in_ok-unkeyed.ensures)
     (sorted-unkeyed c.other.inside.keyed.items c.other.inside.unkeyed.items c.other.invariant)
 
+-- the merged vectors hold what is kept of the entries of both shelves
 pub invariant_of-self : goal.invariant_of-self
 invariant_of-self c =
     let ks = c.self.inside.keyed.items in let us = c.self.inside.unkeyed.items in
@@ -34,6 +38,7 @@ invariant_of-self c =
     ∙ ap (shelved (put_all (by_key key_order) (by_value rank_order) ks ls)) unkeyed
     ∙ shelved-all ks ls us vs c.self.invariant)
 
+-- the shelf has what is kept of its entries and the other's
 pub returns-clause-ok : goal.returns-clause-ok
 returns-clause-ok c =
     let ks = c.self.inside.keyed.items in let us = c.self.inside.unkeyed.items in

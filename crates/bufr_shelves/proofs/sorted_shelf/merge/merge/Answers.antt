@@ -1,3 +1,4 @@
+-- For `merge`: two lists in order that are merged are the one with all pairs of the other put in.
 use Rattle.std.proofs.Common.{◌≡◌, ◌∙◌, ◌++◌, [], reverse, sym, ap}
 use Rattle.std.proofs.lemmas.List.{append-nil}
 use Rattle.std.proofs.lemmas.Cmp.{on_total}
@@ -8,6 +9,7 @@ use Rattle.bufr_shelves.proofs.PairLemmas.{if-none}
 use Rattle.bufr_shelves.proofs.SortedLemmas.{merged-put_all, sorted-pairs}
 use Rattle.bufr_shelves.proofs.sorted_shelf.merge.merge.Goals as goal
 
+-- once both vectors are empty, the room has the pairs of the one with the other's put in
 pub returns : goal.returns
 returns g c =
     let slot = by_key g.K.Ord.cmp in let rank = by_value g.V.Ord.cmp in

@@ -1,3 +1,5 @@
+-- For `raise` of vectors: a value is put where it is greater than the one at its key, or none is
+-- there.
 use Rattle.std.proofs.Common.{◌≡◌, ◌∙◌, sym, ap, refl, Some, length, set, slice_get, arith}
 use Rattle.std.proofs.lemmas.Option.{slice_get_read}
 use Rattle.std.specs.List.{insert}
@@ -10,6 +12,7 @@ use Rattle.bufr_shelves.proofs.PairLemmas.{put-insert, put-same, changes_new, ch
 use Rattle.bufr_shelves.proofs.SortedLemmas.{lookup-find, find-place, insert-place, at_place, put_at}
 use Rattle.bufr_shelves.proofs.sorted_shelf.sorted.raise.Goals as goal
 
+-- a value that is not greater than the one at its key changes nothing
 pub returns-then-not-greater-clause-changed : goal.returns-then-not-greater-clause-changed
 returns-then-not-greater-clause-changed g c =
     let items = c.args.pairs.now.items in let cmp = g.K.Ord.cmp in
@@ -23,6 +26,7 @@ returns-then-not-greater-clause-changed g c =
     (ap is_gt (sym (c.cmp.ensures ∙ ap (g.V.Ord.cmp c.args.value) c.value.ensures))
     ∙ sym c.is_gt-greater.ensures ∙ c.if-not-greater.true)
 
+-- and the pairs stay as they are
 pub returns-then-not-greater-clause-ok : goal.returns-then-not-greater-clause-ok
 returns-then-not-greater-clause-ok g c =
     let items = c.args.pairs.now.items in let cmp = g.K.Ord.cmp in
@@ -37,6 +41,7 @@ returns-then-not-greater-clause-ok g c =
     (ap is_gt (sym (c.cmp.ensures ∙ ap (g.V.Ord.cmp c.args.value) c.value.ensures))
     ∙ sym c.is_gt-greater.ensures ∙ c.if-not-greater.true))
 
+-- a value that is greater than the one at its key changes the pairs
 pub returns-else-not-greater-clause-changed : goal.returns-else-not-greater-clause-changed
 returns-else-not-greater-clause-changed g c =
     let items = c.args.pairs.now.items in let cmp = g.K.Ord.cmp in
@@ -52,6 +57,7 @@ returns-else-not-greater-clause-changed g c =
     (gt-is _ (ap is_gt (sym (c.cmp.ensures ∙ ap (g.V.Ord.cmp c.args.value) c.value.ensures))
     ∙ sym c.is_gt-greater.ensures ∙ c.if-not-greater.false)))
 
+-- and takes its place
 pub returns-else-not-greater-clause-ok : goal.returns-else-not-greater-clause-ok
 returns-else-not-greater-clause-ok g c =
     let items = c.args.pairs.now.items in let cmp = g.K.Ord.cmp in
@@ -70,6 +76,7 @@ returns-else-not-greater-clause-ok g c =
     ∙ insert-place cmp g.met.K.Ord.total g.met.K.Exact.exact c.args.key c.args.value items
     ∙ ap (λ r. put_at r items (c.args.key, c.args.value)) (sym c.in-Ok.ensures.place))
 
+-- a value at a key that has none changes the pairs
 pub returns-in_ok-insert-in-Err-clause-changed : goal.returns-in_ok-insert-in-Err-clause-changed
 returns-in_ok-insert-in-Err-clause-changed g c =
     let items = c.args.pairs.now.items in let cmp = g.K.Ord.cmp in
@@ -79,6 +86,7 @@ returns-in_ok-insert-in-Err-clause-changed g c =
     ∙ ap (option_map (λ p. p.1)) (find-place cmp g.met.K.Ord.total c.args.key items c.requires
     ∙ ap (λ r. at_place r items) (sym c.in-Err.ensures.place)))))
 
+-- and is put where the key would go
 pub returns-in_ok-insert-in-Err-clause-ok : goal.returns-in_ok-insert-in-Err-clause-ok
 returns-in_ok-insert-in-Err-clause-ok g c =
     let items = c.args.pairs.now.items in let cmp = g.K.Ord.cmp in

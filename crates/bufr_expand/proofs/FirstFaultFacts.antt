@@ -1,0 +1,480 @@
+-- An expansion answers a fault exactly where this is the first fault of the list, for
+-- `laws::refusal_is_the_first_fault`.
+use Rattle.std.proofs.Common.{◌≡◌, ◌⊎◌, inl, inr, ℕ, zero, suc, ◌+◌, ◌<◌, ◌≤◌, Bool, true, false}
+use Rattle.std.proofs.Common.{cond, ltb, List, [], ◌∷◌, ◌++◌, length, take, drop, Result, Ok, Err}
+use Rattle.std.proofs.Common.{refl, sym, ap, subst, ◌∙◌, arith, add-one}
+use Rattle.std.proofs.lemmas.Bool.{ltb-true, ltb-false, lt-ltb, le-ltb, cond-true, cond-false}
+use Rattle.std.proofs.lemmas.List.{take-append-drop, length-take-le, drop_at}
+use Rattle.bufr_tables.specs.Answers.{◌>>=◌}
+use Rattle.bufr_tables.specs.Descriptors.{x_of, y_of}
+use Rattle.bufr_tables.specs.Entries.{Entries}
+use Rattle.bufr_expand.specs.Limits.{most_nodes}
+use Rattle.bufr_expand.specs.declared.node.Node.{Node}
+use Rattle.bufr_expand.specs.declared.node.Node.TheVariants as nodes
+use Rattle.bufr_expand.specs.declared.node.Repetitions.{Repetitions}
+use Rattle.bufr_expand.specs.declared.node.Repetitions.TheVariants as repetitions
+use Rattle.bufr_expand.specs.declared.node.TemplateFault.{TemplateFault}
+use Rattle.bufr_expand.specs.declared.node.TemplateFault.TheVariants.{TooDeep, TooManyNodes}
+use Rattle.bufr_expand.specs.Expansion.{Expansion, Deeper, FirstPart, Part, single, inner}
+use Rattle.bufr_expand.specs.Expansion.{replication, text_of_characters, found, found_at}
+use Rattle.bufr_expand.specs.Expansion.{part_nodes, replication_node, expand_list, expand_within}
+use Rattle.bufr_expand.specs.Expansion.{expansion}
+use Rattle.bufr_expand.specs.Trees.{Tree, nodes_of}
+use Rattle.bufr_expand.specs.Flat.{Flat, nothing, element_first, operator_first, text_first}
+use Rattle.bufr_expand.specs.Flat.{width_first, sequence_first, repeated_first, delayed_first}
+use Rattle.bufr_expand.specs.FirstFaults.{NodeFirst, element_node, operator_node, text_node}
+use Rattle.bufr_expand.specs.FirstFaults.{width_node, SequenceFirst, sequence_list}
+use Rattle.bufr_expand.specs.FirstFaults.{ReplicationFirst, repeated_body, delayed_body, FirstFault}
+use Rattle.bufr_expand.specs.FirstFaults.{no_case, sequence_too_deep, replication_too_deep}
+use Rattle.bufr_expand.specs.FirstFaults.{node_too_many, replication_too_many, in_sequence}
+use Rattle.bufr_expand.specs.FirstFaults.{in_replication, behind_node, behind_sequence}
+use Rattle.bufr_expand.specs.FirstFaults.{behind_replication, RefusesExactly, HasTreeOrFault}
+use Rattle.bufr_expand.specs.FirstFaults.{HasNotBoth, HasOneFault, HasNoTreeAt}
+use Rattle.bufr_expand.proofs.ExpansionFacts.{expand_list-skip, expand_list-found}
+use Rattle.bufr_expand.proofs.ReadingFacts.{IsRead, an_element, an_operator, a_text, a_width}
+use Rattle.bufr_expand.proofs.ReadingFacts.{a_sequence, a_repeated, a_delayed, reads, found_is}
+use Rattle.bufr_expand.proofs.NoCases.{has_no_case, fault_found}
+use Rattle.bufr_expand.proofs.FlatFacts.{bind_ok, has_tree_within, single_fits, replication_fits}
+use Rattle.bufr_expand.proofs.FlatFacts.{body_read, factor_read, flat_expands, expands_exactly}
+
+-- what comes before a fault: nothing, or an answer
+bind_err : {A B F : Type 0} (m : Result A F) (f : A → Result B F) (g : F) → (m >>= f) ≡ Err g
+    → (m ≡ Err g) ⊎ ((x : A) × (m ≡ Ok x) × (f x ≡ Err g))
+bind_err (Ok x) f g e = inr (x, refl, e)
+bind_err (Err h) f g e = let same : h ≡ g = cc in inl (ap Err same)
+
+-- ---- what a list begins with
+
+-- what a list begins with, by its part
+HasFirst : Entries → List ℕ → Part → List ℕ → Type 0
+HasFirst tables list (single node) behind = NodeFirst tables list behind
+HasFirst tables list (inner inside) behind = SequenceFirst tables list inside behind
+HasFirst tables list (replication head body) behind = ReplicationFirst tables list body behind
+
+-- the part that is found is what the list begins with
+has_first : (tables : Entries) (d : ℕ) (behind : List ℕ) (part : Part) (taken : ℕ)
+    → IsRead tables d behind part taken → HasFirst tables (d ∷ behind) part (drop taken behind)
+unfolding HasFirst
+has_first tables d behind part taken (an_element f k) = element_node f k
+has_first tables d behind part taken (an_operator f x) = operator_node f x
+has_first tables d behind part taken (a_text f x y) = text_node f x y
+has_first tables d behind part taken (a_width f x y l k) = width_node f x y l k
+has_first tables d behind part taken (a_sequence f k) = sequence_list f k
+has_first tables d behind part taken (a_repeated f x y long) =
+    let P : List ℕ → Type 0 = λ l. ReplicationFirst tables (d ∷ l) (take (x_of d) behind)
+    (drop (x_of d) behind) in
+    subst P (take-append-drop (x_of d) behind)
+    (repeated_body f x y (length-take-le (x_of d) behind long))
+has_first tables d (factor ∷ behind) part taken (a_delayed f x y i k c long) =
+    let P : List ℕ → Type 0 = λ l. ReplicationFirst tables (d ∷ factor ∷ l) (take (x_of d) behind)
+    (drop (x_of d) behind) in
+    rw add-one (subst P (take-append-drop (x_of d) behind)
+    (delayed_body f x y i k c (length-take-le (x_of d) behind long)))
+
+-- ---- a fault of an expansion is the first one
+
+-- with so many levels a fault is the first one
+AreFirst : Entries → ℕ → Type 0
+AreFirst tables levels =
+    (s r used : ℕ) (list : List ℕ) (f : TemplateFault) → s + r < levels → used ≤ most_nodes
+    → expand_within levels tables s r used list ≡ Err f → FirstFault tables s r used list f
+
+-- the fault of a node is the first
+single_fault : (b : Bool) (tables : Entries) (s r used : ℕ) (node : Node) (list behind : List ℕ)
+    (f : TemplateFault) → NodeFirst tables list behind → ltb used most_nodes ≡ b
+    → cond b (Ok (node ∷ [])) (Err TooManyNodes) ≡ Err f → FirstFault tables s r used list f
+single_fault true tables s r used node list behind f front room e = absurd (cc)
+single_fault false tables s r used node list behind f front room e =
+    let same : TooManyNodes ≡ f = cc in
+    subst (FirstFault tables s r used list) same
+    (node_too_many front (ltb-false used most_nodes room))
+
+-- the fault of a replication or of its body is
+body_fault : (b : Bool) (tables : Entries) (levels s r used : ℕ) (head : Repetitions)
+    (list body behind : List ℕ) (f : TemplateFault) → AreFirst tables levels → s + suc r ≤ levels
+    → ReplicationFirst tables list body behind → ltb used most_nodes ≡ b
+    → cond b (expand_within levels tables s r (used + 1) body
+    >>= λ ns. Ok (replication_node head (length ns) ∷ ns)) (Err TooManyNodes) ≡ Err f
+    → FirstFault tables s (suc r) used list f
+unfolding AreFirst
+body_fault true tables levels s r used head list body behind f all deep front room e =
+    let low : used < most_nodes = ltb-true used most_nodes room in
+    elim (bind_err (expand_within levels tables s r (used + 1) body)
+    (λ (ns : List Node). Ok (replication_node head (length ns) ∷ ns)) f e) [
+      | inl q ↦ in_replication front low (all s r (used + 1) body f (omega arith) (omega arith) q)
+      | inr q ↦ let no = q.2 in absurd (cc)
+    ]
+body_fault false tables levels s r used head list body behind f all deep front room e =
+    let same : TooManyNodes ≡ f = cc in
+    subst (FirstFault tables s (suc r) used list) same
+    (replication_too_many front (ltb-false used most_nodes room))
+
+-- the fault of a part is
+part_fault : (tables : Entries) (levels s r used : ℕ) (part : Part) (list behind : List ℕ)
+    (f : TemplateFault) → AreFirst tables levels → s + r ≤ levels → used ≤ most_nodes
+    → HasFirst tables list part behind → part_nodes (expand_within levels tables) s r used part
+    ≡ Err f → FirstFault tables s r used list f
+unfolding HasFirst AreFirst
+part_fault tables levels s r used (single node) list behind f all deep fits front e =
+    single_fault (ltb used most_nodes) tables s r used node list behind f front refl e
+part_fault tables levels zero r used (inner inside) list behind f all deep fits front e =
+    let same : TooDeep ≡ f = cc in
+    subst (FirstFault tables zero r used list) same (sequence_too_deep front)
+part_fault tables levels (suc s) r used (inner inside) list behind f all deep fits front e =
+    in_sequence front (all s r used inside f (omega arith) fits e)
+part_fault tables levels s zero used (replication head body) list behind f all deep fits front e =
+    let same : TooDeep ≡ f = cc in
+    subst (FirstFault tables s zero used list) same (replication_too_deep front)
+part_fault tables levels s (suc r) used
+    (replication head body) list behind f all deep fits front e =
+    body_fault (ltb used most_nodes) tables levels s r used head list body behind f all deep front
+    refl e
+
+-- a fault behind a part that has its nodes, of which there are no more than there may be
+Passes : Entries → ℕ → ℕ → ℕ → List ℕ → List ℕ → List Node → Type 0
+Passes tables s r used list behind first =
+    (used + length first ≤ most_nodes)
+    × ((f : TemplateFault) → FirstFault tables s r (used + length first) behind f
+    → FirstFault tables s r used list f)
+
+-- a node within the limits leaves the first fault to the rest
+single_passes : (b : Bool) (tables : Entries) (s r used : ℕ) (node : Node) (list behind : List ℕ)
+    (first : List Node) → NodeFirst tables list behind → ltb used most_nodes ≡ b
+    → cond b (Ok (node ∷ [])) (Err TooManyNodes) ≡ Ok first
+    → Passes tables s r used list behind first
+unfolding Passes
+single_passes true tables s r used node list behind first front room e =
+    let same : node ∷ [] ≡ first = cc in
+    let long : length first ≡ 1 = ap length (sym same) in
+    let low : used < most_nodes = ltb-true used most_nodes room in (
+      omega arith,
+      λ f g. behind_node front low
+          (subst (λ (n : ℕ). FirstFault tables s r (used + n) behind f) long g),
+    )
+single_passes false tables s r used node list behind first front room e = absurd (cc)
+
+-- so does a replication
+body_passes : (b : Bool) (tables : Entries) (levels s r used : ℕ) (head : Repetitions)
+    (list body behind : List ℕ) (first : List Node) → ReplicationFirst tables list body behind
+    → ltb used most_nodes ≡ b → cond b
+    (expand_within levels tables s r (used + 1) body
+    >>= λ ns. Ok (replication_node head (length ns) ∷ ns)) (Err TooManyNodes) ≡ Ok first
+    → Passes tables s (suc r) used list behind first
+unfolding Passes
+body_passes true tables levels s r used head list body behind first front room e =
+    let q = bind_ok (expand_within levels tables s r (used + 1) body)
+    (λ (ns : List Node). Ok (replication_node head (length ns) ∷ ns)) first e in
+    let low : used < most_nodes = ltb-true used most_nodes room in
+    let w = has_tree_within tables levels s r (used + 1) body q.0 (omega arith) q.1 in
+    let same : replication_node head (length q.0) ∷ q.0 ≡ first = cc in
+    let long : length first ≡ suc (length q.0) = ap length (sym same) in
+    let size : length (nodes_of w.0) ≡ length q.0 = ap length w.2 in
+    let most : used + 1 + length q.0 ≤ most_nodes = w.3 in
+    let count : used + length first ≡ used + 1 + length (nodes_of w.0) = omega arith in (
+      omega arith,
+      λ f g. behind_replication front w.1 (omega arith)
+          (subst (λ (n : ℕ). FirstFault tables s (suc r) n behind f) count g),
+    )
+body_passes false tables levels s r used head list body behind first front room e = absurd (cc)
+
+-- so does a part
+part_passes : (tables : Entries) (levels s r used : ℕ) (part : Part) (list behind : List ℕ)
+    (first : List Node) → used ≤ most_nodes → HasFirst tables list part behind
+    → part_nodes (expand_within levels tables) s r used part ≡ Ok first
+    → Passes tables s r used list behind first
+unfolding HasFirst Passes
+part_passes tables levels s r used (single node) list behind first fits front e =
+    single_passes (ltb used most_nodes) tables s r used node list behind first front refl e
+part_passes tables levels zero r used (inner inside) list behind first fits front e = absurd (cc)
+part_passes tables levels (suc s) r used (inner inside) list behind first fits front e =
+    let w = has_tree_within tables levels s r used inside first fits e in
+    let size : length (nodes_of w.0) ≡ length first = ap length w.2 in
+    let most : used + length first ≤ most_nodes = w.3 in (
+      most,
+      λ f g. behind_sequence front w.1 (omega arith)
+          (subst (λ (n : ℕ). FirstFault tables (suc s) r (used + n) behind f) (sym size) g),
+    )
+part_passes tables levels s zero used (replication head body) list behind first fits front e =
+    absurd (cc)
+part_passes tables levels s (suc r) used (replication head body) list behind first fits front e =
+    body_passes (ltb used most_nodes) tables levels s r used head list body behind first front refl
+    e
+
+-- the fault of a list is its first
+list_fault : (tables : Entries) (levels s r skip used : ℕ) (list : List ℕ) (f : TemplateFault)
+    → AreFirst tables levels → s + r ≤ levels → used ≤ most_nodes
+    → expand_list tables (expand_within levels tables) s r skip used list ≡ Err f
+    → FirstFault tables s r used (drop skip list) f
+unfolding expand_list Passes
+list_fault tables levels s r zero used [] f all deep fits e = absurd (cc)
+list_fault tables levels s r (suc skip) used [] f all deep fits e = absurd (cc)
+list_fault tables levels s r (suc skip) used (d ∷ behind) f all deep fits e =
+    list_fault tables levels s r skip used behind f all deep fits e
+list_fault tables levels s r zero used (d ∷ behind) f all deep fits e =
+    let deeper : Deeper = expand_within levels tables in
+    elim (bind_err (found_at tables d behind)
+    (λ (next : FirstPart). part_nodes (expand_within levels tables) s r used next.part
+    >>= λ first. expand_list tables (expand_within levels tables) s r next.taken
+    (used + length first) behind >>= λ rest. Ok (first ++ rest)) f e) [
+      | inl q ↦ no_case (has_no_case tables d behind f q)
+      | inr next ↦
+          let front = has_first tables d behind next.0.part next.0.taken
+          (reads tables d behind next.0 next.1) in
+          elim (bind_err (part_nodes (expand_within levels tables) s r used next.0.part)
+          (λ (first : List Node). expand_list tables
+          (expand_within levels tables) s r next.0.taken (used + length first) behind
+          >>= λ rest. Ok (first ++ rest)) f next.2) [
+            | inl q ↦ part_fault tables levels s r used next.0.part (d ∷ behind)
+                (drop next.0.taken behind) f all deep fits front q
+            | inr first ↦
+                let pass = part_passes tables levels s r used next.0.part (d ∷ behind)
+                (drop next.0.taken behind) first.0 fits front first.1 in
+                elim (bind_err (expand_list tables (expand_within levels tables) s r next.0.taken
+                (used + length first.0) behind) (λ (rest : List Node). Ok (first.0 ++ rest)) f
+                first.2) [
+                  | inl q ↦ pass.1 f (list_fault tables levels s r next.0.taken
+                      (used + length first.0) behind f all deep pass.0 q)
+                  | inr rest ↦ let no = rest.2 in absurd (cc)
+                ]
+          ]
+    ]
+
+-- at any number of levels
+faults_are_first : (tables : Entries) (levels : ℕ) → AreFirst tables levels
+unfolding AreFirst expand_within
+faults_are_first tables zero = λ s r used list f deep fits e. absurd (omega arith)
+faults_are_first tables (suc levels) =
+    λ s r used list f deep fits e. list_fault tables levels s r 0 used list f
+    (faults_are_first tables levels) (omega arith) fits e
+
+-- ---- a first fault is that of the expansion
+
+-- what the first descriptors of a list are read as, and the list behind them
+data Opens : Entries → List ℕ → Part → List ℕ → Type 0 where
+  opens : {tables : Entries} {d : ℕ} {behind after : List ℕ} {part : Part} {taken : ℕ}
+      → IsRead tables d behind part taken → drop taken behind ≡ after
+      → Opens tables (d ∷ behind) part after
+
+-- a list that begins with a node
+node_opens : (tables : Entries) (list after : List ℕ) → NodeFirst tables list after → (node : Node)
+    × Opens tables list (single node) after
+node_opens tables list after (element_node {d} {e} f k) =
+    (nodes.Element d e, opens (an_element f k) refl)
+node_opens tables list after (operator_node {d} f x) =
+    (nodes.Operator d, opens (an_operator f x) refl)
+node_opens tables list after (text_node {d} f x y) =
+    (nodes.Untouched d (text_of_characters (y_of d)), opens (a_text f x y) refl)
+node_opens tables list after (width_node {local} {e} f x y l k) =
+    (nodes.Untouched local e, opens (a_width f x y l k) refl)
+
+-- with a sequence
+sequence_opens : (tables : Entries) (list inside after : List ℕ)
+    → SequenceFirst tables list inside after → Opens tables list (inner inside) after
+sequence_opens tables list inside after (sequence_list f k) = opens (a_sequence f k) refl
+
+-- with a replication
+replication_opens : (tables : Entries) (list body after : List ℕ)
+    → ReplicationFirst tables list body after → (head : Repetitions)
+    × Opens tables list (replication head body) after
+replication_opens tables list body after (repeated_body {d} f x y n) = (
+  repetitions.Times (y_of d),
+  opens (body_read tables d body after f x y n)
+      (drop_at body after (x_of d) n),
+)
+replication_opens tables list body after (delayed_body {d} {factor} {e} f x y i k c n) = (
+  repetitions.Factor factor e,
+  opens (factor_read tables d factor e body after f x y i k c n)
+      (rw add-one (drop_at body after (x_of d) n)),
+)
+
+-- a fault of the first part is that of the list
+fault_in_front : (tables : Entries) (deeper : Deeper) (s r used : ℕ) (list after : List ℕ)
+    (part : Part) (f : TemplateFault) → Opens tables list part after
+    → part_nodes deeper s r used part ≡ Err f → expand_list tables deeper s r 0 used list ≡ Err f
+fault_in_front tables deeper s r used list after part f (opens {d} {behind} {taken} read same) p =
+    expand_list-found tables deeper s r used d behind (found part taken)
+    (sym (found_is tables d behind part taken read))
+    ∙ ap (λ (x : Expansion). x >>= λ first. expand_list tables deeper s r taken
+    (used + length first) behind >>= λ rest. Ok (first ++ rest)) p
+
+-- so is one of the list behind it
+fault_behind : (tables : Entries) (deeper : Deeper) (s r used : ℕ) (list after : List ℕ)
+    (part : Part) (first : List Node) (f : TemplateFault) → Opens tables list part after
+    → part_nodes deeper s r used part ≡ Ok first
+    → expand_list tables deeper s r 0 (used + length first) after ≡ Err f
+    → expand_list tables deeper s r 0 used list ≡ Err f
+fault_behind tables deeper s r used list after part first f
+    (opens {d} {behind} {taken} read same) p q =
+    expand_list-found tables deeper s r used d behind (found part taken)
+    (sym (found_is tables d behind part taken read))
+    ∙ ap (λ (x : Expansion). x >>= λ first. expand_list tables deeper s r taken
+    (used + length first) behind >>= λ rest. Ok (first ++ rest)) p
+    ∙ ap (λ (x : Expansion). x >>= λ rest. Ok (first ++ rest))
+    (expand_list-skip tables deeper s r taken (used + length first) behind
+    ∙ ap (λ (l : List ℕ). expand_list tables deeper s r 0 (used + length first) l) same ∙ q)
+
+-- a first fault is what the expansion answers
+first_fault_expands : (tables : Entries) (s r used : ℕ) (list : List ℕ) (f : TemplateFault)
+    → FirstFault tables s r used list f → (levels : ℕ) → s + r ≤ levels
+    → expand_list tables (expand_within levels tables) s r 0 used list ≡ Err f
+unfolding expand_within
+first_fault_expands tables s r used list f (no_case {d} {behind} h) levels deep =
+    expand_list-found tables (expand_within levels tables) s r used d behind (Err f)
+    (sym (fault_found tables d behind f h))
+first_fault_expands tables s r used list f (sequence_too_deep {inside} {behind} front) levels deep =
+    fault_in_front tables (expand_within levels tables) zero r used list behind
+    (inner inside) TooDeep (sequence_opens tables list inside behind front) refl
+first_fault_expands tables s r used list f
+    (replication_too_deep {body} {behind} front) levels deep =
+    let o = replication_opens tables list body behind front in
+    fault_in_front tables (expand_within levels tables) s zero used list behind
+    (replication o.0 body) TooDeep o.1 refl
+first_fault_expands tables s r used list f (node_too_many {behind} front full) levels deep =
+    let o = node_opens tables list behind front in
+    fault_in_front tables (expand_within levels tables) s r used list behind
+    (single o.0) TooManyNodes o.1 (cond-false (ltb used most_nodes) (Ok (o.0 ∷ []))
+    (Err TooManyNodes) (le-ltb used most_nodes full))
+first_fault_expands tables s r used list f
+    (replication_too_many {r = below} {body} {behind} front full) levels deep =
+    let o = replication_opens tables list body behind front in
+    fault_in_front tables (expand_within levels tables) s (suc below) used list behind
+    (replication o.0 body) TooManyNodes o.1
+    (cond-false (ltb used most_nodes) (expand_within levels tables s below (used + 1) body
+    >>= λ l. Ok (replication_node o.0 (length l) ∷ l)) (Err TooManyNodes)
+    (le-ltb used most_nodes full))
+first_fault_expands tables s r used list f (in_sequence front h) zero deep = absurd (omega arith)
+first_fault_expands tables s r used list f (in_sequence {s = below} {inside} {behind} front h)
+    (suc levels) deep =
+    fault_in_front tables (expand_within (suc levels) tables) (suc below) r used list behind
+    (inner inside) f (sequence_opens tables list inside behind front)
+    (first_fault_expands tables below r used inside f h levels (omega arith))
+first_fault_expands tables s r used list f (in_replication front low h) zero deep =
+    absurd (omega arith)
+first_fault_expands tables s r used list f (in_replication {r = below} {body} {behind} front low h)
+    (suc levels) deep =
+    let o = replication_opens tables list body behind front in
+    fault_in_front tables (expand_within (suc levels) tables) s (suc below) used list behind
+    (replication o.0 body) f o.1
+    (cond-true (ltb used most_nodes) (expand_within (suc levels) tables s below (used + 1) body
+    >>= λ l. Ok (replication_node o.0 (length l) ∷ l)) (Err TooManyNodes)
+    (lt-ltb used most_nodes low)
+    ∙ ap (λ (x : Expansion). x >>= λ l. Ok (replication_node o.0 (length l) ∷ l))
+    (first_fault_expands tables s below (used + 1) body f h levels (omega arith)))
+first_fault_expands tables s r used list f (behind_node {behind} front low h) levels deep =
+    let o = node_opens tables list behind front in
+    fault_behind tables (expand_within levels tables) s r used list behind (single o.0)
+    (o.0 ∷ []) f o.1 (single_fits used o.0 low)
+    (first_fault_expands tables s r (used + 1) behind f h levels deep)
+first_fault_expands tables s r used list f (behind_sequence front g fits h) zero deep =
+    absurd (omega arith)
+first_fault_expands tables s r used list f
+    (behind_sequence {s = below} {inside} {behind} {inner = within} front g fits h)
+    (suc levels) deep =
+    fault_behind tables (expand_within (suc levels) tables) (suc below) r used list behind
+    (inner inside) (nodes_of within) f (sequence_opens tables list inside behind front)
+    (flat_expands tables below r inside within g levels used (omega arith) fits)
+    (first_fault_expands tables (suc below) r (used + length (nodes_of within)) behind f h
+    (suc levels) deep)
+first_fault_expands tables s r used list f (behind_replication front g fits h) zero deep =
+    absurd (omega arith)
+first_fault_expands tables s r used list f
+    (behind_replication {r = below} {body} {behind} {inner = within} front g fits h)
+    (suc levels) deep =
+    let o = replication_opens tables list body behind front in
+    let made = replication_fits (expand_within (suc levels) tables) s below used o.0 body
+    (nodes_of within) (omega arith) (flat_expands tables s below body within g levels (used + 1)
+    (omega arith) fits) in
+    let count : used + 1 + length (nodes_of within) ≡ used + suc (length (nodes_of within)) =
+    omega arith in
+    let back = first_fault_expands tables s (suc below)
+    (used + 1 + length (nodes_of within)) behind f h (suc levels) deep in
+    fault_behind tables (expand_within (suc levels) tables) s (suc below) used list behind
+    (replication o.0 body) (replication_node o.0 (length (nodes_of within)) ∷ nodes_of within) f
+    o.1 made
+    (subst (λ (n : ℕ). expand_list tables (expand_within (suc levels) tables) s
+    (suc below) 0 n behind ≡ Err f) count back)
+
+-- ---- what has a tree has a case
+
+-- the first descriptor of a list, if there is one, stands for something
+FrontFound : Entries → List ℕ → Type 0
+FrontFound tables [] = Unit {0}
+FrontFound tables (d ∷ behind) = (next : FirstPart) × (found_at tables d behind ≡ Ok next)
+
+-- a list with a case has a part
+is_found : (tables : Entries) (d : ℕ) (behind : List ℕ) (part : Part) (taken : ℕ)
+    → IsRead tables d behind part taken → (next : FirstPart) × (found_at tables d behind ≡ Ok next)
+is_found tables d behind part taken read =
+    (record { part = part; taken = taken }, found_is tables d behind part taken read)
+
+-- the tree of a list has a case for its first descriptor
+flat_found : (tables : Entries) (s r : ℕ) (list : List ℕ) (t : Tree) → Flat tables s r list t
+    → FrontFound tables list
+unfolding FrontFound
+flat_found tables s r list t nothing = tt
+flat_found tables s r list t (element_first {d} {behind} f k g) =
+    is_found tables d behind _ _ (an_element f k)
+flat_found tables s r list t (operator_first {d} {behind} f x g) =
+    is_found tables d behind _ _ (an_operator f x)
+flat_found tables s r list t (text_first {d} {behind} f x y g) =
+    is_found tables d behind _ _ (a_text f x y)
+flat_found tables s r list t (width_first {d} {local} {behind} f x y l k g) =
+    is_found tables d (local ∷ behind) _ _ (a_width f x y l k)
+flat_found tables s r list t (sequence_first {d} {behind} f k i g) =
+    is_found tables d behind _ _ (a_sequence f k)
+flat_found tables s r list t (repeated_first {d} {body} {behind} f x y n i g) =
+    is_found tables d (body ++ behind) _ _ (body_read tables d body behind f x y n)
+flat_found tables s r list t (delayed_first {d} {factor} {e} {body} {behind} f x y j k c n i g) =
+    is_found tables d (factor ∷ body ++ behind) _ _
+    (factor_read tables d factor e body behind f x y j k c n)
+
+-- ---- the laws
+
+-- the expansion refuses a list exactly for its first fault
+pub refuses_exactly : (tables : Entries) (list : List ℕ) (fault : TemplateFault)
+    → RefusesExactly tables list fault
+unfolding AreFirst expand_within
+refuses_exactly tables list fault = (
+  λ e. faults_are_first tables 33 16 16 0 list fault (omega arith) (omega arith) e,
+  λ h. first_fault_expands tables 16 16 0 list fault h 32 (omega arith),
+)
+
+-- an answer gives a tree or a first fault
+tree_or_fault : (tables : Entries) (list : List ℕ) (answer : Expansion)
+    → expansion tables list ≡ answer → HasTreeOrFault tables list
+tree_or_fault tables list (Ok ns) e =
+    let w = has_tree_within tables 33 16 16 0 list ns (omega arith) e in
+    let size : length (nodes_of w.0) ≡ length ns = ap length w.2 in
+    let most : 0 + length ns ≤ most_nodes = w.3 in
+    inl (w.0, (w.1, omega arith))
+tree_or_fault tables list (Err f) e = inr (f, (refuses_exactly tables list f).0 e)
+
+-- a list has one of them
+pub has_tree_or_fault : (tables : Entries) (list : List ℕ) → HasTreeOrFault tables list
+has_tree_or_fault tables list = tree_or_fault tables list (expansion tables list) refl
+
+-- and never both
+pub has_not_both : (tables : Entries) (list : List ℕ) (tree : Tree) (fault : TemplateFault)
+    → HasNotBoth tables list tree fault
+has_not_both tables list tree fault h g =
+    let made = (expands_exactly tables list tree).1 h in
+    let refused = (refuses_exactly tables list fault).1 g in
+    absurd (cc)
+
+-- at most one fault is the first
+pub has_one_fault : (tables : Entries) (list : List ℕ) (f g : TemplateFault)
+    → HasOneFault tables list f g
+has_one_fault tables list f g h k =
+    let one = (refuses_exactly tables list f).1 h in
+    let other = (refuses_exactly tables list g).1 k in
+    cc
+
+-- X1 to X7 name cases without a tree
+pub has_no_tree_at : (tables : Entries) (d : ℕ) (behind : List ℕ) (fault : TemplateFault)
+    → HasNoTreeAt tables d behind fault
+unfolding FrontFound
+has_no_tree_at tables d behind fault h s r tree g =
+    let refused = fault_found tables d behind fault h in
+    let front = flat_found tables s r (d ∷ behind) tree g in
+    let made = front.1 in
+    absurd (cc)

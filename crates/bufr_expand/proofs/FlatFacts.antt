@@ -1,0 +1,588 @@
+-- An expansion gives the nodes of a tree exactly where the list has this tree, for
+-- `laws::expansion_is_the_tree_of_a_list`.
+use Rattle.std.proofs.Common.{◌≡◌, ℕ, zero, suc, ◌+◌, ◌<◌, ◌≤◌, Bool, true, false, cond, ltb, List}
+use Rattle.std.proofs.Common.{[], ◌∷◌, ◌++◌, length, take, drop, Result, Ok, Err, Some, refl, sym}
+use Rattle.std.proofs.Common.{ap, subst, ◌∙◌, arith, add-one, append_assoc, length-append}
+use Rattle.std.proofs.lemmas.Bool.{ltb-true, lt-ltb, cond-true}
+use Rattle.std.proofs.lemmas.List.{take-append-drop, length-take-le, drop_at, take_at}
+use Rattle.bufr_tables.specs.Answers.{◌>>=◌}
+use Rattle.bufr_tables.specs.Descriptors.{f_of, x_of, y_of}
+use Rattle.bufr_tables.specs.declared.element.Element.{Element}
+use Rattle.bufr_tables.specs.Entries.{Entries, element, sequence}
+use Rattle.bufr_expand.specs.Limits.{most_nodes}
+use Rattle.bufr_expand.specs.declared.node.Node.{Node}
+use Rattle.bufr_expand.specs.declared.node.Node.TheVariants as nodes
+use Rattle.bufr_expand.specs.declared.node.Repetitions.{Repetitions}
+use Rattle.bufr_expand.specs.declared.node.Repetitions.TheVariants as repetitions
+use Rattle.bufr_expand.specs.declared.node.TemplateFault.TheVariants.{TooManyNodes}
+use Rattle.bufr_expand.specs.Expansion.{Expansion, Deeper, FirstPart, Part, single, inner}
+use Rattle.bufr_expand.specs.Expansion.{replication, text_of_characters, found, found_at}
+use Rattle.bufr_expand.specs.Expansion.{part_nodes, single_nodes, replication_nodes}
+use Rattle.bufr_expand.specs.Expansion.{replication_node, expand_list, expand_within, onto}
+use Rattle.bufr_expand.specs.Trees as trees
+use Rattle.bufr_expand.specs.Trees.{Tree, nodes_of, tree_of}
+use Rattle.bufr_expand.specs.TreeCodes.{tree_of-nodes_of}
+use Rattle.bufr_expand.specs.Flat.{Flat, nothing, element_first, operator_first, text_first}
+use Rattle.bufr_expand.specs.Flat.{width_first, sequence_first, repeated_first, delayed_first}
+use Rattle.bufr_expand.specs.Flat.{followed_by, IsFactor, IsCountRow, ExpandsExactly}
+use Rattle.bufr_expand.specs.Flat.{ExpandsToTrees, HasOneTree, HasEnoughLevels}
+use Rattle.bufr_expand.proofs.ExpansionFacts.{expand_list-skip, expand_list-found, onto_ok}
+use Rattle.bufr_expand.proofs.ReadingFacts.{IsRead, an_element, an_operator, a_text, a_width}
+use Rattle.bufr_expand.proofs.ReadingFacts.{a_sequence, a_repeated, a_delayed, reads, found_is}
+
+-- what follows a successful answer
+pub bind_ok : {A B F : Type 0} (m : Result A F) (f : A → Result B F) (y : B) → (m >>= f) ≡ Ok y
+    → (x : A) × (m ≡ Ok x) × (f x ≡ Ok y)
+bind_ok (Ok x) f y e = (x, refl, e)
+bind_ok (Err g) f y e = absurd (cc)
+
+-- the nodes of one tree behind another
+nodes_of-followed_by : (a b : Tree) → nodes_of (followed_by a b) ≡ nodes_of a ++ nodes_of b
+unfolding followed_by nodes_of
+nodes_of-followed_by trees.done b = refl
+nodes_of-followed_by (trees.element d e rest) b =
+    ap (λ (ns : List Node). nodes.Element d e ∷ ns) (nodes_of-followed_by rest b)
+nodes_of-followed_by (trees.untouched d e rest) b =
+    ap (λ (ns : List Node). nodes.Untouched d e ∷ ns) (nodes_of-followed_by rest b)
+nodes_of-followed_by (trees.operator d rest) b =
+    ap (λ (ns : List Node). nodes.Operator d ∷ ns) (nodes_of-followed_by rest b)
+nodes_of-followed_by (trees.repeated times body rest) b =
+    ap (λ (ns : List Node). nodes.Repeated times (length (nodes_of body)) ∷ nodes_of body ++ ns)
+    (nodes_of-followed_by rest b)
+    ∙ ap (λ (ns : List Node). nodes.Repeated times (length (nodes_of body)) ∷ ns)
+    (sym (append_assoc (nodes_of body) (nodes_of rest) (nodes_of b)))
+nodes_of-followed_by (trees.delayed d e body rest) b =
+    ap (λ (ns : List Node). nodes.Delayed d e (length (nodes_of body)) ∷ nodes_of body ++ ns)
+    (nodes_of-followed_by rest b)
+    ∙ ap (λ (ns : List Node). nodes.Delayed d e (length (nodes_of body)) ∷ ns)
+    (sym (append_assoc (nodes_of body) (nodes_of rest) (nodes_of b)))
+
+-- ---- a part before the rest
+
+-- the tree of a part, by that of the list in it, and of the rest
+with_rest : Part → Tree → Tree → Tree
+with_rest (single (nodes.Element d e)) t rest = trees.element d e rest
+with_rest (single (nodes.Untouched d e)) t rest = trees.untouched d e rest
+with_rest (single (nodes.Operator d)) t rest = trees.operator d rest
+with_rest (single (nodes.Repeated times size)) t rest = rest
+with_rest (single (nodes.Delayed d e size)) t rest = rest
+with_rest (inner list) t rest = followed_by t rest
+with_rest (replication (repetitions.Times times) body) t rest = trees.repeated times t rest
+with_rest (replication (repetitions.Factor d e) body) t rest = trees.delayed d e t rest
+
+-- a tree of the list in a part, where one more level may stand
+InnerFlat : Entries → ℕ → ℕ → Part → Tree → Type 0
+InnerFlat tables s r (single node) t = Unit {0}
+InnerFlat tables zero r (inner list) t = ⊥
+InnerFlat tables (suc s) r (inner list) t = Flat tables s r list t
+InnerFlat tables s zero (replication head body) t = ⊥
+InnerFlat tables s (suc r) (replication head body) t = Flat tables s r body t
+
+-- a sequence before the rest
+sequence_next : (tables : Entries) (s r d : ℕ) (behind list : List ℕ) (t rest : Tree) → 3 ≤ f_of d
+    → sequence tables d ≡ Some list → InnerFlat tables s r (inner list) t
+    → Flat tables s r behind rest → Flat tables s r (d ∷ behind) (followed_by t rest)
+unfolding InnerFlat
+sequence_next tables zero r d behind list t rest f k h g = absurd h
+sequence_next tables (suc s) r d behind list t rest f k h g = sequence_first f k h g
+
+-- a body of so many descriptors and those behind it
+body_next : (tables : Entries) (s r d x : ℕ) (head : Repetitions) (behind : List ℕ) (t rest : Tree)
+    → x ≤ length behind → ((p : ℕ) (body after : List ℕ) → r ≡ suc p → length body ≡ x
+    → Flat tables s p body t → Flat tables s (suc p) after rest
+    → Flat tables s (suc p) (d ∷ body ++ after)
+    (with_rest (replication head (take x behind)) t rest))
+    → InnerFlat tables s r (replication head (take x behind)) t
+    → Flat tables s r (drop x behind) rest
+    → Flat tables s r (d ∷ behind) (with_rest (replication head (take x behind)) t rest)
+unfolding InnerFlat
+body_next tables s zero d x head behind t rest long make h g = absurd h
+body_next tables s (suc r) d x head behind t rest long make h g =
+    let P : List ℕ → Type 0 = λ l. Flat tables s (suc r) (d ∷ l)
+    (with_rest (replication head (take x behind)) t rest) in
+    subst P (take-append-drop x behind)
+    (make r (take x behind) (drop x behind) refl (length-take-le x behind long) h g)
+
+-- a delayed replication before the rest
+delayed_next : (tables : Entries) (s r d factor x : ℕ) (head : Repetitions) (behind : List ℕ)
+    (t rest : Tree) → x ≤ length behind
+    → ((p : ℕ) (body after : List ℕ) → length body ≡ x → Flat tables s p body t
+    → Flat tables s (suc p) after rest
+    → Flat tables s (suc p) (d ∷ factor ∷ body ++ after)
+    (with_rest (replication head (take x behind)) t rest))
+    → InnerFlat tables s r (replication head (take x behind)) t
+    → Flat tables s r (drop x behind) rest
+    → Flat tables s r (d ∷ factor ∷ behind) (with_rest (replication head (take x behind)) t rest)
+unfolding InnerFlat
+delayed_next tables s zero d factor x head behind t rest long make h g = absurd h
+delayed_next tables s (suc r) d factor x head behind t rest long make h g =
+    let P : List ℕ → Type 0 = λ l. Flat tables s (suc r) (d ∷ factor ∷ l)
+    (with_rest (replication head (take x behind)) t rest) in
+    subst P (take-append-drop x behind)
+    (make r (take x behind) (drop x behind) (length-take-le x behind long) h g)
+
+-- any part before the rest
+flat_next : (tables : Entries) (s r d : ℕ) (behind : List ℕ) (part : Part) (taken : ℕ)
+    (t rest : Tree) → IsRead tables d behind part taken → InnerFlat tables s r part t
+    → Flat tables s r (drop taken behind) rest
+    → Flat tables s r (d ∷ behind) (with_rest part t rest)
+unfolding with_rest
+flat_next tables s r d behind part taken t rest (an_element f k) h g = element_first f k g
+flat_next tables s r d behind part taken t rest (an_operator f x) h g = operator_first f x g
+flat_next tables s r d behind part taken t rest (a_text f x y) h g = text_first f x y g
+flat_next tables s r d behind part taken t rest (a_width f x y l k) h g = width_first f x y l k g
+flat_next tables s r d behind part taken t rest (a_sequence f k) h g =
+    sequence_next tables s r d behind _ t rest f k h g
+flat_next tables s r d behind part taken t rest (a_repeated f x y long) h g =
+    body_next tables s r d (x_of d) (repetitions.Times (y_of d)) behind t rest long
+    (λ p body after e n b a. repeated_first f x y n b a) h g
+flat_next tables s r d (factor ∷ behind) part taken t rest (a_delayed {e} f x y i k c long) h g =
+    let after = rw add-one at g in
+    delayed_next tables s r d factor (x_of d) (repetitions.Factor factor e) behind t rest long
+    (λ p body after n b a. delayed_first f x y i k c n b a) h after
+
+-- ---- an expansion has a tree
+
+-- a tree of a list, these nodes, and no more than there may be
+FlatOf : Entries → ℕ → ℕ → ℕ → List ℕ → List Node → Type 0
+FlatOf tables s r used list ns = (t : Tree) × Flat tables s r list t × (nodes_of t ≡ ns)
+    × (used ≤ most_nodes → used + length ns ≤ most_nodes)
+
+-- the nodes of an expansion are those of a tree of the list
+AreFlat : Entries → Deeper → Type 0
+AreFlat tables deeper = (s r used : ℕ) (list : List ℕ) (ns : List Node)
+    → deeper s r used list ≡ Ok ns → FlatOf tables s r used list ns
+
+-- the same of a part, before any rest
+PartFlat : Entries → ℕ → ℕ → ℕ → Part → List Node → Type 0
+PartFlat tables s r used part ns =
+    (t : Tree) × InnerFlat tables s r part t
+    × ((rest : Tree) → nodes_of (with_rest part t rest) ≡ ns ++ nodes_of rest)
+    × (used ≤ most_nodes → used + length ns ≤ most_nodes)
+
+-- a part's own node has no body
+IsLeaf : Part → Type 0
+IsLeaf (single (nodes.Repeated times size)) = ⊥
+IsLeaf (single (nodes.Delayed d e size)) = ⊥
+IsLeaf (single (nodes.Element d e)) = Unit {0}
+IsLeaf (single (nodes.Untouched d e)) = Unit {0}
+IsLeaf (single (nodes.Operator d)) = Unit {0}
+IsLeaf (inner list) = Unit {0}
+IsLeaf (replication head body) = Unit {0}
+
+-- what has no list in it
+is_leaf : (tables : Entries) (d : ℕ) (behind : List ℕ) (part : Part) (taken : ℕ)
+    → IsRead tables d behind part taken → IsLeaf part
+unfolding IsLeaf
+is_leaf tables d behind part taken (an_element f k) = tt
+is_leaf tables d behind part taken (an_operator f x) = tt
+is_leaf tables d behind part taken (a_text f x y) = tt
+is_leaf tables d behind part taken (a_width f x y l k) = tt
+is_leaf tables d behind part taken (a_sequence f k) = tt
+is_leaf tables d behind part taken (a_repeated f x y long) = tt
+is_leaf tables d behind part taken (a_delayed f x y i k c long) = tt
+
+-- has one node
+leaf_nodes : (node : Node) (rest : Tree) → IsLeaf (single node)
+    → nodes_of (with_rest (single node) trees.done rest) ≡ (node ∷ []) ++ nodes_of rest
+unfolding IsLeaf with_rest nodes_of
+leaf_nodes (nodes.Element d e) rest h = refl
+leaf_nodes (nodes.Untouched d e) rest h = refl
+leaf_nodes (nodes.Operator d) rest h = refl
+leaf_nodes (nodes.Repeated times size) rest h = absurd h
+leaf_nodes (nodes.Delayed d e size) rest h = absurd h
+
+-- a node that fits
+single_flat : (b : Bool) (tables : Entries) (s r used : ℕ) (node : Node) (ns : List Node)
+    → ltb used most_nodes ≡ b → IsLeaf (single node)
+    → cond b (Ok (node ∷ [])) (Err TooManyNodes) ≡ Ok ns → PartFlat tables s r used (single node) ns
+unfolding PartFlat InnerFlat
+single_flat true tables s r used node ns room h e =
+    let same : node ∷ [] ≡ ns = cc in
+    let long : length ns ≡ 1 = ap length (sym same) in
+    let low : used < most_nodes = ltb-true used most_nodes room in (
+      trees.done,
+      tt,
+      λ rest. leaf_nodes node rest h
+          ∙ ap (λ (l : List Node). l ++ nodes_of rest) same,
+      λ fits. omega arith,
+    )
+single_flat false tables s r used node ns room h e = absurd (cc)
+
+-- the nodes of a replication's tree
+head_nodes : (head : Repetitions) (body : List ℕ) (t rest : Tree) (ns : List Node) → nodes_of t ≡ ns
+    → nodes_of (with_rest (replication head body) t rest) ≡ (replication_node head (length ns) ∷ ns)
+    ++ nodes_of rest
+unfolding with_rest nodes_of
+head_nodes (repetitions.Times times) body t rest ns e =
+    ap (λ (l : List Node). nodes.Repeated times (length l) ∷ l ++ nodes_of rest) e
+head_nodes (repetitions.Factor d el) body t rest ns e =
+    ap (λ (l : List Node). nodes.Delayed d el (length l) ∷ l ++ nodes_of rest) e
+
+-- a replication that fits
+replication_flat : (b : Bool) (tables : Entries) (deeper : Deeper) (s r used : ℕ)
+    (head : Repetitions) (body : List ℕ) (ns : List Node) → AreFlat tables deeper
+    → ltb used most_nodes ≡ b → cond b
+    (deeper s r (used + 1) body >>= λ l. Ok (replication_node head (length l) ∷ l))
+    (Err TooManyNodes) ≡ Ok ns → PartFlat tables s (suc r) used (replication head body) ns
+unfolding PartFlat InnerFlat AreFlat FlatOf
+replication_flat true tables deeper s r used head body ns all room e =
+    let q = bind_ok (deeper s r (used + 1) body)
+    (λ (l : List Node). Ok (replication_node head (length l) ∷ l)) ns e in
+    let w = all s r (used + 1) body q.0 q.1 in
+    let same : replication_node head (length q.0) ∷ q.0 ≡ ns = cc in
+    let long : length ns ≡ suc (length q.0) = ap length (sym same) in
+    let low : used < most_nodes = ltb-true used most_nodes room in
+    let fits : used + 1 + length q.0 ≤ most_nodes = w.3 (omega arith) in (
+      w.0,
+      w.1,
+      λ rest. head_nodes head body w.0 rest q.0 w.2
+          ∙ ap (λ (l : List Node). l ++ nodes_of rest) same,
+      λ h. omega arith,
+    )
+replication_flat false tables deeper s r used head body ns all room e = absurd (cc)
+
+-- a part that fits
+part_flat : (tables : Entries) (deeper : Deeper) (s r used : ℕ) (part : Part) (ns : List Node)
+    → AreFlat tables deeper → IsLeaf part → part_nodes deeper s r used part ≡ Ok ns
+    → PartFlat tables s r used part ns
+unfolding PartFlat InnerFlat AreFlat FlatOf with_rest
+part_flat tables deeper s r used (single node) ns all h e =
+    single_flat (ltb used most_nodes) tables s r used node ns refl h e
+part_flat tables deeper zero r used (inner list) ns all h e = absurd (cc)
+part_flat tables deeper (suc s) r used (inner list) ns all h e =
+    let w = all s r used list ns e in (
+      w.0,
+      w.1,
+      λ rest. nodes_of-followed_by w.0 rest
+          ∙ ap (λ (l : List Node). l ++ nodes_of rest) w.2,
+      w.3,
+    )
+part_flat tables deeper s zero used (replication head body) ns all h e = absurd (cc)
+part_flat tables deeper s (suc r) used (replication head body) ns all h e =
+    replication_flat (ltb used most_nodes) tables deeper s r used head body ns all refl e
+
+-- a part and the rest
+join_flat : (tables : Entries) (s r used d : ℕ) (behind : List ℕ) (next : FirstPart)
+    (first rest ns : List Node) → IsRead tables d behind next.part next.taken → first ++ rest ≡ ns
+    → PartFlat tables s r used next.part first
+    → FlatOf tables s r (used + length first) (drop next.taken behind) rest
+    → FlatOf tables s r used (d ∷ behind) ns
+unfolding FlatOf PartFlat
+join_flat tables s r used d behind next first rest ns read same front back =
+    let long : length ns ≡ length first + length rest = sym (ap length same)
+    ∙ length-append first rest in (
+      with_rest next.part front.0 back.0,
+      flat_next tables s r d behind next.part next.taken front.0 back.0 read front.1 back.1,
+      front.2 back.0 ∙ ap (λ (l : List Node). first ++ l) back.2 ∙ same,
+      λ h. let low : used + length first ≤ most_nodes = front.3 h in
+          let all_of_it : used + length first + length rest ≤ most_nodes = back.3 low in
+          omega arith,
+    )
+
+-- a list that fits
+list_flat : (tables : Entries) (deeper : Deeper) (s r skip used : ℕ) (list : List ℕ)
+    (ns : List Node) → AreFlat tables deeper → expand_list tables deeper s r skip used list ≡ Ok ns
+    → FlatOf tables s r used (drop skip list) ns
+unfolding expand_list nodes_of FlatOf PartFlat
+list_flat tables deeper s r zero used [] ns all e = (
+  trees.done,
+  nothing,
+  cc,
+  λ h. let none : [] ≡ ns = cc in
+      let long : length ns ≡ 0 = ap length (sym none) in omega arith,
+)
+list_flat tables deeper s r (suc skip) used [] ns all e = (
+  trees.done,
+  nothing,
+  cc,
+  λ h. let none : [] ≡ ns = cc in
+      let long : length ns ≡ 0 = ap length (sym none) in omega arith,
+)
+list_flat tables deeper s r (suc skip) used (d ∷ behind) ns all e =
+    list_flat tables deeper s r skip used behind ns all e
+list_flat tables deeper s r zero used (d ∷ behind) ns all e =
+    let next = bind_ok (found_at tables d behind)
+    (λ (next : FirstPart). part_nodes deeper s r used next.part
+    >>= λ first. expand_list tables deeper s r next.taken (used + length first) behind
+    >>= λ rest. Ok (first ++ rest)) ns e in
+    let first = bind_ok (part_nodes deeper s r used next.0.part)
+    (λ (first : List Node). expand_list tables deeper s r next.0.taken
+    (used + length first) behind >>= λ rest. Ok (first ++ rest)) ns next.2 in
+    let rest = bind_ok (expand_list tables deeper s r next.0.taken (used + length first.0) behind)
+    (λ (rest : List Node). Ok (first.0 ++ rest)) ns first.2 in
+    let same : first.0 ++ rest.0 ≡ ns = cc in
+    let read = reads tables d behind next.0 next.1 in
+    let front = part_flat tables deeper s r used next.0.part first.0 all
+    (is_leaf tables d behind next.0.part next.0.taken read) first.1 in
+    let back = list_flat tables deeper s r next.0.taken
+    (used + length first.0) behind rest.0 all rest.1 in
+    join_flat tables s r used d behind next.0 first.0 rest.0 ns read same front back
+
+-- at any number of levels
+within_flat : (tables : Entries) (levels : ℕ) → AreFlat tables (expand_within levels tables)
+unfolding AreFlat FlatOf expand_within
+within_flat tables zero = λ s r used list ns e. absurd (cc)
+within_flat tables (suc levels) = λ s r used list ns e. list_flat tables
+    (expand_within levels tables) s r 0 used list ns (within_flat tables levels) e
+
+-- the nodes that are answered are those of a tree
+pub has_tree_within : (tables : Entries) (levels s r used : ℕ) (list : List ℕ) (ns : List Node)
+    → used ≤ most_nodes → expand_within levels tables s r used list ≡ Ok ns → (t : Tree)
+    × Flat tables s r list t × (nodes_of t ≡ ns) × (used + length ns ≤ most_nodes)
+unfolding AreFlat FlatOf
+has_tree_within tables levels s r used list ns fits e =
+    let w = within_flat tables levels s r used list ns e in
+    (w.0, w.1, w.2, w.3 fits)
+
+-- ---- a tree has an expansion
+
+-- a list by its first part and the rest
+expand_step : (tables : Entries) (deeper : Deeper) (s r used d : ℕ) (behind : List ℕ) (part : Part)
+    (taken : ℕ) (first rest : List Node) → found_at tables d behind ≡ found part taken
+    → part_nodes deeper s r used part ≡ Ok first
+    → expand_list tables deeper s r 0 (used + length first) (drop taken behind) ≡ Ok rest
+    → expand_list tables deeper s r 0 used (d ∷ behind) ≡ Ok (first ++ rest)
+expand_step tables deeper s r used d behind part taken first rest e p q =
+    expand_list-found tables deeper s r used d behind (found part taken) (sym e)
+    ∙ ap (λ (x : Expansion). x >>= λ first. expand_list tables deeper s r taken
+    (used + length first) behind >>= λ rest. Ok (first ++ rest)) p
+    ∙ ap (λ (x : Expansion). x >>= λ rest. Ok (first ++ rest))
+    (expand_list-skip tables deeper s r taken (used + length first) behind ∙ q)
+
+-- a node within the limits is answered
+pub single_fits : (used : ℕ) (node : Node) → used < most_nodes
+    → single_nodes used node ≡ Ok (node ∷ [])
+single_fits used node h = cond-true (ltb used most_nodes) (Ok (node ∷ [])) (Err TooManyNodes)
+    (lt-ltb used most_nodes h)
+
+-- so is a replication
+pub replication_fits : (deeper : Deeper) (s r used : ℕ) (head : Repetitions) (body : List ℕ)
+    (ns : List Node) → used < most_nodes → deeper s r (used + 1) body ≡ Ok ns
+    → replication_nodes deeper s r used head body ≡ Ok (replication_node head (length ns) ∷ ns)
+replication_fits deeper s r used head body ns h e =
+    cond-true (ltb used most_nodes) (deeper s r (used + 1) body
+    >>= λ l. Ok (replication_node head (length l) ∷ l)) (Err TooManyNodes)
+    (lt-ltb used most_nodes h)
+    ∙ ap (λ (x : Expansion). x >>= λ l. Ok (replication_node head (length l) ∷ l)) e
+
+-- the body of a replication, and what is behind it
+pub body_read : (tables : Entries) (d : ℕ) (body behind : List ℕ) → f_of d ≡ 1 → 0 < x_of d
+    → 0 < y_of d → length body ≡ x_of d
+    → IsRead tables d (body ++ behind) (replication (repetitions.Times (y_of d)) body) (x_of d)
+body_read tables d body behind f x y long =
+    let more = length-append body behind in
+    let front : take (x_of d) (body ++ behind) ≡ body = take_at body behind (x_of d) long in
+    let P : List ℕ → Type 0 = λ l. IsRead tables d (body ++ behind)
+    (replication (repetitions.Times (y_of d)) l) (x_of d) in
+    subst P front (a_repeated f x y (omega arith))
+
+-- a factor is found before its body
+pub factor_read : (tables : Entries) (d factor : ℕ) (e : Element) (body behind : List ℕ)
+    → f_of d ≡ 1 → 0 < x_of d → y_of d ≡ 0 → IsFactor factor → element tables factor ≡ Some e
+    → IsCountRow e → length body ≡ x_of d
+    → IsRead tables d (factor ∷ body ++ behind) (replication (repetitions.Factor factor e) body)
+    (x_of d + 1)
+factor_read tables d factor e body behind f x y i k c long =
+    let more = length-append body behind in
+    let front : take (x_of d) (body ++ behind) ≡ body = take_at body behind (x_of d) long in
+    let P : List ℕ → Type 0 = λ l. IsRead tables d (factor ∷ body ++ behind)
+    (replication (repetitions.Factor factor e) l) (x_of d + 1) in
+    subst P front (a_delayed f x y i k c (omega arith))
+
+-- a tree within the limits is answered
+pub flat_expands : (tables : Entries) (s r : ℕ) (list : List ℕ) (t : Tree) → Flat tables s r list t
+    → (levels used : ℕ) → s + r ≤ levels → used + length (nodes_of t) ≤ most_nodes
+    → expand_list tables (expand_within levels tables) s r 0 used list ≡ Ok (nodes_of t)
+unfolding expand_list nodes_of expand_within
+flat_expands tables s r list t nothing levels used deep fits = refl
+flat_expands tables s r list t (element_first {d} {e} {behind} {rest} f k g) levels used deep fits =
+    let node : Node = nodes.Element d e in
+    expand_step tables (expand_within levels tables) s r used d behind (single node) 0 (node ∷ [])
+    (nodes_of rest) (found_is tables d behind (single node) 0 (an_element f k))
+    (single_fits used node (omega arith))
+    (flat_expands tables s r behind rest g levels (used + 1) deep (omega arith))
+flat_expands tables s r list t (operator_first {d} {behind} {rest} f x g) levels used deep fits =
+    let node : Node = nodes.Operator d in
+    expand_step tables (expand_within levels tables) s r used d behind (single node) 0 (node ∷ [])
+    (nodes_of rest) (found_is tables d behind (single node) 0 (an_operator f x))
+    (single_fits used node (omega arith))
+    (flat_expands tables s r behind rest g levels (used + 1) deep (omega arith))
+flat_expands tables s r list t (text_first {d} {behind} {rest} f x y g) levels used deep fits =
+    let node : Node = nodes.Untouched d (text_of_characters (y_of d)) in
+    expand_step tables (expand_within levels tables) s r used d behind (single node) 0 (node ∷ [])
+    (nodes_of rest) (found_is tables d behind (single node) 0 (a_text f x y))
+    (single_fits used node (omega arith))
+    (flat_expands tables s r behind rest g levels (used + 1) deep (omega arith))
+flat_expands tables s r list t (width_first {d} {local} {e} {behind} {rest} f x y l k g) levels used
+    deep fits =
+    let node : Node = nodes.Untouched local e in
+    expand_step tables (expand_within levels tables) s r used d (local ∷ behind) (single node) 1
+    (node ∷ []) (nodes_of rest) (found_is tables d (local ∷ behind) (single node) 1
+    (a_width f x y l k)) (single_fits used node (omega arith))
+    (flat_expands tables s r behind rest g levels (used + 1) deep (omega arith))
+flat_expands tables s r list t (sequence_first f k i g) zero used deep fits = absurd (omega arith)
+flat_expands tables s r list t (sequence_first {s = below} {d} {list = inside} {behind}
+    {inner = within} {rest} f k i g) (suc levels) used deep fits =
+    let joined = nodes_of-followed_by within rest in
+    let long : length (nodes_of (followed_by within rest))
+    ≡ length (nodes_of within) + length (nodes_of rest) = ap length joined
+    ∙ length-append (nodes_of within) (nodes_of rest) in
+    let front = flat_expands tables below r inside within i levels used (omega arith)
+    (omega arith) in
+    let back = flat_expands tables (suc below) r behind rest g (suc levels)
+    (used + length (nodes_of within)) deep (omega arith) in
+    expand_step tables (expand_within (suc levels) tables) (suc below) r used d behind
+    (inner inside) 0 (nodes_of within) (nodes_of rest)
+    (found_is tables d behind (inner inside) 0 (a_sequence f k)) front back
+    ∙ ap Ok (sym joined)
+flat_expands tables s r list t (repeated_first f x y n i g) zero used deep fits =
+    absurd (omega arith)
+flat_expands tables s r list t (repeated_first {r = below} {d} {body} {behind} {inner = within}
+    {rest} f x y n i g) (suc levels) used deep fits =
+    let long = length-append (nodes_of within) (nodes_of rest) in
+    let head : Repetitions = repetitions.Times (y_of d) in
+    let front = replication_fits (expand_within (suc levels) tables) s below used head body
+    (nodes_of within) (omega arith) (flat_expands tables s below body within i levels (used + 1)
+    (omega arith) (omega arith)) in
+    let back = flat_expands tables s (suc below) behind rest g (suc levels)
+    (used + suc (length (nodes_of within))) deep (omega arith) in
+    let behind_it : drop (x_of d) (body ++ behind) ≡ behind = drop_at body behind (x_of d) n in
+    expand_step tables (expand_within (suc levels) tables) s (suc below) used d (body ++ behind)
+    (replication head body) (x_of d) (replication_node head
+    (length (nodes_of within)) ∷ nodes_of within) (nodes_of rest)
+    (found_is tables d (body ++ behind) (replication head body) (x_of d)
+    (body_read tables d body behind f x y n)) front (rw behind_it back)
+flat_expands tables s r list t (delayed_first f x y j k c n i g) zero used deep fits =
+    absurd (omega arith)
+flat_expands tables s r list t (delayed_first {r = below} {d} {factor} {e} {body} {behind}
+    {inner = within} {rest} f x y j k c n i g) (suc levels) used deep fits =
+    let long = length-append (nodes_of within) (nodes_of rest) in
+    let head : Repetitions = repetitions.Factor factor e in
+    let front = replication_fits (expand_within (suc levels) tables) s below used head body
+    (nodes_of within) (omega arith) (flat_expands tables s below body within i levels (used + 1)
+    (omega arith) (omega arith)) in
+    let back = flat_expands tables s (suc below) behind rest g (suc levels)
+    (used + suc (length (nodes_of within))) deep (omega arith) in
+    let behind_it : drop (x_of d) (body ++ behind) ≡ behind = drop_at body behind (x_of d) n in
+    expand_step tables (expand_within (suc levels) tables) s (suc below) used d
+    (factor ∷ body ++ behind) (replication head body) (x_of d + 1)
+    (replication_node head (length (nodes_of within)) ∷ nodes_of within) (nodes_of rest)
+    (found_is tables d (factor ∷ body ++ behind) (replication head body) (x_of d + 1)
+    (factor_read tables d factor e body behind f x y j k c n)) front
+    (rw (add-one, behind_it) back)
+
+-- ---- more levels change nothing
+
+-- what follows an answer is the same
+bind_same : {A B F : Type 0} (m : Result A F) (f g : A → Result B F) → ((x : A) → f x ≡ g x)
+    → (m >>= f) ≡ (m >>= g)
+bind_same (Ok x) f g h = h x
+bind_same (Err e) f g h = refl
+
+-- two ways further in that answer the same one level further in
+SameBelow : Deeper → Deeper → ℕ → ℕ → Type 0
+SameBelow a b s r =
+    ((p used : ℕ) (list : List ℕ) → s ≡ suc p → a p r used list ≡ b p r used list)
+    × ((p used : ℕ) (list : List ℕ) → r ≡ suc p → a s p used list ≡ b s p used list)
+
+-- a part does not depend on levels that it does not reach
+part_same : (a b : Deeper) (s r used : ℕ) (part : Part) → SameBelow a b s r
+    → part_nodes a s r used part ≡ part_nodes b s r used part
+unfolding SameBelow
+part_same a b s r used (single node) h = refl
+part_same a b zero r used (inner list) h = refl
+part_same a b (suc s) r used (inner list) h = h.0 s used list refl
+part_same a b s zero used (replication head body) h = refl
+part_same a b s (suc r) used (replication head body) h =
+    ap (λ (x : Expansion). cond (ltb used most_nodes)
+    (x >>= λ l. Ok (replication_node head (length l) ∷ l)) (Err TooManyNodes))
+    (h.1 r (used + 1) body refl)
+
+-- nor does a list
+list_same : (tables : Entries) (a b : Deeper) (s r skip used : ℕ) (list : List ℕ)
+    → SameBelow a b s r → expand_list tables a s r skip used list
+    ≡ expand_list tables b s r skip used list
+unfolding expand_list
+list_same tables a b s r skip used [] h = refl
+list_same tables a b s r (suc skip) used (d ∷ behind) h =
+    list_same tables a b s r skip used behind h
+list_same tables a b s r zero used (d ∷ behind) h =
+    bind_same (found_at tables d behind)
+    (λ (next : FirstPart). part_nodes a s r used next.part
+    >>= λ first. expand_list tables a s r next.taken (used + length first) behind
+    >>= λ rest. Ok (first ++ rest)) (λ (next : FirstPart). part_nodes b s r used next.part
+    >>= λ first. expand_list tables b s r next.taken (used + length first) behind
+    >>= λ rest. Ok (first ++ rest))
+    (λ next. ap (λ (x : Expansion). x >>= λ first. expand_list tables a s r next.taken
+    (used + length first) behind >>= λ rest. Ok (first ++ rest))
+    (part_same a b s r used next.part h)
+    ∙ bind_same (part_nodes b s r used next.part)
+    (λ (first : List Node). expand_list tables a s r next.taken (used + length first) behind
+    >>= λ rest. Ok (first ++ rest)) (λ (first : List Node). expand_list tables b s r next.taken
+    (used + length first) behind >>= λ rest. Ok (first ++ rest))
+    (λ first. ap (λ (x : Expansion). x >>= λ rest. Ok (first ++ rest))
+    (list_same tables a b s r next.taken (used + length first) behind h)))
+
+-- more levels than are reached change nothing
+more_levels : (tables : Entries) (levels more s r used : ℕ) (list : List ℕ) → s + r < levels
+    → expand_within (levels + more) tables s r used list ≡ expand_within levels tables s r used list
+unfolding expand_within SameBelow
+more_levels tables zero more s r used list h = absurd (omega arith)
+more_levels tables (suc levels) more s r used list h =
+    let one : suc levels + more ≡ suc (levels + more) = omega arith in
+    ap (λ (n : ℕ). expand_within n tables s r used list) one
+    ∙ list_same tables (expand_within (levels + more) tables)
+    (expand_within levels tables) s r 0 used list (
+      λ p used list e. more_levels tables levels more p r used list (omega arith),
+      λ p used list e. more_levels tables levels more s p used list (omega arith),
+    )
+
+-- ---- the laws
+
+-- the expansion gives the nodes of exactly the tree of the list
+pub expands_exactly : (tables : Entries) (list : List ℕ) (tree : Tree)
+    → ExpandsExactly tables list tree
+unfolding AreFlat FlatOf expand_within
+expands_exactly tables list tree = (
+  λ e. let w = within_flat tables 33 16 16 0 list (nodes_of tree) e in
+      let same : w.0 ≡ tree = sym (tree_of-nodes_of w.0) ∙ ap tree_of w.2 ∙ tree_of-nodes_of tree in
+      let fits : 0 + length (nodes_of tree) ≤ most_nodes = w.3 (omega arith) in
+      (subst (Flat tables 16 16 list) same w.1, omega arith),
+  λ h. let fits : length (nodes_of tree) ≤ most_nodes = h.1 in
+      flat_expands tables 16 16 list tree h.0 32 0 (omega arith) (omega arith),
+)
+
+-- all that it gives are nodes of a tree
+pub expands_to_trees : (tables : Entries) (list : List ℕ) (ns : List Node)
+    → ExpandsToTrees tables list ns
+unfolding AreFlat FlatOf
+expands_to_trees tables list ns e =
+    let w = within_flat tables 33 16 16 0 list ns e in
+    let P : List Node → Type 0 = λ l. nodes_of (tree_of l) ≡ l in
+    subst P w.2 (ap nodes_of (tree_of-nodes_of w.0))
+
+-- a list has at most one tree
+pub has_one_tree : (tables : Entries) (list : List ℕ) (a b : Tree) → HasOneTree tables list a b
+has_one_tree tables list a b h g =
+    let e : Ok (nodes_of a) ≡ Ok (nodes_of b) = sym ((expands_exactly tables list a).1 h)
+    ∙ (expands_exactly tables list b).1 g in
+    let same : nodes_of a ≡ nodes_of b = cc in
+    sym (tree_of-nodes_of a) ∙ ap tree_of same ∙ tree_of-nodes_of b
+
+-- its 33 levels are enough
+pub has_enough_levels : (tables : Entries) (list : List ℕ) (more : ℕ)
+    → HasEnoughLevels tables list more
+has_enough_levels tables list more = more_levels tables 33 more 16 16 0 list (omega arith)
+
+-- the nodes of a built template are those of its tree
+pub built-well_formed : (tables : Entries) (list : List ℕ) (before after : List Node) → before ≡ []
+    → onto before (expand_within 33 tables 16 16 (length before) list) ≡ Ok after
+    → nodes_of (tree_of after) ≡ after
+built-well_formed tables list before after none e =
+    let q = onto_ok before (expand_within 33 tables 16 16 (length before) list) after (sym e) in
+    let same : after ≡ q.0 = q.2 ∙ ap (λ (l : List Node). l ++ q.0) none in
+    let start : length before ≡ 0 = ap length none in
+    let made = ap (λ (n : ℕ). expand_within 33 tables 16 16 n list) (sym start) ∙ q.1 in
+    let P : List Node → Type 0 = λ l. nodes_of (tree_of l) ≡ l in
+    subst P (sym same) (expands_to_trees tables list q.0 made)

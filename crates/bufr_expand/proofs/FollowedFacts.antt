@@ -1,0 +1,444 @@
+-- Behind nodes that are unrolled a course is the one that comes after them, and where a field comes
+-- next it shows this field; an item too many stops it. For `laws::courses_are_unrollings` and
+-- `laws::courses_begin_unrollings`, by way of `UnrollFacts`.
+use Rattle.std.proofs.Common.{◌≡◌, ℕ, zero, suc, ◌+◌, ◌<◌, ◌≤◌, Option, Some, None, List, [], ◌∷◌}
+use Rattle.std.proofs.Common.{◌++◌}
+use Rattle.std.proofs.Common.{refl, sym, ap, ◌∙◌, subst, inl, inr, arith, append_assoc}
+use Rattle.std.proofs.lemmas.Bool.{cases_lt}
+use Rattle.bufr_tables.specs.declared.element.Element.{Element}
+use Rattle.bufr_expand.specs.declared.operators.Operators.{Operators}
+use Rattle.bufr_expand.specs.declared.operators.Spec.{Spec}
+use Rattle.bufr_expand.specs.declared.walk.WalkFault.TheVariants.{TooLarge, EffectiveRange}
+use Rattle.bufr_expand.specs.Limits.{most_items}
+use Rattle.bufr_expand.specs.OperatorsInForce.{in_force_after, effective, untouched, factor_spec}
+use Rattle.bufr_expand.specs.Effects.{Effective, AsInTable}
+use Rattle.bufr_expand.specs.Courses.{Course, ends, stops, asks, asks_if, item, Then, turns}
+use Rattle.bufr_expand.specs.Courses.{course_then}
+use Rattle.bufr_expand.specs.Trees as trees
+use Rattle.bufr_expand.specs.Unrolling.{Told, Unrolled, nothing, item_then, field_then, first_then}
+use Rattle.bufr_expand.specs.Unrolling.{UnrollsTo, ItemThen, FieldThen, FirstThen, Turns, TurnsThen}
+use Rattle.bufr_expand.specs.Unrolling.{Unroll, After}
+use Rattle.bufr_expand.specs.NextFields.{Next, wants, lacks, Begun, item_before, field_before}
+use Rattle.bufr_expand.specs.NextFields.{first_before}
+use Rattle.bufr_expand.specs.NextFields.{Beginning, IsNext, ItemBefore, FieldBegins, FirstBegins}
+use Rattle.bufr_expand.specs.NextFields.{TurnsBegin, TurnsThenBegin, Begins}
+use Rattle.bufr_expand.proofs.PassFacts.{item-below, item-above}
+use Rattle.bufr_expand.proofs.SpecFacts.{effective_found, effective_only, in_table, in_table_only}
+
+-- ---- the course after some fields
+
+-- what the course is after these fields, as far as it asks for them: else Z
+unfoldable pub Comes : Type 0 → (Course → Type 0) → Course → List Told → Type 0
+Comes Z P c [] = P c
+Comes Z P (ends m) (f ∷ fs) = Z
+Comes Z P (stops m fault) (f ∷ fs) = Z
+Comes Z P (asks met d spec more) (f ∷ fs) = (f.fxy ≡ d) × (f.spec ≡ spec)
+    × Comes Z P (more f.number) fs
+
+-- where a course asks for the fields, what it is then holds of a later course
+pub come_true : (P : Course → Type 0) (c : Course) (fs : List Told) → Comes ⊥ P c fs
+    → (later : Course) × After c fs later × P later
+unfolding Comes After
+come_true P c [] h = (c, refl, h)
+come_true P (ends m) (f ∷ fs) h = absurd h
+come_true P (stops m fault) (f ∷ fs) h = absurd h
+come_true P (asks met d spec more) (f ∷ fs) h = let t = come_true P (more f.number) fs h.2 in
+    (t.0, (h.0, h.1, t.1), t.2)
+
+-- and of the course that is left after them
+pub come_to : (P : Course → Type 0) (c : Course) (fs : List Told) (later : Course)
+    → After c fs later → Comes (Unit {0}) P c fs → P later
+unfolding Comes After
+come_to P c [] later a h = subst P a h
+come_to P (ends m) (f ∷ fs) later a h = absurd a
+come_to P (stops m fault) (f ∷ fs) later a h = absurd a
+come_to P (asks met d spec more) (f ∷ fs) later a h = come_to P (more f.number) fs later a.2 h.2
+
+-- where an item is too many
+unfoldable pub Late : Type 0 → (Course → Type 0) → Type 0
+Late Z P = Z × P (stops most_items TooLarge)
+
+-- no field stands behind the limit
+stopped : (Z : Type 0) (P : Course → Type 0) (fs : List Told) → Late Z P
+    → Comes Z P (stops most_items TooLarge) fs
+unfolding Comes Late
+stopped Z P [] h = h.1
+stopped Z P (f ∷ fs) h = h.0
+
+-- behind an item, or at the limit
+in_item : (Z : Type 0) (P : Course → Type 0) (used : ℕ) (c : Course) (fs : List Told)
+    → used ≤ most_items → (used < most_items → Comes Z P c fs) → (most_items < used + 1 → Late Z P)
+    → Comes Z P (item used c) fs
+in_item Z P used c fs le below above =
+    let Q : Course → Type 0 = λ v. Comes Z P v fs in
+    elim (cases_lt used most_items) [
+      | inl h ↦ subst Q (sym (item-below used c h)) (below h)
+      | inr h ↦
+          let same : most_items ≡ used = omega arith in
+          let full : stops most_items TooLarge ≡ item used c = ap (λ n. stops n TooLarge) same
+          ∙ sym (item-above used c h) in
+          subst Q full (stopped Z P fs (above (omega arith)))
+    ]
+
+-- with equal fields
+pub with_fields : (Z : Type 0) (P : Course → Type 0) (c : Course) (fs gs : List Told) → fs ≡ gs
+    → Comes Z P c fs → Comes Z P c gs
+with_fields Z P c fs gs e h = let Q : List Told → Type 0 = λ l. Comes Z P c l in subst Q e h
+
+-- ---- behind nodes that are unrolled
+
+-- what comes after so many items, and these fields then
+unfoldable pub Ahead : Type 0 → (Course → Type 0) → Then → Operators → ℕ → List Told → Type 0
+Ahead Z P after r total gs = (total ≤ most_items → Comes Z P (after r total) gs)
+    × (most_items < total → Late Z P)
+
+-- after as many items, counted in another order
+at_total : (Z : Type 0) (P : Course → Type 0) (after : Then) (r : Operators) (a b : ℕ)
+    (gs : List Told) → a ≡ b
+    → Ahead Z P after r a gs → Ahead Z P after r b gs
+at_total Z P after r a b gs e h = let Q : ℕ → Type 0 = λ k. Ahead Z P after r k gs in subst Q e h
+
+-- the course of a part, from the items before it and with what comes after it
+abbrev pub PartCourse : Type 0
+PartCourse = ℕ → Then → Course
+
+-- behind the fields of a part its course is what comes after it
+abbrev pub Follows : Type 0 → (Course → Type 0) → (Unrolled → Type 0) → PartCourse → Type 0
+Follows Z P Here body = (all : Unrolled) (used : ℕ) (after : Then) (gs : List Told) → Here all
+    → used ≤ most_items
+    → Ahead Z P after all.operators (used + all.items) gs
+    → Comes Z P (body used after) (all.fields ++ gs)
+
+-- from whatever operators in force
+abbrev pub FollowsAll : Type 0 → (Course → Type 0) → UnrollsTo → (Operators → PartCourse) → Type 0
+FollowsAll Z P Body body = (before : Operators) → Follows Z P (Body before) (body before)
+
+-- no node
+nothing_follows : (Z : Type 0) (P : Course → Type 0) (before : Operators)
+    → Follows Z P (λ all. all ≡ nothing before) (λ used after. after before used)
+unfolding Ahead
+nothing_follows Z P before all used after gs e le a =
+    let Q : Unrolled → Type 0 = λ u. Ahead Z P after u.operators (used + u.items) gs
+    → Comes Z P (after before used) (u.fields ++ gs) in
+    let now : Q (nothing before) = λ ahead.
+    (at_total Z P after before (used + 0) used gs (omega arith) ahead).0 le in
+    subst Q (sym e) now a
+
+-- an item, and then the rest
+item_follows : (Z : Type 0) (P : Course → Type 0) (Rest : UnrollsTo) (before : Operators)
+    (rest : PartCourse)
+    → Follows Z P (Rest before) rest
+    → Follows Z P (ItemThen Rest before) (λ used after. item used (rest (used + 1) after))
+unfolding Ahead
+item_follows Z P Rest before rest step all used after gs h le a =
+    let others = h.others in
+    let c : Course = rest (used + 1) after in
+    let Q : Unrolled → Type 0 = λ u. Ahead Z P after u.operators (used + u.items) gs
+    → Comes Z P (item used c) (u.fields ++ gs) in
+    let now : Q (item_then others) = λ ahead. in_item Z P used c (others.fields ++ gs) le
+    (λ below. step others (used + 1) after gs h.rest (omega arith)
+    (at_total Z P after others.operators (used + (1 + others.items))
+    ((used + 1) + others.items) gs
+    (omega arith) ahead))
+    (λ above. ahead.1 (omega arith)) in
+    subst Q (sym h.in_order) now a
+
+-- what stands first, and then the rest
+first_follows : (Z : Type 0) (P : Course → Type 0) (First Rest : UnrollsTo)
+    (first rest : Operators → PartCourse)
+    → FollowsAll Z P First first → FollowsAll Z P Rest rest
+    → FollowsAll Z P (FirstThen First Rest)
+    (λ q used after. first q used (λ q used. rest q used after))
+unfolding Ahead
+first_follows Z P First Rest first rest step then before all used after gs h le a =
+    let f = h.first in
+    let others = h.others in
+    let c : Course = first before used (λ q used. rest q used after) in
+    let Q : Unrolled → Type 0 = λ u. Ahead Z P after u.operators (used + u.items) gs
+    → Comes Z P c (u.fields ++ gs) in
+    let now : Q (first_then f others) = λ ahead.
+    let behind : Ahead Z P (λ q used. rest q used after) f.operators (used + f.items)
+    (others.fields ++ gs) = (
+      λ fit. then f.operators others (used + f.items) after gs h.rest fit
+          (at_total Z P after others.operators (used + (f.items + others.items))
+          ((used + f.items) + others.items) gs (omega arith) ahead),
+      λ over. ahead.1 (omega arith),
+    ) in
+    with_fields Z P c (f.fields ++ (others.fields ++ gs)) ((f.fields ++ others.fields) ++ gs)
+    (sym (append_assoc f.fields others.fields gs))
+    (step before f used (λ q used. rest q used after)
+    (others.fields ++ gs) h.is_first le behind) in
+    subst Q (sym h.in_order) now a
+
+-- a course that asks for a field goes on with what its number decides
+asked_follows : (Z : Type 0) (P : Course → Type 0) (o : Option Spec) (met d : ℕ) (more : ℕ → Course)
+    (f : Told)
+    (fs : List Told) → o ≡ Some f.spec → f.fxy ≡ d → Comes Z P (more f.number) fs
+    → Comes Z P (asks_if o met d more) (f ∷ fs)
+unfolding Comes
+asked_follows Z P o met d more f fs e k h =
+    let Q : Option Spec → Type 0 = λ v. Comes Z P (asks_if v met d more) (f ∷ fs) in
+    let at_spec : Q (Some f.spec) = (k, refl, h) in
+    subst Q (sym e) at_spec
+
+-- a field, and then the rest
+field_follows : (Z : Type 0) (P : Course → Type 0) (Has : Spec → Type 0) (o : Option Spec) (d : ℕ)
+    (Rest : ℕ → UnrollsTo) (before : Operators) (rest : ℕ → PartCourse)
+    → ((s : Spec) → Has s → o ≡ Some s)
+    → ((n : ℕ) → Follows Z P (Rest n before) (rest n))
+    → Follows Z P (FieldThen d Has Rest before)
+    (λ used after. item used (asks_if o (used + 1) d (λ n. rest n (used + 1) after)))
+unfolding Ahead
+field_follows Z P Has o d Rest before rest only step all used after gs h le a =
+    let f = h.field in
+    let others = h.others in
+    let more : ℕ → Course = λ n. rest n (used + 1) after in
+    let c : Course = asks_if o (used + 1) d more in
+    let Q : Unrolled → Type 0 = λ u. Ahead Z P after u.operators (used + u.items) gs
+    → Comes Z P (item used c) (u.fields ++ gs) in
+    let now : Q (field_then f others) = λ ahead. in_item Z P used c (f ∷ (others.fields ++ gs)) le
+    (λ below. asked_follows Z P o (used + 1) d more f (others.fields ++ gs)
+    (only f.spec h.has_spec) h.descriptor_is
+    (step f.number others (used + 1) after gs h.rest (omega arith)
+    (at_total Z P after others.operators (used + (1 + others.items))
+    ((used + 1) + others.items) gs (omega arith) ahead)))
+    (λ above. ahead.1 (omega arith)) in
+    subst Q (sym h.in_order) now a
+
+-- turns of a body
+turns_follow : (Z : Type 0) (P : Course → Type 0) (times : ℕ) (Body : UnrollsTo)
+    (body : Operators → PartCourse)
+    → FollowsAll Z P Body body → FollowsAll Z P (Turns times Body) (turns times body)
+unfolding Turns turns
+turns_follow Z P zero Body body step before = nothing_follows Z P before
+turns_follow Z P (suc times) Body body step before =
+    item_follows Z P (FirstThen Body (Turns times Body)) before
+    (λ used after. body before used (λ q used. turns times body q used after))
+    (first_follows Z P Body (Turns times Body) body (turns times body) step
+    (turns_follow Z P times Body body step) before)
+
+-- the nodes of a tree
+pub tree_follows : (Z : Type 0) (P : Course → Type 0) (t : trees.Tree)
+    → FollowsAll Z P (Unroll t) (course_then t)
+unfolding Unroll course_then
+tree_follows Z P trees.done before = nothing_follows Z P before
+tree_follows Z P (trees.operator d rest) before =
+    item_follows Z P (λ q. Unroll rest q) (in_force_after before d)
+    (course_then rest (in_force_after before d))
+    (tree_follows Z P rest (in_force_after before d))
+tree_follows Z P (trees.element d e rest) before =
+    field_follows Z P (Effective d e before) (effective d e before) d (λ n. Unroll rest) before
+    (λ n. course_then rest before) (effective_only d e before)
+    (λ n. tree_follows Z P rest before)
+tree_follows Z P (trees.untouched d e rest) before =
+    field_follows Z P (AsInTable e) (untouched e) d (λ n. Unroll rest) before
+    (λ n. course_then rest before) (in_table_only e) (λ n. tree_follows Z P rest before)
+tree_follows Z P (trees.repeated times body rest) before =
+    item_follows Z P (TurnsThen times (Unroll body) (Unroll rest)) before
+    (λ used after. turns times (course_then body) before used
+    (λ q used. course_then rest q used after))
+    (first_follows Z P (Turns times (Unroll body)) (Unroll rest)
+    (turns times (course_then body))
+    (course_then rest) (turns_follow Z P times (Unroll body) (course_then body)
+    (tree_follows Z P body))
+    (tree_follows Z P rest) before)
+tree_follows Z P (trees.delayed d e body rest) before =
+    field_follows Z P (λ spec. spec ≡ factor_spec e) (Some (factor_spec e)) d
+    (λ n. TurnsThen n (Unroll body) (Unroll rest)) before
+    (λ n used after. turns n (course_then body) before used
+    (λ q used. course_then rest q used after))
+    (λ s is. ap Some (sym is))
+    (λ n. first_follows Z P (Turns n (Unroll body)) (Unroll rest) (turns n (course_then body))
+    (course_then rest) (turns_follow Z P n (Unroll body) (course_then body)
+    (tree_follows Z P body))
+    (tree_follows Z P rest) before)
+
+-- ---- at what comes next
+
+-- what comes next stands in the course, so many items being met
+unfoldable pub Shows : Course → Next → ℕ → Type 0
+Shows (ends m) next n = ⊥
+Shows (stops met fault) (wants k s) n = ⊥
+Shows (stops met fault) (lacks k) n = (met ≡ n) × (fault ≡ EffectiveRange k)
+Shows (asks met d spec more) (wants k s) n = (met ≡ n) × (d ≡ k) × (spec ≡ s)
+Shows (asks met d spec more) (lacks k) n = ⊥
+
+-- where a course shows what comes next, after so many items, or where they are too many
+unfoldable pub Arrives : Type 0 → (Course → Type 0) → Next → ℕ → Type 0
+Arrives Z P next total = ((c : Course) → total ≤ most_items → Shows c next total → P c)
+    × (most_items < total → Late Z P)
+
+-- after as many items, counted in another order
+of_total : (Z : Type 0) (P : Course → Type 0) (next : Next) (a b : ℕ) → a ≡ b → Arrives Z P next a
+    → Arrives Z P next b
+of_total Z P next a b e h = let Q : ℕ → Type 0 = λ k. Arrives Z P next k in subst Q e h
+
+-- where something begins, its course shows what comes next
+abbrev pub Meets : Type 0 → (Course → Type 0) → (Begun → Type 0) → PartCourse → Type 0
+Meets Z P Here body = (begun : Begun) (used : ℕ) (after : Then) → Here begun → used ≤ most_items
+    → Arrives Z P begun.next (used + begun.items) → Comes Z P (body used after) begun.fields
+
+-- from whatever operators in force
+abbrev pub MeetsAll : Type 0 → (Course → Type 0) → Beginning → (Operators → PartCourse) → Type 0
+MeetsAll Z P Begin body = (before : Operators) → Meets Z P (Begin before) (body before)
+
+-- an item, and behind it the rest
+item_meets : (Z : Type 0) (P : Course → Type 0) (Rest : Beginning) (before : Operators)
+    (rest : PartCourse)
+    → Meets Z P (Rest before) rest
+    → Meets Z P (ItemBefore Rest before) (λ used after. item used (rest (used + 1) after))
+unfolding Arrives
+item_meets Z P Rest before rest step begun used after h le a =
+    let later = h.later in
+    let c : Course = rest (used + 1) after in
+    let Q : Begun → Type 0 = λ u. Arrives Z P u.next (used + u.items)
+    → Comes Z P (item used c) u.fields in
+    let now : Q (item_before later) = λ arrives. in_item Z P used c later.fields le
+    (λ below. step later (used + 1) after h.rest (omega arith)
+    (of_total Z P later.next (used + (1 + later.items)) ((used + 1) + later.items)
+    (omega arith) arrives))
+    (λ above. arrives.1 (omega arith)) in
+    subst Q (sym h.in_order) now a
+
+-- in what stands first, or behind it
+first_meets : (Z : Type 0) (P : Course → Type 0) (First : UnrollsTo) (Begin Rest : Beginning)
+    (first rest : Operators → PartCourse)
+    → FollowsAll Z P First first → MeetsAll Z P Begin first → MeetsAll Z P Rest rest
+    → MeetsAll Z P (FirstBegins First Begin Rest)
+    (λ q used after. first q used (λ q used. rest q used after))
+unfolding Ahead Arrives
+first_meets Z P First Begin Rest first rest step begin then before begun used after (inl h) le a =
+    begin before begun used (λ q used. rest q used after) h le a
+first_meets Z P First Begin Rest first rest step begin then before begun used after (inr h) le a =
+    let f = h.first in
+    let later = h.later in
+    let c : Course = first before used (λ q used. rest q used after) in
+    let Q : Begun → Type 0 = λ u. Arrives Z P u.next (used + u.items) → Comes Z P c u.fields in
+    let now : Q (first_before f later) = λ arrives.
+    let behind : Ahead Z P (λ q used. rest q used after) f.operators
+    (used + f.items) later.fields = (
+      λ fit. then f.operators later (used + f.items) after h.rest fit
+          (of_total Z P later.next (used + (f.items + later.items))
+          ((used + f.items) + later.items)
+          (omega arith) arrives),
+      λ over. arrives.1 (omega arith),
+    ) in
+    step before f used (λ q used. rest q used after) later.fields h.is_first le behind in
+    subst Q (sym h.in_order) now a
+
+-- what a course shows where it asks for a field or refuses it
+shows : (Has : Spec → Type 0) (o : Option Spec) (met d : ℕ) (more : ℕ → Course) (next : Next)
+    → ((s : Spec) → Has s → o ≡ Some s) → ((s : Spec) → o ≡ Some s → Has s) → IsNext d Has next
+    → Shows (asks_if o met d more) next met
+unfolding Shows
+shows Has None met d more (wants k s) only found h = let e : None ≡ Some s = only s h.1 in cc
+shows Has None met d more (lacks k) only found h = (refl, ap EffectiveRange (sym h.0))
+shows Has (Some x) met d more (wants k s) only found h = let e : Some x ≡ Some s = only s h.1 in
+    (refl, sym h.0, cc)
+shows Has (Some x) met d more (lacks k) only found h = absurd (h.1 x (found x refl))
+
+-- a course shows what comes next, where it arrives there
+shown_here : (Z : Type 0) (P : Course → Type 0) (c : Course) (next : Next) (total : ℕ)
+    → total ≤ most_items
+    → Arrives Z P next total → Shows c next total → Comes Z P c []
+unfolding Comes Arrives
+shown_here Z P c next total fit arrives h = arrives.0 c fit h
+
+-- a factor has its one spec
+factor_found : (e : Element) (s : Spec) → Some (factor_spec e) ≡ Some s → s ≡ factor_spec e
+factor_found e s is = cc
+
+-- at a field, or behind it
+field_meets : (Z : Type 0) (P : Course → Type 0) (Has : Spec → Type 0) (o : Option Spec) (d : ℕ)
+    (Rest : ℕ → Beginning) (before : Operators) (rest : ℕ → PartCourse)
+    → ((s : Spec) → Has s → o ≡ Some s) → ((s : Spec) → o ≡ Some s → Has s)
+    → ((n : ℕ) → Meets Z P (Rest n before) (rest n))
+    → Meets Z P (FieldBegins d Has Rest before)
+    (λ used after. item used (asks_if o (used + 1) d (λ n. rest n (used + 1) after)))
+unfolding Arrives
+field_meets Z P Has o d Rest before rest only found step begun used after (inl h) le a =
+    let count : begun.items ≡ 1 = h.one_item in
+    let more : ℕ → Course = λ n. rest n (used + 1) after in
+    let c : Course = asks_if o (used + 1) d more in
+    let now = of_total Z P begun.next (used + begun.items) (used + 1) (omega arith) a in
+    in_item Z P used c begun.fields le
+    (λ below. with_fields Z P c [] begun.fields (sym h.none_before)
+    (shown_here Z P c begun.next (used + 1) (omega arith) now
+    (shows Has o (used + 1) d more begun.next only found h.is_next)))
+    now.1
+field_meets Z P Has o d Rest before rest only found step begun used after (inr h) le a =
+    let f = h.field in
+    let later = h.later in
+    let more : ℕ → Course = λ n. rest n (used + 1) after in
+    let c : Course = asks_if o (used + 1) d more in
+    let Q : Begun → Type 0 = λ u. Arrives Z P u.next (used + u.items)
+    → Comes Z P (item used c) u.fields in
+    let now : Q (field_before f later) = λ arrives. in_item Z P used c (f ∷ later.fields) le
+    (λ below. asked_follows Z P o (used + 1) d more f later.fields
+    (only f.spec h.has_spec) h.descriptor_is
+    (step f.number later (used + 1) after h.rest (omega arith)
+    (of_total Z P later.next (used + (1 + later.items)) ((used + 1) + later.items)
+    (omega arith) arrives)))
+    (λ above. arrives.1 (omega arith)) in
+    subst Q (sym h.in_order) now a
+
+-- in one of some turns
+turns_meet : (Z : Type 0) (P : Course → Type 0) (times : ℕ) (Body : UnrollsTo) (Begin : Beginning)
+    (body : Operators → PartCourse)
+    → FollowsAll Z P Body body → MeetsAll Z P Begin body
+    → MeetsAll Z P (TurnsBegin times Body Begin) (turns times body)
+unfolding TurnsBegin turns
+turns_meet Z P zero Body Begin body step begin before begun used after h le a = absurd h
+turns_meet Z P (suc times) Body Begin body step begin before begun used after h le a =
+    item_meets Z P (FirstBegins Body Begin (TurnsBegin times Body Begin)) before
+    (λ used after. body before used (λ q used. turns times body q used after))
+    (first_meets Z P Body Begin (TurnsBegin times Body Begin) body (turns times body) step begin
+    (turns_meet Z P times Body Begin body step begin) before)
+    begun used after h le a
+
+-- in one of some turns, or behind them
+turns_then_meet : (Z : Type 0) (P : Course → Type 0) (times : ℕ) (body rest : trees.Tree)
+    → MeetsAll Z P (Begins body) (course_then body) → MeetsAll Z P (Begins rest) (course_then rest)
+    → MeetsAll Z P (TurnsThenBegin times (Unroll body) (Begins body) (Begins rest))
+    (λ q used after. turns times (course_then body) q used
+    (λ q used. course_then rest q used after))
+turns_then_meet Z P times body rest begin behind =
+    first_meets Z P (Turns times (Unroll body)) (TurnsBegin times (Unroll body) (Begins body))
+    (Begins rest)
+    (turns times (course_then body)) (course_then rest)
+    (turns_follow Z P times (Unroll body) (course_then body) (tree_follows Z P body))
+    (turns_meet Z P times (Unroll body) (Begins body) (course_then body)
+    (tree_follows Z P body) begin)
+    behind
+
+-- in the nodes of a tree
+pub tree_meets : (Z : Type 0) (P : Course → Type 0) (t : trees.Tree)
+    → MeetsAll Z P (Begins t) (course_then t)
+unfolding Begins course_then
+tree_meets Z P trees.done before begun used after h le a = absurd h
+tree_meets Z P (trees.operator d rest) before begun used after h le a =
+    item_meets Z P (λ q. Begins rest q) (in_force_after before d)
+    (course_then rest (in_force_after before d))
+    (tree_meets Z P rest (in_force_after before d)) begun used after h le a
+tree_meets Z P (trees.element d e rest) before begun used after h le a =
+    field_meets Z P (Effective d e before) (effective d e before) d (λ n. Begins rest) before
+    (λ n. course_then rest before) (effective_only d e before) (effective_found d e before)
+    (λ n. tree_meets Z P rest before) begun used after h le a
+tree_meets Z P (trees.untouched d e rest) before begun used after h le a =
+    field_meets Z P (AsInTable e) (untouched e) d (λ n. Begins rest) before
+    (λ n. course_then rest before) (in_table_only e) (in_table e)
+    (λ n. tree_meets Z P rest before) begun used after h le a
+tree_meets Z P (trees.repeated times body rest) before begun used after h le a =
+    item_meets Z P (TurnsThenBegin times (Unroll body) (Begins body) (Begins rest)) before
+    (λ used after. turns times (course_then body) before used
+    (λ q used. course_then rest q used after))
+    (turns_then_meet Z P times body rest (tree_meets Z P body) (tree_meets Z P rest) before)
+    begun used after h le a
+tree_meets Z P (trees.delayed d e body rest) before begun used after h le a =
+    field_meets Z P (λ spec. spec ≡ factor_spec e) (Some (factor_spec e)) d
+    (λ n. TurnsThenBegin n (Unroll body) (Begins body) (Begins rest)) before
+    (λ n used after. turns n (course_then body) before used
+    (λ q used. course_then rest q used after))
+    (λ s is. ap Some (sym is)) (λ s is. factor_found e s is)
+    (λ n. turns_then_meet Z P n body rest (tree_meets Z P body) (tree_meets Z P rest) before)
+    begun used after h le a

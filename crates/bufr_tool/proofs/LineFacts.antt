@@ -1,0 +1,148 @@
+-- Whole lines: what is printed of a frame is some, and what of it was written when memory ran out.
+-- The contracts of `write_held`, `print_listing`, `print_frames` and all above need it.
+use Rattle.std.proofs.Common.{◌≡◌, ℕ, false, inl, inr, List, [], ◌∷◌, ◌++◌, codes, decimal, length}
+use Rattle.std.proofs.Common.{Result, Ok, Err, Option, Some, None, refl, sym, ap, ◌∙◌, subst}
+use Rattle.std.proofs.Common.{append_assoc}
+use Rattle.std.specs.List.{flat_map}
+use Rattle.std.proofs.lemmas.List.{append-nil}
+use Rattle.bufr_bits.specs.Devices.{Writing}
+use Rattle.bufr_tables.specs.Entries.{Entries}
+use Rattle.bufr_frame.specs.declared.frames.Found.{Found}
+use Rattle.bufr_tables.specs.Descriptors.{six_digits}
+use Rattle.bufr_listing.specs.Listings.{Heading, words, value_word, field_line, subset_lines}
+use Rattle.bufr_listing.specs.Listings.{section1_line, time_line, local_line, section2_line}
+use Rattle.bufr_listing.specs.Listings.{flags_line, descriptors_line, heading_lines, heading_of}
+use Rattle.bufr_listing.specs.Listings.{end_line, listing}
+use Rattle.bufr_message.specs.declared.Decoded.{Decoded}
+use Rattle.bufr_message.specs.declared.Message.{Message}
+use Rattle.bufr_message.specs.declared.Refused.{Refused}
+use Rattle.bufr_message.specs.Messages.{message_of}
+use Rattle.bufr_message.specs.Reasons.{reason}
+use Rattle.bufr_message.specs.Views.{ListsSubset}
+use Rattle.bufr_tool.specs.declared.printing.Printing.{Printing}
+use Rattle.bufr_tool.specs.declared.printing.Printing.TheVariants.{Shown, Checked}
+use Rattle.bufr_engines.specs.Engines.{WritesAll}
+use Rattle.bufr_engines.specs.WritingLaws.{writes_none, writes_more}
+use Rattle.bufr_tool.specs.Output.{place_and_length, printed_as, frame_text, frames_text}
+use Rattle.bufr_tool.specs.Lines.{AreWholeLines, WritesLines}
+
+-- ---- whole lines
+
+-- octets before a line feed are whole lines with it
+pub line_whole : (before : List ℕ) → AreWholeLines (before ++ 10 ∷ [])
+line_whole before = inr (before, refl)
+
+-- whole lines behind any octets, where there are some
+pub end_whole : (a b : List ℕ) (before : List ℕ) → b ≡ before ++ 10 ∷ [] → AreWholeLines (a ++ b)
+end_whole a b before is =
+    let whole = ap (λ (t : List ℕ). a ++ t) is ∙ sym (append_assoc a before (10 ∷ [])) in
+    inr (a ++ before, whole)
+
+-- whole lines, one behind another
+pub both_whole : (a b : List ℕ) → AreWholeLines a → AreWholeLines b → AreWholeLines (a ++ b)
+both_whole a b one (inl none) =
+    subst AreWholeLines (sym (ap (λ (t : List ℕ). a ++ t) none ∙ append-nil a)) one
+both_whole a b one (inr last) = end_whole a b last.0 last.1
+
+-- the same of many
+pub all_whole : {A : Type 0} (f : A → List ℕ) (xs : List A) → ((x : A) → AreWholeLines (f x))
+    → AreWholeLines (flat_map f xs)
+all_whole f [] each = inl refl
+all_whole f (x ∷ xs) each = both_whole (f x) (flat_map f xs) (each x) (all_whole f xs each)
+
+-- ---- listings
+
+-- the line of a field is whole
+field_whole : (f : _) → AreWholeLines (field_line f)
+field_whole f = line_whole (words (six_digits f.fxy) (value_word f ∷ []))
+
+-- the lines of a subset are whole
+subset_whole : (s : _) → AreWholeLines (subset_lines s)
+subset_whole s =
+    both_whole (codes "subset\n") (flat_map field_line s.fields)
+    (line_whole (codes "subset")) (all_whole field_line s.fields field_whole)
+
+-- the lines of what may stand in a place are whole
+pub listed_whole : (o : Option _) (text : List ℕ) → ListsSubset o text → AreWholeLines text
+listed_whole None text is = absurd is
+listed_whole (Some s) text is = subst AreWholeLines (sym is) (subset_whole s)
+
+-- the lines before the first subset are whole: the descriptors' is the last
+pub heading_whole : (h : Heading) → AreWholeLines (heading_lines h)
+unfolding heading_lines
+heading_whole h =
+    end_whole (codes "message\n" ++ section1_line h.head ++ time_line h.head
+    ++ local_line h.head.local ++ section2_line h.section2 ++ flags_line h.observed h.compressed)
+    (descriptors_line h.descriptors)
+    (codes "descriptors" ++ flat_map (λ d. 32 ∷ six_digits d) h.descriptors) refl
+
+-- the listing of a message has whole lines
+listing_whole : (m : Message) → AreWholeLines (listing m)
+unfolding listing
+listing_whole m =
+    end_whole (heading_lines (heading_of m) ++ flat_map subset_lines m.subsets) end_line
+    (codes "end") refl
+
+-- ---- frames
+
+-- what is printed of a frame, whether it spells a message or not, has whole lines
+printed_whole : (printing : Printing) (frame : Found) (found : Result Decoded Refused)
+    → AreWholeLines (printed_as printing frame found)
+printed_whole Shown frame (Ok found) = listing_whole found.message
+printed_whole Shown frame (Err why) =
+    line_whole (codes "# refused " ++ decimal frame.place ++ 32 ∷ reason why)
+printed_whole Checked frame (Ok found) =
+    line_whole (place_and_length frame ++ codes " ok " ++ decimal (length found.message.subsets)
+    ++ 32 ∷ decimal found.slack_octets)
+printed_whole Checked frame (Err why) =
+    line_whole (place_and_length frame ++ codes " refused " ++ reason why)
+
+-- what is printed of frames has whole lines
+pub frames_whole : (printing : Printing) (tables : Entries) (frames : List Found)
+    → AreWholeLines (frames_text printing tables frames)
+frames_whole printing tables frames =
+    all_whole (frame_text printing tables) frames
+    (λ frame. printed_whole printing frame (message_of tables frame.bytes))
+
+-- ---- lines that were written
+
+-- no line was written yet
+pub lines_none : (w : Writing) (text : List ℕ) → w.failed ≡ false → WritesLines w w text
+lines_none w text works = record {
+  front = [];
+  rest = text;
+  parted = refl;
+  whole = inl refl;
+  written = writes_none w works;
+}
+
+-- all lines of a front were written
+pub lines_of : (first now : Writing) (front rest text : List ℕ) → text ≡ front ++ rest
+    → AreWholeLines front → WritesAll first now front → WritesLines first now text
+lines_of first now front rest text parted whole all =
+    record { front = front; rest = rest; parted = parted; whole = whole; written = all }
+
+-- lines of a front are lines of the text
+pub lines_longer : (first now : Writing) (front rest text : List ℕ) → text ≡ front ++ rest
+    → WritesLines first now front → WritesLines first now text
+lines_longer first now front rest text parted some =
+    let is : text ≡ some.front ++ (some.rest ++ rest) =
+    parted ∙ ap (λ (t : List ℕ). t ++ rest) some.parted ∙ append_assoc some.front some.rest rest in
+    record {
+      front = some.front;
+      rest = some.rest ++ rest;
+      parted = is;
+      whole = some.whole;
+      written = some.written;
+    }
+
+-- a text was written, and of another some lines
+pub lines_more : (first mid now : Writing) (a b : List ℕ) → AreWholeLines a → WritesAll first mid a
+    → WritesLines mid now b → WritesLines first now (a ++ b)
+lines_more first mid now a b whole all some = record {
+  front = a ++ some.front;
+  rest = some.rest;
+  parted = ap (λ (t : List ℕ). a ++ t) some.parted ∙ sym (append_assoc a some.front some.rest);
+  whole = both_whole a some.front whole some.whole;
+  written = writes_more first mid now a some.front all some.written;
+}

@@ -1,0 +1,121 @@
+-- A text that is written in parts: the steps of the loop of `print_listing`.
+use Rattle.std.proofs.Common.{◌≡◌, ℕ, ◌+◌, ◌-◌, ◌<◌, false, inl, List, [], ◌++◌, length, Result, Ok}
+use Rattle.std.proofs.Common.{Err, refl, sym, ap, ◌∙◌, subst, arith, length-append, append_assoc}
+use Rattle.std.specs.Prelude.{slice_get}
+use Rattle.std.proofs.lemmas.List.{append-nil}
+use Rattle.bufr_bits.specs.Devices.{Writing}
+use Rattle.bufr_message.specs.declared.Message.{Message}
+use Rattle.bufr_message.specs.Views.{ListsSubset}
+use Rattle.bufr_engines.specs.declared.fault.ToolFault.{ToolFault}
+use Rattle.bufr_engines.specs.declared.fault.ToolFault.TheVariants as faults
+use Rattle.bufr_engines.specs.Engines.{WritesAll, FailsAfter}
+use Rattle.bufr_engines.specs.WritingLaws.{writes_none, writes_more, fails_more, fails_longer}
+use Rattle.bufr_tool.specs.Lines.{AreWholeLines, WritesLines}
+use Rattle.bufr_tool.specs.StreamEngines.{PrintsText, WritesAllBut}
+use Rattle.bufr_tool.proofs.LineFacts.{both_whole, listed_whole, lines_more, lines_longer, lines_of}
+use Rattle.bufr_tool.proofs.ListingFacts.{listed, listed_more}
+
+-- nothing was written yet
+pub but_all : (held text : List ℕ) (before : ℕ) (w : Writing) → text ≡ held → AreWholeLines held
+    → w.failed ≡ false → WritesAllBut held text before before w w
+but_all held text before w is whole works = record {
+  front = [];
+  parted = is;
+  front_whole = inl refl;
+  held_whole = whole;
+  written = writes_none w works;
+  counted = omega arith;
+}
+
+-- lines more are held
+pub held_more : (held text lines held' text' : List ℕ) (before now : ℕ) (first last : Writing)
+    → held' ≡ held ++ lines → text' ≡ text ++ lines → AreWholeLines lines
+    → WritesAllBut held text before now first last
+    → WritesAllBut held' text' before now first last
+held_more held text lines held' text' before now first last held_is text_is whole w = record {
+  front = w.front;
+  parted = text_is ∙ ap (λ (t : List ℕ). t ++ lines) w.parted ∙ append_assoc w.front held lines
+      ∙ ap (λ (t : List ℕ). w.front ++ t) (sym held_is);
+  front_whole = w.front_whole;
+  held_whole = subst AreWholeLines (sym held_is) (both_whole held lines w.held_whole whole);
+  written = w.written;
+  counted = w.counted;
+}
+
+-- of what was held some was written
+pub held_less : (held held' text : List ℕ) (before then now : ℕ) (first mid last : Writing)
+    → WritesAllBut held text before then first mid → WritesAllBut held' held then now mid last
+    → WritesAllBut held' text before now first last
+held_less held held' text before then now first mid last w v = record {
+  front = w.front ++ v.front;
+  parted = w.parted ∙ ap (λ (t : List ℕ). w.front ++ t) v.parted
+      ∙ sym (append_assoc w.front v.front held');
+  front_whole = both_whole w.front v.front w.front_whole v.front_whole;
+  held_whole = v.held_whole;
+  written = writes_more first mid last w.front v.front w.written v.written;
+  counted = omega (arith, w.counted, v.counted, length-append w.front v.front);
+}
+
+-- memory ran out while some was held
+pub held_halts : (held text rest all : List ℕ) (before now : ℕ) (first last : Writing)
+    → all ≡ text ++ rest → WritesAllBut held text before now first last
+    → WritesLines first last all
+held_halts held text rest all before now first last is w =
+    lines_of first last w.front (held ++ rest) all
+    (is ∙ ap (λ (t : List ℕ). t ++ rest) w.parted ∙ append_assoc w.front held rest) w.front_whole
+    w.written
+
+-- writing what is held stopped
+pub held_stops : (held text rest all : List ℕ) (before then : ℕ) (first mid last : Writing)
+    (e : ToolFault) → all ≡ text ++ rest → WritesAllBut held text before then first mid
+    → PrintsText then held mid last (Err e)
+    → PrintsText before all first last (Err e)
+held_stops held text rest all before then first mid last (faults.WriteFailed written) is w p = (
+  length w.front + p.0,
+  omega (arith, w.counted, p.1),
+  subst (FailsAfter (length w.front + p.0) first last)
+      (sym (is ∙ ap (λ (t : List ℕ). t ++ rest) w.parted))
+      (fails_longer first last (w.front ++ held) rest (length w.front + p.0)
+      (fails_more first mid last w.front held p.0 w.written p.2)),
+)
+held_stops held text rest all before then first mid last faults.OutOfMemory is w p =
+    lines_longer first last (w.front ++ held) rest all
+    (is ∙ ap (λ (t : List ℕ). t ++ rest) w.parted)
+    (lines_more first mid last w.front held w.front_whole w.written p)
+held_stops held text rest all before then first mid last (faults.ReadFailed source) is w p =
+    absurd p
+held_stops held text rest all before then first mid last (faults.EndlessInput source) is w p =
+    absurd p
+held_stops held text rest all before then first mid last (faults.Table source fault) is w p =
+    absurd p
+held_stops held text rest all before then first mid last (faults.Listing why) is w p = absurd p
+held_stops held text rest all before then first mid last (faults.Encode number why) is w p =
+    absurd p
+held_stops held text rest all before then first mid last (faults.NotAnArchive i place) is w p =
+    absurd p
+
+-- what is held is the last that was written, or writing it stopped
+pub held_ends : (held text : List ℕ) (before then : ℕ) (first mid last : Writing)
+    (r : Result ℕ ToolFault) → WritesAllBut held text before then first mid
+    → PrintsText then held mid last r
+    → PrintsText before text first last r
+held_ends held text before then first mid last (Ok now) w p = (
+  subst (WritesAll first last) (sym w.parted)
+      (writes_more first mid last w.front held w.written p.0),
+  omega (arith, w.counted, p.1, length-append w.front held, ap length w.parted),
+)
+held_ends held text before then first mid last (Err e) w p =
+    held_stops held text [] text before then first mid last e (sym (append-nil text)) w p
+
+-- the lines of one subset more are held
+pub subset_held : (m : Message) (i : ℕ) (held lines items held' : List ℕ) (before now : ℕ)
+    (first last : Writing) → i < length m.subsets
+    → ListsSubset (slice_get m.subsets (i + 1 - 1)) lines → items ≡ lines → held' ≡ held ++ items
+    → WritesAllBut held (listed m i) before now first last
+    → WritesAllBut held' (listed m (i + 1)) before now first last
+subset_held m i held lines items held' before now first last below is same more w =
+    let back : i + 1 - 1 ≡ i = omega arith in
+    let here = subst (λ (n : ℕ). ListsSubset (slice_get m.subsets n) lines) back is in
+    held_more held (listed m i) lines held' (listed m (i + 1)) before now first last
+    (more ∙ ap (λ (t : List ℕ). held ++ t) same)
+    (listed_more m i lines below here) (listed_whole _ lines is) w

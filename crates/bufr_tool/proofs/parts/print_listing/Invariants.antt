@@ -1,0 +1,13 @@
+-- The loop of `print_listing`: the subsets so far, whose lines are written or held.
+use Rattle.std.proofs.Common.{◌+◌, ◌*◌, ◌^◌, ◌≤◌}
+use Rattle.bufr_tool.specs.StreamEngines.{WritesAllBut}
+use Rattle.bufr_tool.proofs.ListingFacts.{listed}
+use Rattle.bufr_tool.proofs.parts.print_listing.Given as goal
+
+-- of the lines before the first subset and those of the subsets so far all but what is held was
+-- written, and no more octets than so many vectors have
+abbrev pub invariant-loop-index : goal.invariant-loop-index
+invariant-loop-index g l = record {
+  done : WritesAllBut l.held.items (listed l.found.message l.index) l.before l.written (g.W.Sink.writing l.fn.writer) (g.W.Sink.writing l.writer);
+  short : l.written ≤ l.before + 2 ^ 64 * l.index;
+}

@@ -1,0 +1,16 @@
+-- Lines of a text that a writer took, each of them whole.
+use Rattle.std.specs.Prelude.{◌≡◌, ℕ, ◌⊎◌, List, [], ◌∷◌, ◌++◌}
+use Rattle.bufr_bits.specs.Devices.{Writing}
+use Rattle.bufr_engines.specs.Engines.{WritesAll}
+
+-- there are no octets, or the last of them is a line feed
+abbrev pub AreWholeLines : List ℕ → Type 0
+AreWholeLines octets = (octets ≡ []) ⊎ ((before : List ℕ) × (octets ≡ before ++ 10 ∷ []))
+
+-- the first lines of a text were written, each of them whole, and nothing else; the writer works
+pub record WritesLines (old new : Writing) (text : List ℕ) : Type 0 where
+  pub front : List ℕ
+  pub rest : List ℕ
+  pub parted : text ≡ front ++ rest
+  pub whole : AreWholeLines front
+  pub written : WritesAll old new front

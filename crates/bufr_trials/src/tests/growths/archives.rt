@@ -1,0 +1,160 @@
+//! Archives, over both shelves.
+
+ghost use Rattle.std.specs.Prelude.{◌≡◌, IfOk};
+
+use crate::tests::samples::{
+    COMPRESSED_PAIR, MISSING_TEMPERATURE, MONTH_13, NEXT_STATION, PAIR_OF_STATIONS, SEQUENCES,
+    UPDATED, is_refused, joined, repeated, tables,
+};
+use bufr_archive::{AddFault, Added, Archive, MapShelf, Shelf, SortedShelf, WriteFault};
+use bufr_bits::IntoWrite;
+use bufr_tables::Tables;
+use std::alloc::Global;
+use std::process::Abort;
+use std::test::Fail;
+
+/// An archive holds these messages, in this order: it writes them to a writer with room.
+pub(super) fn assert_holds<S: Shelf>(
+    rt: &impl Abort,
+    alloc: Global,
+    archive: &Archive<S>,
+    wanted: &[&[u8]],
+) -> Result<(), Fail> {
+    assert_eq!(rt; archive.len(), wanted.len());
+    let text = joined(alloc, wanted)?;
+    let room = repeated!(Vec::with_capacity(alloc, 1000))?;
+    let mut sink = IntoWrite::new(room);
+    assert!(rt; archive.write(&mut sink).is_ok());
+    assert_eq!(rt; sink.into_inner().as_slice(), text.as_slice());
+    Ok(())
+}
+
+/// How many reports were joined when memory was refused; none where it was not.
+fn joined_before(answer: &Result<Added, AddFault>) -> Option<u128> {
+    match answer {
+        Err(AddFault::OutOfMemory { done }) => Some(*done),
+        _ => None,
+    }
+}
+
+/// A message of two reports is added: after a refusal the reports that were told are held, and no
+/// others. Once one is joined, `one` is held, and in the end `both`.
+fn adds<S: Shelf>(
+    rt: &impl Abort,
+    alloc: Global,
+    octets: &[u8],
+    one: &[&[u8]],
+    both: &[&[u8]],
+) -> Result<(), Fail> {
+    let tables = tables(alloc)?;
+    let mut archive: Archive<S> = Archive::new(alloc, &tables);
+    let mut answer = archive.add_message(octets);
+    let mut before: u128 = 0;
+    if let Some(done) = joined_before(&answer) {
+        assert!(rt; done <= 1);
+        let held = one.get(..done as usize).ok_or("a report")?;
+        assert_holds(rt, alloc, &archive, held)?;
+        before = done;
+        answer = archive.add_message(octets);
+    }
+    assert!(rt; before <= 1);
+    let changed = 2 - before;
+    assert_eq!(rt;
+        answer,
+        Ok(Added {
+            reports: 2,
+            changed
+        })
+    );
+    assert_holds(rt, alloc, &archive, both)
+}
+
+/// Two plain subsets have a key each. Two compressed ones have one key, and the greater octets
+/// stay.
+#[test]
+fn refused_growth_while_adding(rt: HostRuntime) -> Result<(), Fail> {
+    let alloc = rt.alloc();
+    let both: [&[u8]; 2] = [SEQUENCES, NEXT_STATION];
+    adds::<MapShelf>(&rt, alloc, PAIR_OF_STATIONS, &[SEQUENCES], &both)?;
+    adds::<SortedShelf>(&rt, alloc, PAIR_OF_STATIONS, &[SEQUENCES], &both)?;
+    let greater: [&[u8]; 1] = [MISSING_TEMPERATURE];
+    adds::<MapShelf>(&rt, alloc, COMPRESSED_PAIR, &[SEQUENCES], &greater)?;
+    adds::<SortedShelf>(&rt, alloc, COMPRESSED_PAIR, &[SEQUENCES], &greater)
+}
+
+/// The archive of the text of these messages.
+fn archive_of<'t, S: Shelf>(
+    alloc: Global,
+    tables: &'t Tables,
+    messages: &[&[u8]],
+) -> Result<Archive<'t, S>, Fail>
+    ensures { IfOk result (λ archive. archive.tables ≡ tables.now) }
+{
+    let text = joined(alloc, messages)?;
+    Ok(repeated!(Archive::read(alloc, tables, text.as_slice()))?)
+}
+
+/// A report that is replaced, and one without key.
+const HELD: [&[u8]; 2] = [SEQUENCES, MONTH_13];
+
+/// The one in its place, and one more.
+const TAKEN_IN: [&[u8]; 2] = [UPDATED, NEXT_STATION];
+
+/// An archive takes in another: after a refusal it holds what it held. The other stays.
+fn merges<S: Shelf>(rt: &impl Abort, alloc: Global) -> Result<(), Fail> {
+    let tables = tables(alloc)?;
+    let mut archive: Archive<S> = archive_of(alloc, &tables, &HELD)?;
+    let other: Archive<S> = archive_of(alloc, &tables, &TAKEN_IN)?;
+    let mut answer = archive.merge(&other);
+    if is_refused(&answer) {
+        assert_holds(rt, alloc, &archive, &HELD)?;
+        answer = archive.merge(&other);
+    }
+    answer?;
+    assert_holds(rt, alloc, &archive, &[UPDATED, NEXT_STATION, MONTH_13])?;
+    assert_holds(rt, alloc, &other, &TAKEN_IN)
+}
+
+#[test]
+fn archives_merged(rt: HostRuntime) -> Result<(), Fail> {
+    merges::<MapShelf>(&rt, rt.alloc())?;
+    merges::<SortedShelf>(&rt, rt.alloc())
+}
+
+/// An archive is copied.
+fn copies<S: Shelf>(rt: &impl Abort, alloc: Global) -> Result<(), Fail> {
+    let tables = tables(alloc)?;
+    let archive: Archive<S> = archive_of(alloc, &tables, &HELD)?;
+    let copied = repeated!(archive.copy())?;
+    assert_holds(rt, alloc, &archive, &HELD)?;
+    assert_holds(rt, alloc, &copied, &HELD)
+}
+
+#[test]
+fn archives_copied(rt: HostRuntime) -> Result<(), Fail> {
+    copies::<MapShelf>(&rt, rt.alloc())?;
+    copies::<SortedShelf>(&rt, rt.alloc())
+}
+
+/// What is read of a text is written to a writer without room: where memory is refused to that, a
+/// front was written, and the archive holds what it held.
+fn writes<S: Shelf>(rt: &impl Abort, alloc: Global) -> Result<(), Fail> {
+    let tables = tables(alloc)?;
+    let archive: Archive<S> = archive_of(alloc, &tables, &HELD)?;
+    let text = joined(alloc, &HELD)?;
+    let mut sink = IntoWrite::new(Vec::new(alloc));
+    let answer = archive.write(&mut sink);
+    let taken = sink.into_inner();
+    assert!(rt; text.starts_with(&taken));
+    match answer {
+        Ok(()) => assert_eq!(rt; taken.len(), text.len()),
+        Err(WriteFault { written }) => assert_eq!(rt; taken.len() as u128, written),
+    }
+    assert_holds(rt, alloc, &archive, &HELD)
+}
+
+#[test]
+fn archives_read_and_written(rt: HostRuntime) -> Result<(), Fail> {
+    writes::<MapShelf>(&rt, rt.alloc())?;
+    writes::<SortedShelf>(&rt, rt.alloc())
+}
