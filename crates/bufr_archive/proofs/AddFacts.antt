@@ -20,12 +20,18 @@ pub record SoFar (old new : ArchiveView) (reports : Reports) (i changed : ℕ) :
   pub changed_is : changed ≡ count_changes old.entries (entries_of (take i reports))
   pub few : changed ≤ i
 
+-- nothing was taken in
+pub taken_none : (archive : ArchiveView) (reports : Reports)
+    → kept archive.entries ≡ archive.entries → archive ≡ taken_in archive (take 0 reports)
+taken_none archive reports order =
+    ap (λ es. record archive { entries = es })
+    (sym order ∙ ap kept (sym (append-nil archive.entries)))
+
 -- at first none
 pub none_yet : (archive : ArchiveView) (reports : Reports) → kept archive.entries ≡ archive.entries
     → SoFar archive archive reports 0 0
 none_yet archive reports order = record {
-  archive = ap (λ es. record archive { entries = es })
-      (sym order ∙ ap kept (sym (append-nil archive.entries)));
+  archive = taken_none archive reports order;
   changed_is = refl;
   few = omega arith;
 }
@@ -86,6 +92,20 @@ byte_small : (b : Bool) → bool_byte b ≤ 1
 byte_small true = omega arith
 byte_small false = omega arith
 
+-- what was taken in up to one report, and that one
+pub taken_more : (old new next : ArchiveView) (rs : Reports) (i : ℕ) → i < length rs
+    → new ≡ taken_in old (take i rs) → next ≡ taken_in new (get_or rs i None ∷ [])
+    → next ≡ taken_in old (take (i + 1) rs)
+taken_more old new next rs i h s is =
+    let one = entries_of (get_or rs i None ∷ []) in
+    let before = entries_of (take i rs) in
+    is
+    ∙ ap (λ (a : ArchiveView). record a { entries = kept (a.entries ++ one) }) s
+    ∙ ap (λ es. record old { entries = es })
+    (kept-early (old.entries ++ before) one
+    ∙ ap kept (append_assoc old.entries before one
+    ∙ ap (λ (es : List Entry). old.entries ++ es) (sym (entries_more rs i h))))
+
 -- one report more was added
 pub one_more : (old new next : ArchiveView) (rs : Reports) (i changed : ℕ) (b : Bool)
     → i < length rs → SoFar old new rs i changed → next ≡ taken_in new (get_or rs i None ∷ [])
@@ -107,12 +127,7 @@ one_more old new next rs i changed b h s is count =
     let few = s.few in
     let small = byte_small b in
     record {
-      archive = is
-          ∙ ap (λ (a : ArchiveView). record a { entries = kept (a.entries ++ one) }) s.archive
-          ∙ ap (λ es. record old { entries = es })
-          (kept-early (old.entries ++ before) one
-          ∙ ap kept (append_assoc old.entries before one
-          ∙ ap (λ (es : List Entry). old.entries ++ es) (sym added)));
+      archive = taken_more old new next rs i h s.archive is;
       changed_is = omega arith;
       few = omega arith;
     }

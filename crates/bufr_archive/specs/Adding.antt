@@ -6,7 +6,7 @@ use Rattle.bufr_message.specs.Reports.{reports_of}
 use Rattle.bufr_archive.specs.declared.adding.Added.{Added}
 use Rattle.bufr_archive.specs.declared.adding.AddFault.{AddFault}
 use Rattle.bufr_archive.specs.declared.adding.AddFault.TheVariants.{Refused, OutOfMemory}
-use Rattle.bufr_archive.specs.Archives.{ArchiveView, AddsAll, AddsFirst}
+use Rattle.bufr_archive.specs.Archives.{ArchiveView, AddsAll, AddsFirst, taken_in}
 use Rattle.bufr_archive.specs.ReportEntries.{report_entries, entries_told}
 
 -- What a call that adds a message does, by its answer: the octets spell a message, and all its
@@ -19,4 +19,14 @@ AddsMessage old new octets (Ok added) =
 AddsMessage old new octets (Err (Refused why)) =
     (message_of old.tables octets ≡ Err why) × (new ≡ old)
 AddsMessage old new octets (Err (OutOfMemory done)) =
+    AddsFirst old new (entries_told old.tables octets) done
+
+-- The same of a call that does not count what is changed.
+abbrev pub GathersMessage : ArchiveView → ArchiveView → List ℕ → Result (Unit {0}) AddFault → Type 0
+GathersMessage old new octets (Ok done) =
+    (d : Decoded) × (message_of old.tables octets ≡ Ok d)
+    × (new ≡ taken_in old (report_entries old.tables (reports_of d.message)))
+GathersMessage old new octets (Err (Refused why)) =
+    (message_of old.tables octets ≡ Err why) × (new ≡ old)
+GathersMessage old new octets (Err (OutOfMemory done)) =
     AddsFirst old new (entries_told old.tables octets) done

@@ -56,3 +56,9 @@ pub record AddsFirst (old new : ArchiveView) (reports : List (Option Entry)) (do
 abbrev pub Adds : ArchiveView → ArchiveView → List (Option Entry) → Result Added RanOut → Type 0
 Adds old new reports (Ok added) = AddsAll old new reports added
 Adds old new reports (Err ran_out) = AddsFirst old new reports ran_out.done
+
+-- so of a call that does not count changes
+abbrev pub Gathers : ArchiveView → ArchiveView → List (Option Entry) → Result (Unit {0}) RanOut
+    → Type 0
+Gathers old new reports (Ok done) = new ≡ taken_in old reports
+Gathers old new reports (Err ran_out) = AddsFirst old new reports ran_out.done

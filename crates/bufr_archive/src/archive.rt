@@ -7,7 +7,7 @@ ghost use Rattle.bufr_archive.specs.Archives.{merged, with_entry, IsKept};
 ghost use Rattle.bufr_archive.specs.Texts.{text};
 
 use bufr_bits::device::{Sink, Unwritten, write_all};
-use bufr_shelves::{JoinFault, Key, Octets, OutOfMemory, Shelf};
+use bufr_shelves::{JoinFault, Key, Octets, OutOfMemory, Shelf, SortedShelf};
 use bufr_tables::Tables;
 use std::alloc::Global;
 use std::marker::Model;
@@ -132,5 +132,15 @@ impl<'t, S: Shelf> Archive<'t, S> {
             next = self.shelf.after(held);
         }
         Ok(())
+    }
+}
+
+impl Archive<'_, SortedShelf> {
+    /// Its text: the canonical messages of what it holds, joined in order of slots. It can only run
+    /// out of memory.
+    pub fn octets(&self) -> Result<Vec<u8>, OutOfMemory>
+        ensures { IfOk result (λ octets. octets.items ≡ text self.now.entries) }
+    {
+        self.shelf.joined()
     }
 }

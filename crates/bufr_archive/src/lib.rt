@@ -12,6 +12,7 @@
 pub mod adding;
 pub mod archive;
 mod examples;
+pub mod gatherer;
 pub mod laws;
 pub mod reading;
 mod report_entry;
@@ -19,10 +20,11 @@ mod report_entry;
 pub use adding::{AddFault, Added, RanOut, ReportList};
 pub use archive::{Archive, WriteFault};
 pub use bufr_shelves::{
-    Entry, Held, JoinFault, Key, MapShelf, Moment, Octets, OutOfMemory, Shelf, SortedShelf,
-    Station, entry, held, key, laws as shelf_laws, map_shelf, octets, shelf, shelve, shelving,
-    slot_order, sorted_shelf,
+    Entry, Gathering, Held, JoinFault, Key, MapShelf, Moment, Octets, OutOfMemory, Shelf,
+    SortedShelf, Station, entry, held, key, laws as shelf_laws, map_shelf, octets, shelf, shelve,
+    shelving, slot_order, sorted_shelf,
 };
+pub use gatherer::Gatherer;
 pub use reading::NotAnArchive;
 pub use report_entry::{entry_of, key_of};
 

@@ -6,45 +6,11 @@ ghost use Rattle.bufr_collect.specs.Readers.{AreFresh, AreReadAtMost};
 
 use crate::counts::Counts;
 use crate::streams::add_streams;
-use crate::text::text_of_archive;
-use bufr_archive::{Archive, MapShelf, Shelf};
+use bufr_archive::Gatherer;
 use bufr_bits::{Sink, Source};
 use bufr_engines::{Tally, ToolFault, room, write_out};
 use bufr_tables::Tables;
 use std::alloc::Global;
-
-/// Adds the messages of all readers' streams to an archive on shelves of one kind, and writes its
-/// text.
-pub(crate) fn add_on<K: Shelf, S: Source, W: Sink>(
-    alloc: Global,
-    reads: u64,
-    tables: &Tables,
-    readers: &mut [S],
-    writer: &mut W,
-) -> Result<Tally, ToolFault>
-    requires few { reads ≤ 4294967296 }
-    requires fresh { AreFresh (map S.reading readers.old) }
-    requires works { (W.writing writer.old).failed ≡ false }
-    ensures bounded { AreReadAtMost reads (map S.reading readers.new) }
-    ensures adds { Collects tables.now reads (map S.reading readers.old)
-        (map S.reading readers.new) (W.writing writer.old) (W.writing writer.new) result }
-{
-    let mut room = room(alloc)?;
-    let mut archive: Archive<'_, K> = Archive::new(alloc, tables);
-    let mut counts = Counts {
-        frames: 0,
-        refused: 0,
-    };
-    add_streams(alloc, reads, readers, &mut room, &mut archive, &mut counts)?;
-    let text = text_of_archive(alloc, &archive)?;
-    write_out(writer, 0, &text)?;
-    Ok(Tally {
-        frames: counts.frames,
-        refused: counts.refused,
-        skipped: 0,
-        reports: archive.len() as u128,
-    })
-}
 
 /// Adds the messages of all readers' streams to an archive, each reader's stream by itself, and
 /// then writes the archive's text. A message that is refused adds nothing, and is counted. Nothing
@@ -63,5 +29,20 @@ pub fn run_add<S: Source, W: Sink>(
     ensures adds { Collects tables.now reads (map S.reading readers.old)
         (map S.reading readers.new) (W.writing writer.old) (W.writing writer.new) result }
 {
-    add_on::<MapShelf, S, W>(alloc, reads, tables, readers, writer)
+    let mut room = room(alloc)?;
+    let mut gatherer = Gatherer::new(alloc, tables);
+    let mut counts = Counts {
+        frames: 0,
+        refused: 0,
+    };
+    add_streams(alloc, reads, readers, &mut room, &mut gatherer, &mut counts)?;
+    let archive = gatherer.into_archive()?;
+    let text = archive.octets()?;
+    write_out(writer, 0, &text)?;
+    Ok(Tally {
+        frames: counts.frames,
+        refused: counts.refused,
+        skipped: 0,
+        reports: archive.len() as u128,
+    })
 }

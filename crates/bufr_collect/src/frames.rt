@@ -1,4 +1,4 @@
-//! The messages of frames, added to an archive.
+//! The messages of frames, gathered for an archive.
 
 ghost use Rattle.std.specs.Prelude.{◌≡◌, ◌≤◌, ◌<◌, ◌+◌, ◌^◌, ◌++◌, ◌∷◌, [], ℕ, List, OnOk, length};
 ghost use Rattle.bufr_frame.specs.declared.frames.Found.{Found as FoundFrame};
@@ -7,24 +7,24 @@ ghost use Rattle.bufr_tables.specs.Entries.{Entries};
 ghost use Rattle.bufr_collect.specs.Adds.{HasAdded, HasAddedSure};
 
 use crate::counts::Counts;
-use bufr_archive::{AddFault, Archive, Shelf};
+use bufr_archive::{AddFault, Gatherer};
 use bufr_frame::{Found, Framer, Taken};
 use std::alloc::AllocError;
 
 /// Adds the message of a frame, where it spells one, and counts it.
-fn add_frame<K: Shelf>(
+fn add_frame(
     frame: &Found,
-    archive: &mut Archive<'_, K>,
+    gatherer: &mut Gatherer<'_>,
     counts: &mut Counts,
 ) -> Result<(), AllocError>
     requires few { counts.old.frames + 1 < 2 ^ 128 }
     requires refused { counts.old.refused ≤ counts.old.frames }
     ensures { OnOk result ((tables : Entries) (frames : List FoundFrame)
-        → HasAdded tables archive.old counts.old frames
-        → HasAdded tables archive.new counts.new (frames ++ frame.now ∷ [])) }
+        → HasAdded tables gatherer.old counts.old frames
+        → HasAdded tables gatherer.new counts.new (frames ++ frame.now ∷ [])) }
 {
-    let refused = match archive.add_message(frame.bytes.as_slice()) {
-        Ok(_) => 0,
+    let refused = match gatherer.add_message(frame.bytes.as_slice()) {
+        Ok(()) => 0,
         Err(AddFault::Refused(_)) => 1,
         Err(AddFault::OutOfMemory { done: _ }) => return Err(AllocError),
     };
@@ -34,37 +34,37 @@ fn add_frame<K: Shelf>(
 }
 
 /// Adds the messages of frames after those of others.
-fn add_frames<K: Shelf>(
+fn add_frames(
     frames: &[Found],
-    archive: &mut Archive<'_, K>,
+    gatherer: &mut Gatherer<'_>,
     counts: &mut Counts,
 ) -> Result<(), AllocError>
     requires so_far { (tables : Entries) × (before : List FoundFrame)
-        × HasAdded tables archive.old counts.old before }
+        × HasAdded tables gatherer.old counts.old before }
     requires few { counts.old.frames + length frames.now < 2 ^ 128 }
     ensures { OnOk result ((tables : Entries) (before : List FoundFrame)
-        → HasAdded tables archive.old counts.old before
-        → HasAdded tables archive.new counts.new (before ++ frames.now)) }
+        → HasAdded tables gatherer.old counts.old before
+        → HasAdded tables gatherer.new counts.new (before ++ frames.now)) }
 {
     for frame in frames {
-        add_frame(frame, archive, counts)?;
+        add_frame(frame, gatherer, counts)?;
     }
     Ok(())
 }
 
 /// Takes in a piece of a stream, and adds the messages of the frames that are sure then.
-pub(crate) fn add_piece<K: Shelf>(
+pub(crate) fn add_piece(
     piece: &[u8],
     framer: &mut Framer,
-    archive: &mut Archive<'_, K>,
+    gatherer: &mut Gatherer<'_>,
     counts: &mut Counts,
 ) -> Result<(), AllocError>
     requires so_far { (tables : Entries) × (before : List FoundFrame) × (stream : List ℕ)
-        × HasAddedSure tables archive.old counts.old before framer.old stream }
+        × HasAddedSure tables gatherer.old counts.old before framer.old stream }
     requires room { framer.old.fed + length piece.now < 2 ^ 64 }
     ensures { OnOk result ((tables : Entries) (before : List FoundFrame) (stream : List ℕ)
-        → HasAddedSure tables archive.old counts.old before framer.old stream
-        → HasAddedSure tables archive.new counts.new before framer.new (stream ++ piece.now)) }
+        → HasAddedSure tables gatherer.old counts.old before framer.old stream
+        → HasAddedSure tables gatherer.new counts.new before framer.new (stream ++ piece.now)) }
 {
     let mut rest = piece;
     loop {
@@ -72,24 +72,24 @@ pub(crate) fn add_piece<K: Shelf>(
         let Some(frame) = found else {
             return Ok(());
         };
-        add_frame(&frame, archive, counts)?;
+        add_frame(&frame, gatherer, counts)?;
         rest = left;
     }
 }
 
 /// Ends a stream, and adds the messages of the frames that are left.
-pub(crate) fn add_rest<K: Shelf>(
+pub(crate) fn add_rest(
     framer: &mut Framer,
-    archive: &mut Archive<'_, K>,
+    gatherer: &mut Gatherer<'_>,
     counts: &mut Counts,
 ) -> Result<(), AllocError>
     requires long { framer.old.fed < 2 ^ 64 }
     requires so_far { (tables : Entries) × (before : List FoundFrame) × (stream : List ℕ)
-        × HasAddedSure tables archive.old counts.old before framer.old stream }
+        × HasAddedSure tables gatherer.old counts.old before framer.old stream }
     ensures { OnOk result ((tables : Entries) (before : List FoundFrame) (stream : List ℕ)
-        → HasAddedSure tables archive.old counts.old before framer.old stream
-        → HasAdded tables archive.new counts.new (before ++ cut stream)) }
+        → HasAddedSure tables gatherer.old counts.old before framer.old stream
+        → HasAdded tables gatherer.new counts.new (before ++ cut stream)) }
 {
     let frames = framer.finish()?;
-    add_frames(&frames, archive, counts)
+    add_frames(&frames, gatherer, counts)
 }

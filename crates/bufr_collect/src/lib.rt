@@ -9,7 +9,6 @@ mod merging;
 mod streams;
 #[cfg(test)]
 mod tests;
-mod text;
 
 pub use adding::run_add;
 pub use merging::run_merge;

@@ -7,7 +7,6 @@ ghost use Rattle.bufr_collect.specs.Adds.{ReadsArchive, MergesReaders};
 ghost use Rattle.bufr_collect.specs.Collects.{Merges};
 ghost use Rattle.bufr_collect.specs.Readers.{AreFresh, AreReadAtMost};
 
-use crate::text::text_of_archive;
 use bufr_archive::{Archive, NotAnArchive, Shelf, SortedShelf};
 use bufr_bits::{Sink, Source};
 use bufr_engines::{Input, Tally, ToolFault, read_all, write_out};
@@ -82,7 +81,7 @@ pub fn run_merge<S: Source, W: Sink>(
         (map S.reading readers.new) (W.writing writer.old) (W.writing writer.new) result }
 {
     let merged: Archive<'_, SortedShelf> = merge_readers(alloc, reads, tables, readers)?;
-    let text = text_of_archive(alloc, &merged)?;
+    let text = merged.octets()?;
     write_out(writer, 0, &text)?;
     Ok(Tally {
         frames: readers.len() as u128,

@@ -1,4 +1,4 @@
-//! The streams of readers, added to an archive one after the other.
+//! The streams of readers, gathered for an archive one after the other.
 
 ghost use Rattle.std.specs.Prelude.{◌≡◌, ◌≤◌, ◌<◌, ◌*◌, ◌^◌, [], List, length, map};
 ghost use Rattle.bufr_frame.specs.declared.frames.Found.{Found as FoundFrame};
@@ -9,20 +9,20 @@ ghost use Rattle.bufr_collect.specs.Readers.{AreFresh, AreReadAtMost};
 
 use crate::counts::Counts;
 use crate::frames::{add_piece, add_rest};
-use bufr_archive::{Archive, Shelf};
+use bufr_archive::Gatherer;
 use bufr_bits::Source;
 use bufr_engines::{Input, ToolFault};
 use bufr_frame::Framer;
 use std::alloc::Global;
 
 /// Adds the messages of the stream of a reader, read through some room.
-fn add_stream<K: Shelf, S: Source>(
+fn add_stream<S: Source>(
     alloc: Global,
     reads: u64,
     source: Input,
     reader: &mut S,
     room: &mut [u8],
-    archive: &mut Archive<'_, K>,
+    gatherer: &mut Gatherer<'_>,
     counts: &mut Counts,
 ) -> Result<(), ToolFault>
     requires few { reads ≤ 4294967296 }
@@ -30,11 +30,11 @@ fn add_stream<K: Shelf, S: Source>(
     requires some { 0 < length room.old }
     requires short { length room.old ≤ 65536 }
     requires so_far { (tables : Entries) × (before : List FoundFrame)
-        × HasAdded tables archive.old counts.old before × (length before < 2 ^ 127) }
+        × HasAdded tables gatherer.old counts.old before × (length before < 2 ^ 127) }
     ensures bounded { (S.reading reader.new).reads ≤ reads }
     ensures adds { (tables : Entries) (before : List FoundFrame)
-        → HasAdded tables archive.old counts.old before → length before < 2 ^ 127
-        → AddsStream tables source reads (S.reading reader.old) (S.reading reader.new) archive.new
+        → HasAdded tables gatherer.old counts.old before → length before < 2 ^ 127
+        → AddsStream tables source reads (S.reading reader.old) (S.reading reader.new) gatherer.new
         counts.new before result }
 {
     let mut framer = Framer::new(alloc);
@@ -43,35 +43,35 @@ fn add_stream<K: Shelf, S: Source>(
             return Err(ToolFault::ReadFailed(source));
         };
         if given == 0 {
-            add_rest(&mut framer, archive, counts)?;
+            add_rest(&mut framer, gatherer, counts)?;
             return Ok(());
         }
-        add_piece(&room[..given], &mut framer, archive, counts)?;
+        add_piece(&room[..given], &mut framer, gatherer, counts)?;
     }
     Err(ToolFault::EndlessInput(source))
 }
 
-/// Adds the messages of the streams of all readers to a new archive.
-pub(crate) fn add_streams<K: Shelf, S: Source>(
+/// Adds the messages of the streams of all readers to a new gatherer.
+pub(crate) fn add_streams<S: Source>(
     alloc: Global,
     reads: u64,
     readers: &mut [S],
     room: &mut [u8],
-    archive: &mut Archive<'_, K>,
+    gatherer: &mut Gatherer<'_>,
     counts: &mut Counts,
 ) -> Result<(), ToolFault>
     requires few { reads ≤ 4294967296 }
     requires fresh { AreFresh (map S.reading readers.old) }
     requires some { 0 < length room.old }
     requires short { length room.old ≤ 65536 }
-    requires empty { HasAdded archive.old.tables archive.old counts.old [] }
+    requires empty { HasAdded gatherer.old.tables gatherer.old counts.old [] }
     ensures bounded { AreReadAtMost reads (map S.reading readers.new) }
-    ensures adds { AddsStreams archive.old.tables reads (map S.reading readers.old)
-        (map S.reading readers.new) archive.new counts.new result }
+    ensures adds { AddsStreams gatherer.old.tables reads (map S.reading readers.old)
+        (map S.reading readers.new) gatherer.new counts.new result }
 {
     for (index, reader) in readers.iter_mut().enumerate() {
         let source = Input::Number(index as u128 + 1);
-        add_stream(alloc, reads, source, reader, &mut *room, archive, counts)?;
+        add_stream(alloc, reads, source, reader, &mut *room, gatherer, counts)?;
     }
     Ok(())
 }

@@ -3,9 +3,8 @@
 ghost use Rattle.std.specs.Prelude.{◌≡◌, ◌≤◌, None, Some, false, IfOk, map};
 ghost use Rattle.bufr_collect.specs.Readers.{AreFresh};
 
-use crate::adding::{add_on, run_add};
+use crate::adding::run_add;
 use crate::merging::run_merge;
-use bufr_archive::{MapShelf, SortedShelf};
 use bufr_bits::{Failed, IntoWrite, Sink, Source};
 use bufr_engines::{Input, Tally, ToolFault};
 use bufr_tables::{TableB, TableD, Tables};
@@ -127,24 +126,13 @@ fn readers(alloc: Global, inputs: &[&[u8]]) -> Result<Vec<Pieces>, AllocError>
     Ok(readers)
 }
 
-/// What adding such streams on either shelf answers, and what was written.
-fn added(
-    rt: &impl Abort,
-    alloc: Global,
-    inputs: &[&[u8]],
-) -> Result<(Result<Tally, ToolFault>, Vec<u8>), Fail> {
+/// What adding such streams answers, and what was written.
+fn added(alloc: Global, inputs: &[&[u8]]) -> Result<(Result<Tally, ToolFault>, Vec<u8>), Fail> {
     let tables = tables(alloc)?;
     let mut writer = IntoWrite::new(Vec::new(alloc));
     let mut streams = readers(alloc, inputs)?;
     let answer = run_add(alloc, 10, &tables, &mut streams, &mut writer);
-    let written = writer.into_inner();
-
-    let mut writer = IntoWrite::new(Vec::new(alloc));
-    let mut streams = readers(alloc, inputs)?;
-    let sorted = add_on::<SortedShelf, Pieces, _>(alloc, 10, &tables, &mut streams, &mut writer);
-    assert_eq!(rt; sorted, answer);
-    assert_eq!(rt; writer.into_inner().as_slice(), written.as_slice());
-    Ok((answer, written))
+    Ok((answer, writer.into_inner()))
 }
 
 /// What merging such archives answers, and what was written.
@@ -178,7 +166,7 @@ fn tally(frames: u128, refused: u128, reports: u128) -> Result<Tally, ToolFault>
 fn one_stream(rt: HostRuntime) -> Result<(), Fail> {
     let alloc = rt.alloc();
     let stream = joined(alloc, &[b"ISMD01 EDZW 151200", FIRST, b"BUFR", FIRST])?;
-    let (answer, written) = added(&rt, alloc, &[&stream])?;
+    let (answer, written) = added(alloc, &[&stream])?;
     assert_eq!(rt; answer, tally(2, 0, 1));
     assert_eq!(rt; written.as_slice(), FIRST);
     Ok(())
@@ -188,7 +176,7 @@ fn one_stream(rt: HostRuntime) -> Result<(), Fail> {
 fn greatest_update_in_any_order(rt: HostRuntime) -> Result<(), Fail> {
     let alloc = rt.alloc();
     for inputs in [[FIRST, UPDATE], [UPDATE, FIRST]] {
-        let (answer, written) = added(&rt, alloc, inputs.as_slice())?;
+        let (answer, written) = added(alloc, inputs.as_slice())?;
         assert_eq!(rt; answer, tally(2, 0, 1));
         assert_eq!(rt; written.as_slice(), UPDATE);
     }
@@ -200,7 +188,7 @@ fn greatest_update_in_any_order(rt: HostRuntime) -> Result<(), Fail> {
 fn refused_among_others(rt: HostRuntime) -> Result<(), Fail> {
     let alloc = rt.alloc();
     let stream = joined(alloc, &[MONTH_13, EDITION_5, UPDATE])?;
-    let (answer, written) = added(&rt, alloc, &[FIRST, EDITION_5, &stream, FIRST])?;
+    let (answer, written) = added(alloc, &[FIRST, EDITION_5, &stream, FIRST])?;
     assert_eq!(rt; answer, tally(6, 2, 2));
     assert_eq!(rt;
         written.as_slice(),
@@ -215,7 +203,7 @@ fn each_stream_by_itself(rt: HostRuntime) -> Result<(), Fail> {
     let alloc = rt.alloc();
     let front = FIRST.get(..30).ok_or("thirty octets")?;
     let back = FIRST.get(30..).ok_or("the others")?;
-    let (answer, written) = added(&rt, alloc, &[front, back])?;
+    let (answer, written) = added(alloc, &[front, back])?;
     assert_eq!(rt; answer, tally(0, 0, 0));
     assert!(rt; written.is_empty());
     Ok(())
@@ -224,7 +212,7 @@ fn each_stream_by_itself(rt: HostRuntime) -> Result<(), Fail> {
 #[test]
 fn no_readers(rt: HostRuntime) -> Result<(), Fail> {
     let alloc = rt.alloc();
-    let (answer, written) = added(&rt, alloc, &[])?;
+    let (answer, written) = added(alloc, &[])?;
     assert_eq!(rt; answer, tally(0, 0, 0));
     assert!(rt; written.is_empty());
     let (answer, written) = merged(alloc, &[])?;
@@ -268,7 +256,7 @@ fn archive_not_in_order(rt: HostRuntime) -> Result<(), Fail> {
         assert_eq!(rt; answer, Err(ToolFault::NotAnArchive { input, place }));
         assert!(rt; written.is_empty());
     }
-    let (answer, written) = added(&rt, alloc, &[&same_slot])?;
+    let (answer, written) = added(alloc, &[&same_slot])?;
     assert_eq!(rt; answer, tally(2, 0, 1));
     assert_eq!(rt; written.as_slice(), UPDATE);
     Ok(())
@@ -413,7 +401,7 @@ fn thousand_inputs(rt: HostRuntime) -> Result<(), Fail> {
     for stream in streams.iter().rev() {
         inputs.push(stream.as_slice())?;
     }
-    let (answer, written) = added(&rt, alloc, &inputs)?;
+    let (answer, written) = added(alloc, &inputs)?;
     assert_eq!(rt; answer, tally(1000, 0, 1000));
     assert!(rt; written.as_slice() == text.as_slice());
     let (answer, written) = merged(alloc, &inputs)?;

@@ -18,7 +18,7 @@ use Rattle.bufr_shelves.proofs.ShelvedLemmas.{IsKept, put_keyed, put_unkeyed, ch
 abbrev pub given : Option Key → ℕ → List ℕ → Entry
 given key update bytes = record { key = key; update = update; bytes = bytes }
 
-module _ {E : Type 0} (r : Result Bool E) (ks : List (Key × Rank)) (us : List (List ℕ × ℕ)) where
+module _ {A E : Type 0} (r : Result A E) (ks : List (Key × Rank)) (us : List (List ℕ × ℕ)) where
   -- a pair put among those with a key leaves the shelf in order
   pub keyed-stays : (new : List (Key × Rank)) (p : Key × Rank) → IsKept ks us
       → OnOk r (new ≡ put_keyed p ks) → OnErr r (new ≡ ks) → IsKept new us
@@ -40,28 +40,6 @@ module _ {E : Type 0} (r : Result Bool E) (ks : List (Key × Rank)) (us : List (
       ok err
 
   module _ (now : List Entry) (is : shelved ks us ≡ now) (key : Option Key) where
-    -- whether the pair changes those with a key is whether the entry changes what is kept
-    pub keyed-changes : (p : Key × Rank) → key ≡ Some p.0
-        → IfOk r (λ b. b ≡ changes_by (by_key key_order) (by_value rank_order) ks p)
-        → IfOk r (λ b. b ≡ changes (kept now) (given key p.1.update p.1.bytes))
-    keyed-changes p k =
-        if_ok r _ _
-        (λ b e. e ∙ changes-keyed p ks us
-        ∙ ap (λ es. changes es (with_key p)) is
-        ∙ ap (λ o. changes now (given o p.1.update p.1.bytes)) (sym k)
-        ∙ sym (changes-kept now (given key p.1.update p.1.bytes)))
-
-    -- so it is of those without
-    pub unkeyed-changes : (q : List ℕ × ℕ) → key ≡ None
-        → IfOk r (λ b. b ≡ changes_by (by_key (slice_cmp nat_cmp)) (by_value nat_cmp) us q)
-        → IfOk r (λ b. b ≡ changes (kept now) (given key q.1 q.0))
-    unkeyed-changes q k =
-        if_ok r _ _
-        (λ b e. e ∙ changes-unkeyed q ks us
-        ∙ ap (λ es. changes es (without_key q)) is
-        ∙ ap (λ o. changes now (given o q.1 q.0)) (sym k)
-        ∙ sym (changes-kept now (given key q.1 q.0)))
-
     -- with the pair the shelf holds what is kept with the entry
     pub keyed-put : (new : List (Key × Rank)) (p : Key × Rank) → IsKept ks us → key ≡ Some p.0
         → OnOk r (new ≡ put_keyed p ks)
@@ -81,3 +59,27 @@ module _ {E : Type 0} (r : Result Bool E) (ks : List (Key × Rank)) (us : List (
         (λ e. entries-put now (shelved ks us) (shelved ks new) (without_key q) is
         (ap (shelved ks) e ∙ shelved-unkeyed q ks us h)
         ∙ ap (λ o. kept (kept now ++ given o q.1 q.0 ∷ [])) (sym k))
+
+module _ {E : Type 0} (r : Result Bool E) (ks : List (Key × Rank)) (us : List (List ℕ × ℕ))
+    (now : List Entry) (is : shelved ks us ≡ now) (key : Option Key) where
+  -- whether the pair changes those with a key is whether the entry changes what is kept
+  pub keyed-changes : (p : Key × Rank) → key ≡ Some p.0
+      → IfOk r (λ b. b ≡ changes_by (by_key key_order) (by_value rank_order) ks p)
+      → IfOk r (λ b. b ≡ changes (kept now) (given key p.1.update p.1.bytes))
+  keyed-changes p k =
+      if_ok r _ _
+      (λ b e. e ∙ changes-keyed p ks us
+      ∙ ap (λ es. changes es (with_key p)) is
+      ∙ ap (λ o. changes now (given o p.1.update p.1.bytes)) (sym k)
+      ∙ sym (changes-kept now (given key p.1.update p.1.bytes)))
+
+  -- so it is of those without
+  pub unkeyed-changes : (q : List ℕ × ℕ) → key ≡ None
+      → IfOk r (λ b. b ≡ changes_by (by_key (slice_cmp nat_cmp)) (by_value nat_cmp) us q)
+      → IfOk r (λ b. b ≡ changes (kept now) (given key q.1 q.0))
+  unkeyed-changes q k =
+      if_ok r _ _
+      (λ b e. e ∙ changes-unkeyed q ks us
+      ∙ ap (λ es. changes es (without_key q)) is
+      ∙ ap (λ o. changes now (given o q.1 q.0)) (sym k)
+      ∙ sym (changes-kept now (given key q.1 q.0)))

@@ -40,7 +40,7 @@ pub use map_shelf::MapShelf;
 pub use octets::Octets;
 pub use shelf::Shelf;
 pub use shelving::shelve;
-pub use sorted_shelf::SortedShelf;
+pub use sorted_shelf::{Gathering, SortedShelf};
 
 #[cfg(test)]
 mod tests;

@@ -17,9 +17,14 @@ use sorted::{at_key, copied, first_pair, next_after, raise};
 use std::alloc::Global;
 use std::marker::Model;
 
+mod batches;
+mod gathering;
+mod joined;
 mod merge;
 mod pair;
 mod sorted;
+
+pub use gathering::Gathering;
 
 /// A shelf on sorted vectors: one of keys with their ranks, and one of the octets of what has no
 /// key with the update number. `put` finds its place by binary search and moves what follows, eight

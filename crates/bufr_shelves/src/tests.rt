@@ -3,6 +3,7 @@ use std::alloc::Global;
 use std::process::Abort;
 use std::test::Fail;
 
+mod gathered;
 mod large;
 mod orders;
 

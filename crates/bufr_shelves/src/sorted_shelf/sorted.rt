@@ -2,6 +2,7 @@
 ghost use Rattle.std.specs.Prelude.{◌≡◌, ◌<◌, ◌≤◌, IfOk, OnOk, OnErr, MatchResult, find, slice_get, vec_len};
 ghost use Rattle.std.specs.Option.{option_map};
 ghost use Rattle.std.specs.Ordering.{is_eq, is_lt};
+ghost use Rattle.std.specs.Vec.{vec_capacity};
 ghost use Rattle.std.specs.List.Sorted.{IsStrictlySortedBy};
 ghost use Rattle.std.specs.Map.{keys_of};
 ghost use Rattle.std.specs.Map.Iter.{deref_pair};
@@ -33,6 +34,22 @@ pub(crate) fn place<K: Exact, V>(pairs: &Vec<Pair<K, V>>, key: &K) -> Result<usi
     Err(low)
 }
 
+/// The same, for keys that mostly come in order: the last pair is looked at first.
+pub(crate) fn place_from_end<K: Exact, V>(pairs: &Vec<Pair<K, V>>, key: &K) -> Result<usize, usize>
+    requires { IsStrictlySortedBy K.cmp (keys_of pairs.now.items) }
+    ensures place { result ≡ place_of (K.cmp key.now) pairs.now.items }
+    ensures within { MatchResult result (λ i. i < vec_len pairs.now) (λ i. i ≤ vec_len pairs.now) }
+{
+    let count = pairs.len();
+    if count == 0 {
+        return Err(0);
+    }
+    match key.cmp(pairs[count - 1].key()) {
+        Ordering::Greater => Err(count),
+        _ => place(pairs, key),
+    }
+}
+
 /// Puts a value at a key where it is greater than the one there, and says whether it is.
 pub(crate) fn raise<K: Exact, V: Exact>(
     alloc: Global,
@@ -59,6 +76,25 @@ pub(crate) fn raise<K: Exact, V: Exact>(
         Err(index) => {
             pairs.insert(index, Pair::new(alloc, key, value)?)?;
             Ok(true)
+        }
+    }
+}
+
+/// Puts a pair in where its value is greater than the one at its key. There is room for it.
+pub(crate) fn raise_pair<K: Exact, V: Exact>(pairs: &mut Vec<Pair<K, V>>, pair: Pair<K, V>)
+    requires sorted { IsStrictlySortedBy K.cmp (keys_of pairs.old.items) }
+    requires room { vec_len pairs.old < vec_capacity pairs.old }
+    ensures { pairs.new.items ≡ put_by (by_key K.cmp) (by_value V.cmp) pair pairs.old.items }
+{
+    match place_from_end(pairs, pair.key()) {
+        Ok(index) => {
+            let greater = pair.value().cmp(pairs[index].value()).is_gt();
+            if greater {
+                pairs[index] = pair;
+            }
+        }
+        Err(index) => {
+            let _done = pairs.insert(index, pair);
         }
     }
 }

@@ -7,7 +7,7 @@ use Rattle.bufr_collect.proofs.frames.add_frames.Goals as goal
 
 -- one frame more can be counted, for all of them can
 pub add_frame-requires-clause-few : goal.add_frame-requires-clause-few
-add_frame-requires-clause-few g c =
+add_frame-requires-clause-few c =
     let before = c.requires.so_far.1 in
     let i = c.loop-frame.frame-index in
     let now = (c.loop-frame.invariant c.requires.so_far.0 before c.requires.so_far.2).frames_are in
@@ -20,5 +20,5 @@ add_frame-requires-clause-few g c =
 
 -- no more frames are counted as refused than there are
 pub add_frame-requires-clause-refused : goal.add_frame-requires-clause-refused
-add_frame-requires-clause-refused g c =
+add_frame-requires-clause-refused c =
     refused_at_most _ _ _ _ (c.loop-frame.invariant c.requires.so_far.0 c.requires.so_far.1 c.requires.so_far.2)

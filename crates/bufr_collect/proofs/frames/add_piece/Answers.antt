@@ -7,7 +7,7 @@ use Rattle.bufr_collect.proofs.frames.add_piece.Goals as goal
 
 -- the octets taken in and those left of the piece can be counted
 pub take_next-requires : goal.take_next-requires
-take_next-requires g c =
+take_next-requires c =
     let so_far = c.requires.so_far in
     let a = c.loop-found.invariant so_far.0 so_far.1 so_far.2 so_far.3 in
     let fed = amid_room _ _ _ _ _ _ _ a in
@@ -18,13 +18,13 @@ take_next-requires g c =
 
 -- where no frame is handed out, all sure frames of the stream with the piece are added
 pub returns-in_default : goal.returns-in_default
-returns-in_default g c tables before stream h =
+returns-in_default c tables before stream h =
     let e : c.in_ok-found.field-0.found ≡ None = c.in_default.is in
     amid_none _ _ _ _ _ _ _ _ (c.loop-found.invariant tables before stream h) (c.in_ok-found.ensures.none e) (c.in_ok-found.ensures.waits e)
 
 -- one frame more can be counted, for there are no more than octets
 pub add_frame-requires-clause-few : goal.add_frame-requires-clause-few
-add_frame-requires-clause-few g c =
+add_frame-requires-clause-few c =
     let so_far = c.requires.so_far in
     let e = c.in-Some.is in
     let fits = amid_fits _ _ _ _ _ _ _ _ _ c.in-Some.frame (c.loop-found.invariant so_far.0 so_far.1 so_far.2 so_far.3) c.in_ok-found.ensures.rest (some_is _ _ _ e c.in_ok-found.ensures.frame) (some_is _ _ _ e c.in_ok-found.ensures.next) in
@@ -36,13 +36,13 @@ add_frame-requires-clause-few g c =
 
 -- no more frames are counted as refused than there are
 pub add_frame-requires-clause-refused : goal.add_frame-requires-clause-refused
-add_frame-requires-clause-refused g c =
+add_frame-requires-clause-refused c =
     let so_far = c.requires.so_far in
     refused_at_most _ _ _ _ (c.loop-found.invariant so_far.0 so_far.1 so_far.2 so_far.3).added
 
 -- the frame handed out is added, and the rest of the piece is left
 pub loop-found-preserved : goal.loop-found-preserved
-loop-found-preserved g c tables before stream h =
+loop-found-preserved c tables before stream h =
     let e = c.in-Some.is in
     amid_more tables _ _ _ _ before _ _ _ _ _ c.in-Some.frame
     (c.loop-found.invariant tables before stream h) c.in_ok-found.ensures.rest
@@ -51,7 +51,7 @@ loop-found-preserved g c tables before stream h =
 
 -- it is one of no more frames than octets, so fewer can follow
 pub loop-found-smaller : goal.loop-found-smaller
-loop-found-smaller g c =
+loop-found-smaller c =
     let so_far = c.requires.so_far in
     let e = c.in-Some.is in
     let a = c.loop-found.invariant so_far.0 so_far.1 so_far.2 so_far.3 in

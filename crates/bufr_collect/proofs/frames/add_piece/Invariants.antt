@@ -8,11 +8,11 @@ use Rattle.bufr_collect.proofs.frames.add_piece.Given as goal
 
 -- whatever stream was added before, it and the piece were taken in but for the rest
 abbrev pub invariant-loop-found : goal.invariant-loop-found
-invariant-loop-found g l =
+invariant-loop-found l =
     (tables : Entries) (before : List Found) (stream : List ℕ)
-    → HasAddedSure tables l.fn.archive l.fn.counts before l.fn.framer stream
-    → Amid tables l.archive l.counts before l.framer (stream ++ l.piece) l.rest
+    → HasAddedSure tables l.fn.gatherer l.fn.counts before l.fn.framer stream
+    → Amid tables l.gatherer l.counts before l.framer (stream ++ l.piece) l.rest
 
 -- each turn counts a frame, and there are no more than octets
 abbrev pub decreases-loop-found : goal.decreases-loop-found
-decreases-loop-found g l = l.fn.counts.frames + l.fn.framer.fed + length l.piece - l.counts.frames
+decreases-loop-found l = l.fn.counts.frames + l.fn.framer.fed + length l.piece - l.counts.frames

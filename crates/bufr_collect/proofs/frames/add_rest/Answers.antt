@@ -9,7 +9,7 @@ use Rattle.bufr_collect.proofs.frames.add_rest.Goals as goal
 
 -- no more frames are counted than octets, so their count fits its word
 pub add_frames-requires-clause-few : goal.add_frames-requires-clause-few
-add_frames-requires-clause-few g c =
+add_frames-requires-clause-few c =
     let h = c.requires.so_far.3 in
     let stream = c.requires.so_far.2 in
     let found = c.in_ok-frames.ensures.found stream (length (sure stream)) h.handed.stands in
@@ -24,8 +24,8 @@ add_frames-requires-clause-few g c =
 
 -- after the sure frames of the stream the last ones are added, so its whole cut is
 pub returns : goal.returns
-returns g c =
+returns c =
     ok_then _ _ _
-    (rest_added c.args.archive.now c.add_frames.new.archive c.args.counts.now c.add_frames.new.counts c.args.framer.now _ _
+    (rest_added c.args.gatherer.now c.add_frames.new.gatherer c.args.counts.now c.add_frames.new.counts c.args.framer.now _ _
     c.in_ok-frames.ensures.found c.deref.ensures.value)
     c.add_frames.ensures

@@ -1,7 +1,7 @@
-//! Shelves of reports, of both kinds.
+//! Shelves of reports, of both kinds, and reports gathered for one.
 
 use crate::tests::samples::{is_refused, repeated};
-use bufr_shelves::{Key, MapShelf, Moment, Octets, Shelf, SortedShelf, Station};
+use bufr_shelves::{Gathering, Key, MapShelf, Moment, Octets, Shelf, SortedShelf, Station};
 use std::alloc::Global;
 use std::process::Abort;
 use std::test::Fail;
@@ -113,6 +113,42 @@ fn joins<S: Shelf>(rt: &impl Abort, alloc: Global) -> Result<(), Fail> {
     assert_holds(rt, &other, &held);
     let copied: S = repeated!(shelf.copy())?;
     assert_holds(rt, &copied, &wanted);
+    Ok(())
+}
+
+/// Reports gathered: after a refusal the others are still there, and it is put again.
+fn gathered(alloc: Global, reports: &[Put]) -> Result<Gathering, Fail> {
+    let mut gathering = Gathering::new(alloc);
+    for report in reports {
+        let (number, update, octets) = *report;
+        let bytes = Octets::new(repeated!(Vec::from_slice(alloc, octets))?);
+        let answer = gathering.put(number.and_then(key), update, bytes);
+        if is_refused(&answer) {
+            let bytes = Octets::new(Vec::from_slice(alloc, octets)?);
+            gathering.put(number.and_then(key), update, bytes)?;
+        }
+    }
+    Ok(gathering)
+}
+
+#[test]
+fn gathered_in_any_order(rt: HostRuntime) -> Result<(), Fail> {
+    let alloc = rt.alloc();
+    let reports: [Put; 5] = [
+        (Some(7), 0, b"seven".as_slice()),
+        (None, 0, b"none".as_slice()),
+        (Some(7), 1, b"later".as_slice()),
+        (Some(5), 0, b"five".as_slice()),
+        (Some(7), 0, b"seven".as_slice()),
+    ];
+    let shelf = match gathered(alloc, &reports)?.into_shelf() {
+        Ok(shelf) => shelf,
+        Err(_) => gathered(alloc, &reports)?.into_shelf()?,
+    };
+    let wanted: [&[u8]; 3] = [b"five", b"later", b"none"];
+    assert_holds(&rt, &shelf, &wanted);
+    let octets = repeated!(shelf.joined())?;
+    assert_eq!(rt; octets.as_slice(), b"fivelaternone");
     Ok(())
 }
 

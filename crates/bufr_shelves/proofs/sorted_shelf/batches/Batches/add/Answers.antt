@@ -1,0 +1,23 @@
+-- For `Batches::add`: one more pair that waits is put in.
+use Rattle.std.proofs.Common.{◌≡◌, ◌∙◌, ◌++◌, ◌∷◌, [], sym, ap}
+use Rattle.std.proofs.lemmas.Cmp.{on_total}
+use Rattle.bufr_shelves.specs.Keeping.{kept_by, put_by}
+use Rattle.bufr_shelves.specs.Pairs.{by_key, by_value}
+use Rattle.bufr_shelves.proofs.BatchLemmas.{kept_waits, exact_pairs}
+use Rattle.bufr_shelves.proofs.sorted_shelf.batches.Batches.add.Goals as goal
+
+-- it stands behind those that wait
+pub returns-clause-ok : goal.returns-clause-ok
+returns-clause-ok g c =
+    let slot = by_key g.K.Ord.cmp in let rank = by_value g.V.Ord.cmp in
+    let so = on_total (λ p. p.0) g.met.K.Ord.total in
+    let ro = on_total (λ p. p.1) g.met.V.Ord.total in
+    let settled = c.self.inside.settled.items in
+    let fresh = c.self.inside.fresh.items in
+    let waiting = c.self.inside.waiting.items in
+    ap (λ ps. kept_by slot rank (settled ++ (fresh ++ ps)))
+    (c.in_ok-push.ensures.items ∙ ap (λ p. waiting ++ p ∷ []) c.in_ok-waiting.ensures)
+    ∙ kept_waits slot rank so ro
+    (exact_pairs g.K.Ord.cmp g.V.Ord.cmp g.met.K.Exact.exact g.met.V.Exact.exact) settled fresh
+    waiting (c.args.key, c.args.value)
+    ∙ ap (put_by slot rank (c.args.key, c.args.value)) c.self.view_is

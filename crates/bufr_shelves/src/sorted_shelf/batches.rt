@@ -1,0 +1,212 @@
+//! Pairs of key and value that come in any order, put in order batch by batch.
+ghost use Rattle.std.specs.Prelude.{◌≡◌, ◌++◌, [], OnOk, OnErr, IfOk};
+ghost use Rattle.std.specs.List.Sorted.{IsPermutation, IsStrictlySortedBy};
+ghost use Rattle.std.specs.Map.{keys_of};
+ghost use Rattle.bufr_shelves.specs.Keeping.{kept_by, put_by};
+ghost use Rattle.bufr_shelves.specs.Pairs.{by_key, by_value};
+
+use crate::entry::OutOfMemory;
+use crate::rank::Exact;
+use crate::sorted_shelf::merge::{merge, room_for};
+use crate::sorted_shelf::pair::Pair;
+use crate::sorted_shelf::sorted::raise_pair;
+use std::alloc::Global;
+use std::cmp::Ordering;
+use std::marker::Model;
+use std::mem;
+
+/// The fewest pairs that wait before they are put in order.
+const SMALLEST_BATCH: usize = 65_536;
+
+/// What is compared first of two keys, since it stands beside them. Any answer is right: it only
+/// saves time where keys of different fronts are in the order of their fronts.
+pub(crate) trait Fronted {
+    /// The first part of the key in the order of keys.
+    fn front(&self) -> (u64, u64);
+}
+
+/// A pair that waits, and the front of its key.
+#[derive(Drop)]
+pub(crate) struct Waiting<K, V> {
+    front: (u64, u64),
+    pair: Pair<K, V>,
+}
+
+impl<K, V> Model for Waiting<K, V> {
+    ghost Value = { K × V };
+
+    ghost view = { λ a. a.pair };
+}
+
+impl<K: Fronted, V> Waiting<K, V> {
+    /// A pair that waits.
+    fn new(alloc: Global, key: K, value: V) -> Result<Waiting<K, V>, OutOfMemory>
+    where
+        K: Drop,
+        V: Drop,
+        ensures { IfOk result (λ waiting. waiting ≡ (key, value)) }
+    {
+        let front = key.front();
+        let pair = Pair::new(alloc, key, value)?;
+        Ok(Waiting { front, pair })
+    }
+}
+
+impl<K, V> Waiting<K, V> {
+    /// The pair.
+    fn into_pair(self) -> Pair<K, V>
+        ensures { result ≡ self }
+    {
+        self.pair
+    }
+}
+
+/// The order in which pairs that wait are put in.
+fn turn<K: Exact, V>(waiting: &Waiting<K, V>, other: &Waiting<K, V>) -> Ordering {
+    match waiting.front.cmp(&other.front) {
+        Ordering::Equal => waiting.pair.key().cmp(other.pair.key()),
+        order => order,
+    }
+}
+
+/// Pairs of which the one with the greatest value is kept at each key. They may come in any order:
+/// they wait until there are twice as many as were put in order before, are then sorted and merged
+/// with these. So a pair takes logarithmic time, and no more wait than twice those kept, or 65,536.
+#[derive(Drop)]
+pub(crate) struct Batches<K: Exact, V: Exact> {
+    alloc: Global,
+    settled: Vec<Pair<K, V>>,
+    fresh: Vec<Pair<K, V>>,
+    waiting: Vec<Waiting<K, V>>,
+}
+
+impl<K: Exact, V: Exact> Model for Batches<K, V> {
+    ghost use Rattle.std.specs.Prelude.{List, ◌++◌};
+    ghost use Rattle.std.specs.List.Sorted.{IsStrictlySortedBy};
+    ghost use Rattle.std.specs.Map.{keys_of};
+    ghost use Rattle.bufr_shelves.specs.Keeping.{kept_by};
+    ghost use Rattle.bufr_shelves.specs.Pairs.{by_key, by_value};
+
+    ghost Value = { List (K × V) };
+
+    ghost view = { λ a. kept_by (by_key K.cmp) (by_value V.cmp)
+        (a.settled.items ++ (a.fresh.items ++ a.waiting.items)) };
+
+    ghost invariant = { λ a. IsStrictlySortedBy K.cmp (keys_of a.settled.items)
+        × IsStrictlySortedBy K.cmp (keys_of a.fresh.items) };
+}
+
+impl<K: Exact + Fronted, V: Exact> Batches<K, V> {
+    /// No pairs. It takes no memory.
+    pub(crate) fn new(alloc: Global) -> Self
+        ensures { result ≡ [] }
+    {
+        Batches {
+            alloc,
+            settled: Vec::new(alloc),
+            fresh: Vec::new(alloc),
+            waiting: Vec::new(alloc),
+        }
+    }
+
+    /// Puts a pair in where its value is greater than the one at its key. Where memory was refused
+    /// the pairs are as they were.
+    pub(crate) fn put(&mut self, key: K, value: V) -> Result<(), OutOfMemory>
+        ensures ok { OnOk result
+            (self.new ≡ put_by (by_key K.cmp) (by_value V.cmp) (key, value) self.old) }
+        ensures err { OnErr result (self.new ≡ self.old) }
+    {
+        if self.are_many() {
+            self.settle()?;
+        }
+        self.add(key, value)
+    }
+
+    /// Whether so many pairs wait that it is time to put them in order.
+    fn are_many(&self) -> bool {
+        let waiting = self.waiting.len();
+        waiting >= SMALLEST_BATCH && waiting / 2 >= self.settled.len()
+    }
+
+    /// Puts the pairs that wait in order.
+    fn settle(&mut self) -> Result<(), OutOfMemory>
+        ensures { self.new ≡ self.old }
+    {
+        settle(
+            self.alloc,
+            &mut self.settled,
+            &mut self.fresh,
+            &mut self.waiting,
+        )
+    }
+
+    /// Lets one more pair wait.
+    fn add(&mut self, key: K, value: V) -> Result<(), OutOfMemory>
+        ensures ok { OnOk result
+            (self.new ≡ put_by (by_key K.cmp) (by_value V.cmp) (key, value) self.old) }
+        ensures err { OnErr result (self.new ≡ self.old) }
+    {
+        let waiting = Waiting::new(self.alloc, key, value)?;
+        self.waiting.push(waiting)?;
+        Ok(())
+    }
+
+    /// The pairs in order of keys. They are gone where memory was refused.
+    pub(crate) fn into_sorted(mut self) -> Result<Vec<Pair<K, V>>, OutOfMemory>
+        ensures { IfOk result (λ pairs. pairs.items ≡ self) }
+    {
+        settle(
+            self.alloc,
+            &mut self.settled,
+            &mut self.fresh,
+            &mut self.waiting,
+        )?;
+        Ok(self.settled)
+    }
+}
+
+/// Puts all pairs that wait, and those that were taken from them before, among the settled ones.
+/// Where memory was refused some may stand elsewhere, and together they are as they were.
+fn settle<K: Exact, V: Exact>(
+    alloc: Global,
+    settled: &mut Vec<Pair<K, V>>,
+    fresh: &mut Vec<Pair<K, V>>,
+    waiting: &mut Vec<Waiting<K, V>>,
+) -> Result<(), OutOfMemory>
+    requires settled { IsStrictlySortedBy K.cmp (keys_of settled.old.items) }
+    requires fresh { IsStrictlySortedBy K.cmp (keys_of fresh.old.items) }
+    ensures settled { IsStrictlySortedBy K.cmp (keys_of settled.new.items) }
+    ensures fresh { IsStrictlySortedBy K.cmp (keys_of fresh.new.items) }
+    ensures all { kept_by (by_key K.cmp) (by_value V.cmp)
+        (settled.new.items ++ (fresh.new.items ++ waiting.new.items))
+        ≡ kept_by (by_key K.cmp) (by_value V.cmp)
+        (settled.old.items ++ (fresh.old.items ++ waiting.old.items)) }
+    ensures done { OnOk result ((fresh.new.items ≡ []) × (waiting.new.items ≡ [])) }
+{
+    waiting.sort_unstable_by(|waits, other| turn(other, waits));
+    freshen(fresh, waiting)?;
+    let room = room_for(alloc, settled, fresh)?;
+    let more = mem::replace(fresh, Vec::new(alloc));
+    merge(settled, more, room);
+    Ok(())
+}
+
+/// Puts the pairs that wait in order, from the last on.
+fn freshen<K: Exact, V: Exact>(
+    fresh: &mut Vec<Pair<K, V>>,
+    waiting: &mut Vec<Waiting<K, V>>,
+) -> Result<(), OutOfMemory>
+    requires { IsStrictlySortedBy K.cmp (keys_of fresh.old.items) }
+    ensures sorted { IsStrictlySortedBy K.cmp (keys_of fresh.new.items) }
+    ensures all { kept_by (by_key K.cmp) (by_value V.cmp) (fresh.new.items ++ waiting.new.items)
+        ≡ kept_by (by_key K.cmp) (by_value V.cmp) (fresh.old.items ++ waiting.old.items) }
+    ensures done { OnOk result (waiting.new.items ≡ []) }
+{
+    loop {
+        fresh.reserve(1)?;
+        let Some(last) = waiting.pop() else {
+            return Ok(());
+        };
+        raise_pair(fresh, last.into_pair());
+    }
+}

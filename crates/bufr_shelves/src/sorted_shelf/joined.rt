@@ -1,0 +1,45 @@
+//! The octets of entries, joined.
+ghost use Rattle.std.specs.Prelude.{◌≡◌, ◌++◌, IfOk, OnOk};
+ghost use Rattle.std.specs.List.{flat_map};
+ghost use Rattle.bufr_shelves.specs.Entries.{kept};
+
+use crate::entry::OutOfMemory;
+use crate::key::Key;
+use crate::octets::Octets;
+use crate::rank::Rank;
+use crate::sorted_shelf::SortedShelf;
+use crate::sorted_shelf::pair::Pair;
+
+/// Adds the octets of entries with a key.
+fn push_keyed(out: &mut Vec<u8>, pairs: &Vec<Pair<Key, Rank>>) -> Result<(), OutOfMemory>
+    ensures { OnOk result
+        (out.new.items ≡ out.old.items ++ flat_map (λ p. p.1.bytes) pairs.now.items) }
+{
+    for pair in pairs {
+        out.extend_from_slice(pair.value().bytes.as_slice())?;
+    }
+    Ok(())
+}
+
+/// Adds the octets of entries without one.
+fn push_unkeyed(out: &mut Vec<u8>, pairs: &Vec<Pair<Octets, u8>>) -> Result<(), OutOfMemory>
+    ensures { OnOk result
+        (out.new.items ≡ out.old.items ++ flat_map (λ p. p.0) pairs.now.items) }
+{
+    for pair in pairs {
+        out.extend_from_slice(pair.key().as_slice())?;
+    }
+    Ok(())
+}
+
+impl SortedShelf {
+    /// The octets of all entries in order of slots, joined. It can only run out of memory.
+    pub fn joined(&self) -> Result<Vec<u8>, OutOfMemory>
+        ensures { IfOk result (λ out. out.items ≡ flat_map (λ e. e.bytes) (kept self.now)) }
+    {
+        let mut out = Vec::new(self.alloc);
+        push_keyed(&mut out, &self.keyed)?;
+        push_unkeyed(&mut out, &self.unkeyed)?;
+        Ok(out)
+    }
+}
