@@ -7,19 +7,9 @@
 //!
 //! [`MapShelf`] stands on ordered maps, where `put` takes logarithmic time. [`SortedShelf`] stands
 //! on sorted vectors, where `put` also moves all that comes after its place, eight octets for each
-//! entry: it is for entries that come nearly in order, and for joins. Times in seconds, of entries
-//! with a key and 63 octets each, compiled by LLVM, on a machine of four cores with other work:
-//!
-//! | | `MapShelf` | `SortedShelf` |
-//! |---|---|---|
-//! | 1,000,000 put in random order | 1.6 | 79 |
-//! | 100,000 put in random order | 0.1 | 0.5 |
-//! | 1,000,000 put in rising order | 0.8 | 0.4 |
-//! | two shelves of 500,000 joined | 0.9 | 0.3 |
-//! | 1,000,000 copied | 0.4 | 0.4 |
-//! | 1,000,000 met by `first` and `after` | 0.2 | 0.2 |
-//!
-//! What is joined, copied and met was put in random order.
+//! entry: it is for entries that come nearly in order, and for joins. A [`Gathering`] takes entries
+//! in any order where none is looked up before all are there, and then becomes a sorted shelf. Times
+//! of each stand in `docs/DESIGN.md`.
 #![tactic(auto)]
 
 pub mod entry;

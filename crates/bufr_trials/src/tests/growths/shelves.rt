@@ -148,7 +148,7 @@ fn gathered_in_any_order(rt: HostRuntime) -> Result<(), Fail> {
     let wanted: [&[u8]; 3] = [b"five", b"later", b"none"];
     assert_holds(&rt, &shelf, &wanted);
     let octets = repeated!(shelf.joined())?;
-    assert_eq!(rt; octets.as_slice(), b"fivelaternone");
+    assert_eq!(rt; octets.as_slice(), b"fivelaternone".as_slice());
     Ok(())
 }
 
