@@ -15,8 +15,14 @@ use std::cmp::Ordering;
 use std::marker::Model;
 use std::mem;
 
-/// The fewest pairs that wait before they are put in order.
-const SMALLEST_BATCH: usize = 65_536;
+/// The fewest pairs that wait before they are put in order, unless they are long.
+const SMALLEST_BATCH: usize = 64;
+
+/// The fewest octets that wait before that, whatever their number.
+const LONG_BATCH: u64 = 33_554_432;
+
+/// How many octets more may wait for each pair that is in order.
+const OCTETS_A_PAIR: u64 = 64;
 
 /// What is compared first of two keys, since it stands beside them. Any answer is right: it only
 /// saves time where keys of different fronts are in the order of their fronts.
@@ -71,13 +77,15 @@ fn turn<K: Exact, V>(waiting: &Waiting<K, V>, other: &Waiting<K, V>) -> Ordering
 
 /// Pairs of which the one with the greatest value is kept at each key. They may come in any order:
 /// they wait until there are twice as many as were put in order before, are then sorted and merged
-/// with these. So a pair takes logarithmic time, and no more wait than twice those kept, or 65,536.
+/// with these. So a pair takes logarithmic time, and no more wait than twice those kept, or 64, nor
+/// octets much beyond 32 MiB and 64 for each pair kept.
 #[derive(Drop)]
 pub(crate) struct Batches<K: Exact, V: Exact> {
     alloc: Global,
     settled: Vec<Pair<K, V>>,
     fresh: Vec<Pair<K, V>>,
     waiting: Vec<Waiting<K, V>>,
+    octets: u64,
 }
 
 impl<K: Exact, V: Exact> Model for Batches<K, V> {
@@ -106,12 +114,13 @@ impl<K: Exact + Fronted, V: Exact> Batches<K, V> {
             settled: Vec::new(alloc),
             fresh: Vec::new(alloc),
             waiting: Vec::new(alloc),
+            octets: 0,
         }
     }
 
-    /// Puts a pair in where its value is greater than the one at its key. Where memory was refused
-    /// the pairs are as they were.
-    pub(crate) fn put(&mut self, key: K, value: V) -> Result<(), OutOfMemory>
+    /// Puts a pair that holds so many octets in where its value is greater than the one at its key.
+    /// Where memory was refused the pairs are as they were.
+    pub(crate) fn put(&mut self, key: K, value: V, octets: usize) -> Result<(), OutOfMemory>
         ensures ok { OnOk result
             (self.new ≡ put_by (by_key K.cmp) (by_value V.cmp) (key, value) self.old) }
         ensures err { OnErr result (self.new ≡ self.old) }
@@ -119,13 +128,17 @@ impl<K: Exact + Fronted, V: Exact> Batches<K, V> {
         if self.are_many() {
             self.settle()?;
         }
+        self.octets = self.octets.saturating_add(octets as u64);
         self.add(key, value)
     }
 
-    /// Whether so many pairs wait that it is time to put them in order.
+    /// Whether so many pairs wait, or octets, that it is time to put them in order.
     fn are_many(&self) -> bool {
         let waiting = self.waiting.len();
-        waiting >= SMALLEST_BATCH && waiting / 2 >= self.settled.len()
+        let settled = self.settled.len();
+        let room = (settled as u64).saturating_mul(OCTETS_A_PAIR);
+        let are_long = self.octets >= room.saturating_add(LONG_BATCH);
+        are_long || waiting >= SMALLEST_BATCH && waiting / 2 >= settled
     }
 
     /// Puts the pairs that wait in order.
@@ -137,7 +150,9 @@ impl<K: Exact + Fronted, V: Exact> Batches<K, V> {
             &mut self.settled,
             &mut self.fresh,
             &mut self.waiting,
-        )
+        )?;
+        self.octets = 0;
+        Ok(())
     }
 
     /// Lets one more pair wait.

@@ -54,9 +54,10 @@ impl Gathering {
             ++ record { key = key; update = update; bytes = bytes } ∷ [])) }
         ensures err { OnErr result (kept self.new ≡ kept self.old) }
     {
+        let octets = bytes.as_slice().len();
         match key {
-            Some(key) => self.keyed.put(key, Rank { update, bytes }),
-            None => self.unkeyed.put(bytes, update),
+            Some(key) => self.keyed.put(key, Rank { update, bytes }, octets),
+            None => self.unkeyed.put(bytes, update, octets),
         }
     }
 
