@@ -27,6 +27,3 @@ pub use bufr_shelves::{
 pub use gatherer::Gatherer;
 pub use reading::NotAnArchive;
 pub use report_entry::{entry_of, key_of};
-
-#[cfg(test)]
-mod tests;

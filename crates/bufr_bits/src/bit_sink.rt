@@ -1,7 +1,7 @@
 //! Writing bits.
 
 ghost use Rattle.std.specs.Prelude.{◌≡◌, ◌≤◌, ◌<◌, ◌^◌, ◌++◌, ◌%◌, ◌-◌, [], length, take};
-ghost use Rattle.std.specs.Prelude.{replicate, false, OnOk, OnErr};
+ghost use Rattle.std.specs.Prelude.{replicate, false, IfOk, OnOk, OnErr};
 ghost use Rattle.bufr_bits.specs.Bits.{bin, bits};
 
 use super::append::{append, append_octets, cut_after};
@@ -38,6 +38,15 @@ impl BitSink {
             octets: Vec::new(alloc),
             len: 0,
         }
+    }
+
+    /// No bits, with room for so many octets: no growth is asked for before they are full.
+    /// `OutOfMemory` where that room was refused.
+    pub fn with_capacity(alloc: Global, octets: usize) -> Result<Self, OutOfMemory>
+        ensures { IfOk result (λ sink. sink ≡ []) }
+    {
+        let octets = Vec::with_capacity(alloc, octets)?;
+        Ok(BitSink { octets, len: 0 })
     }
 
     /// How many bits were put.

@@ -14,6 +14,3 @@ pub use bit_reader::BitReader;
 pub use bit_sink::BitSink;
 pub use device::{Failed, FromRead, IntoWrite, Sink, Source};
 pub use std::alloc::AllocError as OutOfMemory;
-
-#[cfg(test)]
-mod tests;

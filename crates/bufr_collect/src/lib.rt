@@ -7,8 +7,6 @@ mod frames;
 pub mod laws;
 mod merging;
 mod streams;
-#[cfg(test)]
-mod tests;
 
 pub use adding::run_add;
 pub use merging::run_merge;

@@ -25,8 +25,6 @@ mod plain_subsets;
 mod read;
 mod subset_index;
 mod subsets;
-#[cfg(test)]
-mod tests;
 mod text;
 mod write;
 

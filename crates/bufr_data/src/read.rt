@@ -42,6 +42,10 @@ pub fn read_plain(
     answer
 }
 
+/// How many fields of a subset are given room before any is read, where the template has as many
+/// nodes.
+const FIELDS_WITH_ROOM: usize = 64;
+
 /// The same, but that after an error the reader may have moved on.
 fn read_fields(
     alloc: Global,
@@ -55,7 +59,8 @@ fn read_fields(
     ensures onward { reader.old.place ≤ reader.new.place }
 {
     let mut walk = Walk::start(alloc, template, used)?;
-    let mut fields = Vec::new(alloc);
+    let room = template.nodes().min(FIELDS_WITH_ROOM);
+    let mut fields = Vec::with_capacity(alloc, room)?;
     while let Some(field) = read_field(alloc, &mut walk, reader, fields.len() as u64 + 1)? {
         fields.push(field)?;
     }

@@ -19,6 +19,3 @@ pub mod steps;
 pub use depot::Depot;
 pub use headline::{Plan, Ran, run_both};
 pub use steps::{Answer, Step, StepFault};
-
-#[cfg(test)]
-mod tests;

@@ -90,5 +90,3 @@ mod places;
 mod scans;
 mod taken;
 mod takes;
-#[cfg(test)]
-mod tests;

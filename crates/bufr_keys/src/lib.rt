@@ -15,6 +15,3 @@ mod stations;
 mod usable;
 
 pub use keys::{KeyHead, key_in};
-
-#[cfg(test)]
-mod tests;

@@ -25,6 +25,3 @@ pub use laws::{
 pub use messages::read;
 pub use text::{end_text, heading_text, subset_text, text_of};
 pub use writer::{ListingWriteFault, write_message};
-
-#[cfg(test)]
-mod tests;

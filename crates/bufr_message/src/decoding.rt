@@ -117,8 +117,3 @@ fn data_of(
         Err(failure) => Err(failure.map(Refused::Data)),
     }
 }
-
-#[cfg(test)]
-mod limit_tests;
-#[cfg(test)]
-mod tests;

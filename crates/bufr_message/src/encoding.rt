@@ -128,6 +128,3 @@ fn data_of(
         Err(failure) => Err(failure.map(EncodeFault::Data)),
     }
 }
-
-#[cfg(test)]
-mod tests;

@@ -3,11 +3,7 @@
 #![tactic(auto)]
 
 mod alone;
-#[cfg(test)]
-mod compression_tests;
 mod decoding;
-#[cfg(test)]
-mod edition_3_tests;
 mod encoding;
 mod examples;
 mod fault;
@@ -19,8 +15,6 @@ mod own_bits;
 mod ranges;
 mod report;
 mod report_examples;
-#[cfg(test)]
-mod test_samples;
 mod viewing;
 
 pub use bufr_sections::{Decoded, Head, Message, Refused};

@@ -7,6 +7,3 @@ pub use bufr_listing::{
     listings_are_joined_parts, read, subset_text, text_of, write_message,
 };
 pub use viewed::{heading_of_view, subset_of_view};
-
-#[cfg(test)]
-mod tests;

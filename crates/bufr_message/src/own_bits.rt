@@ -64,12 +64,16 @@ fn octets_alone(alloc: Global, report: &Report) -> Result<Option<Vec<u8>>, OutOf
     }
 }
 
+/// How many fields are given room before any is put, two octets each: most subsets have fewer.
+const FIELDS_WITH_ROOM: usize = 64;
+
 /// The bits of fields, filled to whole octets; `None` where a number has no room in its field.
 fn bits_of_fields(alloc: Global, fields: &[Field]) -> Result<Option<Vec<u8>>, OutOfMemory>
     ensures { IfOk result (λ found.
         option_map (λ v. bits v.items) found ≡ option_map filled (own_bits fields.now)) }
 {
-    let mut sink = BitSink::new(alloc);
+    let room = 2 * fields.len().min(FIELDS_WITH_ROOM);
+    let mut sink = BitSink::with_capacity(alloc, room)?;
     for field in fields {
         if !has_room(&field.raw, field.spec.width) {
             return Ok(None);

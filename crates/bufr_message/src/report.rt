@@ -174,6 +174,3 @@ pub fn canonical(
     numbers_fit(&lent);
     octets_of(alloc, tables, &lent)
 }
-
-#[cfg(test)]
-mod tests;

@@ -29,6 +29,3 @@ pub fn view<'a>(
     messages_are_spelt();
     view_of(alloc, tables, octets)
 }
-
-#[cfg(test)]
-mod tests;

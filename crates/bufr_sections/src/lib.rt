@@ -18,6 +18,3 @@ pub use layout::Layout;
 pub use message::{Decoded, Head, Message};
 pub use sections::read_sections;
 pub use spelling::{LONGEST, MOST_SUBSETS, spell};
-
-#[cfg(test)]
-mod tests;

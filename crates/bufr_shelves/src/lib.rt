@@ -31,6 +31,3 @@ pub use octets::Octets;
 pub use shelf::Shelf;
 pub use shelving::shelve;
 pub use sorted_shelf::{Gathering, SortedShelf};
-
-#[cfg(test)]
-mod tests;

@@ -27,6 +27,3 @@ pub use table_b::TableB;
 pub use table_d::TableD;
 pub use table_faults::{Column, TableFault};
 pub use tables::Tables;
-
-#[cfg(test)]
-mod tests;

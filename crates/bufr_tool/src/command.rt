@@ -23,7 +23,7 @@ use std::rt::Files;
 use std::{fmt, fs};
 
 /// The greatest number of reads of one input.
-pub(crate) const MOST_READS: u64 = 4_294_967_296;
+pub const MOST_READS: u64 = 4_294_967_296;
 
 /// No last line of a command that writes an archive has more octets.
 const LONGEST_LINE: usize = 160;

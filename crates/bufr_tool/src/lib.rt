@@ -11,13 +11,11 @@ mod parts;
 mod printing;
 mod show;
 mod tables;
-#[cfg(test)]
-mod tests;
 mod words;
 
 pub use bufr_engines::{Input, Tally, ToolFault};
 pub use check::run_check;
-pub use command::run_command;
+pub use command::{MOST_READS, run_command};
 pub use encode::run_encode;
 pub use show::run_show;
 pub use tables::load_tables;

@@ -34,6 +34,3 @@ pub fn subset_of_view(alloc: Global, view: &View<'_>, number: usize) -> Result<V
     let subset = view.subset(alloc, number)?;
     subset_text(alloc, &subset)
 }
-
-#[cfg(test)]
-mod tests;

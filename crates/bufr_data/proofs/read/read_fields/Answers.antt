@@ -7,7 +7,7 @@ use Rattle.bufr_data.proofs.read.read_fields.Goals as goal
 -- at first the walk stands at the start of the course, and no field is read
 pub loop-fields-init : goal.loop-fields-init
 loop-fields-init c =
-    rw c.new-fields.ensures.items (record {
+    rw c.in_ok-fields.ensures.items (record {
       ready = record {
         answered = c.in_ok-walk.ensures.answered;
         steady = rw (c.in_ok-walk.ensures.items, c.in_ok-walk.ensures.course) (course_steady _ _);

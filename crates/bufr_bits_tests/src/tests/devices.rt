@@ -1,0 +1,218 @@
+//! Devices: they fail with cause alone, hand on what they are told to, and serve large pieces.
+
+ghost use Rattle.std.specs.Prelude.{◌≡◌, ◌<◌, false, length};
+
+use super::sizes::octets_of_length;
+use bufr_bits::device::{Failed, FromRead, IntoWrite, Sink, Source, Unwritten, write_all};
+use std::alloc::Global;
+use std::io;
+use std::io::{ErrorKind, Read, Write};
+use std::test::Fail;
+
+/// A reader that gives an octet, fails, and gives another.
+#[derive(Drop)]
+struct FailsOnce {
+    reads: u8,
+}
+
+impl Read for FailsOnce {
+    fn read(&mut self, buf: &mut [u8]) -> io::Result<usize> {
+        self.reads = self.reads.saturating_add(1);
+        if self.reads == 2 || buf.is_empty() {
+            return Err(io::Error::from(ErrorKind::Interrupted));
+        }
+        buf[0] = self.reads;
+        Ok(1)
+    }
+}
+
+/// A writer that takes an octet, and then none.
+#[derive(Drop)]
+struct TakesOne {
+    full: bool,
+}
+
+impl Write for TakesOne {
+    fn write(&mut self, buf: &[u8]) -> io::Result<usize> {
+        if self.full || buf.is_empty() {
+            return Ok(0);
+        }
+        self.full = true;
+        Ok(1)
+    }
+
+    fn flush(&mut self) -> io::Result<()> {
+        Err(io::Error::from(ErrorKind::TimedOut))
+    }
+}
+
+#[test]
+fn a_source_of_octets_in_memory(rt: HostRuntime) -> Result<(), Fail> {
+    let octets = [1u8, 2, 3, 4, 5];
+    let mut source = FromRead::new(octets.as_slice());
+    let mut buffer = [0; 3];
+    assert_eq!(rt; source.read(&mut buffer)?, 3);
+    assert_eq!(rt; buffer, [1, 2, 3]);
+    assert_eq!(rt; source.read(&mut buffer)?, 2);
+    assert_eq!(rt; buffer, [4, 5, 3]);
+    assert_eq!(rt; source.read(&mut buffer)?, 0);
+    assert_eq!(rt; source.read(&mut buffer)?, 0);
+    assert_eq!(rt; source.into_inner().len(), 0);
+    Ok(())
+}
+
+#[test]
+fn a_source_fails_at_any_error(rt: HostRuntime) -> Result<(), Fail> {
+    let mut source = FromRead::new(FailsOnce { reads: 0 });
+    let mut buffer = [0; 4];
+    assert_eq!(rt; source.read(&mut buffer)?, 1);
+    assert_eq!(rt; source.read(&mut buffer), Err(Failed));
+    assert_eq!(rt; source.into_inner().reads, 2);
+    Ok(())
+}
+
+#[test]
+fn a_sink_in_memory(rt: HostRuntime) -> Result<(), Fail> {
+    let mut sink = IntoWrite::new(Vec::new(rt.alloc()));
+    assert_eq!(rt; sink.write(b"BUFR")?, 4);
+    assert_eq!(rt; sink.write(&[])?, 0);
+    sink.flush()?;
+    write_all(&mut sink, b"7777").map_err(|_| Failed)?;
+    assert_eq!(rt; sink.into_inner().as_slice(), b"BUFR7777".as_slice());
+
+    let mut kept = Vec::new(rt.alloc());
+    let mut lent = IntoWrite::new(&mut kept);
+    assert_eq!(rt; lent.write(b"BUFR")?, 4);
+    let _ = lent.into_inner();
+    assert_eq!(rt; kept.as_slice(), b"BUFR".as_slice());
+    Ok(())
+}
+
+#[test]
+fn a_sink_fails_where_nothing_is_taken(rt: HostRuntime) -> Result<(), Fail> {
+    let mut sink = IntoWrite::new(TakesOne { full: false });
+    assert_eq!(rt; sink.write(&[])?, 0);
+    assert_eq!(rt; sink.write(b"BUFR")?, 1);
+    assert_eq!(rt; sink.write(b"UFR"), Err(Failed));
+
+    let mut again = IntoWrite::new(TakesOne { full: false });
+    assert_eq!(rt;
+        write_all(&mut again, b"BUFR"),
+        Err(Unwritten { written: 1 })
+    );
+    let mut flushed = IntoWrite::new(TakesOne { full: false });
+    assert_eq!(rt; flushed.flush(), Err(Failed));
+    Ok(())
+}
+
+/// A reader of octets that gives a few at a time.
+#[derive(Drop)]
+struct GivesFew<'a> {
+    rest: &'a [u8],
+    most: usize,
+}
+
+impl Read for GivesFew<'_> {
+    fn read(&mut self, buf: &mut [u8]) -> io::Result<usize> {
+        let n = self.most.min(buf.len()).min(self.rest.len());
+        buf[..n].copy_from_slice(&self.rest[..n]);
+        self.rest = &self.rest[n..];
+        Ok(n)
+    }
+}
+
+/// All that a source gives, up to a hundred thousand reads into so much room.
+fn all_of<S: Source>(alloc: Global, source: &mut S, room: &mut [u8]) -> Result<Vec<u8>, Fail>
+    requires works { (S.reading source.old).failed ≡ false }
+    requires unread { (S.reading source.old).reads ≡ 0 }
+    requires some { 0 < length room.old }
+{
+    let mut octets = Vec::new(alloc);
+    for _ in 0..100_000u64 {
+        let n = source.read(room)?;
+        if n == 0 {
+            return Ok(octets);
+        }
+        octets.extend_from_slice(&room[..n])?;
+    }
+    Err(Fail::from("no end"))
+}
+
+#[test]
+fn a_source_gives_all_over_a_thousand_reads(rt: HostRuntime) -> Result<(), Fail> {
+    let octets = octets_of_length(rt.alloc(), 10_000)?;
+    let reader = GivesFew {
+        rest: octets.as_slice(),
+        most: 7,
+    };
+    let mut room = [0; 64];
+    let mut source = FromRead::new(reader);
+    let whole = all_of(rt.alloc(), &mut source, &mut room)?;
+    assert!(rt; whole.as_slice() == octets.as_slice());
+    assert_eq!(rt; source.into_inner().rest.len(), 0);
+    Ok(())
+}
+
+#[test]
+fn a_lent_source_gives_all_in_large_reads(rt: HostRuntime) -> Result<(), Fail> {
+    let octets = octets_of_length(rt.alloc(), 1_000_003)?;
+    let mut room = vec![in rt.alloc(); 0u8; 70_000]?;
+    let mut source = FromRead::new(octets.as_slice());
+    let mut lent = &mut source;
+    let whole = all_of(rt.alloc(), &mut lent, room.as_mut_slice())?;
+    assert!(rt; whole.as_slice() == octets.as_slice());
+    Ok(())
+}
+
+/// A writer that takes a few octets at a time, and counts how often it was to hand them on.
+#[derive(Drop)]
+struct TakesFew {
+    taken: Vec<u8>,
+    most: usize,
+    flushes: u8,
+}
+
+impl Write for TakesFew {
+    fn write(&mut self, buf: &[u8]) -> io::Result<usize> {
+        let n = self.most.min(buf.len());
+        match self.taken.extend_from_slice(&buf[..n]) {
+            Ok(()) => Ok(n),
+            Err(_) => Err(io::Error::from(ErrorKind::OutOfMemory)),
+        }
+    }
+
+    fn flush(&mut self) -> io::Result<()> {
+        self.flushes = self.flushes.saturating_add(1);
+        Ok(())
+    }
+}
+
+#[test]
+fn a_sink_takes_all_over_a_thousand_writes(rt: HostRuntime) -> Result<(), Fail> {
+    let octets = octets_of_length(rt.alloc(), 10_000)?;
+    let mut sink = IntoWrite::new(TakesFew {
+        taken: Vec::new(rt.alloc()),
+        most: 7,
+        flushes: 0,
+    });
+    write_all(&mut sink, octets.as_slice()).map_err(|_| Failed)?;
+    assert!(rt; sink.into_inner().taken.as_slice() == octets.as_slice());
+    Ok(())
+}
+
+#[test]
+fn a_lent_sink_takes_a_large_piece_and_hands_it_on(rt: HostRuntime) -> Result<(), Fail> {
+    let octets = octets_of_length(rt.alloc(), 1_000_003)?;
+    let mut sink = IntoWrite::new(TakesFew {
+        taken: Vec::new(rt.alloc()),
+        most: 70_000,
+        flushes: 0,
+    });
+    let mut lent = &mut sink;
+    write_all(&mut lent, octets.as_slice()).map_err(|_| Failed)?;
+    lent.flush()?;
+    let writer = sink.into_inner();
+    assert!(rt; writer.taken.as_slice() == octets.as_slice());
+    assert_eq!(rt; writer.flushes, 1);
+    Ok(())
+}

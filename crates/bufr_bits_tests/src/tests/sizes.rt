@@ -1,0 +1,54 @@
+//! Large texts and many fields: want of memory meets every contract, so these are compared whole.
+
+use bufr_bits::{BitReader, BitSink};
+use std::alloc::{AllocError, Global};
+use std::test::Fail;
+
+/// So many octets, which go round by 251.
+pub(super) fn octets_of_length(alloc: Global, n: usize) -> Result<Vec<u8>, AllocError> {
+    let mut octets = Vec::with_capacity(alloc, n)?;
+    for i in 0..n {
+        octets.push((i % 251) as u8)?;
+    }
+    Ok(octets)
+}
+
+#[test]
+fn a_million_octets_on_and_off_the_edge(rt: HostRuntime) -> Result<(), Fail> {
+    let text = octets_of_length(rt.alloc(), 1_000_003)?;
+    let mut sink = BitSink::new(rt.alloc());
+    sink.put_bytes(text.as_slice())?;
+    sink.put(3, 5)?;
+    sink.put_bytes(text.as_slice())?;
+    assert_eq!(rt; sink.len_bits(), 16_000_051);
+    sink.fill_octet();
+    let octets = sink.into_bytes();
+    assert_eq!(rt; octets.len(), 2_000_007);
+    let mut reader = BitReader::new(octets.as_slice());
+    let first = reader.take_bytes(rt.alloc(), 1_000_003)?;
+    assert!(rt; first.ok_or("no text")?.as_slice() == text.as_slice());
+    assert_eq!(rt; reader.take(3), Some(5));
+    let second = reader.take_bytes(rt.alloc(), 1_000_003)?;
+    assert!(rt; second.ok_or("no text off the edge")?.as_slice() == text.as_slice());
+    assert_eq!(rt; reader.left(), 5);
+    Ok(())
+}
+
+#[test]
+fn a_hundred_thousand_fields(rt: HostRuntime) -> Result<(), Fail> {
+    let mut sink = BitSink::with_capacity(rt.alloc(), 1000)?;
+    assert_eq!(rt; sink.len_bits(), 0);
+    for i in 0..100_000u64 {
+        sink.put(13, i % 8191)?;
+    }
+    assert_eq!(rt; sink.len_bits(), 1_300_000);
+    sink.fill_octet();
+    let octets = sink.into_bytes();
+    let mut reader = BitReader::new(octets.as_slice());
+    let mut good = true;
+    for i in 0..100_000u64 {
+        good = good && reader.take(13) == Some(i % 8191);
+    }
+    assert!(rt; good && reader.left() == 0);
+    Ok(())
+}

@@ -1,0 +1,410 @@
+//! What the engines answer and write. Octets are typed from the layouts of messages.
+
+ghost use Rattle.std.specs.Prelude.{◌≡◌, ◌≤◌, None, Some, false, IfOk, map};
+ghost use Rattle.bufr_collect.specs.Readers.{AreFresh};
+
+use bufr_bits::{Failed, IntoWrite, Sink, Source};
+use bufr_collect::{run_add, run_merge};
+use bufr_engines::{Input, Tally, ToolFault};
+use bufr_tables::{TableB, TableD, Tables};
+use std::alloc::{AllocError, Global};
+use std::process::Abort;
+use std::test::Fail;
+
+const TABLE_B: &[u8] = b"FXY,BUFR_Unit,BUFR_Scale,BUFR_ReferenceValue,BUFR_DataWidth_Bits\n\
+001001,Numeric,0,0,7\n\
+001002,Numeric,0,0,10\n\
+004001,a,0,0,12\n\
+004002,mon,0,0,4\n\
+004003,d,0,0,6\n\
+004004,h,0,0,5\n\
+004005,min,0,0,6\n\
+012101,K,2,0,16\n";
+
+const TABLE_D: &[u8] = b"FXY1,FXY2\n\
+301001,001001\n\
+301001,001002\n\
+301011,004001\n\
+301011,004002\n\
+301011,004003\n\
+301012,004004\n\
+301012,004005\n";
+
+/// Station 10 384, 2024-01-15 12:00, 273.15 K.
+const FIRST: &[u8] = b"BUFR\x00\x00\x3E\x04\
+\x00\x00\x16\x00\x00\x62\x00\x00\x00\x00\x00\x02\x00\x25\x00\x07\xE8\x01\x0F\x0C\x00\x00\
+\x00\x00\x0F\x00\x00\x01\x80\xC1\x01\xC1\x0B\xC1\x0C\x0C\x65\
+\x00\x00\x0D\x00\x14\xC0\x3F\x40\x9E\xC0\x1A\xAC\xC0\
+7777";
+
+/// The same station and time, update number 1, 274.00 K.
+const UPDATE: &[u8] = b"BUFR\x00\x00\x3E\x04\
+\x00\x00\x16\x00\x00\x62\x00\x00\x01\x00\x00\x02\x00\x25\x00\x07\xE8\x01\x0F\x0C\x00\x00\
+\x00\x00\x0F\x00\x00\x01\x80\xC1\x01\xC1\x0B\xC1\x0C\x0C\x65\
+\x00\x00\x0D\x00\x14\xC0\x3F\x40\x9E\xC0\x1A\xC2\x00\
+7777";
+
+/// The first with month 13, which is no moment.
+const MONTH_13: &[u8] = b"BUFR\x00\x00\x3E\x04\
+\x00\x00\x16\x00\x00\x62\x00\x00\x00\x00\x00\x02\x00\x25\x00\x07\xE8\x01\x0F\x0C\x00\x00\
+\x00\x00\x0F\x00\x00\x01\x80\xC1\x01\xC1\x0B\xC1\x0C\x0C\x65\
+\x00\x00\x0D\x00\x14\xC0\x3F\x46\x9E\xC0\x1A\xAC\xC0\
+7777";
+
+/// A frame that spells no message: an edition that is not read.
+const EDITION_5: &[u8] = b"BUFR\x00\x00\x0C\x057777";
+
+/// A reader that gives so many octets a read; where `breaks` is told, it fails at its end.
+#[derive(Debug, Drop)]
+struct Pieces {
+    octets: Vec<u8>,
+    place: usize,
+    most: usize,
+    breaks: bool,
+    failed: bool,
+    reads: u64,
+    met_end: bool,
+}
+
+impl Pieces {
+    fn new(octets: Vec<u8>, most: usize, breaks: bool) -> Self
+        ensures works { result.failed ≡ false }
+        ensures not_read { result.reads ≡ 0 }
+        ensures not_ended { result.met_end ≡ false }
+    {
+        Pieces {
+            octets,
+            place: 0,
+            most,
+            breaks,
+            failed: false,
+            reads: 0,
+            met_end: false,
+        }
+    }
+}
+
+impl Source for Pieces {
+    ghost reading = { λ s. record
+        { left = None; failed = s.failed; reads = s.reads; met_end = s.met_end } };
+
+    fn read(&mut self, buffer: &mut [u8]) -> Result<usize, Failed> {
+        self.reads += 1;
+        let octets = self.octets.get(self.place..).unwrap_or_default();
+        let given = octets.len().min(self.most).min(buffer.len());
+        if given == 0 {
+            if self.breaks {
+                self.failed = true;
+                return Err(Failed);
+            }
+            self.met_end = true;
+            return Ok(0);
+        }
+        buffer[..given].copy_from_slice(&octets[..given]);
+        self.place = self.place.saturating_add(given);
+        Ok(given)
+    }
+}
+
+/// The tables of the tests.
+fn tables(alloc: Global) -> Result<Tables, Fail> {
+    Ok(Tables::new(
+        TableB::parse(alloc, TABLE_B)?,
+        TableD::parse(alloc, TABLE_D)?,
+    ))
+}
+
+/// Readers of these octets.
+fn readers(alloc: Global, inputs: &[&[u8]]) -> Result<Vec<Pieces>, AllocError>
+    ensures { IfOk result (λ readers. AreFresh (map ⟦<Pieces as Source>⟧.reading readers.items)) }
+{
+    let mut readers = Vec::new(alloc);
+    for octets in inputs {
+        readers.push(Pieces::new(Vec::from_slice(alloc, *octets)?, 65536, false))?;
+    }
+    Ok(readers)
+}
+
+/// What adding such streams answers, and what was written.
+fn added(alloc: Global, inputs: &[&[u8]]) -> Result<(Result<Tally, ToolFault>, Vec<u8>), Fail> {
+    let tables = tables(alloc)?;
+    let mut writer = IntoWrite::new(Vec::new(alloc));
+    let mut streams = readers(alloc, inputs)?;
+    let answer = run_add(alloc, 10, &tables, &mut streams, &mut writer);
+    Ok((answer, writer.into_inner()))
+}
+
+/// What merging such archives answers, and what was written.
+fn merged(alloc: Global, inputs: &[&[u8]]) -> Result<(Result<Tally, ToolFault>, Vec<u8>), Fail> {
+    let tables = tables(alloc)?;
+    let mut writer = IntoWrite::new(Vec::new(alloc));
+    let mut archives = readers(alloc, inputs)?;
+    let answer = run_merge(alloc, 10, &tables, &mut archives, &mut writer);
+    Ok((answer, writer.into_inner()))
+}
+
+/// The octets of lists, joined.
+fn joined(alloc: Global, parts: &[&[u8]]) -> Result<Vec<u8>, AllocError> {
+    let mut octets = Vec::new(alloc);
+    for part in parts {
+        octets.extend_from_slice(*part)?;
+    }
+    Ok(octets)
+}
+
+fn tally(frames: u128, refused: u128, reports: u128) -> Result<Tally, ToolFault> {
+    Ok(Tally {
+        frames,
+        refused,
+        skipped: 0,
+        reports,
+    })
+}
+
+#[test]
+fn one_stream(rt: HostRuntime) -> Result<(), Fail> {
+    let alloc = rt.alloc();
+    let stream = joined(alloc, &[b"ISMD01 EDZW 151200", FIRST, b"BUFR", FIRST])?;
+    let (answer, written) = added(alloc, &[&stream])?;
+    assert_eq!(rt; answer, tally(2, 0, 1));
+    assert_eq!(rt; written.as_slice(), FIRST);
+    Ok(())
+}
+
+#[test]
+fn greatest_update_in_any_order(rt: HostRuntime) -> Result<(), Fail> {
+    let alloc = rt.alloc();
+    for inputs in [[FIRST, UPDATE], [UPDATE, FIRST]] {
+        let (answer, written) = added(alloc, inputs.as_slice())?;
+        assert_eq!(rt; answer, tally(2, 0, 1));
+        assert_eq!(rt; written.as_slice(), UPDATE);
+    }
+    Ok(())
+}
+
+/// A refused message among others, in the middle of a stream and of the streams.
+#[test]
+fn refused_among_others(rt: HostRuntime) -> Result<(), Fail> {
+    let alloc = rt.alloc();
+    let stream = joined(alloc, &[MONTH_13, EDITION_5, UPDATE])?;
+    let (answer, written) = added(alloc, &[FIRST, EDITION_5, &stream, FIRST])?;
+    assert_eq!(rt; answer, tally(6, 2, 2));
+    assert_eq!(rt;
+        written.as_slice(),
+        joined(alloc, &[UPDATE, MONTH_13])?.as_slice()
+    );
+    Ok(())
+}
+
+/// Streams are cut apart each by itself: what begins in one does not go on in the next.
+#[test]
+fn each_stream_by_itself(rt: HostRuntime) -> Result<(), Fail> {
+    let alloc = rt.alloc();
+    let front = FIRST.get(..30).ok_or("thirty octets")?;
+    let back = FIRST.get(30..).ok_or("the others")?;
+    let (answer, written) = added(alloc, &[front, back])?;
+    assert_eq!(rt; answer, tally(0, 0, 0));
+    assert!(rt; written.is_empty());
+    Ok(())
+}
+
+#[test]
+fn no_readers(rt: HostRuntime) -> Result<(), Fail> {
+    let alloc = rt.alloc();
+    let (answer, written) = added(alloc, &[])?;
+    assert_eq!(rt; answer, tally(0, 0, 0));
+    assert!(rt; written.is_empty());
+    let (answer, written) = merged(alloc, &[])?;
+    assert_eq!(rt; answer, tally(0, 0, 0));
+    assert!(rt; written.is_empty());
+    Ok(())
+}
+
+#[test]
+fn archives_merged(rt: HostRuntime) -> Result<(), Fail> {
+    let alloc = rt.alloc();
+    let both = joined(alloc, &[UPDATE, MONTH_13])?;
+    let (answer, written) = merged(alloc, &[FIRST, UPDATE])?;
+    assert_eq!(rt; answer, tally(2, 0, 1));
+    assert_eq!(rt; written.as_slice(), UPDATE);
+    for inputs in [
+        [FIRST, UPDATE, MONTH_13],
+        [MONTH_13, UPDATE, FIRST],
+        [&both, FIRST, FIRST],
+        [b"", &both, b""],
+    ] {
+        let (answer, written) = merged(alloc, inputs.as_slice())?;
+        assert_eq!(rt; answer, tally(3, 0, 2));
+        assert_eq!(rt; written.as_slice(), both.as_slice());
+    }
+    Ok(())
+}
+
+/// The first that is no archive is named, with the start of its first entry that is not right.
+#[test]
+fn archive_not_in_order(rt: HostRuntime) -> Result<(), Fail> {
+    let alloc = rt.alloc();
+    let keyed_last = joined(alloc, &[MONTH_13, UPDATE])?;
+    let same_slot = joined(alloc, &[FIRST, UPDATE])?;
+    for (inputs, input, place) in [
+        ([keyed_last.as_slice(), FIRST, EDITION_5], 1, 62),
+        ([FIRST, same_slot.as_slice(), EDITION_5], 2, 62),
+        ([FIRST, UPDATE, EDITION_5], 3, 0),
+    ] {
+        let (answer, written) = merged(alloc, inputs.as_slice())?;
+        assert_eq!(rt; answer, Err(ToolFault::NotAnArchive { input, place }));
+        assert!(rt; written.is_empty());
+    }
+    let (answer, written) = added(alloc, &[&same_slot])?;
+    assert_eq!(rt; answer, tally(2, 0, 1));
+    assert_eq!(rt; written.as_slice(), UPDATE);
+    Ok(())
+}
+
+/// An archive whose descriptors these tables do not have is refused.
+#[test]
+fn archive_of_other_tables(rt: HostRuntime) -> Result<(), Fail> {
+    let alloc = rt.alloc();
+    let d = TableD::parse(alloc, b"FXY1,FXY2\n301001,001001\n".as_slice())?;
+    let others = Tables::new(TableB::parse(alloc, TABLE_B)?, d);
+    let mut writer = IntoWrite::new(Vec::new(alloc));
+    let mut archives = readers(alloc, &[FIRST])?;
+    let answer = run_merge(alloc, 10, &others, &mut archives, &mut writer);
+    assert_eq!(rt; answer, Err(ToolFault::NotAnArchive { input: 1, place: 0 }));
+    assert!(rt; writer.into_inner().is_empty());
+    Ok(())
+}
+
+/// Three inputs, the second of which gives one octet a read and may break: the fault is told,
+/// nothing is written, and the third input is not read.
+fn stops_at_the_second(
+    rt: &impl Abort,
+    alloc: Global,
+    merging: bool,
+    reads: u64,
+    breaks: bool,
+    fault: ToolFault,
+) -> Result<(), Fail>
+    requires { reads ≤ 4294967296 }
+{
+    let tables = tables(alloc)?;
+    let mut inputs = [
+        Pieces::new(Vec::from_slice(alloc, FIRST)?, 100, false),
+        Pieces::new(Vec::from_slice(alloc, UPDATE)?, 1, breaks),
+        Pieces::new(Vec::from_slice(alloc, UPDATE)?, 100, false),
+    ];
+    let mut writer = IntoWrite::new(Vec::new(alloc));
+    let answer = if merging {
+        run_merge(alloc, reads, &tables, &mut inputs, &mut writer)
+    } else {
+        run_add(alloc, reads, &tables, &mut inputs, &mut writer)
+    };
+    assert_eq!(rt; answer, Err(fault));
+    assert!(rt; writer.into_inner().is_empty());
+    let [_, _, last] = &inputs;
+    assert_eq!(rt; last.reads, 0);
+    Ok(())
+}
+
+/// A reader that fails in the middle of the second input, and one that does not end.
+#[test]
+fn failing_and_endless_readers(rt: HostRuntime) -> Result<(), Fail> {
+    let alloc = rt.alloc();
+    for merging in [false, true] {
+        let failed = ToolFault::ReadFailed(Input::Number(2));
+        stops_at_the_second(&rt, alloc, merging, 1000, true, failed)?;
+        let endless = ToolFault::EndlessInput(Input::Number(2));
+        stops_at_the_second(&rt, alloc, merging, 30, false, endless)?;
+    }
+    Ok(())
+}
+
+/// A writer that takes so many octets, and then fails, at the flush too.
+#[derive(Debug, Drop)]
+struct Narrow {
+    taken: Vec<u8>,
+    room: usize,
+    failed: bool,
+}
+
+impl Sink for Narrow {
+    ghost writing = { λ s. record { taken = Some s.taken.items; failed = s.failed } };
+
+    fn write(&mut self, piece: &[u8]) -> Result<usize, Failed> {
+        let given = piece.len().min(self.room).min(3);
+        let is_full = given == 0 && !piece.is_empty();
+        if is_full || self.taken.extend_from_slice(&piece[..given]).is_err() {
+            self.failed = true;
+            return Err(Failed);
+        }
+        self.room -= given;
+        Ok(given)
+    }
+
+    fn flush(&mut self) -> Result<(), Failed> {
+        if self.room == 0 {
+            self.failed = true;
+            return Err(Failed);
+        }
+        Ok(())
+    }
+}
+
+#[test]
+fn failing_writer(rt: HostRuntime) -> Result<(), Fail> {
+    let alloc = rt.alloc();
+    let tables = tables(alloc)?;
+    let text = joined(alloc, &[UPDATE, MONTH_13])?;
+    for room in 0usize..125 {
+        for merging in [false, true] {
+            let mut inputs = readers(alloc, &[UPDATE, MONTH_13])?;
+            let mut writer = Narrow {
+                taken: Vec::new(alloc),
+                room,
+                failed: false,
+            };
+            let answer = if merging {
+                run_merge(alloc, 10, &tables, &mut inputs, &mut writer)
+            } else {
+                run_add(alloc, 10, &tables, &mut inputs, &mut writer)
+            };
+            let written = room as u128;
+            assert_eq!(rt;
+                answer,
+                Err(ToolFault::WriteFailed { written }),
+                "at {room}"
+            );
+            assert_eq!(rt; writer.taken.len(), room);
+            assert!(rt; text.starts_with(&writer.taken));
+        }
+    }
+    Ok(())
+}
+
+/// A thousand inputs, each an archive of one report of a station of its own.
+#[test]
+fn thousand_inputs(rt: HostRuntime) -> Result<(), Fail> {
+    let alloc = rt.alloc();
+    let mut streams = Vec::new(alloc);
+    let mut text = Vec::new(alloc);
+    for number in 0usize..1000 {
+        let mut message = Vec::from_slice(alloc, FIRST)?;
+        // The station number is the ten bits behind the seven of the block.
+        message[49] = (message[49] / 2) * 2 + (number / 512) as u8;
+        message[50] = (number / 2 % 256) as u8;
+        message[51] = (message[51] % 128) + (number % 2) as u8 * 128;
+        text.extend_from_slice(&message)?;
+        streams.push(message)?;
+    }
+    let mut inputs: Vec<&[u8]> = Vec::new(alloc);
+    for stream in streams.iter().rev() {
+        inputs.push(stream.as_slice())?;
+    }
+    let (answer, written) = added(alloc, &inputs)?;
+    assert_eq!(rt; answer, tally(1000, 0, 1000));
+    assert!(rt; written.as_slice() == text.as_slice());
+    let (answer, written) = merged(alloc, &inputs)?;
+    assert_eq!(rt; answer, tally(1000, 0, 1000));
+    assert!(rt; written.as_slice() == text.as_slice());
+    Ok(())
+}

@@ -1,0 +1,66 @@
+//! Tables, templates and subsets that several tests use.
+
+use bufr_bits::BitSink;
+use bufr_data::{Raw, Subset};
+use bufr_expand::Template;
+use bufr_tables::{Fxy, TableB, TableD, Tables};
+use std::alloc::{AllocError, Global};
+use std::test::Fail;
+
+/// Elements with their unit, scale, reference value and width.
+const TABLE_B: &[u8] = b"FXY,BUFR_Unit,BUFR_Scale,BUFR_ReferenceValue,BUFR_DataWidth_Bits
+001001,Numeric,0,0,7
+001002,Numeric,0,0,10
+001011,CCITT IA5,0,0,72
+002001,Code table,0,0,2
+004001,a,0,0,12
+004002,mon,0,0,4
+004003,d,0,0,6
+004004,h,0,0,5
+004005,min,0,0,6
+012101,K,2,0,16
+031000,Numeric,0,0,1
+031001,Numeric,0,0,8
+";
+
+const TABLE_D: &[u8] = b"FXY1,FXY2
+301001,001001
+301001,001002
+301011,004001
+301011,004002
+301011,004003
+301012,004004
+301012,004005
+";
+
+/// The template of descriptors.
+pub(crate) fn template(alloc: Global, list: &[(u8, u8, u8)]) -> Result<Template, Fail> {
+    let tables = Tables::new(
+        TableB::parse(alloc, TABLE_B)?,
+        TableD::parse(alloc, TABLE_D)?,
+    );
+    let mut descriptors = Vec::new(alloc);
+    for (f, x, y) in list {
+        let fxy = Fxy::new(*f, *x, *y).ok_or("no descriptor")?;
+        descriptors.push(fxy)?;
+    }
+    Ok(Template::build(alloc, &tables, descriptors.as_slice())?)
+}
+
+/// The raw numbers of a subset, 0 for a text.
+pub(crate) fn numbers(alloc: Global, subset: &Subset) -> Result<Vec<u64>, AllocError> {
+    let mut numbers = Vec::new(alloc);
+    for field in subset.fields.as_slice() {
+        match &field.raw {
+            Raw::Number(number) => numbers.push(*number)?,
+            Raw::Text(_) => numbers.push(0)?,
+        }
+    }
+    Ok(numbers)
+}
+
+/// The octets of bits, the last filled with zero bits.
+pub(crate) fn octets_of(mut sink: BitSink) -> Vec<u8> {
+    sink.fill_octet();
+    sink.into_bytes()
+}

@@ -1,0 +1,494 @@
+//! Listings that are read.
+
+use super::samples::{HEAD, SEQUENCES_LISTED, tables};
+use bufr_listing::{ListingFault, read, text_of};
+use bufr_tables::Failure;
+use std::alloc::Global;
+use std::process::Abort;
+use std::test::Fail;
+
+/// The joined listings of the messages that a text lists, or its fault.
+pub(super) fn listed_again(alloc: Global, text: &str) -> Result<String, Fail> {
+    match read(alloc, &tables(alloc)?, text.as_bytes()) {
+        Ok(messages) => {
+            let mut all = Vec::new(alloc);
+            for message in &messages {
+                all.extend_from_slice(&text_of(alloc, message)?)?;
+            }
+            Ok(String::from_utf8(all)?)
+        }
+        Err(fault) => Ok(fault.to_string(alloc)?),
+    }
+}
+
+/// A text is read, and its messages are listed so, or it is refused so.
+pub(super) fn assert_read(
+    rt: &impl Abort,
+    alloc: Global,
+    text: &str,
+    wanted: &str,
+) -> Result<(), Fail> {
+    assert_eq!(rt; listed_again(alloc, text)?.as_str(), wanted, "at {text}");
+    Ok(())
+}
+
+/// The head of a message and these lines.
+pub(super) fn behind_head(alloc: Global, lines: &str) -> Result<String, Fail> {
+    let mut text = String::new(alloc);
+    text.push_str(HEAD)?;
+    text.push_str(lines)?;
+    Ok(text)
+}
+
+/// The same lines behind the head are read as themselves, or refused so.
+pub(super) fn assert_behind(
+    rt: &impl Abort,
+    alloc: Global,
+    lines: &str,
+    fault: &str,
+) -> Result<(), Fail> {
+    let text = behind_head(alloc, lines)?;
+    let wanted = if fault.is_empty() {
+        text.as_str()
+    } else {
+        fault
+    };
+    assert_read(rt, alloc, text.as_str(), wanted)
+}
+
+#[test]
+fn listing_faults(rt: HostRuntime) -> Result<(), Fail> {
+    let alloc = rt.alloc();
+    assert_read(&rt, alloc, SEQUENCES_LISTED, SEQUENCES_LISTED)?;
+    let without_end = SEQUENCES_LISTED.replacen(alloc, "end\n", "", 1)?;
+    assert_read(&rt, alloc, without_end.as_str(), "L1 BadLine 15")?;
+    assert_behind(
+        &rt,
+        alloc,
+        "descriptors 001250\n",
+        "L3 Refused 5 X1 UnknownElement 001250",
+    )?;
+    let large = SEQUENCES_LISTED.replacen(alloc, "273.15", "655.35", 1)?;
+    assert_read(&rt, alloc, large.as_str(), "L2 BadValue 14")?;
+    let short = SEQUENCES_LISTED.replacen(alloc, "273.15", "273.1", 1)?;
+    assert_read(&rt, alloc, short.as_str(), "L2 BadValue 14")?;
+    let missing = SEQUENCES_LISTED.replacen(alloc, "273.15", "missing", 1)?;
+    assert_read(&rt, alloc, missing.as_str(), missing.as_str())
+}
+
+#[test]
+fn listing_spelling_and_empty(rt: HostRuntime) -> Result<(), Fail> {
+    let alloc = rt.alloc();
+    let lower = "descriptors 208004 001011\nsubset\n001011 \"A\\22\\5c\\0a\"\nend\n";
+    assert_behind(&rt, alloc, lower, "")?;
+    let upper = "descriptors 208004 001011\nsubset\n001011 \"A\\22\\5C\\0a\"\nend\n";
+    assert_behind(&rt, alloc, upper, "L2 BadValue 7")?;
+    assert_read(&rt, alloc, "", "")?;
+    assert_read(&rt, alloc, "# nothing\n\n\r\n", "")
+}
+
+#[test]
+fn ends_of_lines_comments_and_blocks(rt: HostRuntime) -> Result<(), Fail> {
+    let alloc = rt.alloc();
+    let wanted =
+        "message\nsection1 1 2 3 4 5 6 7 8\ntime 9 10 11 12 13 14\nlocal1 abcdef\nsection2\nflags compressed\ndescriptors 001001\nsubset\n001001 10\nsubset\n001001 missing\nend\n";
+    let text =
+        "# a comment\nmessage\r\n\nsection1 1 2 3 4 5 6 7 8\r\n#\ntime 9 10 11 12 13 14\nlocal1 ABcdEF\nsection2\n\nflags compressed\ndescriptors 001001\r\nsubset\n001001 10\n# between\nsubset\n001001 missing\n\r\nend";
+    assert_read(&rt, alloc, text, wanted)?;
+    let cut =
+        "message\nsection1 1 2 3 4 5 6 7 8\ntime 9 10 11 12 13 14\nflags\ndescriptors 001001\nend\r";
+    assert_read(&rt, alloc, cut, "L1 BadLine 6")?;
+    let twice = "message\nsection1 1 2 3 4 5 6 7 8\ntime 9 10 11 12 13 14\nflags\r\r\n";
+    assert_read(&rt, alloc, twice, "L1 BadLine 4")?;
+    let blocks =
+        "message\nsection1 1 2 3 4 5 6 7 8\ntime 9 10 11 12 13 14\nflags\ndescriptors 001001\nend\nmessage\nsection1 1 2 3 4 5 6 7 8\ntime 9 10 11 12 13 14\nflags\ndescriptors 001002\nend\n";
+    assert_read(&rt, alloc, blocks, blocks)
+}
+
+#[test]
+fn lines_of_the_head(rt: HostRuntime) -> Result<(), Fail> {
+    let alloc = rt.alloc();
+    for (text, fault) in [
+        ("mesage\n", "L1 BadLine 1"),
+        ("message \n", "L1 BadLine 1"),
+        ("\n\nx", "L1 BadLine 3"),
+        ("message\n", "L1 BadLine 2"),
+        ("message\n\n# x\n", "L1 BadLine 4"),
+        ("message\nsection1 1 2 3 4 5 6 7\n", "L1 BadLine 2"),
+        ("message\nsection1 1 2 3 4 5 6 7 8 9\n", "L1 BadLine 2"),
+        ("message\nsection1 65536 2 3 4 5 6 7 8\n", "L2 BadValue 2"),
+        (
+            "message\nsection1 65535 65535 255 255 255 255 255 255\n",
+            "L1 BadLine 3",
+        ),
+        ("message\nsection1 1 2 256 4 5 6 7 8\n", "L2 BadValue 2"),
+        ("message\nsection1 1 2 3 4 5 6 7 256\n", "L2 BadValue 2"),
+        ("message\nsection1 01 2 3 4 5 6 7 8\n", "L2 BadValue 2"),
+        ("message\nsection1 1 2 3 4 5 6 7 -0\n", "L2 BadValue 2"),
+        ("message\nsection1 1 2 3 4 5 6  8\n", "L2 BadValue 2"),
+        (
+            "message\nsection1 1 2 3 4 5 6 7 8\ntime 65536 1 1 1 1 1\n",
+            "L2 BadValue 3",
+        ),
+        (
+            "message\nsection1 1 2 3 4 5 6 7 8\ntime 2024 1 1 1 1 256\n",
+            "L2 BadValue 3",
+        ),
+        (
+            "message\nsection1 1 2 3 4 5 6 7 8\ntime 2024 1 1 1 1\n",
+            "L1 BadLine 3",
+        ),
+    ] {
+        assert_read(&rt, alloc, text, fault)?;
+    }
+    Ok(())
+}
+
+/// The lines behind the first two of a head are refused so.
+fn assert_third(rt: &impl Abort, alloc: Global, lines: &str, fault: &str) -> Result<(), Fail> {
+    let mut text = String::new(alloc);
+    text.push_str("message\nsection1 1 2 3 4 5 6 7 8\ntime 9 10 11 12 13 14\n")?;
+    text.push_str(lines)?;
+    assert_read(rt, alloc, text.as_str(), fault)
+}
+
+#[test]
+fn lines_of_octets_flags_and_descriptors(rt: HostRuntime) -> Result<(), Fail> {
+    let alloc = rt.alloc();
+    for (lines, fault) in [
+        ("local1\n", "L1 BadLine 4"),
+        ("local1 \n", "L2 BadValue 4"),
+        ("local1 a\n", "L2 BadValue 4"),
+        ("local1 ag\n", "L2 BadValue 4"),
+        ("local1 ab cd\n", "L1 BadLine 4"),
+        ("local1 ab\nlocal1 ab\n", "L1 BadLine 5"),
+        ("section2 \n", "L2 BadValue 4"),
+        ("section2 0\n", "L2 BadValue 4"),
+        ("section2 00 00\n", "L1 BadLine 4"),
+        ("section2 00\nlocal1 00\n", "L1 BadLine 5"),
+        ("flags \n", "L2 BadValue 4"),
+        ("flags compressed observed\n", "L2 BadValue 4"),
+        ("flags observed observed\n", "L2 BadValue 4"),
+        ("flags obs\n", "L2 BadValue 4"),
+        ("flags observed compressed x\n", "L1 BadLine 4"),
+        ("flagsx\n", "L1 BadLine 4"),
+        ("flags\ndescriptors\n", "L1 BadLine 5"),
+        ("flags\ndescriptors \n", "L1 BadLine 5"),
+        ("flags\ndescriptors 001001 \n", "L1 BadLine 5"),
+        ("flags\ndescriptors 001001  001002\n", "L1 BadLine 5"),
+        ("flags\ndescriptors 01001\n", "L1 BadLine 5"),
+        ("flags\ndescriptors 401001\n", "L1 BadLine 5"),
+        ("flags\ndescriptors 001250 x\n", "L1 BadLine 5"),
+        (
+            "flags\ndescriptors 302001\n",
+            "L3 Refused 5 X2 UnknownSequence 302001",
+        ),
+        ("flags\ndescriptors 001001\n", "L1 BadLine 6"),
+        ("flags\ndescriptors 001001\nEND\n", "L1 BadLine 6"),
+        ("flags\ndescriptors 001001\nsubset\n", "L1 BadLine 7"),
+    ] {
+        assert_third(&rt, alloc, lines, fault)?;
+    }
+    Ok(())
+}
+
+/// A line has the field's descriptor, one space and its value, and there are as many as the tree
+/// asks for.
+#[test]
+fn lines_of_fields(rt: HostRuntime) -> Result<(), Fail> {
+    let alloc = rt.alloc();
+    for (lines, fault) in [
+        ("descriptors 001001\nsubset\n001001\n", "L1 BadLine 7"),
+        ("descriptors 001001\nsubset\n001002 1\n", "L1 BadLine 7"),
+        ("descriptors 001001\nsubset\n001001 \n", "L2 BadValue 7"),
+        ("descriptors 001001\nsubset\n001001  1\n", "L2 BadValue 7"),
+        ("descriptors 001001\nsubset\n001001 1 \n", "L2 BadValue 7"),
+        ("descriptors 001001\nsubset\n001001 126\nend\n", ""),
+        (
+            "descriptors 001001\nsubset\n001001 127\nend\n",
+            "L2 BadValue 7",
+        ),
+        (
+            "descriptors 001001\nsubset\n001001 128\nend\n",
+            "L2 BadValue 7",
+        ),
+        (
+            "descriptors 001001\nsubset\n001001 1\nsubset\n001001 2\nend\n",
+            "",
+        ),
+        (
+            "descriptors 001001\nsubset\n001001 1\n001001 2\n",
+            "L1 BadLine 8",
+        ),
+        ("descriptors 001001\nsubset\nend\n", "L1 BadLine 7"),
+        (
+            "descriptors 001001\nsubset\n001001 1\nend\nx",
+            "L1 BadLine 9",
+        ),
+    ] {
+        assert_behind(&rt, alloc, lines, fault)?;
+    }
+    Ok(())
+}
+
+/// The greatest number of 63 bits is missing, and no greater one can be read.
+#[test]
+fn lines_of_large_numbers(rt: HostRuntime) -> Result<(), Fail> {
+    let alloc = rt.alloc();
+    for (lines, fault) in [
+        (
+            "descriptors 048001\nsubset\n048001 9223372036854775806\nend\n",
+            "",
+        ),
+        (
+            "descriptors 048001\nsubset\n048001 9223372036854775807\nend\n",
+            "L2 BadValue 7",
+        ),
+        (
+            "descriptors 048001\nsubset\n048001 9223372036854775808\nend\n",
+            "L2 BadValue 7",
+        ),
+        (
+            "descriptors 048001\nsubset\n048001 999999999999999999999999999999999999999999\n",
+            "L2 BadValue 7",
+        ),
+    ] {
+        assert_behind(&rt, alloc, lines, fault)?;
+    }
+    Ok(())
+}
+
+/// Numbers at both ends of their ranges, by reference and by scale.
+#[test]
+fn lines_of_references(rt: HostRuntime) -> Result<(), Fail> {
+    let alloc = rt.alloc();
+    for (lines, fault) in [
+        ("descriptors 007001\nsubset\n007001 -400\nend\n", ""),
+        (
+            "descriptors 007001\nsubset\n007001 -401\nend\n",
+            "L2 BadValue 7",
+        ),
+        ("descriptors 007001\nsubset\n007001 32366\nend\n", ""),
+        (
+            "descriptors 007001\nsubset\n007001 32367\nend\n",
+            "L2 BadValue 7",
+        ),
+        ("descriptors 005002\nsubset\n005002 -0.01\nend\n", ""),
+        (
+            "descriptors 005002\nsubset\n005002 -0.00\nend\n",
+            "L2 BadValue 7",
+        ),
+        (
+            "descriptors 005002\nsubset\n005002 .00\nend\n",
+            "L2 BadValue 7",
+        ),
+        ("descriptors 010004\nsubset\n010004 101320\nend\n", ""),
+        (
+            "descriptors 010004\nsubset\n010004 101321\nend\n",
+            "L2 BadValue 7",
+        ),
+        ("descriptors 010004\nsubset\n010004 0\nend\n", ""),
+        (
+            "descriptors 010004\nsubset\n010004 00\nend\n",
+            "L2 BadValue 7",
+        ),
+    ] {
+        assert_behind(&rt, alloc, lines, fault)?;
+    }
+    Ok(())
+}
+
+/// A count that is never missing, and the fields that stand as often as it says.
+#[test]
+fn lines_of_counts(rt: HostRuntime) -> Result<(), Fail> {
+    let alloc = rt.alloc();
+    for (lines, fault) in [
+        ("descriptors 031000\nsubset\n031000 1\nend\n", ""),
+        (
+            "descriptors 031000\nsubset\n031000 missing\nend\n",
+            "L2 BadValue 7",
+        ),
+        (
+            "descriptors 101000 031001 001001\nsubset\n031001 0\nend\n",
+            "",
+        ),
+        (
+            "descriptors 101000 031001 001001\nsubset\n031001 missing\n",
+            "L2 BadValue 7",
+        ),
+        (
+            "descriptors 101000 031001 001001\nsubset\n031001 2\n001001 1\n001001 2\nend\n",
+            "",
+        ),
+        (
+            "descriptors 101000 031001 001001\nsubset\n031001 2\n001001 1\nend\n",
+            "L1 BadLine 9",
+        ),
+    ] {
+        assert_behind(&rt, alloc, lines, fault)?;
+    }
+    Ok(())
+}
+
+/// An element of a width of its own, and one whose width and scale are changed.
+#[test]
+fn lines_under_operators(rt: HostRuntime) -> Result<(), Fail> {
+    let alloc = rt.alloc();
+    for (lines, fault) in [
+        ("descriptors 206012 001250\nsubset\n001250 5\nend\n", ""),
+        (
+            "descriptors 201130 202129 012101 201000 202000 012101\nsubset\n012101 250.000\n012101 273.15\nend\n",
+            "",
+        ),
+    ] {
+        assert_behind(&rt, alloc, lines, fault)?;
+    }
+    Ok(())
+}
+
+#[test]
+fn walks_that_stop(rt: HostRuntime) -> Result<(), Fail> {
+    let alloc = rt.alloc();
+    for (lines, fault) in [
+        (
+            "descriptors 001001 012250\nsubset\n001001 1\nx",
+            "L3 Refused 8 V1 EffectiveRange 012250",
+        ),
+        (
+            "descriptors 001001 012250\nsubset\n001001 1\n# x\n\nend\n",
+            "L3 Refused 10 V1 EffectiveRange 012250",
+        ),
+        (
+            "descriptors 001001 012250\nsubset\n001001 1\n",
+            "L1 BadLine 8",
+        ),
+        (
+            "descriptors 001001 012250\nsubset\n001001 200\n",
+            "L2 BadValue 7",
+        ),
+        (
+            "descriptors 105255 104255 103255 102255 101255 201000\nsubset\n\n\n#\nx",
+            "L3 Refused 10 V6 TooLarge",
+        ),
+    ] {
+        assert_behind(&rt, alloc, lines, fault)?;
+    }
+    Ok(())
+}
+
+/// One character between quotes, and a text that is missing.
+#[test]
+fn texts_between_quotes(rt: HostRuntime) -> Result<(), Fail> {
+    let alloc = rt.alloc();
+    for (lines, fault) in [
+        ("descriptors 208001 001011\nsubset\n001011 \"a\"\nend\n", ""),
+        (
+            "descriptors 208001 001011\nsubset\n001011 missing\nend\n",
+            "",
+        ),
+        (
+            "descriptors 208001 001011\nsubset\n001011 \"\"\nend\n",
+            "L2 BadValue 7",
+        ),
+        (
+            "descriptors 208001 001011\nsubset\n001011 \"ab\"\nend\n",
+            "L2 BadValue 7",
+        ),
+        (
+            "descriptors 208001 001011\nsubset\n001011 \"a\nend\n",
+            "L2 BadValue 7",
+        ),
+        (
+            "descriptors 208001 001011\nsubset\n001011 a\nend\n",
+            "L2 BadValue 7",
+        ),
+        (
+            "descriptors 208001 001011\nsubset\n001011 \"a\" \nend\n",
+            "L2 BadValue 7",
+        ),
+    ] {
+        assert_behind(&rt, alloc, lines, fault)?;
+    }
+    Ok(())
+}
+
+/// A character is escaped exactly where it does not stand for itself.
+#[test]
+fn texts_of_escapes(rt: HostRuntime) -> Result<(), Fail> {
+    let alloc = rt.alloc();
+    for (lines, fault) in [
+        (
+            "descriptors 208001 001011\nsubset\n001011 \"\\ff\"\nend\n",
+            "L2 BadValue 7",
+        ),
+        (
+            "descriptors 208001 001011\nsubset\n001011 \"\\61\"\nend\n",
+            "L2 BadValue 7",
+        ),
+        (
+            "descriptors 208001 001011\nsubset\n001011 \"\\\"\nend\n",
+            "L2 BadValue 7",
+        ),
+        (
+            "descriptors 208001 001011\nsubset\n001011 \"\t\"\nend\n",
+            "L2 BadValue 7",
+        ),
+        (
+            "descriptors 208002 001011\nsubset\n001011 \"  \"\nend\n",
+            "",
+        ),
+        (
+            "descriptors 208002 001011\nsubset\n001011 \"\\ff\\fe\"\nend\n",
+            "",
+        ),
+    ] {
+        assert_behind(&rt, alloc, lines, fault)?;
+    }
+    Ok(())
+}
+
+/// One character: itself where it can be printed, else its digits.
+fn push_character(alloc: Global, text: &mut String, octet: u8) -> Result<(), Fail> {
+    if octet >= 0x20 && octet <= 0x7E && octet != 0x22 && octet != 0x5C {
+        text.push(octet as char)?;
+    } else {
+        let digits = hex::encode(alloc, [octet].as_slice())?;
+        text.push_str("\\")?;
+        text.push_str(digits.as_str())?;
+    }
+    Ok(())
+}
+
+#[test]
+fn texts_of_every_octet(rt: HostRuntime) -> Result<(), Fail> {
+    let alloc = rt.alloc();
+    let mut lines = String::new(alloc);
+    lines.push_str("descriptors 205255\nsubset\n205255 \"")?;
+    for octet in 0..255u8 {
+        push_character(alloc, &mut lines, octet)?;
+    }
+    lines.push_str("\"\nend\n")?;
+    assert_behind(&rt, alloc, lines.as_str(), "")
+}
+
+#[test]
+fn a_thousand_subsets(rt: HostRuntime) -> Result<(), Fail> {
+    let alloc = rt.alloc();
+    let mut lines = String::new(alloc);
+    lines.push_str("descriptors 012101 001001\n")?;
+    for n in 0..1000u32 {
+        let (kelvins, rest, block) = (n / 100, n % 100 / 10, n % 127);
+        write!(lines, "subset\n012101 {kelvins}.{rest}7\n001001 {block}\n")?;
+    }
+    lines.push_str("end\n")?;
+    let wanted = lines.replacen(alloc, "001001 127", "001001 missing", 1)?;
+    assert_behind(&rt, alloc, wanted.as_str(), "")
+}
+
+#[test]
+fn first_faults_as_values(rt: HostRuntime) -> Result<(), Fail> {
+    let alloc = rt.alloc();
+    let answer = read(alloc, &tables(alloc)?, b"messag\n");
+    assert!(rt; matches!(answer, Err(Failure::Fault(ListingFault::BadLine(1)))));
+    Ok(())
+}

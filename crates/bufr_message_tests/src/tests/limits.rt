@@ -1,0 +1,166 @@
+//! Messages at the limits of nodes, levels and items, and long ones. Octets and answers are typed
+//! from the rules of the format.
+
+use super::samples::{octets, tables, tables_of};
+use bufr_data::Raw;
+use bufr_message::{decode, encode};
+use bufr_tables::Tables;
+use std::alloc::Global;
+use std::test::Fail;
+
+/// The octets of a message: its front, so many zero octets of data, and section 5.
+fn with_zeros(alloc: Global, front: &str, zeros: usize) -> Result<Vec<u8>, Fail> {
+    let mut all = octets(alloc, front)?;
+    for _ in 0..zeros {
+        all.push(0)?;
+    }
+    all.extend_from_slice(b"7777")?;
+    Ok(all)
+}
+
+/// How a message with so many zero octets of data is read: how many fields its first subset has, or
+/// why it is refused.
+fn outcome(alloc: Global, tables: &Tables, front: &str, zeros: usize) -> Result<String, Fail> {
+    match decode(alloc, tables, with_zeros(alloc, front, zeros)?.as_slice()) {
+        Ok(found) => {
+            let fields = found.message.subsets.get(0).ok_or("subset")?.fields.len();
+            Ok(format!(in alloc; "{fields} fields")?)
+        }
+        Err(failure) => Ok(format!(in alloc; "{failure}")?),
+    }
+}
+
+/// Each of 301201 to 301215 holds the next descriptor twice, and 301216 holds 031000 twice.
+const DOUBLING: &str = "\
+FXY1,FXY2
+301201,301202
+301201,301202
+301202,301203
+301202,301203
+301203,301204
+301203,301204
+301204,301205
+301204,301205
+301205,301206
+301205,301206
+301206,301207
+301206,301207
+301207,301208
+301207,301208
+301208,301209
+301208,301209
+301209,301210
+301209,301210
+301210,301211
+301210,301211
+301211,301212
+301211,301212
+301212,301213
+301212,301213
+301213,301214
+301213,301214
+301214,301215
+301214,301215
+301215,301216
+301215,301216
+301216,031000
+301216,031000
+";
+
+#[test]
+fn node_limit(rt: HostRuntime) -> Result<(), Fail> {
+    let alloc = rt.alloc();
+    let tables = tables_of(alloc, DOUBLING)?;
+    let front = "42554652 00202F 04 | S1 | 000009 00 0001 80 C1C9 | 002004 00";
+    let full = outcome(alloc, &tables, front, 8192)?;
+    assert_eq!(rt; full.as_str(), "65536 fields");
+    let front = "42554652 000031 04 | S1 | 00000B 00 0001 80 C1C9 1F00 | 000004 00";
+    let passed = outcome(alloc, &tables, front, 0)?;
+    assert_eq!(rt; passed.as_str(), "X9 TooManyNodes");
+    Ok(())
+}
+
+#[test]
+fn nesting_limit(rt: HostRuntime) -> Result<(), Fail> {
+    let alloc = rt.alloc();
+    let tables = tables(alloc)?;
+    let front = "\
+42554652 02004F 04 | S1 | 000029 00 0001 80 5002 4F02 4E02 4D02 4C02 4B02 4A02 4902 4802
+4702 4602 4502 4402 4302 4202 4102 0C65 | 020004 00";
+    let full = outcome(alloc, &tables, front, 131_072)?;
+    assert_eq!(rt; full.as_str(), "65536 fields");
+    let front = "\
+42554652 000051 04 | S1 | 00002B 00 0001 80 5102 5002 4F02 4E02 4D02 4C02 4B02 4A02 4902
+4802 4702 4602 4502 4402 4302 4202 4102 0C65 | 000004 00";
+    let passed = outcome(alloc, &tables, front, 0)?;
+    assert_eq!(rt; passed.as_str(), "X8 TooDeep");
+    Ok(())
+}
+
+#[test]
+fn item_limit(rt: HostRuntime) -> Result<(), Fail> {
+    let alloc = rt.alloc();
+    let front = "\
+42554652 02004F 04 | S1 | 000029 00 0001 80 50FF 4FFF 4EFF 4D01 4C01 4B01 4A01 4901 4801
+4701 4601 4501 4401 4301 4201 4101 1F00 | 020004 00";
+    let passed = outcome(alloc, &tables(alloc)?, front, 131_072)?;
+    assert_eq!(rt; passed.as_str(), "V6 TooLarge");
+    Ok(())
+}
+
+#[test]
+fn item_and_product_limits(rt: HostRuntime) -> Result<(), Fail> {
+    let alloc = rt.alloc();
+    let front =
+        "42554652 000039 04 | S1 | 000013 00 0001 80 45FF 44FF 43FF 42FF 41FF 8100 | 000004 00";
+    let passed = outcome(alloc, &tables(alloc)?, front, 0)?;
+    assert_eq!(rt; passed.as_str(), "V6 TooLarge");
+    Ok(())
+}
+
+#[test]
+fn delayed_counts(rt: HostRuntime) -> Result<(), Fail> {
+    let alloc = rt.alloc();
+    let front = "42554652 000232 04 | S1 | 00000D 00 0001 80 4100 1F01 0C65 | 000203 00 FF";
+    let mut all = octets(alloc, front)?;
+    for _ in 0..255 {
+        all.extend_from_slice(&[0x6A, 0xB3])?;
+    }
+    all.extend_from_slice(b"7777")?;
+    let found = decode(alloc, &tables(alloc)?, all.as_slice())?;
+    assert_eq!(rt; found.slack_octets, 0);
+    let fields = &found.message.subsets.get(0).ok_or("subset")?.fields;
+    assert_eq!(rt; fields.len(), 256);
+    let count = fields.get(0).ok_or("count")?;
+    assert!(rt; count.raw == Raw::Number(255));
+    assert!(rt; !count.is_missing());
+    let last = fields.get(255).ok_or("field")?;
+    assert!(rt; last.raw == Raw::Number(27315));
+    Ok(())
+}
+
+/// The front of a message of 5,000 subsets of one text of 255 characters each: 1,275,047 octets.
+const LONG_FRONT: &str = "42554652 1374A7 04 | S1 | 000009 00 1388 80 85FF | 13747C 00";
+
+#[test]
+fn long_message(rt: HostRuntime) -> Result<(), Fail> {
+    let alloc = rt.alloc();
+    let tables = tables(alloc)?;
+    let mut all = octets(alloc, LONG_FRONT)?;
+    for _ in 0..1_275_000 {
+        all.push(b'A')?;
+    }
+    all.extend_from_slice(b"7777")?;
+    let found = decode(alloc, &tables, all.as_slice())?;
+    assert_eq!(rt; found.slack_octets, 0);
+    assert_eq!(rt; found.message.subsets.len(), 5000);
+    let last = &found.message.subsets.get(4999).ok_or("subset")?.fields;
+    let Raw::Text(text) = &last.get(0).ok_or("field")?.raw else {
+        return Err("a text")?;
+    };
+    assert_eq!(rt; text.len(), 255);
+    assert_eq!(rt; text.get(254), Some(&b'A'));
+    let written = encode(alloc, &tables, &found.message)?;
+    assert_eq!(rt; written.as_slice(), all.as_slice());
+    Ok(())
+}

@@ -1,0 +1,52 @@
+//! Listings of views, one subset at a time. Octets and lines are typed from the rules of the
+//! format.
+
+use super::samples::*;
+use bufr_message::listing::{end_text, heading_of_view, subset_of_view, text_of};
+use bufr_message::{decode, view};
+use std::alloc::Global;
+use std::process::Abort;
+use std::test::Fail;
+
+/// Texts of three characters, compressed, the second missing.
+const COMPRESSED_TEXTS_LISTED: &str = "\
+message
+section1 98 0 0 0 2 0 37 0
+time 2024 1 15 12 0 0
+flags observed compressed
+descriptors 208003 001011
+subset
+001011 \"AB \"
+subset
+001011 missing
+end
+";
+
+/// The parts of the listing of a view, joined.
+fn joined(alloc: Global, text: &str) -> Result<Vec<u8>, Fail> {
+    let all = octets(alloc, text)?;
+    let found = view(alloc, &tables(alloc)?, all.as_slice())?;
+    let mut listing = heading_of_view(alloc, &found)?;
+    for index in 0..found.count() {
+        listing.extend_from_slice(subset_of_view(alloc, &found, index + 1)?.as_slice())?;
+    }
+    listing.extend_from_slice(end_text())?;
+    Ok(listing)
+}
+
+/// The parts are, joined, the listing of the message.
+fn assert_joined(rt: &impl Abort, alloc: Global, text: &str) -> Result<(), Fail> {
+    let decoded = decode(alloc, &tables(alloc)?, octets(alloc, text)?.as_slice())?;
+    let wanted = text_of(alloc, &decoded.message)?;
+    assert_eq!(rt; joined(alloc, text)?.as_slice(), wanted.as_slice());
+    Ok(())
+}
+
+#[test]
+fn views_listed_subset_by_subset(rt: HostRuntime) -> Result<(), Fail> {
+    let listing = joined(rt.alloc(), COMPRESSED_TEXTS)?;
+    assert_eq!(rt; listing.as_slice(), COMPRESSED_TEXTS_LISTED.as_bytes());
+    assert_joined(&rt, rt.alloc(), UNEQUAL_COUNTS)?;
+    assert_joined(&rt, rt.alloc(), NO_SUBSETS)?;
+    assert_joined(&rt, rt.alloc(), LOCAL_OCTETS_AND_SLACK)
+}

@@ -1,0 +1,103 @@
+//! Views: their reports in any order, what they tell, and why they are refused. Octets and answers
+//! are typed from the rules of the format.
+
+use super::samples::*;
+use bufr_message::{View, canonical_of_read, view};
+use std::alloc::Global;
+use std::process::Abort;
+use std::test::Fail;
+
+/// The report of this number has this canonical message.
+fn assert_own(
+    rt: &impl Abort,
+    alloc: Global,
+    found: &View<'_>,
+    number: usize,
+    wanted: &str,
+) -> Result<(), Fail> {
+    if number == 0 || found.count() < number {
+        return Err("number")?;
+    }
+    let report = found.report(alloc, number)?;
+    let own = canonical_of_read(alloc, &report)?.ok_or("octets")?;
+    assert_eq!(rt; own.as_slice(), octets(alloc, wanted)?.as_slice());
+    Ok(())
+}
+
+/// The two reports of a message, asked for in any order and twice, have these canonical messages.
+fn assert_in_any_order(
+    rt: &impl Abort,
+    alloc: Global,
+    text: &str,
+    first: &str,
+    second: &str,
+) -> Result<(), Fail> {
+    let all = octets(alloc, text)?;
+    let found = view(alloc, &tables(alloc)?, all.as_slice())?;
+    assert_own(rt, alloc, &found, 2, second)?;
+    assert_own(rt, alloc, &found, 1, first)?;
+    assert_own(rt, alloc, &found, 1, first)?;
+    assert_own(rt, alloc, &found, 2, second)
+}
+
+#[test]
+fn view_in_any_order(rt: HostRuntime) -> Result<(), Fail> {
+    let alloc = rt.alloc();
+    assert_in_any_order(&rt, alloc, COMPRESSED_PAIR, SEQUENCES, MISSING_TEMPERATURE)?;
+    assert_in_any_order(&rt, alloc, UNEQUAL_COUNTS, DELAYED_COUNT_0, DELAYED_COUNT_1)
+}
+
+/// A view of octets tells so many subsets and so much slack.
+fn assert_told(
+    rt: &impl Abort,
+    alloc: Global,
+    text: &str,
+    count: usize,
+    slack: u64,
+) -> Result<(), Fail> {
+    let all = octets(alloc, text)?;
+    let found = view(alloc, &tables(alloc)?, all.as_slice())?;
+    assert_eq!(rt; found.count(), count);
+    assert_eq!(rt; found.slack(), slack);
+    Ok(())
+}
+
+#[test]
+fn counts_and_slacks(rt: HostRuntime) -> Result<(), Fail> {
+    assert_told(&rt, rt.alloc(), LOCAL_OCTETS_AND_SLACK, 1, 2)?;
+    assert_told(&rt, rt.alloc(), NO_SUBSETS_AND_SLACK, 0, 9)?;
+    assert_told(&rt, rt.alloc(), UNEQUAL_COUNTS, 2, 0)?;
+    assert_told(&rt, rt.alloc(), COMPRESSED_PAIR, 2, 0)
+}
+
+/// Octets are refused for this reason.
+fn assert_refused(rt: &impl Abort, alloc: Global, text: &str, wanted: &str) -> Result<(), Fail> {
+    match view(alloc, &tables(alloc)?, octets(alloc, text)?.as_slice()) {
+        Ok(_found) => Err("viewed")?,
+        Err(failure) => {
+            let reason = format!(in alloc; "{failure}")?;
+            assert_eq!(rt; reason.as_str(), wanted);
+            Ok(())
+        }
+    }
+}
+
+/// No descriptor.
+const NO_DESCRIPTOR: &str = "42554652 00002E 04 | S1 | 000008 00 0001 80 00 | 000004 00 | END";
+
+/// An element of no table, with no data.
+const UNKNOWN: &str = "42554652 000031 04 | S1 | 00000B 00 0001 80 0C65 01FA | 000004 00 | END";
+
+/// The data of the second of two plain subsets are not there.
+const DATA_END: &str = "42554652 000031 04 | S1 | 000009 00 0002 80 0C65 | 000006 00 6AB3 | END";
+
+/// Compressed, an increment with which the first value passes two bits.
+const INCREMENT: &str = "42554652 000031 04 | S1 | 000009 00 0002 C0 0201 | 000006 00 8280 | END";
+
+#[test]
+fn refused_as_messages(rt: HostRuntime) -> Result<(), Fail> {
+    assert_refused(&rt, rt.alloc(), NO_DESCRIPTOR, "M8 Section3Length")?;
+    assert_refused(&rt, rt.alloc(), UNKNOWN, "X1 UnknownElement 001250")?;
+    assert_refused(&rt, rt.alloc(), DATA_END, "V2 DataEnds 2 1")?;
+    assert_refused(&rt, rt.alloc(), INCREMENT, "V4 IncrementRange 1 1")
+}

@@ -1,0 +1,279 @@
+//! Sections that are read, written and refused. Octets and answers are typed from the rules of the
+//! format.
+
+use bufr_sections::{Head, Parts, read_sections, spell};
+use bufr_tables::{Fxy, Items};
+use std::alloc::Global;
+use std::process::Abort;
+use std::test::Fail;
+
+/// Sections of edition 4 in which all numbers differ, and a section 2.
+const EDITION_4: &str = "\
+42554652 00003B 04
+000018 00 0102 0304 05 80 06 07 08 09 0A 0B0C 0D 0E 0F 10 11 1213
+000005 00 14
+00000B 00 1516 80 1718 191A
+000007 00 1B1C1D
+37373737";
+
+/// The same with ones in all that is ignored, and an odd octet in section 3.
+const EDITION_4_FILLED: &str = "\
+42554652 00003C 04
+000018 00 0102 0304 05 FF 06 07 08 09 0A 0B0C 0D 0E 0F 10 11 1213
+000005 FF 14
+00000C FF 1516 BF 1718 191A FF
+000007 FF 1B1C1D
+37373737";
+
+/// Sections of edition 3 in which all numbers differ.
+const EDITION_3: &str = "\
+42554652 00002B 03
+000012 00 01 02 03 7F 04 05 06 07 08 09 0A 0B 0C 0D
+000009 00 0001 80 1718
+000004 00
+37373737";
+
+/// The octets that hexadecimal digits are, spaces between them.
+fn octets(alloc: Global, text: &str) -> Result<Vec<u8>, Fail> {
+    let mut digits = String::new(alloc);
+    for word in text.split_whitespace() {
+        digits.push_str(word)?;
+    }
+    Ok(hex::decode(alloc, digits.as_str())?)
+}
+
+/// The head of the sections of edition 4.
+fn head_4(alloc: Global) -> Result<Head, Fail> {
+    Ok(Head {
+        centre: 258,
+        sub_centre: 772,
+        update: 5,
+        category: 6,
+        international: 7,
+        local_category: 8,
+        master_version: 9,
+        local_version: 10,
+        year: 2828,
+        month: 13,
+        day: 14,
+        hour: 15,
+        minute: 16,
+        second: 17,
+        local: Items::from_vec(octets(alloc, "1213")?),
+    })
+}
+
+/// The sections of these octets say what the first text spells.
+fn assert_edition_4(rt: &impl Abort, alloc: Global, text: &str) -> Result<(), Fail> {
+    let all = octets(alloc, text)?;
+    let found = read_sections(alloc, all.as_slice())?;
+    assert!(rt; found.head == head_4(alloc)?);
+    let section2 = found.section2.as_ref().ok_or("section 2")?;
+    assert_eq!(rt; section2.as_slice(), [20].as_slice());
+    assert!(rt; found.observed);
+    assert!(rt; !found.compressed);
+    assert_eq!(rt; found.count, 5398);
+    assert_eq!(rt; found.descriptors.len(), 2);
+    assert_eq!(rt; found.descriptors.get(0), Some(&Fxy::from_bits(0x1718)));
+    assert_eq!(rt; found.descriptors.get(1), Some(&Fxy::from_bits(0x191A)));
+    assert_eq!(rt; found.contents, [27, 28, 29].as_slice());
+    Ok(())
+}
+
+#[test]
+fn each_octet_at_its_place(rt: HostRuntime) -> Result<(), Fail> {
+    assert_edition_4(&rt, rt.alloc(), EDITION_4)?;
+    assert_edition_4(&rt, rt.alloc(), EDITION_4_FILLED)
+}
+
+#[test]
+fn each_octet_written_at_its_place(rt: HostRuntime) -> Result<(), Fail> {
+    let alloc = rt.alloc();
+    let head = head_4(alloc)?;
+    let section2 = Some(Items::from_vec(octets(alloc, "14")?));
+    let parts = Parts {
+        head: &head,
+        section2: &section2,
+        observed: true,
+        compressed: false,
+        descriptors: &[Fxy::from_bits(0x1718), Fxy::from_bits(0x191A)],
+        count: 5398,
+        contents: &[27, 28, 29],
+    };
+    let written = spell(alloc, &parts)?;
+    assert_eq!(rt; written.as_slice(), octets(alloc, EDITION_4)?.as_slice());
+    Ok(())
+}
+
+#[test]
+fn edition_3(rt: HostRuntime) -> Result<(), Fail> {
+    let alloc = rt.alloc();
+    let all = octets(alloc, EDITION_3)?;
+    let found = read_sections(alloc, all.as_slice())?;
+    let head = Head {
+        centre: 2,
+        sub_centre: 1,
+        update: 3,
+        category: 4,
+        international: 255,
+        local_category: 5,
+        master_version: 6,
+        local_version: 7,
+        year: 2008,
+        month: 9,
+        day: 10,
+        hour: 11,
+        minute: 12,
+        second: 0,
+        local: Items::from_vec(octets(alloc, "0D")?),
+    };
+    assert!(rt; found.head == head);
+    assert!(rt; found.section2.is_none());
+    assert_eq!(rt; found.descriptors.get(0), Some(&Fxy::from_bits(0x1718)));
+    assert!(rt; found.contents.is_empty());
+    Ok(())
+}
+
+/// So many octets that are alike.
+fn many(alloc: Global, octet: u8, count: usize) -> Result<Vec<u8>, Fail> {
+    let mut all = Vec::with_capacity(alloc, count)?;
+    for _ in 0..count {
+        all.push(octet)?;
+    }
+    Ok(all)
+}
+
+#[test]
+fn long_sections(rt: HostRuntime) -> Result<(), Fail> {
+    let alloc = rt.alloc();
+    let mut head = head_4(alloc)?;
+    head.local = Items::from_vec(many(alloc, 1, 300_000)?);
+    let section2 = Some(Items::from_vec(many(alloc, 2, 400_000)?));
+    let mut list = Vec::new(alloc);
+    for _ in 0..150_000 {
+        list.push(Fxy::from_bits(0x0C65))?;
+    }
+    let descriptors = Items::from_vec(list);
+    let contents = many(alloc, 3, 100_000)?;
+    let parts = Parts {
+        head: &head,
+        section2: &section2,
+        observed: false,
+        compressed: true,
+        descriptors: descriptors.as_slice(),
+        count: 65_535,
+        contents: contents.as_slice(),
+    };
+    let written = spell(alloc, &parts)?;
+    assert_eq!(rt; written.len(), 1_100_049);
+    assert_eq!(rt;
+        written.as_slice().get(4..8),
+        Some([0x10, 0xC9, 0x11, 4].as_slice())
+    );
+    assert_eq!(rt;
+        written.as_slice().get(8..11),
+        Some([4, 0x93, 0xF6].as_slice())
+    );
+    let found = read_sections(alloc, written.as_slice())?;
+    assert!(rt; found.head == head);
+    assert!(rt; found.section2 == section2);
+    assert!(rt; found.descriptors == descriptors);
+    assert!(rt; found.compressed);
+    assert!(rt; !found.observed);
+    assert_eq!(rt; found.count, 65_535);
+    assert_eq!(rt; found.contents, contents.as_slice());
+    Ok(())
+}
+
+/// Why a message of one descriptor, of so many subsets and with so many octets in section 4 after
+/// its fourth is not written, or `written`.
+fn written(alloc: Global, count: usize, length: usize) -> Result<String, Fail> {
+    let head = head_4(alloc)?;
+    let contents = many(alloc, 0, length)?;
+    let parts = Parts {
+        head: &head,
+        section2: &None,
+        observed: true,
+        compressed: false,
+        descriptors: &[Fxy::from_bits(0x0C65)],
+        count,
+        contents: contents.as_slice(),
+    };
+    match spell(alloc, &parts) {
+        Ok(_octets) => Ok(String::from_str(alloc, "written")?),
+        Err(failure) => Ok(format!(in alloc; "{failure}")?),
+    }
+}
+
+#[test]
+fn limits(rt: HostRuntime) -> Result<(), Fail> {
+    let alloc = rt.alloc();
+    let fits = 16_777_215 - 49;
+    assert_eq!(rt; written(alloc, 65_535, 0)?.as_str(), "written");
+    assert_eq!(rt; written(alloc, 65_536, 0)?.as_str(), "E3 TooLarge");
+    assert_eq!(rt; written(alloc, 1, fits)?.as_str(), "written");
+    assert_eq!(rt; written(alloc, 1, fits + 1)?.as_str(), "E3 TooLarge");
+    Ok(())
+}
+
+/// Octets whose sections are refused, each with its reason behind `=`. `S1` stands for the usual
+/// section 1, and `S1+2` for the one that announces section 2.
+const REFUSED: &str = "\
+NONE = M1 NotBufr
+42554652 000007 = M1 NotBufr
+42554653 00000C 04 37373737 = M1 NotBufr
+42554652 000008 05 = M2 Edition 5
+42554652 00000D 02 = M2 Edition 2
+42554652 00000D 04 37373737 = M3 TotalLength
+42554652 000008 04 = M4 NoEnd
+42554652 00000B 04 373737 = M4 NoEnd
+42554652 00000C 04 37373738 = M4 NoEnd
+42554652 00000C 04 37373737 = M5 Section1Length
+42554652 000021 04 000015 00 00620000 00 00 00020025 00 07E8 010F0C00 37373737 = M5 Section1Length
+42554652 000022 04 000017 00 00620000 00 00 00020025 00 07E8 010F0C0000 37373737 = M5 Section1Length
+42554652 00001C 03 000010 00 00 62 00 00 00 02 25 00 18 01 0F 0C 37373737 = M5 Section1Length
+42554652 000022 04 000016 0A 00620000 00 00 00020025 00 07E8 010F0C0000 37373737 = M6 MasterTable 10
+42554652 00001D 03 000011 0A 00 62 00 00 00 02 25 00 18 01 0F 0C 00 37373737 = M6 MasterTable 10
+42554652 000025 04 S1+2 000003 37373737 = M7 Section2Length
+42554652 000026 04 S1+2 000005 00 37373737 = M7 Section2Length
+42554652 000022 04 S1 37373737 = M8 Section3Length
+42554652 00002A 04 S1 000008 00 0001 80 01 37373737 = M8 Section3Length
+42554652 00002B 04 S1 00000A 00 0001 80 0101 37373737 = M8 Section3Length
+42554652 00002B 04 S1 000009 00 0001 80 0101 37373737 = M9 Section4Length
+42554652 00002E 04 S1 000009 00 0001 80 0101 000003 37373737 = M9 Section4Length
+42554652 00002F 04 S1 000009 00 0001 80 0101 000003 00 37373737 = M9 Section4Length
+42554652 000031 04 S1 000009 00 0001 80 0101 000005 00 14 00 37373737 = M9 Section4Length
+";
+
+/// The octets of a case.
+fn case(alloc: Global, text: &str) -> Result<Vec<u8>, Fail> {
+    let mut digits = String::new(alloc);
+    for word in text.split_whitespace() {
+        let part = match word {
+            "S1" => "00001600006200000000000200250007E8010F0C0000",
+            "NONE" => "",
+            "S1+2" => "00001600006200000080000200250007E8010F0C0000",
+            other => other,
+        };
+        digits.push_str(part)?;
+    }
+    Ok(hex::decode(alloc, digits.as_str())?)
+}
+
+/// The reason for which octets are refused, or `read`.
+fn reason(alloc: Global, text: &str) -> Result<String, Fail> {
+    match read_sections(alloc, case(alloc, text)?.as_slice()) {
+        Ok(_found) => Ok(String::from_str(alloc, "read")?),
+        Err(failure) => Ok(format!(in alloc; "{failure}")?),
+    }
+}
+
+#[test]
+fn refusals(rt: HostRuntime) -> Result<(), Fail> {
+    for line in REFUSED.lines() {
+        let (text, wanted) = line.split_once(" = ").ok_or("a case")?;
+        let found = reason(rt.alloc(), text)?;
+        assert_eq!(rt; found.as_str(), wanted, "at {line}");
+    }
+    Ok(())
+}

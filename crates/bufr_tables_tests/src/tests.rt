@@ -1,0 +1,387 @@
+//! Table files as their format's examples give them.
+
+mod sizes;
+
+use bufr_tables::{Column, Element, Failure, Fxy, Items, Kind, TableB, TableD, TableFault, Tables};
+use std::alloc::{AllocError, Global};
+use std::test::Fail;
+
+const HEADER: &[u8] =
+    b"FXY,ElementName_en,BUFR_Unit,BUFR_Scale,BUFR_ReferenceValue,BUFR_DataWidth_Bits\n";
+
+const TEMPERATURE: Element = Element {
+    kind: Kind::Quantity,
+    scale: 2,
+    reference: 0,
+    width: 16,
+};
+
+// Lines, one after another.
+fn joined(alloc: Global, lines: &[&[u8]]) -> Result<Vec<u8>, AllocError> {
+    let mut text = Vec::new(alloc);
+    for line in lines {
+        text.extend_from_slice(line)?;
+    }
+    Ok(text)
+}
+
+fn tables(alloc: Global, b: &[u8], d: &[u8]) -> Result<Tables, Failure<TableFault>> {
+    let b = TableB::parse(alloc, b)?;
+    let d = TableD::parse(alloc, d)?;
+    Ok(Tables::new(b, d))
+}
+
+// The element of a descriptor in a Table B.
+fn element_of(
+    alloc: Global,
+    text: &[u8],
+    descriptor: &[u8],
+) -> Result<Option<Element>, Failure<TableFault>> {
+    let all = tables(alloc, text, b"FXY1,FXY2\n")?;
+    match Fxy::from_text(descriptor) {
+        Some(fxy) => Ok(all.element(fxy).copied()),
+        None => Ok(None),
+    }
+}
+
+#[test]
+fn descriptors(rt: HostRuntime) -> Result<(), Fail> {
+    let fxy = Fxy::new(3, 10, 255).ok_or("in range")?;
+    assert_eq!(rt; (fxy.f(), fxy.x(), fxy.y()), (3, 10, 255));
+    assert_eq!(rt; fxy.to_string(rt.alloc())?.as_str(), "310255");
+    assert_eq!(rt; Fxy::from_text(b"310255"), Some(fxy));
+    assert_eq!(rt;
+        Fxy::from_bits(0x0C65),
+        Fxy::new(0, 12, 101).ok_or("in range")?
+    );
+    assert_eq!(rt; Fxy::from_text(b"012101").ok_or("in range")?.bits(), 0x0C65);
+    assert!(rt; Fxy::new(4, 0, 0).is_none() && Fxy::new(0, 64, 0).is_none());
+    assert!(rt; Fxy::from_text(b"400000").is_none() && Fxy::from_text(b"064000").is_none());
+    assert!(rt; Fxy::from_text(b"012256").is_none() && Fxy::from_text(b"12101").is_none());
+    assert!(rt; Fxy::from_text(b"0121010").is_none() && Fxy::from_text(b"+12101").is_none());
+    Ok(())
+}
+
+#[test]
+fn every_descriptor_is_read_back(rt: HostRuntime) -> Result<(), Fail> {
+    let mut good = true;
+    for bits in 0..=65535u16 {
+        let fxy = Fxy::from_bits(bits);
+        let text = fxy.to_string(rt.alloc())?;
+        good = good && Fxy::from_text(text.as_bytes()) == Some(fxy);
+        good = good && Fxy::new(fxy.f(), fxy.x(), fxy.y()) == Some(fxy);
+    }
+    assert!(rt; good);
+    Ok(())
+}
+
+#[test]
+fn lists(rt: HostRuntime) -> Result<(), Fail> {
+    let list = Items::from_vec([7, 8].to_vec(rt.alloc())?);
+    assert_eq!(rt; list.len(), 2);
+    assert!(rt; !list.is_empty() && list.get(1) == Some(&8) && list.get(2).is_none());
+    assert!(rt; list == Items::from_vec([7, 8].to_vec(rt.alloc())?));
+    assert!(rt; list != Items::from_vec([7, 9].to_vec(rt.alloc())?));
+    assert!(rt; list.as_slice() == [7, 8].as_slice());
+    assert!(rt; list.into_vec().as_slice() == [7, 8].as_slice());
+    Ok(())
+}
+
+// The failure of a Table B of the usual header and these lines.
+fn fault_b(alloc: Global, lines: &[u8]) -> Result<Option<Failure<TableFault>>, AllocError> {
+    let text = joined(alloc, &[HEADER, lines])?;
+    Ok(TableB::parse(alloc, &text).err())
+}
+
+// The temperature's element in a Table B of the usual header and these lines.
+fn temperature_of(alloc: Global, lines: &[u8]) -> Result<Option<Element>, Failure<TableFault>> {
+    let text = joined(alloc, &[HEADER, lines])?;
+    element_of(alloc, &text, b"012101")
+}
+
+#[test]
+fn table_b_rows(rt: HostRuntime) -> Result<(), Fail> {
+    let one = b"012101,x,K,2,0,16\n";
+    assert_eq!(rt; temperature_of(rt.alloc(), one)?, Some(TEMPERATURE));
+    let faults: [(&[u8], TableFault); 2] = [
+        (
+            b"012101,x,K,2,0,16\n012101,x,K,2,0,17\n",
+            TableFault::Conflict(Fxy::from_bits(0x0C65)),
+        ),
+        (b"12101,x,K,2,0,16\n", TableFault::BadRow(2)),
+    ];
+    for (lines, fault) in faults {
+        assert_eq!(rt; fault_b(rt.alloc(), lines)?, Some(Failure::Fault(fault)));
+    }
+    Ok(())
+}
+
+#[test]
+fn table_b_without_a_column(rt: HostRuntime) -> Result<(), Fail> {
+    let text = b"FXY,ElementName_en,BUFR_Scale,BUFR_ReferenceValue,BUFR_DataWidth_Bits\n";
+    let fault = TableB::parse(rt.alloc(), text).err();
+    assert_eq!(rt;
+        fault,
+        Some(Failure::Fault(TableFault::NoColumn(Column::Unit)))
+    );
+    Ok(())
+}
+
+#[test]
+fn two_copies_joined(rt: HostRuntime) -> Result<(), Fail> {
+    let alloc = rt.alloc();
+    let line = b"012101,x,K,2,0,16\n";
+    let one = joined(alloc, &[HEADER, line])?;
+    let two = joined(alloc, &[HEADER, line, HEADER, line])?;
+    let d = b"FXY1,FXY2\n301001,001001\n";
+    assert!(rt; tables(alloc, &one, d)?.same(&tables(alloc, &two, d)?));
+    Ok(())
+}
+
+#[test]
+fn table_b_bad_rows(rt: HostRuntime) -> Result<(), Fail> {
+    let lines: [&[u8]; 10] = [
+        b"112101,x,K,2,0,16\n",
+        b"012101,x,K,2,9223372036854775808,16\n",
+        b"012101,x,K,2,-9223372036854775809,16\n",
+        b"012101,x,K,-2147483649,0,16\n",
+        b"012101,x,K,2,0,-16\n",
+        b"012101,x,K,2,0,-0\n",
+        b"012101,x,K,2,0,\n",
+        b"012101,x,K,2147483648,0,16\n",
+        b"012101,x,K,2,0,4294967296\n",
+        b"012101,x,K,2,+-1,16\n",
+    ];
+    for line in lines {
+        assert_eq!(rt;
+            fault_b(rt.alloc(), line)?,
+            Some(Failure::Fault(TableFault::BadRow(2)))
+        );
+    }
+    assert_eq!(rt;
+        temperature_of(rt.alloc(), b"012101,x,K,2,0,+16\n")?,
+        Some(TEMPERATURE)
+    );
+    Ok(())
+}
+
+#[test]
+fn numbers_at_their_ends(rt: HostRuntime) -> Result<(), Fail> {
+    let kind = Kind::Quantity;
+    let cases: [(&[u8], Element); 2] = [
+        (
+            b"012101,x,K,-2147483648,-9223372036854775808,0\n",
+            Element {
+                kind,
+                scale: -2147483648,
+                reference: -9223372036854775808,
+                width: 0,
+            },
+        ),
+        (
+            b"012101,x,K,+2147483647,00009223372036854775807,4294967295\n",
+            Element {
+                kind,
+                scale: 2147483647,
+                reference: 9223372036854775807,
+                width: 4294967295,
+            },
+        ),
+    ];
+    for (line, element) in cases {
+        assert_eq!(rt; temperature_of(rt.alloc(), line)?, Some(element));
+    }
+    Ok(())
+}
+
+#[test]
+fn units(rt: HostRuntime) -> Result<(), Fail> {
+    let lines: [(&[u8], Kind); 13] = [
+        (b"012101,x,CCITT IA5,0,0,160\n", Kind::Text),
+        (b"012101,x, CCITT IA5 ,0,0,160\n", Kind::Text),
+        (b"012101,x,CCITT IA5 x,0,0,160\n", Kind::Quantity),
+        (b"012101,x,CCITT IA,0,0,160\n", Kind::Quantity),
+        (b"012101,x,Flag table x,0,0,160\n", Kind::Quantity),
+        (b"012101,x,A Common code table,0,0,160\n", Kind::Quantity),
+        (b"012101,x,ccitt ia5,0,0,160\n", Kind::Text),
+        (b"012101,x,Code Table,0,0,160\n", Kind::Code),
+        (b"012101,x,FLAG TABLE,0,0,160\n", Kind::Flag),
+        (b"012101,x,Common CODE TABLE C-1,0,0,160\n", Kind::Code),
+        (b"012101,x,Common code table,0,0,160\n", Kind::Code),
+        (b"012101,x,Common code tabl,0,0,160\n", Kind::Quantity),
+        (b"012101,x,Code table 5,0,0,160\n", Kind::Quantity),
+    ];
+    for (line, kind) in lines {
+        let element = Element {
+            kind,
+            scale: 0,
+            reference: 0,
+            width: 160,
+        };
+        assert_eq!(rt; temperature_of(rt.alloc(), line)?, Some(element));
+    }
+    Ok(())
+}
+
+#[test]
+fn table_d_faults(rt: HostRuntime) -> Result<(), Fail> {
+    let split = TableFault::SplitSequence(Fxy::from_bits(0xC101));
+    let cases: [(&[u8], TableFault); 6] = [
+        (
+            b"FXY1,FXY2\n301001,001001\n301011,004001\n301001,001002\n",
+            split,
+        ),
+        (
+            b"FXY1,FXY2\n301001,001001,x\n301011,004001\n301001,001002\n",
+            TableFault::NotCsv(2),
+        ),
+        (b"FXY1,FXY2\n001001,001001\n", TableFault::BadRow(2)),
+        (b"FXY1,FXY2\n301001,064000\n", TableFault::BadRow(2)),
+        (b"", TableFault::NoColumn(Column::Fxy1)),
+        (b"FXY1\n", TableFault::NoColumn(Column::Fxy2)),
+    ];
+    for (text, fault) in cases {
+        assert_eq!(rt;
+            TableD::parse(rt.alloc(), text).err(),
+            Some(Failure::Fault(fault))
+        );
+    }
+    Ok(())
+}
+
+// The descriptors of 301011 in a Table D of these lines, as 16 bits each.
+fn date_of(alloc: Global, d: &[u8]) -> Result<Vec<u16>, Failure<TableFault>> {
+    let all = tables(alloc, HEADER, d)?;
+    let mut found = Vec::new(alloc);
+    if let Some(list) = all.sequence(Fxy::from_bits(0xC10B)) {
+        for member in list {
+            found.push(member.bits())?;
+        }
+    }
+    Ok(found)
+}
+
+#[test]
+fn sequences(rt: HostRuntime) -> Result<(), Fail> {
+    let d =
+        b"FXY1,FXY2\n301011,004001\n301011,004002\n301011,004003\n301001,001001\n301001,001002\n";
+    let date = date_of(rt.alloc(), d)?;
+    assert_eq!(rt; date.as_slice(), [0x0401, 0x0402, 0x0403].as_slice());
+    let none = date_of(rt.alloc(), b"FXY1,FXY2\n")?;
+    assert!(rt; none.is_empty());
+    Ok(())
+}
+
+#[test]
+fn tables_that_differ(rt: HostRuntime) -> Result<(), Fail> {
+    let alloc = rt.alloc();
+    let all = tables(alloc, HEADER, b"FXY1,FXY2\n301001,001001\n")?;
+    assert!(rt; !all.same(&tables(alloc, HEADER, b"FXY1,FXY2\n")?));
+    assert!(rt; all.same(&tables(alloc, HEADER, b"FXY1,FXY2\n,\nFXY1,FXY2\n301001,001001\n")?));
+    Ok(())
+}
+
+#[test]
+fn spellings_of_lines(rt: HostRuntime) -> Result<(), Fail> {
+    let lines: [&[u8]; 4] = [
+        b"012101,\"dry bulb, air\nat 2 m\",\"K\",2,0,16\n",
+        b"012101,x,K,2,0,16",
+        b" 012101 ,x, K,2 ,0,16\r\n",
+        b",x,,,, \n\n,,,,,\n012101,x,K,2,0,16\n",
+    ];
+    for line in lines {
+        assert_eq!(rt; temperature_of(rt.alloc(), line)?, Some(TEMPERATURE));
+    }
+    Ok(())
+}
+
+#[test]
+fn spellings_of_files(rt: HostRuntime) -> Result<(), Fail> {
+    let files: [&[u8]; 5] = [
+        b"FXY,BUFR_Unit,BUFR_Scale,BUFR_ReferenceValue,BUFR_DataWidth_Bits\r\n012101,K,2,0,16\r\n",
+        b"BUFR_DataWidth_Bits,BUFR_Unit,FXY,BUFR_ReferenceValue,BUFR_Scale\n16,K,012101,0,2\n",
+        b" FXY , BUFR_Unit,BUFR_Scale,BUFR_ReferenceValue,BUFR_DataWidth_Bits \n012101,K,2,0,16\n",
+        b"\xEF\xBB\xBFFXY,BUFR_Unit,BUFR_Scale,BUFR_ReferenceValue,BUFR_DataWidth_Bits\n\
+          \xEF\xBB\xBF012101,K,2,0,16\n",
+        b"FXY,BUFR_Unit,BUFR_Scale,BUFR_ReferenceValue,BUFR_DataWidth_Bits,FXY\n\
+          012101,K,2,0,16,x\n",
+    ];
+    for text in files {
+        assert_eq!(rt; element_of(rt.alloc(), text, b"012101")?, Some(TEMPERATURE));
+    }
+    Ok(())
+}
+
+#[test]
+fn empty_files(rt: HostRuntime) -> Result<(), Fail> {
+    let no_column = Some(Failure::Fault(TableFault::NoColumn(Column::Fxy)));
+    assert_eq!(rt; TableB::parse(rt.alloc(), b"").err(), no_column);
+    assert_eq!(rt; TableB::parse(rt.alloc(), b"\n\n").err(), no_column);
+    assert_eq!(rt; temperature_of(rt.alloc(), b"")?, None);
+    Ok(())
+}
+
+#[test]
+fn the_first_fault(rt: HostRuntime) -> Result<(), Fail> {
+    let cases: [(&[u8], TableFault); 2] = [
+        (
+            b"012101,x,K,2,0,16\n012101,x,K,2,0,17,y\nx,x,x,x,x,x\n",
+            TableFault::NotCsv(3),
+        ),
+        (
+            b"012101,x,K,2,0,16\n012101,x,K,2,,17\nx\n",
+            TableFault::BadRow(3),
+        ),
+    ];
+    for (lines, fault) in cases {
+        assert_eq!(rt; fault_b(rt.alloc(), lines)?, Some(Failure::Fault(fault)));
+    }
+    Ok(())
+}
+
+#[test]
+fn faults_are_printed(rt: HostRuntime) -> Result<(), Fail> {
+    let alloc = rt.alloc();
+    let element = Fxy::from_text(b"012101").ok_or("in range")?;
+    let sequence = Fxy::from_text(b"301001").ok_or("in range")?;
+    let lines = [
+        (TableFault::NoColumn(Column::Unit), "B1 NoColumn BUFR_Unit"),
+        (TableFault::NotCsv(2), "B2 NotCsv 2"),
+        (TableFault::BadRow(2), "B3 BadRow 2"),
+        (TableFault::Conflict(element), "B4 Conflict 012101"),
+        (
+            TableFault::SplitSequence(sequence),
+            "B5 SplitSequence 301001",
+        ),
+    ];
+    for (fault, text) in lines {
+        assert_eq!(rt; fault.to_string(alloc)?.as_str(), text);
+        assert_eq!(rt; Failure::Fault(fault).to_string(alloc)?.as_str(), text);
+    }
+    let refused: Failure<TableFault> = Failure::OutOfMemory;
+    assert_eq!(rt; refused.to_string(alloc)?.as_str(), "out of memory");
+    let columns = [
+        (Column::Fxy, "FXY"),
+        (Column::Scale, "BUFR_Scale"),
+        (Column::ReferenceValue, "BUFR_ReferenceValue"),
+        (Column::DataWidth, "BUFR_DataWidth_Bits"),
+        (Column::Fxy1, "FXY1"),
+        (Column::Fxy2, "FXY2"),
+    ];
+    for (column, text) in columns {
+        assert_eq!(rt; column.to_string(alloc)?.as_str(), text);
+    }
+    Ok(())
+}
+
+#[test]
+fn faults_within_other_faults(rt: HostRuntime) -> Result<(), Fail> {
+    let fault = Failure::Fault(TableFault::NotCsv(7));
+    assert_eq!(rt;
+        fault.map(Some),
+        Failure::Fault(Some(TableFault::NotCsv(7)))
+    );
+    let refused: Failure<TableFault> = Failure::OutOfMemory;
+    assert_eq!(rt; refused.map(Some), Failure::OutOfMemory);
+    Ok(())
+}

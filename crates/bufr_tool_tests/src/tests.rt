@@ -1,0 +1,289 @@
+//! What the engines and the commands answer and write. Octets and texts are typed from the rules of
+//! the formats.
+
+ghost use Rattle.std.specs.Prelude.{Some, None};
+
+mod encoding;
+mod parts;
+mod streams;
+
+use bufr_bits::{Failed, FromRead, IntoWrite, Sink, Source};
+use bufr_engines::{Input, ToolFault};
+use bufr_tables::{Column, TableB, TableD, TableFault, Tables};
+use bufr_tool::{load_tables, run_show};
+use std::alloc::Global;
+use std::process::Abort;
+use std::test::Fail;
+
+const TABLE_B: &[u8] = b"FXY,BUFR_Unit,BUFR_Scale,BUFR_ReferenceValue,BUFR_DataWidth_Bits\n\
+001001,Numeric,0,0,7\n\
+001002,Numeric,0,0,10\n\
+004001,a,0,0,12\n\
+004002,mon,0,0,4\n\
+004003,d,0,0,6\n\
+004004,h,0,0,5\n\
+004005,min,0,0,6\n\
+012101,K,2,0,16\n\
+031001,Numeric,0,0,8\n";
+
+const TABLE_D: &[u8] = b"FXY1,FXY2\n\
+301001,001001\n\
+301001,001002\n\
+301011,004001\n\
+301011,004002\n\
+301011,004003\n\
+301012,004004\n\
+301012,004005\n";
+
+/// One plain subset of eight elements: 70 octets.
+const ELEMENTS_ONLY: &[u8] = b"BUFR\x00\x00\x46\x04\
+\x00\x00\x16\x00\x00\x62\x00\x00\x00\x00\x00\x02\x00\x25\x00\x07\xE8\x01\x0F\x0C\x00\x00\
+\x00\x00\x17\x00\x00\x01\x80\x01\x01\x01\x02\x04\x01\x04\x02\x04\x03\x04\x04\x04\x05\x0C\x65\
+\x00\x00\x0D\x00\x14\xC0\x3F\x40\x9E\xC0\x1A\xAC\xC0\
+7777";
+
+/// One plain subset of a station, a time and a temperature: 62 octets.
+const SEQUENCES: &[u8] = b"BUFR\x00\x00\x3E\x04\
+\x00\x00\x16\x00\x00\x62\x00\x00\x00\x00\x00\x02\x00\x25\x00\x07\xE8\x01\x0F\x0C\x00\x00\
+\x00\x00\x0F\x00\x00\x01\x80\xC1\x01\xC1\x0B\xC1\x0C\x0C\x65\
+\x00\x00\x0D\x00\x14\xC0\x3F\x40\x9E\xC0\x1A\xAC\xC0\
+7777";
+
+const LISTING: &[u8] = b"message\n\
+section1 98 0 0 0 2 0 37 0\n\
+time 2024 1 15 12 0 0\n\
+flags observed\n\
+descriptors 001001 001002 004001 004002 004003 004004 004005 012101\n\
+subset\n\
+001001 10\n\
+001002 384\n\
+004001 2024\n\
+004002 1\n\
+004003 15\n\
+004004 12\n\
+004005 0\n\
+012101 273.15\n\
+end\n";
+
+/// The tables of the tests.
+fn tables(alloc: Global) -> Result<Tables, Fail> {
+    Ok(Tables::new(
+        TableB::parse(alloc, TABLE_B)?,
+        TableD::parse(alloc, TABLE_D)?,
+    ))
+}
+
+/// Whether octets are refused (0 or 1), or why showing it gave no tally; and what was written.
+fn shown(alloc: Global, octets: &[u8]) -> Result<(Result<u128, ToolFault>, Vec<u8>), Fail> {
+    let tables = tables(alloc)?;
+    let mut writer = IntoWrite::new(Vec::new(alloc));
+    let refused = match run_show(alloc, 10, &tables, &mut FromRead::new(octets), &mut writer) {
+        Ok(tally) => Ok(tally.refused),
+        Err(fault) => Err(fault),
+    };
+    Ok((refused, writer.into_inner()))
+}
+
+#[test]
+fn elements_only(rt: HostRuntime) -> Result<(), Fail> {
+    let (refused, written) = shown(rt.alloc(), ELEMENTS_ONLY)?;
+    assert_eq!(rt; refused, Ok(0));
+    assert_eq!(rt; written.as_slice(), LISTING);
+    Ok(())
+}
+
+/// Octets are refused, and this line is what is shown of them.
+fn assert_refused(rt: &impl Abort, alloc: Global, octets: &[u8], line: &str) -> Result<(), Fail> {
+    let (refused, written) = shown(alloc, octets)?;
+    assert_eq!(rt; refused, Ok(1));
+    assert_eq!(rt; written.as_slice(), line.as_bytes());
+    Ok(())
+}
+
+#[test]
+fn refusals(rt: HostRuntime) -> Result<(), Fail> {
+    let alloc = rt.alloc();
+    assert_refused(
+        &rt,
+        alloc,
+        b"BUFR\x00\x00\x0C\x057777".as_slice(),
+        "# refused 0 M2 Edition 5\n",
+    )?;
+    assert_refused(
+        &rt,
+        alloc,
+        b"noise BUFR\x00\x00\x0C\x047777".as_slice(),
+        "# refused 6 M5 Section1Length\n",
+    )?;
+    Ok(())
+}
+
+/// A writer that takes so many octets, one by one, and then fails; or fails when it is flushed.
+#[derive(Debug, Drop)]
+struct Breaks {
+    taken: Vec<u8>,
+    room: usize,
+    failed: bool,
+}
+
+impl Sink for Breaks {
+    ghost writing = { λ s. record { taken = Some s.taken.items; failed = s.failed } };
+
+    fn write(&mut self, piece: &[u8]) -> Result<usize, Failed> {
+        if piece.is_empty() {
+            return Ok(0);
+        }
+        if self.taken.len() >= self.room || self.taken.push(piece[0]).is_err() {
+            self.failed = true;
+            return Err(Failed);
+        }
+        Ok(1)
+    }
+
+    fn flush(&mut self) -> Result<(), Failed> {
+        self.failed = true;
+        Err(Failed)
+    }
+}
+
+/// Shows the message to a writer that has room for so many octets.
+fn broken_after(alloc: Global, room: usize) -> Result<(Option<ToolFault>, Vec<u8>), Fail> {
+    let tables = tables(alloc)?;
+    let mut writer = Breaks {
+        taken: Vec::new(alloc),
+        room,
+        failed: false,
+    };
+    let fault = run_show(
+        alloc,
+        10,
+        &tables,
+        &mut FromRead::new(ELEMENTS_ONLY),
+        &mut writer,
+    )
+    .err();
+    Ok((fault, writer.taken))
+}
+
+#[test]
+fn failing_writer(rt: HostRuntime) -> Result<(), Fail> {
+    let alloc = rt.alloc();
+    for room in 0usize..237 {
+        let (fault, taken) = broken_after(alloc, room)?;
+        assert_eq!(rt;
+            fault,
+            Some(ToolFault::WriteFailed {
+                written: room as u128
+            }),
+            "at {room}"
+        );
+        assert_eq!(rt; taken.len(), room);
+        assert!(rt; LISTING.starts_with(&taken));
+    }
+    Ok(())
+}
+
+/// A reader that gives one octet a read, so often, and then fails or meets its end.
+#[derive(Debug, Drop)]
+struct Drips {
+    octets: usize,
+    breaks: bool,
+    failed: bool,
+    reads: u64,
+    met_end: bool,
+}
+
+impl Source for Drips {
+    ghost reading = { λ s. record
+        { left = None; failed = s.failed; reads = s.reads; met_end = s.met_end } };
+
+    fn read(&mut self, buffer: &mut [u8]) -> Result<usize, Failed> {
+        self.reads += 1;
+        if self.octets > 0 {
+            self.octets -= 1;
+            buffer[0] = b'B';
+            return Ok(1);
+        }
+        if self.breaks {
+            self.failed = true;
+            return Err(Failed);
+        }
+        self.met_end = true;
+        Ok(0)
+    }
+}
+
+/// What showing so many octets, one a read, answers within four reads, and what was written.
+fn dripping(
+    alloc: Global,
+    octets: usize,
+    breaks: bool,
+) -> Result<(Option<ToolFault>, usize), Fail> {
+    let tables = tables(alloc)?;
+    let mut reader = Drips {
+        octets,
+        breaks,
+        failed: false,
+        reads: 0,
+        met_end: false,
+    };
+    let mut writer = IntoWrite::new(Vec::new(alloc));
+    let fault = run_show(alloc, 4, &tables, &mut reader, &mut writer).err();
+    Ok((fault, writer.into_inner().len()))
+}
+
+#[test]
+fn endless_and_failing_readers(rt: HostRuntime) -> Result<(), Fail> {
+    let alloc = rt.alloc();
+    let endless = Some(ToolFault::EndlessInput(Input::Number(1)));
+    assert_eq!(rt; dripping(alloc, 100, false)?, (endless, 0));
+    assert_eq!(rt; dripping(alloc, 4, false)?, (endless, 0));
+    assert_eq!(rt; dripping(alloc, 3, false)?, (None, 0));
+    let failed = Some(ToolFault::ReadFailed(Input::Number(1)));
+    assert_eq!(rt; dripping(alloc, 2, true)?, (failed, 0));
+    Ok(())
+}
+
+/// What loading two texts as tables answers.
+fn loaded(alloc: Global, b: &[u8], d: &[u8]) -> Option<ToolFault> {
+    load_tables(alloc, 10, &mut FromRead::new(b), &mut FromRead::new(d)).err()
+}
+
+#[test]
+fn faults_of_tables(rt: HostRuntime) {
+    let alloc = rt.alloc();
+    assert_eq!(rt; loaded(alloc, TABLE_B, TABLE_D), None);
+    assert_eq!(rt;
+        loaded(alloc, TABLE_B, b"FXY1,FXY2\n301001,x\n".as_slice()),
+        Some(ToolFault::Table(Input::TableD, TableFault::BadRow(2)))
+    );
+    assert_eq!(rt;
+        loaded(alloc, b"FXY\n\"a\",b\n".as_slice(), b"".as_slice()),
+        Some(ToolFault::Table(Input::TableB, TableFault::NoColumn(Column::Unit)))
+    );
+}
+
+#[test]
+fn lines_of_faults(rt: HostRuntime) -> Result<(), Fail> {
+    let faults = [
+        (ToolFault::ReadFailed(Input::TableB), "read failed table B"),
+        (ToolFault::ReadFailed(Input::TableD), "read failed table D"),
+        (
+            ToolFault::EndlessInput(Input::Number(1)),
+            "endless input input 1",
+        ),
+        (
+            ToolFault::WriteFailed { written: 236 },
+            "write failed after 236 octets",
+        ),
+        (
+            ToolFault::Table(Input::TableB, TableFault::NoColumn(Column::Fxy)),
+            "table B: B1 NoColumn FXY",
+        ),
+        (ToolFault::OutOfMemory, "out of memory"),
+    ];
+    for (fault, text) in faults {
+        assert_eq!(rt; fault.to_string(rt.alloc())?.as_str(), text);
+    }
+    Ok(())
+}

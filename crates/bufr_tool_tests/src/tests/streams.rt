@@ -1,0 +1,391 @@
+//! Streams of frames through the engines: every piece, every failing device.
+
+ghost use Rattle.std.specs.Prelude.{◌≡◌, Some, None, false};
+
+use super::{ELEMENTS_ONLY, LISTING, SEQUENCES, tables};
+use bufr_bits::{Failed, FromRead, IntoWrite, Sink, Source};
+use bufr_engines::{Input, Tally, ToolFault};
+use bufr_tool::{MOST_READS, run_check, run_command, run_show};
+use std::alloc::Global;
+use std::io::Cursor;
+use std::test::Fail;
+
+const CHECKED: &str = "18 62 ok 1 0\n84 62 ok 1 0\nframes 2 refused 0 skipped 22\n";
+
+/// A bulletin's heading, the message, a stray `BUFR`, and the message again.
+fn two_frames_and_a_stray(alloc: Global) -> Result<Vec<u8>, Fail> {
+    let mut stream = Vec::from_slice(alloc, b"ISMD01 EDZW 151200".as_slice())?;
+    stream.extend_from_slice(SEQUENCES)?;
+    stream.extend_from_slice(b"BUFR".as_slice())?;
+    stream.extend_from_slice(SEQUENCES)?;
+    Ok(stream)
+}
+
+/// A reader that gives so many octets a read, first the front of its octets up to a place, then the
+/// others; where `breaks` is told, it fails at its end. It remembers the most that a read asked
+/// for.
+#[derive(Debug, Drop)]
+struct Pieces<'a> {
+    octets: &'a [u8],
+    cut: usize,
+    most: usize,
+    breaks: bool,
+    asked: usize,
+    failed: bool,
+    reads: u64,
+    met_end: bool,
+}
+
+impl<'a> Pieces<'a> {
+    fn new(octets: &'a [u8], cut: usize, most: usize, breaks: bool) -> Self
+        ensures works { result.failed ≡ false }
+        ensures not_read { result.reads ≡ 0 }
+        ensures not_ended { result.met_end ≡ false }
+    {
+        Pieces {
+            octets,
+            cut,
+            most,
+            breaks,
+            asked: 0,
+            failed: false,
+            reads: 0,
+            met_end: false,
+        }
+    }
+}
+
+impl Source for Pieces<'_> {
+    ghost reading = { λ s. record
+        { left = None; failed = s.failed; reads = s.reads; met_end = s.met_end } };
+
+    fn read(&mut self, buffer: &mut [u8]) -> Result<usize, Failed> {
+        self.reads += 1;
+        self.asked = self.asked.max(buffer.len());
+        let octets = self.octets;
+        let front = if self.cut > 0 { self.cut } else { octets.len() };
+        let given = front.min(octets.len()).min(self.most).min(buffer.len());
+        if given == 0 {
+            if self.breaks {
+                self.failed = true;
+                return Err(Failed);
+            }
+            self.met_end = true;
+            return Ok(0);
+        }
+        buffer[..given].copy_from_slice(&octets[..given]);
+        self.octets = &octets[given..];
+        self.cut = self.cut.saturating_sub(given);
+        Ok(given)
+    }
+}
+
+/// What checking a stream in such pieces answers, and what was written.
+fn checked(
+    alloc: Global,
+    reads: u64,
+    octets: &[u8],
+    cut: usize,
+    most: usize,
+    breaks: bool,
+) -> Result<(Result<Tally, ToolFault>, String), Fail> {
+    let tables = tables(alloc)?;
+    let mut reader = Pieces::new(octets, cut, most, breaks);
+    let mut writer = IntoWrite::new(Vec::new(alloc));
+    let answer = run_check(
+        alloc,
+        reads.min(4_294_967_296),
+        &tables,
+        &mut reader,
+        &mut writer,
+    );
+    Ok((answer, String::from_utf8(writer.into_inner())?))
+}
+
+const TWO: Tally = Tally {
+    frames: 2,
+    refused: 0,
+    skipped: 22,
+    reports: 0,
+};
+
+#[test]
+fn two_frames_and_a_stray_in_any_pieces(rt: HostRuntime) -> Result<(), Fail> {
+    let alloc = rt.alloc();
+    let stream = two_frames_and_a_stray(alloc)?;
+    for cut in 0usize..147 {
+        let (answer, text) = checked(alloc, 10, &stream, cut, 1000, false)?;
+        assert_eq!(rt; answer, Ok(TWO), "at {cut}");
+        assert_eq!(rt; text.as_str(), CHECKED, "at {cut}");
+    }
+    let (answer, text) = checked(alloc, 147, &stream, 0, 1, false)?;
+    assert_eq!(rt; answer, Ok(TWO));
+    assert_eq!(rt; text.as_str(), CHECKED);
+    Ok(())
+}
+
+#[test]
+fn failing_reader_after_a_frame(rt: HostRuntime) -> Result<(), Fail> {
+    let alloc = rt.alloc();
+    let stream = two_frames_and_a_stray(alloc)?;
+    let front = stream.as_slice().get(..100).ok_or("a hundred octets")?;
+    let (answer, text) = checked(alloc, 1000, front, 0, 1, true)?;
+    assert_eq!(rt; answer, Err(ToolFault::ReadFailed(Input::Number(1))));
+    assert_eq!(rt; text.as_str(), "18 62 ok 1 0\n");
+    let (answer, text) = checked(alloc, 100, &stream, 0, 1, false)?;
+    assert_eq!(rt; answer, Err(ToolFault::EndlessInput(Input::Number(1))));
+    assert_eq!(rt; text.as_str(), "18 62 ok 1 0\n");
+    Ok(())
+}
+
+#[test]
+fn cut_short(rt: HostRuntime) -> Result<(), Fail> {
+    let alloc = rt.alloc();
+    for length in 0usize..62 {
+        let (answer, text) = checked(alloc, 10, &SEQUENCES[..length], 0, 1000, false)?;
+        let wanted = format!(in alloc; "frames 0 refused 0 skipped {length}\n")?;
+        assert_eq!(rt; text.as_str(), wanted.as_str());
+        assert_eq!(rt;
+            answer,
+            Ok(Tally {
+                frames: 0,
+                refused: 0,
+                skipped: length as u128,
+                reports: 0,
+            })
+        );
+    }
+    Ok(())
+}
+
+#[test]
+fn endless_reader(rt: HostRuntime) -> Result<(), Fail> {
+    let alloc = rt.alloc();
+    let endless = Err(ToolFault::EndlessInput(Input::Number(1)));
+    let octets = b"BBBBBBBB".as_slice();
+    assert_eq!(rt; checked(alloc, 4, octets, 0, 1, false)?.0, endless);
+    assert_eq!(rt; checked(alloc, 4, &octets[..4], 0, 1, false)?.0, endless);
+    assert_eq!(rt; checked(alloc, 0, octets, 0, 1, false)?.0, endless);
+    let (_, text) = checked(alloc, 4, &octets[..3], 0, 1, false)?;
+    assert_eq!(rt; text.as_str(), "frames 0 refused 0 skipped 3\n");
+    Ok(())
+}
+
+#[test]
+fn thousand_refused(rt: HostRuntime) -> Result<(), Fail> {
+    let alloc = rt.alloc();
+    let mut stream = Vec::new(alloc);
+    let mut wanted = String::new(alloc);
+    for number in 0u32..1000 {
+        stream.extend_from_slice(b"BUFR\x00\x00\x0C\x047777".as_slice())?;
+        let place = 12 * number;
+        write!(wanted, "{place} 12 refused M5 Section1Length\n")?;
+    }
+    wanted.push_str("frames 1000 refused 1000 skipped 0\n")?;
+    let (answer, text) = checked(alloc, 1000, &stream, 0, 65536, false)?;
+    assert_eq!(rt; text.as_str(), wanted.as_str());
+    assert_eq!(rt;
+        answer,
+        Ok(Tally {
+            frames: 1000,
+            refused: 1000,
+            skipped: 0,
+            reports: 0,
+        })
+    );
+    Ok(())
+}
+
+/// A reader that gives a piece again and again, so often. It remembers the most that a read asked
+/// for.
+#[derive(Debug, Drop)]
+struct Again<'a> {
+    piece: &'a [u8],
+    times: u64,
+    asked: usize,
+    reads: u64,
+    met_end: bool,
+}
+
+impl Source for Again<'_> {
+    ghost reading = { λ s. record
+        { left = None; failed = false; reads = s.reads; met_end = s.met_end } };
+
+    fn read(&mut self, buffer: &mut [u8]) -> Result<usize, Failed> {
+        self.reads += 1;
+        self.asked = self.asked.max(buffer.len());
+        let given = self.piece.len().min(buffer.len());
+        if self.times == 0 || given == 0 {
+            self.met_end = true;
+            return Ok(0);
+        }
+        self.times -= 1;
+        buffer[..given].copy_from_slice(&self.piece[..given]);
+        Ok(given)
+    }
+}
+
+#[test]
+fn bufr_without_end(rt: HostRuntime) -> Result<(), Fail> {
+    let alloc = rt.alloc();
+    let tables = tables(alloc)?;
+    let mut piece = Vec::new(alloc);
+    for _ in 0u32..16_384 {
+        piece.extend_from_slice(b"BUFR".as_slice())?;
+    }
+    let mut reader = Again {
+        piece: &piece,
+        times: 256,
+        asked: 0,
+        reads: 0,
+        met_end: false,
+    };
+    let mut writer = IntoWrite::new(Vec::new(alloc));
+    let answer = run_check(alloc, 257, &tables, &mut reader, &mut writer);
+    assert_eq!(rt;
+        answer,
+        Ok(Tally {
+            frames: 0,
+            refused: 0,
+            skipped: 16_777_216,
+            reports: 0,
+        })
+    );
+    assert_eq!(rt;
+        writer.into_inner().as_slice(),
+        b"frames 0 refused 0 skipped 16777216\n".as_slice()
+    );
+    assert_eq!(rt; reader.asked, 65536);
+    assert_eq!(rt; reader.reads, 257);
+    Ok(())
+}
+
+/// A writer that takes so many octets, three at most at a time, and then fails, at the flush too.
+#[derive(Debug, Drop)]
+struct Narrow {
+    taken: Vec<u8>,
+    room: usize,
+    failed: bool,
+}
+
+impl Sink for Narrow {
+    ghost writing = { λ s. record { taken = Some s.taken.items; failed = s.failed } };
+
+    fn write(&mut self, piece: &[u8]) -> Result<usize, Failed> {
+        let given = piece.len().min(self.room).min(3);
+        let is_full = given == 0 && !piece.is_empty();
+        if is_full || self.taken.extend_from_slice(&piece[..given]).is_err() {
+            self.failed = true;
+            return Err(Failed);
+        }
+        self.room -= given;
+        Ok(given)
+    }
+
+    fn flush(&mut self) -> Result<(), Failed> {
+        if self.room == 0 {
+            self.failed = true;
+            return Err(Failed);
+        }
+        Ok(())
+    }
+}
+
+#[test]
+fn failing_writer(rt: HostRuntime) -> Result<(), Fail> {
+    let alloc = rt.alloc();
+    let stream = two_frames_and_a_stray(alloc)?;
+    let tables = tables(alloc)?;
+    for room in 0usize..57 {
+        let mut writer = Narrow {
+            taken: Vec::new(alloc),
+            room,
+            failed: false,
+        };
+        let mut reader = Pieces::new(&stream, 0, 50, false);
+        let answer = run_check(alloc, 10, &tables, &mut reader, &mut writer);
+        assert_eq!(rt;
+            answer,
+            Err(ToolFault::WriteFailed {
+                written: room as u128
+            }),
+            "at {room}"
+        );
+        assert_eq!(rt; writer.taken.len(), room);
+        assert!(rt; CHECKED.as_bytes().starts_with(&writer.taken));
+    }
+    let mut writer = Narrow {
+        taken: Vec::new(alloc),
+        room: 58,
+        failed: false,
+    };
+    let answer = run_check(
+        alloc,
+        10,
+        &tables,
+        &mut FromRead::new(stream.as_slice()),
+        &mut writer,
+    );
+    assert_eq!(rt; answer, Ok(TWO));
+    assert_eq!(rt; writer.taken.as_slice(), CHECKED.as_bytes());
+    Ok(())
+}
+
+/// The messages of a stream are shown one after another.
+#[test]
+fn several_messages_shown(rt: HostRuntime) -> Result<(), Fail> {
+    let alloc = rt.alloc();
+    let tables = tables(alloc)?;
+    let mut stream = Vec::from_slice(alloc, b"noise".as_slice())?;
+    let mut wanted = Vec::new(alloc);
+    for _ in 0u32..2000 {
+        stream.extend_from_slice(ELEMENTS_ONLY)?;
+        wanted.extend_from_slice(LISTING)?;
+    }
+    stream.extend_from_slice(b"BUFR\x00\x00\x0C\x057777".as_slice())?;
+    wanted.extend_from_slice(b"# refused 140005 M2 Edition 5\n".as_slice())?;
+    let mut writer = IntoWrite::new(Vec::new(alloc));
+    let answer = run_show(
+        alloc,
+        10,
+        &tables,
+        &mut FromRead::new(stream.as_slice()),
+        &mut writer,
+    );
+    assert_eq!(rt; writer.into_inner().as_slice(), wanted.as_slice());
+    assert_eq!(rt;
+        answer,
+        Ok(Tally {
+            frames: 2001,
+            refused: 1,
+            skipped: 0,
+            reports: 0,
+        })
+    );
+    Ok(())
+}
+
+/// Help that cannot be written is a fault, and the version is the name and the number. The commands
+/// on files are tried by `tests/commands` at the top.
+#[test]
+fn help_and_version(rt: HostRuntime) -> Result<(), Fail> {
+    let alloc = rt.alloc();
+    let mut out = Cursor::new([0u8; 4]);
+    let mut err = Vec::new(alloc);
+    let none: [String; 0] = [];
+    let status = run_command(&rt, alloc, none.as_slice(), &mut out, &mut err);
+    assert_eq!(rt; status, 2);
+    assert_eq!(rt;
+        err.as_slice(),
+        b"bufr: write failed after 4 octets\n".as_slice()
+    );
+    let words = [String::from_str(alloc, "--version")?];
+    let mut out = Vec::new(alloc);
+    let mut err = Vec::new(alloc);
+    let status = run_command(&rt, alloc, words.as_slice(), &mut out, &mut err);
+    assert_eq!(rt; status, 0);
+    assert_eq!(rt; out.as_slice(), b"bufr 0.1.0\n".as_slice());
+    assert!(rt; err.is_empty());
+    assert_eq!(rt; MOST_READS, 4_294_967_296);
+    Ok(())
+}
