@@ -136,11 +136,11 @@ impl<'t, S: Shelf> Archive<'t, S> {
 }
 
 impl Archive<'_, SortedShelf> {
-    /// Its text: the canonical messages of what it holds, joined in order of slots. It can only run
-    /// out of memory.
-    pub fn octets(&self) -> Result<Vec<u8>, OutOfMemory>
-        ensures { IfOk result (λ octets. octets.items ≡ text self.now.entries) }
+    /// Its text: the canonical messages of what it holds, joined in order of slots. The archive is
+    /// gone, also where memory was refused; `write` keeps it.
+    pub fn into_octets(self) -> Result<Vec<u8>, OutOfMemory>
+        ensures { IfOk result (λ octets. octets.items ≡ text self.entry.entries) }
     {
-        self.shelf.joined()
+        self.shelf.into_octets()
     }
 }

@@ -37,12 +37,13 @@ pub fn run_add<S: Source, W: Sink>(
     };
     add_streams(alloc, reads, readers, &mut room, &mut gatherer, &mut counts)?;
     let archive = gatherer.into_archive()?;
-    let text = archive.octets()?;
+    let reports = archive.len() as u128;
+    let text = archive.into_octets()?;
     write_out(writer, 0, &text)?;
     Ok(Tally {
         frames: counts.frames,
         refused: counts.refused,
         skipped: 0,
-        reports: archive.len() as u128,
+        reports,
     })
 }

@@ -81,12 +81,13 @@ pub fn run_merge<S: Source, W: Sink>(
         (map S.reading readers.new) (W.writing writer.old) (W.writing writer.new) result }
 {
     let merged: Archive<'_, SortedShelf> = merge_readers(alloc, reads, tables, readers)?;
-    let text = merged.octets()?;
+    let reports = merged.len() as u128;
+    let text = merged.into_octets()?;
     write_out(writer, 0, &text)?;
     Ok(Tally {
         frames: readers.len() as u128,
         refused: 0,
         skipped: 0,
-        reports: merged.len() as u128,
+        reports,
     })
 }

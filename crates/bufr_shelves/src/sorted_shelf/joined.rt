@@ -10,10 +10,10 @@ use crate::rank::Rank;
 use crate::sorted_shelf::SortedShelf;
 use crate::sorted_shelf::pair::Pair;
 
-/// Adds the octets of entries with a key.
-fn push_keyed(out: &mut Vec<u8>, pairs: &Vec<Pair<Key, Rank>>) -> Result<(), OutOfMemory>
+/// Adds the octets of entries with a key, each of which is given back once they are added.
+fn push_keyed(out: &mut Vec<u8>, pairs: Vec<Pair<Key, Rank>>) -> Result<(), OutOfMemory>
     ensures { OnOk result
-        (out.new.items ≡ out.old.items ++ flat_map (λ p. p.1.bytes) pairs.now.items) }
+        (out.new.items ≡ out.old.items ++ flat_map (λ p. p.1.bytes) pairs.items) }
 {
     for pair in pairs {
         out.extend_from_slice(pair.value().bytes.as_slice())?;
@@ -21,10 +21,10 @@ fn push_keyed(out: &mut Vec<u8>, pairs: &Vec<Pair<Key, Rank>>) -> Result<(), Out
     Ok(())
 }
 
-/// Adds the octets of entries without one.
-fn push_unkeyed(out: &mut Vec<u8>, pairs: &Vec<Pair<Octets, u8>>) -> Result<(), OutOfMemory>
+/// Adds the octets of entries without one, each of which is given back once they are added.
+fn push_unkeyed(out: &mut Vec<u8>, pairs: Vec<Pair<Octets, u8>>) -> Result<(), OutOfMemory>
     ensures { OnOk result
-        (out.new.items ≡ out.old.items ++ flat_map (λ p. p.0) pairs.now.items) }
+        (out.new.items ≡ out.old.items ++ flat_map (λ p. p.0) pairs.items) }
 {
     for pair in pairs {
         out.extend_from_slice(pair.key().as_slice())?;
@@ -33,13 +33,19 @@ fn push_unkeyed(out: &mut Vec<u8>, pairs: &Vec<Pair<Octets, u8>>) -> Result<(), 
 }
 
 impl SortedShelf {
-    /// The octets of all entries in order of slots, joined. It can only run out of memory.
-    pub fn joined(&self) -> Result<Vec<u8>, OutOfMemory>
-        ensures { IfOk result (λ out. out.items ≡ flat_map (λ e. e.bytes) (kept self.now)) }
+    /// The octets of all entries in order of slots, joined. The shelf is gone, also where memory was
+    /// refused.
+    pub fn into_octets(self) -> Result<Vec<u8>, OutOfMemory>
+        ensures { IfOk result (λ out. out.items ≡ flat_map (λ e. e.bytes) (kept self)) }
     {
-        let mut out = Vec::new(self.alloc);
-        push_keyed(&mut out, &self.keyed)?;
-        push_unkeyed(&mut out, &self.unkeyed)?;
+        let SortedShelf {
+            alloc,
+            keyed,
+            unkeyed,
+        } = self;
+        let mut out = Vec::new(alloc);
+        push_keyed(&mut out, keyed)?;
+        push_unkeyed(&mut out, unkeyed)?;
         Ok(out)
     }
 }

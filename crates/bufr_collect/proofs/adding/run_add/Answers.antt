@@ -37,5 +37,5 @@ returns-clause-adds g c =
     c.in_ok-add_streams.ensures.adds)
     (c.deref.ensures.value ∙ c.in_ok-text.ensures
     ∙ ap (λ (a : ArchiveView). text a.entries) c.in_ok-archive.ensures)
-    (c.len.ensures.count ∙ ap (λ (a : ArchiveView). length a.entries) c.in_ok-archive.ensures)
+    (c.len-reports.ensures.count ∙ ap (λ (a : ArchiveView). length a.entries) c.in_ok-archive.ensures)
     c.in_ok-write_out.ensures

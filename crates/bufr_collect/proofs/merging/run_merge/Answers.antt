@@ -14,5 +14,5 @@ returns-clause-merges g c =
     c.in_ok-merged.ensures.merges
     (c.deref.ensures.value ∙ c.in_ok-text.ensures)
     (sym (length-map c.merge_readers.new.readers g.S.Source.reading))
-    c.len.ensures.count
+    c.len-reports.ensures.count
     c.in_ok-write_out.ensures

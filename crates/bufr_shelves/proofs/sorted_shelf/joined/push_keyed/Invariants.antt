@@ -1,5 +1,5 @@
 -- For `push_keyed`: what its loop keeps.
-use Rattle.std.proofs.Common.{◌≡◌, ◌++◌, ℕ, List, take}
+use Rattle.std.proofs.Common.{◌≡◌, ◌++◌, ℕ, List}
 use Rattle.std.specs.List.{flat_map}
 use Rattle.bufr_shelves.specs.declared.key.Key.{Key}
 use Rattle.bufr_shelves.specs.declared.rank.Rank.{Rank}
@@ -8,4 +8,4 @@ use Rattle.bufr_shelves.proofs.sorted_shelf.joined.push_keyed.Given as goal
 -- the octets of the pairs so far were added
 abbrev pub invariant-loop-pair : goal.invariant-loop-pair
 invariant-loop-pair l =
-    l.out.items ≡ l.fn.out.items ++ flat_map (λ (p : Key × Rank). p.1.bytes) (take l.pair-index l.pairs.items)
+    l.out.items ≡ l.fn.out.items ++ flat_map (λ (p : Key × Rank). p.1.bytes) l.yielded

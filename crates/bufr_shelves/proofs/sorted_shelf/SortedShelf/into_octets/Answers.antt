@@ -1,4 +1,4 @@
--- For `SortedShelf::joined`: the octets of entries are those of their pairs.
+-- For `SortedShelf::into_octets`: the octets of entries are those of their pairs.
 use Rattle.std.proofs.Common.{◌≡◌, ◌∙◌, ◌++◌, ◌∷◌, [], ℕ, List, map, refl, sym, ap, append_assoc}
 use Rattle.std.specs.List.{flat_map}
 use Rattle.bufr_shelves.specs.Pairs.{shelved, without_key}
@@ -6,7 +6,7 @@ use Rattle.bufr_shelves.specs.declared.key.Key.{Key}
 use Rattle.bufr_shelves.specs.declared.rank.Rank.{Rank}
 use Rattle.bufr_shelves.specs.declared.entry.Entry.{Entry}
 use Rattle.bufr_shelves.proofs.ShelvedLemmas.{entries-are}
-use Rattle.bufr_shelves.proofs.sorted_shelf.SortedShelf.joined.Goals as goal
+use Rattle.bufr_shelves.proofs.sorted_shelf.SortedShelf.into_octets.Goals as goal
 
 -- of entries without a key
 joined-unkeyed : (us : List (List ℕ × ℕ))
@@ -35,4 +35,4 @@ returns c =
     (c.in_ok-push_keyed.ensures ∙ ap (λ (out : List ℕ). out ++ keyed) c.new-out.ensures.items)
     ∙ sym (joined-all ks us)
     ∙ ap (flat_map (λ (e : Entry). e.bytes))
-    (sym (entries-are c.args.self.now _ c.self.view_is c.self.invariant))
+    (sym (entries-are c.args.self _ c.self.view_is c.self.invariant))
