@@ -3,9 +3,10 @@
 
 use super::samples::{octets, tables, tables_of};
 use bufr_data::Raw;
-use bufr_message::{decode, encode};
+use bufr_message::{Message, decode, encode};
 use bufr_tables::Tables;
 use std::alloc::Global;
+use std::process::Abort;
 use std::test::Fail;
 
 /// The octets of a message: its front, so many zero octets of data, and section 5.
@@ -142,24 +143,36 @@ fn delayed_counts(rt: HostRuntime) -> Result<(), Fail> {
 /// The front of a message of 5,000 subsets of one text of 255 characters each: 1,275,047 octets.
 const LONG_FRONT: &str = "42554652 1374A7 04 | S1 | 000009 00 1388 80 85FF | 13747C 00";
 
-#[test]
-fn long_message(rt: HostRuntime) -> Result<(), Fail> {
-    let alloc = rt.alloc();
-    let tables = tables(alloc)?;
+/// The octets of that message, whose characters are all A.
+fn long_octets(alloc: Global) -> Result<Vec<u8>, Fail> {
     let mut all = octets(alloc, LONG_FRONT)?;
     for _ in 0..1_275_000 {
         all.push(b'A')?;
     }
     all.extend_from_slice(b"7777")?;
-    let found = decode(alloc, &tables, all.as_slice())?;
-    assert_eq!(rt; found.slack_octets, 0);
-    assert_eq!(rt; found.message.subsets.len(), 5000);
-    let last = &found.message.subsets.get(4999).ok_or("subset")?.fields;
-    let Raw::Text(text) = &last.get(0).ok_or("field")?.raw else {
+    Ok(all)
+}
+
+/// The message has all its subsets, and the last text to its end.
+fn assert_long(rt: &impl Abort, message: &Message) -> Result<(), Fail> {
+    assert_eq!(rt; message.subsets.len(), 5000);
+    let last = message.subsets.get(4999).ok_or("subset")?;
+    let Raw::Text(text) = &last.fields.get(0).ok_or("field")?.raw else {
         return Err("a text")?;
     };
     assert_eq!(rt; text.len(), 255);
     assert_eq!(rt; text.get(254), Some(&b'A'));
+    Ok(())
+}
+
+#[test]
+fn long_message(rt: HostRuntime) -> Result<(), Fail> {
+    let alloc = rt.alloc();
+    let tables = tables(alloc)?;
+    let all = long_octets(alloc)?;
+    let found = decode(alloc, &tables, all.as_slice())?;
+    assert_eq!(rt; found.slack_octets, 0);
+    assert_long(&rt, &found.message)?;
     let written = encode(alloc, &tables, &found.message)?;
     assert_eq!(rt; written.as_slice(), all.as_slice());
     Ok(())

@@ -1,7 +1,7 @@
 //! Frames of a stream.
 
 use crate::tests::samples::{SEQUENCES, is_refused};
-use bufr_frame::{Found, Framer};
+use bufr_frame::{Found, Framer, Taken};
 use std::process::Abort;
 use std::test::Fail;
 
@@ -82,18 +82,16 @@ fn pieces_looked_at(rt: HostRuntime) -> Result<(), Fail> {
 }
 
 /// One frame is taken out of a piece; after a refusal the framer has as much as before.
-macro_rules! taken {
-    ($rt:expr, $framer:expr, $piece:expr) => {{
-        let (fed, pending) = ($framer.fed(), $framer.pending());
-        assert!($rt; fed <= 1_000_000);
-        assert!($rt; $piece.len() <= 1000);
-        let mut answer = $framer.take_next($piece);
-        if is_refused(&answer) {
-            assert_eq!($rt; ($framer.fed(), $framer.pending()), (fed, pending));
-            answer = $framer.take_next($piece);
-        }
-        answer?
-    }};
+fn taken<'a>(rt: &impl Abort, framer: &mut Framer, piece: &'a [u8]) -> Result<Taken<'a>, Fail> {
+    let (fed, pending) = (framer.fed(), framer.pending());
+    assert!(rt; fed <= 1_000_000);
+    assert!(rt; piece.len() <= 1000);
+    let mut answer = framer.take_next(piece);
+    if is_refused(&answer) {
+        assert_eq!(rt; (framer.fed(), framer.pending()), (fed, pending));
+        answer = framer.take_next(piece);
+    }
+    Ok(answer?)
 }
 
 /// Whether a frame of the message at a place was handed out.
@@ -107,16 +105,16 @@ fn is_message(found: &Option<Found>, place: u64) -> bool {
 #[test]
 fn frames_taken_one_by_one(rt: HostRuntime) -> Result<(), Fail> {
     let mut framer = Framer::new(rt.alloc());
-    let start = taken!(rt, framer, &SEQUENCES[..40]);
+    let start = taken(&rt, &mut framer, &SEQUENCES[..40])?;
     assert!(rt; start.found.is_none());
-    let first = taken!(rt, framer, &SEQUENCES[40..]);
+    let first = taken(&rt, &mut framer, &SEQUENCES[40..])?;
     assert!(rt; is_message(&first.found, 0));
     assert!(rt; first.rest.is_empty());
-    let second = taken!(rt, framer, SEQUENCES);
+    let second = taken(&rt, &mut framer, SEQUENCES)?;
     assert!(rt; is_message(&second.found, 62));
-    let stray = taken!(rt, framer, HEADING);
+    let stray = taken(&rt, &mut framer, HEADING)?;
     assert!(rt; stray.found.is_none());
-    let third = taken!(rt, framer, SEQUENCES);
+    let third = taken(&rt, &mut framer, SEQUENCES)?;
     assert!(rt; third.found.is_none());
     assert!(rt; is_message_at(&finished!(rt, framer), 136));
     Ok(())
