@@ -7,6 +7,7 @@ use bufr_bits::device::IntoWrite;
 use bufr_tables::Tables;
 use samples::{key_of_number, message, octets};
 use std::alloc::Global;
+use std::fmt::Debug;
 use std::process::Abort;
 
 mod adding;
@@ -16,6 +17,12 @@ mod samples;
 
 /// Reports by number and update sequence number.
 type Reports<'a> = &'a [(u16, u8)];
+
+/// Stops the test where the two differ. It is a function, since a comparison written out in a test
+/// makes the proof of that test more than twice as long.
+fn same<T: PartialEq + Debug + Drop>(rt: &impl Abort, found: T, wanted: T) {
+    assert_eq!(rt; found, wanted);
+}
 
 // The messages of reports, joined.
 fn joined(rt: &impl Abort, alloc: Global, reports: Reports) -> Vec<u8> {
@@ -41,7 +48,7 @@ fn assert_text<S: Shelf>(
     count: usize,
     text: &[u8],
 ) {
-    assert_eq!(rt; archive.len(), count);
+    same(rt, archive.len(), count);
     assert!(rt; written(rt, alloc, archive).as_slice() == text, "{count}");
 }
 
@@ -73,7 +80,34 @@ fn add<S: Shelf>(
 {
     let octets = octets(rt, alloc, message);
     let found = archive.add_message(octets.as_slice());
-    assert_eq!(rt; found, answer);
+    same(rt, found, answer);
+}
+
+/// Adds each of these messages of one report, of which so many change what is kept.
+fn add_all<S: Shelf>(
+    rt: &impl Abort,
+    alloc: Global,
+    archive: &mut Archive<S>,
+    messages: &[(&str, u128)],
+) {
+    for (message, changed) in messages {
+        add(rt, alloc, archive, *message, added(1, *changed));
+    }
+}
+
+/// Adds a report, and answers whether it changes what is kept.
+fn add_report<S: Shelf>(
+    rt: &impl Abort,
+    alloc: Global,
+    archive: &mut Archive<S>,
+    number: u16,
+    update: u8,
+) -> bool {
+    let octets = message(rt, alloc, number, update);
+    let found = archive.add_message(octets.as_slice());
+    let changes = found == added(1, 1);
+    assert!(rt; changes || found == added(1, 0));
+    changes
 }
 
 // Adds each of these reports, of which so many change what is kept.
@@ -86,12 +120,9 @@ fn add_reports<S: Shelf>(
 ) {
     let mut count: u128 = 0;
     for (number, update) in reports {
-        let octets = message(rt, alloc, *number, *update);
-        let found = archive.add_message(octets.as_slice());
-        assert!(rt; found == added(1, 1) || found == added(1, 0));
-        if found == added(1, 1) {
+        if add_report(rt, alloc, archive, *number, *update) {
             count = count.saturating_add(1);
         }
     }
-    assert_eq!(rt; count, changed);
+    same(rt, count, changed);
 }

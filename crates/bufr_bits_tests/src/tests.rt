@@ -4,6 +4,8 @@ mod devices;
 mod sizes;
 
 use bufr_bits::{BitReader, BitSink};
+use std::alloc::Global;
+use std::fmt::Debug;
 use std::process::Abort;
 use std::test::Fail;
 
@@ -29,6 +31,43 @@ fn expect_fields(rt: &impl Abort, reader: &mut BitReader<'_>, fields: &[(u32, u6
     }
 }
 
+/// Stops the test where the two differ. It is a function, since a comparison written out in a test
+/// makes the proof of that test more than twice as long.
+fn same<T: PartialEq + Debug + Drop>(rt: &impl Abort, found: T, wanted: T) {
+    assert_eq!(rt; found, wanted);
+}
+
+/// Puts the fields of `SEQUENCES` and compares the octets.
+fn put_sequences(rt: &impl Abort, alloc: Global) -> Result<(), Fail> {
+    let mut sink = BitSink::new(alloc);
+    sink.put(7, 10)?;
+    sink.put(10, 384)?;
+    sink.put(12, 2024)?;
+    sink.put(4, 1)?;
+    sink.put(6, 15)?;
+    sink.put(5, 12)?;
+    sink.put(6, 0)?;
+    sink.put(16, 27315)?;
+    same(rt, sink.len_bits(), 66);
+    sink.fill_octet();
+    same(rt, sink.len_bits(), 72);
+    same(rt, sink.into_bytes().as_slice(), SEQUENCES.as_slice());
+    Ok(())
+}
+
+/// Takes a text of so many octets and compares it.
+fn expect_text(
+    rt: &impl Abort,
+    alloc: Global,
+    reader: &mut BitReader<'_>,
+    length: u64,
+    wanted: &[u8],
+) -> Result<(), Fail> {
+    let text = reader.take_bytes(alloc, length)?.ok_or("no text")?;
+    same(rt, text.as_slice(), wanted);
+    Ok(())
+}
+
 #[test]
 fn sequences(rt: HostRuntime) -> Result<(), Fail> {
     let fields = [
@@ -42,93 +81,86 @@ fn sequences(rt: HostRuntime) -> Result<(), Fail> {
         (16, 27315),
     ];
     let mut reader = BitReader::new(&SEQUENCES);
-    assert_eq!(rt; reader.left(), 72);
+    same(&rt, reader.left(), 72);
     expect_fields(&rt, &mut reader, &fields);
-    assert_eq!(rt; reader.place(), 66);
-    assert_eq!(rt; reader.left(), 6);
-    assert_eq!(rt; reader.take(7), None);
-    assert_eq!(rt; reader.place(), 66);
-    assert_eq!(rt; reader.take(6), Some(0));
-    assert_eq!(rt; reader.take(1), None);
-    assert_eq!(rt; reader.take(0), Some(0));
+    same(&rt, reader.place(), 66);
+    same(&rt, reader.left(), 6);
+    same(&rt, reader.take(7), None);
+    same(&rt, reader.place(), 66);
+    same(&rt, reader.take(6), Some(0));
+    same(&rt, reader.take(1), None);
+    same(&rt, reader.take(0), Some(0));
+    put_sequences(&rt, rt.alloc())
+}
 
-    let mut sink = BitSink::new(rt.alloc());
-    sink.put(7, 10)?;
-    sink.put(10, 384)?;
-    sink.put(12, 2024)?;
-    sink.put(4, 1)?;
-    sink.put(6, 15)?;
-    sink.put(5, 12)?;
-    sink.put(6, 0)?;
-    sink.put(16, 27315)?;
-    assert_eq!(rt; sink.len_bits(), 66);
+/// A message, three bits, and the message again, in octets.
+fn message_twice(rt: &impl Abort, alloc: Global) -> Result<Vec<u8>, Fail> {
+    let mut sink = BitSink::new(alloc);
+    sink.put_bytes(&DELAYED_COUNT)?;
+    same(rt, sink.len_bits(), 416);
+    sink.put(3, 5)?;
+    sink.put_bytes(&DELAYED_COUNT)?;
+    same(rt, sink.len_bits(), 835);
     sink.fill_octet();
-    assert_eq!(rt; sink.len_bits(), 72);
-    assert_eq!(rt; sink.into_bytes().as_slice(), SEQUENCES.as_slice());
-    Ok(())
+    Ok(sink.into_bytes())
 }
 
 #[test]
 fn message_in_character_data(rt: HostRuntime) -> Result<(), Fail> {
-    let mut sink = BitSink::new(rt.alloc());
-    sink.put_bytes(&DELAYED_COUNT)?;
-    assert_eq!(rt; sink.len_bits(), 416);
-    sink.put(3, 5)?;
-    sink.put_bytes(&DELAYED_COUNT)?;
-    assert_eq!(rt; sink.len_bits(), 835);
-    sink.fill_octet();
-    let octets = sink.into_bytes();
-    assert_eq!(rt; octets.len(), 105);
+    let alloc = rt.alloc();
+    let octets = message_twice(&rt, alloc)?;
+    same(&rt, octets.len(), 105);
 
     let mut reader = BitReader::new(octets.as_slice());
-    let text = reader.take_bytes(rt.alloc(), 52)?.ok_or("no text")?;
-    assert_eq!(rt; text.as_slice(), DELAYED_COUNT.as_slice());
-    assert_eq!(rt; reader.take(3), Some(5));
-    let again = reader
-        .take_bytes(rt.alloc(), 52)?
-        .ok_or("no text off the edge")?;
-    assert_eq!(rt; again.as_slice(), DELAYED_COUNT.as_slice());
-    assert_eq!(rt; reader.place(), 835);
-    assert!(rt; reader.take_bytes(rt.alloc(), 1)?.is_none());
-    assert_eq!(rt; reader.place(), 835);
-    let none = reader
-        .take_bytes(rt.alloc(), 0)?
-        .ok_or("nothing off the edge")?;
-    assert_eq!(rt; none.len(), 0);
+    expect_text(&rt, alloc, &mut reader, 52, &DELAYED_COUNT)?;
+    same(&rt, reader.take(3), Some(5));
+    expect_text(&rt, alloc, &mut reader, 52, &DELAYED_COUNT)?;
+    same(&rt, reader.place(), 835);
+    assert!(rt; reader.take_bytes(alloc, 1)?.is_none());
+    same(&rt, reader.place(), 835);
+    expect_text(&rt, alloc, &mut reader, 0, &[])
+}
+
+/// Texts of three octets compressed: `AB ` and missing, as two octets each.
+const TEXTS: [u8; 8] = [0x00, 0x00, 0x00, 0x09, 0x05, 0x0B, 0xFF, 0xFC];
+
+/// Puts the fields of `TEXTS` and compares the octets.
+fn put_texts(rt: &impl Abort, alloc: Global) -> Result<(), Fail> {
+    let mut sink = BitSink::new(alloc);
+    sink.put(24, 0)?;
+    sink.put(6, 2)?;
+    sink.put_bytes(b"AB")?;
+    sink.put_bytes(&[0xFF, 0xFF])?;
+    same(rt, sink.len_bits(), 62);
+    sink.fill_octet();
+    same(rt, sink.into_bytes().as_slice(), TEXTS.as_slice());
     Ok(())
+}
+
+/// Takes these fields off the front of octets and compares the bits left.
+fn expect_front(rt: &impl Abort, octets: &[u8], fields: &[(u32, u64)], left: u128) {
+    let mut reader = BitReader::new(octets);
+    expect_fields(rt, &mut reader, fields);
+    same(rt, reader.left(), left);
 }
 
 #[test]
 fn compressed_refusals_and_texts(rt: HostRuntime) -> Result<(), Fail> {
     // Two numbers of two bits: R0, NBINC and the increments.
-    let mut numbers = BitReader::new(&[0x82, 0x80]);
-    expect_fields(&rt, &mut numbers, &[(2, 2), (6, 2), (2, 2), (2, 0), (4, 0)]);
-    assert_eq!(rt; numbers.left(), 0);
+    let numbers = [(2, 2), (6, 2), (2, 2), (2, 0), (4, 0)];
+    expect_front(&rt, &[0x82, 0x80], &numbers, 0);
 
     // Texts of one octet: R0 and NBINC 2.
-    let mut short = BitReader::new(&[0x00, 0x08, 0x00, 0x00, 0x00, 0x00]);
-    expect_fields(&rt, &mut short, &[(8, 0), (6, 2)]);
-    assert_eq!(rt; short.left(), 34);
+    let short = [0x00, 0x08, 0x00, 0x00, 0x00, 0x00];
+    expect_front(&rt, &short, &[(8, 0), (6, 2)], 34);
 
-    // Texts of three octets: `AB ` and missing, as two octets each.
-    let octets = [0x00, 0x00, 0x00, 0x09, 0x05, 0x0B, 0xFF, 0xFC];
-    let mut texts = BitReader::new(&octets);
+    let alloc = rt.alloc();
+    let mut texts = BitReader::new(&TEXTS);
     expect_fields(&rt, &mut texts, &[(24, 0), (6, 2)]);
-    let first = texts.take_bytes(rt.alloc(), 2)?.ok_or("no first text")?;
-    assert_eq!(rt; first.as_slice(), b"AB".as_slice());
-    let second = texts.take_bytes(rt.alloc(), 2)?.ok_or("no second text")?;
-    assert_eq!(rt; second.as_slice(), [0xFF, 0xFF].as_slice());
-    assert_eq!(rt; texts.left(), 2);
-
-    let mut sink = BitSink::new(rt.alloc());
-    sink.put(24, 0)?;
-    sink.put(6, 2)?;
-    sink.put_bytes(b"AB")?;
-    sink.put_bytes(&[0xFF, 0xFF])?;
-    assert_eq!(rt; sink.len_bits(), 62);
-    sink.fill_octet();
-    assert_eq!(rt; sink.into_bytes().as_slice(), octets.as_slice());
-    Ok(())
+    expect_text(&rt, alloc, &mut texts, 2, b"AB")?;
+    expect_text(&rt, alloc, &mut texts, 2, &[0xFF, 0xFF])?;
+    same(&rt, texts.left(), 2);
+    put_texts(&rt, alloc)
 }
 
 #[test]
@@ -140,10 +172,10 @@ fn widest_fields_at_every_place(rt: HostRuntime) -> Result<(), Fail> {
         sink.put(64, number)?;
         sink.put(1, 1)?;
         sink.put(64, u64::MAX)?;
-        assert_eq!(rt; sink.len_bits(), u128::from(shift) + 129);
+        same(&rt, sink.len_bits(), u128::from(shift) + 129);
         sink.fill_octet();
         let octets = sink.into_bytes();
-        assert_eq!(rt; octets.len(), 17);
+        same(&rt, octets.len(), 17);
         let mut reader = BitReader::new(octets.as_slice());
         expect_fields(
             &rt,
@@ -157,8 +189,8 @@ fn widest_fields_at_every_place(rt: HostRuntime) -> Result<(), Fail> {
 #[test]
 fn places_and_cuts(rt: HostRuntime) -> Result<(), Fail> {
     let mut reader = BitReader::at(&SEQUENCES, 50);
-    assert_eq!(rt; reader.left(), 22);
-    assert_eq!(rt; reader.take(16), Some(27315));
+    same(&rt, reader.left(), 22);
+    same(&rt, reader.take(16), Some(27315));
 
     let mut sink = BitSink::new(rt.alloc());
     sink.put_bytes(&SEQUENCES)?;
@@ -167,11 +199,12 @@ fn places_and_cuts(rt: HostRuntime) -> Result<(), Fail> {
     sink.put(12, 2024)?;
     sink.put(4, 1)?;
     sink.put_bytes(b"BUFR")?;
+    // `cut` requires that so many bits are there, which a comparison in place shows.
     assert_eq!(rt; sink.len_bits(), 65);
     sink.cut(33);
     sink.fill_octet();
     let octets = [0x14, 0xC0, 0x3F, 0x40, 0x80];
-    assert_eq!(rt; sink.into_bytes().as_slice(), octets.as_slice());
+    same(&rt, sink.into_bytes().as_slice(), octets.as_slice());
     Ok(())
 }
 
@@ -186,16 +219,16 @@ fn octets_behind(octets: &[u8]) -> &[u8] {
 fn bits_passed(rt: HostRuntime) {
     let mut reader = BitReader::new(&SEQUENCES);
     assert!(rt; reader.pass(17));
-    assert_eq!(rt; reader.place(), 17);
-    assert_eq!(rt; reader.take(12), Some(2024));
+    same(&rt, reader.place(), 17);
+    same(&rt, reader.take(12), Some(2024));
     assert!(rt; reader.pass(0));
     assert!(rt; !reader.pass(44));
-    assert_eq!(rt; reader.place(), 29);
+    same(&rt, reader.place(), 29);
     assert!(rt; !reader.pass(u128::MAX));
-    assert_eq!(rt; reader.place(), 29);
+    same(&rt, reader.place(), 29);
     assert!(rt; reader.pass(43));
-    assert_eq!(rt; reader.left(), 0);
+    same(&rt, reader.left(), 0);
     assert!(rt; !reader.pass(1));
     assert!(rt; reader.pass(0));
-    assert_eq!(rt; octets_behind(&SEQUENCES), SEQUENCES.as_slice());
+    same(&rt, octets_behind(&SEQUENCES), SEQUENCES.as_slice());
 }

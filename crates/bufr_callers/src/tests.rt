@@ -1,13 +1,16 @@
 //! The callers on one message of a station. Octets are typed from the layout of messages.
 
 use super::*;
-use bufr_message::Refused;
+use bufr_archive::NotAnArchive;
+use bufr_data::WriteFault;
+use bufr_message::{EncodeFault, Refused};
 use bufr_tables::{TableB, TableD, Tables};
 use std::alloc::Global;
 use std::test::Fail;
 
 /// Table B of the tests.
 const TABLE_B: &[u8] = b"FXY,BUFR_Unit,BUFR_Scale,BUFR_ReferenceValue,BUFR_DataWidth_Bits\n\
+001015,CCITT IA5,0,0,160\n\
 012101,K,2,0,16\n";
 
 /// 273.15 K, with an octet behind the data: 50 octets.
@@ -24,6 +27,33 @@ const BARE: &[u8] = b"BUFR\x00\x00\x31\x04\
 \x00\x00\x06\x00\x6A\xB3\
 7777";
 
+/// The front of two compressed subsets of a text of 64 octets: 208064 001015.
+const TWO_TEXTS: &[u8] = b"BUFR\x00\x00\xF0\x04\
+\x00\x00\x16\x00\x00\x62\x00\x00\x00\x00\x00\x02\x00\x25\x00\x07\xE8\x01\x0F\x0C\x00\x00\
+\x00\x00\x0B\x00\x00\x02\xC0\x88\x40\x01\x0F\
+\x00\x00\xC3\x00";
+
+/// The octets of that message: R0 is 64 octets of zeros, and each increment has 63 octets, first of
+/// zeros and then of ones. The first text ends with a space, so it differs from the second in 64
+/// octets, and no increment has so many.
+fn two_texts(alloc: Global) -> Result<Vec<u8>, Fail> {
+    let mut octets = Vec::from_slice(alloc, TWO_TEXTS)?;
+    for (octet, times) in [
+        (0, 64u32),
+        (0xFC, 1),
+        (0, 62),
+        (0x03, 1),
+        (0xFF, 62),
+        (0xFC, 1),
+    ] {
+        for _ in 0..times {
+            octets.push(octet)?;
+        }
+    }
+    octets.extend_from_slice(b"7777".as_slice())?;
+    Ok(octets)
+}
+
 /// The tables of the tests.
 fn tables(alloc: Global) -> Result<Tables, Fail> {
     let elements = TableB::parse(alloc, TABLE_B)?;
@@ -38,6 +68,17 @@ fn slack_is_not_rewritten(rt: HostRuntime) -> Result<(), Fail> {
     assert!(rt; rewritten(alloc, &tables, SLACK).is_ok_and(|written| written.as_slice() == BARE));
     let refused = rewritten(alloc, &tables, &SLACK[..40]);
     assert!(rt; matches!(refused, Err(RewriteFault::Refused(Refused::TotalLength))));
+    Ok(())
+}
+
+#[test]
+fn message_without_encoding(rt: HostRuntime) -> Result<(), Fail> {
+    let alloc = rt.alloc();
+    let kept = rewritten(alloc, &tables(alloc)?, &two_texts(alloc)?);
+    let Err(RewriteFault::Unwritable(why)) = kept else {
+        return Err("a message that has an encoding")?;
+    };
+    assert!(rt; why == EncodeFault::Data(WriteFault::NotCompressible(1)));
     Ok(())
 }
 
@@ -65,6 +106,19 @@ fn message_taken_in_once(rt: HostRuntime) -> Result<(), Fail> {
         assert!(rt; kept.is_ok_and(|text| text.as_slice() == BARE));
     }
     let broken = with_message(alloc, &tables, SLACK, BARE);
-    assert!(rt; matches!(broken, Err(KeepFault::NotAnArchive(_))));
+    assert!(rt;
+        matches!(
+            broken,
+            Err(KeepFault::NotAnArchive(NotAnArchive { place: 0 }))
+        )
+    );
+    Ok(())
+}
+
+#[test]
+fn octets_that_are_not_taken_in(rt: HostRuntime) -> Result<(), Fail> {
+    let alloc = rt.alloc();
+    let refused = with_message(alloc, &tables(alloc)?, b"", b"BUFR".as_slice());
+    assert!(rt; matches!(refused, Err(KeepFault::Refused(Refused::NotBufr))));
     Ok(())
 }

@@ -25,8 +25,8 @@ SharedOutAnyhow = (tables : Entries) (groups : List (List (List ℕ))) (lists : 
 -- ---- any way of adding and merging
 
 -- Files made of groups of streams, one of each group: `add` writes the text of what the streams of
--- a group tell (`Collects`), and `merge` the text of the reports of its archives (`Merges`), each of
--- which was itself made so.
+-- a group tell (`Collects`), and `merge` the text of the reports of its archives (`Merges`), each
+-- of which was itself made so.
 pub data AreMadeOf (tables : Entries) : List (List (List ℕ)) → List (List ℕ) → Type 0 where
   none : AreMadeOf tables [] []
   by_add : (streams : List (List ℕ)) {groups : List (List (List ℕ))} {files : List (List ℕ)}

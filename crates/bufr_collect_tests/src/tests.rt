@@ -1,6 +1,6 @@
 //! What the engines answer and write. Octets are typed from the layouts of messages.
 
-ghost use Rattle.std.specs.Prelude.{◌≡◌, ◌≤◌, None, Some, false, IfOk, map};
+ghost use Rattle.std.specs.Prelude.{◌≡◌, ◌≤◌, ◌<◌, None, Some, false, IfOk, map};
 ghost use Rattle.bufr_collect.specs.Readers.{AreFresh};
 
 use bufr_bits::{Failed, IntoWrite, Sink, Source};
@@ -8,6 +8,7 @@ use bufr_collect::{run_add, run_merge};
 use bufr_engines::{Input, Tally, ToolFault};
 use bufr_tables::{TableB, TableD, Tables};
 use std::alloc::{AllocError, Global};
+use std::fmt::Debug;
 use std::process::Abort;
 use std::test::Fail;
 
@@ -54,7 +55,8 @@ const MONTH_13: &[u8] = b"BUFR\x00\x00\x3E\x04\
 /// A frame that spells no message: an edition that is not read.
 const EDITION_5: &[u8] = b"BUFR\x00\x00\x0C\x057777";
 
-/// A reader that gives so many octets a read; where `breaks` is told, it fails at its end.
+/// A reader that gives so many octets a read; where `breaks` is told, it fails at its end. It
+/// remembers the most that a read asked for.
 #[derive(Debug, Drop)]
 struct Pieces {
     octets: Vec<u8>,
@@ -62,6 +64,7 @@ struct Pieces {
     most: usize,
     breaks: bool,
     failed: bool,
+    asked: usize,
     reads: u64,
     met_end: bool,
 }
@@ -78,6 +81,7 @@ impl Pieces {
             most,
             breaks,
             failed: false,
+            asked: 0,
             reads: 0,
             met_end: false,
         }
@@ -90,6 +94,7 @@ impl Source for Pieces {
 
     fn read(&mut self, buffer: &mut [u8]) -> Result<usize, Failed> {
         self.reads += 1;
+        self.asked = self.asked.max(buffer.len());
         let octets = self.octets.get(self.place..).unwrap_or_default();
         let given = octets.len().min(self.most).min(buffer.len());
         if given == 0 {
@@ -125,22 +130,35 @@ fn readers(alloc: Global, inputs: &[&[u8]]) -> Result<Vec<Pieces>, AllocError>
     Ok(readers)
 }
 
-/// What adding such streams answers, and what was written.
-fn added(alloc: Global, inputs: &[&[u8]]) -> Result<(Result<Tally, ToolFault>, Vec<u8>), Fail> {
+/// What adding or merging inputs answers, and what was written.
+fn collected(
+    alloc: Global,
+    merging: bool,
+    reads: u64,
+    inputs: &mut [Pieces],
+) -> Result<(Result<Tally, ToolFault>, Vec<u8>), Fail>
+    requires few { reads ≤ 4294967296 }
+    requires fresh { AreFresh (map ⟦<Pieces as Source>⟧.reading inputs.old) }
+{
     let tables = tables(alloc)?;
     let mut writer = IntoWrite::new(Vec::new(alloc));
-    let mut streams = readers(alloc, inputs)?;
-    let answer = run_add(alloc, 10, &tables, &mut streams, &mut writer);
+    let answer = if merging {
+        run_merge(alloc, reads, &tables, inputs, &mut writer)
+    } else {
+        run_add(alloc, reads, &tables, inputs, &mut writer)
+    };
     Ok((answer, writer.into_inner()))
 }
 
-/// What merging such archives answers, and what was written.
-fn merged(alloc: Global, inputs: &[&[u8]]) -> Result<(Result<Tally, ToolFault>, Vec<u8>), Fail> {
-    let tables = tables(alloc)?;
-    let mut writer = IntoWrite::new(Vec::new(alloc));
-    let mut archives = readers(alloc, inputs)?;
-    let answer = run_merge(alloc, 10, &tables, &mut archives, &mut writer);
-    Ok((answer, writer.into_inner()))
+/// What adding such streams, or merging such archives, within ten reads each answers, and what was
+/// written.
+fn collected_of(
+    alloc: Global,
+    merging: bool,
+    inputs: &[&[u8]],
+) -> Result<(Result<Tally, ToolFault>, Vec<u8>), Fail> {
+    let mut readers = readers(alloc, inputs)?;
+    collected(alloc, merging, 10, &mut readers)
 }
 
 /// The octets of lists, joined.
@@ -152,6 +170,7 @@ fn joined(alloc: Global, parts: &[&[u8]]) -> Result<Vec<u8>, AllocError> {
     Ok(octets)
 }
 
+/// The answer of so many frames, so many of them refused, and so many reports.
 fn tally(frames: u128, refused: u128, reports: u128) -> Result<Tally, ToolFault> {
     Ok(Tally {
         frames,
@@ -161,23 +180,52 @@ fn tally(frames: u128, refused: u128, reports: u128) -> Result<Tally, ToolFault>
     })
 }
 
+/// Stops the test where the two differ. It is a function, since a comparison written out in a test
+/// makes the proof of that test more than twice as long.
+fn same<T: PartialEq + Debug + Drop>(rt: &impl Abort, found: T, wanted: T) {
+    assert_eq!(rt; found, wanted);
+}
+
+/// Adding such streams answers and writes this.
+fn assert_added(
+    rt: &impl Abort,
+    alloc: Global,
+    inputs: &[&[u8]],
+    wanted: Result<Tally, ToolFault>,
+    text: &[u8],
+) -> Result<(), Fail> {
+    let (answer, written) = collected_of(alloc, false, inputs)?;
+    same(rt, answer, wanted);
+    same(rt, written.as_slice(), text);
+    Ok(())
+}
+
+/// Merging such archives answers and writes this.
+fn assert_merged(
+    rt: &impl Abort,
+    alloc: Global,
+    inputs: &[&[u8]],
+    wanted: Result<Tally, ToolFault>,
+    text: &[u8],
+) -> Result<(), Fail> {
+    let (answer, written) = collected_of(alloc, true, inputs)?;
+    same(rt, answer, wanted);
+    same(rt, written.as_slice(), text);
+    Ok(())
+}
+
 #[test]
 fn one_stream(rt: HostRuntime) -> Result<(), Fail> {
     let alloc = rt.alloc();
     let stream = joined(alloc, &[b"ISMD01 EDZW 151200", FIRST, b"BUFR", FIRST])?;
-    let (answer, written) = added(alloc, &[&stream])?;
-    assert_eq!(rt; answer, tally(2, 0, 1));
-    assert_eq!(rt; written.as_slice(), FIRST);
-    Ok(())
+    assert_added(&rt, alloc, &[&stream], tally(2, 0, 1), FIRST)
 }
 
 #[test]
 fn greatest_update_in_any_order(rt: HostRuntime) -> Result<(), Fail> {
     let alloc = rt.alloc();
     for inputs in [[FIRST, UPDATE], [UPDATE, FIRST]] {
-        let (answer, written) = added(alloc, inputs.as_slice())?;
-        assert_eq!(rt; answer, tally(2, 0, 1));
-        assert_eq!(rt; written.as_slice(), UPDATE);
+        assert_added(&rt, alloc, inputs.as_slice(), tally(2, 0, 1), UPDATE)?;
     }
     Ok(())
 }
@@ -187,55 +235,38 @@ fn greatest_update_in_any_order(rt: HostRuntime) -> Result<(), Fail> {
 fn refused_among_others(rt: HostRuntime) -> Result<(), Fail> {
     let alloc = rt.alloc();
     let stream = joined(alloc, &[MONTH_13, EDITION_5, UPDATE])?;
-    let (answer, written) = added(alloc, &[FIRST, EDITION_5, &stream, FIRST])?;
-    assert_eq!(rt; answer, tally(6, 2, 2));
-    assert_eq!(rt;
-        written.as_slice(),
-        joined(alloc, &[UPDATE, MONTH_13])?.as_slice()
-    );
-    Ok(())
+    let text = joined(alloc, &[UPDATE, MONTH_13])?;
+    let inputs: [&[u8]; 4] = [FIRST, EDITION_5, &stream, FIRST];
+    assert_added(&rt, alloc, inputs.as_slice(), tally(6, 2, 2), &text)
 }
 
 /// Streams are cut apart each by itself: what begins in one does not go on in the next.
 #[test]
 fn each_stream_by_itself(rt: HostRuntime) -> Result<(), Fail> {
-    let alloc = rt.alloc();
     let front = FIRST.get(..30).ok_or("thirty octets")?;
     let back = FIRST.get(30..).ok_or("the others")?;
-    let (answer, written) = added(alloc, &[front, back])?;
-    assert_eq!(rt; answer, tally(0, 0, 0));
-    assert!(rt; written.is_empty());
-    Ok(())
+    assert_added(&rt, rt.alloc(), &[front, back], tally(0, 0, 0), b"")
 }
 
 #[test]
 fn no_readers(rt: HostRuntime) -> Result<(), Fail> {
     let alloc = rt.alloc();
-    let (answer, written) = added(alloc, &[])?;
-    assert_eq!(rt; answer, tally(0, 0, 0));
-    assert!(rt; written.is_empty());
-    let (answer, written) = merged(alloc, &[])?;
-    assert_eq!(rt; answer, tally(0, 0, 0));
-    assert!(rt; written.is_empty());
-    Ok(())
+    assert_added(&rt, alloc, &[], tally(0, 0, 0), b"")?;
+    assert_merged(&rt, alloc, &[], tally(0, 0, 0), b"")
 }
 
 #[test]
 fn archives_merged(rt: HostRuntime) -> Result<(), Fail> {
     let alloc = rt.alloc();
+    assert_merged(&rt, alloc, &[FIRST, UPDATE], tally(2, 0, 1), UPDATE)?;
     let both = joined(alloc, &[UPDATE, MONTH_13])?;
-    let (answer, written) = merged(alloc, &[FIRST, UPDATE])?;
-    assert_eq!(rt; answer, tally(2, 0, 1));
-    assert_eq!(rt; written.as_slice(), UPDATE);
     for inputs in [
         [FIRST, UPDATE, MONTH_13],
         [MONTH_13, UPDATE, FIRST],
         [&both, FIRST, FIRST],
         [b"", &both, b""],
     ] {
-        let (answer, written) = merged(alloc, inputs.as_slice())?;
-        assert_eq!(rt; answer, tally(3, 0, 2));
-        assert_eq!(rt; written.as_slice(), both.as_slice());
+        assert_merged(&rt, alloc, inputs.as_slice(), tally(3, 0, 2), &both)?;
     }
     Ok(())
 }
@@ -251,32 +282,58 @@ fn archive_not_in_order(rt: HostRuntime) -> Result<(), Fail> {
         ([FIRST, same_slot.as_slice(), EDITION_5], 2, 62),
         ([FIRST, UPDATE, EDITION_5], 3, 0),
     ] {
-        let (answer, written) = merged(alloc, inputs.as_slice())?;
-        assert_eq!(rt; answer, Err(ToolFault::NotAnArchive { input, place }));
-        assert!(rt; written.is_empty());
+        let wanted = Err(ToolFault::NotAnArchive { input, place });
+        assert_merged(&rt, alloc, inputs.as_slice(), wanted, b"")?;
     }
-    let (answer, written) = added(alloc, &[&same_slot])?;
-    assert_eq!(rt; answer, tally(2, 0, 1));
-    assert_eq!(rt; written.as_slice(), UPDATE);
-    Ok(())
+    assert_added(&rt, alloc, &[&same_slot], tally(2, 0, 1), UPDATE)
 }
 
-/// An archive whose descriptors these tables do not have is refused.
-#[test]
-fn archive_of_other_tables(rt: HostRuntime) -> Result<(), Fail> {
-    let alloc = rt.alloc();
+/// What merging the first archive by tables of which D has one row only answers, and what was
+/// written.
+fn merged_by_others(alloc: Global) -> Result<(Result<Tally, ToolFault>, Vec<u8>), Fail> {
     let d = TableD::parse(alloc, b"FXY1,FXY2\n301001,001001\n".as_slice())?;
     let others = Tables::new(TableB::parse(alloc, TABLE_B)?, d);
     let mut writer = IntoWrite::new(Vec::new(alloc));
     let mut archives = readers(alloc, &[FIRST])?;
     let answer = run_merge(alloc, 10, &others, &mut archives, &mut writer);
-    assert_eq!(rt; answer, Err(ToolFault::NotAnArchive { input: 1, place: 0 }));
-    assert!(rt; writer.into_inner().is_empty());
+    Ok((answer, writer.into_inner()))
+}
+
+/// An archive whose descriptors these tables do not have is refused.
+#[test]
+fn archive_of_other_tables(rt: HostRuntime) -> Result<(), Fail> {
+    let (answer, written) = merged_by_others(rt.alloc())?;
+    same(
+        &rt,
+        answer,
+        Err(ToolFault::NotAnArchive { input: 1, place: 0 }),
+    );
+    assert!(rt; written.is_empty());
     Ok(())
 }
 
-/// Three inputs, the second of which gives one octet a read and may break: the fault is told,
-/// nothing is written, and the third input is not read.
+/// What adding or merging three inputs answers, of which the second gives one octet a read and may
+/// break; what was written, and how often the third was read.
+fn three_inputs(
+    alloc: Global,
+    merging: bool,
+    reads: u64,
+    breaks: bool,
+) -> Result<(Result<Tally, ToolFault>, Vec<u8>, u64), Fail>
+    requires { reads ≤ 4294967296 }
+{
+    let mut inputs = [
+        Pieces::new(Vec::from_slice(alloc, FIRST)?, 100, false),
+        Pieces::new(Vec::from_slice(alloc, UPDATE)?, 1, breaks),
+        Pieces::new(Vec::from_slice(alloc, UPDATE)?, 100, false),
+    ];
+    let (answer, written) = collected(alloc, merging, reads, &mut inputs)?;
+    let [_, _, last] = &inputs;
+    Ok((answer, written, last.reads))
+}
+
+/// The second of three inputs has the fault: it is told, nothing is written, and the third input is
+/// not read.
 fn stops_at_the_second(
     rt: &impl Abort,
     alloc: Global,
@@ -287,22 +344,10 @@ fn stops_at_the_second(
 ) -> Result<(), Fail>
     requires { reads ≤ 4294967296 }
 {
-    let tables = tables(alloc)?;
-    let mut inputs = [
-        Pieces::new(Vec::from_slice(alloc, FIRST)?, 100, false),
-        Pieces::new(Vec::from_slice(alloc, UPDATE)?, 1, breaks),
-        Pieces::new(Vec::from_slice(alloc, UPDATE)?, 100, false),
-    ];
-    let mut writer = IntoWrite::new(Vec::new(alloc));
-    let answer = if merging {
-        run_merge(alloc, reads, &tables, &mut inputs, &mut writer)
-    } else {
-        run_add(alloc, reads, &tables, &mut inputs, &mut writer)
-    };
-    assert_eq!(rt; answer, Err(fault));
-    assert!(rt; writer.into_inner().is_empty());
-    let [_, _, last] = &inputs;
-    assert_eq!(rt; last.reads, 0);
+    let (answer, written, last) = three_inputs(alloc, merging, reads, breaks)?;
+    same(rt, answer, Err(fault));
+    assert!(rt; written.is_empty());
+    same(rt, last, 0);
     Ok(())
 }
 
@@ -350,6 +395,46 @@ impl Sink for Narrow {
     }
 }
 
+/// What adding or merging two archives answers where the writer has room for so many octets, and
+/// what the writer took.
+fn broken_after(
+    alloc: Global,
+    tables: &Tables,
+    merging: bool,
+    room: usize,
+) -> Result<(Result<Tally, ToolFault>, Vec<u8>), Fail> {
+    let mut inputs = readers(alloc, &[UPDATE, MONTH_13])?;
+    let mut writer = Narrow {
+        taken: Vec::new(alloc),
+        room,
+        failed: false,
+    };
+    let answer = if merging {
+        run_merge(alloc, 10, tables, &mut inputs, &mut writer)
+    } else {
+        run_add(alloc, 10, tables, &mut inputs, &mut writer)
+    };
+    Ok((answer, writer.taken))
+}
+
+/// The writer failed where it had no more room, and so much of the text was written.
+fn assert_broken(
+    rt: &impl Abort,
+    room: usize,
+    answer: Result<Tally, ToolFault>,
+    taken: &[u8],
+    text: &[u8],
+) {
+    let written = room as u128;
+    assert_eq!(rt;
+        answer,
+        Err(ToolFault::WriteFailed { written }),
+        "at {room}"
+    );
+    same(rt, taken.len(), room);
+    assert!(rt; text.starts_with(taken));
+}
+
 #[test]
 fn failing_writer(rt: HostRuntime) -> Result<(), Fail> {
     let alloc = rt.alloc();
@@ -357,54 +442,63 @@ fn failing_writer(rt: HostRuntime) -> Result<(), Fail> {
     let text = joined(alloc, &[UPDATE, MONTH_13])?;
     for room in 0usize..125 {
         for merging in [false, true] {
-            let mut inputs = readers(alloc, &[UPDATE, MONTH_13])?;
-            let mut writer = Narrow {
-                taken: Vec::new(alloc),
-                room,
-                failed: false,
-            };
-            let answer = if merging {
-                run_merge(alloc, 10, &tables, &mut inputs, &mut writer)
-            } else {
-                run_add(alloc, 10, &tables, &mut inputs, &mut writer)
-            };
-            let written = room as u128;
-            assert_eq!(rt;
-                answer,
-                Err(ToolFault::WriteFailed { written }),
-                "at {room}"
-            );
-            assert_eq!(rt; writer.taken.len(), room);
-            assert!(rt; text.starts_with(&writer.taken));
+            let (answer, taken) = broken_after(alloc, &tables, merging, room)?;
+            assert_broken(&rt, room, answer, &taken, &text);
         }
     }
     Ok(())
+}
+
+/// An archive of one report, of a station of this number.
+fn report_of(alloc: Global, number: usize) -> Result<Vec<u8>, AllocError>
+    requires { number < 1000 }
+{
+    let mut message = Vec::from_slice(alloc, FIRST)?;
+    // The station number is the ten bits behind the seven of the block.
+    message[49] = (message[49] / 2) * 2 + (number / 512) as u8;
+    message[50] = (number / 2 % 256) as u8;
+    message[51] = (message[51] % 128) + (number % 2) as u8 * 128;
+    Ok(message)
+}
+
+/// A thousand archives of one report, each of a station of its own.
+fn thousand_reports(alloc: Global) -> Result<Vec<Vec<u8>>, AllocError> {
+    let mut streams = Vec::new(alloc);
+    for number in 0usize..1000 {
+        streams.push(report_of(alloc, number)?)?;
+    }
+    Ok(streams)
 }
 
 /// A thousand inputs, each an archive of one report of a station of its own.
 #[test]
 fn thousand_inputs(rt: HostRuntime) -> Result<(), Fail> {
     let alloc = rt.alloc();
-    let mut streams = Vec::new(alloc);
+    let streams = thousand_reports(alloc)?;
     let mut text = Vec::new(alloc);
-    for number in 0usize..1000 {
-        let mut message = Vec::from_slice(alloc, FIRST)?;
-        // The station number is the ten bits behind the seven of the block.
-        message[49] = (message[49] / 2) * 2 + (number / 512) as u8;
-        message[50] = (number / 2 % 256) as u8;
-        message[51] = (message[51] % 128) + (number % 2) as u8 * 128;
-        text.extend_from_slice(&message)?;
-        streams.push(message)?;
+    for stream in &streams {
+        text.extend_from_slice(stream)?;
     }
     let mut inputs: Vec<&[u8]> = Vec::new(alloc);
     for stream in streams.iter().rev() {
         inputs.push(stream.as_slice())?;
     }
-    let (answer, written) = added(alloc, &inputs)?;
-    assert_eq!(rt; answer, tally(1000, 0, 1000));
-    assert!(rt; written.as_slice() == text.as_slice());
-    let (answer, written) = merged(alloc, &inputs)?;
-    assert_eq!(rt; answer, tally(1000, 0, 1000));
-    assert!(rt; written.as_slice() == text.as_slice());
+    assert_added(&rt, alloc, &inputs, tally(1000, 0, 1000), &text)?;
+    assert_merged(&rt, alloc, &inputs, tally(1000, 0, 1000), &text)
+}
+
+/// What the reads of an input ask for at most.
+fn asked(alloc: Global, merging: bool) -> Result<usize, Fail> {
+    let mut inputs = [Pieces::new(Vec::from_slice(alloc, FIRST)?, 100, false)];
+    let (answer, _) = collected(alloc, merging, 10, &mut inputs)?;
+    let _ = answer?;
+    let [input] = &inputs;
+    Ok(input.asked)
+}
+
+#[test]
+fn reads_of_65536_octets(rt: HostRuntime) -> Result<(), Fail> {
+    same(&rt, asked(rt.alloc(), false)?, 65536);
+    same(&rt, asked(rt.alloc(), true)?, 65536);
     Ok(())
 }

@@ -7,6 +7,7 @@ use bufr_tables::{TableB, TableD, Tables};
 use std::alloc::Global;
 use std::process::Abort;
 
+mod large;
 mod random;
 
 const TABLE_B: &str = "\
@@ -63,6 +64,9 @@ const EDITION_5: [u8; 62] = [
     0x0F, 0x00, 0x00, 0x01, 0x80, 0xC1, 0x01, 0xC1, 0x0B, 0xC1, 0x0C, 0x0C, 0x65, 0x00, 0x00, 0x0D,
     0x00, 0x14, 0xC0, 0x3F, 0x40, 0x9E, 0xC0, 0x1A, 0xAC, 0xC0, 0x37, 0x37, 0x37, 0x37,
 ];
+
+/// A step, and the answer that it is to have.
+type Asked = (Step, Result<Answer, StepFault>);
 
 // The tables of the tests.
 fn tables(rt: &impl Abort, alloc: Global) -> Tables {
@@ -132,6 +136,14 @@ fn joins<S: Shelf>(rt: &impl Abort, depot: &mut Depot<S>, step: &Step) {
     does(rt, depot, step, Ok(Answer::Joined));
 }
 
+/// Steps are answered so, one after another.
+fn does_all<S: Shelf>(rt: &impl Abort, depot: &mut Depot<S>, steps: &[Asked]) {
+    for (step, answer) in steps {
+        let found = depot.step(step);
+        assert!(rt; found == *answer);
+    }
+}
+
 // The slot of this number is not there.
 fn misses<S: Shelf>(rt: &impl Abort, depot: &mut Depot<S>, step: &Step, slot: usize) {
     does(rt, depot, step, Err(StepFault::NoSlot(slot)));
@@ -151,13 +163,31 @@ fn assert_writes<S: Shelf>(
     assert!(rt; sink.into_inner().as_slice() == text, "{slot}");
 }
 
-// The first message in two pieces, and what the other slot takes in.
-fn first_steps<S: Shelf>(rt: &impl Abort, alloc: Global, depot: &mut Depot<S>) {
+/// The first slots, so many, have the archive of this text.
+fn assert_all_write<S: Shelf>(
+    rt: &impl Abort,
+    alloc: Global,
+    depot: &Depot<S>,
+    slots: usize,
+    text: &[u8],
+) {
+    for slot in 0..slots {
+        assert_writes(rt, alloc, depot, slot, text);
+    }
+}
+
+/// The first message in two pieces, and the end of their stream.
+fn two_pieces<S: Shelf>(rt: &impl Abort, alloc: Global, depot: &mut Depot<S>) {
     let front = ROW_1.get(..30).expect(rt, "front");
-    let rest = ROW_1.get(30..).expect(rt, "rest");
     feeds(rt, alloc, depot, 0, front, fed(0, 0, 0));
+    let rest = ROW_1.get(30..).expect(rt, "rest");
     feeds(rt, alloc, depot, 0, rest, fed(1, 0, 1));
     does(rt, depot, &Step::End { slot: 0 }, ended(0, 0, 0));
+}
+
+// The first message in two pieces, and what the other slot takes in.
+fn first_steps<S: Shelf>(rt: &impl Abort, alloc: Global, depot: &mut Depot<S>) {
+    two_pieces(rt, alloc, depot);
     assert_writes(rt, alloc, depot, 1, &[]);
     joins(rt, depot, &Step::Transfer { from: 0, into: 1 });
     assert_writes(rt, alloc, depot, 1, ROW_1.as_slice());
@@ -166,11 +196,13 @@ fn first_steps<S: Shelf>(rt: &impl Abort, alloc: Global, depot: &mut Depot<S>) {
 // The update, and what both slots then hold.
 fn later_steps<S: Shelf>(rt: &impl Abort, alloc: Global, depot: &mut Depot<S>) {
     feeds(rt, alloc, depot, 1, UPDATED.as_slice(), fed(1, 0, 1));
-    does(rt, depot, &Step::End { slot: 1 }, ended(0, 0, 0));
-    joins(rt, depot, &Step::Merge { from: 1, into: 0 });
-    joins(rt, depot, &Step::Copy { from: 0, into: 1 });
-    assert_writes(rt, alloc, depot, 0, UPDATED.as_slice());
-    assert_writes(rt, alloc, depot, 1, UPDATED.as_slice());
+    let steps = [
+        (Step::End { slot: 1 }, ended(0, 0, 0)),
+        (Step::Merge { from: 1, into: 0 }, Ok(Answer::Joined)),
+        (Step::Copy { from: 0, into: 1 }, Ok(Answer::Joined)),
+    ];
+    does_all(rt, depot, &steps);
+    assert_all_write(rt, alloc, depot, 2, UPDATED.as_slice());
     misses(rt, depot, &Step::End { slot: 9 }, 9);
 }
 
@@ -218,15 +250,19 @@ fn run_of_steps(rt: HostRuntime) {
     run_at_once::<SortedShelf>(&rt, rt.alloc());
 }
 
+/// All is joined, and then the first slot has the archive of the message without key.
+fn joins_without_key<S: Shelf>(rt: &impl Abort, alloc: Global, depot: &mut Depot<S>, step: &Step) {
+    joins(rt, depot, step);
+    assert_writes(rt, alloc, depot, 0, MONTH_13.as_slice());
+}
+
 // A slot that takes in itself stays as it is, reports without key too.
 fn joins_itself<S: Shelf>(rt: &impl Abort, alloc: Global, depot: &mut Depot<S>) {
     feeds(rt, alloc, depot, 0, MONTH_13.as_slice(), fed(1, 0, 1));
-    joins(rt, depot, &Step::Merge { from: 0, into: 0 });
-    assert_writes(rt, alloc, depot, 0, MONTH_13.as_slice());
-    joins(rt, depot, &Step::Transfer { from: 0, into: 0 });
-    assert_writes(rt, alloc, depot, 0, MONTH_13.as_slice());
-    joins(rt, depot, &Step::Copy { from: 0, into: 0 });
-    assert_writes(rt, alloc, depot, 0, MONTH_13.as_slice());
+    let (from, into) = (0, 0);
+    joins_without_key(rt, alloc, depot, &Step::Merge { from, into });
+    joins_without_key(rt, alloc, depot, &Step::Transfer { from, into });
+    joins_without_key(rt, alloc, depot, &Step::Copy { from, into });
 }
 
 fn joined_to_itself<S: Shelf>(rt: &impl Abort, alloc: Global) {
@@ -243,13 +279,18 @@ fn self_merge(rt: HostRuntime) {
 
 // The first slot that is not there is named.
 fn misses_slots<S: Shelf>(rt: &impl Abort, depot: &mut Depot<S>) {
-    misses(rt, depot, &Step::End { slot: 2 }, 2);
-    misses(rt, depot, &Step::Merge { from: 3, into: 4 }, 3);
-    misses(rt, depot, &Step::Merge { from: 0, into: 4 }, 4);
-    misses(rt, depot, &Step::Transfer { from: 5, into: 0 }, 5);
-    misses(rt, depot, &Step::Transfer { from: 0, into: 6 }, 6);
-    misses(rt, depot, &Step::Copy { from: 7, into: 8 }, 7);
-    misses(rt, depot, &Step::Copy { from: 0, into: 8 }, 8);
+    let rows = [
+        (Step::End { slot: 2 }, 2),
+        (Step::Merge { from: 3, into: 4 }, 3),
+        (Step::Merge { from: 0, into: 4 }, 4),
+        (Step::Transfer { from: 5, into: 0 }, 5),
+        (Step::Transfer { from: 0, into: 6 }, 6),
+        (Step::Copy { from: 7, into: 8 }, 7),
+        (Step::Copy { from: 0, into: 8 }, 8),
+    ];
+    for (step, slot) in &rows {
+        misses(rt, depot, step, *slot);
+    }
 }
 
 fn missing_slots<S: Shelf>(rt: &impl Abort, alloc: Global) {
@@ -267,11 +308,28 @@ fn no_slot(rt: HostRuntime) {
     missing_slots::<SortedShelf>(&rt, rt.alloc());
 }
 
+/// Pieces for the first slot are answered so, one after another.
+fn feeds_all<S: Shelf>(
+    rt: &impl Abort,
+    alloc: Global,
+    depot: &mut Depot<S>,
+    rows: &[(&[u8], Result<Answer, StepFault>)],
+) {
+    for (octets, answer) in rows {
+        let step = feed(rt, alloc, 0, *octets);
+        let found = depot.step(&step);
+        assert!(rt; found == *answer);
+    }
+}
+
 // A frame that spells no message is counted; one that an end brings is added with it.
 fn frames_come<S: Shelf>(rt: &impl Abort, alloc: Global, depot: &mut Depot<S>) {
-    feeds(rt, alloc, depot, 0, EDITION_5.as_slice(), fed(0, 1, 0));
-    feeds(rt, alloc, depot, 0, b"BUFR", fed(0, 0, 0));
-    feeds(rt, alloc, depot, 0, ROW_1.as_slice(), fed(0, 0, 0));
+    let pieces: [(&[u8], Result<Answer, StepFault>); 3] = [
+        (EDITION_5.as_slice(), fed(0, 1, 0)),
+        (b"BUFR", fed(0, 0, 0)),
+        (ROW_1.as_slice(), fed(0, 0, 0)),
+    ];
+    feeds_all(rt, alloc, depot, &pieces);
     does(rt, depot, &Step::End { slot: 0 }, ended(1, 0, 1));
     feeds(rt, alloc, depot, 0, ROW_1.as_slice(), fed(1, 0, 0));
     assert_writes(rt, alloc, depot, 0, ROW_1.as_slice());

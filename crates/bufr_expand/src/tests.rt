@@ -9,8 +9,15 @@ use crate::operators::{EffectiveRange, Operators, Spec};
 use crate::walk::{Step, Walk, WalkFault};
 use bufr_tables::{Element, Fxy, Kind};
 use std::alloc::{AllocError, Global};
+use std::fmt::Debug;
 use std::process::Abort;
 use std::test::Fail;
+
+/// Stops the test where the two differ. It is a function, since a comparison written out in a test
+/// makes the proof of that test more than twice as long.
+pub(crate) fn same<T: PartialEq + Debug + Drop>(rt: &impl Abort, found: T, wanted: T) {
+    assert_eq!(rt; found, wanted);
+}
 
 fn fxy(rt: &impl Abort, f: u8, x: u8, y: u8) -> Fxy {
     Fxy::new(f, x, y).expect(rt, "a descriptor")
@@ -53,73 +60,83 @@ fn apply(operators: &mut Operators, op: Fxy) {
     }
 }
 
-#[test]
-fn operators(rt: HostRuntime) {
-    let k = fxy(&rt, 0, 12, 101);
-    let mut q = Operators::none();
-    apply(&mut q, fxy(&rt, 2, 1, 130));
-    apply(&mut q, fxy(&rt, 2, 2, 129));
-    assert_eq!(rt;
-        q.effective(&temperature(), k),
-        Ok(spec(Kind::Quantity, 3, 0, 18))
-    );
-    let code = row(Kind::Code, 0, 0, 2);
-    assert_eq!(rt;
-        q.effective(&code, fxy(&rt, 0, 2, 1)),
-        Ok(spec(Kind::Code, 0, 0, 2))
-    );
-    let factor = row(Kind::Quantity, 0, 0, 8);
-    assert_eq!(rt;
-        q.effective(&factor, fxy(&rt, 0, 31, 1)),
-        Ok(spec(Kind::Quantity, 0, 0, 8))
-    );
-    apply(&mut q, fxy(&rt, 2, 1, 0));
-    apply(&mut q, fxy(&rt, 2, 2, 0));
-    assert_eq!(rt;
-        q.effective(&temperature(), k),
-        Ok(spec(Kind::Quantity, 2, 0, 16))
-    );
-    apply(&mut q, fxy(&rt, 2, 7, 1));
-    assert_eq!(rt;
-        q.effective(&temperature(), k),
-        Ok(spec(Kind::Quantity, 3, 0, 20))
-    );
-    let degrees = row(Kind::Quantity, 2, -9000, 15);
-    assert_eq!(rt;
-        q.effective(&degrees, fxy(&rt, 0, 5, 2)),
-        Ok(spec(Kind::Quantity, 3, -90000, 19))
-    );
-}
-
-#[test]
-fn replaced_width(rt: HostRuntime) -> Result<(), Fail> {
-    let k = fxy(&rt, 0, 12, 101);
-    let mut q = Operators::none();
-    apply(&mut q, fxy(&rt, 2, 1, 130));
-    apply(&mut q, fxy(&rt, 2, 1, 129));
-    assert_eq!(rt;
-        q.effective(&temperature(), k),
-        Ok(spec(Kind::Quantity, 2, 0, 17))
-    );
-    apply(&mut q, fxy(&rt, 2, 1, 255));
-    assert_eq!(rt; q.effective(&temperature(), k), Err(EffectiveRange(k)));
-    let fault = format!(in rt.alloc(); "{}", EffectiveRange(k))?;
-    assert_eq!(rt; fault.as_str(), "V1 EffectiveRange 012101");
-    Ok(())
+/// Puts 2 XX YYY in force, for these X and Y.
+fn put(rt: &impl Abort, operators: &mut Operators, x: u8, y: u8) {
+    apply(operators, fxy(rt, 2, x, y));
 }
 
 /// The operators of these X and Y, put in force one after the other.
 fn in_force(rt: &impl Abort, operators: &[(u8, u8)]) -> Operators {
     let mut q = Operators::none();
     for (x, y) in operators {
-        apply(&mut q, fxy(rt, 2, *x, *y));
+        put(rt, &mut q, *x, *y);
     }
     q
 }
 
+/// This is the spec of a row under operators, at a descriptor.
+fn assert_spec(rt: &impl Abort, operators: &Operators, of: Element, at: Fxy, wanted: Spec) {
+    same(rt, operators.effective(&of, at), Ok(wanted));
+}
+
+/// A row is refused under operators, at a descriptor.
+fn assert_refused(rt: &impl Abort, operators: &Operators, of: Element, at: Fxy) {
+    same(rt, operators.effective(&of, at), Err(EffectiveRange(at)));
+}
+
+/// This is the spec of a temperature under operators.
+fn assert_temperature(rt: &impl Abort, operators: &Operators, wanted: Spec) {
+    assert_spec(rt, operators, temperature(), fxy(rt, 0, 12, 101), wanted);
+}
+
+/// The specs of a code and of a factor, which no operators change.
+fn assert_code_and_factor_stay(rt: &impl Abort, operators: &Operators) {
+    let code = row(Kind::Code, 0, 0, 2);
+    assert_spec(
+        rt,
+        operators,
+        code,
+        fxy(rt, 0, 2, 1),
+        spec(Kind::Code, 0, 0, 2),
+    );
+    let factor = row(Kind::Quantity, 0, 0, 8);
+    let stays = spec(Kind::Quantity, 0, 0, 8);
+    assert_spec(rt, operators, factor, fxy(rt, 0, 31, 1), stays);
+}
+
+#[test]
+fn operators(rt: HostRuntime) {
+    let mut q = Operators::none();
+    put(&rt, &mut q, 1, 130);
+    put(&rt, &mut q, 2, 129);
+    assert_temperature(&rt, &q, spec(Kind::Quantity, 3, 0, 18));
+    assert_code_and_factor_stay(&rt, &q);
+    put(&rt, &mut q, 1, 0);
+    put(&rt, &mut q, 2, 0);
+    assert_temperature(&rt, &q, spec(Kind::Quantity, 2, 0, 16));
+    put(&rt, &mut q, 7, 1);
+    assert_temperature(&rt, &q, spec(Kind::Quantity, 3, 0, 20));
+    let degrees = row(Kind::Quantity, 2, -9000, 15);
+    let finer = spec(Kind::Quantity, 3, -90000, 19);
+    assert_spec(&rt, &q, degrees, fxy(&rt, 0, 5, 2), finer);
+}
+
+#[test]
+fn replaced_width(rt: HostRuntime) -> Result<(), Fail> {
+    let k = fxy(&rt, 0, 12, 101);
+    let mut q = Operators::none();
+    put(&rt, &mut q, 1, 130);
+    put(&rt, &mut q, 1, 129);
+    assert_temperature(&rt, &q, spec(Kind::Quantity, 2, 0, 17));
+    put(&rt, &mut q, 1, 255);
+    assert_refused(&rt, &q, temperature(), k);
+    let fault = format!(in rt.alloc(); "{}", EffectiveRange(k))?;
+    same(&rt, fault.as_str(), "V1 EffectiveRange 012101");
+    Ok(())
+}
+
 #[test]
 fn widths_and_scales_of_a_temperature(rt: HostRuntime) {
-    let k = fxy(&rt, 0, 12, 101);
     let cases: [(&[(u8, u8)], i32, u32); 11] = [
         (&[(1, 120)], 2, 8),
         (&[(1, 127)], 2, 15),
@@ -134,15 +151,12 @@ fn widths_and_scales_of_a_temperature(rt: HostRuntime) {
         (&[(8, 10)], 2, 16),
     ];
     for (operators, scale, width) in cases {
-        let expected = Ok(spec(Kind::Quantity, scale, 0, width));
-        assert_eq!(rt;
-            in_force(&rt, operators).effective(&temperature(), k),
-            expected
-        );
+        let expected = spec(Kind::Quantity, scale, 0, width);
+        assert_temperature(&rt, &in_force(&rt, operators), expected);
     }
+    let k = fxy(&rt, 0, 12, 101);
     for operator in [(1, 176), (1, 112), (1, 111)] {
-        let q = in_force(&rt, &[operator]);
-        assert_eq!(rt; q.effective(&temperature(), k), Err(EffectiveRange(k)));
+        assert_refused(&rt, &in_force(&rt, &[operator]), temperature(), k);
     }
 }
 
@@ -158,8 +172,8 @@ fn increase_beside_width_and_scale(rt: HostRuntime) {
         (&[(1, 130), (7, 2), (1, 0)], 4, -900_000, 22),
     ];
     for (operators, scale, reference, width) in cases {
-        let expected = Ok(spec(Kind::Quantity, scale, reference, width));
-        assert_eq!(rt; in_force(&rt, operators).effective(&latitude, k), expected);
+        let expected = spec(Kind::Quantity, scale, reference, width);
+        assert_spec(&rt, &in_force(&rt, operators), latitude, k, expected);
     }
 }
 
@@ -176,29 +190,21 @@ fn texts_wider_and_narrower_than_their_row(rt: HostRuntime) {
         (&[(1, 130), (2, 130), (7, 2)], 72),
     ];
     for (operators, width) in cases {
-        let expected = Ok(spec(Kind::Text, 0, 0, width));
-        assert_eq!(rt;
-            in_force(&rt, operators).effective(&name, station),
-            expected
-        );
+        let expected = spec(Kind::Text, 0, 0, width);
+        assert_spec(&rt, &in_force(&rt, operators), name, station, expected);
     }
 }
 
 #[test]
 fn class_31_codes_and_flags_stay(rt: HostRuntime) {
     let q = in_force(&rt, &[(1, 130), (2, 129), (7, 1)]);
+    assert_code_and_factor_stay(&rt, &q);
     let factor = row(Kind::Quantity, 0, 0, 8);
-    let kept = Ok(spec(Kind::Quantity, 0, 0, 8));
-    assert_eq!(rt; q.effective(&factor, fxy(&rt, 0, 31, 1)), kept);
-    let changed = Ok(spec(Kind::Quantity, 2, 0, 14));
-    assert_eq!(rt; q.effective(&factor, fxy(&rt, 0, 30, 1)), changed);
-    assert_eq!(rt; q.effective(&factor, fxy(&rt, 0, 32, 1)), changed);
-    let code = row(Kind::Code, 0, 0, 2);
-    let kept = Ok(spec(Kind::Code, 0, 0, 2));
-    assert_eq!(rt; q.effective(&code, fxy(&rt, 0, 2, 1)), kept);
+    let changed = spec(Kind::Quantity, 2, 0, 14);
+    assert_spec(&rt, &q, factor, fxy(&rt, 0, 30, 1), changed);
+    assert_spec(&rt, &q, factor, fxy(&rt, 0, 32, 1), changed);
     let flag = row(Kind::Flag, 0, 0, 4);
-    let kept = Ok(spec(Kind::Flag, 0, 0, 4));
-    assert_eq!(rt; q.effective(&flag, fxy(&rt, 0, 2, 2)), kept);
+    assert_spec(&rt, &q, flag, fxy(&rt, 0, 2, 2), spec(Kind::Flag, 0, 0, 4));
 }
 
 #[test]
@@ -206,11 +212,11 @@ fn text_width(rt: HostRuntime) {
     let name = row(Kind::Text, 0, 0, 72);
     let station = fxy(&rt, 0, 1, 11);
     let mut q = Operators::none();
-    assert_eq!(rt; q.effective(&name, station), Ok(spec(Kind::Text, 0, 0, 72)));
-    apply(&mut q, fxy(&rt, 2, 8, 4));
-    assert_eq!(rt; q.effective(&name, station), Ok(spec(Kind::Text, 0, 0, 32)));
-    apply(&mut q, fxy(&rt, 2, 8, 0));
-    assert_eq!(rt; q.effective(&name, station), Ok(spec(Kind::Text, 0, 0, 72)));
+    assert_spec(&rt, &q, name, station, spec(Kind::Text, 0, 0, 72));
+    put(&rt, &mut q, 8, 4);
+    assert_spec(&rt, &q, name, station, spec(Kind::Text, 0, 0, 32));
+    put(&rt, &mut q, 8, 0);
+    assert_spec(&rt, &q, name, station, spec(Kind::Text, 0, 0, 72));
 }
 
 #[test]
@@ -224,11 +230,8 @@ fn limits_of_specs(rt: HostRuntime) {
         (Kind::Text, 0, 0, 65528),
     ];
     for (kind, scale, reference, width) in within {
-        let expected = Ok(spec(kind, scale, reference, width));
-        assert_eq!(rt;
-            q.effective(&row(kind, scale, reference, width), d),
-            expected
-        );
+        let expected = spec(kind, scale, reference, width);
+        assert_spec(&rt, &q, row(kind, scale, reference, width), d, expected);
     }
     let beyond = [
         (Kind::Quantity, 127, limit + 1, 63),
@@ -239,11 +242,7 @@ fn limits_of_specs(rt: HostRuntime) {
         (Kind::Text, 200, 5, 65536),
     ];
     for (kind, scale, reference, width) in beyond {
-        let refused = Err(EffectiveRange(d));
-        assert_eq!(rt;
-            q.effective(&row(kind, scale, reference, width), d),
-            refused
-        );
+        assert_refused(&rt, &q, row(kind, scale, reference, width), d);
     }
 }
 
@@ -332,21 +331,30 @@ fn finish_walk(alloc: Global, walk: &mut Walk<'_>, told: u64) -> Result<Walked, 
     })
 }
 
+/// These are the widths of the first fields, and the number of items.
+fn assert_widths(rt: &impl Abort, walked: &Walked, widths: &[u32], items: u64) {
+    same(rt, walked.widths.as_slice(), widths);
+    same(rt, walked.items, items);
+}
+
+/// So many fields were walked over, and so many items.
+fn assert_counts(rt: &impl Abort, walked: &Walked, fields: u64, items: u64) {
+    same(rt, walked.fields, fields);
+    same(rt, walked.items, items);
+}
+
 #[test]
 fn delayed_counts(rt: HostRuntime) -> Result<(), Fail> {
     let factor = Node::Delayed(fxy(&rt, 0, 31, 1), row(Kind::Quantity, 0, 0, 8), 1);
     let nodes = [factor, Node::Element(fxy(&rt, 0, 12, 101), temperature())];
     let none = walk_over(rt.alloc(), &nodes, 0, 0)?;
-    assert_eq!(rt; none.widths.as_slice(), [8].as_slice());
-    assert_eq!(rt; none.last, Ok(Step::End));
-    assert_eq!(rt; none.items, 1);
+    assert_widths(&rt, &none, &[8], 1);
+    same(&rt, none.last, Ok(Step::End));
     let one = walk_over(rt.alloc(), &nodes, 10, 1)?;
-    assert_eq!(rt; one.widths.as_slice(), [8, 16].as_slice());
-    assert_eq!(rt; one.again, Ok(Step::End));
-    assert_eq!(rt; one.items, 13);
+    assert_widths(&rt, &one, &[8, 16], 13);
+    same(&rt, one.again, Ok(Step::End));
     let all = walk_over(rt.alloc(), &nodes, 0, 255)?;
-    assert_eq!(rt; all.fields, 256);
-    assert_eq!(rt; all.items, 511);
+    assert_counts(&rt, &all, 256, 511);
     Ok(())
 }
 
@@ -357,18 +365,14 @@ fn first_steps(rt: HostRuntime) -> Result<(), Fail> {
     let factor = Node::Delayed(d, row(Kind::Quantity, 0, 0, 8), 1);
     let nodes = [factor, Node::Untouched(k, temperature())];
     let mut walk = Walk::over(rt.alloc(), &nodes, 0)?;
-    assert_eq!(rt;
-        step(&mut walk, 1),
-        Ok(Step::Count(d, spec(Kind::Count, 0, 0, 8)))
-    );
-    assert_eq!(rt; walk.items(), 1);
-    assert_eq!(rt;
-        step(&mut walk, 1),
-        Ok(Step::Field(k, spec(Kind::Quantity, 2, 0, 16)))
-    );
-    assert_eq!(rt; walk.items(), 3);
-    assert_eq!(rt; step(&mut walk, 1), Ok(Step::End));
-    assert_eq!(rt; step(&mut walk, 1), Ok(Step::End));
+    let count = Step::Count(d, spec(Kind::Count, 0, 0, 8));
+    same(&rt, step(&mut walk, 1), Ok(count));
+    same(&rt, walk.items(), 1);
+    let field = Step::Field(k, spec(Kind::Quantity, 2, 0, 16));
+    same(&rt, step(&mut walk, 1), Ok(field));
+    same(&rt, walk.items(), 3);
+    same(&rt, step(&mut walk, 1), Ok(Step::End));
+    same(&rt, step(&mut walk, 1), Ok(Step::End));
     Ok(())
 }
 
@@ -381,8 +385,7 @@ fn operators_through_turns(rt: HostRuntime) -> Result<(), Fail> {
         field(&rt),
     ];
     let turns = walk_over(rt.alloc(), &nodes, 0, 0)?;
-    assert_eq!(rt; turns.widths.as_slice(), [16, 18, 18].as_slice());
-    assert_eq!(rt; turns.items, 8);
+    assert_widths(&rt, &turns, &[16, 18, 18], 8);
     Ok(())
 }
 
@@ -396,34 +399,51 @@ fn replications_in_each_other(rt: HostRuntime) -> Result<(), Fail> {
         field(&rt),
     ];
     let turns = walk_over(rt.alloc(), &nodes, 0, 0)?;
-    assert_eq!(rt; turns.fields, 6);
-    assert_eq!(rt; turns.last, Ok(Step::End));
-    assert_eq!(rt; turns.items, 18);
+    assert_counts(&rt, &turns, 6, 18);
+    same(&rt, turns.last, Ok(Step::End));
+    Ok(())
+}
+
+/// A walk ended with this fault, did so once more, and had all the items that there may be.
+fn assert_full(rt: &impl Abort, walked: &Walked, fault: &Result<Step, WalkFault>) {
+    same(rt, &walked.last, fault);
+    same(rt, &walked.again, fault);
+    same(rt, walked.items, 16_777_216);
+}
+
+/// This is printed of a fault.
+fn assert_prints(
+    rt: &impl Abort,
+    alloc: Global,
+    fault: WalkFault,
+    wanted: &str,
+) -> Result<(), AllocError> {
+    let text = format!(in alloc; "{fault}")?;
+    same(rt, text.as_str(), wanted);
+    Ok(())
+}
+
+/// The greatest number of items is reached, and then no further one is taken.
+fn assert_refused_items(rt: &impl Abort, alloc: Global) -> Result<(), AllocError> {
+    let fits = walk_over(alloc, &[field(rt)], 16_777_215, 0)?;
+    same(rt, fits.last, Ok(Step::End));
+    same(rt, fits.items, 16_777_216);
+    let full = walk_over(alloc, &[wide(rt)], 16_777_216, 0)?;
+    assert_full(rt, &full, &Err(WalkFault::TooLarge));
     Ok(())
 }
 
 #[test]
 fn refusals_of_walks(rt: HostRuntime) -> Result<(), Fail> {
+    assert_refused_items(&rt, rt.alloc())?;
     let k = fxy(&rt, 0, 12, 101);
-    let one = [field(&rt)];
-    let fits = walk_over(rt.alloc(), &one, 16_777_215, 0)?;
-    assert_eq!(rt; fits.last, Ok(Step::End));
-    assert_eq!(rt; fits.items, 16_777_216);
-    let other = [wide(&rt)];
-    let full = walk_over(rt.alloc(), &other, 16_777_216, 0)?;
-    assert_eq!(rt; full.last, Err(WalkFault::TooLarge));
-    assert_eq!(rt; full.again, Err(WalkFault::TooLarge));
-    assert_eq!(rt; full.items, 16_777_216);
     let both = [field(&rt), wide(&rt)];
     let refused = walk_over(rt.alloc(), &both, 16_777_214, 0)?;
-    assert_eq!(rt; refused.fields, 1);
-    assert_eq!(rt; refused.last, Err(WalkFault::EffectiveRange(k)));
-    assert_eq!(rt; refused.again, Err(WalkFault::EffectiveRange(k)));
-    assert_eq!(rt; refused.items, 16_777_216);
-    let large = format!(in rt.alloc(); "{}", WalkFault::TooLarge)?;
-    assert_eq!(rt; large.as_str(), "V6 TooLarge");
-    let range = format!(in rt.alloc(); "{}", WalkFault::EffectiveRange(k))?;
-    assert_eq!(rt; range.as_str(), "V1 EffectiveRange 012101");
+    same(&rt, refused.fields, 1);
+    assert_full(&rt, &refused, &Err(WalkFault::EffectiveRange(k)));
+    assert_prints(&rt, rt.alloc(), WalkFault::TooLarge, "V6 TooLarge")?;
+    let range = WalkFault::EffectiveRange(k);
+    assert_prints(&rt, rt.alloc(), range, "V1 EffectiveRange 012101")?;
     Ok(())
 }
 
@@ -450,8 +470,8 @@ fn item_limit(rt: HostRuntime) -> Result<(), Fail> {
         one,
     ];
     let large = walk_over(rt.alloc(), &nodes, 0, 0)?;
-    assert_eq!(rt; large.last, Err(WalkFault::TooLarge));
-    assert_eq!(rt; large.items, 16_777_216);
+    same(&rt, large.last, Err(WalkFault::TooLarge));
+    same(&rt, large.items, 16_777_216);
     Ok(())
 }
 
@@ -466,9 +486,8 @@ fn item_and_product_limits(rt: HostRuntime) -> Result<(), Fail> {
         Node::Operator(fxy(&rt, 2, 1, 0)),
     ];
     let large = walk_over(rt.alloc(), &nodes, 0, 0)?;
-    assert_eq!(rt; large.fields, 0);
-    assert_eq!(rt; large.last, Err(WalkFault::TooLarge));
-    assert_eq!(rt; large.items, 16_777_216);
+    assert_counts(&rt, &large, 0, 16_777_216);
+    same(&rt, large.last, Err(WalkFault::TooLarge));
     Ok(())
 }
 

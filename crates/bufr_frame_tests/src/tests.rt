@@ -1,5 +1,8 @@
+ghost use Rattle.std.specs.Prelude.{◌<◌, ◌+◌, ◌^◌, length};
+
 use bufr_frame::*;
 use std::alloc::{AllocError, Global};
+use std::fmt::Debug;
 use std::process::Abort;
 use std::test::Fail;
 
@@ -24,6 +27,12 @@ const BEFORE_TEXT: &[u8] = b"BUFR\x00\x00\x63\x04\
 \x00\x00\x38\x00";
 
 const AFTER_TEXT: &[u8] = b"7777";
+
+/// Stops the test where the two differ. It is a function, since a comparison written out in a test
+/// makes the proof of that test more than twice as long.
+fn same<T: PartialEq + Debug + Drop>(rt: &impl Abort, found: T, wanted: T) {
+    assert_eq!(rt; found, wanted);
+}
 
 /// These octets one after another.
 fn joined(alloc: Global, parts: &[&[u8]]) -> Result<Vec<u8>, AllocError> {
@@ -52,6 +61,32 @@ enum Way {
 
 const WAYS: [Way; 3] = [Way::Feed, Way::Look, Way::TakeNext];
 
+/// Takes in a piece for which there is room, up to its first frame.
+fn take<'p>(
+    rt: &impl Abort,
+    framer: &mut Framer,
+    piece: &'p [u8],
+) -> Result<Taken<'p>, AllocError> {
+    assert!(rt; framer.fed() <= u64::MAX - piece.len() as u64);
+    framer.take_next(piece)
+}
+
+/// Takes in a piece for which there is room, up to its first frame, and counts the octets.
+fn take_counted<'p>(
+    rt: &impl Abort,
+    framer: &mut Framer,
+    piece: &'p [u8],
+) -> Result<Taken<'p>, AllocError> {
+    let fed = framer.fed();
+    let taken = take(rt, framer, piece)?;
+    assert!(rt; taken.rest.len() <= piece.len());
+    assert!(rt; framer.fed() >= fed);
+    let octets = (piece.len() - taken.rest.len()) as u64;
+    same(rt, framer.fed() - fed, octets);
+    assert!(rt; framer.pending() <= 16_777_215);
+    Ok(taken)
+}
+
 /// Takes in a piece for which there is room, frame by frame.
 fn take_all(
     rt: &impl Abort,
@@ -62,15 +97,8 @@ fn take_all(
     let mut all = Vec::new(alloc);
     let mut rest = piece;
     for _ in 0..1_000_000 {
-        assert!(rt; rest.len() <= piece.len());
-        assert!(rt; framer.fed() <= u64::MAX - rest.len() as u64);
-        let before = framer.fed() + rest.len() as u64;
-        let taken = framer.take_next(rest)?;
+        let taken = take_counted(rt, framer, rest)?;
         rest = taken.rest;
-        assert!(rt; rest.len() <= piece.len());
-        assert!(rt; framer.fed() <= u64::MAX - rest.len() as u64);
-        assert!(rt; framer.fed() + rest.len() as u64 == before);
-        assert!(rt; framer.pending() <= 16_777_215);
         match taken.found {
             Some(frame) => all.push(frame)?,
             None => {
@@ -81,6 +109,14 @@ fn take_all(
     }
     assert!(rt; false, "no end of frames");
     Ok(all)
+}
+
+/// Takes in a piece for which there is room, by a look.
+fn look_and_settle(framer: &mut Framer, piece: &[u8]) -> Result<Vec<Found>, AllocError>
+    requires { framer.old.fed + length piece.now < 2 ^ 64 }
+{
+    let look = framer.look(piece)?;
+    Ok(framer.settle(look))
 }
 
 /// Takes in a piece for which there is room.
@@ -94,10 +130,7 @@ fn give(
     assert!(rt; framer.fed() <= u64::MAX - piece.len() as u64);
     match way {
         Way::Feed => framer.feed(piece),
-        Way::Look => {
-            let look = framer.look(piece)?;
-            Ok(framer.settle(look))
-        }
+        Way::Look => look_and_settle(framer, piece),
         Way::TakeNext => take_all(rt, alloc, framer, piece),
     }
 }
@@ -115,6 +148,58 @@ fn are(found: &[Found], wanted: &[(u64, &[u8])]) -> bool {
     true
 }
 
+/// So many octets are fed, and so many of them are pending.
+fn assert_state(rt: &impl Abort, framer: &Framer, fed: u64, pending: usize) {
+    same(rt, framer.fed(), fed);
+    same(rt, framer.pending(), pending);
+}
+
+/// A piece has these frames, and so many octets are pending after it.
+fn assert_gives(
+    rt: &impl Abort,
+    alloc: Global,
+    way: Way,
+    framer: &mut Framer,
+    piece: &[u8],
+    wanted: (&[(u64, &[u8])], usize),
+) -> Result<(), AllocError> {
+    let found = give(rt, alloc, way, framer, piece)?;
+    assert!(rt; are(&found, wanted.0), "{way:?}");
+    same(rt, framer.pending(), wanted.1);
+    Ok(())
+}
+
+/// The frames at the stream's end are these, and nothing is left.
+fn assert_finishes(
+    rt: &impl Abort,
+    framer: &mut Framer,
+    wanted: &[(u64, &[u8])],
+) -> Result<(), AllocError> {
+    let last = framer.finish()?;
+    assert!(rt; are(&last, wanted));
+    assert_state(rt, framer, 0, 0);
+    Ok(())
+}
+
+/// Gives a piece and adds its frames to those found.
+fn give_more(
+    rt: &impl Abort,
+    alloc: Global,
+    way: Way,
+    framer: &mut Framer,
+    piece: &[u8],
+    all: &mut Vec<Found>,
+) -> Result<(), AllocError> {
+    let mut found = give(rt, alloc, way, framer, piece)?;
+    all.append(&mut found)
+}
+
+/// Adds the frames of the stream's end to those found.
+fn finish_more(framer: &mut Framer, all: &mut Vec<Found>) -> Result<(), AllocError> {
+    let mut last = framer.finish()?;
+    all.append(&mut last)
+}
+
 /// The frames of these pieces, and those of the stream's end.
 fn in_pieces(
     rt: &impl Abort,
@@ -125,13 +210,10 @@ fn in_pieces(
     let mut framer = Framer::new(alloc);
     let mut all = Vec::new(alloc);
     for piece in pieces {
-        let mut found = give(rt, alloc, way, &mut framer, *piece)?;
-        all.append(&mut found)?;
+        give_more(rt, alloc, way, &mut framer, *piece, &mut all)?;
     }
-    let mut last = framer.finish()?;
-    all.append(&mut last)?;
-    assert!(rt; framer.fed() == 0);
-    assert!(rt; framer.pending() == 0);
+    finish_more(&mut framer, &mut all)?;
+    assert_state(rt, &framer, 0, 0);
     Ok(all)
 }
 
@@ -145,13 +227,26 @@ fn one_by_one(
     let mut framer = Framer::new(alloc);
     let mut all = Vec::new(alloc);
     for octet in octets {
-        let mut found = give(rt, alloc, way, &mut framer, &[*octet])?;
-        all.append(&mut found)?;
+        give_more(rt, alloc, way, &mut framer, &[*octet], &mut all)?;
     }
-    assert!(rt; framer.fed() == octets.len() as u64);
-    let mut last = framer.finish()?;
-    all.append(&mut last)?;
+    same(rt, framer.fed(), octets.len() as u64);
+    finish_more(&mut framer, &mut all)?;
     Ok(all)
+}
+
+/// Whether the octets, cut in two at this place, have these frames.
+fn have_frames_cut_at(
+    rt: &impl Abort,
+    alloc: Global,
+    way: Way,
+    octets: &[u8],
+    place: usize,
+    wanted: &[(u64, &[u8])],
+) -> Result<bool, AllocError> {
+    assert!(rt; place <= octets.len());
+    let pieces: &[&[u8]] = &[&octets[..place], &octets[place..]];
+    let found = in_pieces(rt, alloc, way, pieces)?;
+    Ok(are(&found, wanted))
 }
 
 /// Whether the octets, whole, cut in two at every place and one by one, have these frames.
@@ -163,9 +258,7 @@ fn have_frames(
 ) -> Result<bool, AllocError> {
     for way in WAYS {
         for place in 0..=octets.len() {
-            let pieces: &[&[u8]] = &[&octets[..place], &octets[place..]];
-            let found = in_pieces(rt, alloc, way, pieces)?;
-            if !are(&found, wanted) {
+            if !have_frames_cut_at(rt, alloc, way, octets, place, wanted)? {
                 return Ok(false);
             }
         }
@@ -177,16 +270,52 @@ fn have_frames(
     Ok(true)
 }
 
+/// The octets, whole, cut in two at every place and one by one, have these frames.
+fn assert_frames(
+    rt: &impl Abort,
+    alloc: Global,
+    octets: &[u8],
+    wanted: &[(u64, &[u8])],
+    text: &str,
+) -> Result<(), AllocError> {
+    let have = have_frames(rt, alloc, octets, wanted)?;
+    assert!(rt; have, "{text}");
+    Ok(())
+}
+
 #[test]
 fn two_frames_and_a_stray(rt: HostRuntime) -> Result<(), Fail> {
     let stream = message_stray_message(rt.alloc())?;
-    assert_eq!(rt; stream.len(), 146);
+    same(&rt, stream.len(), 146);
     let wanted: &[(u64, &[u8])] = &[(18, SEQUENCES), (84, SEQUENCES)];
-    let have = have_frames(&rt, rt.alloc(), &stream, wanted)?;
-    assert!(rt; have);
+    assert_frames(&rt, rt.alloc(), &stream, wanted, "two frames")?;
     assert!(rt; stream.len() < 1000);
     let at_once = frames_of_pieces(rt.alloc(), &[&stream])?;
     assert!(rt; are(&at_once, wanted));
+    Ok(())
+}
+
+/// Takes the first message of two and a stray `BUFR`, and gives back what follows it.
+fn take_first_of_two<'p>(
+    rt: &impl Abort,
+    framer: &mut Framer,
+    stream: &'p [u8],
+) -> Result<&'p [u8], Fail> {
+    same(rt, stream.len(), 146);
+    let Taken { found, rest } = take(rt, framer, stream)?;
+    let first = found.ok_or("no frame")?;
+    same(rt, first.place, 18);
+    assert!(rt; first.bytes.as_slice() == SEQUENCES);
+    assert!(rt; stream.len() == 146 && rest == &stream[80..]);
+    assert_state(rt, framer, 80, 0);
+    same(rt, rest.len(), 66);
+    Ok(rest)
+}
+
+/// Takes a piece in which no further frame is sure.
+fn take_none(rt: &impl Abort, framer: &mut Framer, piece: &[u8]) -> Result<(), AllocError> {
+    let Taken { found, rest } = take(rt, framer, piece)?;
+    assert!(rt; found.is_none() && rest.is_empty());
     Ok(())
 }
 
@@ -194,20 +323,10 @@ fn two_frames_and_a_stray(rt: HostRuntime) -> Result<(), Fail> {
 fn two_frames_and_a_stray_taken(rt: HostRuntime) -> Result<(), Fail> {
     let stream = message_stray_message(rt.alloc())?;
     let mut framer = Framer::new(rt.alloc());
-    assert!(rt; stream.len() == 146);
-    let Taken { found, rest } = framer.take_next(&stream)?;
-    let first = found.ok_or("no frame")?;
-    assert_eq!(rt; first.place, 18);
-    assert!(rt; first.bytes.as_slice() == SEQUENCES);
-    assert!(rt; rest == &stream[80..]);
-    assert_eq!(rt; framer.pending(), 0);
-    assert!(rt; framer.fed() == 80 && rest.len() == 66);
-    let Taken { found, rest } = framer.take_next(rest)?;
-    assert!(rt; found.is_none() && rest.is_empty());
-    assert_eq!(rt; framer.fed(), 146);
-    assert_eq!(rt; framer.pending(), 66);
-    let second = framer.finish()?;
-    assert!(rt; are(&second, &[(84, SEQUENCES)]));
+    let rest = take_first_of_two(&rt, &mut framer, &stream)?;
+    take_none(&rt, &mut framer, rest)?;
+    assert_state(&rt, &framer, 146, 66);
+    assert_finishes(&rt, &mut framer, &[(84, SEQUENCES)])?;
     Ok(())
 }
 
@@ -215,16 +334,33 @@ fn two_frames_and_a_stray_taken(rt: HostRuntime) -> Result<(), Fail> {
 fn two_frames_and_a_stray_whole(rt: HostRuntime) -> Result<(), Fail> {
     let stream = message_stray_message(rt.alloc())?;
     let mut framer = Framer::new(rt.alloc());
-    let first = give(&rt, rt.alloc(), Way::Feed, &mut framer, &stream)?;
-    assert!(rt; are(&first, &[(18, SEQUENCES)]));
-    assert_eq!(rt; framer.fed(), 146);
-    assert_eq!(rt; framer.pending(), 66);
+    let first: &[(u64, &[u8])] = &[(18, SEQUENCES)];
+    assert_gives(
+        &rt,
+        rt.alloc(),
+        Way::Feed,
+        &mut framer,
+        &stream,
+        (first, 66),
+    )?;
+    same(&rt, framer.fed(), 146);
     let look = framer.look_end()?;
     assert!(rt; are(look.found(), &[(84, SEQUENCES)]));
-    assert_eq!(rt; framer.pending(), 66);
-    let second = framer.finish()?;
-    assert!(rt; are(&second, &[(84, SEQUENCES)]));
-    assert_eq!(rt; framer.pending(), 0);
+    same(&rt, framer.pending(), 66);
+    assert_finishes(&rt, &mut framer, &[(84, SEQUENCES)])?;
+    Ok(())
+}
+
+/// Looks at a piece, and then settles the look, with one frame more and 66 octets pending.
+fn look_then_settle(rt: &impl Abort, framer: &mut Framer, piece: &[u8]) -> Result<(), AllocError> {
+    assert!(rt; framer.fed() == 30);
+    assert!(rt; piece.len() == 116);
+    let look = framer.look(piece)?;
+    assert!(rt; are(look.found(), &[(18, SEQUENCES)]));
+    same(rt, framer.fed(), 30);
+    let found = framer.settle(look);
+    assert!(rt; are(&found, &[(18, SEQUENCES)]));
+    assert_state(rt, framer, 146, 66);
     Ok(())
 }
 
@@ -233,23 +369,12 @@ fn a_look_settled(rt: HostRuntime) -> Result<(), Fail> {
     let front = joined(rt.alloc(), &[b"ISMD01 EDZW 151200", &SEQUENCES[..12]])?;
     let back = joined(rt.alloc(), &[&SEQUENCES[12..], b"BUFR", SEQUENCES])?;
     let mut framer = Framer::new(rt.alloc());
-    let none = give(&rt, rt.alloc(), Way::Feed, &mut framer, &front)?;
-    assert!(rt; are(&none, &[]));
-    assert_eq!(rt; framer.pending(), 12);
-    assert!(rt; framer.fed() == 30);
-    assert!(rt; back.len() == 116);
-    let look = framer.look(&back)?;
-    assert!(rt; are(look.found(), &[(18, SEQUENCES)]));
-    assert_eq!(rt; framer.fed(), 30);
-    let found = framer.settle(look);
-    assert!(rt; are(&found, &[(18, SEQUENCES)]));
-    assert_eq!(rt; framer.fed(), 146);
-    assert_eq!(rt; framer.pending(), 66);
+    assert_gives(&rt, rt.alloc(), Way::Feed, &mut framer, &front, (&[], 12))?;
+    look_then_settle(&rt, &mut framer, &back)?;
     let end = framer.look_end()?;
     let last = framer.settle(end);
     assert!(rt; are(&last, &[(84, SEQUENCES)]));
-    assert_eq!(rt; framer.fed(), 0);
-    assert_eq!(rt; framer.pending(), 0);
+    assert_state(&rt, &framer, 0, 0);
     Ok(())
 }
 
@@ -259,27 +384,24 @@ fn a_look_of_another_framer(rt: HostRuntime) -> Result<(), Fail> {
     assert!(rt; one.fed() == 0);
     let look = one.look(SEQUENCES)?;
     let mut other = Framer::new(rt.alloc());
-    let none = give(&rt, rt.alloc(), Way::Feed, &mut other, b"BUFR")?;
-    assert!(rt; are(&none, &[]));
-    assert_eq!(rt; other.pending(), 4);
+    assert_gives(&rt, rt.alloc(), Way::Feed, &mut other, b"BUFR", (&[], 4))?;
     let found = other.settle(look);
     assert!(rt; are(&found, &[(0, SEQUENCES)]));
-    assert_eq!(rt; other.fed(), 62);
-    assert_eq!(rt; other.pending(), 0);
-    assert_eq!(rt; one.fed(), 0);
+    assert_state(&rt, &other, 62, 0);
+    same(&rt, one.fed(), 0);
     Ok(())
 }
 
 #[test]
 fn message_in_character_data(rt: HostRuntime) -> Result<(), Fail> {
     let stream = joined(rt.alloc(), &[BEFORE_TEXT, DELAYED_COUNT, AFTER_TEXT])?;
-    assert_eq!(rt; stream.len(), 99);
-    let whole = have_frames(&rt, rt.alloc(), &stream, &[(0, stream.as_slice())])?;
-    assert!(rt; whole);
+    same(&rt, stream.len(), 99);
+    let whole: &[(u64, &[u8])] = &[(0, stream.as_slice())];
+    assert_frames(&rt, rt.alloc(), &stream, whole, "whole")?;
     let without_last = joined(rt.alloc(), &[BEFORE_TEXT, DELAYED_COUNT, b"777"])?;
-    assert_eq!(rt; without_last.len(), 98);
-    let cut_off = have_frames(&rt, rt.alloc(), &without_last, &[(43, DELAYED_COUNT)])?;
-    assert!(rt; cut_off);
+    same(&rt, without_last.len(), 98);
+    let inner: &[(u64, &[u8])] = &[(43, DELAYED_COUNT)];
+    assert_frames(&rt, rt.alloc(), &without_last, inner, "cut off")?;
     Ok(())
 }
 
@@ -290,39 +412,44 @@ const INNER: &[u8] = b"BUFR\x00\x00\x0C\x047777";
 
 #[test]
 fn ruled_out_outer_frame(rt: HostRuntime) -> Result<(), Fail> {
+    let inner: &[(u64, &[u8])] = &[(8, INNER)];
     for way in WAYS {
         let mut framer = Framer::new(rt.alloc());
-        let none = give(&rt, rt.alloc(), way, &mut framer, OUTER)?;
-        assert!(rt; are(&none, &[]), "{way:?}");
-        assert_eq!(rt; framer.pending(), 20);
-        let found = give(&rt, rt.alloc(), way, &mut framer, b"\x00")?;
-        assert!(rt; are(&found, &[(8, INNER)]), "{way:?}");
-        assert_eq!(rt; framer.pending(), 0);
+        assert_gives(&rt, rt.alloc(), way, &mut framer, OUTER, (&[], 20))?;
+        assert_gives(&rt, rt.alloc(), way, &mut framer, b"\x00", (inner, 0))?;
     }
     let stream = joined(rt.alloc(), &[OUTER, b"\x00"])?;
-    let have = have_frames(&rt, rt.alloc(), &stream, &[(8, INNER)])?;
-    assert!(rt; have);
+    assert_frames(&rt, rt.alloc(), &stream, inner, "ruled out")?;
+    Ok(())
+}
+
+/// Takes a piece to its end, where a frame becomes sure, and so many octets are pending after it.
+fn take_at_end(
+    rt: &impl Abort,
+    framer: &mut Framer,
+    piece: &[u8],
+    place: u64,
+    pending: usize,
+) -> Result<(), Fail> {
+    let Taken { found, rest } = take(rt, framer, piece)?;
+    let frame = found.ok_or("no frame")?;
+    same(rt, frame.place, place);
+    assert!(rt; rest.is_empty());
+    same(rt, framer.pending(), pending);
     Ok(())
 }
 
 #[test]
 fn frames_held_behind_one_ruled_out(rt: HostRuntime) -> Result<(), Fail> {
     let outer = joined(rt.alloc(), &[b"BUFR\x00\x00\x24\x04", INNER, INNER])?;
-    assert_eq!(rt; outer.len(), 32);
+    same(&rt, outer.len(), 32);
     let mut framer = Framer::new(rt.alloc());
-    assert!(rt; framer.fed() == 0);
-    let Taken { found, rest } = framer.take_next(&outer)?;
-    assert!(rt; found.is_none() && rest.is_empty());
-    assert!(rt; framer.fed() == 32);
-    let Taken { found, rest } = framer.take_next(b"8")?;
-    assert_eq!(rt; found.ok_or("no first frame")?.place, 8);
-    assert!(rt; rest.is_empty());
-    assert_eq!(rt; framer.pending(), 13);
-    assert!(rt; framer.fed() == 33);
-    let Taken { found, rest } = framer.take_next(rest)?;
-    assert_eq!(rt; found.ok_or("no second frame")?.place, 20);
-    assert!(rt; rest.is_empty());
-    assert_eq!(rt; framer.pending(), 0);
+    same(&rt, framer.fed(), 0);
+    take_none(&rt, &mut framer, &outer)?;
+    same(&rt, framer.fed(), 32);
+    take_at_end(&rt, &mut framer, b"8", 8, 13)?;
+    same(&rt, framer.fed(), 33);
+    take_at_end(&rt, &mut framer, b"", 20, 0)?;
     Ok(())
 }
 
@@ -331,57 +458,88 @@ fn refusals_without_a_frame(rt: HostRuntime) -> Result<(), Fail> {
     let mut longer = joined(rt.alloc(), &[SEQUENCES])?;
     assert!(rt; longer.len() == 62);
     longer[6] = 0x3F;
-    let none = have_frames(&rt, rt.alloc(), &longer, &[])?;
-    assert!(rt; none, "a total one too large");
-    let short = have_frames(&rt, rt.alloc(), b"BUFR\x00\x00\x0B7777", &[])?;
-    assert!(rt; short, "a total below 12");
-    let least = have_frames(&rt, rt.alloc(), INNER, &[(0, INNER)])?;
-    assert!(rt; least, "a total of 12");
-    let lower = have_frames(&rt, rt.alloc(), b"bufr\x00\x00\x0C\x047777", &[])?;
-    assert!(rt; lower, "another mark");
-    let end = have_frames(&rt, rt.alloc(), b"BUFR\x00\x00\x0C\x047778", &[])?;
-    assert!(rt; end, "another end");
+    let least: &[(u64, &[u8])] = &[(0, INNER)];
+    let cases: [(&[u8], &[(u64, &[u8])], &str); 5] = [
+        (&longer, &[], "a total one too large"),
+        (b"BUFR\x00\x00\x0B7777", &[], "a total below 12"),
+        (INNER, least, "a total of 12"),
+        (b"bufr\x00\x00\x0C\x047777", &[], "another mark"),
+        (b"BUFR\x00\x00\x0C\x047778", &[], "another end"),
+    ];
+    for (octets, wanted, text) in cases {
+        assert_frames(&rt, rt.alloc(), octets, wanted, text)?;
+    }
+    Ok(())
+}
+
+/// A message of 66,051 octets, whose length is 01 02 03.
+fn long_message(alloc: Global) -> Result<Vec<u8>, AllocError> {
+    let mut message = joined(alloc, &[b"BUFR\x01\x02\x03\x04"])?;
+    for _ in 0..66_039 {
+        message.push(0)?;
+    }
+    message.extend_from_slice(b"7777")?;
+    Ok(message)
+}
+
+/// The octets have one frame, which is all of them.
+fn assert_one_frame(
+    rt: &impl Abort,
+    alloc: Global,
+    way: Way,
+    message: &[u8],
+) -> Result<(), AllocError> {
+    let found = in_pieces(rt, alloc, way, &[message])?;
+    assert!(rt; are(&found, &[(0, message)]), "{way:?}");
     Ok(())
 }
 
 #[test]
 fn three_octets_of_the_length(rt: HostRuntime) -> Result<(), Fail> {
-    let mut message = joined(rt.alloc(), &[b"BUFR\x01\x02\x03\x04"])?;
-    for _ in 0..66_039 {
-        message.push(0)?;
-    }
-    message.extend_from_slice(b"7777")?;
-    assert_eq!(rt; message.len(), 66_051);
+    let mut message = long_message(rt.alloc())?;
+    assert!(rt; message.len() == 66_051);
     for way in WAYS {
-        let found = in_pieces(&rt, rt.alloc(), way, &[&message])?;
-        assert!(rt; are(&found, &[(0, message.as_slice())]), "{way:?}");
+        assert_one_frame(&rt, rt.alloc(), way, &message)?;
     }
+    assert!(rt; message.len() == 66_051);
     message[6] = 4;
     for way in WAYS {
         let mut framer = Framer::new(rt.alloc());
-        let none = give(&rt, rt.alloc(), way, &mut framer, &message)?;
-        assert!(rt; are(&none, &[]), "{way:?}");
-        assert_eq!(rt; framer.pending(), 66_051);
+        assert_gives(&rt, rt.alloc(), way, &mut framer, &message, (&[], 66_051))?;
     }
     Ok(())
 }
 
 #[test]
 fn tails_of_six_and_of_seven(rt: HostRuntime) -> Result<(), Fail> {
+    let inner: &[(u64, &[u8])] = &[(10, INNER)];
+    let steps: [(&[u8], (&[(u64, &[u8])], usize)); 4] = [
+        (b"77BUFR\x00\x00", (&[], 6)),
+        (b"\x0B", (&[], 0)),
+        (b"7BUF", (&[], 3)),
+        (b"R\x00\x00\x0C\x047777B", (inner, 1)),
+    ];
     for way in WAYS {
         let mut framer = Framer::new(rt.alloc());
-        let none = give(&rt, rt.alloc(), way, &mut framer, b"77BUFR\x00\x00")?;
+        for (piece, wanted) in steps {
+            assert_gives(&rt, rt.alloc(), way, &mut framer, piece, wanted)?;
+        }
+    }
+    Ok(())
+}
+
+/// Gives a piece 256 times, which has no frame.
+fn give_often(
+    rt: &impl Abort,
+    alloc: Global,
+    way: Way,
+    framer: &mut Framer,
+    piece: &[u8],
+) -> Result<(), AllocError> {
+    for _ in 0..256 {
+        let none = give(rt, alloc, way, framer, piece)?;
         assert!(rt; none.is_empty());
-        assert_eq!(rt; framer.pending(), 6);
-        let ruled_out = give(&rt, rt.alloc(), way, &mut framer, b"\x0B")?;
-        assert!(rt; ruled_out.is_empty());
-        assert_eq!(rt; framer.pending(), 0);
-        let tail = give(&rt, rt.alloc(), way, &mut framer, b"7BUF")?;
-        assert!(rt; tail.is_empty());
-        assert_eq!(rt; framer.pending(), 3);
-        let whole = give(&rt, rt.alloc(), way, &mut framer, b"R\x00\x00\x0C\x047777B")?;
-        assert!(rt; are(&whole, &[(10, INNER)]), "{way:?}");
-        assert_eq!(rt; framer.pending(), 1);
+        assert!(rt; framer.pending() <= 16_777_215);
     }
     Ok(())
 }
@@ -394,47 +552,67 @@ fn bufr_without_end(rt: HostRuntime) -> Result<(), Fail> {
     }
     for way in [Way::Feed, Way::TakeNext] {
         let mut framer = Framer::new(rt.alloc());
-        for _ in 0..256 {
-            let none = give(&rt, rt.alloc(), way, &mut framer, &piece)?;
-            assert!(rt; none.is_empty());
-            assert!(rt; framer.pending() <= 16_777_215);
-        }
-        assert_eq!(rt; framer.fed(), 16_777_216);
-        assert_eq!(rt; framer.pending(), 4_347_200);
-        let none = framer.finish()?;
-        assert!(rt; none.is_empty());
+        give_often(&rt, rt.alloc(), way, &mut framer, &piece)?;
+        assert_state(&rt, &framer, 16_777_216, 4_347_200);
+        assert_finishes(&rt, &mut framer, &[])?;
     }
     Ok(())
 }
 
-#[test]
-fn many_messages_in_large_pieces(rt: HostRuntime) -> Result<(), Fail> {
-    let mut stream = Vec::new(rt.alloc());
+/// 12,500 bulletins of one message each, and then a frame in one that lacks its end.
+fn many_bulletins(alloc: Global) -> Result<Vec<u8>, AllocError> {
+    let mut stream = Vec::new(alloc);
     for _ in 0..12_500 {
         stream.extend_from_slice(b"\r\r\nISMD01 EDZW 151200\r\r\n")?;
         stream.extend_from_slice(SEQUENCES)?;
     }
     stream.extend_from_slice(OUTER)?;
-    assert_eq!(rt; stream.len(), 1_075_020);
+    Ok(stream)
+}
+
+/// These are the next frames of the bulletins, of which so many went before; answers how many there
+/// are then.
+fn count_bulletins(rt: &impl Abort, frames: &[Found], before: u64) -> u64 {
+    let mut count = before;
+    for frame in frames {
+        assert!(rt; count < 12_500);
+        assert!(rt; frame.place == 86 * count + 24);
+        assert!(rt; frame.bytes.as_slice() == SEQUENCES);
+        count += 1;
+    }
+    count
+}
+
+/// Gives a piece to two framers, by `feed` and frame by frame: both find the same frames, and hold
+/// as many octets.
+fn give_both(
+    rt: &impl Abort,
+    alloc: Global,
+    fed: &mut Framer,
+    taken: &mut Framer,
+    piece: &[u8],
+) -> Result<Vec<Found>, AllocError> {
+    let by_feed = give(rt, alloc, Way::Feed, fed, piece)?;
+    let by_take = give(rt, alloc, Way::TakeNext, taken, piece)?;
+    assert!(rt; by_feed.as_slice() == by_take.as_slice());
+    same(rt, fed.pending(), taken.pending());
+    Ok(by_take)
+}
+
+#[test]
+fn many_messages_in_large_pieces(rt: HostRuntime) -> Result<(), Fail> {
+    let stream = many_bulletins(rt.alloc())?;
+    same(&rt, stream.len(), 1_075_020);
     let mut fed = Framer::new(rt.alloc());
     let mut taken = Framer::new(rt.alloc());
     let mut count = 0;
     for piece in stream.chunks(65_536) {
-        let by_feed = give(&rt, rt.alloc(), Way::Feed, &mut fed, piece)?;
-        let by_take = give(&rt, rt.alloc(), Way::TakeNext, &mut taken, piece)?;
-        assert!(rt; by_feed.as_slice() == by_take.as_slice());
-        for frame in &by_take {
-            assert!(rt; count < 12_500);
-            assert!(rt; frame.place == 86 * count + 24);
-            assert!(rt; frame.bytes.as_slice() == SEQUENCES);
-            count += 1;
-        }
-        assert!(rt; fed.pending() == taken.pending());
+        let frames = give_both(&rt, rt.alloc(), &mut fed, &mut taken, piece)?;
+        count = count_bulletins(&rt, &frames, count);
     }
-    assert_eq!(rt; count, 12_500);
-    assert_eq!(rt; taken.pending(), 20);
-    let last = taken.finish()?;
-    assert!(rt; are(&last, &[(1_075_008, INNER)]));
+    same(&rt, count, 12_500);
+    same(&rt, taken.pending(), 20);
+    assert_finishes(&rt, &mut taken, &[(1_075_008, INNER)])?;
     Ok(())
 }
 

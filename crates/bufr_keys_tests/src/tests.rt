@@ -2,11 +2,11 @@
 use bufr_data::{Field, Raw};
 use bufr_expand::Spec;
 use bufr_keys::{KeyHead, key_in};
-use bufr_shelves::{Key, Moment, Octets, OutOfMemory, Station};
+use bufr_shelves::{Key, Moment, Octets, Station};
 use bufr_tables::{Fxy, Items, Kind};
 use std::alloc::Global;
+use std::fmt::Debug;
 use std::process::Abort;
-use std::test::Fail;
 
 const HEAD: KeyHead = KeyHead {
     centre: 98,
@@ -15,6 +15,12 @@ const HEAD: KeyHead = KeyHead {
     international: 3,
     local_category: 37,
 };
+
+/// Stops the test where the two differ. It is a function, since a comparison written out in a test
+/// makes the proof of that test more than twice as long.
+fn same<T: PartialEq + Debug + Drop>(rt: &impl Abort, found: T, wanted: T) {
+    assert_eq!(rt; found, wanted);
+}
 
 // The number of an element in a field of 24 bits with this scale and reference value.
 fn scaled(x: u8, y: u8, scale: i32, reference: i64, raw: u64) -> Field {
@@ -41,7 +47,13 @@ fn missing(x: u8, y: u8) -> Field {
     number(x, y, 16777215)
 }
 
-fn text(alloc: Global, x: u8, y: u8, octets: &[u8]) -> Result<Field, OutOfMemory> {
+/// Octets of their own.
+fn copied(rt: &impl Abort, alloc: Global, bytes: &[u8]) -> Vec<u8> {
+    Vec::from_slice(alloc, bytes).expect(rt, "room")
+}
+
+/// The text of an element in a field as wide as it.
+fn text(rt: &impl Abort, alloc: Global, x: u8, y: u8, octets: &[u8]) -> Field {
     let fxy = Fxy::from_bits(256 * (x % 64) as u16 + y as u16);
     let width = if octets.len() <= 8191 {
         8 * octets.len() as u32
@@ -54,32 +66,36 @@ fn text(alloc: Global, x: u8, y: u8, octets: &[u8]) -> Result<Field, OutOfMemory
         reference: 0,
         width,
     };
-    let raw = Raw::Text(Items::from_vec(Vec::from_slice(alloc, octets)?));
-    Ok(Field { fxy, spec, raw })
+    let raw = Raw::Text(Items::from_vec(copied(rt, alloc, octets)));
+    Field { fxy, spec, raw }
 }
 
-// Puts year, month, day and hour behind other fields.
-fn add_date(fields: &mut Vec<Field>, date: [u64; 4]) -> Result<(), OutOfMemory> {
+/// Puts a field behind others.
+fn add(rt: &impl Abort, fields: &mut Vec<Field>, field: Field) {
+    fields.push(field).expect(rt, "room");
+}
+
+/// Puts year, month, day and hour behind other fields.
+fn add_date(rt: &impl Abort, fields: &mut Vec<Field>, date: [u64; 4]) {
     let [year, month, day, hour] = date;
-    fields.push(number(4, 1, year))?;
-    fields.push(number(4, 2, month))?;
-    fields.push(number(4, 3, day))?;
-    fields.push(number(4, 4, hour))?;
-    Ok(())
+    add(rt, fields, number(4, 1, year));
+    add(rt, fields, number(4, 2, month));
+    add(rt, fields, number(4, 3, day));
+    add(rt, fields, number(4, 4, hour));
 }
 
-fn add_wmo(fields: &mut Vec<Field>) -> Result<(), OutOfMemory> {
-    fields.push(number(1, 1, 10))?;
-    fields.push(number(1, 2, 384))?;
-    Ok(())
+/// Puts a WMO station behind other fields.
+fn add_wmo(rt: &impl Abort, fields: &mut Vec<Field>) {
+    add(rt, fields, number(1, 1, 10));
+    add(rt, fields, number(1, 2, 384));
 }
 
-fn add_wigos(alloc: Global, fields: &mut Vec<Field>) -> Result<(), OutOfMemory> {
-    fields.push(number(1, 125, 0))?;
-    fields.push(number(1, 126, 20000))?;
-    fields.push(number(1, 127, 1))?;
-    fields.push(text(alloc, 1, 128, b"10384           ")?)?;
-    Ok(())
+/// Puts a WIGOS identifier behind other fields.
+fn add_wigos(rt: &impl Abort, alloc: Global, fields: &mut Vec<Field>) {
+    add(rt, fields, number(1, 125, 0));
+    add(rt, fields, number(1, 126, 20000));
+    add(rt, fields, number(1, 127, 1));
+    add(rt, fields, text(rt, alloc, 1, 128, b"10384           "));
 }
 
 const NOON: [u64; 4] = [2024, 1, 15, 12];
@@ -93,27 +109,50 @@ const AT_NOON: Moment = Moment {
     second: 0,
 };
 
-fn octets(alloc: Global, bytes: &[u8]) -> Result<Octets, OutOfMemory> {
-    Ok(Octets::new(Vec::from_slice(alloc, bytes)?))
+/// A mobile station of this name.
+fn mobile(rt: &impl Abort, alloc: Global, name: &[u8]) -> Station {
+    let name = Octets::new(copied(rt, alloc, name));
+    Station::Mobile { name }
 }
 
+/// The WIGOS identifier that is put behind fields.
+fn wigos(rt: &impl Abort, alloc: Global) -> Station {
+    Station::wigos(0, 20000, 1, Octets::new(copied(rt, alloc, b"10384")))
+}
+
+/// A key is of this station at noon.
+fn assert_at_noon(rt: &impl Abort, key: &Key, station: &Station) {
+    assert!(rt; key.station == *station, "{key:?}");
+    assert!(rt; key.moment == AT_NOON, "{key:?}");
+}
+
+/// Fields say this station at noon, or have no key.
 fn assert_station(rt: &impl Abort, alloc: Global, fields: &[Field], expected: Option<Station>) {
-    match (key_in(alloc, HEAD, fields), expected) {
-        (Ok(Some(key)), Some(station)) => {
-            assert!(rt; key.station == station, "{key:?}");
-            assert!(rt; key.moment == AT_NOON, "{key:?}");
-        }
-        (Ok(None), None) => {}
+    let found = key_in(alloc, HEAD, fields).expect(rt, "room");
+    match (found, expected) {
+        (Some(key), Some(station)) => assert_at_noon(rt, &key, &station),
+        (None, None) => {}
         (_, expected) => assert!(rt; false, "another key, or none, for {expected:?}"),
     }
 }
 
+/// Fields and a date behind them say this station at noon, or have no key.
+fn assert_dated(rt: &impl Abort, alloc: Global, mut fields: Vec<Field>, expected: Option<Station>) {
+    add_date(rt, &mut fields, NOON);
+    assert_station(rt, alloc, fields.as_slice(), expected);
+}
+
+/// The two keys are one.
+fn assert_key(rt: &impl Abort, found: &Key, expected: &Key) {
+    assert!(rt; *found == *expected);
+}
+
 #[test]
-fn keys(rt: HostRuntime) -> Result<(), Fail> {
+fn keys(rt: HostRuntime) {
     let alloc = rt.alloc();
     let mut fields = Vec::new(alloc);
-    add_wmo(&mut fields)?;
-    add_date(&mut fields, NOON)?;
+    add_wmo(&rt, &mut fields);
+    add_date(&rt, &mut fields, NOON);
     let expected = Key {
         centre: 98,
         category: 2,
@@ -123,87 +162,83 @@ fn keys(rt: HostRuntime) -> Result<(), Fail> {
         moment: AT_NOON,
         sub_centre: 7,
     };
-    assert!(rt; key_in(alloc, HEAD, fields.as_slice())?.ok_or("a key")? == expected);
-    Ok(())
+    let found = key_in(alloc, HEAD, fields.as_slice()).expect(&rt, "room");
+    assert_key(&rt, &found.expect(&rt, "a key"), &expected);
 }
 
-// A WMO station counts before a WIGOS identifier, and this where a WMO number is missing.
+/// A WMO station counts before a WIGOS identifier.
 #[test]
-fn stations_of_two_kinds(rt: HostRuntime) -> Result<(), Fail> {
+fn stations_of_two_kinds(rt: HostRuntime) {
     let alloc = rt.alloc();
-    let wigos = Station::wigos(0, 20000, 1, octets(alloc, b"10384")?);
     let mut fields = Vec::new(alloc);
-    add_wigos(alloc, &mut fields)?;
-    add_date(&mut fields, NOON)?;
-    assert_station(&rt, alloc, fields.as_slice(), Some(wigos.clone()?));
-    add_wmo(&mut fields)?;
+    add_wigos(&rt, alloc, &mut fields);
+    add_date(&rt, &mut fields, NOON);
+    assert_station(&rt, alloc, fields.as_slice(), Some(wigos(&rt, alloc)));
+    add_wmo(&rt, &mut fields);
     assert_station(&rt, alloc, fields.as_slice(), Some(Station::wmo(10, 384)));
+    number_missing(&rt, alloc);
+}
+
+/// A WIGOS identifier counts where a WMO number is missing.
+fn number_missing(rt: &impl Abort, alloc: Global) {
     let mut fields = Vec::new(alloc);
-    fields.push(missing(1, 1))?;
-    fields.push(number(1, 2, 384))?;
-    add_wigos(alloc, &mut fields)?;
-    add_date(&mut fields, NOON)?;
-    assert_station(&rt, alloc, fields.as_slice(), Some(wigos));
-    Ok(())
+    add(rt, &mut fields, missing(1, 1));
+    add(rt, &mut fields, number(1, 2, 384));
+    add_wigos(rt, alloc, &mut fields);
+    assert_dated(rt, alloc, fields, Some(wigos(rt, alloc)));
 }
 
 #[test]
-fn names_of_blanks(rt: HostRuntime) -> Result<(), Fail> {
-    let alloc = rt.alloc();
-    let mut fields = Vec::new(alloc);
-    fields.push(text(alloc, 1, 11, b"         ")?)?;
-    add_date(&mut fields, NOON)?;
-    assert_station(&rt, alloc, fields.as_slice(), None);
-    Ok(())
+fn names_of_blanks(rt: HostRuntime) {
+    ship(&rt, rt.alloc(), b"         ", None);
 }
 
-// What a ship's name says.
-fn ship(rt: &impl Abort, alloc: Global, said: &[u8], name: Option<&[u8]>) -> Result<(), Fail> {
+/// What a ship's name says.
+fn ship(rt: &impl Abort, alloc: Global, said: &[u8], name: Option<&[u8]>) {
     let mut fields = Vec::new(alloc);
-    fields.push(text(alloc, 1, 11, said)?)?;
-    add_date(&mut fields, NOON)?;
+    add(rt, &mut fields, text(rt, alloc, 1, 11, said));
     let expected = match name {
-        Some(name) => Some(Station::Mobile {
-            name: octets(alloc, name)?,
-        }),
+        Some(name) => Some(mobile(rt, alloc, name)),
         None => None,
     };
-    assert_station(rt, alloc, fields.as_slice(), expected);
-    Ok(())
+    assert_dated(rt, alloc, fields, expected);
+}
+
+/// The longest name that a field has room for.
+fn long_name(rt: &impl Abort, alloc: Global) -> Vec<u8> {
+    let mut long = Vec::new(alloc);
+    for _ in 0..8191u16 {
+        long.push(b'x').expect(rt, "room");
+    }
+    long
 }
 
 #[test]
-fn names(rt: HostRuntime) -> Result<(), Fail> {
+fn names(rt: HostRuntime) {
     let alloc = rt.alloc();
-    ship(&rt, alloc, b"SHIP1    ", Some(b"SHIP1"))?;
-    ship(&rt, alloc, b" AB  C   ", Some(b" AB  C"))?;
-    ship(&rt, alloc, b"AB\0\0 \0", Some(b"AB"))?;
-    ship(&rt, alloc, b"\0\0\0", None)?;
-    ship(&rt, alloc, b"", None)?;
-    ship(&rt, alloc, b"\xFF\xFF\xFF", None)?;
-    ship(&rt, alloc, b"\xFF\xFF!", Some(b"\xFF\xFF!"))?;
-    ship(&rt, alloc, b"A\x1F", Some(b"A\x1F"))?;
-    let mut long = Vec::new(alloc);
-    for _ in 0..8191u16 {
-        long.push(b'x')?;
+    let rows: [(&[u8], Option<&[u8]>); 8] = [
+        (b"SHIP1    ", Some(b"SHIP1")),
+        (b" AB  C   ", Some(b" AB  C")),
+        (b"AB\0\0 \0", Some(b"AB")),
+        (b"\0\0\0", None),
+        (b"", None),
+        (b"\xFF\xFF\xFF", None),
+        (b"\xFF\xFF!", Some(b"\xFF\xFF!")),
+        (b"A\x1F", Some(b"A\x1F")),
+    ];
+    for (said, name) in rows {
+        ship(&rt, alloc, said, name);
     }
-    ship(&rt, alloc, long.as_slice(), Some(long.as_slice()))?;
-    Ok(())
+    let long = long_name(&rt, alloc);
+    ship(&rt, alloc, long.as_slice(), Some(long.as_slice()));
 }
 
-// What two fields say of a WMO station.
-fn two(
-    rt: &impl Abort,
-    alloc: Global,
-    block: Field,
-    number: Field,
-    says: bool,
-) -> Result<(), Fail> {
+/// What two fields say of a WMO station.
+fn two(rt: &impl Abort, alloc: Global, block: Field, number: Field, says: bool) {
     let mut fields = Vec::new(alloc);
-    fields.push(block)?;
-    fields.push(number)?;
-    add_wmo(&mut fields)?;
-    add_date(&mut fields, NOON)?;
+    add(rt, &mut fields, block);
+    add(rt, &mut fields, number);
+    add_wmo(rt, &mut fields);
     let expected = if says {
         Some(Station::Wmo {
             block: -5,
@@ -212,60 +247,72 @@ fn two(
     } else {
         None
     };
-    assert_station(rt, alloc, fields.as_slice(), expected);
-    Ok(())
+    assert_dated(rt, alloc, fields, expected);
 }
 
 #[test]
-fn usable_numbers(rt: HostRuntime) -> Result<(), Fail> {
+fn usable_numbers(rt: HostRuntime) {
     let alloc = rt.alloc();
-    two(&rt, alloc, scaled(1, 1, 0, -9, 4), number(1, 2, 3), true)?;
-    two(&rt, alloc, missing(1, 1), number(1, 2, 3), false)?;
-    two(&rt, alloc, scaled(1, 1, 0, -9, 4), missing(1, 2), false)?;
-    two(&rt, alloc, scaled(1, 1, 1, -9, 4), number(1, 2, 3), false)?;
-    two(&rt, alloc, scaled(1, 1, -1, -9, 4), number(1, 2, 3), false)?;
-    two(&rt, alloc, text(alloc, 1, 1, b"4")?, number(1, 2, 3), false)?;
-    Ok(())
+    two(&rt, alloc, scaled(1, 1, 0, -9, 4), number(1, 2, 3), true);
+    two(&rt, alloc, missing(1, 1), number(1, 2, 3), false);
+    two(&rt, alloc, scaled(1, 1, 0, -9, 4), missing(1, 2), false);
+    two(&rt, alloc, scaled(1, 1, 1, -9, 4), number(1, 2, 3), false);
+    two(&rt, alloc, scaled(1, 1, -1, -9, 4), number(1, 2, 3), false);
+    let block = text(&rt, alloc, 1, 1, b"4");
+    two(&rt, alloc, block, number(1, 2, 3), false);
 }
 
-#[test]
-fn stations_with_one_part_missing(rt: HostRuntime) -> Result<(), Fail> {
-    let alloc = rt.alloc();
-    for part in 125..129u8 {
-        let mut fields = Vec::new(alloc);
-        fields.push(if part == 128 {
-            text(alloc, 1, 128, b"  ")?
-        } else {
-            missing(1, part)
-        })?;
-        add_wigos(alloc, &mut fields)?;
-        add_date(&mut fields, NOON)?;
-        assert_station(&rt, alloc, fields.as_slice(), None);
-        fields.push(text(alloc, 1, 11, b"SHIP1")?)?;
-        let name = octets(alloc, b"SHIP1")?;
-        assert_station(
-            &rt,
-            alloc,
-            fields.as_slice(),
-            Some(Station::Mobile { name }),
-        );
-    }
-    Ok(())
-}
-
-// The time that fields say, behind a station.
-fn time(alloc: Global, date: [u64; 4], more: &[(u8, u64)]) -> Result<Option<Moment>, Fail> {
+/// A WIGOS identifier of which this part is missing says nothing, and a ship's name behind it does.
+fn part_missing(rt: &impl Abort, alloc: Global, part: u8) {
     let mut fields = Vec::new(alloc);
-    add_wmo(&mut fields)?;
-    add_date(&mut fields, date)?;
-    for (y, raw) in more {
-        fields.push(number(4, *y, *raw))?;
-    }
-    Ok(key_in(alloc, HEAD, fields.as_slice())?.map(|key| key.moment))
+    let first = if part == 128 {
+        text(rt, alloc, 1, 128, b"  ")
+    } else {
+        missing(1, part)
+    };
+    add(rt, &mut fields, first);
+    add_wigos(rt, alloc, &mut fields);
+    add_date(rt, &mut fields, NOON);
+    assert_station(rt, alloc, fields.as_slice(), None);
+    add(rt, &mut fields, text(rt, alloc, 1, 11, b"SHIP1"));
+    let expected = Some(mobile(rt, alloc, b"SHIP1"));
+    assert_station(rt, alloc, fields.as_slice(), expected);
 }
 
 #[test]
-fn dates(rt: HostRuntime) -> Result<(), Fail> {
+fn stations_with_one_part_missing(rt: HostRuntime) {
+    for part in 125..129u8 {
+        part_missing(&rt, rt.alloc(), part);
+    }
+}
+
+/// The time that fields say, behind a station.
+fn time(rt: &impl Abort, alloc: Global, date: [u64; 4], more: &[(u8, u64)]) -> Option<Moment> {
+    let mut fields = Vec::new(alloc);
+    add_wmo(rt, &mut fields);
+    add_date(rt, &mut fields, date);
+    for (y, raw) in more {
+        add(rt, &mut fields, number(4, *y, *raw));
+    }
+    let found = key_in(alloc, HEAD, fields.as_slice()).expect(rt, "room");
+    match found {
+        Some(key) => Some(key.moment),
+        None => None,
+    }
+}
+
+/// The moment is the start of this hour.
+fn assert_hour(rt: &impl Abort, moment: Moment, date: [u64; 4]) {
+    let [year, month, day, hour] = date;
+    same(rt, moment.year as u64, year);
+    same(rt, moment.month as u64, month);
+    same(rt, moment.day as u64, day);
+    same(rt, moment.hour as u64, hour);
+    same(rt, (moment.minute, moment.second), (0, 0));
+}
+
+#[test]
+fn dates(rt: HostRuntime) {
     let real = [
         [2024, 2, 29, 0],
         [2000, 2, 29, 23],
@@ -275,14 +322,14 @@ fn dates(rt: HostRuntime) -> Result<(), Fail> {
         [1900, 2, 28, 1],
     ];
     for date in real {
-        let moment = time(rt.alloc(), date, &[])?.ok_or("a moment")?;
-        let [year, month, day, hour] = date;
-        assert_eq!(rt; moment.year as u64, year);
-        assert_eq!(rt; moment.month as u64, month);
-        assert_eq!(rt; moment.day as u64, day);
-        assert_eq!(rt; moment.hour as u64, hour);
-        assert_eq!(rt; (moment.minute, moment.second), (0, 0));
+        let moment = time(&rt, rt.alloc(), date, &[]).expect(&rt, "a moment");
+        assert_hour(&rt, moment, date);
     }
+    no_dates(&rt, rt.alloc());
+}
+
+/// These are no dates, or a part of them is missing.
+fn no_dates(rt: &impl Abort, alloc: Global) {
     let none = [
         [2023, 2, 29, 0],
         [1900, 2, 29, 0],
@@ -301,13 +348,12 @@ fn dates(rt: HostRuntime) -> Result<(), Fail> {
         [2024, 1, 15, 16777215],
     ];
     for date in none {
-        assert!(rt; time(rt.alloc(), date, &[])?.is_none(), "{date:?}");
+        assert!(rt; time(rt, alloc, date, &[]).is_none(), "{date:?}");
     }
-    Ok(())
 }
 
 #[test]
-fn minutes_and_seconds(rt: HostRuntime) -> Result<(), Fail> {
+fn minutes_and_seconds(rt: HostRuntime) {
     let said: [(&[(u8, u64)], (u8, u8)); 6] = [
         (&[(5, 58), (6, 59)], (58, 59)),
         (&[(6, 7), (5, 8)], (8, 7)),
@@ -316,33 +362,36 @@ fn minutes_and_seconds(rt: HostRuntime) -> Result<(), Fail> {
         (&[(5, 16777215), (6, 2)], (0, 2)),
         (&[(5, 1), (5, 60), (6, 2), (6, 60)], (1, 2)),
     ];
-    for (more, (minute, second)) in said {
-        let moment = time(rt.alloc(), NOON, more)?.ok_or("a moment")?;
-        assert_eq!(rt; (moment.minute, moment.second), (minute, second));
+    for (more, expected) in said {
+        let moment = time(&rt, rt.alloc(), NOON, more).expect(&rt, "a moment");
+        same(&rt, (moment.minute, moment.second), expected);
     }
-    assert!(rt; time(rt.alloc(), NOON, &[(5, 60)])?.is_none());
-    assert!(rt; time(rt.alloc(), NOON, &[(6, 60)])?.is_none());
-    Ok(())
+    assert!(rt; time(&rt, rt.alloc(), NOON, &[(5, 60)]).is_none());
+    assert!(rt; time(&rt, rt.alloc(), NOON, &[(6, 60)]).is_none());
 }
 
-// A thousand other fields before, and after these others of the same elements.
+/// Puts a thousand other fields behind a station and a date, of the same elements.
+fn add_thousand(rt: &impl Abort, fields: &mut Vec<Field>) {
+    for raw in 0..1000u64 {
+        add(rt, fields, number(1, 1, raw));
+        add(rt, fields, number(4, 4, raw));
+    }
+}
+
+/// A thousand other fields before, and after these others of the same elements.
 #[test]
-fn thousand_fields(rt: HostRuntime) -> Result<(), Fail> {
+fn thousand_fields(rt: HostRuntime) {
     let alloc = rt.alloc();
     let mut fields = Vec::new(alloc);
     for raw in 0..1000u64 {
-        fields.push(number(12, 101, raw))?;
+        add(&rt, &mut fields, number(12, 101, raw));
     }
-    add_wmo(&mut fields)?;
-    add_date(&mut fields, NOON)?;
-    for raw in 0..1000u64 {
-        fields.push(number(1, 1, raw))?;
-        fields.push(number(4, 4, raw))?;
-    }
+    add_wmo(&rt, &mut fields);
+    add_date(&rt, &mut fields, NOON);
+    add_thousand(&rt, &mut fields);
     let expected = Station::Wmo {
         block: 10,
         number: 384,
     };
     assert_station(&rt, alloc, fields.as_slice(), Some(expected));
-    Ok(())
 }

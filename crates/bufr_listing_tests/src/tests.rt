@@ -6,3 +6,12 @@ mod reading;
 mod samples;
 mod widths;
 mod writing;
+
+use std::fmt::Debug;
+use std::process::Abort;
+
+/// Stops the test where the two differ. It is a function, since a comparison written out in a test
+/// makes the proof of that test more than twice as long.
+fn same<T: PartialEq + Debug + Drop>(rt: &impl Abort, found: T, wanted: T) {
+    assert_eq!(rt; found, wanted);
+}

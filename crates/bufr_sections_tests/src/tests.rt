@@ -1,9 +1,10 @@
 //! Sections that are read, written and refused. Octets and answers are typed from the rules of the
 //! format.
 
-use bufr_sections::{Head, Parts, read_sections, spell};
+use bufr_sections::{Envelope, Head, Parts, read_sections, spell};
 use bufr_tables::{Fxy, Items};
 use std::alloc::Global;
+use std::fmt::{Debug, Display};
 use std::process::Abort;
 use std::test::Fail;
 
@@ -33,11 +34,18 @@ const EDITION_3: &str = "\
 000004 00
 37373737";
 
-/// The octets that hexadecimal digits are, spaces between them.
+/// The octets that hexadecimal digits are, spaces between them. `S1` stands for the usual section 1,
+/// `S1+2` for the one that announces section 2, and `NONE` for no octets.
 fn octets(alloc: Global, text: &str) -> Result<Vec<u8>, Fail> {
     let mut digits = String::new(alloc);
     for word in text.split_whitespace() {
-        digits.push_str(word)?;
+        let part = match word {
+            "S1" => "00001600006200000000000200250007E8010F0C0000",
+            "NONE" => "",
+            "S1+2" => "00001600006200000080000200250007E8010F0C0000",
+            other => other,
+        };
+        digits.push_str(part)?;
     }
     Ok(hex::decode(alloc, digits.as_str())?)
 }
@@ -63,54 +71,98 @@ fn head_4(alloc: Global) -> Result<Head, Fail> {
     })
 }
 
-/// The sections of these octets say what the first text spells.
-fn assert_edition_4(rt: &impl Abort, alloc: Global, text: &str) -> Result<(), Fail> {
-    let all = octets(alloc, text)?;
-    let found = read_sections(alloc, all.as_slice())?;
-    assert!(rt; found.head == head_4(alloc)?);
-    let section2 = found.section2.as_ref().ok_or("section 2")?;
-    assert_eq!(rt; section2.as_slice(), [20].as_slice());
-    assert!(rt; found.observed);
-    assert!(rt; !found.compressed);
-    assert_eq!(rt; found.count, 5398);
-    assert_eq!(rt; found.descriptors.len(), 2);
-    assert_eq!(rt; found.descriptors.get(0), Some(&Fxy::from_bits(0x1718)));
-    assert_eq!(rt; found.descriptors.get(1), Some(&Fxy::from_bits(0x191A)));
-    assert_eq!(rt; found.contents, [27, 28, 29].as_slice());
+/// Section 2 of the sections of edition 4.
+fn section2_4(alloc: Global) -> Result<Option<Items<u8>>, Fail> {
+    Ok(Some(Items::from_vec(octets(alloc, "14")?)))
+}
+
+/// The descriptors of the sections of edition 4.
+fn descriptors_4() -> [Fxy; 2] {
+    [Fxy::from_bits(0x1718), Fxy::from_bits(0x191A)]
+}
+
+/// What the sections of edition 4 say, with these sections 1 and 2, and these descriptors.
+fn parts_4<'a>(
+    head: &'a Head,
+    section2: &'a Option<Items<u8>>,
+    descriptors: &'a [Fxy],
+) -> Parts<'a> {
+    Parts {
+        head,
+        section2,
+        observed: true,
+        compressed: false,
+        descriptors,
+        count: 5398,
+        contents: &[27, 28, 29],
+    }
+}
+
+/// Stops the test where the two differ. It is a function, since a comparison written out in a test
+/// makes the proof of that test more than twice as long.
+fn same<T: PartialEq + Debug + Drop>(rt: &impl Abort, found: T, wanted: T) {
+    assert_eq!(rt; found, wanted);
+}
+
+/// The sections that were read say this.
+fn assert_parts(rt: &impl Abort, found: &Envelope<'_>, wanted: &Parts<'_>) {
+    same(rt, &found.head, wanted.head);
+    same(rt, &found.section2, wanted.section2);
+    same(rt, found.observed, wanted.observed);
+    same(rt, found.compressed, wanted.compressed);
+    same(rt, found.descriptors.as_slice(), wanted.descriptors);
+    same(rt, usize::from(found.count), wanted.count);
+    same(rt, found.contents, wanted.contents);
+}
+
+/// The sections of these octets say this.
+fn assert_said(
+    rt: &impl Abort,
+    alloc: Global,
+    octets: &[u8],
+    wanted: &Parts<'_>,
+) -> Result<(), Fail> {
+    let found = read_sections(alloc, octets)?;
+    assert_parts(rt, &found, wanted);
     Ok(())
+}
+
+/// The sections of the octets that hexadecimal digits are say this.
+fn assert_read(rt: &impl Abort, alloc: Global, text: &str, wanted: &Parts<'_>) -> Result<(), Fail> {
+    let all = octets(alloc, text)?;
+    assert_said(rt, alloc, all.as_slice(), wanted)
 }
 
 #[test]
 fn each_octet_at_its_place(rt: HostRuntime) -> Result<(), Fail> {
-    assert_edition_4(&rt, rt.alloc(), EDITION_4)?;
-    assert_edition_4(&rt, rt.alloc(), EDITION_4_FILLED)
+    let alloc = rt.alloc();
+    let (head, section2) = (head_4(alloc)?, section2_4(alloc)?);
+    let descriptors = descriptors_4();
+    let parts = parts_4(&head, &section2, descriptors.as_slice());
+    assert_read(&rt, alloc, EDITION_4, &parts)?;
+    assert_read(&rt, alloc, EDITION_4_FILLED, &parts)
+}
+
+/// What is written from parts is the octets that hexadecimal digits are.
+fn assert_spelt(rt: &impl Abort, alloc: Global, parts: &Parts<'_>, text: &str) -> Result<(), Fail> {
+    let written = spell(alloc, parts)?;
+    let wanted = octets(alloc, text)?;
+    same(rt, written.as_slice(), wanted.as_slice());
+    Ok(())
 }
 
 #[test]
 fn each_octet_written_at_its_place(rt: HostRuntime) -> Result<(), Fail> {
     let alloc = rt.alloc();
-    let head = head_4(alloc)?;
-    let section2 = Some(Items::from_vec(octets(alloc, "14")?));
-    let parts = Parts {
-        head: &head,
-        section2: &section2,
-        observed: true,
-        compressed: false,
-        descriptors: &[Fxy::from_bits(0x1718), Fxy::from_bits(0x191A)],
-        count: 5398,
-        contents: &[27, 28, 29],
-    };
-    let written = spell(alloc, &parts)?;
-    assert_eq!(rt; written.as_slice(), octets(alloc, EDITION_4)?.as_slice());
-    Ok(())
+    let (head, section2) = (head_4(alloc)?, section2_4(alloc)?);
+    let descriptors = descriptors_4();
+    let parts = parts_4(&head, &section2, descriptors.as_slice());
+    assert_spelt(&rt, alloc, &parts, EDITION_4)
 }
 
-#[test]
-fn edition_3(rt: HostRuntime) -> Result<(), Fail> {
-    let alloc = rt.alloc();
-    let all = octets(alloc, EDITION_3)?;
-    let found = read_sections(alloc, all.as_slice())?;
-    let head = Head {
+/// The head of the sections of edition 3.
+fn head_3(alloc: Global) -> Result<Head, Fail> {
+    Ok(Head {
         centre: 2,
         sub_centre: 1,
         update: 3,
@@ -126,12 +178,23 @@ fn edition_3(rt: HostRuntime) -> Result<(), Fail> {
         minute: 12,
         second: 0,
         local: Items::from_vec(octets(alloc, "0D")?),
+    })
+}
+
+#[test]
+fn edition_3(rt: HostRuntime) -> Result<(), Fail> {
+    let alloc = rt.alloc();
+    let head = head_3(alloc)?;
+    let wanted = Parts {
+        head: &head,
+        section2: &None,
+        observed: true,
+        compressed: false,
+        descriptors: &[Fxy::from_bits(0x1718)],
+        count: 1,
+        contents: &[],
     };
-    assert!(rt; found.head == head);
-    assert!(rt; found.section2.is_none());
-    assert_eq!(rt; found.descriptors.get(0), Some(&Fxy::from_bits(0x1718)));
-    assert!(rt; found.contents.is_empty());
-    Ok(())
+    assert_read(&rt, alloc, EDITION_3, &wanted)
 }
 
 /// So many octets that are alike.
@@ -143,17 +206,44 @@ fn many(alloc: Global, octet: u8, count: usize) -> Result<Vec<u8>, Fail> {
     Ok(all)
 }
 
-#[test]
-fn long_sections(rt: HostRuntime) -> Result<(), Fail> {
-    let alloc = rt.alloc();
+/// Section 1 with 300,000 octets for local use.
+fn long_head(alloc: Global) -> Result<Head, Fail> {
     let mut head = head_4(alloc)?;
     head.local = Items::from_vec(many(alloc, 1, 300_000)?);
-    let section2 = Some(Items::from_vec(many(alloc, 2, 400_000)?));
+    Ok(head)
+}
+
+/// 150,000 descriptors.
+fn long_descriptors(alloc: Global) -> Result<Vec<Fxy>, Fail> {
     let mut list = Vec::new(alloc);
     for _ in 0..150_000 {
         list.push(Fxy::from_bits(0x0C65))?;
     }
-    let descriptors = Items::from_vec(list);
+    Ok(list)
+}
+
+/// The length of all that was written, and that of section 1, stand at their places.
+fn assert_lengths(rt: &impl Abort, written: &[u8]) {
+    same(rt, written.len(), 1_100_049);
+    let total = [0x10, 0xC9, 0x11, 4];
+    same(rt, written.get(4..8), Some(total.as_slice()));
+    let section1 = [4, 0x93, 0xF6];
+    same(rt, written.get(8..11), Some(section1.as_slice()));
+}
+
+/// What was written from parts is read as them, and has the lengths of the long sections.
+fn assert_long(rt: &impl Abort, alloc: Global, parts: &Parts<'_>) -> Result<(), Fail> {
+    let written = spell(alloc, parts)?;
+    assert_lengths(rt, written.as_slice());
+    assert_said(rt, alloc, written.as_slice(), parts)
+}
+
+#[test]
+fn long_sections(rt: HostRuntime) -> Result<(), Fail> {
+    let alloc = rt.alloc();
+    let head = long_head(alloc)?;
+    let section2 = Some(Items::from_vec(many(alloc, 2, 400_000)?));
+    let descriptors = long_descriptors(alloc)?;
     let contents = many(alloc, 3, 100_000)?;
     let parts = Parts {
         head: &head,
@@ -164,25 +254,12 @@ fn long_sections(rt: HostRuntime) -> Result<(), Fail> {
         count: 65_535,
         contents: contents.as_slice(),
     };
-    let written = spell(alloc, &parts)?;
-    assert_eq!(rt; written.len(), 1_100_049);
-    assert_eq!(rt;
-        written.as_slice().get(4..8),
-        Some([0x10, 0xC9, 0x11, 4].as_slice())
-    );
-    assert_eq!(rt;
-        written.as_slice().get(8..11),
-        Some([4, 0x93, 0xF6].as_slice())
-    );
-    let found = read_sections(alloc, written.as_slice())?;
-    assert!(rt; found.head == head);
-    assert!(rt; found.section2 == section2);
-    assert!(rt; found.descriptors == descriptors);
-    assert!(rt; found.compressed);
-    assert!(rt; !found.observed);
-    assert_eq!(rt; found.count, 65_535);
-    assert_eq!(rt; found.contents, contents.as_slice());
-    Ok(())
+    assert_long(&rt, alloc, &parts)
+}
+
+/// The text of a failure.
+fn shown(alloc: Global, failure: &impl Display) -> Result<String, Fail> {
+    Ok(format!(in alloc; "{failure}")?)
 }
 
 /// Why a message of one descriptor, of so many subsets and with so many octets in section 4 after
@@ -201,23 +278,26 @@ fn written(alloc: Global, count: usize, length: usize) -> Result<String, Fail> {
     };
     match spell(alloc, &parts) {
         Ok(_octets) => Ok(String::from_str(alloc, "written")?),
-        Err(failure) => Ok(format!(in alloc; "{failure}")?),
+        Err(failure) => shown(alloc, &failure),
     }
 }
 
 #[test]
 fn limits(rt: HostRuntime) -> Result<(), Fail> {
-    let alloc = rt.alloc();
     let fits = 16_777_215 - 49;
-    assert_eq!(rt; written(alloc, 65_535, 0)?.as_str(), "written");
-    assert_eq!(rt; written(alloc, 65_536, 0)?.as_str(), "E3 TooLarge");
-    assert_eq!(rt; written(alloc, 1, fits)?.as_str(), "written");
-    assert_eq!(rt; written(alloc, 1, fits + 1)?.as_str(), "E3 TooLarge");
+    for (count, length, wanted) in [
+        (65_535, 0, "written"),
+        (65_536, 0, "E3 TooLarge"),
+        (1, fits, "written"),
+        (1, fits + 1, "E3 TooLarge"),
+    ] {
+        let found = written(rt.alloc(), count, length)?;
+        same(&rt, found.as_str(), wanted);
+    }
     Ok(())
 }
 
-/// Octets whose sections are refused, each with its reason behind `=`. `S1` stands for the usual
-/// section 1, and `S1+2` for the one that announces section 2.
+/// Octets whose sections are refused, each with its reason behind `=`.
 const REFUSED: &str = "\
 NONE = M1 NotBufr
 42554652 000007 = M1 NotBufr
@@ -245,35 +325,32 @@ NONE = M1 NotBufr
 42554652 000031 04 S1 000009 00 0001 80 0101 000005 00 14 00 37373737 = M9 Section4Length
 ";
 
-/// The octets of a case.
-fn case(alloc: Global, text: &str) -> Result<Vec<u8>, Fail> {
-    let mut digits = String::new(alloc);
-    for word in text.split_whitespace() {
-        let part = match word {
-            "S1" => "00001600006200000000000200250007E8010F0C0000",
-            "NONE" => "",
-            "S1+2" => "00001600006200000080000200250007E8010F0C0000",
-            other => other,
-        };
-        digits.push_str(part)?;
-    }
-    Ok(hex::decode(alloc, digits.as_str())?)
-}
-
 /// The reason for which octets are refused, or `read`.
 fn reason(alloc: Global, text: &str) -> Result<String, Fail> {
-    match read_sections(alloc, case(alloc, text)?.as_slice()) {
+    let octets = octets(alloc, text)?;
+    match read_sections(alloc, octets.as_slice()) {
         Ok(_found) => Ok(String::from_str(alloc, "read")?),
-        Err(failure) => Ok(format!(in alloc; "{failure}")?),
+        Err(failure) => shown(alloc, &failure),
     }
+}
+
+/// Stops the test where what was found at a line is not what was wanted.
+fn same_at(rt: &impl Abort, line: &str, found: &str, wanted: &str) {
+    assert_eq!(rt; found, wanted, "at {line}");
+}
+
+/// The octets of a line are refused for the reason behind its `=`.
+fn assert_refused(rt: &impl Abort, alloc: Global, line: &str) -> Result<(), Fail> {
+    let (text, wanted) = line.split_once(" = ").ok_or("a case")?;
+    let found = reason(alloc, text)?;
+    same_at(rt, line, found.as_str(), wanted);
+    Ok(())
 }
 
 #[test]
 fn refusals(rt: HostRuntime) -> Result<(), Fail> {
     for line in REFUSED.lines() {
-        let (text, wanted) = line.split_once(" = ").ok_or("a case")?;
-        let found = reason(rt.alloc(), text)?;
-        assert_eq!(rt; found.as_str(), wanted, "at {line}");
+        assert_refused(&rt, rt.alloc(), line)?;
     }
     Ok(())
 }

@@ -8,8 +8,8 @@
 //! [`MapShelf`] stands on ordered maps, where `put` takes logarithmic time. [`SortedShelf`] stands
 //! on sorted vectors, where `put` also moves all that comes after its place, eight octets for each
 //! entry: it is for entries that come nearly in order, and for joins. A [`Gathering`] takes entries
-//! in any order where none is looked up before all are there, and then becomes a sorted shelf. Times
-//! of each stand in `docs/DESIGN.md`.
+//! in any order where none is looked up before all are there, and then becomes a sorted shelf.
+//! Times of each stand in `docs/DESIGN.md`.
 #![tactic(auto)]
 
 pub mod entry;

@@ -4,6 +4,8 @@ mod sizes;
 
 use bufr_tables::{Column, Element, Failure, Fxy, Items, Kind, TableB, TableD, TableFault, Tables};
 use std::alloc::{AllocError, Global};
+use std::fmt::{Debug, Display};
+use std::process::Abort;
 use std::test::Fail;
 
 const HEADER: &[u8] =
@@ -15,6 +17,24 @@ const TEMPERATURE: Element = Element {
     reference: 0,
     width: 16,
 };
+
+/// Stops the test where the two differ. It is a function, since a comparison written out in a test
+/// makes the proof of that test more than twice as long.
+fn same<T: PartialEq + Debug + Drop>(rt: &impl Abort, found: T, wanted: T) {
+    assert_eq!(rt; found, wanted);
+}
+
+/// Stops the test where this is printed otherwise.
+fn prints<T: Display>(
+    rt: &impl Abort,
+    alloc: Global,
+    value: &T,
+    wanted: &str,
+) -> Result<(), AllocError> {
+    let text = format!(in alloc; "{value}")?;
+    same(rt, text.as_str(), wanted);
+    Ok(())
+}
 
 // Lines, one after another.
 fn joined(alloc: Global, lines: &[&[u8]]) -> Result<Vec<u8>, AllocError> {
@@ -31,6 +51,17 @@ fn tables(alloc: Global, b: &[u8], d: &[u8]) -> Result<Tables, Failure<TableFaul
     Ok(Tables::new(b, d))
 }
 
+/// Whether the tables of two pairs of files are the same.
+fn are_same(
+    alloc: Global,
+    one: (&[u8], &[u8]),
+    other: (&[u8], &[u8]),
+) -> Result<bool, Failure<TableFault>> {
+    let first = tables(alloc, one.0, one.1)?;
+    let second = tables(alloc, other.0, other.1)?;
+    Ok(first.same(&second))
+}
+
 // The element of a descriptor in a Table B.
 fn element_of(
     alloc: Global,
@@ -44,45 +75,74 @@ fn element_of(
     }
 }
 
+/// The descriptors of numbers and texts that stand for one.
+fn assert_descriptors(rt: &impl Abort) -> Result<(), Fail> {
+    let date = Fxy::new(3, 10, 255).ok_or("in range")?;
+    same(rt, (date.f(), date.x(), date.y()), (3, 10, 255));
+    same(rt, Fxy::from_text(b"310255"), Some(date));
+    let temperature = Fxy::new(0, 12, 101).ok_or("in range")?;
+    same(rt, Fxy::from_bits(0x0C65), temperature);
+    let read = Fxy::from_text(b"012101").ok_or("in range")?;
+    same(rt, read.bits(), 0x0C65);
+    Ok(())
+}
+
+/// Numbers and texts that stand for no descriptor.
+fn assert_no_descriptors(rt: &impl Abort) {
+    assert!(rt; Fxy::new(4, 0, 0).is_none() && Fxy::new(0, 64, 0).is_none());
+    let texts: [&[u8]; 6] = [
+        b"400000", b"064000", b"012256", b"12101", b"0121010", b"+12101",
+    ];
+    for text in texts {
+        assert!(rt; Fxy::from_text(text).is_none());
+    }
+}
+
 #[test]
 fn descriptors(rt: HostRuntime) -> Result<(), Fail> {
-    let fxy = Fxy::new(3, 10, 255).ok_or("in range")?;
-    assert_eq!(rt; (fxy.f(), fxy.x(), fxy.y()), (3, 10, 255));
-    assert_eq!(rt; fxy.to_string(rt.alloc())?.as_str(), "310255");
-    assert_eq!(rt; Fxy::from_text(b"310255"), Some(fxy));
-    assert_eq!(rt;
-        Fxy::from_bits(0x0C65),
-        Fxy::new(0, 12, 101).ok_or("in range")?
-    );
-    assert_eq!(rt; Fxy::from_text(b"012101").ok_or("in range")?.bits(), 0x0C65);
-    assert!(rt; Fxy::new(4, 0, 0).is_none() && Fxy::new(0, 64, 0).is_none());
-    assert!(rt; Fxy::from_text(b"400000").is_none() && Fxy::from_text(b"064000").is_none());
-    assert!(rt; Fxy::from_text(b"012256").is_none() && Fxy::from_text(b"12101").is_none());
-    assert!(rt; Fxy::from_text(b"0121010").is_none() && Fxy::from_text(b"+12101").is_none());
+    let date = Fxy::new(3, 10, 255).ok_or("in range")?;
+    prints(&rt, rt.alloc(), &date, "310255")?;
+    assert_descriptors(&rt)?;
+    assert_no_descriptors(&rt);
     Ok(())
+}
+
+/// Whether a descriptor is read back from its text, and made again of its parts.
+fn is_read_back(alloc: Global, fxy: Fxy) -> Result<bool, AllocError> {
+    let text = fxy.to_string(alloc)?;
+    let read = Fxy::from_text(text.as_bytes()) == Some(fxy);
+    Ok(read && Fxy::new(fxy.f(), fxy.x(), fxy.y()) == Some(fxy))
 }
 
 #[test]
 fn every_descriptor_is_read_back(rt: HostRuntime) -> Result<(), Fail> {
     let mut good = true;
     for bits in 0..=65535u16 {
-        let fxy = Fxy::from_bits(bits);
-        let text = fxy.to_string(rt.alloc())?;
-        good = good && Fxy::from_text(text.as_bytes()) == Some(fxy);
-        good = good && Fxy::new(fxy.f(), fxy.x(), fxy.y()) == Some(fxy);
+        let read_back = is_read_back(rt.alloc(), Fxy::from_bits(bits))?;
+        good = good && read_back;
     }
     assert!(rt; good);
     Ok(())
 }
 
+/// What a list of 7 and 8 answers.
+fn assert_seven_and_eight(rt: &impl Abort, list: &Items<i32>) {
+    same(rt, list.len(), 2);
+    assert!(rt; !list.is_empty() && list.get(1) == Some(&8) && list.get(2).is_none());
+    assert!(rt; list.as_slice() == [7, 8].as_slice());
+}
+
+/// Whether a list is equal to one of these numbers.
+fn is_list_of(alloc: Global, list: &Items<i32>, numbers: [i32; 2]) -> Result<bool, AllocError> {
+    Ok(*list == Items::from_vec(numbers.to_vec(alloc)?))
+}
+
 #[test]
 fn lists(rt: HostRuntime) -> Result<(), Fail> {
     let list = Items::from_vec([7, 8].to_vec(rt.alloc())?);
-    assert_eq!(rt; list.len(), 2);
-    assert!(rt; !list.is_empty() && list.get(1) == Some(&8) && list.get(2).is_none());
-    assert!(rt; list == Items::from_vec([7, 8].to_vec(rt.alloc())?));
-    assert!(rt; list != Items::from_vec([7, 9].to_vec(rt.alloc())?));
-    assert!(rt; list.as_slice() == [7, 8].as_slice());
+    assert_seven_and_eight(&rt, &list);
+    same(&rt, is_list_of(rt.alloc(), &list, [7, 8])?, true);
+    same(&rt, is_list_of(rt.alloc(), &list, [7, 9])?, false);
     assert!(rt; list.into_vec().as_slice() == [7, 8].as_slice());
     Ok(())
 }
@@ -99,10 +159,32 @@ fn temperature_of(alloc: Global, lines: &[u8]) -> Result<Option<Element>, Failur
     element_of(alloc, &text, b"012101")
 }
 
+/// This is the fault of a Table B of the usual header and these lines.
+fn assert_fault_b(
+    rt: &impl Abort,
+    alloc: Global,
+    lines: &[u8],
+    fault: TableFault,
+) -> Result<(), AllocError> {
+    same(rt, fault_b(alloc, lines)?, Some(Failure::Fault(fault)));
+    Ok(())
+}
+
+/// This is the temperature's element in a Table B of the usual header and these lines.
+fn assert_temperature(
+    rt: &impl Abort,
+    alloc: Global,
+    lines: &[u8],
+    wanted: Option<Element>,
+) -> Result<(), Failure<TableFault>> {
+    same(rt, temperature_of(alloc, lines)?, wanted);
+    Ok(())
+}
+
 #[test]
 fn table_b_rows(rt: HostRuntime) -> Result<(), Fail> {
     let one = b"012101,x,K,2,0,16\n";
-    assert_eq!(rt; temperature_of(rt.alloc(), one)?, Some(TEMPERATURE));
+    assert_temperature(&rt, rt.alloc(), one, Some(TEMPERATURE))?;
     let faults: [(&[u8], TableFault); 2] = [
         (
             b"012101,x,K,2,0,16\n012101,x,K,2,0,17\n",
@@ -111,30 +193,33 @@ fn table_b_rows(rt: HostRuntime) -> Result<(), Fail> {
         (b"12101,x,K,2,0,16\n", TableFault::BadRow(2)),
     ];
     for (lines, fault) in faults {
-        assert_eq!(rt; fault_b(rt.alloc(), lines)?, Some(Failure::Fault(fault)));
+        assert_fault_b(&rt, rt.alloc(), lines, fault)?;
     }
     Ok(())
+}
+
+/// A Table B of this text is refused, since it has no such column.
+fn assert_lacks(rt: &impl Abort, alloc: Global, text: &[u8], column: Column) {
+    let fault = TableB::parse(alloc, text).err();
+    let wanted = Failure::Fault(TableFault::NoColumn(column));
+    same(rt, fault, Some(wanted));
 }
 
 #[test]
 fn table_b_without_a_column(rt: HostRuntime) -> Result<(), Fail> {
     let text = b"FXY,ElementName_en,BUFR_Scale,BUFR_ReferenceValue,BUFR_DataWidth_Bits\n";
-    let fault = TableB::parse(rt.alloc(), text).err();
-    assert_eq!(rt;
-        fault,
-        Some(Failure::Fault(TableFault::NoColumn(Column::Unit)))
-    );
+    assert_lacks(&rt, rt.alloc(), text, Column::Unit);
     Ok(())
 }
 
 #[test]
 fn two_copies_joined(rt: HostRuntime) -> Result<(), Fail> {
-    let alloc = rt.alloc();
     let line = b"012101,x,K,2,0,16\n";
-    let one = joined(alloc, &[HEADER, line])?;
-    let two = joined(alloc, &[HEADER, line, HEADER, line])?;
+    let one = joined(rt.alloc(), &[HEADER, line])?;
+    let two = joined(rt.alloc(), &[HEADER, line, HEADER, line])?;
     let d = b"FXY1,FXY2\n301001,001001\n";
-    assert!(rt; tables(alloc, &one, d)?.same(&tables(alloc, &two, d)?));
+    let equal = are_same(rt.alloc(), (&one, d), (&two, d))?;
+    assert!(rt; equal);
     Ok(())
 }
 
@@ -153,15 +238,10 @@ fn table_b_bad_rows(rt: HostRuntime) -> Result<(), Fail> {
         b"012101,x,K,2,+-1,16\n",
     ];
     for line in lines {
-        assert_eq!(rt;
-            fault_b(rt.alloc(), line)?,
-            Some(Failure::Fault(TableFault::BadRow(2)))
-        );
+        assert_fault_b(&rt, rt.alloc(), line, TableFault::BadRow(2))?;
     }
-    assert_eq!(rt;
-        temperature_of(rt.alloc(), b"012101,x,K,2,0,+16\n")?,
-        Some(TEMPERATURE)
-    );
+    let signed = b"012101,x,K,2,0,+16\n";
+    assert_temperature(&rt, rt.alloc(), signed, Some(TEMPERATURE))?;
     Ok(())
 }
 
@@ -189,7 +269,7 @@ fn numbers_at_their_ends(rt: HostRuntime) -> Result<(), Fail> {
         ),
     ];
     for (line, element) in cases {
-        assert_eq!(rt; temperature_of(rt.alloc(), line)?, Some(element));
+        assert_temperature(&rt, rt.alloc(), line, Some(element))?;
     }
     Ok(())
 }
@@ -218,7 +298,7 @@ fn units(rt: HostRuntime) -> Result<(), Fail> {
             reference: 0,
             width: 160,
         };
-        assert_eq!(rt; temperature_of(rt.alloc(), line)?, Some(element));
+        assert_temperature(&rt, rt.alloc(), line, Some(element))?;
     }
     Ok(())
 }
@@ -241,10 +321,8 @@ fn table_d_faults(rt: HostRuntime) -> Result<(), Fail> {
         (b"FXY1\n", TableFault::NoColumn(Column::Fxy2)),
     ];
     for (text, fault) in cases {
-        assert_eq!(rt;
-            TableD::parse(rt.alloc(), text).err(),
-            Some(Failure::Fault(fault))
-        );
+        let found = TableD::parse(rt.alloc(), text).err();
+        same(&rt, found, Some(Failure::Fault(fault)));
     }
     Ok(())
 }
@@ -266,7 +344,7 @@ fn sequences(rt: HostRuntime) -> Result<(), Fail> {
     let d =
         b"FXY1,FXY2\n301011,004001\n301011,004002\n301011,004003\n301001,001001\n301001,001002\n";
     let date = date_of(rt.alloc(), d)?;
-    assert_eq!(rt; date.as_slice(), [0x0401, 0x0402, 0x0403].as_slice());
+    same(&rt, date.as_slice(), &[0x0401, 0x0402, 0x0403]);
     let none = date_of(rt.alloc(), b"FXY1,FXY2\n")?;
     assert!(rt; none.is_empty());
     Ok(())
@@ -274,10 +352,12 @@ fn sequences(rt: HostRuntime) -> Result<(), Fail> {
 
 #[test]
 fn tables_that_differ(rt: HostRuntime) -> Result<(), Fail> {
-    let alloc = rt.alloc();
-    let all = tables(alloc, HEADER, b"FXY1,FXY2\n301001,001001\n")?;
-    assert!(rt; !all.same(&tables(alloc, HEADER, b"FXY1,FXY2\n")?));
-    assert!(rt; all.same(&tables(alloc, HEADER, b"FXY1,FXY2\n,\nFXY1,FXY2\n301001,001001\n")?));
+    let one: (&[u8], &[u8]) = (HEADER, b"FXY1,FXY2\n301001,001001\n");
+    let empty = are_same(rt.alloc(), one, (HEADER, b"FXY1,FXY2\n"))?;
+    assert!(rt; !empty);
+    let again = b"FXY1,FXY2\n,\nFXY1,FXY2\n301001,001001\n";
+    let joined_twice = are_same(rt.alloc(), one, (HEADER, again))?;
+    assert!(rt; joined_twice);
     Ok(())
 }
 
@@ -290,7 +370,7 @@ fn spellings_of_lines(rt: HostRuntime) -> Result<(), Fail> {
         b",x,,,, \n\n,,,,,\n012101,x,K,2,0,16\n",
     ];
     for line in lines {
-        assert_eq!(rt; temperature_of(rt.alloc(), line)?, Some(TEMPERATURE));
+        assert_temperature(&rt, rt.alloc(), line, Some(TEMPERATURE))?;
     }
     Ok(())
 }
@@ -307,17 +387,17 @@ fn spellings_of_files(rt: HostRuntime) -> Result<(), Fail> {
           012101,K,2,0,16,x\n",
     ];
     for text in files {
-        assert_eq!(rt; element_of(rt.alloc(), text, b"012101")?, Some(TEMPERATURE));
+        let found = element_of(rt.alloc(), text, b"012101")?;
+        same(&rt, found, Some(TEMPERATURE));
     }
     Ok(())
 }
 
 #[test]
 fn empty_files(rt: HostRuntime) -> Result<(), Fail> {
-    let no_column = Some(Failure::Fault(TableFault::NoColumn(Column::Fxy)));
-    assert_eq!(rt; TableB::parse(rt.alloc(), b"").err(), no_column);
-    assert_eq!(rt; TableB::parse(rt.alloc(), b"\n\n").err(), no_column);
-    assert_eq!(rt; temperature_of(rt.alloc(), b"")?, None);
+    assert_lacks(&rt, rt.alloc(), b"", Column::Fxy);
+    assert_lacks(&rt, rt.alloc(), b"\n\n", Column::Fxy);
+    assert_temperature(&rt, rt.alloc(), b"", None)?;
     Ok(())
 }
 
@@ -334,14 +414,40 @@ fn the_first_fault(rt: HostRuntime) -> Result<(), Fail> {
         ),
     ];
     for (lines, fault) in cases {
-        assert_eq!(rt; fault_b(rt.alloc(), lines)?, Some(Failure::Fault(fault)));
+        assert_fault_b(&rt, rt.alloc(), lines, fault)?;
+    }
+    Ok(())
+}
+
+/// This is printed of a fault, alone and as a failure.
+fn assert_fault_prints(
+    rt: &impl Abort,
+    alloc: Global,
+    fault: TableFault,
+    text: &str,
+) -> Result<(), AllocError> {
+    prints(rt, alloc, &fault, text)?;
+    prints(rt, alloc, &Failure::Fault(fault), text)
+}
+
+/// The names of columns as they are printed.
+fn assert_columns_print(rt: &impl Abort, alloc: Global) -> Result<(), AllocError> {
+    let columns = [
+        (Column::Fxy, "FXY"),
+        (Column::Scale, "BUFR_Scale"),
+        (Column::ReferenceValue, "BUFR_ReferenceValue"),
+        (Column::DataWidth, "BUFR_DataWidth_Bits"),
+        (Column::Fxy1, "FXY1"),
+        (Column::Fxy2, "FXY2"),
+    ];
+    for (column, text) in columns {
+        prints(rt, alloc, &column, text)?;
     }
     Ok(())
 }
 
 #[test]
 fn faults_are_printed(rt: HostRuntime) -> Result<(), Fail> {
-    let alloc = rt.alloc();
     let element = Fxy::from_text(b"012101").ok_or("in range")?;
     let sequence = Fxy::from_text(b"301001").ok_or("in range")?;
     let lines = [
@@ -355,33 +461,20 @@ fn faults_are_printed(rt: HostRuntime) -> Result<(), Fail> {
         ),
     ];
     for (fault, text) in lines {
-        assert_eq!(rt; fault.to_string(alloc)?.as_str(), text);
-        assert_eq!(rt; Failure::Fault(fault).to_string(alloc)?.as_str(), text);
+        assert_fault_prints(&rt, rt.alloc(), fault, text)?;
     }
     let refused: Failure<TableFault> = Failure::OutOfMemory;
-    assert_eq!(rt; refused.to_string(alloc)?.as_str(), "out of memory");
-    let columns = [
-        (Column::Fxy, "FXY"),
-        (Column::Scale, "BUFR_Scale"),
-        (Column::ReferenceValue, "BUFR_ReferenceValue"),
-        (Column::DataWidth, "BUFR_DataWidth_Bits"),
-        (Column::Fxy1, "FXY1"),
-        (Column::Fxy2, "FXY2"),
-    ];
-    for (column, text) in columns {
-        assert_eq!(rt; column.to_string(alloc)?.as_str(), text);
-    }
+    prints(&rt, rt.alloc(), &refused, "out of memory")?;
+    assert_columns_print(&rt, rt.alloc())?;
     Ok(())
 }
 
 #[test]
 fn faults_within_other_faults(rt: HostRuntime) -> Result<(), Fail> {
     let fault = Failure::Fault(TableFault::NotCsv(7));
-    assert_eq!(rt;
-        fault.map(Some),
-        Failure::Fault(Some(TableFault::NotCsv(7)))
-    );
+    let wanted = Failure::Fault(Some(TableFault::NotCsv(7)));
+    same(&rt, fault.map(Some), wanted);
     let refused: Failure<TableFault> = Failure::OutOfMemory;
-    assert_eq!(rt; refused.map(Some), Failure::OutOfMemory);
+    same(&rt, refused.map(Some), Failure::OutOfMemory);
     Ok(())
 }

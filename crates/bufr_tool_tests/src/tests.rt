@@ -8,10 +8,11 @@ mod parts;
 mod streams;
 
 use bufr_bits::{Failed, FromRead, IntoWrite, Sink, Source};
-use bufr_engines::{Input, ToolFault};
+use bufr_engines::{Input, Tally, ToolFault};
 use bufr_tables::{Column, TableB, TableD, TableFault, Tables};
 use bufr_tool::{load_tables, run_show};
 use std::alloc::Global;
+use std::fmt::Debug;
 use std::process::Abort;
 use std::test::Fail;
 
@@ -73,48 +74,66 @@ fn tables(alloc: Global) -> Result<Tables, Fail> {
     ))
 }
 
-/// Whether octets are refused (0 or 1), or why showing it gave no tally; and what was written.
-fn shown(alloc: Global, octets: &[u8]) -> Result<(Result<u128, ToolFault>, Vec<u8>), Fail> {
+/// Stops the test where the two differ. It is a function, since a comparison written out in a test
+/// makes the proof of that test more than twice as long.
+fn same<T: PartialEq + Debug + Drop>(rt: &impl Abort, found: T, wanted: T) {
+    assert_eq!(rt; found, wanted);
+}
+
+/// The same, and it tells where they differ.
+fn same_at<T: PartialEq + Debug + Drop>(rt: &impl Abort, found: T, wanted: T, place: usize) {
+    assert_eq!(rt; found, wanted, "at {place}");
+}
+
+/// What showing octets answers, and what was written.
+fn shown(alloc: Global, octets: &[u8]) -> Result<(Result<Tally, ToolFault>, Vec<u8>), Fail> {
     let tables = tables(alloc)?;
     let mut writer = IntoWrite::new(Vec::new(alloc));
-    let refused = match run_show(alloc, 10, &tables, &mut FromRead::new(octets), &mut writer) {
+    let answer = run_show(alloc, 10, &tables, &mut FromRead::new(octets), &mut writer);
+    Ok((answer, writer.into_inner()))
+}
+
+/// Whether octets are refused (0 or 1), or why showing them gave no tally.
+fn refused_of(answer: Result<Tally, ToolFault>) -> Result<u128, ToolFault> {
+    match answer {
         Ok(tally) => Ok(tally.refused),
         Err(fault) => Err(fault),
-    };
-    Ok((refused, writer.into_inner()))
+    }
+}
+
+/// So many messages of octets are refused, and this is what is shown of them.
+fn assert_shown(
+    rt: &impl Abort,
+    alloc: Global,
+    octets: &[u8],
+    refused: u128,
+    text: &[u8],
+) -> Result<(), Fail> {
+    let (answer, written) = shown(alloc, octets)?;
+    same(rt, refused_of(answer), Ok(refused));
+    same(rt, written.as_slice(), text);
+    Ok(())
 }
 
 #[test]
 fn elements_only(rt: HostRuntime) -> Result<(), Fail> {
-    let (refused, written) = shown(rt.alloc(), ELEMENTS_ONLY)?;
-    assert_eq!(rt; refused, Ok(0));
-    assert_eq!(rt; written.as_slice(), LISTING);
-    Ok(())
-}
-
-/// Octets are refused, and this line is what is shown of them.
-fn assert_refused(rt: &impl Abort, alloc: Global, octets: &[u8], line: &str) -> Result<(), Fail> {
-    let (refused, written) = shown(alloc, octets)?;
-    assert_eq!(rt; refused, Ok(1));
-    assert_eq!(rt; written.as_slice(), line.as_bytes());
-    Ok(())
+    assert_shown(&rt, rt.alloc(), ELEMENTS_ONLY, 0, LISTING)
 }
 
 #[test]
 fn refusals(rt: HostRuntime) -> Result<(), Fail> {
-    let alloc = rt.alloc();
-    assert_refused(
-        &rt,
-        alloc,
-        b"BUFR\x00\x00\x0C\x057777".as_slice(),
-        "# refused 0 M2 Edition 5\n",
-    )?;
-    assert_refused(
-        &rt,
-        alloc,
-        b"noise BUFR\x00\x00\x0C\x047777".as_slice(),
-        "# refused 6 M5 Section1Length\n",
-    )?;
+    for (octets, line) in [
+        (
+            b"BUFR\x00\x00\x0C\x057777".as_slice(),
+            "# refused 0 M2 Edition 5\n",
+        ),
+        (
+            b"noise BUFR\x00\x00\x0C\x047777".as_slice(),
+            "# refused 6 M5 Section1Length\n",
+        ),
+    ] {
+        assert_shown(&rt, rt.alloc(), octets, 1, line.as_bytes())?;
+    }
     Ok(())
 }
 
@@ -165,20 +184,26 @@ fn broken_after(alloc: Global, room: usize) -> Result<(Option<ToolFault>, Vec<u8
     Ok((fault, writer.taken))
 }
 
+/// The writer failed where it had room for so many octets, and it took so much of the text.
+fn assert_broken(
+    rt: &impl Abort,
+    room: usize,
+    fault: Option<ToolFault>,
+    taken: &[u8],
+    text: &[u8],
+) {
+    let written = room as u128;
+    same_at(rt, fault, Some(ToolFault::WriteFailed { written }), room);
+    same(rt, taken.len(), room);
+    assert!(rt; text.starts_with(taken));
+}
+
 #[test]
 fn failing_writer(rt: HostRuntime) -> Result<(), Fail> {
     let alloc = rt.alloc();
     for room in 0usize..237 {
         let (fault, taken) = broken_after(alloc, room)?;
-        assert_eq!(rt;
-            fault,
-            Some(ToolFault::WriteFailed {
-                written: room as u128
-            }),
-            "at {room}"
-        );
-        assert_eq!(rt; taken.len(), room);
-        assert!(rt; LISTING.starts_with(&taken));
+        assert_broken(&rt, room, fault, &taken, LISTING);
     }
     Ok(())
 }
@@ -236,11 +261,15 @@ fn dripping(
 fn endless_and_failing_readers(rt: HostRuntime) -> Result<(), Fail> {
     let alloc = rt.alloc();
     let endless = Some(ToolFault::EndlessInput(Input::Number(1)));
-    assert_eq!(rt; dripping(alloc, 100, false)?, (endless, 0));
-    assert_eq!(rt; dripping(alloc, 4, false)?, (endless, 0));
-    assert_eq!(rt; dripping(alloc, 3, false)?, (None, 0));
     let failed = Some(ToolFault::ReadFailed(Input::Number(1)));
-    assert_eq!(rt; dripping(alloc, 2, true)?, (failed, 0));
+    for (octets, breaks, wanted) in [
+        (100, false, endless),
+        (4, false, endless),
+        (3, false, None),
+        (2, true, failed),
+    ] {
+        same(&rt, dripping(alloc, octets, breaks)?, (wanted, 0));
+    }
     Ok(())
 }
 
@@ -252,15 +281,24 @@ fn loaded(alloc: Global, b: &[u8], d: &[u8]) -> Option<ToolFault> {
 #[test]
 fn faults_of_tables(rt: HostRuntime) {
     let alloc = rt.alloc();
-    assert_eq!(rt; loaded(alloc, TABLE_B, TABLE_D), None);
-    assert_eq!(rt;
+    same(&rt, loaded(alloc, TABLE_B, TABLE_D), None);
+    same(
+        &rt,
         loaded(alloc, TABLE_B, b"FXY1,FXY2\n301001,x\n".as_slice()),
-        Some(ToolFault::Table(Input::TableD, TableFault::BadRow(2)))
+        Some(ToolFault::Table(Input::TableD, TableFault::BadRow(2))),
     );
-    assert_eq!(rt;
+    same(
+        &rt,
         loaded(alloc, b"FXY\n\"a\",b\n".as_slice(), b"".as_slice()),
-        Some(ToolFault::Table(Input::TableB, TableFault::NoColumn(Column::Unit)))
+        Some(ToolFault::Table(Input::TableB, TableFault::NoColumn(Column::Unit))),
     );
+}
+
+/// The line of a fault is this.
+fn assert_line(rt: &impl Abort, alloc: Global, fault: ToolFault, text: &str) -> Result<(), Fail> {
+    let line = fault.to_string(alloc)?;
+    same(rt, line.as_str(), text);
+    Ok(())
 }
 
 #[test]
@@ -283,7 +321,7 @@ fn lines_of_faults(rt: HostRuntime) -> Result<(), Fail> {
         (ToolFault::OutOfMemory, "out of memory"),
     ];
     for (fault, text) in faults {
-        assert_eq!(rt; fault.to_string(rt.alloc())?.as_str(), text);
+        assert_line(&rt, rt.alloc(), fault, text)?;
     }
     Ok(())
 }

@@ -8,19 +8,27 @@ use std::alloc::Global;
 use std::fmt;
 use std::process::Abort;
 
-fn greater_update_wins<S: Shelf>(rt: &impl Abort, alloc: Global) {
+/// A new archive has these messages, of so many reports, once others are added to it, each of one
+/// report and of which so many change what is kept.
+fn assert_kept<S: Shelf>(
+    rt: &impl Abort,
+    alloc: Global,
+    rows: &[(&str, u128)],
+    count: usize,
+    messages: &str,
+) {
     let tables = tables(rt, alloc);
     let mut archive: Archive<S> = Archive::new(alloc, &tables);
-    assert_messages(rt, alloc, &archive, 0, "");
-    add(rt, alloc, &mut archive, ROW_1, added(1, 1));
-    add(rt, alloc, &mut archive, UPDATED, added(1, 1));
-    add(rt, alloc, &mut archive, ROW_1, added(1, 0));
-    assert_messages(rt, alloc, &archive, 1, UPDATED);
-    let mut other: Archive<S> = Archive::new(alloc, &tables);
-    add(rt, alloc, &mut other, UPDATED, added(1, 1));
-    add(rt, alloc, &mut other, ROW_1, added(1, 0));
-    add(rt, alloc, &mut other, UPDATED, added(1, 0));
-    assert_messages(rt, alloc, &other, 1, UPDATED);
+    add_all(rt, alloc, &mut archive, rows);
+    assert_messages(rt, alloc, &archive, count, messages);
+}
+
+fn greater_update_wins<S: Shelf>(rt: &impl Abort, alloc: Global) {
+    assert_kept::<S>(rt, alloc, &[], 0, "");
+    let rows = [(ROW_1, 1), (UPDATED, 1), (ROW_1, 0)];
+    assert_kept::<S>(rt, alloc, &rows, 1, UPDATED);
+    let rows = [(UPDATED, 1), (ROW_1, 0), (UPDATED, 0)];
+    assert_kept::<S>(rt, alloc, &rows, 1, UPDATED);
 }
 
 #[test]
@@ -30,15 +38,8 @@ fn update_number(rt: HostRuntime) {
 }
 
 fn greater_octets_win<S: Shelf>(rt: &impl Abort, alloc: Global) {
-    let tables = tables(rt, alloc);
-    let mut archive: Archive<S> = Archive::new(alloc, &tables);
-    add(rt, alloc, &mut archive, ROW_1, added(1, 1));
-    add(rt, alloc, &mut archive, WARMER, added(1, 1));
-    assert_messages(rt, alloc, &archive, 1, WARMER);
-    let mut other: Archive<S> = Archive::new(alloc, &tables);
-    add(rt, alloc, &mut other, WARMER, added(1, 1));
-    add(rt, alloc, &mut other, ROW_1, added(1, 0));
-    assert_messages(rt, alloc, &other, 1, WARMER);
+    assert_kept::<S>(rt, alloc, &[(ROW_1, 1), (WARMER, 1)], 1, WARMER);
+    assert_kept::<S>(rt, alloc, &[(WARMER, 1), (ROW_1, 0)], 1, WARMER);
 }
 
 #[test]
@@ -47,28 +48,32 @@ fn byte_order(rt: HostRuntime) {
     greater_octets_win::<SortedShelf>(&rt, rt.alloc());
 }
 
+/// A text begins and ends with these messages.
+fn assert_ends(rt: &impl Abort, alloc: Global, text: &[u8], first: &str, last: &str) {
+    let first = octets(rt, alloc, first);
+    assert!(rt; text.starts_with(first.as_slice()));
+    let last = octets(rt, alloc, last);
+    assert!(rt; text.ends_with(last.as_slice()));
+}
+
+/// The archive has the two messages without key, and nothing else.
+fn assert_without_key<S: Shelf>(rt: &impl Abort, alloc: Global, archive: &Archive<S>) {
+    let text = written(rt, alloc, archive);
+    same(rt, archive.len(), 2);
+    same(rt, text.len(), 116);
+    assert_ends(rt, alloc, text.as_slice(), NO_STATION, MONTH_13);
+    assert!(rt; archive.get(&first_key()).is_none());
+}
+
 // Reports without key come in order of octets, each different one once.
 fn kept_once<S: Shelf>(rt: &impl Abort, alloc: Global) {
     let tables = tables(rt, alloc);
     let mut archive: Archive<S> = Archive::new(alloc, &tables);
-    add(rt, alloc, &mut archive, MONTH_13, added(1, 1));
-    add(rt, alloc, &mut archive, NO_STATION, added(1, 1));
+    add_all(rt, alloc, &mut archive, &[(MONTH_13, 1), (NO_STATION, 1)]);
     for _ in 0..2 {
-        add(rt, alloc, &mut archive, NO_STATION, added(1, 0));
-        add(rt, alloc, &mut archive, MONTH_13, added(1, 0));
+        add_all(rt, alloc, &mut archive, &[(NO_STATION, 0), (MONTH_13, 0)]);
     }
-    let text = written(rt, alloc, &archive);
-    assert_eq!(rt; archive.len(), 2);
-    assert_eq!(rt; text.len(), 116);
-    assert!(rt;
-        text.as_slice()
-            .starts_with(octets(rt, alloc, NO_STATION).as_slice())
-    );
-    assert!(rt;
-        text.as_slice()
-            .ends_with(octets(rt, alloc, MONTH_13).as_slice())
-    );
-    assert!(rt; archive.get(&first_key()).is_none());
+    assert_without_key(rt, alloc, &archive);
 }
 
 #[test]
@@ -92,17 +97,26 @@ fn compressed_pair(rt: HostRuntime) {
     reports_of_a_pair::<SortedShelf>(&rt, rt.alloc());
 }
 
+/// Adding this message is refused so.
+fn add_refused<S: Shelf>(
+    rt: &impl Abort,
+    alloc: Global,
+    archive: &mut Archive<S>,
+    message: &str,
+    why: Refused,
+) {
+    add(rt, alloc, archive, message, Err(AddFault::Refused(why)));
+}
+
 // A refused message changes nothing, and the next is added.
 fn refuse<S: Shelf>(rt: &impl Abort, alloc: Global) {
     let tables = tables(rt, alloc);
     let mut archive: Archive<S> = Archive::new(alloc, &tables);
-    add(rt, alloc, &mut archive, ROW_1, added(1, 1));
-    let refused = Err(AddFault::Refused(Refused::Edition(5)));
-    add(rt, alloc, &mut archive, EDITION_5, refused);
-    let refused = Err(AddFault::Refused(Refused::NotBufr));
-    add(rt, alloc, &mut archive, "", refused);
+    add_all(rt, alloc, &mut archive, &[(ROW_1, 1)]);
+    add_refused(rt, alloc, &mut archive, EDITION_5, Refused::Edition(5));
+    add_refused(rt, alloc, &mut archive, "", Refused::NotBufr);
     assert_messages(rt, alloc, &archive, 1, ROW_1);
-    add(rt, alloc, &mut archive, UPDATED, added(1, 1));
+    add_all(rt, alloc, &mut archive, &[(UPDATED, 1)]);
     assert_messages(rt, alloc, &archive, 1, UPDATED);
 }
 
@@ -130,6 +144,19 @@ fn merge_in<'t, S: Shelf>(
     archive.merge(&other).expect(rt, "room");
 }
 
+/// The archive and its copy have these messages, of so many reports.
+fn assert_copied<S: Shelf>(
+    rt: &impl Abort,
+    alloc: Global,
+    archive: &Archive<S>,
+    count: usize,
+    expected: &str,
+) {
+    assert_messages(rt, alloc, archive, count, expected);
+    let copied = archive.copy().expect(rt, "room");
+    assert_messages(rt, alloc, &copied, count, expected);
+}
+
 // The archives of three messages, or empty ones, merged in this order hold what is expected.
 fn merge_three<S: Shelf>(
     rt: &impl Abort,
@@ -144,9 +171,7 @@ fn merge_three<S: Shelf>(
     merge_in(rt, alloc, &tables, &mut archive, first);
     merge_in(rt, alloc, &tables, &mut archive, second);
     merge_in(rt, alloc, &tables, &mut archive, third);
-    assert_messages(rt, alloc, &archive, count, expected);
-    let copied = archive.copy().expect(rt, "room");
-    assert_messages(rt, alloc, &copied, count, expected);
+    assert_copied(rt, alloc, &archive, count, expected);
 }
 
 fn merge_each_way<S: Shelf>(rt: &impl Abort, alloc: Global) {
@@ -165,19 +190,22 @@ fn merges(rt: HostRuntime) {
     merge_each_way::<SortedShelf>(&rt, rt.alloc());
 }
 
+/// Adds a pair again, of which so many reports are there, and then all of it is.
+fn add_again<S: Shelf>(rt: &impl Abort, archive: &mut Archive<S>, pair: &[u8], done: u128) {
+    same(rt, archive.len() as u128, done);
+    let again = archive.add_message(pair);
+    same(rt, again, added(2, 2 - done.min(2)));
+}
+
 // The call is repeated where memory was refused: what was told is there, and then all of it.
 fn add_or_repeat<S: Shelf>(rt: &impl Abort, alloc: Global, tables: &Tables, pair: &[u8]) {
     let mut archive: Archive<S> = Archive::new(alloc, tables);
     match archive.add_message(pair) {
-        Ok(all) => assert_eq!(rt; Ok(all), added(2, 2)),
-        Err(AddFault::OutOfMemory { done }) => {
-            assert_eq!(rt; archive.len() as u128, done);
-            let again = archive.add_message(pair);
-            assert_eq!(rt; again, added(2, 2 - done.min(2)));
-        }
+        Ok(all) => same(rt, Ok(all), added(2, 2)),
+        Err(AddFault::OutOfMemory { done }) => add_again(rt, &mut archive, pair, done),
         Err(AddFault::Refused(why)) => assert!(rt; false, "{why}"),
     }
-    assert_eq!(rt; archive.len(), 2);
+    same(rt, archive.len(), 2);
 }
 
 #[test]

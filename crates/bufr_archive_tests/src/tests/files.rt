@@ -46,18 +46,22 @@ fn write_some<S: Shelf>(
     });
     let answer = archive.write(&mut sink);
     let Breaks { left: _, taken } = sink.into_inner();
-    if left < text.len() {
-        assert_eq!(rt;
-            answer,
-            Err(WriteFault {
-                written: left as u128
-            })
-        );
+    let expected = if left < text.len() {
+        let written = left as u128;
+        Err(WriteFault { written })
     } else {
-        assert_eq!(rt; answer, Ok(()));
-    }
-    assert_eq!(rt; taken.len(), left.min(text.len()));
+        Ok(())
+    };
+    same(rt, answer, expected);
+    same(rt, taken.len(), left.min(text.len()));
     assert!(rt; text.starts_with(taken.as_slice()), "{left}");
+}
+
+/// Writes an archive of this text to writers that fail after each count of octets, or not.
+fn write_each_front<S: Shelf>(rt: &impl Abort, alloc: Global, archive: &Archive<S>, text: &[u8]) {
+    for left in 0..189usize {
+        write_some(rt, alloc, archive, text, left);
+    }
 }
 
 fn write_until_it_fails<S: Shelf>(rt: &impl Abort, alloc: Global) {
@@ -66,10 +70,8 @@ fn write_until_it_fails<S: Shelf>(rt: &impl Abort, alloc: Global) {
     let mut archive: Archive<S> = Archive::new(alloc, &tables);
     add_reports(rt, alloc, &mut archive, &reports, 3);
     let text = joined(rt, alloc, &reports);
-    assert_eq!(rt; text.len(), 186);
-    for left in 0..189usize {
-        write_some(rt, alloc, &archive, text.as_slice(), left);
-    }
+    same(rt, text.len(), 186);
+    write_each_front(rt, alloc, &archive, text.as_slice());
 }
 
 #[test]
@@ -86,13 +88,19 @@ fn breaks_at<S: Shelf>(alloc: Global, tables: &Tables, octets: &[u8]) -> Option<
     }
 }
 
-fn refused_at<S: Shelf>(rt: &impl Abort, alloc: Global, messages: [&str; 3], place: u64) {
-    let tables = tables(rt, alloc);
+/// The octets of three messages, joined.
+fn text_of(rt: &impl Abort, alloc: Global, messages: &[&str; 3]) -> Vec<u8> {
     let mut text = Vec::new(alloc);
-    for message in &messages {
+    for message in messages {
         let next = octets(rt, alloc, message);
         text.extend_from_slice(next.as_slice()).expect(rt, "room");
     }
+    text
+}
+
+fn refused_at<S: Shelf>(rt: &impl Abort, alloc: Global, messages: [&str; 3], place: u64) {
+    let tables = tables(rt, alloc);
+    let text = text_of(rt, alloc, &messages);
     let found = breaks_at::<S>(alloc, &tables, text.as_slice());
     assert_eq!(rt; found, Some(place), "{messages:?}");
 }
@@ -129,19 +137,30 @@ fn read_again<S: Shelf>(rt: &impl Abort, alloc: Global, count: usize, text: &[u8
     assert_text(rt, alloc, &archive, count, text);
 }
 
+/// A front of so many octets is read, or refused at the start of its last entry.
+fn read_front<S: Shelf>(
+    rt: &impl Abort,
+    alloc: Global,
+    tables: &Tables,
+    front: &[u8],
+    count: usize,
+) {
+    if count % 62 == 0 {
+        read_again::<S>(rt, alloc, count / 62, front);
+    } else {
+        let place = (count / 62 * 62) as u64;
+        same(rt, breaks_at::<S>(alloc, tables, front), Some(place));
+    }
+}
+
 // Whole entries are read, and a part of one is refused at its start.
 fn read_each_front<S: Shelf>(rt: &impl Abort, alloc: Global) {
     let tables = tables(rt, alloc);
     let text = joined(rt, alloc, &[(300, 9), (384, 0), (1005, 0), (1007, 0)]);
-    assert_eq!(rt; text.len(), 248);
+    same(rt, text.len(), 248);
     for count in 0..249usize {
         let front = text.as_slice().get(..count).expect(rt, "a front");
-        if count % 62 == 0 {
-            read_again::<S>(rt, alloc, count / 62, front);
-        } else {
-            let place = (count / 62 * 62) as u64;
-            assert_eq!(rt; breaks_at::<S>(alloc, &tables, front), Some(place));
-        }
+        read_front::<S>(rt, alloc, &tables, front, count);
     }
     refuse::<S>(rt, alloc);
 }
@@ -152,19 +171,27 @@ fn archive_not_in_order(rt: HostRuntime) {
     read_each_front::<SortedShelf>(&rt, rt.alloc());
 }
 
+/// Takes more into the archive from before.
+fn take_in_more<S: Shelf>(rt: &impl Abort, alloc: Global, archive: &mut Archive<S>) {
+    add_all(rt, alloc, archive, &[(MONTH_13, 1), (UPDATED, 1)]);
+    let all = format!(in alloc; "{UPDATED} {OTHER_SUB_CENTRE} {NEXT_STATION} {MONTH_13}");
+    assert_messages(rt, alloc, archive, 4, all.expect(rt, "room").as_str());
+}
+
+/// The octets of the archive from before.
+fn text_from_before(rt: &impl Abort, alloc: Global) -> Vec<u8> {
+    let before = format!(in alloc; "{OTHER_SUB_CENTRE} {NEXT_STATION}").expect(rt, "room");
+    octets(rt, alloc, before.as_str())
+}
+
 // An archive in the order of stations, whose sub-centres fall, is read as before, and takes in
 // more.
 fn read_and_add<S: Shelf>(rt: &impl Abort, alloc: Global) {
     let tables = tables(rt, alloc);
-    let before = format!(in alloc; "{OTHER_SUB_CENTRE} {NEXT_STATION}").expect(rt, "room");
-    let text = octets(rt, alloc, before.as_str());
-    let read = Archive::read(alloc, &tables, text.as_slice());
-    let mut archive: Archive<S> = read.expect(rt, "an archive");
+    let text = text_from_before(rt, alloc);
+    let mut archive: Archive<S> = read_text(rt, alloc, &tables, text.as_slice());
     assert_text(rt, alloc, &archive, 2, text.as_slice());
-    add(rt, alloc, &mut archive, MONTH_13, added(1, 1));
-    add(rt, alloc, &mut archive, UPDATED, added(1, 1));
-    let all = format!(in alloc; "{UPDATED} {before} {MONTH_13}").expect(rt, "room");
-    assert_messages(rt, alloc, &archive, 4, all.as_str());
+    take_in_more(rt, alloc, &mut archive);
 }
 
 #[test]
@@ -192,18 +219,24 @@ fn text_of_thousand(rt: &impl Abort, alloc: Global, update: u8) -> Vec<u8> {
     joined(rt, alloc, reports.as_slice())
 }
 
+/// The archive has a station's report with update number 1.
+fn assert_report<S: Shelf>(rt: &impl Abort, alloc: Global, archive: &Archive<S>, number: u16) {
+    let found = archive.get(&key_of_number(number)).expect(rt, "there");
+    let expected = message(rt, alloc, number, 1);
+    assert!(rt; found == expected.as_slice());
+}
+
 // A thousand stations are added, written and read back.
 fn a_thousand<S: Shelf>(rt: &impl Abort, alloc: Global) {
     let tables = tables(rt, alloc);
     let text = text_of_thousand(rt, alloc, 1);
-    assert_eq!(rt; text.len(), 62000);
+    same(rt, text.len(), 62000);
     let reports = thousand_of(rt, alloc, 1);
     let mut archive: Archive<S> = Archive::new(alloc, &tables);
     add_reports(rt, alloc, &mut archive, reports.as_slice(), 1000);
     assert_text(rt, alloc, &archive, 1000, text.as_slice());
     read_again::<S>(rt, alloc, 1000, text.as_slice());
-    let found = archive.get(&key_of_number(777)).expect(rt, "there");
-    assert!(rt; found == message(rt, alloc, 777, 1).as_slice());
+    assert_report(rt, alloc, &archive, 777);
 }
 
 // The archive of a text under tables.

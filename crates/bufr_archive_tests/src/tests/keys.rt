@@ -94,27 +94,44 @@ fn assert_at<S: Shelf>(
     message: &str,
 ) {
     let found = archive.get(key).expect(rt, "there");
-    assert!(rt; found == octets(rt, alloc, message).as_slice());
+    let expected = octets(rt, alloc, message);
+    assert!(rt; found == expected.as_slice());
+}
+
+/// The archive has the reports of both sub-centres.
+fn assert_apart<S: Shelf>(rt: &impl Abort, alloc: Global, archive: &Archive<S>) {
+    let both = format!(in alloc; "{ROW_1} {OTHER_SUB_CENTRE}").expect(rt, "room");
+    assert_messages(rt, alloc, archive, 2, both.as_str());
+    let mut key = first_key();
+    key.sub_centre = 7;
+    assert_at(rt, alloc, archive, &key, OTHER_SUB_CENTRE);
+    assert_at(rt, alloc, archive, &first_key(), ROW_1);
 }
 
 // A report of another sub-centre has another key and comes behind.
 fn kept_apart<S: Shelf>(rt: &impl Abort, alloc: Global) {
     let tables = tables(rt, alloc);
     let mut archive: Archive<S> = Archive::new(alloc, &tables);
-    add(rt, alloc, &mut archive, OTHER_SUB_CENTRE, added(1, 1));
-    add(rt, alloc, &mut archive, ROW_1, added(1, 1));
-    let both = format!(in alloc; "{ROW_1} {OTHER_SUB_CENTRE}").expect(rt, "room");
-    assert_messages(rt, alloc, &archive, 2, both.as_str());
-    let mut key = first_key();
-    key.sub_centre = 7;
-    assert_at(rt, alloc, &archive, &key, OTHER_SUB_CENTRE);
-    assert_at(rt, alloc, &archive, &first_key(), ROW_1);
+    add_all(
+        rt,
+        alloc,
+        &mut archive,
+        &[(OTHER_SUB_CENTRE, 1), (ROW_1, 1)],
+    );
+    assert_apart(rt, alloc, &archive);
 }
 
 #[test]
 fn sub_centres_apart(rt: HostRuntime) {
     kept_apart::<MapShelf>(&rt, rt.alloc());
     kept_apart::<SortedShelf>(&rt, rt.alloc());
+}
+
+/// An entry has the first key, this update number and these octets.
+fn assert_parts(rt: &impl Abort, entry: &Entry, update: u8, expected: &[u8]) {
+    assert!(rt; entry.key == Some(first_key()));
+    same(rt, entry.update, update);
+    assert!(rt; entry.bytes.as_slice() == expected);
 }
 
 // A report of a message, counted from 0, has this entry, of the first key.
@@ -131,9 +148,8 @@ fn assert_entry(
     let report = found.as_slice().get(index).expect(rt, "a report");
     let made = entry_of(alloc, &tables, report).expect(rt, "room");
     let entry = made.expect(rt, "an entry");
-    assert!(rt; entry.key == Some(first_key()));
-    assert_eq!(rt; entry.update, update);
-    assert!(rt; entry.bytes.as_slice() == octets(rt, alloc, bytes).as_slice());
+    let expected = octets(rt, alloc, bytes);
+    assert_parts(rt, &entry, update, expected.as_slice());
 }
 
 // The entry of a report has its canonical message.

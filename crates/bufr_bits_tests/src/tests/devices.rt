@@ -2,11 +2,13 @@
 
 ghost use Rattle.std.specs.Prelude.{◌≡◌, ◌<◌, false, length};
 
+use super::same;
 use super::sizes::octets_of_length;
 use bufr_bits::device::{Failed, FromRead, IntoWrite, Sink, Source, Unwritten, write_all};
 use std::alloc::Global;
 use std::io;
 use std::io::{ErrorKind, Read, Write};
+use std::process::Abort;
 use std::test::Fail;
 
 /// A reader that gives an octet, fails, and gives another.
@@ -51,13 +53,13 @@ fn a_source_of_octets_in_memory(rt: HostRuntime) -> Result<(), Fail> {
     let octets = [1u8, 2, 3, 4, 5];
     let mut source = FromRead::new(octets.as_slice());
     let mut buffer = [0; 3];
-    assert_eq!(rt; source.read(&mut buffer)?, 3);
-    assert_eq!(rt; buffer, [1, 2, 3]);
-    assert_eq!(rt; source.read(&mut buffer)?, 2);
-    assert_eq!(rt; buffer, [4, 5, 3]);
-    assert_eq!(rt; source.read(&mut buffer)?, 0);
-    assert_eq!(rt; source.read(&mut buffer)?, 0);
-    assert_eq!(rt; source.into_inner().len(), 0);
+    same(&rt, source.read(&mut buffer)?, 3);
+    same(&rt, buffer, [1, 2, 3]);
+    same(&rt, source.read(&mut buffer)?, 2);
+    same(&rt, buffer, [4, 5, 3]);
+    same(&rt, source.read(&mut buffer)?, 0);
+    same(&rt, source.read(&mut buffer)?, 0);
+    same(&rt, source.into_inner().len(), 0);
     Ok(())
 }
 
@@ -65,43 +67,45 @@ fn a_source_of_octets_in_memory(rt: HostRuntime) -> Result<(), Fail> {
 fn a_source_fails_at_any_error(rt: HostRuntime) -> Result<(), Fail> {
     let mut source = FromRead::new(FailsOnce { reads: 0 });
     let mut buffer = [0; 4];
-    assert_eq!(rt; source.read(&mut buffer)?, 1);
-    assert_eq!(rt; source.read(&mut buffer), Err(Failed));
-    assert_eq!(rt; source.into_inner().reads, 2);
+    same(&rt, source.read(&mut buffer)?, 1);
+    same(&rt, source.read(&mut buffer), Err(Failed));
+    same(&rt, source.into_inner().reads, 2);
+    Ok(())
+}
+
+/// Writes to a lent vector, and compares what stands in it after the loan.
+fn write_to_lent(rt: &impl Abort, alloc: Global) -> Result<(), Fail> {
+    let mut kept = Vec::new(alloc);
+    let mut lent = IntoWrite::new(&mut kept);
+    same(rt, lent.write(b"BUFR")?, 4);
+    let _ = lent.into_inner();
+    same(rt, kept.as_slice(), b"BUFR".as_slice());
     Ok(())
 }
 
 #[test]
 fn a_sink_in_memory(rt: HostRuntime) -> Result<(), Fail> {
     let mut sink = IntoWrite::new(Vec::new(rt.alloc()));
-    assert_eq!(rt; sink.write(b"BUFR")?, 4);
-    assert_eq!(rt; sink.write(&[])?, 0);
+    same(&rt, sink.write(b"BUFR")?, 4);
+    same(&rt, sink.write(&[])?, 0);
     sink.flush()?;
     write_all(&mut sink, b"7777").map_err(|_| Failed)?;
-    assert_eq!(rt; sink.into_inner().as_slice(), b"BUFR7777".as_slice());
-
-    let mut kept = Vec::new(rt.alloc());
-    let mut lent = IntoWrite::new(&mut kept);
-    assert_eq!(rt; lent.write(b"BUFR")?, 4);
-    let _ = lent.into_inner();
-    assert_eq!(rt; kept.as_slice(), b"BUFR".as_slice());
-    Ok(())
+    same(&rt, sink.into_inner().as_slice(), b"BUFR7777".as_slice());
+    write_to_lent(&rt, rt.alloc())
 }
 
 #[test]
 fn a_sink_fails_where_nothing_is_taken(rt: HostRuntime) -> Result<(), Fail> {
     let mut sink = IntoWrite::new(TakesOne { full: false });
-    assert_eq!(rt; sink.write(&[])?, 0);
-    assert_eq!(rt; sink.write(b"BUFR")?, 1);
-    assert_eq!(rt; sink.write(b"UFR"), Err(Failed));
+    same(&rt, sink.write(&[])?, 0);
+    same(&rt, sink.write(b"BUFR")?, 1);
+    same(&rt, sink.write(b"UFR"), Err(Failed));
 
     let mut again = IntoWrite::new(TakesOne { full: false });
-    assert_eq!(rt;
-        write_all(&mut again, b"BUFR"),
-        Err(Unwritten { written: 1 })
-    );
+    let unwritten = Err(Unwritten { written: 1 });
+    same(&rt, write_all(&mut again, b"BUFR"), unwritten);
     let mut flushed = IntoWrite::new(TakesOne { full: false });
-    assert_eq!(rt; flushed.flush(), Err(Failed));
+    same(&rt, flushed.flush(), Err(Failed));
     Ok(())
 }
 
@@ -149,7 +153,7 @@ fn a_source_gives_all_over_a_thousand_reads(rt: HostRuntime) -> Result<(), Fail>
     let mut source = FromRead::new(reader);
     let whole = all_of(rt.alloc(), &mut source, &mut room)?;
     assert!(rt; whole.as_slice() == octets.as_slice());
-    assert_eq!(rt; source.into_inner().rest.len(), 0);
+    same(&rt, source.into_inner().rest.len(), 0);
     Ok(())
 }
 
@@ -213,6 +217,6 @@ fn a_lent_sink_takes_a_large_piece_and_hands_it_on(rt: HostRuntime) -> Result<()
     lent.flush()?;
     let writer = sink.into_inner();
     assert!(rt; writer.taken.as_slice() == octets.as_slice());
-    assert_eq!(rt; writer.flushes, 1);
+    same(&rt, writer.flushes, 1);
     Ok(())
 }

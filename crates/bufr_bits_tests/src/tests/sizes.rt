@@ -1,7 +1,9 @@
 //! Large texts and many fields: want of memory meets every contract, so these are compared whole.
 
+use super::{expect_text, same};
 use bufr_bits::{BitReader, BitSink};
 use std::alloc::{AllocError, Global};
+use std::process::Abort;
 use std::test::Fail;
 
 /// So many octets, which go round by 251.
@@ -13,35 +15,39 @@ pub(super) fn octets_of_length(alloc: Global, n: usize) -> Result<Vec<u8>, Alloc
     Ok(octets)
 }
 
+/// A text, three bits, and the text again, in octets.
+fn text_twice(rt: &impl Abort, alloc: Global, text: &[u8]) -> Result<Vec<u8>, Fail> {
+    let mut sink = BitSink::new(alloc);
+    sink.put_bytes(text)?;
+    sink.put(3, 5)?;
+    sink.put_bytes(text)?;
+    same(rt, sink.len_bits(), 16_000_051);
+    sink.fill_octet();
+    Ok(sink.into_bytes())
+}
+
 #[test]
 fn a_million_octets_on_and_off_the_edge(rt: HostRuntime) -> Result<(), Fail> {
-    let text = octets_of_length(rt.alloc(), 1_000_003)?;
-    let mut sink = BitSink::new(rt.alloc());
-    sink.put_bytes(text.as_slice())?;
-    sink.put(3, 5)?;
-    sink.put_bytes(text.as_slice())?;
-    assert_eq!(rt; sink.len_bits(), 16_000_051);
-    sink.fill_octet();
-    let octets = sink.into_bytes();
-    assert_eq!(rt; octets.len(), 2_000_007);
+    let alloc = rt.alloc();
+    let text = octets_of_length(alloc, 1_000_003)?;
+    let octets = text_twice(&rt, alloc, text.as_slice())?;
+    same(&rt, octets.len(), 2_000_007);
     let mut reader = BitReader::new(octets.as_slice());
-    let first = reader.take_bytes(rt.alloc(), 1_000_003)?;
-    assert!(rt; first.ok_or("no text")?.as_slice() == text.as_slice());
-    assert_eq!(rt; reader.take(3), Some(5));
-    let second = reader.take_bytes(rt.alloc(), 1_000_003)?;
-    assert!(rt; second.ok_or("no text off the edge")?.as_slice() == text.as_slice());
-    assert_eq!(rt; reader.left(), 5);
+    expect_text(&rt, alloc, &mut reader, 1_000_003, text.as_slice())?;
+    same(&rt, reader.take(3), Some(5));
+    expect_text(&rt, alloc, &mut reader, 1_000_003, text.as_slice())?;
+    same(&rt, reader.left(), 5);
     Ok(())
 }
 
 #[test]
 fn a_hundred_thousand_fields(rt: HostRuntime) -> Result<(), Fail> {
     let mut sink = BitSink::with_capacity(rt.alloc(), 1000)?;
-    assert_eq!(rt; sink.len_bits(), 0);
+    same(&rt, sink.len_bits(), 0);
     for i in 0..100_000u64 {
         sink.put(13, i % 8191)?;
     }
-    assert_eq!(rt; sink.len_bits(), 1_300_000);
+    same(&rt, sink.len_bits(), 1_300_000);
     sink.fill_octet();
     let octets = sink.into_bytes();
     let mut reader = BitReader::new(octets.as_slice());

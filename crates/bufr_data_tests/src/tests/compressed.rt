@@ -1,8 +1,9 @@
 //! Compressed subsets in bits, and back.
 
-use super::samples::{numbers, octets_of, template};
+use super::same;
+use super::samples::{octets_of, same_numbers, same_text, template};
 use bufr_bits::{BitReader, BitSink};
-use bufr_data::{Columns, Raw, ReadFault, Subset, WriteFault, read_subsets, write_subsets};
+use bufr_data::{Columns, ReadFault, Subset, WriteFault, read_subsets, write_subsets};
 use bufr_expand::Template;
 use bufr_tables::{Failure, Items};
 use std::alloc::Global;
@@ -14,6 +15,9 @@ type Descriptors<'a> = &'a [(u8, u8, u8)];
 const SEQUENCES: [(u8, u8, u8); 4] = [(3, 1, 1), (3, 1, 11), (3, 1, 12), (0, 12, 101)];
 
 const TEMPERATURE: [(u8, u8, u8); 1] = [(0, 12, 101)];
+
+/// The greatest number of 63 bits that is not missing.
+const GREATEST: u64 = (1 << 63) - 2;
 
 const DELAYED: [(u8, u8, u8); 3] = [(1, 1, 0), (0, 31, 1), (0, 12, 101)];
 
@@ -48,10 +52,39 @@ fn has_numbers(
     subsets: &Items<Subset>,
     wanted: &[&[u64]],
 ) -> Result<(), Fail> {
-    assert_eq!(rt; subsets.len(), wanted.len());
+    same(rt, subsets.len(), wanted.len());
     for (subset, own) in subsets.as_slice().iter().zip(wanted) {
-        assert_eq!(rt; numbers(alloc, subset)?.as_slice(), *own);
+        same_numbers(rt, alloc, subset, own)?;
     }
+    Ok(())
+}
+
+/// Compares the compressed octets of subsets.
+fn same_packed(
+    rt: &impl Abort,
+    alloc: Global,
+    list: Descriptors,
+    subsets: &[Subset],
+    wanted: &[u8],
+) -> Result<(), Fail> {
+    let template = template(alloc, list)?;
+    let found = packed(alloc, &template, subsets)?;
+    same(rt, found.as_slice(), wanted);
+    Ok(())
+}
+
+/// Stops the test unless these plain subsets are refused compression at their first item.
+fn not_compressible(
+    rt: &impl Abort,
+    alloc: Global,
+    list: Descriptors,
+    count: u16,
+    plain: &[u8],
+) -> Result<(), Fail> {
+    let subsets = read(alloc, list, false, count, plain)?;
+    let template = template(alloc, list)?;
+    let fault = Failure::Fault(WriteFault::NotCompressible(1));
+    same(rt, packed(alloc, &template, subsets.as_slice()), Err(fault));
     Ok(())
 }
 
@@ -66,12 +99,7 @@ fn reads(
 ) -> Result<(), Fail> {
     let subsets = read(alloc, list, true, u16::try_from(wanted.len())?, octets)?;
     has_numbers(rt, alloc, &subsets, wanted)?;
-    let template = template(alloc, list)?;
-    assert_eq!(rt;
-        packed(alloc, &template, subsets.as_slice())?.as_slice(),
-        again
-    );
-    Ok(())
+    same_packed(rt, alloc, list, subsets.as_slice(), again)
 }
 
 /// Reads plain subsets of one number each and compares their compressed octets.
@@ -84,12 +112,7 @@ fn packs(
     wanted: &[u8],
 ) -> Result<(), Fail> {
     let subsets = read(alloc, list, false, count, plain)?;
-    let template = template(alloc, list)?;
-    assert_eq!(rt;
-        packed(alloc, &template, subsets.as_slice())?.as_slice(),
-        wanted
-    );
-    Ok(())
+    same_packed(rt, alloc, list, subsets.as_slice(), wanted)
 }
 
 /// Compares the fault of compressed data, and that the place is unmoved.
@@ -105,11 +128,11 @@ fn refuses(
     let fault = Some(Failure::Fault(wanted));
     let mut reader = BitReader::new(octets);
     let answer = read_subsets(alloc, &template, true, count, &mut reader).err();
-    assert_eq!(rt; answer, fault);
-    assert_eq!(rt; reader.place(), 0);
+    same(rt, &answer, &fault);
+    same(rt, reader.place(), 0);
     let indexed = Columns::index(alloc, &template, &mut reader, count).err();
-    assert_eq!(rt; indexed, fault);
-    assert_eq!(rt; reader.place(), 0);
+    same(rt, &indexed, &fault);
+    same(rt, reader.place(), 0);
     Ok(())
 }
 
@@ -137,12 +160,8 @@ fn compressed_increments(rt: HostRuntime) -> Result<(), Fail> {
 
 #[test]
 fn unequal_counts(rt: HostRuntime) -> Result<(), Fail> {
-    let alloc = rt.alloc();
-    let subsets = read(alloc, &DELAYED, false, 2, &[0x00, 0x01, 0x6A, 0xB3])?;
-    let template = template(alloc, &DELAYED)?;
-    let fault = Failure::Fault(WriteFault::NotCompressible(1));
-    assert_eq!(rt; packed(alloc, &template, subsets.as_slice()), Err(fault));
-    Ok(())
+    let octets = [0x00, 0x01, 0x6A, 0xB3];
+    not_compressible(&rt, rt.alloc(), &DELAYED, 2, &octets)
 }
 
 #[test]
@@ -183,13 +202,10 @@ fn texts_of_increments(rt: HostRuntime) -> Result<(), Fail> {
     let octets = [0x00, 0x00, 0x00, 0x09, 0x05, 0x0B, 0xFF, 0xFC];
     let subsets = read(rt.alloc(), &list, true, 2, &octets)?;
     let texts: [&[u8]; 2] = [b"AB ", &[255, 255, 255]];
-    assert_eq!(rt; subsets.len(), 2);
+    same(&rt, subsets.len(), 2);
     for (subset, wanted) in subsets.as_slice().iter().zip(texts) {
         let field = subset.fields.get(0).ok_or("no field")?;
-        match &field.raw {
-            Raw::Text(text) => assert_eq!(rt; text.as_slice(), wanted),
-            Raw::Number(_) => assert!(rt; false, "a number"),
-        }
+        same_text(&rt, field, wanted);
     }
     Ok(())
 }
@@ -226,6 +242,14 @@ fn compressed_not_a_factor(rt: HostRuntime) -> Result<(), Fail> {
     reads(&rt, rt.alloc(), &[(0, 31, 0)], &octets, &wanted, &octets)
 }
 
+/// Packs no subset, and reads none.
+fn packs_and_reads_none(rt: &impl Abort, alloc: Global) -> Result<(), Fail> {
+    packs(rt, alloc, &TEMPERATURE, 0, &[], &[])?;
+    let subsets = read(alloc, &TEMPERATURE, true, 0, &[0xFF])?;
+    same(rt, subsets.len(), 0);
+    Ok(())
+}
+
 #[test]
 fn all_missing_one_subset_and_none(rt: HostRuntime) -> Result<(), Fail> {
     let alloc = rt.alloc();
@@ -239,35 +263,35 @@ fn all_missing_one_subset_and_none(rt: HostRuntime) -> Result<(), Fail> {
         &[0x6A, 0xB3],
         &[0x6A, 0xB3, 0x00],
     )?;
-    packs(&rt, alloc, &TEMPERATURE, 0, &[], &[])?;
-    let subsets = read(alloc, &TEMPERATURE, true, 0, &[0xFF])?;
-    assert_eq!(rt; subsets.len(), 0);
-    Ok(())
+    packs_and_reads_none(&rt, alloc)
+}
+
+/// The octets of two plain numbers of 63 bits, the least and the greatest.
+fn ends_plain(alloc: Global) -> Result<Vec<u8>, Fail> {
+    let mut plain = BitSink::new(alloc);
+    plain.put(63, 0)?;
+    plain.put(63, GREATEST)?;
+    Ok(octets_of(plain))
+}
+
+/// The octets of the same two numbers, compressed.
+fn ends_compressed(alloc: Global) -> Result<Vec<u8>, Fail> {
+    let mut columns = BitSink::new(alloc);
+    columns.put(63, 0)?;
+    columns.put(6, 63)?;
+    columns.put(63, 0)?;
+    columns.put(63, GREATEST)?;
+    Ok(octets_of(columns))
 }
 
 #[test]
 fn columns_of_63_bits(rt: HostRuntime) -> Result<(), Fail> {
     let alloc = rt.alloc();
     let list = [(2, 1, 175), (0, 12, 101)];
-    let greatest = (1 << 63) - 2;
-    let mut plain = BitSink::new(alloc);
-    plain.put(63, 0)?;
-    plain.put(63, greatest)?;
-    let mut columns = BitSink::new(alloc);
-    columns.put(63, 0)?;
-    columns.put(6, 63)?;
-    columns.put(63, 0)?;
-    columns.put(63, greatest)?;
-    let columns = octets_of(columns);
-    packs(
-        &rt,
-        alloc,
-        &list,
-        2,
-        octets_of(plain).as_slice(),
-        columns.as_slice(),
-    )?;
-    let (least, most) = ([0], [greatest]);
+    let plain = ends_plain(alloc)?;
+    let columns = ends_compressed(alloc)?;
+    packs(&rt, alloc, &list, 2, plain.as_slice(), columns.as_slice())?;
+    let (least, most) = ([0], [GREATEST]);
     let wanted = [least.as_slice(), most.as_slice()];
     reads(
         &rt,
@@ -281,15 +305,10 @@ fn columns_of_63_bits(rt: HostRuntime) -> Result<(), Fail> {
 
 #[test]
 fn texts_of_64_octets_that_differ(rt: HostRuntime) -> Result<(), Fail> {
-    let alloc = rt.alloc();
     let list = [(2, 8, 64), (0, 1, 11)];
     let mut plain = [0x41; 128];
     plain[127] = 0x42;
-    let subsets = read(alloc, &list, false, 2, &plain)?;
-    let template = template(alloc, &list)?;
-    let fault = Failure::Fault(WriteFault::NotCompressible(1));
-    assert_eq!(rt; packed(alloc, &template, subsets.as_slice()), Err(fault));
-    Ok(())
+    not_compressible(&rt, rt.alloc(), &list, 2, &plain)
 }
 
 #[test]
@@ -299,31 +318,36 @@ fn subsets_in_any_order(rt: HostRuntime) -> Result<(), Fail> {
     let octets = [0x6A, 0xB3, 0x08, 0x40];
     let mut reader = BitReader::new(&octets);
     let columns = Columns::index(alloc, &template, &mut reader, 2)?;
-    assert_eq!(rt; reader.place(), 26);
+    same(&rt, reader.place(), 26);
     let second = columns.subset(alloc, 2)?;
     let first = columns.subset(alloc, 1)?;
-    assert_eq!(rt; numbers(alloc, &second)?.as_slice(), [27316].as_slice());
-    assert_eq!(rt; numbers(alloc, &first)?.as_slice(), [27315].as_slice());
+    same_numbers(&rt, alloc, &second, &[27316])?;
+    same_numbers(&rt, alloc, &first, &[27315])?;
     Ok(())
 }
 
-#[test]
-fn thousand_subsets_of_thirty_fields(rt: HostRuntime) -> Result<(), Fail> {
-    let alloc = rt.alloc();
-    let list = [(1, 1, 30), (0, 12, 101)];
+/// The octets of a thousand plain subsets of thirty fields of 16 bits.
+fn thousand_plain(alloc: Global) -> Result<Vec<u8>, Fail> {
     let mut plain = BitSink::new(alloc);
     for subset in 0u64..1000 {
         for field in 0u64..30 {
             plain.put(16, 100 * field + subset)?;
         }
     }
-    let plain = octets_of(plain);
+    Ok(octets_of(plain))
+}
+
+#[test]
+fn thousand_subsets_of_thirty_fields(rt: HostRuntime) -> Result<(), Fail> {
+    let alloc = rt.alloc();
+    let list = [(1, 1, 30), (0, 12, 101)];
+    let plain = thousand_plain(alloc)?;
     let subsets = read(alloc, &list, false, 1000, plain.as_slice())?;
     let template = template(alloc, &list)?;
     let columns = packed(alloc, &template, subsets.as_slice())?;
     // for each field 16 bits, 6 bits, and 10 bits for each subset, up to 999 above the least
-    assert_eq!(rt; columns.len(), (30 * (16 + 6 + 10 * 1000) + 7) / 8);
+    same(&rt, columns.len(), (30 * (16 + 6 + 10 * 1000) + 7) / 8);
     let again = read(alloc, &list, true, 1000, columns.as_slice())?;
-    assert_eq!(rt; again, subsets);
+    same(&rt, &again, &subsets);
     Ok(())
 }

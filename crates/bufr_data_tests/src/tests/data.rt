@@ -1,8 +1,9 @@
 //! Subsets in bits, and back.
 
-use super::samples::{numbers, octets_of, template};
+use super::same;
+use super::samples::{octets_of, same_numbers, same_text, template};
 use bufr_bits::{BitReader, BitSink};
-use bufr_data::{Raw, ReadFault, Subset, WriteFault, read_plain, write_plain};
+use bufr_data::{ReadFault, Subset, WriteFault, read_plain, write_plain};
 use bufr_expand::Template;
 use bufr_tables::{Failure, Fxy};
 use std::alloc::Global;
@@ -20,6 +21,19 @@ fn written(alloc: Global, template: &Template, subsets: &[Subset]) -> Result<Vec
     Ok(octets_of(sink))
 }
 
+/// Compares the octets of subsets.
+fn same_written(
+    rt: &impl Abort,
+    alloc: Global,
+    template: &Template,
+    subsets: &[Subset],
+    wanted: &[u8],
+) -> Result<(), Fail> {
+    let found = written(alloc, template, subsets)?;
+    same(rt, found.as_slice(), wanted);
+    Ok(())
+}
+
 /// Reads one subset, compares its numbers, and writes it again.
 fn reads(
     rt: &impl Abort,
@@ -31,13 +45,9 @@ fn reads(
     let template = template(alloc, list)?;
     let mut reader = BitReader::new(octets);
     let (subset, _) = read_plain(alloc, &template, &mut reader, 0)?;
-    assert_eq!(rt; numbers(alloc, &subset)?.as_slice(), wanted);
-    let subsets = vec![in alloc; subset]?;
-    assert_eq!(rt;
-        written(alloc, &template, subsets.as_slice())?.as_slice(),
-        octets
-    );
-    let mut subsets = subsets;
+    same_numbers(rt, alloc, &subset, wanted)?;
+    let mut subsets = vec![in alloc; subset]?;
+    same_written(rt, alloc, &template, subsets.as_slice(), octets)?;
     Ok(subsets.pop().ok_or("no subset")?)
 }
 
@@ -70,27 +80,26 @@ fn missing_temperature(rt: HostRuntime) -> Result<(), Fail> {
     Ok(())
 }
 
-#[test]
-fn delayed_counts(rt: HostRuntime) -> Result<(), Fail> {
-    reads(&rt, rt.alloc(), &DELAYED, &[0], &[0])?;
-    reads(&rt, rt.alloc(), &DELAYED, &[0x01, 0x6A, 0xB3], &[1, 27315])?;
-    let mut octets = vec![in rt.alloc(); 0xFF]?;
-    let mut wanted = vec![in rt.alloc(); 255]?;
+/// Reads a count of 255 temperatures, which is not missing though its bits are ones.
+fn reads_full_count(rt: &impl Abort, alloc: Global) -> Result<(), Fail> {
+    let mut octets = vec![in alloc; 0xFF]?;
+    let mut wanted = vec![in alloc; 255]?;
     for _ in 0..255 {
         octets.push(0x6A)?;
         octets.push(0xB3)?;
         wanted.push(27315)?;
     }
-    let subset = reads(
-        &rt,
-        rt.alloc(),
-        &DELAYED,
-        octets.as_slice(),
-        wanted.as_slice(),
-    )?;
+    let subset = reads(rt, alloc, &DELAYED, octets.as_slice(), wanted.as_slice())?;
     let count = subset.fields.as_slice().first().ok_or("no field")?;
     assert!(rt; !count.is_missing());
     Ok(())
+}
+
+#[test]
+fn delayed_counts(rt: HostRuntime) -> Result<(), Fail> {
+    reads(&rt, rt.alloc(), &DELAYED, &[0], &[0])?;
+    reads(&rt, rt.alloc(), &DELAYED, &[0x01, 0x6A, 0xB3], &[1, 27315])?;
+    reads_full_count(&rt, rt.alloc())
 }
 
 #[test]
@@ -100,15 +109,20 @@ fn unequal_counts(rt: HostRuntime) -> Result<(), Fail> {
     let octets = [0x00, 0x01, 0x6A, 0xB3];
     let mut reader = BitReader::new(&octets);
     let (first, used) = read_plain(alloc, &template, &mut reader, 0)?;
-    assert_eq!(rt; used, 1);
+    same(&rt, used, 1);
     let (second, used) = read_plain(alloc, &template, &mut reader, used)?;
-    assert_eq!(rt; used, 4);
-    assert_eq!(rt; reader.left(), 0);
+    same(&rt, used, 4);
+    same(&rt, reader.left(), 0);
     let subsets = vec![in alloc; first, second]?;
-    assert_eq!(rt;
-        written(alloc, &template, subsets.as_slice())?.as_slice(),
-        octets.as_slice()
-    );
+    same_written(&rt, alloc, &template, subsets.as_slice(), &octets)
+}
+
+/// Reads a field whose scale is raised by 207001.
+fn raised_scale(rt: &impl Abort, alloc: Global) -> Result<(), Fail> {
+    let list = [(2, 7, 1), (0, 12, 101)];
+    let subset = reads(rt, alloc, &list, &[0x42, 0xAF, 0xE0], &[273150])?;
+    let first = subset.fields.as_slice().first().ok_or("no field")?;
+    same(rt, first.spec.width, 20);
     Ok(())
 }
 
@@ -130,13 +144,9 @@ fn operators(rt: HostRuntime) -> Result<(), Fail> {
         &[250000, 27315],
     )?;
     let first = subset.fields.as_slice().first().ok_or("no field")?;
-    assert_eq!(rt; first.spec.width, 18);
-    assert_eq!(rt; first.spec.scale, 3);
-    let list = [(2, 7, 1), (0, 12, 101)];
-    let subset = reads(&rt, rt.alloc(), &list, &[0x42, 0xAF, 0xE0], &[273150])?;
-    let first = subset.fields.as_slice().first().ok_or("no field")?;
-    assert_eq!(rt; first.spec.width, 20);
-    Ok(())
+    same(&rt, first.spec.width, 18);
+    same(&rt, first.spec.scale, 3);
+    raised_scale(&rt, rt.alloc())
 }
 
 #[test]
@@ -147,13 +157,9 @@ fn operators_end_with_the_subset(rt: HostRuntime) -> Result<(), Fail> {
     let mut reader = BitReader::new(&octets);
     let (first, used) = read_plain(alloc, &template, &mut reader, 0)?;
     let (second, _) = read_plain(alloc, &template, &mut reader, used)?;
-    assert_eq!(rt; numbers(alloc, &second)?.as_slice(), [27316].as_slice());
+    same_numbers(&rt, alloc, &second, &[27316])?;
     let subsets = vec![in alloc; first, second]?;
-    assert_eq!(rt;
-        written(alloc, &template, subsets.as_slice())?.as_slice(),
-        octets.as_slice()
-    );
-    Ok(())
+    same_written(&rt, alloc, &template, subsets.as_slice(), &octets)
 }
 
 #[test]
@@ -174,11 +180,22 @@ fn texts(rt: HostRuntime) -> Result<(), Fail> {
     let octets = [0x50, 0x48, 0x97, 0x02, 0x80];
     let subset = reads(&rt, rt.alloc(), &list, &octets, &[1, 0])?;
     let last = subset.fields.as_slice().last().ok_or("no field")?;
-    match &last.raw {
-        Raw::Number(_) => Err("a number")?,
-        Raw::Text(text) => assert_eq!(rt; text.as_slice(), b"A\x22\x5c\x0a".as_slice()),
-    }
+    same_text(&rt, last, b"A\x22\x5c\x0a");
     Ok(())
+}
+
+/// Compares the fault of reading, `used` items being used, and that the place is still the first.
+fn refuses(
+    rt: &impl Abort,
+    alloc: Global,
+    template: &Template,
+    reader: &mut BitReader<'_>,
+    used: u64,
+    wanted: ReadFault,
+) {
+    let fault = read_plain(alloc, template, reader, used).err();
+    same(rt, fault, Some(Failure::Fault(wanted)));
+    same(rt, reader.place(), 0);
 }
 
 #[test]
@@ -187,60 +204,85 @@ fn refusals(rt: HostRuntime) -> Result<(), Fail> {
     let template = template(alloc, &SEQUENCES)?;
     let octets = [0x14, 0xC0, 0x3F, 0x40, 0x9E, 0xC0, 0x1A, 0xAC];
     let mut reader = BitReader::new(&octets);
-    let ends = Failure::Fault(ReadFault::DataEnds(1, 8));
-    assert_eq!(rt;
-        read_plain(alloc, &template, &mut reader, 0).err(),
-        Some(ends)
-    );
-    assert_eq!(rt; reader.place(), 0);
-    let large = Failure::Fault(ReadFault::TooLarge);
-    assert_eq!(rt;
-        read_plain(alloc, &template, &mut reader, 16_777_216).err(),
-        Some(large)
-    );
-    assert_eq!(rt; reader.place(), 0);
+    let ends = ReadFault::DataEnds(1, 8);
+    refuses(&rt, alloc, &template, &mut reader, 0, ends);
+    let large = ReadFault::TooLarge;
+    refuses(&rt, alloc, &template, &mut reader, 16_777_216, large);
+    Ok(())
+}
+
+/// Compares the fault of writing after three bits, and that nothing is written.
+fn misfit(
+    rt: &impl Abort,
+    alloc: Global,
+    template: &Template,
+    subsets: &[Subset],
+    sink: &mut BitSink,
+    wanted: WriteFault,
+) {
+    let fault = write_plain(alloc, template, subsets, sink).err();
+    same(rt, fault, Some(Failure::Fault(wanted)));
+    same(rt, sink.len_bits(), 3);
+}
+
+/// The first subset of octets.
+fn first_subset(alloc: Global, template: &Template, octets: &[u8]) -> Result<Subset, Fail> {
+    let mut reader = BitReader::new(octets);
+    let (subset, _) = read_plain(alloc, template, &mut reader, 0)?;
+    Ok(subset)
+}
+
+/// A subset of two fields, and one of the first of them.
+fn two_and_one(
+    alloc: Global,
+    pair: &Template,
+    short: &Template,
+    octets: &[u8],
+) -> Result<Vec<Subset>, Fail> {
+    let two = first_subset(alloc, pair, octets)?;
+    let one = first_subset(alloc, short, octets)?;
+    Ok(vec![in alloc; two, one]?)
+}
+
+/// Compares the faults of a template whose field is too wide, writing and reading.
+fn too_wide(
+    rt: &impl Abort,
+    alloc: Global,
+    subsets: &[Subset],
+    sink: &mut BitSink,
+    octets: &[u8],
+) -> Result<(), Fail> {
+    let wide = template(alloc, &[(2, 1, 255), (0, 12, 101)])?;
+    let range = WriteFault::DoesNotFit(1, 1);
+    misfit(rt, alloc, &wide, subsets, sink, range);
+    let mut reader = BitReader::new(octets);
+    let fxy = Fxy::new(0, 12, 101).ok_or("no descriptor")?;
+    let range = ReadFault::EffectiveRange(fxy);
+    refuses(rt, alloc, &wide, &mut reader, 0, range);
     Ok(())
 }
 
 #[test]
 fn misfits(rt: HostRuntime) -> Result<(), Fail> {
     let alloc = rt.alloc();
-    let short = template(alloc, &[(0, 1, 1)])?;
     let octets = [0x14, 0xC0, 0x3F];
-    let (one, _) = read_plain(alloc, &short, &mut BitReader::new(&octets), 0)?;
+    let short = template(alloc, &[(0, 1, 1)])?;
     let pair = template(alloc, &[(3, 1, 1)])?;
-    let (two, _) = read_plain(alloc, &pair, &mut BitReader::new(&octets), 0)?;
-    let subsets = vec![in alloc; two, one]?;
+    let subsets = two_and_one(alloc, &pair, &short, &octets)?;
+    let subsets = subsets.as_slice();
     let mut sink = BitSink::new(alloc);
     sink.put(3, 5)?;
-    let too_few = Failure::Fault(WriteFault::DoesNotFit(2, 2));
-    assert_eq!(rt;
-        write_plain(alloc, &pair, subsets.as_slice(), &mut sink).err(),
-        Some(too_few)
-    );
-    assert_eq!(rt; sink.len_bits(), 3);
-    let too_many = Failure::Fault(WriteFault::DoesNotFit(1, 2));
-    assert_eq!(rt;
-        write_plain(alloc, &short, subsets.as_slice(), &mut sink).err(),
-        Some(too_many)
-    );
-    let wide = template(alloc, &[(2, 1, 255), (0, 12, 101)])?;
-    let range = Failure::Fault(WriteFault::DoesNotFit(1, 1));
-    assert_eq!(rt;
-        write_plain(alloc, &wide, subsets.as_slice(), &mut sink).err(),
-        Some(range)
-    );
-    let mut reader = BitReader::new(&octets);
-    let fxy = Fxy::new(0, 12, 101).ok_or("no descriptor")?;
-    let range = Failure::Fault(ReadFault::EffectiveRange(fxy));
-    assert_eq!(rt; read_plain(alloc, &wide, &mut reader, 0).err(), Some(range));
-    Ok(())
+    let too_few = WriteFault::DoesNotFit(2, 2);
+    misfit(&rt, alloc, &pair, subsets, &mut sink, too_few);
+    let too_many = WriteFault::DoesNotFit(1, 2);
+    misfit(&rt, alloc, &short, subsets, &mut sink, too_many);
+    too_wide(&rt, alloc, subsets, &mut sink, &octets)
 }
 
 #[test]
 fn no_subsets(rt: HostRuntime) -> Result<(), Fail> {
     let alloc = rt.alloc();
     let template = template(alloc, &SEQUENCES)?;
-    assert_eq!(rt; written(alloc, &template, &[])?.len(), 0);
+    same(&rt, written(alloc, &template, &[])?.len(), 0);
     Ok(())
 }

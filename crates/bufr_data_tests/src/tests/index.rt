@@ -1,8 +1,9 @@
 //! Subsets asked for one at a time.
 
-use super::samples::{numbers, octets_of, template};
+use super::same;
+use super::samples::{octets_of, same_numbers, same_text, template};
 use bufr_bits::{BitReader, BitSink};
-use bufr_data::{Raw, ReadFault, SubsetIndex, read_subsets};
+use bufr_data::{ReadFault, SubsetIndex, read_subsets};
 use bufr_tables::Failure;
 use std::alloc::Global;
 use std::process::Abort;
@@ -28,7 +29,7 @@ fn has_numbers(
 ) -> Result<(), Fail> {
     assert!(rt; 1 <= number && number <= index.count());
     let subset = index.subset(alloc, number)?;
-    assert_eq!(rt; numbers(alloc, &subset)?.as_slice(), wanted);
+    same_numbers(rt, alloc, &subset, wanted)?;
     Ok(())
 }
 
@@ -46,10 +47,10 @@ fn refuses(
     let template = template(alloc, list)?;
     let mut reader = BitReader::new(octets);
     let read = read_subsets(alloc, &template, compressed, count, &mut reader).err();
-    assert_eq!(rt; read, fault);
+    same(rt, &read, &fault);
     let indexed = SubsetIndex::index(alloc, template, compressed, &mut reader, count).err();
-    assert_eq!(rt; indexed, fault);
-    assert_eq!(rt; reader.place(), 0);
+    same(rt, &indexed, &fault);
+    same(rt, reader.place(), 0);
     Ok(())
 }
 
@@ -59,8 +60,8 @@ fn plain_in_any_order(rt: HostRuntime) -> Result<(), Fail> {
     let octets = [0x00, 0x02, 0x6A, 0xB3, 0x6A, 0xB4, 0x01, 0x00, 0x05, 0xFF];
     let mut reader = BitReader::new(&octets);
     let index = SubsetIndex::index(alloc, template(alloc, &DELAYED)?, false, &mut reader, 3)?;
-    assert_eq!(rt; reader.place(), 72);
-    assert_eq!(rt; index.count(), 3);
+    same(&rt, reader.place(), 72);
+    same(&rt, index.count(), 3);
     has_numbers(&rt, alloc, &index, 3, &[1, 5])?;
     has_numbers(&rt, alloc, &index, 1, &[0])?;
     has_numbers(&rt, alloc, &index, 2, &[2, 27315, 27316])?;
@@ -73,8 +74,8 @@ fn compressed_in_any_order(rt: HostRuntime) -> Result<(), Fail> {
     let octets = [0x6A, 0xB3, 0x08, 0x40];
     let mut reader = BitReader::new(&octets);
     let index = SubsetIndex::index(alloc, template(alloc, &TEMPERATURE)?, true, &mut reader, 2)?;
-    assert_eq!(rt; reader.place(), 26);
-    assert_eq!(rt; index.count(), 2);
+    same(&rt, reader.place(), 26);
+    same(&rt, index.count(), 2);
     has_numbers(&rt, alloc, &index, 2, &[27316])?;
     has_numbers(&rt, alloc, &index, 1, &[27315])?;
     has_numbers(&rt, alloc, &index, 2, &[27316])
@@ -88,16 +89,13 @@ fn texts_are_passed(rt: HostRuntime) -> Result<(), Fail> {
     let octets = [0x50, 0x48, 0x24, 0x24, 0x30];
     let mut reader = BitReader::new(&octets);
     let index = SubsetIndex::index(alloc, template(alloc, &list)?, false, &mut reader, 2)?;
-    assert_eq!(rt; reader.place(), 36);
+    same(&rt, reader.place(), 36);
     let texts: [&[u8]; 2] = [b"A ", b"BC"];
     for (i, wanted) in texts.iter().enumerate() {
         assert!(rt; i < index.count());
         let subset = index.subset(alloc, i + 1)?;
         let field = subset.fields.get(1).ok_or("no field")?;
-        match &field.raw {
-            Raw::Text(text) => assert_eq!(rt; text.as_slice(), *wanted),
-            Raw::Number(_) => assert!(rt; false, "a number"),
-        }
+        same_text(&rt, field, wanted);
     }
     Ok(())
 }
@@ -109,8 +107,8 @@ fn no_subset(rt: HostRuntime) -> Result<(), Fail> {
         let template = template(alloc, &TEMPERATURE)?;
         let mut reader = BitReader::new(&[0xFF]);
         let index = SubsetIndex::index(alloc, template, compressed, &mut reader, 0)?;
-        assert_eq!(rt; index.count(), 0);
-        assert_eq!(rt; reader.place(), 0);
+        same(&rt, index.count(), 0);
+        same(&rt, reader.place(), 0);
     }
     Ok(())
 }
@@ -149,8 +147,8 @@ fn plain_subsets_without_counts(rt: HostRuntime) -> Result<(), Fail> {
     let octets = [0xBD, 0x21, 0x03, 0xFA, 0x3F, 0x80, 0x1F];
     let mut reader = BitReader::new(&octets);
     let index = SubsetIndex::index(alloc, template(alloc, &STATION)?, false, &mut reader, 3)?;
-    assert_eq!(rt; reader.place(), 51);
-    assert_eq!(rt; index.count(), 3);
+    same(&rt, reader.place(), 51);
+    same(&rt, index.count(), 3);
     has_numbers(&rt, alloc, &index, 2, &[3, 1000])?;
     has_numbers(&rt, alloc, &index, 3, &[127, 0])?;
     has_numbers(&rt, alloc, &index, 1, &[94, 578])?;
@@ -168,8 +166,8 @@ fn plain_subsets_of_turns(rt: HostRuntime) -> Result<(), Fail> {
     ];
     let mut reader = BitReader::new(&octets);
     let index = SubsetIndex::index(alloc, template(alloc, &TWICE)?, false, &mut reader, 3)?;
-    assert_eq!(rt; reader.place(), 96);
-    assert_eq!(rt; index.count(), 3);
+    same(&rt, reader.place(), 96);
+    same(&rt, index.count(), 3);
     has_numbers(&rt, alloc, &index, 1, &[27315, 27316])?;
     has_numbers(&rt, alloc, &index, 2, &[1, 2])?;
     has_numbers(&rt, alloc, &index, 3, &[65535, 0])?;
@@ -189,8 +187,8 @@ fn items_up_to_the_limit(rt: HostRuntime) -> Result<(), Fail> {
     octets[8191] = 0x01;
     let mut reader = BitReader::new(octets.as_slice());
     let index = SubsetIndex::index(alloc, template(alloc, &list)?, false, &mut reader, 32768)?;
-    assert_eq!(rt; reader.place(), 65536);
-    assert_eq!(rt; index.count(), 32768);
+    same(&rt, reader.place(), 65536);
+    same(&rt, index.count(), 32768);
     has_numbers(&rt, alloc, &index, 3, &[2])?;
     has_numbers(&rt, alloc, &index, 32767, &[0])?;
     has_numbers(&rt, alloc, &index, 32768, &[1])?;
@@ -211,7 +209,7 @@ fn ten_thousand_plain_subsets(rt: HostRuntime) -> Result<(), Fail> {
     let mut reader = BitReader::new(octets.as_slice());
     let template = template(alloc, &DELAYED)?;
     let index = SubsetIndex::index(alloc, template, false, &mut reader, 10000)?;
-    assert_eq!(rt; index.count(), 10000);
+    same(&rt, index.count(), 10000);
     for i in 0usize..10000 {
         let k = 9999 - i;
         let wanted = [2, k as u64, 20000 + k as u64];

@@ -1,10 +1,12 @@
 //! Tables, templates and subsets that several tests use.
 
+use super::same;
 use bufr_bits::BitSink;
-use bufr_data::{Raw, Subset};
+use bufr_data::{Field, Raw, Subset};
 use bufr_expand::Template;
 use bufr_tables::{Fxy, TableB, TableD, Tables};
 use std::alloc::{AllocError, Global};
+use std::process::Abort;
 use std::test::Fail;
 
 /// Elements with their unit, scale, reference value and width.
@@ -33,22 +35,31 @@ const TABLE_D: &[u8] = b"FXY1,FXY2
 301012,004005
 ";
 
-/// The template of descriptors.
-pub(crate) fn template(alloc: Global, list: &[(u8, u8, u8)]) -> Result<Template, Fail> {
-    let tables = Tables::new(
-        TableB::parse(alloc, TABLE_B)?,
-        TableD::parse(alloc, TABLE_D)?,
-    );
+/// The tables of the tests.
+fn tables(alloc: Global) -> Result<Tables, Fail> {
+    let elements = TableB::parse(alloc, TABLE_B)?;
+    let sequences = TableD::parse(alloc, TABLE_D)?;
+    Ok(Tables::new(elements, sequences))
+}
+
+/// These descriptors.
+fn descriptors(alloc: Global, list: &[(u8, u8, u8)]) -> Result<Vec<Fxy>, Fail> {
     let mut descriptors = Vec::new(alloc);
     for (f, x, y) in list {
         let fxy = Fxy::new(*f, *x, *y).ok_or("no descriptor")?;
         descriptors.push(fxy)?;
     }
+    Ok(descriptors)
+}
+
+/// The template of descriptors.
+pub(crate) fn template(alloc: Global, list: &[(u8, u8, u8)]) -> Result<Template, Fail> {
+    let (tables, descriptors) = (tables(alloc)?, descriptors(alloc, list)?);
     Ok(Template::build(alloc, &tables, descriptors.as_slice())?)
 }
 
 /// The raw numbers of a subset, 0 for a text.
-pub(crate) fn numbers(alloc: Global, subset: &Subset) -> Result<Vec<u64>, AllocError> {
+fn numbers(alloc: Global, subset: &Subset) -> Result<Vec<u64>, AllocError> {
     let mut numbers = Vec::new(alloc);
     for field in subset.fields.as_slice() {
         match &field.raw {
@@ -57,6 +68,26 @@ pub(crate) fn numbers(alloc: Global, subset: &Subset) -> Result<Vec<u64>, AllocE
         }
     }
     Ok(numbers)
+}
+
+/// Compares the raw numbers of a subset.
+pub(crate) fn same_numbers(
+    rt: &impl Abort,
+    alloc: Global,
+    subset: &Subset,
+    wanted: &[u64],
+) -> Result<(), AllocError> {
+    let found = numbers(alloc, subset)?;
+    same(rt, found.as_slice(), wanted);
+    Ok(())
+}
+
+/// Compares the text of a field, which is to be one.
+pub(crate) fn same_text(rt: &impl Abort, field: &Field, wanted: &[u8]) {
+    match &field.raw {
+        Raw::Text(text) => same(rt, text.as_slice(), wanted),
+        Raw::Number(_) => assert!(rt; false, "a number"),
+    }
 }
 
 /// The octets of bits, the last filled with zero bits.

@@ -1,8 +1,12 @@
 //! Values of fields, and the texts of faults.
 
+use super::same;
 use bufr_data::{Decimal, Field, Raw, ReadFault, WriteFault};
 use bufr_expand::Spec;
 use bufr_tables::{Fxy, Items, Kind};
+use std::alloc::Global;
+use std::fmt::Display;
+use std::process::Abort;
 use std::test::Fail;
 
 /// A field of the element 012101 with this spec.
@@ -21,6 +25,13 @@ fn quantity(scale: i32, reference: i64, width: u32, raw: u64) -> Result<Field, F
     field(Kind::Quantity, scale, reference, width, Raw::Number(raw))
 }
 
+/// Compares what a value or a fault prints.
+fn prints<T: Display>(rt: &impl Abort, alloc: Global, printed: &T, text: &str) -> Result<(), Fail> {
+    let found = format!(in alloc; "{printed}")?;
+    same(rt, found.as_str(), text);
+    Ok(())
+}
+
 #[test]
 fn values(rt: HostRuntime) -> Result<(), Fail> {
     let rows = [
@@ -35,8 +46,7 @@ fn values(rt: HostRuntime) -> Result<(), Fail> {
     ];
     for (scale, reference, width, raw, text) in rows {
         let value = quantity(scale, reference, width, raw)?.value().ok_or(text)?;
-        let printed = format!(in rt.alloc(); "{value}")?;
-        assert_eq!(rt; printed.as_str(), text);
+        prints(&rt, rt.alloc(), &value, text)?;
     }
     Ok(())
 }
@@ -56,72 +66,73 @@ fn decimals(rt: HostRuntime) -> Result<(), Fail> {
     ];
     for (units, scale, text) in rows {
         let decimal = Decimal::new(units, scale).ok_or(text)?;
-        let printed = format!(in rt.alloc(); "{decimal}")?;
-        assert_eq!(rt; printed.as_str(), text);
+        prints(&rt, rt.alloc(), &decimal, text)?;
     }
     let tiny = Decimal::new(1, 600).ok_or("scale 600")?;
     let printed = format!(in rt.alloc(); "{tiny}")?;
-    assert_eq!(rt; printed.as_str().len(), 602);
+    same(&rt, printed.as_str().len(), 602);
     assert!(rt; Decimal::new(0, 601).is_none());
     assert!(rt; Decimal::new(0, -601).is_none());
     Ok(())
 }
 
-#[test]
-fn missing_values(rt: HostRuntime) -> Result<(), Fail> {
-    assert!(rt; quantity(2, 0, 16, 65535)?.is_missing());
-    assert!(rt; quantity(2, 0, 16, 65535)?.value().is_none());
-    assert!(rt; !quantity(2, 0, 16, 65534)?.is_missing());
-    assert!(rt; !quantity(2, 0, 17, 65535)?.is_missing());
-    assert!(rt; quantity(0, 0, 63, u64::MAX / 2)?.is_missing());
-    assert!(rt; !quantity(0, 0, 1, 1)?.is_missing());
-    assert!(rt; !field(Kind::Count, 0, 0, 8, Raw::Number(255))?.is_missing());
-    assert!(rt; field(Kind::Code, 0, 0, 2, Raw::Number(3))?.is_missing());
-    assert!(rt; quantity(601, 0, 16, 1)?.value().is_none());
+/// Compares whether a field is missing.
+fn missing(rt: &impl Abort, field: Result<Field, Fail>, wanted: bool) -> Result<(), Fail> {
+    same(rt, field?.is_missing(), wanted);
+    Ok(())
+}
+
+/// Stops the test where a field has a value.
+fn no_value(rt: &impl Abort, field: Result<Field, Fail>) -> Result<(), Fail> {
+    assert!(rt; field?.value().is_none());
     Ok(())
 }
 
 #[test]
+fn missing_values(rt: HostRuntime) -> Result<(), Fail> {
+    let rows = [
+        (2, 16, 65535, true),
+        (2, 16, 65534, false),
+        (2, 17, 65535, false),
+        (0, 63, u64::MAX / 2, true),
+        (0, 1, 1, false),
+    ];
+    for (scale, width, raw, wanted) in rows {
+        missing(&rt, quantity(scale, 0, width, raw), wanted)?;
+    }
+    no_value(&rt, quantity(2, 0, 16, 65535))?;
+    missing(&rt, field(Kind::Count, 0, 0, 8, Raw::Number(255)), false)?;
+    missing(&rt, field(Kind::Code, 0, 0, 2, Raw::Number(3)), true)?;
+    no_value(&rt, quantity(601, 0, 16, 1))
+}
+
+/// A field of this width whose text is two octets of ones.
+fn ones(alloc: Global, kind: Kind, width: u32) -> Result<Field, Fail> {
+    let text = Items::from_vec([255, 255].to_vec(alloc)?);
+    field(kind, 0, 0, width, Raw::Text(text))
+}
+
+#[test]
 fn texts_are_no_values(rt: HostRuntime) -> Result<(), Fail> {
-    let ones = || -> Result<Raw, Fail> {
-        Ok(Raw::Text(Items::from_vec([255, 255].to_vec(rt.alloc())?)))
-    };
-    assert!(rt; field(Kind::Text, 0, 0, 16, ones()?)?.is_missing());
-    assert!(rt; !field(Kind::Text, 0, 0, 24, ones()?)?.is_missing());
-    assert!(rt; !field(Kind::Quantity, 0, 0, 16, ones()?)?.is_missing());
-    assert!(rt; !field(Kind::Text, 0, 0, 8, Raw::Number(255))?.is_missing());
-    assert!(rt;
-        field(Kind::Text, 0, 0, 8, Raw::Number(5))?
-            .value()
-            .is_none()
-    );
-    assert!(rt; field(Kind::Quantity, 0, 0, 16, ones()?)?.value().is_none());
-    Ok(())
+    let alloc = rt.alloc();
+    missing(&rt, ones(alloc, Kind::Text, 16), true)?;
+    missing(&rt, ones(alloc, Kind::Text, 24), false)?;
+    missing(&rt, ones(alloc, Kind::Quantity, 16), false)?;
+    missing(&rt, field(Kind::Text, 0, 0, 8, Raw::Number(255)), false)?;
+    no_value(&rt, field(Kind::Text, 0, 0, 8, Raw::Number(5)))?;
+    no_value(&rt, ones(alloc, Kind::Quantity, 16))
 }
 
 #[test]
 fn faults_print_their_reason(rt: HostRuntime) -> Result<(), Fail> {
     let fxy = Fxy::new(0, 12, 101).ok_or("no descriptor")?;
     let alloc = rt.alloc();
-    assert_eq!(rt;
-        format!(in alloc; "{}", ReadFault::EffectiveRange(fxy))?.as_str(),
-        "V1 EffectiveRange 012101"
-    );
-    assert_eq!(rt;
-        format!(in alloc; "{}", ReadFault::DataEnds(1, 8))?.as_str(),
-        "V2 DataEnds 1 8"
-    );
-    assert_eq!(rt;
-        format!(in alloc; "{}", ReadFault::TooLarge)?.as_str(),
-        "V6 TooLarge"
-    );
-    assert_eq!(rt;
-        format!(in alloc; "{}", WriteFault::DoesNotFit(2, 1))?.as_str(),
-        "E1 DoesNotFit 2 1"
-    );
-    assert_eq!(rt;
-        format!(in alloc; "{}", WriteFault::TooLarge)?.as_str(),
-        "E3 TooLarge"
-    );
-    Ok(())
+    let range = ReadFault::EffectiveRange(fxy);
+    prints(&rt, alloc, &range, "V1 EffectiveRange 012101")?;
+    let ends = ReadFault::DataEnds(1, 8);
+    prints(&rt, alloc, &ends, "V2 DataEnds 1 8")?;
+    prints(&rt, alloc, &ReadFault::TooLarge, "V6 TooLarge")?;
+    let misfit = WriteFault::DoesNotFit(2, 1);
+    prints(&rt, alloc, &misfit, "E1 DoesNotFit 2 1")?;
+    prints(&rt, alloc, &WriteFault::TooLarge, "E3 TooLarge")
 }

@@ -88,6 +88,23 @@ impl Taken {
         }
     }
 
+    // Copies of the messages.
+    fn copied(&self, rt: &impl Abort, alloc: Global) -> Vec<Octets> {
+        let mut messages = Vec::new(alloc);
+        for held in &self.messages {
+            let copied = Octets::new(copy_of(rt, alloc, held.as_slice()));
+            messages.push(copied).expect(rt, "room");
+        }
+        messages
+    }
+
+    // Takes in each of these messages.
+    fn insert_all(&mut self, rt: &impl Abort, alloc: Global, messages: &[Octets]) {
+        for held in messages {
+            self.insert(rt, alloc, held.as_slice());
+        }
+    }
+
     // A station's first message gives way to its update.
     fn keeps(&self, index: usize) -> bool {
         let update = message(index.saturating_add(1));
@@ -177,9 +194,6 @@ fn nth(octets: &[u8], number: usize) -> &[u8] {
     front(behind(octets, number.saturating_mul(62)), 62)
 }
 
-/// A step, and the answer that it is to have.
-type Asked = (Step, Result<Answer, StepFault>);
-
 /// Three slots, the same model for each.
 #[derive(Drop)]
 struct Plain {
@@ -219,13 +233,10 @@ impl Plain {
 
     // The messages of a slot, if it is there.
     fn messages(&self, rt: &impl Abort, alloc: Global, slot: usize) -> Option<Vec<Octets>> {
-        let source = self.slots.get(slot)?;
-        let mut messages = Vec::new(alloc);
-        for held in &source.messages {
-            let copied = Octets::new(copy_of(rt, alloc, held.as_slice()));
-            messages.push(copied).expect(rt, "room");
+        match self.slots.get(slot) {
+            Some(taken) => Some(taken.copied(rt, alloc)),
+            None => None,
         }
-        Some(messages)
     }
 
     // What one slot has is the other's too; the answer names the first slot that is not there.
@@ -240,9 +251,7 @@ impl Plain {
             .messages(rt, alloc, from)
             .ok_or(StepFault::NoSlot(from))?;
         let target = self.slots.get_mut(into).ok_or(StepFault::NoSlot(into))?;
-        for held in &messages {
-            target.insert(rt, alloc, held.as_slice());
-        }
+        target.insert_all(rt, alloc, messages.as_slice());
         Ok(Answer::Joined)
     }
 

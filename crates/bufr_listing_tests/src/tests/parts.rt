@@ -1,12 +1,15 @@
 //! Listings that are written in parts.
 
-use super::samples::{SEQUENCES_LISTED, tables};
+use super::same;
+use super::samples::{SEQUENCES_LISTED, first_message, push_times};
+use super::writing::assert_listed;
 use bufr_data::{Field, Raw, Subset};
 use bufr_expand::Spec;
-use bufr_listing::{HeadingParts, end_text, heading_text, read, subset_text, text_of};
-use bufr_sections::Head;
+use bufr_listing::{HeadingParts, end_text, heading_text, subset_text};
+use bufr_sections::{Head, Message};
 use bufr_tables::{Fxy, Items, Kind};
 use std::alloc::Global;
+use std::process::Abort;
 use std::test::Fail;
 
 /// The lines of sequences before the first subset.
@@ -31,16 +34,59 @@ subset
 012101 273.15
 ";
 
+/// These parts are listed so.
+fn assert_heading(
+    rt: &impl Abort,
+    alloc: Global,
+    parts: &HeadingParts<'_>,
+    wanted: &str,
+) -> Result<(), Fail> {
+    let listed = heading_text(alloc, parts)?;
+    same(rt, listed.as_slice(), wanted.as_bytes());
+    Ok(())
+}
+
+/// This subset is listed so.
+fn assert_subset(
+    rt: &impl Abort,
+    alloc: Global,
+    subset: &Subset,
+    wanted: &str,
+) -> Result<(), Fail> {
+    let listed = subset_text(alloc, subset)?;
+    same(rt, listed.as_slice(), wanted.as_bytes());
+    Ok(())
+}
+
+/// The lines of a message before its first subset.
+fn heading_of(alloc: Global, message: &Message) -> Result<Vec<u8>, Fail> {
+    let parts = HeadingParts::of_message(message);
+    Ok(heading_text(alloc, &parts)?)
+}
+
+/// The first subset of a message is listed so.
+fn assert_first_subset(
+    rt: &impl Abort,
+    alloc: Global,
+    message: &Message,
+    wanted: &str,
+) -> Result<(), Fail> {
+    let subset = message.subsets.get(0).ok_or("a subset")?;
+    assert_subset(rt, alloc, subset, wanted)
+}
+
+/// The parts of the message of sequences.
+fn assert_sequences(rt: &impl Abort, alloc: Global, message: &Message) -> Result<(), Fail> {
+    let heading = heading_of(alloc, message)?;
+    same(rt, heading.as_slice(), HEADING.as_bytes());
+    assert_first_subset(rt, alloc, message, SUBSET)
+}
+
 #[test]
 fn the_parts_of_a_listing(rt: HostRuntime) -> Result<(), Fail> {
-    let alloc = rt.alloc();
-    let messages = read(alloc, &tables(alloc)?, SEQUENCES_LISTED.as_bytes())?;
-    let message = messages.first().ok_or("a message")?;
-    let heading = heading_text(alloc, &HeadingParts::of_message(message))?;
-    assert_eq!(rt; heading.as_slice(), HEADING.as_bytes());
-    let subset = message.subsets.get(0).ok_or("a subset")?;
-    assert_eq!(rt; subset_text(alloc, subset)?.as_slice(), SUBSET.as_bytes());
-    assert_eq!(rt; end_text(), b"end\n".as_slice());
+    let message = first_message(rt.alloc(), SEQUENCES_LISTED)?;
+    assert_sequences(&rt, rt.alloc(), &message)?;
+    same(&rt, end_text(), b"end\n".as_slice());
     Ok(())
 }
 
@@ -70,46 +116,70 @@ fn octets(alloc: Global, count: usize) -> Result<Items<u8>, Fail> {
     Ok(Items::from_vec(Vec::from_elem(alloc, 0xAB, count)?))
 }
 
-/// Lines lent by no message: all that may be absent is, and then each part is large.
-#[test]
-fn headings_lent_part_by_part(rt: HostRuntime) -> Result<(), Fail> {
-    let alloc = rt.alloc();
-    let (short, descriptors) = (head(octets(alloc, 0)?), [Fxy::from_bits(0x0C65)]);
+/// Lines of which all that may be absent is.
+fn assert_bare_heading(rt: &impl Abort, alloc: Global) -> Result<(), Fail> {
+    let head = head(octets(alloc, 0)?);
     let bare = HeadingParts {
-        head: &short,
+        head: &head,
         section2: &None,
         observed: false,
         compressed: true,
-        descriptors: descriptors.as_slice(),
+        descriptors: &[Fxy::from_bits(0x0C65)],
     };
     let wanted =
         "message\nsection1 1 2 3 4 5 6 7 8\ntime 9 10 11 12 13 14\nflags compressed\ndescriptors 012101\n";
-    assert_eq!(rt; heading_text(alloc, &bare)?.as_slice(), wanted.as_bytes());
-    let (long, section2) = (head(octets(alloc, 1000)?), Some(octets(alloc, 70_000)?));
-    let descriptors = Vec::from_elem(alloc, Fxy::from_bits(0xC101), 1000)?;
+    assert_heading(rt, alloc, &bare, wanted)
+}
+
+/// A thousand descriptors.
+fn large_descriptors(alloc: Global) -> Result<Vec<Fxy>, Fail> {
+    Ok(Vec::from_elem(alloc, Fxy::from_bits(0xC101), 1000)?)
+}
+
+/// These parts are listed as the lines of which each part is large.
+fn assert_large(rt: &impl Abort, alloc: Global, parts: &HeadingParts<'_>) -> Result<(), Fail> {
+    let wanted = large_heading(alloc)?;
+    assert_heading(rt, alloc, parts, wanted.as_str())
+}
+
+/// Lines of which each part is large.
+fn assert_large_heading(rt: &impl Abort, alloc: Global) -> Result<(), Fail> {
+    let head = head(octets(alloc, 1000)?);
+    let section2 = Some(octets(alloc, 70_000)?);
+    let descriptors = large_descriptors(alloc)?;
     let large = HeadingParts {
-        head: &long,
+        head: &head,
         section2: &section2,
         observed: true,
         compressed: false,
         descriptors: descriptors.as_slice(),
     };
-    let mut wanted = String::new(alloc);
-    wanted.push_str("message\nsection1 1 2 3 4 5 6 7 8\ntime 9 10 11 12 13 14\nlocal1 ")?;
-    wanted.push_str("ab".repeat(alloc, 1000)?.as_str())?;
-    wanted.push_str("\nsection2 ")?;
-    wanted.push_str("ab".repeat(alloc, 70_000)?.as_str())?;
-    wanted.push_str("\nflags observed\ndescriptors")?;
-    wanted.push_str(" 301001".repeat(alloc, 1000)?.as_str())?;
-    wanted.push_str("\n")?;
-    assert_eq!(rt; heading_text(alloc, &large)?.as_slice(), wanted.as_bytes());
-    Ok(())
+    assert_large(rt, alloc, &large)
 }
 
-/// A subset of no field, and one of a thousand.
+/// The text of the lines of which each part is large.
+fn large_heading(alloc: Global) -> Result<String, Fail> {
+    let mut text = String::new(alloc);
+    text.push_str("message\nsection1 1 2 3 4 5 6 7 8\ntime 9 10 11 12 13 14\nlocal1 ")?;
+    push_times(alloc, &mut text, "ab", 1000)?;
+    text.push_str("\nsection2 ")?;
+    push_times(alloc, &mut text, "ab", 70_000)?;
+    text.push_str("\nflags observed\ndescriptors")?;
+    push_times(alloc, &mut text, " 301001", 1000)?;
+    text.push_str("\n")?;
+    Ok(text)
+}
+
+/// Lines lent by no message: all that may be absent is, and then each part is large.
 #[test]
-fn subsets_small_and_large(rt: HostRuntime) -> Result<(), Fail> {
-    let alloc = rt.alloc();
+fn headings_lent_part_by_part(rt: HostRuntime) -> Result<(), Fail> {
+    assert_bare_heading(&rt, rt.alloc())?;
+    assert_large_heading(&rt, rt.alloc())
+}
+
+/// A subset of a thousand fields.
+fn thousand_fields(alloc: Global) -> Result<Subset, Fail> {
+    let fxy = Fxy::from_bits(0x0C65);
     let spec = Spec {
         kind: Kind::Quantity,
         scale: 1,
@@ -117,25 +187,71 @@ fn subsets_small_and_large(rt: HostRuntime) -> Result<(), Fail> {
         width: 16,
     };
     let mut fields = Vec::new(alloc);
-    let empty = Subset {
-        fields: Items::from_vec(Vec::new(alloc)),
-    };
-    assert_eq!(rt;
-        subset_text(alloc, &empty)?.as_slice(),
-        b"subset\n".as_slice()
-    );
-    let mut wanted = String::new(alloc);
-    wanted.push_str("subset\n")?;
     for n in 0..1000u64 {
-        let fxy = Fxy::from_bits(0x0C65);
         let raw = Raw::Number(n + 5);
         fields.push(Field { fxy, spec, raw })?;
-        let (whole, tenths) = (n / 10, n % 10);
-        write!(wanted, "012101 {whole}.{tenths}\n")?;
     }
     let fields = Items::from_vec(fields);
-    let subset = Subset { fields };
-    assert_eq!(rt; subset_text(alloc, &subset)?.as_slice(), wanted.as_bytes());
+    Ok(Subset { fields })
+}
+
+/// The lines of that subset.
+fn thousand_lines(alloc: Global) -> Result<String, Fail> {
+    let mut lines = String::new(alloc);
+    lines.push_str("subset\n")?;
+    for n in 0..1000u64 {
+        let (whole, tenths) = (n / 10, n % 10);
+        write!(lines, "012101 {whole}.{tenths}\n")?;
+    }
+    Ok(lines)
+}
+
+/// A subset of no field, and one of a thousand.
+#[test]
+fn subsets_small_and_large(rt: HostRuntime) -> Result<(), Fail> {
+    let alloc = rt.alloc();
+    let fields = Items::from_vec(Vec::new(alloc));
+    assert_subset(&rt, alloc, &Subset { fields }, "subset\n")?;
+    let (large, wanted) = (thousand_fields(alloc)?, thousand_lines(alloc)?);
+    assert_subset(&rt, alloc, &large, wanted.as_str())
+}
+
+/// The listing of a thousand subsets.
+fn thousand_subsets(alloc: Global) -> Result<String, Fail> {
+    let mut text = String::new(alloc);
+    text.push_str(HEADING)?;
+    push_times(alloc, &mut text, SUBSET, 1000)?;
+    text.push_str("end\n")?;
+    Ok(text)
+}
+
+/// The lines of subsets are added.
+fn push_subsets(alloc: Global, text: &mut Vec<u8>, subsets: &[Subset]) -> Result<(), Fail> {
+    for subset in subsets {
+        let lines = subset_text(alloc, subset)?;
+        text.extend_from_slice(&lines)?;
+    }
+    Ok(())
+}
+
+/// The lines before the subsets of the message of sequences.
+fn heading_of_sequences(alloc: Global) -> Result<Vec<u8>, Fail> {
+    let message = first_message(alloc, SEQUENCES_LISTED)?;
+    heading_of(alloc, &message)
+}
+
+/// The lines before the subsets of the message of sequences, those of the subsets of another
+/// message, and the last line are together this text.
+fn assert_joined(
+    rt: &impl Abort,
+    alloc: Global,
+    message: &Message,
+    wanted: &str,
+) -> Result<(), Fail> {
+    let mut joined = heading_of_sequences(alloc)?;
+    push_subsets(alloc, &mut joined, message.subsets.as_slice())?;
+    joined.extend_from_slice(end_text())?;
+    same(rt, joined.as_slice(), wanted.as_bytes());
     Ok(())
 }
 
@@ -143,20 +259,8 @@ fn subsets_small_and_large(rt: HostRuntime) -> Result<(), Fail> {
 #[test]
 fn the_parts_of_a_thousand_subsets(rt: HostRuntime) -> Result<(), Fail> {
     let alloc = rt.alloc();
-    let messages = read(alloc, &tables(alloc)?, SEQUENCES_LISTED.as_bytes())?;
-    let message = messages.first().ok_or("a message")?;
-    let mut text = String::new(alloc);
-    text.push_str(HEADING)?;
-    text.push_str(SUBSET.repeat(alloc, 1000)?.as_str())?;
-    text.push_str("end\n")?;
-    let many = read(alloc, &tables(alloc)?, text.as_bytes())?;
-    let listed = many.first().ok_or("a message")?;
-    assert_eq!(rt; text_of(alloc, listed)?.as_slice(), text.as_bytes());
-    let mut joined = heading_text(alloc, &HeadingParts::of_message(message))?;
-    for subset in listed.subsets.as_slice() {
-        joined.extend_from_slice(&subset_text(alloc, subset)?)?;
-    }
-    joined.extend_from_slice(end_text())?;
-    assert_eq!(rt; joined.as_slice(), text.as_bytes());
-    Ok(())
+    let text = thousand_subsets(alloc)?;
+    let listed = first_message(alloc, text.as_str())?;
+    assert_listed(&rt, alloc, &listed, text.as_str())?;
+    assert_joined(&rt, alloc, &listed, text.as_str())
 }

@@ -1,7 +1,9 @@
 //! Each fault at the first and the last line at which it can stand, and the ends of lines.
 
-use super::reading::{assert_behind, assert_read};
+use super::reading::{assert_behind, assert_read, assert_replaced};
 use super::samples::SEQUENCES_LISTED;
+use std::alloc::Global;
+use std::process::Abort;
 use std::test::Fail;
 
 /// A listing with CR before each LF, and one whose last line has no LF, is read as that without.
@@ -14,6 +16,12 @@ fn carriage_returns_and_no_last_end(rt: HostRuntime) -> Result<(), Fail> {
     assert_read(&rt, alloc, open, SEQUENCES_LISTED)?;
     let spread = SEQUENCES_LISTED.replace(alloc, "\n", "\n# a comment\n\n\r\n#\n")?;
     assert_read(&rt, alloc, spread.as_str(), SEQUENCES_LISTED)
+}
+
+/// The listing is refused so without this line, and with another instead of it.
+fn assert_line(rt: &impl Abort, alloc: Global, line: &str, fault: &str) -> Result<(), Fail> {
+    assert_replaced(rt, alloc, (line, ""), fault)?;
+    assert_replaced(rt, alloc, (line, "x\n"), fault)
 }
 
 /// L1: at the first line, at that behind the text, and at each line between.
@@ -33,10 +41,7 @@ fn places_of_bad_lines(rt: HostRuntime) -> Result<(), Fail> {
         ("012101 273.15\n", "L1 BadLine 14"),
         ("end\n", "L1 BadLine 15"),
     ] {
-        let without = SEQUENCES_LISTED.replacen(alloc, line, "", 1)?;
-        assert_read(&rt, alloc, without.as_str(), fault)?;
-        let instead = SEQUENCES_LISTED.replacen(alloc, line, "x\n", 1)?;
-        assert_read(&rt, alloc, instead.as_str(), fault)?;
+        assert_line(&rt, alloc, line, fault)?;
     }
     Ok(())
 }
@@ -53,8 +58,7 @@ fn places_of_bad_values(rt: HostRuntime) -> Result<(), Fail> {
         ("001001 10\n", "001001 127\n", "L2 BadValue 7"),
         ("012101 273.15\n", "012101 273.15 \n", "L2 BadValue 14"),
     ] {
-        let text = SEQUENCES_LISTED.replacen(alloc, line, instead, 1)?;
-        assert_read(&rt, alloc, text.as_str(), fault)?;
+        assert_replaced(&rt, alloc, (line, instead), fault)?;
     }
     Ok(())
 }

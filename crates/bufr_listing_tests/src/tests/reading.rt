@@ -2,23 +2,48 @@
 
 use super::samples::{HEAD, SEQUENCES_LISTED, tables};
 use bufr_listing::{ListingFault, read, text_of};
+use bufr_sections::Message;
 use bufr_tables::Failure;
 use std::alloc::Global;
 use std::process::Abort;
 use std::test::Fail;
 
+/// The messages that a text lists by the tables of the tests, or its fault.
+fn read_text(
+    alloc: Global,
+    text: &str,
+) -> Result<Result<Vec<Message>, Failure<ListingFault>>, Fail> {
+    let tables = tables(alloc)?;
+    Ok(read(alloc, &tables, text.as_bytes()))
+}
+
+/// The joined listings of messages.
+fn joined(alloc: Global, messages: &[Message]) -> Result<String, Fail> {
+    let mut all = Vec::new(alloc);
+    for message in messages {
+        push_listing(alloc, &mut all, message)?;
+    }
+    Ok(String::from_utf8(all)?)
+}
+
+/// The listing of a message is added.
+fn push_listing(alloc: Global, all: &mut Vec<u8>, message: &Message) -> Result<(), Fail> {
+    let listing = text_of(alloc, message)?;
+    all.extend_from_slice(&listing)?;
+    Ok(())
+}
+
 /// The joined listings of the messages that a text lists, or its fault.
-pub(super) fn listed_again(alloc: Global, text: &str) -> Result<String, Fail> {
-    match read(alloc, &tables(alloc)?, text.as_bytes()) {
-        Ok(messages) => {
-            let mut all = Vec::new(alloc);
-            for message in &messages {
-                all.extend_from_slice(&text_of(alloc, message)?)?;
-            }
-            Ok(String::from_utf8(all)?)
-        }
+fn listed_again(alloc: Global, text: &str) -> Result<String, Fail> {
+    match read_text(alloc, text)? {
+        Ok(messages) => joined(alloc, &messages),
         Err(fault) => Ok(fault.to_string(alloc)?),
     }
+}
+
+/// Stops the test where what was found at a text is not what was wanted.
+fn same_at(rt: &impl Abort, text: &str, found: &str, wanted: &str) {
+    assert_eq!(rt; found, wanted, "at {text}");
 }
 
 /// A text is read, and its messages are listed so, or it is refused so.
@@ -28,52 +53,85 @@ pub(super) fn assert_read(
     text: &str,
     wanted: &str,
 ) -> Result<(), Fail> {
-    assert_eq!(rt; listed_again(alloc, text)?.as_str(), wanted, "at {text}");
+    let found = listed_again(alloc, text)?;
+    same_at(rt, text, found.as_str(), wanted);
     Ok(())
 }
 
-/// The head of a message and these lines.
-pub(super) fn behind_head(alloc: Global, lines: &str) -> Result<String, Fail> {
+/// A text is read as itself, or refused so.
+fn assert_text(rt: &impl Abort, alloc: Global, text: &str, fault: &str) -> Result<(), Fail> {
+    let wanted = if fault.is_empty() { text } else { fault };
+    assert_read(rt, alloc, text, wanted)
+}
+
+/// The plain subset of sequences with other words at the first place of these is read as itself, or
+/// refused so.
+pub(super) fn assert_replaced(
+    rt: &impl Abort,
+    alloc: Global,
+    (words, others): (&str, &str),
+    fault: &str,
+) -> Result<(), Fail> {
+    let text = SEQUENCES_LISTED.replacen(alloc, words, others, 1)?;
+    assert_text(rt, alloc, text.as_str(), fault)
+}
+
+/// A front and the lines behind it.
+fn fronted(alloc: Global, front: &str, lines: &str) -> Result<String, Fail> {
     let mut text = String::new(alloc);
-    text.push_str(HEAD)?;
+    text.push_str(front)?;
     text.push_str(lines)?;
     Ok(text)
 }
 
-/// The same lines behind the head are read as themselves, or refused so.
+/// A front and the lines behind it are read as themselves, or refused so.
+fn assert_fronted(
+    rt: &impl Abort,
+    alloc: Global,
+    front: &str,
+    (lines, fault): (&str, &str),
+) -> Result<(), Fail> {
+    let text = fronted(alloc, front, lines)?;
+    assert_text(rt, alloc, text.as_str(), fault)
+}
+
+/// The lines behind the head are read as themselves, or refused so.
 pub(super) fn assert_behind(
     rt: &impl Abort,
     alloc: Global,
     lines: &str,
     fault: &str,
 ) -> Result<(), Fail> {
-    let text = behind_head(alloc, lines)?;
-    let wanted = if fault.is_empty() {
-        text.as_str()
-    } else {
-        fault
-    };
-    assert_read(rt, alloc, text.as_str(), wanted)
+    assert_fronted(rt, alloc, HEAD, (lines, fault))
+}
+
+/// A front and each of these lines behind it are read as themselves, or refused so.
+fn assert_each(
+    rt: &impl Abort,
+    alloc: Global,
+    front: &str,
+    cases: &[(&str, &str)],
+) -> Result<(), Fail> {
+    for &case in cases {
+        assert_fronted(rt, alloc, front, case)?;
+    }
+    Ok(())
 }
 
 #[test]
 fn listing_faults(rt: HostRuntime) -> Result<(), Fail> {
     let alloc = rt.alloc();
     assert_read(&rt, alloc, SEQUENCES_LISTED, SEQUENCES_LISTED)?;
-    let without_end = SEQUENCES_LISTED.replacen(alloc, "end\n", "", 1)?;
-    assert_read(&rt, alloc, without_end.as_str(), "L1 BadLine 15")?;
+    assert_replaced(&rt, alloc, ("end\n", ""), "L1 BadLine 15")?;
     assert_behind(
         &rt,
         alloc,
         "descriptors 001250\n",
         "L3 Refused 5 X1 UnknownElement 001250",
     )?;
-    let large = SEQUENCES_LISTED.replacen(alloc, "273.15", "655.35", 1)?;
-    assert_read(&rt, alloc, large.as_str(), "L2 BadValue 14")?;
-    let short = SEQUENCES_LISTED.replacen(alloc, "273.15", "273.1", 1)?;
-    assert_read(&rt, alloc, short.as_str(), "L2 BadValue 14")?;
-    let missing = SEQUENCES_LISTED.replacen(alloc, "273.15", "missing", 1)?;
-    assert_read(&rt, alloc, missing.as_str(), missing.as_str())
+    assert_replaced(&rt, alloc, ("273.15", "655.35"), "L2 BadValue 14")?;
+    assert_replaced(&rt, alloc, ("273.15", "273.1"), "L2 BadValue 14")?;
+    assert_replaced(&rt, alloc, ("273.15", "missing"), "")
 }
 
 #[test]
@@ -105,99 +163,95 @@ fn ends_of_lines_comments_and_blocks(rt: HostRuntime) -> Result<(), Fail> {
     assert_read(&rt, alloc, blocks, blocks)
 }
 
+/// Texts whose fault is in the head, at one of the first lines.
+const HEAD_LINES: [(&str, &str); 17] = [
+    ("mesage\n", "L1 BadLine 1"),
+    ("message \n", "L1 BadLine 1"),
+    ("\n\nx", "L1 BadLine 3"),
+    ("message\n", "L1 BadLine 2"),
+    ("message\n\n# x\n", "L1 BadLine 4"),
+    ("message\nsection1 1 2 3 4 5 6 7\n", "L1 BadLine 2"),
+    ("message\nsection1 1 2 3 4 5 6 7 8 9\n", "L1 BadLine 2"),
+    ("message\nsection1 65536 2 3 4 5 6 7 8\n", "L2 BadValue 2"),
+    (
+        "message\nsection1 65535 65535 255 255 255 255 255 255\n",
+        "L1 BadLine 3",
+    ),
+    ("message\nsection1 1 2 256 4 5 6 7 8\n", "L2 BadValue 2"),
+    ("message\nsection1 1 2 3 4 5 6 7 256\n", "L2 BadValue 2"),
+    ("message\nsection1 01 2 3 4 5 6 7 8\n", "L2 BadValue 2"),
+    ("message\nsection1 1 2 3 4 5 6 7 -0\n", "L2 BadValue 2"),
+    ("message\nsection1 1 2 3 4 5 6  8\n", "L2 BadValue 2"),
+    (
+        "message\nsection1 1 2 3 4 5 6 7 8\ntime 65536 1 1 1 1 1\n",
+        "L2 BadValue 3",
+    ),
+    (
+        "message\nsection1 1 2 3 4 5 6 7 8\ntime 2024 1 1 1 1 256\n",
+        "L2 BadValue 3",
+    ),
+    (
+        "message\nsection1 1 2 3 4 5 6 7 8\ntime 2024 1 1 1 1\n",
+        "L1 BadLine 3",
+    ),
+];
+
 #[test]
 fn lines_of_the_head(rt: HostRuntime) -> Result<(), Fail> {
-    let alloc = rt.alloc();
-    for (text, fault) in [
-        ("mesage\n", "L1 BadLine 1"),
-        ("message \n", "L1 BadLine 1"),
-        ("\n\nx", "L1 BadLine 3"),
-        ("message\n", "L1 BadLine 2"),
-        ("message\n\n# x\n", "L1 BadLine 4"),
-        ("message\nsection1 1 2 3 4 5 6 7\n", "L1 BadLine 2"),
-        ("message\nsection1 1 2 3 4 5 6 7 8 9\n", "L1 BadLine 2"),
-        ("message\nsection1 65536 2 3 4 5 6 7 8\n", "L2 BadValue 2"),
-        (
-            "message\nsection1 65535 65535 255 255 255 255 255 255\n",
-            "L1 BadLine 3",
-        ),
-        ("message\nsection1 1 2 256 4 5 6 7 8\n", "L2 BadValue 2"),
-        ("message\nsection1 1 2 3 4 5 6 7 256\n", "L2 BadValue 2"),
-        ("message\nsection1 01 2 3 4 5 6 7 8\n", "L2 BadValue 2"),
-        ("message\nsection1 1 2 3 4 5 6 7 -0\n", "L2 BadValue 2"),
-        ("message\nsection1 1 2 3 4 5 6  8\n", "L2 BadValue 2"),
-        (
-            "message\nsection1 1 2 3 4 5 6 7 8\ntime 65536 1 1 1 1 1\n",
-            "L2 BadValue 3",
-        ),
-        (
-            "message\nsection1 1 2 3 4 5 6 7 8\ntime 2024 1 1 1 1 256\n",
-            "L2 BadValue 3",
-        ),
-        (
-            "message\nsection1 1 2 3 4 5 6 7 8\ntime 2024 1 1 1 1\n",
-            "L1 BadLine 3",
-        ),
-    ] {
-        assert_read(&rt, alloc, text, fault)?;
-    }
-    Ok(())
+    assert_each(&rt, rt.alloc(), "", &HEAD_LINES)
 }
 
-/// The lines behind the first two of a head are refused so.
-fn assert_third(rt: &impl Abort, alloc: Global, lines: &str, fault: &str) -> Result<(), Fail> {
-    let mut text = String::new(alloc);
-    text.push_str("message\nsection1 1 2 3 4 5 6 7 8\ntime 9 10 11 12 13 14\n")?;
-    text.push_str(lines)?;
-    assert_read(rt, alloc, text.as_str(), fault)
-}
+/// The lines of a head before those that may be absent.
+const NUMBERS: &str = "\
+message
+section1 1 2 3 4 5 6 7 8
+time 9 10 11 12 13 14
+";
+
+/// Lines behind those, with their fault.
+const LATER_LINES: [(&str, &str); 27] = [
+    ("local1\n", "L1 BadLine 4"),
+    ("local1 \n", "L2 BadValue 4"),
+    ("local1 a\n", "L2 BadValue 4"),
+    ("local1 ag\n", "L2 BadValue 4"),
+    ("local1 ab cd\n", "L1 BadLine 4"),
+    ("local1 ab\nlocal1 ab\n", "L1 BadLine 5"),
+    ("section2 \n", "L2 BadValue 4"),
+    ("section2 0\n", "L2 BadValue 4"),
+    ("section2 00 00\n", "L1 BadLine 4"),
+    ("section2 00\nlocal1 00\n", "L1 BadLine 5"),
+    ("flags \n", "L2 BadValue 4"),
+    ("flags compressed observed\n", "L2 BadValue 4"),
+    ("flags observed observed\n", "L2 BadValue 4"),
+    ("flags obs\n", "L2 BadValue 4"),
+    ("flags observed compressed x\n", "L1 BadLine 4"),
+    ("flagsx\n", "L1 BadLine 4"),
+    ("flags\ndescriptors\n", "L1 BadLine 5"),
+    ("flags\ndescriptors \n", "L1 BadLine 5"),
+    ("flags\ndescriptors 001001 \n", "L1 BadLine 5"),
+    ("flags\ndescriptors 001001  001002\n", "L1 BadLine 5"),
+    ("flags\ndescriptors 01001\n", "L1 BadLine 5"),
+    ("flags\ndescriptors 401001\n", "L1 BadLine 5"),
+    ("flags\ndescriptors 001250 x\n", "L1 BadLine 5"),
+    (
+        "flags\ndescriptors 302001\n",
+        "L3 Refused 5 X2 UnknownSequence 302001",
+    ),
+    ("flags\ndescriptors 001001\n", "L1 BadLine 6"),
+    ("flags\ndescriptors 001001\nEND\n", "L1 BadLine 6"),
+    ("flags\ndescriptors 001001\nsubset\n", "L1 BadLine 7"),
+];
 
 #[test]
 fn lines_of_octets_flags_and_descriptors(rt: HostRuntime) -> Result<(), Fail> {
-    let alloc = rt.alloc();
-    for (lines, fault) in [
-        ("local1\n", "L1 BadLine 4"),
-        ("local1 \n", "L2 BadValue 4"),
-        ("local1 a\n", "L2 BadValue 4"),
-        ("local1 ag\n", "L2 BadValue 4"),
-        ("local1 ab cd\n", "L1 BadLine 4"),
-        ("local1 ab\nlocal1 ab\n", "L1 BadLine 5"),
-        ("section2 \n", "L2 BadValue 4"),
-        ("section2 0\n", "L2 BadValue 4"),
-        ("section2 00 00\n", "L1 BadLine 4"),
-        ("section2 00\nlocal1 00\n", "L1 BadLine 5"),
-        ("flags \n", "L2 BadValue 4"),
-        ("flags compressed observed\n", "L2 BadValue 4"),
-        ("flags observed observed\n", "L2 BadValue 4"),
-        ("flags obs\n", "L2 BadValue 4"),
-        ("flags observed compressed x\n", "L1 BadLine 4"),
-        ("flagsx\n", "L1 BadLine 4"),
-        ("flags\ndescriptors\n", "L1 BadLine 5"),
-        ("flags\ndescriptors \n", "L1 BadLine 5"),
-        ("flags\ndescriptors 001001 \n", "L1 BadLine 5"),
-        ("flags\ndescriptors 001001  001002\n", "L1 BadLine 5"),
-        ("flags\ndescriptors 01001\n", "L1 BadLine 5"),
-        ("flags\ndescriptors 401001\n", "L1 BadLine 5"),
-        ("flags\ndescriptors 001250 x\n", "L1 BadLine 5"),
-        (
-            "flags\ndescriptors 302001\n",
-            "L3 Refused 5 X2 UnknownSequence 302001",
-        ),
-        ("flags\ndescriptors 001001\n", "L1 BadLine 6"),
-        ("flags\ndescriptors 001001\nEND\n", "L1 BadLine 6"),
-        ("flags\ndescriptors 001001\nsubset\n", "L1 BadLine 7"),
-    ] {
-        assert_third(&rt, alloc, lines, fault)?;
-    }
-    Ok(())
+    assert_each(&rt, rt.alloc(), NUMBERS, &LATER_LINES)
 }
 
 /// A line has the field's descriptor, one space and its value, and there are as many as the tree
 /// asks for.
 #[test]
 fn lines_of_fields(rt: HostRuntime) -> Result<(), Fail> {
-    let alloc = rt.alloc();
-    for (lines, fault) in [
+    let cases = [
         ("descriptors 001001\nsubset\n001001\n", "L1 BadLine 7"),
         ("descriptors 001001\nsubset\n001002 1\n", "L1 BadLine 7"),
         ("descriptors 001001\nsubset\n001001 \n", "L2 BadValue 7"),
@@ -225,17 +279,14 @@ fn lines_of_fields(rt: HostRuntime) -> Result<(), Fail> {
             "descriptors 001001\nsubset\n001001 1\nend\nx",
             "L1 BadLine 9",
         ),
-    ] {
-        assert_behind(&rt, alloc, lines, fault)?;
-    }
-    Ok(())
+    ];
+    assert_each(&rt, rt.alloc(), HEAD, &cases)
 }
 
 /// The greatest number of 63 bits is missing, and no greater one can be read.
 #[test]
 fn lines_of_large_numbers(rt: HostRuntime) -> Result<(), Fail> {
-    let alloc = rt.alloc();
-    for (lines, fault) in [
+    let cases = [
         (
             "descriptors 048001\nsubset\n048001 9223372036854775806\nend\n",
             "",
@@ -252,17 +303,14 @@ fn lines_of_large_numbers(rt: HostRuntime) -> Result<(), Fail> {
             "descriptors 048001\nsubset\n048001 999999999999999999999999999999999999999999\n",
             "L2 BadValue 7",
         ),
-    ] {
-        assert_behind(&rt, alloc, lines, fault)?;
-    }
-    Ok(())
+    ];
+    assert_each(&rt, rt.alloc(), HEAD, &cases)
 }
 
 /// Numbers at both ends of their ranges, by reference and by scale.
 #[test]
 fn lines_of_references(rt: HostRuntime) -> Result<(), Fail> {
-    let alloc = rt.alloc();
-    for (lines, fault) in [
+    let cases = [
         ("descriptors 007001\nsubset\n007001 -400\nend\n", ""),
         (
             "descriptors 007001\nsubset\n007001 -401\nend\n",
@@ -292,17 +340,14 @@ fn lines_of_references(rt: HostRuntime) -> Result<(), Fail> {
             "descriptors 010004\nsubset\n010004 00\nend\n",
             "L2 BadValue 7",
         ),
-    ] {
-        assert_behind(&rt, alloc, lines, fault)?;
-    }
-    Ok(())
+    ];
+    assert_each(&rt, rt.alloc(), HEAD, &cases)
 }
 
 /// A count that is never missing, and the fields that stand as often as it says.
 #[test]
 fn lines_of_counts(rt: HostRuntime) -> Result<(), Fail> {
-    let alloc = rt.alloc();
-    for (lines, fault) in [
+    let cases = [
         ("descriptors 031000\nsubset\n031000 1\nend\n", ""),
         (
             "descriptors 031000\nsubset\n031000 missing\nend\n",
@@ -324,32 +369,26 @@ fn lines_of_counts(rt: HostRuntime) -> Result<(), Fail> {
             "descriptors 101000 031001 001001\nsubset\n031001 2\n001001 1\nend\n",
             "L1 BadLine 9",
         ),
-    ] {
-        assert_behind(&rt, alloc, lines, fault)?;
-    }
-    Ok(())
+    ];
+    assert_each(&rt, rt.alloc(), HEAD, &cases)
 }
 
 /// An element of a width of its own, and one whose width and scale are changed.
 #[test]
 fn lines_under_operators(rt: HostRuntime) -> Result<(), Fail> {
-    let alloc = rt.alloc();
-    for (lines, fault) in [
+    let cases = [
         ("descriptors 206012 001250\nsubset\n001250 5\nend\n", ""),
         (
             "descriptors 201130 202129 012101 201000 202000 012101\nsubset\n012101 250.000\n012101 273.15\nend\n",
             "",
         ),
-    ] {
-        assert_behind(&rt, alloc, lines, fault)?;
-    }
-    Ok(())
+    ];
+    assert_each(&rt, rt.alloc(), HEAD, &cases)
 }
 
 #[test]
 fn walks_that_stop(rt: HostRuntime) -> Result<(), Fail> {
-    let alloc = rt.alloc();
-    for (lines, fault) in [
+    let cases = [
         (
             "descriptors 001001 012250\nsubset\n001001 1\nx",
             "L3 Refused 8 V1 EffectiveRange 012250",
@@ -370,17 +409,14 @@ fn walks_that_stop(rt: HostRuntime) -> Result<(), Fail> {
             "descriptors 105255 104255 103255 102255 101255 201000\nsubset\n\n\n#\nx",
             "L3 Refused 10 V6 TooLarge",
         ),
-    ] {
-        assert_behind(&rt, alloc, lines, fault)?;
-    }
-    Ok(())
+    ];
+    assert_each(&rt, rt.alloc(), HEAD, &cases)
 }
 
 /// One character between quotes, and a text that is missing.
 #[test]
 fn texts_between_quotes(rt: HostRuntime) -> Result<(), Fail> {
-    let alloc = rt.alloc();
-    for (lines, fault) in [
+    let cases = [
         ("descriptors 208001 001011\nsubset\n001011 \"a\"\nend\n", ""),
         (
             "descriptors 208001 001011\nsubset\n001011 missing\nend\n",
@@ -406,17 +442,14 @@ fn texts_between_quotes(rt: HostRuntime) -> Result<(), Fail> {
             "descriptors 208001 001011\nsubset\n001011 \"a\" \nend\n",
             "L2 BadValue 7",
         ),
-    ] {
-        assert_behind(&rt, alloc, lines, fault)?;
-    }
-    Ok(())
+    ];
+    assert_each(&rt, rt.alloc(), HEAD, &cases)
 }
 
 /// A character is escaped exactly where it does not stand for itself.
 #[test]
 fn texts_of_escapes(rt: HostRuntime) -> Result<(), Fail> {
-    let alloc = rt.alloc();
-    for (lines, fault) in [
+    let cases = [
         (
             "descriptors 208001 001011\nsubset\n001011 \"\\ff\"\nend\n",
             "L2 BadValue 7",
@@ -441,10 +474,8 @@ fn texts_of_escapes(rt: HostRuntime) -> Result<(), Fail> {
             "descriptors 208002 001011\nsubset\n001011 \"\\ff\\fe\"\nend\n",
             "",
         ),
-    ] {
-        assert_behind(&rt, alloc, lines, fault)?;
-    }
-    Ok(())
+    ];
+    assert_each(&rt, rt.alloc(), HEAD, &cases)
 }
 
 /// One character: itself where it can be printed, else its digits.
@@ -459,21 +490,26 @@ fn push_character(alloc: Global, text: &mut String, octet: u8) -> Result<(), Fai
     Ok(())
 }
 
-#[test]
-fn texts_of_every_octet(rt: HostRuntime) -> Result<(), Fail> {
-    let alloc = rt.alloc();
+/// A subset of one text of every octet but the greatest.
+fn every_octet(alloc: Global) -> Result<String, Fail> {
     let mut lines = String::new(alloc);
     lines.push_str("descriptors 205255\nsubset\n205255 \"")?;
     for octet in 0..255u8 {
         push_character(alloc, &mut lines, octet)?;
     }
     lines.push_str("\"\nend\n")?;
-    assert_behind(&rt, alloc, lines.as_str(), "")
+    Ok(lines)
 }
 
 #[test]
-fn a_thousand_subsets(rt: HostRuntime) -> Result<(), Fail> {
+fn texts_of_every_octet(rt: HostRuntime) -> Result<(), Fail> {
     let alloc = rt.alloc();
+    let lines = every_octet(alloc)?;
+    assert_behind(&rt, alloc, lines.as_str(), "")
+}
+
+/// A thousand subsets of two fields.
+fn thousand_pairs(alloc: Global) -> Result<String, Fail> {
     let mut lines = String::new(alloc);
     lines.push_str("descriptors 012101 001001\n")?;
     for n in 0..1000u32 {
@@ -481,14 +517,20 @@ fn a_thousand_subsets(rt: HostRuntime) -> Result<(), Fail> {
         write!(lines, "subset\n012101 {kelvins}.{rest}7\n001001 {block}\n")?;
     }
     lines.push_str("end\n")?;
+    Ok(lines)
+}
+
+#[test]
+fn a_thousand_subsets(rt: HostRuntime) -> Result<(), Fail> {
+    let alloc = rt.alloc();
+    let lines = thousand_pairs(alloc)?;
     let wanted = lines.replacen(alloc, "001001 127", "001001 missing", 1)?;
     assert_behind(&rt, alloc, wanted.as_str(), "")
 }
 
 #[test]
 fn first_faults_as_values(rt: HostRuntime) -> Result<(), Fail> {
-    let alloc = rt.alloc();
-    let answer = read(alloc, &tables(alloc)?, b"messag\n");
+    let answer = read_text(rt.alloc(), "messag\n")?;
     assert!(rt; matches!(answer, Err(Failure::Fault(ListingFault::BadLine(1)))));
     Ok(())
 }

@@ -1,5 +1,7 @@
 //! The tables and listings of the tests.
 
+use bufr_listing::read;
+use bufr_sections::Message;
 use bufr_tables::{TableB, TableD, Tables};
 use std::alloc::Global;
 use std::test::Fail;
@@ -45,6 +47,25 @@ pub(super) fn tables(alloc: Global) -> Result<Tables, Fail> {
     let b = TableB::parse(alloc, ELEMENTS.as_bytes())?;
     let d = TableD::parse(alloc, SEQUENCES.as_bytes())?;
     Ok(Tables::new(b, d))
+}
+
+/// The first message that a text lists.
+pub(super) fn first_message(alloc: Global, text: &str) -> Result<Message, Fail> {
+    let tables = tables(alloc)?;
+    let messages = read(alloc, &tables, text.as_bytes())?;
+    Ok(messages.into_iter().next().ok_or("a message")?)
+}
+
+/// A part is added so many times.
+pub(super) fn push_times(
+    alloc: Global,
+    text: &mut String,
+    part: &str,
+    times: usize,
+) -> Result<(), Fail> {
+    let repeated = part.repeat(alloc, times)?;
+    text.push_str(repeated.as_str())?;
+    Ok(())
 }
 
 /// One plain subset of sequences.

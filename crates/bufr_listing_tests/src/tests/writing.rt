@@ -1,10 +1,11 @@
 //! Listings that are written.
 
-use super::samples::{SEQUENCES_LISTED, tables};
+use super::same;
+use super::samples::{SEQUENCES_LISTED, first_message};
 use bufr_bits::device::IntoWrite;
 use bufr_data::{Field, Raw, Subset};
 use bufr_expand::Spec;
-use bufr_listing::{ListingWriteFault, read, text_of, write_message};
+use bufr_listing::{ListingWriteFault, text_of, write_message};
 use bufr_sections::{Head, Message};
 use bufr_tables::{Fxy, Items, Kind};
 use std::alloc::Global;
@@ -33,8 +34,9 @@ fn items(alloc: Global, octets: &[u8]) -> Result<Items<u8>, Fail> {
     Ok(Items::from_vec(octets.to_vec(alloc)?))
 }
 
-/// Section 1 with another number in each place.
-fn head(alloc: Global) -> Result<Head, Fail> {
+/// Section 1 with another number in each place, and these octets for local use.
+fn head(alloc: Global, local: &[u8]) -> Result<Head, Fail> {
+    let local = items(alloc, local)?;
     Ok(Head {
         centre: 300,
         sub_centre: 301,
@@ -50,73 +52,110 @@ fn head(alloc: Global) -> Result<Head, Fail> {
         hour: 10,
         minute: 11,
         second: 12,
-        local: items(alloc, &[0x0F, 0xA0])?,
+        local,
     })
 }
 
-/// A message of one subset with a field of each kind of value.
-fn message(alloc: Global) -> Result<Message, Fail> {
-    let mut fields = Vec::new(alloc);
+/// A text in which each character that is quoted stands beside its neighbours that are not.
+fn text_field(alloc: Global) -> Result<Field, Fail> {
     let quoted = [
         0x1F, 0x20, 0x21, 0x22, 0x23, 0x5B, 0x5C, 0x5D, 0x7E, 0x7F, 0x80, 0xFF,
     ];
     let text = Raw::Text(items(alloc, quoted.as_slice())?);
-    fields.push(field(0x010B, Kind::Text, 0, 0, 96, text))?;
-    fields.push(field(0x0502, Kind::Quantity, 2, -9000, 15, Raw::Number(8999)))?;
-    fields.push(field(0x0701, Kind::Quantity, 0, -400, 15, Raw::Number(0)))?;
-    fields.push(field(0x0A04, Kind::Quantity, -1, 0, 14, Raw::Number(10132)))?;
-    fields.push(field(0x0A04, Kind::Quantity, -1, 0, 14, Raw::Number(0)))?;
-    fields.push(field(0x0A04, Kind::Quantity, -1, 0, 14, Raw::Number(16383)))?;
-    let mut subsets = Vec::new(alloc);
-    let fields = Items::from_vec(fields);
-    subsets.push(Subset { fields })?;
+    Ok(field(0x010B, Kind::Text, 0, 0, 96, text))
+}
+
+/// A field of each kind of value.
+fn fields(alloc: Global) -> Result<Items<Field>, Fail> {
+    let mut fields = Vec::new(alloc);
+    fields.push(text_field(alloc)?)?;
+    for (fxy, scale, reference, width, number) in [
+        (0x0502u16, 2i32, -9000i64, 15u32, 8999u64),
+        (0x0701, 0, -400, 15, 0),
+        (0x0A04, -1, 0, 14, 10132),
+        (0x0A04, -1, 0, 14, 0),
+        (0x0A04, -1, 0, 14, 16383),
+    ] {
+        let raw = Raw::Number(number);
+        fields.push(field(fxy, Kind::Quantity, scale, reference, width, raw))?;
+    }
+    Ok(Items::from_vec(fields))
+}
+
+/// The descriptors of the messages.
+fn descriptors(alloc: Global) -> Result<Items<Fxy>, Fail> {
     let descriptors = [Fxy::from_bits(0xC101), Fxy::from_bits(0x0C65)];
+    Ok(Items::from_vec(descriptors.to_vec(alloc)?))
+}
+
+/// A message of one subset with a field of each kind of value.
+fn message(alloc: Global) -> Result<Message, Fail> {
+    let fields = fields(alloc)?;
+    let mut subsets = Vec::new(alloc);
+    subsets.push(Subset { fields })?;
     Ok(Message {
-        head: head(alloc)?,
+        head: head(alloc, &[0x0F, 0xA0])?,
         section2: Some(items(alloc, &[0x01])?),
         observed: true,
         compressed: true,
-        descriptors: Items::from_vec(descriptors.to_vec(alloc)?),
+        descriptors: descriptors(alloc)?,
         subsets: Items::from_vec(subsets),
     })
 }
 
+/// A message is listed so.
+pub(super) fn assert_listed(
+    rt: &impl Abort,
+    alloc: Global,
+    message: &Message,
+    wanted: &str,
+) -> Result<(), Fail> {
+    let listing = text_of(alloc, message)?;
+    same(rt, listing.as_slice(), wanted.as_bytes());
+    Ok(())
+}
+
 #[test]
 fn each_part_has_its_place(rt: HostRuntime) -> Result<(), Fail> {
-    let listing = text_of(rt.alloc(), &message(rt.alloc())?)?;
     let wanted =
         "message\nsection1 300 301 2 3 4 5 6 7\ntime 2024 8 9 10 11 12\nlocal1 0fa0\nsection2 01\nflags observed compressed\ndescriptors 301001 012101\nsubset\n001011 \"\\1f !\\22#[\\5c]~\\7f\\80\\ff\"\n005002 -0.01\n007001 -400\n010004 101320\n010004 0\n010004 missing\nend\n";
-    assert_eq!(rt; listing.as_slice(), wanted.as_bytes());
-    Ok(())
+    let message = message(rt.alloc())?;
+    assert_listed(&rt, rt.alloc(), &message, wanted)
+}
+
+/// The message without octets for local use and without subsets, with this section 2 and these
+/// flags, is listed so.
+fn assert_bare(
+    rt: &impl Abort,
+    alloc: Global,
+    section2: Option<Items<u8>>,
+    (observed, compressed): (bool, bool),
+    wanted: &str,
+) -> Result<(), Fail> {
+    let bare = Message {
+        head: head(alloc, &[])?,
+        section2,
+        observed,
+        compressed,
+        descriptors: descriptors(alloc)?,
+        subsets: Items::from_vec(Vec::new(alloc)),
+    };
+    assert_listed(rt, alloc, &bare, wanted)
 }
 
 #[test]
 fn what_may_be_absent(rt: HostRuntime) -> Result<(), Fail> {
     let alloc = rt.alloc();
-    let mut bare = message(alloc)?;
-    bare.head.local = Items::from_vec(Vec::new(alloc));
-    bare.section2 = None;
-    bare.observed = false;
-    bare.compressed = false;
-    bare.subsets = Items::from_vec(Vec::new(alloc));
-    let listing = text_of(alloc, &bare)?;
     let wanted =
         "message\nsection1 300 301 2 3 4 5 6 7\ntime 2024 8 9 10 11 12\nflags\ndescriptors 301001 012101\nend\n";
-    assert_eq!(rt; listing.as_slice(), wanted.as_bytes());
-    bare.section2 = Some(Items::from_vec(Vec::new(alloc)));
-    bare.compressed = true;
-    let listing = text_of(alloc, &bare)?;
+    assert_bare(&rt, alloc, None, (false, false), wanted)?;
     let wanted =
         "message\nsection1 300 301 2 3 4 5 6 7\ntime 2024 8 9 10 11 12\nsection2\nflags compressed\ndescriptors 301001 012101\nend\n";
-    assert_eq!(rt; listing.as_slice(), wanted.as_bytes());
-    bare.section2 = None;
-    bare.observed = true;
-    bare.compressed = false;
-    let listing = text_of(alloc, &bare)?;
+    let empty = Some(Items::from_vec(Vec::new(alloc)));
+    assert_bare(&rt, alloc, empty, (false, true), wanted)?;
     let wanted =
         "message\nsection1 300 301 2 3 4 5 6 7\ntime 2024 8 9 10 11 12\nflags observed\ndescriptors 301001 012101\nend\n";
-    assert_eq!(rt; listing.as_slice(), wanted.as_bytes());
-    Ok(())
+    assert_bare(&rt, alloc, None, (true, false), wanted)
 }
 
 /// A writer that has room for so many octets more, and takes at most 50 at a time.
@@ -141,6 +180,18 @@ impl Write for Narrow {
     }
 }
 
+/// The answer of writing a message to a writer with so much room, and what the writer took.
+fn written(
+    alloc: Global,
+    message: &Message,
+    room: usize,
+) -> (Result<(), ListingWriteFault>, Vec<u8>) {
+    let taken = Vec::new(alloc);
+    let mut sink = IntoWrite::new(Narrow { taken, room });
+    let answer = write_message(alloc, message, &mut sink);
+    (answer, sink.into_inner().taken)
+}
+
 /// The listing is written to a writer with so much room: the front that the writer takes is this
 /// one, and the answer is this.
 fn assert_front(
@@ -149,16 +200,11 @@ fn assert_front(
     room: usize,
     answer: Result<(), ListingWriteFault>,
 ) -> Result<(), Fail> {
-    let messages = read(alloc, &tables(alloc)?, SEQUENCES_LISTED.as_bytes())?;
-    let message = messages.first().ok_or("a message")?;
-    let taken = Vec::new(alloc);
-    let mut sink = IntoWrite::new(Narrow { taken, room });
-    assert_eq!(rt; write_message(alloc, message, &mut sink), answer);
+    let message = first_message(alloc, SEQUENCES_LISTED)?;
+    let (found, taken) = written(alloc, &message, room);
+    same(rt, found, answer);
     let front = SEQUENCES_LISTED.len().min(room);
-    assert_eq!(rt;
-        sink.into_inner().taken.as_slice(),
-        &SEQUENCES_LISTED.as_bytes()[..front]
-    );
+    same(rt, taken.as_slice(), &SEQUENCES_LISTED.as_bytes()[..front]);
     Ok(())
 }
 
@@ -173,15 +219,22 @@ fn written_to_narrow_writers(rt: HostRuntime) -> Result<(), Fail> {
     assert_front(&rt, rt.alloc(), 1000, Ok(()))
 }
 
+/// A fault is printed so.
+fn assert_printed(
+    rt: &impl Abort,
+    alloc: Global,
+    fault: ListingWriteFault,
+    wanted: &str,
+) -> Result<(), Fail> {
+    let text = fault.to_string(alloc)?;
+    same(rt, text.as_str(), wanted);
+    Ok(())
+}
+
 #[test]
 fn faults_of_writing_are_printed(rt: HostRuntime) -> Result<(), Fail> {
-    let alloc = rt.alloc();
     let failed = ListingWriteFault::WriteFailed { written: 235 };
-    assert_eq!(rt;
-        failed.to_string(alloc)?.as_str(),
-        "write failed after 235 octets"
-    );
+    assert_printed(&rt, rt.alloc(), failed, "write failed after 235 octets")?;
     let refused = ListingWriteFault::OutOfMemory;
-    assert_eq!(rt; refused.to_string(alloc)?.as_str(), "out of memory");
-    Ok(())
+    assert_printed(&rt, rt.alloc(), refused, "out of memory")
 }

@@ -1,11 +1,11 @@
 //! Compressed messages that are read, written and refused. Octets and answers are typed from the
 //! rules of the format.
 
-use super::samples::{
-    COMPRESSED_PAIR, COMPRESSED_TEXTS, SEQUENCES, UNEQUAL_COUNTS, octets, tables,
-};
+use super::calls::*;
+use super::samples::{COMPRESSED_PAIR, COMPRESSED_TEXTS, SEQUENCES, UNEQUAL_COUNTS};
+use super::{holds, same};
 use bufr_data::Raw;
-use bufr_message::{Message, decode, encode};
+use bufr_message::Message;
 use bufr_tables::Items;
 use std::alloc::Global;
 use std::process::Abort;
@@ -33,10 +33,10 @@ const FACTOR_WRITTEN: &str = "\
 const COMPRESSED_NOT_A_FACTOR: &str = "\
 42554652 000031 04 | S1 | 000009 00 0002 C0 1F00 | 000006 00 0280 | END";
 
-/// What octets are read as, with no slack.
-fn read(rt: &impl Abort, alloc: Global, text: &str) -> Result<Message, Fail> {
-    let found = decode(alloc, &tables(alloc)?, octets(alloc, text)?.as_slice())?;
-    assert_eq!(rt; found.slack_octets, 0);
+/// The message that octets with no slack are read as.
+fn read_whole(rt: &impl Abort, alloc: Global, text: &str) -> Result<Message, Fail> {
+    let found = read(alloc, text)?;
+    same(rt, found.slack_octets, 0);
     Ok(found.message)
 }
 
@@ -47,71 +47,92 @@ fn assert_numbers(
     subset: usize,
     wanted: &[u64],
 ) -> Result<(), Fail> {
-    let fields = &message.subsets.get(subset).ok_or("subset")?.fields;
-    assert_eq!(rt; fields.len(), wanted.len());
+    let fields = fields_of(message, subset)?;
+    same(rt, fields.len(), wanted.len());
     for (index, number) in wanted.iter().enumerate() {
-        let field = fields.get(index).ok_or("field")?;
-        assert!(rt; field.raw == Raw::Number(*number), "in {field:?}");
+        assert_number(rt, fields.get(index).ok_or("field")?, *number);
     }
     Ok(())
 }
 
-/// The message is written as these octets.
-fn assert_written(
-    rt: &impl Abort,
-    alloc: Global,
-    message: &Message,
-    wanted: &str,
-) -> Result<(), Fail> {
-    let written = encode(alloc, &tables(alloc)?, message)?;
-    assert_eq!(rt; written.as_slice(), octets(alloc, wanted)?.as_slice());
+/// The message has two subsets, whose fields have these numbers.
+fn assert_two(rt: &impl Abort, message: &Message, wanted: [&[u64]; 2]) -> Result<(), Fail> {
+    same(rt, message.subsets.len(), wanted.len());
+    for (subset, numbers) in wanted.into_iter().enumerate() {
+        assert_numbers(rt, message, subset, numbers)?;
+    }
     Ok(())
 }
 
+/// The octets of a text are read as two subsets of these numbers, and then these are written.
+fn assert_read(
+    rt: &impl Abort,
+    alloc: Global,
+    text: &str,
+    numbers: [&[u64]; 2],
+    wanted: &str,
+) -> Result<(), Fail> {
+    let message = read_whole(rt, alloc, text)?;
+    assert_two(rt, &message, numbers)?;
+    assert_written(rt, alloc, &message, wanted)
+}
+
+/// The numbers of the subsets of `COMPRESSED_PAIR`.
+const PAIR_NUMBERS: [&[u64]; 2] = [
+    &[10, 384, 2024, 1, 15, 12, 0, 27315],
+    &[10, 384, 2024, 1, 15, 12, 0, 65535],
+];
+
+/// Those of `COMPRESSED_INCREMENTS`.
+const INCREMENTS_NUMBERS: [&[u64]; 2] = [
+    &[10, 384, 2024, 1, 15, 12, 0, 27315],
+    &[10, 384, 2024, 1, 15, 12, 0, 27316],
+];
+
+/// Those of `COMPRESSED_FACTOR`.
+const FACTOR_NUMBERS: [&[u64]; 2] = [&[0], &[0]];
+
+/// Those of `COMPRESSED_NOT_A_FACTOR`.
+const NOT_A_FACTOR_NUMBERS: [&[u64]; 2] = [&[0], &[1]];
+
 #[test]
 fn compressed_pair(rt: HostRuntime) -> Result<(), Fail> {
-    let message = read(&rt, rt.alloc(), COMPRESSED_PAIR)?;
-    assert!(rt; message.compressed);
-    assert_eq!(rt; message.subsets.len(), 2);
-    assert_numbers(&rt, &message, 0, &[10, 384, 2024, 1, 15, 12, 0, 27315])?;
-    assert_numbers(&rt, &message, 1, &[10, 384, 2024, 1, 15, 12, 0, 65535])?;
-    let second = &message.subsets.get(1).ok_or("subset")?.fields;
-    assert!(rt; second.get(7).ok_or("field")?.is_missing());
-    assert_written(&rt, rt.alloc(), &message, COMPRESSED_PAIR)
+    let pair = COMPRESSED_PAIR;
+    assert_read(&rt, rt.alloc(), pair, PAIR_NUMBERS, pair)?;
+    let message = read_whole(&rt, rt.alloc(), pair)?;
+    holds(&rt, message.compressed);
+    assert_missing(&rt, &message, 1, 7, true)
 }
 
 #[test]
 fn compressed_increments(rt: HostRuntime) -> Result<(), Fail> {
-    let message = read(&rt, rt.alloc(), COMPRESSED_INCREMENTS)?;
-    assert_numbers(&rt, &message, 0, &[10, 384, 2024, 1, 15, 12, 0, 27315])?;
-    assert_numbers(&rt, &message, 1, &[10, 384, 2024, 1, 15, 12, 0, 27316])?;
-    assert_written(&rt, rt.alloc(), &message, COMPRESSED_INCREMENTS)
+    let text = COMPRESSED_INCREMENTS;
+    assert_read(&rt, rt.alloc(), text, INCREMENTS_NUMBERS, text)
 }
 
 #[test]
 fn encode_compressed_one(rt: HostRuntime) -> Result<(), Fail> {
-    let mut message = read(&rt, rt.alloc(), SEQUENCES)?;
+    let mut message = read_whole(&rt, rt.alloc(), SEQUENCES)?;
     message.compressed = true;
     assert_written(&rt, rt.alloc(), &message, ENCODE_COMPRESSED_ONE)?;
-    assert!(rt; read(&rt, rt.alloc(), ENCODE_COMPRESSED_ONE)? == message);
+    same(
+        &rt,
+        read_whole(&rt, rt.alloc(), ENCODE_COMPRESSED_ONE)?,
+        message,
+    );
     Ok(())
 }
 
 #[test]
 fn compressed_factor(rt: HostRuntime) -> Result<(), Fail> {
-    let message = read(&rt, rt.alloc(), COMPRESSED_FACTOR)?;
-    assert_eq!(rt; message.subsets.len(), 2);
-    assert_numbers(&rt, &message, 0, &[0])?;
-    assert_numbers(&rt, &message, 1, &[0])?;
-    assert_written(&rt, rt.alloc(), &message, FACTOR_WRITTEN)
+    let text = COMPRESSED_FACTOR;
+    assert_read(&rt, rt.alloc(), text, FACTOR_NUMBERS, FACTOR_WRITTEN)
 }
 
 #[test]
 fn compressed_not_a_factor(rt: HostRuntime) -> Result<(), Fail> {
-    let message = read(&rt, rt.alloc(), COMPRESSED_NOT_A_FACTOR)?;
-    assert_numbers(&rt, &message, 0, &[0])?;
-    assert_numbers(&rt, &message, 1, &[1])?;
-    assert_written(&rt, rt.alloc(), &message, COMPRESSED_NOT_A_FACTOR)
+    let text = COMPRESSED_NOT_A_FACTOR;
+    assert_read(&rt, rt.alloc(), text, NOT_A_FACTOR_NUMBERS, text)
 }
 
 /// The text of the only field of a subset is this one.
@@ -121,30 +142,27 @@ fn assert_text(
     subset: usize,
     wanted: &[u8],
 ) -> Result<(), Fail> {
-    let fields = &message.subsets.get(subset).ok_or("subset")?.fields;
-    assert_eq!(rt; fields.len(), 1);
-    let Raw::Text(text) = &fields.get(0).ok_or("field")?.raw else {
+    same(rt, fields_of(message, subset)?.len(), 1);
+    let Raw::Text(text) = &field_of(message, subset, 0)?.raw else {
         return Err("a text")?;
     };
-    assert_eq!(rt; text.as_slice(), wanted);
+    same(rt, text.as_slice(), wanted);
     Ok(())
 }
 
 #[test]
 fn compressed_texts(rt: HostRuntime) -> Result<(), Fail> {
-    let message = read(&rt, rt.alloc(), COMPRESSED_TEXTS)?;
+    let message = read_whole(&rt, rt.alloc(), COMPRESSED_TEXTS)?;
     assert_text(&rt, &message, 0, b"AB ")?;
     assert_text(&rt, &message, 1, &[255, 255, 255])?;
-    let second = &message.subsets.get(1).ok_or("subset")?.fields;
-    assert!(rt; second.get(0).ok_or("field")?.is_missing());
-    Ok(())
+    assert_missing(&rt, &message, 1, 0, true)
 }
 
 #[test]
 fn no_compressed_subsets(rt: HostRuntime) -> Result<(), Fail> {
     let text = "42554652 000035 04 | S1 | 00000F 00 0000 C0 C101 C10B C10C 0C65 | 000004 00 | END";
-    let message = read(&rt, rt.alloc(), text)?;
-    assert!(rt; message.subsets.is_empty());
+    let message = read_whole(&rt, rt.alloc(), text)?;
+    assert_no_subset(&rt, &message);
     assert_written(&rt, rt.alloc(), &message, text)
 }
 
@@ -159,14 +177,8 @@ const REFUSED: &str = "\
 
 #[test]
 fn compressed_refusals(rt: HostRuntime) -> Result<(), Fail> {
-    let alloc = rt.alloc();
     for line in REFUSED.lines() {
-        let (text, wanted) = line.split_once(" = ").ok_or("a case")?;
-        let reason = match decode(alloc, &tables(alloc)?, octets(alloc, text)?.as_slice()) {
-            Ok(_found) => String::from_str(alloc, "read")?,
-            Err(failure) => format!(in alloc; "{failure}")?,
-        };
-        assert_eq!(rt; reason.as_str(), wanted, "at {line}");
+        assert_line_not_read(&rt, rt.alloc(), line)?;
     }
     Ok(())
 }
@@ -174,18 +186,9 @@ fn compressed_refusals(rt: HostRuntime) -> Result<(), Fail> {
 #[test]
 fn unequal_counts(rt: HostRuntime) -> Result<(), Fail> {
     let alloc = rt.alloc();
-    let mut message = read(&rt, alloc, UNEQUAL_COUNTS)?;
+    let mut message = read_whole(&rt, alloc, UNEQUAL_COUNTS)?;
     message.compressed = true;
-    let reason = match encode(alloc, &tables(alloc)?, &message) {
-        Ok(_octets) => String::from_str(alloc, "written")?,
-        Err(failure) => format!(in alloc; "{failure}")?,
-    };
-    assert_eq!(rt; reason.as_str(), "E2 NotCompressible 1");
+    assert_not_written(&rt, alloc, &message, "E2 NotCompressible 1")?;
     message.descriptors = Items::from_vec(Vec::new(alloc));
-    let reason = match encode(alloc, &tables(alloc)?, &message) {
-        Ok(_octets) => String::from_str(alloc, "written")?,
-        Err(failure) => format!(in alloc; "{failure}")?,
-    };
-    assert_eq!(rt; reason.as_str(), "E4 NoDescriptors");
-    Ok(())
+    assert_not_written(&rt, alloc, &message, "E4 NoDescriptors")
 }

@@ -1,17 +1,28 @@
 //! Messages that are read and refused. Octets and answers are typed from the rules of the format.
 
+use super::calls::*;
 use super::samples::*;
-use bufr_data::Raw;
-use bufr_message::decode;
-use bufr_sections::{Decoded, Head, Message};
-use bufr_tables::{Fxy, Items, Tables};
+use super::{holds, same};
+use bufr_sections::{Head, Message};
+use bufr_tables::{Fxy, Items};
 use std::alloc::Global;
 use std::process::Abort;
 use std::test::Fail;
 
-/// What octets are read as.
-fn read(alloc: Global, tables: &Tables, text: &str) -> Result<Decoded, Fail> {
-    Ok(decode(alloc, tables, octets(alloc, text)?.as_slice())?)
+/// The descriptor at an index is this one, and so is that of the field there, which holds this
+/// number.
+fn assert_field(
+    rt: &impl Abort,
+    message: &Message,
+    index: usize,
+    fxy: Fxy,
+    number: u64,
+) -> Result<(), Fail> {
+    same(rt, message.descriptors.get(index), Some(&fxy));
+    let field = field_of(message, 0, index)?;
+    same(rt, field.fxy, fxy);
+    assert_number(rt, field, number);
+    Ok(())
 }
 
 /// The descriptors and numbers of the fields of a message's only subset are these.
@@ -26,16 +37,12 @@ fn assert_fields(rt: &impl Abort, message: &Message) -> Result<(), Fail> {
         (0, 4, 5, 0),
         (0, 12, 101, 27315),
     ];
-    assert_eq!(rt; message.descriptors.len(), wanted.len());
-    assert_eq!(rt; message.subsets.len(), 1);
-    let subset = message.subsets.get(0).ok_or("subset")?;
-    assert_eq!(rt; subset.fields.len(), wanted.len());
-    for (index, (f, x, y, number)) in wanted.iter().enumerate() {
-        let fxy = Fxy::new(*f, *x, *y).ok_or("descriptor")?;
-        let field = subset.fields.get(index).ok_or("field")?;
-        assert_eq!(rt; message.descriptors.get(index), Some(&fxy));
-        assert_eq!(rt; field.fxy, fxy);
-        assert!(rt; field.raw == Raw::Number(*number), "in {field:?}");
+    same(rt, message.descriptors.len(), wanted.len());
+    same(rt, message.subsets.len(), 1);
+    same(rt, fields_of(message, 0)?.len(), wanted.len());
+    for (index, (f, x, y, number)) in wanted.into_iter().enumerate() {
+        let fxy = Fxy::new(f, x, y).ok_or("descriptor")?;
+        assert_field(rt, message, index, fxy, number)?;
     }
     Ok(())
 }
@@ -61,51 +68,65 @@ fn head(local: Vec<u8>) -> Head {
     }
 }
 
+/// The message is the first of the samples, with these octets for local use.
+fn assert_first(rt: &impl Abort, message: &Message, local: Vec<u8>) -> Result<(), Fail> {
+    same(rt, &message.head, &head(local));
+    assert_fields(rt, message)
+}
+
+/// The message has no section 2, and observed data that are not compressed.
+fn assert_plain(rt: &impl Abort, message: &Message) {
+    holds(rt, message.section2.is_none());
+    holds(rt, message.observed);
+    holds(rt, !message.compressed);
+}
+
 #[test]
 fn elements_only(rt: HostRuntime) -> Result<(), Fail> {
-    let alloc = rt.alloc();
-    let tables = tables(alloc)?;
-    let found = read(alloc, &tables, ELEMENTS_ONLY)?;
-    assert_eq!(rt; found.slack_octets, 0);
-    assert_fields(&rt, &found.message)?;
-    assert!(rt; found.message.head == head(Vec::new(alloc)));
-    assert!(rt; found.message.section2.is_none());
-    assert!(rt; found.message.observed);
-    assert!(rt; !found.message.compressed);
+    let found = read(rt.alloc(), ELEMENTS_ONLY)?;
+    same(&rt, found.slack_octets, 0);
+    assert_first(&rt, &found.message, Vec::new(rt.alloc()))?;
+    assert_plain(&rt, &found.message);
     Ok(())
+}
+
+/// The octets for local use of section 2 are those of a text.
+fn assert_section2(
+    rt: &impl Abort,
+    alloc: Global,
+    message: &Message,
+    wanted: &str,
+) -> Result<(), Fail> {
+    let section2 = message.section2.as_ref().ok_or("section 2")?;
+    assert_octets(rt, alloc, section2.as_slice(), wanted)
 }
 
 #[test]
 fn local_octets_section_2_and_slack(rt: HostRuntime) -> Result<(), Fail> {
     let alloc = rt.alloc();
-    let tables = tables(alloc)?;
-    let found = read(alloc, &tables, LOCAL_OCTETS_AND_SLACK)?;
-    assert_eq!(rt; found.slack_octets, 2);
-    assert_fields(&rt, &found.message)?;
-    assert!(rt; found.message.head == head(octets(alloc, "ABCD")?));
-    let section2 = found.message.section2.as_ref().ok_or("section 2")?;
-    assert_eq!(rt; section2.as_slice(), octets(alloc, "0102")?.as_slice());
+    let found = read(alloc, LOCAL_OCTETS_AND_SLACK)?;
+    same(&rt, found.slack_octets, 2);
+    assert_first(&rt, &found.message, octets(alloc, "ABCD")?)?;
+    assert_section2(&rt, alloc, &found.message, "0102")
+}
+
+/// The octets are read as a message with no subset, and so much slack.
+fn assert_empty(rt: &impl Abort, alloc: Global, text: &str, slack: u64) -> Result<(), Fail> {
+    let found = read(alloc, text)?;
+    assert_no_subset(rt, &found.message);
+    same(rt, found.slack_octets, slack);
     Ok(())
 }
 
 #[test]
 fn no_subsets(rt: HostRuntime) -> Result<(), Fail> {
-    let alloc = rt.alloc();
-    let tables = tables(alloc)?;
-    let empty = read(alloc, &tables, NO_SUBSETS)?;
-    assert!(rt; empty.message.subsets.is_empty());
-    assert_eq!(rt; empty.slack_octets, 0);
-    let slack = read(alloc, &tables, NO_SUBSETS_AND_SLACK)?;
-    assert!(rt; slack.message.subsets.is_empty());
-    assert_eq!(rt; slack.slack_octets, 9);
-    Ok(())
+    assert_empty(&rt, rt.alloc(), NO_SUBSETS, 0)?;
+    assert_empty(&rt, rt.alloc(), NO_SUBSETS_AND_SLACK, 9)
 }
 
-#[test]
-fn distinct_head(rt: HostRuntime) -> Result<(), Fail> {
-    let alloc = rt.alloc();
-    let found = read(alloc, &tables(alloc)?, DISTINCT_HEAD)?;
-    let head = Head {
+/// A head whose fourteen numbers all differ, with these octets for local use.
+fn head_of_distinct_numbers(local: Vec<u8>) -> Head {
+    Head {
         centre: 258,
         sub_centre: 772,
         update: 5,
@@ -120,17 +141,23 @@ fn distinct_head(rt: HostRuntime) -> Result<(), Fail> {
         hour: 15,
         minute: 16,
         second: 17,
-        local: Items::from_vec(octets(alloc, "1213")?),
-    };
-    assert!(rt; found.message.head == head);
+        local: Items::from_vec(local),
+    }
+}
+
+#[test]
+fn distinct_head(rt: HostRuntime) -> Result<(), Fail> {
+    let found = message_of(rt.alloc(), DISTINCT_HEAD)?;
+    let wanted = head_of_distinct_numbers(octets(rt.alloc(), "1213")?);
+    same(&rt, &found.head, &wanted);
     Ok(())
 }
 
 #[test]
 fn what_is_ignored(rt: HostRuntime) -> Result<(), Fail> {
-    let alloc = rt.alloc();
-    let tables = tables(alloc)?;
-    assert!(rt; read(alloc, &tables, IGNORED_ONES)? == read(alloc, &tables, ELEMENTS_ONLY)?);
+    let ignored = read(rt.alloc(), IGNORED_ONES)?;
+    let plain = read(rt.alloc(), ELEMENTS_ONLY)?;
+    same(&rt, ignored, plain);
     Ok(())
 }
 
@@ -175,38 +202,17 @@ const DATA_ENDS: &str = "\
 42554652 000045 04 | S1 | 000017 00 0001 80 0101 0102 0401 0402 0403 0404 0405 0C65
 | 00000C 00 14C03F409EC01AAC | END";
 
-/// The reason for which octets are refused, or `read`.
-fn reason(alloc: Global, tables: &Tables, text: &str) -> Result<String, Fail> {
-    match decode(alloc, tables, octets(alloc, text)?.as_slice()) {
-        Ok(_found) => Ok(String::from_str(alloc, "read")?),
-        Err(failure) => Ok(format!(in alloc; "{failure}")?),
-    }
-}
-
-/// Octets are refused for the reason behind `=`, line by line.
-fn assert_reasons(rt: &impl Abort, alloc: Global, cases: &str) -> Result<(), Fail> {
-    let tables = tables(alloc)?;
-    for line in cases.lines() {
-        if !line.starts_with('#') {
-            let (text, wanted) = line.split_once(" = ").ok_or("a case")?;
-            let found = reason(alloc, &tables, text)?;
-            assert_eq!(rt; found.as_str(), wanted, "at {line}");
-        }
-    }
-    Ok(())
-}
-
 #[test]
 fn refusals(rt: HostRuntime) -> Result<(), Fail> {
-    let alloc = rt.alloc();
-    let tables = tables(alloc)?;
     for (text, wanted) in [
         (EDITION_5, "M2 Edition 5"),
         (TOTAL_TOO_LARGE, "M3 TotalLength"),
         (DATA_ENDS, "V2 DataEnds 1 8"),
     ] {
-        let found = reason(alloc, &tables, text)?;
-        assert_eq!(rt; found.as_str(), wanted);
+        assert_not_read(&rt, rt.alloc(), text, wanted)?;
     }
-    assert_reasons(&rt, alloc, REFUSED)
+    for line in REFUSED.lines() {
+        assert_line_not_read(&rt, rt.alloc(), line)?;
+    }
+    Ok(())
 }

@@ -1,9 +1,10 @@
 //! Messages of edition 3. Octets and answers are typed from the rules of the format.
 
-use super::samples::{octets, tables};
+use super::calls::*;
+use super::same;
+use super::samples::{octets, tables, with_zeros};
 use bufr_message::listing::text_of;
-use bufr_message::{Decoded, Message, canonical, decode, encode, reports, view};
-use bufr_tables::Tables;
+use bufr_message::{Decoded, Message, View, reports, view};
 use std::alloc::Global;
 use std::process::Abort;
 use std::test::Fail;
@@ -49,55 +50,60 @@ end
 fn of_year(alloc: Global, year: u8) -> Result<Vec<u8>, Fail> {
     let mut all = octets(alloc, FRONT)?;
     all.push(year)?;
-    all.extend_from_slice(octets(alloc, BACK)?.as_slice())?;
+    let back = octets(alloc, BACK)?;
+    all.extend_from_slice(back.as_slice())?;
     Ok(all)
 }
 
 /// What the octets of edition 3 are read as.
-fn read(alloc: Global, year: u8) -> Result<Decoded, Fail> {
-    Ok(decode(alloc, &tables(alloc)?, of_year(alloc, year)?.as_slice())?)
+fn read_year(alloc: Global, year: u8) -> Result<Decoded, Fail> {
+    let all = of_year(alloc, year)?;
+    read_octets(alloc, all.as_slice())
 }
 
-/// What is written for a message is this.
-fn assert_written(rt: &impl Abort, alloc: Global, message: &Message) -> Result<(), Fail> {
-    let written = encode(alloc, &tables(alloc)?, message)?;
-    assert_eq!(rt; written.as_slice(), octets(alloc, WRITTEN)?.as_slice());
+/// The listing of a message is the one above.
+fn assert_listed(rt: &impl Abort, alloc: Global, message: &Message) -> Result<(), Fail> {
     let listing = text_of(alloc, message)?;
-    assert_eq!(rt; listing.as_slice(), LISTED.as_bytes());
+    same(rt, listing.as_slice(), LISTED.as_bytes());
     Ok(())
 }
 
 #[test]
 fn edition_3(rt: HostRuntime) -> Result<(), Fail> {
-    let found = read(rt.alloc(), 0x18)?;
-    assert_eq!(rt; found.slack_octets, 1);
-    assert_written(&rt, rt.alloc(), &found.message)
+    let found = read_year(rt.alloc(), 0x18)?;
+    same(&rt, found.slack_octets, 1);
+    assert_written(&rt, rt.alloc(), &found.message, WRITTEN)?;
+    assert_listed(&rt, rt.alloc(), &found.message)
 }
 
 #[test]
 fn edition_3_canonical(rt: HostRuntime) -> Result<(), Fail> {
     let alloc = rt.alloc();
-    let all = reports(alloc, read(alloc, 0x18)?.message)?;
-    assert_eq!(rt; all.len(), 1);
-    let own = canonical(alloc, &tables(alloc)?, all.get(0).ok_or("report")?)?;
-    assert_eq!(rt; own.as_slice(), octets(alloc, CANONICAL)?.as_slice());
-    Ok(())
+    let found = read_year(alloc, 0x18)?;
+    let all = reports(alloc, found.message)?;
+    same(&rt, all.len(), 1);
+    assert_canonical(&rt, alloc, all.as_slice(), 0, CANONICAL)
 }
 
 /// The year of the head of a message of this year of the century is this.
 fn assert_year(rt: &impl Abort, alloc: Global, octet: u8, year: u16) -> Result<(), Fail> {
-    assert_eq!(rt; read(alloc, octet)?.message.head.year, year);
+    let found = read_year(alloc, octet)?;
+    same(rt, found.message.head.year, year);
     Ok(())
 }
 
 #[test]
 fn edition_3_years_and_faults(rt: HostRuntime) -> Result<(), Fail> {
     let alloc = rt.alloc();
-    assert_year(&rt, alloc, 0x45, 2069)?;
-    assert_year(&rt, alloc, 0x46, 1970)?;
-    assert_year(&rt, alloc, 0x63, 1999)?;
-    assert_year(&rt, alloc, 0x64, 2000)?;
-    assert_year(&rt, alloc, 0x00, 2000)?;
+    for (octet, year) in [
+        (0x45, 2069),
+        (0x46, 1970),
+        (0x63, 1999),
+        (0x64, 2000),
+        (0x00, 2000),
+    ] {
+        assert_year(&rt, alloc, octet, year)?;
+    }
     assert_outcome(&rt, alloc, SHORT, 0, "M5 Section1Length")?;
     assert_outcome(&rt, alloc, EDITION_2, 0, "M2 Edition 2")
 }
@@ -112,21 +118,26 @@ const EDITION_2: &str = "\
 42554652 00003C 02 | 000012 00 00 62 00 00 00 02 0D 00 18 01 0F 0C 00 00 |
 000010 00 0001 80 C101 C10B C10C 0C65 00 | 00000E 00 14C03F409EC01AACC0 00";
 
+/// How a view tells how many subsets it has.
+fn told(alloc: Global, found: &View<'_>) -> Result<String, Fail> {
+    let count = found.count();
+    Ok(format!(in alloc; "{count} subsets")?)
+}
+
+/// How octets are viewed: how many subsets they have, or why they are refused.
+fn outcome_of(alloc: Global, all: &[u8]) -> Result<String, Fail> {
+    let tables = tables(alloc)?;
+    match view(alloc, &tables, all) {
+        Ok(found) => told(alloc, &found),
+        Err(failure) => printed(alloc, &failure),
+    }
+}
+
 /// How the message of this front, so many zero octets and section 5 is read: how many subsets it
 /// has, or why it is refused.
-fn outcome(alloc: Global, tables: &Tables, front: &str, zeros: usize) -> Result<String, Fail> {
-    let mut all = octets(alloc, front)?;
-    for _ in 0..zeros {
-        all.push(0)?;
-    }
-    all.extend_from_slice(b"7777")?;
-    match view(alloc, tables, all.as_slice()) {
-        Ok(found) => {
-            let count = found.count();
-            Ok(format!(in alloc; "{count} subsets")?)
-        }
-        Err(failure) => Ok(format!(in alloc; "{failure}")?),
-    }
+fn outcome(alloc: Global, front: &str, zeros: usize) -> Result<String, Fail> {
+    let all = with_zeros(alloc, front, zeros)?;
+    outcome_of(alloc, all.as_slice())
 }
 
 /// One subset of 16,777,151 characters, in the longest message of edition 3.
@@ -147,8 +158,8 @@ fn assert_outcome(
     zeros: usize,
     wanted: &str,
 ) -> Result<(), Fail> {
-    let found = outcome(alloc, &tables(alloc)?, front, zeros)?;
-    assert_eq!(rt; found.as_str(), wanted);
+    let found = outcome(alloc, front, zeros)?;
+    same(rt, found.as_str(), wanted);
     Ok(())
 }
 

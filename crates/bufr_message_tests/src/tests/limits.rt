@@ -1,34 +1,44 @@
 //! Messages at the limits of nodes, levels and items, and long ones. Octets and answers are typed
 //! from the rules of the format.
 
-use super::samples::{octets, tables, tables_of};
+use super::calls::*;
+use super::same;
+use super::samples::{octets, tables, tables_of, with_zeros};
 use bufr_data::Raw;
-use bufr_message::{Message, decode, encode};
+use bufr_message::{Message, decode};
 use bufr_tables::Tables;
 use std::alloc::Global;
 use std::process::Abort;
 use std::test::Fail;
 
-/// The octets of a message: its front, so many zero octets of data, and section 5.
-fn with_zeros(alloc: Global, front: &str, zeros: usize) -> Result<Vec<u8>, Fail> {
-    let mut all = octets(alloc, front)?;
-    for _ in 0..zeros {
-        all.push(0)?;
-    }
-    all.extend_from_slice(b"7777")?;
-    Ok(all)
+/// How many fields the first subset has.
+fn fields_told(alloc: Global, message: &Message) -> Result<String, Fail> {
+    let fields = fields_of(message, 0)?.len();
+    Ok(format!(in alloc; "{fields} fields")?)
 }
 
 /// How a message with so many zero octets of data is read: how many fields its first subset has, or
 /// why it is refused.
 fn outcome(alloc: Global, tables: &Tables, front: &str, zeros: usize) -> Result<String, Fail> {
-    match decode(alloc, tables, with_zeros(alloc, front, zeros)?.as_slice()) {
-        Ok(found) => {
-            let fields = found.message.subsets.get(0).ok_or("subset")?.fields.len();
-            Ok(format!(in alloc; "{fields} fields")?)
-        }
-        Err(failure) => Ok(format!(in alloc; "{failure}")?),
+    let all = with_zeros(alloc, front, zeros)?;
+    match decode(alloc, tables, all.as_slice()) {
+        Ok(found) => fields_told(alloc, &found.message),
+        Err(failure) => printed(alloc, &failure),
     }
+}
+
+/// The message with so many zero octets of data is read so under these tables.
+fn assert_outcome(
+    rt: &impl Abort,
+    alloc: Global,
+    tables: &Tables,
+    front: &str,
+    zeros: usize,
+    wanted: &str,
+) -> Result<(), Fail> {
+    let found = outcome(alloc, tables, front, zeros)?;
+    same(rt, found.as_str(), wanted);
+    Ok(())
 }
 
 /// Each of 301201 to 301215 holds the next descriptor twice, and 301216 holds 031000 twice.
@@ -73,12 +83,9 @@ fn node_limit(rt: HostRuntime) -> Result<(), Fail> {
     let alloc = rt.alloc();
     let tables = tables_of(alloc, DOUBLING)?;
     let front = "42554652 00202F 04 | S1 | 000009 00 0001 80 C1C9 | 002004 00";
-    let full = outcome(alloc, &tables, front, 8192)?;
-    assert_eq!(rt; full.as_str(), "65536 fields");
+    assert_outcome(&rt, alloc, &tables, front, 8192, "65536 fields")?;
     let front = "42554652 000031 04 | S1 | 00000B 00 0001 80 C1C9 1F00 | 000004 00";
-    let passed = outcome(alloc, &tables, front, 0)?;
-    assert_eq!(rt; passed.as_str(), "X9 TooManyNodes");
-    Ok(())
+    assert_outcome(&rt, alloc, &tables, front, 0, "X9 TooManyNodes")
 }
 
 #[test]
@@ -88,14 +95,11 @@ fn nesting_limit(rt: HostRuntime) -> Result<(), Fail> {
     let front = "\
 42554652 02004F 04 | S1 | 000029 00 0001 80 5002 4F02 4E02 4D02 4C02 4B02 4A02 4902 4802
 4702 4602 4502 4402 4302 4202 4102 0C65 | 020004 00";
-    let full = outcome(alloc, &tables, front, 131_072)?;
-    assert_eq!(rt; full.as_str(), "65536 fields");
+    assert_outcome(&rt, alloc, &tables, front, 131_072, "65536 fields")?;
     let front = "\
 42554652 000051 04 | S1 | 00002B 00 0001 80 5102 5002 4F02 4E02 4D02 4C02 4B02 4A02 4902
 4802 4702 4602 4502 4402 4302 4202 4102 0C65 | 000004 00";
-    let passed = outcome(alloc, &tables, front, 0)?;
-    assert_eq!(rt; passed.as_str(), "X8 TooDeep");
-    Ok(())
+    assert_outcome(&rt, alloc, &tables, front, 0, "X8 TooDeep")
 }
 
 #[test]
@@ -104,9 +108,7 @@ fn item_limit(rt: HostRuntime) -> Result<(), Fail> {
     let front = "\
 42554652 02004F 04 | S1 | 000029 00 0001 80 50FF 4FFF 4EFF 4D01 4C01 4B01 4A01 4901 4801
 4701 4601 4501 4401 4301 4201 4101 1F00 | 020004 00";
-    let passed = outcome(alloc, &tables(alloc)?, front, 131_072)?;
-    assert_eq!(rt; passed.as_str(), "V6 TooLarge");
-    Ok(())
+    assert_outcome(&rt, alloc, &tables(alloc)?, front, 131_072, "V6 TooLarge")
 }
 
 #[test]
@@ -114,30 +116,35 @@ fn item_and_product_limits(rt: HostRuntime) -> Result<(), Fail> {
     let alloc = rt.alloc();
     let front =
         "42554652 000039 04 | S1 | 000013 00 0001 80 45FF 44FF 43FF 42FF 41FF 8100 | 000004 00";
-    let passed = outcome(alloc, &tables(alloc)?, front, 0)?;
-    assert_eq!(rt; passed.as_str(), "V6 TooLarge");
-    Ok(())
+    assert_outcome(&rt, alloc, &tables(alloc)?, front, 0, "V6 TooLarge")
 }
 
-#[test]
-fn delayed_counts(rt: HostRuntime) -> Result<(), Fail> {
-    let alloc = rt.alloc();
+/// The octets of a message of a delayed count of 255, each of whose elements is the same.
+fn octets_of_delayed_count(alloc: Global) -> Result<Vec<u8>, Fail> {
     let front = "42554652 000232 04 | S1 | 00000D 00 0001 80 4100 1F01 0C65 | 000203 00 FF";
     let mut all = octets(alloc, front)?;
     for _ in 0..255 {
         all.extend_from_slice(&[0x6A, 0xB3])?;
     }
     all.extend_from_slice(b"7777")?;
-    let found = decode(alloc, &tables(alloc)?, all.as_slice())?;
-    assert_eq!(rt; found.slack_octets, 0);
-    let fields = &found.message.subsets.get(0).ok_or("subset")?.fields;
-    assert_eq!(rt; fields.len(), 256);
-    let count = fields.get(0).ok_or("count")?;
-    assert!(rt; count.raw == Raw::Number(255));
-    assert!(rt; !count.is_missing());
-    let last = fields.get(255).ok_or("field")?;
-    assert!(rt; last.raw == Raw::Number(27315));
+    Ok(all)
+}
+
+/// The message has the count and its elements.
+fn assert_delayed(rt: &impl Abort, message: &Message) -> Result<(), Fail> {
+    same(rt, fields_of(message, 0)?.len(), 256);
+    assert_number(rt, field_of(message, 0, 0)?, 255);
+    assert_missing(rt, message, 0, 0, false)?;
+    assert_number(rt, field_of(message, 0, 255)?, 27315);
     Ok(())
+}
+
+#[test]
+fn delayed_counts(rt: HostRuntime) -> Result<(), Fail> {
+    let all = octets_of_delayed_count(rt.alloc())?;
+    let found = read_octets(rt.alloc(), all.as_slice())?;
+    same(&rt, found.slack_octets, 0);
+    assert_delayed(&rt, &found.message)
 }
 
 /// The front of a message of 5,000 subsets of one text of 255 characters each: 1,275,047 octets.
@@ -155,25 +162,22 @@ fn long_octets(alloc: Global) -> Result<Vec<u8>, Fail> {
 
 /// The message has all its subsets, and the last text to its end.
 fn assert_long(rt: &impl Abort, message: &Message) -> Result<(), Fail> {
-    assert_eq!(rt; message.subsets.len(), 5000);
-    let last = message.subsets.get(4999).ok_or("subset")?;
-    let Raw::Text(text) = &last.fields.get(0).ok_or("field")?.raw else {
+    same(rt, message.subsets.len(), 5000);
+    let Raw::Text(text) = &field_of(message, 4999, 0)?.raw else {
         return Err("a text")?;
     };
-    assert_eq!(rt; text.len(), 255);
-    assert_eq!(rt; text.get(254), Some(&b'A'));
+    same(rt, text.len(), 255);
+    same(rt, text.get(254), Some(&b'A'));
     Ok(())
 }
 
 #[test]
 fn long_message(rt: HostRuntime) -> Result<(), Fail> {
-    let alloc = rt.alloc();
-    let tables = tables(alloc)?;
-    let all = long_octets(alloc)?;
-    let found = decode(alloc, &tables, all.as_slice())?;
-    assert_eq!(rt; found.slack_octets, 0);
+    let all = long_octets(rt.alloc())?;
+    let found = read_octets(rt.alloc(), all.as_slice())?;
+    same(&rt, found.slack_octets, 0);
     assert_long(&rt, &found.message)?;
-    let written = encode(alloc, &tables, &found.message)?;
-    assert_eq!(rt; written.as_slice(), all.as_slice());
+    let again = written(rt.alloc(), &found.message)?;
+    same(&rt, again.as_slice(), all.as_slice());
     Ok(())
 }

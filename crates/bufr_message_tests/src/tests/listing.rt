@@ -1,11 +1,12 @@
 //! Listings of messages. Octets and listings are typed from the rules of the format; each text is a
 //! line of octets and the listing of what they are read as.
 
+use super::calls::message_of;
 use super::samples::*;
+use super::{same, same_at};
 use bufr_bits::device::IntoWrite;
-use bufr_message::decode;
+use bufr_message::Message;
 use bufr_message::listing::{ListingWriteFault, text_of, write_message};
-use bufr_sections::Message;
 use std::alloc::Global;
 use std::io;
 use std::io::{ErrorKind, Write};
@@ -216,15 +217,11 @@ subset
 end
 ";
 
-/// What octets are read as.
-fn read(alloc: Global, text: &str) -> Result<Message, Fail> {
-    Ok(decode(alloc, &tables(alloc)?, octets(alloc, text)?.as_slice())?.message)
-}
-
 /// The octets are listed so.
 fn assert_listed(rt: &impl Abort, alloc: Global, text: &str, wanted: &str) -> Result<(), Fail> {
-    let listing = text_of(alloc, &read(alloc, text)?)?;
-    assert_eq!(rt; listing.as_slice(), wanted.as_bytes(), "at {text}");
+    let message = message_of(alloc, text)?;
+    let listing = text_of(alloc, &message)?;
+    same_at(rt, text, listing.as_slice(), wanted.as_bytes());
     Ok(())
 }
 
@@ -275,16 +272,22 @@ section1 98 0 0 0 2 0 37 0
 time 2024 1 15 12 0 0
 ";
 
+/// The listing of a message without subsets, with this line of the flags.
+fn with_flags(alloc: Global, flags: &str) -> Result<String, Fail> {
+    let mut whole = String::from_str(alloc, COMMON_FRONT)?;
+    whole.push_str(flags)?;
+    whole.push_str("descriptors 301001 301011 301012 012101\nend\n")?;
+    Ok(whole)
+}
+
 /// The line of the flags of a message that is said to be compressed is this one.
 fn assert_flags(rt: &impl Abort, alloc: Global, observed: bool, wanted: &str) -> Result<(), Fail> {
-    let mut message = read(alloc, NO_SUBSETS)?;
+    let mut message = message_of(alloc, NO_SUBSETS)?;
     message.observed = observed;
     message.compressed = true;
-    let mut whole = String::from_str(alloc, COMMON_FRONT)?;
-    whole.push_str(wanted)?;
-    whole.push_str("descriptors 301001 301011 301012 012101\nend\n")?;
     let listing = text_of(alloc, &message)?;
-    assert_eq!(rt; listing.as_slice(), whole.as_str().as_bytes());
+    let whole = with_flags(alloc, wanted)?;
+    same(rt, listing.as_slice(), whole.as_str().as_bytes());
     Ok(())
 }
 
@@ -316,24 +319,31 @@ impl Write for Narrow {
     }
 }
 
-/// The listing is written to a writer with so much room: the front that the writer takes is this
-/// one, and the answer is this.
+/// What writing a message to a writer with so much room answers, and what the writer takes.
+fn taken(
+    alloc: Global,
+    message: &Message,
+    room: usize,
+) -> (Result<(), ListingWriteFault>, Vec<u8>) {
+    let taken = Vec::new(alloc);
+    let mut sink = IntoWrite::new(Narrow { taken, room });
+    let answer = write_message(alloc, message, &mut sink);
+    (answer, sink.into_inner().taken)
+}
+
+/// The listing is written to a writer with so much room: the writer takes its front, and the answer
+/// is this.
 fn assert_front(
     rt: &impl Abort,
     alloc: Global,
     room: usize,
-    answer: Result<(), ListingWriteFault>,
+    wanted: Result<(), ListingWriteFault>,
 ) -> Result<(), Fail> {
-    let wanted = SEQUENCES_LISTED;
-    let message = read(alloc, SEQUENCES)?;
-    let taken = Vec::new(alloc);
-    let mut sink = IntoWrite::new(Narrow { taken, room });
-    assert_eq!(rt; write_message(alloc, &message, &mut sink), answer);
-    let front = wanted.len().min(room);
-    assert_eq!(rt;
-        sink.into_inner().taken.as_slice(),
-        &wanted.as_bytes()[..front]
-    );
+    let message = message_of(alloc, SEQUENCES)?;
+    let (answer, taken) = taken(alloc, &message, room);
+    same(rt, answer, wanted);
+    let front = SEQUENCES_LISTED.len().min(room);
+    same(rt, taken.as_slice(), &SEQUENCES_LISTED.as_bytes()[..front]);
     Ok(())
 }
 
@@ -348,15 +358,26 @@ fn written_to_narrow_writers(rt: HostRuntime) -> Result<(), Fail> {
     assert_front(&rt, rt.alloc(), 1000, Ok(()))
 }
 
+/// This is printed for a fault.
+fn assert_printed(
+    rt: &impl Abort,
+    alloc: Global,
+    fault: ListingWriteFault,
+    wanted: &str,
+) -> Result<(), Fail> {
+    let text = fault.to_string(alloc)?;
+    same(rt, text.as_str(), wanted);
+    Ok(())
+}
+
 #[test]
 fn faults_of_writing_are_printed(rt: HostRuntime) -> Result<(), Fail> {
-    let alloc = rt.alloc();
     let failed = ListingWriteFault::WriteFailed { written: 235 };
-    assert_eq!(rt;
-        failed.to_string(alloc)?.as_str(),
-        "write failed after 235 octets"
-    );
-    let refused = ListingWriteFault::OutOfMemory;
-    assert_eq!(rt; refused.to_string(alloc)?.as_str(), "out of memory");
-    Ok(())
+    assert_printed(&rt, rt.alloc(), failed, "write failed after 235 octets")?;
+    assert_printed(
+        &rt,
+        rt.alloc(),
+        ListingWriteFault::OutOfMemory,
+        "out of memory",
+    )
 }

@@ -51,15 +51,29 @@ pub(crate) fn tables_of(alloc: Global, sequences: &str) -> Result<Tables, Fail> 
 pub(crate) fn octets(alloc: Global, text: &str) -> Result<Vec<u8>, Fail> {
     let mut digits = String::new(alloc);
     for word in text.split_whitespace() {
-        let part = match word {
-            "S1" => "00001600006200000000000200250007E8010F0C0000",
-            "END" => "37373737",
-            "|" => "",
-            other => other,
-        };
-        digits.push_str(part)?;
+        digits.push_str(digits_of(word))?;
     }
     Ok(hex::decode(alloc, digits.as_str())?)
+}
+
+/// The digits that a word of such a text stands for.
+fn digits_of(word: &str) -> &str {
+    match word {
+        "S1" => "00001600006200000000000200250007E8010F0C0000",
+        "END" => "37373737",
+        "|" => "",
+        other => other,
+    }
+}
+
+/// The octets of a text, so many zero octets, and section 5.
+pub(crate) fn with_zeros(alloc: Global, front: &str, zeros: usize) -> Result<Vec<u8>, Fail> {
+    let mut all = octets(alloc, front)?;
+    for _ in 0..zeros {
+        all.push(0)?;
+    }
+    all.extend_from_slice(b"7777")?;
+    Ok(all)
 }
 
 /// One plain subset of eight elements: 70 octets.

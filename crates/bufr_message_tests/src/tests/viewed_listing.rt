@@ -1,9 +1,11 @@
 //! Listings of views, one subset at a time. Octets and lines are typed from the rules of the
 //! format.
 
+use super::calls::{message_of, viewed};
+use super::same;
 use super::samples::*;
+use bufr_message::View;
 use bufr_message::listing::{end_text, heading_of_view, subset_of_view, text_of};
-use bufr_message::{decode, view};
 use std::alloc::Global;
 use std::process::Abort;
 use std::test::Fail;
@@ -22,30 +24,45 @@ subset
 end
 ";
 
+/// The part of the listing of a view that the subset of this number is.
+fn subset_listed(alloc: Global, found: &View<'_>, number: usize) -> Result<Vec<u8>, Fail> {
+    if number == 0 || found.count() < number {
+        return Err("number")?;
+    }
+    Ok(subset_of_view(alloc, found, number)?)
+}
+
 /// The parts of the listing of a view, joined.
-fn joined(alloc: Global, text: &str) -> Result<Vec<u8>, Fail> {
-    let all = octets(alloc, text)?;
-    let found = view(alloc, &tables(alloc)?, all.as_slice())?;
-    let mut listing = heading_of_view(alloc, &found)?;
-    for index in 0..found.count() {
-        listing.extend_from_slice(subset_of_view(alloc, &found, index + 1)?.as_slice())?;
+fn joined_of(alloc: Global, found: &View<'_>) -> Result<Vec<u8>, Fail> {
+    let mut listing = heading_of_view(alloc, found)?;
+    for number in 1..=found.count() {
+        let part = subset_listed(alloc, found, number)?;
+        listing.extend_from_slice(part.as_slice())?;
     }
     listing.extend_from_slice(end_text())?;
     Ok(listing)
 }
 
+/// The parts of the listing of a view of the octets of a text, joined.
+fn joined(alloc: Global, text: &str) -> Result<Vec<u8>, Fail> {
+    let all = octets(alloc, text)?;
+    let found = viewed(alloc, all.as_slice())?;
+    joined_of(alloc, &found)
+}
+
 /// The parts are, joined, the listing of the message.
 fn assert_joined(rt: &impl Abort, alloc: Global, text: &str) -> Result<(), Fail> {
-    let decoded = decode(alloc, &tables(alloc)?, octets(alloc, text)?.as_slice())?;
-    let wanted = text_of(alloc, &decoded.message)?;
-    assert_eq!(rt; joined(alloc, text)?.as_slice(), wanted.as_slice());
+    let message = message_of(alloc, text)?;
+    let wanted = text_of(alloc, &message)?;
+    let found = joined(alloc, text)?;
+    same(rt, found.as_slice(), wanted.as_slice());
     Ok(())
 }
 
 #[test]
 fn views_listed_subset_by_subset(rt: HostRuntime) -> Result<(), Fail> {
     let listing = joined(rt.alloc(), COMPRESSED_TEXTS)?;
-    assert_eq!(rt; listing.as_slice(), COMPRESSED_TEXTS_LISTED.as_bytes());
+    same(&rt, listing.as_slice(), COMPRESSED_TEXTS_LISTED.as_bytes());
     assert_joined(&rt, rt.alloc(), UNEQUAL_COUNTS)?;
     assert_joined(&rt, rt.alloc(), NO_SUBSETS)?;
     assert_joined(&rt, rt.alloc(), LOCAL_OCTETS_AND_SLACK)

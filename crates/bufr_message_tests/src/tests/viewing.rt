@@ -1,11 +1,22 @@
 //! Views: their reports in any order, what they tell, and why they are refused. Octets and answers
 //! are typed from the rules of the format.
 
+use super::calls::{assert_octets, reason, viewed};
+use super::same;
 use super::samples::*;
 use bufr_message::{View, canonical_of_read, view};
 use std::alloc::Global;
 use std::process::Abort;
 use std::test::Fail;
+
+/// The canonical message of the report of this number.
+fn own(alloc: Global, found: &View<'_>, number: usize) -> Result<Vec<u8>, Fail> {
+    if number == 0 || found.count() < number {
+        return Err("number")?;
+    }
+    let report = found.report(alloc, number)?;
+    Ok(canonical_of_read(alloc, &report)?.ok_or("octets")?)
+}
 
 /// The report of this number has this canonical message.
 fn assert_own(
@@ -15,13 +26,8 @@ fn assert_own(
     number: usize,
     wanted: &str,
 ) -> Result<(), Fail> {
-    if number == 0 || found.count() < number {
-        return Err("number")?;
-    }
-    let report = found.report(alloc, number)?;
-    let own = canonical_of_read(alloc, &report)?.ok_or("octets")?;
-    assert_eq!(rt; own.as_slice(), octets(alloc, wanted)?.as_slice());
-    Ok(())
+    let own = own(alloc, found, number)?;
+    assert_octets(rt, alloc, own.as_slice(), wanted)
 }
 
 /// The two reports of a message, asked for in any order and twice, have these canonical messages.
@@ -33,11 +39,11 @@ fn assert_in_any_order(
     second: &str,
 ) -> Result<(), Fail> {
     let all = octets(alloc, text)?;
-    let found = view(alloc, &tables(alloc)?, all.as_slice())?;
-    assert_own(rt, alloc, &found, 2, second)?;
-    assert_own(rt, alloc, &found, 1, first)?;
-    assert_own(rt, alloc, &found, 1, first)?;
-    assert_own(rt, alloc, &found, 2, second)
+    let found = viewed(alloc, all.as_slice())?;
+    for (number, wanted) in [(2, second), (1, first), (1, first), (2, second)] {
+        assert_own(rt, alloc, &found, number, wanted)?;
+    }
+    Ok(())
 }
 
 #[test]
@@ -56,9 +62,9 @@ fn assert_told(
     slack: u64,
 ) -> Result<(), Fail> {
     let all = octets(alloc, text)?;
-    let found = view(alloc, &tables(alloc)?, all.as_slice())?;
-    assert_eq!(rt; found.count(), count);
-    assert_eq!(rt; found.slack(), slack);
+    let found = viewed(alloc, all.as_slice())?;
+    same(rt, found.count(), count);
+    same(rt, found.slack(), slack);
     Ok(())
 }
 
@@ -70,16 +76,18 @@ fn counts_and_slacks(rt: HostRuntime) -> Result<(), Fail> {
     assert_told(&rt, rt.alloc(), COMPRESSED_PAIR, 2, 0)
 }
 
+/// Why the octets of a text are not viewed, or `viewed`.
+fn reason_of_viewing(alloc: Global, text: &str) -> Result<String, Fail> {
+    let all = octets(alloc, text)?;
+    let tables = tables(alloc)?;
+    reason(alloc, view(alloc, &tables, all.as_slice()), "viewed")
+}
+
 /// Octets are refused for this reason.
 fn assert_refused(rt: &impl Abort, alloc: Global, text: &str, wanted: &str) -> Result<(), Fail> {
-    match view(alloc, &tables(alloc)?, octets(alloc, text)?.as_slice()) {
-        Ok(_found) => Err("viewed")?,
-        Err(failure) => {
-            let reason = format!(in alloc; "{failure}")?;
-            assert_eq!(rt; reason.as_str(), wanted);
-            Ok(())
-        }
-    }
+    let found = reason_of_viewing(alloc, text)?;
+    same(rt, found.as_str(), wanted);
+    Ok(())
 }
 
 /// No descriptor.

@@ -13,8 +13,8 @@ use std::alloc::Global;
 use std::marker::Model;
 
 /// Entries that are put in and not looked up before all are there: of those that share a slot the
-/// one of greatest rank. They take time near n log n whatever their order, and no look at those that
-/// came before.
+/// one of greatest rank. They take time near n log n whatever their order, and no look at those
+/// that came before.
 #[derive(Drop)]
 pub struct Gathering {
     alloc: Global,

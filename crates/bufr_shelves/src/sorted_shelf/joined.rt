@@ -33,8 +33,8 @@ fn push_unkeyed(out: &mut Vec<u8>, pairs: Vec<Pair<Octets, u8>>) -> Result<(), O
 }
 
 impl SortedShelf {
-    /// The octets of all entries in order of slots, joined. The shelf is gone, also where memory was
-    /// refused.
+    /// The octets of all entries in order of slots, joined. The shelf is gone, also where memory
+    /// was refused.
     pub fn into_octets(self) -> Result<Vec<u8>, OutOfMemory>
         ensures { IfOk result (λ out. out.items ≡ flat_map (λ e. e.bytes) (kept self)) }
     {

@@ -13,98 +13,124 @@ fn digits(number: u32) -> [u8; 5] {
     ]
 }
 
-// A hundred thousand stations, each twice and in no order, are put in order in several batches. Of
-// each the greater update number is kept, which the odd ones have first and the even ones last.
-#[test]
-fn hundred_thousand_gathered(rt: HostRuntime) -> Result<(), Fail> {
-    let alloc = rt.alloc();
+/// Puts an entry in.
+fn gather(
+    rt: &impl Abort,
+    alloc: Global,
+    gathering: &mut Gathering,
+    key: Option<Key>,
+    update: u8,
+    bytes: &[u8],
+) {
+    let held = octets(alloc, bytes).expect(rt, "room");
+    gathering.put(key, update, held).expect(rt, "room");
+}
+
+/// A hundred thousand stations, each twice and in no order. Of each the greater update number comes
+/// first where the station is odd, and last where it is even.
+fn hundred_thousand(rt: &impl Abort, alloc: Global) -> Gathering {
     let mut gathering = Gathering::new(alloc);
     for place in 0..200_000u32 {
         let number = (u64::from(place) * 389 % 100_000) as u32;
         let is_late = place >= 100_000;
         let update = if is_late == (number % 2 == 0) { 1 } else { 0 };
-        let bytes = octets(alloc, &digits(number))?;
-        gathering.put(Some(key(wmo(number as i128), 12)), update, bytes)?;
+        let key = noon(Some(number as i128));
+        gather(rt, alloc, &mut gathering, key, update, &digits(number));
     }
-    let shelf = gathering.into_shelf()?;
-    assert_eq!(rt; shelf.len(), 100_000);
+    gathering
+}
+
+/// The stations are put in order in several batches, and of each the greater update number is kept.
+#[test]
+fn hundred_thousand_gathered(rt: HostRuntime) {
+    let gathering = hundred_thousand(&rt, rt.alloc());
+    let shelf = gathering.into_shelf().expect(&rt, "room");
+    same(&rt, shelf.len(), 100_000);
     let mut next = shelf.first();
     for number in 0..100_000u32 {
-        let held = next.ok_or("a station is missing")?;
-        assert_eq!(rt; held.update, 1);
-        assert!(rt;
-            held.bytes.as_slice() == digits(number).as_slice(),
-            "{number}"
-        );
+        let held = next.expect(&rt, "a station");
+        same(&rt, held.update, 1);
+        assert_octets_at(&rt, held, &digits(number), number);
         next = shelf.after(held);
     }
     assert!(rt; next.is_none());
-    Ok(())
 }
 
-// Entries without key are gathered too, each once.
-#[test]
-fn gathered_without_key(rt: HostRuntime) -> Result<(), Fail> {
-    let alloc = rt.alloc();
+/// Seventy thousand entries without key, each twice and in no order.
+fn without_key(rt: &impl Abort, alloc: Global) -> Gathering {
     let mut gathering = Gathering::new(alloc);
     for place in 0..140_000u32 {
         let number = (u64::from(place) * 389 % 70_000) as u32;
-        gathering.put(None, 0, octets(alloc, &digits(number))?)?;
+        gather(rt, alloc, &mut gathering, None, 0, &digits(number));
     }
-    let shelf = gathering.into_shelf()?;
-    assert_eq!(rt; shelf.len(), 70_000);
+    gathering
+}
+
+/// Entries without key are gathered too, each once.
+#[test]
+fn gathered_without_key(rt: HostRuntime) {
+    let gathering = without_key(&rt, rt.alloc());
+    let shelf = gathering.into_shelf().expect(&rt, "room");
+    same(&rt, shelf.len(), 70_000);
     let mut next = shelf.first();
     for number in 0..70_000u32 {
-        let held = next.ok_or("an entry is missing")?;
-        assert!(rt;
-            held.bytes.as_slice() == digits(number).as_slice(),
-            "{number}"
-        );
+        let held = next.expect(&rt, "an entry");
+        assert_octets_at(&rt, held, &digits(number), number);
         next = shelf.after(held);
     }
     assert!(rt; next.is_none());
-    Ok(())
 }
 
-// Puts an entry in whose octets are this one.
-fn gather(
+/// Puts an entry of a station in, at noon.
+fn gather_at(
+    rt: &impl Abort,
     alloc: Global,
     gathering: &mut Gathering,
     station: Station,
-    octet: u8,
-) -> Result<(), OutOfMemory> {
-    gathering.put(Some(key(station, 12)), 0, octets(alloc, &[octet])?)
+    bytes: &[u8],
+) {
+    gather(rt, alloc, gathering, Some(key(station, 12)), 0, bytes);
 }
 
-// Stations whose numbers are below 0 or have no room in their octets, and names that begin alike,
-// come in their order as all others do.
-#[test]
-fn unusual_stations_gathered(rt: HostRuntime) -> Result<(), Fail> {
-    let alloc = rt.alloc();
+/// Puts entries of WMO stations in.
+fn gather_numbers(
+    rt: &impl Abort,
+    alloc: Global,
+    gathering: &mut Gathering,
+    rows: &[(i128, i128, &[u8])],
+) {
+    for (block, number, bytes) in rows {
+        let station = Station::wmo(*block, *number);
+        gather_at(rt, alloc, gathering, station, *bytes);
+    }
+}
+
+/// Entries of unusual stations, in no order.
+fn unusual_stations(rt: &impl Abort, alloc: Global) -> Gathering {
     let mut gathering = Gathering::new(alloc);
-    let ship = Station::mobile(octets(alloc, b"SHIP00002")?);
-    gather(alloc, &mut gathering, ship, b'j')?;
-    gather(alloc, &mut gathering, Station::wmo(300, 0), b'g')?;
-    gather(alloc, &mut gathering, Station::wmo(10, 70_000), b'd')?;
-    gather(alloc, &mut gathering, Station::wmo(10, 384), b'c')?;
-    let ship = Station::mobile(octets(alloc, b"SHIP00001")?);
-    gather(alloc, &mut gathering, ship, b'i')?;
-    gather(alloc, &mut gathering, Station::wmo(10, -1), b'b')?;
-    gather(alloc, &mut gathering, Station::wmo(-1, 384), b'a')?;
-    gather(alloc, &mut gathering, Station::wmo(254, 65_535), b'e')?;
-    let name = octets(alloc, b"1")?;
-    gather(
-        alloc,
-        &mut gathering,
-        Station::wigos(0, 20_000, 0, name),
-        b'h',
-    )?;
-    gather(alloc, &mut gathering, Station::wmo(255, 1), b'f')?;
-    let shelf = gathering.into_shelf()?;
+    let ship = mobile(rt, alloc, b"SHIP00002");
+    gather_at(rt, alloc, &mut gathering, ship, b"j");
+    let rows: [(i128, i128, &[u8]); 3] = [(300, 0, b"g"), (10, 70_000, b"d"), (10, 384, b"c")];
+    gather_numbers(rt, alloc, &mut gathering, &rows);
+    let ship = mobile(rt, alloc, b"SHIP00001");
+    gather_at(rt, alloc, &mut gathering, ship, b"i");
+    let rows: [(i128, i128, &[u8]); 3] = [(10, -1, b"b"), (-1, 384, b"a"), (254, 65_535, b"e")];
+    gather_numbers(rt, alloc, &mut gathering, &rows);
+    let station = identified(rt, alloc, b"1");
+    gather_at(rt, alloc, &mut gathering, station, b"h");
+    gather_numbers(rt, alloc, &mut gathering, &[(255, 1, b"f")]);
+    gathering
+}
+
+/// Stations whose numbers are below 0 or have no room in their octets, and names that begin alike,
+/// come in their order as all others do.
+#[test]
+fn unusual_stations_gathered(rt: HostRuntime) {
+    let gathering = unusual_stations(&rt, rt.alloc());
+    let shelf = gathering.into_shelf().expect(&rt, "room");
     assert_holds(
         &rt,
         &shelf,
         &[b"a", b"b", b"c", b"d", b"e", b"f", b"g", b"h", b"i", b"j"],
     );
-    Ok(())
 }

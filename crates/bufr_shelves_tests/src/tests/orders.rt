@@ -49,97 +49,103 @@ fn wmo_key(index: u8) -> Key {
 }
 
 // The same of a WIGOS identifier.
-fn wigos_key(alloc: Global, index: u8) -> Result<Key, OutOfMemory> {
+fn wigos_key(rt: &impl Abort, alloc: Global, index: u8) -> Key {
     let station = Station::Wigos {
         series: part(4, index) as i128,
         issuer: part(5, index) as i128,
         number: part(6, index) as i128,
-        name: octets(alloc, &[part(7, index)])?,
+        name: octets(alloc, &[part(7, index)]).expect(rt, "room"),
     };
-    Ok(key_with(station, moment_of(8, index), part(14, index), index))
+    key_with(station, moment_of(8, index), part(14, index), index)
 }
 
 // The same of a mobile name.
-fn mobile_key(alloc: Global, index: u8) -> Result<Key, OutOfMemory> {
+fn mobile_key(rt: &impl Abort, alloc: Global, index: u8) -> Key {
     let station = Station::Mobile {
-        name: octets(alloc, &[part(4, index)])?,
+        name: octets(alloc, &[part(4, index)]).expect(rt, "room"),
     };
-    Ok(key_with(station, moment_of(5, index), part(11, index), index))
+    key_with(station, moment_of(5, index), part(11, index), index)
+}
+
+/// The key of fives comes before the one that passes it at this part.
+fn assert_before(rt: &impl Abort, fives: &Key, key: &Key, kind: &str, index: u8) {
+    assert!(rt; fives.cmp(key).is_lt(), "{kind}, part {index}");
 }
 
 #[test]
-fn each_part_of_a_key(rt: HostRuntime) -> Result<(), Fail> {
+fn each_part_of_a_key(rt: HostRuntime) {
     for index in 0..13u8 {
-        assert!(rt;
-            wmo_key(13).cmp(&wmo_key(index)).is_lt(),
-            "WMO, part {index}"
-        );
+        assert_before(&rt, &wmo_key(13), &wmo_key(index), "WMO", index);
     }
     for index in 0..15u8 {
-        let fives = wigos_key(rt.alloc(), 15)?;
-        let key = wigos_key(rt.alloc(), index)?;
-        assert!(rt; fives.cmp(&key).is_lt(), "WIGOS, part {index}");
+        let fives = wigos_key(&rt, rt.alloc(), 15);
+        let key = wigos_key(&rt, rt.alloc(), index);
+        assert_before(&rt, &fives, &key, "WIGOS", index);
     }
     for index in 0..12u8 {
-        let fives = mobile_key(rt.alloc(), 12)?;
-        let key = mobile_key(rt.alloc(), index)?;
-        assert!(rt; fives.cmp(&key).is_lt(), "mobile, part {index}");
+        let fives = mobile_key(&rt, rt.alloc(), 12);
+        let key = mobile_key(&rt, rt.alloc(), index);
+        assert_before(&rt, &fives, &key, "mobile", index);
     }
-    Ok(())
 }
 
-// The constructors put each part into its field.
+/// The two stations are one.
+fn assert_station(rt: &impl Abort, station: &Station, expected: &Station) {
+    assert!(rt; *station == *expected);
+}
+
+/// The constructors put each part into its field.
 #[test]
-fn parts_of_stations(rt: HostRuntime) -> Result<(), Fail> {
+fn parts_of_stations(rt: HostRuntime) {
     let (block, number) = (10, 384);
-    assert!(rt; Station::wmo(10, 384) == Station::Wmo { block, number });
+    let expected = Station::Wmo { block, number };
+    assert_station(&rt, &Station::wmo(10, 384), &expected);
     let (series, issuer, number) = (1, 2, 3);
-    let name = octets(rt.alloc(), b"4")?;
-    let identified = Station::wigos(1, 2, 3, octets(rt.alloc(), b"4")?);
-    assert!(rt;
-        identified
-            == Station::Wigos {
-                series,
-                issuer,
-                number,
-                name
-            }
-    );
-    let name = octets(rt.alloc(), b"SHIP1")?;
-    let ship = Station::mobile(octets(rt.alloc(), b"SHIP1")?);
-    assert!(rt; ship == Station::Mobile { name });
-    Ok(())
+    let name = octets(rt.alloc(), b"4").expect(&rt, "room");
+    let same_name = octets(rt.alloc(), b"4").expect(&rt, "room");
+    let expected = Station::Wigos {
+        series,
+        issuer,
+        number,
+        name,
+    };
+    assert_station(&rt, &Station::wigos(1, 2, 3, same_name), &expected);
+    let name = octets(rt.alloc(), b"SHIP1").expect(&rt, "room");
+    let ship = mobile(&rt, rt.alloc(), b"SHIP1");
+    assert_station(&rt, &ship, &Station::Mobile { name });
 }
 
-// The order of slots: by key where both have one, then those without by octets, whatever their
-// update numbers.
+/// The slot of this place among some.
+fn held_at<'a>(slot: (Option<&'a Key>, u8, &'a Octets)) -> Held<'a> {
+    let (key, update, bytes) = slot;
+    Held { key, update, bytes }
+}
+
+/// Two slots have the order of their places.
+fn assert_slots(rt: &impl Abort, held: Held, other: Held, place: usize, other_place: usize) {
+    assert!(rt;
+        held.slot_cmp(other) == place.cmp(&other_place),
+        "{place}, {other_place}"
+    );
+}
+
+/// The order of slots: by key where both have one, then those without by octets, whatever their
+/// update numbers.
 #[test]
-fn order_of_slots(rt: HostRuntime) -> Result<(), Fail> {
+fn order_of_slots(rt: HostRuntime) {
     let (early, late) = (wmo_key(13), wmo_key(12));
-    let (a, b) = (octets(rt.alloc(), b"a")?, octets(rt.alloc(), b"b")?);
+    let a = octets(rt.alloc(), b"a").expect(&rt, "room");
+    let b = octets(rt.alloc(), b"b").expect(&rt, "room");
     let slots = [
         (Some(&early), 9, &b),
         (Some(&late), 0, &a),
         (None, 9, &a),
         (None, 0, &b),
     ];
-    for (place, (key, update, bytes)) in slots.iter().enumerate() {
-        let held = Held {
-            key: *key,
-            update: *update,
-            bytes: *bytes,
-        };
-        for (other_place, (key, update, bytes)) in slots.iter().enumerate() {
-            let other = Held {
-                key: *key,
-                update: *update,
-                bytes: *bytes,
-            };
-            assert!(rt;
-                held.slot_cmp(other) == place.cmp(&other_place),
-                "{place}, {other_place}"
-            );
+    for (place, slot) in slots.iter().enumerate() {
+        for (other_place, other) in slots.iter().enumerate() {
+            let (held, other) = (held_at(*slot), held_at(*other));
+            assert_slots(&rt, held, other, place, other_place);
         }
     }
-    Ok(())
 }

@@ -1,12 +1,19 @@
 //! Listings through the engine of `encode`: each fault, every failing device.
 
-use super::{Breaks, Drips, ELEMENTS_ONLY, LISTING, SEQUENCES, tables};
+ghost use Rattle.std.specs.Prelude.{◌≤◌};
+
+use super::{
+    Breaks, Drips, ELEMENTS_ONLY, LISTING, SEQUENCES, assert_broken, assert_line, same, shown,
+    tables,
+};
 use bufr_bits::{FromRead, IntoWrite};
 use bufr_engines::{Input, Tally, ToolFault};
 use bufr_message::EncodeFault;
 use bufr_message::listing::ListingFault;
-use bufr_tool::{run_encode, run_show};
-use std::alloc::Global;
+use bufr_tables::Tables;
+use bufr_tool::run_encode;
+use std::alloc::{AllocError, Global};
+use std::process::Abort;
 use std::test::Fail;
 
 const SEQUENCES_LISTING: &[u8] = b"message\n\
@@ -76,17 +83,42 @@ subset\n\
 012101 273.15\n\
 end\n";
 
-/// What encoding a listing answers, and what was written.
+/// What encoding a listing within so many reads answers, and what was written.
 fn encoded(
     alloc: Global,
+    reads: u64,
     compressed: bool,
     listing: &[u8],
-) -> Result<(Result<Tally, ToolFault>, Vec<u8>), Fail> {
+) -> Result<(Result<Tally, ToolFault>, Vec<u8>), Fail>
+    requires { reads ≤ 4294967296 }
+{
     let tables = tables(alloc)?;
     let mut writer = IntoWrite::new(Vec::new(alloc));
     let mut reader = FromRead::new(listing);
-    let answer = run_encode(alloc, 10, &tables, compressed, &mut reader, &mut writer);
+    let answer = run_encode(alloc, reads, &tables, compressed, &mut reader, &mut writer);
     Ok((answer, writer.into_inner()))
+}
+
+/// Encoding a listing within ten reads answers and writes this.
+fn assert_encoded(
+    rt: &impl Abort,
+    alloc: Global,
+    compressed: bool,
+    listing: &[u8],
+    wanted: Result<Tally, ToolFault>,
+    octets: &[u8],
+) -> Result<(), Fail> {
+    let (answer, written) = encoded(alloc, 10, compressed, listing)?;
+    same(rt, answer, wanted);
+    same(rt, written.as_slice(), octets);
+    Ok(())
+}
+
+/// Octets with others behind them.
+fn joined(alloc: Global, front: &[u8], back: &[u8]) -> Result<Vec<u8>, AllocError> {
+    let mut octets = Vec::from_slice(alloc, front)?;
+    octets.extend_from_slice(back)?;
+    Ok(octets)
 }
 
 /// The tally of so many messages.
@@ -109,17 +141,11 @@ fn listings_of_examples(rt: HostRuntime) -> Result<(), Fail> {
         (COMPRESSED_PAIR_LISTING, COMPRESSED_PAIR),
         (UNEQUAL_COUNTS_LISTING, UNEQUAL_COUNTS),
     ] {
-        let (answer, written) = encoded(alloc, false, listing)?;
-        assert_eq!(rt; answer, messages(1));
-        assert_eq!(rt; written.as_slice(), octets);
+        assert_encoded(&rt, alloc, false, listing, messages(1), octets)?;
     }
-    let mut bulletin = Vec::from_slice(alloc, SEQUENCES_LISTING)?;
-    bulletin.extend_from_slice(SEQUENCES_LISTING)?;
-    let (answer, written) = encoded(alloc, false, &bulletin)?;
-    assert_eq!(rt; answer, messages(2));
-    assert_eq!(rt; written.as_slice().get(..62), Some(SEQUENCES));
-    assert_eq!(rt; written.as_slice().get(62..), Some(SEQUENCES));
-    Ok(())
+    let bulletin = joined(alloc, SEQUENCES_LISTING, SEQUENCES_LISTING)?;
+    let octets = joined(alloc, SEQUENCES, SEQUENCES)?;
+    assert_encoded(&rt, alloc, false, &bulletin, messages(2), &octets)
 }
 
 /// The listing of a message that was read in edition 3 is written in edition 4.
@@ -146,10 +172,7 @@ end\n";
 \x00\x00\x0F\x00\x00\x01\x80\xC1\x01\xC1\x0B\xC1\x0C\x0C\x65\
 \x00\x00\x0D\x00\x14\xC0\x3F\x40\x9E\xC0\x1A\xAC\xC0\
 7777";
-    let (answer, written) = encoded(rt.alloc(), false, listing)?;
-    assert_eq!(rt; answer, messages(1));
-    assert_eq!(rt; written.as_slice(), octets);
-    Ok(())
+    assert_encoded(&rt, rt.alloc(), false, listing, messages(1), octets)
 }
 
 /// A plain listing of two subsets, of which the second has another temperature.
@@ -185,28 +208,31 @@ const PAIR_COMPRESSED: &[u8] = b"BUFR\x00\x00\x44\x04\
 \x00\x00\x13\x00\x14\x03\x00\x03\xF4\x00\x20\x1E\x03\x00\x00\x06\xAB\x30\x84\
 7777";
 
+/// The message is plain where compression is not asked for: two subsets, and the flag is not set.
+fn assert_plain(rt: &impl Abort, alloc: Global) -> Result<(), Fail> {
+    let (answer, written) = encoded(alloc, 10, false, PAIR_LISTING)?;
+    same(rt, answer, messages(1));
+    same(
+        rt,
+        written.as_slice().get(35..37),
+        Some(b"\x02\x80".as_slice()),
+    );
+    Ok(())
+}
+
 #[test]
 fn compressed_where_asked(rt: HostRuntime) -> Result<(), Fail> {
     let alloc = rt.alloc();
-    let (answer, written) = encoded(alloc, true, PAIR_LISTING)?;
-    assert_eq!(rt; answer, messages(1));
-    assert_eq!(rt; written.as_slice(), PAIR_COMPRESSED);
-    let (answer, written) = encoded(alloc, true, COMPRESSED_PAIR_LISTING)?;
-    assert_eq!(rt; answer, messages(1));
-    assert_eq!(rt; written.as_slice(), COMPRESSED_PAIR);
-    let mut both = Vec::from_slice(alloc, PAIR_LISTING)?;
-    both.extend_from_slice(PAIR_LISTING)?;
-    let (answer, written) = encoded(alloc, true, &both)?;
-    assert_eq!(rt; answer, messages(2));
-    assert_eq!(rt; written.as_slice().get(..68), Some(PAIR_COMPRESSED));
-    assert_eq!(rt; written.as_slice().get(68..), Some(PAIR_COMPRESSED));
-    let (answer, written) = encoded(alloc, false, PAIR_LISTING)?;
-    assert_eq!(rt; answer, messages(1));
-    assert_eq!(rt;
-        written.as_slice().get(35..37),
-        Some(b"\x02\x80".as_slice())
-    );
-    Ok(())
+    for (listing, octets) in [
+        (PAIR_LISTING, PAIR_COMPRESSED),
+        (COMPRESSED_PAIR_LISTING, COMPRESSED_PAIR),
+    ] {
+        assert_encoded(&rt, alloc, true, listing, messages(1), octets)?;
+    }
+    let both = joined(alloc, PAIR_LISTING, PAIR_LISTING)?;
+    let octets = joined(alloc, PAIR_COMPRESSED, PAIR_COMPRESSED)?;
+    assert_encoded(&rt, alloc, true, &both, messages(2), &octets)?;
+    assert_plain(&rt, alloc)
 }
 
 #[test]
@@ -217,11 +243,33 @@ fn listings_of_no_message(rt: HostRuntime) -> Result<(), Fail> {
         b"\n".as_slice(),
         b"# nothing\r\n\n# more".as_slice(),
     ] {
-        let (answer, written) = encoded(alloc, true, listing)?;
-        assert_eq!(rt; answer, messages(0));
-        assert_eq!(rt; written.len(), 0);
+        assert_encoded(&rt, alloc, true, listing, messages(0), b"")?;
     }
     Ok(())
+}
+
+/// The second message of a listing cannot be compressed, and nothing is written.
+fn assert_not_compressible(rt: &impl Abort, alloc: Global, listing: &[u8]) -> Result<(), Fail> {
+    let (answer, written) = encoded(alloc, 10, true, listing)?;
+    let Err(ToolFault::Encode(2, why)) = answer else {
+        return Err(Fail::from("the second message is not refused"));
+    };
+    let text = why.to_string(alloc)?;
+    same(rt, text.as_str(), "E2 NotCompressible 1");
+    same(rt, written.len(), 0);
+    Ok(())
+}
+
+/// A line of a listing is bad, and nothing is written.
+fn assert_bad_line(
+    rt: &impl Abort,
+    alloc: Global,
+    compressed: bool,
+    listing: &[u8],
+    line: u128,
+) -> Result<(), Fail> {
+    let wanted = Err(ToolFault::Listing(ListingFault::BadLine(line)));
+    assert_encoded(rt, alloc, compressed, listing, wanted, b"")
 }
 
 /// A message that is refused leaves nothing written of those before it, and the listing's fault
@@ -229,52 +277,44 @@ fn listings_of_no_message(rt: HostRuntime) -> Result<(), Fail> {
 #[test]
 fn first_faults(rt: HostRuntime) -> Result<(), Fail> {
     let alloc = rt.alloc();
-    let mut listing = Vec::from_slice(alloc, PAIR_LISTING)?;
-    listing.extend_from_slice(UNEQUAL_COUNTS_LISTING)?;
-    let (answer, written) = encoded(alloc, true, &listing)?;
-    let Err(ToolFault::Encode(2, why)) = answer else {
-        return Err(Fail::from("the second message is not refused"));
+    let two = joined(alloc, PAIR_LISTING, UNEQUAL_COUNTS_LISTING)?;
+    assert_not_compressible(&rt, alloc, &two)?;
+    let three = joined(alloc, &two, PAIR_LISTING)?;
+    let (_, written) = encoded(alloc, 10, true, &three)?;
+    same(&rt, written.len(), 0);
+    let four = joined(alloc, &three, b"message\nsection\n".as_slice())?;
+    assert_bad_line(&rt, alloc, true, &four, 61)?;
+    let cut = LISTING.get(..232).ok_or("without its end")?;
+    assert_bad_line(&rt, alloc, false, cut, 15)
+}
+
+/// Why a listing was not encoded to a writer that has room for so many octets, if it was not, and
+/// what the writer took.
+fn broken_after(
+    alloc: Global,
+    tables: &Tables,
+    listing: &[u8],
+    room: usize,
+) -> (Option<ToolFault>, Vec<u8>) {
+    let mut writer = Breaks {
+        taken: Vec::new(alloc),
+        room,
+        failed: false,
     };
-    assert_eq!(rt; why.to_string(alloc)?.as_str(), "E2 NotCompressible 1");
-    assert_eq!(rt; written.len(), 0);
-    listing.extend_from_slice(PAIR_LISTING)?;
-    let (_, written) = encoded(alloc, true, &listing)?;
-    assert_eq!(rt; written.len(), 0);
-    listing.extend_from_slice(b"message\nsection\n".as_slice())?;
-    let (answer, written) = encoded(alloc, true, &listing)?;
-    assert_eq!(rt; answer, Err(ToolFault::Listing(ListingFault::BadLine(61))));
-    assert_eq!(rt; written.len(), 0);
-    let (answer, written) = encoded(alloc, false, LISTING.get(..232).ok_or("without its end")?)?;
-    assert_eq!(rt; answer, Err(ToolFault::Listing(ListingFault::BadLine(15))));
-    assert_eq!(rt; written.len(), 0);
-    Ok(())
+    let mut reader = FromRead::new(listing);
+    let fault = run_encode(alloc, 10, tables, false, &mut reader, &mut writer).err();
+    (fault, writer.taken)
 }
 
 #[test]
 fn failing_writer(rt: HostRuntime) -> Result<(), Fail> {
     let alloc = rt.alloc();
     let tables = tables(alloc)?;
-    let mut listing = Vec::from_slice(alloc, LISTING)?;
-    listing.extend_from_slice(SEQUENCES_LISTING)?;
-    let mut octets = Vec::from_slice(alloc, ELEMENTS_ONLY)?;
-    octets.extend_from_slice(SEQUENCES)?;
+    let listing = joined(alloc, LISTING, SEQUENCES_LISTING)?;
+    let octets = joined(alloc, ELEMENTS_ONLY, SEQUENCES)?;
     for room in 0usize..133 {
-        let mut writer = Breaks {
-            taken: Vec::new(alloc),
-            room,
-            failed: false,
-        };
-        let mut reader = FromRead::new(listing.as_slice());
-        let answer = run_encode(alloc, 10, &tables, false, &mut reader, &mut writer);
-        assert_eq!(rt;
-            answer,
-            Err(ToolFault::WriteFailed {
-                written: room as u128
-            }),
-            "at {room}"
-        );
-        assert_eq!(rt; writer.taken.len(), room);
-        assert!(rt; octets.starts_with(&writer.taken));
+        let (fault, taken) = broken_after(alloc, &tables, &listing, room);
+        assert_broken(&rt, room, fault, &taken, &octets);
     }
     Ok(())
 }
@@ -302,15 +342,30 @@ fn dripping(
 fn endless_and_failing_readers(rt: HostRuntime) -> Result<(), Fail> {
     let alloc = rt.alloc();
     let endless = Err(ToolFault::EndlessInput(Input::Number(1)));
-    assert_eq!(rt; dripping(alloc, 100, false)?, (endless, 0));
-    assert_eq!(rt; dripping(alloc, 4, false)?, (endless, 0));
     let failed = Err(ToolFault::ReadFailed(Input::Number(1)));
-    assert_eq!(rt; dripping(alloc, 2, true)?, (failed, 0));
-    assert_eq!(rt; dripping(alloc, 0, true)?, (failed, 0));
     let fault = Err(ToolFault::Listing(ListingFault::BadLine(1)));
-    assert_eq!(rt; dripping(alloc, 3, false)?, (fault, 0));
-    assert_eq!(rt; dripping(alloc, 0, false)?, (messages(0), 0));
+    for (octets, breaks, wanted) in [
+        (100, false, endless),
+        (4, false, endless),
+        (2, true, failed),
+        (0, true, failed),
+        (3, false, fault),
+        (0, false, messages(0)),
+    ] {
+        same(&rt, dripping(alloc, octets, breaks)?, (wanted, 0));
+    }
     Ok(())
+}
+
+/// The four examples one behind another, five hundred times.
+fn two_thousand_messages(alloc: Global) -> Result<Vec<u8>, AllocError> {
+    let mut octets = Vec::new(alloc);
+    for _ in 0u32..500 {
+        for example in [SEQUENCES, COMPRESSED_PAIR, UNEQUAL_COUNTS, ELEMENTS_ONLY] {
+            octets.extend_from_slice(example)?;
+        }
+    }
+    Ok(octets)
 }
 
 /// Two thousand messages are written one behind another, and what is shown of them is encoded to
@@ -318,24 +373,12 @@ fn endless_and_failing_readers(rt: HostRuntime) -> Result<(), Fail> {
 #[test]
 fn many_messages(rt: HostRuntime) -> Result<(), Fail> {
     let alloc = rt.alloc();
-    let tables = tables(alloc)?;
-    let mut octets = Vec::new(alloc);
-    for _ in 0u32..500 {
-        octets.extend_from_slice(SEQUENCES)?;
-        octets.extend_from_slice(COMPRESSED_PAIR)?;
-        octets.extend_from_slice(UNEQUAL_COUNTS)?;
-        octets.extend_from_slice(ELEMENTS_ONLY)?;
-    }
-    let mut shown = IntoWrite::new(Vec::new(alloc));
-    let mut reader = FromRead::new(octets.as_slice());
-    let answer = run_show(alloc, 10, &tables, &mut reader, &mut shown);
-    assert_eq!(rt; answer, messages(2000));
-    let listing = shown.into_inner();
-    let mut writer = IntoWrite::new(Vec::new(alloc));
-    let mut reader = FromRead::new(listing.as_slice());
-    let answer = run_encode(alloc, 100, &tables, false, &mut reader, &mut writer);
-    assert_eq!(rt; answer, messages(2000));
-    assert_eq!(rt; writer.into_inner().as_slice(), octets.as_slice());
+    let octets = two_thousand_messages(alloc)?;
+    let (answer, listing) = shown(alloc, &octets)?;
+    same(&rt, answer, messages(2000));
+    let (answer, written) = encoded(alloc, 100, false, &listing)?;
+    same(&rt, answer, messages(2000));
+    same(&rt, written.as_slice(), octets.as_slice());
     Ok(())
 }
 
@@ -356,7 +399,7 @@ fn lines_of_faults(rt: HostRuntime) -> Result<(), Fail> {
         ),
     ];
     for (fault, text) in faults {
-        assert_eq!(rt; fault.to_string(rt.alloc())?.as_str(), text);
+        assert_line(&rt, rt.alloc(), fault, text)?;
     }
     Ok(())
 }

@@ -2,11 +2,12 @@
 
 ghost use Rattle.std.specs.Prelude.{Some};
 
-use super::{ELEMENTS_ONLY, LISTING, tables};
+use super::{ELEMENTS_ONLY, LISTING, assert_broken, same, same_at, tables};
 use bufr_bits::{Failed, FromRead, Sink};
 use bufr_engines::ToolFault;
 use bufr_tool::run_show;
 use std::alloc::Global;
+use std::process::Abort;
 use std::test::Fail;
 
 /// Four thousand compressed subsets of one element, all alike: 49 octets.
@@ -89,22 +90,31 @@ fn listing_of_many(alloc: Global) -> Result<Vec<u8>, Fail> {
     Ok(wanted)
 }
 
+/// A message is shown in so many parts, of which the longest is so long.
+fn assert_parts(
+    rt: &impl Abort,
+    found: (Option<ToolFault>, Pieces),
+    parts: (u32, usize),
+    text: &[u8],
+) {
+    let (fault, writer) = found;
+    same(rt, fault, None);
+    same(rt, (writer.count, writer.longest), parts);
+    same(rt, writer.taken.as_slice(), text);
+}
+
 /// A short listing is written at once. A long one is written in two parts: the first ends with the
 /// subset whose lines make it 65,536 octets long or longer, which is the 3,850th: 102 + 17 * 3850
 /// are 65,552.
 #[test]
 fn long_listing_in_two_parts(rt: HostRuntime) -> Result<(), Fail> {
     let alloc = rt.alloc();
-    let (fault, writer) = shown_in(alloc, ELEMENTS_ONLY, 1000)?;
-    assert_eq!(rt; fault, None);
-    assert_eq!(rt; (writer.count, writer.longest), (1, 236));
-    assert_eq!(rt; writer.taken.as_slice(), LISTING);
+    let found = shown_in(alloc, ELEMENTS_ONLY, 1000)?;
+    assert_parts(&rt, found, (1, 236), LISTING);
     let wanted = listing_of_many(alloc)?;
-    assert_eq!(rt; wanted.len(), 68_106);
-    let (fault, writer) = shown_in(alloc, MANY_SUBSETS, 100_000)?;
-    assert_eq!(rt; fault, None);
-    assert_eq!(rt; (writer.count, writer.longest), (2, 65_552));
-    assert_eq!(rt; writer.taken.as_slice(), wanted.as_slice());
+    same(&rt, wanted.len(), 68_106);
+    let found = shown_in(alloc, MANY_SUBSETS, 100_000)?;
+    assert_parts(&rt, found, (2, 65_552), &wanted);
     Ok(())
 }
 
@@ -116,16 +126,8 @@ fn failing_writer_of_a_long_listing(rt: HostRuntime) -> Result<(), Fail> {
     let wanted = listing_of_many(alloc)?;
     for (room, count) in [(1000usize, 0), (65_552, 1), (65_652, 1), (68_105, 1)] {
         let (fault, writer) = shown_in(alloc, MANY_SUBSETS, room)?;
-        assert_eq!(rt;
-            fault,
-            Some(ToolFault::WriteFailed {
-                written: room as u128
-            }),
-            "at {room}"
-        );
-        assert_eq!(rt; writer.count, count, "at {room}");
-        assert_eq!(rt; writer.taken.len(), room);
-        assert!(rt; wanted.starts_with(&writer.taken));
+        assert_broken(&rt, room, fault, &writer.taken, &wanted);
+        same_at(&rt, writer.count, count, room);
     }
     Ok(())
 }

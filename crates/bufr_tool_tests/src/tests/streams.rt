@@ -2,12 +2,18 @@
 
 ghost use Rattle.std.specs.Prelude.{◌≡◌, Some, None, false};
 
-use super::{ELEMENTS_ONLY, LISTING, SEQUENCES, tables};
+use super::{
+    ELEMENTS_ONLY, LISTING, SEQUENCES, TABLE_B, TABLE_D, assert_broken, same, same_at, shown,
+    tables,
+};
 use bufr_bits::{Failed, FromRead, IntoWrite, Sink, Source};
 use bufr_engines::{Input, Tally, ToolFault};
-use bufr_tool::{MOST_READS, run_check, run_command, run_show};
+use bufr_tables::Tables;
+use bufr_tool::{MOST_READS, load_tables, run_check, run_command, run_encode};
 use std::alloc::Global;
 use std::io::Cursor;
+use std::process::Abort;
+use std::rt::Files;
 use std::test::Fail;
 
 const CHECKED: &str = "18 62 ok 1 0\n84 62 ok 1 0\nframes 2 refused 0 skipped 22\n";
@@ -109,18 +115,29 @@ const TWO: Tally = Tally {
     reports: 0,
 };
 
+/// This was answered and written.
+fn assert_checked(
+    rt: &impl Abort,
+    found: (Result<Tally, ToolFault>, String),
+    wanted: Result<Tally, ToolFault>,
+    text: &str,
+) {
+    let (answer, written) = found;
+    same(rt, answer, wanted);
+    same(rt, written.as_str(), text);
+}
+
 #[test]
 fn two_frames_and_a_stray_in_any_pieces(rt: HostRuntime) -> Result<(), Fail> {
     let alloc = rt.alloc();
     let stream = two_frames_and_a_stray(alloc)?;
     for cut in 0usize..147 {
         let (answer, text) = checked(alloc, 10, &stream, cut, 1000, false)?;
-        assert_eq!(rt; answer, Ok(TWO), "at {cut}");
-        assert_eq!(rt; text.as_str(), CHECKED, "at {cut}");
+        same_at(&rt, answer, Ok(TWO), cut);
+        same_at(&rt, text.as_str(), CHECKED, cut);
     }
-    let (answer, text) = checked(alloc, 147, &stream, 0, 1, false)?;
-    assert_eq!(rt; answer, Ok(TWO));
-    assert_eq!(rt; text.as_str(), CHECKED);
+    let found = checked(alloc, 147, &stream, 0, 1, false)?;
+    assert_checked(&rt, found, Ok(TWO), CHECKED);
     Ok(())
 }
 
@@ -129,12 +146,27 @@ fn failing_reader_after_a_frame(rt: HostRuntime) -> Result<(), Fail> {
     let alloc = rt.alloc();
     let stream = two_frames_and_a_stray(alloc)?;
     let front = stream.as_slice().get(..100).ok_or("a hundred octets")?;
-    let (answer, text) = checked(alloc, 1000, front, 0, 1, true)?;
-    assert_eq!(rt; answer, Err(ToolFault::ReadFailed(Input::Number(1))));
-    assert_eq!(rt; text.as_str(), "18 62 ok 1 0\n");
-    let (answer, text) = checked(alloc, 100, &stream, 0, 1, false)?;
-    assert_eq!(rt; answer, Err(ToolFault::EndlessInput(Input::Number(1))));
-    assert_eq!(rt; text.as_str(), "18 62 ok 1 0\n");
+    let failed = Err(ToolFault::ReadFailed(Input::Number(1)));
+    let found = checked(alloc, 1000, front, 0, 1, true)?;
+    assert_checked(&rt, found, failed, "18 62 ok 1 0\n");
+    let endless = Err(ToolFault::EndlessInput(Input::Number(1)));
+    let found = checked(alloc, 100, &stream, 0, 1, false)?;
+    assert_checked(&rt, found, endless, "18 62 ok 1 0\n");
+    Ok(())
+}
+
+/// Octets in which there is no whole frame are all skipped.
+fn assert_skipped(rt: &impl Abort, alloc: Global, octets: &[u8]) -> Result<(), Fail> {
+    let length = octets.len();
+    let found = checked(alloc, 10, octets, 0, 1000, false)?;
+    let text = format!(in alloc; "frames 0 refused 0 skipped {length}\n")?;
+    let wanted = Ok(Tally {
+        frames: 0,
+        refused: 0,
+        skipped: length as u128,
+        reports: 0,
+    });
+    assert_checked(rt, found, wanted, text.as_str());
     Ok(())
 }
 
@@ -142,18 +174,7 @@ fn failing_reader_after_a_frame(rt: HostRuntime) -> Result<(), Fail> {
 fn cut_short(rt: HostRuntime) -> Result<(), Fail> {
     let alloc = rt.alloc();
     for length in 0usize..62 {
-        let (answer, text) = checked(alloc, 10, &SEQUENCES[..length], 0, 1000, false)?;
-        let wanted = format!(in alloc; "frames 0 refused 0 skipped {length}\n")?;
-        assert_eq!(rt; text.as_str(), wanted.as_str());
-        assert_eq!(rt;
-            answer,
-            Ok(Tally {
-                frames: 0,
-                refused: 0,
-                skipped: length as u128,
-                reports: 0,
-            })
-        );
+        assert_skipped(&rt, alloc, &SEQUENCES[..length])?;
     }
     Ok(())
 }
@@ -163,17 +184,16 @@ fn endless_reader(rt: HostRuntime) -> Result<(), Fail> {
     let alloc = rt.alloc();
     let endless = Err(ToolFault::EndlessInput(Input::Number(1)));
     let octets = b"BBBBBBBB".as_slice();
-    assert_eq!(rt; checked(alloc, 4, octets, 0, 1, false)?.0, endless);
-    assert_eq!(rt; checked(alloc, 4, &octets[..4], 0, 1, false)?.0, endless);
-    assert_eq!(rt; checked(alloc, 0, octets, 0, 1, false)?.0, endless);
+    for (reads, octets) in [(4, octets), (4, &octets[..4]), (0, octets)] {
+        same(&rt, checked(alloc, reads, octets, 0, 1, false)?.0, endless);
+    }
     let (_, text) = checked(alloc, 4, &octets[..3], 0, 1, false)?;
-    assert_eq!(rt; text.as_str(), "frames 0 refused 0 skipped 3\n");
+    same(&rt, text.as_str(), "frames 0 refused 0 skipped 3\n");
     Ok(())
 }
 
-#[test]
-fn thousand_refused(rt: HostRuntime) -> Result<(), Fail> {
-    let alloc = rt.alloc();
+/// A thousand frames that are refused, and what checking them writes.
+fn thousand_frames(alloc: Global) -> Result<(Vec<u8>, String), Fail> {
     let mut stream = Vec::new(alloc);
     let mut wanted = String::new(alloc);
     for number in 0u32..1000 {
@@ -182,17 +202,21 @@ fn thousand_refused(rt: HostRuntime) -> Result<(), Fail> {
         write!(wanted, "{place} 12 refused M5 Section1Length\n")?;
     }
     wanted.push_str("frames 1000 refused 1000 skipped 0\n")?;
-    let (answer, text) = checked(alloc, 1000, &stream, 0, 65536, false)?;
-    assert_eq!(rt; text.as_str(), wanted.as_str());
-    assert_eq!(rt;
-        answer,
-        Ok(Tally {
-            frames: 1000,
-            refused: 1000,
-            skipped: 0,
-            reports: 0,
-        })
-    );
+    Ok((stream, wanted))
+}
+
+#[test]
+fn thousand_refused(rt: HostRuntime) -> Result<(), Fail> {
+    let alloc = rt.alloc();
+    let (stream, text) = thousand_frames(alloc)?;
+    let found = checked(alloc, 1000, &stream, 0, 65536, false)?;
+    let wanted = Ok(Tally {
+        frames: 1000,
+        refused: 1000,
+        skipped: 0,
+        reports: 0,
+    });
+    assert_checked(&rt, found, wanted, text.as_str());
     Ok(())
 }
 
@@ -225,16 +249,15 @@ impl Source for Again<'_> {
     }
 }
 
-#[test]
-fn bufr_without_end(rt: HostRuntime) -> Result<(), Fail> {
-    let alloc = rt.alloc();
+/// What checking a piece that is given 256 times answers within 257 reads, what was written, and the
+/// reader.
+fn checked_again<'a>(
+    alloc: Global,
+    piece: &'a [u8],
+) -> Result<(Result<Tally, ToolFault>, Vec<u8>, Again<'a>), Fail> {
     let tables = tables(alloc)?;
-    let mut piece = Vec::new(alloc);
-    for _ in 0u32..16_384 {
-        piece.extend_from_slice(b"BUFR".as_slice())?;
-    }
     let mut reader = Again {
-        piece: &piece,
+        piece,
         times: 256,
         asked: 0,
         reads: 0,
@@ -242,21 +265,66 @@ fn bufr_without_end(rt: HostRuntime) -> Result<(), Fail> {
     };
     let mut writer = IntoWrite::new(Vec::new(alloc));
     let answer = run_check(alloc, 257, &tables, &mut reader, &mut writer);
-    assert_eq!(rt;
-        answer,
-        Ok(Tally {
-            frames: 0,
-            refused: 0,
-            skipped: 16_777_216,
-            reports: 0,
-        })
-    );
-    assert_eq!(rt;
-        writer.into_inner().as_slice(),
-        b"frames 0 refused 0 skipped 16777216\n".as_slice()
-    );
-    assert_eq!(rt; reader.asked, 65536);
-    assert_eq!(rt; reader.reads, 257);
+    Ok((answer, writer.into_inner(), reader))
+}
+
+#[test]
+fn bufr_without_end(rt: HostRuntime) -> Result<(), Fail> {
+    let alloc = rt.alloc();
+    let mut piece = Vec::new(alloc);
+    for _ in 0u32..16_384 {
+        piece.extend_from_slice(b"BUFR".as_slice())?;
+    }
+    let (answer, written, reader) = checked_again(alloc, &piece)?;
+    let wanted = Ok(Tally {
+        frames: 0,
+        refused: 0,
+        skipped: 16_777_216,
+        reports: 0,
+    });
+    same(&rt, answer, wanted);
+    let text = b"frames 0 refused 0 skipped 16777216\n".as_slice();
+    same(&rt, written.as_slice(), text);
+    same(&rt, (reader.asked, reader.reads), (65536, 257));
+    Ok(())
+}
+
+/// A reader that gives a piece once.
+fn once(piece: &[u8]) -> Again<'_>
+    ensures not_read { result.reads ≡ 0 }
+    ensures not_ended { result.met_end ≡ false }
+{
+    Again {
+        piece,
+        times: 1,
+        asked: 0,
+        reads: 0,
+        met_end: false,
+    }
+}
+
+/// The most octets that a read of Table B and of Table D asks for.
+fn asked_of_tables(alloc: Global) -> Result<(usize, usize), Fail> {
+    let (mut b, mut d) = (once(TABLE_B), once(TABLE_D));
+    let _ = load_tables(alloc, 10, &mut b, &mut d)?;
+    Ok((b.asked, d.asked))
+}
+
+/// The most octets that a read of a listing asks for.
+fn asked_of_listing(alloc: Global) -> Result<usize, Fail> {
+    let tables = tables(alloc)?;
+    let mut listing = once(LISTING);
+    let mut writer = IntoWrite::new(Vec::new(alloc));
+    if run_encode(alloc, 10, &tables, false, &mut listing, &mut writer).is_err() {
+        return Err(Fail::from("a listing that is refused"));
+    }
+    Ok(listing.asked)
+}
+
+#[test]
+fn reads_of_65536_octets(rt: HostRuntime) -> Result<(), Fail> {
+    same(&rt, asked_of_tables(rt.alloc())?, (65536, 65536));
+    same(&rt, asked_of_listing(rt.alloc())?, 65536);
     Ok(())
 }
 
@@ -291,51 +359,52 @@ impl Sink for Narrow {
     }
 }
 
+/// Why a stream in pieces was not checked to a writer that has room for so many octets, if it was
+/// not, and what the writer took.
+fn broken_after(
+    alloc: Global,
+    tables: &Tables,
+    stream: &[u8],
+    room: usize,
+) -> (Option<ToolFault>, Vec<u8>) {
+    let mut writer = Narrow {
+        taken: Vec::new(alloc),
+        room,
+        failed: false,
+    };
+    let mut reader = Pieces::new(stream, 0, 50, false);
+    let fault = run_check(alloc, 10, tables, &mut reader, &mut writer).err();
+    (fault, writer.taken)
+}
+
+/// The stream is checked to a writer that has room for more than is written.
+fn assert_room(rt: &impl Abort, alloc: Global, tables: &Tables, stream: &[u8]) {
+    let mut writer = Narrow {
+        taken: Vec::new(alloc),
+        room: 58,
+        failed: false,
+    };
+    let mut reader = FromRead::new(stream);
+    let answer = run_check(alloc, 10, tables, &mut reader, &mut writer);
+    same(rt, answer, Ok(TWO));
+    same(rt, writer.taken.as_slice(), CHECKED.as_bytes());
+}
+
 #[test]
 fn failing_writer(rt: HostRuntime) -> Result<(), Fail> {
     let alloc = rt.alloc();
     let stream = two_frames_and_a_stray(alloc)?;
     let tables = tables(alloc)?;
     for room in 0usize..57 {
-        let mut writer = Narrow {
-            taken: Vec::new(alloc),
-            room,
-            failed: false,
-        };
-        let mut reader = Pieces::new(&stream, 0, 50, false);
-        let answer = run_check(alloc, 10, &tables, &mut reader, &mut writer);
-        assert_eq!(rt;
-            answer,
-            Err(ToolFault::WriteFailed {
-                written: room as u128
-            }),
-            "at {room}"
-        );
-        assert_eq!(rt; writer.taken.len(), room);
-        assert!(rt; CHECKED.as_bytes().starts_with(&writer.taken));
+        let (fault, taken) = broken_after(alloc, &tables, &stream, room);
+        assert_broken(&rt, room, fault, &taken, CHECKED.as_bytes());
     }
-    let mut writer = Narrow {
-        taken: Vec::new(alloc),
-        room: 58,
-        failed: false,
-    };
-    let answer = run_check(
-        alloc,
-        10,
-        &tables,
-        &mut FromRead::new(stream.as_slice()),
-        &mut writer,
-    );
-    assert_eq!(rt; answer, Ok(TWO));
-    assert_eq!(rt; writer.taken.as_slice(), CHECKED.as_bytes());
+    assert_room(&rt, alloc, &tables, &stream);
     Ok(())
 }
 
-/// The messages of a stream are shown one after another.
-#[test]
-fn several_messages_shown(rt: HostRuntime) -> Result<(), Fail> {
-    let alloc = rt.alloc();
-    let tables = tables(alloc)?;
+/// Noise, two thousand messages and a refused frame, and what is shown of them.
+fn many_messages(alloc: Global) -> Result<(Vec<u8>, Vec<u8>), Fail> {
     let mut stream = Vec::from_slice(alloc, b"noise".as_slice())?;
     let mut wanted = Vec::new(alloc);
     for _ in 0u32..2000 {
@@ -344,25 +413,43 @@ fn several_messages_shown(rt: HostRuntime) -> Result<(), Fail> {
     }
     stream.extend_from_slice(b"BUFR\x00\x00\x0C\x057777".as_slice())?;
     wanted.extend_from_slice(b"# refused 140005 M2 Edition 5\n".as_slice())?;
-    let mut writer = IntoWrite::new(Vec::new(alloc));
-    let answer = run_show(
-        alloc,
-        10,
-        &tables,
-        &mut FromRead::new(stream.as_slice()),
-        &mut writer,
-    );
-    assert_eq!(rt; writer.into_inner().as_slice(), wanted.as_slice());
-    assert_eq!(rt;
-        answer,
-        Ok(Tally {
-            frames: 2001,
-            refused: 1,
-            skipped: 0,
-            reports: 0,
-        })
-    );
+    Ok((stream, wanted))
+}
+
+/// The messages of a stream are shown one after another.
+#[test]
+fn several_messages_shown(rt: HostRuntime) -> Result<(), Fail> {
+    let alloc = rt.alloc();
+    let (stream, text) = many_messages(alloc)?;
+    let (answer, written) = shown(alloc, &stream)?;
+    same(&rt, written.as_slice(), text.as_slice());
+    let wanted = Ok(Tally {
+        frames: 2001,
+        refused: 1,
+        skipped: 0,
+        reports: 0,
+    });
+    same(&rt, answer, wanted);
     Ok(())
+}
+
+/// The status of the command of no words where the output has room for four octets, and what it
+/// wrote of errors.
+fn help_cut_short(rt: &impl Files, alloc: Global) -> (u8, Vec<u8>) {
+    let mut out = Cursor::new([0u8; 4]);
+    let mut err = Vec::new(alloc);
+    let none: [String; 0] = [];
+    let status = run_command(rt, alloc, none.as_slice(), &mut out, &mut err);
+    (status, err)
+}
+
+/// The status of the command that asks for the version, what it wrote, and what it wrote of errors.
+fn version(rt: &impl Files, alloc: Global) -> Result<(u8, Vec<u8>, Vec<u8>), Fail> {
+    let words = [String::from_str(alloc, "--version")?];
+    let mut out = Vec::new(alloc);
+    let mut err = Vec::new(alloc);
+    let status = run_command(rt, alloc, words.as_slice(), &mut out, &mut err);
+    Ok((status, out, err))
 }
 
 /// Help that cannot be written is a fault, and the version is the name and the number. The commands
@@ -370,22 +457,14 @@ fn several_messages_shown(rt: HostRuntime) -> Result<(), Fail> {
 #[test]
 fn help_and_version(rt: HostRuntime) -> Result<(), Fail> {
     let alloc = rt.alloc();
-    let mut out = Cursor::new([0u8; 4]);
-    let mut err = Vec::new(alloc);
-    let none: [String; 0] = [];
-    let status = run_command(&rt, alloc, none.as_slice(), &mut out, &mut err);
-    assert_eq!(rt; status, 2);
-    assert_eq!(rt;
-        err.as_slice(),
-        b"bufr: write failed after 4 octets\n".as_slice()
-    );
-    let words = [String::from_str(alloc, "--version")?];
-    let mut out = Vec::new(alloc);
-    let mut err = Vec::new(alloc);
-    let status = run_command(&rt, alloc, words.as_slice(), &mut out, &mut err);
-    assert_eq!(rt; status, 0);
-    assert_eq!(rt; out.as_slice(), b"bufr 0.1.0\n".as_slice());
+    let (status, err) = help_cut_short(&rt, alloc);
+    same(&rt, status, 2);
+    let fault = b"bufr: write failed after 4 octets\n".as_slice();
+    same(&rt, err.as_slice(), fault);
+    let (status, out, err) = version(&rt, alloc)?;
+    same(&rt, status, 0);
+    same(&rt, out.as_slice(), b"bufr 0.1.0\n".as_slice());
     assert!(rt; err.is_empty());
-    assert_eq!(rt; MOST_READS, 4_294_967_296);
+    same(&rt, MOST_READS, 4_294_967_296);
     Ok(())
 }

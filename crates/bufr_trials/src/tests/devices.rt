@@ -1,6 +1,6 @@
 //! Devices that fail, that never end, and that give and take what they like.
 
-ghost use Rattle.std.specs.Prelude.{◌≡◌, Some, None, false};
+ghost use Rattle.std.specs.Prelude.{◌≡◌, ◌≤◌, length, Some, None, false};
 
 use crate::tests::random::Numbers;
 use bufr_bits::{Failed, Sink, Source};
@@ -75,6 +75,21 @@ impl<'a> Pieces<'a> {
             Some(numbers) => numbers.below(most).saturating_add(1),
         }
     }
+
+    /// Gives the next octets to the front of a buffer, and answers how many.
+    fn give(&mut self, buffer: &mut [u8]) -> usize
+        ensures within { result ≤ length buffer.new }
+        ensures failed { self.new.failed ≡ self.old.failed }
+        ensures reads { self.new.reads ≡ self.old.reads }
+        ensures met_end { self.new.met_end ≡ self.old.met_end }
+    {
+        let most = self.piece();
+        let octets = self.octets;
+        let given = octets.len().min(most).min(buffer.len());
+        buffer[..given].copy_from_slice(&octets[..given]);
+        self.octets = &octets[given..];
+        given
+    }
 }
 
 impl Source for Pieces<'_> {
@@ -82,13 +97,9 @@ impl Source for Pieces<'_> {
         { left = None; failed = s.failed; reads = s.reads; met_end = s.met_end } };
 
     fn read(&mut self, buffer: &mut [u8]) -> Result<usize, Failed> {
-        let most = self.piece();
+        let given = self.give(buffer);
         self.reads += 1;
-        let octets = self.octets;
-        let given = octets.len().min(most).min(buffer.len());
         if given > 0 {
-            buffer[..given].copy_from_slice(&octets[..given]);
-            self.octets = &octets[given..];
             return Ok(given);
         }
         if self.end == End::Failed {

@@ -6,6 +6,7 @@ use bufr_message::listing::ListingWriteFault;
 use bufr_shelves::JoinFault;
 use bufr_tables::{Failure, TableB, TableD, Tables};
 use std::alloc::Global;
+use std::process::Abort;
 use std::test::Fail;
 
 /// Table B of the tests.
@@ -174,19 +175,13 @@ impl Refusal for JoinFault {
 
 impl Refusal for ListingWriteFault {
     fn is_refusal(&self) -> bool {
-        match self {
-            ListingWriteFault::WriteFailed { .. } => false,
-            ListingWriteFault::OutOfMemory => true,
-        }
+        *self == ListingWriteFault::OutOfMemory
     }
 }
 
 impl Refusal for ToolFault {
     fn is_refusal(&self) -> bool {
-        match self {
-            ToolFault::OutOfMemory => true,
-            _ => false,
-        }
+        *self == ToolFault::OutOfMemory
     }
 }
 
@@ -212,11 +207,32 @@ macro_rules! repeated {
 
 pub(super) use repeated;
 
+/// Table B of the tests, parsed.
+fn elements(alloc: Global) -> Result<TableB, Fail> {
+    Ok(repeated!(TableB::parse(alloc, TABLE_B))?)
+}
+
+/// Table D of the tests, parsed.
+fn sequences(alloc: Global) -> Result<TableD, Fail> {
+    Ok(repeated!(TableD::parse(alloc, TABLE_D))?)
+}
+
 /// The tables of the tests.
 pub(super) fn tables(alloc: Global) -> Result<Tables, Fail> {
-    let elements = repeated!(TableB::parse(alloc, TABLE_B))?;
-    let sequences = repeated!(TableD::parse(alloc, TABLE_D))?;
-    Ok(Tables::new(elements, sequences))
+    let elements = elements(alloc)?;
+    Ok(Tables::new(elements, sequences(alloc)?))
+}
+
+/// These are the tables of the tests.
+pub(super) fn assert_tables(rt: &impl Abort, alloc: Global, found: &Tables) -> Result<(), Fail> {
+    let wanted = tables(alloc)?;
+    assert!(rt; found.same(&wanted));
+    Ok(())
+}
+
+/// An empty vector with room for so many octets.
+pub(super) fn room(alloc: Global, octets: usize) -> Result<Vec<u8>, Fail> {
+    Ok(repeated!(Vec::with_capacity(alloc, octets))?)
 }
 
 /// Octets joined in one vector.

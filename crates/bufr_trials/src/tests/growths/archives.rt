@@ -2,9 +2,10 @@
 
 ghost use Rattle.std.specs.Prelude.{◌≡◌, IfOk};
 
+use crate::tests::same;
 use crate::tests::samples::{
     COMPRESSED_PAIR, MISSING_TEMPERATURE, MONTH_13, NEXT_STATION, PAIR_OF_STATIONS, SEQUENCES,
-    UPDATED, is_refused, joined, repeated, tables,
+    UPDATED, is_refused, joined, repeated, room, tables,
 };
 use bufr_archive::{AddFault, Added, Archive, MapShelf, Shelf, SortedShelf, WriteFault};
 use bufr_bits::IntoWrite;
@@ -13,6 +14,17 @@ use std::alloc::Global;
 use std::process::Abort;
 use std::test::Fail;
 
+/// What an archive writes to a writer with room.
+fn written<S: Shelf>(
+    rt: &impl Abort,
+    alloc: Global,
+    archive: &Archive<S>,
+) -> Result<Vec<u8>, Fail> {
+    let mut sink = IntoWrite::new(room(alloc, 1000)?);
+    assert!(rt; archive.write(&mut sink).is_ok());
+    Ok(sink.into_inner())
+}
+
 /// An archive holds these messages, in this order: it writes them to a writer with room.
 pub(super) fn assert_holds<S: Shelf>(
     rt: &impl Abort,
@@ -20,12 +32,10 @@ pub(super) fn assert_holds<S: Shelf>(
     archive: &Archive<S>,
     wanted: &[&[u8]],
 ) -> Result<(), Fail> {
-    assert_eq!(rt; archive.len(), wanted.len());
+    same(rt, archive.len(), wanted.len());
     let text = joined(alloc, wanted)?;
-    let room = repeated!(Vec::with_capacity(alloc, 1000))?;
-    let mut sink = IntoWrite::new(room);
-    assert!(rt; archive.write(&mut sink).is_ok());
-    assert_eq!(rt; sink.into_inner().as_slice(), text.as_slice());
+    let octets = written(rt, alloc, archive)?;
+    same(rt, octets.as_slice(), text.as_slice());
     Ok(())
 }
 
@@ -35,6 +45,36 @@ fn joined_before(answer: &Result<Added, AddFault>) -> Option<u128> {
         Err(AddFault::OutOfMemory { done }) => Some(*done),
         _ => None,
     }
+}
+
+/// An archive holds so many of these messages, one at the most.
+fn assert_holds_first<S: Shelf>(
+    rt: &impl Abort,
+    alloc: Global,
+    archive: &Archive<S>,
+    one: &[&[u8]],
+    count: u128,
+) -> Result<(), Fail> {
+    assert!(rt; count <= 1);
+    let held = one.get(..count as usize).ok_or("a report")?;
+    assert_holds(rt, alloc, archive, held)
+}
+
+/// Adds a message of two reports. After a refusal the reports that were told are held, and no
+/// others, and it is added again. Answered too is how many were told.
+fn added<S: Shelf>(
+    rt: &impl Abort,
+    alloc: Global,
+    archive: &mut Archive<S>,
+    octets: &[u8],
+    one: &[&[u8]],
+) -> Result<(Result<Added, AddFault>, u128), Fail> {
+    let answer = archive.add_message(octets);
+    let Some(done) = joined_before(&answer) else {
+        return Ok((answer, 0));
+    };
+    assert_holds_first(rt, alloc, archive, one, done)?;
+    Ok((archive.add_message(octets), done))
 }
 
 /// A message of two reports is added: after a refusal the reports that were told are held, and no
@@ -48,24 +88,13 @@ fn adds<S: Shelf>(
 ) -> Result<(), Fail> {
     let tables = tables(alloc)?;
     let mut archive: Archive<S> = Archive::new(alloc, &tables);
-    let mut answer = archive.add_message(octets);
-    let mut before: u128 = 0;
-    if let Some(done) = joined_before(&answer) {
-        assert!(rt; done <= 1);
-        let held = one.get(..done as usize).ok_or("a report")?;
-        assert_holds(rt, alloc, &archive, held)?;
-        before = done;
-        answer = archive.add_message(octets);
-    }
+    let (answer, before) = added(rt, alloc, &mut archive, octets, one)?;
     assert!(rt; before <= 1);
-    let changed = 2 - before;
-    assert_eq!(rt;
-        answer,
-        Ok(Added {
-            reports: 2,
-            changed
-        })
-    );
+    let both_added = Added {
+        reports: 2,
+        changed: 2 - before,
+    };
+    same(rt, answer, Ok(both_added));
     assert_holds(rt, alloc, &archive, both)
 }
 
@@ -100,19 +129,41 @@ const HELD: [&[u8]; 2] = [SEQUENCES, MONTH_13];
 /// The one in its place, and one more.
 const TAKEN_IN: [&[u8]; 2] = [UPDATED, NEXT_STATION];
 
-/// An archive takes in another: after a refusal it holds what it held. The other stays.
+/// An archive takes in another: after a refusal it holds what it held.
+fn merge<'t, S: Shelf>(
+    rt: &impl Abort,
+    alloc: Global,
+    archive: &mut Archive<'t, S>,
+    other: &Archive<'t, S>,
+) -> Result<(), Fail>
+    requires { archive.old.tables ≡ other.now.tables }
+{
+    let mut answer = archive.merge(other);
+    if is_refused(&answer) {
+        assert_holds(rt, alloc, archive, &HELD)?;
+        answer = archive.merge(other);
+    }
+    Ok(answer?)
+}
+
+/// An archive holds what it held and what it took in. The other stays.
+fn assert_merged<S: Shelf>(
+    rt: &impl Abort,
+    alloc: Global,
+    archive: &Archive<S>,
+    other: &Archive<S>,
+) -> Result<(), Fail> {
+    assert_holds(rt, alloc, archive, &[UPDATED, NEXT_STATION, MONTH_13])?;
+    assert_holds(rt, alloc, other, &TAKEN_IN)
+}
+
+/// An archive takes in another.
 fn merges<S: Shelf>(rt: &impl Abort, alloc: Global) -> Result<(), Fail> {
     let tables = tables(alloc)?;
     let mut archive: Archive<S> = archive_of(alloc, &tables, &HELD)?;
     let other: Archive<S> = archive_of(alloc, &tables, &TAKEN_IN)?;
-    let mut answer = archive.merge(&other);
-    if is_refused(&answer) {
-        assert_holds(rt, alloc, &archive, &HELD)?;
-        answer = archive.merge(&other);
-    }
-    answer?;
-    assert_holds(rt, alloc, &archive, &[UPDATED, NEXT_STATION, MONTH_13])?;
-    assert_holds(rt, alloc, &other, &TAKEN_IN)
+    merge(rt, alloc, &mut archive, &other)?;
+    assert_merged(rt, alloc, &archive, &other)
 }
 
 #[test]
@@ -121,19 +172,38 @@ fn archives_merged(rt: HostRuntime) -> Result<(), Fail> {
     merges::<SortedShelf>(&rt, rt.alloc())
 }
 
+/// A copy of an archive holds what that holds.
+fn assert_copied<S: Shelf>(
+    rt: &impl Abort,
+    alloc: Global,
+    archive: &Archive<S>,
+) -> Result<(), Fail> {
+    let copied = repeated!(archive.copy())?;
+    assert_holds(rt, alloc, &copied, &HELD)
+}
+
 /// An archive is copied.
 fn copies<S: Shelf>(rt: &impl Abort, alloc: Global) -> Result<(), Fail> {
     let tables = tables(alloc)?;
     let archive: Archive<S> = archive_of(alloc, &tables, &HELD)?;
-    let copied = repeated!(archive.copy())?;
-    assert_holds(rt, alloc, &archive, &HELD)?;
-    assert_holds(rt, alloc, &copied, &HELD)
+    assert_copied(rt, alloc, &archive)?;
+    assert_holds(rt, alloc, &archive, &HELD)
 }
 
 #[test]
 fn archives_copied(rt: HostRuntime) -> Result<(), Fail> {
     copies::<MapShelf>(&rt, rt.alloc())?;
     copies::<SortedShelf>(&rt, rt.alloc())
+}
+
+/// A text was written whole, or a front of it of as many octets as were told.
+fn assert_front(rt: &impl Abort, answer: Result<(), WriteFault>, taken: &[u8], text: &[u8]) {
+    assert!(rt; text.starts_with(taken));
+    let told = match answer {
+        Ok(()) => text.len() as u128,
+        Err(WriteFault { written }) => written,
+    };
+    same(rt, taken.len() as u128, told);
 }
 
 /// What is read of a text is written to a writer without room: where memory is refused to that, a
@@ -144,12 +214,7 @@ fn writes<S: Shelf>(rt: &impl Abort, alloc: Global) -> Result<(), Fail> {
     let text = joined(alloc, &HELD)?;
     let mut sink = IntoWrite::new(Vec::new(alloc));
     let answer = archive.write(&mut sink);
-    let taken = sink.into_inner();
-    assert!(rt; text.starts_with(&taken));
-    match answer {
-        Ok(()) => assert_eq!(rt; taken.len(), text.len()),
-        Err(WriteFault { written }) => assert_eq!(rt; taken.len() as u128, written),
-    }
+    assert_front(rt, answer, sink.into_inner().as_slice(), text.as_slice());
     assert_holds(rt, alloc, &archive, &HELD)
 }
 

@@ -1,11 +1,13 @@
 //! Depots, over both shelves.
 
 use crate::tests::growths::archives::assert_holds;
+use crate::tests::same;
 use crate::tests::samples::{
     MONTH_13, NEXT_STATION, PAIR_OF_STATIONS, SEQUENCES, is_refused, joined, repeated, tables,
 };
 use bufr_archive::{MapShelf, Octets, Shelf, SortedShelf};
 use bufr_depot::{Answer, Depot, Plan, Ran, Step, StepFault, run_both};
+use bufr_tables::Tables;
 use std::alloc::Global;
 use std::process::Abort;
 use std::test::Fail;
@@ -51,9 +53,8 @@ fn done<S: Shelf>(
     Ok((answer?, 0))
 }
 
-/// Two pieces: a front of a message, and then its rest, a stray `BUFR` and another message, which
-/// is sure with the stream's end alone.
-fn feeds<S: Shelf>(rt: &impl Abort, alloc: Global, depot: &mut Depot<S>) -> Result<(), Fail> {
+/// A front of a message.
+fn feeds_front<S: Shelf>(rt: &impl Abort, alloc: Global, depot: &mut Depot<S>) -> Result<(), Fail> {
     let front = feed(alloc, &[&PAIR_OF_STATIONS[..40]])?;
     let (answer, _) = done(rt, alloc, depot, &front, 0, 0)?;
     let nothing = Answer::Fed {
@@ -61,7 +62,12 @@ fn feeds<S: Shelf>(rt: &impl Abort, alloc: Global, depot: &mut Depot<S>) -> Resu
         refused: 0,
         changed: 0,
     };
-    assert_eq!(rt; answer, nothing);
+    same(rt, answer, nothing);
+    Ok(())
+}
+
+/// Its rest, a stray `BUFR` and another message, which is sure with the stream's end alone.
+fn feeds_rest<S: Shelf>(rt: &impl Abort, alloc: Global, depot: &mut Depot<S>) -> Result<(), Fail> {
     let rest = feed(alloc, &[&PAIR_OF_STATIONS[40..], b"BUFR", MONTH_13])?;
     let (answer, before) = done(rt, alloc, depot, &rest, 0, 0)?;
     let both = Answer::Fed {
@@ -69,7 +75,7 @@ fn feeds<S: Shelf>(rt: &impl Abort, alloc: Global, depot: &mut Depot<S>) -> Resu
         refused: 0,
         changed: 2u128.saturating_sub(before),
     };
-    assert_eq!(rt; answer, both);
+    same(rt, answer, both);
     assert_slot(rt, alloc, depot, 0, 2)
 }
 
@@ -81,7 +87,7 @@ fn ends<S: Shelf>(rt: &impl Abort, alloc: Global, depot: &mut Depot<S>) -> Resul
         refused: 0,
         changed: 1u128.saturating_sub(before),
     };
-    assert_eq!(rt; answer, one);
+    same(rt, answer, one);
     assert_slot(rt, alloc, depot, 0, 3)
 }
 
@@ -94,25 +100,40 @@ fn joins<S: Shelf>(
     slot: usize,
 ) -> Result<(), Fail> {
     let (answer, before) = done(rt, alloc, depot, step, slot, 0)?;
-    assert_eq!(rt; (answer, before), (Answer::Joined, 0));
+    same(rt, (answer, before), (Answer::Joined, 0));
     assert_slot(rt, alloc, depot, slot, 3)
+}
+
+/// Each kind of step that brings the first slot's archive to another.
+fn all_join<S: Shelf>(rt: &impl Abort, alloc: Global, depot: &mut Depot<S>) -> Result<(), Fail> {
+    let steps = [
+        (1usize, Step::Merge { from: 0, into: 1 }),
+        (2, Step::Transfer { from: 0, into: 2 }),
+        (3, Step::Copy { from: 0, into: 3 }),
+    ];
+    for (slot, step) in &steps {
+        joins(rt, alloc, depot, step, *slot)?;
+    }
+    Ok(())
+}
+
+/// A depot of so many slots.
+fn depot_of<'t, S: Shelf>(
+    alloc: Global,
+    tables: &'t Tables,
+    slots: usize,
+) -> Result<Depot<'t, S>, Fail> {
+    Ok(repeated!(Depot::new(alloc, tables, slots))?)
 }
 
 /// Each kind of step.
 fn steps<S: Shelf>(rt: &impl Abort, alloc: Global) -> Result<(), Fail> {
     let tables = tables(alloc)?;
-    let mut depot: Depot<S> = repeated!(Depot::new(alloc, &tables, 4))?;
-    feeds(rt, alloc, &mut depot)?;
+    let mut depot: Depot<S> = depot_of(alloc, &tables, 4)?;
+    feeds_front(rt, alloc, &mut depot)?;
+    feeds_rest(rt, alloc, &mut depot)?;
     ends(rt, alloc, &mut depot)?;
-    joins(rt, alloc, &mut depot, &Step::Merge { from: 0, into: 1 }, 1)?;
-    joins(
-        rt,
-        alloc,
-        &mut depot,
-        &Step::Transfer { from: 0, into: 2 },
-        2,
-    )?;
-    joins(rt, alloc, &mut depot, &Step::Copy { from: 0, into: 3 }, 3)
+    all_join(rt, alloc, &mut depot)
 }
 
 #[test]
@@ -130,6 +151,22 @@ fn brought(answer: &Result<Answer, StepFault>, all: u128) -> u128 {
     }
 }
 
+/// What the answers of a run tell is held. Answered is whether each step was done.
+fn assert_told<S: Shelf>(
+    rt: &impl Abort,
+    alloc: Global,
+    depot: &Depot<S>,
+    answers: &[Result<Answer, StepFault>],
+) -> Result<bool, Fail> {
+    let [fed, ended, joined] = answers else {
+        return Err("three answers".into());
+    };
+    let first = brought(fed, 2).saturating_add(brought(ended, 0));
+    assert_slot(rt, alloc, depot, 0, first)?;
+    assert_slot(rt, alloc, depot, 1, brought(joined, first))?;
+    Ok(were_done(answers))
+}
+
 /// Steps are run, and no step of a refused run is done. What the answers tell is held. Answered is
 /// whether each step was done.
 fn run<S: Shelf>(
@@ -143,14 +180,21 @@ fn run<S: Shelf>(
         assert_slot(rt, alloc, depot, 0, 0)?;
         answers = depot.run(steps);
     }
-    let answers = answers?;
-    let [fed, ended, joined] = answers.as_slice() else {
-        return Err("three answers".into());
-    };
-    let first = brought(fed, 2).saturating_add(brought(ended, 0));
-    assert_slot(rt, alloc, depot, 0, first)?;
-    assert_slot(rt, alloc, depot, 1, brought(joined, first))?;
-    Ok(fed.is_ok() && ended.is_ok() && joined.is_ok())
+    assert_told(rt, alloc, depot, answers?.as_slice())
+}
+
+/// Steps are run, and run again where one was refused.
+fn run_to_end<S: Shelf>(
+    rt: &impl Abort,
+    alloc: Global,
+    depot: &mut Depot<S>,
+    steps: &[Step],
+) -> Result<(), Fail> {
+    if !run(rt, alloc, depot, steps)? {
+        assert!(rt; run(rt, alloc, depot, steps)?);
+    }
+    assert_slot(rt, alloc, depot, 0, 2)?;
+    assert_slot(rt, alloc, depot, 1, 2)
 }
 
 /// A run, and the same run again where a step was refused.
@@ -161,12 +205,8 @@ fn runs<S: Shelf>(rt: &impl Abort, alloc: Global) -> Result<(), Fail> {
         Step::End { slot: 0 },
         Step::Transfer { from: 0, into: 1 },
     ];
-    let mut depot: Depot<S> = repeated!(Depot::new(alloc, &tables, 2))?;
-    if !run(rt, alloc, &mut depot, &steps)? {
-        assert!(rt; run(rt, alloc, &mut depot, &steps)?);
-    }
-    assert_slot(rt, alloc, &depot, 0, 2)?;
-    assert_slot(rt, alloc, &depot, 1, 2)
+    let mut depot: Depot<S> = depot_of(alloc, &tables, 2)?;
+    run_to_end(rt, alloc, &mut depot, &steps)
 }
 
 #[test]
@@ -186,11 +226,11 @@ fn were_done(answers: &[Result<Answer, StepFault>]) -> bool {
 }
 
 /// What two plans leave, on a shelf of either kind; run again where a step was refused.
-fn both_run<'t>(
+fn both_run<'t, 'u>(
     alloc: Global,
     one: &Plan<'t, '_>,
-    other: &Plan<'t, '_>,
-) -> Result<(Ran<'t, MapShelf>, Ran<'t, SortedShelf>), Fail> {
+    other: &Plan<'u, '_>,
+) -> Result<(Ran<'t, MapShelf>, Ran<'u, SortedShelf>), Fail> {
     let (first, second) = repeated!(run_both(alloc, one, other))?;
     if were_done(&first.answers) && were_done(&second.answers) {
         return Ok((first, second));
@@ -198,19 +238,30 @@ fn both_run<'t>(
     Ok(run_both(alloc, one, other)?)
 }
 
+/// A stream of two messages, and its end.
+fn stream_of(alloc: Global, parts: &[&[u8]]) -> Result<[Step; 2], Fail> {
+    Ok([feed(alloc, parts)?, Step::End { slot: 0 }])
+}
+
+/// What two plans leave is the same.
+fn assert_both_run(
+    rt: &impl Abort,
+    alloc: Global,
+    one: &Plan<'_, '_>,
+    other: &Plan<'_, '_>,
+) -> Result<(), Fail> {
+    let (first, second) = both_run(alloc, one, other)?;
+    assert_slot(rt, alloc, &first.depot, 0, 3)?;
+    assert_slot(rt, alloc, &second.depot, 0, 3)
+}
+
 /// Two runs whose streams hold the same messages in another order.
 #[test]
 fn both_plans_run(rt: HostRuntime) -> Result<(), Fail> {
     let alloc = rt.alloc();
     let tables = tables(alloc)?;
-    let steps = [
-        feed(alloc, &[PAIR_OF_STATIONS, MONTH_13])?,
-        Step::End { slot: 0 },
-    ];
-    let turned = [
-        feed(alloc, &[MONTH_13, PAIR_OF_STATIONS])?,
-        Step::End { slot: 0 },
-    ];
+    let steps = stream_of(alloc, &[PAIR_OF_STATIONS, MONTH_13])?;
+    let turned = stream_of(alloc, &[MONTH_13, PAIR_OF_STATIONS])?;
     let one = Plan {
         tables: &tables,
         slots: 1,
@@ -220,7 +271,5 @@ fn both_plans_run(rt: HostRuntime) -> Result<(), Fail> {
         steps: &turned,
         ..one
     };
-    let (first, second) = both_run(alloc, &one, &other)?;
-    assert_slot(&rt, alloc, &first.depot, 0, 3)?;
-    assert_slot(&rt, alloc, &second.depot, 0, 3)
+    assert_both_run(&rt, alloc, &one, &other)
 }

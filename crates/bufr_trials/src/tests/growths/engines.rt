@@ -1,14 +1,16 @@
 //! The engines, over fresh devices each time.
 
+use crate::tests::same;
 use crate::tests::samples::{
-    COMPRESSED_PAIR, SEQUENCES, SEQUENCES_LISTED, TABLE_B, TABLE_D, is_refused, joined, repeated,
-    tables,
+    COMPRESSED_PAIR, SEQUENCES, SEQUENCES_LISTED, TABLE_B, TABLE_D, assert_tables, is_refused,
+    joined, repeated, room, tables,
 };
 use bufr_bits::{FromRead, IntoWrite};
 use bufr_engines::{Tally, ToolFault};
 use bufr_tables::{Fxy, Tables};
 use bufr_tool::{load_tables, run_check, run_show};
 use std::alloc::Global;
+use std::process::Abort;
 use std::test::Fail;
 
 /// The stream of the engines: a heading, a message, a stray `BUFR`, and a compressed message.
@@ -59,8 +61,7 @@ fn run(
     tables: &Tables,
     octets: &[u8],
 ) -> Result<(Result<Tally, ToolFault>, Vec<u8>), Fail> {
-    let room = repeated!(Vec::with_capacity(alloc, 2000))?;
-    let mut writer = IntoWrite::new(room);
+    let mut writer = IntoWrite::new(room(alloc, 2000)?);
     let mut reader = FromRead::new(octets);
     let answer = match engine {
         Engine::Show => run_show(alloc, 10, tables, &mut reader, &mut writer),
@@ -69,56 +70,74 @@ fn run(
     Ok((answer, writer.into_inner()))
 }
 
-/// An engine writes a text, and on a refusal a front of it.
-macro_rules! writes {
-    ($rt:expr, $engine:expr, $wanted:expr, $skipped:expr) => {{
-        let alloc = $rt.alloc();
-        let tables = tables(alloc)?;
-        let octets = stream(alloc)?;
-        let (mut answer, mut written) = run(alloc, $engine, &tables, &octets)?;
-        if is_refused(&answer) {
-            assert!($rt; $wanted.starts_with(&written));
-            (answer, written) = run(alloc, $engine, &tables, &octets)?;
-        }
-        assert_eq!($rt; written.as_slice(), $wanted);
-        let tally = answer?;
-        assert_eq!($rt; (tally.frames, tally.refused, tally.skipped), (2, 0, $skipped));
-    }};
+/// What an engine answers over a stream and what it wrote; on a refusal that is a front of the
+/// text, and the engine is run again.
+fn answered(
+    rt: &impl Abort,
+    alloc: Global,
+    engine: Engine,
+    octets: &[u8],
+    wanted: &[u8],
+) -> Result<(Result<Tally, ToolFault>, Vec<u8>), Fail> {
+    let tables = tables(alloc)?;
+    let (answer, written) = run(alloc, engine, &tables, octets)?;
+    if is_refused(&answer) {
+        assert!(rt; wanted.starts_with(&written));
+        return run(alloc, engine, &tables, octets);
+    }
+    Ok((answer, written))
 }
 
-#[test]
-fn streams_checked(rt: HostRuntime) -> Result<(), Fail> {
-    writes!(rt, Engine::Check, CHECKED, 12);
+/// An engine writes a text of the stream, and skips so many octets of it.
+fn assert_writes(
+    rt: &impl Abort,
+    alloc: Global,
+    engine: Engine,
+    wanted: &[u8],
+    skipped: u128,
+) -> Result<(), Fail> {
+    let octets = stream(alloc)?;
+    let (answer, written) = answered(rt, alloc, engine, &octets, wanted)?;
+    same(rt, written.as_slice(), wanted);
+    let tally = answer?;
+    same(
+        rt,
+        (tally.frames, tally.refused, tally.skipped),
+        (2, 0, skipped),
+    );
     Ok(())
 }
 
 #[test]
+fn streams_checked(rt: HostRuntime) -> Result<(), Fail> {
+    assert_writes(&rt, rt.alloc(), Engine::Check, CHECKED, 12)
+}
+
+#[test]
 fn streams_shown(rt: HostRuntime) -> Result<(), Fail> {
-    let wanted = joined(rt.alloc(), &[SEQUENCES_LISTED, PAIR_LISTED])?;
-    writes!(rt, Engine::Show, wanted.as_slice(), 0);
+    let alloc = rt.alloc();
+    let wanted = joined(alloc, &[SEQUENCES_LISTED, PAIR_LISTED])?;
+    assert_writes(&rt, alloc, Engine::Show, &wanted, 0)
+}
+
+/// The tables of the tests, loaded of fresh readers.
+fn loaded(alloc: Global) -> Result<Tables, ToolFault> {
+    let mut b = FromRead::new(TABLE_B);
+    let mut d = FromRead::new(TABLE_D);
+    load_tables(alloc, 10, &mut b, &mut d)
+}
+
+/// The tables have the sequence of a date.
+fn assert_date(rt: &impl Abort, tables: &Tables) -> Result<(), Fail> {
+    let sequence = Fxy::new(3, 1, 11).ok_or("no descriptor")?;
+    same(rt, tables.sequence(sequence).ok_or("no sequence")?.len(), 3);
     Ok(())
 }
 
 #[test]
 fn tables_loaded(rt: HostRuntime) -> Result<(), Fail> {
     let alloc = rt.alloc();
-    let mut answer = load_tables(
-        alloc,
-        10,
-        &mut FromRead::new(TABLE_B),
-        &mut FromRead::new(TABLE_D),
-    );
-    if is_refused(&answer) {
-        answer = load_tables(
-            alloc,
-            10,
-            &mut FromRead::new(TABLE_B),
-            &mut FromRead::new(TABLE_D),
-        );
-    }
-    let loaded = answer?;
-    assert!(rt; loaded.same(&tables(alloc)?));
-    let sequence = Fxy::new(3, 1, 11).ok_or("no descriptor")?;
-    assert_eq!(rt; loaded.sequence(sequence).ok_or("no sequence")?.len(), 3);
-    Ok(())
+    let loaded = repeated!(loaded(alloc))?;
+    assert_tables(&rt, alloc, &loaded)?;
+    assert_date(&rt, &loaded)
 }

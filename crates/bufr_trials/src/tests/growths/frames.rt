@@ -1,7 +1,8 @@
 //! Frames of a stream.
 
+use crate::tests::same;
 use crate::tests::samples::{SEQUENCES, is_refused};
-use bufr_frame::{Found, Framer, Taken};
+use bufr_frame::{Found, Framer, Look, Taken};
 use std::process::Abort;
 use std::test::Fail;
 
@@ -16,79 +17,99 @@ fn is_message_at(found: &[Found], place: u64) -> bool {
     }
 }
 
+/// How many octets a framer has taken in, and how many it holds.
+type Standing = (u64, usize);
+
+/// What a framer has.
+fn standing(framer: &Framer) -> Standing {
+    (framer.fed(), framer.pending())
+}
+
 /// A piece is taken in; after a refusal the framer has as much as before.
-macro_rules! fed {
-    ($rt:expr, $framer:expr, $piece:expr) => {{
-        let (fed, pending) = ($framer.fed(), $framer.pending());
-        assert!($rt; fed <= 1_000_000);
-        let mut answer = $framer.feed($piece);
-        if is_refused(&answer) {
-            assert_eq!($rt; ($framer.fed(), $framer.pending()), (fed, pending));
-            answer = $framer.feed($piece);
-        }
-        answer?
-    }};
+fn fed(rt: &impl Abort, framer: &mut Framer, piece: &[u8]) -> Result<Vec<Found>, Fail> {
+    let before = standing(framer);
+    assert!(rt; framer.fed() <= 1_000_000);
+    assert!(rt; piece.len() <= 1000);
+    let mut answer = framer.feed(piece);
+    if is_refused(&answer) {
+        same(rt, standing(framer), before);
+        answer = framer.feed(piece);
+    }
+    Ok(answer?)
+}
+
+/// A piece is taken in, and no frame is handed out.
+fn feed_open(rt: &impl Abort, framer: &mut Framer, piece: &[u8]) -> Result<(), Fail> {
+    assert!(rt; fed(rt, framer, piece)?.is_empty());
+    Ok(())
 }
 
 /// A stream is ended; after a refusal the framer has as much as before.
-macro_rules! finished {
-    ($rt:expr, $framer:expr) => {{
-        let (fed, pending) = ($framer.fed(), $framer.pending());
-        let mut answer = $framer.finish();
-        if is_refused(&answer) {
-            assert_eq!($rt; ($framer.fed(), $framer.pending()), (fed, pending));
-            answer = $framer.finish();
-        }
-        assert_eq!($rt; ($framer.fed(), $framer.pending()), (0, 0));
-        answer?
-    }};
+fn finished(rt: &impl Abort, framer: &mut Framer) -> Result<Vec<Found>, Fail> {
+    let before = standing(framer);
+    let mut answer = framer.finish();
+    if is_refused(&answer) {
+        same(rt, standing(framer), before);
+        answer = framer.finish();
+    }
+    same(rt, standing(framer), (0, 0));
+    Ok(answer?)
 }
 
 #[test]
 fn pieces_taken_in(rt: HostRuntime) -> Result<(), Fail> {
     let mut framer = Framer::new(rt.alloc());
-    let first = fed!(rt, framer, SEQUENCES);
-    assert!(rt; is_message_at(&first, 0));
-    assert!(rt; fed!(rt, framer, HEADING).is_empty());
-    assert!(rt; fed!(rt, framer, &SEQUENCES[..40]).is_empty());
-    assert!(rt; fed!(rt, framer, &SEQUENCES[40..]).is_empty());
-    assert_eq!(rt; framer.fed(), 136);
-    let last = finished!(rt, framer);
-    assert!(rt; is_message_at(&last, 74));
+    assert!(rt; is_message_at(&fed(&rt, &mut framer, SEQUENCES)?, 0));
+    feed_open(&rt, &mut framer, HEADING)?;
+    feed_open(&rt, &mut framer, &SEQUENCES[..40])?;
+    feed_open(&rt, &mut framer, &SEQUENCES[40..])?;
+    same(&rt, framer.fed(), 136);
+    assert!(rt; is_message_at(&finished(&rt, &mut framer)?, 74));
     Ok(())
 }
 
-/// A look leaves the framer as it is, and so does a refused one.
-#[test]
-fn pieces_looked_at(rt: HostRuntime) -> Result<(), Fail> {
-    let mut framer = Framer::new(rt.alloc());
-    assert!(rt; fed!(rt, framer, &SEQUENCES[..40]).is_empty());
-    let (fed, pending) = (framer.fed(), framer.pending());
-    assert!(rt; fed <= 1_000_000);
-    let mut answer = framer.look(&SEQUENCES[40..]);
+/// A look at a piece, which leaves the framer as it is, and so does a refused one.
+fn looked(rt: &impl Abort, framer: &Framer, piece: &[u8]) -> Result<Look, Fail> {
+    let before = standing(framer);
+    assert!(rt; framer.fed() <= 1_000_000);
+    assert!(rt; piece.len() <= 1000);
+    let mut answer = framer.look(piece);
     if is_refused(&answer) {
-        answer = framer.look(&SEQUENCES[40..]);
+        same(rt, standing(framer), before);
+        answer = framer.look(piece);
     }
-    assert_eq!(rt; (framer.fed(), framer.pending()), (fed, pending));
-    let look = answer?;
-    assert!(rt; is_message_at(&framer.settle(look), 0));
+    same(rt, standing(framer), before);
+    Ok(answer?)
+}
+
+/// A look at the end.
+fn looked_at_end(framer: &Framer) -> Result<Look, Fail> {
     let mut answer = framer.look_end();
     if is_refused(&answer) {
         answer = framer.look_end();
     }
-    let look = answer?;
+    Ok(answer?)
+}
+
+#[test]
+fn pieces_looked_at(rt: HostRuntime) -> Result<(), Fail> {
+    let mut framer = Framer::new(rt.alloc());
+    feed_open(&rt, &mut framer, &SEQUENCES[..40])?;
+    let look = looked(&rt, &framer, &SEQUENCES[40..])?;
+    assert!(rt; is_message_at(&framer.settle(look), 0));
+    let look = looked_at_end(&framer)?;
     assert!(rt; framer.settle(look).is_empty());
     Ok(())
 }
 
 /// One frame is taken out of a piece; after a refusal the framer has as much as before.
 fn taken<'a>(rt: &impl Abort, framer: &mut Framer, piece: &'a [u8]) -> Result<Taken<'a>, Fail> {
-    let (fed, pending) = (framer.fed(), framer.pending());
-    assert!(rt; fed <= 1_000_000);
+    let before = standing(framer);
+    assert!(rt; framer.fed() <= 1_000_000);
     assert!(rt; piece.len() <= 1000);
     let mut answer = framer.take_next(piece);
     if is_refused(&answer) {
-        assert_eq!(rt; (framer.fed(), framer.pending()), (fed, pending));
+        same(rt, standing(framer), before);
         answer = framer.take_next(piece);
     }
     Ok(answer?)
@@ -102,20 +123,33 @@ fn is_message(found: &Option<Found>, place: u64) -> bool {
     }
 }
 
+/// No frame is taken out of a piece.
+fn take_none(rt: &impl Abort, framer: &mut Framer, piece: &[u8]) -> Result<(), Fail> {
+    assert!(rt; taken(rt, framer, piece)?.found.is_none());
+    Ok(())
+}
+
+/// The message at a place is taken out of a piece. Answered is the rest of that.
+fn take_message<'a>(
+    rt: &impl Abort,
+    framer: &mut Framer,
+    piece: &'a [u8],
+    place: u64,
+) -> Result<&'a [u8], Fail> {
+    let taken = taken(rt, framer, piece)?;
+    assert!(rt; is_message(&taken.found, place));
+    Ok(taken.rest)
+}
+
 #[test]
 fn frames_taken_one_by_one(rt: HostRuntime) -> Result<(), Fail> {
     let mut framer = Framer::new(rt.alloc());
-    let start = taken(&rt, &mut framer, &SEQUENCES[..40])?;
-    assert!(rt; start.found.is_none());
-    let first = taken(&rt, &mut framer, &SEQUENCES[40..])?;
-    assert!(rt; is_message(&first.found, 0));
-    assert!(rt; first.rest.is_empty());
-    let second = taken(&rt, &mut framer, SEQUENCES)?;
-    assert!(rt; is_message(&second.found, 62));
-    let stray = taken(&rt, &mut framer, HEADING)?;
-    assert!(rt; stray.found.is_none());
-    let third = taken(&rt, &mut framer, SEQUENCES)?;
-    assert!(rt; third.found.is_none());
-    assert!(rt; is_message_at(&finished!(rt, framer), 136));
+    take_none(&rt, &mut framer, &SEQUENCES[..40])?;
+    let rest = take_message(&rt, &mut framer, &SEQUENCES[40..], 0)?;
+    assert!(rt; rest.is_empty());
+    take_message(&rt, &mut framer, SEQUENCES, 62)?;
+    take_none(&rt, &mut framer, HEADING)?;
+    take_none(&rt, &mut framer, SEQUENCES)?;
+    assert!(rt; is_message_at(&finished(&rt, &mut framer)?, 136));
     Ok(())
 }

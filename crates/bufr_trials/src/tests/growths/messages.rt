@@ -1,28 +1,43 @@
 //! Messages, reports and listings.
 
+use crate::tests::same;
 use crate::tests::samples::{
     COMPRESSED_PAIR, COMPRESSED_TEXTS, COUNT_0, COUNT_1, EDITION_3, LOCAL_OCTETS,
-    MISSING_TEMPERATURE, SEQUENCES, SEQUENCES_LISTED, UNEQUAL_COUNTS, is_refused, repeated, tables,
+    MISSING_TEMPERATURE, SEQUENCES, SEQUENCES_LISTED, UNEQUAL_COUNTS, is_refused, repeated, room,
+    tables,
 };
 use bufr_bits::IntoWrite;
 use bufr_message::listing::{ListingWriteFault, read, text_of, write_message};
-use bufr_message::{Decoded, Message, canonical, decode, encode, reports};
+use bufr_message::{Decoded, Message, Report, canonical, decode, encode, reports};
 use bufr_tables::Tables;
 use std::alloc::Global;
 use std::process::Abort;
 use std::test::Fail;
 
+/// What octets spell.
+fn decoded(alloc: Global, tables: &Tables, octets: &[u8]) -> Result<Decoded, Fail> {
+    Ok(repeated!(decode(alloc, tables, octets))?)
+}
+
+/// A message is written as these octets.
+fn assert_written(
+    rt: &impl Abort,
+    alloc: Global,
+    tables: &Tables,
+    message: &Message,
+    octets: &[u8],
+) -> Result<(), Fail> {
+    let written = repeated!(encode(alloc, tables, message))?;
+    same(rt, written.as_slice(), octets);
+    Ok(())
+}
+
 /// Octets are read, and what was read is written as these octets again.
 fn comes_back(rt: &impl Abort, alloc: Global, octets: &[u8]) -> Result<(), Fail> {
     let tables = tables(alloc)?;
-    let Decoded {
-        message,
-        slack_octets,
-    } = repeated!(decode(alloc, &tables, octets))?;
-    assert_eq!(rt; slack_octets, 0);
-    let written = repeated!(encode(alloc, &tables, &message))?;
-    assert_eq!(rt; written.as_slice(), octets);
-    Ok(())
+    let found = decoded(alloc, &tables, octets)?;
+    same(rt, found.slack_octets, 0);
+    assert_written(rt, alloc, &tables, &found.message, octets)
 }
 
 #[test]
@@ -35,16 +50,25 @@ fn compressed_message_read_and_written(rt: HostRuntime) -> Result<(), Fail> {
     comes_back(&rt, rt.alloc(), COMPRESSED_PAIR)
 }
 
+/// A message's listing ends so.
+fn assert_ends_with(
+    rt: &impl Abort,
+    alloc: Global,
+    message: &Message,
+    end: &[u8],
+) -> Result<(), Fail> {
+    let listed = repeated!(text_of(alloc, message))?;
+    assert!(rt; listed.ends_with(end));
+    Ok(())
+}
+
 #[test]
 fn compressed_texts_read(rt: HostRuntime) -> Result<(), Fail> {
     let alloc = rt.alloc();
     let tables = tables(alloc)?;
-    let decoded = repeated!(decode(alloc, &tables, COMPRESSED_TEXTS))?;
-    let listed = repeated!(text_of(alloc, &decoded.message))?;
-    assert!(rt;
-        listed.ends_with(b"subset\n001011 \"ABC\"\nsubset\n001011 missing\nend\n".as_slice())
-    );
-    Ok(())
+    let found = decoded(alloc, &tables, COMPRESSED_TEXTS)?;
+    let end = b"subset\n001011 \"ABC\"\nsubset\n001011 missing\nend\n";
+    assert_ends_with(&rt, alloc, &found.message, end)
 }
 
 #[test]
@@ -52,19 +76,46 @@ fn local_octets_read_and_written(rt: HostRuntime) -> Result<(), Fail> {
     comes_back(&rt, rt.alloc(), LOCAL_OCTETS)
 }
 
+/// A message of one subset, of the year 2024, was read, with one octet of slack.
+fn assert_edition_3(rt: &impl Abort, found: &Decoded) {
+    same(rt, found.slack_octets, 1);
+    same(rt, found.message.head.year, 2024);
+    same(rt, found.message.subsets.len(), 1);
+}
+
 #[test]
 fn edition_3_read(rt: HostRuntime) -> Result<(), Fail> {
     let alloc = rt.alloc();
     let tables = tables(alloc)?;
-    let decoded = repeated!(decode(alloc, &tables, EDITION_3))?;
-    assert_eq!(rt; decoded.slack_octets, 1);
-    assert_eq!(rt; decoded.message.head.year, 2024);
-    assert_eq!(rt; decoded.message.subsets.len(), 1);
+    let found = decoded(alloc, &tables, EDITION_3)?;
+    assert_edition_3(&rt, &found);
     Ok(())
 }
 
-/// The canonical messages of octets' reports are these; a message that was gone with a refused call
-/// is read again.
+/// The reports of octets; a message that was gone with a refused call is read again.
+fn reports_in(alloc: Global, tables: &Tables, octets: &[u8]) -> Result<Vec<Report>, Fail> {
+    let message = decoded(alloc, tables, octets)?.message;
+    let mut answer = reports(alloc, message);
+    if is_refused(&answer) {
+        answer = reports(alloc, decode(alloc, tables, octets)?.message);
+    }
+    Ok(answer?)
+}
+
+/// The canonical message of a report is this.
+fn assert_canonical(
+    rt: &impl Abort,
+    alloc: Global,
+    tables: &Tables,
+    report: &Report,
+    wanted: &[u8],
+) -> Result<(), Fail> {
+    let written = repeated!(canonical(alloc, tables, report))?;
+    same(rt, written.as_slice(), wanted);
+    Ok(())
+}
+
+/// The canonical messages of octets' reports are these.
 fn parts_into(
     rt: &impl Abort,
     alloc: Global,
@@ -72,16 +123,10 @@ fn parts_into(
     octets: &[u8],
     wanted: [&[u8]; 2],
 ) -> Result<(), Fail> {
-    let message = repeated!(decode(alloc, tables, octets))?.message;
-    let mut answer = reports(alloc, message);
-    if is_refused(&answer) {
-        answer = reports(alloc, decode(alloc, tables, octets)?.message);
-    }
-    let found = answer?;
-    assert_eq!(rt; found.len(), 2);
+    let found = reports_in(alloc, tables, octets)?;
+    same(rt, found.len(), 2);
     for (report, own) in found.iter().zip(&wanted) {
-        let written = repeated!(canonical(alloc, tables, report))?;
-        assert_eq!(rt; written.as_slice(), *own);
+        assert_canonical(rt, alloc, tables, report, own)?;
     }
     Ok(())
 }
@@ -107,9 +152,7 @@ fn listing_read(rt: HostRuntime) -> Result<(), Fail> {
     let [message] = messages.as_slice() else {
         return Err("one message".into());
     };
-    let written = repeated!(encode(alloc, &tables, message))?;
-    assert_eq!(rt; written.as_slice(), SEQUENCES);
-    Ok(())
+    assert_written(&rt, alloc, &tables, message, SEQUENCES)
 }
 
 /// What writing the listing of a message to a fresh writer with room answers, and what it took.
@@ -117,23 +160,32 @@ fn listed(
     alloc: Global,
     message: &Message,
 ) -> Result<(Result<(), ListingWriteFault>, Vec<u8>), Fail> {
-    let room = repeated!(Vec::with_capacity(alloc, 1000))?;
-    let mut writer = IntoWrite::new(room);
+    let mut writer = IntoWrite::new(room(alloc, 1000)?);
     let answer = write_message(alloc, message, &mut writer);
     Ok((answer, writer.into_inner()))
+}
+
+/// A message's listing is this; after a refusal nothing is written, and it is written again.
+fn assert_listed(
+    rt: &impl Abort,
+    alloc: Global,
+    message: &Message,
+    wanted: &[u8],
+) -> Result<(), Fail> {
+    let (mut answer, mut written) = listed(alloc, message)?;
+    if is_refused(&answer) {
+        assert!(rt; written.is_empty());
+        (answer, written) = listed(alloc, message)?;
+    }
+    answer?;
+    same(rt, written.as_slice(), wanted);
+    Ok(())
 }
 
 #[test]
 fn listing_written(rt: HostRuntime) -> Result<(), Fail> {
     let alloc = rt.alloc();
     let tables = tables(alloc)?;
-    let message = repeated!(decode(alloc, &tables, SEQUENCES))?.message;
-    let (mut answer, mut written) = listed(alloc, &message)?;
-    if is_refused(&answer) {
-        assert!(rt; written.is_empty());
-        (answer, written) = listed(alloc, &message)?;
-    }
-    answer?;
-    assert_eq!(rt; written.as_slice(), SEQUENCES_LISTED);
-    Ok(())
+    let found = decoded(alloc, &tables, SEQUENCES)?;
+    assert_listed(&rt, alloc, &found.message, SEQUENCES_LISTED)
 }

@@ -1,5 +1,6 @@
 //! Shelves of reports, of both kinds, and reports gathered for one.
 
+use crate::tests::same;
 use crate::tests::samples::{is_refused, repeated};
 use bufr_shelves::{Gathering, Key, MapShelf, Moment, Octets, Shelf, SortedShelf, Station};
 use std::alloc::Global;
@@ -26,6 +27,11 @@ fn key(number: i128) -> Option<Key> {
     })
 }
 
+/// A copy of octets.
+fn copied(alloc: Global, octets: &[u8]) -> Result<Octets, Fail> {
+    Ok(Octets::new(repeated!(Vec::from_slice(alloc, octets))?))
+}
+
 /// A report's key or none, its update number, and its octets.
 type Put = (Option<i128>, u8, &'static [u8]);
 
@@ -37,10 +43,10 @@ fn put<S: Shelf>(
     (number, update, octets): Put,
 ) -> Result<bool, Fail> {
     let held = shelf.len();
-    let bytes = Octets::new(repeated!(Vec::from_slice(alloc, octets))?);
+    let bytes = copied(alloc, octets)?;
     let mut answer = shelf.put(number.and_then(key), update, bytes);
     if is_refused(&answer) {
-        assert_eq!(rt; shelf.len(), held);
+        same(rt, shelf.len(), held);
         let bytes = Octets::new(Vec::from_slice(alloc, octets)?);
         answer = shelf.put(number.and_then(key), update, bytes);
     }
@@ -58,12 +64,12 @@ fn shelf_of<S: Shelf>(rt: &impl Abort, alloc: Global, reports: &[Put]) -> Result
 
 /// The shelf holds these octets, in this order.
 fn assert_holds<S: Shelf>(rt: &impl Abort, shelf: &S, wanted: &[&[u8]]) {
-    assert_eq!(rt; shelf.len(), wanted.len());
+    same(rt, shelf.len(), wanted.len());
     let mut next = shelf.first();
     for octets in wanted {
         match next {
             Some(held) => {
-                assert_eq!(rt; held.bytes.as_slice(), *octets);
+                same(rt, held.bytes.as_slice(), *octets);
                 next = shelf.after(held);
             }
             None => assert!(rt; false, "too few"),
@@ -87,6 +93,23 @@ fn puts<S: Shelf>(rt: &impl Abort, alloc: Global) -> Result<(), Fail> {
     Ok(())
 }
 
+/// A shelf takes in another; after a refusal it holds what it held.
+fn join<S: Shelf>(rt: &impl Abort, shelf: &mut S, other: &S, before: &[&[u8]]) -> Result<(), Fail> {
+    let mut answer = shelf.join(other);
+    if is_refused(&answer) {
+        assert_holds(rt, shelf, before);
+        answer = shelf.join(other);
+    }
+    Ok(answer?)
+}
+
+/// A copy of a shelf holds the same.
+fn assert_copied<S: Shelf>(rt: &impl Abort, shelf: &S, wanted: &[&[u8]]) -> Result<(), Fail> {
+    let copied: S = repeated!(shelf.copy())?;
+    assert_holds(rt, &copied, wanted);
+    Ok(())
+}
+
 /// Two shelves are joined: after a refusal both hold what they held.
 fn joins<S: Shelf>(rt: &impl Abort, alloc: Global) -> Result<(), Fail> {
     let first: [Put; 2] = [
@@ -100,35 +123,44 @@ fn joins<S: Shelf>(rt: &impl Abort, alloc: Global) -> Result<(), Fail> {
     ];
     let mut shelf: S = shelf_of(rt, alloc, &first)?;
     let other: S = shelf_of(rt, alloc, &second)?;
-    let mut answer = shelf.join(&other);
-    if is_refused(&answer) {
-        let held: [&[u8]; 2] = [b"seven", b"none"];
-        assert_holds(rt, &shelf, &held);
-        answer = shelf.join(&other);
-    }
-    answer?;
+    join(rt, &mut shelf, &other, &[b"seven", b"none"])?;
     let wanted: [&[u8]; 4] = [b"five", b"later", b"also none", b"none"];
     assert_holds(rt, &shelf, &wanted);
     let held: [&[u8]; 3] = [b"five", b"later", b"also none"];
     assert_holds(rt, &other, &held);
-    let copied: S = repeated!(shelf.copy())?;
-    assert_holds(rt, &copied, &wanted);
+    assert_copied(rt, &shelf, &wanted)
+}
+
+/// Gathers a report: after a refusal the others are still there, and it is put again.
+fn gather(
+    alloc: Global,
+    gathering: &mut Gathering,
+    (number, update, octets): Put,
+) -> Result<(), Fail> {
+    let bytes = copied(alloc, octets)?;
+    let answer = gathering.put(number.and_then(key), update, bytes);
+    if is_refused(&answer) {
+        let bytes = Octets::new(Vec::from_slice(alloc, octets)?);
+        gathering.put(number.and_then(key), update, bytes)?;
+    }
     Ok(())
 }
 
-/// Reports gathered: after a refusal the others are still there, and it is put again.
+/// Reports gathered.
 fn gathered(alloc: Global, reports: &[Put]) -> Result<Gathering, Fail> {
     let mut gathering = Gathering::new(alloc);
     for report in reports {
-        let (number, update, octets) = *report;
-        let bytes = Octets::new(repeated!(Vec::from_slice(alloc, octets))?);
-        let answer = gathering.put(number.and_then(key), update, bytes);
-        if is_refused(&answer) {
-            let bytes = Octets::new(Vec::from_slice(alloc, octets)?);
-            gathering.put(number.and_then(key), update, bytes)?;
-        }
+        gather(alloc, &mut gathering, *report)?;
     }
     Ok(gathering)
+}
+
+/// The shelf of reports gathered, gathered again where it was refused.
+fn shelf_gathered(alloc: Global, reports: &[Put]) -> Result<SortedShelf, Fail> {
+    match gathered(alloc, reports)?.into_shelf() {
+        Ok(shelf) => Ok(shelf),
+        Err(_) => Ok(gathered(alloc, reports)?.into_shelf()?),
+    }
 }
 
 #[test]
@@ -141,17 +173,14 @@ fn gathered_in_any_order(rt: HostRuntime) -> Result<(), Fail> {
         (Some(5), 0, b"five".as_slice()),
         (Some(7), 0, b"seven".as_slice()),
     ];
-    let shelf = match gathered(alloc, &reports)?.into_shelf() {
-        Ok(shelf) => shelf,
-        Err(_) => gathered(alloc, &reports)?.into_shelf()?,
-    };
+    let shelf = shelf_gathered(alloc, &reports)?;
     let wanted: [&[u8]; 3] = [b"five", b"later", b"none"];
     assert_holds(&rt, &shelf, &wanted);
     let octets = match shelf.into_octets() {
         Ok(octets) => octets,
         Err(_) => gathered(alloc, &reports)?.into_shelf()?.into_octets()?,
     };
-    assert_eq!(rt; octets.as_slice(), b"fivelaternone".as_slice());
+    same(&rt, octets.as_slice(), b"fivelaternone".as_slice());
     Ok(())
 }
 
