@@ -4,6 +4,7 @@ use Rattle.std.proofs.Common.{◌≡◌, inl, inr, List, [], ◌∷◌, ◌++◌
 use Rattle.std.specs.Prelude.{option_to_list}
 use Rattle.bufr_tables.specs.Entries.{Entries}
 use Rattle.bufr_message.specs.declared.report.Report.{Report}
+use Rattle.bufr_message.specs.Laws.{BareAreWritten}
 use Rattle.bufr_message.specs.Reports.{IsUnder}
 use Rattle.bufr_shelves.specs.declared.entry.Entry.{Entry}
 use Rattle.bufr_shelves.specs.Entries.{kept}
@@ -20,28 +21,28 @@ use Rattle.bufr_archive.proofs.ReportTextFacts.{entry_is, entries_are}
 -- ---- the reports of entries
 
 -- an entry of some reports is that of one of them
-report_of : (tables : Entries) (rs : List Report) (e : Entry) → AreUnder tables rs
-    → Has (entries_of (report_entries tables rs)) e
+report_of : BareAreWritten → (tables : Entries) (rs : List Report) (e : Entry)
+    → AreUnder tables rs → Has (entries_of (report_entries tables rs)) e
     → (r : Report) × Has rs r × IsUnder tables r × (entry_of tables r ≡ Some e)
-report_of tables [] e a h = absurd h
-report_of tables (r ∷ rs) e a h =
-    let own = entry_is tables r a.0 in
+report_of written tables [] e a h = absurd h
+report_of written tables (r ∷ rs) e a h =
+    let own = entry_is written tables r a.0 in
     let there = subst (λ (x : Option Entry).
     Has (option_to_list x ++ entries_of (report_entries tables rs)) e) own h in
     elim there [
       | inl same ↦ (r, inl refl, a.0, own ∙ ap Some (sym same))
-      | inr more ↦ let t = report_of tables rs e a.1 more in (t.0, inr t.1, t.2, t.3)
+      | inr more ↦ let t = report_of written tables rs e a.1 more in (t.0, inr t.1, t.2, t.3)
     ]
 
 -- entries of some reports are those of as many of them
-those_with : (tables : Entries) (rs : List Report) → AreUnder tables rs → (es : List Entry)
-    → Within es (entries_of (report_entries tables rs))
+those_with : BareAreWritten → (tables : Entries) (rs : List Report) → AreUnder tables rs
+    → (es : List Entry) → Within es (entries_of (report_entries tables rs))
     → (ks : List Report) × HaveEntries tables rs ks es
-those_with tables rs a [] within =
+those_with written tables rs a [] within =
     ([], record { under = tt; from = λ r h. absurd h; entries = refl })
-those_with tables rs a (e ∷ es) within =
-    let one = report_of tables rs e a (within e (inl refl)) in
-    let rest = those_with tables rs a es (λ f h. within f (inr h)) in (
+those_with written tables rs a (e ∷ es) within =
+    let one = report_of written tables rs e a (within e (inl refl)) in
+    let rest = those_with written tables rs a es (λ f h. within f (inr h)) in (
       one.0 ∷ rest.0,
       record {
         under = (one.2, rest.1.under);
@@ -64,12 +65,12 @@ kept_of_those tables rs ks es h =
     ap (λ xs. kept (entries_of xs)) h.entries ∙ ap kept (all_there es)
 
 -- entries of reports that have the same octets are one
-octets_tell : ReportsAreEntries → (tables : Entries) (rs : List Report) → AreUnder tables rs
-    → (e f : Entry) → Has (entries_of (report_entries tables rs)) e
+octets_tell : BareAreWritten → ReportsAreEntries → (tables : Entries) (rs : List Report)
+    → AreUnder tables rs → (e f : Entry) → Has (entries_of (report_entries tables rs)) e
     → Has (entries_of (report_entries tables rs)) f → e.bytes ≡ f.bytes → e ≡ f
-octets_tell laws tables rs under e f h k same =
+octets_tell written laws tables rs under e f h k same =
     let es = entries_of (report_entries tables rs) in
-    let each = entries_are tables rs under in
+    let each = entries_are written tables rs under in
     let first = (laws tables).found e (has_each (IsReportEntry tables) es e each h) in
     let second = (laws tables).found f (has_each (IsReportEntry tables) es f each k) in
     let one : Some e ≡ Some f = sym first ∙ ap (entry_in tables) same ∙ second in cc
@@ -77,24 +78,25 @@ octets_tell laws tables rs under e f h k same =
 -- ---- the laws
 
 -- what was kept before are the best of then
-pub kept_before_is_the_best : ReportsAreEntries → CoarselyKeptIsTheBest → KeptBeforeIsTheBest
-kept_before_is_the_best laws best tables rs under =
-    best (entries_of (report_entries tables rs)) (octets_tell laws tables rs under)
+pub kept_before_is_the_best : BareAreWritten → ReportsAreEntries → CoarselyKeptIsTheBest
+    → KeptBeforeIsTheBest
+kept_before_is_the_best written laws best tables rs under =
+    best (entries_of (report_entries tables rs)) (octets_tell written laws tables rs under)
 
 -- and are kept now
-pub texts_from_before : ReportsAreEntries → CoarselyKeptAreKept → CoarselyKeptIsTheBest
-    → TextsFromBefore
-texts_from_before laws still best tables rs under =
+pub texts_from_before : BareAreWritten → ReportsAreEntries → CoarselyKeptAreKept
+    → CoarselyKeptIsTheBest → TextsFromBefore
+texts_from_before written laws still best tables rs under =
     let es = kept_before tables rs in
-    let are = kept_before_is_the_best laws best tables rs under in
-    let ks = those_with tables rs under es (λ e h. (are.only_best e h).member) in
+    let are = kept_before_is_the_best written laws best tables rs under in
+    let ks = those_with written tables rs under es (λ e h. (are.only_best e h).member) in
     let same : kept_of tables ks.0 ≡ es =
     kept_of_those tables rs ks.0 es ks.1 ∙ still (entries_of (report_entries tables rs)) in
     (ks.0, ks.1, same, ap text same)
 
 -- so their text is a text
-pub from_before_are_texts : ReportsAreEntries → CoarselyKeptAreKept → CoarselyKeptIsTheBest
-    → FromBeforeAreTexts
-from_before_are_texts laws still best tables octets t =
-    let ks = texts_from_before laws still best tables t.reports t.under in
+pub from_before_are_texts : BareAreWritten → ReportsAreEntries → CoarselyKeptAreKept
+    → CoarselyKeptIsTheBest → FromBeforeAreTexts
+from_before_are_texts written laws still best tables octets t =
+    let ks = texts_from_before written laws still best tables t.reports t.under in
     record { reports = ks.0; under = ks.1.under; says = t.says ∙ sym ks.3 }

@@ -1,6 +1,6 @@
 -- The entries of reports: for `laws::reports_are_entries`.
 use Rattle.std.proofs.Common.{◌≡◌, ℕ, ◌+◌, ◌-◌, ◌*◌, ◌/◌, ◌%◌, ◌^◌, ◌<◌, true, cond, List, [], ◌∷◌, ◌++◌, length, take, drop, Option, Some, None, Result, Ok, Err, refl, sym, ap, subst, ◌∙◌, arith, length-append, get_or}
-use Rattle.std.specs.Prelude.{codes, bytes_eq, option_map, slice_get}
+use Rattle.std.specs.Prelude.{IfOk, IfSome, codes, bytes_eq, option_map, slice_get}
 use Rattle.std.proofs.lemmas.Option.{slice_get-map, get_or_from_slice_get}
 use Rattle.std.specs.Int.{bytes_high_first}
 use Rattle.std.specs.List.{AllByRecursion}
@@ -13,17 +13,15 @@ use Rattle.bufr_sections.specs.declared.layout.Layout.{Layout}
 use Rattle.bufr_sections.specs.declared.message.Decoded.{Decoded}
 use Rattle.bufr_sections.specs.declared.fault.Refused.{Refused}
 use Rattle.bufr_sections.specs.Sections.{Envelope, Ignored, EnvelopeFits, sections, enclosed, spelling, edition_number}
-use Rattle.bufr_message.specs.declared.fault.EncodeFault.{EncodeFault}
 use Rattle.bufr_message.specs.declared.report.Report.{Report}
-use Rattle.bufr_message.specs.Encodings.{code}
 use Rattle.bufr_message.specs.Messages.{message_of}
 use Rattle.bufr_message.specs.OwnBits.{CanonicalIsOwn}
-use Rattle.bufr_message.specs.Laws.{MessagesReadAreSpelt, MessagesWrittenAreBare, NumbersFit}
+use Rattle.bufr_message.specs.Laws.{MessagesReadAreSpelt, BareAreWritten}
 use Rattle.bufr_message.specs.Reports.{reports_of, reports_read, reports_in, alone, canonical, if_written, IsCanonical, IsUnder, CanonicalIsRead, ReportsSpeltAreUnder}
+use Rattle.bufr_keys.specs.Usable.{◌>>=◌}
 use Rattle.bufr_shelves.specs.declared.entry.Entry.{Entry}
 use Rattle.bufr_sections.specs.Sections.{AreOctets}
-use Rattle.bufr_archive.specs.Texts.{◌>>=◌}
-use Rattle.bufr_archive.specs.ReportEntries.{AreUnder, entry_of, entry_with, IsReportEntry, is_canonical, only_one, own_entry, entry_in, report_entries, spelt_entry, spelt_entries}
+use Rattle.bufr_archive.specs.ReportEntries.{AreUnder, entry_of, entry_with, IsReportEntry, is_canonical, only_one, own_entry, entry_in, report_entries, spelt_entry, spelt_entries, SpellsOwn}
 use Rattle.bufr_archive.specs.ReportLaws.{ReportsAreEntries}
 use Rattle.bufr_archive.proofs.EntryFacts.{bind_some, tested_some}
 
@@ -65,31 +63,39 @@ spelling_is_frame layout e i fits =
 
 -- ---- an entry in its octets
 
--- what is written
-written_is : (x : Result (List ℕ) EncodeFault) (octets : List ℕ) → if_written x ≡ Some octets
-    → x ≡ Ok octets
-written_is (Ok o) octets e = ap Ok cc
-written_is (Err fault) octets e = absurd cc
-
 -- a canonical message is one frame
-canonical_is_frame : MessagesWrittenAreBare → (tables : Entries) (r : Report) (octets : List ℕ)
+canonical_is_frame : (tables : Entries) (r : Report) (octets : List ℕ)
     → IsCanonical tables r octets → IsOneFrame octets
-canonical_is_frame bare tables r octets c =
-    let written = written_is (code tables (alone r)) octets c.written in
-    let s = bare tables (alone r) octets c.fits written in
-    subst IsOneFrame (sym s.spells.spelled) (spelling_is_frame _ _ _ s.spells.fits)
+canonical_is_frame tables r octets c =
+    let s = c.spelt.spells in
+    subst IsOneFrame (sym s.spelled) (spelling_is_frame _ _ _ s.fits)
+
+-- a canonical message is the one that is computed
+pub canonical_is : BareAreWritten → (tables : Entries) (r : Report) (octets : List ℕ)
+    → IsCanonical tables r octets → canonical tables r ≡ Some octets
+canonical_is written tables r octets c = ap if_written (written tables (alone r) octets c.spelt)
+
+-- and the one that is computed for a report under the tables is its canonical message
+is_canonical_of : BareAreWritten → (tables : Entries) (r : Report) (octets : List ℕ)
+    → IsUnder tables r → canonical tables r ≡ Some octets → IsCanonical tables r octets
+is_canonical_of written tables r octets u e =
+    let both : Some u.0 ≡ Some octets = sym (canonical_is written tables r u.0 u.1) ∙ e in
+    let same : u.0 ≡ octets = cc in
+    subst (IsCanonical tables r) same u.1
 
 -- octets are the same as themselves
 same_bytes : (octets : List ℕ) → bytes_eq octets octets ≡ true
 same_bytes octets = (bytes_eq-Decides octets octets).1 refl
 
 -- the entry of a report is found in its canonical message
-entry_found : CanonicalIsRead → (tables : Entries) (r : Report) (octets : List ℕ)
-    → IsCanonical tables r octets → entry_in tables octets ≡ Some (entry_with r octets)
-entry_found reads tables r octets c =
+entry_found : BareAreWritten → CanonicalIsRead → (tables : Entries) (r : Report)
+    (octets : List ℕ) → IsCanonical tables r octets
+    → entry_in tables octets ≡ Some (entry_with r octets)
+entry_found written reads tables r octets c =
     let one = (reads tables r octets c).1 in
+    let known = canonical_is written tables r octets c in
     let own : own_entry tables octets r ≡ Some (entry_with r octets) =
-    ap (λ x. cond (is_canonical x octets) (Some (entry_with r octets)) None) c.written
+    ap (λ x. cond (is_canonical x octets) (Some (entry_with r octets)) None) known
     ∙ ap (λ b. cond b (Some (entry_with r octets)) None) (same_bytes octets) in
     ap (λ rs. only_one rs >>= own_entry tables octets) one ∙ own
 
@@ -113,29 +119,29 @@ read_one : (x : Result Decoded Refused) (r : Report) → reports_read x ≡ r �
 read_one (Ok d) r e = (d, refl, e)
 read_one (Err fault) r e = absurd cc
 
--- the numbers of a report that was read are in their ranges
-report_fits : MessagesReadAreSpelt → ReportsSpeltAreUnder → (tables : Entries) (octets : List ℕ)
-    (r : Report) → AreOctets octets → reports_in tables octets ≡ r ∷ [] → NumbersFit (alone r)
-report_fits read_spelt under tables octets r all e =
+-- a report that was read is one under the tables
+read_is_under : MessagesReadAreSpelt → ReportsSpeltAreUnder → (tables : Entries) (octets : List ℕ)
+    (r : Report) → AreOctets octets → reports_in tables octets ≡ r ∷ [] → IsUnder tables r
+read_is_under read_spelt under tables octets r all e =
     let d = read_one (message_of tables octets) r e in
     let spells = read_spelt tables octets d.0 all d.1 in
     let each = under tables d.0.message octets d.0.slack_octets spells in
     let one = subst (AllByRecursion (IsUnder tables)) d.2 each in
-    one.0.1.fits
+    one.0
 
 -- the entry is that of a report, and has these octets
-entry_takes : MessagesReadAreSpelt → ReportsSpeltAreUnder → (tables : Entries) (octets : List ℕ)
-    (e : Entry) → AreOctets octets → entry_in tables octets ≡ Some e
+entry_takes : BareAreWritten → MessagesReadAreSpelt → ReportsSpeltAreUnder → (tables : Entries)
+    (octets : List ℕ) (e : Entry) → AreOctets octets → entry_in tables octets ≡ Some e
     → IsReportEntry tables e × (e.bytes ≡ octets)
-entry_takes read_spelt under tables octets e all found =
+entry_takes written read_spelt under tables octets e all found =
     let r = bind_some (only_one (reports_in tables octets)) _ e found in
     let one = only_one_is (reports_in tables octets) r.0 r.1 in
     let own = entry_with r.0 octets in
     let t = tested_some (is_canonical (canonical tables r.0) octets) own e r.2 in
-    let canon : IsCanonical tables r.0 octets = record {
-      fits = report_fits read_spelt under tables octets r.0 all one;
-      written = canonical_of (canonical tables r.0) octets t.0;
-    } in
+    let canon : IsCanonical tables r.0 octets =
+    is_canonical_of written tables r.0 octets
+    (read_is_under read_spelt under tables octets r.0 all one)
+    (canonical_of (canonical tables r.0) octets t.0) in
     let entry : IsReportEntry tables own =
     record { report = r.0; canon = canon; is = refl } in
     (subst (IsReportEntry tables) t.1 entry, ap (λ (e : Entry). e.bytes) (sym t.1))
@@ -143,30 +149,40 @@ entry_takes read_spelt under tables octets e all found =
 -- ---- so they keep the laws of entries
 
 -- the entry of a report is found in its own octets and in no others, and these are one frame
-pub reports_are_entries : MessagesReadAreSpelt → MessagesWrittenAreBare → CanonicalIsRead
+pub reports_are_entries : MessagesReadAreSpelt → BareAreWritten → CanonicalIsRead
     → ReportsSpeltAreUnder → ReportsAreEntries
-reports_are_entries read_spelt bare reads under tables = record {
-  found = λ e is. entry_found reads tables is.report e.bytes is.canon ∙ ap Some (sym is.is);
-  is = λ octets e all h. (entry_takes read_spelt under tables octets e all h).0;
-  own = λ octets e all h. (entry_takes read_spelt under tables octets e all h).1;
-  frame = λ e is. canonical_is_frame bare tables is.report e.bytes is.canon;
+reports_are_entries read_spelt written reads under tables = record {
+  found = λ e is. entry_found written reads tables is.report e.bytes is.canon ∙ ap Some (sym is.is);
+  is = λ octets e all h. (entry_takes written read_spelt under tables octets e all h).0;
+  own = λ octets e all h. (entry_takes written read_spelt under tables octets e all h).1;
+  frame = λ e is. canonical_is_frame tables is.report e.bytes is.canon;
 }
 
 -- ---- entries by what reports' own fields spell: for `Archive::add_message` and `Archive::read`
 
 -- the entry of a report under tables is the one that its own fields spell
-pub spelt_is_entry : CanonicalIsOwn → (tables : Entries) (r : Report) → IsUnder tables r
-    → spelt_entry r ≡ entry_of tables r
-spelt_is_entry own tables r u =
-    ap (option_map (entry_with r)) (own tables r u.0 u.1 ∙ sym u.1.written)
+pub spelt_is_entry : BareAreWritten → CanonicalIsOwn → (tables : Entries) (r : Report)
+    → IsUnder tables r → spelt_entry r ≡ entry_of tables r
+spelt_is_entry written own tables r u =
+    ap (option_map (entry_with r))
+    (own tables r u.0 u.1 ∙ sym (canonical_is written tables r u.0 u.1))
 
 -- so it is of each of some
-pub spelt_are_entries : CanonicalIsOwn → (tables : Entries) (rs : List Report) → AreUnder tables rs
-    → spelt_entries rs ≡ report_entries tables rs
-spelt_are_entries own tables [] u = refl
-spelt_are_entries own tables (r ∷ rs) u =
-    ap (λ e. e ∷ spelt_entries rs) (spelt_is_entry own tables r u.0)
-    ∙ ap (λ es. entry_of tables r ∷ es) (spelt_are_entries own tables rs u.1)
+pub spelt_are_entries : BareAreWritten → CanonicalIsOwn → (tables : Entries) (rs : List Report)
+    → AreUnder tables rs → spelt_entries rs ≡ report_entries tables rs
+spelt_are_entries written own tables [] u = refl
+spelt_are_entries written own tables (r ∷ rs) u =
+    ap (λ e. e ∷ spelt_entries rs) (spelt_is_entry written own tables r u.0)
+    ∙ ap (λ es. entry_of tables r ∷ es) (spelt_are_entries written own tables rs u.1)
+
+-- the one report that was found, if any, spells its own canonical message
+pub found_spells_own : BareAreWritten → CanonicalIsOwn → (tables : Entries) → {E : Type 0}
+    → (x : Result (Option Report) E) → IfOk x (λ found. IfSome found (IsUnder tables))
+    → IfOk x (λ found. IfSome found (SpellsOwn tables))
+found_spells_own written own tables (Ok (Some r)) u =
+    (u.0, canonical_is written tables r u.0 u.1, own tables r u.0 u.1)
+found_spells_own written own tables (Ok None) u = tt
+found_spells_own written own tables (Err e) u = tt
 
 -- the entry at an index is that of the report there, which is counted from 1
 pub spelt_at : (rs : List Report) (i : ℕ) (r : Report) → slice_get rs (i + 1 - 1) ≡ Some r

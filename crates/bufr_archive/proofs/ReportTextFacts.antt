@@ -9,6 +9,7 @@ use Rattle.bufr_tables.specs.declared.failure.Failure.TheVariants.{Fault, OutOfM
 use Rattle.bufr_frame.specs.declared.frames.Found.{Found}
 use Rattle.bufr_frame.specs.Streams.{cut}
 use Rattle.bufr_message.specs.declared.report.Report.{Report}
+use Rattle.bufr_message.specs.Laws.{BareAreWritten}
 use Rattle.bufr_message.specs.Reports.{reports_in, IsUnder, CanonicalIsRead}
 use Rattle.bufr_shelves.specs.declared.entry.Entry.{Entry}
 use Rattle.bufr_shelves.specs.Entries.{kept}
@@ -21,37 +22,42 @@ use Rattle.bufr_archive.specs.Reading.{archive_or, archive_read}
 use Rattle.bufr_archive.specs.ReportEntries.{entry_with, entry_of, report_entries, entries_told, kept_of, text_of, IsReportEntry, AreUnder, entry_in}
 use Rattle.bufr_archive.specs.ReportTexts.{IsText, BreaksAt, archive_of, IsArchiveOf, RefusedAt}
 use Rattle.bufr_archive.specs.ReportLaws.{ReportsAreEntries, FramesOfReports, FramesOfReportFronts, ReportTextsTell}
+use Rattle.bufr_archive.proofs.ReportFacts.{canonical_is}
 use Rattle.bufr_archive.proofs.TextFacts as texts
 use Rattle.bufr_archive.proofs.FrameFacts.{Joined, Fronts, frames_of_texts, frames_of_fronts, texts_tell}
 
 -- ---- reports and their entries
 
 -- a report under the tables has its entry
-pub entry_is : (tables : Entries) (r : Report) (u : IsUnder tables r)
+pub entry_is : BareAreWritten → (tables : Entries) (r : Report) (u : IsUnder tables r)
     → entry_of tables r ≡ Some (entry_with r u.0)
-entry_is tables r u = ap (option_map (entry_with r)) u.1.written
+entry_is written tables r u =
+    ap (option_map (entry_with r)) (canonical_is written tables r u.0 u.1)
 
 -- the entries of reports under the tables
-pub entries_are : (tables : Entries) (rs : List Report) → AreUnder tables rs
+pub entries_are : BareAreWritten → (tables : Entries) (rs : List Report) → AreUnder tables rs
     → AllByRecursion (IsReportEntry tables) (entries_of (report_entries tables rs))
-entries_are tables [] a = tt
-entries_are tables (r ∷ rs) a =
+entries_are written tables [] a = tt
+entries_are written tables (r ∷ rs) a =
     let octets = a.0.0 in
     let is : IsReportEntry tables (entry_with r octets) =
     record { report = r; canon = a.0.1; is = refl } in
     subst (λ (x : Option Entry). AllByRecursion (IsReportEntry tables)
-    (option_to_list x ++ entries_of (report_entries tables rs))) (sym (entry_is tables r a.0))
-    (is, entries_are tables rs a.1)
+    (option_to_list x ++ entries_of (report_entries tables rs)))
+    (sym (entry_is written tables r a.0))
+    (is, entries_are written tables rs a.1)
 
 -- entries of reports have some
-reports_are : (tables : Entries) (es : List Entry) → AllByRecursion (IsReportEntry tables) es
+reports_are : BareAreWritten → (tables : Entries) (es : List Entry)
+    → AllByRecursion (IsReportEntry tables) es
     → (rs : List Report) × AreUnder tables rs × (entries_of (report_entries tables rs) ≡ es)
-reports_are tables [] a = ([], tt, refl)
-reports_are tables (e ∷ es) a =
+reports_are written tables [] a = ([], tt, refl)
+reports_are written tables (e ∷ es) a =
     let r = a.0.report in
-    let rest = reports_are tables es a.1 in
+    let rest = reports_are written tables es a.1 in
     let own : entry_of tables r ≡ Some e =
-    ap (option_map (entry_with r)) a.0.canon.written ∙ ap Some (sym a.0.is) in (
+    ap (option_map (entry_with r)) (canonical_is written tables r e.bytes a.0.canon)
+    ∙ ap Some (sym a.0.is) in (
       r ∷ rest.0,
       ((e.bytes, a.0.canon), rest.1),
       ap (λ (x : Option Entry). option_to_list x ++ entries_of (report_entries tables rest.0)) own
@@ -61,10 +67,10 @@ reports_are tables (e ∷ es) a =
 -- ---- texts
 
 -- a text of entries is one of reports
-text_of_entries : (tables : Entries) (octets : List ℕ)
+text_of_entries : BareAreWritten → (tables : Entries) (octets : List ℕ)
     → IsEntryText (IsReportEntry tables) octets → IsText tables octets
-text_of_entries tables octets t =
-    let rs = reports_are tables t.entries t.each in
+text_of_entries written tables octets t =
+    let rs = reports_are written tables t.entries t.each in
     record {
       reports = rs.0;
       under = rs.1;
@@ -72,22 +78,22 @@ text_of_entries tables octets t =
     }
 
 -- and back
-text_of_reports : (tables : Entries) (octets : List ℕ) → IsText tables octets
-    → IsEntryText (IsReportEntry tables) octets
-text_of_reports tables octets t = record {
+text_of_reports : BareAreWritten → (tables : Entries) (octets : List ℕ)
+    → IsText tables octets → IsEntryText (IsReportEntry tables) octets
+text_of_reports written tables octets t = record {
   entries = entries_of (report_entries tables t.reports);
-  each = entries_are tables t.reports t.under;
+  each = entries_are written tables t.reports t.under;
   says = t.says;
 }
 
 -- so octets break at the same place
-breaks_there : (tables : Entries) (octets : List ℕ) (place : ℕ)
+breaks_there : BareAreWritten → (tables : Entries) (octets : List ℕ) (place : ℕ)
     → EntriesBreakAt (IsReportEntry tables) octets place → BreaksAt tables octets place
-breaks_there tables octets place b = record {
-  front = text_of_entries tables (take place octets) b.front;
+breaks_there written tables octets place b = record {
+  front = text_of_entries written tables (take place octets) b.front;
   proper = b.proper;
   longest = λ n before within t.
-      b.longest n before within (text_of_reports tables (take n octets) t);
+      b.longest n before within (text_of_reports written tables (take n octets) t);
 }
 
 -- ---- what reading answers
@@ -106,8 +112,8 @@ or_err tables (Ok es) f e = absurd cc
 or_err tables (Err p) f e =
     let same : record { place = p } ≡ f = cc in ap (λ (f : NotAnArchive). Err f.place) same
 
-module _ (laws : ReportsAreEntries) (tables : Entries) (octets : List ℕ)
-    (x : Result ArchiveView (Failure NotAnArchive))
+module _ (written : BareAreWritten) (laws : ReportsAreEntries) (tables : Entries)
+    (octets : List ℕ) (x : Result ArchiveView (Failure NotAnArchive))
     (gives : Gives (λ a. a) x (archive_read tables octets)) where
   -- what is accepted is a text of reports, of which the archive holds what is kept
   pub accepted : AreOctets octets → IfOk x (IsArchiveOf tables octets)
@@ -120,7 +126,7 @@ module _ (laws : ReportsAreEntries) (tables : Entries) (octets : List ℕ)
           let es = or_ok tables (entries_read (entry_in tables) octets) a g in
           let t = texts.read_are_texts (IsReportEntry tables) (entry_in tables) (laws tables)
           octets es.0 all es.1 in
-          let rs = reports_are tables es.0 t.0 in
+          let rs = reports_are written tables es.0 t.0 in
           let held : es.0 ≡ kept_of tables rs.0 = sym t.2 ∙ ap kept (sym rs.2) in (
             rs.0,
             rs.1,
@@ -136,7 +142,8 @@ module _ (laws : ReportsAreEntries) (tables : Entries) (octets : List ℕ)
       subst (Gives (λ a. a) x)
       (ap (archive_read tables) says
       ∙ ap (archive_or tables) (texts.texts_are_read (IsReportEntry tables) (entry_in tables)
-      (laws tables) (entries_of (report_entries tables rs)) (entries_are tables rs under))) gives
+      (laws tables) (entries_of (report_entries tables rs))
+      (entries_are written tables rs under))) gives
 
   -- what is refused breaks there
   pub refused : AreOctets octets → IfErr x (RefusedAt tables octets)
@@ -147,7 +154,7 @@ module _ (laws : ReportsAreEntries) (tables : Entries) (octets : List ℕ)
           → Gives (λ a. a) x (archive_read tables octets) → IfErr x (RefusedAt tables octets)
       by (Ok a) g = tt
       by (Err (Fault f)) g =
-          breaks_there tables octets f.place
+          breaks_there written tables octets f.place
           (texts.refused_break_there (IsReportEntry tables) (entry_in tables) (laws tables) octets
           f.place all (or_err tables (entries_read (entry_in tables) octets) f g))
       by (Err OutOfMemory) g = tt
@@ -161,35 +168,37 @@ each_so P Q f [] a = tt
 each_so P Q f (e ∷ es) a = (f e a.0, each_so P Q f es a.1)
 
 -- the entries of reports are frames
-are_frames : ReportsAreEntries → (tables : Entries) (rs : List Report) → AreUnder tables rs
-    → AreFrames (entries_of (report_entries tables rs))
-are_frames laws tables rs under =
+are_frames : BareAreWritten → ReportsAreEntries → (tables : Entries) (rs : List Report)
+    → AreUnder tables rs → AreFrames (entries_of (report_entries tables rs))
+are_frames written laws tables rs under =
     each_so (IsReportEntry tables) _ (laws tables).frame (entries_of (report_entries tables rs))
-    (entries_are tables rs under)
+    (entries_are written tables rs under)
 
 -- the frames of a text
-pub frames_of_reports : ReportsAreEntries → Joined → FramesOfReports
-frames_of_reports laws joined tables rs under =
+pub frames_of_reports : BareAreWritten → ReportsAreEntries → Joined → FramesOfReports
+frames_of_reports written laws joined tables rs under =
     frames_of_texts joined (entries_of (report_entries tables rs))
-    (are_frames laws tables rs under)
+    (are_frames written laws tables rs under)
 
 -- the first of them
-pub frames_of_report_fronts : ReportsAreEntries → Fronts → FramesOfReportFronts
-frames_of_report_fronts laws fronts tables rs k n under few room =
+pub frames_of_report_fronts : BareAreWritten → ReportsAreEntries → Fronts → FramesOfReportFronts
+frames_of_report_fronts written laws fronts tables rs k n under few room =
     frames_of_fronts fronts (entries_of (report_entries tables rs)) k n
-    (are_frames laws tables rs under) few room
+    (are_frames written laws tables rs under) few room
 
 -- the octets of an entry of a report tell that entry
-tell_own : CanonicalIsRead → (tables : Entries) (es : List Entry)
+tell_own : BareAreWritten → CanonicalIsRead → (tables : Entries) (es : List Entry)
     → AllByRecursion (IsReportEntry tables) es → TellOwn (entries_told tables) es
-tell_own reads tables [] a = tt
-tell_own reads tables (e ∷ es) a =
+tell_own written reads tables [] a = tt
+tell_own written reads tables (e ∷ es) a =
     let is = a.0 in
     let own : entry_of tables is.report ≡ Some e =
-    ap (option_map (entry_with is.report)) is.canon.written ∙ ap Some (sym is.is) in (
+    ap (option_map (entry_with is.report))
+    (canonical_is written tables is.report e.bytes is.canon)
+    ∙ ap Some (sym is.is) in (
       ap (report_entries tables) (reads tables is.report e.bytes is.canon).1
           ∙ ap (λ (x : Option Entry). x ∷ []) own,
-      tell_own reads tables es a.1,
+      tell_own written reads tables es a.1,
     )
 
 -- the entries of two lists of reports
@@ -211,10 +220,11 @@ entries_of_frames tables (f ∷ fs) =
     (entries_of_frames tables fs)
 
 -- so a text tells what is kept
-pub report_texts_tell : ReportsAreEntries → CanonicalIsRead → Joined → ReportTextsTell
-report_texts_tell laws reads joined tables rs under =
+pub report_texts_tell : BareAreWritten → ReportsAreEntries → CanonicalIsRead → Joined
+    → ReportTextsTell
+report_texts_tell written laws reads joined tables rs under =
     let es = entries_of (report_entries tables rs) in
     let stream = text (kept es) in
     ap (λ xs. kept (entries_of xs)) (entries_of_frames tables (cut stream))
-    ∙ texts_tell joined (entries_told tables) es (are_frames laws tables rs under)
-    (tell_own reads tables es (entries_are tables rs under))
+    ∙ texts_tell joined (entries_told tables) es (are_frames written laws tables rs under)
+    (tell_own written reads tables es (entries_are written tables rs under))

@@ -53,9 +53,10 @@ pub record AddsFirst (old new : ArchiveView) (reports : List (Option Entry)) (do
   pub archive : new ≡ taken_in old (take done reports)
 
 -- what a call that adds reports does, by its answer
-abbrev pub Adds : ArchiveView → ArchiveView → List (Option Entry) → Result Added RanOut → Type 0
-Adds old new reports (Ok added) = AddsAll old new reports added
-Adds old new reports (Err ran_out) = AddsFirst old new reports ran_out.done
+abbrev pub AddsReports : ArchiveView → ArchiveView → List (Option Entry) → Result Added RanOut
+    → Type 0
+AddsReports old new reports (Ok added) = AddsAll old new reports added
+AddsReports old new reports (Err ran_out) = AddsFirst old new reports ran_out.done
 
 -- so of a call that does not count changes
 abbrev pub Gathers : ArchiveView → ArchiveView → List (Option Entry) → Result (Unit {0}) RanOut

@@ -4,6 +4,7 @@ use Rattle.std.specs.Prelude.{◌≡◌, ℕ, Bool, false, bytes_eq, if◌then�
 use Rattle.std.specs.List.{AllByRecursion}
 use Rattle.bufr_tables.specs.Entries.{Entries}
 use Rattle.bufr_keys.specs.declared.keys.KeyHead.{KeyHead}
+use Rattle.bufr_keys.specs.Usable.{◌>>=◌}
 use Rattle.bufr_keys.specs.Keys.{key}
 use Rattle.bufr_message.specs.declared.report.Report.{Report}
 use Rattle.bufr_message.specs.declared.report.ReportHead.{ReportHead}
@@ -13,7 +14,7 @@ use Rattle.bufr_shelves.specs.declared.key.Key.{Key}
 use Rattle.bufr_shelves.specs.declared.entry.Entry.{Entry}
 use Rattle.bufr_shelves.specs.Entries.{kept}
 use Rattle.bufr_archive.specs.Archives.{entries_of}
-use Rattle.bufr_archive.specs.Texts.{◌>>=◌, text}
+use Rattle.bufr_archive.specs.Texts.{text}
 
 -- ---- keys
 
@@ -53,6 +54,11 @@ spelt_entry r = option_map (entry_with r) (spelt_alone r)
 -- that of each of some
 abbrev pub spelt_entries : List Report → List (Option Entry)
 spelt_entries rs = map spelt_entry rs
+
+-- a report has a canonical message under the tables, which is what its own fields spell
+abbrev pub SpellsOwn : Entries → Report → Type 0
+SpellsOwn tables r = (canon : List ℕ) × (canonical tables r ≡ Some canon)
+    × (spelt_alone r ≡ Some canon)
 
 -- the entries of all reports of the message that octets spell
 abbrev pub entries_told : Entries → List ℕ → List (Option Entry)

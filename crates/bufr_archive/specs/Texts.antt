@@ -10,6 +10,7 @@ use Rattle.bufr_frame.specs.Starts.{announced}
 use Rattle.bufr_frame.specs.Streams.{cut}
 use Rattle.bufr_shelves.specs.declared.entry.Entry.{Entry}
 use Rattle.bufr_shelves.specs.Entries.{slot_cmp, kept}
+use Rattle.bufr_keys.specs.Usable.{◌>>=◌}
 
 -- ---- texts
 
@@ -37,12 +38,6 @@ abbrev pub stream_entries : (List ℕ → List (Option Entry)) → List ℕ → 
 stream_entries entries_in stream = flat_map (λ f. entries_in f.bytes) (cut stream)
 
 -- ---- judging from the left
-
--- what follows a value, where there is one
-infixl 10 ◌>>=◌
-abbrev pub ◌>>=◌ : {A B : Type 0} → Option A → (A → Option B) → Option B
-(Some x) >>= f = f x
-None >>= f = None
 
 -- an entry comes after the one before it, if there is one
 abbrev pub comes_after : Option Entry → Entry → Bool

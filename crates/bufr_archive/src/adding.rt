@@ -1,7 +1,7 @@
 //! Reports added to an archive one after the other.
 ghost use Rattle.std.specs.Prelude.{◌≡◌, ◌<◌, ◌∷◌, [], if◌then◌else◌, get_or, length, List, Option, IfOk, OnOk, OnErr};
 ghost use Rattle.bufr_shelves.specs.declared.entry.Entry.{Entry as AnEntry};
-ghost use Rattle.bufr_archive.specs.Archives.{IsKept, Adds, taken_in, entries_of, count_changes};
+ghost use Rattle.bufr_archive.specs.Archives.{IsKept, AddsReports, taken_in, entries_of, count_changes};
 ghost use Rattle.bufr_archive.specs.Adding.{AddsMessage};
 
 use crate::archive::Archive;
@@ -75,7 +75,7 @@ impl<'t, S: Shelf> Archive<'t, S> {
 
     /// Adds reports one after the other. Where memory runs out, the first `done` are joined.
     pub fn add_all<L: ReportList>(&mut self, reports: &L) -> Result<Added, RanOut>
-        ensures { Adds self.old self.new (L.entries reports.now) result }
+        ensures { AddsReports self.old self.new (L.entries reports.now) result }
     {
         let _held = self.len();
         let count = reports.count();

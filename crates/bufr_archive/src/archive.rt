@@ -33,7 +33,7 @@ impl<'t, S: Shelf> Model for Archive<'t, S> {
 /// A sink failed, once it had taken the first `written` octets of an archive's text.
 #[derive(Clone, Copy, Debug, Drop, Error, PartialEq, Eq)]
 #[error("write failed after {written} octets")]
-pub struct WriteFault {
+pub struct ArchiveWriteFault {
     pub written: u128,
 }
 
@@ -105,7 +105,7 @@ impl<'t, S: Shelf> Archive<'t, S> {
 
     /// Writes its text. Where the sink fails, it has taken the first `written` octets of the text
     /// and not all.
-    pub fn write<W: Sink>(&self, sink: &mut W) -> Result<(), WriteFault>
+    pub fn write<W: Sink>(&self, sink: &mut W) -> Result<(), ArchiveWriteFault>
         requires { (W.writing sink.old).failed ≡ false }
         ensures ok { OnOk result
             (Writes (W.writing sink.old) (W.writing sink.new) (text self.now.entries)) }
@@ -126,7 +126,7 @@ impl<'t, S: Shelf> Archive<'t, S> {
             let bytes = held.bytes.as_slice();
             if let Err(Unwritten { written: more }) = write_all(sink, bytes) {
                 let written = written + more as u128;
-                return Err(WriteFault { written });
+                return Err(ArchiveWriteFault { written });
             }
             written += bytes.len() as u128;
             next = self.shelf.after(held);

@@ -39,6 +39,7 @@ pub fn texts_are_cut_apart()
 {
     joined_frames_are_cut_apart();
     reports_are_entries();
+    written_messages_are_spelt();
     canonical_messages_are_reports();
 }
 
@@ -51,6 +52,7 @@ pub fn texts_from_before()
     ensures best { KeptBeforeIsTheBest }
 {
     reports_are_entries();
+    written_messages_are_spelt();
     sorted_are_kept();
 }
 

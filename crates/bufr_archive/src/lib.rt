@@ -18,7 +18,7 @@ pub mod reading;
 mod report_entry;
 
 pub use adding::{AddFault, Added, RanOut, ReportList};
-pub use archive::{Archive, WriteFault};
+pub use archive::{Archive, ArchiveWriteFault};
 pub use bufr_shelves::{
     Entry, Gathering, Held, JoinFault, Key, MapShelf, Moment, Octets, OutOfMemory, Shelf,
     SortedShelf, Station, entry, held, key, laws as shelf_laws, map_shelf, octets, shelf, shelve,

@@ -12,6 +12,7 @@ ghost use Rattle.bufr_archive.specs.ReportTexts.{IsArchiveOf, RefusedAt, archive
 use crate::archive::Archive;
 use crate::laws::reports_are_entries;
 use crate::report_entry::entry_in;
+use bufr_message::laws::written_messages_are_spelt;
 use bufr_shelves::{Key, Octets, OutOfMemory, Shelf, slot_order};
 use bufr_tables::{Failure, Tables};
 use std::alloc::Global;
@@ -123,6 +124,7 @@ impl<'t, S: Shelf> Archive<'t, S> {
         ensures refused { IfErr result (RefusedAt tables.now octets.now) }
     {
         reports_are_entries();
+        written_messages_are_spelt();
         Archive::read_entries(alloc, tables, octets)
     }
 

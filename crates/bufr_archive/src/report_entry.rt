@@ -2,7 +2,7 @@
 ghost use Rattle.std.specs.Prelude.{◌≡◌, ◌<◌, IfOk, IfSome, get_or, length};
 ghost use Rattle.std.specs.Option.{option_map};
 ghost use Rattle.bufr_tables.specs.Answers.{Gives};
-ghost use Rattle.bufr_archive.specs.ReportEntries.{key_head, key_of, entry_with, entry_of, spelt_entry, spelt_entries, only_one, entry_in, report_entries};
+ghost use Rattle.bufr_archive.specs.ReportEntries.{key_head, key_of, entry_with, entry_of, spelt_entry, spelt_entries, only_one, entry_in, report_entries, SpellsOwn};
 ghost use Rattle.bufr_message.specs.Messages.{message_of};
 ghost use Rattle.bufr_message.specs.Reports.{reports_in, reports_of, IsUnder};
 ghost use Rattle.bufr_archive.specs.Reading.{read};
@@ -10,7 +10,9 @@ ghost use Rattle.bufr_archive.specs.Reading.{read};
 use crate::adding::ReportList;
 use crate::reading::ReadEntry;
 use bufr_keys::{KeyHead, key_in};
-use bufr_message::laws::{canonical_messages_are_own, reports_have_canonical_messages};
+use bufr_message::laws::{
+    canonical_messages_are_own, reports_have_canonical_messages, written_messages_are_spelt,
+};
 use bufr_message::{
     Refused, Report, ReportHead, View, canonical, canonical_of_read, decode, reports, view,
 };
@@ -104,6 +106,17 @@ fn only_report(alloc: Global, tables: &Tables, octets: &[u8]) -> Result<Option<R
     Ok(found.pop())
 }
 
+/// The one report of the message that octets spell, as `only_report` finds it, whose own fields
+/// spell its canonical message.
+fn only_own(alloc: Global, tables: &Tables, octets: &[u8]) -> Result<Option<Report>, OutOfMemory>
+    ensures is { IfOk result (λ found. found ≡ only_one (reports_in tables.now octets.now)) }
+    ensures own { IfOk result (λ found. IfSome found (SpellsOwn tables.now)) }
+{
+    written_messages_are_spelt();
+    canonical_messages_are_own();
+    only_report(alloc, tables, octets)
+}
+
 /// The entry that octets are: they spell a message of one subset whose canonical message they are.
 /// It can only run out of memory.
 pub(crate) fn entry_in<'a>(
@@ -113,7 +126,7 @@ pub(crate) fn entry_in<'a>(
 ) -> Result<Option<ReadEntry<'a>>, OutOfMemory>
     ensures { IfOk result (λ found. option_map read found ≡ entry_in tables.now octets.now) }
 {
-    let Some(report) = only_report(alloc, tables, octets)? else {
+    let Some(report) = only_own(alloc, tables, octets)? else {
         return Ok(None);
     };
     let Some(bytes) = canonical_of_read(alloc, &report)? else {
@@ -149,6 +162,7 @@ impl<'a> MessageReports<'a> {
     {
         reports_have_canonical_messages();
         canonical_messages_are_own();
+        written_messages_are_spelt();
         let view = view(alloc, tables, octets)?;
         Ok(MessageReports { view })
     }

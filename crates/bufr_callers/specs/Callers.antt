@@ -1,5 +1,5 @@
 -- What the callers promise, in the words of the crates below.
-use Rattle.std.specs.Prelude.{◌≡◌, ℕ, List, Ok}
+use Rattle.std.specs.Prelude.{◌≡◌, ℕ, List, length, Ok}
 use Rattle.bufr_tables.specs.Entries.{Entries}
 use Rattle.bufr_sections.specs.declared.message.Decoded.{Decoded}
 use Rattle.bufr_sections.specs.declared.message.Message.{Message}
@@ -10,6 +10,13 @@ use Rattle.bufr_archive.specs.Archives.{ArchiveView, taken_in}
 use Rattle.bufr_archive.specs.ReportEntries.{report_entries}
 use Rattle.bufr_archive.specs.ReportTexts.{IsArchiveOf}
 use Rattle.bufr_archive.specs.Texts.{text}
+
+-- octets spell a message of so many reports, one a subset (FM 94 BUFR, sections 0 to 5)
+pub record HasSoManyReports (tables : Entries) (octets : List ℕ) (count : ℕ) : Type 0 where
+  pub message : Message
+  pub slack : ℕ
+  pub spelled : Spells tables message octets slack
+  pub counted : count ≡ length message.subsets
 
 -- the first octets spell a message, and the others spell the same with nothing in what is free
 -- (FM 94 BUFR, sections 0 to 5)

@@ -4,7 +4,7 @@ use super::*;
 use bufr_archive::NotAnArchive;
 use bufr_data::WriteFault;
 use bufr_message::{EncodeFault, Refused};
-use bufr_tables::{TableB, TableD, Tables};
+use bufr_tables::{Failure, TableB, TableD, Tables};
 use std::alloc::Global;
 use std::test::Fail;
 
@@ -59,6 +59,17 @@ fn tables(alloc: Global) -> Result<Tables, Fail> {
     let elements = TableB::parse(alloc, TABLE_B)?;
     let sequences = TableD::parse(alloc, b"FXY1,FXY2\n".as_slice())?;
     Ok(Tables::new(elements, sequences))
+}
+
+#[test]
+fn reports_are_counted(rt: HostRuntime) -> Result<(), Fail> {
+    let alloc = rt.alloc();
+    let tables = tables(alloc)?;
+    assert!(rt; matches!(count(alloc, &tables, BARE), Ok(1)));
+    assert!(rt; matches!(count(alloc, &tables, &two_texts(alloc)?), Ok(2)));
+    let refused = count(alloc, &tables, &BARE[..40]);
+    assert!(rt; matches!(refused, Err(Failure::Fault(Refused::TotalLength))));
+    Ok(())
 }
 
 #[test]

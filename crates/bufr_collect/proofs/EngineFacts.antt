@@ -1,4 +1,5 @@
--- What `add_streams` and `merge_readers` keep from reader to reader, and what the engines answer.
+-- What `add_streams` and `merge_readers` keep from reader to reader, and what the engines answer:
+-- for the contracts of `run_add` and `run_merge`.
 use Rattle.std.proofs.Common.{◌≡◌, ℕ, suc, ◌+◌, ◌*◌, ◌<◌, ◌≤◌, List, [], ◌∷◌, ◌++◌, length, Result, Ok, Err, refl, sym, ap, ◌∙◌, subst, arith, length-append}
 use Rattle.std.proofs.lemmas.List.{append-nil}
 use Rattle.std.proofs.lemmas.Grind.{flat_map-append}
@@ -21,8 +22,10 @@ use Rattle.bufr_engines.specs.declared.fault.Input.TheVariants.{Number}
 use Rattle.bufr_engines.specs.declared.fault.ToolFault.{ToolFault}
 use Rattle.bufr_engines.specs.declared.fault.ToolFault.TheVariants as faults
 use Rattle.bufr_engines.specs.Engines.{WasReadOut, HasFailed, IsEndless, AreAllOf, WritesAll, WritesAfter, FailsAfter}
+use Rattle.bufr_engines.specs.Limits.{most_reads}
 use Rattle.bufr_collect.specs.declared.counts.Counts.{Counts}
-use Rattle.bufr_collect.specs.Collected.{frames_of, refused_of, all_told, collected_text, collected_tally, AreTextsOf, all_of, merged_text}
+use Rattle.bufr_depot.specs.Slots.{all_told}
+use Rattle.bufr_collect.specs.Collected.{frames_of, refused_of, collected_text, collected_tally, AreTextsOf, all_of, merged_text}
 use Rattle.bufr_collect.specs.Readers.{AreFresh, AreReadAtMost, WereReadOut, EndsAt}
 use Rattle.bufr_collect.specs.Collects.{AllReadOut, StreamsEndAt, Collects, AllArchives, ArchivesEndAt, IsNoArchive, Merges}
 use Rattle.bufr_collect.specs.Adds.{reports_of_frames, HasAdded, AddsStream, AddsStreams, ReadsArchive, MergesReaders}
@@ -60,7 +63,7 @@ frames_more streams stream =
 -- one more
 pub added_next : (tables : Entries) (reads : ℕ) (old new new' : List Reading)
     (archive archive' : ArchiveView) (counts counts' : Counts) (i : ℕ) (r r' : Reading)
-    (done : Unit {0}) → reads ≤ 4294967296
+    (done : Unit {0}) → reads ≤ most_reads
     → (a : AddedThrough tables reads old new archive counts i) → Reached old new a.streams i r
     → new' ≡ set new i r' → r'.reads ≤ reads
     → AddsStream tables (Number (i + 1)) reads r r' archive' counts' (frames_of a.streams) (Ok done)

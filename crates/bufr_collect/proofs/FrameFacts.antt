@@ -1,5 +1,6 @@
 -- The messages of frames added to an archive one after the other: the steps of `add_frame` and
--- `add_frames`.
+-- `add_frames`, for the contract of `run_add`; and what is kept of reports and of more, for that of
+-- `run_merge` too.
 use Rattle.std.proofs.Common.{◌≡◌, ℕ, ◌+◌, ◌<◌, ◌≤◌, List, [], ◌∷◌, ◌++◌, length, take, drop, Option, Some, Result, Ok, Err, IsErrAnd, IfSome, OnOk, map, get_or, refl, sym, ap, ◌∙◌, subst, arith, length-append, append_assoc, take-append-drop}
 use Rattle.std.specs.Prelude.{option_to_list}
 use Rattle.std.specs.List.{slice_index_or}

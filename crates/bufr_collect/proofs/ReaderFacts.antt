@@ -1,4 +1,5 @@
--- Readers that are read one after the other: the steps of `add_streams` and `merge_readers`.
+-- Readers that are read one after the other: the steps of `add_streams` and `merge_readers`, for the
+-- contracts of `run_add` and `run_merge`.
 use Rattle.std.proofs.Common.{◌≡◌, ℕ, zero, suc, ◌+◌, ◌<◌, ◌≤◌, List, [], ◌∷◌, ◌++◌, length, map, get_or, refl, sym, ap, ◌∙◌, subst, arith, length-append, append_assoc}
 use Rattle.std.specs.List.{AllByRecursion}
 use Rattle.std.proofs.lemmas.List.{append-nil, length-map}

@@ -1,65 +1,24 @@
 -- The messages of a stream added to an archive as its pieces come: the steps of `add_piece`,
--- `add_rest` and `add_stream`.
-use Rattle.std.proofs.Common.{◌≡◌, ℕ, zero, suc, ◌+◌, ◌-◌, ◌*◌, ◌^◌, ◌<◌, ◌≤◌, Bool, true, false, List, [], ◌∷◌, ◌++◌, length, take, drop, Ok, Err, refl, sym, ap, ◌∙◌, subst, arith, length-append, append_assoc}
+-- `add_rest` and `add_stream`, for the contract of `run_add`.
+use Rattle.std.proofs.Common.{◌≡◌, ℕ, ◌+◌, ◌*◌, ◌^◌, ◌<◌, ◌≤◌, List, [], ◌∷◌, ◌++◌, length, drop, Ok, Err, sym, ap, ◌∙◌, subst, arith, length-append, append_assoc}
 use Rattle.std.proofs.lemmas.List.{append-nil}
 use Rattle.bufr_bits.specs.Devices.{Reading}
 use Rattle.bufr_tables.specs.Entries.{Entries}
 use Rattle.bufr_frame.specs.declared.frames.Found.{Found}
-use Rattle.bufr_frame.specs.declared.places.Start.TheVariants.{Frame, Open, Other}
 use Rattle.bufr_frame.specs.Framings.{Framing}
-use Rattle.bufr_frame.specs.Starts.{start_of}
-use Rattle.bufr_frame.specs.Streams.{frames_from, cut, sure, Stands}
-use Rattle.bufr_frame.specs.StreamLaws.{sure-piece, cut-end, frames_other, frames_open, frames_frame}
+use Rattle.bufr_frame.specs.Streams.{cut, sure, Stands}
+use Rattle.bufr_frame.specs.StreamLaws.{cut-end}
 use Rattle.bufr_frame.specs.Takings.{taken_in, IsRestOf, IsNextFrame, IsNoFrame, StandsAfter, AreLast, HandedOut, IsTaking}
-use Rattle.bufr_frame.specs.TakingLaws.{handed_first, handed_front, handed_end, taking_first, taking_one, taking_none, taking_fed}
+use Rattle.bufr_frame.specs.FrameBounds.{sure_few, cut_few}
+use Rattle.bufr_frame.specs.TakingLaws.{handed_first, handed_end, taking_first, taking_one, taking_none, taking_front, taking_fed}
 use Rattle.bufr_archive.specs.Archives.{ArchiveView}
 use Rattle.bufr_engines.specs.declared.fault.Input.{Input}
 use Rattle.bufr_engines.specs.Engines.{IsFresh}
 use Rattle.bufr_engines.specs.Inputs.{GoesOn}
+use Rattle.bufr_engines.specs.Limits.{longest_piece}
 use Rattle.bufr_engines.specs.ReadingLaws.{HasGiven_none}
 use Rattle.bufr_collect.specs.declared.counts.Counts.{Counts}
 use Rattle.bufr_collect.specs.Adds.{HasAdded, HasAddedSure}
-
--- ---- no more frames than octets
-
--- at an open place of a stream that has ended the search goes on
-frames_past : (place x : ℕ) (xs : List ℕ) → start_of (x ∷ xs) ≡ Open
-    → frames_from true place 0 (x ∷ xs) ≡ frames_from true (place + 1) 0 xs
-frames_past place x xs h = rw (h, frames_from) refl
-
--- a frame before others that are no more than the octets left is one more at most
-few_frame : (frames others : List Found) (place l x : ℕ) (xs : List ℕ)
-    → frames ≡ record { place = place; bytes = take l (x ∷ xs) } ∷ others
-    → length others ≤ length xs → length frames ≤ suc (length xs)
-few_frame frames others place l x xs e h = rw e (omega arith)
-
--- frames that are no more than the octets left are no more where an octet is before these
-few_same : (frames others : List Found) (long : ℕ) → frames ≡ others → length others ≤ long
-    → length frames ≤ suc long
-few_same frames others long e h = rw e (omega arith)
-
--- octets have no more frames than octets, whether the stream has ended or not
-few : (ended : Bool) (place skip : ℕ) (xs : List ℕ)
-    → length (frames_from ended place skip xs) ≤ length xs
-few ended place skip [] = omega arith
-few ended place (suc skip) (x ∷ xs) = let h = few ended (place + 1) skip xs in omega arith
-few ended place zero (x ∷ xs) =
-    elim (start_of (x ∷ xs)) as (λ u. start_of (x ∷ xs) ≡ u → length (frames_from ended place zero (x ∷ xs)) ≤ length (x ∷ xs)) [
-      | Other ↦ λ h. few_same _ _ (length xs) (frames_other ended place x xs h) (few ended (place + 1) 0 xs)
-      | Open ↦ λ h. elim ended as (λ b. length (frames_from b place zero (x ∷ xs)) ≤ length (x ∷ xs)) [
-        | true ↦ few_same _ _ (length xs) (frames_past place x xs h) (few true (place + 1) 0 xs)
-        | false ↦ rw (frames_open place x xs h) (omega arith)
-      ]
-      | Frame l ↦ λ h. few_frame _ _ place l x xs (frames_frame ended place l x xs h) (few ended (place + 1) (l - 1) xs)
-    ] refl
-
--- a stream has no more sure frames than octets
-pub sure_few : (stream : List ℕ) → length (sure stream) ≤ length stream
-sure_few stream = few false 0 0 stream
-
--- a stream's cut has no more frames than the stream has octets
-pub cut_few : (stream : List ℕ) → length (cut stream) ≤ length stream
-cut_few stream = few true 0 0 stream
 
 -- ---- within a piece
 
@@ -82,23 +41,11 @@ amid_first tables archive counts before framer stream piece h = record {
   few = h.few;
 }
 
--- the frames that were handed out are the first of the sure frames
-amid_front : (framer : Framing) (stream rest : List ℕ) (frames : List Found)
-    → IsTaking framer stream rest frames → (more : List Found) × (sure stream ≡ frames ++ more)
-amid_front framer stream rest frames t =
-    let here = drop (length frames) (sure t.taken) in
-    let there = drop (length (sure t.taken)) (sure (t.taken ++ rest)) in (
-      here ++ there,
-      ap sure t.parted ∙ sure-piece t.taken rest
-          ∙ ap (λ (fs : List Found). fs ++ there) (handed_front framer t.taken frames t.handed)
-          ∙ append_assoc frames here there,
-    )
-
--- and so no more than the stream's octets
+-- the frames that were handed out are no more than the stream's octets
 amid_few : (framer : Framing) (stream rest : List ℕ) (frames : List Found)
     → IsTaking framer stream rest frames → length frames ≤ length stream
 amid_few framer stream rest frames t =
-    let front = amid_front framer stream rest frames t in
+    let front = taking_front framer stream rest frames t in
     let long : length (sure stream) ≡ length frames + length front.0 = ap length front.1 ∙ length-append frames front.0 in
     let a = sure_few stream in
     omega arith
@@ -192,7 +139,7 @@ rest_added archive archive' counts counts' framer last frames are is adds tables
 pub record Between (old now : Reading) (first archive : ArchiveView) (start counts : Counts) (framer : Framing) (count : ℕ) : Type 0 where
   pub read : List ℕ
   pub goes_on : GoesOn old now read count
-  pub short : length read ≤ 65536 * count
+  pub short : length read ≤ longest_piece * count
   pub added : (tables : Entries) (before : List Found) → HasAdded tables first start before → length before < 2 ^ 127
       → HasAddedSure tables archive counts before framer read
 
@@ -212,6 +159,6 @@ between_first reader archive counts framer fresh stands = record {
 }
 
 -- the frames of a stream that was read so often are no more than the octets asked for
-pub cut_bounded : (stream : List ℕ) (count reads : ℕ) → length stream ≤ 65536 * count
-    → count ≤ reads → length (cut stream) ≤ 65536 * reads
+pub cut_bounded : (stream : List ℕ) (count reads : ℕ) → length stream ≤ longest_piece * count
+    → count ≤ reads → length (cut stream) ≤ longest_piece * reads
 cut_bounded stream count reads short most = let few = cut_few stream in omega arith

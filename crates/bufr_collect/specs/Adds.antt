@@ -15,6 +15,7 @@ use Rattle.bufr_engines.specs.declared.fault.Input.TheVariants.{Number}
 use Rattle.bufr_engines.specs.declared.fault.ToolFault.{ToolFault}
 use Rattle.bufr_engines.specs.declared.fault.ToolFault.TheVariants as faults
 use Rattle.bufr_engines.specs.Engines.{WasReadOut, HasFailed, IsEndless, AreAllOf}
+use Rattle.bufr_engines.specs.Limits.{longest_piece}
 use Rattle.bufr_collect.specs.declared.counts.Counts.{Counts}
 use Rattle.bufr_archive.specs.ReportTexts.{archive_of, IsArchiveOf}
 use Rattle.bufr_collect.specs.Collected.{refused_of, frames_of, AreTextsOf, all_of}
@@ -48,7 +49,7 @@ abbrev pub AddsStream : Entries → Input → ℕ → Reading → Reading → Ar
 AddsStream tables source reads old new archive counts before (Ok done) =
     WasReadOut new × (stream : List ℕ) × AreAllOf old stream
     × HasAdded tables archive counts (before ++ cut stream)
-    × (length (cut stream) ≤ 65536 * reads)
+    × (length (cut stream) ≤ longest_piece * reads)
 AddsStream tables source reads old new archive counts before (Err (faults.ReadFailed which)) =
     (which ≡ source) × HasFailed new
 AddsStream tables source reads old new archive counts before (Err (faults.EndlessInput which)) =

@@ -11,7 +11,7 @@ use Rattle.bufr_message.specs.declared.report.Report.{Report}
 use Rattle.bufr_message.specs.Messages.{message_of}
 use Rattle.bufr_engines.specs.declared.fault.Tally.{Tally}
 use Rattle.bufr_archive.specs.ReportEntries.{AreUnder, kept_of, text_of}
-use Rattle.bufr_archive.specs.ReportTexts.{told}
+use Rattle.bufr_depot.specs.Slots.{all_told}
 
 -- ---- streams
 
@@ -24,16 +24,13 @@ abbrev pub refused_as : Result Decoded Refused → ℕ
 refused_as (Ok found) = 0
 refused_as (Err why) = 1
 
+-- the same of a frame as it stands under the tables
 abbrev pub frame_refused : Entries → Found → ℕ
 frame_refused tables frame = refused_as (message_of tables frame.bytes)
 
 -- how many of the frames spell no message
 abbrev pub refused_of : Entries → List Found → ℕ
 refused_of tables frames = sum_by (frame_refused tables) frames
-
--- the reports that streams tell, each by itself: those of the messages that its frames spell
-abbrev pub all_told : Entries → List (List ℕ) → List Report
-all_told tables streams = flat_map (told tables) streams
 
 -- the text of an archive of all reports that streams tell
 abbrev pub collected_text : Entries → List (List ℕ) → List ℕ

@@ -17,7 +17,7 @@ use Rattle.bufr_engines.specs.Engines.{WasReadOut, HasFailed, IsEndless, AreAllO
 use Rattle.bufr_engines.specs.Engines.{FailsAfter}
 use Rattle.bufr_collect.specs.declared.counts.Counts.{Counts}
 use Rattle.bufr_archive.specs.ReportTexts.{archive_of, BreaksAt}
-use Rattle.bufr_collect.specs.Collected.{refused_of, frames_of, all_told, collected_text}
+use Rattle.bufr_collect.specs.Collected.{refused_of, frames_of, collected_text}
 use Rattle.bufr_collect.specs.Collected.{collected_tally, AreTextsOf, all_of, merged_text}
 use Rattle.bufr_collect.specs.Collected.{merged_tally}
 use Rattle.bufr_collect.specs.Readers.{WereReadOut, EndsAt}

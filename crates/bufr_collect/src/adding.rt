@@ -3,6 +3,7 @@
 ghost use Rattle.std.specs.Prelude.{◌≡◌, ◌≤◌, false, map};
 ghost use Rattle.bufr_collect.specs.Collects.{Collects};
 ghost use Rattle.bufr_collect.specs.Readers.{AreFresh, AreReadAtMost};
+ghost use Rattle.bufr_engines.specs.Limits.{most_reads};
 
 use crate::counts::Counts;
 use crate::streams::add_streams;
@@ -22,7 +23,7 @@ pub fn run_add<S: Source, W: Sink>(
     readers: &mut [S],
     writer: &mut W,
 ) -> Result<Tally, ToolFault>
-    requires few { reads ≤ 4294967296 }
+    requires few { reads ≤ most_reads }
     requires fresh { AreFresh (map S.reading readers.old) }
     requires works { (W.writing writer.old).failed ≡ false }
     ensures bounded { AreReadAtMost reads (map S.reading readers.new) }

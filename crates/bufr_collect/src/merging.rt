@@ -3,6 +3,7 @@
 ghost use Rattle.std.specs.Prelude.{◌≡◌, ◌≤◌, false, map};
 ghost use Rattle.bufr_tables.specs.Answers.{result_map};
 ghost use Rattle.bufr_engines.specs.Engines.{IsFresh};
+ghost use Rattle.bufr_engines.specs.Limits.{most_reads};
 ghost use Rattle.bufr_collect.specs.Adds.{ReadsArchive, MergesReaders};
 ghost use Rattle.bufr_collect.specs.Collects.{Merges};
 ghost use Rattle.bufr_collect.specs.Readers.{AreFresh, AreReadAtMost};
@@ -21,7 +22,7 @@ fn read_archive<'t, K: Shelf, S: Source>(
     number: u128,
     reader: &mut S,
 ) -> Result<Archive<'t, K>, ToolFault>
-    requires few { reads ≤ 4294967296 }
+    requires few { reads ≤ most_reads }
     requires fresh { IsFresh (S.reading reader.old) }
     ensures bounded { (S.reading reader.new).reads ≤ reads }
     ensures reads { ReadsArchive tables.now number reads (S.reading reader.old)
@@ -45,7 +46,7 @@ fn merge_readers<'t, K: Shelf, S: Source>(
     tables: &'t Tables,
     readers: &mut [S],
 ) -> Result<Archive<'t, K>, ToolFault>
-    requires few { reads ≤ 4294967296 }
+    requires few { reads ≤ most_reads }
     requires fresh { AreFresh (map S.reading readers.old) }
     ensures bounded { AreReadAtMost reads (map S.reading readers.new) }
     ensures merges { MergesReaders tables.now reads (map S.reading readers.old)
@@ -73,7 +74,7 @@ pub fn run_merge<S: Source, W: Sink>(
     readers: &mut [S],
     writer: &mut W,
 ) -> Result<Tally, ToolFault>
-    requires few { reads ≤ 4294967296 }
+    requires few { reads ≤ most_reads }
     requires fresh { AreFresh (map S.reading readers.old) }
     requires works { (W.writing writer.old).failed ≡ false }
     ensures bounded { AreReadAtMost reads (map S.reading readers.new) }

@@ -4,6 +4,7 @@ ghost use Rattle.std.specs.Prelude.{◌≡◌, ◌≤◌, ◌<◌, ◌*◌, ◌^
 ghost use Rattle.bufr_frame.specs.declared.frames.Found.{Found as FoundFrame};
 ghost use Rattle.bufr_tables.specs.Entries.{Entries};
 ghost use Rattle.bufr_engines.specs.Engines.{IsFresh};
+ghost use Rattle.bufr_engines.specs.Limits.{most_reads, longest_piece};
 ghost use Rattle.bufr_collect.specs.Adds.{AddsStream, AddsStreams, HasAdded};
 ghost use Rattle.bufr_collect.specs.Readers.{AreFresh, AreReadAtMost};
 
@@ -25,10 +26,10 @@ fn add_stream<S: Source>(
     gatherer: &mut Gatherer<'_>,
     counts: &mut Counts,
 ) -> Result<(), ToolFault>
-    requires few { reads ≤ 4294967296 }
+    requires few { reads ≤ most_reads }
     requires fresh { IsFresh (S.reading reader.old) }
     requires some { 0 < length room.old }
-    requires short { length room.old ≤ 65536 }
+    requires short { length room.old ≤ longest_piece }
     requires so_far { (tables : Entries) × (before : List FoundFrame)
         × HasAdded tables gatherer.old counts.old before × (length before < 2 ^ 127) }
     ensures bounded { (S.reading reader.new).reads ≤ reads }
@@ -60,10 +61,10 @@ pub(crate) fn add_streams<S: Source>(
     gatherer: &mut Gatherer<'_>,
     counts: &mut Counts,
 ) -> Result<(), ToolFault>
-    requires few { reads ≤ 4294967296 }
+    requires few { reads ≤ most_reads }
     requires fresh { AreFresh (map S.reading readers.old) }
     requires some { 0 < length room.old }
-    requires short { length room.old ≤ 65536 }
+    requires short { length room.old ≤ longest_piece }
     requires empty { HasAdded gatherer.old.tables gatherer.old counts.old [] }
     ensures bounded { AreReadAtMost reads (map S.reading readers.new) }
     ensures adds { AddsStreams gatherer.old.tables reads (map S.reading readers.old)

@@ -2,6 +2,7 @@
 
 ghost use Rattle.std.specs.Prelude.{◌≡◌, ◌≤◌, ◌<◌, None, Some, false, IfOk, map};
 ghost use Rattle.bufr_collect.specs.Readers.{AreFresh};
+ghost use Rattle.bufr_engines.specs.Limits.{most_reads};
 
 use bufr_bits::{Failed, IntoWrite, Sink, Source};
 use bufr_collect::{run_add, run_merge};
@@ -137,7 +138,7 @@ fn collected(
     reads: u64,
     inputs: &mut [Pieces],
 ) -> Result<(Result<Tally, ToolFault>, Vec<u8>), Fail>
-    requires few { reads ≤ 4294967296 }
+    requires few { reads ≤ most_reads }
     requires fresh { AreFresh (map ⟦<Pieces as Source>⟧.reading inputs.old) }
 {
     let tables = tables(alloc)?;
@@ -320,7 +321,7 @@ fn three_inputs(
     reads: u64,
     breaks: bool,
 ) -> Result<(Result<Tally, ToolFault>, Vec<u8>, u64), Fail>
-    requires { reads ≤ 4294967296 }
+    requires { reads ≤ most_reads }
 {
     let mut inputs = [
         Pieces::new(Vec::from_slice(alloc, FIRST)?, 100, false),
@@ -342,7 +343,7 @@ fn stops_at_the_second(
     breaks: bool,
     fault: ToolFault,
 ) -> Result<(), Fail>
-    requires { reads ≤ 4294967296 }
+    requires { reads ≤ most_reads }
 {
     let (answer, written, last) = three_inputs(alloc, merging, reads, breaks)?;
     same(rt, answer, Err(fault));

@@ -14,18 +14,19 @@ use Rattle.bufr_expand.specs.Steady.{IsSteady, course_steady}
 use Rattle.bufr_expand.specs.Walks.{left, Goes}
 use Rattle.bufr_data.specs.declared.alike.Alike.{Alike}
 use Rattle.bufr_data.specs.declared.field.Field.{Field}
-use Rattle.bufr_data.specs.Alike.{Takes, TakeAll, IsAlike}
+use Rattle.bufr_data.specs.Alike.{TakesBits, TakeAll, IsAlike}
 use Rattle.bufr_data.specs.Plain.{number_of, fields_at}
 use Rattle.bufr_data.specs.Reads.{behind_fields}
 use Rattle.bufr_data.specs.Starts.{PassesSubset}
+use Rattle.bufr_data.specs.StepLaws.{asks_field}
 use Rattle.bufr_data.proofs.PassedFacts.{text_passes, text_ends, number_passes, number_ends}
-use Rattle.bufr_data.proofs.ReadFacts.{asks_field, asked_field, found_is}
+use Rattle.bufr_data.proofs.ReadFacts.{asked_field, found_is}
 
 -- ---- the bits of one field
 
 -- a text takes the bits of its octets
 pub text_takes : (spec : Spec) (b w : ℕ) → spec.kind ≡ kinds.Text → b ≡ 8 * w → w ≡ spec.width / 8
-    → Takes spec b
+    → TakesBits spec b
 text_takes spec b w is times eighth = record {
   there = λ i front enough. text_passes i spec front (drop b front) b w is times eighth enough refl;
   short = λ i front short. text_ends i spec front b w is times eighth short;
@@ -33,7 +34,7 @@ text_takes spec b w is times eighth = record {
 
 -- a number of 64 bits at most takes its width
 pub number_takes : (spec : Spec) (b : ℕ) → (spec.kind ≡ kinds.Text → ⊥) → spec.width ≤ 64
-    → b ≡ spec.width → Takes spec b
+    → b ≡ spec.width → TakesBits spec b
 number_takes spec b other few size = record {
   there = λ i front enough. number_passes i spec front (drop b front) b other few size enough refl;
   short = λ i front short. number_ends i spec front b other few size short;
@@ -56,7 +57,7 @@ after_more (asks m e s next) (f ∷ fields) met d spec more h = (h.0, h.1, after
 
 -- so many bits more are taken
 take_more : (fields : List Told) (bits d : ℕ) (spec : Spec) (own : ℕ)
-    → same_kind spec.kind kinds.Count ≡ false → Takes spec own → TakeAll fields bits
+    → same_kind spec.kind kinds.Count ≡ false → TakesBits spec own → TakeAll fields bits
     → TakeAll (fields ++ untold d spec ∷ []) (bits + own)
 take_more [] bits d spec own kind takes all = (own, 0, kind, takes, refl, omega (arith, all))
 take_more (f ∷ fields) bits d spec own kind takes all =
@@ -75,7 +76,7 @@ none_measured c later is = record { fields = []; behind = sym is; taken = refl }
 
 -- one field more
 pub one_measured : (c : Course) (old new : Walk) (bits grown own d : ℕ) (spec : Spec)
-    → grown ≡ bits + own → Goes (left old) (Ok (steps.Field d spec)) new → Takes spec own
+    → grown ≡ bits + own → Goes (left old) (Ok (steps.Field d spec)) new → TakesBits spec own
     → Measured c bits (left old) → Measured c grown (left new)
 one_measured c old new bits grown own d spec sum goes takes m =
     let a = asks_field (left old) d spec new goes in
@@ -99,7 +100,7 @@ fields_pass used met i (stops n fault) (f ∷ fields) bits front steady allowed 
 fields_pass used met i (asks m d spec more) (f ∷ fields) bits front steady allowed taken enough =
     let own = taken.0 in
     let kind : same_kind spec.kind kinds.Count ≡ false = subst (λ (s : Spec). same_kind s.kind kinds.Count ≡ false) allowed.1 taken.2 in
-    let takes : Takes spec own = subst (λ (s : Spec). Takes s own) allowed.1 taken.3 in
+    let takes : TakesBits spec own = subst (λ (s : Spec). TakesBits s own) allowed.1 taken.3 in
     let p = takes.there i front (omega (arith, taken.5, enough)) in
     let field : Field = record { fxy = d; spec = spec; raw = p.0 } in
     let same : more (number_of p.0) ≡ more f.number = steady.2 kind (number_of p.0) ∙ sym (steady.2 kind f.number) in

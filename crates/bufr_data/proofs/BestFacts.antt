@@ -19,11 +19,12 @@ use Rattle.bufr_data.specs.Fits.{HasForm, of_text, of_number}
 use Rattle.bufr_data.specs.Columns.{Pairwise, HasIncrement, HasText, IsColumn, equal, numbers as number_column, texts as text_column, above, missing, filled as is_filled, ones as ones_text}
 use Rattle.bufr_data.proofs.ColumnFacts.{power_positive, pairwise_length, ones_of, all_ones_of, strictly}
 use Rattle.bufr_bits.specs.NumberLaws.{length-fields}
-use Rattle.bufr_data.proofs.PlainFacts.{and_first, and_second, same_kind_is}
+use Rattle.bufr_data.proofs.PlainFacts.{and_first, and_second}
 use Rattle.bufr_data.proofs.ColumnWalks.{AllForm, column_form, text_kind, all_equal_is, all_equal_again, are_equal}
 use Rattle.bufr_data.specs.ColumnReading.{all_equal}
 use Rattle.std.proofs.Math.Pow.{pow_mono}
 use Rattle.bufr_data.specs.BestColumns.{present, least_with, least, greatest, fewest_bits, increment_of, best_numbers, best_texts, octets_of, best_differing, first_bits, best, widest, can_be_column}
+use Rattle.bufr_data.specs.FormLaws.{same_kind_is}
 
 -- ---- the fewest bits
 

@@ -17,9 +17,10 @@ use Rattle.bufr_data.specs.Causes.{Begin}
 use Rattle.bufr_data.specs.Columns.{Column, AreColumns, field_of}
 use Rattle.bufr_data.specs.ColumnCauses.{ColumnRefused, told_first, NoColumnFollows, no_room}
 use Rattle.bufr_data.specs.ColumnCauses.{too_many_values, no_spec, no_column, FirstColumnRefused}
-use Rattle.bufr_data.proofs.CauseFacts.{Laws, passes_after, begun, limit_passed, passes_full}
+use Rattle.bufr_data.proofs.CauseFacts.{passes_full}
 use Rattle.bufr_data.proofs.CauseFacts.{passes_lacking, passes_asked}
 use Rattle.bufr_data.specs.Limits.{most_values}
+use Rattle.bufr_data.specs.CourseLaws.{Laws, passes_after, begun, limit_passed}
 
 -- the fault of data at which the walk stops
 abbrev pub IsStop : WalkFault → ReadFault → Type 0

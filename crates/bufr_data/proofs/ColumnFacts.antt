@@ -5,6 +5,7 @@ use Rattle.std.specs.Prelude.{◌==◌, nat_lt}
 use Rattle.std.specs.List.{AllByRecursion, flat_map, list_all}
 use Rattle.std.proofs.lemmas.Bool.{cases_lt, le-ltb, lt-ltb, ltb-true, eqb-true, eqb-false, eq-eqb, ltb-false}
 use Rattle.std.proofs.lemmas.List.{length-replicate, length-map}
+use Rattle.bufr_tables.specs.AnswerLaws.{bind_ok, guard_ok, ok_is}
 use Rattle.bufr_bits.specs.Bits.{bin, bits, number, number_at, numbers_at, octets_at}
 use Rattle.bufr_bits.specs.BitLaws.{length-bin, number_below, some_is, number_at-bin, number_at_is}
 use Rattle.bufr_bits.specs.NumberLaws.{numbers_at_again, numbers_at_found}
@@ -16,8 +17,8 @@ use Rattle.bufr_data.specs.Plain.{raw_bits, raw_at}
 use Rattle.bufr_data.specs.Fits.{HasForm}
 use Rattle.bufr_data.specs.Columns.{Pairwise, HasIncrement, HasText, IsColumn, equal, numbers as number_column, texts as text_column, above, missing, filled as is_filled, ones as ones_text}
 use Rattle.bufr_data.specs.ColumnReading.{or_ends, raised, value_then, all_raised, filled, text_then, texts_then, texts_at, values_at, column_at}
-use Rattle.bufr_data.proofs.PlainFacts.{and_first, and_second, bind_ok, raw_again, raw_read}
-use Rattle.bufr_data.proofs.FitFacts.{form_passes, form_is}
+use Rattle.bufr_data.specs.FormLaws.{form_passes, form_is}
+use Rattle.bufr_data.proofs.PlainFacts.{and_first, and_second, raw_again, raw_read}
 
 -- ---- numbers of one width, one after the other
 
@@ -26,10 +27,6 @@ pub power_positive : (w : ℕ) → 0 < 2 ^ w
 power_positive w =
     let below : number (bin w 0) < 2 ^ w = subst (λ k. number (bin w 0) < 2 ^ k) (length-bin w 0) (number_below (bin w 0)) in
     omega (arith, below)
-
--- equal answers have equal values
-ok_is : {A F : Type 0} (x y : A) → ◌≡◌ {A = Result A F} (Ok x) (Ok y) → x ≡ y
-ok_is x y e = cc
 
 -- the step of `not_equal`
 not_equal_by : (a b : ℕ) (t : Bool) → (a == b) ≡ t → (a ≡ b → ⊥) → t ≡ false
@@ -312,12 +309,6 @@ ungrouped : (front a b c rest : List Bool) → front ≡ a ++ (b ++ (c ++ rest))
     → front ≡ (a ++ b ++ c) ++ rest
 ungrouped front a b c rest e = e ∙ sym (regrouped a b c rest)
 
--- what is answered past a test has passed it
-pub guarded : {A F : Type 0} (b : Bool) (f : F) (x : Result A F) (y : A) → cond b (Err f) x ≡ Ok y
-    → (b ≡ false) × (x ≡ Ok y)
-guarded true f x y e = absurd cc
-guarded false f x y e = (refl, e)
-
 -- values that are read behind minimum and width are a column's
 values_found : (n i : ℕ) (spec : Spec) (front : List Bool) (minimum : Raw) (k : ℕ)
     (rest : List Bool) (x : List Raw × List Bool) → HeadFound spec front minimum k rest
@@ -340,7 +331,7 @@ values_found n i spec front (Number minimum) (suc k) rest x h e =
     subst (λ p. ColumnFound n spec front p) (ok_is _ _ b.2)
     (column, sym (pairwise_length _ increments.0 b.0 each) ∙ is.0, number_column minimum (suc k) increments.0 h.form (omega arith) h.few each refl, spelt)
 values_found n i spec front (Text ignored) (suc k) rest x h e =
-    let g = guarded (nat_lt (spec.width / 8) (suc k)) _ _ x e in
+    let g = guard_ok (nat_lt (spec.width / 8) (suc k)) _ _ x e in
     let a = bind_ok (or_ends i (texts_at n (suc k) rest)) _ x g.1 in
     let own = a.0 in
     let is = texts_at_found n (suc k) rest own (or_ends_ok i (texts_at n (suc k) rest) own a.1) in

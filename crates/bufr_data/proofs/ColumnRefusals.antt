@@ -7,6 +7,7 @@ use Rattle.std.proofs.lemmas.Bool.{cases_lt, le-ltb, lt-ltb, ltb-true, ltb-false
 use Rattle.bufr_tables.specs.Answers.{◌>>=◌}
 use Rattle.bufr_tables.specs.declared.element.Kind.TheVariants as kinds
 use Rattle.bufr_tables.specs.Elements.{same_kind}
+use Rattle.bufr_tables.specs.AnswerLaws.{bind_ok, bind_err, err_is}
 use Rattle.bufr_bits.specs.Bits.{bin, bits, number_at, numbers_at}
 use Rattle.bufr_bits.specs.BitLaws.{number_at-bin, number_at_is}
 use Rattle.bufr_expand.specs.declared.operators.Spec.{Spec}
@@ -23,22 +24,12 @@ use Rattle.bufr_data.proofs.ColumnCourses.{IsStop, NoneByCourse, RefusedByCourse
 use Rattle.bufr_expand.specs.declared.walk.WalkFault.{WalkFault}
 use Rattle.bufr_expand.specs.declared.walk.WalkFault.TheVariants as walks
 use Rattle.bufr_data.specs.Refusals.{Passes}
-use Rattle.bufr_data.proofs.PlainFacts.{and_first, and_second, raw_again, raw_read, bind_ok}
-use Rattle.bufr_data.proofs.FitFacts.{form_passes, form_is}
+use Rattle.bufr_data.proofs.PlainFacts.{and_first, and_second, raw_again, raw_read}
 use Rattle.bufr_data.proofs.ColumnFacts.{texts_at_found, column_found, column_again, ColumnFound}
 use Rattle.bufr_bits.specs.NumberLaws.{numbers_at_again, numbers_at_found}
 use Rattle.bufr_data.proofs.ColumnWalks.{all_equal_is, all_equal_again, kind_is, form_of, column_form, count_is, agreed, agreeing_again}
 use Rattle.bufr_data.specs.Limits.{most_values}
-
--- equal errors have equal faults
-err_is : {A F : Type 0} (f g : F) → ◌≡◌ {A = Result A F} (Err f) (Err g) → f ≡ g
-err_is f g e = cc
-
--- an error of two steps is one of the first or of the second
-pub bind_err : {A B F : Type 0} (o : Result A F) (k : A → Result B F) (fault : F)
-    → (o >>= k) ≡ Err fault → (o ≡ Err fault) ⊎ ((x : A) × (o ≡ Ok x) × (k x ≡ Err fault))
-bind_err (Ok x) k fault e = inr (x, refl, e)
-bind_err (Err g) k fault e = inl (ap (λ f. Err f) (err_is _ _ e))
+use Rattle.bufr_data.specs.FormLaws.{form_passes, form_is}
 
 -- where the data end nothing was there
 or_ends_err : {A : Type 0} (i : ℕ) (o : Option A) (fault : ReadFault) → or_ends i o ≡ Err fault

@@ -1,6 +1,6 @@
 -- Columns along a course: what is read is what stands, for each of the subsets. For the law on what
 -- messages know of data (`data_hold_subsets`).
-use Rattle.std.proofs.Common.{◌≡◌, ℕ, zero, suc, ◌+◌, ◌-◌, ◌*◌, ◌/◌, ◌^◌, ◌<◌, ◌≤◌, Bool, true, false, cond, ltb, List, [], ◌∷◌, ◌++◌, length, map, replicate, get_or, Result, Ok, Err, refl, sym, ap, subst, ◌∙◌, arith, append_assoc, length-append}
+use Rattle.std.proofs.Common.{◌≡◌, ℕ, zero, suc, ◌+◌, ◌-◌, ◌*◌, ◌/◌, ◌^◌, ◌<◌, ◌≤◌, Bool, true, false, cond, ltb, List, [], ◌∷◌, ◌++◌, length, map, replicate, get_or, Ok, Err, refl, sym, ap, subst, ◌∙◌, arith, append_assoc, length-append}
 use Rattle.std.specs.Prelude.{◌&&◌, not, nat_lt}
 use Rattle.std.specs.List.{AllByRecursion, list_all}
 use Rattle.std.proofs.lemmas.Bool.{le-ltb, ltb-false, eqb-true, eq-eqb}
@@ -10,6 +10,7 @@ use Rattle.bufr_tables.specs.Answers.{◌>>=◌}
 use Rattle.bufr_tables.specs.declared.element.Kind.{Kind}
 use Rattle.bufr_tables.specs.declared.element.Kind.TheVariants as kinds
 use Rattle.bufr_tables.specs.Elements.{same_kind}
+use Rattle.bufr_tables.specs.AnswerLaws.{bind_ok, guard_ok as guarded, ok_is, not_false}
 use Rattle.bufr_expand.specs.declared.operators.Spec.{Spec}
 use Rattle.bufr_expand.specs.declared.walk.WalkFault.{WalkFault}
 use Rattle.bufr_expand.specs.declared.walk.WalkFault.TheVariants as walks
@@ -22,10 +23,10 @@ use Rattle.bufr_data.specs.Fits.{HasForm, of_text, of_number}
 use Rattle.bufr_expand.specs.Steady.{IsSteady}
 use Rattle.bufr_data.specs.Columns.{Pairwise, HasIncrement, HasText, IsColumn, equal, numbers as number_column, texts as text_column, above, missing, filled as is_filled, ones as ones_text, Column, HaveOneCount, AreColumns, field_of}
 use Rattle.bufr_data.specs.ColumnReading.{column_at, same_raw, all_equal, agreeing, count_of, ColumnsFound, columns_at}
-use Rattle.bufr_data.proofs.PlainFacts.{and_first, and_second, equal_is, same_spec_is, spec_is_same, guard_ok, bind_ok}
-use Rattle.bufr_data.proofs.FitFacts.{form_passes}
-use Rattle.bufr_data.proofs.ColumnFacts.{column_again, column_found, ColumnFound, guarded, power_positive, ones_below}
+use Rattle.bufr_data.proofs.PlainFacts.{and_first, and_second, guard_ok}
+use Rattle.bufr_data.proofs.ColumnFacts.{column_again, column_found, ColumnFound, power_positive, ones_below}
 use Rattle.bufr_data.specs.Limits.{most_values}
+use Rattle.bufr_data.specs.FormLaws.{same_spec_is, spec_is_same, form_passes}
 
 -- ---- the values of a column have its form
 
@@ -175,11 +176,6 @@ pub agreeing_again : (i : ℕ) (spec : Spec) (x : List Raw × List Bool)
     → agreeing i spec x ≡ Ok x
 agreeing_again i spec x one = agreeing_again_by i spec x _ refl one
 
--- what is not false is true
-not_false : (b : Bool) → not b ≡ false → b ≡ true
-not_false true e = refl
-not_false false e = absurd cc
-
 -- the step of `agreed`, by whether it is a factor's
 agreed_by : (spec : Spec) (x : List Raw × List Bool) (b : Bool)
     → same_kind spec.kind kinds.Count ≡ b → (b && not (all_equal x.0)) ≡ false
@@ -187,16 +183,12 @@ agreed_by : (spec : Spec) (x : List Raw × List Bool) (b : Bool)
 agreed_by spec x false e agree is = let no : same_kind spec.kind kinds.Count ≡ true = ap (λ k. same_kind k kinds.Count) is in let bad = sym no ∙ e in cc
 agreed_by spec x true e agree is = not_false (all_equal x.0) agree
 
--- equal answers have equal values
-pub ok_same : {A F : Type 0} (x y : A) → ◌≡◌ {A = Result A F} (Ok x) (Ok y) → x ≡ y
-ok_same x y e = cc
-
 -- values that agree are those that were read, and a factor's are equal
 pub agreed : (i : ℕ) (spec : Spec) (x y : List Raw × List Bool) → agreeing i spec x ≡ Ok y
     → (x ≡ y) × (spec.kind ≡ kinds.Count → all_equal x.0 ≡ true)
 agreed i spec x y e =
     let g = guarded (same_kind spec.kind kinds.Count && not (all_equal x.0)) _ _ y e in
-    (ok_same x y g.1, agreed_by spec x _ refl g.0)
+    (ok_is x y g.1, agreed_by spec x _ refl g.0)
 
 -- the number of a factor is its first value's
 pub count_is : (values : List Raw) → 0 < length values
@@ -239,14 +231,14 @@ pub columns_again : (n i j : ℕ) (c : Course) (cs : List Column) (items : ℕ) 
     → columns_at n i c (front ++ rest) ≡ Ok (record { columns = cs; items = items; rest = rest })
 unfolding items_of columns_at
 columns_again n i j (ends m) [] items front rest some are e room =
-    rw are (ap (λ k. Ok (record { columns = []; items = k; rest = rest })) (ok_same m items e))
+    rw are (ap (λ k. Ok (record { columns = []; items = k; rest = rest })) (ok_is m items e))
 columns_again n i j (ends m) (x ∷ cs) items front rest some are e room = absurd cc
 columns_again n i j (stops met fault) cs items front rest some are e room = absurd cc
 columns_again n i j (asks met d spec more) [] items front rest some are e room = absurd cc
 columns_again n i j (asks met d spec more) (x ∷ cs) items front rest some are e room =
     let g = guard_ok (stands_for d spec (field_of 0 x)) _ _ items e in
     let like = and_first _ _ g.0 in
-    let same_d : x.fxy ≡ d = equal_is _ _ (and_first _ _ like) in
+    let same_d : x.fxy ≡ d = eqb-true _ _ (and_first _ _ like) in
     let same_s : x.spec ≡ spec = same_spec_is _ _ (and_second _ _ like) in
     let limits = limit_step i (length cs) n room in
     let after = columns_again n (i + 1) j (more (number_of (get_or x.values 0 (Number 0)))) cs items are.1 rest some are.6 g.1 limits.1 in
@@ -319,7 +311,7 @@ pub columns_found : (n i used : ℕ) (c : Course) (front : List Bool) (f : Colum
     → WalkFound n i c front f
 unfolding columns_at items_of IsSteady
 columns_found n i used (ends m) front f steady room e =
-    subst (λ g. WalkFound n i (ends m) front g) (ok_same _ _ e)
+    subst (λ g. WalkFound n i (ends m) front g) (ok_is _ _ e)
     (record { packed = []; columns = refl; spelt = refl; asked = λ j k short. refl; room = omega (arith, room) })
 columns_found n i used (stops met fault) front f steady room e = absurd (not_stopped n i fault f _ e)
 columns_found n i used (asks met d spec more) front f steady room e =
@@ -333,5 +325,5 @@ columns_found n i used (asks met d spec more) front f steady room e =
     let within : i * n ≤ most_values = ltb-false _ _ g.0 in
     let next : (i + 1) * n ≤ most_values + n = omega (arith, within) in
     let after = columns_found n (i + 1) met (more (count_of a.0.0)) a.0.1 h.0 (steady.3 (count_of a.0.0)) next h.1 in
-    subst (λ g. WalkFound n i (asks met d spec more) front g) (ok_same _ _ h.2)
+    subst (λ g. WalkFound n i (asks met d spec more) front g) (ok_is _ _ h.2)
     (column_joined n i met d spec more front a.0 h.0 within steady.2 found agree after)

@@ -11,8 +11,9 @@ use Rattle.bufr_data.specs.Plain.{SubsetsRead, plain_subsets, subsets_at}
 use Rattle.bufr_data.specs.Columns.{subsets_from}
 use Rattle.bufr_data.specs.ColumnReading.{ColumnsFound, columns_at}
 use Rattle.bufr_data.specs.Data.{BeginsWithData, subsets_in, ReadsExactly, RefusesExactly, WritesExactly, MisfitsExactly, BareDataAreData, PlainDataAreBare}
-use Rattle.bufr_data.proofs.FitFacts.{AreUnrolled, AreAllowed, written_fit, fitting_written, all_read_stand, all_standing_read}
-use Rattle.bufr_data.proofs.CauseFacts.{Laws, subsets_refused_first, first_subsets_refused, written_refused_first, first_written_refused}
+use Rattle.bufr_data.specs.CourseLaws.{AreUnrolled, AreAllowed, Laws}
+use Rattle.bufr_data.proofs.FitFacts.{written_fit, fitting_written, all_read_stand, all_standing_read}
+use Rattle.bufr_data.proofs.CauseFacts.{subsets_refused_first, first_subsets_refused, written_refused_first, first_written_refused}
 use Rattle.bufr_data.proofs.ColumnCourses.{first_of_columns, columns_of_first}
 use Rattle.bufr_data.proofs.ColumnRefusals.{columns_refused, columns_refused_again}
 use Rattle.bufr_data.proofs.PackedFacts.{compressed_stand, compressed_read, compressed_hold}

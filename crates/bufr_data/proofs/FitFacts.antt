@@ -1,116 +1,26 @@
 -- What is counted fits the template: its fields are an unrolling of the tree, and each raw value
 -- has its spec's form. For the laws `counted_subsets_fit` and
 -- `fitting_subsets_are_read_and_written`.
-use Rattle.std.proofs.Common.{◌≡◌, ℕ, ◌+◌, ◌/◌, ◌^◌, ◌<◌, ◌≤◌, Bool, true, false, List, [], ◌∷◌, length, Result, Ok, Err, refl, sym, ap, subst, ◌∙◌, arith}
-use Rattle.std.specs.Prelude.{◌==◌, ◌&&◌, nat_lt, nat_le, map}
-use Rattle.std.specs.List.{list_all, AllByRecursion}
-use Rattle.std.proofs.lemmas.Bool.{le-leb, leb-true, lt-ltb, ltb-true, eq-eqb}
+use Rattle.std.proofs.Common.{◌≡◌, ℕ, ◌+◌, ◌≤◌, Bool, false, List, [], ◌∷◌, Result, Ok, Err, refl, sym, ap, subst, ◌∙◌, arith}
+use Rattle.std.specs.Prelude.{map}
 use Rattle.bufr_tables.specs.Answers.{result_map}
-use Rattle.bufr_tables.specs.declared.element.Kind.{Kind}
-use Rattle.bufr_tables.specs.declared.element.Kind.TheVariants as kinds
+use Rattle.bufr_tables.specs.AnswerLaws.{bind_ok}
 use Rattle.bufr_expand.specs.declared.operators.Spec.{Spec}
 use Rattle.bufr_expand.specs.Courses.{Course, ends, stops, asks, course}
 use Rattle.bufr_expand.specs.Trees.{Tree}
-use Rattle.bufr_expand.specs.Unrolling.{Told, After, Allows, Unrolls}
+use Rattle.bufr_expand.specs.Unrolling.{After, Allows}
 use Rattle.bufr_expand.specs.Limits.{most_items}
-use Rattle.bufr_data.specs.declared.field.Raw.{Raw}
-use Rattle.bufr_data.specs.declared.field.Raw.TheVariants.{Number, Text}
 use Rattle.bufr_data.specs.declared.field.Field.{Field}
 use Rattle.bufr_data.specs.declared.field.Subset.{Subset}
 use Rattle.bufr_data.specs.declared.fault.WriteFault.{WriteFault}
-use Rattle.bufr_data.specs.Plain.{number_of, plain_subsets, SubsetRead, SubsetsRead, same_spec, has_form_by, stands_for, items_of, items_of_all, fields_at, subsets_at}
+use Rattle.bufr_data.specs.Plain.{number_of, plain_subsets, SubsetRead, SubsetsRead, stands_for, items_of, items_of_all, fields_at, subsets_at}
 use Rattle.bufr_data.specs.Data.{written_bits}
-use Rattle.bufr_data.specs.Fits.{HasForm, of_text, of_number, told_of, FitsWithin, AllFitWithin, SubsetStands, SubsetsStand}
-use Rattle.bufr_data.specs.Refusals.{IsAsked}
-use Rattle.bufr_data.proofs.PlainFacts.{and_first, and_second, equal_is, same_spec_is, spec_is_same, guard_ok, ok_is, bind_ok, fields_at-plain, fields_at-found, subsets_at-found, subsets_at-plain}
-
--- ---- forms
-
--- octets pass the test of octets
-octets_pass : (os : List ℕ) → AllByRecursion (λ x. x < 256) os
-    → list_all (λ x. nat_lt x 256) os ≡ true
-octets_pass [] h = refl
-octets_pass (x ∷ os) h = rw (lt-ltb x 256 h.0, octets_pass os h.1) refl
-
--- and what passes it are octets
-pub octets_are : (os : List ℕ) → list_all (λ x. nat_lt x 256) os ≡ true
-    → AllByRecursion (λ x. x < 256) os
-octets_are [] e = tt
-octets_are (x ∷ os) e =
-    (ltb-true x 256 (and_first (nat_lt x 256) (list_all (λ c. nat_lt c 256) os) e), octets_are os (and_second (nat_lt x 256) (list_all (λ c. nat_lt c 256) os) e))
-
--- a text of the field's octets passes the test of forms
-text_passes : (kind : Kind) (width : ℕ) (os : List ℕ) → kind ≡ kinds.Text → length os ≡ width / 8
-    → AllByRecursion (λ x. x < 256) os → has_form_by kind width (Text os) ≡ true
-text_passes kind width os is size all = rw (is, eq-eqb (length os) (width / 8) size, octets_pass os all) refl
-
--- so does a number that fits
-number_passes : (kind : Kind) (width n : ℕ) → (kind ≡ kinds.Text → ⊥) → width ≤ 64 → n < 2 ^ width
-    → has_form_by kind width (Number n) ≡ true
-number_passes kinds.Text width n other few below = absurd (other refl)
-number_passes kinds.Code width n other few below = rw (le-leb width 64 few, lt-ltb n (2 ^ width) below) refl
-number_passes kinds.Flag width n other few below = rw (le-leb width 64 few, lt-ltb n (2 ^ width) below) refl
-number_passes kinds.Quantity width n other few below = rw (le-leb width 64 few, lt-ltb n (2 ^ width) below) refl
-number_passes kinds.Count width n other few below = rw (le-leb width 64 few, lt-ltb n (2 ^ width) below) refl
-
--- so does each raw value of its spec's form
-pub form_passes : (spec : Spec) (raw : Raw) → HasForm spec raw
-    → has_form_by spec.kind spec.width raw ≡ true
-form_passes spec raw (of_text os is size all) = text_passes spec.kind spec.width os is size all
-form_passes spec raw (of_number n other few below) = number_passes spec.kind spec.width n other few below
-
--- a number that passes has its spec's form
-number_is : (spec : Spec) (n : ℕ) → (spec.kind ≡ kinds.Text → ⊥)
-    → (nat_le spec.width 64 && nat_lt n (2 ^ spec.width)) ≡ true → HasForm spec (Number n)
-number_is spec n other e =
-    of_number n other (leb-true spec.width 64 (and_first (nat_le spec.width 64) (nat_lt n (2 ^ spec.width)) e)) (ltb-true n (2 ^ spec.width) (and_second (nat_le spec.width 64) (nat_lt n (2 ^ spec.width)) e))
-
--- a kind that is another's is no text where that is none
-not_text : (k m : Kind) → k ≡ m → (m ≡ kinds.Text → ⊥) → k ≡ kinds.Text → ⊥
-not_text k m e other is = other (sym e ∙ is)
-
--- the step of `form_is`, by the kind
-form_by : (kind : Kind) (spec : Spec) (raw : Raw) → spec.kind ≡ kind
-    → has_form_by kind spec.width raw ≡ true → HasForm spec raw
-form_by kinds.Text spec (Text os) is e =
-    of_text os is (equal_is (length os) (spec.width / 8) (and_first _ _ e)) (octets_are os (and_second (length os == spec.width / 8) (list_all (λ x. nat_lt x 256) os) e))
-form_by kinds.Text spec (Number n) is e = absurd cc
-form_by kinds.Code spec (Number n) is e = number_is spec n (not_text spec.kind kinds.Code is (λ x. cc)) e
-form_by kinds.Flag spec (Number n) is e = number_is spec n (not_text spec.kind kinds.Flag is (λ x. cc)) e
-form_by kinds.Quantity spec (Number n) is e = number_is spec n (not_text spec.kind kinds.Quantity is (λ x. cc)) e
-form_by kinds.Count spec (Number n) is e = number_is spec n (not_text spec.kind kinds.Count is (λ x. cc)) e
-form_by kinds.Code spec (Text os) is e = absurd cc
-form_by kinds.Flag spec (Text os) is e = absurd cc
-form_by kinds.Quantity spec (Text os) is e = absurd cc
-form_by kinds.Count spec (Text os) is e = absurd cc
-
--- a raw value that passes has its spec's form
-pub form_is : (spec : Spec) (raw : Raw) → has_form_by spec.kind spec.width raw ≡ true
-    → HasForm spec raw
-form_is spec raw e = form_by spec.kind spec raw refl e
-
--- a field that passes is the one that is asked for
-pub asked_is : (d : ℕ) (spec : Spec) (f : Field) → stands_for d spec f ≡ true → IsAsked d spec f
-asked_is d spec f e =
-    let like = and_first (f.fxy == d && same_spec f.spec spec) (has_form_by spec.kind spec.width f.raw) e in
-    let form = and_second (f.fxy == d && same_spec f.spec spec) (has_form_by spec.kind spec.width f.raw) e in (
-      equal_is f.fxy d (and_first (f.fxy == d) (same_spec f.spec spec) like),
-      same_spec_is f.spec spec (and_second (f.fxy == d) (same_spec f.spec spec) like),
-      form_is spec f.raw form,
-    )
-
--- and the one that is asked for passes
-pub asked_passes : (d : ℕ) (spec : Spec) (f : Field) → IsAsked d spec f → stands_for d spec f ≡ true
-asked_passes d spec f h =
-    let same : same_spec f.spec spec ≡ true = subst (λ (s : Spec). same_spec s spec ≡ true) (sym h.1) (spec_is_same spec) in
-    let form : has_form_by spec.kind spec.width f.raw ≡ true = form_passes spec f.raw h.2 in
-    rw (eq-eqb f.fxy d h.0, same, form) refl
+use Rattle.bufr_data.specs.Fits.{HasForm, told_of, FitsWithin, AllFitWithin, SubsetStands, SubsetsStand}
+use Rattle.bufr_data.specs.FormLaws.{asked_is, asked_passes}
+use Rattle.bufr_data.specs.CourseLaws.{AreUnrolled, AreAllowed, Formed}
+use Rattle.bufr_data.proofs.PlainFacts.{guard_ok, ok_is, fields_at-plain, fields_at-found, subsets_at-found, subsets_at-plain}
 
 -- ---- the fields that a course allows
-
--- each raw value has its spec's form
-abbrev pub Formed : List Field → Type 0
-Formed fields = AllByRecursion (λ f. HasForm f.spec f.raw) fields
 
 -- fields that are counted are allowed by the course, each of its form
 counted_allowed : (j i : ℕ) (c : Course) (fields : List Field) (n : ℕ)
@@ -140,14 +50,6 @@ allowed_counted j i (asks met d spec more) (f ∷ fields) n h formed =
     rw (asked_passes d spec f (h.0, h.1, form)) (allowed_counted j (i + 1) (more (number_of f.raw)) fields n h.2 formed.1)
 
 -- ---- one subset
-
--- what the lower layer says of courses and unrollings
-abbrev pub AreUnrolled : Type 0
-AreUnrolled = (tree : Tree) (used : ℕ) (fields : List Told) (n : ℕ) → used ≤ most_items → Allows (course tree used) fields n → Unrolls tree used fields n
-
--- what the lower layer says of unrollings: the course allows them
-abbrev pub AreAllowed : Type 0
-AreAllowed = (tree : Tree) (used : ℕ) (fields : List Told) (n : ℕ) → Unrolls tree used fields n → Allows (course tree used) fields n
 
 -- fields that are counted fit the tree
 pub counted_fit : AreUnrolled → (tree : Tree) (j used n : ℕ) (fields : List Field)

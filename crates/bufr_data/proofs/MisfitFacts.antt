@@ -3,9 +3,10 @@
 use Rattle.std.proofs.Common.{◌≡◌, ℕ, ◌+◌, Bool, true, false, cond, List, [], ◌∷◌, map, drop, Result, Ok, Err, refl, sym, ap, ◌∙◌, ◌⊎◌, inl, inr}
 use Rattle.std.specs.Prelude.{◌==◌, ◌&&◌, ◌||◌, not, nat_le}
 use Rattle.std.specs.List.{AllByRecursion, list_all}
-use Rattle.std.proofs.lemmas.Bool.{le-leb, leb-true, eq-eqb}
+use Rattle.std.proofs.lemmas.Bool.{le-leb, leb-true, eq-eqb, eqb-true}
 use Rattle.bufr_tables.specs.declared.element.Kind.TheVariants as kinds
 use Rattle.bufr_tables.specs.Elements.{same_kind}
+use Rattle.bufr_tables.specs.AnswerLaws.{err_is}
 use Rattle.bufr_expand.specs.declared.operators.Spec.{Spec}
 use Rattle.bufr_data.specs.declared.field.Raw.{Raw}
 use Rattle.bufr_data.specs.declared.field.Field.{Field}
@@ -16,12 +17,9 @@ use Rattle.bufr_data.specs.Columns.{Column}
 use Rattle.bufr_data.specs.ColumnReading.{all_equal}
 use Rattle.bufr_data.specs.BestColumns.{can_be_column, widest, begins_like, first_raw, is_empty, column_or, columns_of}
 use Rattle.bufr_data.specs.ColumnCauses.{BeginsLike, CanBeColumn, same, narrow, FirstApart}
-use Rattle.bufr_data.proofs.PlainFacts.{and_first, and_second, equal_is, same_spec_is, spec_is_same}
+use Rattle.bufr_data.specs.FormLaws.{same_spec_is, spec_is_same}
+use Rattle.bufr_data.proofs.PlainFacts.{and_first, and_second}
 use Rattle.bufr_data.proofs.ColumnWalks.{all_equal_is, all_equal_again, kind_is}
-
--- equal errors have equal faults
-err_is : {A F : Type 0} (f g : F) → ◌≡◌ {A = Result A F} (Err f) (Err g) → f ≡ g
-err_is f g e = cc
 
 -- a subset that begins like the first passes the test
 like_passes : (f : Field) (gs : List Field) → BeginsLike f gs → begins_like f gs ≡ true
@@ -33,7 +31,7 @@ like_passes f (g ∷ gs) h =
 -- and one that passes begins like it
 like_is : (f : Field) (gs : List Field) → begins_like f gs ≡ true → BeginsLike f gs
 like_is f [] e = absurd cc
-like_is f (g ∷ gs) e = (equal_is _ _ (and_first (f.fxy == g.fxy) (same_spec g.spec f.spec) e), same_spec_is _ _ (and_second (f.fxy == g.fxy) (same_spec g.spec f.spec) e))
+like_is f (g ∷ gs) e = (eqb-true _ _ (and_first (f.fxy == g.fxy) (same_spec g.spec f.spec) e), same_spec_is _ _ (and_second (f.fxy == g.fxy) (same_spec g.spec f.spec) e))
 
 -- subsets that all begin like the first pass
 all_like_pass : (f : Field) (others : List (List Field)) → AllByRecursion (BeginsLike f) others

@@ -3,9 +3,10 @@
 use Rattle.std.proofs.Common.{◌≡◌, ℕ, zero, suc, ◌+◌, ◌*◌, ◌<◌, ◌≤◌, Bool, true, false, cond, List, [], ◌∷◌, ◌++◌, length, map, drop, get_or, Result, Ok, Err, refl, sym, ap, subst, ◌∙◌, arith}
 use Rattle.std.specs.Prelude.{◌==◌, ◌&&◌, nat_lt}
 use Rattle.std.specs.List.{AllByRecursion, flat_map, list_all}
-use Rattle.std.proofs.lemmas.Bool.{ltb-false}
+use Rattle.std.proofs.lemmas.Bool.{ltb-false, eqb-true}
 use Rattle.std.proofs.lemmas.List.{length-map, get_or-map}
 use Rattle.bufr_tables.specs.Answers.{result_map}
+use Rattle.bufr_tables.specs.AnswerLaws.{bind_ok, guard_ok, ok_is}
 use Rattle.bufr_expand.specs.declared.operators.Spec.{Spec}
 use Rattle.bufr_expand.specs.Trees.{Tree}
 use Rattle.bufr_expand.specs.Courses.{course}
@@ -21,13 +22,14 @@ use Rattle.bufr_data.specs.Columns.{Column, AreColumns, field_of, subsets_from, 
 use Rattle.bufr_data.specs.ColumnReading.{ColumnsFound, columns_at}
 use Rattle.bufr_data.specs.BestColumns.{best, can_be_column, begins_like, first_raw, is_empty, column_or, columns_of, columns_of_all, packed}
 use Rattle.bufr_data.specs.Data.{BeginsWithData, subsets_in, each_fits, written_bits}
-use Rattle.bufr_data.proofs.PlainFacts.{and_first, and_second, equal_is, same_spec_is, bind_ok}
-use Rattle.bufr_data.proofs.FitFacts.{AreUnrolled, AreAllowed, counted_fit, fitting_counted}
+use Rattle.bufr_data.proofs.PlainFacts.{and_first, and_second}
+use Rattle.bufr_data.proofs.FitFacts.{counted_fit, fitting_counted}
 use Rattle.bufr_expand.specs.Steady.{course_steady}
-use Rattle.bufr_data.proofs.ColumnFacts.{guarded}
-use Rattle.bufr_data.proofs.ColumnWalks.{AllForm, ok_same, columns_again, columns_found}
+use Rattle.bufr_data.proofs.ColumnWalks.{AllForm, columns_again, columns_found}
 use Rattle.bufr_data.proofs.BestFacts.{best_column, one_count}
 use Rattle.bufr_data.specs.Limits.{most_values}
+use Rattle.bufr_data.specs.FormLaws.{same_spec_is}
+use Rattle.bufr_data.specs.CourseLaws.{AreUnrolled, AreAllowed}
 
 -- ---- reading
 
@@ -39,7 +41,7 @@ length-from k (suc n) columns = ap suc (length-from (k + 1) n columns)
 -- what is answered of a mapped answer was answered before
 pub map_ok : {A B F : Type 0} (f : A → B) (o : Result A F) (y : B) → result_map f o ≡ Ok y
     → (x : A) × (o ≡ Ok x) × (f x ≡ y)
-map_ok f (Ok x) y e = (x, refl, ok_same _ _ e)
+map_ok f (Ok x) y e = (x, refl, ok_is _ _ e)
 map_ok f (Err g) y e = absurd cc
 
 -- each of the subsets of columns fits
@@ -63,7 +65,7 @@ pub compressed_stand : AreUnrolled
     → (tree : Tree) (n : ℕ) (front : List Bool) (found : List Subset × List Bool)
     → subsets_in tree true n front ≡ Ok found → BeginsWithData tree true n front found
 compressed_stand law tree zero front found e =
-    subst (λ h. BeginsWithData tree true 0 front h) (ok_same _ _ e) ([], (tt, refl), refl, refl)
+    subst (λ h. BeginsWithData tree true 0 front h) (ok_is _ _ e) ([], (tt, refl), refl, refl)
 compressed_stand law tree (suc n) front found e =
     let h = map_ok (λ (f : ColumnsFound). (subsets_from 0 (suc n) f.columns, f.rest)) (columns_at (suc n) 1 (course tree 0) front) found e in
     let walk = columns_found (suc n) 1 0 (course tree 0) front h.0 (course_steady tree 0) (omega arith) h.1 in
@@ -124,7 +126,7 @@ like_is : (f : Field) (fs : List Field) → begins_like f fs ≡ true
     → fs ≡ record { fxy = f.fxy; spec = f.spec; raw = first_raw fs } ∷ drop 1 fs
 like_is f [] e = absurd cc
 like_is f (g ∷ gs) e =
-    let same_d : f.fxy ≡ g.fxy = equal_is _ _ (and_first (f.fxy == g.fxy) (same_spec g.spec f.spec) e) in
+    let same_d : f.fxy ≡ g.fxy = eqb-true _ _ (and_first (f.fxy == g.fxy) (same_spec g.spec f.spec) e) in
     let same_s : g.spec ≡ f.spec = same_spec_is _ _ (and_second (f.fxy == g.fxy) (same_spec g.spec f.spec) e) in
     λ i. (record { fxy = sym same_d i; spec = same_s i; raw = g.raw }) ∷ gs
 
@@ -140,7 +142,7 @@ pub record Taken (i : ℕ) (f : Field) (fs : List Field) (others : List (List Fi
 column_taken : (i : ℕ) (b : Bool) (c : Column) (others : Result (List Column) WriteFault)
     (columns : List Column) → column_or i b c others ≡ Ok columns
     → (behind : List Column) × (b ≡ true) × (others ≡ Ok behind) × (columns ≡ c ∷ behind)
-column_taken i true c (Ok cs) columns e = (cs, refl, refl, sym (ok_same _ _ e))
+column_taken i true c (Ok cs) columns e = (cs, refl, refl, sym (ok_is _ _ e))
 column_taken i true c (Err g) columns e = absurd cc
 column_taken i false c others columns e = absurd cc
 
@@ -156,7 +158,7 @@ taken i f fs others columns e =
 -- the step of `none_taken`
 none_taken_by : (i : ℕ) (b : Bool) (columns : List Column)
     → cond b (Ok []) (Err (misfits.NotCompressible i)) ≡ Ok columns → (b ≡ true) × (columns ≡ [])
-none_taken_by i true columns e = (refl, sym (ok_same _ _ e))
+none_taken_by i true columns e = (refl, sym (ok_is _ _ e))
 none_taken_by i false columns e = absurd cc
 
 -- where columns end all subsets end
@@ -266,14 +268,14 @@ written_pack tree s subsets columns content fit e p =
     let formed : Formed (1 + length others) columns = λ k short. subst AreFormed (row k short) (formed_at tree (s ∷ subsets) k fit (omega (arith, short, many))) in
     let are = are_columns 1 s.fields others columns e formed in
     let size : 1 + length others ≡ length (s ∷ subsets) = omega (arith, many) in
-    let g = guarded (nat_lt most_values (length columns * length (s ∷ subsets))) _ _ content p in
-    let bits_are = ok_same _ _ g.1 in
+    let g = guard_ok (nat_lt most_values (length columns * length (s ∷ subsets))) _ _ content p in
+    let bits_are = ok_is _ _ g.1 in
     (columns, whole, ltb-false _ _ g.0, subst (λ b. AreColumns (length (s ∷ subsets)) columns b) bits_are (subst (λ l. AreColumns l columns (flat_map (λ c. best c.spec c.values) columns)) size are))
 
 -- so what is written compressed holds its subsets
 pub compressed_hold : AreUnrolled → (tree : Tree) (subsets : List Subset) (content : List Bool)
     → written_bits tree true subsets ≡ Ok content → WrittenHold tree subsets content
-compressed_hold law tree [] content e = (tt, sym (ok_same _ _ e))
+compressed_hold law tree [] content e = (tt, sym (ok_is _ _ e))
 compressed_hold law tree (s ∷ subsets) content e =
     let a = bind_ok (each_fits tree 1 (s ∷ subsets)) _ content e in
     let b = bind_ok (columns_of_all (s ∷ subsets)) _ content a.2 in

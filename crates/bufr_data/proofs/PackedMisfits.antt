@@ -5,6 +5,7 @@ use Rattle.std.specs.Prelude.{nat_lt}
 use Rattle.std.specs.List.{AllByRecursion}
 use Rattle.std.proofs.lemmas.Bool.{lt-ltb, ltb-true}
 use Rattle.std.proofs.lemmas.List.{length-map}
+use Rattle.bufr_tables.specs.AnswerLaws.{bind_err}
 use Rattle.bufr_expand.specs.Trees.{Tree}
 use Rattle.bufr_expand.specs.Courses.{course}
 use Rattle.bufr_data.specs.declared.field.Subset.{Subset}
@@ -18,12 +19,13 @@ use Rattle.bufr_data.specs.Data.{each_fits, written_bits}
 use Rattle.bufr_data.specs.Fits.{FitsAlone}
 use Rattle.bufr_data.specs.ColumnCauses.{FirstUnpacked, misfit, apart, too_many}
 use Rattle.bufr_data.proofs.FitFacts.{counted_fit, fitting_counted}
-use Rattle.bufr_data.proofs.CauseFacts.{Laws, write_refused_first, first_write_refused}
-use Rattle.bufr_data.proofs.ColumnRefusals.{bind_err, guard_err}
+use Rattle.bufr_data.proofs.CauseFacts.{write_refused_first, first_write_refused}
+use Rattle.bufr_data.proofs.ColumnRefusals.{guard_err}
 use Rattle.bufr_data.proofs.PackedFacts.{rows, each_row, each_fit}
 use Rattle.bufr_data.proofs.WrittenColumns.{all_can, columns_written, each_counted}
 use Rattle.bufr_data.proofs.MisfitFacts.{columns_apart, apart_columns}
 use Rattle.bufr_data.specs.Limits.{most_values}
+use Rattle.bufr_data.specs.CourseLaws.{Laws}
 
 -- a subset that does not fit by itself, and those before it
 abbrev MisfitFrom : Tree → ℕ → List Subset → WriteFault → Type 0

@@ -11,6 +11,7 @@ use Rattle.bufr_tables.specs.declared.failure.Failure.{Failure}
 use Rattle.bufr_tables.specs.declared.failure.Failure.TheVariants.{Fault, OutOfMemory}
 use Rattle.bufr_tables.specs.declared.element.Kind.TheVariants as kinds
 use Rattle.bufr_tables.specs.Elements.{same_kind}
+use Rattle.bufr_tables.specs.AnswerLaws.{bind_ok, ok_is as ok_same}
 use Rattle.bufr_expand.specs.declared.operators.Spec.{Spec}
 use Rattle.bufr_expand.specs.declared.walk.Step.TheVariants as steps
 use Rattle.bufr_expand.specs.declared.walk.Walk.{Walk}
@@ -31,12 +32,12 @@ use Rattle.bufr_data.specs.ColumnReading.{column_at, agreeing, count_of, all_equ
 use Rattle.bufr_data.specs.PassedColumns.{PassesColumn, PassesFactor, agreed_at}
 use Rattle.bufr_data.specs.Indexed.{Ahead, index_at, values_of, column_from, Opens, AllOpen, behind_columns, PassesPlace}
 use Rattle.bufr_data.specs.Data.{subsets_in}
-use Rattle.bufr_data.proofs.PlainFacts.{bind_ok, length-bits}
-use Rattle.bufr_data.proofs.ReadFacts.{asks_field, asks_count, ends_there, stops_there, steady_step}
+use Rattle.bufr_data.proofs.PlainFacts.{length-bits}
 use Rattle.bufr_data.proofs.ColumnFacts.{column_found, column_again}
-use Rattle.bufr_data.proofs.ColumnWalks.{agreed, ok_same}
+use Rattle.bufr_data.proofs.ColumnWalks.{agreed}
 use Rattle.bufr_data.proofs.PackedFacts.{map_ok}
 use Rattle.bufr_data.specs.Limits.{most_values}
+use Rattle.bufr_data.specs.StepLaws.{asks_field, asks_count, ends_there, stops_there, steady_step}
 
 -- ---- the column at a place
 

@@ -1,16 +1,18 @@
 -- What is read from bits are exactly the fields that a course allows, and the bits are theirs: for
 -- the law `plain_data_spell_subsets`.
 use Rattle.bufr_tables.specs.Answers.{◌>>=◌}
-use Rattle.std.proofs.Common.{◌≡◌, ℕ, zero, suc, ◌+◌, ◌*◌, ◌/◌, ◌^◌, ◌<◌, ◌≤◌, Bool, true, false, cond, ltb, List, [], ◌∷◌, ◌++◌, length, take, drop, Option, Some, None, Result, Ok, Err, ℤ, pos, negsuc, refl, sym, ap, subst, ◌∙◌, arith, append_assoc, length-append, inl, inr}
+use Rattle.std.proofs.Common.{◌≡◌, ℕ, zero, suc, ◌+◌, ◌*◌, ◌/◌, ◌^◌, ◌<◌, ◌≤◌, Bool, true, false, cond, ltb, List, [], ◌∷◌, ◌++◌, length, take, drop, Option, Some, None, Result, Ok, Err, refl, sym, ap, subst, ◌∙◌, arith, append_assoc, length-append, inl, inr}
 use Rattle.std.specs.Prelude.{◌==◌, ◌&&◌, nat_lt, nat_le, option_map}
 use Rattle.std.specs.List.{list_all}
 use Rattle.std.proofs.lemmas.Bool.{cases_lt, le-ltb, lt-ltb, ltb-true, eqb-true, eq-eqb}
 use Rattle.std.proofs.lemmas.List.{take_at, drop_at, take-append-drop, drop-drop, length-take, length-drop}
 use Rattle.bufr_bits.specs.Bits.{bin, bits, number, numbers, number_at, numbers_at}
-use Rattle.bufr_bits.specs.BitLaws.{length-bin, number-bin, number_at-bin, small_mod, number_below, bin-number, number_at_is}
+use Rattle.bufr_bits.specs.BitLaws.{length-bin, number-bin, number_at-bin, small_mod, number_below, bin-number, number_at_is, some_is}
+use Rattle.bufr_bits.specs.NumberLaws.{length-numbers}
 use Rattle.bufr_tables.specs.declared.element.Kind.{Kind}
 use Rattle.bufr_tables.specs.declared.element.Kind.TheVariants as kinds
-use Rattle.bufr_tables.specs.Elements.{same_kind, same_integer}
+use Rattle.bufr_tables.specs.Elements.{same_kind}
+use Rattle.bufr_tables.specs.AnswerLaws.{bind_ok}
 use Rattle.bufr_expand.specs.declared.operators.Spec.{Spec}
 use Rattle.bufr_expand.specs.declared.walk.WalkFault.{WalkFault}
 use Rattle.bufr_expand.specs.declared.walk.WalkFault.TheVariants as walks
@@ -22,6 +24,7 @@ use Rattle.bufr_data.specs.declared.fault.ReadFault.{ReadFault}
 use Rattle.bufr_data.specs.declared.fault.WriteFault.{WriteFault}
 use Rattle.bufr_data.specs.declared.field.Subset.{Subset}
 use Rattle.bufr_data.specs.Plain.{raw_bits, field_bits, plain, plain_subsets, SubsetRead, SubsetsRead, field_number_at, raw_at_by, raw_at, number_of, field_then, stopped, fields_at, subsets_at, same_spec, has_form_by, stands_for, items_of, items_of_all}
+use Rattle.bufr_data.specs.FormLaws.{same_spec_is, spec_is_same}
 
 -- ---- tests
 
@@ -34,37 +37,6 @@ and_first false b e = absurd cc
 pub and_second : (a b : Bool) → (a && b) ≡ true → b ≡ true
 and_second true b e = e
 and_second false b e = absurd cc
-
--- numbers that are told equal are one
-pub equal_is : (a b : ℕ) → (a == b) ≡ true → a ≡ b
-equal_is a b e = eqb-true a b e
-
--- so are kinds
-pub same_kind_is : (a b : Kind) → same_kind a b ≡ true → a ≡ b
-same_kind_is kinds.Text kinds.Text e = refl
-same_kind_is kinds.Code kinds.Code e = refl
-same_kind_is kinds.Flag kinds.Flag e = refl
-same_kind_is kinds.Quantity kinds.Quantity e = refl
-same_kind_is kinds.Count kinds.Count e = refl
-same_kind_is _ _ e = absurd cc
-
--- and whole numbers
-same_integer_is : (a b : ℤ) → same_integer a b ≡ true → a ≡ b
-same_integer_is (pos a) (pos b) e = ap (λ n. pos n) (equal_is a b e)
-same_integer_is (negsuc a) (negsuc b) e = ap (λ n. negsuc n) (equal_is a b e)
-same_integer_is (pos a) (negsuc b) e = absurd cc
-same_integer_is (negsuc a) (pos b) e = absurd cc
-
--- and specs
-pub same_spec_is : (a b : Spec) → same_spec a b ≡ true → a ≡ b
-same_spec_is a b e =
-    let e1 = and_first _ _ e in
-    let e2 = and_first _ _ e1 in
-    let kind = same_kind_is a.kind b.kind (and_first _ _ e2) in
-    let scale = same_integer_is a.scale b.scale (and_second _ _ e2) in
-    let reference = same_integer_is a.reference b.reference (and_second _ _ e1) in
-    let width = equal_is a.width b.width (and_second _ _ e) in
-    λ i. record { kind = kind i; scale = scale i; reference = reference i; width = width i }
 
 -- ---- octets
 
@@ -117,7 +89,7 @@ pub raw_again : (kind : Kind) (width : ℕ) (raw : Raw) (rest : List Bool)
     → has_form_by kind width raw ≡ true
     → raw_at_by kind width (raw_bits width raw ++ rest) ≡ Some (raw, rest)
 raw_again kinds.Text width (Text os) rest e =
-    let size : length os ≡ width / 8 = equal_is _ _ (and_first _ _ e) in
+    let size : length os ≡ width / 8 = eqb-true _ _ (and_first _ _ e) in
     let count : width / 8 ≡ length os = sym size in
     let all : list_all (λ c. nat_lt c 256) os ≡ true = and_second (length os == width / 8) (list_all (λ c. nat_lt c 256) os) e in
     rw (count, numbers_at-bits os rest all) refl
@@ -154,7 +126,7 @@ fields_at-plain j i (asks met d spec more) (f ∷ fs) n rest e =
     let g = guard_ok (stands_for d spec f) _ _ n e in
     let like = and_first _ _ g.0 in
     let form = and_second (f.fxy == d && same_spec f.spec spec) (has_form_by spec.kind spec.width f.raw) g.0 in
-    let same_d : f.fxy ≡ d = equal_is _ _ (and_first _ _ like) in
+    let same_d : f.fxy ≡ d = eqb-true _ _ (and_first _ _ like) in
     let same_s : f.spec ≡ spec = same_spec_is _ _ (and_second _ _ like) in
     let same_f : ◌≡◌ {A = Field} (record { fxy = d; spec = spec; raw = f.raw }) f = λ k. record { fxy = sym same_d k; spec = sym same_s k; raw = f.raw } in
     let width : f.spec.width ≡ spec.width = ap (λ (s : Spec). s.width) same_s in
@@ -166,36 +138,9 @@ fields_at-plain j i (asks met d spec more) (f ∷ fs) n rest e =
 
 -- ---- what is read has its form, and the bits are its own
 
--- a kind is told the same as itself
-kind_is_same : (k : Kind) → same_kind k k ≡ true
-kind_is_same kinds.Text = refl
-kind_is_same kinds.Code = refl
-kind_is_same kinds.Flag = refl
-kind_is_same kinds.Quantity = refl
-kind_is_same kinds.Count = refl
-
--- so is a whole number
-integer_is_same : (z : ℤ) → same_integer z z ≡ true
-integer_is_same (pos n) = eq-eqb n n refl
-integer_is_same (negsuc n) = eq-eqb n n refl
-
--- and a spec
-pub spec_is_same : (s : Spec) → same_spec s s ≡ true
-spec_is_same s = rw (kind_is_same s.kind, integer_is_same s.scale, integer_is_same s.reference, eq-eqb s.width s.width refl) refl
-
--- equal values that there are are one
-some_is : {A : Type 0} (x y : A) → Some x ≡ Some y → x ≡ y
-some_is x y e = cc
-
 -- equal answers have equal values
 ok_found : {A : Type 0} (x y : A) → ◌≡◌ {A = Result A ReadFault} (Ok x) (Ok y) → x ≡ y
 ok_found x y e = cc
-
--- so many numbers are read
-pub length-numbers : (n width : ℕ) (front : List Bool) → length (numbers n width front) ≡ n
-unfolding numbers
-length-numbers zero width front = refl
-length-numbers (suc n) width front = ap suc (length-numbers n width (drop width front))
 
 -- numbers of eight bits are octets
 pub numbers_below : (n : ℕ) (front : List Bool) → n * 8 ≤ length front
@@ -348,12 +293,6 @@ fields_at-found j i (asks met d spec more) front f e =
     field_found j i met d spec more front _ f refl (λ n rest g h. fields_at-found j (i + 1) (more n) rest g h) e
 
 -- ---- subsets
-
--- what is answered of two steps is answered of each
-pub bind_ok : {A B F : Type 0} (o : Result A F) (k : A → Result B F) (y : B) → (o >>= k) ≡ Ok y
-    → (x : A) × (o ≡ Ok x) × (k x ≡ Ok y)
-bind_ok (Ok x) k y e = (x, refl, e)
-bind_ok (Err fault) k y e = absurd cc
 
 -- subsets that their courses allow stand at the front
 abbrev AreFound : (ℕ → Course) → ℕ → ℕ → ℕ → List Bool → SubsetsRead → Type 0

@@ -12,6 +12,7 @@ use Rattle.bufr_tables.specs.declared.failure.Failure.TheVariants.{Fault, OutOfM
 use Rattle.bufr_tables.specs.declared.element.Kind.{Kind}
 use Rattle.bufr_tables.specs.declared.element.Kind.TheVariants as kinds
 use Rattle.bufr_tables.specs.Elements.{same_kind}
+use Rattle.bufr_tables.specs.AnswerLaws.{bind_ok}
 use Rattle.bufr_expand.specs.declared.operators.Spec.{Spec}
 use Rattle.bufr_expand.specs.Trees.{Tree}
 use Rattle.bufr_expand.specs.Courses.{course}
@@ -29,7 +30,7 @@ use Rattle.bufr_bits.specs.BitLaws.{small_mod}
 use Rattle.bufr_data.specs.Data.{each_fits, written_bits}
 use Rattle.bufr_data.specs.Places.{rows_from, values_from, columns_here, least_of, least_step, greatest_step}
 use Rattle.bufr_data.specs.Subsets.{Extends, have_form, has_own_form}
-use Rattle.bufr_data.proofs.PlainFacts.{and_first, and_second, same_spec_is, same_kind_is, bind_ok}
+use Rattle.bufr_data.proofs.PlainFacts.{and_first, and_second}
 use Rattle.bufr_data.proofs.ColumnFacts.{increments_fit}
 use Rattle.bufr_data.proofs.PackedFacts.{taken}
 use Rattle.bufr_data.proofs.RangeFacts.{filter_push, least_push, greatest_push}
@@ -37,6 +38,7 @@ use Rattle.bufr_data.proofs.RowFacts.{are_here, rows_next}
 use Rattle.bufr_data.proofs.WriteFacts.{counted_forms}
 use Rattle.bufr_data.proofs.BestFacts.{fewest, least_below, greatest_above, least_fits, of_present, to_present, both, weaken, best_each, below_greatest, narrow_each, or_false, differing_texts, differing_is}
 use Rattle.bufr_data.specs.Limits.{most_values}
+use Rattle.bufr_data.specs.FormLaws.{same_spec_is, same_kind_is}
 
 -- ---- lists that grow at their end
 

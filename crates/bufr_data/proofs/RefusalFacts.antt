@@ -1,14 +1,16 @@
 -- What is refused is the first field that cannot stand, or the first place at which subsets are not
 -- what the template allows: for the laws `read_refusals_follow_the_tree`,
 -- `write_refusals_follow_the_tree` and `data_hold_subsets`.
-use Rattle.std.proofs.Common.{◌≡◌, ℕ, zero, suc, ◌+◌, ◌*◌, ◌/◌, ◌%◌, ◌^◌, ◌<◌, ◌≤◌, Bool, true, false, cond, List, [], ◌∷◌, ◌++◌, length, take, drop, Option, Some, None, Result, Ok, Err, refl, sym, ap, subst, ◌∙◌, arith, append_assoc, length-append, ◌⊎◌, inl, inr}
+use Rattle.std.proofs.Common.{◌≡◌, ℕ, zero, suc, ◌+◌, ◌*◌, ◌/◌, ◌%◌, ◌^◌, ◌<◌, ◌≤◌, Bool, true, false, cond, List, [], ◌∷◌, ◌++◌, length, take, drop, Option, Some, None, Result, Ok, Err, refl, sym, ap, subst, ◌∙◌, arith, append_assoc, length-append, inl, inr}
 use Rattle.std.proofs.lemmas.Bool.{cases_lt}
 use Rattle.std.proofs.lemmas.List.{take-append-drop, length-take}
 use Rattle.bufr_bits.specs.Bits.{bin, bits, number, numbers}
 use Rattle.bufr_bits.specs.BitLaws.{length-bin, number_below, bin-number}
-use Rattle.bufr_tables.specs.Answers.{◌>>=◌, result_map}
+use Rattle.bufr_bits.specs.NumberLaws.{length-numbers}
+use Rattle.bufr_tables.specs.Answers.{result_map}
 use Rattle.bufr_tables.specs.declared.element.Kind.{Kind}
 use Rattle.bufr_tables.specs.declared.element.Kind.TheVariants as kinds
+use Rattle.bufr_tables.specs.AnswerLaws.{bind_err, err_is}
 use Rattle.bufr_expand.specs.declared.operators.Spec.{Spec}
 use Rattle.bufr_expand.specs.declared.walk.WalkFault.{WalkFault}
 use Rattle.bufr_expand.specs.declared.walk.WalkFault.TheVariants as walks
@@ -27,9 +29,11 @@ use Rattle.bufr_data.specs.Plain.{raw_bits, field_bits, plain, plain_subsets, Su
 use Rattle.bufr_data.specs.Data.{written_bits}
 use Rattle.bufr_data.specs.Fits.{HasForm, of_text, of_number, FitsWithin, AllFitWithin, SubsetStands}
 use Rattle.bufr_data.specs.Refusals.{IsAsked, Passes, NoneStands, IsWithinLimits}
+use Rattle.bufr_data.specs.CourseLaws.{AreUnrolled, AreAllowed}
+use Rattle.bufr_data.specs.FormLaws.{form_passes, form_is, asked_is, asked_passes, octets_are}
 use Rattle.bufr_data.proofs.CourseRefusals.{CannotStand, FieldRefused, SubsetRefused, CannotGoOn, FieldMisfits, SubsetMisfits}
-use Rattle.bufr_data.proofs.PlainFacts.{raw_again, raw_read, length-bits, length-numbers, numbers_below, bits_of_numbers}
-use Rattle.bufr_data.proofs.FitFacts.{AreUnrolled, AreAllowed, form_passes, form_is, asked_is, asked_passes, counted_fit, fitting_counted, read_stands, standing_read, octets_are}
+use Rattle.bufr_data.proofs.PlainFacts.{raw_again, raw_read, length-bits, numbers_below, bits_of_numbers}
+use Rattle.bufr_data.proofs.FitFacts.{counted_fit, fitting_counted, read_stands, standing_read}
 
 -- ---- whether a field stands
 
@@ -139,19 +143,9 @@ refused_behind j i met d spec more front x fault e r =
     let same : i + 1 + length r.before ≡ i + suc (length r.before) = omega arith in
     record { before = field ∷ r.before; next = r.next; rest = r.rest; passed = (asked, r.passed); stand = spelt; refused = subst (λ k. CannotStand j k r.next r.rest fault) same r.refused }
 
--- an error of two steps is one of the first or of the second
-bind_err : {A B F : Type 0} (o : Result A F) (k : A → Result B F) (fault : F)
-    → (o >>= k) ≡ Err fault → (o ≡ Err fault) ⊎ ((x : A) × (o ≡ Ok x) × (k x ≡ Err fault))
-bind_err (Ok x) k fault e = inr (x, refl, e)
-bind_err (Err g) k fault e = inl cc
-
 -- an answer is no error
 not_err : {A F : Type 0} (x : A) (fault : F) → ◌≡◌ {A = Result A F} (Ok x) (Err fault) → ⊥
 not_err x fault e = cc
-
--- equal errors have equal faults
-err_is : {A F : Type 0} (f g : F) → ◌≡◌ {A = Result A F} (Err f) (Err g) → f ≡ g
-err_is f g e = cc
 
 -- the first refusal where a field is asked for: here, or behind it
 asked_refused : (j i met d : ℕ) (spec : Spec) (more : ℕ → Course) (front : List Bool)

@@ -8,7 +8,7 @@ use Rattle.bufr_expand.specs.Courses.{course}
 use Rattle.bufr_expand.specs.Trees.{Tree}
 use Rattle.bufr_data.specs.declared.field.Subset.{Subset}
 use Rattle.bufr_data.specs.declared.fault.ReadFault.{ReadFault}
-use Rattle.bufr_data.specs.declared.plain_index.Start.{Start}
+use Rattle.bufr_data.specs.declared.plain_index.SubsetStart.{SubsetStart}
 use Rattle.bufr_data.specs.Plain.{SubsetRead, SubsetsRead, fields_at, subsets_at}
 use Rattle.bufr_data.specs.Numbered.{numbered, after}
 use Rattle.bufr_data.specs.Starts.{PassesSubset, fields_of, subset_at, subset_from, BeginsAtStart, AllStand}
@@ -20,22 +20,22 @@ ok_is (Ok y) x e = refl
 ok_is (Err f) x e = absurd cc
 
 -- one more start at the end, and a subset begins at each
-all_push : (octets : List ℕ) (tree : Tree) (starts : List Start) (s : Start)
+all_push : (octets : List ℕ) (tree : Tree) (starts : List SubsetStart) (s : SubsetStart)
     → AllStand octets tree starts → BeginsAtStart octets tree s
     → AllStand octets tree (starts ++ s ∷ [])
 all_push octets tree [] s all one = (one, tt)
 all_push octets tree (t ∷ starts) s all one = (all.0, all_push octets tree starts s all.1 one)
 
 -- what was passed is read from the start on
-read_there : (octets : List ℕ) (tree : Tree) (s : Start) (front rest : List Bool) (items : ℕ)
+read_there : (octets : List ℕ) (tree : Tree) (s : SubsetStart) (front rest : List Bool) (items : ℕ)
     → front ≡ drop s.bit (bits octets)
     → (p : PassesSubset (fields_at 1 1 (course tree s.used) front) items rest)
     → subset_at octets tree s ≡ Ok (record { fields = p.0; items = items; rest = rest })
 read_there octets tree s front rest items is p = ap (fields_at 1 1 (course tree s.used)) (sym is) ∙ p.1
 
 -- one start more stands
-pub one_stands : (octets : List ℕ) (tree : Tree) (s : Start) (front rest : List Bool) (items : ℕ)
-    (starts grown : List Start) → grown ≡ starts ++ s ∷ [] → front ≡ drop s.bit (bits octets)
+pub one_stands : (octets : List ℕ) (tree : Tree) (s : SubsetStart) (front rest : List Bool) (items : ℕ)
+    (starts grown : List SubsetStart) → grown ≡ starts ++ s ∷ [] → front ≡ drop s.bit (bits octets)
     → s.bit ≤ 8 * length octets → AllStand octets tree starts
     → PassesSubset (fields_at 1 1 (course tree s.used) front) items rest
     → AllStand octets tree grown
@@ -43,8 +43,8 @@ one_stands octets tree s front rest items starts grown is there inside all p =
     subst (AllStand octets tree) (sym is) (all_push octets tree starts s all (inside, ok_is _ _ (read_there octets tree s front rest items there p)))
 
 -- one start more is that of one subset more
-pub one_start : (octets : List ℕ) (tree : Tree) (s : Start) (n index : ℕ)
-    (front rest : List Bool) (items : ℕ) (starts grown : List Start)
+pub one_start : (octets : List ℕ) (tree : Tree) (s : SubsetStart) (n index : ℕ)
+    (front rest : List Bool) (items : ℕ) (starts grown : List SubsetStart)
     (all : Result SubsetsRead ReadFault) → grown ≡ starts ++ s ∷ []
     → front ≡ drop s.bit (bits octets) → index < n
     → all ≡ after (map (subset_from octets tree) starts)

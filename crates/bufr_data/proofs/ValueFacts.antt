@@ -1,7 +1,7 @@
 -- One value of a column behind its minimum and width: for the subset of an index
 -- (`Columns::subset`).
-use Rattle.std.proofs.Common.{◌≡◌, ℕ, zero, suc, ◌+◌, ◌-◌, ◌*◌, ◌/◌, ◌<◌, ◌≤◌, Bool, true, false, cond, List, ◌∷◌, ◌++◌, length, take, drop, replicate, get_or, Option, Some, None, Result, Ok, Err, refl, sym, ap, ◌∙◌, arith}
-use Rattle.std.specs.Prelude.{◌==◌, option_map, IsSome, IsOk}
+use Rattle.std.proofs.Common.{◌≡◌, ℕ, zero, suc, ◌+◌, ◌-◌, ◌*◌, ◌/◌, ◌<◌, ◌≤◌, Bool, true, false, cond, List, ◌∷◌, ◌++◌, length, take, drop, replicate, get_or, Option, Some, None, refl, sym, ap, ◌∙◌, arith}
+use Rattle.std.specs.Prelude.{◌==◌, option_map, IsSome}
 use Rattle.std.specs.List.{list_all}
 use Rattle.std.proofs.lemmas.Bool.{le-ltb, lt-ltb, le-leb}
 use Rattle.std.proofs.lemmas.List.{length-drop, take_all}
@@ -10,6 +10,7 @@ use Rattle.bufr_bits.specs.BitLaws.{number_at-bin}
 use Rattle.bufr_bits.specs.NumberLaws.{numbers_at_found}
 use Rattle.bufr_tables.specs.declared.element.Kind.TheVariants as kinds
 use Rattle.bufr_tables.specs.Elements.{same_kind}
+use Rattle.bufr_tables.specs.AnswerLaws.{ok_value}
 use Rattle.bufr_expand.specs.declared.operators.Spec.{Spec}
 use Rattle.bufr_data.specs.declared.field.Raw.{Raw}
 use Rattle.bufr_data.specs.declared.field.Raw.TheVariants.{Number, Text}
@@ -18,8 +19,8 @@ use Rattle.bufr_data.specs.Plain.{raw_at, field_number_at}
 use Rattle.bufr_data.specs.Columns.{IsColumn}
 use Rattle.bufr_data.specs.ColumnReading.{filled}
 use Rattle.bufr_data.specs.Indexed.{values_of, read_at, Opens, one_behind, one_at}
+use Rattle.bufr_data.specs.FormLaws.{form_passes}
 use Rattle.bufr_data.proofs.PlainFacts.{raw_again}
-use Rattle.bufr_data.proofs.FitFacts.{form_passes}
 use Rattle.bufr_data.proofs.ColumnFacts.{column_found, ones_of}
 use Rattle.bufr_data.proofs.IndexFacts.{one_value}
 use Rattle.bufr_data.proofs.PassFacts.{octets_none, minimum_there, text_raw, number_raw}
@@ -152,11 +153,6 @@ number_past spec index front mid rest m (suc k) c other first second some times 
 
 -- ---- the value of an open place
 
--- an answer has its value
-ok_of : {A F : Type 0} (r : Result A F) → IsOk r → (x : A) × (r ≡ Ok x)
-ok_of (Ok x) h = (x, refl)
-ok_of (Err e) h = absurd cc
-
 -- the value at an index of a column
 value_at_column : (spec : Spec) (values : List Raw) (column rest : List Bool) (index : ℕ)
     → IsColumn spec values column → index < length values
@@ -173,7 +169,7 @@ pub value_there : (octets : List ℕ) (n index : ℕ) (p : Place) → Opens octe
     → one_at p.spec index (drop p.bit (bits octets))
     ≡ Some (get_or (values_of (read_at octets n p)) index (Number 0))
 value_there octets n index p opens inside =
-    let x = ok_of (read_at octets n p) opens.1 in
+    let x = ok_value (read_at octets n p) opens.1 in
     let found = column_found n 1 p.spec (drop p.bit (bits octets)) x.0 x.1 in
     let short : index < length x.0.0 = omega (arith, inside, found.1) in
     ap (one_at p.spec index) found.3
@@ -184,10 +180,6 @@ value_there octets n index p opens inside =
 pub some_there : {A : Type 0} (o : Option A) (x : A) → o ≡ Some x → IsSome o
 some_there (Some y) x e = refl
 some_there None x e = absurd cc
-
--- equal values that there are are one
-pub some_same : {A : Type 0} (x y : A) → ◌≡◌ {A = Option A} (Some x) (Some y) → x ≡ y
-some_same x y e = cc
 
 -- the bits before a text, in either order of the factors
 pub behind_is : (a b index k : ℕ) → a ≡ index → b ≡ k → a * (8 * b) ≡ index * (k * 8)

@@ -17,11 +17,12 @@ use Rattle.bufr_data.specs.declared.fault.WriteFault.{WriteFault}
 use Rattle.bufr_data.specs.declared.fault.WriteFault.TheVariants as misfits
 use Rattle.bufr_data.specs.Plain.{number_of, same_spec, has_form_by, stands_for, misfit, items_of, items_of_all, field_bits, plain, plain_subsets}
 use Rattle.bufr_data.specs.Subsets.{fits_or, has_own_form}
-use Rattle.bufr_data.proofs.PlainFacts.{and_first, and_second, same_spec_is, guard_ok}
+use Rattle.bufr_data.proofs.PlainFacts.{and_first, and_second, guard_ok}
 use Rattle.std.specs.List.{list_all}
 use Rattle.bufr_expand.specs.Steady.{IsSteady}
 use Rattle.bufr_data.specs.Steady.{IsReady}
-use Rattle.bufr_data.proofs.ReadFacts.{asks_field, asks_count, ends_there, stops_there, steady_step, count_fits}
+use Rattle.bufr_data.specs.FormLaws.{same_spec_is}
+use Rattle.bufr_data.specs.StepLaws.{asks_field, asks_count, ends_there, stops_there, steady_step, count_fits}
 
 -- ---- one field
 

@@ -5,6 +5,7 @@ use Rattle.std.specs.Prelude.{◌&&◌, nat_lt}
 use Rattle.std.specs.List.{AllByRecursion, list_all}
 use Rattle.std.proofs.lemmas.Bool.{le-ltb, ltb-false, eq-eqb}
 use Rattle.std.proofs.lemmas.List.{length-map}
+use Rattle.bufr_tables.specs.AnswerLaws.{bind_ok, guard_ok, ok_is}
 use Rattle.bufr_expand.specs.Trees.{Tree}
 use Rattle.bufr_data.specs.declared.field.Raw.{Raw}
 use Rattle.bufr_data.specs.declared.field.Raw.TheVariants.{Number}
@@ -16,12 +17,11 @@ use Rattle.bufr_data.specs.Columns.{Column, field_of, subsets_from}
 use Rattle.bufr_data.specs.BestColumns.{can_be_column, begins_like, first_raw, is_empty, column_or, columns_of, columns_of_all, packed, best_bits, CanBeWritten, AreBestColumns}
 use Rattle.bufr_data.specs.Fits.{FitsAlone}
 use Rattle.bufr_data.specs.Data.{each_fits, written_bits}
-use Rattle.bufr_data.proofs.PlainFacts.{bind_ok, spec_is_same}
-use Rattle.bufr_data.proofs.FitFacts.{AreUnrolled, AreAllowed, fitting_counted}
-use Rattle.bufr_data.proofs.ColumnFacts.{guarded}
+use Rattle.bufr_data.proofs.FitFacts.{fitting_counted}
 use Rattle.bufr_data.proofs.PackedFacts.{taken, none_taken, rows, each_row, each_fit}
-use Rattle.bufr_data.proofs.ColumnWalks.{ok_same}
 use Rattle.bufr_data.specs.Limits.{most_values}
+use Rattle.bufr_data.specs.FormLaws.{spec_is_same}
+use Rattle.bufr_data.specs.CourseLaws.{AreUnrolled, AreAllowed}
 
 -- ---- subsets of columns have these columns
 
@@ -137,15 +137,15 @@ best_pack s subsets columns content e p =
     let row = rows 1 s.fields others columns e in
     let whole = each_row 0 (s ∷ subsets) columns (λ l short. row l (omega (arith, short, many)) ∙ ap (λ n. map (field_of n) columns) (omega arith)) in
     let size : 1 + length others ≡ length (s ∷ subsets) = omega (arith, many) in
-    let g = guarded (nat_lt most_values (length columns * length (s ∷ subsets))) _ _ content p in
-    ((whole, ltb-false _ _ g.0, subst (λ l. AllByRecursion (CanBeWritten l) columns) size (all_can 1 s.fields others columns e)), sym (ok_same _ _ g.1))
+    let g = guard_ok (nat_lt most_values (length columns * length (s ∷ subsets))) _ _ content p in
+    ((whole, ltb-false _ _ g.0, subst (λ l. AllByRecursion (CanBeWritten l) columns) size (all_can 1 s.fields others columns e)), sym (ok_is _ _ g.1))
 
 -- what is written compressed are the best columns of subsets that fit
 pub written_best : AreUnrolled → (tree : Tree) (subsets : List Subset) (content : List Bool)
     → written_bits tree true subsets ≡ Ok content
     → AllByRecursion (FitsAlone tree) subsets × (columns : List Column)
     × AreBestColumns subsets columns × (content ≡ best_bits columns)
-written_best law tree [] content e = (tt, [], refl, sym (ok_same _ _ e))
+written_best law tree [] content e = (tt, [], refl, sym (ok_is _ _ e))
 written_best law tree (s ∷ subsets) content e =
     let a = bind_ok (each_fits tree 1 (s ∷ subsets)) _ content e in
     let b = bind_ok (columns_of_all (s ∷ subsets)) _ content a.2 in

@@ -14,25 +14,25 @@ use Rattle.bufr_data.specs.Reads.{raw_or_ends}
 use Rattle.bufr_data.specs.Starts.{PassesRaw}
 
 -- the data end at field i of the subset
-abbrev pub EndsAt : ℕ → Spec → List Bool → Type 0
-EndsAt i spec front = raw_or_ends 1 i (raw_at spec front) ≡ Err (faults.DataEnds 1 i)
+abbrev pub DataEndAt : ℕ → Spec → List Bool → Type 0
+DataEndAt i spec front = raw_or_ends 1 i (raw_at spec front) ≡ Err (faults.DataEnds 1 i)
 
 -- a field of this spec takes so many bits: where they are there it is passed with just these, and
 -- where they are not the data end
-pub record Takes (spec : Spec) (bits : ℕ) : Type 0 where
+pub record TakesBits (spec : Spec) (bits : ℕ) : Type 0 where
   pub there : (i : ℕ) (front : List Bool) → bits ≤ length front
       → PassesRaw i spec front (drop bits front)
-  pub short : (i : ℕ) (front : List Bool) → length front < bits → EndsAt i spec front
+  pub short : (i : ℕ) (front : List Bool) → length front < bits → DataEndAt i spec front
 
 -- a field of this spec stands nowhere
 abbrev pub NeverStands : Spec → Type 0
-NeverStands spec = (i : ℕ) (front : List Bool) → EndsAt i spec front
+NeverStands spec = (i : ℕ) (front : List Bool) → DataEndAt i spec front
 
 -- fields of which none is a count take so many bits
 abbrev pub TakeAll : List Told → ℕ → Type 0
 TakeAll [] bits = bits ≡ 0
 TakeAll (field ∷ fields) bits = (own : ℕ) × (others : ℕ)
-    × (same_kind field.spec.kind kinds.Count ≡ false) × Takes field.spec own
+    × (same_kind field.spec.kind kinds.Count ≡ false) × TakesBits field.spec own
     × TakeAll fields others × (bits ≡ own + others)
 
 -- each subset of this tree has so many bits and items: those of fields that it stands for, of which

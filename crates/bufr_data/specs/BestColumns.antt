@@ -20,7 +20,7 @@ use Rattle.bufr_data.specs.declared.fault.WriteFault.TheVariants as misfits
 use Rattle.bufr_data.specs.Plain.{raw_bits, number_of, same_spec}
 use Rattle.bufr_data.specs.Columns.{Column, subsets_from}
 use Rattle.bufr_data.specs.ColumnReading.{all_equal}
-use Rattle.bufr_data.specs.Limits.{most_values}
+use Rattle.bufr_data.specs.Limits.{most_values, most_increment_bits}
 
 -- ---- the bits that are written
 
@@ -57,7 +57,7 @@ increment_of width minimum k n = if all_ones width n then 2 ^ k - 1 else n - min
 abbrev pub best_numbers : ℕ → List ℕ → List Bool
 best_numbers width ns =
     let minimum = least (present width ns) in
-    let k = fewest_bits 63 1 (greatest (present width ns) - minimum) in
+    let k = fewest_bits most_increment_bits 1 (greatest (present width ns) - minimum) in
     bin width minimum ++ bin 6 k ++ flat_map (bin k) (map (increment_of width minimum k) ns)
 
 -- texts that are not all the same stand whole, behind a minimum of zero bits
@@ -94,7 +94,7 @@ widest spec = if same_kind spec.kind kinds.Text then spec.width / 8 else spec.wi
 -- whether differing values can stand in a column that is written: a factor has one value, and a
 -- width of more than 63 has no place in the six bits of NBINC
 abbrev pub can_differ : Spec → Bool
-can_differ spec = not (same_kind spec.kind kinds.Count) && nat_le (widest spec) 63
+can_differ spec = not (same_kind spec.kind kinds.Count) && nat_le (widest spec) most_increment_bits
 
 -- whether values of one place can stand in a column that is written
 abbrev pub can_be_column : Spec → List Raw → Bool
@@ -102,7 +102,7 @@ can_be_column spec values = all_equal values || can_differ spec
 
 -- no field of a subset is wider than the six bits of NBINC say
 abbrev pub HasNarrowFields : Subset → Type 0
-HasNarrowFields s = AllByRecursion (λ f. widest f.spec ≤ 63) s.fields
+HasNarrowFields s = AllByRecursion (λ f. widest f.spec ≤ most_increment_bits) s.fields
 
 -- ---- the columns of subsets
 

@@ -23,64 +23,65 @@ use Rattle.bufr_data.specs.declared.field.Field.{Field}
 use Rattle.bufr_data.specs.declared.fault.WriteFault.{WriteFault}
 use Rattle.bufr_data.specs.declared.fault.WriteFault.TheVariants as misfits
 use Rattle.bufr_data.specs.BestColumns.{widest, first_raw, CanBeWritten}
-use Rattle.bufr_data.specs.Limits.{most_values}
+use Rattle.bufr_data.specs.Limits.{most_values, most_increment_bits}
 
 -- ---- one column
 
 -- the minimum R0 and the width NBINC stand at the front of the bits, and these bits are left
-pub record Heads (spec : Spec) (front : List Bool) (minimum : Raw) (k : ℕ) (rest : List Bool)
+pub record Heads (spec : Spec) (front : List Bool) (minimum : Raw) (nbinc : ℕ) (rest : List Bool)
     : Type 0 where
   pub form : HasForm spec minimum
-  pub few : k < 64
-  pub spelt : front ≡ raw_bits spec.width minimum ++ (bin 6 k ++ rest)
+  pub few : nbinc < 2 ^ 6
+  pub spelt : front ≡ raw_bits spec.width minimum ++ (bin 6 nbinc ++ rest)
 
--- n increments of k bits stand at the front of the bits
-pub record Increments (n k : ℕ) (front : List Bool) (increments : List ℕ) : Type 0 where
+-- so many increments of NBINC bits stand at the front of the bits
+pub record Increments (count nbinc : ℕ) (front : List Bool) (increments : List ℕ) : Type 0 where
   pub rest : List Bool
-  pub many : length increments ≡ n
-  pub fit : AllByRecursion (λ x. x < 2 ^ k) increments
-  pub spelt : front ≡ flat_map (bin k) increments ++ rest
+  pub many : length increments ≡ count
+  pub fit : AllByRecursion (λ x. x < 2 ^ nbinc) increments
+  pub spelt : front ≡ flat_map (bin nbinc) increments ++ rest
 
--- n texts of k octets stand at the front of the bits
-pub record Texts (n k : ℕ) (front : List Bool) (own : List (List ℕ)) : Type 0 where
+-- so many texts of NBINC octets stand at the front of the bits
+pub record Texts (count nbinc : ℕ) (front : List Bool) (own : List (List ℕ)) : Type 0 where
   pub rest : List Bool
-  pub many : length own ≡ n
-  pub octets : AllByRecursion (λ t. (length t ≡ k) × AllByRecursion (λ x. x < 256) t) own
+  pub many : length own ≡ count
+  pub octets : AllByRecursion (λ t. (length t ≡ nbinc) × AllByRecursion (λ x. x < 256) t) own
   pub spelt : front ≡ flat_map bits own ++ rest
 
 -- an increment has a value: it is all ones, or no more than the field's greatest number is reached
 abbrev pub HasValue : ℕ → ℕ → ℕ → ℕ → Type 0
-HasValue width minimum k x = (x + 1 ≡ 2 ^ k) ⊎ (minimum + x < 2 ^ width)
+HasValue width minimum nbinc x = (x + 1 ≡ 2 ^ nbinc) ⊎ (minimum + x < 2 ^ width)
 
--- why no column of n subsets stands at the front of the bits, which is that of field i; in this
+-- why no column of so many subsets stands at the front of the bits, for this field, from 1; in this
 -- order: R0 and NBINC are not all there; the texts have more octets than the field; the increments
 -- or texts are not all there; an increment has no value; the values of a factor differ
-pub data ColumnRefused (n i : ℕ) (spec : Spec) (front : List Bool) (fault : ReadFault)
+pub data ColumnRefused (count field : ℕ) (spec : Spec) (front : List Bool) (fault : ReadFault)
     : Type 0 where
-  no_head : ((minimum : Raw) (k : ℕ) (rest : List Bool) → Heads spec front minimum k rest → ⊥)
-      → fault ≡ faults.DataEnds 0 i → ColumnRefused n i spec front fault
-  wide_texts : (ignored : List ℕ) (k : ℕ) (rest : List Bool)
-      → Heads spec front (Text ignored) k rest
-      → spec.width / 8 < k → fault ≡ faults.CharIncrement i → ColumnRefused n i spec front fault
-  no_increments : (minimum k : ℕ) (rest : List Bool) → Heads spec front (Number minimum) k rest
-      → 0 < k
-      → ((increments : List ℕ) → Increments n k rest increments → ⊥)
-      → fault ≡ faults.DataEnds 0 i → ColumnRefused n i spec front fault
-  no_texts : (ignored : List ℕ) (k : ℕ) (rest : List Bool)
-      → Heads spec front (Text ignored) k rest → 0 < k
-      → k ≤ spec.width / 8 → ((own : List (List ℕ)) → Texts n k rest own → ⊥)
-      → fault ≡ faults.DataEnds 0 i → ColumnRefused n i spec front fault
-  passes : (minimum k : ℕ) (rest : List Bool) (before : List ℕ) (x : ℕ) (behind : List ℕ)
-      → Heads spec front (Number minimum) k rest → 0 < k
-      → Increments n k rest (before ++ x ∷ behind)
-      → AllByRecursion (HasValue spec.width minimum k) before
-      → (HasValue spec.width minimum k x → ⊥)
-      → fault ≡ faults.IncrementRange (1 + length before) i → ColumnRefused n i spec front fault
+  no_head
+      : ((minimum : Raw) (nbinc : ℕ) (rest : List Bool) → Heads spec front minimum nbinc rest → ⊥)
+      → fault ≡ faults.DataEnds 0 field → ColumnRefused count field spec front fault
+  wide_texts : (ignored : List ℕ) (nbinc : ℕ) (rest : List Bool)
+      → Heads spec front (Text ignored) nbinc rest → spec.width / 8 < nbinc
+      → fault ≡ faults.CharIncrement field → ColumnRefused count field spec front fault
+  no_increments : (minimum nbinc : ℕ) (rest : List Bool)
+      → Heads spec front (Number minimum) nbinc rest → 0 < nbinc
+      → ((increments : List ℕ) → Increments count nbinc rest increments → ⊥)
+      → fault ≡ faults.DataEnds 0 field → ColumnRefused count field spec front fault
+  no_texts : (ignored : List ℕ) (nbinc : ℕ) (rest : List Bool)
+      → Heads spec front (Text ignored) nbinc rest → 0 < nbinc → nbinc ≤ spec.width / 8
+      → ((own : List (List ℕ)) → Texts count nbinc rest own → ⊥) → fault ≡ faults.DataEnds 0 field
+      → ColumnRefused count field spec front fault
+  passes : (minimum nbinc : ℕ) (rest : List Bool) (before : List ℕ) (x : ℕ) (behind : List ℕ)
+      → Heads spec front (Number minimum) nbinc rest → 0 < nbinc
+      → Increments count nbinc rest (before ++ x ∷ behind)
+      → AllByRecursion (HasValue spec.width minimum nbinc) before
+      → (HasValue spec.width minimum nbinc x → ⊥)
+      → fault ≡ faults.IncrementRange (1 + length before) field
+      → ColumnRefused count field spec front fault
   unequal : (values : List Raw) (column rest : List Bool) → IsColumn spec values column
-      → length values ≡ n
-      → front ≡ column ++ rest → spec.kind ≡ kinds.Count
-      → ((v : Raw) → AllByRecursion (λ w. w ≡ v) values → ⊥)
-      → fault ≡ faults.UnequalCounts i → ColumnRefused n i spec front fault
+      → length values ≡ count → front ≡ column ++ rest → spec.kind ≡ kinds.Count
+      → ((v : Raw) → AllByRecursion (λ w. w ≡ v) values → ⊥) → fault ≡ faults.UnequalCounts field
+      → ColumnRefused count field spec front fault
 
 -- ---- the first column
 
@@ -88,36 +89,36 @@ pub data ColumnRefused (n i : ℕ) (spec : Spec) (front : List Bool) (fault : Re
 abbrev pub told_first : List Column → List Told
 told_first columns = map told_of (map (field_of 0) columns)
 
--- why neither a next column of n subsets stands at the front of the bits, after these columns, nor
+-- why neither a next column of so many subsets stands at the front, after these columns, nor
 -- the subsets' end: an item would be more than one walk may have; or there would be more than
 -- 67,108,864 values with the next field; or the next field has no spec; or no column of it stands
-pub data NoColumnFollows (tree : Tree) (n : ℕ) (before : List Column) (front : List Bool)
+pub data NoColumnFollows (tree : Tree) (count : ℕ) (before : List Column) (front : List Bool)
     (fault : ReadFault) : Type 0 where
   no_room : PassesLimit tree 0 (told_first before) → fault ≡ faults.TooLarge
-      → NoColumnFollows tree n before front fault
+      → NoColumnFollows tree count before front fault
   too_many_values : (next : Next) (met : ℕ) → BeginsWithin tree 0 (told_first before) next met
-      → most_values < (1 + length before) * n → fault ≡ faults.TooLarge
-      → NoColumnFollows tree n before front fault
-  no_spec : (d met : ℕ) → BeginsWithin tree 0 (told_first before) (lacks d) met
-      → (1 + length before) * n ≤ most_values → fault ≡ faults.EffectiveRange d
-      → NoColumnFollows tree n before front fault
-  no_column : (d met : ℕ) (spec : Spec)
-      → BeginsWithin tree 0 (told_first before) (wants d spec) met
-      → (1 + length before) * n ≤ most_values
-      → ColumnRefused n (1 + length before) spec front fault
-      → NoColumnFollows tree n before front fault
+      → most_values < (1 + length before) * count → fault ≡ faults.TooLarge
+      → NoColumnFollows tree count before front fault
+  no_spec : (fxy met : ℕ) → BeginsWithin tree 0 (told_first before) (lacks fxy) met
+      → (1 + length before) * count ≤ most_values → fault ≡ faults.EffectiveRange fxy
+      → NoColumnFollows tree count before front fault
+  no_column : (fxy met : ℕ) (spec : Spec)
+      → BeginsWithin tree 0 (told_first before) (wants fxy spec) met
+      → (1 + length before) * count ≤ most_values
+      → ColumnRefused count (1 + length before) spec front fault
+      → NoColumnFollows tree count before front fault
 
 -- the first column that cannot stand: those before it stand in the data, and their fields come next
 -- in an unrolling one by one
-pub record FirstColumnRefused (tree : Tree) (n : ℕ) (front : List Bool) (fault : ReadFault)
+pub record FirstColumnRefused (tree : Tree) (count : ℕ) (front : List Bool) (fault : ReadFault)
     : Type 0 where
   pub before : List Column
   pub packed : List Bool
   pub rest : List Bool
   pub begin : Begin tree 0 (map (field_of 0) before)
-  pub columns : AreColumns n before packed
+  pub columns : AreColumns count before packed
   pub spelt : front ≡ packed ++ rest
-  pub refused : NoColumnFollows tree n before rest fault
+  pub refused : NoColumnFollows tree count before rest fault
 
 -- ---- subsets that are written
 
@@ -130,7 +131,8 @@ BeginsLike f (g ∷ gs) = (f.fxy ≡ g.fxy) × (g.spec ≡ f.spec)
 -- factor, and a number has 63 bits at most, a text 63 octets
 pub data CanBeColumn (spec : Spec) (values : List Raw) : Type 0 where
   same : (v : Raw) → AllByRecursion (λ w. w ≡ v) values → CanBeColumn spec values
-  narrow : (spec.kind ≡ kinds.Count → ⊥) → widest spec ≤ 63 → CanBeColumn spec values
+  narrow : (spec.kind ≡ kinds.Count → ⊥) → widest spec ≤ most_increment_bits
+      → CanBeColumn spec values
 
 -- a field of the first subset, and the next ones of the others, are one place in a column
 abbrev pub AreOnePlace : Field → List (List Field) → Type 0

@@ -1,7 +1,7 @@
 -- The data of a message: the subsets in the bits of section 4 behind its fourth octet, by the
--- template's tree (FM 94 BUFR, WMO-No. 306 Volume I.2: regulations 94.5 and 94.6). Whether the data
--- are compressed is said here and nowhere above: what is said of messages cites these words alone.
--- Each word has a case for plain data and one for compressed data.
+-- template's tree (FM 94 BUFR, WMO-No. 306 Volume I.2: regulations 94.5 and 94.6). What it is to be
+-- compressed is said here: what is read and written of messages is said by these words alone. Each
+-- word has a case for plain data and one for compressed data.
 use Rattle.std.specs.Prelude.{◌≡◌, ◌↔◌, ℕ, zero, suc, ◌+◌, Bool, true, false, List, [], ◌∷◌, ◌++◌}
 use Rattle.std.specs.Prelude.{length, Result, Ok, Err}
 use Rattle.std.specs.List.{AllByRecursion}

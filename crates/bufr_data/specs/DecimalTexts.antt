@@ -10,6 +10,7 @@ use Rattle.std.specs.Str.Parse.{digits_value}
 use Rattle.bufr_expand.specs.OperatorsInForce.{is_within}
 use Rattle.bufr_data.specs.declared.field.Decimal.{Decimal}
 use Rattle.bufr_data.specs.Values.{digits_by, text_of}
+use Rattle.bufr_data.specs.Limits.{most_decimal_scale}
 
 -- the digits of a text, whatever stands beside and between them
 abbrev pub digits_in : List ℕ → List ℕ
@@ -36,7 +37,7 @@ units_in scale text = signed_as text (size_in scale text)
 -- a decimal as `Decimal` holds it: units of 128 bits with a sign, and a scale from -600 to 600
 pub record IsDecimal (d : Decimal) : Type 0 where
   pub units : FitsSigned w128 d.units
-  pub scale : is_within 600 d.scale ≡ true
+  pub scale : is_within most_decimal_scale d.scale ≡ true
 
 -- ---- reading
 
@@ -68,7 +69,8 @@ decimal_by scale text n =
 
 -- the decimal of this scale that a text is the text of
 abbrev pub decimal_of : ℤ → List ℕ → Option Decimal
-decimal_of scale text = if is_within 600 scale then decimal_by scale text (size_in scale text)
+decimal_of scale text =
+    if is_within most_decimal_scale scale then decimal_by scale text (size_in scale text)
     else None
 
 -- ---- laws

@@ -14,6 +14,7 @@ use Rattle.bufr_data.specs.declared.field.Raw.TheVariants.{Number, Text}
 use Rattle.bufr_data.specs.declared.field.Field.{Field}
 use Rattle.bufr_data.specs.declared.field.Subset.{Subset}
 use Rattle.bufr_data.specs.Plain.{number_of, plain, plain_subsets, SubsetRead, SubsetsRead}
+use Rattle.bufr_data.specs.Limits.{most_raw_bits}
 
 -- a raw value has its spec's form: a text has width / 8 octets, and a number is below 2 to the
 -- power of the width. An octet is below 256, and a field of more than 64 bits has no number (the
@@ -21,8 +22,8 @@ use Rattle.bufr_data.specs.Plain.{number_of, plain, plain_subsets, SubsetRead, S
 pub data HasForm (spec : Spec) : Raw → Type 0 where
   of_text : (octets : List ℕ) → spec.kind ≡ kinds.Text → length octets ≡ spec.width / 8
       → AllByRecursion (λ x. x < 256) octets → HasForm spec (Text octets)
-  of_number : (n : ℕ) → (spec.kind ≡ kinds.Text → ⊥) → spec.width ≤ 64 → n < 2 ^ spec.width
-      → HasForm spec (Number n)
+  of_number : (n : ℕ) → (spec.kind ≡ kinds.Text → ⊥) → spec.width ≤ most_raw_bits
+      → n < 2 ^ spec.width → HasForm spec (Number n)
 
 -- a field as an unrolling tells of it: its descriptor, its spec, and the number that counts where
 -- the field is a factor

@@ -8,12 +8,15 @@ pub mod Laws
 pub mod Limits
 pub mod Numbered
 pub mod Steady
+pub mod StepLaws
 pub mod Reads
 pub mod Samples
 pub mod Reasons
 pub mod Fits
+pub mod FormLaws
 pub mod Refusals
 pub mod Causes
+pub mod CourseLaws
 pub mod Columns
 pub mod ColumnReading
 pub mod BestColumns

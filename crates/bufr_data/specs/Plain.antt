@@ -21,6 +21,7 @@ use Rattle.bufr_data.specs.declared.fault.ReadFault.{ReadFault}
 use Rattle.bufr_data.specs.declared.fault.ReadFault.TheVariants as faults
 use Rattle.bufr_data.specs.declared.fault.WriteFault.{WriteFault}
 use Rattle.bufr_data.specs.declared.fault.WriteFault.TheVariants as misfits
+use Rattle.bufr_data.specs.Limits.{most_raw_bits}
 
 -- ---- bits of fields
 
@@ -59,7 +60,7 @@ pub record SubsetsRead : Type 0 where
 -- the number of a field at the front of bits; a field of more than 64 bits has none (the limits say
 -- 63, which each spec of a template keeps)
 abbrev pub field_number_at : ℕ → List Bool → Option (ℕ × List Bool)
-field_number_at width front = if nat_le width 64 then number_at width front else None
+field_number_at width front = if nat_le width most_raw_bits then number_at width front else None
 
 -- the raw value at the front of bits: octets where the kind is Text, else a number
 abbrev pub raw_at_by : Kind → ℕ → List Bool → Option (Raw × List Bool)
@@ -117,7 +118,7 @@ abbrev pub has_form_by : Kind → ℕ → Raw → Bool
 has_form_by kinds.Text width (Text octets) =
     length octets == width / 8 && list_all (λ x. nat_lt x 256) octets
 has_form_by kinds.Text width (Number n) = false
-has_form_by kind width (Number n) = nat_le width 64 && nat_lt n (2 ^ width)
+has_form_by kind width (Number n) = nat_le width most_raw_bits && nat_lt n (2 ^ width)
 has_form_by kind width (Text octets) = false
 
 -- a field is what a course asks for: this descriptor, this spec, and a raw value of its form

@@ -8,6 +8,7 @@ use Rattle.bufr_data.specs.declared.field.Raw.{Raw}
 use Rattle.bufr_data.specs.declared.field.Field.{Field}
 use Rattle.bufr_data.specs.Plain.{raw_bits, number_of}
 use Rattle.bufr_data.specs.Fits.{HasForm}
+use Rattle.bufr_data.specs.Limits.{most_raw_bits}
 
 -- a field is the one that is asked for: this descriptor, this spec, and a raw value of its form
 abbrev pub IsAsked : ℕ → Spec → Field → Type 0
@@ -30,4 +31,4 @@ NoneStands spec front = (raw : Raw) (rest : List Bool) → HasForm spec raw
 -- octets, and a number at most 64 bits
 pub record IsWithinLimits (spec : Spec) : Type 0 where
   pub whole_octets : spec.kind ≡ kinds.Text → spec.width % 8 ≡ 0
-  pub few_bits : (spec.kind ≡ kinds.Text → ⊥) → spec.width ≤ 64
+  pub few_bits : (spec.kind ≡ kinds.Text → ⊥) → spec.width ≤ most_raw_bits

@@ -11,7 +11,7 @@ use Rattle.bufr_data.specs.declared.field.Raw.{Raw}
 use Rattle.bufr_data.specs.declared.field.Field.{Field}
 use Rattle.bufr_data.specs.declared.field.Subset.{Subset}
 use Rattle.bufr_data.specs.declared.fault.ReadFault.{ReadFault}
-use Rattle.bufr_data.specs.declared.plain_index.Start.{Start}
+use Rattle.bufr_data.specs.declared.plain_index.SubsetStart.{SubsetStart}
 use Rattle.bufr_data.specs.Plain.{SubsetRead, raw_at, fields_at}
 use Rattle.bufr_data.specs.Reads.{raw_or_ends, behind_fields}
 
@@ -44,17 +44,17 @@ fields_of (Ok found) = found.fields
 fields_of (Err e) = []
 
 -- what is read from the place on where a subset begins
-abbrev pub subset_at : List ℕ → Tree → Start → Result SubsetRead ReadFault
+abbrev pub subset_at : List ℕ → Tree → SubsetStart → Result SubsetRead ReadFault
 subset_at octets tree s = fields_at 1 1 (course tree s.used) (drop s.bit (bits octets))
 
 -- the subset that begins there
-abbrev pub subset_from : List ℕ → Tree → Start → Subset
+abbrev pub subset_from : List ℕ → Tree → SubsetStart → Subset
 subset_from octets tree s = record { fields = fields_of (subset_at octets tree s) }
 
 -- a subset begins there
-abbrev pub BeginsAtStart : List ℕ → Tree → Start → Type 0
+abbrev pub BeginsAtStart : List ℕ → Tree → SubsetStart → Type 0
 BeginsAtStart octets tree s = (s.bit ≤ 8 * length octets) × IsOk (subset_at octets tree s)
 
 -- a subset begins at each start
-abbrev pub AllStand : List ℕ → Tree → List Start → Type 0
+abbrev pub AllStand : List ℕ → Tree → List SubsetStart → Type 0
 AllStand octets tree starts = AllByRecursion (BeginsAtStart octets tree) starts

@@ -13,6 +13,7 @@ use Rattle.bufr_data.specs.declared.field.Raw.TheVariants.{Number, Text}
 use Rattle.bufr_data.specs.declared.field.Field.{Field}
 use Rattle.bufr_data.specs.declared.field.Decimal.{Decimal}
 use Rattle.bufr_data.specs.Plain.{has_form_by}
+use Rattle.bufr_data.specs.Limits.{most_decimal_scale}
 
 -- all bits of a raw value are one, in a field of so many bits
 abbrev pub is_all_ones : ℕ → Raw → Bool
@@ -27,7 +28,7 @@ is_missing f = has_form_by f.spec.kind f.spec.width f.raw && is_all_ones f.spec.
 
 -- a decimal whose scale is in range: -600 to 600
 abbrev pub decimal_within : ℤ → ℤ → Option Decimal
-decimal_within units scale = if is_within 600 scale
+decimal_within units scale = if is_within most_decimal_scale scale
     then Some (record { units = units; scale = scale }) else None
 
 -- the value by kind and raw value

@@ -13,6 +13,7 @@ ghost use Rattle.bufr_data.specs.ColumnReading as reading;
 ghost use Rattle.bufr_data.specs.Places.{rows_from, values_from, least_step, greatest_step};
 ghost use Rattle.bufr_data.specs.Plain.{has_form_by, number_of};
 ghost use Rattle.bufr_data.specs.Subsets.{Extends, have_form};
+ghost use Rattle.bufr_data.specs.Limits.{most_increment_bits};
 
 use crate::field::{Field, Raw, Subset};
 use crate::form::is_greatest;
@@ -63,7 +64,7 @@ fn put_texts(
     place: usize,
     sink: &mut BitSink,
 ) -> Result<(), OutOfMemory>
-    requires { field.now.spec.width / 8 ≤ 63 }
+    requires { field.now.spec.width / 8 ≤ most_increment_bits }
     ensures put { OnOk result (sink.new ≡ sink.old ++ bests.best_texts (field.now.spec.width / 8)
         (map octets_of (values_from field.now (rows_from place others.now)))) }
     ensures kept { Extends sink.old sink.new }
@@ -133,7 +134,7 @@ fn number_at(subset: &Subset, place: usize) -> u64
 
 /// Puts the best column of numbers that are not all the same.
 fn put_numbers(width: u32, numbers: &[u64], sink: &mut BitSink) -> Result<(), OutOfMemory>
-    requires narrow { width ≤ 63 }
+    requires narrow { width ≤ most_increment_bits }
     requires forms { list_all (λ n. nat_lt n (2 ^ width)) numbers.now ≡ true }
     ensures put { OnOk result (sink.new ≡ sink.old ++ bests.best_numbers width numbers.now) }
     ensures kept { Extends sink.old sink.new }
@@ -150,7 +151,7 @@ fn put_numbers(width: u32, numbers: &[u64], sink: &mut BitSink) -> Result<(), Ou
 
 /// The increment of `k` bits of a number above a minimum: all ones where the number is missing.
 fn increment(width: u32, minimum: u64, k: u32, number: u64) -> u64
-    requires { k < 64 }
+    requires { k < 2 ^ 6 }
     ensures { result ≡ increment_of width minimum k number }
 {
     if is_greatest(number, width) {
@@ -206,7 +207,7 @@ fn greater(width: u32, found: u64, number: u64) -> u64
 
 /// The fewest bits, at least 1, in which a difference is less than all ones.
 fn fewest_bits(difference: u64) -> u32
-    ensures { result ≡ bests.fewest_bits 63 1 difference }
+    ensures { result ≡ bests.fewest_bits most_increment_bits 1 difference }
 {
     for k in 1..64 {
         if u128::from(difference) + 2 <= 1 << k {

@@ -10,9 +10,11 @@ ghost use Rattle.bufr_data.specs.declared.field.Raw.{Raw};
 ghost use Rattle.bufr_data.specs.ColumnReading.{column_at, all_raised};
 ghost use Rattle.bufr_data.specs.PassedColumns.{head_at, PassesColumn, PassesFactor, AreRaised};
 ghost use Rattle.bufr_data.specs.PassedColumns.{agreed_at};
+ghost use Rattle.bufr_data.specs.Limits.{most_raw_bits};
 
 use crate::fault::ReadFault;
 use crate::increment::{never_passes, raised};
+use crate::limits::MOST_RAW_BITS;
 use bufr_bits::BitReader;
 use bufr_expand::Spec;
 use bufr_tables::Kind;
@@ -123,15 +125,15 @@ pub(crate) fn pass_factor(
 fn column_head(reader: &mut BitReader, width: u32, i: u64) -> Result<(u64, u32), ReadFault>
     ensures ok { IfOk result (λ head. head_at i width (left reader.old)
         ≡ Ok (head, left reader.new)) }
-    ensures narrow { OnOk result (width ≤ 64) }
+    ensures narrow { OnOk result (width ≤ most_raw_bits) }
     ensures below { IfOk result (λ head. head.0 < 2 ^ width) }
-    ensures few { IfOk result (λ head. head.1 < 64) }
+    ensures few { IfOk result (λ head. head.1 < 2 ^ 6) }
     ensures err { IfErr result (λ fault. head_at i width (left reader.old) ≡ Err fault) }
     ensures octets { reader.new.octets ≡ reader.old.octets }
     ensures onward { reader.old.place ≤ reader.new.place }
 {
     let ends = ReadFault::DataEnds(0, i);
-    if width > 64 {
+    if width > MOST_RAW_BITS {
         return Err(ends);
     }
     let minimum = match reader.take(width) {
@@ -153,8 +155,8 @@ fn read_increments(
     n: u16,
     i: u64,
 ) -> Result<(u64, bool), ReadFault>
-    requires narrow { width ≤ 64 }
-    requires few { k < 64 }
+    requires narrow { width ≤ most_raw_bits }
+    requires few { k < 2 ^ 6 }
     requires enough { n * k ≤ length (left reader.old) }
     ensures ok { IfOk result (λ found. AreRaised i width minimum k (numbers n k (left reader.old))
         found.0 found.1) }

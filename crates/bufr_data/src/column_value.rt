@@ -13,6 +13,7 @@ ghost use Rattle.bufr_data.specs.Indexed.{one_at};
 use crate::field::Raw;
 use crate::form::are_ones;
 use crate::increment::raised;
+use crate::limits::MOST_RAW_BITS;
 use bufr_bits::{BitReader, OutOfMemory};
 use bufr_expand::Spec;
 use bufr_tables::{Items, Kind};
@@ -38,7 +39,7 @@ fn number_value(reader: &mut BitReader, spec: Spec, index: u16) -> Option<u64>
     requires { same_kind spec.kind Text ≡ false }
     ensures { option_map (λ n. raws.Number n) result ≡ one_at spec index (left reader.old) }
 {
-    if spec.width > 64 {
+    if spec.width > MOST_RAW_BITS {
         return None;
     }
     let minimum = reader.take(spec.width)?;

@@ -1,6 +1,7 @@
 //! Fields, subsets and values.
 
 use crate::form::{are_ones, is_below, is_greatest, is_octets, is_same};
+use crate::limits::MOST_DECIMAL_SCALE;
 use bufr_expand::Spec;
 use bufr_tables::{Fxy, Items, Kind};
 
@@ -121,7 +122,7 @@ impl Decimal {
     pub fn new(units: i128, scale: i32) -> Option<Decimal>
         ensures { result ≡ decimal_within units scale }
     {
-        if scale < -600 || scale > 600 {
+        if scale < -MOST_DECIMAL_SCALE || scale > MOST_DECIMAL_SCALE {
             return None;
         }
         Some(Decimal { units, scale })

@@ -4,28 +4,30 @@ ghost use Rattle.std.specs.Prelude.{◌≡◌, ◌+◌, ◌/◌, ◌^◌, ◌==�
 ghost use Rattle.std.specs.List.{list_all};
 ghost use Rattle.bufr_tables.specs.Elements as elements;
 ghost use Rattle.bufr_data.specs.Plain.{same_spec};
+ghost use Rattle.bufr_data.specs.Limits.{most_raw_bits};
 
+use crate::limits::MOST_RAW_BITS;
 use bufr_expand::Spec;
 use bufr_tables::Kind;
 
 /// Whether a number stands in so many bits, which are at most 64.
 pub fn is_below(number: u64, width: u32) -> bool
-    ensures { result ≡ (nat_le width 64 && nat_lt number (2 ^ width)) }
+    ensures { result ≡ (nat_le width most_raw_bits && nat_lt number (2 ^ width)) }
 {
-    if width > 64 {
+    if width > MOST_RAW_BITS {
         return false;
     }
-    width == 64 || number < 1 << width
+    width == MOST_RAW_BITS || number < 1 << width
 }
 
 /// Whether a number is the greatest that stands in so many bits.
 pub fn is_greatest(number: u64, width: u32) -> bool
     ensures { result ≡ (number + 1 == 2 ^ width) }
 {
-    if width > 64 {
+    if width > MOST_RAW_BITS {
         return false;
     }
-    if width == 64 {
+    if width == MOST_RAW_BITS {
         number == u64::MAX
     } else {
         number == (1 << width) - 1

@@ -10,8 +10,6 @@ ghost use Rattle.bufr_data.specs.Laws.{SubsetsReadRefusedIsFirst, FirstSubsetsRe
 ghost use Rattle.bufr_data.specs.Laws.{WriteRefusedIsFirst, FirstWriteIsRefused};
 ghost use Rattle.bufr_data.specs.Laws.{WrittenRefusedIsFirst, FirstWrittenIsRefused};
 ghost use Rattle.std.specs.Prelude.{ℕ, Bool, List};
-ghost use Rattle.bufr_expand.specs.Courses.{course};
-ghost use Rattle.bufr_expand.specs.Steady.{IsSteady};
 ghost use Rattle.bufr_expand.specs.Trees.{Tree};
 ghost use Rattle.bufr_data.specs.Data.{ReadsExactly, RefusesExactly, WritesExactly, MisfitsExactly};
 ghost use Rattle.bufr_data.specs.Data.{BareDataAreData, PlainDataAreBare, PackedDataCanBeBare};
@@ -26,8 +24,8 @@ ghost use Rattle.bufr_data.specs.declared.fault.WriteFault.{WriteFault};
 
 use bufr_expand::laws::{courses_are_unrollings, courses_begin_unrollings};
 
-/// Reading answers subsets exactly where they fit the template and their bits stand at the front,
-/// item counts and rest included.
+/// Reading plain data answers subsets exactly where they fit the template and their bits stand at
+/// the front, item counts and rest included.
 pub fn plain_data_spell_subsets()
     ensures read_stand { ReadStand }
     ensures standing_are_read { StandingAreRead }
@@ -35,7 +33,7 @@ pub fn plain_data_spell_subsets()
 
 /// The subsets that are counted are those that fit the template: their fields are what its tree
 /// stands for, each raw value has its spec's form, and the items, which are those of the tree, add
-/// up to 16,777,216 at most.
+/// up to 16,777,216 at most. No more were met before, in this law as in the next three.
 pub fn counted_subsets_fit()
     ensures fit { CountedFit }
     ensures counted { FittingAreCounted }
@@ -45,8 +43,8 @@ pub fn counted_subsets_fit()
     courses_are_unrollings();
 }
 
-/// Reading answers exactly the subsets that fit the template and stand at the front of the bits,
-/// and writing answers bits exactly where the subsets fit, and then theirs.
+/// Reading plain data answers exactly the subsets that fit the template and stand at the front of
+/// the bits, and writing them answers bits exactly where the subsets fit, and then theirs.
 pub fn fitting_subsets_are_read_and_written()
     ensures subset_stands { SubsetReadStands }
     ensures subset_is_read { SubsetStandingIsRead }
@@ -58,9 +56,9 @@ pub fn fitting_subsets_are_read_and_written()
     courses_are_unrollings();
 }
 
-/// The fault of reading is that of the first field that cannot stand: the subsets and the fields
-/// before it stand in the data, and each field before it comes next in an unrolling of the
-/// template's tree; after them an item would be too many, or the next field has no spec, or the
+/// The fault of reading plain data is that of the first field that cannot stand: the subsets and
+/// the fields before it stand in the data, and each field before it comes next in an unrolling of
+/// the template's tree; after them an item would be too many, or the next field has no spec, or the
 /// data end within it. Within the limits of fields this is where there are fewer bits than it has.
 pub fn read_refusals_follow_the_tree()
     ensures refused { ReadRefusedIsFirst }
@@ -74,10 +72,10 @@ pub fn read_refusals_follow_the_tree()
     courses_begin_unrollings();
 }
 
-/// The fault of writing is that of the first place at which a subset is not what the template
-/// allows: each field before it comes next in an unrolling, and after them there is a field too
-/// many, or an item would be too many, or the next field has no spec, or is not there, or is
-/// another one.
+/// The fault of writing plain data is that of the first place at which a subset is not what the
+/// template allows: each field before it comes next in an unrolling, and after them there is a
+/// field too many, or an item would be too many, or the next field has no spec, or is not there, or
+/// is another one.
 pub fn write_refusals_follow_the_tree()
     ensures refused { WriteRefusedIsFirst }
     ensures misfit { FirstWriteIsRefused }
@@ -127,10 +125,4 @@ pub fn data_hold_subsets()
 /// read of its text by one candidate.
 pub fn texts_have_one_decimal()
     ensures { UnitsOfTexts }
-{}
-
-/// The course of a template goes on steadily: each field that it asks for has one more item at
-/// least, and only a count decides what comes after it (regulation 94.5.4).
-pub fn courses_go_on_steadily()
-    ensures { (tree : Tree) (used : ℕ) → IsSteady used (course tree used) }
 {}

@@ -6,6 +6,7 @@ ghost use Rattle.bufr_data.specs.DecimalTexts.{digits_in, before_zeros, units_by
 
 use crate::digits::has_digits;
 use crate::field::Decimal;
+use crate::limits::MOST_DECIMAL_SCALE;
 
 impl Decimal {
     ghost use Rattle.std.specs.Prelude.{◌≡◌, IfSome};
@@ -26,11 +27,11 @@ impl Decimal {
     }
 }
 
-/// The same by its only candidate.
+/// The same by its only candidate: the one clause from which `Decimal::parse` has its two.
 fn parse(text: &[u8], scale: i32) -> Option<Decimal>
     ensures { result ≡ decimal_of scale text.now }
 {
-    if scale < -600 || scale > 600 {
+    if scale < -MOST_DECIMAL_SCALE || scale > MOST_DECIMAL_SCALE {
         return None;
     }
     let number = number_in(without_zeros(text, scale))?;

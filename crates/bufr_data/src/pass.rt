@@ -10,13 +10,14 @@ ghost use Rattle.bufr_tables.specs.Elements.{same_kind};
 ghost use Rattle.bufr_expand.specs.Courses.{course};
 ghost use Rattle.bufr_expand.specs.Walks as walks;
 ghost use Rattle.bufr_data.specs.declared.field.Raw.TheVariants.{Number};
-ghost use Rattle.bufr_data.specs.Alike.{Takes, NeverStands};
+ghost use Rattle.bufr_data.specs.Alike.{TakesBits, NeverStands};
 ghost use Rattle.bufr_data.specs.Plain.{raw_at, fields_at};
 ghost use Rattle.bufr_data.specs.Reads.{raw_or_ends};
 ghost use Rattle.bufr_data.specs.Starts.{PassesRaw, PassesField, PassesSubset};
 ghost use Rattle.bufr_data.specs.Steady.{IsReady, WalkAdvances};
 
 use crate::fault::ReadFault;
+use crate::limits::MOST_RAW_BITS;
 use crate::read::fault_of;
 use bufr_bits::BitReader;
 use bufr_expand::{Spec, Step, Template, Walk};
@@ -95,12 +96,12 @@ fn pass_raw(spec: Spec, reader: &mut BitReader, i: u64) -> Result<(), ReadFault>
 
 /// How many bits a field of this spec has: octets where it is a text, and else 64 bits at most.
 pub(crate) fn bits_of(spec: Spec) -> Option<u128>
-    ensures takes { IfSome result (Takes spec) }
+    ensures takes { IfSome result (TakesBits spec) }
     ensures never { IfNone result (NeverStands spec) }
 {
     match spec.kind {
         Kind::Text => Some(8 * u128::from(spec.width / 8)),
-        _ if spec.width > 64 => None,
+        _ if spec.width > MOST_RAW_BITS => None,
         _ => Some(u128::from(spec.width)),
     }
 }
@@ -115,7 +116,7 @@ fn take_count(spec: Spec, reader: &mut BitReader, i: u64) -> Result<u64, ReadFau
     ensures octets { reader.new.octets ≡ reader.old.octets }
     ensures onward { reader.old.place ≤ reader.new.place }
 {
-    if spec.width > 64 {
+    if spec.width > MOST_RAW_BITS {
         return Err(ReadFault::DataEnds(1, i));
     }
     match reader.take(spec.width) {

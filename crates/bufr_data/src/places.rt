@@ -11,6 +11,7 @@ ghost use Rattle.bufr_data.specs.Places.{rows_from, values_from, columns_here};
 use crate::fault::WriteFault;
 use crate::field::{Field, Raw, Subset};
 use crate::form::is_same;
+use crate::limits::MOST_INCREMENT_BITS;
 use bufr_expand::Spec;
 use bufr_tables::Kind;
 
@@ -51,8 +52,8 @@ fn can_differ(spec: Spec) -> bool
 {
     match spec.kind {
         Kind::Count => false,
-        Kind::Text => spec.width / 8 <= 63,
-        _ => spec.width <= 63,
+        Kind::Text => spec.width / 8 <= MOST_INCREMENT_BITS,
+        _ => spec.width <= MOST_INCREMENT_BITS,
     }
 }
 

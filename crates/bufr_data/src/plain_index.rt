@@ -26,7 +26,7 @@ use std::marker::Model;
 
 /// Where a subset begins, and how many items the message has met before it.
 #[derive(Clone, Copy, Debug, PartialEq)]
-pub(crate) struct Start {
+pub(crate) struct SubsetStart {
     bit: u128,
     used: u64,
 }
@@ -36,7 +36,7 @@ pub(crate) struct Start {
 pub(crate) struct PlainSubsets<'a> {
     octets: &'a [u8],
     template: Template,
-    starts: Vec<Start>,
+    starts: Vec<SubsetStart>,
 }
 
 impl<'a> Model for PlainSubsets<'a> {
@@ -105,7 +105,7 @@ fn starts_of(
     template: &Template,
     reader: &mut BitReader,
     count: u16,
-) -> Result<Vec<Start>, Failure<ReadFault>>
+) -> Result<Vec<SubsetStart>, Failure<ReadFault>>
     ensures exact { Gives {Y = List Subset × List Bool}
         (λ starts. (map (subset_from reader.old.octets template.now) starts.items, left reader.new))
         result (subsets_in template.now false count (left reader.old)) }
@@ -123,7 +123,7 @@ fn starts_of(
     for index in 0..count {
         let bit = bit_of(reader);
         let items = pass_one(alloc, template, reader, alike, index as u64 + 1, used)?;
-        starts.push(Start { bit, used })?;
+        starts.push(SubsetStart { bit, used })?;
         used = items;
     }
     Ok(starts)

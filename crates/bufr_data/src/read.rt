@@ -12,6 +12,7 @@ ghost use Rattle.bufr_data.specs.Steady.{IsReady, WalkAdvances};
 
 use crate::fault::ReadFault;
 use crate::field::{Field, Raw, Subset};
+use crate::limits::MOST_RAW_BITS;
 use bufr_bits::BitReader;
 use bufr_expand::{Spec, Step, Template, Walk, WalkFault};
 use bufr_tables::{Failure, Items, Kind};
@@ -134,7 +135,7 @@ fn read_raw(
                 Some(octets) => Ok(Raw::Text(Items::from_vec(octets))),
             }
         }
-        _ if spec.width > 64 => Err(ends),
+        _ if spec.width > MOST_RAW_BITS => Err(ends),
         _ => match reader.take(spec.width) {
             None => Err(ends),
             Some(number) => Ok(Raw::Number(number)),

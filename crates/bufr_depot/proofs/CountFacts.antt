@@ -17,9 +17,9 @@ use Rattle.bufr_message.specs.Reports.{reports_of, reports_read, reports_in, rep
 use Rattle.bufr_message.specs.Laws.{MessagesReadAreSpelt}
 use Rattle.bufr_shelves.specs.declared.entry.Entry.{Entry}
 use Rattle.bufr_shelves.specs.Entries.{kept, changes}
-use Rattle.bufr_shelves.specs.Orders.{kept-early, kept-kept}
-use Rattle.bufr_shelves.specs.ChangeLaws.{changes-kept}
+use Rattle.bufr_shelves.specs.Orders.{kept-early}
 use Rattle.bufr_archive.specs.Archives.{ArchiveView, taken_in, entries_of, count_changes, IsKept, AddsAll, AddsFirst}
+use Rattle.bufr_archive.specs.ChangeCounts.{count_kept, count_more}
 use Rattle.bufr_archive.specs.ReportEntries.{entry_of, report_entries, entries_told}
 use Rattle.bufr_archive.specs.Adding.{AddsMessage}
 use Rattle.bufr_archive.specs.declared.adding.Added.{Added}
@@ -29,37 +29,7 @@ use Rattle.bufr_depot.specs.Slots.{spells, reports_among, count_messages, count_
 use Rattle.bufr_depot.specs.HeldSteps.{AddsFrames, AddsSome}
 use Rattle.bufr_depot.specs.declared.counts.Counts.{Counts}
 
--- ---- entries that change what is kept
-
--- entries change what is kept of others as they change these
-count_same : (old others es : List Entry) → kept old ≡ kept others
-    → count_changes old es ≡ count_changes others es
-count_same old others [] h = refl
-count_same old others (e ∷ es) h =
-    let tells : changes old e ≡ changes others e =
-    sym (changes-kept old e) ∙ ap (λ ks. changes ks e) h ∙ changes-kept others e in
-    let more : kept (old ++ e ∷ []) ≡ kept (others ++ e ∷ []) =
-    sym (kept-early old (e ∷ [])) ∙ ap (λ (ks : List Entry). kept (ks ++ e ∷ [])) h
-    ∙ kept-early others (e ∷ []) in
-    ap (λ b. cond b 1 0 + count_changes (old ++ e ∷ []) es) tells
-    ∙ ap (λ n. cond (changes others e) 1 0 + n)
-    (count_same (old ++ e ∷ []) (others ++ e ∷ []) es more)
-
--- so they do of what is kept
-pub count_kept : (old es : List Entry) → count_changes (kept old) es ≡ count_changes old es
-count_kept old es = count_same (kept old) old es (kept-kept old)
-
--- the changes of two lists of entries are those of the first and then of the second
-count_more : (old es fs : List Entry)
-    → count_changes old (es ++ fs) ≡ count_changes old es + count_changes (old ++ es) fs
-count_more old [] fs =
-    ap (λ (os : List Entry). count_changes os fs) (sym (append-nil old))
-    ∙ (let z : count_changes (old ++ []) fs ≡ 0 + count_changes (old ++ []) fs = omega arith in z)
-count_more old (e ∷ es) fs =
-    let rest = count_more (old ++ e ∷ []) es fs
-    ∙ ap (λ (os : List Entry). count_changes (old ++ e ∷ []) es + count_changes os fs)
-    (append_assoc old (e ∷ []) es) in
-    omega (arith, rest)
+-- ---- how many change what is kept
 
 -- a test counts 1 at most
 one_at_most : (b : Bool) → cond b 1 0 ≤ 1

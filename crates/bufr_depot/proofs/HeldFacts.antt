@@ -21,6 +21,7 @@ use Rattle.bufr_shelves.specs.declared.entry.Entry.{Entry}
 use Rattle.bufr_shelves.specs.Entries.{kept}
 use Rattle.bufr_shelves.specs.Orders.{kept-early, kept-late}
 use Rattle.bufr_archive.specs.Archives.{ArchiveView, taken_in, merged, entries_of, count_changes}
+use Rattle.bufr_archive.specs.ChangeCounts.{count_kept}
 use Rattle.bufr_archive.specs.ReportEntries.{AreUnder, entry_of, report_entries, kept_of}
 use Rattle.bufr_archive.specs.ReportTexts.{archive_of}
 use Rattle.bufr_depot.specs.Slots.{reports_among, count_messages, count_refused, Slot, slot_at, changed_at, gains, gains_all, new_slot, new_slots}
@@ -35,7 +36,6 @@ use Rattle.bufr_depot.specs.declared.steps.Answer.{Answer}
 use Rattle.bufr_depot.specs.declared.steps.Answer.TheVariants.{Fed, Ended, Joined}
 use Rattle.bufr_depot.specs.declared.steps.StepFault.{StepFault}
 use Rattle.bufr_depot.specs.declared.steps.StepFault.TheVariants.{NoSlot, StreamTooLong, OutOfMemory}
-use Rattle.bufr_depot.proofs.CountFacts.{count_kept}
 use Rattle.bufr_depot.proofs.UnderFacts.{both, second_of, first_of, front_of}
 
 -- ---- lists at each other's side

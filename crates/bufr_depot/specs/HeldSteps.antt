@@ -47,10 +47,11 @@ AddsAllFrames old new frames (Err ran_out) = AddsSome old new frames ran_out.don
 
 -- ---- one slot
 
--- the counts as the answer to a piece, and to a stream's end
+-- the counts as the answer to a piece
 abbrev pub fed_of : Counts → Answer
 fed_of counts = Fed counts.messages counts.refused counts.changed
 
+-- the counts as the answer to a stream's end
 abbrev pub ended_of : Counts → Answer
 ended_of counts = Ended counts.messages counts.refused counts.changed
 

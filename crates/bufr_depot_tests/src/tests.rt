@@ -5,6 +5,7 @@ use bufr_bits::device::IntoWrite;
 use bufr_depot::*;
 use bufr_tables::{TableB, TableD, Tables};
 use std::alloc::Global;
+use std::fmt::Debug;
 use std::process::Abort;
 
 mod large;
@@ -67,6 +68,12 @@ const EDITION_5: [u8; 62] = [
 
 /// A step, and the answer that it is to have.
 type Asked = (Step, Result<Answer, StepFault>);
+
+/// Stops the test where the two differ. It is a function, since a comparison written out in a test
+/// makes the proof of that test more than twice as long.
+fn same<T: PartialEq + Debug + Drop>(rt: &impl Abort, found: T, wanted: T) {
+    assert_eq!(rt; found, wanted);
+}
 
 // The tables of the tests.
 fn tables(rt: &impl Abort, alloc: Global) -> Tables {

@@ -4,19 +4,23 @@ ghost use Rattle.std.specs.Prelude.{◌≡◌, ◌≤◌, ◌<◌, [], IfOk, len
 ghost use Rattle.bufr_tables.specs.Answers.{result_map};
 ghost use Rattle.bufr_engines.specs.Engines.{IsFresh};
 ghost use Rattle.bufr_engines.specs.Inputs.{KeepsFront, ReadsAll};
+ghost use Rattle.bufr_engines.specs.Limits.{most_reads, longest_piece};
 
 use crate::fault::{Input, ToolFault};
 use bufr_bits::Source;
 use std::alloc::{AllocError, Global};
 
 /// How many octets a read asks for at the most.
-pub const PIECE: usize = 65536;
+pub const LONGEST_PIECE: usize = 65_536;
+
+/// How many reads of one input an engine can be told to make at the most.
+pub const MOST_READS: u64 = 4_294_967_296;
 
 /// Room for one read.
 pub fn room(alloc: Global) -> Result<Vec<u8>, AllocError>
-    ensures { IfOk result (λ room. vec_len room ≡ 65536) }
+    ensures { IfOk result (λ room. vec_len room ≡ longest_piece) }
 {
-    vec![in alloc; 0u8; PIECE]
+    vec![in alloc; 0u8; LONGEST_PIECE]
 }
 
 /// Adds the octets that a read gave, the first of its room.
@@ -35,7 +39,7 @@ pub fn read_all<S: Source>(
     source: Input,
     reader: &mut S,
 ) -> Result<Vec<u8>, ToolFault>
-    requires few { reads ≤ 4294967296 }
+    requires few { reads ≤ most_reads }
     requires fresh { IsFresh (S.reading reader.old) }
     ensures bounded { (S.reading reader.new).reads ≤ reads }
     ensures all { ReadsAll source reads (S.reading reader.old) (S.reading reader.new)
@@ -55,7 +59,7 @@ fn gather<S: Source>(
     room: &mut [u8],
     octets: &mut Vec<u8>,
 ) -> Result<(), ToolFault>
-    requires few { reads ≤ 4294967296 }
+    requires few { reads ≤ most_reads }
     requires fresh { IsFresh (S.reading reader.old) }
     requires some { 0 < length room.old }
     requires empty { octets.old.items ≡ [] }

@@ -16,7 +16,7 @@ use Rattle.bufr_expand.specs.declared.walk.WalkFault.TheVariants.{TooLarge}
 use Rattle.bufr_expand.specs.Limits.{most_items, most_levels}
 use Rattle.bufr_expand.specs.OperatorsInForce.{none_in_force, operand, in_force_after, effective}
 use Rattle.bufr_expand.specs.OperatorsInForce.{untouched, factor_spec}
-use Rattle.bufr_expand.specs.Effects.{IsText, IsAsRow, AsInTable, text, number, Adds}
+use Rattle.bufr_expand.specs.Effects.{IsTextSpec, IsAsRow, AsInTable, text, number, Adds}
 use Rattle.bufr_expand.specs.Effects.{Increases, IsChanged, Effective, of_text, changed, unchanged}
 use Rattle.bufr_expand.specs.Effects.{IsInRange, CanBeAsked}
 use Rattle.bufr_expand.specs.Flat.{Flat, nothing, element_first, operator_first, text_first}
@@ -86,7 +86,7 @@ increase_small None increase small h = omega (arith, h)
 increase_small (Some y) increase small h = omega (arith, h, small)
 
 -- a text
-text_asked : (spec : Spec) → IsText spec → CanBeAsked spec
+text_asked : (spec : Spec) → IsTextSpec spec → CanBeAsked spec
 text_asked spec h = record {
   in_range = record {
     scale_within = rw h.no_scale (omega arith);
@@ -206,14 +206,14 @@ factors_asked tables s r list t (text_first {rest} f x y behind) =
     factors_asked tables s r _ rest behind
 factors_asked tables s r list t (width_first {rest} f x y l h behind) =
     factors_asked tables s r _ rest behind
-factors_asked tables s r list t (sequence_first {s = below} {inner} {rest} f k first behind) =
+factors_asked tables s r list t (sequence_first {sequences = below} {inner} {rest} f k first behind) =
     factors_behind CanBeAsked inner rest (factors_asked tables below r _ inner first)
     (factors_asked tables s r _ rest behind)
-factors_asked tables s r list t (repeated_first {r = below} {inner}
+factors_asked tables s r list t (repeated_first {replications = below} {inner}
     {rest} f x y size first behind) =
     (factors_asked tables s below _ inner first, factors_asked tables s r _ rest behind)
 factors_asked tables s r list t
-    (delayed_first {r = below} {e} {inner} {rest} f x y i k count size first behind) = (
+    (delayed_first {replications = below} {row = e} {inner} {rest} f x y i k count size first behind) = (
       factor_asked e count,
       factors_asked tables s below _ inner first,
       factors_asked tables s r _ rest behind,

@@ -1,13 +1,14 @@
 -- An expansion answers a fault exactly where this is the first fault of the list, for
 -- `laws::refusal_is_the_first_fault`.
-use Rattle.std.proofs.Common.{◌≡◌, ◌⊎◌, inl, inr, ℕ, zero, suc, ◌+◌, ◌<◌, ◌≤◌, Bool, true, false}
-use Rattle.std.proofs.Common.{cond, ltb, List, [], ◌∷◌, ◌++◌, length, take, drop, Result, Ok, Err}
+use Rattle.std.proofs.Common.{◌≡◌, inl, inr, ℕ, zero, suc, ◌+◌, ◌<◌, ◌≤◌, Bool, true, false}
+use Rattle.std.proofs.Common.{cond, ltb, List, [], ◌∷◌, ◌++◌, length, take, drop, Ok, Err}
 use Rattle.std.proofs.Common.{refl, sym, ap, subst, ◌∙◌, arith, add-one}
 use Rattle.std.proofs.lemmas.Bool.{ltb-true, ltb-false, lt-ltb, le-ltb, cond-true, cond-false}
 use Rattle.std.proofs.lemmas.List.{take-append-drop, length-take-le, drop_at}
 use Rattle.bufr_tables.specs.Answers.{◌>>=◌}
 use Rattle.bufr_tables.specs.Descriptors.{x_of, y_of}
 use Rattle.bufr_tables.specs.Entries.{Entries}
+use Rattle.bufr_tables.specs.AnswerLaws.{bind_ok, bind_err}
 use Rattle.bufr_expand.specs.Limits.{most_nodes}
 use Rattle.bufr_expand.specs.declared.node.Node.{Node}
 use Rattle.bufr_expand.specs.declared.node.Node.TheVariants as nodes
@@ -34,14 +35,8 @@ use Rattle.bufr_expand.proofs.ExpansionFacts.{expand_list-skip, expand_list-foun
 use Rattle.bufr_expand.proofs.ReadingFacts.{IsRead, an_element, an_operator, a_text, a_width}
 use Rattle.bufr_expand.proofs.ReadingFacts.{a_sequence, a_repeated, a_delayed, reads, found_is}
 use Rattle.bufr_expand.proofs.NoCases.{has_no_case, fault_found}
-use Rattle.bufr_expand.proofs.FlatFacts.{bind_ok, has_tree_within, single_fits, replication_fits}
+use Rattle.bufr_expand.proofs.FlatFacts.{has_tree_within, single_fits, replication_fits}
 use Rattle.bufr_expand.proofs.FlatFacts.{body_read, factor_read, flat_expands, expands_exactly}
-
--- what comes before a fault: nothing, or an answer
-bind_err : {A B F : Type 0} (m : Result A F) (f : A → Result B F) (g : F) → (m >>= f) ≡ Err g
-    → (m ≡ Err g) ⊎ ((x : A) × (m ≡ Ok x) × (f x ≡ Err g))
-bind_err (Ok x) f g e = inr (x, refl, e)
-bind_err (Err h) f g e = let same : h ≡ g = cc in inl (ap Err same)
 
 -- ---- what a list begins with
 
@@ -258,13 +253,13 @@ data Opens : Entries → List ℕ → Part → List ℕ → Type 0 where
 -- a list that begins with a node
 node_opens : (tables : Entries) (list after : List ℕ) → NodeFirst tables list after → (node : Node)
     × Opens tables list (single node) after
-node_opens tables list after (element_node {d} {e} f k) =
+node_opens tables list after (element_node {fxy = d} {row = e} f k) =
     (nodes.Element d e, opens (an_element f k) refl)
-node_opens tables list after (operator_node {d} f x) =
+node_opens tables list after (operator_node {fxy = d} f x) =
     (nodes.Operator d, opens (an_operator f x) refl)
-node_opens tables list after (text_node {d} f x y) =
+node_opens tables list after (text_node {fxy = d} f x y) =
     (nodes.Untouched d (text_of_characters (y_of d)), opens (a_text f x y) refl)
-node_opens tables list after (width_node {local} {e} f x y l k) =
+node_opens tables list after (width_node {local} {row = e} f x y l k) =
     (nodes.Untouched local e, opens (a_width f x y l k) refl)
 
 -- with a sequence
@@ -276,12 +271,12 @@ sequence_opens tables list inside after (sequence_list f k) = opens (a_sequence 
 replication_opens : (tables : Entries) (list body after : List ℕ)
     → ReplicationFirst tables list body after → (head : Repetitions)
     × Opens tables list (replication head body) after
-replication_opens tables list body after (repeated_body {d} f x y n) = (
+replication_opens tables list body after (repeated_body {fxy = d} f x y n) = (
   repetitions.Times (y_of d),
   opens (body_read tables d body after f x y n)
       (drop_at body after (x_of d) n),
 )
-replication_opens tables list body after (delayed_body {d} {factor} {e} f x y i k c n) = (
+replication_opens tables list body after (delayed_body {fxy = d} {factor} {row = e} f x y i k c n) = (
   repetitions.Factor factor e,
   opens (factor_read tables d factor e body after f x y i k c n)
       (rw add-one (drop_at body after (x_of d) n)),
@@ -318,7 +313,7 @@ first_fault_expands : (tables : Entries) (s r used : ℕ) (list : List ℕ) (f :
     → FirstFault tables s r used list f → (levels : ℕ) → s + r ≤ levels
     → expand_list tables (expand_within levels tables) s r 0 used list ≡ Err f
 unfolding expand_within
-first_fault_expands tables s r used list f (no_case {d} {behind} h) levels deep =
+first_fault_expands tables s r used list f (no_case {fxy = d} {behind} h) levels deep =
     expand_list-found tables (expand_within levels tables) s r used d behind (Err f)
     (sym (fault_found tables d behind f h))
 first_fault_expands tables s r used list f (sequence_too_deep {inside} {behind} front) levels deep =
@@ -335,7 +330,7 @@ first_fault_expands tables s r used list f (node_too_many {behind} front full) l
     (single o.0) TooManyNodes o.1 (cond-false (ltb used most_nodes) (Ok (o.0 ∷ []))
     (Err TooManyNodes) (le-ltb used most_nodes full))
 first_fault_expands tables s r used list f
-    (replication_too_many {r = below} {body} {behind} front full) levels deep =
+    (replication_too_many {replications = below} {body} {behind} front full) levels deep =
     let o = replication_opens tables list body behind front in
     fault_in_front tables (expand_within levels tables) s (suc below) used list behind
     (replication o.0 body) TooManyNodes o.1
@@ -343,14 +338,14 @@ first_fault_expands tables s r used list f
     >>= λ l. Ok (replication_node o.0 (length l) ∷ l)) (Err TooManyNodes)
     (le-ltb used most_nodes full))
 first_fault_expands tables s r used list f (in_sequence front h) zero deep = absurd (omega arith)
-first_fault_expands tables s r used list f (in_sequence {s = below} {inside} {behind} front h)
+first_fault_expands tables s r used list f (in_sequence {sequences = below} {inside} {behind} front h)
     (suc levels) deep =
     fault_in_front tables (expand_within (suc levels) tables) (suc below) r used list behind
     (inner inside) f (sequence_opens tables list inside behind front)
     (first_fault_expands tables below r used inside f h levels (omega arith))
 first_fault_expands tables s r used list f (in_replication front low h) zero deep =
     absurd (omega arith)
-first_fault_expands tables s r used list f (in_replication {r = below} {body} {behind} front low h)
+first_fault_expands tables s r used list f (in_replication {replications = below} {body} {behind} front low h)
     (suc levels) deep =
     let o = replication_opens tables list body behind front in
     fault_in_front tables (expand_within (suc levels) tables) s (suc below) used list behind
@@ -368,7 +363,7 @@ first_fault_expands tables s r used list f (behind_node {behind} front low h) le
 first_fault_expands tables s r used list f (behind_sequence front g fits h) zero deep =
     absurd (omega arith)
 first_fault_expands tables s r used list f
-    (behind_sequence {s = below} {inside} {behind} {inner = within} front g fits h)
+    (behind_sequence {sequences = below} {inside} {behind} {inner = within} front g fits h)
     (suc levels) deep =
     fault_behind tables (expand_within (suc levels) tables) (suc below) r used list behind
     (inner inside) (nodes_of within) f (sequence_opens tables list inside behind front)
@@ -378,7 +373,7 @@ first_fault_expands tables s r used list f
 first_fault_expands tables s r used list f (behind_replication front g fits h) zero deep =
     absurd (omega arith)
 first_fault_expands tables s r used list f
-    (behind_replication {r = below} {body} {behind} {inner = within} front g fits h)
+    (behind_replication {replications = below} {body} {behind} {inner = within} front g fits h)
     (suc levels) deep =
     let o = replication_opens tables list body behind front in
     let made = replication_fits (expand_within (suc levels) tables) s below used o.0 body
@@ -412,19 +407,19 @@ flat_found : (tables : Entries) (s r : ℕ) (list : List ℕ) (t : Tree) → Fla
     → FrontFound tables list
 unfolding FrontFound
 flat_found tables s r list t nothing = tt
-flat_found tables s r list t (element_first {d} {behind} f k g) =
+flat_found tables s r list t (element_first {fxy = d} {behind} f k g) =
     is_found tables d behind _ _ (an_element f k)
-flat_found tables s r list t (operator_first {d} {behind} f x g) =
+flat_found tables s r list t (operator_first {fxy = d} {behind} f x g) =
     is_found tables d behind _ _ (an_operator f x)
-flat_found tables s r list t (text_first {d} {behind} f x y g) =
+flat_found tables s r list t (text_first {fxy = d} {behind} f x y g) =
     is_found tables d behind _ _ (a_text f x y)
-flat_found tables s r list t (width_first {d} {local} {behind} f x y l k g) =
+flat_found tables s r list t (width_first {fxy = d} {local} {behind} f x y l k g) =
     is_found tables d (local ∷ behind) _ _ (a_width f x y l k)
-flat_found tables s r list t (sequence_first {d} {behind} f k i g) =
+flat_found tables s r list t (sequence_first {fxy = d} {behind} f k i g) =
     is_found tables d behind _ _ (a_sequence f k)
-flat_found tables s r list t (repeated_first {d} {body} {behind} f x y n i g) =
+flat_found tables s r list t (repeated_first {fxy = d} {body} {behind} f x y n i g) =
     is_found tables d (body ++ behind) _ _ (body_read tables d body behind f x y n)
-flat_found tables s r list t (delayed_first {d} {factor} {e} {body} {behind} f x y j k c n i g) =
+flat_found tables s r list t (delayed_first {fxy = d} {factor} {row = e} {body} {behind} f x y j k c n i g) =
     is_found tables d (factor ∷ body ++ behind) _ _
     (factor_read tables d factor e body behind f x y j k c n)
 

@@ -9,6 +9,7 @@ use Rattle.bufr_tables.specs.Answers.{◌>>=◌}
 use Rattle.bufr_tables.specs.Descriptors.{f_of, x_of, y_of}
 use Rattle.bufr_tables.specs.declared.element.Element.{Element}
 use Rattle.bufr_tables.specs.Entries.{Entries, element, sequence}
+use Rattle.bufr_tables.specs.AnswerLaws.{bind_ok}
 use Rattle.bufr_expand.specs.Limits.{most_nodes}
 use Rattle.bufr_expand.specs.declared.node.Node.{Node}
 use Rattle.bufr_expand.specs.declared.node.Node.TheVariants as nodes
@@ -29,12 +30,6 @@ use Rattle.bufr_expand.specs.Flat.{ExpandsToTrees, HasOneTree, HasEnoughLevels}
 use Rattle.bufr_expand.proofs.ExpansionFacts.{expand_list-skip, expand_list-found, onto_ok}
 use Rattle.bufr_expand.proofs.ReadingFacts.{IsRead, an_element, an_operator, a_text, a_width}
 use Rattle.bufr_expand.proofs.ReadingFacts.{a_sequence, a_repeated, a_delayed, reads, found_is}
-
--- what follows a successful answer
-pub bind_ok : {A B F : Type 0} (m : Result A F) (f : A → Result B F) (y : B) → (m >>= f) ≡ Ok y
-    → (x : A) × (m ≡ Ok x) × (f x ≡ Ok y)
-bind_ok (Ok x) f y e = (x, refl, e)
-bind_ok (Err g) f y e = absurd (cc)
 
 -- the nodes of one tree behind another
 nodes_of-followed_by : (a b : Tree) → nodes_of (followed_by a b) ≡ nodes_of a ++ nodes_of b
@@ -396,25 +391,25 @@ pub flat_expands : (tables : Entries) (s r : ℕ) (list : List ℕ) (t : Tree) �
     → expand_list tables (expand_within levels tables) s r 0 used list ≡ Ok (nodes_of t)
 unfolding expand_list nodes_of expand_within
 flat_expands tables s r list t nothing levels used deep fits = refl
-flat_expands tables s r list t (element_first {d} {e} {behind} {rest} f k g) levels used deep fits =
+flat_expands tables s r list t (element_first {fxy = d} {row = e} {behind} {rest} f k g) levels used deep fits =
     let node : Node = nodes.Element d e in
     expand_step tables (expand_within levels tables) s r used d behind (single node) 0 (node ∷ [])
     (nodes_of rest) (found_is tables d behind (single node) 0 (an_element f k))
     (single_fits used node (omega arith))
     (flat_expands tables s r behind rest g levels (used + 1) deep (omega arith))
-flat_expands tables s r list t (operator_first {d} {behind} {rest} f x g) levels used deep fits =
+flat_expands tables s r list t (operator_first {fxy = d} {behind} {rest} f x g) levels used deep fits =
     let node : Node = nodes.Operator d in
     expand_step tables (expand_within levels tables) s r used d behind (single node) 0 (node ∷ [])
     (nodes_of rest) (found_is tables d behind (single node) 0 (an_operator f x))
     (single_fits used node (omega arith))
     (flat_expands tables s r behind rest g levels (used + 1) deep (omega arith))
-flat_expands tables s r list t (text_first {d} {behind} {rest} f x y g) levels used deep fits =
+flat_expands tables s r list t (text_first {fxy = d} {behind} {rest} f x y g) levels used deep fits =
     let node : Node = nodes.Untouched d (text_of_characters (y_of d)) in
     expand_step tables (expand_within levels tables) s r used d behind (single node) 0 (node ∷ [])
     (nodes_of rest) (found_is tables d behind (single node) 0 (a_text f x y))
     (single_fits used node (omega arith))
     (flat_expands tables s r behind rest g levels (used + 1) deep (omega arith))
-flat_expands tables s r list t (width_first {d} {local} {e} {behind} {rest} f x y l k g) levels used
+flat_expands tables s r list t (width_first {fxy = d} {local} {row = e} {behind} {rest} f x y l k g) levels used
     deep fits =
     let node : Node = nodes.Untouched local e in
     expand_step tables (expand_within levels tables) s r used d (local ∷ behind) (single node) 1
@@ -422,7 +417,7 @@ flat_expands tables s r list t (width_first {d} {local} {e} {behind} {rest} f x 
     (a_width f x y l k)) (single_fits used node (omega arith))
     (flat_expands tables s r behind rest g levels (used + 1) deep (omega arith))
 flat_expands tables s r list t (sequence_first f k i g) zero used deep fits = absurd (omega arith)
-flat_expands tables s r list t (sequence_first {s = below} {d} {list = inside} {behind}
+flat_expands tables s r list t (sequence_first {sequences = below} {fxy = d} {list = inside} {behind}
     {inner = within} {rest} f k i g) (suc levels) used deep fits =
     let joined = nodes_of-followed_by within rest in
     let long : length (nodes_of (followed_by within rest))
@@ -438,7 +433,7 @@ flat_expands tables s r list t (sequence_first {s = below} {d} {list = inside} {
     ∙ ap Ok (sym joined)
 flat_expands tables s r list t (repeated_first f x y n i g) zero used deep fits =
     absurd (omega arith)
-flat_expands tables s r list t (repeated_first {r = below} {d} {body} {behind} {inner = within}
+flat_expands tables s r list t (repeated_first {replications = below} {fxy = d} {body} {behind} {inner = within}
     {rest} f x y n i g) (suc levels) used deep fits =
     let long = length-append (nodes_of within) (nodes_of rest) in
     let head : Repetitions = repetitions.Times (y_of d) in
@@ -455,7 +450,7 @@ flat_expands tables s r list t (repeated_first {r = below} {d} {body} {behind} {
     (body_read tables d body behind f x y n)) front (rw behind_it back)
 flat_expands tables s r list t (delayed_first f x y j k c n i g) zero used deep fits =
     absurd (omega arith)
-flat_expands tables s r list t (delayed_first {r = below} {d} {factor} {e} {body} {behind}
+flat_expands tables s r list t (delayed_first {replications = below} {fxy = d} {factor} {row = e} {body} {behind}
     {inner = within} {rest} f x y j k c n i g) (suc levels) used deep fits =
     let long = length-append (nodes_of within) (nodes_of rest) in
     let head : Repetitions = repetitions.Factor factor e in

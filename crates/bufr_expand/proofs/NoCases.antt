@@ -320,7 +320,7 @@ fault_found tables d (factor ∷ behind) fault (not_a_factor f x y i) =
     (false_from_ne_true (is_factor factor) (λ h. i (factor_is factor h)))
 fault_found tables d (factor ∷ behind) fault (factor_without_row f x y k) =
     delayed_is tables d factor behind f x y ∙ no_row tables d factor behind k
-fault_found tables d (factor ∷ behind) fault (factor_without_count {e} f x y k c) =
+fault_found tables d (factor ∷ behind) fault (factor_without_count {row = e} f x y k c) =
     delayed_is tables d factor behind f x y
     ∙ no_count tables d factor e behind k
     (false_from_ne_true (is_factor_row e) (λ h. c (count_is e h)))
@@ -331,7 +331,7 @@ fault_found tables d behind fault (too_few_left f y few) =
     ∙ cond-true (ltb (length behind) (x_of d)) (Err (BadReplication d))
     (found (replication (repetitions.Times (y_of d)) (take (x_of d) behind)) (x_of d))
     (lt-ltb (length behind) (x_of d) few)
-fault_found tables d (factor ∷ behind) fault (too_few_behind_factor {e} f y i k c few) =
+fault_found tables d (factor ∷ behind) fault (too_few_behind_factor {row = e} f y i k c few) =
     delayed_is tables d factor behind f (omega arith) y ∙ row_is tables d factor behind (Some e) i k
     ∙ few_left d factor e behind c few
 fault_found tables d behind fault (no_text f x y) =

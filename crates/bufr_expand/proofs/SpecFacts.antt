@@ -15,7 +15,7 @@ use Rattle.bufr_expand.specs.declared.operators.Spec.{Spec}
 use Rattle.bufr_expand.specs.Limits.{most_number_bits, most_text_bits, most_scale, most_reference}
 use Rattle.bufr_expand.specs.OperatorsInForce.{added, increase_of, widening, text_width, is_within}
 use Rattle.bufr_expand.specs.OperatorsInForce.{number_spec, text_spec, untouched, effective}
-use Rattle.bufr_expand.specs.Effects.{IsText, IsAsRow, AsInTable, text, number, Adds}
+use Rattle.bufr_expand.specs.Effects.{IsTextSpec, IsAsRow, AsInTable, text, number, Adds}
 use Rattle.bufr_expand.specs.Effects.{Increases, IsChanged, HasTextBits, Effective, of_text}
 use Rattle.bufr_expand.specs.Effects.{changed, unchanged}
 
@@ -113,7 +113,7 @@ number_only kind table scale reference width spec h =
 
 -- the tests of `text_spec`, as facts of the spec that it gives
 text_found : (width : ℕ) (spec : Spec) → text_spec width ≡ Some spec
-    → (spec.width ≡ width) × IsText spec
+    → (spec.width ≡ width) × IsTextSpec spec
 text_found w spec h =
     let p = if_some (nat_le 8 w && nat_le w most_text_bits && (w % 8 == 0))
     (record { kind = kinds.Text; scale = pos 0; reference = pos 0; width = w }) spec h in
@@ -134,7 +134,7 @@ text_found w spec h =
     )
 
 -- and back
-text_only : (width : ℕ) (spec : Spec) → spec.width ≡ width → IsText spec
+text_only : (width : ℕ) (spec : Spec) → spec.width ≡ width → IsTextSpec spec
     → text_spec width ≡ Some spec
 text_only width spec same h =
     let w = spec.width in
@@ -235,7 +235,7 @@ table_found kinds.Count s r w spec h = number (λ e. cc) (row_found kinds.Count 
 
 -- a text
 table_text : (k : Kind) (s r : ℤ) (w : ℕ) (spec : Spec) → k ≡ kinds.Text → spec.width ≡ w
-    → IsText spec
+    → IsTextSpec spec
     → untouched (row_of k s r w) ≡ Some spec
 table_text kinds.Text s r w spec e same h = text_only w spec same h
 table_text kinds.Code s r w spec e same h = cc
@@ -395,7 +395,7 @@ effective_found d e q spec h = found_by e.kind d e.scale e.reference e.width q s
 
 -- a text that meets them is given
 text_by : (k : Kind) (d : ℕ) (s r : ℤ) (w : ℕ) (q : Operators) (spec : Spec) → k ≡ kinds.Text
-    → spec.width ≡ text_width w q.characters → IsText spec
+    → spec.width ≡ text_width w q.characters → IsTextSpec spec
     → effective d (row_of k s r w) q ≡ Some spec
 text_by kinds.Text d s r w q spec e same h = text_only (text_width w q.characters) spec same h
 text_by kinds.Code d s r w q spec e same h = cc

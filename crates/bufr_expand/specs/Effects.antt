@@ -13,7 +13,7 @@ use Rattle.bufr_expand.specs.Limits.{most_number_bits, most_text_bits, most_scal
 -- ---- limits
 
 -- a text: whole octets, at least one and at most 8,191, with neither scale nor reference value
-pub record IsText (spec : Spec) : Type 0 where
+pub record IsTextSpec (spec : Spec) : Type 0 where
   pub is_text : spec.kind ≡ kinds.Text
   pub no_scale : spec.scale ≡ pos 0
   pub no_reference : spec.reference ≡ pos 0
@@ -41,7 +41,7 @@ pub record IsAsRow (row : Element) (spec : Spec) : Type 0 where
 
 -- a field that no operator changes is as its row says: a text has the row's bits
 pub data AsInTable (row : Element) (spec : Spec) : Type 0 where
-  text : row.kind ≡ kinds.Text → spec.width ≡ row.width → IsText spec → AsInTable row spec
+  text : row.kind ≡ kinds.Text → spec.width ≡ row.width → IsTextSpec spec → AsInTable row spec
   number : (row.kind ≡ kinds.Text → ⊥) → IsAsRow row spec → AsInTable row spec
 
 -- ---- a field under operators
@@ -83,8 +83,8 @@ HasTextBits (Some y) row bits = bits ≡ 8 * y
 -- the spec of an element: 208 sets the width of texts, and 201, 202 and 207 change quantities, but
 -- never those of class 31; any other number is as its row says
 pub data Effective (fxy : ℕ) (row : Element) (operators : Operators) (spec : Spec) : Type 0 where
-  of_text : row.kind ≡ kinds.Text → HasTextBits operators.characters row spec.width → IsText spec
-      → Effective fxy row operators spec
+  of_text : row.kind ≡ kinds.Text → HasTextBits operators.characters row spec.width
+      → IsTextSpec spec → Effective fxy row operators spec
   changed : row.kind ≡ kinds.Quantity → (x_of fxy ≡ 31 → ⊥) → IsChanged row operators spec
       → Effective fxy row operators spec
   unchanged : (row.kind ≡ kinds.Text → ⊥) → (row.kind ≡ kinds.Quantity → x_of fxy ≡ 31)
@@ -93,8 +93,8 @@ pub data Effective (fxy : ℕ) (row : Element) (operators : Operators) (spec : S
 
 -- ---- the specs that a template can ask for
 
--- a scale of at most 510 (127 in the table, 128 by 202 and 255 by 207) and a reference value of at
--- most 2 to the 62, above or below 0
+-- a scale of at most 510 (127 in the table, 127 by 202 and 255 by 207 are 509) and a reference
+-- value of at most 2 to the 62, above or below 0
 pub record IsInRange (spec : Spec) : Type 0 where
   pub scale_within : unsigned_abs spec.scale ≤ 510
   pub reference_within : unsigned_abs spec.reference ≤ most_reference
@@ -103,6 +103,6 @@ pub record IsInRange (spec : Spec) : Type 0 where
 -- bits
 pub record CanBeAsked (spec : Spec) : Type 0 where
   pub in_range : IsInRange spec
-  pub octets : spec.kind ≡ kinds.Text → IsText spec
+  pub octets : spec.kind ≡ kinds.Text → IsTextSpec spec
   pub some_bit : spec.kind ≢ kinds.Text → 1 ≤ spec.width
   pub few_bits : spec.kind ≢ kinds.Text → spec.width ≤ most_number_bits

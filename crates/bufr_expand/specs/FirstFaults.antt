@@ -24,160 +24,145 @@ use Rattle.bufr_expand.specs.Trees.{Tree, nodes_of}
 -- which of X1 to X7 this is
 pub data HasNoCase : Entries → ℕ → List ℕ → TemplateFault → Type 0 where
   -- X1: an element that Table B does not have
-  unknown_element : {tables : Entries} {d : ℕ} {behind : List ℕ} → f_of d ≡ 0
-      → element tables d ≡ None
-      → HasNoCase tables d behind (UnknownElement d)
+  unknown_element : {tables : Entries} {fxy : ℕ} {behind : List ℕ} → f_of fxy ≡ 0
+      → element tables fxy ≡ None → HasNoCase tables fxy behind (UnknownElement fxy)
   -- X2: a sequence that Table D does not have
-  unknown_sequence : {tables : Entries} {d : ℕ} {behind : List ℕ} → 3 ≤ f_of d
-      → sequence tables d ≡ None
-      → HasNoCase tables d behind (UnknownSequence d)
+  unknown_sequence : {tables : Entries} {fxy : ℕ} {behind : List ℕ} → 3 ≤ f_of fxy
+      → sequence tables fxy ≡ None → HasNoCase tables fxy behind (UnknownSequence fxy)
   -- X3: an operator other than 201, 202, 205, 206, 207 and 208
-  unsupported_operator : {tables : Entries} {d : ℕ} {behind : List ℕ} → f_of d ≡ 2
-      → (StaysInForce (x_of d) → ⊥) → x_of d ≢ 5 → x_of d ≢ 6
-      → HasNoCase tables d behind (UnsupportedOperator d)
+  unsupported_operator : {tables : Entries} {fxy : ℕ} {behind : List ℕ} → f_of fxy ≡ 2
+      → (StaysInForce (x_of fxy) → ⊥) → x_of fxy ≢ 5 → x_of fxy ≢ 6
+      → HasNoCase tables fxy behind (UnsupportedOperator fxy)
   -- X4: a replication of no descriptor
-  replicates_none : {tables : Entries} {d : ℕ} {behind : List ℕ} → f_of d ≡ 1 → x_of d ≡ 0
-      → HasNoCase tables d behind (BadReplication d)
+  replicates_none : {tables : Entries} {fxy : ℕ} {behind : List ℕ} → f_of fxy ≡ 1 → x_of fxy ≡ 0
+      → HasNoCase tables fxy behind (BadReplication fxy)
   -- X4: a replication by a factor, behind which nothing follows
-  without_factor : {tables : Entries} {d : ℕ} → f_of d ≡ 1 → y_of d ≡ 0
-      → HasNoCase tables d [] (BadReplication d)
+  without_factor : {tables : Entries} {fxy : ℕ} → f_of fxy ≡ 1 → y_of fxy ≡ 0
+      → HasNoCase tables fxy [] (BadReplication fxy)
   -- X5: by a descriptor that is not a factor
-  not_a_factor : {tables : Entries} {d factor : ℕ} {behind : List ℕ} → f_of d ≡ 1 → 0 < x_of d
-      → y_of d ≡ 0
-      → (IsFactor factor → ⊥)
-      → HasNoCase tables d (factor ∷ behind) (BadFactor factor)
+  not_a_factor : {tables : Entries} {fxy factor : ℕ} {behind : List ℕ} → f_of fxy ≡ 1 → 0 < x_of fxy
+      → y_of fxy ≡ 0 → (IsFactor factor → ⊥)
+      → HasNoCase tables fxy (factor ∷ behind) (BadFactor factor)
   -- X5: by a factor that Table B does not have
-  factor_without_row : {tables : Entries} {d factor : ℕ} {behind : List ℕ} → f_of d ≡ 1 → 0 < x_of d
-      → y_of d ≡ 0
-      → element tables factor ≡ None
-      → HasNoCase tables d (factor ∷ behind) (BadFactor factor)
+  factor_without_row : {tables : Entries} {fxy factor : ℕ} {behind : List ℕ} → f_of fxy ≡ 1
+      → 0 < x_of fxy → y_of fxy ≡ 0 → element tables factor ≡ None
+      → HasNoCase tables fxy (factor ∷ behind) (BadFactor factor)
   -- X5: by a factor whose row in Table B does not give a count
-  factor_without_count : {tables : Entries} {d factor : ℕ} {e : Element} {behind : List ℕ}
-      → f_of d ≡ 1 → 0 < x_of d → y_of d ≡ 0
-      → element tables factor ≡ Some e → (IsCountRow e → ⊥)
-      → HasNoCase tables d (factor ∷ behind) (BadFactor factor)
+  factor_without_count : {tables : Entries} {fxy factor : ℕ} {row : Element} {behind : List ℕ}
+      → f_of fxy ≡ 1 → 0 < x_of fxy → y_of fxy ≡ 0 → element tables factor ≡ Some row
+      → (IsCountRow row → ⊥) → HasNoCase tables fxy (factor ∷ behind) (BadFactor factor)
   -- X4: a replication of more descriptors than are left in the list
-  too_few_left : {tables : Entries} {d : ℕ} {behind : List ℕ} → f_of d ≡ 1 → 0 < y_of d
-      → length behind < x_of d
-      → HasNoCase tables d behind (BadReplication d)
+  too_few_left : {tables : Entries} {fxy : ℕ} {behind : List ℕ} → f_of fxy ≡ 1 → 0 < y_of fxy
+      → length behind < x_of fxy → HasNoCase tables fxy behind (BadReplication fxy)
   -- X4: of more than are left behind the factor
-  too_few_behind_factor : {tables : Entries} {d factor : ℕ} {e : Element} {behind : List ℕ}
-      → f_of d ≡ 1 → y_of d ≡ 0
-      → IsFactor factor → element tables factor ≡ Some e → IsCountRow e
-      → length behind < x_of d
-      → HasNoCase tables d (factor ∷ behind) (BadReplication d)
-  -- X6: 205000
-  no_text : {tables : Entries} {d : ℕ} {behind : List ℕ} → f_of d ≡ 2 → x_of d ≡ 5 → y_of d ≡ 0
-      → HasNoCase tables d behind (BadOperand d)
-  -- X6: 206000
-  no_width : {tables : Entries} {d : ℕ} {behind : List ℕ} → f_of d ≡ 2 → x_of d ≡ 6 → y_of d ≡ 0
-      → HasNoCase tables d behind (BadOperand d)
+  too_few_behind_factor : {tables : Entries} {fxy factor : ℕ} {row : Element} {behind : List ℕ}
+      → f_of fxy ≡ 1 → y_of fxy ≡ 0 → IsFactor factor → element tables factor ≡ Some row
+      → IsCountRow row → length behind < x_of fxy
+      → HasNoCase tables fxy (factor ∷ behind) (BadReplication fxy)
+  -- X6: "signify character" (205) with Y = 0
+  no_text : {tables : Entries} {fxy : ℕ} {behind : List ℕ} → f_of fxy ≡ 2 → x_of fxy ≡ 5
+      → y_of fxy ≡ 0 → HasNoCase tables fxy behind (BadOperand fxy)
+  -- X6: "signify data width for the immediately following local descriptor" (206) with Y = 0
+  no_width : {tables : Entries} {fxy : ℕ} {behind : List ℕ} → f_of fxy ≡ 2 → x_of fxy ≡ 6
+      → y_of fxy ≡ 0 → HasNoCase tables fxy behind (BadOperand fxy)
   -- X7: 206 with nothing behind it
-  width_of_nothing : {tables : Entries} {d : ℕ} → f_of d ≡ 2 → x_of d ≡ 6 → 0 < y_of d
-      → HasNoCase tables d [] (Dangling206 d)
+  width_of_nothing : {tables : Entries} {fxy : ℕ} → f_of fxy ≡ 2 → x_of fxy ≡ 6 → 0 < y_of fxy
+      → HasNoCase tables fxy [] (Dangling206 fxy)
   -- X7: 206 with another descriptor than an element behind it
-  width_of_no_element : {tables : Entries} {d local : ℕ} {behind : List ℕ} → f_of d ≡ 2 → x_of d ≡ 6
-      → 0 < y_of d
-      → f_of local ≢ 0
-      → HasNoCase tables d (local ∷ behind) (Dangling206 d)
+  width_of_no_element : {tables : Entries} {fxy local : ℕ} {behind : List ℕ} → f_of fxy ≡ 2
+      → x_of fxy ≡ 6 → 0 < y_of fxy → f_of local ≢ 0
+      → HasNoCase tables fxy (local ∷ behind) (Dangling206 fxy)
   -- X6: 206 with more than 63 bits before an element that Table B does not have with this width
-  too_wide : {tables : Entries} {d local : ℕ} {behind : List ℕ} → f_of d ≡ 2 → x_of d ≡ 6
-      → most_number_bits < y_of d
-      → f_of local ≡ 0 → ((e : Element) → element tables local ≡ Some e → e.width ≢ y_of d)
-      → HasNoCase tables d (local ∷ behind) (BadOperand d)
+  too_wide : {tables : Entries} {fxy local : ℕ} {behind : List ℕ} → f_of fxy ≡ 2 → x_of fxy ≡ 6
+      → most_number_bits < y_of fxy → f_of local ≡ 0
+      → ((row : Element) → element tables local ≡ Some row → row.width ≢ y_of fxy)
+      → HasNoCase tables fxy (local ∷ behind) (BadOperand fxy)
 
 -- ---- what a list begins with, and the list behind it
 
 -- a node without a body: an element, an operator that stays in force, 205, or 206 with its element
 pub data NodeFirst : Entries → List ℕ → List ℕ → Type 0 where
-  element_node : {tables : Entries} {d : ℕ} {e : Element} {behind : List ℕ} → f_of d ≡ 0
-      → element tables d ≡ Some e
-      → NodeFirst tables (d ∷ behind) behind
-  operator_node : {tables : Entries} {d : ℕ} {behind : List ℕ} → f_of d ≡ 2 → StaysInForce (x_of d)
-      → NodeFirst tables (d ∷ behind) behind
-  text_node : {tables : Entries} {d : ℕ} {behind : List ℕ} → f_of d ≡ 2 → x_of d ≡ 5 → 0 < y_of d
-      → NodeFirst tables (d ∷ behind) behind
-  width_node : {tables : Entries} {d local : ℕ} {e : Element} {behind : List ℕ} → f_of d ≡ 2
-      → x_of d ≡ 6 → 0 < y_of d
-      → f_of local ≡ 0 → ReadAt tables local (y_of d) e
-      → NodeFirst tables (d ∷ local ∷ behind) behind
+  element_node : {tables : Entries} {fxy : ℕ} {row : Element} {behind : List ℕ} → f_of fxy ≡ 0
+      → element tables fxy ≡ Some row → NodeFirst tables (fxy ∷ behind) behind
+  operator_node : {tables : Entries} {fxy : ℕ} {behind : List ℕ} → f_of fxy ≡ 2
+      → StaysInForce (x_of fxy) → NodeFirst tables (fxy ∷ behind) behind
+  text_node : {tables : Entries} {fxy : ℕ} {behind : List ℕ} → f_of fxy ≡ 2 → x_of fxy ≡ 5
+      → 0 < y_of fxy → NodeFirst tables (fxy ∷ behind) behind
+  width_node : {tables : Entries} {fxy local : ℕ} {row : Element} {behind : List ℕ} → f_of fxy ≡ 2
+      → x_of fxy ≡ 6 → 0 < y_of fxy → f_of local ≡ 0 → ReadAt tables local (y_of fxy) row
+      → NodeFirst tables (fxy ∷ local ∷ behind) behind
 
 -- a sequence, and its list in Table D
 pub data SequenceFirst : Entries → List ℕ → List ℕ → List ℕ → Type 0 where
-  sequence_list : {tables : Entries} {d : ℕ} {list behind : List ℕ} → 3 ≤ f_of d
-      → sequence tables d ≡ Some list
-      → SequenceFirst tables (d ∷ behind) list behind
+  sequence_list : {tables : Entries} {fxy : ℕ} {list behind : List ℕ} → 3 ≤ f_of fxy
+      → sequence tables fxy ≡ Some list → SequenceFirst tables (fxy ∷ behind) list behind
 
 -- a replication, and its body: the next X descriptors, behind the factor where Y = 0
 pub data ReplicationFirst : Entries → List ℕ → List ℕ → List ℕ → Type 0 where
-  repeated_body : {tables : Entries} {d : ℕ} {body behind : List ℕ} → f_of d ≡ 1 → 0 < x_of d
-      → 0 < y_of d
-      → length body ≡ x_of d
-      → ReplicationFirst tables (d ∷ body ++ behind) body behind
-  delayed_body : {tables : Entries} {d factor : ℕ} {e : Element} {body behind : List ℕ} → f_of d ≡ 1
-      → 0 < x_of d → y_of d ≡ 0
-      → IsFactor factor → element tables factor ≡ Some e → IsCountRow e
-      → length body ≡ x_of d
-      → ReplicationFirst tables (d ∷ factor ∷ body ++ behind) body behind
+  repeated_body : {tables : Entries} {fxy : ℕ} {body behind : List ℕ} → f_of fxy ≡ 1 → 0 < x_of fxy
+      → 0 < y_of fxy → length body ≡ x_of fxy
+      → ReplicationFirst tables (fxy ∷ body ++ behind) body behind
+  delayed_body : {tables : Entries} {fxy factor : ℕ} {row : Element} {body behind : List ℕ}
+      → f_of fxy ≡ 1 → 0 < x_of fxy → y_of fxy ≡ 0 → IsFactor factor
+      → element tables factor ≡ Some row → IsCountRow row → length body ≡ x_of fxy
+      → ReplicationFirst tables (fxy ∷ factor ∷ body ++ behind) body behind
 
 -- ---- the first fault
 
 -- a list has a first fault, where so many sequences and so many replications may still stand in
 -- each other, and there are so many nodes by then
-pub data FirstFault : Entries → ℕ → ℕ → ℕ → List ℕ → TemplateFault → Type 0 where
+pub data FirstFault : (tables : Entries) (sequences replications used : ℕ) (list : List ℕ)
+    (fault : TemplateFault) → Type 0 where
   -- X1 to X7 at its first descriptor
-  no_case : {tables : Entries} {s r used d : ℕ} {behind : List ℕ} {fault : TemplateFault}
-      → HasNoCase tables d behind fault
-      → FirstFault tables s r used (d ∷ behind) fault
+  no_case : {tables : Entries} {sequences replications used fxy : ℕ} {behind : List ℕ}
+      {fault : TemplateFault} → HasNoCase tables fxy behind fault
+      → FirstFault tables sequences replications used (fxy ∷ behind) fault
   -- X8: a sequence where no more may stand in each other
-  sequence_too_deep : {tables : Entries} {r used : ℕ} {list inside behind : List ℕ}
+  sequence_too_deep : {tables : Entries} {replications used : ℕ} {list inside behind : List ℕ}
       → SequenceFirst tables list inside behind
-      → FirstFault tables zero r used list TooDeep
+      → FirstFault tables zero replications used list TooDeep
   -- X8: a replication where no more may
-  replication_too_deep : {tables : Entries} {s used : ℕ} {list body behind : List ℕ}
+  replication_too_deep : {tables : Entries} {sequences used : ℕ} {list body behind : List ℕ}
       → ReplicationFirst tables list body behind
-      → FirstFault tables s zero used list TooDeep
+      → FirstFault tables sequences zero used list TooDeep
   -- X9: a node where there are as many as there may be
-  node_too_many : {tables : Entries} {s r used : ℕ} {list behind : List ℕ}
-      → NodeFirst tables list behind
-      → most_nodes ≤ used
-      → FirstFault tables s r used list TooManyNodes
+  node_too_many : {tables : Entries} {sequences replications used : ℕ} {list behind : List ℕ}
+      → NodeFirst tables list behind → most_nodes ≤ used
+      → FirstFault tables sequences replications used list TooManyNodes
   -- X9: the node of a replication
-  replication_too_many : {tables : Entries} {s r used : ℕ} {list body behind : List ℕ}
-      → ReplicationFirst tables list body behind
-      → most_nodes ≤ used
-      → FirstFault tables s (suc r) used list TooManyNodes
+  replication_too_many : {tables : Entries} {sequences replications used : ℕ}
+      {list body behind : List ℕ} → ReplicationFirst tables list body behind → most_nodes ≤ used
+      → FirstFault tables sequences (suc replications) used list TooManyNodes
   -- the first fault of a sequence's list
-  in_sequence : {tables : Entries} {s r used : ℕ} {list inside behind : List ℕ}
-      {fault : TemplateFault}
-      → SequenceFirst tables list inside behind
-      → FirstFault tables s r used inside fault
-      → FirstFault tables (suc s) r used list fault
+  in_sequence : {tables : Entries} {sequences replications used : ℕ} {list inside behind : List ℕ}
+      {fault : TemplateFault} → SequenceFirst tables list inside behind
+      → FirstFault tables sequences replications used inside fault
+      → FirstFault tables (suc sequences) replications used list fault
   -- that of a replication's body, before which stands the node of the replication
-  in_replication : {tables : Entries} {s r used : ℕ} {list body behind : List ℕ}
-      {fault : TemplateFault}
-      → ReplicationFirst tables list body behind → used < most_nodes
-      → FirstFault tables s r (used + 1) body fault
-      → FirstFault tables s (suc r) used list fault
+  in_replication : {tables : Entries} {sequences replications used : ℕ} {list body behind : List ℕ}
+      {fault : TemplateFault} → ReplicationFirst tables list body behind → used < most_nodes
+      → FirstFault tables sequences replications (used + 1) body fault
+      → FirstFault tables sequences (suc replications) used list fault
   -- that of the list behind a node
-  behind_node : {tables : Entries} {s r used : ℕ} {list behind : List ℕ} {fault : TemplateFault}
-      → NodeFirst tables list behind → used < most_nodes
-      → FirstFault tables s r (used + 1) behind fault
-      → FirstFault tables s r used list fault
+  behind_node : {tables : Entries} {sequences replications used : ℕ} {list behind : List ℕ}
+      {fault : TemplateFault} → NodeFirst tables list behind → used < most_nodes
+      → FirstFault tables sequences replications (used + 1) behind fault
+      → FirstFault tables sequences replications used list fault
   -- that of the list behind a sequence, whose own list has a tree
-  behind_sequence : {tables : Entries} {s r used : ℕ} {list inside behind : List ℕ} {inner : Tree}
-      {fault : TemplateFault}
-      → SequenceFirst tables list inside behind → Flat tables s r inside inner
+  behind_sequence : {tables : Entries} {sequences replications used : ℕ}
+      {list inside behind : List ℕ} {inner : Tree} {fault : TemplateFault}
+      → SequenceFirst tables list inside behind → Flat tables sequences replications inside inner
       → used + length (nodes_of inner) ≤ most_nodes
-      → FirstFault tables (suc s) r (used + length (nodes_of inner)) behind fault
-      → FirstFault tables (suc s) r used list fault
+      → FirstFault tables (suc sequences) replications (used + length (nodes_of inner)) behind fault
+      → FirstFault tables (suc sequences) replications used list fault
   -- that of the list behind a replication, whose body has a tree
-  behind_replication : {tables : Entries} {s r used : ℕ} {list body behind : List ℕ} {inner : Tree}
-      {fault : TemplateFault}
-      → ReplicationFirst tables list body behind → Flat tables s r body inner
+  behind_replication : {tables : Entries} {sequences replications used : ℕ}
+      {list body behind : List ℕ} {inner : Tree} {fault : TemplateFault}
+      → ReplicationFirst tables list body behind → Flat tables sequences replications body inner
       → used + 1 + length (nodes_of inner) ≤ most_nodes
-      → FirstFault tables s (suc r) (used + 1 + length (nodes_of inner)) behind fault
-      → FirstFault tables s (suc r) used list fault
+      → FirstFault tables sequences (suc replications) (used + 1 + length (nodes_of inner))
+      behind fault
+      → FirstFault tables sequences (suc replications) used list fault
 
 -- the first fault of a template's list: sequences may stand in each other 16 deep, and so may
 -- replications, and there is no node by then

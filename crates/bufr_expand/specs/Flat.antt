@@ -15,79 +15,87 @@ use Rattle.bufr_expand.specs.Trees.{Tree, nodes_of, tree_of}
 
 -- a tree, and behind it another
 unfoldable pub followed_by : Tree → Tree → Tree
-followed_by trees.done t = t
-followed_by (trees.element d e rest) t = trees.element d e (followed_by rest t)
-followed_by (trees.untouched d e rest) t = trees.untouched d e (followed_by rest t)
-followed_by (trees.operator d rest) t = trees.operator d (followed_by rest t)
-followed_by (trees.repeated times body rest) t = trees.repeated times body (followed_by rest t)
-followed_by (trees.delayed d e body rest) t = trees.delayed d e body (followed_by rest t)
+followed_by trees.done next = next
+followed_by (trees.element fxy row rest) next = trees.element fxy row (followed_by rest next)
+followed_by (trees.untouched fxy row rest) next = trees.untouched fxy row (followed_by rest next)
+followed_by (trees.operator fxy rest) next = trees.operator fxy (followed_by rest next)
+followed_by (trees.repeated times body rest) next =
+    trees.repeated times body (followed_by rest next)
+followed_by (trees.delayed fxy row body rest) next =
+    trees.delayed fxy row body (followed_by rest next)
 
--- an operator that stays in force: 201, 202, 207 or 208
+-- an operator that stays in force: 201 "change data width", 202 "change scale", 207 "increase
+-- scale, reference value and data width" or 208 "change width of CCITT IA5 field"
 abbrev pub StaysInForce : ℕ → Type 0
 StaysInForce x = (x ≡ 1) ⊎ (x ≡ 2) ⊎ (x ≡ 7) ⊎ (x ≡ 8)
 
 -- a delayed replication factor: 031000, 031001 or 031002
 abbrev pub IsFactor : ℕ → Type 0
-IsFactor d = (descriptor 0 31 0 ≤ d) × (d ≤ descriptor 0 31 2)
+IsFactor fxy = (descriptor 0 31 0 ≤ fxy) × (fxy ≤ descriptor 0 31 2)
 
 -- a row of Table B by which a factor can be read: a number of 1 to 16 bits with neither scale nor
 -- reference value
 abbrev pub IsCountRow : Element → Type 0
-IsCountRow e = (e.kind ≢ kinds.Text) × (e.scale ≡ pos 0) × (e.reference ≡ pos 0) × (1 ≤ e.width)
-    × (e.width ≤ most_factor_bits)
+IsCountRow row = (row.kind ≢ kinds.Text) × (row.scale ≡ pos 0) × (row.reference ≡ pos 0)
+    × (1 ≤ row.width) × (row.width ≤ most_factor_bits)
 
 -- how an element of so many bits is read behind 206: by its row of Table B where that has this
 -- width, else as a plain number of at most 63 bits
 pub data ReadAt : Entries → ℕ → ℕ → Element → Type 0 where
-  by_row : {tables : Entries} {d y : ℕ} {e : Element} → element tables d ≡ Some e → e.width ≡ y
-      → ReadAt tables d y e
-  as_number : {tables : Entries} {d y : ℕ}
-      → ((e : Element) → element tables d ≡ Some e → e.width ≢ y) → y ≤ most_number_bits
-      → ReadAt tables d y (plain_number y)
+  by_row : {tables : Entries} {fxy y : ℕ} {row : Element} → element tables fxy ≡ Some row
+      → row.width ≡ y → ReadAt tables fxy y row
+  as_number : {tables : Entries} {fxy y : ℕ}
+      → ((row : Element) → element tables fxy ≡ Some row → row.width ≢ y) → y ≤ most_number_bits
+      → ReadAt tables fxy y (plain_number y)
 
 -- a list has a tree, where so many sequences and so many replications may still stand in each other
-pub data Flat : Entries → ℕ → ℕ → List ℕ → Tree → Type 0 where
+pub data Flat : (tables : Entries) (sequences replications : ℕ) (list : List ℕ) (tree : Tree)
+    → Type 0 where
   -- the empty list has the empty tree
-  nothing : {tables : Entries} {s r : ℕ} → Flat tables s r [] trees.done
+  nothing : {tables : Entries} {sequences replications : ℕ}
+      → Flat tables sequences replications [] trees.done
   -- an element of Table B is one node, and then comes the tree of the rest
-  element_first : {tables : Entries} {s r d : ℕ} {e : Element} {behind : List ℕ} {rest : Tree}
-      → f_of d ≡ 0 → element tables d ≡ Some e
-      → Flat tables s r behind rest → Flat tables s r (d ∷ behind) (trees.element d e rest)
+  element_first : {tables : Entries} {sequences replications fxy : ℕ} {row : Element}
+      {behind : List ℕ} {rest : Tree} → f_of fxy ≡ 0 → element tables fxy ≡ Some row
+      → Flat tables sequences replications behind rest
+      → Flat tables sequences replications (fxy ∷ behind) (trees.element fxy row rest)
   -- so is an operator that stays in force
-  operator_first : {tables : Entries} {s r d : ℕ} {behind : List ℕ} {rest : Tree} → f_of d ≡ 2
-      → StaysInForce (x_of d)
-      → Flat tables s r behind rest → Flat tables s r (d ∷ behind) (trees.operator d rest)
+  operator_first : {tables : Entries} {sequences replications fxy : ℕ} {behind : List ℕ}
+      {rest : Tree} → f_of fxy ≡ 2 → StaysInForce (x_of fxy)
+      → Flat tables sequences replications behind rest
+      → Flat tables sequences replications (fxy ∷ behind) (trees.operator fxy rest)
   -- and "signify character" (205), Y characters
-  text_first : {tables : Entries} {s r d : ℕ} {behind : List ℕ} {rest : Tree} → f_of d ≡ 2
-      → x_of d ≡ 5 → 0 < y_of d
-      → Flat tables s r behind rest → Flat tables s r (d ∷ behind)
-      (trees.untouched d (text_of_characters (y_of d)) rest)
+  text_first : {tables : Entries} {sequences replications fxy : ℕ} {behind : List ℕ} {rest : Tree}
+      → f_of fxy ≡ 2 → x_of fxy ≡ 5 → 0 < y_of fxy → Flat tables sequences replications behind rest
+      → Flat tables sequences replications (fxy ∷ behind)
+      (trees.untouched fxy (text_of_characters (y_of fxy)) rest)
   -- "signify data width for the immediately following local descriptor" (206) and the element
   -- behind it are one node
-  width_first : {tables : Entries} {s r d local : ℕ} {e : Element} {behind : List ℕ} {rest : Tree}
-      → f_of d ≡ 2 → x_of d ≡ 6 → 0 < y_of d
-      → f_of local ≡ 0 → ReadAt tables local (y_of d) e
-      → Flat tables s r behind rest → Flat tables s r (d ∷ local ∷ behind)
-      (trees.untouched local e rest)
+  width_first : {tables : Entries} {sequences replications fxy local : ℕ} {row : Element}
+      {behind : List ℕ} {rest : Tree} → f_of fxy ≡ 2 → x_of fxy ≡ 6 → 0 < y_of fxy → f_of local ≡ 0
+      → ReadAt tables local (y_of fxy) row → Flat tables sequences replications behind rest
+      → Flat tables sequences replications (fxy ∷ local ∷ behind) (trees.untouched local row rest)
   -- a sequence gives the tree of its list in Table D, and then that of the rest
-  sequence_first : {tables : Entries} {s r d : ℕ} {list behind : List ℕ} {inner rest : Tree}
-      → 3 ≤ f_of d → sequence tables d ≡ Some list
-      → Flat tables s r list inner
-      → Flat tables (suc s) r behind rest
-      → Flat tables (suc s) r (d ∷ behind) (followed_by inner rest)
+  sequence_first : {tables : Entries} {sequences replications fxy : ℕ} {list behind : List ℕ}
+      {inner rest : Tree} → 3 ≤ f_of fxy → sequence tables fxy ≡ Some list
+      → Flat tables sequences replications list inner
+      → Flat tables (suc sequences) replications behind rest
+      → Flat tables (suc sequences) replications (fxy ∷ behind) (followed_by inner rest)
   -- a replication is one node, whose body is the tree of the next X descriptors
-  repeated_first : {tables : Entries} {s r d : ℕ} {body behind : List ℕ} {inner rest : Tree}
-      → f_of d ≡ 1 → 0 < x_of d → 0 < y_of d
-      → length body ≡ x_of d → Flat tables s r body inner
-      → Flat tables s (suc r) behind rest
-      → Flat tables s (suc r) (d ∷ body ++ behind) (trees.repeated (y_of d) inner rest)
+  repeated_first : {tables : Entries} {sequences replications fxy : ℕ} {body behind : List ℕ}
+      {inner rest : Tree} → f_of fxy ≡ 1 → 0 < x_of fxy → 0 < y_of fxy → length body ≡ x_of fxy
+      → Flat tables sequences replications body inner
+      → Flat tables sequences (suc replications) behind rest
+      → Flat tables sequences (suc replications) (fxy ∷ body ++ behind)
+      (trees.repeated (y_of fxy) inner rest)
   -- behind the factor where Y = 0
-  delayed_first : {tables : Entries} {s r d factor : ℕ} {e : Element} {body behind : List ℕ}
-      {inner rest : Tree} → f_of d ≡ 1 → 0 < x_of d → y_of d ≡ 0
-      → IsFactor factor → element tables factor ≡ Some e → IsCountRow e
-      → length body ≡ x_of d → Flat tables s r body inner
-      → Flat tables s (suc r) behind rest
-      → Flat tables s (suc r) (d ∷ factor ∷ body ++ behind) (trees.delayed factor e inner rest)
+  delayed_first : {tables : Entries} {sequences replications fxy factor : ℕ} {row : Element}
+      {body behind : List ℕ} {inner rest : Tree} → f_of fxy ≡ 1 → 0 < x_of fxy → y_of fxy ≡ 0
+      → IsFactor factor → element tables factor ≡ Some row → IsCountRow row → length body ≡ x_of fxy
+      → Flat tables sequences replications body inner
+      → Flat tables sequences (suc replications) behind rest
+      → Flat tables sequences (suc replications) (fxy ∷ factor ∷ body ++ behind)
+      (trees.delayed factor row inner rest)
 
 -- a tree that a template can be: sequences stand in each other at most 16 deep, and so do
 -- replications, and the nodes are at most 65,536

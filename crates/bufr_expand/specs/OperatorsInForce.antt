@@ -17,21 +17,22 @@ none_in_force = record { add_width = None; add_scale = None; increase = None; ch
 abbrev pub operand : ℕ → Option ℕ
 operand y = if y == 0 then None else Some y
 
--- the operators in force after one more, by its X
+-- the operators in force after one more, by its X: 201 "change data width", 202 "change scale", 207
+-- "increase scale, reference value and data width", 208 "change width of CCITT IA5 field"
 abbrev pub in_force_after : Operators → ℕ → Operators
-in_force_after q d =
-    if x_of d == 1 then record q { add_width = operand (y_of d) }
-    else if x_of d == 2 then record q { add_scale = operand (y_of d) }
-    else if x_of d == 7 then record q { increase = operand (y_of d) }
-    else record q { characters = operand (y_of d) }
+in_force_after before fxy =
+    if x_of fxy == 1 then record before { add_width = operand (y_of fxy) }
+    else if x_of fxy == 2 then record before { add_scale = operand (y_of fxy) }
+    else if x_of fxy == 7 then record before { increase = operand (y_of fxy) }
+    else record before { characters = operand (y_of fxy) }
 
 -- what 201 and 202 add
 abbrev pub added : Option ℕ → ℤ
 added None = pos 0
 added (Some y) = pos y -ℤ pos 128
 
--- what 207 adds to the scale, what it multiplies the reference value by, and what it adds to the
--- width
+-- Y of the 207 that is in force, and 0 where none is: what the scale gains, and the power of ten by
+-- which the reference value is multiplied
 abbrev pub increase_of : Option ℕ → ℕ
 increase_of None = 0
 increase_of (Some y) = y
@@ -48,16 +49,18 @@ is_within limit (negsuc n) = nat_lt n limit
 
 -- a spec within the limits: numbers have 1 to 63 bits, texts whole octets up to 65,528 bits
 abbrev pub number_spec : Kind → ℤ → ℤ → ℤ → Option Spec
-number_spec kind scale reference (negsuc w) = None
-number_spec kind scale reference (pos w) =
-    if nat_le 1 w && nat_le w most_number_bits && is_within most_reference reference
-    then Some (record { kind = kind; scale = scale; reference = reference; width = w }) else None
+number_spec kind scale reference (negsuc width) = None
+number_spec kind scale reference (pos width) =
+    if nat_le 1 width && nat_le width most_number_bits && is_within most_reference reference
+    then Some (record { kind = kind; scale = scale; reference = reference; width = width })
+    else None
 
 -- a text
 abbrev pub text_spec : ℕ → Option Spec
-text_spec w =
-    if nat_le 8 w && nat_le w most_text_bits && (w % 8 == 0)
-    then Some (record { kind = kinds.Text; scale = pos 0; reference = pos 0; width = w }) else None
+text_spec width =
+    if nat_le 8 width && nat_le width most_text_bits && (width % 8 == 0)
+    then Some (record { kind = kinds.Text; scale = pos 0; reference = pos 0; width = width })
+    else None
 
 -- 208 gives a text Y octets
 abbrev pub text_width : ℕ → Option ℕ → ℕ
@@ -66,34 +69,36 @@ text_width width (Some y) = 8 * y
 
 -- the spec of an element that no operator changes, where it is within the limits
 abbrev pub untouched_by : Kind → Element → Option Spec
-untouched_by kinds.Text e = text_spec e.width
-untouched_by kind e =
-    if is_within most_scale e.scale
-    then number_spec kind e.scale e.reference (pos e.width) else None
+untouched_by kinds.Text row = text_spec row.width
+untouched_by kind row =
+    if is_within most_scale row.scale
+    then number_spec kind row.scale row.reference (pos row.width) else None
 
 -- of any kind
 abbrev pub untouched : Element → Option Spec
-untouched e = untouched_by e.kind e
+untouched row = untouched_by row.kind row
 
 -- the spec of a quantity: what is in force adds up
 abbrev pub quantity : Element → Operators → Option Spec
-quantity e q =
-    if is_within most_scale e.scale
-    then number_spec kinds.Quantity (e.scale +ℤ added q.add_scale +ℤ pos (increase_of q.increase))
-    (e.reference *ℤ pos (10 ^ increase_of q.increase))
-    (pos e.width +ℤ added q.add_width +ℤ pos (widening q.increase))
+quantity row operators =
+    if is_within most_scale row.scale
+    then number_spec kinds.Quantity
+    (row.scale +ℤ added operators.add_scale +ℤ pos (increase_of operators.increase))
+    (row.reference *ℤ pos (10 ^ increase_of operators.increase))
+    (pos row.width +ℤ added operators.add_width +ℤ pos (widening operators.increase))
     else None
 
 -- of a kind: 208 on texts, the others on quantities outside class 31
 abbrev pub effective_by : Kind → ℕ → Element → Operators → Option Spec
-effective_by kinds.Text d e q = text_spec (text_width e.width q.characters)
-effective_by kinds.Quantity d e q = if x_of d == 31 then untouched e else quantity e q
-effective_by kind d e q = untouched e
+effective_by kinds.Text fxy row operators = text_spec (text_width row.width operators.characters)
+effective_by kinds.Quantity fxy row operators =
+    if x_of fxy == 31 then untouched row else quantity row operators
+effective_by kind fxy row operators = untouched row
 
 -- the spec of an element under the operators in force, where it is within the limits
 abbrev pub effective : ℕ → Element → Operators → Option Spec
-effective d e q = effective_by e.kind d e q
+effective fxy row operators = effective_by row.kind fxy row operators
 
 -- a factor is a count: its raw value is never missing
 abbrev pub factor_spec : Element → Spec
-factor_spec e = record { kind = kinds.Count; scale = pos 0; reference = pos 0; width = e.width }
+factor_spec row = record { kind = kinds.Count; scale = pos 0; reference = pos 0; width = row.width }

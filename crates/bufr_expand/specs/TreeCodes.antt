@@ -1,4 +1,5 @@
--- A tree is told by its nodes in depth-first order.
+-- A tree is told by its nodes in depth-first order: for what contracts see of a `Template`, and the
+-- law `templates_are_trees`.
 use Rattle.std.proofs.Common.{◌≡◌, ℕ, zero, suc, ◌≤◌, List, length, refl, ap, arith, length-append}
 use Rattle.std.proofs.lemmas.List.{take_at, drop_at}
 use Rattle.std.specs.Coded.{Coded, code_by, coded_list}

@@ -71,12 +71,13 @@ impl Operators {
         let spec = match element.kind {
             Kind::Text => text_spec(self.text_width(element.width)),
             Kind::Quantity if fxy.x() != 31 => self.quantity(element),
-            Kind::Code | Kind::Flag | Kind::Quantity | Kind::Count => unchanged(element),
+            Kind::Code | Kind::Flag | Kind::Quantity | Kind::Count => untouched(element),
         };
         spec.ok_or(EffectiveRange(fxy))
     }
 
-    /// Puts an operator in force by its X.
+    /// Puts an operator in force by its X. A walk puts each operator of its nodes in force, of which
+    /// it does not know which they are; `apply` asks its caller for one of the four.
     pub(crate) fn put(&mut self, op: Fxy)
         ensures { self.new ≡ in_force_after self.old op }
     {
@@ -227,7 +228,7 @@ fn text_spec(width: u32) -> Option<Spec>
 }
 
 /// The spec of an element that no operator changes, where it is within the limits.
-pub(crate) fn unchanged(element: &Element) -> Option<Spec>
+pub(crate) fn untouched(element: &Element) -> Option<Spec>
     ensures { result ≡ untouched element.now }
 {
     match element.kind {

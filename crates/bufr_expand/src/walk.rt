@@ -10,7 +10,7 @@ ghost use Rattle.bufr_expand.specs.OperatorsInForce.{factor_spec};
 use crate::OutOfMemory;
 use crate::limits::MOST_ITEMS;
 use crate::node::Node;
-use crate::operators::{Operators, Spec, unchanged};
+use crate::operators::{Operators, Spec, untouched};
 use crate::standing::{Asked, Open, State};
 use crate::template::Template;
 use bufr_tables::{Element, Fxy, Kind};
@@ -167,7 +167,7 @@ impl<'t> Walk<'t> {
                 let spec = self.operators.effective(&element, fxy).ok();
                 Some(self.field(fxy, spec))
             }
-            Node::Untouched(fxy, element) => Some(self.field(fxy, unchanged(&element))),
+            Node::Untouched(fxy, element) => Some(self.field(fxy, untouched(&element))),
             Node::Operator(fxy) => {
                 self.pass_operator(fxy);
                 None

@@ -1,4 +1,4 @@
--- What a framer holds is what it must hold, in words.
+-- What a framer holds is what it must hold, in words: for the law `framer_holds_what_it_must`.
 use Rattle.std.proofs.Common.{◌≡◌, ℕ, zero, suc, ◌+◌, ◌-◌, ◌<◌, ◌≤◌, false, Some, None, List, []}
 use Rattle.std.proofs.Common.{◌∷◌, length, take, drop, refl, sym, ap, ◌∙◌, subst, arith, inl, inr}
 use Rattle.std.proofs.Common.{slice_get}

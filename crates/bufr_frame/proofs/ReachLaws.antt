@@ -10,6 +10,7 @@ use Rattle.std.proofs.lemmas.List.{drop-append-le, take-append-le, take_rest, le
 use Rattle.std.proofs.lemmas.Option.{slice_get_within}
 use Rattle.std.proofs.lemmas.Bool.Decides.{leb_tells}
 use Rattle.std.proofs.Math.Seq.{take-add}
+use Rattle.bufr_frame.specs.declared.places.TheConstants.{LONGEST}
 use Rattle.bufr_frame.specs.declared.frames.Found.{Found}
 use Rattle.bufr_frame.specs.declared.places.Start.TheVariants.{Frame, Open, Other}
 use Rattle.bufr_frame.specs.declared.takes.Reached.{Reached}
@@ -241,12 +242,12 @@ pub record Reaching (held before kept piece : List ℕ) (from taken : ℕ) : Typ
   pub kept_on : Extends before kept
   pub within : from ≤ length kept
   pub taken_in : taken ≤ length piece
-  pub short : length (drop from kept) ≤ 16777215
+  pub short : length (drop from kept) ≤ LONGEST
   pub passed : IsPassedTo (held ++ take taken piece) (drop from kept)
 
 -- at first nothing is taken in
 pub reaching_first : (kept piece : List ℕ) (from : ℕ) → from ≤ length kept
-    → length (drop from kept) ≤ 16777215 → Reaching (drop from kept) kept kept piece from 0
+    → length (drop from kept) ≤ LONGEST → Reaching (drop from kept) kept kept piece from 0
 reaching_first kept piece from within short = record {
   kept_on = ([], sym (append-nil kept));
   within = within;

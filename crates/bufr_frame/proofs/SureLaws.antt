@@ -1,5 +1,5 @@
 -- What `sure` gives is the longest front of the cut in which no frame has an open place before it,
--- outside the frames before.
+-- outside the frames before: for the law `sure_is_the_longest_clear_front`.
 use Rattle.std.proofs.Common.{◌≡◌, ℕ, zero, suc, ◌+◌, ◌-◌, ◌<◌, ◌≤◌, Bool, true, false, Some, None}
 use Rattle.std.proofs.Common.{List, [], ◌∷◌, ◌++◌, length, take, drop, refl, sym, ap, ◌∙◌, subst}
 use Rattle.std.proofs.Common.{arith, append_assoc, inl, inr}
@@ -142,6 +142,7 @@ sure_clear s = record {
 }
 
 -- ---- before the next frame of the cut a place is open
+-- before the frame g, and in none of the frames found, a place is open
 record Stopped (place skip : ℕ) (xs : List ℕ) (fs : List Found) (g : Found) : Type 0 where
   pub n : ℕ
   pub l : ℕ
@@ -233,6 +234,7 @@ stopped place zero (x ∷ xs) g gs e =
     ] refl
 
 -- ---- so no longer front of the cut is clear
+-- one list parted in two ways: the first part of one way is longer by g and more
 record Splits (xs ys us vs : List Found) : Type 0 where
   pub g : Found
   pub gs : List Found

@@ -10,5 +10,6 @@ pub mod StreamLaws
 pub mod CutLaws
 pub mod JoinedLaws
 pub mod TakingLaws
+pub mod FrameBounds
 pub mod Reaches
 pub mod Examples

@@ -75,7 +75,7 @@ announced-length (a ∷ b ∷ c ∷ d ∷ x ∷ []) l h = cc
 announced-length (a ∷ b ∷ c ∷ d ∷ x ∷ y ∷ []) l h = cc
 
 -- a frame of this length begins here
-pub record Begins (octets : List ℕ) (l : ℕ) : Type 0 where
+pub record FrameBegins (octets : List ℕ) (l : ℕ) : Type 0 where
   pub mark : agrees octets bufr ≡ true
   pub told : announced octets ≡ Some l
   pub long : 12 ≤ l
@@ -114,23 +114,24 @@ frame_by (Some k) octets l h =
     ] refl h
 
 -- where the scan finds a frame, one begins
-pub begins_from : (octets : List ℕ) (l : ℕ) → start_of octets ≡ Frame l → Begins octets l
+pub begins_from : (octets : List ℕ) (l : ℕ) → start_of octets ≡ Frame l → FrameBegins octets l
 begins_from octets l h =
     elim (agrees octets bufr) as (λ b. agrees octets bufr ≡ b
-    → cond b (start_by (announced octets) octets) Other ≡ Frame l → Begins octets l) [
+    → cond b (start_by (announced octets) octets) Other ≡ Frame l → FrameBegins octets l) [
       | true ↦ λ mark e. let f = frame_by (announced octets) octets l e in
           record { mark = mark; told = f.0; long = f.1; whole = f.2; end = f.3 }
       | false ↦ λ _ e. cc
     ] refl h
 
 -- and where one begins, it finds it
-pub begins_to : (octets : List ℕ) (l : ℕ) → Begins octets l → start_of octets ≡ Frame l
+pub begins_to : (octets : List ℕ) (l : ℕ) → FrameBegins octets l → start_of octets ≡ Frame l
 begins_to octets l b =
     rw (b.mark, b.told, le-ltb l 12 b.long, b.end, le-leb l (length octets) b.whole) refl
 
 -- a frame that begins stays with more octets
-Begins-append : (octets more : List ℕ) (l : ℕ) → Begins octets l → Begins (octets ++ more) l
-Begins-append octets more l b = let whole = b.whole in let long = b.long in record {
+FrameBegins-append : (octets more : List ℕ) (l : ℕ) → FrameBegins octets l
+    → FrameBegins (octets ++ more) l
+FrameBegins-append octets more l b = let whole = b.whole in let long = b.long in record {
   mark = agrees-append octets bufr more (omega arith) b.mark;
   told = announced-append octets more l b.told;
   long = b.long;
@@ -141,7 +142,8 @@ Begins-append octets more l b = let whole = b.whole in let long = b.long in reco
 -- so does the one that the scan finds
 pub Frame-append : (octets more : List ℕ) (l : ℕ) → start_of octets ≡ Frame l
     → start_of (octets ++ more) ≡ Frame l
-Frame-append octets more l h = begins_to _ l (Begins-append octets more l (begins_from octets l h))
+Frame-append octets more l h =
+    begins_to _ l (FrameBegins-append octets more l (begins_from octets l h))
 
 -- where no frame begins, none does when more octets come
 pub Other-append : (octets more : List ℕ) → start_of octets ≡ Other
@@ -183,8 +185,8 @@ Other-append octets more h =
     ] refl h
 
 -- the frames of some octets are those of their front and those of the rest
-abbrev Goes : Bool → ℕ → ℕ → ℕ → List ℕ → List ℕ → Type 0
-Goes ended place skip out xs more =
+abbrev PartsFrames : Bool → ℕ → ℕ → ℕ → List ℕ → List ℕ → Type 0
+PartsFrames ended place skip out xs more =
     (at : ℕ) → at + length (rest_from out skip xs) ≡ place + length xs →
     frames_from ended place skip (xs ++ more) ≡ take out (frames_from false place skip xs)
     ++ frames_from ended at 0 (rest_from out skip xs ++ more)
@@ -227,7 +229,7 @@ rest_frame out l x xs h = rw (h, rest_from) refl
 
 -- after the first frames, those of the longer stream are those of what was left and what came
 pub frames_from-append : (ended : Bool) (place skip out : ℕ) (xs more : List ℕ) → skip ≤ length xs
-    → out ≤ length (frames_from false place skip xs) → Goes ended place skip out xs more
+    → out ≤ length (frames_from false place skip xs) → PartsFrames ended place skip out xs more
 frames_from-append ended place zero zero [] more s o at e = let same : at ≡ place = omega arith in
     rw same refl
 frames_from-append ended place zero (suc out) [] more s o at e = absurd (omega arith)

@@ -41,7 +41,8 @@ rest_from frames zero (x ∷ xs) =
       | Other ↦ rest_from frames 0 xs
     ]
 
--- the framer has taken in this stream, and handed out the first so many of its sure frames
+-- the framer has taken in this stream, and handed out the first so many of its sure frames, said by
+-- the functions above; `StandsFor` (Holdings) says the same by relations
 pub record Stands (framer : Framing) (stream : List ℕ) (out : ℕ) : Type 0 where
   pub fed : framer.fed ≡ length stream
   pub out_of_sure : out ≤ length (sure stream)

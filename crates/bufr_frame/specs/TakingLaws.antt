@@ -129,6 +129,18 @@ taking_none before after stream piece frames t none stands =
     (none t.taken (length frames) t.handed.stands) in
     (subst (λ s. HandedOut after s frames) (sym t.parted) out, all ∙ ap sure (sym t.parted))
 
+-- what was handed out is a front of the stream's sure frames
+pub taking_front : (framer : Framing) (stream rest : List ℕ) (frames : List Found)
+    → IsTaking framer stream rest frames → (more : List Found) × (sure stream ≡ frames ++ more)
+taking_front framer stream rest frames t =
+    let here = drop (length frames) (sure t.taken) in
+    let there = drop (length (sure t.taken)) (sure (t.taken ++ rest)) in (
+      here ++ there,
+      ap sure t.parted ∙ sure-piece t.taken rest
+          ∙ ap (λ (fs : List Found). fs ++ there) (handed_front framer t.taken frames t.handed)
+          ∙ append_assoc frames here there,
+    )
+
 -- the octets taken in and the rest are the stream's: the condition of the next call
 pub taking_fed : (framer : Framing) (stream rest : List ℕ) (frames : List Found)
     → IsTaking framer stream rest frames → framer.fed + length rest ≡ length stream

@@ -76,10 +76,7 @@ pub fn next_start(finder: &Finder<'_>, ended: bool, octets: &[u8], from: usize) 
             }
             Start::Open => {
                 if !ended {
-                    return NextStart {
-                        place: here,
-                        length: None,
-                    };
+                    break;
                 }
                 here += 1;
             }

@@ -120,41 +120,27 @@ fn reach(octets: &mut Vec<u8>, from: usize, piece: &[u8]) -> Result<Reached, All
     let finder = Finder::new(MARK);
     let mut start = from;
     let mut taken = 0;
-    loop {
+    let stop = loop {
         match start_of(&octets[start..]) {
-            Start::Frame(length) => {
-                let stop = Stop::Held(length);
-                return Ok(Reached {
-                    from: start,
-                    taken,
-                    stop,
-                });
-            }
+            Start::Frame(length) => break Stop::Held(length),
             Start::Other => start = next_mark(&finder, octets, start + 1),
             Start::Open => {
                 let rest = &piece[taken..];
                 if rest.is_empty() {
-                    let stop = Stop::Nowhere;
-                    return Ok(Reached {
-                        from: start,
-                        taken,
-                        stop,
-                    });
+                    break Stop::Nowhere;
                 }
                 match take_more(octets, start, &finder, rest)? {
-                    More::InRest(skip, length) => {
-                        let stop = Stop::Piece(skip, length);
-                        return Ok(Reached {
-                            from: start,
-                            taken,
-                            stop,
-                        });
-                    }
+                    More::InRest(skip, length) => break Stop::Piece(skip, length),
                     More::Octets(more) => taken += more,
                 }
             }
         }
-    }
+    };
+    Ok(Reached {
+        from: start,
+        taken,
+        stop,
+    })
 }
 
 /// Takes in a front of the piece, after `fed` octets of the stream, and copies out the next frame.
@@ -177,30 +163,21 @@ fn try_take(octets: &mut Vec<u8>, from: usize, fed: u64, piece: &[u8]) -> Result
             let finder = Finder::new(MARK);
             let next = next_start(&finder, false, octets, end);
             let from = let_go(octets, next.place);
-            Ok(Taking {
-                found: Some(found),
-                from,
-                taken,
-            })
+            let found = Some(found);
+            Ok(Taking { found, from, taken })
         }
         Stop::Piece(skip, length) => {
             let begins = taken + skip;
             let taken = begins + length;
             let found = Found::copied(alloc, fed + begins as u64, &piece[begins..taken])?;
             let from = let_go(octets, from);
-            Ok(Taking {
-                found: Some(found),
-                from,
-                taken,
-            })
+            let found = Some(found);
+            Ok(Taking { found, from, taken })
         }
         Stop::Nowhere => {
             let from = let_go(octets, from);
-            Ok(Taking {
-                found: None,
-                from,
-                taken,
-            })
+            let found = None;
+            Ok(Taking { found, from, taken })
         }
     }
 }

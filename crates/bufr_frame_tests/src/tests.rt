@@ -3,6 +3,7 @@ ghost use Rattle.std.specs.Prelude.{◌<◌, ◌+◌, ◌^◌, length};
 use bufr_frame::*;
 use std::alloc::{AllocError, Global};
 use std::fmt::Debug;
+use std::marker::Model;
 use std::process::Abort;
 use std::test::Fail;
 
@@ -613,6 +614,66 @@ fn many_messages_in_large_pieces(rt: HostRuntime) -> Result<(), Fail> {
     same(&rt, count, 12_500);
     same(&rt, taken.pending(), 20);
     assert_finishes(&rt, &mut taken, &[(1_075_008, INNER)])?;
+    Ok(())
+}
+
+/// Pieces, and how many octets they have together. It is a type of its own, so that each loop keeps
+/// this, from which it follows that no more are fed than can be counted.
+#[derive(Drop)]
+struct Pieces<'p> {
+    list: Vec<&'p [u8]>,
+    octets: usize,
+}
+
+impl<'p> Model for Pieces<'p> {
+    ghost use Rattle.std.specs.Prelude.{◌≡◌, List, ℕ, length};
+    ghost use Rattle.std.specs.List.{flat_map};
+
+    ghost Value = { List ℕ };
+
+    ghost view = { λ p. flat_map (λ piece. piece.now) p.list.items };
+
+    ghost invariant = { λ p. length (flat_map (λ piece. piece.now) p.list.items) ≡ p.octets };
+}
+
+impl<'p> Pieces<'p> {
+    /// Adds a piece for which there is room.
+    fn push(&mut self, rt: &impl Abort, piece: &'p [u8]) -> Result<(), AllocError> {
+        assert!(rt; self.octets <= usize::MAX - piece.len());
+        self.list.push(piece)?;
+        self.octets += piece.len();
+        Ok(())
+    }
+}
+
+/// The frames of a stream that comes in so many pieces of a thousand octets and one of the rest.
+fn frames_at_once(
+    rt: &impl Abort,
+    alloc: Global,
+    stream: &[u8],
+    count: usize,
+) -> Result<Vec<Found>, AllocError> {
+    let mut pieces = Pieces {
+        list: Vec::new(alloc),
+        octets: 0,
+    };
+    for piece in stream.chunks(1000) {
+        pieces.push(rt, piece)?;
+    }
+    same(rt, pieces.list.len(), count);
+    assert!(rt; pieces.octets == stream.len());
+    frames_of_pieces(alloc, &pieces.list)
+}
+
+/// A stream of more than a million octets in more than a thousand pieces.
+#[test]
+fn a_thousand_pieces_at_once(rt: HostRuntime) -> Result<(), Fail> {
+    let stream = many_bulletins(rt.alloc())?;
+    let mut frames = frames_at_once(&rt, rt.alloc(), &stream, 1076)?;
+    let last = frames.pop().ok_or("the last frame")?;
+    same(&rt, last.place, 1_075_008);
+    same(&rt, last.bytes.as_slice(), INNER);
+    same(&rt, count_bulletins(&rt, &frames, 0), 12_500);
     Ok(())
 }
 

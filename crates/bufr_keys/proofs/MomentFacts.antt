@@ -6,7 +6,7 @@ use Rattle.jiff.proofs.SpanFacts.{signed_arith}
 use Rattle.bufr_data.specs.declared.field.Field.{Field}
 use Rattle.bufr_shelves.specs.declared.key.Moment.{Moment}
 use Rattle.bufr_keys.specs.Usable.{◌>>=◌, element_number}
-use Rattle.bufr_keys.specs.Keys.{from_to, sixtieth, moment}
+use Rattle.bufr_keys.specs.Keys.{greatest_year, from_to, sixtieth, moment}
 use Rattle.bufr_keys.specs.Laws.{SaidOrZero, IsSaid}
 
 -- ---- steps of a chain
@@ -85,9 +85,9 @@ low_year n = omega (arith, signed_arith)
 -- a moment is what the fields say
 pub moment_is_said : (fields : List Field) (m : Moment) → moment fields ≡ Some m → IsSaid fields m
 moment_is_said fields m h =
-    let year = bind_some (element_number 4 1 fields >>= from_to 1 9999) _ m h in
-    let y0 = bind_some (element_number 4 1 fields) (from_to 1 9999) year.0 year.1 in
-    let yr = within 1 9999 y0.0 year.0 y0.2 in
+    let year = bind_some (element_number 4 1 fields >>= from_to 1 greatest_year) _ m h in
+    let y0 = bind_some (element_number 4 1 fields) (from_to 1 greatest_year) year.0 year.1 in
+    let yr = within 1 greatest_year y0.0 year.0 y0.2 in
     let month = bind_some (element_number 4 2 fields >>= from_to 1 12) _ m year.2 in
     let m0 = bind_some (element_number 4 2 fields) (from_to 1 12) month.0 month.1 in
     let mo = within 1 12 m0.0 month.0 m0.2 in
@@ -119,7 +119,7 @@ moment_is_said fields m h =
       minute = mi.0;
       second = se.0;
       date = (
-        (low_year year.0, signed year.0 9999 yr.2),
+        (low_year year.0, signed year.0 greatest_year yr.2),
         (signed 1 month.0 mo.1, signed month.0 12 mo.2),
         (signed 1 day.0 da.1, signed day.0 days da.2),
       );
@@ -134,9 +134,9 @@ moment_is_said fields m h =
 pub said_is_moment : (fields : List Field) (m : Moment) → IsSaid fields m → moment fields ≡ Some m
 said_is_moment fields m s =
     let days = days_in_month (pos m.year) m.month in
-    let year : (element_number 4 1 fields >>= from_to 1 9999) ≡ Some m.year =
-    then_some (element_number 4 1 fields) (from_to 1 9999) (pos m.year) s.year
-    ∙ in_range 1 9999 m.year s.from_year_1 (unsigned m.year 9999 s.date.0.1) in
+    let year : (element_number 4 1 fields >>= from_to 1 greatest_year) ≡ Some m.year =
+    then_some (element_number 4 1 fields) (from_to 1 greatest_year) (pos m.year) s.year
+    ∙ in_range 1 greatest_year m.year s.from_year_1 (unsigned m.year greatest_year s.date.0.1) in
     let month : (element_number 4 2 fields >>= from_to 1 12) ≡ Some m.month =
     then_some (element_number 4 2 fields) (from_to 1 12) (pos m.month) s.month
     ∙ in_range 1 12 m.month (unsigned 1 m.month s.date.1.0) (unsigned m.month 12 s.date.1.1) in
@@ -148,7 +148,7 @@ said_is_moment fields m s =
     ∙ in_range 0 23 m.hour (omega arith) s.hours in
     let minute = is_sixtieth (element_number 4 5 fields) m.minute s.minute s.minutes in
     let second = is_sixtieth (element_number 4 6 fields) m.second s.second s.seconds in
-    then_some (element_number 4 1 fields >>= from_to 1 9999) _ m.year year
+    then_some (element_number 4 1 fields >>= from_to 1 greatest_year) _ m.year year
     ∙ then_some (element_number 4 2 fields >>= from_to 1 12) _ m.month month
     ∙ then_some (element_number 4 3 fields >>= from_to 1 days) _ m.day day
     ∙ then_some (element_number 4 4 fields >>= from_to 0 23) _ m.hour hour

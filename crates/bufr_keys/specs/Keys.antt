@@ -7,6 +7,7 @@ use Rattle.bufr_shelves.specs.declared.key.Station.TheVariants.{Wmo, Wigos, Mobi
 use Rattle.bufr_shelves.specs.declared.key.Moment.{Moment}
 use Rattle.bufr_shelves.specs.declared.key.Key.{Key}
 use Rattle.bufr_keys.specs.declared.keys.KeyHead.{KeyHead}
+use Rattle.bufr_keys.specs.declared.moments.TheConstants.{GREATEST_YEAR}
 use Rattle.bufr_keys.specs.Usable.{◌>>=◌, element_number, element_text}
 
 -- the first that there is of two
@@ -55,11 +56,15 @@ abbrev pub sixtieth : Option ℤ → Option ℕ
 sixtieth None = Some 0
 sixtieth (Some z) = from_to 0 59 z
 
+-- the last year of the civil calendar as it is used here: 9999
+abbrev pub greatest_year : ℕ
+greatest_year = GREATEST_YEAR
+
 -- year, month, day and hour (004001 to 004004), which are a date of the civil calendar in the
--- years 1 to 9999 and a full hour, minute and second (004005 and 004006)
+-- years 1 to 9999 and an hour from 0 to 23; minute and second (004005 and 004006)
 abbrev pub moment : List Field → Option Moment
 moment fields = do
-  year ← element_number 4 1 fields >>= from_to 1 9999
+  year ← element_number 4 1 fields >>= from_to 1 greatest_year
   month ← element_number 4 2 fields >>= from_to 1 12
   day ← element_number 4 3 fields >>= from_to 1 (days_in_month (pos year) month)
   hour ← element_number 4 4 fields >>= from_to 0 23

@@ -11,7 +11,7 @@ pub fn usable_values()
 {}
 
 /// A moment is what the fields say of year, month, day and hour, which are a date of the civil
-/// calendar and a full hour, and of minute and second.
+/// calendar and an hour from 0 to 23, and of minute and second.
 pub fn moments_are_dates()
     ensures are { MomentsAreSaid }
     ensures only { SaidMomentsAre }

@@ -1,7 +1,7 @@
 //! The time that fields say.
 ghost use Rattle.std.specs.Prelude.{◌≡◌, ◌≤◌, pos};
 ghost use Rattle.jiff.specs.Words.{days_in_month};
-ghost use Rattle.bufr_keys.specs.Keys.{is_from_to, from_to, sixtieth, moment};
+ghost use Rattle.bufr_keys.specs.Keys.{greatest_year, is_from_to, from_to, sixtieth, moment};
 
 use crate::usable::element_number;
 use bufr_data::Field;
@@ -15,11 +15,14 @@ fn is_from_to(low: u16, high: u16, number: i128) -> bool
     i128::from(low) <= number && number <= i128::from(high)
 }
 
-/// A year from 1 to 9999.
+/// The last year of the civil calendar as it is used here.
+pub const GREATEST_YEAR: u16 = 9999;
+
+/// A year from 1 to the greatest.
 fn year_of(number: i128) -> Option<u16>
-    ensures { result ≡ from_to 1 9999 number }
+    ensures { result ≡ from_to 1 greatest_year number }
 {
-    if is_from_to(1, 9999, number) {
+    if is_from_to(1, GREATEST_YEAR, number) {
         Some(number as u16)
     } else {
         None
@@ -39,7 +42,7 @@ fn from_to(low: u8, high: u8, number: i128) -> Option<u8>
 
 /// A day that the civil calendar has in a month.
 fn day_of(year: u16, month: u8, number: i128) -> Option<u8>
-    requires year { year ≤ 9999 }
+    requires year { year ≤ greatest_year }
     requires month { (1 ≤ month) × (month ≤ 12) }
     ensures { result ≡ from_to 1 (days_in_month (pos year) month) number }
 {

@@ -10,9 +10,11 @@ use Rattle.std.specs.Str.{bytes_eq}
 use Rattle.bufr_tables.specs.Answers.{◌>>=◌, Fails}
 use Rattle.bufr_tables.specs.declared.failure.Failure.{Failure}
 use Rattle.bufr_tables.specs.declared.failure.Failure.TheVariants.{Fault, OutOfMemory}
+use Rattle.bufr_tables.specs.AnswerLaws.{ok_is}
 use Rattle.bufr_listing.specs.declared.fault.ListingFault.{ListingFault}
 use Rattle.bufr_listing.specs.declared.fault.ListingFault.TheVariants.{BadLine, BadValue}
-use Rattle.bufr_listing.specs.Lines.{Line, words_of, first_word, has_octets, as_printed, flags_line}
+use Rattle.bufr_listing.specs.Listings.{flags_line}
+use Rattle.bufr_listing.specs.Lines.{Line, words_of, first_word, has_octets, as_printed}
 use Rattle.bufr_listing.specs.Cursors.{next_of}
 use Rattle.bufr_listing.specs.Reading.{with_rest, read_line, read_if, read_word, read_octets}
 use Rattle.bufr_listing.specs.Reading.{read_section2, read_flags}
@@ -20,7 +22,6 @@ use Rattle.bufr_listing.proofs.PrintedFacts.{same_test, first_printed, count_pri
 use Rattle.bufr_listing.proofs.LineFacts.{IsWord, one_word}
 use Rattle.bufr_listing.proofs.WordFacts.{some_word}
 use Rattle.bufr_listing.proofs.FieldFacts.{bytes_same, same_bytes, other_bytes}
-use Rattle.bufr_listing.proofs.SubsetFacts.{ok_is}
 
 -- where there is no line, none is read
 pub none_taken : {A : Type 0} (read : ℕ → List ℕ → Result A ListingFault) (past : ℕ)

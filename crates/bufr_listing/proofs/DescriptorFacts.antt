@@ -1,7 +1,7 @@
 -- The descriptors of words are those of the line: for the reader of the line of descriptors, which
 -- `read` calls.
 use Rattle.std.proofs.Common.{◌≡◌, ℕ, ◌<◌, Bool, true, false, List, [], ◌∷◌, length, map, get_or}
-use Rattle.std.proofs.Common.{drop, codes, unwrap_or, refl, sym, ap, ◌∙◌, subst}
+use Rattle.std.proofs.Common.{drop, codes, unwrap_or, refl, sym, ap, ◌∙◌, subst, ◌^◌}
 use Rattle.std.specs.Prelude.{◌==◌, ◌&&◌, not, Option, Some, None, Result, Err, if◌then◌else◌}
 use Rattle.std.specs.List.{AllByRecursion}
 use Rattle.std.specs.Str.{bytes_eq}
@@ -10,8 +10,8 @@ use Rattle.bufr_tables.specs.Descriptors.{of_text, six_digits}
 use Rattle.bufr_tables.specs.Entries.{Entries}
 use Rattle.bufr_expand.specs.Templates.{template}
 use Rattle.bufr_listing.specs.declared.fault.ListingFault.TheVariants.{BadLine}
-use Rattle.bufr_listing.specs.Listings.{words}
-use Rattle.bufr_listing.specs.Lines.{words_of, first_word, descriptors_line, as_printed}
+use Rattle.bufr_listing.specs.Listings.{words, descriptors_line}
+use Rattle.bufr_listing.specs.Lines.{words_of, first_word, as_printed}
 use Rattle.bufr_listing.specs.Words.{onto, descriptors_of}
 use Rattle.bufr_listing.specs.Reading.{descriptors_in, described, read_descriptors}
 use Rattle.bufr_listing.proofs.FieldFacts.{bytes_same, same_bytes}
@@ -46,7 +46,7 @@ descriptors_found law (w ∷ ws) ds h =
     (record { texts = λ i. text i ∷ others.texts i; values = λ i. value i ∷ others.values i })
 
 -- descriptors are read of the words that they print
-descriptors_again : DescriptorTexts → (ds : List ℕ) → AllByRecursion (λ d. d < 65536) ds
+descriptors_again : DescriptorTexts → (ds : List ℕ) → AllByRecursion (λ d. d < 2 ^ 16) ds
     → descriptors_of (map six_digits ds) ≡ Some ds
 unfolding descriptors_of
 descriptors_again law [] h = refl

@@ -5,35 +5,26 @@ use Rattle.std.proofs.Common.{drop, Result, Ok, Err, refl, sym, ◌∙◌, subst
 use Rattle.std.specs.Prelude.{◌&&◌, if◌then◌else◌}
 use Rattle.std.specs.Str.{bytes_eq}
 use Rattle.std.proofs.lemmas.Bool.{and_parts}
-use Rattle.bufr_tables.specs.Answers.{◌>>=◌}
 use Rattle.bufr_tables.specs.Descriptors.{six_digits}
 use Rattle.bufr_expand.specs.declared.operators.Spec.{Spec}
 use Rattle.bufr_data.specs.Plain.{has_form_by}
+use Rattle.bufr_data.specs.FormLaws.{asked_passes}
 use Rattle.bufr_expand.specs.OperatorsInForce.{is_within}
+use Rattle.bufr_tables.specs.AnswerLaws.{bind_err, err_is}
 use Rattle.bufr_listing.specs.declared.fault.ListingFault.{ListingFault}
 use Rattle.bufr_listing.specs.declared.fault.ListingFault.TheVariants.{BadLine, BadValue}
-use Rattle.bufr_listing.specs.Lines.{Line, first_word, field_line}
+use Rattle.bufr_listing.specs.Listings.{field_line}
+use Rattle.bufr_listing.specs.Lines.{Line, first_word}
 use Rattle.bufr_listing.specs.FieldLines.{raw_in, field_in, field_fault, read_field}
 use Rattle.bufr_listing.specs.Reading.{with_rest, read_line, fault_behind}
 use Rattle.bufr_listing.specs.FirstFaults.{Unfit, bad_line, bad_value, IsLineOf, BeginsWith}
 use Rattle.bufr_listing.proofs.FieldFacts.{IsPrintable, bytes_same, same_bytes, read_field_back}
-use Rattle.bufr_listing.proofs.FormFacts.{asked_passes}
-
--- the same failures are of the same faults
-pub err_is : {A F : Type 0} (x y : F) → ◌≡◌ {A = Result A F} (Err x) (Err y) → x ≡ y
-err_is x y e = cc
 
 -- an answer is not a fault too
 pub not_both : {A F : Type 0} {P : Type 0} (r : Result A F) (x : A) (y : F) → r ≡ Ok x → r ≡ Err y
     → P
 not_both {A} {F} r x y is e = let both : ◌≡◌ {A = Result A F} (Ok x) (Err y) = sym is ∙ e in
     absurd cc
-
--- what failed first, or what was made of the first answer
-pub bind_err : {A B F : Type 0} (o : Result A F) (k : A → Result B F) (fault : F)
-    → (o >>= k) ≡ Err fault → (o ≡ Err fault) ⊎ ((x : A) × (o ≡ Ok x) × (k x ≡ Err fault))
-bind_err (Ok x) k fault e = inr (x, refl, e)
-bind_err (Err g) k fault e = inl cc
 
 -- no line is left, or what is read of the next one fails
 pub line_err : {A : Type 0} (read : ℕ → List ℕ → Result A ListingFault) (past : ℕ)

@@ -3,28 +3,29 @@
 use Rattle.std.proofs.Common.{◌≡◌, inl, inr, ℕ, zero, suc, ◌+◌, ◌≤◌, false, List, [], ◌∷◌, ◌++◌}
 use Rattle.std.proofs.Common.{length, map, codes, Ok, Err, refl, sym, ap, ◌∙◌, subst, arith}
 use Rattle.std.proofs.Common.{append_assoc, length-append}
-use Rattle.std.specs.Prelude.{◌↔◌}
-use Rattle.std.specs.List.{flat_map, AllByRecursion}
+use Rattle.std.specs.List.{flat_map}
 use Rattle.std.specs.Str.{bytes_eq}
-use Rattle.std.proofs.lemmas.Bool.{cases_Bool, cases_lt}
+use Rattle.std.proofs.lemmas.Bool.{cases_Bool}
 use Rattle.std.proofs.lemmas.List.{append_cancel_right, map-append}
+use Rattle.bufr_expand.specs.Limits.{most_items}
 use Rattle.bufr_expand.specs.declared.operators.Spec.{Spec}
 use Rattle.bufr_expand.specs.declared.walk.WalkFault.TheVariants.{TooLarge, EffectiveRange}
 use Rattle.bufr_expand.specs.Courses.{Course, ends, stops, asks, course}
 use Rattle.bufr_expand.specs.Trees.{Tree}
-use Rattle.bufr_expand.specs.Unrolling.{Told, After, Allows, Unrolls}
-use Rattle.bufr_expand.specs.NextFields.{wants, lacks, BeginsWithin, MeetsItems, PassesLimit}
-use Rattle.bufr_expand.specs.NextFields.{AsksAfter}
+use Rattle.bufr_expand.specs.Unrolling.{After}
 use Rattle.bufr_data.specs.declared.field.Field.{Field}
 use Rattle.bufr_data.specs.declared.field.Subset.{Subset}
 use Rattle.bufr_data.specs.Plain.{number_of, items_of, items_of_all}
-use Rattle.bufr_data.specs.Fits.{HasForm, told_of}
+use Rattle.bufr_data.specs.Fits.{told_of}
 use Rattle.bufr_data.specs.Refusals.{IsAsked, Passes}
-use Rattle.bufr_data.specs.Causes.{Begin}
+use Rattle.bufr_data.specs.FormLaws.{asked_is}
+use Rattle.bufr_data.specs.CourseLaws.{Laws, passes_after, begun, limit_passed}
+use Rattle.bufr_tables.specs.AnswerLaws.{bind_ok, ok_is, bind_err, err_is}
 use Rattle.bufr_listing.specs.declared.fault.ListingFault.{ListingFault}
 use Rattle.bufr_listing.specs.declared.fault.ListingFault.TheVariants.{BadLine, Refused}
 use Rattle.bufr_listing.specs.declared.fault.Cause.TheVariants as causes
-use Rattle.bufr_listing.specs.Lines.{Line, texts, field_line, subset_lines}
+use Rattle.bufr_listing.specs.Listings.{field_line, subset_lines}
+use Rattle.bufr_listing.specs.Lines.{Line, texts}
 use Rattle.bufr_listing.specs.FieldLines.{read_field}
 use Rattle.bufr_listing.specs.Reading.{read_line, read_word, FieldsListed, SubsetsListed}
 use Rattle.bufr_listing.specs.Reading.{fields_read, subsets_read}
@@ -32,53 +33,19 @@ use Rattle.bufr_listing.specs.FirstFaults.{Unfit, text_ends, bad_line, Halted, h
 use Rattle.bufr_listing.specs.FirstFaults.{BeginsWith, NoFieldFollows, unfit, no_room, no_spec}
 use Rattle.bufr_listing.specs.FirstFaults.{FieldsFault, BeginsOrEnds, SubsetFault, inside}
 use Rattle.bufr_listing.specs.FirstFaults.{SubsetsFault}
-use Rattle.bufr_listing.proofs.ListFacts.{bind_ok}
 use Rattle.bufr_listing.proofs.LowerLaws.{LowerLaws}
 use Rattle.bufr_listing.proofs.FieldFacts.{bytes_same, same_bytes, if_ok, read_field_takes}
 use Rattle.bufr_listing.proofs.CourseFacts.{AsksPrintable, course_printable}
 use Rattle.bufr_listing.proofs.MessageFacts.{none_used}
-use Rattle.bufr_listing.proofs.SubsetFacts.{ok_is, line_takes, FieldsTaken, fields_take}
-use Rattle.bufr_listing.proofs.FormFacts.{asked_is}
-use Rattle.bufr_listing.proofs.FaultFacts.{err_is, bind_err, line_err, unfit_line, field_err}
+use Rattle.bufr_listing.proofs.SubsetFacts.{line_takes, FieldsTaken, fields_take}
+use Rattle.bufr_listing.proofs.FaultFacts.{line_err, unfit_line, field_err}
 
--- ---- what the lower crates say of the fields that come next
+-- ---- what the lower crates say
 
--- a course asks for a field exactly where it comes next
-abbrev pub IsAskedNext : Type 0
-IsAskedNext = (t : Tree) (used : ℕ) (fields : List Told) (met d : ℕ) (spec : Spec)
-    → used ≤ 16777216 → AsksAfter (course t used) fields met d spec ↔ BeginsWithin t used fields
-    (wants d spec) met
-
--- it stops for want of a spec exactly where the next field has none
-abbrev pub IsLackingNext : Type 0
-IsLackingNext = (t : Tree) (used : ℕ) (fields : List Told) (met d : ℕ) → used ≤ 16777216
-    → After (course t used) fields (stops met (EffectiveRange d)) ↔ BeginsWithin t used fields
-    (lacks d) met
-
--- behind fields that a course asked for, some items are met
-abbrev pub IsOnward : Type 0
-IsOnward = (t : Tree) (used : ℕ) (fields : List Told) (later : Course) → used ≤ 16777216
-    → After (course t used) fields later → (n : ℕ) × MeetsItems t fields n
-
--- a course asks for the fields of an unrolling
-abbrev pub AreAllowed : Type 0
-AreAllowed = (t : Tree) (used : ℕ) (fields : List Told) (met : ℕ) → Unrolls t used fields met
-    → Allows (course t used) fields met
-
--- it is too large exactly where an item would be more than a message may have
-abbrev pub IsTooLarge : Type 0
-IsTooLarge = (t : Tree) (used : ℕ) (fields : List Told) (later : Course) → used ≤ 16777216
-    → After (course t used) fields later
-    → (later ≡ stops 16777216 TooLarge) ↔ PassesLimit t used fields
-
--- all of them
+-- of descriptors, specs and subsets, and of the fields that come next
 pub record FaultLaws : Type 0 where
   pub lower : LowerLaws
-  pub allowed : AreAllowed
-  pub goes_on : IsOnward
-  pub asked : IsAskedNext
-  pub lacking : IsLackingNext
-  pub too_large : IsTooLarge
+  pub courses : Laws
 
 -- ---- fields, by their course
 
@@ -173,103 +140,22 @@ course_fault past (asks met d spec more) ls fault fit h =
 
 -- ---- fields, by the tree
 
--- each raw value has the form of its spec
-abbrev pub Formed : List Field → Type 0
-Formed fields = AllByRecursion (λ f. HasForm f.spec f.raw) fields
-
--- fields that a course asked for in turn, as it tells of them, and their forms
-pub passes_after : (c : Course) (fields : List Field) (next : Course) → Passes c fields next
-    → After c (map told_of fields) next × Formed fields
-unfolding After
-passes_after c [] next h = (h, tt)
-passes_after (ends n) (f ∷ fields) next h = absurd h
-passes_after (stops n w) (f ∷ fields) next h = absurd h
-passes_after (asks met d spec more) (f ∷ fields) next h =
-    let others = passes_after (more (number_of f.raw)) fields next h.1 in
-    ((h.0.0, h.0.1, others.0), (subst (λ (s : Spec). HasForm s f.raw) (sym h.0.1) h.0.2, others.1))
-
--- each of them was asked for after those before it
-split_asks : (c : Course) (before others : List Field) (f : Field) (next : Course)
-    → After c (map told_of (before ++ f ∷ others)) next → (met : ℕ) × AsksAfter c
-    (map told_of before) met f.fxy f.spec
-unfolding After
-split_asks (ends n) [] others f next h = absurd h
-split_asks (stops n w) [] others f next h = absurd h
-split_asks (asks met d spec more) [] others f next h =
-    (met, (more, λ i. asks met (sym h.0 i) (sym h.1 i) more))
-split_asks (ends n) (g ∷ before) others f next h = absurd h
-split_asks (stops n w) (g ∷ before) others f next h = absurd h
-split_asks (asks met d spec more) (g ∷ before) others f next h =
-    let r = split_asks (more (number_of g.raw)) before others f next h.2 in
-    (r.0, (r.1.0, (h.0, h.1, r.1.1)))
-
--- so a subset can begin with them
-begun : FaultLaws → (tree : Tree) (used : ℕ) (fields : List Field) (next : Course)
-    → used ≤ 16777216 → Passes (course tree used) fields next → Begin tree used fields
-begun laws tree used fields next le h =
-    let a = passes_after (course tree used) fields next h in
-    record {
-      each = λ before others f e.
-          let r = split_asks (course tree used) before others f next
-          (subst (λ (fs : List Field). After (course tree used) (map told_of fs) next) e a.0) in
-          (r.0, (laws.asked tree used (map told_of before) r.0 f.fxy f.spec le).0 r.1);
-      formed = a.1;
-    }
-
--- only one course is left after fields
-pub one_left : (c : Course) (fields : List Told) (a b : Course) → After c fields a
-    → After c fields b → a ≡ b
-unfolding After
-one_left c [] a b h k = sym h ∙ k
-one_left (ends n) (f ∷ fields) a b h k = absurd h
-one_left (stops n w) (f ∷ fields) a b h k = absurd h
-one_left (asks met d spec more) (f ∷ fields) a b h k = one_left (more f.number) fields a b h.2 k.2
-
--- where the items go on within the limit, a course is not too large
-fits_anyway : FaultLaws → (tree : Tree) (used k n : ℕ) (fields : List Told) → used ≤ 16777216
-    → used + k ≤ 16777216 → MeetsItems tree fields k → After (course tree used) fields
-    (stops n TooLarge) → ⊥
-fits_anyway laws tree used k n fields le room (inl (wants d spec, begins)) stopped =
-    let r = (laws.asked tree used fields (used + k) d spec le).1 (k, begins, refl, room) in
-    let e : ◌≡◌ {A = Course} (stops n TooLarge) (asks (used + k) d spec r.0) =
-    one_left (course tree used) fields _ _ stopped r.1 in
-    cc
-fits_anyway laws tree used k n fields le room (inl (lacks d, begins)) stopped =
-    let r = (laws.lacking tree used fields (used + k) d le).1 (k, begins, refl, room) in
-    let e : stops n TooLarge ≡ stops (used + k) (EffectiveRange d) =
-    one_left (course tree used) fields _ _ stopped r in
-    cc
-fits_anyway laws tree used k n fields le room (inr end) stopped =
-    let a = laws.allowed tree used fields (used + k) (end.0, k, end.1, refl, room) in
-    let e : stops n TooLarge ≡ ends (used + k) = one_left (course tree used) fields _ _ stopped a in
-    cc
-
--- where a course is too large, an item would be more than a message may have
-limit_passed : FaultLaws → (tree : Tree) (used n : ℕ) (fields : List Told) → used ≤ 16777216
-    → After (course tree used) fields (stops n TooLarge) → PassesLimit tree used fields
-limit_passed laws tree used n fields le stopped =
-    let g = laws.goes_on tree used fields _ le stopped in
-    elim (cases_lt 16777216 (used + g.0)) [
-      | inl lt ↦ (g.0, g.1, lt)
-      | inr room ↦ absurd (fits_anyway laws tree used g.0 n fields le room g.1 stopped)
-    ]
-
 -- what a course refuses next is why no field follows
 follows : FaultLaws → (tree : Tree) (used past : ℕ) (before : List Field) (next : Course)
     (rest : List Line) (fault : ListingFault)
-    → used ≤ 16777216 → After (course tree used) (map told_of before) next
+    → used ≤ most_items → After (course tree used) (map told_of before) next
     → NextRefused past next rest fault → NoFieldFollows tree used before past rest fault
 follows laws tree used past before (ends n) rest fault le after h = absurd h
 follows laws tree used past before (stops n TooLarge) rest fault le after h =
-    no_room (limit_passed laws tree used n (map told_of before) le after) h
+    no_room (limit_passed laws.courses tree used n (map told_of before) le after) h
 follows laws tree used past before (stops n (EffectiveRange d)) rest fault le after h =
-    no_spec d n ((laws.lacking tree used (map told_of before) n d le).0 after) h
+    no_spec d n ((laws.courses.lacking tree used (map told_of before) n d le).0 after) h
 follows laws tree used past before (asks met d spec more) rest fault le after h =
-    unfit d met spec ((laws.asked tree used (map told_of before) met d spec le).0 (more, after)) h
+    unfit d met spec ((laws.courses.asked tree used (map told_of before) met d spec le).0 (more, after)) h
 
 -- the first fault of a subset's fields
 pub fields_fault : FaultLaws → (tree : Tree) (used past : ℕ) (ls : List Line)
-    (fault : ListingFault) → used ≤ 16777216 → fields_read past (course tree used) ls ≡ Err fault
+    (fault : ListingFault) → used ≤ most_items → fields_read past (course tree used) ls ≡ Err fault
     → FieldsFault tree used past ls fault
 fields_fault laws tree used past ls fault le h =
     let r = course_fault past (course tree used) ls fault
@@ -280,7 +166,7 @@ fields_fault laws tree used past ls fault le h =
       rest = r.rest;
       in_order = r.in_order;
       spelled = r.spelled;
-      begin = begun laws tree used r.before r.next le r.passed;
+      begin = begun laws.courses tree used r.before r.next le r.passed;
       refused = follows laws tree used past r.before r.next r.rest fault le
           (passes_after (course tree used) r.before r.next r.passed).0 r.refused;
     }
@@ -367,8 +253,8 @@ word_err word n text fault h = elim (cases_Bool (bytes_eq text word)) [
 ]
 
 -- the items of a message are within the limit behind a subset too
-few_items : FaultLaws → (tree : Tree) (used items : ℕ) (fields : List Field) → used ≤ 16777216
-    → items_of 1 1 (course tree used) fields ≡ Ok items → items ≤ 16777216
+few_items : FaultLaws → (tree : Tree) (used items : ℕ) (fields : List Field) → used ≤ most_items
+    → items_of 1 1 (course tree used) fields ≡ Ok items → items ≤ most_items
 unfolding items_of_all
 few_items laws tree used items fields le h =
     let one : items_of_all (course tree) 1 used (record { fields = fields } ∷ []) ≡ Ok items =
@@ -410,7 +296,7 @@ not_longer ls own rest n e few = let same = ap length e in let sum = length-appe
 -- the fault of reading subsets is behind those that were read
 later_fault : FaultLaws → (left past j : ℕ) (tree : Tree) (used : ℕ) (ls : List Line)
     (fault : ListingFault)
-    → length ls ≤ left → used ≤ 16777216 → subsets_read left past (course tree) used ls
+    → length ls ≤ left → used ≤ most_items → subsets_read left past (course tree) used ls
     ≡ Err fault → LaterFault tree j used past ls fault
 unfolding subsets_read
 later_fault laws zero past j tree used [] fault few le h =

@@ -2,10 +2,10 @@
 -- (`faults_of_listings_are_the_first`).
 use Rattle.std.proofs.Common.{◌≡◌, ◌⊎◌, inl, inr, ℕ, ◌+◌, ◌<◌, ◌≤◌, Bool, true, false, List, []}
 use Rattle.std.proofs.Common.{◌∷◌, ◌++◌, length, drop, codes, Result, Ok, Err, refl, sym, ap, ◌∙◌}
-use Rattle.std.proofs.Common.{subst, arith, append_assoc}
+use Rattle.std.proofs.Common.{subst, arith, append_assoc, ◌^◌}
 use Rattle.std.specs.Prelude.{◌==◌, ◌&&◌, not, Option, Some, None, nat_le, if◌then◌else◌}
 use Rattle.std.specs.Str.{bytes_eq}
-use Rattle.std.proofs.lemmas.Bool.{and_parts, cases_Bool, leb-true, le-leb, eq-eqb}
+use Rattle.std.proofs.lemmas.Bool.{and_parts, cases_Bool, leb-true, le-leb, eq-eqb, eqb-true}
 use Rattle.std.proofs.lemmas.List.{map-append}
 use Rattle.std.proofs.lemmas.List.Elements.{All-from_recursion}
 use Rattle.bufr_tables.specs.Entries.{Entries}
@@ -13,12 +13,14 @@ use Rattle.bufr_expand.specs.declared.node.TemplateFault.{TemplateFault}
 use Rattle.bufr_expand.specs.Templates.{template}
 use Rattle.bufr_expand.specs.Trees.{Tree}
 use Rattle.bufr_sections.specs.Sections.{AreOctets}
+use Rattle.bufr_tables.specs.AnswerLaws.{ok_is, bind_err, err_is}
 use Rattle.bufr_listing.specs.declared.fault.ListingFault.{ListingFault}
 use Rattle.bufr_listing.specs.declared.fault.ListingFault.TheVariants.{BadLine, Refused}
 use Rattle.bufr_listing.specs.declared.fault.Cause.TheVariants as causes
-use Rattle.bufr_listing.specs.Lines.{Line, texts, words_of, first_word, section1_numbers}
-use Rattle.bufr_listing.specs.Lines.{time_numbers, numbers_line, octets_line, section2_line}
-use Rattle.bufr_listing.specs.Lines.{flags_line, descriptors_line}
+use Rattle.bufr_listing.specs.Listings.{section1_numbers, time_numbers, numbers_line, octets_line}
+use Rattle.bufr_listing.specs.Listings.{section1_line, time_line, section2_line, flags_line}
+use Rattle.bufr_listing.specs.Listings.{descriptors_line}
+use Rattle.bufr_listing.specs.Lines.{Line, texts, words_of, first_word}
 use Rattle.bufr_listing.specs.Reading.{with_rest, read_line, read_if, read_word, are_below}
 use Rattle.bufr_listing.specs.Reading.{numbers_in, read_numbers, read_octets, read_local}
 use Rattle.bufr_listing.specs.Reading.{read_section2, read_flags, descriptors_in, Described}
@@ -28,16 +30,14 @@ use Rattle.bufr_listing.specs.FirstFaults.{text_ends, Place, at_message, at_sect
 use Rattle.bufr_listing.specs.FirstFaults.{behind_time, behind_local, behind_section2}
 use Rattle.bufr_listing.specs.FirstFaults.{at_descriptors, AreBefore, CouldStand, IsOfKindAt}
 use Rattle.bufr_listing.specs.FirstFaults.{IsLocal, IsSection2, IsFlags, AreOfLine, HasWords}
-use Rattle.bufr_listing.specs.FirstFaults.{HasWordsOfFlags, section1_line, time_line, MessageFault}
+use Rattle.bufr_listing.specs.FirstFaults.{HasWordsOfFlags, MessageFault}
 use Rattle.bufr_listing.specs.FirstFaults.{in_heading}
-use Rattle.bufr_listing.proofs.ListFacts.{equal_is}
 use Rattle.bufr_listing.proofs.LowerLaws.{DescriptorTexts}
 use Rattle.bufr_listing.proofs.FieldFacts.{bytes_same}
-use Rattle.bufr_listing.proofs.SubsetFacts.{ok_is}
 use Rattle.bufr_listing.proofs.LineFacts.{local_back, section2_back, flags_back, descriptors_small}
 use Rattle.bufr_listing.proofs.LineFacts.{descriptors_pass, not_empty}
 use Rattle.bufr_listing.proofs.MessageFacts.{section1_back, time_back}
-use Rattle.bufr_listing.proofs.FaultFacts.{err_is, not_both, bind_err, line_err, IsFaultOf}
+use Rattle.bufr_listing.proofs.FaultFacts.{not_both, line_err, IsFaultOf}
 use Rattle.bufr_listing.proofs.FaultFacts.{other_kind, same_kind_of, unfit_line, if_err}
 use Rattle.bufr_listing.proofs.FaultFacts.{behind_fault}
 use Rattle.bufr_listing.proofs.FaultFields.{not_title, word_err}
@@ -51,7 +51,7 @@ numbers_err : (title limits : List ℕ) (n : ℕ) (text : List ℕ) (fault : Lis
 numbers_err title limits n text fault h =
     behind_fault (length (words_of text) ≡ length limits + 1) title
     (length (words_of text) == length limits + 1) n text fault
-    (equal_is (length (words_of text)) (length limits + 1))
+    (eqb-true (length (words_of text)) (length limits + 1))
     (eq-eqb (length (words_of text)) (length limits + 1))
     (if_err (are_below limits (numbers_in text) && bytes_eq (numbers_line title (numbers_in text))
     text) (numbers_in text) (fault_behind title (length (words_of text) == length limits + 1) n
@@ -102,7 +102,7 @@ octets_err : (title : List ℕ) (n : ℕ) (text : List ℕ) (fault : ListingFaul
     → IsFaultOf (HasWords title 2 text) n fault
 octets_err title n text fault h =
     behind_fault (length (words_of text) ≡ 2) title (length (words_of text) == 2) n text fault
-    (equal_is (length (words_of text)) 2) (eq-eqb (length (words_of text)) 2)
+    (eqb-true (length (words_of text)) 2) (eq-eqb (length (words_of text)) 2)
     (if_err _ _ (fault_behind title (length (words_of text) == 2) n text) fault h)
 
 -- a line of octets for local use does not fail
@@ -197,7 +197,7 @@ descriptors_by true laws tables n text fault is h =
     (bytes_eq (descriptors_line (descriptors_in text)) text) is in
     let line : AreOfLine text (descriptors_in text) = (
       not_empty (descriptors_in text) q.0,
-      All-from_recursion (λ d. d < 65536) (descriptors_in text)
+      All-from_recursion (λ d. d < 2 ^ 16) (descriptors_in text)
           (descriptors_small laws (drop 1 (words_of text))),
       sym (bytes_same (descriptors_line (descriptors_in text)) text q.1),
     ) in

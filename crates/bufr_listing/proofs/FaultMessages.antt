@@ -15,8 +15,9 @@ use Rattle.bufr_expand.specs.Courses.{course}
 use Rattle.bufr_sections.specs.declared.message.Message.{Message}
 use Rattle.bufr_sections.specs.Sections.{AreOctets, HeadFits, IsOctet}
 use Rattle.bufr_listing.specs.declared.fault.ListingFault.{ListingFault}
-use Rattle.bufr_listing.specs.Lines.{Line, texts, numbers_line, local_lines, section2_lines}
-use Rattle.bufr_listing.specs.Lines.{flags_line, lines_of, counting_lines, CanBeListed}
+use Rattle.bufr_listing.specs.Listings.{numbers_line, section1_line, time_line, local_lines}
+use Rattle.bufr_listing.specs.Listings.{section2_lines, flags_line, lines_of}
+use Rattle.bufr_listing.specs.Lines.{Line, texts, counting_lines, CanBeListed}
 use Rattle.bufr_listing.specs.Reading.{with_rest, read_line, read_if, read_word, are_below}
 use Rattle.bufr_listing.specs.Reading.{read_numbers, read_local, read_section2, read_flags}
 use Rattle.bufr_listing.specs.Reading.{read_descriptors, subsets_read, section1_limits, time_limits}
@@ -26,18 +27,19 @@ use Rattle.bufr_listing.specs.FirstFaults as faults
 use Rattle.bufr_listing.specs.FirstFaults.{Unfit, text_ends, bad_line, Place, at_message}
 use Rattle.bufr_listing.specs.FirstFaults.{at_section1, at_time, behind_time, behind_local}
 use Rattle.bufr_listing.specs.FirstFaults.{behind_section2, at_descriptors, AreBefore, CouldStand}
-use Rattle.bufr_listing.specs.FirstFaults.{IsOfKindAt, AreOfLine, section1_line, time_line}
+use Rattle.bufr_listing.specs.FirstFaults.{IsOfKindAt, AreOfLine}
 use Rattle.bufr_listing.specs.FirstFaults.{up_to_time, up_to_local, MessageFault, in_heading}
 use Rattle.bufr_listing.specs.FirstFaults.{in_subsets, FirstFault}
-use Rattle.bufr_listing.proofs.ListFacts.{bind_ok, six_by_place}
+use Rattle.bufr_tables.specs.DescriptorLaws.{six_by_place}
+use Rattle.bufr_tables.specs.AnswerLaws.{bind_ok, ok_is, bind_err}
 use Rattle.bufr_listing.proofs.FieldFacts.{bytes_same, if_ok}
-use Rattle.bufr_listing.proofs.SubsetFacts.{ok_is, line_takes}
+use Rattle.bufr_listing.proofs.SubsetFacts.{line_takes}
 use Rattle.bufr_listing.proofs.LineFacts.{numbers_take, octets_take, flags_take, descriptors_take}
 use Rattle.bufr_listing.proofs.LineFacts.{eight_by_place, below_length}
 use Rattle.bufr_listing.proofs.MessageFacts.{IfTaken, if_takes, local_takes, section2_takes}
 use Rattle.bufr_listing.proofs.MessageFacts.{head_fits, message_takes, some_line}
 use Rattle.bufr_listing.proofs.LoopFacts.{texts_length}
-use Rattle.bufr_listing.proofs.FaultFacts.{bind_err, line_err, unfit_line, other_kind}
+use Rattle.bufr_listing.proofs.FaultFacts.{line_err, unfit_line, other_kind}
 use Rattle.bufr_listing.proofs.FaultFields.{FaultLaws, IsBehind, same_front, subsets_fault}
 use Rattle.bufr_listing.proofs.FaultFields.{subsets_behind}
 use Rattle.bufr_listing.proofs.FaultHeadings.{UpTo, go_on, at_place, if_err_at, IsNotTitled}

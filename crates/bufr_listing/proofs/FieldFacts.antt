@@ -26,9 +26,9 @@ use Rattle.bufr_data.specs.declared.field.Field.{Field}
 use Rattle.bufr_data.specs.Plain.{has_form_by, stands_for, same_spec}
 use Rattle.bufr_data.specs.Values.{size_of, is_all_ones, is_missing, decimal_within, text_of}
 use Rattle.bufr_data.specs.DecimalTextFacts.{units_of_text, no_letter}
-use Rattle.bufr_listing.proofs.ListFacts.{equal_is, same_spec_is, spec_is_same}
+use Rattle.bufr_data.specs.FormLaws.{same_spec_is, spec_is_same}
+use Rattle.bufr_listing.specs.Listings.{field_line}
 use Rattle.bufr_listing.specs.Listings.{quoted_octet, quoted, number_word, value_word}
-use Rattle.bufr_listing.specs.Lines.{field_line}
 use Rattle.bufr_listing.specs.FieldLines.{octet_at, behind_octet, unquoted, is_missing_word}
 use Rattle.bufr_listing.specs.FieldLines.{natural_part, text_in, number_in, raw_in, field_in}
 use Rattle.bufr_listing.specs.FieldLines.{field_fault, read_field}
@@ -286,7 +286,7 @@ read_field_back d spec n f fit stands =
     (has_form_by spec.kind spec.width f.raw) stands in
     let q = and_parts (f.fxy == d) (same_spec f.spec spec) p.0 in
     let own = same_spec_is f.spec spec q.1 in
-    subst (λ e. read_field e spec n (field_line f) ≡ Ok f) (equal_is f.fxy d q.0)
+    subst (λ e. read_field e spec n (field_line f) ≡ Ok f) (eqb-true f.fxy d q.0)
     (subst (λ (s : Spec). read_field f.fxy s n (field_line f) ≡ Ok f) own
     (own_line n f (subst IsPrintable (sym own) fit)
     (subst (λ (s : Spec). has_form_by s.kind s.width f.raw ≡ true) (sym own) p.1)))

@@ -1,9 +1,7 @@
 -- What the contracts and laws of listings are proved from.
 pub mod OnLiterals
-pub mod ListFacts
 pub mod LowerLaws
-mod ListingFacts
-pub mod HeadingFacts
+pub mod ListingFacts
 pub mod FieldFacts
 pub mod CourseFacts
 pub mod SubsetFacts
@@ -26,7 +24,6 @@ pub mod MessageSteps
 pub mod TextFacts
 mod ShownFacts
 pub mod ValueFacts
-pub mod FormFacts
 pub mod FaultFacts
 pub mod FaultFields
 pub mod FaultHeadings

@@ -23,21 +23,20 @@ use Rattle.bufr_expand.specs.declared.node.TemplateFault.{TemplateFault}
 use Rattle.bufr_expand.specs.Templates.{template}
 use Rattle.bufr_expand.specs.Trees.{Tree}
 use Rattle.bufr_data.specs.DecimalTextFacts.{AreDigits, decimal_digits}
+use Rattle.bufr_listing.specs.Listings.{descriptors_line}
+use Rattle.bufr_listing.specs.Listings.{numbers_line, octets_line, section2_line, flags_line}
+use Rattle.bufr_listing.specs.Limits.{two_octets}
 use Rattle.bufr_listing.specs.declared.fault.ListingFault.{ListingFault}
 use Rattle.bufr_listing.specs.declared.fault.ListingFault.TheVariants.{BadLine}
 use Rattle.bufr_sections.specs.Sections.{AreOctets, IsOctet}
+use Rattle.bufr_tables.specs.AnswerLaws.{ok_is}
 use Rattle.bufr_listing.specs.Listings.{words}
-use Rattle.bufr_listing.specs.Lines.{words_of, numbers_line, octets_line, section2_line, flags_line}
-use Rattle.bufr_listing.specs.Lines.{descriptors_line}
+use Rattle.bufr_listing.specs.Lines.{words_of}
 use Rattle.bufr_listing.specs.Reading.{are_below, numbers_in, read_numbers, octets_by, octets_in}
 use Rattle.bufr_listing.specs.Reading.{read_octets, read_local, read_section2, Flags, read_flags}
 use Rattle.bufr_listing.specs.Reading.{descriptors_in, Described, described, read_descriptors}
 use Rattle.bufr_listing.proofs.LowerLaws.{DescriptorTexts}
 use Rattle.bufr_listing.proofs.FieldFacts.{bytes_same, same_bytes, if_ok}
-
--- the same answers are of the same values
-ok_is : {A F : Type 0} (x y : A) → ◌≡◌ {A = Result A F} (Ok x) (Ok y) → x ≡ y
-ok_is x y e = cc
 
 -- a test that passes takes the answer
 pub accept : {A F : Type 0} (b : Bool) (x : A) (e : F) → b ≡ true → (if b then Ok x else Err e)
@@ -109,7 +108,7 @@ values_back (n ∷ ns) h = let e = (decimal_is_IsNumeral_wide n h.0).1 in
     λ i. e i ∷ values_back ns h.1 i
 
 -- numbers below the limits of a line can be printed
-pub below_short : (limits ns : List ℕ) → AllByRecursion (λ l. l ≤ 65536) limits
+pub below_short : (limits ns : List ℕ) → AllByRecursion (λ l. l ≤ two_octets) limits
     → are_below limits ns ≡ true → AreShort ns
 unfolding are_below
 below_short [] [] most h = tt
@@ -136,7 +135,7 @@ numbers_take title limits n text ns h =
 
 -- numbers below their limits are read of their line
 pub numbers_back : (title limits : List ℕ) (n : ℕ) (ns : List ℕ) → IsWord title
-    → AllByRecursion (λ l. l ≤ 65536) limits → are_below limits ns ≡ true
+    → AllByRecursion (λ l. l ≤ two_octets) limits → are_below limits ns ≡ true
     → read_numbers title limits n (numbers_line title ns) ≡ Ok ns
 numbers_back title limits n ns word most below =
     let short = below_short limits ns most below in
@@ -310,7 +309,7 @@ six_words [] = tt
 six_words (d ∷ ds) = (six_word d, six_words ds)
 
 -- descriptors are read of what they print
-of_texts_back : DescriptorTexts → (ds : List ℕ) → AllByRecursion (λ d. d < 65536) ds
+of_texts_back : DescriptorTexts → (ds : List ℕ) → AllByRecursion (λ d. d < 2 ^ 16) ds
     → map (λ w. unwrap_or (of_text w) 0) (map six_digits ds) ≡ ds
 of_texts_back texts [] h = refl
 of_texts_back texts (d ∷ ds) h = let e =
@@ -318,7 +317,7 @@ of_texts_back texts (d ∷ ds) h = let e =
     λ i. e i ∷ of_texts_back texts ds h.1 i
 
 -- descriptors are found in their line
-descriptors_back_in : DescriptorTexts → (ds : List ℕ) → AllByRecursion (λ d. d < 65536) ds
+descriptors_back_in : DescriptorTexts → (ds : List ℕ) → AllByRecursion (λ d. d < 2 ^ 16) ds
     → descriptors_in (descriptors_line ds) ≡ ds
 descriptors_back_in texts ds h =
     ap (λ us. map (λ w. unwrap_or (of_text w) 0) (drop 1 us))
@@ -327,12 +326,12 @@ descriptors_back_in texts ds h =
     ∙ of_texts_back texts ds h
 
 -- what is read of a word has 16 bits, be it a descriptor or not
-small_by : DescriptorTexts → (w : List ℕ) (o : Option ℕ) → of_text w ≡ o → unwrap_or o 0 < 65536
+small_by : DescriptorTexts → (w : List ℕ) (o : Option ℕ) → of_text w ≡ o → unwrap_or o 0 < 2 ^ 16
 small_by texts w None h = omega arith
 small_by texts w (Some d) h = ((texts w d).0 h).0
 
 -- what is read of words has
-pub descriptors_small : DescriptorTexts → (ws : List (List ℕ)) → AllByRecursion (λ d. d < 65536)
+pub descriptors_small : DescriptorTexts → (ws : List (List ℕ)) → AllByRecursion (λ d. d < 2 ^ 16)
     (map (λ w. unwrap_or (of_text w) 0) ws)
 descriptors_small texts [] = tt
 descriptors_small texts (w ∷ ws) = (small_by texts w (of_text w) refl, descriptors_small texts ws)
@@ -369,7 +368,7 @@ descriptors_take texts tables n text x h =
     let q = and_parts (not (length ds == 0)) (bytes_eq (descriptors_line ds) text) p.0 in
     described_ok tables n text ds (template tables ds) x
     (sym (bytes_same (descriptors_line ds) text q.1)) (not_empty ds q.0)
-    (All-from_recursion (λ d. d < 65536) ds (descriptors_small texts (drop 1 (words_of text))))
+    (All-from_recursion (λ d. d < 2 ^ 16) ds (descriptors_small texts (drop 1 (words_of text))))
     refl p.1
 
 -- a list with an item is not of length 0
@@ -382,7 +381,7 @@ pub descriptors_pass : DescriptorTexts → (ds : List ℕ) → 0 < length ds →
     → (not (length (descriptors_in (descriptors_line ds)) == 0) && bytes_eq
     (descriptors_line (descriptors_in (descriptors_line ds))) (descriptors_line ds)) ≡ true
 descriptors_pass texts ds some small =
-    let back = descriptors_back_in texts ds (recursion_from_All (λ d. d < 65536) ds small) in
+    let back = descriptors_back_in texts ds (recursion_from_All (λ d. d < 2 ^ 16) ds small) in
     let own = descriptors_in (descriptors_line ds) in
     both (subst (λ (ys : List ℕ). not (length ys == 0) ≡ true) (sym back)
     (not_empty_from ds some)) (same_bytes (descriptors_line own) (descriptors_line ds)
@@ -393,7 +392,7 @@ pub descriptors_read : DescriptorTexts → (tables : Entries) (n : ℕ) (ds : Li
     → All (λ d. d < 2 ^ 16) ds
     → read_descriptors tables n (descriptors_line ds) ≡ described n ds (template tables ds)
 descriptors_read texts tables n ds some small =
-    let back = descriptors_back_in texts ds (recursion_from_All (λ d. d < 65536) ds small) in
+    let back = descriptors_back_in texts ds (recursion_from_All (λ d. d < 2 ^ 16) ds small) in
     let own = descriptors_in (descriptors_line ds) in
     given _ (described n own (template tables own)) (BadLine n)
     (descriptors_pass texts ds some small)

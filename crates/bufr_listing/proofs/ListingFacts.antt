@@ -1,10 +1,139 @@
--- The line of octets for local use: for `push_local`, by which `heading_text` and `text_of` write.
-use Rattle.std.proofs.Common.{◌≡◌, ◌<◌, ℕ, List, [], ◌∷◌, ◌++◌, length, codes, refl, arith}
-use Rattle.hex.specs.Hex.{encode_lower}
-use Rattle.bufr_listing.specs.Listings.{local_line}
+-- Lines with their ends, joined: the parts of a listing as the writers write them, one behind the
+-- other. For `push_heading`, `push_local`, `push_section2`, `push_descriptors` and `push_subset`,
+-- by which `heading_text`, `subset_text` and `text_of` write, for `text_of` and for the laws
+-- `listings_are_joined_parts` and `listings_are_read_back`.
+use Rattle.std.proofs.Common.{◌≡◌, ◌<◌, ℕ, List, [], ◌∷◌, ◌++◌, length, map, codes, refl, sym, ap}
+use Rattle.std.proofs.Common.{◌∙◌, arith, append_assoc}
+use Rattle.std.specs.List.{flat_map}
+use Rattle.std.proofs.lemmas.List.{append-nil}
+use Rattle.bufr_tables.specs.Descriptors.{six_digits}
+use Rattle.bufr_data.specs.declared.field.Field.{Field}
+use Rattle.bufr_data.specs.declared.field.Subset.{Subset}
+use Rattle.bufr_sections.specs.declared.message.Message.{Message}
+use Rattle.bufr_listing.specs.Listings.{line, joined, octets_line, section1_line, time_line}
+use Rattle.bufr_listing.specs.Listings.{local_lines, section2_lines, flags_line, descriptors_line}
+use Rattle.bufr_listing.specs.Listings.{Heading, heading_of, heading_lines, field_line}
+use Rattle.bufr_listing.specs.Listings.{subset_lines, end_line, lines_of, listing}
 
--- where there are any
+-- lines behind lines are joined one behind the other
+pub joined_append : (xs ys : List (List ℕ)) → joined (xs ++ ys) ≡ joined xs ++ joined ys
+joined_append [] ys = refl
+joined_append (x ∷ xs) ys = ap (λ zs. line x ++ zs) (joined_append xs ys)
+    ∙ sym (append_assoc (line x) (joined xs) (joined ys))
+
+-- ---- the lines before the first subset
+
+-- the line of octets for local use, where there are any
 pub local_line_is : (local : List ℕ) → 0 < length local
-    → codes "local1 " ++ (encode_lower local ++ 10 ∷ []) ≡ local_line local
+    → line (octets_line (codes "local1") local) ≡ joined (local_lines local)
 local_line_is [] h = absurd (omega arith)
-local_line_is (x ∷ xs) h = refl
+local_line_is (x ∷ xs) h = sym (append-nil (line (octets_line (codes "local1") (x ∷ xs))))
+
+-- descriptors behind spaces
+sixes_joined : (ds : List ℕ) → flat_map (λ d. 32 ∷ six_digits d) ds
+    ≡ flat_map (λ w. 32 ∷ w) (map six_digits ds)
+sixes_joined [] = refl
+sixes_joined (d ∷ ds) = ap (λ zs. (32 ∷ six_digits d) ++ zs) (sixes_joined ds)
+
+-- the line of descriptors, its first word, those and its end, behind what a text has already
+pub descriptors_behind : (t ds : List ℕ)
+    → t ++ codes "descriptors" ++ flat_map (λ d. 32 ∷ six_digits d) ds ++ 10 ∷ []
+    ≡ t ++ line (descriptors_line ds)
+descriptors_behind t ds =
+    ap (λ zs. zs ++ 10 ∷ [])
+    (append_assoc t (codes "descriptors") (flat_map (λ d. 32 ∷ six_digits d) ds)
+    ∙ ap (λ zs. t ++ (codes "descriptors" ++ zs)) (sixes_joined ds))
+    ∙ append_assoc t (descriptors_line ds) (10 ∷ [])
+
+-- a list and seven behind it
+seven_behind : (t a b c d e f g : List ℕ)
+    → t ++ a ++ b ++ c ++ d ++ e ++ f ++ g ≡ t ++ (a ++ (b ++ (c ++ (d ++ e ++ (f ++ g)))))
+seven_behind t a b c d e f g =
+    append_assoc (t ++ a ++ b ++ c ++ d ++ e) f g
+    ∙ append_assoc (t ++ a ++ b ++ c ++ d) e (f ++ g)
+    ∙ append_assoc (t ++ a ++ b ++ c) d (e ++ (f ++ g))
+    ∙ ap (λ zs. t ++ a ++ b ++ c ++ zs) (sym (append_assoc d e (f ++ g)))
+    ∙ append_assoc (t ++ a ++ b) c (d ++ e ++ (f ++ g))
+    ∙ append_assoc (t ++ a) b (c ++ (d ++ e ++ (f ++ g)))
+    ∙ append_assoc t a (b ++ (c ++ (d ++ e ++ (f ++ g))))
+
+-- the lines before the first subset, one behind the other behind what a text has already
+heading_behind : (t : List ℕ) (h : Heading)
+    → t ++ codes "message\n" ++ line (section1_line h.head) ++ line (time_line h.head)
+    ++ joined (local_lines h.head.local) ++ joined (section2_lines h.section2)
+    ++ line (flags_line h.observed h.compressed) ++ line (descriptors_line h.descriptors)
+    ≡ t ++ joined (heading_lines h)
+unfolding heading_lines
+heading_behind t h =
+    let local = local_lines h.head.local in
+    let two = section2_lines h.section2 in
+    let flags = flags_line h.observed h.compressed in
+    let last = descriptors_line h.descriptors in
+    let behind : joined (local ++ two ++ flags ∷ last ∷ [])
+    ≡ joined local ++ joined two ++ (line flags ++ line last) =
+    joined_append (local ++ two) (flags ∷ last ∷ [])
+    ∙ (λ i. joined_append local two i ++ (line flags ++ append-nil (line last) i)) in
+    seven_behind t (codes "message\n") (line (section1_line h.head)) (line (time_line h.head))
+    (joined local) (joined two) (line flags) (line last)
+    ∙ ap (λ zs. t ++ (codes "message\n" ++ (line (section1_line h.head)
+    ++ (line (time_line h.head) ++ zs)))) (sym behind)
+
+-- so what is written of them in turn is a text with them behind what it had
+pub heading_written : (h : Heading) (t a b c d e f g : List ℕ) → a ≡ t ++ codes "message\n"
+    → b ≡ a ++ line (section1_line h.head) → c ≡ b ++ line (time_line h.head)
+    → d ≡ c ++ joined (local_lines h.head.local) → e ≡ d ++ joined (section2_lines h.section2)
+    → f ≡ e ++ line (flags_line h.observed h.compressed)
+    → g ≡ f ++ line (descriptors_line h.descriptors) → g ≡ t ++ joined (heading_lines h)
+heading_written h t a b c d e f g first numbers time local two flags last =
+    last
+    ∙ ap (λ zs. zs ++ line (descriptors_line h.descriptors)) (flags
+    ∙ ap (λ zs. zs ++ line (flags_line h.observed h.compressed)) (two
+    ∙ ap (λ zs. zs ++ joined (section2_lines h.section2)) (local
+    ∙ ap (λ zs. zs ++ joined (local_lines h.head.local)) (time
+    ∙ ap (λ zs. zs ++ line (time_line h.head)) (numbers
+    ∙ ap (λ zs. zs ++ line (section1_line h.head)) first)))))
+    ∙ heading_behind t h
+
+-- ---- the lines of subsets
+
+-- the lines of fields
+fields_joined : (fields : List Field) → flat_map (λ f. line (field_line f)) fields
+    ≡ joined (map field_line fields)
+fields_joined [] = refl
+fields_joined (f ∷ fields) = ap (λ zs. line (field_line f) ++ zs) (fields_joined fields)
+
+-- the lines of a subset, its first and those of its fields, behind what a text has already
+pub subset_behind : (t : List ℕ) (s : Subset)
+    → t ++ codes "subset\n" ++ flat_map (λ f. line (field_line f)) s.fields
+    ≡ t ++ joined (subset_lines s)
+subset_behind t s = append_assoc t (codes "subset\n") (flat_map (λ f. line (field_line f)) s.fields)
+    ∙ ap (λ zs. t ++ (codes "subset\n" ++ zs)) (fields_joined s.fields)
+
+-- the lines of subsets
+subsets_joined : (subsets : List Subset) → joined (flat_map subset_lines subsets)
+    ≡ flat_map (λ s. joined (subset_lines s)) subsets
+subsets_joined [] = refl
+subsets_joined (s ∷ subsets) = joined_append (subset_lines s) (flat_map subset_lines subsets)
+    ∙ ap (λ zs. joined (subset_lines s) ++ zs) (subsets_joined subsets)
+
+-- ---- listings
+
+-- the listing of a message is its parts, one behind another
+pub listing_in_parts : (m : Message) → listing m
+    ≡ joined (heading_lines (heading_of m)) ++ flat_map (λ s. joined (subset_lines s)) m.subsets
+    ++ line end_line
+unfolding listing lines_of
+listing_in_parts m =
+    let heading = heading_lines (heading_of m) in
+    let subsets = flat_map subset_lines m.subsets in
+    joined_append (heading ++ subsets) (end_line ∷ [])
+    ∙ (λ i. joined_append heading subsets i ++ line end_line)
+    ∙ (λ i. (joined heading ++ subsets_joined m.subsets i) ++ line end_line)
+
+-- the listings of messages are their joined lines
+pub listings_joined : (messages : List Message) → flat_map listing messages ≡ joined
+    (flat_map lines_of messages)
+unfolding listing
+listings_joined [] = refl
+listings_joined (m ∷ messages) = ap (λ zs. joined (lines_of m) ++ zs) (listings_joined messages)
+    ∙ sym (joined_append (lines_of m) (flat_map lines_of messages))

@@ -10,15 +10,16 @@ use Rattle.bufr_tables.specs.declared.failure.Failure.TheVariants.{Fault, OutOfM
 use Rattle.bufr_expand.specs.Courses.{Course}
 use Rattle.bufr_data.specs.declared.field.Field.{Field}
 use Rattle.bufr_data.specs.declared.field.Subset.{Subset}
+use Rattle.bufr_tables.specs.AnswerLaws.{bind_ok, ok_is}
 use Rattle.bufr_listing.specs.declared.fault.ListingFault.{ListingFault}
 use Rattle.bufr_listing.specs.declared.fault.ListingFault.TheVariants.{BadLine}
 use Rattle.bufr_listing.specs.Cursors.{is_end, behind}
-use Rattle.bufr_listing.specs.Lines.{Line, texts, field_line}
+use Rattle.bufr_listing.specs.Listings.{field_line}
+use Rattle.bufr_listing.specs.Lines.{Line, texts}
 use Rattle.bufr_listing.specs.Reading.{with_rest, read_line, read_word, FieldsListed, SubsetsListed}
 use Rattle.bufr_listing.specs.Reading.{fields_read, subsets_read, subsets_of}
 use Rattle.bufr_listing.specs.Steps.{behind_subsets}
-use Rattle.bufr_listing.proofs.ListFacts.{bind_ok}
-use Rattle.bufr_listing.proofs.SubsetFacts.{ok_is, line_takes, fields_take}
+use Rattle.bufr_listing.proofs.SubsetFacts.{line_takes, fields_take}
 use Rattle.bufr_listing.proofs.StepFacts.{subsets_none, subsets_more}
 
 -- ---- answers one after the other

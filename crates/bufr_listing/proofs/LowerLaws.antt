@@ -1,6 +1,6 @@
 -- What the crates below say of descriptors, specs and subsets: the premises of the laws of
 -- listings.
-use Rattle.std.specs.Prelude.{◌≡◌, ◌↔◌, ℕ, ◌<◌, List, Some}
+use Rattle.std.specs.Prelude.{◌≡◌, ◌↔◌, ℕ, ◌<◌, List, Some, ◌^◌}
 use Rattle.bufr_tables.specs.Descriptors.{of_text, six_digits}
 use Rattle.bufr_tables.specs.Entries.{Entries}
 use Rattle.bufr_expand.specs.declared.node.TemplateFault.{TemplateFault}
@@ -13,7 +13,7 @@ use Rattle.bufr_data.specs.Laws.{AllCountedFit, AllFittingAreCounted}
 
 -- a text is read as a descriptor exactly where it is what the descriptor prints
 abbrev pub DescriptorTexts : Type 0
-DescriptorTexts = (text : List ℕ) (d : ℕ) → ((of_text text ≡ Some d) ↔ ((d < 65536) × (text ≡ six_digits d)))
+DescriptorTexts = (text : List ℕ) (d : ℕ) → ((of_text text ≡ Some d) ↔ ((d < 2 ^ 16) × (text ≡ six_digits d)))
 
 -- each field that a course asks for is in range
 abbrev pub FieldsAreInRange : Type 0

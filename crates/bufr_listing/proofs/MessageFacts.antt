@@ -11,18 +11,23 @@ use Rattle.std.proofs.lemmas.List.Elements.{All-from_recursion}
 use Rattle.bufr_tables.specs.Answers.{◌>>=◌}
 use Rattle.bufr_tables.specs.Entries.{Entries}
 use Rattle.bufr_expand.specs.Courses.{course}
+use Rattle.bufr_expand.specs.Limits.{most_items}
 use Rattle.bufr_data.specs.declared.field.Subset.{Subset}
 use Rattle.bufr_data.specs.Fits.{AllFitWithin}
-use Rattle.bufr_listing.proofs.ListFacts.{bind_ok, six_by_place}
+use Rattle.bufr_tables.specs.DescriptorLaws.{six_by_place}
 use Rattle.bufr_listing.proofs.LowerLaws.{LowerLaws}
 use Rattle.bufr_sections.specs.declared.message.Head.{Head}
 use Rattle.bufr_sections.specs.declared.message.Message.{Message}
+use Rattle.bufr_listing.specs.Listings.{heading_lines, field_line, subset_lines, lines_of}
+use Rattle.bufr_listing.specs.Listings.{section2_lines, flags_line, descriptors_line, heading_of}
+use Rattle.bufr_listing.specs.Listings.{section1_line, time_line, local_lines, section2_line}
+use Rattle.bufr_listing.specs.Listings.{section1_numbers, time_numbers, numbers_line, octets_line}
+use Rattle.bufr_listing.specs.Limits.{two_octets}
 use Rattle.bufr_listing.specs.declared.fault.ListingFault.{ListingFault}
 use Rattle.bufr_sections.specs.Sections.{AreOctets, HeadFits, IsOctet}
-use Rattle.bufr_listing.specs.Lines.{Line, texts, first_word, section1_numbers, time_numbers}
-use Rattle.bufr_listing.specs.Lines.{numbers_line, octets_line, local_lines, section2_line}
-use Rattle.bufr_listing.specs.Lines.{section2_lines, flags_line, descriptors_line, field_line}
-use Rattle.bufr_listing.specs.Lines.{subset_lines, flags_and_on, lines_of, CanBeListed}
+use Rattle.bufr_tables.specs.AnswerLaws.{bind_ok, ok_is}
+use Rattle.bufr_listing.specs.Lines.{Line, texts, first_word}
+use Rattle.bufr_listing.specs.Lines.{CanBeListed}
 use Rattle.bufr_listing.specs.Reading.{with_rest, read_line, read_if, read_word, are_below}
 use Rattle.bufr_listing.specs.Reading.{read_numbers, read_local, read_section2, read_flags}
 use Rattle.bufr_listing.specs.Reading.{read_descriptors, subsets_read, section1_limits, time_limits}
@@ -30,7 +35,7 @@ use Rattle.bufr_listing.specs.Reading.{head_with, MessageRead, message_read, mes
 use Rattle.bufr_listing.proofs.FieldFacts.{bytes_same, same_bytes, if_ok}
 use Rattle.bufr_listing.proofs.CourseFacts.{course_printable}
 use Rattle.bufr_listing.proofs.LoopFacts.{goes_on, texts_length}
-use Rattle.bufr_listing.proofs.SubsetFacts.{ok_is, LineTaken, line_takes, line_back, subsets_take}
+use Rattle.bufr_listing.proofs.SubsetFacts.{LineTaken, line_takes, line_back, subsets_take}
 use Rattle.bufr_listing.proofs.SubsetFacts.{subsets_back}
 use Rattle.bufr_listing.proofs.LineFacts.{literal_word, both, numbers_take, numbers_back}
 use Rattle.bufr_listing.proofs.LineFacts.{octets_take, local_back, section2_take, section2_back}
@@ -203,22 +208,23 @@ from_flags m others =
 -- the lines of a message in turn, and others
 abbrev in_turn : Message → List (List ℕ) → List (List ℕ)
 in_turn m others =
-    codes "message" ∷ numbers_line (codes "section1") (section1_numbers m.head) ∷ numbers_line
-    (codes "time") (time_numbers m.head)
+    codes "message" ∷ section1_line m.head ∷ time_line m.head
     ∷ local_lines m.head.local ++ (section2_lines m.section2 ++ from_flags m others)
 
 -- they are its lines before the others
 pub regrouped : (m : Message) (others : List (List ℕ)) → lines_of m ++ others ≡ in_turn m others
-unfolding lines_of
+unfolding heading_lines lines_of
 regrouped m others =
-    let last : flags_and_on m ++ others ≡ from_flags m others =
-    ap (λ ls. flags_line m.observed m.compressed ∷ descriptors_line m.descriptors ∷ ls)
-    (append_assoc (flat_map subset_lines m.subsets) (codes "end" ∷ []) others) in
-    ap (λ ls. codes "message" ∷ numbers_line (codes "section1") (section1_numbers m.head)
-    ∷ numbers_line (codes "time") (time_numbers m.head) ∷ ls)
-    (append_assoc (local_lines m.head.local) (section2_lines m.section2 ++ flags_and_on m) others
-    ∙ ap (λ ls. local_lines m.head.local ++ ls) (append_assoc (section2_lines m.section2)
-    (flags_and_on m) others ∙ ap (λ ls. section2_lines m.section2 ++ ls) last))
+    let heading = heading_lines (heading_of m) in
+    let subsets = flat_map subset_lines m.subsets in
+    let local = local_lines m.head.local in
+    let two = section2_lines m.section2 in
+    let flags = flags_line m.observed m.compressed ∷ descriptors_line m.descriptors ∷ [] in
+    let behind = subsets ++ codes "end" ∷ others in
+    append_assoc (heading ++ subsets) (codes "end" ∷ []) others
+    ∙ append_assoc heading subsets (codes "end" ∷ others)
+    ∙ ap (λ ls. codes "message" ∷ section1_line m.head ∷ time_line m.head ∷ ls)
+    (append_assoc (local ++ two) flags behind ∙ append_assoc local two (flags ++ behind))
 
 -- ---- the numbers of section 1
 
@@ -227,13 +233,13 @@ pub head_below : (h : Head) → HeadFits h → (are_below section1_limits (secti
     × (are_below time_limits (time_numbers h) ≡ true)
 unfolding are_below
 head_below h fits = (
-  both (lt-ltb h.centre 65536 fits.centre) (both (lt-ltb h.sub_centre 65536 fits.sub_centre)
+  both (lt-ltb h.centre two_octets fits.centre) (both (lt-ltb h.sub_centre two_octets fits.sub_centre)
       (both (lt-ltb h.update 256 fits.update) (both (lt-ltb h.category 256 fits.category)
       (both (lt-ltb h.international 256 fits.international)
       (both (lt-ltb h.local_category 256 fits.local_category)
       (both (lt-ltb h.master_version 256 fits.master_version)
       (both (lt-ltb h.local_version 256 fits.local_version) refl))))))),
-  both (lt-ltb h.year 65536 fits.year)
+  both (lt-ltb h.year two_octets fits.year)
       (both (lt-ltb h.month 256 fits.month)
       (both (lt-ltb h.day 256 fits.day)
       (both (lt-ltb h.hour 256 fits.hour)
@@ -270,7 +276,7 @@ pub record MessageTaken (tables : Entries) (ls : List Line) (x : MessageRead) : 
   pub can : CanBeListed tables x.0
 
 -- no item is within the limit
-pub none_used : 0 ≤ 16777216
+pub none_used : 0 ≤ most_items
 none_used = omega arith
 
 -- a message that is read is that of the lines
@@ -378,7 +384,7 @@ pub word_back : (word : List ℕ) (n : ℕ) → read_word word n word ≡ Ok tt
 word_back word n = rw (same_bytes word word refl) refl
 
 -- no limit of section 1 is above 65,536
-pub limits_most : AllByRecursion (λ l. l ≤ 65536) section1_limits
+pub limits_most : AllByRecursion (λ l. l ≤ two_octets) section1_limits
 limits_most = (
   omega arith,
   (
@@ -388,7 +394,7 @@ limits_most = (
 )
 
 -- nor one of the time
-pub time_limits_most : AllByRecursion (λ l. l ≤ 65536) time_limits
+pub time_limits_most : AllByRecursion (λ l. l ≤ two_octets) time_limits
 time_limits_most =
     (omega arith, (omega arith, (omega arith, (omega arith, (omega arith, (omega arith, tt))))))
 
@@ -484,7 +490,7 @@ messages_take laws (suc left) tables past (l ∷ ls) messages h =
 
 -- a message has a line
 pub some_line : (m : Message) (others : List (List ℕ)) → 0 < length (lines_of m ++ others)
-unfolding lines_of
+unfolding heading_lines lines_of
 some_line m others = omega arith
 
 -- there are no more messages than lines

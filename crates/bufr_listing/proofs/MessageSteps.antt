@@ -15,18 +15,19 @@ use Rattle.bufr_expand.specs.Courses.{Course, course}
 use Rattle.bufr_data.specs.declared.field.Subset.{Subset}
 use Rattle.bufr_sections.specs.declared.message.Head.{Head}
 use Rattle.bufr_sections.specs.declared.message.Message.{Message}
+use Rattle.bufr_tables.specs.AnswerLaws.{bind_ok, ok_is}
 use Rattle.bufr_listing.specs.declared.fault.ListingFault.{ListingFault}
 use Rattle.std.specs.Option.{is_some}
 use Rattle.bufr_listing.specs.declared.lines.TextLine.{TextLine}
-use Rattle.bufr_listing.specs.Cursors.{IsNext, printed}
-use Rattle.bufr_listing.specs.Lines.{Line, texts, first_word, subset_lines}
+use Rattle.bufr_listing.specs.Cursors.{IsNextLine, printed}
+use Rattle.bufr_listing.specs.Listings.{subset_lines}
+use Rattle.bufr_listing.specs.Lines.{Line, texts, first_word}
 use Rattle.bufr_listing.specs.Reading.{with_rest, read_line, read_if, read_word, read_numbers}
 use Rattle.bufr_listing.specs.Reading.{read_local, read_section2, Flags, read_flags, Described}
 use Rattle.bufr_listing.specs.Reading.{read_descriptors, SubsetsListed, subsets_read, subsets_of}
 use Rattle.bufr_listing.specs.Reading.{section1_limits, time_limits, head_with, head_read}
 use Rattle.bufr_listing.specs.Reading.{MessageRead, message_read, messages_read}
-use Rattle.bufr_listing.proofs.ListFacts.{bind_ok}
-use Rattle.bufr_listing.proofs.SubsetFacts.{ok_is, subsets_take}
+use Rattle.bufr_listing.proofs.SubsetFacts.{subsets_take}
 use Rattle.bufr_listing.proofs.LoopFacts.{goes_on, texts_length, line_shorter}
 
 -- ---- section 1 first
@@ -272,13 +273,13 @@ message_is tables past ls l1 l2 l3 l4 l5 h two flags list subsets a b c d s =
 -- ---- messages
 
 -- whether there is a next line
-pub some_next : (ls : List Line) (o : Option TextLine) → IsNext ls o → is_some o ≡ true → ls ≡ []
+pub some_next : (ls : List Line) (o : Option TextLine) → IsNextLine ls o → is_some o ≡ true → ls ≡ []
     → ⊥
 some_next ls None next h none = cc h
 some_next ls (Some l) next h none = let e : printed l ∷ next.0 ≡ [] = sym next.1 ∙ none in cc e
 
 -- no line comes next, no line is left
-pub none_next : (ls : List Line) (o : Option TextLine) → IsNext ls o → is_some o ≡ false → ls ≡ []
+pub none_next : (ls : List Line) (o : Option TextLine) → IsNextLine ls o → is_some o ≡ false → ls ≡ []
 none_next ls None next h = next
 none_next ls (Some l) next h = absurd cc
 

@@ -12,9 +12,10 @@ use Rattle.bufr_data.specs.declared.field.Decimal.{Decimal}
 use Rattle.bufr_data.specs.Values.{text_of}
 use Rattle.bufr_data.specs.DecimalTexts.{decimal_of}
 use Rattle.bufr_data.specs.DecimalTextFacts.{IsRead, decimal_found, decimal_only}
+use Rattle.bufr_listing.specs.Limits.{two_octets}
 use Rattle.bufr_listing.specs.declared.fault.ListingFault.TheVariants.{BadLine, BadValue}
-use Rattle.bufr_listing.specs.Listings.{words}
-use Rattle.bufr_listing.specs.Lines.{words_of, first_word, numbers_line, has_octets, as_printed}
+use Rattle.bufr_listing.specs.Listings.{words, numbers_line}
+use Rattle.bufr_listing.specs.Lines.{words_of, first_word, has_octets, as_printed}
 use Rattle.bufr_listing.specs.Words.{below, number_below, onto, numbers_of}
 use Rattle.bufr_listing.specs.Reading.{are_below, numbers_in, read_numbers}
 use Rattle.bufr_listing.proofs.FieldFacts.{bytes_same, same_bytes}
@@ -52,7 +53,7 @@ word_taken : (limit : ℕ) (w : List ℕ) (n : ℕ) → number_below limit w ≡
 word_taken limit w n h = below_by limit w n (decimal_of (pos 0) w) (decimal_found (pos 0) w) h
 
 -- a number below its limit is read of what it prints
-word_back : (limit n : ℕ) → limit ≤ 65536 → nat_lt n limit ≡ true → number_below limit (decimal n)
+word_back : (limit n : ℕ) → limit ≤ two_octets → nat_lt n limit ≡ true → number_below limit (decimal n)
     ≡ Some n
 word_back limit n most h =
     let small = ltb-true n limit h in
@@ -91,7 +92,7 @@ numbers_taken (limit ∷ limits) (w ∷ ws) ns h =
     (record { texts = λ i. first.0 i ∷ others.texts i; below = both first.1 others.below })
 
 -- numbers below their limits are read of what they print
-pub numbers_again : (limits ns : List ℕ) → AllByRecursion (λ l. l ≤ 65536) limits
+pub numbers_again : (limits ns : List ℕ) → AllByRecursion (λ l. l ≤ two_octets) limits
     → are_below limits ns ≡ true → numbers_of limits (map decimal ns) ≡ Some ns
 unfolding numbers_of are_below
 numbers_again [] [] most h = refl
@@ -147,7 +148,7 @@ titled_plain title text word first plain =
 
 -- the numbers of a line that begins with the title
 pub numbers_are : (title limits : List ℕ) (n : ℕ) (text : List ℕ) (ws : List (List ℕ))
-    (ns : List ℕ) → IsWord title → AllByRecursion (λ l. l ≤ 65536) limits → has_octets title ≡ false
+    (ns : List ℕ) → IsWord title → AllByRecursion (λ l. l ≤ two_octets) limits → has_octets title ≡ false
     → words_of text ≡ title ∷ ws → numbers_of limits ws ≡ Some ns → read_numbers title limits n
     (as_printed text) ≡ Ok ns
 numbers_are title limits n text ws ns word most plain e h =
@@ -161,7 +162,7 @@ numbers_are title limits n text ws ns word most plain e h =
 
 -- words that are no numbers make no line of numbers
 pub numbers_are_not : (title limits : List ℕ) (n : ℕ) (text : List ℕ) (ws : List (List ℕ))
-    → IsWord title → AllByRecursion (λ l. l ≤ 65536) limits → has_octets title ≡ false
+    → IsWord title → AllByRecursion (λ l. l ≤ two_octets) limits → has_octets title ≡ false
     → words_of text ≡ title ∷ ws → numbers_of limits ws ≡ None → read_numbers title limits n
     (as_printed text) ≡ Err (if length ws == length limits then BadValue n else BadLine n)
 numbers_are_not title limits n text ws word most plain e h =

@@ -20,9 +20,8 @@ use Rattle.hex.specs.Hex.{encode_with, encode_lower, decode_pairs, decode_of, â—
 use Rattle.hex.proofs.HexLemmas.{IsDigits-lower_digits}
 use Rattle.bufr_listing.specs.declared.fault.ListingFault.{ListingFault}
 use Rattle.bufr_listing.specs.declared.fault.ListingFault.TheVariants.{BadLine, BadValue}
-use Rattle.bufr_listing.specs.Listings.{words}
-use Rattle.bufr_listing.specs.Lines.{words_of, first_word, octets_line, has_octets, lower_digit}
-use Rattle.bufr_listing.specs.Lines.{as_printed}
+use Rattle.bufr_listing.specs.Listings.{words, octets_line}
+use Rattle.bufr_listing.specs.Lines.{words_of, first_word, has_octets, lower_digit, as_printed}
 use Rattle.bufr_listing.specs.Reading.{fault_behind, octets_by, octets_in, read_octets}
 use Rattle.bufr_listing.proofs.FieldFacts.{bytes_same, same_bytes}
 use Rattle.bufr_listing.proofs.LineFacts.{IsWord, words_back}

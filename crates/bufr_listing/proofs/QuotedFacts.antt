@@ -11,10 +11,10 @@ use Rattle.std.proofs.lemmas.Bool.{and_parts, cases_Bool, lt-ltb, ltb-true, eqb-
 use Rattle.std.proofs.lemmas.Bool.Decides.{nat_tests}
 use Rattle.hex.specs.Hex.{hex_digit_value, lower_digits, encode_with}
 use Rattle.hex.proofs.HexLemmas.{IsDigits-lower_digits}
-use Rattle.bufr_listing.specs.Listings.{quoted_octet}
+use Rattle.bufr_listing.specs.Listings.{is_plain, quoted_octet}
 use Rattle.bufr_listing.specs.Lines.{lower_digit}
-use Rattle.bufr_listing.specs.RawWords.{is_plain, lower_value, pair_of, escaped, escaped_octet}
-use Rattle.bufr_listing.specs.RawWords.{first_octet, then_octets, octets_before}
+use Rattle.bufr_listing.specs.RawWords.{lower_value, pair_of, escaped, escaped_octet, first_octet}
+use Rattle.bufr_listing.specs.RawWords.{then_octets, octets_before}
 use Rattle.bufr_listing.proofs.FieldFacts.{bytes_same}
 use Rattle.bufr_listing.proofs.LineFacts.{both}
 use Rattle.bufr_listing.proofs.OctetFacts.{value_small, digit_printed, printed_lower}

@@ -8,6 +8,7 @@ use Rattle.std.specs.List.{flat_map}
 use Rattle.std.specs.Str.{bytes_eq}
 use Rattle.std.proofs.lemmas.List.{map-append}
 use Rattle.bufr_tables.specs.Answers.{◌>>=◌}
+use Rattle.bufr_expand.specs.Limits.{most_items}
 use Rattle.bufr_expand.specs.declared.operators.Spec.{Spec}
 use Rattle.bufr_expand.specs.declared.walk.WalkFault.{WalkFault}
 use Rattle.bufr_expand.specs.declared.walk.WalkFault.TheVariants.{TooLarge, EffectiveRange}
@@ -20,24 +21,26 @@ use Rattle.bufr_data.specs.declared.field.Subset.{Subset}
 use Rattle.bufr_data.specs.Plain.{number_of, items_of, items_of_all}
 use Rattle.bufr_data.specs.Fits.{HasForm, told_of}
 use Rattle.bufr_data.specs.Refusals.{Passes}
+use Rattle.bufr_data.specs.FormLaws.{asked_is, asked_passes}
+use Rattle.bufr_data.specs.CourseLaws.{Formed, passes_after, one_left}
+use Rattle.bufr_tables.specs.AnswerLaws.{bind_ok}
 use Rattle.bufr_listing.specs.declared.fault.ListingFault.{ListingFault}
 use Rattle.bufr_listing.specs.declared.fault.ListingFault.TheVariants.{BadLine}
-use Rattle.bufr_listing.specs.Lines.{Line, texts, field_line, subset_lines}
+use Rattle.bufr_listing.specs.Listings.{field_line, subset_lines}
+use Rattle.bufr_listing.specs.Lines.{Line, texts}
 use Rattle.bufr_listing.specs.FieldLines.{read_field}
 use Rattle.bufr_listing.specs.Reading.{with_rest, read_line}
 use Rattle.bufr_listing.specs.Reading.{fields_read, subsets_read}
 use Rattle.bufr_listing.specs.FirstFaults.{Unfit, text_ends, Halted, halted, IsLineOf, BeginsWith}
 use Rattle.bufr_listing.specs.FirstFaults.{NoFieldFollows, unfit, no_room, no_spec, FieldsFault}
 use Rattle.bufr_listing.specs.FirstFaults.{BeginsOrEnds, SubsetFault, inside, SubsetsFault}
-use Rattle.bufr_listing.proofs.ListFacts.{bind_ok}
 use Rattle.bufr_listing.proofs.FieldFacts.{IsPrintable, same_bytes, other_bytes}
 use Rattle.bufr_listing.proofs.FieldFacts.{read_field_takes, read_field_back}
-use Rattle.bufr_listing.proofs.FormFacts.{asked_is, asked_passes}
 use Rattle.bufr_listing.proofs.CourseFacts.{AsksPrintable, course_printable}
 use Rattle.bufr_listing.proofs.SubsetFacts.{fields_back}
 use Rattle.bufr_listing.proofs.LoopFacts.{goes_on, fails_on}
 use Rattle.bufr_listing.proofs.FaultFacts.{field_err}
-use Rattle.bufr_listing.proofs.FaultFields.{FaultLaws, Formed, passes_after, one_left}
+use Rattle.bufr_listing.proofs.FaultFields.{FaultLaws}
 use Rattle.bufr_listing.proofs.FaultFields.{IsBehind, fields_behind}
 use Rattle.bufr_listing.proofs.RefusedLines.{only_bad_line, unfit_at_end, unfit_at_line, Decides}
 use Rattle.bufr_listing.proofs.RefusedLines.{unfit_read, cut_lines, same_behind}
@@ -144,22 +147,22 @@ field_refused met past d spec more rest fault fit h =
 
 -- why no field follows these ones is the fault
 no_field_read : FaultLaws → (tree : Tree) (used past : ℕ) (before : List Field) (next : Course)
-    (rest : List Line) (fault : ListingFault) → used ≤ 16777216
+    (rest : List Line) (fault : ListingFault) → used ≤ most_items
     → After (course tree used) (map told_of before) next → AsksPrintable next
     → NoFieldFollows tree used before past rest fault → fields_read past next rest ≡ Err fault
 no_field_read laws tree used past before next rest fault le after fit (unfit d met spec begins h) =
-    let a = (laws.asked tree used (map told_of before) met d spec le).1 begins in
+    let a = (laws.courses.asked tree used (map told_of before) met d spec le).1 begins in
     let e : ◌≡◌ {A = Course} next (asks met d spec a.0) =
     one_left (course tree used) (map told_of before) next (asks met d spec a.0) after a.1 in
     ap (λ (k : Course). fields_read past k rest) e
     ∙ field_refused met past d spec a.0 rest fault
     (subst (λ (k : Course). AsksPrintable k) e fit) h
 no_field_read laws tree used past before next rest fault le after fit (no_room passes h) =
-    let e = (laws.too_large tree used (map told_of before) next le after).1 passes in
+    let e = (laws.courses.too_large tree used (map told_of before) next le after).1 passes in
     ap (λ (k : Course). fields_read past k rest) e
-    ∙ halted_read 16777216 past TooLarge rest fault h
+    ∙ halted_read most_items past TooLarge rest fault h
 no_field_read laws tree used past before next rest fault le after fit (no_spec d met begins h) =
-    let a = (laws.lacking tree used (map told_of before) met d le).1 begins in
+    let a = (laws.courses.lacking tree used (map told_of before) met d le).1 begins in
     let e = one_left (course tree used) (map told_of before) next (stops met (EffectiveRange d))
     after a in
     ap (λ (k : Course). fields_read past k rest) e
@@ -167,7 +170,7 @@ no_field_read laws tree used past before next rest fault le after fit (no_spec d
 
 -- the first fault of a subset's fields is read
 fields_refused : FaultLaws → (tree : Tree) (used past : ℕ) (ls : List Line)
-    (fault : ListingFault) → used ≤ 16777216 → FieldsFault tree used past ls fault
+    (fault : ListingFault) → used ≤ most_items → FieldsFault tree used past ls fault
     → fields_read past (course tree used) ls ≡ Err fault
 fields_refused laws tree used past ls fault le h =
     let fit = course_printable laws.lower.specs tree used in
@@ -175,7 +178,7 @@ fields_refused laws tree used past ls fault le h =
     asked_in_turn (course tree used) h.before h.begin.formed
     (λ before others f e.
     let b = h.begin.each before others f e in
-    (b.0, (laws.asked tree used (map told_of before) b.0 f.fxy f.spec le).1 b.1)) in
+    (b.0, (laws.courses.asked tree used (map told_of before) b.0 f.fxy f.spec le).1 b.1)) in
     let after = (passes_after (course tree used) h.before passed.0 passed.1).0 in
     let later = printable_behind (course tree used) h.before passed.0 fit passed.1 in
     ap (λ (xs : List Line). fields_read past (course tree used) xs) h.in_order
@@ -233,7 +236,7 @@ inside_read (suc left) past course used l behind fault few title h =
 
 -- the fault of the next subset is read
 subset_refused : FaultLaws → (left past : ℕ) (tree : Tree) (used : ℕ) (ls : List Line)
-    (fault : ListingFault) → length ls ≤ left → used ≤ 16777216
+    (fault : ListingFault) → length ls ≤ left → used ≤ most_items
     → SubsetFault tree used past ls fault
     → subsets_read left past (course tree) used ls ≡ Err fault
 subset_refused laws left past tree used [] fault few le (unfit h) =
@@ -262,7 +265,7 @@ fewer_behind own front behind rest left e few =
 -- subsets that fit are read, so that where reading fails behind them it fails
 behind_subsets_fails : FaultLaws → (left past j : ℕ) (tree : Tree) (used items : ℕ)
     (before : List Subset) (own rest : List Line) (fault : ListingFault)
-    → length (own ++ rest) ≤ left → items ≤ 16777216
+    → length (own ++ rest) ≤ left → items ≤ most_items
     → items_of_all (course tree) j used before ≡ Ok items
     → texts own ≡ flat_map subset_lines before → SubsetFault tree items past rest fault
     → subsets_read left past (course tree) used (own ++ rest) ≡ Err fault

@@ -13,9 +13,10 @@ use Rattle.bufr_tables.specs.declared.failure.Failure.TheVariants.{Fault}
 use Rattle.bufr_sections.specs.declared.message.Head.{Head}
 use Rattle.bufr_sections.specs.Sections.{AreOctets, HeadFits}
 use Rattle.bufr_listing.specs.declared.fault.ListingFault.{ListingFault}
-use Rattle.bufr_listing.specs.Lines.{Line, texts, first_word, section1_numbers, time_numbers}
-use Rattle.bufr_listing.specs.Lines.{octets_line, local_lines, section2_line, section2_lines}
-use Rattle.bufr_listing.specs.Lines.{flags_line}
+use Rattle.bufr_listing.specs.Listings.{section1_numbers, time_numbers, octets_line, section1_line}
+use Rattle.bufr_listing.specs.Listings.{time_line, local_lines, section2_line, section2_lines}
+use Rattle.bufr_listing.specs.Listings.{flags_line}
+use Rattle.bufr_listing.specs.Lines.{Line, texts, first_word}
 use Rattle.bufr_listing.specs.Reading.{with_rest, read_line, read_if, read_word, read_numbers}
 use Rattle.bufr_listing.specs.Reading.{read_local, read_section2, Flags, read_flags}
 use Rattle.bufr_listing.specs.Reading.{read_descriptors, section1_limits, time_limits, head_with}
@@ -23,8 +24,7 @@ use Rattle.bufr_listing.specs.Reading.{are_below, head_read, message_read}
 use Rattle.bufr_listing.specs.FirstFaults.{Unfit, Place, at_message, at_section1, at_time}
 use Rattle.bufr_listing.specs.FirstFaults.{behind_time, behind_local, behind_section2}
 use Rattle.bufr_listing.specs.FirstFaults.{at_descriptors, AreBefore, CouldStand, IsOfKindAt}
-use Rattle.bufr_listing.specs.FirstFaults.{IsSection2, IsFlags, section1_line, time_line}
-use Rattle.bufr_listing.specs.FirstFaults.{up_to_time, up_to_local}
+use Rattle.bufr_listing.specs.FirstFaults.{IsSection2, IsFlags, up_to_time, up_to_local}
 use Rattle.bufr_listing.proofs.LowerLaws.{DescriptorTexts}
 use Rattle.bufr_listing.proofs.LineFacts.{numbers_take, octets_take, local_back, section2_take}
 use Rattle.bufr_listing.proofs.LineFacts.{section2_back, flags_take, flags_back, descriptors_take}

@@ -12,7 +12,8 @@ use Rattle.bufr_expand.specs.Courses.{course}
 use Rattle.bufr_expand.specs.Templates.{template}
 use Rattle.bufr_sections.specs.declared.message.Message.{Message}
 use Rattle.bufr_listing.specs.declared.fault.ListingFault.{ListingFault}
-use Rattle.bufr_listing.specs.Lines.{Line, texts, lines_of, CanBeListed}
+use Rattle.bufr_listing.specs.Listings.{lines_of}
+use Rattle.bufr_listing.specs.Lines.{Line, texts, CanBeListed}
 use Rattle.bufr_listing.specs.Reading.{with_rest, read_line, Described, described}
 use Rattle.bufr_listing.specs.Reading.{read_descriptors, subsets_read, message_read}
 use Rattle.bufr_listing.specs.Reading.{messages_read, messages_listed}

@@ -1,8 +1,8 @@
 -- The lines of messages are the lines of their joined listings: for `listings_are_read_back`.
 use Rattle.std.proofs.Common.{◌≡◌, ℕ, zero, suc, ◌+◌, ◌-◌, ◌/◌, ◌%◌, ◌<◌, ◌≤◌, Bool, true, false}
 use Rattle.std.proofs.Common.{List, [], ◌∷◌, ◌++◌, length, map, get_or, codes, refl, sym, ap, ◌∙◌}
-use Rattle.std.proofs.Common.{subst, arith, append_assoc}
-use Rattle.std.specs.Prelude.{◌==◌, ◌&&◌, not, decimal, IfSome, Option, Some, None, nat_le, nat_lt}
+use Rattle.std.proofs.Common.{subst, arith, append_assoc, ◌^◌}
+use Rattle.std.specs.Prelude.{◌==◌, ◌&&◌, decimal, IfSome, Option, Some, None, nat_le, nat_lt}
 use Rattle.std.specs.Prelude.{slice_index, ℤ, pos, ◌+ℤ◌, Ok, if◌then◌else◌}
 use Rattle.std.specs.List.{flat_map, list_all, slice_split, AllByRecursion}
 use Rattle.std.specs.Str.{bytes_eq}
@@ -26,25 +26,29 @@ use Rattle.bufr_data.specs.Plain.{number_of, has_form_by, same_spec, stands_for,
 use Rattle.bufr_data.specs.Plain.{items_of_all}
 use Rattle.bufr_data.specs.Values.{is_missing, decimal_within}
 use Rattle.bufr_listing.proofs.LowerLaws.{LowerLaws}
-use Rattle.bufr_listing.proofs.ListFacts.{bind_ok, same_spec_is}
 use Rattle.bufr_data.specs.DecimalTextFacts.{digits_plain, decimal_digits, text_plain}
+use Rattle.bufr_data.specs.FormLaws.{same_spec_is}
 use Rattle.bufr_sections.specs.declared.message.Message.{Message}
 use Rattle.bufr_sections.specs.Sections.{AreOctets, HeadFits, IsOctet}
 use Rattle.bufr_sections.specs.declared.message.Head.{Head}
-use Rattle.bufr_listing.specs.Listings as old
-use Rattle.bufr_listing.specs.Listings.{line, heading_lines, listing, value_word, words}
-use Rattle.bufr_listing.specs.Lines.{texts, section1_numbers, time_numbers, numbers_line}
+use Rattle.bufr_tables.specs.AnswerLaws.{bind_ok}
+use Rattle.bufr_listing.specs.Listings.{field_line, subset_lines, end_line, lines_of}
+use Rattle.bufr_listing.specs.Listings.{flags_line, descriptors_line, heading_of}
+use Rattle.bufr_listing.specs.Listings.{octets_line, local_lines, section2_line, section2_lines}
+use Rattle.bufr_listing.specs.Listings.{section1_numbers, time_numbers, numbers_line}
+use Rattle.bufr_listing.specs.Listings.{joined, is_plain, quoted_octet, quoted, number_word}
+use Rattle.bufr_listing.specs.Listings.{value_word, heading_lines, listing}
+use Rattle.bufr_listing.specs.Lines.{texts}
 use Rattle.bufr_listing.specs.Lines.{is_skipped, lower_digit, as_printed, has_octets, first_word}
-use Rattle.bufr_listing.specs.Lines.{counting_from, counting_lines, joined, octets_line}
-use Rattle.bufr_listing.specs.Lines.{local_lines, section2_line, section2_lines, flags_line}
-use Rattle.bufr_listing.specs.Lines.{descriptors_line, field_line, subset_lines, flags_and_on}
-use Rattle.bufr_listing.specs.Lines.{lines_of, CanBeListed}
+use Rattle.bufr_listing.specs.Lines.{counting_from, counting_lines}
+use Rattle.bufr_listing.specs.Lines.{CanBeListed}
 use Rattle.bufr_listing.specs.Reading.{messages_listed}
 use Rattle.bufr_listing.proofs.PrintedFacts.{own_printed}
 use Rattle.bufr_listing.proofs.FieldFacts.{IsPrintable, other_bytes, size_small, number_small}
 use Rattle.bufr_listing.proofs.CourseFacts.{AsksPrintable, course_printable}
 use Rattle.bufr_listing.proofs.SubsetFacts.{if_same}
 use Rattle.bufr_listing.proofs.LineFacts.{word_then, six_word}
+use Rattle.bufr_listing.proofs.ListingFacts.{listings_joined}
 use Rattle.bufr_listing.proofs.TextFacts.{listed_read}
 
 -- ---- lines of joined lines
@@ -234,7 +238,7 @@ sections_shown (Some os) h = (section2_shown os (recursion_from_All IsOctet os h
 -- ---- numbers, flags, descriptors
 
 -- numbers print plain words
-decimals_plain : (ns : List ℕ) → AllByRecursion (λ n. n < 65536) ns
+decimals_plain : (ns : List ℕ) → AllByRecursion (λ n. n < 2 ^ 16) ns
     → AllByRecursion (λ w. IsPlain w) (map decimal ns)
 decimals_plain [] h = tt
 decimals_plain (n ∷ ns) h = let below = h.0 in
@@ -277,8 +281,8 @@ descriptors_shown (d ∷ ds) some =
 -- ---- fields
 
 -- what is quoted for an octet is plain
-octet_plain : (c : ℕ) → c < 256 → IsPlain (old.quoted_octet c)
-octet_plain c small = by_test (nat_le 32 c && nat_le c 126 && not (c == 34) && not (c == 92))
+octet_plain : (c : ℕ) → c < 256 → IsPlain (quoted_octet c)
+octet_plain c small = by_test (is_plain c)
     (λ e. leb-true 32 c (and_parts _ _ (and_parts _ _ (and_parts _ _ e).0).0).0)
   where
     by_test : (b : Bool) → (b ≡ true → 32 ≤ c)
@@ -287,17 +291,17 @@ octet_plain c small = by_test (nat_le 32 c && nat_le c 126 && not (c == 34) && n
     by_test false low = (omega arith, (hex_shown (c ∷ []) (small, tt)).0)
 
 -- what is quoted for octets is plain
-quoted_plain : (os : List ℕ) → AreBytes os → IsPlain (flat_map old.quoted_octet os ++ 34 ∷ [])
+quoted_plain : (os : List ℕ) → AreBytes os → IsPlain (flat_map quoted_octet os ++ 34 ∷ [])
 quoted_plain [] h = (omega arith, tt)
 quoted_plain (c ∷ os) h =
     subst IsPlain
-    (sym (append_assoc (old.quoted_octet c) (flat_map old.quoted_octet os) (34 ∷ [])))
-    (plain_append (old.quoted_octet c) (flat_map old.quoted_octet os ++ 34 ∷ [])
+    (sym (append_assoc (quoted_octet c) (flat_map quoted_octet os) (34 ∷ [])))
+    (plain_append (quoted_octet c) (flat_map quoted_octet os ++ 34 ∷ [])
     (octet_plain c h.0) (quoted_plain os h.1))
 
 -- the word of a number is plain
 number_plain : (missing : Bool) (spec : Spec) (n : ℕ) → IsPrintable spec → n < 18446744073709551616
-    → IsPlain (if missing then codes "missing" else old.number_word
+    → IsPlain (if missing then codes "missing" else number_word
     (if missing then None else decimal_within (pos n +ℤ spec.reference) spec.scale))
 number_plain true spec n fit small = literal_plain (codes "missing") refl
 number_plain false spec n fit small =
@@ -306,7 +310,7 @@ number_plain false spec n fit small =
 
 -- the word of a text is plain
 text_word_plain : (missing : Bool) (os : List ℕ) → AreBytes os
-    → IsPlain (if missing then codes "missing" else old.quoted os)
+    → IsPlain (if missing then codes "missing" else quoted os)
 text_word_plain true os small = literal_plain (codes "missing") refl
 text_word_plain false os small = (omega arith, quoted_plain os small)
 
@@ -466,12 +470,12 @@ subsets_shown j used course (s ∷ subsets) n fit h =
 
 -- a line of numbers is plain
 short_plain : (title ns : List ℕ) → list_all (λ c. nat_le 32 c) title ≡ true
-    → AllByRecursion (λ n. n < 65536) ns → IsPlain (numbers_line title ns)
+    → AllByRecursion (λ n. n < 2 ^ 16) ns → IsPlain (numbers_line title ns)
 short_plain title ns literal small = plain_append title (flat_map (λ w. 32 ∷ w) (map decimal ns))
     (literal_plain title literal) (plain_words (map decimal ns) (decimals_plain ns small))
 
 -- a number of 8 bits has 16
-octet_short : (n : ℕ) → n < 256 → n < 65536
+octet_short : (n : ℕ) → n < 256 → n < 2 ^ 16
 octet_short n h = omega arith
 
 -- the lines of section 1
@@ -524,41 +528,55 @@ head_shown h fits = (
   },
 )
 
--- the lines of a message
-message_shown : LowerLaws → (tables : Entries) (m : Message) → CanBeListed tables m
-    → AllByRecursion (λ l. IsShown l) (lines_of m)
-unfolding lines_of
-message_shown laws tables m can =
-    let numbers = head_shown m.head can.head in
-    let last : IsShown (codes "end") =
-    record { plain = literal_plain (codes "end") refl; kept = refl; own = refl } in
-    let subsets =
-    subsets_shown 1 0 (course can.tree) m.subsets can.items
-    (λ n. course_printable laws.specs can.tree n)
-    (laws.counted can.tree 1 0 can.items m.subsets can.fit) in
-    let behind : AllByRecursion (λ l. IsShown l) (flags_and_on m) = (
-      flags_shown m.observed m.compressed,
-      (
-        descriptors_shown m.descriptors can.some_descriptor,
-        shown_append (flat_map subset_lines m.subsets) (codes "end" ∷ []) subsets (last, tt),
-      ),
-    ) in
-    let local =
-    locals_shown m.head.local (recursion_from_All IsOctet m.head.local can.head.local) in
-    let two = sections_shown m.section2 can.section2 in
+-- the lines before the first subset
+heading_shown : (h : Head) (two : Option (List ℕ)) (observed compressed : Bool) (ds : List ℕ)
+    → HeadFits h → IfSome two AreOctets → 0 < length ds
+    → AllByRecursion (λ l. IsShown l) (heading_lines (record {
+      head = h;
+      section2 = two;
+      observed = observed;
+      compressed = compressed;
+      descriptors = ds;
+    }))
+unfolding heading_lines
+heading_shown h two observed compressed ds fits octets some =
+    let numbers = head_shown h fits in
     let first : IsShown (codes "message") =
-    record { plain = literal_plain (codes "message") refl; kept = refl; own = refl } in (
+    record { plain = literal_plain (codes "message") refl; kept = refl; own = refl } in
+    let local = locals_shown h.local (recursion_from_All IsOctet h.local fits.local) in
+    let last : AllByRecursion (λ l. IsShown l)
+    (flags_line observed compressed ∷ descriptors_line ds ∷ []) =
+    (flags_shown observed compressed, (descriptors_shown ds some, tt)) in (
       first,
       (
         numbers.0,
         (
           numbers.1,
-          shown_append (local_lines m.head.local)
-              (section2_lines m.section2 ++ flags_and_on m) local
-              (shown_append (section2_lines m.section2) (flags_and_on m) two behind),
+          shown_append (local_lines h.local ++ section2_lines two)
+              (flags_line observed compressed ∷ descriptors_line ds ∷ [])
+              (shown_append (local_lines h.local) (section2_lines two) local
+              (sections_shown two octets)) last,
         ),
       ),
     )
+
+-- the lines of a message
+message_shown : LowerLaws → (tables : Entries) (m : Message) → CanBeListed tables m
+    → AllByRecursion (λ l. IsShown l) (lines_of m)
+unfolding lines_of
+message_shown laws tables m can =
+    let heading =
+    heading_shown m.head m.section2 m.observed m.compressed m.descriptors can.head can.section2
+    can.some_descriptor in
+    let subsets =
+    subsets_shown 1 0 (course can.tree) m.subsets can.items
+    (λ n. course_printable laws.specs can.tree n)
+    (laws.counted can.tree 1 0 can.items m.subsets can.fit) in
+    let last : IsShown end_line =
+    record { plain = literal_plain end_line refl; kept = refl; own = refl } in
+    shown_append (heading_lines (heading_of m) ++ flat_map subset_lines m.subsets) (end_line ∷ [])
+    (shown_append (heading_lines (heading_of m)) (flat_map subset_lines m.subsets) heading subsets)
+    (last, tt)
 
 -- the lines of messages
 messages_shown : LowerLaws → (tables : Entries) (messages : List Message)
@@ -568,102 +586,6 @@ messages_shown laws tables [] h = tt
 messages_shown laws tables (m ∷ messages) h =
     shown_append (lines_of m) (flat_map lines_of messages) (message_shown laws tables m h.0)
     (messages_shown laws tables messages h.1)
-
--- ---- the listing of a message is its joined lines
-
--- lines behind lines are joined one behind the other
-joined_append : (xs ys : List (List ℕ)) → joined (xs ++ ys) ≡ joined xs ++ joined ys
-joined_append [] ys = refl
-joined_append (x ∷ xs) ys = ap (λ zs. line x ++ zs) (joined_append xs ys)
-    ∙ sym (append_assoc (line x) (joined xs) (joined ys))
-
--- the line of a field, as a listing has it
-joined_field : (f : Field) → line (field_line f) ≡ old.field_line f
-joined_field f = ap (λ w. line (six_digits f.fxy ++ 32 ∷ w)) (sym (append-nil (value_word f)))
-
--- the lines of fields
-joined_fields : (fields : List Field) → joined (map field_line fields)
-    ≡ flat_map old.field_line fields
-joined_fields [] = refl
-joined_fields (f ∷ fields) = λ i. joined_field f i ++ joined_fields fields i
-
--- the lines of subsets
-joined_subsets : (subsets : List Subset) → joined (flat_map subset_lines subsets)
-    ≡ flat_map old.subset_lines subsets
-joined_subsets [] = refl
-joined_subsets (s ∷ subsets) =
-    joined_append (subset_lines s) (flat_map subset_lines subsets)
-    ∙ (λ i. (codes "subset\n" ++ joined_fields s.fields i) ++ joined_subsets subsets i)
-
--- digits with nothing behind them
-joined_hex : (os : List ℕ) → ((encode_lower os ++ []) ++ 10 ∷ []) ++ [] ≡ encode_lower os ++ 10 ∷ []
-joined_hex os = append-nil ((encode_lower os ++ []) ++ 10 ∷ []) ∙ ap (λ e. e ++ 10 ∷ [])
-    (append-nil (encode_lower os))
-
--- the line of octets for local use
-joined_local : (os : List ℕ) → joined (local_lines os) ≡ old.local_line os
-joined_local [] = refl
-joined_local (x ∷ xs) = ap (λ e. codes "local1 " ++ e) (joined_hex (x ∷ xs))
-
--- the line of section 2
-joined_section2 : (two : Option (List ℕ)) → joined (section2_lines two) ≡ old.section2_line two
-joined_section2 None = refl
-joined_section2 (Some []) = refl
-joined_section2 (Some (x ∷ xs)) = ap (λ e. codes "section2 " ++ e) (joined_hex (x ∷ xs))
-
--- descriptors behind spaces
-joined_sixes : (ds : List ℕ) → flat_map (λ w. 32 ∷ w) (map six_digits ds) ≡ flat_map
-    (λ d. 32 ∷ six_digits d) ds
-joined_sixes [] = refl
-joined_sixes (d ∷ ds) = ap (λ zs. (32 ∷ six_digits d) ++ zs) (joined_sixes ds)
-
--- the lines from the flags on
-joined_from_flags : (m : Message) → joined (flags_and_on m)
-    ≡ old.flags_line m.observed m.compressed
-    ++ (old.descriptors_line m.descriptors ++ (flat_map old.subset_lines m.subsets ++ codes
-    "end\n"))
-joined_from_flags m =
-    let last = joined_append (flat_map subset_lines m.subsets) (codes "end" ∷ [])
-    ∙ ap (λ zs. zs ++ codes "end\n") (joined_subsets m.subsets) in
-    λ i. line (flags_line m.observed m.compressed)
-    ++ (line (codes "descriptors" ++ joined_sixes m.descriptors i) ++ last i)
-
--- nine lists, joined from either end
-nine_joined : (a b c d e f g h k : List ℕ) → a ++ b ++ c ++ d ++ e ++ f ++ g ++ h ++ k
-    ≡ a ++ (b ++ (c ++ (d ++ (e ++ (f ++ (g ++ (h ++ k)))))))
-nine_joined a b c d e f g h k =
-    append_assoc (a ++ b ++ c ++ d ++ e ++ f ++ g) h k
-    ∙ append_assoc (a ++ b ++ c ++ d ++ e ++ f) g (h ++ k)
-    ∙ append_assoc (a ++ b ++ c ++ d ++ e) f (g ++ (h ++ k))
-    ∙ append_assoc (a ++ b ++ c ++ d) e (f ++ (g ++ (h ++ k)))
-    ∙ append_assoc (a ++ b ++ c) d (e ++ (f ++ (g ++ (h ++ k))))
-    ∙ append_assoc (a ++ b) c (d ++ (e ++ (f ++ (g ++ (h ++ k)))))
-    ∙ append_assoc a b (c ++ (d ++ (e ++ (f ++ (g ++ (h ++ k))))))
-
--- the listing of a message is its joined lines
-pub listing_joined : (m : Message) → listing m ≡ joined (lines_of m)
-unfolding listing heading_lines lines_of
-listing_joined m =
-    let two = joined_append (section2_lines m.section2) (flags_and_on m)
-    ∙ (λ i. joined_section2 m.section2 i ++ joined_from_flags m i) in
-    let local =
-    joined_append (local_lines m.head.local) (section2_lines m.section2 ++ flags_and_on m)
-    ∙ (λ i. joined_local m.head.local i ++ two i) in
-    nine_joined (codes "message\n") (old.section1_line m.head) (old.time_line m.head)
-    (old.local_line m.head.local) (old.section2_line m.section2)
-    (old.flags_line m.observed m.compressed) (old.descriptors_line m.descriptors)
-    (flat_map old.subset_lines m.subsets) (codes "end\n")
-    ∙ sym (ap
-    (λ zs. line (codes "message")
-    ++ (line (numbers_line (codes "section1") (section1_numbers m.head))
-    ++ (line (numbers_line (codes "time") (time_numbers m.head)) ++ zs))) local)
-
--- so it is of several
-listings_joined : (messages : List Message) → flat_map listing messages ≡ joined
-    (flat_map lines_of messages)
-listings_joined [] = refl
-listings_joined (m ∷ messages) = (λ i. listing_joined m i ++ listings_joined messages i)
-    ∙ sym (joined_append (lines_of m) (flat_map lines_of messages))
 
 -- ---- what is listed is read back
 

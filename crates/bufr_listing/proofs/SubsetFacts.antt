@@ -13,19 +13,16 @@ use Rattle.bufr_expand.specs.Courses.{Course, ends, stops, asks}
 use Rattle.bufr_data.specs.declared.field.Field.{Field}
 use Rattle.bufr_data.specs.declared.field.Subset.{Subset}
 use Rattle.bufr_data.specs.Plain.{number_of, stands_for, items_of, items_of_all}
-use Rattle.bufr_listing.proofs.ListFacts.{bind_ok}
+use Rattle.bufr_tables.specs.AnswerLaws.{bind_ok, ok_is}
 use Rattle.bufr_listing.specs.declared.fault.ListingFault.{ListingFault}
-use Rattle.bufr_listing.specs.Lines.{Line, texts, field_line, subset_lines}
+use Rattle.bufr_listing.specs.Listings.{field_line, subset_lines}
+use Rattle.bufr_listing.specs.Lines.{Line, texts}
 use Rattle.bufr_listing.specs.FieldLines.{read_field}
 use Rattle.bufr_listing.specs.Reading.{with_rest, read_line, read_word, FieldsListed, SubsetsListed}
 use Rattle.bufr_listing.specs.Reading.{fields_read, subsets_read}
 use Rattle.bufr_listing.proofs.FieldFacts.{bytes_same, same_bytes, if_ok, read_field_back}
 use Rattle.bufr_listing.proofs.FieldFacts.{read_field_takes}
 use Rattle.bufr_listing.proofs.CourseFacts.{AsksPrintable}
-
--- the same answers are of the same values
-pub ok_is : {A F : Type 0} (x y : A) → ◌≡◌ {A = Result A F} (Ok x) (Ok y) → x ≡ y
-ok_is x y e = cc
 
 -- ---- one line
 

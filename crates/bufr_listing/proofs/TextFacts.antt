@@ -6,7 +6,8 @@ use Rattle.std.specs.Str.Lines.{lines}
 use Rattle.bufr_tables.specs.Entries.{Entries}
 use Rattle.bufr_listing.proofs.LowerLaws.{LowerLaws}
 use Rattle.bufr_sections.specs.declared.message.Message.{Message}
-use Rattle.bufr_listing.specs.Lines.{Line, texts, lines_of, counting_lines, Listed}
+use Rattle.bufr_listing.specs.Listings.{lines_of}
+use Rattle.bufr_listing.specs.Lines.{Line, texts, counting_lines, Listed}
 use Rattle.bufr_listing.specs.Reading.{messages_listed}
 use Rattle.bufr_listing.proofs.MessageFacts.{messages_take, messages_back, length-messages}
 use Rattle.bufr_listing.proofs.LoopFacts.{texts_length}

@@ -21,15 +21,15 @@ use Rattle.bufr_data.specs.declared.field.Raw.{Raw}
 use Rattle.bufr_data.specs.declared.field.Raw.TheVariants.{Number, Text}
 use Rattle.bufr_data.specs.declared.field.Field.{Field}
 use Rattle.bufr_data.specs.Plain.{has_form_by, stands_for}
+use Rattle.bufr_data.specs.FormLaws.{spec_is_same}
 use Rattle.bufr_listing.specs.declared.fault.ListingFault.TheVariants.{BadLine, BadValue}
-use Rattle.bufr_listing.specs.Listings.{quoted_octet, quoted, value_word}
-use Rattle.bufr_listing.specs.Lines.{field_line, has_octets, as_printed}
+use Rattle.bufr_listing.specs.Listings.{quoted_octet, quoted, value_word, field_line}
+use Rattle.bufr_listing.specs.Lines.{has_octets, as_printed}
 use Rattle.bufr_listing.specs.FieldLines.{is_missing_word, raw_in, field_in, field_fault}
 use Rattle.bufr_listing.specs.FieldLines.{read_field}
 use Rattle.bufr_listing.specs.RawWords as words
 use Rattle.bufr_listing.specs.RawWords.{octets_of, octets_before, are_ones, unless_ones, number_of}
 use Rattle.bufr_listing.specs.RawWords.{raw_of_kind, raw_of}
-use Rattle.bufr_listing.proofs.ListFacts.{spec_is_same}
 use Rattle.bufr_listing.proofs.FieldFacts.{bytes_same, same_bytes, IsPrintable, read_field_back}
 use Rattle.bufr_listing.proofs.LineFacts.{both}
 use Rattle.bufr_listing.proofs.PrintedFacts.{own_printed, octets_printed}

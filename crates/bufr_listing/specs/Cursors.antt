@@ -15,6 +15,7 @@ use Rattle.bufr_listing.specs.Lines.{Line, as_printed, counting_from}
 abbrev pub printed : TextLine → Line
 printed l = record { number = l.number; text = as_printed l.text.now }
 
+-- the line that was looked at, and those of the rest behind it; none where there is no line
 abbrev pub left_by : Option TextLine → ℕ → List ℕ → List Line
 left_by None found rest = []
 left_by (Some l) found rest = printed l ∷ counting_from (found + 1) (lines rest)
@@ -23,6 +24,7 @@ left_by (Some l) found rest = printed l ∷ counting_from (found + 1) (lines res
 unfoldable pub left : Lines → List Line
 left c = left_by c.next c.found c.rest.now
 
+-- the number of the line behind the last
 abbrev pub past_by : Option TextLine → ℕ → List ℕ → ℕ
 past_by None found rest = found + 1
 past_by (Some l) found rest = found + length (lines rest) + 1
@@ -32,10 +34,11 @@ unfoldable pub past : Lines → ℕ
 past c = past_by c.next c.found c.rest.now
 
 -- the line that comes next, or none
-abbrev pub IsNext : List Line → Option TextLine → Type 0
-IsNext ls None = ls ≡ []
-IsNext ls (Some l) = (rest : List Line) × (ls ≡ printed l ∷ rest)
+abbrev pub IsNextLine : List Line → Option TextLine → Type 0
+IsNextLine ls None = ls ≡ []
+IsNextLine ls (Some l) = (rest : List Line) × (ls ≡ printed l ∷ rest)
 
+-- the lines behind the first
 abbrev pub behind : List Line → List Line
 behind ls = drop 1 ls
 
@@ -46,9 +49,11 @@ next_of past (l ∷ ls) = Ok (l, ls)
 
 -- ---- lines of a text
 
+-- a line without the CR before its end
 abbrev pub without_return : List ℕ → List ℕ
 without_return l = strip_carriage_return l
 
+-- where the first line of a text ends: at its LF, or at the text's end
 abbrev pub line_end : List ℕ → ℕ
 line_end text = position_or_len (λ b. b == 10) text
 
@@ -67,6 +72,6 @@ is_end (l ∷ ls) = bytes_eq l.text (codes "end")
 
 -- the line that was found comes next, for `Lines::peek`
 pub next_is : (next : Option TextLine) (found : ℕ) (rest : List ℕ)
-    → IsNext (left_by next found rest) next
+    → IsNextLine (left_by next found rest) next
 next_is None found rest = refl
 next_is (Some l) found rest = (counting_from (found + 1) (lines rest), refl)

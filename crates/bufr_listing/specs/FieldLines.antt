@@ -16,12 +16,14 @@ use Rattle.bufr_data.specs.declared.field.Raw.TheVariants.{Number, Text}
 use Rattle.bufr_data.specs.declared.field.Field.{Field}
 use Rattle.bufr_data.specs.Plain.{has_form_by}
 use Rattle.bufr_data.specs.DecimalTexts.{units_in}
+use Rattle.bufr_data.specs.Limits.{most_decimal_scale}
 use Rattle.bufr_listing.specs.declared.fault.ListingFault.{ListingFault}
 use Rattle.bufr_listing.specs.declared.fault.ListingFault.TheVariants.{BadLine, BadValue}
-use Rattle.bufr_listing.specs.Lines.{field_line}
+use Rattle.bufr_listing.specs.Listings.{field_line}
 
 -- ---- texts between quotes
 
+-- the value of a hexadecimal digit, and 0 of any other character
 abbrev pub hex_value : ℕ → ℕ
 hex_value c = unwrap_or (hex_digit_value c) 0
 
@@ -36,6 +38,7 @@ octet_at text =
     then 16 * hex_value (get_or text 1 0) + hex_value (get_or text 2 0)
     else get_or text 0 0
 
+-- what stands behind the first octet: behind three characters where it is escaped
 abbrev pub behind_octet : List ℕ → List ℕ
 behind_octet text = drop (if is_escaped text then 3 else 1) text
 
@@ -46,9 +49,11 @@ unquoted (suc n) text = octet_at text ∷ unquoted n (behind_octet text)
 
 -- ---- the only candidate
 
+-- whether a word says that the value is missing
 abbrev pub is_missing_word : List ℕ → Bool
 is_missing_word word = bytes_eq word (codes "missing")
 
+-- an integer that is none below 0, and 0 in place of one below
 abbrev pub natural_part : ℤ → ℕ
 natural_part (pos n) = n
 natural_part (negsuc n) = 0
@@ -58,12 +63,15 @@ abbrev pub text_in : ℕ → List ℕ → List ℕ
 text_in count word =
     if is_missing_word word then replicate count 255 else unquoted count (drop 1 word)
 
+-- the number that could print this word: all ones for a missing value, else what the value is above
+-- the reference value
 abbrev pub number_in : Spec → List ℕ → ℕ
 number_in spec word =
     if is_missing_word word
     then 2 ^ spec.width - 1
     else natural_part (units_in spec.scale word -ℤ spec.reference)
 
+-- the raw value that could print this word, a text or a number by the kind
 abbrev pub raw_by : Kind → Spec → List ℕ → Raw
 raw_by kinds.Text spec word = Text (text_in (spec.width / 8) word)
 raw_by kind spec word = Number (number_in spec word)
@@ -87,7 +95,7 @@ field_fault d n text =
 -- its line is this one
 abbrev pub read_field : ℕ → Spec → ℕ → List ℕ → Result Field ListingFault
 read_field d spec n text =
-    if is_within 600 spec.scale
+    if is_within most_decimal_scale spec.scale
     && has_form_by spec.kind spec.width (raw_in spec (drop 7 text))
     && bytes_eq (field_line (field_in d spec text)) text
     then Ok (field_in d spec text) else Err (field_fault d n text)

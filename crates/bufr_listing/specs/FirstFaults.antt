@@ -25,11 +25,10 @@ use Rattle.bufr_sections.specs.Sections.{AreOctets, HeadFits}
 use Rattle.bufr_listing.specs.declared.fault.Cause.TheVariants as causes
 use Rattle.bufr_listing.specs.declared.fault.ListingFault.{ListingFault}
 use Rattle.bufr_listing.specs.declared.fault.ListingFault.TheVariants.{BadLine, BadValue, Refused}
-use Rattle.bufr_listing.specs.Lines.{Line, texts, words_of, first_word, counting_lines}
-use Rattle.bufr_listing.specs.Lines.{section1_numbers, time_numbers, numbers_line, octets_line}
-use Rattle.bufr_listing.specs.Lines.{local_lines, section2_line, section2_lines, flags_line}
-use Rattle.bufr_listing.specs.Lines.{descriptors_line, field_line, subset_lines, lines_of}
-use Rattle.bufr_listing.specs.Lines.{CanBeListed}
+use Rattle.bufr_listing.specs.Listings.{octets_line, section1_line, time_line, local_lines}
+use Rattle.bufr_listing.specs.Listings.{section2_line, section2_lines, flags_line}
+use Rattle.bufr_listing.specs.Listings.{descriptors_line, field_line, subset_lines, lines_of}
+use Rattle.bufr_listing.specs.Lines.{Line, texts, words_of, first_word, counting_lines, CanBeListed}
 
 -- ---- the next line
 
@@ -62,16 +61,11 @@ pub data Place : Type 0 where
   behind_section2 : Place
   at_descriptors : Place
 
-abbrev pub section1_line : Head → List ℕ
-section1_line h = numbers_line (codes "section1") (section1_numbers h)
-
-abbrev pub time_line : Head → List ℕ
-time_line h = numbers_line (codes "time") (time_numbers h)
-
--- the lines up to the time, and up to the octets for local use of section 1
+-- the lines up to the time
 abbrev pub up_to_time : Head → List (List ℕ)
 up_to_time h = codes "message" ∷ section1_line h ∷ time_line h ∷ []
 
+-- the lines up to the octets for local use of section 1
 abbrev pub up_to_local : Head → List (List ℕ)
 up_to_local h = up_to_time h ++ local_lines h.local
 
@@ -92,14 +86,16 @@ AreBefore at_descriptors ls =
     × (observed : Bool) × (compressed : Bool)
     × (ls ≡ up_to_local h ++ (section2_lines two ++ flags_line observed compressed ∷ []))
 
--- a line of octets for local use, of section 2, of flags, of descriptors
+-- a line of octets for local use of section 1
 abbrev pub IsLocal : List ℕ → Type 0
 IsLocal text = (octets : List ℕ) × AreOctets octets × (0 < length octets)
     × (text ≡ octets_line (codes "local1") octets)
 
+-- a line of section 2, of no octet or more
 abbrev pub IsSection2 : List ℕ → Type 0
 IsSection2 text = (octets : List ℕ) × AreOctets octets × (text ≡ section2_line octets)
 
+-- a line of flags
 abbrev pub IsFlags : List ℕ → Type 0
 IsFlags text = (observed : Bool) × (compressed : Bool) × (text ≡ flags_line observed compressed)
 
@@ -139,10 +135,11 @@ IsOfKindAt at_descriptors text = ⊥
 
 -- ---- the lines of subsets
 
--- a line of a field that is asked for, and one that begins with its descriptor and a space
+-- a line of a field that is asked for
 abbrev pub IsLineOf : ℕ → Spec → List ℕ → Type 0
 IsLineOf d spec text = (f : Field) × IsAsked d spec f × (text ≡ field_line f)
 
+-- a line that begins with this descriptor and a space
 abbrev pub BeginsWith : ℕ → List ℕ → Type 0
 BeginsWith d text = take 7 text ≡ six_digits d ++ 32 ∷ []
 

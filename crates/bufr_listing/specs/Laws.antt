@@ -3,21 +3,19 @@ use Rattle.std.specs.Prelude.{◌≡◌, ℕ, List, ◌++◌, Ok, Err}
 use Rattle.std.specs.List.{flat_map, AllByRecursion}
 use Rattle.bufr_tables.specs.Entries.{Entries}
 use Rattle.bufr_sections.specs.declared.message.Message.{Message}
-use Rattle.bufr_listing.specs.Listings.{heading_of, heading_lines, subset_lines, end_line, listing}
-use Rattle.bufr_listing.specs.Lines.{lines_of, joined, Listed, CanBeListed}
+use Rattle.bufr_listing.specs.Listings.{line, joined, heading_of, heading_lines, subset_lines}
+use Rattle.bufr_listing.specs.Listings.{end_line, listing}
+use Rattle.bufr_listing.specs.Lines.{Listed, CanBeListed}
 use Rattle.bufr_listing.specs.Reading.{messages_listed}
 use Rattle.bufr_listing.specs.FirstFaults.{FirstFault}
 use Rattle.bufr_listing.specs.declared.fault.ListingFault.{ListingFault}
 
--- the listing of a message is its joined lines
-abbrev pub ListingsAreJoinedLines : Type 0
-ListingsAreJoinedLines = (m : Message) → listing m ≡ joined (lines_of m)
-
--- the listing of a message is its parts, joined: the lines before the first subset, those of each
--- subset, and the last
+-- the listing of a message is its parts, one behind another: the lines before the first subset,
+-- those of each subset, and the last
 abbrev pub ListingsAreJoinedParts : Type 0
 ListingsAreJoinedParts = (m : Message)
-    → listing m ≡ heading_lines (heading_of m) ++ flat_map subset_lines m.subsets ++ end_line
+    → listing m ≡ joined (heading_lines (heading_of m))
+    ++ flat_map (λ s. joined (subset_lines s)) m.subsets ++ line end_line
 
 -- what is read of a text is listed by it
 abbrev pub MessagesReadAreListed : Type 0

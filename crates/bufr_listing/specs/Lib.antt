@@ -1,5 +1,6 @@
 pub mod Listings
 pub mod Heading
+pub mod Limits
 pub mod Lines
 pub mod FieldLines
 pub mod Cursors

@@ -1,5 +1,5 @@
 -- The listing of a message: lines of words (this project's own text form of a message of FM 94
--- BUFR).
+-- BUFR). Lines stand without their ends; a text has each with its end.
 use Rattle.std.specs.Prelude.{ℕ, ◌==◌, ◌&&◌, not, Bool, true, false, List, [], ◌∷◌, ◌++◌, map}
 use Rattle.std.specs.Prelude.{codes, decimal, Option, Some, None, nat_le, if◌then◌else◌}
 use Rattle.std.specs.List.{flat_map}
@@ -14,6 +14,8 @@ use Rattle.bufr_data.specs.Values.{is_missing, value, text_of}
 use Rattle.bufr_sections.specs.declared.message.Head.{Head}
 use Rattle.bufr_sections.specs.declared.message.Message.{Message}
 
+-- ---- words and lines
+
 -- a first word and words after it, parted by one space
 abbrev pub words : List ℕ → List (List ℕ) → List ℕ
 words first others = first ++ flat_map (λ w. 32 ∷ w) others
@@ -22,29 +24,19 @@ words first others = first ++ flat_map (λ w. 32 ∷ w) others
 abbrev pub line : List ℕ → List ℕ
 line text = text ++ 10 ∷ []
 
--- the line of local octets, where there are any
-abbrev pub local_line : List ℕ → List ℕ
-local_line [] = []
-local_line (x ∷ xs) = codes "local1 " ++ (encode_lower (x ∷ xs) ++ 10 ∷ [])
+-- lines with their ends, joined
+abbrev pub joined : List (List ℕ) → List ℕ
+joined ls = flat_map line ls
 
--- the line of section 2, where it is present
-abbrev pub section2_line : Option (List ℕ) → List ℕ
-section2_line None = []
-section2_line (Some []) = codes "section2\n"
-section2_line (Some (x ∷ xs)) = codes "section2 " ++ (encode_lower (x ∷ xs) ++ 10 ∷ [])
+-- ---- values
 
--- a word where a flag is up
-abbrev pub word_if : Bool → List ℕ → List (List ℕ)
-word_if true word = word ∷ []
-word_if false word = []
+-- an octet that stands for itself between quotes: 0x20 to 0x7E, but for the quote and the backslash
+abbrev pub is_plain : ℕ → Bool
+is_plain c = nat_le 32 c && nat_le c 126 && not (c == 34) && not (c == 92)
 
--- octets 0x20 to 0x7E other than the quote and the backslash stand for themselves, every other as
--- a backslash and two digits
+-- every other octet stands as a backslash and two digits
 abbrev pub quoted_octet : ℕ → List ℕ
-quoted_octet c =
-    if nat_le 32 c && nat_le c 126 && not (c == 34) && not (c == 92)
-    then c ∷ []
-    else 92 ∷ encode_lower (c ∷ [])
+quoted_octet c = if is_plain c then c ∷ [] else 92 ∷ encode_lower (c ∷ [])
 
 -- characters between quotes
 abbrev pub quoted : List ℕ → List ℕ
@@ -64,33 +56,63 @@ raw_word f (Text text) = quoted text
 abbrev pub value_word : Field → List ℕ
 value_word f = if is_missing f then codes "missing" else raw_word f f.raw
 
--- the line of a field: its descriptor and its value
-abbrev pub field_line : Field → List ℕ
-field_line f = line (words (six_digits f.fxy) (value_word f ∷ []))
+-- ---- the lines before the first subset
 
--- the lines of a subset
-abbrev pub subset_lines : Subset → List ℕ
-subset_lines s = codes "subset\n" ++ flat_map field_line s.fields
+-- the numbers of section 1 but its time
+abbrev pub section1_numbers : Head → List ℕ
+section1_numbers h =
+    h.centre ∷ h.sub_centre ∷ h.update ∷ h.category ∷ h.international ∷ h.local_category
+    ∷ h.master_version ∷ h.local_version ∷ []
 
--- the line of section 1 but its time, and that of the time
+-- the numbers of the time, from the year to the second
+abbrev pub time_numbers : Head → List ℕ
+time_numbers h = h.year ∷ h.month ∷ h.day ∷ h.hour ∷ h.minute ∷ h.second ∷ []
+
+-- a line of numbers behind its first word
+abbrev pub numbers_line : List ℕ → List ℕ → List ℕ
+numbers_line title numbers = words title (map decimal numbers)
+
+-- a line of octets behind its first word, in lower hexadecimal digits
+abbrev pub octets_line : List ℕ → List ℕ → List ℕ
+octets_line title octets = words title (encode_lower octets ∷ [])
+
+-- the line of section 1 but its time
 abbrev pub section1_line : Head → List ℕ
-section1_line h = line (words (codes "section1") (map decimal
-    (h.centre ∷ h.sub_centre ∷ h.update ∷ h.category ∷ h.international ∷ h.local_category
-    ∷ h.master_version ∷ h.local_version ∷ [])))
+section1_line h = numbers_line (codes "section1") (section1_numbers h)
 
+-- the line of the time
 abbrev pub time_line : Head → List ℕ
-time_line h = line (words (codes "time") (map decimal
-    (h.year ∷ h.month ∷ h.day ∷ h.hour ∷ h.minute ∷ h.second ∷ [])))
+time_line h = numbers_line (codes "time") (time_numbers h)
 
--- the line of the flags
+-- the line of local octets, where there are any
+abbrev pub local_lines : List ℕ → List (List ℕ)
+local_lines [] = []
+local_lines (x ∷ xs) = octets_line (codes "local1") (x ∷ xs) ∷ []
+
+-- the line of a section 2
+abbrev pub section2_line : List ℕ → List ℕ
+section2_line [] = codes "section2"
+section2_line (x ∷ xs) = octets_line (codes "section2") (x ∷ xs)
+
+-- where there is one
+abbrev pub section2_lines : Option (List ℕ) → List (List ℕ)
+section2_lines None = []
+section2_lines (Some octets) = section2_line octets ∷ []
+
+-- a word where a flag is up
+abbrev pub word_if : Bool → List ℕ → List (List ℕ)
+word_if true word = word ∷ []
+word_if false word = []
+
+-- the line of flags: those that are set, `observed` first
 abbrev pub flags_line : Bool → Bool → List ℕ
-flags_line observed compressed = line (words (codes "flags")
-    (word_if observed (codes "observed") ++ word_if compressed (codes "compressed")))
+flags_line observed compressed =
+    words (codes "flags")
+    (word_if observed (codes "observed") ++ word_if compressed (codes "compressed"))
 
--- the line of the descriptors: each behind a space
+-- the line of descriptors, six digits each
 abbrev pub descriptors_line : List ℕ → List ℕ
-descriptors_line descriptors =
-    line (codes "descriptors" ++ flat_map (λ d. 32 ∷ six_digits d) descriptors)
+descriptors_line descriptors = words (codes "descriptors") (map six_digits descriptors)
 
 -- what the lines before the first subset say: section 1, section 2 where there is one, the flags
 -- and the descriptors of section 3
@@ -113,16 +135,32 @@ heading_of m =
     }
 
 -- the lines before the first subset, in this order
-unfoldable pub heading_lines : Heading → List ℕ
+unfoldable pub heading_lines : Heading → List (List ℕ)
 heading_lines h =
-    codes "message\n" ++ section1_line h.head ++ time_line h.head ++ local_line h.head.local
-    ++ section2_line h.section2 ++ flags_line h.observed h.compressed
-    ++ descriptors_line h.descriptors
+    codes "message" ∷ section1_line h.head ∷ time_line h.head
+    ∷ local_lines h.head.local ++ section2_lines h.section2
+    ++ flags_line h.observed h.compressed ∷ descriptors_line h.descriptors ∷ []
+
+-- ---- the lines of subsets
+
+-- the line of a field: its descriptor, a space and its value
+abbrev pub field_line : Field → List ℕ
+field_line f = six_digits f.fxy ++ 32 ∷ value_word f
+
+-- the lines of a subset: its first one and one for each field
+abbrev pub subset_lines : Subset → List (List ℕ)
+subset_lines s = codes "subset" ∷ map field_line s.fields
 
 -- the last line
 abbrev pub end_line : List ℕ
-end_line = codes "end\n"
+end_line = codes "end"
 
--- the listing of a message: its lines, in this order
+-- ---- listings
+
+-- the lines of a message, in this order
+unfoldable pub lines_of : Message → List (List ℕ)
+lines_of m = heading_lines (heading_of m) ++ flat_map subset_lines m.subsets ++ end_line ∷ []
+
+-- the listing of a message: its lines, each with its end
 unfoldable pub listing : Message → List ℕ
-listing m = heading_lines (heading_of m) ++ flat_map subset_lines m.subsets ++ end_line
+listing m = joined (lines_of m)

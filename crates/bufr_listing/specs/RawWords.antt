@@ -13,13 +13,11 @@ use Rattle.bufr_data.specs.declared.field.Raw.{Raw}
 use Rattle.bufr_data.specs.declared.field.Raw.TheVariants.{Number, Text}
 use Rattle.bufr_data.specs.declared.field.Decimal.{Decimal}
 use Rattle.bufr_data.specs.DecimalTexts.{decimal_of}
+use Rattle.bufr_data.specs.Limits.{most_raw_bits, most_decimal_scale}
+use Rattle.bufr_listing.specs.Listings.{is_plain}
 use Rattle.bufr_listing.specs.FieldLines.{is_missing_word}
 
 -- ---- texts
-
--- an octet that stands for itself between quotes
-abbrev pub is_plain : ℕ → Bool
-is_plain c = nat_le 32 c && nat_le c 126 && not (c == 34) && not (c == 92)
 
 -- the value of a hexadecimal digit as it is printed
 abbrev pub lower_value : ℕ → Option ℕ
@@ -28,10 +26,12 @@ lower_value c =
     else if nat_le 97 c && nat_le c 102 then Some (c - 97 + 10)
     else None
 
+-- the octet of two hexadecimal digits
 abbrev pub pair_of : Option ℕ → Option ℕ → Option ℕ
 pair_of (Some high) (Some low) = Some (16 * high + low)
 pair_of _ _ = None
 
+-- an octet that is written by its digits, and what is behind it; none that is printed as itself
 abbrev pub escaped : Option ℕ → List ℕ → Option (ℕ × List ℕ)
 escaped None behind = None
 escaped (Some c) behind = if is_plain c then None else Some (c, behind)
@@ -48,6 +48,7 @@ first_octet (c ∷ behind) =
     if c == 92 then escaped_octet behind
     else if is_plain c then Some (c, behind) else None
 
+-- an octet before others, where there are others
 abbrev pub then_octets : ℕ → Option (List ℕ) → Option (List ℕ)
 then_octets c octets = option_map (λ cs. c ∷ cs) octets
 
@@ -62,6 +63,7 @@ abbrev pub octets_of : ℕ → List ℕ → Option (List ℕ)
 octets_of count [] = None
 octets_of count (c ∷ rest) = if c == 34 then octets_before count rest else None
 
+-- whether all octets are 255, as those of a missing text are
 abbrev pub are_ones : List ℕ → Bool
 are_ones octets = list_all (λ x. x == 255) octets
 
@@ -81,6 +83,8 @@ text_of width word =
 
 -- ---- numbers
 
+-- whether all ones are a missing value: not of a field of one bit, nor of a delayed replication
+-- factor
 abbrev pub may_be_missing : Spec → Bool
 may_be_missing spec = not (spec.width == 1) && not (same_kind spec.kind kinds.Count)
 
@@ -95,6 +99,7 @@ unless_missing spec n =
     then None
     else Some n
 
+-- the raw number of a value so far above the reference value; none below it
 abbrev pub number_above : Spec → ℤ → Option ℕ
 number_above spec (pos n) = unless_missing spec n
 number_above spec (negsuc n) = None
@@ -102,7 +107,7 @@ number_above spec (negsuc n) = None
 -- the number in so many bits that prints a word
 abbrev pub number_of : Spec → List ℕ → Option ℕ
 number_of spec word =
-    if nat_lt 64 spec.width then None
+    if nat_lt most_raw_bits spec.width then None
     else if is_missing_word word
     then missing_number spec
     else option_and_then (λ (d : Decimal). number_above spec (d.units -ℤ spec.reference))
@@ -110,10 +115,12 @@ number_of spec word =
 
 -- ---- raw values
 
+-- the raw value that prints this word, a text or a number by the kind
 abbrev pub raw_of_kind : Kind → Spec → List ℕ → Option Raw
 raw_of_kind kinds.Text spec word = option_map (λ octets. Text octets) (text_of spec.width word)
 raw_of_kind kind spec word = option_map (λ n. Number n) (number_of spec word)
 
 -- the raw value of a field of this spec that prints a word
 abbrev pub raw_of : Spec → List ℕ → Option Raw
-raw_of spec word = if is_within 600 spec.scale then raw_of_kind spec.kind spec word else None
+raw_of spec word =
+    if is_within most_decimal_scale spec.scale then raw_of_kind spec.kind spec word else None

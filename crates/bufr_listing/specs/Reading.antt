@@ -23,8 +23,9 @@ use Rattle.bufr_sections.specs.declared.message.Message.{Message}
 use Rattle.bufr_listing.specs.declared.fault.Cause.TheVariants as causes
 use Rattle.bufr_listing.specs.declared.fault.ListingFault.{ListingFault}
 use Rattle.bufr_listing.specs.declared.fault.ListingFault.TheVariants.{BadLine, BadValue, Refused}
-use Rattle.bufr_listing.specs.Lines.{Line, words_of, first_word, numbers_line, octets_line}
-use Rattle.bufr_listing.specs.Lines.{flags_line, descriptors_line, counting_lines}
+use Rattle.bufr_listing.specs.Limits.{one_octet, two_octets}
+use Rattle.bufr_listing.specs.Listings.{numbers_line, octets_line, flags_line, descriptors_line}
+use Rattle.bufr_listing.specs.Lines.{Line, words_of, first_word, counting_lines}
 use Rattle.bufr_listing.specs.FieldLines.{read_field}
 
 -- ---- one line
@@ -71,6 +72,7 @@ abbrev pub octets_by : Result (List ℕ) FromHexError → List ℕ
 octets_by (Ok octets) = octets
 octets_by (Err fault) = []
 
+-- the octets that these digits are, and none where they are no hexadecimal digits
 abbrev pub octets_in : List ℕ → List ℕ
 octets_in digits = octets_by (decode_of digits)
 
@@ -82,6 +84,7 @@ read_octets title has_count n text =
     then Ok octets
     else Err (fault_behind title has_count n text)
 
+-- the octets for local use of section 1
 abbrev pub read_local : ℕ → List ℕ → Result (List ℕ) ListingFault
 read_local n text = read_octets (codes "local1") (length (words_of text) == 2) n text
 
@@ -97,6 +100,7 @@ pub record Flags : Type 0 where
   pub observed : Bool
   pub compressed : Bool
 
+-- the flags of a line: one of the four lines that can be printed
 abbrev pub read_flags : ℕ → List ℕ → Result Flags ListingFault
 read_flags n text =
     if bytes_eq text (flags_line false false)
@@ -118,6 +122,7 @@ pub record Described : Type 0 where
   pub descriptors : List ℕ
   pub tree : Tree
 
+-- descriptors with their tree, or why they have none
 abbrev pub described : ℕ → List ℕ → Result Tree TemplateFault → Result Described ListingFault
 described n ds (Ok tree) = Ok (record { descriptors = ds; tree = tree })
 described n ds (Err fault) = Err (Refused n (causes.Template fault))
@@ -150,6 +155,7 @@ pub record FieldsListed : Type 0 where
   pub items : ℕ
   pub rest : List Line
 
+-- the subsets of some lines, how many items they have, and the lines after them
 pub record SubsetsListed : Type 0 where
   pub subsets : List Subset
   pub items : ℕ
@@ -189,11 +195,15 @@ subsets_of past course ls =
 
 -- ---- messages
 
+-- what the numbers of section 1 are below, but those of its time, in the order of their line
 abbrev pub section1_limits : List ℕ
-section1_limits = 65536 ∷ 65536 ∷ 256 ∷ 256 ∷ 256 ∷ 256 ∷ 256 ∷ 256 ∷ []
+section1_limits =
+    two_octets ∷ two_octets ∷ one_octet ∷ one_octet ∷ one_octet ∷ one_octet ∷ one_octet ∷ one_octet
+    ∷ []
 
+-- what the numbers of the time are below, from the year to the second
 abbrev pub time_limits : List ℕ
-time_limits = 65536 ∷ 256 ∷ 256 ∷ 256 ∷ 256 ∷ 256 ∷ []
+time_limits = two_octets ∷ one_octet ∷ one_octet ∷ one_octet ∷ one_octet ∷ one_octet ∷ []
 
 -- section 1 of its numbers, those of its time, and its local octets
 abbrev pub head_with : List ℕ → List ℕ → Option (List ℕ) → Head

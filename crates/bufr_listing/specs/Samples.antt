@@ -13,6 +13,7 @@ listing_head =
     codes "message\nsection1 98 0 0 0 2 0 37 0\ntime 2024 1 15 12 0 0\nflags observed\n"
     ++ codes "descriptors 001001 001002 004001 004002 004003 004004 004005 012101\n"
 
+-- the lines of the subset up to its last field
 abbrev pub listing_fields : List ℕ
 listing_fields =
     codes "subset\n001001 10\n001002 384\n004001 2024\n004002 1\n004003 15\n004004 12\n004005 0\n"

@@ -1,26 +1,12 @@
 -- Reading the lines of a subset field by field: what one step says of all that follows.
-use Rattle.std.specs.Prelude.{◌≡◌, ℕ, ◌<◌, ◌≤◌, false, List, [], ◌∷◌, ◌++◌, Option, Some, None}
+use Rattle.std.specs.Prelude.{◌≡◌, ℕ, List, [], ◌∷◌, ◌++◌, Option, Some, None}
 use Rattle.std.specs.Prelude.{Result, Ok, Err}
 use Rattle.bufr_expand.specs.Courses.{Course}
-use Rattle.bufr_expand.specs.declared.walk.Walk.{Walk}
-use Rattle.bufr_expand.specs.Walks as walks
 use Rattle.bufr_data.specs.declared.field.Field.{Field}
 use Rattle.bufr_data.specs.declared.field.Subset.{Subset}
-use Rattle.bufr_expand.specs.Steady.{IsSteady}
 use Rattle.bufr_listing.specs.declared.fault.ListingFault.{ListingFault}
 use Rattle.bufr_listing.specs.Lines.{Line}
 use Rattle.bufr_listing.specs.Reading.{FieldsListed, SubsetsListed, fields_read}
-
--- a walk that can go on
-pub record CanGoOn (w : Walk) : Type 0 where
-  pub answered : walks.waits w ≡ false
-  pub steady : IsSteady (walks.items_met w) (walks.left w)
-
--- a walk that has met one more item at least, and can go on
-pub record Advances (old new : Walk) : Type 0 where
-  pub ready : CanGoOn new
-  pub further : walks.items_met old < walks.items_met new
-  pub within : walks.items_met new ≤ 16777216
 
 -- these fields, and then those that are read
 abbrev pub behind_fields : List Field → Result FieldsListed ListingFault

@@ -7,6 +7,7 @@ use Rattle.bufr_data.specs.DecimalTexts.{decimal_of}
 use Rattle.bufr_listing.specs.declared.line_words.Words.{Words}
 use Rattle.bufr_listing.specs.Lines.{words_of}
 
+-- the words of what is left of a line, and none where nothing is
 abbrev pub words_in : Option (List ℕ) → List (List ℕ)
 words_in None = []
 words_in (Some text) = words_of text
@@ -15,6 +16,7 @@ words_in (Some text) = words_of text
 unfoldable pub words_left : Words → List (List ℕ)
 words_left w = words_in (option_map (λ t. t.now) w.rest)
 
+-- a number from 0 to below a limit
 abbrev pub below : ℕ → ℤ → Option ℕ
 below limit (pos n) = if nat_lt n limit then Some n else None
 below limit (negsuc n) = None
@@ -24,6 +26,7 @@ abbrev pub number_below : ℕ → List ℕ → Option ℕ
 number_below limit word =
     option_and_then (λ (d : Decimal). below limit d.units) (decimal_of (pos 0) word)
 
+-- a value before others, where all are there
 abbrev pub onto : {A : Type 0} → Option A → Option (List A) → Option (List A)
 onto None xs = None
 onto (Some x) xs = option_map (λ ys. x ∷ ys) xs

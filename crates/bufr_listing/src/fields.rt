@@ -2,8 +2,8 @@
 
 ghost use Rattle.std.specs.Prelude.{◌≡◌, ◌++◌, OnOk, string_bytes};
 ghost use Rattle.bufr_data.specs.Values.{value};
-ghost use Rattle.bufr_listing.specs.Listings.{quoted_octet, quoted, number_word, value_word};
-ghost use Rattle.bufr_listing.specs.Listings.{field_line, subset_lines};
+ghost use Rattle.bufr_listing.specs.Listings.{line, joined, quoted_octet, quoted, number_word};
+ghost use Rattle.bufr_listing.specs.Listings.{value_word, field_line, subset_lines};
 
 use bufr_data::{Field, Raw, Subset};
 use bufr_tables::OutOfMemory;
@@ -16,7 +16,7 @@ pub(crate) fn push_subset(
     subset: &Subset,
 ) -> Result<(), OutOfMemory>
     ensures { OnOk result (string_bytes text.new
-        ≡ string_bytes text.old ++ subset_lines subset.now) }
+        ≡ string_bytes text.old ++ joined (subset_lines subset.now)) }
 {
     text.push_str("subset\n")?;
     for field in subset.fields.as_slice() {
@@ -28,7 +28,7 @@ pub(crate) fn push_subset(
 /// Adds the line of a field.
 fn push_field(alloc: Global, text: &mut String, field: &Field) -> Result<(), OutOfMemory>
     ensures { OnOk result (string_bytes text.new
-        ≡ string_bytes text.old ++ field_line field.now) }
+        ≡ string_bytes text.old ++ line (field_line field.now)) }
 {
     let fxy = field.fxy;
     write!(text, "{fxy} ")?;

@@ -7,6 +7,7 @@ ghost use Rattle.std.specs.List.{AllByRecursion};
 ghost use Rattle.hex.specs.declared.error.FromHexError.TheVariants.{OutOfMemory};
 ghost use Rattle.bufr_tables.specs.Answers.{Gives};
 ghost use Rattle.bufr_expand.specs.Templates.{template};
+ghost use Rattle.bufr_listing.specs.Limits.{two_octets};
 ghost use Rattle.bufr_listing.specs.Cursors.{left, past};
 ghost use Rattle.bufr_listing.specs.Lines.{Line, as_printed, first_word, words_of, has_octets};
 ghost use Rattle.bufr_listing.specs.Reading as reading;
@@ -46,7 +47,7 @@ pub fn read_numbers(
 ) -> Result<Vec<u64>, Failure<ListingFault>>
     requires word { AllByRecursion (λ c. (c == 32) ≡ false) title.now }
     requires plain { has_octets title.now ≡ false }
-    requires short { AllByRecursion (λ l. l ≤ 65536) limits.now }
+    requires short { AllByRecursion (λ l. l ≤ two_octets) limits.now }
     ensures read { Gives {Y = List ℕ × List Line} (λ ns. (ns.items, left lines.new)) result
         (read_line (read_numbers title.now limits.now) (past lines.old) (left lines.old)) }
     ensures past { past lines.new ≡ past lines.old }

@@ -1,11 +1,10 @@
 //! The lines of a listing before its first subset.
 
-ghost use Rattle.std.specs.Prelude.{◌≡◌, ◌++◌, ◌∷◌, [], OnOk, string_bytes};
-ghost use Rattle.hex.specs.Hex.{encode_lower};
+ghost use Rattle.std.specs.Prelude.{◌≡◌, ◌++◌, OnOk, string_bytes};
 ghost use Rattle.bufr_listing.specs.Heading.{lent};
-ghost use Rattle.bufr_listing.specs.Listings.{section1_line, time_line, local_line};
-ghost use Rattle.bufr_listing.specs.Listings.{section2_line, flags_line, descriptors_line};
-ghost use Rattle.bufr_listing.specs.Listings.{heading_of, heading_lines};
+ghost use Rattle.bufr_listing.specs.Listings.{line, joined, octets_line, section1_line, time_line};
+ghost use Rattle.bufr_listing.specs.Listings.{local_lines, section2_lines, flags_line};
+ghost use Rattle.bufr_listing.specs.Listings.{descriptors_line, heading_of, heading_lines};
 
 use bufr_sections::{Head, Message};
 use bufr_tables::{Fxy, Items, OutOfMemory};
@@ -42,14 +41,13 @@ impl<'a> HeadingParts<'a> {
 }
 
 /// Adds the lines before the first subset.
-#[tactic(auto, using(crate::proofs::HeadingFacts::seven_behind), unfolding(crate::specs::Listings::heading_lines))]
 pub(crate) fn push_heading(
     alloc: Global,
     text: &mut String,
     parts: &HeadingParts<'_>,
 ) -> Result<(), OutOfMemory>
     ensures { OnOk result (string_bytes text.new
-        ≡ string_bytes text.old ++ heading_lines (lent parts.now)) }
+        ≡ string_bytes text.old ++ joined (heading_lines (lent parts.now))) }
 {
     text.push_str("message\n")?;
     push_section1(text, parts.head)?;
@@ -64,7 +62,7 @@ pub(crate) fn push_heading(
 /// Adds the line of section 1.
 fn push_section1(text: &mut String, head: &Head) -> Result<(), OutOfMemory>
     ensures { OnOk result (string_bytes text.new
-        ≡ string_bytes text.old ++ section1_line head.now) }
+        ≡ string_bytes text.old ++ line (section1_line head.now)) }
 {
     let centre = head.centre;
     let sub_centre = head.sub_centre;
@@ -82,7 +80,8 @@ fn push_section1(text: &mut String, head: &Head) -> Result<(), OutOfMemory>
 
 /// Adds the line of the time.
 fn push_time(text: &mut String, head: &Head) -> Result<(), OutOfMemory>
-    ensures { OnOk result (string_bytes text.new ≡ string_bytes text.old ++ time_line head.now) }
+    ensures { OnOk result (string_bytes text.new
+        ≡ string_bytes text.old ++ line (time_line head.now)) }
 {
     let year = head.year;
     let month = head.month;
@@ -96,26 +95,27 @@ fn push_time(text: &mut String, head: &Head) -> Result<(), OutOfMemory>
 /// Adds the line of the octets for local use of section 1, where there are any.
 fn push_local(alloc: Global, text: &mut String, local: &[u8]) -> Result<(), OutOfMemory>
     ensures { OnOk result (string_bytes text.new
-        ≡ string_bytes text.old ++ local_line local.now) }
+        ≡ string_bytes text.old ++ joined (local_lines local.now)) }
 {
     match local {
         [] => Ok(()),
-        octets => push_digits(alloc, text, "local1 ", octets),
+        octets => push_octets(alloc, text, "local1", octets),
     }
 }
 
-/// Adds a line of octets, two digits each, behind its first word and a space.
-fn push_digits(
+/// Adds a line of octets, two digits each, behind its first word.
+fn push_octets(
     alloc: Global,
     text: &mut String,
-    word: &str,
+    title: &str,
     octets: &[u8],
 ) -> Result<(), OutOfMemory>
     ensures { OnOk result (string_bytes text.new
-        ≡ string_bytes text.old ++ (word.now ++ (encode_lower octets.now ++ 10 ∷ []))) }
+        ≡ string_bytes text.old ++ line (octets_line title.now octets.now)) }
 {
     let digits = hex::encode(alloc, octets)?;
-    text.push_str(word)?;
+    text.push_str(title)?;
+    text.push_str(" ")?;
     text.push_str(digits.as_str())?;
     text.push_str("\n")
 }
@@ -127,13 +127,13 @@ fn push_section2(
     local: &Option<Items<u8>>,
 ) -> Result<(), OutOfMemory>
     ensures { OnOk result (string_bytes text.new
-        ≡ string_bytes text.old ++ section2_line local.now) }
+        ≡ string_bytes text.old ++ joined (section2_lines local.now)) }
 {
     match local {
         None => Ok(()),
         Some(local) => match local.as_slice() {
             [] => text.push_str("section2\n"),
-            octets => push_digits(alloc, text, "section2 ", octets),
+            octets => push_octets(alloc, text, "section2", octets),
         },
     }
 }
@@ -141,7 +141,7 @@ fn push_section2(
 /// Adds the line of the flags.
 fn push_flags(text: &mut String, observed: bool, compressed: bool) -> Result<(), OutOfMemory>
     ensures { OnOk result (string_bytes text.new
-        ≡ string_bytes text.old ++ flags_line observed compressed) }
+        ≡ string_bytes text.old ++ line (flags_line observed compressed)) }
 {
     let words = match (observed, compressed) {
         (false, false) => "flags\n",
@@ -155,7 +155,7 @@ fn push_flags(text: &mut String, observed: bool, compressed: bool) -> Result<(),
 /// Adds the line of the descriptors.
 fn push_descriptors(text: &mut String, descriptors: &[Fxy]) -> Result<(), OutOfMemory>
     ensures { OnOk result (string_bytes text.new
-        ≡ string_bytes text.old ++ descriptors_line descriptors.now) }
+        ≡ string_bytes text.old ++ line (descriptors_line descriptors.now)) }
 {
     text.push_str("descriptors")?;
     for fxy in descriptors {

@@ -1,11 +1,10 @@
 //! Laws of listings and the messages that they list.
 
-ghost use Rattle.bufr_listing.specs.Laws.{ListingsAreJoinedLines, ListingsAreJoinedParts};
-ghost use Rattle.bufr_listing.specs.Laws.{MessagesReadAreListed, MessagesListedAreRead};
-ghost use Rattle.bufr_listing.specs.Laws.{ListingsAreReadBack, FaultsReadAreFirst};
-ghost use Rattle.bufr_listing.specs.Laws.{FirstFaultsAreRead};
+ghost use Rattle.bufr_listing.specs.Laws.{ListingsAreJoinedParts, MessagesReadAreListed};
+ghost use Rattle.bufr_listing.specs.Laws.{MessagesListedAreRead, ListingsAreReadBack};
+ghost use Rattle.bufr_listing.specs.Laws.{FaultsReadAreFirst, FirstFaultsAreRead};
 
-use bufr_data::counted_subsets_fit;
+use bufr_data::laws::counted_subsets_fit;
 use bufr_expand::laws::{
     courses_are_steady, courses_are_unrollings, courses_begin_unrollings, templates_are_trees,
 };
@@ -23,16 +22,14 @@ pub fn listings_list_messages()
 }
 
 /// The listing of a message is the lines before its first subset, those of each subset and the last
-/// line, joined.
-#[tactic(auto, unfolding(crate::specs::Listings::listing))]
+/// line, one behind another.
+#[tactic(auto, using(crate::proofs::ListingFacts::listing_in_parts))]
 pub fn listings_are_joined_parts()
     ensures { ListingsAreJoinedParts }
 {}
 
-/// The listing of a message is its joined lines, and the joined listings of messages are read back
-/// as these messages.
+/// The joined listings of messages are read back as these messages.
 pub fn listings_are_read_back()
-    ensures joined { ListingsAreJoinedLines }
     ensures read { ListingsAreReadBack }
 {
     descriptor_texts();

@@ -18,10 +18,6 @@ mod writer;
 
 pub use fault::{Cause, ListingFault};
 pub use heading::HeadingParts;
-pub use laws::{
-    faults_of_listings_are_the_first, listings_are_joined_parts, listings_are_read_back,
-    listings_list_messages,
-};
 pub use messages::read;
 pub use text::{end_text, heading_text, subset_text, text_of};
 pub use writer::{ListingWriteFault, write_message};

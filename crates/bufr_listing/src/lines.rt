@@ -49,7 +49,7 @@ impl<'a> Lines<'a> {
     /// The next line, which stays.
     #[tactic(auto, using(crate::specs::Cursors::next_is), unfolding(crate::specs::Cursors::left, crate::specs::Cursors::past))]
     pub fn peek(&self) -> Option<TextLine<'a>>
-        ensures { cursors.IsNext (cursors.left self.now) result }
+        ensures { cursors.IsNextLine (cursors.left self.now) result }
     {
         self.next
     }

@@ -17,11 +17,21 @@ use bufr_sections::{Head, Message};
 use bufr_tables::{Failure, Items, Tables};
 use std::alloc::Global;
 
-/// The limits of the numbers of section 1, but those of its time, in the order of their line.
-const SECTION1_LIMITS: [u64; 8] = [65536, 65536, 256, 256, 256, 256, 256, 256];
+/// A number that stands in one octet is below this.
+pub const ONE_OCTET: u64 = 256;
 
-/// The limits of the numbers of the time, from the year to the second.
-const TIME_LIMITS: [u64; 6] = [65536, 256, 256, 256, 256, 256];
+/// A number that stands in two octets is below this.
+pub const TWO_OCTETS: u64 = 65_536;
+
+/// What the numbers of section 1 are below, but those of its time, in the order of their line.
+const SECTION1_LIMITS: [u64; 8] = [
+    TWO_OCTETS, TWO_OCTETS, ONE_OCTET, ONE_OCTET, ONE_OCTET, ONE_OCTET, ONE_OCTET, ONE_OCTET,
+];
+
+/// What the numbers of the time are below, from the year to the second.
+const TIME_LIMITS: [u64; 6] = [
+    TWO_OCTETS, ONE_OCTET, ONE_OCTET, ONE_OCTET, ONE_OCTET, ONE_OCTET,
+];
 
 /// The messages that a listing lists, of zero or more blocks. Lines end with LF, which the last may
 /// lack, and a CR before it is cut; empty lines and lines that begin with `#` are skipped, and
@@ -36,7 +46,7 @@ pub fn read(
     tables: &Tables,
     text: &[u8],
 ) -> Result<Vec<Message>, Failure<ListingFault>>
-    ensures { Gives (λ v. v.items) result (messages_listed tables.now text.now) }
+    ensures exact { Gives (λ v. v.items) result (messages_listed tables.now text.now) }
 {
     let mut lines = Lines::of(text);
     let mut messages = Vec::new(alloc);

@@ -1,13 +1,15 @@
 //! The raw values that words print.
 
+ghost use Rattle.bufr_listing.specs.Listings.{is_plain};
 ghost use Rattle.bufr_listing.specs.Words.{below};
 ghost use Rattle.std.specs.Prelude.{◌≡◌, ◌≤◌, ◌^◌, ◌-◌, ◌-ℤ◌, IfOk, option_map};
 ghost use Rattle.bufr_listing.specs.RawWords as words;
 ghost use Rattle.bufr_listing.specs.RawWords.{raw_of, number_of, text_of, octets_of, first_octet};
-ghost use Rattle.bufr_listing.specs.RawWords.{is_plain, lower_value};
+ghost use Rattle.bufr_listing.specs.RawWords.{lower_value};
+ghost use Rattle.bufr_data.specs.Limits.{most_raw_bits};
 
 use crate::line_words::natural;
-use bufr_data::{Decimal, Raw};
+use bufr_data::{Decimal, MOST_DECIMAL_SCALE, MOST_RAW_BITS, Raw};
 use bufr_expand::Spec;
 use bufr_tables::{Items, Kind, OutOfMemory};
 use std::alloc::Global;
@@ -19,7 +21,7 @@ const MISSING: &[u8] = b"missing";
 pub fn raw_of(alloc: Global, spec: Spec, word: &[u8]) -> Result<Option<Raw>, OutOfMemory>
     ensures { IfOk result (λ o. o ≡ raw_of spec word.now) }
 {
-    if spec.scale < -600 || spec.scale > 600 {
+    if spec.scale < -MOST_DECIMAL_SCALE || spec.scale > MOST_DECIMAL_SCALE {
         return Ok(None);
     }
     match spec.kind {
@@ -38,7 +40,7 @@ pub fn raw_of(alloc: Global, spec: Spec, word: &[u8]) -> Result<Option<Raw>, Out
 fn number_of(spec: Spec, word: &[u8]) -> Option<u64>
     ensures { result ≡ number_of spec word.now }
 {
-    if spec.width > 64 {
+    if spec.width > MOST_RAW_BITS {
         return None;
     }
     if word == MISSING {
@@ -58,7 +60,7 @@ fn may_be_missing(spec: Spec) -> bool
 
 /// The number that is missing, where one may be.
 fn missing_number(spec: Spec) -> Option<u64>
-    requires { spec.width ≤ 64 }
+    requires { spec.width ≤ most_raw_bits }
     ensures { result ≡ words.missing_number spec }
 {
     if may_be_missing(spec) {
@@ -70,7 +72,7 @@ fn missing_number(spec: Spec) -> Option<u64>
 
 /// A number, where it fits this spec and is not that of a missing value.
 fn unless_missing(spec: Spec, number: u64) -> Option<u64>
-    requires { spec.width ≤ 64 }
+    requires { spec.width ≤ most_raw_bits }
     ensures { result ≡ words.unless_missing spec number }
 {
     let greatest = greatest(spec.width);
@@ -90,10 +92,10 @@ fn above(units: i128, reference: i64) -> Option<u64>
 
 /// The greatest number of so many bits.
 fn greatest(width: u32) -> u64
-    requires { width ≤ 64 }
+    requires { width ≤ most_raw_bits }
     ensures { result ≡ 2 ^ width - 1 }
 {
-    if width == 64 {
+    if width == MOST_RAW_BITS {
         u64::MAX
     } else {
         (1 << width) - 1

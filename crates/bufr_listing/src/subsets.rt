@@ -7,17 +7,19 @@ ghost use Rattle.bufr_tables.specs.Answers.{Gives, Fails};
 ghost use Rattle.bufr_expand.specs.Courses.{course, stops};
 ghost use Rattle.bufr_expand.specs.Walks as walks;
 ghost use Rattle.bufr_data.specs.Plain as plain;
+ghost use Rattle.bufr_data.specs.Steady.{IsReady, WalkAdvances};
 ghost use Rattle.bufr_listing.specs.Cursors.{left, past, is_end};
 ghost use Rattle.bufr_listing.specs.Lines.{Line};
 ghost use Rattle.bufr_listing.specs.Reading.{read_line, fields_read, subsets_of, FieldsListed};
 ghost use Rattle.bufr_listing.specs.FieldLines.{read_field};
-ghost use Rattle.bufr_listing.specs.Steps.{Reads, CanGoOn, Advances};
+ghost use Rattle.bufr_listing.specs.Steps.{Reads};
 
 use crate::fault::{Cause, ListingFault};
 use crate::head_lines::{bad_line, bad_value, read_word, refused};
 use crate::lines::{Lines, TextLine};
 use crate::raw_values::raw_of;
-use bufr_data::{Field, Raw, Subset, courses_go_on_steadily};
+use bufr_data::{Field, Raw, Subset};
+use bufr_expand::laws::courses_are_steady;
 use bufr_expand::{Spec, Step, Template, Walk, WalkFault};
 use bufr_tables::{Failure, Fxy, Items};
 use std::alloc::Global;
@@ -67,7 +69,7 @@ fn read_fields(
         (fields_read (past lines.old) (course template.now used) (left lines.old)) }
     ensures past { past lines.new ≡ past lines.old }
 {
-    courses_go_on_steadily();
+    courses_are_steady();
     let mut walk = Walk::start(alloc, template, used)?;
     let mut fields = Vec::new(alloc);
     while let Some(field) = read_field(alloc, &mut walk, lines)? {
@@ -82,12 +84,12 @@ fn read_field(
     walk: &mut Walk,
     lines: &mut Lines,
 ) -> Result<Option<Field>, Failure<ListingFault>>
-    requires { CanGoOn walk.old }
+    requires { IsReady walk.old }
     ensures ok { IfOk result (λ o. Reads (past lines.old) (walks.left walk.old) (left lines.old) o
         (walks.left walk.new) (walks.items_met walk.new) (left lines.new)) }
     ensures err { IfErr result (λ e.
         Fails e (fields_read (past lines.old) (walks.left walk.old) (left lines.old))) }
-    ensures advances { IfOk result (λ o. OnSome o (Advances walk.old walk.new)) }
+    ensures advances { IfOk result (λ o. OnSome o (WalkAdvances walk.old walk.new)) }
     ensures past { past lines.new ≡ past lines.old }
 {
     let step = match walk.next() {

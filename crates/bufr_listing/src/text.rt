@@ -3,7 +3,8 @@
 ghost use Rattle.std.specs.Prelude.{◌≡◌, ◌++◌, OnOk, IfOk, string_bytes};
 ghost use Rattle.std.specs.List.{flat_map};
 ghost use Rattle.bufr_listing.specs.Heading.{lent};
-ghost use Rattle.bufr_listing.specs.Listings.{heading_lines, subset_lines, end_line, listing};
+ghost use Rattle.bufr_listing.specs.Listings.{line, joined, heading_lines, subset_lines, end_line};
+ghost use Rattle.bufr_listing.specs.Listings.{listing};
 
 use crate::fields::push_subset;
 use crate::heading::{HeadingParts, push_heading};
@@ -16,7 +17,7 @@ use std::alloc::Global;
 const END_LINE: &str = "end\n";
 
 /// The listing of a message: one line for each thing that it says.
-#[tactic(auto, unfolding(crate::specs::Listings::listing))]
+#[tactic(auto, using(crate::proofs::ListingFacts::listing_in_parts))]
 pub fn text_of(alloc: Global, message: &Message) -> Result<Vec<u8>, OutOfMemory>
     ensures { IfOk result (λ text. text.items ≡ listing message.now) }
 {
@@ -30,7 +31,7 @@ pub fn text_of(alloc: Global, message: &Message) -> Result<Vec<u8>, OutOfMemory>
 /// The lines of a listing before its first subset. With those of each subset and the last line
 /// behind them they are the listing of the message.
 pub fn heading_text(alloc: Global, parts: &HeadingParts<'_>) -> Result<Vec<u8>, OutOfMemory>
-    ensures { IfOk result (λ text. text.items ≡ heading_lines (lent parts.now)) }
+    ensures { IfOk result (λ text. text.items ≡ joined (heading_lines (lent parts.now))) }
 {
     let mut text = String::new(alloc);
     push_heading(alloc, &mut text, parts)?;
@@ -39,7 +40,7 @@ pub fn heading_text(alloc: Global, parts: &HeadingParts<'_>) -> Result<Vec<u8>, 
 
 /// The lines of one subset.
 pub fn subset_text(alloc: Global, subset: &Subset) -> Result<Vec<u8>, OutOfMemory>
-    ensures { IfOk result (λ text. text.items ≡ subset_lines subset.now) }
+    ensures { IfOk result (λ text. text.items ≡ joined (subset_lines subset.now)) }
 {
     let mut text = String::new(alloc);
     push_subset(alloc, &mut text, subset)?;
@@ -48,7 +49,7 @@ pub fn subset_text(alloc: Global, subset: &Subset) -> Result<Vec<u8>, OutOfMemor
 
 /// The last line of each listing, behind its subsets. Takes no memory.
 pub fn end_text() -> &'static [u8]
-    ensures { result.now ≡ end_line }
+    ensures { result.now ≡ line end_line }
 {
     END_LINE.as_bytes()
 }
@@ -56,7 +57,7 @@ pub fn end_text() -> &'static [u8]
 /// Adds the lines of subsets.
 fn push_subsets(alloc: Global, text: &mut String, subsets: &[Subset]) -> Result<(), OutOfMemory>
     ensures { OnOk result (string_bytes text.new
-        ≡ string_bytes text.old ++ flat_map subset_lines subsets.now) }
+        ≡ string_bytes text.old ++ flat_map (λ s. joined (subset_lines s)) subsets.now) }
 {
     for subset in subsets {
         push_subset(alloc, text, subset)?;

@@ -1,4 +1,5 @@
--- The bits of a subset counted field by field: for whether a subset can be said alone.
+-- The bits of a subset counted field by field: for whether a subset can be said alone, which `decode`
+-- and `view` test.
 use Rattle.std.proofs.Common.{◌≡◌, ℕ, ◌+◌, ◌<◌, ◌≤◌, false, List, [], ◌∷◌, length, take, drop, get_or, sym, ap, ◌∙◌, arith, length-append}
 use Rattle.std.specs.Prelude.{nat_le}
 use Rattle.std.proofs.lemmas.Bool.{lt-leb}

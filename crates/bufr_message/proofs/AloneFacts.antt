@@ -6,6 +6,7 @@ use Rattle.bufr_bits.specs.Bits.{bin, bits}
 use Rattle.bufr_bits.specs.BitLaws.{length-bin}
 use Rattle.bufr_bits.specs.OctetLaws.{length-bits}
 use Rattle.bufr_expand.specs.declared.operators.Spec.{Spec}
+use Rattle.bufr_expand.specs.Limits.{most_items}
 use Rattle.bufr_expand.specs.Trees.{Tree}
 use Rattle.bufr_data.specs.declared.field.Raw.{Raw}
 use Rattle.bufr_data.specs.declared.field.Raw.TheVariants.{Number, Text}
@@ -65,12 +66,12 @@ columns_are_long n k (c ∷ cs) front (column, others, is, many, held, one_count
 pub record StandsAlone (tree : Tree) (most : ℕ) (s : Subset) : Type 0 where
   pub items : ℕ
   pub fits : Fits tree s.fields items
-  pub few : items ≤ 16777216
+  pub few : items ≤ most_items
   pub short : length (plain_subsets (s ∷ [])) ≤ most
 
 -- a subset that fits stands alone
 alone_is : (tree : Tree) (most : ℕ) (s : Subset) (items : ℕ) → Fits tree s.fields items
-    → items ≤ 16777216 → length (plain s.fields) ≤ most → StandsAlone tree most s
+    → items ≤ most_items → length (plain s.fields) ≤ most → StandsAlone tree most s
 alone_is tree most s items fits few short = record { items = items; fits = fits; few = few; short = omega (arith, length-append (plain s.fields) []) }
 
 -- the subsets of columns stand alone
@@ -86,7 +87,7 @@ packed_alone tree n columns front are k (suc count) ((total, (items, fits, sum, 
 
 -- plain subsets stand alone
 plain_alone : (tree : Tree) (most : ℕ) (subsets : List Subset) (items : ℕ)
-    → AllFit tree subsets items → items ≤ 16777216 → length (plain_subsets subsets) ≤ most
+    → AllFit tree subsets items → items ≤ most_items → length (plain_subsets subsets) ≤ most
     → AllByRecursion (StandsAlone tree most) subsets
 plain_alone tree most [] items fit few short = tt
 plain_alone tree most (s ∷ ss) items (own, others, fits, more, sum) few short =

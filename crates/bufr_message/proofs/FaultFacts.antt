@@ -20,7 +20,7 @@ use Rattle.bufr_data.specs.declared.fault.ReadFault.TheVariants.{TooLarge}
 use Rattle.bufr_sections.specs.Causes.{IsFirstRefusal, HasSections, is_of_sections}
 use Rattle.bufr_message.specs.Refusals.{IsFirstFault}
 use Rattle.bufr_message.specs.Below.{Below}
-use Rattle.bufr_sections.specs.AnswerLaws.{bind_err}
+use Rattle.bufr_tables.specs.AnswerLaws.{bind_err}
 use Rattle.bufr_message.proofs.MessageFacts.{template_takes, data_takes}
 use Rattle.bufr_message.proofs.CanBeAlone.{alone_passes, alone_fails}
 

@@ -20,7 +20,7 @@ use Rattle.bufr_sections.specs.declared.fault.Refused.{Refused}
 use Rattle.bufr_sections.specs.Sections.{Envelope, Ignored, AreOctets, EnvelopeFits, spelling, envelope_of}
 use Rattle.bufr_message.specs.Messages.{envelope_with, Spells, template_or, data_or, message_with, CanBeAlone, can_be_alone, message_in, message_of}
 use Rattle.bufr_message.specs.Laws.{MessagesReadAreSpelt, MessagesSpeltAreRead}
-use Rattle.bufr_sections.specs.AnswerLaws.{bind_ok, passed_ok, ok_is}
+use Rattle.bufr_tables.specs.AnswerLaws.{bind_ok, passed_ok, ok_is}
 use Rattle.bufr_sections.specs.declared.fault.Refused.TheVariants.{Data}
 use Rattle.bufr_data.specs.declared.fault.ReadFault.TheVariants.{TooLarge}
 use Rattle.bufr_message.specs.Below.{Below}

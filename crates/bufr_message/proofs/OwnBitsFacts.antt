@@ -11,14 +11,13 @@ use Rattle.bufr_data.specs.declared.field.Raw.{Raw}
 use Rattle.bufr_data.specs.declared.field.Field.{Field}
 use Rattle.bufr_data.specs.Fits.{HasForm, of_text, of_number}
 use Rattle.bufr_data.specs.Plain.{plain}
-use Rattle.bufr_sections.specs.AnswerLaws.{bind_ok}
+use Rattle.bufr_tables.specs.AnswerLaws.{bind_ok}
 use Rattle.bufr_message.specs.declared.report.Report.{Report}
 use Rattle.bufr_message.specs.Below.{Below}
 use Rattle.bufr_message.specs.Encodings.{data_bits_or, enclosed_or, code}
 use Rattle.bufr_message.specs.Reports.{alone, if_written, IsCanonical}
 use Rattle.bufr_message.specs.OwnBits.{has_room, have_room, spelt_alone}
-use Rattle.bufr_message.proofs.ReportFacts.{canonical_is_code}
-use Rattle.bufr_message.proofs.UnwrittenFacts.{bits_found}
+use Rattle.bufr_message.proofs.UnwrittenFacts.{bits_found, bare_is_written}
 
 -- two tests that are both passed
 both_true : (a b : Bool) → a ≡ true → b ≡ true → (a && b) ≡ true
@@ -41,7 +40,8 @@ pub canonical_is_own : Below → (tables : Entries) (r : Report) (octets : List 
     → IsCanonical tables r octets → spelt_alone r ≡ Some octets
 unfolding code
 canonical_is_own below tables r octets c =
-    let found = bind_ok (data_bits_or tables (alone r)) (enclosed_or (alone r)) octets (canonical_is_code tables r octets c) in
+    let written = bare_is_written below tables (alone r) octets c.spelt in
+    let found = bind_ok (data_bits_or tables (alone r)) (enclosed_or (alone r)) octets written in
     let held = bits_found below tables (alone r) found.0 found.1 in
     let rooms = rooms_of r.subset.fields held.3.1.1.2.formed in
     let same : found.0 ≡ plain r.subset.fields = held.3.2 ∙ append-nil (plain r.subset.fields) in

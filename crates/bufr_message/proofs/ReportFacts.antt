@@ -1,5 +1,5 @@
 -- The canonical message of a report tells what the report is: for the laws on canonical messages.
-use Rattle.std.proofs.Common.{◌≡◌, ℕ, ◌+◌, ◌/◌, Bool, List, [], ◌∷◌, ◌++◌, length, Some, Result, Ok, Err, refl, sym, ap, ◌∙◌, arith, length-append}
+use Rattle.std.proofs.Common.{◌≡◌, ℕ, ◌+◌, ◌/◌, Bool, List, [], ◌∷◌, ◌++◌, length, Ok, refl, sym, ap, ◌∙◌, arith, length-append}
 use Rattle.bufr_bits.specs.Bits.{bits}
 use Rattle.bufr_bits.specs.OctetLaws.{length-bits}
 use Rattle.bufr_data.specs.Plain.{plain}
@@ -7,31 +7,19 @@ use Rattle.bufr_sections.specs.declared.layout.Layout.{Layout}
 use Rattle.bufr_sections.specs.declared.layout.Layout.TheVariants.{Edition4}
 use Rattle.bufr_sections.specs.Sections.{Envelope, Ignored, nothing_ignored, spelling}
 use Rattle.bufr_tables.specs.Entries.{Entries}
-use Rattle.bufr_message.specs.declared.fault.EncodeFault.{EncodeFault}
 use Rattle.bufr_message.specs.declared.report.Report.{Report}
 use Rattle.bufr_message.specs.Below.{Below}
 use Rattle.bufr_message.specs.Messages.{envelope_with, octets_alone, message_of}
-use Rattle.bufr_message.specs.Encodings.{code}
-use Rattle.bufr_message.specs.Reports.{reports_of, reports_read, reports_in, alone, if_written, IsCanonical}
+use Rattle.bufr_message.specs.Reports.{reports_of, reports_read, reports_in, alone, IsCanonical}
 use Rattle.bufr_message.proofs.LengthFacts.{bare_long}
-use Rattle.bufr_message.proofs.WrittenFacts.{bare_when_written, read_when_written}
-
--- what is written is octets
-written_takes : (x : Result (List ℕ) EncodeFault) (octets : List ℕ) → if_written x ≡ Some octets
-    → x ≡ Ok octets
-written_takes (Ok o) octets e = ap Ok cc
-written_takes (Err fault) octets e = absurd cc
-
--- the octets are those that are written for the report alone
-pub canonical_is_code : (tables : Entries) (r : Report) (octets : List ℕ)
-    → IsCanonical tables r octets → code tables (alone r) ≡ Ok octets
-canonical_is_code tables r octets c = written_takes (code tables (alone r)) octets c.written
+use Rattle.bufr_message.proofs.MessageFacts.{message_of_spelt}
 
 -- they are read as the report alone
 pub canonical_is_read : Below → (tables : Entries) (r : Report) (octets : List ℕ)
     → IsCanonical tables r octets
     → message_of tables octets ≡ Ok (record { message = alone r; slack_octets = 0 })
-canonical_is_read below tables r octets c = read_when_written below tables (alone r) octets c.fits (canonical_is_code tables r octets c)
+canonical_is_read below tables r octets c =
+    message_of_spelt below tables octets (alone r) 0 c.spelt.spells
 
 -- whose one report it is
 pub reports_alone : (r : Report) → reports_of (alone r) ≡ r ∷ []
@@ -71,10 +59,10 @@ spelt_bare layout i e octets four nothing is =
     ap length (is ∙ ap (λ (l : Layout). spelling l e i) four ∙ ap (λ (j : Ignored). spelling Edition4 e j) nothing)
 
 -- a canonical message is as long as its parts say
-pub canonical_long : Below → (tables : Entries) (r : Report) (octets : List ℕ)
+pub canonical_long : (tables : Entries) (r : Report) (octets : List ℕ)
     → IsCanonical tables r octets → length octets ≡ octets_alone r.descriptors r.subset
-canonical_long below tables r octets c =
-    let b = bare_when_written below tables (alone r) octets c.fits (canonical_is_code tables r octets c) in
+canonical_long tables r octets c =
+    let b = c.spelt in
     let s = b.spells in
     let e = envelope_with (alone r) s.contents in
     let same = spelt_bare s.layout s.ignored e octets b.edition b.nothing s.spelled in

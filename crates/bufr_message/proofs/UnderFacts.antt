@@ -19,10 +19,11 @@ use Rattle.bufr_sections.specs.Spelt.{bare, longest, spelt_or}
 use Rattle.bufr_message.specs.Below.{Below}
 use Rattle.bufr_message.specs.Messages.{Spells, octets_alone, CanBeAlone}
 use Rattle.bufr_message.specs.Encodings.{whole_octets, code}
-use Rattle.bufr_message.specs.Reports.{report_of, reports_of, alone, if_written, IsUnder}
+use Rattle.bufr_message.specs.Laws.{NumbersFit}
+use Rattle.bufr_message.specs.Reports.{report_of, reports_of, alone, IsUnder}
 use Rattle.bufr_message.proofs.AloneFacts.{StandsAlone, each_alone}
 use Rattle.bufr_message.proofs.LengthFacts.{bare_long}
-use Rattle.bufr_message.proofs.WrittenFacts.{fill, whole_octets_spelt}
+use Rattle.bufr_message.proofs.WrittenFacts.{fill, whole_octets_spelt, bare_when_written}
 use Rattle.bufr_message.proofs.UnwrittenFacts.{told, bits_are}
 
 -- no octets are octets
@@ -117,12 +118,11 @@ under_alone below tables m octets slack spells s stands few =
     let whole = whole_long d in
     let bits_of = length-append (plain s.fields) [] in
     let short : nat_lt longest (length (bare (told (alone (report_of m s)) d))) ≡ false = le-ltb _ _ (omega arith) in
-    let written : code tables (alone (report_of m s)) ≡ Ok (bare (told (alone (report_of m s)) d)) = rw (data_bits, short) refl in (
+    let written : code tables (alone (report_of m s)) ≡ Ok (bare (told (alone (report_of m s)) d)) = rw (data_bits, short) refl in
+    let fits : NumbersFit (alone (report_of m s)) =
+    record { head = head_alone m s head; section2 = tt; descriptors = spells.fits.descriptors } in (
       bare (told (alone (report_of m s)) d),
-      record {
-        fits = record { head = head_alone m s head; section2 = tt; descriptors = spells.fits.descriptors };
-        written = ap if_written written;
-      },
+      record { spelt = bare_when_written below tables (alone (report_of m s)) _ fits written },
     )
 
 -- so is each of them

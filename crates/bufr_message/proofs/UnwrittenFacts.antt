@@ -28,7 +28,7 @@ use Rattle.bufr_sections.specs.Spelt.{bare, most_subsets, longest, spelt_or}
 use Rattle.bufr_message.specs.Messages.{envelope_with, Spells}
 use Rattle.bufr_message.specs.Encodings.{whole_octets, some_descriptors, template_or, data_or, data_bits_or, enclosed_or, filled, SpellsBare, code}
 use Rattle.bufr_message.specs.Refusals.{IsTooLong, IsFirstEncodeFault}
-use Rattle.bufr_sections.specs.AnswerLaws.{bind_ok, bind_err, ok_is}
+use Rattle.bufr_tables.specs.AnswerLaws.{bind_ok, bind_err, ok_is}
 use Rattle.bufr_message.specs.Below.{Below}
 use Rattle.bufr_message.proofs.EncodingFacts.{whole_octets_are}
 use Rattle.bufr_message.proofs.WrittenFacts.{fill, whole_octets_spelt, template_takes, data_takes}

@@ -21,7 +21,7 @@ use Rattle.bufr_sections.specs.Spelt.{bare, most_subsets, longest, spelt_or}
 use Rattle.bufr_message.specs.Messages.{envelope_with, message_of}
 use Rattle.bufr_message.specs.Encodings.{whole_octets, some_descriptors, template_or, data_or, data_bits_or, enclosed_or, SpellsBare, code}
 use Rattle.bufr_message.specs.Laws.{NumbersFit}
-use Rattle.bufr_sections.specs.AnswerLaws.{bind_ok, guard_ok, ok_is, or_first, or_second}
+use Rattle.bufr_tables.specs.AnswerLaws.{bind_ok, guard_ok, ok_is, or_first, or_second}
 use Rattle.bufr_message.specs.Below.{Below}
 use Rattle.bufr_message.proofs.CanBeAlone.{alone_in_edition_4}
 use Rattle.bufr_message.proofs.MessageFacts.{message_of_spelt}

@@ -12,6 +12,7 @@ use Rattle.bufr_data.specs.Columns.{Column}
 use Rattle.bufr_data.specs.Data as held
 use Rattle.bufr_sections.specs.SectionLaws as sections
 
+-- what the crates below say of sections, descriptors and data
 pub record Below : Type 0 where
   -- of sections
   pub takes : sections.SectionsReadAreSpelt

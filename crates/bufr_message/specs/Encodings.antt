@@ -23,14 +23,17 @@ whole_octets data_bits =
     let n = (length data_bits + 7) / 8 in
     numbers n 8 (data_bits ++ replicate (8 * n - length data_bits) false)
 
+-- a message has one descriptor at least
 abbrev pub some_descriptors : List ℕ → Result (List ℕ) EncodeFault
 some_descriptors [] = Err faults.NoDescriptors
 some_descriptors (d ∷ ds) = Ok (d ∷ ds)
 
+-- a tree, or the fault of the descriptors as a fault of encoding
 abbrev pub template_or : Result Tree TemplateFault → Result Tree EncodeFault
 template_or (Ok tree) = Ok tree
 template_or (Err fault) = Err (faults.Template fault)
 
+-- data, or their fault as a fault of encoding
 abbrev pub data_or : {A : Type 0} → Result A WriteFault → Result A EncodeFault
 data_or (Ok found) = Ok found
 data_or (Err fault) = Err (faults.Data fault)

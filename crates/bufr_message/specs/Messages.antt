@@ -43,8 +43,8 @@ envelope_with m contents =
 abbrev pub octets_alone : List ℕ → Subset → ℕ
 octets_alone descriptors s = 45 + 2 * length descriptors + (length (plain s.fields) + 7) / 8
 
--- each of the subsets can be said alone: such a message has 16,777,215 octets at most. In edition 4
--- each can; section 1 of edition 3 has five octets less
+-- each of the subsets can be said alone: such a message has 16,777,215 octets at most. This is for
+-- messages of edition 3, whose section 1 is five octets shorter
 abbrev pub CanBeAlone : List ℕ → List Subset → Type 0
 CanBeAlone descriptors subsets =
     AllByRecursion (λ s. octets_alone descriptors s ≤ longest) subsets
@@ -71,10 +71,12 @@ pub record Spells (tables : Entries) (m : Message) (octets : List ℕ) (slack : 
 
 -- ---- reading from the left, with the first fault
 
+-- a tree, or the fault of the descriptors as a refusal
 abbrev pub template_or : Result Tree TemplateFault → Result Tree Refused
 template_or (Ok tree) = Ok tree
 template_or (Err fault) = Err (refusals.Template fault)
 
+-- data, or their fault as a refusal
 abbrev pub data_or : {A : Type 0} → Result A ReadFault → Result A Refused
 data_or (Ok found) = Ok found
 data_or (Err fault) = Err (refusals.Data fault)

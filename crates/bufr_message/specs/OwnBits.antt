@@ -7,6 +7,7 @@ use Rattle.bufr_data.specs.declared.field.Raw.{Raw}
 use Rattle.bufr_data.specs.declared.field.Raw.TheVariants.{Number, Text}
 use Rattle.bufr_data.specs.declared.field.Field.{Field}
 use Rattle.bufr_data.specs.Plain.{plain}
+use Rattle.bufr_data.specs.Limits.{most_raw_bits}
 use Rattle.bufr_message.specs.declared.report.Report.{Report}
 use Rattle.bufr_message.specs.Encodings.{enclosed_or}
 use Rattle.bufr_message.specs.Reports.{alone, if_written, IsCanonical}
@@ -14,7 +15,7 @@ use Rattle.bufr_message.specs.Reports.{alone, if_written, IsCanonical}
 -- a raw value can be put in so many bits: a number is below 2 to their power, and they are at most
 -- 64 (FM 94 BUFR, regulation 94.1.3)
 abbrev pub has_room : ℕ → Raw → Bool
-has_room width (Number n) = nat_le width 64 && nat_lt n (2 ^ width)
+has_room width (Number n) = nat_le width most_raw_bits && nat_lt n (2 ^ width)
 has_room width (Text octets) = true
 
 -- each field's raw value can be put in the bits that it has

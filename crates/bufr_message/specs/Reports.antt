@@ -12,8 +12,7 @@ use Rattle.bufr_message.specs.declared.fault.EncodeFault.{EncodeFault}
 use Rattle.bufr_message.specs.declared.report.Report.{Report}
 use Rattle.bufr_message.specs.declared.report.ReportHead.{ReportHead}
 use Rattle.bufr_message.specs.Messages.{message_of, octets_alone, Spells}
-use Rattle.bufr_message.specs.Encodings.{code}
-use Rattle.bufr_message.specs.Laws.{NumbersFit}
+use Rattle.bufr_message.specs.Encodings.{code, SpellsBare}
 
 -- ---- the reports of a message
 
@@ -59,6 +58,7 @@ abbrev pub reports_read : Result Decoded Refused → List Report
 reports_read (Ok d) = reports_of d.message
 reports_read (Err e) = []
 
+-- the reports of octets under the tables
 abbrev pub reports_in : Entries → List ℕ → List Report
 reports_in tables octets = reports_read (message_of tables octets)
 
@@ -96,6 +96,7 @@ alone r = record {
   subsets = r.subset ∷ [];
 }
 
+-- the octets that were written, and none where there was a fault
 abbrev pub if_written : Result (List ℕ) EncodeFault → Option (List ℕ)
 if_written (Ok octets) = Some octets
 if_written (Err fault) = None
@@ -104,11 +105,10 @@ if_written (Err fault) = None
 abbrev pub canonical : Entries → Report → Option (List ℕ)
 canonical tables r = if_written (code tables (alone r))
 
--- these octets are the canonical message of a report whose numbers are in the ranges of their
--- fields, as those that the program's types hold are
+-- these octets are the canonical message of a report: they spell, in edition 4, the message that
+-- says it alone, with nothing in what is free
 pub record IsCanonical (tables : Entries) (r : Report) (octets : List ℕ) : Type 0 where
-  pub fits : NumbersFit (alone r)
-  pub written : canonical tables r ≡ Some octets
+  pub spelt : SpellsBare tables (alone r) octets
 
 -- a report under the tables is one that has a canonical message
 abbrev pub IsUnder : Entries → Report → Type 0

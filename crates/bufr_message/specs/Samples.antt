@@ -43,6 +43,7 @@ head_of (Err e) = Err e
 abbrev pub elements3 : List ℕ
 elements3 = hex (codes "000017 00 0001 80 0101 0102 0401 0402 0403 0404 0405 0C65")
 
+-- the message of that section, whose data are one subset
 abbrev pub elements_only : List ℕ
 elements_only =
     framed (codes "000046 04") (plain1 ++ elements3 ++ hex (codes "00000D 00 14C03F409EC01AACC0"))
@@ -73,6 +74,7 @@ distinct_head =
 
 -- ---- compressed messages: two subsets with these data
 
+-- a compressed message of two subsets whose data end with these octets
 abbrev pub compressed : List ℕ → List ℕ
 compressed content =
     framed (codes "000044 04")
@@ -81,6 +83,7 @@ compressed content =
 
 -- ---- a message of edition 3 of this year of the century, and what is written for it
 
+-- a message of edition 3 with the year of the century in this octet
 abbrev pub edition_3_of : List ℕ → List ℕ
 edition_3_of year =
     framed (codes "00003C 03")
@@ -88,6 +91,7 @@ edition_3_of year =
     ++ hex (codes "000010 00 0001 80 C101 C10B C10C 0C65 00")
     ++ hex (codes "00000E 00 14C03F409EC01AACC0 00"))
 
+-- what is written for it: a message of edition 4
 abbrev pub edition_3_written : List ℕ
 edition_3_written =
     framed (codes "00003F 04")

@@ -4,7 +4,7 @@ use Rattle.bufr_bits.specs.Bits.{bits}
 use Rattle.bufr_expand.specs.Trees.{Tree}
 use Rattle.bufr_data.specs.declared.field.Subset.{Subset}
 use Rattle.bufr_data.specs.Data.{subsets_in}
-use Rattle.bufr_listing.specs.Listings.{subset_lines}
+use Rattle.bufr_listing.specs.Listings.{joined, subset_lines}
 
 -- these subsets are read at the front of the octets, under some template
 abbrev pub StandIn : List ℕ → Bool → List Subset → Type 0
@@ -12,7 +12,7 @@ StandIn contents compressed subsets =
     (tree : Tree) × (count : ℕ) × (rest : List Bool)
     × (subsets_in tree compressed count (bits contents) ≡ Ok (subsets, rest))
 
--- the text is the lines of the subset that is there
+-- the text is the lines of the subset that is there, joined
 abbrev pub ListsSubset : Option Subset → List ℕ → Type 0
 ListsSubset None text = ⊥
-ListsSubset (Some s) text = text ≡ subset_lines s
+ListsSubset (Some s) text = text ≡ joined (subset_lines s)

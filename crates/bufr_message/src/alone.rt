@@ -7,10 +7,8 @@ ghost use Rattle.bufr_sections.specs.Spelt.{longest};
 ghost use Rattle.bufr_message.specs.Messages.{octets_alone, can_be_alone};
 
 use bufr_data::{Field, Raw, Subset};
+use bufr_sections::LONGEST;
 use bufr_tables::Fxy;
-
-/// The greatest number of octets of a message.
-const LONGEST: u128 = 16_777_215;
 
 /// Whether each of the subsets under these descriptors can be said alone.
 pub(crate) fn can_be_alone(descriptors: &[Fxy], subsets: &[Subset]) -> bool

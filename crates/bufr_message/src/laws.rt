@@ -11,7 +11,7 @@ ghost use Rattle.bufr_message.specs.Laws.{MessagesWrittenAreRead, UnwrittenForFi
 ghost use Rattle.bufr_message.specs.Laws.{FirstEncodeFaultIsAnswered, PlainSpeltAreWritten};
 ghost use Rattle.bufr_message.specs.Laws.{PackableSpeltAreWritten};
 
-use bufr_data::data_hold_subsets;
+use bufr_data::laws::data_hold_subsets;
 use bufr_expand::laws::templates_are_trees;
 use bufr_sections::laws::bare_spellings_are_shortest;
 pub use bufr_sections::laws::{refusals_of_sections_are_the_first, sections_are_spelt};

@@ -3,7 +3,7 @@
 mod viewed;
 
 pub use bufr_listing::{
-    Cause, HeadingParts, ListingFault, ListingWriteFault, end_text, heading_text,
-    listings_are_joined_parts, read, subset_text, text_of, write_message,
+    Cause, HeadingParts, ListingFault, ListingWriteFault, end_text, heading_text, read,
+    subset_text, text_of, write_message,
 };
 pub use viewed::{heading_of_view, subset_of_view};

@@ -5,6 +5,7 @@ ghost use Rattle.std.specs.Prelude.{option_map, nat_lt, nat_le};
 ghost use Rattle.bufr_bits.specs.Bits.{bits};
 ghost use Rattle.bufr_tables.specs.Entries.{Entries};
 ghost use Rattle.bufr_data.specs.Plain.{raw_bits};
+ghost use Rattle.bufr_data.specs.Limits.{most_raw_bits};
 ghost use Rattle.bufr_message.specs.Encodings.{filled};
 ghost use Rattle.bufr_message.specs.OwnBits.{has_room, own_bits, spelt_alone};
 ghost use Rattle.bufr_message.specs.Reports.{IsCanonical};
@@ -14,7 +15,7 @@ use crate::laws::canonical_messages_are_own;
 use crate::lent::Lent;
 use crate::report::Report;
 use bufr_bits::BitSink;
-use bufr_data::{Field, Raw};
+use bufr_data::{Field, MOST_RAW_BITS, Raw};
 use bufr_tables::{Failure, OutOfMemory};
 use std::alloc::Global;
 use std::slice;
@@ -34,12 +35,12 @@ pub fn canonical_of_read(alloc: Global, report: &Report) -> Result<Option<Vec<u8
         option_map (λ v. v.items) found ≡ spelt_alone report.now) }
 {
     canonical_messages_are_own();
-    octets_alone(alloc, report)
+    spelt_alone(alloc, report)
 }
 
 /// The octets that the report's own fields spell: the one clause from which `canonical_of_read` has
 /// its other.
-fn octets_alone(alloc: Global, report: &Report) -> Result<Option<Vec<u8>>, OutOfMemory>
+fn spelt_alone(alloc: Global, report: &Report) -> Result<Option<Vec<u8>>, OutOfMemory>
     ensures { IfOk result (λ found.
         option_map (λ v. v.items) found ≡ spelt_alone report.now) }
 {
@@ -96,12 +97,12 @@ fn has_room(raw: &Raw, width: u32) -> bool
 
 /// Whether a number stands in so many bits, which are at most 64.
 fn is_below(number: u64, width: u32) -> bool
-    ensures { result ≡ (nat_le width 64 && nat_lt number (2 ^ width)) }
+    ensures { result ≡ (nat_le width most_raw_bits && nat_lt number (2 ^ width)) }
 {
-    if width > 64 {
+    if width > MOST_RAW_BITS {
         return false;
     }
-    width == 64 || number < 1 << width
+    width == MOST_RAW_BITS || number < 1 << width
 }
 
 /// Puts a raw value in so many bits.

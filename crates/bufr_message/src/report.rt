@@ -8,6 +8,7 @@ ghost use Rattle.bufr_message.specs.Reports.{alone, IsCanonical};
 
 use crate::encoding::octets_of;
 use crate::fault::EncodeFault;
+use crate::laws::written_messages_are_spelt;
 use crate::lent::Lent;
 use crate::ranges::numbers_fit;
 use bufr_data::Subset;
@@ -161,6 +162,7 @@ pub fn canonical(
     // Which octets, or which fault, it is.
     ensures exact { Gives (λ v. v.items) result (code tables.now (alone report.now)) }
 {
+    written_messages_are_spelt();
     let head = report.head.with_no_local(alloc);
     let none = None;
     let lent = Lent {

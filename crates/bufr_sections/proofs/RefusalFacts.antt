@@ -15,7 +15,7 @@ use Rattle.bufr_sections.specs.declared.fault.Refused.TheVariants.{NotBufr, Tota
 use Rattle.bufr_sections.specs.Sections.{Envelope, three, two, layout_of, layout_or, shortest1, room_in, room_of, section_at, head_of, local_at, Description, descriptors_of, description_of, contents_of, sections_of, envelope_of}
 use Rattle.bufr_sections.specs.SectionsRead.{head_with, head3_with}
 use Rattle.bufr_sections.proofs.HeadFacts.{head_is, head3_is}
-use Rattle.bufr_sections.specs.AnswerLaws.{or_first, not_false}
+use Rattle.bufr_tables.specs.AnswerLaws.{or_first, not_false}
 use Rattle.bufr_sections.specs.Causes.{octet_at, length_at, room_end, announces_section2, place2, place3, place4, no_section, Cause, causes_in, causes, IsFirstRefusal, is_of_sections}
 
 -- ---- the first of causes

@@ -15,7 +15,7 @@ use Rattle.bufr_sections.specs.declared.layout.Layout.TheVariants.{Edition4, Edi
 use Rattle.bufr_sections.specs.Sections.{Envelope, Ignored, IsOctet, AreOctets, section, section1, section2, section3, section4, sections, enclosed, spelling, flag, is_present, edition_number, layout_of, layout_or, shortest1, head_octets, nothing_ignored, HasSection1, EnvelopeFits, three, two, room_in, room_of, section_at, head4_of, head3_of, head_of, year_of_century, local_at, Description, descriptors_of, description_of, contents_of, sections_of, envelope_of}
 use Rattle.bufr_sections.specs.Causes.{HasSections}
 use Rattle.bufr_sections.proofs.SectionFacts.{regrouped, head_is_long}
-use Rattle.bufr_sections.specs.AnswerLaws.{bind_ok, guard_ok, passed_ok, ok_is, or_first, or_second, not_false}
+use Rattle.bufr_tables.specs.AnswerLaws.{bind_ok, guard_ok, passed_ok, ok_is, or_first, or_second, not_false}
 
 -- ---- numbers of octets
 

@@ -4,5 +4,4 @@ pub mod Spelt
 pub mod Causes
 pub mod SectionLaws
 pub mod Reasons
-pub mod AnswerLaws
 pub mod Samples

@@ -19,8 +19,8 @@ pub fn refusals_of_sections_are_the_first()
     ensures theirs { SectionsRefusedForTheirs }
 {}
 
-/// No spelling is shorter than that of sections with nothing in what is free and no more octets in
-/// any part.
+/// No spelling in edition 4 is shorter than that of sections with nothing in what is free and no
+/// more octets in any part.
 pub fn bare_spellings_are_shortest()
     ensures { BareSpellingsAreShortest }
 {}

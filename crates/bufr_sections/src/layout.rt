@@ -1,7 +1,7 @@
 //! How the editions of the standard lay section 1 out.
 
 ghost use Rattle.std.specs.Prelude.{◌≡◌};
-ghost use Rattle.bufr_sections.specs.Sections.{layout_of, shortest1, announcing};
+ghost use Rattle.bufr_sections.specs.Sections.{layout_of, shortest1};
 
 /// The layout of section 1 in an edition that is read. The other sections are the same in all of
 /// them.

@@ -1,5 +1,5 @@
 -- What is kept of pairs in batches: for `Batches`, whose pairs come in any order.
-use Rattle.std.proofs.Common.{◌≡◌, ◌⊎◌, inl, inr, ℕ, suc, zero, ◌<◌, length, slice_index_or, List, [], ◌∷◌, ◌++◌, refl, sym, ap, ◌∙◌, append_assoc, arith}
+use Rattle.std.proofs.Common.{◌≡◌, inl, inr, ℕ, suc, zero, ◌<◌, length, slice_index_or, List, [], ◌∷◌, ◌++◌, sym, ap, ◌∙◌, append_assoc, arith}
 use Rattle.std.proofs.lemmas.List.{append-nil}
 use Rattle.std.proofs.lemmas.List.Sorted.{Contains-permutation, IsPermutation-sym}
 use Rattle.std.specs.List.{Contains, AllByRecursion}
@@ -8,7 +8,7 @@ use Rattle.std.specs.Map.{keys_of}
 use Rattle.std.specs.Cmp.{IsTotalOrder}
 use Rattle.std.specs.declared.cmp.Ordering.{Ordering}
 use Rattle.std.specs.declared.cmp.Ordering.TheVariants.{Less, Equal}
-use Rattle.bufr_shelves.specs.Keeping.{Has, Within, SameMembers, put_by, kept_by, put_all}
+use Rattle.bufr_shelves.specs.Keeping.{Has, Within, put_by, kept_by, put_all}
 use Rattle.bufr_shelves.specs.KeepingLaws as laws
 use Rattle.bufr_shelves.specs.Pairs.{by_key, by_value}
 

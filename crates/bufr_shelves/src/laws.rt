@@ -26,9 +26,9 @@ pub fn joins_agree()
     ensures idempotent { JoinIsIdempotent }
 {}
 
-/// A list in order of slots is all kept. So is what was kept while keys had no sub-centre, which is
-/// what an archive from before holds, the best of each slot of then; an entry that was replaced
-/// then does not come back.
+/// A list in order of slots, with no slot twice, is all kept. So is what was kept while keys had no
+/// sub-centre, which is what an archive from before holds: where octets tell entries apart, the
+/// best of each slot of then; an entry that was replaced then does not come back.
 pub fn sorted_are_kept()
     ensures sorted { SortedAreKept }
     ensures from_before { CoarselyKeptAreKept }

@@ -8,7 +8,7 @@ use Rattle.std.proofs.lemmas.Bool.{cases_eq, cases_Bool}
 use Rattle.std.specs.Char.{is_ascii_digit}
 use Rattle.std.specs.List.{list_all}
 use Rattle.bufr_tables.specs.Descriptors.{of_text, in_ranges, digit_value, descriptor, six_digits}
-use Rattle.bufr_tables.specs.Descriptors.{digit, f_of, x_of, y_of}
+use Rattle.bufr_tables.specs.Descriptors.{IsDescriptor, digit, f_of, x_of, y_of}
 
 -- a digit's range
 pub digit_range : (c : ℕ) → is_ascii_digit c ≡ true → (48 ≤ c) × (c ≤ 57)
@@ -118,7 +118,7 @@ and_six : (a b c d e g : Bool)
 and_six a b c d e g p q r s t u = rw (p, q, r, s, t, u)
 
 -- the six digits of a descriptor spell it
-pub of_text-six_digits : (d : ℕ) → d < 65536 → of_text (six_digits d) ≡ Some d
+pub of_text-six_digits : (d : ℕ) → IsDescriptor d → of_text (six_digits d) ≡ Some d
 of_text-six_digits d h =
     let all : list_all is_ascii_digit (six_digits d) ≡ true =
     and_six _ _ _ _ _ _ (is_digit-digit (f_of d)) (is_digit-digit (x_of d / 10))
@@ -135,7 +135,7 @@ of_text-six_digits d h =
     (omega arith) ∙ ap Some back)
 
 -- a descriptor has 16 bits
-below_all : (d f x y : ℕ) → f ≤ 3 → x ≤ 63 → y ≤ 255 → d ≡ descriptor f x y → d < 65536
+below_all : (d f x y : ℕ) → f ≤ 3 → x ≤ 63 → y ≤ 255 → d ≡ descriptor f x y → IsDescriptor d
 below_all d f x y p q r e = omega arith
 
 -- six digits that spell a descriptor are its own
@@ -143,7 +143,7 @@ only_digits : (a b c k e g d : ℕ) (t : List ℕ)
     → t ≡ a ∷ b ∷ c ∷ k ∷ e ∷ g ∷ []
     → list_all is_ascii_digit (a ∷ b ∷ c ∷ k ∷ e ∷ g ∷ []) ≡ true
     → of_text (a ∷ b ∷ c ∷ k ∷ e ∷ g ∷ []) ≡ Some d
-    → (d < 65536) × (t ≡ six_digits d)
+    → IsDescriptor d × (t ≡ six_digits d)
 only_digits a b c k e g d t shape all h =
     let r1 = and_rest _ _ all in let r2 = and_rest _ _ r1 in let r3 = and_rest _ _ r2 in let r4 =
     and_rest _ _ r3 in let r5 = and_rest _ _ r4 in
@@ -157,7 +157,7 @@ only_digits a b c k e g d t shape all h =
     )
 
 -- what spells a descriptor is its six digits
-pub of_text-only : (t : List ℕ) (d : ℕ) → of_text t ≡ Some d → (d < 65536) × (t ≡ six_digits d)
+pub of_text-only : (t : List ℕ) (d : ℕ) → of_text t ≡ Some d → IsDescriptor d × (t ≡ six_digits d)
 of_text-only t d h =
     elim (cases_eq (length t) 6) [
       | inr ne ↦ let none = of_text-length t ne in absurd (cc)

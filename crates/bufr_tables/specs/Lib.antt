@@ -1,4 +1,5 @@
 pub mod Answers
+pub mod AnswerLaws
 pub mod CsvRecords
 pub mod DescriptorLaws
 pub mod Descriptors

@@ -1,4 +1,5 @@
--- What the loop of `encode` over messages keeps, and what the engine answers at each of its ends.
+-- What the loop of `octets_of` over messages keeps, and what it answers at each of its ends: for the
+-- contract of `run_encode`.
 use Rattle.std.proofs.Common.{◌≡◌, ℕ, ◌+◌, ◌<◌, Bool, List, [], ◌∷◌, ◌++◌, length, take, drop, map, get_or, Result, Ok, Err, sym, ap, ap₂, ◌∙◌, take-append-drop}
 use Rattle.std.specs.List.{flat_map}
 use Rattle.std.proofs.lemmas.List.{append-nil, drop_more, map-append}

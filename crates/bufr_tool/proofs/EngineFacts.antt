@@ -16,20 +16,21 @@ use Rattle.bufr_engines.specs.declared.fault.ToolFault.TheVariants as faults
 use Rattle.bufr_tool.specs.declared.printing.Printing.{Printing}
 use Rattle.bufr_engines.specs.Engines.{IsFresh, WasReadOut, HasGiven, AreAllOf, FailsAfter}
 use Rattle.bufr_engines.specs.Inputs.{GoesOn}
+use Rattle.bufr_engines.specs.Limits.{longest_piece}
 use Rattle.bufr_tool.specs.Output.{frames_text, stream_text, last_text, tally_of}
 use Rattle.bufr_tool.specs.Lines.{WritesLines}
-use Rattle.bufr_tool.specs.StreamEngines.{frames_by, text_by, Prints, PrintsFrames, HasPrintedSure, PrintsEnd}
+use Rattle.bufr_tool.specs.StreamEngines.{no_counts, frames_by, text_by, Prints, PrintsFrames, HasPrintedSure, PrintsEnd}
 use Rattle.bufr_engines.specs.ReadingLaws.{HasGiven_none}
 use Rattle.bufr_engines.specs.WritingLaws.{fails_longer}
 use Rattle.bufr_tool.proofs.LineFacts.{lines_none}
-use Rattle.bufr_tool.proofs.PrintingFacts.{no_counts, printed_none, fails_further}
+use Rattle.bufr_tool.proofs.PrintingFacts.{printed_none, fails_further}
 
 -- between two reads: these octets were given, and what is sure of them was printed
 pub record Between (printing : Printing) (tables : Entries) (old now : Reading) (first last : Writing) (framer : Framing) (counts : Counts) (count : ℕ) : Type 0 where
   pub read : List ℕ
   pub goes_on : GoesOn old now read count
   pub printed : HasPrintedSure printing tables first last framer counts read
-  pub short : length read ≤ 65536 * count
+  pub short : length read ≤ longest_piece * count
 
 -- before the first
 pub between_first : (printing : Printing) (tables : Entries) (reader : Reading) (writer : Writing)

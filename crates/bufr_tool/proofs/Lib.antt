@@ -1,6 +1,5 @@
 -- What the contracts of the engines and of the command line are proved from.
 mod TextFacts
-mod FrameBounds
 mod LineFacts
 mod ListingFacts
 mod PartFacts

@@ -1,5 +1,6 @@
 -- Whole lines: what is printed of a frame is some, and what of it was written when memory ran out.
--- The contracts of `write_held`, `print_listing`, `print_frames` and all above need it.
+-- The contracts of `print_listing`, `print_judged` and all above need it, and so those of `run_show`
+-- and `run_check`.
 use Rattle.std.proofs.Common.{◌≡◌, ℕ, false, inl, inr, List, [], ◌∷◌, ◌++◌, codes, decimal, length}
 use Rattle.std.proofs.Common.{Result, Ok, Err, Option, Some, None, refl, sym, ap, ◌∙◌, subst}
 use Rattle.std.proofs.Common.{append_assoc}
@@ -8,11 +9,7 @@ use Rattle.std.proofs.lemmas.List.{append-nil}
 use Rattle.bufr_bits.specs.Devices.{Writing}
 use Rattle.bufr_tables.specs.Entries.{Entries}
 use Rattle.bufr_frame.specs.declared.frames.Found.{Found}
-use Rattle.bufr_tables.specs.Descriptors.{six_digits}
-use Rattle.bufr_listing.specs.Listings.{Heading, words, value_word, field_line, subset_lines}
-use Rattle.bufr_listing.specs.Listings.{section1_line, time_line, local_line, section2_line}
-use Rattle.bufr_listing.specs.Listings.{flags_line, descriptors_line, heading_lines, heading_of}
-use Rattle.bufr_listing.specs.Listings.{end_line, listing}
+use Rattle.bufr_listing.specs.Listings.{line, joined, subset_lines, lines_of, listing}
 use Rattle.bufr_message.specs.declared.Decoded.{Decoded}
 use Rattle.bufr_message.specs.declared.Message.{Message}
 use Rattle.bufr_message.specs.declared.Refused.{Refused}
@@ -52,36 +49,19 @@ all_whole f (x ∷ xs) each = both_whole (f x) (flat_map f xs) (each x) (all_who
 
 -- ---- listings
 
--- the line of a field is whole
-field_whole : (f : _) → AreWholeLines (field_line f)
-field_whole f = line_whole (words (six_digits f.fxy) (value_word f ∷ []))
-
--- the lines of a subset are whole
-subset_whole : (s : _) → AreWholeLines (subset_lines s)
-subset_whole s =
-    both_whole (codes "subset\n") (flat_map field_line s.fields)
-    (line_whole (codes "subset")) (all_whole field_line s.fields field_whole)
+-- lines with their ends are whole
+pub joined_whole : (ls : List (List ℕ)) → AreWholeLines (joined ls)
+joined_whole ls = all_whole line ls line_whole
 
 -- the lines of what may stand in a place are whole
 pub listed_whole : (o : Option _) (text : List ℕ) → ListsSubset o text → AreWholeLines text
 listed_whole None text is = absurd is
-listed_whole (Some s) text is = subst AreWholeLines (sym is) (subset_whole s)
-
--- the lines before the first subset are whole: the descriptors' is the last
-pub heading_whole : (h : Heading) → AreWholeLines (heading_lines h)
-unfolding heading_lines
-heading_whole h =
-    end_whole (codes "message\n" ++ section1_line h.head ++ time_line h.head
-    ++ local_line h.head.local ++ section2_line h.section2 ++ flags_line h.observed h.compressed)
-    (descriptors_line h.descriptors)
-    (codes "descriptors" ++ flat_map (λ d. 32 ∷ six_digits d) h.descriptors) refl
+listed_whole (Some s) text is = subst AreWholeLines (sym is) (joined_whole (subset_lines s))
 
 -- the listing of a message has whole lines
 listing_whole : (m : Message) → AreWholeLines (listing m)
 unfolding listing
-listing_whole m =
-    end_whole (heading_lines (heading_of m) ++ flat_map subset_lines m.subsets) end_line
-    (codes "end") refl
+listing_whole m = joined_whole (lines_of m)
 
 -- ---- frames
 
@@ -117,9 +97,9 @@ lines_none w text works = record {
 }
 
 -- all lines of a front were written
-pub lines_of : (first now : Writing) (front rest text : List ℕ) → text ≡ front ++ rest
+pub some_lines : (first now : Writing) (front rest text : List ℕ) → text ≡ front ++ rest
     → AreWholeLines front → WritesAll first now front → WritesLines first now text
-lines_of first now front rest text parted whole all =
+some_lines first now front rest text parted whole all =
     record { front = front; rest = rest; parted = parted; whole = whole; written = all }
 
 -- lines of a front are lines of the text

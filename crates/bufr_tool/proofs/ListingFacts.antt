@@ -1,4 +1,5 @@
--- The listing of a message, subset by subset. The contract of `print_listing` needs it.
+-- The listing of a message, subset by subset: the contract of `print_listing` needs it, and so that
+-- of `run_show`.
 use Rattle.std.proofs.Common.{◌≡◌, ℕ, ◌+◌, ◌<◌, List, [], ◌∷◌, ◌++◌, length, take, drop, Option}
 use Rattle.std.proofs.Common.{Some, None, refl, sym, ap, ◌∙◌, append_assoc, take-append-drop}
 use Rattle.std.specs.Prelude.{slice_get}
@@ -7,41 +8,46 @@ use Rattle.std.proofs.Math.Seq.{take-length}
 use Rattle.std.proofs.lemmas.List.{flat_map_more, take_more}
 use Rattle.std.proofs.lemmas.Grind.{flat_map-append}
 use Rattle.std.proofs.lemmas.Option.{get_or_from_slice_get}
-use Rattle.bufr_listing.specs.Listings.{heading_of, heading_lines, subset_lines, end_line, listing}
+use Rattle.bufr_listing.specs.Listings.{line, joined, heading_of, heading_lines, subset_lines}
+use Rattle.bufr_listing.specs.Listings.{end_line, listing}
 use Rattle.bufr_message.specs.declared.Message.{Message}
 use Rattle.bufr_message.specs.Views.{ListsSubset}
 
+-- that of the lines before the first subset
+abbrev heading_text : Message → List ℕ
+heading_text m = joined (heading_lines (heading_of m))
+
 -- the lines before the first subset and those of so many subsets
 abbrev pub listed : Message → ℕ → List ℕ
-listed m count = heading_lines (heading_of m) ++ flat_map subset_lines (take count m.subsets)
+listed m count = heading_text m ++ flat_map (λ s. joined (subset_lines s)) (take count m.subsets)
 
 -- what of the listing stands behind these
 abbrev pub unlisted : Message → ℕ → List ℕ
-unlisted m count = flat_map subset_lines (drop count m.subsets) ++ end_line
+unlisted m count = flat_map (λ s. joined (subset_lines s)) (drop count m.subsets) ++ line end_line
 
 -- the law of the parts of a listing, at one message
 abbrev pub IsJoined : Message → Type 0
-IsJoined m = listing m ≡ heading_lines (heading_of m) ++ flat_map subset_lines m.subsets ++ end_line
+IsJoined m = listing m ≡ heading_text m ++ flat_map (λ s. joined (subset_lines s)) m.subsets ++ line end_line
 
 -- both together are the listing
 pub listing_parted : (m : Message) (count : ℕ) → IsJoined m
     → listing m ≡ listed m count ++ unlisted m count
-listing_parted m count joined =
-    let heading = heading_lines (heading_of m) in
-    let here = flat_map subset_lines (take count m.subsets) in
-    let there = flat_map subset_lines (drop count m.subsets) in
-    let parts : flat_map subset_lines m.subsets ≡ here ++ there =
-    sym (ap (flat_map subset_lines) (take-append-drop count m.subsets))
-    ∙ flat_map-append subset_lines (take count m.subsets) (drop count m.subsets) in
-    joined ∙ ap (λ (t : List ℕ). (heading ++ t) ++ end_line) parts
-    ∙ ap (λ (t : List ℕ). t ++ end_line) (sym (append_assoc heading here there))
-    ∙ append_assoc (heading ++ here) there end_line
+listing_parted m count is_joined =
+    let heading = heading_text m in
+    let here = flat_map (λ s. joined (subset_lines s)) (take count m.subsets) in
+    let there = flat_map (λ s. joined (subset_lines s)) (drop count m.subsets) in
+    let parts : flat_map (λ s. joined (subset_lines s)) m.subsets ≡ here ++ there =
+    sym (ap (flat_map (λ s. joined (subset_lines s))) (take-append-drop count m.subsets))
+    ∙ flat_map-append (λ s. joined (subset_lines s)) (take count m.subsets) (drop count m.subsets) in
+    is_joined ∙ ap (λ (t : List ℕ). (heading ++ t) ++ line end_line) parts
+    ∙ ap (λ (t : List ℕ). t ++ line end_line) (sym (append_assoc heading here there))
+    ∙ append_assoc (heading ++ here) there (line end_line)
 
 -- behind all subsets stands the last line
 pub listing_ended : (m : Message) (count : ℕ) → count ≡ length m.subsets → IsJoined m
-    → listing m ≡ listed m count ++ end_line
-listing_ended m count all joined =
-    joined ∙ ap (λ ss. heading_lines (heading_of m) ++ flat_map subset_lines ss ++ end_line)
+    → listing m ≡ listed m count ++ line end_line
+listing_ended m count all is_joined =
+    is_joined ∙ ap (λ ss. heading_text m ++ flat_map (λ s. joined (subset_lines s)) ss ++ line end_line)
     (sym (ap (λ n. take n m.subsets) all ∙ take-length m.subsets))
 
 -- what a function makes of the front of a list, and of what stands behind it
@@ -71,5 +77,5 @@ pub listed_more : (m : Message) (i : ℕ) (lines : List ℕ) → i < length m.su
     → ListsSubset (slice_get m.subsets i) lines
     → listed m (i + 1) ≡ listed m i ++ lines
 listed_more m i lines below is =
-    perhaps_more subset_lines ListsSubset (λ t p. p) (λ x t p. p) m.subsets i
-    (heading_lines (heading_of m)) lines below (slice_get m.subsets i) refl is
+    perhaps_more (λ s. joined (subset_lines s)) ListsSubset (λ t p. p) (λ x t p. p) m.subsets i (heading_text m) lines
+    below (slice_get m.subsets i) refl is

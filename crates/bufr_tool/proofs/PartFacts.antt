@@ -1,4 +1,5 @@
--- A text that is written in parts: the steps of the loop of `print_listing`.
+-- A text that is written in parts: the steps of the loop of `print_listing`, for the contract of
+-- `run_show`.
 use Rattle.std.proofs.Common.{◌≡◌, ℕ, ◌+◌, ◌-◌, ◌<◌, false, inl, List, [], ◌++◌, length, Result, Ok}
 use Rattle.std.proofs.Common.{Err, refl, sym, ap, ◌∙◌, subst, arith, length-append, append_assoc}
 use Rattle.std.specs.Prelude.{slice_get}
@@ -12,7 +13,7 @@ use Rattle.bufr_engines.specs.Engines.{WritesAll, FailsAfter}
 use Rattle.bufr_engines.specs.WritingLaws.{writes_none, writes_more, fails_more, fails_longer}
 use Rattle.bufr_tool.specs.Lines.{AreWholeLines, WritesLines}
 use Rattle.bufr_tool.specs.StreamEngines.{PrintsText, WritesAllBut}
-use Rattle.bufr_tool.proofs.LineFacts.{both_whole, listed_whole, lines_more, lines_longer, lines_of}
+use Rattle.bufr_tool.proofs.LineFacts.{both_whole, listed_whole, lines_more, lines_longer, some_lines}
 use Rattle.bufr_tool.proofs.ListingFacts.{listed, listed_more}
 
 -- nothing was written yet
@@ -61,7 +62,7 @@ pub held_halts : (held text rest all : List ℕ) (before now : ℕ) (first last 
     → all ≡ text ++ rest → WritesAllBut held text before now first last
     → WritesLines first last all
 held_halts held text rest all before now first last is w =
-    lines_of first last w.front (held ++ rest) all
+    some_lines first last w.front (held ++ rest) all
     (is ∙ ap (λ (t : List ℕ). t ++ rest) w.parted ∙ append_assoc w.front held rest) w.front_whole
     w.written
 

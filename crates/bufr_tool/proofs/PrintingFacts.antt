@@ -16,9 +16,10 @@ use Rattle.bufr_engines.specs.declared.fault.ToolFault.{ToolFault}
 use Rattle.bufr_engines.specs.declared.fault.ToolFault.TheVariants as faults
 use Rattle.bufr_tool.specs.declared.printing.Printing.{Printing}
 use Rattle.bufr_engines.specs.Engines.{WritesAll, FailsAfter}
-use Rattle.bufr_tool.specs.Output.{frame_text, frame_refused, refused_as, frames_text}
-use Rattle.bufr_tool.specs.StreamEngines.{PrintsFrame, HasPrinted, PrintsFrames}
-use Rattle.bufr_tool.proofs.LineFacts.{frames_whole, lines_of, lines_longer, lines_more}
+use Rattle.bufr_collect.specs.Collected.{frame_refused, refused_as}
+use Rattle.bufr_tool.specs.Output.{frame_text, frames_text}
+use Rattle.bufr_tool.specs.StreamEngines.{no_counts, PrintsFrame, HasPrinted, PrintsFrames}
+use Rattle.bufr_tool.proofs.LineFacts.{frames_whole, some_lines, lines_longer, lines_more}
 use Rattle.bufr_engines.specs.WritingLaws.{writes_none, writes_more, fails_more, fails_longer}
 
 -- the text of frames and one more
@@ -39,10 +40,6 @@ text_append printing tables frames more = flat_map-append (frame_text printing t
 sum_more : (f : Found → ℕ) (frames : List Found) (frame : Found)
     → sum_by f (frames ++ frame ∷ []) ≡ sum_by f frames + f frame
 sum_more f frames frame = sum_by_push f frames frame
-
--- what counts are before the first frame
-abbrev pub no_counts : Counts
-no_counts = record { frames = 0; refused = 0; octets = 0; written = 0 }
 
 -- before the first frame none was printed
 pub printed_none : (printing : Printing) (tables : Entries) (first : Writing) → first.failed ≡ false
@@ -147,7 +144,7 @@ pub halted : (printing : Printing) (tables : Entries) (first now : Writing) (cou
     → HasPrinted printing tables first now counts frames
     → PrintsFrames printing tables all last first now (Err faults.OutOfMemory)
 halted printing tables first now counts last frames more all is h =
-    lines_of first now (frames_text printing tables frames) (frames_text printing tables more) (frames_text printing tables all)
+    some_lines first now (frames_text printing tables frames) (frames_text printing tables more) (frames_text printing tables all)
     (ap (frames_text printing tables) is ∙ text_append printing tables frames more) (frames_whole printing tables frames) h.text
 
 -- the frames of a list up to one, that one, and those behind it

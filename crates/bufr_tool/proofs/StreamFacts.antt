@@ -1,6 +1,6 @@
 -- What is printed of a stream as its pieces come: the steps of `print_piece`, `print_end` and
 -- `print_stream`, and so of the contracts of `run_show` and `run_check`.
-use Rattle.std.proofs.Common.{◌≡◌, ℕ, ◌+◌, ◌≤◌, List, [], ◌∷◌, ◌++◌, length, drop, Ok, Err, refl, sym, ap, ◌∙◌, subst, arith, length-append, append_assoc}
+use Rattle.std.proofs.Common.{◌≡◌, ℕ, ◌+◌, ◌≤◌, List, [], ◌∷◌, ◌++◌, length, drop, Ok, Err, refl, sym, ap, ◌∙◌, subst, arith, length-append}
 use Rattle.std.proofs.lemmas.List.Sums.{sum_by-append, sum_by_push}
 use Rattle.std.proofs.lemmas.List.{append-nil}
 use Rattle.bufr_bits.specs.Devices.{Writing}
@@ -9,8 +9,8 @@ use Rattle.bufr_frame.specs.declared.frames.Found.{Found}
 use Rattle.bufr_frame.specs.Framings.{Framing}
 use Rattle.bufr_frame.specs.Streams.{cut, sure}
 use Rattle.bufr_frame.specs.Takings.{taken_in, IsRestOf, IsNextFrame, IsNoFrame, StandsAfter, HandedOut, IsTaking}
-use Rattle.bufr_frame.specs.TakingLaws.{handed_front, handed_end, taking_first, taking_one, taking_none}
-use Rattle.bufr_frame.specs.StreamLaws.{sure-piece, cut-end}
+use Rattle.bufr_frame.specs.TakingLaws.{handed_end, taking_first, taking_one, taking_none, taking_front}
+use Rattle.bufr_frame.specs.StreamLaws.{cut-end}
 use Rattle.bufr_tool.specs.declared.counts.Counts.{Counts}
 use Rattle.bufr_engines.specs.declared.fault.ToolFault.{ToolFault}
 use Rattle.bufr_engines.specs.declared.fault.ToolFault.TheVariants as faults
@@ -19,7 +19,7 @@ use Rattle.bufr_engines.specs.declared.fault.Tally.{Tally}
 use Rattle.bufr_engines.specs.Engines.{WritesAll, WritesAfter, FailsAfter}
 use Rattle.bufr_tool.specs.Output.{octets_of, frames_text, stream_text, last_text, tally_of, skipped_by}
 use Rattle.bufr_tool.specs.StreamEngines.{PrintsFrame, HasPrinted, PrintsFrames, HasPrintedSure, HasEnded, PrintsEnd}
-use Rattle.bufr_tool.proofs.FrameBounds.{sure_few, sure_short, cut_few, cut_short}
+use Rattle.bufr_frame.specs.FrameBounds.{sure_few, sure_short, cut_few, cut_short}
 use Rattle.bufr_engines.specs.WritingLaws.{writes_more, fails_more, fails_longer}
 use Rattle.bufr_tool.proofs.PrintingFacts.{printed_more, stopped, halted}
 
@@ -40,24 +40,12 @@ amid_first printing tables first now framer counts stream piece h = record {
   printed = h.printed;
 }
 
--- the frames that were handed out are the first of the sure frames
-pub amid_front : (framer : Framing) (stream rest : List ℕ) (frames : List Found)
-    → IsTaking framer stream rest frames → (more : List Found) × (sure stream ≡ frames ++ more)
-amid_front framer stream rest frames t =
-    let here = drop (length frames) (sure t.taken) in
-    let there = drop (length (sure t.taken)) (sure (t.taken ++ rest)) in (
-      here ++ there,
-      ap sure t.parted ∙ sure-piece t.taken rest
-          ∙ ap (λ (fs : List Found). fs ++ there) (handed_front framer t.taken frames t.handed)
-          ∙ append_assoc frames here there,
-    )
-
--- and so no more than the stream's octets, and have no more octets
+-- the frames that were handed out are no more than the stream's octets, and have no more octets
 pub amid_few : (framer : Framing) (stream rest : List ℕ) (frames : List Found)
     → IsTaking framer stream rest frames
     → (length frames ≤ length stream) × (octets_of frames ≤ length stream)
 amid_few framer stream rest frames t =
-    let front = amid_front framer stream rest frames t in
+    let front = taking_front framer stream rest frames t in
     let long : length (sure stream) ≡ length frames + length front.0 = ap length front.1 ∙ length-append frames front.0 in
     let sum : octets_of (sure stream) ≡ octets_of frames + octets_of front.0 = ap octets_of front.1 ∙ sum_by-append (λ (f : Found). length f.bytes) frames front.0 in
     let a = sure_few stream in
@@ -114,7 +102,7 @@ pub amid_halted : (printing : Printing) (tables : Entries) (first now : Writing)
     → Amid printing tables first now framer counts stream rest
     → PrintsFrames printing tables (sure stream) last first now (Err faults.OutOfMemory)
 amid_halted printing tables first now framer counts last stream rest a =
-    let front = amid_front framer stream rest a.frames a.taking in
+    let front = taking_front framer stream rest a.frames a.taking in
     halted printing tables first now counts last a.frames front.0 (sure stream) front.1 a.printed
 
 -- printing stopped at the frame that was handed out
@@ -127,7 +115,7 @@ pub amid_stopped : (printing : Printing) (tables : Entries) (first mid now : Wri
     → PrintsFrames printing tables (sure stream) last first now (Err e)
 amid_stopped printing tables first mid now before after counts counts' last stream rest left frame e a parted next stands p =
     let t = taking_one before after stream rest left a.frames frame a.taking parted next stands in
-    let front = amid_front after stream left (a.frames ++ frame ∷ []) t in
+    let front = taking_front after stream left (a.frames ++ frame ∷ []) t in
     stopped printing tables first mid now counts counts' last a.frames front.0 (sure stream) frame e front.1 a.printed p
 
 -- ---- the end

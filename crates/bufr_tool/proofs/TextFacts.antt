@@ -1,5 +1,6 @@
--- The pieces of a printed line, joined from the left as they are defined and from the right as they are
--- formatted. The contracts of `message_text` and `text_of_tally` need it.
+-- The pieces of a printed line, joined from the left as they are defined and from the right as they
+-- are formatted: the contracts of `checked_line` and `text_of_tally` need it, and so that of
+-- `run_check`.
 use Rattle.std.proofs.Common.{◌≡◌, ℕ, List, ◌∷◌, ◌++◌, append_assoc}
 
 -- six pieces, however they are joined

@@ -102,12 +102,15 @@ task_in named = task_named (option_map_or (λ found. found.0) named [])
 abbrev pub value_of : List ℕ → List (List ℕ) → List ℕ
 value_of id words = value_in id (subcommand_of commands words)
 
+-- all values of an argument
 abbrev pub values_of : List ℕ → List (List ℕ) → List (List ℕ)
 values_of id words = values_in id (subcommand_of commands words)
 
+-- whether a flag stands there
 abbrev pub flag_of : List ℕ → List (List ℕ) → Bool
 flag_of id words = flag_in id (subcommand_of commands words)
 
+-- what the words ask for
 abbrev pub task_of : List (List ℕ) → Task
 task_of words = task_in (subcommand_of commands words)
 

@@ -35,7 +35,7 @@ pub record AreEncodings (tables : Entries) (compressed : Bool) (messages : List 
 
 -- of messages that of this number, counted from 1, is the first that has no encoding, and this is
 -- its fault
-pub record IsFirstFault (tables : Entries) (compressed : Bool) (messages : List Message)
+pub record IsFirstNotEncoded (tables : Entries) (compressed : Bool) (messages : List Message)
     (number : ℕ) (fault : EncodeFault) : Type 0 where
   pub before : List Message
   pub message : Message
@@ -87,7 +87,7 @@ Encodes compressed tables reads reader reader' writer writer' (Err (faults.Listi
     HasListingFault tables reader reader' why × (writer' ≡ writer)
 Encodes compressed tables reads reader reader' writer writer' (Err (faults.Encode number why)) =
     (messages : List Message) × ListsMessages tables reader reader' messages
-    × IsFirstFault tables compressed messages number why × (writer' ≡ writer)
+    × IsFirstNotEncoded tables compressed messages number why × (writer' ≡ writer)
 Encodes compressed tables reads reader reader' writer writer' (Err (faults.ReadFailed source)) =
     (source ≡ Number 1) × HasFailed reader' × (writer' ≡ writer)
 Encodes compressed tables reads reader reader' writer writer' (Err (faults.EndlessInput source)) =
@@ -112,7 +112,7 @@ AddsEncoding tables compressed number m octets octets' (Err fault) = ⊥
 abbrev pub EncodesAll : Entries → Bool → List Message → Result (List ℕ) ToolFault → Type 0
 EncodesAll tables compressed messages (Ok octets) = AreEncodings tables compressed messages octets
 EncodesAll tables compressed messages (Err (faults.Encode number why)) =
-    IsFirstFault tables compressed messages number why
+    IsFirstNotEncoded tables compressed messages number why
 EncodesAll tables compressed messages (Err faults.OutOfMemory) = Unit {0}
 EncodesAll tables compressed messages (Err fault) = ⊥
 

@@ -1,4 +1,5 @@
--- What the commands print, as functions of what they read.
+-- What the commands print, as functions of what they read. How many frames spell no message
+-- (`refused_of`) is said in `Collected` of bufr_collect.
 use Rattle.std.specs.Prelude.{ℕ, ◌-◌, Result, Ok, Err, List, [], ◌∷◌, ◌++◌, length, codes, decimal}
 use Rattle.std.specs.Prelude.{sum_by}
 use Rattle.std.specs.List.{flat_map}
@@ -11,6 +12,7 @@ use Rattle.bufr_message.specs.Messages.{message_of}
 use Rattle.bufr_message.specs.Listings.{listing}
 use Rattle.bufr_message.specs.Reasons.{reason}
 use Rattle.bufr_engines.specs.declared.fault.Tally.{Tally}
+use Rattle.bufr_collect.specs.Collected.{refused_of}
 use Rattle.bufr_tool.specs.declared.printing.Printing.{Printing}
 use Rattle.bufr_tool.specs.declared.printing.Printing.TheVariants.{Shown, Checked}
 
@@ -37,26 +39,15 @@ abbrev pub printed_as : Printing → Found → Result Decoded Refused → List �
 printed_as Shown frame found = shown_as frame found
 printed_as Checked frame found = checked_as frame found
 
+-- what is printed of a frame under the tables
 abbrev pub frame_text : Printing → Entries → Found → List ℕ
 frame_text printing tables frame = printed_as printing frame (message_of tables frame.bytes)
-
--- how many messages of a frame are refused: one or none
-abbrev pub refused_as : Result Decoded Refused → ℕ
-refused_as (Ok found) = 0
-refused_as (Err why) = 1
-
-abbrev pub frame_refused : Entries → Found → ℕ
-frame_refused tables frame = refused_as (message_of tables frame.bytes)
 
 -- ---- frames
 
 -- what is printed of frames, one after another
 abbrev pub frames_text : Printing → Entries → List Found → List ℕ
 frames_text printing tables frames = flat_map (frame_text printing tables) frames
-
--- how many of the frames are refused
-abbrev pub refused_of : Entries → List Found → ℕ
-refused_of tables frames = sum_by (frame_refused tables) frames
 
 -- how many octets the frames have
 abbrev pub octets_of : List Found → ℕ

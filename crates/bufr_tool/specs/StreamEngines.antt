@@ -15,7 +15,8 @@ use Rattle.bufr_engines.specs.declared.fault.ToolFault.TheVariants as faults
 use Rattle.bufr_tool.specs.declared.printing.Printing.{Printing}
 use Rattle.bufr_engines.specs.Engines.{WasReadOut, HasFailed, IsEndless, HasGiven, AreAllOf, WritesAll}
 use Rattle.bufr_engines.specs.Engines.{FailsAfter}
-use Rattle.bufr_tool.specs.Output.{frame_text, frame_refused, frames_text, refused_of, octets_of}
+use Rattle.bufr_collect.specs.Collected.{frame_refused, refused_of}
+use Rattle.bufr_tool.specs.Output.{frame_text, frames_text, octets_of}
 use Rattle.bufr_tool.specs.Output.{stream_text, tally_of}
 use Rattle.bufr_tool.specs.Lines.{AreWholeLines, WritesLines}
 
@@ -94,6 +95,10 @@ WritesHeld held held' before now writer writer' (Err fault) =
     PrintsText before held writer writer' (Err fault)
 
 -- ---- frame by frame
+
+-- what is counted before the first frame
+abbrev pub no_counts : Counts
+no_counts = record { frames = 0; refused = 0; octets = 0; written = 0 }
 
 -- a frame was printed and counted, or the writer failed after a front of its text, or memory ran
 -- out after some of its lines

@@ -13,7 +13,7 @@ use crate::tables::load_tables;
 use crate::words::{CommandLine, Task, line};
 use bufr_bits::{FromRead, IntoWrite, Source};
 use bufr_collect::{run_add, run_merge};
-use bufr_engines::{Input, Tally, ToolFault, write_out};
+use bufr_engines::{Input, MOST_READS, Tally, ToolFault, write_out};
 use bufr_tables::Tables;
 use clap::error::ErrorKind;
 use std::alloc::{AllocError, Global};
@@ -21,9 +21,6 @@ use std::convert::AsStr;
 use std::io::Write;
 use std::rt::Files;
 use std::{fmt, fs};
-
-/// The greatest number of reads of one input.
-pub const MOST_READS: u64 = 4_294_967_296;
 
 /// No last line of a command that writes an archive has more octets.
 const LONGEST_LINE: usize = 160;
@@ -34,13 +31,14 @@ const WELL: u8 = 0;
 /// A message was refused.
 const REFUSED: u8 = 1;
 
-/// A fault of the line, a file, a table, a listing or memory.
+/// A fault of the line, a file, a table, a listing, an archive or memory.
 const FAULT: u8 = 2;
 
 /// Carries out the command that words ask for, without the program's name, and answers the exit
-/// status: 0 where all is well or help was asked for, 1 where a message was refused, 2 on a fault
-/// of the line, a file, a table, a listing or memory. The output goes to `out`; a fault is one line
-/// on `err`, and a failed write to `err` is passed over. No words ask for help.
+/// status: 0 where all is well or help or the version was asked for, 1 where a message was refused,
+/// 2 on a fault of the line, a file, a table, a listing, an archive or memory. The output goes to
+/// `out`; a fault is one line on `err`, but one of the line is told in the words of the option
+/// parser. A failed write to `err` is passed over. No words ask for help.
 pub fn run_command<R: Files, O: Write + Drop, E: Write + Drop>(
     rt: &R,
     alloc: Global,

@@ -3,6 +3,7 @@
 ghost use Rattle.std.specs.Prelude.{◌≡◌, ◌≤◌, false};
 ghost use Rattle.bufr_tables.specs.Answers.{Gives, result_map};
 ghost use Rattle.bufr_engines.specs.Engines.{IsFresh};
+ghost use Rattle.bufr_engines.specs.Limits.{most_reads};
 ghost use Rattle.bufr_tool.specs.Encoding.{AddsEncoding, Encodes, EncodesAll, ReadsListing};
 ghost use Rattle.bufr_tool.specs.Encoding.{code_as_asked};
 
@@ -24,7 +25,7 @@ pub fn run_encode<S: Source, W: Sink>(
     reader: &mut S,
     writer: &mut W,
 ) -> Result<Tally, ToolFault>
-    requires few { reads ≤ 4294967296 }
+    requires few { reads ≤ most_reads }
     requires fresh { IsFresh (S.reading reader.old) }
     requires works { (W.writing writer.old).failed ≡ false }
     ensures bounded { (S.reading reader.new).reads ≤ reads }

@@ -6,6 +6,7 @@ ghost use Rattle.bufr_frame.specs.declared.frames.Found.{Found as FoundFrame};
 ghost use Rattle.bufr_frame.specs.Streams.{cut};
 ghost use Rattle.bufr_tables.specs.Entries.{Entries};
 ghost use Rattle.bufr_engines.specs.Engines.{IsFresh};
+ghost use Rattle.bufr_engines.specs.Limits.{most_reads, longest_piece};
 ghost use Rattle.bufr_tool.specs.Output.{octets_of, skipped_by};
 ghost use Rattle.bufr_tool.specs.StreamEngines.{HasEnded, HasPrinted, HasPrintedSure, Prints};
 ghost use Rattle.bufr_tool.specs.StreamEngines.{PrintsEnd, PrintsFrame, PrintsFrames, PrintsPiece};
@@ -199,22 +200,17 @@ fn print_pieces<S: Source, W: Sink>(
     room: &mut [u8],
     writer: &mut W,
 ) -> Result<Tally, ToolFault>
-    requires few { reads ≤ 4294967296 }
+    requires few { reads ≤ most_reads }
     requires fresh { IsFresh (S.reading reader.old) }
     requires some { 0 < length room.old }
-    requires short { length room.old ≤ 65536 }
+    requires short { length room.old ≤ longest_piece }
     requires works { (W.writing writer.old).failed ≡ false }
     ensures bounded { (S.reading reader.new).reads ≤ reads }
     ensures prints { Prints printing tables.now reads (S.reading reader.old) (S.reading reader.new)
         (W.writing writer.old) (W.writing writer.new) result }
 {
     let mut framer = Framer::new(alloc);
-    let mut counts = Counts {
-        frames: 0,
-        refused: 0,
-        octets: 0,
-        written: 0,
-    };
+    let mut counts = Counts::none();
     for _ in 0..reads {
         let Ok(given) = reader.read(&mut *room) else {
             return Err(ToolFault::ReadFailed(Input::Number(1)));
@@ -245,7 +241,7 @@ pub fn print_stream<S: Source, W: Sink>(
     reader: &mut S,
     writer: &mut W,
 ) -> Result<Tally, ToolFault>
-    requires few { reads ≤ 4294967296 }
+    requires few { reads ≤ most_reads }
     requires fresh { IsFresh (S.reading reader.old) }
     requires works { (W.writing writer.old).failed ≡ false }
     ensures bounded { (S.reading reader.new).reads ≤ reads }

@@ -13,9 +13,9 @@ mod show;
 mod tables;
 mod words;
 
-pub use bufr_engines::{Input, Tally, ToolFault};
+pub use bufr_engines::{Input, MOST_READS, Tally, ToolFault};
 pub use check::run_check;
-pub use command::{MOST_READS, run_command};
+pub use command::run_command;
 pub use encode::run_encode;
 pub use show::run_show;
 pub use tables::load_tables;

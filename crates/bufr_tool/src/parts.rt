@@ -7,6 +7,7 @@ ghost use Rattle.bufr_tool.specs.StreamEngines.{PrintsText, WritesHeld};
 
 use bufr_bits::Sink;
 use bufr_engines::{ToolFault, write_after};
+use bufr_listing::laws::listings_are_joined_parts;
 use bufr_message::{View, listing};
 use std::alloc::Global;
 
@@ -62,7 +63,7 @@ pub fn print_listing<W: Sink>(
         (W.writing writer.new) result }
     ensures short { IfOk result (λ now. now ≤ before + 2 ^ 80) }
 {
-    listing::listings_are_joined_parts();
+    listings_are_joined_parts();
     let mut held = listing::heading_of_view(alloc, found)?;
     let mut written = before;
     for index in 0..found.count() {

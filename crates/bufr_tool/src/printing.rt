@@ -3,7 +3,8 @@
 ghost use Rattle.std.specs.Prelude.{◌≡◌, ◌≤◌, ◌<◌, ◌+◌, ◌^◌, false, length, Ok, IfOk};
 ghost use Rattle.bufr_tables.specs.Answers.{result_map};
 ghost use Rattle.bufr_message.specs.Messages.{message_of};
-ghost use Rattle.bufr_tool.specs.Output.{checked_as, frame_text, frame_refused, last_text};
+ghost use Rattle.bufr_collect.specs.Collected.{frame_refused};
+ghost use Rattle.bufr_tool.specs.Output.{checked_as, frame_text, last_text};
 ghost use Rattle.bufr_tool.specs.Output.{printed_as};
 ghost use Rattle.bufr_tool.specs.StreamEngines.{PrintsText};
 

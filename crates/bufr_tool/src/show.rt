@@ -2,6 +2,7 @@
 
 ghost use Rattle.std.specs.Prelude.{◌≡◌, ◌≤◌, false};
 ghost use Rattle.bufr_engines.specs.Engines.{IsFresh};
+ghost use Rattle.bufr_engines.specs.Limits.{most_reads};
 ghost use Rattle.bufr_tool.specs.StreamEngines.{Prints};
 ghost use Rattle.bufr_tool.specs.declared.printing.Printing.TheVariants.{Shown};
 
@@ -21,7 +22,7 @@ pub fn run_show<S: Source, W: Sink>(
     reader: &mut S,
     writer: &mut W,
 ) -> Result<Tally, ToolFault>
-    requires few { reads ≤ 4294967296 }
+    requires few { reads ≤ most_reads }
     requires fresh { IsFresh (S.reading reader.old) }
     requires works { (W.writing writer.old).failed ≡ false }
     ensures bounded { (S.reading reader.new).reads ≤ reads }

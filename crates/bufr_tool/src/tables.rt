@@ -3,6 +3,7 @@
 ghost use Rattle.std.specs.Prelude.{◌≤◌};
 ghost use Rattle.bufr_tables.specs.Answers.{result_map};
 ghost use Rattle.bufr_engines.specs.Engines.{IsFresh};
+ghost use Rattle.bufr_engines.specs.Limits.{most_reads};
 ghost use Rattle.bufr_tool.specs.Loads.{Loads};
 
 use bufr_bits::Source;
@@ -18,7 +19,7 @@ pub fn load_tables<S: Source>(
     b: &mut S,
     d: &mut S,
 ) -> Result<Tables, ToolFault>
-    requires few { reads ≤ 4294967296 }
+    requires few { reads ≤ most_reads }
     requires fresh_b { IsFresh (S.reading b.old) }
     requires fresh_d { IsFresh (S.reading d.old) }
     ensures bounded_b { (S.reading b.new).reads ≤ reads }

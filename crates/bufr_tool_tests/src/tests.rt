@@ -9,7 +9,7 @@ mod streams;
 
 use bufr_bits::{Failed, FromRead, IntoWrite, Sink, Source};
 use bufr_engines::{Input, Tally, ToolFault};
-use bufr_tables::{Column, TableB, TableD, TableFault, Tables};
+use bufr_tables::{Column, Element, Fxy, Kind, TableB, TableD, TableFault, Tables};
 use bufr_tool::{load_tables, run_show};
 use std::alloc::Global;
 use std::fmt::Debug;
@@ -292,6 +292,60 @@ fn faults_of_tables(rt: HostRuntime) {
         loaded(alloc, b"FXY\n\"a\",b\n".as_slice(), b"".as_slice()),
         Some(ToolFault::Table(Input::TableB, TableFault::NoColumn(Column::Unit))),
     );
+}
+
+/// Five thousand rows, of the descriptors with 0 to 4999 as their bits, which are their reference
+/// values.
+fn many_elements(alloc: Global) -> Result<Vec<u8>, Fail> {
+    let header = b"FXY,BUFR_Unit,BUFR_Scale,BUFR_ReferenceValue,BUFR_DataWidth_Bits\n".as_slice();
+    let mut text = Vec::from_slice(alloc, header)?;
+    for bits in 0..5000u16 {
+        let line = format!(in alloc; "{},Numeric,0,{bits},9\n", Fxy::from_bits(bits))?;
+        text.extend_from_slice(line.as_bytes())?;
+    }
+    Ok(text)
+}
+
+/// The sequence 363255 of these descriptors, in five thousand rows.
+fn many_members(alloc: Global) -> Result<Vec<u8>, Fail> {
+    let mut text = Vec::from_slice(alloc, b"FXY1,FXY2\n".as_slice())?;
+    for bits in 0..5000u16 {
+        let line = format!(in alloc; "363255,{}\n", Fxy::from_bits(bits))?;
+        text.extend_from_slice(line.as_bytes())?;
+    }
+    Ok(text)
+}
+
+/// The descriptor with these bits has the row of its reference value, and is the member at that
+/// index.
+fn assert_row(rt: &impl Abort, tables: &Tables, members: &[Fxy], bits: u16) {
+    let element = Element {
+        kind: Kind::Quantity,
+        scale: 0,
+        reference: i64::from(bits),
+        width: 9,
+    };
+    same(rt, tables.element(Fxy::from_bits(bits)), Some(&element));
+    same(
+        rt,
+        members.get(usize::from(bits)),
+        Some(&Fxy::from_bits(bits)),
+    );
+}
+
+/// The tables of two files of more than 65,536 octets.
+#[test]
+fn tables_of_thousands_of_rows(rt: HostRuntime) -> Result<(), Fail> {
+    let (b, d) = (many_elements(rt.alloc())?, many_members(rt.alloc())?);
+    same(&rt, d.len(), 70_010);
+    let (mut b, mut d) = (FromRead::new(b.as_slice()), FromRead::new(d.as_slice()));
+    let tables = load_tables(rt.alloc(), 10, &mut b, &mut d)?;
+    let members = tables.sequence(Fxy::from_bits(0xFFFF)).ok_or("members")?;
+    same(&rt, members.len(), 5000);
+    for bits in 0..5000u16 {
+        assert_row(&rt, &tables, members, bits);
+    }
+    Ok(())
 }
 
 /// The line of a fault is this.

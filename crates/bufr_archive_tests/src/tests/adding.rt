@@ -233,6 +233,6 @@ fn texts_of_faults(rt: HostRuntime) {
     assert_prints(&rt, alloc, &ran_out, "out of memory, 4 reports joined");
     let place = NotAnArchive { place: 62 };
     assert_prints(&rt, alloc, &place, "N1 NotAnArchive 62");
-    let written = WriteFault { written: 7 };
+    let written = ArchiveWriteFault { written: 7 };
     assert_prints(&rt, alloc, &written, "write failed after 7 octets");
 }

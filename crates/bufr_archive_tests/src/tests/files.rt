@@ -48,7 +48,7 @@ fn write_some<S: Shelf>(
     let Breaks { left: _, taken } = sink.into_inner();
     let expected = if left < text.len() {
         let written = left as u128;
-        Err(WriteFault { written })
+        Err(ArchiveWriteFault { written })
     } else {
         Ok(())
     };

@@ -160,3 +160,40 @@ fn entries(rt: HostRuntime) {
     assert_entry(&rt, rt.alloc(), pair, 1, 0, MISSING_TEMPERATURE);
     assert_entry(&rt, rt.alloc(), UPDATED, 0, 1, UPDATED);
 }
+
+/// The front of a message of the first's station and time, the second 0, and 255 times 150
+/// temperatures: 76,566 octets.
+const FIELDS_FRONT: &str = "\
+42554652 012B16 04 | S1 | 000015 00 0001 80 C101 C10B C10C 0406 4296 41FF 0C65 |
+012ADF 00 14C03F409EC000";
+
+/// The octets of that message, whose temperatures are the numbers from 0 on.
+fn octets_of_fields(rt: &impl Abort, alloc: Global) -> Vec<u8> {
+    let mut all = octets(rt, alloc, FIELDS_FRONT);
+    for number in 0..38_250u16 {
+        let two = number.to_be_bytes();
+        all.extend_from_slice(two.as_slice()).expect(rt, "room");
+    }
+    all.extend_from_slice(b"7777").expect(rt, "room");
+    all
+}
+
+/// The entry of a report is of the first key and has these octets.
+fn assert_own(rt: &impl Abort, alloc: Global, tables: &Tables, report: &Report, octets: &[u8]) {
+    let made = entry_of(alloc, tables, report).expect(rt, "room");
+    let entry = made.expect(rt, "an entry");
+    assert_parts(rt, &entry, 0, octets);
+}
+
+/// The entry of a report whose canonical message has more than 65,536 octets.
+#[test]
+fn entry_of_many_fields(rt: HostRuntime) {
+    let alloc = rt.alloc();
+    let tables = tables(&rt, alloc);
+    let all = octets_of_fields(&rt, alloc);
+    same(&rt, all.len(), 76_566);
+    let decoded = decode(alloc, &tables, all.as_slice()).expect(&rt, "a message");
+    let found = reports(alloc, decoded.message).expect(&rt, "room");
+    let report = found.as_slice().get(0).expect(&rt, "a report");
+    assert_own(&rt, alloc, &tables, report, all.as_slice());
+}

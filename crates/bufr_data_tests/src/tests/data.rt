@@ -3,9 +3,9 @@
 use super::same;
 use super::samples::{octets_of, same_numbers, same_text, template};
 use bufr_bits::{BitReader, BitSink};
-use bufr_data::{ReadFault, Subset, WriteFault, read_plain, write_plain};
+use bufr_data::{ReadFault, Subset, WriteFault, read_plain, read_subsets, write_plain};
 use bufr_expand::Template;
-use bufr_tables::{Failure, Fxy};
+use bufr_tables::{Failure, Fxy, Items};
 use std::alloc::Global;
 use std::process::Abort;
 use std::test::Fail;
@@ -149,6 +149,36 @@ fn operators(rt: HostRuntime) -> Result<(), Fail> {
     raised_scale(&rt, rt.alloc())
 }
 
+/// Reads the plain subsets of octets at once.
+fn read_at_once(
+    rt: &impl Abort,
+    alloc: Global,
+    template: &Template,
+    count: u16,
+    octets: &[u8],
+) -> Result<Items<Subset>, Fail> {
+    let mut reader = BitReader::new(octets);
+    let subsets = read_subsets(alloc, template, false, count, &mut reader)?;
+    same(rt, reader.left(), 0);
+    same(rt, subsets.len(), usize::from(count));
+    Ok(subsets)
+}
+
+/// Reads subsets of one field each at once, and compares their numbers.
+fn reads_at_once(
+    rt: &impl Abort,
+    alloc: Global,
+    template: &Template,
+    octets: &[u8],
+    wanted: [u64; 2],
+) -> Result<(), Fail> {
+    let subsets = read_at_once(rt, alloc, template, 2, octets)?;
+    for (subset, number) in subsets.as_slice().iter().zip(wanted) {
+        same_numbers(rt, alloc, subset, &[number])?;
+    }
+    Ok(())
+}
+
 #[test]
 fn operators_end_with_the_subset(rt: HostRuntime) -> Result<(), Fail> {
     let alloc = rt.alloc();
@@ -159,7 +189,8 @@ fn operators_end_with_the_subset(rt: HostRuntime) -> Result<(), Fail> {
     let (second, _) = read_plain(alloc, &template, &mut reader, used)?;
     same_numbers(&rt, alloc, &second, &[27316])?;
     let subsets = vec![in alloc; first, second]?;
-    same_written(&rt, alloc, &template, subsets.as_slice(), &octets)
+    same_written(&rt, alloc, &template, subsets.as_slice(), &octets)?;
+    reads_at_once(&rt, alloc, &template, &octets, [27315, 27316])
 }
 
 #[test]

@@ -2,7 +2,7 @@
 
 ghost use Rattle.std.specs.Prelude.{◌<◌};
 
-use super::{ROW_1, assert_writes, depot_of, does, ended, fed, feeds, joins, tables};
+use super::{ROW_1, assert_writes, depot_of, does, ended, fed, feed, feeds, joins, same, tables};
 use bufr_archive::{MapShelf, Shelf, SortedShelf};
 use bufr_depot::*;
 use std::alloc::Global;
@@ -63,4 +63,70 @@ fn take_in_a_thousand<S: Shelf>(rt: &impl Abort, alloc: Global) {
 fn thousand_reports_in_one_piece(rt: HostRuntime) {
     take_in_a_thousand::<MapShelf>(&rt, rt.alloc());
     take_in_a_thousand::<SortedShelf>(&rt, rt.alloc());
+}
+
+/// The stations in pieces of so many octets, and the end of their stream.
+fn steps_of(rt: &impl Abort, alloc: Global, text: &[u8], octets: usize) -> Vec<Step> {
+    let mut steps = Vec::new(alloc);
+    for piece in text.chunks(octets.max(1)) {
+        steps.push(feed(rt, alloc, 0, piece)).expect(rt, "room");
+    }
+    steps.push(Step::End { slot: 0 }).expect(rt, "room");
+    steps
+}
+
+/// The depot of a run answered so many steps, and has the archive of the stations.
+fn assert_ran<S: Shelf>(rt: &impl Abort, alloc: Global, ran: &Ran<S>, steps: usize, text: &[u8]) {
+    same(rt, ran.answers.len(), steps);
+    assert_writes(rt, alloc, &ran.depot, 0, text);
+}
+
+/// What a plan leaves on a shelf of a kind.
+fn run_alone<'t, S: Shelf>(rt: &impl Abort, alloc: Global, plan: &Plan<'t, '_>) -> Ran<'t, S> {
+    plan.run(alloc).expect(rt, "room")
+}
+
+/// What two plans leave.
+fn run_two<'t, 'u>(
+    rt: &impl Abort,
+    alloc: Global,
+    one: &Plan<'t, '_>,
+    other: &Plan<'u, '_>,
+) -> (Ran<'t, MapShelf>, Ran<'u, SortedShelf>) {
+    run_both(alloc, one, other).expect(rt, "room")
+}
+
+/// Two plans, run together, leave the archive of the stations.
+fn assert_runs(
+    rt: &impl Abort,
+    alloc: Global,
+    one: &Plan<'_, '_>,
+    other: &Plan<'_, '_>,
+    text: &[u8],
+) {
+    let (first, second) = run_two(rt, alloc, one, other);
+    assert_ran(rt, alloc, &first, 2, text);
+    assert_ran(rt, alloc, &second, 1101, text);
+}
+
+/// The stations in one piece, and each in a piece of its own.
+#[test]
+fn plans_of_a_thousand_reports(rt: HostRuntime) {
+    let alloc = rt.alloc();
+    let tables = tables(&rt, alloc);
+    let text = stations(&rt, alloc);
+    let whole = steps_of(&rt, alloc, &text, 100_000);
+    let steps = steps_of(&rt, alloc, &text, 62);
+    let one = Plan {
+        tables: &tables,
+        slots: 1,
+        steps: &whole,
+    };
+    let other = Plan {
+        steps: &steps,
+        ..one
+    };
+    assert_runs(&rt, alloc, &one, &other, &text);
+    let alone: Ran<SortedShelf> = run_alone(&rt, alloc, &other);
+    assert_ran(&rt, alloc, &alone, 1101, &text);
 }

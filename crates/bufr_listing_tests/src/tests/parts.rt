@@ -2,7 +2,7 @@
 
 use super::same;
 use super::samples::{SEQUENCES_LISTED, first_message, push_times};
-use super::writing::assert_listed;
+use super::writing::{assert_listed, assert_taken};
 use bufr_data::{Field, Raw, Subset};
 use bufr_expand::Spec;
 use bufr_listing::{HeadingParts, end_text, heading_text, subset_text};
@@ -255,12 +255,13 @@ fn assert_joined(
     Ok(())
 }
 
-/// The parts of a message of a thousand subsets, joined.
+/// A message of a thousand subsets, listed at once, written to a writer, and its parts joined.
 #[test]
 fn the_parts_of_a_thousand_subsets(rt: HostRuntime) -> Result<(), Fail> {
     let alloc = rt.alloc();
     let text = thousand_subsets(alloc)?;
     let listed = first_message(alloc, text.as_str())?;
     assert_listed(&rt, alloc, &listed, text.as_str())?;
+    assert_taken(&rt, alloc, &listed, text.as_str())?;
     assert_joined(&rt, alloc, &listed, text.as_str())
 }

@@ -192,6 +192,19 @@ fn written(
     (answer, sink.into_inner().taken)
 }
 
+/// A writer that has room for a million octets takes this listing of a message.
+pub(super) fn assert_taken(
+    rt: &impl Abort,
+    alloc: Global,
+    message: &Message,
+    wanted: &str,
+) -> Result<(), Fail> {
+    let (found, taken) = written(alloc, message, 1_000_000);
+    same(rt, found, Ok(()));
+    same(rt, taken.as_slice(), wanted.as_bytes());
+    Ok(())
+}
+
 /// The listing is written to a writer with so much room: the front that the writer takes is this
 /// one, and the answer is this.
 fn assert_front(

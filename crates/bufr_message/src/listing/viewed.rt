@@ -2,7 +2,7 @@
 //! the first on, and `end_text` are, one behind the other, the listing of the message.
 
 ghost use Rattle.std.specs.Prelude.{◌≡◌, ◌-◌, ◌≤◌, length, slice_get, Some, IfOk};
-ghost use Rattle.bufr_listing.specs.Listings.{heading_of, heading_lines};
+ghost use Rattle.bufr_listing.specs.Listings.{joined, heading_of, heading_lines};
 ghost use Rattle.bufr_message.specs.Views.{ListsSubset};
 
 use crate::message_view::View;
@@ -12,7 +12,8 @@ use std::alloc::Global;
 
 /// The lines of the listing before its first subset.
 pub fn heading_of_view(alloc: Global, view: &View<'_>) -> Result<Vec<u8>, OutOfMemory>
-    ensures { IfOk result (λ text. text.items ≡ heading_lines (heading_of view.now.message)) }
+    ensures { IfOk result (λ text.
+        text.items ≡ joined (heading_lines (heading_of view.now.message))) }
 {
     let parts = HeadingParts {
         head: view.head(),

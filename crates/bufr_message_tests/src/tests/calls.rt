@@ -42,14 +42,20 @@ pub(crate) fn viewed(alloc: Global, all: &[u8]) -> Result<View<'_>, Fail> {
     Ok(view(alloc, &tables, all)?)
 }
 
+/// The reports of the message that octets are read as.
+pub(crate) fn reports_of_octets(alloc: Global, all: &[u8]) -> Result<Vec<Report>, Fail> {
+    let found = read_octets(alloc, all)?;
+    Ok(reports(alloc, found.message)?)
+}
+
 /// The reports of the message that the octets of a text are read as.
 pub(crate) fn reports_of(alloc: Global, text: &str) -> Result<Vec<Report>, Fail> {
-    let message = message_of(alloc, text)?;
-    Ok(reports(alloc, message)?)
+    let all = octets(alloc, text)?;
+    reports_of_octets(alloc, all.as_slice())
 }
 
 /// The canonical message of a report.
-fn canonical_of(alloc: Global, report: &Report) -> Result<Vec<u8>, Fail> {
+pub(crate) fn canonical_of(alloc: Global, report: &Report) -> Result<Vec<u8>, Fail> {
     let tables = tables(alloc)?;
     Ok(canonical(alloc, &tables, report)?)
 }

@@ -5,7 +5,7 @@ use super::calls::*;
 use super::same;
 use super::samples::{octets, tables, tables_of, with_zeros};
 use bufr_data::Raw;
-use bufr_message::{Message, decode};
+use bufr_message::{Message, Report, decode};
 use bufr_tables::Tables;
 use std::alloc::Global;
 use std::process::Abort;
@@ -180,4 +180,84 @@ fn long_message(rt: HostRuntime) -> Result<(), Fail> {
     let again = written(rt.alloc(), &found.message)?;
     same(&rt, again.as_slice(), all.as_slice());
     Ok(())
+}
+
+/// The octets of a text, each of these numbers in two octets, and section 5.
+fn with_numbers(
+    alloc: Global,
+    front: &str,
+    numbers: std::ops::Range<u16>,
+) -> Result<Vec<u8>, Fail> {
+    let mut all = octets(alloc, front)?;
+    for number in numbers {
+        all.extend_from_slice(number.to_be_bytes().as_slice())?;
+    }
+    all.extend_from_slice(b"7777")?;
+    Ok(all)
+}
+
+/// The front of a message of a thousand plain subsets of one temperature: 2,047 octets.
+const THOUSAND_FRONT: &str = "42554652 0007FF 04 | S1 | 000009 00 03E8 80 0C65 | 0007D4 00";
+
+/// That of one such subset: 49 octets.
+const ONE_FRONT: &str = "42554652 000031 04 | S1 | 000009 00 0001 80 0C65 | 000006 00";
+
+/// The reports have the numbers from this one on, one each.
+fn assert_numbers(rt: &impl Abort, reports: &[Report], first: u64) -> Result<(), Fail> {
+    let mut number = first;
+    for report in reports {
+        let fields = &report.subset.fields;
+        same(rt, fields.len(), 1);
+        assert_number(rt, fields.get(0).ok_or("field")?, number);
+        number = number.saturating_add(1);
+    }
+    Ok(())
+}
+
+/// The canonical message of the report at an index is the one of a subset of this number.
+fn assert_canonical_number(
+    rt: &impl Abort,
+    alloc: Global,
+    reports: &[Report],
+    index: usize,
+    number: u16,
+) -> Result<(), Fail> {
+    let wanted = with_numbers(alloc, ONE_FRONT, number..number.saturating_add(1))?;
+    let report = reports.get(index).ok_or("report")?;
+    let found = canonical_of(alloc, report)?;
+    same(rt, found.as_slice(), wanted.as_slice());
+    Ok(())
+}
+
+#[test]
+fn reports_of_a_thousand_subsets(rt: HostRuntime) -> Result<(), Fail> {
+    let alloc = rt.alloc();
+    let all = with_numbers(alloc, THOUSAND_FRONT, 20_000..21_000)?;
+    let found = reports_of_octets(alloc, all.as_slice())?;
+    same(&rt, found.len(), 1000);
+    assert_numbers(&rt, found.as_slice(), 20_000)?;
+    assert_canonical_number(&rt, alloc, found.as_slice(), 0, 20_000)?;
+    assert_canonical_number(&rt, alloc, found.as_slice(), 999, 20_999)
+}
+
+/// The front of a message of one subset of 255 times 150 temperatures: 76,551 octets.
+const FIELDS_FRONT: &str = "42554652 012B07 04 | S1 | 00000D 00 0001 80 4296 41FF 0C65 | 012AD8 00";
+
+/// The only report of octets has these octets as its canonical message.
+fn assert_own(rt: &impl Abort, alloc: Global, all: &[u8]) -> Result<(), Fail> {
+    let reports = reports_of_octets(alloc, all)?;
+    same(rt, reports.len(), 1);
+    let report = reports.as_slice().first().ok_or("report")?;
+    same(rt, report.subset.fields.len(), 38_250);
+    let found = canonical_of(alloc, report)?;
+    same(rt, found.as_slice(), all);
+    Ok(())
+}
+
+/// A report whose canonical message has more than 65,536 octets.
+#[test]
+fn canonical_message_of_many_fields(rt: HostRuntime) -> Result<(), Fail> {
+    let all = with_numbers(rt.alloc(), FIELDS_FRONT, 0..38_250)?;
+    same(&rt, all.len(), 76_551);
+    assert_own(&rt, rt.alloc(), all.as_slice())
 }

@@ -1,6 +1,7 @@
 //! Listings through the engine of `encode`: each fault, every failing device.
 
 ghost use Rattle.std.specs.Prelude.{◌≤◌};
+ghost use Rattle.bufr_engines.specs.Limits.{most_reads};
 
 use super::{
     Breaks, Drips, ELEMENTS_ONLY, LISTING, SEQUENCES, assert_broken, assert_line, same, shown,
@@ -90,7 +91,7 @@ fn encoded(
     compressed: bool,
     listing: &[u8],
 ) -> Result<(Result<Tally, ToolFault>, Vec<u8>), Fail>
-    requires { reads ≤ 4294967296 }
+    requires { reads ≤ most_reads }
 {
     let tables = tables(alloc)?;
     let mut writer = IntoWrite::new(Vec::new(alloc));

@@ -5,5 +5,5 @@ use Rattle.bufr_archive.proofs.laws.reports_are_entries.Goals as goal
 -- by the laws that messages are spelt and that reports have canonical messages
 pub returns : goal.returns
 returns c =
-    reports_are_entries c.messages_are_spelt.ensures.read c.written_messages_are_spelt.ensures.bare
+    reports_are_entries c.messages_are_spelt.ensures.read c.written_messages_are_spelt.ensures.only
     c.canonical_messages_are_reports.ensures.read c.reports_have_canonical_messages.ensures

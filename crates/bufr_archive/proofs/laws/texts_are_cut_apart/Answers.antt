@@ -5,10 +5,11 @@ use Rattle.bufr_archive.proofs.laws.texts_are_cut_apart.Goals as goal
 -- the frames of a text, those of its fronts, and the reports that it tells
 pub returns : goal.returns
 returns c =
+    let written = c.written_messages_are_spelt.ensures.only in
     let entries = c.reports_are_entries.ensures in
     let joined = c.joined_frames_are_cut_apart.ensures.joined in
     record {
-      frames = frames_of_reports entries joined;
-      fronts = frames_of_report_fronts entries c.joined_frames_are_cut_apart.ensures.front;
-      told = report_texts_tell entries c.canonical_messages_are_reports.ensures.read joined;
+      frames = frames_of_reports written entries joined;
+      fronts = frames_of_report_fronts written entries c.joined_frames_are_cut_apart.ensures.front;
+      told = report_texts_tell written entries c.canonical_messages_are_reports.ensures.read joined;
     }

@@ -5,10 +5,11 @@ use Rattle.bufr_archive.proofs.laws.texts_from_before.Goals as goal
 -- by the laws of reports as entries and of what was kept while keys had no sub-centre
 pub returns : goal.returns
 returns c =
+    let written = c.written_messages_are_spelt.ensures.only in
     let entries = c.reports_are_entries.ensures in
     let shelved = c.sorted_are_kept.ensures in
     record {
-      kept = texts_from_before entries shelved.from_before shelved.before;
-      texts = from_before_are_texts entries shelved.from_before shelved.before;
-      best = kept_before_is_the_best entries shelved.before;
+      kept = texts_from_before written entries shelved.from_before shelved.before;
+      texts = from_before_are_texts written entries shelved.from_before shelved.before;
+      best = kept_before_is_the_best written entries shelved.before;
     }

@@ -3,7 +3,7 @@ use Rattle.std.proofs.Common.{◌≡◌, drop, ap, sym}
 use Rattle.std.proofs.lemmas.Result.{err_from_is_err_and}
 use Rattle.bufr_bits.specs.Bits.{bits}
 use Rattle.bufr_bits.specs.Ends.{left}
-use Rattle.bufr_data.proofs.ReadFacts.{field_goes_on, count_goes_on}
+use Rattle.bufr_data.specs.StepLaws.{field_goes_on, count_goes_on}
 use Rattle.bufr_data.proofs.PlaceFacts.{stop_refused, end_passes, field_past, count_past, field_refused, count_refused, field_passes, count_passes, count_is_below, is_count}
 use Rattle.bufr_data.proofs.columns.next_place.Goals as goal
 

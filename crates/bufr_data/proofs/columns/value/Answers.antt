@@ -1,6 +1,7 @@
 -- The clause of `value`: where a column stands, each of its subsets has a value.
 use Rattle.std.proofs.Common.{◌∙◌, sym}
-use Rattle.bufr_data.proofs.ValueFacts.{value_there, some_there, some_same}
+use Rattle.bufr_bits.specs.BitLaws.{some_is}
+use Rattle.bufr_data.proofs.ValueFacts.{value_there, some_there}
 use Rattle.bufr_data.proofs.columns.value.Goals as goal
 
 -- there is a value at each index below the number of subsets
@@ -15,4 +16,4 @@ pub returns : goal.returns
 returns c =
     let at = c.at-reader.ensures in
     let is = rw at at c.in_ok-value.ensures in
-    some_same _ _ (sym c.unwrap.ensures ∙ is ∙ value_there c.args.octets.now c.args.subsets c.args.index c.args.place c.requires.stands c.requires.inside)
+    some_is _ _ (sym c.unwrap.ensures ∙ is ∙ value_there c.args.octets.now c.args.subsets c.args.index c.args.place c.requires.stands c.requires.inside)

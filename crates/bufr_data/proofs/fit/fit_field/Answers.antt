@@ -1,8 +1,8 @@
 -- The clauses of `fit_field`: one step of the walk is one step of fitting.
 use Rattle.std.proofs.lemmas.Result.{err_from_is_err_and}
-use Rattle.bufr_data.proofs.ReadFacts.{field_goes_on, count_goes_on}
 use Rattle.bufr_data.proofs.WriteFacts.{field_is_written, count_is_written, count_written_fits, field_misfits, count_misfits, end_misfits, stop_misfits, fits_is}
 use Rattle.bufr_data.proofs.fit.fit_field.Goals as goal
+use Rattle.bufr_data.specs.StepLaws.{field_goes_on, count_goes_on}
 
 -- where the walk stops, its fault is the misfit
 pub returns-in-Err-clause-err : goal.returns-in-Err-clause-err

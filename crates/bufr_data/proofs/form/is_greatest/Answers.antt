@@ -9,8 +9,8 @@ apart : (a b : ℕ) → a < b → false ≡ eqb a b
 apart a b h = grind (arith, nat_tests)
 
 -- no number of 64 bits is the greatest of more bits
-pub returns-then-width-gt64 : goal.returns-then-width-gt64
-returns-then-width-gt64 c =
+pub returns-then-width-gt-MOST_RAW_BITS : goal.returns-then-width-gt-MOST_RAW_BITS
+returns-then-width-gt-MOST_RAW_BITS c =
     let wide : 65 ≤ c.args.width = omega arith in
     let most : 2 ^ 65 ≤ 2 ^ c.args.width = pow_mono wide in
     apart (c.args.number + 1) (2 ^ c.args.width) (omega arith)

@@ -2,7 +2,8 @@
 use Rattle.std.proofs.lemmas.Result.{err_from_is_err_and}
 use Rattle.bufr_tables.specs.declared.failure.Failure.TheVariants.{Fault}
 use Rattle.bufr_data.specs.declared.field.Raw.TheVariants.{Number}
-use Rattle.bufr_data.proofs.ReadFacts.{field_goes_on, count_goes_on, field_is_read, count_is_read, field_is_missing, count_is_missing, end_is_read, stop_is_read, count_read_fits}
+use Rattle.bufr_data.specs.StepLaws.{field_goes_on, count_goes_on}
+use Rattle.bufr_data.proofs.ReadFacts.{field_is_read, count_is_read, field_is_missing, count_is_missing, end_is_read, stop_is_read, count_read_fits}
 use Rattle.bufr_data.proofs.pass.pass_field.Goals as goal
 
 -- where the walk stops, reading the fields has its fault

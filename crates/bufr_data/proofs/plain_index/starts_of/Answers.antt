@@ -5,7 +5,7 @@ use Rattle.std.proofs.lemmas.Result.{err_from_is_err_and}
 use Rattle.bufr_bits.specs.Bits.{bits}
 use Rattle.bufr_bits.specs.Ends.{left}
 use Rattle.bufr_expand.specs.Courses.{course}
-use Rattle.bufr_data.specs.declared.plain_index.Start.{Start}
+use Rattle.bufr_data.specs.declared.plain_index.SubsetStart.{SubsetStart}
 use Rattle.bufr_data.specs.Plain.{subsets_at}
 use Rattle.bufr_data.proofs.StartFacts.{one_start, one_stands}
 use Rattle.bufr_data.proofs.SubsetFacts.{one_fails, all_read, fails_map}
@@ -25,7 +25,7 @@ returns-in_err-items-clause-exact c =
 pub loop-index-preserved : goal.loop-index-preserved
 loop-index-preserved c =
     let octets = c.args.reader.now.octets in
-    let s : Start = record { bit = c.bit_of-bit.result; used = c.loop-index.used } in
+    let s : SubsetStart = record { bit = c.bit_of-bit.result; used = c.loop-index.used } in
     let there : left c.loop-index.reader ≡ drop s.bit (bits octets) =
     ap (λ b. drop b (bits c.loop-index.reader.octets)) (sym c.bit_of-bit.ensures.is) ∙ ap (λ os. drop s.bit (bits os)) c.loop-index.invariant.same_octets in
     let inside : s.bit ≤ 8 * length octets = subst (λ os. s.bit ≤ 8 * length os) c.loop-index.invariant.same_octets c.bit_of-bit.ensures.inside in

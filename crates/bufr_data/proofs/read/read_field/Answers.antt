@@ -1,7 +1,8 @@
 -- The clauses of `read_field`: one step of the walk is one step of reading.
 use Rattle.std.proofs.lemmas.Result.{err_from_is_err_and}
-use Rattle.bufr_data.proofs.ReadFacts.{field_goes_on, count_goes_on, field_is_read, count_is_read, field_is_missing, count_is_missing, end_is_read, stop_is_read, count_read_fits}
+use Rattle.bufr_data.proofs.ReadFacts.{field_is_read, count_is_read, field_is_missing, count_is_missing, end_is_read, stop_is_read, count_read_fits}
 use Rattle.bufr_data.proofs.read.read_field.Goals as goal
+use Rattle.bufr_data.specs.StepLaws.{field_goes_on, count_goes_on}
 
 -- where the walk stops, its fault is that of the data
 pub returns-in-Err-clause-err : goal.returns-in-Err-clause-err

@@ -7,4 +7,4 @@ use Rattle.bufr_listing.proofs.heading.push_local.Goals as goal
 pub returns-in_default : goal.returns-in_default
 returns-in_default c =
     let some : 0 < length c.args.local.now = omega (arith, c.in_default.len_at_least) in
-    rw (← local_line_is c.args.local.now some) c.push_digits.ensures
+    rw (← local_line_is c.args.local.now some) c.push_octets.ensures

@@ -1,4 +1,5 @@
 -- For the clauses `given` and `answered` of the law `faults_of_listings_are_the_first`.
+use Rattle.bufr_data.specs.CourseLaws.{Laws}
 use Rattle.bufr_listing.proofs.LowerLaws.{LowerLaws}
 use Rattle.bufr_listing.proofs.FaultFields.{FaultLaws}
 use Rattle.bufr_listing.proofs.FaultMessages.{first_fault}
@@ -16,14 +17,15 @@ laws_of c =
       fit = c.counted_subsets_fit.ensures.all_fit;
       counted = c.counted_subsets_fit.ensures.all_counted;
     } in
-    record {
-      lower = lower;
+    let courses : Laws = record {
+      unrolled = c.courses_are_unrollings.ensures.unrolled;
       allowed = c.courses_are_unrollings.ensures.allowed;
-      goes_on = c.courses_begin_unrollings.ensures.goes_on;
       asked = c.courses_begin_unrollings.ensures.asked;
       lacking = c.courses_begin_unrollings.ensures.lacking;
       too_large = c.courses_begin_unrollings.ensures.too_large;
-    }
+      goes_on = c.courses_begin_unrollings.ensures.goes_on;
+    } in
+    record { lower = lower; courses = courses }
 
 -- a fault that reading answers is the first of the text
 pub returns-clause-given : goal.returns-clause-given

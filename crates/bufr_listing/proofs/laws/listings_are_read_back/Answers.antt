@@ -1,22 +1,18 @@
--- For the clauses `joined` and `read` of the law `listings_are_read_back`.
-use Rattle.bufr_listing.proofs.ShownFacts.{listing_joined, listing_read_back}
+-- For the clause `read` of the law `listings_are_read_back`.
+use Rattle.bufr_listing.proofs.ShownFacts.{listing_read_back}
 use Rattle.bufr_listing.proofs.laws.listings_are_read_back.Goals as goal
 
--- the listing of a message is its joined lines
-pub returns-clause-joined : goal.returns-clause-joined
-returns-clause-joined c = listing_joined
-
 -- the joined listings of messages are read back, by the laws of the crates below
-pub returns-clause-read : goal.returns-clause-read
-returns-clause-read c =
-    listing_read_back (record {
-      descriptors = c.descriptor_texts.ensures;
-      specs =
-          c.courses_are_steady.ensures.in_range;
-      builds = c.templates_are_trees.ensures.built;
-      refuses =
-          c.templates_are_trees.ensures.refused;
-      fit = c.counted_subsets_fit.ensures.all_fit;
-      counted =
-          c.counted_subsets_fit.ensures.all_counted;
-    })
+pub returns : goal.returns
+returns c =
+    record {
+      read =
+          listing_read_back (record {
+            descriptors = c.descriptor_texts.ensures;
+            specs = c.courses_are_steady.ensures.in_range;
+            builds = c.templates_are_trees.ensures.built;
+            refuses = c.templates_are_trees.ensures.refused;
+            fit = c.counted_subsets_fit.ensures.all_fit;
+            counted = c.counted_subsets_fit.ensures.all_counted;
+          });
+    }

@@ -10,8 +10,10 @@ pub returns-in_err-read_message : goal.returns-in_err-read_message
 returns-in_err-read_message c =
     let p = err_from_is_err_and c.from_residual.result c.from_residual.ensures.1 in
     let own = rw c.loop-lines.invariant.last at c.in_err-read_message.ensures.read in
-    rw (p.1, p.2) (message_fails _ _ _ _ _ _ c.loop-lines.invariant.so_far
-    (some_next _ _ c.peek.ensures (sym c.is_some.ensures ∙ c.loop-lines-test.true)) own)
+    record {
+      exact = rw (p.1, p.2) (message_fails _ _ _ _ _ _ c.loop-lines.invariant.so_far
+          (some_next _ _ c.peek.ensures (sym c.is_some.ensures ∙ c.loop-lines-test.true)) own);
+    }
 
 -- fewer lines are left behind a message
 pub loop-lines-smaller : goal.loop-lines-smaller
@@ -33,5 +35,7 @@ loop-lines-preserved c =
 -- where no line is left, the messages are those that were read
 pub returns : goal.returns
 returns c =
-    messages_end _ _ _ _ _ c.loop-lines.invariant.so_far
-    (none_next _ _ c.peek.ensures (sym c.is_some.ensures ∙ c.loop-lines-test.false))
+    record {
+      exact = messages_end _ _ _ _ _ c.loop-lines.invariant.so_far
+          (none_next _ _ c.peek.ensures (sym c.is_some.ensures ∙ c.loop-lines-test.false));
+    }

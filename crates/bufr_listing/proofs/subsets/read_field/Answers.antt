@@ -1,9 +1,10 @@
 -- For the clauses of `read_field`, by what the walk answers.
 use Rattle.std.proofs.lemmas.Result.{err_from_is_err_and}
-use Rattle.bufr_listing.proofs.StepFacts.{field_goes_on, count_goes_on, field_is_read}
+use Rattle.bufr_listing.proofs.StepFacts.{field_is_read}
 use Rattle.bufr_listing.proofs.StepFacts.{count_is_read, field_is_refused, count_is_refused}
 use Rattle.bufr_listing.proofs.StepFacts.{end_is_read, stop_is_refused, count_fits}
 use Rattle.bufr_listing.proofs.subsets.read_field.Goals as goal
+use Rattle.bufr_data.specs.StepLaws.{field_goes_on, count_goes_on}
 
 -- where the walk stops, so do the fields
 pub returns-in-Err-clause-err : goal.returns-in-Err-clause-err

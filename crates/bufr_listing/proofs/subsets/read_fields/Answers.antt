@@ -9,7 +9,7 @@ loop-fields-init c =
     rw c.new-fields.ensures.items (record {
       ready = record {
         answered = c.in_ok-walk.ensures.answered;
-        steady = rw (c.in_ok-walk.ensures.items, c.in_ok-walk.ensures.course) (c.courses_go_on_steadily.ensures _ _);
+        steady = rw (c.in_ok-walk.ensures.items, c.in_ok-walk.ensures.course) (c.courses_are_steady.ensures.steady _ _);
       };
       last = refl;
       so_far = rw c.in_ok-walk.ensures.course (behind_none _);

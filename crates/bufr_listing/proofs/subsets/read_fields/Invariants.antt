@@ -2,15 +2,16 @@
 use Rattle.std.proofs.Common.{◌≡◌, ◌-◌}
 use Rattle.bufr_expand.specs.Courses.{course}
 use Rattle.bufr_expand.specs.Walks as walks
+use Rattle.bufr_data.specs.Steady.{IsReady}
 use Rattle.bufr_listing.specs.Cursors.{left, past}
 use Rattle.bufr_listing.specs.Reading.{fields_read}
-use Rattle.bufr_listing.specs.Steps.{CanGoOn, behind_fields}
+use Rattle.bufr_listing.specs.Steps.{behind_fields}
 use Rattle.bufr_listing.proofs.subsets.read_fields.Given as goal
 
 -- the walk can go on, and the subset's fields are these and then those that it asks for
 abbrev pub invariant-loop-fields : goal.invariant-loop-fields
 invariant-loop-fields l = record {
-  ready : CanGoOn l.walk;
+  ready : IsReady l.walk;
   last : past l.lines ≡ past l.fn.lines;
   so_far : fields_read (past l.fn.lines) (course l.template l.fn.used) (left l.fn.lines) ≡ behind_fields l.fields.items (fields_read (past l.fn.lines) (walks.left l.walk) (left l.lines));
 }

@@ -13,4 +13,4 @@ returns-clause-read c = λ tables r octets d.
 
 -- it has 45 octets, two for each descriptor, and those of the subset's bits
 pub returns-clause-long : goal.returns-clause-long
-returns-clause-long c = canonical_long c.laws_below.ensures
+returns-clause-long c = canonical_long

@@ -9,7 +9,9 @@ use Rattle.bufr_tool.proofs.frames.print_pieces.Goals as goal
 
 -- before the first read nothing was read or printed
 pub loop-init : goal.loop-init
-loop-init g c = between_first _ _ _ _ _ c.requires.fresh c.requires.works c.new-framer.ensures.starts
+loop-init g c =
+    rw c.none-counts.ensures
+    (between_first _ _ _ _ _ c.requires.fresh c.requires.works c.new-framer.ensures.starts)
 
 -- a read that takes nothing ends the stream, which is all that was read
 pub returns-then-given-eq0-clause-prints : goal.returns-then-given-eq0-clause-prints

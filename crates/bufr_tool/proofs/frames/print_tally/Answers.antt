@@ -2,7 +2,7 @@
 use Rattle.std.proofs.Common.{arith, ◌∙◌}
 use Rattle.bufr_engines.specs.declared.fault.ToolFault.TheVariants as faults
 use Rattle.bufr_tool.specs.StreamEngines.{PrintsEnd}
-use Rattle.bufr_tool.proofs.FrameBounds.{cut_few, cut_short}
+use Rattle.bufr_frame.specs.FrameBounds.{cut_few, cut_short}
 use Rattle.bufr_tool.proofs.PrintingFacts.{passed}
 use Rattle.bufr_tool.proofs.StreamFacts.{end_tally, end_done, end_fails, end_halted}
 use Rattle.bufr_tool.proofs.frames.print_tally.Goals as goal

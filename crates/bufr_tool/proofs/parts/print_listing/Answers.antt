@@ -1,12 +1,12 @@
 -- The clause `prints` of `print_listing`: the heading, subset by subset, and the last line.
-use Rattle.std.proofs.Common.{◌≡◌, ℕ, ◌+◌, ◌<◌, List, ◌++◌, length, codes, ◌∙◌, ap, sym, subst}
+use Rattle.std.proofs.Common.{◌≡◌, ℕ, ◌+◌, ◌<◌, List, ◌++◌, length, ◌∙◌, ap, sym, subst}
 use Rattle.std.proofs.Common.{arith}
 use Rattle.std.proofs.lemmas.List.{append-nil}
-use Rattle.bufr_listing.specs.Listings.{heading_of, end_line, listing}
+use Rattle.bufr_listing.specs.Listings.{line, heading_of, heading_lines, end_line, listing}
 use Rattle.bufr_engines.specs.declared.fault.ToolFault.TheVariants as faults
 use Rattle.bufr_tool.specs.Lines.{AreWholeLines}
 use Rattle.bufr_tool.specs.StreamEngines.{PrintsText}
-use Rattle.bufr_tool.proofs.LineFacts.{lines_none, line_whole, heading_whole}
+use Rattle.bufr_tool.proofs.LineFacts.{lines_none, line_whole, joined_whole}
 use Rattle.bufr_tool.proofs.ListingFacts.{listed, unlisted, listing_parted, listing_ended}
 use Rattle.bufr_tool.proofs.PartFacts.{but_all, held_more, held_less, held_halts, held_stops}
 use Rattle.bufr_tool.proofs.PartFacts.{held_ends, subset_held}
@@ -19,7 +19,8 @@ loop-index-init g c =
     let m = c.args.found.now.message in
     record {
       done = but_all _ (listed m 0) c.args.before _ (append-nil _ ∙ sym c.in_ok-held.ensures)
-          (subst AreWholeLines (sym c.in_ok-held.ensures) (heading_whole (heading_of m)))
+          (subst AreWholeLines (sym c.in_ok-held.ensures)
+          (joined_whole (heading_lines (heading_of m))))
           c.requires.works;
       short = omega arith;
     }
@@ -129,7 +130,7 @@ returns-clause-prints g c =
     let grown = c.deref-2.ensures.value ∙ c.in_ok-extend_from_slice-2.ensures.items
     ∙ ap (λ (t : List ℕ). held ++ t) c.end_text.ensures in
     held_ends c.deref-2.result.now (listing m) _ _ _ _ _ c.print_text.result
-    (held_more held (listed m i) end_line c.deref-2.result.now (listing m) _ _ _ _ grown
-    (listing_ended m i all (c.listings_are_joined_parts.ensures m)) (line_whole (codes "end"))
+    (held_more held (listed m i) (line end_line) c.deref-2.result.now (listing m) _ _ _ _ grown
+    (listing_ended m i all (c.listings_are_joined_parts.ensures m)) (line_whole end_line)
     c.loop-index.invariant.done)
     c.print_text.ensures.prints

@@ -7,7 +7,7 @@ use crate::tests::samples::{
     COMPRESSED_PAIR, MISSING_TEMPERATURE, MONTH_13, NEXT_STATION, PAIR_OF_STATIONS, SEQUENCES,
     UPDATED, is_refused, joined, repeated, room, tables,
 };
-use bufr_archive::{AddFault, Added, Archive, MapShelf, Shelf, SortedShelf, WriteFault};
+use bufr_archive::{AddFault, Added, Archive, ArchiveWriteFault, MapShelf, Shelf, SortedShelf};
 use bufr_bits::IntoWrite;
 use bufr_tables::Tables;
 use std::alloc::Global;
@@ -197,11 +197,11 @@ fn archives_copied(rt: HostRuntime) -> Result<(), Fail> {
 }
 
 /// A text was written whole, or a front of it of as many octets as were told.
-fn assert_front(rt: &impl Abort, answer: Result<(), WriteFault>, taken: &[u8], text: &[u8]) {
+fn assert_front(rt: &impl Abort, answer: Result<(), ArchiveWriteFault>, taken: &[u8], text: &[u8]) {
     assert!(rt; text.starts_with(taken));
     let told = match answer {
         Ok(()) => text.len() as u128,
-        Err(WriteFault { written }) => written,
+        Err(ArchiveWriteFault { written }) => written,
     };
     same(rt, taken.len() as u128, told);
 }

@@ -1,8 +1,8 @@
 -- The clause of `Alike::within`: field by field along the walk, until it ends or asks for a count.
 use Rattle.std.proofs.Common.{refl, arith}
 use Rattle.bufr_expand.specs.Steady.{course_steady}
+use Rattle.bufr_data.specs.StepLaws.{field_goes_on}
 use Rattle.bufr_data.proofs.AlikeFacts.{none_measured, one_measured}
-use Rattle.bufr_data.proofs.ReadFacts.{field_goes_on}
 use Rattle.bufr_data.proofs.alike.Alike.within.Goals as goal
 
 -- at first the walk is at the front of the course, and there are no bits

@@ -59,7 +59,7 @@ returns-in-Untouched-clause-answer c =
     (w.place + 1) w.stop w.loops.items w.operators (w.items + 1))) met.result met.new.self in
     goes_as (left w) (asks_if (untouched o.element) (w.items + 1) o.fxy
     (λ n. going w.nodes.now (w.place + 1) w.stop w.loops.items w.operators (w.items + 1)))
-    met.result met.new.self old (subst P c.unchanged.ensures met.ensures)
+    met.result met.new.self old (subst P c.untouched.ensures met.ensures)
 
 -- the course past an operator, which is then in force, is the one that was left
 pub returns-in-Operator-clause-on : goal.returns-in-Operator-clause-on

@@ -1,5 +1,5 @@
 -- For `freshen`: what its loop keeps, and why it ends.
-use Rattle.std.proofs.Common.{◌≡◌, ◌++◌, ℕ, length}
+use Rattle.std.proofs.Common.{◌≡◌, ◌++◌, length}
 use Rattle.std.specs.List.Sorted.{IsStrictlySortedBy}
 use Rattle.std.specs.Map.{keys_of}
 use Rattle.bufr_shelves.specs.Keeping.{kept_by}

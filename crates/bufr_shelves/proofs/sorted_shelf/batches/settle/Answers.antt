@@ -1,5 +1,5 @@
 -- For `settle`: whatever was done so far, all pairs together are as they were.
-use Rattle.std.proofs.Common.{◌≡◌, ◌∙◌, ◌++◌, ◌∷◌, [], sym, ap, subst}
+use Rattle.std.proofs.Common.{◌∙◌, ◌++◌, [], sym, ap, subst}
 use Rattle.std.proofs.lemmas.Cmp.{on_total}
 use Rattle.std.specs.List.Sorted.{IsStrictlySortedBy}
 use Rattle.std.specs.Map.{keys_of}

@@ -1,6 +1,6 @@
 -- For `raise_pair` of vectors: a pair is put where its value is greater than the one at its key, or
 -- none is there.
-use Rattle.std.proofs.Common.{◌≡◌, ◌∙◌, Bool, true, cond, Result, Ok, Err, sym, ap, refl, Some, length, slice_get, arith}
+use Rattle.std.proofs.Common.{◌≡◌, ◌∙◌, true, cond, Result, Ok, Err, sym, ap, refl, Some, length, slice_get, arith}
 use Rattle.std.proofs.lemmas.Option.{slice_get_read}
 use Rattle.std.specs.List.{insert}
 use Rattle.std.specs.Option.{option_map}

@@ -1,5 +1,5 @@
 -- For `Batches::add`: one more pair that waits is put in.
-use Rattle.std.proofs.Common.{◌≡◌, ◌∙◌, ◌++◌, ◌∷◌, [], sym, ap}
+use Rattle.std.proofs.Common.{◌∙◌, ◌++◌, ◌∷◌, [], ap}
 use Rattle.std.proofs.lemmas.Cmp.{on_total}
 use Rattle.bufr_shelves.specs.Keeping.{kept_by, put_by}
 use Rattle.bufr_shelves.specs.Pairs.{by_key, by_value}

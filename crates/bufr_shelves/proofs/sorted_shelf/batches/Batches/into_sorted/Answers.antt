@@ -1,5 +1,5 @@
 -- For `Batches::into_sorted`: what is settled alone is all there is.
-use Rattle.std.proofs.Common.{◌≡◌, ◌∙◌, ◌++◌, [], sym, ap}
+use Rattle.std.proofs.Common.{◌∙◌, ◌++◌, [], sym, ap}
 use Rattle.std.proofs.lemmas.Cmp.{on_total}
 use Rattle.bufr_shelves.specs.Keeping.{kept_by}
 use Rattle.bufr_shelves.specs.Pairs.{by_key, by_value}

@@ -1,5 +1,4 @@
 -- For `Gathering::put`: an entry with a key and one without, each among its pairs.
-use Rattle.std.proofs.Common.{◌≡◌, ◌∙◌, sym, ap}
 use Rattle.bufr_shelves.proofs.PutLemmas.{keyed-stays, unkeyed-stays, keyed-put, unkeyed-put}
 use Rattle.bufr_shelves.proofs.sorted_shelf.gathering.Gathering.put.Goals as goal
 

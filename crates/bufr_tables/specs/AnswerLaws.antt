@@ -1,4 +1,5 @@
--- What an answer says of the steps that it was made by: for the laws of sections and of messages.
+-- What an answer says of the steps that it was made by: for the laws of templates, data, sections,
+-- listings and messages.
 use Rattle.std.proofs.Common.{◌≡◌, ◌⊎◌, Bool, true, false, not, cond, Result, Ok, Err, refl, ap}
 use Rattle.std.proofs.Common.{subst, inl, inr}
 use Rattle.std.specs.Prelude.{◌||◌, IsOk}
@@ -59,3 +60,7 @@ pub bind_err : {A B F : Type 0} (x : Result A F) (f : A → Result B F) (fault :
     → (x >>= f) ≡ Err fault → (x ≡ Err fault) ⊎ ((a : A) × (x ≡ Ok a) × (f a ≡ Err fault))
 bind_err (Ok a) f fault e = inr (a, refl, e)
 bind_err (Err other) f fault e = inl (let same : other ≡ fault = cc in ap (λ g. Err g) same)
+
+-- the fault of an answer is one
+pub err_is : {A F : Type 0} (x y : F) → ◌≡◌ {A = Result A F} (Err x) (Err y) → x ≡ y
+err_is x y e = cc

@@ -1,0 +1,40 @@
+-- How many entries change what is kept (`count_changes`), of two lists one behind the other and of
+-- what is kept already: for the counts that `Archive::add_message` answers, and for crates above,
+-- which add message by message, as `Depot::step` of bufr_depot.
+use Rattle.std.proofs.Common.{◌≡◌, ℕ, ◌+◌, cond, List, [], ◌∷◌, ◌++◌, refl, sym, ap, ◌∙◌, arith, append_assoc}
+use Rattle.std.proofs.lemmas.List.{append-nil}
+use Rattle.bufr_shelves.specs.declared.entry.Entry.{Entry}
+use Rattle.bufr_shelves.specs.Entries.{kept, changes}
+use Rattle.bufr_shelves.specs.Orders.{kept-early, kept-kept}
+use Rattle.bufr_shelves.specs.ChangeLaws.{changes-kept}
+use Rattle.bufr_archive.specs.Archives.{count_changes}
+
+-- entries change what is kept of others as they change these
+count_same : (old others es : List Entry) → kept old ≡ kept others
+    → count_changes old es ≡ count_changes others es
+count_same old others [] h = refl
+count_same old others (e ∷ es) h =
+    let tells : changes old e ≡ changes others e =
+    sym (changes-kept old e) ∙ ap (λ ks. changes ks e) h ∙ changes-kept others e in
+    let more : kept (old ++ e ∷ []) ≡ kept (others ++ e ∷ []) =
+    sym (kept-early old (e ∷ [])) ∙ ap (λ (ks : List Entry). kept (ks ++ e ∷ [])) h
+    ∙ kept-early others (e ∷ []) in
+    ap (λ b. cond b 1 0 + count_changes (old ++ e ∷ []) es) tells
+    ∙ ap (λ n. cond (changes others e) 1 0 + n)
+    (count_same (old ++ e ∷ []) (others ++ e ∷ []) es more)
+
+-- so they do of what is kept
+pub count_kept : (old es : List Entry) → count_changes (kept old) es ≡ count_changes old es
+count_kept old es = count_same (kept old) old es (kept-kept old)
+
+-- the changes of two lists of entries are those of the first and then of the second
+pub count_more : (old es fs : List Entry)
+    → count_changes old (es ++ fs) ≡ count_changes old es + count_changes (old ++ es) fs
+count_more old [] fs =
+    ap (λ (os : List Entry). count_changes os fs) (sym (append-nil old))
+    ∙ (let z : count_changes (old ++ []) fs ≡ 0 + count_changes (old ++ []) fs = omega arith in z)
+count_more old (e ∷ es) fs =
+    let rest = count_more (old ++ e ∷ []) es fs
+    ∙ ap (λ (os : List Entry). count_changes (old ++ e ∷ []) es + count_changes os fs)
+    (append_assoc old (e ∷ []) es) in
+    omega (arith, rest)

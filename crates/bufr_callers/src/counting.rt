@@ -1,0 +1,15 @@
+//! A message decoded, and its reports counted.
+ghost use Rattle.std.specs.Prelude.{IfOk};
+ghost use Rattle.bufr_callers.specs.Callers.{HasSoManyReports};
+
+use bufr_message::{Refused, decode};
+use bufr_tables::{Failure, Tables};
+use std::alloc::Global;
+
+/// How many reports a message of these octets has, or why it can't be read.
+pub fn count(alloc: Global, tables: &Tables, octets: &[u8]) -> Result<usize, Failure<Refused>>
+    ensures { IfOk result (λ n. HasSoManyReports tables.now octets.now n) }
+{
+    let decoded = decode(alloc, tables, octets)?;
+    Ok(decoded.message.subsets.len())
+}
