@@ -1,5 +1,5 @@
--- A reader that is read again and again: what `gather` and `print_stream` keep in their loops. The
--- contracts of `read_all` and of the engines need it.
+-- A reader that is read again and again: what `gather`, `add_stream` and `print_pieces` keep in
+-- their loops. The contracts of `read_all` and of the engines need it.
 use Rattle.std.proofs.Common.{◌≡◌, ℕ, ◌+◌, ◌<◌, false, nat_eq, Option, Some, None, List, [], ◌∷◌}
 use Rattle.std.proofs.Common.{◌++◌, length, take, drop, subst, refl, sym, ◌∙◌, ap, arith, IfSome}
 use Rattle.std.proofs.Common.{append_assoc}

@@ -29,7 +29,7 @@ passed_ok false x fault y e = absurd cc
 pub ok_is : {A F : Type 0} (x y : A) → ◌≡◌ {A = Result A F} (Ok x) (Ok y) → x ≡ y
 ok_is x y e = cc
 
--- both tests of a doubt failed
+-- where neither of two tests holds, the first does not
 pub or_first : (a b : Bool) → (a || b) ≡ false → a ≡ false
 or_first true b e = absurd cc
 or_first false b e = refl

@@ -1,5 +1,5 @@
--- What is printed frame by frame: the steps of the loops of `print_frames`, `print_piece` and `print_stream`,
--- and so of the contracts of `run_show` and `run_check`.
+-- What is printed frame by frame: the steps of the loops of `print_frames`, `print_piece` and
+-- `print_pieces`, and so of the contracts of `run_show` and `run_check`.
 use Rattle.std.proofs.Common.{◌≡◌, ℕ, ◌+◌, ◌<◌, ◌≤◌, false, List, [], ◌∷◌, ◌++◌, length, take, drop, Result, Ok, Err, get_or, refl, sym, ap, ◌∙◌, subst, arith, length-append, append_assoc, take-append-drop, IsErrAnd, IfSome, Option, Some}
 use Rattle.std.specs.List.{sum_by, slice_index_or}
 use Rattle.std.proofs.lemmas.List.{append-nil, drop_more, take_more}

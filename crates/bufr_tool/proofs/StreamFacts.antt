@@ -1,5 +1,6 @@
--- What is printed of a stream as its pieces come: the steps of `print_piece`, `print_end` and
--- `print_stream`, and so of the contracts of `run_show` and `run_check`.
+-- What is printed of a stream as its pieces come: the steps of `print_piece`, `print_pieces`,
+-- `print_end`, `print_rest` and `print_tally`, and so of the contracts of `run_show` and
+-- `run_check`.
 use Rattle.std.proofs.Common.{◌≡◌, ℕ, ◌+◌, ◌≤◌, List, [], ◌∷◌, ◌++◌, length, drop, Ok, Err, refl, sym, ap, ◌∙◌, subst, arith, length-append}
 use Rattle.std.proofs.lemmas.List.Sums.{sum_by-append, sum_by_push}
 use Rattle.std.proofs.lemmas.List.{append-nil}

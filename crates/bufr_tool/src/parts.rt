@@ -49,7 +49,8 @@ fn write_held<W: Sink>(
 }
 
 /// Writes the listing of a message, of which one subset at a time is built, behind so many octets,
-/// and answers how many are written then. No more is held than a part and the lines of a subset.
+/// and answers how many are written then. No more is held than the lines before the first subset,
+/// or a part, and with either the lines of one subset and of the end.
 pub fn print_listing<W: Sink>(
     alloc: Global,
     found: &View<'_>,
