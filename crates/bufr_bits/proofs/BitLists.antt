@@ -1,12 +1,18 @@
 -- Bits of octets, taken apart and put together: a field by the octets in which it stands, a
 -- number's octets, one octet from two neighbours. For `BitReader::take`, `take_bytes` and
 -- `BitSink::put`.
-use Rattle.std.proofs.Common.{◌≡◌, ℕ, zero, suc, ◌+◌, ◌-◌, ◌*◌, ◌/◌, ◌%◌, ◌^◌, ◌<◌, ◌≤◌, Bool, true, false, List, [], ◌∷◌, ◌++◌, length, take, drop, replicate, get_or, refl, inl, inr, lit<, sym, ap, subst, ◌∙◌, arith, length-append, length-drop, append_assoc}
+use Rattle.std.proofs.Common.{◌≡◌, ℕ, zero, suc, ◌+◌, ◌-◌, ◌*◌, ◌/◌, ◌%◌, ◌^◌, ◌<◌, ◌≤◌, Bool, true}
+use Rattle.std.proofs.Common.{false, List, [], ◌∷◌, ◌++◌, length, take, drop, replicate, get_or}
+use Rattle.std.proofs.Common.{refl, inl, inr, lit<, sym, ap, subst, ◌∙◌, arith, length-append}
+use Rattle.std.proofs.Common.{length-drop, append_assoc}
 use Rattle.std.specs.Prelude.{bit_and}
 use Rattle.std.specs.Int.{byte_at, bytes_high_first}
 use Rattle.std.proofs.Math.Nat.{pow-suc, pow-le-pow_right}
-use Rattle.std.proofs.lemmas.Nat.{pow_pos, pow-add, one_shl, and_mask, shl-shr, shr-shr, shr_high, mod_low, mod_below}
-use Rattle.std.proofs.lemmas.List.{append-nil, take_at, drop_at, take-append-drop, length-take-le, length-replicate, drop-drop, take-take, drop-take, get_or-take, get_or-drop, get_or_past, drop_more}
+use Rattle.std.proofs.lemmas.Nat.{pow_pos, pow-add, one_shl, and_mask, shl-shr, shr-shr, shr_high}
+use Rattle.std.proofs.lemmas.Nat.{mod_low, mod_below}
+use Rattle.std.proofs.lemmas.List.{append-nil, take_at, drop_at, take-append-drop, length-take-le}
+use Rattle.std.proofs.lemmas.List.{length-replicate, drop-drop, take-take, drop-take, get_or-take}
+use Rattle.std.proofs.lemmas.List.{get_or-drop, get_or_past, drop_more}
 use Rattle.std.proofs.lemmas.Bool.{cases_lt}
 use Rattle.bufr_bits.specs.Bits.{bin, bits, number, numbers}
 use Rattle.bufr_bits.specs.BitLaws.{length-bin, number_below, number-bin, number_same, small_mod}
@@ -16,7 +22,8 @@ use Rattle.bufr_bits.specs.OctetLaws.{length-bits, bits-append, numbers-bits}
 pub take-bits : (k n : ℕ) (xs : List ℕ) → n ≡ 8 * k → k ≤ length xs
     → take n (bits xs) ≡ bits (take k xs)
 take-bits k n xs e le =
-    let len : length (bits (take k xs)) ≡ n = omega (arith, length-bits (take k xs), length-take-le k xs le) in
+    let len : length (bits (take k xs)) ≡ n =
+    omega (arith, length-bits (take k xs), length-take-le k xs le) in
     subst (λ (ys : List ℕ). take n (bits ys) ≡ bits (take k xs)) (take-append-drop k xs)
     (rw (bits-append (take k xs) (drop k xs)) (take_at (bits (take k xs)) (bits (drop k xs)) n len))
 
@@ -24,7 +31,8 @@ take-bits k n xs e le =
 pub drop-bits : (k n : ℕ) (xs : List ℕ) → n ≡ 8 * k → k ≤ length xs
     → drop n (bits xs) ≡ bits (drop k xs)
 drop-bits k n xs e le =
-    let len : length (bits (take k xs)) ≡ n = omega (arith, length-bits (take k xs), length-take-le k xs le) in
+    let len : length (bits (take k xs)) ≡ n =
+    omega (arith, length-bits (take k xs), length-take-le k xs le) in
     subst (λ (ys : List ℕ). drop n (bits ys) ≡ bits (drop k xs)) (take-append-drop k xs)
     (rw (bits-append (take k xs) (drop k xs)) (drop_at (bits (take k xs)) (bits (drop k xs)) n len))
 
@@ -33,7 +41,12 @@ pub number-append : (xs ys : List Bool) → number (xs ++ ys) ≡ number xs * 2 
 unfolding number
 number-append [] ys = omega arith
 number-append (true ∷ xs) ys =
-    omega (arith, number-append xs ys, ap (λ k. 2 ^ k) (length-append xs ys), pow-add 2 (length xs) (length ys))
+    omega (
+      arith,
+      number-append xs ys,
+      ap (λ k. 2 ^ k) (length-append xs ys),
+      pow-add 2 (length xs) (length ys),
+    )
 number-append (false ∷ xs) ys = omega (arith, number-append xs ys)
 
 -- the number of the bits in the middle
@@ -43,10 +56,12 @@ number_middle x y z after width lz ly =
     let small : number z < 2 ^ after = subst (λ k. number z < 2 ^ k) lz (number_below z) in
     let small_y : number y < 2 ^ width = subst (λ k. number y < 2 ^ k) ly (number_below y) in
     let e : number (x ++ (y ++ z)) ≡ number (x ++ y) * 2 ^ after + number z =
-    ap number (sym (append_assoc x y z)) ∙ number-append (x ++ y) z ∙ ap (λ k. number (x ++ y) * 2 ^ k + number z) lz in
+    ap number (sym (append_assoc x y z)) ∙ number-append (x ++ y) z
+    ∙ ap (λ k. number (x ++ y) * 2 ^ k + number z) lz in
     let f : number (x ++ y) ≡ number x * 2 ^ width + number y =
     number-append x y ∙ ap (λ k. number x * 2 ^ k + number y) ly in
-    rw (e, shr_high (number (x ++ y)) after (number z) small, f) (mod_low (number x) width (number y) small_y)
+    rw (e, shr_high (number (x ++ y)) after (number z) small, f)
+    (mod_low (number x) width (number y) small_y)
 
 -- a number's bits, cut in two
 pub bin-split : (t v w n : ℕ) → t ≡ v + w → bin t n ≡ bin v (n / 2 ^ w) ++ bin w n
@@ -94,7 +109,8 @@ bin-shifted t w z n e =
 two_to_8 : (k : ℕ) → 256 ^ k ≡ 2 ^ (8 * k)
 two_to_8 zero = refl
 two_to_8 (suc k) =
-    let split : 2 ^ (8 * suc k) ≡ 2 ^ 8 * 2 ^ (8 * k) = ap (λ j. 2 ^ j) (omega arith) ∙ pow-add 2 8 (8 * k) in
+    let split : 2 ^ (8 * suc k) ≡ 2 ^ 8 * 2 ^ (8 * k) =
+    ap (λ j. 2 ^ j) (omega arith) ∙ pow-add 2 8 (8 * k) in
     rw (split, pow-suc 256 k, two_to_8 k) (omega arith)
 
 -- an octet of a number by its bits
@@ -118,7 +134,8 @@ bits-bytes (suc k) t n e =
 pub take-more : {X : Type 0} → (a b : ℕ) (xs : List X)
     → take (a + b) xs ≡ take a xs ++ take b (drop a xs)
 take-more a b xs =
-    sym (take-append-drop a (take (a + b) xs)) ∙ ap (λ ys. ys ++ drop a (take (a + b) xs)) (take-take a (a + b) xs (omega arith))
+    sym (take-append-drop a (take (a + b) xs))
+    ∙ ap (λ ys. ys ++ drop a (take (a + b) xs)) (take-take a (a + b) xs (omega arith))
     ∙ ap (λ ys. take a xs ++ ys) (drop-take a b xs)
 
 -- a field's number, from the number of the octets in which it stands
@@ -132,19 +149,27 @@ field_is octets first end place width spare begins ends within =
     let inner : first ≤ length octets = omega arith in
     let room : end - first ≤ length (drop first octets) = omega (arith, length-drop first octets) in
     let total : a + (width + spare) ≡ 8 * (end - first) = omega arith in
-    let long : length all ≡ 8 * (length octets - first) = length-bits (drop first octets) ∙ ap (λ k. 8 * k) (length-drop first octets) in
-    let start : drop (8 * first) (bits octets) ≡ all = drop-bits first (8 * first) octets refl inner in
+    let long : length all ≡ 8 * (length octets - first) =
+    length-bits (drop first octets) ∙ ap (λ k. 8 * k) (length-drop first octets) in
+    let start : drop (8 * first) (bits octets) ≡ all =
+    drop-bits first (8 * first) octets refl inner in
     let e1 : bits (take (end - first) (drop first octets)) ≡ take (a + (width + spare)) all =
     sym (take-bits (end - first) (a + (width + spare)) (drop first octets) total room) in
-    let e2 : take (a + (width + spare)) all ≡ take a all ++ (take width (drop a all) ++ take spare (drop width (drop a all))) =
-    take-more a (width + spare) all ∙ ap (λ ys. take a all ++ ys) (take-more width spare (drop a all)) in
+    let e2 : take (a + (width + spare)) all ≡ take a all
+    ++ (take width (drop a all) ++ take spare (drop width (drop a all))) =
+    take-more a (width + spare) all
+    ∙ ap (λ ys. take a all ++ ys) (take-more width spare (drop a all)) in
     let e3 : drop a all ≡ drop place (bits octets) =
-    ap (λ ys. drop a ys) (sym start) ∙ drop-drop a (8 * first) (bits octets) ∙ ap (λ k. drop k (bits octets)) (omega arith) in
+    ap (λ ys. drop a ys) (sym start) ∙ drop-drop a (8 * first) (bits octets)
+    ∙ ap (λ k. drop k (bits octets)) (omega arith) in
     let l1 : length (take width (drop a all)) ≡ width =
     length-take-le width (drop a all) (omega (arith, length-drop a all)) in
     let l2 : length (take spare (drop width (drop a all))) ≡ spare =
-    length-take-le spare (drop width (drop a all)) (omega (arith, length-drop width (drop a all), length-drop a all)) in
-    rw (e1, e2) (number_middle (take a all) (take width (drop a all)) (take spare (drop width (drop a all))) spare width l2 l1
+    length-take-le spare (drop width (drop a all))
+    (omega (arith, length-drop width (drop a all), length-drop a all)) in
+    rw (e1, e2)
+    (number_middle (take a all) (take width (drop a all))
+    (take spare (drop width (drop a all))) spare width l2 l1
     ∙ ap (λ ys. number (take width ys)) e3)
 
 -- one octet more
@@ -171,7 +196,8 @@ pub field_masked : (octets : List ℕ) (n first end place width spare : ℕ)
     → bit_and (n / 2 ^ spare) (1 * 2 ^ width % 2 ^ 128 - 1)
     ≡ number (take width (drop place (bits octets)))
 field_masked octets n first end place width spare spelt begins ends within narrow =
-    rw (one_shl width 128 narrow, and_mask (n / 2 ^ spare) width, spelt) (field_is octets first end place width spare begins ends within)
+    rw (one_shl width 128 narrow, and_mask (n / 2 ^ spare) width, spelt)
+    (field_is octets first end place width spare begins ends within)
 
 -- one number more of a row of numbers
 pub numbers-more : (k width t : ℕ) (text : List Bool) → t ≡ k * width
@@ -180,9 +206,12 @@ unfolding numbers
 numbers-more zero width t text e = let none : t ≡ 0 = omega arith in rw none refl
 numbers-more (suc k) width t text e =
     let before : t ≡ width + k * width = omega arith in
-    let at : drop (k * width) (drop width text) ≡ drop t text = drop-drop (k * width) width text ∙ ap (λ j. drop j text) (sym before) in
+    let at : drop (k * width) (drop width text) ≡ drop t text =
+    drop-drop (k * width) width text ∙ ap (λ j. drop j text) (sym before) in
     let one : suc k + 1 ≡ suc (k + 1) = omega arith in
-    rw (one, ← at) (ap (λ ys. number (take width text) ∷ ys) (numbers-more k width (k * width) (drop width text) refl))
+    rw (one, ← at)
+    (ap (λ ys. number (take width text) ∷ ys)
+    (numbers-more k width (k * width) (drop width text) refl))
 
 -- octets read on an octet's edge
 pub numbers_aligned : (octets : List ℕ) (first n place : ℕ) → place ≡ 8 * first
@@ -191,11 +220,16 @@ pub numbers_aligned : (octets : List ℕ) (first n place : ℕ) → place ≡ 8 
 numbers_aligned octets first n place e within small =
     let xs = take n (drop first octets) in
     let rest = bits (drop n (drop first octets)) in
-    let len : length xs ≡ n = length-take-le n (drop first octets) (omega (arith, length-drop first octets)) in
+    let len : length xs ≡ n =
+    length-take-le n (drop first octets) (omega (arith, length-drop first octets)) in
     let text : drop place (bits octets) ≡ bits xs ++ rest =
-    drop-bits first place octets e (omega arith) ∙ ap bits (sym (take-append-drop n (drop first octets))) ∙ bits-append xs (drop n (drop first octets)) in
+    drop-bits first place octets e (omega arith)
+    ∙ ap bits (sym (take-append-drop n (drop first octets)))
+    ∙ bits-append xs (drop n (drop first octets)) in
     let below : (i : ℕ) → get_or xs i 0 < 256 = λ i. elim (cases_lt i n) [
-      | inl lt ↦ rw (get_or-take n (drop first octets) i 0 lt, get_or-drop first octets i 0) (small (first + i))
+      | inl lt ↦
+          rw (get_or-take n (drop first octets) i 0 lt, get_or-drop first octets i 0)
+          (small (first + i))
       | inr le ↦ rw (get_or_past xs i 0 (omega (arith, len))) (lit< tt)
     ] in
     rw text (subst (λ k. numbers k 8 (bits xs ++ rest) ≡ xs) len (numbers-bits xs rest below))
@@ -218,7 +252,8 @@ pub number_of_two : (octets : List ℕ) (k shift spare a b : ℕ) → shift + sp
     → (a * 256 + b) / 2 ^ spare % 256 ≡ number (take 8 (drop (8 * k) (drop shift (bits octets))))
 number_of_two octets k shift spare a b e within a_is b_is a_small b_small =
     let two : take 2 (drop k octets) ≡ a ∷ b ∷ [] =
-    two_octets octets k within ∙ ap (λ x. x ∷ get_or octets (k + 1) 0 ∷ []) (sym a_is) ∙ ap (λ y. a ∷ y ∷ []) (sym b_is) in
+    two_octets octets k within ∙ ap (λ x. x ∷ get_or octets (k + 1) 0 ∷ []) (sym a_is)
+    ∙ ap (λ y. a ∷ y ∷ []) (sym b_is) in
     let one : number (bits (a ∷ [])) ≡ a = omega (arith, number_push [] a a_small, number_nil) in
     let both : k + 2 - k ≡ 2 = omega arith in
     let later : shift + 8 * k ≡ 8 * k + shift = omega arith in
@@ -227,4 +262,6 @@ number_of_two octets k shift spare a b e within a_is b_is a_small b_small =
     ∙ number_push (a ∷ []) b b_small ∙ ap (λ m. m * 256 + b) one in
     let there : drop (8 * k) (drop shift (bits octets)) ≡ drop (8 * k + shift) (bits octets) =
     drop-drop (8 * k) shift (bits octets) ∙ ap (λ j. drop j (bits octets)) later in
-    rw (← spelt, there) (field_is octets k (k + 2) (8 * k + shift) 8 spare (omega arith) (omega arith) (omega arith))
+    rw (← spelt, there)
+    (field_is octets k (k + 2) (8 * k + shift) 8 spare (omega arith) (omega arith)
+    (omega arith))

@@ -1,6 +1,7 @@
 -- What `add_streams` and `merge_readers` keep from reader to reader, and what the engines answer:
 -- for the contracts of `run_add` and `run_merge`.
-use Rattle.std.proofs.Common.{◌≡◌, ℕ, suc, ◌+◌, ◌*◌, ◌<◌, ◌≤◌, List, [], ◌∷◌, ◌++◌, length, Result, Ok, Err, refl, sym, ap, ◌∙◌, subst, arith, length-append}
+use Rattle.std.proofs.Common.{◌≡◌, ℕ, suc, ◌+◌, ◌*◌, ◌<◌, ◌≤◌, List, [], ◌∷◌, ◌++◌, length, Result}
+use Rattle.std.proofs.Common.{Ok, Err, refl, sym, ap, ◌∙◌, subst, arith, length-append}
 use Rattle.std.proofs.lemmas.List.{append-nil}
 use Rattle.std.proofs.lemmas.Grind.{flat_map-append}
 use Rattle.std.proofs.Math.ListN.{set}
@@ -21,21 +22,27 @@ use Rattle.bufr_engines.specs.declared.fault.Tally.{Tally}
 use Rattle.bufr_engines.specs.declared.fault.Input.TheVariants.{Number}
 use Rattle.bufr_engines.specs.declared.fault.ToolFault.{ToolFault}
 use Rattle.bufr_engines.specs.declared.fault.ToolFault.TheVariants as faults
-use Rattle.bufr_engines.specs.Engines.{WasReadOut, HasFailed, IsEndless, AreAllOf, WritesAll, WritesAfter, FailsAfter}
+use Rattle.bufr_engines.specs.Engines.{WasReadOut, HasFailed, IsEndless, AreAllOf, WritesAll}
+use Rattle.bufr_engines.specs.Engines.{WritesAfter, FailsAfter}
 use Rattle.bufr_engines.specs.Limits.{most_reads}
 use Rattle.bufr_collect.specs.declared.counts.Counts.{Counts}
 use Rattle.bufr_depot.specs.Slots.{all_told}
-use Rattle.bufr_collect.specs.Collected.{frames_of, refused_of, collected_text, collected_tally, AreTextsOf, all_of, merged_text}
+use Rattle.bufr_collect.specs.Collected.{frames_of, refused_of, collected_text, collected_tally}
+use Rattle.bufr_collect.specs.Collected.{AreTextsOf, all_of, merged_text}
 use Rattle.bufr_collect.specs.Readers.{AreFresh, AreReadAtMost, WereReadOut, EndsAt}
-use Rattle.bufr_collect.specs.Collects.{AllReadOut, StreamsEndAt, Collects, AllArchives, ArchivesEndAt, IsNoArchive, Merges}
-use Rattle.bufr_collect.specs.Adds.{reports_of_frames, HasAdded, AddsStream, AddsStreams, ReadsArchive, MergesReaders}
+use Rattle.bufr_collect.specs.Collects.{AllReadOut, StreamsEndAt, Collects, AllArchives}
+use Rattle.bufr_collect.specs.Collects.{ArchivesEndAt, IsNoArchive, Merges}
+use Rattle.bufr_collect.specs.Adds.{reports_of_frames, HasAdded, AddsStream, AddsStreams}
+use Rattle.bufr_collect.specs.Adds.{ReadsArchive, MergesReaders}
 use Rattle.bufr_collect.proofs.FrameFacts.{archive_with, kept_more}
-use Rattle.bufr_collect.proofs.ReaderFacts.{Through, Reached, through_first, through_all, through_more, ends_here, at_most_fresh, at_most_set}
+use Rattle.bufr_collect.proofs.ReaderFacts.{Through, Reached, through_first, through_all}
+use Rattle.bufr_collect.proofs.ReaderFacts.{through_more, ends_here, at_most_fresh, at_most_set}
 
 -- ---- streams
 
 -- the streams of so many readers were added
-pub record AddedThrough (tables : Entries) (reads : ℕ) (old new : List Reading) (archive : ArchiveView) (counts : Counts) (i : ℕ) : Type 0 where
+pub record AddedThrough (tables : Entries) (reads : ℕ) (old new : List Reading)
+    (archive : ArchiveView) (counts : Counts) (i : ℕ) : Type 0 where
   pub streams : List (List ℕ)
   pub through : Through old new streams i
   pub added : HasAdded tables archive counts (frames_of streams)
@@ -58,7 +65,8 @@ added_first tables reads readers archive counts fresh empty = record {
 frames_more : (streams : List (List ℕ)) (stream : List ℕ)
     → frames_of (streams ++ stream ∷ []) ≡ frames_of streams ++ cut stream
 frames_more streams stream =
-    flat_map-append cut streams (stream ∷ []) ∙ ap (λ (fs : List Found). frames_of streams ++ fs) (append-nil (cut stream))
+    flat_map-append cut streams (stream ∷ [])
+    ∙ ap (λ (fs : List Found). frames_of streams ++ fs) (append-nil (cut stream))
 
 -- one more
 pub added_next : (tables : Entries) (reads : ℕ) (old new new' : List Reading)
@@ -68,7 +76,8 @@ pub added_next : (tables : Entries) (reads : ℕ) (old new new' : List Reading)
     → new' ≡ set new i r' → r'.reads ≤ reads
     → AddsStream tables (Number (i + 1)) reads r r' archive' counts' (frames_of a.streams) (Ok done)
     → AddedThrough tables reads old new' archive' counts' (i + 1)
-added_next tables reads old new new' archive archive' counts counts' i r r' done most a at is bounded adds =
+added_next tables reads old new new' archive archive' counts counts' i r r' done most a at is
+    bounded adds =
     let stream = adds.1 in
     let more = frames_more a.streams stream in
     let long = ap length more ∙ length-append (frames_of a.streams) (cut stream) in
@@ -85,13 +94,15 @@ added_next tables reads old new new' archive archive' counts counts' i r r' done
 -- the bound stays
 pub bounded_next : (reads : ℕ) (new new' : List Reading) (i : ℕ) (r' : Reading)
     → AreReadAtMost reads new → new' ≡ set new i r' → r'.reads ≤ reads → AreReadAtMost reads new'
-bounded_next reads new new' i r' all is bounded = subst (AreReadAtMost reads) (sym is) (at_most_set reads new i r' all bounded)
+bounded_next reads new new' i r' all is bounded =
+    subst (AreReadAtMost reads) (sym is) (at_most_set reads new i r' all bounded)
 
 -- after the last
 pub added_all : (tables : Entries) (reads : ℕ) (old new : List Reading) (archive : ArchiveView)
     (counts : Counts) (i : ℕ) (done : Unit {0}) → AddedThrough tables reads old new archive counts i
     → length new ≤ i → AddsStreams tables reads old new archive counts (Ok done)
-added_all tables reads old new archive counts i done a all = (a.streams, through_all old new a.streams i a.through all, a.added)
+added_all tables reads old new archive counts i done a all =
+    (a.streams, through_all old new a.streams i a.through all, a.added)
 
 -- it ended at one
 pub added_ends : (tables : Entries) (reads : ℕ) (old new new' : List Reading)
@@ -100,18 +111,28 @@ pub added_ends : (tables : Entries) (reads : ℕ) (old new new' : List Reading)
     → new' ≡ set new i r'
     → AddsStream tables (Number (i + 1)) reads r r' archive counts before (Err e)
     → AddsStreams tables reads old new' archive' counts' (Err e)
-added_ends tables reads old new new' archive archive' counts counts' streams before i r r' (faults.ReadFailed source) at is adds =
+added_ends tables reads old new new' archive archive' counts counts' streams before i r r'
+    (faults.ReadFailed source) at is adds =
     subst (λ s. StreamsEndAt HasFailed s old new') (sym adds.0)
-    (ends_here AllReadOut (λ x y. HasFailed y) old new new' streams i r r' at is (λ xs ys out. (streams, out)) adds.1)
-added_ends tables reads old new new' archive archive' counts counts' streams before i r r' (faults.EndlessInput source) at is adds =
+    (ends_here AllReadOut (λ x y. HasFailed y) old new new' streams i r r' at is
+    (λ xs ys out. (streams, out)) adds.1)
+added_ends tables reads old new new' archive archive' counts counts' streams before i r r'
+    (faults.EndlessInput source) at is adds =
     subst (λ s. StreamsEndAt (IsEndless reads) s old new') (sym adds.0)
-    (ends_here AllReadOut (λ x y. IsEndless reads y) old new new' streams i r r' at is (λ xs ys out. (streams, out)) adds.1)
-added_ends tables reads old new new' archive archive' counts counts' streams before i r r' faults.OutOfMemory at is adds = tt
-added_ends tables reads old new new' archive archive' counts counts' streams before i r r' (faults.WriteFailed written) at is adds = absurd adds
-added_ends tables reads old new new' archive archive' counts counts' streams before i r r' (faults.Table source fault) at is adds = absurd adds
-added_ends tables reads old new new' archive archive' counts counts' streams before i r r' (faults.Listing why) at is adds = absurd adds
-added_ends tables reads old new new' archive archive' counts counts' streams before i r r' (faults.Encode number why) at is adds = absurd adds
-added_ends tables reads old new new' archive archive' counts counts' streams before i r r' (faults.NotAnArchive input place) at is adds = absurd adds
+    (ends_here AllReadOut (λ x y. IsEndless reads y) old new new' streams i r r' at is
+    (λ xs ys out. (streams, out)) adds.1)
+added_ends tables reads old new new' archive archive' counts counts' streams before i r r'
+    faults.OutOfMemory at is adds = tt
+added_ends tables reads old new new' archive archive' counts counts' streams before i r r'
+    (faults.WriteFailed written) at is adds = absurd adds
+added_ends tables reads old new new' archive archive' counts counts' streams before i r r'
+    (faults.Table source fault) at is adds = absurd adds
+added_ends tables reads old new new' archive archive' counts counts' streams before i r r'
+    (faults.Listing why) at is adds = absurd adds
+added_ends tables reads old new new' archive archive' counts counts' streams before i r r'
+    (faults.Encode number why) at is adds = absurd adds
+added_ends tables reads old new new' archive archive' counts counts' streams before i r r'
+    (faults.NotAnArchive input place) at is adds = absurd adds
 
 -- the reports of the frames of streams are those that the streams tell
 pub told_frames : (tables : Entries) (streams : List (List ℕ))
@@ -126,11 +147,13 @@ pub collected_text_is : (tables : Entries) (archive : ArchiveView) (counts : Cou
     (streams : List (List ℕ)) (octets : List ℕ) → HasAdded tables archive counts (frames_of streams)
     → octets ≡ text archive.entries → octets ≡ collected_text tables streams
 collected_text_is tables archive counts streams octets h is =
-    is ∙ ap (λ (a : ArchiveView). text a.entries) h.archive_is ∙ ap (text_of tables) (told_frames tables streams)
+    is ∙ ap (λ (a : ArchiveView). text a.entries) h.archive_is
+    ∙ ap (text_of tables) (told_frames tables streams)
 
 -- and so is what is counted
 abbrev pub counted : ℕ → ℕ → ℕ → Tally
-counted frames refused reports = record { frames = frames; refused = refused; skipped = 0; reports = reports }
+counted frames refused reports =
+    record { frames = frames; refused = refused; skipped = 0; reports = reports }
 
 -- the counts of frames, of refused ones and of reports are those of the streams
 pub collected_tally_is : (tables : Entries) (archive : ArchiveView) (counts : Counts)
@@ -141,7 +164,8 @@ collected_tally_is tables archive counts streams reports h is =
     ap (λ (n : ℕ). counted n counts.refused reports) h.frames_are
     ∙ ap (λ (n : ℕ). counted (length (frames_of streams)) n reports) h.refused_are
     ∙ ap (λ (n : ℕ). counted (length (frames_of streams)) (refused_of tables (frames_of streams)) n)
-    (is ∙ ap (λ (a : ArchiveView). length a.entries) h.archive_is ∙ ap (λ (rs : List Report). length (kept_of tables rs)) (told_frames tables streams))
+    (is ∙ ap (λ (a : ArchiveView). length a.entries) h.archive_is
+    ∙ ap (λ (rs : List Report). length (kept_of tables rs)) (told_frames tables streams))
 
 -- without a fault
 pub collects_ok : (tables : Entries) (reads : ℕ) (old new : List Reading) (writer writer' : Writing)
@@ -150,12 +174,14 @@ pub collects_ok : (tables : Entries) (reads : ℕ) (old new : List Reading) (wri
     → reports ≡ length archive.entries → WritesAll writer writer' octets
     → Collects tables reads old new writer writer'
     (Ok (counted counts.frames counts.refused reports))
-collects_ok tables reads old new writer writer' archive counts octets reports done adds is count writes = (
-  adds.0,
-  adds.1,
-  subst (WritesAll writer writer') (collected_text_is tables archive counts adds.0 octets adds.2 is) writes,
-  collected_tally_is tables archive counts adds.0 reports adds.2 count,
-)
+collects_ok tables reads old new writer writer' archive counts octets reports done adds is count
+    writes = (
+      adds.0,
+      adds.1,
+      subst (WritesAll writer writer')
+          (collected_text_is tables archive counts adds.0 octets adds.2 is) writes,
+      collected_tally_is tables archive counts adds.0 reports adds.2 count,
+    )
 
 -- the writer failed
 pub collects_fails : (tables : Entries) (reads : ℕ) (old new : List Reading)
@@ -163,34 +189,49 @@ pub collects_fails : (tables : Entries) (reads : ℕ) (old new : List Reading)
     (done : Unit {0}) (e : ToolFault) → AddsStreams tables reads old new archive counts (Ok done)
     → octets ≡ text archive.entries → WritesAfter 0 octets writer writer' (Err e)
     → Collects tables reads old new writer writer' (Err e)
-collects_fails tables reads old new writer writer' archive counts octets done (faults.WriteFailed written) adds is w =
+collects_fails tables reads old new writer writer' archive counts octets done
+    (faults.WriteFailed written) adds is w =
     let same : written ≡ w.0 = omega (arith, w.1) in (
       adds.0,
       adds.1,
       subst (λ (n : ℕ). FailsAfter n writer writer' (collected_text tables adds.0)) (sym same)
-          (subst (FailsAfter w.0 writer writer') (collected_text_is tables archive counts adds.0 octets adds.2 is) w.2),
+          (subst (FailsAfter w.0 writer writer')
+          (collected_text_is tables archive counts adds.0 octets adds.2 is) w.2),
     )
-collects_fails tables reads old new writer writer' archive counts octets done (faults.ReadFailed source) adds is w = absurd w
-collects_fails tables reads old new writer writer' archive counts octets done (faults.EndlessInput source) adds is w = absurd w
-collects_fails tables reads old new writer writer' archive counts octets done faults.OutOfMemory adds is w = absurd w
-collects_fails tables reads old new writer writer' archive counts octets done (faults.Table source fault) adds is w = absurd w
-collects_fails tables reads old new writer writer' archive counts octets done (faults.Listing why) adds is w = absurd w
-collects_fails tables reads old new writer writer' archive counts octets done (faults.Encode number why) adds is w = absurd w
-collects_fails tables reads old new writer writer' archive counts octets done (faults.NotAnArchive input place) adds is w = absurd w
+collects_fails tables reads old new writer writer' archive counts octets done
+    (faults.ReadFailed source) adds is w = absurd w
+collects_fails tables reads old new writer writer' archive counts octets done
+    (faults.EndlessInput source) adds is w = absurd w
+collects_fails tables reads old new writer writer' archive counts octets done faults.OutOfMemory
+    adds is w = absurd w
+collects_fails tables reads old new writer writer' archive counts octets done
+    (faults.Table source fault) adds is w = absurd w
+collects_fails tables reads old new writer writer' archive counts octets done
+    (faults.Listing why) adds is w = absurd w
+collects_fails tables reads old new writer writer' archive counts octets done
+    (faults.Encode number why) adds is w = absurd w
+collects_fails tables reads old new writer writer' archive counts octets done
+    (faults.NotAnArchive input place) adds is w = absurd w
 
 -- it ended at a reader, or memory ran out
 pub collects_ends : (tables : Entries) (reads : ℕ) (old new : List Reading) (writer : Writing)
     (archive : ArchiveView) (counts : Counts) (e : ToolFault)
     → AddsStreams tables reads old new archive counts (Err e)
     → Collects tables reads old new writer writer (Err e)
-collects_ends tables reads old new writer archive counts (faults.ReadFailed source) adds = (adds, refl)
-collects_ends tables reads old new writer archive counts (faults.EndlessInput source) adds = (adds, refl)
+collects_ends tables reads old new writer archive counts (faults.ReadFailed source) adds =
+    (adds, refl)
+collects_ends tables reads old new writer archive counts (faults.EndlessInput source) adds =
+    (adds, refl)
 collects_ends tables reads old new writer archive counts faults.OutOfMemory adds = refl
-collects_ends tables reads old new writer archive counts (faults.WriteFailed written) adds = absurd adds
-collects_ends tables reads old new writer archive counts (faults.Table source fault) adds = absurd adds
+collects_ends tables reads old new writer archive counts (faults.WriteFailed written) adds =
+    absurd adds
+collects_ends tables reads old new writer archive counts (faults.Table source fault) adds =
+    absurd adds
 collects_ends tables reads old new writer archive counts (faults.Listing why) adds = absurd adds
-collects_ends tables reads old new writer archive counts (faults.Encode number why) adds = absurd adds
-collects_ends tables reads old new writer archive counts (faults.NotAnArchive input place) adds = absurd adds
+collects_ends tables reads old new writer archive counts (faults.Encode number why) adds =
+    absurd adds
+collects_ends tables reads old new writer archive counts (faults.NotAnArchive input place) adds =
+    absurd adds
 
 -- a new archive
 pub empty_added : (archive : ArchiveView) (tables : Entries)
@@ -205,7 +246,8 @@ empty_added archive tables is = record {
 -- ---- archives
 
 -- the archives of so many readers were merged
-pub record MergedThrough (tables : Entries) (reads : ℕ) (old new : List Reading) (archive : ArchiveView) (i : ℕ) : Type 0 where
+pub record MergedThrough (tables : Entries) (reads : ℕ) (old new : List Reading)
+    (archive : ArchiveView) (i : ℕ) : Type 0 where
   pub texts : List (List ℕ)
   pub through : Through old new texts i
   pub lists : List (List Report)
@@ -231,7 +273,8 @@ texts_more : (tables : Entries) (texts : List (List ℕ)) (lists : List (List Re
     (octets : List ℕ) (rs : List Report) → AreTextsOf tables texts lists → AreUnder tables rs
     → octets ≡ text_of tables rs → AreTextsOf tables (texts ++ octets ∷ []) (lists ++ rs ∷ [])
 texts_more tables [] [] octets rs are under is = (under, is, tt)
-texts_more tables (t ∷ texts) (l ∷ lists) octets rs are under is = (are.0, are.1, texts_more tables texts lists octets rs are.2 under is)
+texts_more tables (t ∷ texts) (l ∷ lists) octets rs are under is =
+    (are.0, are.1, texts_more tables texts lists octets rs are.2 under is)
 texts_more tables [] (l ∷ lists) octets rs are under is = absurd are
 texts_more tables (t ∷ texts) [] octets rs are under is = absurd are
 
@@ -239,13 +282,15 @@ texts_more tables (t ∷ texts) [] octets rs are under is = absurd are
 all_more : (lists : List (List Report)) (rs : List Report)
     → all_of (lists ++ rs ∷ []) ≡ all_of lists ++ rs
 all_more lists rs =
-    flat_map-append (λ (xs : List Report). xs) lists (rs ∷ []) ∙ ap (λ (xs : List Report). all_of lists ++ xs) (append-nil rs)
+    flat_map-append (λ (xs : List Report). xs) lists (rs ∷ [])
+    ∙ ap (λ (xs : List Report). all_of lists ++ xs) (append-nil rs)
 
 -- what is kept of two lists
 pub kept_both : (tables : Entries) (rs more : List Report)
     → kept (kept_of tables rs ++ kept_of tables more) ≡ kept_of tables (rs ++ more)
 kept_both tables rs more =
-    kept-late (kept_of tables rs) (entries_of (report_entries tables more)) ∙ kept_more tables rs more
+    kept-late (kept_of tables rs) (entries_of (report_entries tables more))
+    ∙ kept_more tables rs more
 
 -- one more
 pub merged_next : (tables : Entries) (reads : ℕ) (old new new' : List Reading)
@@ -275,13 +320,15 @@ pub merged_tables : (tables : Entries) (reads : ℕ) (old new : List Reading)
     → MergedThrough tables reads old new archive i → ReadsArchive tables number reads r r' (Ok more)
     → archive.tables ≡ more.tables
 merged_tables tables reads old new archive more number i r r' m read =
-    ap (λ (a : ArchiveView). a.tables) m.merged_is ∙ sym (ap (λ (a : ArchiveView). a.tables) read.3.3)
+    ap (λ (a : ArchiveView). a.tables) m.merged_is
+    ∙ sym (ap (λ (a : ArchiveView). a.tables) read.3.3)
 
 -- after the last
 pub merged_all : (tables : Entries) (reads : ℕ) (old new : List Reading) (archive : ArchiveView)
     (i : ℕ) → MergedThrough tables reads old new archive i → length new ≤ i
     → MergesReaders tables reads old new (Ok archive)
-merged_all tables reads old new archive i m all = (m.texts, through_all old new m.texts i m.through all, m.lists, m.are, m.merged_is)
+merged_all tables reads old new archive i m all =
+    (m.texts, through_all old new m.texts i m.through all, m.lists, m.are, m.merged_is)
 
 -- it ended at one
 pub merged_ends : (tables : Entries) (reads : ℕ) (old new new' : List Reading)
@@ -291,24 +338,33 @@ pub merged_ends : (tables : Entries) (reads : ℕ) (old new new' : List Reading)
     → MergesReaders tables reads old new' (Err e)
 merged_ends tables reads old new new' archive i r r' (faults.ReadFailed source) m at is read =
     subst (λ s. ArchivesEndAt tables HasFailed s old new') (sym read.0)
-    (ends_here (AllArchives tables) (λ x y. HasFailed y) old new new' m.texts i r r' at is (λ xs ys out. (m.texts, out, m.lists, m.are)) read.1)
+    (ends_here (AllArchives tables) (λ x y. HasFailed y) old new new' m.texts i r r' at is
+    (λ xs ys out. (m.texts, out, m.lists, m.are)) read.1)
 merged_ends tables reads old new new' archive i r r' (faults.EndlessInput source) m at is read =
     subst (λ s. ArchivesEndAt tables (IsEndless reads) s old new') (sym read.0)
-    (ends_here (AllArchives tables) (λ x y. IsEndless reads y) old new new' m.texts i r r' at is (λ xs ys out. (m.texts, out, m.lists, m.are)) read.1)
-merged_ends tables reads old new new' archive i r r' (faults.NotAnArchive input place) m at is read =
-    subst (λ (n : ℕ). EndsAt (AllArchives tables) (IsNoArchive tables place) n old new') (sym read.0)
-    (ends_here (AllArchives tables) (IsNoArchive tables place) old new new' m.texts i r r' at is (λ xs ys out. (m.texts, out, m.lists, m.are)) read.1)
+    (ends_here (AllArchives tables) (λ x y. IsEndless reads y) old new new' m.texts i r r' at is
+    (λ xs ys out. (m.texts, out, m.lists, m.are)) read.1)
+merged_ends tables reads old new new' archive i r r'
+    (faults.NotAnArchive input place) m at is read =
+    subst (λ (n : ℕ). EndsAt (AllArchives tables) (IsNoArchive tables place) n old new')
+    (sym read.0)
+    (ends_here (AllArchives tables) (IsNoArchive tables place) old new new' m.texts i r r' at is
+    (λ xs ys out. (m.texts, out, m.lists, m.are)) read.1)
 merged_ends tables reads old new new' archive i r r' faults.OutOfMemory m at is read = tt
-merged_ends tables reads old new new' archive i r r' (faults.WriteFailed written) m at is read = absurd read
-merged_ends tables reads old new new' archive i r r' (faults.Table source fault) m at is read = absurd read
+merged_ends tables reads old new new' archive i r r' (faults.WriteFailed written) m at is read =
+    absurd read
+merged_ends tables reads old new new' archive i r r' (faults.Table source fault) m at is read =
+    absurd read
 merged_ends tables reads old new new' archive i r r' (faults.Listing why) m at is read = absurd read
-merged_ends tables reads old new new' archive i r r' (faults.Encode number why) m at is read = absurd read
+merged_ends tables reads old new new' archive i r r' (faults.Encode number why) m at is read =
+    absurd read
 
 -- as many lists as readers
 as_many_lists : (tables : Entries) (texts : List (List ℕ)) (lists : List (List Report))
     → AreTextsOf tables texts lists → length lists ≡ length texts
 as_many_lists tables [] [] are = refl
-as_many_lists tables (t ∷ texts) (l ∷ lists) are = ap (λ (n : ℕ). suc n) (as_many_lists tables texts lists are.2)
+as_many_lists tables (t ∷ texts) (l ∷ lists) are =
+    ap (λ (n : ℕ). suc n) (as_many_lists tables texts lists are.2)
 as_many_lists tables [] (l ∷ lists) are = absurd are
 as_many_lists tables (t ∷ texts) [] are = absurd are
 
@@ -316,7 +372,8 @@ as_many_lists tables (t ∷ texts) [] are = absurd are
 as_many_readers : (old new : List Reading) (texts : List (List ℕ)) → WereReadOut old new texts
     → length new ≡ length texts
 as_many_readers [] [] [] out = refl
-as_many_readers (o ∷ old) (n ∷ new) (x ∷ texts) out = ap (λ (k : ℕ). suc k) (as_many_readers old new texts out.2)
+as_many_readers (o ∷ old) (n ∷ new) (x ∷ texts) out =
+    ap (λ (k : ℕ). suc k) (as_many_readers old new texts out.2)
 as_many_readers [] [] (x ∷ texts) out = absurd out
 as_many_readers [] (n ∷ new) texts out = absurd out
 as_many_readers (o ∷ old) [] texts out = absurd out
@@ -336,8 +393,10 @@ merges_ok tables reads old new writer writer' archive octets frames reports m is
       lists,
       m.3,
       subst (WritesAll writer writer') (is ∙ ap (λ (a : ArchiveView). text a.entries) held) writes,
-      ap (λ (n : ℕ). counted n 0 reports) (many ∙ as_many_readers old new m.0 m.1 ∙ sym (as_many_lists tables m.0 lists m.3))
-          ∙ ap (λ (n : ℕ). counted (length lists) 0 n) (count ∙ ap (λ (a : ArchiveView). length a.entries) held),
+      ap (λ (n : ℕ). counted n 0 reports)
+          (many ∙ as_many_readers old new m.0 m.1 ∙ sym (as_many_lists tables m.0 lists m.3))
+          ∙ ap (λ (n : ℕ). counted (length lists) 0 n)
+          (count ∙ ap (λ (a : ArchiveView). length a.entries) held),
     )
 
 -- the writer failed
@@ -346,22 +405,30 @@ pub merges_fails : (tables : Entries) (reads : ℕ) (old new : List Reading)
     → MergesReaders tables reads old new (Ok archive) → octets ≡ text archive.entries
     → WritesAfter 0 octets writer writer' (Err e)
     → Merges tables reads old new writer writer' (Err e)
-merges_fails tables reads old new writer writer' archive octets (faults.WriteFailed written) m is w =
+merges_fails tables reads old new writer writer' archive octets
+    (faults.WriteFailed written) m is w =
     let same : written ≡ w.0 = omega (arith, w.1) in (
       m.0,
       m.1,
       m.2,
       m.3,
       subst (λ (n : ℕ). FailsAfter n writer writer' (merged_text tables m.2)) (sym same)
-          (subst (FailsAfter w.0 writer writer') (is ∙ ap (λ (a : ArchiveView). text a.entries) m.4) w.2),
+          (subst (FailsAfter w.0 writer writer')
+          (is ∙ ap (λ (a : ArchiveView). text a.entries) m.4) w.2),
     )
-merges_fails tables reads old new writer writer' archive octets (faults.ReadFailed source) m is w = absurd w
-merges_fails tables reads old new writer writer' archive octets (faults.EndlessInput source) m is w = absurd w
+merges_fails tables reads old new writer writer' archive octets (faults.ReadFailed source) m is w =
+    absurd w
+merges_fails tables reads old new writer writer' archive octets
+    (faults.EndlessInput source) m is w = absurd w
 merges_fails tables reads old new writer writer' archive octets faults.OutOfMemory m is w = absurd w
-merges_fails tables reads old new writer writer' archive octets (faults.Table source fault) m is w = absurd w
-merges_fails tables reads old new writer writer' archive octets (faults.Listing why) m is w = absurd w
-merges_fails tables reads old new writer writer' archive octets (faults.Encode number why) m is w = absurd w
-merges_fails tables reads old new writer writer' archive octets (faults.NotAnArchive input place) m is w = absurd w
+merges_fails tables reads old new writer writer' archive octets (faults.Table source fault) m is w =
+    absurd w
+merges_fails tables reads old new writer writer' archive octets (faults.Listing why) m is w =
+    absurd w
+merges_fails tables reads old new writer writer' archive octets (faults.Encode number why) m is w =
+    absurd w
+merges_fails tables reads old new writer writer' archive octets
+    (faults.NotAnArchive input place) m is w = absurd w
 
 -- it ended at a reader, or memory ran out
 pub merges_ends : (tables : Entries) (reads : ℕ) (old new : List Reading) (writer : Writing)

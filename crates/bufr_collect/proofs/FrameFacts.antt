@@ -1,7 +1,10 @@
 -- The messages of frames added to an archive one after the other: the steps of `add_frame` and
 -- `add_frames`, for the contract of `run_add`; and what is kept of reports and of more, for that of
 -- `run_merge` too.
-use Rattle.std.proofs.Common.{◌≡◌, ℕ, ◌+◌, ◌<◌, ◌≤◌, List, [], ◌∷◌, ◌++◌, length, take, drop, Option, Some, Result, Ok, Err, IsErrAnd, IfSome, OnOk, map, get_or, refl, sym, ap, ◌∙◌, subst, arith, length-append, append_assoc, take-append-drop}
+use Rattle.std.proofs.Common.{◌≡◌, ℕ, ◌+◌, ◌<◌, ◌≤◌, List, [], ◌∷◌, ◌++◌, length, take, drop}
+use Rattle.std.proofs.Common.{Option, Some, Result, Ok, Err, IsErrAnd, IfSome, OnOk, map, get_or}
+use Rattle.std.proofs.Common.{refl, sym, ap, ◌∙◌, subst, arith, length-append, append_assoc}
+use Rattle.std.proofs.Common.{take-append-drop}
 use Rattle.std.specs.Prelude.{option_to_list}
 use Rattle.std.specs.List.{slice_index_or}
 use Rattle.std.proofs.lemmas.List.{append-nil, map-append, take_more}
@@ -30,7 +33,9 @@ pub kept_more : (tables : Entries) (rs more : List Report)
     ≡ kept_of tables (rs ++ more)
 kept_more tables rs more =
     kept-early (entries_of (report_entries tables rs)) (entries_of (report_entries tables more))
-    ∙ ap kept (sym (flat_map-append option_to_list (report_entries tables rs) (report_entries tables more))
+    ∙ ap kept
+    (sym
+    (flat_map-append option_to_list (report_entries tables rs) (report_entries tables more))
     ∙ ap entries_of (sym (map-append (entry_of tables) rs more)))
 
 -- the reports of frames and of one more
@@ -54,7 +59,9 @@ archive_more : (tables : Entries) (frames : List Found) (frame : Found) (rs : Li
 archive_more tables frames frame rs new is new_is =
     new_is
     ∙ ap (archive_with tables) (kept_more tables (reports_of_frames tables frames) rs)
-    ∙ ap (archive_of tables) (ap (λ (more : List Report). reports_of_frames tables frames ++ more) (sym is) ∙ sym (told_one tables frames frame))
+    ∙ ap (archive_of tables)
+    (ap (λ (more : List Report). reports_of_frames tables frames ++ more) (sym is)
+    ∙ sym (told_one tables frames frame))
 
 -- one more frame is counted
 refused_more : (tables : Entries) (frames : List Found) (frame : Found)
@@ -65,12 +72,17 @@ refused_more tables frames frame = sum_by_push (frame_refused tables) frames fra
 -- no more frames are refused than there are
 refused_one : (tables : Entries) (frame : Found) → frame_refused tables frame ≤ 1
 refused_one tables frame =
-    elim (message_of tables frame.bytes) as (λ (r : Result Decoded Refused). refused_as r ≤ 1) [ Ok d ↦ omega arith | Err why ↦ omega arith ]
+    elim (message_of tables frame.bytes) as (λ (r : Result Decoded Refused). refused_as r ≤ 1)
+    [ Ok d ↦ omega arith | Err why ↦ omega arith ]
 
 -- no more of some frames spell no message than there are
 refused_few : (tables : Entries) (frames : List Found) → refused_of tables frames ≤ length frames
 refused_few tables frames =
-    omega (arith, sum_by-le (frame_refused tables) 1 frames (λ k d lt. refused_one tables (slice_index_or frames k d)))
+    omega (
+      arith,
+      sum_by-le (frame_refused tables) 1 frames
+          (λ k d lt. refused_one tables (slice_index_or frames k d)),
+    )
 
 -- of the frames added no more are counted as refused than there are
 pub refused_at_most : (tables : Entries) (archive : ArchiveView) (counts : Counts)
@@ -90,16 +102,23 @@ pub added_ok : (tables : Entries) (old new : ArchiveView) (counts counts' : Coun
     → HasAdded tables new counts' (frames ++ frame ∷ [])
 added_ok tables old new counts counts' frames frame octets d h is spells new_is one same =
     let was = h.archive_is in
-    let here : message_of tables frame.bytes ≡ Ok d = subst (λ (o : List ℕ). message_of tables o ≡ Ok d) is (subst (λ (a : ArchiveView). message_of a.tables octets ≡ Ok d) was spells) in
-    let there : new ≡ taken_in (archive_of tables (reports_of_frames tables frames)) (report_entries tables (reports_of d.message)) =
-    subst (λ (a : ArchiveView). new ≡ taken_in a (report_entries a.tables (reports_of d.message))) was new_is in
+    let here : message_of tables frame.bytes ≡ Ok d =
+    subst (λ (o : List ℕ). message_of tables o ≡ Ok d) is
+    (subst (λ (a : ArchiveView). message_of a.tables octets ≡ Ok d) was spells) in
+    let there : new
+    ≡ taken_in (archive_of tables (reports_of_frames tables frames))
+    (report_entries tables (reports_of d.message)) =
+    subst
+    (λ (a : ArchiveView). new
+    ≡ taken_in a (report_entries a.tables (reports_of d.message))) was new_is in
     let count = refused_more tables frames frame in
     let none : frame_refused tables frame ≡ 0 = ap refused_as here in
     let long = length-append frames (frame ∷ []) in
     let a = h.frames_are in
     let b = h.refused_are in
     record {
-      archive_is = archive_more tables frames frame (reports_of d.message) new (ap reports_read here) there;
+      archive_is =
+          archive_more tables frames frame (reports_of d.message) new (ap reports_read here) there;
       frames_are = omega arith;
       refused_are = omega arith;
     }
@@ -112,9 +131,12 @@ pub added_none : (tables : Entries) (old new : ArchiveView) (counts counts' : Co
     → counts'.refused ≡ counts.refused + 1 → HasAdded tables new counts' (frames ++ frame ∷ [])
 added_none tables old new counts counts' frames frame octets why h is spells new_is one more =
     let was = h.archive_is in
-    let here : message_of tables frame.bytes ≡ Err why = subst (λ (o : List ℕ). message_of tables o ≡ Err why) is (subst (λ (a : ArchiveView). message_of a.tables octets ≡ Err why) was spells) in
+    let here : message_of tables frame.bytes ≡ Err why =
+    subst (λ (o : List ℕ). message_of tables o ≡ Err why) is
+    (subst (λ (a : ArchiveView). message_of a.tables octets ≡ Err why) was spells) in
     let none : reports_of_frames tables (frames ++ frame ∷ []) ≡ reports_of_frames tables frames =
-    told_one tables frames frame ∙ ap (λ (rs : List Report). reports_of_frames tables frames ++ rs) (ap reports_read here)
+    told_one tables frames frame
+    ∙ ap (λ (rs : List Report). reports_of_frames tables frames ++ rs) (ap reports_read here)
     ∙ append-nil (reports_of_frames tables frames) in
     let count = refused_more tables frames frame in
     let counted : frame_refused tables frame ≡ 1 = ap refused_as here in
@@ -133,7 +155,8 @@ pub taken_to : (frames : List Found) (i : ℕ) (frame : Found) (before : List Fo
     → (before ++ take i frames) ++ frame ∷ [] ≡ before ++ take (i + 1) frames
 taken_to frames i frame before inside is =
     append_assoc before (take i frames) (frame ∷ [])
-    ∙ ap (λ (fs : List Found). before ++ fs) (ap (λ (f : Found). take i frames ++ f ∷ []) is ∙ sym (take_more frames i frame inside))
+    ∙ ap (λ (fs : List Found). before ++ fs)
+    (ap (λ (f : Found). take i frames ++ f ∷ []) is ∙ sym (take_more frames i frame inside))
 
 -- what holds of the value of an option
 pub some_is : {A : Type 0} (P : A → Type 0) (o : Option A) (x : A) → o ≡ Some x → IfSome o P → P x

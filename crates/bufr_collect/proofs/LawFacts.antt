@@ -26,7 +26,8 @@ shared_kept tell tables [] [] under are = refl
 shared_kept tell tables (g ∷ groups) (rs ∷ lists) under are =
     let all = flat_map (λ (streams : List (List ℕ)). streams) groups in
     let one : kept_of tables rs ≡ kept_of tables (all_told tables g) =
-    sym (tell tables rs are.0) ∙ ap (λ (t : List ℕ). kept_of tables (told tables t)) (sym are.1) ∙ tell tables (all_told tables g) under.0 in
+    sym (tell tables rs are.0) ∙ ap (λ (t : List ℕ). kept_of tables (told tables t)) (sym are.1)
+    ∙ tell tables (all_told tables g) under.0 in
     let rest = shared_kept tell tables groups lists under.1 are.2 in
     sym (kept_both tables rs (all_of lists))
     ∙ ap (λ (es : List Entry). kept (es ++ kept_of tables (all_of lists))) one

@@ -1,6 +1,7 @@
--- Readers that are read one after the other: the steps of `add_streams` and `merge_readers`, for the
--- contracts of `run_add` and `run_merge`.
-use Rattle.std.proofs.Common.{◌≡◌, ℕ, zero, suc, ◌+◌, ◌<◌, ◌≤◌, List, [], ◌∷◌, ◌++◌, length, map, get_or, refl, sym, ap, ◌∙◌, subst, arith, length-append, append_assoc}
+-- Readers that are read one after the other: the steps of `add_streams` and `merge_readers`, for
+-- the contracts of `run_add` and `run_merge`.
+use Rattle.std.proofs.Common.{◌≡◌, ℕ, zero, suc, ◌+◌, ◌<◌, ◌≤◌, List, [], ◌∷◌, ◌++◌, length, map}
+use Rattle.std.proofs.Common.{get_or, refl, sym, ap, ◌∙◌, subst, arith, length-append, append_assoc}
 use Rattle.std.specs.List.{AllByRecursion}
 use Rattle.std.proofs.lemmas.List.{append-nil, length-map}
 use Rattle.std.proofs.Math.ListN.{set}
@@ -53,19 +54,22 @@ none_left (x ∷ xs) h = absurd (omega arith)
 pub at_most_fresh : (reads : ℕ) (readers : List Reading) → AreFresh readers
     → AreReadAtMost reads readers
 at_most_fresh reads [] fresh = tt
-at_most_fresh reads (r ∷ readers) fresh = let none = fresh.0.reads in (omega arith, at_most_fresh reads readers fresh.1)
+at_most_fresh reads (r ∷ readers) fresh =
+    let none = fresh.0.reads in (omega arith, at_most_fresh reads readers fresh.1)
 
 -- readers of which each was read at most so often stay so where one such is put in a place
 pub at_most_set : (reads : ℕ) (readers : List Reading) (i : ℕ) (r : Reading)
     → AreReadAtMost reads readers → r.reads ≤ reads → AreReadAtMost reads (set readers i r)
-at_most_set reads readers i r all here = all_set (λ (x : Reading). x.reads ≤ reads) readers i r all here
+at_most_set reads readers i r all here =
+    all_set (λ (x : Reading). x.reads ≤ reads) readers i r all here
 
 -- one more was read out
 read_out_more : (old new : List Reading) (octets : List (List ℕ)) (r r' : Reading) (more : List ℕ)
     → WereReadOut old new octets → WasReadOut r' → AreAllOf r more
     → WereReadOut (old ++ r ∷ []) (new ++ r' ∷ []) (octets ++ more ∷ [])
 read_out_more [] [] [] r r' more out here all = (here, all, tt)
-read_out_more (o ∷ old) (n ∷ new) (x ∷ octets) r r' more out here all = (out.0, out.1, read_out_more old new octets r r' more out.2 here all)
+read_out_more (o ∷ old) (n ∷ new) (x ∷ octets) r r' more out here all =
+    (out.0, out.1, read_out_more old new octets r r' more out.2 here all)
 read_out_more [] [] (x ∷ octets) r r' more out here all = absurd out
 read_out_more [] (n ∷ new) octets r r' more out here all = absurd out
 read_out_more (o ∷ old) [] octets r r' more out here all = absurd out
@@ -83,7 +87,8 @@ pub record Through (old new : List Reading) (octets : List (List ℕ)) (i : ℕ)
   pub out : WereReadOut front left octets
 
 -- and this one comes next
-pub record Reached (old new : List Reading) (octets : List (List ℕ)) (i : ℕ) (r : Reading) : Type 0 where
+pub record Reached (old new : List Reading) (octets : List (List ℕ)) (i : ℕ)
+    (r : Reading) : Type 0 where
   pub front : List Reading
   pub left : List Reading
   pub behind : List Reading
@@ -113,9 +118,12 @@ through_all old new octets i t all =
     let long = ap length t.new_are ∙ length-append t.left t.behind in
     let many = t.so_many in
     let none = none_left t.behind (omega arith) in
-    let front : t.front ≡ old = sym (t.old_are ∙ ap (λ (xs : List Reading). t.front ++ xs) none ∙ append-nil t.front) in
-    let left : t.left ≡ new = sym (t.new_are ∙ ap (λ (xs : List Reading). t.left ++ xs) none ∙ append-nil t.left) in
-    subst (λ (xs : List Reading). WereReadOut old xs octets) left (subst (λ (xs : List Reading). WereReadOut xs t.left octets) front t.out)
+    let front : t.front ≡ old =
+    sym (t.old_are ∙ ap (λ (xs : List Reading). t.front ++ xs) none ∙ append-nil t.front) in
+    let left : t.left ≡ new =
+    sym (t.new_are ∙ ap (λ (xs : List Reading). t.left ++ xs) none ∙ append-nil t.left) in
+    subst (λ (xs : List Reading). WereReadOut old xs octets) left
+    (subst (λ (xs : List Reading). WereReadOut xs t.left octets) front t.out)
 
 -- the next
 reach_in : (old new : List Reading) (octets : List (List ℕ)) (i : ℕ) (r : Reading)
@@ -125,7 +133,8 @@ reach_in : (old new : List Reading) (octets : List (List ℕ)) (i : ℕ) (r : Re
 reach_in old new octets i r front left [] old_are new_are as_many so_many out inside is =
     let long = ap length new_are ∙ length-append left [] in absurd (omega arith)
 reach_in old new octets i r front left (x ∷ behind) old_are new_are as_many so_many out inside is =
-    let at : get_or (left ++ x ∷ behind) i r ≡ x = subst (λ (k : ℕ). get_or (left ++ x ∷ behind) k r ≡ x) so_many (get_mid left x behind r) in
+    let at : get_or (left ++ x ∷ behind) i r ≡ x =
+    subst (λ (k : ℕ). get_or (left ++ x ∷ behind) k r ≡ x) so_many (get_mid left x behind r) in
     let here : r ≡ x = is ∙ ap (λ (xs : List Reading). get_or xs i r) new_are ∙ at in
     record {
       front = front;
@@ -141,7 +150,9 @@ reach_in old new octets i r front left (x ∷ behind) old_are new_are as_many so
 -- the reader after those read out parts the readers in those before it and those behind it
 pub reach : (old new : List Reading) (octets : List (List ℕ)) (i : ℕ) (r : Reading)
     → Through old new octets i → i < length new → r ≡ get_or new i r → Reached old new octets i r
-reach old new octets i r t inside is = reach_in old new octets i r t.front t.left t.behind t.old_are t.new_are t.as_many t.so_many t.out inside is
+reach old new octets i r t inside is =
+    reach_in old new octets i r t.front t.left t.behind t.old_are t.new_are t.as_many t.so_many
+    t.out inside is
 
 -- so does one that is told by what contracts see of a reader
 pub reach_item : {A : Type 0} (f : A → Reading) (old : List Reading) (xs : List A)
@@ -154,14 +165,16 @@ reach_item f old xs octets i d t inside =
 -- it is fresh
 pub fresh_next : (old new : List Reading) (octets : List (List ℕ)) (i : ℕ) (r : Reading)
     → AreFresh old → Reached old new octets i r → IsFresh r
-fresh_next old new octets i r fresh at = all_mid IsFresh at.front r at.behind (subst AreFresh at.old_are fresh)
+fresh_next old new octets i r fresh at =
+    all_mid IsFresh at.front r at.behind (subst AreFresh at.old_are fresh)
 
 -- the readers where it is replaced
 put_next : (old new new' : List Reading) (octets : List (List ℕ)) (i : ℕ) (r r' : Reading)
     → (at : Reached old new octets i r) → new' ≡ set new i r' → new' ≡ at.left ++ r' ∷ at.behind
 put_next old new new' octets i r r' at is =
     is ∙ ap (λ (xs : List Reading). set xs i r') at.new_are
-    ∙ subst (λ (k : ℕ). set (at.left ++ r ∷ at.behind) k r' ≡ at.left ++ r' ∷ at.behind) at.so_many (set_mid at.left r at.behind r')
+    ∙ subst (λ (k : ℕ). set (at.left ++ r ∷ at.behind) k r' ≡ at.left ++ r' ∷ at.behind) at.so_many
+    (set_mid at.left r at.behind r')
 
 -- it was read out
 pub through_more : (old new new' : List Reading) (octets : List (List ℕ)) (more : List ℕ) (i : ℕ)
@@ -177,7 +190,9 @@ through_more old new new' octets more i r r' at is out all =
       left = at.left ++ r' ∷ [];
       behind = at.behind;
       old_are = at.old_are ∙ sym (append_assoc at.front (r ∷ []) at.behind);
-      new_are = put_next old new new' octets i r r' at is ∙ sym (append_assoc at.left (r' ∷ []) at.behind);
+      new_are =
+          put_next old new new' octets i r r' at is
+          ∙ sym (append_assoc at.left (r' ∷ []) at.behind);
       as_many = omega arith;
       so_many = omega arith;
       out = read_out_more at.front at.left octets r r' more at.out out all;

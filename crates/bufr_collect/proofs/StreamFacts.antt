@@ -1,6 +1,7 @@
 -- The messages of a stream added to an archive as its pieces come: the steps of `add_piece`,
 -- `add_rest` and `add_stream`, for the contract of `run_add`.
-use Rattle.std.proofs.Common.{◌≡◌, ℕ, ◌+◌, ◌*◌, ◌^◌, ◌<◌, ◌≤◌, List, [], ◌∷◌, ◌++◌, length, drop, Ok, Err, sym, ap, ◌∙◌, subst, arith, length-append, append_assoc}
+use Rattle.std.proofs.Common.{◌≡◌, ℕ, ◌+◌, ◌*◌, ◌^◌, ◌<◌, ◌≤◌, List, [], ◌∷◌, ◌++◌, length, drop}
+use Rattle.std.proofs.Common.{Ok, Err, sym, ap, ◌∙◌, subst, arith, length-append, append_assoc}
 use Rattle.std.proofs.lemmas.List.{append-nil}
 use Rattle.bufr_bits.specs.Devices.{Reading}
 use Rattle.bufr_tables.specs.Entries.{Entries}
@@ -8,9 +9,11 @@ use Rattle.bufr_frame.specs.declared.frames.Found.{Found}
 use Rattle.bufr_frame.specs.Framings.{Framing}
 use Rattle.bufr_frame.specs.Streams.{cut, sure, Stands}
 use Rattle.bufr_frame.specs.StreamLaws.{cut-end}
-use Rattle.bufr_frame.specs.Takings.{taken_in, IsRestOf, IsNextFrame, IsNoFrame, StandsAfter, AreLast, HandedOut, IsTaking}
+use Rattle.bufr_frame.specs.Takings.{taken_in, IsRestOf, IsNextFrame, IsNoFrame, StandsAfter}
+use Rattle.bufr_frame.specs.Takings.{AreLast, HandedOut, IsTaking}
 use Rattle.bufr_frame.specs.FrameBounds.{sure_few, cut_few}
-use Rattle.bufr_frame.specs.TakingLaws.{handed_first, handed_end, taking_first, taking_one, taking_none, taking_front, taking_fed}
+use Rattle.bufr_frame.specs.TakingLaws.{handed_first, handed_end, taking_first, taking_one}
+use Rattle.bufr_frame.specs.TakingLaws.{taking_none, taking_front, taking_fed}
 use Rattle.bufr_archive.specs.Archives.{ArchiveView}
 use Rattle.bufr_engines.specs.declared.fault.Input.{Input}
 use Rattle.bufr_engines.specs.Engines.{IsFresh}
@@ -23,7 +26,8 @@ use Rattle.bufr_collect.specs.Adds.{HasAdded, HasAddedSure}
 -- ---- within a piece
 
 -- all but the rest of the stream was taken in, and the messages of the frames handed out were added
-pub record Amid (tables : Entries) (archive : ArchiveView) (counts : Counts) (before : List Found) (framer : Framing) (stream rest : List ℕ) : Type 0 where
+pub record Amid (tables : Entries) (archive : ArchiveView) (counts : Counts) (before : List Found)
+    (framer : Framing) (stream rest : List ℕ) : Type 0 where
   pub frames : List Found
   pub taking : IsTaking framer stream rest frames
   pub added : HasAdded tables archive counts (before ++ frames)
@@ -46,7 +50,8 @@ amid_few : (framer : Framing) (stream rest : List ℕ) (frames : List Found)
     → IsTaking framer stream rest frames → length frames ≤ length stream
 amid_few framer stream rest frames t =
     let front = taking_front framer stream rest frames t in
-    let long : length (sure stream) ≡ length frames + length front.0 = ap length front.1 ∙ length-append frames front.0 in
+    let long : length (sure stream) ≡ length frames + length front.0 =
+    ap length front.1 ∙ length-append frames front.0 in
     let a = sure_few stream in
     omega arith
 
@@ -74,12 +79,15 @@ pub amid_more : (tables : Entries) (archive archive' : ArchiveView) (counts coun
     → ((frames : List Found) → HasAdded tables archive counts frames
     → HasAdded tables archive' counts' (frames ++ frame ∷ []))
     → Amid tables archive' counts' before after stream left
-amid_more tables archive archive' counts counts' before framer after stream rest left frame a parted next stands adds = record {
-  frames = a.frames ++ frame ∷ [];
-  taking = taking_one framer after stream rest left a.frames frame a.taking parted next stands;
-  added = subst (HasAdded tables archive' counts') (append_assoc before a.frames (frame ∷ [])) (adds (before ++ a.frames) a.added);
-  few = a.few;
-}
+amid_more tables archive archive' counts counts' before framer after stream rest left frame a parted
+    next stands adds = record {
+      frames = a.frames ++ frame ∷ [];
+      taking = taking_one framer after stream rest left a.frames frame a.taking parted next stands;
+      added =
+          subst (HasAdded tables archive' counts') (append_assoc before a.frames (frame ∷ []))
+          (adds (before ++ a.frames) a.added);
+      few = a.few;
+    }
 
 -- no frame more is sure: the piece was taken in, and the messages of all that is sure were added
 pub amid_none : (tables : Entries) (archive : ArchiveView) (counts : Counts) (before : List Found)
@@ -90,7 +98,8 @@ amid_none tables archive counts before framer after stream rest a none stands =
     let both = taking_none framer after stream rest a.frames a.taking none stands in
     record {
       handed = subst (HandedOut after stream) both.1 both.0;
-      added = subst (λ (fs : List Found). HasAdded tables archive counts (before ++ fs)) both.1 a.added;
+      added =
+          subst (λ (fs : List Found). HasAdded tables archive counts (before ++ fs)) both.1 a.added;
       few = a.few;
     }
 
@@ -108,7 +117,8 @@ pub rest_few : (framer : Framing) (stream : List ℕ) (last : List Found)
     → length (sure stream) + length last ≤ length stream
 rest_few framer stream last h is =
     let whole = handed_end framer stream (sure stream) last h is in
-    let long : length (cut stream) ≡ length (sure stream) + length last = ap length (sym whole) ∙ length-append (sure stream) last in
+    let long : length (cut stream) ≡ length (sure stream) + length last =
+    ap length (sym whole) ∙ length-append (sure stream) last in
     let a = cut_few stream in
     omega arith
 
@@ -117,7 +127,8 @@ pub rest_whole : (framer : Framing) (stream : List ℕ) (before last : List Foun
     → HandedOut framer stream (sure stream) → last ≡ drop (length (sure stream)) (cut stream)
     → (before ++ sure stream) ++ last ≡ before ++ cut stream
 rest_whole framer stream before last h is =
-    append_assoc before (sure stream) last ∙ ap (λ (fs : List Found). before ++ fs) (handed_end framer stream (sure stream) last h is)
+    append_assoc before (sure stream) last
+    ∙ ap (λ (fs : List Found). before ++ fs) (handed_end framer stream (sure stream) last h is)
 
 -- the messages of frames that were handed out at the end were added: then those of the whole stream
 pub rest_added : (archive archive' : ArchiveView) (counts counts' : Counts) (framer : Framing)
@@ -129,18 +140,22 @@ pub rest_added : (archive archive' : ArchiveView) (counts counts' : Counts) (fra
     → HasAdded tables archive' counts' (before ++ cut stream))
 rest_added archive archive' counts counts' framer last frames are is adds tables before stream h =
     let found = are stream (length (sure stream)) h.handed.stands in
-    let whole = ap (λ (fs : List Found). (before ++ sure stream) ++ fs) is ∙ rest_whole framer stream before last h.handed found in
+    let whole =
+    ap (λ (fs : List Found). (before ++ sure stream) ++ fs) is
+    ∙ rest_whole framer stream before last h.handed found in
     subst (HasAdded tables archive' counts') whole (adds tables (before ++ sure stream) h.added)
 
 -- ---- between two reads
 
 -- these octets were given, and whatever was added before, the messages of what is sure of them were
 -- added after it
-pub record Between (old now : Reading) (first archive : ArchiveView) (start counts : Counts) (framer : Framing) (count : ℕ) : Type 0 where
+pub record Between (old now : Reading) (first archive : ArchiveView) (start counts : Counts)
+    (framer : Framing) (count : ℕ) : Type 0 where
   pub read : List ℕ
   pub goes_on : GoesOn old now read count
   pub short : length read ≤ longest_piece * count
-  pub added : (tables : Entries) (before : List Found) → HasAdded tables first start before → length before < 2 ^ 127
+  pub added : (tables : Entries) (before : List Found) → HasAdded tables first start before
+      → length before < 2 ^ 127
       → HasAddedSure tables archive counts before framer read
 
 -- before the first
@@ -149,7 +164,14 @@ pub between_first : (reader : Reading) (archive : ArchiveView) (counts : Counts)
     → Between reader reader archive archive counts counts framer 0
 between_first reader archive counts framer fresh stands = record {
   read = [];
-  goes_on = record { so_far = HasGiven_none reader; works = fresh.failed; reads = fresh.reads; met_end = fresh.met_end };
+  goes_on =
+      record {
+        so_far = HasGiven_none reader;
+        works = fresh.failed;
+        reads = fresh.reads;
+        met_end =
+            fresh.met_end;
+      };
   short = omega arith;
   added = λ tables before h few. record {
     handed = handed_first framer stands;

@@ -13,7 +13,8 @@ use Rattle.bufr_archive.specs.ReportLaws.{ReportTextsTell}
 use Rattle.bufr_depot.specs.Agreements.{ReportsToldAreUnder, SameMessagesSameKept}
 use Rattle.bufr_depot.specs.Slots.{all_told}
 use Rattle.bufr_collect.specs.Collected.{collected_text, AreTextsOf, merged_text}
-use Rattle.bufr_collect.specs.Laws.{AreMadeOf, none, by_add, by_merge, all_streams, AnyWayWritesTheSame}
+use Rattle.bufr_collect.specs.Laws.{AreMadeOf, none, by_add, by_merge, all_streams}
+use Rattle.bufr_collect.specs.Laws.{AnyWayWritesTheSame}
 use Rattle.bufr_collect.proofs.LawFacts.{shared}
 
 -- what holds of each of two lists holds of each of both
@@ -59,7 +60,8 @@ made : ReportTextsTell → ReportsToldAreUnder → (tables : Entries) (groups : 
 made tell under tables groups files octets none = refl
 made tell under tables groups files octets (by_add streams {groups = others} {files = more} rest) =
     ap (λ (fs : List (List ℕ)). collected_text tables streams ∷ fs)
-    (made tell under tables others more (all_second AreOctets streams (all_streams others) octets) rest)
+    (made tell under tables others more
+    (all_second AreOctets streams (all_streams others) octets) rest)
 made tell under tables groups files octets
     (by_merge {parts} {groups = others} {archives} {files = more} lists was texts rest) =
     let own = all_first AreOctets (all_streams parts) (all_streams others) octets in

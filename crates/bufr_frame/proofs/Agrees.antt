@@ -14,4 +14,6 @@ agrees_by (x ∷ xs) [] (suc n) e = absurd (omega arith)
 agrees_by (x ∷ xs) (y ∷ ys) zero e = absurd (omega arith)
 agrees_by (x ∷ xs) (y ∷ ys) (suc n) e =
     let same : n ≡ min (length xs) (length ys) = omega arith in
-    elim (eqb x y) as (λ b. (b && pointwise nat_eq (take n xs) (take n ys)) ≡ cond b (agrees xs ys) false) [ true ↦ agrees_by xs ys n same | false ↦ refl ]
+    elim (eqb x y) as
+    (λ b. (b && pointwise nat_eq (take n xs) (take n ys)) ≡ cond b (agrees xs ys) false)
+    [ true ↦ agrees_by xs ys n same | false ↦ refl ]

@@ -22,7 +22,9 @@ pub feed_found : (fed place : ℕ) (held piece : List ℕ) (v : Framing) (frames
     → frames ≡ frames_from false place 0 (held ++ piece) → (s : List ℕ) (out : ℕ) → Stands v s out
     → frames ≡ drop out (sure (s ++ piece))
 feed_found fed place held piece v frames is here e s out st =
-    e ∙ ap (λ p. frames_from false p 0 (held ++ piece)) here ∙ sym (Stands-found (framing fed held) s out piece (subst (λ x. Stands x s out) (sym is) st))
+    e ∙ ap (λ p. frames_from false p 0 (held ++ piece)) here
+    ∙ sym
+    (Stands-found (framing fed held) s out piece (subst (λ x. Stands x s out) (sym is) st))
 
 -- and what is left after them is what a framer holds with all of them handed out
 pub feed_next : (fed place : ℕ) (held piece rest : List ℕ) (v : Framing) (frames : List Found)
@@ -31,8 +33,10 @@ pub feed_next : (fed place : ℕ) (held piece rest : List ℕ) (v : Framing) (fr
     → rest ≡ rest_from (length frames) 0 (held ++ piece) → (s : List ℕ) (out : ℕ) → Stands v s out
     → Stands (framing (fed + length piece) rest) (s ++ piece) (length (sure (s ++ piece)))
 feed_next fed place held piece rest v frames is here e left s out st =
-    let same : frames ≡ frames_from false (fed - length held) 0 (held ++ piece) = e ∙ ap (λ p. frames_from false p 0 (held ++ piece)) here in
-    subst (λ r. Stands (framing (fed + length piece) r) (s ++ piece) (length (sure (s ++ piece)))) (sym (left ∙ ap (λ fs. rest_from (length fs) 0 (held ++ piece)) same))
+    let same : frames ≡ frames_from false (fed - length held) 0 (held ++ piece) =
+    e ∙ ap (λ p. frames_from false p 0 (held ++ piece)) here in
+    subst (λ r. Stands (framing (fed + length piece) r) (s ++ piece) (length (sure (s ++ piece))))
+    (sym (left ∙ ap (λ fs. rest_from (length fs) 0 (held ++ piece)) same))
     (Stands-all (framing fed held) s out piece (subst (λ x. Stands x s out) (sym is) st))
 
 -- at the end the frames found in what is held are those of the stream that were not handed out
@@ -40,4 +44,5 @@ pub end_found : (fed place : ℕ) (held : List ℕ) (v : Framing) (frames : List
     → framing fed held ≡ v → place ≡ fed - length held → frames ≡ frames_from true place 0 held
     → (s : List ℕ) (out : ℕ) → Stands v s out → frames ≡ drop out (cut s)
 end_found fed place held v frames is here e s out st =
-    e ∙ ap (λ p. frames_from true p 0 held) here ∙ sym (Stands-ended (framing fed held) s out (subst (λ x. Stands x s out) (sym is) st))
+    e ∙ ap (λ p. frames_from true p 0 held) here
+    ∙ sym (Stands-ended (framing fed held) s out (subst (λ x. Stands x s out) (sym is) st))

@@ -24,7 +24,9 @@ EndBy place fs = AllByRecursion (λ f. f.place + length f.bytes ≤ place) fs
 
 -- and up to any later one
 end_by : (p q : ℕ) (fs : List Found) → p ≤ q → EndBy p fs → EndBy q fs
-end_by p q fs h a = all_weaker (λ f. f.place + length f.bytes ≤ p) (λ f. f.place + length f.bytes ≤ q) (λ f b. omega arith) fs a
+end_by p q fs h a =
+    all_weaker (λ f. f.place + length f.bytes ≤ p) (λ f. f.place + length f.bytes ≤ q)
+    (λ f b. omega arith) fs a
 
 -- what is left begins at the first place, at or after the end of the frames handed out, at which
 -- something stands
@@ -34,7 +36,8 @@ record RestsAt (place skip out : ℕ) (xs : List ℕ) (fs : List Found) (rest : 
   pub rest_is : rest ≡ drop n xs
   pub past : skip ≤ n
   pub ended : EndBy (place + n) (take out fs)
-  pub others : (j : ℕ) → skip ≤ j → EndBy (place + j) (take out fs) → j < n → start_of (drop j xs) ≡ Other
+  pub others : (j : ℕ) → skip ≤ j → EndBy (place + j) (take out fs) → j < n → start_of (drop j xs)
+      ≡ Other
   pub stop : start_of (drop n xs) ≡ Other → ⊥
   pub later : drop out fs ≡ frames_from false (place + n) 0 (drop n xs)
 
@@ -52,7 +55,10 @@ rests_later place skip out x xs fs rest r =
       ended = end_by ((place + 1) + r.n) (place + suc r.n) (take out fs) (omega arith) r.ended;
       others = later_others place skip out x xs fs r.n r.others;
       stop = r.stop;
-      later = r.later ∙ ap (λ p. frames_from false p 0 (drop r.n xs)) (let e : (place + 1) + r.n ≡ place + suc r.n = omega arith in e);
+      later =
+          r.later
+          ∙ ap (λ p. frames_from false p 0 (drop r.n xs))
+          (let e : (place + 1) + r.n ≡ place + suc r.n = omega arith in e);
     }
   where
     later_others : (place skip out x : ℕ) (xs : List ℕ) (fs : List Found) (n : ℕ)
@@ -61,7 +67,9 @@ rests_later place skip out x xs fs rest r =
         → (j : ℕ) → suc skip ≤ j → EndBy (place + j) (take out fs) → j < suc n
         → start_of (drop j (x ∷ xs)) ≡ Other
     later_others place skip out x xs fs n o zero a b l = absurd (omega arith)
-    later_others place skip out x xs fs n o (suc j) a b l = o j (omega arith) (end_by (place + suc j) ((place + 1) + j) (take out fs) (omega arith) b) (omega arith)
+    later_others place skip out x xs fs n o (suc j) a b l =
+        o j (omega arith) (end_by (place + suc j) ((place + 1) + j) (take out fs) (omega arith) b)
+        (omega arith)
 
 -- the rest behind an octet at which no frame begins
 rests_passed : (place out x : ℕ) (xs : List ℕ) (fs : List Found) (rest : List ℕ)
@@ -119,46 +127,82 @@ rests_here place out x xs fs none h e = record {
   ended = subst (λ k. EndBy (place + 0) (take k fs)) (sym none) tt;
   others = λ j a b l. absurd (omega arith);
   stop = h;
-  later = ap (λ k. drop k fs) none ∙ e ∙ ap (λ p. frames_from false p 0 (x ∷ xs)) (let z : place ≡ place + 0 = omega arith in z);
+  later =
+      ap (λ k. drop k fs) none ∙ e
+      ∙ ap (λ p. frames_from false p 0 (x ∷ xs)) (let z : place ≡ place + 0 = omega arith in z);
 }
 
 -- where the rest behind some frames begins
 rests_at : (place skip out : ℕ) (xs : List ℕ) → skip ≤ length xs
     → out ≤ length (frames_from false place skip xs)
     → RestsAt place skip out xs (frames_from false place skip xs) (rest_from out skip xs)
-rests_at place zero zero [] s o = record { n = 0; within = omega arith; rest_is = refl; past = omega arith; ended = tt; others = λ j a b l. absurd (omega arith); stop = λ e. cc; later = refl }
+rests_at place zero zero [] s o =
+    record {
+      n = 0;
+      within = omega arith;
+      rest_is = refl;
+      past = omega arith;
+      ended = tt;
+      others = λ j a b
+          l. absurd (omega arith);
+      stop = λ e. cc;
+      later = refl;
+    }
 rests_at place zero (suc out) [] s o = absurd (omega arith)
 rests_at place (suc skip) out [] s o = absurd (omega arith)
-rests_at place (suc skip) out (x ∷ xs) s o = rests_later place skip out x xs (frames_from false (place + 1) skip xs) (rest_from out skip xs) (rests_at (place + 1) skip out xs (omega arith) o)
+rests_at place (suc skip) out (x ∷ xs) s o =
+    rests_later place skip out x xs (frames_from false (place + 1) skip xs) (rest_from out skip xs)
+    (rests_at (place + 1) skip out xs (omega arith) o)
 rests_at place zero out (x ∷ xs) s o =
-    elim (start_of (x ∷ xs)) as (λ u. start_of (x ∷ xs) ≡ u → RestsAt place zero out (x ∷ xs) (frames_from false place zero (x ∷ xs)) (rest_from out zero (x ∷ xs))) [
+    elim (start_of (x ∷ xs)) as
+    (λ u. start_of (x ∷ xs) ≡ u
+    → RestsAt place zero out (x ∷ xs) (frames_from false place zero (x ∷ xs))
+    (rest_from out zero (x ∷ xs))) [
       | Other ↦ λ h.
-          subst (λ fs. RestsAt place 0 out (x ∷ xs) fs (rest_from out 0 (x ∷ xs))) (sym (frames_other false place x xs h))
-          (subst (λ r. RestsAt place 0 out (x ∷ xs) (frames_from false (place + 1) 0 xs) r) (sym (rest_other out x xs h))
-          (rests_passed place out x xs (frames_from false (place + 1) 0 xs) (rest_from out 0 xs) h (rests_at (place + 1) 0 out xs (omega arith) (omega (arith, ap length (frames_other false place x xs h))))))
+          subst (λ fs. RestsAt place 0 out (x ∷ xs) fs (rest_from out 0 (x ∷ xs)))
+          (sym (frames_other false place x xs h))
+          (subst (λ r. RestsAt place 0 out (x ∷ xs) (frames_from false (place + 1) 0 xs) r)
+          (sym (rest_other out x xs h))
+          (rests_passed place out x xs (frames_from false (place + 1) 0 xs) (rest_from out 0 xs) h
+          (rests_at (place + 1) 0 out xs (omega arith)
+          (omega (arith, ap length (frames_other false place x xs h))))))
       | Open ↦ λ h.
           let none : out ≡ 0 = omega (arith, ap length (frames_open place x xs h)) in
-          subst (λ r. RestsAt place 0 out (x ∷ xs) (frames_from false place 0 (x ∷ xs)) r) (sym (rest_open out x xs h))
-          (rests_here place out x xs (frames_from false place 0 (x ∷ xs)) none (λ e. let n : Open ≡ Other = sym h ∙ e in cc) refl)
-      | Frame l ↦ λ h. rests_at_frame place l out x xs h o (λ k fits. rests_at (place + 1) (l - 1) k xs (let b = (begins_from (x ∷ xs) l h).whole in let c = (begins_from (x ∷ xs) l h).long in omega arith) fits)
+          subst (λ r. RestsAt place 0 out (x ∷ xs) (frames_from false place 0 (x ∷ xs)) r)
+          (sym (rest_open out x xs h))
+          (rests_here place out x xs (frames_from false place 0 (x ∷ xs)) none
+          (λ e. let n : Open ≡ Other = sym h ∙ e in cc) refl)
+      | Frame l ↦
+          λ h. rests_at_frame place l out x xs h o
+          (λ k fits. rests_at (place + 1) (l - 1) k xs
+          (let b = (begins_from (x ∷ xs) l h).whole in let c = (begins_from (x ∷ xs) l h).long in
+          omega arith) fits)
     ] refl
   where
     rests_at_frame : (place l out x : ℕ) (xs : List ℕ) → start_of (x ∷ xs) ≡ Frame l
         → out ≤ length (frames_from false place 0 (x ∷ xs))
         → ((k : ℕ) → k ≤ length (frames_from false (place + 1) (l - 1) xs)
-        → RestsAt (place + 1) (l - 1) k xs (frames_from false (place + 1) (l - 1) xs) (rest_from k (l - 1) xs))
+        → RestsAt (place + 1) (l - 1) k xs (frames_from false (place + 1) (l - 1) xs)
+        (rest_from k (l - 1) xs))
         → RestsAt place 0 out (x ∷ xs) (frames_from false place 0 (x ∷ xs))
         (rest_from out 0 (x ∷ xs))
     rests_at_frame place l zero x xs h o more =
-        subst (λ r. RestsAt place 0 0 (x ∷ xs) (frames_from false place 0 (x ∷ xs)) r) (sym (rest_none l x xs h))
-        (rests_here place 0 x xs (frames_from false place 0 (x ∷ xs)) refl (λ e. let n : Frame l ≡ Other = sym h ∙ e in cc) refl)
+        subst (λ r. RestsAt place 0 0 (x ∷ xs) (frames_from false place 0 (x ∷ xs)) r)
+        (sym (rest_none l x xs h))
+        (rests_here place 0 x xs (frames_from false place 0 (x ∷ xs)) refl
+        (λ e. let n : Frame l ≡ Other = sym h ∙ e in cc) refl)
     rests_at_frame place l (suc out) x xs h o more =
         let b = begins_from (x ∷ xs) l h in
         let long = b.long in
         let size : length (take l (x ∷ xs)) ≡ l = length-take-le l (x ∷ xs) b.whole in
-        subst (λ fs. RestsAt place 0 (suc out) (x ∷ xs) fs (rest_from (suc out) 0 (x ∷ xs))) (sym (frames_frame false place l x xs h))
-        (subst (λ r. RestsAt place 0 (suc out) (x ∷ xs) (record { place = place; bytes = take l (x ∷ xs) } ∷ frames_from false (place + 1) (l - 1) xs) r) (sym (rest_frame out l x xs h))
-        (rests_frame place l out x xs (take l (x ∷ xs)) (frames_from false (place + 1) (l - 1) xs) (rest_from out (l - 1) xs) size (omega arith)
+        subst (λ fs. RestsAt place 0 (suc out) (x ∷ xs) fs (rest_from (suc out) 0 (x ∷ xs)))
+        (sym (frames_frame false place l x xs h))
+        (subst
+        (λ r. RestsAt place 0 (suc out) (x ∷ xs)
+        (record { place = place; bytes = take l (x ∷ xs) }
+        ∷ frames_from false (place + 1) (l - 1) xs) r) (sym (rest_frame out l x xs h))
+        (rests_frame place l out x xs (take l (x ∷ xs)) (frames_from false (place + 1) (l - 1) xs)
+        (rest_from out (l - 1) xs) size (omega arith)
         (more out (omega (arith, ap length (frames_frame false place l x xs h))))))
 
 -- ---- in words
@@ -184,7 +228,9 @@ module _ (s : List ℕ) (out : ℕ) (fits : out ≤ length (sure s)) where
   -- the next frame stands where what is left begins, or after it
   next_after : (q : ℕ) → IsNextAt (sure s) out q → rests.n ≤ q
   next_after q h =
-      let all : AllByRecursion (λ f. (0 + rests.n) + 0 ≤ f.place) (drop out (sure s)) = subst (AllByRecursion (λ f. (0 + rests.n) + 0 ≤ f.place)) (sym rests.later) (all_past false (0 + rests.n) 0 (drop rests.n s)) in
+      let all : AllByRecursion (λ f. (0 + rests.n) + 0 ≤ f.place) (drop out (sure s)) =
+      subst (AllByRecursion (λ f. (0 + rests.n) + 0 ≤ f.place)) (sym rests.later)
+      (all_past false (0 + rests.n) 0 (drop rests.n s)) in
       let one = got_of_all (λ f. (0 + rests.n) + 0 ≤ f.place) (sure s) out h.frame h.next all in
       let here = h.here in
       omega arith
@@ -192,7 +238,9 @@ module _ (s : List ℕ) (out : ℕ) (fits : out ≤ length (sure s)) where
   -- before that place nothing is held
   none_before : (q : ℕ) → IsAfter (sure s) out q → q < rests.n → IsHeldAt s (sure s) out q → ⊥
   none_before q after below h =
-      let other : start_of (drop q s) ≡ Other = rests.others q (omega arith) (end_by q (0 + q) (take out (sure s)) (omega arith) after) below in
+      let other : start_of (drop q s) ≡ Other =
+      rests.others q (omega arith)
+      (end_by q (0 + q) (take out (sure s)) (omega arith) after) below in
       elim h [
         | inl next ↦ let reached = next_after q next in omega arith
         | inr waits ↦ elim waits [
@@ -207,16 +255,27 @@ module _ (s : List ℕ) (out : ℕ) (fits : out ≤ length (sure s)) where
   -- where something is left, something stands where it begins
   held_there : rests.n < length s → IsHeldAt s (sure s) out rests.n
   held_there inside =
-      elim (start_of (drop rests.n s)) as (λ u. start_of (drop rests.n s) ≡ u → IsHeldAt s (sure s) out rests.n) [
+      elim (start_of (drop rests.n s)) as
+      (λ u. start_of (drop rests.n s) ≡ u → IsHeldAt s (sure s) out rests.n) [
         | Other ↦ λ h. absurd (rests.stop h)
-        | Open ↦ λ h. elim (announced (drop rests.n s)) as (λ o. announced (drop rests.n s) ≡ o → IsHeldAt s (sure s) out rests.n) [
-          | Some l ↦ λ told. inr (inl (open_to s rests.n l h told))
-          | None ↦ λ none. inr (inr (tail_to s rests.n inside h none))
-        ] refl
+        | Open ↦
+            λ h. elim (announced (drop rests.n s)) as
+            (λ o. announced (drop rests.n s) ≡ o → IsHeldAt s (sure s) out rests.n) [
+              | Some l ↦ λ told. inr (inl (open_to s rests.n l h told))
+              | None ↦ λ none. inr (inr (tail_to s rests.n inside h none))
+            ] refl
         | Frame l ↦ λ h.
             let f : Found = record { place = 0 + rests.n; bytes = take l (drop rests.n s) } in
-            let whole : drop out (sure s) ≡ f ∷ frames_from false ((0 + rests.n) + l) 0 (drop l (drop rests.n s)) = rests.later ∙ one_frame false (0 + rests.n) l (drop rests.n s) h in
-            inl (record { frame = f; next = get_dropped (sure s) out f _ whole; here = let e : 0 + rests.n ≡ rests.n = omega arith in e })
+            let whole : drop out (sure s) ≡ f
+            ∷ frames_from false ((0 + rests.n) + l) 0 (drop l (drop rests.n s)) =
+            rests.later ∙ one_frame false (0 + rests.n) l (drop rests.n s) h in
+            inl
+            (record {
+              frame = f;
+              next = get_dropped
+                  (sure s) out f _ whole;
+              here = let e : 0 + rests.n ≡ rests.n = omega arith in e;
+            })
       ] refl
 
   -- where nothing is left, nothing is held at any place
@@ -228,10 +287,14 @@ module _ (s : List ℕ) (out : ℕ) (fits : out ≤ length (sure s)) where
         | inl below ↦ none_before q after below.1 h
         | inr past ↦ let beyond = past.1 in elim h [
           | inl next ↦
-              let nothing : drop out (sure s) ≡ [] = rests.later ∙ ap (λ t. frames_from false (0 + rests.n) 0 t) (drop_all rests.n s out_of) in
-              got_of_all (λ f. ⊥) (sure s) out next.frame next.next (subst (AllByRecursion (λ (f : Found). ⊥)) (sym nothing) tt)
+              let nothing : drop out (sure s) ≡ [] =
+              rests.later
+              ∙ ap (λ t. frames_from false (0 + rests.n) 0 t) (drop_all rests.n s out_of) in
+              got_of_all (λ f. ⊥) (sure s) out next.frame next.next
+              (subst (AllByRecursion (λ (f : Found). ⊥)) (sym nothing) tt)
           | inr waits ↦ elim waits [
-            | inl opens ↦ let enough = announced-length (drop q s) opens.l opens.told in omega (arith, length-drop q s)
+            | inl opens ↦ let enough = announced-length (drop q s) opens.l opens.told in
+                omega (arith, length-drop q s)
             | inr tail ↦ let inside = tail.inside in omega arith
           ]
         ]
@@ -240,8 +303,19 @@ module _ (s : List ℕ) (out : ℕ) (fits : out ≤ length (sure s)) where
   -- what is left is what must be held
   held_is : AreHeld s (sure s) out (rest_from out 0 s)
   held_is = elim (leb_tells (suc rests.n) (length s)) [
-    | inl inside ↦ inl (rests.n, record { after = ended_there; is = held_there inside.1; first = λ q after below h. none_before q after below h }, rests.rest_is)
-    | inr beyond ↦ let out_of = beyond.1 in inr (none_at_all (omega arith), rests.rest_is ∙ drop_all rests.n s (omega arith))
+    | inl inside ↦
+        inl (
+          rests.n,
+          record {
+            after = ended_there;
+            is = held_there inside.1;
+            first = λ q after below h. none_before q
+                after below h;
+          },
+          rests.rest_is,
+        )
+    | inr beyond ↦ let out_of = beyond.1 in
+        inr (none_at_all (omega arith), rests.rest_is ∙ drop_all rests.n s (omega arith))
   ]
 
 -- there is one such list
@@ -252,7 +326,8 @@ held_once s fs out h k (inl a) (inl b) =
       | inl below ↦ absurd (b.1.first a.0 a.1.after below.1 a.1.is)
       | inr not_below ↦ elim (leb_tells (suc b.0) a.0) [
         | inl above ↦ absurd (a.1.first b.0 b.1.after above.1 b.1.is)
-        | inr not_above ↦ let p = not_below.1 in let q = not_above.1 in a.2 ∙ ap (λ n. drop n s) (let e : a.0 ≡ b.0 = omega arith in e) ∙ sym b.2
+        | inr not_above ↦ let p = not_below.1 in let q = not_above.1 in a.2
+            ∙ ap (λ n. drop n s) (let e : a.0 ≡ b.0 = omega arith in e) ∙ sym b.2
       ]
     ]
 held_once s fs out h k (inl a) (inr b) = absurd (b.0 a.0 a.1.after a.1.is)
@@ -273,8 +348,10 @@ stands_to v s out st = record {
 pub stands_from : (v : Framing) (s : List ℕ) (out : ℕ) → StandsFor v s out → Stands v s out
 stands_from v s out st =
     let same = sure_only s st.frames st.are_sure in
-    let fits : out ≤ length (sure s) = subst (λ (fs : List Found). out ≤ length fs) same st.out_of_sure in
-    let holds : AreHeld s (sure s) out v.held = subst (λ fs. AreHeld s fs out v.held) same st.held in
+    let fits : out ≤ length (sure s) =
+    subst (λ (fs : List Found). out ≤ length fs) same st.out_of_sure in
+    let holds : AreHeld s (sure s) out v.held =
+    subst (λ fs. AreHeld s fs out v.held) same st.held in
     record {
       fed = st.fed;
       out_of_sure = fits;

@@ -18,7 +18,8 @@ all_agree : (xs ys : List ℕ) → AllByRecursion (λ x. x ≡ 55) xs → AllByR
     → agrees xs ys ≡ true
 all_agree [] ys a b = refl
 all_agree (x ∷ xs) [] a b = refl
-all_agree (x ∷ xs) (y ∷ ys) a b = let e : eqb x y ≡ true = eq-eqb x y (a.0 ∙ sym b.0) in rw e (all_agree xs ys a.1 b.1)
+all_agree (x ∷ xs) (y ∷ ys) a b =
+    let e : eqb x y ≡ true = eq-eqb x y (a.0 ∙ sym b.0) in rw e (all_agree xs ys a.1 b.1)
 
 -- what agrees with a longer list of one octet has no other
 agree_all : (xs ys : List ℕ) → length xs ≤ length ys → agrees xs ys ≡ true
@@ -26,7 +27,9 @@ agree_all : (xs ys : List ℕ) → length xs ≤ length ys → agrees xs ys ≡ 
 agree_all [] ys l h b = tt
 agree_all (x ∷ xs) [] l h b = absurd (omega arith)
 agree_all (x ∷ xs) (y ∷ ys) l h b =
-    elim (eqb x y) as (λ v. eqb x y ≡ v → cond v (agrees xs ys) false ≡ true → AllByRecursion (λ x. x ≡ 55) (x ∷ xs)) [
+    elim (eqb x y) as
+    (λ v. eqb x y ≡ v → cond v (agrees xs ys) false ≡ true
+    → AllByRecursion (λ x. x ≡ 55) (x ∷ xs)) [
       | true ↦ λ e k. (eqb-true x y e ∙ b.0, agree_all xs ys (omega arith) k b.1)
       | false ↦ λ _ k. cc
     ] refl h
@@ -41,7 +44,9 @@ agrees_fronts [] [] h = refl
 agrees_fronts [] (y ∷ ys) h = refl
 agrees_fronts (x ∷ xs) [] h = refl
 agrees_fronts (x ∷ xs) (y ∷ ys) h =
-    elim (eqb x y) as (λ v. eqb x y ≡ v → cond v (agrees xs ys) false ≡ true → x ∷ take (length ys) xs ≡ y ∷ take (length xs) ys) [
+    elim (eqb x y) as
+    (λ v. eqb x y ≡ v → cond v (agrees xs ys) false ≡ true → x ∷ take (length ys) xs ≡ y
+    ∷ take (length xs) ys) [
       | true ↦ λ e k. let same : x ≡ y = eqb-true x y e in let rest = agrees_fronts xs ys k in cc
       | false ↦ λ _ k. cc
     ] refl h
@@ -51,7 +56,9 @@ fronts_agree : (xs ys : List ℕ) → take (length ys) xs ≡ take (length xs) y
 fronts_agree [] ys h = refl
 fronts_agree (x ∷ xs) [] h = refl
 fronts_agree (x ∷ xs) (y ∷ ys) h =
-    let e : eqb x y ≡ true = eq-eqb x y cc in let rest : take (length ys) xs ≡ take (length xs) ys = cc in rw e (fronts_agree xs ys rest)
+    let e : eqb x y ≡ true =
+    eq-eqb x y cc in let rest : take (length ys) xs ≡ take (length xs) ys =
+    cc in rw e (fronts_agree xs ys rest)
 
 -- what an open place says of the octets that follow it
 record Opens (t : List ℕ) (l : ℕ) : Type 0 where
@@ -62,22 +69,40 @@ record Opens (t : List ℕ) (l : ℕ) : Type 0 where
 -- why a place with a length is open
 open_parts : (l : ℕ) (t : List ℕ) → start_by (Some l) t ≡ Open → Opens t l
 open_parts l t h =
-    elim (nat_lt l 12) as (λ b. nat_lt l 12 ≡ b → cond b Other (cond (agrees (drop (l - 4) t) sevens) (cond (nat_le l (length t)) (Frame l) Open) Other) ≡ Open → Opens t l) [
+    elim (nat_lt l 12) as
+    (λ b. nat_lt l 12 ≡ b
+    → cond b Other
+    (cond (agrees (drop (l - 4) t) sevens) (cond (nat_le l (length t)) (Frame l) Open) Other)
+    ≡ Open → Opens t l) [
       | true ↦ λ _ e. cc
-      | false ↦ λ long e. elim (agrees (drop (l - 4) t) sevens) as (λ b. agrees (drop (l - 4) t) sevens ≡ b → cond b (cond (nat_le l (length t)) (Frame l) Open) Other ≡ Open → Opens t l) [
-        | true ↦ λ end e. elim (nat_le l (length t)) as (λ b. nat_le l (length t) ≡ b → cond b (Frame l) Open ≡ Open → Opens t l) [
-          | true ↦ λ _ e. cc
-          | false ↦ λ no_room _. record { long = ltb-false l 12 long; end = end; short = leb-false l (length t) no_room }
-        ] refl e
-        | false ↦ λ _ e. cc
-      ] refl e
+      | false ↦
+          λ long e. elim (agrees (drop (l - 4) t) sevens) as
+          (λ b. agrees (drop (l - 4) t) sevens ≡ b
+          → cond b (cond (nat_le l (length t)) (Frame l) Open) Other ≡ Open → Opens t l) [
+            | true ↦
+                λ end e. elim (nat_le l (length t)) as
+                (λ b. nat_le l (length t) ≡ b → cond b (Frame l) Open ≡ Open → Opens t l) [
+                  | true ↦ λ _ e. cc
+                  | false ↦
+                      λ no_room _.
+                      record {
+                        long = ltb-false l 12 long;
+                        end = end;
+                        short = leb-false l
+                            (length t) no_room;
+                      }
+                ] refl e
+            | false ↦ λ _ e. cc
+          ] refl e
     ] refl h
 
 -- what begins as `BUFR`
 marked : (t : List ℕ) → start_of t ≡ Open
     → (agrees t bufr ≡ true) × (start_by (announced t) t ≡ Open)
 marked t h =
-    elim (agrees t bufr) as (λ b. agrees t bufr ≡ b → cond b (start_by (announced t) t) Other ≡ Open → (agrees t bufr ≡ true) × (start_by (announced t) t ≡ Open)) [
+    elim (agrees t bufr) as
+    (λ b. agrees t bufr ≡ b → cond b (start_by (announced t) t) Other ≡ Open
+    → (agrees t bufr ≡ true) × (start_by (announced t) t ≡ Open)) [
       | true ↦ λ mark e. (mark, e)
       | false ↦ λ _ e. cc
     ] refl h
@@ -90,8 +115,11 @@ open_from s p o =
     let short = o.short in
     let enough = announced-length (drop p s) o.l o.told in
     let fewer : length (drop p s) < o.l = omega (arith, length-drop p s) in
-    let far : drop (o.l - 4) (drop p s) ≡ drop (p + o.l - 4) s = drop-drop (o.l - 4) p s ∙ ap (λ k. drop k s) (let e : p + (o.l - 4) ≡ p + o.l - 4 = omega arith in e) in
-    let end : agrees (drop (o.l - 4) (drop p s)) sevens ≡ true = ap (λ u. agrees u sevens) far ∙ all_agree (drop (p + o.l - 4) s) sevens o.end sevens_all in
+    let far : drop (o.l - 4) (drop p s) ≡ drop (p + o.l - 4) s =
+    drop-drop (o.l - 4) p s
+    ∙ ap (λ k. drop k s) (let e : p + (o.l - 4) ≡ p + o.l - 4 = omega arith in e) in
+    let end : agrees (drop (o.l - 4) (drop p s)) sevens ≡ true =
+    ap (λ u. agrees u sevens) far ∙ all_agree (drop (p + o.l - 4) s) sevens o.end sevens_all in
     let mark : agrees (drop p s) bufr ≡ true = agrees_from (drop p s) bufr o.mark in
     let at_least : nat_lt o.l 12 ≡ false = le-ltb o.l 12 long in
     let not_whole : nat_le o.l (length (drop p s)) ≡ false = lt-leb o.l (length (drop p s)) fewer in
@@ -106,12 +134,16 @@ open_to s p l h told =
     let long = parts.long in
     let fewer = parts.short in
     let enough = announced-length (drop p s) l told in
-    let last : length (drop (l - 4) (drop p s)) ≤ 4 = omega (arith, length-drop (l - 4) (drop p s)) in
+    let last : length (drop (l - 4) (drop p s)) ≤ 4 =
+    omega (arith, length-drop (l - 4) (drop p s)) in
     let sevens_left = agree_all (drop (l - 4) (drop p s)) sevens last parts.end sevens_all in
-    let far : drop (l - 4) (drop p s) ≡ drop (p + l - 4) s = drop-drop (l - 4) p s ∙ ap (λ k. drop k s) (let e : p + (l - 4) ≡ p + l - 4 = omega arith in e) in
+    let far : drop (l - 4) (drop p s) ≡ drop (p + l - 4) s =
+    drop-drop (l - 4) p s
+    ∙ ap (λ k. drop k s) (let e : p + (l - 4) ≡ p + l - 4 = omega arith in e) in
     record {
       l = l;
-      mark = agrees_take (drop p s) bufr (let four : 4 ≤ length (drop p s) = omega arith in four) m.0;
+      mark =
+          agrees_take (drop p s) bufr (let four : 4 ≤ length (drop p s) = omega arith in four) m.0;
       told = told;
       long = long;
       short = omega (arith, length-drop p s);

@@ -19,14 +19,20 @@ pub record HandedOut (framer : Framing) (stream : List ℕ) (frames : List Found
 pub handed_more : (stream piece : List ℕ) (frames found : List Found) → frames ≡ sure stream
     → found ≡ drop (length (sure stream)) (sure (stream ++ piece))
     → frames ++ found ≡ sure (stream ++ piece)
-handed_more stream piece frames found e f = ap (λ (fs : List Found). fs ++ found) e ∙ ap (λ (fs : List Found). sure stream ++ fs) f ∙ sym (sure-piece stream piece)
+handed_more stream piece frames found e f =
+    ap (λ (fs : List Found). fs ++ found) e ∙ ap (λ (fs : List Found). sure stream ++ fs) f
+    ∙ sym (sure-piece stream piece)
 
 -- what the end adds
 pub handed_all : (stream : List ℕ) (frames found : List Found) → frames ≡ sure stream
     → found ≡ drop (length (sure stream)) (cut stream) → frames ++ found ≡ cut stream
-handed_all stream frames found e f = ap (λ (fs : List Found). fs ++ found) e ∙ ap (λ (fs : List Found). sure stream ++ fs) f ∙ sym (cut-end stream)
+handed_all stream frames found e f =
+    ap (λ (fs : List Found). fs ++ found) e ∙ ap (λ (fs : List Found). sure stream ++ fs) f
+    ∙ sym (cut-end stream)
 
 -- the pieces with one more are the octets so far and that piece
 pub joined_more : {X A : Type 0} (f : X → List A) (xs : List X) (i : ℕ) (d : X) → i < length xs
     → flat_map f (take (i + 1) xs) ≡ flat_map f (take i xs) ++ f (get_or xs i d)
-joined_more f xs i d h = ap (flat_map f) (take_more xs i d h) ∙ flat_map-append f (take i xs) (get_or xs i d ∷ []) ∙ ap (λ t. flat_map f (take i xs) ++ t) (append-nil (f (get_or xs i d)))
+joined_more f xs i d h =
+    ap (flat_map f) (take_more xs i d h) ∙ flat_map-append f (take i xs) (get_or xs i d ∷ [])
+    ∙ ap (λ t. flat_map f (take i xs) ++ t) (append-nil (f (get_or xs i d)))

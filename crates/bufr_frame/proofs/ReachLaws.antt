@@ -39,7 +39,8 @@ extends_more a b more e = (e.0 ++ more, ap (λ xs. xs ++ more) e.1 ∙ append_as
 -- they begin as before
 pub extends_front : (a b : List ℕ) → Extends a b → take (length a) b ≡ a
 extends_front a b e =
-    ap (take (length a)) e.1 ∙ take-append-le (length a) a e.0 (omega arith) ∙ take_all (length a) a (omega arith)
+    ap (take (length a)) e.1 ∙ take-append-le (length a) a e.0 (omega arith)
+    ∙ take_all (length a) a (omega arith)
 
 -- ---- what is passed over
 
@@ -96,21 +97,28 @@ passed_other held next first room others = record {
   rest = refl;
   others = λ k l. elim (leb_tells 1 k) [
     | inl later ↦ no_mark (drop k held) (others k later.1 l)
-    | inr none ↦ let low = none.1 in subst (λ j. start_of (drop j held) ≡ Other) (let e : 0 ≡ k = omega arith in e) first
+    | inr none ↦ let low = none.1 in
+        subst (λ j. start_of (drop j held) ≡ Other) (let e : 0 ≡ k = omega arith in e) first
   ];
 }
 
 -- what disagrees does so in its first octets
 disagrees_front : (n : ℕ) (xs ys : List ℕ) → (length ys ≤ n) ⊎ (length xs ≤ n)
     → agrees xs ys ≡ false → agrees (take n xs) ys ≡ false
-disagrees_front zero xs [] l h = elim xs as (λ (zs : List ℕ). agrees zs [] ≡ false → agrees (take 0 zs) [] ≡ false) [ [] ↦ λ e. e | x ∷ zs ↦ λ e. cc ] h
+disagrees_front zero xs [] l h =
+    elim xs as (λ (zs : List ℕ). agrees zs [] ≡ false → agrees (take 0 zs) [] ≡ false)
+    [ [] ↦ λ e. e | x ∷ zs ↦ λ e. cc ] h
 disagrees_front zero [] (y ∷ ys) l h = h
-disagrees_front zero (x ∷ xs) (y ∷ ys) l h = elim l [ inl a ↦ absurd (omega arith) | inr a ↦ absurd (omega arith) ]
+disagrees_front zero (x ∷ xs) (y ∷ ys) l h =
+    elim l [ inl a ↦ absurd (omega arith) | inr a ↦ absurd (omega arith) ]
 disagrees_front (suc n) [] ys l h = h
 disagrees_front (suc n) (x ∷ xs) [] l h = h
 disagrees_front (suc n) (x ∷ xs) (y ∷ ys) l h =
-    elim (eqb x y) as (λ b. cond b (agrees xs ys) false ≡ false → cond b (agrees (take n xs) ys) false ≡ false) [
-      | true ↦ λ e. disagrees_front n xs ys (elim l [ inl a ↦ inl (omega arith) | inr a ↦ inr (omega arith) ]) e
+    elim (eqb x y) as
+    (λ b. cond b (agrees xs ys) false ≡ false → cond b (agrees (take n xs) ys) false ≡ false) [
+      | true ↦
+          λ e. disagrees_front n xs ys
+          (elim l [ inl a ↦ inl (omega arith) | inr a ↦ inr (omega arith) ]) e
       | false ↦ λ e. refl
     ] h
 
@@ -149,12 +157,14 @@ passed_frames place all held p =
     let size : length held ≡ length all - p.n = ap length p.rest ∙ length-drop p.n all in
     frames_pass false place p.n all p.within p.others
     ∙ ap (λ h. frames_from false (place + p.n) 0 h) (sym p.rest)
-    ∙ ap (λ q. frames_from false q 0 held) (let e : place + p.n ≡ place + (length all - length held) = omega arith in e)
+    ∙ ap (λ q. frames_from false q 0 held)
+    (let e : place + p.n ≡ place + (length all - length held) = omega arith in e)
 
 -- and so is what is left after them
 pub passed_rest : (out : ℕ) (all held : List ℕ) → IsPassedTo all held
     → rest_from out 0 all ≡ rest_from out 0 held
-passed_rest out all held p = rest_pass out p.n all p.within p.others ∙ ap (rest_from out 0) (sym p.rest)
+passed_rest out all held p =
+    rest_pass out p.n all p.within p.others ∙ ap (rest_from out 0) (sym p.rest)
 
 -- where what is held is open, there is no frame
 pub takes_none : (place : ℕ) (all held : List ℕ) → IsPassedTo all held → start_of held ≡ Open
@@ -170,7 +180,9 @@ pub takes_held : (place l : ℕ) (all held left : List ℕ) (frame : Found) → 
     → frame ≡ record { place = place + (length all - length held); bytes = take l held }
     → TakesFrame place all left frame
 takes_held place l all held left frame p h rest is =
-    let fs = passed_frames place all held p ∙ one_frame false (place + (length all - length held)) l held h in
+    let fs =
+    passed_frames place all held p
+    ∙ one_frame false (place + (length all - length held)) l held h in
     record {
       next = ap (λ (xs : List Found). slice_get xs 0) fs ∙ ap Some (sym is);
       held_is = rest ∙ sym (passed_rest 1 all held p ∙ one_rest 0 l held h);
@@ -185,7 +197,8 @@ frame_front octets l h =
     let whole : take l octets ++ drop l octets ≡ octets = take-append-drop l octets in
     let same : start_of (take l octets ++ drop l octets) ≡ Frame l = ap start_of whole ∙ h in
     elim (start_of (take l octets)) as (λ u. start_of (take l octets) ≡ u → u ≡ Frame l) [
-      | Other ↦ λ e. let no : Other ≡ Frame l = sym (Other-append (take l octets) (drop l octets) e) ∙ same in cc
+      | Other ↦ λ e. let no : Other ≡ Frame l = sym (Other-append (take l octets) (drop l octets) e)
+          ∙ same in cc
       | Frame k ↦ λ e. sym (Frame-append (take l octets) (drop l octets) k e) ∙ same
       | Open ↦ λ e. absurd (open_front octets l h e)
     ] refl
@@ -200,7 +213,8 @@ frame_front octets l h =
         elim (announced (take l octets)) as (λ o. announced (take l octets) ≡ o → ⊥) [
           | None ↦ λ none. let few = unannounced_short (take l octets) none in omega arith
           | Some k ↦ λ told.
-              let more : announced (take l octets ++ drop l octets) ≡ Some k = announced-append (take l octets) (drop l octets) k told in
+              let more : announced (take l octets ++ drop l octets) ≡ Some k =
+              announced-append (take l octets) (drop l octets) k told in
               let same : Some k ≡ Some l = sym more ∙ ap announced whole ∙ b.told in
               let is : k ≡ l = cc in
               let waits = open_to (take l octets) 0 k e told in
@@ -223,16 +237,20 @@ takes_piece place skip l all held rest frame p s is =
     let x = take (skip + l) rest in
     let front = take l (drop skip rest) in
     let begun : IsPassedTo x front = passed_begun rest skip l room (inl (omega arith)) s.others in
-    let more : IsPassedTo (all ++ x) x = subst (λ h. IsPassedTo (all ++ x) (h ++ x)) s.nothing (passed_more all held x p) in
+    let more : IsPassedTo (all ++ x) x =
+    subst (λ h. IsPassedTo (all ++ x) (h ++ x)) s.nothing (passed_more all held x p) in
     let reached : IsPassedTo (all ++ x) front = passed_then (all ++ x) x front more begun in
     let size : length x ≡ skip + l = length-take-le (skip + l) rest room in
     let long_front : length front ≡ l = length-take-le l (drop skip rest) fits in
-    let here : place + (length all + skip) ≡ place + (length (all ++ x) - length front) = omega (arith, length-append all x) in
+    let here : place + (length all + skip) ≡ place + (length (all ++ x) - length front) =
+    omega (arith, length-append all x) in
     let itself : front ≡ take l front = sym (take_all l front (omega arith)) in
     takes_held place l (all ++ x) front [] frame reached (frame_front (drop skip rest) l s.frame)
     (ap (rest_from 0 0) (sym (drop_all l front (omega arith))))
     (is ∙ ap (λ (q : ℕ). let f : Found = record { place = q; bytes = front } in f) here
-    ∙ ap (λ (b : List ℕ). let f : Found = record { place = place + (length (all ++ x) - length front); bytes = b } in f) itself)
+    ∙ ap
+    (λ (b : List ℕ). let f : Found =
+    record { place = place + (length (all ++ x) - length front); bytes = b } in f) itself)
 
 -- ---- a call so far
 
@@ -282,13 +300,17 @@ reaching_other held before kept piece from taken next r h later room others =
     let size = length-drop from kept in
     let short = r.short in
     let over : IsPassedTo (drop from kept) (drop d (drop from kept)) =
-    passed_other (drop from kept) d h (omega arith) (λ k a b. ap (λ t. agrees t bufr) (drop-drop k from kept) ∙ others (from + k) (omega arith) (omega arith)) in
+    passed_other (drop from kept) d h (omega arith)
+    (λ k a b. ap (λ t. agrees t bufr) (drop-drop k from kept)
+    ∙ others (from + k) (omega arith) (omega arith)) in
     record {
       kept_on = r.kept_on;
       within = room;
       taken_in = r.taken_in;
       short = omega (arith, length-drop next kept);
-      passed = passed_then (held ++ take taken piece) (drop from kept) (drop next kept) r.passed (subst (IsPassedTo (drop from kept)) far over);
+      passed =
+          passed_then (held ++ take taken piece) (drop from kept) (drop next kept) r.passed
+          (subst (IsPassedTo (drop from kept)) far over);
     }
 
 -- more of the piece is taken in
@@ -304,21 +326,26 @@ reaching_more held before kept after piece from taken n r m =
     let now_held : drop from after ≡ drop from kept ++ m.kept =
     ap (drop from) m.appended ∙ drop-append-le from kept m.kept within in
     let all : held ++ take (taken + n) piece ≡ (held ++ take taken piece) ++ take n rest =
-    ap (λ t. held ++ t) (take-add taken n piece) ∙ sym (append_assoc held (take taken piece) (take n rest)) in
+    ap (λ t. held ++ t) (take-add taken n piece)
+    ∙ sym (append_assoc held (take taken piece) (take n rest)) in
     let more : IsPassedTo ((held ++ take taken piece) ++ take n rest) (drop from kept ++ m.kept) =
-    passed_then _ _ _ (passed_more (held ++ take taken piece) (drop from kept) (take n rest) r.passed) m.passed in
+    passed_then _ _ _
+    (passed_more (held ++ take taken piece) (drop from kept) (take n rest) r.passed) m.passed in
     let short = m.short in
     record {
       kept_on = subst (Extends before) (sym m.appended) (extends_more before kept m.kept r.kept_on);
       within = omega (arith, ap length m.appended, length-append kept m.kept);
       taken_in = omega (arith, length-drop taken piece);
       short = omega (arith, ap length now_held, length-append (drop from kept) m.kept);
-      passed = subst (λ t. IsPassedTo t (drop from after)) (sym all) (subst (IsPassedTo ((held ++ take taken piece) ++ take n rest)) (sym now_held) more);
+      passed =
+          subst (λ t. IsPassedTo t (drop from after)) (sym all)
+          (subst (IsPassedTo ((held ++ take taken piece) ++ take n rest)) (sym now_held) more);
     }
 
 -- how much is left to do
 abbrev pub left_to_do : List ℕ → List ℕ → ℕ → ℕ → ℕ
-left_to_do kept piece from taken = (length piece - taken) + (length piece - taken) + (length kept - from)
+left_to_do kept piece from taken =
+    (length piece - taken) + (length piece - taken) + (length kept - from)
 
 -- it gets less
 pub less_to_do : (kept after piece : List ℕ) (from taken n : ℕ) → from ≤ length kept
@@ -328,11 +355,13 @@ less_to_do kept after piece from taken n within inside m =
     let some = m.some in
     let in_rest = m.within in
     let held = drop from kept in
-    let taken_more : length (take n (drop taken piece)) ≡ n = length-take-le n (drop taken piece) in_rest in
+    let taken_more : length (take n (drop taken piece)) ≡ n =
+    length-take-le n (drop taken piece) in_rest in
     let p_within = m.passed.within in
     let rest : length (held ++ m.kept) ≡ length (held ++ take n (drop taken piece)) - m.passed.n =
     ap length m.passed.rest ∙ length-drop m.passed.n (held ++ take n (drop taken piece)) in
-    let few : length m.kept ≤ n = omega (arith, length-append held m.kept, length-append held (take n (drop taken piece))) in
+    let few : length m.kept ≤ n =
+    omega (arith, length-append held m.kept, length-append held (take n (drop taken piece))) in
     omega (arith, ap length m.appended, length-append kept m.kept, length-drop taken piece)
 
 -- ---- what a call answers
@@ -351,7 +380,8 @@ rest_here (Some l) t some none = frame_rest l t some
 length_all : (held piece : List ℕ) (taken : ℕ) → taken ≤ length piece
     → length (held ++ take taken piece) ≡ length held + taken
 length_all held piece taken room =
-    length-append held (take taken piece) ∙ ap (λ n. length held + n) (length-take-le taken piece room)
+    length-append held (take taken piece)
+    ∙ ap (λ n. length held + n) (length-take-le taken piece room)
 
 -- a frame that begins what is held
 pub answers_held : (fed : ℕ) (held kept after piece : List ℕ) (r : Reached) (l next from : ℕ)
@@ -363,7 +393,8 @@ pub answers_held : (fed : ℕ) (held kept after piece : List ℕ) (r : Reached) 
     → frame
     ≡ record { place = (fed + r.taken) - (length kept - r.from); bytes = take l (drop r.from kept) }
     → Takes fed held after piece (record { found = Some frame; from = from; taken = r.taken })
-answers_held fed held kept after piece r l next from frame known s stop past room passed here same within half is =
+answers_held fed held kept after piece r l next from frame known s stop past room passed here same
+    within half is =
     let now = drop r.from kept in
     let all = held ++ take r.taken piece in
     let start : start_of now ≡ Frame l = subst (StopsAt now (drop r.taken piece)) stop s.stops in
@@ -371,11 +402,13 @@ answers_held fed held kept after piece r l next from frame known s stop past roo
     let some = s.within in
     let size = length-drop r.from kept in
     let p_within = s.passed.within in
-    let fewer : length now ≡ length all - s.passed.n = ap length s.passed.rest ∙ length-drop s.passed.n all in
+    let fewer : length now ≡ length all - s.passed.n =
+    ap length s.passed.rest ∙ length-drop s.passed.n all in
     let sum = length_all held piece r.taken s.taken in
     let left : drop from after ≡ rest_from 0 0 (drop l now) =
     same ∙ sym (passed ∙ here) ∙ ap (rest_from 0 0) (sym (drop-drop l r.from kept)) in
-    let place : (fed + r.taken) - (length kept - r.from) ≡ (fed - length held) + (length all - length now) = omega arith in
+    let place : (fed + r.taken) - (length kept - r.from)
+    ≡ (fed - length held) + (length all - length now) = omega arith in
     record {
       within = within;
       half = half;
@@ -383,14 +416,17 @@ answers_held fed held kept after piece r l next from frame known s stop past roo
       taken = s.taken;
       all = λ e. cc;
       found = takes_held (fed - length held) l all now (drop from after) frame s.passed start left
-          (is ∙ ap (λ (q : ℕ). let f : Found = record { place = q; bytes = take l now } in f) place);
+          (is
+          ∙ ap
+          (λ (q : ℕ). let f : Found = record { place = q; bytes = take l now } in f) place);
     }
 
 -- a frame in the piece lies in it
 pub piece_room : (held kept piece : List ℕ) (r : Reached) (skip l : ℕ) → Reaches held kept piece r
     → r.stop ≡ Piece skip l → (r.taken + skip) + l ≤ length piece
 piece_room held kept piece r skip l s stop =
-    let at : StandsInPiece (drop r.from kept) (drop r.taken piece) skip l = subst (StopsAt (drop r.from kept) (drop r.taken piece)) stop s.stops in
+    let at : StandsInPiece (drop r.from kept) (drop r.taken piece) skip l =
+    subst (StopsAt (drop r.from kept) (drop r.taken piece)) stop s.stops in
     let fits = frame_fits (drop skip (drop r.taken piece)) l at.frame in
     let long = frame_moves (drop skip (drop r.taken piece)) l at.frame in
     let within = at.within in
@@ -415,12 +451,26 @@ answers_piece fed held kept after piece r skip l from frame known s stop same wi
     let far : drop (r.taken + skip) piece ≡ drop skip rest = sym (drop-drop skip r.taken piece) in
     let none : drop from after ≡ [] = same ∙ at.nothing in
     let more : held ++ take ((r.taken + skip) + l) piece ≡ all ++ take (skip + l) rest =
-    ap (λ n. held ++ take n piece) (let e : (r.taken + skip) + l ≡ r.taken + (skip + l) = omega arith in e)
-    ∙ ap (λ t. held ++ t) (take-add r.taken (skip + l) piece) ∙ sym (append_assoc held (take r.taken piece) (take (skip + l) rest)) in
-    let frame_is : frame ≡ record { place = (fed - length held) + (length all + skip); bytes = take l (drop skip rest) } =
-    is ∙ ap (λ (q : ℕ). let f : Found = record { place = q; bytes = take l (drop (r.taken + skip) piece) } in f) place
-    ∙ ap (λ (t : List ℕ). let f : Found = record { place = (fed - length held) + (length all + skip); bytes = take l t } in f) far in
-    let one : TakesFrame (fed - length held) (all ++ take (skip + l) rest) [] frame = takes_piece (fed - length held) skip l all now rest frame s.passed at frame_is in
+    ap (λ n. held ++ take n piece)
+    (let e : (r.taken + skip) + l ≡ r.taken + (skip + l) = omega arith in e)
+    ∙ ap (λ t. held ++ t) (take-add r.taken (skip + l) piece)
+    ∙ sym (append_assoc held (take r.taken piece) (take (skip + l) rest)) in
+    let frame_is : frame
+    ≡
+    record {
+      place = (fed - length held) + (length all + skip);
+      bytes = take l
+          (drop skip rest);
+    } =
+    is
+    ∙ ap
+    (λ (q : ℕ). let f : Found =
+    record { place = q; bytes = take l (drop (r.taken + skip) piece) } in f) place
+    ∙ ap
+    (λ (t : List ℕ). let f : Found =
+    record { place = (fed - length held) + (length all + skip); bytes = take l t } in f) far in
+    let one : TakesFrame (fed - length held) (all ++ take (skip + l) rest) [] frame =
+    takes_piece (fed - length held) skip l all now rest frame s.passed at frame_is in
     record {
       within = within;
       half = half;
@@ -428,7 +478,8 @@ answers_piece fed held kept after piece r skip l from frame known s stop same wi
       taken = piece_room held kept piece r skip l s stop;
       all = λ e. cc;
       found = subst (λ t. TakesFrame (fed - length held) t (drop from after) frame) (sym more)
-          (subst (λ t. TakesFrame (fed - length held) (all ++ take (skip + l) rest) t frame) (sym none) one);
+          (subst (λ t. TakesFrame (fed - length held) (all ++ take (skip + l) rest) t frame)
+          (sym none) one);
     }
 
 -- no frame, and all of the piece is taken in
@@ -438,7 +489,8 @@ pub answers_none : (fed : ℕ) (held kept after piece : List ℕ) (r : Reached) 
     → Takes fed held after piece (record { found = None; from = from; taken = r.taken })
 answers_none fed held kept after piece r from s stop same within half =
     let now = drop r.from kept in
-    let at : StopsNowhere now (drop r.taken piece) = subst (StopsAt now (drop r.taken piece)) stop s.stops in
+    let at : StopsNowhere now (drop r.taken piece) =
+    subst (StopsAt now (drop r.taken piece)) stop s.stops in
     let taken = s.taken in
     let short = s.short in
     record {
@@ -457,7 +509,9 @@ answers_none fed held kept after piece r from s stop same within half =
 pub taken_is : (piece : List ℕ) (taken : ℕ) → taken ≤ length piece
     → taken_in piece (take (length piece - taken) (drop taken piece)) ≡ take taken piece
 taken_is piece taken room =
-    ap (λ n. take n piece) (let e : length piece - length (take (length piece - taken) (drop taken piece)) ≡ taken = omega (arith, ap length (take_rest piece taken), length-drop taken piece) in e)
+    ap (λ n. take n piece)
+    (let e : length piece - length (take (length piece - taken) (drop taken piece))
+    ≡ taken = omega (arith, ap length (take_rest piece taken), length-drop taken piece) in e)
 
 -- the first behind a list is that of the next
 get_after : (xs ys : List Found) → slice_get (xs ++ ys) (length xs) ≡ slice_get ys 0
@@ -486,7 +540,9 @@ stands_next v taken held n (Some frame) size t = λ stream out stands.
     let some : 0 < length later = slice_get_within later 0 frame t.next in
     let st = Stands-more v stream out 1 taken stands (omega arith) in
     subst (λ k. Stands (record { fed = v.fed + k; held = held }) (stream ++ taken) (out + 1)) size
-    (subst (λ h. Stands (record { fed = v.fed + length taken; held = h }) (stream ++ taken) (out + 1)) (sym t.held_is) st)
+    (subst
+    (λ h. Stands (record { fed = v.fed + length taken; held = h }) (stream ++ taken) (out + 1))
+    (sym t.held_is) st)
 
 -- where there is none, no frame is sure
 pub no_frame : (v : Framing) (taken held : List ℕ) → TakesNone (place_of v) (v.held ++ taken) held
@@ -494,7 +550,13 @@ pub no_frame : (v : Framing) (taken held : List ℕ) → TakesNone (place_of v) 
 no_frame v taken held t = λ stream out stands.
     let fits = stands.out_of_sure in
     let all = Stands-sure v stream out taken stands in
-    omega (arith, ap length all, length-append (take out (sure stream)) (frames_from false (place_of v) 0 (v.held ++ taken)), length-take-le out (sure stream) fits, ap length t.none)
+    omega (
+      arith,
+      ap length all,
+      length-append (take out (sure stream)) (frames_from false (place_of v) 0 (v.held ++ taken)),
+      length-take-le out (sure stream) fits,
+      ap length t.none,
+    )
 
 -- and the framer goes on to hold what it must
 pub stands_on : (v : Framing) (taken held : List ℕ) (n : ℕ) → length taken ≡ n
@@ -503,10 +565,13 @@ pub stands_on : (v : Framing) (taken held : List ℕ) (n : ℕ) → length taken
 stands_on v taken held n size t = λ stream out stands.
     let st = Stands-more v stream out 0 taken stands (omega arith) in
     subst (λ k. Stands (record { fed = v.fed + k; held = held }) (stream ++ taken) (out + 0)) size
-    (subst (λ h. Stands (record { fed = v.fed + length taken; held = h }) (stream ++ taken) (out + 0)) (sym t.held_is) st)
+    (subst
+    (λ h. Stands (record { fed = v.fed + length taken; held = h }) (stream ++ taken) (out + 0))
+    (sym t.held_is) st)
 
 -- no more is held than was held and taken in
 pub held_taken : (place : ℕ) (all held : List ℕ) (found : Option Found)
     → TakesOneOrNone found place all held → length held ≤ length all
 held_taken place all held None t = omega (arith, ap length t.held_is, rest_from-length 0 0 all)
-held_taken place all held (Some frame) t = omega (arith, ap length t.held_is, rest_from-length 1 0 all)
+held_taken place all held (Some frame) t =
+    omega (arith, ap length t.held_is, rest_from-length 1 0 all)

@@ -12,18 +12,25 @@ use Rattle.bufr_frame.specs.StreamLaws.{begins_from, frames_other, frames_open, 
 use Rattle.bufr_frame.specs.StreamLaws.{rest_other, rest_open, rest_frame}
 
 -- the frames found so far and those from here on are all, and so is what is left after some of them
-pub record Scanned (ended : Bool) (place : ℕ) (octets : List ℕ) (frames : List Found) (here : ℕ) : Type 0 where
+pub record Scanned (ended : Bool) (place : ℕ) (octets : List ℕ) (frames : List Found)
+    (here : ℕ) : Type 0 where
   pub within : here ≤ length octets
-  pub all_frames : frames_from ended place 0 octets ≡ frames ++ frames_from ended (place + here) 0 (drop here octets)
-  pub all_rest : ended ≡ false → (n : ℕ) → rest_from (length frames + n) 0 octets ≡ rest_from n 0 (drop here octets)
+  pub all_frames : frames_from ended place 0 octets ≡ frames
+      ++ frames_from ended (place + here) 0 (drop here octets)
+  pub all_rest : ended ≡ false → (n : ℕ) → rest_from (length frames + n) 0 octets
+      ≡ rest_from n 0 (drop here octets)
 
 -- octets that belong to the frame before are passed over
 frames_skip : (ended : Bool) (place skip : ℕ) (xs : List ℕ) → skip ≤ length xs
     → frames_from ended place skip xs ≡ frames_from ended (place + skip) 0 (drop skip xs)
 frames_skip ended place zero [] h = refl
-frames_skip ended place zero (x ∷ xs) h = ap (λ p. frames_from ended p 0 (x ∷ xs)) (let e : place ≡ place + 0 = omega arith in e)
+frames_skip ended place zero (x ∷ xs) h =
+    ap (λ p. frames_from ended p 0 (x ∷ xs)) (let e : place ≡ place + 0 = omega arith in e)
 frames_skip ended place (suc skip) [] h = absurd (omega arith)
-frames_skip ended place (suc skip) (x ∷ xs) h = frames_skip ended (place + 1) skip xs (omega arith) ∙ ap (λ p. frames_from ended p 0 (drop skip xs)) (let e : (place + 1) + skip ≡ place + suc skip = omega arith in e)
+frames_skip ended place (suc skip) (x ∷ xs) h =
+    frames_skip ended (place + 1) skip xs (omega arith)
+    ∙ ap (λ p. frames_from ended p 0 (drop skip xs))
+    (let e : (place + 1) + skip ≡ place + suc skip = omega arith in e)
 
 -- the rest behind octets that are skipped
 rest_skip : (n skip : ℕ) (xs : List ℕ) → skip ≤ length xs
@@ -36,11 +43,14 @@ rest_skip n (suc skip) (x ∷ xs) h = rest_skip n skip xs (omega arith)
 pub frames_pass : (ended : Bool) (place d : ℕ) (xs : List ℕ) → d ≤ length xs
     → ((k : ℕ) → k < d → start_of (drop k xs) ≡ Other)
     → frames_from ended place 0 xs ≡ frames_from ended (place + d) 0 (drop d xs)
-frames_pass ended place zero xs h o = ap (λ p. frames_from ended p 0 xs) (let e : place ≡ place + 0 = omega arith in e)
+frames_pass ended place zero xs h o =
+    ap (λ p. frames_from ended p 0 xs) (let e : place ≡ place + 0 = omega arith in e)
 frames_pass ended place (suc d) [] h o = absurd (omega arith)
 frames_pass ended place (suc d) (x ∷ xs) h o =
-    frames_other ended place x xs (o 0 (omega arith)) ∙ frames_pass ended (place + 1) d xs (omega arith) (λ k l. o (suc k) (omega arith))
-    ∙ ap (λ p. frames_from ended p 0 (drop d xs)) (let e : (place + 1) + d ≡ place + suc d = omega arith in e)
+    frames_other ended place x xs (o 0 (omega arith))
+    ∙ frames_pass ended (place + 1) d xs (omega arith) (λ k l. o (suc k) (omega arith))
+    ∙ ap (λ p. frames_from ended p 0 (drop d xs))
+    (let e : (place + 1) + d ≡ place + suc d = omega arith in e)
 
 -- the rest behind octets at which no frame begins
 pub rest_pass : (n d : ℕ) (xs : List ℕ) → d ≤ length xs
@@ -48,13 +58,16 @@ pub rest_pass : (n d : ℕ) (xs : List ℕ) → d ≤ length xs
     → rest_from n 0 xs ≡ rest_from n 0 (drop d xs)
 rest_pass n zero xs h o = refl
 rest_pass n (suc d) [] h o = absurd (omega arith)
-rest_pass n (suc d) (x ∷ xs) h o = rest_other n x xs (o 0 (omega arith)) ∙ rest_pass n d xs (omega arith) (λ k l. o (suc k) (omega arith))
+rest_pass n (suc d) (x ∷ xs) h o =
+    rest_other n x xs (o 0 (omega arith))
+    ∙ rest_pass n d xs (omega arith) (λ k l. o (suc k) (omega arith))
 
 -- at the start nothing was found
 pub scanned_first : (ended : Bool) (place : ℕ) (octets : List ℕ) → Scanned ended place octets [] 0
 scanned_first ended place octets = record {
   within = omega arith;
-  all_frames = ap (λ p. frames_from ended p 0 octets) (let e : place ≡ place + 0 = omega arith in e);
+  all_frames =
+      ap (λ p. frames_from ended p 0 octets) (let e : place ≡ place + 0 = omega arith in e);
   all_rest = λ _ n. ap (λ k. rest_from k 0 octets) (let e : 0 + n ≡ n = omega arith in e);
 }
 
@@ -147,18 +160,25 @@ scanned_passed ended place octets frames from here s within same_frames same_res
 pub one_frame : (ended : Bool) (place l : ℕ) (t : List ℕ) → start_of t ≡ Frame l
     → frames_from ended place 0 t
     ≡ record { place = place; bytes = take l t } ∷ frames_from ended (place + l) 0 (drop l t)
-one_frame ended place l [] h = let b = (begins_from [] l h).whole in let c = (begins_from [] l h).long in absurd (omega arith)
-one_frame ended place zero (x ∷ xs) h = let c = (begins_from (x ∷ xs) zero h).long in absurd (omega arith)
+one_frame ended place l [] h =
+    let b = (begins_from [] l h).whole in let c = (begins_from [] l h).long in absurd (omega arith)
+one_frame ended place zero (x ∷ xs) h =
+    let c = (begins_from (x ∷ xs) zero h).long in absurd (omega arith)
 one_frame ended place (suc l) (x ∷ xs) h =
     let b = (begins_from (x ∷ xs) (suc l) h).whole in
     let less : suc l - 1 ≡ l = omega arith in
-    frames_frame ended place (suc l) x xs h ∙ ap (λ fs. record { place = place; bytes = take (suc l) (x ∷ xs) } ∷ fs)
-    (ap (λ k. frames_from ended (place + 1) k xs) less ∙ frames_skip ended (place + 1) l xs (omega arith) ∙ ap (λ p. frames_from ended p 0 (drop l xs)) (let e : (place + 1) + l ≡ place + suc l = omega arith in e))
+    frames_frame ended place (suc l) x xs h
+    ∙ ap (λ fs. record { place = place; bytes = take (suc l) (x ∷ xs) } ∷ fs)
+    (ap (λ k. frames_from ended (place + 1) k xs) less
+    ∙ frames_skip ended (place + 1) l xs (omega arith)
+    ∙ ap (λ p. frames_from ended p 0 (drop l xs))
+    (let e : (place + 1) + l ≡ place + suc l = omega arith in e))
 
 -- the rest behind one frame
 pub one_rest : (n l : ℕ) (t : List ℕ) → start_of t ≡ Frame l
     → rest_from (suc n) 0 t ≡ rest_from n 0 (drop l t)
-one_rest n l [] h = let b = (begins_from [] l h).whole in let c = (begins_from [] l h).long in absurd (omega arith)
+one_rest n l [] h =
+    let b = (begins_from [] l h).whole in let c = (begins_from [] l h).long in absurd (omega arith)
 one_rest n zero (x ∷ xs) h = let c = (begins_from (x ∷ xs) zero h).long in absurd (omega arith)
 one_rest n (suc l) (x ∷ xs) h =
     let b = (begins_from (x ∷ xs) (suc l) h).whole in
@@ -185,15 +205,27 @@ scanned_frame ended place octets frames here l s h =
     let f : Found = record { place = place + here; bytes = take l (drop here octets) } in
     record {
       within = omega (arith, length-drop here octets);
-      all_frames = s.all_frames ∙ ap (λ fs. frames ++ fs) (one_frame ended (place + here) l (drop here octets) h)
-          ∙ sym (append_assoc frames (f ∷ []) (frames_from ended ((place + here) + l) 0 (drop l (drop here octets))))
-          ∙ ap (λ fs. (frames ++ f ∷ []) ++ fs) (ap (λ t. frames_from ended ((place + here) + l) 0 t) far ∙ ap (λ p. frames_from ended p 0 (drop (here + l) octets)) (let e : (place + here) + l ≡ place + (here + l) = omega arith in e));
-      all_rest = λ e n. ap (λ k. rest_from k 0 octets) (let more : length (frames ++ f ∷ []) + n ≡ length frames + suc n = omega (arith, length-append frames (f ∷ [])) in more)
-          ∙ s.all_rest e (suc n) ∙ one_rest n l (drop here octets) h ∙ ap (λ t. rest_from n 0 t) far;
+      all_frames =
+          s.all_frames
+          ∙ ap (λ fs. frames ++ fs) (one_frame ended (place + here) l (drop here octets) h)
+          ∙ sym
+          (append_assoc frames (f ∷ [])
+          (frames_from ended ((place + here) + l) 0 (drop l (drop here octets))))
+          ∙ ap (λ fs. (frames ++ f ∷ []) ++ fs)
+          (ap (λ t. frames_from ended ((place + here) + l) 0 t) far
+          ∙ ap (λ p. frames_from ended p 0 (drop (here + l) octets))
+          (let e : (place + here) + l ≡ place + (here + l) = omega arith in e));
+      all_rest =
+          λ e n. ap (λ k. rest_from k 0 octets)
+          (let more : length (frames ++ f ∷ []) + n
+          ≡ length frames + suc n = omega (arith, length-append frames (f ∷ [])) in more)
+          ∙ s.all_rest e (suc n) ∙ one_rest n l (drop here octets) h
+          ∙ ap (λ t. rest_from n 0 t) far;
     }
 
 -- a scan that has come to its end
-pub record ScannedAll (ended : Bool) (place : ℕ) (octets : List ℕ) (frames : List Found) (here : ℕ) : Type 0 where
+pub record ScannedAll (ended : Bool) (place : ℕ) (octets : List ℕ) (frames : List Found)
+    (here : ℕ) : Type 0 where
   pub frames_are : frames ≡ frames_from ended place 0 octets
   pub rest_is : ended ≡ false → drop here octets ≡ rest_from (length frames) 0 octets
 
@@ -204,8 +236,15 @@ pub scanned_out : (ended : Bool) (place : ℕ) (octets : List ℕ) (frames : Lis
 scanned_out ended place octets frames here s h =
     let none : drop here octets ≡ [] = drop_all here octets h in
     record {
-      frames_are = sym (s.all_frames ∙ ap (λ t. frames ++ frames_from ended (place + here) 0 t) none ∙ append-nil frames);
-      rest_is = λ e. sym (ap (λ k. rest_from k 0 octets) (let z : length frames ≡ length frames + 0 = omega arith in z) ∙ s.all_rest e 0 ∙ ap (λ t. rest_from 0 0 t) none ∙ sym none);
+      frames_are =
+          sym
+          (s.all_frames ∙ ap (λ t. frames ++ frames_from ended (place + here) 0 t) none
+          ∙ append-nil frames);
+      rest_is =
+          λ e. sym
+          (ap (λ k. rest_from k 0 octets)
+          (let z : length frames ≡ length frames + 0 = omega arith in z) ∙ s.all_rest e 0
+          ∙ ap (λ t. rest_from 0 0 t) none ∙ sym none);
     }
 
 -- at an open place no frame is sure
@@ -223,8 +262,16 @@ pub scanned_open : (ended : Bool) (place : ℕ) (octets : List ℕ) (frames : Li
     → ended ≡ false → Scanned ended place octets frames here → start_of (drop here octets) ≡ Open
     → ScannedAll ended place octets frames here
 scanned_open ended place octets frames here is s h = record {
-  frames_are = sym (s.all_frames ∙ ap (λ fs. frames ++ fs) (ap (λ b. frames_from b (place + here) 0 (drop here octets)) is ∙ open_frames (place + here) (drop here octets) h) ∙ append-nil frames);
-  rest_is = λ e. sym (ap (λ k. rest_from k 0 octets) (let z : length frames ≡ length frames + 0 = omega arith in z) ∙ s.all_rest e 0 ∙ open_rest (drop here octets) h);
+  frames_are =
+      sym
+      (s.all_frames
+      ∙ ap (λ fs. frames ++ fs)
+      (ap (λ b. frames_from b (place + here) 0 (drop here octets)) is
+      ∙ open_frames (place + here) (drop here octets) h) ∙ append-nil frames);
+  rest_is =
+      λ e. sym
+      (ap (λ k. rest_from k 0 octets) (let z : length frames ≡ length frames + 0 = omega arith in z)
+      ∙ s.all_rest e 0 ∙ open_rest (drop here octets) h);
 }
 
 -- a scan has come to its end where nothing more is found: at an open place, or at the octets' end

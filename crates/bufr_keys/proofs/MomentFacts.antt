@@ -1,5 +1,6 @@
 -- The time that fields say, part by part: for `laws::moments_are_dates`.
-use Rattle.std.proofs.Common.{◌≡◌, ℕ, ◌≤◌, Bool, true, false, cond, Option, Some, None, List, ℤ, pos, negsuc, ◌≤ℤ◌, refl, ap, ◌∙◌, subst, arith}
+use Rattle.std.proofs.Common.{◌≡◌, ℕ, ◌≤◌, Bool, true, false, cond, Option, Some, None, List, ℤ}
+use Rattle.std.proofs.Common.{pos, negsuc, ◌≤ℤ◌, refl, ap, ◌∙◌, subst, arith}
 use Rattle.std.specs.Prelude.{◌&&◌, int_le, unsigned_abs}
 use Rattle.jiff.specs.Words.{days_in_month}
 use Rattle.jiff.proofs.SpanFacts.{signed_arith}

@@ -1,5 +1,6 @@
 -- Usable texts in the words of their rule: for `laws::usable_values`.
-use Rattle.std.proofs.Common.{◌≡◌, ◌⊎◌, inl, inr, ℕ, Bool, true, false, Some, List, [], ◌∷◌, ◌++◌, refl, sym, ap, ◌∙◌}
+use Rattle.std.proofs.Common.{◌≡◌, ◌⊎◌, inl, inr, ℕ, Bool, true, false, Some, List, [], ◌∷◌, ◌++◌}
+use Rattle.std.proofs.Common.{refl, sym, ap, ◌∙◌}
 use Rattle.bufr_tables.specs.declared.element.Kind.{Kind}
 use Rattle.bufr_tables.specs.declared.element.Kind.TheVariants as kinds
 use Rattle.bufr_data.specs.declared.field.Raw.{Raw}
@@ -8,7 +9,8 @@ use Rattle.bufr_data.specs.declared.field.Field.{Field}
 use Rattle.bufr_data.specs.Values.{is_missing}
 use Rattle.bufr_keys.specs.Usable.{without_last_blanks, some_octets, text_by, usable_text}
 use Rattle.bufr_keys.specs.Laws.{IsUsableText}
-use Rattle.bufr_keys.proofs.BlankFacts.{Ends, left_and_blanks, left_ends, blanks_are_cut, other_is_kept, ends_are_some}
+use Rattle.bufr_keys.proofs.BlankFacts.{Ends, left_and_blanks, left_ends, blanks_are_cut}
+use Rattle.bufr_keys.proofs.BlankFacts.{other_is_kept, ends_are_some}
 
 -- a text comes of octets alone
 record Comes (kind : Kind) (raw : Raw) (missing : Bool) (text : List ℕ) : Type 0 where

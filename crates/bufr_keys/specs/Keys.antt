@@ -1,5 +1,6 @@
 -- The key of a report: its station and its time, as the fields of its subset say them.
-use Rattle.std.specs.Prelude.{ℕ, ◌&&◌, Bool, if◌then◌else◌, List, Option, Some, None, ℤ, pos, int_le, unsigned_abs}
+use Rattle.std.specs.Prelude.{ℕ, ◌&&◌, Bool, if◌then◌else◌, List, Option, Some, None, ℤ, pos}
+use Rattle.std.specs.Prelude.{int_le, unsigned_abs}
 use Rattle.jiff.specs.Words.{days_in_month}
 use Rattle.bufr_data.specs.declared.field.Field.{Field}
 use Rattle.bufr_shelves.specs.declared.key.Station.{Station}

@@ -1,5 +1,6 @@
 -- Which numbers and texts of fields count for the key of a report.
-use Rattle.std.specs.Prelude.{ℕ, ◌==◌, ◌||◌, Bool, if◌then◌else◌, List, [], ◌∷◌, find, Option, Some, None, ℤ, pos}
+use Rattle.std.specs.Prelude.{ℕ, ◌==◌, ◌||◌, Bool, if◌then◌else◌, List, [], ◌∷◌, find, Option, Some}
+use Rattle.std.specs.Prelude.{None, ℤ, pos}
 use Rattle.bufr_tables.specs.declared.element.Kind.{Kind}
 use Rattle.bufr_tables.specs.declared.element.Kind.TheVariants as kinds
 use Rattle.bufr_tables.specs.Descriptors.{descriptor}

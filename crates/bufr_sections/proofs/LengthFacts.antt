@@ -1,12 +1,15 @@
 -- How long the octets of a message are: for `spell`, and for the law on the shortest spelling.
-use Rattle.std.proofs.Common.{◌≡◌, ℕ, ◌+◌, ◌*◌, ◌≤◌, Option, Some, None, List, [], ◌∷◌, ◌++◌, length, codes, refl, ap, ◌∙◌, arith, append_assoc}
+use Rattle.std.proofs.Common.{◌≡◌, ℕ, ◌+◌, ◌*◌, ◌≤◌, Option, Some, None, List, [], ◌∷◌, ◌++◌}
+use Rattle.std.proofs.Common.{length, codes, refl, ap, ◌∙◌, arith, append_assoc}
 use Rattle.std.specs.List.{flat_map}
 use Rattle.std.specs.Int.{bytes_high_first}
 use Rattle.std.proofs.lemmas.List.{length-append, append-nil}
 use Rattle.bufr_sections.specs.declared.layout.Layout.{Layout}
 use Rattle.bufr_sections.specs.declared.layout.Layout.TheVariants.{Edition4}
 use Rattle.bufr_sections.specs.Spelt.{bare}
-use Rattle.bufr_sections.specs.Sections.{flag, Envelope, Ignored, spelling, sections, enclosed, is_present, nothing_ignored, section, section1, section2, section3, section4}
+use Rattle.bufr_sections.specs.Sections.{flag, Envelope, Ignored, spelling, sections, enclosed}
+use Rattle.bufr_sections.specs.Sections.{is_present, nothing_ignored, section, section1, section2}
+use Rattle.bufr_sections.specs.Sections.{section3, section4}
 
 -- two octets a descriptor
 pub length_of_descriptors : (ds : List ℕ)
@@ -34,7 +37,10 @@ length_of_section3 e =
 -- four lists joined
 pub four_parts : (a b c d : List ℕ)
     → length (a ++ b ++ c ++ d) ≡ length a + length b + length c + length d
-four_parts a b c d = let first = length-append a b in let second = length-append (a ++ b) c in let third = length-append (a ++ b ++ c) d in omega arith
+four_parts a b c d =
+    let first =
+    length-append a b in let second =
+    length-append (a ++ b) c in let third = length-append (a ++ b ++ c) d in omega arith
 
 -- sections 1 to 4 without what is free
 pub length_of_sections : (e : Envelope)
@@ -42,7 +48,9 @@ pub length_of_sections : (e : Envelope)
     + length (section2 e.section2 0) + 2 * length e.descriptors + length e.contents
 unfolding sections
 length_of_sections e =
-    let parts = four_parts (section1 Edition4 e.head (is_present e.section2) nothing_ignored) (section2 e.section2 0) (section3 e nothing_ignored) (section4 e.contents 0) in
+    let parts =
+    four_parts (section1 Edition4 e.head (is_present e.section2) nothing_ignored)
+    (section2 e.section2 0) (section3 e nothing_ignored) (section4 e.contents 0) in
     let third = length_of_section3 e in
     omega arith
 
@@ -51,7 +59,10 @@ pub length_of_spelling : (e : Envelope)
     → length (spelling Edition4 e nothing_ignored) ≡ 45 + length e.head.local
     + length (section2 e.section2 0) + 2 * length e.descriptors + length e.contents
 unfolding spelling
-length_of_spelling e = let all = length_of_sections e in let whole = length_of_enclosed Edition4 (sections Edition4 e nothing_ignored) in omega arith
+length_of_spelling e =
+    let all =
+    length_of_sections e in let whole =
+    length_of_enclosed Edition4 (sections Edition4 e nothing_ignored) in omega arith
 
 -- section 3 without an odd octet
 pub section3_is : (e : Envelope)
@@ -67,7 +78,9 @@ pub section_of_pieces : (old one two new front back : List ℕ) (n : ℕ)
 section_of_pieces old one two new front back n long first second third =
     let both = length-append front back in
     let total : n ≡ 3 + length (front ++ back) = omega arith in
-    third ∙ ap (λ x. x ++ back) (second ∙ ap (λ x. x ++ front) (first ∙ ap (λ m. old ++ bytes_high_first 3 m) total))
+    third
+    ∙ ap (λ x. x ++ back)
+    (second ∙ ap (λ x. x ++ front) (first ∙ ap (λ m. old ++ bytes_high_first 3 m) total))
     ∙ append_assoc (old ++ bytes_high_first 3 (3 + length (front ++ back))) front back
     ∙ append_assoc old (bytes_high_first 3 (3 + length (front ++ back))) (front ++ back)
 
@@ -83,11 +96,16 @@ spelling_is_long : (e : Envelope) (i : Ignored)
     + length e.contents ≤ length (spelling Edition4 e i)
 unfolding spelling sections
 spelling_is_long e i =
-    let parts = four_parts (section1 Edition4 e.head (is_present e.section2) i) (section2 e.section2 i.octet2) (section3 e i) (section4 e.contents i.octet4) in
+    let parts =
+    four_parts (section1 Edition4 e.head (is_present e.section2) i)
+    (section2 e.section2 i.octet2) (section3 e i) (section4 e.contents i.octet4) in
     let second = length_of_section2 e.section2 i.octet2 in
     let pairs = length_of_descriptors e.descriptors in
     let third = length-append (flat_map (bytes_high_first 2) e.descriptors) i.odd in
-    let whole = length_of_enclosed Edition4 (section1 Edition4 e.head (is_present e.section2) i ++ section2 e.section2 i.octet2 ++ section3 e i ++ section4 e.contents i.octet4) in
+    let whole =
+    length_of_enclosed Edition4
+    (section1 Edition4 e.head (is_present e.section2) i ++ section2 e.section2 i.octet2
+    ++ section3 e i ++ section4 e.contents i.octet4) in
     omega arith
 
 -- with no more octets in any part and nothing in what is free, a message is no longer

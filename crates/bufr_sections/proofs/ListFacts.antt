@@ -1,5 +1,6 @@
 -- Facts about lists that std does not have: for `descriptors_of`.
-use Rattle.std.proofs.Common.{◌≡◌, ℕ, zero, suc, ◌<◌, ◌≤◌, List, [], ◌∷◌, ◌++◌, length, take, drop, get_or, refl, ap, ◌∙◌, arith, append_assoc}
+use Rattle.std.proofs.Common.{◌≡◌, ℕ, zero, suc, ◌<◌, ◌≤◌, List, [], ◌∷◌, ◌++◌, length, take, drop}
+use Rattle.std.proofs.Common.{get_or, refl, ap, ◌∙◌, arith, append_assoc}
 use Rattle.bufr_sections.specs.Sections.{two, descriptors_of}
 
 -- as many elements as a list has
@@ -16,7 +17,9 @@ pub descriptors_more : (before rest : List ℕ) (d : ℕ) (all : List ℕ) → 2
 unfolding descriptors_of
 descriptors_more before [] d all h e is = absurd (omega arith)
 descriptors_more before (a ∷ []) d all h e is = absurd (omega arith)
-descriptors_more before (a ∷ b ∷ rest) d all h e is = append_assoc before (d ∷ []) (descriptors_of rest) ∙ ap (λ n. before ++ n ∷ descriptors_of rest) is ∙ e
+descriptors_more before (a ∷ b ∷ rest) d all h e is =
+    append_assoc before (d ∷ []) (descriptors_of rest)
+    ∙ ap (λ n. before ++ n ∷ descriptors_of rest) is ∙ e
 
 -- fewer than two octets are no descriptor
 pub descriptors_none : (rest : List ℕ) → length rest < 2 → descriptors_of rest ≡ []

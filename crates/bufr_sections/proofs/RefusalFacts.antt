@@ -1,9 +1,13 @@
 -- The sections of octets are refused for the first cause that the octets give: for the laws on
 -- refusals of sections.
-use Rattle.std.proofs.Common.{◌≡◌, ℕ, ◌+◌, ◌-◌, ◌/◌, ◌%◌, ◌<◌, ◌≤◌, Bool, true, false, not, cond, get_or, List, [], ◌∷◌, ◌++◌, length, take, drop, Option, Some, None, Result, Ok, Err, refl, sym, ap, ◌∙◌, arith, inl, inr, length-drop, length-take, get_or-take, get_or-drop}
+use Rattle.std.proofs.Common.{◌≡◌, ℕ, ◌+◌, ◌-◌, ◌/◌, ◌%◌, ◌<◌, ◌≤◌, Bool, true, false, not, cond}
+use Rattle.std.proofs.Common.{get_or, List, [], ◌∷◌, ◌++◌, length, take, drop, Option, Some, None}
+use Rattle.std.proofs.Common.{Result, Ok, Err, refl, sym, ap, ◌∙◌, arith, inl, inr, length-drop}
+use Rattle.std.proofs.Common.{length-take, get_or-take, get_or-drop}
 use Rattle.std.specs.Prelude.{◌==◌, ◌||◌, ◌&&◌, nat_lt, nat_le, if◌then◌else◌, codes, bytes_eq, All}
 use Rattle.std.specs.List.{AllByRecursion}
-use Rattle.std.proofs.lemmas.Bool.{cases_lt, ltb-true, ltb-false, lt-ltb, le-ltb, eqb-true, eqb-false, eq-eqb, ne_eqb}
+use Rattle.std.proofs.lemmas.Bool.{cases_lt, ltb-true, ltb-false, lt-ltb, le-ltb, eqb-true}
+use Rattle.std.proofs.lemmas.Bool.{eqb-false, eq-eqb, ne_eqb}
 use Rattle.std.proofs.lemmas.List.{drop_more, drop-drop, drop-take}
 use Rattle.std.proofs.lemmas.List.Elements.{All-nil, All-cons, All-head, All-tail}
 use Rattle.bufr_tables.specs.Answers.{◌>>=◌}
@@ -11,12 +15,20 @@ use Rattle.bufr_sections.specs.declared.fault.Refused.{Refused}
 use Rattle.bufr_sections.specs.declared.message.Head.{Head}
 use Rattle.bufr_sections.specs.declared.layout.Layout.{Layout}
 use Rattle.bufr_sections.specs.declared.layout.Layout.TheVariants.{Edition4, Edition3}
-use Rattle.bufr_sections.specs.declared.fault.Refused.TheVariants.{NotBufr, TotalLength, NoEnd, Section1Length, MasterTable, Section2Length, Section3Length, Section4Length}
-use Rattle.bufr_sections.specs.Sections.{Envelope, three, two, layout_of, layout_or, shortest1, room_in, room_of, section_at, head_of, local_at, Description, descriptors_of, description_of, contents_of, sections_of, envelope_of}
+use Rattle.bufr_sections.specs.declared.fault.Refused.TheVariants.{NotBufr, TotalLength, NoEnd}
+use Rattle.bufr_sections.specs.declared.fault.Refused.TheVariants.{Section1Length, MasterTable}
+use Rattle.bufr_sections.specs.declared.fault.Refused.TheVariants.{Section2Length, Section3Length}
+use Rattle.bufr_sections.specs.declared.fault.Refused.TheVariants.{Section4Length}
+use Rattle.bufr_sections.specs.Sections.{Envelope, three, two, layout_of, layout_or, shortest1}
+use Rattle.bufr_sections.specs.Sections.{room_in, room_of, section_at, head_of, local_at}
+use Rattle.bufr_sections.specs.Sections.{Description, descriptors_of, description_of, contents_of}
+use Rattle.bufr_sections.specs.Sections.{sections_of, envelope_of}
 use Rattle.bufr_sections.specs.SectionsRead.{head_with, head3_with}
 use Rattle.bufr_sections.proofs.HeadFacts.{head_is, head3_is}
 use Rattle.bufr_tables.specs.AnswerLaws.{or_first, not_false}
-use Rattle.bufr_sections.specs.Causes.{octet_at, length_at, room_end, announces_section2, place2, place3, place4, no_section, Cause, causes_in, causes, IsFirstRefusal, is_of_sections}
+use Rattle.bufr_sections.specs.Causes.{octet_at, length_at, room_end, announces_section2, place2}
+use Rattle.bufr_sections.specs.Causes.{place3, place4, no_section, Cause, causes_in, causes}
+use Rattle.bufr_sections.specs.Causes.{IsFirstRefusal, is_of_sections}
 
 -- ---- the first of causes
 
@@ -27,7 +39,9 @@ first (c ∷ cs) = cond c.1 (Some c.0) (first cs)
 
 -- causes before the one that is given are not
 abbrev Split : List Cause → Refused → Type 0
-Split cs fault = (before : List Cause) × (after : List Cause) × (cs ≡ before ++ (fault, true) ∷ after) × All (λ c. c.1 ≡ false) before
+Split cs fault =
+    (before : List Cause) × (after : List Cause) × (cs ≡ before ++ (fault, true) ∷ after)
+    × All (λ c. c.1 ≡ false) before
 
 -- one cause more in front
 split_more : (g : Refused) (b : Bool) (cs : List Cause) (f : Refused)
@@ -36,8 +50,12 @@ split_more g true cs f e more =
     let same : g ≡ f = cc in
     ([], cs, ap (λ h. (h, true) ∷ cs) same, All-nil (λ c. c.1 ≡ false))
 split_more g false cs f e more =
-    let s = more e in
-    ((g, false) ∷ s.0, s.1, ap (λ ds. (g, false) ∷ ds) s.2, All-cons (λ c. c.1 ≡ false) (g, false) s.0 refl s.3)
+    let s = more e in (
+      (g, false) ∷ s.0,
+      s.1,
+      ap (λ ds. (g, false) ∷ ds) s.2,
+      All-cons (λ c. c.1 ≡ false) (g, false) s.0 refl s.3,
+    )
 
 -- the first cause has none given before it
 first_takes : (cs : List Cause) (f : Refused) → first cs ≡ Some f → Split cs f
@@ -48,7 +66,9 @@ first_takes (c ∷ cs) f e = split_more c.0 c.1 cs f e (first_takes cs f)
 first_gives : (before after : List Cause) (f : Refused) → All (λ c. c.1 ≡ false) before
     → first (before ++ (f, true) ∷ after) ≡ Some f
 first_gives [] after f all = refl
-first_gives (c ∷ before) after f all = rw (All-head (λ c. c.1 ≡ false) c before all) (first_gives before after f (All-tail (λ c. c.1 ≡ false) c before all))
+first_gives (c ∷ before) after f all =
+    rw (All-head (λ c. c.1 ≡ false) c before all)
+    (first_gives before after f (All-tail (λ c. c.1 ≡ false) c before all))
 
 -- ---- the fault of an answer
 
@@ -131,10 +151,13 @@ long_room : (shortest : ℕ) (fault : Refused) (a b c : ℕ) (more rest : List �
     ≡ cond (nat_lt (three a b c) shortest || past) (Err fault)
     (Ok (take (three a b c - 3) more, rest))
 unfolding section_at
-long_room shortest fault a b c more rest past is left = rw is (by_length (nat_lt (three a b c) shortest) refl)
+long_room shortest fault a b c more rest past is left =
+    rw is (by_length (nat_lt (three a b c) shortest) refl)
   where
     by_length : (b2 : Bool) → nat_lt (three a b c) shortest ≡ b2
-        → cond {A = Result (List ℕ × List ℕ) Refused} (b2 || past) (Err fault) (Ok (take (three a b c - 3) more, drop (three a b c - 3) more)) ≡ cond (b2 || past) (Err fault) (Ok (take (three a b c - 3) more, rest))
+        → cond {A = Result (List ℕ × List ℕ) Refused} (b2 || past) (Err fault)
+        (Ok (take (three a b c - 3) more, drop (three a b c - 3) more))
+        ≡ cond (b2 || past) (Err fault) (Ok (take (three a b c - 3) more, rest))
     by_length true e = refl
     by_length false e = rw (left (ltb-false _ _ e)) refl
 
@@ -165,7 +188,8 @@ room_three octets p h =
     let c = get_or-take (room_end octets) octets (p + 1 + 1) 0 (omega arith) in
     let same : p + 1 + 1 ≡ p + 2 = omega arith in
     let last : p + 2 + 1 ≡ p + 3 = omega arith in
-    one ∙ ap (λ xs. get_or room p 0 ∷ xs) two ∙ ap (λ xs. get_or room p 0 ∷ get_or room (p + 1) 0 ∷ xs) three
+    one ∙ ap (λ xs. get_or room p 0 ∷ xs) two
+    ∙ ap (λ xs. get_or room p 0 ∷ get_or room (p + 1) 0 ∷ xs) three
     ∙ rw (a, b, c, same, last) refl
 
 -- the section at a place, by its length alone
@@ -175,25 +199,45 @@ section_is : (octets : List ℕ) (shortest p : ℕ) (fault : Refused) → 3 ≤ 
 section_is octets shortest p fault least = by_room (nat_lt (room_end octets) (p + 3)) refl
   where
     by_room : (b : Bool) → nat_lt (room_end octets) (p + 3) ≡ b
-        → section_at shortest fault (from octets p) ≡ cond (b || nat_lt (length_at octets p) shortest || nat_lt (room_end octets) (p + length_at octets p)) (Err fault) (Ok (behind octets p, from octets (p + length_at octets p)))
+        → section_at shortest fault (from octets p)
+        ≡ cond
+        (b || nat_lt (length_at octets p) shortest || nat_lt (room_end octets)
+        (p + length_at octets p)) (Err fault)
+        (Ok (behind octets p, from octets (p + length_at octets p)))
     by_room true e =
         let short = ltb-true _ _ e in
-        short_room shortest fault (from octets p) (omega (arith, room_length octets, length-drop p (take (room_end octets) octets)))
+        short_room shortest fault (from octets p)
+        (omega (arith, room_length octets, length-drop p (take (room_end octets) octets)))
     by_room false e =
         let inside = ltb-false _ _ e in
-        let more : length (from octets (p + 3)) ≡ room_end octets - (p + 3) = omega (arith, room_length octets, length-drop (p + 3) (take (room_end octets) octets)) in
-        let past : nat_lt (3 + length (from octets (p + 3))) (length_at octets p) ≡ nat_lt (room_end octets) (p + length_at octets p) =
-        same_lt (3 + length (from octets (p + 3))) (length_at octets p) (room_end octets) (p + length_at octets p) (λ h. omega arith) (λ h. omega arith) in
+        let more : length (from octets (p + 3)) ≡ room_end octets - (p + 3) =
+        omega
+        (arith, room_length octets, length-drop (p + 3) (take (room_end octets) octets)) in
+        let past : nat_lt (3 + length (from octets (p + 3))) (length_at octets p)
+        ≡ nat_lt (room_end octets) (p + length_at octets p) =
+        same_lt (3 + length (from octets (p + 3))) (length_at octets p) (room_end octets)
+        (p + length_at octets p) (λ h. omega arith) (λ h. omega arith) in
         rw (room_three octets p inside)
-        (long_room shortest fault (octet_at octets p) (octet_at octets (p + 1)) (octet_at octets (p + 2)) (from octets (p + 3)) (from octets (p + length_at octets p)) _ past
-        (λ enough. drop-drop (length_at octets p - 3) (p + 3) (take (room_end octets) octets) ∙ ap (λ n. drop n (take (room_end octets) octets)) (omega arith)))
+        (long_room shortest fault (octet_at octets p) (octet_at octets (p + 1))
+        (octet_at octets (p + 2)) (from octets (p + 3))
+        (from octets (p + length_at octets p)) _ past
+        (λ enough. drop-drop (length_at octets p - 3) (p + 3) (take (room_end octets) octets)
+        ∙ ap (λ n. drop n (take (room_end octets) octets)) (omega arith)))
 
 -- ---- what stands in the sections
 
 -- section 3 of enough octets says something
 description_is : (xs : List ℕ) → 4 ≤ length xs → (d : Description) × (description_of xs ≡ Ok d)
 unfolding description_of
-description_is (ignored ∷ n1 ∷ n2 ∷ flags ∷ list) long = (record { count = two n1 n2; observed = nat_le 128 flags; compressed = flags / 64 % 2 == 1; descriptors = descriptors_of list }, refl)
+description_is (ignored ∷ n1 ∷ n2 ∷ flags ∷ list) long = (
+  record {
+    count = two n1 n2;
+    observed = nat_le 128 flags;
+    compressed = flags / 64 % 2 == 1;
+    descriptors = descriptors_of list;
+  },
+  refl,
+)
 description_is _ long = absurd (omega arith)
 
 -- section 2, where it is announced
@@ -202,10 +246,18 @@ local_is : (announced : Bool) (octets : List ℕ) (p : ℕ)
     ≡ cond (announced && no_section octets 4 p) (Err Section2Length)
     (Ok (local, from octets (if announced then p + length_at octets p else p))))
 local_is false octets p = (None, refl)
-local_is true octets p = (Some (drop 1 (behind octets p)), rw (section_is octets 4 p Section2Length (omega arith)) (by_test (no_section octets 4 p)))
+local_is true octets p = (
+  Some (drop 1 (behind octets p)),
+  rw (section_is octets 4 p Section2Length (omega arith)) (by_test (no_section octets 4 p)),
+)
   where
-    by_test : (b : Bool) → (cond {A = Result (List ℕ × List ℕ) Refused} b (Err Section2Length) (Ok (behind octets p, from octets (p + length_at octets p))) >>= λ found. Ok (Some (drop 1 found.0), found.1))
-        ≡ cond {A = Result (Option (List ℕ) × List ℕ) Refused} b (Err Section2Length) (Ok (Some (drop 1 (behind octets p)), from octets (p + length_at octets p)))
+    by_test : (b : Bool)
+        →
+        (cond {A = Result (List ℕ × List ℕ) Refused} b (Err Section2Length)
+        (Ok (behind octets p, from octets (p + length_at octets p))) >>= λ found. Ok
+        (Some (drop 1 found.0), found.1))
+        ≡ cond {A = Result (Option (List ℕ) × List ℕ) Refused} b (Err Section2Length)
+        (Ok (Some (drop 1 (behind octets p)), from octets (p + length_at octets p)))
     by_test true = refl
     by_test false = refl
 
@@ -214,11 +266,21 @@ behind_length : (octets : List ℕ) (shortest p : ℕ) → no_section octets sho
     → (shortest ≤ 3 + length (behind octets p)) × (p + length_at octets p ≤ room_end octets)
     × (shortest ≤ length_at octets p)
 behind_length octets shortest p there =
-    let t = none_of (nat_lt (room_end octets) (p + 3)) (nat_lt (length_at octets p) shortest) (nat_lt (room_end octets) (p + length_at octets p)) there in
+    let t =
+    none_of (nat_lt (room_end octets) (p + 3)) (nat_lt (length_at octets p) shortest)
+    (nat_lt (room_end octets) (p + length_at octets p)) there in
     let inside = ltb-false _ _ t.0 in
     let long = ltb-false _ _ t.1 in
-    let within = ltb-false _ _ t.2 in
-    (omega (arith, length-take (length_at octets p - 3) (from octets (p + 3)), length-drop (p + 3) (take (room_end octets) octets), room_length octets), within, long)
+    let within = ltb-false _ _ t.2 in (
+      omega (
+        arith,
+        length-take (length_at octets p - 3) (from octets (p + 3)),
+        length-drop (p + 3) (take (room_end octets) octets),
+        room_length octets,
+      ),
+      within,
+      long,
+    )
 
 -- an octet behind the length of a section
 behind_at : (octets : List ℕ) (p i : ℕ) → p + length_at octets p ≤ room_end octets
@@ -235,14 +297,22 @@ head_here : (layout : Layout) (octets : List ℕ) → no_section octets (shortes
     (Err (MasterTable (octet_at octets 11))))
 head_here Edition4 octets there =
     let l = behind_length octets 22 8 there in
-    let master : get_or (behind octets 8) 0 0 ≡ octet_at octets 11 = behind_at octets 8 0 l.1 (omega (arith, l.2)) in
-    let flags : get_or (behind octets 8) 6 0 ≡ octet_at octets 17 = behind_at octets 8 6 l.1 (omega (arith, l.2)) in
-    (head_with (behind octets 8) (drop 19 (behind octets 8)), head_is (behind octets 8) (omega (arith, l.0)) ∙ rw (master, flags) refl)
+    let master : get_or (behind octets 8) 0 0 ≡ octet_at octets 11 =
+    behind_at octets 8 0 l.1 (omega (arith, l.2)) in
+    let flags : get_or (behind octets 8) 6 0 ≡ octet_at octets 17 =
+    behind_at octets 8 6 l.1 (omega (arith, l.2)) in (
+      head_with (behind octets 8) (drop 19 (behind octets 8)),
+      head_is (behind octets 8) (omega (arith, l.0)) ∙ rw (master, flags) refl,
+    )
 head_here Edition3 octets there =
     let l = behind_length octets 17 8 there in
-    let master : get_or (behind octets 8) 0 0 ≡ octet_at octets 11 = behind_at octets 8 0 l.1 (omega (arith, l.2)) in
-    let flags : get_or (behind octets 8) 4 0 ≡ octet_at octets 15 = behind_at octets 8 4 l.1 (omega (arith, l.2)) in
-    (head3_with (behind octets 8) (drop 14 (behind octets 8)), head3_is (behind octets 8) (omega (arith, l.0)) ∙ rw (master, flags) refl)
+    let master : get_or (behind octets 8) 0 0 ≡ octet_at octets 11 =
+    behind_at octets 8 0 l.1 (omega (arith, l.2)) in
+    let flags : get_or (behind octets 8) 4 0 ≡ octet_at octets 15 =
+    behind_at octets 8 4 l.1 (omega (arith, l.2)) in (
+      head3_with (behind octets 8) (drop 14 (behind octets 8)),
+      head3_is (behind octets 8) (omega (arith, l.0)) ∙ rw (master, flags) refl,
+    )
 
 -- each layout has room for the length
 least_is : (layout : Layout) → 3 ≤ shortest1 layout
@@ -255,21 +325,37 @@ last_then : {B : Type 0} (octets : List ℕ) (p : ℕ) (f : List ℕ → Result 
     → fault_of (section_at 4 Section4Length (from octets p) >>= λ four. contents_of four >>= f)
     ≡ cond (no_section octets 4 p || not (p + length_at octets p == room_end octets))
     (Some Section4Length) None
-last_then {B} octets p f ends = rw (section_is octets 4 p Section4Length (omega arith)) (by_test (no_section octets 4 p) refl)
+last_then {B} octets p f ends =
+    rw (section_is octets 4 p Section4Length (omega arith)) (by_test (no_section octets 4 p) refl)
   where
-    by_room : (b : Bool) → fault_of (cond b (Ok (drop 1 (behind octets p))) (Err Section4Length) >>= f) ≡ cond (not b) (Some Section4Length) None
+    by_room : (b : Bool)
+        → fault_of (cond b (Ok (drop 1 (behind octets p))) (Err Section4Length) >>= f)
+        ≡ cond (not b) (Some Section4Length) None
     by_room true = ends (drop 1 (behind octets p))
     by_room false = refl
 
     by_test : (b : Bool) → no_section octets 4 p ≡ b
-        → fault_of (cond b (Err Section4Length) (Ok (behind octets p, from octets (p + length_at octets p))) >>= λ four. contents_of four >>= f)
+        → fault_of
+        (cond b (Err Section4Length)
+        (Ok (
+          behind octets p,
+          from octets (p + length_at octets p),
+        )) >>= λ four. contents_of four >>= f)
         ≡ cond (b || not (p + length_at octets p == room_end octets)) (Some Section4Length) None
     by_test true e = refl
     by_test false e =
         let l = behind_length octets 4 p e in
-        let left : length (from octets (p + length_at octets p)) ≡ room_end octets - (p + length_at octets p) = omega (arith, length-drop (p + length_at octets p) (take (room_end octets) octets), room_length octets) in
-        let same : (length (from octets (p + length_at octets p)) == 0) ≡ (p + length_at octets p == room_end octets) =
-        same_eq (length (from octets (p + length_at octets p))) 0 (p + length_at octets p) (room_end octets) (λ h. omega (arith, l.1)) (λ h. omega arith) in
+        let left : length (from octets (p + length_at octets p))
+        ≡ room_end octets - (p + length_at octets p) =
+        omega (
+          arith,
+          length-drop (p + length_at octets p) (take (room_end octets) octets),
+          room_length octets,
+        ) in
+        let same : (length (from octets (p + length_at octets p)) == 0)
+        ≡ (p + length_at octets p == room_end octets) =
+        same_eq (length (from octets (p + length_at octets p))) 0 (p + length_at octets p)
+        (room_end octets) (λ h. omega (arith, l.1)) (λ h. omega arith) in
         rw same (by_room (p + length_at octets p == room_end octets))
 
 -- ---- the sections together
@@ -283,19 +369,30 @@ sections_fault : (layout : Layout) (octets : List ℕ)
     → fault_of (sections_of layout (from octets 8)) ≡ first (later layout octets)
 unfolding sections_of
 sections_fault layout octets =
-    tested_then (section_at (shortest1 layout) Section1Length (from octets 8)) _ (no_section octets (shortest1 layout) 8) Section1Length (behind octets 8, from octets (place2 octets)) (drop 1 (later layout octets))
+    tested_then (section_at (shortest1 layout) Section1Length (from octets 8)) _
+    (no_section octets (shortest1 layout) 8) Section1Length
+    (behind octets 8, from octets (place2 octets)) (drop 1 (later layout octets))
     (section_is octets (shortest1 layout) 8 Section1Length (least_is layout))
     (λ there. let h = head_here layout octets there in
-    passed_then (head_of layout (behind octets 8)) _ (octet_at octets 11 == 0) (MasterTable (octet_at octets 11)) (h.0, announces_section2 layout octets) (drop 2 (later layout octets))
+    passed_then (head_of layout (behind octets 8)) _ (octet_at octets 11 == 0)
+    (MasterTable (octet_at octets 11)) (h.0, announces_section2 layout octets)
+    (drop 2 (later layout octets))
     h.1
-    (λ meteorology. let local = local_is (announces_section2 layout octets) octets (place2 octets) in
-    tested_then (local_at (announces_section2 layout octets) (from octets (place2 octets))) _ (announces_section2 layout octets && no_section octets 4 (place2 octets)) Section2Length (local.0, from octets (place3 layout octets)) (drop 3 (later layout octets))
+    (λ meteorology. let local = local_is (announces_section2 layout octets) octets
+    (place2 octets) in
+    tested_then (local_at (announces_section2 layout octets) (from octets (place2 octets))) _
+    (announces_section2 layout octets && no_section octets 4 (place2 octets)) Section2Length
+    (local.0, from octets (place3 layout octets)) (drop 3 (later layout octets))
     local.1
-    (λ there2. tested_then (section_at 9 Section3Length (from octets (place3 layout octets))) _ (no_section octets 9 (place3 layout octets)) Section3Length (behind octets (place3 layout octets), from octets (place4 layout octets)) (drop 4 (later layout octets))
+    (λ there2. tested_then (section_at 9 Section3Length (from octets (place3 layout octets))) _
+    (no_section octets 9 (place3 layout octets)) Section3Length
+    (behind octets (place3 layout octets), from octets (place4 layout octets))
+    (drop 4 (later layout octets))
     (section_is octets 9 (place3 layout octets) Section3Length (omega arith))
     (λ there3. let l3 = behind_length octets 9 (place3 layout octets) there3 in
     let d = description_is (behind octets (place3 layout octets)) (omega (arith, l3.0)) in
-    found_then (description_of (behind octets (place3 layout octets))) _ d.0 (drop 4 (later layout octets)) d.1
+    found_then (description_of (behind octets (place3 layout octets))) _ d.0
+    (drop 4 (later layout octets)) d.1
     (last_then octets (place4 layout octets) _ (λ c. refl))))))
 
 -- what is read by a layout, in one step or in two
@@ -317,16 +414,24 @@ unfolding room_in
 room_fault b u f r l1 l2 l3 edition rest layout =
     let octets : List ℕ = b ∷ u ∷ f ∷ r ∷ l1 ∷ l2 ∷ l3 ∷ edition ∷ rest in
     let whole : 8 + length rest ≡ length octets = omega arith in
-    tested_bind (not (three l1 l2 l3 == 8 + length rest)) _ TotalLength _ (sections_of layout) (drop 1 (causes_in (Some layout) octets)) (ap (λ n. not (three l1 l2 l3 == n)) whole)
-    (λ declared. let total : three l1 l2 l3 ≡ 8 + length rest = eqb-true _ _ (not_false _ declared) in
-    let end : 4 ≤ length rest → drop (length rest - 4) rest ≡ drop (room_end octets) octets = λ h. drop-drop (length rest - 4) 8 octets ∙ ap (λ n. drop n octets) (omega arith) in
-    tested_bind (nat_lt (length rest) 4 || not (bytes_eq (drop (length rest - 4) rest) (codes "7777"))) _ NoEnd _ (sections_of layout) (later layout octets)
+    tested_bind (not (three l1 l2 l3 == 8 + length rest)) _ TotalLength _ (sections_of layout)
+    (drop 1 (causes_in (Some layout) octets)) (ap (λ n. not (three l1 l2 l3 == n)) whole)
+    (λ declared. let total : three l1 l2 l3
+    ≡ 8 + length rest = eqb-true _ _ (not_false _ declared) in
+    let end : 4 ≤ length rest → drop (length rest - 4) rest ≡ drop (room_end octets) octets =
+    λ h. drop-drop (length rest - 4) 8 octets ∙ ap (λ n. drop n octets) (omega arith) in
+    tested_bind
+    (nat_lt (length rest) 4 || not
+    (bytes_eq (drop (length rest - 4) rest) (codes "7777"))) _ NoEnd _ (sections_of layout)
+    (later layout octets)
     (same_or (nat_lt (length rest) 4) (nat_lt (length_at octets 4) 12) _ _
     (same_lt (length rest) 4 (length_at octets 4) 12 (λ h. omega arith) (λ h. omega arith))
     (λ h. ap (λ (xs : List ℕ). not (bytes_eq xs (codes "7777"))) (end (ltb-false _ _ h))))
-    (λ ended. let enough : 4 ≤ length rest = ltb-false _ _ (or_first (nat_lt (length rest) 4) _ ended) in
+    (λ ended. let enough : 4 ≤ length rest = ltb-false _ _
+    (or_first (nat_lt (length rest) 4) _ ended) in
     let before_end : 8 + (length rest - 4) ≡ room_end octets = omega arith in
-    let room : take (length rest - 4) rest ≡ from octets 8 = sym (drop-take 8 (length rest - 4) octets) ∙ ap (λ n. drop 8 (take n octets)) before_end in
+    let room : take (length rest - 4) rest ≡ from octets 8 =
+    sym (drop-take 8 (length rest - 4) octets) ∙ ap (λ n. drop 8 (take n octets)) before_end in
     ap (λ (xs : List ℕ). fault_of (sections_of layout xs)) room ∙ sections_fault layout octets))
 
 -- by the layout that octet 8 names
@@ -336,7 +441,8 @@ edition_fault : (b u f r l1 l2 l3 edition : ℕ) (rest : List ℕ) (layout : Opt
     (b ∷ u ∷ f ∷ r ∷ l1 ∷ l2 ∷ l3 ∷ edition ∷ rest))
 edition_fault b u f r l1 l2 l3 edition rest None = refl
 edition_fault b u f r l1 l2 l3 edition rest (Some layout) =
-    ap fault_of (with_layout layout (room_in (three l1 l2 l3) rest) by_layout) ∙ room_fault b u f r l1 l2 l3 edition rest layout
+    ap fault_of (with_layout layout (room_in (three l1 l2 l3) rest) by_layout)
+    ∙ room_fault b u f r l1 l2 l3 edition rest layout
 
 -- section 0
 start_fault : (b u f r l1 l2 l3 edition : ℕ) (rest : List ℕ)
@@ -346,13 +452,15 @@ unfolding envelope_of causes room_of
 start_fault b u f r l1 l2 l3 edition rest =
     let octets : List ℕ = b ∷ u ∷ f ∷ r ∷ l1 ∷ l2 ∷ l3 ∷ edition ∷ rest in
     let long : nat_lt (length octets) 8 ≡ false = le-ltb _ _ (omega arith) in
-    tested_bind (not (bytes_eq (b ∷ u ∷ f ∷ r ∷ []) (codes "BUFR"))) _ NotBufr _ by_layout (causes_in (layout_of edition) octets) (rw long refl)
+    tested_bind (not (bytes_eq (b ∷ u ∷ f ∷ r ∷ []) (codes "BUFR"))) _ NotBufr _ by_layout
+    (causes_in (layout_of edition) octets) (rw long refl)
     (λ bufr. edition_fault b u f r l1 l2 l3 edition rest (layout_of edition))
 
 -- the fault of octets is the first cause
 envelope_fault : (octets : List ℕ) → fault_of (envelope_of octets) ≡ first (causes octets)
 unfolding envelope_of causes room_of
-envelope_fault (b ∷ u ∷ f ∷ r ∷ l1 ∷ l2 ∷ l3 ∷ edition ∷ rest) = start_fault b u f r l1 l2 l3 edition rest
+envelope_fault (b ∷ u ∷ f ∷ r ∷ l1 ∷ l2 ∷ l3 ∷ edition ∷ rest) =
+    start_fault b u f r l1 l2 l3 edition rest
 envelope_fault _ = refl
 
 -- the fault of a refusal is its own
@@ -364,12 +472,15 @@ is_refused (Err other) fault e = let same : other ≡ fault = cc in ap (λ f. Er
 -- octets are refused for their first cause
 pub refused_gives_first : (octets : List ℕ) (fault : Refused) → envelope_of octets ≡ Err fault
     → IsFirstRefusal octets fault
-refused_gives_first octets fault e = first_takes (causes octets) fault (sym (envelope_fault octets) ∙ ap fault_of e)
+refused_gives_first octets fault e =
+    first_takes (causes octets) fault (sym (envelope_fault octets) ∙ ap fault_of e)
 
 -- the first cause is answered
 pub first_is_answered : (octets : List ℕ) (fault : Refused) → IsFirstRefusal octets fault
     → envelope_of octets ≡ Err fault
-first_is_answered octets fault s = is_refused (envelope_of octets) fault (envelope_fault octets ∙ ap first s.2 ∙ first_gives s.0 s.1 fault s.3)
+first_is_answered octets fault s =
+    is_refused (envelope_of octets) fault
+    (envelope_fault octets ∙ ap first s.2 ∙ first_gives s.0 s.1 fault s.3)
 
 -- ---- which faults the sections have
 
@@ -391,8 +502,10 @@ pub of_sections : (octets : List ℕ) (fault : Refused) → envelope_of octets �
     → is_of_sections fault ≡ true
 unfolding causes
 of_sections octets fault e =
-    first_among (causes octets) fault (refl, of_layout (layout_of (octet_at octets 7))) (sym (envelope_fault octets) ∙ ap fault_of e)
+    first_among (causes octets) fault (refl, of_layout (layout_of (octet_at octets 7)))
+    (sym (envelope_fault octets) ∙ ap fault_of e)
   where
-    of_layout : (layout : Option Layout) → AllByRecursion (λ (c : Cause). is_of_sections c.0 ≡ true) (causes_in layout octets)
+    of_layout : (layout : Option Layout)
+        → AllByRecursion (λ (c : Cause). is_of_sections c.0 ≡ true) (causes_in layout octets)
     of_layout None = (refl, tt)
     of_layout (Some layout) = (refl, (refl, (refl, (refl, (refl, (refl, (refl, tt)))))))

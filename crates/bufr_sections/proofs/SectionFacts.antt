@@ -1,5 +1,7 @@
 -- What the sections spell is read again: for the law `SectionsSpeltAreRead`.
-use Rattle.std.proofs.Common.{◌≡◌, ℕ, ◌+◌, ◌-◌, ◌/◌, ◌%◌, ◌^◌, ◌<◌, ◌≤◌, Bool, true, false, ltb, List, [], ◌∷◌, ◌++◌, length, drop, Option, Some, None, Ok, refl, ap, ◌∙◌, arith, append_assoc, length-append, eq-eqb}
+use Rattle.std.proofs.Common.{◌≡◌, ℕ, ◌+◌, ◌-◌, ◌/◌, ◌%◌, ◌^◌, ◌<◌, ◌≤◌, Bool, true, false, ltb}
+use Rattle.std.proofs.Common.{List, [], ◌∷◌, ◌++◌, length, drop, Option, Some, None, Ok, refl, ap}
+use Rattle.std.proofs.Common.{◌∙◌, arith, append_assoc, length-append, eq-eqb}
 use Rattle.std.specs.List.{AllByRecursion}
 use Rattle.std.specs.Prelude.{◌==◌, nat_le, codes}
 use Rattle.std.specs.List.{flat_map}
@@ -8,11 +10,18 @@ use Rattle.std.proofs.lemmas.Bool.{le-ltb, le-leb, lt-leb}
 use Rattle.std.proofs.lemmas.List.Elements.{recursion_from_All}
 use Rattle.std.proofs.lemmas.List.{take_at, drop_at}
 use Rattle.bufr_sections.specs.declared.fault.Refused.{Refused}
-use Rattle.bufr_sections.specs.declared.fault.Refused.TheVariants.{Section1Length, Section2Length, Section3Length, Section4Length}
+use Rattle.bufr_sections.specs.declared.fault.Refused.TheVariants.{Section1Length, Section2Length}
+use Rattle.bufr_sections.specs.declared.fault.Refused.TheVariants.{Section3Length, Section4Length}
 use Rattle.bufr_sections.specs.declared.message.Head.{Head}
 use Rattle.bufr_sections.specs.declared.layout.Layout.{Layout}
 use Rattle.bufr_sections.specs.declared.layout.Layout.TheVariants.{Edition4, Edition3}
-use Rattle.bufr_sections.specs.Sections.{Envelope, Ignored, section, section1, section2, section3, section4, sections, enclosed, spelling, flag, is_present, edition_number, layout_of, shortest1, head_octets, HasSection1, EnvelopeFits, three, two, room_in, room_of, section_at, head4_of, head3_of, head_of, local_at, Description, descriptors_of, description_of, sections_of, envelope_of}
+use Rattle.bufr_sections.specs.Sections.{Envelope, Ignored, section, section1, section2, section3}
+use Rattle.bufr_sections.specs.Sections.{section4, sections, enclosed, spelling, flag, is_present}
+use Rattle.bufr_sections.specs.Sections.{edition_number, layout_of, shortest1, head_octets}
+use Rattle.bufr_sections.specs.Sections.{HasSection1, EnvelopeFits, three, two, room_in, room_of}
+use Rattle.bufr_sections.specs.Sections.{section_at, head4_of, head3_of, head_of, local_at}
+use Rattle.bufr_sections.specs.Sections.{Description, descriptors_of, description_of, sections_of}
+use Rattle.bufr_sections.specs.Sections.{envelope_of}
 
 -- a number of three octets, and of two, is what they were
 three_is : (n : ℕ) → n < 2 ^ 24 → three (n / 2 ^ 16 % 256) (n / 2 ^ 8 % 256) (n % 256) ≡ n
@@ -26,9 +35,17 @@ unfolding section_at
 section_at-section shortest fault contents rest long small =
     let n = three_is (3 + length contents) small in
     let enough : ltb (3 + length contents) shortest ≡ false = le-ltb _ _ long in
-    let inside : ltb (3 + length (contents ++ rest)) (3 + length contents) ≡ false = le-ltb _ _ (omega (arith, length-append contents rest)) in
+    let inside : ltb (3 + length (contents ++ rest)) (3 + length contents) ≡ false =
+    le-ltb _ _ (omega (arith, length-append contents rest)) in
     let behind : 3 + length contents - 3 ≡ length contents = omega arith in
-    rw (n, enough, inside, behind, take_at contents rest (length contents) refl, drop_at contents rest (length contents) refl) refl
+    rw (
+      n,
+      enough,
+      inside,
+      behind,
+      take_at contents rest (length contents) refl,
+      drop_at contents rest (length contents) refl,
+    ) refl
 
 -- the room before `7777`
 pub room_in-whole : (middle : List ℕ) → 12 + length middle < 2 ^ 24
@@ -37,10 +54,20 @@ pub room_in-whole : (middle : List ℕ) → 12 + length middle < 2 ^ 24
 unfolding room_in
 room_in-whole middle small =
     let n = three_is (12 + length middle) small in
-    let total : (12 + length middle == 8 + length (middle ++ codes "7777")) ≡ true = eq-eqb _ _ (omega (arith, length-append middle (codes "7777"))) in
-    let long : ltb (length (middle ++ codes "7777")) 4 ≡ false = le-ltb _ _ (omega (arith, length-append middle (codes "7777"))) in
-    let before : length (middle ++ codes "7777") - 4 ≡ length middle = omega (arith, length-append middle (codes "7777")) in
-    rw (n, total, long, before, drop_at middle (codes "7777") (length middle) refl, take_at middle (codes "7777") (length middle) refl) refl
+    let total : (12 + length middle == 8 + length (middle ++ codes "7777")) ≡ true =
+    eq-eqb _ _ (omega (arith, length-append middle (codes "7777"))) in
+    let long : ltb (length (middle ++ codes "7777")) 4 ≡ false =
+    le-ltb _ _ (omega (arith, length-append middle (codes "7777"))) in
+    let before : length (middle ++ codes "7777") - 4 ≡ length middle =
+    omega (arith, length-append middle (codes "7777")) in
+    rw (
+      n,
+      total,
+      long,
+      before,
+      drop_at middle (codes "7777") (length middle) refl,
+      take_at middle (codes "7777") (length middle) refl,
+    ) refl
 
 -- the edition's number names its layout
 pub layout_of-number : (layout : Layout) → layout_of (edition_number layout) ≡ Some layout
@@ -71,7 +98,12 @@ pub head_of-section1 : (layout : Layout) (h : Head) (announced : Bool) (i : Igno
     → head_of layout (head_octets layout h announced i) ≡ Ok (h, announced)
 unfolding head4_of head3_of
 head_of-section1 Edition4 h announced i fits small =
-    rw (two_is h.centre fits.centre, two_is h.sub_centre fits.sub_centre, two_is h.year fits.year, announced_is announced i.bits1 small) refl
+    rw (
+      two_is h.centre fits.centre,
+      two_is h.sub_centre fits.sub_centre,
+      two_is h.year fits.year,
+      announced_is announced i.bits1 small,
+    ) refl
 head_of-section1 Edition3 h announced i fits small =
     rw (announced_is announced i.bits1 small, ← fits.year, ← fits.international, ← fits.second) refl
 
@@ -90,7 +122,8 @@ unfolding descriptors_of
 descriptors_of-flat_map [] [] all short = refl
 descriptors_of-flat_map [] (x ∷ []) all short = refl
 descriptors_of-flat_map [] (x ∷ y ∷ zs) all short = absurd (omega arith)
-descriptors_of-flat_map (d ∷ ds) odd all short = rw (two_is d all.0, descriptors_of-flat_map ds odd all.1 short) refl
+descriptors_of-flat_map (d ∷ ds) odd all short =
+    rw (two_is d all.0, descriptors_of-flat_map ds odd all.1 short) refl
 
 -- the first flag of section 3
 observed_is : (o c : Bool) (b : ℕ) → b < 64 → nat_le 128 (flag o 128 + flag c 64 + b) ≡ o
@@ -124,7 +157,8 @@ steps : (layout : Layout) (room c1 room2 room3 c3 room4 c4 : List ℕ) (h : Head
       contents = drop 1 c4;
     })
 unfolding sections_of
-steps layout room c1 room2 room3 c3 room4 c4 h local d e1 e2 e3 e4 e5 e6 = rw (e1, e2, e3, e4, e5, e6) refl
+steps layout room c1 room2 room3 c3 room4 c4 h local d e1 e2 e3 e4 e5 e6 =
+    rw (e1, e2, e3, e4, e5, e6) refl
 
 -- section 2 that is spelt is read
 local_at-section2 : (local : Option (List ℕ)) (ignored : ℕ) (rest : List ℕ)
@@ -136,18 +170,32 @@ local_at-section2 (Some local) ignored rest small =
 
 -- section 3 behind its length
 abbrev contents3 : Envelope → Ignored → List ℕ
-contents3 e i = i.octet3 ∷ bytes_high_first 2 e.count ++ (flag e.observed 128 + flag e.compressed 64 + i.bits3) ∷ flat_map (bytes_high_first 2) e.descriptors ++ i.odd
+contents3 e i =
+    i.octet3 ∷ bytes_high_first 2 e.count ++ (flag e.observed 128 + flag e.compressed 64 + i.bits3)
+    ∷ flat_map (bytes_high_first 2) e.descriptors ++ i.odd
 
 -- what section 3 of an envelope says
 abbrev described : Envelope → Description
-described e = record { count = e.count; observed = e.observed; compressed = e.compressed; descriptors = e.descriptors }
+described e =
+    record {
+      count = e.count;
+      observed = e.observed;
+      compressed = e.compressed;
+      descriptors = e.descriptors;
+    }
 
 -- section 3 that is spelt is read
 description_of-section3 : (layout : Layout) (e : Envelope) (i : Ignored) → EnvelopeFits layout e i
     → description_of (contents3 e i) ≡ Ok (described e)
 unfolding description_of
 description_of-section3 layout e i fits =
-    rw (two_is e.count fits.count, observed_is e.observed e.compressed i.bits3 fits.ignored.3, compressed_is e.observed e.compressed i.bits3 fits.ignored.3, descriptors_of-flat_map e.descriptors i.odd (recursion_from_All (λ d. d < 2 ^ 16) e.descriptors fits.descriptors) fits.ignored.4) refl
+    rw (
+      two_is e.count fits.count,
+      observed_is e.observed e.compressed i.bits3 fits.ignored.3,
+      compressed_is e.observed e.compressed i.bits3 fits.ignored.3,
+      descriptors_of-flat_map e.descriptors i.odd
+          (recursion_from_All (λ d. d < 2 ^ 16) e.descriptors fits.descriptors) fits.ignored.4,
+    ) refl
 
 -- a descriptor takes two octets
 some_octets : (ds : List ℕ) → 0 < length ds → 2 ≤ length (flat_map (bytes_high_first 2) ds)
@@ -182,11 +230,14 @@ sections_of-sections layout e i fits small =
     let c3 = contents3 e i in
     let c4 : List ℕ = i.octet4 ∷ e.contents in
     let lengths = length_of_four s1 s2 s3 s4 in
-    let some : 2 ≤ length (flat_map (bytes_high_first 2) e.descriptors) = some_octets e.descriptors fits.some_descriptor in
+    let some : 2 ≤ length (flat_map (bytes_high_first 2) e.descriptors) =
+    some_octets e.descriptors fits.some_descriptor in
     let l3 = length-append (flat_map (bytes_high_first 2) e.descriptors) i.odd in
     ap (sections_of layout) (regrouped s1 s2 s3 s4)
-    ∙ steps layout (s1 ++ (s2 ++ (s3 ++ (s4 ++ [])))) c1 (s2 ++ (s3 ++ (s4 ++ []))) (s3 ++ (s4 ++ [])) c3 (s4 ++ []) c4 (e.head, is_present e.section2) e.section2 (described e)
-    (section_at-section (shortest1 layout) Section1Length c1 (s2 ++ (s3 ++ (s4 ++ []))) (omega arith) (omega arith))
+    ∙ steps layout (s1 ++ (s2 ++ (s3 ++ (s4 ++ [])))) c1 (s2 ++ (s3 ++ (s4 ++ [])))
+    (s3 ++ (s4 ++ [])) c3 (s4 ++ []) c4 (e.head, is_present e.section2) e.section2 (described e)
+    (section_at-section (shortest1 layout) Section1Length c1 (s2 ++ (s3 ++ (s4 ++ [])))
+    (omega arith) (omega arith))
     (head_of-section1 layout e.head (is_present e.section2) i fits.head fits.ignored.0)
     (local_at-section2 e.section2 i.octet2 (s3 ++ (s4 ++ [])) (omega arith))
     (section_at-section 9 Section3Length c3 (s4 ++ []) (omega arith) (omega arith))
@@ -198,5 +249,7 @@ pub envelope_of-spelling : (layout : Layout) (e : Envelope) (i : Ignored) → En
     → envelope_of (spelling layout e i) ≡ Ok e
 unfolding envelope_of spelling
 envelope_of-spelling layout e i fits =
-    let small : 12 + length (sections layout e i) < 2 ^ 24 = omega (arith, fits.total, length-append (sections layout e i) (codes "7777")) in
-    rw (room_of-enclosed layout (sections layout e i) small) (sections_of-sections layout e i fits (omega arith))
+    let small : 12 + length (sections layout e i) < 2 ^ 24 =
+    omega (arith, fits.total, length-append (sections layout e i) (codes "7777")) in
+    rw (room_of-enclosed layout (sections layout e i) small)
+    (sections_of-sections layout e i fits (omega arith))

@@ -1,21 +1,36 @@
 -- What is read as sections is spelt so: for the law `SectionsReadAreSpelt`.
-use Rattle.std.proofs.Common.{◌≡◌, ◌⊎◌, ℕ, ◌+◌, ◌-◌, ◌/◌, ◌%◌, ◌^◌, ◌<◌, ◌≤◌, Bool, true, false, not, List, [], ◌∷◌, ◌++◌, length, take, drop, Option, Some, None, Ok, refl, sym, ap, subst, ◌∙◌, arith, length-append, inl, inr}
-use Rattle.std.specs.Prelude.{◌==◌, ◌||◌, nat_lt, nat_le, codes, bytes_eq, All, IfSome, if◌then◌else◌}
+use Rattle.std.proofs.Common.{◌≡◌, ◌⊎◌, ℕ, ◌+◌, ◌-◌, ◌/◌, ◌%◌, ◌^◌, ◌<◌, ◌≤◌, Bool, true, false}
+use Rattle.std.proofs.Common.{not, List, [], ◌∷◌, ◌++◌, length, take, drop, Option, Some, None, Ok}
+use Rattle.std.proofs.Common.{refl, sym, ap, subst, ◌∙◌, arith, length-append, inl, inr}
+use Rattle.std.specs.Prelude.{◌==◌, ◌||◌, nat_lt, nat_le, codes, bytes_eq, All, IfSome}
+use Rattle.std.specs.Prelude.{if◌then◌else◌}
 use Rattle.std.specs.List.{flat_map}
 use Rattle.std.specs.Int.{bytes_high_first}
 use Rattle.std.proofs.lemmas.Bool.{cases_lt, ltb-false, eqb-true, eq-eqb, ne_eqb, le-leb, lt-leb}
 use Rattle.std.proofs.lemmas.List.{take-append-drop, length-take}
-use Rattle.std.proofs.lemmas.List.Elements.{All-nil, All-cons, All-head, All-tail, All-take, All-drop}
+use Rattle.std.proofs.lemmas.List.Elements.{All-nil, All-cons, All-head, All-tail, All-take}
+use Rattle.std.proofs.lemmas.List.Elements.{All-drop}
 use Rattle.std.proofs.lemmas.Slice.Eq.{bytes_eq-Decides}
 use Rattle.bufr_sections.specs.declared.fault.Refused.{Refused}
-use Rattle.bufr_sections.specs.declared.fault.Refused.TheVariants.{NotBufr, TotalLength, NoEnd, Section1Length, MasterTable, Section2Length, Section3Length, Section4Length}
+use Rattle.bufr_sections.specs.declared.fault.Refused.TheVariants.{NotBufr, TotalLength, NoEnd}
+use Rattle.bufr_sections.specs.declared.fault.Refused.TheVariants.{Section1Length, MasterTable}
+use Rattle.bufr_sections.specs.declared.fault.Refused.TheVariants.{Section2Length, Section3Length}
+use Rattle.bufr_sections.specs.declared.fault.Refused.TheVariants.{Section4Length}
 use Rattle.bufr_sections.specs.declared.message.Head.{Head}
 use Rattle.bufr_sections.specs.declared.layout.Layout.{Layout}
 use Rattle.bufr_sections.specs.declared.layout.Layout.TheVariants.{Edition4, Edition3}
-use Rattle.bufr_sections.specs.Sections.{Envelope, Ignored, IsOctet, AreOctets, section, section1, section2, section3, section4, sections, enclosed, spelling, flag, is_present, edition_number, layout_of, layout_or, shortest1, head_octets, nothing_ignored, HasSection1, EnvelopeFits, three, two, room_in, room_of, section_at, head4_of, head3_of, head_of, year_of_century, local_at, Description, descriptors_of, description_of, contents_of, sections_of, envelope_of}
+use Rattle.bufr_sections.specs.Sections.{Envelope, Ignored, IsOctet, AreOctets, section, section1}
+use Rattle.bufr_sections.specs.Sections.{section2, section3, section4, sections, enclosed, spelling}
+use Rattle.bufr_sections.specs.Sections.{flag, is_present, edition_number, layout_of, layout_or}
+use Rattle.bufr_sections.specs.Sections.{shortest1, head_octets, nothing_ignored, HasSection1}
+use Rattle.bufr_sections.specs.Sections.{EnvelopeFits, three, two, room_in, room_of, section_at}
+use Rattle.bufr_sections.specs.Sections.{head4_of, head3_of, head_of, year_of_century, local_at}
+use Rattle.bufr_sections.specs.Sections.{Description, descriptors_of, description_of, contents_of}
+use Rattle.bufr_sections.specs.Sections.{sections_of, envelope_of}
 use Rattle.bufr_sections.specs.Causes.{HasSections}
 use Rattle.bufr_sections.proofs.SectionFacts.{regrouped, head_is_long}
-use Rattle.bufr_tables.specs.AnswerLaws.{bind_ok, guard_ok, passed_ok, ok_is, or_first, or_second, not_false}
+use Rattle.bufr_tables.specs.AnswerLaws.{bind_ok, guard_ok, passed_ok, ok_is, or_first, or_second}
+use Rattle.bufr_tables.specs.AnswerLaws.{not_false}
 
 -- ---- numbers of octets
 
@@ -54,8 +69,13 @@ room_spelt layout l1 l2 l3 rest h1 h2 h3 total long end =
     let room : List ℕ = take (length rest - 4) rest in
     let size : length room ≡ length rest - 4 = omega (arith, length-take (length rest - 4) rest) in
     let front = three_spelt (12 + length room) l1 l2 l3 (omega arith) h1 h2 h3 in
-    let whole : rest ≡ room ++ codes "7777" = sym (take-append-drop (length rest - 4) rest) ∙ ap (λ xs. room ++ xs) end in
-    (ap (λ xs. codes "BUFR" ++ l1 ∷ l2 ∷ l3 ∷ edition_number layout ∷ xs) whole ∙ ap (λ xs. codes "BUFR" ++ xs ++ edition_number layout ∷ room ++ codes "7777") (sym front), omega arith)
+    let whole : rest ≡ room ++ codes "7777" =
+    sym (take-append-drop (length rest - 4) rest) ∙ ap (λ xs. room ++ xs) end in (
+      ap (λ xs. codes "BUFR" ++ l1 ∷ l2 ∷ l3 ∷ edition_number layout ∷ xs) whole
+          ∙ ap (λ xs. codes "BUFR" ++ xs ++ edition_number layout ∷ room ++ codes "7777")
+          (sym front),
+      omega arith,
+    )
 
 -- the room is there and before `7777`
 room_in_takes : (total : ℕ) (rest room : List ℕ) → room_in total rest ≡ Ok room
@@ -64,10 +84,18 @@ room_in_takes : (total : ℕ) (rest room : List ℕ) → room_in total rest ≡ 
 unfolding room_in
 room_in_takes total rest room e =
     let g3 = guard_ok (not (total == 8 + length rest)) TotalLength _ room e in
-    let g4 = guard_ok (nat_lt (length rest) 4 || not (bytes_eq (drop (length rest - 4) rest) (codes "7777"))) NoEnd _ room g3.1 in (
+    let g4 =
+    guard_ok
+    (nat_lt (length rest) 4 || not
+    (bytes_eq (drop (length rest - 4) rest) (codes "7777"))) NoEnd _ room g3.1 in (
       eqb-true _ _ (not_false _ g3.0),
-      ltb-false _ _ (or_first (nat_lt (length rest) 4) (not (bytes_eq (drop (length rest - 4) rest) (codes "7777"))) g4.0),
-      (bytes_eq-Decides (drop (length rest - 4) rest) (codes "7777")).0 (not_false _ (or_second (nat_lt (length rest) 4) (not (bytes_eq (drop (length rest - 4) rest) (codes "7777"))) g4.0)),
+      ltb-false _ _
+          (or_first (nat_lt (length rest) 4)
+          (not (bytes_eq (drop (length rest - 4) rest) (codes "7777"))) g4.0),
+      (bytes_eq-Decides (drop (length rest - 4) rest) (codes "7777")).0
+          (not_false _
+          (or_second (nat_lt (length rest) 4)
+          (not (bytes_eq (drop (length rest - 4) rest) (codes "7777"))) g4.0)),
       ok_is _ _ g4.1,
     )
 
@@ -77,7 +105,8 @@ layout_takes : (edition : ℕ) (layout : Layout) → layout_or edition (layout_o
 layout_takes edition layout e = by_test (edition == 4) refl (edition == 3) refl e
   where
     by_test : (four : Bool) → (edition == 4) ≡ four → (three : Bool) → (edition == 3) ≡ three
-        → layout_or edition (if four then Some Edition4 else if three then Some Edition3 else None) ≡ Ok layout → edition ≡ edition_number layout
+        → layout_or edition (if four then Some Edition4 else if three then Some Edition3 else None)
+        ≡ Ok layout → edition ≡ edition_number layout
     by_test true is three other e = eqb-true _ _ is ∙ ap edition_number (ok_is _ _ e)
     by_test false not_four true is e = eqb-true _ _ is ∙ ap edition_number (ok_is _ _ e)
     by_test false not_four false not_three e = absurd cc
@@ -89,15 +118,26 @@ pub room_of_takes : (octets : List ℕ) (found : Layout × List ℕ) → AreOcte
 unfolding room_of
 room_of_takes (b ∷ u ∷ f ∷ r ∷ l1 ∷ l2 ∷ l3 ∷ edition ∷ rest) found octets e =
     let g1 = guard_ok (not (bytes_eq (b ∷ u ∷ f ∷ r ∷ []) (codes "BUFR"))) NotBufr _ found e in
-    let start : b ∷ u ∷ f ∷ r ∷ [] ≡ codes "BUFR" = (bytes_eq-Decides (b ∷ u ∷ f ∷ r ∷ []) (codes "BUFR")).0 (not_false _ g1.0) in
+    let start : b ∷ u ∷ f ∷ r ∷ [] ≡ codes "BUFR" =
+    (bytes_eq-Decides (b ∷ u ∷ f ∷ r ∷ []) (codes "BUFR")).0 (not_false _ g1.0) in
     let layout = bind_ok (layout_or edition (layout_of edition)) _ found g1.1 in
     let number = layout_takes edition layout.0 layout.1 in
     let room = bind_ok (room_in (three l1 l2 l3) rest) _ found layout.2 in
     let whole = room_in_takes (three l1 l2 l3) rest room.0 room.1 in
-    let spelt = room_spelt layout.0 l1 l2 l3 rest (octets 4 0 (omega arith)) (octets 5 0 (omega arith)) (octets 6 0 (omega arith)) whole.0 whole.1 whole.2 in
-    let is : (layout.0, take (length rest - 4) rest) ≡ found = ap (λ xs. (layout.0, xs)) whole.3 ∙ ok_is _ _ room.2 in
-    subst (λ (x : Layout × List ℕ). (b ∷ u ∷ f ∷ r ∷ l1 ∷ l2 ∷ l3 ∷ edition ∷ rest ≡ enclosed x.0 x.1) × (12 + length x.1 < 2 ^ 24) × AreOctets x.1) is
-    (ap (λ xs. xs ++ l1 ∷ l2 ∷ l3 ∷ edition ∷ rest) start ∙ ap (λ n. codes "BUFR" ++ l1 ∷ l2 ∷ l3 ∷ n ∷ rest) number ∙ spelt.0, spelt.1, All-take IsOctet (length rest - 4) rest (All-drop IsOctet 8 (b ∷ u ∷ f ∷ r ∷ l1 ∷ l2 ∷ l3 ∷ edition ∷ rest) octets))
+    let spelt =
+    room_spelt layout.0 l1 l2 l3 rest (octets 4 0 (omega arith)) (octets 5 0 (omega arith))
+    (octets 6 0 (omega arith)) whole.0 whole.1 whole.2 in
+    let is : (layout.0, take (length rest - 4) rest) ≡ found =
+    ap (λ xs. (layout.0, xs)) whole.3 ∙ ok_is _ _ room.2 in
+    subst
+    (λ (x : Layout × List ℕ). (b ∷ u ∷ f ∷ r ∷ l1 ∷ l2 ∷ l3 ∷ edition ∷ rest ≡ enclosed x.0 x.1)
+    × (12 + length x.1 < 2 ^ 24) × AreOctets x.1) is (
+      ap (λ xs. xs ++ l1 ∷ l2 ∷ l3 ∷ edition ∷ rest) start
+          ∙ ap (λ n. codes "BUFR" ++ l1 ∷ l2 ∷ l3 ∷ n ∷ rest) number ∙ spelt.0,
+      spelt.1,
+      All-take IsOctet (length rest - 4) rest
+          (All-drop IsOctet 8 (b ∷ u ∷ f ∷ r ∷ l1 ∷ l2 ∷ l3 ∷ edition ∷ rest) octets),
+    )
 room_of_takes _ found octets e = absurd cc
 
 -- ---- a section
@@ -112,15 +152,32 @@ section_at_takes shortest fault [] contents rest least octets e = absurd cc
 section_at_takes shortest fault (a ∷ []) contents rest least octets e = absurd cc
 section_at_takes shortest fault (a ∷ b ∷ []) contents rest least octets e = absurd cc
 section_at_takes shortest fault (a ∷ b ∷ c ∷ more) contents rest least octets e =
-    let g = guard_ok (nat_lt (three a b c) shortest || nat_lt (3 + length more) (three a b c)) fault _ (contents, rest) e in
-    let long : shortest ≤ three a b c = ltb-false _ _ (or_first (nat_lt (three a b c) shortest) (nat_lt (3 + length more) (three a b c)) g.0) in
-    let inside : three a b c ≤ 3 + length more = ltb-false _ _ (or_second (nat_lt (three a b c) shortest) (nat_lt (3 + length more) (three a b c)) g.0) in
-    let len : length (take (three a b c - 3) more) ≡ three a b c - 3 = omega (arith, length-take (three a b c - 3) more) in
+    let g =
+    guard_ok (nat_lt (three a b c) shortest || nat_lt (3 + length more) (three a b c)) fault _
+    (contents, rest) e in
+    let long : shortest ≤ three a b c =
+    ltb-false _ _
+    (or_first (nat_lt (three a b c) shortest) (nat_lt (3 + length more) (three a b c)) g.0) in
+    let inside : three a b c ≤ 3 + length more =
+    ltb-false _ _
+    (or_second (nat_lt (three a b c) shortest) (nat_lt (3 + length more) (three a b c)) g.0) in
+    let len : length (take (three a b c - 3) more) ≡ three a b c - 3 =
+    omega (arith, length-take (three a b c - 3) more) in
     let whole : 3 + length (take (three a b c - 3) more) ≡ three a b c = omega arith in
-    let front = three_spelt (3 + length (take (three a b c - 3) more)) a b c whole (octets 0 0 (omega arith)) (octets 1 0 (omega arith)) (octets 2 0 (omega arith)) in
+    let front =
+    three_spelt (3 + length (take (three a b c - 3) more)) a b c whole
+    (octets 0 0 (omega arith)) (octets 1 0 (omega arith)) (octets 2 0 (omega arith)) in
     let others = All-drop IsOctet 3 (a ∷ b ∷ c ∷ more) octets in
-    subst (λ (p : List ℕ × List ℕ). (a ∷ b ∷ c ∷ more ≡ section p.0 ++ p.1) × (shortest ≤ 3 + length p.0) × AreOctets p.0 × AreOctets p.1) (ok_is _ _ g.1)
-    (ap (λ xs. a ∷ b ∷ c ∷ xs) (sym (take-append-drop (three a b c - 3) more)) ∙ ap (λ (h : List ℕ). h ++ take (three a b c - 3) more ++ drop (three a b c - 3) more) (sym front), omega arith, All-take IsOctet (three a b c - 3) more others, All-drop IsOctet (three a b c - 3) more others)
+    subst
+    (λ (p : List ℕ × List ℕ). (a ∷ b ∷ c ∷ more ≡ section p.0 ++ p.1)
+    × (shortest ≤ 3 + length p.0) × AreOctets p.0 × AreOctets p.1) (ok_is _ _ g.1) (
+      ap (λ xs. a ∷ b ∷ c ∷ xs) (sym (take-append-drop (three a b c - 3) more))
+          ∙ ap (λ (h : List ℕ). h ++ take (three a b c - 3) more ++ drop (three a b c - 3) more)
+          (sym front),
+      omega arith,
+      All-take IsOctet (three a b c - 3) more others,
+      All-drop IsOctet (three a b c - 3) more others,
+    )
 
 -- ---- section 1
 
@@ -138,24 +195,58 @@ ignoring1 ignored year = record nothing_ignored { bits1 = ignored; year_octet = 
 
 -- the head of a layout that is read is spelt so, by what is ignored in section 1
 abbrev pub SpeltHead : Layout → List ℕ → Head × Bool → Type 0
-SpeltHead layout octets h = (i : Ignored) × (i.bits1 < 128) × (octets ≡ head_octets layout h.0 h.1 i) × HasSection1 layout h.0 i
+SpeltHead layout octets h =
+    (i : Ignored) × (i.bits1 < 128) × (octets ≡ head_octets layout h.0 h.1 i)
+    × HasSection1 layout h.0 i
 
 -- a head of edition 4 that is read is spelt so
 head4_of_takes : (octets : List ℕ) (h : Head × Bool) → AreOctets octets → head4_of octets ≡ Ok h
     → SpeltHead Edition4 octets h
 unfolding head4_of
-head4_of_takes (master ∷ c1 ∷ c2 ∷ s1 ∷ s2 ∷ update ∷ flags ∷ category ∷ international ∷ local_category ∷ master_version ∷ local_version ∷ y1 ∷ y2 ∷ month ∷ day ∷ hour ∷ minute ∷ second ∷ local) h octets e =
+head4_of_takes
+    (master ∷ c1 ∷ c2 ∷ s1 ∷ s2 ∷ update ∷ flags ∷ category ∷ international ∷ local_category
+    ∷ master_version ∷ local_version ∷ y1 ∷ y2 ∷ month ∷ day ∷ hour ∷ minute ∷ second
+    ∷ local) h octets e =
     let p = passed_ok (master == 0) _ (MasterTable master) h e in
     let none : master ≡ 0 = eqb-true _ _ p.0 in
     let centre = two_cells c1 c2 (octets 1 0 (omega arith)) (octets 2 0 (omega arith)) in
     let sub_centre = two_cells s1 s2 (octets 3 0 (omega arith)) (octets 4 0 (omega arith)) in
     let year = two_cells y1 y2 (octets 12 0 (omega arith)) (octets 13 0 (omega arith)) in
     let bits = flags1 flags (octets 6 0 (omega arith)) in
-    subst (λ (h : Head × Bool). SpeltHead Edition4 (master ∷ c1 ∷ c2 ∷ s1 ∷ s2 ∷ update ∷ flags ∷ category ∷ international ∷ local_category ∷ master_version ∷ local_version ∷ y1 ∷ y2 ∷ month ∷ day ∷ hour ∷ minute ∷ second ∷ local) h) p.1 (
+    subst
+    (λ (h : Head × Bool). SpeltHead Edition4
+    (master ∷ c1 ∷ c2 ∷ s1 ∷ s2 ∷ update ∷ flags ∷ category ∷ international ∷ local_category
+    ∷ master_version ∷ local_version ∷ y1 ∷ y2 ∷ month ∷ day ∷ hour ∷ minute ∷ second
+    ∷ local) h) p.1 (
       ignoring1 (flags % 128) 0,
       bits.1,
       rw (centre.0, centre.1, sub_centre.0, sub_centre.1, year.0, year.1, ← bits.0, none) refl,
-      record { centre = centre.2; sub_centre = sub_centre.2; update = octets 5 0 (omega arith); category = octets 7 0 (omega arith); international = octets 8 0 (omega arith); local_category = octets 9 0 (omega arith); master_version = octets 10 0 (omega arith); local_version = octets 11 0 (omega arith); year = year.2; month = octets 14 0 (omega arith); day = octets 15 0 (omega arith); hour = octets 16 0 (omega arith); minute = octets 17 0 (omega arith); second = octets 18 0 (omega arith); local = All-drop IsOctet 19 (master ∷ c1 ∷ c2 ∷ s1 ∷ s2 ∷ update ∷ flags ∷ category ∷ international ∷ local_category ∷ master_version ∷ local_version ∷ y1 ∷ y2 ∷ month ∷ day ∷ hour ∷ minute ∷ second ∷ local) octets },
+      record {
+        centre = centre.2;
+        sub_centre = sub_centre.2;
+        update = octets 5 0
+            (omega arith);
+        category = octets 7 0 (omega arith);
+        international = octets 8 0
+            (omega arith);
+        local_category = octets 9 0 (omega arith);
+        master_version = octets 10 0
+            (omega arith);
+        local_version = octets 11 0
+            (omega arith);
+        year = year.2;
+        month = octets 14 0 (omega arith);
+        day = octets 15 0
+            (omega arith);
+        hour = octets 16 0 (omega arith);
+        minute = octets 17 0
+            (omega arith);
+        second = octets 18 0 (omega arith);
+        local = All-drop IsOctet 19
+            (master ∷ c1 ∷ c2 ∷ s1 ∷ s2 ∷ update ∷ flags ∷ category ∷ international ∷ local_category
+            ∷ master_version ∷ local_version ∷ y1 ∷ y2 ∷ month ∷ day ∷ hour ∷ minute ∷ second
+            ∷ local) octets;
+      },
     )
 head4_of_takes _ h octets e = absurd cc
 
@@ -163,15 +254,46 @@ head4_of_takes _ h octets e = absurd cc
 head3_of_takes : (octets : List ℕ) (h : Head × Bool) → AreOctets octets → head3_of octets ≡ Ok h
     → SpeltHead Edition3 octets h
 unfolding head3_of
-head3_of_takes (master ∷ sub_centre ∷ centre ∷ update ∷ flags ∷ category ∷ local_category ∷ master_version ∷ local_version ∷ year ∷ month ∷ day ∷ hour ∷ minute ∷ local) h octets e =
+head3_of_takes
+    (master ∷ sub_centre ∷ centre ∷ update ∷ flags ∷ category ∷ local_category ∷ master_version
+    ∷ local_version ∷ year ∷ month ∷ day ∷ hour ∷ minute ∷ local) h octets e =
     let p = passed_ok (master == 0) _ (MasterTable master) h e in
     let none : master ≡ 0 = eqb-true _ _ p.0 in
     let bits = flags1 flags (octets 4 0 (omega arith)) in
-    subst (SpeltHead Edition3 (master ∷ sub_centre ∷ centre ∷ update ∷ flags ∷ category ∷ local_category ∷ master_version ∷ local_version ∷ year ∷ month ∷ day ∷ hour ∷ minute ∷ local)) p.1 (
+    subst
+    (SpeltHead Edition3
+    (master ∷ sub_centre ∷ centre ∷ update ∷ flags ∷ category ∷ local_category ∷ master_version
+    ∷ local_version ∷ year ∷ month ∷ day ∷ hour ∷ minute ∷ local)) p.1 (
       ignoring1 (flags % 128) year,
       bits.1,
       rw (← bits.0, none) refl,
-      record { centre = octets 2 0 (omega arith); sub_centre = octets 1 0 (omega arith); update = octets 3 0 (omega arith); category = octets 5 0 (omega arith); international = refl; local_category = octets 6 0 (omega arith); master_version = octets 7 0 (omega arith); local_version = octets 8 0 (omega arith); year = refl; year_octet = octets 9 0 (omega arith); month = octets 10 0 (omega arith); day = octets 11 0 (omega arith); hour = octets 12 0 (omega arith); minute = octets 13 0 (omega arith); second = refl; local = All-drop IsOctet 14 (master ∷ sub_centre ∷ centre ∷ update ∷ flags ∷ category ∷ local_category ∷ master_version ∷ local_version ∷ year ∷ month ∷ day ∷ hour ∷ minute ∷ local) octets },
+      record {
+        centre = octets 2 0 (omega arith);
+        sub_centre = octets 1 0
+            (omega arith);
+        update = octets 3 0 (omega arith);
+        category = octets 5 0
+            (omega arith);
+        international = refl;
+        local_category = octets 6 0
+            (omega arith);
+        master_version = octets 7 0 (omega arith);
+        local_version = octets 8 0
+            (omega arith);
+        year = refl;
+        year_octet = octets 9 0 (omega arith);
+        month = octets 10 0
+            (omega arith);
+        day = octets 11 0 (omega arith);
+        hour = octets 12 0
+            (omega arith);
+        minute = octets 13 0
+            (omega arith);
+        second = refl;
+        local = All-drop IsOctet 14
+            (master ∷ sub_centre ∷ centre ∷ update ∷ flags ∷ category ∷ local_category
+            ∷ master_version ∷ local_version ∷ year ∷ month ∷ day ∷ hour ∷ minute ∷ local) octets;
+      },
     )
 head3_of_takes _ h octets e = absurd cc
 
@@ -189,18 +311,28 @@ pub local_at_takes : (announced : Bool) (room rest : List ℕ) (local : Option (
     → (ignored : ℕ) × IsOctet ignored × (room ≡ section2 local ignored ++ rest)
     × (is_present local ≡ announced) × IfSome local AreOctets × AreOctets rest
 local_at_takes false room rest local octets e =
-    subst (λ (p : Option (List ℕ) × List ℕ). (ignored : ℕ) × IsOctet ignored × (room ≡ section2 p.0 ignored ++ p.1) × (is_present p.0 ≡ false) × IfSome p.0 AreOctets × AreOctets p.1) (ok_is _ _ e)
+    subst
+    (λ (p : Option (List ℕ) × List ℕ). (ignored : ℕ) × IsOctet ignored
+    × (room ≡ section2 p.0 ignored ++ p.1) × (is_present p.0 ≡ false) × IfSome p.0 AreOctets
+    × AreOctets p.1) (ok_is _ _ e)
     (0, omega arith, refl, refl, tt, octets)
 local_at_takes true room rest local octets e =
     let two = bind_ok (section_at 4 Section2Length room) _ (local, rest) e in
     let found = section_at_takes 4 Section2Length room two.0.0 two.0.1 (omega arith) octets two.1 in
-    subst (λ (p : Option (List ℕ) × List ℕ). (ignored : ℕ) × IsOctet ignored × (room ≡ section2 p.0 ignored ++ p.1) × (is_present p.0 ≡ true) × IfSome p.0 AreOctets × AreOctets p.1) (ok_is _ _ two.2)
+    subst
+    (λ (p : Option (List ℕ) × List ℕ). (ignored : ℕ) × IsOctet ignored
+    × (room ≡ section2 p.0 ignored ++ p.1) × (is_present p.0 ≡ true) × IfSome p.0 AreOctets
+    × AreOctets p.1) (ok_is _ _ two.2)
     (local_spelt room two.0.0 two.0.1 found.0 found.1 found.2 found.3)
   where
-    local_spelt : (room octets rest : List ℕ) → room ≡ section octets ++ rest → 4 ≤ 3 + length octets → AreOctets octets → AreOctets rest
-        → (ignored : ℕ) × IsOctet ignored × (room ≡ section2 (Some (drop 1 octets)) ignored ++ rest) × (is_present (Some (drop 1 octets)) ≡ true) × AreOctets (drop 1 octets) × AreOctets rest
+    local_spelt : (room octets rest : List ℕ) → room ≡ section octets ++ rest
+        → 4 ≤ 3 + length octets → AreOctets octets → AreOctets rest
+        → (ignored : ℕ) × IsOctet ignored × (room ≡ section2 (Some (drop 1 octets)) ignored ++ rest)
+        × (is_present (Some (drop 1 octets)) ≡ true) × AreOctets (drop 1 octets)
+        × AreOctets rest
     local_spelt room [] rest is long octets others = absurd (omega arith)
-    local_spelt room (x ∷ xs) rest is long octets others = (x, All-head IsOctet x xs octets, is, refl, All-tail IsOctet x xs octets, others)
+    local_spelt room (x ∷ xs) rest is long octets others =
+        (x, All-head IsOctet x xs octets, is, refl, All-tail IsOctet x xs octets, others)
 
 -- ---- section 3
 
@@ -213,8 +345,13 @@ list_spelt [] octets = ([], refl, omega arith, All-nil IsOctet, All-nil (λ d. d
 list_spelt (a ∷ []) octets = (a ∷ [], refl, omega arith, octets, All-nil (λ d. d < 2 ^ 16))
 list_spelt (a ∷ b ∷ rest) octets =
     let more = list_spelt rest (All-drop IsOctet 2 (a ∷ b ∷ rest) octets) in
-    let cells = two_cells a b (octets 0 0 (omega arith)) (octets 1 0 (omega arith)) in
-    (more.0, rw (cells.0, cells.1) (ap (λ xs. a ∷ b ∷ xs) more.1), more.2, more.3, All-cons (λ d. d < 2 ^ 16) (two a b) (descriptors_of rest) cells.2 more.4)
+    let cells = two_cells a b (octets 0 0 (omega arith)) (octets 1 0 (omega arith)) in (
+      more.0,
+      rw (cells.0, cells.1) (ap (λ xs. a ∷ b ∷ xs) more.1),
+      more.2,
+      more.3,
+      All-cons (λ d. d < 2 ^ 16) (two a b) (descriptors_of rest) cells.2 more.4,
+    )
 
 -- the octet of the flags, in its three parts
 flags3 : (flags : ℕ) → flags < 256
@@ -222,7 +359,8 @@ flags3 : (flags : ℕ) → flags < 256
     × (flags % 64 < 64)
 flags3 flags h = (whole (cases_lt flags 128) (cases_lt (flags / 64 % 2) 1), omega arith)
   where
-    whole : (flags < 128) ⊎ (128 ≤ flags) → (flags / 64 % 2 < 1) ⊎ (1 ≤ flags / 64 % 2) → flags ≡ flag (nat_le 128 flags) 128 + flag (flags / 64 % 2 == 1) 64 + flags % 64
+    whole : (flags < 128) ⊎ (128 ≤ flags) → (flags / 64 % 2 < 1) ⊎ (1 ≤ flags / 64 % 2) → flags
+        ≡ flag (nat_le 128 flags) 128 + flag (flags / 64 % 2 == 1) 64 + flags % 64
     whole (inl low) (inl none) =
         let o : nat_le 128 flags ≡ false = lt-leb _ _ low in
         let c : (flags / 64 % 2 == 1) ≡ false = ne_eqb _ _ (λ one. omega arith) in
@@ -297,7 +435,8 @@ contents_spelt : (octets : List ℕ) → 4 ≤ 3 + length octets → AreOctets o
     → (ignored : ℕ) × IsOctet ignored × (section octets ≡ section4 (drop 1 octets) ignored)
     × AreOctets (drop 1 octets)
 contents_spelt [] long octets = absurd (omega arith)
-contents_spelt (x ∷ xs) long octets = (x, All-head IsOctet x xs octets, refl, All-tail IsOctet x xs octets)
+contents_spelt (x ∷ xs) long octets =
+    (x, All-head IsOctet x xs octets, refl, All-tail IsOctet x xs octets)
 
 -- section 4 that is read is spelt so
 pub contents_of_takes : (octets rest contents : List ℕ) → 4 ≤ 3 + length octets → AreOctets octets
@@ -305,17 +444,30 @@ pub contents_of_takes : (octets rest contents : List ℕ) → 4 ≤ 3 + length o
     → (ignored : ℕ) × IsOctet ignored × (section octets ++ rest ≡ section4 contents ignored ++ [])
     × AreOctets contents
 contents_of_takes octets [] contents long all e =
-    subst (λ (xs : List ℕ). (ignored : ℕ) × IsOctet ignored × (section octets ++ [] ≡ section4 xs ignored ++ []) × AreOctets xs) (ok_is _ _ e)
+    subst
+    (λ (xs : List ℕ). (ignored : ℕ) × IsOctet ignored
+    × (section octets ++ [] ≡ section4 xs ignored ++ []) × AreOctets xs) (ok_is _ _ e)
     (let c = contents_spelt octets long all in (c.0, c.1, ap (λ xs. xs ++ []) c.2, c.3))
 contents_of_takes octets (x ∷ rest) contents long all e =
-    let none : length (x ∷ rest) ≡ 0 = eqb-true _ _ (passed_ok (length (x ∷ rest) == 0) _ Section4Length contents e).0 in
+    let none : length (x ∷ rest) ≡ 0 =
+    eqb-true _ _ (passed_ok (length (x ∷ rest) == 0) _ Section4Length contents e).0 in
     absurd (omega arith)
 
 -- ---- the sections together
 
 -- the parts that are read, together
 abbrev enveloped : Head → Option (List ℕ) → Description → List ℕ → Envelope
-enveloped h local d contents = record { head = h; section2 = local; observed = d.observed; compressed = d.compressed; descriptors = d.descriptors; count = d.count; contents = contents }
+enveloped h local d contents =
+    record {
+      head = h;
+      section2 = local;
+      observed = d.observed;
+      compressed = d.compressed;
+      descriptors =
+          d.descriptors;
+      count = d.count;
+      contents = contents;
+    }
 
 -- sections that are each spelt are spelt together
 together : (layout : Layout) (room room2 room3 room4 : List ℕ) (h : Head) (announced : Bool)
@@ -344,7 +496,8 @@ fits_together : (layout : Layout) (room : List ℕ) (h : Head) (local : Option (
     → IsOctet i.octet4 → i.octet3 ≡ said.octet3 → i.bits3 ≡ said.bits3 → i.odd ≡ said.odd
     → EnvelopeFits layout (enveloped h local d contents) i
 unfolding spelling
-fits_together layout room h local d contents i octets3 said small is head section2 all bits1 octet2 octet4 same3 same_bits same_odd =
+fits_together layout room h local d contents i octets3 said small is head section2 all bits1 octet2
+    octet4 same3 same_bits same_odd =
     record {
       head = head;
       section2 = section2;
@@ -352,9 +505,22 @@ fits_together layout room h local d contents i octets3 said small is head sectio
       descriptors = said.descriptors;
       count = said.count;
       contents = all;
-      total = let len : length (sections layout (enveloped h local d contents) i) ≡ length room = ap length (sym is) in
-          omega (arith, length-append (sections layout (enveloped h local d contents) i) (codes "7777"));
-      ignored = (bits1, octet2, rw same3 said.is_octet, rw same_bits said.few, rw same_odd said.short, rw same_odd said.octets_odd, octet4);
+      total =
+          let len : length (sections layout (enveloped h local d contents) i) ≡ length room =
+          ap length (sym is) in
+          omega (
+            arith,
+            length-append (sections layout (enveloped h local d contents) i) (codes "7777"),
+          );
+      ignored = (
+        bits1,
+        octet2,
+        rw same3 said.is_octet,
+        rw same_bits said.few,
+        rw same_odd said.short,
+        rw same_odd said.octets_odd,
+        octet4,
+      );
     }
 
 -- the rest of what is ignored leaves section 1 as it is
@@ -398,19 +564,32 @@ sections_of_takes layout room e octets small ok =
     let said = bind_ok (description_of three.0.0) _ e three.2 in
     let four = bind_ok (section_at 4 Section4Length three.0.1) _ e said.2 in
     let last = bind_ok (contents_of four.0) _ e four.2 in
-    let t1 = section_at_takes (shortest1 layout) Section1Length room one.0.0 one.0.1 (head_is_long layout head.0.0 head.0.1 nothing_ignored).0 octets one.1 in
+    let t1 =
+    section_at_takes (shortest1 layout) Section1Length room one.0.0 one.0.1
+    (head_is_long layout head.0.0 head.0.1 nothing_ignored).0 octets one.1 in
     let th = head_of_takes layout one.0.0 head.0 t1.2 head.1 in
     let t2 = local_at_takes head.0.1 one.0.1 two.0.1 two.0.0 t1.3 two.1 in
-    let t3 = section_at_takes 9 Section3Length two.0.1 three.0.0 three.0.1 (omega arith) t2.5 three.1 in
+    let t3 =
+    section_at_takes 9 Section3Length two.0.1 three.0.0 three.0.1 (omega arith) t2.5 three.1 in
     let td = description_of_takes three.0.0 said.0 t3.2 (omega (arith, t3.1)) said.1 in
-    let t4 = section_at_takes 4 Section4Length three.0.1 four.0.0 four.0.1 (omega arith) t3.3 four.1 in
+    let t4 =
+    section_at_takes 4 Section4Length three.0.1 four.0.0 four.0.1 (omega arith) t3.3 four.1 in
     let tc = contents_of_takes four.0.0 four.0.1 last.0 t4.1 t4.2 last.1 in
-    let i : Ignored = record th.0 { octet2 = t2.0; octet3 = td.octet3; bits3 = td.bits3; odd = td.odd; octet4 = tc.0 } in
+    let i : Ignored =
+    record th.0
+    { octet2 = t2.0; octet3 = td.octet3; bits3 = td.bits3; odd = td.odd; octet4 = tc.0 } in
     let h = same_head layout head.0.0 head.0.1 th.0 i refl refl in
-    let spelt = together layout room one.0.1 two.0.1 three.0.1 head.0.0 head.0.1 two.0.0 said.0 last.0 i
-    (t1.0 ∙ ap (λ xs. section xs ++ one.0.1) (th.2 ∙ h.0)) t2.3 t2.2 (t3.0 ∙ ap (λ xs. section xs ++ three.0.1) td.spelt) (t4.0 ∙ tc.2) in
-    subst (λ (e : Envelope). (i : Ignored) × (room ≡ sections layout e i) × EnvelopeFits layout e i) (ok_is _ _ last.2)
-    (i, spelt, fits_together layout room head.0.0 two.0.0 said.0 last.0 i three.0.0 td small spelt (h.1 th.3) t2.4 tc.3 th.1 t2.1 tc.1 refl refl refl)
+    let spelt =
+    together layout room one.0.1 two.0.1 three.0.1 head.0.0 head.0.1 two.0.0 said.0 last.0 i
+    (t1.0 ∙ ap (λ xs. section xs ++ one.0.1) (th.2 ∙ h.0)) t2.3 t2.2
+    (t3.0 ∙ ap (λ xs. section xs ++ three.0.1) td.spelt) (t4.0 ∙ tc.2) in
+    subst (λ (e : Envelope). (i : Ignored) × (room ≡ sections layout e i) × EnvelopeFits layout e i)
+    (ok_is _ _ last.2) (
+      i,
+      spelt,
+      fits_together layout room head.0.0 two.0.0 said.0 last.0 i three.0.0 td small spelt
+          (h.1 th.3) t2.4 tc.3 th.1 t2.1 tc.1 refl refl refl,
+    )
 
 -- the sections that are read of octets are spelt so
 pub envelope_of_takes : (octets : List ℕ) (e : Envelope) → AreOctets octets

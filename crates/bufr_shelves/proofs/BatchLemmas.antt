@@ -1,5 +1,6 @@
 -- What is kept of pairs in batches: for `Batches`, whose pairs come in any order.
-use Rattle.std.proofs.Common.{◌≡◌, inl, inr, ℕ, suc, zero, ◌<◌, length, slice_index_or, List, [], ◌∷◌, ◌++◌, sym, ap, ◌∙◌, append_assoc, arith}
+use Rattle.std.proofs.Common.{◌≡◌, inl, inr, ℕ, suc, zero, ◌<◌, length, slice_index_or, List, []}
+use Rattle.std.proofs.Common.{◌∷◌, ◌++◌, sym, ap, ◌∙◌, append_assoc, arith}
 use Rattle.std.proofs.lemmas.List.{append-nil}
 use Rattle.std.proofs.lemmas.List.Sorted.{Contains-permutation, IsPermutation-sym}
 use Rattle.std.specs.List.{Contains, AllByRecursion}
@@ -121,8 +122,10 @@ module _ {A : Type 0} (slot rank : A → A → Ordering) (so : IsTotalOrder slot
       sorted_all (put_by slot rank e s) f (laws.put_ordered slot rank so ro e s h)
 
   -- what is settled alone is all there is
-  pub kept_alone : (s : List A) → IsStrictlySortedBy slot s → kept_by slot rank (s ++ ([] ++ [])) ≡ s
-  kept_alone s h = ap (kept_by slot rank) (append-nil s) ∙ laws.kept_sorted slot rank so ro exact s h
+  pub kept_alone : (s : List A) → IsStrictlySortedBy slot s → kept_by slot rank (s ++ ([] ++ []))
+      ≡ s
+  kept_alone s h =
+      ap (kept_by slot rank) (append-nil s) ∙ laws.kept_sorted slot rank so ro exact s h
 
 -- ---- order
 

@@ -1,6 +1,8 @@
 -- Pairs of key and value in order of keys: what is put in and found among them. For the functions
 -- of ordered maps below `MapShelf`.
-use Rattle.std.proofs.Common.{◌≡◌, Bool, true, false, cond, not, ◌&&◌, ◌||◌, Option, Some, None, Result, Ok, Err, OnOk, OnErr, IfOk, IfNone, MatchResult, List, [], ◌∷◌, ◌++◌, map, find, filter, refl, sym, ap, ◌∙◌, subst}
+use Rattle.std.proofs.Common.{◌≡◌, Bool, true, false, cond, not, ◌&&◌, ◌||◌, Option, Some, None}
+use Rattle.std.proofs.Common.{Result, Ok, Err, OnOk, OnErr, IfOk, IfNone, MatchResult, List, []}
+use Rattle.std.proofs.Common.{◌∷◌, ◌++◌, map, find, filter, refl, sym, ap, ◌∙◌, subst}
 use Rattle.std.specs.List.{list_any, AllByRecursion}
 use Rattle.std.specs.List.Sorted.{IsStrictlySortedBy}
 use Rattle.std.specs.Ordering.{is_gt, is_eq, match_ordering}

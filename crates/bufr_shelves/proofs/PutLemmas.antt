@@ -1,6 +1,7 @@
 -- What a shelf holds once one more entry was put among its pairs, whatever the pairs stand in: for
 -- the clauses `changed` and `ok` of `Shelf::put` on both shelves, and that both stay in order.
-use Rattle.std.proofs.Common.{◌≡◌, ℕ, Bool, Option, Some, None, Result, OnOk, OnErr, IfOk, List, [], ◌∷◌, ◌++◌, sym, ap, ◌∙◌}
+use Rattle.std.proofs.Common.{◌≡◌, ℕ, Bool, Option, Some, None, Result, OnOk, OnErr, IfOk, List, []}
+use Rattle.std.proofs.Common.{◌∷◌, ◌++◌, sym, ap, ◌∙◌}
 use Rattle.std.specs.Ordering.{nat_cmp}
 use Rattle.std.specs.Cmp.Lexicographic.{slice_cmp}
 use Rattle.bufr_shelves.specs.Keeping.{changes_by}
@@ -12,7 +13,9 @@ use Rattle.bufr_shelves.specs.declared.rank.Rank.{Rank}
 use Rattle.bufr_shelves.specs.declared.entry.Entry.{Entry}
 use Rattle.bufr_shelves.specs.ChangeLaws.{changes-kept}
 use Rattle.bufr_shelves.proofs.PairLemmas.{from_result, on_ok, if_ok}
-use Rattle.bufr_shelves.proofs.ShelvedLemmas.{IsKept, put_keyed, put_unkeyed, changes-keyed, changes-unkeyed, shelved-keyed, shelved-unkeyed, kept-of, entries-put}
+use Rattle.bufr_shelves.proofs.ShelvedLemmas.{IsKept, put_keyed, put_unkeyed, changes-keyed}
+use Rattle.bufr_shelves.proofs.ShelvedLemmas.{changes-unkeyed, shelved-keyed, shelved-unkeyed}
+use Rattle.bufr_shelves.proofs.ShelvedLemmas.{kept-of, entries-put}
 
 -- the entry that `put` is given
 abbrev pub given : Option Key → ℕ → List ℕ → Entry

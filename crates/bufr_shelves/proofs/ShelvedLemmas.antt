@@ -1,6 +1,7 @@
 -- Entries that stand as pairs with a key and pairs without: what is put in, looked up and kept
 -- among them. For `put`, `join`, `get`, `first` and `after` of both shelves.
-use Rattle.std.proofs.Common.{◌≡◌, ℕ, true, false, cond, not, ◌&&◌, ◌||◌, Some, None, List, [], ◌∷◌, ◌++◌, map, find, refl, sym, ap, ◌∙◌, subst, append_assoc}
+use Rattle.std.proofs.Common.{◌≡◌, ℕ, true, false, cond, not, ◌&&◌, ◌||◌, Some, None, List, [], ◌∷◌}
+use Rattle.std.proofs.Common.{◌++◌, map, find, refl, sym, ap, ◌∙◌, subst, append_assoc}
 use Rattle.std.proofs.lemmas.List.{append-nil}
 use Rattle.std.specs.Option.{option_map}
 use Rattle.std.specs.List.{list_any, AllByRecursion}
@@ -12,8 +13,10 @@ use Rattle.std.specs.declared.cmp.Ordering.{Ordering}
 use Rattle.std.specs.declared.cmp.Ordering.TheVariants.{Less, Equal, Greater}
 use Rattle.bufr_shelves.specs.Keeping.{put_by, put_all, changes_by, first_of}
 use Rattle.bufr_shelves.specs.KeepingLaws.{put_less, put_equal, put_greater}
-use Rattle.bufr_shelves.specs.Entries.{octets_cmp, key_cmp, slot_by, slot_cmp, rank_cmp, kept, changes, entry_at, entry_after}
-use Rattle.bufr_shelves.specs.Orders.{kept-swap, kept-early, kept-late, kept-kept, kept-are, then-Equal}
+use Rattle.bufr_shelves.specs.Entries.{octets_cmp, key_cmp, slot_by, slot_cmp, rank_cmp, kept}
+use Rattle.bufr_shelves.specs.Entries.{changes, entry_at, entry_after}
+use Rattle.bufr_shelves.specs.Orders.{kept-swap, kept-early, kept-late, kept-kept, kept-are}
+use Rattle.bufr_shelves.specs.Orders.{then-Equal}
 use Rattle.bufr_shelves.specs.Ranks.{key_order, rank_order}
 use Rattle.bufr_shelves.proofs.KeyFacts.{keys_are}
 use Rattle.bufr_shelves.specs.Pairs.{by_key, by_value, with_key, without_key, shelved}

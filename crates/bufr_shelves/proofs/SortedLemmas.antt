@@ -1,6 +1,8 @@
 -- Pairs in order of keys in a list: where a key stands, and two such lists merged. For the
 -- functions of sorted vectors below `SortedShelf`.
-use Rattle.std.proofs.Common.{◌≡◌, ℕ, zero, suc, ◌+◌, ◌<◌, ◌≤◌, true, false, cond, Option, Some, None, Result, Ok, Err, List, [], ◌∷◌, length, take, drop, find, slice_get, slice_set, refl, sym, ap, ◌∙◌, subst, arith, add-one}
+use Rattle.std.proofs.Common.{◌≡◌, ℕ, zero, suc, ◌+◌, ◌<◌, ◌≤◌, true, false, cond, Option, Some}
+use Rattle.std.proofs.Common.{None, Result, Ok, Err, List, [], ◌∷◌, length, take, drop, find}
+use Rattle.std.proofs.Common.{slice_get, slice_set, refl, sym, ap, ◌∙◌, subst, arith, add-one}
 use Rattle.std.specs.List.{AllByRecursion, insert}
 use Rattle.std.specs.List.Sorted.{IsStrictlySortedBy}
 use Rattle.std.specs.Ordering.{is_gt, is_eq, is_lt, match_ordering, ordering_reverse}
@@ -319,7 +321,8 @@ module _ {A : Type 0} (slot rank : A → A → Ordering) where
               let turned : slot l k ≡ Equal = o.antisymm l k ∙ ap ordering_reverse h in
               weave_equal k (merged slot rank ks) l ls h
               ∙ sym (weave_first (cond (is_gt (rank l k)) l k) (merged slot rank ks) ls
-              (elim (is_gt (rank l k)) as (λ b. AllByRecursion (λ y. slot (cond b l k) y ≡ Less) ls) [
+              (elim (is_gt (rank l k)) as
+              (λ b. AllByRecursion (λ y. slot (cond b l k) y ≡ Less) ls) [
                 | true ↦ a
                 | false ↦ all_weaker (λ y. slot l y ≡ Less) (λ y. slot k y ≡ Less)
                     (λ y m. o.congr k l y h ∙ m) ls a

@@ -4,7 +4,8 @@ use Rattle.std.specs.Cmp.{IsTotalOrder}
 use Rattle.std.specs.List.Sorted.{IsStrictlySortedBy}
 use Rattle.std.specs.declared.cmp.Ordering.TheVariants.{Equal}
 use Rattle.bufr_shelves.specs.Keeping.{Has, SameMembers, AreKept}
-use Rattle.bufr_shelves.specs.Entries.{slot_cmp, coarse_slot_cmp, rank_cmp, kept, coarsely_kept, changes}
+use Rattle.bufr_shelves.specs.Entries.{slot_cmp, coarse_slot_cmp, rank_cmp, kept, coarsely_kept}
+use Rattle.bufr_shelves.specs.Entries.{changes}
 use Rattle.bufr_shelves.specs.declared.entry.Entry.{Entry}
 
 -- `kept` gives the best of each slot, in order of slots

@@ -1,12 +1,14 @@
 -- The orders of keys, slots and ranks are total, and what they cannot tell apart is equal: for the
 -- law `entries_never_tie`, and so for all laws of what is kept.
-use Rattle.std.proofs.Common.{◌≡◌, ℕ, ℤ, pos, Option, Some, None, List, [], ◌++◌, refl, sym, ap, ◌∙◌}
+use Rattle.std.proofs.Common.{◌≡◌, ℕ, ℤ, pos, Option, Some, None, List, [], ◌++◌, refl, sym, ap}
+use Rattle.std.proofs.Common.{◌∙◌}
 use Rattle.std.proofs.lemmas.List.{append-nil}
 use Rattle.std.specs.Cmp.Lexicographic.{slice_cmp}
 use Rattle.std.specs.List.Sorted.{IsStrictlySortedBy}
 use Rattle.std.specs.Ordering.{nat_cmp, int_cmp, ordering_then, ordering_reverse}
 use Rattle.std.specs.Cmp.{IsTotalOrder}
-use Rattle.std.proofs.lemmas.Cmp.{then_total, on_total, nat_cmp_total, int_cmp_total, nat_list_cmp_total}
+use Rattle.std.proofs.lemmas.Cmp.{then_total, on_total, nat_cmp_total, int_cmp_total}
+use Rattle.std.proofs.lemmas.Cmp.{nat_list_cmp_total}
 use Rattle.std.proofs.lemmas.Map.Lookups.{exact_signed, exact_unsigned, exact_bytes}
 use Rattle.std.specs.declared.cmp.Ordering.{Ordering}
 use Rattle.std.specs.declared.cmp.Ordering.TheVariants.{Less, Equal, Greater}
@@ -14,7 +16,9 @@ use Rattle.bufr_shelves.specs.declared.key.Station.{Station}
 use Rattle.bufr_shelves.specs.declared.key.Station.TheVariants.{Wmo, Wigos, Mobile}
 use Rattle.bufr_shelves.specs.declared.key.Moment.{Moment}
 use Rattle.bufr_shelves.specs.declared.key.Key.{Key}
-use Rattle.bufr_shelves.specs.Entries.{octets_cmp, station_cmp, moment_cmp, key_cmp, coarse_key_cmp, slot_in, slot_by, slot_cmp, coarse_slot_cmp, rank_cmp, kept, coarsely_kept}
+use Rattle.bufr_shelves.specs.Entries.{octets_cmp, station_cmp, moment_cmp, key_cmp, coarse_key_cmp}
+use Rattle.bufr_shelves.specs.Entries.{slot_in, slot_by, slot_cmp, coarse_slot_cmp, rank_cmp, kept}
+use Rattle.bufr_shelves.specs.Entries.{coarsely_kept}
 use Rattle.bufr_shelves.specs.declared.entry.Entry.{Entry}
 use Rattle.bufr_shelves.specs.Keeping.{Has, SameMembers, AreKept}
 use Rattle.bufr_shelves.specs.KeepingLaws as laws

@@ -9,28 +9,58 @@ use Rattle.bufr_bits.proofs.append.append.Goals as goal
 pub overflow_cast-wide-then-free-gt0 : goal.overflow_cast-wide-then-free-gt0
 overflow_cast-wide-then-free-gt0 c =
     let o = c.args.octets.now in
-    let p = putting o.items c.to_be_bytes.result c.extend_from_slice.new.self.items c.args.len c.args.width c.from.result c.len-count.result c.div_ceil-grown.result
-    c.requires.filled (c.len-count.ensures ∙ o.ok.0) c.requires.width (omega (arith, c.requires.fits, c.from.ensures))
-    (c.div_ceil-grown.ensures ∙ ap (λ w. div_ceil w 8) c.saturating_sub.ensures) c.to_be_bytes.ensures c.in_ok-extend_from_slice.ensures.items in
-    omega (arith, cast_fits o.items c.extend_from_slice.new.self.items c.args.len c.args.width c.from.result c.len-count.result c.div_ceil-grown.result (8 * c.div_ceil-grown.result + (8 * c.len-count.result - c.args.len) - c.args.width) p)
+    let p =
+    putting o.items c.to_be_bytes.result c.extend_from_slice.new.self.items c.args.len
+    c.args.width c.from.result c.len-count.result c.div_ceil-grown.result
+    c.requires.filled (c.len-count.ensures ∙ o.ok.0) c.requires.width
+    (omega (arith, c.requires.fits, c.from.ensures))
+    (c.div_ceil-grown.ensures
+    ∙ ap
+    (λ w. div_ceil w 8) c.saturating_sub.ensures) c.to_be_bytes.ensures
+    c.in_ok-extend_from_slice.ensures.items in
+    omega (
+      arith,
+      cast_fits o.items c.extend_from_slice.new.self.items c.args.len c.args.width c.from.result
+          c.len-count.result c.div_ceil-grown.result
+          (8 * c.div_ceil-grown.result + (8 * c.len-count.result - c.args.len) - c.args.width) p,
+    )
 
 -- so does its sum with the last octet
 pub overflow_add-index_mut : goal.overflow_add-index_mut
 overflow_add-index_mut c =
     let o = c.args.octets.now in
-    let p = putting o.items c.to_be_bytes.result c.extend_from_slice.new.self.items c.args.len c.args.width c.from.result c.len-count.result c.div_ceil-grown.result
-    c.requires.filled (c.len-count.ensures ∙ o.ok.0) c.requires.width (omega (arith, c.requires.fits, c.from.ensures))
-    (c.div_ceil-grown.ensures ∙ ap (λ w. div_ceil w 8) c.saturating_sub.ensures) c.to_be_bytes.ensures c.in_ok-extend_from_slice.ensures.items in
+    let p =
+    putting o.items c.to_be_bytes.result c.extend_from_slice.new.self.items c.args.len
+    c.args.width c.from.result c.len-count.result c.div_ceil-grown.result
+    c.requires.filled (c.len-count.ensures ∙ o.ok.0) c.requires.width
+    (omega (arith, c.requires.fits, c.from.ensures))
+    (c.div_ceil-grown.ensures
+    ∙ ap
+    (λ w. div_ceil w 8) c.saturating_sub.ensures) c.to_be_bytes.ensures
+    c.in_ok-extend_from_slice.ensures.items in
     let small : c.index_mut.result.now < 256 = omega arith in
-    omega (arith, add_fits o.items c.extend_from_slice.new.self.items c.args.len c.args.width c.from.result c.len-count.result c.div_ceil-grown.result (8 * c.div_ceil-grown.result + (8 * c.len-count.result - c.args.len) - c.args.width) c.index_mut.result.now p (omega (arith, c.if-free-gt0.true)) c.index_mut.ensures.value small)
+    omega (
+      arith,
+      add_fits o.items c.extend_from_slice.new.self.items c.args.len c.args.width c.from.result
+          c.len-count.result c.div_ceil-grown.result
+          (8 * c.div_ceil-grown.result +
+          (8 * c.len-count.result - c.args.len) - c.args.width) c.index_mut.result.now p
+          (omega (arith, c.if-free-gt0.true)) c.index_mut.ensures.value small,
+    )
 
 -- where bits were free, the field follows the bits
 pub returns-then-free-gt0-clause-ok : goal.returns-then-free-gt0-clause-ok
 returns-then-free-gt0-clause-ok c =
     let o = c.args.octets.now in
-    let p = putting o.items c.to_be_bytes.result c.extend_from_slice.new.self.items c.args.len c.args.width c.from.result c.len-count.result c.div_ceil-grown.result
-    c.requires.filled (c.len-count.ensures ∙ o.ok.0) c.requires.width (omega (arith, c.requires.fits, c.from.ensures))
-    (c.div_ceil-grown.ensures ∙ ap (λ w. div_ceil w 8) c.saturating_sub.ensures) c.to_be_bytes.ensures c.in_ok-extend_from_slice.ensures.items in
+    let p =
+    putting o.items c.to_be_bytes.result c.extend_from_slice.new.self.items c.args.len
+    c.args.width c.from.result c.len-count.result c.div_ceil-grown.result
+    c.requires.filled (c.len-count.ensures ∙ o.ok.0) c.requires.width
+    (omega (arith, c.requires.fits, c.from.ensures))
+    (c.div_ceil-grown.ensures
+    ∙ ap
+    (λ w. div_ceil w 8) c.saturating_sub.ensures) c.to_be_bytes.ensures
+    c.in_ok-extend_from_slice.ensures.items in
     (put_last _ _ _ _ _ _ _ _ _ p (omega (arith, c.if-free-gt0.true)) c.index_mut.ensures.value).0
     ∙ ap (λ n. take c.args.len (bits o.items) ++ bin c.args.width n) c.from.ensures
 
@@ -38,18 +68,30 @@ returns-then-free-gt0-clause-ok c =
 pub returns-then-free-gt0-clause-filled : goal.returns-then-free-gt0-clause-filled
 returns-then-free-gt0-clause-filled c =
     let o = c.args.octets.now in
-    let p = putting o.items c.to_be_bytes.result c.extend_from_slice.new.self.items c.args.len c.args.width c.from.result c.len-count.result c.div_ceil-grown.result
-    c.requires.filled (c.len-count.ensures ∙ o.ok.0) c.requires.width (omega (arith, c.requires.fits, c.from.ensures))
-    (c.div_ceil-grown.ensures ∙ ap (λ w. div_ceil w 8) c.saturating_sub.ensures) c.to_be_bytes.ensures c.in_ok-extend_from_slice.ensures.items in
+    let p =
+    putting o.items c.to_be_bytes.result c.extend_from_slice.new.self.items c.args.len
+    c.args.width c.from.result c.len-count.result c.div_ceil-grown.result
+    c.requires.filled (c.len-count.ensures ∙ o.ok.0) c.requires.width
+    (omega (arith, c.requires.fits, c.from.ensures))
+    (c.div_ceil-grown.ensures
+    ∙ ap
+    (λ w. div_ceil w 8) c.saturating_sub.ensures) c.to_be_bytes.ensures
+    c.in_ok-extend_from_slice.ensures.items in
     (put_last _ _ _ _ _ _ _ _ _ p (omega (arith, c.if-free-gt0.true)) c.index_mut.ensures.value).1
 
 -- where none were free, the field follows the bits in new octets
 pub returns-else-free-gt0-clause-ok : goal.returns-else-free-gt0-clause-ok
 returns-else-free-gt0-clause-ok c =
     let o = c.args.octets.now in
-    let p = putting o.items c.to_be_bytes.result c.extend_from_slice.new.self.items c.args.len c.args.width c.from.result c.len-count.result c.div_ceil-grown.result
-    c.requires.filled (c.len-count.ensures ∙ o.ok.0) c.requires.width (omega (arith, c.requires.fits, c.from.ensures))
-    (c.div_ceil-grown.ensures ∙ ap (λ w. div_ceil w 8) c.saturating_sub.ensures) c.to_be_bytes.ensures c.in_ok-extend_from_slice.ensures.items in
+    let p =
+    putting o.items c.to_be_bytes.result c.extend_from_slice.new.self.items c.args.len
+    c.args.width c.from.result c.len-count.result c.div_ceil-grown.result
+    c.requires.filled (c.len-count.ensures ∙ o.ok.0) c.requires.width
+    (omega (arith, c.requires.fits, c.from.ensures))
+    (c.div_ceil-grown.ensures
+    ∙ ap
+    (λ w. div_ceil w 8) c.saturating_sub.ensures) c.to_be_bytes.ensures
+    c.in_ok-extend_from_slice.ensures.items in
     (put_after _ _ _ _ _ _ _ _ p (omega (arith, c.if-free-gt0.false))).0
     ∙ ap (λ n. take c.args.len (bits o.items) ++ bin c.args.width n) c.from.ensures
 
@@ -57,7 +99,13 @@ returns-else-free-gt0-clause-ok c =
 pub returns-else-free-gt0-clause-filled : goal.returns-else-free-gt0-clause-filled
 returns-else-free-gt0-clause-filled c =
     let o = c.args.octets.now in
-    let p = putting o.items c.to_be_bytes.result c.extend_from_slice.new.self.items c.args.len c.args.width c.from.result c.len-count.result c.div_ceil-grown.result
-    c.requires.filled (c.len-count.ensures ∙ o.ok.0) c.requires.width (omega (arith, c.requires.fits, c.from.ensures))
-    (c.div_ceil-grown.ensures ∙ ap (λ w. div_ceil w 8) c.saturating_sub.ensures) c.to_be_bytes.ensures c.in_ok-extend_from_slice.ensures.items in
+    let p =
+    putting o.items c.to_be_bytes.result c.extend_from_slice.new.self.items c.args.len
+    c.args.width c.from.result c.len-count.result c.div_ceil-grown.result
+    c.requires.filled (c.len-count.ensures ∙ o.ok.0) c.requires.width
+    (omega (arith, c.requires.fits, c.from.ensures))
+    (c.div_ceil-grown.ensures
+    ∙ ap
+    (λ w. div_ceil w 8) c.saturating_sub.ensures) c.to_be_bytes.ensures
+    c.in_ok-extend_from_slice.ensures.items in
     (put_after _ _ _ _ _ _ _ _ p (omega (arith, c.if-free-gt0.false))).1

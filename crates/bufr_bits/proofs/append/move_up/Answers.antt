@@ -5,7 +5,12 @@ use Rattle.bufr_bits.proofs.append.move_up.Goals as goal
 
 -- nothing has moved, and the free bits of the first octet are zero
 pub loop-i-init : goal.loop-i-init
-loop-i-init c = record { rest = refl; moved = move_none c.args.octets.now c.args.from c.args.free c.requires.begun c.requires.few c.requires.clear }
+loop-i-init c =
+    record {
+      rest = refl;
+      moved = move_none c.args.octets.now c.args.from c.args.free c.requires.begun
+          c.requires.few c.requires.clear;
+    }
 
 -- an octet and what moves into its free bits fit an octet
 pub overflow_add-octets : goal.overflow_add-octets
@@ -21,7 +26,10 @@ overflow_add-octets c =
     } in
     let first : get_or c.loop-i.octets c.loop-i.i 0 < 256 = omega arith in
     let next : get_or c.loop-i.octets (c.loop-i.i + 1) 0 < 256 = omega arith in
-    omega (arith, move_fits c.loop-i.octets c.args.octets.now c.args.from c.loop-i.i c.args.free m first next)
+    omega (
+      arith,
+      move_fits c.loop-i.octets c.args.octets.now c.args.from c.loop-i.i c.args.free m first next,
+    )
 
 -- a round moves the bits of the next octet up, and leaves the octets behind it
 pub loop-i-preserved : goal.loop-i-preserved
@@ -36,5 +44,6 @@ loop-i-preserved c =
       moved = c.loop-i.invariant.moved;
     } in
     let next : get_or c.loop-i.octets (c.loop-i.i + 1) 0 < 256 = omega arith in
-    let more = move_more c.loop-i.octets c.args.octets.now c.args.from c.loop-i.i c.args.free m next in
+    let more =
+    move_more c.loop-i.octets c.args.octets.now c.args.from c.loop-i.i c.args.free m next in
     record { rest = more.0; moved = more.1 }

@@ -9,5 +9,8 @@ invariant-loop-i l =
     let initial = l.initial.octets in
     record {
       rest : drop (l.i + 1) l.octets ≡ drop (l.i + 1) initial;
-      moved : bits (take (l.i + 1) l.octets) ≡ (take (8 * (l.from + 1) - l.free) (bits initial) ++ bits (take (l.i - l.from) (drop (l.from + 1) initial))) ++ replicate l.free false;
+      moved : bits (take (l.i + 1) l.octets)
+          ≡
+          (take (8 * (l.from + 1) - l.free) (bits initial)
+          ++ bits (take (l.i - l.from) (drop (l.from + 1) initial))) ++ replicate l.free false;
     }

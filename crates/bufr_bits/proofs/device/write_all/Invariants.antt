@@ -8,7 +8,8 @@ abbrev pub invariant-loop-written : goal.invariant-loop-written
 invariant-loop-written g l =
     record {
       inside : l.written ≤ length l.text;
-      front : Writes (g.W.Sink.writing l.initial.sink) (g.W.Sink.writing l.sink) (take l.written l.text);
+      front : Writes (g.W.Sink.writing l.initial.sink) (g.W.Sink.writing l.sink)
+          (take l.written l.text);
       works : (g.W.Sink.writing l.sink).failed ≡ false;
     }
 

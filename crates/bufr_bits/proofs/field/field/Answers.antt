@@ -9,5 +9,7 @@ returns c =
     let place = c.args.place in
     let end = c.div_ceil-end.result in
     let up = c.div_ceil-end.ensures in
-    field_masked c.args.octets.now c.spelt-number.result (place / 8) end place c.args.width (8 * end - (place + c.from.result))
-    c.spelt-number.ensures (omega arith) (omega (arith, c.from.ensures, up)) (omega (arith, c.from.ensures, up, c.requires)) (omega (arith, c.requires))
+    field_masked c.args.octets.now c.spelt-number.result (place / 8) end place c.args.width
+    (8 * end - (place + c.from.result))
+    c.spelt-number.ensures (omega arith) (omega (arith, c.from.ensures, up))
+    (omega (arith, c.from.ensures, up, c.requires)) (omega (arith, c.requires))

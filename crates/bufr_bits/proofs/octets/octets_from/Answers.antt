@@ -1,5 +1,6 @@
 -- For `octets_from`: a slice on an octet's edge, else the octets that `shifted` combines.
-use Rattle.std.proofs.Common.{◌≡◌, ℕ, ◌+◌, ◌-◌, ◌*◌, ◌/◌, ◌%◌, ◌<◌, ◌≤◌, List, length, take, drop, get_or, arith, sym, subst, IfOk, refl}
+use Rattle.std.proofs.Common.{◌≡◌, ℕ, ◌+◌, ◌-◌, ◌*◌, ◌/◌, ◌%◌, ◌<◌, ◌≤◌, List, length, take, drop}
+use Rattle.std.proofs.Common.{get_or, arith, sym, subst, IfOk, refl}
 use Rattle.std.proofs.lemmas.List.{drop-drop, take_rest}
 use Rattle.bufr_bits.specs.Bits.{bits, numbers}
 use Rattle.bufr_bits.proofs.BitLists.{numbers_aligned, drop-bits}
@@ -20,16 +21,23 @@ inside : (octets : List ℕ) (place n : ℕ) → place + 8 * n ≤ 8 * length oc
     (drop (place / 8) octets)))) ≡ numbers n 8 (drop place (bits octets))
 inside octets place n within =
     let there : 8 * (place / 8) + place % 8 ≡ place = omega arith in
-    rw (take_rest octets (place / 8), ← drop-bits (place / 8) (8 * (place / 8)) octets refl (omega arith), drop-drop (place % 8) (8 * (place / 8)) (bits octets), there) refl
+    rw (
+      take_rest octets (place / 8),
+      ← drop-bits (place / 8) (8 * (place / 8)) octets refl (omega arith),
+      drop-drop (place % 8) (8 * (place / 8)) (bits octets),
+      there,
+    ) refl
 
 -- the copied slice has the octets that begin at a place on an octet's edge
 pub returns-then-shift-eq0 : goal.returns-then-shift-eq0
 returns-then-shift-eq0 c =
     subst (λ (xs : List ℕ). IfOk c.from_slice.result (λ v. v.items ≡ xs))
-    (aligned c.args.octets.now c.args.place c.args.n c.if-shift-eq0.true c.requires (λ i. omega (arith, c.type_inv.octets i)))
+    (aligned c.args.octets.now c.args.place c.args.n c.if-shift-eq0.true c.requires
+    (λ i. omega (arith, c.type_inv.octets i)))
     c.from_slice.ensures.items
 
 -- the combined octets are those that begin at the place
 pub returns : goal.returns
 returns c =
-    subst (λ (xs : List ℕ). IfOk c.shifted.result (λ v. v.items ≡ xs)) (inside c.args.octets.now c.args.place c.args.n c.requires) c.shifted.ensures
+    subst (λ (xs : List ℕ). IfOk c.shifted.result (λ v. v.items ≡ xs))
+    (inside c.args.octets.now c.args.place c.args.n c.requires) c.shifted.ensures

@@ -16,10 +16,18 @@ returns-in_err-write_out-clause-adds g c =
     let news = map g.S.Source.reading c.add_streams.new.readers in
     let writer = g.W.Sink.writing c.args.writer.now in
     let same = ap (λ (a : ArchiveView). a.tables) c.new-gatherer.ensures in
-    passed (Collects c.args.tables.now c.args.reads olds news writer (g.W.Sink.writing c.write_out.new.writer))
-    c.from_residual-in_err-write_out.result c.in_err-write_out.field-0.0 c.from_residual-in_err-write_out.ensures.1
-    (collects_fails c.args.tables.now c.args.reads olds news writer (g.W.Sink.writing c.write_out.new.writer) c.add_streams.new.gatherer c.add_streams.new.counts _ c.in_ok-add_streams.field-0 c.in_err-write_out.field-0.0
-    (subst (λ (t : Entries). AddsStreams t c.args.reads olds news c.add_streams.new.gatherer c.add_streams.new.counts (Ok c.in_ok-add_streams.field-0)) same
+    passed
+    (Collects c.args.tables.now c.args.reads olds news writer
+    (g.W.Sink.writing c.write_out.new.writer))
+    c.from_residual-in_err-write_out.result c.in_err-write_out.field-0.0
+    c.from_residual-in_err-write_out.ensures.1
+    (collects_fails c.args.tables.now c.args.reads olds news writer
+    (g.W.Sink.writing c.write_out.new.writer) c.add_streams.new.gatherer
+    c.add_streams.new.counts _ c.in_ok-add_streams.field-0 c.in_err-write_out.field-0.0
+    (subst
+    (λ
+    (t : Entries). AddsStreams t c.args.reads olds news c.add_streams.new.gatherer
+    c.add_streams.new.counts (Ok c.in_ok-add_streams.field-0)) same
     c.in_ok-add_streams.ensures.adds)
     (c.deref.ensures.value ∙ c.in_ok-text.ensures
     ∙ ap (λ (a : ArchiveView). text a.entries) c.in_ok-archive.ensures)
@@ -32,10 +40,16 @@ returns-clause-adds g c =
     let news = map g.S.Source.reading c.add_streams.new.readers in
     let writer = g.W.Sink.writing c.args.writer.now in
     let same = ap (λ (a : ArchiveView). a.tables) c.new-gatherer.ensures in
-    collects_ok c.args.tables.now c.args.reads olds news writer (g.W.Sink.writing c.write_out.new.writer) c.add_streams.new.gatherer c.add_streams.new.counts _ _ c.in_ok-add_streams.field-0
-    (subst (λ (t : Entries). AddsStreams t c.args.reads olds news c.add_streams.new.gatherer c.add_streams.new.counts (Ok c.in_ok-add_streams.field-0)) same
+    collects_ok c.args.tables.now c.args.reads olds news writer
+    (g.W.Sink.writing c.write_out.new.writer) c.add_streams.new.gatherer
+    c.add_streams.new.counts _ _ c.in_ok-add_streams.field-0
+    (subst
+    (λ
+    (t : Entries). AddsStreams t c.args.reads olds news c.add_streams.new.gatherer
+    c.add_streams.new.counts (Ok c.in_ok-add_streams.field-0)) same
     c.in_ok-add_streams.ensures.adds)
     (c.deref.ensures.value ∙ c.in_ok-text.ensures
     ∙ ap (λ (a : ArchiveView). text a.entries) c.in_ok-archive.ensures)
-    (c.len-reports.ensures.count ∙ ap (λ (a : ArchiveView). length a.entries) c.in_ok-archive.ensures)
+    (c.len-reports.ensures.count
+    ∙ ap (λ (a : ArchiveView). length a.entries) c.in_ok-archive.ensures)
     c.in_ok-write_out.ensures

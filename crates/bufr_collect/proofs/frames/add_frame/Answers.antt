@@ -11,9 +11,13 @@ returns c tables frames h =
     let counts = c.args.counts.now in
     elim c.match-add_message.branch [
       | in-Ok w ↦ let m = w.in-Ok.ensures in
-          let same : counts.refused + c.match-add_message.refused ≡ counts.refused = omega (arith, w.refused-is) in
-          added_ok tables old c.add_message.new.self counts _ frames c.args.frame.now _ m.0 h c.as_slice.ensures m.1 m.2 refl same
+          let same : counts.refused + c.match-add_message.refused ≡ counts.refused =
+          omega (arith, w.refused-is) in
+          added_ok tables old c.add_message.new.self counts _ frames c.args.frame.now _ m.0 h
+          c.as_slice.ensures m.1 m.2 refl same
       | in-Err-Refused w ↦ let m = rw w.in-Err-Refused.field-0-is at w.in-Err-Refused.ensures in
-          let more : counts.refused + c.match-add_message.refused ≡ counts.refused + 1 = omega (arith, w.refused-is) in
-          added_none tables old c.add_message.new.self counts _ frames c.args.frame.now _ _ h c.as_slice.ensures m.0 m.1 refl more
+          let more : counts.refused + c.match-add_message.refused ≡ counts.refused + 1 =
+          omega (arith, w.refused-is) in
+          added_none tables old c.add_message.new.self counts _ frames c.args.frame.now _ _ h
+          c.as_slice.ensures m.0 m.1 refl more
     ]

@@ -21,4 +21,5 @@ add_frame-requires-clause-few c =
 -- no more frames are counted as refused than there are
 pub add_frame-requires-clause-refused : goal.add_frame-requires-clause-refused
 add_frame-requires-clause-refused c =
-    refused_at_most _ _ _ _ (c.loop-frame.invariant c.requires.so_far.0 c.requires.so_far.1 c.requires.so_far.2)
+    refused_at_most _ _ _ _
+    (c.loop-frame.invariant c.requires.so_far.0 c.requires.so_far.1 c.requires.so_far.2)

@@ -20,14 +20,19 @@ take_next-requires c =
 pub returns-in_default : goal.returns-in_default
 returns-in_default c tables before stream h =
     let e : c.in_ok-found.field-0.found ≡ None = c.in_default.is in
-    amid_none _ _ _ _ _ _ _ _ (c.loop-found.invariant tables before stream h) (c.in_ok-found.ensures.none e) (c.in_ok-found.ensures.waits e)
+    amid_none _ _ _ _ _ _ _ _ (c.loop-found.invariant tables before stream h)
+    (c.in_ok-found.ensures.none e) (c.in_ok-found.ensures.waits e)
 
 -- one frame more can be counted, for there are no more than octets
 pub add_frame-requires-clause-few : goal.add_frame-requires-clause-few
 add_frame-requires-clause-few c =
     let so_far = c.requires.so_far in
     let e = c.in-Some.is in
-    let fits = amid_fits _ _ _ _ _ _ _ _ _ c.in-Some.frame (c.loop-found.invariant so_far.0 so_far.1 so_far.2 so_far.3) c.in_ok-found.ensures.rest (some_is _ _ _ e c.in_ok-found.ensures.frame) (some_is _ _ _ e c.in_ok-found.ensures.next) in
+    let fits =
+    amid_fits _ _ _ _ _ _ _ _ _ c.in-Some.frame
+    (c.loop-found.invariant so_far.0 so_far.1 so_far.2 so_far.3) c.in_ok-found.ensures.rest
+    (some_is _ _ _ e c.in_ok-found.ensures.frame)
+    (some_is _ _ _ e c.in_ok-found.ensures.next) in
     let whole = length-append so_far.2 c.args.piece.now in
     let start = so_far.3.handed.stands.fed in
     let room = c.requires.room in
@@ -55,7 +60,10 @@ loop-found-smaller c =
     let so_far = c.requires.so_far in
     let e = c.in-Some.is in
     let a = c.loop-found.invariant so_far.0 so_far.1 so_far.2 so_far.3 in
-    let fits = amid_fits _ _ _ _ _ _ _ _ _ c.in-Some.frame a c.in_ok-found.ensures.rest (some_is _ _ _ e c.in_ok-found.ensures.frame) (some_is _ _ _ e c.in_ok-found.ensures.next) in
+    let fits =
+    amid_fits _ _ _ _ _ _ _ _ _ c.in-Some.frame a c.in_ok-found.ensures.rest
+    (some_is _ _ _ e c.in_ok-found.ensures.frame)
+    (some_is _ _ _ e c.in_ok-found.ensures.next) in
     let whole = length-append so_far.2 c.args.piece.now in
     let start = so_far.3.handed.stands.fed in
     let first = so_far.3.added.frames_are in

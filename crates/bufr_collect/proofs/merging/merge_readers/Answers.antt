@@ -19,17 +19,22 @@ pub read_archive-requires-clause-fresh : goal.read_archive-requires-clause-fresh
 read_archive-requires-clause-fresh g c =
     let inv = c.loop-index.invariant in
     let inside : c.loop-index.index < length c.loop-index.readers = omega arith in
-    fresh_next _ _ _ _ _ c.requires.fresh (reach_item g.S.Source.reading _ c.loop-index.readers inv.texts c.loop-index.index c.index-readers-index.result inv.through inside)
+    fresh_next _ _ _ _ _ c.requires.fresh
+    (reach_item g.S.Source.reading _ c.loop-index.readers inv.texts c.loop-index.index
+    c.index-readers-index.result inv.through inside)
 
 -- the archive of one reader more is merged
 pub loop-index-preserved : goal.loop-index-preserved
 loop-index-preserved g c =
     let inv = c.loop-index.invariant in
     let inside : c.loop-index.index < length c.loop-index.readers = omega arith in
-    merged_next c.args.tables.now c.args.reads (map g.S.Source.reading c.args.readers.now) (map g.S.Source.reading c.loop-index.readers) _
-    c.loop-index.merged _ c.merge.new.self c.loop-index.index _ (g.S.Source.reading c.read_archive.new.reader)
+    merged_next c.args.tables.now c.args.reads (map g.S.Source.reading c.args.readers.now)
+    (map g.S.Source.reading c.loop-index.readers) _
+    c.loop-index.merged _ c.merge.new.self c.loop-index.index _
+    (g.S.Source.reading c.read_archive.new.reader)
     inv
-    (reach_item g.S.Source.reading _ c.loop-index.readers inv.texts c.loop-index.index c.index-readers-index.result inv.through inside)
+    (reach_item g.S.Source.reading _ c.loop-index.readers inv.texts c.loop-index.index
+    c.index-readers-index.result inv.through inside)
     (map-set g.S.Source.reading c.loop-index.readers c.loop-index.index c.read_archive.new.reader)
     c.in_ok-archive.ensures.bounded
     c.in_ok-archive.ensures.reads
@@ -38,14 +43,16 @@ loop-index-preserved g c =
 -- each reader was read at most so often, the one that cannot be read or is no archive too
 pub returns-in_err-archive-clause-bounded : goal.returns-in_err-archive-clause-bounded
 returns-in_err-archive-clause-bounded g c =
-    bounded_next c.args.reads (map g.S.Source.reading c.loop-index.readers) _ c.loop-index.index (g.S.Source.reading c.read_archive.new.reader) c.loop-index.invariant.bounded
+    bounded_next c.args.reads (map g.S.Source.reading c.loop-index.readers) _ c.loop-index.index
+    (g.S.Source.reading c.read_archive.new.reader) c.loop-index.invariant.bounded
     (map-set g.S.Source.reading c.loop-index.readers c.loop-index.index c.read_archive.new.reader)
     c.in_err-archive.ensures.bounded
 
 -- and so it is where no memory is had to merge
 pub returns-in_default-clause-bounded : goal.returns-in_default-clause-bounded
 returns-in_default-clause-bounded g c =
-    bounded_next c.args.reads (map g.S.Source.reading c.loop-index.readers) _ c.loop-index.index (g.S.Source.reading c.read_archive.new.reader) c.loop-index.invariant.bounded
+    bounded_next c.args.reads (map g.S.Source.reading c.loop-index.readers) _ c.loop-index.index
+    (g.S.Source.reading c.read_archive.new.reader) c.loop-index.invariant.bounded
     (map-set g.S.Source.reading c.loop-index.readers c.loop-index.index c.read_archive.new.reader)
     c.in_ok-archive.ensures.bounded
 
@@ -56,10 +63,16 @@ returns-in_err-archive-clause-merges g c =
     let inside : c.loop-index.index < length c.loop-index.readers = omega arith in
     let news = map g.S.Source.reading c.loop-index.readers in
     let olds = map g.S.Source.reading c.args.readers.now in
-    passed (λ (r : Result ArchiveView ToolFault). MergesReaders c.args.tables.now c.args.reads olds (map g.S.Source.reading (slice_set c.loop-index.readers c.loop-index.index c.read_archive.new.reader)) (result_map (λ (a : ArchiveView). a) r))
+    passed
+    (λ (r : Result ArchiveView ToolFault). MergesReaders c.args.tables.now c.args.reads olds
+    (map g.S.Source.reading
+    (slice_set c.loop-index.readers c.loop-index.index c.read_archive.new.reader))
+    (result_map (λ (a : ArchiveView). a) r))
     c.from_residual.result c.in_err-archive.field-0.0 c.from_residual.ensures.1
-    (merged_ends c.args.tables.now c.args.reads olds news _ c.loop-index.merged c.loop-index.index _ (g.S.Source.reading c.read_archive.new.reader) c.in_err-archive.field-0.0
+    (merged_ends c.args.tables.now c.args.reads olds news _ c.loop-index.merged c.loop-index.index _
+    (g.S.Source.reading c.read_archive.new.reader) c.in_err-archive.field-0.0
     inv
-    (reach_item g.S.Source.reading olds c.loop-index.readers inv.texts c.loop-index.index c.index-readers-index.result inv.through inside)
+    (reach_item g.S.Source.reading olds c.loop-index.readers inv.texts c.loop-index.index
+    c.index-readers-index.result inv.through inside)
     (map-set g.S.Source.reading c.loop-index.readers c.loop-index.index c.read_archive.new.reader)
     c.in_err-archive.ensures.reads)

@@ -6,4 +6,5 @@ use Rattle.bufr_collect.proofs.merging.merge_readers.Given as goal
 -- the archives of the readers so far were merged
 abbrev pub invariant-loop-index : goal.invariant-loop-index
 invariant-loop-index g l =
-    MergedThrough l.tables l.reads (map g.S.Source.reading l.initial.readers) (map g.S.Source.reading l.readers) l.merged l.index
+    MergedThrough l.tables l.reads (map g.S.Source.reading l.initial.readers)
+    (map g.S.Source.reading l.readers) l.merged l.index

@@ -10,7 +10,9 @@ returns-clause-merges g c =
     let olds = map g.S.Source.reading c.args.readers.now in
     let news = map g.S.Source.reading c.merge_readers.new.readers in
     let writer = g.W.Sink.writing c.args.writer.now in
-    merges_ok c.args.tables.now c.args.reads olds news writer (g.W.Sink.writing c.write_out.new.writer) c.in_ok-merged.merged _ (length c.merge_readers.new.readers) _
+    merges_ok c.args.tables.now c.args.reads olds news writer
+    (g.W.Sink.writing c.write_out.new.writer) c.in_ok-merged.merged _
+    (length c.merge_readers.new.readers) _
     c.in_ok-merged.ensures.merges
     (c.deref.ensures.value ∙ c.in_ok-text.ensures)
     (sym (length-map c.merge_readers.new.readers g.S.Source.reading))

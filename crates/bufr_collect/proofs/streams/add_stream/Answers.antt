@@ -12,8 +12,12 @@ loop-init g c = between_first _ _ _ _ c.requires.fresh c.new-framer.ensures.star
 -- of the octets read the messages of the sure frames were added
 pub add_rest-requires-clause-so_far : goal.add_rest-requires-clause-so_far
 add_rest-requires-clause-so_far g c =
-    let so_far = c.requires.so_far in
-    (so_far.0, so_far.1, c.loop.invariant.read, c.loop.invariant.added so_far.0 so_far.1 so_far.2 so_far.3)
+    let so_far = c.requires.so_far in (
+      so_far.0,
+      so_far.1,
+      c.loop.invariant.read,
+      c.loop.invariant.added so_far.0 so_far.1 so_far.2 so_far.3,
+    )
 
 -- so many reads give no more octets than a word counts
 pub add_rest-requires-clause-long : goal.add_rest-requires-clause-long
@@ -28,8 +32,12 @@ add_rest-requires-clause-long g c =
 -- of the octets read before the messages of the sure frames were added
 pub add_piece-requires-clause-so_far : goal.add_piece-requires-clause-so_far
 add_piece-requires-clause-so_far g c =
-    let so_far = c.requires.so_far in
-    (so_far.0, so_far.1, c.loop.invariant.read, c.loop.invariant.added so_far.0 so_far.1 so_far.2 so_far.3)
+    let so_far = c.requires.so_far in (
+      so_far.0,
+      so_far.1,
+      c.loop.invariant.read,
+      c.loop.invariant.added so_far.0 so_far.1 so_far.2 so_far.3,
+    )
 
 -- so many reads, and one more, give no more octets than a word counts
 pub add_piece-requires-clause-room : goal.add_piece-requires-clause-room
@@ -52,12 +60,15 @@ loop-preserved g c =
     let whole = length-append b.read piece in
     let short = b.short in
     let room = c.requires.short in
-    let some : 0 < length piece = omega (arith, long, c.in-Ok.ensures.within, c.if-given-eq0.false) in
+    let some : 0 < length piece =
+    omega (arith, long, c.in-Ok.ensures.within, c.if-given-eq0.false) in
     record {
       read = b.read ++ piece;
       goes_on = GoesOn_more _ _ _ _ _ _ b.goes_on c.in-Ok.ensures.gave some;
       short = omega arith;
-      added = λ tables before h few. c.in_ok-add_piece.ensures tables before b.read (b.added tables before h few);
+      added =
+          λ tables before h few. c.in_ok-add_piece.ensures tables before b.read
+          (b.added tables before h few);
     }
 
 -- where a read gives nothing, the reader was read out and the whole cut of its stream is added

@@ -14,7 +14,8 @@ loop-octets-preserved c =
       reads = c.new.ensures.not_read;
       met_end = c.new.ensures.not_ended;
     } in
-    rw c.in_ok-push.ensures.items (unread_more c.loop-octets.readers.items c.new.result c.loop-octets.invariant here)
+    rw c.in_ok-push.ensures.items
+    (unread_more c.loop-octets.readers.items c.new.result c.loop-octets.invariant here)
 
 -- readers of which none was read are fresh to contracts
 pub returns : goal.returns

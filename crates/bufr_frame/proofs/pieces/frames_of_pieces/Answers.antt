@@ -19,7 +19,9 @@ no_piece = record { ref_ptr = (0, 0); now = [] }
 -- the octets fed and those of the next piece can be counted, for all of them can
 pub feed-requires : goal.feed-requires
 feed-requires c =
-    let all = length-flat_map-take octets_of c.args.pieces.now c.loop-piece.piece-index no_piece c.loop-piece-test.true in
+    let all =
+    length-flat_map-take octets_of c.args.pieces.now c.loop-piece.piece-index no_piece
+    c.loop-piece-test.true in
     let fed = c.loop-piece.invariant.stands.fed in
     let room = c.requires in
     omega (arith, all, fed, room)
@@ -29,11 +31,19 @@ pub loop-piece-preserved : goal.loop-piece-preserved
 loop-piece-preserved c =
     let before = flat_map octets_of (take c.loop-piece.piece-index c.args.pieces.now) in
     let piece = (get_or c.args.pieces.now c.loop-piece.piece-index no_piece).now in
-    let more = joined_more octets_of c.args.pieces.now c.loop-piece.piece-index no_piece c.loop-piece-test.true in
+    let more =
+    joined_more octets_of c.args.pieces.now c.loop-piece.piece-index no_piece
+    c.loop-piece-test.true in
     let stands = c.loop-piece.invariant.stands in
     record {
-      stands = subst (λ s. Stands c.feed.new.self s (length (sure s))) (sym more) (c.in_ok-found.ensures.next before (length (sure before)) stands);
-      frames_are = c.in_ok-append.ensures.items ∙ handed_more before piece c.loop-piece.frames.items c.in_ok-found.found.items c.loop-piece.invariant.frames_are (c.in_ok-found.ensures.found before (length (sure before)) stands) ∙ ap sure (sym more);
+      stands =
+          subst (λ s. Stands c.feed.new.self s (length (sure s))) (sym more)
+          (c.in_ok-found.ensures.next before (length (sure before)) stands);
+      frames_are =
+          c.in_ok-append.ensures.items
+          ∙ handed_more before piece c.loop-piece.frames.items c.in_ok-found.found.items
+          c.loop-piece.invariant.frames_are
+          (c.in_ok-found.ensures.found before (length (sure before)) stands) ∙ ap sure (sym more);
     }
 
 -- what the end of the stream hands out makes the frames found the cut of all the pieces, joined
@@ -41,5 +51,11 @@ pub returns : goal.returns
 returns c =
     let pieces = c.args.pieces.now in
     let before = flat_map octets_of (take c.loop-piece.piece-index pieces) in
-    let whole = ap (flat_map octets_of) (take_all c.loop-piece.piece-index pieces c.loop-piece-test.false) in
-    c.in_ok-append-2.ensures.items ∙ handed_all before c.loop-piece.frames.items c.in_ok-last.last.items c.loop-piece.invariant.frames_are (c.in_ok-last.ensures.found before (length (sure before)) c.loop-piece.invariant.stands) ∙ ap cut whole
+    let whole =
+    ap (flat_map octets_of)
+    (take_all c.loop-piece.piece-index pieces c.loop-piece-test.false) in
+    c.in_ok-append-2.ensures.items
+    ∙ handed_all before c.loop-piece.frames.items c.in_ok-last.last.items
+    c.loop-piece.invariant.frames_are
+    (c.in_ok-last.ensures.found before (length (sure before)) c.loop-piece.invariant.stands)
+    ∙ ap cut whole

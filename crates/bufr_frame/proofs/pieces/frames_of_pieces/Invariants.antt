@@ -6,4 +6,5 @@ use Rattle.bufr_frame.proofs.pieces.frames_of_pieces.Given as goal
 
 -- the frames found are the sure ones of the pieces so far, joined, and the framer stands for these
 abbrev pub invariant-loop-piece : goal.invariant-loop-piece
-invariant-loop-piece l = HandedOut l.framer (flat_map (λ piece. piece.now) (take l.piece-index l.pieces)) l.frames.items
+invariant-loop-piece l =
+    HandedOut l.framer (flat_map (λ piece. piece.now) (take l.piece-index l.pieces)) l.frames.items

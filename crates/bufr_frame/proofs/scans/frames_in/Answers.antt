@@ -1,11 +1,13 @@
 -- The clauses of `frames_in`: frame by frame those found so far and those still to come are all.
-use Rattle.std.proofs.Common.{◌≡◌, ℕ, ◌+◌, ◌-◌, ◌<◌, [], ◌∷◌, ◌++◌, length, drop, take, sym, ap, ◌∙◌, subst, arith}
+use Rattle.std.proofs.Common.{◌≡◌, ℕ, ◌+◌, ◌-◌, ◌<◌, [], ◌∷◌, ◌++◌, length, drop, take, sym, ap}
+use Rattle.std.proofs.Common.{◌∙◌, subst, arith}
 use Rattle.std.specs.Prelude.{IfSome}
 use Rattle.bufr_frame.specs.declared.frames.Found.{Found}
 use Rattle.std.proofs.lemmas.List.{length-drop}
 use Rattle.bufr_frame.specs.declared.places.Start.TheVariants.{Frame}
 use Rattle.bufr_frame.specs.Starts.{start_of}
-use Rattle.bufr_frame.proofs.ScanLaws.{Scanned, scanned_first, scanned_frame, scanned_passed, scanned_end, frame_fits, frame_moves}
+use Rattle.bufr_frame.proofs.ScanLaws.{Scanned, scanned_first, scanned_frame, scanned_passed}
+use Rattle.bufr_frame.proofs.ScanLaws.{scanned_end, frame_fits, frame_moves}
 use Rattle.bufr_frame.proofs.scans.frames_in.Goals as goal
 
 -- a frame has octets, so the next place is further on
@@ -14,11 +16,15 @@ loop-next-smaller c =
     let octets = c.args.octets.now in
     let here = c.loop-next.next.place in
     let l = c.in-Some.length in
-    let start : start_of (drop here octets) ≡ Frame l = subst (λ o. IfSome o (λ n. start_of (drop here octets) ≡ Frame n)) c.in-Some.is c.loop-next.invariant.1 in
+    let start : start_of (drop here octets) ≡ Frame l =
+    subst
+    (λ o. IfSome o
+    (λ n. start_of (drop here octets) ≡ Frame n)) c.in-Some.is c.loop-next.invariant.1 in
     let fits = frame_fits (drop here octets) l start in
     let long = frame_moves (drop here octets) l start in
     let after = c.next_start-next-in-Some.ensures.after in
-    let goes : length octets - c.next_start-next-in-Some.result.place < length octets - here = omega (arith, length-drop here octets) in
+    let goes : length octets - c.next_start-next-in-Some.result.place < length octets - here =
+    omega (arith, length-drop here octets) in
     goes
 
 -- the frame copied out is the next one, and the scan goes on after its end
@@ -30,21 +36,44 @@ loop-next-preserved c =
     let place = c.args.place in
     let frames = c.loop-next.frames.items in
     let next = c.next_start-next-in-Some.ensures in
-    let start : start_of (drop here octets) ≡ Frame l = subst (λ o. IfSome o (λ n. start_of (drop here octets) ≡ Frame n)) c.in-Some.is c.loop-next.invariant.1 in
+    let start : start_of (drop here octets) ≡ Frame l =
+    subst
+    (λ o. IfSome o
+    (λ n. start_of (drop here octets) ≡ Frame n)) c.in-Some.is c.loop-next.invariant.1 in
     let one : (here + l) - here ≡ l = omega arith in
-    let same : c.in_ok-copied.field-0 ≡ record { place = place + here; bytes = take l (drop here octets) } =
-    c.in_ok-copied.ensures ∙ ap (λ (k : ℕ). let f : Found = record { place = place + here; bytes = take k (drop here octets) } in f) one in
+    let same : c.in_ok-copied.field-0
+    ≡ record { place = place + here; bytes = take l (drop here octets) } =
+    c.in_ok-copied.ensures
+    ∙ ap
+    (λ (k : ℕ). let f : Found =
+    record { place = place + here; bytes = take k (drop here octets) } in f) one in
     let grown = c.in_ok-push.ensures.items ∙ ap (λ (f : Found). frames ++ f ∷ []) same in
-    let then = subst (λ fs. Scanned c.args.ended place octets fs (here + l)) (sym grown) (scanned_frame c.args.ended place octets frames here l c.loop-next.invariant.0 start) in
-    (scanned_passed c.args.ended place octets c.push.new.self.items (here + l) c.next_start-next-in-Some.result.place then next.within next.frames next.rest, next.frame, next.open, next.all, next.short)
+    let then =
+    subst (λ fs. Scanned c.args.ended place octets fs (here + l)) (sym grown)
+    (scanned_frame c.args.ended place octets frames here l c.loop-next.invariant.0 start) in (
+      scanned_passed c.args.ended place octets c.push.new.self.items
+          (here + l) c.next_start-next-in-Some.result.place then next.within next.frames next.rest,
+      next.frame,
+      next.open,
+      next.all,
+      next.short,
+    )
 
 -- before the first place that is open or has a frame there is no frame
 pub loop-next-init : goal.loop-next-init
 loop-next-init c =
     let octets = c.args.octets.now in
     let next = c.next_start-next.ensures in
-    let first : Scanned c.args.ended c.args.place octets c.new-frames.result.items 0 = subst (λ fs. Scanned c.args.ended c.args.place octets fs 0) (sym c.new-frames.ensures.items) (scanned_first c.args.ended c.args.place octets) in
-    (scanned_passed c.args.ended c.args.place octets c.new-frames.result.items 0 c.next_start-next.result.place first next.within next.frames next.rest, next.frame, next.open, next.all, next.short)
+    let first : Scanned c.args.ended c.args.place octets c.new-frames.result.items 0 =
+    subst (λ fs. Scanned c.args.ended c.args.place octets fs 0) (sym c.new-frames.ensures.items)
+    (scanned_first c.args.ended c.args.place octets) in (
+      scanned_passed c.args.ended c.args.place octets c.new-frames.result.items 0
+          c.next_start-next.result.place first next.within next.frames next.rest,
+      next.frame,
+      next.open,
+      next.all,
+      next.short,
+    )
 
 -- where no frame is left, those found are all
 pub returns-clause-frames : goal.returns-clause-frames

@@ -18,7 +18,8 @@ loop-here-preserved-in-Open c =
     let octets = c.args.octets.now in
     let here = c.loop-here.here in
     let start = ap start_of (sym (take_rest octets here)) ∙ sym c.in-Open.ensures.start in
-    passed_past c.args.ended octets c.args.from here c.if-not-ended.false c.loop-here.invariant c.loop-here-test.true start
+    passed_past c.args.ended octets c.args.from here c.if-not-ended.false c.loop-here.invariant
+    c.loop-here-test.true start
 
 -- where nothing stands, all up to the next mark is passed over, for nothing stands without a mark
 pub loop-here-preserved : goal.loop-here-preserved
@@ -31,6 +32,9 @@ loop-here-preserved c =
     let others : (k : ℕ) → here ≤ k → k < next → start_of (drop k octets) ≡ Other = λ k low high.
     elim (leb_tells (here + 1) k) [
       | inl past ↦ no_mark (drop k octets) (c.next_mark-here.ensures.others k past.1 high)
-      | inr first ↦ let above = first.1 in subst (λ q. start_of (drop q octets) ≡ Other) (let same : here ≡ k = omega arith in same) start
+      | inr first ↦ let above = first.1 in
+          subst (λ q. start_of (drop q octets) ≡ Other)
+          (let same : here ≡ k = omega arith in same) start
     ] in
-    passed_on c.args.ended octets c.args.from here next c.loop-here.invariant (omega arith) c.next_mark-here.ensures.within others
+    passed_on c.args.ended octets c.args.from here next c.loop-here.invariant
+    (omega arith) c.next_mark-here.ensures.within others

@@ -13,7 +13,8 @@ loop-length-preserved-in-Other c =
     let kept = c.loop-length.octets.items in
     let start = c.loop-length.start in
     let here : start_of (drop start kept) ≡ Other =
-    ap start_of (sym (take_rest c.deref.result.now start ∙ ap (drop start) c.deref.ensures.value)) ∙ sym c.in-Other.ensures.start in
+    ap start_of (sym (take_rest c.deref.result.now start ∙ ap (drop start) c.deref.ensures.value))
+    ∙ sym c.in-Other.ensures.start in
     let next = c.next_mark-start.ensures in
     let same = c.deref-in-Other.ensures.value in
     reaching_other _ _ kept c.args.piece.now start c.loop-length.taken c.next_mark-start.result
@@ -29,11 +30,14 @@ loop-length-smaller c =
     let piece = c.args.piece.now in
     let taken = c.loop-length.taken in
     let after = c.take_more.new.octets.items in
-    let more : KeepsMore (drop start kept) kept after (drop taken piece) c.in_ok-skip-in-Open.field-0 =
-    subst (λ r. KeepsMore (drop start kept) kept after r c.in_ok-skip-in-Open.field-0) (take_rest piece taken) c.in_ok-skip-in-Open.ensures.more in
+    let more : KeepsMore (drop start kept) kept after
+    (drop taken piece) c.in_ok-skip-in-Open.field-0 =
+    subst (λ r. KeepsMore (drop start kept) kept after r c.in_ok-skip-in-Open.field-0)
+    (take_rest piece taken) c.in_ok-skip-in-Open.ensures.more in
     let m : TakesMore (drop start kept) kept after (drop taken piece) c.in-Octets.more =
     subst (KeepsMore (drop start kept) kept after (drop taken piece)) c.in-Octets.is more in
-    less_to_do kept after piece start taken c.in-Octets.more c.loop-length.invariant.within c.loop-length.invariant.taken_in m
+    less_to_do kept after piece start taken c.in-Octets.more c.loop-length.invariant.within
+    c.loop-length.invariant.taken_in m
 
 -- what is taken in of the piece is kept, or passed over where nothing is held
 pub loop-length-preserved : goal.loop-length-preserved
@@ -43,8 +47,10 @@ loop-length-preserved c =
     let piece = c.args.piece.now in
     let taken = c.loop-length.taken in
     let after = c.take_more.new.octets.items in
-    let more : KeepsMore (drop start kept) kept after (drop taken piece) c.in_ok-skip-in-Open.field-0 =
-    subst (λ r. KeepsMore (drop start kept) kept after r c.in_ok-skip-in-Open.field-0) (take_rest piece taken) c.in_ok-skip-in-Open.ensures.more in
+    let more : KeepsMore (drop start kept) kept after
+    (drop taken piece) c.in_ok-skip-in-Open.field-0 =
+    subst (λ r. KeepsMore (drop start kept) kept after r c.in_ok-skip-in-Open.field-0)
+    (take_rest piece taken) c.in_ok-skip-in-Open.ensures.more in
     let m : TakesMore (drop start kept) kept after (drop taken piece) c.in-Octets.more =
     subst (KeepsMore (drop start kept) kept after (drop taken piece)) c.in-Octets.is more in
     reaching_more _ _ kept after piece start taken c.in-Octets.more c.loop-length.invariant m

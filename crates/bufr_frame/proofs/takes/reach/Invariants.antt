@@ -5,7 +5,9 @@ use Rattle.bufr_frame.proofs.takes.reach.Given as goal
 
 -- of the octets held and the front taken in, those from the start on are held, and none was let go
 abbrev pub invariant-loop-length : goal.invariant-loop-length
-invariant-loop-length l = Reaching (drop l.fn.from l.fn.octets.items) l.fn.octets.items l.octets.items l.piece l.start l.taken
+invariant-loop-length l =
+    Reaching
+    (drop l.fn.from l.fn.octets.items) l.fn.octets.items l.octets.items l.piece l.start l.taken
 
 -- each round moves the start on or takes in more of the piece
 abbrev pub decreases-loop-length : goal.decreases-loop-length

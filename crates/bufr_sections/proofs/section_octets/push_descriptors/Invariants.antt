@@ -6,4 +6,6 @@ use Rattle.bufr_sections.proofs.section_octets.push_descriptors.Given as goal
 
 -- the octets of the descriptors so far stand behind those that were there
 abbrev pub invariant-loop-descriptor : goal.invariant-loop-descriptor
-invariant-loop-descriptor l = l.out.items ≡ l.initial.out.items ++ flat_map (bytes_high_first 2) (take l.descriptor-index l.descriptors)
+invariant-loop-descriptor l =
+    l.out.items ≡ l.initial.out.items
+    ++ flat_map (bytes_high_first 2) (take l.descriptor-index l.descriptors)

@@ -10,8 +10,13 @@ use Rattle.bufr_sections.proofs.section_octets.push_section3.Goals as goal
 pub returns : goal.returns
 returns c =
     let pairs = length_of_descriptors c.args.descriptors.now in
-    let flags : c.flag.result + c.flag-2.result ≡ flag c.args.observed 128 + flag c.args.compressed 64 + 0 = omega arith in
-    let whole = section_of_pieces c.args.out.now.items _ _ _ (0 ∷ c.high.result ∷ c.low.result ∷ (c.flag.result + c.flag-2.result) ∷ [])
-    (flat_map (bytes_high_first 2) c.args.descriptors.now) (7 + 2 * length c.args.descriptors.now) (omega arith)
-    c.in_ok-push_length.ensures c.in_ok-extend_from_slice.ensures.items c.in_ok-push_descriptors.ensures in
+    let flags : c.flag.result + c.flag-2.result
+    ≡ flag c.args.observed 128 + flag c.args.compressed 64 + 0 = omega arith in
+    let whole =
+    section_of_pieces c.args.out.now.items _ _ _
+    (0 ∷ c.high.result ∷ c.low.result ∷ (c.flag.result + c.flag-2.result) ∷ [])
+    (flat_map (bytes_high_first 2) c.args.descriptors.now) (7 + 2 * length c.args.descriptors.now)
+    (omega arith)
+    c.in_ok-push_length.ensures c.in_ok-extend_from_slice.ensures.items
+    c.in_ok-push_descriptors.ensures in
     rw (c.high.ensures, c.low.ensures, flags) at whole

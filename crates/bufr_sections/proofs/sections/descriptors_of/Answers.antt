@@ -7,9 +7,16 @@ use Rattle.bufr_sections.proofs.sections.descriptors_of.Goals as goal
 -- with the descriptor of the next two octets put, the list and the rest come to the same
 pub loop-rest-preserved : goal.loop-rest-preserved
 loop-rest-preserved c =
-    let more = descriptors_more c.loop-rest.list.items c.loop-rest.rest.now c.from_bits.result (descriptors_of c.args.octets.now) c.in-len2-up.len_at_least c.loop-rest.invariant (c.from_bits.ensures ∙ c.number_of_two.ensures) in
-    let size : length c.loop-rest.rest.now - 2 ≡ length (drop 2 c.loop-rest.rest.now) = omega (arith, length-drop 2 c.loop-rest.rest.now) in
-    rw (c.in_ok-push.ensures.items, take_whole (drop 2 c.loop-rest.rest.now) (length c.loop-rest.rest.now - 2) size) more
+    let more =
+    descriptors_more c.loop-rest.list.items c.loop-rest.rest.now c.from_bits.result
+    (descriptors_of c.args.octets.now) c.in-len2-up.len_at_least c.loop-rest.invariant
+    (c.from_bits.ensures ∙ c.number_of_two.ensures) in
+    let size : length c.loop-rest.rest.now - 2 ≡ length (drop 2 c.loop-rest.rest.now) =
+    omega (arith, length-drop 2 c.loop-rest.rest.now) in
+    rw (
+      c.in_ok-push.ensures.items,
+      take_whole (drop 2 c.loop-rest.rest.now) (length c.loop-rest.rest.now - 2) size,
+    ) more
 
 -- fewer than two octets hold no descriptor
 pub returns : goal.returns

@@ -12,12 +12,15 @@ returns-then-octets-lt19 c = head_short c.args.octets.now c.if-octets-lt19.true
 -- another master table than 0 is refused
 pub returns-then-master-ne0 : goal.returns-then-master-ne0
 returns-then-master-ne0 c =
-    let other : (get_or c.args.octets.now 0 0 == 0) ≡ false = ne_eqb _ _ (λ h. omega (arith, c.if-master-ne0.true)) in
+    let other : (get_or c.args.octets.now 0 0 == 0) ≡ false =
+    ne_eqb _ _ (λ h. omega (arith, c.if-master-ne0.true)) in
     head_is c.args.octets.now c.if-octets-lt19.false ∙ rw other refl
 
 -- else the octets say the head, those behind the nineteenth for local use
 pub returns : goal.returns
 returns c =
-    let none : (get_or c.args.octets.now 0 0 == 0) ≡ true = eq-eqb _ _ (omega (arith, c.if-master-ne0.false)) in
-    let local : c.in_ok-local.local ≡ drop 19 c.args.octets.now = c.in_ok-local.ensures ∙ c.split_at.ensures.back in
+    let none : (get_or c.args.octets.now 0 0 == 0) ≡ true =
+    eq-eqb _ _ (omega (arith, c.if-master-ne0.false)) in
+    let local : c.in_ok-local.local ≡ drop 19 c.args.octets.now =
+    c.in_ok-local.ensures ∙ c.split_at.ensures.back in
     head_is c.args.octets.now c.if-octets-lt19.false ∙ rw (none, c.head_with.ensures, local) refl

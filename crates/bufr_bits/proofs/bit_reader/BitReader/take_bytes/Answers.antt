@@ -6,13 +6,19 @@ use Rattle.bufr_bits.proofs.bit_reader.BitReader.take_bytes.Goals as goal
 -- no so many octets stand at the front where fewer bits are left
 pub returns-then-left-width-clause-short : goal.returns-then-left-width-clause-short
 returns-then-left-width-clause-short c =
-    let rest = rw (← c.self.view_is) at c.left.ensures.rest in
-    (rw (← c.self.view_is) (octets_missing c.self.inside.octets.now c.self.inside.place c.args.n (omega (arith, rest, c.from-width.ensures)) (omega (arith, c.self.invariant))), refl)
+    let rest = rw (← c.self.view_is) at c.left.ensures.rest in (
+      rw (← c.self.view_is)
+          (octets_missing c.self.inside.octets.now c.self.inside.place c.args.n
+          (omega (arith, rest, c.from-width.ensures)) (omega (arith, c.self.invariant))),
+      refl,
+    )
 
 -- the octets at the place are those at the front, and the bits behind them are left
 pub returns-clause-found : goal.returns-clause-found
 returns-clause-found c =
     let rest = rw (← c.self.view_is) at c.left.ensures.rest in
     rw (← c.self.view_is)
-    (octets_found c.self.inside.octets.now c.self.inside.place c.args.n (c.self.inside.place + 8 * c.from-width.result) c.in_ok-octets.octets.items
-    (omega (arith, c.from-width.ensures)) (omega (arith, rest, c.from-width.ensures)) c.in_ok-octets.ensures)
+    (octets_found c.self.inside.octets.now c.self.inside.place c.args.n
+    (c.self.inside.place + 8 * c.from-width.result) c.in_ok-octets.octets.items
+    (omega (arith, c.from-width.ensures))
+    (omega (arith, rest, c.from-width.ensures)) c.in_ok-octets.ensures)

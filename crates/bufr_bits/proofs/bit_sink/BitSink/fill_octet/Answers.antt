@@ -16,13 +16,16 @@ invariant_of-self c =
 pub returns-clause-filled : goal.returns-clause-filled
 returns-clause-filled c =
     let s = c.self.inside in
-    rw (← c.self.view_is) (fill_is s.octets.items s.len (8 * c.len.result) c.self.invariant (ap (λ k. 8 * k) (c.len.ensures ∙ s.octets.ok.0)))
+    rw (← c.self.view_is)
+    (fill_is s.octets.items s.len (8 * c.len.result) c.self.invariant
+    (ap (λ k. 8 * k) (c.len.ensures ∙ s.octets.ok.0)))
 
 -- all bits of octets are a multiple of 8
 pub returns-clause-whole : goal.returns-clause-whole
 returns-clause-whole c =
     let items = c.self.inside.octets.items in
-    let all : 8 * c.len.result ≡ 8 * length items = ap (λ k. 8 * k) (c.len.ensures ∙ c.self.inside.octets.ok.0) in
+    let all : 8 * c.len.result ≡ 8 * length items =
+    ap (λ k. 8 * k) (c.len.ensures ∙ c.self.inside.octets.ok.0) in
     let long : length (take (8 * c.len.result) (bits items)) ≡ 8 * c.len.result =
     length-take-le (8 * c.len.result) (bits items) (omega (arith, length-bits items, all)) in
     omega (arith, long)

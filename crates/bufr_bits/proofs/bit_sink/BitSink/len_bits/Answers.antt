@@ -9,4 +9,7 @@ use Rattle.bufr_bits.proofs.bit_sink.BitSink.len_bits.Goals as goal
 pub returns : goal.returns
 returns c =
     let s = c.self.inside in
-    rw (← c.self.view_is) (sym (length-take-le s.len (bits s.octets.items) (omega (arith, length-bits s.octets.items, c.self.invariant.0))))
+    rw (← c.self.view_is)
+    (sym
+    (length-take-le s.len (bits s.octets.items)
+    (omega (arith, length-bits s.octets.items, c.self.invariant.0))))

@@ -24,12 +24,23 @@ invariant_of-self-2 c =
 pub returns-clause-found : goal.returns-clause-found
 returns-clause-found c =
     let inside = c.self.inside in
-    let place : inside.fed - (c.len.result - inside.from) ≡ inside.fed - length (drop inside.from inside.octets.items) = omega (arith, c.len.ensures, inside.octets.ok.0, length-drop inside.from inside.octets.items) in
-    feed_found inside.fed _ (drop inside.from inside.octets.items) c.args.piece.now c.args.self.now c.in_ok-scan.scan.frames.items c.self.view_is place c.in_ok-scan.ensures.frames
+    let place : inside.fed - (c.len.result - inside.from)
+    ≡ inside.fed - length (drop inside.from inside.octets.items) =
+    omega
+    (arith, c.len.ensures, inside.octets.ok.0, length-drop inside.from inside.octets.items) in
+    feed_found inside.fed _
+    (drop inside.from inside.octets.items) c.args.piece.now c.args.self.now
+    c.in_ok-scan.scan.frames.items c.self.view_is place c.in_ok-scan.ensures.frames
 
 -- the framer then stands for the longer stream with all its sure frames handed out
 pub returns-clause-next : goal.returns-clause-next
 returns-clause-next c =
     let inside = c.self.inside in
-    let place : inside.fed - (c.len.result - inside.from) ≡ inside.fed - length (drop inside.from inside.octets.items) = omega (arith, c.len.ensures, inside.octets.ok.0, length-drop inside.from inside.octets.items) in
-    feed_next inside.fed _ (drop inside.from inside.octets.items) c.args.piece.now (drop c.in_ok-scan.scan.rest c.take_in.new.octets.items) c.args.self.now c.in_ok-scan.scan.frames.items c.self.view_is place c.in_ok-scan.ensures.frames c.in_ok-scan.ensures.rest
+    let place : inside.fed - (c.len.result - inside.from)
+    ≡ inside.fed - length (drop inside.from inside.octets.items) =
+    omega
+    (arith, c.len.ensures, inside.octets.ok.0, length-drop inside.from inside.octets.items) in
+    feed_next inside.fed _ (drop inside.from inside.octets.items) c.args.piece.now
+    (drop c.in_ok-scan.scan.rest c.take_in.new.octets.items) c.args.self.now
+    c.in_ok-scan.scan.frames.items c.self.view_is place c.in_ok-scan.ensures.frames
+    c.in_ok-scan.ensures.rest

@@ -8,7 +8,8 @@ use Rattle.bufr_frame.proofs.framers.Framer.look_end.Goals as goal
 pub frames_in-requires : goal.frames_in-requires
 frames_in-requires c =
     let inside = c.self.inside in
-    let same = take_rest c.deref.result.now inside.from ∙ ap (drop inside.from) c.deref.ensures.value in
+    let same =
+    take_rest c.deref.result.now inside.from ∙ ap (drop inside.from) c.deref.ensures.value in
     let taken = c.self.invariant.taken in
     omega (arith, ap length same)
 
@@ -16,6 +17,11 @@ frames_in-requires c =
 pub returns-clause-found : goal.returns-clause-found
 returns-clause-found c =
     let inside = c.self.inside in
-    let same = take_rest c.deref.result.now inside.from ∙ ap (drop inside.from) c.deref.ensures.value in
-    end_found inside.fed _ (take (length c.deref.result.now - inside.from) (drop inside.from c.deref.result.now)) c.args.self.now c.in_ok-frames.field-0.frames.items
-    (same_held inside.fed _ (drop inside.from inside.octets.items) c.args.self.now same c.self.view_is) refl c.in_ok-frames.ensures.frames
+    let same =
+    take_rest c.deref.result.now inside.from ∙ ap (drop inside.from) c.deref.ensures.value in
+    end_found inside.fed _
+    (take (length c.deref.result.now - inside.from)
+    (drop inside.from c.deref.result.now)) c.args.self.now c.in_ok-frames.field-0.frames.items
+    (same_held inside.fed _
+    (drop inside.from inside.octets.items) c.args.self.now same c.self.view_is) refl
+    c.in_ok-frames.ensures.frames

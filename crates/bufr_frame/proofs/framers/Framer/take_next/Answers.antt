@@ -6,7 +6,8 @@ use Rattle.bufr_frame.specs.Framings.{Framing}
 use Rattle.bufr_frame.specs.Reaches.{TakesOneOrNone, TakesNone}
 use Rattle.bufr_frame.specs.StreamLaws.{place_of}
 use Rattle.bufr_frame.specs.Takings.{IsNextFrame, IsNoFrame, StandsAfter}
-use Rattle.bufr_frame.proofs.ReachLaws.{taken_is, next_frame, stands_next, no_frame, stands_on, held_taken}
+use Rattle.bufr_frame.proofs.ReachLaws.{taken_is, next_frame, stands_next, no_frame, stands_on}
+use Rattle.bufr_frame.proofs.ReachLaws.{held_taken}
 use Rattle.bufr_frame.proofs.framers.Framer.take_next.Goals as goal
 
 -- the framer keeps at most as many octets before those held, and these are within the bounds
@@ -34,8 +35,10 @@ returns-clause-frame c =
     let piece = c.args.piece.now in
     let taken = take taking.taken piece in
     let v : Framing = record { fed = inside.fed; held = drop inside.from inside.octets.items } in
-    let next : IfSome taking.found (IsNextFrame v taken) = next_frame v taken _ taking.found t.found in
-    subst (λ a. IfSome taking.found (λ frame. IsNextFrame c.args.self.now a frame)) (sym (taken_is piece taking.taken t.taken))
+    let next : IfSome taking.found (IsNextFrame v taken) =
+    next_frame v taken _ taking.found t.found in
+    subst (λ a. IfSome taking.found (λ frame. IsNextFrame c.args.self.now a frame))
+    (sym (taken_is piece taking.taken t.taken))
     (subst (λ w. IfSome taking.found (IsNextFrame w taken)) c.self.view_is next)
 
 -- the framer then stands for that stream with one frame more handed out
@@ -50,8 +53,10 @@ returns-clause-next c =
     let v : Framing = record { fed = inside.fed; held = drop inside.from inside.octets.items } in
     let new : Framing = record { fed = inside.fed + taking.taken; held = held } in
     let size = length-take-le taking.taken piece t.taken in
-    let next : IfSome taking.found (λ frame. StandsAfter v new taken 1) = stands_next v taken held taking.taken taking.found size t.found in
-    subst (λ a. IfSome taking.found (λ frame. StandsAfter c.args.self.now new a 1)) (sym (taken_is piece taking.taken t.taken))
+    let next : IfSome taking.found (λ frame. StandsAfter v new taken 1) =
+    stands_next v taken held taking.taken taking.found size t.found in
+    subst (λ a. IfSome taking.found (λ frame. StandsAfter c.args.self.now new a 1))
+    (sym (taken_is piece taking.taken t.taken))
     (subst (λ w. IfSome taking.found (λ frame. StandsAfter w new taken 1)) c.self.view_is next)
 
 -- where no frame is handed out, no further frame is sure of the stream with all of the piece
@@ -63,10 +68,14 @@ returns-clause-none c = λ none.
     let piece = c.args.piece.now in
     let held = drop taking.from c.take_one.new.octets.items in
     let v : Framing = record { fed = inside.fed; held = drop inside.from inside.octets.items } in
-    let all : take taking.taken piece ≡ piece = let e = t.all none in take_all taking.taken piece (omega arith) in
+    let all : take taking.taken piece ≡ piece =
+    let e = t.all none in take_all taking.taken piece (omega arith) in
     let nothing : TakesNone (place_of v) (v.held ++ take taking.taken piece) held =
-    subst (λ o. TakesOneOrNone o (place_of v) (v.held ++ take taking.taken piece) held) none t.found in
-    let no : IsNoFrame v piece = subst (IsNoFrame v) all (no_frame v (take taking.taken piece) held nothing) in
+    subst
+    (λ o. TakesOneOrNone o (place_of v)
+    (v.held ++ take taking.taken piece) held) none t.found in
+    let no : IsNoFrame v piece =
+    subst (IsNoFrame v) all (no_frame v (take taking.taken piece) held nothing) in
     subst (λ w. IsNoFrame w piece) c.self.view_is no
 
 -- and the framer then stands for that stream with as many frames handed out as before
@@ -79,9 +88,14 @@ returns-clause-waits c = λ none.
     let held = drop taking.from c.take_one.new.octets.items in
     let v : Framing = record { fed = inside.fed; held = drop inside.from inside.octets.items } in
     let new : Framing = record { fed = inside.fed + taking.taken; held = held } in
-    let all : take taking.taken piece ≡ piece = let e = t.all none in take_all taking.taken piece (omega arith) in
+    let all : take taking.taken piece ≡ piece =
+    let e = t.all none in take_all taking.taken piece (omega arith) in
     let size = length-take-le taking.taken piece t.taken in
     let nothing : TakesNone (place_of v) (v.held ++ take taking.taken piece) held =
-    subst (λ o. TakesOneOrNone o (place_of v) (v.held ++ take taking.taken piece) held) none t.found in
-    let on : StandsAfter v new piece 0 = subst (λ a. StandsAfter v new a 0) all (stands_on v (take taking.taken piece) held taking.taken size nothing) in
+    subst
+    (λ o. TakesOneOrNone o (place_of v)
+    (v.held ++ take taking.taken piece) held) none t.found in
+    let on : StandsAfter v new piece 0 =
+    subst (λ a. StandsAfter v new a 0) all
+    (stands_on v (take taking.taken piece) held taking.taken size nothing) in
     subst (λ w. StandsAfter w new piece 0) c.self.view_is on

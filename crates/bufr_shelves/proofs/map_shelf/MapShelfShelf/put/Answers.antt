@@ -1,5 +1,6 @@
 -- For `put` of `MapShelf`: an entry with a key and one without, each in its map.
-use Rattle.bufr_shelves.proofs.PutLemmas.{keyed-stays, unkeyed-stays, keyed-changes, unkeyed-changes, keyed-put, unkeyed-put}
+use Rattle.bufr_shelves.proofs.PutLemmas.{keyed-stays, unkeyed-stays, keyed-changes}
+use Rattle.bufr_shelves.proofs.PutLemmas.{unkeyed-changes, keyed-put, unkeyed-put}
 use Rattle.bufr_shelves.proofs.map_shelf.MapShelfShelf.put.Goals as goal
 
 -- with a pair put among those with a key the shelf stays in order

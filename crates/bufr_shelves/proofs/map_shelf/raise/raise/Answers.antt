@@ -6,7 +6,8 @@ use Rattle.std.specs.Ordering.{is_gt}
 use Rattle.std.specs.BTreeMap.{is_at}
 use Rattle.std.specs.Map.{lookup}
 use Rattle.std.specs.declared.cmp.Ordering.TheVariants.{Greater}
-use Rattle.bufr_shelves.proofs.PairLemmas.{put-insert, put-same, changes_new, changes_old, gt-is, only-value, no-value}
+use Rattle.bufr_shelves.proofs.PairLemmas.{put-insert, put-same, changes_new, changes_old, gt-is}
+use Rattle.bufr_shelves.proofs.PairLemmas.{only-value, no-value}
 use Rattle.bufr_shelves.proofs.map_shelf.raise.raise.Goals as goal
 use Rattle.bufr_shelves.proofs.map_shelf.raise.raise.Goals.{in-Some+else-not-greater, in_default}
 

@@ -4,7 +4,8 @@ use Rattle.std.specs.Option.{option_map, option_copied}
 use Rattle.bufr_shelves.specs.Entries.{entry_after}
 use Rattle.bufr_shelves.specs.Pairs.{with_key, without_key}
 use Rattle.bufr_shelves.specs.Shelves.{lent}
-use Rattle.bufr_shelves.proofs.ShelvedLemmas.{after-keyed, after-last-key, after-unkeyed, entries-are}
+use Rattle.bufr_shelves.proofs.ShelvedLemmas.{after-keyed, after-last-key, after-unkeyed}
+use Rattle.bufr_shelves.proofs.ShelvedLemmas.{entries-are}
 use Rattle.bufr_shelves.proofs.ShelvedLemmas.{sorted-keyed, sorted-unkeyed}
 use Rattle.bufr_shelves.proofs.sorted_shelf.SortedShelfShelf.after.Goals as goal
 

@@ -7,7 +7,8 @@ use Rattle.std.specs.Cmp.Lexicographic.{slice_cmp}
 use Rattle.bufr_shelves.specs.Keeping.{put_all}
 use Rattle.bufr_shelves.specs.Pairs.{shelved, by_key, by_value}
 use Rattle.bufr_shelves.specs.Ranks.{key_order, rank_order}
-use Rattle.bufr_shelves.proofs.ShelvedLemmas.{shelved-all, kept-of, entries-join, sorted-keyed, sorted-unkeyed}
+use Rattle.bufr_shelves.proofs.ShelvedLemmas.{shelved-all, kept-of, entries-join, sorted-keyed}
+use Rattle.bufr_shelves.proofs.ShelvedLemmas.{sorted-unkeyed}
 use Rattle.bufr_shelves.proofs.sorted_shelf.SortedShelfShelf.join.Goals as goal
 
 -- the copied pairs with a key are in order

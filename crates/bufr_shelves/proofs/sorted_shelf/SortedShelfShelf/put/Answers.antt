@@ -1,5 +1,6 @@
 -- For `put` of `SortedShelf`: an entry with a key and one without, each in its vector.
-use Rattle.bufr_shelves.proofs.PutLemmas.{keyed-stays, unkeyed-stays, keyed-changes, unkeyed-changes, keyed-put, unkeyed-put}
+use Rattle.bufr_shelves.proofs.PutLemmas.{keyed-stays, unkeyed-stays, keyed-changes}
+use Rattle.bufr_shelves.proofs.PutLemmas.{unkeyed-changes, keyed-put, unkeyed-put}
 use Rattle.bufr_shelves.proofs.ShelvedLemmas.{sorted-keyed, sorted-unkeyed}
 use Rattle.bufr_shelves.proofs.sorted_shelf.SortedShelfShelf.put.Goals as goal
 

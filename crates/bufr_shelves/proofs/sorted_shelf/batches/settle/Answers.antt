@@ -6,7 +6,8 @@ use Rattle.std.specs.Map.{keys_of}
 use Rattle.bufr_shelves.specs.Keeping.{kept_by, put_all}
 use Rattle.bufr_shelves.specs.Pairs.{by_key, by_value}
 use Rattle.bufr_shelves.proofs.SortedLemmas.{sorted-pairs}
-use Rattle.bufr_shelves.proofs.BatchLemmas.{kept_sorted_anyhow, kept_within, kept_merged, sorted_all, sorted-keys, exact_pairs}
+use Rattle.bufr_shelves.proofs.BatchLemmas.{kept_sorted_anyhow, kept_within, kept_merged}
+use Rattle.bufr_shelves.proofs.BatchLemmas.{sorted_all, sorted-keys, exact_pairs}
 use Rattle.bufr_shelves.proofs.sorted_shelf.batches.settle.Goals as goal
 
 -- once the pairs that wait were sorted and some of them put among the fresh ones
@@ -41,7 +42,8 @@ returns-clause-settled g c =
     let ro = on_total (λ p. p.1) g.met.V.Ord.total in
     subst (λ ps. IsStrictlySortedBy g.K.Ord.cmp (keys_of ps)) (sym c.merge.ensures)
     (sorted-keys g.K.Ord.cmp _ (sorted_all slot rank so ro
-    (exact_pairs g.K.Ord.cmp g.V.Ord.cmp g.met.K.Exact.exact g.met.V.Exact.exact) c.args.settled.now.items c.replace-more.result.items
+    (exact_pairs g.K.Ord.cmp g.V.Ord.cmp g.met.K.Exact.exact g.met.V.Exact.exact)
+    c.args.settled.now.items c.replace-more.result.items
     (sorted-pairs g.K.Ord.cmp c.args.settled.now.items c.requires.settled)))
 
 -- no fresh ones are left

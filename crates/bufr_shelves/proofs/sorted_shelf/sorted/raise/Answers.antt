@@ -8,8 +8,10 @@ use Rattle.std.specs.Ordering.{is_gt}
 use Rattle.std.specs.BTreeMap.{is_at}
 use Rattle.std.specs.Map.{lookup}
 use Rattle.std.specs.declared.cmp.Ordering.TheVariants.{Greater}
-use Rattle.bufr_shelves.proofs.PairLemmas.{put-insert, put-same, changes_new, changes_old, gt-is, only-value, no-value}
-use Rattle.bufr_shelves.proofs.SortedLemmas.{lookup-find, find-place, insert-place, at_place, put_at}
+use Rattle.bufr_shelves.proofs.PairLemmas.{put-insert, put-same, changes_new, changes_old, gt-is}
+use Rattle.bufr_shelves.proofs.PairLemmas.{only-value, no-value}
+use Rattle.bufr_shelves.proofs.SortedLemmas.{lookup-find, find-place, insert-place, at_place}
+use Rattle.bufr_shelves.proofs.SortedLemmas.{put_at}
 use Rattle.bufr_shelves.proofs.sorted_shelf.sorted.raise.Goals as goal
 
 -- a value that is not greater than the one at its key changes nothing

@@ -1,6 +1,7 @@
 -- For `raise_pair` of vectors: a pair is put where its value is greater than the one at its key, or
 -- none is there.
-use Rattle.std.proofs.Common.{◌≡◌, ◌∙◌, true, cond, Result, Ok, Err, sym, ap, refl, Some, length, slice_get, arith}
+use Rattle.std.proofs.Common.{◌≡◌, ◌∙◌, true, cond, Result, Ok, Err, sym, ap, refl, Some, length}
+use Rattle.std.proofs.Common.{slice_get, arith}
 use Rattle.std.proofs.lemmas.Option.{slice_get_read}
 use Rattle.std.specs.List.{insert}
 use Rattle.std.specs.Option.{option_map}
@@ -11,7 +12,8 @@ use Rattle.std.specs.Map.{lookup}
 use Rattle.std.specs.declared.cmp.Ordering.TheVariants.{Greater}
 use Rattle.bufr_shelves.specs.Pairs.{place_of}
 use Rattle.bufr_shelves.proofs.PairLemmas.{put-insert, put-same, gt-is, only-value, no-value}
-use Rattle.bufr_shelves.proofs.SortedLemmas.{lookup-find, find-place, insert-place, at_place, put_at}
+use Rattle.bufr_shelves.proofs.SortedLemmas.{lookup-find, find-place, insert-place, at_place}
+use Rattle.bufr_shelves.proofs.SortedLemmas.{put_at}
 use Rattle.bufr_shelves.proofs.sorted_shelf.sorted.raise_pair.Goals as goal
 
 -- an answer that is no failure
