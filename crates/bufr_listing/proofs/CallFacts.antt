@@ -4,7 +4,7 @@ use Rattle.std.proofs.Common.{◌≡◌, ℕ, Bool, true, false, List, [], ◌�
 use Rattle.std.proofs.Common.{inl, inr, arith, Result, Ok, Err, refl, sym, ap, ◌∙◌, subst}
 use Rattle.std.specs.Prelude.{◌==◌, ◌&&◌, ◌||◌, Some, None, nat_le, if◌then◌else◌}
 use Rattle.std.specs.List.{onto_first}
-use Rattle.std.proofs.lemmas.Bool.{cases_Bool}
+use Rattle.std.proofs.lemmas.Bool.{cases_Bool, false≢true}
 use Rattle.std.proofs.lemmas.List.Splits.{slice_split-cons_yes, slice_split-cons_no}
 use Rattle.std.specs.Str.{bytes_eq}
 use Rattle.bufr_tables.specs.Answers.{◌>>=◌, Fails}
@@ -21,15 +21,7 @@ use Rattle.bufr_listing.specs.Reading.{read_section2, read_flags}
 use Rattle.bufr_listing.proofs.PrintedFacts.{same_test, first_printed, count_printed, line_of_words}
 use Rattle.bufr_listing.proofs.LineFacts.{IsWord, one_word}
 use Rattle.bufr_listing.proofs.WordFacts.{some_word}
-use Rattle.bufr_listing.proofs.FieldFacts.{bytes_same, same_bytes, other_bytes}
-
--- where there is no line, none is read
-pub none_taken : {A : Type 0} (read : ℕ → List ℕ → Result A ListingFault) (past : ℕ)
-    (ls : List Line) (e : Failure ListingFault) → Fails e (next_of past ls)
-    → Fails e (read_line read past ls)
-none_taken read past ls OutOfMemory h = tt
-none_taken read past [] (Fault f) h = let same : BadLine past ≡ f = cc in ap Err same
-none_taken read past (l ∷ ls) (Fault f) h = absurd cc
+use Rattle.bufr_listing.proofs.FieldFacts.{same_bytes, other_bytes}
 
 -- the line that is taken is the first, and the others are left
 taken_is : (past : ℕ) (ls : List Line) (l : Line) (rest : List Line) → next_of past ls
@@ -57,32 +49,12 @@ taken_err read past ls l rest (Fault f) h e = ap (read_line read past) (taken_is
 
 -- ---- a line that is one word
 
--- the word itself is read
-pub word_is : (word : List ℕ) (n : ℕ) (text : List ℕ) → has_octets word ≡ false
-    → bytes_eq text word ≡ true → read_word word n (as_printed text) ≡ Ok tt
-word_is word n text plain e = rw (same_test text word plain, e) refl
-
--- and no other text
+-- no other text is read
 pub word_is_not : (word : List ℕ) (n : ℕ) (text : List ℕ) → has_octets word ≡ false
     → bytes_eq text word ≡ false → read_word word n (as_printed text) ≡ Err (BadLine n)
 word_is_not word n text plain e = rw (same_test text word plain, e) refl
 
 -- ---- the line of the flags
-
--- a line of flags is read as these flags
-pub flags_are : (n : ℕ) (text : List ℕ) (observed compressed : Bool)
-    → bytes_eq text (flags_line observed compressed) ≡ true → read_flags n (as_printed text)
-    ≡ Ok (record { observed = observed; compressed = compressed })
-flags_are n text observed compressed e =
-    ap (λ t. read_flags n (as_printed t)) (bytes_same text (flags_line observed compressed) e)
-    ∙ own observed compressed
-  where
-    own : (o c : Bool) → read_flags n (as_printed (flags_line o c))
-        ≡ Ok (record { observed = o; compressed = c })
-    own false false = refl
-    own true false = refl
-    own false true = refl
-    own true true = refl
 
 -- a line of flags has no octets
 plain_flags : (o c : Bool) → has_octets (flags_line o c) ≡ false
@@ -116,15 +88,6 @@ pub flags_are_others : (n : ℕ) (text : List ℕ) → bytes_eq text (flags_line
     → read_flags n (as_printed text) ≡ Err (BadLine n)
 flags_are_others n text a b c d e =
     flags_are_not n text a b c d ∙ ap (λ b. Err (if b then BadValue n else BadLine n)) e
-
--- a test whose second part fails
-pub second_false : (a b : Bool) → b ≡ false → (a && b) ≡ false
-second_false true b e = e
-second_false false b e = refl
-
--- a test whose first part fails
-pub first_false : (a b : Bool) → a ≡ false → (a && b) ≡ false
-first_false a b e = ap (λ x. x && b) e
 
 -- ---- the words of a line behind its first
 
@@ -229,10 +192,6 @@ none_more [] h = absurd (omega arith)
 none_more (u ∷ []) h = refl
 none_more (u ∷ v ∷ us) h = absurd (omega arith)
 
--- a test does not both fail and pass
-false_true : false ≡ true → ⊥
-false_true e = cc e
-
 -- only a line of that word alone is printed so
 pub printed_section2 : (text : List ℕ) → bytes_eq text (codes "section2") ≡ false
     → bytes_eq (as_printed text) (codes "section2") ≡ false
@@ -244,7 +203,7 @@ printed_section2 text other =
     sym (count_printed text) ∙ ap (λ t. length (words_of t)) same in
     let alone : words_of text ≡ codes "section2" ∷ [] =
     none_more (words_of text) count ∙ ap (λ w. w ∷ []) first in
-    false_true (sym other ∙ same_bytes text (codes "section2")
+    false≢true (sym other ∙ same_bytes text (codes "section2")
     (line_of_words text (codes "section2") [] alone)))
 
 -- a line of section 2 with more than its first word is one of octets

@@ -5,8 +5,10 @@ use Rattle.std.proofs.Common.{length, take, drop, get_or, refl, sym, ap, ◌∙�
 use Rattle.std.specs.Prelude.{◌==◌, Option, Some, None, nat_lt, if◌then◌else◌}
 use Rattle.std.specs.List.{slice_split}
 use Rattle.std.specs.Str.Lines.{lines, lines_of_parts, strip_carriage_return}
-use Rattle.std.proofs.lemmas.Bool.{lt-ltb, ltb-true}
+use Rattle.std.proofs.lemmas.Bool.{lt-ltb, ltb-true, eqb-true, false_from_ne_true}
 use Rattle.std.proofs.lemmas.Bool.Decides.{nat_tests}
+use Rattle.std.proofs.lemmas.List.{nil_from_length, length-drop, take_all}
+use Rattle.std.proofs.lemmas.Option.{same_Some}
 use Rattle.std.proofs.lemmas.List.Sums.{position_or_len_is, fails_before_first}
 use Rattle.std.proofs.lemmas.List.Elements.{All-from_get_or}
 use Rattle.std.proofs.lemmas.List.Splits.{slice_split_none, slice_split_first, length-slice_split}
@@ -16,17 +18,12 @@ use Rattle.bufr_listing.specs.Lines.{is_skipped, as_printed, counting_from}
 
 -- ---- where the first line ends
 
--- a test that can't pass fails
-not_passed : (b : Bool) → (b ≡ true → ⊥) → b ≡ false
-not_passed true h = absurd (h refl)
-not_passed false h = refl
-
 -- where the first LF is found, the first line ends
 pub end_found : (text : List ℕ) (k : ℕ) → IsFirstByte (is_byte 10) text (Some k)
     → (line_end text ≡ k) × (k < length text)
 end_found text k h = (
   position_or_len_is (λ b. b == 10) text k 0 (omega (arith, h.0.high))
-      (λ i lt. not_passed (get_or text i 0 == 10) (h.0.before i (omega arith) lt)) (λ lt. h.1),
+      (λ i lt. false_from_ne_true (get_or text i 0 == 10) (h.0.before i (omega arith) lt)) (λ lt. h.1),
   h.0.high,
 )
 
@@ -34,7 +31,7 @@ end_found text k h = (
 pub end_missing : (text : List ℕ) → IsFirstByte (is_byte 10) text None → line_end text ≡ length text
 end_missing text h =
     position_or_len_is (λ b. b == 10) text (length text) 0 (omega arith)
-    (λ i lt. not_passed (get_or text i 0 == 10) (h i (omega arith) lt))
+    (λ i lt. false_from_ne_true (get_or text i 0 == 10) (h i (omega arith) lt))
     (λ lt. absurd (omega (arith, lt)))
 
 -- the first line before its LF
@@ -85,28 +82,14 @@ lines_one text late some =
     (λ i lt. fails_before_first p text i 0 (grind (arith, nat_tests))) in
     ap lines_of_parts (slice_split_none p text all) ∙ one_part text some
 
--- a text of length 0 is empty
-no_text : (text : List ℕ) → (length text == 0) ≡ true → text ≡ []
-no_text [] h = refl
-no_text (c ∷ cs) h = absurd (grind (arith, nat_tests))
-
 -- the lines of a text whose first line is this one
 pub record Behind (text line rest : List ℕ) : Type 0 where
   pub lines : lines text ≡ line ∷ lines rest
   pub shorter : length rest < length text
 
--- the same answers are of the same values
-first_is : {A : Type 0} (x y : A) → ◌≡◌ {A = Option A} (Some x) (Some y) → x ≡ y
-first_is x y e = cc
-
 -- fewer octets are left behind a line
 length_drop : (k : ℕ) (t : List ℕ) → k < length t → length (drop (k + 1) t) < length t
-length_drop k [] h = absurd (omega arith)
-length_drop zero (c ∷ t) h = omega arith
-length_drop (suc k) (c ∷ t) h =
-    let e : suc k + 1 ≡ suc (k + 1) = omega arith in
-    let more = length_drop k t (omega arith) in
-    subst (λ n. length (drop n (c ∷ t)) < length (c ∷ t)) (sym e) (omega (arith, more))
+length_drop k t h = let left = length-drop (k + 1) t in omega (arith, left, h)
 
 -- what stands behind the first line, by whether the text is empty and has an LF
 behind_by : (empty within : Bool) (text line rest : List ℕ) → (length text == 0) ≡ empty
@@ -117,13 +100,13 @@ behind_by : (empty within : Bool) (text line rest : List ℕ) → (length text =
     → Behind text line rest
 behind_by true within text line rest e f h = absurd cc
 behind_by false true text line rest e f h =
-    let is = first_is (without_return (take (line_end text) text), drop (line_end text + 1) text)
+    let is = same_Some (without_return (take (line_end text) text), drop (line_end text + 1) text)
     (line, rest) h in
     let lt = ltb-true (line_end text) (length text) f in
     subst (λ (x : List ℕ × List ℕ). Behind text x.0 x.1) is
     (record { lines = lines_more text lt; shorter = length_drop (line_end text) text lt })
 behind_by false false text line rest e f h =
-    let is = first_is (text, []) (line, rest) h in
+    let is = same_Some (text, []) (line, rest) h in
     subst (λ (x : List ℕ × List ℕ). Behind text x.0 x.1) is
     (record { lines = lines_one text f e; shorter = grind (arith, nat_tests) })
 
@@ -139,7 +122,7 @@ nothing_by : (empty within : Bool) (text : List ℕ) → (length text == 0) ≡ 
     (without_return (take (line_end text) text), drop (line_end text + 1) text) else Some
     (text, [])) None
     → lines text ≡ []
-nothing_by true within text e h = ap lines (no_text text e)
+nothing_by true within text e h = ap lines (nil_from_length text (eqb-true (length text) 0 e))
 nothing_by false true text e h = absurd cc
 nothing_by false false text e h = absurd cc
 
@@ -175,15 +158,7 @@ pub none_left : (text : List ℕ) → take (length text - length text) (drop (le
 none_left text = let none : length text - length text ≡ 0 = omega arith in
     ap (λ n. take n (drop (length text) text)) none
 
--- as many octets as there are
-take_whole : (text : List ℕ) → take (length text) text ≡ text
-take_whole [] = refl
-take_whole (c ∷ text) = ap (λ t. c ∷ t) (take_whole text)
-
 -- as many octets of the rest as there are
 pub rest_whole : (k : ℕ) (text : List ℕ) → take (length text - k) (drop k text) ≡ drop k text
-rest_whole zero text = let same : length text - 0 ≡ length text = omega arith in
-    ap (λ n. take n text) same ∙ take_whole text
-rest_whole (suc k) [] = let none : 0 - suc k ≡ 0 = omega arith in ap (λ n. take n []) none
-rest_whole (suc k) (c ∷ text) = let same : length (c ∷ text) - suc k ≡ length text - k =
-    omega arith in ap (λ n. take n (drop k text)) same ∙ rest_whole k text
+rest_whole k text = let left = length-drop k text in
+    take_all (length text - k) (drop k text) (omega (arith, left))

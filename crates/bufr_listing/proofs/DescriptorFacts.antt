@@ -5,7 +5,8 @@ use Rattle.std.proofs.Common.{drop, codes, unwrap_or, refl, sym, ap, ◌∙◌, 
 use Rattle.std.specs.Prelude.{◌==◌, ◌&&◌, not, Option, Some, None, Result, Err, if◌then◌else◌}
 use Rattle.std.specs.List.{AllByRecursion}
 use Rattle.std.specs.Str.{bytes_eq}
-use Rattle.std.proofs.lemmas.Bool.{and_parts}
+use Rattle.std.proofs.lemmas.Bool.{and_parts, and_from, cond-true, false≢true}
+use Rattle.std.proofs.lemmas.Option.{none-some, same_Some}
 use Rattle.bufr_tables.specs.Descriptors.{of_text, six_digits}
 use Rattle.bufr_tables.specs.Entries.{Entries}
 use Rattle.bufr_expand.specs.Templates.{template}
@@ -14,28 +15,25 @@ use Rattle.bufr_listing.specs.Listings.{words, descriptors_line}
 use Rattle.bufr_listing.specs.Lines.{words_of, first_word, as_printed}
 use Rattle.bufr_listing.specs.Words.{onto, descriptors_of}
 use Rattle.bufr_listing.specs.Reading.{descriptors_in, described, read_descriptors}
-use Rattle.bufr_listing.proofs.FieldFacts.{bytes_same, same_bytes}
+use Rattle.bufr_listing.proofs.FieldFacts.{bytes_same, same_bytes, refused}
 use Rattle.bufr_listing.proofs.LowerLaws.{DescriptorTexts}
-use Rattle.bufr_listing.proofs.LineFacts.{IsWord, literal_word, words_back, six_words, both}
+use Rattle.bufr_listing.proofs.LineFacts.{IsWord, literal_word, words_back, six_words}
 use Rattle.bufr_listing.proofs.LineFacts.{descriptors_small}
+use Rattle.bufr_listing.proofs.CallFacts.{title_octets}
 use Rattle.bufr_listing.proofs.PrintedFacts.{own_printed, first_printed, line_of_words}
-use Rattle.bufr_listing.proofs.NumberFacts.{onto_taken, first_of_words, false_true, titled_plain}
+use Rattle.bufr_listing.proofs.NumberFacts.{onto_taken, first_of_words}
 
 -- the words are the digits of the descriptors
 pub record DescriptorsFound (ws : List (List ℕ)) (ds : List ℕ) : Type 0 where
   pub texts : map six_digits ds ≡ ws
   pub values : map (λ w. unwrap_or (of_text w) 0) ws ≡ ds
 
--- no word, no descriptor
-no_more : (ds : List ℕ) → ◌≡◌ {A = Option (List ℕ)} (Some []) (Some ds) → [] ≡ ds
-no_more ds e = cc
-
 -- descriptors that are read of words, word by word
 pub descriptors_found : DescriptorTexts → (ws : List (List ℕ)) (ds : List ℕ) → descriptors_of ws
     ≡ Some ds → DescriptorsFound ws ds
 unfolding descriptors_of
 descriptors_found law [] ds h =
-    subst (λ xs. DescriptorsFound [] xs) (no_more ds h) (record { texts = refl; values = refl })
+    subst (λ xs. DescriptorsFound [] xs) (same_Some [] ds h) (record { texts = refl; values = refl })
 descriptors_found law (w ∷ ws) ds h =
     let p = onto_taken (of_text w) (descriptors_of ws) ds h in
     let own = (law w p.0).0 p.2 in
@@ -61,17 +59,6 @@ descriptors_again law (d ∷ ds) h =
 title_word : IsWord (codes "descriptors")
 title_word = literal_word (codes "descriptors") refl
 
--- a test that can't pass tells the fault
-refused : {A F : Type 0} (b : Bool) (r : Result A F) (e : F) → (b ≡ true → ⊥)
-    → (if b then r else Err e) ≡ Err e
-refused true r e h = absurd (h refl)
-refused false r e h = refl
-
--- a test that passes takes the answer
-taken : {A F : Type 0} (b : Bool) (r : Result A F) (e : F) → b ≡ true → (if b then r else Err e) ≡ r
-taken true r e h = refl
-taken false r e h = absurd (false_true h)
-
 -- a line that does not begin with the title is another one
 pub untitled_descriptors : (tables : Entries) (n : ℕ) (text : List ℕ) → bytes_eq (first_word text)
     (codes "descriptors") ≡ false → read_descriptors tables n (as_printed text) ≡ Err (BadLine n)
@@ -85,7 +72,7 @@ untitled_descriptors tables n text other =
     let line =
     bytes_same (descriptors_line ds) t
     (and_parts (not (length ds == 0)) (bytes_eq (descriptors_line ds) t) e).1 in
-    false_true (sym first ∙ same_bytes (first_word t) (codes "descriptors")
+    false≢true (sym first ∙ same_bytes (first_word t) (codes "descriptors")
     (ap first_word (sym line) ∙ first_of_words (codes "descriptors")
     (map six_digits ds) title_word)))
 
@@ -93,12 +80,7 @@ untitled_descriptors tables n text other =
 plain_line : (text : List ℕ) (ws : List (List ℕ)) → words_of text ≡ codes "descriptors" ∷ ws
     → as_printed text ≡ text
 plain_line text ws e =
-    own_printed text (titled_plain (codes "descriptors") text title_word
-    (ap (λ us. get_or us 0 []) e) refl)
-
--- an answer is not at once there and not there
-none_some : {A : Type 0} (x : A) → ◌≡◌ {A = Option A} (Some x) None → ⊥
-none_some x e = cc e
+    own_printed text (title_octets text (codes "descriptors") false (ap (λ us. get_or us 0 []) e) refl)
 
 -- a word that is no descriptor
 pub descriptors_are_not : DescriptorTexts → (tables : Entries) (n : ℕ) (text : List ℕ)
@@ -116,8 +98,8 @@ descriptors_are_not law tables n text ws e h =
     ap words_of (sym line) ∙ words_back (codes "descriptors") (map six_digits ds) title_word
     (six_words ds) in
     let same : ws ≡ map six_digits ds = ap (λ (us : List (List ℕ)). drop 1 us) (sym e ∙ back) in
-    none_some ds (sym (descriptors_again law ds (descriptors_small law (drop 1 (words_of text))))
-    ∙ ap descriptors_of (sym same) ∙ h))
+    none-some ds (sym h ∙ ap descriptors_of same
+    ∙ descriptors_again law ds (descriptors_small law (drop 1 (words_of text)))))
 
 -- the values of the words are the descriptors
 values_are : DescriptorTexts → (text : List ℕ) (ws : List (List ℕ)) (ds : List ℕ)
@@ -139,7 +121,7 @@ no_descriptor law tables n text ws ds e h none =
     ap (read_descriptors tables n) (plain_line text ws e)
     ∙ refused (not (length own == 0) && bytes_eq (descriptors_line own) text)
     (described n own (template tables own)) (BadLine n) (λ holds.
-    false_true
+    false≢true
     (sym count
     ∙ (and_parts (not (length own == 0)) (bytes_eq (descriptors_line own) text) holds).0))
 
@@ -158,8 +140,8 @@ descriptors_are law tables n text ws ds e h some =
     let spelled : bytes_eq (descriptors_line own) text ≡ true =
     same_bytes (descriptors_line own) text (ap descriptors_line same ∙ sym line) in
     ap (read_descriptors tables n) (plain_line text ws e)
-    ∙ taken (not (length own == 0) && bytes_eq (descriptors_line own) text)
-    (described n own (template tables own)) (BadLine n) (both count spelled)
+    ∙ cond-true (not (length own == 0) && bytes_eq (descriptors_line own) text)
+    (described n own (template tables own)) (Err (BadLine n)) (and_from _ _ count spelled)
     ∙ ap (λ ys. described n ys (template tables ys)) same
 
 -- the same of descriptors that are lent

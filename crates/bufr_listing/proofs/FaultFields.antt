@@ -20,7 +20,7 @@ use Rattle.bufr_data.specs.Fits.{told_of}
 use Rattle.bufr_data.specs.Refusals.{IsAsked, Passes}
 use Rattle.bufr_data.specs.FormLaws.{asked_is}
 use Rattle.bufr_data.specs.CourseLaws.{Laws, passes_after, begun, limit_passed}
-use Rattle.bufr_tables.specs.AnswerLaws.{bind_ok, ok_is, bind_err, err_is}
+use Rattle.bufr_tables.specs.AnswerLaws.{bind_ok, ok_is, bind_err, err_is, passed_ok}
 use Rattle.bufr_listing.specs.declared.fault.ListingFault.{ListingFault}
 use Rattle.bufr_listing.specs.declared.fault.ListingFault.TheVariants.{BadLine, Refused}
 use Rattle.bufr_listing.specs.declared.fault.Cause.TheVariants as causes
@@ -34,7 +34,7 @@ use Rattle.bufr_listing.specs.FirstFaults.{BeginsWith, NoFieldFollows, unfit, no
 use Rattle.bufr_listing.specs.FirstFaults.{FieldsFault, BeginsOrEnds, SubsetFault, inside}
 use Rattle.bufr_listing.specs.FirstFaults.{SubsetsFault}
 use Rattle.bufr_listing.proofs.LowerLaws.{LowerLaws}
-use Rattle.bufr_listing.proofs.FieldFacts.{bytes_same, same_bytes, if_ok, read_field_takes}
+use Rattle.bufr_listing.proofs.FieldFacts.{bytes_same, same_bytes, read_field_takes}
 use Rattle.bufr_listing.proofs.CourseFacts.{AsksPrintable, course_printable}
 use Rattle.bufr_listing.proofs.MessageFacts.{none_used}
 use Rattle.bufr_listing.proofs.SubsetFacts.{line_takes, FieldsTaken, fields_take}
@@ -319,7 +319,7 @@ later_fault laws (suc left) past j tree used (l ∷ ls) fault few le h =
             | inr begin ↦
                 let title =
                 bytes_same l.text (codes "subset")
-                (if_ok (bytes_eq l.text (codes "subset")) tt begin.0 _ begin.1).0 in
+                (passed_ok (bytes_eq l.text (codes "subset")) tt _ begin.0 begin.1).0 in
                 elim (bind_err (fields_read past (course tree used) ls) _ fault begin.2) [
                   | inl e ↦
                       fault_here tree j used past (l ∷ ls) fault

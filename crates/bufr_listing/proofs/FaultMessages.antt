@@ -31,8 +31,8 @@ use Rattle.bufr_listing.specs.FirstFaults.{IsOfKindAt, AreOfLine}
 use Rattle.bufr_listing.specs.FirstFaults.{up_to_time, up_to_local, MessageFault, in_heading}
 use Rattle.bufr_listing.specs.FirstFaults.{in_subsets, FirstFault}
 use Rattle.bufr_tables.specs.DescriptorLaws.{six_by_place}
-use Rattle.bufr_tables.specs.AnswerLaws.{bind_ok, ok_is, bind_err}
-use Rattle.bufr_listing.proofs.FieldFacts.{bytes_same, if_ok}
+use Rattle.bufr_tables.specs.AnswerLaws.{bind_ok, ok_is, passed_ok, bind_err}
+use Rattle.bufr_listing.proofs.FieldFacts.{bytes_same}
 use Rattle.bufr_listing.proofs.SubsetFacts.{line_takes}
 use Rattle.bufr_listing.proofs.LineFacts.{numbers_take, octets_take, flags_take, descriptors_take}
 use Rattle.bufr_listing.proofs.LineFacts.{eight_by_place, below_length}
@@ -274,7 +274,7 @@ message_fault laws tables past ls fault h =
           let l0 = line_takes (read_word (codes "message")) past ls p0.0 p0.1 in
           let w0 =
           bytes_same l0.line.text (codes "message")
-          (if_ok (bytes_eq l0.line.text (codes "message")) tt p0.0.0 _ l0.reads).0 in
+          (passed_ok (bytes_eq l0.line.text (codes "message")) tt _ p0.0.0 l0.reads).0 in
           let u0 : UpTo ls (codes "message" ∷ []) p0.0.1 =
           record { own = l0.line ∷ []; in_order = l0.front; spelled = λ i. w0 i ∷ [] } in
           elim (bind_err (read_line (read_numbers (codes "section1") section1_limits) past p0.0.1)

@@ -3,12 +3,13 @@
 use Rattle.std.proofs.Common.{◌≡◌, ℕ, suc, ◌+◌, ◌/◌, ◌%◌, ◌^◌, ◌<◌, ◌≤◌, Bool, true, false, List}
 use Rattle.std.proofs.Common.{[], ◌∷◌, ◌++◌, length, drop, replicate, codes, refl, sym, ap, ◌∙◌}
 use Rattle.std.proofs.Common.{subst, arith, append_assoc, inl, inr}
-use Rattle.std.specs.Prelude.{ℤ, pos, negsuc, ◌+ℤ◌, ◌-ℤ◌, ◌==◌, ◌&&◌, not, None, Ok, Err, nat_lt}
-use Rattle.std.specs.Prelude.{nat_le, if◌then◌else◌}
+use Rattle.std.specs.Prelude.{ℤ, pos, negsuc, ◌+ℤ◌, ◌-ℤ◌, ◌==◌, ◌&&◌, not, None, Result, Ok, Err}
+use Rattle.std.specs.Prelude.{nat_lt, nat_le, if◌then◌else◌}
 use Rattle.std.specs.List.{flat_map, list_all}
 use Rattle.std.specs.Str.{bytes_eq}
 use Rattle.std.specs.Int.RustNames.{unsigned_abs}
-use Rattle.std.proofs.lemmas.Bool.{and_parts, cases_Bool, ltb-true, leb-true, eqb-true}
+use Rattle.std.proofs.lemmas.Bool.{and_parts, and_from, cases_Bool, ltb-true, leb-true, eqb-true}
+use Rattle.std.proofs.lemmas.Bool.{not-true, cond-true, cond-false, false_from_ne_true}
 use Rattle.std.proofs.Math.Nat.{pow-le-pow_right}
 use Rattle.std.proofs.Math.IntN.{+ℤ-neg_ℤ_cancel}
 use Rattle.std.proofs.lemmas.Bool.Decides.{Decides-eqb}
@@ -18,6 +19,7 @@ use Rattle.hex.specs.Hex.{encode_with, encode_lower}
 use Rattle.hex.proofs.HexLemmas.{IsDigits-lower_digits}
 use Rattle.bufr_tables.specs.declared.element.Kind.{Kind}
 use Rattle.bufr_tables.specs.declared.element.Kind.TheVariants as kinds
+use Rattle.bufr_tables.specs.AnswerLaws.{passed_ok}
 use Rattle.bufr_expand.specs.declared.operators.Spec.{Spec}
 use Rattle.bufr_expand.specs.OperatorsInForce.{is_within}
 use Rattle.bufr_data.specs.declared.field.Raw.{Raw}
@@ -51,11 +53,16 @@ other_bytes xs ys different =
       | inr e ↦ e
     ]
 
--- a test that passed, and its answer
-pub if_ok : {A F : Type 0} (b : Bool) (x y : A) (e : F) → (if b then Ok x else Err e) ≡ Ok y
-    → (b ≡ true) × (x ≡ y)
-if_ok true x y e h = (refl, cc)
-if_ok false x y e h = absurd cc
+-- a test that passed, and what was answered then
+pub if_answered : {A F : Type 0} (b : Bool) (r : Result A F) (e : F) (x : A)
+    → (if b then r else Err e) ≡ Ok x → (b ≡ true) × (r ≡ Ok x)
+if_answered true r e x h = (refl, h)
+if_answered false r e x h = absurd cc
+
+-- a test that can't pass tells the fault
+pub refused : {A F : Type 0} (b : Bool) (r : Result A F) (e : F) → (b ≡ true → ⊥)
+    → (if b then r else Err e) ≡ Err e
+refused b r e h = cond-false b r (Err e) (false_from_ne_true b h)
 
 -- ---- quoted octets
 
@@ -77,11 +84,6 @@ plain_back : (c : ℕ) (more : List ℕ) → (c == 92) ≡ false → (octet_at (
     × (behind_octet (c ∷ more) ≡ more)
 plain_back c more e = (rw e refl, rw e refl)
 
--- a test whose opposite passes fails
-not_true : (b : Bool) → not b ≡ true → b ≡ false
-not_true true e = absurd cc
-not_true false e = refl
-
 -- an octet by whether it stands for itself
 octet_by : (printed : Bool) (c : ℕ) (more : List ℕ) → c < 256 → (printed ≡ true → (c == 92) ≡ false)
     → (octet_at ((if printed then c ∷ [] else 92 ∷ encode_lower (c ∷ [])) ++ more) ≡ c)
@@ -94,7 +96,7 @@ octet_back : (c : ℕ) (more : List ℕ) → c < 256 → (octet_at (quoted_octet
     × (behind_octet (quoted_octet c ++ more) ≡ more)
 octet_back c more small =
     octet_by (nat_le 32 c && nat_le c 126 && not (c == 34) && not (c == 92)) c more small
-    (λ e. not_true (c == 92) (and_parts (nat_le 32 c && nat_le c 126 && not (c == 34))
+    (λ e. not-true (c == 92) (and_parts (nat_le 32 c && nat_le c 126 && not (c == 34))
     (not (c == 92)) e).1)
 
 -- octets are read of what is quoted for them
@@ -109,7 +111,7 @@ unquoted_back (c ∷ os) more h =
     (ap (λ xs. c ∷ xs) (unquoted_back os more p.1))
 
 -- octets that are all 255
-all_255 : (os : List ℕ) → list_all (λ x. x == 255) os ≡ true → replicate (length os) 255 ≡ os
+pub all_255 : (os : List ℕ) → list_all (λ x. x == 255) os ≡ true → replicate (length os) 255 ≡ os
 all_255 [] h = refl
 all_255 (c ∷ os) h =
     let p = and_parts (c == 255) (list_all (λ x. x == 255) os) h in
@@ -178,76 +180,24 @@ number_small width n form =
 -- the raw value of a field's word is the field's own
 pub raw_back : (d : ℕ) (spec : Spec) (raw : Raw) → has_form_by spec.kind spec.width raw ≡ true
     → IsPrintable spec → raw_in spec (value_word (record { fxy = d; spec = spec; raw = raw })) ≡ raw
-raw_back d spec raw form fit =
-    raw_by_kind spec.kind spec.scale spec.reference spec.width raw form fit
+raw_back d spec raw form fit = raw_by_kind spec.kind raw form
   where
-    raw_by_kind : (kind : Kind) (scale reference : ℤ) (width : ℕ) (raw : Raw)
-        → has_form_by kind width raw ≡ true
-        → IsPrintable (record {
-          kind = kind;
-          scale = scale;
-          reference = reference;
-          width =
-              width;
-        })
-        → raw_in (record { kind = kind; scale = scale; reference = reference; width = width })
-        (value_word
-        (record {
-          fxy = d;
-          spec = record {
-            kind = kind;
-            scale = scale;
-            reference =
-                reference;
-            width = width;
-          };
-          raw = raw;
-        })) ≡ raw
-    raw_by_kind kinds.Text scale reference width (Number n) form fit = absurd cc
-    raw_by_kind kinds.Text scale reference width (Text os) form fit =
-        let f : Field =
-        record {
-          fxy = d;
-          spec = record {
-            kind = kinds.Text;
-            scale = scale;
-            reference =
-                reference;
-            width = width;
-          };
-          raw = Text os;
-        } in
-        let p = and_parts (length os == width / 8) (list_all (λ x. nat_lt x 256) os) form in
-        ap Text (text_by (is_missing f) (width / 8) os (eqb-true (length os) (width / 8) p.0) p.1
-        (λ e. missing_ones f e))
-    raw_by_kind kinds.Code scale reference width (Text os) form fit = absurd cc
-    raw_by_kind kinds.Code scale reference width (Number n) form fit =
-        let spec : Spec =
-        record { kind = kinds.Code; scale = scale; reference = reference; width = width } in
-        let f : Field = record { fxy = d; spec = spec; raw = Number n } in
-        ap Number (number_by (is_missing f) spec n fit (number_small width n form)
-        (λ e. eqb-true (n + 1) (2 ^ width) (missing_ones f e)))
-    raw_by_kind kinds.Flag scale reference width (Text os) form fit = absurd cc
-    raw_by_kind kinds.Flag scale reference width (Number n) form fit =
-        let spec : Spec =
-        record { kind = kinds.Flag; scale = scale; reference = reference; width = width } in
-        let f : Field = record { fxy = d; spec = spec; raw = Number n } in
-        ap Number (number_by (is_missing f) spec n fit (number_small width n form)
-        (λ e. eqb-true (n + 1) (2 ^ width) (missing_ones f e)))
-    raw_by_kind kinds.Quantity scale reference width (Text os) form fit = absurd cc
-    raw_by_kind kinds.Quantity scale reference width (Number n) form fit =
-        let spec : Spec =
-        record { kind = kinds.Quantity; scale = scale; reference = reference; width = width } in
-        let f : Field = record { fxy = d; spec = spec; raw = Number n } in
-        ap Number (number_by (is_missing f) spec n fit (number_small width n form)
-        (λ e. eqb-true (n + 1) (2 ^ width) (missing_ones f e)))
-    raw_by_kind kinds.Count scale reference width (Text os) form fit = absurd cc
-    raw_by_kind kinds.Count scale reference width (Number n) form fit =
-        let spec : Spec =
-        record { kind = kinds.Count; scale = scale; reference = reference; width = width } in
-        let f : Field = record { fxy = d; spec = spec; raw = Number n } in
-        ap Number (number_by (is_missing f) spec n fit (number_small width n form)
-        (λ e. eqb-true (n + 1) (2 ^ width) (missing_ones f e)))
+    raw_by_kind : (kind : Kind) (raw : Raw) → has_form_by kind spec.width raw ≡ true
+        → raw_in (record spec { kind = kind })
+        (value_word (record { fxy = d; spec = record spec { kind = kind }; raw = raw })) ≡ raw
+    raw_by_kind kinds.Text (Number n) form = absurd cc
+    raw_by_kind kinds.Text (Text os) form =
+        let own : Spec = record spec { kind = kinds.Text } in
+        let f : Field = record { fxy = d; spec = own; raw = Text os } in
+        let p = and_parts (length os == spec.width / 8) (list_all (λ x. nat_lt x 256) os) form in
+        ap Text (text_by (is_missing f) (spec.width / 8) os
+        (eqb-true (length os) (spec.width / 8) p.0) p.1 (λ e. missing_ones f e))
+    raw_by_kind kind (Text os) form = absurd cc
+    raw_by_kind kind (Number n) form =
+        let own : Spec = record spec { kind = kind } in
+        let f : Field = record { fxy = d; spec = own; raw = Number n } in
+        ap Number (number_by (is_missing f) spec n fit (number_small spec.width n form)
+        (λ e. eqb-true (n + 1) (2 ^ spec.width) (missing_ones f e)))
 
 -- ---- lines of fields
 
@@ -255,15 +205,6 @@ raw_back d spec raw form fit =
 candidate_back : (f : Field) → has_form_by f.spec.kind f.spec.width f.raw ≡ true
     → IsPrintable f.spec → raw_in f.spec (drop 7 (field_line f)) ≡ f.raw
 candidate_back f form fit = raw_back f.fxy f.spec f.raw form fit
-
--- two tests that pass
-both : {a b : Bool} → a ≡ true → b ≡ true → (a && b) ≡ true
-both {a} {b} p q = rw (p, q) refl
-
--- a candidate that passes the test is read
-accepted : {F : Type 0} (b : Bool) (c f : Field) (e : F) → b ≡ true → c ≡ f
-    → (if b then Ok c else Err e) ≡ Ok f
-accepted b c f e holds same = rw holds (ap Ok same)
 
 -- a field is read of its own line
 own_line : (n : ℕ) (f : Field) → IsPrintable f.spec → has_form_by f.spec.kind f.spec.width f.raw
@@ -274,9 +215,11 @@ own_line n f fit form =
     λ i. record { fxy = f.fxy; spec = f.spec; raw = back i } in
     let formed : has_form_by f.spec.kind f.spec.width (raw_in f.spec (drop 7 (field_line f)))
     ≡ true = subst (λ (r : Raw). has_form_by f.spec.kind f.spec.width r ≡ true) (sym back) form in
-    accepted _ (field_in f.fxy f.spec (field_line f)) f (field_fault f.fxy n (field_line f))
-    (both (both fit.scale formed) (same_bytes (field_line (field_in f.fxy f.spec (field_line f)))
-    (field_line f) (ap field_line same))) same
+    cond-true _ (Ok (field_in f.fxy f.spec (field_line f)))
+    (Err (field_fault f.fxy n (field_line f)))
+    (and_from _ _ (and_from _ _ fit.scale formed)
+    (same_bytes (field_line (field_in f.fxy f.spec (field_line f))) (field_line f)
+    (ap field_line same))) ∙ ap Ok same
 
 -- a field that is asked for is read of its line
 pub read_field_back : (d : ℕ) (spec : Spec) (n : ℕ) (f : Field) → IsPrintable spec
@@ -295,9 +238,9 @@ read_field_back d spec n f fit stands =
 pub read_field_takes : (d : ℕ) (spec : Spec) (n : ℕ) (text : List ℕ) (f : Field)
     → read_field d spec n text ≡ Ok f → (text ≡ field_line f) × (stands_for d spec f ≡ true)
 read_field_takes d spec n text f h =
-    let p = if_ok (is_within 600 spec.scale && has_form_by spec.kind spec.width
+    let p = passed_ok (is_within 600 spec.scale && has_form_by spec.kind spec.width
     (raw_in spec (drop 7 text)) && bytes_eq (field_line (field_in d spec text)) text)
-    (field_in d spec text) f (field_fault d n text) h in
+    (field_in d spec text) (field_fault d n text) f h in
     let q = and_parts (is_within 600 spec.scale && has_form_by spec.kind spec.width
     (raw_in spec (drop 7 text))) (bytes_eq (field_line (field_in d spec text)) text) p.0 in
     let formed =

@@ -9,7 +9,7 @@ use Rattle.std.specs.Char.{is_ascii_digit}
 use Rattle.std.specs.List.{flat_map, list_all, AllByRecursion}
 use Rattle.std.specs.Str.{bytes_eq}
 use Rattle.std.specs.Str.Parse.{digits_value}
-use Rattle.std.proofs.lemmas.Bool.{and_parts, ltb-true}
+use Rattle.std.proofs.lemmas.Bool.{and_parts, and_from, not-true, ltb-true, cond-true}
 use Rattle.std.proofs.lemmas.Fmt.{decimal_is_IsNumeral_wide}
 use Rattle.std.proofs.lemmas.List.{append-nil}
 use Rattle.std.proofs.lemmas.List.Elements.{All-from_recursion, recursion_from_All}
@@ -29,23 +29,14 @@ use Rattle.bufr_listing.specs.Limits.{two_octets}
 use Rattle.bufr_listing.specs.declared.fault.ListingFault.{ListingFault}
 use Rattle.bufr_listing.specs.declared.fault.ListingFault.TheVariants.{BadLine}
 use Rattle.bufr_sections.specs.Sections.{AreOctets, IsOctet}
-use Rattle.bufr_tables.specs.AnswerLaws.{ok_is}
+use Rattle.bufr_tables.specs.AnswerLaws.{ok_is, passed_ok}
 use Rattle.bufr_listing.specs.Listings.{words}
 use Rattle.bufr_listing.specs.Lines.{words_of}
 use Rattle.bufr_listing.specs.Reading.{are_below, numbers_in, read_numbers, octets_by, octets_in}
 use Rattle.bufr_listing.specs.Reading.{read_octets, read_local, read_section2, Flags, read_flags}
 use Rattle.bufr_listing.specs.Reading.{descriptors_in, Described, described, read_descriptors}
 use Rattle.bufr_listing.proofs.LowerLaws.{DescriptorTexts}
-use Rattle.bufr_listing.proofs.FieldFacts.{bytes_same, same_bytes, if_ok}
-
--- a test that passes takes the answer
-pub accept : {A F : Type 0} (b : Bool) (x : A) (e : F) → b ≡ true → (if b then Ok x else Err e)
-    ≡ Ok x
-accept b x e h = rw h refl
-
--- two tests that pass
-pub both : {a b : Bool} → a ≡ true → b ≡ true → (a && b) ≡ true
-both {a} {b} p q = rw (p, q) refl
+use Rattle.bufr_listing.proofs.FieldFacts.{bytes_same, same_bytes, if_answered}
 
 -- ---- words
 
@@ -53,17 +44,12 @@ both {a} {b} p q = rw (p, q) refl
 abbrev pub IsWord : List ℕ → Type 0
 IsWord w = AllByRecursion (λ c. (c == 32) ≡ false) w
 
--- a test whose opposite passes fails
-not_true : (b : Bool) → not b ≡ true → b ≡ false
-not_true true e = absurd cc
-not_true false e = refl
-
 -- a word that is written out
 pub literal_word : (w : List ℕ) → list_all (λ c. not (c == 32)) w ≡ true → IsWord w
 literal_word [] h = tt
 literal_word (c ∷ cs) h =
     let p = and_parts (not (c == 32)) (list_all (λ c. not (c == 32)) cs) h in
-    (not_true (c == 32) p.0, literal_word cs p.1)
+    (not-true (c == 32) p.0, literal_word cs p.1)
 
 -- a word alone is the one word of a line
 pub one_word : (w : List ℕ) → IsWord w → words_of w ≡ w ∷ []
@@ -124,8 +110,8 @@ pub numbers_take : (title limits : List ℕ) (n : ℕ) (text ns : List ℕ)
     → read_numbers title limits n text ≡ Ok ns → (text ≡ numbers_line title ns)
     × (are_below limits ns ≡ true)
 numbers_take title limits n text ns h =
-    let p = if_ok (are_below limits (numbers_in text) && bytes_eq
-    (numbers_line title (numbers_in text)) text) (numbers_in text) ns _ h in
+    let p = passed_ok (are_below limits (numbers_in text) && bytes_eq
+    (numbers_line title (numbers_in text)) text) (numbers_in text) _ ns h in
     let q = and_parts (are_below limits (numbers_in text))
     (bytes_eq (numbers_line title (numbers_in text)) text) p.0 in (
       sym (bytes_same (numbers_line title (numbers_in text)) text q.1)
@@ -142,8 +128,8 @@ numbers_back title limits n ns word most below =
     let back : numbers_in (numbers_line title ns) ≡ ns =
     ap (λ us. map (digits_value 10) (drop 1 us))
     (words_back title (map decimal ns) word (decimal_words ns short)) ∙ values_back ns short in
-    accept _ (numbers_in (numbers_line title ns)) _
-    (both (subst (λ ms. are_below limits ms ≡ true) (sym back) below)
+    cond-true _ (Ok (numbers_in (numbers_line title ns))) _
+    (and_from _ _ (subst (λ ms. are_below limits ms ≡ true) (sym back) below)
     (same_bytes (numbers_line title (numbers_in (numbers_line title ns))) (numbers_line title ns)
     (ap (numbers_line title) back))) ∙ ap Ok back
 
@@ -186,7 +172,7 @@ pub octets_take : (title : List ℕ) (has_count : Bool) (n : ℕ) (text os : Lis
     → read_octets title has_count n text ≡ Ok os → OctetsTaken title text os
 octets_take title has_count n text os h =
     let own = octets_in (drop (length title + 1) text) in
-    let p = if_ok (not (length own == 0) && bytes_eq (octets_line title own) text) own os _ h in
+    let p = passed_ok (not (length own == 0) && bytes_eq (octets_line title own) text) own _ os h in
     let q = and_parts (not (length own == 0)) (bytes_eq (octets_line title own) text) p.0 in
     record {
       line = sym (bytes_same (octets_line title own) text q.1) ∙ ap (octets_line title) p.1;
@@ -207,8 +193,8 @@ octets_back title has_count n x xs octets digits =
     (decode_of-encode_lower (x ∷ xs)
     (bytes_from (x ∷ xs) (recursion_from_All IsOctet (x ∷ xs) octets))) in
     let own = octets_in (drop (length title + 1) (octets_line title (x ∷ xs))) in
-    accept _ own _
-    (both (subst (λ (ys : List ℕ). not (length ys == 0) ≡ true) (sym back)
+    cond-true _ (Ok own) _
+    (and_from _ _ (subst (λ (ys : List ℕ). not (length ys == 0) ≡ true) (sym back)
     (some_not_empty (length xs))) (same_bytes (octets_line title own) (octets_line title (x ∷ xs))
     (ap (octets_line title) back))) ∙ ap Ok back
 
@@ -343,12 +329,6 @@ pub record DescriptorsTaken (tables : Entries) (text : List ℕ) (x : Described)
   pub small : All (λ d. d < 2 ^ 16) x.descriptors
   pub has_template : template tables x.descriptors ≡ Ok x.tree
 
--- a test that passed, and what was answered then
-if_then_ok : {A F : Type 0} (b : Bool) (r : Result A F) (e : F) (x : A) → (if b then r else Err e)
-    ≡ Ok x → (b ≡ true) × (r ≡ Ok x)
-if_then_ok true r e x h = (refl, h)
-if_then_ok false r e x h = absurd cc
-
 -- descriptors that have a template, as they were read
 described_ok : (tables : Entries) (n : ℕ) (text ds : List ℕ) (r : Result Tree TemplateFault)
     (x : Described) → text ≡ descriptors_line ds → 0 < length ds → All (λ d. d < 2 ^ 16) ds
@@ -363,7 +343,7 @@ pub descriptors_take : DescriptorTexts → (tables : Entries) (n : ℕ) (text : 
     (x : Described) → read_descriptors tables n text ≡ Ok x → DescriptorsTaken tables text x
 descriptors_take texts tables n text x h =
     let ds = descriptors_in text in
-    let p = if_then_ok (not (length ds == 0) && bytes_eq (descriptors_line ds) text)
+    let p = if_answered (not (length ds == 0) && bytes_eq (descriptors_line ds) text)
     (described n ds (template tables ds)) (BadLine n) x h in
     let q = and_parts (not (length ds == 0)) (bytes_eq (descriptors_line ds) text) p.0 in
     described_ok tables n text ds (template tables ds) x
@@ -383,7 +363,7 @@ pub descriptors_pass : DescriptorTexts → (ds : List ℕ) → 0 < length ds →
 descriptors_pass texts ds some small =
     let back = descriptors_back_in texts ds (recursion_from_All (λ d. d < 2 ^ 16) ds small) in
     let own = descriptors_in (descriptors_line ds) in
-    both (subst (λ (ys : List ℕ). not (length ys == 0) ≡ true) (sym back)
+    and_from _ _ (subst (λ (ys : List ℕ). not (length ys == 0) ≡ true) (sym back)
     (not_empty_from ds some)) (same_bytes (descriptors_line own) (descriptors_line ds)
     (ap descriptors_line back))
 
@@ -394,13 +374,9 @@ pub descriptors_read : DescriptorTexts → (tables : Entries) (n : ℕ) (ds : Li
 descriptors_read texts tables n ds some small =
     let back = descriptors_back_in texts ds (recursion_from_All (λ d. d < 2 ^ 16) ds small) in
     let own = descriptors_in (descriptors_line ds) in
-    given _ (described n own (template tables own)) (BadLine n)
+    cond-true _ (described n own (template tables own)) (Err (BadLine n))
     (descriptors_pass texts ds some small)
     ∙ ap (λ ys. described n ys (template tables ys)) back
-  where
-    given : (b : Bool) (r : Result Described ListingFault) (e : ListingFault) → b ≡ true
-        → (if b then r else Err e) ≡ r
-    given b r e h = rw h refl
 
 -- descriptors that have a template are read of their line
 pub descriptors_back : DescriptorTexts → (tables : Entries) (n : ℕ) (ds : List ℕ) (tree : Tree)

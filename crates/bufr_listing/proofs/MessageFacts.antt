@@ -6,7 +6,7 @@ use Rattle.std.proofs.Common.{subst, arith, append_assoc, length-append}
 use Rattle.std.specs.Prelude.{IfSome, Option, Some, None, Result, Ok, if◌then◌else◌}
 use Rattle.std.specs.List.{flat_map, AllByRecursion}
 use Rattle.std.specs.Str.{bytes_eq}
-use Rattle.std.proofs.lemmas.Bool.{lt-ltb}
+use Rattle.std.proofs.lemmas.Bool.{and_from, lt-ltb}
 use Rattle.std.proofs.lemmas.List.Elements.{All-from_recursion}
 use Rattle.bufr_tables.specs.Answers.{◌>>=◌}
 use Rattle.bufr_tables.specs.Entries.{Entries}
@@ -25,19 +25,19 @@ use Rattle.bufr_listing.specs.Listings.{section1_numbers, time_numbers, numbers_
 use Rattle.bufr_listing.specs.Limits.{two_octets}
 use Rattle.bufr_listing.specs.declared.fault.ListingFault.{ListingFault}
 use Rattle.bufr_sections.specs.Sections.{AreOctets, HeadFits, IsOctet}
-use Rattle.bufr_tables.specs.AnswerLaws.{bind_ok, ok_is}
+use Rattle.bufr_tables.specs.AnswerLaws.{bind_ok, ok_is, passed_ok}
 use Rattle.bufr_listing.specs.Lines.{Line, texts, first_word}
 use Rattle.bufr_listing.specs.Lines.{CanBeListed}
 use Rattle.bufr_listing.specs.Reading.{with_rest, read_line, read_if, read_word, are_below}
 use Rattle.bufr_listing.specs.Reading.{read_numbers, read_local, read_section2, read_flags}
 use Rattle.bufr_listing.specs.Reading.{read_descriptors, subsets_read, section1_limits, time_limits}
 use Rattle.bufr_listing.specs.Reading.{head_with, MessageRead, message_read, messages_read}
-use Rattle.bufr_listing.proofs.FieldFacts.{bytes_same, same_bytes, if_ok}
+use Rattle.bufr_listing.proofs.FieldFacts.{bytes_same, same_bytes}
 use Rattle.bufr_listing.proofs.CourseFacts.{course_printable}
 use Rattle.bufr_listing.proofs.LoopFacts.{goes_on, texts_length}
 use Rattle.bufr_listing.proofs.SubsetFacts.{LineTaken, line_takes, line_back, subsets_take}
 use Rattle.bufr_listing.proofs.SubsetFacts.{subsets_back}
-use Rattle.bufr_listing.proofs.LineFacts.{literal_word, both, numbers_take, numbers_back}
+use Rattle.bufr_listing.proofs.LineFacts.{literal_word, numbers_take, numbers_back}
 use Rattle.bufr_listing.proofs.LineFacts.{octets_take, local_back, section2_take, section2_back}
 use Rattle.bufr_listing.proofs.LineFacts.{flags_take, flags_back, descriptors_take}
 use Rattle.bufr_listing.proofs.LineFacts.{descriptors_back, eight_by_place, below_length, below_at}
@@ -233,17 +233,20 @@ pub head_below : (h : Head) → HeadFits h → (are_below section1_limits (secti
     × (are_below time_limits (time_numbers h) ≡ true)
 unfolding are_below
 head_below h fits = (
-  both (lt-ltb h.centre two_octets fits.centre) (both (lt-ltb h.sub_centre two_octets fits.sub_centre)
-      (both (lt-ltb h.update 256 fits.update) (both (lt-ltb h.category 256 fits.category)
-      (both (lt-ltb h.international 256 fits.international)
-      (both (lt-ltb h.local_category 256 fits.local_category)
-      (both (lt-ltb h.master_version 256 fits.master_version)
-      (both (lt-ltb h.local_version 256 fits.local_version) refl))))))),
-  both (lt-ltb h.year two_octets fits.year)
-      (both (lt-ltb h.month 256 fits.month)
-      (both (lt-ltb h.day 256 fits.day)
-      (both (lt-ltb h.hour 256 fits.hour)
-      (both (lt-ltb h.minute 256 fits.minute) (both (lt-ltb h.second 256 fits.second) refl))))),
+  and_from _ _ (lt-ltb h.centre two_octets fits.centre)
+      (and_from _ _ (lt-ltb h.sub_centre two_octets fits.sub_centre)
+      (and_from _ _ (lt-ltb h.update 256 fits.update)
+      (and_from _ _ (lt-ltb h.category 256 fits.category)
+      (and_from _ _ (lt-ltb h.international 256 fits.international)
+      (and_from _ _ (lt-ltb h.local_category 256 fits.local_category)
+      (and_from _ _ (lt-ltb h.master_version 256 fits.master_version)
+      (and_from _ _ (lt-ltb h.local_version 256 fits.local_version) refl))))))),
+  and_from _ _ (lt-ltb h.year two_octets fits.year)
+      (and_from _ _ (lt-ltb h.month 256 fits.month)
+      (and_from _ _ (lt-ltb h.day 256 fits.day)
+      (and_from _ _ (lt-ltb h.hour 256 fits.hour)
+      (and_from _ _ (lt-ltb h.minute 256 fits.minute)
+      (and_from _ _ (lt-ltb h.second 256 fits.second) refl))))),
 )
 
 -- numbers below these limits are those of a head
@@ -305,7 +308,7 @@ message_takes laws tables past ls x h =
     let l6 = line_takes (read_descriptors tables) past p5.0.1 p6.0 p6.1 in
     let w0 =
     bytes_same l0.line.text (codes "message")
-    (if_ok (bytes_eq l0.line.text (codes "message")) tt p0.0.0 _ l0.reads).0 in
+    (passed_ok (bytes_eq l0.line.text (codes "message")) tt _ p0.0.0 l0.reads).0 in
     let w1 = numbers_take (codes "section1") section1_limits l1.line.number l1.line.text p1.0.0
     l1.reads in
     let w2 = numbers_take (codes "time") time_limits l2.line.number l2.line.text p2.0.0 l2.reads in

@@ -6,8 +6,10 @@ use Rattle.std.specs.Prelude.{◌==◌, ◌||◌, decimal, Option, Some, None, I
 use Rattle.std.specs.Prelude.{Err, ℤ, pos, negsuc, nat_lt, if◌then◌else◌}
 use Rattle.std.specs.List.{AllByRecursion}
 use Rattle.std.specs.Str.{bytes_eq}
-use Rattle.std.proofs.lemmas.Bool.{and_parts, ltb-true}
+use Rattle.std.proofs.lemmas.Bool.{and_parts, and_from, ltb-true, false≢true}
 use Rattle.std.proofs.lemmas.Bool.Decides.{nat_tests}
+use Rattle.std.proofs.lemmas.List.{append-nil}
+use Rattle.std.proofs.lemmas.Option.{none-some}
 use Rattle.bufr_data.specs.declared.field.Decimal.{Decimal}
 use Rattle.bufr_data.specs.Values.{text_of}
 use Rattle.bufr_data.specs.DecimalTexts.{decimal_of}
@@ -18,9 +20,10 @@ use Rattle.bufr_listing.specs.Listings.{words, numbers_line}
 use Rattle.bufr_listing.specs.Lines.{words_of, first_word, has_octets, as_printed}
 use Rattle.bufr_listing.specs.Words.{below, number_below, onto, numbers_of}
 use Rattle.bufr_listing.specs.Reading.{are_below, numbers_in, read_numbers}
-use Rattle.bufr_listing.proofs.FieldFacts.{bytes_same, same_bytes}
-use Rattle.bufr_listing.proofs.LineFacts.{IsWord, both, word_then, one_word, words_back}
+use Rattle.bufr_listing.proofs.FieldFacts.{bytes_same, same_bytes, refused}
+use Rattle.bufr_listing.proofs.LineFacts.{IsWord, word_then, one_word, words_back}
 use Rattle.bufr_listing.proofs.LineFacts.{decimal_words, below_short, numbers_back}
+use Rattle.bufr_listing.proofs.CallFacts.{title_octets}
 use Rattle.bufr_listing.proofs.PrintedFacts.{own_printed, first_printed, line_of_words}
 
 -- ---- numbers below limits
@@ -89,7 +92,7 @@ numbers_taken (limit ∷ limits) (w ∷ ws) ns h =
     let first = word_taken limit w p.0 p.2 in
     let others = numbers_taken limits ws p.1 p.3 in
     subst (λ xs. NumbersTaken (limit ∷ limits) (w ∷ ws) xs) p.4
-    (record { texts = λ i. first.0 i ∷ others.texts i; below = both first.1 others.below })
+    (record { texts = λ i. first.0 i ∷ others.texts i; below = and_from _ _ first.1 others.below })
 
 -- numbers below their limits are read of what they print
 pub numbers_again : (limits ns : List ℕ) → AllByRecursion (λ l. l ≤ two_octets) limits
@@ -107,23 +110,9 @@ numbers_again (l ∷ ls) (n ∷ ns) most h =
 -- the first word of a line that is made of words
 pub first_of_words : (title : List ℕ) (ws : List (List ℕ)) → IsWord title
     → first_word (words title ws) ≡ title
-first_of_words title [] h = ap first_word (append_none title) ∙ ap (λ us. get_or us 0 [])
+first_of_words title [] h = ap first_word (append-nil title) ∙ ap (λ us. get_or us 0 [])
     (one_word title h)
-  where
-    append_none : (xs : List ℕ) → xs ++ [] ≡ xs
-    append_none [] = refl
-    append_none (x ∷ xs) = ap (λ ys. x ∷ ys) (append_none xs)
 first_of_words title (v ∷ ws) h = ap (λ us. get_or us 0 []) (word_then title (words v ws) h)
-
--- a test that can't pass tells the fault
-test_fails : {A F : Type 0} (b : Bool) (x : A) (e : F) → (b ≡ true → ⊥)
-    → (if b then Ok x else Err e) ≡ Err e
-test_fails true x e h = absurd (h refl)
-test_fails false x e h = refl
-
--- a test does not both fail and pass
-pub false_true : false ≡ true → ⊥
-false_true e = cc e
 
 -- a line that does not begin with the title is another one
 pub untitled_numbers : (title limits : List ℕ) (n : ℕ) (text : List ℕ) → IsWord title
@@ -133,18 +122,11 @@ untitled_numbers title limits n text word other =
     let t = as_printed text in
     let first : bytes_eq (first_word t) title ≡ false =
     ap (λ w. bytes_eq w title) (first_printed text) ∙ other in
-    test_fails _ (numbers_in t) _ (λ e.
+    refused _ (Ok (numbers_in t)) _ (λ e.
     let line = bytes_same (numbers_line title (numbers_in t)) t (and_parts _ _ e).1 in
-    false_true (sym first ∙ same_bytes (first_word t) title (ap first_word (sym line)
+    false≢true (sym first ∙ same_bytes (first_word t) title (ap first_word (sym line)
     ∙ first_of_words title (map decimal (numbers_in t)) word)))
     ∙ rw first refl
-
--- a line with a title of no octets is one of none
-pub titled_plain : (title text : List ℕ) → IsWord title → first_word text ≡ title
-    → has_octets title ≡ false → has_octets text ≡ false
-titled_plain title text word first plain =
-    let own : first_word title ≡ title = ap (λ us. get_or us 0 []) (one_word title word) in
-    ap (λ w. bytes_eq w (codes "local1") || bytes_eq w (codes "section2")) (first ∙ sym own) ∙ plain
 
 -- the numbers of a line that begins with the title
 pub numbers_are : (title limits : List ℕ) (n : ℕ) (text : List ℕ) (ws : List (List ℕ))
@@ -154,7 +136,7 @@ pub numbers_are : (title limits : List ℕ) (n : ℕ) (text : List ℕ) (ws : Li
 numbers_are title limits n text ws ns word most plain e h =
     let taken = numbers_taken limits ws ns h in
     let first : first_word text ≡ title = ap (λ us. get_or us 0 []) e in
-    let octets : has_octets text ≡ false = titled_plain title text word first plain in
+    let octets : has_octets text ≡ false = title_octets text title false first plain in
     let line : text ≡ numbers_line title ns =
     line_of_words text title ws e ∙ ap (words title) (sym taken.texts) in
     ap (read_numbers title limits n) (own_printed text octets ∙ line)
@@ -167,11 +149,11 @@ pub numbers_are_not : (title limits : List ℕ) (n : ℕ) (text : List ℕ) (ws 
     (as_printed text) ≡ Err (if length ws == length limits then BadValue n else BadLine n)
 numbers_are_not title limits n text ws word most plain e h =
     let first : first_word text ≡ title = ap (λ us. get_or us 0 []) e in
-    let octets : has_octets text ≡ false = titled_plain title text word first plain in
+    let octets : has_octets text ≡ false = title_octets text title false first plain in
     let count : (length (words_of text) == length limits + 1) ≡ (length ws == length limits) =
     ap (λ us. length us == length limits + 1) e ∙ one_more (length ws) (length limits) in
     ap (read_numbers title limits n) (own_printed text octets)
-    ∙ test_fails _ (numbers_in text) _ (λ holds.
+    ∙ refused _ (Ok (numbers_in text)) _ (λ holds.
     let q = and_parts (are_below limits (numbers_in text)) _ holds in
     let line = bytes_same (numbers_line title (numbers_in text)) text q.1 in
     let short = below_short limits (numbers_in text) most q.0 in
@@ -179,12 +161,9 @@ numbers_are_not title limits n text ws word most plain e h =
     ap words_of (sym line) ∙ words_back title (map decimal (numbers_in text)) word
     (decimal_words (numbers_in text) short) in
     let same : ws ≡ map decimal (numbers_in text) = ap (drop 1) (sym e ∙ back) in
-    some_none (sym (numbers_again limits (numbers_in text) most q.0) ∙ ap (numbers_of limits)
-    (sym same) ∙ h))
+    none-some (numbers_in text) (sym h ∙ ap (numbers_of limits) same
+    ∙ numbers_again limits (numbers_in text) most q.0))
     ∙ rw (same_bytes (first_word text) title first, count) refl
   where
     one_more : (a b : ℕ) → (suc a == b + 1) ≡ (a == b)
     one_more a b = grind (arith, nat_tests)
-
-    some_none : {A : Type 0} {x : A} → ◌≡◌ {A = Option A} (Some x) None → ⊥
-    some_none e = cc e

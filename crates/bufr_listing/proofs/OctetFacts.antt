@@ -7,12 +7,14 @@ use Rattle.std.specs.Prelude.{◌==◌, ◌&&◌, not, Option, Some, None, Resul
 use Rattle.std.specs.Prelude.{slice_index, if◌then◌else◌}
 use Rattle.std.specs.List.{list_all}
 use Rattle.std.specs.Str.{bytes_eq}
-use Rattle.std.proofs.lemmas.Bool.{and_parts, cases_Bool, eqb-true}
+use Rattle.std.proofs.lemmas.Bool.{and_parts, and_right, cases_Bool, not-true, eqb-true}
 use Rattle.std.proofs.lemmas.Bool.Decides.{nat_tests}
-use Rattle.std.proofs.lemmas.List.{append-nil}
+use Rattle.std.proofs.lemmas.List.{append-nil, length-map}
+use Rattle.std.proofs.lemmas.Option.{none-some, same_Some}
 use Rattle.hex.specs.declared.error.FromHexError.{FromHexError}
 use Rattle.hex.specs.declared.error.FromHexError.TheVariants as hexes
 use Rattle.bufr_tables.specs.Answers.{Fails}
+use Rattle.bufr_tables.specs.AnswerLaws.{ok_is}
 use Rattle.bufr_tables.specs.declared.failure.Failure.{Failure}
 use Rattle.bufr_tables.specs.declared.failure.Failure.TheVariants.{Fault, OutOfMemory}
 use Rattle.hex.specs.Hex.{hex_digit_value, digit_or_error, value_at, pair_value, lower_digits}
@@ -23,16 +25,12 @@ use Rattle.bufr_listing.specs.declared.fault.ListingFault.TheVariants.{BadLine, 
 use Rattle.bufr_listing.specs.Listings.{words, octets_line}
 use Rattle.bufr_listing.specs.Lines.{words_of, first_word, has_octets, lower_digit, as_printed}
 use Rattle.bufr_listing.specs.Reading.{fault_behind, octets_by, octets_in, read_octets}
-use Rattle.bufr_listing.proofs.FieldFacts.{bytes_same, same_bytes}
+use Rattle.bufr_listing.proofs.FieldFacts.{bytes_same, same_bytes, refused}
 use Rattle.bufr_listing.proofs.LineFacts.{IsWord, words_back}
 use Rattle.bufr_listing.proofs.PrintedFacts.{words_lower, lower_printed, first_printed}
 use Rattle.bufr_listing.proofs.PrintedFacts.{count_printed, line_of_words}
 
 -- ---- digits
-
--- A to F
-in_capitals : ℕ → Bool
-in_capitals c = nat_le 65 c && nat_le c 70
 
 -- a digit has its value in either case
 value_lower : (c i : ℕ) → value_at (lower_digit c) i ≡ value_at c i
@@ -55,103 +53,68 @@ decode_pairs_lower i (high ∷ low ∷ rest) =
     λ j. (value_lower high i j >>= λ h. value_lower low (i + 1) j >>= λ l. Ok (h * 16 + l))
     >>= λ byte. decode_pairs_lower (i + 2) rest j >>= λ bytes. Ok (byte ∷ bytes)
 
--- there are as many digits in either case
-length_lower : (w : List ℕ) → length (map lower_digit w) ≡ length w
-length_lower [] = refl
-length_lower (c ∷ w) = ap suc (length_lower w)
-
 -- digits are decoded alike in either case
 pub decode_lower : (w : List ℕ) → decode_of (map lower_digit w) ≡ decode_of w
-decode_lower w = rw (length_lower w, decode_pairs_lower 0 w) refl
+decode_lower w = rw (length-map w lower_digit, decode_pairs_lower 0 w) refl
 
 -- the digit of a value as it is printed
 abbrev digit_for : ℕ → ℕ
 digit_for a = if nat_lt a 10 then 48 + a else 87 + a
 
--- the same answers are of the same values
-some_is : {A : Type 0} (x y : A) → ◌≡◌ {A = Option A} (Some x) (Some y) → x ≡ y
-some_is x y e = cc
-
--- a digit in lower case is that of its value
-value_place : (c a : ℕ) → hex_digit_value c ≡ Some a → lower_digit c ≡ digit_for a
+-- a digit has a value below 16, and in lower case it is the one of its value
+value_place : (c a : ℕ) → hex_digit_value c ≡ Some a → (a < 16) × (lower_digit c ≡ digit_for a)
 value_place c a h =
     elim (cases_Bool (nat_le 65 c && nat_le c 70)) [
       | inl e ↦
           let own : hex_digit_value c ≡ Some (c - 55) = rw e refl in
-          let is : c - 55 ≡ a = some_is (c - 55) a (sym own ∙ h) in
+          let is : c - 55 ≡ a = same_Some (c - 55) a (sym own ∙ h) in
           let lower : lower_digit c ≡ c + 32 = rw e refl in
-          grind (arith, nat_tests)
+          (grind (arith, nat_tests), grind (arith, nat_tests))
       | inr e ↦
           let lower : lower_digit c ≡ c = rw e refl in
           elim (cases_Bool (nat_le 97 c && nat_le c 102)) [
             | inl f ↦
                 let own : hex_digit_value c ≡ Some (c - 87) = rw (e, f) refl in
-                let is : c - 87 ≡ a = some_is (c - 87) a (sym own ∙ h) in
-                grind (arith, nat_tests)
+                let is : c - 87 ≡ a = same_Some (c - 87) a (sym own ∙ h) in
+                (grind (arith, nat_tests), grind (arith, nat_tests))
             | inr f ↦
                 elim (cases_Bool (nat_le 48 c && nat_le c 57)) [
                   | inl g ↦
                       let own : hex_digit_value c ≡ Some (c - 48) = rw (e, f, g) refl in
-                      let is : c - 48 ≡ a = some_is (c - 48) a (sym own ∙ h) in
-                      grind (arith, nat_tests)
+                      let is : c - 48 ≡ a = same_Some (c - 48) a (sym own ∙ h) in
+                      (grind (arith, nat_tests), grind (arith, nat_tests))
                   | inr g ↦ let own : hex_digit_value c ≡ None = rw (e, f, g) refl in
-                      absurd (cc (sym own ∙ h))
+                      absurd (none-some a (sym own ∙ h))
                 ]
           ]
     ]
 
 -- a digit's value is below 16
 pub value_small : (c a : ℕ) → hex_digit_value c ≡ Some a → a < 16
-value_small c a h =
-    elim (cases_Bool (nat_le 65 c && nat_le c 70)) [
-      | inl e ↦
-          let own : hex_digit_value c ≡ Some (c - 55) = rw e refl in
-          let is : c - 55 ≡ a = some_is (c - 55) a (sym own ∙ h) in
-          grind (arith, nat_tests)
-      | inr e ↦
-          elim (cases_Bool (nat_le 97 c && nat_le c 102)) [
-            | inl f ↦
-                let own : hex_digit_value c ≡ Some (c - 87) = rw (e, f) refl in
-                let is : c - 87 ≡ a = some_is (c - 87) a (sym own ∙ h) in
-                grind (arith, nat_tests)
-            | inr f ↦
-                elim (cases_Bool (nat_le 48 c && nat_le c 57)) [
-                  | inl g ↦
-                      let own : hex_digit_value c ≡ Some (c - 48) = rw (e, f, g) refl in
-                      let is : c - 48 ≡ a = some_is (c - 48) a (sym own ∙ h) in
-                      grind (arith, nat_tests)
-                  | inr g ↦ let own : hex_digit_value c ≡ None = rw (e, f, g) refl in
-                      absurd (cc (sym own ∙ h))
-                ]
-          ]
-    ]
+value_small c a h = (value_place c a h).0
 
--- the digits that are printed are in lower case
-abbrev is_lower : ℕ → Bool
-is_lower c = lower_digit c == c
-
--- a digit of some in lower case is so
-lower_at : (t : List ℕ) (k : ℕ) → list_all is_lower t ≡ true → k < length t
-    → is_lower (slice_index t k) ≡ true
-lower_at [] k h few = absurd (omega arith)
-lower_at (c ∷ cs) zero h few = (and_parts (is_lower c) (list_all is_lower cs) h).0
-lower_at (c ∷ cs) (suc k) h few =
-    lower_at cs k (and_parts (is_lower c) (list_all is_lower cs) h).1 (omega arith)
+-- one of some digits that all pass a test
+pub passes_at : (test : ℕ → Bool) (t : List ℕ) (k : ℕ) → list_all test t ≡ true → k < length t
+    → test (slice_index t k) ≡ true
+passes_at test [] k h few = absurd (omega arith)
+passes_at test (c ∷ cs) zero h few = (and_parts (test c) (list_all test cs) h).0
+passes_at test (c ∷ cs) (suc k) h few =
+    passes_at test cs k (and_parts (test c) (list_all test cs) h).1 (omega arith)
 
 -- a digit as it is printed is in lower case
 pub printed_lower : (k : ℕ) → k < 16 → lower_digit (slice_index lower_digits k)
     ≡ slice_index lower_digits k
-printed_lower k small = eqb-true _ _ (lower_at lower_digits k refl small)
+printed_lower k small =
+    eqb-true _ _ (passes_at (λ c. lower_digit c == c) lower_digits k refl small)
 
 -- a digit's value is printed as the digit in lower case
 pub digit_printed : (c a : ℕ) → hex_digit_value c ≡ Some a → slice_index lower_digits a
     ≡ lower_digit c
 digit_printed c a h =
     let small = value_small c a h in
-    let own : lower_digit (slice_index lower_digits a) ≡ slice_index lower_digits a =
-    eqb-true _ _ (lower_at lower_digits a refl small) in
-    sym own ∙ value_place (slice_index lower_digits a) a (IsDigits-lower_digits a small)
-    ∙ sym (value_place c a h)
+    sym (printed_lower a small)
+    ∙ (value_place (slice_index lower_digits a) a (IsDigits-lower_digits a small)).1
+    ∙ sym (value_place c a h).1
 
 -- a digit that is decoded has its value
 value_is : (c i a : ℕ) → value_at c i ≡ Ok a → hex_digit_value c ≡ Some a
@@ -168,19 +131,11 @@ hex_ok : {A B : Type 0} (x : Result A FromHexError) (f : A → Result B FromHexE
 hex_ok (Ok a) f y e = (a, refl, e)
 hex_ok (Err fault) f y e = absurd cc
 
--- the same octets
-ok_octets : (x y : List ℕ) → ◌≡◌ {A = Result (List ℕ) FromHexError} (Ok x) (Ok y) → x ≡ y
-ok_octets x y e = cc
-
--- the same octet
-ok_octet : (x y : ℕ) → ◌≡◌ {A = Result ℕ FromHexError} (Ok x) (Ok y) → x ≡ y
-ok_octet x y e = cc
-
 -- pairs that are decoded are printed in lower case
 pairs_printed : (i : ℕ) (w os : List ℕ) → decode_pairs i w ≡ Ok os → encode_lower os
     ≡ map lower_digit w
 unfolding decode_pairs encode_with
-pairs_printed i [] os h = let none = ok_octets [] os h in
+pairs_printed i [] os h = let none = ok_is [] os h in
     subst (λ xs. encode_lower xs ≡ []) none refl
 pairs_printed i (digit ∷ []) os h = absurd cc
 pairs_printed i (high ∷ low ∷ rest) os h =
@@ -188,7 +143,7 @@ pairs_printed i (high ∷ low ∷ rest) os h =
     let q = hex_ok (decode_pairs (i + 2) rest) _ os p.2 in
     let a = hex_ok (value_at high i) _ p.0 p.1 in
     let b = hex_ok (value_at low (i + 1)) _ p.0 a.2 in
-    let sum = ok_octet (a.0 * 16 + b.0) p.0 b.2 in
+    let sum = ok_is (a.0 * 16 + b.0) p.0 b.2 in
     let first = value_is high i a.0 a.1 in
     let second = value_is low (i + 1) b.0 b.1 in
     let small = value_small low b.0 second in
@@ -200,7 +155,7 @@ pairs_printed i (high ∷ low ∷ rest) os h =
     ap (slice_index lower_digits) down ∙ digit_printed low b.0 second in
     let more = pairs_printed (i + 2) rest q.0 q.1 in
     subst (λ xs. encode_lower xs ≡ map lower_digit (high ∷ low ∷ rest))
-    (ok_octets (p.0 ∷ q.0) os q.2) (λ j. high_is j ∷ low_is j ∷ more j)
+    (ok_is (p.0 ∷ q.0) os q.2) (λ j. high_is j ∷ low_is j ∷ more j)
 
 -- octets that are read of digits are printed as these digits in lower case
 pub octets_printed_as : (w os : List ℕ) → decode_of w ≡ Ok os → encode_lower os ≡ map lower_digit w
@@ -217,11 +172,7 @@ digit_no_space : (t : List ℕ) (k : ℕ) → list_all (λ c. not (c == 32)) t �
     → (slice_index t k == 32) ≡ false
 digit_no_space [] k h = refl
 digit_no_space (c ∷ cs) zero h =
-    not_true (c == 32) (and_parts (not (c == 32)) (list_all (λ c. not (c == 32)) cs) h).0
-  where
-    not_true : (b : Bool) → not b ≡ true → b ≡ false
-    not_true true e = absurd cc
-    not_true false e = refl
+    not-true (c == 32) (and_parts (not (c == 32)) (list_all (λ c. not (c == 32)) cs) h).0
 digit_no_space (c ∷ cs) (suc k) h =
     digit_no_space cs k (and_parts (not (c == 32)) (list_all (λ c. not (c == 32)) cs) h).1
 
@@ -250,12 +201,6 @@ lower_words text title ws octets e =
     let same : map lower_digit title ≡ title = sym (ap (λ us. get_or us 0 []) all) ∙ first in
     all ∙ ap (λ w. w ∷ map (λ w. map lower_digit w) ws) same
 
--- a test that can't pass tells the fault
-fails : (b : Bool) (x : List ℕ) (e : ListingFault) → (b ≡ true → ⊥) → (if b then Ok x else Err e)
-    ≡ Err e
-fails true x e h = absurd (h refl)
-fails false x e h = refl
-
 -- a line of another number of words than two
 pub octets_are_not : (title : List ℕ) (n : ℕ) (text : List ℕ) (ws : List (List ℕ)) → IsWord title
     → has_octets text ≡ true → words_of text ≡ title ∷ ws → (length ws ≡ 1 → ⊥)
@@ -266,20 +211,13 @@ octets_are_not title n text ws word octets e other =
     let os = octets_in (drop (length title + 1) t) in
     let count : length (words_of t) ≡ suc (length ws) = count_printed text ∙ ap length e in
     let not_two : (length (words_of t) == 2) ≡ false = grind (arith, nat_tests) in
-    fails (not (length os == 0) && bytes_eq (octets_line title os) t) os _ (λ holds.
+    refused (not (length os == 0) && bytes_eq (octets_line title os) t) (Ok os) _ (λ holds.
     let line = bytes_same (octets_line title os) t (and_parts (not (length os == 0)) _ holds).1 in
     let two = ap length (sym (words_back title (encode_lower os ∷ []) word (digits_word os, tt))
     ∙ ap words_of line) in
     other (omega (arith, two, count)))
-    ∙ by_count (length (words_of t) == 2) not_two
-  where
-    and_false : (b : Bool) → (b && false) ≡ false
-    and_false true = refl
-    and_false false = refl
-
-    by_count : (b : Bool) → b ≡ false → ◌≡◌ {A = Result (List ℕ) ListingFault}
-        (Err (fault_behind title b n (as_printed text))) (Err (BadLine n))
-    by_count b is = rw (is, and_false (bytes_eq (first_word (as_printed text)) title)) refl
+    ∙ ap (λ b. Err (if b then BadValue n else BadLine n))
+    (and_right (bytes_eq (first_word t) title) (length (words_of t) == 2) not_two)
 
 -- the digits of a line of two words
 two_words : (title : List ℕ) (text digits : List ℕ) → has_octets text ≡ true
@@ -316,7 +254,7 @@ octets_are_bad title n text digits octets e none =
     let empty : os ≡ [] = read_digits title text digits octets e ∙ none in
     let count : length (words_of t) ≡ 2 = count_printed text ∙ ap length e in
     let first : first_word t ≡ title = first_printed text ∙ ap (λ us. get_or us 0 []) e in
-    fails (not (length os == 0) && bytes_eq (octets_line title os) t) os _ (λ holds.
+    refused (not (length os == 0) && bytes_eq (octets_line title os) t) (Ok os) _ (λ holds.
     let some = (and_parts (not (length os == 0)) (bytes_eq (octets_line title os) t) holds).1 in
     let none = (and_parts (not (length os == 0)) (bytes_eq (octets_line title os) t) holds).0 in
     let no = subst (λ (xs : List ℕ). not (length xs == 0) ≡ true) empty none in cc no)
@@ -347,18 +285,6 @@ pub undecoded_is : (digits : List ℕ) (fault : FromHexError) (r : Failure Listi
     → ((fault ≡ hexes.OutOfMemory) ⊎ (decode_of digits ≡ Err fault)) → Fails r meant
 undecoded_is digits hexes.OutOfMemory r bad meant memory other h by =
     subst (λ x. Fails x meant) (sym (memory refl)) tt
-undecoded_is digits (hexes.InvalidHexCharacter c index) r bad meant memory other h (inl e) =
-    absurd cc
-undecoded_is digits (hexes.InvalidHexCharacter c index) r bad meant memory other h (inr d) =
+undecoded_is digits fault r bad meant memory other h (inl e) = absurd cc
+undecoded_is digits fault r bad meant memory other h (inr d) =
     subst (λ x. Fails x meant) (sym (other (λ e. cc e))) (h d)
-undecoded_is digits hexes.OddLength r bad meant memory other h (inl e) = absurd cc
-undecoded_is digits hexes.OddLength r bad meant memory other h (inr d) =
-    subst (λ x. Fails x meant) (sym (other (λ e. cc e))) (h d)
-undecoded_is digits hexes.InvalidStringLength r bad meant memory other h (inl e) = absurd cc
-undecoded_is digits hexes.InvalidStringLength r bad meant memory other h (inr d) =
-    subst (λ x. Fails x meant) (sym (other (λ e. cc e))) (h d)
-
--- octets of length 0 are none
-pub no_octets : (os : List ℕ) → (length os == 0) ≡ true → os ≡ []
-no_octets [] h = refl
-no_octets (x ∷ xs) h = absurd (grind (arith, nat_tests))

@@ -29,10 +29,6 @@ parsed (Some d) scale text found only = sym (decimal_only scale text d found.1 f
 
 -- ---- numbers below a limit
 
--- a number, where it passes a test
-abbrev number_if : Bool → ℕ → Option ℕ
-number_if holds n = if holds then Some n else None
-
 -- what is not below 2 to the 64th is below no lower limit
 pub below_none : (limit : ℕ) (z : ℤ) → limit ≤ 2 ^ 64 → below (2 ^ 64) z ≡ None
     → below limit z ≡ None

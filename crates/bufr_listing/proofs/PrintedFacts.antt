@@ -2,12 +2,12 @@
 -- for the readers of lines, which `read` calls.
 use Rattle.std.proofs.Common.{◌≡◌, ℕ, suc, Bool, true, false, List, [], ◌∷◌, ◌++◌, length, map}
 use Rattle.std.proofs.Common.{get_or, codes, refl, sym, ap, ◌∙◌, subst, arith, inl, inr, ◌⊎◌}
-use Rattle.std.proofs.lemmas.Bool.{cases_Bool}
+use Rattle.std.proofs.lemmas.Bool.{cases_Bool, or_cases, false≢true}
 use Rattle.std.specs.Prelude.{◌==◌, ◌||◌}
 use Rattle.std.specs.List.{onto_first, join_with_byte}
 use Rattle.std.specs.Str.{bytes_eq}
 use Rattle.std.proofs.lemmas.Bool.Decides.{nat_tests}
-use Rattle.std.proofs.lemmas.List.{append-nil}
+use Rattle.std.proofs.lemmas.List.{append-nil, length-map}
 use Rattle.std.proofs.lemmas.List.Splits.{join_with_byte-slice_split, slice_split-cons_yes}
 use Rattle.std.proofs.lemmas.List.Splits.{slice_split-cons_no}
 use Rattle.bufr_listing.specs.Listings.{words}
@@ -53,11 +53,6 @@ first_of_map : (ws : List (List ℕ)) → get_or (map (λ w. map lower_digit w) 
 first_of_map [] = refl
 first_of_map (w ∷ ws) = refl
 
--- there are as many
-length_of_map : (ws : List (List ℕ)) → length (map (λ w. map lower_digit w) ws) ≡ length ws
-length_of_map [] = refl
-length_of_map (w ∷ ws) = ap suc (length_of_map ws)
-
 -- ---- lines as they would be printed
 
 -- a line without octets is printed as it is
@@ -69,16 +64,11 @@ pub lower_printed : (text : List ℕ) → has_octets text ≡ true → as_printe
     ≡ map lower_digit text
 lower_printed text e = rw e refl
 
--- one of two tests passed
-either : (a b : Bool) → (a || b) ≡ true → (a ≡ true) ⊎ (b ≡ true)
-either true b e = inl refl
-either false b e = inr e
-
 -- the first word of a line of octets is in lower case
 octets_word : (text : List ℕ) → has_octets text ≡ true → map lower_digit (first_word text)
     ≡ first_word text
 octets_word text e =
-    elim (either (bytes_eq (first_word text) (codes "local1"))
+    elim (or_cases (bytes_eq (first_word text) (codes "local1"))
     (bytes_eq (first_word text) (codes "section2")) e) [
       | inl is ↦ let same = bytes_same (first_word text) (codes "local1") is in
           subst (λ w. map lower_digit w ≡ w) (sym same) refl
@@ -100,7 +90,7 @@ pub count_printed : (text : List ℕ) → length (words_of (as_printed text)) �
 count_printed text =
     elim (cases_Bool (has_octets text)) [
       | inl e ↦ ap (λ t. length (words_of t)) (lower_printed text e)
-          ∙ ap length (words_lower text) ∙ length_of_map (words_of text)
+          ∙ ap length (words_lower text) ∙ length-map (words_of text) (λ w. map lower_digit w)
       | inr e ↦ ap (λ t. length (words_of t)) (own_printed text e)
     ]
 
@@ -109,10 +99,6 @@ pub octets_printed : (text : List ℕ) → has_octets (as_printed text) ≡ has_
 octets_printed text = ap (λ w. bytes_eq w (codes "local1") || bytes_eq w (codes "section2"))
     (first_printed text)
 
--- a test does not both fail and pass
-false_true : false ≡ true → ⊥
-false_true e = cc e
-
 -- a line of no octets is compared as it stands
 pub same_test : (text other : List ℕ) → has_octets other ≡ false
     → bytes_eq (as_printed text) other ≡ bytes_eq text other
@@ -120,9 +106,9 @@ same_test text other plain =
     elim (cases_Bool (has_octets text)) [
       | inl e ↦
           other_bytes (as_printed text) other
-          (λ same. false_true (sym plain ∙ ap has_octets (sym same) ∙ octets_printed text ∙ e))
+          (λ same. false≢true (sym plain ∙ ap has_octets (sym same) ∙ octets_printed text ∙ e))
           ∙ sym (other_bytes text other
-          (λ same. false_true (sym plain ∙ ap has_octets (sym same) ∙ e)))
+          (λ same. false≢true (sym plain ∙ ap has_octets (sym same) ∙ e)))
       | inr e ↦ ap (λ t. bytes_eq t other) (own_printed text e)
     ]
 

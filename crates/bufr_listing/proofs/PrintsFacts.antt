@@ -6,8 +6,9 @@ use Rattle.std.specs.Prelude.{ℤ, pos, negsuc, ◌+ℤ◌, ◌-ℤ◌, ◌==◌
 use Rattle.std.specs.Prelude.{IfSome, FitsSigned, nat_lt, nat_le, if◌then◌else◌}
 use Rattle.std.specs.Int.{w128}
 use Rattle.std.specs.Int.RustNames.{unsigned_abs}
-use Rattle.std.proofs.lemmas.Bool.{and_parts, cases_Bool, lt-ltb, ltb-true, leb-true, le-leb}
-use Rattle.std.proofs.lemmas.Bool.{eqb-true, eq-eqb}
+use Rattle.std.proofs.lemmas.Bool.{and_parts, and_from, cases_Bool, lt-ltb, ltb-true, leb-true}
+use Rattle.std.proofs.lemmas.Bool.{le-leb, eqb-true, eq-eqb}
+use Rattle.std.proofs.lemmas.Option.{same_Some}
 use Rattle.std.proofs.lemmas.Bool.Decides.{nat_tests}
 use Rattle.std.proofs.lemmas.Int.{ints}
 use Rattle.std.proofs.Math.Nat.{pow-le-pow_right}
@@ -26,12 +27,7 @@ use Rattle.bufr_listing.specs.RawWords.{may_be_missing, missing_number, unless_m
 use Rattle.bufr_listing.specs.RawWords.{number_above, number_of}
 use Rattle.bufr_listing.proofs.FieldFacts.{bytes_same, same_bytes, other_bytes, IsPrintable}
 use Rattle.bufr_listing.proofs.FieldFacts.{size_small, number_small}
-use Rattle.bufr_listing.proofs.LineFacts.{both}
 use Rattle.bufr_listing.proofs.RawFacts.{number_none, number_some}
-
--- the same answers are of the same values
-some_is : {A : Type 0} (x y : A) → ◌≡◌ {A = Option A} (Some x) (Some y) → x ≡ y
-some_is x y e = cc
 
 -- ---- numbers
 
@@ -96,10 +92,11 @@ missing_is spec n small h =
     elim (cases_Bool (may_be_missing spec)) [
       | inl may ↦
           let own : missing_number spec ≡ Some (2 ^ spec.width - 1) = rw may refl in
-          let is : 2 ^ spec.width - 1 ≡ n = some_is (2 ^ spec.width - 1) n (sym own ∙ h) in
+          let is : 2 ^ spec.width - 1 ≡ n = same_Some (2 ^ spec.width - 1) n (sym own ∙ h) in
           let some = some_bits spec.width in
           let bits : has_bits spec n ≡ true =
-          both (le-leb spec.width 64 small) (lt-ltb n (2 ^ spec.width) (omega (arith, is, some))) in
+          and_from _ _ (le-leb spec.width 64 small)
+          (lt-ltb n (2 ^ spec.width) (omega (arith, is, some))) in
           let ones : (n + 1 == 2 ^ spec.width) ≡ true = grind (arith, nat_tests) in
           let missing : is_missing_number spec n ≡ true =
           three (has_bits spec n) (n + 1 == 2 ^ spec.width) (not (spec.width == 1))
@@ -127,7 +124,7 @@ unless_is spec m n h =
                 cc (sym own ∙ h))
             | inr other ↦
                 let own : unless_missing spec m ≡ Some m = rw (under, other) refl in
-                let same : m ≡ n = some_is m n (sym own ∙ h) in
+                let same : m ≡ n = same_Some m n (sym own ∙ h) in
                 subst (λ k. AboveIs spec (pos m) k) same
                 (record { is = refl; most = grind (arith, nat_tests); not_missing = other })
           ]
@@ -151,7 +148,8 @@ value_is spec word n d small read h =
     let some = some_bits spec.width in
     let most = a.most in
     let bits : has_bits spec n ≡ true =
-    both (le-leb spec.width 64 small) (lt-ltb n (2 ^ spec.width) (omega (arith, most, some))) in
+    and_from _ _ (le-leb spec.width 64 small)
+    (lt-ltb n (2 ^ spec.width) (omega (arith, most, some))) in
     let other :
     (n + 1 == 2 ^ spec.width && (not (spec.width == 1) && not (same_kind spec.kind kinds.Count)))
     ≡ false = ap (λ b. b && may_be_missing spec) (same_ones n spec.width) ∙ a.not_missing in
@@ -225,7 +223,7 @@ back_by true spec n word fit bits is e =
     let ones =
     eqb-true (n + 1) (2 ^ spec.width)
     (and_parts (has_bits spec n) (n + 1 == 2 ^ spec.width) b.0).1 in
-    let may : may_be_missing spec ≡ true = both b.1 a.1 in
+    let may : may_be_missing spec ≡ true = and_from _ _ b.1 a.1 in
     let same : 2 ^ spec.width - 1 ≡ n = omega (arith, ones) in
     let own : missing_number spec ≡ Some (2 ^ spec.width - 1) = rw may refl in
     missing_number_of spec word few (same_bytes word (codes "missing") (sym e)) ∙ own ∙ ap Some same

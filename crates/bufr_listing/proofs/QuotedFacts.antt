@@ -3,11 +3,13 @@
 use Rattle.std.proofs.Common.{◌≡◌, ℕ, zero, suc, ◌+◌, ◌-◌, ◌*◌, ◌/◌, ◌%◌, ◌<◌, Bool, true, false}
 use Rattle.std.proofs.Common.{List, [], ◌∷◌, ◌++◌, append_assoc, length, refl, sym, ap, ◌∙◌, subst}
 use Rattle.std.proofs.Common.{arith, inl, inr}
-use Rattle.std.specs.Prelude.{◌==◌, ◌&&◌, not, Option, Some, None, option_and_then, nat_le, nat_lt}
-use Rattle.std.specs.Prelude.{slice_index, if◌then◌else◌}
+use Rattle.std.specs.Prelude.{◌==◌, ◌&&◌, not, Option, Some, None, option_map, option_and_then}
+use Rattle.std.specs.Prelude.{nat_le, nat_lt, slice_index}
 use Rattle.std.specs.List.{flat_map, list_all}
 use Rattle.std.specs.Str.{bytes_eq}
-use Rattle.std.proofs.lemmas.Bool.{and_parts, cases_Bool, lt-ltb, ltb-true, eqb-true}
+use Rattle.std.proofs.lemmas.Bool.{and_parts, and_from, cases_Bool, not-true, lt-ltb, ltb-true}
+use Rattle.std.proofs.lemmas.Bool.{eqb-true}
+use Rattle.std.proofs.lemmas.Option.{same_Some, cond_some}
 use Rattle.std.proofs.lemmas.Bool.Decides.{nat_tests}
 use Rattle.hex.specs.Hex.{hex_digit_value, lower_digits, encode_with}
 use Rattle.hex.proofs.HexLemmas.{IsDigits-lower_digits}
@@ -16,12 +18,7 @@ use Rattle.bufr_listing.specs.Lines.{lower_digit}
 use Rattle.bufr_listing.specs.RawWords.{lower_value, pair_of, escaped, escaped_octet, first_octet}
 use Rattle.bufr_listing.specs.RawWords.{then_octets, octets_before}
 use Rattle.bufr_listing.proofs.FieldFacts.{bytes_same}
-use Rattle.bufr_listing.proofs.LineFacts.{both}
 use Rattle.bufr_listing.proofs.OctetFacts.{value_small, digit_printed, printed_lower}
-
--- the same answers are of the same values
-some_is : {A : Type 0} (x y : A) → ◌≡◌ {A = Option A} (Some x) (Some y) → x ≡ y
-some_is x y e = cc
 
 -- ---- digits
 
@@ -36,7 +33,7 @@ digit_is c v h =
     elim (cases_Bool (nat_le 48 c && nat_le c 57)) [
       | inl e ↦
           let own : lower_value c ≡ Some (c - 48) = rw e refl in
-          let is : c - 48 ≡ v = some_is (c - 48) v (sym own ∙ h) in
+          let is : c - 48 ≡ v = same_Some (c - 48) v (sym own ∙ h) in
           let one : (nat_le 65 c && nat_le c 70) ≡ false = grind (arith, nat_tests) in
           let two : (nat_le 97 c && nat_le c 102) ≡ false = grind (arith, nat_tests) in
           let hex : hex_digit_value c ≡ Some v = rw (one, two, e) (ap Some is) in
@@ -46,7 +43,7 @@ digit_is c v h =
           elim (cases_Bool (nat_le 97 c && nat_le c 102)) [
             | inl f ↦
                 let own : lower_value c ≡ Some (c - 97 + 10) = rw (e, f) refl in
-                let is : c - 97 + 10 ≡ v = some_is (c - 97 + 10) v (sym own ∙ h) in
+                let is : c - 97 + 10 ≡ v = same_Some (c - 97 + 10) v (sym own ∙ h) in
                 let one : (nat_le 65 c && nat_le c 70) ≡ false = grind (arith, nat_tests) in
                 let same : c - 87 ≡ v = grind (arith, nat_tests) in
                 let hex : hex_digit_value c ≡ Some v = rw (one, f) (ap Some same) in
@@ -65,7 +62,7 @@ value_from_hex c v h low =
           elim (cases_Bool (nat_le 97 c && nat_le c 102)) [
             | inl f ↦
                 let own : hex_digit_value c ≡ Some (c - 87) = rw (e, f) refl in
-                let is : c - 87 ≡ v = some_is (c - 87) v (sym own ∙ h) in
+                let is : c - 87 ≡ v = same_Some (c - 87) v (sym own ∙ h) in
                 let no : (nat_le 48 c && nat_le c 57) ≡ false = grind (arith, nat_tests) in
                 let same : c - 97 + 10 ≡ v = grind (arith, nat_tests) in
                 rw (no, f) (ap Some same)
@@ -105,7 +102,7 @@ escaped_is high low a b c more rest is_high is_low h =
       | inr e ↦
           let own : escaped (Some (16 * a + b)) more ≡ Some (16 * a + b, more) = rw e refl in
           let same : (16 * a + b, more) ≡ (c, rest) =
-          some_is (16 * a + b, more) (c, rest) (sym own ∙ h) in
+          same_Some (16 * a + b, more) (c, rest) (sym own ∙ h) in
           let p = digit_is high a is_high in
           let q = digit_is low b is_low in
           let few = p.small in
@@ -158,7 +155,7 @@ front_is (x ∷ behind) rest c h =
           elim (cases_Bool (is_plain x)) [
             | inl p ↦
                 let own : first_octet (x ∷ behind) ≡ Some (x, behind) = rw (p, e) refl in
-                let same : (x, behind) ≡ (c, rest) = some_is (x, behind) (c, rest) (sym own ∙ h) in
+                let same : (x, behind) ≡ (c, rest) = same_Some (x, behind) (c, rest) (sym own ∙ h) in
                 let printed : quoted_octet x ≡ x ∷ [] = rw p refl in
                 subst (λ (y : ℕ × List ℕ). OctetFront (x ∷ behind) y.0 y.1) same
                 (record { small = plain_small x p; front = ap (λ ds. ds ++ behind) printed })
@@ -170,12 +167,8 @@ front_is (x ∷ behind) rest c h =
 -- an octet that stands for itself is no backslash
 plain_no_backslash : (c : ℕ) → is_plain c ≡ true → (c == 92) ≡ false
 plain_no_backslash c h =
-    not_true (c == 92) (and_parts (nat_le 32 c && nat_le c 126 && not (c == 34))
+    not-true (c == 92) (and_parts (nat_le 32 c && nat_le c 126 && not (c == 34))
     (not (c == 92)) h).1
-  where
-    not_true : (b : Bool) → not b ≡ true → b ≡ false
-    not_true true e = absurd cc
-    not_true false e = refl
 
 -- an octet is read of what is quoted for it
 front_back : (c : ℕ) (more : List ℕ) → c < 256 → first_octet (quoted_octet c ++ more) ≡ Some
@@ -208,17 +201,11 @@ and_then_some : {A B : Type 0} (o : Option A) (f : A → Option B) (y : B) → o
 and_then_some None f y h = absurd cc
 and_then_some (Some x) f y h = (x, refl, h)
 
--- an octet before others, taken apart
-then_some : (c : ℕ) (o : Option (List ℕ)) (os : List ℕ) → then_octets c o ≡ Some os
-    → (xs : List ℕ) × (o ≡ Some xs) × (c ∷ xs ≡ os)
-then_some c None os h = absurd cc
-then_some c (Some xs) os h = (xs, refl, some_is (c ∷ xs) os h)
-
--- a test that passed, and its answer
-if_some : {A : Type 0} (b : Bool) (x y : A) → ◌≡◌ {A = Option A} (if b then Some x else None)
-    (Some y) → (b ≡ true) × (x ≡ y)
-if_some true x y h = (refl, some_is x y h)
-if_some false x y h = absurd cc
+-- what was answered before it was changed
+pub map_some : {A B : Type 0} (o : Option A) (f : A → B) (y : B) → option_map f o ≡ Some y
+    → (x : A) × (o ≡ Some x) × (f x ≡ y)
+map_some None f y h = absurd cc
+map_some (Some x) f y h = (x, refl, same_Some (f x) y h)
 
 -- octets that a text spells before its last quote
 pub record QuotedIs (n : ℕ) (text os : List ℕ) : Type 0 where
@@ -230,18 +217,18 @@ pub record QuotedIs (n : ℕ) (text os : List ℕ) : Type 0 where
 pub quoted_is : (n : ℕ) (text os : List ℕ) → octets_before n text ≡ Some os → QuotedIs n text os
 unfolding octets_before
 quoted_is zero text os h =
-    let p = if_some (bytes_eq text (34 ∷ [])) [] os h in
+    let p = cond_some (bytes_eq text (34 ∷ [])) [] os h in
     subst (λ (xs : List ℕ). QuotedIs 0 text xs) p.1
     (record { count = refl; small = refl; spelled = sym (bytes_same text (34 ∷ []) p.0) })
 quoted_is (suc n) text os h =
     let p = and_then_some (first_octet text)
     (λ (x : ℕ × List ℕ). then_octets x.0 (octets_before n x.1)) os h in
-    let q = then_some p.0.0 (octets_before n p.0.1) os p.2 in
+    let q = map_some (octets_before n p.0.1) (λ cs. p.0.0 ∷ cs) os p.2 in
     let one = front_is text p.0.1 p.0.0 p.1 in
     let more = quoted_is n p.0.1 q.0 q.1 in
     subst (λ (xs : List ℕ). QuotedIs (suc n) text xs) q.2 (record {
       count = ap suc more.count;
-      small = both (lt-ltb p.0.0 256 one.small) more.small;
+      small = and_from _ _ (lt-ltb p.0.0 256 one.small) more.small;
       spelled = append_assoc (quoted_octet p.0.0) (flat_map quoted_octet q.0) (34 ∷ [])
           ∙ ap (λ t. quoted_octet p.0.0 ++ t) more.spelled ∙ one.front;
     })

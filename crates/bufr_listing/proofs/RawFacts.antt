@@ -55,19 +55,12 @@ above_some spec (pos m) n h =
 
 -- ---- octets one after the other
 
--- one octet more
-pub octets_next : (k m : ℕ) (text rest : List ℕ) (c : ℕ) → k ≡ suc m → first_octet text ≡ Some
-    (c, rest) → octets_before k text ≡ then_octets c (octets_before m rest)
+-- the octet at the front and what is read behind it; no octet there, no text
+pub octets_next : (k m : ℕ) (text : List ℕ) (front : Option (ℕ × List ℕ)) → k ≡ suc m
+    → first_octet text ≡ front → octets_before k text
+    ≡ option_and_then (λ (x : ℕ × List ℕ). then_octets x.0 (octets_before m x.1)) front
 unfolding octets_before
-octets_next k m text rest c e h =
-    ap (λ n. octets_before n text) e
-    ∙ ap (λ o. option_and_then (λ (x : ℕ × List ℕ). then_octets x.0 (octets_before m x.1)) o) h
-
--- no octet, no text
-pub octets_bad : (k m : ℕ) (text : List ℕ) → k ≡ suc m → first_octet text ≡ None
-    → octets_before k text ≡ None
-unfolding octets_before
-octets_bad k m text e h =
+octets_next k m text front e h =
     ap (λ n. octets_before n text) e
     ∙ ap (λ o. option_and_then (λ (x : ℕ × List ℕ). then_octets x.0 (octets_before m x.1)) o) h
 
@@ -76,13 +69,6 @@ pub octets_last : (k : ℕ) (text : List ℕ) → k ≡ 0 → octets_before k te
     ≡ (if bytes_eq text (34 ∷ []) then Some [] else None)
 unfolding octets_before
 octets_last k text e = ap (λ n. octets_before n text) e
-
--- one octet more behind those that were read
-pub octets_more : (xs grown : List ℕ) (c : ℕ) (o : Option (List ℕ)) → grown ≡ xs ++ c ∷ []
-    → behind xs (then_octets c o) ≡ behind grown o
-octets_more xs grown c None e = refl
-octets_more xs grown c (Some ys) e =
-    ap Some (sym (append_assoc xs (c ∷ []) ys) ∙ ap (λ zs. zs ++ ys) (sym e))
 
 -- the quote at the end, and another octet there
 pub octets_ended : (k : ℕ) (text xs : List ℕ) → k ≡ 0 → bytes_eq text (34 ∷ []) ≡ true

@@ -9,12 +9,13 @@ use Rattle.std.specs.Str.{bytes_eq}
 use Rattle.std.proofs.lemmas.Bool.{cases_Bool}
 use Rattle.std.proofs.lemmas.List.{drop_at}
 use Rattle.bufr_tables.specs.Answers.{◌>>=◌}
+use Rattle.bufr_tables.specs.AnswerLaws.{passed_ok}
 use Rattle.bufr_listing.specs.declared.fault.ListingFault.{ListingFault}
 use Rattle.bufr_listing.specs.declared.fault.ListingFault.TheVariants.{BadLine}
 use Rattle.bufr_listing.specs.Lines.{Line, texts, first_word}
 use Rattle.bufr_listing.specs.Reading.{with_rest, read_line, read_if, read_word}
 use Rattle.bufr_listing.specs.FirstFaults.{Unfit, text_ends, bad_line, bad_value}
-use Rattle.bufr_listing.proofs.FieldFacts.{bytes_same, same_bytes, other_bytes, if_ok}
+use Rattle.bufr_listing.proofs.FieldFacts.{bytes_same, same_bytes, other_bytes}
 use Rattle.bufr_listing.proofs.LoopFacts.{texts_length}
 use Rattle.bufr_listing.proofs.FaultFacts.{IsFaultOf, other_kind}
 use Rattle.bufr_listing.proofs.FaultFields.{IsBehind, not_title, word_err}
@@ -102,7 +103,7 @@ pub word_decides : (word : List ℕ) (l : Line)
     → Decides (λ text. text ≡ word) (λ text. ⊥) (read_word word) l
 word_decides word l =
     record {
-      stands = λ a h. bytes_same l.text word (if_ok (bytes_eq l.text word) tt a _ h).0;
+      stands = λ a h. bytes_same l.text word (passed_ok (bytes_eq l.text word) tt _ a h).0;
       refused = λ f h none.
           other_kind ⊥ l.number f (λ k. k) (word_err word l.number l.text f h).1;
     }

@@ -44,11 +44,12 @@ use Rattle.bufr_listing.specs.Lines.{counting_from, counting_lines}
 use Rattle.bufr_listing.specs.Lines.{CanBeListed}
 use Rattle.bufr_listing.specs.Reading.{messages_listed}
 use Rattle.bufr_listing.proofs.PrintedFacts.{own_printed}
-use Rattle.bufr_listing.proofs.FieldFacts.{IsPrintable, other_bytes, size_small, number_small}
+use Rattle.bufr_listing.proofs.FieldFacts.{other_bytes, if_answered, IsPrintable, size_small}
+use Rattle.bufr_listing.proofs.FieldFacts.{number_small}
 use Rattle.bufr_listing.proofs.CourseFacts.{AsksPrintable, course_printable}
-use Rattle.bufr_listing.proofs.SubsetFacts.{if_same}
 use Rattle.bufr_listing.proofs.LineFacts.{word_then, six_word}
 use Rattle.bufr_listing.proofs.ListingFacts.{listings_joined}
+use Rattle.bufr_listing.proofs.OctetFacts.{passes_at}
 use Rattle.bufr_listing.proofs.TextFacts.{listed_read}
 
 -- ---- lines of joined lines
@@ -155,14 +156,6 @@ plain_words (w ∷ ws) h =
 abbrev is_lower : ℕ → Bool
 is_lower c = nat_le 32 c && (lower_digit c == c)
 
--- a digit of some in lower case is so
-digits_lower : (t : List ℕ) (k : ℕ) → list_all is_lower t ≡ true → k < length t
-    → is_lower (slice_index t k) ≡ true
-digits_lower [] k h few = absurd (omega arith)
-digits_lower (c ∷ cs) zero h few = (and_parts (is_lower c) (list_all is_lower cs) h).0
-digits_lower (c ∷ cs) (suc k) h few =
-    digits_lower cs k (and_parts (is_lower c) (list_all is_lower cs) h).1 (omega arith)
-
 -- octets, each below 256
 abbrev AreBytes : List ℕ → Type 0
 AreBytes os = AllByRecursion (λ x. x < 256) os
@@ -172,7 +165,7 @@ digit_shown : (k : ℕ) → k < 16 → (32 ≤ slice_index lower_digits k)
     × (lower_digit (slice_index lower_digits k) ≡ slice_index lower_digits k)
 digit_shown k few =
     let c = slice_index lower_digits k in
-    let p = and_parts (nat_le 32 c) (lower_digit c == c) (digits_lower lower_digits k refl few) in
+    let p = and_parts (nat_le 32 c) (lower_digit c == c) (passes_at is_lower lower_digits k refl few) in
     (leb-true 32 c p.0, eqb-true (lower_digit c) c p.1)
 
 -- the digits of octets are
@@ -321,66 +314,19 @@ bytes_of (x ∷ xs) h = let p = and_parts (nat_lt x 256) (list_all (λ x. nat_lt
     (ltb-true x 256 p.0, bytes_of xs p.1)
 
 -- the word of a value is plain
-value_plain : (d : ℕ) (kind : Kind) (scale reference : ℤ) (width : ℕ) (raw : Raw)
-    → has_form_by kind width raw ≡ true
-    → IsPrintable (record { kind = kind; scale = scale; reference = reference; width = width })
-    → IsPlain
-    (value_word
-    (record {
-      fxy = d;
-      spec = record {
-        kind = kind;
-        scale = scale;
-        reference = reference;
-        width =
-            width;
-      };
-      raw = raw;
-    }))
-value_plain d kinds.Text scale reference width (Number n) form fit = absurd cc
-value_plain d kinds.Text scale reference width (Text os) form fit =
-    text_word_plain
-    (is_missing
-    (record {
-      fxy = d;
-      spec = record {
-        kind = kinds.Text;
-        scale = scale;
-        reference = reference;
-        width = width;
-      };
-      raw = Text os;
-    })) os
-    (bytes_of os (and_parts (length os == width / 8) (list_all (λ x. nat_lt x 256) os) form).1)
-value_plain d kinds.Code scale reference width (Text os) form fit = absurd cc
-value_plain d kinds.Code scale reference width (Number n) form fit =
-    let spec : Spec =
-    record { kind = kinds.Code; scale = scale; reference = reference; width = width } in
-    number_plain (is_missing (record { fxy = d; spec = spec; raw = Number n })) spec n fit
-    (number_small width n form)
-value_plain d kinds.Flag scale reference width (Text os) form fit = absurd cc
-value_plain d kinds.Flag scale reference width (Number n) form fit =
-    let spec : Spec =
-    record { kind = kinds.Flag; scale = scale; reference = reference; width = width } in
-    number_plain (is_missing (record { fxy = d; spec = spec; raw = Number n })) spec n fit
-    (number_small width n form)
-value_plain d kinds.Quantity scale reference width (Text os) form fit = absurd cc
-value_plain d kinds.Quantity scale reference width (Number n) form fit =
-    let spec : Spec =
-    record { kind = kinds.Quantity; scale = scale; reference = reference; width = width } in
-    number_plain (is_missing (record { fxy = d; spec = spec; raw = Number n })) spec n fit
-    (number_small width n form)
-value_plain d kinds.Count scale reference width (Text os) form fit = absurd cc
-value_plain d kinds.Count scale reference width (Number n) form fit =
-    let spec : Spec = record {
-      kind = kinds.Count;
-      scale = scale;
-      reference = reference;
-      width =
-          width;
-    } in
-    number_plain (is_missing (record { fxy = d; spec = spec; raw = Number n })) spec n fit
-    (number_small width n form)
+value_plain : (d : ℕ) (kind : Kind) (spec : Spec) (raw : Raw)
+    → has_form_by kind spec.width raw ≡ true → IsPrintable spec
+    → IsPlain (value_word (record { fxy = d; spec = record spec { kind = kind }; raw = raw }))
+value_plain d kinds.Text spec (Number n) form fit = absurd cc
+value_plain d kinds.Text spec (Text os) form fit =
+    let own : Spec = record spec { kind = kinds.Text } in
+    text_word_plain (is_missing (record { fxy = d; spec = own; raw = Text os })) os
+    (bytes_of os (and_parts (length os == spec.width / 8) (list_all (λ x. nat_lt x 256) os) form).1)
+value_plain d kind spec (Text os) form fit = absurd cc
+value_plain d kind spec (Number n) form fit =
+    let own : Spec = record spec { kind = kind } in
+    number_plain (is_missing (record { fxy = d; spec = own; raw = Number n })) spec n fit
+    (number_small spec.width n form)
 
 -- a line that begins with six digits is not skipped
 six_not_skipped : (d : ℕ) (rest : List ℕ) → is_skipped (six_digits d ++ rest) ≡ false
@@ -417,11 +363,8 @@ field_own d word = own_printed (six_digits d ++ 32 ∷ word) (field_plain d word
 field_shown : (f : Field) → has_form_by f.spec.kind f.spec.width f.raw ≡ true → IsPrintable f.spec
     → IsShown (field_line f)
 field_shown f form fit = record {
-  plain = plain_append (six_digits f.fxy) (32 ∷ value_word f) (six_plain f.fxy) (
-    omega arith,
-    value_plain f.fxy f.spec.kind f.spec.scale f.spec.reference f.spec.width f.raw
-        form fit,
-  );
+  plain = plain_append (six_digits f.fxy) (32 ∷ value_word f) (six_plain f.fxy)
+      (omega arith, value_plain f.fxy f.spec.kind f.spec f.raw form fit);
   kept = six_not_skipped f.fxy (32 ∷ value_word f);
   own = field_own f.fxy (value_word f);
 }
@@ -445,7 +388,7 @@ fields_shown j i (ends m) (f ∷ fields) n fit h = absurd cc
 fields_shown j i (stops met fault) fields n fit h = absurd cc
 fields_shown j i (asks met d spec more) [] n fit h = absurd cc
 fields_shown j i (asks met d spec more) (f ∷ fields) n fit h =
-    let p = if_same (stands_for d spec f) (items_of j (i + 1) (more (number_of f.raw)) fields) _ n
+    let p = if_answered (stands_for d spec f) (items_of j (i + 1) (more (number_of f.raw)) fields) _ n
     h in (
       asked_shown d spec f fit.0 p.0,
       fields_shown j (i + 1) (more (number_of f.raw)) fields n

@@ -13,15 +13,15 @@ use Rattle.bufr_expand.specs.Courses.{Course, ends, stops, asks}
 use Rattle.bufr_data.specs.declared.field.Field.{Field}
 use Rattle.bufr_data.specs.declared.field.Subset.{Subset}
 use Rattle.bufr_data.specs.Plain.{number_of, stands_for, items_of, items_of_all}
-use Rattle.bufr_tables.specs.AnswerLaws.{bind_ok, ok_is}
+use Rattle.bufr_tables.specs.AnswerLaws.{bind_ok, ok_is, passed_ok}
 use Rattle.bufr_listing.specs.declared.fault.ListingFault.{ListingFault}
 use Rattle.bufr_listing.specs.Listings.{field_line, subset_lines}
 use Rattle.bufr_listing.specs.Lines.{Line, texts}
 use Rattle.bufr_listing.specs.FieldLines.{read_field}
 use Rattle.bufr_listing.specs.Reading.{with_rest, read_line, read_word, FieldsListed, SubsetsListed}
 use Rattle.bufr_listing.specs.Reading.{fields_read, subsets_read}
-use Rattle.bufr_listing.proofs.FieldFacts.{bytes_same, same_bytes, if_ok, read_field_back}
-use Rattle.bufr_listing.proofs.FieldFacts.{read_field_takes}
+use Rattle.bufr_listing.proofs.FieldFacts.{bytes_same, same_bytes, if_answered}
+use Rattle.bufr_listing.proofs.FieldFacts.{read_field_back, read_field_takes}
 use Rattle.bufr_listing.proofs.CourseFacts.{AsksPrintable}
 
 -- ---- one line
@@ -98,12 +98,6 @@ pub record FieldsBack (past : ℕ) (c : Course) (ls : List Line) (fields : List 
   pub reads : fields_read past c ls ≡ Ok (record { fields = fields; items = items; rest = rest })
   pub same : texts rest ≡ others
 
--- a test that passed, and what was answered then
-pub if_same : {F : Type 0} (b : Bool) (x : Result ℕ F) (e : F) (n : ℕ) → (if b then x else Err e)
-    ≡ Ok n → (b ≡ true) × (x ≡ Ok n)
-if_same true x e n h = (refl, h)
-if_same false x e n h = absurd cc
-
 -- fields that fit are read of their lines
 pub fields_back : (past j i : ℕ) (c : Course) (ls : List Line) (fields : List Field) (items : ℕ)
     (others : List (List ℕ))
@@ -121,7 +115,7 @@ fields_back past j i (ends n) ls (f ∷ fields) items others fit h e = absurd cc
 fields_back past j i (stops met fault) ls fields items others fit h e = absurd cc
 fields_back past j i (asks met d spec more) ls [] items others fit h e = absurd cc
 fields_back past j i (asks met d spec more) ls (f ∷ fields) items others fit h e =
-    let p = if_same (stands_for d spec f) (items_of j (i + 1) (more (number_of f.raw)) fields) _
+    let p = if_answered (stands_for d spec f) (items_of j (i + 1) (more (number_of f.raw)) fields) _
     items h in
     let one =
     line_back (read_field d spec) past ls (field_line f) (map field_line fields ++ others) f
@@ -163,7 +157,7 @@ subsets_take (suc left) past j course used (l ∷ ls) r h =
           let begin = bind_ok (read_word (codes "subset") l.number l.text) _ r g in
           let title =
           bytes_same l.text (codes "subset")
-          (if_ok (bytes_eq l.text (codes "subset")) tt begin.0 _ begin.1).0 in
+          (passed_ok (bytes_eq l.text (codes "subset")) tt _ begin.0 begin.1).0 in
           let first = bind_ok (fields_read past (course used) ls) _ r begin.2 in
           let rest =
           bind_ok (subsets_read left past course first.0.items first.0.rest) _ r first.2 in

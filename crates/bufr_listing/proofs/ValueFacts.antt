@@ -9,8 +9,11 @@ use Rattle.std.specs.Int.{w64}
 use Rattle.std.specs.List.{list_all, flat_map}
 use Rattle.std.specs.Str.{bytes_eq}
 use Rattle.std.specs.Int.RustNames.{unsigned_abs}
-use Rattle.std.proofs.lemmas.Bool.{and_parts, cases_Bool, eqb-true}
+use Rattle.std.proofs.lemmas.Bool.{and_parts, and_from, cases_Bool, eqb-true, eq-eqb, true≢false}
+use Rattle.std.proofs.lemmas.Bool.{cond-false}
 use Rattle.std.proofs.lemmas.Bool.Decides.{Decides-eqb}
+use Rattle.std.proofs.lemmas.List.{take-append-drop}
+use Rattle.std.proofs.lemmas.Option.{none-some, same_Some}
 use Rattle.bufr_tables.specs.declared.element.Kind.{Kind}
 use Rattle.bufr_tables.specs.declared.element.Kind.TheVariants as kinds
 use Rattle.bufr_tables.specs.Descriptors.{six_digits}
@@ -30,16 +33,12 @@ use Rattle.bufr_listing.specs.FieldLines.{read_field}
 use Rattle.bufr_listing.specs.RawWords as words
 use Rattle.bufr_listing.specs.RawWords.{octets_of, octets_before, are_ones, unless_ones, number_of}
 use Rattle.bufr_listing.specs.RawWords.{raw_of_kind, raw_of}
-use Rattle.bufr_listing.proofs.FieldFacts.{bytes_same, same_bytes, IsPrintable, read_field_back}
-use Rattle.bufr_listing.proofs.LineFacts.{both}
+use Rattle.bufr_listing.proofs.FieldFacts.{bytes_same, same_bytes, all_255, IsPrintable}
+use Rattle.bufr_listing.proofs.FieldFacts.{read_field_back}
 use Rattle.bufr_listing.proofs.PrintedFacts.{own_printed, octets_printed}
-use Rattle.bufr_listing.proofs.QuotedFacts.{quoted_is, quoted_back}
+use Rattle.bufr_listing.proofs.QuotedFacts.{map_some, quoted_is, quoted_back}
 use Rattle.bufr_listing.proofs.PrintsFacts.{number_is, number_back}
 use Rattle.bufr_listing.proofs.ShownFacts.{field_plain}
-
--- the same answers are of the same values
-some_is : {A : Type 0} (x y : A) → ◌≡◌ {A = Option A} (Some x) (Some y) → x ≡ y
-some_is x y e = cc
 
 -- ---- texts
 
@@ -73,21 +72,6 @@ all_ones zero = record { count = refl; small = refl; ones = refl }
 all_ones (suc k) = let h = all_ones k in
     record { count = ap suc h.count; small = h.small; ones = h.ones }
 
--- octets that are all 255
-ones_are : (os : List ℕ) → list_all (λ x. x == 255) os ≡ true → replicate (length os) 255 ≡ os
-ones_are [] h = refl
-ones_are (c ∷ os) h =
-    let p = and_parts (c == 255) (list_all (λ x. x == 255) os) h in
-    λ i. sym (eqb-true c 255 p.0) i ∷ ones_are os p.1 i
-
--- the same numbers compare alike
-equal_counts : (n k : ℕ) → n ≡ k → (n == k) ≡ true
-equal_counts n k e = (Decides-eqb n k).1 e
-
--- a test of four parts passes
-three : (p q a b : Bool) → p ≡ true → q ≡ true → a ≡ true → b ≡ true → (p && q && a && b) ≡ true
-three p q a b hp hq ha hb = rw (hp, hq, ha, hb) refl
-
 -- a test of four parts fails where two of them do
 four : (p q a b : Bool) → (a && q) ≡ false → (p && q && a && b) ≡ false
 four false q a b h = refl
@@ -114,14 +98,12 @@ missing_text width os h =
           let own = rw may at h in
           let ones = all_ones (width / 8) in
           let bits : has_octets_for width (replicate (width / 8) 255) ≡ true =
-          both (equal_counts (length (replicate (width / 8) 255)) (width / 8) ones.count)
+          and_from _ _ (eq-eqb (length (replicate (width / 8) 255)) (width / 8) ones.count)
           ones.small in
           let missing : is_missing_text width (replicate (width / 8) 255) ≡ true =
-          three (has_octets_for width (replicate (width / 8) 255))
-          (list_all (λ x. x == 255) (replicate (width / 8) 255)) (not (width == 1))
-          (not (same_kind kinds.Text kinds.Count)) bits ones.ones may refl in
+          and_from _ _ (and_from _ _ (and_from _ _ bits ones.ones) may) refl in
           subst (λ xs. TextIs width (codes "missing") xs)
-          (some_is (replicate (width / 8) 255) os own)
+          (same_Some (replicate (width / 8) 255) os own)
           (record {
             bits = bits;
             printed = ap (λ b. print_text b (replicate (width / 8) 255))
@@ -144,7 +126,7 @@ not_ones may (Some xs) os h =
       | inl e ↦ absurd (let own : unless_ones may (Some xs) ≡ None = rw e refl in cc (sym own ∙ h))
       | inr e ↦
           let own : unless_ones may (Some xs) ≡ Some xs = rw e refl in
-          subst (λ ys. NotOnes may (Some xs) ys) (some_is xs os (sym own ∙ h))
+          subst (λ ys. NotOnes may (Some xs) ys) (same_Some xs os (sym own ∙ h))
           (record { is = refl; other = e })
     ]
 
@@ -179,7 +161,7 @@ text_is width word os h =
           four (has_octets_for width os) (list_all (λ x. x == 255) os) (not (width == 1))
           (not (same_kind kinds.Text kinds.Count)) n.other in
           record {
-            bits = both (equal_counts (length os) (width / 8) q.0) q.1;
+            bits = and_from _ _ (eq-eqb (length os) (width / 8) q.0) q.1;
             printed =
                 ap (λ b. print_text b os) missing ∙ q.2;
           }
@@ -201,7 +183,7 @@ text_by true width word os bits is e =
     let missing : is_missing_word word ≡ true = same_bytes word (codes "missing") (sym e) in
     let own : words.text_of width word ≡ Some (replicate (width / 8) 255) =
     rw (missing, b.1) refl in
-    own ∙ ap (λ k. Some (replicate k 255)) (sym count) ∙ ap Some (ones_are os ones)
+    own ∙ ap (λ k. Some (replicate k 255)) (sym count) ∙ ap Some (all_255 os ones)
 text_by false width word os bits is e =
     let p = and_parts (length os == width / 8) (list_all (λ x. nat_lt x 256) os) bits in
     let count = eqb-true (length os) (width / 8) p.0 in
@@ -221,156 +203,41 @@ text_back width word os h = text_by (is_missing_text width os) width word os h.b
 
 -- ---- raw values
 
--- what was answered before it was changed
-map_some : {A B : Type 0} (o : Option A) (f : A → B) (y : B) → option_map f o ≡ Some y
-    → (x : A) × (o ≡ Some x) × (f x ≡ y)
-map_some None f y h = absurd cc
-map_some (Some x) f y h = (x, refl, some_is (f x) y h)
-
 -- a raw value of its spec's form whose field prints this word
 record RawIs (d : ℕ) (spec : Spec) (word : List ℕ) (raw : Raw) : Type 0 where
   form : has_form_by spec.kind spec.width raw ≡ true
   printed : value_word (record { fxy = d; spec = spec; raw = raw }) ≡ word
 
 -- a raw value that is read prints the word, by its kind
-raw_by_kind : (d : ℕ) (kind : Kind) (scale reference : ℤ) (width : ℕ) (word : List ℕ) (raw : Raw)
-    → raw_of_kind kind (record {
-      kind = kind;
-      scale = scale;
-      reference = reference;
-      width =
-          width;
-    }) word ≡ Some raw
-    → RawIs d (record { kind = kind; scale = scale; reference = reference; width = width }) word raw
-raw_by_kind d kinds.Text scale reference width word raw h =
-    let p = map_some (words.text_of width word) (λ octets. Text octets) raw h in
-    let t = text_is width word p.0 p.1 in
-    subst (λ r. RawIs d (record {
-      kind = kinds.Text;
-      scale = scale;
-      reference = reference;
-      width =
-          width;
-    }) word r) p.2 (record { form = t.bits; printed = t.printed })
-raw_by_kind d kinds.Code scale reference width word raw h =
-    let spec : Spec =
-    record { kind = kinds.Code; scale = scale; reference = reference; width = width } in
-    let p = map_some (number_of spec word) (λ n. Number n) raw h in
-    let t = number_is spec word p.0 p.1 in
-    subst (λ r. RawIs d (record {
-      kind = kinds.Code;
-      scale = scale;
-      reference = reference;
-      width =
-          width;
-    }) word r) p.2 (record { form = t.bits; printed = t.printed })
-raw_by_kind d kinds.Flag scale reference width word raw h =
-    let spec : Spec =
-    record { kind = kinds.Flag; scale = scale; reference = reference; width = width } in
-    let p = map_some (number_of spec word) (λ n. Number n) raw h in
-    let t = number_is spec word p.0 p.1 in
-    subst (λ r. RawIs d (record {
-      kind = kinds.Flag;
-      scale = scale;
-      reference = reference;
-      width =
-          width;
-    }) word r) p.2 (record { form = t.bits; printed = t.printed })
-raw_by_kind d kinds.Quantity scale reference width word raw h =
-    let spec : Spec =
-    record { kind = kinds.Quantity; scale = scale; reference = reference; width = width } in
-    let p = map_some (number_of spec word) (λ n. Number n) raw h in
-    let t = number_is spec word p.0 p.1 in
-    subst (λ r. RawIs d (record {
-      kind = kinds.Quantity;
-      scale = scale;
-      reference = reference;
-      width = width;
-    }) word r) p.2 (record { form = t.bits; printed = t.printed })
-raw_by_kind d kinds.Count scale reference width word raw h =
-    let spec : Spec = record {
-      kind = kinds.Count;
-      scale = scale;
-      reference = reference;
-      width =
-          width;
-    } in
-    let p = map_some (number_of spec word) (λ n. Number n) raw h in
-    let t = number_is spec word p.0 p.1 in
-    subst (λ r. RawIs d (record {
-      kind = kinds.Count;
-      scale = scale;
-      reference = reference;
-      width = width;
-    }) word r) p.2 (record { form = t.bits; printed = t.printed })
+raw_by_kind : (d : ℕ) (kind : Kind) (spec : Spec) (word : List ℕ) (raw : Raw)
+    → raw_of_kind kind (record spec { kind = kind }) word ≡ Some raw
+    → RawIs d (record spec { kind = kind }) word raw
+raw_by_kind d kinds.Text spec word raw h =
+    let p = map_some (words.text_of spec.width word) (λ octets. Text octets) raw h in
+    let t = text_is spec.width word p.0 p.1 in
+    subst (λ r. RawIs d (record spec { kind = kinds.Text }) word r) p.2
+    (record { form = t.bits; printed = t.printed })
+raw_by_kind d kind spec word raw h =
+    let own : Spec = record spec { kind = kind } in
+    let p = map_some (number_of own word) (λ n. Number n) raw h in
+    let t = number_is own word p.0 p.1 in
+    subst (λ r. RawIs d own word r) p.2 (record { form = t.bits; printed = t.printed })
 
 -- a raw value is read of the word that it prints, by its kind
-back_by_kind : (d : ℕ) (kind : Kind) (scale reference : ℤ) (width : ℕ) (word : List ℕ) (raw : Raw)
-    → IsPrintable (record { kind = kind; scale = scale; reference = reference; width = width })
-    → has_form_by kind width raw ≡ true
-    → value_word
-    (record {
-      fxy = d;
-      spec = record {
-        kind = kind;
-        scale = scale;
-        reference = reference;
-        width =
-            width;
-      };
-      raw = raw;
-    }) ≡ word
-    → raw_of_kind kind (record {
-      kind = kind;
-      scale = scale;
-      reference = reference;
-      width =
-          width;
-    }) word ≡ Some raw
-back_by_kind d kinds.Text scale reference width word (Number n) fit form e = absurd cc
-back_by_kind d kinds.Text scale reference width word (Text os) fit form e =
+back_by_kind : (d : ℕ) (kind : Kind) (spec : Spec) (word : List ℕ) (raw : Raw) → IsPrintable spec
+    → has_form_by kind spec.width raw ≡ true
+    → value_word (record { fxy = d; spec = record spec { kind = kind }; raw = raw }) ≡ word
+    → raw_of_kind kind (record spec { kind = kind }) word ≡ Some raw
+back_by_kind d kinds.Text spec word (Number n) fit form e = absurd cc
+back_by_kind d kinds.Text spec word (Text os) fit form e =
     ap (option_map (λ octets. Text octets))
-    (text_back width word os (record { bits = form; printed = e }))
-back_by_kind d kinds.Code scale reference width word (Text os) fit form e = absurd cc
-back_by_kind d kinds.Code scale reference width word (Number n) fit form e =
+    (text_back spec.width word os (record { bits = form; printed = e }))
+back_by_kind d kind spec word (Text os) fit form e = absurd cc
+back_by_kind d kind spec word (Number n) fit form e =
     ap (option_map (λ n. Number n))
-    (number_back (record {
-      kind = kinds.Code;
-      scale = scale;
-      reference = reference;
-      width =
-          width;
-    }) n word fit (record { bits = form; printed = e }))
-back_by_kind d kinds.Flag scale reference width word (Text os) fit form e = absurd cc
-back_by_kind d kinds.Flag scale reference width word (Number n) fit form e =
-    ap (option_map (λ n. Number n))
-    (number_back (record {
-      kind = kinds.Flag;
-      scale = scale;
-      reference = reference;
-      width =
-          width;
-    }) n word fit (record { bits = form; printed = e }))
-back_by_kind d kinds.Quantity scale reference width word (Text os) fit form e = absurd cc
-back_by_kind d kinds.Quantity scale reference width word (Number n) fit form e =
-    ap (option_map (λ n. Number n))
-    (number_back (record {
-      kind = kinds.Quantity;
-      scale = scale;
-      reference = reference;
-      width =
-          width;
-    }) n word fit (record { bits = form; printed = e }))
-back_by_kind d kinds.Count scale reference width word (Text os) fit form e = absurd cc
-back_by_kind d kinds.Count scale reference width word (Number n) fit form e =
-    ap (option_map (λ n. Number n))
-    (number_back (record {
-      kind = kinds.Count;
-      scale = scale;
-      reference = reference;
-      width =
-          width;
-    }) n word fit (record { bits = form; printed = e }))
+    (number_back (record spec { kind = kind }) n word
+    (record { scale = fit.scale; reference = fit.reference })
+    (record { bits = form; printed = e }))
 
 -- a test that passed, and what was answered then
 if_some : {A : Type 0} (b : Bool) (o : Option A) (x : A) → (if b then o else None) ≡ Some x
@@ -383,14 +250,14 @@ raw_is : (d : ℕ) (spec : Spec) (word : List ℕ) (raw : Raw) → raw_of spec w
     → (is_within 600 spec.scale ≡ true) × RawIs d spec word raw
 raw_is d spec word raw h =
     let p = if_some (is_within 600 spec.scale) (raw_of_kind spec.kind spec word) raw h in
-    (p.0, raw_by_kind d spec.kind spec.scale spec.reference spec.width word raw p.1)
+    (p.0, raw_by_kind d spec.kind spec word raw p.1)
 
 -- a raw value is read of the word that it prints
 raw_back : (d : ℕ) (spec : Spec) (word : List ℕ) (raw : Raw) → IsPrintable spec
     → has_form_by spec.kind spec.width raw ≡ true
     → value_word (record { fxy = d; spec = spec; raw = raw }) ≡ word → raw_of spec word ≡ Some raw
 raw_back d spec word raw fit form e =
-    rw fit.scale (back_by_kind d spec.kind spec.scale spec.reference spec.width word raw fit form e)
+    rw fit.scale (back_by_kind d spec.kind spec word raw fit form e)
 
 -- ---- lines
 
@@ -399,22 +266,12 @@ abs_fits : (z : ℤ) → FitsSigned w64 z → unsigned_abs z ≤ 922337203685477
 abs_fits (pos n) fits = omega (arith, fits)
 abs_fits (negsuc n) fits = omega (arith, fits)
 
--- a front and what stands behind it
-take_drop : (k : ℕ) (xs : List ℕ) → take k xs ++ drop k xs ≡ xs
-take_drop zero xs = refl
-take_drop (suc k) [] = refl
-take_drop (suc k) (c ∷ cs) = ap (λ ds. c ∷ ds) (take_drop k cs)
-
 -- a line that begins with the descriptor and a space
 line_is : (d : ℕ) (text : List ℕ) → bytes_eq (take 7 text) (six_digits d ++ 32 ∷ []) ≡ true
     → text ≡ six_digits d ++ 32 ∷ drop 7 text
 line_is d text h =
-    sym (take_drop 7 text) ∙ ap (λ t. t ++ drop 7 text)
+    sym (take-append-drop 7 text) ∙ ap (λ t. t ++ drop 7 text)
     (bytes_same (take 7 text) (six_digits d ++ 32 ∷ []) h)
-
--- a test does not both pass and fail
-true_false : {P : Type 0} → true ≡ false → P
-true_false h = absurd cc
 
 -- such a line has no octets, and is printed as it is
 own_text : (d : ℕ) (text : List ℕ) → bytes_eq (take 7 text) (six_digits d ++ 32 ∷ []) ≡ true
@@ -427,8 +284,8 @@ not_plain : (d : ℕ) (text : List ℕ) → has_octets text ≡ true → bytes_e
     (six_digits d ++ 32 ∷ []) ≡ false
 not_plain d text octets =
     elim (cases_Bool (bytes_eq (take 7 text) (six_digits d ++ 32 ∷ []))) [
-      | inl h ↦
-          true_false (sym octets ∙ ap has_octets (line_is d text h) ∙ field_plain d (drop 7 text))
+      | inl h ↦ absurd (true≢false
+          (sym octets ∙ ap has_octets (line_is d text h) ∙ field_plain d (drop 7 text)))
       | inr h ↦ h
     ]
 
@@ -457,15 +314,6 @@ value_some d spec n text raw fits begins h =
     ap (read_field d spec n) (own_text d text begins ∙ sym line)
     ∙ read_field_back d spec n (record { fxy = d; spec = spec; raw = raw })
     (record { scale = p.0; reference = abs_fits spec.reference fits }) stands
-
--- a test that failed tells the fault
-refused : {A F : Type 0} (b : Bool) (x : A) (e : F) → b ≡ false → (if b then Ok x else Err e)
-    ≡ Err e
-refused b x e h = rw h refl
-
--- a test that passed takes the answer
-if_taken : {A F : Type 0} (b : Bool) (x : A) (e : F) → b ≡ true → (if b then Ok x else Err e) ≡ Ok x
-if_taken b x e h = rw h refl
 
 -- a field that is read has a raw value that is read
 record Accepted (d : ℕ) (spec : Spec) (text : List ℕ) : Type 0 where
@@ -496,10 +344,6 @@ accepted d spec text h =
       form = r.1;
     }
 
--- an answer is not at once there and not there
-none_some : {A P : Type 0} (x : A) → ◌≡◌ {A = Option A} None (Some x) → P
-none_some x h = absurd cc
-
 -- where no raw value is read, that is L2
 pub value_none : (d : ℕ) (spec : Spec) (n : ℕ) (text : List ℕ) → FitsSigned w64 spec.reference
     → bytes_eq (take 7 text) (six_digits d ++ 32 ∷ []) ≡ true → raw_of spec (drop 7 text) ≡ None
@@ -511,10 +355,10 @@ value_none d spec n text fits begins h =
           let a = accepted d spec text is in
           let word : value_word (record { fxy = d; spec = spec; raw = a.raw }) ≡ drop 7 text =
           sym (ap (drop 7) a.line) in
-          none_some a.raw (sym h ∙ raw_back d spec (drop 7 text) a.raw
-          (record { scale = a.within; reference = abs_fits spec.reference fits }) a.form word)
-      | inr not ↦ refused (accepts d spec text) (field_in d spec text) (field_fault d n text) not
-          ∙ rw begins refl
+          absurd (none-some a.raw (sym h ∙ raw_back d spec (drop 7 text) a.raw
+          (record { scale = a.within; reference = abs_fits spec.reference fits }) a.form word))
+      | inr not ↦ cond-false (accepts d spec text) (Ok (field_in d spec text))
+          (Err (field_fault d n text)) not ∙ rw begins refl
     ]
 
 -- where the line begins otherwise, that is L1
@@ -526,9 +370,9 @@ value_elsewhere d spec n text other =
     elim (cases_Bool (accepts d spec (as_printed text))) [
       | inl is ↦
           let a = accepted d spec (as_printed text) is in
-          true_false
+          absurd (true≢false
           (sym (same_bytes (take 7 (as_printed text)) (six_digits d ++ 32 ∷ [])
-          (ap (take 7) a.line)) ∙ no)
-      | inr not ↦ refused (accepts d spec (as_printed text)) (field_in d spec (as_printed text))
-          (field_fault d n (as_printed text)) not ∙ rw no refl
+          (ap (take 7) a.line)) ∙ no))
+      | inr not ↦ cond-false (accepts d spec t) (Ok (field_in d spec t)) (Err (field_fault d n t))
+          not ∙ rw no refl
     ]

@@ -8,6 +8,8 @@ use Rattle.std.specs.Option.{is_some}
 use Rattle.std.specs.List.{position, position_or_len}
 use Rattle.std.proofs.lemmas.Bool.{ltb-true}
 use Rattle.std.proofs.lemmas.Bool.Decides.{nat_tests}
+use Rattle.std.proofs.lemmas.List.{append-nil, drop_all}
+use Rattle.std.proofs.lemmas.Option.{same_Some}
 use Rattle.std.proofs.lemmas.List.Sums.{fails_before_first}
 use Rattle.std.proofs.lemmas.List.Elements.{All-from_get_or}
 use Rattle.std.proofs.lemmas.List.Splits.{slice_split_none, slice_split_first, length-slice_split}
@@ -35,17 +37,13 @@ none_by false text e h =
 pub no_space : (text : List ℕ) → space_in text ≡ None → words_of text ≡ text ∷ []
 no_space text h = none_by (nat_lt (end_of text) (length text)) text refl h
 
--- the same answers are of the same values
-some_is : (x y : ℕ) → ◌≡◌ {A = Option ℕ} (Some x) (Some y) → x ≡ y
-some_is x y e = cc
-
 -- the word before a space, and the words behind it
 some_by : (b : Bool) (text : List ℕ) (k : ℕ) → nat_lt (end_of text) (length text) ≡ b
     → cond b (Some (end_of text)) None ≡ Some k → words_of text ≡ take k text ∷ words_of
     (drop (k + 1) text)
 some_by true text k e h =
     subst (λ n. words_of text ≡ take n text ∷ words_of (drop (n + 1) text))
-    (some_is (end_of text) k h)
+    (same_Some (end_of text) k h)
     (slice_split_first (λ c. c == 32) text 0 (ltb-true (end_of text) (length text) e))
 some_by false text k e h = absurd cc
 
@@ -71,21 +69,6 @@ pub behind_more : (xs grown : List ℕ) (n : ℕ) (o : Option (List ℕ)) → gr
 behind_more xs grown n None e = refl
 behind_more xs grown n (Some ys) e =
     ap Some (sym (append_assoc xs (n ∷ []) ys) ∙ ap (λ zs. zs ++ ys) (sym e))
-
--- the next item, and those behind it
-pub drop_next : (xs : List ℕ) (i : ℕ) → i < length xs → drop i xs ≡ get_or xs i 0 ∷ drop (i + 1) xs
-drop_next [] i h = absurd (omega arith)
-drop_next (x ∷ xs) zero h = refl
-drop_next (x ∷ xs) (suc i) h =
-    let next : suc i + 1 ≡ suc (i + 1) = omega arith in
-    drop_next xs i (omega arith) ∙ ap (λ n. get_or xs i 0 ∷ drop n (x ∷ xs)) (sym next)
-
--- behind all items there is none
-pub drop_all : (xs : List ℕ) (i : ℕ) → length xs ≤ i → drop i xs ≡ []
-drop_all [] zero h = refl
-drop_all [] (suc i) h = refl
-drop_all (x ∷ xs) zero h = absurd (omega arith)
-drop_all (x ∷ xs) (suc i) h = drop_all xs i (omega arith)
 
 -- one number more, and none
 pub one_number : (limits : List ℕ) (limit n : ℕ) (w : List ℕ) (ws : List (List ℕ))
@@ -134,11 +117,7 @@ no_descriptors = refl
 
 -- behind the last there is no more
 pub behind_end : (xs : List ℕ) → behind xs (Some []) ≡ Some xs
-behind_end xs = ap Some (append_none xs)
-  where
-    append_none : (ys : List ℕ) → ys ++ [] ≡ ys
-    append_none [] = refl
-    append_none (y ∷ ys) = ap (λ zs. y ∷ zs) (append_none ys)
+behind_end xs = ap Some (append-nil xs)
 
 -- a line has one word at least
 pub some_word : {P : Type 0} (text : List ℕ) → words_of text ≡ [] → P
@@ -164,12 +143,12 @@ word_more (Some w) b ws after e is h = (w.now, h)
 pub numbers_end : (limits xs : List ℕ) (i : ℕ) (ws : List (List ℕ)) → length limits ≤ i → ws ≡ []
     → behind xs (numbers_of (drop i limits) ws) ≡ Some xs
 numbers_end limits xs i ws all none =
-    let last = drop_all limits i all in
+    let last = drop_all i limits all in
     ap (behind xs) ((λ j. numbers_of (last j) (none j)) ∙ just_enough) ∙ behind_end xs
 
 -- more words than limits, at a place
 pub numbers_over : (limits xs : List ℕ) (i : ℕ) (ws rest : List (List ℕ)) (w : List ℕ)
     → length limits ≤ i → ws ≡ w ∷ rest → behind xs (numbers_of (drop i limits) ws) ≡ None
 numbers_over limits xs i ws rest w all more =
-    let last = drop_all limits i all in
+    let last = drop_all i limits all in
     ap (behind xs) ((λ j. numbers_of (last j) (more j)) ∙ too_many w rest)

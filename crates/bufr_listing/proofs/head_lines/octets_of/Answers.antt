@@ -1,12 +1,13 @@
 -- For `octets_of`: octets, L1 or L2, by the words behind the first and by their digits.
 use Rattle.std.proofs.Common.{◌≡◌, ◌∙◌, ◌∷◌, [], sym, ap, ℕ, length, true, false}
 use Rattle.std.specs.Prelude.{◌==◌}
+use Rattle.std.proofs.lemmas.Bool.{eqb-true}
+use Rattle.std.proofs.lemmas.List.{nil_from_length}
 use Rattle.bufr_listing.specs.declared.fault.ListingFault.TheVariants.{BadValue}
 use Rattle.bufr_listing.specs.Words.{words_left}
 use Rattle.bufr_listing.proofs.CallFacts.{titled_words, title_is_word, title_octets}
 use Rattle.bufr_listing.specs.Reading.{octets_by}
 use Rattle.bufr_listing.proofs.OctetFacts.{octets_are, octets_are_bad, octets_are_not, undecoded_is}
-use Rattle.bufr_listing.proofs.OctetFacts.{no_octets}
 use Rattle.bufr_listing.proofs.head_lines.octets_of.Goals as goal
 
 -- a line of other than two words has L1
@@ -45,7 +46,9 @@ returns-in-Ok c =
     let none : (length items == 0) ≡ true = ap (λ (n : ℕ). n == 0) (sym c.in-Ok.octets.ok.0)
     ∙ sym c.is_empty.ensures ∙ c.if-is_empty.true in
     rw c.bad_value.ensures (octets_are_bad title c.args.line.number text c.in-Some.digits.now
-    octets e (ap octets_by c.in-Ok.ensures.ok ∙ no_octets items none))
+    octets e
+    (ap octets_by c.in-Ok.ensures.ok
+    ∙ nil_from_length items (eqb-true (length items) 0 none)))
 
 -- else the octets are those of the digits
 pub returns-in-Ok-2 : goal.returns-in-Ok-2

@@ -2,12 +2,13 @@
 use Rattle.std.proofs.Common.{◌≡◌, ◌∙◌, sym, ap, codes, false, length}
 use Rattle.std.specs.Prelude.{◌&&◌, nat_le}
 use Rattle.std.specs.Str.{bytes_eq}
+use Rattle.std.proofs.lemmas.Bool.{and_left, and_right}
 use Rattle.bufr_tables.specs.declared.failure.Failure.TheVariants.{Fault}
 use Rattle.bufr_listing.specs.declared.fault.ListingFault.TheVariants.{BadLine}
 use Rattle.bufr_listing.specs.Cursors.{left, past, printed}
 use Rattle.bufr_listing.specs.Lines.{first_word, words_of}
 use Rattle.bufr_listing.specs.Reading.{read_flags}
-use Rattle.bufr_listing.proofs.CallFacts.{taken_err, flags_are_others, first_false, second_false}
+use Rattle.bufr_listing.proofs.CallFacts.{taken_err, flags_are_others}
 use Rattle.bufr_listing.proofs.head_lines.read_flags.Goals.{else-begins-via-then-begins+else-has_at_most}
 use Rattle.bufr_listing.proofs.head_lines.read_flags.Goals.{else-begins-via-else-begins}
 use Rattle.bufr_listing.proofs.head_lines.read_flags.Goals as goal
@@ -19,12 +20,12 @@ returns-clause-read c =
     let others : (bytes_eq (first_word text) (codes "flags") && nat_le (length (words_of text)) 3)
     ≡ false = elim c.else-begins.branch [
       | else-begins-via-then-begins+else-has_at_most w ↦
-          second_false (bytes_eq (first_word text) (codes "flags"))
+          and_right (bytes_eq (first_word text) (codes "flags"))
           (nat_le (length (words_of text)) 3)
           (sym (w.has_at_most.ensures ∙ ap (λ ws. nat_le (length ws) 3) w.of.ensures)
           ∙ w.if-has_at_most.false)
       | else-begins-via-else-begins w ↦
-          first_false (bytes_eq (first_word text) (codes "flags"))
+          and_left (bytes_eq (first_word text) (codes "flags"))
           (nat_le (length (words_of text)) 3) (sym c.begins.ensures ∙ w.if-begins.false)
     ] in
     rw c.bad_line.ensures (taken_err read_flags (past c.args.lines.now) (left c.args.lines.now)

@@ -1,10 +1,10 @@
 -- For `octets_before`: so many octets and the last quote, or none.
 use Rattle.std.specs.Str.{bytes_eq}
 use Rattle.std.proofs.Common.{true, false, [], ◌∷◌, ◌≡◌, ◌∙◌, ◌+◌, ◌-◌, suc, sym, ap, arith}
+use Rattle.std.specs.Prelude.{Some, None}
 use Rattle.bufr_listing.specs.RawWords.{octets_before}
-use Rattle.bufr_listing.proofs.WordFacts.{behind, behind_none}
-use Rattle.bufr_listing.proofs.RawFacts.{octets_next, octets_bad, octets_more, octets_ended}
-use Rattle.bufr_listing.proofs.RawFacts.{octets_unended}
+use Rattle.bufr_listing.proofs.WordFacts.{behind, behind_none, behind_more}
+use Rattle.bufr_listing.proofs.RawFacts.{octets_next, octets_ended, octets_unended}
 use Rattle.bufr_listing.proofs.raw_values.octets_before.Goals as goal
 use Rattle.bufr_listing.proofs.raw_values.octets_before.Goals.{then-eq, else-eq}
 
@@ -21,8 +21,8 @@ returns-in-None c =
     let next : c.args.count - c.loop-i._i ≡ suc (c.args.count - (c.loop-i._i + 1)) = omega arith in
     let none = rw c.in-None.is at c.first_octet.ensures in
     sym (c.loop-i.invariant ∙ ap (behind c.loop-i.octets.items)
-    (octets_bad (c.args.count - c.loop-i._i) (c.args.count - (c.loop-i._i + 1)) c.loop-i.rest.now
-    next (sym none)))
+    (octets_next (c.args.count - c.loop-i._i) (c.args.count - (c.loop-i._i + 1)) c.loop-i.rest.now
+    None next (sym none)))
 
 -- one octet more was read
 pub loop-i-preserved : goal.loop-i-preserved
@@ -31,9 +31,9 @@ loop-i-preserved c =
     let some = rw c.in-Some.is at c.first_octet.ensures in
     c.loop-i.invariant
     ∙ ap (behind c.loop-i.octets.items) (octets_next (c.args.count - c.loop-i._i)
-    (c.args.count - (c.loop-i._i + 1)) c.loop-i.rest.now c.in-Some.behind.now c.in-Some.octet next
-    (sym some))
-    ∙ octets_more c.loop-i.octets.items c.push.new.self.items c.in-Some.octet
+    (c.args.count - (c.loop-i._i + 1)) c.loop-i.rest.now
+    (Some (c.in-Some.octet, c.in-Some.behind.now)) next (sym some))
+    ∙ behind_more c.loop-i.octets.items c.push.new.self.items c.in-Some.octet
     (octets_before (c.args.count - (c.loop-i._i + 1)) c.in-Some.behind.now)
     c.in_ok-push-in-Some.ensures.items
 

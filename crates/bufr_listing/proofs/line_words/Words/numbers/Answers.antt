@@ -1,8 +1,9 @@
 -- For `Words::numbers`: each word is a number below its limit, or there are none.
 use Rattle.std.proofs.Common.{◌∙◌, ◌+◌, ℕ, Vec, Global, sym, ap, drop, get_or, arith}
 use Rattle.std.specs.Prelude.{Option, option_map}
+use Rattle.std.proofs.lemmas.List.{drop_more}
 use Rattle.bufr_listing.specs.Words.{words_left, numbers_of}
-use Rattle.bufr_listing.proofs.WordFacts.{behind, behind_more, drop_next, one_number, bad_number}
+use Rattle.bufr_listing.proofs.WordFacts.{behind, behind_more, one_number, bad_number}
 use Rattle.bufr_listing.proofs.WordFacts.{too_few, numbers_end, numbers_over, word_ended, word_more}
 use Rattle.bufr_listing.proofs.line_words.Words.numbers.Goals as goal
 use Rattle.bufr_listing.proofs.line_words.Words.numbers.Goals.{then-is_none, else-is_none}
@@ -11,7 +12,7 @@ use Rattle.bufr_listing.proofs.line_words.Words.numbers.Goals.{then-is_none, els
 pub returns-in_default : goal.returns-in_default
 returns-in_default c =
     let k = c.loop-limit.limit-index in
-    let next = drop_next c.args.limits.now k (omega arith) in
+    let next = drop_more c.args.limits.now k 0 (omega arith) in
     sym (c.loop-limit.invariant
     ∙ ap (λ o. behind c.loop-limit.numbers.items o)
     ((λ i. numbers_of (next i) (c.in_default.ensures.none i))
@@ -21,7 +22,7 @@ returns-in_default c =
 pub returns-in_default-number_below : goal.returns-in_default-number_below
 returns-in_default-number_below c =
     let k = c.loop-limit.limit-index in
-    let next = drop_next c.args.limits.now k (omega arith) in
+    let next = drop_more c.args.limits.now k 0 (omega arith) in
     sym (c.loop-limit.invariant
     ∙ ap (λ o. behind c.loop-limit.numbers.items o)
     ((λ i. numbers_of (next i) (c.in-Some.ensures.some i))
@@ -33,7 +34,7 @@ returns-in_default-number_below c =
 pub loop-limit-preserved : goal.loop-limit-preserved
 loop-limit-preserved c =
     let k = c.loop-limit.limit-index in
-    let next = drop_next c.args.limits.now k (omega arith) in
+    let next = drop_more c.args.limits.now k 0 (omega arith) in
     c.loop-limit.invariant
     ∙ ap (λ o. behind c.loop-limit.numbers.items o)
     ((λ i. numbers_of (next i) (c.in-Some.ensures.some i))
