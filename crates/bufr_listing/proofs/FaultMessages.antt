@@ -9,7 +9,6 @@ use Rattle.std.specs.Str.{bytes_eq}
 use Rattle.std.specs.Str.Lines.{lines}
 use Rattle.std.proofs.lemmas.List.Elements.{All-from_recursion}
 use Rattle.std.proofs.lemmas.List.{map-append, append-nil}
-use Rattle.bufr_tables.specs.Answers.{◌>>=◌}
 use Rattle.bufr_tables.specs.Entries.{Entries}
 use Rattle.bufr_expand.specs.Courses.{course}
 use Rattle.bufr_sections.specs.declared.message.Message.{Message}
@@ -18,10 +17,10 @@ use Rattle.bufr_listing.specs.declared.fault.ListingFault.{ListingFault}
 use Rattle.bufr_listing.specs.Listings.{numbers_line, section1_line, time_line, local_lines}
 use Rattle.bufr_listing.specs.Listings.{section2_lines, flags_line, lines_of}
 use Rattle.bufr_listing.specs.Lines.{Line, texts, counting_lines, CanBeListed}
-use Rattle.bufr_listing.specs.Reading.{with_rest, read_line, read_if, read_word, are_below}
+use Rattle.bufr_listing.specs.Reading.{read_line, read_if, read_word, are_below}
 use Rattle.bufr_listing.specs.Reading.{read_numbers, read_local, read_section2, read_flags}
 use Rattle.bufr_listing.specs.Reading.{read_descriptors, subsets_read, section1_limits, time_limits}
-use Rattle.bufr_listing.specs.Reading.{head_with, MessageRead, message_read, messages_read}
+use Rattle.bufr_listing.specs.Reading.{head_with, message_read, messages_read}
 use Rattle.bufr_listing.specs.Reading.{messages_listed}
 use Rattle.bufr_listing.specs.FirstFaults as faults
 use Rattle.bufr_listing.specs.FirstFaults.{Unfit, text_ends, bad_line, Place, at_message}
@@ -31,17 +30,18 @@ use Rattle.bufr_listing.specs.FirstFaults.{IsOfKindAt, AreOfLine}
 use Rattle.bufr_listing.specs.FirstFaults.{up_to_time, up_to_local, MessageFault, in_heading}
 use Rattle.bufr_listing.specs.FirstFaults.{in_subsets, FirstFault}
 use Rattle.bufr_tables.specs.DescriptorLaws.{six_by_place}
-use Rattle.bufr_tables.specs.AnswerLaws.{bind_ok, ok_is, passed_ok, bind_err}
+use Rattle.bufr_tables.specs.AnswerLaws.{passed_ok, bind_err}
 use Rattle.bufr_listing.proofs.FieldFacts.{bytes_same}
 use Rattle.bufr_listing.proofs.SubsetFacts.{line_takes}
 use Rattle.bufr_listing.proofs.LineFacts.{numbers_take, octets_take, flags_take, descriptors_take}
 use Rattle.bufr_listing.proofs.LineFacts.{eight_by_place, below_length}
 use Rattle.bufr_listing.proofs.MessageFacts.{IfTaken, if_takes, local_takes, section2_takes}
 use Rattle.bufr_listing.proofs.MessageFacts.{head_fits, message_takes, some_line}
+use Rattle.bufr_listing.proofs.MessageParts.{from_flags, from_section2}
+use Rattle.bufr_listing.proofs.MessageSteps.{message_behind}
 use Rattle.bufr_listing.proofs.LoopFacts.{texts_length}
 use Rattle.bufr_listing.proofs.FaultFacts.{line_err, unfit_line, other_kind}
-use Rattle.bufr_listing.proofs.FaultFields.{FaultLaws, IsBehind, same_front, subsets_fault}
-use Rattle.bufr_listing.proofs.FaultFields.{subsets_behind}
+use Rattle.bufr_listing.proofs.FaultFields.{FaultLaws, same_front, subsets_fault}
 use Rattle.bufr_listing.proofs.FaultHeadings.{UpTo, go_on, at_place, if_err_at, IsNotTitled}
 use Rattle.bufr_listing.proofs.FaultHeadings.{if_absent, section1_err, time_err, message_err}
 use Rattle.bufr_listing.proofs.FaultHeadings.{local_at, section2_at, flags_at, place_behind}
@@ -117,22 +117,6 @@ some_local ls (Some octets) rest t =
 
 -- ---- the first fault of a message
 
--- the flags and what comes behind them
-abbrev FlagsOn : Entries → ℕ → List ℕ → List ℕ → Option (List ℕ) → Option (List ℕ) → List Line
-    → Result MessageRead ListingFault
-FlagsOn tables past ns ts local two ls = do
-  flags ← read_line read_flags past ls
-  list ← read_line (read_descriptors tables) past flags.1
-  found ← subsets_read (length list.1) past (course list.0.tree) 0 list.1
-  with_rest found.rest (record {
-    head = head_with ns ts local;
-    section2 = two;
-    observed = flags.0.observed;
-    compressed = flags.0.compressed;
-    descriptors = list.0.descriptors;
-    subsets = found.subsets;
-  })
-
 -- the first fault from the flags on
 flags_fault : FaultLaws → (tables : Entries) (past : ℕ) (ls : List Line) (fault : ListingFault)
     (ns ts : List ℕ) (local two : Option (List ℕ)) (mid : List Line)
@@ -141,7 +125,8 @@ flags_fault : FaultLaws → (tables : Entries) (past : ℕ) (ls : List Line) (fa
     → UpTo ls (up_to_local (head_with ns ts local) ++ section2_lines two) mid
     → (local ≡ None → two ≡ None → IsNotTitled (codes "local1") mid)
     → (two ≡ None → IsNotTitled (codes "section2") mid)
-    → FlagsOn tables past ns ts local two mid ≡ Err fault → MessageFault tables past ls fault
+    → from_flags tables past (head_with ns ts local) two mid ≡ Err fault
+    → MessageFault tables past ls fault
 flags_fault laws tables past ls fault ns ts local two mid fits some octets u no_local no_two h =
     let before = behind_options ns ts local two fits some octets in
     elim (bind_err (read_line read_flags past mid) _ fault h) [
@@ -223,19 +208,14 @@ absent_rest title read ls (None, rest) h e =
     (if_absent title read ls rest h)
 absent_rest title read ls (Some a, rest) h e = absurd cc
 
--- section 2, the flags and what comes behind them
-abbrev TwoOn : Entries → ℕ → List ℕ → List ℕ → Option (List ℕ) → List Line
-    → Result MessageRead ListingFault
-TwoOn tables past ns ts local ls = read_if (codes "section2") read_section2 ls >>= λ two.
-    FlagsOn tables past ns ts local two.0 two.1
-
 -- the first fault from section 2 on
 two_fault : FaultLaws → (tables : Entries) (past : ℕ) (ls : List Line) (fault : ListingFault)
     (ns ts : List ℕ) (local : Option (List ℕ)) (mid : List Line)
     → HeadFits (head_with ns ts local) → IfSome local (λ octets. 0 < length octets)
     → UpTo ls (up_to_local (head_with ns ts local)) mid
     → (local ≡ None → IsNotTitled (codes "local1") mid)
-    → TwoOn tables past ns ts local mid ≡ Err fault → MessageFault tables past ls fault
+    → from_section2 tables past (head_with ns ts local) mid ≡ Err fault
+    → MessageFault tables past ls fault
 two_fault laws tables past ls fault ns ts local mid fits some u no_local h =
     elim (bind_err (read_if (codes "section2") read_section2 mid) _ fault h) [
       | inl e ↦
@@ -340,64 +320,6 @@ message_fault laws tables past ls fault h =
                 ]
           ]
     ]
-
--- ---- the lines of a message that was read
-
--- lines behind lines that stand behind others
-then_behind : (ls mid rest : List Line) → IsBehind ls mid → IsBehind mid rest → IsBehind ls rest
-then_behind ls mid rest a b =
-    record {
-      own = a.own ++ b.own;
-      in_order = a.in_order ∙ ap (λ xs. a.own ++ xs) b.in_order
-          ∙ sym (append_assoc a.own b.own rest);
-    }
-
--- what is left behind a line
-line_behind : {A : Type 0} (read : ℕ → List ℕ → Result A ListingFault) (past : ℕ) (ls : List Line)
-    (x : A × List Line) → read_line read past ls ≡ Ok x → IsBehind ls x.1
-line_behind read past ls x h = let l = line_takes read past ls x h in
-    record { own = l.line ∷ []; in_order = l.front }
-
--- what is left behind one that may be absent
-taken_behind : {A : Type 0} (read : ℕ → List ℕ → Result A ListingFault) (ls : List Line)
-    (o : Option A) (rest : List Line) → IfTaken read ls o rest → IsBehind ls rest
-taken_behind read ls None rest e = record { own = []; in_order = e }
-taken_behind read ls (Some a) rest t = record { own = t.line ∷ []; in_order = t.front }
-
--- what is left behind a message
-pub message_behind : (tables : Entries) (past : ℕ) (ls : List Line) (x : MessageRead)
-    → message_read tables past ls ≡ Ok x → IsBehind ls x.1
-unfolding message_read
-message_behind tables past ls x h =
-    let p0 = bind_ok (read_line (read_word (codes "message")) past ls) _ x h in
-    let p1 = bind_ok (read_line (read_numbers (codes "section1") section1_limits) past p0.0.1) _ x
-    p0.2 in
-    let p2 = bind_ok (read_line (read_numbers (codes "time") time_limits) past p1.0.1) _ x p1.2 in
-    let p3 = bind_ok (read_if (codes "local1") read_local p2.0.1) _ x p2.2 in
-    let p4 = bind_ok (read_if (codes "section2") read_section2 p3.0.1) _ x p3.2 in
-    let p5 = bind_ok (read_line read_flags past p4.0.1) _ x p4.2 in
-    let p6 = bind_ok (read_line (read_descriptors tables) past p5.0.1) _ x p5.2 in
-    let p7 = bind_ok (subsets_read (length p6.0.1) past (course p6.0.0.tree) 0 p6.0.1) _ x p6.2 in
-    let b0 = line_behind (read_word (codes "message")) past ls p0.0 p0.1 in
-    let b1 =
-    then_behind ls p0.0.1 p1.0.1 b0 (line_behind (read_numbers (codes "section1") section1_limits)
-    past p0.0.1 p1.0 p1.1) in
-    let b2 =
-    then_behind ls p1.0.1 p2.0.1 b1
-    (line_behind (read_numbers (codes "time") time_limits) past p1.0.1 p2.0 p2.1) in
-    let b3 =
-    then_behind ls p2.0.1 p3.0.1 b2 (taken_behind read_local p2.0.1 p3.0.0 p3.0.1
-    (if_takes (codes "local1") read_local p2.0.1 p3.0 p3.1)) in
-    let b4 =
-    then_behind ls p3.0.1 p4.0.1 b3 (taken_behind read_section2 p3.0.1 p4.0.0 p4.0.1
-    (if_takes (codes "section2") read_section2 p3.0.1 p4.0 p4.1)) in
-    let b5 = then_behind ls p4.0.1 p5.0.1 b4 (line_behind read_flags past p4.0.1 p5.0 p5.1) in
-    let b6 =
-    then_behind ls p5.0.1 p6.0.1 b5 (line_behind (read_descriptors tables) past p5.0.1 p6.0 p6.1) in
-    let b7 =
-    then_behind ls p6.0.1 p7.0.rest b6
-    (subsets_behind (length p6.0.1) past (course p6.0.0.tree) 0 p6.0.1 p7.0 p7.1) in
-    subst (λ (y : MessageRead). IsBehind ls y.1) (ok_is _ _ p7.2) b7
 
 -- ---- the first fault of a text
 

@@ -18,6 +18,7 @@ pub mod RawFacts
 pub mod QuotedFacts
 pub mod PrintsFacts
 pub mod StepFacts
+pub mod MessageParts
 pub mod MessageFacts
 pub mod LoopFacts
 pub mod MessageSteps

@@ -28,13 +28,14 @@ use Rattle.bufr_sections.specs.Sections.{AreOctets, HeadFits, IsOctet}
 use Rattle.bufr_tables.specs.AnswerLaws.{bind_ok, ok_is, passed_ok}
 use Rattle.bufr_listing.specs.Lines.{Line, texts, first_word}
 use Rattle.bufr_listing.specs.Lines.{CanBeListed}
-use Rattle.bufr_listing.specs.Reading.{with_rest, read_line, read_if, read_word, are_below}
+use Rattle.bufr_listing.specs.Reading.{with_rest, read_if, read_word, are_below}
 use Rattle.bufr_listing.specs.Reading.{read_numbers, read_local, read_section2, read_flags}
-use Rattle.bufr_listing.specs.Reading.{read_descriptors, subsets_read, section1_limits, time_limits}
+use Rattle.bufr_listing.specs.Reading.{read_descriptors, section1_limits, time_limits}
 use Rattle.bufr_listing.specs.Reading.{head_with, MessageRead, message_read, messages_read}
 use Rattle.bufr_listing.proofs.FieldFacts.{bytes_same, same_bytes}
 use Rattle.bufr_listing.proofs.CourseFacts.{course_printable}
 use Rattle.bufr_listing.proofs.LoopFacts.{goes_on, texts_length}
+use Rattle.bufr_listing.proofs.MessageParts.{message_with, message_parts}
 use Rattle.bufr_listing.proofs.SubsetFacts.{LineTaken, line_takes, line_back, subsets_take}
 use Rattle.bufr_listing.proofs.SubsetFacts.{subsets_back}
 use Rattle.bufr_listing.proofs.LineFacts.{literal_word, numbers_take, numbers_back}
@@ -285,67 +286,52 @@ none_used = omega arith
 -- a message that is read is that of the lines
 pub message_takes : LowerLaws → (tables : Entries) (past : ℕ) (ls : List Line) (x : MessageRead)
     → message_read tables past ls ≡ Ok x → MessageTaken tables ls x
-unfolding message_read
 message_takes laws tables past ls x h =
-    let p0 = bind_ok (read_line (read_word (codes "message")) past ls) _ x h in
-    let p1 = bind_ok (read_line (read_numbers (codes "section1") section1_limits) past p0.0.1) _ x
-    p0.2 in
-    let p2 = bind_ok (read_line (read_numbers (codes "time") time_limits) past p1.0.1) _ x p1.2 in
-    let p3 = bind_ok (read_if (codes "local1") read_local p2.0.1) _ x p2.2 in
-    let p4 = bind_ok (read_if (codes "section2") read_section2 p3.0.1) _ x p3.2 in
-    let p5 = bind_ok (read_line read_flags past p4.0.1) _ x p4.2 in
-    let p6 = bind_ok (read_line (read_descriptors tables) past p5.0.1) _ x p5.2 in
-    let p7 = bind_ok (subsets_read (length p6.0.1) past (course p6.0.0.tree) 0 p6.0.1) _ x p6.2 in
-    let l0 = line_takes (read_word (codes "message")) past ls p0.0 p0.1 in
-    let l1 = line_takes (read_numbers (codes "section1") section1_limits) past p0.0.1 p1.0 p1.1 in
-    let l2 = line_takes (read_numbers (codes "time") time_limits) past p1.0.1 p2.0 p2.1 in
+    let p = message_parts tables past ls x h in
+    let l0 = line_takes (read_word (codes "message")) past ls p.begin p.begins in
+    let l1 = line_takes (read_numbers (codes "section1") section1_limits) past p.begin.1 p.numbers p.has_numbers in
+    let l2 = line_takes (read_numbers (codes "time") time_limits) past p.numbers.1 p.time p.has_time in
     let l3 =
-    local_takes p2.0.1 p3.0.0 p3.0.1 (if_takes (codes "local1") read_local p2.0.1 p3.0 p3.1) in
+    local_takes p.time.1 p.local.0 p.local.1 (if_takes (codes "local1") read_local p.time.1 p.local p.has_local) in
     let l4 =
-    section2_takes p3.0.1 p4.0.0 p4.0.1
-    (if_takes (codes "section2") read_section2 p3.0.1 p4.0 p4.1) in
-    let l5 = line_takes read_flags past p4.0.1 p5.0 p5.1 in
-    let l6 = line_takes (read_descriptors tables) past p5.0.1 p6.0 p6.1 in
+    section2_takes p.local.1 p.two.0 p.two.1
+    (if_takes (codes "section2") read_section2 p.local.1 p.two p.has_two) in
+    let l5 = line_takes read_flags past p.two.1 p.flags p.has_flags in
+    let l6 = line_takes (read_descriptors tables) past p.flags.1 p.list p.has_list in
     let w0 =
     bytes_same l0.line.text (codes "message")
-    (passed_ok (bytes_eq l0.line.text (codes "message")) tt _ p0.0.0 l0.reads).0 in
-    let w1 = numbers_take (codes "section1") section1_limits l1.line.number l1.line.text p1.0.0
+    (passed_ok (bytes_eq l0.line.text (codes "message")) tt _ p.begin.0 l0.reads).0 in
+    let w1 = numbers_take (codes "section1") section1_limits l1.line.number l1.line.text p.numbers.0
     l1.reads in
-    let w2 = numbers_take (codes "time") time_limits l2.line.number l2.line.text p2.0.0 l2.reads in
-    let w5 = flags_take l5.line.number l5.line.text p5.0.0 l5.reads in
-    let w6 = descriptors_take laws.descriptors tables l6.line.number l6.line.text p6.0.0 l6.reads in
-    let w7 = subsets_take (length p6.0.1) past 1 (course p6.0.0.tree) 0 p6.0.1 p7.0 p7.1 in
-    let eight = eight_by_place p1.0.0 (below_length section1_limits p1.0.0 w1.1) in
-    let six = six_by_place p2.0.0 (below_length time_limits p2.0.0 w2.1) in
-    let m : Message =
-    record {
-      head = head_with p1.0.0 p2.0.0 p3.0.0;
-      section2 = p4.0.0;
-      observed = p5.0.0.observed;
-      compressed = p5.0.0.compressed;
-      descriptors = p6.0.0.descriptors;
-      subsets = p7.0.subsets;
-    } in
+    let w2 = numbers_take (codes "time") time_limits l2.line.number l2.line.text p.time.0 l2.reads in
+    let w5 = flags_take l5.line.number l5.line.text p.flags.0 l5.reads in
+    let w6 = descriptors_take laws.descriptors tables l6.line.number l6.line.text p.list.0 l6.reads in
+    let w7 = subsets_take (length p.list.1) past 1 (course p.list.0.tree) 0 p.list.1 p.found p.has_found in
+    let eight = eight_by_place p.numbers.0 (below_length section1_limits p.numbers.0 w1.1) in
+    let six = six_by_place p.time.0 (below_length time_limits p.time.0 w2.1) in
+    let m =
+    message_with (head_with p.numbers.0 p.time.0 p.local.0) p.two.0 p.flags.0 p.list.0
+    p.found.subsets in
     let e6 = ap texts l6.front ∙ (λ k. w6.line k ∷ w7.front k) in
     let e5 = ap texts l5.front ∙ (λ k. w5 k ∷ e6 k) in
-    let e4 = l4.0 ∙ ap (λ zs. section2_lines p4.0.0 ++ zs) e5 in
-    let e3 = l3.0 ∙ ap (λ zs. local_lines (unwrap_or p3.0.0 []) ++ zs) e4 in
+    let e4 = l4.0 ∙ ap (λ zs. section2_lines p.two.0 ++ zs) e5 in
+    let e3 = l3.0 ∙ ap (λ zs. local_lines (unwrap_or p.local.0 []) ++ zs) e4 in
     let e2 = ap texts l2.front ∙ (λ k. (w2.0 ∙ ap (numbers_line (codes "time")) six) k ∷ e3 k) in
     let e1 =
     ap texts l1.front ∙ (λ k. (w1.0 ∙ ap (numbers_line (codes "section1")) (sym eight)) k ∷ e2 k) in
     let e0 = ap texts l0.front ∙ (λ k. w0 k ∷ e1 k) in
-    let fit : AllFitWithin p6.0.0.tree 0 p7.0.subsets p7.0.items =
-    laws.fit p6.0.0.tree 1 0 p7.0.items p7.0.subsets none_used w7.fit in
-    subst (λ (y : MessageRead). MessageTaken tables ls y) (ok_is _ _ p7.2) (record {
-      front = e0 ∙ sym (regrouped m (texts p7.0.rest));
+    let fit : AllFitWithin p.list.0.tree 0 p.found.subsets p.found.items =
+    laws.fit p.list.0.tree 1 0 p.found.items p.found.subsets none_used w7.fit in
+    subst (λ (y : MessageRead). MessageTaken tables ls y) p.is (record {
+      front = e0 ∙ sym (regrouped m (texts p.found.rest));
       can = record {
-        head = head_fits p1.0.0 p2.0.0 p3.0.0 w1.1 w2.1 l3.1;
+        head = head_fits p.numbers.0 p.time.0 p.local.0 w1.1 w2.1 l3.1;
         section2 = l4.1;
         descriptors = w6.small;
         some_descriptor = w6.some;
-        tree = p6.0.0.tree;
-        has_tree = (laws.builds tables p6.0.0.descriptors p6.0.0.tree).0 w6.has_template;
-        items = p7.0.items;
+        tree = p.list.0.tree;
+        has_tree = (laws.builds tables p.list.0.descriptors p.list.0.tree).0 w6.has_template;
+        items = p.found.items;
         fit = fit;
       };
     })

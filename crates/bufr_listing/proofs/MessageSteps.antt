@@ -1,34 +1,35 @@
 -- The lines of a message one after the other, and messages one after the other: for their readers,
 -- and so for `read`.
-use Rattle.std.proofs.Common.{◌≡◌, ℕ, zero, suc, ◌+◌, ◌<◌, ◌≤◌, Bool, true, false, List, [], ◌∷◌}
+use Rattle.std.proofs.Common.{◌≡◌, ℕ, zero, suc, ◌<◌, ◌≤◌, true, false, List, [], ◌∷◌}
 use Rattle.std.proofs.Common.{◌++◌, append_assoc, length, length-append, codes, Result, Ok, Err}
-use Rattle.std.proofs.Common.{refl, sym, ap, ◌∙◌, arith}
-use Rattle.std.specs.Prelude.{Option, Some, None, if◌then◌else◌}
-use Rattle.std.specs.List.{flat_map}
-use Rattle.std.specs.Str.{bytes_eq}
+use Rattle.std.proofs.Common.{refl, sym, ap, ◌∙◌, subst, arith}
+use Rattle.std.specs.Prelude.{Option, Some, None}
 use Rattle.std.proofs.lemmas.List.{append-nil}
 use Rattle.bufr_tables.specs.Answers.{◌>>=◌, Fails, result_map}
 use Rattle.bufr_tables.specs.Entries.{Entries}
 use Rattle.bufr_tables.specs.declared.failure.Failure.{Failure}
 use Rattle.bufr_tables.specs.declared.failure.Failure.TheVariants.{Fault, OutOfMemory}
-use Rattle.bufr_expand.specs.Courses.{Course, course}
+use Rattle.bufr_expand.specs.Courses.{course}
 use Rattle.bufr_data.specs.declared.field.Subset.{Subset}
 use Rattle.bufr_sections.specs.declared.message.Head.{Head}
 use Rattle.bufr_sections.specs.declared.message.Message.{Message}
-use Rattle.bufr_tables.specs.AnswerLaws.{bind_ok, ok_is}
+use Rattle.bufr_tables.specs.AnswerLaws.{ok_is}
 use Rattle.bufr_listing.specs.declared.fault.ListingFault.{ListingFault}
 use Rattle.std.specs.Option.{is_some}
 use Rattle.bufr_listing.specs.declared.lines.TextLine.{TextLine}
 use Rattle.bufr_listing.specs.Cursors.{IsNextLine, printed}
-use Rattle.bufr_listing.specs.Listings.{subset_lines}
-use Rattle.bufr_listing.specs.Lines.{Line, texts, first_word}
+use Rattle.bufr_listing.specs.Lines.{Line}
 use Rattle.bufr_listing.specs.Reading.{with_rest, read_line, read_if, read_word, read_numbers}
 use Rattle.bufr_listing.specs.Reading.{read_local, read_section2, Flags, read_flags, Described}
 use Rattle.bufr_listing.specs.Reading.{read_descriptors, SubsetsListed, subsets_read, subsets_of}
 use Rattle.bufr_listing.specs.Reading.{section1_limits, time_limits, head_with, head_read}
 use Rattle.bufr_listing.specs.Reading.{MessageRead, message_read, messages_read}
-use Rattle.bufr_listing.proofs.SubsetFacts.{subsets_take}
-use Rattle.bufr_listing.proofs.LoopFacts.{goes_on, texts_length, line_shorter}
+use Rattle.bufr_listing.proofs.SubsetFacts.{line_takes}
+use Rattle.bufr_listing.proofs.LoopFacts.{goes_on, line_shorter}
+use Rattle.bufr_listing.proofs.MessageParts.{message_with, from_subsets, from_descriptors}
+use Rattle.bufr_listing.proofs.MessageParts.{from_flags, from_section2, MessageParts, message_parts}
+use Rattle.bufr_listing.proofs.MessageFacts.{IfTaken, if_takes}
+use Rattle.bufr_listing.proofs.FaultFields.{IsBehind, subsets_behind}
 
 -- ---- section 1 first
 
@@ -38,57 +39,17 @@ bind_one : {D E G F : Type 0} (d : Result D F) (e : D → Result E F) (k : E →
 bind_one (Ok w) e k = refl
 bind_one (Err f) e k = refl
 
--- from two steps
-bind_two : {C D E G F : Type 0} (c : Result C F) (d : C → Result D F) (e : C → D → Result E F)
-    (k : E → Result G F)
-    → ((c >>= λ z. d z >>= λ w. e z w) >>= k) ≡ (c >>= λ z. d z >>= λ w. (e z w >>= k))
-bind_two (Ok z) d e k = bind_one (d z) (e z) k
-bind_two (Err f) d e k = refl
-
--- from three steps
-bind_three : {B C D E G F : Type 0} (b : Result B F) (c : B → Result C F) (d : B → C → Result D F)
-    (e : B → C → D → Result E F) (k : E → Result G F)
-    → ((b >>= λ y. c y >>= λ z. d y z >>= λ w. e y z w) >>= k)
-    ≡ (b >>= λ y. c y >>= λ z. d y z >>= λ w. (e y z w >>= k))
-bind_three (Ok y) c d e k = bind_two (c y) (d y) (e y) k
-bind_three (Err f) c d e k = refl
-
 -- from four steps
 bind_four : {A B C D E G F : Type 0} (a : Result A F) (b : A → Result B F)
     (c : A → B → Result C F) (d : A → B → C → Result D F) (e : A → B → C → D → Result E F)
     (k : E → Result G F)
     → ((a >>= λ x. b x >>= λ y. c x y >>= λ z. d x y z >>= λ w. e x y z w) >>= k)
     ≡ (a >>= λ x. b x >>= λ y. c x y >>= λ z. d x y z >>= λ w. (e x y z w >>= k))
-bind_four (Ok x) b c d e k = bind_three (b x) (c x) (d x) (e x) k
-bind_four (Err f) b c d e k = refl
-
--- what follows section 1, section 2 and the flags
-abbrev pub from_descriptors : Entries → ℕ → Head → Option (List ℕ) → Flags → List Line
-    → Result MessageRead ListingFault
-from_descriptors tables past head two flags ls =
-    read_line (read_descriptors tables) past ls
-    >>= λ list. subsets_read (length list.1) past (course list.0.tree) 0 list.1
-    >>= λ found. with_rest found.rest
-    (record {
-      head = head;
-      section2 = two;
-      observed = flags.observed;
-      compressed =
-          flags.compressed;
-      descriptors = list.0.descriptors;
-      subsets = found.subsets;
-    })
-
--- what follows section 1 and section 2
-abbrev pub from_flags : Entries → ℕ → Head → Option (List ℕ) → List Line
-    → Result MessageRead ListingFault
-from_flags tables past head two ls =
-    read_line read_flags past ls >>= λ flags. from_descriptors tables past head two flags.0 flags.1
-
--- what follows section 1
-abbrev pub from_section2 : Entries → ℕ → Head → List Line → Result MessageRead ListingFault
-from_section2 tables past head ls = read_if (codes "section2") read_section2 ls >>= λ two.
-    from_flags tables past head two.0 two.1
+bind_four a b c d e k =
+    bind_one a (λ x. b x >>= λ y. c x y >>= λ z. d x y z >>= λ w. e x y z w) k
+    ∙ (λ i. a >>= λ x. bind_one (b x) (λ y. c x y >>= λ z. d x y z >>= λ w. e x y z w) k i)
+    ∙ (λ i. a >>= λ x. b x >>= λ y. bind_one (c x y) (λ z. d x y z >>= λ w. e x y z w) k i)
+    ∙ (λ i. a >>= λ x. b x >>= λ y. c x y >>= λ z. bind_one (d x y z) (e x y z) k i)
 
 -- a message is section 1 and what follows
 by_head : (tables : Entries) (past : ℕ) (ls : List Line) → message_read tables past ls
@@ -131,22 +92,6 @@ pub at_descriptors : (tables : Entries) (past : ℕ) (ls l1 l2 l3 : List Line) (
 at_descriptors tables past ls l1 l2 l3 h two flags e f g = at_flags tables past ls l1 l2 h two e f
     ∙ ap (λ (r : Result (Flags × List Line) ListingFault). r >>= λ x. from_descriptors tables past
     h two x.0 x.1) g
-
--- what follows the descriptors
-abbrev pub from_subsets : ℕ → Head → Option (List ℕ) → Flags → Described → List Line
-    → Result MessageRead ListingFault
-from_subsets past head two flags list ls =
-    subsets_read (length ls) past (course list.tree) 0 ls
-    >>= λ found. with_rest found.rest
-    (record {
-      head = head;
-      section2 = two;
-      observed = flags.observed;
-      compressed =
-          flags.compressed;
-      descriptors = list.descriptors;
-      subsets = found.subsets;
-    })
 
 -- where the descriptors were read too
 pub at_subsets : (tables : Entries) (past : ℕ) (ls l1 l2 l3 l4 : List Line) (h : Head)
@@ -244,31 +189,12 @@ pub message_is : (tables : Entries) (past : ℕ) (ls l1 l2 l3 l4 l5 : List Line)
     ≡ Ok (flags, l3) → read_line (read_descriptors tables) past l3 ≡ Ok (list, l4)
     → subsets_of past (course list.tree) l4 ≡ Ok (subsets, l5)
     → message_read tables past ls
-    ≡ Ok (
-      record {
-        head = h;
-        section2 = two;
-        observed = flags.observed;
-        compressed =
-            flags.compressed;
-        descriptors = list.descriptors;
-        subsets = subsets;
-      },
-      l5,
-    )
+    ≡ Ok (message_with h two flags list subsets, l5)
 message_is tables past ls l1 l2 l3 l4 l5 h two flags list subsets a b c d s =
     let p = map_ok (subsets_read (length l4) past (course list.tree) 0 l4) (subsets, l5) s in
     at_subsets tables past ls l1 l2 l3 l4 h two flags list a b c d
     ∙ goes_on _ _ p.0 _ p.1
-    (ap (λ (x : List Subset × List Line). with_rest x.1
-    (record {
-      head = h;
-      section2 = two;
-      observed = flags.observed;
-      compressed = flags.compressed;
-      descriptors = list.descriptors;
-      subsets = x.0;
-    })) p.2)
+    (ap (λ (x : List Subset × List Line). with_rest x.1 (message_with h two flags list x.0)) p.2)
 
 -- ---- messages
 
@@ -283,65 +209,63 @@ pub none_next : (ls : List Line) (o : Option TextLine) → IsNextLine ls o → i
 none_next ls None next h = next
 none_next ls (Some l) next h = absurd cc
 
--- a message takes a line at least
-if_shorter_by : {A : Type 0} (b : Bool) (o : Result A ListingFault) (l : Line) (ls : List Line)
-    (x : Option A × List Line) → (if b then (o >>= λ a. with_rest ls (Some a)) else with_rest
-    (l ∷ ls) None) ≡ Ok x → length x.1 ≤ length (l ∷ ls)
-if_shorter_by {A} true o l ls x h =
-    let p = bind_ok o (λ a. with_rest ls (Some a)) x h in
-    let e = ap (λ (y : Option A × List Line). length y.1) (ok_is _ _ p.2) in
-    omega (arith, e)
-if_shorter_by {A} false o l ls x h = let e =
-    ap (λ (y : Option A × List Line). length y.1) (ok_is _ _ h) in omega (arith, e)
+-- lines behind lines that stand behind others
+then_behind : (ls mid rest : List Line) → IsBehind ls mid → IsBehind mid rest → IsBehind ls rest
+then_behind ls mid rest a b =
+    record {
+      own = a.own ++ b.own;
+      in_order = a.in_order ∙ ap (λ xs. a.own ++ xs) b.in_order
+          ∙ sym (append_assoc a.own b.own rest);
+    }
 
--- behind a line that may be absent there are no more lines than before
-if_shorter : {A : Type 0} (title : List ℕ) (read : ℕ → List ℕ → Result A ListingFault)
-    (ls : List Line) (x : Option A × List Line) → read_if title read ls ≡ Ok x
-    → length x.1 ≤ length ls
-if_shorter {A} title read [] x h = let e =
-    ap (λ (y : Option A × List Line). length y.1) (ok_is _ _ h) in omega (arith, e)
-if_shorter title read (l ∷ ls) x h =
-    if_shorter_by (bytes_eq (first_word l.text) title) (read l.number l.text) l ls x h
+-- what is left behind a line
+line_behind : {A : Type 0} (read : ℕ → List ℕ → Result A ListingFault) (past : ℕ) (ls : List Line)
+    (x : A × List Line) → read_line read past ls ≡ Ok x → IsBehind ls x.1
+line_behind read past ls x h = let l = line_takes read past ls x h in
+    record { own = l.line ∷ []; in_order = l.front }
 
--- behind subsets there are no more
-subsets_shorter : (left past : ℕ) (c : ℕ → Course) (ls : List Line) (r : SubsetsListed)
-    → subsets_read left past c 0 ls ≡ Ok r → length r.rest ≤ length ls
-subsets_shorter left past c ls r h =
-    let own = subsets_take left past 1 c 0 ls r h in
-    let front = ap length own.front in
-    let sum = length-append (flat_map subset_lines r.subsets) (codes "end" ∷ texts r.rest) in
-    let a = texts_length ls in
-    let b = texts_length r.rest in
-    omega (arith, front, sum, a, b)
+-- what is left behind one that may be absent
+taken_behind : {A : Type 0} (read : ℕ → List ℕ → Result A ListingFault) (ls : List Line)
+    (o : Option A) (rest : List Line) → IfTaken read ls o rest → IsBehind ls rest
+taken_behind read ls None rest e = record { own = []; in_order = e }
+taken_behind read ls (Some a) rest t = record { own = t.line ∷ []; in_order = t.front }
 
--- behind a message there are fewer
+-- what is left behind a message stands behind its first line
+behind_begin : (tables : Entries) (past : ℕ) (ls : List Line) (x : MessageRead)
+    (p : MessageParts tables past ls x) → IsBehind p.begin.1 x.1
+behind_begin tables past ls x p =
+    subst (λ (y : MessageRead). IsBehind p.begin.1 y.1) p.is
+    (then_behind _ _ _ (line_behind (read_numbers (codes "section1") section1_limits) past p.begin.1
+    p.numbers p.has_numbers)
+    (then_behind _ _ _ (line_behind (read_numbers (codes "time") time_limits) past p.numbers.1
+    p.time p.has_time)
+    (then_behind _ _ _ (taken_behind read_local p.time.1 p.local.0 p.local.1
+    (if_takes (codes "local1") read_local p.time.1 p.local p.has_local))
+    (then_behind _ _ _ (taken_behind read_section2 p.local.1 p.two.0 p.two.1
+    (if_takes (codes "section2") read_section2 p.local.1 p.two p.has_two))
+    (then_behind _ _ _ (line_behind read_flags past p.two.1 p.flags p.has_flags)
+    (then_behind _ _ _ (line_behind (read_descriptors tables) past p.flags.1 p.list p.has_list)
+    (subsets_behind (length p.list.1) past (course p.list.0.tree) 0 p.list.1 p.found
+    p.has_found)))))))
+
+-- what is left behind a message
+pub message_behind : (tables : Entries) (past : ℕ) (ls : List Line) (x : MessageRead)
+    → message_read tables past ls ≡ Ok x → IsBehind ls x.1
+message_behind tables past ls x h =
+    let p = message_parts tables past ls x h in
+    then_behind ls p.begin.1 x.1 (line_behind (read_word (codes "message")) past ls p.begin p.begins)
+    (behind_begin tables past ls x p)
+
+-- behind a message there are fewer lines
 pub message_shorter : (tables : Entries) (past : ℕ) (ls : List Line) (x : MessageRead)
     → message_read tables past ls ≡ Ok x → length x.1 < length ls
-unfolding message_read
 message_shorter tables past ls x h =
-    let p0 = bind_ok (read_line (read_word (codes "message")) past ls) _ x h in
-    let p1 = bind_ok (read_line (read_numbers (codes "section1") section1_limits) past p0.0.1) _ x
-    p0.2 in
-    let p2 = bind_ok (read_line (read_numbers (codes "time") time_limits) past p1.0.1) _ x p1.2 in
-    let p3 = bind_ok (read_if (codes "local1") read_local p2.0.1) _ x p2.2 in
-    let p4 = bind_ok (read_if (codes "section2") read_section2 p3.0.1) _ x p3.2 in
-    let p5 = bind_ok (read_line read_flags past p4.0.1) _ x p4.2 in
-    let p6 = bind_ok (read_line (read_descriptors tables) past p5.0.1) _ x p5.2 in
-    let p7 = bind_ok (subsets_read (length p6.0.1) past (course p6.0.0.tree) 0 p6.0.1) _ x p6.2 in
-    let l0 = line_shorter (read_word (codes "message")) past ls p0.0 p0.1 in
-    let l1 = line_shorter (read_numbers (codes "section1") section1_limits) past p0.0.1 p1.0 p1.1 in
-    let l2 = line_shorter (read_numbers (codes "time") time_limits) past p1.0.1 p2.0 p2.1 in
-    let l3 = if_shorter (codes "local1") read_local p2.0.1 p3.0 p3.1 in
-    let l4 = if_shorter (codes "section2") read_section2 p3.0.1 p4.0 p4.1 in
-    let l5 = line_shorter read_flags past p4.0.1 p5.0 p5.1 in
-    let l6 = line_shorter (read_descriptors tables) past p5.0.1 p6.0 p6.1 in
-    let l7 = subsets_shorter (length p6.0.1) past (course p6.0.0.tree) p6.0.1 p7.0 p7.1 in
-    let l8 = ap (λ (y : MessageRead). length y.1) (ok_is _ _ p7.2) in
-    by_lengths _ _ _ _ _ _ _ _ _ _ l0 l1 l2 l3 l4 l5 l6 l7 l8
-  where
-    by_lengths : (a b c d e f g i j k : ℕ) → a ≡ b + 1 → b ≡ c + 1 → c ≡ d + 1 → e ≤ d → f ≤ e
-        → f ≡ g + 1 → g ≡ i + 1 → j ≤ i → j ≡ k → k < a
-    by_lengths a b c d e f g i j k l0 l1 l2 l3 l4 l5 l6 l7 l8 = omega arith
+    let p = message_parts tables past ls x h in
+    let first = line_shorter (read_word (codes "message")) past ls p.begin p.begins in
+    let b = behind_begin tables past ls x p in
+    let whole = ap length b.in_order in
+    let sum = length-append b.own x.1 in
+    omega (arith, first, whole, sum)
 
 -- these messages, and then those that are read
 abbrev pub behind_messages : List Message → Result (List Message) ListingFault

@@ -24,7 +24,7 @@ use Rattle.bufr_listing.specs.declared.fault.ListingFault.{ListingFault}
 use Rattle.bufr_listing.specs.declared.fault.ListingFault.TheVariants.{BadLine, BadValue}
 use Rattle.bufr_listing.specs.Listings.{words, octets_line}
 use Rattle.bufr_listing.specs.Lines.{words_of, first_word, has_octets, lower_digit, as_printed}
-use Rattle.bufr_listing.specs.Reading.{fault_behind, octets_by, octets_in, read_octets}
+use Rattle.bufr_listing.specs.Reading.{octets_by, octets_in, read_octets}
 use Rattle.bufr_listing.proofs.FieldFacts.{bytes_same, same_bytes, refused}
 use Rattle.bufr_listing.proofs.LineFacts.{IsWord, words_back}
 use Rattle.bufr_listing.proofs.PrintedFacts.{words_lower, lower_printed, first_printed}

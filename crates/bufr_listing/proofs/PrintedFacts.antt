@@ -1,7 +1,7 @@
 -- A line as it would be printed has the words of the line, but for the case of hexadecimal digits:
 -- for the readers of lines, which `read` calls.
-use Rattle.std.proofs.Common.{◌≡◌, ℕ, suc, Bool, true, false, List, [], ◌∷◌, ◌++◌, length, map}
-use Rattle.std.proofs.Common.{get_or, codes, refl, sym, ap, ◌∙◌, subst, arith, inl, inr, ◌⊎◌}
+use Rattle.std.proofs.Common.{◌≡◌, ℕ, true, false, List, [], ◌∷◌, ◌++◌, length, map}
+use Rattle.std.proofs.Common.{get_or, codes, refl, sym, ap, ◌∙◌, subst, arith, inl, inr}
 use Rattle.std.proofs.lemmas.Bool.{cases_Bool, or_cases, false≢true}
 use Rattle.std.specs.Prelude.{◌==◌, ◌||◌}
 use Rattle.std.specs.List.{onto_first, join_with_byte}

@@ -1,7 +1,7 @@
 -- The number that a word prints, by what was found of it: for the reader of raw values, which
 -- `read` calls.
-use Rattle.std.proofs.Common.{◌≡◌, ℕ, suc, ◌-◌, ◌^◌, ◌≤◌, true, false, List, [], ◌∷◌, ◌++◌}
-use Rattle.std.proofs.Common.{append_assoc, inl, inr, refl, sym, ap, ◌∙◌, arith}
+use Rattle.std.proofs.Common.{◌≡◌, ℕ, suc, ◌-◌, ◌^◌, ◌≤◌, true, false, List, [], ◌∷◌}
+use Rattle.std.proofs.Common.{inl, inr, refl, sym, ap, ◌∙◌, arith}
 use Rattle.std.specs.Prelude.{Option, Some, None, option_and_then, ℤ, pos, negsuc, ◌-ℤ◌, nat_lt}
 use Rattle.std.specs.Prelude.{if◌then◌else◌}
 use Rattle.std.proofs.lemmas.Bool.{cases_Bool, lt-ltb}

@@ -31,7 +31,7 @@ use Rattle.bufr_listing.proofs.LineFacts.{section2_back, flags_take, flags_back,
 use Rattle.bufr_listing.proofs.LoopFacts.{goes_on, fails_on}
 use Rattle.bufr_listing.proofs.MessageFacts.{section1_back, time_back, word_back, head_fits}
 use Rattle.bufr_listing.proofs.MessageFacts.{section2_titled, flags_not_section2, not_local}
-use Rattle.bufr_listing.proofs.MessageSteps.{from_section2, from_flags, from_descriptors}
+use Rattle.bufr_listing.proofs.MessageParts.{from_section2, from_descriptors}
 use Rattle.bufr_listing.proofs.MessageSteps.{head_fails, at_section2, at_flags}
 use Rattle.bufr_listing.proofs.MessageSteps as steps
 use Rattle.bufr_listing.proofs.FieldFacts.{bytes_same}

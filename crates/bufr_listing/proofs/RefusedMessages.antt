@@ -24,7 +24,8 @@ use Rattle.bufr_listing.proofs.LineFacts.{descriptors_read}
 use Rattle.bufr_listing.proofs.LoopFacts.{goes_on, fails_on}
 use Rattle.bufr_listing.proofs.MessageFacts.{message_back}
 use Rattle.bufr_listing.proofs.FaultFields.{FaultLaws, IsBehind}
-use Rattle.bufr_listing.proofs.FaultMessages.{fewer_lines, message_behind}
+use Rattle.bufr_listing.proofs.FaultMessages.{fewer_lines}
+use Rattle.bufr_listing.proofs.MessageSteps.{message_behind}
 use Rattle.bufr_listing.proofs.RefusedLines.{cut_lines, same_behind}
 use Rattle.bufr_listing.proofs.RefusedFields.{subsets_refused}
 use Rattle.bufr_listing.proofs.RefusedHeadings.{flags_passed, place_refused}

@@ -3,7 +3,7 @@ use Rattle.std.proofs.Common.{◌≡◌, ℕ, zero, suc, ◌+◌, ◌-◌, ◌/�
 use Rattle.std.proofs.Common.{List, [], ◌∷◌, ◌++◌, length, map, get_or, codes, refl, sym, ap, ◌∙◌}
 use Rattle.std.proofs.Common.{subst, arith, append_assoc, ◌^◌}
 use Rattle.std.specs.Prelude.{◌==◌, ◌&&◌, decimal, IfSome, Option, Some, None, nat_le, nat_lt}
-use Rattle.std.specs.Prelude.{slice_index, ℤ, pos, ◌+ℤ◌, Ok, if◌then◌else◌}
+use Rattle.std.specs.Prelude.{slice_index, pos, ◌+ℤ◌, Ok, if◌then◌else◌}
 use Rattle.std.specs.List.{flat_map, list_all, slice_split, AllByRecursion}
 use Rattle.std.specs.Str.{bytes_eq}
 use Rattle.std.specs.Str.Lines.{lines, lines_of_parts, strip_carriage_return}
