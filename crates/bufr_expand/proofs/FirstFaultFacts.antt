@@ -33,8 +33,8 @@ use Rattle.bufr_expand.specs.FirstFaults.{behind_replication, RefusesExactly, Ha
 use Rattle.bufr_expand.specs.FirstFaults.{HasNotBoth, HasOneFault, HasNoTreeAt}
 use Rattle.bufr_expand.proofs.ExpansionFacts.{expand_list-skip, expand_list-found}
 use Rattle.bufr_expand.proofs.ReadingFacts.{IsRead, an_element, an_operator, a_text, a_width}
-use Rattle.bufr_expand.proofs.ReadingFacts.{a_sequence, a_repeated, a_delayed, reads, found_is}
-use Rattle.bufr_expand.proofs.NoCases.{has_no_case, fault_found}
+use Rattle.bufr_expand.proofs.ReadingFacts.{a_sequence, a_repeated, a_delayed, reads, has_no_case}
+use Rattle.bufr_expand.proofs.FindingFacts.{found_is, fault_found}
 use Rattle.bufr_expand.proofs.FlatFacts.{has_tree_within, single_fits, replication_fits}
 use Rattle.bufr_expand.proofs.FlatFacts.{body_read, factor_read, flat_expands, expands_exactly}
 

@@ -29,7 +29,8 @@ use Rattle.bufr_expand.specs.Flat.{followed_by, IsFactor, IsCountRow, ExpandsExa
 use Rattle.bufr_expand.specs.Flat.{ExpandsToTrees, HasOneTree, HasEnoughLevels}
 use Rattle.bufr_expand.proofs.ExpansionFacts.{expand_list-skip, expand_list-found, onto_ok}
 use Rattle.bufr_expand.proofs.ReadingFacts.{IsRead, an_element, an_operator, a_text, a_width}
-use Rattle.bufr_expand.proofs.ReadingFacts.{a_sequence, a_repeated, a_delayed, reads, found_is}
+use Rattle.bufr_expand.proofs.ReadingFacts.{a_sequence, a_repeated, a_delayed, reads}
+use Rattle.bufr_expand.proofs.FindingFacts.{found_is}
 
 -- the nodes of one tree behind another
 nodes_of-followed_by : (a b : Tree) → nodes_of (followed_by a b) ≡ nodes_of a ++ nodes_of b

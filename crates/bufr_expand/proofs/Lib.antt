@@ -2,12 +2,12 @@
 pub mod Between
 pub mod ExpansionFacts
 pub mod FieldLimits
+pub mod FindingFacts
 pub mod FirstFaultFacts
 pub mod FlatFacts
 pub mod FollowedFacts
 pub mod FoundFacts
 pub mod LoopFacts
-pub mod NoCases
 pub mod PassFacts
 pub mod Powers
 pub mod ReadingFacts
