@@ -1,11 +1,13 @@
--- Powers of ten, and the limit of a reference value, for the contract of `Operators::effective`.
+-- Powers of ten, and numbers within a limit, for the contract of `Operators::effective` and the law
+-- `laws::specs_are_effective`.
 use Rattle.std.proofs.Common.{◌≡◌, ◌≢◌, ℕ, zero, suc, ◌*◌, ◌^◌, ◌<◌, ◌≤◌, ℤ, pos, negsuc, ◌*ℤ◌}
-use Rattle.std.proofs.Common.{Bool, true, false, Option, Some, None, MatchOption, refl, arith, lit<}
+use Rattle.std.proofs.Common.{false, Option, Some, None, MatchOption, refl, arith, lit<}
+use Rattle.std.specs.Bool.{Decides}
 use Rattle.std.proofs.Common.{FitsSigned, w64}
 use Rattle.std.specs.Option.{SomeIff}
 use Rattle.std.specs.Int.RustNames.{unsigned_abs}
 use Rattle.std.proofs.lemmas.Int.{unsigned_abs-mul, fits_signed_from_abs}
-use Rattle.std.proofs.lemmas.Bool.Decides.{nat_tests}
+use Rattle.std.proofs.lemmas.Bool.{leb-true, le-leb, ltb-true, lt-ltb, false_from_ne_true}
 use Rattle.std.proofs.Math.Nat.{pow-le-pow_right, mul-le-mul}
 use Rattle.bufr_expand.specs.Limits.{most_reference}
 use Rattle.bufr_expand.specs.OperatorsInForce.{is_within}
@@ -18,15 +20,11 @@ ten_power_below y h = pow-le-pow_right {n = 10} (lit< tt) h
 pub ten_power_above : (y : ℕ) → 18 < y → 10000000000000000000 ≤ 10 ^ y
 ten_power_above y h = let g : 19 ≤ y = omega arith in pow-le-pow_right {n = 10} (lit< tt) g
 
--- beyond the limit
-pub outside : (z : ℤ) → most_reference < unsigned_abs z → is_within most_reference z ≡ false
-outside (pos n) h = grind (arith, nat_tests)
-outside (negsuc n) h = grind (arith, nat_tests)
-
--- within the limit
-pub within_abs : (z : ℤ) → is_within most_reference z ≡ true → unsigned_abs z ≤ most_reference
-within_abs (pos n) h = grind (arith, nat_tests)
-within_abs (negsuc n) h = grind (arith, nat_tests)
+-- a number within a limit
+pub decides_within : (limit : ℕ) (z : ℤ) → Decides (is_within limit z) (unsigned_abs z ≤ limit)
+decides_within limit (pos n) = (leb-true n limit, le-leb n limit)
+decides_within limit (negsuc n) =
+    (λ h. let k = ltb-true n limit h in omega arith, λ h. lt-ltb n limit (omega (arith, h)))
 
 -- what is not 0 is 1 from it at least
 abs_from_one : (z : ℤ) → z ≢ pos 0 → 1 ≤ unsigned_abs z
@@ -42,18 +40,15 @@ outside_times z y h g =
     let one = abs_from_one z h in
     let ten = ten_power_above y g in
     let both : 1 * 10000000000000000000 ≤ unsigned_abs z * (10 ^ y) = mul-le-mul one ten in
-    outside (z *ℤ pos (10 ^ y)) (rw e (omega arith))
+    false_from_ne_true (is_within most_reference (z *ℤ pos (10 ^ y)))
+    (λ h. let small = (decides_within most_reference (z *ℤ pos (10 ^ y))).0 h in omega arith)
 
 -- what does not fit 64 bits is outside
 pub outside_unfit : (z : ℤ) → (FitsSigned w64 z → ⊥) → is_within most_reference z ≡ false
 outside_unfit z h =
-    let cases : (b : Bool) → is_within most_reference z ≡ b → b ≡ false =
-    λ b. elim b as (λ v. is_within most_reference z ≡ v → v ≡ false) [
-      | true ↦ λ e. let small = within_abs z e in
-          absurd (h (fits_signed_from_abs w64 z (omega arith)))
-      | false ↦ λ e. refl
-    ] in
-    cases (is_within most_reference z) refl
+    false_from_ne_true (is_within most_reference z)
+    (λ e. let small = (decides_within most_reference z).0 e in
+    h (fits_signed_from_abs w64 z (omega arith)))
 
 -- a checked product is the product, or is outside
 pub checked_is : (o : Option ℤ) (z : ℤ) → SomeIff o (FitsSigned w64 z) z
