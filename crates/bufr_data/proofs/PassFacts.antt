@@ -200,13 +200,6 @@ number_column n i spec front other =
     ap (λ o. or_ends i o >>= λ m. (or_ends i (number_at 6 m.1) >>= λ k. values_at n i spec m.0 k.0 k.1)) (number_raw spec.kind spec.width front other)
     ∙ after_minimum n i spec (field_number_at spec.width front)
 
--- a column without minimum or width is refused for this
-pub numbers_no_head : (n i : ℕ) (spec : Spec) (front : List Bool) (fault : ReadFault)
-    → same_kind spec.kind kinds.Text ≡ false → head_at i spec.width front ≡ Err fault
-    → column_at n i spec front ≡ Err fault
-numbers_no_head n i spec front fault other e =
-    number_column n i spec front other ∙ ap (λ r. r >>= λ h. values_at n i spec (Number h.0.0) h.0.1 h.1) e
-
 -- a column is read as its values behind minimum and width
 behind_head : (n i : ℕ) (spec : Spec) (front : List Bool) (m k : ℕ) (rest : List Bool)
     → same_kind spec.kind kinds.Text ≡ false → head_at i spec.width front ≡ Ok ((m, k), rest)

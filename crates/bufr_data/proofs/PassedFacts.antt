@@ -92,12 +92,6 @@ pub number_short : (i : ℕ) (spec : Spec) (front : List Bool)
 number_short i spec front other few none =
     ap (raw_or_ends 1 i) (raw_number spec front other few ∙ ap (option_map (λ x. (Number x.0, x.1))) none)
 
--- so does one of more than 64 bits
-pub number_wide : (i : ℕ) (spec : Spec) (front : List Bool) → same_kind spec.kind kinds.Text ≡ false
-    → 64 < spec.width → raw_or_ends 1 i (raw_at spec front) ≡ Err (faults.DataEnds 1 i)
-number_wide i spec front other wide =
-    rw (number_raw spec.kind spec.width front other, lt-leb spec.width 64 wide) refl
-
 -- a number that is there is passed
 pub number_passes : (i : ℕ) (spec : Spec) (front rest : List Bool) (b : ℕ) → IsOther spec
     → spec.width ≤ 64 → b ≡ spec.width → b ≤ length front → rest ≡ drop b front
@@ -118,11 +112,6 @@ number_ends i spec front b other few size short =
     let less : length front < spec.width = omega (arith, size, short) in
     number_short i spec front (other_kind spec.kind other) few (number_missing spec.width front less)
 
--- so does one of more than 64 bits
-pub other_wide : (i : ℕ) (spec : Spec) (front : List Bool) → IsOther spec → 64 < spec.width
-    → raw_or_ends 1 i (raw_at spec front) ≡ Err (faults.DataEnds 1 i)
-other_wide i spec front other wide = number_wide i spec front (other_kind spec.kind other) wide
-
 -- ---- field after field
 
 -- one field more was passed
@@ -136,18 +125,3 @@ one_passed whole i j c next front rest items index so_far step = (
   so_far.1 ∙ ap (behind_fields so_far.0) step.1 ∙ behind_more so_far.0 step.0 (fields_at 1 (i + 1) next rest)
       ∙ ap (λ n. behind_fields (so_far.0 ++ step.0 ∷ []) (fields_at 1 n next rest)) (sym index),
 )
-
--- all were passed
-pub all_passed : (whole : Result SubsetRead ReadFault) (i : ℕ) (c next : Course)
-    (front rest : List Bool) (items : ℕ)
-    → (fields : List Field) × (whole ≡ behind_fields fields (fields_at 1 i c front))
-    → PassesField i c front false next items rest → PassesSubset whole items rest
-all_passed whole i c next front rest items so_far step =
-    (so_far.0 ++ [], so_far.1 ∙ ap (behind_fields so_far.0) step)
-
--- the next field cannot be passed
-pub one_refused : (whole : Result SubsetRead ReadFault) (i : ℕ) (c : Course) (front : List Bool)
-    (fault : ReadFault)
-    → (fields : List Field) × (whole ≡ behind_fields fields (fields_at 1 i c front))
-    → fields_at 1 i c front ≡ Err fault → whole ≡ Err fault
-one_refused whole i c front fault so_far e = so_far.1 ∙ ap (behind_fields so_far.0) e

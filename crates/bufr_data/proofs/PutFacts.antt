@@ -63,10 +63,6 @@ map_push f (y ∷ xs) x = ap (λ ys. f y ∷ ys) (map_push f xs x)
 pub kept_more : (old mid new : List Bool) → Extends old mid → Extends mid new → Extends old new
 kept_more old mid new a b = (a.0 ++ b.0, b.1 ∙ ap (λ xs. xs ++ b.0) a.1 ∙ append_assoc old a.0 b.0)
 
--- bits that are the same stay
-pub kept_same : (old new : List Bool) → new ≡ old → Extends old new
-kept_same old new e = ([], e ∙ sym (append-nil old))
-
 -- ---- numbers
 
 -- the step of `least_more`, by whether the number is missing
@@ -181,38 +177,12 @@ pub numbers_push : (values grown : List Raw) (v : Raw) → grown ≡ values ++ v
     → map number_of grown ≡ map number_of values ++ number_of v ∷ []
 numbers_push values grown v is = ap (map number_of) is ∙ map_push number_of values v
 
--- which of the best columns it is
-pub best_of_equal : (f : Field) (rows : List (List Field)) → all_equal (values_from f rows) ≡ true
-    → best f.spec (values_from f rows) ≡ raw_bits f.spec.width f.raw ++ bin 6 0
-best_of_equal f rows e = rw e refl
-
--- the best column of texts that differ
-pub best_of_differing_texts : (f : Field) (rows : List (List Field))
-    → all_equal (values_from f rows) ≡ false → f.spec.kind ≡ kinds.Text
-    → best f.spec (values_from f rows)
-    ≡ best_texts (f.spec.width / 8) (map octets_of (values_from f rows))
-best_of_differing_texts f rows e is = rw e (differing_texts f.spec.kind f.spec.width (values_from f rows) is)
-
--- the best column of numbers that differ
-pub best_of_differing_numbers : (f : Field) (rows : List (List Field))
-    → all_equal (values_from f rows) ≡ false → (f.spec.kind ≡ kinds.Text → ⊥)
-    → best f.spec (values_from f rows)
-    ≡ best_numbers f.spec.width (map number_of (values_from f rows))
-best_of_differing_numbers f rows e other = rw e (differing_is f.spec.kind f.spec.width (values_from f rows) other)
-
 -- values that differ and can be a column are narrow
 short_of : (spec : Spec) (values : List Raw) → can_be_column spec values ≡ true
     → all_equal values ≡ false → widest spec ≤ 63
 short_of spec values can e =
     let differ = or_false (all_equal values) (can_differ spec) can e in
     leb-true _ _ (and_second (not (same_kind spec.kind kinds.Count)) (nat_le (widest spec) 63) differ)
-
--- texts then have 63 octets at most
-pub short_texts : (spec : Spec) (values : List Raw) → can_be_column spec values ≡ true
-    → all_equal values ≡ false → spec.kind ≡ kinds.Text → spec.width / 8 ≤ 63
-short_texts spec values can e is =
-    let text : same_kind spec.kind kinds.Text ≡ true = ap (λ k. same_kind k kinds.Text) is in
-    subst (λ n. n ≤ 63) (rw text refl) (short_of spec values can e)
 
 -- a kind that is no text's is not told one
 no_text_by : (spec : Spec) (b : Bool) → same_kind spec.kind kinds.Text ≡ b

@@ -136,12 +136,6 @@ pub behind_more : (fields : List Field) (field : Field) (o : Result SubsetRead R
 behind_more fields field (Ok found) = ap (λ fs. Ok (record found { fields = fs })) (sym (append_assoc fields (field ∷ []) found.fields))
 behind_more fields field (Err e) = refl
 
--- where the others fail, all fail
-pub behind_fails : (fields : List Field) (e : Failure ReadFault) (o : Result SubsetRead ReadFault)
-    → Fails e o → Fails e (behind_fields fields o)
-behind_fails fields OutOfMemory o h = tt
-behind_fails fields (Fault f) o h = rw h refl
-
 -- one field more was read
 pub fields_read : (fields grown : List Field) (field : Field) (whole : Result SubsetRead ReadFault)
     (i : ℕ) (c d : Course) (front rest : List Bool) → grown ≡ fields ++ field ∷ []

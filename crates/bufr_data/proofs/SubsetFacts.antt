@@ -54,20 +54,9 @@ fails_numbered j OutOfMemory x fails = tt
 
 -- ---- subset after subset
 
--- a failure of the first of two steps is one of both
-pub fails_then : {A B F : Type 0} (failure : Failure F) (x : Result A F) (f : A → Result B F)
-    → Fails failure x → Fails failure (x >>= f)
-fails_then (Fault fault) x f fails = ap (λ y. y >>= f) fails
-fails_then OutOfMemory x f fails = tt
-
 -- one of so many is behind
 one_less : (n index : ℕ) → index < n → n - index ≡ suc (n - (index + 1))
 one_less n index h = omega arith
-
--- no subset was read yet
-pub none_before : (x : Result SubsetsRead ReadFault) → x ≡ after [] x
-none_before (Ok found) = refl
-none_before (Err e) = refl
 
 -- a subset behind those before it, and then the others
 join_after : (before : List Subset) (s : Subset) (x : Result SubsetsRead ReadFault)

@@ -171,29 +171,6 @@ subsets-push : (ss : List Subset) (s : Subset)
 subsets-push [] s = append-nil (plain s.fields)
 subsets-push (t ∷ ss) s = ap (λ xs. plain t.fields ++ xs) (subsets-push ss s) ∙ sym (append_assoc (plain t.fields) (plain_subsets ss) (plain s.fields))
 
--- the fields from the next one on
-pub fields_step : (j k : ℕ) (c d : Course) (fields : List Field) (f : Field)
-    (whole : Result ℕ WriteFault) → k < length fields → f ≡ get_or fields k f
-    → whole ≡ items_of j (k + 1) c (drop k fields)
-    → ((rest : List Field) → items_of j (k + 1) c (f ∷ rest) ≡ items_of j (k + 1 + 1) d rest)
-    → whole ≡ items_of j (k + 1 + 1) d (drop (k + 1) fields)
-fields_step j k c d fields f whole h is so_far step =
-    so_far ∙ ap (λ fs. items_of j (k + 1) c fs) (next_is fields k f h is) ∙ step (drop (k + 1) fields)
-
--- where they fail, all fail
-pub fields_fail : (j k : ℕ) (c : Course) (fields : List Field) (f : Field)
-    (whole : Result ℕ WriteFault) (e : Failure WriteFault) → k < length fields
-    → f ≡ get_or fields k f → whole ≡ items_of j (k + 1) c (drop k fields)
-    → ((rest : List Field) → Fails e (items_of j (k + 1) c (f ∷ rest))) → Fails e whole
-fields_fail j k c fields f whole e h is so_far fails =
-    rw (so_far, next_is fields k f h is) (fails (drop (k + 1) fields))
-
--- at the end no field is left
-pub fields_end : (j k n : ℕ) (c : Course) (fields : List Field) (whole : Result ℕ WriteFault)
-    → length fields ≤ k → whole ≡ items_of j (k + 1) c (drop k fields)
-    → whole ≡ items_of j (k + 1) c []
-fields_end j k n c fields whole h so_far = so_far ∙ ap (λ fs. items_of j (k + 1) c fs) (drop_all k fields h)
-
 -- the bits that were put with those of one more field
 pub bits_step : (k : ℕ) (fields : List Field) (f : Field) (old mid new : List Bool)
     → k < length fields → f ≡ get_or fields k f → mid ≡ old ++ plain (take k fields)
@@ -229,11 +206,6 @@ none_left : (course : ℕ → Course) (j used : ℕ) → items_of_all course j u
 unfolding items_of_all
 none_left course j used = refl
 
--- before the first subset all are left
-pub subsets_none : (course : ℕ → Course) (subsets : List Subset)
-    → items_of_all course 1 0 subsets ≡ items_of_all course (0 + 1) 0 (drop 0 subsets)
-subsets_none course subsets = refl
-
 -- the subsets from the next one on
 pub subsets_step : (course : ℕ → Course) (k used n : ℕ) (subsets : List Subset) (s : Subset)
     (whole : Result ℕ WriteFault) → k < length subsets → s ≡ get_or subsets k s
@@ -268,16 +240,6 @@ pub subset_bits_step : (k : ℕ) (subsets : List Subset) (s : Subset) (old mid n
 subset_bits_step k subsets s old mid new h is so_far put =
     put ∙ ap (λ xs. xs ++ plain s.fields) so_far ∙ append_assoc old (plain_subsets (take k subsets)) (plain s.fields)
     ∙ ap (λ xs. old ++ xs) (sym (subsets-push (take k subsets) s)) ∙ ap (λ ss. old ++ plain_subsets ss) (sym (front_is subsets k s h is))
-
--- at the end they are those of all
-pub subset_bits_end : (k : ℕ) (subsets : List Subset) (old new : List Bool) → length subsets ≤ k
-    → new ≡ old ++ plain_subsets (take k subsets) → new ≡ old ++ plain_subsets subsets
-subset_bits_end k subsets old new h so_far = so_far ∙ ap (λ ss. old ++ plain_subsets ss) (take_all k subsets h)
-
--- bits that were put stay at the front
-pub extends_more : (old mid new : List Bool) (added : List Bool) → mid ≡ old ++ added
-    → (more : List Bool) × (new ≡ mid ++ more) → (all : List Bool) × (new ≡ old ++ all)
-extends_more old mid new added e m = (added ++ m.0, m.1 ∙ ap (λ xs. xs ++ m.0) e ∙ append_assoc old added m.0)
 
 -- ---- fields that were counted have their forms
 

@@ -95,11 +95,6 @@ asks_count (asks met b s more) d spec w g =
       | inr h ↦ absurd (let e = h.1.0 in cc)
     ]
 
--- a walk that told a count waits for its number
-pub count_asked : (old mid : Walk) (d : ℕ) (spec : Spec)
-    → Goes (left old) (Ok (steps.Count d spec)) mid → waits mid ≡ true
-count_asked old mid d spec g = (asks_count (left old) d spec mid g).asked
-
 -- a walk that tells the end: its course ends
 pub ends_there : (c : Course) (w : Walk) → Goes c (Ok steps.End) w → c ≡ ends (items_met w)
 ends_there (ends n) w g = ap ends (sym g.3)
