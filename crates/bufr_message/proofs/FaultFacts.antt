@@ -1,42 +1,28 @@
 -- Octets are refused for the first cause in the order of the sections, the descriptors and the
 -- data: for the laws on refusals of octets.
 use Rattle.std.proofs.Common.{◌≡◌, ℕ, ◌/◌, Bool, true, false, cond, List, length, Result, Ok, Err, refl, ap, subst, ◌∙◌, inl, inr}
-use Rattle.std.proofs.lemmas.Bool.{both_ways}
+use Rattle.std.proofs.lemmas.Bool.{not-true}
+use Rattle.std.proofs.lemmas.Bool.Decides.{not_from_Decides, Decides-not}
 use Rattle.bufr_bits.specs.Bits.{bits}
 use Rattle.bufr_tables.specs.Answers.{◌>>=◌}
 use Rattle.bufr_tables.specs.Entries.{Entries}
-use Rattle.bufr_expand.specs.declared.node.TemplateFault.{TemplateFault}
 use Rattle.bufr_expand.specs.Templates.{template}
 use Rattle.bufr_expand.specs.Flat.{IsTreeOf}
 use Rattle.bufr_expand.specs.Trees.{Tree}
-use Rattle.bufr_data.specs.declared.fault.ReadFault.{ReadFault}
 use Rattle.bufr_data.specs.Data.{subsets_in}
 use Rattle.bufr_sections.specs.declared.message.Decoded.{Decoded}
 use Rattle.bufr_sections.specs.declared.fault.Refused.{Refused}
 use Rattle.bufr_sections.specs.declared.fault.Refused.TheVariants.{Template, Data}
 use Rattle.bufr_sections.specs.Sections.{Envelope, AreOctets, envelope_of}
-use Rattle.bufr_message.specs.Messages.{template_or, data_or, message_with, CanBeAlone, can_be_alone, ended, message_in, message_of}
+use Rattle.bufr_message.specs.Messages.{template_or, data_or, message_with, can_be_alone, ended, message_in, message_of}
 use Rattle.bufr_data.specs.declared.fault.ReadFault.TheVariants.{TooLarge}
 use Rattle.bufr_sections.specs.Causes.{IsFirstRefusal, HasSections, is_of_sections}
 use Rattle.bufr_message.specs.Refusals.{IsFirstFault}
 use Rattle.bufr_message.specs.Below.{Below}
 use Rattle.bufr_tables.specs.AnswerLaws.{bind_err}
-use Rattle.bufr_message.proofs.MessageFacts.{template_takes, data_takes}
-use Rattle.bufr_message.proofs.CanBeAlone.{alone_passes, alone_fails}
-
--- ---- what refuses in each step
-
--- descriptors that have no tree are refused for their fault
-template_refuses : (x : Result Tree TemplateFault) (fault : Refused) → template_or x ≡ Err fault
-    → (why : TemplateFault) × (x ≡ Err why) × (Template why ≡ fault)
-template_refuses (Ok tree) fault e = absurd cc
-template_refuses (Err why) fault e = (why, refl, cc)
-
--- data that are refused are so for their fault
-data_refuses : {A : Type 0} (x : Result A ReadFault) (fault : Refused) → data_or x ≡ Err fault
-    → (why : ReadFault) × (x ≡ Err why) × (Data why ≡ fault)
-data_refuses (Ok found) fault e = absurd cc
-data_refuses (Err why) fault e = (why, refl, cc)
+use Rattle.bufr_message.proofs.MessageFacts.{template_passes, data_passes}
+use Rattle.bufr_message.proofs.StepFacts.{step_takes, step_refuses}
+use Rattle.bufr_message.proofs.CanBeAlone.{alone_is_tested}
 
 -- ---- octets that are refused
 
@@ -64,15 +50,15 @@ data_fault : Below
     → IsFirstFault tables octets fault
 data_fault below tables octets fault e tree has built refused = elim (bind_err (data_or (subsets_in tree e.compressed e.count (bits e.contents))) (ended e) fault refused) [
   | inl not_so ↦
-      let d = data_refuses (subsets_in tree e.compressed e.count (bits e.contents)) fault not_so in
+      let d = step_refuses data_passes (subsets_in tree e.compressed e.count (bits e.contents)) fault not_so in
       let first = (below.unread tree e.compressed e.count (bits e.contents) d.0).0 d.1 in
       subst (IsFirstFault tables octets) d.2 (e, tree, has, built, inl first)
   | inr found ↦
       let told : Decoded = record { message = message_with e found.0.0; slack_octets = length found.0.1 / 8 } in
       let test = not_passed (can_be_alone e.descriptors found.0.0) told (Data TooLarge) fault found.2 in
-      let read = data_takes (subsets_in tree e.compressed e.count (bits e.contents)) found.0 found.1 in
+      let read = step_takes data_passes (subsets_in tree e.compressed e.count (bits e.contents)) found.0 found.1 in
       let begins = (below.reads tree e.compressed e.count (bits e.contents) found.0).0 read in
-      let none = λ (all : CanBeAlone e.descriptors found.0.0). both_ways (can_be_alone e.descriptors found.0.0) test.0 (alone_passes e.descriptors found.0.0 all) in
+      let none = not_from_Decides _ (alone_is_tested e.descriptors found.0.0) test.0 in
       subst (IsFirstFault tables octets) test.1 (e, tree, has, built, inr (refl, found.0, begins, none))
 ]
 
@@ -82,10 +68,10 @@ tree_fault : Below → (tables : Entries) (octets : List ℕ) (fault : Refused) 
     → IsFirstFault tables octets fault
 tree_fault below tables octets fault e has refused = elim (bind_err (template_or (template tables e.descriptors)) (read e) fault refused) [
   | inl not_so ↦
-      let t = template_refuses (template tables e.descriptors) fault not_so in
+      let t = step_refuses template_passes (template tables e.descriptors) fault not_so in
       subst (IsFirstFault tables octets) t.2 (e, has, (below.refuses tables e.descriptors t.0).0 t.1)
   | inr tree ↦
-      let built = (below.builds tables e.descriptors tree.0).0 (template_takes (template tables e.descriptors) tree.0 tree.1) in
+      let built = (below.builds tables e.descriptors tree.0).0 (step_takes template_passes (template tables e.descriptors) tree.0 tree.1) in
       data_fault below tables octets fault e tree.0 has built tree.2
 ]
 
@@ -128,5 +114,6 @@ refused_when_fault below tables octets (Data why) (e, tree, has, built, inl none
 refused_when_fault below tables octets (Data why) (e, tree, has, built, inr (same, begun, begins, none)) =
     let found = (below.builds tables e.descriptors tree).1 built in
     let read = (below.reads tree e.compressed e.count (bits e.contents) begun).1 begins in
-    rw (said below octets e has, found, read, alone_fails e.descriptors begun.0 none, same) refl
+    let fails = not-true _ ((Decides-not _ (alone_is_tested e.descriptors begun.0)).1 none) in
+    rw (said below octets e has, found, read, fails, same) refl
 refused_when_fault below tables octets fault first = sections_answered below tables octets fault first

@@ -1,12 +1,25 @@
 -- How long the octets of a message are, of its parts: for the law that the reports of a message
 -- have canonical messages.
-use Rattle.std.proofs.Common.{◌≡◌, ℕ, ◌+◌, ◌*◌, ◌≤◌, Option, None, List, [], ◌∷◌, ◌++◌, length, codes, refl, ap, arith}
+use Rattle.std.proofs.Common.{◌≡◌, ℕ, ◌+◌, ◌*◌, ◌≤◌, Bool, Option, None, List, [], ◌∷◌, ◌++◌, length}
+use Rattle.std.proofs.Common.{codes, refl, ap, arith}
 use Rattle.std.specs.List.{flat_map}
 use Rattle.std.specs.Int.{bytes_high_first}
 use Rattle.std.proofs.lemmas.List.{length-append}
+use Rattle.bufr_bits.specs.Bits.{bits}
+use Rattle.bufr_bits.specs.OctetLaws.{length-bits}
 use Rattle.bufr_sections.specs.declared.layout.Layout.{Layout}
 use Rattle.bufr_sections.specs.declared.layout.Layout.TheVariants.{Edition4}
-use Rattle.bufr_sections.specs.Sections.{Envelope, Ignored, spelling, sections, enclosed, is_present, nothing_ignored, section1, section2, section3, section4}
+use Rattle.bufr_sections.specs.Sections.{Envelope, Ignored, spelling, sections, enclosed, is_present}
+use Rattle.bufr_sections.specs.Sections.{nothing_ignored, section1, section2, section3, section4}
+use Rattle.bufr_sections.specs.SectionLaws.{BareSpellingsAreShortest}
+
+-- octets that begin with data bits have eight bits each
+pub contents_hold : (data_bits rest : List Bool) (contents : List ℕ)
+    → bits contents ≡ data_bits ++ rest
+    → 8 * length contents ≡ length data_bits + length rest
+contents_hold data_bits rest contents begins =
+    let size = ap length begins in
+    omega (arith, length-append data_bits rest, length-bits contents)
 
 -- two octets a descriptor
 pairs : (ds : List ℕ) → length (flat_map (bytes_high_first 2) ds) ≡ 2 * length ds
@@ -46,16 +59,10 @@ bare_long e no_local no_section2 =
     omega arith
 
 -- no message of edition 4 with these descriptors and these octets in section 4 is shorter
-pub spelling_long : (e : Envelope) (i : Ignored)
+pub spelling_long : BareSpellingsAreShortest → (e : Envelope) (i : Ignored)
     → 45 + 2 * length e.descriptors + length e.contents ≤ length (spelling Edition4 e i)
-unfolding spelling sections
-spelling_long e i =
-    let one = section1 Edition4 e.head (is_present e.section2) i in
-    let two = section2 e.section2 i.octet2 in
-    let three = section3 e i in
-    let four = section4 e.contents i.octet4 in
-    let parts = four_parts one two three four in
-    let list = pairs e.descriptors in
-    let third = length-append (flat_map (bytes_high_first 2) e.descriptors) i.odd in
-    let whole = enclosed_long Edition4 (one ++ two ++ three ++ four) in
+spelling_long law e i =
+    let least : Envelope = record e { head = record e.head { local = [] }; section2 = None } in
+    let size = bare_long least refl refl in
+    let no_longer = law e least i (omega arith) (omega arith) (omega arith) (omega arith) in
     omega arith

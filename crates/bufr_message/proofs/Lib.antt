@@ -1,6 +1,7 @@
 -- The lemmas behind the contracts and laws of this crate: messages read, written and refused,
 -- reports.
 pub mod OnLiterals
+pub mod StepFacts
 pub mod LengthFacts
 pub mod CanBeAlone
 pub mod AloneBits

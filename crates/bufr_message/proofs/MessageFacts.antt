@@ -6,12 +6,10 @@ use Rattle.std.proofs.Common.{◌≡◌, ℕ, ◌/◌, Bool, true, List, length,
 use Rattle.std.specs.Prelude.{IfOk}
 use Rattle.bufr_bits.specs.Bits.{bits}
 use Rattle.bufr_tables.specs.Entries.{Entries}
-use Rattle.bufr_expand.specs.declared.node.TemplateFault.{TemplateFault}
 use Rattle.bufr_expand.specs.Templates.{template}
 use Rattle.bufr_expand.specs.Flat.{IsTreeOf}
 use Rattle.bufr_expand.specs.Trees.{Tree}
 use Rattle.bufr_data.specs.declared.field.Subset.{Subset}
-use Rattle.bufr_data.specs.declared.fault.ReadFault.{ReadFault}
 use Rattle.bufr_data.specs.Data.{subsets_in}
 use Rattle.bufr_sections.specs.declared.message.Message.{Message}
 use Rattle.bufr_sections.specs.declared.layout.Layout.{Layout}
@@ -20,11 +18,12 @@ use Rattle.bufr_sections.specs.declared.fault.Refused.{Refused}
 use Rattle.bufr_sections.specs.Sections.{Envelope, Ignored, AreOctets, EnvelopeFits, spelling, envelope_of}
 use Rattle.bufr_message.specs.Messages.{envelope_with, Spells, template_or, data_or, message_with, CanBeAlone, can_be_alone, message_in, message_of}
 use Rattle.bufr_message.specs.Laws.{MessagesReadAreSpelt, MessagesSpeltAreRead}
-use Rattle.bufr_tables.specs.AnswerLaws.{bind_ok, passed_ok, ok_is}
-use Rattle.bufr_sections.specs.declared.fault.Refused.TheVariants.{Data}
+use Rattle.bufr_tables.specs.AnswerLaws.{bind_ok, passed_ok}
+use Rattle.bufr_sections.specs.declared.fault.Refused.TheVariants.{Template, Data}
 use Rattle.bufr_data.specs.declared.fault.ReadFault.TheVariants.{TooLarge}
 use Rattle.bufr_message.specs.Below.{Below}
-use Rattle.bufr_message.proofs.CanBeAlone.{alone_passes, alone_takes}
+use Rattle.bufr_message.proofs.CanBeAlone.{alone_is_tested}
+use Rattle.bufr_message.proofs.StepFacts.{PassesOn, step_takes}
 
 -- ---- what is spelt is read
 
@@ -48,22 +47,19 @@ message_of_spelt below tables octets m slack s =
     let said : envelope_of octets ≡ Ok e = ap envelope_of s.spelled ∙ below.says s.layout e s.ignored s.fits in
     let built = (below.builds tables m.descriptors s.tree).1 s.template in
     let found = (below.reads s.tree m.compressed (length m.subsets) (bits s.contents) (m.subsets, s.rest)).1 (s.data_bits, s.holds, refl, s.begins) in
-    let alone = alone_passes m.descriptors m.subsets s.alone in
+    let alone = (alone_is_tested m.descriptors m.subsets).1 s.alone in
     rw said (in_turn tables e s.tree (m.subsets, s.rest) built found alone)
     ∙ ap (λ n. Ok (record { message = m; slack_octets = n })) (sym s.after)
 
 -- ---- what is read is spelt
 
--- a tree that is answered is that of the descriptors, and data those that are held
-pub template_takes : (x : Result Tree TemplateFault) (tree : Tree) → template_or x ≡ Ok tree
-    → x ≡ Ok tree
-template_takes (Ok found) tree e = ap (λ (t : Tree). Ok t) (ok_is _ _ e)
-template_takes (Err fault) tree e = absurd cc
+-- a tree is passed on, and the fault of descriptors becomes a refusal
+pub template_passes : PassesOn template_or Template
+template_passes = record { value = λ tree. refl; fault = λ why. refl }
 
--- data that are answered are those that were found
-pub data_takes : {A : Type 0} (x : Result A ReadFault) (f : A) → data_or x ≡ Ok f → x ≡ Ok f
-data_takes (Ok found) f e = ap (λ g. Ok g) (ok_is _ _ e)
-data_takes (Err fault) f e = absurd cc
+-- data are passed on, and so is their fault
+pub data_passes : {A : Type 0} → PassesOn {A = A} data_or Data
+data_passes = record { value = λ found. refl; fault = λ why. refl }
 
 -- what is read spells its message
 spells_read : Below
@@ -99,13 +95,13 @@ unfolding message_of message_in
 message_of_takes below tables octets d all ok =
     let e = bind_ok (envelope_of octets) (message_in tables) d ok in
     let tree = bind_ok (template_or (template tables e.0.descriptors)) _ d e.2 in
-    let has = (below.builds tables e.0.descriptors tree.0).0 (template_takes (template tables e.0.descriptors) tree.0 tree.1) in
+    let has = (below.builds tables e.0.descriptors tree.0).0 (step_takes template_passes (template tables e.0.descriptors) tree.0 tree.1) in
     let found = bind_ok (data_or (subsets_in tree.0 e.0.compressed e.0.count (bits e.0.contents))) _ d tree.2 in
-    let read = data_takes (subsets_in tree.0 e.0.compressed e.0.count (bits e.0.contents)) found.0 found.1 in
+    let read = step_takes data_passes (subsets_in tree.0 e.0.compressed e.0.count (bits e.0.contents)) found.0 found.1 in
     let said = below.takes octets e.0 all e.1 in
     let told : Decoded = record { message = message_with e.0 found.0.0; slack_octets = length found.0.1 / 8 } in
     let done = passed_ok (can_be_alone e.0.descriptors found.0.0) told (Data TooLarge) d found.2 in
-    let alone = alone_takes e.0.descriptors found.0.0 done.0 in
+    let alone = (alone_is_tested e.0.descriptors found.0.0).0 done.0 in
     subst (λ (d : Decoded). Spells tables d.message octets d.slack_octets) done.1
     (spells_read below tables octets said.0 e.0 said.1 tree.0 found.0 said.2 said.3 has read alone)
 

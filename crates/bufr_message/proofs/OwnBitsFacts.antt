@@ -1,9 +1,9 @@
 -- A canonical message is what the report's own fields spell: for the law on canonical messages and
 -- `canonical_of_read`.
-use Rattle.std.proofs.Common.{◌≡◌, ℕ, ◌^◌, Bool, true, List, [], ◌∷◌, Some, refl, sym, ap, ◌∙◌}
-use Rattle.std.specs.Prelude.{◌&&◌, nat_lt, nat_le}
+use Rattle.std.proofs.Common.{◌≡◌, ℕ, ◌^◌, true, List, [], ◌∷◌, Some, refl, sym, ap, ◌∙◌}
+use Rattle.std.specs.Prelude.{nat_lt, nat_le}
 use Rattle.std.specs.List.{AllByRecursion}
-use Rattle.std.proofs.lemmas.Bool.{le-leb, lt-ltb}
+use Rattle.std.proofs.lemmas.Bool.{and_from, le-leb, lt-ltb}
 use Rattle.std.proofs.lemmas.List.{append-nil}
 use Rattle.bufr_tables.specs.Entries.{Entries}
 use Rattle.bufr_expand.specs.declared.operators.Spec.{Spec}
@@ -17,23 +17,21 @@ use Rattle.bufr_message.specs.Below.{Below}
 use Rattle.bufr_message.specs.Encodings.{data_bits_or, enclosed_or, code}
 use Rattle.bufr_message.specs.Reports.{alone, if_written, IsCanonical}
 use Rattle.bufr_message.specs.OwnBits.{has_room, have_room, spelt_alone}
-use Rattle.bufr_message.proofs.UnwrittenFacts.{bits_found, bare_is_written}
-
--- two tests that are both passed
-both_true : (a b : Bool) → a ≡ true → b ≡ true → (a && b) ≡ true
-both_true a b one two = rw (one, two) refl
+use Rattle.bufr_message.proofs.WrittenFacts.{bits_found}
+use Rattle.bufr_message.proofs.UnwrittenFacts.{bare_is_written}
 
 -- a raw value of a spec's form has room in its bits
 room_of : (spec : Spec) (raw : Raw) → HasForm spec raw → has_room spec.width raw ≡ true
 room_of spec raw (of_text octets kind long small) = refl
 room_of spec raw (of_number n other few below) =
-    both_true (nat_le spec.width 64) (nat_lt n (2 ^ spec.width)) (le-leb _ _ few) (lt-ltb _ _ below)
+    and_from (nat_le spec.width 64) (nat_lt n (2 ^ spec.width)) (le-leb _ _ few) (lt-ltb _ _ below)
 
 -- so have all of them
 rooms_of : (fields : List Field) → AllByRecursion (λ f. HasForm f.spec f.raw) fields
     → have_room fields ≡ true
 rooms_of [] forms = refl
-rooms_of (f ∷ fs) (form, forms) = both_true _ (have_room fs) (room_of f.spec f.raw form) (rooms_of fs forms)
+rooms_of (f ∷ fs) (form, forms) =
+    and_from _ (have_room fs) (room_of f.spec f.raw form) (rooms_of fs forms)
 
 -- a canonical message is what the report's own fields spell
 pub canonical_is_own : Below → (tables : Entries) (r : Report) (octets : List ℕ)

@@ -1,7 +1,7 @@
 -- The canonical message of a report tells what the report is: for the laws on canonical messages.
-use Rattle.std.proofs.Common.{◌≡◌, ℕ, ◌+◌, ◌/◌, Bool, List, [], ◌∷◌, ◌++◌, length, Ok, refl, sym, ap, ◌∙◌, arith, length-append}
+use Rattle.std.proofs.Common.{◌≡◌, ℕ, ◌+◌, ◌/◌, Bool, List, [], ◌∷◌, ◌++◌, length, get_or, Ok, refl, sym}
+use Rattle.std.proofs.Common.{ap, ◌∙◌, arith, length-append}
 use Rattle.bufr_bits.specs.Bits.{bits}
-use Rattle.bufr_bits.specs.OctetLaws.{length-bits}
 use Rattle.bufr_data.specs.Plain.{plain}
 use Rattle.bufr_sections.specs.declared.layout.Layout.{Layout}
 use Rattle.bufr_sections.specs.declared.layout.Layout.TheVariants.{Edition4}
@@ -10,8 +10,8 @@ use Rattle.bufr_tables.specs.Entries.{Entries}
 use Rattle.bufr_message.specs.declared.report.Report.{Report}
 use Rattle.bufr_message.specs.Below.{Below}
 use Rattle.bufr_message.specs.Messages.{envelope_with, octets_alone, message_of}
-use Rattle.bufr_message.specs.Reports.{reports_of, reports_read, reports_in, alone, IsCanonical}
-use Rattle.bufr_message.proofs.LengthFacts.{bare_long}
+use Rattle.bufr_message.specs.Reports.{reports_read, reports_in, alone, IsCanonical}
+use Rattle.bufr_message.proofs.LengthFacts.{contents_hold, bare_long}
 use Rattle.bufr_message.proofs.MessageFacts.{message_of_spelt}
 
 -- they are read as the report alone
@@ -21,34 +21,22 @@ pub canonical_is_read : Below → (tables : Entries) (r : Report) (octets : List
 canonical_is_read below tables r octets c =
     message_of_spelt below tables octets (alone r) 0 c.spelt.spells
 
--- whose one report it is
-pub reports_alone : (r : Report) → reports_of (alone r) ≡ r ∷ []
-reports_alone r = refl
-
 -- the reports of a canonical message
 pub one_report : Below → (tables : Entries) (r : Report) (octets : List ℕ)
     → IsCanonical tables r octets → reports_in tables octets ≡ r ∷ []
 one_report below tables r octets c = ap reports_read (canonical_is_read below tables r octets c)
 
--- the first of reports, or this one
-first_of : Report → List Report → Report
-first_of r [] = r
-first_of r (s ∷ ss) = s
-
 -- one canonical message is that of one report
 pub canonical_tells_apart : Below → (tables : Entries) (r s : Report) (octets : List ℕ)
     → IsCanonical tables r octets → IsCanonical tables s octets → r ≡ s
-unfolding first_of
 canonical_tells_apart below tables r s octets c d =
-    ap (first_of r) (sym (one_report below tables r octets c) ∙ one_report below tables s octets d)
+    ap (λ (rs : List Report). get_or rs 0 r) (sym (one_report below tables r octets c) ∙ one_report below tables s octets d)
 
 -- octets that hold bits and fewer than eight more are as many as hold them
 contents_long : (own rest : List Bool) (contents : List ℕ) → bits contents ≡ own ++ rest
     → 0 ≡ length rest / 8 → length contents ≡ (length own + 7) / 8
 contents_long own rest contents begins few =
-    let size = ap length begins in
-    let both = length-append own rest in
-    let all = length-bits contents in
+    let whole = contents_hold own rest contents begins in
     omega arith
 
 -- spellings in edition 4 with nothing in what is free

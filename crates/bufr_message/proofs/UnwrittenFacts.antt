@@ -1,19 +1,18 @@
 -- A message is refused for the first cause in the order of the descriptors, the template, the
 -- subsets and the limits, and a message that octets spell is written: for the laws on messages that
 -- are written.
-use Rattle.std.proofs.Common.{◌≡◌, ◌≢◌, ◌⊎◌, ℕ, ◌-◌, ◌/◌, ◌%◌, ◌^◌, ◌<◌, ◌≤◌, Bool, true, false, get_or, List, [], ◌∷◌, ◌++◌, length, replicate, Result, Ok, Err, refl, sym, ap, subst, ◌∙◌, arith, inl, inr, length-append}
-use Rattle.std.specs.Prelude.{◌||◌, nat_lt}
-use Rattle.std.proofs.lemmas.Bool.{cases_lt, ltb-true, lt-ltb, le-ltb}
-use Rattle.std.proofs.lemmas.List.{length-replicate, get_or_past}
+use Rattle.std.proofs.Common.{◌≡◌, ◌≢◌, ◌⊎◌, ℕ, ◌-◌, ◌/◌, ◌%◌, ◌^◌, ◌<◌, ◌≤◌, Bool, true, false, get_or, List, []}
+use Rattle.std.proofs.Common.{◌∷◌, ◌++◌, length, replicate, Result, Ok, Err, refl, sym, ap, subst, ◌∙◌, arith}
+use Rattle.std.proofs.Common.{inl, inr}
+use Rattle.std.specs.Prelude.{nat_lt}
+use Rattle.std.proofs.lemmas.Bool.{cases_lt, le-ltb}
+use Rattle.std.proofs.lemmas.List.{get_or_past}
 use Rattle.bufr_bits.specs.Bits.{bits}
-use Rattle.bufr_bits.specs.OctetLaws.{length-bits}
 use Rattle.bufr_tables.specs.Answers.{◌>>=◌}
 use Rattle.bufr_tables.specs.Entries.{Entries}
-use Rattle.bufr_expand.specs.declared.node.TemplateFault.{TemplateFault}
 use Rattle.bufr_expand.specs.Templates.{template}
 use Rattle.bufr_expand.specs.Flat.{IsTreeOf}
 use Rattle.bufr_expand.specs.Trees.{Tree}
-use Rattle.bufr_data.specs.declared.fault.WriteFault.{WriteFault}
 use Rattle.bufr_data.specs.declared.fault.WriteFault.TheVariants.{TooLarge}
 use Rattle.bufr_data.specs.Data.{IsDataOf, IsBareDataOf, written_bits}
 use Rattle.bufr_data.specs.Columns.{Column}
@@ -28,10 +27,13 @@ use Rattle.bufr_sections.specs.Spelt.{bare, most_subsets, longest, spelt_or}
 use Rattle.bufr_message.specs.Messages.{envelope_with, Spells}
 use Rattle.bufr_message.specs.Encodings.{whole_octets, some_descriptors, template_or, data_or, data_bits_or, enclosed_or, filled, SpellsBare, code}
 use Rattle.bufr_message.specs.Refusals.{IsTooLong, IsFirstEncodeFault}
-use Rattle.bufr_tables.specs.AnswerLaws.{bind_ok, bind_err, ok_is}
+use Rattle.bufr_tables.specs.AnswerLaws.{bind_err, err_is}
 use Rattle.bufr_message.specs.Below.{Below}
 use Rattle.bufr_message.proofs.EncodingFacts.{whole_octets_are}
-use Rattle.bufr_message.proofs.WrittenFacts.{fill, whole_octets_spelt, template_takes, data_takes}
+use Rattle.bufr_message.proofs.LengthFacts.{contents_hold}
+use Rattle.bufr_message.proofs.StepFacts.{step_takes, step_refuses}
+use Rattle.bufr_message.proofs.WrittenFacts.{whole_octets_long, descriptors_take, template_passes}
+use Rattle.bufr_message.proofs.WrittenFacts.{data_passes, tells_limits, HasBits, bits_found}
 
 -- ---- what refuses in each step
 
@@ -41,59 +43,24 @@ descriptors_refuse : (ds : List ℕ) (fault : EncodeFault) → some_descriptors 
 descriptors_refuse [] fault e = (refl, cc)
 descriptors_refuse (d ∷ ds) fault e = absurd cc
 
--- some descriptor is passed
-descriptors_pass : (ds list : List ℕ) → some_descriptors ds ≡ Ok list → (ds ≢ []) × (list ≡ ds)
-descriptors_pass [] list e = absurd cc
-descriptors_pass (d ∷ ds) list e = (λ none. absurd cc, sym (ok_is _ _ e))
-
--- and handed on
+-- some descriptor is handed on
 descriptors_are : (ds : List ℕ) → ds ≢ [] → some_descriptors ds ≡ Ok ds
 descriptors_are [] some = absurd (some refl)
 descriptors_are (d ∷ ds) some = refl
-
--- descriptors that have no tree are refused for their fault
-template_refuses : (x : Result Tree TemplateFault) (fault : EncodeFault) → template_or x ≡ Err fault
-    → (why : TemplateFault) × (x ≡ Err why) × (Template why ≡ fault)
-template_refuses (Ok tree) fault e = absurd cc
-template_refuses (Err why) fault e = (why, refl, cc)
-
--- subsets that have no data are refused for their fault
-data_refuses : {A : Type 0} (x : Result A WriteFault) (fault : EncodeFault) → data_or x ≡ Err fault
-    → (why : WriteFault) × (x ≡ Err why) × (Data why ≡ fault)
-data_refuses (Ok found) fault e = absurd cc
-data_refuses (Err why) fault e = (why, refl, cc)
 
 -- the envelope of the one encoding with these data bits
 abbrev pub told : Message → List Bool → Envelope
 told m data_bits = envelope_with m (whole_octets data_bits)
 
--- a message that fails the test is too long
-too_long_is : (m : Message) (data_bits : List Bool)
-    → (nat_lt most_subsets (length m.subsets) || nat_lt longest (length (bare (told m data_bits))))
-    ≡ true → IsTooLong m data_bits
-too_long_is m data_bits e = by_count (nat_lt most_subsets (length m.subsets)) refl
-  where
-    by_count : (t : Bool) → nat_lt most_subsets (length m.subsets) ≡ t → IsTooLong m data_bits
-    by_count true is = inl (ltb-true _ _ is)
-    by_count false is = inr (ltb-true _ _ (rw is at e))
-
--- sections are refused for their length alone
-spelt_refuses : (e : Envelope) (why : WriteFault) → spelt_or e ≡ Err why
-    → ((nat_lt most_subsets e.count || nat_lt longest (length (bare e))) ≡ true) × (TooLarge ≡ why)
-unfolding spelt_or
-spelt_refuses e why refused = by_test (nat_lt most_subsets e.count || nat_lt longest (length (bare e))) refl
-  where
-    by_test : (b : Bool) → (nat_lt most_subsets e.count || nat_lt longest (length (bare e))) ≡ b → ((nat_lt most_subsets e.count || nat_lt longest (length (bare e))) ≡ true) × (TooLarge ≡ why)
-    by_test true is = (is, let b = rw is at refused in cc)
-    by_test false is = absurd (let b = rw is at refused in cc)
-
--- and so is a message
+-- a message with data bits is refused for its length alone
 limits_refuse : (m : Message) (data_bits : List Bool) (fault : EncodeFault)
     → enclosed_or m data_bits ≡ Err fault → IsTooLong m data_bits × (Data TooLarge ≡ fault)
 limits_refuse m data_bits fault refused =
-    let d = data_refuses (spelt_or (told m data_bits)) fault refused in
-    let large = spelt_refuses (told m data_bits) d.0 d.1 in
-    (too_long_is m data_bits large.0, ap (λ w. Data w) large.1 ∙ d.2)
+    let d = step_refuses data_passes (spelt_or (told m data_bits)) fault refused in
+    elim (tells_limits (told m data_bits)) [
+      | inl within ↦ absurd (let no = sym d.1 ∙ within.2 in cc)
+      | inr past ↦ (past.0, ap (λ why. Data why) (err_is _ _ (sym past.1 ∙ d.1)) ∙ d.2)
+    ]
 
 -- ---- messages that are refused
 
@@ -110,11 +77,11 @@ tree_fault : Below → (tables : Entries) (m : Message) (fault : EncodeFault) �
     → templated tables m m.descriptors ≡ Err fault → IsFirstEncodeFault tables m fault
 tree_fault below tables m fault some refused = elim (bind_err (template_or (template tables m.descriptors)) (held m) fault refused) [
   | inl not_so ↦
-      let t = template_refuses (template tables m.descriptors) fault not_so in
+      let t = step_refuses template_passes (template tables m.descriptors) fault not_so in
       subst (IsFirstEncodeFault tables m) t.2 (some, (below.refuses tables m.descriptors t.0).0 t.1)
   | inr tree ↦
-      let d = data_refuses (written_bits tree.0 m.compressed m.subsets) fault tree.2 in
-      let has = (below.builds tables m.descriptors tree.0).0 (template_takes (template tables m.descriptors) tree.0 tree.1) in
+      let d = step_refuses data_passes (written_bits tree.0 m.compressed m.subsets) fault tree.2 in
+      let has = (below.builds tables m.descriptors tree.0).0 (step_takes template_passes (template tables m.descriptors) tree.0 tree.1) in
       let first = (below.unwritten tree.0 m.compressed m.subsets d.0).0 d.1 in
       subst (IsFirstEncodeFault tables m) d.2 (tree.0, some, has, inl first)
 ]
@@ -126,29 +93,10 @@ unfolding data_bits_or
 bits_fault below tables m fault refused = elim (bind_err (some_descriptors m.descriptors) (templated tables m) fault refused) [
   | inl not_so ↦ let d = descriptors_refuse m.descriptors fault not_so in subst (IsFirstEncodeFault tables m) d.1 d.0
   | inr list ↦
-      let d = descriptors_pass m.descriptors list.0 list.1 in
-      tree_fault below tables m fault d.0 (subst (λ (ds : List ℕ). templated tables m ds ≡ Err fault) d.1 list.2)
+      let d = descriptors_take m.descriptors list.0 list.1 in
+      tree_fault below tables m fault d.0
+          (subst (λ (ds : List ℕ). templated tables m ds ≡ Err fault) (sym d.1) list.2)
 ]
-
--- what was found of a message whose data bits these are
-abbrev pub HasBits : Entries → Message → List Bool → Type 0
-HasBits tables m data_bits = (tree : Tree) × (m.descriptors ≢ []) × IsTreeOf tables m.descriptors tree × IsBareDataOf tree m.compressed m.subsets data_bits
-
--- data bits that are found are those of the message
-pub bits_found : Below → (tables : Entries) (m : Message) (data_bits : List Bool)
-    → data_bits_or tables m ≡ Ok data_bits → HasBits tables m data_bits
-unfolding data_bits_or
-bits_found below tables m data_bits found =
-    let list = bind_ok (some_descriptors m.descriptors) (templated tables m) data_bits found in
-    let d = descriptors_pass m.descriptors list.0 list.1 in
-    let tree = bind_ok (template_or (template tables list.0)) (held m) data_bits list.2 in
-    let has = (below.builds tables list.0 tree.0).0 (template_takes (template tables list.0) tree.0 tree.1) in
-    let written = data_takes (written_bits tree.0 m.compressed m.subsets) data_bits tree.2 in (
-      tree.0,
-      d.0,
-      subst (λ (ds : List ℕ). IsTreeOf tables ds tree.0) d.1 has,
-      (below.writes tree.0 m.compressed m.subsets data_bits).0 written,
-    )
 
 -- a message that has no octets is refused for its first fault
 pub fault_when_unwritten : Below → (tables : Entries) (m : Message) (fault : EncodeFault)
@@ -176,13 +124,10 @@ bits_are below tables m data_bits (tree, some, has, held_bare) =
 -- a message that is too long is refused
 too_long_refuses : (m : Message) (data_bits : List Bool) → IsTooLong m data_bits
     → enclosed_or m data_bits ≡ Err (Data TooLarge)
-unfolding spelt_or
-too_long_refuses m data_bits (inl many) = let t : nat_lt most_subsets (length m.subsets) ≡ true = lt-ltb _ _ many in rw t refl
-too_long_refuses m data_bits (inr long) = by_count (nat_lt most_subsets (length m.subsets)) refl
-  where
-    by_count : (t : Bool) → nat_lt most_subsets (length m.subsets) ≡ t → enclosed_or m data_bits ≡ Err (Data TooLarge)
-    by_count true is = rw is refl
-    by_count false is = let t : nat_lt longest (length (bare (told m data_bits))) ≡ true = lt-ltb _ _ long in rw (is, t) refl
+too_long_refuses m data_bits long = elim (tells_limits (told m data_bits)) [
+  | inl within ↦ absurd (omega (arith, long, within.0, within.1))
+  | inr past ↦ ap data_or past.1
+]
 
 -- the first fault of a message is answered
 pub unwritten_when_fault : Below → (tables : Entries) (m : Message) (fault : EncodeFault)
@@ -203,14 +148,13 @@ unwritten_when_fault below tables m (Data why) (tree, some, has, inr (same, data
 bits_are_short : (data_bits rest : List Bool) (contents : List ℕ)
     → bits contents ≡ data_bits ++ rest → length (whole_octets data_bits) ≤ length contents
 bits_are_short data_bits rest contents begins =
-    let whole = ap length (whole_octets_spelt data_bits).0 in
-    let filled = length-append data_bits (replicate (fill data_bits) false) in
-    let added = length-replicate (fill data_bits) false in
-    let all = ap length begins in
-    let both = length-append data_bits rest in
-    let one = length-bits (whole_octets data_bits) in
-    let two = length-bits contents in
+    let whole = whole_octets_long data_bits in
+    let all = contents_hold data_bits rest contents begins in
     omega arith
+
+-- descriptors of which there is one are some
+pub some_are : (ds : List ℕ) → 0 < length ds → ds ≢ []
+some_are ds one = λ none. let size = ap length none in absurd (omega arith)
 
 -- a message that octets spell is written with the data that leave no choice, where these are no
 -- longer than those in the octets
@@ -221,7 +165,7 @@ spelt_has_code : Below
     → code tables m ≡ Ok (bare (told m s.data_bits))
 unfolding code spelt_or
 spelt_has_code below tables m octets slack s four nothing_free =
-    let some : m.descriptors ≢ [] = λ none. let size = ap length none in let one = s.fits.some_descriptor in absurd (omega arith) in
+    let some = some_are m.descriptors s.fits.some_descriptor in
     let data_bits = bits_are below tables m s.data_bits (s.tree, some, s.template, nothing_free) in
     let contents = bits_are_short s.data_bits s.rest s.contents s.begins in
     let no_longer = below.shortest (envelope_with m s.contents) (told m s.data_bits) s.ignored (omega arith) (omega arith) (omega arith) contents in
@@ -242,15 +186,6 @@ plain_is_written below tables m octets slack s four plain =
     let no_choice = subst (λ (c : Bool). IsBareDataOf s.tree c m.subsets s.data_bits) (sym plain) held_bare in
     (bare (told m s.data_bits), spelt_has_code below tables m octets slack s four no_choice)
 
--- what is answered for sections: their octets, or that there are too many
-spelt_or_large : (e : Envelope) → (spelt_or e ≡ Ok (bare e)) ⊎ (spelt_or e ≡ Err TooLarge)
-unfolding spelt_or
-spelt_or_large e = by_test (nat_lt most_subsets e.count || nat_lt longest (length (bare e))) refl
-  where
-    by_test : (b : Bool) → (nat_lt most_subsets e.count || nat_lt longest (length (bare e))) ≡ b → (spelt_or e ≡ Ok (bare e)) ⊎ (spelt_or e ≡ Err TooLarge)
-    by_test true is = inr (rw is refl)
-    by_test false is = inl (rw is refl)
-
 -- a compressed message that octets spell is written where its subsets can stand in columns that are
 -- written, or is too long with them
 pub packable_is_written : Below → (tables : Entries) (m : Message) (octets : List ℕ) (slack : ℕ)
@@ -262,11 +197,11 @@ packable_is_written below tables m octets slack s packed columns can =
     let here = subst (λ (c : Bool). IsDataOf s.tree c m.subsets s.data_bits) packed s.holds in
     let found = below.packable s.tree m.subsets columns s.data_bits here can in
     let held_bare = subst (λ (c : Bool). IsBareDataOf s.tree c m.subsets found.0) (sym packed) found.1 in
-    let some : m.descriptors ≢ [] = λ none. let size = ap length none in let one = s.fits.some_descriptor in absurd (omega arith) in
+    let some = some_are m.descriptors s.fits.some_descriptor in
     let data_bits = bits_are below tables m found.0 (s.tree, some, s.template, held_bare) in
-    elim (spelt_or_large (told m found.0)) [
-      | inl fits ↦ inl (bare (told m found.0), rw (data_bits, fits) refl)
-      | inr large ↦ inr (rw (data_bits, large) refl)
+    elim (tells_limits (told m found.0)) [
+      | inl within ↦ inl (bare (told m found.0), rw (data_bits, within.2) refl)
+      | inr past ↦ inr (rw (data_bits, past.1) refl)
     ]
 
 -- octets are below 256 at any place
@@ -281,9 +216,7 @@ contents_are : (data_bits rest : List Bool) (contents : List ℕ) → AreOctets 
     → bits contents ≡ data_bits ++ rest → 0 ≡ length rest / 8 → rest ≡ replicate (length rest) false
     → whole_octets data_bits ≡ contents
 contents_are data_bits rest contents all begins few zeros =
-    let long = ap length begins in
-    let both = length-append data_bits rest in
-    let size = length-bits contents in
+    let long = contents_hold data_bits rest contents begins in
     let added : length rest ≡ (8 - length data_bits % 8) % 8 = omega arith in
     let same : bits contents ≡ filled data_bits = begins ∙ ap (λ xs. data_bits ++ xs) (zeros ∙ ap (λ n. replicate n false) added) in
     whole_octets_are contents data_bits (λ i. octet_at_any contents i all) same

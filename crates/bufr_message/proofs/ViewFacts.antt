@@ -1,12 +1,13 @@
 -- Whether the subsets of a view can be said alone, for `view`; and that its reports are under the
 -- tables, for `View::report`.
-use Rattle.std.proofs.Common.{◌≡◌, ℕ, zero, suc, ◌+◌, ◌*◌, ◌<◌, ◌≤◌, Bool, true, false, List, [], ◌∷◌, length, take, Some, Result, Ok, Err, refl, sym, ap, subst, ◌∙◌, arith, length-append}
-use Rattle.std.specs.Prelude.{◌&&◌, nat_le, slice_get, IfOk, option_map}
-use Rattle.std.proofs.lemmas.List.Folds.{list_all_more}
+use Rattle.std.proofs.Common.{◌≡◌, ℕ, ◌+◌, ◌*◌, ◌<◌, ◌≤◌, Bool, true, false, List, length, take, Some}
+use Rattle.std.proofs.Common.{Result, Ok, Err, refl, sym, ap, subst, ◌∙◌, arith}
+use Rattle.std.specs.Prelude.{nat_le, slice_get, IfOk, option_map}
+use Rattle.std.proofs.lemmas.List.Elements.{All-from_recursion, All-get_or}
+use Rattle.std.proofs.lemmas.List.Folds.{list_all_at, list_all_more}
 use Rattle.std.specs.List.{AllByRecursion}
-use Rattle.std.proofs.lemmas.Option.{get_or_from_slice_get, slice_get-map}
+use Rattle.std.proofs.lemmas.Option.{get_or_from_slice_get, slice_get-map, slice_get_within}
 use Rattle.bufr_bits.specs.Bits.{bits}
-use Rattle.bufr_bits.specs.OctetLaws.{length-bits}
 use Rattle.bufr_expand.specs.Trees.{Tree}
 use Rattle.bufr_data.specs.declared.field.Subset.{Subset}
 use Rattle.bufr_data.specs.Data.{ReadsExactly}
@@ -18,7 +19,8 @@ use Rattle.bufr_message.specs.Messages.{octets_alone, can_be_alone, Spells}
 use Rattle.bufr_message.specs.Reports.{report_of, reports_of, with_parts, IsUnder, ReportsSpeltAreUnder}
 use Rattle.bufr_message.specs.Views.{StandIn}
 use Rattle.bufr_message.proofs.AloneFacts.{each_alone}
-use Rattle.bufr_message.proofs.CanBeAlone.{all_short, alone_passes}
+use Rattle.bufr_message.proofs.CanBeAlone.{all_short, alone_is_tested}
+use Rattle.bufr_message.proofs.LengthFacts.{contents_hold}
 
 -- ---- subsets that can be said alone
 
@@ -31,10 +33,9 @@ pub few_octets : ((tree : Tree) (compressed : Bool) (count : ℕ) (front : List 
 few_octets reads contents compressed descriptors subsets (tree, count, rest, is) few =
     let begins = (reads tree compressed count (bits contents) (subsets, rest)).0 is in
     let each = each_alone tree compressed subsets begins.0 begins.1 in
-    let size = ap length begins.3 in
-    let both = length-append begins.0 rest in
-    let all = length-bits contents in
-    alone_passes descriptors subsets (all_short descriptors tree (length begins.0) subsets (omega arith) each)
+    let whole = contents_hold begins.0 rest contents begins.3 in
+    (alone_is_tested descriptors subsets).1
+    (all_short descriptors tree (length begins.0) subsets (omega arith) each)
 
 -- one subset more
 pub one_more_short : (descriptors : List ℕ) (subsets : List Subset) (i : ℕ) (s : Subset)
@@ -50,15 +51,10 @@ one_more_short descriptors subsets i s below is so_far test =
 pub one_too_long : (descriptors : List ℕ) (subsets : List Subset) (i : ℕ) (s : Subset)
     → slice_get subsets i ≡ Some s → nat_le (octets_alone descriptors s) longest ≡ false
     → can_be_alone descriptors subsets ≡ false
-one_too_long descriptors [] i s is test = absurd cc
-one_too_long descriptors (x ∷ xs) zero s is test =
-    let same : x ≡ s = cc in
-    rw (same, test) refl
-one_too_long descriptors (x ∷ xs) (suc i) s is test = rw (one_too_long descriptors xs i s is test) (neither (nat_le (octets_alone descriptors x) longest))
-  where
-    neither : (b : Bool) → (b && false) ≡ false
-    neither true = refl
-    neither false = refl
+one_too_long descriptors subsets i s is test =
+    let fits = λ (x : Subset). nat_le (octets_alone descriptors x) longest in
+    list_all_at fits subsets i s (slice_get_within subsets i s is)
+    (ap fits (get_or_from_slice_get subsets i s s is) ∙ test)
 
 -- ---- reports
 
@@ -74,11 +70,10 @@ one_report m i s (Err e) is made = made
 -- one of reports that are under the tables is
 under_at : (tables : Entries) (rs : List Report) (i : ℕ) (r : Report)
     → AllByRecursion (IsUnder tables) rs → slice_get rs i ≡ Some r → IsUnder tables r
-under_at tables [] i r all is = absurd cc
-under_at tables (x ∷ xs) zero r all is =
-    let same : x ≡ r = cc in
-    subst (IsUnder tables) same all.0
-under_at tables (x ∷ xs) (suc i) r all is = under_at tables xs i r all.1 is
+under_at tables rs i r all is =
+    subst (IsUnder tables) (get_or_from_slice_get rs i r r is)
+    (All-get_or (IsUnder tables) rs i r (slice_get_within rs i r is)
+    (All-from_recursion (IsUnder tables) rs all))
 
 -- the report of a view that is answered is under the tables by which octets spell the message
 pub under_answer : {E : Type 0} (law : ReportsSpeltAreUnder) (m : Message) (i : ℕ)
