@@ -59,12 +59,7 @@ pub below_over : (limit n : ℕ) (z : ℤ) → below (2 ^ 64) z ≡ Some n → (
 below_over limit n z h above = let large : nat_lt n limit ≡ false = grind (arith, nat_tests) in
     ap (below limit) (number_is z n h) ∙ rw large refl
 
--- a word that is no decimal, and one that is
-pub word_none : (limit : ℕ) (word : List ℕ) → decimal_of (pos 0) word ≡ None
-    → number_below limit word ≡ None
-word_none limit word h = ap (λ o. option_and_then (λ (d : Decimal). below limit d.units) o) h
-
--- the number of a word, by the word's decimal
-pub word_some : (limit : ℕ) (word : List ℕ) (d : Decimal) → decimal_of (pos 0) word ≡ Some d
-    → number_below limit word ≡ below limit d.units
-word_some limit word d h = ap (λ o. option_and_then (λ (x : Decimal). below limit x.units) o) h
+-- the number of a word, by its decimal
+pub word_by : (limit : ℕ) (word : List ℕ) (o : Option Decimal) → decimal_of (pos 0) word ≡ o
+    → number_below limit word ≡ option_and_then (λ (d : Decimal). below limit d.units) o
+word_by limit word o h = ap (option_and_then (λ (d : Decimal). below limit d.units)) h

@@ -8,7 +8,7 @@ use Rattle.std.specs.Int.{w128}
 use Rattle.std.specs.Int.RustNames.{unsigned_abs}
 use Rattle.std.proofs.lemmas.Bool.{and_parts, and_from, cases_Bool, lt-ltb, ltb-true, leb-true}
 use Rattle.std.proofs.lemmas.Bool.{le-leb, eqb-true, eq-eqb}
-use Rattle.std.proofs.lemmas.Option.{same_Some}
+use Rattle.std.proofs.lemmas.Option.{none-some, same_Some}
 use Rattle.std.proofs.lemmas.Bool.Decides.{nat_tests}
 use Rattle.std.proofs.lemmas.Int.{ints}
 use Rattle.std.proofs.Math.Nat.{pow-le-pow_right}
@@ -27,7 +27,7 @@ use Rattle.bufr_listing.specs.RawWords.{may_be_missing, missing_number, unless_m
 use Rattle.bufr_listing.specs.RawWords.{number_above, number_of}
 use Rattle.bufr_listing.proofs.FieldFacts.{bytes_same, same_bytes, other_bytes, IsPrintable}
 use Rattle.bufr_listing.proofs.FieldFacts.{size_small, number_small}
-use Rattle.bufr_listing.proofs.RawFacts.{number_none, number_some}
+use Rattle.bufr_listing.proofs.RawFacts.{number_by}
 
 -- ---- numbers
 
@@ -174,9 +174,9 @@ found_by : (spec : Spec) (word : List ℕ) (n : ℕ) (o : Option Decimal) → sp
     → nat_lt 64 spec.width ≡ false → is_missing_word word ≡ false → decimal_of spec.scale word ≡ o
     → IfSome o (λ d. IsRead spec.scale word d) → number_of spec word ≡ Some n → NumberIs spec word n
 found_by spec word n None small few other is read h =
-    absurd (cc (sym (number_none spec word few other is) ∙ h))
+    absurd (none-some n (sym (number_by spec word None few other is) ∙ h))
 found_by spec word n (Some d) small few other is read h =
-    value_is spec word n d small read (sym (number_some spec word d few other is) ∙ h)
+    value_is spec word n d small read (sym (number_by spec word (Some d) few other is) ∙ h)
 
 -- the number of a missing value
 missing_number_of : (spec : Spec) (word : List ℕ) → nat_lt 64 spec.width ≡ false
@@ -252,7 +252,7 @@ back_by false spec n word fit bits is e =
     (n + 1 == 2 ^ spec.width) (not (spec.width == 1)) (not (same_kind spec.kind kinds.Count)) bits
     is in
     let is_own : unless_missing spec n ≡ Some n = rw (over, not_ones) refl in
-    number_some spec word (record { units = pos n +ℤ spec.reference; scale = spec.scale }) few
+    number_by spec word (Some (record { units = pos n +ℤ spec.reference; scale = spec.scale })) few
     other d
     ∙ ap (number_above spec) (+ℤ-neg_ℤ_cancel (pos n) spec.reference)
     ∙ is_own

@@ -17,16 +17,12 @@ use Rattle.bufr_listing.specs.RawWords.{unless_missing, number_above, number_of,
 use Rattle.bufr_listing.specs.RawWords.{then_octets, octets_before}
 use Rattle.bufr_listing.proofs.WordFacts.{behind, behind_end}
 
--- a word of no decimal has no number
-pub number_none : (spec : Spec) (word : List ℕ) → nat_lt 64 spec.width ≡ false
-    → is_missing_word word ≡ false → decimal_of spec.scale word ≡ None → number_of spec word ≡ None
-number_none spec word small other h = rw (small, other, h) refl
-
--- a word of a decimal has the number above the reference
-pub number_some : (spec : Spec) (word : List ℕ) (d : Decimal) → nat_lt 64 spec.width ≡ false
-    → is_missing_word word ≡ false → decimal_of spec.scale word ≡ Some d
-    → number_of spec word ≡ number_above spec (d.units -ℤ spec.reference)
-number_some spec word d small other h = rw (small, other, h) refl
+-- a word that does not say `missing` has the number above the reference, by its decimal
+pub number_by : (spec : Spec) (word : List ℕ) (o : Option Decimal) → nat_lt 64 spec.width ≡ false
+    → is_missing_word word ≡ false → decimal_of spec.scale word ≡ o
+    → number_of spec word
+    ≡ option_and_then (λ (d : Decimal). number_above spec (d.units -ℤ spec.reference)) o
+number_by spec word o small other h = rw (small, other, h) refl
 
 -- a number of more than 64 bits is above each width
 pub above_none : (spec : Spec) (z : ℤ) → spec.width ≤ 64 → below (2 ^ 64) z ≡ None

@@ -45,6 +45,20 @@ use Rattle.bufr_listing.proofs.RefusedLines.{Decides, unfit_read, word_decides, 
 use Rattle.bufr_listing.proofs.RefusedLines.{absent_read, titled_read, titled_refused}
 use Rattle.bufr_listing.proofs.RefusedLines.{none_before, line_passed}
 
+-- ---- what is refused
+
+-- a line that could not stand at a place of section 1 is the fault of section 1
+abbrev RefusedInHead : Place → Type 0
+RefusedInHead place = (past : ℕ) (own rest : List Line) (fault : ListingFault)
+    → AreBefore place (texts own) → Unfit (CouldStand place) (IsOfKindAt place) past rest fault
+    → head_read past (own ++ rest) ≡ Err fault
+
+-- one that could not stand at a place of a heading is that of the message
+abbrev pub RefusedAt : Entries → Place → Type 0
+RefusedAt tables place = (past : ℕ) (own rest : List Line) (fault : ListingFault)
+    → AreBefore place (texts own) → Unfit (CouldStand place) (IsOfKindAt place) past rest fault
+    → message_read tables past (own ++ rest) ≡ Err fault
+
 -- ---- reading decides which lines could stand
 
 -- the line of section 1 but its time
@@ -181,10 +195,7 @@ time_passed past own rest h more fits e =
     }
 
 -- the first line could not stand
-message_line_refused : (past : ℕ) (own rest : List Line) (fault : ListingFault)
-    → AreBefore at_message (texts own)
-    → Unfit (CouldStand at_message) (IsOfKindAt at_message) past rest fault
-    → head_read past (own ++ rest) ≡ Err fault
+message_line_refused : RefusedInHead at_message
 message_line_refused past own rest fault e h =
     ap (λ (ls : List Line). head_read past ls) (none_before own rest e)
     ∙ fails_on (read_line (read_word (codes "message")) past rest) _ fault
@@ -192,10 +203,7 @@ message_line_refused past own rest fault e h =
     rest fault (λ l behind is. word_decides (codes "message") l) h)
 
 -- that of section 1 could not
-section1_line_refused : (past : ℕ) (own rest : List Line) (fault : ListingFault)
-    → AreBefore at_section1 (texts own)
-    → Unfit (CouldStand at_section1) (IsOfKindAt at_section1) past rest fault
-    → head_read past (own ++ rest) ≡ Err fault
+section1_line_refused : RefusedInHead at_section1
 section1_line_refused past own rest fault e h =
     let read = read_numbers (codes "section1") section1_limits in
     let a = line_passed (read_word (codes "message")) past own rest (codes "message") [] tt
@@ -207,10 +215,7 @@ section1_line_refused past own rest fault e h =
     goes_on _ _ _ _ a.reads (fails_on (read_line read past (a.others ++ rest)) _ fault fails)
 
 -- that of the time could not
-time_line_refused : (past : ℕ) (own rest : List Line) (fault : ListingFault)
-    → AreBefore at_time (texts own)
-    → Unfit (CouldStand at_time) (IsOfKindAt at_time) past rest fault
-    → head_read past (own ++ rest) ≡ Err fault
+time_line_refused : RefusedInHead at_time
 time_line_refused past own rest fault before h =
     let read = read_numbers (codes "time") time_limits in
     let a = line_passed (read_word (codes "message")) past own rest (codes "message")
@@ -375,10 +380,7 @@ section2_refused tables past h local ls fault no_local u =
 -- ---- behind the time
 
 -- no line that could stand behind the time is there
-behind_time_refused : (tables : Entries) (past : ℕ) (own rest : List Line)
-    (fault : ListingFault) → AreBefore behind_time (texts own)
-    → Unfit (CouldStand behind_time) (IsOfKindAt behind_time) past rest fault
-    → message_read tables past (own ++ rest) ≡ Err fault
+behind_time_refused : (tables : Entries) → RefusedAt tables behind_time
 behind_time_refused tables past own rest fault before u =
     let h = before.0 in
     let t = time_passed past own rest h [] before.1
@@ -403,10 +405,7 @@ behind_time_refused tables past own rest fault before u =
     ]
 
 -- nor behind the octets for local use
-behind_local_refused : (tables : Entries) (past : ℕ) (own rest : List Line)
-    (fault : ListingFault) → AreBefore behind_local (texts own)
-    → Unfit (CouldStand behind_local) (IsOfKindAt behind_local) past rest fault
-    → message_read tables past (own ++ rest) ≡ Err fault
+behind_local_refused : (tables : Entries) → RefusedAt tables behind_local
 behind_local_refused tables past own rest fault before u =
     let h = before.0 in
     let p = head_passed past own rest h [] before.1
@@ -429,10 +428,7 @@ section2_not_local [] = refl
 section2_not_local (x ∷ xs) = refl
 
 -- nor behind section 2
-behind_section2_refused : (tables : Entries) (past : ℕ) (own rest : List Line)
-    (fault : ListingFault) → AreBefore behind_section2 (texts own)
-    → Unfit (CouldStand behind_section2) (IsOfKindAt behind_section2) past rest fault
-    → message_read tables past (own ++ rest) ≡ Err fault
+behind_section2_refused : (tables : Entries) → RefusedAt tables behind_section2
 behind_section2_refused tables past own rest fault before u =
     let h = before.0 in
     let two = before.2 in
@@ -488,10 +484,7 @@ flags_passed tables past own rest before =
     }
 
 -- the descriptors could not stand
-descriptors_refused : DescriptorTexts → (tables : Entries) (past : ℕ) (own rest : List Line)
-    (fault : ListingFault) → AreBefore at_descriptors (texts own)
-    → Unfit (CouldStand at_descriptors) (IsOfKindAt at_descriptors) past rest fault
-    → message_read tables past (own ++ rest) ≡ Err fault
+descriptors_refused : DescriptorTexts → (tables : Entries) → RefusedAt tables at_descriptors
 descriptors_refused texts tables past own rest fault before u =
     (flags_passed tables past own rest before).reads
     ∙ fails_on (read_line (read_descriptors tables) past rest) _ fault
@@ -500,25 +493,17 @@ descriptors_refused texts tables past own rest fault before u =
 
 -- ---- at each place
 
+-- where section 1 is refused, so is the message
+in_head : (tables : Entries) (place : Place) → RefusedInHead place → RefusedAt tables place
+in_head tables place refused past own rest fault before u =
+    head_fails tables past (own ++ rest) (Fault fault) (refused past own rest fault before u)
+
 -- a line that could not stand at a place of the heading is refused
-pub place_refused : DescriptorTexts → (tables : Entries) (past : ℕ) (place : Place)
-    (own rest : List Line) (fault : ListingFault) → AreBefore place (texts own)
-    → Unfit (CouldStand place) (IsOfKindAt place) past rest fault
-    → message_read tables past (own ++ rest) ≡ Err fault
-place_refused texts tables past at_message own rest fault before u =
-    head_fails tables past (own ++ rest) (Fault fault)
-    (message_line_refused past own rest fault before u)
-place_refused texts tables past at_section1 own rest fault before u =
-    head_fails tables past (own ++ rest) (Fault fault)
-    (section1_line_refused past own rest fault before u)
-place_refused texts tables past at_time own rest fault before u =
-    head_fails tables past (own ++ rest) (Fault fault)
-    (time_line_refused past own rest fault before u)
-place_refused texts tables past behind_time own rest fault before u =
-    behind_time_refused tables past own rest fault before u
-place_refused texts tables past behind_local own rest fault before u =
-    behind_local_refused tables past own rest fault before u
-place_refused texts tables past behind_section2 own rest fault before u =
-    behind_section2_refused tables past own rest fault before u
-place_refused texts tables past at_descriptors own rest fault before u =
-    descriptors_refused texts tables past own rest fault before u
+pub place_refused : DescriptorTexts → (tables : Entries) (place : Place) → RefusedAt tables place
+place_refused texts tables at_message = in_head tables at_message message_line_refused
+place_refused texts tables at_section1 = in_head tables at_section1 section1_line_refused
+place_refused texts tables at_time = in_head tables at_time time_line_refused
+place_refused texts tables behind_time = behind_time_refused tables
+place_refused texts tables behind_local = behind_local_refused tables
+place_refused texts tables behind_section2 = behind_section2_refused tables
+place_refused texts tables at_descriptors = descriptors_refused texts tables

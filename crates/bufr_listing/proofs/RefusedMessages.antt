@@ -46,7 +46,7 @@ message_refused : FaultLaws → (tables : Entries) (past : ℕ) (ls : List Line)
     → message_read tables past ls ≡ Err fault
 message_refused laws tables past ls fault (in_heading place own rest e before u) =
     ap (λ (xs : List Line). message_read tables past xs) e
-    ∙ place_refused laws.lower.descriptors tables past place own rest fault before u
+    ∙ place_refused laws.lower.descriptors tables place past own rest fault before u
 message_refused laws tables past ls fault (no_tree own l rest ds why e before line first is) =
     let has : template tables ds ≡ Err why = (laws.lower.refuses tables ds why).1 first in
     let own_line : read_descriptors tables l.number l.text ≡ Err fault =

@@ -53,13 +53,15 @@ asked_field past met d spec more ls rest f e =
     ∙ joined f (fields_read past (more (number_of f.raw)) rest)
 
 -- where it is not read, the fields fail
-bad_field : (past met d : ℕ) (spec : Spec) (more : ℕ → Course) (ls : List Line)
-    (fault : ListingFault) → read_line (read_field d spec) past ls ≡ Err fault
-    → fields_read past (asks met d spec more) ls ≡ Err fault
+asked_fails : (past met d : ℕ) (spec : Spec) (more : ℕ → Course) (c : Course) (ls : List Line)
+    (e : Failure ListingFault) → c ≡ asks met d spec more
+    → Fails e (read_line (read_field d spec) past ls) → Fails e (fields_read past c ls)
 unfolding fields_read
-bad_field past met d spec more ls fault e =
-    ap (λ r. r >>= λ first. fields_read past (more (number_of first.0.raw)) first.1 >>= λ others.
-    Ok (record others { fields = first.0 ∷ others.fields })) e
+asked_fails past met d spec more c ls OutOfMemory is h = tt
+asked_fails past met d spec more c ls (Fault f) is h =
+    ap (λ c. fields_read past c ls) is
+    ∙ ap (λ r. r >>= λ first. fields_read past (more (number_of first.0.raw)) first.1 >>= λ others.
+    Ok (record others { fields = first.0 ∷ others.fields })) h
 
 -- one field is read
 pub field_is_read : (old new : Walk) (past d : ℕ) (spec : Spec) (ls rest : List Line) (f : Field)
@@ -92,19 +94,17 @@ count_is_read old mid new past d spec ls rest f g counted e =
 pub field_is_refused : (old new : Walk) (past d : ℕ) (spec : Spec) (ls : List Line)
     (e : Failure ListingFault) → Goes (left old) (Ok (steps.Field d spec)) new
     → Fails e (read_line (read_field d spec) past ls) → Fails e (fields_read past (left old) ls)
-field_is_refused old new past d spec ls OutOfMemory g h = tt
-field_is_refused old new past d spec ls (Fault f) g h =
+field_is_refused old new past d spec ls e g h =
     let a = asks_field (left old) d spec new g in
-    ap (λ c. fields_read past c ls) a.is ∙ bad_field past a.met d spec a.more ls f h
+    asked_fails past a.met d spec a.more (left old) ls e a.is h
 
 -- one count is not read
 pub count_is_refused : (old mid : Walk) (past d : ℕ) (spec : Spec) (ls : List Line)
     (e : Failure ListingFault) → Goes (left old) (Ok (steps.Count d spec)) mid
     → Fails e (read_line (read_field d spec) past ls) → Fails e (fields_read past (left old) ls)
-count_is_refused old mid past d spec ls OutOfMemory g h = tt
-count_is_refused old mid past d spec ls (Fault f) g h =
+count_is_refused old mid past d spec ls e g h =
     let a = asks_count (left old) d spec mid g in
-    ap (λ c. fields_read past c ls) a.is ∙ bad_field past a.met d spec a.more ls f h
+    asked_fails past a.met d spec a.more (left old) ls e a.is h
 
 -- the subset ends
 pub end_is_read : (old new : Walk) (past : ℕ) (ls : List Line)
