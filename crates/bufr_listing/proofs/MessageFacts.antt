@@ -1,7 +1,7 @@
 -- What is read of the lines of messages is what they spell: for the laws of listings,
 -- `listings_list_messages` and `listings_are_read_back`.
 use Rattle.std.proofs.Common.{◌≡◌, ℕ, zero, suc, ◌<◌, ◌≤◌, Bool, true, false, List, [], ◌∷◌, ◌++◌}
-use Rattle.std.proofs.Common.{length, map, get_or, drop, codes, unwrap_or, refl, sym, ap, ◌∙◌}
+use Rattle.std.proofs.Common.{length, get_or, codes, unwrap_or, refl, sym, ap, ◌∙◌}
 use Rattle.std.proofs.Common.{subst, arith, append_assoc, length-append}
 use Rattle.std.specs.Prelude.{IfSome, Option, Some, None, Result, Ok, if◌then◌else◌}
 use Rattle.std.specs.List.{flat_map, AllByRecursion}
@@ -12,16 +12,15 @@ use Rattle.bufr_tables.specs.Answers.{◌>>=◌}
 use Rattle.bufr_tables.specs.Entries.{Entries}
 use Rattle.bufr_expand.specs.Courses.{course}
 use Rattle.bufr_expand.specs.Limits.{most_items}
-use Rattle.bufr_data.specs.declared.field.Subset.{Subset}
 use Rattle.bufr_data.specs.Fits.{AllFitWithin}
 use Rattle.bufr_tables.specs.DescriptorLaws.{six_by_place}
 use Rattle.bufr_listing.proofs.LowerLaws.{LowerLaws}
 use Rattle.bufr_sections.specs.declared.message.Head.{Head}
 use Rattle.bufr_sections.specs.declared.message.Message.{Message}
-use Rattle.bufr_listing.specs.Listings.{heading_lines, field_line, subset_lines, lines_of}
+use Rattle.bufr_listing.specs.Listings.{heading_lines, subset_lines, lines_of}
 use Rattle.bufr_listing.specs.Listings.{section2_lines, flags_line, descriptors_line, heading_of}
 use Rattle.bufr_listing.specs.Listings.{section1_line, time_line, local_lines, section2_line}
-use Rattle.bufr_listing.specs.Listings.{section1_numbers, time_numbers, numbers_line, octets_line}
+use Rattle.bufr_listing.specs.Listings.{section1_numbers, time_numbers, numbers_line}
 use Rattle.bufr_listing.specs.Limits.{two_octets}
 use Rattle.bufr_listing.specs.declared.fault.ListingFault.{ListingFault}
 use Rattle.bufr_sections.specs.Sections.{AreOctets, HeadFits, IsOctet}
@@ -33,15 +32,12 @@ use Rattle.bufr_listing.specs.Reading.{read_numbers, read_local, read_section2, 
 use Rattle.bufr_listing.specs.Reading.{read_descriptors, section1_limits, time_limits}
 use Rattle.bufr_listing.specs.Reading.{head_with, MessageRead, message_read, messages_read}
 use Rattle.bufr_listing.proofs.FieldFacts.{bytes_same, same_bytes}
-use Rattle.bufr_listing.proofs.CourseFacts.{course_printable}
-use Rattle.bufr_listing.proofs.LoopFacts.{goes_on, texts_length}
 use Rattle.bufr_listing.proofs.MessageParts.{message_with, message_parts}
-use Rattle.bufr_listing.proofs.SubsetFacts.{LineTaken, line_takes, line_back, subsets_take}
-use Rattle.bufr_listing.proofs.SubsetFacts.{subsets_back}
+use Rattle.bufr_listing.proofs.SubsetFacts.{LineTaken, line_takes, subsets_take}
 use Rattle.bufr_listing.proofs.LineFacts.{literal_word, numbers_take, numbers_back}
-use Rattle.bufr_listing.proofs.LineFacts.{octets_take, local_back, section2_take, section2_back}
-use Rattle.bufr_listing.proofs.LineFacts.{flags_take, flags_back, descriptors_take}
-use Rattle.bufr_listing.proofs.LineFacts.{descriptors_back, eight_by_place, below_length, below_at}
+use Rattle.bufr_listing.proofs.LineFacts.{octets_take, section2_take}
+use Rattle.bufr_listing.proofs.LineFacts.{flags_take, descriptors_take}
+use Rattle.bufr_listing.proofs.LineFacts.{eight_by_place, below_length, below_at}
 
 -- ---- lines that may be absent
 
@@ -71,38 +67,6 @@ if_takes {A} title read [] x h = subst (λ (y : Option A × List Line). IfTaken 
     (ok_is _ _ h) refl
 if_takes title read (l ∷ ls) x h = if_takes_by (bytes_eq (first_word l.text) title) read l ls x h
 
--- a line with another first word is left
-absent : {A : Type 0} (title : List ℕ) (read : ℕ → List ℕ → Result A ListingFault)
-    (ls : List Line) (next : List (List ℕ)) → texts ls ≡ next
-    → bytes_eq (first_word (get_or next 0 [])) title ≡ false → read_if title read ls
-    ≡ with_rest ls None
-absent title read [] next e other = refl
-absent title read (l ∷ ls) next e other =
-    let own : bytes_eq (first_word l.text) title ≡ false =
-    subst (λ ts. bytes_eq (first_word (get_or ts 0 [])) title ≡ false) (sym e) other in
-    rw own refl
-
--- the lines after one that may be absent
-record IfBack {A : Type 0} (title : List ℕ) (read : ℕ → List ℕ → Result A ListingFault)
-    (ls : List Line) (o : Option A) (others : List (List ℕ)) : Type 0 where
-  rest : List Line
-  reads : read_if title read ls ≡ with_rest rest o
-  same : texts rest ≡ others
-
--- a line with this first word is read
-present : {A : Type 0} (title : List ℕ) (read : ℕ → List ℕ → Result A ListingFault)
-    (ls : List Line) (text : List ℕ) (others : List (List ℕ)) (a : A)
-    → bytes_eq (first_word text) title ≡ true → ((n : ℕ) → read n text ≡ Ok a)
-    → texts ls ≡ text ∷ others → IfBack title read ls (Some a) others
-present title read [] text others a is each e = absurd cc
-present title read (l ∷ ls) text others a is each e =
-    let first : l.text ≡ text = ap (λ xs. get_or xs 0 []) e in
-    let own : read l.number l.text ≡ Ok a =
-    subst (λ t. read l.number t ≡ Ok a) (sym first) (each l.number) in
-    let titled : bytes_eq (first_word l.text) title ≡ true =
-    subst (λ t. bytes_eq (first_word t) title ≡ true) (sym first) is in
-    record { rest = ls; reads = rw (titled, own) refl; same = ap (λ xs. drop 1 xs) e }
-
 -- ---- local octets and section 2
 
 -- the octets for local use that were read are those of the lines
@@ -126,52 +90,11 @@ section2_takes ls (Some os) rest h =
     let p = section2_take h.line.number h.line.text os h.reads in
     (ap texts h.front ∙ ap (λ t. t ∷ texts rest) p.0, p.1)
 
--- the lines after the octets for local use
-record LocalBack (ls : List Line) (local : List ℕ) (others : List (List ℕ)) : Type 0 where
-  found : Option (List ℕ)
-  is : unwrap_or found [] ≡ local
-  back : IfBack (codes "local1") read_local ls found others
-
--- octets for local use are read of their line, where there are any
-local_backs : (ls : List Line) (local : List ℕ) (next : List (List ℕ)) → AreOctets local
-    → bytes_eq (first_word (get_or next 0 [])) (codes "local1") ≡ false
-    → texts ls ≡ local_lines local ++ next → LocalBack ls local next
-local_backs ls [] next octets other e =
-    record {
-      found = None;
-      is = refl;
-      back =
-          record {
-            rest = ls;
-            reads = absent (codes "local1") read_local ls next e other;
-            same =
-                e;
-          };
-    }
-local_backs ls (x ∷ xs) next octets other e =
-    record {
-      found = Some (x ∷ xs);
-      is = refl;
-      back = present (codes "local1") read_local ls
-          (octets_line (codes "local1") (x ∷ xs)) next (x ∷ xs) refl
-          (λ n. local_back n x xs octets) e;
-    }
-
 -- the line of section 2 has its first word
 pub section2_titled : (os : List ℕ) → bytes_eq (first_word (section2_line os)) (codes "section2")
     ≡ true
 section2_titled [] = refl
 section2_titled (x ∷ xs) = refl
-
--- section 2 is read of its line, where there is one
-section2_backs : (ls : List Line) (two : Option (List ℕ)) (next : List (List ℕ))
-    → IfSome two AreOctets → bytes_eq (first_word (get_or next 0 [])) (codes "section2") ≡ false
-    → texts ls ≡ section2_lines two ++ next → IfBack (codes "section2") read_section2 ls two next
-section2_backs ls None next octets other e =
-    record { rest = ls; reads = absent (codes "section2") read_section2 ls next e other; same = e }
-section2_backs ls (Some os) next octets other e =
-    present (codes "section2") read_section2 ls (section2_line os) next os (section2_titled os)
-    (λ n. section2_back n os octets) e
 
 -- the line of flags has not the first word of section 2
 pub flags_not_section2 : (observed compressed : Bool)
@@ -207,7 +130,7 @@ from_flags m others =
     m.subsets ++ codes "end" ∷ others
 
 -- the lines of a message in turn, and others
-abbrev in_turn : Message → List (List ℕ) → List (List ℕ)
+abbrev pub in_turn : Message → List (List ℕ) → List (List ℕ)
 in_turn m others =
     codes "message" ∷ section1_line m.head ∷ time_line m.head
     ∷ local_lines m.head.local ++ (section2_lines m.section2 ++ from_flags m others)
@@ -336,37 +259,7 @@ message_takes laws tables past ls x h =
       };
     })
 
--- ---- a message that is spelt
-
--- the lines after a message
-pub record MessageBack (tables : Entries) (past : ℕ) (ls : List Line) (m : Message)
-    (others : List (List ℕ)) : Type 0 where
-  pub rest : List Line
-  pub reads : message_read tables past ls ≡ with_rest rest m
-  pub same : texts rest ≡ others
-
--- there are more lines than subsets
-more_lines : (subsets : List Subset) (others : List (List ℕ)) → length subsets < length
-    (flat_map subset_lines subsets ++ codes "end" ∷ others)
-more_lines [] others = omega arith
-more_lines (s ∷ subsets) others =
-    let ih = more_lines subsets others in
-    let joined = append_assoc (map field_line s.fields) (flat_map subset_lines subsets)
-    (codes "end" ∷ others) in
-    let len = ap length joined in
-    let sum =
-    length-append (map field_line s.fields)
-    (flat_map subset_lines subsets ++ codes "end" ∷ others) in
-    omega (arith, ih, len, sum)
-
--- a message has fewer subsets than lines
-fewer_subsets : (ls : List Line) (subsets : List Subset) (others : List (List ℕ))
-    → texts ls ≡ flat_map subset_lines subsets ++ codes "end" ∷ others → length subsets < length ls
-fewer_subsets ls subsets others e =
-    let more = more_lines subsets others in
-    let same = ap length e in
-    let own = texts_length ls in
-    omega (arith, more, same, own)
+-- ---- lines that are spelt
 
 -- a word is read of itself
 pub word_back : (word : List ℕ) (n : ℕ) → read_word word n word ≡ Ok tt
@@ -403,51 +296,6 @@ pub time_back : (n : ℕ) (h : Head) → HeadFits h
 time_back n h fits =
     numbers_back (codes "time") time_limits n (time_numbers h)
     (literal_word (codes "time") refl) time_limits_most (head_below h fits).1
-
--- a message is read of its lines
-pub message_back : LowerLaws → (tables : Entries) (past : ℕ) (ls : List Line) (m : Message)
-    (others : List (List ℕ)) → CanBeListed tables m → texts ls ≡ lines_of m ++ others
-    → MessageBack tables past ls m others
-unfolding message_read
-message_back laws tables past ls m others can e =
-    let b0 = line_back (read_word (codes "message")) past ls (codes "message") _ tt
-    (λ n. word_back (codes "message") n) (e ∙ regrouped m others) in
-    let b1 = line_back (read_numbers (codes "section1") section1_limits) past b0.rest
-    (numbers_line (codes "section1") (section1_numbers m.head)) _ (section1_numbers m.head)
-    (λ n. section1_back n m.head can.head) b0.same in
-    let b2 = line_back (read_numbers (codes "time") time_limits) past b1.rest
-    (numbers_line (codes "time") (time_numbers m.head)) _ (time_numbers m.head)
-    (λ n. time_back n m.head can.head) b1.same in
-    let b3 = local_backs b2.rest m.head.local (section2_lines m.section2 ++ from_flags m others)
-    can.head.local (not_local m.section2 m.observed m.compressed _) b2.same in
-    let b4 = section2_backs b3.back.rest m.section2 (from_flags m others) can.section2
-    (flags_not_section2 m.observed m.compressed) b3.back.same in
-    let b5 = line_back read_flags past b4.rest (flags_line m.observed m.compressed) _
-    (record { observed = m.observed; compressed = m.compressed })
-    (λ n. flags_back n m.observed m.compressed) b4.same in
-    let b6 = line_back (read_descriptors tables) past b5.rest (descriptors_line m.descriptors) _
-    (record { descriptors = m.descriptors; tree = can.tree })
-    (λ n. descriptors_back laws.descriptors tables n m.descriptors can.tree can.some_descriptor
-    can.descriptors ((laws.builds tables m.descriptors can.tree).1 can.has_tree)) b5.same in
-    let few = fewer_subsets b6.rest m.subsets others b6.same in
-    let b7 = subsets_back (length b6.rest) past 1 (course can.tree) 0 b6.rest m.subsets can.items
-    others (λ n. course_printable laws.specs can.tree n) few
-    (laws.counted can.tree 1 0 can.items m.subsets can.fit) b6.same in
-    let head : head_with (section1_numbers m.head) (time_numbers m.head) b3.found ≡ m.head =
-    λ k. record m.head { local = b3.is k } in
-    record {
-      rest = b7.rest;
-      reads = goes_on _ _ _ _ b0.reads
-          (goes_on _ _ _ _ b1.reads
-          (goes_on _ _ _ _ b2.reads
-          (goes_on _ _ _ _ b3.back.reads
-          (goes_on _ _ _ _ b4.reads
-          (goes_on _ _ _ _ b5.reads
-          (goes_on _ _ _ _ b6.reads
-          (goes_on _ _ _ _ b7.reads
-          (ap (λ (h : Head). with_rest b7.rest (record m { head = h })) head))))))));
-      same = b7.same;
-    }
 
 -- ---- messages
 
@@ -492,23 +340,3 @@ length-messages (m ∷ messages) =
     let none = length-append (lines_of m) [] in
     let sum = length-append (lines_of m) (flat_map lines_of messages) in
     omega (arith, ih, some, none, sum)
-
--- messages are read of their lines
-pub messages_back : LowerLaws → (left : ℕ) (tables : Entries) (past : ℕ) (ls : List Line)
-    (messages : List Message) → length messages ≤ left
-    → AllByRecursion (λ m. CanBeListed tables m) messages
-    → texts ls ≡ flat_map lines_of messages → messages_read left tables past ls ≡ Ok messages
-unfolding messages_read
-messages_back laws zero tables past [] [] few each e = refl
-messages_back laws (suc left) tables past [] [] few each e = refl
-messages_back laws left tables past (l ∷ ls) [] few each e = absurd cc
-messages_back laws zero tables past [] (m ∷ messages) few each e = absurd (omega (arith, few))
-messages_back laws zero tables past (l ∷ ls) (m ∷ messages) few each e = absurd (omega (arith, few))
-messages_back laws (suc left) tables past [] (m ∷ messages) few each e =
-    let some = some_line m (flat_map lines_of messages) in let none = ap length e in
-    absurd (omega (arith, some, none))
-messages_back laws (suc left) tables past (l ∷ ls) (m ∷ messages) few each e =
-    let own = message_back laws tables past (l ∷ ls) m (flat_map lines_of messages) each.0 e in
-    let others = messages_back laws left tables past own.rest messages (omega (arith, few)) each.1
-    own.same in
-    rw (own.reads, others) refl

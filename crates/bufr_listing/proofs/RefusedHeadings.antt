@@ -1,6 +1,7 @@
--- The first line of a heading that could not stand is the one that reading refuses: the other way
--- round than FaultHeadings. For the first faults of listings (`faults_of_listings_are_the_first`,
--- clause `answered`).
+-- The lines of a heading are read, and the first that could not stand is the one that reading refuses:
+-- the other way round than FaultHeadings. For the first faults of listings
+-- (`faults_of_listings_are_the_first`, clause `answered`), and for messages that are read of their
+-- lines (`listings_list_messages`).
 use Rattle.std.proofs.Common.{◌≡◌, inl, inr, ℕ, ◌<◌, true, false, List, [], ◌∷◌}
 use Rattle.std.proofs.Common.{◌++◌, length, length-append, get_or, drop, codes, unwrap_or}
 use Rattle.std.proofs.Common.{Result, Ok, Err, refl, sym, ap, ◌∙◌, subst, arith}
@@ -447,16 +448,11 @@ behind_section2_refused tables past own rest fault before u =
 
 -- ---- the descriptors
 
--- the lines before the descriptors are read
-pub record UpToFlags (tables : Entries) (past : ℕ) (ls rest : List Line) : Type 0 where
-  pub head : Head
-  pub two : Option (List ℕ)
-  pub flags : Flags
-  pub reads : message_read tables past ls ≡ from_descriptors tables past head two flags rest
-
 -- lines that stand before the descriptors are read up to these
 pub flags_passed : (tables : Entries) (past : ℕ) (own rest : List Line)
-    → AreBefore at_descriptors (texts own) → UpToFlags tables past (own ++ rest) rest
+    (before : AreBefore at_descriptors (texts own)) → message_read tables past (own ++ rest)
+    ≡ from_descriptors tables past before.0 before.2
+    (record { observed = before.4; compressed = before.5 }) rest
 flags_passed tables past own rest before =
     let h = before.0 in
     let two = before.2 in
@@ -473,20 +469,15 @@ flags_passed tables past own rest before =
     (flags_not_section2 observed compressed) p.spelled in
     let f = line_passed read_flags past q.others rest line [] flags
     (λ n. flags_back n observed compressed) q.spelled in
-    record {
-      head = h;
-      two = two;
-      flags = flags;
-      reads = steps.at_descriptors tables past (own ++ rest) (p.others ++ rest) (q.others ++ rest)
-          (f.others ++ rest) h two flags p.reads q.reads f.reads
-          ∙ ap (λ (ls : List Line). from_descriptors tables past h two flags ls)
-          (none_before f.others rest f.spelled);
-    }
+    steps.at_descriptors tables past (own ++ rest) (p.others ++ rest) (q.others ++ rest)
+    (f.others ++ rest) h two flags p.reads q.reads f.reads
+    ∙ ap (λ (ls : List Line). from_descriptors tables past h two flags ls)
+    (none_before f.others rest f.spelled)
 
 -- the descriptors could not stand
 descriptors_refused : DescriptorTexts → (tables : Entries) → RefusedAt tables at_descriptors
 descriptors_refused texts tables past own rest fault before u =
-    (flags_passed tables past own rest before).reads
+    flags_passed tables past own rest before
     ∙ fails_on (read_line (read_descriptors tables) past rest) _ fault
     (unfit_read (CouldStand at_descriptors) (IsOfKindAt at_descriptors) (read_descriptors tables)
     past rest fault (λ l behind e. descriptors_decide texts tables l) u)

@@ -22,7 +22,7 @@ use Rattle.bufr_listing.specs.FirstFaults.{in_subsets, FirstFault}
 use Rattle.bufr_listing.proofs.LowerLaws.{LowerLaws, DescriptorTexts}
 use Rattle.bufr_listing.proofs.LineFacts.{descriptors_read}
 use Rattle.bufr_listing.proofs.LoopFacts.{goes_on, fails_on}
-use Rattle.bufr_listing.proofs.MessageFacts.{message_back}
+use Rattle.bufr_listing.proofs.TextFacts.{message_back}
 use Rattle.bufr_listing.proofs.FaultFields.{FaultLaws, IsBehind}
 use Rattle.bufr_listing.proofs.FaultMessages.{fewer_lines}
 use Rattle.bufr_listing.proofs.MessageSteps.{message_behind}
@@ -53,7 +53,7 @@ message_refused laws tables past ls fault (no_tree own l rest ds why e before li
     line_described laws.lower.descriptors tables l ds line ∙ ap (described l.number ds) has
     ∙ ap Err (sym is) in
     ap (λ (xs : List Line). message_read tables past xs) e
-    ∙ (flags_passed tables past own (l ∷ rest) before).reads
+    ∙ flags_passed tables past own (l ∷ rest) before
     ∙ fails_on (read_line (read_descriptors tables) past (l ∷ rest)) _ fault
     (ap (λ (r : Result Described ListingFault). r >>= with_rest rest) own_line)
 message_refused laws tables past ls fault (in_subsets own l rest ds tree e before line is h) =
@@ -62,7 +62,7 @@ message_refused laws tables past ls fault (in_subsets own l rest ds tree e befor
     let own_line : read_descriptors tables l.number l.text ≡ Ok found =
     line_described laws.lower.descriptors tables l ds line ∙ ap (described l.number ds) has in
     ap (λ (xs : List Line). message_read tables past xs) e
-    ∙ (flags_passed tables past own (l ∷ rest) before).reads
+    ∙ flags_passed tables past own (l ∷ rest) before
     ∙ goes_on (read_line (read_descriptors tables) past (l ∷ rest)) _ (found, rest) _
     (ap (λ (r : Result Described ListingFault). r >>= with_rest rest) own_line)
     (fails_on (subsets_read (length rest) past (course tree) 0 rest) _ fault
