@@ -4,7 +4,7 @@ use Rattle.std.proofs.Common.{◌≡◌, ℕ, Bool, true, false, List, [], ◌�
 use Rattle.std.proofs.Common.{inl, inr, arith, Result, Ok, Err, refl, sym, ap, ◌∙◌, subst}
 use Rattle.std.specs.Prelude.{◌==◌, ◌&&◌, ◌||◌, Some, None, nat_le, if◌then◌else◌}
 use Rattle.std.specs.List.{onto_first}
-use Rattle.std.proofs.lemmas.Bool.{cases_Bool, false≢true}
+use Rattle.std.proofs.lemmas.Bool.{cases_Bool, cond-false, false≢true}
 use Rattle.std.proofs.lemmas.List.Splits.{slice_split-cons_yes, slice_split-cons_no}
 use Rattle.std.specs.Str.{bytes_eq}
 use Rattle.bufr_tables.specs.Answers.{◌>>=◌, Fails}
@@ -170,13 +170,10 @@ pub not_found : {A : Type 0} (title : List ℕ) (read : ℕ → List ℕ → Res
     → ls ≡ l ∷ rest → bytes_eq (first_word l.text) title ≡ false → read_if title read ls
     ≡ Ok (None, ls)
 not_found title read ls l rest e is =
-    ap (read_if title read) e ∙ by_test (bytes_eq (first_word l.text) title) is
+    ap (read_if title read) e
+    ∙ cond-false _ (read l.number l.text >>= λ a. with_rest rest (Some a))
+    (with_rest (l ∷ rest) None) is
     ∙ ap (λ (xs : List Line). Ok (None, xs)) (sym e)
-  where
-    by_test : (b : Bool) → b ≡ false
-        → (if b then (read l.number l.text >>= λ a. with_rest rest (Some a)) else with_rest
-        (l ∷ rest) None) ≡ Ok (None, l ∷ rest)
-    by_test b h = rw h refl
 
 -- where no line is left, nothing is read
 pub none_found : {A : Type 0} (title : List ℕ) (read : ℕ → List ℕ → Result A ListingFault)

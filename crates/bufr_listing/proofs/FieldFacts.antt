@@ -48,10 +48,7 @@ same_bytes xs ys e = (bytes_eq-Decides xs ys).1 e
 -- other texts do not
 pub other_bytes : (xs ys : List ℕ) → (xs ≡ ys → ⊥) → bytes_eq xs ys ≡ false
 other_bytes xs ys different =
-    elim (cases_Bool (bytes_eq xs ys)) [
-      | inl same ↦ absurd (different (bytes_same xs ys same))
-      | inr e ↦ e
-    ]
+    false_from_ne_true (bytes_eq xs ys) (λ same. different (bytes_same xs ys same))
 
 -- a test that passed, and what was answered then
 pub if_answered : {A F : Type 0} (b : Bool) (r : Result A F) (e : F) (x : A)

@@ -3,7 +3,7 @@ use Rattle.std.proofs.Common.{◌≡◌, ℕ, zero, suc, ◌+◌, ◌<◌, ◌�
 use Rattle.std.proofs.Common.{length, length-append, map, codes, Result, Ok, Err, refl, sym, ap}
 use Rattle.std.proofs.Common.{◌∙◌, arith}
 use Rattle.std.specs.Str.{bytes_eq}
-use Rattle.std.proofs.lemmas.List.{append-nil}
+use Rattle.std.proofs.lemmas.List.{append-nil, length-map}
 use Rattle.bufr_tables.specs.Answers.{◌>>=◌, Fails, result_map}
 use Rattle.bufr_tables.specs.declared.failure.Failure.{Failure}
 use Rattle.bufr_tables.specs.declared.failure.Failure.TheVariants.{Fault, OutOfMemory}
@@ -44,8 +44,7 @@ line_fails (Err e) ls f h = let same : e ≡ f = cc in ap Err same
 
 -- there are as many texts as lines
 pub texts_length : (ls : List Line) → length (texts ls) ≡ length ls
-texts_length [] = refl
-texts_length (l ∷ ls) = ap suc (texts_length ls)
+texts_length ls = length-map ls (λ l. l.text)
 
 -- behind fields there are no more lines than before
 fields_shorter : (past : ℕ) (c : Course) (ls : List Line) (r : FieldsListed)

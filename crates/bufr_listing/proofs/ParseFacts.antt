@@ -39,7 +39,7 @@ below_none limit (pos n) small h =
     ]
 
 -- what is below 2 to the 64th is a number
-number_is : (z : ℤ) (n : ℕ) → below (2 ^ 64) z ≡ Some n → z ≡ pos n
+pub number_is : (z : ℤ) (n : ℕ) → below (2 ^ 64) z ≡ Some n → z ≡ pos n
 number_is (negsuc m) n h = absurd cc
 number_is (pos m) n h =
     elim (cases_Bool (nat_lt m (2 ^ 64))) [

@@ -15,6 +15,7 @@ use Rattle.bufr_listing.specs.Words.{below}
 use Rattle.std.specs.Str.{bytes_eq}
 use Rattle.bufr_listing.specs.RawWords.{unless_missing, number_above, number_of, first_octet}
 use Rattle.bufr_listing.specs.RawWords.{then_octets, octets_before}
+use Rattle.bufr_listing.proofs.ParseFacts.{number_is}
 use Rattle.bufr_listing.proofs.WordFacts.{behind, behind_end}
 
 -- a word that does not say `missing` has the number above the reference, by its decimal
@@ -41,13 +42,7 @@ above_none spec (pos n) small h =
 -- a number of 64 bits above the reference
 pub above_some : (spec : Spec) (z : ℤ) (n : ℕ) → below (2 ^ 64) z ≡ Some n → number_above spec z
     ≡ unless_missing spec n
-above_some spec (negsuc m) n h = absurd cc
-above_some spec (pos m) n h =
-    elim (cases_Bool (nat_lt m (2 ^ 64))) [
-      | inl e ↦ let own : below (2 ^ 64) (pos m) ≡ Some m = rw e refl in
-          let same : m ≡ n = cc (sym own ∙ h) in ap (unless_missing spec) same
-      | inr e ↦ absurd (let own : below (2 ^ 64) (pos m) ≡ None = rw e refl in cc (sym own ∙ h))
-    ]
+above_some spec z n h = ap (number_above spec) (number_is z n h)
 
 -- ---- octets one after the other
 

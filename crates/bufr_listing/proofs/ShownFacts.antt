@@ -54,9 +54,13 @@ use Rattle.bufr_listing.proofs.TextFacts.{listed_read}
 
 -- ---- lines of joined lines
 
--- characters that are no ends of lines
+-- a character that is no end of a line
+abbrev Printable : ℕ → Type 0
+Printable c = 32 ≤ c
+
+-- such characters
 abbrev IsPlain : List ℕ → Type 0
-IsPlain text = AllByRecursion (λ c. 32 ≤ c) text
+IsPlain text = AllByRecursion Printable text
 
 -- what can be printed is no LF
 no_end : (c : ℕ) → 32 ≤ c → (c == 10) ≡ false
@@ -124,18 +128,13 @@ counted_as_shown n [] h = refl
 counted_as_shown n (l ∷ ls) h =
     rw h.0.kept (let e = h.0.own in λ i. e i ∷ counted_as_shown (n + 1) ls h.1 i)
 
--- such lines behind such lines
-shown_append : (xs ys : List (List ℕ)) → AllByRecursion (λ l. IsShown l) xs
-    → AllByRecursion (λ l. IsShown l) ys → AllByRecursion (λ l. IsShown l) (xs ++ ys)
-shown_append [] ys a b = b
-shown_append (x ∷ xs) ys a b = (a.0, shown_append xs ys a.1 b)
+-- what holds of each of some and of each of others holds of these behind those
+all_append : {A : Type 0} (P : A → Type 0) (xs ys : List A) → AllByRecursion P xs
+    → AllByRecursion P ys → AllByRecursion P (xs ++ ys)
+all_append P [] ys a b = b
+all_append P (x ∷ xs) ys a b = (a.0, all_append P xs ys a.1 b)
 
 -- ---- characters
-
--- a plain text behind a plain text
-plain_append : (xs ys : List ℕ) → IsPlain xs → IsPlain ys → IsPlain (xs ++ ys)
-plain_append [] ys a b = b
-plain_append (x ∷ xs) ys a b = (a.0, plain_append xs ys a.1 b)
 
 -- a word that is written out
 literal_plain : (text : List ℕ) → list_all (λ c. nat_le 32 c) text ≡ true → IsPlain text
@@ -148,7 +147,7 @@ plain_words : (ws : List (List ℕ)) → AllByRecursion (λ w. IsPlain w) ws
     → IsPlain (flat_map (λ w. 32 ∷ w) ws)
 plain_words [] h = tt
 plain_words (w ∷ ws) h =
-    (omega arith, plain_append w (flat_map (λ w. 32 ∷ w) ws) h.0 (plain_words ws h.1))
+    (omega arith, all_append Printable w (flat_map (λ w. 32 ∷ w) ws) h.0 (plain_words ws h.1))
 
 -- ---- hexadecimal digits
 
@@ -192,7 +191,7 @@ local_shown : (os : List ℕ) → AreBytes os → IsShown (octets_line (codes "l
 local_shown os h =
     let p = hex_word os h in
     record {
-      plain = plain_append (codes "local1") (32 ∷ encode_lower os ++ [])
+      plain = all_append Printable (codes "local1") (32 ∷ encode_lower os ++ [])
           (literal_plain (codes "local1") refl) (omega arith, p.0);
       kept = refl;
       own =
@@ -210,7 +209,7 @@ section2_shown [] h = record {
 section2_shown (x ∷ xs) h =
     let p = hex_word (x ∷ xs) h in
     record {
-      plain = plain_append (codes "section2") (32 ∷ encode_lower (x ∷ xs) ++ [])
+      plain = all_append Printable (codes "section2") (32 ∷ encode_lower (x ∷ xs) ++ [])
           (literal_plain (codes "section2") refl) (omega arith, p.0);
       kept = refl;
       own =
@@ -263,7 +262,7 @@ descriptors_shown : (ds : List ℕ) → 0 < length ds → IsShown (descriptors_l
 descriptors_shown [] some = absurd (omega arith)
 descriptors_shown (d ∷ ds) some =
     record {
-      plain = plain_append (codes "descriptors")
+      plain = all_append Printable (codes "descriptors")
           (flat_map (λ w. 32 ∷ w) (map six_digits (d ∷ ds)))
           (literal_plain (codes "descriptors") refl)
           (plain_words (map six_digits (d ∷ ds)) (sixes_plain (d ∷ ds)));
@@ -289,7 +288,7 @@ quoted_plain [] h = (omega arith, tt)
 quoted_plain (c ∷ os) h =
     subst IsPlain
     (sym (append_assoc (quoted_octet c) (flat_map quoted_octet os) (34 ∷ [])))
-    (plain_append (quoted_octet c) (flat_map quoted_octet os ++ 34 ∷ [])
+    (all_append Printable (quoted_octet c) (flat_map quoted_octet os ++ 34 ∷ [])
     (octet_plain c h.0) (quoted_plain os h.1))
 
 -- the word of a number is plain
@@ -363,7 +362,7 @@ field_own d word = own_printed (six_digits d ++ 32 ∷ word) (field_plain d word
 field_shown : (f : Field) → has_form_by f.spec.kind f.spec.width f.raw ≡ true → IsPrintable f.spec
     → IsShown (field_line f)
 field_shown f form fit = record {
-  plain = plain_append (six_digits f.fxy) (32 ∷ value_word f) (six_plain f.fxy)
+  plain = all_append Printable (six_digits f.fxy) (32 ∷ value_word f) (six_plain f.fxy)
       (omega arith, value_plain f.fxy f.spec.kind f.spec f.raw form fit);
   kept = six_not_skipped f.fxy (32 ∷ value_word f);
   own = field_own f.fxy (value_word f);
@@ -404,7 +403,7 @@ subsets_shown j used course [] n fit h = tt
 subsets_shown j used course (s ∷ subsets) n fit h =
     let p = bind_ok (items_of j 1 (course used) s.fields) _ n h in (
       record { plain = literal_plain (codes "subset") refl; kept = refl; own = refl },
-      shown_append (map field_line s.fields) (flat_map subset_lines subsets)
+      all_append IsShown (map field_line s.fields) (flat_map subset_lines subsets)
           (fields_shown j 1 (course used) s.fields p.0 (fit used) p.1)
           (subsets_shown (j + 1) p.0 course subsets n fit p.2),
     )
@@ -414,7 +413,7 @@ subsets_shown j used course (s ∷ subsets) n fit h =
 -- a line of numbers is plain
 short_plain : (title ns : List ℕ) → list_all (λ c. nat_le 32 c) title ≡ true
     → AllByRecursion (λ n. n < 2 ^ 16) ns → IsPlain (numbers_line title ns)
-short_plain title ns literal small = plain_append title (flat_map (λ w. 32 ∷ w) (map decimal ns))
+short_plain title ns literal small = all_append Printable title (flat_map (λ w. 32 ∷ w) (map decimal ns))
     (literal_plain title literal) (plain_words (map decimal ns) (decimals_plain ns small))
 
 -- a number of 8 bits has 16
@@ -495,9 +494,9 @@ heading_shown h two observed compressed ds fits octets some =
         numbers.0,
         (
           numbers.1,
-          shown_append (local_lines h.local ++ section2_lines two)
+          all_append IsShown (local_lines h.local ++ section2_lines two)
               (flags_line observed compressed ∷ descriptors_line ds ∷ [])
-              (shown_append (local_lines h.local) (section2_lines two) local
+              (all_append IsShown (local_lines h.local) (section2_lines two) local
               (sections_shown two octets)) last,
         ),
       ),
@@ -517,8 +516,8 @@ message_shown laws tables m can =
     (laws.counted can.tree 1 0 can.items m.subsets can.fit) in
     let last : IsShown end_line =
     record { plain = literal_plain end_line refl; kept = refl; own = refl } in
-    shown_append (heading_lines (heading_of m) ++ flat_map subset_lines m.subsets) (end_line ∷ [])
-    (shown_append (heading_lines (heading_of m)) (flat_map subset_lines m.subsets) heading subsets)
+    all_append IsShown (heading_lines (heading_of m) ++ flat_map subset_lines m.subsets) (end_line ∷ [])
+    (all_append IsShown (heading_lines (heading_of m)) (flat_map subset_lines m.subsets) heading subsets)
     (last, tt)
 
 -- the lines of messages
@@ -527,7 +526,7 @@ messages_shown : LowerLaws → (tables : Entries) (messages : List Message)
     (flat_map lines_of messages)
 messages_shown laws tables [] h = tt
 messages_shown laws tables (m ∷ messages) h =
-    shown_append (lines_of m) (flat_map lines_of messages) (message_shown laws tables m h.0)
+    all_append IsShown (lines_of m) (flat_map lines_of messages) (message_shown laws tables m h.0)
     (messages_shown laws tables messages h.1)
 
 -- ---- what is listed is read back
