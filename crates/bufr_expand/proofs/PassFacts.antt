@@ -6,9 +6,6 @@ use Rattle.std.proofs.Common.{Err, MatchResult, refl, sym, ap, ◌∙◌, subst,
 use Rattle.std.specs.Result.{result_ok}
 use Rattle.std.proofs.lemmas.Bool.{lt-ltb, le-ltb}
 use Rattle.bufr_tables.specs.declared.element.Element.{Element}
-use Rattle.bufr_tables.specs.declared.element.Kind.{Kind}
-use Rattle.bufr_tables.specs.declared.element.Kind.TheVariants as kinds
-use Rattle.bufr_tables.specs.Elements.{same_kind}
 use Rattle.bufr_expand.specs.Limits.{most_items}
 use Rattle.bufr_expand.specs.declared.node.Node.{Node}
 use Rattle.bufr_expand.specs.declared.node.Node.TheVariants as nodes
@@ -29,7 +26,8 @@ use Rattle.bufr_expand.specs.Courses.{course_then, course}
 use Rattle.bufr_expand.specs.Trees as trees
 use Rattle.bufr_expand.specs.Trees.{tree_of}
 use Rattle.bufr_expand.specs.Walks.{tree_between, rest_then, turns_then, behind, behind_all, going}
-use Rattle.bufr_expand.specs.Walks.{left_in, is_waiting, Goes, Counted}
+use Rattle.bufr_expand.specs.Walks.{told, left_in, left, is_waiting, waits, items_met, Goes}
+use Rattle.bufr_expand.specs.Walks.{Counted}
 use Rattle.bufr_expand.proofs.Between.{tree_between-all, tree_of-element, tree_of-untouched}
 use Rattle.bufr_expand.proofs.Between.{tree_of-operator, tree_of-repeated, tree_of-delayed}
 use Rattle.bufr_expand.proofs.Between.{tree_between-none, between-step, between-body, between-rest}
@@ -44,89 +42,57 @@ item-below used c h = rw (lt-ltb used most_items h) refl
 pub item-above : (used : ℕ) (c : Course) → most_items ≤ used → item used c ≡ stops used TooLarge
 item-above used c h = rw (le-ltb used most_items h) refl
 
--- what is left of a walk that goes on
-pub left_in-going : (s : State) (ns : List Node) (place stop : ℕ) (os : List Open) (q : Operators)
-    (used : ℕ) → s ≡ states.Going → left_in s ns place stop os q used
-    ≡ going ns place stop os q used
-left_in-going s ns place stop os q used e = ap (λ v. left_in v ns place stop os q used) e
+-- ---- what is left of a walk
+
+-- of one that goes on, by its open replications
+pub left_going : (w : Walk) (os : List Open) → w.state ≡ states.Going → w.loops.items ≡ os
+    → left w ≡ going w.nodes.now w.place w.stop os w.operators w.items
+unfolding left
+left_going w os e f =
+    ap (λ s. left_in s w.nodes.now w.place w.stop w.loops.items w.operators w.items) e
+    ∙ ap (λ l. going w.nodes.now w.place w.stop l w.operators w.items) f
 
 -- ---- a node
 
--- the tree from a place on, by the node there
-node_tree : (ns : List Node) (i j : ℕ) (x n : Node) → i < j → j ≤ length ns → get_or ns i x ≡ n
-    → tree_between ns i j ≡ tree_of (n ∷ take (j - (i + 1)) (drop (i + 1) ns))
-node_tree ns i j x n h g e = ap tree_of
-    (between-step ns i j x h g ∙ ap (λ m. m ∷ take (j - (i + 1)) (drop (i + 1) ns)) e)
+-- the nodes behind the one at the place
+abbrev pub behind_place : Walk → List Node
+behind_place w = take (w.stop - (w.place + 1)) (drop (w.place + 1) w.nodes.now)
 
--- at an element
-pub visit-element : (ns : List Node) (i j : ℕ) (os : List Open) (q : Operators) (used : ℕ) (d : ℕ)
-    (e : Element) (x : Node) → i < j → j ≤ length ns → get_or ns i x ≡ nodes.Element d e
-    → used < most_items
-    → going ns i j os q used ≡ asks_if (effective d e q) (used + 1) d
-    (λ n. going ns (i + 1) j os q (used + 1))
-unfolding course_then
-visit-element ns i j os q used d e x h g at below =
-    let tree = node_tree ns i j x (nodes.Element d e) h g at
-    ∙ tree_of-element d e (take (j - (i + 1)) (drop (i + 1) ns)) in
-    ap (λ t. course_then t q used (behind_all ns os)) tree ∙ item-below used _ below
+-- what is left from a place on, by the tree of the node there
+from_node : (w : Walk) (n x : Node) (t : trees.Tree) → w.state ≡ states.Going → w.place < w.stop
+    → w.stop ≤ length w.nodes.now → get_or w.nodes.now w.place x ≡ n
+    → tree_of (n ∷ behind_place w) ≡ t
+    → left w ≡ course_then t w.operators w.items (behind_all w.nodes.now w.loops.items)
+from_node w n x t goes more within at is =
+    left_going w w.loops.items goes refl
+    ∙ ap (λ t. course_then t w.operators w.items (behind_all w.nodes.now w.loops.items))
+    (ap tree_of (between-step w.nodes.now w.place w.stop x more within
+    ∙ ap (λ m. m ∷ behind_place w) at) ∙ is)
 
--- at a field that no operator changes
-pub visit-untouched : (ns : List Node) (i j : ℕ) (os : List Open) (q : Operators) (used : ℕ) (d : ℕ)
-    (e : Element) (x : Node) → i < j → j ≤ length ns → get_or ns i x ≡ nodes.Untouched d e
-    → used < most_items
-    → going ns i j os q used ≡ asks_if (untouched e) (used + 1) d
-    (λ n. going ns (i + 1) j os q (used + 1))
-unfolding course_then
-visit-untouched ns i j os q used d e x h g at below =
-    let tree = node_tree ns i j x (nodes.Untouched d e) h g at
-    ∙ tree_of-untouched d e (take (j - (i + 1)) (drop (i + 1) ns)) in
-    ap (λ t. course_then t q used (behind_all ns os)) tree ∙ item-below used _ below
+-- the same where the node is an item, and there is room for it
+pub at_node : (w : Walk) (n x : Node) (t : trees.Tree) (c : Course) → w.state ≡ states.Going
+    → w.place < w.stop → w.stop ≤ length w.nodes.now → get_or w.nodes.now w.place x ≡ n
+    → w.items < most_items → tree_of (n ∷ behind_place w) ≡ t
+    → course_then t w.operators w.items (behind_all w.nodes.now w.loops.items) ≡ item w.items c
+    → left w ≡ c
+at_node w n x t c goes more within at below is course =
+    from_node w n x t goes more within at is ∙ course ∙ item-below w.items c below
 
--- at an operator
-pub visit-operator : (ns : List Node) (i j : ℕ) (os : List Open) (q : Operators) (used : ℕ) (d : ℕ)
-    (x : Node) → i < j → j ≤ length ns → get_or ns i x ≡ nodes.Operator d → used < most_items
-    → going ns i j os q used ≡ going ns (i + 1) j os (in_force_after q d) (used + 1)
-unfolding course_then
-visit-operator ns i j os q used d x h g at below =
-    let tree = node_tree ns i j x (nodes.Operator d) h g at
-    ∙ tree_of-operator d (take (j - (i + 1)) (drop (i + 1) ns)) in
-    ap (λ t. course_then t q used (behind_all ns os)) tree ∙ item-below used _ below
+-- where the body ends of a replication at the place
+abbrev body_stop : Walk → ℕ → ℕ
+body_stop w len = (w.place + 1) + min len (w.stop - (w.place + 1))
 
--- at a replication
-pub visit-repeated : (ns : List Node) (i j : ℕ) (os : List Open) (q : Operators) (used : ℕ)
-    (times len : ℕ) (x : Node) → i < j → j ≤ length ns → get_or ns i x ≡ nodes.Repeated times len
-    → used < most_items
-    → going ns i j os q used ≡ turns_then ns times (i + 1) ((i + 1) + min len (j - (i + 1))) j
-    (behind_all ns os) q (used + 1)
-unfolding course_then
-visit-repeated ns i j os q used times len x h g at below =
-    let body = ap tree_of (between-body ns (i + 1) j len (omega arith)) in
-    let rest = ap tree_of (between-rest ns (i + 1) j len (omega arith)) in
-    let tree = node_tree ns i j x (nodes.Repeated times len) h g at
-    ∙ tree_of-repeated times len (take (j - (i + 1)) (drop (i + 1) ns))
-    ∙ ap (λ t. trees.repeated times t (tree_of
-    (drop len (take (j - (i + 1)) (drop (i + 1) ns))))) body
-    ∙ ap (λ t. trees.repeated times (tree_between ns (i + 1) ((i + 1) + min len (j - (i + 1))))
-    t) rest in
-    ap (λ t. course_then t q used (behind_all ns os)) tree ∙ item-below used _ below
-
--- at a delayed replication
-pub visit-delayed : (ns : List Node) (i j : ℕ) (os : List Open) (q : Operators) (used : ℕ) (d : ℕ)
-    (e : Element) (len : ℕ) (x : Node) → i < j → j ≤ length ns
-    → get_or ns i x ≡ nodes.Delayed d e len → used < most_items
-    → going ns i j os q used ≡ asks (used + 1) d (factor_spec e)
-    (λ n. turns_then ns n (i + 1) ((i + 1) + min len (j - (i + 1))) j (behind_all ns os) q
-    (used + 1))
-unfolding course_then
-visit-delayed ns i j os q used d e len x h g at below =
-    let body = ap tree_of (between-body ns (i + 1) j len (omega arith)) in
-    let rest = ap tree_of (between-rest ns (i + 1) j len (omega arith)) in
-    let tree = node_tree ns i j x (nodes.Delayed d e len) h g at
-    ∙ tree_of-delayed d e len (take (j - (i + 1)) (drop (i + 1) ns))
-    ∙ ap (λ t. trees.delayed d e t (tree_of (drop len (take (j - (i + 1)) (drop (i + 1) ns)))))
-    body ∙ ap (λ t. trees.delayed d e (tree_between ns (i + 1)
-    ((i + 1) + min len (j - (i + 1)))) t) rest in
-    ap (λ t. course_then t q used (behind_all ns os)) tree ∙ item-below used _ below
+-- the trees of the body and of the nodes behind it, by their places
+pub body_trees : (w : Walk) (len : ℕ) (f : trees.Tree → trees.Tree → trees.Tree)
+    → w.place < w.stop
+    → f (tree_of (take len (behind_place w))) (tree_of (drop len (behind_place w)))
+    ≡ f (tree_between w.nodes.now (w.place + 1) (body_stop w len))
+    (tree_between w.nodes.now (body_stop w len) w.stop)
+body_trees w len f more =
+    ap (λ t. f t (tree_of (drop len (behind_place w))))
+    (ap tree_of (between-body w.nodes.now (w.place + 1) w.stop len (omega arith)))
+    ∙ ap (f (tree_between w.nodes.now (w.place + 1) (body_stop w len)))
+    (ap tree_of (between-rest w.nodes.now (w.place + 1) w.stop len (omega arith)))
 
 -- a template of some node is too large where a message has no room for one more item
 pub stops_at : (t : trees.Tree) (q : Operators) (used : ℕ) (after : Then) → (t ≡ trees.done → ⊥)
@@ -148,18 +114,18 @@ some_tree (nodes.Repeated times len) ns h = let k = sym (tree_of-repeated times 
 some_tree (nodes.Delayed d e len) ns h = let k = sym (tree_of-delayed d e len ns) ∙ h in cc
 
 -- at any node, where there is no room for an item
-pub visit-limit : (ns : List Node) (i j : ℕ) (os : List Open) (q : Operators) (used : ℕ) → i < j
-    → j ≤ length ns → most_items ≤ used → going ns i j os q used ≡ stops used TooLarge
-visit-limit ns i j os q used h g above =
-    let n = get_or ns i (nodes.Operator 0) in
-    let tree = ap tree_of (between-step ns i j (nodes.Operator 0) h g) in
-    stops_at (tree_between ns i j) q used (behind_all ns os)
-    (λ e. some_tree n (take (j - (i + 1)) (drop (i + 1) ns)) (sym tree ∙ e)) above
+pub visit-limit : (w : Walk) → w.state ≡ states.Going → w.place < w.stop
+    → w.stop ≤ length w.nodes.now → most_items ≤ w.items → left w ≡ stops w.items TooLarge
+visit-limit w goes more within above =
+    let n = get_or w.nodes.now w.place (nodes.Operator 0) in
+    from_node w n (nodes.Operator 0) _ goes more within refl refl
+    ∙ stops_at (tree_of (n ∷ behind_place w)) w.operators w.items
+    (behind_all w.nodes.now w.loops.items) (some_tree n (behind_place w)) above
 
 -- ---- turns
 
 -- behind one more open replication
-pub behind-push : (ns : List Node) (os : List Open) (o : Open) (after : Then)
+behind-push : (ns : List Node) (os : List Open) (o : Open) (after : Then)
     → behind ns (os ++ o ∷ []) after ≡ turns_then ns o.turns o.from o.to o.stop (behind ns os after)
 unfolding behind
 behind-push ns [] o after = refl
@@ -167,24 +133,28 @@ behind-push ns (p ∷ os) o after = behind-push ns os o
     (turns_then ns p.turns p.from p.to p.stop after)
 
 -- behind the last node of a list
-pub going-passed : (ns : List Node) (i j : ℕ) (os : List Open) (q : Operators) (used : ℕ) → j ≤ i
-    → going ns i j os q used ≡ behind_all ns os q used
+passed : (w : Walk) (os : List Open) → w.state ≡ states.Going → w.loops.items ≡ os
+    → w.stop ≤ w.place → left w ≡ behind_all w.nodes.now os w.operators w.items
 unfolding course_then
-going-passed ns i j os q used h = ap (λ t. course_then t q used (behind_all ns os))
-    (tree_between-none ns i j h)
+passed w os goes opened h =
+    left_going w os goes opened
+    ∙ ap (λ t. course_then t w.operators w.items (behind_all w.nodes.now os))
+    (tree_between-none w.nodes.now w.place w.stop h)
 
--- a replication whose turns are still to come
-pub going-entered : (ns : List Node) (i j : ℕ) (os : List Open) (o : Open) (q : Operators)
-    (used : ℕ) → j ≤ i → going ns i j (os ++ o ∷ []) q used
-    ≡ turns_then ns o.turns o.from o.to o.stop (behind_all ns os) q used
-going-entered ns i j os o q used h = going-passed ns i j (os ++ o ∷ []) q used h
-    ∙ ap (λ f. f q used) (behind-push ns os o (λ q used. ends used))
+-- the turns of the innermost replication are still to come
+pub entered : (w : Walk) (os : List Open) (o : Open) → w.state ≡ states.Going
+    → w.loops.items ≡ os ++ o ∷ [] → w.stop ≤ w.place
+    → left w ≡ turns_then w.nodes.now o.turns o.from o.to o.stop (behind_all w.nodes.now os)
+    w.operators w.items
+entered w os o goes opened h =
+    passed w (os ++ o ∷ []) goes opened h
+    ∙ ap (λ f. f w.operators w.items) (behind-push w.nodes.now os o (λ q used. ends used))
 
 -- behind the last node of all
-pub going-none : (ns : List Node) (i j : ℕ) (q : Operators) (used : ℕ) → j ≤ i
-    → going ns i j [] q used ≡ ends used
+pub none_left : (w : Walk) → w.state ≡ states.Going → w.loops.items ≡ [] → w.stop ≤ w.place
+    → left w ≡ ends w.items
 unfolding behind
-going-none ns i j q used h = going-passed ns i j [] q used h
+none_left w goes opened h = passed w [] goes opened h
 
 -- no turn is left
 no_turn : (n : ℕ) (body : Operators → ℕ → Then → Course) (q : Operators) (used : ℕ) (after : Then)
@@ -203,34 +173,43 @@ next_turn (suc n) body q used after e =
     let k : suc n - 1 ≡ n = omega arith in rw k refl
 
 -- the end of a replication
-pub turn-over : (ns : List Node) (i j : ℕ) (os : List Open) (o : Open) (q : Operators) (used : ℕ)
-    → j ≤ i → o.turns ≡ 0 → going ns i j (os ++ o ∷ []) q used ≡ going ns o.to o.stop os q used
-turn-over ns i j os o q used h e = going-entered ns i j os o q used h ∙ no_turn o.turns _ q used _ e
+pub turn-over : (w : Walk) (os : List Open) (o : Open) → w.state ≡ states.Going
+    → w.loops.items ≡ os ++ o ∷ [] → w.stop ≤ w.place → o.turns ≡ 0
+    → left w ≡ going w.nodes.now o.to o.stop os w.operators w.items
+turn-over w os o goes opened h e =
+    entered w os o goes opened h ∙ no_turn o.turns _ w.operators w.items _ e
+
+-- a turn is left
+turn-left : (w : Walk) (os : List Open) (o : Open) → w.state ≡ states.Going
+    → w.loops.items ≡ os ++ o ∷ [] → w.stop ≤ w.place → 0 < o.turns
+    → left w ≡ item w.items (course_then (tree_between w.nodes.now o.from o.to) w.operators
+    (w.items + 1) (turns_then w.nodes.now (o.turns - 1) o.from o.to o.stop
+    (behind_all w.nodes.now os)))
+turn-left w os o goes opened h some =
+    entered w os o goes opened h
+    ∙ next_turn o.turns (course_then (tree_between w.nodes.now o.from o.to)) w.operators w.items
+    (rest_then w.nodes.now o.to o.stop (behind_all w.nodes.now os)) some
+
+-- a replication with one turn fewer to come
+abbrev pub one_turn_fewer : Open → Open
+one_turn_fewer o = record { turns = o.turns - 1; from = o.from; to = o.to; stop = o.stop }
 
 -- one turn more
-pub turn-more : (ns : List Node) (i j : ℕ) (os : List Open) (o next : Open) (q : Operators)
-    (used : ℕ) → j ≤ i → 0 < o.turns → used < most_items
-    → next ≡ record { turns = o.turns - 1; from = o.from; to = o.to; stop = o.stop }
-    → going ns i j (os ++ o ∷ []) q used ≡ going ns o.from o.to (os ++ next ∷ []) q (used + 1)
-turn-more ns i j os o next q used h some below e =
-    going-entered ns i j os o q used h
-    ∙ next_turn o.turns (course_then (tree_between ns o.from o.to)) q used
-    (rest_then ns o.to o.stop (behind_all ns os)) some
-    ∙ item-below used _ below
-    ∙ ap (λ f. course_then (tree_between ns o.from o.to) q (used + 1) f)
-    (sym (ap (λ n. behind_all ns (os ++ n ∷ [])) e
-    ∙ behind-push ns os (record { turns = o.turns - 1; from = o.from; to = o.to; stop = o.stop })
-    (λ q used. ends used)))
+pub turn-more : (w : Walk) (os : List Open) (o : Open) → w.state ≡ states.Going
+    → w.loops.items ≡ os ++ o ∷ [] → w.stop ≤ w.place → 0 < o.turns → w.items < most_items
+    → left w ≡ going w.nodes.now o.from o.to (os ++ one_turn_fewer o ∷ []) w.operators (w.items + 1)
+turn-more w os o goes opened h some below =
+    turn-left w os o goes opened h some
+    ∙ item-below w.items _ below
+    ∙ ap (λ f. course_then (tree_between w.nodes.now o.from o.to) w.operators (w.items + 1) f)
+    (sym (behind-push w.nodes.now os (one_turn_fewer o) (λ q used. ends used)))
 
 -- a turn is left, and there is no room for an item
-pub turn-limit : (ns : List Node) (i j : ℕ) (os : List Open) (o : Open) (q : Operators) (used : ℕ)
-    → j ≤ i → 0 < o.turns → most_items ≤ used
-    → going ns i j (os ++ o ∷ []) q used ≡ stops used TooLarge
-turn-limit ns i j os o q used h some above =
-    going-entered ns i j os o q used h
-    ∙ next_turn o.turns (course_then (tree_between ns o.from o.to)) q used
-    (rest_then ns o.to o.stop (behind_all ns os)) some
-    ∙ item-above used _ above
+pub turn-limit : (w : Walk) (os : List Open) (o : Open) → w.state ≡ states.Going
+    → w.loops.items ≡ os ++ o ∷ [] → w.stop ≤ w.place → 0 < o.turns → most_items ≤ w.items
+    → left w ≡ stops w.items TooLarge
+turn-limit w os o goes opened h some above =
+    turn-left w os o goes opened h some ∙ item-above w.items _ above
 
 -- ---- the whole template
 
@@ -250,17 +229,17 @@ pub goes_as : (c d : Course) (answer : Result Step WalkFault) (w : Walk) → c �
     → Goes c answer w
 goes_as c d answer w e h = let P : Course → Type 0 = λ v. Goes v answer w in subst P (sym e) h
 
--- a kind that does not count
-pub not_count : (k : Kind) → (k ≡ kinds.Count → ⊥) → same_kind k kinds.Count ≡ false
-not_count kinds.Text h = refl
-not_count kinds.Code h = refl
-not_count kinds.Flag h = refl
-not_count kinds.Quantity h = refl
-not_count kinds.Count h = absurd (h refl)
-
--- an answer to a count by an equal course
-pub counted_as : (c d : Course) (n : ℕ) (w : Walk) → c ≡ d → Counted d n w → Counted c n w
-counted_as c d n w e h = let P : Course → Type 0 = λ v. Counted v n w in subst P (sym e) h
+-- an answer to a count of a walk that waits, by where the body begins
+pub counted : (w v : Walk) (a : Asked) (body : Option ℕ) (n : ℕ) → w.state ≡ states.Waiting a
+    → a.body ≡ body
+    → (left v ≡ told body w.nodes.now w.place w.stop w.loops.items n w.operators w.items)
+    × (waits v ≡ false) × (items_met v ≡ w.items) → Counted (left w) n v
+unfolding left
+counted w v a body n e f h =
+    let P : Course → Type 0 = λ c. Counted c n v in
+    subst P (sym (ap (λ s. left_in s w.nodes.now w.place w.stop w.loops.items w.operators w.items) e
+    ∙ ap (λ b. asks w.items a.fxy a.spec
+    (λ n. told b w.nodes.now w.place w.stop w.loops.items n w.operators w.items)) f)) h
 
 -- a walk that waits has asked for a number
 pub waits_for : (s : State) → is_waiting s ≡ true → ((a : Asked) → s ≡ states.Waiting a → ⊥) → ⊥
