@@ -8,7 +8,7 @@ use Rattle.std.proofs.lemmas.Bool.{cases_lt}
 use Rattle.bufr_tables.specs.declared.element.Element.{Element}
 use Rattle.bufr_expand.specs.declared.node.Node.{Node}
 use Rattle.bufr_expand.specs.declared.node.Node.TheVariants as nodes
-use Rattle.bufr_expand.specs.Trees.{done, element, untouched, operator, repeated, delayed}
+use Rattle.bufr_expand.specs.Trees.{Tree, done, element, untouched, operator, repeated, delayed}
 use Rattle.bufr_expand.specs.Trees.{tree_within, tree_of}
 use Rattle.bufr_expand.specs.Walks.{tree_between}
 
@@ -61,33 +61,31 @@ pub tree_of-operator : (d : ℕ) (ns : List Node)
 unfolding tree_within
 tree_of-operator d ns = refl
 
--- the tree of a body's nodes, however far it may go on
-within_take : (len : ℕ) (ns : List Node)
-    → tree_within (length ns) (take len ns) ≡ tree_of (take len ns)
-within_take len ns = let t = length-take len ns in
-    enough (length ns) (length (take len ns)) (take len ns) (omega arith) (omega arith)
-
--- of the nodes behind a body
-within_drop : (len : ℕ) (ns : List Node)
-    → tree_within (length ns) (drop len ns) ≡ tree_of (drop len ns)
-within_drop len ns = let d = length-drop len ns in
-    enough (length ns) (length (drop len ns)) (drop len ns) (omega arith) (omega arith)
+-- the trees of a body and of the nodes behind it, however far they may go on
+body_apart : (join : Tree → Tree → Tree) (len : ℕ) (ns : List Node)
+    → join (tree_within (length ns) (take len ns)) (tree_within (length ns) (drop len ns))
+    ≡ join (tree_of (take len ns)) (tree_of (drop len ns))
+body_apart join len ns =
+    let t = length-take len ns in
+    let d = length-drop len ns in
+    rw (
+      enough (length ns) (length (take len ns)) (take len ns) (omega arith) (omega arith),
+      enough (length ns) (length (drop len ns)) (drop len ns) (omega arith) (omega arith),
+    ) refl
 
 -- of a replication
 pub tree_of-repeated : (times len : ℕ) (ns : List Node)
     → tree_of (nodes.Repeated times len ∷ ns)
     ≡ repeated times (tree_of (take len ns)) (tree_of (drop len ns))
 unfolding tree_within
-tree_of-repeated times len ns = ap (λ t. repeated times t (tree_within (length ns) (drop len ns)))
-    (within_take len ns) ∙ ap (λ t. repeated times (tree_of (take len ns)) t) (within_drop len ns)
+tree_of-repeated times len ns = body_apart (repeated times) len ns
 
 -- of a delayed replication
 pub tree_of-delayed : (d : ℕ) (e : Element) (len : ℕ) (ns : List Node)
     → tree_of (nodes.Delayed d e len ∷ ns)
     ≡ delayed d e (tree_of (take len ns)) (tree_of (drop len ns))
 unfolding tree_within
-tree_of-delayed d e len ns = ap (λ t. delayed d e t (tree_within (length ns) (drop len ns)))
-    (within_take len ns) ∙ ap (λ t. delayed d e (tree_of (take len ns)) t) (within_drop len ns)
+tree_of-delayed d e len ns = body_apart (delayed d e) len ns
 
 -- no nodes
 pub tree_between-none : (ns : List Node) (i j : ℕ) → j ≤ i → tree_between ns i j ≡ done
@@ -107,34 +105,31 @@ between-step ns i j d h g =
     let e : j - i ≡ suc (j - (i + 1)) = omega arith in
     rw (e, drop_more ns i d inside) refl
 
--- the first nodes behind a place, no more than there are
-pub between-body : (ns : List Node) (p j len : ℕ) → p ≤ j
-    → take len (take (j - p) (drop p ns)) ≡ take ((p + min len (j - p)) - p) (drop p ns)
-between-body ns p j len h =
-    let few : len ≤ j - p → take len (take (j - p) (drop p ns))
-    ≡ take ((p + min len (j - p)) - p) (drop p ns) =
-    λ s. let e : (p + min len (j - p)) - p ≡ len = omega arith in
-    rw e (take-take len (j - p) (drop p ns) s) in
-    let many : j - p < len → take len (take (j - p) (drop p ns))
-    ≡ take ((p + min len (j - p)) - p) (drop p ns) =
-    λ s. let e : (p + min len (j - p)) - p ≡ j - p = omega arith in
-    let t = length-take (j - p) (drop p ns) in
-    rw e (take_all len (take (j - p) (drop p ns)) (omega arith)) in
-    elim (cases_lt (j - p) len) [ inl s ↦ many s | inr s ↦ few s ]
-
--- the nodes behind these
-pub between-rest : (ns : List Node) (p j len : ℕ) → p ≤ j
-    → drop len (take (j - p) (drop p ns))
-    ≡ take (j - (p + min len (j - p))) (drop (p + min len (j - p)) ns)
-between-rest ns p j len h =
-    let few : len ≤ j - p → drop len (take (j - p) (drop p ns))
-    ≡ take (j - (p + min len (j - p))) (drop (p + min len (j - p)) ns) =
-    λ s. let e : min len (j - p) ≡ len = omega arith in
-    let f : j - p ≡ len + (j - (p + len)) = omega arith in
-    rw (e, f, drop-take len (j - (p + len)) (drop p ns), drop-drop len p ns) refl in
-    let many : j - p < len → drop len (take (j - p) (drop p ns))
-    ≡ take (j - (p + min len (j - p))) (drop (p + min len (j - p)) ns) =
-    λ s. let e : j - (p + min len (j - p)) ≡ 0 = omega arith in
-    let t = length-take (j - p) (drop p ns) in
-    rw (e, drop_all len (take (j - p) (drop p ns)) (omega arith)) refl in
-    elim (cases_lt (j - p) len) [ inl s ↦ many s | inr s ↦ few s ]
+-- the nodes from one place to another are parted where a body ends: behind so many of them, or
+-- behind all
+pub between-parts : (ns : List Node) (p j len : ℕ) → p ≤ j
+    → (take len (take (j - p) (drop p ns)) ≡ take ((p + min len (j - p)) - p) (drop p ns))
+    × (drop len (take (j - p) (drop p ns))
+    ≡ take (j - (p + min len (j - p))) (drop (p + min len (j - p)) ns))
+between-parts ns p j len h =
+    elim (cases_lt (j - p) len) [
+      | inl s ↦
+          let body : (p + min len (j - p)) - p ≡ j - p = omega arith in
+          let rest : j - (p + min len (j - p)) ≡ 0 = omega arith in
+          let t = length-take (j - p) (drop p ns) in (
+            rw body (take_all len (take (j - p) (drop p ns)) (omega arith)),
+            rw (rest, drop_all len (take (j - p) (drop p ns)) (omega arith)) refl,
+          )
+      | inr s ↦
+          let body : (p + min len (j - p)) - p ≡ len = omega arith in
+          let all : min len (j - p) ≡ len = omega arith in
+          let more : j - p ≡ len + (j - (p + len)) = omega arith in (
+            rw body (take-take len (j - p) (drop p ns) s),
+            rw (
+              all,
+              more,
+              drop-take len (j - (p + len)) (drop p ns),
+              drop-drop len p ns,
+            ) refl,
+          )
+    ]

@@ -5,6 +5,7 @@ use Rattle.std.proofs.Common.{List, ℤ, pos, negsuc, ◌+ℤ◌, Option, Some, 
 use Rattle.std.proofs.Common.{arith}
 use Rattle.std.specs.Prelude.{◌-ℤ◌, ◌==◌, IfSome}
 use Rattle.std.specs.Int.RustNames.{unsigned_abs}
+use Rattle.std.proofs.lemmas.Bool.{cond_both}
 use Rattle.std.proofs.lemmas.Int.{ints}
 use Rattle.bufr_tables.specs.declared.element.Element.{Element}
 use Rattle.bufr_tables.specs.declared.element.Kind.TheVariants as kinds
@@ -226,16 +227,11 @@ abbrev HaveThen : (Spec → Type 0) → Then → Type 0
 HaveThen Has after = (q : Operators) (used : ℕ) → AreSmall q → EachAsked Has (after q used)
 
 -- one more item, where there is room for it
-by_room : (Has : Spec → Type 0) (used : ℕ) (b : Bool) (c : Course) → EachAsked Has c
-    → EachAsked Has (cond b c (stops used TooLarge))
-unfolding EachAsked
-by_room Has used true c h = h
-by_room Has used false c h = tt
-
--- the same as the courses have it
 at_item : (Has : Spec → Type 0) (used : ℕ) (c : Course) → EachAsked Has c
     → EachAsked Has (item used c)
-at_item Has used c h = by_room Has used (ltb used most_items) c h
+unfolding EachAsked
+at_item Has used c h =
+    cond_both (ltb used most_items) c (stops used TooLarge) (EachAsked Has) (λ e. h) (λ e. tt)
 
 -- a field
 at_field : (Has : Spec → Type 0) (spec : Option Spec) (met d : ℕ) (more : ℕ → Course)

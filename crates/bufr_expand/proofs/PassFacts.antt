@@ -30,7 +30,7 @@ use Rattle.bufr_expand.specs.Walks.{told, left_in, left, is_waiting, waits, item
 use Rattle.bufr_expand.specs.Walks.{Counted}
 use Rattle.bufr_expand.proofs.Between.{tree_between-all, tree_of-element, tree_of-untouched}
 use Rattle.bufr_expand.proofs.Between.{tree_of-operator, tree_of-repeated, tree_of-delayed}
-use Rattle.bufr_expand.proofs.Between.{tree_between-none, between-step, between-body, between-rest}
+use Rattle.bufr_expand.proofs.Between.{tree_between-none, between-step, between-parts}
 
 -- ---- items
 
@@ -89,10 +89,8 @@ pub body_trees : (w : Walk) (len : ℕ) (f : trees.Tree → trees.Tree → trees
     ≡ f (tree_between w.nodes.now (w.place + 1) (body_stop w len))
     (tree_between w.nodes.now (body_stop w len) w.stop)
 body_trees w len f more =
-    ap (λ t. f t (tree_of (drop len (behind_place w))))
-    (ap tree_of (between-body w.nodes.now (w.place + 1) w.stop len (omega arith)))
-    ∙ ap (f (tree_between w.nodes.now (w.place + 1) (body_stop w len)))
-    (ap tree_of (between-rest w.nodes.now (w.place + 1) w.stop len (omega arith)))
+    let p = between-parts w.nodes.now (w.place + 1) w.stop len (omega arith) in
+    rw (p.0, p.1) refl
 
 -- a template of some node is too large where a message has no room for one more item
 pub stops_at : (t : trees.Tree) (q : Operators) (used : ℕ) (after : Then) → (t ≡ trees.done → ⊥)

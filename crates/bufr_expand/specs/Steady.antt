@@ -3,7 +3,7 @@
 -- the law `courses_are_steady`.
 use Rattle.std.proofs.Common.{◌≡◌, ℕ, zero, suc, ◌+◌, ◌<◌, ◌≤◌, Bool, true, false, cond, ltb}
 use Rattle.std.proofs.Common.{Option, Some, None, refl, arith}
-use Rattle.std.proofs.lemmas.Bool.{ltb-true}
+use Rattle.std.proofs.lemmas.Bool.{ltb-true, cond_both}
 use Rattle.bufr_tables.specs.declared.element.Kind.TheVariants as kinds
 use Rattle.bufr_tables.specs.Elements.{same_kind}
 use Rattle.bufr_expand.specs.declared.operators.Operators.{Operators}
@@ -44,17 +44,13 @@ earlier used later (asks met d spec more) le s = (omega (arith, s.0), s.1, s.2, 
 abbrev IsSteadyThen : Then → Type 0
 IsSteadyThen after = (q : Operators) (used : ℕ) → IsSteady used (after q used)
 
--- a test of the room for an item
-steady_if : (used : ℕ) (b : Bool) (c : Course) → (b ≡ true → IsSteady used c)
-    → IsSteady used (cond b c (stops used TooLarge))
-unfolding IsSteady
-steady_if used true c s = s refl
-steady_if used false c s = tt
-
 -- one more item, where there is room for it
 steady_item : (used : ℕ) (c : Course) → (used < most_items → IsSteady used c)
     → IsSteady used (item used c)
-steady_item used c s = steady_if used (ltb used most_items) c (λ e. s (ltb-true used most_items e))
+unfolding IsSteady
+steady_item used c s =
+    cond_both (ltb used most_items) c (stops used TooLarge) (IsSteady used)
+    (λ e. s (ltb-true used most_items e)) (λ e. tt)
 
 -- a field whose number decides nothing
 steady_field : (used d : ℕ) (spec : Option Spec) (c : Course) → used < most_items

@@ -1,12 +1,27 @@
 -- A tree is told by its nodes in depth-first order: for what contracts see of a `Template`, and the
 -- law `templates_are_trees`.
-use Rattle.std.proofs.Common.{◌≡◌, ℕ, zero, suc, ◌≤◌, List, length, refl, ap, arith, length-append}
+use Rattle.std.proofs.Common.{◌≡◌, ℕ, zero, suc, ◌≤◌, List, ◌++◌, length, take, drop, refl, ap}
+use Rattle.std.proofs.Common.{arith, length-append}
 use Rattle.std.proofs.lemmas.List.{take_at, drop_at}
 use Rattle.std.specs.Coded.{Coded, code_by, coded_list}
 use Rattle.bufr_expand.specs.declared.node.Node.{Node}
 use Rattle.bufr_expand.specs.contracts.node.Node as node
 use Rattle.bufr_expand.specs.Trees.{Tree, done, element, untouched, operator, repeated, delayed}
 use Rattle.bufr_expand.specs.Trees.{nodes_of, tree_within, tree_of}
+
+-- the nodes of a body and those behind it are parted where the body ends
+parted : (join : Tree → Tree → Tree) (body rest : Tree) (k : ℕ)
+    → tree_within k (nodes_of body) ≡ body → tree_within k (nodes_of rest) ≡ rest
+    → join (tree_within k (take (length (nodes_of body)) (nodes_of body ++ nodes_of rest)))
+    (tree_within k (drop (length (nodes_of body)) (nodes_of body ++ nodes_of rest)))
+    ≡ join body rest
+parted join body rest k front back =
+    rw (
+      take_at (nodes_of body) (nodes_of rest) (length (nodes_of body)) refl,
+      drop_at (nodes_of body) (nodes_of rest) (length (nodes_of body)) refl,
+      front,
+      back,
+    ) refl
 
 -- the tree of the nodes of a tree, however far it may go on
 pub tree_within-nodes_of : (t : Tree) (k : ℕ) → length (nodes_of t) ≤ k
@@ -26,25 +41,13 @@ tree_within-nodes_of (operator d rest) (suc k) h =
 tree_within-nodes_of (repeated n body rest) zero h = absurd (omega arith)
 tree_within-nodes_of (repeated n body rest) (suc k) h =
     let both = length-append (nodes_of body) (nodes_of rest) in
-    let front = take_at (nodes_of body) (nodes_of rest) (length (nodes_of body)) refl in
-    let back = drop_at (nodes_of body) (nodes_of rest) (length (nodes_of body)) refl in
-    rw (
-      front,
-      back,
-      tree_within-nodes_of body k (omega arith),
-      tree_within-nodes_of rest k (omega arith),
-    ) refl
+    parted (repeated n) body rest k (tree_within-nodes_of body k (omega arith))
+    (tree_within-nodes_of rest k (omega arith))
 tree_within-nodes_of (delayed d e body rest) zero h = absurd (omega arith)
 tree_within-nodes_of (delayed d e body rest) (suc k) h =
     let both = length-append (nodes_of body) (nodes_of rest) in
-    let front = take_at (nodes_of body) (nodes_of rest) (length (nodes_of body)) refl in
-    let back = drop_at (nodes_of body) (nodes_of rest) (length (nodes_of body)) refl in
-    rw (
-      front,
-      back,
-      tree_within-nodes_of body k (omega arith),
-      tree_within-nodes_of rest k (omega arith),
-    ) refl
+    parted (delayed d e) body rest k (tree_within-nodes_of body k (omega arith))
+    (tree_within-nodes_of rest k (omega arith))
 
 -- the tree of a tree's nodes is that tree
 pub tree_of-nodes_of : (t : Tree) → tree_of (nodes_of t) ≡ t
