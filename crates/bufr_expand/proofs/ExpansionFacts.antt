@@ -2,7 +2,7 @@
 -- `Template::build`, by way of that of `expand`.
 use Rattle.std.proofs.Common.{◌≡◌, ℕ, zero, suc, ◌+◌, ◌-◌, ◌<◌, List, [], ◌∷◌, ◌++◌, length, drop}
 use Rattle.std.proofs.Common.{set, Ok, Err, refl, sym, ap, subst, ◌∙◌, arith, append_assoc}
-use Rattle.std.proofs.Common.{length-append, Bool, true, false, cond, ltb}
+use Rattle.std.proofs.Common.{length-append, Bool, true, false, cond, ltb, ◌⊎◌, inl, inr}
 use Rattle.std.proofs.lemmas.List.{append-nil}
 use Rattle.std.proofs.Math.Seq.{set-append_seam}
 use Rattle.bufr_tables.specs.Answers.{Fails, ◌>>=◌}
@@ -31,6 +31,18 @@ pub onto_err : (before : List Node) (m : Expansion) (f : TemplateFault) → onto
     → m ≡ Err f
 onto_err before (Ok ns) f e = absurd (cc)
 onto_err before (Err g) f e = cc
+
+-- nodes that are answered where there is room
+pub room_ok : (b : Bool) (x : Expansion) (ns : List Node) → cond b x (Err TooManyNodes) ≡ Ok ns
+    → (b ≡ true) × (x ≡ Ok ns)
+room_ok true x ns e = (refl, e)
+room_ok false x ns e = absurd (cc)
+
+-- and a fault, where there is room or none
+pub room_err : (b : Bool) (x : Expansion) (f : TemplateFault) → cond b x (Err TooManyNodes) ≡ Err f
+    → ((b ≡ true) × (x ≡ Err f)) ⊎ ((b ≡ false) × (TooManyNodes ≡ f))
+room_err true x f e = inl (refl, e)
+room_err false x f e = inr (refl, cc)
 
 -- one expansion behind another
 pub onto_append : (before ns : List Node) (m : Expansion)

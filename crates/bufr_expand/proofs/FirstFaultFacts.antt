@@ -18,8 +18,8 @@ use Rattle.bufr_expand.specs.declared.node.TemplateFault.{TemplateFault}
 use Rattle.bufr_expand.specs.declared.node.TemplateFault.TheVariants.{TooDeep, TooManyNodes}
 use Rattle.bufr_expand.specs.Expansion.{Expansion, Deeper, FirstPart, Part, single, inner}
 use Rattle.bufr_expand.specs.Expansion.{replication, text_of_characters, found, found_at}
-use Rattle.bufr_expand.specs.Expansion.{part_nodes, replication_node, expand_list, expand_within}
-use Rattle.bufr_expand.specs.Expansion.{expansion}
+use Rattle.bufr_expand.specs.Expansion.{part_nodes, single_nodes, replication_nodes, replication_node, expand_list}
+use Rattle.bufr_expand.specs.Expansion.{expand_within, expansion}
 use Rattle.bufr_expand.specs.Trees.{Tree, nodes_of}
 use Rattle.bufr_expand.specs.Flat.{Flat, nothing, element_first, operator_first, text_first}
 use Rattle.bufr_expand.specs.Flat.{width_first, sequence_first, repeated_first, delayed_first}
@@ -31,12 +31,13 @@ use Rattle.bufr_expand.specs.FirstFaults.{node_too_many, replication_too_many, i
 use Rattle.bufr_expand.specs.FirstFaults.{in_replication, behind_node, behind_sequence}
 use Rattle.bufr_expand.specs.FirstFaults.{behind_replication, RefusesExactly, HasTreeOrFault}
 use Rattle.bufr_expand.specs.FirstFaults.{HasNotBoth, HasOneFault, HasNoTreeAt}
-use Rattle.bufr_expand.proofs.ExpansionFacts.{expand_list-skip, expand_list-found}
+use Rattle.bufr_expand.proofs.ExpansionFacts.{expand_list-found, room_ok, room_err}
 use Rattle.bufr_expand.proofs.ReadingFacts.{IsRead, an_element, an_operator, a_text, a_width}
 use Rattle.bufr_expand.proofs.ReadingFacts.{a_sequence, a_repeated, a_delayed, reads, has_no_case}
 use Rattle.bufr_expand.proofs.FindingFacts.{found_is, fault_found}
-use Rattle.bufr_expand.proofs.FlatFacts.{has_tree_within, single_fits, replication_fits}
-use Rattle.bufr_expand.proofs.FlatFacts.{body_read, factor_read, flat_expands, expands_exactly}
+use Rattle.bufr_expand.proofs.FlatFacts.{has_tree_within, replication_ok, Opens, opens, rest_behind}
+use Rattle.bufr_expand.proofs.FlatFacts.{node_behind, replication_fits, body_behind, body_opens}
+use Rattle.bufr_expand.proofs.FlatFacts.{factor_opens, flat_expands, expands_exactly}
 
 -- ---- what a list begins with
 
@@ -75,34 +76,37 @@ AreFirst tables levels =
     → expand_within levels tables s r used list ≡ Err f → FirstFault tables s r used list f
 
 -- the fault of a node is the first
-single_fault : (b : Bool) (tables : Entries) (s r used : ℕ) (node : Node) (list behind : List ℕ)
-    (f : TemplateFault) → NodeFirst tables list behind → ltb used most_nodes ≡ b
-    → cond b (Ok (node ∷ [])) (Err TooManyNodes) ≡ Err f → FirstFault tables s r used list f
-single_fault true tables s r used node list behind f front room e = absurd (cc)
-single_fault false tables s r used node list behind f front room e =
-    let same : TooManyNodes ≡ f = cc in
-    subst (FirstFault tables s r used list) same
-    (node_too_many front (ltb-false used most_nodes room))
+single_fault : (tables : Entries) (s r used : ℕ) (node : Node) (list behind : List ℕ)
+    (f : TemplateFault) → NodeFirst tables list behind → single_nodes used node ≡ Err f
+    → FirstFault tables s r used list f
+single_fault tables s r used node list behind f front e =
+    elim (room_err (ltb used most_nodes) (Ok (node ∷ [])) f e) [
+      | inl h ↦ let no = h.1 in absurd (cc)
+      | inr h ↦ subst (FirstFault tables s r used list) h.1
+          (node_too_many front (ltb-false used most_nodes h.0))
+    ]
 
 -- the fault of a replication or of its body is
-body_fault : (b : Bool) (tables : Entries) (levels s r used : ℕ) (head : Repetitions)
+body_fault : (tables : Entries) (levels s r used : ℕ) (head : Repetitions)
     (list body behind : List ℕ) (f : TemplateFault) → AreFirst tables levels → s + suc r ≤ levels
-    → ReplicationFirst tables list body behind → ltb used most_nodes ≡ b
-    → cond b (expand_within levels tables s r (used + 1) body
-    >>= λ ns. Ok (replication_node head (length ns) ∷ ns)) (Err TooManyNodes) ≡ Err f
+    → ReplicationFirst tables list body behind
+    → replication_nodes (expand_within levels tables) s r used head body ≡ Err f
     → FirstFault tables s (suc r) used list f
 unfolding AreFirst
-body_fault true tables levels s r used head list body behind f all deep front room e =
-    let low : used < most_nodes = ltb-true used most_nodes room in
-    elim (bind_err (expand_within levels tables s r (used + 1) body)
-    (λ (ns : List Node). Ok (replication_node head (length ns) ∷ ns)) f e) [
-      | inl q ↦ in_replication front low (all s r (used + 1) body f (omega arith) (omega arith) q)
-      | inr q ↦ let no = q.2 in absurd (cc)
+body_fault tables levels s r used head list body behind f all deep front e =
+    let made : List Node → Expansion = λ l. Ok (replication_node head (length l) ∷ l) in
+    let inside : Expansion = expand_within levels tables s r (used + 1) body in
+    elim (room_err (ltb used most_nodes) (inside >>= made) f e) [
+      | inl h ↦
+          let low : used < most_nodes = ltb-true used most_nodes h.0 in
+          elim (bind_err inside made f h.1) [
+            | inl q ↦
+                in_replication front low (all s r (used + 1) body f (omega arith) (omega arith) q)
+            | inr q ↦ let no = q.2 in absurd (cc)
+          ]
+      | inr h ↦ subst (FirstFault tables s (suc r) used list) h.1
+          (replication_too_many front (ltb-false used most_nodes h.0))
     ]
-body_fault false tables levels s r used head list body behind f all deep front room e =
-    let same : TooManyNodes ≡ f = cc in
-    subst (FirstFault tables s (suc r) used list) same
-    (replication_too_many front (ltb-false used most_nodes room))
 
 -- the fault of a part is
 part_fault : (tables : Entries) (levels s r used : ℕ) (part : Part) (list behind : List ℕ)
@@ -111,7 +115,7 @@ part_fault : (tables : Entries) (levels s r used : ℕ) (part : Part) (list behi
     ≡ Err f → FirstFault tables s r used list f
 unfolding HasFirst AreFirst
 part_fault tables levels s r used (single node) list behind f all deep fits front e =
-    single_fault (ltb used most_nodes) tables s r used node list behind f front refl e
+    single_fault tables s r used node list behind f front e
 part_fault tables levels zero r used (inner inside) list behind f all deep fits front e =
     let same : TooDeep ≡ f = cc in
     subst (FirstFault tables zero r used list) same (sequence_too_deep front)
@@ -122,8 +126,7 @@ part_fault tables levels s zero used (replication head body) list behind f all d
     subst (FirstFault tables s zero used list) same (replication_too_deep front)
 part_fault tables levels s (suc r) used
     (replication head body) list behind f all deep fits front e =
-    body_fault (ltb used most_nodes) tables levels s r used head list body behind f all deep front
-    refl e
+    body_fault tables levels s r used head list body behind f all deep front e
 
 -- a fault behind a part that has its nodes, of which there are no more than there may be
 Passes : Entries → ℕ → ℕ → ℕ → List ℕ → List ℕ → List Node → Type 0
@@ -133,44 +136,38 @@ Passes tables s r used list behind first =
     → FirstFault tables s r used list f)
 
 -- a node within the limits leaves the first fault to the rest
-single_passes : (b : Bool) (tables : Entries) (s r used : ℕ) (node : Node) (list behind : List ℕ)
-    (first : List Node) → NodeFirst tables list behind → ltb used most_nodes ≡ b
-    → cond b (Ok (node ∷ [])) (Err TooManyNodes) ≡ Ok first
+single_passes : (tables : Entries) (s r used : ℕ) (node : Node) (list behind : List ℕ)
+    (first : List Node) → NodeFirst tables list behind → single_nodes used node ≡ Ok first
     → Passes tables s r used list behind first
 unfolding Passes
-single_passes true tables s r used node list behind first front room e =
-    let same : node ∷ [] ≡ first = cc in
+single_passes tables s r used node list behind first front e =
+    let p = room_ok (ltb used most_nodes) (Ok (node ∷ [])) first e in
+    let same : node ∷ [] ≡ first = let own = p.1 in cc in
     let long : length first ≡ 1 = ap length (sym same) in
-    let low : used < most_nodes = ltb-true used most_nodes room in (
+    let low : used < most_nodes = ltb-true used most_nodes p.0 in (
       omega arith,
       λ f g. behind_node front low
           (subst (λ (n : ℕ). FirstFault tables s r (used + n) behind f) long g),
     )
-single_passes false tables s r used node list behind first front room e = absurd (cc)
 
 -- so does a replication
-body_passes : (b : Bool) (tables : Entries) (levels s r used : ℕ) (head : Repetitions)
+body_passes : (tables : Entries) (levels s r used : ℕ) (head : Repetitions)
     (list body behind : List ℕ) (first : List Node) → ReplicationFirst tables list body behind
-    → ltb used most_nodes ≡ b → cond b
-    (expand_within levels tables s r (used + 1) body
-    >>= λ ns. Ok (replication_node head (length ns) ∷ ns)) (Err TooManyNodes) ≡ Ok first
+    → replication_nodes (expand_within levels tables) s r used head body ≡ Ok first
     → Passes tables s (suc r) used list behind first
 unfolding Passes
-body_passes true tables levels s r used head list body behind first front room e =
-    let q = bind_ok (expand_within levels tables s r (used + 1) body)
-    (λ (ns : List Node). Ok (replication_node head (length ns) ∷ ns)) first e in
-    let low : used < most_nodes = ltb-true used most_nodes room in
-    let w = has_tree_within tables levels s r (used + 1) body q.0 (omega arith) q.1 in
-    let same : replication_node head (length q.0) ∷ q.0 ≡ first = cc in
-    let long : length first ≡ suc (length q.0) = ap length (sym same) in
-    let size : length (nodes_of w.0) ≡ length q.0 = ap length w.2 in
-    let most : used + 1 + length q.0 ≤ most_nodes = w.3 in
+body_passes tables levels s r used head list body behind first front e =
+    let p = replication_ok (expand_within levels tables) s r used head body first e in
+    let low : used < most_nodes = p.0 in
+    let w = has_tree_within tables levels s r (used + 1) body p.1 (omega arith) p.2 in
+    let long : length first ≡ suc (length p.1) = ap length (sym p.3) in
+    let size : length (nodes_of w.0) ≡ length p.1 = ap length w.2 in
+    let most : used + 1 + length p.1 ≤ most_nodes = w.3 in
     let count : used + length first ≡ used + 1 + length (nodes_of w.0) = omega arith in (
       omega arith,
       λ f g. behind_replication front w.1 (omega arith)
           (subst (λ (n : ℕ). FirstFault tables s (suc r) n behind f) count g),
     )
-body_passes false tables levels s r used head list body behind first front room e = absurd (cc)
 
 -- so does a part
 part_passes : (tables : Entries) (levels s r used : ℕ) (part : Part) (list behind : List ℕ)
@@ -179,7 +176,7 @@ part_passes : (tables : Entries) (levels s r used : ℕ) (part : Part) (list beh
     → Passes tables s r used list behind first
 unfolding HasFirst Passes
 part_passes tables levels s r used (single node) list behind first fits front e =
-    single_passes (ltb used most_nodes) tables s r used node list behind first front refl e
+    single_passes tables s r used node list behind first front e
 part_passes tables levels zero r used (inner inside) list behind first fits front e = absurd (cc)
 part_passes tables levels (suc s) r used (inner inside) list behind first fits front e =
     let w = has_tree_within tables levels s r used inside first fits e in
@@ -192,8 +189,7 @@ part_passes tables levels (suc s) r used (inner inside) list behind first fits f
 part_passes tables levels s zero used (replication head body) list behind first fits front e =
     absurd (cc)
 part_passes tables levels s (suc r) used (replication head body) list behind first fits front e =
-    body_passes (ltb used most_nodes) tables levels s r used head list body behind first front refl
-    e
+    body_passes tables levels s r used head list body behind first front e
 
 -- the fault of a list is its first
 list_fault : (tables : Entries) (levels s r skip used : ℕ) (list : List ℕ) (f : TemplateFault)
@@ -201,8 +197,7 @@ list_fault : (tables : Entries) (levels s r skip used : ℕ) (list : List ℕ) (
     → expand_list tables (expand_within levels tables) s r skip used list ≡ Err f
     → FirstFault tables s r used (drop skip list) f
 unfolding expand_list Passes
-list_fault tables levels s r zero used [] f all deep fits e = absurd (cc)
-list_fault tables levels s r (suc skip) used [] f all deep fits e = absurd (cc)
+list_fault tables levels s r skip used [] f all deep fits e = absurd (cc)
 list_fault tables levels s r (suc skip) used (d ∷ behind) f all deep fits e =
     list_fault tables levels s r skip used behind f all deep fits e
 list_fault tables levels s r zero used (d ∷ behind) f all deep fits e =
@@ -244,12 +239,6 @@ faults_are_first tables (suc levels) =
 
 -- ---- a first fault is that of the expansion
 
--- what the first descriptors of a list are read as, and the list behind them
-data Opens : Entries → List ℕ → Part → List ℕ → Type 0 where
-  opens : {tables : Entries} {d : ℕ} {behind after : List ℕ} {part : Part} {taken : ℕ}
-      → IsRead tables d behind part taken → drop taken behind ≡ after
-      → Opens tables (d ∷ behind) part after
-
 -- a list that begins with a node
 node_opens : (tables : Entries) (list after : List ℕ) → NodeFirst tables list after → (node : Node)
     × Opens tables list (single node) after
@@ -271,16 +260,10 @@ sequence_opens tables list inside after (sequence_list f k) = opens (a_sequence 
 replication_opens : (tables : Entries) (list body after : List ℕ)
     → ReplicationFirst tables list body after → (head : Repetitions)
     × Opens tables list (replication head body) after
-replication_opens tables list body after (repeated_body {fxy = d} f x y n) = (
-  repetitions.Times (y_of d),
-  opens (body_read tables d body after f x y n)
-      (drop_at body after (x_of d) n),
-)
-replication_opens tables list body after (delayed_body {fxy = d} {factor} {row = e} f x y i k c n) = (
-  repetitions.Factor factor e,
-  opens (factor_read tables d factor e body after f x y i k c n)
-      (rw add-one (drop_at body after (x_of d) n)),
-)
+replication_opens tables list body after (repeated_body {fxy = d} f x y n) =
+    (repetitions.Times (y_of d), body_opens tables d body after f x y n)
+replication_opens tables list body after (delayed_body {fxy = d} {factor} {row = e} f x y i k c n) =
+    (repetitions.Factor factor e, factor_opens tables d factor e body after f x y i k c n)
 
 -- a fault of the first part is that of the list
 fault_in_front : (tables : Entries) (deeper : Deeper) (s r used : ℕ) (list after : List ℕ)
@@ -291,22 +274,6 @@ fault_in_front tables deeper s r used list after part f (opens {d} {behind} {tak
     (sym (found_is tables d behind part taken read))
     ∙ ap (λ (x : Expansion). x >>= λ first. expand_list tables deeper s r taken
     (used + length first) behind >>= λ rest. Ok (first ++ rest)) p
-
--- so is one of the list behind it
-fault_behind : (tables : Entries) (deeper : Deeper) (s r used : ℕ) (list after : List ℕ)
-    (part : Part) (first : List Node) (f : TemplateFault) → Opens tables list part after
-    → part_nodes deeper s r used part ≡ Ok first
-    → expand_list tables deeper s r 0 (used + length first) after ≡ Err f
-    → expand_list tables deeper s r 0 used list ≡ Err f
-fault_behind tables deeper s r used list after part first f
-    (opens {d} {behind} {taken} read same) p q =
-    expand_list-found tables deeper s r used d behind (found part taken)
-    (sym (found_is tables d behind part taken read))
-    ∙ ap (λ (x : Expansion). x >>= λ first. expand_list tables deeper s r taken
-    (used + length first) behind >>= λ rest. Ok (first ++ rest)) p
-    ∙ ap (λ (x : Expansion). x >>= λ rest. Ok (first ++ rest))
-    (expand_list-skip tables deeper s r taken (used + length first) behind
-    ∙ ap (λ (l : List ℕ). expand_list tables deeper s r 0 (used + length first) l) same ∙ q)
 
 -- a first fault is what the expansion answers
 first_fault_expands : (tables : Entries) (s r used : ℕ) (list : List ℕ) (f : TemplateFault)
@@ -327,16 +294,14 @@ first_fault_expands tables s r used list f
 first_fault_expands tables s r used list f (node_too_many {behind} front full) levels deep =
     let o = node_opens tables list behind front in
     fault_in_front tables (expand_within levels tables) s r used list behind
-    (single o.0) TooManyNodes o.1 (cond-false (ltb used most_nodes) (Ok (o.0 ∷ []))
-    (Err TooManyNodes) (le-ltb used most_nodes full))
+    (single o.0) TooManyNodes o.1 (cond-false (ltb used most_nodes) _ _
+    (le-ltb used most_nodes full))
 first_fault_expands tables s r used list f
     (replication_too_many {replications = below} {body} {behind} front full) levels deep =
     let o = replication_opens tables list body behind front in
     fault_in_front tables (expand_within levels tables) s (suc below) used list behind
     (replication o.0 body) TooManyNodes o.1
-    (cond-false (ltb used most_nodes) (expand_within levels tables s below (used + 1) body
-    >>= λ l. Ok (replication_node o.0 (length l) ∷ l)) (Err TooManyNodes)
-    (le-ltb used most_nodes full))
+    (cond-false (ltb used most_nodes) _ _ (le-ltb used most_nodes full))
 first_fault_expands tables s r used list f (in_sequence front h) zero deep = absurd (omega arith)
 first_fault_expands tables s r used list f (in_sequence {sequences = below} {inside} {behind} front h)
     (suc levels) deep =
@@ -350,23 +315,19 @@ first_fault_expands tables s r used list f (in_replication {replications = below
     let o = replication_opens tables list body behind front in
     fault_in_front tables (expand_within (suc levels) tables) s (suc below) used list behind
     (replication o.0 body) f o.1
-    (cond-true (ltb used most_nodes) (expand_within (suc levels) tables s below (used + 1) body
-    >>= λ l. Ok (replication_node o.0 (length l) ∷ l)) (Err TooManyNodes)
-    (lt-ltb used most_nodes low)
-    ∙ ap (λ (x : Expansion). x >>= λ l. Ok (replication_node o.0 (length l) ∷ l))
+    (replication_fits (expand_within (suc levels) tables) s below used o.0 body (Err f) low
     (first_fault_expands tables s below (used + 1) body f h levels (omega arith)))
 first_fault_expands tables s r used list f (behind_node {behind} front low h) levels deep =
     let o = node_opens tables list behind front in
-    fault_behind tables (expand_within levels tables) s r used list behind (single o.0)
-    (o.0 ∷ []) f o.1 (single_fits used o.0 low)
+    node_behind tables (expand_within levels tables) s r used list behind o.0 (Err f) o.1 low
     (first_fault_expands tables s r (used + 1) behind f h levels deep)
 first_fault_expands tables s r used list f (behind_sequence front g fits h) zero deep =
     absurd (omega arith)
 first_fault_expands tables s r used list f
     (behind_sequence {sequences = below} {inside} {behind} {inner = within} front g fits h)
     (suc levels) deep =
-    fault_behind tables (expand_within (suc levels) tables) (suc below) r used list behind
-    (inner inside) (nodes_of within) f (sequence_opens tables list inside behind front)
+    rest_behind tables (expand_within (suc levels) tables) (suc below) r used list behind
+    (inner inside) (nodes_of within) (Err f) (sequence_opens tables list inside behind front)
     (flat_expands tables below r inside within g levels used (omega arith) fits)
     (first_fault_expands tables (suc below) r (used + length (nodes_of within)) behind f h
     (suc levels) deep)
@@ -376,18 +337,11 @@ first_fault_expands tables s r used list f
     (behind_replication {replications = below} {body} {behind} {inner = within} front g fits h)
     (suc levels) deep =
     let o = replication_opens tables list body behind front in
-    let made = replication_fits (expand_within (suc levels) tables) s below used o.0 body
-    (nodes_of within) (omega arith) (flat_expands tables s below body within g levels (used + 1)
-    (omega arith) fits) in
-    let count : used + 1 + length (nodes_of within) ≡ used + suc (length (nodes_of within)) =
-    omega arith in
-    let back = first_fault_expands tables s (suc below)
-    (used + 1 + length (nodes_of within)) behind f h (suc levels) deep in
-    fault_behind tables (expand_within (suc levels) tables) s (suc below) used list behind
-    (replication o.0 body) (replication_node o.0 (length (nodes_of within)) ∷ nodes_of within) f
-    o.1 made
-    (subst (λ (n : ℕ). expand_list tables (expand_within (suc levels) tables) s
-    (suc below) 0 n behind ≡ Err f) count back)
+    body_behind tables (expand_within (suc levels) tables) s below used list body behind o.0
+    (nodes_of within) (Err f) o.1 (omega arith)
+    (flat_expands tables s below body within g levels (used + 1) (omega arith) fits)
+    (first_fault_expands tables s (suc below) (used + 1 + length (nodes_of within)) behind f h
+    (suc levels) deep)
 
 -- ---- what has a tree has a case
 
@@ -396,10 +350,11 @@ FrontFound : Entries → List ℕ → Type 0
 FrontFound tables [] = Unit {0}
 FrontFound tables (d ∷ behind) = (next : FirstPart) × (found_at tables d behind ≡ Ok next)
 
--- a list with a case has a part
-is_found : (tables : Entries) (d : ℕ) (behind : List ℕ) (part : Part) (taken : ℕ)
-    → IsRead tables d behind part taken → (next : FirstPart) × (found_at tables d behind ≡ Ok next)
-is_found tables d behind part taken read =
+-- it does where it is read so
+front_found : (tables : Entries) (list after : List ℕ) (part : Part)
+    → Opens tables list part after → FrontFound tables list
+unfolding FrontFound
+front_found tables list after part (opens {d} {behind} {taken} read same) =
     (record { part = part; taken = taken }, found_is tables d behind part taken read)
 
 -- the tree of a list has a case for its first descriptor
@@ -407,21 +362,21 @@ flat_found : (tables : Entries) (s r : ℕ) (list : List ℕ) (t : Tree) → Fla
     → FrontFound tables list
 unfolding FrontFound
 flat_found tables s r list t nothing = tt
-flat_found tables s r list t (element_first {fxy = d} {behind} f k g) =
-    is_found tables d behind _ _ (an_element f k)
-flat_found tables s r list t (operator_first {fxy = d} {behind} f x g) =
-    is_found tables d behind _ _ (an_operator f x)
-flat_found tables s r list t (text_first {fxy = d} {behind} f x y g) =
-    is_found tables d behind _ _ (a_text f x y)
-flat_found tables s r list t (width_first {fxy = d} {local} {behind} f x y l k g) =
-    is_found tables d (local ∷ behind) _ _ (a_width f x y l k)
-flat_found tables s r list t (sequence_first {fxy = d} {behind} f k i g) =
-    is_found tables d behind _ _ (a_sequence f k)
+flat_found tables s r list t (element_first f k g) =
+    front_found tables list _ _ (opens (an_element f k) refl)
+flat_found tables s r list t (operator_first f x g) =
+    front_found tables list _ _ (opens (an_operator f x) refl)
+flat_found tables s r list t (text_first f x y g) =
+    front_found tables list _ _ (opens (a_text f x y) refl)
+flat_found tables s r list t (width_first f x y l k g) =
+    front_found tables list _ _ (opens (a_width f x y l k) refl)
+flat_found tables s r list t (sequence_first f k i g) =
+    front_found tables list _ _ (opens (a_sequence f k) refl)
 flat_found tables s r list t (repeated_first {fxy = d} {body} {behind} f x y n i g) =
-    is_found tables d (body ++ behind) _ _ (body_read tables d body behind f x y n)
-flat_found tables s r list t (delayed_first {fxy = d} {factor} {row = e} {body} {behind} f x y j k c n i g) =
-    is_found tables d (factor ∷ body ++ behind) _ _
-    (factor_read tables d factor e body behind f x y j k c n)
+    front_found tables list _ _ (body_opens tables d body behind f x y n)
+flat_found tables s r list t
+    (delayed_first {fxy = d} {factor} {row = e} {body} {behind} f x y j k c n i g) =
+    front_found tables list _ _ (factor_opens tables d factor e body behind f x y j k c n)
 
 -- ---- the laws
 

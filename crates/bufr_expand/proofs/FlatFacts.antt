@@ -5,6 +5,7 @@ use Rattle.std.proofs.Common.{[], ◌∷◌, ◌++◌, length, take, drop, Resul
 use Rattle.std.proofs.Common.{ap, subst, ◌∙◌, arith, add-one, append_assoc, length-append}
 use Rattle.std.proofs.lemmas.Bool.{ltb-true, lt-ltb, cond-true}
 use Rattle.std.proofs.lemmas.List.{take-append-drop, length-take-le, drop_at, take_at}
+use Rattle.std.proofs.lemmas.List.{drop_all}
 use Rattle.bufr_tables.specs.Answers.{◌>>=◌}
 use Rattle.bufr_tables.specs.Descriptors.{f_of, x_of, y_of}
 use Rattle.bufr_tables.specs.declared.element.Element.{Element}
@@ -28,6 +29,7 @@ use Rattle.bufr_expand.specs.Flat.{width_first, sequence_first, repeated_first, 
 use Rattle.bufr_expand.specs.Flat.{followed_by, IsFactor, IsCountRow, ExpandsExactly}
 use Rattle.bufr_expand.specs.Flat.{ExpandsToTrees, HasOneTree, HasEnoughLevels}
 use Rattle.bufr_expand.proofs.ExpansionFacts.{expand_list-skip, expand_list-found, onto_ok}
+use Rattle.bufr_expand.proofs.ExpansionFacts.{room_ok}
 use Rattle.bufr_expand.proofs.ReadingFacts.{IsRead, an_element, an_operator, a_text, a_width}
 use Rattle.bufr_expand.proofs.ReadingFacts.{a_sequence, a_repeated, a_delayed, reads}
 use Rattle.bufr_expand.proofs.FindingFacts.{found_is}
@@ -82,37 +84,20 @@ unfolding InnerFlat
 sequence_next tables zero r d behind list t rest f k h g = absurd h
 sequence_next tables (suc s) r d behind list t rest f k h g = sequence_first f k h g
 
--- a body of so many descriptors and those behind it
-body_next : (tables : Entries) (s r d x : ℕ) (head : Repetitions) (behind : List ℕ) (t rest : Tree)
-    → x ≤ length behind → ((p : ℕ) (body after : List ℕ) → r ≡ suc p → length body ≡ x
-    → Flat tables s p body t → Flat tables s (suc p) after rest
-    → Flat tables s (suc p) (d ∷ body ++ after)
-    (with_rest (replication head (take x behind)) t rest))
-    → InnerFlat tables s r (replication head (take x behind)) t
-    → Flat tables s r (drop x behind) rest
-    → Flat tables s r (d ∷ behind) (with_rest (replication head (take x behind)) t rest)
-unfolding InnerFlat
-body_next tables s zero d x head behind t rest long make h g = absurd h
-body_next tables s (suc r) d x head behind t rest long make h g =
-    let P : List ℕ → Type 0 = λ l. Flat tables s (suc r) (d ∷ l)
-    (with_rest (replication head (take x behind)) t rest) in
-    subst P (take-append-drop x behind)
-    (make r (take x behind) (drop x behind) refl (length-take-le x behind long) h g)
-
--- a delayed replication before the rest
-delayed_next : (tables : Entries) (s r d factor x : ℕ) (head : Repetitions) (behind : List ℕ)
+-- a body of so many descriptors, behind those that say so, and the list behind it
+body_next : (tables : Entries) (s r x : ℕ) (head : Repetitions) (front behind : List ℕ)
     (t rest : Tree) → x ≤ length behind
     → ((p : ℕ) (body after : List ℕ) → length body ≡ x → Flat tables s p body t
     → Flat tables s (suc p) after rest
-    → Flat tables s (suc p) (d ∷ factor ∷ body ++ after)
+    → Flat tables s (suc p) (front ++ (body ++ after))
     (with_rest (replication head (take x behind)) t rest))
     → InnerFlat tables s r (replication head (take x behind)) t
     → Flat tables s r (drop x behind) rest
-    → Flat tables s r (d ∷ factor ∷ behind) (with_rest (replication head (take x behind)) t rest)
+    → Flat tables s r (front ++ behind) (with_rest (replication head (take x behind)) t rest)
 unfolding InnerFlat
-delayed_next tables s zero d factor x head behind t rest long make h g = absurd h
-delayed_next tables s (suc r) d factor x head behind t rest long make h g =
-    let P : List ℕ → Type 0 = λ l. Flat tables s (suc r) (d ∷ factor ∷ l)
+body_next tables s zero x head front behind t rest long make h g = absurd h
+body_next tables s (suc r) x head front behind t rest long make h g =
+    let P : List ℕ → Type 0 = λ l. Flat tables s (suc r) (front ++ l)
     (with_rest (replication head (take x behind)) t rest) in
     subst P (take-append-drop x behind)
     (make r (take x behind) (drop x behind) (length-take-le x behind long) h g)
@@ -130,11 +115,11 @@ flat_next tables s r d behind part taken t rest (a_width f x y l k) h g = width_
 flat_next tables s r d behind part taken t rest (a_sequence f k) h g =
     sequence_next tables s r d behind _ t rest f k h g
 flat_next tables s r d behind part taken t rest (a_repeated f x y long) h g =
-    body_next tables s r d (x_of d) (repetitions.Times (y_of d)) behind t rest long
-    (λ p body after e n b a. repeated_first f x y n b a) h g
+    body_next tables s r (x_of d) (repetitions.Times (y_of d)) (d ∷ []) behind t rest long
+    (λ p body after n b a. repeated_first f x y n b a) h g
 flat_next tables s r d (factor ∷ behind) part taken t rest (a_delayed {e} f x y i k c long) h g =
     let after = rw add-one at g in
-    delayed_next tables s r d factor (x_of d) (repetitions.Factor factor e) behind t rest long
+    body_next tables s r (x_of d) (repetitions.Factor factor e) (d ∷ factor ∷ []) behind t rest long
     (λ p body after n b a. delayed_first f x y i k c n b a) h after
 
 -- ---- an expansion has a tree
@@ -189,21 +174,21 @@ leaf_nodes (nodes.Repeated times size) rest h = absurd h
 leaf_nodes (nodes.Delayed d e size) rest h = absurd h
 
 -- a node that fits
-single_flat : (b : Bool) (tables : Entries) (s r used : ℕ) (node : Node) (ns : List Node)
-    → ltb used most_nodes ≡ b → IsLeaf (single node)
-    → cond b (Ok (node ∷ [])) (Err TooManyNodes) ≡ Ok ns → PartFlat tables s r used (single node) ns
+single_flat : (tables : Entries) (s r used : ℕ) (node : Node) (ns : List Node)
+    → IsLeaf (single node) → single_nodes used node ≡ Ok ns
+    → PartFlat tables s r used (single node) ns
 unfolding PartFlat InnerFlat
-single_flat true tables s r used node ns room h e =
-    let same : node ∷ [] ≡ ns = cc in
+single_flat tables s r used node ns h e =
+    let p = room_ok (ltb used most_nodes) (Ok (node ∷ [])) ns e in
+    let same : node ∷ [] ≡ ns = let own = p.1 in cc in
     let long : length ns ≡ 1 = ap length (sym same) in
-    let low : used < most_nodes = ltb-true used most_nodes room in (
+    let low : used < most_nodes = ltb-true used most_nodes p.0 in (
       trees.done,
       tt,
       λ rest. leaf_nodes node rest h
           ∙ ap (λ (l : List Node). l ++ nodes_of rest) same,
       λ fits. omega arith,
     )
-single_flat false tables s r used node ns room h e = absurd (cc)
 
 -- the nodes of a replication's tree
 head_nodes : (head : Repetitions) (body : List ℕ) (t rest : Tree) (ns : List Node) → nodes_of t ≡ ns
@@ -215,28 +200,35 @@ head_nodes (repetitions.Times times) body t rest ns e =
 head_nodes (repetitions.Factor d el) body t rest ns e =
     ap (λ (l : List Node). nodes.Delayed d el (length l) ∷ l ++ nodes_of rest) e
 
+-- what a replication that is answered is made of
+pub replication_ok : (deeper : Deeper) (s r used : ℕ) (head : Repetitions) (body : List ℕ)
+    (ns : List Node) → replication_nodes deeper s r used head body ≡ Ok ns → (used < most_nodes)
+    × (within : List Node) × (deeper s r (used + 1) body ≡ Ok within)
+    × (replication_node head (length within) ∷ within ≡ ns)
+replication_ok deeper s r used head body ns e =
+    let made : List Node → Expansion = λ l. Ok (replication_node head (length l) ∷ l) in
+    let p = room_ok (ltb used most_nodes) (deeper s r (used + 1) body >>= made) ns e in
+    let q = bind_ok (deeper s r (used + 1) body) made ns p.1 in
+    (ltb-true used most_nodes p.0, q.0, q.1, let own = q.2 in cc)
+
 -- a replication that fits
-replication_flat : (b : Bool) (tables : Entries) (deeper : Deeper) (s r used : ℕ)
-    (head : Repetitions) (body : List ℕ) (ns : List Node) → AreFlat tables deeper
-    → ltb used most_nodes ≡ b → cond b
-    (deeper s r (used + 1) body >>= λ l. Ok (replication_node head (length l) ∷ l))
-    (Err TooManyNodes) ≡ Ok ns → PartFlat tables s (suc r) used (replication head body) ns
+replication_flat : (tables : Entries) (deeper : Deeper) (s r used : ℕ) (head : Repetitions)
+    (body : List ℕ) (ns : List Node) → AreFlat tables deeper
+    → replication_nodes deeper s r used head body ≡ Ok ns
+    → PartFlat tables s (suc r) used (replication head body) ns
 unfolding PartFlat InnerFlat AreFlat FlatOf
-replication_flat true tables deeper s r used head body ns all room e =
-    let q = bind_ok (deeper s r (used + 1) body)
-    (λ (l : List Node). Ok (replication_node head (length l) ∷ l)) ns e in
-    let w = all s r (used + 1) body q.0 q.1 in
-    let same : replication_node head (length q.0) ∷ q.0 ≡ ns = cc in
-    let long : length ns ≡ suc (length q.0) = ap length (sym same) in
-    let low : used < most_nodes = ltb-true used most_nodes room in
-    let fits : used + 1 + length q.0 ≤ most_nodes = w.3 (omega arith) in (
+replication_flat tables deeper s r used head body ns all e =
+    let p = replication_ok deeper s r used head body ns e in
+    let w = all s r (used + 1) body p.1 p.2 in
+    let long : length ns ≡ suc (length p.1) = ap length (sym p.3) in
+    let low : used < most_nodes = p.0 in
+    let fits : used + 1 + length p.1 ≤ most_nodes = w.3 (omega arith) in (
       w.0,
       w.1,
-      λ rest. head_nodes head body w.0 rest q.0 w.2
-          ∙ ap (λ (l : List Node). l ++ nodes_of rest) same,
+      λ rest. head_nodes head body w.0 rest p.1 w.2
+          ∙ ap (λ (l : List Node). l ++ nodes_of rest) p.3,
       λ h. omega arith,
     )
-replication_flat false tables deeper s r used head body ns all room e = absurd (cc)
 
 -- a part that fits
 part_flat : (tables : Entries) (deeper : Deeper) (s r used : ℕ) (part : Part) (ns : List Node)
@@ -244,7 +236,7 @@ part_flat : (tables : Entries) (deeper : Deeper) (s r used : ℕ) (part : Part) 
     → PartFlat tables s r used part ns
 unfolding PartFlat InnerFlat AreFlat FlatOf with_rest
 part_flat tables deeper s r used (single node) ns all h e =
-    single_flat (ltb used most_nodes) tables s r used node ns refl h e
+    single_flat tables s r used node ns h e
 part_flat tables deeper zero r used (inner list) ns all h e = absurd (cc)
 part_flat tables deeper (suc s) r used (inner list) ns all h e =
     let w = all s r used list ns e in (
@@ -256,7 +248,7 @@ part_flat tables deeper (suc s) r used (inner list) ns all h e =
     )
 part_flat tables deeper s zero used (replication head body) ns all h e = absurd (cc)
 part_flat tables deeper s (suc r) used (replication head body) ns all h e =
-    replication_flat (ltb used most_nodes) tables deeper s r used head body ns all refl e
+    replication_flat tables deeper s r used head body ns all e
 
 -- a part and the rest
 join_flat : (tables : Entries) (s r used d : ℕ) (behind : List ℕ) (next : FirstPart)
@@ -281,20 +273,11 @@ list_flat : (tables : Entries) (deeper : Deeper) (s r skip used : ℕ) (list : L
     (ns : List Node) → AreFlat tables deeper → expand_list tables deeper s r skip used list ≡ Ok ns
     → FlatOf tables s r used (drop skip list) ns
 unfolding expand_list nodes_of FlatOf PartFlat
-list_flat tables deeper s r zero used [] ns all e = (
-  trees.done,
-  nothing,
-  cc,
-  λ h. let none : [] ≡ ns = cc in
-      let long : length ns ≡ 0 = ap length (sym none) in omega arith,
-)
-list_flat tables deeper s r (suc skip) used [] ns all e = (
-  trees.done,
-  nothing,
-  cc,
-  λ h. let none : [] ≡ ns = cc in
-      let long : length ns ≡ 0 = ap length (sym none) in omega arith,
-)
+list_flat tables deeper s r skip used [] ns all e =
+    let none : [] ≡ ns = cc in
+    let long : length ns ≡ 0 = ap length (sym none) in
+    let P : List ℕ → Type 0 = λ l. FlatOf tables s r used l ns in
+    subst P (sym (drop_all skip [] (omega arith))) (trees.done, nothing, none, λ h. omega arith)
 list_flat tables deeper s r (suc skip) used (d ∷ behind) ns all e =
     list_flat tables deeper s r skip used behind ns all e
 list_flat tables deeper s r zero used (d ∷ behind) ns all e =
@@ -333,58 +316,84 @@ has_tree_within tables levels s r used list ns fits e =
 
 -- ---- a tree has an expansion
 
--- a list by its first part and the rest
-expand_step : (tables : Entries) (deeper : Deeper) (s r used d : ℕ) (behind : List ℕ) (part : Part)
-    (taken : ℕ) (first rest : List Node) → found_at tables d behind ≡ found part taken
+-- what the first descriptors of a list are read as, and the list behind them
+pub data Opens : Entries → List ℕ → Part → List ℕ → Type 0 where
+  opens : {tables : Entries} {d : ℕ} {behind after : List ℕ} {part : Part} {taken : ℕ}
+      → IsRead tables d behind part taken → drop taken behind ≡ after
+      → Opens tables (d ∷ behind) part after
+
+-- behind the nodes of its first part a list is answered as the list behind this part
+pub rest_behind : (tables : Entries) (deeper : Deeper) (s r used : ℕ) (list after : List ℕ)
+    (part : Part) (first : List Node) (m : Expansion) → Opens tables list part after
     → part_nodes deeper s r used part ≡ Ok first
-    → expand_list tables deeper s r 0 (used + length first) (drop taken behind) ≡ Ok rest
-    → expand_list tables deeper s r 0 used (d ∷ behind) ≡ Ok (first ++ rest)
-expand_step tables deeper s r used d behind part taken first rest e p q =
-    expand_list-found tables deeper s r used d behind (found part taken) (sym e)
+    → expand_list tables deeper s r 0 (used + length first) after ≡ m
+    → expand_list tables deeper s r 0 used list ≡ (m >>= λ rest. Ok (first ++ rest))
+rest_behind tables deeper s r used list after part first m
+    (opens {d} {behind} {taken} read same) p q =
+    expand_list-found tables deeper s r used d behind (found part taken)
+    (sym (found_is tables d behind part taken read))
     ∙ ap (λ (x : Expansion). x >>= λ first. expand_list tables deeper s r taken
     (used + length first) behind >>= λ rest. Ok (first ++ rest)) p
     ∙ ap (λ (x : Expansion). x >>= λ rest. Ok (first ++ rest))
-    (expand_list-skip tables deeper s r taken (used + length first) behind ∙ q)
+    (expand_list-skip tables deeper s r taken (used + length first) behind
+    ∙ ap (λ (l : List ℕ). expand_list tables deeper s r 0 (used + length first) l) same ∙ q)
 
--- a node within the limits is answered
-pub single_fits : (used : ℕ) (node : Node) → used < most_nodes
-    → single_nodes used node ≡ Ok (node ∷ [])
-single_fits used node h = cond-true (ltb used most_nodes) (Ok (node ∷ [])) (Err TooManyNodes)
-    (lt-ltb used most_nodes h)
+-- behind a node within the limits
+pub node_behind : (tables : Entries) (deeper : Deeper) (s r used : ℕ) (list after : List ℕ)
+    (node : Node) (m : Expansion) → Opens tables list (single node) after → used < most_nodes
+    → expand_list tables deeper s r 0 (used + 1) after ≡ m
+    → expand_list tables deeper s r 0 used list ≡ (m >>= λ rest. Ok (node ∷ rest))
+node_behind tables deeper s r used list after node m o low q =
+    rest_behind tables deeper s r used list after (single node) (node ∷ []) m o
+    (cond-true (ltb used most_nodes) _ _ (lt-ltb used most_nodes low)) q
 
--- so is a replication
+-- a replication within the limits is answered as its body
 pub replication_fits : (deeper : Deeper) (s r used : ℕ) (head : Repetitions) (body : List ℕ)
-    (ns : List Node) → used < most_nodes → deeper s r (used + 1) body ≡ Ok ns
-    → replication_nodes deeper s r used head body ≡ Ok (replication_node head (length ns) ∷ ns)
-replication_fits deeper s r used head body ns h e =
-    cond-true (ltb used most_nodes) (deeper s r (used + 1) body
-    >>= λ l. Ok (replication_node head (length l) ∷ l)) (Err TooManyNodes)
-    (lt-ltb used most_nodes h)
+    (m : Expansion) → used < most_nodes → deeper s r (used + 1) body ≡ m
+    → replication_nodes deeper s r used head body
+    ≡ (m >>= λ l. Ok (replication_node head (length l) ∷ l))
+replication_fits deeper s r used head body m low e =
+    cond-true (ltb used most_nodes) _ _ (lt-ltb used most_nodes low)
     ∙ ap (λ (x : Expansion). x >>= λ l. Ok (replication_node head (length l) ∷ l)) e
 
--- the body of a replication, and what is behind it
-pub body_read : (tables : Entries) (d : ℕ) (body behind : List ℕ) → f_of d ≡ 1 → 0 < x_of d
-    → 0 < y_of d → length body ≡ x_of d
-    → IsRead tables d (body ++ behind) (replication (repetitions.Times (y_of d)) body) (x_of d)
-body_read tables d body behind f x y long =
-    let more = length-append body behind in
-    let front : take (x_of d) (body ++ behind) ≡ body = take_at body behind (x_of d) long in
-    let P : List ℕ → Type 0 = λ l. IsRead tables d (body ++ behind)
-    (replication (repetitions.Times (y_of d)) l) (x_of d) in
-    subst P front (a_repeated f x y (omega arith))
+-- behind a replication whose body has nodes
+pub body_behind : (tables : Entries) (deeper : Deeper) (s r used : ℕ) (list body after : List ℕ)
+    (head : Repetitions) (within : List Node) (m : Expansion)
+    → Opens tables list (replication head body) after → used < most_nodes
+    → deeper s r (used + 1) body ≡ Ok within
+    → expand_list tables deeper s (suc r) 0 (used + 1 + length within) after ≡ m
+    → expand_list tables deeper s (suc r) 0 used list
+    ≡ (m >>= λ rest. Ok ((replication_node head (length within) ∷ within) ++ rest))
+body_behind tables deeper s r used list body after head within m o low e q =
+    let count : used + 1 + length within ≡ used + suc (length within) = omega arith in
+    rest_behind tables deeper s (suc r) used list after (replication head body)
+    (replication_node head (length within) ∷ within) m o
+    (replication_fits deeper s r used head body (Ok within) low e)
+    (subst (λ (n : ℕ). expand_list tables deeper s (suc r) 0 n after ≡ m) count q)
 
--- a factor is found before its body
-pub factor_read : (tables : Entries) (d factor : ℕ) (e : Element) (body behind : List ℕ)
+-- a replication and its body open a list
+pub body_opens : (tables : Entries) (d : ℕ) (body behind : List ℕ) → f_of d ≡ 1 → 0 < x_of d
+    → 0 < y_of d → length body ≡ x_of d
+    → Opens tables (d ∷ body ++ behind) (replication (repetitions.Times (y_of d)) body) behind
+body_opens tables d body behind f x y long =
+    let more = length-append body behind in
+    let P : List ℕ → Type 0 = λ l. Opens tables (d ∷ body ++ behind)
+    (replication (repetitions.Times (y_of d)) l) behind in
+    subst P (take_at body behind (x_of d) long)
+    (opens (a_repeated f x y (omega arith)) (drop_at body behind (x_of d) long))
+
+-- so they do where the factor stands before the body
+pub factor_opens : (tables : Entries) (d factor : ℕ) (e : Element) (body behind : List ℕ)
     → f_of d ≡ 1 → 0 < x_of d → y_of d ≡ 0 → IsFactor factor → element tables factor ≡ Some e
     → IsCountRow e → length body ≡ x_of d
-    → IsRead tables d (factor ∷ body ++ behind) (replication (repetitions.Factor factor e) body)
-    (x_of d + 1)
-factor_read tables d factor e body behind f x y i k c long =
+    → Opens tables (d ∷ factor ∷ body ++ behind) (replication (repetitions.Factor factor e) body)
+    behind
+factor_opens tables d factor e body behind f x y i k c long =
     let more = length-append body behind in
-    let front : take (x_of d) (body ++ behind) ≡ body = take_at body behind (x_of d) long in
-    let P : List ℕ → Type 0 = λ l. IsRead tables d (factor ∷ body ++ behind)
-    (replication (repetitions.Factor factor e) l) (x_of d + 1) in
-    subst P front (a_delayed f x y i k c (omega arith))
+    let P : List ℕ → Type 0 = λ l. Opens tables (d ∷ factor ∷ body ++ behind)
+    (replication (repetitions.Factor factor e) l) behind in
+    subst P (take_at body behind (x_of d) long)
+    (opens (a_delayed f x y i k c (omega arith)) (rw add-one (drop_at body behind (x_of d) long)))
 
 -- a tree within the limits is answered
 pub flat_expands : (tables : Entries) (s r : ℕ) (list : List ℕ) (t : Tree) → Flat tables s r list t
@@ -392,81 +401,58 @@ pub flat_expands : (tables : Entries) (s r : ℕ) (list : List ℕ) (t : Tree) �
     → expand_list tables (expand_within levels tables) s r 0 used list ≡ Ok (nodes_of t)
 unfolding expand_list nodes_of expand_within
 flat_expands tables s r list t nothing levels used deep fits = refl
-flat_expands tables s r list t (element_first {fxy = d} {row = e} {behind} {rest} f k g) levels used deep fits =
-    let node : Node = nodes.Element d e in
-    expand_step tables (expand_within levels tables) s r used d behind (single node) 0 (node ∷ [])
-    (nodes_of rest) (found_is tables d behind (single node) 0 (an_element f k))
-    (single_fits used node (omega arith))
+flat_expands tables s r list t (element_first {behind} {rest} f k g) levels used deep fits =
+    node_behind tables (expand_within levels tables) s r used list behind _ (Ok (nodes_of rest))
+    (opens (an_element f k) refl) (omega arith)
     (flat_expands tables s r behind rest g levels (used + 1) deep (omega arith))
-flat_expands tables s r list t (operator_first {fxy = d} {behind} {rest} f x g) levels used deep fits =
-    let node : Node = nodes.Operator d in
-    expand_step tables (expand_within levels tables) s r used d behind (single node) 0 (node ∷ [])
-    (nodes_of rest) (found_is tables d behind (single node) 0 (an_operator f x))
-    (single_fits used node (omega arith))
+flat_expands tables s r list t (operator_first {behind} {rest} f x g) levels used deep fits =
+    node_behind tables (expand_within levels tables) s r used list behind _ (Ok (nodes_of rest))
+    (opens (an_operator f x) refl) (omega arith)
     (flat_expands tables s r behind rest g levels (used + 1) deep (omega arith))
-flat_expands tables s r list t (text_first {fxy = d} {behind} {rest} f x y g) levels used deep fits =
-    let node : Node = nodes.Untouched d (text_of_characters (y_of d)) in
-    expand_step tables (expand_within levels tables) s r used d behind (single node) 0 (node ∷ [])
-    (nodes_of rest) (found_is tables d behind (single node) 0 (a_text f x y))
-    (single_fits used node (omega arith))
+flat_expands tables s r list t (text_first {behind} {rest} f x y g) levels used deep fits =
+    node_behind tables (expand_within levels tables) s r used list behind _ (Ok (nodes_of rest))
+    (opens (a_text f x y) refl) (omega arith)
     (flat_expands tables s r behind rest g levels (used + 1) deep (omega arith))
-flat_expands tables s r list t (width_first {fxy = d} {local} {row = e} {behind} {rest} f x y l k g) levels used
-    deep fits =
-    let node : Node = nodes.Untouched local e in
-    expand_step tables (expand_within levels tables) s r used d (local ∷ behind) (single node) 1
-    (node ∷ []) (nodes_of rest) (found_is tables d (local ∷ behind) (single node) 1
-    (a_width f x y l k)) (single_fits used node (omega arith))
+flat_expands tables s r list t (width_first {behind} {rest} f x y l k g) levels used deep fits =
+    node_behind tables (expand_within levels tables) s r used list behind _ (Ok (nodes_of rest))
+    (opens (a_width f x y l k) refl) (omega arith)
     (flat_expands tables s r behind rest g levels (used + 1) deep (omega arith))
 flat_expands tables s r list t (sequence_first f k i g) zero used deep fits = absurd (omega arith)
-flat_expands tables s r list t (sequence_first {sequences = below} {fxy = d} {list = inside} {behind}
-    {inner = within} {rest} f k i g) (suc levels) used deep fits =
+flat_expands tables s r list t
+    (sequence_first {sequences = below} {list = inside} {behind} {inner = within} {rest} f k i g)
+    (suc levels) used deep fits =
     let joined = nodes_of-followed_by within rest in
     let long : length (nodes_of (followed_by within rest))
     ≡ length (nodes_of within) + length (nodes_of rest) = ap length joined
     ∙ length-append (nodes_of within) (nodes_of rest) in
-    let front = flat_expands tables below r inside within i levels used (omega arith)
-    (omega arith) in
-    let back = flat_expands tables (suc below) r behind rest g (suc levels)
-    (used + length (nodes_of within)) deep (omega arith) in
-    expand_step tables (expand_within (suc levels) tables) (suc below) r used d behind
-    (inner inside) 0 (nodes_of within) (nodes_of rest)
-    (found_is tables d behind (inner inside) 0 (a_sequence f k)) front back
+    rest_behind tables (expand_within (suc levels) tables) (suc below) r used list behind
+    (inner inside) (nodes_of within) (Ok (nodes_of rest)) (opens (a_sequence f k) refl)
+    (flat_expands tables below r inside within i levels used (omega arith) (omega arith))
+    (flat_expands tables (suc below) r behind rest g (suc levels)
+    (used + length (nodes_of within)) deep (omega arith))
     ∙ ap Ok (sym joined)
 flat_expands tables s r list t (repeated_first f x y n i g) zero used deep fits =
     absurd (omega arith)
-flat_expands tables s r list t (repeated_first {replications = below} {fxy = d} {body} {behind} {inner = within}
-    {rest} f x y n i g) (suc levels) used deep fits =
+flat_expands tables s r list t (repeated_first {replications = below} {fxy = d} {body} {behind}
+    {inner = within} {rest} f x y n i g) (suc levels) used deep fits =
     let long = length-append (nodes_of within) (nodes_of rest) in
-    let head : Repetitions = repetitions.Times (y_of d) in
-    let front = replication_fits (expand_within (suc levels) tables) s below used head body
-    (nodes_of within) (omega arith) (flat_expands tables s below body within i levels (used + 1)
-    (omega arith) (omega arith)) in
-    let back = flat_expands tables s (suc below) behind rest g (suc levels)
-    (used + suc (length (nodes_of within))) deep (omega arith) in
-    let behind_it : drop (x_of d) (body ++ behind) ≡ behind = drop_at body behind (x_of d) n in
-    expand_step tables (expand_within (suc levels) tables) s (suc below) used d (body ++ behind)
-    (replication head body) (x_of d) (replication_node head
-    (length (nodes_of within)) ∷ nodes_of within) (nodes_of rest)
-    (found_is tables d (body ++ behind) (replication head body) (x_of d)
-    (body_read tables d body behind f x y n)) front (rw behind_it back)
+    body_behind tables (expand_within (suc levels) tables) s below used list body behind
+    (repetitions.Times (y_of d)) (nodes_of within) (Ok (nodes_of rest))
+    (body_opens tables d body behind f x y n) (omega arith)
+    (flat_expands tables s below body within i levels (used + 1) (omega arith) (omega arith))
+    (flat_expands tables s (suc below) behind rest g (suc levels)
+    (used + 1 + length (nodes_of within)) deep (omega arith))
 flat_expands tables s r list t (delayed_first f x y j k c n i g) zero used deep fits =
     absurd (omega arith)
-flat_expands tables s r list t (delayed_first {replications = below} {fxy = d} {factor} {row = e} {body} {behind}
-    {inner = within} {rest} f x y j k c n i g) (suc levels) used deep fits =
+flat_expands tables s r list t (delayed_first {replications = below} {fxy = d} {factor} {row = e}
+    {body} {behind} {inner = within} {rest} f x y j k c n i g) (suc levels) used deep fits =
     let long = length-append (nodes_of within) (nodes_of rest) in
-    let head : Repetitions = repetitions.Factor factor e in
-    let front = replication_fits (expand_within (suc levels) tables) s below used head body
-    (nodes_of within) (omega arith) (flat_expands tables s below body within i levels (used + 1)
-    (omega arith) (omega arith)) in
-    let back = flat_expands tables s (suc below) behind rest g (suc levels)
-    (used + suc (length (nodes_of within))) deep (omega arith) in
-    let behind_it : drop (x_of d) (body ++ behind) ≡ behind = drop_at body behind (x_of d) n in
-    expand_step tables (expand_within (suc levels) tables) s (suc below) used d
-    (factor ∷ body ++ behind) (replication head body) (x_of d + 1)
-    (replication_node head (length (nodes_of within)) ∷ nodes_of within) (nodes_of rest)
-    (found_is tables d (factor ∷ body ++ behind) (replication head body) (x_of d + 1)
-    (factor_read tables d factor e body behind f x y j k c n)) front
-    (rw (add-one, behind_it) back)
+    body_behind tables (expand_within (suc levels) tables) s below used list body behind
+    (repetitions.Factor factor e) (nodes_of within) (Ok (nodes_of rest))
+    (factor_opens tables d factor e body behind f x y j k c n) (omega arith)
+    (flat_expands tables s below body within i levels (used + 1) (omega arith) (omega arith))
+    (flat_expands tables s (suc below) behind rest g (suc levels)
+    (used + 1 + length (nodes_of within)) deep (omega arith))
 
 -- ---- more levels change nothing
 
