@@ -23,7 +23,7 @@ use Rattle.bufr_expand.specs.NextFields.{first_before}
 use Rattle.bufr_expand.specs.NextFields.{Beginning, IsNext, ItemBefore, FieldBegins, FirstBegins}
 use Rattle.bufr_expand.specs.NextFields.{TurnsBegin, TurnsThenBegin, Begins}
 use Rattle.bufr_expand.proofs.PassFacts.{item-below, item-above}
-use Rattle.bufr_expand.proofs.SpecFacts.{effective_found, effective_only, in_table, in_table_only}
+use Rattle.bufr_expand.proofs.TreeParts.{PartCourse, OfPart, IsKept, tree_kept}
 
 -- ---- the course after some fields
 
@@ -97,10 +97,6 @@ at_total : (Z : Type 0) (P : Course → Type 0) (after : Then) (r : Operators) (
     (gs : List Told) → a ≡ b
     → Ahead Z P after r a gs → Ahead Z P after r b gs
 at_total Z P after r a b gs e h = let Q : ℕ → Type 0 = λ k. Ahead Z P after r k gs in subst Q e h
-
--- the course of a part, from the items before it and with what comes after it
-abbrev pub PartCourse : Type 0
-PartCourse = ℕ → Then → Course
 
 -- behind the fields of a part its course is what comes after it
 abbrev pub Follows : Type 0 → (Course → Type 0) → (Unrolled → Type 0) → PartCourse → Type 0
@@ -205,54 +201,6 @@ field_follows Z P Has o d Rest before rest only step all used after gs h le a =
     (λ above. ahead.1 (omega arith)) in
     subst Q (sym h.in_order) now a
 
--- turns of a body
-turns_follow : (Z : Type 0) (P : Course → Type 0) (times : ℕ) (Body : UnrollsTo)
-    (body : Operators → PartCourse)
-    → FollowsAll Z P Body body → FollowsAll Z P (Turns times Body) (turns times body)
-unfolding Turns turns
-turns_follow Z P zero Body body step before = nothing_follows Z P before
-turns_follow Z P (suc times) Body body step before =
-    item_follows Z P (FirstThen Body (Turns times Body)) before
-    (λ used after. body before used (λ q used. turns times body q used after))
-    (first_follows Z P Body (Turns times Body) body (turns times body) step
-    (turns_follow Z P times Body body step) before)
-
--- the nodes of a tree
-pub tree_follows : (Z : Type 0) (P : Course → Type 0) (t : trees.Tree)
-    → FollowsAll Z P (Unroll t) (course_then t)
-unfolding Unroll course_then
-tree_follows Z P trees.done before = nothing_follows Z P before
-tree_follows Z P (trees.operator d rest) before =
-    item_follows Z P (λ q. Unroll rest q) (in_force_after before d)
-    (course_then rest (in_force_after before d))
-    (tree_follows Z P rest (in_force_after before d))
-tree_follows Z P (trees.element d e rest) before =
-    field_follows Z P (Effective d e before) (effective d e before) d (λ n. Unroll rest) before
-    (λ n. course_then rest before) (effective_only d e before)
-    (λ n. tree_follows Z P rest before)
-tree_follows Z P (trees.untouched d e rest) before =
-    field_follows Z P (AsInTable e) (untouched e) d (λ n. Unroll rest) before
-    (λ n. course_then rest before) (in_table_only e) (λ n. tree_follows Z P rest before)
-tree_follows Z P (trees.repeated times body rest) before =
-    item_follows Z P (TurnsThen times (Unroll body) (Unroll rest)) before
-    (λ used after. turns times (course_then body) before used
-    (λ q used. course_then rest q used after))
-    (first_follows Z P (Turns times (Unroll body)) (Unroll rest)
-    (turns times (course_then body))
-    (course_then rest) (turns_follow Z P times (Unroll body) (course_then body)
-    (tree_follows Z P body))
-    (tree_follows Z P rest) before)
-tree_follows Z P (trees.delayed d e body rest) before =
-    field_follows Z P (λ spec. spec ≡ factor_spec e) (Some (factor_spec e)) d
-    (λ n. TurnsThen n (Unroll body) (Unroll rest)) before
-    (λ n used after. turns n (course_then body) before used
-    (λ q used. course_then rest q used after))
-    (λ s is. ap Some (sym is))
-    (λ n. first_follows Z P (Turns n (Unroll body)) (Unroll rest) (turns n (course_then body))
-    (course_then rest) (turns_follow Z P n (Unroll body) (course_then body)
-    (tree_follows Z P body))
-    (tree_follows Z P rest) before)
-
 -- ---- at what comes next
 
 -- what comes next stands in the course, so many items being met
@@ -344,10 +292,6 @@ shown_here : (Z : Type 0) (P : Course → Type 0) (c : Course) (next : Next) (to
 unfolding Comes Arrives
 shown_here Z P c next total fit arrives h = arrives.0 c fit h
 
--- a factor has its one spec
-factor_found : (e : Element) (s : Spec) → Some (factor_spec e) ≡ Some s → s ≡ factor_spec e
-factor_found e s is = cc
-
 -- at a field, or behind it
 field_meets : (Z : Type 0) (P : Course → Type 0) (Has : Spec → Type 0) (o : Option Spec) (d : ℕ)
     (Rest : ℕ → Beginning) (before : Operators) (rest : ℕ → PartCourse)
@@ -382,63 +326,35 @@ field_meets Z P Has o d Rest before rest only found step begun used after (inr h
     (λ above. arrives.1 (omega arith)) in
     subst Q (sym h.in_order) now a
 
--- in one of some turns
-turns_meet : (Z : Type 0) (P : Course → Type 0) (times : ℕ) (Body : UnrollsTo) (Begin : Beginning)
-    (body : Operators → PartCourse)
-    → FollowsAll Z P Body body → MeetsAll Z P Begin body
-    → MeetsAll Z P (TurnsBegin times Body Begin) (turns times body)
-unfolding TurnsBegin turns
-turns_meet Z P zero Body Begin body step begin before begun used after h le a = absurd h
-turns_meet Z P (suc times) Body Begin body step begin before begun used after h le a =
-    item_meets Z P (FirstBegins Body Begin (TurnsBegin times Body Begin)) before
-    (λ used after. body before used (λ q used. turns times body q used after))
-    (first_meets Z P Body Begin (TurnsBegin times Body Begin) body (turns times body) step begin
-    (turns_meet Z P times Body Begin body step begin) before)
-    begun used after h le a
+-- ---- the nodes of a tree
 
--- in one of some turns, or behind them
-turns_then_meet : (Z : Type 0) (P : Course → Type 0) (times : ℕ) (body rest : trees.Tree)
-    → MeetsAll Z P (Begins body) (course_then body) → MeetsAll Z P (Begins rest) (course_then rest)
-    → MeetsAll Z P (TurnsThenBegin times (Unroll body) (Begins body) (Begins rest))
-    (λ q used after. turns times (course_then body) q used
-    (λ q used. course_then rest q used after))
-turns_then_meet Z P times body rest begin behind =
-    first_meets Z P (Turns times (Unroll body)) (TurnsBegin times (Unroll body) (Begins body))
-    (Begins rest)
-    (turns times (course_then body)) (course_then rest)
-    (turns_follow Z P times (Unroll body) (course_then body) (tree_follows Z P body))
-    (turns_meet Z P times (Unroll body) (Begins body) (course_then body)
-    (tree_follows Z P body) begin)
-    behind
+-- a part whose course goes on behind its fields, and shows what comes next within it
+abbrev GoesOn : Type 0 → (Course → Type 0) → OfPart
+GoesOn Z P Here Begin body = Follows Z P Here body × Meets Z P Begin body
 
--- in the nodes of a tree
+-- so does what is made of such parts
+goes_on_kept : (Z : Type 0) (P : Course → Type 0) → IsKept (GoesOn Z P)
+goes_on_kept Z P = record {
+  of_nothing = λ before. (nothing_follows Z P before, λ begun used after h le a. absurd h);
+  of_item = λ Rest Begin before rest h.
+      (item_follows Z P Rest before rest h.0, item_meets Z P Begin before rest h.1);
+  of_first = λ First Rest Begin Behind first rest h g before. (
+    first_follows Z P First Rest first rest (λ q. (h q).0) (λ q. (g q).0) before,
+    first_meets Z P First Begin Behind first rest (λ q. (h q).0) (λ q. (h q).1)
+        (λ q. (g q).1) before,
+  );
+  of_field = λ Has o d Rest Begin before rest only found h. (
+    field_follows Z P Has o d Rest before rest only (λ n. (h n).0),
+    field_meets Z P Has o d Begin before rest only found (λ n. (h n).1),
+  );
+}
+
+-- behind the fields of a tree its course is what comes after it
+pub tree_follows : (Z : Type 0) (P : Course → Type 0) (t : trees.Tree)
+    → FollowsAll Z P (Unroll t) (course_then t)
+tree_follows Z P t before = (tree_kept (GoesOn Z P) (goes_on_kept Z P) t before).0
+
+-- and within it the course shows what comes next
 pub tree_meets : (Z : Type 0) (P : Course → Type 0) (t : trees.Tree)
     → MeetsAll Z P (Begins t) (course_then t)
-unfolding Begins course_then
-tree_meets Z P trees.done before begun used after h le a = absurd h
-tree_meets Z P (trees.operator d rest) before begun used after h le a =
-    item_meets Z P (λ q. Begins rest q) (in_force_after before d)
-    (course_then rest (in_force_after before d))
-    (tree_meets Z P rest (in_force_after before d)) begun used after h le a
-tree_meets Z P (trees.element d e rest) before begun used after h le a =
-    field_meets Z P (Effective d e before) (effective d e before) d (λ n. Begins rest) before
-    (λ n. course_then rest before) (effective_only d e before) (effective_found d e before)
-    (λ n. tree_meets Z P rest before) begun used after h le a
-tree_meets Z P (trees.untouched d e rest) before begun used after h le a =
-    field_meets Z P (AsInTable e) (untouched e) d (λ n. Begins rest) before
-    (λ n. course_then rest before) (in_table_only e) (in_table e)
-    (λ n. tree_meets Z P rest before) begun used after h le a
-tree_meets Z P (trees.repeated times body rest) before begun used after h le a =
-    item_meets Z P (TurnsThenBegin times (Unroll body) (Begins body) (Begins rest)) before
-    (λ used after. turns times (course_then body) before used
-    (λ q used. course_then rest q used after))
-    (turns_then_meet Z P times body rest (tree_meets Z P body) (tree_meets Z P rest) before)
-    begun used after h le a
-tree_meets Z P (trees.delayed d e body rest) before begun used after h le a =
-    field_meets Z P (λ spec. spec ≡ factor_spec e) (Some (factor_spec e)) d
-    (λ n. TurnsThenBegin n (Unroll body) (Begins body) (Begins rest)) before
-    (λ n used after. turns n (course_then body) before used
-    (λ q used. course_then rest q used after))
-    (λ s is. ap Some (sym is)) (λ s is. factor_found e s is)
-    (λ n. turns_then_meet Z P n body rest (tree_meets Z P body) (tree_meets Z P rest) before)
-    begun used after h le a
+tree_meets Z P t before = (tree_kept (GoesOn Z P) (goes_on_kept Z P) t before).1

@@ -23,8 +23,7 @@ use Rattle.bufr_expand.specs.NextFields.{Next, wants, lacks, Begun, Beginning, I
 use Rattle.bufr_expand.specs.NextFields.{FieldBegins}
 use Rattle.bufr_expand.specs.NextFields.{FirstBegins, TurnsBegin, TurnsThenBegin, Begins}
 use Rattle.bufr_expand.proofs.PassFacts.{item-below, item-above}
-use Rattle.bufr_expand.proofs.SpecFacts.{effective_found, effective_only, in_table, in_table_only}
-use Rattle.bufr_expand.proofs.FollowedFacts.{PartCourse}
+use Rattle.bufr_expand.proofs.TreeParts.{PartCourse, OfPart, OfAll, tree_kept}
 
 -- no field is told, or the course asks for those that are
 unfoldable pub Still : Course → ℕ → List Told → Course → Type 0
@@ -46,13 +45,9 @@ Parted Body Begin used after fields later =
     ⊎ Split Body used after fields later
 
 -- the fields that the course of some nodes asks for are parted so
-abbrev pub Finds : (Unrolled → Type 0) → (Begun → Type 0) → PartCourse → Type 0
+abbrev pub Finds : OfPart
 Finds Body Begin body = (used : ℕ) (after : Then) (fields : List Told) (later : Course)
     → Still (body used after) used fields later → Parted Body Begin used after fields later
-
--- from whatever operators in force
-abbrev pub FindsAll : UnrollsTo → Beginning → (Operators → PartCourse) → Type 0
-FindsAll Body Begin body = (before : Operators) → Finds (Body before) (Begin before) (body before)
 
 -- after as many items, counted in another order
 still_at : (after : Then) (r : Operators) (a b : ℕ) (fields : List Told) (later : Course) → a ≡ b
@@ -175,8 +170,8 @@ begun_by next items fields = record { fields = fields; next = next; items = item
 -- what stands first, and then the rest
 first_finds : (First Rest : UnrollsTo) (Begin Behind : Beginning)
     (first rest : Operators → PartCourse)
-    → FindsAll First Begin first → FindsAll Rest Behind rest
-    → FindsAll (FirstThen First Rest) (FirstBegins First Begin Behind)
+    → OfAll Finds First Begin first → OfAll Finds Rest Behind rest
+    → OfAll Finds (FirstThen First Rest) (FirstBegins First Begin Behind)
     (λ q used after. first q used (λ q used. rest q used after))
 first_finds First Rest Begin Behind first rest find then before used after fields later a =
     elim (find before used (λ q used. rest q used after) fields later a) [
@@ -261,64 +256,11 @@ field_finds Has o d Rest Begin before rest only found find used after fields lat
           ]
     ]
 
--- turns of a body
-turns_find : (times : ℕ) (Body : UnrollsTo) (Begin : Beginning) (body : Operators → PartCourse)
-    → FindsAll Body Begin body → FindsAll (Turns times Body) (TurnsBegin times Body Begin)
-    (turns times body)
-unfolding Turns TurnsBegin turns
-turns_find zero Body Begin body find before = nothing_finds before (λ begun. ⊥)
-turns_find (suc times) Body Begin body find before =
-    item_finds (FirstThen Body (Turns times Body))
-    (FirstBegins Body Begin (TurnsBegin times Body Begin)) before
-    (λ used after. body before used (λ q used. turns times body q used after))
-    (first_finds Body (Turns times Body) Begin (TurnsBegin times Body Begin) body
-    (turns times body) find
-    (turns_find times Body Begin body find) before)
-
--- turns of a body, and then the rest
-turns_then_find : (times : ℕ) (body rest : trees.Tree)
-    → FindsAll (Unroll body) (Begins body) (course_then body)
-    → FindsAll (Unroll rest) (Begins rest) (course_then rest)
-    → FindsAll (TurnsThen times (Unroll body) (Unroll rest))
-    (TurnsThenBegin times (Unroll body) (Begins body) (Begins rest))
-    (λ q used after. turns times (course_then body) q used
-    (λ q used. course_then rest q used after))
-turns_then_find times body rest find then =
-    first_finds (Turns times (Unroll body)) (Unroll rest)
-    (TurnsBegin times (Unroll body) (Begins body))
-    (Begins rest) (turns times (course_then body)) (course_then rest)
-    (turns_find times (Unroll body) (Begins body) (course_then body) find) then
-
--- a factor has its one spec
-factor_has : (e : Element) (s : Spec) → Some (factor_spec e) ≡ Some s → s ≡ factor_spec e
-factor_has e s is = cc
-
--- the nodes of a tree
-pub tree_finds : (t : trees.Tree) → FindsAll (Unroll t) (Begins t) (course_then t)
-unfolding Unroll Begins course_then
-tree_finds trees.done before = nothing_finds before (λ begun. ⊥)
-tree_finds (trees.operator d rest) before =
-    item_finds (λ q. Unroll rest q) (λ q. Begins rest q) (in_force_after before d)
-    (course_then rest (in_force_after before d)) (tree_finds rest (in_force_after before d))
-tree_finds (trees.element d e rest) before =
-    field_finds (Effective d e before) (effective d e before) d (λ n. Unroll rest)
-    (λ n. Begins rest) before
-    (λ n. course_then rest before) (effective_only d e before) (effective_found d e before)
-    (λ n. tree_finds rest before)
-tree_finds (trees.untouched d e rest) before =
-    field_finds (AsInTable e) (untouched e) d (λ n. Unroll rest) (λ n. Begins rest) before
-    (λ n. course_then rest before) (in_table_only e) (in_table e) (λ n. tree_finds rest before)
-tree_finds (trees.repeated times body rest) before =
-    item_finds (TurnsThen times (Unroll body) (Unroll rest))
-    (TurnsThenBegin times (Unroll body) (Begins body) (Begins rest)) before
-    (λ used after. turns times (course_then body) before used
-    (λ q used. course_then rest q used after))
-    (turns_then_find times body rest (tree_finds body) (tree_finds rest) before)
-tree_finds (trees.delayed d e body rest) before =
-    field_finds (λ spec. spec ≡ factor_spec e) (Some (factor_spec e)) d
-    (λ n. TurnsThen n (Unroll body) (Unroll rest))
-    (λ n. TurnsThenBegin n (Unroll body) (Begins body) (Begins rest)) before
-    (λ n used after. turns n (course_then body) before used
-    (λ q used. course_then rest q used after))
-    (λ s is. ap Some (sym is)) (factor_has e)
-    (λ n. turns_then_find n body rest (tree_finds body) (tree_finds rest) before)
+-- so the fields that the course of a tree asks for are parted
+pub tree_finds : (t : trees.Tree) → OfAll Finds (Unroll t) (Begins t) (course_then t)
+tree_finds t = tree_kept Finds (record {
+  of_nothing = λ before. nothing_finds before (λ begun. ⊥);
+  of_item = item_finds;
+  of_first = first_finds;
+  of_field = field_finds;
+}) t

@@ -14,4 +14,5 @@ pub mod ReadingFacts
 pub mod SpecFacts
 pub mod Steps
 pub mod TemplateFacts
+pub mod TreeParts
 pub mod UnrollFacts
