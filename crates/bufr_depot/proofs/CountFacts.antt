@@ -1,24 +1,23 @@
 -- The messages of frames, added to an archive one after the other: for the answers of `Depot::step`
 -- to pieces and ends.
-use Rattle.std.proofs.Common.{◌≡◌, ℕ, zero, suc, ◌+◌, ◌*◌, ◌<◌, ◌≤◌, ◌^◌, Bool, true, false, not, cond, Option, Some, None, Result, Ok, Err, IfOk, is_ok, List, [], ◌∷◌, ◌++◌, length, map, take, get_or, refl, sym, ap, ◌∙◌, subst, arith, append_assoc, length-append}
+use Rattle.std.proofs.Common.{◌≡◌, ℕ, zero, suc, ◌+◌, ◌*◌, ◌<◌, ◌≤◌, ◌^◌, Bool, true, false, not, cond, Option, Some, None, Result, Ok, Err, IfOk, is_ok, List, [], ◌∷◌, ◌++◌, length, take, get_or, refl, sym, ap, ◌∙◌, subst, arith, append_assoc, length-append}
 use Rattle.std.specs.Prelude.{option_to_list}
-use Rattle.std.specs.List.{flat_map, count_by}
-use Rattle.std.proofs.lemmas.List.{append-nil, map-append, length-map, take-map}
-use Rattle.std.proofs.lemmas.List.Sums.{count_by_more_no, count_by_more_yes, count_by-le-length}
+use Rattle.std.proofs.lemmas.List.{append-nil, map-append, length-map, take_more, take-append-le}
+use Rattle.std.proofs.Math.Seq.{take-append-add}
+use Rattle.std.proofs.lemmas.List.Sums.{count_by_more_no, count_by_more_yes}
 use Rattle.std.proofs.lemmas.Grind.{flat_map-append}
 use Rattle.bufr_tables.specs.Entries.{Entries}
 use Rattle.bufr_frame.specs.declared.frames.Found.{Found}
 use Rattle.bufr_sections.specs.declared.message.Decoded.{Decoded}
 use Rattle.bufr_sections.specs.Sections.{AreOctets}
 use Rattle.bufr_sections.specs.declared.fault.Refused.{Refused as Refusal}
-use Rattle.bufr_message.specs.declared.report.Report.{Report}
 use Rattle.bufr_message.specs.Messages.{message_of}
 use Rattle.bufr_message.specs.Reports.{reports_of, reports_read, reports_in, report_of}
 use Rattle.bufr_message.specs.Laws.{MessagesReadAreSpelt}
 use Rattle.bufr_shelves.specs.declared.entry.Entry.{Entry}
 use Rattle.bufr_shelves.specs.Entries.{kept, changes}
 use Rattle.bufr_shelves.specs.Orders.{kept-early}
-use Rattle.bufr_archive.specs.Archives.{ArchiveView, taken_in, entries_of, count_changes, IsKept, AddsAll, AddsFirst}
+use Rattle.bufr_archive.specs.Archives.{ArchiveView, taken_in, entries_of, count_changes, IsKept}
 use Rattle.bufr_archive.specs.ChangeCounts.{count_kept, count_more}
 use Rattle.bufr_archive.specs.ReportEntries.{entry_of, report_entries, entries_told}
 use Rattle.bufr_archive.specs.Adding.{AddsMessage}
@@ -26,6 +25,7 @@ use Rattle.bufr_archive.specs.declared.adding.Added.{Added}
 use Rattle.bufr_archive.specs.declared.adding.AddFault.{AddFault}
 use Rattle.bufr_archive.specs.declared.adding.AddFault.TheVariants.{Refused, OutOfMemory}
 use Rattle.bufr_depot.specs.Slots.{spells, reports_among, count_messages, count_refused}
+use Rattle.bufr_depot.specs.Holdings.{Holding}
 use Rattle.bufr_depot.specs.HeldSteps.{AddsFrames, AddsSome}
 use Rattle.bufr_depot.specs.declared.counts.Counts.{Counts}
 
@@ -110,15 +110,6 @@ done_few read old new octets (Err (OutOfMemory n)) all h k e =
 abbrev pub entries_among : Entries → List Found → List (Option Entry)
 entries_among tables frames = report_entries tables (reports_among tables frames)
 
--- a front with one frame more
-take_more : (fs : List Found) (i : ℕ) (f : Found) → i < length fs
-    → take (i + 1) fs ≡ take i fs ++ get_or fs i f ∷ []
-take_more [] i f h = absurd (omega arith)
-take_more (g ∷ fs) zero f h = refl
-take_more (g ∷ fs) (suc i) f h =
-    ap (λ n. take n (g ∷ fs)) (let e : suc i + 1 ≡ suc (i + 1) = omega arith in e)
-    ∙ ap (λ xs. g ∷ xs) (take_more fs i f (omega arith))
-
 -- the entries among two lists of frames are those of the one and then of the other
 entries_among-append : (tables : Entries) (fs gs : List Found)
     → entries_among tables (fs ++ gs) ≡ entries_among tables fs ++ entries_among tables gs
@@ -126,7 +117,7 @@ entries_among-append tables fs gs =
     ap (report_entries tables) (flat_map-append (λ (f : Found). reports_in tables f.bytes) fs gs)
     ∙ map-append (entry_of tables) (reports_among tables fs) (reports_among tables gs)
 
--- and the entries of its reports
+-- a front with one frame more has the entries of its reports too
 entries_more : (tables : Entries) (fs : List Found) (i : ℕ) (f : Found) → i < length fs
     → entries_among tables (take (i + 1) fs)
     ≡ entries_among tables (take i fs) ++ entries_told tables (get_or fs i f).bytes
@@ -279,21 +270,6 @@ one_refused old new next fs i f counts joined (Refused why) h s adds not_memory 
       refused_few = omega (arith, r);
     }
 
--- the first of two lists joined, and some of the second
-take_past : {A : Type 0} (xs ys zs : List A) (k : ℕ) → k ≤ length ys
-    → take (length xs + k) (xs ++ (ys ++ zs)) ≡ xs ++ take k ys
-take_past [] [] zs zero h = refl
-take_past [] [] zs (suc k) h = absurd (omega arith)
-take_past [] (y ∷ ys) zs zero h = refl
-take_past [] (y ∷ ys) zs (suc k) h =
-    ap (λ n. take n (y ∷ (ys ++ zs))) (let e : 0 + suc k ≡ suc k = omega arith in e)
-    ∙ ap (λ r. y ∷ r) (ap (λ n. take n (ys ++ zs)) (let e : k ≡ 0 + k = omega arith in e)
-    ∙ take_past [] ys zs k (omega arith))
-take_past (x ∷ xs) ys zs k h =
-    ap (λ n. take n (x ∷ (xs ++ (ys ++ zs))))
-    (let e : suc (length xs) + k ≡ suc (length xs + k) = omega arith in e)
-    ∙ ap (λ r. x ∷ r) (take_past xs ys zs k h)
-
 -- all frames are those up to one, that one and the others
 parted : (fs : List Found) (i : ℕ) (f : Found) → i < length fs
     → (more : List Found) × (fs ≡ take i fs ++ get_or fs i f ∷ more)
@@ -324,7 +300,8 @@ ran_out old new next fs i f counts joined (OutOfMemory n) k h s adds e =
     (map-append (entry_of t) (reports_in t octets) (reports_among t p.0)) in
     let fewer : k ≤ length here =
     let a = adds.few in let b = ap length told in omega (arith, a, b, n_is) in
-    let long : length (entries_among t fs) ≡ length before + (length here + length (entries_among t p.0)) =
+    let long : length (entries_among t fs)
+    ≡ length before + (length here + length (entries_among t p.0)) =
     ap length all ∙ length-append before (here ++ entries_among t p.0)
     ∙ ap (λ m. length before + m) (length-append here (entries_among t p.0)) in
     let j = s.joined_is in
@@ -333,7 +310,8 @@ ran_out old new next fs i f counts joined (OutOfMemory n) k h s adds e =
     ∙ ap (λ m. taken_in new (take m here)) n_is in
     let front : take (joined + k) (entries_among t fs) ≡ before ++ take k here =
     ap (λ m. take (m + k) (entries_among t fs)) j ∙ ap (take (length before + k)) all
-    ∙ take_past before here (entries_among t p.0) k fewer in
+    ∙ take-append-add before (here ++ entries_among t p.0) k
+    ∙ ap (λ rs. before ++ rs) (take-append-le k here (entries_among t p.0) fewer) in
     record {
       few = omega (arith, j, long, fewer);
       archive = taken_twice old new next before (take k here) s.archive next_is
@@ -386,13 +364,10 @@ added_none a fs order = record {
       (sym order ∙ ap kept (sym (append-nil a.entries)));
 }
 
--- the answer to frames
-pub frames_added : (old new : ArchiveView) (frames others : List Found) (counts : Counts)
-    → AddsFrames old new frames counts → frames ≡ others → AddsFrames old new others counts
-frames_added old new frames others counts adds same =
-    subst (λ fs. AddsFrames old new fs counts) same adds
-
--- the same where the first so many reports were added
-pub frames_some : (old new : ArchiveView) (frames others : List Found) (k : ℕ)
-    → AddsSome old new frames k → frames ≡ others → AddsSome old new others k
-frames_some old new frames others k adds same = subst (λ fs. AddsSome old new fs k) same adds
+-- what holds of the archive that was held and of the frames that were found holds of those that
+-- they are
+pub of_held : (P : ArchiveView → List Found → Type 0) (held h : Holding)
+    (frames others : List Found) → held ≡ h → frames ≡ others → P held.archive frames
+    → P h.archive others
+of_held P held h frames others is same p =
+    subst (λ (k : Holding). P k.archive others) is (subst (P held.archive) same p)

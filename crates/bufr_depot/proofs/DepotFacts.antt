@@ -1,7 +1,10 @@
 -- Slots of a depot: which are there, and what merging one into another leaves. For the clauses of
 -- `Depot::step` on joins.
-use Rattle.std.proofs.Common.{◌≡◌, inl, inr, ℕ, zero, suc, ◌+◌, ◌<◌, Option, Some, None, Result, Ok, Err, List, [], ◌∷◌, ◌++◌, length, set, get_or, refl, sym, ap, ◌∙◌, subst, arith}
+use Rattle.std.proofs.Common.{◌≡◌, ℕ, zero, suc, ◌+◌, ◌<◌, Some, Result, Ok, Err, List, [], ◌∷◌, ◌++◌, length, set, get_or, refl, sym, ap, ◌∙◌, subst, arith}
 use Rattle.std.specs.Prelude.{slice_get}
+use Rattle.std.proofs.lemmas.List.{get_or-set_same, get_or-set_other, set-set}
+use Rattle.std.proofs.lemmas.List.Elements.{All-from_recursion, All-get_or}
+use Rattle.std.proofs.lemmas.Option.{same_Some, slice_get_within, get_or_from_slice_get}
 use Rattle.bufr_tables.specs.Entries.{Entries}
 use Rattle.bufr_frame.specs.Framings.{Framing}
 use Rattle.bufr_message.specs.declared.report.Report.{Report}
@@ -9,20 +12,18 @@ use Rattle.bufr_shelves.specs.declared.entry.Entry.{Entry}
 use Rattle.bufr_shelves.specs.Entries.{kept}
 use Rattle.bufr_shelves.specs.Orders.{kept-early, kept-late, kept-twice}
 use Rattle.bufr_archive.specs.Archives.{ArchiveView, merged, entries_of}
-use Rattle.bufr_archive.specs.ReportEntries.{AreUnder, kept_of, report_entries, text_of}
+use Rattle.bufr_archive.specs.ReportEntries.{AreUnder, report_entries, text_of}
 use Rattle.bufr_archive.specs.Texts.{text}
 use Rattle.bufr_archive.specs.declared.reading.NotAnArchive.{NotAnArchive}
 use Rattle.bufr_archive.specs.ReportTexts.{archive_of}
 use Rattle.bufr_depot.specs.Slots.{Slot}
 use Rattle.bufr_depot.specs.Holdings.{Holding, DepotView, HoldsSlot}
-use Rattle.bufr_depot.specs.HeldSteps.{StepDoes, AreThere, TakesIn, IsJoin, IsAsGood}
+use Rattle.bufr_depot.specs.HeldSteps.{StepDoes, AreThere, AreAllUnder, TakesIn, IsJoin, IsAsGood}
 use Rattle.bufr_depot.specs.declared.steps.Step.{Step}
-use Rattle.bufr_depot.specs.declared.steps.Answer.{Answer}
 use Rattle.bufr_depot.specs.declared.steps.Answer.TheVariants.{Joined}
-use Rattle.bufr_depot.specs.declared.steps.StepFault.{StepFault}
 use Rattle.bufr_depot.specs.declared.steps.StepFault.TheVariants.{OutOfMemory}
-use Rattle.bufr_depot.proofs.HeldFacts.{archive_joined}
-use Rattle.bufr_depot.proofs.JoinFacts.{join_done, join_ran_out, as_good, same_there, set_same, set_twice}
+use Rattle.bufr_depot.proofs.HeldFacts.{set_same, archive_joined}
+use Rattle.bufr_depot.proofs.JoinFacts.{join_done, join_ran_out, as_good}
 
 -- ---- places in lists
 
@@ -33,35 +34,6 @@ at_below [] i h = absurd (omega arith)
 at_below (x ∷ xs) zero h = (x, refl)
 at_below (x ∷ xs) (suc i) h = at_below xs i (omega arith)
 
--- a place at which a value stands is below the length
-pub below_at : {A : Type 0} (xs : List A) (i : ℕ) (x : A) → slice_get xs i ≡ Some x
-    → i < length xs
-below_at [] i x e = absurd cc
-below_at (y ∷ xs) zero x e = omega arith
-below_at (y ∷ xs) (suc i) x e = let h = below_at xs i x e in omega (arith, h)
-
--- one that was set
-set_here : {A : Type 0} (xs : List A) (i : ℕ) (x y : A) → slice_get xs i ≡ Some x
-    → slice_get (set xs i y) i ≡ Some y
-set_here [] i x y e = absurd cc
-set_here (a ∷ xs) zero x y e = refl
-set_here (a ∷ xs) (suc i) x y e = set_here xs i x y e
-
--- and the others
-set_other : {A : Type 0} (xs : List A) (i j : ℕ) (y : A) → (j ≡ i → ⊥)
-    → slice_get (set xs i y) j ≡ slice_get xs j
-set_other [] i j y apart = refl
-set_other (a ∷ xs) zero zero y apart = absurd (apart refl)
-set_other (a ∷ xs) zero (suc j) y apart = refl
-set_other (a ∷ xs) (suc i) zero y apart = refl
-set_other (a ∷ xs) (suc i) (suc j) y apart = set_other xs i j y (λ e. apart (ap suc e))
-
--- a list in which a value was set is as long as it was
-pub length_set : {A : Type 0} (xs : List A) (i : ℕ) (y : A) → length (set xs i y) ≡ length xs
-length_set [] i y = refl
-length_set (a ∷ xs) zero y = refl
-length_set (a ∷ xs) (suc i) y = ap suc (length_set xs i y)
-
 -- ---- slots that are there
 
 -- two slots below the number of slots are there
@@ -71,12 +43,29 @@ are_there d from into f i =
     let s = at_below d.slots from f in let t = at_below d.slots into i in
     record { source = s.0; source_there = s.1; target = t.0; target_there = t.1 }
 
--- the source of a join is the one that is held there
-pub source_is : (d e : DepotView) (from into : ℕ) (there : AreThere d from into) (h : Holding)
-    → e ≡ d → slice_get e.slots from ≡ Some h → h ≡ there.source
-source_is d e from into there h same at =
-    same_there (slice_get d.slots from) h there.source
-    (subst (λ (x : DepotView). slice_get x.slots from ≡ Some h) same at) there.source_there
+-- the number of a slot that is there is below the number of slots
+pub is_below : (d e : DepotView) (i n : ℕ) (h : Holding) → e ≡ d → n ≡ length e.slots
+    → slice_get d.slots i ≡ Some h → i < n
+is_below d e i n h same long there =
+    subst (λ m. i < m) (sym long) (subst (λ (x : DepotView). i < length x.slots) (sym same)
+    (slice_get_within d.slots i h there))
+
+-- what is read at the number of a slot that is there is what is held for it
+pub read_is : (d e : DepotView) (i : ℕ) (h k : Holding) → e ≡ d → slice_get d.slots i ≡ Some h
+    → k ≡ get_or e.slots i k → k ≡ h
+read_is d e i h k same there is =
+    is ∙ ap (λ (x : DepotView). get_or x.slots i k) same
+    ∙ get_or_from_slice_get d.slots i h k there
+
+-- and its archive reads under the tables of the depot
+pub is_under : (d e : DepotView) (i : ℕ) (h : Holding) → e ≡ d → slice_get d.slots i ≡ Some h
+    → AreAllUnder e.tables e.slots → h.archive.tables ≡ d.tables
+is_under d e i h same there all =
+    let under = subst (λ (x : DepotView). AreAllUnder x.tables x.slots) same all in
+    let under_tables : Holding → Type 0 = λ k. k.archive.tables ≡ d.tables in
+    subst under_tables (get_or_from_slice_get d.slots i h h there)
+    (All-get_or under_tables d.slots i h (slice_get_within d.slots i h there)
+    (All-from_recursion under_tables d.slots under))
 
 -- ---- an archive that takes in another
 
@@ -126,10 +115,8 @@ twice tables rs =
 pub self_joined : (d : DepotView) (from into : ℕ) → AreThere d from into → from ≡ into
     → (step : Step) → IsJoin step from into → StepDoes d d step (Ok Joined)
 self_joined d from into there e step is =
-    let same : there.source ≡ there.target =
-    same_there (slice_get d.slots into) there.source there.target
-    (subst (λ n. slice_get d.slots n ≡ Some there.source) e there.source_there)
-    there.target_there in
+    let same = same_Some there.source there.target
+    (sym (ap (slice_get d.slots) (sym e) ∙ there.source_there) ∙ there.target_there) in
     let holds : (s t : Slot) → HoldsSlot d.tables there.source s → HoldsSlot d.tables there.target t
     → there.target.archive ≡ archive_of d.tables (t.reports ++ s.reports) = λ s t hs ht.
     let both : archive_of d.tables s.reports ≡ archive_of d.tables t.reports =
@@ -144,23 +131,23 @@ self_joined d from into there e step is =
 -- ---- an archive that is taken out, merged into and put back
 
 module _ (d : DepotView) (from into : ℕ) (there : AreThere d from into) (apart : from ≡ into → ⊥)
-    (h h2 h3 k1 k2 : Holding) (at : slice_get d.slots into ≡ Some h)
-    (framer1 : k1.framer ≡ h.framer) (at2 : slice_get (set d.slots into k1) from ≡ Some h2)
-    (at3 : slice_get (set d.slots into k1) into ≡ Some h3) (framer2 : k2.framer ≡ h3.framer) where
+    (h h2 h3 k1 k2 : Holding) (at : h ≡ get_or d.slots into h) (framer1 : k1.framer ≡ h.framer)
+    (at2 : h2 ≡ get_or (set d.slots into k1) from h2)
+    (at3 : h3 ≡ get_or (set d.slots into k1) into h3) (framer2 : k2.framer ≡ h3.framer) where
   -- the slot that is taken out is the target
   is_target : h ≡ there.target
-  is_target = same_there (slice_get d.slots into) h there.target at there.target_there
+  is_target = read_is d d into there.target h refl there.target_there at
 
   -- the slot that is merged into it is the source, which was not touched
   is_source : h2 ≡ there.source
-  is_source = same_there (slice_get d.slots from) h2 there.source
-      (sym (set_other d.slots into from k1 apart) ∙ at2) there.source_there
+  is_source = read_is d d from there.source h2 refl there.source_there
+      (at2 ∙ get_or-set_other d.slots into from k1 h2 apart)
 
   -- the framer that is put back is that of the target
   framer_stays : k2.framer ≡ there.target.framer
   framer_stays =
-      let put : h3 ≡ k1 = same_there (slice_get (set d.slots into k1) into) h3 k1 at3
-      (set_here d.slots into h k1 at) in
+      let put : h3 ≡ k1 = at3 ∙ get_or-set_same d.slots into k1 h3
+      (slice_get_within d.slots into there.target there.target_there) in
       framer2 ∙ ap (λ (k : Holding). k.framer) put ∙ framer1
       ∙ ap (λ (k : Holding). k.framer) is_target
 
@@ -171,7 +158,7 @@ module _ (d : DepotView) (from into : ℕ) (there : AreThere d from into) (apart
       let whole : k2 ≡ record there.target { archive = a } =
       ap (λ (x : ArchiveView). let k : Holding = record { archive = x; framer = k2.framer } in k) e
       ∙ ap (λ (f : Framing). let k : Holding = record { archive = a; framer = f } in k) framer_stays in
-      set_twice d.slots into k1 k2 ∙ ap (set d.slots into) whole
+      set-set d.slots into k1 k2 ∙ ap (set d.slots into) whole
 
   -- put back with the source merged in, the step is done
   pub merged_back : k2.archive ≡ merged h.archive h2.archive → (step : Step) → IsJoin step from into
@@ -202,10 +189,6 @@ pub both_merged : (a b x y : ArchiveView) → a ≡ x → b ≡ y → merged a b
 both_merged a b x y e f = ap (λ (z : ArchiveView). merged z b) e ∙ ap (merged x) f
 
 -- ---- an archive that was written and read back
-
--- two values that are there alike are the same
-pub some_same : {A : Type 0} (x y : A) → Some x ≡ Some y → x ≡ y
-some_same x y e = cc
 
 -- what is read back from the text of an archive is as good as it, where a text of reports
 -- is read as what is kept of these

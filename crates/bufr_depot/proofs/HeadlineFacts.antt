@@ -1,16 +1,16 @@
 -- What two runs leave agrees: for the clauses of `laws::headline` and of `run_both`.
-use Rattle.std.proofs.Common.{◌≡◌, ◌∙◌, ℕ, Option, Some, None, Result, List, refl, sym, ap, subst}
+use Rattle.std.proofs.Common.{◌≡◌, ◌∙◌, ℕ, Option, Some, None, List, refl, sym, ap, subst}
 use Rattle.std.specs.Prelude.{slice_get}
 use Rattle.std.specs.Option.{option_map}
-use Rattle.bufr_tables.specs.Entries.{Entries}
+use Rattle.std.proofs.lemmas.Option.{same_Some}
 use Rattle.bufr_archive.specs.Archives.{ArchiveView}
 use Rattle.bufr_archive.specs.Texts.{text}
 use Rattle.bufr_archive.specs.ReportEntries.{kept_of}
 use Rattle.bufr_archive.specs.ReportTexts.{archive_of}
-use Rattle.bufr_depot.specs.Slots.{all_told, Slot, slot_at}
+use Rattle.bufr_depot.specs.Slots.{all_told, Slot}
 use Rattle.bufr_depot.specs.Holdings.{Holding, HoldsSlot}
 use Rattle.bufr_depot.specs.Agreements.{EndsRun}
-use Rattle.bufr_depot.specs.Headline.{NewRun, slots_after, WasRun, archive_at, TookIn, HoldSameMessages, Headline}
+use Rattle.bufr_depot.specs.Headline.{NewRun, slots_after, WasRun, TookIn, HoldSameMessages, Headline}
 use Rattle.bufr_depot.proofs.HeldFacts.{zip_at}
 use Rattle.bufr_depot.proofs.AgreementFacts.{converges, keeps_what_was_told}
 
@@ -20,17 +20,13 @@ mapped_there : {A B : Type 0} (f : A → B) (o : Option A) (b : B) → option_ma
 mapped_there f None b e = absurd cc
 mapped_there f (Some a) b e = let same : f a ≡ b = cc in (a, refl, same)
 
--- two values of one option are one
-one_value : {A : Type 0} (o : Option A) (a b : A) → o ≡ Some a → o ≡ Some b → a ≡ b
-one_value o a b e f = let both : Some a ≡ Some b = sym e ∙ f in cc
-
 -- an archive at the end of a run holds what is kept of its slot's reports
 archive_left : (r : NewRun) (i : ℕ) (a : ArchiveView) (streams : List (List ℕ)) → WasRun r
     → (t : TookIn r i a streams) → a ≡ archive_of r.tables t.slot.reports
 archive_left r i a streams w t =
     let h = mapped_there (λ (k : Holding). k.archive) (slice_get r.left.slots i) a t.held in
     let s = zip_at (HoldsSlot r.left.tables) r.left.slots (slots_after r) i h.0 w.stands h.1 in
-    let same = one_value (slot_at (slots_after r) i) s.0 t.slot s.1 t.there in
+    let same = same_Some s.0 t.slot (sym s.1 ∙ t.there) in
     sym h.2 ∙ s.2.archive ∙ ap (λ x. archive_of x s.0.reports) w.tables
     ∙ ap (λ (x : Slot). archive_of r.tables x.reports) same
 

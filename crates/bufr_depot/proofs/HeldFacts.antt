@@ -1,13 +1,13 @@
 -- What a step does to what a depot holds, and to the slots for which it stands: for the clauses of
 -- `Depot::step`.
-use Rattle.std.proofs.Common.{◌≡◌, ◌⊎◌, inl, inr, ℕ, zero, suc, ◌+◌, ◌-◌, ◌<◌, ◌≤◌, ◌^◌, Bool, true, false, ltb as nat_lt, cond, Option, Some, None, Result, Ok, Err, List, [], ◌∷◌, ◌++◌, length, map, take, drop, set, replicate, refl, sym, ap, ◌∙◌, subst, arith, append_assoc}
+use Rattle.std.proofs.Common.{◌≡◌, ℕ, zero, suc, ◌+◌, ◌-◌, ◌<◌, ◌≤◌, ◌^◌, true, false, Some, None, Result, Ok, Err, List, [], ◌∷◌, ◌++◌, length, take, set, refl, sym, ap, ◌∙◌, subst, arith}
 use Rattle.std.specs.Prelude.{slice_get, option_to_list}
-use Rattle.std.specs.List.{AllZip, AllByRecursion, flat_map}
-use Rattle.std.proofs.lemmas.List.{append-nil, map-append, length-map, take-map}
+use Rattle.std.specs.List.{AllZip}
+use Rattle.std.proofs.lemmas.List.{map-append, length-map, take-map, set-get_or}
+use Rattle.std.proofs.lemmas.Option.{get_or_from_slice_get}
 use Rattle.std.proofs.lemmas.List.Elements.{All-append, All-nil}
 use Rattle.std.proofs.lemmas.Bool.{le-ltb, lt-ltb}
 use Rattle.std.proofs.lemmas.Grind.{flat_map-append}
-use Rattle.std.proofs.Math.Seq.{drop-append_seam}
 use Rattle.bufr_tables.specs.Entries.{Entries}
 use Rattle.bufr_frame.specs.declared.frames.Found.{Found}
 use Rattle.bufr_frame.specs.Framings.{Framing}
@@ -16,27 +16,28 @@ use Rattle.bufr_frame.specs.Streams.{sure, cut, Stands}
 use Rattle.bufr_frame.specs.StreamLaws.{cut-end, sure-piece}
 use Rattle.bufr_sections.specs.Sections.{AreOctets}
 use Rattle.bufr_message.specs.declared.report.Report.{Report}
-use Rattle.bufr_message.specs.Reports.{IsUnder, reports_in}
+use Rattle.bufr_message.specs.Reports.{IsUnder}
 use Rattle.bufr_shelves.specs.declared.entry.Entry.{Entry}
 use Rattle.bufr_shelves.specs.Entries.{kept}
 use Rattle.bufr_shelves.specs.Orders.{kept-early, kept-late}
-use Rattle.bufr_archive.specs.Archives.{ArchiveView, taken_in, merged, entries_of, count_changes}
+use Rattle.bufr_archive.specs.Archives.{ArchiveView, taken_in, merged, entries_of}
 use Rattle.bufr_archive.specs.ChangeCounts.{count_kept}
 use Rattle.bufr_archive.specs.ReportEntries.{AreUnder, entry_of, report_entries, kept_of}
 use Rattle.bufr_archive.specs.ReportTexts.{archive_of}
-use Rattle.bufr_depot.specs.Slots.{reports_among, count_messages, count_refused, Slot, slot_at, changed_at, gains, gains_all, new_slot, new_slots}
-use Rattle.bufr_depot.specs.Runs.{frames_of_piece, frames_of_end, is_too_long, frames_of_step, new_reports, slot_of, changes_of, fed_answer, ended_answer, joined_with, joined, done, after, answer_of, feed_answer, end_answer, join_answer, RanOut, IsAnswer, Run, after_all}
+use Rattle.bufr_depot.specs.Slots.{reports_among, count_messages, count_refused, Slot, changed_at, gains}
+use Rattle.bufr_depot.specs.Runs.{frames_of_piece, frames_of_end, is_too_long, new_reports, changes_of, fed_answer, ended_answer, after, feed_answer, end_answer, IsAnswer}
 use Rattle.bufr_depot.specs.Holdings.{Holding, DepotView, HoldsSlot, StandsFor}
-use Rattle.bufr_depot.specs.HeldSteps.{AddsFrames, AddsSome, Feeds, Ends, fed_of, ended_of, StepDoes, AreThere, IsFirstMissing, IsAsGood, with_merged, TakesIn, IsJoin, AreAllUnder}
+use Rattle.bufr_depot.specs.HeldSteps.{AddsFrames, AddsSome, Feeds, Ends, fed_of, ended_of, StepDoes}
 use Rattle.bufr_depot.specs.Agreements.{ReportsToldAreUnder}
 use Rattle.bufr_depot.specs.declared.counts.Counts.{Counts}
 use Rattle.bufr_depot.specs.declared.steps.Step.{Step}
-use Rattle.bufr_depot.specs.declared.steps.Step.TheVariants.{Feed, End, Merge, Transfer, Copy}
+use Rattle.bufr_depot.specs.declared.steps.Step.TheVariants.{Feed, End}
 use Rattle.bufr_depot.specs.declared.steps.Answer.{Answer}
-use Rattle.bufr_depot.specs.declared.steps.Answer.TheVariants.{Fed, Ended, Joined}
+use Rattle.bufr_depot.specs.declared.steps.Answer.TheVariants.{Fed, Ended}
 use Rattle.bufr_depot.specs.declared.steps.StepFault.{StepFault}
 use Rattle.bufr_depot.specs.declared.steps.StepFault.TheVariants.{NoSlot, StreamTooLong, OutOfMemory}
-use Rattle.bufr_depot.proofs.UnderFacts.{both, second_of, first_of, front_of}
+use Rattle.bufr_depot.proofs.UnderFacts.{both, each_of, front_of}
+use Rattle.bufr_depot.proofs.RunFacts.{among-append}
 
 -- ---- lists at each other's side
 
@@ -72,20 +73,11 @@ zip_set tables (a ∷ hs) (b ∷ ss) zero k s change z h r =
 zip_set tables (a ∷ hs) (b ∷ ss) (suc i) k s change z h r =
     (z.0, zip_set tables hs ss i k s change z.1 h r)
 
--- one holding is changed for another under the same tables
-pub all_set : (tables : Entries) (hs : List Holding) (i : ℕ) (k : Holding)
-    → AreAllUnder tables hs → k.archive.tables ≡ tables → AreAllUnder tables (set hs i k)
-all_set tables [] i k all h = tt
-all_set tables (a ∷ hs) zero k all h = (h, all.1)
-all_set tables (a ∷ hs) (suc i) k all h = (all.0, all_set tables hs i k all.1 h)
-
--- the one at a place
-pub all_at : (tables : Entries) (hs : List Holding) (i : ℕ) (h : Holding)
-    → AreAllUnder tables hs → slice_get hs i ≡ Some h → h.archive.tables ≡ tables
-all_at tables [] i h all e = absurd cc
-all_at tables (a ∷ hs) zero h all e =
-    let same : a ≡ h = cc in subst (λ (k : Holding). k.archive.tables ≡ tables) same all.0
-all_at tables (a ∷ hs) (suc i) h all e = all_at tables hs i h all.1 e
+-- the value that stands at a place, set there, changes nothing
+pub set_same : {A : Type 0} (xs : List A) (i : ℕ) (x : A) → slice_get xs i ≡ Some x
+    → set xs i x ≡ xs
+set_same xs i x e =
+    ap (set xs i) (sym (get_or_from_slice_get xs i x x e)) ∙ set-get_or xs i x
 
 -- ---- archives of reports
 
@@ -116,40 +108,27 @@ archive_joined tables rs qs =
 
 -- ---- what frames tell
 
-module _ (told_under : ReportsToldAreUnder) where
-  among-append : (tables : Entries) (fs gs : List Found)
-      → reports_among tables (fs ++ gs) ≡ reports_among tables fs ++ reports_among tables gs
-  among-append tables fs gs = flat_map-append (λ (f : Found). reports_in tables f.bytes) fs gs
+-- where frames come in two parts, and tell reports under the tables, so does each part
+parted_under : (tables : Entries) (all fs gs : List Found) → all ≡ fs ++ gs
+    → AreUnder tables (reports_among tables all)
+    → AreUnder tables (reports_among tables fs) × AreUnder tables (reports_among tables gs)
+parted_under tables all fs gs parts under =
+    each_of (IsUnder tables) (reports_among tables fs) (reports_among tables gs)
+    (subst (AreUnder tables) (ap (reports_among tables) parts ∙ among-append tables fs gs) under)
 
-  -- the reports that a stream's end brings
-  end_under : (tables : Entries) (s : List ℕ) → AreOctets s
-      → AreUnder tables (reports_among tables (frames_of_end s))
-  end_under tables s all =
-      let parts = ap (reports_among tables) (cut-end s)
-      ∙ among-append tables (sure s) (frames_of_end s) in
-      second_of (IsUnder tables) (reports_among tables (sure s))
-      (reports_among tables (frames_of_end s))
-      (subst (AreUnder tables) parts (told_under tables s all))
+-- the reports of a stream's sure frames, and those that its end brings
+end_under : ReportsToldAreUnder → (tables : Entries) (s : List ℕ) → AreOctets s
+    → AreUnder tables (reports_among tables (sure s))
+    × AreUnder tables (reports_among tables (frames_of_end s))
+end_under told_under tables s all =
+    parted_under tables (cut s) (sure s) (frames_of_end s) (cut-end s) (told_under tables s all)
 
-  -- the reports of sure frames
-  sure_under : (tables : Entries) (s : List ℕ) → AreOctets s
-      → AreUnder tables (reports_among tables (sure s))
-  sure_under tables s all =
-      let parts = ap (reports_among tables) (cut-end s)
-      ∙ among-append tables (sure s) (frames_of_end s) in
-      first_of (IsUnder tables) (reports_among tables (sure s))
-      (reports_among tables (frames_of_end s))
-      (subst (AreUnder tables) parts (told_under tables s all))
-
-  -- the reports that a piece brings
-  piece_under : (tables : Entries) (s piece : List ℕ) → AreOctets (s ++ piece)
-      → AreUnder tables (reports_among tables (frames_of_piece s piece))
-  piece_under tables s piece all =
-      let parts = ap (reports_among tables) (sure-piece s piece)
-      ∙ among-append tables (sure s) (frames_of_piece s piece) in
-      second_of (IsUnder tables) (reports_among tables (sure s))
-      (reports_among tables (frames_of_piece s piece))
-      (subst (AreUnder tables) parts (sure_under tables (s ++ piece) all))
+-- the reports that a piece brings
+piece_under : ReportsToldAreUnder → (tables : Entries) (s piece : List ℕ)
+    → AreOctets (s ++ piece) → AreUnder tables (reports_among tables (frames_of_piece s piece))
+piece_under told_under tables s piece all =
+    (parted_under tables (sure (s ++ piece)) (sure s) (frames_of_piece s piece)
+    (sure-piece s piece) (end_under told_under tables (s ++ piece) all).0).1
 
 -- ---- one slot
 
@@ -161,24 +140,21 @@ archive_all tables h k rs frames counts is adds =
     subst (λ (a : ArchiveView). k ≡ taken_in a (report_entries a.tables (reports_among a.tables frames))) is adds.archive
     ∙ archive_more tables rs (reports_among tables frames)
 
--- and after the first so many
+-- and after the first so many, which are no more than there are
 archive_some : (tables : Entries) (h k : ArchiveView) (rs : List Report) (frames : List Found)
     (n : ℕ) → h ≡ archive_of tables rs → AddsSome h k frames n
-    → k ≡ archive_of tables (rs ++ take n (reports_among tables frames))
+    → (n ≤ length (reports_among tables frames))
+    × (k ≡ archive_of tables (rs ++ take n (reports_among tables frames)))
 archive_some tables h k rs frames n is adds =
-    subst (λ (a : ArchiveView). k ≡ taken_in a (take n (report_entries a.tables (reports_among a.tables frames)))) is adds.archive
-    ∙ ap (taken_in (archive_of tables rs)) (take-map (entry_of tables) n (reports_among tables frames))
-    ∙ archive_more tables rs (take n (reports_among tables frames))
-
--- no more reports of frames were added than there are
-few_some : (tables : Entries) (h k : ArchiveView) (rs : List Report) (frames : List Found)
-    (n : ℕ) → h ≡ archive_of tables rs → AddsSome h k frames n
-    → n ≤ length (reports_among tables frames)
-few_some tables h k rs frames n is adds =
-    let few : n ≤ length (report_entries tables (reports_among tables frames)) =
-    subst (λ (a : ArchiveView). n ≤ length (report_entries a.tables (reports_among a.tables frames))) is adds.few in
-    let long = length-map (reports_among tables frames) (entry_of tables) in
-    omega (arith, few, long)
+    let told = reports_among tables frames in
+    let same : AddsSome (archive_of tables rs) k frames n =
+    subst (λ a. AddsSome a k frames n) is adds in
+    let few : n ≤ length (report_entries tables told) = same.few in
+    let long = length-map told (entry_of tables) in (
+      omega (arith, few, long),
+      same.archive ∙ ap (taken_in (archive_of tables rs)) (take-map (entry_of tables) n told)
+          ∙ archive_more tables rs (take n told),
+    )
 
 -- the counts of frames are those of the slot
 counts_are : (tables : Entries) (h k : ArchiveView) (slot : Slot) (frames : List Found)
@@ -241,6 +217,58 @@ module _ (told_under : ReportsToldAreUnder) (d : DepotView) (i : ℕ) (h k : Hol
   abbrev changed : DepotView
   changed = record d { slots = set d.slots i k }
 
+  -- a step changes the slot as it should where, of each slot that is held, its answer is right and
+  -- what is left of the slot is held
+  by_slot : (step : Step) (result : Result Answer StepFault) (change : Slot → Slot)
+      → ((slots : List Slot) → changed_at slots i change ≡ after d.tables step result slots)
+      → ((slots : List Slot) (s : Slot) → slice_get slots i ≡ Some s → HoldsSlot d.tables h s
+      → IsAnswer d.tables step slots result × HoldsSlot d.tables k (change s))
+      → StepDoes d changed step result
+  by_slot step result change leaves each = record {
+    tables = refl;
+    answer = λ slots z. let s = zip_at (HoldsSlot d.tables) d.slots slots i h z there in
+        (each slots s.0 s.1 s.2).0;
+    slots = λ slots z. let s = zip_at (HoldsSlot d.tables) d.slots slots i h z there in
+        subst (StandsFor changed) (leaves slots)
+        (zip_set d.tables d.slots slots i k s.0 change z s.1 (each slots s.0 s.1 s.2).1);
+  }
+
+  -- where memory ran out among the reports of frames, the slot has the first so many of them, and
+  -- its stream is as it was
+  some_held : (frames : List Found) (n : ℕ) (s : Slot) → HoldsSlot d.tables h s
+      → AreUnder d.tables (reports_among d.tables frames) → k.framer ≡ h.framer
+      → AddsSome h.archive k.archive frames n
+      → (n ≤ length (reports_among d.tables frames))
+      × HoldsSlot d.tables k (gains (take n (reports_among d.tables frames)) s)
+  some_held frames n s holds under stays adds =
+      let rs = reports_among d.tables frames in
+      let out = length (sure s.open_stream) in
+      let some = archive_some d.tables h.archive k.archive s.reports frames n holds.archive adds
+      in (
+        some.0,
+        record {
+          under = both (IsUnder d.tables) s.reports (take n rs) holds.under
+              (front_of (IsUnder d.tables) n rs under);
+          archive = some.1;
+          octets = holds.octets;
+          framer = subst (λ f. Stands f s.open_stream out) (sym stays) holds.framer;
+        },
+      )
+
+  -- a piece that fits brings the reports of its frames, and these are under the tables
+  brings : (piece : List ℕ) (s : Slot) → HoldsSlot d.tables h s
+      → h.framer.fed + length piece < 2 ^ 64 → AreOctets piece
+      → (is_too_long s.open_stream piece ≡ false) × AreOctets (s.open_stream ++ piece)
+      × AreUnder d.tables (reports_among d.tables (frames_of_piece s.open_stream piece))
+  brings piece s holds room all =
+      let stream = s.open_stream in
+      let octets : AreOctets (stream ++ piece) =
+      All-append (λ (x : ℕ). x < 2 ^ 8) stream piece holds.octets all in (
+        fits h.framer stream piece (length (sure stream)) holds.framer room,
+        octets,
+        piece_under told_under d.tables stream piece octets,
+      )
+
   -- a piece that was taken in
   fed_slot : (piece : List ℕ) (answer : Answer) (s : Slot) → HoldsSlot d.tables h s
       → Feeds h k piece (Ok answer)
@@ -253,19 +281,18 @@ module _ (told_under : ReportsToldAreUnder) (d : DepotView) (i : ℕ) (h k : Hol
       let t = d.tables in
       let out = length (sure s.open_stream) in
       let frames = frames_of_piece s.open_stream piece in
-      let short = fits h.framer s.open_stream piece out holds.framer feeds.0 in
+      let b = brings piece s holds feeds.0 feeds.1 in
+      let short = b.0 in
       let f = feeds.3 s.open_stream out holds.framer in
-      let octets : AreOctets (s.open_stream ++ piece) =
-      All-append (λ (x : ℕ). x < 2 ^ 8) s.open_stream piece holds.octets feeds.1 in
       let new : new_reports t (Feed i piece) s ≡ reports_among t frames = rw short refl in
       let counted = counts_are t h.archive k.archive s frames f.0 holds.archive f.2 in (
         rw short (ap Ok (sym counted.0 ∙ sym f.1)),
         record {
           under = both (IsUnder t) s.reports (new_reports t (Feed i piece) s) holds.under
-              (subst (AreUnder t) (sym new) (piece_under told_under t s.open_stream piece octets));
+              (subst (AreUnder t) (sym new) b.2);
           archive = archive_all t h.archive k.archive s.reports frames f.0 holds.archive f.2
               ∙ ap (λ rs. archive_of t (s.reports ++ rs)) (sym new);
-          octets = octets;
+          octets = b.1;
           framer = feeds.2 s.open_stream out holds.framer;
         },
       )
@@ -273,72 +300,50 @@ module _ (told_under : ReportsToldAreUnder) (d : DepotView) (i : ℕ) (h k : Hol
   -- a piece for which memory ran out
   fed_some : (piece : List ℕ) (n : ℕ) (s : Slot) → HoldsSlot d.tables h s
       → Feeds h k piece (Err (OutOfMemory n))
-      → (n ≤ length (new_reports d.tables (Feed i piece) s))
-      × (feed_answer d.tables i piece (Some s)
+      → (feed_answer d.tables i piece (Some s)
       ≡ Ok (fed_answer d.tables (frames_of_piece s.open_stream piece) s))
-      × HoldsSlot d.tables k (gains (take n (new_reports d.tables (Feed i piece) s)) s)
+      × ((n ≤ length (new_reports d.tables (Feed i piece) s))
+      × HoldsSlot d.tables k (gains (take n (new_reports d.tables (Feed i piece) s)) s))
   fed_some piece n s holds feeds =
       let t = d.tables in
-      let out = length (sure s.open_stream) in
       let frames = frames_of_piece s.open_stream piece in
-      let short = fits h.framer s.open_stream piece out holds.framer feeds.0 in
-      let adds = feeds.3 s.open_stream out holds.framer in
-      let octets : AreOctets (s.open_stream ++ piece) =
-      All-append (λ (x : ℕ). x < 2 ^ 8) s.open_stream piece holds.octets feeds.1 in
-      let new : new_reports t (Feed i piece) s ≡ reports_among t frames = rw short refl in
-      let few = few_some t h.archive k.archive s.reports frames n holds.archive adds in (
-        subst (λ rs. n ≤ length rs) (sym new) few,
+      let b = brings piece s holds feeds.0 feeds.1 in
+      let short = b.0 in
+      let new : new_reports t (Feed i piece) s ≡ reports_among t frames = rw short refl in (
         rw short refl,
-        record {
-          under = both (IsUnder t) s.reports (take n (new_reports t (Feed i piece) s)) holds.under
-              (front_of (IsUnder t) n (new_reports t (Feed i piece) s)
-              (subst (AreUnder t) (sym new) (piece_under told_under t s.open_stream piece octets)));
-          archive = archive_some t h.archive k.archive s.reports frames n holds.archive adds
-              ∙ ap (λ rs. archive_of t (s.reports ++ take n rs)) (sym new);
-          octets = holds.octets;
-          framer = subst (λ f. Stands f s.open_stream out) (sym feeds.2) holds.framer;
-        },
+        subst (λ rs. (n ≤ length rs) × HoldsSlot t k (gains (take n rs) s)) (sym new)
+            (some_held frames n s holds b.2 feeds.2
+            (feeds.3 s.open_stream (length (sure s.open_stream)) holds.framer)),
       )
 
   pub feed_does : (piece : List ℕ) (result : Result Answer StepFault) → Feeds h k piece result
       → StepDoes d changed (Feed i piece) result
-  feed_does piece (Ok answer) feeds = record {
-    tables = refl;
-    answer = λ slots z. let s = zip_at (HoldsSlot d.tables) d.slots slots i h z there in
-        ap (feed_answer d.tables i piece) s.1 ∙ (fed_slot piece answer s.0 s.2 feeds).0;
-    slots = λ slots z. let s = zip_at (HoldsSlot d.tables) d.slots slots i h z there in
-        zip_set d.tables d.slots slots i k s.0 _ z s.1 (fed_slot piece answer s.0 s.2 feeds).1;
-  }
+  feed_does piece (Ok answer) feeds =
+      by_slot (Feed i piece) (Ok answer) _ (λ slots. refl) (λ slots s e holds.
+      let f = fed_slot piece answer s holds feeds in
+      (ap (feed_answer d.tables i piece) e ∙ f.0, f.1))
   feed_does piece (Err (NoSlot j)) feeds = absurd feeds
-  feed_does piece (Err StreamTooLong) feeds = record {
-    tables = refl;
-    answer = λ slots z. let s = zip_at (HoldsSlot d.tables) d.slots slots i h z there in
-        let long = too_long h.framer s.0.open_stream piece (length (sure s.0.open_stream)) s.2.framer feeds.0 in
-        ap (feed_answer d.tables i piece) s.1 ∙ (rw long refl);
-    slots = λ slots z. same_stands slots z feeds.1;
-  }
-    where
-      same_set : (hs : List Holding) (j : ℕ) → slice_get hs j ≡ Some h → set hs j h ≡ hs
-      same_set [] j e = refl
-      same_set (a ∷ hs) zero e = let same : a ≡ h = cc in ap (λ x. x ∷ hs) (sym same)
-      same_set (a ∷ hs) (suc j) e = ap (λ xs. a ∷ xs) (same_set hs j e)
-
-      same_stands : (slots : List Slot) → StandsFor d slots → k ≡ h → StandsFor changed slots
-      same_stands slots z same =
-          subst (λ (hs : List Holding). AllZip (HoldsSlot d.tables) hs slots)
-          (sym (ap (set d.slots i) same ∙ same_set d.slots i there)) z
-  feed_does piece (Err (OutOfMemory n)) feeds = record {
-    tables = refl;
-    answer = λ slots z. let s = zip_at (HoldsSlot d.tables) d.slots slots i h z there in
-        let f = fed_some piece n s.0 s.2 feeds in
+  feed_does piece (Err StreamTooLong) feeds =
+      let same = ap (set d.slots i) feeds.1 ∙ set_same d.slots i h there in
+      record {
+        tables = refl;
+        answer = λ slots z. let s = zip_at (HoldsSlot d.tables) d.slots slots i h z there in
+            let out = length (sure s.0.open_stream) in
+            let long = too_long h.framer s.0.open_stream piece out s.2.framer feeds.0 in
+            ap (feed_answer d.tables i piece) s.1 ∙ (rw long refl);
+        slots = λ slots z. subst (λ (hs : List Holding). AllZip (HoldsSlot d.tables) hs slots)
+            (sym same) z;
+      }
+  feed_does piece (Err (OutOfMemory n)) feeds =
+      by_slot (Feed i piece) (Err (OutOfMemory n)) _ (λ slots. refl) (λ slots s e holds.
+      let f = fed_some piece n s holds feeds in (
         record {
-          few = rw s.1 f.0;
-          answer = fed_answer d.tables (frames_of_piece s.0.open_stream piece) s.0;
-          else_done = ap (feed_answer d.tables i piece) s.1 ∙ f.1;
-        };
-    slots = λ slots z. let s = zip_at (HoldsSlot d.tables) d.slots slots i h z there in
-        zip_set d.tables d.slots slots i k s.0 _ z s.1 (fed_some piece n s.0 s.2 feeds).2;
-  }
+          few = rw e f.1.0;
+          answer = fed_answer d.tables (frames_of_piece s.open_stream piece) s;
+          else_done = ap (feed_answer d.tables i piece) e ∙ f.0;
+        },
+        f.1.1,
+      ))
 
   -- a stream that was ended
   ended_slot : (answer : Answer) (s : Slot) → HoldsSlot d.tables h s → Ends h k (Ok answer)
@@ -358,53 +363,30 @@ module _ (told_under : ReportsToldAreUnder) (d : DepotView) (i : ℕ) (h k : Hol
         ap Ok (sym counted.1 ∙ sym f.1),
         record {
           under = both (IsUnder t) s.reports (reports_among t frames) holds.under
-              (end_under told_under t s.open_stream holds.octets);
+              (end_under told_under t s.open_stream holds.octets).1;
           archive = archive_all t h.archive k.archive s.reports frames f.0 holds.archive f.2;
           octets = All-nil (λ (x : ℕ). x < 2 ^ 8);
           framer = subst (λ v. Stands v [] 0) (sym ends.0) fresh;
         },
       )
 
-  -- a stream for whose end memory ran out
-  ended_some : (n : ℕ) (s : Slot) → HoldsSlot d.tables h s → Ends h k (Err (OutOfMemory n))
-      → (n ≤ length (new_reports d.tables (End i) s))
-      × HoldsSlot d.tables k (gains (take n (new_reports d.tables (End i) s)) s)
-  ended_some n s holds ends =
-      let t = d.tables in
-      let out = length (sure s.open_stream) in
-      let frames = frames_of_end s.open_stream in
-      let adds = ends.1 s.open_stream out holds.framer in (
-        few_some t h.archive k.archive s.reports frames n holds.archive adds,
-        record {
-          under = both (IsUnder t) s.reports (take n (reports_among t frames)) holds.under
-              (front_of (IsUnder t) n (reports_among t frames)
-              (end_under told_under t s.open_stream holds.octets));
-          archive = archive_some t h.archive k.archive s.reports frames n holds.archive adds;
-          octets = holds.octets;
-          framer = subst (λ f. Stands f s.open_stream out) (sym ends.0) holds.framer;
-        },
-      )
-
   pub end_does : (result : Result Answer StepFault) → Ends h k result
       → StepDoes d changed (End i) result
-  end_does (Ok answer) ends = record {
-    tables = refl;
-    answer = λ slots z. let s = zip_at (HoldsSlot d.tables) d.slots slots i h z there in
-        ap (end_answer d.tables i) s.1 ∙ (ended_slot answer s.0 s.2 ends).0;
-    slots = λ slots z. let s = zip_at (HoldsSlot d.tables) d.slots slots i h z there in
-        zip_set d.tables d.slots slots i k s.0 _ z s.1 (ended_slot answer s.0 s.2 ends).1;
-  }
+  end_does (Ok answer) ends =
+      by_slot (End i) (Ok answer) _ (λ slots. refl) (λ slots s e holds.
+      let f = ended_slot answer s holds ends in (ap (end_answer d.tables i) e ∙ f.0, f.1))
   end_does (Err (NoSlot j)) ends = absurd ends
   end_does (Err StreamTooLong) ends = absurd ends
-  end_does (Err (OutOfMemory n)) ends = record {
-    tables = refl;
-    answer = λ slots z. let s = zip_at (HoldsSlot d.tables) d.slots slots i h z there in
-        let f = ended_some n s.0 s.2 ends in
+  end_does (Err (OutOfMemory n)) ends =
+      by_slot (End i) (Err (OutOfMemory n)) _ (λ slots. refl) (λ slots s e holds.
+      let frames = frames_of_end s.open_stream in
+      let under = (end_under told_under d.tables s.open_stream holds.octets).1 in
+      let f = some_held frames n s holds under ends.0
+      (ends.1 s.open_stream (length (sure s.open_stream)) holds.framer) in (
         record {
-          few = rw s.1 f.0;
-          answer = ended_answer d.tables (frames_of_end s.0.open_stream) s.0;
-          else_done = ap (end_answer d.tables i) s.1;
-        };
-    slots = λ slots z. let s = zip_at (HoldsSlot d.tables) d.slots slots i h z there in
-        zip_set d.tables d.slots slots i k s.0 _ z s.1 (ended_some n s.0 s.2 ends).1;
-  }
+          few = rw e f.0;
+          answer = ended_answer d.tables frames s;
+          else_done = ap (end_answer d.tables i) e;
+        },
+        f.1,
+      ))

@@ -1,27 +1,21 @@
 -- What a step that joins one slot to another does, new depots and whole runs: for the clauses of
 -- `Depot::step`, `Depot::new` and `Depot::run`.
-use Rattle.std.proofs.Common.{◌≡◌, ◌⊎◌, inl, inr, ℕ, zero, suc, ◌+◌, ◌<◌, ◌≤◌, ◌^◌, Option, Some, None, Result, Ok, Err, List, [], ◌∷◌, ◌++◌, length, map, take, set, get_or, replicate, refl, sym, ap, ◌∙◌, subst, arith, append_assoc, length-append}
-use Rattle.std.specs.Prelude.{slice_get}
-use Rattle.std.specs.List.{AllZip}
-use Rattle.std.proofs.lemmas.List.{append-nil}
+use Rattle.std.proofs.Common.{◌≡◌, inl, inr, ℕ, zero, suc, ◌+◌, ◌<◌, ◌^◌, Some, Result, Ok, Err, List, [], ◌∷◌, ◌++◌, length, take, set, get_or, replicate, refl, sym, ap, ◌∙◌, subst, arith, length-append}
+use Rattle.std.specs.Prelude.{IsErrAnd}
+use Rattle.std.proofs.lemmas.List.{take_more, length-take-le}
+use Rattle.std.proofs.lemmas.Option.{same_Some}
+use Rattle.std.proofs.lemmas.Result.{err_from_is_err_and}
 use Rattle.std.proofs.lemmas.List.Elements.{All-nil}
-use Rattle.std.proofs.lemmas.Bool.Decides.{eqb_tells}
 use Rattle.bufr_tables.specs.Entries.{Entries}
-use Rattle.bufr_frame.specs.Framings.{Framing}
 use Rattle.bufr_frame.specs.Looks.{new_framing}
-use Rattle.bufr_frame.specs.Streams.{Stands}
-use Rattle.bufr_message.specs.declared.report.Report.{Report}
 use Rattle.bufr_message.specs.Reports.{IsUnder}
-use Rattle.bufr_shelves.specs.Entries.{kept}
-use Rattle.bufr_shelves.specs.Orders.{kept-kept, kept-twice, kept-early, kept-late}
 use Rattle.bufr_archive.specs.Archives.{ArchiveView, merged}
 use Rattle.bufr_archive.specs.ReportTexts.{archive_of}
-use Rattle.bufr_depot.specs.Slots.{Slot, slot_at, changed_at, gains, gains_all, new_slot, new_slots}
-use Rattle.bufr_depot.specs.Runs.{join_answer, joined_with, joined, after, answer_of, RanOut, IsAnswer, Run, after_all}
+use Rattle.bufr_depot.specs.Slots.{Slot, slot_at, gains_all, new_slot, new_slots}
+use Rattle.bufr_depot.specs.Runs.{new_reports, slot_of, join_answer, joined_with, joined, done, after, answer_of, IsAnswer, Run, after_all}
 use Rattle.bufr_depot.specs.Holdings.{Holding, DepotView, HoldsSlot, StandsFor}
-use Rattle.bufr_depot.specs.HeldSteps.{StepDoes, AreThere, IsFirstMissing, IsAsGood, with_merged, TakesIn, IsJoin, AreAllUnder}
+use Rattle.bufr_depot.specs.HeldSteps.{StepDoes, AreThere, IsFirstMissing, IsAsGood, with_merged, TakesIn, IsJoin}
 use Rattle.bufr_depot.specs.declared.steps.Step.{Step}
-use Rattle.bufr_depot.specs.declared.steps.Step.TheVariants.{Feed, End, Merge, Transfer, Copy}
 use Rattle.bufr_depot.specs.declared.steps.Answer.{Answer}
 use Rattle.bufr_depot.specs.declared.steps.Answer.TheVariants.{Fed, Ended, Joined}
 use Rattle.bufr_depot.specs.declared.steps.StepFault.{StepFault}
@@ -30,14 +24,22 @@ use Rattle.bufr_depot.proofs.UnderFacts.{both}
 use Rattle.bufr_depot.proofs.HeldFacts.{zip_at, zip_none, zip_set, archive_joined}
 use Rattle.bufr_depot.proofs.StepFacts.{nothing_gained, runs_join}
 
--- what a join does, by the step that it is: the same for all three
-by_join : (d new : DepotView) (from into : ℕ) (result : Result Answer StepFault)
-    → StepDoes d new (Merge from into) result → StepDoes d new (Transfer from into) result
-    → StepDoes d new (Copy from into) result
-    → (step : Step) → IsJoin step from into → StepDoes d new step result
-by_join d new from into result m t c step (inl e) = subst (λ s. StepDoes d new s result) (sym e) m
-by_join d new from into result m t c step (inr (inl e)) = subst (λ s. StepDoes d new s result) (sym e) t
-by_join d new from into result m t c step (inr (inr e)) = subst (λ s. StepDoes d new s result) (sym e) c
+-- what the steps that join have alike: their answer and what they leave
+record Joins (from into : ℕ) (step : Step) : Type 0 where
+  pub answers : (tables : Entries) (slots : List Slot)
+      → answer_of tables step slots
+      ≡ join_answer from into (slot_at slots from) (slot_at slots into)
+  pub leaves : (tables : Entries) (slots : List Slot)
+      → done tables step slots ≡ joined from into slots
+
+-- a merge, a transfer and a copy have it
+by_join : (from into : ℕ) (step : Step) → IsJoin step from into → Joins from into step
+by_join from into step (inl e) =
+    subst (Joins from into) (sym e) (record { answers = λ t s. refl; leaves = λ t s. refl })
+by_join from into step (inr (inl e)) =
+    subst (Joins from into) (sym e) (record { answers = λ t s. refl; leaves = λ t s. refl })
+by_join from into step (inr (inr e)) =
+    subst (Joins from into) (sym e) (record { answers = λ t s. refl; leaves = λ t s. refl })
 
 -- ---- the slots that are not there
 
@@ -55,12 +57,19 @@ missing_answer d from into i (inr m) slots z =
     ∙ ap (λ n. Err (NoSlot n)) (sym m.2)
 
 -- a step that joins, of which a slot is missing, is answered so and changes nothing
-pub join_missing : (d : DepotView) (from into i : ℕ) → IsFirstMissing d from into i
-    → (step : Step) → IsJoin step from into → StepDoes d d step (Err (NoSlot i))
-join_missing d from into i missing = by_join d d from into (Err (NoSlot i))
-    (record { tables = refl; answer = missing_answer d from into i missing; slots = λ slots z. z })
-    (record { tables = refl; answer = missing_answer d from into i missing; slots = λ slots z. z })
-    (record { tables = refl; answer = missing_answer d from into i missing; slots = λ slots z. z })
+pub join_missing : (d : DepotView) (from into : ℕ) (fault : StepFault)
+    (result : Result Answer StepFault) → IsErrAnd result (λ e. e ≡ fault)
+    → (i : ℕ) × (fault ≡ NoSlot i) × IsFirstMissing d from into i
+    → (step : Step) → IsJoin step from into → StepDoes d d step result
+join_missing d from into fault result fails missing step is =
+    let p = err_from_is_err_and result fails in
+    let j = by_join from into step is in
+    subst (StepDoes d d step) (sym (p.1 ∙ ap Err (p.2 ∙ missing.1))) (record {
+      tables = refl;
+      answer = λ slots z. j.answers d.tables slots
+          ∙ missing_answer d from into missing.0 missing.2 slots z;
+      slots = λ slots z. z;
+    })
 
 -- ---- slots that are there
 
@@ -74,30 +83,21 @@ there_answer d from into there slots z =
     ap (λ o. join_answer from into o (slot_at slots into)) s.1
     ∙ ap (join_answer from into (Some s.0)) t.1
 
--- a slot that gains no reports leaves the slots as they were
-none_joined : (into : ℕ) (slots : List Slot)
-    → changed_at slots into (λ s. gains (take 0 (let none : List Report = [] in none)) s) ≡ slots
-none_joined into slots = nothing_gained slots into (λ s. take 0 (let none : List Report = [] in none)) (λ s. refl)
-
 -- memory ran out, and nothing was joined
 pub join_ran_out : (d : DepotView) (from into : ℕ) → AreThere d from into
     → (step : Step) → IsJoin step from into → StepDoes d d step (Err (OutOfMemory 0))
-join_ran_out d from into there = by_join d d from into (Err (OutOfMemory 0))
-    (record {
+join_ran_out d from into there step is =
+    let j = by_join from into step is in
+    record {
       tables = refl;
-      answer = λ slots z. record { few = omega arith; answer = Joined; else_done = there_answer d from into there slots z };
-      slots = λ slots z. subst (StandsFor d) (sym (none_joined into slots)) z;
-    })
-    (record {
-      tables = refl;
-      answer = λ slots z. record { few = omega arith; answer = Joined; else_done = there_answer d from into there slots z };
-      slots = λ slots z. subst (StandsFor d) (sym (none_joined into slots)) z;
-    })
-    (record {
-      tables = refl;
-      answer = λ slots z. record { few = omega arith; answer = Joined; else_done = there_answer d from into there slots z };
-      slots = λ slots z. subst (StandsFor d) (sym (none_joined into slots)) z;
-    })
+      answer = λ slots z. record {
+        few = omega arith;
+        answer = Joined;
+        else_done = j.answers d.tables slots ∙ there_answer d from into there slots z;
+      };
+      slots = λ slots z. subst (StandsFor d) (sym (nothing_gained slots (slot_of step)
+          (λ s. take 0 (new_reports d.tables step s)) (λ s. refl))) z;
+    }
 
 -- the depot after an archive was merged into that of a slot
 joined_stands : (d : DepotView) (from into : ℕ) (there : AreThere d from into) (a : ArchiveView)
@@ -125,10 +125,16 @@ pub join_done : (d : DepotView) (from into : ℕ) (there : AreThere d from into)
     → (step : Step) → IsJoin step from into
     → StepDoes d (record d { slots = set d.slots into (record there.target { archive = a }) }) step
     (Ok Joined)
-join_done d from into there a is = by_join d (record d { slots = set d.slots into (record there.target { archive = a }) }) from into (Ok Joined)
-    (record { tables = refl; answer = there_answer d from into there; slots = joined_stands d from into there a is })
-    (record { tables = refl; answer = there_answer d from into there; slots = joined_stands d from into there a is })
-    (record { tables = refl; answer = there_answer d from into there; slots = joined_stands d from into there a is })
+join_done d from into there a holds step is =
+    let j = by_join from into step is in
+    let held : Holding = record there.target { archive = a } in
+    record {
+      tables = refl;
+      answer = λ slots z. j.answers d.tables slots ∙ there_answer d from into there slots z;
+      slots = λ slots z. subst
+          (StandsFor (record d { slots = set d.slots into held })) (sym (j.leaves d.tables slots))
+          (joined_stands d from into there a holds slots z);
+    }
 
 -- an archive as good as that of a slot, merged
 pub as_good : (d : DepotView) (source target : Holding) (a : ArchiveView)
@@ -141,17 +147,13 @@ as_good d source target a good s t hs ht =
     ∙ ap (λ (b : ArchiveView). merged b (archive_of d.tables s.reports)) ht.archive
     ∙ archive_joined d.tables t.reports s.reports
 
--- a slot is one alone
-pub same_there : {A : Type 0} (o : Option A) (x y : A) → o ≡ Some x → o ≡ Some y → x ≡ y
-same_there o x y e f = let g : Some x ≡ Some y = sym e ∙ f in cc
-
 -- what taking in such an archive does
 pub took : (d new : DepotView) (from into : ℕ) (there : AreThere d from into) (a : ArchiveView)
     (result : Result Answer StepFault) → IsAsGood d.tables there.source.archive a
     → TakesIn d new into a result → (step : Step) → IsJoin step from into
     → StepDoes d new step result
 took d new from into there a (Ok Joined) good takes step is =
-    let same : takes.0 ≡ there.target = same_there (slice_get d.slots into) takes.0 there.target takes.1 there.target_there in
+    let same = same_Some takes.0 there.target (sym takes.1 ∙ there.target_there) in
     let done = join_done d from into there (merged there.target.archive a) (as_good d there.source there.target a good) step is in
     subst (λ n. StepDoes d n step (Ok Joined))
     (sym (takes.2 ∙ ap (λ (t : Holding). record d { slots = with_merged d.slots into t a }) same)) done
@@ -162,39 +164,6 @@ took d new from into there a (Err StreamTooLong) good takes step is = absurd tak
 took d new from into there a (Err (OutOfMemory k)) good takes step is =
     subst (λ n. StepDoes d n step (Err (OutOfMemory k))) (sym takes.1)
     (subst (λ j. StepDoes d d step (Err (OutOfMemory j))) (sym takes.0) (join_ran_out d from into there step is))
-
--- ---- places in lists
-
--- of two values set at one place the second stays
-pub set_twice : {A : Type 0} (xs : List A) (i : ℕ) (x y : A) → set (set xs i x) i y ≡ set xs i y
-set_twice [] i x y = refl
-set_twice (a ∷ xs) zero x y = refl
-set_twice (a ∷ xs) (suc i) x y = ap (λ ys. a ∷ ys) (set_twice xs i x y)
-
--- the value that stands at a place, set there, changes nothing
-pub set_same : {A : Type 0} (xs : List A) (i : ℕ) (x : A) → slice_get xs i ≡ Some x
-    → set xs i x ≡ xs
-set_same [] i x e = refl
-set_same (a ∷ xs) zero x e = let same : a ≡ x = cc in ap (λ y. y ∷ xs) (sym same)
-set_same (a ∷ xs) (suc i) x e = ap (λ ys. a ∷ ys) (set_same xs i x e)
-
--- below the length of a list a value stands at the place
-pub get_is : {A : Type 0} (xs : List A) (i : ℕ) (d : A) → i < length xs
-    → slice_get xs i ≡ Some (get_or xs i d)
-get_is [] i d h = absurd (omega arith)
-get_is (a ∷ xs) zero d h = refl
-get_is (a ∷ xs) (suc i) d h = get_is xs i d (omega arith)
-
--- and it is this one
-pub get_is_at : {A : Type 0} (xs : List A) (i : ℕ) (d : A) → i < length xs → d ≡ get_or xs i d
-    → slice_get xs i ≡ Some d
-get_is_at xs i d h e = get_is xs i d h ∙ ap Some (sym e)
-
--- from the length of a list on no value stands
-pub get_none : {A : Type 0} (xs : List A) (i : ℕ) → length xs ≤ i → slice_get xs i ≡ None
-get_none [] i h = refl
-get_none (a ∷ xs) zero h = absurd (omega arith)
-get_none (a ∷ xs) (suc i) h = get_none xs i (omega arith)
 
 -- ---- new depots
 
@@ -220,18 +189,6 @@ pub new_stands : (tables : Entries) (n : ℕ)
 new_stands tables zero = tt
 new_stands tables (suc n) = (new_holds tables, new_stands tables n)
 
--- and each of its archives reads under the same tables
-pub new_under : (tables : Entries) (n : ℕ) → AreAllUnder tables (replicate n (new_holding tables))
-new_under tables zero = tt
-new_under tables (suc n) = (refl, new_under tables n)
-
--- so many of the same and one more are one more of them
-pub one_new : {A : Type 0} (n : ℕ) (x : A) → replicate n x ++ x ∷ [] ≡ replicate (n + 1) x
-one_new zero x = refl
-one_new (suc n) x =
-    ap (λ xs. x ∷ xs) (one_new n x)
-    ∙ ap (λ m. replicate m x) (let e : suc (n + 1) ≡ suc n + 1 = omega arith in e)
-
 -- ---- runs
 
 -- the first so many steps were done
@@ -247,21 +204,6 @@ pub record RunSoFar (old new : DepotView) (steps : List Step)
 pub none_run : (d : DepotView) (steps : List Step) → RunSoFar d d steps [] 0
 none_run d steps = record { tables = refl; count = refl; run = λ slots z. tt; stands = λ slots z. z }
 
--- a front of steps with one step more
-take_more : (xs : List Step) (i : ℕ) (x : Step) → i < length xs → x ≡ get_or xs i x
-    → take (i + 1) xs ≡ take i xs ++ x ∷ []
-take_more [] i x h e = absurd (omega arith)
-take_more (y ∷ xs) zero x h e = ap (λ z. z ∷ []) (sym e)
-take_more (y ∷ xs) (suc i) x h e =
-    ap (λ n. take n (y ∷ xs)) (let e : suc i + 1 ≡ suc (i + 1) = omega arith in e)
-    ∙ ap (λ ys. y ∷ ys) (take_more xs i x (omega arith) e)
-
--- a front of so many steps has so many
-length-take-all : (xs : List Step) (i : ℕ) → i ≤ length xs → length (take i xs) ≡ i
-length-take-all xs zero h = refl
-length-take-all [] (suc i) h = absurd (omega arith)
-length-take-all (x ∷ xs) (suc i) h = ap suc (length-take-all xs i (omega arith))
-
 -- one step more is done: the answers so far and its own are those of a run of one step more
 pub one_run : (old new next : DepotView) (steps : List Step)
     (answers : List (Result Answer StepFault)) (i : ℕ) (step : Step)
@@ -270,10 +212,10 @@ pub one_run : (old new next : DepotView) (steps : List Step)
     → RunSoFar old next steps (answers ++ answer ∷ []) (i + 1)
 one_run old new next steps answers i step answer h is s does =
     let t = old.tables in
-    let more = take_more steps i step h is in
+    let more = take_more steps i step h ∙ ap (λ s. take i steps ++ s ∷ []) (sym is) in
     let counted = s.count in
     let long : length (take i steps) ≡ length answers =
-    length-take-all steps i (omega (arith, h)) ∙ sym counted in
+    length-take-le i steps (omega (arith, h)) ∙ sym counted in
     let turn : (slots : List Slot) → _ = λ slots. runs_join t (take i steps) (step ∷ []) answers (answer ∷ []) slots long in
     let one : (slots : List Slot) → StandsFor old slots
     → IsAnswer t step (after_all t (take i steps) answers slots) answer = λ slots z.

@@ -1,7 +1,7 @@
 -- In each run in which refused steps were repeated and joins were from closed slots, a slot has the
 -- reports of its ended streams and of the sure frames of its open one: for the clause `exactly` of
 -- `laws::archives_converge`.
-use Rattle.std.proofs.Common.{◌≡◌, ◌≢◌, ◌⊎◌, inl, inr, ℕ, zero, suc, true, false, eqb as nat_eq, cond, Some, None, Result, Ok, Err, List, [], ◌∷◌, ◌++◌, take, refl, sym, ap, ◌∙◌, subst, arith, append_assoc, eq-eqb}
+use Rattle.std.proofs.Common.{◌≡◌, ◌≢◌, ◌⊎◌, inl, inr, ℕ, zero, suc, true, false, eqb as nat_eq, cond, Some, None, Result, Ok, Err, List, [], ◌∷◌, ◌++◌, take, refl, sym, ap, ◌∙◌, subst, arith, append_assoc, eq-eqb, ne_eqb}
 use Rattle.std.proofs.lemmas.List.{append-nil}
 use Rattle.std.proofs.lemmas.Grind.{flat_map-append}
 use Rattle.std.proofs.lemmas.Bool.Decides.{eqb_tells}
@@ -62,10 +62,6 @@ at_changed (a ∷ slots) (suc i) f (suc j) s h =
     let r = at_changed slots i f j s h in
     record { before = r.before; stood = r.stood; now = elim r.now [ inl p ↦ inl (ap suc p.0, p.1) | inr p ↦ inr (λ e. let apart = p.0 in omega (arith, e), p.1) ] }
 
--- two numbers that differ compare as not equal
-eqb-false-from : (a b : ℕ) → a ≢ b → nat_eq a b ≡ false
-eqb-false-from a b ne = elim (eqb_tells a b) [ inl p ↦ absurd (ne p.1) | inr p ↦ p.0 ]
-
 -- what is within a list with nothing more is within the list
 pub nothing_more : (xs ys : Reports) → Within xs (ys ++ []) → Within xs ys
 nothing_more xs ys w = rw (append-nil ys) at w
@@ -74,7 +70,7 @@ nothing_more xs ys w = rw (append-nil ys) at w
 stays : (tables : Entries) (step : Step) (steps : List Step) (j : ℕ) (s : Slot) → slot_of step ≢ j
     → Holds tables (step ∷ steps) j s → Holds tables steps j s
 stays tables step steps j s apart h =
-    let none : coming tables (step ∷ steps) j s ≡ [] = rw (eqb-false-from (slot_of step) j apart) refl in
+    let none : coming tables (step ∷ steps) j s ≡ [] = rw (ne_eqb (slot_of step) j apart) refl in
     let exact : Within s.reports (told_so_far tables s) = nothing_more s.reports (told_so_far tables s) (subst (λ c. Within s.reports (told_so_far tables s ++ c)) none h.high) in
     record { low = h.low; high = λ x m. Has-left (told_so_far tables s) (coming tables steps j s) x (exact x m) }
 
@@ -95,7 +91,7 @@ taken_within (suc n) (y ∷ xs) x (inl e) = inl e
 taken_within (suc n) (y ∷ xs) x (inr h) = inr (taken_within n xs x h)
 
 -- the reports among two lists of frames are those of the one and then of the other
-among-append : (tables : Entries) (fs gs : List Found)
+pub among-append : (tables : Entries) (fs gs : List Found)
     → reports_among tables (fs ++ gs) ≡ reports_among tables fs ++ reports_among tables gs
 among-append tables fs gs = flat_map-append (λ f. reports_in tables f.bytes) fs gs
 

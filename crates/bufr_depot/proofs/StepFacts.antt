@@ -2,7 +2,7 @@
 -- and `laws::runs_join`.
 use Rattle.std.proofs.Common.{◌≡◌, ℕ, zero, suc, List, [], ◌∷◌, ◌++◌, take, refl, sym, ap, ◌∙◌, subst, arith}
 use Rattle.std.specs.List.{AllZip}
-use Rattle.std.proofs.lemmas.List.{append-nil}
+use Rattle.std.proofs.lemmas.List.{append-nil, take_all}
 use Rattle.bufr_shelves.specs.Keeping.{SameMembers}
 use Rattle.bufr_tables.specs.Entries.{Entries}
 use Rattle.bufr_shelves.specs.KeepingLaws.{Has-left, Has-right, Within-append}
@@ -36,11 +36,6 @@ again_within k xs new = (
   Within-append xs new ((xs ++ take k new) ++ new) (λ x m. Has-left (xs ++ take k new) new x (Has-left xs (take k new) x m)) (Has-right (xs ++ take k new) new),
 )
 
--- a front of no reports has none
-take-none : (k : ℕ) → take k (let none : Reports = [] in none) ≡ []
-take-none zero = refl
-take-none (suc k) = refl
-
 -- no reports change nothing
 pub nothing_gained : (slots : List Slot) (i : ℕ) (none : Slot → Reports)
     → ((s : Slot) → none s ≡ []) → changed_at slots i (λ s. gains (none s) s) ≡ slots
@@ -53,7 +48,10 @@ join_again : (from into k : ℕ) (slots : List Slot)
     → AllZip SameSlot
     (joined from into (changed_at slots into (λ s. gains (take k (let none : Reports = [] in none)) s)))
     (joined from into slots)
-join_again from into k slots = subst (λ s. AllZip SameSlot (joined from into s) (joined from into slots)) (sym (nothing_gained slots into (λ s. take k []) (λ s. take-none k))) (same_slots (joined from into slots))
+join_again from into k slots =
+    let gained = nothing_gained slots into (λ s. take k []) (λ s. take_all k [] (omega arith)) in
+    subst (λ s. AllZip SameSlot (joined from into s) (joined from into slots)) (sym gained)
+    (same_slots (joined from into slots))
 
 -- each step that ran out, done again, leaves what it leaves at once
 pub repeat_completes : (tables : Entries) → RepeatCompletes tables

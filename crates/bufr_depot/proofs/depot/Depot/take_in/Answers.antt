@@ -1,10 +1,10 @@
 -- The clause of `Depot::take_in`: an archive, merged into that of a slot.
-use Rattle.std.proofs.Common.{◌≡◌, ◌∙◌, ◌<◌, Some, sym, ap, subst, set, length}
+use Rattle.std.proofs.Common.{◌≡◌, ◌<◌, Some, sym, subst, refl, set, length}
 use Rattle.std.specs.Prelude.{slice_get}
+use Rattle.std.proofs.lemmas.Option.{slice_get_read}
 use Rattle.bufr_depot.specs.Holdings.{Holding, DepotView}
 use Rattle.bufr_depot.specs.HeldSteps.{TakesIn}
 use Rattle.bufr_depot.proofs.DepotFacts.{held_merged, held_still, took_all, took_nothing}
-use Rattle.bufr_depot.proofs.JoinFacts.{get_is_at}
 use Rattle.bufr_depot.proofs.depot.Depot.take_in.Goals.{in-Ok, in-Err}
 use Rattle.bufr_depot.proofs.depot.Depot.take_in.Goals as goal
 
@@ -17,7 +17,7 @@ returns g c =
     let below : c.args.into < length d.slots =
     subst (λ (e : DepotView). c.args.into < length e.slots) (sym c.self.view_is) c.requires.there in
     let at : slice_get d.slots c.args.into ≡ Some h =
-    get_is_at d.slots c.args.into h below c.index_mut.ensures.value in
+    slice_get_read d.slots (length d.slots) c.args.into h refl below c.index_mut.ensures.value in
     let k : Holding = record { archive = c.merge.new.self; framer = c.behind-self.inside.framer } in
     subst (λ (e : DepotView). TakesIn e (record d { slots = set d.slots c.args.into k }) c.args.into a c.match-merge.result) c.self.view_is
     (elim c.match-merge.branch [

@@ -1,9 +1,9 @@
 -- The clause `ends` of `Intake::end`: the last frames of the stream, added to the archive.
-use Rattle.std.proofs.Common.{◌≡◌, ◌∙◌, ℕ, List, drop, ap, sym, subst}
+use Rattle.std.proofs.Common.{◌∙◌, drop, sym, subst}
 use Rattle.bufr_frame.specs.Streams.{cut, Stands}
 use Rattle.bufr_depot.specs.Holdings.{Holding}
 use Rattle.bufr_depot.specs.HeldSteps.{AddsFrames}
-use Rattle.bufr_depot.proofs.CountFacts.{frames_added}
+use Rattle.bufr_depot.proofs.CountFacts.{of_held}
 use Rattle.bufr_depot.proofs.intakes.Intake.end.Goals as goal
 
 -- the framer is as new, and the messages of the last frames are added and counted
@@ -14,8 +14,10 @@ returns-in-Ok-add_frames-clause-ends g c =
       λ stream out st. (
         c.in-Ok-add_frames.counts,
         c.ended.ensures,
-        subst (λ (h : Holding). AddsFrames h.archive c.add_frames.new.archive (drop out (cut stream)) c.in-Ok-add_frames.counts) v
-            (frames_added c.self.inside.archive c.add_frames.new.archive c.found.result.now (drop out (cut stream)) c.in-Ok-add_frames.counts
-            c.in-Ok-add_frames.ensures.adds (c.found.ensures ∙ c.in-Ok.ensures.found stream out (subst (λ (h : Holding). Stands h.framer stream out) (sym v) st))),
+        of_held (λ a fs. AddsFrames a c.add_frames.new.archive fs c.in-Ok-add_frames.counts)
+            _ _ c.found.result.now (drop out (cut stream)) v
+            (c.found.ensures ∙ c.in-Ok.ensures.found stream out
+            (subst (λ (h : Holding). Stands h.framer stream out) (sym v) st))
+            c.in-Ok-add_frames.ensures.adds,
       ),
     )

@@ -1,11 +1,11 @@
 -- The clause `feeds` of `Intake::feed`: the frames that are sure now, added to the archive.
-use Rattle.std.proofs.Common.{◌≡◌, ◌∙◌, ◌<◌, ◌+◌, ◌^◌, ℕ, List, Ok, ◌++◌, drop, length, refl, ap, sym, subst, arith}
+use Rattle.std.proofs.Common.{◌∙◌, ◌<◌, ◌+◌, ◌^◌, ℕ, ◌++◌, drop, length, refl, ap, sym, subst, arith}
 use Rattle.std.proofs.lemmas.List.Elements.{All-from_get_or}
 use Rattle.bufr_frame.specs.Streams.{sure, Stands}
-use Rattle.bufr_archive.specs.Archives.{ArchiveView, IsKept}
+use Rattle.bufr_archive.specs.Archives.{IsKept}
 use Rattle.bufr_depot.specs.Holdings.{Holding}
-use Rattle.bufr_depot.specs.HeldSteps.{AddsAllFrames, AddsFrames, AddsSome}
-use Rattle.bufr_depot.proofs.CountFacts.{added_none, frames_added, frames_some}
+use Rattle.bufr_depot.specs.HeldSteps.{AddsFrames, AddsSome}
+use Rattle.bufr_depot.proofs.CountFacts.{added_none, of_held}
 use Rattle.bufr_depot.proofs.intakes.Intake.feed.Goals as goal
 
 -- where no memory is had for the look, no report is added and the framer is as it was
@@ -32,9 +32,11 @@ returns-in-Ok-add_frames-clause-feeds g c =
       λ stream out st. (
         c.in-Ok-add_frames.counts,
         c.fed-in-Ok-add_frames.ensures,
-        subst (λ (h : Holding). AddsFrames h.archive c.add_frames.new.archive (drop out (sure (stream ++ piece))) c.in-Ok-add_frames.counts) v
-            (frames_added c.self.inside.archive c.add_frames.new.archive c.found.result.now (drop out (sure (stream ++ piece))) c.in-Ok-add_frames.counts
-            c.in-Ok-add_frames.ensures.adds (c.found.ensures ∙ c.in-Ok.ensures.found stream out (subst (λ (h : Holding). Stands h.framer stream out) (sym v) st))),
+        of_held (λ a fs. AddsFrames a c.add_frames.new.archive fs c.in-Ok-add_frames.counts)
+            _ _ c.found.result.now (drop out (sure (stream ++ piece))) v
+            (c.found.ensures ∙ c.in-Ok.ensures.found stream out
+            (subst (λ (h : Holding). Stands h.framer stream out) (sym v) st))
+            c.in-Ok-add_frames.ensures.adds,
       ),
     )
 
@@ -48,7 +50,9 @@ returns-in-Err-clause-feeds g c =
       All-from_get_or (λ (x : ℕ). x < 2 ^ 8) c.args.piece.now 0 (λ i below. omega (arith, c.type_inv.piece i)),
       ap (λ (h : Holding). h.framer) v,
       λ stream out st.
-          subst (λ (h : Holding). AddsSome h.archive c.add_frames.new.archive (drop out (sure (stream ++ piece))) c.in-Err.field-0.done) v
-          (frames_some c.self.inside.archive c.add_frames.new.archive c.found.result.now (drop out (sure (stream ++ piece))) c.in-Err.field-0.done
-          c.in-Err.ensures.adds (c.found.ensures ∙ c.in-Ok.ensures.found stream out (subst (λ (h : Holding). Stands h.framer stream out) (sym v) st))),
+          of_held (λ a fs. AddsSome a c.add_frames.new.archive fs c.in-Err.field-0.done)
+          _ _ c.found.result.now (drop out (sure (stream ++ piece))) v
+          (c.found.ensures ∙ c.in-Ok.ensures.found stream out
+          (subst (λ (h : Holding). Stands h.framer stream out) (sym v) st))
+          c.in-Err.ensures.adds,
     )
