@@ -1,6 +1,6 @@
 -- Reports added one after the other: for `Archive::add_all`, and so for `Archive::add_message`.
-use Rattle.std.proofs.Common.{◌≡◌, ℕ, zero, suc, ◌+◌, ◌<◌, ◌≤◌, Bool, true, false, cond, Option, None, List, [], ◌∷◌, ◌++◌, length, take, get_or, refl, sym, ap, ◌∙◌, arith, append_assoc}
-use Rattle.std.proofs.lemmas.List.{append-nil}
+use Rattle.std.proofs.Common.{◌≡◌, ℕ, ◌+◌, ◌<◌, ◌≤◌, Bool, true, false, cond, Option, None, List, [], ◌∷◌, ◌++◌, length, take, get_or, refl, sym, ap, ◌∙◌, arith, append_assoc}
+use Rattle.std.proofs.lemmas.List.{take_more}
 use Rattle.std.proofs.lemmas.Grind.{flat_map-append}
 use Rattle.std.specs.Prelude.{option_to_list}
 use mir.Val.{bool_byte}
@@ -20,36 +20,11 @@ pub record SoFar (old new : ArchiveView) (reports : Reports) (i changed : ℕ) :
   pub changed_is : changed ≡ count_changes old.entries (entries_of (take i reports))
   pub few : changed ≤ i
 
--- nothing was taken in
-pub taken_none : (archive : ArchiveView) (reports : Reports)
-    → kept archive.entries ≡ archive.entries → archive ≡ taken_in archive (take 0 reports)
-taken_none archive reports order =
-    ap (λ es. record archive { entries = es })
-    (sym order ∙ ap kept (sym (append-nil archive.entries)))
-
--- at first none
-pub none_yet : (archive : ArchiveView) (reports : Reports) → kept archive.entries ≡ archive.entries
-    → SoFar archive archive reports 0 0
-none_yet archive reports order = record {
-  archive = taken_none archive reports order;
-  changed_is = refl;
-  few = omega arith;
-}
-
--- a front with one report more
-take_more : (rs : Reports) (i : ℕ) → i < length rs → take (i + 1) rs
-    ≡ take i rs ++ get_or rs i None ∷ []
-take_more [] i h = absurd (omega arith)
-take_more (r ∷ rs) zero h = refl
-take_more (r ∷ rs) (suc i) h =
-    ap (λ n. take n (r ∷ rs)) (let e : suc i + 1 ≡ suc (i + 1) = omega arith in e)
-    ∙ ap (λ xs. r ∷ xs) (take_more rs i (omega arith))
-
--- and its entries
+-- a front with one report more has its entries too
 entries_more : (rs : Reports) (i : ℕ) → i < length rs
     → entries_of (take (i + 1) rs) ≡ entries_of (take i rs) ++ entries_of (get_or rs i None ∷ [])
 entries_more rs i h =
-    ap entries_of (take_more rs i h)
+    ap entries_of (take_more rs i None h)
     ∙ flat_map-append option_to_list (take i rs) (get_or rs i None ∷ [])
 
 -- a truth value as a number

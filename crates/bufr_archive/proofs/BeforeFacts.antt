@@ -2,6 +2,7 @@
 -- `laws::texts_from_before`.
 use Rattle.std.proofs.Common.{◌≡◌, inl, inr, List, [], ◌∷◌, ◌++◌, map, Option, Some, refl, sym, ap, subst, ◌∙◌}
 use Rattle.std.specs.Prelude.{option_to_list}
+use Rattle.std.proofs.lemmas.Option.{same_Some}
 use Rattle.bufr_tables.specs.Entries.{Entries}
 use Rattle.bufr_message.specs.declared.report.Report.{Report}
 use Rattle.bufr_message.specs.Laws.{BareAreWritten}
@@ -73,7 +74,7 @@ octets_tell written laws tables rs under e f h k same =
     let each = entries_are written tables rs under in
     let first = (laws tables).found e (has_each (IsReportEntry tables) es e each h) in
     let second = (laws tables).found f (has_each (IsReportEntry tables) es f each k) in
-    let one : Some e ≡ Some f = sym first ∙ ap (entry_in tables) same ∙ second in cc
+    same_Some e f (sym first ∙ ap (entry_in tables) same ∙ second)
 
 -- ---- the laws
 

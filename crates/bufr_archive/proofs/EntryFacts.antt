@@ -1,7 +1,8 @@
 -- An entry at the front of octets, for the clauses of `Archive::read`.
-use Rattle.std.proofs.Common.{◌≡◌, ℕ, ◌*◌, ◌+◌, ◌^◌, ◌<◌, ◌≤◌, Bool, true, false, cond, List, [], ◌∷◌, ◌++◌, length, take, drop, get_or, Option, Some, None, refl, sym, ap, subst, ◌∙◌, arith, take-append-drop}
+use Rattle.std.proofs.Common.{◌≡◌, ℕ, ◌*◌, ◌+◌, ◌^◌, ◌<◌, ◌≤◌, true, List, [], ◌∷◌, ◌++◌, length, take, drop, get_or, Option, Some, None, refl, sym, ap, subst, ◌∙◌, arith, take-append-drop}
 use Rattle.std.specs.Prelude.{option_map}
 use Rattle.std.proofs.lemmas.List.{take_at, take_all}
+use Rattle.std.proofs.lemmas.Option.{cond_some}
 use Rattle.std.proofs.lemmas.List.Elements.{All-take}
 use Rattle.bufr_frame.specs.Starts.{announced}
 use Rattle.bufr_frame.specs.Cuts.{IsOneFrame}
@@ -60,12 +61,6 @@ mapped_some : {A B : Type 0} (f : A → B) (x : Option A) (y : B) → option_map
 mapped_some f (Some a) y e = (a, cc)
 mapped_some f None y e = absurd cc
 
--- a value that is given where a test is true
-pub tested_some : {A : Type 0} (b : Bool) (x y : A) → cond b (Some x) None ≡ Some y
-    → (b ≡ true) × (x ≡ y)
-tested_some true x y e = (refl, cc)
-tested_some false x y e = absurd cc
-
 -- ---- right entries
 
 module _ (is_entry : Entry → Type 0) (entry_in : List ℕ → Option Entry)
@@ -92,7 +87,7 @@ module _ (is_entry : Entry → Type 0) (entry_in : List ℕ → Option Entry)
       let f = bind_some (front_of octets) _ e found in
       let l = mapped_some (λ l. take l octets) (announced octets) f.0 f.1 in
       let g = bind_some (entry_in f.0) _ e f.2 in
-      let t = tested_some (comes_after before g.0) g.0 e g.2 in
+      let t = cond_some (comes_after before g.0) g.0 e g.2 in
       let front : AreOctets f.0 =
       subst AreOctets (sym l.1) (All-take (λ x. x < 2 ^ 8) l.0 octets all) in
       let own = laws.own f.0 g.0 front g.1 in

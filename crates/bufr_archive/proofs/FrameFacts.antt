@@ -1,7 +1,8 @@
 -- Entries' octets as frames, for `laws::texts_are_cut_apart`.
-use Rattle.std.proofs.Common.{◌≡◌, ℕ, zero, suc, ◌+◌, ◌≤◌, Option, Some, List, [], ◌∷◌, ◌++◌, length, take, refl, sym, ap, subst, ◌∙◌}
+use Rattle.std.proofs.Common.{◌≡◌, ℕ, ◌+◌, ◌≤◌, Option, Some, List, [], ◌∷◌, ◌++◌, length, take, refl, sym, ap, subst, ◌∙◌}
 use Rattle.std.specs.Prelude.{map}
 use Rattle.std.specs.List.{AllByRecursion, flat_map}
+use Rattle.std.proofs.lemmas.List.{take-map, length-map}
 use Rattle.bufr_frame.specs.Streams.{cut}
 use Rattle.bufr_frame.specs.Cuts.{IsOneFrame, frames_at}
 use Rattle.bufr_shelves.specs.declared.entry.Entry.{Entry}
@@ -41,17 +42,6 @@ all_frames (e ∷ es) a = (a.0, all_frames es a.1)
 kept_frames : (es : List Entry) → AreFrames es → AllByRecursion IsOneFrame (octets_of (kept es))
 kept_frames es a = all_frames (kept es) (kept_each (λ e. IsOneFrame e.bytes) es a)
 
--- the octets of the first entries are the first octets
-map_take : (k : ℕ) (es : List Entry) → take k (octets_of es) ≡ octets_of (take k es)
-map_take zero es = refl
-map_take (suc k) [] = refl
-map_take (suc k) (e ∷ es) = ap (λ (m : List (List ℕ)). e.bytes ∷ m) (map_take k es)
-
--- there are as many
-length_map : (es : List Entry) → length (octets_of es) ≡ length es
-length_map [] = refl
-length_map (e ∷ es) = ap suc (length_map es)
-
 -- the frames of a text
 pub frames_of_texts : Joined → FramesOfTexts
 frames_of_texts joined es a =
@@ -62,12 +52,14 @@ pub frames_of_fronts : Fronts → FramesOfFronts
 frames_of_fronts fronts es k n a few room =
     let ks = kept es in
     let bs = octets_of ks in
+    let first : take k bs ≡ octets_of (take k ks) = take-map (λ (e : Entry). e.bytes) k ks in
     let whole : flat_map (λ b. b) (take k bs) ≡ text (take k ks) =
-    ap (flat_map (λ b. b)) (map_take k ks) ∙ flat_bytes (take k ks) in
+    ap (flat_map (λ b. b)) first ∙ flat_bytes (take k ks) in
     ap (λ (s : List ℕ). take k (cut (take n s))) (sym (flat_bytes ks))
-    ∙ fronts bs k n (kept_frames es a) (subst (λ m. k ≤ m) (sym (length_map ks)) few)
+    ∙ fronts bs k n (kept_frames es a)
+    (subst (λ m. k ≤ m) (sym (length-map ks (λ (e : Entry). e.bytes))) few)
     (subst (λ (s : List ℕ). length s ≤ n) (sym whole) room)
-    ∙ ap (frames_at 0) (map_take k ks)
+    ∙ ap (frames_at 0) first
 
 -- the frames of entries tell these
 told_of_frames : (reports_in : List ℕ → List (Option Entry)) (place : ℕ) (es : List Entry)

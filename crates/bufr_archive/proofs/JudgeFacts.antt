@@ -6,7 +6,6 @@ use Rattle.std.proofs.lemmas.List.{drop_at}
 use Rattle.std.proofs.lemmas.List.Elements.{All-from_recursion}
 use Rattle.bufr_tables.specs.Answers.{result_map}
 use Rattle.bufr_shelves.specs.declared.entry.Entry.{Entry}
-use Rattle.bufr_sections.specs.Sections.{AreOctets}
 use Rattle.bufr_archive.specs.Texts.{text, comes_after, right_entry, entry_then, judged}
 use Rattle.bufr_archive.specs.EntryLaws.{HasEntryLaws}
 use Rattle.bufr_archive.proofs.EntryFacts as facts
@@ -15,17 +14,13 @@ use Rattle.bufr_archive.proofs.EntryFacts as facts
 abbrev pub EachOctet : List ℕ → Type 0
 EachOctet xs = AllByRecursion (λ x. x < 2 ^ 8) xs
 
--- the one from the other
-octets_all : (xs : List ℕ) → EachOctet xs → AreOctets xs
-octets_all xs a = All-from_recursion (λ x. x < 2 ^ 8) xs a
-
 -- the last of some entries
 abbrev pub last_of : Option Entry → List Entry → Option Entry
 last_of before [] = before
 last_of before (e ∷ es) = last_of (Some e) es
 
 -- what judging answers
-abbrev Answer : Type 0
+abbrev pub Answer : Type 0
 Answer = Result (List Entry) ℕ
 
 -- no entry in front
@@ -40,39 +35,32 @@ map_more : (e : Entry) (es : List Entry) (x : Answer)
 map_more e es (Ok fs) = refl
 map_more e es (Err p) = refl
 
+-- entries behind others were read
+map_done : (f : List Entry → List Entry) (x : Answer) (es : List Entry) → result_map f x ≡ Ok es
+    → (fs : List Entry) × (x ≡ Ok fs) × (f fs ≡ es)
+map_done f (Ok fs) es h = (fs, refl, cc)
+map_done f (Err p) es h = absurd cc
+
+-- or what came behind them was refused
+pub map_failed : (f : List Entry → List Entry) (x : Answer) (p : ℕ) → result_map f x ≡ Err p
+    → x ≡ Err p
+map_failed f (Ok fs) p h = absurd cc
+map_failed f (Err q) p h = ap Err cc
+
 -- an entry and what was read behind it
 then_ok : (x : Option Entry) (place : ℕ) (more : Entry → Answer) (es : List Entry)
     → entry_then x place more ≡ Ok es
     → (e : Entry) × (fs : List Entry) × (x ≡ Some e) × (more e ≡ Ok fs) × (e ∷ fs ≡ es)
 then_ok None place more es h = absurd cc
-then_ok (Some e) place more es h = mapped_ok (more e) refl
-  where
-    -- by what was read
-    mapped_ok : (y : Answer) → more e ≡ y
-        → (f : Entry) × (fs : List Entry) × (Some e ≡ Some f) × (more f ≡ Ok fs) × (f ∷ fs ≡ es)
-    mapped_ok (Ok fs) is = (
-      e,
-      fs,
-      refl,
-      is,
-      (let g : result_map (λ fs. e ∷ fs) (Ok fs) ≡ Ok es =
-          ap (result_map (λ fs. e ∷ fs)) (sym is) ∙ h in cc),
-    )
-    mapped_ok (Err p) is =
-        absurd (let g : result_map (λ fs. e ∷ fs) (Err p) ≡ Ok es =
-        ap (result_map (λ fs. e ∷ fs)) (sym is) ∙ h in cc)
+then_ok (Some e) place more es h =
+    let m = map_done (λ fs. e ∷ fs) (more e) es h in (e, m.0, refl, m.1, m.2)
 
 -- no entry, or a refusal behind one
 then_err : (x : Option Entry) (place : ℕ) (more : Entry → Answer) (stop : ℕ)
     → entry_then x place more ≡ Err stop
     → (place ≡ stop) ⊎ ((e : Entry) × (x ≡ Some e) × (more e ≡ Err stop))
 then_err None place more stop h = inl cc
-then_err (Some e) place more stop h = inr (e, refl, mapped_err (more e) h)
-  where
-    -- by what was read
-    mapped_err : (y : Answer) → result_map (λ fs. e ∷ fs) y ≡ Err stop → y ≡ Err stop
-    mapped_err (Ok fs) g = absurd cc
-    mapped_err (Err p) g = ap Err cc
+then_err (Some e) place more stop h = inr (e, refl, map_failed (λ fs. e ∷ fs) (more e) stop h)
 
 -- behind the first octet of an entry stand its others, and then what follows it
 drop_rest : (x : ℕ) (xs b more : List ℕ) → 0 < length b → x ∷ xs ≡ b ++ more
@@ -175,7 +163,7 @@ module _ (is_entry : Entry → Type 0) (entry_in : List ℕ → Option Entry)
       let t = then_ok (right_entry entry_in before (x ∷ xs)) place
       (λ e. judged entry_in (Some e) (place + 1) (length e.bytes - 1) xs) es h in
       let k = facts.right_takes is_entry entry_in laws before (x ∷ xs) t.0
-      (octets_all (x ∷ xs) a) t.2 in
+      (All-from_recursion (λ x. x < 2 ^ 8) (x ∷ xs) a) t.2 in
       let rest = judged_takes (Some t.0) (place + 1) (length t.0.bytes - 1) xs t.1 a.1 t.3 in
       let long = long_entry t.0 k.entry in
       let behind = drop_rest x xs t.0.bytes k.more (omega arith) k.is in (
@@ -246,6 +234,6 @@ module _ (is_entry : Entry → Type 0) (entry_in : List ℕ → Option Entry)
         | inl e ↦ none_taken before x xs place stop e
         | inr t ↦ one_taken before x xs place stop t.0
             (facts.right_takes is_entry entry_in laws before (x ∷ xs) t.0
-            (octets_all (x ∷ xs) a) t.1)
+            (All-from_recursion (λ x. x < 2 ^ 8) (x ∷ xs) a) t.1)
             (judged_stops (Some t.0) (place + 1) (length t.0.bytes - 1) xs stop a.1 t.2)
       ])

@@ -1,5 +1,6 @@
 -- Reading a text step by step: for the loop of `Archive::read_entries`, and so for `Archive::read`.
 use Rattle.std.proofs.Common.{◌≡◌, ℕ, ◌+◌, ◌-◌, ◌<◌, ◌≤◌, ◌^◌, true, List, [], ◌∷◌, ◌++◌, length, drop, Option, Some, None, Ok, Err, refl, sym, ap, subst, ◌∙◌, arith, append_assoc, length-append}
+use Rattle.std.specs.Option.{option_map}
 use Rattle.std.proofs.lemmas.List.{append-nil, drop_at}
 use Rattle.std.proofs.lemmas.List.Elements.{All-drop}
 use Rattle.bufr_tables.specs.Answers.{result_map}
@@ -8,6 +9,8 @@ use Rattle.bufr_shelves.specs.Entries.{kept}
 use Rattle.bufr_sections.specs.Sections.{AreOctets}
 use Rattle.bufr_archive.specs.Texts.{text, comes_after, right_entry, entry_then, judged, entries_read}
 use Rattle.bufr_archive.specs.EntryLaws.{HasEntryLaws}
+use Rattle.bufr_archive.specs.Reading.{read}
+use Rattle.bufr_archive.specs.declared.reading.ReadEntry.{ReadEntry}
 use Rattle.bufr_archive.proofs.TextLemmas.{text-push}
 use Rattle.bufr_archive.proofs.EntryFacts as facts
 use Rattle.bufr_archive.proofs.JudgeFacts.{last_of}
@@ -31,44 +34,28 @@ pub record ReadSoFar (is_entry : Entry → Type 0) (octets : List ℕ) (entries 
 
 module _ (is_entry : Entry → Type 0) (entry_in : List ℕ → Option Entry)
     (laws : HasEntryLaws is_entry entry_in) where
-  -- entries, each after the one before
-  abbrev IsRun : Option Entry → List Entry → Type 0
-  IsRun before es = judging.IsRun is_entry before es
-
-  -- at first nothing was read
-  pub none_read : (octets : List ℕ) → AreOctets octets → ReadSoFar is_entry octets [] None 0 octets
-  none_read octets all =
-      record { run = tt; last = refl; parts = refl; there = refl; some = all }
-
   -- a run with one entry more
-  run_more : (before : Option Entry) (es : List Entry) (e : Entry) → IsRun before es → is_entry e
-      → comes_after (last_of before es) e ≡ true → IsRun before (es ++ e ∷ [])
+  run_more : (before : Option Entry) (es : List Entry) (e : Entry)
+      → judging.IsRun is_entry before es → is_entry e → comes_after (last_of before es) e ≡ true
+      → judging.IsRun is_entry before (es ++ e ∷ [])
   run_more before [] e run is after = (is, after, tt)
   run_more before (f ∷ fs) e run is after =
       (run.0, run.1, run_more (Some f) fs e run.2 is after)
 
-  -- the next entry has some octets, and no more than are left
-  pub read_long : (octets : List ℕ) (es : List Entry) (before : Option Entry) (place : ℕ)
-      (rest : List ℕ) (e : Entry) → ReadSoFar is_entry octets es before place rest
-      → right_entry entry_in before rest ≡ Some e
-      → (12 ≤ length e.bytes) × (length e.bytes ≤ length rest)
-      × (place + length rest ≡ length octets)
-  read_long octets es before place rest e s found =
-      let k = facts.right_takes is_entry entry_in laws before rest e s.some found in
-      let long = judging.long_entry is_entry entry_in laws e k.entry in
-      let size = ap length k.is ∙ length-append e.bytes k.more in
-      let whole = ap length s.parts ∙ length-append (text es) rest in
-      let there = s.there in
-      (long, omega arith, omega arith)
-
-  -- one entry more was read
-  pub read_more : (octets : List ℕ) (es : List Entry) (before : Option Entry) (place : ℕ)
-      (rest : List ℕ) (e : Entry) → ReadSoFar is_entry octets es before place rest
-      → right_entry entry_in before rest ≡ Some e
-      → ReadSoFar is_entry octets (kept (es ++ e ∷ [])) (Some e) (place + length e.bytes)
-      (drop (length e.bytes) rest)
-  read_more octets es before place rest e s found =
-      let k = facts.right_takes is_entry entry_in laws before rest e s.some found in
+  -- the next entry has some octets, and no more than are left, and with it one entry more was read
+  pub read_next : (octets : List ℕ) (es : List Entry) (before : Option ReadEntry) (place : ℕ)
+      (rest : List ℕ) (found : Option ReadEntry) (entry : ReadEntry)
+      → ReadSoFar is_entry octets es (option_map read before) place rest
+      → option_map read found ≡ right_entry entry_in (option_map read before) rest
+      → found ≡ Some entry
+      → (12 ≤ length (read entry).bytes) × (length (read entry).bytes ≤ length rest)
+      × ReadSoFar is_entry octets (kept (es ++ read entry ∷ [])) (Some (read entry))
+      (place + length (read entry).bytes) (drop (length (read entry).bytes) rest)
+  read_next octets es before place rest found entry s answered is =
+      let e = read entry in
+      let right = sym answered ∙ ap (option_map read) is in
+      let k = facts.right_takes is_entry entry_in laws (option_map read before) rest e s.some right
+      in
       let after = ap (λ b. comes_after b e) s.last ∙ k.after in
       let run = run_more None es e s.run k.entry after in
       let same : es ++ e ∷ [] ≡ kept (es ++ e ∷ []) =
@@ -78,6 +65,8 @@ module _ (is_entry : Entry → Type 0) (entry_in : List ℕ → Option Entry)
       let there = s.there in
       let long : length (text (es ++ e ∷ [])) ≡ length (text es) + length e.bytes =
       ap length (text-push es e) ∙ length-append (text es) e.bytes in
+      let size : length rest ≡ length e.bytes + length k.more =
+      ap length k.is ∙ length-append e.bytes k.more in
       let left = drop (length e.bytes) rest in
       let next = place + length e.bytes in
       let so_far : ReadSoFar is_entry octets (es ++ e ∷ []) (Some e) next left = record {
@@ -90,8 +79,11 @@ module _ (is_entry : Entry → Type 0) (entry_in : List ℕ → Option Entry)
             ∙ ap (λ (t : List ℕ). t ++ left) (sym (text-push es e));
         there = omega arith;
         some = All-drop (λ x. x < 2 ^ 8) (length e.bytes) rest s.some;
-      } in
-      subst (λ (xs : List Entry). ReadSoFar is_entry octets xs (Some e) next left) same so_far
+      } in (
+        judging.long_entry is_entry entry_in laws e k.entry,
+        omega (arith, size),
+        subst (λ (xs : List Entry). ReadSoFar is_entry octets xs (Some e) next left) same so_far,
+      )
 
   -- all was read
   pub read_all : (octets : List ℕ) (es : List Entry) (before : Option Entry) (place : ℕ)

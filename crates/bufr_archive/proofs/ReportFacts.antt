@@ -1,7 +1,7 @@
 -- The entries of reports: for `laws::reports_are_entries`.
 use Rattle.std.proofs.Common.{◌≡◌, ℕ, ◌+◌, ◌-◌, ◌*◌, ◌/◌, ◌%◌, ◌^◌, ◌<◌, true, cond, List, [], ◌∷◌, ◌++◌, length, take, drop, Option, Some, None, Result, Ok, Err, refl, sym, ap, subst, ◌∙◌, arith, length-append, get_or}
-use Rattle.std.specs.Prelude.{IfOk, IfSome, codes, bytes_eq, option_map, slice_get}
-use Rattle.std.proofs.lemmas.Option.{slice_get-map, get_or_from_slice_get}
+use Rattle.std.specs.Prelude.{IfOk, IfSome, codes, option_map, slice_get}
+use Rattle.std.proofs.lemmas.Option.{cond_some, same_Some, slice_get-map, get_or_from_slice_get}
 use Rattle.std.specs.Int.{bytes_high_first}
 use Rattle.std.specs.List.{AllByRecursion}
 use Rattle.std.proofs.lemmas.List.{drop_at}
@@ -23,7 +23,7 @@ use Rattle.bufr_shelves.specs.declared.entry.Entry.{Entry}
 use Rattle.bufr_sections.specs.Sections.{AreOctets}
 use Rattle.bufr_archive.specs.ReportEntries.{AreUnder, entry_of, entry_with, IsReportEntry, is_canonical, only_one, own_entry, entry_in, report_entries, spelt_entry, spelt_entries, SpellsOwn}
 use Rattle.bufr_archive.specs.ReportLaws.{ReportsAreEntries}
-use Rattle.bufr_archive.proofs.EntryFacts.{bind_some, tested_some}
+use Rattle.bufr_archive.proofs.EntryFacts.{bind_some}
 
 -- ---- octets that spell a message are one frame
 
@@ -79,13 +79,8 @@ canonical_is written tables r octets c = ap if_written (written tables (alone r)
 is_canonical_of : BareAreWritten → (tables : Entries) (r : Report) (octets : List ℕ)
     → IsUnder tables r → canonical tables r ≡ Some octets → IsCanonical tables r octets
 is_canonical_of written tables r octets u e =
-    let both : Some u.0 ≡ Some octets = sym (canonical_is written tables r u.0 u.1) ∙ e in
-    let same : u.0 ≡ octets = cc in
-    subst (IsCanonical tables r) same u.1
-
--- octets are the same as themselves
-same_bytes : (octets : List ℕ) → bytes_eq octets octets ≡ true
-same_bytes octets = (bytes_eq-Decides octets octets).1 refl
+    subst (IsCanonical tables r)
+    (same_Some u.0 octets (sym (canonical_is written tables r u.0 u.1) ∙ e)) u.1
 
 -- the entry of a report is found in its canonical message
 entry_found : BareAreWritten → CanonicalIsRead → (tables : Entries) (r : Report)
@@ -96,7 +91,8 @@ entry_found written reads tables r octets c =
     let known = canonical_is written tables r octets c in
     let own : own_entry tables octets r ≡ Some (entry_with r octets) =
     ap (λ x. cond (is_canonical x octets) (Some (entry_with r octets)) None) known
-    ∙ ap (λ b. cond b (Some (entry_with r octets)) None) (same_bytes octets) in
+    ∙ ap (λ b. cond b (Some (entry_with r octets)) None)
+    ((bytes_eq-Decides octets octets).1 refl) in
     ap (λ rs. only_one rs >>= own_entry tables octets) one ∙ own
 
 -- ---- octets in which an entry is found
@@ -137,7 +133,7 @@ entry_takes written read_spelt under tables octets e all found =
     let r = bind_some (only_one (reports_in tables octets)) _ e found in
     let one = only_one_is (reports_in tables octets) r.0 r.1 in
     let own = entry_with r.0 octets in
-    let t = tested_some (is_canonical (canonical tables r.0) octets) own e r.2 in
+    let t = cond_some (is_canonical (canonical tables r.0) octets) own e r.2 in
     let canon : IsCanonical tables r.0 octets =
     is_canonical_of written tables r.0 octets
     (read_is_under read_spelt under tables octets r.0 all one)

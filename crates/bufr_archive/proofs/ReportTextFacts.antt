@@ -2,6 +2,7 @@
 use Rattle.std.proofs.Common.{◌≡◌, ℕ, List, [], ◌∷◌, ◌++◌, take, Option, Some, Result, Ok, Err, refl, sym, ap, subst, ◌∙◌}
 use Rattle.std.specs.Prelude.{IfOk, IfErr, option_map, option_to_list}
 use Rattle.std.specs.List.{AllByRecursion, flat_map}
+use Rattle.std.proofs.lemmas.List.{map-append}
 use Rattle.bufr_tables.specs.Entries.{Entries}
 use Rattle.bufr_tables.specs.Answers.{Gives}
 use Rattle.bufr_tables.specs.declared.failure.Failure.{Failure}
@@ -34,6 +35,12 @@ pub entry_is : BareAreWritten → (tables : Entries) (r : Report) (u : IsUnder t
 entry_is written tables r u =
     ap (option_map (entry_with r)) (canonical_is written tables r u.0 u.1)
 
+-- an entry of a report is that of its report
+own_is : BareAreWritten → (tables : Entries) (e : Entry) (is : IsReportEntry tables e)
+    → entry_of tables is.report ≡ Some e
+own_is written tables e is =
+    entry_is written tables is.report (e.bytes, is.canon) ∙ ap Some (sym is.is)
+
 -- the entries of reports under the tables
 pub entries_are : BareAreWritten → (tables : Entries) (rs : List Report) → AreUnder tables rs
     → AllByRecursion (IsReportEntry tables) (entries_of (report_entries tables rs))
@@ -53,14 +60,11 @@ reports_are : BareAreWritten → (tables : Entries) (es : List Entry)
     → (rs : List Report) × AreUnder tables rs × (entries_of (report_entries tables rs) ≡ es)
 reports_are written tables [] a = ([], tt, refl)
 reports_are written tables (e ∷ es) a =
-    let r = a.0.report in
-    let rest = reports_are written tables es a.1 in
-    let own : entry_of tables r ≡ Some e =
-    ap (option_map (entry_with r)) (canonical_is written tables r e.bytes a.0.canon)
-    ∙ ap Some (sym a.0.is) in (
-      r ∷ rest.0,
+    let rest = reports_are written tables es a.1 in (
+      a.0.report ∷ rest.0,
       ((e.bytes, a.0.canon), rest.1),
-      ap (λ (x : Option Entry). option_to_list x ++ entries_of (report_entries tables rest.0)) own
+      ap (λ (x : Option Entry). option_to_list x ++ entries_of (report_entries tables rest.0))
+          (own_is written tables e a.0)
           ∙ ap (λ (es : List Entry). e ∷ es) rest.2,
     )
 
@@ -161,18 +165,12 @@ module _ (written : BareAreWritten) (laws : ReportsAreEntries) (tables : Entries
 
 -- ---- texts as streams
 
--- what holds of all that have a property
-each_so : (P Q : Entry → Type 0) → ((e : Entry) → P e → Q e) → (es : List Entry)
-    → AllByRecursion P es → AllByRecursion Q es
-each_so P Q f [] a = tt
-each_so P Q f (e ∷ es) a = (f e a.0, each_so P Q f es a.1)
-
 -- the entries of reports are frames
 are_frames : BareAreWritten → ReportsAreEntries → (tables : Entries) (rs : List Report)
     → AreUnder tables rs → AreFrames (entries_of (report_entries tables rs))
 are_frames written laws tables rs under =
-    each_so (IsReportEntry tables) _ (laws tables).frame (entries_of (report_entries tables rs))
-    (entries_are written tables rs under)
+    texts.each_so (IsReportEntry tables) _ (laws tables).frame
+    (entries_of (report_entries tables rs)) (entries_are written tables rs under)
 
 -- the frames of a text
 pub frames_of_reports : BareAreWritten → ReportsAreEntries → Joined → FramesOfReports
@@ -189,24 +187,10 @@ frames_of_report_fronts written laws fronts tables rs k n under few room =
 -- the octets of an entry of a report tell that entry
 tell_own : BareAreWritten → CanonicalIsRead → (tables : Entries) (es : List Entry)
     → AllByRecursion (IsReportEntry tables) es → TellOwn (entries_told tables) es
-tell_own written reads tables [] a = tt
-tell_own written reads tables (e ∷ es) a =
-    let is = a.0 in
-    let own : entry_of tables is.report ≡ Some e =
-    ap (option_map (entry_with is.report))
-    (canonical_is written tables is.report e.bytes is.canon)
-    ∙ ap Some (sym is.is) in (
-      ap (report_entries tables) (reads tables is.report e.bytes is.canon).1
-          ∙ ap (λ (x : Option Entry). x ∷ []) own,
-      tell_own written reads tables es a.1,
-    )
-
--- the entries of two lists of reports
-report_entries-more : (tables : Entries) (rs ss : List Report)
-    → report_entries tables (rs ++ ss) ≡ report_entries tables rs ++ report_entries tables ss
-report_entries-more tables [] ss = refl
-report_entries-more tables (r ∷ rs) ss =
-    ap (λ (es : List (Option Entry)). entry_of tables r ∷ es) (report_entries-more tables rs ss)
+tell_own written reads tables es a =
+    texts.each_so (IsReportEntry tables) (λ e. entries_told tables e.bytes ≡ Some e ∷ [])
+    (λ e is. ap (report_entries tables) (reads tables is.report e.bytes is.canon).1
+    ∙ ap (λ (x : Option Entry). x ∷ []) (own_is written tables e is)) es a
 
 -- the entries of the reports of frames
 entries_of_frames : (tables : Entries) (fs : List Found)
@@ -214,7 +198,7 @@ entries_of_frames : (tables : Entries) (fs : List Found)
     ≡ flat_map (λ f. entries_told tables f.bytes) fs
 entries_of_frames tables [] = refl
 entries_of_frames tables (f ∷ fs) =
-    report_entries-more tables (reports_in tables f.bytes)
+    map-append (entry_of tables) (reports_in tables f.bytes)
     (flat_map (λ f. reports_in tables f.bytes) fs)
     ∙ ap (λ (es : List (Option Entry)). entries_told tables f.bytes ++ es)
     (entries_of_frames tables fs)

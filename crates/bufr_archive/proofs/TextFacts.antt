@@ -1,6 +1,6 @@
 -- Archive texts: what is kept of entries is a run, a run's text is read, and what is refused breaks
 -- where judging stops. For the clauses of `Archive::read`.
-use Rattle.std.proofs.Common.{◌≡◌, ℕ, ◌+◌, ◌<◌, ◌≤◌, ◌^◌, true, List, [], ◌∷◌, ◌++◌, length, take, drop, Option, Some, None, Result, Ok, Err, refl, sym, ap, subst, ◌∙◌, inl, inr, arith, length-append, take-append-drop}
+use Rattle.std.proofs.Common.{◌≡◌, ℕ, ◌+◌, ◌<◌, ◌≤◌, ◌^◌, true, List, [], ◌∷◌, ◌++◌, length, take, drop, Option, Some, None, Ok, Err, refl, sym, ap, subst, ◌∙◌, inl, inr, arith, length-append, take-append-drop}
 use Rattle.std.specs.Ordering.{is_lt}
 use Rattle.std.specs.declared.cmp.Ordering.{Ordering}
 use Rattle.std.specs.declared.cmp.Ordering.TheVariants.{Less, Equal, Greater}
@@ -8,7 +8,6 @@ use Rattle.std.specs.List.{AllByRecursion}
 use Rattle.std.specs.List.Sorted.{IsStrictlySortedBy}
 use Rattle.std.proofs.lemmas.List.{append-nil, take_at, length-take-le}
 use Rattle.std.proofs.lemmas.List.Elements.{recursion_from_All, All-drop}
-use Rattle.bufr_tables.specs.Answers.{result_map}
 use Rattle.bufr_shelves.specs.declared.entry.Entry.{Entry}
 use Rattle.bufr_shelves.specs.Entries.{slot_cmp, kept}
 use Rattle.bufr_shelves.specs.Keeping.{Has}
@@ -17,21 +16,27 @@ use Rattle.bufr_sections.specs.Sections.{AreOctets}
 use Rattle.bufr_archive.specs.Texts.{text, IsEntryText, comes_after, judged, entries_read}
 use Rattle.bufr_archive.specs.EntryLaws.{HasEntryLaws}
 use Rattle.bufr_archive.specs.TextLaws.{TextsAreRead, ReadAreTexts, RefusedBreakThere}
-use Rattle.bufr_archive.proofs.JudgeFacts.{last_of}
+use Rattle.bufr_archive.proofs.JudgeFacts.{last_of, map_failed}
 use Rattle.bufr_archive.proofs.JudgeFacts as judging
 
 -- what holds of all holds of each
-pub has_each : (P : Entry → Type 0) (es : List Entry) (e : Entry) → AllByRecursion P es → Has es e
-    → P e
-has_each P [] e a h = absurd h
-has_each P (f ∷ es) e a (inl q) = subst P (sym q) a.0
-has_each P (f ∷ es) e a (inr h) = has_each P es e a.1 h
+pub has_each : {A : Type 0} (P : A → Type 0) (xs : List A) (x : A) → AllByRecursion P xs → Has xs x
+    → P x
+has_each P [] x a h = absurd h
+has_each P (y ∷ xs) x a (inl e) = subst P (sym e) a.0
+has_each P (y ∷ xs) x a (inr h) = has_each P xs x a.1 h
 
 -- and back
 each_has : (P : Entry → Type 0) (es : List Entry) → ((e : Entry) → Has es e → P e)
     → AllByRecursion P es
 each_has P [] h = tt
 each_has P (e ∷ es) h = (h e (inl refl), each_has P es (λ f m. h f (inr m)))
+
+-- what follows for one follows for all
+pub each_so : (P Q : Entry → Type 0) → ((e : Entry) → P e → Q e) → (es : List Entry)
+    → AllByRecursion P es → AllByRecursion Q es
+each_so P Q f [] a = tt
+each_so P Q f (e ∷ es) a = (f e a.0, each_so P Q f es a.1)
 
 -- what holds of all entries holds of those that are kept
 pub kept_each : (P : Entry → Type 0) (es : List Entry) → AllByRecursion P es
@@ -44,29 +49,6 @@ lt_is : (o : Ordering) → is_lt o ≡ true → o ≡ Less
 lt_is Less h = refl
 lt_is Equal h = absurd cc
 lt_is Greater h = absurd cc
-
--- what is greater comes after
-all_after : (e : Entry) (es : List Entry) → AllByRecursion (λ y. slot_cmp e y ≡ Less) es
-    → AllByRecursion (λ y. comes_after (Some e) y ≡ true) es
-all_after e [] a = tt
-all_after e (f ∷ fs) a = (ap is_lt a.0, all_after e fs a.1)
-
--- all comes after none
-after_none : (es : List Entry) → AllByRecursion (λ y. comes_after None y ≡ true) es
-after_none [] = tt
-after_none (e ∷ es) = (refl, after_none es)
-
--- what comes before one comes before all that follow
-below_all : (e f : Entry) (es : List Entry) → slot_cmp e f ≡ Less
-    → AllByRecursion (λ y. slot_cmp f y ≡ Less) es → AllByRecursion (λ y. slot_cmp e y ≡ Less) es
-below_all e f [] h a = tt
-below_all e f (y ∷ ys) h a = (slots_total.trans e f y h a.0, below_all e f ys h a.1)
-
--- a refusal behind entries
-failed_after : (es : List Entry) (x : Result (List Entry) ℕ) (p : ℕ)
-    → result_map (λ fs. es ++ fs) x ≡ Err p → x ≡ Err p
-failed_after es (Ok fs) p h = absurd cc
-failed_after es (Err q) p h = ap Err cc
 
 module _ (is_entry : Entry → Type 0) (entry_in : List ℕ → Option Entry)
     (laws : HasEntryLaws is_entry entry_in) where
@@ -83,15 +65,20 @@ module _ (is_entry : Entry → Type 0) (entry_in : List ℕ → Option Entry)
   unfolding IsStrictlySortedBy
   run_of_sorted before [] s each after = tt
   run_of_sorted before (e ∷ es) s each after =
-      (each.0, after.0, run_of_sorted (Some e) es s.1 each.1 (all_after e es s.0))
+      let all_after = each_so (λ y. slot_cmp e y ≡ Less) (λ y. comes_after (Some e) y ≡ true)
+      (λ y less. ap is_lt less) es s.0 in
+      (each.0, after.0, run_of_sorted (Some e) es s.1 each.1 all_after)
 
   -- all of a run comes after the one before it
   run_below : (e : Entry) (es : List Entry) → IsRun (Some e) es
       → AllByRecursion (λ y. slot_cmp e y ≡ Less) es
   run_below e [] run = tt
   run_below e (f ∷ fs) run =
-      let less = lt_is (slot_cmp e f) run.1 in
-      (less, below_all e f fs less (run_below f fs run.2))
+      let less = lt_is (slot_cmp e f) run.1 in (
+        less,
+        each_so (λ y. slot_cmp f y ≡ Less) (λ y. slot_cmp e y ≡ Less)
+            (λ y next. slots_total.trans e f y less next) fs (run_below f fs run.2),
+      )
 
   -- a run is in order of slots
   pub run_sorted : (before : Option Entry) (es : List Entry) → IsRun before es
@@ -114,7 +101,7 @@ module _ (is_entry : Entry → Type 0) (entry_in : List ℕ → Option Entry)
   run_of_kept : (es : List Entry) → AllByRecursion is_entry es → IsRun None (kept es)
   run_of_kept es a =
       run_of_sorted None (kept es) (kept-are es).ordered (kept_each is_entry es a)
-      (after_none (kept es))
+      (each_has (λ y. comes_after None y ≡ true) (kept es) (λ e m. refl))
 
   -- the text of a run is a text
   text_of_run : (octets : List ℕ) (es : List Entry) → IsRun None es → octets ≡ text es
@@ -153,7 +140,7 @@ module _ (is_entry : Entry → Type 0) (entry_in : List ℕ → Option Entry)
       let parts : octets ≡ text es ++ drop n octets =
       sym (take-append-drop n octets) ∙ ap (λ (f : List ℕ). f ++ drop n octets) t.says in
       let past = judging.judged_past is_entry entry_in laws None 0 es (drop n octets) run in
-      let inner = failed_after es
+      let inner = map_failed (λ fs. es ++ fs)
       (judged entry_in (last_of None es) (0 + length (text es)) 0 (drop n octets)) place
       (sym past ∙ ap (judged entry_in None 0 0) (sym parts) ∙ err) in
       let each = recursion_from_All (λ x. x < 2 ^ 8) (drop n octets)

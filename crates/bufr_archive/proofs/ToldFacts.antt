@@ -1,7 +1,7 @@
 -- The reports that a stream tells are those of the messages that its frames spell: for
 -- `laws::told_are_of_messages`.
 use Rattle.std.proofs.Common.{◌≡◌, inl, inr, ℕ, List, [], ◌∷◌, length, drop, Result, Ok, Err, refl, sym, ap, subst}
-use Rattle.std.specs.List.{AllByRecursion, flat_map}
+use Rattle.std.specs.List.{flat_map}
 use Rattle.std.proofs.lemmas.List.Elements.{All-take, All-drop}
 use Rattle.bufr_frame.specs.declared.frames.Found.{Found}
 use Rattle.bufr_frame.specs.Streams.{cut}
@@ -16,17 +16,11 @@ use Rattle.bufr_message.specs.Reports.{reports_of, reports_read, reports_in}
 use Rattle.bufr_shelves.specs.Keeping.{Has}
 use Rattle.bufr_shelves.specs.KeepingLaws.{Has-left, Has-right, Has-append}
 use Rattle.bufr_archive.specs.ReportLaws.{ToldAreTold, OnlyToldAreTold}
+use Rattle.bufr_archive.proofs.TextFacts.{has_each}
 
 -- what the layer of frames says of a cut
 abbrev CutsAre : Type 0
 CutsAre = (stream : List ℕ) → IsCut stream (cut stream)
-
--- what holds of all frames holds of each
-has_each : (P : Found → Type 0) (fs : List Found) (f : Found) → AllByRecursion P fs → Has fs f
-    → P f
-has_each P [] f a h = absurd h
-has_each P (g ∷ fs) f a (inl e) = subst P (sym e) a.0
-has_each P (g ∷ fs) f a (inr h) = has_each P fs f a.1 h
 
 -- the frames of octets have octets
 frame_octets : CutsAre → (stream : List ℕ) (f : Found) → AreOctets stream → Has (cut stream) f

@@ -2,10 +2,11 @@
 use Rattle.std.proofs.Common.{◌≡◌, ◌+◌, ◌≤◌, [], ◌∷◌, ◌++◌, length, take, sym, ap, subst, ◌∙◌, arith, append_assoc}
 use Rattle.std.proofs.lemmas.List.{length-append}
 use Rattle.bufr_bits.specs.Devices.{Writes}
+use Rattle.bufr_bits.specs.DeviceLaws.{Writes-more}
 use Rattle.bufr_shelves.specs.Shelves.{lent}
 use Rattle.bufr_archive.specs.Texts.{text}
 use Rattle.bufr_shelves.specs.WalkLaws.{after-in-order, goes-on}
-use Rattle.bufr_archive.proofs.TextLemmas.{text-push, text-split, take-over, Writes-more}
+use Rattle.bufr_archive.proofs.TextLemmas.{text-push, text-split, take-over}
 use Rattle.bufr_archive.proofs.archive.Archive.write.Goals as goal
 
 -- where the sink fails at an entry, it has taken as many first octets of the text as are told
