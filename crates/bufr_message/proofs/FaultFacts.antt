@@ -14,7 +14,8 @@ use Rattle.bufr_sections.specs.declared.message.Decoded.{Decoded}
 use Rattle.bufr_sections.specs.declared.fault.Refused.{Refused}
 use Rattle.bufr_sections.specs.declared.fault.Refused.TheVariants.{Template, Data}
 use Rattle.bufr_sections.specs.Sections.{Envelope, AreOctets, envelope_of}
-use Rattle.bufr_message.specs.Messages.{template_or, data_or, message_with, can_be_alone, ended, message_in, message_of}
+use Rattle.bufr_message.specs.Messages.{template_or, data_or, message_with, can_be_alone, ended}
+use Rattle.bufr_message.specs.Messages.{message_in, message_of}
 use Rattle.bufr_data.specs.declared.fault.ReadFault.TheVariants.{TooLarge}
 use Rattle.bufr_sections.specs.Causes.{IsFirstRefusal, HasSections, is_of_sections}
 use Rattle.bufr_message.specs.Refusals.{IsFirstFault}
@@ -50,13 +51,15 @@ data_fault : Below
     → IsFirstFault tables octets fault
 data_fault below tables octets fault e tree has built refused = elim (bind_err (data_or (subsets_in tree e.compressed e.count (bits e.contents))) (ended e) fault refused) [
   | inl not_so ↦
-      let d = step_refuses data_passes (subsets_in tree e.compressed e.count (bits e.contents)) fault not_so in
+      let found = subsets_in tree e.compressed e.count (bits e.contents) in
+      let d = step_refuses data_passes found fault not_so in
       let first = (below.unread tree e.compressed e.count (bits e.contents) d.0).0 d.1 in
       subst (IsFirstFault tables octets) d.2 (e, tree, has, built, inl first)
   | inr found ↦
       let told : Decoded = record { message = message_with e found.0.0; slack_octets = length found.0.1 / 8 } in
       let test = not_passed (can_be_alone e.descriptors found.0.0) told (Data TooLarge) fault found.2 in
-      let read = step_takes data_passes (subsets_in tree e.compressed e.count (bits e.contents)) found.0 found.1 in
+      let held = subsets_in tree e.compressed e.count (bits e.contents) in
+      let read = step_takes data_passes held found.0 found.1 in
       let begins = (below.reads tree e.compressed e.count (bits e.contents) found.0).0 read in
       let none = not_from_Decides _ (alone_is_tested e.descriptors found.0.0) test.0 in
       subst (IsFirstFault tables octets) test.1 (e, tree, has, built, inr (refl, found.0, begins, none))
@@ -71,7 +74,9 @@ tree_fault below tables octets fault e has refused = elim (bind_err (template_or
       let t = step_refuses template_passes (template tables e.descriptors) fault not_so in
       subst (IsFirstFault tables octets) t.2 (e, has, (below.refuses tables e.descriptors t.0).0 t.1)
   | inr tree ↦
-      let built = (below.builds tables e.descriptors tree.0).0 (step_takes template_passes (template tables e.descriptors) tree.0 tree.1) in
+      let expanded = template tables e.descriptors in
+      let built = (below.builds tables e.descriptors tree.0).0
+      (step_takes template_passes expanded tree.0 tree.1) in
       data_fault below tables octets fault e tree.0 has built tree.2
 ]
 

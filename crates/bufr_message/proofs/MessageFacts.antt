@@ -95,9 +95,12 @@ unfolding message_of message_in
 message_of_takes below tables octets d all ok =
     let e = bind_ok (envelope_of octets) (message_in tables) d ok in
     let tree = bind_ok (template_or (template tables e.0.descriptors)) _ d e.2 in
-    let has = (below.builds tables e.0.descriptors tree.0).0 (step_takes template_passes (template tables e.0.descriptors) tree.0 tree.1) in
+    let expanded = template tables e.0.descriptors in
+    let has = (below.builds tables e.0.descriptors tree.0).0
+    (step_takes template_passes expanded tree.0 tree.1) in
     let found = bind_ok (data_or (subsets_in tree.0 e.0.compressed e.0.count (bits e.0.contents))) _ d tree.2 in
-    let read = step_takes data_passes (subsets_in tree.0 e.0.compressed e.0.count (bits e.0.contents)) found.0 found.1 in
+    let held = subsets_in tree.0 e.0.compressed e.0.count (bits e.0.contents) in
+    let read = step_takes data_passes held found.0 found.1 in
     let said = below.takes octets e.0 all e.1 in
     let told : Decoded = record { message = message_with e.0 found.0.0; slack_octets = length found.0.1 / 8 } in
     let done = passed_ok (can_be_alone e.0.descriptors found.0.0) told (Data TooLarge) d found.2 in

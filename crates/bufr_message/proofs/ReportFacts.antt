@@ -1,5 +1,6 @@
 -- The canonical message of a report tells what the report is: for the laws on canonical messages.
-use Rattle.std.proofs.Common.{◌≡◌, ℕ, ◌+◌, ◌/◌, Bool, List, [], ◌∷◌, ◌++◌, length, get_or, Ok, refl, sym}
+use Rattle.std.proofs.Common.{◌≡◌, ℕ, ◌+◌, ◌/◌, Bool, List, [], ◌∷◌, ◌++◌, length, get_or, Ok, refl}
+use Rattle.std.proofs.Common.{sym}
 use Rattle.std.proofs.Common.{ap, ◌∙◌, arith, length-append}
 use Rattle.bufr_bits.specs.Bits.{bits}
 use Rattle.bufr_data.specs.Plain.{plain}
@@ -30,7 +31,8 @@ one_report below tables r octets c = ap reports_read (canonical_is_read below ta
 pub canonical_tells_apart : Below → (tables : Entries) (r s : Report) (octets : List ℕ)
     → IsCanonical tables r octets → IsCanonical tables s octets → r ≡ s
 canonical_tells_apart below tables r s octets c d =
-    ap (λ (rs : List Report). get_or rs 0 r) (sym (one_report below tables r octets c) ∙ one_report below tables s octets d)
+    ap (λ (rs : List Report). get_or rs 0 r)
+    (sym (one_report below tables r octets c) ∙ one_report below tables s octets d)
 
 -- octets that hold bits and fewer than eight more are as many as hold them
 contents_long : (own rest : List Bool) (contents : List ℕ) → bits contents ≡ own ++ rest

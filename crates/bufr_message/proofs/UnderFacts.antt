@@ -1,5 +1,6 @@
 -- Each report of a message that octets spell has a canonical message: for the law on reports.
-use Rattle.std.proofs.Common.{◌≡◌, ℕ, ◌<◌, ◌≤◌, ◌^◌, Bool, true, false, List, [], ◌∷◌, length, map, Ok}
+use Rattle.std.proofs.Common.{◌≡◌, ℕ, ◌<◌, ◌≤◌, ◌^◌, Bool, true, false, List, [], ◌∷◌, length, map}
+use Rattle.std.proofs.Common.{Ok}
 use Rattle.std.proofs.Common.{refl, arith, length-append}
 use Rattle.std.specs.Prelude.{nat_lt}
 use Rattle.std.specs.List.{AllByRecursion}
@@ -52,7 +53,7 @@ under_alone below tables m octets slack spells s stands few =
     let some = some_are m.descriptors spells.fits.some_descriptor in
     let own = stands.items in
     let one : AllFitWithin spells.tree 0 (s ∷ []) own =
-        (own, (own, 0, stands.fits, refl, omega arith), omega arith, stands.few) in
+    (own, (own, 0, stands.fits, refl, omega arith), omega arith, stands.few) in
     let holds : IsDataOf spells.tree false (s ∷ []) d = (own, one, refl) in
     let data_bits = bits_are below tables (alone (report_of m s)) d (spells.tree, some, spells.template, below.plain spells.tree (s ∷ []) d holds) in
     let long = bare_long (told (alone (report_of m s)) d) refl refl in
@@ -62,7 +63,7 @@ under_alone below tables m octets slack spells s stands few =
     let written : code tables (alone (report_of m s)) ≡ Ok (bare (told (alone (report_of m s)) d)) = rw (data_bits, short) refl in
     let head = head_alone spells.layout m.head spells.ignored spells.fits.head in
     let fits : NumbersFit (alone (report_of m s)) =
-        record { head = head; section2 = tt; descriptors = spells.fits.descriptors } in (
+    record { head = head; section2 = tt; descriptors = spells.fits.descriptors } in (
       bare (told (alone (report_of m s)) d),
       record { spelt = bare_when_written below tables (alone (report_of m s)) _ fits written },
     )

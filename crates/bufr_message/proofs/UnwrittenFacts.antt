@@ -1,8 +1,10 @@
 -- A message is refused for the first cause in the order of the descriptors, the template, the
 -- subsets and the limits, and a message that octets spell is written: for the laws on messages that
 -- are written.
-use Rattle.std.proofs.Common.{◌≡◌, ◌≢◌, ◌⊎◌, ℕ, ◌-◌, ◌/◌, ◌%◌, ◌^◌, ◌<◌, ◌≤◌, Bool, true, false, get_or, List, []}
-use Rattle.std.proofs.Common.{◌∷◌, ◌++◌, length, replicate, Result, Ok, Err, refl, sym, ap, subst, ◌∙◌, arith}
+use Rattle.std.proofs.Common.{◌≡◌, ◌≢◌, ◌⊎◌, ℕ, ◌-◌, ◌/◌, ◌%◌, ◌^◌, ◌<◌, ◌≤◌, Bool, true, false}
+use Rattle.std.proofs.Common.{get_or, List, []}
+use Rattle.std.proofs.Common.{◌∷◌, ◌++◌, length, replicate, Result, Ok, Err, refl, sym, ap, subst}
+use Rattle.std.proofs.Common.{◌∙◌, arith}
 use Rattle.std.proofs.Common.{inl, inr}
 use Rattle.std.specs.Prelude.{nat_lt}
 use Rattle.std.proofs.lemmas.Bool.{cases_lt, le-ltb}
@@ -11,7 +13,6 @@ use Rattle.bufr_bits.specs.Bits.{bits}
 use Rattle.bufr_tables.specs.Answers.{◌>>=◌}
 use Rattle.bufr_tables.specs.Entries.{Entries}
 use Rattle.bufr_expand.specs.Templates.{template}
-use Rattle.bufr_expand.specs.Flat.{IsTreeOf}
 use Rattle.bufr_expand.specs.Trees.{Tree}
 use Rattle.bufr_data.specs.declared.fault.WriteFault.TheVariants.{TooLarge}
 use Rattle.bufr_data.specs.Data.{IsDataOf, IsBareDataOf, written_bits}
@@ -81,7 +82,9 @@ tree_fault below tables m fault some refused = elim (bind_err (template_or (temp
       subst (IsFirstEncodeFault tables m) t.2 (some, (below.refuses tables m.descriptors t.0).0 t.1)
   | inr tree ↦
       let d = step_refuses data_passes (written_bits tree.0 m.compressed m.subsets) fault tree.2 in
-      let has = (below.builds tables m.descriptors tree.0).0 (step_takes template_passes (template tables m.descriptors) tree.0 tree.1) in
+      let expanded = template tables m.descriptors in
+      let has = (below.builds tables m.descriptors tree.0).0
+      (step_takes template_passes expanded tree.0 tree.1) in
       let first = (below.unwritten tree.0 m.compressed m.subsets d.0).0 d.1 in
       subst (IsFirstEncodeFault tables m) d.2 (tree.0, some, has, inl first)
 ]
@@ -95,7 +98,7 @@ bits_fault below tables m fault refused = elim (bind_err (some_descriptors m.des
   | inr list ↦
       let d = descriptors_take m.descriptors list.0 list.1 in
       tree_fault below tables m fault d.0
-          (subst (λ (ds : List ℕ). templated tables m ds ≡ Err fault) (sym d.1) list.2)
+      (subst (λ (ds : List ℕ). templated tables m ds ≡ Err fault) (sym d.1) list.2)
 ]
 
 -- a message that has no octets is refused for its first fault
