@@ -1,6 +1,7 @@
 -- Texts from before, when keys had no sub-centre, are texts: for
 -- `laws::texts_from_before`.
-use Rattle.std.proofs.Common.{◌≡◌, inl, inr, List, [], ◌∷◌, ◌++◌, map, Option, Some, refl, sym, ap, subst, ◌∙◌}
+use Rattle.std.proofs.Common.{◌≡◌, inl, inr, List, [], ◌∷◌, ◌++◌, map, Option, Some, refl, sym, ap}
+use Rattle.std.proofs.Common.{subst, ◌∙◌}
 use Rattle.std.specs.Prelude.{option_to_list}
 use Rattle.std.proofs.lemmas.Option.{same_Some}
 use Rattle.bufr_tables.specs.Entries.{Entries}
@@ -13,9 +14,11 @@ use Rattle.bufr_shelves.specs.Keeping.{Has, Within}
 use Rattle.bufr_shelves.specs.Laws.{CoarselyKeptAreKept, CoarselyKeptIsTheBest}
 use Rattle.bufr_archive.specs.Archives.{entries_of}
 use Rattle.bufr_archive.specs.Texts.{text}
-use Rattle.bufr_archive.specs.ReportEntries.{entry_of, report_entries, kept_of, AreUnder, IsReportEntry, entry_in}
+use Rattle.bufr_archive.specs.ReportEntries.{entry_of, report_entries, kept_of, AreUnder}
+use Rattle.bufr_archive.specs.ReportEntries.{IsReportEntry, entry_in}
 use Rattle.bufr_archive.specs.ReportTexts.{kept_before}
-use Rattle.bufr_archive.specs.ReportLaws.{ReportsAreEntries, HaveEntries, TextsFromBefore, FromBeforeAreTexts, KeptBeforeIsTheBest}
+use Rattle.bufr_archive.specs.ReportLaws.{ReportsAreEntries, HaveEntries, TextsFromBefore}
+use Rattle.bufr_archive.specs.ReportLaws.{FromBeforeAreTexts, KeptBeforeIsTheBest}
 use Rattle.bufr_archive.proofs.TextFacts.{has_each}
 use Rattle.bufr_archive.proofs.ReportTextFacts.{entry_is, entries_are}
 

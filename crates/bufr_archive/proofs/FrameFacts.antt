@@ -1,5 +1,6 @@
 -- Entries' octets as frames, for `laws::texts_are_cut_apart`.
-use Rattle.std.proofs.Common.{◌≡◌, ℕ, ◌+◌, ◌≤◌, Option, Some, List, [], ◌∷◌, ◌++◌, length, take, refl, sym, ap, subst, ◌∙◌}
+use Rattle.std.proofs.Common.{◌≡◌, ℕ, ◌+◌, ◌≤◌, Option, Some, List, [], ◌∷◌, ◌++◌, length, take}
+use Rattle.std.proofs.Common.{refl, sym, ap, subst, ◌∙◌}
 use Rattle.std.specs.Prelude.{map}
 use Rattle.std.specs.List.{AllByRecursion, flat_map}
 use Rattle.std.proofs.lemmas.List.{take-map, length-map}
@@ -10,7 +11,8 @@ use Rattle.bufr_shelves.specs.Entries.{kept}
 use Rattle.bufr_shelves.specs.Orders.{kept-kept}
 use Rattle.bufr_archive.specs.Archives.{entries_of}
 use Rattle.bufr_archive.specs.Texts.{text}
-use Rattle.bufr_archive.specs.TextLaws.{AreFrames, FramesOfTexts, FramesOfFronts, TellOwn, TextsTell}
+use Rattle.bufr_archive.specs.TextLaws.{AreFrames, FramesOfTexts, FramesOfFronts, TellOwn}
+use Rattle.bufr_archive.specs.TextLaws.{TextsTell}
 use Rattle.bufr_archive.proofs.TextFacts.{kept_each}
 
 -- what bufr_frame says of frames that are joined

@@ -1,5 +1,7 @@
 -- Reading a text step by step: for the loop of `Archive::read_entries`, and so for `Archive::read`.
-use Rattle.std.proofs.Common.{◌≡◌, ℕ, ◌+◌, ◌-◌, ◌<◌, ◌≤◌, ◌^◌, true, List, [], ◌∷◌, ◌++◌, length, drop, Option, Some, None, Ok, Err, refl, sym, ap, subst, ◌∙◌, arith, append_assoc, length-append}
+use Rattle.std.proofs.Common.{◌≡◌, ℕ, ◌+◌, ◌-◌, ◌<◌, ◌≤◌, ◌^◌, true, List, [], ◌∷◌, ◌++◌, length}
+use Rattle.std.proofs.Common.{drop, Option, Some, None, Ok, Err, refl, sym, ap, subst, ◌∙◌, arith}
+use Rattle.std.proofs.Common.{append_assoc, length-append}
 use Rattle.std.specs.Option.{option_map}
 use Rattle.std.proofs.lemmas.List.{append-nil, drop_at}
 use Rattle.std.proofs.lemmas.List.Elements.{All-drop}
@@ -7,7 +9,8 @@ use Rattle.bufr_tables.specs.Answers.{result_map}
 use Rattle.bufr_shelves.specs.declared.entry.Entry.{Entry}
 use Rattle.bufr_shelves.specs.Entries.{kept}
 use Rattle.bufr_sections.specs.Sections.{AreOctets}
-use Rattle.bufr_archive.specs.Texts.{text, comes_after, right_entry, entry_then, judged, entries_read}
+use Rattle.bufr_archive.specs.Texts.{text, comes_after, right_entry, entry_then, judged}
+use Rattle.bufr_archive.specs.Texts.{entries_read}
 use Rattle.bufr_archive.specs.EntryLaws.{HasEntryLaws}
 use Rattle.bufr_archive.specs.Reading.{read}
 use Rattle.bufr_archive.specs.declared.reading.ReadEntry.{ReadEntry}

@@ -1,5 +1,7 @@
 -- The entries of reports: for `laws::reports_are_entries`.
-use Rattle.std.proofs.Common.{◌≡◌, ℕ, ◌+◌, ◌-◌, ◌*◌, ◌/◌, ◌%◌, ◌^◌, ◌<◌, true, cond, List, [], ◌∷◌, ◌++◌, length, take, drop, Option, Some, None, Result, Ok, Err, refl, sym, ap, subst, ◌∙◌, arith, length-append, get_or}
+use Rattle.std.proofs.Common.{◌≡◌, ℕ, ◌+◌, ◌-◌, ◌*◌, ◌/◌, ◌%◌, ◌^◌, ◌<◌, true, cond, List, [], ◌∷◌}
+use Rattle.std.proofs.Common.{◌++◌, length, take, drop, Option, Some, None, Result, Ok, Err, refl}
+use Rattle.std.proofs.Common.{sym, ap, subst, ◌∙◌, arith, length-append, get_or}
 use Rattle.std.specs.Prelude.{IfOk, IfSome, codes, option_map, slice_get}
 use Rattle.std.proofs.lemmas.Option.{cond_some, same_Some, slice_get-map, get_or_from_slice_get}
 use Rattle.std.specs.Int.{bytes_high_first}
@@ -12,16 +14,21 @@ use Rattle.bufr_frame.specs.Cuts.{IsOneFrame}
 use Rattle.bufr_sections.specs.declared.layout.Layout.{Layout}
 use Rattle.bufr_sections.specs.declared.message.Decoded.{Decoded}
 use Rattle.bufr_sections.specs.declared.fault.Refused.{Refused}
-use Rattle.bufr_sections.specs.Sections.{Envelope, Ignored, EnvelopeFits, sections, enclosed, spelling, edition_number}
+use Rattle.bufr_sections.specs.Sections.{Envelope, Ignored, EnvelopeFits, sections, enclosed}
+use Rattle.bufr_sections.specs.Sections.{spelling, edition_number}
 use Rattle.bufr_message.specs.declared.report.Report.{Report}
 use Rattle.bufr_message.specs.Messages.{message_of}
 use Rattle.bufr_message.specs.OwnBits.{CanonicalIsOwn}
 use Rattle.bufr_message.specs.Laws.{MessagesReadAreSpelt, BareAreWritten}
-use Rattle.bufr_message.specs.Reports.{reports_of, reports_read, reports_in, alone, canonical, if_written, IsCanonical, IsUnder, CanonicalIsRead, ReportsSpeltAreUnder}
+use Rattle.bufr_message.specs.Reports.{reports_of, reports_read, reports_in, alone, canonical}
+use Rattle.bufr_message.specs.Reports.{if_written, IsCanonical, IsUnder, CanonicalIsRead}
+use Rattle.bufr_message.specs.Reports.{ReportsSpeltAreUnder}
 use Rattle.bufr_keys.specs.Usable.{◌>>=◌}
 use Rattle.bufr_shelves.specs.declared.entry.Entry.{Entry}
 use Rattle.bufr_sections.specs.Sections.{AreOctets}
-use Rattle.bufr_archive.specs.ReportEntries.{AreUnder, entry_of, entry_with, IsReportEntry, is_canonical, only_one, own_entry, entry_in, report_entries, spelt_entry, spelt_entries, SpellsOwn}
+use Rattle.bufr_archive.specs.ReportEntries.{AreUnder, entry_of, entry_with, IsReportEntry}
+use Rattle.bufr_archive.specs.ReportEntries.{is_canonical, only_one, own_entry, entry_in}
+use Rattle.bufr_archive.specs.ReportEntries.{report_entries, spelt_entry, spelt_entries, SpellsOwn}
 use Rattle.bufr_archive.specs.ReportLaws.{ReportsAreEntries}
 use Rattle.bufr_archive.proofs.EntryFacts.{bind_some}
 

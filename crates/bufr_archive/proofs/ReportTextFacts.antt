@@ -1,5 +1,6 @@
 -- Texts in words over reports: for the clauses of `Archive::read` and `laws::texts_are_cut_apart`.
-use Rattle.std.proofs.Common.{◌≡◌, ℕ, List, [], ◌∷◌, ◌++◌, take, Option, Some, Result, Ok, Err, refl, sym, ap, subst, ◌∙◌}
+use Rattle.std.proofs.Common.{◌≡◌, ℕ, List, [], ◌∷◌, ◌++◌, take, Option, Some, Result, Ok, Err}
+use Rattle.std.proofs.Common.{refl, sym, ap, subst, ◌∙◌}
 use Rattle.std.specs.Prelude.{IfOk, IfErr, option_map, option_to_list}
 use Rattle.std.specs.List.{AllByRecursion, flat_map}
 use Rattle.std.proofs.lemmas.List.{map-append}
@@ -20,12 +21,15 @@ use Rattle.bufr_sections.specs.Sections.{AreOctets}
 use Rattle.bufr_archive.specs.Texts.{text, IsEntryText, EntriesBreakAt, entries_read}
 use Rattle.bufr_archive.specs.TextLaws.{AreFrames, TellOwn}
 use Rattle.bufr_archive.specs.Reading.{archive_or, archive_read}
-use Rattle.bufr_archive.specs.ReportEntries.{entry_with, entry_of, report_entries, entries_told, kept_of, text_of, IsReportEntry, AreUnder, entry_in}
+use Rattle.bufr_archive.specs.ReportEntries.{entry_with, entry_of, report_entries, entries_told}
+use Rattle.bufr_archive.specs.ReportEntries.{kept_of, text_of, IsReportEntry, AreUnder, entry_in}
 use Rattle.bufr_archive.specs.ReportTexts.{IsText, BreaksAt, archive_of, IsArchiveOf, RefusedAt}
-use Rattle.bufr_archive.specs.ReportLaws.{ReportsAreEntries, FramesOfReports, FramesOfReportFronts, ReportTextsTell}
+use Rattle.bufr_archive.specs.ReportLaws.{ReportsAreEntries, FramesOfReports, FramesOfReportFronts}
+use Rattle.bufr_archive.specs.ReportLaws.{ReportTextsTell}
 use Rattle.bufr_archive.proofs.ReportFacts.{canonical_is}
 use Rattle.bufr_archive.proofs.TextFacts as texts
-use Rattle.bufr_archive.proofs.FrameFacts.{Joined, Fronts, frames_of_texts, frames_of_fronts, texts_tell}
+use Rattle.bufr_archive.proofs.FrameFacts.{Joined, Fronts, frames_of_texts, frames_of_fronts}
+use Rattle.bufr_archive.proofs.FrameFacts.{texts_tell}
 
 -- ---- reports and their entries
 

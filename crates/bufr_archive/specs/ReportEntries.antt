@@ -1,6 +1,7 @@
 -- Reports as entries of an archive: their keys, their entries, and the entry that octets are (this
 -- project's own, over FM 94 BUFR edition 4).
-use Rattle.std.specs.Prelude.{◌≡◌, ℕ, Bool, false, bytes_eq, if◌then◌else◌, List, [], ◌∷◌, Option, Some, None, option_map, map}
+use Rattle.std.specs.Prelude.{◌≡◌, ℕ, Bool, false, bytes_eq, if◌then◌else◌, List, [], ◌∷◌, Option}
+use Rattle.std.specs.Prelude.{Some, None, option_map, map}
 use Rattle.std.specs.List.{AllByRecursion}
 use Rattle.bufr_tables.specs.Entries.{Entries}
 use Rattle.bufr_keys.specs.declared.keys.KeyHead.{KeyHead}

@@ -15,7 +15,8 @@ use Rattle.bufr_shelves.specs.Keeping.{Has, Within, AreKept}
 use Rattle.bufr_archive.specs.Archives.{entries_of}
 use Rattle.bufr_archive.specs.EntryLaws.{HasEntryLaws}
 use Rattle.bufr_archive.specs.Texts.{text}
-use Rattle.bufr_archive.specs.ReportEntries.{IsReportEntry, AreUnder, entry_in, report_entries, kept_of, text_of}
+use Rattle.bufr_archive.specs.ReportEntries.{IsReportEntry, AreUnder, entry_in, report_entries}
+use Rattle.bufr_archive.specs.ReportEntries.{kept_of, text_of}
 use Rattle.bufr_archive.specs.ReportTexts.{IsText, IsTextFromBefore, kept_before, told}
 
 -- the entry of a report under the tables is found in its own octets and in no others, and these are

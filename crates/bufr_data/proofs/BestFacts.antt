@@ -1,13 +1,16 @@
 -- The column that is written is a column, and the one of the fewest bits: for the law on columns
 -- (`columns_hold_values`) and for that on data (`data_hold_subsets`).
-use Rattle.std.proofs.Common.{◌≡◌, ℕ, zero, suc, ◌+◌, ◌-◌, ◌*◌, ◌/◌, ◌^◌, ◌<◌, ◌≤◌, Bool, true, false, cond, List, [], ◌∷◌, ◌++◌, length, map, replicate, refl, sym, ap, subst, ◌∙◌, arith, length-append, inl, inr}
+use Rattle.std.proofs.Common.{◌≡◌, ℕ, zero, suc, ◌+◌, ◌-◌, ◌*◌, ◌/◌, ◌^◌, ◌<◌, ◌≤◌, Bool, true}
+use Rattle.std.proofs.Common.{false, cond, List, [], ◌∷◌, ◌++◌, length, map, replicate, refl, sym}
+use Rattle.std.proofs.Common.{ap, subst, ◌∙◌, arith, length-append, inl, inr}
 use Rattle.std.specs.Prelude.{◌==◌, ◌&&◌, ◌||◌, not, nat_le, min, max}
 use Rattle.std.specs.List.{AllByRecursion, flat_map, list_all}
 use Rattle.std.proofs.lemmas.Bool.{cases_lt, le-leb, leb-true, eqb-true, eqb-false, eq-eqb}
 use Rattle.bufr_bits.specs.Bits.{bin, all_ones}
 use Rattle.bufr_bits.specs.BitLaws.{length-bin}
 use Rattle.std.proofs.lemmas.List.{length-map, length-replicate, append-nil}
-use Rattle.std.proofs.Math.Nat.{min-le_left, min-le_right, le-min, le-max_left, le-max_right, max-le}
+use Rattle.std.proofs.Math.Nat.{min-le_left, min-le_right, le-min, le-max_left, le-max_right}
+use Rattle.std.proofs.Math.Nat.{max-le}
 use Rattle.bufr_tables.specs.declared.element.Kind.{Kind}
 use Rattle.bufr_tables.specs.declared.element.Kind.TheVariants as kinds
 use Rattle.bufr_tables.specs.Elements.{same_kind}
@@ -16,14 +19,20 @@ use Rattle.bufr_data.specs.declared.field.Raw.{Raw}
 use Rattle.bufr_data.specs.declared.field.Raw.TheVariants.{Number, Text}
 use Rattle.bufr_data.specs.Plain.{raw_bits, number_of}
 use Rattle.bufr_data.specs.Fits.{HasForm, of_text, of_number}
-use Rattle.bufr_data.specs.Columns.{Pairwise, HasIncrement, HasText, IsColumn, equal, numbers as number_column, texts as text_column, above, missing, filled as is_filled, ones as ones_text}
-use Rattle.bufr_data.proofs.ColumnFacts.{power_positive, pairwise_length, ones_of, all_ones_of, strictly}
+use Rattle.bufr_data.specs.Columns.{Pairwise, HasIncrement, HasText, IsColumn, equal}
+use Rattle.bufr_data.specs.Columns.{numbers as number_column, texts as text_column, above, missing}
+use Rattle.bufr_data.specs.Columns.{filled as is_filled, ones as ones_text}
+use Rattle.bufr_data.proofs.ColumnFacts.{power_positive, pairwise_length, ones_of, all_ones_of}
+use Rattle.bufr_data.proofs.ColumnFacts.{strictly}
 use Rattle.bufr_bits.specs.NumberLaws.{length-fields}
 use Rattle.bufr_data.proofs.PlainFacts.{and_first, and_second}
-use Rattle.bufr_data.proofs.ColumnWalks.{AllForm, column_form, text_kind, all_equal_is, all_equal_again, are_equal}
+use Rattle.bufr_data.proofs.ColumnWalks.{AllForm, column_form, text_kind, all_equal_is}
+use Rattle.bufr_data.proofs.ColumnWalks.{all_equal_again, are_equal}
 use Rattle.bufr_data.specs.ColumnReading.{all_equal}
 use Rattle.std.proofs.Math.Pow.{pow_mono}
-use Rattle.bufr_data.specs.BestColumns.{present, least_with, least, greatest, fewest_bits, increment_of, best_numbers, best_texts, octets_of, best_differing, first_bits, best, widest, can_be_column}
+use Rattle.bufr_data.specs.BestColumns.{present, least_with, least, greatest, fewest_bits}
+use Rattle.bufr_data.specs.BestColumns.{increment_of, best_numbers, best_texts, octets_of}
+use Rattle.bufr_data.specs.BestColumns.{best_differing, first_bits, best, widest, can_be_column}
 use Rattle.bufr_data.specs.FormLaws.{same_kind_is}
 
 -- ---- the fewest bits
@@ -43,7 +52,8 @@ fewest_by more k d wide false e le fits after =
       | inl lt ↦ let h = after lt in (h.0, h.1, omega (arith, h.2))
       | inr ge ↦
           let same : wide ≡ k = omega (arith, le, ge) in
-          let yes : nat_le (d + 2) (2 ^ k) ≡ true = le-leb _ _ (subst (λ n. d + 2 ≤ 2 ^ n) same fits) in
+          let yes : nat_le (d + 2) (2 ^ k) ≡ true =
+          le-leb _ _ (subst (λ n. d + 2 ≤ 2 ^ n) same fits) in
           let bad = sym yes ∙ e in absurd cc
     ]
 
@@ -56,7 +66,8 @@ fewest zero k d wide le room fits =
     let same : wide ≡ k = omega (arith, le, room) in
     (le, subst (λ n. d + 2 ≤ 2 ^ n) same fits, omega arith)
 fewest (suc more) k d wide le room fits =
-    fewest_by more k d wide _ refl le fits (λ lt. fewest more (k + 1) d wide (omega (arith, lt)) (omega (arith, room)) fits)
+    fewest_by more k d wide _ refl le fits
+    (λ lt. fewest more (k + 1) d wide (omega (arith, lt)) (omega (arith, room)) fits)
 
 -- ---- the least and the greatest
 
@@ -77,8 +88,13 @@ least_with_below : (n : ℕ) (ns : List ℕ) → AllByRecursion (λ m. least_wit
 least_with_below n [] = (omega arith, tt)
 least_with_below n (m ∷ ms) =
     let h = least_with_below n ms in
-    let small : min m (least_with n ms) ≤ least_with n ms = min-le_right m (least_with n ms) in
-    (omega (arith, small, h.0), (min-le_left m (least_with n ms), lower (least_with n ms) (min m (least_with n ms)) ms small h.1))
+    let small : min m (least_with n ms) ≤ least_with n ms = min-le_right m (least_with n ms) in (
+      omega (arith, small, h.0),
+      (
+        min-le_left m (least_with n ms),
+        lower (least_with n ms) (min m (least_with n ms)) ms small h.1,
+      ),
+    )
 
 -- the least is below each number
 pub least_below : (ns : List ℕ) → AllByRecursion (λ m. least ns ≤ m) ns
@@ -88,7 +104,11 @@ least_below (n ∷ ns) = least_with_below n ns
 -- the greatest is above each number
 pub greatest_above : (ns : List ℕ) → AllByRecursion (λ m. m ≤ greatest ns) ns
 greatest_above [] = tt
-greatest_above (n ∷ ns) = (le-max_left n (greatest ns), higher (greatest ns) (max n (greatest ns)) ns (le-max_right n (greatest ns)) (greatest_above ns))
+greatest_above (n ∷ ns) = (
+  le-max_left n (greatest ns),
+  higher (greatest ns) (max n (greatest ns)) ns (le-max_right n (greatest ns))
+      (greatest_above ns),
+)
 
 -- a bound of all numbers is one of their least
 above_least : (a n : ℕ) (ns : List ℕ) → a ≤ n → AllByRecursion (λ m. a ≤ m) ns → a ≤ least_with n ns
@@ -127,7 +147,8 @@ to_present_by width P n ns false e each all = (each e, all)
 pub to_present : (width : ℕ) (P : ℕ → Type 0) (ns : List ℕ)
     → AllByRecursion (λ n. all_ones width n ≡ false → P n) ns → AllByRecursion P (present width ns)
 to_present width P [] all = tt
-to_present width P (n ∷ ns) all = to_present_by width P n ns _ refl all.0 (to_present width P ns all.1)
+to_present width P (n ∷ ns) all =
+    to_present_by width P n ns _ refl all.0 (to_present width P ns all.1)
 
 -- ---- the increments that are written
 
@@ -141,7 +162,8 @@ best_one_by width minimum k high n true e below between fits =
 best_one_by width minimum k high n false e below between fits =
     let h = between e in
     let back : minimum + (n - minimum) ≡ n = omega (arith, h.0) in
-    above (omega (arith, h.0, h.1, fits)) (subst (λ m. m < 2 ^ width) (sym back) below) (ap (λ m. Number m) (sym back))
+    above (omega (arith, h.0, h.1, fits)) (subst (λ m. m < 2 ^ width) (sym back) below)
+    (ap (λ m. Number m) (sym back))
 
 -- so has each number
 pub best_each : (width minimum k high : ℕ) (ns : List ℕ) → AllByRecursion (λ n. n < 2 ^ width) ns
@@ -150,8 +172,10 @@ pub best_each : (width minimum k high : ℕ) (ns : List ℕ) → AllByRecursion 
     → Pairwise (HasIncrement width minimum k) (map (increment_of width minimum k) ns)
     (map (λ n. Number n) ns)
 best_each width minimum k high [] below between fits = tt
-best_each width minimum k high (n ∷ ns) below between fits =
-    (best_one_by width minimum k high n _ refl below.0 between.0 fits, best_each width minimum k high ns below.1 between.1 fits)
+best_each width minimum k high (n ∷ ns) below between fits = (
+  best_one_by width minimum k high n _ refl below.0 between.0 fits,
+  best_each width minimum k high ns below.1 between.1 fits,
+)
 
 -- two facts of all numbers are one
 pub both : (P Q : ℕ → Type 0) (ns : List ℕ) → AllByRecursion P ns → AllByRecursion Q ns
@@ -173,7 +197,9 @@ weaken P Q (n ∷ ns) h all = (h n all.0, weaken P Q ns h all.1)
 
 -- a column of numbers begins with its width and six bits
 size_of_head : (width minimum k : ℕ) → length (bin width minimum ++ bin 6 k) ≡ width + 6
-size_of_head width minimum k = length-append (bin width minimum) (bin 6 k) ∙ (λ i. length-bin width minimum i + length-bin 6 k i)
+size_of_head width minimum k =
+    length-append (bin width minimum) (bin 6 k)
+    ∙ (λ i. length-bin width minimum i + length-bin 6 k i)
 
 -- a sum with a greater part is no less
 add_le : (a : ℕ) {b c : ℕ} → b ≤ c → a + b ≤ a + c
@@ -198,18 +224,31 @@ best_found spec ns wide other few below some short fits =
     let minimum = least here in
     let k = fewest_bits 63 1 (greatest here - minimum) in
     let h = fewest 63 1 (greatest here - minimum) wide some (omega (arith, short)) fits in
-    let between = of_present spec.width (λ n. (minimum ≤ n) × (n ≤ greatest here)) ns (both (λ n. minimum ≤ n) (λ n. n ≤ greatest here) here (least_below here) (greatest_above here)) in
-    let inside : AllByRecursion (λ n. n < 2 ^ spec.width) here = to_present spec.width (λ n. n < 2 ^ spec.width) ns (weaken (λ n. n < 2 ^ spec.width) (λ n. all_ones spec.width n ≡ false → n < 2 ^ spec.width) ns (λ n lt no. lt) below) in
+    let between =
+    of_present spec.width (λ n. (minimum ≤ n) × (n ≤ greatest here)) ns
+    (both (λ n. minimum ≤ n) (λ n. n ≤ greatest here) here (least_below here)
+    (greatest_above here)) in
+    let inside : AllByRecursion (λ n. n < 2 ^ spec.width) here =
+    to_present spec.width (λ n. n < 2 ^ spec.width) ns
+    (weaken (λ n. n < 2 ^ spec.width)
+    (λ n. all_ones spec.width n ≡ false → n < 2 ^ spec.width) ns (λ n lt no. lt) below) in
     let form = of_number minimum other few (least_fits spec.width here inside) in
     let each = best_each spec.width minimum k (greatest here) ns below between h.1 in
     let increments = map (increment_of spec.width minimum k) ns in
     let many : length increments ≡ length ns = length-map ns (increment_of spec.width minimum k) in
-    let size : length (bin spec.width minimum ++ bin 6 k ++ flat_map (bin k) increments) ≡ spec.width + 6 + length ns * k =
+    let size : length (bin spec.width minimum ++ bin 6 k ++ flat_map (bin k) increments)
+    ≡ spec.width + 6 + length ns * k =
     length-append (bin spec.width minimum ++ bin 6 k) (flat_map (bin k) increments)
-    ∙ (λ i. size_of_head spec.width minimum k i + (length-fields k increments ∙ ap (λ l. l * k) many) i) in
+    ∙
+    (λ i. size_of_head spec.width minimum k i +
+    (length-fields k increments ∙ ap (λ l. l * k) many) i) in
     record {
-      column = number_column minimum k increments form (omega (arith, h.2)) (omega (arith, h.0, short)) each refl;
-      narrow = subst (λ l. l ≤ spec.width + 6 + length ns * wide) (sym size) (add_le (spec.width + 6) (mul_le (length ns) k wide h.0));
+      column =
+          number_column minimum k increments form (omega (arith, h.2))
+          (omega (arith, h.0, short)) each refl;
+      narrow =
+          subst (λ l. l ≤ spec.width + 6 + length ns * wide) (sym size)
+          (add_le (spec.width + 6) (mul_le (length ns) k wide h.0));
     }
 
 -- ---- values and their numbers
@@ -236,10 +275,22 @@ raw_narrow spec v other (of_number n kind few below) = length-bin spec.width n
 column_wide : (spec : Spec) (values : List Raw) (column : List Bool) → (spec.kind ≡ kinds.Text → ⊥)
     → IsColumn spec values column → spec.width + 6 ≤ length column
 column_wide spec values column other (equal minimum form same is) =
-    omega (arith, ap length is, length-append (raw_bits spec.width minimum) (bin 6 0), length-bin 6 0, raw_narrow spec minimum other form)
+    omega (
+      arith,
+      ap length is,
+      length-append (raw_bits spec.width minimum) (bin 6 0),
+      length-bin 6 0,
+      raw_narrow spec minimum other form,
+    )
 column_wide spec values column other (number_column minimum k increments form one few each is) =
-    omega (arith, ap length is, length-append (bin spec.width minimum ++ bin 6 k) (flat_map (bin k) increments), size_of_head spec.width minimum k)
-column_wide spec values column other (text_column ignored k own form one few short each is) = absurd (other (text_kind spec ignored form))
+    omega (
+      arith,
+      ap length is,
+      length-append (bin spec.width minimum ++ bin 6 k) (flat_map (bin k) increments),
+      size_of_head spec.width minimum k,
+    )
+column_wide spec values column other (text_column ignored k own form one few short each is) =
+    absurd (other (text_kind spec ignored form))
 
 -- the numbers of raw values are these values, and fit
 numbers_back : (spec : Spec) (values : List Raw) → (spec.kind ≡ kinds.Text → ⊥)
@@ -276,7 +327,8 @@ best_equal spec (v ∷ vs) some all same = equal v all.0 (refl, are_equal v vs s
 -- values that differ are not all one value
 differ : (values : List Raw) (v : Raw) → all_equal values ≡ false
     → AllByRecursion (λ w. w ≡ v) values → ⊥
-differ values v not_same same = let yes = all_equal_again v values same in let bad = sym yes ∙ not_same in cc
+differ values v not_same same =
+    let yes = all_equal_again v values same in let bad = sym yes ∙ not_same in cc
 
 -- ---- no column has narrower increments
 
@@ -289,7 +341,8 @@ present_one : (width minimum k x : ℕ) (v : Raw) → HasIncrement width minimum
     → all_ones width (number_of v) ≡ false
     → (minimum ≤ number_of v) × (number_of v ≤ minimum + 2 ^ k - 2)
 present_one width minimum k x v (above below room is) here =
-    let n : number_of v ≡ minimum + x = ap number_of is in (omega (arith, n), omega (arith, n, below))
+    let n : number_of v ≡ minimum + x =
+    ap number_of is in (omega (arith, n), omega (arith, n, below))
 present_one width minimum k x v (missing ones is) here =
     let n : number_of v ≡ 2 ^ width - 1 = ap number_of is in
     let yes : all_ones width (number_of v) ≡ true = ap (all_ones width) n ∙ not_present width in
@@ -301,7 +354,8 @@ present_each : (width minimum k : ℕ) (xs : List ℕ) (vs : List Raw)
     → AllByRecursion (λ n. all_ones width n ≡ false → (minimum ≤ n) × (n ≤ minimum + 2 ^ k - 2))
     (map number_of vs)
 present_each width minimum k [] [] h = tt
-present_each width minimum k (x ∷ xs) (v ∷ vs) h = (present_one width minimum k x v h.0, present_each width minimum k xs vs h.1)
+present_each width minimum k (x ∷ xs) (v ∷ vs) h =
+    (present_one width minimum k x v h.0, present_each width minimum k xs vs h.1)
 present_each width minimum k [] (v ∷ vs) h = absurd h
 present_each width minimum k (x ∷ xs) [] h = absurd h
 
@@ -312,8 +366,14 @@ differences : (minimum k : ℕ) (ns : List ℕ) → 0 < k
 differences minimum k [] some all = let two : 2 ^ 1 ≤ 2 ^ k = pow_mono some in omega (arith, two)
 differences minimum k (n ∷ ns) some all =
     let two : 2 ^ 1 ≤ 2 ^ k = pow_mono some in
-    let low : minimum ≤ least (n ∷ ns) = above_least minimum n ns all.0.0 (weaken (λ n. (minimum ≤ n) × (n ≤ minimum + 2 ^ k - 2)) (λ m. minimum ≤ m) ns (λ m h. h.0) all.1) in
-    let high : greatest (n ∷ ns) ≤ minimum + 2 ^ k - 2 = below_greatest (minimum + 2 ^ k - 2) (n ∷ ns) (weaken (λ n. (minimum ≤ n) × (n ≤ minimum + 2 ^ k - 2)) (λ m. m ≤ minimum + 2 ^ k - 2) (n ∷ ns) (λ m h. h.1) all) in
+    let low : minimum ≤ least (n ∷ ns) =
+    above_least minimum n ns all.0.0
+    (weaken (λ n. (minimum ≤ n) × (n ≤ minimum + 2 ^ k - 2)) (λ m. minimum ≤ m) ns
+    (λ m h. h.0) all.1) in
+    let high : greatest (n ∷ ns) ≤ minimum + 2 ^ k - 2 =
+    below_greatest (minimum + 2 ^ k - 2) (n ∷ ns)
+    (weaken (λ n. (minimum ≤ n) × (n ≤ minimum + 2 ^ k - 2)) (λ m. m ≤ minimum + 2 ^ k - 2)
+    (n ∷ ns) (λ m h. h.1) all) in
     omega (arith, two, low, high)
 
 -- the best column is a column, and no longer than another one
@@ -329,22 +389,40 @@ fewest_by_kind : (spec : Spec) (values : List Raw) (minimum k : ℕ) (increments
 fewest_by_kind spec values minimum k increments column other some all one few each is =
     let ns = map number_of values in
     let back = numbers_back spec values other all in
-    let inside = to_present spec.width (λ n. (minimum ≤ n) × (n ≤ minimum + 2 ^ k - 2)) ns (present_each spec.width minimum k increments values each) in
-    let found = best_found spec ns k other (numbers_narrow spec values other some all) back.1 one few (differences minimum k (present spec.width ns) one inside) in
-    let many : length increments ≡ length ns = pairwise_length _ increments values each ∙ sym (length-map values number_of) in
-    let size : length (bin spec.width minimum ++ bin 6 k ++ flat_map (bin k) increments) ≡ spec.width + 6 + length ns * k =
+    let inside =
+    to_present spec.width (λ n. (minimum ≤ n) × (n ≤ minimum + 2 ^ k - 2)) ns
+    (present_each spec.width minimum k increments values each) in
+    let found =
+    best_found spec ns k other (numbers_narrow spec values other some all) back.1 one few
+    (differences minimum k (present spec.width ns) one inside) in
+    let many : length increments ≡ length ns =
+    pairwise_length _ increments values each ∙ sym (length-map values number_of) in
+    let size : length (bin spec.width minimum ++ bin 6 k ++ flat_map (bin k) increments)
+    ≡ spec.width + 6 + length ns * k =
     length-append (bin spec.width minimum ++ bin 6 k) (flat_map (bin k) increments)
-    ∙ (λ i. size_of_head spec.width minimum k i + (length-fields k increments ∙ ap (λ l. l * k) many) i) in
+    ∙
+    (λ i. size_of_head spec.width minimum k i +
+    (length-fields k increments ∙ ap (λ l. l * k) many) i) in
     let same = differing_is spec.kind spec.width values other in
-    subst (λ b. IsBest spec values b column) (sym same)
-    (subst (λ vs. IsColumn spec vs (best_numbers spec.width ns)) back.0 found.column, subst (λ l. length (best_numbers spec.width ns) ≤ l) (sym (ap length is ∙ size)) found.narrow)
+    subst (λ b. IsBest spec values b column) (sym same) (
+      subst (λ vs. IsColumn spec vs (best_numbers spec.width ns)) back.0 found.column,
+      subst (λ l. length (best_numbers spec.width ns) ≤ l)
+          (sym (ap length is ∙ size)) found.narrow,
+    )
 
 -- a column of equal numbers is never shorter than R0 alone
 equal_narrow : (spec : Spec) (values : List Raw) (column : List Bool) → (spec.kind ≡ kinds.Text → ⊥)
     → 0 < length values → AllForm spec values → IsColumn spec values column
     → length (first_bits spec.width values ++ bin 6 0) ≤ length column
 equal_narrow spec [] column other some all c = absurd (omega (arith, some))
-equal_narrow spec (v ∷ vs) column other some all c = omega (arith, length-append (raw_bits spec.width v) (bin 6 0), length-bin 6 0, raw_narrow spec v other all.0, column_wide spec (v ∷ vs) column other c)
+equal_narrow spec (v ∷ vs) column other some all c =
+    omega (
+      arith,
+      length-append (raw_bits spec.width v) (bin 6 0),
+      length-bin 6 0,
+      raw_narrow spec v other all.0,
+      column_wide spec (v ∷ vs) column other c,
+    )
 
 -- the step of `best_fewest`, by whether the values are all the same
 best_fewest_by : (spec : Spec) (values : List Raw) (column : List Bool) (b : Bool)
@@ -354,11 +432,19 @@ best_fewest_by : (spec : Spec) (values : List Raw) (column : List Bool) (b : Boo
     (cond b (first_bits spec.width values ++ bin 6 0)
     (best_differing spec.kind spec.width values)) column
 best_fewest_by spec values column true e other some c =
-    let all = column_form spec values column c in (best_equal spec values some all e, equal_narrow spec values column other some all c)
-best_fewest_by spec values column false e other some (equal minimum form same is) = absurd (differ values minimum e same)
-best_fewest_by spec values column false e other some (number_column minimum k increments form one few each is) =
-    fewest_by_kind spec values minimum k increments column other some (column_form spec values column (number_column minimum k increments form one few each is)) one few each is
-best_fewest_by spec values column false e other some (text_column ignored k own form one few short each is) = absurd (other (text_kind spec ignored form))
+    let all =
+    column_form spec values column c in
+    (best_equal spec values some all e, equal_narrow spec values column other some all c)
+best_fewest_by spec values column false e other some (equal minimum form same is) =
+    absurd (differ values minimum e same)
+best_fewest_by spec values column false e other some
+    (number_column minimum k increments form one few each is) =
+    fewest_by_kind spec values minimum k increments column other some
+    (column_form spec values column
+    (number_column minimum k increments form one few each is)) one few each is
+best_fewest_by spec values column false e other some
+    (text_column ignored k own form one few short each is) = absurd
+    (other (text_kind spec ignored form))
 
 -- wherever numbers stand in a column they stand in the best one, which is the shortest
 pub best_fewest : (spec : Spec) (values : List Raw) (column : List Bool)
@@ -383,16 +469,22 @@ whole_text_by octets os true e size all =
     ones_text ones (ap (λ xs. Text xs) ones)
 whole_text_by octets os false e size all =
     let none : octets - octets ≡ 0 = omega arith in
-    let alone : os ++ replicate (octets - octets) 32 ≡ os = ap (λ n. os ++ replicate n 32) none ∙ append-nil os in
-    is_filled size all (λ is. let yes : list_all (λ x. x == 255) os ≡ true = ap (list_all (λ x. x == 255)) is ∙ all_ones_of octets in let bad = sym yes ∙ e in cc) (ap (λ xs. Text xs) (sym alone))
+    let alone : os ++ replicate (octets - octets) 32 ≡ os =
+    ap (λ n. os ++ replicate n 32) none ∙ append-nil os in
+    is_filled size all
+    (λ is. let yes : list_all (λ x. x == 255) os ≡ true = ap (list_all (λ x. x == 255)) is
+    ∙ all_ones_of octets in let bad = sym yes ∙ e in cc) (ap (λ xs. Text xs) (sym alone))
 
 -- so do all of them
 whole_texts : (spec : Spec) (values : List Raw) → spec.kind ≡ kinds.Text → AllForm spec values
     → Pairwise (HasText (spec.width / 8) (spec.width / 8)) (map octets_of values) values
 whole_texts spec [] is all = tt
 whole_texts spec (v ∷ vs) is all =
-    let h = text_of_form spec v is all.0 in
-    (subst (λ w. HasText (spec.width / 8) (spec.width / 8) (octets_of v) w) (sym h.0) (whole_text_by (spec.width / 8) (octets_of v) _ refl h.1 h.2), whole_texts spec vs is all.1)
+    let h = text_of_form spec v is all.0 in (
+      subst (λ w. HasText (spec.width / 8) (spec.width / 8) (octets_of v) w) (sym h.0)
+          (whole_text_by (spec.width / 8) (octets_of v) _ refl h.1 h.2),
+      whole_texts spec vs is all.1,
+    )
 
 -- a text of no octet is empty
 no_text : (os : List ℕ) → length os ≡ 0 → os ≡ []
@@ -413,7 +505,8 @@ some_octets : (spec : Spec) (values : List Raw) → spec.kind ≡ kinds.Text →
 some_octets spec values is e all =
     elim (cases_lt 0 (spec.width / 8)) [
       | inl lt ↦ lt
-      | inr ge ↦ absurd (differ values (Text []) e (no_texts spec values is (omega (arith, ge)) all))
+      | inr ge ↦
+          absurd (differ values (Text []) e (no_texts spec values is (omega (arith, ge)) all))
     ]
 
 -- zeros are octets
@@ -432,12 +525,15 @@ best_of_texts : (spec : Spec) (values : List Raw) → spec.kind ≡ kinds.Text
     → IsColumn spec values (best_differing spec.kind spec.width values)
 best_of_texts spec values is e all short =
     let form = of_text (replicate (spec.width / 8) 0) is (length-replicate _ _) (zeros_below _) in
-    text_column (replicate (spec.width / 8) 0) (spec.width / 8) (map octets_of values) form (some_octets spec values is e all) (omega (arith, short)) (omega arith)
+    text_column (replicate (spec.width / 8) 0) (spec.width / 8) (map octets_of values) form
+    (some_octets spec values is e all) (omega (arith, short)) (omega arith)
     (whole_texts spec values is all) (differing_texts spec.kind spec.width values is)
 
 -- numbers of 63 bits at most stand in a column
 pub narrow_each : (width n : ℕ) → n < 2 ^ width → all_ones width n ≡ false → n + 2 ≤ 2 ^ width
-narrow_each width n below e = omega (arith, strictly (n + 1) (2 ^ width) (omega (arith, below)) (eqb-false (n + 1) (2 ^ width) e))
+narrow_each width n below e =
+    omega
+    (arith, strictly (n + 1) (2 ^ width) (omega (arith, below)) (eqb-false (n + 1) (2 ^ width) e))
 
 -- the best numbers are a column
 best_of_numbers : (spec : Spec) (values : List Raw) → (spec.kind ≡ kinds.Text → ⊥)
@@ -447,10 +543,17 @@ best_of_numbers spec values other some all short =
     let ns = map number_of values in
     let back = numbers_back spec values other all in
     let wide : 2 ^ spec.width ≤ 2 ^ 63 = pow_mono short in
-    let inside = to_present spec.width (λ n. n ≤ 2 ^ spec.width - 2) ns (weaken (λ n. n < 2 ^ spec.width) (λ n. all_ones spec.width n ≡ false → n ≤ 2 ^ spec.width - 2) ns (λ n lt e. omega (arith, narrow_each spec.width n lt e)) back.1) in
+    let inside =
+    to_present spec.width (λ n. n ≤ 2 ^ spec.width - 2) ns
+    (weaken (λ n. n < 2 ^ spec.width)
+    (λ n. all_ones spec.width n ≡ false → n ≤ 2 ^ spec.width - 2) ns
+    (λ n lt e. omega (arith, narrow_each spec.width n lt e)) back.1) in
     let high = below_greatest (2 ^ spec.width - 2) (present spec.width ns) inside in
-    let fits : greatest (present spec.width ns) - least (present spec.width ns) + 2 ≤ 2 ^ 63 = omega (arith, wide, high) in
-    let found = best_found spec ns 63 other (omega (arith, short)) back.1 (omega arith) (omega arith) fits in
+    let fits : greatest (present spec.width ns) - least (present spec.width ns) + 2 ≤ 2 ^ 63 =
+    omega (arith, wide, high) in
+    let found =
+    best_found spec ns 63 other (omega (arith, short)) back.1 (omega arith)
+    (omega arith) fits in
     subst (λ b. IsColumn spec values b) (sym (differing_is spec.kind spec.width values other))
     (subst (λ vs. IsColumn spec vs (best_numbers spec.width ns)) back.0 found.column)
 
@@ -464,9 +567,14 @@ best_of_kind : (spec : Spec) (values : List Raw) (text : Bool)
     → same_kind spec.kind kinds.Text ≡ text → 0 < length values → all_equal values ≡ false
     → AllForm spec values → nat_le (cond text (spec.width / 8) spec.width) 63 ≡ true
     → IsColumn spec values (best_differing spec.kind spec.width values)
-best_of_kind spec values true is some e all short = best_of_texts spec values (same_kind_is spec.kind kinds.Text is) e all (leb-true _ _ short)
+best_of_kind spec values true is some e all short =
+    best_of_texts spec values (same_kind_is spec.kind kinds.Text is) e all (leb-true _ _ short)
 best_of_kind spec values false is some e all short =
-    best_of_numbers spec values (λ t. let yes : same_kind spec.kind kinds.Text ≡ true = ap (λ k. same_kind k kinds.Text) t in let bad = sym yes ∙ is in cc) some all (leb-true _ _ short)
+    best_of_numbers spec values
+    (λ t. let yes : same_kind spec.kind kinds.Text
+    ≡ true =
+    ap (λ k. same_kind k kinds.Text) t in let bad =
+    sym yes ∙ is in cc) some all (leb-true _ _ short)
 
 -- the step of `best_column`, by whether the values are all the same
 best_column_by : (spec : Spec) (values : List Raw) (b : Bool) → all_equal values ≡ b
@@ -475,8 +583,11 @@ best_column_by : (spec : Spec) (values : List Raw) (b : Bool) → all_equal valu
     (cond b (first_bits spec.width values ++ bin 6 0) (best_differing spec.kind spec.width values))
 best_column_by spec values true e some all can = best_equal spec values some all e
 best_column_by spec values false e some all can =
-    let short = or_false (all_equal values) (not (same_kind spec.kind kinds.Count) && nat_le (widest spec) 63) can e in
-    best_of_kind spec values _ refl some e all (and_second (not (same_kind spec.kind kinds.Count)) (nat_le (widest spec) 63) short)
+    let short =
+    or_false (all_equal values)
+    (not (same_kind spec.kind kinds.Count) && nat_le (widest spec) 63) can e in
+    best_of_kind spec values _ refl some e all
+    (and_second (not (same_kind spec.kind kinds.Count)) (nat_le (widest spec) 63) short)
 
 -- values that can be a column stand in the best one
 pub best_column : (spec : Spec) (values : List Raw) → 0 < length values → AllForm spec values
@@ -489,9 +600,13 @@ one_count_by : (spec : Spec) (values : List Raw) (b : Bool) → all_equal values
     → (v : Raw) × AllByRecursion (λ w. w ≡ v) values
 one_count_by spec values true e can is = all_equal_is values e
 one_count_by spec values false e can is =
-    let short = or_false (all_equal values) (not (same_kind spec.kind kinds.Count) && nat_le (widest spec) 63) can e in
-    let no_count = and_first (not (same_kind spec.kind kinds.Count)) (nat_le (widest spec) 63) short in
-    let yes : not (same_kind spec.kind kinds.Count) ≡ false = ap (λ k. not (same_kind k kinds.Count)) is in
+    let short =
+    or_false (all_equal values)
+    (not (same_kind spec.kind kinds.Count) && nat_le (widest spec) 63) can e in
+    let no_count =
+    and_first (not (same_kind spec.kind kinds.Count)) (nat_le (widest spec) 63) short in
+    let yes : not (same_kind spec.kind kinds.Count) ≡ false =
+    ap (λ k. not (same_kind k kinds.Count)) is in
     let bad = sym yes ∙ no_count in absurd cc
 
 -- values of a factor that can be a column are all one value

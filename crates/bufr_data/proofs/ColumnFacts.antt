@@ -1,9 +1,13 @@
 -- What is read from bits are exactly the values of a column: for the law on columns
 -- (`columns_hold_values`) and for that on data (`data_hold_subsets`).
-use Rattle.std.proofs.Common.{◌≡◌, ℕ, zero, suc, ◌+◌, ◌-◌, ◌/◌, ◌^◌, ◌<◌, ◌≤◌, Bool, true, false, cond, ltb, List, [], ◌∷◌, ◌++◌, length, map, replicate, Option, Some, None, Result, Ok, Err, refl, sym, ap, subst, ◌∙◌, arith, append_assoc, inl, inr}
+use Rattle.std.proofs.Common.{◌≡◌, ℕ, zero, suc, ◌+◌, ◌-◌, ◌/◌, ◌^◌, ◌<◌, ◌≤◌, Bool, true, false}
+use Rattle.std.proofs.Common.{cond, ltb, List, [], ◌∷◌, ◌++◌, length, map, replicate, Option, Some}
+use Rattle.std.proofs.Common.{None, Result, Ok, Err, refl, sym, ap, subst, ◌∙◌, arith, append_assoc}
+use Rattle.std.proofs.Common.{inl, inr}
 use Rattle.std.specs.Prelude.{◌==◌, nat_lt}
 use Rattle.std.specs.List.{AllByRecursion, flat_map, list_all}
-use Rattle.std.proofs.lemmas.Bool.{cases_lt, le-ltb, lt-ltb, ltb-true, eqb-true, eqb-false, eq-eqb, ltb-false}
+use Rattle.std.proofs.lemmas.Bool.{cases_lt, le-ltb, lt-ltb, ltb-true, eqb-true, eqb-false, eq-eqb}
+use Rattle.std.proofs.lemmas.Bool.{ltb-false}
 use Rattle.std.proofs.lemmas.List.{length-replicate, length-map}
 use Rattle.bufr_tables.specs.AnswerLaws.{bind_ok, guard_ok, ok_is}
 use Rattle.bufr_bits.specs.Bits.{bin, bits, number, number_at, numbers_at, octets_at}
@@ -15,8 +19,11 @@ use Rattle.bufr_data.specs.declared.field.Raw.TheVariants.{Number, Text}
 use Rattle.bufr_data.specs.declared.fault.ReadFault.{ReadFault}
 use Rattle.bufr_data.specs.Plain.{raw_bits, raw_at}
 use Rattle.bufr_data.specs.Fits.{HasForm}
-use Rattle.bufr_data.specs.Columns.{Pairwise, HasIncrement, HasText, IsColumn, equal, numbers as number_column, texts as text_column, above, missing, filled as is_filled, ones as ones_text}
-use Rattle.bufr_data.specs.ColumnReading.{or_ends, raised, value_then, all_raised, filled, text_then, texts_then, texts_at, values_at, column_at}
+use Rattle.bufr_data.specs.Columns.{Pairwise, HasIncrement, HasText, IsColumn, equal}
+use Rattle.bufr_data.specs.Columns.{numbers as number_column, texts as text_column, above, missing}
+use Rattle.bufr_data.specs.Columns.{filled as is_filled, ones as ones_text}
+use Rattle.bufr_data.specs.ColumnReading.{or_ends, raised, value_then, all_raised, filled}
+use Rattle.bufr_data.specs.ColumnReading.{text_then, texts_then, texts_at, values_at, column_at}
 use Rattle.bufr_data.specs.FormLaws.{form_passes, form_is}
 use Rattle.bufr_data.proofs.PlainFacts.{and_first, and_second, raw_again, raw_read}
 
@@ -25,7 +32,8 @@ use Rattle.bufr_data.proofs.PlainFacts.{and_first, and_second, raw_again, raw_re
 -- a power of two is positive
 pub power_positive : (w : ℕ) → 0 < 2 ^ w
 power_positive w =
-    let below : number (bin w 0) < 2 ^ w = subst (λ k. number (bin w 0) < 2 ^ k) (length-bin w 0) (number_below (bin w 0)) in
+    let below : number (bin w 0) < 2 ^ w =
+    subst (λ k. number (bin w 0) < 2 ^ k) (length-bin w 0) (number_below (bin w 0)) in
     omega (arith, below)
 
 -- the step of `not_equal`
@@ -43,7 +51,8 @@ pub raised_again : (width minimum k x : ℕ) (v : Raw) → HasIncrement width mi
 raised_again width minimum k x v (above below room is) =
     let some : x + 1 == 2 ^ k ≡ false = not_equal (x + 1) (2 ^ k) (λ e. omega (arith, below, e)) in
     rw (some, lt-ltb (minimum + x) (2 ^ width) room) (ap (λ r. Some r) (sym is))
-raised_again width minimum k x v (missing ones is) = rw (eq-eqb (x + 1) (2 ^ k) ones) (ap (λ r. Some r) (sym is))
+raised_again width minimum k x v (missing ones is) =
+    rw (eq-eqb (x + 1) (2 ^ k) ones) (ap (λ r. Some r) (sym is))
 
 -- a number that is not another and not above it is below it
 pub strictly : (a b : ℕ) → a ≤ b → (a ≡ b → ⊥) → a < b
@@ -58,9 +67,11 @@ raised_by : (width minimum k x : ℕ) (v : Raw) → x < 2 ^ k → (ones : Bool) 
     → (x + 1 == 2 ^ k) ≡ ones → nat_lt (minimum + x) (2 ^ width) ≡ room
     → cond ones (Some (Number (2 ^ width - 1))) (cond room (Some (Number (minimum + x))) None)
     ≡ Some v → HasIncrement width minimum k x v
-raised_by width minimum k x v below true room o r e = missing (eqb-true (x + 1) (2 ^ k) o) (sym (some_is _ _ e))
+raised_by width minimum k x v below true room o r e =
+    missing (eqb-true (x + 1) (2 ^ k) o) (sym (some_is _ _ e))
 raised_by width minimum k x v below false true o r e =
-    above (strictly (x + 1) (2 ^ k) (omega (arith, below)) (eqb-false (x + 1) (2 ^ k) o)) (ltb-true (minimum + x) (2 ^ width) r) (sym (some_is _ _ e))
+    above (strictly (x + 1) (2 ^ k) (omega (arith, below)) (eqb-false (x + 1) (2 ^ k) o))
+    (ltb-true (minimum + x) (2 ^ width) r) (sym (some_is _ _ e))
 raised_by width minimum k x v below false false o r e = absurd cc
 
 -- what is read of an increment is its value
@@ -73,7 +84,10 @@ all_raised_again : (j i width minimum k : ℕ) (xs : List ℕ) (vs : List Raw)
     → Pairwise (HasIncrement width minimum k) xs vs → all_raised j i width minimum k xs ≡ Ok vs
 all_raised_again j i width minimum k [] [] h = refl
 all_raised_again j i width minimum k (x ∷ xs) (v ∷ vs) h =
-    rw (raised_again width minimum k x v h.0, all_raised_again (j + 1) i width minimum k xs vs h.1) refl
+    rw (
+      raised_again width minimum k x v h.0,
+      all_raised_again (j + 1) i width minimum k xs vs h.1,
+    ) refl
 all_raised_again j i width minimum k [] (v ∷ vs) h = absurd h
 all_raised_again j i width minimum k (x ∷ xs) [] h = absurd h
 
@@ -92,9 +106,13 @@ all_raised_found : (j i width minimum k : ℕ) (xs : List ℕ) (vs : List Raw)
 all_raised_found j i width minimum k [] [] all e = tt
 all_raised_found j i width minimum k [] (v ∷ vs) all e = absurd cc
 all_raised_found j i width minimum k (x ∷ xs) vs all e =
-    let h = value_then_found j i (raised width minimum k x) (all_raised (j + 1) i width minimum k xs) vs e in
-    subst (λ us. Pairwise (HasIncrement width minimum k) (x ∷ xs) us) h.4
-    (raised_found width minimum k x h.0 all.0 h.2, all_raised_found (j + 1) i width minimum k xs h.1 all.1 h.3)
+    let h =
+    value_then_found j i (raised width minimum k x)
+    (all_raised (j + 1) i width minimum k xs) vs e in
+    subst (λ us. Pairwise (HasIncrement width minimum k) (x ∷ xs) us) h.4 (
+      raised_found width minimum k x h.0 all.0 h.2,
+      all_raised_found (j + 1) i width minimum k xs h.1 all.1 h.3,
+    )
 
 -- ---- texts
 
@@ -122,13 +140,15 @@ filled_by : (octets k : ℕ) (own : List ℕ) (b : Bool) → length own ≡ k
     → list_all (λ x. x == 255) own ≡ b → (own ≡ replicate k 255 → ⊥)
     → cond b (Text (replicate octets 255)) (Text (own ++ replicate (octets - length own) 32))
     ≡ Text (own ++ replicate (octets - k) 32)
-filled_by octets k own true size e other = absurd (other (ones_of own e ∙ ap (λ n. replicate n 255) size))
+filled_by octets k own true size e other =
+    absurd (other (ones_of own e ∙ ap (λ n. replicate n 255) size))
 filled_by octets k own false size e other = ap (λ n. Text (own ++ replicate (octets - n) 32)) size
 
 -- a text in a column is filled to its value
 pub filled_again : (octets k : ℕ) (own : List ℕ) (v : Raw) → HasText octets k own v
     → filled octets own ≡ v
-filled_again octets k own v (is_filled size all other is) = filled_by octets k own _ size refl other ∙ sym is
+filled_again octets k own v (is_filled size all other is) =
+    filled_by octets k own _ size refl other ∙ sym is
 filled_again octets k own v (ones_text is value) =
     rw (is, all_ones_of k) (sym value)
 
@@ -136,17 +156,22 @@ filled_again octets k own v (ones_text is value) =
 pub text_octets : (octets k : ℕ) (own : List ℕ) (v : Raw) → HasText octets k own v
     → (length own ≡ k) × AllByRecursion (λ x. x < 256) own
 text_octets octets k own v (is_filled size all other is) = (size, all)
-text_octets octets k own v (ones_text is value) =
-    (ap length is ∙ length-replicate k 255, subst (λ os. AllByRecursion (λ x. x < 256) os) (sym is) (ones_below k))
+text_octets octets k own v (ones_text is value) = (
+  ap length is ∙ length-replicate k 255,
+  subst (λ os. AllByRecursion (λ x. x < 256) os) (sym is) (ones_below k),
+)
 
 -- the step of `filled_found`, by whether it is all ones
 filled_found_by : (octets k : ℕ) (own : List ℕ) (b : Bool) → length own ≡ k
     → AllByRecursion (λ x. x < 256) own → list_all (λ x. x == 255) own ≡ b
     → HasText octets k own
     (cond b (Text (replicate octets 255)) (Text (own ++ replicate (octets - length own) 32)))
-filled_found_by octets k own true size all e = ones_text (ones_of own e ∙ ap (λ n. replicate n 255) size) refl
+filled_found_by octets k own true size all e =
+    ones_text (ones_of own e ∙ ap (λ n. replicate n 255) size) refl
 filled_found_by octets k own false size all e =
-    is_filled size all (λ is. let ones : list_all (λ x. x == 255) own ≡ true = ap (list_all (λ x. x == 255)) is ∙ all_ones_of k in let no = sym ones ∙ e in cc)
+    is_filled size all
+    (λ is. let ones : list_all (λ x. x == 255) own ≡ true = ap (list_all (λ x. x == 255)) is
+    ∙ all_ones_of k in let no = sym ones ∙ e in cc)
     (ap (λ n. Text (own ++ replicate (octets - n) 32)) size)
 
 -- what a text is filled to is its value
@@ -173,12 +198,20 @@ texts_at_again octets k [] vs rest h = refl
 texts_at_again octets k (x ∷ own) [] rest h = absurd h
 texts_at_again octets k (x ∷ own) (v ∷ vs) rest h =
     let is = text_octets octets k x v h.0 in
-    let e : flat_map bits (x ∷ own) ++ rest ≡ bits x ++ (flat_map bits own ++ rest) = append_assoc (bits x) (flat_map bits own) rest in
-    rw (e, numbers_at_again 8 k x (flat_map bits own ++ rest) is.0 is.1, texts_at_again octets k own vs rest h.1) refl
+    let e : flat_map bits (x ∷ own) ++ rest ≡ bits x ++ (flat_map bits own ++ rest) =
+    append_assoc (bits x) (flat_map bits own) rest in
+    rw (
+      e,
+      numbers_at_again 8 k x (flat_map bits own ++ rest) is.0 is.1,
+      texts_at_again octets k own vs rest h.1,
+    ) refl
 
 -- so many texts of so many octets stand at the front, and these bits are left
 abbrev AreTexts : ℕ → ℕ → List Bool → List (List ℕ) × List Bool → Type 0
-AreTexts n k front x = (length x.0 ≡ n) × AllByRecursion (λ own. (length own ≡ k) × AllByRecursion (λ x. x < 256) own) x.0 × (front ≡ flat_map bits x.0 ++ x.1)
+AreTexts n k front x =
+    (length x.0 ≡ n)
+    × AllByRecursion (λ own. (length own ≡ k) × AllByRecursion (λ x. x < 256) own) x.0
+    × (front ≡ flat_map bits x.0 ++ x.1)
 
 -- the step of `texts_at_found`: one text and those behind it
 text_behind : (n k : ℕ) (front : List Bool) (y : List ℕ × List Bool)
@@ -189,8 +222,11 @@ text_behind : (n k : ℕ) (front : List Bool) (y : List ℕ × List Bool)
 text_behind n k front y None x own behind e = absurd cc
 text_behind n k front y (Some z) x own behind e =
     let is = behind z refl in
-    let spelt : front ≡ flat_map bits (y.0 ∷ z.0) ++ z.1 = own.2 ∙ ap (λ os. bits y.0 ++ os) is.2 ∙ sym (append_assoc (bits y.0) (flat_map bits z.0) z.1) in
-    subst (λ p. AreTexts (suc n) k front p) (some_is _ _ e) (ap suc is.0, ((own.0, own.1), is.1), spelt)
+    let spelt : front ≡ flat_map bits (y.0 ∷ z.0) ++ z.1 =
+    own.2 ∙ ap (λ os. bits y.0 ++ os) is.2
+    ∙ sym (append_assoc (bits y.0) (flat_map bits z.0) z.1) in
+    subst (λ p. AreTexts (suc n) k front p) (some_is _ _ e)
+    (ap suc is.0, ((own.0, own.1), is.1), spelt)
 
 -- the same, where the first is read or is not
 texts_joined : (n k : ℕ) (front : List Bool) (o : Option (List ℕ × List Bool))
@@ -201,21 +237,24 @@ texts_joined : (n k : ℕ) (front : List Bool) (o : Option (List ℕ × List Boo
     → AreTexts n k rest z)
     → texts_then o others ≡ Some x → AreTexts (suc n) k front x
 texts_joined n k front None others x first behind e = absurd cc
-texts_joined n k front (Some y) others x first behind e = text_behind n k front y (others y.1) x (first y refl) (λ z h. behind y.1 z h) e
+texts_joined n k front (Some y) others x first behind e =
+    text_behind n k front y (others y.1) x (first y refl) (λ z h. behind y.1 z h) e
 
 -- texts that are read stand there
 pub texts_at_found : (n k : ℕ) (front : List Bool) (x : List (List ℕ) × List Bool)
     → texts_at n k front ≡ Some x → AreTexts n k front x
 texts_at_found zero k front x e = subst (λ p. AreTexts 0 k front p) (some_is _ _ e) (refl, tt, refl)
 texts_at_found (suc n) k front x e =
-    texts_joined n k front (octets_at k front) (λ rest. texts_at n k rest) x (λ y h. numbers_at_found k 8 front y h) (λ rest z h. texts_at_found n k rest z h) e
+    texts_joined n k front (octets_at k front) (λ rest. texts_at n k rest) x
+    (λ y h. numbers_at_found k 8 front y h) (λ rest z h. texts_at_found n k rest z h) e
 
 -- what texts are filled to are their values
 all_filled_found : (octets k : ℕ) (own : List (List ℕ))
     → AllByRecursion (λ x. (length x ≡ k) × AllByRecursion (λ y. y < 256) x) own
     → Pairwise (HasText octets k) own (map (filled octets) own)
 all_filled_found octets k [] all = tt
-all_filled_found octets k (x ∷ own) all = (filled_found octets k x all.0.0 all.0.1, all_filled_found octets k own all.1)
+all_filled_found octets k (x ∷ own) all =
+    (filled_found octets k x all.0.0 all.0.1, all_filled_found octets k own all.1)
 
 -- ---- columns
 
@@ -238,7 +277,8 @@ pub increments_fit : (width minimum k : ℕ) (xs : List ℕ) (vs : List Raw)
     → Pairwise (HasIncrement width minimum k) xs vs → AllByRecursion (λ x. x < 2 ^ k) xs
 increments_fit width minimum k [] vs h = tt
 increments_fit width minimum k (x ∷ xs) [] h = absurd h
-increments_fit width minimum k (x ∷ xs) (v ∷ vs) h = (increment_fits width minimum k x v h.0, increments_fit width minimum k xs vs h.1)
+increments_fit width minimum k (x ∷ xs) (v ∷ vs) h =
+    (increment_fits width minimum k x v h.0, increments_fit width minimum k xs vs h.1)
 
 -- equal values are one value so many times
 pub replicated : (v : Raw) (vs : List Raw) → AllByRecursion (λ w. w ≡ v) vs
@@ -259,7 +299,10 @@ head_again : (n i : ℕ) (spec : Spec) (minimum : Raw) (k : ℕ) (rest : List Bo
     → column_at n i spec (raw_bits spec.width minimum ++ (bin 6 k ++ rest))
     ≡ values_at n i spec minimum k rest
 head_again n i spec minimum k rest form small =
-    rw (raw_again spec.kind spec.width minimum (bin 6 k ++ rest) (form_passes spec minimum form), number_at-bin 6 k rest small) refl
+    rw (
+      raw_again spec.kind spec.width minimum (bin 6 k ++ rest) (form_passes spec minimum form),
+      number_at-bin 6 k rest small,
+    ) refl
 
 -- the three parts of a column, and then the rest
 pub regrouped : (a b c rest : List Bool) → (a ++ b ++ c) ++ rest ≡ a ++ (b ++ (c ++ rest))
@@ -270,24 +313,46 @@ pub column_again : (n i : ℕ) (spec : Spec) (values : List Raw) (column rest : 
     → length values ≡ n → IsColumn spec values column
     → column_at n i spec (column ++ rest) ≡ Ok (values, rest)
 column_again n i spec values column rest many (equal minimum form same is) =
-    let front : column ++ rest ≡ raw_bits spec.width minimum ++ (bin 6 0 ++ rest) = ap (λ xs. xs ++ rest) is ∙ append_assoc (raw_bits spec.width minimum) (bin 6 0) rest in
-    let all : replicate n minimum ≡ values = ap (λ k. replicate k minimum) (sym many) ∙ replicated minimum values same in
-    ap (column_at n i spec) front ∙ head_again n i spec minimum 0 rest form (omega arith) ∙ ap (λ vs. Ok (vs, rest)) all
-column_again n i spec values column rest many (number_column minimum zero increments form some few each is) = absurd (omega (arith, some))
-column_again n i spec values column rest many (number_column minimum (suc k) increments form some few each is) =
-    let front : column ++ rest ≡ bin spec.width minimum ++ (bin 6 (suc k) ++ (flat_map (bin (suc k)) increments ++ rest)) =
-    ap (λ xs. xs ++ rest) is ∙ regrouped (bin spec.width minimum) (bin 6 (suc k)) (flat_map (bin (suc k)) increments) rest in
+    let front : column ++ rest ≡ raw_bits spec.width minimum ++ (bin 6 0 ++ rest) =
+    ap (λ xs. xs ++ rest) is ∙ append_assoc (raw_bits spec.width minimum) (bin 6 0) rest in
+    let all : replicate n minimum ≡ values =
+    ap (λ k. replicate k minimum) (sym many) ∙ replicated minimum values same in
+    ap (column_at n i spec) front ∙ head_again n i spec minimum 0 rest form (omega arith)
+    ∙ ap (λ vs. Ok (vs, rest)) all
+column_again n i spec values column rest many
+    (number_column minimum zero increments form some few each is) = absurd (omega (arith, some))
+column_again n i spec values column rest many
+    (number_column minimum (suc k) increments form some few each is) =
+    let front : column ++ rest ≡ bin spec.width minimum
+    ++ (bin 6 (suc k) ++ (flat_map (bin (suc k)) increments ++ rest)) =
+    ap (λ xs. xs ++ rest) is
+    ∙ regrouped (bin spec.width minimum) (bin 6 (suc k))
+    (flat_map (bin (suc k)) increments) rest in
     let size : length increments ≡ n = pairwise_length _ increments values each ∙ many in
-    ap (column_at n i spec) front ∙ head_again n i spec (Number minimum) (suc k) (flat_map (bin (suc k)) increments ++ rest) form few
-    ∙ rw (numbers_at_again (suc k) n increments rest size (increments_fit spec.width minimum (suc k) increments values each), all_raised_again 1 i spec.width minimum (suc k) increments values each) refl
-column_again n i spec values column rest many (text_column ignored zero own form some few short each is) = absurd (omega (arith, some))
-column_again n i spec values column rest many (text_column ignored (suc k) own form some few short each is) =
+    ap (column_at n i spec) front
+    ∙ head_again n i spec (Number minimum) (suc k)
+    (flat_map (bin (suc k)) increments ++ rest) form few
+    ∙ rw (
+      numbers_at_again (suc k) n increments rest size
+          (increments_fit spec.width minimum (suc k) increments values each),
+      all_raised_again 1 i spec.width minimum (suc k) increments values each,
+    ) refl
+column_again n i spec values column rest many
+    (text_column ignored zero own form some few short each is) = absurd (omega (arith, some))
+column_again n i spec values column rest many
+    (text_column ignored (suc k) own form some few short each is) =
     let front : column ++ rest ≡ bits ignored ++ (bin 6 (suc k) ++ (flat_map bits own ++ rest)) =
     ap (λ xs. xs ++ rest) is ∙ regrouped (bits ignored) (bin 6 (suc k)) (flat_map bits own) rest in
     let size : n ≡ length own = sym many ∙ sym (pairwise_length _ own values each) in
     let room : ltb (spec.width / 8) (suc k) ≡ false = le-ltb _ _ short in
-    ap (column_at n i spec) front ∙ head_again n i spec (Text ignored) (suc k) (flat_map bits own ++ rest) form few
-    ∙ rw (room, size, texts_at_again (spec.width / 8) (suc k) own values rest each, all_filled_again (spec.width / 8) (suc k) own values each) refl
+    ap (column_at n i spec) front
+    ∙ head_again n i spec (Text ignored) (suc k) (flat_map bits own ++ rest) form few
+    ∙ rw (
+      room,
+      size,
+      texts_at_again (spec.width / 8) (suc k) own values rest each,
+      all_filled_again (spec.width / 8) (suc k) own values each,
+    ) refl
 
 -- what is read where the data do not end was there
 or_ends_ok : {A : Type 0} (i : ℕ) (o : Option A) (x : A) → or_ends i o ≡ Ok x → o ≡ Some x
@@ -296,10 +361,12 @@ or_ends_ok i (Some y) x e = ap (λ z. Some z) (ok_is _ _ e)
 
 -- values that are so many, and the bits of their column
 abbrev pub ColumnFound : ℕ → Spec → List Bool → List Raw × List Bool → Type 0
-ColumnFound n spec front x = (column : List Bool) × (length x.0 ≡ n) × IsColumn spec x.0 column × (front ≡ column ++ x.1)
+ColumnFound n spec front x =
+    (column : List Bool) × (length x.0 ≡ n) × IsColumn spec x.0 column × (front ≡ column ++ x.1)
 
 -- R0 and NBINC were read
-record HeadFound (spec : Spec) (front : List Bool) (minimum : Raw) (k : ℕ) (rest : List Bool) : Type 0 where
+record HeadFound (spec : Spec) (front : List Bool) (minimum : Raw) (k : ℕ)
+    (rest : List Bool) : Type 0 where
   pub form : HasForm spec minimum
   pub few : k < 64
   pub spelt : front ≡ raw_bits spec.width minimum ++ (bin 6 k ++ rest)
@@ -315,21 +382,33 @@ values_found : (n i : ℕ) (spec : Spec) (front : List Bool) (minimum : Raw) (k 
     → values_at n i spec minimum k rest ≡ Ok x → ColumnFound n spec front x
 values_found n i spec front minimum zero rest x h e =
     let all = replicate_equal n minimum in
-    let spelt : front ≡ (raw_bits spec.width minimum ++ bin 6 0) ++ rest = h.spelt ∙ sym (append_assoc (raw_bits spec.width minimum) (bin 6 0) rest) in
-    subst (λ p. ColumnFound n spec front p) (ok_is _ _ e)
-    (raw_bits spec.width minimum ++ bin 6 0, length-replicate n minimum, equal minimum h.form all refl, spelt)
+    let spelt : front ≡ (raw_bits spec.width minimum ++ bin 6 0) ++ rest =
+    h.spelt ∙ sym (append_assoc (raw_bits spec.width minimum) (bin 6 0) rest) in
+    subst (λ p. ColumnFound n spec front p) (ok_is _ _ e) (
+      raw_bits spec.width minimum ++ bin 6 0,
+      length-replicate n minimum,
+      equal minimum h.form all refl,
+      spelt,
+    )
 values_found n i spec front (Number minimum) (suc k) rest x h e =
     let a = bind_ok (or_ends i (numbers_at n (suc k) rest)) _ x e in
     let increments = a.0 in
     let b = bind_ok (all_raised 1 i spec.width minimum (suc k) increments.0) _ x a.2 in
-    let is = numbers_at_found n (suc k) rest increments (or_ends_ok i (numbers_at n (suc k) rest) increments a.1) in
+    let is =
+    numbers_at_found n (suc k) rest increments
+    (or_ends_ok i (numbers_at n (suc k) rest) increments a.1) in
     let each = all_raised_found 1 i spec.width minimum (suc k) increments.0 b.0 is.1 b.1 in
     let column = bin spec.width minimum ++ bin 6 (suc k) ++ flat_map (bin (suc k)) increments.0 in
     let spelt : front ≡ column ++ increments.1 =
-    ungrouped front (bin spec.width minimum) (bin 6 (suc k)) (flat_map (bin (suc k)) increments.0) increments.1
+    ungrouped front (bin spec.width minimum) (bin 6 (suc k))
+    (flat_map (bin (suc k)) increments.0) increments.1
     (h.spelt ∙ ap (λ xs. bin spec.width minimum ++ (bin 6 (suc k) ++ xs)) is.2) in
-    subst (λ p. ColumnFound n spec front p) (ok_is _ _ b.2)
-    (column, sym (pairwise_length _ increments.0 b.0 each) ∙ is.0, number_column minimum (suc k) increments.0 h.form (omega arith) h.few each refl, spelt)
+    subst (λ p. ColumnFound n spec front p) (ok_is _ _ b.2) (
+      column,
+      sym (pairwise_length _ increments.0 b.0 each) ∙ is.0,
+      number_column minimum (suc k) increments.0 h.form (omega arith) h.few each refl,
+      spelt,
+    )
 values_found n i spec front (Text ignored) (suc k) rest x h e =
     let g = guard_ok (nat_lt (spec.width / 8) (suc k)) _ _ x e in
     let a = bind_ok (or_ends i (texts_at n (suc k) rest)) _ x g.1 in
@@ -340,8 +419,12 @@ values_found n i spec front (Text ignored) (suc k) rest x h e =
     let spelt : front ≡ column ++ own.1 =
     ungrouped front (bits ignored) (bin 6 (suc k)) (flat_map bits own.0) own.1
     (h.spelt ∙ ap (λ xs. bits ignored ++ (bin 6 (suc k) ++ xs)) is.2) in
-    subst (λ p. ColumnFound n spec front p) (ok_is _ _ a.2)
-    (column, length-map own.0 (filled (spec.width / 8)) ∙ is.0, text_column ignored (suc k) own.0 h.form (omega arith) h.few (ltb-false _ _ g.0) each refl, spelt)
+    subst (λ p. ColumnFound n spec front p) (ok_is _ _ a.2) (
+      column,
+      length-map own.0 (filled (spec.width / 8)) ∙ is.0,
+      text_column ignored (suc k) own.0 h.form (omega arith) h.few (ltb-false _ _ g.0) each refl,
+      spelt,
+    )
 
 -- values that are read stand in a column
 pub column_found : (n i : ℕ) (spec : Spec) (front : List Bool) (x : List Raw × List Bool)
@@ -349,7 +432,8 @@ pub column_found : (n i : ℕ) (spec : Spec) (front : List Bool) (x : List Raw �
 column_found n i spec front x e =
     let a = bind_ok (or_ends i (raw_at spec front)) _ x e in
     let b = bind_ok (or_ends i (number_at 6 a.0.1)) _ x a.2 in
-    let first = raw_read spec.kind spec.width front a.0 (or_ends_ok i (raw_at spec front) a.0 a.1) in
+    let first =
+    raw_read spec.kind spec.width front a.0 (or_ends_ok i (raw_at spec front) a.0 a.1) in
     let second = number_at_is 6 b.0.0 a.0.1 b.0.1 (or_ends_ok i (number_at 6 a.0.1) b.0 b.1) in
     let head : HeadFound spec front a.0.0 b.0.0 b.0.1 = record {
       form = form_is spec a.0.0 first.0;

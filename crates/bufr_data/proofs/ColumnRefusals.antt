@@ -1,9 +1,13 @@
 -- What is refused of compressed data is the first column that cannot stand, by the course: for the
 -- law on what messages know of data (`data_hold_subsets`).
-use Rattle.std.proofs.Common.{◌≡◌, ℕ, zero, suc, ◌+◌, ◌-◌, ◌*◌, ◌/◌, ◌^◌, ◌<◌, ◌≤◌, Bool, true, false, cond, List, [], ◌∷◌, ◌++◌, length, map, get_or, Option, Some, None, Result, Ok, Err, refl, sym, ap, subst, ◌∙◌, arith, append_assoc, ◌⊎◌, inl, inr}
+use Rattle.std.proofs.Common.{◌≡◌, ℕ, zero, suc, ◌+◌, ◌-◌, ◌*◌, ◌/◌, ◌^◌, ◌<◌, ◌≤◌, Bool, true}
+use Rattle.std.proofs.Common.{false, cond, List, [], ◌∷◌, ◌++◌, length, map, get_or, Option, Some}
+use Rattle.std.proofs.Common.{None, Result, Ok, Err, refl, sym, ap, subst, ◌∙◌, arith, append_assoc}
+use Rattle.std.proofs.Common.{◌⊎◌, inl, inr}
 use Rattle.std.specs.Prelude.{◌==◌, ◌&&◌, not, nat_lt}
 use Rattle.std.specs.List.{AllByRecursion, flat_map}
-use Rattle.std.proofs.lemmas.Bool.{cases_lt, le-ltb, lt-ltb, ltb-true, ltb-false, eqb-true, eqb-false}
+use Rattle.std.proofs.lemmas.Bool.{cases_lt, le-ltb, lt-ltb, ltb-true, ltb-false, eqb-true}
+use Rattle.std.proofs.lemmas.Bool.{eqb-false}
 use Rattle.bufr_tables.specs.Answers.{◌>>=◌}
 use Rattle.bufr_tables.specs.declared.element.Kind.TheVariants as kinds
 use Rattle.bufr_tables.specs.Elements.{same_kind}
@@ -18,8 +22,11 @@ use Rattle.bufr_data.specs.declared.fault.ReadFault.{ReadFault}
 use Rattle.bufr_data.specs.declared.fault.ReadFault.TheVariants as faults
 use Rattle.bufr_data.specs.Plain.{raw_bits, raw_at, number_of, stopped}
 use Rattle.bufr_data.specs.Columns.{IsColumn, Column, HaveOneCount, AreColumns, field_of}
-use Rattle.bufr_data.specs.ColumnReading.{or_ends, raised, value_then, all_raised, texts_at, values_at, column_at, all_equal, agreeing, count_of, ColumnsFound, columns_at}
-use Rattle.bufr_data.specs.ColumnCauses.{Heads, Increments, Texts, HasValue, ColumnRefused, no_head, wide_texts, no_increments, no_texts, passes, unequal}
+use Rattle.bufr_data.specs.ColumnReading.{or_ends, raised, value_then, all_raised, texts_at}
+use Rattle.bufr_data.specs.ColumnReading.{values_at, column_at, all_equal, agreeing, count_of}
+use Rattle.bufr_data.specs.ColumnReading.{ColumnsFound, columns_at}
+use Rattle.bufr_data.specs.ColumnCauses.{Heads, Increments, Texts, HasValue, ColumnRefused, no_head}
+use Rattle.bufr_data.specs.ColumnCauses.{wide_texts, no_increments, no_texts, passes, unequal}
 use Rattle.bufr_data.proofs.ColumnCourses.{IsStop, NoneByCourse, RefusedByCourse}
 use Rattle.bufr_expand.specs.declared.walk.WalkFault.{WalkFault}
 use Rattle.bufr_expand.specs.declared.walk.WalkFault.TheVariants as walks
@@ -27,7 +34,8 @@ use Rattle.bufr_data.specs.Refusals.{Passes}
 use Rattle.bufr_data.proofs.PlainFacts.{and_first, and_second, raw_again, raw_read}
 use Rattle.bufr_data.proofs.ColumnFacts.{texts_at_found, column_found, column_again, ColumnFound}
 use Rattle.bufr_bits.specs.NumberLaws.{numbers_at_again, numbers_at_found}
-use Rattle.bufr_data.proofs.ColumnWalks.{all_equal_is, all_equal_again, kind_is, form_of, column_form, count_is, agreed, agreeing_again}
+use Rattle.bufr_data.proofs.ColumnWalks.{all_equal_is, all_equal_again, kind_is, form_of}
+use Rattle.bufr_data.proofs.ColumnWalks.{column_form, count_is, agreed, agreeing_again}
 use Rattle.bufr_data.specs.Limits.{most_values}
 use Rattle.bufr_data.specs.FormLaws.{form_passes, form_is}
 
@@ -45,7 +53,9 @@ or_ends_some i (Some y) x e = cc
 -- a minimum that stands there is read
 head_read : (spec : Spec) (front : List Bool) (minimum : Raw) (k : ℕ) (rest : List Bool)
     → Heads spec front minimum k rest → raw_at spec front ≡ Some (minimum, bin 6 k ++ rest)
-head_read spec front minimum k rest h = ap (raw_at spec) h.spelt ∙ raw_again spec.kind spec.width minimum (bin 6 k ++ rest) (form_passes spec minimum h.form)
+head_read spec front minimum k rest h =
+    ap (raw_at spec) h.spelt
+    ∙ raw_again spec.kind spec.width minimum (bin 6 k ++ rest) (form_passes spec minimum h.form)
 
 -- so is a width
 width_read : (k : ℕ) (rest : List Bool) → k < 64 → number_at 6 (bin 6 k ++ rest) ≡ Some (k, rest)
@@ -61,13 +71,19 @@ texts_again : (k : ℕ) (own : List (List ℕ)) (rest : List Bool)
     → texts_at (length own) k (flat_map bits own ++ rest) ≡ Some (own, rest)
 texts_again k [] rest all = refl
 texts_again k (t ∷ own) rest all =
-    let e : flat_map bits (t ∷ own) ++ rest ≡ bits t ++ (flat_map bits own ++ rest) = append_assoc (bits t) (flat_map bits own) rest in
-    rw (e, numbers_at_again 8 k t (flat_map bits own ++ rest) all.0.0 all.0.1, texts_again k own rest all.1) refl
+    let e : flat_map bits (t ∷ own) ++ rest ≡ bits t ++ (flat_map bits own ++ rest) =
+    append_assoc (bits t) (flat_map bits own) rest in
+    rw (
+      e,
+      numbers_at_again 8 k t (flat_map bits own ++ rest) all.0.0 all.0.1,
+      texts_again k own rest all.1,
+    ) refl
 
 -- an increment that has no value, and those before it
 abbrev pub RangePassed : ℕ → ℕ → ℕ → ℕ → ℕ → List ℕ → ReadFault → Type 0
 RangePassed j i width minimum k xs fault =
-    (before : List ℕ) × (x : ℕ) × (behind : List ℕ) × (xs ≡ before ++ x ∷ behind) × AllByRecursion (HasValue width minimum k) before
+    (before : List ℕ) × (x : ℕ) × (behind : List ℕ) × (xs ≡ before ++ x ∷ behind)
+    × AllByRecursion (HasValue width minimum k) before
     × (HasValue width minimum k x → ⊥) × (fault ≡ faults.IncrementRange (j + length before) i)
 
 -- the step of `value_or`: all ones, or within the field
@@ -75,8 +91,10 @@ value_by : (width minimum k x : ℕ) (ones room : Bool) → (x + 1 == 2 ^ k) ≡
     → nat_lt (minimum + x) (2 ^ width) ≡ room
     → ((raised width minimum k x ≡ None) × (HasValue width minimum k x → ⊥)) ⊎ ((v : Raw)
     × (raised width minimum k x ≡ Some v) × HasValue width minimum k x)
-value_by width minimum k x true room o r = inr (Number (2 ^ width - 1), rw o refl, inl (eqb-true _ _ o))
-value_by width minimum k x false true o r = inr (Number (minimum + x), rw (o, r) refl, inr (ltb-true _ _ r))
+value_by width minimum k x true room o r =
+    inr (Number (2 ^ width - 1), rw o refl, inl (eqb-true _ _ o))
+value_by width minimum k x false true o r =
+    inr (Number (minimum + x), rw (o, r) refl, inr (ltb-true _ _ r))
 value_by width minimum k x false false o r =
     inl (
       rw (o, r) refl,
@@ -105,14 +123,35 @@ range_passed j i width minimum k [] fault e = absurd cc
 range_passed j i width minimum k (x ∷ xs) fault e =
     elim (value_or width minimum k x) [
       | inl none ↦
-          let first = sym (ap (λ o. value_then j i o (all_raised (j + 1) i width minimum k xs)) none.0) ∙ e in
-          let same : j ≡ j + 0 = omega arith in
-          ([], x, xs, refl, tt, none.1, sym (err_is _ _ first) ∙ ap (λ l. faults.IncrementRange l i) same)
+          let first =
+          sym (ap (λ o. value_then j i o (all_raised (j + 1) i width minimum k xs)) none.0)
+          ∙ e in
+          let same : j ≡ j + 0 = omega arith in (
+            [],
+            x,
+            xs,
+            refl,
+            tt,
+            none.1,
+            sym (err_is _ _ first)
+                ∙ ap (λ l. faults.IncrementRange l i) same,
+          )
       | inr some ↦
-          let others = then_err j i some.0 (all_raised (j + 1) i width minimum k xs) fault (sym (ap (λ o. value_then j i o (all_raised (j + 1) i width minimum k xs)) some.1) ∙ e) in
+          let others =
+          then_err j i some.0 (all_raised (j + 1) i width minimum k xs) fault
+          (sym (ap (λ o. value_then j i o (all_raised (j + 1) i width minimum k xs)) some.1)
+          ∙ e) in
           let h = range_passed (j + 1) i width minimum k xs fault others in
-          let same : j + 1 + length h.0 ≡ j + suc (length h.0) = omega arith in
-          (x ∷ h.0, h.1, h.2, ap (λ ys. x ∷ ys) h.3, (some.2, h.4), h.5, h.6 ∙ ap (λ l. faults.IncrementRange l i) same)
+          let same : j + 1 + length h.0 ≡ j + suc (length h.0) = omega arith in (
+            x ∷ h.0,
+            h.1,
+            h.2,
+            ap (λ ys. x ∷ ys) h.3,
+            (some.2, h.4),
+            h.5,
+            h.6
+                ∙ ap (λ l. faults.IncrementRange l i) same,
+          )
     ]
 
 -- and the first that passes the width is the error
@@ -130,7 +169,8 @@ range_again j i width minimum k (y ∷ before) x behind all none =
       | inl h ↦ absurd (h.1 all.0)
       | inr h ↦
           let same : j + 1 + length before ≡ j + suc (length before) = omega arith in
-          rw (h.1, range_again (j + 1) i width minimum k before x behind all.1 none) (ap (λ l. Err (faults.IncrementRange l i)) same)
+          rw (h.1, range_again (j + 1) i width minimum k before x behind all.1 none)
+          (ap (λ l. Err (faults.IncrementRange l i)) same)
     ]
 
 -- ---- one column is refused
@@ -138,15 +178,18 @@ range_again j i width minimum k (y ∷ before) x behind all none =
 -- where no minimum is read, none stands there
 no_raw : (spec : Spec) (front : List Bool) → raw_at spec front ≡ None
     → (minimum : Raw) (k : ℕ) (rest : List Bool) → Heads spec front minimum k rest → ⊥
-no_raw spec front e minimum k rest h = let some = sym e ∙ head_read spec front minimum k rest h in cc
+no_raw spec front e minimum k rest h =
+    let some = sym e ∙ head_read spec front minimum k rest h in cc
 
 -- where no width is read, none stands there
 no_width : (spec : Spec) (front : List Bool) (x : Raw × List Bool) → raw_at spec front ≡ Some x
     → number_at 6 x.1 ≡ None → (minimum : Raw) (k : ℕ) (rest : List Bool)
     → Heads spec front minimum k rest → ⊥
 no_width spec front x first e minimum k rest h =
-    let same : x ≡ (minimum, bin 6 k ++ rest) = one_some (raw_at spec front) _ _ first (head_read spec front minimum k rest h) in
-    let some = sym e ∙ ap (λ (y : Raw × List Bool). number_at 6 y.1) same ∙ width_read k rest h.few in
+    let same : x ≡ (minimum, bin 6 k ++ rest) =
+    one_some (raw_at spec front) _ _ first (head_read spec front minimum k rest h) in
+    let some =
+    sym e ∙ ap (λ (y : Raw × List Bool). number_at 6 y.1) same ∙ width_read k rest h.few in
     cc
 
 -- a minimum and a width that are read stand there
@@ -155,19 +198,27 @@ heads_found : (spec : Spec) (front : List Bool) (x : Raw × List Bool) (y : ℕ 
 heads_found spec front x y first second =
     let a = raw_read spec.kind spec.width front x first in
     let b = number_at_is 6 y.0 x.1 y.1 second in
-    record { form = form_is spec x.0 a.0; few = b.1; spelt = a.1 ∙ ap (λ xs. raw_bits spec.width x.0 ++ xs) b.0 }
+    record {
+      form = form_is spec x.0 a.0;
+      few = b.1;
+      spelt = a.1
+          ∙ ap (λ xs. raw_bits spec.width x.0 ++ xs) b.0;
+    }
 
 -- where increments are not read, none stand there
 none_numbers : (n k : ℕ) (front : List Bool) → numbers_at n k front ≡ None → (xs : List ℕ)
     → Increments n k front xs → ⊥
 none_numbers n k front e xs h =
-    let some = sym e ∙ ap (numbers_at n k) h.spelt ∙ numbers_at_again k n xs h.rest h.many h.fit in cc
+    let some =
+    sym e ∙ ap (numbers_at n k) h.spelt ∙ numbers_at_again k n xs h.rest h.many h.fit in cc
 
 -- where texts are not read, none stand there
 none_texts : (n k : ℕ) (front : List Bool) → texts_at n k front ≡ None → (own : List (List ℕ))
     → Texts n k front own → ⊥
 none_texts n k front e own h =
-    let some = sym e ∙ (λ t. texts_at (sym h.many t) k (h.spelt t)) ∙ texts_again k own h.rest h.octets in cc
+    let some =
+    sym e ∙ (λ t. texts_at (sym h.many t) k (h.spelt t)) ∙ texts_again k own h.rest h.octets in
+    cc
 
 -- an error past a test is the test's or one behind it
 pub guard_err : {A F : Type 0} (b : Bool) (f fault : F) (x : Result A F)
@@ -187,12 +238,16 @@ values_refused n i spec front (Number minimum) (suc k) rest fault h e =
           no_increments minimum (suc k) rest h (omega arith) (none_numbers n (suc k) rest is.0) is.1
       | inr some ↦
           let xs = some.0 in
-          let found = numbers_at_found n (suc k) rest xs (or_ends_some i (numbers_at n (suc k) rest) xs some.1) in
+          let found =
+          numbers_at_found n (suc k) rest xs
+          (or_ends_some i (numbers_at n (suc k) rest) xs some.1) in
           elim (bind_err (all_raised 1 i spec.width minimum (suc k) xs.0) _ fault some.2) [
             | inl none ↦
                 let p = range_passed 1 i spec.width minimum (suc k) xs.0 fault none in
-                let incs : Increments n (suc k) rest xs.0 = record { rest = xs.1; many = found.0; fit = found.1; spelt = found.2 } in
-                passes minimum (suc k) rest p.0 p.1 p.2 h (omega arith) (subst (Increments n (suc k) rest) p.3 incs) p.4 p.5 p.6
+                let incs : Increments n (suc k) rest xs.0 =
+                record { rest = xs.1; many = found.0; fit = found.1; spelt = found.2 } in
+                passes minimum (suc k) rest p.0 p.1 p.2 h (omega arith)
+                (subst (Increments n (suc k) rest) p.3 incs) p.4 p.5 p.6
             | inr ok ↦ let bad = ok.2 in absurd cc
           ]
     ]
@@ -203,7 +258,8 @@ values_refused n i spec front (Text ignored) (suc k) rest fault h e =
           elim (bind_err (or_ends i (texts_at n (suc k) rest)) _ fault fits.1) [
             | inl none ↦
                 let is = or_ends_err i (texts_at n (suc k) rest) fault none in
-                no_texts ignored (suc k) rest h (omega arith) (ltb-false _ _ fits.0) (none_texts n (suc k) rest is.0) is.1
+                no_texts ignored (suc k) rest h (omega arith) (ltb-false _ _ fits.0)
+                (none_texts n (suc k) rest is.0) is.1
             | inr ok ↦ let bad = ok.2 in absurd cc
           ]
     ]
@@ -213,14 +269,17 @@ column_refused : (n i : ℕ) (spec : Spec) (front : List Bool) (fault : ReadFaul
     → column_at n i spec front ≡ Err fault → ColumnRefused n i spec front fault
 column_refused n i spec front fault e =
     elim (bind_err (or_ends i (raw_at spec front)) _ fault e) [
-      | inl none ↦ let is = or_ends_err i (raw_at spec front) fault none in no_head (no_raw spec front is.0) is.1
+      | inl none ↦ let is = or_ends_err i (raw_at spec front) fault none in
+          no_head (no_raw spec front is.0) is.1
       | inr x ↦
           let first = or_ends_some i (raw_at spec front) x.0 x.1 in
           elim (bind_err (or_ends i (number_at 6 x.0.1)) _ fault x.2) [
-            | inl none ↦ let is = or_ends_err i (number_at 6 x.0.1) fault none in no_head (no_width spec front x.0 first is.0) is.1
+            | inl none ↦ let is = or_ends_err i (number_at 6 x.0.1) fault none in
+                no_head (no_width spec front x.0 first is.0) is.1
             | inr y ↦
                 let second = or_ends_some i (number_at 6 x.0.1) y.0 y.1 in
-                values_refused n i spec front x.0.0 y.0.0 y.0.1 fault (heads_found spec front x.0 y.0 first second) y.2
+                values_refused n i spec front x.0.0 y.0.0 y.0.1 fault
+                (heads_found spec front x.0 y.0 first second) y.2
           ]
     ]
 
@@ -235,7 +294,13 @@ unequal_err : (i : ℕ) (spec : Spec) (x : List Raw × List Bool) (fault : ReadF
     → (spec.kind ≡ kinds.Count) × (all_equal x.0 ≡ false) × (fault ≡ faults.UnequalCounts i)
 unequal_err i spec x fault e =
     elim (guard_err (same_kind spec.kind kinds.Count && not (all_equal x.0)) _ fault _ e) [
-      | inl is ↦ (kind_is spec.kind (and_first (same_kind spec.kind kinds.Count) (not (all_equal x.0)) is.0), not_true (all_equal x.0) (and_second (same_kind spec.kind kinds.Count) (not (all_equal x.0)) is.0), sym is.1)
+      | inl is ↦ (
+        kind_is spec.kind
+            (and_first (same_kind spec.kind kinds.Count) (not (all_equal x.0)) is.0),
+        not_true (all_equal x.0)
+            (and_second (same_kind spec.kind kinds.Count) (not (all_equal x.0)) is.0),
+        sym is.1,
+      )
       | inr no_fault ↦ let bad = no_fault.1 in absurd cc
     ]
 
@@ -263,7 +328,8 @@ none_by (Some x) none = absurd (none x refl)
 -- behind its minimum and width a column is read as its values
 head_at : (n i : ℕ) (spec : Spec) (front : List Bool) (minimum : Raw) (k : ℕ) (rest : List Bool)
     → Heads spec front minimum k rest → column_at n i spec front ≡ values_at n i spec minimum k rest
-head_at n i spec front minimum k rest h = rw (head_read spec front minimum k rest h, width_read k rest h.few) refl
+head_at n i spec front minimum k rest h =
+    rw (head_read spec front minimum k rest h, width_read k rest h.few) refl
 
 -- the step of `no_head_read`: the width is not there
 no_width_by : (n i : ℕ) (spec : Spec) (front : List Bool) (x : Raw × List Bool)
@@ -271,7 +337,8 @@ no_width_by : (n i : ℕ) (spec : Spec) (front : List Bool) (x : Raw × List Boo
     → ((minimum : Raw) (k : ℕ) (rest : List Bool) → Heads spec front minimum k rest → ⊥)
     → column_at n i spec front ≡ Err (faults.DataEnds 0 i)
 no_width_by n i spec front x None first e none = rw (first, e) refl
-no_width_by n i spec front x (Some y) first e none = absurd (none x.0 y.0 y.1 (heads_found spec front x y first e))
+no_width_by n i spec front x (Some y) first e none =
+    absurd (none x.0 y.0 y.1 (heads_found spec front x y first e))
 
 -- the step of `no_head_read`: the minimum is not there
 no_head_by : (n i : ℕ) (spec : Spec) (front : List Bool) (o : Option (Raw × List Bool))
@@ -279,7 +346,8 @@ no_head_by : (n i : ℕ) (spec : Spec) (front : List Bool) (o : Option (Raw × L
     → ((minimum : Raw) (k : ℕ) (rest : List Bool) → Heads spec front minimum k rest → ⊥)
     → column_at n i spec front ≡ Err (faults.DataEnds 0 i)
 no_head_by n i spec front None e none = rw e refl
-no_head_by n i spec front (Some x) e none = no_width_by n i spec front x (number_at 6 x.1) e refl none
+no_head_by n i spec front (Some x) e none =
+    no_width_by n i spec front x (number_at 6 x.1) e refl none
 
 -- the step of `not_equal_values`
 equal_values_by : (values : List Raw) (b : Bool) → all_equal values ≡ b
@@ -304,24 +372,50 @@ pub column_refused_again : (n i : ℕ) (spec : Spec) (front : List Bool) (fault 
     → (column_at n i spec front >>= agreeing i spec) ≡ Err fault
 column_refused_again n i spec front fault (no_head none is) =
     ap (λ o. o >>= agreeing i spec) (no_head_read n i spec front none) ∙ ap (λ f. Err f) (sym is)
-column_refused_again n i spec front fault (wide_texts ignored zero rest h wide is) = absurd (omega (arith, wide))
+column_refused_again n i spec front fault (wide_texts ignored zero rest h wide is) =
+    absurd (omega (arith, wide))
 column_refused_again n i spec front fault (wide_texts ignored (suc k) rest h wide is) =
-    rw (head_at n i spec front (Text ignored) (suc k) rest h, lt-ltb (spec.width / 8) (suc k) wide) (ap (λ f. Err f) (sym is))
-column_refused_again n i spec front fault (no_increments minimum zero rest h some none is) = absurd (omega (arith, some))
+    rw (head_at n i spec front (Text ignored) (suc k) rest h, lt-ltb (spec.width / 8) (suc k) wide)
+    (ap (λ f. Err f) (sym is))
+column_refused_again n i spec front fault (no_increments minimum zero rest h some none is) =
+    absurd (omega (arith, some))
 column_refused_again n i spec front fault (no_increments minimum (suc k) rest h some none is) =
-    let missing : numbers_at n (suc k) rest ≡ None = none_by _ (λ x e. let f = numbers_at_found n (suc k) rest x e in none x.0 (record { rest = x.1; many = f.0; fit = f.1; spelt = f.2 })) in
+    let missing : numbers_at n (suc k) rest ≡ None =
+    none_by _
+    (λ x e. let f = numbers_at_found n (suc k) rest x e in
+    none x.0 (record { rest = x.1; many = f.0; fit = f.1; spelt = f.2 })) in
     rw (head_at n i spec front (Number minimum) (suc k) rest h, missing) (ap (λ f. Err f) (sym is))
-column_refused_again n i spec front fault (no_texts ignored zero rest h some short none is) = absurd (omega (arith, some))
+column_refused_again n i spec front fault (no_texts ignored zero rest h some short none is) =
+    absurd (omega (arith, some))
 column_refused_again n i spec front fault (no_texts ignored (suc k) rest h some short none is) =
-    let missing : texts_at n (suc k) rest ≡ None = none_by _ (λ x e. let f = texts_at_found n (suc k) rest x e in none x.0 (record { rest = x.1; many = f.0; octets = f.1; spelt = f.2 })) in
-    rw (head_at n i spec front (Text ignored) (suc k) rest h, le-ltb (spec.width / 8) (suc k) short, missing) (ap (λ f. Err f) (sym is))
-column_refused_again n i spec front fault (passes minimum zero rest before x behind h some incs all none is) = absurd (omega (arith, some))
-column_refused_again n i spec front fault (passes minimum (suc k) rest before x behind h some incs all none is) =
-    let read = ap (numbers_at n (suc k)) incs.spelt ∙ numbers_at_again (suc k) n (before ++ x ∷ behind) incs.rest incs.many incs.fit in
-    rw (head_at n i spec front (Number minimum) (suc k) rest h, read, range_again 1 i spec.width minimum (suc k) before x behind all none) (ap (λ f. Err f) (sym is))
-column_refused_again n i spec front fault (unequal values column rest c many spelt count differ is) =
+    let missing : texts_at n (suc k) rest ≡ None =
+    none_by _
+    (λ x e. let f = texts_at_found n (suc k) rest x e in
+    none x.0 (record { rest = x.1; many = f.0; octets = f.1; spelt = f.2 })) in
+    rw (
+      head_at n i spec front (Text ignored) (suc k) rest h,
+      le-ltb (spec.width / 8) (suc k) short,
+      missing,
+    ) (ap (λ f. Err f) (sym is))
+column_refused_again n i spec front fault
+    (passes minimum zero rest before x behind h some incs all none is) = absurd
+    (omega (arith, some))
+column_refused_again n i spec front fault
+    (passes minimum (suc k) rest before x behind h some incs all none is) =
+    let read =
+    ap (numbers_at n (suc k)) incs.spelt
+    ∙ numbers_at_again (suc k) n (before ++ x ∷ behind) incs.rest incs.many incs.fit in
+    rw (
+      head_at n i spec front (Number minimum) (suc k) rest h,
+      read,
+      range_again 1 i spec.width minimum (suc k) before x behind all none,
+    )
+    (ap (λ f. Err f) (sym is))
+column_refused_again n i spec front fault
+    (unequal values column rest c many spelt count differ is) =
     let differ_is : all_equal values ≡ false = not_equal_values values differ in
-    rw (spelt, column_again n i spec values column rest many c, count, differ_is) (ap (λ f. Err f) (sym is))
+    rw (spelt, column_again n i spec values column rest many c, count, differ_is)
+    (ap (λ f. Err f) (sym is))
 
 -- ---- the first column that is refused
 
@@ -342,7 +436,21 @@ refused_here : (n i : ℕ) (c : Course) (front : List Bool) (fault : ReadFault)
     → NoneByCourse n i c front fault → RefusedByCourse n i c front fault
 refused_here n i c front fault h =
     let same : i ≡ i + 0 = omega arith in
-    record { before = []; packed = []; rest = front; next = c; columns = refl; passed = refl; spelt = refl; refused = subst (λ k. NoneByCourse n k c front fault) same h }
+    record {
+      before = [];
+      packed =
+          [];
+      rest =
+          front;
+      next =
+          c;
+      columns =
+          refl;
+      passed =
+          refl;
+      spelt = refl;
+      refused = subst (λ k. NoneByCourse n k c front fault) same h;
+    }
 
 -- the first one refused behind a column is the first of all
 refused_behind : (n i met d : ℕ) (spec : Spec) (more : ℕ → Course) (front : List Bool)
@@ -354,7 +462,9 @@ refused_behind n i met d spec more front x fault some found one r =
     let column : Column = record { fxy = d; spec = spec; values = x.0 } in
     let inside : 0 < length x.0 = omega (arith, some, found.1) in
     let form = form_of spec x.0 0 (column_form spec x.0 found.0 found.2) inside in
-    let passed = subst (λ k. Passes (more k) (map (field_of 0) r.before) r.next) (count_is x.0 inside) r.passed in
+    let passed =
+    subst (λ k. Passes (more k) (map (field_of 0) r.before) r.next)
+    (count_is x.0 inside) r.passed in
     let same : i + 1 + length r.before ≡ i + suc (length r.before) = omega arith in
     record {
       before = column ∷ r.before;
@@ -363,7 +473,8 @@ refused_behind n i met d spec more front x fault some found one r =
       next = r.next;
       columns = (found.0, r.packed, refl, found.1, found.2, one, r.columns);
       passed = ((refl, refl, form), passed);
-      spelt = found.3 ∙ ap (λ xs. found.0 ++ xs) r.spelt ∙ sym (append_assoc found.0 r.packed r.rest);
+      spelt =
+          found.3 ∙ ap (λ xs. found.0 ++ xs) r.spelt ∙ sym (append_assoc found.0 r.packed r.rest);
       refused = subst (λ k. NoneByCourse n k r.next r.rest fault) same r.refused;
     }
 
@@ -374,23 +485,36 @@ unfolding columns_at
 columns_refused n i (ends met) front fault some e = absurd cc
 columns_refused n i (stops met why) front fault some e =
     elim (guard_err (nat_lt most_values (i * n)) _ fault _ e) [
-      | inl past ↦ refused_here n i (stops met why) front fault (inl (ltb-true _ _ past.0, sym past.1))
-      | inr within ↦ refused_here n i (stops met why) front fault (inr (ltb-false _ _ within.0, stop_is why fault within.1))
+      | inl past ↦
+          refused_here n i (stops met why) front fault (inl (ltb-true _ _ past.0, sym past.1))
+      | inr within ↦
+          refused_here n i (stops met why) front fault
+          (inr (ltb-false _ _ within.0, stop_is why fault within.1))
     ]
 columns_refused n i (asks met d spec more) front fault some e =
     elim (guard_err (nat_lt most_values (i * n)) _ fault _ e) [
-      | inl past ↦ refused_here n i (asks met d spec more) front fault (inl (ltb-true _ _ past.0, sym past.1))
+      | inl past ↦
+          refused_here n i (asks met d spec more) front fault
+          (inl (ltb-true _ _ past.0, sym past.1))
       | inr within ↦
           elim (bind_err (column_at n i spec front >>= agreeing i spec) _ fault within.1) [
-            | inl none ↦ refused_here n i (asks met d spec more) front fault (inr (ltb-false _ _ within.0, read_column_refused n i spec front fault none))
+            | inl none ↦
+                refused_here n i (asks met d spec more) front fault
+                (inr (ltb-false _ _ within.0, read_column_refused n i spec front fault none))
             | inr a ↦
                 let b = bind_ok (column_at n i spec front) _ a.0 a.1 in
                 let same = agreed i spec b.0 a.0 b.2 in
-                let found = subst (λ x. ColumnFound n spec front x) same.0 (column_found n i spec front b.0 b.1) in
-                let agree = subst (λ (x : List Raw × List Bool). spec.kind ≡ kinds.Count → all_equal x.0 ≡ true) same.0 same.1 in
+                let found =
+                subst (λ x. ColumnFound n spec front x) same.0
+                (column_found n i spec front b.0 b.1) in
+                let agree =
+                subst
+                (λ (x : List Raw × List Bool). spec.kind ≡ kinds.Count → all_equal x.0
+                ≡ true) same.0 same.1 in
                 elim (bind_err (columns_at n (i + 1) (more (count_of a.0.0)) a.0.1) _ fault a.2) [
                   | inl none ↦
-                      refused_behind n i met d spec more front a.0 fault some found (λ is. all_equal_is a.0.0 (agree is))
+                      refused_behind n i met d spec more front a.0 fault some found
+                      (λ is. all_equal_is a.0.0 (agree is))
                       (columns_refused n (i + 1) (more (count_of a.0.0)) a.0.1 fault some none)
                   | inr ok ↦ let bad = ok.2 in absurd cc
                 ]
@@ -414,7 +538,8 @@ mul_le a b n le = grind (arith, le)
 
 -- more fields have more values
 grown : (i l n : ℕ) → most_values < i * n → most_values < (i + l) * n
-grown i l n past = let le : i * n ≤ (i + l) * n = mul_le i (i + l) n (omega arith) in omega (arith, past, le)
+grown i l n past =
+    let le : i * n ≤ (i + l) * n = mul_le i (i + l) n (omega arith) in omega (arith, past, le)
 
 -- where no column follows, its fault is answered
 here_again : (n i : ℕ) (next : Course) (front : List Bool) (fault : ReadFault)
@@ -423,8 +548,10 @@ unfolding columns_at
 here_again n i (ends met) front fault h = absurd h
 here_again n i (stops met why) front fault (inl h) = rw (lt-ltb _ _ h.0) (ap (λ f. Err f) (sym h.1))
 here_again n i (stops met why) front fault (inr h) = rw (le-ltb _ _ h.0) (stop_again why fault h.1)
-here_again n i (asks met d spec more) front fault (inl h) = rw (lt-ltb _ _ h.0) (ap (λ f. Err f) (sym h.1))
-here_again n i (asks met d spec more) front fault (inr h) = rw (le-ltb _ _ h.0, column_refused_again n i spec front fault h.1) refl
+here_again n i (asks met d spec more) front fault (inl h) =
+    rw (lt-ltb _ _ h.0) (ap (λ f. Err f) (sym h.1))
+here_again n i (asks met d spec more) front fault (inr h) =
+    rw (le-ltb _ _ h.0, column_refused_again n i spec front fault h.1) refl
 
 -- behind a column that stands, the fault of the others is answered
 step_again : (n i met : ℕ) (x : Column) (more : ℕ → Course) (column others : List Bool)
@@ -437,8 +564,15 @@ step_again n i met x more column others fault some many is one past after =
     elim (cases_lt most_values (i * n)) [
       | inl lt ↦ rw (lt-ltb _ _ lt) (ap (λ f. Err f) (sym (past lt)))
       | inr le ↦
-          let count : count_of x.values ≡ number_of (get_or x.values 0 (Number 0)) = count_is x.values (omega (arith, some, many)) in
-          rw (le-ltb _ _ le, column_again n i x.spec x.values column others many is, agreeing_again i x.spec (x.values, others) one, count, after) refl
+          let count : count_of x.values ≡ number_of (get_or x.values 0 (Number 0)) =
+          count_is x.values (omega (arith, some, many)) in
+          rw (
+            le-ltb _ _ le,
+            column_again n i x.spec x.values column others many is,
+            agreeing_again i x.spec (x.values, others) one,
+            count,
+            after,
+          ) refl
     ]
 
 -- so it is behind all columns before it
@@ -448,21 +582,36 @@ refused_again : (n i : ℕ) (c : Course) (before : List Column) (packed rest : L
     → columns_at n i c (packed ++ rest) ≡ Err fault
 refused_again n i c [] packed rest next fault some are passed h =
     let same : i + 0 ≡ i = omega arith in
-    rw are (here_again n i c rest fault (subst (λ k. NoneByCourse n k c rest fault) same (subst (λ d. NoneByCourse n (i + 0) d rest fault) (sym passed) h)))
+    rw are
+    (here_again n i c rest fault
+    (subst (λ k. NoneByCourse n k c rest fault) same
+    (subst (λ d. NoneByCourse n (i + 0) d rest fault) (sym passed) h)))
 refused_again n i (ends met) (x ∷ before) packed rest next fault some are passed h = absurd passed
-refused_again n i (stops met why) (x ∷ before) packed rest next fault some are passed h = absurd passed
+refused_again n i (stops met why) (x ∷ before) packed rest next fault some are passed h =
+    absurd passed
 refused_again n i (asks met d spec more) (x ∷ before) packed rest next fault some are passed h =
     let same : i + suc (length before) ≡ i + 1 + length before = omega arith in
     let later = subst (λ k. NoneByCourse n k next rest fault) same h in
-    let after = refused_again n (i + 1) (more (number_of (get_or x.values 0 (Number 0)))) before are.1 rest next fault some are.6 passed.1 later in
-    let past = λ (lt : most_values < i * n). past_is n (i + suc (length before)) next rest fault (grown i (suc (length before)) n lt) h in
-    let step = step_again n i met x more are.0 (are.1 ++ rest) fault some are.3 are.4 are.5 past after in
-    let course : asks met x.fxy x.spec more ≡ asks met d spec more = λ t. asks met (passed.0.0 t) (passed.0.1 t) more in
-    ap (λ xs. columns_at n i (asks met d spec more) xs) (ap (λ xs. xs ++ rest) are.2 ∙ append_assoc are.0 are.1 rest)
+    let after =
+    refused_again n (i + 1)
+    (more
+    (number_of
+    (get_or x.values 0 (Number 0)))) before are.1 rest next fault some are.6 passed.1 later in
+    let past =
+    λ (lt : most_values < i * n). past_is n (i + suc (length before)) next rest fault
+    (grown i (suc (length before)) n lt) h in
+    let step =
+    step_again n i met x more are.0 (are.1 ++ rest) fault some are.3 are.4 are.5 past after in
+    let course : asks met x.fxy x.spec more ≡ asks met d spec more =
+    λ t. asks met (passed.0.0 t) (passed.0.1 t) more in
+    ap (λ xs. columns_at n i (asks met d spec more) xs)
+    (ap (λ xs. xs ++ rest) are.2 ∙ append_assoc are.0 are.1 rest)
     ∙ sym (ap (λ c. columns_at n i c (are.0 ++ (are.1 ++ rest))) course) ∙ step
 
 -- the first column that is refused has its fault answered
 pub columns_refused_again : (n i : ℕ) (c : Course) (front : List Bool) (fault : ReadFault) → 0 < n
     → RefusedByCourse n i c front fault → columns_at n i c front ≡ Err fault
 columns_refused_again n i c front fault some r =
-    ap (columns_at n i c) r.spelt ∙ refused_again n i c r.before r.packed r.rest r.next fault some r.columns r.passed r.refused
+    ap (columns_at n i c) r.spelt
+    ∙ refused_again n i c r.before r.packed r.rest r.next fault some r.columns r.passed
+    r.refused

@@ -1,6 +1,9 @@
 -- Columns along a course: what is read is what stands, for each of the subsets. For the law on what
 -- messages know of data (`data_hold_subsets`).
-use Rattle.std.proofs.Common.{◌≡◌, ℕ, zero, suc, ◌+◌, ◌-◌, ◌*◌, ◌/◌, ◌^◌, ◌<◌, ◌≤◌, Bool, true, false, cond, ltb, List, [], ◌∷◌, ◌++◌, length, map, replicate, get_or, Ok, Err, refl, sym, ap, subst, ◌∙◌, arith, append_assoc, length-append}
+use Rattle.std.proofs.Common.{◌≡◌, ℕ, zero, suc, ◌+◌, ◌-◌, ◌*◌, ◌/◌, ◌^◌, ◌<◌, ◌≤◌, Bool, true}
+use Rattle.std.proofs.Common.{false, cond, ltb, List, [], ◌∷◌, ◌++◌, length, map, replicate, get_or}
+use Rattle.std.proofs.Common.{Ok, Err, refl, sym, ap, subst, ◌∙◌, arith, append_assoc}
+use Rattle.std.proofs.Common.{length-append}
 use Rattle.std.specs.Prelude.{◌&&◌, not, nat_lt}
 use Rattle.std.specs.List.{AllByRecursion, list_all}
 use Rattle.std.proofs.lemmas.Bool.{le-ltb, ltb-false, eqb-true, eq-eqb}
@@ -21,10 +24,15 @@ use Rattle.bufr_data.specs.declared.fault.ReadFault.TheVariants as faults
 use Rattle.bufr_data.specs.Plain.{number_of, stopped, stands_for, items_of}
 use Rattle.bufr_data.specs.Fits.{HasForm, of_text, of_number}
 use Rattle.bufr_expand.specs.Steady.{IsSteady}
-use Rattle.bufr_data.specs.Columns.{Pairwise, HasIncrement, HasText, IsColumn, equal, numbers as number_column, texts as text_column, above, missing, filled as is_filled, ones as ones_text, Column, HaveOneCount, AreColumns, field_of}
-use Rattle.bufr_data.specs.ColumnReading.{column_at, same_raw, all_equal, agreeing, count_of, ColumnsFound, columns_at}
+use Rattle.bufr_data.specs.Columns.{Pairwise, HasIncrement, HasText, IsColumn, equal}
+use Rattle.bufr_data.specs.Columns.{numbers as number_column, texts as text_column, above, missing}
+use Rattle.bufr_data.specs.Columns.{filled as is_filled, ones as ones_text, Column, HaveOneCount}
+use Rattle.bufr_data.specs.Columns.{AreColumns, field_of}
+use Rattle.bufr_data.specs.ColumnReading.{column_at, same_raw, all_equal, agreeing, count_of}
+use Rattle.bufr_data.specs.ColumnReading.{ColumnsFound, columns_at}
 use Rattle.bufr_data.proofs.PlainFacts.{and_first, and_second, guard_ok}
-use Rattle.bufr_data.proofs.ColumnFacts.{column_again, column_found, ColumnFound, power_positive, ones_below}
+use Rattle.bufr_data.proofs.ColumnFacts.{column_again, column_found, ColumnFound, power_positive}
+use Rattle.bufr_data.proofs.ColumnFacts.{ones_below}
 use Rattle.bufr_data.specs.Limits.{most_values}
 use Rattle.bufr_data.specs.FormLaws.{same_spec_is, spec_is_same, form_passes}
 
@@ -38,7 +46,8 @@ AllForm spec values = AllByRecursion (λ v. HasForm spec v) values
 equal_form : (spec : Spec) (minimum : Raw) (vs : List Raw) → HasForm spec minimum
     → AllByRecursion (λ v. v ≡ minimum) vs → AllForm spec vs
 equal_form spec minimum [] form all = tt
-equal_form spec minimum (v ∷ vs) form all = (subst (λ w. HasForm spec w) (sym all.0) form, equal_form spec minimum vs form all.1)
+equal_form spec minimum (v ∷ vs) form all =
+    (subst (λ w. HasForm spec w) (sym all.0) form, equal_form spec minimum vs form all.1)
 
 -- a number has no text's spec, and 64 bits at most
 number_kind : (spec : Spec) (n : ℕ) → HasForm spec (Number n)
@@ -52,16 +61,21 @@ text_kind spec os (of_text bs is size all) = is
 -- the value of an increment has its spec's form
 increment_form : (spec : Spec) (minimum k x : ℕ) (v : Raw) → (spec.kind ≡ kinds.Text → ⊥)
     → spec.width ≤ 64 → HasIncrement spec.width minimum k x v → HasForm spec v
-increment_form spec minimum k x v other few (above below room is) = subst (λ w. HasForm spec w) (sym is) (of_number (minimum + x) other few room)
+increment_form spec minimum k x v other few (above below room is) =
+    subst (λ w. HasForm spec w) (sym is) (of_number (minimum + x) other few room)
 increment_form spec minimum k x v other few (missing ones is) =
-    subst (λ w. HasForm spec w) (sym is) (of_number (2 ^ spec.width - 1) other few (omega (arith, power_positive spec.width)))
+    subst (λ w. HasForm spec w) (sym is)
+    (of_number (2 ^ spec.width - 1) other few (omega (arith, power_positive spec.width)))
 
 -- so has each of them
 increments_form : (spec : Spec) (minimum k : ℕ) (xs : List ℕ) (vs : List Raw)
     → (spec.kind ≡ kinds.Text → ⊥) → spec.width ≤ 64
     → Pairwise (HasIncrement spec.width minimum k) xs vs → AllForm spec vs
 increments_form spec minimum k [] [] other few h = tt
-increments_form spec minimum k (x ∷ xs) (v ∷ vs) other few h = (increment_form spec minimum k x v other few h.0, increments_form spec minimum k xs vs other few h.1)
+increments_form spec minimum k (x ∷ xs) (v ∷ vs) other few h = (
+  increment_form spec minimum k x v other few h.0,
+  increments_form spec minimum k xs vs other few h.1,
+)
 increments_form spec minimum k [] (v ∷ vs) other few h = absurd h
 increments_form spec minimum k (x ∷ xs) [] other few h = absurd h
 
@@ -80,26 +94,35 @@ joined_below (x ∷ xs) ys a b = (a.0, joined_below xs ys a.1 b)
 text_form : (spec : Spec) (k : ℕ) (own : List ℕ) (v : Raw) → spec.kind ≡ kinds.Text
     → k ≤ spec.width / 8 → HasText (spec.width / 8) k own v → HasForm spec v
 text_form spec k own v is short (is_filled size all other value) =
-    let spaces : length {A = ℕ} (replicate (spec.width / 8 - k) 32) ≡ spec.width / 8 - k = length-replicate _ _ in
-    let whole : length (own ++ replicate (spec.width / 8 - k) 32) ≡ spec.width / 8 = omega (arith, length-append own (replicate (spec.width / 8 - k) 32), size, spaces, short) in
-    subst (λ w. HasForm spec w) (sym value) (of_text (own ++ replicate (spec.width / 8 - k) 32) is whole (joined_below own (replicate (spec.width / 8 - k) 32) all (spaces_below _)))
+    let spaces : length {A = ℕ} (replicate (spec.width / 8 - k) 32) ≡ spec.width / 8 - k =
+    length-replicate _ _ in
+    let whole : length (own ++ replicate (spec.width / 8 - k) 32) ≡ spec.width / 8 =
+    omega (arith, length-append own (replicate (spec.width / 8 - k) 32), size, spaces, short) in
+    subst (λ w. HasForm spec w) (sym value)
+    (of_text (own ++ replicate (spec.width / 8 - k) 32) is whole
+    (joined_below own (replicate (spec.width / 8 - k) 32) all (spaces_below _)))
 text_form spec k own v is short (ones_text ones value) =
-    subst (λ w. HasForm spec w) (sym value) (of_text (replicate (spec.width / 8) 255) is (length-replicate _ _) (ones_below _))
+    subst (λ w. HasForm spec w) (sym value)
+    (of_text (replicate (spec.width / 8) 255) is (length-replicate _ _) (ones_below _))
 
 -- so has each of them
 texts_form : (spec : Spec) (k : ℕ) (own : List (List ℕ)) (vs : List Raw) → spec.kind ≡ kinds.Text
     → k ≤ spec.width / 8 → Pairwise (HasText (spec.width / 8) k) own vs → AllForm spec vs
 texts_form spec k [] [] is short h = tt
-texts_form spec k (x ∷ xs) (v ∷ vs) is short h = (text_form spec k x v is short h.0, texts_form spec k xs vs is short h.1)
+texts_form spec k (x ∷ xs) (v ∷ vs) is short h =
+    (text_form spec k x v is short h.0, texts_form spec k xs vs is short h.1)
 texts_form spec k [] (v ∷ vs) is short h = absurd h
 texts_form spec k (x ∷ xs) [] is short h = absurd h
 
 -- the values of a column have its spec's form
 pub column_form : (spec : Spec) (values : List Raw) (column : List Bool)
     → IsColumn spec values column → AllForm spec values
-column_form spec values column (equal minimum form same is) = equal_form spec minimum values form same
+column_form spec values column (equal minimum form same is) =
+    equal_form spec minimum values form same
 column_form spec values column (number_column minimum k increments form some few each is) =
-    let kind = number_kind spec minimum form in increments_form spec minimum k increments values kind.0 kind.1 each
+    let kind =
+    number_kind spec minimum form in
+    increments_form spec minimum k increments values kind.0 kind.1 each
 column_form spec values column (text_column ignored k own form some few short each is) =
     texts_form spec k own values (text_kind spec ignored form) short each
 
@@ -128,8 +151,10 @@ same_raw_again (Text a) = (bytes_eq-Decides a a).1 refl
 pub are_equal : (v : Raw) (vs : List Raw) → list_all (λ w. same_raw w v) vs ≡ true
     → AllByRecursion (λ w. w ≡ v) vs
 are_equal v [] e = tt
-are_equal v (w ∷ vs) e =
-    (same_raw_is w v (and_first (same_raw w v) (list_all (λ u. same_raw u v) vs) e), are_equal v vs (and_second (same_raw w v) (list_all (λ u. same_raw u v) vs) e))
+are_equal v (w ∷ vs) e = (
+  same_raw_is w v (and_first (same_raw w v) (list_all (λ u. same_raw u v) vs) e),
+  are_equal v vs (and_second (same_raw w v) (list_all (λ u. same_raw u v) vs) e),
+)
 
 -- and the other way round
 are_equal_again : (u v : Raw) (vs : List Raw) → v ≡ u → AllByRecursion (λ w. w ≡ u) vs
@@ -180,7 +205,9 @@ agreeing_again i spec x one = agreeing_again_by i spec x _ refl one
 agreed_by : (spec : Spec) (x : List Raw × List Bool) (b : Bool)
     → same_kind spec.kind kinds.Count ≡ b → (b && not (all_equal x.0)) ≡ false
     → spec.kind ≡ kinds.Count → all_equal x.0 ≡ true
-agreed_by spec x false e agree is = let no : same_kind spec.kind kinds.Count ≡ true = ap (λ k. same_kind k kinds.Count) is in let bad = sym no ∙ e in cc
+agreed_by spec x false e agree is =
+    let no : same_kind spec.kind kinds.Count ≡ true =
+    ap (λ k. same_kind k kinds.Count) is in let bad = sym no ∙ e in cc
 agreed_by spec x true e agree is = not_false (all_equal x.0) agree
 
 -- values that agree are those that were read, and a factor's are equal
@@ -221,8 +248,16 @@ column_step : (n i met : ℕ) (x : Column) (cs : List Column) (more : ℕ → Co
 unfolding columns_at
 column_step n i met x cs more column others rest items some many is one room after =
     let within : ltb most_values (i * n) ≡ false = le-ltb _ _ room in
-    let count : count_of x.values ≡ number_of (get_or x.values 0 (Number 0)) = count_is x.values (omega (arith, some, many)) in
-    rw (within, append_assoc column others rest, column_again n i x.spec x.values column (others ++ rest) many is, agreeing_again i x.spec (x.values, others ++ rest) one, count, after) refl
+    let count : count_of x.values ≡ number_of (get_or x.values 0 (Number 0)) =
+    count_is x.values (omega (arith, some, many)) in
+    rw (
+      within,
+      append_assoc column others rest,
+      column_again n i x.spec x.values column (others ++ rest) many is,
+      agreeing_again i x.spec (x.values, others ++ rest) one,
+      count,
+      after,
+    ) refl
 
 -- columns that stand along a course are read
 pub columns_again : (n i j : ℕ) (c : Course) (cs : List Column) (items : ℕ) (front rest : List Bool)
@@ -241,10 +276,17 @@ columns_again n i j (asks met d spec more) (x ∷ cs) items front rest some are 
     let same_d : x.fxy ≡ d = eqb-true _ _ (and_first _ _ like) in
     let same_s : x.spec ≡ spec = same_spec_is _ _ (and_second _ _ like) in
     let limits = limit_step i (length cs) n room in
-    let after = columns_again n (i + 1) j (more (number_of (get_or x.values 0 (Number 0)))) cs items are.1 rest some are.6 g.1 limits.1 in
-    let step = column_step n i met x cs more are.0 are.1 rest items some are.3 are.4 are.5 limits.0 after in
-    let course : asks met x.fxy x.spec more ≡ asks met d spec more = λ t. asks met (same_d t) (same_s t) more in
-    ap (λ xs. columns_at n i (asks met d spec more) (xs ++ rest)) are.2 ∙ sym (ap (λ c. columns_at n i c ((are.0 ++ are.1) ++ rest)) course) ∙ step
+    let after =
+    columns_again n (i + 1) j
+    (more
+    (number_of (get_or x.values 0 (Number 0)))) cs items are.1 rest some are.6 g.1 limits.1 in
+    let step =
+    column_step n i met x cs more are.0 are.1 rest items some are.3 are.4 are.5 limits.0 after
+    in
+    let course : asks met x.fxy x.spec more ≡ asks met d spec more =
+    λ t. asks met (same_d t) (same_s t) more in
+    ap (λ xs. columns_at n i (asks met d spec more) (xs ++ rest)) are.2
+    ∙ sym (ap (λ c. columns_at n i c ((are.0 ++ are.1) ++ rest)) course) ∙ step
 
 -- ---- what is read stands
 
@@ -262,17 +304,20 @@ same_course : (spec : Spec) (more : ℕ → Course) (values : List Raw) (k : ℕ
     → (same_kind spec.kind kinds.Count ≡ false → (n : ℕ) → more n ≡ more 0)
     → (spec.kind ≡ kinds.Count → all_equal values ≡ true) → k < length values
     → more (count_of values) ≡ more (number_of (get_or values k (Number 0)))
-same_course spec more values k false e steady agree short = steady e (count_of values) ∙ sym (steady e (number_of (get_or values k (Number 0))))
+same_course spec more values k false e steady agree short =
+    steady e (count_of values) ∙ sym (steady e (number_of (get_or values k (Number 0))))
 same_course spec more values k true e steady agree short =
     let all = all_equal_is values (agree (kind_is spec.kind e)) in
     let here : get_or values k (Number 0) ≡ all.0 = value_is all.0 values k all.1 short in
-    let first : get_or values 0 (Number 0) ≡ all.0 = value_is all.0 values 0 all.1 (omega (arith, short)) in
+    let first : get_or values 0 (Number 0) ≡ all.0 =
+    value_is all.0 values 0 all.1 (omega (arith, short)) in
     ap more (count_is values (omega (arith, short)) ∙ ap number_of (first ∙ sym here))
 
 -- a raw value of a spec's form makes a field that is asked for
 field_stands : (d : ℕ) (spec : Spec) (raw : Raw) → HasForm spec raw
     → stands_for d spec (record { fxy = d; spec = spec; raw = raw }) ≡ true
-field_stands d spec raw form = rw (eq-eqb d d refl, spec_is_same spec, form_passes spec raw form) refl
+field_stands d spec raw form =
+    rw (eq-eqb d d refl, spec_is_same spec, form_passes spec raw form) refl
 
 -- the column that was read and those after it
 column_joined : (n i met d : ℕ) (spec : Spec) (more : ℕ → Course) (front : List Bool)
@@ -287,8 +332,18 @@ column_joined n i met d spec more front x f room steady found agree after =
     let column : Column = record { fxy = d; spec = spec; values = x.0 } in
     record {
       packed = found.0 ++ after.packed;
-      columns = (found.0, after.packed, refl, found.1, found.2, λ is. all_equal_is x.0 (agree is), after.columns);
-      spelt = found.3 ∙ ap (λ xs. found.0 ++ xs) after.spelt ∙ sym (append_assoc found.0 after.packed f.rest);
+      columns = (
+        found.0,
+        after.packed,
+        refl,
+        found.1,
+        found.2,
+        λ is. all_equal_is x.0 (agree is),
+        after.columns,
+      );
+      spelt =
+          found.3 ∙ ap (λ xs. found.0 ++ xs) after.spelt
+          ∙ sym (append_assoc found.0 after.packed f.rest);
       asked = λ j k short.
           let inside : k < length x.0 = omega (arith, short, found.1) in
           let form = form_of spec x.0 k (column_form spec x.0 found.0 found.2) inside in
@@ -312,18 +367,32 @@ pub columns_found : (n i used : ℕ) (c : Course) (front : List Bool) (f : Colum
 unfolding columns_at items_of IsSteady
 columns_found n i used (ends m) front f steady room e =
     subst (λ g. WalkFound n i (ends m) front g) (ok_is _ _ e)
-    (record { packed = []; columns = refl; spelt = refl; asked = λ j k short. refl; room = omega (arith, room) })
-columns_found n i used (stops met fault) front f steady room e = absurd (not_stopped n i fault f _ e)
+    (record {
+      packed = [];
+      columns = refl;
+      spelt = refl;
+      asked = λ j k short. refl;
+      room = omega
+          (arith, room);
+    })
+columns_found n i used (stops met fault) front f steady room e =
+    absurd (not_stopped n i fault f _ e)
 columns_found n i used (asks met d spec more) front f steady room e =
     let g = guarded (nat_lt most_values (i * n)) _ _ f e in
     let a = bind_ok (column_at n i spec front >>= agreeing i spec) _ f g.1 in
     let b = bind_ok (column_at n i spec front) _ a.0 a.1 in
     let same = agreed i spec b.0 a.0 b.2 in
-    let found = subst (λ x. ColumnFound n spec front x) same.0 (column_found n i spec front b.0 b.1) in
-    let agree = subst (λ (x : List Raw × List Bool). spec.kind ≡ kinds.Count → all_equal x.0 ≡ true) same.0 same.1 in
+    let found =
+    subst (λ x. ColumnFound n spec front x) same.0 (column_found n i spec front b.0 b.1) in
+    let agree =
+    subst
+    (λ (x : List Raw × List Bool). spec.kind ≡ kinds.Count → all_equal x.0
+    ≡ true) same.0 same.1 in
     let h = bind_ok (columns_at n (i + 1) (more (count_of a.0.0)) a.0.1) _ f a.2 in
     let within : i * n ≤ most_values = ltb-false _ _ g.0 in
     let next : (i + 1) * n ≤ most_values + n = omega (arith, within) in
-    let after = columns_found n (i + 1) met (more (count_of a.0.0)) a.0.1 h.0 (steady.3 (count_of a.0.0)) next h.1 in
+    let after =
+    columns_found n (i + 1) met (more (count_of a.0.0)) a.0.1 h.0
+    (steady.3 (count_of a.0.0)) next h.1 in
     subst (λ g. WalkFound n i (asks met d spec more) front g) (ok_is _ _ h.2)
     (column_joined n i met d spec more front a.0 h.0 within steady.2 found agree after)

@@ -1,6 +1,7 @@
 -- The words on data, from the laws of plain data and of columns: for the law on what messages know
 -- of data (`data_hold_subsets`).
-use Rattle.std.proofs.Common.{◌≡◌, ℕ, zero, suc, Bool, true, false, List, ◌++◌, Result, Ok, Err, refl, sym, ap, subst, ◌∙◌, arith}
+use Rattle.std.proofs.Common.{◌≡◌, ℕ, zero, suc, Bool, true, false, List, ◌++◌, Result, Ok, Err}
+use Rattle.std.proofs.Common.{refl, sym, ap, subst, ◌∙◌, arith}
 use Rattle.bufr_tables.specs.Answers.{result_map}
 use Rattle.bufr_expand.specs.Trees.{Tree}
 use Rattle.bufr_expand.specs.Courses.{course}
@@ -10,10 +11,13 @@ use Rattle.bufr_data.specs.declared.fault.WriteFault.{WriteFault}
 use Rattle.bufr_data.specs.Plain.{SubsetsRead, plain_subsets, subsets_at}
 use Rattle.bufr_data.specs.Columns.{subsets_from}
 use Rattle.bufr_data.specs.ColumnReading.{ColumnsFound, columns_at}
-use Rattle.bufr_data.specs.Data.{BeginsWithData, subsets_in, ReadsExactly, RefusesExactly, WritesExactly, MisfitsExactly, BareDataAreData, PlainDataAreBare}
+use Rattle.bufr_data.specs.Data.{BeginsWithData, subsets_in, ReadsExactly, RefusesExactly}
+use Rattle.bufr_data.specs.Data.{WritesExactly, MisfitsExactly, BareDataAreData, PlainDataAreBare}
 use Rattle.bufr_data.specs.CourseLaws.{AreUnrolled, AreAllowed, Laws}
-use Rattle.bufr_data.proofs.FitFacts.{written_fit, fitting_written, all_read_stand, all_standing_read}
-use Rattle.bufr_data.proofs.CauseFacts.{subsets_refused_first, first_subsets_refused, written_refused_first, first_written_refused}
+use Rattle.bufr_data.proofs.FitFacts.{written_fit, fitting_written, all_read_stand}
+use Rattle.bufr_data.proofs.FitFacts.{all_standing_read}
+use Rattle.bufr_data.proofs.CauseFacts.{subsets_refused_first, first_subsets_refused}
+use Rattle.bufr_data.proofs.CauseFacts.{written_refused_first, first_written_refused}
 use Rattle.bufr_data.proofs.ColumnCourses.{first_of_columns, columns_of_first}
 use Rattle.bufr_data.proofs.ColumnRefusals.{columns_refused, columns_refused_again}
 use Rattle.bufr_data.proofs.PackedFacts.{compressed_stand, compressed_read, compressed_hold}
@@ -39,9 +43,12 @@ plain_stand : AreUnrolled
     → (tree : Tree) (count : ℕ) (front : List Bool) (found : List Subset × List Bool)
     → subsets_in tree false count front ≡ Ok found → BeginsWithData tree false count front found
 plain_stand law tree count front found e =
-    let all = mapped_ok (λ (f : SubsetsRead). (f.subsets, f.rest)) (subsets_at (course tree) 1 count 0 front) found e in
+    let all =
+    mapped_ok (λ (f : SubsetsRead). (f.subsets, f.rest))
+    (subsets_at (course tree) 1 count 0 front) found e in
     let h = all_read_stand law tree 1 count 0 front all.0 (omega arith) all.1 in
-    subst (BeginsWithData tree false count front) all.2 (plain_subsets all.0.subsets, (all.0.items, h.1, refl), h.0, h.2)
+    subst (BeginsWithData tree false count front) all.2
+    (plain_subsets all.0.subsets, (all.0.items, h.1, refl), h.0, h.2)
 
 -- and plain data at the front are read
 plain_read : AreAllowed
@@ -50,7 +57,8 @@ plain_read : AreAllowed
 plain_read law tree count front (subsets, rest) (data_bits, (items, fit, same), many, joined) =
     let f : SubsetsRead = record { subsets = subsets; items = items; rest = rest } in
     let is : subsets_at (course tree) 1 count 0 front ≡ Ok f =
-    all_standing_read law tree 1 count 0 front f (many, fit, joined ∙ ap (λ (xs : List Bool). xs ++ rest) same) in
+    all_standing_read law tree 1 count 0 front f
+    (many, fit, joined ∙ ap (λ (xs : List Bool). xs ++ rest) same) in
     rw is refl
 
 -- compressed data at the front are read
@@ -65,25 +73,32 @@ packed_read law tree count front (subsets, rest) (data_bits, is, many, joined) =
 pub reads_exactly : Laws
     → (tree : Tree) (compressed : Bool) (count : ℕ) (front : List Bool)
     (found : List Subset × List Bool) → ReadsExactly tree compressed count front found
-reads_exactly laws tree false count front found =
-    (plain_stand laws.unrolled tree count front found, plain_read laws.allowed tree count front found)
-reads_exactly laws tree true count front found =
-    (compressed_stand laws.unrolled tree count front found, packed_read laws.allowed tree count front found)
+reads_exactly laws tree false count front found = (
+  plain_stand laws.unrolled tree count front found,
+  plain_read laws.allowed tree count front found,
+)
+reads_exactly laws tree true count front found = (
+  compressed_stand laws.unrolled tree count front found,
+  packed_read laws.allowed tree count front found,
+)
 
 -- `RefusesExactly`, plain and compressed
 pub refuses_exactly : Laws
     → (tree : Tree) (compressed : Bool) (count : ℕ) (front : List Bool) (fault : ReadFault)
     → RefusesExactly tree compressed count front fault
 refuses_exactly laws tree false count front fault = (
-  λ e. subsets_refused_first laws tree count front fault (mapped_err _ (subsets_at (course tree) 1 count 0 front) fault e),
+  λ e. subsets_refused_first laws tree count front fault
+      (mapped_err _ (subsets_at (course tree) 1 count 0 front) fault e),
   λ h. rw (first_subsets_refused laws tree count front fault h) refl,
 )
 refuses_exactly laws tree true zero front fault = (λ e. absurd cc, λ h. absurd h)
 refuses_exactly laws tree true (suc n) front fault = (
   λ e. first_of_columns laws tree (suc n) front fault
-      (columns_refused (suc n) 1 (course tree 0) front fault (omega arith) (mapped_err _ (columns_at (suc n) 1 (course tree 0) front) fault e)),
+      (columns_refused (suc n) 1 (course tree 0) front fault (omega arith)
+      (mapped_err _ (columns_at (suc n) 1 (course tree 0) front) fault e)),
   λ h. ap (λ o. result_map (λ (f : ColumnsFound). (subsets_from 0 (suc n) f.columns, f.rest)) o)
-      (columns_refused_again (suc n) 1 (course tree 0) front fault (omega arith) (columns_of_first laws tree (suc n) front fault h)),
+      (columns_refused_again (suc n) 1 (course tree 0) front fault (omega arith)
+      (columns_of_first laws tree (suc n) front fault h)),
 )
 
 -- ---- writing
@@ -98,15 +113,18 @@ writes_exactly laws tree false subsets data_bits = (
 )
 writes_exactly laws tree true subsets data_bits = (
   λ e. written_best laws.unrolled tree subsets data_bits e,
-  λ h. fitting_columns_written laws.allowed tree subsets h.1 h.0 h.2 ∙ ap (λ (xs : List Bool). Ok xs) (sym h.3),
+  λ h. fitting_columns_written laws.allowed tree subsets h.1 h.0 h.2
+      ∙ ap (λ (xs : List Bool). Ok xs) (sym h.3),
 )
 
 -- `MisfitsExactly`, plain and compressed
 pub misfits_exactly : Laws
     → (tree : Tree) (compressed : Bool) (subsets : List Subset) (fault : WriteFault)
     → MisfitsExactly tree compressed subsets fault
-misfits_exactly laws tree false subsets fault =
-    (λ e. written_refused_first laws tree subsets fault e, λ h. first_written_refused laws tree subsets fault h)
+misfits_exactly laws tree false subsets fault = (
+  λ e. written_refused_first laws tree subsets fault e,
+  λ h. first_written_refused laws tree subsets fault h,
+)
 misfits_exactly laws tree true subsets fault =
     (λ e. unpacked_is laws tree subsets fault e, λ h. unpacked_again laws tree subsets fault h)
 
@@ -116,7 +134,8 @@ pub bare_are_data : Laws
     → BareDataAreData tree compressed subsets data_bits
 bare_are_data laws tree false subsets data_bits h = h
 bare_are_data laws tree true subsets data_bits h =
-    compressed_hold laws.unrolled tree subsets data_bits ((writes_exactly laws tree true subsets data_bits).1 h)
+    compressed_hold laws.unrolled tree subsets data_bits
+    ((writes_exactly laws tree true subsets data_bits).1 h)
 
 -- `PlainDataAreBare`
 pub plain_are_bare : (tree : Tree) (subsets : List Subset) (data_bits : List Bool)

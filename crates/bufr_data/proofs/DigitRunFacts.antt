@@ -1,5 +1,7 @@
 -- The number of a text's digits, one character after the other: what `Decimal::parse` counts.
-use Rattle.std.proofs.Common.{◌≡◌, ℕ, zero, suc, ◌+◌, ◌-◌, ◌*◌, ◌^◌, ◌<◌, ◌≤◌, true, false, List, [], ◌∷◌, ◌++◌, length, take, drop, get_or, Option, Some, None, refl, sym, ap, ◌∙◌, arith, subst, take-append-drop}
+use Rattle.std.proofs.Common.{◌≡◌, ℕ, zero, suc, ◌+◌, ◌-◌, ◌*◌, ◌^◌, ◌<◌, ◌≤◌, true, false, List}
+use Rattle.std.proofs.Common.{[], ◌∷◌, ◌++◌, length, take, drop, get_or, Option, Some, None, refl}
+use Rattle.std.proofs.Common.{sym, ap, ◌∙◌, arith, subst, take-append-drop}
 use Rattle.std.specs.Prelude.{nat_lt, if◌then◌else◌}
 use Rattle.std.specs.Char.{is_ascii_digit, digit_value}
 use Rattle.std.specs.Int.{IsInRange}
@@ -28,7 +30,8 @@ digits_more : (t : List ℕ) (k : ℕ) → k < length t
     → digits_in (take (k + 1) t) ≡ digits_in (take k t) ++ digits_in (get_or t k 0 ∷ [])
 digits_more t k h =
     let next : k + 1 ≡ suc k = omega arith in
-    ap (λ n. digits_in (take n t)) next ∙ ap (λ xs. digits_in xs) (front_more t k h) ∙ filter-append is_ascii_digit (take k t) (get_or t k 0 ∷ [])
+    ap (λ n. digits_in (take n t)) next ∙ ap (λ xs. digits_in xs) (front_more t k h)
+    ∙ filter-append is_ascii_digit (take k t) (get_or t k 0 ∷ [])
 
 -- a digit lies between 0 and 9
 digit_range : (c : ℕ) → is_ascii_digit c ≡ true → IsInRange 48 57 c
@@ -40,7 +43,9 @@ pub number_more : (t : List ℕ) (k : ℕ) → k < length t → is_ascii_digit (
 number_more t k h is =
     let c = get_or t k 0 in
     let own : digits_in (c ∷ []) ≡ c ∷ [] = rw is refl in
-    let whole = ap (digits_value 10) (digits_more t k h ∙ ap (λ ds. digits_in (take k t) ++ ds) own) ∙ digits_value_push 10 (digits_in (take k t)) c in
+    let whole =
+    ap (digits_value 10) (digits_more t k h ∙ ap (λ ds. digits_in (take k t) ++ ds) own)
+    ∙ digits_value_push 10 (digits_in (take k t)) c in
     let digit = digit_value_digit c (digit_range c is) in
     let same : digit_value c ≡ c - 48 = omega (arith, digit) in
     whole ∙ ap (λ d. number_of (take k t) * 10 + d) same
@@ -55,16 +60,21 @@ pub number_same : (t : List ℕ) (k : ℕ) → k < length t → is_ascii_digit (
     → number_of (take (k + 1) t) ≡ number_of (take k t)
 number_same t k h is =
     let own : digits_in (get_or t k 0 ∷ []) ≡ [] = rw is refl in
-    ap (digits_value 10) (digits_more t k h ∙ ap (λ ds. digits_in (take k t) ++ ds) own ∙ append_none (digits_in (take k t)))
+    ap (digits_value 10)
+    (digits_more t k h ∙ ap (λ ds. digits_in (take k t) ++ ds) own
+    ∙ append_none (digits_in (take k t)))
 
 -- the digits of a front make no greater number
 number_front : (t : List ℕ) (k : ℕ) → number_of (take k t) ≤ number_of t
 number_front t k =
     let front = digits_in (take k t) in
     let whole : digits_in t ≡ front ++ digits_in (drop k t) =
-    ap (λ xs. digits_in xs) (sym (take-append-drop k t)) ∙ filter-append is_ascii_digit (take k t) (drop k t) in
-    let cut : take (length front) (digits_in t) ≡ front = ap (take (length front)) whole ∙ take_at front (digits_in (drop k t)) _ refl in
-    subst (λ ds. digits_value 10 ds ≤ number_of t) cut (digits_value-take-le 10 (digits_in t) (length front) (omega arith))
+    ap (λ xs. digits_in xs) (sym (take-append-drop k t))
+    ∙ filter-append is_ascii_digit (take k t) (drop k t) in
+    let cut : take (length front) (digits_in t) ≡ front =
+    ap (take (length front)) whole ∙ take_at front (digits_in (drop k t)) _ refl in
+    subst (λ ds. digits_value 10 ds ≤ number_of t) cut
+    (digits_value-take-le 10 (digits_in t) (length front) (omega arith))
 
 -- a number below 2 to the power of 128, else none
 abbrev pub number_if : ℕ → Option ℕ
@@ -92,5 +102,6 @@ take-all (x ∷ t) = ap (λ (u : List ℕ). x ∷ u) (take-all t)
 pub number_all : (t : List ℕ) (k v : ℕ) → k ≡ length t → v ≡ number_of (take k t) → v < 2 ^ 128
     → number_if (number_of t) ≡ Some v
 number_all t k v all e fits =
-    let whole : v ≡ number_of t = e ∙ ap (λ (n : ℕ). number_of (take n t)) all ∙ ap number_of (take-all t) in
+    let whole : v ≡ number_of t =
+    e ∙ ap (λ (n : ℕ). number_of (take n t)) all ∙ ap number_of (take-all t) in
     rw (sym whole, lt-ltb v (2 ^ 128) fits) refl

@@ -1,7 +1,8 @@
 -- What is counted fits the template: its fields are an unrolling of the tree, and each raw value
 -- has its spec's form. For the laws `counted_subsets_fit` and
 -- `fitting_subsets_are_read_and_written`.
-use Rattle.std.proofs.Common.{◌≡◌, ℕ, ◌+◌, ◌≤◌, Bool, false, List, [], ◌∷◌, Result, Ok, Err, refl, sym, ap, subst, ◌∙◌, arith}
+use Rattle.std.proofs.Common.{◌≡◌, ℕ, ◌+◌, ◌≤◌, Bool, false, List, [], ◌∷◌, Result, Ok, Err, refl}
+use Rattle.std.proofs.Common.{sym, ap, subst, ◌∙◌, arith}
 use Rattle.std.specs.Prelude.{map}
 use Rattle.bufr_tables.specs.Answers.{result_map}
 use Rattle.bufr_tables.specs.AnswerLaws.{bind_ok}
@@ -13,12 +14,15 @@ use Rattle.bufr_expand.specs.Limits.{most_items}
 use Rattle.bufr_data.specs.declared.field.Field.{Field}
 use Rattle.bufr_data.specs.declared.field.Subset.{Subset}
 use Rattle.bufr_data.specs.declared.fault.WriteFault.{WriteFault}
-use Rattle.bufr_data.specs.Plain.{number_of, plain_subsets, SubsetRead, SubsetsRead, stands_for, items_of, items_of_all, fields_at, subsets_at}
+use Rattle.bufr_data.specs.Plain.{number_of, plain_subsets, SubsetRead, SubsetsRead, stands_for}
+use Rattle.bufr_data.specs.Plain.{items_of, items_of_all, fields_at, subsets_at}
 use Rattle.bufr_data.specs.Data.{written_bits}
-use Rattle.bufr_data.specs.Fits.{HasForm, told_of, FitsWithin, AllFitWithin, SubsetStands, SubsetsStand}
+use Rattle.bufr_data.specs.Fits.{HasForm, told_of, FitsWithin, AllFitWithin, SubsetStands}
+use Rattle.bufr_data.specs.Fits.{SubsetsStand}
 use Rattle.bufr_data.specs.FormLaws.{asked_is, asked_passes}
 use Rattle.bufr_data.specs.CourseLaws.{AreUnrolled, AreAllowed, Formed}
-use Rattle.bufr_data.proofs.PlainFacts.{guard_ok, ok_is, fields_at-plain, fields_at-found, subsets_at-found, subsets_at-plain}
+use Rattle.bufr_data.proofs.PlainFacts.{guard_ok, ok_is, fields_at-plain, fields_at-found}
+use Rattle.bufr_data.proofs.PlainFacts.{subsets_at-found, subsets_at-plain}
 
 -- ---- the fields that a course allows
 
@@ -47,7 +51,8 @@ allowed_counted j i (stops met fault) (f ∷ fields) n h formed = absurd h
 allowed_counted j i (asks met d spec more) [] n h formed = absurd cc
 allowed_counted j i (asks met d spec more) (f ∷ fields) n h formed =
     let form : HasForm spec f.raw = subst (λ (s : Spec). HasForm s f.raw) h.1 formed.0 in
-    rw (asked_passes d spec f (h.0, h.1, form)) (allowed_counted j (i + 1) (more (number_of f.raw)) fields n h.2 formed.1)
+    rw (asked_passes d spec f (h.0, h.1, form))
+    (allowed_counted j (i + 1) (more (number_of f.raw)) fields n h.2 formed.1)
 
 -- ---- one subset
 
@@ -64,7 +69,9 @@ counted_fit law tree j used n fields le e =
 pub fitting_counted : AreAllowed → (tree : Tree) (j used n : ℕ) (fields : List Field)
     → FitsWithin tree used fields n → items_of j 1 (course tree used) fields ≡ Ok n
 fitting_counted law tree j used n fields h =
-    allowed_counted j 1 (course tree used) fields n (law tree used (map told_of fields) n (h.1.operators, h.0, h.1.unrolled, h.2, h.3)) h.1.formed
+    allowed_counted j 1 (course tree used) fields n
+    (law tree used (map told_of fields) n
+    (h.1.operators, h.0, h.1.unrolled, h.2, h.3)) h.1.formed
 
 -- a subset that is read fits and stands there
 pub read_stands : AreUnrolled → (tree : Tree) (j used : ℕ) (front : List Bool) (f : SubsetRead)
@@ -79,7 +86,8 @@ pub standing_read : AreAllowed → (tree : Tree) (j used : ℕ) (front : List Bo
     → SubsetStands tree used front f → fields_at j 1 (course tree used) front ≡ Ok f
 standing_read law tree j used front f h =
     ap (fields_at j 1 (course tree used)) h.1
-    ∙ fields_at-plain j 1 (course tree used) f.fields f.items f.rest (fitting_counted law tree j used f.items f.fields h.0)
+    ∙ fields_at-plain j 1 (course tree used) f.fields f.items f.rest
+    (fitting_counted law tree j used f.items f.fields h.0)
 
 -- ---- subsets
 
@@ -93,23 +101,33 @@ all_counted_fit law tree j used n [] le e =
     (0, refl, omega arith, omega arith)
 all_counted_fit law tree j used n (s ∷ subsets) le e =
     let a = bind_ok (items_of j 1 (course tree used) s.fields) _ n e in
-    let first : FitsWithin tree used s.fields a.0 = counted_fit law tree j used a.0 s.fields le a.1 in
-    let others : AllFitWithin tree a.0 subsets n = all_counted_fit law tree (j + 1) a.0 n subsets first.3 a.2 in
-    (first.0 + others.0, (first.0, others.0, first.1, others.1, refl), omega (arith, first.2, others.2), others.3)
+    let first : FitsWithin tree used s.fields a.0 =
+    counted_fit law tree j used a.0 s.fields le a.1 in
+    let others : AllFitWithin tree a.0 subsets n =
+    all_counted_fit law tree (j + 1) a.0 n subsets first.3 a.2 in (
+      first.0 + others.0,
+      (first.0, others.0, first.1, others.1, refl),
+      omega (arith, first.2, others.2),
+      others.3,
+    )
 
 -- and subsets that fit are counted
 pub all_fitting_counted : AreAllowed → (tree : Tree) (j used n : ℕ) (subsets : List Subset)
     → AllFitWithin tree used subsets n → items_of_all (course tree) j used subsets ≡ Ok n
 unfolding items_of_all
-all_fitting_counted law tree j used n [] h = ap (λ k. Ok k) (let none : h.0 ≡ 0 = h.1 in let end : n ≡ used + h.0 = h.2 in omega arith)
+all_fitting_counted law tree j used n [] h =
+    ap (λ k. Ok k) (let none : h.0 ≡ 0 = h.1 in let end : n ≡ used + h.0 = h.2 in omega arith)
 all_fitting_counted law tree j used n (s ∷ subsets) h =
     let own = h.1.0 in
     let others = h.1.1 in
     let sum : h.0 ≡ own + others = h.1.4 in
     let end : n ≡ used + h.0 = h.2 in
     let few : n ≤ most_items = h.3 in
-    let first : items_of j 1 (course tree used) s.fields ≡ Ok (used + own) = fitting_counted law tree j used (used + own) s.fields (own, h.1.2, refl, omega arith) in
-    rw first (all_fitting_counted law tree (j + 1) (used + own) n subsets (others, h.1.3, omega arith, few))
+    let first : items_of j 1 (course tree used) s.fields ≡ Ok (used + own) =
+    fitting_counted law tree j used (used + own) s.fields (own, h.1.2, refl, omega arith) in
+    rw first
+    (all_fitting_counted law tree (j + 1) (used + own) n subsets
+    (others, h.1.3, omega arith, few))
 
 -- subsets that are read fit and stand there
 pub all_read_stand : AreUnrolled
@@ -124,7 +142,8 @@ pub all_standing_read : AreAllowed
     → (tree : Tree) (j n used : ℕ) (front : List Bool) (f : SubsetsRead)
     → SubsetsStand tree n used front f → subsets_at (course tree) j n used front ≡ Ok f
 all_standing_read law tree j n used front f h =
-    subsets_at-plain (course tree) j n used front f h.0 (all_fitting_counted law tree j used f.items f.subsets h.1) h.2
+    subsets_at-plain (course tree) j n used front f h.0
+    (all_fitting_counted law tree j used f.items f.subsets h.1) h.2
 
 -- what is answered of a mapped answer was answered before
 map_ok : (o : Result ℕ WriteFault) (bits added : List Bool)
@@ -144,4 +163,5 @@ written_fit law tree subsets added e =
 pub fitting_written : AreAllowed → (tree : Tree) (subsets : List Subset) (items : ℕ)
     → AllFitWithin tree 0 subsets items
     → written_bits tree false subsets ≡ Ok (plain_subsets subsets)
-fitting_written law tree subsets items h = rw (all_fitting_counted law tree 1 0 items subsets h) refl
+fitting_written law tree subsets items h =
+    rw (all_fitting_counted law tree 1 0 items subsets h) refl

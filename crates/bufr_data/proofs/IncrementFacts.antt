@@ -1,6 +1,9 @@
 -- Increments read one after the other have the values of their list: for the index of compressed
 -- data (`Columns::index`).
-use Rattle.std.proofs.Common.{◌≡◌, ℕ, zero, suc, ◌+◌, ◌-◌, ◌*◌, ◌<◌, ◌≤◌, Bool, true, false, cond, List, [], ◌∷◌, ◌++◌, length, take, drop, Some, None, Result, inl, inr, Ok, Err, refl, sym, ap, ◌∙◌, arith, append_assoc, append-nil, length-append}
+use Rattle.std.proofs.Common.{◌≡◌, ℕ, zero, suc, ◌+◌, ◌-◌, ◌*◌, ◌<◌, ◌≤◌, Bool, true, false, cond}
+use Rattle.std.proofs.Common.{List, [], ◌∷◌, ◌++◌, length, take, drop, Some, None, Result, inl, inr}
+use Rattle.std.proofs.Common.{Ok, Err, refl, sym, ap, ◌∙◌, arith, append_assoc, append-nil}
+use Rattle.std.proofs.Common.{length-append}
 use Rattle.std.specs.Prelude.{◌&&◌, ◌==◌}
 use Rattle.std.specs.List.{AllByRecursion, list_all}
 use Rattle.std.proofs.lemmas.Bool.{le-ltb, eq-eqb, cases_lt, lt-ltb}
@@ -15,7 +18,8 @@ use Rattle.bufr_bits.specs.Bits.{number, numbers, number_at}
 use Rattle.bufr_data.specs.declared.field.Raw.{Raw}
 use Rattle.bufr_data.specs.declared.field.Raw.TheVariants.{Number}
 use Rattle.bufr_data.specs.declared.fault.ReadFault.{ReadFault}
-use Rattle.bufr_data.specs.ColumnReading.{raised, value_then, all_raised, all_equal, count_of, same_raw}
+use Rattle.bufr_data.specs.ColumnReading.{raised, value_then, all_raised, all_equal, count_of}
+use Rattle.bufr_data.specs.ColumnReading.{same_raw}
 
 -- these values, and then those that are found
 abbrev pub behind_values : List Raw → Result (List Raw) ReadFault → Result (List Raw) ReadFault
@@ -23,10 +27,12 @@ behind_values values (Ok found) = Ok (values ++ found)
 behind_values values (Err e) = Err e
 
 -- the first j of n increments have values: the first of them, and whether all are the same
-pub record RaisedSoFar (i width minimum k n j : ℕ) (front rest : List Bool) (first : ℕ) (equal : Bool) : Type 0 where
+pub record RaisedSoFar (i width minimum k n j : ℕ) (front rest : List Bool) (first : ℕ)
+    (equal : Bool) : Type 0 where
   pub values : List Raw
   pub many : length values ≡ j
-  pub found : all_raised 1 i width minimum k (numbers n k front) ≡ behind_values values (all_raised (j + 1) i width minimum k (numbers (n - j) k rest))
+  pub found : all_raised 1 i width minimum k (numbers n k front)
+      ≡ behind_values values (all_raised (j + 1) i width minimum k (numbers (n - j) k rest))
   pub first_is : count_of values ≡ first
   pub equal_is : all_equal values ≡ equal
   pub are_numbers : AllByRecursion (λ v. v ≡ Number (number_of v)) values
@@ -115,7 +121,9 @@ all_push : (u v : Raw) (us : List Raw)
     → list_all (λ w. same_raw w u) (us ++ v ∷ [])
     ≡ (list_all (λ w. same_raw w u) us && same_raw v u)
 all_push u v [] = and_true (same_raw v u)
-all_push u v (w ∷ us) = ap (λ b. same_raw w u && b) (all_push u v us) ∙ and_again (same_raw w u) (list_all (λ x. same_raw x u) us) (same_raw v u)
+all_push u v (w ∷ us) =
+    ap (λ b. same_raw w u && b) (all_push u v us)
+    ∙ and_again (same_raw w u) (list_all (λ x. same_raw x u) us) (same_raw v u)
 
 -- one value more
 not_zero : (j : ℕ) → (suc j == 0) ≡ false
@@ -131,7 +139,8 @@ pushed zero first x equal [] many all head same = (refl, rw (← same, eq-eqb x 
 pushed (suc j) first x equal [] many all head same = absurd (omega (arith, many))
 pushed zero first x equal (u ∷ us) many all head same = absurd (omega (arith, many))
 pushed (suc j) first x equal (u ∷ us) many all head same =
-    rw (not_zero j) (head, all_push u (Number x) us ∙ (λ t. same t && with_first u x first all.0 head t))
+    rw (not_zero j)
+    (head, all_push u (Number x) us ∙ (λ t. same t && with_first u x first all.0 head t))
 
 -- one more increment that has a value keeps what is known so far
 pub one_raised : (i width minimum k n j x number : ℕ) (front rest last : List Bool) (first : ℕ)
@@ -140,15 +149,23 @@ pub one_raised : (i width minimum k n j x number : ℕ) (front rest last : List 
     → RaisedSoFar i width minimum k n (j + 1) front last (cond (j == 0) number first)
     (equal && (number == cond (j == 0) number first))
 one_raised i width minimum k n j x number front rest last first equal less so_far e value =
-    let now = pushed j first number equal so_far.values so_far.many so_far.are_numbers so_far.first_is so_far.equal_is in
+    let now =
+    pushed j first number equal so_far.values so_far.many so_far.are_numbers so_far.first_is
+    so_far.equal_is in
     record {
       values = so_far.values ++ Number number ∷ [];
       many = length-append so_far.values (Number number ∷ []) ∙ ap (λ m. m + 1) so_far.many;
       found =
           so_far.found
-          ∙ ap (λ xs. behind_values so_far.values (all_raised (j + 1) i width minimum k xs)) (next_number k n j x rest last less e)
-          ∙ ap (λ o. behind_values so_far.values (value_then (j + 1) i o (all_raised (j + 1 + 1) i width minimum k (numbers (n - (j + 1)) k last)))) (sym value)
-          ∙ behind_joined so_far.values (Number number) (all_raised (j + 1 + 1) i width minimum k (numbers (n - (j + 1)) k last));
+          ∙ ap (λ xs. behind_values so_far.values (all_raised (j + 1) i width minimum k xs))
+          (next_number k n j x rest last less e)
+          ∙ ap
+          (λ o. behind_values so_far.values
+          (value_then (j + 1) i o
+          (all_raised (j + 1 + 1) i width minimum k (numbers (n - (j + 1)) k last))))
+          (sym value)
+          ∙ behind_joined so_far.values (Number number)
+          (all_raised (j + 1 + 1) i width minimum k (numbers (n - (j + 1)) k last));
       first_is = now.0;
       equal_is = now.1;
       are_numbers = all_pushed so_far.values number so_far.are_numbers;
@@ -161,8 +178,12 @@ pub raised_fails : (i width minimum k n j x : ℕ) (front rest last : List Bool)
     → all_raised 1 i width minimum k (numbers n k front) ≡ Err (faults.IncrementRange (j + 1) i)
 raised_fails i width minimum k n j x front rest last first equal less so_far e value =
     so_far.found
-    ∙ ap (λ xs. behind_values so_far.values (all_raised (j + 1) i width minimum k xs)) (next_number k n j x rest last less e)
-    ∙ ap (λ o. behind_values so_far.values (value_then (j + 1) i o (all_raised (j + 1 + 1) i width minimum k (numbers (n - (j + 1)) k last)))) (sym value)
+    ∙ ap (λ xs. behind_values so_far.values (all_raised (j + 1) i width minimum k xs))
+    (next_number k n j x rest last less e)
+    ∙ ap
+    (λ o. behind_values so_far.values
+    (value_then (j + 1) i o
+    (all_raised (j + 1 + 1) i width minimum k (numbers (n - (j + 1)) k last)))) (sym value)
 
 -- at the end all increments have values
 pub all_raised_so_far : (i width minimum k n j : ℕ) (front rest : List Bool) (first : ℕ)
@@ -172,7 +193,11 @@ unfolding numbers
 all_raised_so_far i width minimum k n j front rest first equal done so_far =
     let none : n - j ≡ 0 = omega (arith, done) in (
       so_far.values,
-      so_far.found ∙ ap (λ m. behind_values so_far.values (all_raised (j + 1) i width minimum k (numbers m k rest))) none ∙ ap (λ vs. Ok vs) (append-nil so_far.values),
+      so_far.found
+          ∙ ap
+          (λ m. behind_values so_far.values
+          (all_raised (j + 1) i width minimum k (numbers m k rest))) none
+          ∙ ap (λ vs. Ok vs) (append-nil so_far.values),
       so_far.first_is,
       so_far.equal_is,
     )
@@ -182,7 +207,8 @@ pub enough_left : (n j k : ℕ) (front : List Bool) → j < n → (n - j) * k �
     → k ≤ length front
 enough_left n j k front less enough =
     let some : n - j ≡ suc (n - (j + 1)) = omega (arith, less) in
-    let times : (n - j) * k ≡ k + (n - (j + 1)) * k = ap (λ m. m * k) some ∙ next_times (n - (j + 1)) k in
+    let times : (n - j) * k ≡ k + (n - (j + 1)) * k =
+    ap (λ m. m * k) some ∙ next_times (n - (j + 1)) k in
     omega (arith, enough, times)
 
 -- as long as increments are to come there is one
@@ -200,7 +226,8 @@ pub enough_behind : (n j k : ℕ) (rest last : List Bool) → j < n → (n - j) 
     → last ≡ drop k rest → (n - (j + 1)) * k ≤ length last
 enough_behind n j k rest last less enough is =
     let some : n - j ≡ suc (n - (j + 1)) = omega (arith, less) in
-    let times : (n - j) * k ≡ k + (n - (j + 1)) * k = ap (λ m. m * k) some ∙ next_times (n - (j + 1)) k in
+    let times : (n - j) * k ≡ k + (n - (j + 1)) * k =
+    ap (λ m. m * k) some ∙ next_times (n - (j + 1)) k in
     let size : length last ≡ length rest - k = ap length is ∙ length-drop k rest in
     omega (arith, enough, times, size)
 

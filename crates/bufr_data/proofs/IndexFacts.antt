@@ -1,5 +1,6 @@
 -- The subset of an index, and the one value of a column: for `Columns::subset`.
-use Rattle.std.proofs.Common.{◌≡◌, ℕ, zero, suc, ◌+◌, ◌*◌, ◌≤◌, List, [], ◌∷◌, length, map, take, refl, sym, ap, ◌∙◌, arith}
+use Rattle.std.proofs.Common.{◌≡◌, ℕ, zero, suc, ◌+◌, ◌*◌, ◌≤◌, List, [], ◌∷◌, length, map, take}
+use Rattle.std.proofs.Common.{refl, sym, ap, ◌∙◌, arith}
 use Rattle.std.proofs.Common.{◌/◌, ◌<◌, Bool, ◌++◌, drop, get_or, Some, append_assoc}
 use Rattle.std.specs.Prelude.{option_map}
 use Rattle.std.specs.List.{flat_map}
@@ -11,12 +12,14 @@ use Rattle.bufr_expand.specs.declared.operators.Spec.{Spec}
 use Rattle.bufr_data.specs.declared.field.Raw.{Raw}
 use Rattle.bufr_data.specs.declared.field.Raw.TheVariants.{Number, Text}
 use Rattle.bufr_data.specs.Plain.{raw_bits}
-use Rattle.bufr_data.specs.Columns.{Pairwise, HasIncrement, HasText, IsColumn, equal, numbers as number_column, texts as text_column}
+use Rattle.bufr_data.specs.Columns.{Pairwise, HasIncrement, HasText, IsColumn, equal}
+use Rattle.bufr_data.specs.Columns.{numbers as number_column, texts as text_column}
 use Rattle.bufr_data.specs.ColumnReading.{filled}
 use Rattle.bufr_data.specs.ColumnCauses.{Heads}
 use Rattle.bufr_data.specs.Indexed.{raised_of, one_behind}
 use Rattle.bufr_data.proofs.PlainFacts.{length-bits}
-use Rattle.bufr_data.proofs.ColumnFacts.{raised_again, filled_again, increment_fits, text_octets, regrouped}
+use Rattle.bufr_data.proofs.ColumnFacts.{raised_again, filled_again, increment_fits, text_octets}
+use Rattle.bufr_data.proofs.ColumnFacts.{regrouped}
 use Rattle.bufr_bits.specs.NumberLaws.{numbers_at_again}
 use Rattle.bufr_data.proofs.ColumnWalks.{value_is}
 use Rattle.bufr_data.specs.declared.field.Field.{Field}
@@ -32,7 +35,9 @@ fields_all : (octets : List ℕ) (n k i : ℕ) (places : List Place) → length 
 fields_all octets n k zero [] all = refl
 fields_all octets n k (suc i) [] all = refl
 fields_all octets n k zero (p ∷ ps) all = absurd (omega (arith, all))
-fields_all octets n k (suc i) (p ∷ ps) all = ap (λ fs. field_of k (column_from octets n p) ∷ fs) (fields_all octets n k i ps (omega (arith, all)))
+fields_all octets n k (suc i) (p ∷ ps) all =
+    ap (λ fs. field_of k (column_from octets n p) ∷ fs)
+    (fields_all octets n k i ps (omega (arith, all)))
 
 -- so the fields are those of the subset
 pub subset_end : (octets : List ℕ) (n k i : ℕ) (places : List Place) (fields : List Field)
@@ -40,7 +45,8 @@ pub subset_end : (octets : List ℕ) (n k i : ℕ) (places : List Place) (fields
     → fields ≡ map (λ p. field_of k (column_from octets n p)) (take i places)
     → ◌≡◌ {A = Subset} (record { fields = fields }) (subset_of columns k)
 subset_end octets n k i places fields columns view all is =
-    let same : fields ≡ map (field_of k) columns = is ∙ fields_all octets n k i places all ∙ ap (map (field_of k)) (sym view) in
+    let same : fields ≡ map (field_of k) columns =
+    is ∙ fields_all octets n k i places all ∙ ap (map (field_of k)) (sym view) in
     λ t. record { fields = same t }
 
 -- ---- one value
@@ -62,14 +68,26 @@ number_there width minimum k index [] [] rest h short = absurd (omega (arith, sh
 number_there width minimum k index [] (v ∷ vs) rest h short = absurd h
 number_there width minimum k index (x ∷ xs) [] rest h short = absurd h
 number_there width minimum k zero (x ∷ xs) (v ∷ vs) rest h short =
-    let e : flat_map (bin k) (x ∷ xs) ++ rest ≡ bin k x ++ (flat_map (bin k) xs ++ rest) = append_assoc (bin k x) (flat_map (bin k) xs) rest in
-    rw (zero_times k, e, number_at-bin k x (flat_map (bin k) xs ++ rest) (increment_fits width minimum k x v h.0)) (raised_again width minimum k x v h.0)
+    let e : flat_map (bin k) (x ∷ xs) ++ rest ≡ bin k x ++ (flat_map (bin k) xs ++ rest) =
+    append_assoc (bin k x) (flat_map (bin k) xs) rest in
+    rw (
+      zero_times k,
+      e,
+      number_at-bin k x (flat_map (bin k) xs ++ rest) (increment_fits width minimum k x v h.0),
+    )
+    (raised_again width minimum k x v h.0)
 number_there width minimum k (suc index) (x ∷ xs) (v ∷ vs) rest h short =
-    let e : flat_map (bin k) (x ∷ xs) ++ rest ≡ bin k x ++ (flat_map (bin k) xs ++ rest) = append_assoc (bin k x) (flat_map (bin k) xs) rest in
-    let first : drop k (bin k x ++ (flat_map (bin k) xs ++ rest)) ≡ flat_map (bin k) xs ++ rest = drop_at (bin k x) (flat_map (bin k) xs ++ rest) k (length-bin k x) in
-    let behind : drop (suc index * k) (flat_map (bin k) (x ∷ xs) ++ rest) ≡ drop (index * k) (flat_map (bin k) xs ++ rest) =
-    (λ t. drop (next_times index k t) (e t)) ∙ sym (drop-drop (index * k) k (bin k x ++ (flat_map (bin k) xs ++ rest))) ∙ ap (drop (index * k)) first in
-    ap (λ front. raised_of width minimum k (number_at k front)) behind ∙ number_there width minimum k index xs vs rest h.1 (omega (arith, short))
+    let e : flat_map (bin k) (x ∷ xs) ++ rest ≡ bin k x ++ (flat_map (bin k) xs ++ rest) =
+    append_assoc (bin k x) (flat_map (bin k) xs) rest in
+    let first : drop k (bin k x ++ (flat_map (bin k) xs ++ rest)) ≡ flat_map (bin k) xs ++ rest =
+    drop_at (bin k x) (flat_map (bin k) xs ++ rest) k (length-bin k x) in
+    let behind : drop (suc index * k) (flat_map (bin k) (x ∷ xs) ++ rest)
+    ≡ drop (index * k) (flat_map (bin k) xs ++ rest) =
+    (λ t. drop (next_times index k t) (e t))
+    ∙ sym (drop-drop (index * k) k (bin k x ++ (flat_map (bin k) xs ++ rest)))
+    ∙ ap (drop (index * k)) first in
+    ap (λ front. raised_of width minimum k (number_at k front)) behind
+    ∙ number_there width minimum k index xs vs rest h.1 (omega (arith, short))
 
 -- so has the text at an index
 text_there : (octets k index : ℕ) (own : List (List ℕ)) (vs : List Raw) (rest : List Bool)
@@ -81,17 +99,27 @@ text_there octets k index [] [] rest h short = absurd (omega (arith, short))
 text_there octets k index [] (v ∷ vs) rest h short = absurd h
 text_there octets k index (x ∷ own) [] rest h short = absurd h
 text_there octets k zero (x ∷ own) (v ∷ vs) rest h short =
-    let e : flat_map bits (x ∷ own) ++ rest ≡ bits x ++ (flat_map bits own ++ rest) = append_assoc (bits x) (flat_map bits own) rest in
+    let e : flat_map bits (x ∷ own) ++ rest ≡ bits x ++ (flat_map bits own ++ rest) =
+    append_assoc (bits x) (flat_map bits own) rest in
     let is = text_octets octets k x v h.0 in
-    rw (zero_times (k * 8), e, numbers_at_again 8 k x (flat_map bits own ++ rest) is.0 is.1) (ap (λ w. Some w) (filled_again octets k x v h.0))
+    rw (zero_times (k * 8), e, numbers_at_again 8 k x (flat_map bits own ++ rest) is.0 is.1)
+    (ap (λ w. Some w) (filled_again octets k x v h.0))
 text_there octets k (suc index) (x ∷ own) (v ∷ vs) rest h short =
-    let e : flat_map bits (x ∷ own) ++ rest ≡ bits x ++ (flat_map bits own ++ rest) = append_assoc (bits x) (flat_map bits own) rest in
+    let e : flat_map bits (x ∷ own) ++ rest ≡ bits x ++ (flat_map bits own ++ rest) =
+    append_assoc (bits x) (flat_map bits own) rest in
     let is = text_octets octets k x v h.0 in
     let size : length (bits x) ≡ k * 8 = length-bits x ∙ ap (λ n. n * 8) is.0 in
-    let first : drop (k * 8) (bits x ++ (flat_map bits own ++ rest)) ≡ flat_map bits own ++ rest = drop_at (bits x) (flat_map bits own ++ rest) (k * 8) size in
-    let behind : drop (suc index * (k * 8)) (flat_map bits (x ∷ own) ++ rest) ≡ drop (index * (k * 8)) (flat_map bits own ++ rest) =
-    (λ t. drop (next_times index (k * 8) t) (e t)) ∙ sym (drop-drop (index * (k * 8)) (k * 8) (bits x ++ (flat_map bits own ++ rest))) ∙ ap (drop (index * (k * 8))) first in
-    ap (λ front. option_map (λ (y : List ℕ × List Bool). filled octets y.0) (octets_at k front)) behind ∙ text_there octets k index own vs rest h.1 (omega (arith, short))
+    let first : drop (k * 8) (bits x ++ (flat_map bits own ++ rest)) ≡ flat_map bits own ++ rest =
+    drop_at (bits x) (flat_map bits own ++ rest) (k * 8) size in
+    let behind : drop (suc index * (k * 8)) (flat_map bits (x ∷ own) ++ rest)
+    ≡ drop (index * (k * 8)) (flat_map bits own ++ rest) =
+    (λ t. drop (next_times index (k * 8) t) (e t))
+    ∙ sym (drop-drop (index * (k * 8)) (k * 8) (bits x ++ (flat_map bits own ++ rest)))
+    ∙ ap (drop (index * (k * 8))) first in
+    ap
+    (λ front. option_map (λ (y : List ℕ × List Bool). filled octets y.0)
+    (octets_at k front)) behind
+    ∙ text_there octets k index own vs rest h.1 (omega (arith, short))
 
 -- R0 and NBINC of a column, and its value at an index behind them
 pub record OneValue (spec : Spec) (values : List Raw) (index : ℕ) (front : List Bool) : Type 0 where
@@ -109,22 +137,48 @@ one_value spec values column rest index (equal minimum form same is) short = rec
   minimum = minimum;
   k = 0;
   rest = rest;
-  heads = record { form = form; few = omega arith; spelt = ap (λ xs. xs ++ rest) is ∙ append_assoc (raw_bits spec.width minimum) (bin 6 0) rest };
+  heads =
+      record {
+        form = form;
+        few = omega arith;
+        spelt = ap (λ xs. xs ++ rest) is
+            ∙ append_assoc (raw_bits spec.width minimum) (bin 6 0) rest;
+      };
   value = ap (λ v. Some v) (sym (value_is minimum values index same short));
 }
-one_value spec values column rest index (number_column minimum zero increments form some few each is) short = absurd (omega (arith, some))
-one_value spec values column rest index (number_column minimum (suc k) increments form some few each is) short = record {
-  minimum = Number minimum;
-  k = suc k;
-  rest = flat_map (bin (suc k)) increments ++ rest;
-  heads = record { form = form; few = few; spelt = ap (λ xs. xs ++ rest) is ∙ regrouped (bin spec.width minimum) (bin 6 (suc k)) (flat_map (bin (suc k)) increments) rest };
-  value = number_there spec.width minimum (suc k) index increments values rest each short;
-}
-one_value spec values column rest index (text_column ignored zero own form some few wide each is) short = absurd (omega (arith, some))
-one_value spec values column rest index (text_column ignored (suc k) own form some few wide each is) short = record {
-  minimum = Text ignored;
-  k = suc k;
-  rest = flat_map bits own ++ rest;
-  heads = record { form = form; few = few; spelt = ap (λ xs. xs ++ rest) is ∙ regrouped (bits ignored) (bin 6 (suc k)) (flat_map bits own) rest };
-  value = rw (le-ltb (spec.width / 8) (suc k) wide) (text_there (spec.width / 8) (suc k) index own values rest each short);
-}
+one_value spec values column rest index
+    (number_column minimum zero increments form some few each is) short = absurd
+    (omega (arith, some))
+one_value spec values column rest index
+    (number_column minimum (suc k) increments form some few each is) short = record {
+      minimum = Number minimum;
+      k = suc k;
+      rest = flat_map (bin (suc k)) increments ++ rest;
+      heads =
+          record {
+            form = form;
+            few = few;
+            spelt = ap (λ xs. xs ++ rest) is
+                ∙ regrouped (bin spec.width minimum) (bin 6 (suc k))
+                (flat_map (bin (suc k)) increments) rest;
+          };
+      value = number_there spec.width minimum (suc k) index increments values rest each short;
+    }
+one_value spec values column rest index
+    (text_column ignored zero own form some few wide each is) short = absurd (omega (arith, some))
+one_value spec values column rest index
+    (text_column ignored (suc k) own form some few wide each is) short = record {
+      minimum = Text ignored;
+      k = suc k;
+      rest = flat_map bits own ++ rest;
+      heads =
+          record {
+            form = form;
+            few = few;
+            spelt = ap (λ xs. xs ++ rest) is
+                ∙ regrouped (bits ignored) (bin 6 (suc k)) (flat_map bits own) rest;
+          };
+      value =
+          rw (le-ltb (spec.width / 8) (suc k) wide)
+          (text_there (spec.width / 8) (suc k) index own values rest each short);
+    }

@@ -1,6 +1,7 @@
 -- The fault of subsets that are written compressed is that of the first place at which they cannot
 -- be: for the law on what messages know of data (`data_hold_subsets`).
-use Rattle.std.proofs.Common.{◌≡◌, ℕ, ◌+◌, Bool, true, false, cond, List, [], ◌∷◌, map, drop, Result, Ok, Err, refl, sym, ap, ◌∙◌, ◌⊎◌, inl, inr}
+use Rattle.std.proofs.Common.{◌≡◌, ℕ, ◌+◌, Bool, true, false, cond, List, [], ◌∷◌, map, drop}
+use Rattle.std.proofs.Common.{Result, Ok, Err, refl, sym, ap, ◌∙◌, ◌⊎◌, inl, inr}
 use Rattle.std.specs.Prelude.{◌==◌, ◌&&◌, ◌||◌, not, nat_le}
 use Rattle.std.specs.List.{AllByRecursion, list_all}
 use Rattle.std.proofs.lemmas.Bool.{le-leb, leb-true, eq-eqb, eqb-true}
@@ -15,7 +16,8 @@ use Rattle.bufr_data.specs.declared.fault.WriteFault.TheVariants as misfits
 use Rattle.bufr_data.specs.Plain.{same_spec}
 use Rattle.bufr_data.specs.Columns.{Column}
 use Rattle.bufr_data.specs.ColumnReading.{all_equal}
-use Rattle.bufr_data.specs.BestColumns.{can_be_column, widest, begins_like, first_raw, is_empty, column_or, columns_of}
+use Rattle.bufr_data.specs.BestColumns.{can_be_column, widest, begins_like, first_raw, is_empty}
+use Rattle.bufr_data.specs.BestColumns.{column_or, columns_of}
 use Rattle.bufr_data.specs.ColumnCauses.{BeginsLike, CanBeColumn, same, narrow, FirstApart}
 use Rattle.bufr_data.specs.FormLaws.{same_spec_is, spec_is_same}
 use Rattle.bufr_data.proofs.PlainFacts.{and_first, and_second}
@@ -25,13 +27,17 @@ use Rattle.bufr_data.proofs.ColumnWalks.{all_equal_is, all_equal_again, kind_is}
 like_passes : (f : Field) (gs : List Field) → BeginsLike f gs → begins_like f gs ≡ true
 like_passes f [] h = absurd h
 like_passes f (g ∷ gs) h =
-    let spec : same_spec g.spec f.spec ≡ true = ap (same_spec g.spec) (sym h.1) ∙ spec_is_same g.spec in
+    let spec : same_spec g.spec f.spec ≡ true =
+    ap (same_spec g.spec) (sym h.1) ∙ spec_is_same g.spec in
     rw (eq-eqb f.fxy g.fxy h.0, spec) refl
 
 -- and one that passes begins like it
 like_is : (f : Field) (gs : List Field) → begins_like f gs ≡ true → BeginsLike f gs
 like_is f [] e = absurd cc
-like_is f (g ∷ gs) e = (eqb-true _ _ (and_first (f.fxy == g.fxy) (same_spec g.spec f.spec) e), same_spec_is _ _ (and_second (f.fxy == g.fxy) (same_spec g.spec f.spec) e))
+like_is f (g ∷ gs) e = (
+  eqb-true _ _ (and_first (f.fxy == g.fxy) (same_spec g.spec f.spec) e),
+  same_spec_is _ _ (and_second (f.fxy == g.fxy) (same_spec g.spec f.spec) e),
+)
 
 -- subsets that all begin like the first pass
 all_like_pass : (f : Field) (others : List (List Field)) → AllByRecursion (BeginsLike f) others
@@ -43,7 +49,10 @@ all_like_pass f (gs ∷ others) h = rw (like_passes f gs h.0, all_like_pass f ot
 all_like_is : (f : Field) (others : List (List Field)) → list_all (begins_like f) others ≡ true
     → AllByRecursion (BeginsLike f) others
 all_like_is f [] e = tt
-all_like_is f (gs ∷ others) e = (like_is f gs (and_first (begins_like f gs) (list_all (begins_like f) others) e), all_like_is f others (and_second (begins_like f gs) (list_all (begins_like f) others) e))
+all_like_is f (gs ∷ others) e = (
+  like_is f gs (and_first (begins_like f gs) (list_all (begins_like f) others) e),
+  all_like_is f others (and_second (begins_like f gs) (list_all (begins_like f) others) e),
+)
 
 -- a kind that is no factor's is not told one
 no_count_by : (spec : Spec) (b : Bool) → same_kind spec.kind kinds.Count ≡ b
@@ -61,8 +70,13 @@ pub can_passes : (spec : Spec) (values : List Raw) → CanBeColumn spec values
     → can_be_column spec values ≡ true
 can_passes spec values (same v all) = rw (all_equal_again v values all) refl
 can_passes spec values (narrow other short) =
-    let inner : (not (same_kind spec.kind kinds.Count) && nat_le (widest spec) 63) ≡ true = rw (no_count_by spec (same_kind spec.kind kinds.Count) refl other, le-leb (widest spec) 63 short) refl in
-    or_right (all_equal values) (not (same_kind spec.kind kinds.Count) && nat_le (widest spec) 63) inner
+    let inner : (not (same_kind spec.kind kinds.Count) && nat_le (widest spec) 63) ≡ true =
+    rw (
+      no_count_by spec (same_kind spec.kind kinds.Count) refl other,
+      le-leb (widest spec) 63 short,
+    ) refl in
+    or_right (all_equal values)
+    (not (same_kind spec.kind kinds.Count) && nat_le (widest spec) 63) inner
 
 -- the step of `can_is`, by whether they are all the same and a factor's
 can_is_by : (spec : Spec) (values : List Raw) (b c : Bool) → all_equal values ≡ b
@@ -71,7 +85,10 @@ can_is_by : (spec : Spec) (values : List Raw) (b c : Bool) → all_equal values 
 can_is_by spec values true c e k can = let h = all_equal_is values e in same h.0 h.1
 can_is_by spec values false true e k can = absurd cc
 can_is_by spec values false false e k can =
-    narrow (λ is. let yes : same_kind spec.kind kinds.Count ≡ true = ap (λ x. same_kind x kinds.Count) is in let bad = sym yes ∙ k in cc) (leb-true _ _ can)
+    narrow
+    (λ is. let yes : same_kind spec.kind kinds.Count
+    ≡ true =
+    ap (λ x. same_kind x kinds.Count) is in let bad = sym yes ∙ k in cc) (leb-true _ _ can)
 
 -- and values that pass can be a column
 can_is : (spec : Spec) (values : List Raw) → can_be_column spec values ≡ true
@@ -97,7 +114,10 @@ ended_err : (i : ℕ) (others : List (List Field)) (b : Bool) (fault : WriteFaul
     → ◌≡◌ {A = Result (List Column) WriteFault} (cond b (Ok []) (Err (misfits.NotCompressible i)))
     (Err fault) → (AllByRecursion (λ fs. fs ≡ []) others → ⊥) × (fault ≡ misfits.NotCompressible i)
 ended_err i others true fault e h = absurd cc
-ended_err i others false fault e h = ((λ all. let yes = all_empty_passes others all in let bad = sym yes ∙ e in cc), sym (err_is _ _ h))
+ended_err i others false fault e h = (
+  (λ all. let yes = all_empty_passes others all in let bad = sym yes ∙ e in cc),
+  sym (err_is _ _ h),
+)
 
 -- an error at a place is its own, or that of the others
 column_err : (i : ℕ) (b : Bool) (c : Column) (others : Result (List Column) WriteFault)
@@ -117,11 +137,26 @@ pub columns_apart : (i : ℕ) (fs : List Field) (others : List (List Field)) (fa
 unfolding columns_of
 columns_apart i [] others fault e = ended_err i others _ fault refl e
 columns_apart i (f ∷ fs) others fault e =
-    elim (column_err i (list_all (begins_like f) others && can_be_column f.spec (f.raw ∷ map first_raw others)) _ _ fault e) [
+    elim
+    (column_err i
+    (list_all (begins_like f) others && can_be_column f.spec
+    (f.raw ∷ map first_raw others)) _ _ fault e) [
       | inl none ↦
-          inl ((λ h. let yes = both_true _ _ (all_like_pass f others h.0) (can_passes f.spec (f.raw ∷ map first_raw others) h.1) in let bad = sym yes ∙ none.0 in cc), none.1)
+          inl (
+            (λ h. let yes = both_true _ _ (all_like_pass f others h.0)
+                (can_passes f.spec (f.raw ∷ map first_raw others) h.1) in let bad = sym yes
+                ∙ none.0 in cc),
+            none.1,
+          )
       | inr one ↦
-          inr ((all_like_is f others (and_first _ _ one.0), can_is f.spec (f.raw ∷ map first_raw others) (and_second (list_all (begins_like f) others) _ one.0)), columns_apart (i + 1) fs (map (drop 1) others) fault one.1)
+          inr (
+            (
+              all_like_is f others (and_first _ _ one.0),
+              can_is f.spec (f.raw ∷ map first_raw others)
+                  (and_second (list_all (begins_like f) others) _ one.0),
+            ),
+            columns_apart (i + 1) fs (map (drop 1) others) fault one.1,
+          )
     ]
 
 -- a place at which they are apart is the fault
@@ -151,9 +186,18 @@ pub apart_columns : (i : ℕ) (fs : List Field) (others : List (List Field)) (fa
 unfolding columns_of
 apart_columns i [] others fault h = ended_again i others _ fault refl h.0 h.1
 apart_columns i (f ∷ fs) others fault (inl h) =
-    apart_by i (list_all (begins_like f) others && can_be_column f.spec (f.raw ∷ map first_raw others)) _ _ fault
-    (λ e. h.0 (all_like_is f others (and_first _ _ e), can_is f.spec (f.raw ∷ map first_raw others) (and_second (list_all (begins_like f) others) _ e))) h.1
+    apart_by i
+    (list_all (begins_like f) others && can_be_column f.spec
+    (f.raw ∷ map first_raw others)) _ _ fault
+    (λ e. h.0 (
+      all_like_is f others (and_first _ _ e),
+      can_is f.spec (f.raw ∷ map first_raw others)
+          (and_second (list_all (begins_like f) others) _ e),
+    )) h.1
 apart_columns i (f ∷ fs) others fault (inr h) =
-    apart_behind i (list_all (begins_like f) others && can_be_column f.spec (f.raw ∷ map first_raw others)) _ _ fault
-    (both_true _ _ (all_like_pass f others h.0.0) (can_passes f.spec (f.raw ∷ map first_raw others) h.0.1))
+    apart_behind i
+    (list_all (begins_like f) others && can_be_column f.spec
+    (f.raw ∷ map first_raw others)) _ _ fault
+    (both_true _ _ (all_like_pass f others h.0.0)
+    (can_passes f.spec (f.raw ∷ map first_raw others) h.0.1))
     (apart_columns (i + 1) fs (map (drop 1) others) fault h.1)

@@ -1,6 +1,7 @@
 -- Which compressed subsets a writer can write: for the law on what messages know of data
 -- (`data_hold_subsets`).
-use Rattle.std.proofs.Common.{◌≡◌, ℕ, suc, ◌*◌, ◌≤◌, Bool, true, false, List, [], ◌∷◌, length, map, refl, sym, ap, subst, ◌∙◌, ◌⊎◌, inl, inr}
+use Rattle.std.proofs.Common.{◌≡◌, ℕ, suc, ◌*◌, ◌≤◌, Bool, true, false, List, [], ◌∷◌, length, map}
+use Rattle.std.proofs.Common.{refl, sym, ap, subst, ◌∙◌, ◌⊎◌, inl, inr}
 use Rattle.std.specs.List.{AllByRecursion}
 use Rattle.std.proofs.lemmas.List.{length-map}
 use Rattle.bufr_tables.specs.declared.element.Kind.{Kind}
@@ -28,22 +29,28 @@ as_many : (s : Subset) (subsets : List Subset) (n m : ℕ) (a b : List Column)
 as_many s subsets n m a b e f =
     let fields : map (field_of 0) a ≡ map (field_of 0) b =
     ap (λ (t : Subset). t.fields) (sym (head_is _ _ _ _ e) ∙ head_is _ _ _ _ f) in
-    sym (length-map a (field_of 0)) ∙ ap (λ (fs : List Field). length fs) fields ∙ length-map b (field_of 0)
+    sym (length-map a (field_of 0)) ∙ ap (λ (fs : List Field). length fs) fields
+    ∙ length-map b (field_of 0)
 
 -- `PackedDataCanBeBare`
 pub packed_can_be_bare : (tree : Tree) (subsets : List Subset) (columns : List Column)
     (data_bits : List Bool) → PackedDataCanBeBare tree subsets columns data_bits
 packed_can_be_bare tree [] columns data_bits h can = ([], (h.0, [], refl, refl))
 packed_can_be_bare tree (s ∷ subsets) columns data_bits h can =
-    let many : length h.1.0 ≡ length columns = as_many s subsets (length subsets) (length subsets) h.1.0 columns h.1.1 can.0 in
-    let room : length columns * length (s ∷ subsets) ≤ most_values = subst (λ k. k * length (s ∷ subsets) ≤ most_values) many h.1.2 in
+    let many : length h.1.0 ≡ length columns =
+    as_many s subsets (length subsets) (length subsets) h.1.0 columns h.1.1 can.0 in
+    let room : length columns * length (s ∷ subsets) ≤ most_values =
+    subst (λ k. k * length (s ∷ subsets) ≤ most_values) many h.1.2 in
     (best_bits columns, (h.0, columns, (can.0, room, can.1), refl))
 
 -- a kind is a factor's or is not
 kind_decides : (k : Kind) (b : Bool) → same_kind k kinds.Count ≡ b
     → (k ≡ kinds.Count) ⊎ (k ≡ kinds.Count → ⊥)
 kind_decides k true e = inl (kind_is k e)
-kind_decides k false e = inr (λ is. let bad : same_kind k kinds.Count ≡ true = ap (λ x. same_kind x kinds.Count) is in absurd (let worse = sym bad ∙ e in cc))
+kind_decides k false e =
+    inr
+    (λ is. let bad : same_kind k kinds.Count ≡ true = ap (λ x. same_kind x kinds.Count) is in
+    absurd (let worse = sym bad ∙ e in cc))
 
 -- a column of a narrow field can be written
 narrow_column : (c : Column) → HaveOneCount c → widest c.spec ≤ 63
@@ -67,5 +74,12 @@ pub narrow_can_be_packed : (tree : Tree) (subsets : List Subset) (data_bits : Li
     → NarrowDataCanBePacked tree subsets data_bits
 narrow_can_be_packed tree [] data_bits h short = ([], (refl, tt))
 narrow_can_be_packed tree (s ∷ subsets) data_bits h short =
-    let fields : s.fields ≡ map (field_of 0) h.1.0 = ap (λ (t : Subset). t.fields) (head_is _ _ _ _ h.1.1) in
-    (h.1.0, (h.1.1, narrow_columns (length (s ∷ subsets)) h.1.0 data_bits h.1.3 (subst (λ fs. AllByRecursion (λ f. widest f.spec ≤ 63) fs) fields short.0)))
+    let fields : s.fields ≡ map (field_of 0) h.1.0 =
+    ap (λ (t : Subset). t.fields) (head_is _ _ _ _ h.1.1) in (
+      h.1.0,
+      (
+        h.1.1,
+        narrow_columns (length (s ∷ subsets)) h.1.0 data_bits h.1.3
+            (subst (λ fs. AllByRecursion (λ f. widest f.spec ≤ 63) fs) fields short.0),
+      ),
+    )

@@ -1,6 +1,8 @@
 -- What is known of a column over which the index moves without reading its values: for the index of
 -- compressed data (`Columns::index`).
-use Rattle.std.proofs.Common.{◌≡◌, ℕ, zero, suc, ◌+◌, ◌-◌, ◌*◌, ◌/◌, ◌^◌, ◌<◌, ◌≤◌, Bool, true, false, cond, List, [], ◌∷◌, length, map, drop, replicate, Option, Some, None, Result, Ok, Err, refl, sym, ap, ◌∙◌, arith, inl, inr}
+use Rattle.std.proofs.Common.{◌≡◌, ℕ, zero, suc, ◌+◌, ◌-◌, ◌*◌, ◌/◌, ◌^◌, ◌<◌, ◌≤◌, Bool, true}
+use Rattle.std.proofs.Common.{false, cond, List, [], ◌∷◌, length, map, drop, replicate, Option}
+use Rattle.std.proofs.Common.{Some, None, Result, Ok, Err, refl, sym, ap, ◌∙◌, arith, inl, inr}
 use Rattle.std.specs.Prelude.{◌==◌, ◌&&◌, not, option_map}
 use Rattle.std.specs.List.{AllByRecursion}
 use Rattle.std.proofs.lemmas.Bool.{cases_lt, le-ltb, lt-ltb, eqb-false}
@@ -17,7 +19,8 @@ use Rattle.bufr_data.specs.declared.field.Raw.TheVariants.{Number, Text}
 use Rattle.bufr_data.specs.declared.fault.ReadFault.{ReadFault}
 use Rattle.bufr_data.specs.declared.fault.ReadFault.TheVariants as faults
 use Rattle.bufr_data.specs.Plain.{raw_at_by, raw_at, field_number_at}
-use Rattle.bufr_data.specs.ColumnReading.{or_ends, raised, all_raised, all_equal, count_of, filled, texts_at, values_at, column_at, agreeing}
+use Rattle.bufr_data.specs.ColumnReading.{or_ends, raised, all_raised, all_equal, count_of, filled}
+use Rattle.bufr_data.specs.ColumnReading.{texts_at, values_at, column_at, agreeing}
 use Rattle.bufr_data.specs.PassedColumns.{head_at, PassesColumn, PassesFactor, AreRaised, agreed_at}
 use Rattle.bufr_data.proofs.ColumnWalks.{all_equal_again}
 use Rattle.bufr_data.proofs.ColumnFacts.{replicate_equal, strictly}
@@ -60,22 +63,28 @@ texts_none (suc n) k front short =
       | inl lt ↦ rw (octets_none k front lt) refl
       | inr le ↦
           let times = next_times n (k * 8) in
-          let others : length (drop (k * 8) front) < n * (k * 8) = omega (arith, length-drop (k * 8) front, short, times, le) in
+          let others : length (drop (k * 8) front) < n * (k * 8) =
+          omega (arith, length-drop (k * 8) front, short, times, le) in
           rw (octets_some k front le, texts_none n k (drop (k * 8) front) others) refl
     ]
 
 -- enough bits have them at the front
 texts_some : (n k : ℕ) (front : List Bool) → n * (k * 8) ≤ length front
     → (own : List (List ℕ)) × (texts_at n k front ≡ Some (own, drop (n * (k * 8)) front))
-texts_some zero k front long = ([], let none : 0 * (k * 8) ≡ 0 = omega arith in ap (λ m. Some ([], drop m front)) (sym none))
+texts_some zero k front long =
+    ([], let none : 0 * (k * 8) ≡ 0 = omega arith in ap (λ m. Some ([], drop m front)) (sym none))
 texts_some (suc n) k front long =
     let times = next_times n (k * 8) in
     let le : k * 8 ≤ length front = omega (arith, long, times) in
-    let others : n * (k * 8) ≤ length (drop (k * 8) front) = omega (arith, length-drop (k * 8) front, long, times) in
+    let others : n * (k * 8) ≤ length (drop (k * 8) front) =
+    omega (arith, length-drop (k * 8) front, long, times) in
     let behind = texts_some n k (drop (k * 8) front) others in
     let joined : drop (n * (k * 8)) (drop (k * 8) front) ≡ drop (suc n * (k * 8)) front =
-    drop-drop (n * (k * 8)) (k * 8) front ∙ ap (λ m. drop m front) (sym times) in
-    (numbers k 8 front ∷ behind.0, rw (octets_some k front le, behind.1) (ap (λ rest. Some (numbers k 8 front ∷ behind.0, rest)) joined))
+    drop-drop (n * (k * 8)) (k * 8) front ∙ ap (λ m. drop m front) (sym times) in (
+      numbers k 8 front ∷ behind.0,
+      rw (octets_some k front le, behind.1)
+          (ap (λ rest. Some (numbers k 8 front ∷ behind.0, rest)) joined),
+    )
 
 -- a text is read as its octets
 pub text_raw : (spec : Spec) (front : List Bool) → spec.kind ≡ kinds.Text
@@ -97,7 +106,9 @@ pub minimum_there : (spec : Spec) (front mid : List Bool) (b : ℕ) → spec.kin
 minimum_there spec front mid b is size long left =
     let more : spec.width / 8 * 8 ≤ length front = omega (arith, size, long) in
     text_raw spec front is
-    ∙ rw (octets_some (spec.width / 8) front more) (ap (λ rest. Some (Text (numbers (spec.width / 8) 8 front), rest)) (sym (left ∙ ap (λ m. drop m front) size)))
+    ∙ rw (octets_some (spec.width / 8) front more)
+    (ap (λ rest. Some (Text (numbers (spec.width / 8) 8 front), rest))
+    (sym (left ∙ ap (λ m. drop m front) size)))
 
 -- a column of texts without its width ends there
 pub texts_no_width : (n i : ℕ) (spec : Spec) (front mid : List Bool) (b : ℕ)
@@ -118,13 +129,15 @@ pub texts_too_wide : (n i : ℕ) (spec : Spec) (front mid : List Bool) (b k : �
     → number_at 6 mid ≡ Some (k, rest) → spec.width / 8 < k
     → column_at n i spec front ≡ Err (faults.CharIncrement i)
 texts_too_wide n i spec front mid b k rest is size long left found lt =
-    rw (minimum_there spec front mid b is size long left, found) (wide_values n i spec (numbers (spec.width / 8) 8 front) k rest lt)
+    rw (minimum_there spec front mid b is size long left, found)
+    (wide_values n i spec (numbers (spec.width / 8) 8 front) k rest lt)
 
 -- texts that are not all there end the data
 short_values : (n i : ℕ) (spec : Spec) (own : List ℕ) (k : ℕ) (rest : List Bool) (b : ℕ)
     → k ≤ spec.width / 8 → b ≡ n * (k * 8) → length rest < b
     → values_at n i spec (Text own) k rest ≡ Err (faults.DataEnds 0 i)
-short_values n i spec own zero rest b le size short = let none : n * (0 * 8) ≡ 0 = omega arith in absurd (omega (arith, size, short, none))
+short_values n i spec own zero rest b le size short =
+    let none : n * (0 * 8) ≡ 0 = omega arith in absurd (omega (arith, size, short, none))
 short_values n i spec own (suc k) rest b le size short =
     let less : length rest < n * (suc k * 8) = omega (arith, size, short) in
     rw (le-ltb (spec.width / 8) (suc k) le, texts_none n (suc k) rest less) refl
@@ -135,7 +148,8 @@ pub texts_end : (n i : ℕ) (spec : Spec) (front mid : List Bool) (b k : ℕ) (r
     → number_at 6 mid ≡ Some (k, rest) → k ≤ spec.width / 8 → c ≡ n * (k * 8) → length rest < c
     → column_at n i spec front ≡ Err (faults.DataEnds 0 i)
 texts_end n i spec front mid b k rest c is size long left found le times short =
-    rw (minimum_there spec front mid b is size long left, found) (short_values n i spec (numbers (spec.width / 8) 8 front) k rest c le times short)
+    rw (minimum_there spec front mid b is size long left, found)
+    (short_values n i spec (numbers (spec.width / 8) 8 front) k rest c le times short)
 
 -- texts that are there have values
 long_values : (n i : ℕ) (spec : Spec) (own : List ℕ) (k : ℕ) (rest : List Bool) (b : ℕ)
@@ -146,8 +160,11 @@ long_values n i spec own zero rest b le size long =
     (replicate n (Text own), ap (λ m. Ok (replicate n (Text own), drop m rest)) (sym none))
 long_values n i spec own (suc k) rest b le size long =
     let more : n * (suc k * 8) ≤ length rest = omega (arith, size, long) in
-    let texts = texts_some n (suc k) rest more in
-    (map (filled (spec.width / 8)) texts.0, rw (le-ltb (spec.width / 8) (suc k) le, texts.1) (ap (λ m. Ok (map (filled (spec.width / 8)) texts.0, drop m rest)) (sym size)))
+    let texts = texts_some n (suc k) rest more in (
+      map (filled (spec.width / 8)) texts.0,
+      rw (le-ltb (spec.width / 8) (suc k) le, texts.1)
+          (ap (λ m. Ok (map (filled (spec.width / 8)) texts.0, drop m rest)) (sym size)),
+    )
 
 -- so a column of them is passed
 pub texts_pass : (n i : ℕ) (spec : Spec) (front mid : List Bool) (b k : ℕ) (rest : List Bool)
@@ -155,8 +172,12 @@ pub texts_pass : (n i : ℕ) (spec : Spec) (front mid : List Bool) (b k : ℕ) (
     → mid ≡ drop b front → number_at 6 mid ≡ Some (k, rest) → k ≤ spec.width / 8 → c ≡ n * (k * 8)
     → c ≤ length rest → last ≡ drop c rest → PassesColumn n i spec front last
 texts_pass n i spec front mid b k rest c last is size long left found le times enough behind =
-    let values = long_values n i spec (numbers (spec.width / 8) 8 front) k rest c le times enough in
-    (values.0, rw (minimum_there spec front mid b is size long left, found) (values.1 ∙ ap (λ xs. Ok (values.0, xs)) (sym behind)))
+    let values =
+    long_values n i spec (numbers (spec.width / 8) 8 front) k rest c le times enough in (
+      values.0,
+      rw (minimum_there spec front mid b is size long left, found)
+          (values.1 ∙ ap (λ xs. Ok (values.0, xs)) (sym behind)),
+    )
 
 -- ---- numbers
 
@@ -197,7 +218,10 @@ number_column : (n i : ℕ) (spec : Spec) (front : List Bool) → same_kind spec
     → column_at n i spec front
     ≡ (head_at i spec.width front >>= λ h. values_at n i spec (Number h.0.0) h.0.1 h.1)
 number_column n i spec front other =
-    ap (λ o. or_ends i o >>= λ m. (or_ends i (number_at 6 m.1) >>= λ k. values_at n i spec m.0 k.0 k.1)) (number_raw spec.kind spec.width front other)
+    ap
+    (λ o. or_ends i o >>= λ m.
+    (or_ends i (number_at 6 m.1) >>= λ k. values_at n i spec m.0 k.0 k.1))
+    (number_raw spec.kind spec.width front other)
     ∙ after_minimum n i spec (field_number_at spec.width front)
 
 -- a column is read as its values behind minimum and width
@@ -205,20 +229,23 @@ behind_head : (n i : ℕ) (spec : Spec) (front : List Bool) (m k : ℕ) (rest : 
     → same_kind spec.kind kinds.Text ≡ false → head_at i spec.width front ≡ Ok ((m, k), rest)
     → column_at n i spec front ≡ values_at n i spec (Number m) k rest
 behind_head n i spec front m k rest other e =
-    number_column n i spec front other ∙ ap (λ r. r >>= λ h. values_at n i spec (Number h.0.0) h.0.1 h.1) e
+    number_column n i spec front other
+    ∙ ap (λ r. r >>= λ h. values_at n i spec (Number h.0.0) h.0.1 h.1) e
 
 -- without increments all values are the minimum
 pub numbers_equal : (n i : ℕ) (spec : Spec) (front : List Bool) (m k : ℕ) (rest : List Bool)
     → same_kind spec.kind kinds.Text ≡ false → head_at i spec.width front ≡ Ok ((m, k), rest)
     → k ≡ 0 → column_at n i spec front ≡ Ok (replicate n (Number m), rest)
 numbers_equal n i spec front m k rest other e none =
-    behind_head n i spec front m k rest other e ∙ ap (λ w. values_at n i spec (Number m) w rest) none
+    behind_head n i spec front m k rest other e
+    ∙ ap (λ w. values_at n i spec (Number m) w rest) none
 
 -- so such a column is passed
 pub numbers_flat : (n i : ℕ) (spec : Spec) (front : List Bool) (m k : ℕ) (rest : List Bool)
     → same_kind spec.kind kinds.Text ≡ false → head_at i spec.width front ≡ Ok ((m, k), rest)
     → k ≡ 0 → PassesColumn n i spec front rest
-numbers_flat n i spec front m k rest other e none = (replicate n (Number m), numbers_equal n i spec front m k rest other e none)
+numbers_flat n i spec front m k rest other e none =
+    (replicate n (Number m), numbers_equal n i spec front m k rest other e none)
 
 -- the values behind the head, where increments are there
 values_behind : (n i : ℕ) (spec : Spec) (m k : ℕ) (rest : List Bool) → 0 < k → n * k ≤ length rest
@@ -250,7 +277,8 @@ pub numbers_refused : (n i : ℕ) (spec : Spec) (front : List Bool) (m k : ℕ) 
     → all_raised 1 i spec.width m k (numbers n k rest) ≡ Err fault
     → column_at n i spec front ≡ Err fault
 numbers_refused n i spec front m k rest fault other e some long none =
-    behind_head n i spec front m k rest other e ∙ values_behind n i spec m k rest some long ∙ ap (λ r. r >>= λ values. Ok (values, drop (n * k) rest)) none
+    behind_head n i spec front m k rest other e ∙ values_behind n i spec m k rest some long
+    ∙ ap (λ r. r >>= λ values. Ok (values, drop (n * k) rest)) none
 
 -- increments that have values are a column of these
 pub numbers_read : (n i : ℕ) (spec : Spec) (front : List Bool) (m k : ℕ) (rest last : List Bool)
@@ -259,7 +287,8 @@ pub numbers_read : (n i : ℕ) (spec : Spec) (front : List Bool) (m k : ℕ) (re
     → all_raised 1 i spec.width m k (numbers n k rest) ≡ Ok values → last ≡ drop (n * k) rest
     → column_at n i spec front ≡ Ok (values, last)
 numbers_read n i spec front m k rest last values other e some long found behind =
-    behind_head n i spec front m k rest other e ∙ values_behind n i spec m k rest some long ∙ ap (λ r. r >>= λ values. Ok (values, drop (n * k) rest)) found
+    behind_head n i spec front m k rest other e ∙ values_behind n i spec m k rest some long
+    ∙ ap (λ r. r >>= λ values. Ok (values, drop (n * k) rest)) found
     ∙ ap (λ xs. Ok (values, xs)) (sym behind)
 
 -- no increment passes the width where the greatest that is not all ones does not
@@ -287,7 +316,8 @@ pub numbers_pass : (n i : ℕ) (spec : Spec) (front : List Bool) (m k : ℕ) (re
     → 0 < k → n * k ≤ length rest → m + 2 ^ k < 2 ^ spec.width + 2 → last ≡ drop (n * k) rest
     → PassesColumn n i spec front last
 numbers_pass n i spec front m k rest last other e some long narrow behind =
-    let values = all_there 1 i spec.width m k (numbers n k rest) (numbers_fit n k rest long) narrow in
+    let values =
+    all_there 1 i spec.width m k (numbers n k rest) (numbers_fit n k rest long) narrow in
     (values.0, numbers_read n i spec front m k rest last values.0 other e some long values.1 behind)
 
 -- ---- factors
@@ -316,7 +346,8 @@ factor_read : (n i : ℕ) (spec : Spec) (front : List Bool) (values : List Raw) 
     → column_at n i spec front ≡ Ok (values, last) → all_equal values ≡ true
     → agreed_at n i spec front ≡ Ok (values, last)
 factor_read n i spec front values last e same =
-    ap (λ r. r >>= agreeing i spec) e ∙ agreeing_equal (same_kind spec.kind kinds.Count) i (values, last) same
+    ap (λ r. r >>= agreeing i spec) e
+    ∙ agreeing_equal (same_kind spec.kind kinds.Count) i (values, last) same
 
 -- the number of one value so many times
 count_replicated : (n m : ℕ) → 0 < n → count_of (replicate n (Number m)) ≡ m
@@ -328,8 +359,12 @@ pub factor_equal : (n i : ℕ) (spec : Spec) (front : List Bool) (m k : ℕ) (re
     → same_kind spec.kind kinds.Count ≡ true → 0 < n
     → head_at i spec.width front ≡ Ok ((m, k), rest) → k ≡ 0 → PassesFactor n i spec front m rest
 factor_equal n i spec front m k rest count some e none =
-    let found = numbers_equal n i spec front m k rest (no_text spec.kind count) e none in
-    (replicate n (Number m), factor_read n i spec front (replicate n (Number m)) rest found (all_equal_again (Number m) (replicate n (Number m)) (replicate_equal n (Number m))), count_replicated n m some)
+    let found = numbers_equal n i spec front m k rest (no_text spec.kind count) e none in (
+      replicate n (Number m),
+      factor_read n i spec front (replicate n (Number m)) rest found
+          (all_equal_again (Number m) (replicate n (Number m)) (replicate_equal n (Number m))),
+      count_replicated n m some,
+    )
 
 -- so is one with increments whose numbers are all the same
 pub factor_agrees : (n i : ℕ) (spec : Spec) (front : List Bool) (m k : ℕ) (rest last : List Bool)
@@ -338,7 +373,9 @@ pub factor_agrees : (n i : ℕ) (spec : Spec) (front : List Bool) (m k : ℕ) (r
     → AreRaised i spec.width m k (numbers n k rest) first equal → last ≡ drop (n * k) rest
     → equal ≡ true → PassesFactor n i spec front first last
 factor_agrees n i spec front m k rest last first equal count e some long are behind same =
-    let found = numbers_read n i spec front m k rest last are.0 (no_text spec.kind count) e some long are.1 behind in
+    let found =
+    numbers_read n i spec front m k rest last are.0
+    (no_text spec.kind count) e some long are.1 behind in
     (are.0, factor_read n i spec front are.0 last found (are.3 ∙ same), are.2)
 
 -- one whose numbers differ is refused
@@ -348,5 +385,7 @@ pub factor_differs : (n i : ℕ) (spec : Spec) (front : List Bool) (m k : ℕ) (
     → AreRaised i spec.width m k (numbers n k rest) first equal → equal ≡ false
     → agreed_at n i spec front ≡ Err (faults.UnequalCounts i)
 factor_differs n i spec front m k rest first equal count e some long are differ =
-    let found = numbers_read n i spec front m k rest (drop (n * k) rest) are.0 (no_text spec.kind count) e some long are.1 refl in
+    let found =
+    numbers_read n i spec front m k rest (drop (n * k) rest) are.0
+    (no_text spec.kind count) e some long are.1 refl in
     ap (λ r. r >>= agreeing i spec) found ∙ rw (count, are.3 ∙ differ) refl

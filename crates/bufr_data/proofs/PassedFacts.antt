@@ -1,6 +1,8 @@
 -- What is known of a plain subset over which the index moves without building its fields
 -- (`PlainSubsets::index`).
-use Rattle.std.proofs.Common.{◌≡◌, ℕ, ◌+◌, ◌*◌, ◌/◌, ◌<◌, ◌≤◌, Bool, true, false, List, [], ◌∷◌, ◌++◌, length, take, drop, Some, None, Result, Ok, Err, refl, sym, ap, ◌∙◌, arith}
+use Rattle.std.proofs.Common.{◌≡◌, ℕ, ◌+◌, ◌*◌, ◌/◌, ◌<◌, ◌≤◌, Bool, true, false, List, [], ◌∷◌}
+use Rattle.std.proofs.Common.{◌++◌, length, take, drop, Some, None, Result, Ok, Err, refl, sym, ap}
+use Rattle.std.proofs.Common.{◌∙◌, arith}
 use Rattle.std.specs.Prelude.{option_map}
 use Rattle.std.proofs.lemmas.Bool.{le-ltb, lt-ltb, le-leb, lt-leb}
 use Rattle.bufr_bits.specs.Bits.{number, number_at}
@@ -75,7 +77,9 @@ number_missing width front short = rw (lt-ltb (length front) width short) refl
 raw_number : (spec : Spec) (front : List Bool) → same_kind spec.kind kinds.Text ≡ false
     → spec.width ≤ 64
     → raw_at spec front ≡ option_map (λ x. (Number x.0, x.1)) (number_at spec.width front)
-raw_number spec front other few = number_raw spec.kind spec.width front other ∙ ap (option_map (λ x. (Number x.0, x.1))) (there spec.width front few)
+raw_number spec front other few =
+    number_raw spec.kind spec.width front other
+    ∙ ap (option_map (λ x. (Number x.0, x.1))) (there spec.width front few)
 
 -- one that is there is read
 pub number_taken : (i : ℕ) (spec : Spec) (front rest : List Bool) (n : ℕ)
@@ -83,14 +87,16 @@ pub number_taken : (i : ℕ) (spec : Spec) (front rest : List Bool) (n : ℕ)
     → number_at spec.width front ≡ Some (n, rest)
     → raw_or_ends 1 i (raw_at spec front) ≡ Ok (Number n, rest)
 number_taken i spec front rest n other few found =
-    ap (raw_or_ends 1 i) (raw_number spec front other few ∙ ap (option_map (λ x. (Number x.0, x.1))) found)
+    ap (raw_or_ends 1 i)
+    (raw_number spec front other few ∙ ap (option_map (λ x. (Number x.0, x.1))) found)
 
 -- one that is not ends the data
 pub number_short : (i : ℕ) (spec : Spec) (front : List Bool)
     → same_kind spec.kind kinds.Text ≡ false → spec.width ≤ 64 → number_at spec.width front ≡ None
     → raw_or_ends 1 i (raw_at spec front) ≡ Err (faults.DataEnds 1 i)
 number_short i spec front other few none =
-    ap (raw_or_ends 1 i) (raw_number spec front other few ∙ ap (option_map (λ x. (Number x.0, x.1))) none)
+    ap (raw_or_ends 1 i)
+    (raw_number spec front other few ∙ ap (option_map (λ x. (Number x.0, x.1))) none)
 
 -- a number that is there is passed
 pub number_passes : (i : ℕ) (spec : Spec) (front rest : List Bool) (b : ℕ) → IsOther spec
@@ -100,8 +106,10 @@ number_passes i spec front rest b other few size enough behind =
     let long : spec.width ≤ length front = omega (arith, size, enough) in
     let same : drop spec.width front ≡ rest = sym (behind ∙ ap (λ w. drop w front) size) in (
       _,
-      number_taken i spec front rest (number (take spec.width front)) (other_kind spec.kind other) few
-          (number_found spec.width front long ∙ ap (λ xs. Some (number (take spec.width front), xs)) same),
+      number_taken i spec front rest (number (take spec.width front))
+          (other_kind spec.kind other) few
+          (number_found spec.width front long
+          ∙ ap (λ xs. Some (number (take spec.width front), xs)) same),
     )
 
 -- one that is not ends the data
@@ -110,7 +118,8 @@ pub number_ends : (i : ℕ) (spec : Spec) (front : List Bool) (b : ℕ) → IsOt
     → raw_or_ends 1 i (raw_at spec front) ≡ Err (faults.DataEnds 1 i)
 number_ends i spec front b other few size short =
     let less : length front < spec.width = omega (arith, size, short) in
-    number_short i spec front (other_kind spec.kind other) few (number_missing spec.width front less)
+    number_short i spec front (other_kind spec.kind other) few
+    (number_missing spec.width front less)
 
 -- ---- field after field
 
@@ -122,6 +131,7 @@ pub one_passed : (whole : Result SubsetRead ReadFault) (i j : ℕ) (c next : Cou
     → (fields : List Field) × (whole ≡ behind_fields fields (fields_at 1 j next rest))
 one_passed whole i j c next front rest items index so_far step = (
   so_far.0 ++ step.0 ∷ [],
-  so_far.1 ∙ ap (behind_fields so_far.0) step.1 ∙ behind_more so_far.0 step.0 (fields_at 1 (i + 1) next rest)
+  so_far.1 ∙ ap (behind_fields so_far.0) step.1
+      ∙ behind_more so_far.0 step.0 (fields_at 1 (i + 1) next rest)
       ∙ ap (λ n. behind_fields (so_far.0 ++ step.0 ∷ []) (fields_at 1 n next rest)) (sym index),
 )

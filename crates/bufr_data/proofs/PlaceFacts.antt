@@ -1,6 +1,9 @@
 -- The index keeps a place for each column that is read, one by one along the course: for the index
 -- of compressed data (`Columns::index`).
-use Rattle.std.proofs.Common.{◌≡◌, ℕ, zero, suc, ◌+◌, ◌*◌, ◌^◌, ◌<◌, ◌≤◌, Bool, true, false, cond, List, [], ◌∷◌, ◌++◌, length, map, drop, Some, None, Result, Ok, Err, refl, sym, ap, subst, ◌∙◌, arith, append_assoc, append-nil, length-append}
+use Rattle.std.proofs.Common.{◌≡◌, ℕ, zero, suc, ◌+◌, ◌*◌, ◌^◌, ◌<◌, ◌≤◌, Bool, true, false, cond}
+use Rattle.std.proofs.Common.{List, [], ◌∷◌, ◌++◌, length, map, drop, Some, None, Result, Ok, Err}
+use Rattle.std.proofs.Common.{refl, sym, ap, subst, ◌∙◌, arith, append_assoc, append-nil}
+use Rattle.std.proofs.Common.{length-append}
 use Rattle.std.specs.Prelude.{◌&&◌, not, IsOk, nat_lt}
 use Rattle.std.specs.List.{flat_map}
 use Rattle.std.proofs.lemmas.List.{length-drop}
@@ -27,10 +30,13 @@ use Rattle.bufr_data.specs.declared.columns.Place.{Place}
 use Rattle.bufr_data.specs.Plain.{raw_bits, stopped}
 use Rattle.bufr_expand.specs.Steady.{IsSteady}
 use Rattle.bufr_data.specs.Steady.{IsReady}
-use Rattle.bufr_data.specs.Columns.{Column, subset_of, subsets_from, IsColumn, equal, numbers as number_column, texts as text_column}
-use Rattle.bufr_data.specs.ColumnReading.{column_at, agreeing, count_of, all_equal, ColumnsFound, within_limit, column_then, columns_at}
+use Rattle.bufr_data.specs.Columns.{Column, subset_of, subsets_from, IsColumn, equal}
+use Rattle.bufr_data.specs.Columns.{numbers as number_column, texts as text_column}
+use Rattle.bufr_data.specs.ColumnReading.{column_at, agreeing, count_of, all_equal, ColumnsFound}
+use Rattle.bufr_data.specs.ColumnReading.{within_limit, column_then, columns_at}
 use Rattle.bufr_data.specs.PassedColumns.{PassesColumn, PassesFactor, agreed_at}
-use Rattle.bufr_data.specs.Indexed.{Ahead, index_at, values_of, column_from, Opens, AllOpen, behind_columns, PassesPlace}
+use Rattle.bufr_data.specs.Indexed.{Ahead, index_at, values_of, column_from, Opens, AllOpen}
+use Rattle.bufr_data.specs.Indexed.{behind_columns, PassesPlace}
 use Rattle.bufr_data.specs.Data.{subsets_in}
 use Rattle.bufr_data.proofs.PlainFacts.{length-bits}
 use Rattle.bufr_data.proofs.ColumnFacts.{column_found, column_again}
@@ -47,15 +53,19 @@ open_place : (octets : List ℕ) (n i bit : ℕ) (d : ℕ) (spec : Spec) (front 
     → column_at n 1 spec (drop bit (bits octets)) ≡ Ok x
 open_place octets n i bit d spec front x e is =
     let found = column_found n i spec front x e in
-    ap (column_at n 1 spec) (sym is ∙ found.3) ∙ column_again n 1 spec x.0 found.0 x.1 found.1 found.2
+    ap (column_at n 1 spec) (sym is ∙ found.3)
+    ∙ column_again n 1 spec x.0 found.0 x.1 found.1 found.2
 
 -- a column has six bits at least, so its place is inside the octets
 column_bits : (spec : Spec) (values : List Raw) (column : List Bool) → IsColumn spec values column
     → 6 ≤ length column
 column_bits spec values column (equal minimum form all is) =
-    let size = ap length is ∙ length-append (raw_bits spec.width minimum) (bin 6 0) in omega (arith, size, length-bin 6 0)
+    let size =
+    ap length is ∙ length-append (raw_bits spec.width minimum) (bin 6 0) in
+    omega (arith, size, length-bin 6 0)
 column_bits spec values column (number_column minimum k xs form some few each is) =
-    let size = ap length is ∙ length-append (bin spec.width minimum ++ bin 6 k) (flat_map (bin k) xs) in
+    let size =
+    ap length is ∙ length-append (bin spec.width minimum ++ bin 6 k) (flat_map (bin k) xs) in
     omega (arith, size, length-append (bin spec.width minimum) (bin 6 k), length-bin 6 k)
 column_bits spec values column (text_column ignored k own form some few short each is) =
     let size = ap length is ∙ length-append (bits ignored ++ bin 6 k) (flat_map bits own) in
@@ -67,7 +77,13 @@ place_inside : (octets : List ℕ) (n bit : ℕ) (spec : Spec) (x : List Raw × 
 place_inside octets n bit spec x e =
     let found = column_found n 1 spec (drop bit (bits octets)) x e in
     let size = ap length found.3 ∙ length-append found.0 x.1 in
-    omega (arith, size, column_bits spec x.0 found.0 found.2, length-drop bit (bits octets), length-bits octets)
+    omega (
+      arith,
+      size,
+      column_bits spec x.0 found.0 found.2,
+      length-drop bit (bits octets),
+      length-bits octets,
+    )
 
 -- an answer that is known is an answer
 ok_is : {A F : Type 0} (r : Result A F) (x : A) → r ≡ Ok x → IsOk r
@@ -121,7 +137,8 @@ pub end_passes : (old new : Walk) (n i : ℕ) (octets : List ℕ) (front : List 
     → Goes (left old) (Ok steps.End) new
     → PassesPlace n i (left old) octets front None (left new) front
 unfolding columns_at
-end_passes old new n i octets front g = (items_met new, ap (λ c. columns_at n i c front) (ends_there (left old) new g))
+end_passes old new n i octets front g =
+    (items_met new, ap (λ c. columns_at n i c front) (ends_there (left old) new g))
 
 -- a field past the limit refuses the columns
 pub field_past : (old new : Walk) (n i d : ℕ) (spec : Spec) (front : List Bool) (fault : ReadFault)
@@ -130,7 +147,8 @@ pub field_past : (old new : Walk) (n i d : ℕ) (spec : Spec) (front : List Bool
     → columns_at n i (left old) front ≡ Err fault
 field_past old new n i d spec front fault g e =
     let a = asks_field (left old) d spec new g in
-    ap (λ c. columns_at n i c front) a.is ∙ asked_at n i a.met d spec a.more front ∙ past_is n i _ fault e
+    ap (λ c. columns_at n i c front) a.is ∙ asked_at n i a.met d spec a.more front
+    ∙ past_is n i _ fault e
 
 -- so does a factor
 pub count_past : (old new : Walk) (n i d : ℕ) (spec : Spec) (front : List Bool) (fault : ReadFault)
@@ -139,14 +157,17 @@ pub count_past : (old new : Walk) (n i d : ℕ) (spec : Spec) (front : List Bool
     → columns_at n i (left old) front ≡ Err fault
 count_past old new n i d spec front fault g e =
     let a = asks_count (left old) d spec new g in
-    ap (λ c. columns_at n i c front) a.is ∙ asked_at n i a.met d spec a.more front ∙ past_is n i _ fault e
+    ap (λ c. columns_at n i c front) a.is ∙ asked_at n i a.met d spec a.more front
+    ∙ past_is n i _ fault e
 
 -- a column that is refused refuses those from it on
 none_agreed : (n i met d : ℕ) (spec : Spec) (more : ℕ → Course) (front : List Bool)
     (fault : ReadFault) → within_limit {A = Unit {0}} n i (Ok tt) ≡ Ok tt
     → agreed_at n i spec front ≡ Err fault → columns_at n i (asks met d spec more) front ≡ Err fault
 none_agreed n i met d spec more front fault room e =
-    asked_at n i met d spec more front ∙ within_is n i _ room ∙ ap (λ r. r >>= column_then d spec (λ count rest. columns_at n (i + 1) (more count) rest)) e
+    asked_at n i met d spec more front ∙ within_is n i _ room
+    ∙ ap
+    (λ r. r >>= column_then d spec (λ count rest. columns_at n (i + 1) (more count) rest)) e
 
 -- so it does at a field
 pub field_refused : (old new : Walk) (n i d : ℕ) (spec : Spec) (front : List Bool)
@@ -155,7 +176,8 @@ pub field_refused : (old new : Walk) (n i d : ℕ) (spec : Spec) (front : List B
     → columns_at n i (left old) front ≡ Err fault
 field_refused old new n i d spec front fault g room e =
     let a = asks_field (left old) d spec new g in
-    ap (λ c. columns_at n i c front) a.is ∙ none_agreed n i a.met d spec a.more front fault room (ap (λ r. r >>= agreeing i spec) e)
+    ap (λ c. columns_at n i c front) a.is
+    ∙ none_agreed n i a.met d spec a.more front fault room (ap (λ r. r >>= agreeing i spec) e)
 
 -- and at a factor
 pub count_refused : (old new : Walk) (n i d : ℕ) (spec : Spec) (front : List Bool)
@@ -185,12 +207,16 @@ one_agreed octets n i met d bit spec more front rest values next room e is after
     let a = bind_ok (column_at n i spec front) _ (values, rest) e in
     let same = agreed i spec a.0 (values, rest) a.2 in
     let read : column_at n i spec front ≡ Ok (values, rest) = a.1 ∙ ap (λ x. Ok x) same.0 in
-    let there : column_at n 1 spec (drop bit (bits octets)) ≡ Ok (values, rest) = open_place octets n i bit d spec front (values, rest) read is in
-    let column : ◌≡◌ {A = Column} (record { fxy = d; spec = spec; values = values }) (column_from octets n (record { fxy = d; spec = spec; bit = bit })) =
+    let there : column_at n 1 spec (drop bit (bits octets)) ≡ Ok (values, rest) =
+    open_place octets n i bit d spec front (values, rest) read is in
+    let column : ◌≡◌ {A = Column} (record { fxy = d; spec = spec; values = values })
+    (column_from octets n (record { fxy = d; spec = spec; bit = bit })) =
     λ t. record { fxy = d; spec = spec; values = values_of (sym there t) } in (
       (place_inside octets n bit spec (values, rest) there, ok_is _ (values, rest) there),
       asked_at n i met d spec more front ∙ within_is n i _ room
-          ∙ ap (λ r. r >>= column_then d spec (λ count rest. columns_at n (i + 1) (more count) rest)) e
+          ∙ ap
+          (λ r. r >>= column_then d spec
+          (λ count rest. columns_at n (i + 1) (more count) rest)) e
           ∙ column_joined d spec values (columns_at n (i + 1) (more (count_of values)) rest)
           ∙ (λ t. behind_columns (column t ∷ []) (columns_at n (i + 1) (after t) rest)),
     )
@@ -210,12 +236,19 @@ pub field_passes : (old new : Walk) (octets : List ℕ) (n i d bit : ℕ) (spec 
     (left new) rest
 field_passes old new octets n i d bit spec front rest ready g room passes is =
     let a = asks_field (left old) d spec new g in
-    let s = steady_step (items_met old) a.met d spec a.more (subst (λ (x : Course). IsSteady (items_met old) x) a.is ready.steady) in
+    let s =
+    steady_step (items_met old) a.met d spec a.more
+    (subst (λ (x : Course). IsSteady (items_met old) x) a.is ready.steady) in
     let agree : agreed_at n i spec front ≡ Ok (passes.0, rest) =
-    ap (λ r. r >>= agreeing i spec) passes.1 ∙ agreeing_other (same_kind spec.kind kinds.Count) i (passes.0, rest) a.kind in
-    let after : a.more (count_of passes.0) ≡ left new = s.2 a.kind (count_of passes.0) ∙ sym a.after in
-    subst (λ (c : Course). PassesPlace n i c octets front (Some (record { fxy = d; spec = spec; bit = bit })) (left new) rest) (sym a.is)
-    (one_agreed octets n i a.met d bit spec a.more front rest passes.0 (left new) room agree is after)
+    ap (λ r. r >>= agreeing i spec) passes.1
+    ∙ agreeing_other (same_kind spec.kind kinds.Count) i (passes.0, rest) a.kind in
+    let after : a.more (count_of passes.0) ≡ left new =
+    s.2 a.kind (count_of passes.0) ∙ sym a.after in
+    subst
+    (λ (c : Course). PassesPlace n i c octets front
+    (Some (record { fxy = d; spec = spec; bit = bit })) (left new) rest) (sym a.is)
+    (one_agreed octets n i a.met d bit spec a.more front rest passes.0
+    (left new) room agree is after)
 
 -- so is a factor
 pub count_passes : (old mid new : Walk) (octets : List ℕ) (n i d bit number : ℕ) (spec : Spec)
@@ -228,14 +261,19 @@ count_passes old mid new octets n i d bit number spec front rest g counted room 
     let a = asks_count (left old) d spec mid g in
     let told = subst (λ (x : Course). Counted x number new) a.waiting counted in
     let after : a.more (count_of passes.0) ≡ left new = ap a.more passes.2 ∙ sym told.0 in
-    subst (λ (c : Course). PassesPlace n i c octets front (Some (record { fxy = d; spec = spec; bit = bit })) (left new) rest) (sym a.is)
-    (one_agreed octets n i a.met d bit spec a.more front rest passes.0 (left new) room passes.1 is after)
+    subst
+    (λ (c : Course). PassesPlace n i c octets front
+    (Some (record { fxy = d; spec = spec; bit = bit })) (left new) rest) (sym a.is)
+    (one_agreed octets n i a.met d bit spec a.more front rest passes.0
+    (left new) room passes.1 is after)
 
 -- the number of a factor is within its width
 pub count_is_below : (old mid : Walk) (d : ℕ) (spec : Spec) (n : ℕ)
     → Goes (left old) (Ok (steps.Count d spec)) mid → n < 2 ^ spec.width → IsBelowCount (left mid) n
 count_is_below old mid d spec n g below =
-    let a = asks_count (left old) d spec mid g in subst (λ (x : Course). IsBelowCount x n) (sym a.waiting) below
+    let a =
+    asks_count (left old) d spec mid g in
+    subst (λ (x : Course). IsBelowCount x n) (sym a.waiting) below
 
 -- a step that counts has a factor's spec
 pub is_count : (old mid : Walk) (d : ℕ) (spec : Spec)
@@ -252,7 +290,8 @@ behind_no_column (Err e) = refl
 -- one more column behind those before
 behind_more : (cs : List Column) (c : Column) (o : Result ColumnsFound ReadFault)
     → behind_columns cs (behind_columns (c ∷ []) o) ≡ behind_columns (cs ++ c ∷ []) o
-behind_more cs c (Ok found) = ap (λ xs. Ok (record found { columns = xs })) (sym (append_assoc cs (c ∷ []) found.columns))
+behind_more cs c (Ok found) =
+    ap (λ xs. Ok (record found { columns = xs })) (sym (append_assoc cs (c ∷ []) found.columns))
 behind_more cs c (Err e) = refl
 
 -- one more at the end of what is mapped
@@ -270,7 +309,8 @@ all_push octets n (q ∷ ps) p all one = (all.0, all_push octets n ps p all.1 on
 -- the same of a grown list
 pub opened : (octets : List ℕ) (n : ℕ) (ps grown : List Place) (p : Place) → grown ≡ ps ++ p ∷ []
     → AllOpen octets n ps → Opens octets n p → AllOpen octets n grown
-opened octets n ps grown p is all one = subst (AllOpen octets n) (sym is) (all_push octets n ps p all one)
+opened octets n ps grown p is all one =
+    subst (AllOpen octets n) (sym is) (all_push octets n ps p all one)
 
 -- one place more
 pub place_kept : (octets : List ℕ) (n i : ℕ) (ps grown : List Place) (p : Place)
@@ -286,8 +326,10 @@ place_kept octets n i ps grown p whole c d front rest is index so_far step =
     so_far
     ∙ ap (λ m. behind_columns (map (column_from octets n) ps) (columns_at n m c front)) (sym index)
     ∙ ap (behind_columns (map (column_from octets n) ps)) step.1
-    ∙ behind_more (map (column_from octets n) ps) (column_from octets n p) (columns_at n (i + 1) d rest)
-    ∙ ap (λ cs. behind_columns cs (columns_at n (i + 1) d rest)) (sym (ap (map (column_from octets n)) is ∙ map-push (column_from octets n) ps p))
+    ∙ behind_more (map (column_from octets n) ps) (column_from octets n p)
+    (columns_at n (i + 1) d rest)
+    ∙ ap (λ cs. behind_columns cs (columns_at n (i + 1) d rest))
+    (sym (ap (map (column_from octets n)) is ∙ map-push (column_from octets n) ps p))
     ∙ ap (λ m. behind_columns (map (column_from octets n) grown) (columns_at n m d rest)) next
 
 -- ---- the subsets of an index
@@ -295,10 +337,13 @@ place_kept octets n i ps grown p whole c d front rest is index so_far step =
 -- so many subsets and one more
 from_suc : (k n : ℕ) (columns : List Column)
     → subsets_from k (suc n) columns ≡ subsets_from k n columns ++ subset_of columns (k + n) ∷ []
-from_suc k zero columns = let same : k ≡ k + 0 = omega arith in ap (λ m. subset_of columns m ∷ []) same
+from_suc k zero columns =
+    let same : k ≡ k + 0 = omega arith in ap (λ m. subset_of columns m ∷ []) same
 from_suc k (suc n) columns =
     let same : k + 1 + n ≡ k + suc n = omega arith in
-    ap (λ ss. subset_of columns k ∷ ss) (from_suc (k + 1) n columns ∙ ap (λ m. subsets_from (k + 1) n columns ++ subset_of columns m ∷ []) same)
+    ap (λ ss. subset_of columns k ∷ ss)
+    (from_suc (k + 1) n columns
+    ∙ ap (λ m. subsets_from (k + 1) n columns ++ subset_of columns m ∷ []) same)
 
 -- a subset at the end of those before it is one more
 pub one_subset_more : (i j : ℕ) (columns : List Column) (subsets grown : List Subset) (s : Subset)

@@ -1,13 +1,18 @@
 -- What is read from bits are exactly the fields that a course allows, and the bits are theirs: for
 -- the law `plain_data_spell_subsets`.
 use Rattle.bufr_tables.specs.Answers.{◌>>=◌}
-use Rattle.std.proofs.Common.{◌≡◌, ℕ, zero, suc, ◌+◌, ◌*◌, ◌/◌, ◌^◌, ◌<◌, ◌≤◌, Bool, true, false, cond, ltb, List, [], ◌∷◌, ◌++◌, length, take, drop, Option, Some, None, Result, Ok, Err, refl, sym, ap, subst, ◌∙◌, arith, append_assoc, length-append, inl, inr}
+use Rattle.std.proofs.Common.{◌≡◌, ℕ, zero, suc, ◌+◌, ◌*◌, ◌/◌, ◌^◌, ◌<◌, ◌≤◌, Bool, true, false}
+use Rattle.std.proofs.Common.{cond, ltb, List, [], ◌∷◌, ◌++◌, length, take, drop, Option, Some}
+use Rattle.std.proofs.Common.{None, Result, Ok, Err, refl, sym, ap, subst, ◌∙◌, arith, append_assoc}
+use Rattle.std.proofs.Common.{length-append, inl, inr}
 use Rattle.std.specs.Prelude.{◌==◌, ◌&&◌, nat_lt, nat_le, option_map}
 use Rattle.std.specs.List.{list_all}
 use Rattle.std.proofs.lemmas.Bool.{cases_lt, le-ltb, lt-ltb, ltb-true, eqb-true, eq-eqb}
-use Rattle.std.proofs.lemmas.List.{take_at, drop_at, take-append-drop, drop-drop, length-take, length-drop}
+use Rattle.std.proofs.lemmas.List.{take_at, drop_at, take-append-drop, drop-drop, length-take}
+use Rattle.std.proofs.lemmas.List.{length-drop}
 use Rattle.bufr_bits.specs.Bits.{bin, bits, number, numbers, number_at, numbers_at}
-use Rattle.bufr_bits.specs.BitLaws.{length-bin, number-bin, number_at-bin, small_mod, number_below, bin-number, number_at_is, some_is}
+use Rattle.bufr_bits.specs.BitLaws.{length-bin, number-bin, number_at-bin, small_mod, number_below}
+use Rattle.bufr_bits.specs.BitLaws.{bin-number, number_at_is, some_is}
 use Rattle.bufr_bits.specs.NumberLaws.{length-numbers}
 use Rattle.bufr_tables.specs.declared.element.Kind.{Kind}
 use Rattle.bufr_tables.specs.declared.element.Kind.TheVariants as kinds
@@ -23,7 +28,10 @@ use Rattle.bufr_data.specs.declared.field.Field.{Field}
 use Rattle.bufr_data.specs.declared.fault.ReadFault.{ReadFault}
 use Rattle.bufr_data.specs.declared.fault.WriteFault.{WriteFault}
 use Rattle.bufr_data.specs.declared.field.Subset.{Subset}
-use Rattle.bufr_data.specs.Plain.{raw_bits, field_bits, plain, plain_subsets, SubsetRead, SubsetsRead, field_number_at, raw_at_by, raw_at, number_of, field_then, stopped, fields_at, subsets_at, same_spec, has_form_by, stands_for, items_of, items_of_all}
+use Rattle.bufr_data.specs.Plain.{raw_bits, field_bits, plain, plain_subsets, SubsetRead}
+use Rattle.bufr_data.specs.Plain.{SubsetsRead, field_number_at, raw_at_by, raw_at, number_of}
+use Rattle.bufr_data.specs.Plain.{field_then, stopped, fields_at, subsets_at, same_spec}
+use Rattle.bufr_data.specs.Plain.{has_form_by, stands_for, items_of, items_of_all}
 use Rattle.bufr_data.specs.FormLaws.{same_spec_is, spec_is_same}
 
 -- ---- tests
@@ -43,8 +51,10 @@ and_second false b e = absurd cc
 -- octets begin with one, and the others are octets
 all_below : (x : ℕ) (xs : List ℕ) → list_all (λ c. nat_lt c 256) (x ∷ xs) ≡ true
     → (x < 256) × (list_all (λ c. nat_lt c 256) xs ≡ true)
-all_below x xs e =
-    (ltb-true x 256 (and_first (nat_lt x 256) (list_all (λ c. nat_lt c 256) xs) e), and_second (nat_lt x 256) (list_all (λ c. nat_lt c 256) xs) e)
+all_below x xs e = (
+  ltb-true x 256 (and_first (nat_lt x 256) (list_all (λ c. nat_lt c 256) xs) e),
+  and_second (nat_lt x 256) (list_all (λ c. nat_lt c 256) xs) e,
+)
 
 -- the numbers of eight bits of octets are these
 numbers_of_octets : (os : List ℕ) (rest : List Bool) → list_all (λ c. nat_lt c 256) os ≡ true
@@ -53,13 +63,22 @@ unfolding numbers
 numbers_of_octets [] rest all = refl
 numbers_of_octets (x ∷ os) rest all =
     let h = all_below x os all in
-    let e : bits (x ∷ os) ++ rest ≡ bin 8 x ++ (bits os ++ rest) = append_assoc (bin 8 x) (bits os) rest in
-    rw (e, take_at (bin 8 x) (bits os ++ rest) 8 (length-bin 8 x), drop_at (bin 8 x) (bits os ++ rest) 8 (length-bin 8 x), number-bin 8 x, small_mod x 256 h.0, numbers_of_octets os rest h.1) refl
+    let e : bits (x ∷ os) ++ rest ≡ bin 8 x ++ (bits os ++ rest) =
+    append_assoc (bin 8 x) (bits os) rest in
+    rw (
+      e,
+      take_at (bin 8 x) (bits os ++ rest) 8 (length-bin 8 x),
+      drop_at (bin 8 x) (bits os ++ rest) 8 (length-bin 8 x),
+      number-bin 8 x,
+      small_mod x 256 h.0,
+      numbers_of_octets os rest h.1,
+    ) refl
 
 -- octets have eight bits each
 pub length-bits : (os : List ℕ) → length (bits os) ≡ length os * 8
 length-bits [] = refl
-length-bits (x ∷ os) = omega (arith, length-append (bin 8 x) (bits os), length-bin 8 x, length-bits os)
+length-bits (x ∷ os) =
+    omega (arith, length-append (bin 8 x) (bits os), length-bin 8 x, length-bits os)
 
 -- behind the bits of octets stands the rest
 drop_bits : (os : List ℕ) (rest : List Bool) → drop (length os * 8) (bits os ++ rest) ≡ rest
@@ -70,7 +89,8 @@ numbers_at-bits : (os : List ℕ) (rest : List Bool) → list_all (λ c. nat_lt 
     → numbers_at (length os) 8 (bits os ++ rest) ≡ Some (os, rest)
 unfolding numbers_at
 numbers_at-bits os rest all =
-    let long : ltb (length (bits os ++ rest)) (length os * 8) ≡ false = le-ltb _ _ (omega (arith, length-append (bits os) rest, length-bits os)) in
+    let long : ltb (length (bits os ++ rest)) (length os * 8) ≡ false =
+    le-ltb _ _ (omega (arith, length-append (bits os) rest, length-bits os)) in
     rw (long, numbers_of_octets os rest all, drop_bits os rest) refl
 
 -- ---- fields
@@ -81,7 +101,8 @@ number_again : (width n : ℕ) (rest : List Bool) → (nat_le width 64 && nat_lt
     (field_number_at width (bin width n ++ rest)) ≡ Some (Number n, rest)
 number_again width n rest e =
     let short : nat_le width 64 ≡ true = and_first _ _ e in
-    let below : n < 2 ^ width = ltb-true _ _ (and_second (nat_le width 64) (nat_lt n (2 ^ width)) e) in
+    let below : n < 2 ^ width =
+    ltb-true _ _ (and_second (nat_le width 64) (nat_lt n (2 ^ width)) e) in
     rw (short, number_at-bin width n rest below) refl
 
 -- a raw value of its form is read of its bits
@@ -91,7 +112,8 @@ pub raw_again : (kind : Kind) (width : ℕ) (raw : Raw) (rest : List Bool)
 raw_again kinds.Text width (Text os) rest e =
     let size : length os ≡ width / 8 = eqb-true _ _ (and_first _ _ e) in
     let count : width / 8 ≡ length os = sym size in
-    let all : list_all (λ c. nat_lt c 256) os ≡ true = and_second (length os == width / 8) (list_all (λ c. nat_lt c 256) os) e in
+    let all : list_all (λ c. nat_lt c 256) os ≡ true =
+    and_second (length os == width / 8) (list_all (λ c. nat_lt c 256) os) e in
     rw (count, numbers_at-bits os rest all) refl
 raw_again kinds.Text width (Number n) rest e = absurd cc
 raw_again kinds.Code width (Number n) rest e = number_again width n rest e
@@ -118,23 +140,29 @@ pub fields_at-plain : (j i : ℕ) (c : Course) (fs : List Field) (n : ℕ) (rest
     → items_of j i c fs ≡ Ok n
     → fields_at j i c (plain fs ++ rest) ≡ Ok (record { fields = fs; items = n; rest = rest })
 unfolding items_of fields_at
-fields_at-plain j i (ends m) [] n rest e = ap (λ k. Ok (record { fields = []; items = k; rest = rest })) (ok_is m n e)
+fields_at-plain j i (ends m) [] n rest e =
+    ap (λ k. Ok (record { fields = []; items = k; rest = rest })) (ok_is m n e)
 fields_at-plain j i (ends m) (f ∷ fs) n rest e = absurd cc
 fields_at-plain j i (stops met fault) fs n rest e = absurd cc
 fields_at-plain j i (asks met d spec more) [] n rest e = absurd cc
 fields_at-plain j i (asks met d spec more) (f ∷ fs) n rest e =
     let g = guard_ok (stands_for d spec f) _ _ n e in
     let like = and_first _ _ g.0 in
-    let form = and_second (f.fxy == d && same_spec f.spec spec) (has_form_by spec.kind spec.width f.raw) g.0 in
+    let form =
+    and_second (f.fxy == d && same_spec f.spec spec)
+    (has_form_by spec.kind spec.width f.raw) g.0 in
     let same_d : f.fxy ≡ d = eqb-true _ _ (and_first _ _ like) in
     let same_s : f.spec ≡ spec = same_spec_is _ _ (and_second _ _ like) in
-    let same_f : ◌≡◌ {A = Field} (record { fxy = d; spec = spec; raw = f.raw }) f = λ k. record { fxy = sym same_d k; spec = sym same_s k; raw = f.raw } in
+    let same_f : ◌≡◌ {A = Field} (record { fxy = d; spec = spec; raw = f.raw }) f =
+    λ k. record { fxy = sym same_d k; spec = sym same_s k; raw = f.raw } in
     let width : f.spec.width ≡ spec.width = ap (λ (s : Spec). s.width) same_s in
     let regrouped : plain (f ∷ fs) ++ rest ≡ raw_bits spec.width f.raw ++ (plain fs ++ rest) =
-    append_assoc (field_bits f) (plain fs) rest ∙ ap (λ w. raw_bits w f.raw ++ (plain fs ++ rest)) width in
+    append_assoc (field_bits f) (plain fs) rest
+    ∙ ap (λ w. raw_bits w f.raw ++ (plain fs ++ rest)) width in
     let after = fields_at-plain j (i + 1) (more (number_of f.raw)) fs n rest g.1 in
     ap (fields_at j i (asks met d spec more)) regrouped
-    ∙ rw (raw_again spec.kind spec.width f.raw (plain fs ++ rest) form, after) (ap (λ (h : Field). Ok (record { fields = h ∷ fs; items = n; rest = rest })) same_f)
+    ∙ rw (raw_again spec.kind spec.width f.raw (plain fs ++ rest) form, after)
+    (ap (λ (h : Field). Ok (record { fields = h ∷ fs; items = n; rest = rest })) same_f)
 
 -- ---- what is read has its form, and the bits are its own
 
@@ -149,7 +177,8 @@ unfolding numbers
 numbers_below zero front long = refl
 numbers_below (suc n) front long =
     let eight : length (take 8 front) ≡ 8 = omega (arith, length-take 8 front) in
-    let below : number (take 8 front) < 256 = subst (λ k. number (take 8 front) < 2 ^ k) eight (number_below (take 8 front)) in
+    let below : number (take 8 front) < 256 =
+    subst (λ k. number (take 8 front) < 2 ^ k) eight (number_below (take 8 front)) in
     let others : n * 8 ≤ length (drop 8 front) = omega (arith, length-drop 8 front) in
     rw (lt-ltb (number (take 8 front)) 256 below, numbers_below n (drop 8 front) others) refl
 
@@ -162,8 +191,10 @@ bits_of_numbers (suc n) front long =
     let eight : length (take 8 front) ≡ 8 = omega (arith, length-take 8 front) in
     let others : n * 8 ≤ length (drop 8 front) = omega (arith, length-drop 8 front) in
     let first : bin 8 (number (take 8 front)) ≡ take 8 front = bin-number 8 (take 8 front) eight in
-    let behind : drop (suc n * 8) front ≡ drop (n * 8) (drop 8 front) = ap (λ k. drop k front) (omega arith) ∙ sym (drop-drop (n * 8) 8 front) in
-    append_assoc (bin 8 (number (take 8 front))) (bits (numbers n 8 (drop 8 front))) (drop (suc n * 8) front)
+    let behind : drop (suc n * 8) front ≡ drop (n * 8) (drop 8 front) =
+    ap (λ k. drop k front) (omega arith) ∙ sym (drop-drop (n * 8) 8 front) in
+    append_assoc (bin 8 (number (take 8 front))) (bits (numbers n 8 (drop 8 front)))
+    (drop (suc n * 8) front)
     ∙ (λ i. first i ++ (bits (numbers n 8 (drop 8 front)) ++ behind i))
     ∙ ap (λ xs. take 8 front ++ xs) (bits_of_numbers n (drop 8 front) others)
     ∙ take-append-drop 8 front
@@ -175,12 +206,17 @@ numbers_at_is : (n : ℕ) (os : List ℕ) (front rest : List Bool)
 unfolding numbers_at
 numbers_at_is n os front rest e =
     elim (cases_lt (length front) (n * 8)) [
-      | inl lt ↦ absurd (let short : ltb (length front) (n * 8) ≡ true = lt-ltb _ _ lt in let none = rw short at e in cc)
+      | inl lt ↦
+          absurd
+          (let short : ltb (length front) (n * 8) ≡ true = lt-ltb _ _ lt in
+          let none = rw short at e in cc)
       | inr le ↦
           let long : ltb (length front) (n * 8) ≡ false = le-ltb _ _ le in
           let some = rw long at e in
           let pair : (numbers n 8 front, drop (n * 8) front) ≡ (os, rest) = some_is _ _ some in
-          subst (λ (p : List ℕ × List Bool). (length p.0 ≡ n) × (list_all (λ c. nat_lt c 256) p.0 ≡ true) × (front ≡ bits p.0 ++ p.1)) pair
+          subst
+          (λ (p : List ℕ × List Bool). (length p.0 ≡ n)
+          × (list_all (λ c. nat_lt c 256) p.0 ≡ true) × (front ≡ bits p.0 ++ p.1)) pair
           (length-numbers n 8 front, numbers_below n front le, sym (bits_of_numbers n front le))
     ]
 
@@ -199,8 +235,11 @@ number_read width front true None x s found e = absurd cc
 number_read width front true (Some y) x s found e =
     let same : (Number y.0, y.1) ≡ x = some_is _ _ e in
     let is = number_at_is width y.0 front y.1 found in
-    let fits : (nat_le width 64 && nat_lt y.0 (2 ^ width)) ≡ true = rw (s, lt-ltb y.0 (2 ^ width) is.1) refl in
-    subst (λ (p : Raw × List Bool). ((nat_le width 64 && nat_lt (number_of p.0) (2 ^ width)) ≡ true) × (p.0 ≡ Number (number_of p.0)) × (front ≡ raw_bits width p.0 ++ p.1)) same
+    let fits : (nat_le width 64 && nat_lt y.0 (2 ^ width)) ≡ true =
+    rw (s, lt-ltb y.0 (2 ^ width) is.1) refl in
+    subst
+    (λ (p : Raw × List Bool). ((nat_le width 64 && nat_lt (number_of p.0) (2 ^ width)) ≡ true)
+    × (p.0 ≡ Number (number_of p.0)) × (front ≡ raw_bits width p.0 ++ p.1)) same
     (fits, refl, is.0)
 
 -- so does a text
@@ -212,7 +251,8 @@ text_read width front None x found e = absurd cc
 text_read width front (Some y) x found e =
     let same : (Text y.0, y.1) ≡ x = some_is _ _ e in
     let is = numbers_at_is (width / 8) y.0 front y.1 found in
-    let form : has_form_by kinds.Text width (Text y.0) ≡ true = rw (eq-eqb (length y.0) (width / 8) is.0, is.1) refl in
+    let form : has_form_by kinds.Text width (Text y.0) ≡ true =
+    rw (eq-eqb (length y.0) (width / 8) is.0, is.1) refl in
     subst (λ (p : Raw × List Bool). IsRaw kinds.Text width front p) same (form, is.2)
 
 -- a number within its width has the form of its kind
@@ -229,10 +269,22 @@ number_form kinds.Count width raw other below is = rw is below
 pub raw_read : (kind : Kind) (width : ℕ) (front : List Bool) (x : Raw × List Bool)
     → raw_at_by kind width front ≡ Some x → IsRaw kind width front x
 raw_read kinds.Text width front x e = text_read width front _ x refl e
-raw_read kinds.Code width front x e = let is = number_read width front _ _ x refl refl e in (number_form kinds.Code width x.0 refl is.0 is.1, is.2)
-raw_read kinds.Flag width front x e = let is = number_read width front _ _ x refl refl e in (number_form kinds.Flag width x.0 refl is.0 is.1, is.2)
-raw_read kinds.Quantity width front x e = let is = number_read width front _ _ x refl refl e in (number_form kinds.Quantity width x.0 refl is.0 is.1, is.2)
-raw_read kinds.Count width front x e = let is = number_read width front _ _ x refl refl e in (number_form kinds.Count width x.0 refl is.0 is.1, is.2)
+raw_read kinds.Code width front x e =
+    let is =
+    number_read width front _ _ x refl refl e in
+    (number_form kinds.Code width x.0 refl is.0 is.1, is.2)
+raw_read kinds.Flag width front x e =
+    let is =
+    number_read width front _ _ x refl refl e in
+    (number_form kinds.Flag width x.0 refl is.0 is.1, is.2)
+raw_read kinds.Quantity width front x e =
+    let is =
+    number_read width front _ _ x refl refl e in
+    (number_form kinds.Quantity width x.0 refl is.0 is.1, is.2)
+raw_read kinds.Count width front x e =
+    let is =
+    number_read width front _ _ x refl refl e in
+    (number_form kinds.Count width x.0 refl is.0 is.1, is.2)
 
 -- a raw value of a spec's form makes a field that is asked for
 stands : (d : ℕ) (spec : Spec) (raw : Raw) → has_form_by spec.kind spec.width raw ≡ true
@@ -245,7 +297,9 @@ IsFound j i c front f = (items_of j i c f.fields ≡ Ok f.items) × (front ≡ p
 
 -- what is read later stands
 abbrev FoundAfter : ℕ → ℕ → (ℕ → Course) → Type 0
-FoundAfter j i more = (n : ℕ) (front : List Bool) (f : SubsetRead) → fields_at j i (more n) front ≡ Ok f → IsFound j i (more n) front f
+FoundAfter j i more =
+    (n : ℕ) (front : List Bool) (f : SubsetRead) → fields_at j i (more n) front ≡ Ok f
+    → IsFound j i (more n) front f
 
 -- the field that was read and those after it
 field_joined : (j i met d : ℕ) (spec : Spec) (more : ℕ → Course) (front : List Bool)
@@ -261,9 +315,11 @@ field_joined j i met d spec more front x (Ok g) f raw after e =
     let field : Field = record { fxy = d; spec = spec; raw = x.0 } in
     let same : ◌≡◌ {A = SubsetRead} (record g { fields = field ∷ g.fields }) f = ok_found _ _ e in
     let others = after g refl in
-    let fits : items_of j i (asks met d spec more) (field ∷ g.fields) ≡ Ok g.items = rw (stands d spec x.0 raw.0) others.0 in
+    let fits : items_of j i (asks met d spec more) (field ∷ g.fields) ≡ Ok g.items =
+    rw (stands d spec x.0 raw.0) others.0 in
     let spelt : front ≡ plain (field ∷ g.fields) ++ g.rest =
-    raw.1 ∙ ap (λ xs. raw_bits spec.width x.0 ++ xs) others.1 ∙ sym (append_assoc (raw_bits spec.width x.0) (plain g.fields) g.rest) in
+    raw.1 ∙ ap (λ xs. raw_bits spec.width x.0 ++ xs) others.1
+    ∙ sym (append_assoc (raw_bits spec.width x.0) (plain g.fields) g.rest) in
     subst (λ (h : SubsetRead). IsFound j i (asks met d spec more) front h) same (fits, spelt)
 
 -- so a field that is read stands, and then the others
@@ -274,7 +330,8 @@ field_found : (j i met d : ℕ) (spec : Spec) (more : ℕ → Course) (front : L
     → IsFound j i (asks met d spec more) front f
 field_found j i met d spec more front None f found after e = absurd cc
 field_found j i met d spec more front (Some x) f found after e =
-    field_joined j i met d spec more front x (fields_at j (i + 1) (more (number_of x.0)) x.1) f (raw_read spec.kind spec.width front x found) (after (number_of x.0) x.1) e
+    field_joined j i met d spec more front x (fields_at j (i + 1) (more (number_of x.0)) x.1) f
+    (raw_read spec.kind spec.width front x found) (after (number_of x.0) x.1) e
 
 -- what was read did not stop at a fault
 not_stopped : (fault : WalkFault) (f : SubsetRead) → stopped fault ≡ Ok f → ⊥
@@ -287,16 +344,20 @@ pub fields_at-found : (j i : ℕ) (c : Course) (front : List Bool) (f : SubsetRe
     → (items_of j i c f.fields ≡ Ok f.items) × (front ≡ plain f.fields ++ f.rest)
 unfolding items_of fields_at
 fields_at-found j i (ends n) front f e =
-    subst (λ (h : SubsetRead). IsFound j i (ends n) front h) (ok_found (record { fields = []; items = n; rest = front }) f e) (refl, refl)
+    subst (λ (h : SubsetRead). IsFound j i (ends n) front h)
+    (ok_found (record { fields = []; items = n; rest = front }) f e) (refl, refl)
 fields_at-found j i (stops met fault) front f e = absurd (not_stopped fault f e)
 fields_at-found j i (asks met d spec more) front f e =
-    field_found j i met d spec more front _ f refl (λ n rest g h. fields_at-found j (i + 1) (more n) rest g h) e
+    field_found j i met d spec more front _ f refl
+    (λ n rest g h. fields_at-found j (i + 1) (more n) rest g h) e
 
 -- ---- subsets
 
 -- subsets that their courses allow stand at the front
 abbrev AreFound : (ℕ → Course) → ℕ → ℕ → ℕ → List Bool → SubsetsRead → Type 0
-AreFound course j n used front f = (length f.subsets ≡ n) × (items_of_all course j used f.subsets ≡ Ok f.items) × (front ≡ plain_subsets f.subsets ++ f.rest)
+AreFound course j n used front f =
+    (length f.subsets ≡ n) × (items_of_all course j used f.subsets ≡ Ok f.items)
+    × (front ≡ plain_subsets f.subsets ++ f.rest)
 
 -- subsets that were read are so many, fit their courses, and the bits are theirs and what is left
 pub subsets_at-found : (course : ℕ → Course) (j n used : ℕ) (front : List Bool) (f : SubsetsRead)
@@ -305,20 +366,24 @@ pub subsets_at-found : (course : ℕ → Course) (j n used : ℕ) (front : List 
     × (front ≡ plain_subsets f.subsets ++ f.rest)
 unfolding subsets_at items_of_all
 subsets_at-found course j zero used front f e =
-    subst (λ (h : SubsetsRead). AreFound course j 0 used front h) (ok_found (record { subsets = []; items = used; rest = front }) f e) (refl, refl, refl)
+    subst (λ (h : SubsetsRead). AreFound course j 0 used front h)
+    (ok_found (record { subsets = []; items = used; rest = front }) f e) (refl, refl, refl)
 subsets_at-found course j (suc n) used front f e =
     let a = bind_ok (fields_at j 1 (course used) front) _ f e in
     let first = a.0 in
     let b = bind_ok (subsets_at course (j + 1) n first.items first.rest) _ f a.2 in
     let others = b.0 in
     let s : Subset = record { fields = first.fields } in
-    let same : ◌≡◌ {A = SubsetsRead} (record others { subsets = s ∷ others.subsets }) f = ok_found _ _ b.2 in
+    let same : ◌≡◌ {A = SubsetsRead} (record others { subsets = s ∷ others.subsets }) f =
+    ok_found _ _ b.2 in
     let front_is = fields_at-found j 1 (course used) front first a.1 in
     let rest_is = subsets_at-found course (j + 1) n first.items first.rest others b.1 in
     let many : length (s ∷ others.subsets) ≡ suc n = ap suc rest_is.0 in
-    let fits : items_of_all course j used (s ∷ others.subsets) ≡ Ok others.items = rw front_is.0 rest_is.1 in
+    let fits : items_of_all course j used (s ∷ others.subsets) ≡ Ok others.items =
+    rw front_is.0 rest_is.1 in
     let spelt : front ≡ plain_subsets (s ∷ others.subsets) ++ others.rest =
-    front_is.1 ∙ ap (λ xs. plain first.fields ++ xs) rest_is.2 ∙ sym (append_assoc (plain first.fields) (plain_subsets others.subsets) others.rest) in
+    front_is.1 ∙ ap (λ xs. plain first.fields ++ xs) rest_is.2
+    ∙ sym (append_assoc (plain first.fields) (plain_subsets others.subsets) others.rest) in
     subst (λ (h : SubsetsRead). AreFound course j (suc n) used front h) same (many, fits, spelt)
 
 -- subsets that are counted are read of their bits
@@ -327,11 +392,18 @@ subsets_again : (course : ℕ → Course) (j used : ℕ) (subsets : List Subset)
     → subsets_at course j (length subsets) used (plain_subsets subsets ++ rest)
     ≡ Ok (record { subsets = subsets; items = n; rest = rest })
 unfolding subsets_at items_of_all
-subsets_again course j used [] n rest e = ap (λ k. Ok (record { subsets = []; items = k; rest = rest })) (ok_is used n e)
+subsets_again course j used [] n rest e =
+    ap (λ k. Ok (record { subsets = []; items = k; rest = rest })) (ok_is used n e)
 subsets_again course j used (s ∷ subsets) n rest e =
     let a = bind_ok (items_of j 1 (course used) s.fields) _ n e in
-    let regrouped : plain_subsets (s ∷ subsets) ++ rest ≡ plain s.fields ++ (plain_subsets subsets ++ rest) = append_assoc (plain s.fields) (plain_subsets subsets) rest in
-    rw (regrouped, fields_at-plain j 1 (course used) s.fields a.0 (plain_subsets subsets ++ rest) a.1, subsets_again course (j + 1) a.0 subsets n rest a.2) refl
+    let regrouped : plain_subsets (s ∷ subsets) ++ rest ≡ plain s.fields
+    ++ (plain_subsets subsets ++ rest) =
+    append_assoc (plain s.fields) (plain_subsets subsets) rest in
+    rw (
+      regrouped,
+      fields_at-plain j 1 (course used) s.fields a.0 (plain_subsets subsets ++ rest) a.1,
+      subsets_again course (j + 1) a.0 subsets n rest a.2,
+    ) refl
 
 -- subsets that are so many and fit their courses are read again from their bits, whatever follows
 pub subsets_at-plain : (course : ℕ → Course) (j n used : ℕ) (front : List Bool) (f : SubsetsRead)

@@ -13,7 +13,8 @@ kept_by p n ns ms end false e = e
 pub filter_push : (p : ℕ → Bool) (ns : List ℕ) (x : ℕ)
     → filter p (ns ++ x ∷ []) ≡ filter p ns ++ cond (p x) (x ∷ []) []
 filter_push p [] x = refl
-filter_push p (n ∷ ns) x = kept_by p n ns (filter p (ns ++ x ∷ [])) (cond (p x) (x ∷ []) []) (p n) (filter_push p ns x)
+filter_push p (n ∷ ns) x =
+    kept_by p n ns (filter p (ns ++ x ∷ [])) (cond (p x) (x ∷ []) []) (p n) (filter_push p ns x)
 
 -- the least with one more
 pub least_push : (n : ℕ) (ms : List ℕ) (x : ℕ)

@@ -1,6 +1,8 @@
 -- One step of a walk is one step of reading: for `read_plain` and `read_subsets`.
 use Rattle.bufr_tables.specs.Answers.{◌>>=◌, Fails}
-use Rattle.std.proofs.Common.{◌≡◌, ℕ, ◌+◌, Bool, List, [], ◌∷◌, ◌++◌, Option, Some, None, Result, Ok, Err, refl, sym, ap, subst, ◌∙◌, arith, length, length-append, append_assoc}
+use Rattle.std.proofs.Common.{◌≡◌, ℕ, ◌+◌, Bool, List, [], ◌∷◌, ◌++◌, Option, Some, None, Result}
+use Rattle.std.proofs.Common.{Ok, Err, refl, sym, ap, subst, ◌∙◌, arith, length, length-append}
+use Rattle.std.proofs.Common.{append_assoc}
 use Rattle.bufr_tables.specs.declared.failure.Failure.{Failure}
 use Rattle.bufr_tables.specs.declared.failure.Failure.TheVariants.{Fault, OutOfMemory}
 use Rattle.bufr_expand.specs.declared.operators.Spec.{Spec}
@@ -36,7 +38,10 @@ pub asked_field : (j i met d : ℕ) (spec : Spec) (more : ℕ → Course) (front
     ≡ behind_fields (record { fxy = d; spec = spec; raw = raw } ∷ [])
     (fields_at j (i + 1) (more (number_of raw)) rest)
 unfolding fields_at
-asked_field j i met d spec more front rest raw e = rw e (joined (record { fxy = d; spec = spec; raw = raw }) (fields_at j (i + 1) (more (number_of raw)) rest))
+asked_field j i met d spec more front rest raw e =
+    rw e
+    (joined (record { fxy = d; spec = spec; raw = raw })
+    (fields_at j (i + 1) (more (number_of raw)) rest))
 
 -- one that is not there is the fault
 missing_field : (j i met d : ℕ) (spec : Spec) (more : ℕ → Course) (front : List Bool)
@@ -61,11 +66,15 @@ pub field_is_read : (old new : Walk) (i d : ℕ) (spec : Spec) (front rest : Lis
     (fields_at 1 (i + 1) (left new) rest)
 field_is_read old new i d spec front rest raw ready g e =
     let a = asks_field (left old) d spec new g in
-    let s = steady_step (items_met old) a.met d spec a.more (subst (λ (x : Course). IsSteady (items_met old) x) a.is ready.steady) in
+    let s =
+    steady_step (items_met old) a.met d spec a.more
+    (subst (λ (x : Course). IsSteady (items_met old) x) a.is ready.steady) in
     let same : a.more (number_of raw) ≡ left new = s.2 a.kind (number_of raw) ∙ sym a.after in
     ap (λ c. fields_at 1 i c front) a.is
     ∙ asked_field 1 i a.met d spec a.more front rest raw (found_is 1 i _ _ e)
-    ∙ ap (λ c. behind_fields (record { fxy = d; spec = spec; raw = raw } ∷ []) (fields_at 1 (i + 1) c rest)) same
+    ∙ ap
+    (λ c. behind_fields (record { fxy = d; spec = spec; raw = raw } ∷ [])
+    (fields_at 1 (i + 1) c rest)) same
 
 -- so is a count
 pub count_is_read : (old mid new : Walk) (i d : ℕ) (spec : Spec) (front rest : List Bool)
@@ -80,7 +89,9 @@ count_is_read old mid new i d spec front rest raw g counted e =
     let told = subst (λ (x : Course). Counted x (number_of raw) new) a.waiting counted in
     ap (λ c. fields_at 1 i c front) a.is
     ∙ asked_field 1 i a.met d spec a.more front rest raw (found_is 1 i _ _ e)
-    ∙ ap (λ c. behind_fields (record { fxy = d; spec = spec; raw = raw } ∷ []) (fields_at 1 (i + 1) c rest)) (sym told.0)
+    ∙ ap
+    (λ c. behind_fields (record { fxy = d; spec = spec; raw = raw } ∷ [])
+    (fields_at 1 (i + 1) c rest)) (sym told.0)
 
 -- where its bits are not there, the fields are refused
 pub field_is_missing : (old new : Walk) (i d : ℕ) (spec : Spec) (front : List Bool)
@@ -112,7 +123,8 @@ pub stop_is_read : (old new : Walk) (i : ℕ) (front : List Bool) (fault : WalkF
     → Goes (left old) (Err fault) new → stopped {A = SubsetRead} fault ≡ Err f
     → fields_at 1 i (left old) front ≡ Err f
 unfolding fields_at
-stop_is_read old new i front fault f g e = let s = stops_there (left old) fault new g in ap (λ c. fields_at 1 i c front) s.1 ∙ e
+stop_is_read old new i front fault f g e =
+    let s = stops_there (left old) fault new g in ap (λ c. fields_at 1 i c front) s.1 ∙ e
 
 -- ---- counts that were read
 
@@ -121,7 +133,8 @@ pub count_read_fits : (old mid : Walk) (i d : ℕ) (spec : Spec) (front rest : L
     → Goes (left old) (Ok (steps.Count d spec)) mid
     → raw_or_ends 1 i (raw_at spec front) ≡ Ok (raw, rest) → IsBelowCount (left mid) (number_of raw)
 count_read_fits old mid i d spec front rest raw g e =
-    count_fits old mid d spec raw g (raw_read spec.kind spec.width front (raw, rest) (found_is 1 i _ _ e)).0
+    count_fits old mid d spec raw g
+    (raw_read spec.kind spec.width front (raw, rest) (found_is 1 i _ _ e)).0
 
 -- ---- fields one after the other
 
@@ -133,7 +146,9 @@ behind_none (Err e) = refl
 -- one more field behind those before
 pub behind_more : (fields : List Field) (field : Field) (o : Result SubsetRead ReadFault)
     → behind_fields fields (behind_fields (field ∷ []) o) ≡ behind_fields (fields ++ field ∷ []) o
-behind_more fields field (Ok found) = ap (λ fs. Ok (record found { fields = fs })) (sym (append_assoc fields (field ∷ []) found.fields))
+behind_more fields field (Ok found) =
+    ap (λ fs. Ok (record found { fields = fs }))
+    (sym (append_assoc fields (field ∷ []) found.fields))
 behind_more fields field (Err e) = refl
 
 -- one field more was read

@@ -1,7 +1,10 @@
 -- What is refused is the first field that cannot stand, or the first place at which subsets are not
 -- what the template allows: for the laws `read_refusals_follow_the_tree`,
 -- `write_refusals_follow_the_tree` and `data_hold_subsets`.
-use Rattle.std.proofs.Common.{◌≡◌, ℕ, zero, suc, ◌+◌, ◌*◌, ◌/◌, ◌%◌, ◌^◌, ◌<◌, ◌≤◌, Bool, true, false, cond, List, [], ◌∷◌, ◌++◌, length, take, drop, Option, Some, None, Result, Ok, Err, refl, sym, ap, subst, ◌∙◌, arith, append_assoc, length-append, inl, inr}
+use Rattle.std.proofs.Common.{◌≡◌, ℕ, zero, suc, ◌+◌, ◌*◌, ◌/◌, ◌%◌, ◌^◌, ◌<◌, ◌≤◌, Bool, true}
+use Rattle.std.proofs.Common.{false, cond, List, [], ◌∷◌, ◌++◌, length, take, drop, Option, Some}
+use Rattle.std.proofs.Common.{None, Result, Ok, Err, refl, sym, ap, subst, ◌∙◌, arith, append_assoc}
+use Rattle.std.proofs.Common.{length-append, inl, inr}
 use Rattle.std.proofs.lemmas.Bool.{cases_lt}
 use Rattle.std.proofs.lemmas.List.{take-append-drop, length-take}
 use Rattle.bufr_bits.specs.Bits.{bin, bits, number, numbers}
@@ -25,14 +28,19 @@ use Rattle.bufr_data.specs.declared.fault.ReadFault.{ReadFault}
 use Rattle.bufr_data.specs.declared.fault.ReadFault.TheVariants as faults
 use Rattle.bufr_data.specs.declared.fault.WriteFault.{WriteFault}
 use Rattle.bufr_data.specs.declared.fault.WriteFault.TheVariants as misfits
-use Rattle.bufr_data.specs.Plain.{raw_bits, field_bits, plain, plain_subsets, SubsetRead, raw_at, number_of, field_then, stopped, fields_at, subsets_at, stands_for, misfit, items_of, items_of_all}
+use Rattle.bufr_data.specs.Plain.{raw_bits, field_bits, plain, plain_subsets, SubsetRead, raw_at}
+use Rattle.bufr_data.specs.Plain.{number_of, field_then, stopped, fields_at, subsets_at, stands_for}
+use Rattle.bufr_data.specs.Plain.{misfit, items_of, items_of_all}
 use Rattle.bufr_data.specs.Data.{written_bits}
-use Rattle.bufr_data.specs.Fits.{HasForm, of_text, of_number, FitsWithin, AllFitWithin, SubsetStands}
+use Rattle.bufr_data.specs.Fits.{HasForm, of_text, of_number, FitsWithin, AllFitWithin}
+use Rattle.bufr_data.specs.Fits.{SubsetStands}
 use Rattle.bufr_data.specs.Refusals.{IsAsked, Passes, NoneStands, IsWithinLimits}
 use Rattle.bufr_data.specs.CourseLaws.{AreUnrolled, AreAllowed}
 use Rattle.bufr_data.specs.FormLaws.{form_passes, form_is, asked_is, asked_passes, octets_are}
-use Rattle.bufr_data.proofs.CourseRefusals.{CannotStand, FieldRefused, SubsetRefused, CannotGoOn, FieldMisfits, SubsetMisfits}
-use Rattle.bufr_data.proofs.PlainFacts.{raw_again, raw_read, length-bits, numbers_below, bits_of_numbers}
+use Rattle.bufr_data.proofs.CourseRefusals.{CannotStand, FieldRefused, SubsetRefused, CannotGoOn}
+use Rattle.bufr_data.proofs.CourseRefusals.{FieldMisfits, SubsetMisfits}
+use Rattle.bufr_data.proofs.PlainFacts.{raw_again, raw_read, length-bits, numbers_below}
+use Rattle.bufr_data.proofs.PlainFacts.{bits_of_numbers}
 use Rattle.bufr_data.proofs.FitFacts.{counted_fit, fitting_counted, read_stands, standing_read}
 
 -- ---- whether a field stands
@@ -52,7 +60,8 @@ none_read spec front none = none_by spec front (raw_at spec front) refl none
 -- where none is read, no field stands
 none_stands : (spec : Spec) (front : List Bool) → raw_at spec front ≡ None → NoneStands spec front
 none_stands spec front e = λ raw rest form is.
-    let some : raw_at spec front ≡ Some (raw, rest) = ap (raw_at spec) is ∙ raw_again spec.kind spec.width raw rest (form_passes spec raw form) in
+    let some : raw_at spec front ≡ Some (raw, rest) =
+    ap (raw_at spec) is ∙ raw_again spec.kind spec.width raw rest (form_passes spec raw form) in
     cc
 
 -- within the limits a raw value has as many bits as its spec says
@@ -67,16 +76,26 @@ raw_length spec raw limits (of_number n other few below) = length-bin spec.width
 pub none_on_few : (spec : Spec) (front : List Bool) → IsWithinLimits spec
     → length front < spec.width → NoneStands spec front
 none_on_few spec front limits short = λ raw rest form is.
-    omega (arith, ap length is, length-append (raw_bits spec.width raw) rest, raw_length spec raw limits form)
+    omega (
+      arith,
+      ap length is,
+      length-append (raw_bits spec.width raw) rest,
+      raw_length spec raw limits form,
+    )
 
 -- enough bits have a number
 number_stands : (spec : Spec) (front : List Bool) → (spec.kind ≡ kinds.Text → ⊥)
     → IsWithinLimits spec → spec.width ≤ length front → NoneStands spec front → ⊥
 number_stands spec front other limits long none =
-    let size : length (take spec.width front) ≡ spec.width = omega (arith, length-take spec.width front) in
-    let below : number (take spec.width front) < 2 ^ spec.width = subst (λ k. number (take spec.width front) < 2 ^ k) size (number_below (take spec.width front)) in
-    let spelt : bin spec.width (number (take spec.width front)) ≡ take spec.width front = bin-number spec.width (take spec.width front) size in
-    none (Number (number (take spec.width front))) (drop spec.width front) (of_number (number (take spec.width front)) other (limits.few_bits other) below)
+    let size : length (take spec.width front) ≡ spec.width =
+    omega (arith, length-take spec.width front) in
+    let below : number (take spec.width front) < 2 ^ spec.width =
+    subst (λ k. number (take spec.width front) < 2 ^ k) size
+    (number_below (take spec.width front)) in
+    let spelt : bin spec.width (number (take spec.width front)) ≡ take spec.width front =
+    bin-number spec.width (take spec.width front) size in
+    none (Number (number (take spec.width front))) (drop spec.width front)
+    (of_number (number (take spec.width front)) other (limits.few_bits other) below)
     (sym (ap (λ xs. xs ++ drop spec.width front) spelt ∙ take-append-drop spec.width front))
 
 -- enough bits have a text
@@ -87,17 +106,22 @@ text_stands spec front is limits long none =
     let whole : spec.width % 8 ≡ 0 = limits.whole_octets is in
     let room : n * 8 ≤ length front = omega arith in
     none (Text (numbers n 8 front)) (drop (n * 8) front)
-    (of_text (numbers n 8 front) is (length-numbers n 8 front) (octets_are (numbers n 8 front) (numbers_below n front room)))
+    (of_text (numbers n 8 front) is (length-numbers n 8 front)
+    (octets_are (numbers n 8 front) (numbers_below n front room)))
     (sym (bits_of_numbers n front room))
 
 -- enough bits have a field of any kind
 stands_by : (kind : Kind) (spec : Spec) (front : List Bool) → spec.kind ≡ kind → IsWithinLimits spec
     → spec.width ≤ length front → NoneStands spec front → ⊥
 stands_by kinds.Text spec front is limits long none = text_stands spec front is limits long none
-stands_by kinds.Code spec front is limits long none = number_stands spec front (λ t. let e = sym is ∙ t in cc) limits long none
-stands_by kinds.Flag spec front is limits long none = number_stands spec front (λ t. let e = sym is ∙ t in cc) limits long none
-stands_by kinds.Quantity spec front is limits long none = number_stands spec front (λ t. let e = sym is ∙ t in cc) limits long none
-stands_by kinds.Count spec front is limits long none = number_stands spec front (λ t. let e = sym is ∙ t in cc) limits long none
+stands_by kinds.Code spec front is limits long none =
+    number_stands spec front (λ t. let e = sym is ∙ t in cc) limits long none
+stands_by kinds.Flag spec front is limits long none =
+    number_stands spec front (λ t. let e = sym is ∙ t in cc) limits long none
+stands_by kinds.Quantity spec front is limits long none =
+    number_stands spec front (λ t. let e = sym is ∙ t in cc) limits long none
+stands_by kinds.Count spec front is limits long none =
+    number_stands spec front (λ t. let e = sym is ∙ t in cc) limits long none
 
 -- where no field stands there are too few bits
 pub few_where_none : (spec : Spec) (front : List Bool) → IsWithinLimits spec → NoneStands spec front
@@ -127,7 +151,15 @@ refused_here : (j i : ℕ) (c : Course) (front : List Bool) (fault : ReadFault)
     → CannotStand j i c front fault → FieldRefused j i c front fault
 refused_here j i c front fault h =
     let same : i ≡ i + 0 = omega arith in
-    record { before = []; next = c; rest = front; passed = refl; stand = refl; refused = subst (λ k. CannotStand j k c front fault) same h }
+    record {
+      before = [];
+      next = c;
+      rest = front;
+      passed = refl;
+      stand = refl;
+      refused = subst
+          (λ k. CannotStand j k c front fault) same h;
+    }
 
 -- the refusal of a field behind one that stands
 refused_behind : (j i met d : ℕ) (spec : Spec) (more : ℕ → Course) (front : List Bool)
@@ -139,9 +171,22 @@ refused_behind j i met d spec more front x fault e r =
     let field : Field = record { fxy = d; spec = spec; raw = x.0 } in
     let asked : IsAsked d spec field = (refl, refl, form_is spec x.0 is.0) in
     let spelt : front ≡ plain (field ∷ r.before) ++ r.rest =
-    is.1 ∙ ap (λ xs. raw_bits spec.width x.0 ++ xs) r.stand ∙ sym (append_assoc (raw_bits spec.width x.0) (plain r.before) r.rest) in
+    is.1 ∙ ap (λ xs. raw_bits spec.width x.0 ++ xs) r.stand
+    ∙ sym (append_assoc (raw_bits spec.width x.0) (plain r.before) r.rest) in
     let same : i + 1 + length r.before ≡ i + suc (length r.before) = omega arith in
-    record { before = field ∷ r.before; next = r.next; rest = r.rest; passed = (asked, r.passed); stand = spelt; refused = subst (λ k. CannotStand j k r.next r.rest fault) same r.refused }
+    record {
+      before = field
+          ∷ r.before;
+      next =
+          r.next;
+      rest =
+          r.rest;
+      passed =
+          (asked, r.passed);
+      stand = spelt;
+      refused = subst
+          (λ k. CannotStand j k r.next r.rest fault) same r.refused;
+    }
 
 -- an answer is no error
 not_err : {A F : Type 0} (x : A) (fault : F) → ◌≡◌ {A = Result A F} (Ok x) (Err fault) → ⊥
@@ -155,10 +200,18 @@ asked_refused : (j i met d : ℕ) (spec : Spec) (more : ℕ → Course) (front :
     → field_then j i d spec (λ n rest. fields_at j (i + 1) (more n) rest) o ≡ Err fault
     → FieldRefused j i (asks met d spec more) front fault
 asked_refused j i met d spec more front None fault read after e =
-    refused_here j i (asks met d spec more) front fault (sym (err_is {A = SubsetRead} (faults.DataEnds j i) fault e), none_stands spec front read)
+    refused_here j i (asks met d spec more) front fault
+    (sym (err_is {A = SubsetRead} (faults.DataEnds j i) fault e), none_stands spec front read)
 asked_refused j i met d spec more front (Some x) fault read after e =
-    elim (bind_err (fields_at j (i + 1) (more (number_of x.0)) x.1) (λ found. Ok (record found { fields = record { fxy = d; spec = spec; raw = x.0 } ∷ found.fields })) fault e) [
-      | inl first ↦ refused_behind j i met d spec more front x fault read (after (number_of x.0) x.1 first)
+    elim
+    (bind_err (fields_at j (i + 1) (more (number_of x.0)) x.1)
+    (λ found. Ok
+    (record found {
+      fields = record { fxy = d; spec = spec; raw = x.0 }
+          ∷ found.fields;
+    })) fault e) [
+      | inl first ↦
+          refused_behind j i met d spec more front x fault read (after (number_of x.0) x.1 first)
       | inr second ↦ absurd (not_err _ fault second.2)
     ]
 
@@ -167,9 +220,11 @@ pub refused_stand : (j i : ℕ) (c : Course) (front : List Bool) (fault : ReadFa
     → fields_at j i c front ≡ Err fault → FieldRefused j i c front fault
 unfolding fields_at
 refused_stand j i (ends n) front fault e = absurd (not_err _ fault e)
-refused_stand j i (stops met w) front fault e = refused_here j i (stops met w) front fault (stop_refused j i met w front fault e)
+refused_stand j i (stops met w) front fault e =
+    refused_here j i (stops met w) front fault (stop_refused j i met w front fault e)
 refused_stand j i (asks met d spec more) front fault e =
-    asked_refused j i met d spec more front _ fault refl (λ n rest h. refused_stand j (i + 1) (more n) rest fault h) e
+    asked_refused j i met d spec more front _ fault refl
+    (λ n rest h. refused_stand j (i + 1) (more n) rest fault h) e
 
 -- where a field cannot stand, its fault is answered
 here_again : (j i : ℕ) (c : Course) (front : List Bool) (fault : ReadFault)
@@ -177,7 +232,8 @@ here_again : (j i : ℕ) (c : Course) (front : List Bool) (fault : ReadFault)
 unfolding fields_at
 here_again j i (ends n) front fault h = absurd h
 here_again j i (stops met w) front fault h = stopped_again j i met w front fault h
-here_again j i (asks met d spec more) front fault h = rw (none_read spec front h.1) (ap (λ x. Err x) (sym h.0))
+here_again j i (asks met d spec more) front fault h =
+    rw (none_read spec front h.1) (ap (λ x. Err x) (sym h.0))
 
 -- so it is behind fields that stand
 behind_again : (j i : ℕ) (before : List Field) (c next : Course) (rest : List Bool)
@@ -186,23 +242,34 @@ behind_again : (j i : ℕ) (before : List Field) (c next : Course) (rest : List 
 unfolding fields_at
 behind_again j i [] c next rest fault passed h =
     let same : i + 0 ≡ i = omega arith in
-    here_again j i c rest fault (subst (λ k. CannotStand j k c rest fault) same (subst (λ (d : Course). CannotStand j (i + 0) d rest fault) (sym passed) h))
+    here_again j i c rest fault
+    (subst (λ k. CannotStand j k c rest fault) same
+    (subst (λ (d : Course). CannotStand j (i + 0) d rest fault) (sym passed) h))
 behind_again j i (f ∷ fields) (ends n) next rest fault passed h = absurd passed
 behind_again j i (f ∷ fields) (stops met w) next rest fault passed h = absurd passed
 behind_again j i (f ∷ fields) (asks met d spec more) next rest fault passed h =
     let same : i + suc (length fields) ≡ i + 1 + length fields = omega arith in
-    let others = behind_again j (i + 1) fields (more (number_of f.raw)) next rest fault passed.1 (subst (λ k. CannotStand j k next rest fault) same h) in
+    let others =
+    behind_again j (i + 1) fields (more (number_of f.raw)) next rest fault passed.1
+    (subst (λ k. CannotStand j k next rest fault) same h) in
     let width : f.spec.width ≡ spec.width = ap (λ (s : Spec). s.width) passed.0.1 in
-    let regrouped : plain (f ∷ fields) ++ rest ≡ raw_bits spec.width f.raw ++ (plain fields ++ rest) =
-    append_assoc (field_bits f) (plain fields) rest ∙ ap (λ w. raw_bits w f.raw ++ (plain fields ++ rest)) width in
+    let regrouped : plain (f ∷ fields) ++ rest ≡ raw_bits spec.width f.raw
+    ++ (plain fields ++ rest) =
+    append_assoc (field_bits f) (plain fields) rest
+    ∙ ap (λ w. raw_bits w f.raw ++ (plain fields ++ rest)) width in
     ap (fields_at j i (asks met d spec more)) regrouped
-    ∙ rw (raw_again spec.kind spec.width f.raw (plain fields ++ rest) (form_passes spec f.raw passed.0.2), others) refl
+    ∙ rw (
+      raw_again spec.kind spec.width f.raw (plain fields ++ rest)
+          (form_passes spec f.raw passed.0.2),
+      others,
+    ) refl
 
 -- the first field that cannot stand has its fault answered
 pub standing_refused : (j i : ℕ) (c : Course) (front : List Bool) (fault : ReadFault)
     → FieldRefused j i c front fault → fields_at j i c front ≡ Err fault
 standing_refused j i c front fault r =
-    ap (fields_at j i c) r.stand ∙ behind_again j i r.before c r.next r.rest fault r.passed r.refused
+    ap (fields_at j i c) r.stand
+    ∙ behind_again j i r.before c r.next r.rest fault r.passed r.refused
 
 -- ---- subsets that are read
 
@@ -219,7 +286,9 @@ first_refused tree j n used front fault le e =
       fewer = omega arith;
       fit = (0, refl, omega arith, le);
       stand = refl;
-      refused = subst (λ k. FieldRefused k 1 (course tree used) front fault) same (refused_stand j 1 (course tree used) front fault e);
+      refused =
+          subst (λ k. FieldRefused k 1 (course tree used) front fault) same
+          (refused_stand j 1 (course tree used) front fault e);
     }
 
 -- one that is refused behind a subset that stands is the first of all
@@ -233,14 +302,20 @@ later_refused tree j n used front first fault h r =
     let others = r.fit in
     let same : j + 1 + length r.before ≡ j + suc (length r.before) = omega arith in
     let spelt : front ≡ plain_subsets (s ∷ r.before) ++ r.rest =
-    h.1 ∙ ap (λ xs. plain first.fields ++ xs) r.stand ∙ sym (append_assoc (plain first.fields) (plain_subsets r.before) r.rest) in
+    h.1 ∙ ap (λ xs. plain first.fields ++ xs) r.stand
+    ∙ sym (append_assoc (plain first.fields) (plain_subsets r.before) r.rest) in
     let few : length r.before < n = r.fewer in
     record {
       before = s ∷ r.before;
       items = r.items;
       rest = r.rest;
       fewer = omega arith;
-      fit = (own.0 + others.0, (own.0, others.0, own.1, others.1, refl), omega (arith, own.2, others.2), others.3);
+      fit = (
+        own.0 + others.0,
+        (own.0, others.0, own.1, others.1, refl),
+        omega (arith, own.2, others.2),
+        others.3,
+      );
       stand = spelt;
       refused = subst (λ k. FieldRefused k 1 (course tree r.items) r.rest fault) same r.refused;
     }
@@ -258,8 +333,11 @@ subsets_refused_stand law tree j (suc n) used front fault le e =
           let first = behind.0 in
           let h = read_stands law tree j used front first le behind.1 in
           later_refused tree j n used front first fault h
-          (elim (bind_err (subsets_at (course tree) (j + 1) n first.items first.rest) _ fault behind.2) [
-            | inl others ↦ subsets_refused_stand law tree (j + 1) n first.items first.rest fault h.0.3 others
+          (elim
+          (bind_err
+          (subsets_at (course tree) (j + 1) n first.items first.rest) _ fault behind.2) [
+            | inl others ↦
+                subsets_refused_stand law tree (j + 1) n first.items first.rest fault h.0.3 others
             | inr none ↦ absurd (not_err _ fault none.2)
           ])
     ]
@@ -277,8 +355,10 @@ subsets_again law tree [] j (suc n) used items rest fault fewer fit r =
     let end : items ≡ used + fit.0 = fit.2 in
     let same : items ≡ used = omega arith in
     let here : j + 0 ≡ j = omega arith in
-    let r1 : FieldRefused j 1 (course tree items) rest fault = subst (λ k. FieldRefused k 1 (course tree items) rest fault) here r in
-    let r2 : FieldRefused j 1 (course tree used) rest fault = subst (λ k. FieldRefused j 1 (course tree k) rest fault) same r1 in
+    let r1 : FieldRefused j 1 (course tree items) rest fault =
+    subst (λ k. FieldRefused k 1 (course tree items) rest fault) here r in
+    let r2 : FieldRefused j 1 (course tree used) rest fault =
+    subst (λ k. FieldRefused j 1 (course tree k) rest fault) same r1 in
     rw (standing_refused j 1 (course tree used) rest fault r2) refl
 subsets_again law tree (s ∷ before) j (suc n) used items rest fault fewer fit r =
     let own = fit.1.0 in
@@ -289,11 +369,15 @@ subsets_again law tree (s ∷ before) j (suc n) used items rest fault fewer fit 
     let back : List Bool = plain_subsets before ++ rest in
     let found : SubsetRead = record { fields = s.fields; items = used + own; rest = back } in
     let first : fields_at j 1 (course tree used) (plain s.fields ++ back) ≡ Ok found =
-    standing_read law tree j used (plain s.fields ++ back) found ((own, fit.1.2, refl, omega arith), refl) in
-    let regrouped : plain_subsets (s ∷ before) ++ rest ≡ plain s.fields ++ back = append_assoc (plain s.fields) (plain_subsets before) rest in
+    standing_read law tree j used (plain s.fields ++ back) found
+    ((own, fit.1.2, refl, omega arith), refl) in
+    let regrouped : plain_subsets (s ∷ before) ++ rest ≡ plain s.fields ++ back =
+    append_assoc (plain s.fields) (plain_subsets before) rest in
     let here : j + suc (length before) ≡ j + 1 + length before = omega arith in
     let behind : subsets_at (course tree) (j + 1) n (used + own) back ≡ Err fault =
-    subsets_again law tree before (j + 1) n (used + own) items rest fault (omega arith) (others, fit.1.3, omega arith, few) (subst (λ k. FieldRefused k 1 (course tree items) rest fault) here r) in
+    subsets_again law tree before (j + 1) n (used + own) items rest fault (omega arith)
+    (others, fit.1.3, omega arith, few)
+    (subst (λ k. FieldRefused k 1 (course tree items) rest fault) here r) in
     rw (regrouped, first, behind) refl
 
 -- the first subset that is refused has its fault answered
@@ -301,7 +385,8 @@ pub subsets_standing_refused : AreAllowed
     → (tree : Tree) (j n used : ℕ) (front : List Bool) (fault : ReadFault)
     → SubsetRefused tree j n used front fault → subsets_at (course tree) j n used front ≡ Err fault
 subsets_standing_refused law tree j n used front fault r =
-    ap (subsets_at (course tree) j n used) r.stand ∙ subsets_again law tree r.before j n used r.items r.rest fault r.fewer r.fit r.refused
+    ap (subsets_at (course tree) j n used) r.stand
+    ∙ subsets_again law tree r.before j n used r.items r.rest fault r.fewer r.fit r.refused
 
 -- ---- fields that are written
 
@@ -310,7 +395,15 @@ misfit_here : (j i : ℕ) (c : Course) (fields : List Field) (fault : WriteFault
     → CannotGoOn j i c fields fault → FieldMisfits j i c fields fault
 misfit_here j i c fields fault h =
     let same : i ≡ i + 0 = omega arith in
-    record { before = []; others = fields; next = c; passed = refl; joined = refl; refused = subst (λ k. CannotGoOn j k c fields fault) same h }
+    record {
+      before = [];
+      others = fields;
+      next = c;
+      passed = refl;
+      joined = refl;
+      refused = subst
+          (λ k. CannotGoOn j k c fields fault) same h;
+    }
 
 -- so are those behind a field that is asked for
 misfit_behind : (j i met d : ℕ) (spec : Spec) (more : ℕ → Course) (f : Field) (fields : List Field)
@@ -347,22 +440,32 @@ asked_misfits : (j i met d : ℕ) (spec : Spec) (more : ℕ → Course) (f : Fie
     → FieldMisfits j (i + 1) (more (number_of f.raw)) fields fault)
     → cond is (items_of j (i + 1) (more (number_of f.raw)) fields) (Err (misfits.DoesNotFit j i))
     ≡ Err fault → FieldMisfits j i (asks met d spec more) (f ∷ fields) fault
-asked_misfits j i met d spec more f fields fault true is after e = misfit_behind j i met d spec more f fields fault (asked_is d spec f is) (after e)
+asked_misfits j i met d spec more f fields fault true is after e =
+    misfit_behind j i met d spec more f fields fault (asked_is d spec f is) (after e)
 asked_misfits j i met d spec more f fields fault false is after e =
-    misfit_here j i (asks met d spec more) (f ∷ fields) fault
-    (sym (err_is {A = ℕ} (misfits.DoesNotFit j i) fault e), λ asked. let yes : stands_for d spec f ≡ true = asked_passes d spec f asked in cc)
+    misfit_here j i (asks met d spec more) (f ∷ fields) fault (
+      sym (err_is {A = ℕ} (misfits.DoesNotFit j i) fault e),
+      λ asked. let yes : stands_for d spec f
+          ≡ true = asked_passes d spec f asked in cc,
+    )
 
 -- the fault of fields is that of the first misfit
 pub refused_misfit : (j i : ℕ) (c : Course) (fields : List Field) (fault : WriteFault)
     → items_of j i c fields ≡ Err fault → FieldMisfits j i c fields fault
 unfolding items_of
 refused_misfit j i (ends n) [] fault e = absurd (not_err _ fault e)
-refused_misfit j i (ends n) (f ∷ fields) fault e = misfit_here j i (ends n) (f ∷ fields) fault (sym (err_is {A = ℕ} (misfits.DoesNotFit j i) fault e))
+refused_misfit j i (ends n) (f ∷ fields) fault e =
+    misfit_here j i (ends n) (f ∷ fields) fault
+    (sym (err_is {A = ℕ} (misfits.DoesNotFit j i) fault e))
 refused_misfit j i (stops met w) fields fault e =
-    misfit_here j i (stops met w) fields fault (stop_misfits j i met w fields fault (err_is {A = ℕ} (misfit j i w) fault e))
-refused_misfit j i (asks met d spec more) [] fault e = misfit_here j i (asks met d spec more) [] fault (sym (err_is {A = ℕ} (misfits.DoesNotFit j i) fault e))
+    misfit_here j i (stops met w) fields fault
+    (stop_misfits j i met w fields fault (err_is {A = ℕ} (misfit j i w) fault e))
+refused_misfit j i (asks met d spec more) [] fault e =
+    misfit_here j i (asks met d spec more) [] fault
+    (sym (err_is {A = ℕ} (misfits.DoesNotFit j i) fault e))
 refused_misfit j i (asks met d spec more) (f ∷ fields) fault e =
-    asked_misfits j i met d spec more f fields fault (stands_for d spec f) refl (refused_misfit j (i + 1) (more (number_of f.raw)) fields fault) e
+    asked_misfits j i met d spec more f fields fault (stands_for d spec f) refl
+    (refused_misfit j (i + 1) (more (number_of f.raw)) fields fault) e
 
 -- a field that is not asked for does not pass
 not_asked : (d : ℕ) (spec : Spec) (f : Field) (is : Bool) → stands_for d spec f ≡ is
@@ -376,9 +479,11 @@ go_on_again : (j i : ℕ) (c : Course) (fields : List Field) (fault : WriteFault
 unfolding items_of
 go_on_again j i (ends n) [] fault h = absurd h
 go_on_again j i (ends n) (f ∷ fields) fault h = ap (λ x. Err x) (sym h)
-go_on_again j i (stops met w) fields fault h = ap (λ x. Err x) (stops_again j i met w fields fault h)
+go_on_again j i (stops met w) fields fault h =
+    ap (λ x. Err x) (stops_again j i met w fields fault h)
 go_on_again j i (asks met d spec more) [] fault h = ap (λ x. Err x) (sym h)
-go_on_again j i (asks met d spec more) (f ∷ fields) fault h = rw (not_asked d spec f (stands_for d spec f) refl h.1) (ap (λ x. Err x) (sym h.0))
+go_on_again j i (asks met d spec more) (f ∷ fields) fault h =
+    rw (not_asked d spec f (stands_for d spec f) refl h.1) (ap (λ x. Err x) (sym h.0))
 
 -- so they have behind fields that are asked for
 misfit_again : (j i : ℕ) (before others : List Field) (c next : Course) (fault : WriteFault)
@@ -387,19 +492,24 @@ misfit_again : (j i : ℕ) (before others : List Field) (c next : Course) (fault
 unfolding items_of
 misfit_again j i [] others c next fault passed h =
     let same : i + 0 ≡ i = omega arith in
-    go_on_again j i c others fault (subst (λ k. CannotGoOn j k c others fault) same (subst (λ (d : Course). CannotGoOn j (i + 0) d others fault) (sym passed) h))
+    go_on_again j i c others fault
+    (subst (λ k. CannotGoOn j k c others fault) same
+    (subst (λ (d : Course). CannotGoOn j (i + 0) d others fault) (sym passed) h))
 misfit_again j i (f ∷ before) others (ends n) next fault passed h = absurd passed
 misfit_again j i (f ∷ before) others (stops met w) next fault passed h = absurd passed
 misfit_again j i (f ∷ before) others (asks met d spec more) next fault passed h =
     let same : i + suc (length before) ≡ i + 1 + length before = omega arith in
-    let behind = misfit_again j (i + 1) before others (more (number_of f.raw)) next fault passed.1 (subst (λ k. CannotGoOn j k next others fault) same h) in
+    let behind =
+    misfit_again j (i + 1) before others (more (number_of f.raw)) next fault passed.1
+    (subst (λ k. CannotGoOn j k next others fault) same h) in
     rw (asked_passes d spec f passed.0) behind
 
 -- the first misfit has its fault answered
 pub misfit_refused : (j i : ℕ) (c : Course) (fields : List Field) (fault : WriteFault)
     → FieldMisfits j i c fields fault → items_of j i c fields ≡ Err fault
 misfit_refused j i c fields fault m =
-    ap (items_of j i c) m.joined ∙ misfit_again j i m.before m.others c m.next fault m.passed m.refused
+    ap (items_of j i c) m.joined
+    ∙ misfit_again j i m.before m.others c m.next fault m.passed m.refused
 
 -- ---- subsets that are written
 
@@ -416,7 +526,9 @@ first_misfits tree j used s subsets fault le e =
       items = used;
       joined = refl;
       fit = (0, refl, omega arith, le);
-      refused = subst (λ k. FieldMisfits k 1 (course tree used) s.fields fault) same (refused_misfit j 1 (course tree used) s.fields fault e);
+      refused =
+          subst (λ k. FieldMisfits k 1 (course tree used) s.fields fault) same
+          (refused_misfit j 1 (course tree used) s.fields fault e);
     }
 
 -- one that does not fit behind a subset that fits is the first of all
@@ -432,8 +544,14 @@ later_misfits tree j used n s subsets fault own m =
       others = m.others;
       items = m.items;
       joined = ap (λ ss. s ∷ ss) m.joined;
-      fit = (own.0 + others.0, (own.0, others.0, own.1, others.1, refl), omega (arith, own.2, others.2), others.3);
-      refused = subst (λ k. FieldMisfits k 1 (course tree m.items) m.here.fields fault) same m.refused;
+      fit = (
+        own.0 + others.0,
+        (own.0, others.0, own.1, others.1, refl),
+        omega (arith, own.2, others.2),
+        others.3,
+      );
+      refused =
+          subst (λ k. FieldMisfits k 1 (course tree m.items) m.here.fields fault) same m.refused;
     }
 
 -- the fault of subsets is that of the first that does not fit
@@ -448,7 +566,8 @@ all_refused_misfit law tree j used (s ∷ subsets) fault le e =
       | inl here ↦ first_misfits tree j used s subsets fault le here
       | inr behind ↦
           let own = counted_fit law tree j used behind.0 s.fields le behind.1 in
-          later_misfits tree j used behind.0 s subsets fault own (all_refused_misfit law tree (j + 1) behind.0 subsets fault own.3 behind.2)
+          later_misfits tree j used behind.0 s subsets fault own
+          (all_refused_misfit law tree (j + 1) behind.0 subsets fault own.3 behind.2)
     ]
 
 -- behind subsets that fit, the fault of one is answered
@@ -463,8 +582,10 @@ all_misfit_again law tree [] j used items here others fault fit m =
     let end : items ≡ used + fit.0 = fit.2 in
     let same : items ≡ used = omega arith in
     let first : j + 0 ≡ j = omega arith in
-    let m1 : FieldMisfits j 1 (course tree items) here.fields fault = subst (λ k. FieldMisfits k 1 (course tree items) here.fields fault) first m in
-    let m2 : FieldMisfits j 1 (course tree used) here.fields fault = subst (λ k. FieldMisfits j 1 (course tree k) here.fields fault) same m1 in
+    let m1 : FieldMisfits j 1 (course tree items) here.fields fault =
+    subst (λ k. FieldMisfits k 1 (course tree items) here.fields fault) first m in
+    let m2 : FieldMisfits j 1 (course tree used) here.fields fault =
+    subst (λ k. FieldMisfits j 1 (course tree k) here.fields fault) same m1 in
     rw (misfit_refused j 1 (course tree used) here.fields fault m2) refl
 all_misfit_again law tree (s ∷ before) j used items here others fault fit m =
     let own = fit.1.0 in
@@ -472,10 +593,13 @@ all_misfit_again law tree (s ∷ before) j used items here others fault fit m =
     let sum : fit.0 ≡ own + rest = fit.1.4 in
     let end : items ≡ used + fit.0 = fit.2 in
     let few : items ≤ most_items = fit.3 in
-    let first : items_of j 1 (course tree used) s.fields ≡ Ok (used + own) = fitting_counted law tree j used (used + own) s.fields (own, fit.1.2, refl, omega arith) in
+    let first : items_of j 1 (course tree used) s.fields ≡ Ok (used + own) =
+    fitting_counted law tree j used (used + own) s.fields (own, fit.1.2, refl, omega arith) in
     let place : j + suc (length before) ≡ j + 1 + length before = omega arith in
     rw first
-    (all_misfit_again law tree before (j + 1) (used + own) items here others fault (rest, fit.1.3, omega arith, few) (subst (λ k. FieldMisfits k 1 (course tree items) here.fields fault) place m))
+    (all_misfit_again law tree before (j + 1) (used + own) items here others fault
+    (rest, fit.1.3, omega arith, few)
+    (subst (λ k. FieldMisfits k 1 (course tree items) here.fields fault) place m))
 
 -- an error of what is mapped is an error before
 map_err : (o : Result ℕ WriteFault) (bits : List Bool) (fault : WriteFault)
@@ -488,12 +612,14 @@ pub written_refused_misfit : AreUnrolled
     → (tree : Tree) (subsets : List Subset) (fault : WriteFault)
     → written_bits tree false subsets ≡ Err fault → SubsetMisfits tree 1 0 subsets fault
 written_refused_misfit law tree subsets fault e =
-    all_refused_misfit law tree 1 0 subsets fault (omega arith) (map_err (items_of_all (course tree) 1 0 subsets) (plain_subsets subsets) fault e)
+    all_refused_misfit law tree 1 0 subsets fault (omega arith)
+    (map_err (items_of_all (course tree) 1 0 subsets) (plain_subsets subsets) fault e)
 
 -- the first subset that does not fit has its fault answered
 pub written_misfit_refused : AreAllowed → (tree : Tree) (subsets : List Subset) (fault : WriteFault)
     → SubsetMisfits tree 1 0 subsets fault → written_bits tree false subsets ≡ Err fault
 written_misfit_refused law tree subsets fault m =
     let e : items_of_all (course tree) 1 0 subsets ≡ Err fault =
-    ap (items_of_all (course tree) 1 0) m.joined ∙ all_misfit_again law tree m.before 1 0 m.items m.here m.others fault m.fit m.refused in
+    ap (items_of_all (course tree) 1 0) m.joined
+    ∙ all_misfit_again law tree m.before 1 0 m.items m.here m.others fault m.fit m.refused in
     ap (result_map (λ items. plain_subsets subsets)) e

@@ -1,5 +1,7 @@
 -- The places of subsets one after the other: for `write_compressed`.
-use Rattle.std.proofs.Common.{◌≡◌, ℕ, zero, suc, ◌+◌, ◌<◌, ◌≤◌, Bool, true, false, List, [], ◌∷◌, length, map, take, drop, get_or, Some, None, Result, Ok, Err, refl, sym, ap, ◌∙◌, add-one, arith, drop-cons}
+use Rattle.std.proofs.Common.{◌≡◌, ℕ, zero, suc, ◌+◌, ◌<◌, ◌≤◌, Bool, true, false, List, [], ◌∷◌}
+use Rattle.std.proofs.Common.{length, map, take, drop, get_or, Some, None, Result, Ok, Err, refl}
+use Rattle.std.proofs.Common.{sym, ap, ◌∙◌, add-one, arith, drop-cons}
 use Rattle.std.specs.Prelude.{◌&&◌, slice_get}
 use Rattle.std.specs.List.{list_all}
 use Rattle.std.proofs.lemmas.List.{drop-drop, drop_all, take_all}
@@ -11,7 +13,8 @@ use Rattle.bufr_data.specs.declared.field.Subset.{Subset}
 use Rattle.bufr_data.specs.declared.fault.WriteFault.{WriteFault}
 use Rattle.bufr_data.specs.declared.fault.WriteFault.TheVariants as misfits
 use Rattle.bufr_data.specs.Columns.{Column}
-use Rattle.bufr_data.specs.BestColumns.{can_be_column, begins_like, first_raw, is_empty, column_or, columns_of}
+use Rattle.bufr_data.specs.BestColumns.{can_be_column, begins_like, first_raw, is_empty, column_or}
+use Rattle.bufr_data.specs.BestColumns.{columns_of}
 use Rattle.bufr_data.specs.Places.{rows_from, values_from, columns_here}
 use Rattle.bufr_data.proofs.PackedFacts.{taken, none_taken}
 
@@ -39,7 +42,8 @@ pub all_false : {X : Type 0} → (p : X → Bool) (xs : List X) (k : ℕ) (x : X
     → x ≡ get_or xs k x → p x ≡ false → list_all p xs ≡ false
 all_false p [] k x less is e = absurd (omega (arith, less))
 all_false p (y ∷ xs) zero x less is e = rw (sym (ap p is) ∙ e) refl
-all_false p (y ∷ xs) (suc k) x less is e = rw (all_false p xs k x (omega (arith, less)) is e) (none_both (p y))
+all_false p (y ∷ xs) (suc k) x less is e =
+    rw (all_false p xs k x (omega (arith, less)) is e) (none_both (p y))
   where
     none_both : (b : Bool) → (b && false) ≡ false
     none_both true = refl
@@ -68,7 +72,8 @@ pub values_all : (p : Raw → Bool) (place : ℕ) (subsets : List Subset)
     → list_all p (map first_raw (rows_from place subsets))
     ≡ list_all (λ (s : Subset). p (first_raw (drop place s.fields))) subsets
 values_all p place subsets =
-    list_all-map p first_raw (rows_from place subsets) ∙ rows_all (λ row. p (first_raw row)) place subsets
+    list_all-map p first_raw (rows_from place subsets)
+    ∙ rows_all (λ row. p (first_raw row)) place subsets
 
 -- ---- one place after the other
 
@@ -109,7 +114,8 @@ pub next_fails : (place : ℕ) (f : Field) (fs : List Field) (others : List Subs
     → columns_of (place + 1) (f ∷ fs) (rows_from place others) ≡ Err fault
 unfolding columns_of
 next_fails place f fs others fault e fails =
-    column_of_next (place + 1) _ _ _ fault e (ap (columns_of (place + 1 + 1) fs) (rows_next place others) ∙ fails)
+    column_of_next (place + 1) _ _ _ fault e
+    (ap (columns_of (place + 1 + 1) fs) (rows_next place others) ∙ fails)
 
 -- a place that is a column, and then the others
 column_passes : (i : ℕ) (b : Bool) (c : Column) (others : Result (List Column) WriteFault)
@@ -124,8 +130,11 @@ pub next_passes : (place : ℕ) (f : Field) (fs : List Field) (others : List Sub
     ≡ true → columns_of (place + 1 + 1) fs (rows_from (place + 1) others) ≡ Ok cs
     → (all : List Column) × (columns_of (place + 1) (f ∷ fs) (rows_from place others) ≡ Ok all)
 unfolding columns_of
-next_passes place f fs others cs e passes =
-    (_, column_passes (place + 1) _ _ _ cs e (ap (columns_of (place + 1 + 1) fs) (rows_next place others) ∙ passes))
+next_passes place f fs others cs e passes = (
+  _,
+  column_passes (place + 1) _ _ _ cs e
+      (ap (columns_of (place + 1 + 1) fs) (rows_next place others) ∙ passes),
+)
 
 -- where all subsets end, the columns end
 pub end_passes : (i : ℕ) (rows : List (List Field)) → list_all is_empty rows ≡ true
@@ -146,12 +155,18 @@ unfolding columns_here
 are_here i [] rows cs e = (none_taken i rows cs e).1
 are_here i (f ∷ fs) rows cs e =
     let h = taken i f fs rows cs e in
-    h.is ∙ ap (λ behind. record { fxy = f.fxy; spec = f.spec; values = values_from f rows } ∷ behind) (are_here (i + 1) fs (map (drop 1) rows) h.behind h.rest)
+    h.is
+    ∙ ap (λ behind. record { fxy = f.fxy; spec = f.spec; values = values_from f rows } ∷ behind)
+    (are_here (i + 1) fs (map (drop 1) rows) h.behind h.rest)
 
 -- what the places before one say of all places
 pub record PlacesSoFar (fields : List Field) (others : List Subset) (place : ℕ) : Type 0 where
-  pub fails : (fault : WriteFault) → columns_of (place + 1) (drop place fields) (rows_from place others) ≡ Err fault → columns_of 1 fields (rows_from 0 others) ≡ Err fault
-  pub passes : (cs : List Column) → columns_of (place + 1) (drop place fields) (rows_from place others) ≡ Ok cs → (all : List Column) × (columns_of 1 fields (rows_from 0 others) ≡ Ok all)
+  pub fails : (fault : WriteFault)
+      → columns_of (place + 1) (drop place fields) (rows_from place others) ≡ Err fault
+      → columns_of 1 fields (rows_from 0 others) ≡ Err fault
+  pub passes : (cs : List Column)
+      → columns_of (place + 1) (drop place fields) (rows_from place others) ≡ Ok cs
+      → (all : List Column) × (columns_of 1 fields (rows_from 0 others) ≡ Ok all)
 
 -- before the first place nothing is known
 pub no_place_yet : (fields : List Field) (others : List Subset) → PlacesSoFar fields others 0
@@ -164,12 +179,18 @@ pub place_more : (fields : List Field) (others : List Subset) (place : ℕ) (f :
     && can_be_column f.spec (values_from f (rows_from place others)))
     ≡ true → PlacesSoFar fields others (place + 1)
 place_more fields others place f so_far less is e =
-    let next : drop place fields ≡ f ∷ drop (place + 1) fields = rw (add-one place) (drop-cons fields place f less ∙ ap (λ y. y ∷ drop (suc place) fields) (sym is)) in
+    let next : drop place fields ≡ f ∷ drop (place + 1) fields =
+    rw (add-one place)
+    (drop-cons fields place f less ∙ ap (λ y. y ∷ drop (suc place) fields) (sym is)) in
     record {
-      fails = λ fault fails. so_far.fails fault (ap (λ fs. columns_of (place + 1) fs (rows_from place others)) next ∙ next_fails place f (drop (place + 1) fields) others fault e fails);
+      fails =
+          λ fault fails. so_far.fails fault
+          (ap (λ fs. columns_of (place + 1) fs (rows_from place others)) next
+          ∙ next_fails place f (drop (place + 1) fields) others fault e fails);
       passes = λ cs passes.
           let all = next_passes place f (drop (place + 1) fields) others cs e passes in
-          so_far.passes all.0 (ap (λ fs. columns_of (place + 1) fs (rows_from place others)) next ∙ all.1);
+          so_far.passes all.0
+          (ap (λ fs. columns_of (place + 1) fs (rows_from place others)) next ∙ all.1);
     }
 
 -- one that is not is the fault
@@ -179,8 +200,12 @@ pub place_refused : (fields : List Field) (others : List Subset) (place : ℕ) (
     && can_be_column f.spec (values_from f (rows_from place others)))
     ≡ false → columns_of 1 fields (rows_from 0 others) ≡ Err (misfits.NotCompressible (place + 1))
 place_refused fields others place f so_far less is e =
-    let next : drop place fields ≡ f ∷ drop (place + 1) fields = rw (add-one place) (drop-cons fields place f less ∙ ap (λ y. y ∷ drop (suc place) fields) (sym is)) in
-    so_far.fails _ (ap (λ fs. columns_of (place + 1) fs (rows_from place others)) next ∙ place_fails place f (drop (place + 1) fields) others e)
+    let next : drop place fields ≡ f ∷ drop (place + 1) fields =
+    rw (add-one place)
+    (drop-cons fields place f less ∙ ap (λ y. y ∷ drop (suc place) fields) (sym is)) in
+    so_far.fails _
+    (ap (λ fs. columns_of (place + 1) fs (rows_from place others)) next
+    ∙ place_fails place f (drop (place + 1) fields) others e)
 
 -- where all subsets end, each place is a column
 pub places_pass : (fields : List Field) (others : List Subset) (place n : ℕ)
@@ -189,8 +214,12 @@ pub places_pass : (fields : List Field) (others : List Subset) (place n : ℕ)
     → columns_of 1 fields (rows_from 0 others) ≡ Ok (columns_here fields (rows_from 0 others))
 places_pass fields others place n so_far done below size e =
     let same : n ≡ place = omega (arith, done, below, size) in
-    let empty : list_all is_empty (rows_from place others) ≡ true = ap (λ m. list_all is_empty (rows_from m others)) (sym same) ∙ e in
-    let all = so_far.passes [] (ap (λ fs. columns_of (place + 1) fs (rows_from place others)) (drop_all place fields done) ∙ end_passes (place + 1) (rows_from place others) empty) in
+    let empty : list_all is_empty (rows_from place others) ≡ true =
+    ap (λ m. list_all is_empty (rows_from m others)) (sym same) ∙ e in
+    let all =
+    so_far.passes []
+    (ap (λ fs. columns_of (place + 1) fs (rows_from place others)) (drop_all place fields done)
+    ∙ end_passes (place + 1) (rows_from place others) empty) in
     all.1 ∙ ap (λ cs. Ok cs) (are_here 1 fields (rows_from 0 others) all.0 all.1)
 
 -- where one has more fields, they are apart there
@@ -200,6 +229,9 @@ pub places_end_apart : (fields : List Field) (others : List Subset) (place n : �
     → columns_of 1 fields (rows_from 0 others) ≡ Err (misfits.NotCompressible (n + 1))
 places_end_apart fields others place n so_far done below size e =
     let same : n ≡ place = omega (arith, done, below, size) in
-    let some : list_all is_empty (rows_from place others) ≡ false = ap (λ m. list_all is_empty (rows_from m others)) (sym same) ∙ e in
-    so_far.fails _ (ap (λ fs. columns_of (place + 1) fs (rows_from place others)) (drop_all place fields done) ∙ end_fails (place + 1) (rows_from place others) some)
+    let some : list_all is_empty (rows_from place others) ≡ false =
+    ap (λ m. list_all is_empty (rows_from m others)) (sym same) ∙ e in
+    so_far.fails _
+    (ap (λ fs. columns_of (place + 1) fs (rows_from place others)) (drop_all place fields done)
+    ∙ end_fails (place + 1) (rows_from place others) some)
     ∙ ap (λ m. Err (misfits.NotCompressible (m + 1))) (sym same)

@@ -1,5 +1,6 @@
 -- The subsets that an index of compressed data shows, by their numbers: for `SubsetIndex::subset`.
-use Rattle.std.proofs.Common.{◌≡◌, ℕ, zero, suc, ◌+◌, ◌<◌, List, length, Some, Result, Ok, Err, sym, ap, ◌∙◌, arith}
+use Rattle.std.proofs.Common.{◌≡◌, ℕ, zero, suc, ◌+◌, ◌<◌, List, length, Some, Result, Ok, Err, sym}
+use Rattle.std.proofs.Common.{ap, ◌∙◌, arith}
 use Rattle.std.specs.Prelude.{slice_get, IfOk}
 use Rattle.bufr_data.specs.declared.field.Subset.{Subset}
 use Rattle.bufr_data.specs.declared.subset_index.Standing.{Standing}
@@ -13,7 +14,8 @@ use Rattle.bufr_data.proofs.PackedFacts.{length-from}
 one_from : (k n i : ℕ) (columns : List Column) → i < n
     → slice_get (subsets_from k n columns) i ≡ Some (subset_of columns (k + i))
 one_from k zero i columns below = absurd (omega (arith, below))
-one_from k (suc n) zero columns below = let same : k ≡ k + 0 = omega arith in ap (λ j. Some (subset_of columns j)) same
+one_from k (suc n) zero columns below =
+    let same : k ≡ k + 0 = omega arith in ap (λ j. Some (subset_of columns j)) same
 one_from k (suc n) (suc i) columns below =
     let same : k + 1 + i ≡ k + suc i = omega arith in
     one_from (k + 1) n i columns (omega (arith, below)) ∙ ap (λ j. Some (subset_of columns j)) same
@@ -21,7 +23,8 @@ one_from k (suc n) (suc i) columns below =
 -- there are as many as the columns have values
 pub many_shown : (standing : Standing) (c : Indexed) (subsets : List Subset)
     → shown standing ≡ subsets → standing ≡ Compressed c → length subsets ≡ c.subsets
-many_shown standing c subsets view is = ap length (sym view ∙ ap shown is) ∙ length-from 0 c.subsets c.columns
+many_shown standing c subsets view is =
+    ap length (sym view ∙ ap shown is) ∙ length-from 0 c.subsets c.columns
 
 -- the one of a number has the values at that index
 pub one_shown : {E : Type 0} (standing : Standing) (c : Indexed) (subsets : List Subset) (i : ℕ)
@@ -29,5 +32,6 @@ pub one_shown : {E : Type 0} (standing : Standing) (c : Indexed) (subsets : List
     → IfOk answer (λ s. s ≡ subset_of c.columns i) → IfOk answer (λ s. slice_get subsets i ≡ Some s)
 one_shown standing c subsets i (Ok s) view is below value =
     let first : 0 + i ≡ i = omega arith in
-    ap (λ xs. slice_get xs i) (sym view ∙ ap shown is) ∙ one_from 0 c.subsets i c.columns below ∙ ap (λ j. Some (subset_of c.columns j)) first ∙ ap (λ x. Some x) (sym value)
+    ap (λ xs. slice_get xs i) (sym view ∙ ap shown is) ∙ one_from 0 c.subsets i c.columns below
+    ∙ ap (λ j. Some (subset_of c.columns j)) first ∙ ap (λ x. Some x) (sym value)
 one_shown standing c subsets i (Err e) view is below value = value

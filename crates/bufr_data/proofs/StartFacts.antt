@@ -1,6 +1,7 @@
 -- The index keeps a start for each plain subset that is passed, one after the other
 -- (`PlainSubsets::index`).
-use Rattle.std.proofs.Common.{◌≡◌, ℕ, ◌+◌, ◌-◌, ◌*◌, ◌<◌, ◌≤◌, Bool, List, [], ◌∷◌, ◌++◌, length, map, drop, Result, Ok, Err, refl, sym, ap, subst, ◌∙◌}
+use Rattle.std.proofs.Common.{◌≡◌, ℕ, ◌+◌, ◌-◌, ◌*◌, ◌<◌, ◌≤◌, Bool, List, [], ◌∷◌, ◌++◌, length}
+use Rattle.std.proofs.Common.{map, drop, Result, Ok, Err, refl, sym, ap, subst, ◌∙◌}
 use Rattle.std.specs.Prelude.{IsOk}
 use Rattle.std.proofs.lemmas.List.{map-append}
 use Rattle.bufr_bits.specs.Bits.{bits}
@@ -11,7 +12,8 @@ use Rattle.bufr_data.specs.declared.fault.ReadFault.{ReadFault}
 use Rattle.bufr_data.specs.declared.plain_index.SubsetStart.{SubsetStart}
 use Rattle.bufr_data.specs.Plain.{SubsetRead, SubsetsRead, fields_at, subsets_at}
 use Rattle.bufr_data.specs.Numbered.{numbered, after}
-use Rattle.bufr_data.specs.Starts.{PassesSubset, fields_of, subset_at, subset_from, BeginsAtStart, AllStand}
+use Rattle.bufr_data.specs.Starts.{PassesSubset, fields_of, subset_at, subset_from, BeginsAtStart}
+use Rattle.bufr_data.specs.Starts.{AllStand}
 use Rattle.bufr_data.proofs.SubsetFacts.{fields_at_numbered, one_more}
 
 -- an answer that is known is an answer
@@ -31,16 +33,20 @@ read_there : (octets : List ℕ) (tree : Tree) (s : SubsetStart) (front rest : L
     → front ≡ drop s.bit (bits octets)
     → (p : PassesSubset (fields_at 1 1 (course tree s.used) front) items rest)
     → subset_at octets tree s ≡ Ok (record { fields = p.0; items = items; rest = rest })
-read_there octets tree s front rest items is p = ap (fields_at 1 1 (course tree s.used)) (sym is) ∙ p.1
+read_there octets tree s front rest items is p =
+    ap (fields_at 1 1 (course tree s.used)) (sym is) ∙ p.1
 
 -- one start more stands
-pub one_stands : (octets : List ℕ) (tree : Tree) (s : SubsetStart) (front rest : List Bool) (items : ℕ)
+pub one_stands : (octets : List ℕ) (tree : Tree) (s : SubsetStart) (front rest : List Bool)
+    (items : ℕ)
     (starts grown : List SubsetStart) → grown ≡ starts ++ s ∷ [] → front ≡ drop s.bit (bits octets)
     → s.bit ≤ 8 * length octets → AllStand octets tree starts
     → PassesSubset (fields_at 1 1 (course tree s.used) front) items rest
     → AllStand octets tree grown
 one_stands octets tree s front rest items starts grown is there inside all p =
-    subst (AllStand octets tree) (sym is) (all_push octets tree starts s all (inside, ok_is _ _ (read_there octets tree s front rest items there p)))
+    subst (AllStand octets tree) (sym is)
+    (all_push octets tree starts s all
+    (inside, ok_is _ _ (read_there octets tree s front rest items there p)))
 
 -- one start more is that of one subset more
 pub one_start : (octets : List ℕ) (tree : Tree) (s : SubsetStart) (n index : ℕ)
@@ -54,11 +60,19 @@ pub one_start : (octets : List ℕ) (tree : Tree) (s : SubsetStart) (n index : �
     (subsets_at (course tree) (index + 1 + 1) (n - (index + 1)) items rest)
 one_start octets tree s n index front rest items starts grown all is there below so_far p =
     let first : SubsetRead = record { fields = p.0; items = items; rest = rest } in
-    let found : fields_at (index + 1) 1 (course tree s.used) front ≡ Ok first = fields_at_numbered (index + 1) 1 (course tree s.used) front ∙ ap (numbered (index + 1)) p.1 in
+    let found : fields_at (index + 1) 1 (course tree s.used) front ≡ Ok first =
+    fields_at_numbered (index + 1) 1 (course tree s.used) front
+    ∙ ap (numbered (index + 1)) p.1 in
     let here : ◌≡◌ {A = Subset} (record { fields = p.0 }) (subset_from octets tree s) =
-    λ t. record { fields = fields_of (sym (read_there octets tree s front rest items there p) t) } in
-    let same : map (subset_from octets tree) starts ++ record { fields = p.0 } ∷ [] ≡ map (subset_from octets tree) grown =
+    λ t.
+    record { fields = fields_of (sym (read_there octets tree s front rest items there p) t) } in
+    let same : map (subset_from octets tree) starts ++ record { fields = p.0 } ∷ []
+    ≡ map (subset_from octets tree) grown =
     ap (λ (x : Subset). map (subset_from octets tree) starts ++ x ∷ []) here
-    ∙ sym (map-append (subset_from octets tree) starts (s ∷ [])) ∙ ap (map (subset_from octets tree)) (sym is) in
-    one_more (course tree) n index s.used front (map (subset_from octets tree) starts) all first below so_far found
-    ∙ ap (λ subsets. after subsets (subsets_at (course tree) (index + 1 + 1) (n - (index + 1)) items rest)) same
+    ∙ sym (map-append (subset_from octets tree) starts (s ∷ []))
+    ∙ ap (map (subset_from octets tree)) (sym is) in
+    one_more (course tree) n index s.used front
+    (map (subset_from octets tree) starts) all first below so_far found
+    ∙ ap
+    (λ subsets. after subsets
+    (subsets_at (course tree) (index + 1 + 1) (n - (index + 1)) items rest)) same

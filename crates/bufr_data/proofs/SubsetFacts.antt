@@ -1,5 +1,6 @@
 -- What is read of one subset after another: for `read_subsets`.
-use Rattle.std.proofs.Common.{◌≡◌, ℕ, suc, ◌+◌, ◌-◌, ◌<◌, ◌≤◌, Bool, List, [], ◌∷◌, ◌++◌, Option, Some, None, Result, Ok, Err, refl, sym, ap, ◌∙◌, arith, append_assoc}
+use Rattle.std.proofs.Common.{◌≡◌, ℕ, suc, ◌+◌, ◌-◌, ◌<◌, ◌≤◌, Bool, List, [], ◌∷◌, ◌++◌, Option}
+use Rattle.std.proofs.Common.{Some, None, Result, Ok, Err, refl, sym, ap, ◌∙◌, arith, append_assoc}
 use Rattle.std.proofs.lemmas.List.{append-nil}
 use Rattle.bufr_tables.specs.Answers.{◌>>=◌, Fails, result_map}
 use Rattle.bufr_tables.specs.declared.failure.Failure.{Failure}
@@ -11,7 +12,8 @@ use Rattle.bufr_expand.specs.Courses.{Course, ends, stops, asks}
 use Rattle.bufr_data.specs.declared.field.Raw.{Raw}
 use Rattle.bufr_data.specs.declared.field.Subset.{Subset}
 use Rattle.bufr_data.specs.declared.fault.ReadFault.{ReadFault}
-use Rattle.bufr_data.specs.Plain.{SubsetRead, SubsetsRead, raw_at, number_of, field_then, stopped, fields_at, subsets_at}
+use Rattle.bufr_data.specs.Plain.{SubsetRead, SubsetsRead, raw_at, number_of, field_then, stopped}
+use Rattle.bufr_data.specs.Plain.{fields_at, subsets_at}
 use Rattle.bufr_data.specs.Numbered.{failure_of_subset, numbered, after}
 
 -- ---- the number of a subset is told by its faults alone
@@ -35,7 +37,11 @@ field_numbered : (j i d : ℕ) (spec : Spec) (one other : ℕ → List Bool → 
     → field_then j i d spec other x ≡ numbered j (field_then 1 i d spec one x)
 field_numbered j i d spec one other None same = refl
 field_numbered j i d spec one other (Some x) same =
-    rw (same (number_of x.0) x.1) (ok_numbered j (λ (found : SubsetRead). record found { fields = record { fxy = d; spec = spec; raw = x.0 } ∷ found.fields }) (one (number_of x.0) x.1))
+    rw (same (number_of x.0) x.1)
+    (ok_numbered j
+    (λ (found : SubsetRead).
+    record found { fields = record { fxy = d; spec = spec; raw = x.0 } ∷ found.fields })
+    (one (number_of x.0) x.1))
 
 -- a subset is read in the same way whatever its number, which its faults tell
 pub fields_at_numbered : (j i : ℕ) (c : Course) (text : List Bool)
@@ -44,7 +50,9 @@ unfolding fields_at
 fields_at_numbered j i (ends n) text = refl
 fields_at_numbered j i (stops met fault) text = stopped_numbered j fault
 fields_at_numbered j i (asks met d spec more) text =
-    field_numbered j i d spec (λ n rest. fields_at 1 (i + 1) (more n) rest) (λ n rest. fields_at j (i + 1) (more n) rest) (raw_at spec text) (λ n rest. fields_at_numbered j (i + 1) (more n) rest)
+    field_numbered j i d spec (λ n rest. fields_at 1 (i + 1) (more n) rest)
+    (λ n rest. fields_at j (i + 1) (more n) rest) (raw_at spec text)
+    (λ n rest. fields_at_numbered j (i + 1) (more n) rest)
 
 -- a failure of a subset of a number
 pub fails_numbered : {A : Type 0} (j : ℕ) (failure : Failure ReadFault) (x : Result A ReadFault)
@@ -62,7 +70,9 @@ one_less n index h = omega arith
 join_after : (before : List Subset) (s : Subset) (x : Result SubsetsRead ReadFault)
     → after before (x >>= λ others. Ok (record others { subsets = s ∷ others.subsets }))
     ≡ after (before ++ s ∷ []) x
-join_after before s (Ok others) = ap (λ (xs : List Subset). Ok (record others { subsets = xs })) (sym (append_assoc before (s ∷ []) others.subsets))
+join_after before s (Ok others) =
+    ap (λ (xs : List Subset). Ok (record others { subsets = xs }))
+    (sym (append_assoc before (s ∷ []) others.subsets))
 join_after before s (Err e) = refl
 
 -- one subset more was read
@@ -75,7 +85,10 @@ pub one_more : (course : ℕ → Course) (n index used : ℕ) (text : List Bool)
     (subsets_at course (index + 1 + 1) (n - (index + 1)) first.items first.rest)
 unfolding subsets_at
 one_more course n index used text before all first below is found =
-    is ∙ rw (one_less n index below, found) (join_after before (record { fields = first.fields }) (subsets_at course (index + 1 + 1) (n - (index + 1)) first.items first.rest))
+    is
+    ∙ rw (one_less n index below, found)
+    (join_after before (record { fields = first.fields })
+    (subsets_at course (index + 1 + 1) (n - (index + 1)) first.items first.rest))
 
 -- the next subset cannot be read
 pub one_fails : (course : ℕ → Course) (n index used : ℕ) (text : List Bool) (before : List Subset)
@@ -83,7 +96,8 @@ pub one_fails : (course : ℕ → Course) (n index used : ℕ) (text : List Bool
     → all ≡ after before (subsets_at course (index + 1) (n - index) used text)
     → Fails failure (fields_at (index + 1) 1 (course used) text) → Fails failure all
 unfolding subsets_at
-one_fails course n index used text before all (Fault fault) below is fails = is ∙ rw (one_less n index below, fails) refl
+one_fails course n index used text before all (Fault fault) below is fails =
+    is ∙ rw (one_less n index below, fails) refl
 one_fails course n index used text before all OutOfMemory below is fails = tt
 
 -- all were read

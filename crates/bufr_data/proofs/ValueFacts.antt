@@ -1,6 +1,8 @@
 -- One value of a column behind its minimum and width: for the subset of an index
 -- (`Columns::subset`).
-use Rattle.std.proofs.Common.{◌≡◌, ℕ, zero, suc, ◌+◌, ◌-◌, ◌*◌, ◌/◌, ◌<◌, ◌≤◌, Bool, true, false, cond, List, ◌∷◌, ◌++◌, length, take, drop, replicate, get_or, Option, Some, None, refl, sym, ap, ◌∙◌, arith}
+use Rattle.std.proofs.Common.{◌≡◌, ℕ, zero, suc, ◌+◌, ◌-◌, ◌*◌, ◌/◌, ◌<◌, ◌≤◌, Bool, true, false}
+use Rattle.std.proofs.Common.{cond, List, ◌∷◌, ◌++◌, length, take, drop, replicate, get_or, Option}
+use Rattle.std.proofs.Common.{Some, None, refl, sym, ap, ◌∙◌, arith}
 use Rattle.std.specs.Prelude.{◌==◌, option_map, IsSome}
 use Rattle.std.specs.List.{list_all}
 use Rattle.std.proofs.lemmas.Bool.{le-ltb, lt-ltb, le-leb}
@@ -62,7 +64,9 @@ pub text_too_wide : (spec : Spec) (index : ℕ) (front mid : List Bool) (b k : �
     → spec.kind ≡ kinds.Text → b ≡ spec.width / 8 * 8 → b ≤ length front → mid ≡ drop b front
     → number_at 6 mid ≡ Some (k, rest) → spec.width / 8 < k → None ≡ one_at spec index front
 text_too_wide spec index front mid b k rest is size long left found lt =
-    sym (behind_width spec index front mid b k rest is size long left found ∙ wide_behind spec (numbers (spec.width / 8) 8 front) k index rest lt)
+    sym
+    (behind_width spec index front mid b k rest is size long left found
+    ∙ wide_behind spec (numbers (spec.width / 8) 8 front) k index rest lt)
 
 -- a text is there exactly where its octets are
 text_behind : (spec : Spec) (own : List ℕ) (k index : ℕ) (rest : List Bool) → (k ≡ 0 → ⊥)
@@ -76,7 +80,8 @@ text_behind spec own (suc k) index rest some le = rw (le-ltb (spec.width / 8) (s
 nothing_there : (k c : ℕ) (rest : List Bool) → (k ≡ 0 → ⊥) → length rest < c
     → octets_at k (drop c rest) ≡ None
 nothing_there k c rest some short =
-    let less : length (drop c rest) < k * 8 = omega (arith, length-drop c rest, short, some) in octets_none k (drop c rest) less
+    let less : length (drop c rest) < k * 8 =
+    omega (arith, length-drop c rest, short, some) in octets_none k (drop c rest) less
 
 -- so a text past the end has no value
 pub text_past : (spec : Spec) (index : ℕ) (front mid : List Bool) (b k : ℕ) (rest : List Bool)
@@ -85,8 +90,10 @@ pub text_past : (spec : Spec) (index : ℕ) (front mid : List Bool) (b k : ℕ) 
     → c ≡ index * (k * 8) → length rest < c → None ≡ one_at spec index front
 text_past spec index front mid b k rest c is size long left found some le times short =
     sym
-    (behind_width spec index front mid b k rest is size long left found ∙ text_behind spec (numbers (spec.width / 8) 8 front) k index rest some le
-    ∙ ap (λ m. option_map (λ x. filled (spec.width / 8) x.0) (octets_at k (drop m rest))) (sym times)
+    (behind_width spec index front mid b k rest is size long left found
+    ∙ text_behind spec (numbers (spec.width / 8) 8 front) k index rest some le
+    ∙ ap (λ m. option_map (λ x. filled (spec.width / 8) x.0) (octets_at k (drop m rest)))
+    (sym times)
     ∙ ap (option_map (λ x. filled (spec.width / 8) x.0)) (nothing_there k c rest some short))
 
 -- a text that is there has its value
@@ -96,10 +103,13 @@ pub text_there_is : (spec : Spec) (index : ℕ) (front mid : List Bool) (b k : �
     → number_at 6 mid ≡ Some (k, rest) → (k ≡ 0 → ⊥) → k ≤ spec.width / 8 → c ≡ index * (k * 8)
     → last ≡ drop c rest → octets_at k last ≡ o
     → option_map (λ x. filled (spec.width / 8) x.0) o ≡ one_at spec index front
-text_there_is spec index front mid b k rest c last o is size long left found some le times behind there =
+text_there_is spec index front mid b k rest c last o is size long left found some le times behind
+    there =
     sym
-    (behind_width spec index front mid b k rest is size long left found ∙ text_behind spec (numbers (spec.width / 8) 8 front) k index rest some le
-    ∙ ap (λ m. option_map (λ x. filled (spec.width / 8) x.0) (octets_at k (drop m rest))) (sym times)
+    (behind_width spec index front mid b k rest is size long left found
+    ∙ text_behind spec (numbers (spec.width / 8) 8 front) k index rest some le
+    ∙ ap (λ m. option_map (λ x. filled (spec.width / 8) x.0) (octets_at k (drop m rest)))
+    (sym times)
     ∙ ap (λ xs. option_map (λ x. filled (spec.width / 8) x.0) (octets_at k xs)) (sym behind)
     ∙ ap (option_map (λ x. filled (spec.width / 8) x.0)) there)
 
@@ -129,8 +139,10 @@ filled_is octets own filler true ones is short =
     ∙ replicate-append (length own) (octets - length own) 255 ∙ ap (λ n. replicate n 255) size in
     rw ones (ap (λ xs. Text xs) joined)
 filled_is octets own filler false ones is short =
-    let joined : take octets own ++ replicate (octets - length own) filler ≡ own ++ replicate (octets - length own) 32 =
-    ap (λ xs. xs ++ replicate (octets - length own) filler) (take_all octets own short) ∙ ap (λ f. own ++ replicate (octets - length own) f) is in
+    let joined : take octets own ++ replicate (octets - length own) filler ≡ own
+    ++ replicate (octets - length own) 32 =
+    ap (λ xs. xs ++ replicate (octets - length own) filler) (take_all octets own short)
+    ∙ ap (λ f. own ++ replicate (octets - length own) f) is in
     rw ones (ap (λ xs. Text xs) joined)
 
 -- ---- numbers
@@ -146,9 +158,11 @@ pub number_past : (spec : Spec) (index : ℕ) (front mid rest : List Bool) (m k 
     → number_at 6 mid ≡ Some (k, rest) → (k ≡ 0 → ⊥) → c ≡ index * k → length rest < c
     → None ≡ one_at spec index front
 unfolding number_at
-number_past spec index front mid rest m zero c other first second some times short = absurd (some refl)
+number_past spec index front mid rest m zero c other first second some times short =
+    absurd (some refl)
 number_past spec index front mid rest m (suc k) c other first second some times short =
-    let less : length (drop (index * suc k) rest) < suc k = omega (arith, length-drop (index * suc k) rest, short, times) in
+    let less : length (drop (index * suc k) rest) < suc k =
+    omega (arith, length-drop (index * suc k) rest, short, times) in
     rw (number_raw spec.kind spec.width front other, first, second, lt-ltb _ _ less) refl
 
 -- ---- the value of an open place
@@ -160,8 +174,11 @@ value_at_column : (spec : Spec) (values : List Raw) (column rest : List Bool) (i
 value_at_column spec values column rest index is inside =
     let one = one_value spec values column rest index is inside in
     let first : raw_at spec (column ++ rest) ≡ Some (one.minimum, bin 6 one.k ++ one.rest) =
-    ap (raw_at spec) one.heads.spelt ∙ raw_again spec.kind spec.width one.minimum (bin 6 one.k ++ one.rest) (form_passes spec one.minimum one.heads.form) in
-    let second : number_at 6 (bin 6 one.k ++ one.rest) ≡ Some (one.k, one.rest) = number_at-bin 6 one.k one.rest one.heads.few in
+    ap (raw_at spec) one.heads.spelt
+    ∙ raw_again spec.kind spec.width one.minimum (bin 6 one.k ++ one.rest)
+    (form_passes spec one.minimum one.heads.form) in
+    let second : number_at 6 (bin 6 one.k ++ one.rest) ≡ Some (one.k, one.rest) =
+    number_at-bin 6 one.k one.rest one.heads.few in
     rw (first, second) one.value
 
 -- the value at an index of a column at a place

@@ -1,6 +1,8 @@
 -- One step of a walk is one step of fitting: for `write_plain` and `write_subsets`.
 use Rattle.bufr_tables.specs.Answers.{Fails, result_map}
-use Rattle.std.proofs.Common.{◌≡◌, ℕ, suc, ◌+◌, ◌<◌, ◌≤◌, Bool, true, false, cond, List, [], ◌∷◌, ◌++◌, length, take, drop, get_or, Result, Ok, Err, refl, sym, ap, subst, ◌∙◌, add-one, append_assoc, append-nil, drop-cons}
+use Rattle.std.proofs.Common.{◌≡◌, ℕ, suc, ◌+◌, ◌<◌, ◌≤◌, Bool, true, false, cond, List, [], ◌∷◌}
+use Rattle.std.proofs.Common.{◌++◌, length, take, drop, get_or, Result, Ok, Err, refl, sym, ap}
+use Rattle.std.proofs.Common.{subst, ◌∙◌, add-one, append_assoc, append-nil, drop-cons}
 use Rattle.std.specs.Prelude.{◌&&◌, ◌==◌}
 use Rattle.std.proofs.lemmas.List.{take_more, take_all, drop_all}
 use Rattle.bufr_tables.specs.declared.failure.Failure.{Failure}
@@ -15,14 +17,16 @@ use Rattle.bufr_data.specs.declared.field.Field.{Field}
 use Rattle.bufr_data.specs.declared.field.Subset.{Subset}
 use Rattle.bufr_data.specs.declared.fault.WriteFault.{WriteFault}
 use Rattle.bufr_data.specs.declared.fault.WriteFault.TheVariants as misfits
-use Rattle.bufr_data.specs.Plain.{number_of, same_spec, has_form_by, stands_for, misfit, items_of, items_of_all, field_bits, plain, plain_subsets}
+use Rattle.bufr_data.specs.Plain.{number_of, same_spec, has_form_by, stands_for, misfit, items_of}
+use Rattle.bufr_data.specs.Plain.{items_of_all, field_bits, plain, plain_subsets}
 use Rattle.bufr_data.specs.Subsets.{fits_or, has_own_form}
 use Rattle.bufr_data.proofs.PlainFacts.{and_first, and_second, guard_ok}
 use Rattle.std.specs.List.{list_all}
 use Rattle.bufr_expand.specs.Steady.{IsSteady}
 use Rattle.bufr_data.specs.Steady.{IsReady}
 use Rattle.bufr_data.specs.FormLaws.{same_spec_is}
-use Rattle.bufr_data.specs.StepLaws.{asks_field, asks_count, ends_there, stops_there, steady_step, count_fits}
+use Rattle.bufr_data.specs.StepLaws.{asks_field, asks_count, ends_there, stops_there, steady_step}
+use Rattle.bufr_data.specs.StepLaws.{count_fits}
 
 -- ---- one field
 
@@ -45,7 +49,8 @@ asked_misfits : (j i met d : ℕ) (spec : Spec) (more : ℕ → Course) (f : Fie
     (fault : WriteFault) → fits_or j i (stands_for d spec f) ≡ Err fault
     → items_of j i (asks met d spec more) (f ∷ rest) ≡ Err fault
 unfolding items_of
-asked_misfits j i met d spec more f rest fault e = misfit_is (stands_for d spec f) j i (items_of j (i + 1) (more (number_of f.raw)) rest) fault e
+asked_misfits j i met d spec more f rest fault e =
+    misfit_is (stands_for d spec f) j i (items_of j (i + 1) (more (number_of f.raw)) rest) fault e
 
 -- no field where one is asked for is the fault
 asked_lacks : (j i met d : ℕ) (spec : Spec) (more : ℕ → Course)
@@ -59,7 +64,9 @@ pub field_is_written : (old new : Walk) (j i d : ℕ) (spec : Spec) (f : Field) 
     → items_of j i (left old) (f ∷ rest) ≡ items_of j (i + 1) (left new) rest
 field_is_written old new j i d spec f rest ready g e =
     let a = asks_field (left old) d spec new g in
-    let s = steady_step (items_met old) a.met d spec a.more (subst (λ (x : Course). IsSteady (items_met old) x) a.is ready.steady) in
+    let s =
+    steady_step (items_met old) a.met d spec a.more
+    (subst (λ (x : Course). IsSteady (items_met old) x) a.is ready.steady) in
     ap (λ c. items_of j i c (f ∷ rest)) a.is
     ∙ asked_fits j i a.met d spec a.more f rest e
     ∙ ap (λ c. items_of j (i + 1) c rest) (s.2 a.kind (number_of f.raw) ∙ sym a.after)
@@ -86,7 +93,8 @@ pub count_written_fits : (old mid : Walk) (d : ℕ) (spec : Spec) (f : Field)
     → Goes (left old) (Ok (steps.Count d spec)) mid → stands_for d spec f ≡ true
     → IsBelowCount (left mid) (number_of f.raw)
 count_written_fits old mid d spec f g e =
-    count_fits old mid d spec f.raw g (form_of (f.fxy == d && same_spec f.spec spec) (has_form_by spec.kind spec.width f.raw) e)
+    count_fits old mid d spec f.raw g
+    (form_of (f.fxy == d && same_spec f.spec spec) (has_form_by spec.kind spec.width f.raw) e)
 
 -- a field that is not the one asked for is the fault
 pub field_misfits : (old new : Walk) (j i d : ℕ) (spec : Spec) (f : Field) (rest : List Field)
@@ -125,7 +133,8 @@ stop_misfits old new j i fields fault f g e =
 pub end_fits : (old new : Walk) (j i n : ℕ) → Goes (left old) (Ok steps.End) new → n ≡ items_met new
     → items_of j i (left old) [] ≡ Ok n
 unfolding items_of
-end_fits old new j i n g e = ap (λ c. items_of j i c []) (ends_there (left old) new g) ∙ ap (λ x. Ok x) (sym e)
+end_fits old new j i n g e =
+    ap (λ c. items_of j i c []) (ends_there (left old) new g) ∙ ap (λ x. Ok x) (sym e)
 
 -- a field too few is the fault
 pub field_lacks : (old new : Walk) (j i d : ℕ) (spec : Spec)
@@ -163,21 +172,27 @@ front_is xs k x h is = take_more xs k x h ∙ ap (λ y. take k xs ++ y ∷ []) (
 -- the bits of fields with one more
 plain-push : (fs : List Field) (f : Field) → plain (fs ++ f ∷ []) ≡ plain fs ++ field_bits f
 plain-push [] f = append-nil (field_bits f)
-plain-push (g ∷ fs) f = ap (λ xs. field_bits g ++ xs) (plain-push fs f) ∙ sym (append_assoc (field_bits g) (plain fs) (field_bits f))
+plain-push (g ∷ fs) f =
+    ap (λ xs. field_bits g ++ xs) (plain-push fs f)
+    ∙ sym (append_assoc (field_bits g) (plain fs) (field_bits f))
 
 -- the bits of subsets with one more
 subsets-push : (ss : List Subset) (s : Subset)
     → plain_subsets (ss ++ s ∷ []) ≡ plain_subsets ss ++ plain s.fields
 subsets-push [] s = append-nil (plain s.fields)
-subsets-push (t ∷ ss) s = ap (λ xs. plain t.fields ++ xs) (subsets-push ss s) ∙ sym (append_assoc (plain t.fields) (plain_subsets ss) (plain s.fields))
+subsets-push (t ∷ ss) s =
+    ap (λ xs. plain t.fields ++ xs) (subsets-push ss s)
+    ∙ sym (append_assoc (plain t.fields) (plain_subsets ss) (plain s.fields))
 
 -- the bits that were put with those of one more field
 pub bits_step : (k : ℕ) (fields : List Field) (f : Field) (old mid new : List Bool)
     → k < length fields → f ≡ get_or fields k f → mid ≡ old ++ plain (take k fields)
     → new ≡ mid ++ field_bits f → new ≡ old ++ plain (take (k + 1) fields)
 bits_step k fields f old mid new h is so_far put =
-    put ∙ ap (λ xs. xs ++ field_bits f) so_far ∙ append_assoc old (plain (take k fields)) (field_bits f)
-    ∙ ap (λ xs. old ++ xs) (sym (plain-push (take k fields) f)) ∙ ap (λ fs. old ++ plain fs) (sym (front_is fields k f h is))
+    put ∙ ap (λ xs. xs ++ field_bits f) so_far
+    ∙ append_assoc old (plain (take k fields)) (field_bits f)
+    ∙ ap (λ xs. old ++ xs) (sym (plain-push (take k fields) f))
+    ∙ ap (λ fs. old ++ plain fs) (sym (front_is fields k f h is))
 
 -- at the end they are those of all
 pub bits_end : (k : ℕ) (fields : List Field) (old new : List Bool) → length fields ≤ k
@@ -213,7 +228,8 @@ pub subsets_step : (course : ℕ → Course) (k used n : ℕ) (subsets : List Su
     → items_of (k + 1) 1 (course used) s.fields ≡ Ok n
     → whole ≡ items_of_all course (k + 1 + 1) n (drop (k + 1) subsets)
 subsets_step course k used n subsets s whole h is so_far e =
-    so_far ∙ ap (λ ss. items_of_all course (k + 1) used ss) (next_is subsets k s h is) ∙ one_more course (k + 1) used n s (drop (k + 1) subsets) e
+    so_far ∙ ap (λ ss. items_of_all course (k + 1) used ss) (next_is subsets k s h is)
+    ∙ one_more course (k + 1) used n s (drop (k + 1) subsets) e
 
 -- where one fails, what is written fails
 pub subsets_fail : (course : ℕ → Course) (k used : ℕ) (subsets : List Subset) (s : Subset)
@@ -223,7 +239,9 @@ pub subsets_fail : (course : ℕ → Course) (k used : ℕ) (subsets : List Subs
     → Fails e (result_map (λ items. plain_subsets subsets) whole)
 subsets_fail course k used subsets s whole OutOfMemory h is so_far fails = tt
 subsets_fail course k used subsets s whole (Fault f) h is so_far fails =
-    ap (result_map (λ items. plain_subsets subsets)) (so_far ∙ ap (λ ss. items_of_all course (k + 1) used ss) (next_is subsets k s h is) ∙ one_fails course (k + 1) used s (drop (k + 1) subsets) (Fault f) fails)
+    ap (result_map (λ items. plain_subsets subsets))
+    (so_far ∙ ap (λ ss. items_of_all course (k + 1) used ss) (next_is subsets k s h is)
+    ∙ one_fails course (k + 1) used s (drop (k + 1) subsets) (Fault f) fails)
 
 -- at the end all are written
 pub subsets_end : (course : ℕ → Course) (k used : ℕ) (subsets : List Subset)
@@ -231,23 +249,30 @@ pub subsets_end : (course : ℕ → Course) (k used : ℕ) (subsets : List Subse
     → whole ≡ items_of_all course (k + 1) used (drop k subsets)
     → result_map (λ items. plain_subsets subsets) whole ≡ Ok (plain_subsets subsets)
 subsets_end course k used subsets whole h so_far =
-    ap (result_map (λ items. plain_subsets subsets)) (so_far ∙ ap (λ ss. items_of_all course (k + 1) used ss) (drop_all k subsets h) ∙ none_left course (k + 1) used)
+    ap (result_map (λ items. plain_subsets subsets))
+    (so_far ∙ ap (λ ss. items_of_all course (k + 1) used ss) (drop_all k subsets h)
+    ∙ none_left course (k + 1) used)
 
 -- the bits that were put with those of one more subset
 pub subset_bits_step : (k : ℕ) (subsets : List Subset) (s : Subset) (old mid new : List Bool)
     → k < length subsets → s ≡ get_or subsets k s → mid ≡ old ++ plain_subsets (take k subsets)
     → new ≡ mid ++ plain s.fields → new ≡ old ++ plain_subsets (take (k + 1) subsets)
 subset_bits_step k subsets s old mid new h is so_far put =
-    put ∙ ap (λ xs. xs ++ plain s.fields) so_far ∙ append_assoc old (plain_subsets (take k subsets)) (plain s.fields)
-    ∙ ap (λ xs. old ++ xs) (sym (subsets-push (take k subsets) s)) ∙ ap (λ ss. old ++ plain_subsets ss) (sym (front_is subsets k s h is))
+    put ∙ ap (λ xs. xs ++ plain s.fields) so_far
+    ∙ append_assoc old (plain_subsets (take k subsets)) (plain s.fields)
+    ∙ ap (λ xs. old ++ xs) (sym (subsets-push (take k subsets) s))
+    ∙ ap (λ ss. old ++ plain_subsets ss) (sym (front_is subsets k s h is))
 
 -- ---- fields that were counted have their forms
 
 -- a field that is asked for has a raw value of its form
 own_form : (d : ℕ) (spec : Spec) (f : Field) → stands_for d spec f ≡ true → has_own_form f ≡ true
 own_form d spec f e =
-    let both = and_first (f.fxy == d && same_spec f.spec spec) (has_form_by spec.kind spec.width f.raw) e in
-    let same : f.spec ≡ spec = same_spec_is _ _ (and_second (f.fxy == d) (same_spec f.spec spec) both) in
+    let both =
+    and_first (f.fxy == d && same_spec f.spec spec)
+    (has_form_by spec.kind spec.width f.raw) e in
+    let same : f.spec ≡ spec =
+    same_spec_is _ _ (and_second (f.fxy == d) (same_spec f.spec spec) both) in
     ap (λ (s : Spec). has_form_by s.kind s.width f.raw) same
     ∙ and_second (f.fxy == d && same_spec f.spec spec) (has_form_by spec.kind spec.width f.raw) e
 

@@ -1,6 +1,8 @@
 -- Which subsets are written compressed, and that their columns are the best: for the law on what
 -- messages know of data (`data_hold_subsets`).
-use Rattle.std.proofs.Common.{◌≡◌, ℕ, zero, suc, ◌+◌, ◌*◌, ◌<◌, ◌≤◌, Bool, true, List, [], ◌∷◌, length, map, drop, get_or, Result, Ok, refl, sym, ap, subst, ◌∙◌, arith}
+use Rattle.std.proofs.Common.{◌≡◌, ℕ, zero, suc, ◌+◌, ◌*◌, ◌<◌, ◌≤◌, Bool, true, List, [], ◌∷◌}
+use Rattle.std.proofs.Common.{length, map, drop, get_or, Result, Ok, refl, sym, ap, subst, ◌∙◌}
+use Rattle.std.proofs.Common.{arith}
 use Rattle.std.specs.Prelude.{◌&&◌, nat_lt}
 use Rattle.std.specs.List.{AllByRecursion, list_all}
 use Rattle.std.proofs.lemmas.Bool.{le-ltb, ltb-false, eq-eqb}
@@ -14,7 +16,9 @@ use Rattle.bufr_data.specs.declared.field.Subset.{Subset}
 use Rattle.bufr_data.specs.declared.fault.WriteFault.{WriteFault}
 use Rattle.bufr_data.specs.Plain.{same_spec}
 use Rattle.bufr_data.specs.Columns.{Column, field_of, subsets_from}
-use Rattle.bufr_data.specs.BestColumns.{can_be_column, begins_like, first_raw, is_empty, column_or, columns_of, columns_of_all, packed, best_bits, CanBeWritten, AreBestColumns}
+use Rattle.bufr_data.specs.BestColumns.{can_be_column, begins_like, first_raw, is_empty, column_or}
+use Rattle.bufr_data.specs.BestColumns.{columns_of, columns_of_all, packed, best_bits, CanBeWritten}
+use Rattle.bufr_data.specs.BestColumns.{AreBestColumns}
 use Rattle.bufr_data.specs.Fits.{FitsAlone}
 use Rattle.bufr_data.specs.Data.{each_fits, written_bits}
 use Rattle.bufr_data.proofs.FitFacts.{fitting_counted}
@@ -39,7 +43,8 @@ all_like : (k m : ℕ) (f : Field) (c : Column) (cs : List Column) → f.fxy ≡
     → list_all (begins_like f) (fields_from k m (c ∷ cs)) ≡ true
 all_like k zero f c cs d s = refl
 all_like k (suc m) f c cs d s =
-    let same : same_spec c.spec f.spec ≡ true = ap (λ t. same_spec c.spec t) s ∙ spec_is_same c.spec in
+    let same : same_spec c.spec f.spec ≡ true =
+    ap (λ t. same_spec c.spec t) s ∙ spec_is_same c.spec in
     rw (eq-eqb f.fxy c.fxy d, same, all_like (k + 1) m f c cs d s) refl
 
 -- behind a column stand the fields of the others
@@ -62,14 +67,17 @@ drop_next k [] short = absurd (omega (arith, short))
 drop_next zero (v ∷ vs) short = refl
 drop_next (suc k) (v ∷ vs) short =
     let same : suc k + 1 ≡ suc (k + 1) = omega arith in
-    drop_next k vs (omega (arith, short)) ∙ ap (λ n. get_or vs k (Number 0) ∷ drop n (v ∷ vs)) (sym same)
+    drop_next k vs (omega (arith, short))
+    ∙ ap (λ n. get_or vs k (Number 0) ∷ drop n (v ∷ vs)) (sym same)
 
 -- the first values of subsets are those of the column
 values_behind : (k m : ℕ) (c : Column) (cs : List Column) → length c.values ≡ k + m
     → map first_raw (fields_from k m (c ∷ cs)) ≡ drop k c.values
 values_behind k zero c cs size = sym (drop_whole k c.values (omega (arith, size)))
 values_behind k (suc m) c cs size =
-    ap (λ vs. get_or c.values k (Number 0) ∷ vs) (values_behind (k + 1) m c cs (omega (arith, size))) ∙ sym (drop_next k c.values (omega (arith, size)))
+    ap (λ vs. get_or c.values k (Number 0) ∷ vs)
+    (values_behind (k + 1) m c cs (omega (arith, size)))
+    ∙ sym (drop_next k c.values (omega (arith, size)))
 
 -- two truths are one
 both_true : (a b : Bool) → a ≡ true → b ≡ true → (a && b) ≡ true
@@ -88,17 +96,23 @@ unfolding columns_of
 columns_written i m [] all = rw (all_empty 1 m) refl
 columns_written i m (c ∷ cs) all =
     let here : get_or c.values 0 (Number 0) ∷ map first_raw (fields_from 1 m (c ∷ cs)) ≡ c.values =
-    ap (λ vs. get_or c.values 0 (Number 0) ∷ vs) (values_behind 1 m c cs (omega (arith, all.0.0))) ∙ sym (drop_next 0 c.values (omega (arith, all.0.0))) in
-    let can : can_be_column c.spec (get_or c.values 0 (Number 0) ∷ map first_raw (fields_from 1 m (c ∷ cs))) ≡ true = ap (can_be_column c.spec) here ∙ all.0.1 in
+    ap (λ vs. get_or c.values 0 (Number 0) ∷ vs) (values_behind 1 m c cs (omega (arith, all.0.0)))
+    ∙ sym (drop_next 0 c.values (omega (arith, all.0.0))) in
+    let can : can_be_column c.spec
+    (get_or c.values 0 (Number 0) ∷ map first_raw (fields_from 1 m (c ∷ cs)))
+    ≡ true = ap (can_be_column c.spec) here ∙ all.0.1 in
     column_or_ok i _ _ c _ cs (both_true _ _ (all_like 1 m (field_of 0 c) c cs refl refl) can)
     (λ t. record { fxy = c.fxy; spec = c.spec; values = here t })
-    (ap (columns_of (i + 1) (map (field_of 0) cs)) (all_behind 1 m c cs) ∙ columns_written (i + 1) m cs all.1)
+    (ap (columns_of (i + 1) (map (field_of 0) cs)) (all_behind 1 m c cs)
+    ∙ columns_written (i + 1) m cs all.1)
 
 -- subsets that fit one by one are counted one by one
 pub each_counted : AreAllowed → (tree : Tree) (j : ℕ) (subsets : List Subset)
     → AllByRecursion (FitsAlone tree) subsets → each_fits tree j subsets ≡ Ok tt
 each_counted law tree j [] fit = refl
-each_counted law tree j (s ∷ subsets) fit = rw (fitting_counted law tree j 0 fit.0.0 s.fields fit.0.1) (each_counted law tree (j + 1) subsets fit.1)
+each_counted law tree j (s ∷ subsets) fit =
+    rw (fitting_counted law tree j 0 fit.0.0 s.fields fit.0.1)
+    (each_counted law tree (j + 1) subsets fit.1)
 
 -- so the best columns are what is written
 pub fitting_columns_written : AreAllowed
@@ -108,8 +122,13 @@ pub fitting_columns_written : AreAllowed
 fitting_columns_written law tree [] columns fit are = ap (λ cs. Ok (best_bits cs)) (sym are)
 fitting_columns_written law tree (s ∷ subsets) columns fit are =
     let whole : subsets_from 0 (suc (length subsets)) columns ≡ s ∷ subsets = sym are.0 in
-    let found : columns_of_all (s ∷ subsets) ≡ Ok columns = ap columns_of_all are.0 ∙ columns_written 1 (length subsets) columns are.2 in
-    rw (each_counted law tree 1 (s ∷ subsets) fit, found, le-ltb most_values (length columns * length (s ∷ subsets)) are.1) refl
+    let found : columns_of_all (s ∷ subsets) ≡ Ok columns =
+    ap columns_of_all are.0 ∙ columns_written 1 (length subsets) columns are.2 in
+    rw (
+      each_counted law tree 1 (s ∷ subsets) fit,
+      found,
+      le-ltb most_values (length columns * length (s ∷ subsets)) are.1,
+    ) refl
 
 -- ---- what is written are the best columns
 
@@ -118,13 +137,19 @@ pub all_can : (i : ℕ) (fs : List Field) (others : List (List Field)) (columns 
     → columns_of i fs others ≡ Ok columns
     → AllByRecursion (CanBeWritten (1 + length others)) columns
 all_can i [] others columns e =
-    subst (λ cs. AllByRecursion (CanBeWritten (1 + length others)) cs) (sym (none_taken i others columns e).1) tt
+    subst (λ cs. AllByRecursion (CanBeWritten (1 + length others)) cs)
+    (sym (none_taken i others columns e).1) tt
 all_can i (f ∷ fs) others columns e =
     let h = taken i f fs others columns e in
-    let size : length (f.raw ∷ map first_raw others) ≡ 1 + length others = omega (arith, length-map others first_raw) in
-    let many : length (map (drop {A = Field} 1) others) ≡ length others = length-map others (drop 1) in
-    let after = subst (λ l. AllByRecursion (CanBeWritten (1 + l)) h.behind) many (all_can (i + 1) fs (map (drop 1) others) h.behind h.rest) in
-    subst (λ cs. AllByRecursion (CanBeWritten (1 + length others)) cs) (sym h.is) ((size, h.can), after)
+    let size : length (f.raw ∷ map first_raw others) ≡ 1 + length others =
+    omega (arith, length-map others first_raw) in
+    let many : length (map (drop {A = Field} 1) others) ≡ length others =
+    length-map others (drop 1) in
+    let after =
+    subst (λ l. AllByRecursion (CanBeWritten (1 + l)) h.behind) many
+    (all_can (i + 1) fs (map (drop 1) others) h.behind h.rest) in
+    subst (λ cs. AllByRecursion (CanBeWritten (1 + length others)) cs) (sym h.is)
+    ((size, h.can), after)
 
 -- columns that are packed are the best
 best_pack : (s : Subset) (subsets : List Subset) (columns : List Column) (content : List Bool)
@@ -135,10 +160,20 @@ best_pack s subsets columns content e p =
     let others = map (λ (t : Subset). t.fields) subsets in
     let many : length others ≡ length subsets = length-map subsets (λ (t : Subset). t.fields) in
     let row = rows 1 s.fields others columns e in
-    let whole = each_row 0 (s ∷ subsets) columns (λ l short. row l (omega (arith, short, many)) ∙ ap (λ n. map (field_of n) columns) (omega arith)) in
+    let whole =
+    each_row 0 (s ∷ subsets) columns
+    (λ l short. row l (omega (arith, short, many))
+    ∙ ap (λ n. map (field_of n) columns) (omega arith)) in
     let size : 1 + length others ≡ length (s ∷ subsets) = omega (arith, many) in
-    let g = guard_ok (nat_lt most_values (length columns * length (s ∷ subsets))) _ _ content p in
-    ((whole, ltb-false _ _ g.0, subst (λ l. AllByRecursion (CanBeWritten l) columns) size (all_can 1 s.fields others columns e)), sym (ok_is _ _ g.1))
+    let g = guard_ok (nat_lt most_values (length columns * length (s ∷ subsets))) _ _ content p in (
+      (
+        whole,
+        ltb-false _ _ g.0,
+        subst (λ l. AllByRecursion (CanBeWritten l) columns) size
+            (all_can 1 s.fields others columns e),
+      ),
+      sym (ok_is _ _ g.1),
+    )
 
 -- what is written compressed are the best columns of subsets that fit
 pub written_best : AreUnrolled → (tree : Tree) (subsets : List Subset) (content : List Bool)

@@ -1,6 +1,7 @@
 -- Any two runs whose ended streams hold the same messages agree: for the clauses of
 -- `laws::archives_converge`, and the headline.
-use Rattle.std.proofs.Common.{sym, Ok, Err, is_ok, ◌≡◌, inl, inr, ℕ, true, List, [], ◌∷◌, map, refl, ap, subst}
+use Rattle.std.proofs.Common.{sym, Ok, Err, is_ok, ◌≡◌, inl, inr, ℕ, true, List, [], ◌∷◌, map, refl}
+use Rattle.std.proofs.Common.{ap, subst}
 use Rattle.std.specs.List.{flat_map}
 use Rattle.std.specs.Option.{option_to_list}
 use Rattle.bufr_frame.specs.declared.frames.Found.{Found}
@@ -18,8 +19,10 @@ use Rattle.bufr_archive.specs.ReportEntries.{entry_of, report_entries, kept_of}
 use Rattle.bufr_message.specs.Messages.{message_of}
 use Rattle.bufr_depot.specs.Slots.{spells, all_told, frames_of, Slot, new_slots}
 use Rattle.bufr_depot.specs.Headline.{HoldSameMessages}
-use Rattle.bufr_depot.specs.Agreements.{SameMessagesSameKept, EndsRun, TookExactly, KeepsWhatWasTold, Converges}
-use Rattle.bufr_depot.proofs.RunFacts.{Reports, told_so_far, closed_told, nothing_more, run_holds, new_holds}
+use Rattle.bufr_depot.specs.Agreements.{SameMessagesSameKept, EndsRun, TookExactly}
+use Rattle.bufr_depot.specs.Agreements.{KeepsWhatWasTold, Converges}
+use Rattle.bufr_depot.proofs.RunFacts.{Reports, told_so_far, closed_told, nothing_more, run_holds}
+use Rattle.bufr_depot.proofs.RunFacts.{new_holds}
 
 -- a member of a list of lists joined, by the list in which it is
 record IsIn {A B : Type 0} (f : A → List B) (xs : List A) (b : B) : Type 0 where
@@ -33,20 +36,24 @@ in_flat_map : {A B : Type 0} (f : A → List B) (xs : List A) (b : B) → Has (f
 in_flat_map f [] b h = absurd h
 in_flat_map f (x ∷ xs) b h = elim (Has-append (f x) (flat_map f xs) b h) [
   | inl k ↦ record { of = x; member = inl refl; inside = k }
-  | inr k ↦ let i = in_flat_map f xs b k in record { of = i.of; member = inr i.member; inside = i.inside }
+  | inr k ↦ let i = in_flat_map f xs b k in
+      record { of = i.of; member = inr i.member; inside = i.inside }
 ]
 
 -- a member of one of the lists is in the lists joined
 Has-flat_map : {A B : Type 0} (f : A → List B) (xs : List A) (x : A) (b : B) → Has xs x
     → Has (f x) b → Has (flat_map f xs) b
 Has-flat_map f [] x b h k = absurd h
-Has-flat_map f (y ∷ xs) x b (inl e) k = Has-left (f y) (flat_map f xs) b (subst (λ z. Has (f z) b) e k)
-Has-flat_map f (y ∷ xs) x b (inr h) k = Has-right (f y) (flat_map f xs) b (Has-flat_map f xs x b h k)
+Has-flat_map f (y ∷ xs) x b (inl e) k =
+    Has-left (f y) (flat_map f xs) b (subst (λ z. Has (f z) b) e k)
+Has-flat_map f (y ∷ xs) x b (inr h) k =
+    Has-right (f y) (flat_map f xs) b (Has-flat_map f xs x b h k)
 
 -- the lists of more members, joined, have all members of the lists of fewer
 Within-flat_map : {A B : Type 0} (f : A → List B) (xs ys : List A) → Within xs ys
     → Within (flat_map f xs) (flat_map f ys)
-Within-flat_map f xs ys w b h = let i = in_flat_map f xs b h in Has-flat_map f ys i.of b (w i.of i.member) i.inside
+Within-flat_map f xs ys w b h =
+    let i = in_flat_map f xs b h in Has-flat_map f ys i.of b (w i.of i.member) i.inside
 
 -- what a member is mapped to is in the mapped list
 Has-map : {A B : Type 0} (f : A → B) (xs : List A) (x : A) → Has xs x → Has (map f xs) (f x)
@@ -64,17 +71,24 @@ record IsOf {A B : Type 0} (f : A → B) (xs : List A) (b : B) : Type 0 where
 in_map : {A B : Type 0} (f : A → B) (xs : List A) (b : B) → Has (map f xs) b → IsOf f xs b
 in_map f [] b h = absurd h
 in_map f (x ∷ xs) b (inl e) = record { of = x; member = inl refl; same = e }
-in_map f (x ∷ xs) b (inr h) = let i = in_map f xs b h in record { of = i.of; member = inr i.member; same = i.same }
+in_map f (x ∷ xs) b (inr h) =
+    let i = in_map f xs b h in record { of = i.of; member = inr i.member; same = i.same }
 
 -- what is kept of reports depends on their set
 pub kept_of-same : (tables : Entries) (rs qs : Reports) → SameMembers rs qs
     → kept_of tables rs ≡ kept_of tables qs
 kept_of-same tables rs qs s =
-    let within : (xs ys : Reports) → Within xs ys → Within (report_entries tables xs) (report_entries tables ys) = λ xs ys w e h.
-    let i = in_map (entry_of tables) xs e h in subst (Has (report_entries tables ys)) (sym i.same) (Has-map (entry_of tables) ys i.of (w i.of i.member)) in
+    let within : (xs ys : Reports) → Within xs ys
+    → Within (report_entries tables xs) (report_entries tables ys) = λ xs ys w e h.
+    let i =
+    in_map (entry_of tables) xs e h in
+    subst (Has (report_entries tables ys)) (sym i.same)
+    (Has-map (entry_of tables) ys i.of (w i.of i.member)) in
     kept-same (entries_of (report_entries tables rs)) (entries_of (report_entries tables qs)) (
-      Within-flat_map option_to_list (report_entries tables rs) (report_entries tables qs) (within rs qs s.0),
-      Within-flat_map option_to_list (report_entries tables qs) (report_entries tables rs) (within qs rs s.1),
+      Within-flat_map option_to_list (report_entries tables rs) (report_entries tables qs)
+          (within rs qs s.0),
+      Within-flat_map option_to_list (report_entries tables qs) (report_entries tables rs)
+          (within qs rs s.1),
     )
 
 -- octets that have a report spell a message
@@ -100,7 +114,9 @@ told_from tables streams x h =
     let b = in_flat_map (λ (f : Found). reports_in tables f.bytes) (cut a.of) x a.inside in
     record {
       octets = b.of.bytes;
-      frame = Has-flat_map (λ s. map (λ (f : Found). f.bytes) (cut s)) streams a.of b.of.bytes a.member (Has-map (λ (f : Found). f.bytes) (cut a.of) b.of b.member);
+      frame =
+          Has-flat_map (λ s. map (λ (f : Found). f.bytes) (cut s)) streams a.of b.of.bytes a.member
+          (Has-map (λ (f : Found). f.bytes) (cut a.of) b.of b.member);
       report = b.inside;
     }
 
@@ -111,7 +127,9 @@ told_to : (tables : Entries) (streams : List (List ℕ)) (octets : List ℕ) (x 
 told_to tables streams octets x h k =
     let a = in_flat_map (λ s. map (λ (f : Found). f.bytes) (cut s)) streams octets h in
     let b = in_map (λ (f : Found). f.bytes) (cut a.of) octets a.inside in
-    Has-flat_map (told tables) streams a.of x a.member (Has-flat_map (λ (f : Found). reports_in tables f.bytes) (cut a.of) b.of x b.member (subst (λ o. Has (reports_in tables o) x) b.same k))
+    Has-flat_map (told tables) streams a.of x a.member
+    (Has-flat_map (λ (f : Found). reports_in tables f.bytes) (cut a.of) b.of x b.member
+    (subst (λ o. Has (reports_in tables o) x) b.same k))
 
 -- streams that hold the same messages tell the same reports
 told_within : (tables : Entries) (a b : List (List ℕ))
@@ -120,7 +138,8 @@ told_within : (tables : Entries) (a b : List (List ℕ))
     → Within (all_told tables a) (all_told tables b)
 told_within tables a b same x h =
     let t = told_from tables a x h in
-    told_to tables b t.octets x (same t.octets (spells_message tables t.octets x t.report) t.frame) t.report
+    told_to tables b t.octets x
+    (same t.octets (spells_message tables t.octets x t.report) t.frame) t.report
 
 -- streams that hold the same messages tell the same set of reports
 pub same_told : (tables : Entries) (a b : List (List ℕ)) → HoldSameMessages tables a b
@@ -135,18 +154,22 @@ same_kept tables a b same =
 -- at the end of a whole run each slot has exactly the reports that its streams tell so far
 pub took_exactly : (tables : Entries) → TookExactly tables
 took_exactly tables count steps answers w i slot there =
-    let h = run_holds tables steps answers (new_slots count) w.run w.repeated w.joins_closed (new_holds tables steps count) i slot there in
+    let h =
+    run_holds tables steps answers (new_slots count) w.run w.repeated w.joins_closed
+    (new_holds tables steps count) i slot there in
     (nothing_more slot.reports (told_so_far tables slot) h.high, h.low)
 
 -- a slot at the end of a run has the reports that its streams tell
 ends_with : (tables : Entries) (slot : Slot) → EndsRun tables slot
     → SameMembers slot.reports (all_told tables slot.ended)
 ends_with tables slot e =
-    subst (SameMembers slot.reports) (closed_told tables slot e.closed) (took_exactly tables e.count e.steps e.answers e.whole e.number slot e.there)
+    subst (SameMembers slot.reports) (closed_told tables slot e.closed)
+    (took_exactly tables e.count e.steps e.answers e.whole e.number slot e.there)
 
 -- what is kept of a closed slot is what is kept of all that its ended streams tell
 pub keeps_what_was_told : (tables : Entries) → KeepsWhatWasTold tables
-keeps_what_was_told tables slot e = kept_of-same tables slot.reports (all_told tables slot.ended) (ends_with tables slot e)
+keeps_what_was_told tables slot e =
+    kept_of-same tables slot.reports (all_told tables slot.ended) (ends_with tables slot e)
 
 -- two closed slots whose ended streams hold the same messages hold and write the same
 pub converges : (tables : Entries) → Converges tables
@@ -154,7 +177,10 @@ converges tables a b p q same =
     let first = ends_with tables a p in
     let second = ends_with tables b q in
     let between = same_told tables a.ended b.ended same in
-    let reports : SameMembers a.reports b.reports = (λ x h. second.1 x (between.0 x (first.0 x h)), λ x h. first.1 x (between.1 x (second.0 x h))) in
+    let reports : SameMembers a.reports b.reports = (
+      λ x h. second.1 x (between.0 x (first.0 x h)),
+      λ x h. first.1 x (between.1 x (second.0 x h)),
+    ) in
     record {
       reports = reports;
       entries = kept_of-same tables a.reports b.reports reports;

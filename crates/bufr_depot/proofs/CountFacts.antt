@@ -1,6 +1,9 @@
 -- The messages of frames, added to an archive one after the other: for the answers of `Depot::step`
 -- to pieces and ends.
-use Rattle.std.proofs.Common.{◌≡◌, ℕ, zero, suc, ◌+◌, ◌*◌, ◌<◌, ◌≤◌, ◌^◌, Bool, true, false, not, cond, Option, Some, None, Result, Ok, Err, IfOk, is_ok, List, [], ◌∷◌, ◌++◌, length, take, get_or, refl, sym, ap, ◌∙◌, subst, arith, append_assoc, length-append}
+use Rattle.std.proofs.Common.{◌≡◌, ℕ, zero, suc, ◌+◌, ◌*◌, ◌<◌, ◌≤◌, ◌^◌, Bool, true, false, not}
+use Rattle.std.proofs.Common.{cond, Option, Some, None, Result, Ok, Err, IfOk, is_ok, List, [], ◌∷◌}
+use Rattle.std.proofs.Common.{◌++◌, length, take, get_or, refl, sym, ap, ◌∙◌, subst, arith}
+use Rattle.std.proofs.Common.{append_assoc, length-append}
 use Rattle.std.specs.Prelude.{option_to_list}
 use Rattle.std.proofs.lemmas.List.{append-nil, map-append, length-map, take_more, take-append-le}
 use Rattle.std.proofs.Math.Seq.{take-append-add}
@@ -88,7 +91,9 @@ changed_few old new octets (Err fault) h = tt
 few_told : MessagesReadAreSpelt → (tables : Entries) (octets : List ℕ)
     → AreOctets octets → length (entries_told tables octets) < 2 ^ 16
 few_told read tables octets all =
-    elim (message_of tables octets) as (λ m. message_of tables octets ≡ m → length (report_entries tables (reports_read m)) < 2 ^ 16) [
+    elim (message_of tables octets) as
+    (λ m. message_of tables octets ≡ m
+    → length (report_entries tables (reports_read m)) < 2 ^ 16) [
       | Ok d ↦ λ e. few_reports read tables octets d all e
       | Err why ↦ λ e. omega arith
     ] refl
@@ -334,7 +339,8 @@ pub moved : (old new : ArchiveView) (fs : List Found) (i : ℕ) (counts others :
     (joined all : ℕ) → SoFar old new fs i counts joined → others ≡ counts → all ≡ joined
     → SoFar old new fs i others all
 moved old new fs i counts others joined all s a b =
-    subst (λ k. SoFar old new fs i k all) (sym a) (subst (λ j. SoFar old new fs i counts j) (sym b) s)
+    subst (λ k. SoFar old new fs i k all) (sym a)
+    (subst (λ j. SoFar old new fs i counts j) (sym b) s)
 
 -- the tables stay where all were added, and where some were
 pub tables_stay : (old new : ArchiveView) (fs : List Found) (k : ℕ) → AddsSome old new fs k

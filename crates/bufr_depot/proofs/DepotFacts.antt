@@ -1,6 +1,7 @@
 -- Slots of a depot: which are there, and what merging one into another leaves. For the clauses of
 -- `Depot::step` on joins.
-use Rattle.std.proofs.Common.{◌≡◌, ℕ, zero, suc, ◌+◌, ◌<◌, Some, Result, Ok, Err, List, [], ◌∷◌, ◌++◌, length, set, get_or, refl, sym, ap, ◌∙◌, subst, arith}
+use Rattle.std.proofs.Common.{◌≡◌, ℕ, zero, suc, ◌+◌, ◌<◌, Some, Result, Ok, Err, List, [], ◌∷◌}
+use Rattle.std.proofs.Common.{◌++◌, length, set, get_or, refl, sym, ap, ◌∙◌, subst, arith}
 use Rattle.std.specs.Prelude.{slice_get}
 use Rattle.std.proofs.lemmas.List.{get_or-set_same, get_or-set_other, set-set}
 use Rattle.std.proofs.lemmas.List.Elements.{All-from_recursion, All-get_or}
@@ -157,7 +158,9 @@ module _ (d : DepotView) (from into : ℕ) (there : AreThere d from into) (apart
   put_back a e =
       let whole : k2 ≡ record there.target { archive = a } =
       ap (λ (x : ArchiveView). let k : Holding = record { archive = x; framer = k2.framer } in k) e
-      ∙ ap (λ (f : Framing). let k : Holding = record { archive = a; framer = f } in k) framer_stays in
+      ∙ ap
+      (λ (f : Framing). let k : Holding = record { archive = a; framer = f } in
+      k) framer_stays in
       set-set d.slots into k1 k2 ∙ ap (set d.slots into) whole
 
   -- put back with the source merged in, the step is done

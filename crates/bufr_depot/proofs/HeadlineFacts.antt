@@ -10,7 +10,8 @@ use Rattle.bufr_archive.specs.ReportTexts.{archive_of}
 use Rattle.bufr_depot.specs.Slots.{all_told, Slot}
 use Rattle.bufr_depot.specs.Holdings.{Holding, HoldsSlot}
 use Rattle.bufr_depot.specs.Agreements.{EndsRun}
-use Rattle.bufr_depot.specs.Headline.{NewRun, slots_after, WasRun, TookIn, HoldSameMessages, Headline}
+use Rattle.bufr_depot.specs.Headline.{NewRun, slots_after, WasRun, TookIn, HoldSameMessages}
+use Rattle.bufr_depot.specs.Headline.{Headline}
 use Rattle.bufr_depot.proofs.HeldFacts.{zip_at}
 use Rattle.bufr_depot.proofs.AgreementFacts.{converges, keeps_what_was_told}
 
@@ -54,8 +55,10 @@ headline one other w v i j a b streams others tables t u hold =
     (subst (HoldSameMessages one.tables streams) (sym u.ended) hold) in
     let agree = converges one.tables t.slot u.slot first second messages in
     let left = archive_left one i a streams w t in
-    let right = archive_left other j b others v u ∙ ap (λ x. archive_of x u.slot.reports) (sym tables) in
-    let same : a ≡ b = left ∙ ap (λ es. record { tables = one.tables; entries = es }) agree.entries ∙ sym right in
+    let right =
+    archive_left other j b others v u ∙ ap (λ x. archive_of x u.slot.reports) (sym tables) in
+    let same : a ≡ b =
+    left ∙ ap (λ es. record { tables = one.tables; entries = es }) agree.entries ∙ sym right in
     let entries : a.entries ≡ kept_of one.tables (all_told one.tables streams) =
     ap (λ (x : ArchiveView). x.entries) left ∙ keeps_what_was_told one.tables t.slot first
     ∙ ap (λ x. kept_of one.tables (all_told one.tables x)) t.ended in

@@ -1,6 +1,8 @@
 -- What a step does to what a depot holds, and to the slots for which it stands: for the clauses of
 -- `Depot::step`.
-use Rattle.std.proofs.Common.{◌≡◌, ℕ, zero, suc, ◌+◌, ◌-◌, ◌<◌, ◌≤◌, ◌^◌, true, false, Some, None, Result, Ok, Err, List, [], ◌∷◌, ◌++◌, length, take, set, refl, sym, ap, ◌∙◌, subst, arith}
+use Rattle.std.proofs.Common.{◌≡◌, ℕ, zero, suc, ◌+◌, ◌-◌, ◌<◌, ◌≤◌, ◌^◌, true, false, Some, None}
+use Rattle.std.proofs.Common.{Result, Ok, Err, List, [], ◌∷◌, ◌++◌, length, take, set, refl, sym}
+use Rattle.std.proofs.Common.{ap, ◌∙◌, subst, arith}
 use Rattle.std.specs.Prelude.{slice_get, option_to_list}
 use Rattle.std.specs.List.{AllZip}
 use Rattle.std.proofs.lemmas.List.{map-append, length-map, take-map, set-get_or}
@@ -24,10 +26,14 @@ use Rattle.bufr_archive.specs.Archives.{ArchiveView, taken_in, merged, entries_o
 use Rattle.bufr_archive.specs.ChangeCounts.{count_kept}
 use Rattle.bufr_archive.specs.ReportEntries.{AreUnder, entry_of, report_entries, kept_of}
 use Rattle.bufr_archive.specs.ReportTexts.{archive_of}
-use Rattle.bufr_depot.specs.Slots.{reports_among, count_messages, count_refused, Slot, changed_at, gains}
-use Rattle.bufr_depot.specs.Runs.{frames_of_piece, frames_of_end, is_too_long, new_reports, changes_of, fed_answer, ended_answer, after, feed_answer, end_answer, IsAnswer}
+use Rattle.bufr_depot.specs.Slots.{reports_among, count_messages, count_refused, Slot, changed_at}
+use Rattle.bufr_depot.specs.Slots.{gains}
+use Rattle.bufr_depot.specs.Runs.{frames_of_piece, frames_of_end, is_too_long, new_reports}
+use Rattle.bufr_depot.specs.Runs.{changes_of, fed_answer, ended_answer, after, feed_answer}
+use Rattle.bufr_depot.specs.Runs.{end_answer, IsAnswer}
 use Rattle.bufr_depot.specs.Holdings.{Holding, DepotView, HoldsSlot, StandsFor}
-use Rattle.bufr_depot.specs.HeldSteps.{AddsFrames, AddsSome, Feeds, Ends, fed_of, ended_of, StepDoes}
+use Rattle.bufr_depot.specs.HeldSteps.{AddsFrames, AddsSome, Feeds, Ends, fed_of, ended_of}
+use Rattle.bufr_depot.specs.HeldSteps.{StepDoes}
 use Rattle.bufr_depot.specs.Agreements.{ReportsToldAreUnder}
 use Rattle.bufr_depot.specs.declared.counts.Counts.{Counts}
 use Rattle.bufr_depot.specs.declared.steps.Step.{Step}
@@ -35,7 +41,8 @@ use Rattle.bufr_depot.specs.declared.steps.Step.TheVariants.{Feed, End}
 use Rattle.bufr_depot.specs.declared.steps.Answer.{Answer}
 use Rattle.bufr_depot.specs.declared.steps.Answer.TheVariants.{Fed, Ended}
 use Rattle.bufr_depot.specs.declared.steps.StepFault.{StepFault}
-use Rattle.bufr_depot.specs.declared.steps.StepFault.TheVariants.{NoSlot, StreamTooLong, OutOfMemory}
+use Rattle.bufr_depot.specs.declared.steps.StepFault.TheVariants.{NoSlot, StreamTooLong}
+use Rattle.bufr_depot.specs.declared.steps.StepFault.TheVariants.{OutOfMemory}
 use Rattle.bufr_depot.proofs.UnderFacts.{both, each_of, front_of}
 use Rattle.bufr_depot.proofs.RunFacts.{among-append}
 
@@ -137,7 +144,9 @@ archive_all : (tables : Entries) (h k : ArchiveView) (rs : List Report) (frames 
     (counts : Counts) → h ≡ archive_of tables rs → AddsFrames h k frames counts
     → k ≡ archive_of tables (rs ++ reports_among tables frames)
 archive_all tables h k rs frames counts is adds =
-    subst (λ (a : ArchiveView). k ≡ taken_in a (report_entries a.tables (reports_among a.tables frames))) is adds.archive
+    subst
+    (λ (a : ArchiveView). k
+    ≡ taken_in a (report_entries a.tables (reports_among a.tables frames))) is adds.archive
     ∙ archive_more tables rs (reports_among tables frames)
 
 -- and after the first so many, which are no more than there are
@@ -359,7 +368,8 @@ module _ (told_under : ReportsToldAreUnder) (d : DepotView) (i : ℕ) (h k : Hol
       let frames = frames_of_end s.open_stream in
       let f = ends.1 s.open_stream out holds.framer in
       let counted = counts_are t h.archive k.archive s frames f.0 holds.archive f.2 in
-      let fresh : Stands new_framing [] 0 = record { fed = refl; out_of_sure = omega arith; held = refl } in (
+      let fresh : Stands new_framing [] 0 =
+      record { fed = refl; out_of_sure = omega arith; held = refl } in (
         ap Ok (sym counted.1 ∙ sym f.1),
         record {
           under = both (IsUnder t) s.reports (reports_among t frames) holds.under

@@ -1,6 +1,8 @@
 -- What a step that joins one slot to another does, new depots and whole runs: for the clauses of
 -- `Depot::step`, `Depot::new` and `Depot::run`.
-use Rattle.std.proofs.Common.{◌≡◌, inl, inr, ℕ, zero, suc, ◌+◌, ◌<◌, ◌^◌, Some, Result, Ok, Err, List, [], ◌∷◌, ◌++◌, length, take, set, get_or, replicate, refl, sym, ap, ◌∙◌, subst, arith, length-append}
+use Rattle.std.proofs.Common.{◌≡◌, inl, inr, ℕ, zero, suc, ◌+◌, ◌<◌, ◌^◌, Some, Result, Ok, Err}
+use Rattle.std.proofs.Common.{List, [], ◌∷◌, ◌++◌, length, take, set, get_or, replicate, refl, sym}
+use Rattle.std.proofs.Common.{ap, ◌∙◌, subst, arith, length-append}
 use Rattle.std.specs.Prelude.{IsErrAnd}
 use Rattle.std.proofs.lemmas.List.{take_more, length-take-le}
 use Rattle.std.proofs.lemmas.Option.{same_Some}
@@ -12,14 +14,17 @@ use Rattle.bufr_message.specs.Reports.{IsUnder}
 use Rattle.bufr_archive.specs.Archives.{ArchiveView, merged}
 use Rattle.bufr_archive.specs.ReportTexts.{archive_of}
 use Rattle.bufr_depot.specs.Slots.{Slot, slot_at, gains_all, new_slot, new_slots}
-use Rattle.bufr_depot.specs.Runs.{new_reports, slot_of, join_answer, joined_with, joined, done, after, answer_of, IsAnswer, Run, after_all}
+use Rattle.bufr_depot.specs.Runs.{new_reports, slot_of, join_answer, joined_with, joined, done}
+use Rattle.bufr_depot.specs.Runs.{after, answer_of, IsAnswer, Run, after_all}
 use Rattle.bufr_depot.specs.Holdings.{Holding, DepotView, HoldsSlot, StandsFor}
-use Rattle.bufr_depot.specs.HeldSteps.{StepDoes, AreThere, IsFirstMissing, IsAsGood, with_merged, TakesIn, IsJoin}
+use Rattle.bufr_depot.specs.HeldSteps.{StepDoes, AreThere, IsFirstMissing, IsAsGood, with_merged}
+use Rattle.bufr_depot.specs.HeldSteps.{TakesIn, IsJoin}
 use Rattle.bufr_depot.specs.declared.steps.Step.{Step}
 use Rattle.bufr_depot.specs.declared.steps.Answer.{Answer}
 use Rattle.bufr_depot.specs.declared.steps.Answer.TheVariants.{Fed, Ended, Joined}
 use Rattle.bufr_depot.specs.declared.steps.StepFault.{StepFault}
-use Rattle.bufr_depot.specs.declared.steps.StepFault.TheVariants.{NoSlot, StreamTooLong, OutOfMemory}
+use Rattle.bufr_depot.specs.declared.steps.StepFault.TheVariants.{NoSlot, StreamTooLong}
+use Rattle.bufr_depot.specs.declared.steps.StepFault.TheVariants.{OutOfMemory}
 use Rattle.bufr_depot.proofs.UnderFacts.{both}
 use Rattle.bufr_depot.proofs.HeldFacts.{zip_at, zip_none, zip_set, archive_joined}
 use Rattle.bufr_depot.proofs.StepFacts.{nothing_gained, runs_join}
@@ -48,7 +53,8 @@ missing_answer : (d : DepotView) (from into i : ℕ) → IsFirstMissing d from i
     → (slots : List Slot) → StandsFor d slots
     → join_answer from into (slot_at slots from) (slot_at slots into) ≡ Err (NoSlot i)
 missing_answer d from into i (inl m) slots z =
-    ap (λ o. join_answer from into o (slot_at slots into)) (zip_none (HoldsSlot d.tables) d.slots slots from z m.1)
+    ap (λ o. join_answer from into o (slot_at slots into))
+    (zip_none (HoldsSlot d.tables) d.slots slots from z m.1)
     ∙ ap (λ n. Err (NoSlot n)) (sym m.0)
 missing_answer d from into i (inr m) slots z =
     let s = zip_at (HoldsSlot d.tables) d.slots slots from m.0 z m.1 in
@@ -109,14 +115,19 @@ joined_stands : (d : DepotView) (from into : ℕ) (there : AreThere d from into)
 joined_stands d from into there a is slots z =
     let s = zip_at (HoldsSlot d.tables) d.slots slots from there.source z there.source_there in
     let t = zip_at (HoldsSlot d.tables) d.slots slots into there.target z there.target_there in
-    let holds : HoldsSlot d.tables (record there.target { archive = a }) (gains_all s.0 t.0) = record {
+    let holds : HoldsSlot d.tables (record there.target { archive = a }) (gains_all s.0 t.0) =
+    record {
       under = both (IsUnder d.tables) t.0.reports s.0.reports t.2.under s.2.under;
       archive = is s.0 t.0 s.2 t.2;
       octets = t.2.octets;
       framer = t.2.framer;
     } in
-    subst (λ o. StandsFor (record d { slots = set d.slots into (record there.target { archive = a }) }) (joined_with o into slots)) (sym s.1)
-    (zip_set d.tables d.slots slots into (record there.target { archive = a }) t.0 (gains_all s.0) z t.1 holds)
+    subst
+    (λ o. StandsFor
+    (record d { slots = set d.slots into (record there.target { archive = a }) })
+    (joined_with o into slots)) (sym s.1)
+    (zip_set d.tables d.slots slots into (record there.target { archive = a }) t.0
+    (gains_all s.0) z t.1 holds)
 
 -- a step that joins is done where the archive then holds what is kept of the reports of both slots
 pub join_done : (d : DepotView) (from into : ℕ) (there : AreThere d from into) (a : ArchiveView)
@@ -142,7 +153,8 @@ pub as_good : (d : DepotView) (source target : Holding) (a : ArchiveView)
     → HoldsSlot d.tables source s → HoldsSlot d.tables target t
     → merged target.archive a ≡ archive_of d.tables (t.reports ++ s.reports)
 as_good d source target a good s t hs ht =
-    let same : a ≡ archive_of d.tables s.reports = good s.reports hs.under hs.archive ∙ hs.archive in
+    let same : a ≡ archive_of d.tables s.reports =
+    good s.reports hs.under hs.archive ∙ hs.archive in
     ap (merged target.archive) same
     ∙ ap (λ (b : ArchiveView). merged b (archive_of d.tables s.reports)) ht.archive
     ∙ archive_joined d.tables t.reports s.reports
@@ -154,16 +166,21 @@ pub took : (d new : DepotView) (from into : ℕ) (there : AreThere d from into) 
     → StepDoes d new step result
 took d new from into there a (Ok Joined) good takes step is =
     let same = same_Some takes.0 there.target (sym takes.1 ∙ there.target_there) in
-    let done = join_done d from into there (merged there.target.archive a) (as_good d there.source there.target a good) step is in
+    let done =
+    join_done d from into there (merged there.target.archive a)
+    (as_good d there.source there.target a good) step is in
     subst (λ n. StepDoes d n step (Ok Joined))
-    (sym (takes.2 ∙ ap (λ (t : Holding). record d { slots = with_merged d.slots into t a }) same)) done
+    (sym
+    (takes.2
+    ∙ ap (λ (t : Holding). record d { slots = with_merged d.slots into t a }) same)) done
 took d new from into there a (Ok (Fed m r c)) good takes step is = absurd takes
 took d new from into there a (Ok (Ended m r c)) good takes step is = absurd takes
 took d new from into there a (Err (NoSlot i)) good takes step is = absurd takes
 took d new from into there a (Err StreamTooLong) good takes step is = absurd takes
 took d new from into there a (Err (OutOfMemory k)) good takes step is =
     subst (λ n. StepDoes d n step (Err (OutOfMemory k))) (sym takes.1)
-    (subst (λ j. StepDoes d d step (Err (OutOfMemory j))) (sym takes.0) (join_ran_out d from into there step is))
+    (subst (λ j. StepDoes d d step (Err (OutOfMemory j))) (sym takes.0)
+    (join_ran_out d from into there step is))
 
 -- ---- new depots
 
@@ -202,7 +219,8 @@ pub record RunSoFar (old new : DepotView) (steps : List Step)
 
 -- of no steps none are done, and the depot is as it was
 pub none_run : (d : DepotView) (steps : List Step) → RunSoFar d d steps [] 0
-none_run d steps = record { tables = refl; count = refl; run = λ slots z. tt; stands = λ slots z. z }
+none_run d steps =
+    record { tables = refl; count = refl; run = λ slots z. tt; stands = λ slots z. z }
 
 -- one step more is done: the answers so far and its own are those of a run of one step more
 pub one_run : (old new next : DepotView) (steps : List Step)
@@ -216,20 +234,25 @@ one_run old new next steps answers i step answer h is s does =
     let counted = s.count in
     let long : length (take i steps) ≡ length answers =
     length-take-le i steps (omega (arith, h)) ∙ sym counted in
-    let turn : (slots : List Slot) → _ = λ slots. runs_join t (take i steps) (step ∷ []) answers (answer ∷ []) slots long in
+    let turn : (slots : List Slot) → _ =
+    λ slots. runs_join t (take i steps) (step ∷ []) answers (answer ∷ []) slots long in
     let one : (slots : List Slot) → StandsFor old slots
     → IsAnswer t step (after_all t (take i steps) answers slots) answer = λ slots z.
     subst (λ u. IsAnswer u step (after_all t (take i steps) answers slots) answer) s.tables
     (does.answer (after_all t (take i steps) answers slots) (s.stands slots z)) in
     let left : (slots : List Slot) → StandsFor old slots
     → StandsFor next (after t step answer (after_all t (take i steps) answers slots)) = λ slots z.
-    subst (λ u. StandsFor next (after u step answer (after_all t (take i steps) answers slots))) s.tables
+    subst
+    (λ u. StandsFor next
+    (after u step answer (after_all t (take i steps) answers slots))) s.tables
     (does.slots (after_all t (take i steps) answers slots) (s.stands slots z)) in
     record {
       tables = does.tables ∙ s.tables;
       count = length-append answers (answer ∷ []) ∙ ap (λ n. n + 1) counted;
       run = λ slots z. subst (λ ss. Run t ss (answers ++ answer ∷ []) slots) (sym more)
           ((turn slots).both (s.run slots z) (one slots z, tt));
-      stands = λ slots z. subst (λ ss. StandsFor next (after_all t ss (answers ++ answer ∷ []) slots)) (sym more)
+      stands =
+          λ slots z. subst (λ ss. StandsFor next (after_all t ss (answers ++ answer ∷ []) slots))
+          (sym more)
           (subst (StandsFor next) (sym (turn slots).left) (left slots z));
     }

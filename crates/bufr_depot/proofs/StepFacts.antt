@@ -1,6 +1,7 @@
 -- A step that ran out, done again, and runs one after another: for `laws::repeated_steps_complete`
 -- and `laws::runs_join`.
-use Rattle.std.proofs.Common.{◌≡◌, ℕ, zero, suc, List, [], ◌∷◌, ◌++◌, take, refl, sym, ap, ◌∙◌, subst, arith}
+use Rattle.std.proofs.Common.{◌≡◌, ℕ, zero, suc, List, [], ◌∷◌, ◌++◌, take, refl, sym, ap, ◌∙◌}
+use Rattle.std.proofs.Common.{subst, arith}
 use Rattle.std.specs.List.{AllZip}
 use Rattle.std.proofs.lemmas.List.{append-nil, take_all}
 use Rattle.bufr_shelves.specs.Keeping.{SameMembers}
@@ -32,21 +33,28 @@ twice_changed (s ∷ slots) (suc i) f g e = (same_slot s, twice_changed slots i 
 -- the first of some reports and then all of them are all of them
 again_within : (k : ℕ) (xs new : Reports) → SameMembers ((xs ++ take k new) ++ new) (xs ++ new)
 again_within k xs new = (
-  Within-append (xs ++ take k new) new (xs ++ new) (Within-append xs (take k new) (xs ++ new) (Has-left xs new) (λ x m. Has-right xs new x (taken_within k new x m))) (Has-right xs new),
-  Within-append xs new ((xs ++ take k new) ++ new) (λ x m. Has-left (xs ++ take k new) new x (Has-left xs (take k new) x m)) (Has-right (xs ++ take k new) new),
+  Within-append (xs ++ take k new) new (xs ++ new)
+      (Within-append xs (take k new) (xs ++ new) (Has-left xs new)
+      (λ x m. Has-right xs new x (taken_within k new x m))) (Has-right xs new),
+  Within-append xs new ((xs ++ take k new) ++ new)
+      (λ x m. Has-left (xs ++ take k new) new x (Has-left xs (take k new) x m))
+      (Has-right (xs ++ take k new) new),
 )
 
 -- no reports change nothing
 pub nothing_gained : (slots : List Slot) (i : ℕ) (none : Slot → Reports)
     → ((s : Slot) → none s ≡ []) → changed_at slots i (λ s. gains (none s) s) ≡ slots
 nothing_gained [] i none e = refl
-nothing_gained (s ∷ slots) zero none e = ap (λ t. t ∷ slots) (ap (λ rs. gains rs s) (e s) ∙ ap (λ rs. record s { reports = rs }) (append-nil s.reports))
+nothing_gained (s ∷ slots) zero none e =
+    ap (λ t. t ∷ slots)
+    (ap (λ rs. gains rs s) (e s) ∙ ap (λ rs. record s { reports = rs }) (append-nil s.reports))
 nothing_gained (s ∷ slots) (suc i) none e = ap (λ ts. s ∷ ts) (nothing_gained slots i none e)
 
 -- a join done again
 join_again : (from into k : ℕ) (slots : List Slot)
     → AllZip SameSlot
-    (joined from into (changed_at slots into (λ s. gains (take k (let none : Reports = [] in none)) s)))
+    (joined from into
+    (changed_at slots into (λ s. gains (take k (let none : Reports = [] in none)) s)))
     (joined from into slots)
 join_again from into k slots =
     let gained = nothing_gained slots into (λ s. take k []) (λ s. take_all k [] (omega arith)) in
@@ -55,17 +63,42 @@ join_again from into k slots =
 
 -- each step that ran out, done again, leaves what it leaves at once
 pub repeat_completes : (tables : Entries) → RepeatCompletes tables
-repeat_completes tables (Feed i piece) slots k a b = twice_changed slots i _ _ (λ s. record { reports = again_within k s.reports (new_reports tables (Feed i piece) s); ended = refl; open_stream = refl })
-repeat_completes tables (End i) slots k a b = twice_changed slots i _ _ (λ s. record { reports = again_within k s.reports (new_reports tables (End i) s); ended = refl; open_stream = refl })
+repeat_completes tables (Feed i piece) slots k a b =
+    twice_changed slots i _ _
+    (λ s.
+    record {
+      reports = again_within k s.reports
+          (new_reports tables (Feed i piece) s);
+      ended = refl;
+      open_stream = refl;
+    })
+repeat_completes tables (End i) slots k a b =
+    twice_changed slots i _ _
+    (λ s.
+    record {
+      reports = again_within k s.reports
+          (new_reports tables (End i) s);
+      ended = refl;
+      open_stream = refl;
+    })
 repeat_completes tables (Merge from into) slots k a b = join_again from into k slots
 repeat_completes tables (Transfer from into) slots k a b = join_again from into k slots
 repeat_completes tables (Copy from into) slots k a b = join_again from into k slots
 
 -- a run parted anywhere is the first run and then the second, and leaves what these leave
 pub runs_join : (tables : Entries) → RunsJoin tables
-runs_join tables [] more [] others slots l = record { first = λ r. tt; second = λ r. r; both = λ p q. q; left = refl }
+runs_join tables [] more [] others slots l =
+    record { first = λ r. tt; second = λ r. r; both = λ p q. q; left = refl }
 runs_join tables [] more (answer ∷ answers) others slots l = cc
 runs_join tables (step ∷ steps) more [] others slots l = cc
 runs_join tables (step ∷ steps) more (answer ∷ answers) others slots l =
-    let r = runs_join tables steps more answers others (after tables step answer slots) (omega (arith, l)) in
-    record { first = λ h. (h.0, r.first h.1); second = λ h. r.second h.1; both = λ p q. (p.0, r.both p.1 q); left = r.left }
+    let r =
+    runs_join tables steps more answers others (after tables step answer slots)
+    (omega (arith, l)) in
+    record {
+      first = λ h. (h.0, r.first h.1);
+      second = λ h. r.second h.1;
+      both = λ p q.
+          (p.0, r.both p.1 q);
+      left = r.left;
+    }

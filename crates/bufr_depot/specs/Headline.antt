@@ -22,7 +22,8 @@ use Rattle.bufr_depot.specs.declared.steps.Step.{Step}
 use Rattle.bufr_depot.specs.declared.steps.Step.TheVariants.{Feed, End, Merge, Transfer, Copy}
 use Rattle.bufr_depot.specs.declared.steps.Answer.{Answer}
 use Rattle.bufr_depot.specs.declared.steps.StepFault.{StepFault}
-use Rattle.bufr_depot.specs.declared.steps.StepFault.TheVariants.{NoSlot, StreamTooLong, OutOfMemory}
+use Rattle.bufr_depot.specs.declared.steps.StepFault.TheVariants.{NoSlot, StreamTooLong}
+use Rattle.bufr_depot.specs.declared.steps.StepFault.TheVariants.{OutOfMemory}
 
 -- ---- a run of a new depot, as the clauses of `Depot::new` and `Depot::run` tell it
 

@@ -1,5 +1,6 @@
 -- What a step does to what a depot holds, for the functions that do it.
-use Rattle.std.specs.Prelude.{◌≡◌, ◌⊎◌, ℕ, ◌+◌, ◌-◌, ◌^◌, ◌<◌, ◌≤◌, Some, None, Result, Ok, Err, List, ◌++◌, length, drop, set, slice_get}
+use Rattle.std.specs.Prelude.{◌≡◌, ◌⊎◌, ℕ, ◌+◌, ◌-◌, ◌^◌, ◌<◌, ◌≤◌, Some, None, Result, Ok, Err}
+use Rattle.std.specs.Prelude.{List, ◌++◌, length, drop, set, slice_get}
 use Rattle.std.specs.List.{AllByRecursion}
 use Rattle.bufr_tables.specs.Entries.{Entries}
 use Rattle.bufr_frame.specs.declared.frames.Found.{Found}
@@ -8,7 +9,8 @@ use Rattle.bufr_frame.specs.Looks.{new_framing}
 use Rattle.bufr_frame.specs.Streams.{sure, cut, Stands}
 use Rattle.bufr_frame.specs.Takings.{StandsWithAll}
 use Rattle.bufr_message.specs.declared.report.Report.{Report}
-use Rattle.bufr_archive.specs.Archives.{ArchiveView, taken_in, merged, entries_of, count_changes, AddsFirst, IsKept}
+use Rattle.bufr_archive.specs.Archives.{ArchiveView, taken_in, merged, entries_of, count_changes}
+use Rattle.bufr_archive.specs.Archives.{AddsFirst, IsKept}
 use Rattle.bufr_archive.specs.ReportEntries.{report_entries, AreUnder}
 use Rattle.bufr_archive.specs.ReportTexts.{archive_of}
 use Rattle.bufr_sections.specs.Sections.{AreOctets}
@@ -22,7 +24,8 @@ use Rattle.bufr_depot.specs.declared.steps.Step.TheVariants.{Feed, End, Merge, T
 use Rattle.bufr_depot.specs.declared.steps.Answer.{Answer}
 use Rattle.bufr_depot.specs.declared.steps.Answer.TheVariants.{Fed, Ended, Joined}
 use Rattle.bufr_depot.specs.declared.steps.StepFault.{StepFault}
-use Rattle.bufr_depot.specs.declared.steps.StepFault.TheVariants.{NoSlot, StreamTooLong, OutOfMemory}
+use Rattle.bufr_depot.specs.declared.steps.StepFault.TheVariants.{NoSlot, StreamTooLong}
+use Rattle.bufr_depot.specs.declared.steps.StepFault.TheVariants.{OutOfMemory}
 
 -- ---- frames added to an archive
 

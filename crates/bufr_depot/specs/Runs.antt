@@ -1,18 +1,21 @@
 -- What each step brings, leaves and answers, and the run of a depot.
-use Rattle.std.specs.Prelude.{◌≡◌, ℕ, ◌+◌, ◌-◌, ◌^◌, ◌≤◌, Bool, nat_lt, if◌then◌else◌, Option, Some, None, Result, Ok, Err, List, [], ◌∷◌, ◌++◌, length, take, drop}
+use Rattle.std.specs.Prelude.{◌≡◌, ℕ, ◌+◌, ◌-◌, ◌^◌, ◌≤◌, Bool, nat_lt, if◌then◌else◌, Option, Some}
+use Rattle.std.specs.Prelude.{None, Result, Ok, Err, List, [], ◌∷◌, ◌++◌, length, take, drop}
 use Rattle.bufr_frame.specs.declared.frames.Found.{Found}
 use Rattle.bufr_frame.specs.Streams.{cut, sure}
 use Rattle.bufr_tables.specs.Entries.{Entries}
 use Rattle.bufr_message.specs.declared.report.Report.{Report}
 use Rattle.bufr_archive.specs.Archives.{entries_of, count_changes}
 use Rattle.bufr_archive.specs.ReportEntries.{report_entries}
-use Rattle.bufr_depot.specs.Slots.{reports_among, count_messages, count_refused, Slot, slot_at, changed_at, gains, gains_all}
+use Rattle.bufr_depot.specs.Slots.{reports_among, count_messages, count_refused, Slot, slot_at}
+use Rattle.bufr_depot.specs.Slots.{changed_at, gains, gains_all}
 use Rattle.bufr_depot.specs.declared.steps.Step.{Step}
 use Rattle.bufr_depot.specs.declared.steps.Step.TheVariants.{Feed, End, Merge, Transfer, Copy}
 use Rattle.bufr_depot.specs.declared.steps.Answer.{Answer}
 use Rattle.bufr_depot.specs.declared.steps.Answer.TheVariants.{Fed, Ended, Joined}
 use Rattle.bufr_depot.specs.declared.steps.StepFault.{StepFault}
-use Rattle.bufr_depot.specs.declared.steps.StepFault.TheVariants.{NoSlot, StreamTooLong, OutOfMemory}
+use Rattle.bufr_depot.specs.declared.steps.StepFault.TheVariants.{NoSlot, StreamTooLong}
+use Rattle.bufr_depot.specs.declared.steps.StepFault.TheVariants.{OutOfMemory}
 
 -- ---- what a step brings
 

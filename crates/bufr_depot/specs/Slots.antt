@@ -1,5 +1,6 @@
 -- What the slots of a depot have taken in, and what streams tell.
-use Rattle.std.specs.Prelude.{ℕ, zero, suc, Bool, not, is_ok, Option, List, [], ◌∷◌, ◌++◌, count_by, map, replicate, slice_get}
+use Rattle.std.specs.Prelude.{ℕ, zero, suc, Bool, not, is_ok, Option, List, [], ◌∷◌, ◌++◌, count_by}
+use Rattle.std.specs.Prelude.{map, replicate, slice_get}
 use Rattle.std.specs.List.{flat_map}
 use Rattle.bufr_tables.specs.Entries.{Entries}
 use Rattle.bufr_frame.specs.declared.frames.Found.{Found}

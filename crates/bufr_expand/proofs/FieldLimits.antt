@@ -207,14 +207,16 @@ factors_asked tables s r list t (text_first {rest} f x y behind) =
     factors_asked tables s r _ rest behind
 factors_asked tables s r list t (width_first {rest} f x y l h behind) =
     factors_asked tables s r _ rest behind
-factors_asked tables s r list t (sequence_first {sequences = below} {inner} {rest} f k first behind) =
+factors_asked tables s r list t
+    (sequence_first {sequences = below} {inner} {rest} f k first behind) =
     factors_behind CanBeAsked inner rest (factors_asked tables below r _ inner first)
     (factors_asked tables s r _ rest behind)
 factors_asked tables s r list t (repeated_first {replications = below} {inner}
     {rest} f x y size first behind) =
     (factors_asked tables s below _ inner first, factors_asked tables s r _ rest behind)
 factors_asked tables s r list t
-    (delayed_first {replications = below} {row = e} {inner} {rest} f x y i k count size first behind) = (
+    (delayed_first {replications = below} {row = e} {inner} {rest} f x y i k count size first
+    behind) = (
       factor_asked e count,
       factors_asked tables s below _ inner first,
       factors_asked tables s r _ rest behind,

@@ -18,7 +18,8 @@ use Rattle.bufr_expand.specs.declared.node.TemplateFault.{TemplateFault}
 use Rattle.bufr_expand.specs.declared.node.TemplateFault.TheVariants.{TooDeep, TooManyNodes}
 use Rattle.bufr_expand.specs.Expansion.{Expansion, Deeper, FirstPart, Part, single, inner}
 use Rattle.bufr_expand.specs.Expansion.{replication, text_of_characters, found, found_at}
-use Rattle.bufr_expand.specs.Expansion.{part_nodes, single_nodes, replication_nodes, replication_node, expand_list}
+use Rattle.bufr_expand.specs.Expansion.{part_nodes, single_nodes, replication_nodes}
+use Rattle.bufr_expand.specs.Expansion.{replication_node, expand_list}
 use Rattle.bufr_expand.specs.Expansion.{expand_within, expansion}
 use Rattle.bufr_expand.specs.Trees.{Tree, nodes_of}
 use Rattle.bufr_expand.specs.Flat.{Flat, nothing, element_first, operator_first, text_first}
@@ -303,14 +304,16 @@ first_fault_expands tables s r used list f
     (replication o.0 body) TooManyNodes o.1
     (cond-false (ltb used most_nodes) _ _ (le-ltb used most_nodes full))
 first_fault_expands tables s r used list f (in_sequence front h) zero deep = absurd (omega arith)
-first_fault_expands tables s r used list f (in_sequence {sequences = below} {inside} {behind} front h)
+first_fault_expands tables s r used list f
+    (in_sequence {sequences = below} {inside} {behind} front h)
     (suc levels) deep =
     fault_in_front tables (expand_within (suc levels) tables) (suc below) r used list behind
     (inner inside) f (sequence_opens tables list inside behind front)
     (first_fault_expands tables below r used inside f h levels (omega arith))
 first_fault_expands tables s r used list f (in_replication front low h) zero deep =
     absurd (omega arith)
-first_fault_expands tables s r used list f (in_replication {replications = below} {body} {behind} front low h)
+first_fault_expands tables s r used list f
+    (in_replication {replications = below} {body} {behind} front low h)
     (suc levels) deep =
     let o = replication_opens tables list body behind front in
     fault_in_front tables (expand_within (suc levels) tables) s (suc below) used list behind

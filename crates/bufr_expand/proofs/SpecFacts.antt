@@ -7,7 +7,8 @@ use Rattle.std.proofs.Common.{refl, sym, ap, ◌∙◌, subst, inl, inr}
 use Rattle.std.specs.Prelude.{◌↔◌}
 use Rattle.std.specs.Bool.{Decides}
 use Rattle.std.specs.Int.RustNames.{unsigned_abs}
-use Rattle.std.proofs.lemmas.Bool.{leb-true, le-leb, eq-eqb, ne_eqb, cases_eq, cond-true, cond-false}
+use Rattle.std.proofs.lemmas.Bool.{leb-true, le-leb, eq-eqb, ne_eqb, cases_eq, cond-true}
+use Rattle.std.proofs.lemmas.Bool.{cond-false}
 use Rattle.std.proofs.lemmas.Bool.Decides.{Decides-and, Decides-eqb}
 use Rattle.std.proofs.lemmas.Option.{cond_some}
 use Rattle.bufr_tables.specs.declared.element.Element.{Element}
@@ -290,7 +291,8 @@ kind_cases : (k : Kind) (d : ℕ) → (k ≡ kinds.Text)
     ⊎ ((k ≡ kinds.Text → ⊥) × (k ≡ kinds.Quantity → x_of d ≡ 31))
 kind_cases kinds.Text d = inl refl
 kind_cases kinds.Quantity d =
-    elim (cases_eq (x_of d) 31) [ inl e ↦ inr (inr (λ k. cc, λ k. e)) | inr n ↦ inr (inl (refl, n)) ]
+    elim (cases_eq (x_of d) 31)
+    [ inl e ↦ inr (inr (λ k. cc, λ k. e)) | inr n ↦ inr (inl (refl, n)) ]
 kind_cases _ d = inr (inr (λ k. cc, λ k. cc))
 
 -- a quantity outside class 31

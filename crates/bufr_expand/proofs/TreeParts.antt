@@ -72,7 +72,8 @@ turns_then_kept : (Holds : OfPart) → IsKept Holds → (times : ℕ) (body rest
 turns_then_kept Holds kept times body rest h g =
     kept.of_first (Turns times (Unroll body)) (Unroll rest)
     (TurnsBegin times (Unroll body) (Begins body)) (Begins rest) (turns times (course_then body))
-    (course_then rest) (turns_kept Holds kept times (Unroll body) (Begins body) (course_then body) h)
+    (course_then rest)
+    (turns_kept Holds kept times (Unroll body) (Begins body) (course_then body) h)
     g
 
 -- a factor has its one spec

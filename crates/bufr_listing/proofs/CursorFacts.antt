@@ -23,7 +23,8 @@ pub end_found : (text : List ℕ) (k : ℕ) → IsFirstByte (is_byte 10) text (S
     → (line_end text ≡ k) × (k < length text)
 end_found text k h = (
   position_or_len_is (λ b. b == 10) text k 0 (omega (arith, h.0.high))
-      (λ i lt. false_from_ne_true (get_or text i 0 == 10) (h.0.before i (omega arith) lt)) (λ lt. h.1),
+      (λ i lt. false_from_ne_true (get_or text i 0 == 10) (h.0.before i (omega arith) lt))
+      (λ lt. h.1),
   h.0.high,
 )
 

@@ -33,7 +33,8 @@ pub descriptors_found : DescriptorTexts → (ws : List (List ℕ)) (ds : List �
     ≡ Some ds → DescriptorsFound ws ds
 unfolding descriptors_of
 descriptors_found law [] ds h =
-    subst (λ xs. DescriptorsFound [] xs) (same_Some [] ds h) (record { texts = refl; values = refl })
+    subst (λ xs. DescriptorsFound [] xs) (same_Some [] ds h)
+    (record { texts = refl; values = refl })
 descriptors_found law (w ∷ ws) ds h =
     let p = onto_taken (of_text w) (descriptors_of ws) ds h in
     let own = (law w p.0).0 p.2 in
@@ -80,7 +81,8 @@ untitled_descriptors tables n text other =
 plain_line : (text : List ℕ) (ws : List (List ℕ)) → words_of text ≡ codes "descriptors" ∷ ws
     → as_printed text ≡ text
 plain_line text ws e =
-    own_printed text (title_octets text (codes "descriptors") false (ap (λ us. get_or us 0 []) e) refl)
+    own_printed text
+    (title_octets text (codes "descriptors") false (ap (λ us. get_or us 0 []) e) refl)
 
 -- a word that is no descriptor
 pub descriptors_are_not : DescriptorTexts → (tables : Entries) (n : ℕ) (text : List ℕ)

@@ -151,7 +151,8 @@ follows laws tree used past before (stops n TooLarge) rest fault le after h =
 follows laws tree used past before (stops n (EffectiveRange d)) rest fault le after h =
     no_spec d n ((laws.courses.lacking tree used (map told_of before) n d le).0 after) h
 follows laws tree used past before (asks met d spec more) rest fault le after h =
-    unfit d met spec ((laws.courses.asked tree used (map told_of before) met d spec le).0 (more, after)) h
+    unfit d met spec
+    ((laws.courses.asked tree used (map told_of before) met d spec le).0 (more, after)) h
 
 -- the first fault of a subset's fields
 pub fields_fault : FaultLaws → (tree : Tree) (used past : ℕ) (ls : List Line)

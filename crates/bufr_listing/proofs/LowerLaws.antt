@@ -13,7 +13,8 @@ use Rattle.bufr_data.specs.Laws.{AllCountedFit, AllFittingAreCounted}
 
 -- a text is read as a descriptor exactly where it is what the descriptor prints
 abbrev pub DescriptorTexts : Type 0
-DescriptorTexts = (text : List ℕ) (d : ℕ) → ((of_text text ≡ Some d) ↔ ((d < 2 ^ 16) × (text ≡ six_digits d)))
+DescriptorTexts =
+    (text : List ℕ) (d : ℕ) → ((of_text text ≡ Some d) ↔ ((d < 2 ^ 16) × (text ≡ six_digits d)))
 
 -- each field that a course asks for is in range
 abbrev pub FieldsAreInRange : Type 0

@@ -199,13 +199,15 @@ message_is tables past ls l1 l2 l3 l4 l5 h two flags list subsets a b c d s =
 -- ---- messages
 
 -- whether there is a next line
-pub some_next : (ls : List Line) (o : Option TextLine) → IsNextLine ls o → is_some o ≡ true → ls ≡ []
+pub some_next : (ls : List Line) (o : Option TextLine) → IsNextLine ls o → is_some o ≡ true → ls
+    ≡ []
     → ⊥
 some_next ls None next h none = cc h
 some_next ls (Some l) next h none = let e : printed l ∷ next.0 ≡ [] = sym next.1 ∙ none in cc e
 
 -- no line comes next, no line is left
-pub none_next : (ls : List Line) (o : Option TextLine) → IsNextLine ls o → is_some o ≡ false → ls ≡ []
+pub none_next : (ls : List Line) (o : Option TextLine) → IsNextLine ls o → is_some o ≡ false → ls
+    ≡ []
 none_next ls None next h = next
 none_next ls (Some l) next h = absurd cc
 
@@ -253,7 +255,8 @@ pub message_behind : (tables : Entries) (past : ℕ) (ls : List Line) (x : Messa
     → message_read tables past ls ≡ Ok x → IsBehind ls x.1
 message_behind tables past ls x h =
     let p = message_parts tables past ls x h in
-    then_behind ls p.begin.1 x.1 (line_behind (read_word (codes "message")) past ls p.begin p.begins)
+    then_behind ls p.begin.1 x.1
+    (line_behind (read_word (codes "message")) past ls p.begin p.begins)
     (behind_begin tables past ls x p)
 
 -- behind a message there are fewer lines

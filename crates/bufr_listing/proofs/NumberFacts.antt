@@ -56,7 +56,8 @@ word_taken : (limit : ℕ) (w : List ℕ) (n : ℕ) → number_below limit w ≡
 word_taken limit w n h = below_by limit w n (decimal_of (pos 0) w) (decimal_found (pos 0) w) h
 
 -- a number below its limit is read of what it prints
-word_back : (limit n : ℕ) → limit ≤ two_octets → nat_lt n limit ≡ true → number_below limit (decimal n)
+word_back : (limit n : ℕ) → limit ≤ two_octets → nat_lt n limit ≡ true
+    → number_below limit (decimal n)
     ≡ Some n
 word_back limit n most h =
     let small = ltb-true n limit h in
@@ -130,7 +131,8 @@ untitled_numbers title limits n text word other =
 
 -- the numbers of a line that begins with the title
 pub numbers_are : (title limits : List ℕ) (n : ℕ) (text : List ℕ) (ws : List (List ℕ))
-    (ns : List ℕ) → IsWord title → AllByRecursion (λ l. l ≤ two_octets) limits → has_octets title ≡ false
+    (ns : List ℕ) → IsWord title → AllByRecursion (λ l. l ≤ two_octets) limits → has_octets title
+    ≡ false
     → words_of text ≡ title ∷ ws → numbers_of limits ws ≡ Some ns → read_numbers title limits n
     (as_printed text) ≡ Ok ns
 numbers_are title limits n text ws ns word most plain e h =

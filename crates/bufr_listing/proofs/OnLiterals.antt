@@ -15,6 +15,7 @@ use Rattle.bufr_listing.specs.Reading.{messages_read}
 -- opens them
 unfoldable pub listings_on_literals : Unit {0}
 unfolding at expand_list expand_within tree_within turns course_then counting_from are_below
-    unquoted fields_read subsets_read message_read messages_read heading_lines lines_of listing of_text
+    unquoted fields_read subsets_read message_read messages_read heading_lines lines_of listing
+    of_text
     encode_with decode_pairs digits
 listings_on_literals = tt

@@ -155,7 +155,8 @@ front_is (x ∷ behind) rest c h =
           elim (cases_Bool (is_plain x)) [
             | inl p ↦
                 let own : first_octet (x ∷ behind) ≡ Some (x, behind) = rw (p, e) refl in
-                let same : (x, behind) ≡ (c, rest) = same_Some (x, behind) (c, rest) (sym own ∙ h) in
+                let same : (x, behind) ≡ (c, rest) =
+                same_Some (x, behind) (c, rest) (sym own ∙ h) in
                 let printed : quoted_octet x ≡ x ∷ [] = rw p refl in
                 subst (λ (y : ℕ × List ℕ). OctetFront (x ∷ behind) y.0 y.1) same
                 (record { small = plain_small x p; front = ap (λ ds. ds ++ behind) printed })

@@ -99,7 +99,8 @@ behind_fields_fails past (stops n w) (f ∷ fields) next own rest fault fit pass
     absurd passed
 behind_fields_fails past (asks met d spec more) (f ∷ fields) next [] rest fault fit passed e h =
     absurd cc
-behind_fields_fails past (asks met d spec more) (f ∷ fields) next (l ∷ own) rest fault fit passed e h =
+behind_fields_fails past (asks met d spec more) (f ∷ fields) next
+    (l ∷ own) rest fault fit passed e h =
     let first : l.text ≡ field_line f = ap (λ xs. get_or xs 0 []) e in
     let reads : read_field d spec l.number l.text ≡ Ok f =
     subst (λ (t : List ℕ). read_field d spec l.number t ≡ Ok f) (sym first)
@@ -278,9 +279,11 @@ behind_subsets_fails laws left past j tree used items [] (l ∷ own) rest fault 
     absurd cc
 behind_subsets_fails laws left past j tree used items (s ∷ before) [] rest fault few le fit e h =
     absurd cc
-behind_subsets_fails laws zero past j tree used items (s ∷ before) (l ∷ own) rest fault few le fit e h =
+behind_subsets_fails laws zero past j tree used items (s ∷ before)
+    (l ∷ own) rest fault few le fit e h =
     absurd (omega (arith, few))
-behind_subsets_fails laws (suc left) past j tree used items (s ∷ before) (l ∷ own) rest fault few le fit e h =
+behind_subsets_fails laws (suc left) past j tree used items (s ∷ before)
+    (l ∷ own) rest fault few le fit e h =
     let title : l.text ≡ codes "subset" = ap (λ xs. get_or xs 0 []) e in
     let no_end : bytes_eq l.text (codes "end") ≡ false =
     subst (λ (t : List ℕ). bytes_eq t (codes "end") ≡ false) (sym title) refl in

@@ -1,5 +1,5 @@
--- The lines of a heading are read, and the first that could not stand is the one that reading refuses:
--- the other way round than FaultHeadings. For the first faults of listings
+-- The lines of a heading are read, and the first that could not stand is the one that reading
+-- refuses: the other way round than FaultHeadings. For the first faults of listings
 -- (`faults_of_listings_are_the_first`, clause `answered`), and for messages that are read of their
 -- lines (`listings_list_messages`).
 use Rattle.std.proofs.Common.{◌≡◌, inl, inr, ℕ, ◌<◌, true, false, List, [], ◌∷◌}
@@ -301,7 +301,8 @@ local_passed own rest (x ∷ xs) more octets other e =
       found = Some (x ∷ xs);
       is = refl;
       passed =
-          present_passed (codes "local1") read_local own rest (octets_line (codes "local1") (x ∷ xs))
+          present_passed (codes "local1") read_local own rest
+          (octets_line (codes "local1") (x ∷ xs))
           more (x ∷ xs) refl (λ n. local_back n x xs octets) e;
     }
 

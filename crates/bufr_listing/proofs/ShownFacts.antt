@@ -164,7 +164,8 @@ digit_shown : (k : ℕ) → k < 16 → (32 ≤ slice_index lower_digits k)
     × (lower_digit (slice_index lower_digits k) ≡ slice_index lower_digits k)
 digit_shown k few =
     let c = slice_index lower_digits k in
-    let p = and_parts (nat_le 32 c) (lower_digit c == c) (passes_at is_lower lower_digits k refl few) in
+    let p =
+    and_parts (nat_le 32 c) (lower_digit c == c) (passes_at is_lower lower_digits k refl few) in
     (leb-true 32 c p.0, eqb-true (lower_digit c) c p.1)
 
 -- the digits of octets are
@@ -387,7 +388,8 @@ fields_shown j i (ends m) (f ∷ fields) n fit h = absurd cc
 fields_shown j i (stops met fault) fields n fit h = absurd cc
 fields_shown j i (asks met d spec more) [] n fit h = absurd cc
 fields_shown j i (asks met d spec more) (f ∷ fields) n fit h =
-    let p = if_answered (stands_for d spec f) (items_of j (i + 1) (more (number_of f.raw)) fields) _ n
+    let p =
+    if_answered (stands_for d spec f) (items_of j (i + 1) (more (number_of f.raw)) fields) _ n
     h in (
       asked_shown d spec f fit.0 p.0,
       fields_shown j (i + 1) (more (number_of f.raw)) fields n
@@ -413,7 +415,8 @@ subsets_shown j used course (s ∷ subsets) n fit h =
 -- a line of numbers is plain
 short_plain : (title ns : List ℕ) → list_all (λ c. nat_le 32 c) title ≡ true
     → AllByRecursion (λ n. n < 2 ^ 16) ns → IsPlain (numbers_line title ns)
-short_plain title ns literal small = all_append Printable title (flat_map (λ w. 32 ∷ w) (map decimal ns))
+short_plain title ns literal small =
+    all_append Printable title (flat_map (λ w. 32 ∷ w) (map decimal ns))
     (literal_plain title literal) (plain_words (map decimal ns) (decimals_plain ns small))
 
 -- a number of 8 bits has 16
@@ -516,8 +519,10 @@ message_shown laws tables m can =
     (laws.counted can.tree 1 0 can.items m.subsets can.fit) in
     let last : IsShown end_line =
     record { plain = literal_plain end_line refl; kept = refl; own = refl } in
-    all_append IsShown (heading_lines (heading_of m) ++ flat_map subset_lines m.subsets) (end_line ∷ [])
-    (all_append IsShown (heading_lines (heading_of m)) (flat_map subset_lines m.subsets) heading subsets)
+    all_append IsShown (heading_lines (heading_of m) ++ flat_map subset_lines m.subsets)
+    (end_line ∷ [])
+    (all_append IsShown (heading_lines (heading_of m))
+    (flat_map subset_lines m.subsets) heading subsets)
     (last, tt)
 
 -- the lines of messages

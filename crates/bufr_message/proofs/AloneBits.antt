@@ -1,6 +1,7 @@
--- The bits of a subset counted field by field: for whether a subset can be said alone, which `decode`
--- and `view` test.
-use Rattle.std.proofs.Common.{◌≡◌, ℕ, ◌+◌, ◌<◌, ◌≤◌, false, List, [], ◌∷◌, length, take, drop, get_or, sym, ap, ◌∙◌, arith, length-append}
+-- The bits of a subset counted field by field: for whether a subset can be said alone, which
+-- `decode` and `view` test.
+use Rattle.std.proofs.Common.{◌≡◌, ℕ, ◌+◌, ◌<◌, ◌≤◌, false, List, [], ◌∷◌, length, take, drop}
+use Rattle.std.proofs.Common.{get_or, sym, ap, ◌∙◌, arith, length-append}
 use Rattle.std.specs.Prelude.{nat_le}
 use Rattle.std.proofs.lemmas.Bool.{lt-leb}
 use Rattle.std.proofs.lemmas.List.{take_more, take-append-drop}

@@ -1,5 +1,6 @@
 -- Data bits in whole octets: for the octets behind the fourth of section 4 that `encode` writes.
-use Rattle.std.proofs.Common.{◌≡◌, ℕ, ◌+◌, ◌-◌, ◌*◌, ◌<◌, ◌%◌, ◌/◌, Bool, false, get_or, replicate, List, [], length, Result, refl, ap, arith}
+use Rattle.std.proofs.Common.{◌≡◌, ℕ, ◌+◌, ◌-◌, ◌*◌, ◌<◌, ◌%◌, ◌/◌, Bool, false, get_or, replicate}
+use Rattle.std.proofs.Common.{List, [], length, Result, refl, ap, arith}
 use Rattle.std.proofs.lemmas.List.{length-append, length-replicate, append-nil}
 use Rattle.bufr_bits.specs.Bits.{bits}
 use Rattle.bufr_bits.specs.OctetLaws.{length-bits, numbers-bits}

@@ -1,6 +1,7 @@
 -- Octets are refused for the first cause in the order of the sections, the descriptors and the
 -- data: for the laws on refusals of octets.
-use Rattle.std.proofs.Common.{◌≡◌, ℕ, ◌/◌, Bool, true, false, cond, List, length, Result, Ok, Err, refl, ap, subst, ◌∙◌, inl, inr}
+use Rattle.std.proofs.Common.{◌≡◌, ℕ, ◌/◌, Bool, true, false, cond, List, length, Result, Ok, Err}
+use Rattle.std.proofs.Common.{refl, ap, subst, ◌∙◌, inl, inr}
 use Rattle.std.proofs.lemmas.Bool.{not-true}
 use Rattle.std.proofs.lemmas.Bool.Decides.{not_from_Decides, Decides-not}
 use Rattle.bufr_bits.specs.Bits.{bits}
@@ -49,51 +50,63 @@ data_fault : Below
     → (tables : Entries) (octets : List ℕ) (fault : Refused) (e : Envelope) (tree : Tree)
     → HasSections octets e → IsTreeOf tables e.descriptors tree → read e tree ≡ Err fault
     → IsFirstFault tables octets fault
-data_fault below tables octets fault e tree has built refused = elim (bind_err (data_or (subsets_in tree e.compressed e.count (bits e.contents))) (ended e) fault refused) [
-  | inl not_so ↦
-      let found = subsets_in tree e.compressed e.count (bits e.contents) in
-      let d = step_refuses data_passes found fault not_so in
-      let first = (below.unread tree e.compressed e.count (bits e.contents) d.0).0 d.1 in
-      subst (IsFirstFault tables octets) d.2 (e, tree, has, built, inl first)
-  | inr found ↦
-      let told : Decoded = record { message = message_with e found.0.0; slack_octets = length found.0.1 / 8 } in
-      let test = not_passed (can_be_alone e.descriptors found.0.0) told (Data TooLarge) fault found.2 in
-      let held = subsets_in tree e.compressed e.count (bits e.contents) in
-      let read = step_takes data_passes held found.0 found.1 in
-      let begins = (below.reads tree e.compressed e.count (bits e.contents) found.0).0 read in
-      let none = not_from_Decides _ (alone_is_tested e.descriptors found.0.0) test.0 in
-      subst (IsFirstFault tables octets) test.1 (e, tree, has, built, inr (refl, found.0, begins, none))
-]
+data_fault below tables octets fault e tree has built refused =
+    elim
+    (bind_err (data_or (subsets_in tree e.compressed e.count (bits e.contents)))
+    (ended e) fault refused) [
+      | inl not_so ↦
+          let found = subsets_in tree e.compressed e.count (bits e.contents) in
+          let d = step_refuses data_passes found fault not_so in
+          let first = (below.unread tree e.compressed e.count (bits e.contents) d.0).0 d.1 in
+          subst (IsFirstFault tables octets) d.2 (e, tree, has, built, inl first)
+      | inr found ↦
+          let told : Decoded =
+          record { message = message_with e found.0.0; slack_octets = length found.0.1 / 8 } in
+          let test =
+          not_passed (can_be_alone e.descriptors found.0.0) told (Data TooLarge) fault found.2 in
+          let held = subsets_in tree e.compressed e.count (bits e.contents) in
+          let read = step_takes data_passes held found.0 found.1 in
+          let begins = (below.reads tree e.compressed e.count (bits e.contents) found.0).0 read in
+          let none = not_from_Decides _ (alone_is_tested e.descriptors found.0.0) test.0 in
+          subst (IsFirstFault tables octets) test.1
+          (e, tree, has, built, inr (refl, found.0, begins, none))
+    ]
 
 -- a fault of the descriptors is the first
 tree_fault : Below → (tables : Entries) (octets : List ℕ) (fault : Refused) (e : Envelope)
     → HasSections octets e → (template_or (template tables e.descriptors) >>= read e) ≡ Err fault
     → IsFirstFault tables octets fault
-tree_fault below tables octets fault e has refused = elim (bind_err (template_or (template tables e.descriptors)) (read e) fault refused) [
-  | inl not_so ↦
-      let t = step_refuses template_passes (template tables e.descriptors) fault not_so in
-      subst (IsFirstFault tables octets) t.2 (e, has, (below.refuses tables e.descriptors t.0).0 t.1)
-  | inr tree ↦
-      let expanded = template tables e.descriptors in
-      let built = (below.builds tables e.descriptors tree.0).0
-      (step_takes template_passes expanded tree.0 tree.1) in
-      data_fault below tables octets fault e tree.0 has built tree.2
-]
+tree_fault below tables octets fault e has refused =
+    elim (bind_err (template_or (template tables e.descriptors)) (read e) fault refused) [
+      | inl not_so ↦
+          let t = step_refuses template_passes (template tables e.descriptors) fault not_so in
+          subst (IsFirstFault tables octets) t.2
+          (e, has, (below.refuses tables e.descriptors t.0).0 t.1)
+      | inr tree ↦
+          let expanded = template tables e.descriptors in
+          let built = (below.builds tables e.descriptors tree.0).0
+          (step_takes template_passes expanded tree.0 tree.1) in
+          data_fault below tables octets fault e tree.0 has built tree.2
+    ]
 
 -- a fault of what stands in the sections is the first
 message_fault : Below → (tables : Entries) (octets : List ℕ) (fault : Refused) (e : Envelope)
     → HasSections octets e → message_in tables e ≡ Err fault → IsFirstFault tables octets fault
 unfolding message_in
-message_fault below tables octets fault e has refused = tree_fault below tables octets fault e has refused
+message_fault below tables octets fault e has refused =
+    tree_fault below tables octets fault e has refused
 
 -- octets that are refused are so for their first fault
 pub fault_when_refused : Below → (tables : Entries) (octets : List ℕ) (fault : Refused)
     → AreOctets octets → message_of tables octets ≡ Err fault → IsFirstFault tables octets fault
 unfolding message_of
-fault_when_refused below tables octets fault all refused = elim (bind_err (envelope_of octets) (message_in tables) fault refused) [
-  | inl not_so ↦ section_fault tables octets fault (below.theirs octets fault not_so) (below.first octets fault not_so)
-  | inr e ↦ message_fault below tables octets fault e.0 (below.takes octets e.0 all e.1) e.2
-]
+fault_when_refused below tables octets fault all refused =
+    elim (bind_err (envelope_of octets) (message_in tables) fault refused) [
+      | inl not_so ↦
+          section_fault tables octets fault (below.theirs octets fault not_so)
+          (below.first octets fault not_so)
+      | inr e ↦ message_fault below tables octets fault e.0 (below.takes octets e.0 all e.1) e.2
+    ]
 
 -- ---- faults that octets have
 
@@ -115,10 +128,16 @@ refused_when_fault below tables octets (Template why) (e, has, none) =
     rw (said below octets e has, (below.refuses tables e.descriptors why).1 none) refl
 refused_when_fault below tables octets (Data why) (e, tree, has, built, inl none) =
     let found = (below.builds tables e.descriptors tree).1 built in
-    rw (said below octets e has, found, (below.unread tree e.compressed e.count (bits e.contents) why).1 none) refl
-refused_when_fault below tables octets (Data why) (e, tree, has, built, inr (same, begun, begins, none)) =
+    rw (
+      said below octets e has,
+      found,
+      (below.unread tree e.compressed e.count (bits e.contents) why).1 none,
+    ) refl
+refused_when_fault below tables octets (Data why)
+    (e, tree, has, built, inr (same, begun, begins, none)) =
     let found = (below.builds tables e.descriptors tree).1 built in
     let read = (below.reads tree e.compressed e.count (bits e.contents) begun).1 begins in
     let fails = not-true _ ((Decides-not _ (alone_is_tested e.descriptors begun.0)).1 none) in
     rw (said below octets e has, found, read, fails, same) refl
-refused_when_fault below tables octets fault first = sections_answered below tables octets fault first
+refused_when_fault below tables octets fault first =
+    sections_answered below tables octets fault first

@@ -2,7 +2,8 @@
 -- that are read.
 use Rattle.bufr_tables.specs.Answers.{Gives}
 use Rattle.bufr_tables.specs.declared.failure.Failure.{Failure}
-use Rattle.std.proofs.Common.{◌≡◌, ℕ, ◌/◌, Bool, true, List, length, Result, Ok, Err, refl, sym, ap, subst, ◌∙◌}
+use Rattle.std.proofs.Common.{◌≡◌, ℕ, ◌/◌, Bool, true, List, length, Result, Ok, Err, refl, sym, ap}
+use Rattle.std.proofs.Common.{subst, ◌∙◌}
 use Rattle.std.specs.Prelude.{IfOk}
 use Rattle.bufr_bits.specs.Bits.{bits}
 use Rattle.bufr_tables.specs.Entries.{Entries}
@@ -15,8 +16,10 @@ use Rattle.bufr_sections.specs.declared.message.Message.{Message}
 use Rattle.bufr_sections.specs.declared.layout.Layout.{Layout}
 use Rattle.bufr_sections.specs.declared.message.Decoded.{Decoded}
 use Rattle.bufr_sections.specs.declared.fault.Refused.{Refused}
-use Rattle.bufr_sections.specs.Sections.{Envelope, Ignored, AreOctets, EnvelopeFits, spelling, envelope_of}
-use Rattle.bufr_message.specs.Messages.{envelope_with, Spells, template_or, data_or, message_with, CanBeAlone, can_be_alone, message_in, message_of}
+use Rattle.bufr_sections.specs.Sections.{Envelope, Ignored, AreOctets, EnvelopeFits, spelling}
+use Rattle.bufr_sections.specs.Sections.{envelope_of}
+use Rattle.bufr_message.specs.Messages.{envelope_with, Spells, template_or, data_or, message_with}
+use Rattle.bufr_message.specs.Messages.{CanBeAlone, can_be_alone, message_in, message_of}
 use Rattle.bufr_message.specs.Laws.{MessagesReadAreSpelt, MessagesSpeltAreRead}
 use Rattle.bufr_tables.specs.AnswerLaws.{bind_ok, passed_ok}
 use Rattle.bufr_sections.specs.declared.fault.Refused.TheVariants.{Template, Data}
@@ -44,9 +47,12 @@ pub message_of_spelt : Below → (tables : Entries) (octets : List ℕ) (m : Mes
 unfolding message_of
 message_of_spelt below tables octets m slack s =
     let e : Envelope = envelope_with m s.contents in
-    let said : envelope_of octets ≡ Ok e = ap envelope_of s.spelled ∙ below.says s.layout e s.ignored s.fits in
+    let said : envelope_of octets ≡ Ok e =
+    ap envelope_of s.spelled ∙ below.says s.layout e s.ignored s.fits in
     let built = (below.builds tables m.descriptors s.tree).1 s.template in
-    let found = (below.reads s.tree m.compressed (length m.subsets) (bits s.contents) (m.subsets, s.rest)).1 (s.data_bits, s.holds, refl, s.begins) in
+    let found =
+    (below.reads s.tree m.compressed (length m.subsets) (bits s.contents) (m.subsets, s.rest)).1
+    (s.data_bits, s.holds, refl, s.begins) in
     let alone = (alone_is_tested m.descriptors m.subsets).1 s.alone in
     rw said (in_turn tables e s.tree (m.subsets, s.rest) built found alone)
     ∙ ap (λ n. Ok (record { message = m; slack_octets = n })) (sym s.after)
@@ -71,7 +77,8 @@ spells_read : Below
     → Spells tables (message_with e found.0) octets (length found.1 / 8)
 spells_read below tables octets layout e i tree found spelt fits has read alone =
     let stands = (below.reads tree e.compressed e.count (bits e.contents) found).0 read in
-    let same : e ≡ envelope_with (message_with e found.0) e.contents = ap (λ (n : ℕ). record e { count = n }) (sym stands.2) in
+    let same : e ≡ envelope_with (message_with e found.0) e.contents =
+    ap (λ (n : ℕ). record e { count = n }) (sym stands.2) in
     record {
       layout = layout;
       contents = e.contents;
@@ -98,11 +105,14 @@ message_of_takes below tables octets d all ok =
     let expanded = template tables e.0.descriptors in
     let has = (below.builds tables e.0.descriptors tree.0).0
     (step_takes template_passes expanded tree.0 tree.1) in
-    let found = bind_ok (data_or (subsets_in tree.0 e.0.compressed e.0.count (bits e.0.contents))) _ d tree.2 in
+    let found =
+    bind_ok
+    (data_or (subsets_in tree.0 e.0.compressed e.0.count (bits e.0.contents))) _ d tree.2 in
     let held = subsets_in tree.0 e.0.compressed e.0.count (bits e.0.contents) in
     let read = step_takes data_passes held found.0 found.1 in
     let said = below.takes octets e.0 all e.1 in
-    let told : Decoded = record { message = message_with e.0 found.0.0; slack_octets = length found.0.1 / 8 } in
+    let told : Decoded =
+    record { message = message_with e.0 found.0.0; slack_octets = length found.0.1 / 8 } in
     let done = passed_ok (can_be_alone e.0.descriptors found.0.0) told (Data TooLarge) d found.2 in
     let alone = (alone_is_tested e.0.descriptors found.0.0).0 done.0 in
     subst (λ (d : Decoded). Spells tables d.message octets d.slack_octets) done.1
@@ -124,4 +134,5 @@ pub spelt_answered : MessagesSpeltAreRead
     → Gives (λ (d : Decoded). d) r (message_of tables octets) → (m : Message) (z : ℕ)
     → Spells tables m octets z
     → Gives (λ (d : Decoded). d) r (Ok (record { message = m; slack_octets = z }))
-spelt_answered law tables octets r exact m z s = subst (Gives (λ (d : Decoded). d) r) (law tables octets m z s) exact
+spelt_answered law tables octets r exact m z s =
+    subst (Gives (λ (d : Decoded). d) r) (law tables octets m z s) exact

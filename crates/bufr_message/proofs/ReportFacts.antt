@@ -46,7 +46,9 @@ spelt_bare : (layout : Layout) (i : Ignored) (e : Envelope) (octets : List ℕ) 
     → i ≡ nothing_ignored → octets ≡ spelling layout e i
     → length octets ≡ length (spelling Edition4 e nothing_ignored)
 spelt_bare layout i e octets four nothing is =
-    ap length (is ∙ ap (λ (l : Layout). spelling l e i) four ∙ ap (λ (j : Ignored). spelling Edition4 e j) nothing)
+    ap length
+    (is ∙ ap (λ (l : Layout). spelling l e i) four
+    ∙ ap (λ (j : Ignored). spelling Edition4 e j) nothing)
 
 -- a canonical message is as long as its parts say
 pub canonical_long : (tables : Entries) (r : Report) (octets : List ℕ)

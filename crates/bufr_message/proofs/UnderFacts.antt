@@ -55,12 +55,16 @@ under_alone below tables m octets slack spells s stands few =
     let one : AllFitWithin spells.tree 0 (s ∷ []) own =
     (own, (own, 0, stands.fits, refl, omega arith), omega arith, stands.few) in
     let holds : IsDataOf spells.tree false (s ∷ []) d = (own, one, refl) in
-    let data_bits = bits_are below tables (alone (report_of m s)) d (spells.tree, some, spells.template, below.plain spells.tree (s ∷ []) d holds) in
+    let data_bits =
+    bits_are below tables (alone (report_of m s)) d
+    (spells.tree, some, spells.template, below.plain spells.tree (s ∷ []) d holds) in
     let long = bare_long (told (alone (report_of m s)) d) refl refl in
     let whole = whole_octets_long d in
     let bits_of = length-append (plain s.fields) [] in
-    let short : nat_lt longest (length (bare (told (alone (report_of m s)) d))) ≡ false = le-ltb _ _ (omega arith) in
-    let written : code tables (alone (report_of m s)) ≡ Ok (bare (told (alone (report_of m s)) d)) = rw (data_bits, short) refl in
+    let short : nat_lt longest (length (bare (told (alone (report_of m s)) d))) ≡ false =
+    le-ltb _ _ (omega arith) in
+    let written : code tables (alone (report_of m s)) ≡ Ok (bare (told (alone (report_of m s)) d)) =
+    rw (data_bits, short) refl in
     let head = head_alone spells.layout m.head spells.ignored spells.fits.head in
     let fits : NumbersFit (alone (report_of m s)) =
     record { head = head; section2 = tt; descriptors = spells.fits.descriptors } in (
@@ -75,12 +79,15 @@ all_under : Below
     → AllByRecursion (StandsAlone spells.tree (length spells.data_bits)) subsets
     → CanBeAlone m.descriptors subsets → AllByRecursion (IsUnder tables) (map (report_of m) subsets)
 all_under below tables m octets slack spells [] all few = tt
-all_under below tables m octets slack spells (s ∷ ss) (first, others) (few, fewer) =
-    (under_alone below tables m octets slack spells s first few, all_under below tables m octets slack spells ss others fewer)
+all_under below tables m octets slack spells (s ∷ ss) (first, others) (few, fewer) = (
+  under_alone below tables m octets slack spells s first few,
+  all_under below tables m octets slack spells ss others fewer,
+)
 
 -- the reports of a message that octets spell have canonical messages
 pub reports_under : Below
     → (tables : Entries) (m : Message) (octets : List ℕ) (slack : ℕ)
     (spells : Spells tables m octets slack) → AllByRecursion (IsUnder tables) (reports_of m)
 reports_under below tables m octets slack spells =
-    all_under below tables m octets slack spells m.subsets (each_alone spells.tree m.compressed m.subsets spells.data_bits spells.holds) spells.alone
+    all_under below tables m octets slack spells m.subsets
+    (each_alone spells.tree m.compressed m.subsets spells.data_bits spells.holds) spells.alone

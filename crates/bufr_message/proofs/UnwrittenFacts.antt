@@ -26,7 +26,8 @@ use Rattle.bufr_message.specs.declared.fault.EncodeFault.TheVariants.{NoDescript
 use Rattle.bufr_sections.specs.Sections.{AreOctets, Envelope, Ignored, nothing_ignored, spelling}
 use Rattle.bufr_sections.specs.Spelt.{bare, most_subsets, longest, spelt_or}
 use Rattle.bufr_message.specs.Messages.{envelope_with, Spells}
-use Rattle.bufr_message.specs.Encodings.{whole_octets, some_descriptors, template_or, data_or, data_bits_or, enclosed_or, filled, SpellsBare, code}
+use Rattle.bufr_message.specs.Encodings.{whole_octets, some_descriptors, template_or, data_or}
+use Rattle.bufr_message.specs.Encodings.{data_bits_or, enclosed_or, filled, SpellsBare, code}
 use Rattle.bufr_message.specs.Refusals.{IsTooLong, IsFirstEncodeFault}
 use Rattle.bufr_tables.specs.AnswerLaws.{bind_err, err_is}
 use Rattle.bufr_message.specs.Below.{Below}
@@ -76,42 +77,48 @@ templated tables m list = template_or (template tables list) >>= held m
 -- a fault of the descriptors or of the subsets is the first
 tree_fault : Below → (tables : Entries) (m : Message) (fault : EncodeFault) → m.descriptors ≢ []
     → templated tables m m.descriptors ≡ Err fault → IsFirstEncodeFault tables m fault
-tree_fault below tables m fault some refused = elim (bind_err (template_or (template tables m.descriptors)) (held m) fault refused) [
-  | inl not_so ↦
-      let t = step_refuses template_passes (template tables m.descriptors) fault not_so in
-      subst (IsFirstEncodeFault tables m) t.2 (some, (below.refuses tables m.descriptors t.0).0 t.1)
-  | inr tree ↦
-      let d = step_refuses data_passes (written_bits tree.0 m.compressed m.subsets) fault tree.2 in
-      let expanded = template tables m.descriptors in
-      let has = (below.builds tables m.descriptors tree.0).0
-      (step_takes template_passes expanded tree.0 tree.1) in
-      let first = (below.unwritten tree.0 m.compressed m.subsets d.0).0 d.1 in
-      subst (IsFirstEncodeFault tables m) d.2 (tree.0, some, has, inl first)
-]
+tree_fault below tables m fault some refused =
+    elim (bind_err (template_or (template tables m.descriptors)) (held m) fault refused) [
+      | inl not_so ↦
+          let t = step_refuses template_passes (template tables m.descriptors) fault not_so in
+          subst (IsFirstEncodeFault tables m) t.2
+          (some, (below.refuses tables m.descriptors t.0).0 t.1)
+      | inr tree ↦
+          let d =
+          step_refuses data_passes (written_bits tree.0 m.compressed m.subsets) fault tree.2 in
+          let expanded = template tables m.descriptors in
+          let has = (below.builds tables m.descriptors tree.0).0
+          (step_takes template_passes expanded tree.0 tree.1) in
+          let first = (below.unwritten tree.0 m.compressed m.subsets d.0).0 d.1 in
+          subst (IsFirstEncodeFault tables m) d.2 (tree.0, some, has, inl first)
+    ]
 
 -- a fault of the data bits is the first
 bits_fault : Below → (tables : Entries) (m : Message) (fault : EncodeFault)
     → data_bits_or tables m ≡ Err fault → IsFirstEncodeFault tables m fault
 unfolding data_bits_or
-bits_fault below tables m fault refused = elim (bind_err (some_descriptors m.descriptors) (templated tables m) fault refused) [
-  | inl not_so ↦ let d = descriptors_refuse m.descriptors fault not_so in subst (IsFirstEncodeFault tables m) d.1 d.0
-  | inr list ↦
-      let d = descriptors_take m.descriptors list.0 list.1 in
-      tree_fault below tables m fault d.0
-      (subst (λ (ds : List ℕ). templated tables m ds ≡ Err fault) (sym d.1) list.2)
-]
+bits_fault below tables m fault refused =
+    elim (bind_err (some_descriptors m.descriptors) (templated tables m) fault refused) [
+      | inl not_so ↦ let d = descriptors_refuse m.descriptors fault not_so in
+          subst (IsFirstEncodeFault tables m) d.1 d.0
+      | inr list ↦
+          let d = descriptors_take m.descriptors list.0 list.1 in
+          tree_fault below tables m fault d.0
+          (subst (λ (ds : List ℕ). templated tables m ds ≡ Err fault) (sym d.1) list.2)
+    ]
 
 -- a message that has no octets is refused for its first fault
 pub fault_when_unwritten : Below → (tables : Entries) (m : Message) (fault : EncodeFault)
     → code tables m ≡ Err fault → IsFirstEncodeFault tables m fault
 unfolding code
-fault_when_unwritten below tables m fault refused = elim (bind_err (data_bits_or tables m) (enclosed_or m) fault refused) [
-  | inl not_so ↦ bits_fault below tables m fault not_so
-  | inr found ↦
-      let f = bits_found below tables m found.0 found.1 in
-      let l = limits_refuse m found.0 fault found.2 in
-      subst (IsFirstEncodeFault tables m) l.1 (f.0, f.1, f.2, inr (refl, found.0, f.3, l.0))
-]
+fault_when_unwritten below tables m fault refused =
+    elim (bind_err (data_bits_or tables m) (enclosed_or m) fault refused) [
+      | inl not_so ↦ bits_fault below tables m fault not_so
+      | inr found ↦
+          let f = bits_found below tables m found.0 found.1 in
+          let l = limits_refuse m found.0 fault found.2 in
+          subst (IsFirstEncodeFault tables m) l.1 (f.0, f.1, f.2, inr (refl, found.0, f.3, l.0))
+    ]
 
 -- ---- faults that messages have
 
@@ -141,9 +148,18 @@ unwritten_when_fault below tables m (Template why) (some, refused) =
     rw (descriptors_are m.descriptors some, (below.refuses tables m.descriptors why).1 refused) refl
 unwritten_when_fault below tables m (Data why) (tree, some, has, inl misfit) =
     let found = (below.builds tables m.descriptors tree).1 has in
-    rw (descriptors_are m.descriptors some, found, (below.unwritten tree m.compressed m.subsets why).1 misfit) refl
-unwritten_when_fault below tables m (Data why) (tree, some, has, inr (same, data_bits, held_bare, long)) =
-    rw (bits_are below tables m data_bits (tree, some, has, held_bare), too_long_refuses m data_bits long, same) refl
+    rw (
+      descriptors_are m.descriptors some,
+      found,
+      (below.unwritten tree m.compressed m.subsets why).1 misfit,
+    ) refl
+unwritten_when_fault below tables m (Data why)
+    (tree, some, has, inr (same, data_bits, held_bare, long)) =
+    rw (
+      bits_are below tables m data_bits (tree, some, has, held_bare),
+      too_long_refuses m data_bits long,
+      same,
+    ) refl
 
 -- ---- messages that are spelt are written
 
@@ -171,11 +187,17 @@ spelt_has_code below tables m octets slack s four nothing_free =
     let some = some_are m.descriptors s.fits.some_descriptor in
     let data_bits = bits_are below tables m s.data_bits (s.tree, some, s.template, nothing_free) in
     let contents = bits_are_short s.data_bits s.rest s.contents s.begins in
-    let no_longer = below.shortest (envelope_with m s.contents) (told m s.data_bits) s.ignored (omega arith) (omega arith) (omega arith) contents in
-    let total : length (spelling Edition4 (envelope_with m s.contents) s.ignored) < 2 ^ 24 = subst (λ (l : Layout). length (spelling l (envelope_with m s.contents) s.ignored) < 2 ^ 24) four s.fits.total in
+    let no_longer =
+    below.shortest (envelope_with m s.contents) (told m s.data_bits) s.ignored (omega arith)
+    (omega arith) (omega arith) contents in
+    let total : length (spelling Edition4 (envelope_with m s.contents) s.ignored) < 2 ^ 24 =
+    subst
+    (λ (l : Layout). length
+    (spelling l (envelope_with m s.contents) s.ignored) < 2 ^ 24) four s.fits.total in
     let many = s.fits.count in
     let few : nat_lt most_subsets (length m.subsets) ≡ false = le-ltb _ _ (omega arith) in
-    let short : nat_lt longest (length (bare (told m s.data_bits))) ≡ false = le-ltb _ _ (omega arith) in
+    let short : nat_lt longest (length (bare (told m s.data_bits))) ≡ false =
+    le-ltb _ _ (omega arith) in
     rw (data_bits, few, short) refl
 
 -- a plain message that octets of edition 4 spell is written
@@ -186,7 +208,8 @@ pub plain_is_written : Below
 plain_is_written below tables m octets slack s four plain =
     let here = subst (λ (c : Bool). IsDataOf s.tree c m.subsets s.data_bits) plain s.holds in
     let held_bare = below.plain s.tree m.subsets s.data_bits here in
-    let no_choice = subst (λ (c : Bool). IsBareDataOf s.tree c m.subsets s.data_bits) (sym plain) held_bare in
+    let no_choice =
+    subst (λ (c : Bool). IsBareDataOf s.tree c m.subsets s.data_bits) (sym plain) held_bare in
     (bare (told m s.data_bits), spelt_has_code below tables m octets slack s four no_choice)
 
 -- a compressed message that octets spell is written where its subsets can stand in columns that are
@@ -199,7 +222,8 @@ unfolding code
 packable_is_written below tables m octets slack s packed columns can =
     let here = subst (λ (c : Bool). IsDataOf s.tree c m.subsets s.data_bits) packed s.holds in
     let found = below.packable s.tree m.subsets columns s.data_bits here can in
-    let held_bare = subst (λ (c : Bool). IsBareDataOf s.tree c m.subsets found.0) (sym packed) found.1 in
+    let held_bare =
+    subst (λ (c : Bool). IsBareDataOf s.tree c m.subsets found.0) (sym packed) found.1 in
     let some = some_are m.descriptors s.fits.some_descriptor in
     let data_bits = bits_are below tables m found.0 (s.tree, some, s.template, held_bare) in
     elim (tells_limits (told m found.0)) [
@@ -221,7 +245,8 @@ contents_are : (data_bits rest : List Bool) (contents : List ℕ) → AreOctets 
 contents_are data_bits rest contents all begins few zeros =
     let long = contents_hold data_bits rest contents begins in
     let added : length rest ≡ (8 - length data_bits % 8) % 8 = omega arith in
-    let same : bits contents ≡ filled data_bits = begins ∙ ap (λ xs. data_bits ++ xs) (zeros ∙ ap (λ n. replicate n false) added) in
+    let same : bits contents ≡ filled data_bits =
+    begins ∙ ap (λ xs. data_bits ++ xs) (zeros ∙ ap (λ n. replicate n false) added) in
     whole_octets_are contents data_bits (λ i. octet_at_any contents i all) same
 
 -- octets that spell a message with nothing in what is free are written
@@ -229,7 +254,8 @@ pub bare_is_written : Below → (tables : Entries) (m : Message) (octets : List 
     → SpellsBare tables m octets → code tables m ≡ Ok octets
 bare_is_written below tables m octets b =
     let s = b.spells in
-    let contents = contents_are s.data_bits s.rest s.contents s.fits.contents s.begins s.after b.zeros in
+    let contents =
+    contents_are s.data_bits s.rest s.contents s.fits.contents s.begins s.after b.zeros in
     spelt_has_code below tables m octets 0 s b.edition b.bare
     ∙ ap (λ (xs : List ℕ). Ok (spelling Edition4 (envelope_with m xs) nothing_ignored)) contents
     ∙ ap (λ (i : Ignored). Ok (spelling Edition4 (envelope_with m s.contents) i)) (sym b.nothing)

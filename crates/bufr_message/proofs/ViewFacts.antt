@@ -17,7 +17,8 @@ use Rattle.bufr_sections.specs.Spelt.{longest}
 use Rattle.bufr_message.specs.declared.report.Report.{Report}
 use Rattle.bufr_tables.specs.Entries.{Entries}
 use Rattle.bufr_message.specs.Messages.{octets_alone, can_be_alone, Spells}
-use Rattle.bufr_message.specs.Reports.{report_of, reports_of, with_parts, IsUnder, ReportsSpeltAreUnder}
+use Rattle.bufr_message.specs.Reports.{report_of, reports_of, with_parts, IsUnder}
+use Rattle.bufr_message.specs.Reports.{ReportsSpeltAreUnder}
 use Rattle.bufr_message.specs.Views.{StandIn}
 use Rattle.bufr_message.proofs.AloneFacts.{each_alone}
 use Rattle.bufr_message.proofs.CanBeAlone.{all_short, alone_is_tested}
@@ -65,7 +66,8 @@ pub one_report : {E : Type 0} (m : Message) (i : ℕ) (s : Subset) (answer : Res
     → IfOk answer (λ r. r ≡ with_parts m.head m.observed m.descriptors s)
     → IfOk answer (λ r. slice_get (reports_of m) i ≡ Some r)
 one_report m i s (Ok r) is made =
-    slice_get-map (report_of m) m.subsets i ∙ ap (option_map (report_of m)) is ∙ ap (λ x. Some x) (sym made)
+    slice_get-map (report_of m) m.subsets i ∙ ap (option_map (report_of m)) is
+    ∙ ap (λ x. Some x) (sym made)
 one_report m i s (Err e) is made = made
 
 -- one of reports that are under the tables is

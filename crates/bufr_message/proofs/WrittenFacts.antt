@@ -22,7 +22,8 @@ use Rattle.bufr_sections.specs.declared.layout.Layout.TheVariants.{Edition4}
 use Rattle.bufr_sections.specs.Sections.{Envelope, IsOctet, AreOctets, nothing_ignored}
 use Rattle.bufr_sections.specs.Spelt.{bare, most_subsets, longest, spelt_or}
 use Rattle.bufr_message.specs.Messages.{envelope_with, message_of}
-use Rattle.bufr_message.specs.Encodings.{whole_octets, some_descriptors, template_or, data_or, data_bits_or, enclosed_or, SpellsBare, code}
+use Rattle.bufr_message.specs.Encodings.{whole_octets, some_descriptors, template_or, data_or}
+use Rattle.bufr_message.specs.Encodings.{data_bits_or, enclosed_or, SpellsBare, code}
 use Rattle.bufr_message.specs.declared.fault.EncodeFault.TheVariants.{Template, Data}
 use Rattle.bufr_message.specs.Laws.{NumbersFit}
 use Rattle.bufr_tables.specs.AnswerLaws.{bind_ok, ok_is}
@@ -44,10 +45,19 @@ pub whole_octets_spelt : (data_bits : List Bool)
 whole_octets_spelt data_bits =
     let n = (length data_bits + 7) / 8 in
     let text = data_bits ++ replicate (fill data_bits) false in
-    let long : length text ≡ n * 8 = omega (arith, length-append data_bits (replicate (fill data_bits) false), length-replicate (fill data_bits) false) in
+    let long : length text ≡ n * 8 =
+    omega (
+      arith,
+      length-append data_bits (replicate (fill data_bits) false),
+      length-replicate (fill data_bits) false,
+    ) in
     let found = bits-numbers n text (omega arith) in
-    let none : drop (n * 8) text ≡ [] = drop_all (n * 8) text (omega arith) in
-    (sym (found.0 ∙ ap (λ xs. bits (numbers n 8 text) ++ xs) none ∙ append-nil (bits (numbers n 8 text))), found.1)
+    let none : drop (n * 8) text ≡ [] = drop_all (n * 8) text (omega arith) in (
+      sym
+          (found.0 ∙ ap (λ xs. bits (numbers n 8 text) ++ xs) none
+          ∙ append-nil (bits (numbers n 8 text))),
+      found.1,
+    )
 
 -- they are as many octets as hold them
 pub whole_octets_long : (data_bits : List Bool)
@@ -156,7 +166,15 @@ spells_written below tables m octets data_bits fit (tree, some, has, holds) e =
           count = limits.0;
           contents = whole.1;
           total = limits.1;
-          ignored = (omega arith, omega arith, omega arith, omega arith, omega arith, All-nil IsOctet, omega arith);
+          ignored = (
+            omega arith,
+            omega arith,
+            omega arith,
+            omega arith,
+            omega arith,
+            All-nil IsOctet,
+            omega arith,
+          );
         };
         spelled = limits.2;
         tree = tree;
@@ -188,4 +206,5 @@ bare_when_written below tables m octets fit ok =
 pub read_when_written : Below → (tables : Entries) (m : Message) (octets : List ℕ) → NumbersFit m
     → code tables m ≡ Ok octets
     → message_of tables octets ≡ Ok (record { message = m; slack_octets = 0 })
-read_when_written below tables m octets fit ok = message_of_spelt below tables octets m 0 (bare_when_written below tables m octets fit ok).spells
+read_when_written below tables m octets fit ok =
+    message_of_spelt below tables octets m 0 (bare_when_written below tables m octets fit ok).spells

@@ -3,23 +3,20 @@ use Rattle.std.proofs.Common.{◌≡◌, ℕ, ◌+◌, ◌*◌, ◌≤◌, Optio
 use Rattle.std.proofs.Common.{length, codes, refl, ap, ◌∙◌, arith, append_assoc}
 use Rattle.std.specs.List.{flat_map}
 use Rattle.std.specs.Int.{bytes_high_first}
-use Rattle.std.proofs.lemmas.List.{length-append, append-nil}
+use Rattle.std.proofs.lemmas.List.{length-append}
 use Rattle.bufr_sections.specs.declared.layout.Layout.{Layout}
 use Rattle.bufr_sections.specs.declared.layout.Layout.TheVariants.{Edition4}
 use Rattle.bufr_sections.specs.Spelt.{bare}
-use Rattle.bufr_sections.specs.Sections.{flag, Envelope, Ignored, spelling, sections, enclosed}
-use Rattle.bufr_sections.specs.Sections.{is_present, nothing_ignored, section, section1, section2}
-use Rattle.bufr_sections.specs.Sections.{section3, section4}
+use Rattle.bufr_sections.specs.Sections.{Envelope, Ignored, spelling, sections, enclosed}
+use Rattle.bufr_sections.specs.Sections.{is_present}
+use Rattle.bufr_sections.specs.Sections.{nothing_ignored, section, section1, section2, section3}
+use Rattle.bufr_sections.specs.Sections.{section4}
 
 -- two octets a descriptor
 pub length_of_descriptors : (ds : List ℕ)
     → length (flat_map (bytes_high_first 2) ds) ≡ 2 * length ds
 length_of_descriptors [] = refl
 length_of_descriptors (d ∷ ds) = let more = length_of_descriptors ds in omega arith
-
--- three octets of length
-length_of_section : (contents : List ℕ) → length (section contents) ≡ 3 + length contents
-length_of_section contents = omega arith
 
 -- section 0 and `7777`
 pub length_of_enclosed : (layout : Layout) (middle : List ℕ)
@@ -37,10 +34,7 @@ length_of_section3 e =
 -- four lists joined
 pub four_parts : (a b c d : List ℕ)
     → length (a ++ b ++ c ++ d) ≡ length a + length b + length c + length d
-four_parts a b c d =
-    let first =
-    length-append a b in let second =
-    length-append (a ++ b) c in let third = length-append (a ++ b ++ c) d in omega arith
+four_parts a b c d = simp length-append
 
 -- sections 1 to 4 without what is free
 pub length_of_sections : (e : Envelope)
@@ -63,13 +57,6 @@ length_of_spelling e =
     let all =
     length_of_sections e in let whole =
     length_of_enclosed Edition4 (sections Edition4 e nothing_ignored) in omega arith
-
--- section 3 without an odd octet
-pub section3_is : (e : Envelope)
-    → section3 e nothing_ignored ≡ section (0 ∷ bytes_high_first 2 e.count
-    ++ (flag e.observed 128 + flag e.compressed 64 + 0) ∷ flat_map
-    (bytes_high_first 2) e.descriptors)
-section3_is e = rw (append-nil (flat_map (bytes_high_first 2) e.descriptors)) refl
 
 -- a section that is written in pieces: its length, its first octets and the rest
 pub section_of_pieces : (old one two new front back : List ℕ) (n : ℕ)

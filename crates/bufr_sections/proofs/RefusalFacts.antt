@@ -138,10 +138,8 @@ same_eq a b c d there back = by_test (a == b) refl
 short_room : (shortest : ℕ) (fault : Refused) (room : List ℕ) → length room < 3
     → section_at shortest fault room ≡ Err fault
 unfolding section_at
-short_room shortest fault [] h = refl
-short_room shortest fault (a ∷ []) h = refl
-short_room shortest fault (a ∷ b ∷ []) h = refl
 short_room shortest fault (a ∷ b ∷ c ∷ rest) h = absurd (omega arith)
+short_room shortest fault _ h = refl
 
 -- a section whose length stands in the room
 long_room : (shortest : ℕ) (fault : Refused) (a b c : ℕ) (more rest : List ℕ) (past : Bool)

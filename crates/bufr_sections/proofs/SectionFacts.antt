@@ -8,7 +8,7 @@ use Rattle.std.specs.List.{flat_map}
 use Rattle.std.specs.Int.{bytes_high_first}
 use Rattle.std.proofs.lemmas.Bool.{le-ltb, le-leb, lt-leb}
 use Rattle.std.proofs.lemmas.List.Elements.{recursion_from_All}
-use Rattle.std.proofs.lemmas.List.{take_at, drop_at}
+use Rattle.std.proofs.lemmas.List.{append-nil, take_at, drop_at}
 use Rattle.bufr_sections.specs.declared.fault.Refused.{Refused}
 use Rattle.bufr_sections.specs.declared.fault.Refused.TheVariants.{Section1Length, Section2Length}
 use Rattle.bufr_sections.specs.declared.fault.Refused.TheVariants.{Section3Length, Section4Length}
@@ -22,6 +22,7 @@ use Rattle.bufr_sections.specs.Sections.{HasSection1, EnvelopeFits, three, two, 
 use Rattle.bufr_sections.specs.Sections.{section_at, head4_of, head3_of, head_of, local_at}
 use Rattle.bufr_sections.specs.Sections.{Description, descriptors_of, description_of, sections_of}
 use Rattle.bufr_sections.specs.Sections.{envelope_of}
+use Rattle.bufr_sections.proofs.LengthFacts.{four_parts}
 
 -- a number of three octets, and of two, is what they were
 three_is : (n : ℕ) → n < 2 ^ 24 → three (n / 2 ^ 16 % 256) (n / 2 ^ 8 % 256) (n % 256) ≡ n
@@ -202,19 +203,9 @@ some_octets : (ds : List ℕ) → 0 < length ds → 2 ≤ length (flat_map (byte
 some_octets [] h = absurd (omega arith)
 some_octets (d ∷ ds) h = omega arith
 
--- four lists joined
-length_of_four : (a b c d : List ℕ)
-    → length (a ++ b ++ c ++ d) ≡ length a + length b + length c + length d
-length_of_four a b c d = simp length-append
-
--- nothing behind a list
-append_none : (d : List ℕ) → d ++ [] ≡ d
-append_none [] = refl
-append_none (x ∷ d) = ap (λ xs. x ∷ xs) (append_none d)
-
 -- four lists joined from the right
 pub regrouped : (a b c d : List ℕ) → a ++ b ++ c ++ d ≡ a ++ (b ++ (c ++ (d ++ [])))
-regrouped a b c d = rw (append_none d) (simp append_assoc)
+regrouped a b c d = rw (append-nil d) (simp append_assoc)
 
 -- the sections that are spelt are read
 sections_of-sections : (layout : Layout) (e : Envelope) (i : Ignored) → EnvelopeFits layout e i
@@ -229,7 +220,7 @@ sections_of-sections layout e i fits small =
     let long = (head_is_long layout e.head (is_present e.section2) i).1 in
     let c3 = contents3 e i in
     let c4 : List ℕ = i.octet4 ∷ e.contents in
-    let lengths = length_of_four s1 s2 s3 s4 in
+    let lengths = four_parts s1 s2 s3 s4 in
     let some : 2 ≤ length (flat_map (bytes_high_first 2) e.descriptors) =
     some_octets e.descriptors fits.some_descriptor in
     let l3 = length-append (flat_map (bytes_high_first 2) e.descriptors) i.odd in

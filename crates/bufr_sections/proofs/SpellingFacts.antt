@@ -1,5 +1,5 @@
 -- What is read as sections is spelt so: for the law `SectionsReadAreSpelt`.
-use Rattle.std.proofs.Common.{◌≡◌, ◌⊎◌, ℕ, ◌+◌, ◌-◌, ◌/◌, ◌%◌, ◌^◌, ◌<◌, ◌≤◌, Bool, true, false}
+use Rattle.std.proofs.Common.{◌≡◌, ℕ, ◌+◌, ◌-◌, ◌*◌, ◌/◌, ◌%◌, ◌^◌, ◌<◌, ◌≤◌, Bool, true, false}
 use Rattle.std.proofs.Common.{not, List, [], ◌∷◌, ◌++◌, length, take, drop, Option, Some, None, Ok}
 use Rattle.std.proofs.Common.{refl, sym, ap, subst, ◌∙◌, arith, length-append, inl, inr}
 use Rattle.std.specs.Prelude.{◌==◌, ◌||◌, nat_lt, nat_le, codes, bytes_eq, All, IfSome}
@@ -43,15 +43,7 @@ three_spelt n a b c e la lb lc =
     let l : n % 256 ≡ c = omega arith in
     rw (h, m, l) refl
 
--- a number of two octets is spelt by them
-two_spelt : (a b : ℕ) → a < 256 → b < 256
-    → (bytes_high_first 2 (two a b) ≡ a ∷ b ∷ []) × (two a b < 2 ^ 16)
-two_spelt a b la lb =
-    let m : two a b / 256 % 256 ≡ a = omega arith in
-    let l : two a b % 256 ≡ b = omega arith in
-    (rw (m, l) refl, omega arith)
-
--- its octets, one by one
+-- a number of two octets has them for its octets
 two_cells : (a b : ℕ) → a < 256 → b < 256
     → (two a b / 256 % 256 ≡ a) × (two a b % 256 ≡ b) × (two a b < 2 ^ 16)
 two_cells a b la lb = (omega arith, omega arith, omega arith)
@@ -148,9 +140,6 @@ pub section_at_takes : (shortest : ℕ) (fault : Refused) (room contents rest : 
     → (room ≡ section contents ++ rest) × (shortest ≤ 3 + length contents) × AreOctets contents
     × AreOctets rest
 unfolding section_at
-section_at_takes shortest fault [] contents rest least octets e = absurd cc
-section_at_takes shortest fault (a ∷ []) contents rest least octets e = absurd cc
-section_at_takes shortest fault (a ∷ b ∷ []) contents rest least octets e = absurd cc
 section_at_takes shortest fault (a ∷ b ∷ c ∷ more) contents rest least octets e =
     let g =
     guard_ok (nat_lt (three a b c) shortest || nat_lt (3 + length more) (three a b c)) fault _
@@ -178,26 +167,28 @@ section_at_takes shortest fault (a ∷ b ∷ c ∷ more) contents rest least oct
       All-take IsOctet (three a b c - 3) more others,
       All-drop IsOctet (three a b c - 3) more others,
     )
+section_at_takes shortest fault _ contents rest least octets e = absurd cc
 
 -- ---- section 1
+
+-- the first bit of an octet
+first_bit : (flags : ℕ) → flags < 256 → flag (nat_le 128 flags) 128 ≡ flags / 128 * 128
+first_bit flags h = elim (cases_lt flags 128) [
+  | inl lt ↦ let e : nat_le 128 flags ≡ false = lt-leb _ _ lt in rw e (omega arith)
+  | inr le ↦ let e : nat_le 128 flags ≡ true = le-leb _ _ le in rw e (omega arith)
+]
 
 -- the octet that announces section 2, in its two parts
 flags1 : (flags : ℕ) → flags < 256
     → (flags ≡ flag (nat_le 128 flags) 128 + flags % 128) × (flags % 128 < 128)
-flags1 flags h = elim (cases_lt flags 128) [
-  | inl lt ↦ let e : nat_le 128 flags ≡ false = lt-leb _ _ lt in (rw e (omega arith), omega arith)
-  | inr le ↦ let e : nat_le 128 flags ≡ true = le-leb _ _ le in (rw e (omega arith), omega arith)
-]
+flags1 flags h = (omega (arith, first_bit flags h), omega arith)
 
--- what readers ignore in section 1, and nothing elsewhere
-abbrev ignoring1 : ℕ → ℕ → Ignored
-ignoring1 ignored year = record nothing_ignored { bits1 = ignored; year_octet = year }
-
--- the head of a layout that is read is spelt so, by what is ignored in section 1
+-- the head of a layout that is read is spelt so, by what is ignored in section 1: these bits and
+-- this octet for the year, whatever is ignored elsewhere
 abbrev pub SpeltHead : Layout → List ℕ → Head × Bool → Type 0
-SpeltHead layout octets h =
-    (i : Ignored) × (i.bits1 < 128) × (octets ≡ head_octets layout h.0 h.1 i)
-    × HasSection1 layout h.0 i
+SpeltHead layout octets h = (bits1 : ℕ) × (year_octet : ℕ) × (bits1 < 128)
+    × ((i : Ignored) → i.bits1 ≡ bits1 → i.year_octet ≡ year_octet
+    → (octets ≡ head_octets layout h.0 h.1 i) × HasSection1 layout h.0 i)
 
 -- a head of edition 4 that is read is spelt so
 head4_of_takes : (octets : List ℕ) (h : Head × Bool) → AreOctets octets → head4_of octets ≡ Ok h
@@ -213,40 +204,34 @@ head4_of_takes
     let sub_centre = two_cells s1 s2 (octets 3 0 (omega arith)) (octets 4 0 (omega arith)) in
     let year = two_cells y1 y2 (octets 12 0 (omega arith)) (octets 13 0 (omega arith)) in
     let bits = flags1 flags (octets 6 0 (omega arith)) in
-    subst
-    (λ (h : Head × Bool). SpeltHead Edition4
-    (master ∷ c1 ∷ c2 ∷ s1 ∷ s2 ∷ update ∷ flags ∷ category ∷ international ∷ local_category
-    ∷ master_version ∷ local_version ∷ y1 ∷ y2 ∷ month ∷ day ∷ hour ∷ minute ∷ second
-    ∷ local) h) p.1 (
-      ignoring1 (flags % 128) 0,
+    let front = master ∷ c1 ∷ c2 ∷ s1 ∷ s2 ∷ update ∷ flags ∷ category ∷ international
+    ∷ local_category ∷ master_version ∷ local_version ∷ y1 ∷ y2 ∷ month ∷ day ∷ hour ∷ minute
+    ∷ second ∷ local in
+    subst (SpeltHead Edition4 front) p.1 (
+      flags % 128,
+      0,
       bits.1,
-      rw (centre.0, centre.1, sub_centre.0, sub_centre.1, year.0, year.1, ← bits.0, none) refl,
-      record {
-        centre = centre.2;
-        sub_centre = sub_centre.2;
-        update = octets 5 0
-            (omega arith);
-        category = octets 7 0 (omega arith);
-        international = octets 8 0
-            (omega arith);
-        local_category = octets 9 0 (omega arith);
-        master_version = octets 10 0
-            (omega arith);
-        local_version = octets 11 0
-            (omega arith);
-        year = year.2;
-        month = octets 14 0 (omega arith);
-        day = octets 15 0
-            (omega arith);
-        hour = octets 16 0 (omega arith);
-        minute = octets 17 0
-            (omega arith);
-        second = octets 18 0 (omega arith);
-        local = All-drop IsOctet 19
-            (master ∷ c1 ∷ c2 ∷ s1 ∷ s2 ∷ update ∷ flags ∷ category ∷ international ∷ local_category
-            ∷ master_version ∷ local_version ∷ y1 ∷ y2 ∷ month ∷ day ∷ hour ∷ minute ∷ second
-            ∷ local) octets;
-      },
+      λ i same same_year. (
+        rw (centre.0, centre.1, sub_centre.0, sub_centre.1, year.0, year.1, same, ← bits.0, none)
+            refl,
+        record {
+          centre = centre.2;
+          sub_centre = sub_centre.2;
+          update = octets 5 0 (omega arith);
+          category = octets 7 0 (omega arith);
+          international = octets 8 0 (omega arith);
+          local_category = octets 9 0 (omega arith);
+          master_version = octets 10 0 (omega arith);
+          local_version = octets 11 0 (omega arith);
+          year = year.2;
+          month = octets 14 0 (omega arith);
+          day = octets 15 0 (omega arith);
+          hour = octets 16 0 (omega arith);
+          minute = octets 17 0 (omega arith);
+          second = octets 18 0 (omega arith);
+          local = All-drop IsOctet 19 front octets;
+        },
+      ),
     )
 head4_of_takes _ h octets e = absurd cc
 
@@ -260,40 +245,33 @@ head3_of_takes
     let p = passed_ok (master == 0) _ (MasterTable master) h e in
     let none : master ≡ 0 = eqb-true _ _ p.0 in
     let bits = flags1 flags (octets 4 0 (omega arith)) in
-    subst
-    (SpeltHead Edition3
-    (master ∷ sub_centre ∷ centre ∷ update ∷ flags ∷ category ∷ local_category ∷ master_version
-    ∷ local_version ∷ year ∷ month ∷ day ∷ hour ∷ minute ∷ local)) p.1 (
-      ignoring1 (flags % 128) year,
+    let front = master ∷ sub_centre ∷ centre ∷ update ∷ flags ∷ category ∷ local_category
+    ∷ master_version ∷ local_version ∷ year ∷ month ∷ day ∷ hour ∷ minute ∷ local in
+    subst (SpeltHead Edition3 front) p.1 (
+      flags % 128,
+      year,
       bits.1,
-      rw (← bits.0, none) refl,
-      record {
-        centre = octets 2 0 (omega arith);
-        sub_centre = octets 1 0
-            (omega arith);
-        update = octets 3 0 (omega arith);
-        category = octets 5 0
-            (omega arith);
-        international = refl;
-        local_category = octets 6 0
-            (omega arith);
-        master_version = octets 7 0 (omega arith);
-        local_version = octets 8 0
-            (omega arith);
-        year = refl;
-        year_octet = octets 9 0 (omega arith);
-        month = octets 10 0
-            (omega arith);
-        day = octets 11 0 (omega arith);
-        hour = octets 12 0
-            (omega arith);
-        minute = octets 13 0
-            (omega arith);
-        second = refl;
-        local = All-drop IsOctet 14
-            (master ∷ sub_centre ∷ centre ∷ update ∷ flags ∷ category ∷ local_category
-            ∷ master_version ∷ local_version ∷ year ∷ month ∷ day ∷ hour ∷ minute ∷ local) octets;
-      },
+      λ i same same_year. (
+        rw (same, same_year, ← bits.0, none) refl,
+        record {
+          centre = octets 2 0 (omega arith);
+          sub_centre = octets 1 0 (omega arith);
+          update = octets 3 0 (omega arith);
+          category = octets 5 0 (omega arith);
+          international = refl;
+          local_category = octets 6 0 (omega arith);
+          master_version = octets 7 0 (omega arith);
+          local_version = octets 8 0 (omega arith);
+          year = ap year_of_century (sym same_year);
+          year_octet = rw same_year (octets 9 0 (omega arith));
+          month = octets 10 0 (omega arith);
+          day = octets 11 0 (omega arith);
+          hour = octets 12 0 (omega arith);
+          minute = octets 13 0 (omega arith);
+          second = refl;
+          local = All-drop IsOctet 14 front octets;
+        },
+      ),
     )
 head3_of_takes _ h octets e = absurd cc
 
@@ -353,30 +331,20 @@ list_spelt (a ∷ b ∷ rest) octets =
       All-cons (λ d. d < 2 ^ 16) (two a b) (descriptors_of rest) cells.2 more.4,
     )
 
+-- the second bit of an octet
+second_bit : (flags : ℕ) → flag (flags / 64 % 2 == 1) 64 ≡ flags / 64 % 2 * 64
+second_bit flags = elim (cases_lt (flags / 64 % 2) 1) [
+  | inl none ↦
+      let e : (flags / 64 % 2 == 1) ≡ false = ne_eqb _ _ (λ one. omega arith) in rw e (omega arith)
+  | inr some ↦
+      let e : (flags / 64 % 2 == 1) ≡ true = eq-eqb _ _ (omega arith) in rw e (omega arith)
+]
+
 -- the octet of the flags, in its three parts
 flags3 : (flags : ℕ) → flags < 256
     → (flags ≡ flag (nat_le 128 flags) 128 + flag (flags / 64 % 2 == 1) 64 + flags % 64)
     × (flags % 64 < 64)
-flags3 flags h = (whole (cases_lt flags 128) (cases_lt (flags / 64 % 2) 1), omega arith)
-  where
-    whole : (flags < 128) ⊎ (128 ≤ flags) → (flags / 64 % 2 < 1) ⊎ (1 ≤ flags / 64 % 2) → flags
-        ≡ flag (nat_le 128 flags) 128 + flag (flags / 64 % 2 == 1) 64 + flags % 64
-    whole (inl low) (inl none) =
-        let o : nat_le 128 flags ≡ false = lt-leb _ _ low in
-        let c : (flags / 64 % 2 == 1) ≡ false = ne_eqb _ _ (λ one. omega arith) in
-        rw (o, c) (omega arith)
-    whole (inl low) (inr one) =
-        let o : nat_le 128 flags ≡ false = lt-leb _ _ low in
-        let c : (flags / 64 % 2 == 1) ≡ true = eq-eqb _ _ (omega arith) in
-        rw (o, c) (omega arith)
-    whole (inr high) (inl none) =
-        let o : nat_le 128 flags ≡ true = le-leb _ _ high in
-        let c : (flags / 64 % 2 == 1) ≡ false = ne_eqb _ _ (λ one. omega arith) in
-        rw (o, c) (omega arith)
-    whole (inr high) (inr one) =
-        let o : nat_le 128 flags ≡ true = le-leb _ _ high in
-        let c : (flags / 64 % 2 == 1) ≡ true = eq-eqb _ _ (omega arith) in
-        rw (o, c) (omega arith)
+flags3 flags h = (omega (arith, first_bit flags h, second_bit flags), omega arith)
 
 -- what section 3 says is spelt so behind its length
 pub record Described (octets : List ℕ) (d : Description) : Type 0 where
@@ -397,18 +365,13 @@ pub record Described (octets : List ℕ) (d : Description) : Type 0 where
 -- two octets are a descriptor
 some_listed : (list : List ℕ) → 2 ≤ length list → 0 < length (descriptors_of list)
 unfolding descriptors_of
-some_listed [] h = absurd (omega arith)
-some_listed (a ∷ []) h = absurd (omega arith)
 some_listed (a ∷ b ∷ rest) h = omega arith
+some_listed _ h = absurd (omega arith)
 
 -- section 3 that is read is spelt so
 pub description_of_takes : (octets : List ℕ) (d : Description) → AreOctets octets
     → 6 ≤ length octets → description_of octets ≡ Ok d → Described octets d
 unfolding description_of
-description_of_takes [] d octets long e = absurd cc
-description_of_takes (x ∷ []) d octets long e = absurd cc
-description_of_takes (x ∷ n1 ∷ []) d octets long e = absurd cc
-description_of_takes (x ∷ n1 ∷ n2 ∷ []) d octets long e = absurd cc
 description_of_takes (x ∷ n1 ∷ n2 ∷ flags ∷ list) d octets long e =
     let cells = two_cells n1 n2 (octets 1 0 (omega arith)) (octets 2 0 (omega arith)) in
     let bits = flags3 flags (octets 3 0 (omega arith)) in
@@ -427,6 +390,7 @@ description_of_takes (x ∷ n1 ∷ n2 ∷ flags ∷ list) d octets long e =
       descriptors = listed.4;
       count = cells.2;
     })
+description_of_takes _ d octets long e = absurd cc
 
 -- ---- section 4
 
@@ -523,34 +487,6 @@ fits_together layout room h local d contents i octets3 said small is head sectio
       );
     }
 
--- the rest of what is ignored leaves section 1 as it is
-pub same_head : (layout : Layout) (h : Head) (announced : Bool) (i j : Ignored) → j.bits1 ≡ i.bits1
-    → j.year_octet ≡ i.year_octet
-    → (head_octets layout h announced i ≡ head_octets layout h announced j)
-    × (HasSection1 layout h i → HasSection1 layout h j)
-same_head Edition4 h announced i j same same_year = (rw same refl, λ fits. fits)
-same_head Edition3 h announced i j same same_year = (
-  rw (same, same_year) refl,
-  λ fits. record {
-    centre = fits.centre;
-    sub_centre = fits.sub_centre;
-    update = fits.update;
-    category = fits.category;
-    international = fits.international;
-    local_category = fits.local_category;
-    master_version = fits.master_version;
-    local_version = fits.local_version;
-    year = fits.year ∙ ap year_of_century (sym same_year);
-    year_octet = rw same_year fits.year_octet;
-    month = fits.month;
-    day = fits.day;
-    hour = fits.hour;
-    minute = fits.minute;
-    second = fits.second;
-    local = fits.local;
-  },
-)
-
 -- the sections that are read of a room are spelt so
 pub sections_of_takes : (layout : Layout) (room : List ℕ) (e : Envelope) → AreOctets room
     → 12 + length room < 2 ^ 24 → sections_of layout room ≡ Ok e
@@ -575,20 +511,27 @@ sections_of_takes layout room e octets small ok =
     let t4 =
     section_at_takes 4 Section4Length three.0.1 four.0.0 four.0.1 (omega arith) t3.3 four.1 in
     let tc = contents_of_takes four.0.0 four.0.1 last.0 t4.1 t4.2 last.1 in
-    let i : Ignored =
-    record th.0
-    { octet2 = t2.0; octet3 = td.octet3; bits3 = td.bits3; odd = td.odd; octet4 = tc.0 } in
-    let h = same_head layout head.0.0 head.0.1 th.0 i refl refl in
+    let i : Ignored = record {
+      bits1 = th.0;
+      octet2 = t2.0;
+      octet3 = td.octet3;
+      bits3 = td.bits3;
+      odd = td.odd;
+      octet4 = tc.0;
+      year_octet = th.1;
+    } in
+    let h = th.3 i refl refl in
     let spelt =
     together layout room one.0.1 two.0.1 three.0.1 head.0.0 head.0.1 two.0.0 said.0 last.0 i
-    (t1.0 ∙ ap (λ xs. section xs ++ one.0.1) (th.2 ∙ h.0)) t2.3 t2.2
+    (t1.0 ∙ ap (λ xs. section xs ++ one.0.1) h.0) t2.3 t2.2
     (t3.0 ∙ ap (λ xs. section xs ++ three.0.1) td.spelt) (t4.0 ∙ tc.2) in
-    subst (λ (e : Envelope). (i : Ignored) × (room ≡ sections layout e i) × EnvelopeFits layout e i)
-    (ok_is _ _ last.2) (
+    let spelt_as = λ (e : Envelope).
+    (i : Ignored) × (room ≡ sections layout e i) × EnvelopeFits layout e i in
+    subst spelt_as (ok_is _ _ last.2) (
       i,
       spelt,
       fits_together layout room head.0.0 two.0.0 said.0 last.0 i three.0.0 td small spelt
-          (h.1 th.3) t2.4 tc.3 th.1 t2.1 tc.1 refl refl refl,
+          h.1 t2.4 tc.3 th.2 t2.1 tc.1 refl refl refl,
     )
 
 -- the sections that are read of octets are spelt so

@@ -1,6 +1,8 @@
 -- Columns that are looked for one by one, records that are taken one by one, and the header: for
 -- `TableB::parse` and `TableD::parse`.
-use Rattle.std.proofs.Common.{◌≡◌, ◌≢◌, ◌∙◌, ℕ, suc, ◌<◌, ◌≤◌, ◌==◌, ◌+◌, Bool, true, false, List, [], ◌∷◌, ◌++◌, length, get_or, map, drop, Option, Some, None, Result, Ok, Err, refl, ap, sym, arith, append_assoc, add-one, drop-cons, not}
+use Rattle.std.proofs.Common.{◌≡◌, ◌≢◌, ◌∙◌, ℕ, suc, ◌<◌, ◌≤◌, ◌==◌, ◌+◌, Bool, true, false, List}
+use Rattle.std.proofs.Common.{[], ◌∷◌, ◌++◌, length, get_or, map, drop, Option, Some, None, Result}
+use Rattle.std.proofs.Common.{Ok, Err, refl, ap, sym, arith, append_assoc, add-one, drop-cons, not}
 use Rattle.std.specs.Prelude.{position, bytes_eq, MatchBool}
 use Rattle.std.specs.List.{prefix_len}
 use Rattle.bufr_tables.specs.Answers.{◌>>=◌}
@@ -8,7 +10,9 @@ use Rattle.std.specs.List.{list_all}
 use Rattle.std.specs.Cmp.Lexicographic.{pointwise}
 use Rattle.std.proofs.lemmas.Bool.Decides.{nat_tests}
 use Rattle.bufr_tables.specs.Fields.{used_fields}
-use Rattle.bufr_tables.specs.TableFiles.{column_at, columns_at, cells_at, is_skipped, row_cells, joined, after_records, after_file, TakesHeader, columns_b, columns_d}
+use Rattle.bufr_tables.specs.TableFiles.{column_at, columns_at, cells_at, is_skipped, row_cells}
+use Rattle.bufr_tables.specs.TableFiles.{joined, after_records, after_file, TakesHeader, columns_b}
+use Rattle.bufr_tables.specs.TableFiles.{columns_d}
 use Rattle.bufr_tables.specs.declared.table_faults.TableFault.TheVariants.{NotCsv}
 use Rattle.bufr_tables.specs.declared.table_faults.Column.{Column}
 use Rattle.bufr_tables.specs.declared.table_faults.TableFault.{TableFault}
@@ -36,7 +40,8 @@ append-nil (x ∷ xs) = ap (λ (t : List _). x ∷ t) (append-nil xs)
 
 -- the places of the columns before the k-th are these
 pub ColumnsSoFar : List (List ℕ) → List Column → ℕ → List ℕ → Type 0
-ColumnsSoFar h needed k places = columns_at h needed ≡ (columns_at h (drop k needed) >>= λ is. Ok (places ++ is))
+ColumnsSoFar h needed k places =
+    columns_at h needed ≡ (columns_at h (drop k needed) >>= λ is. Ok (places ++ is))
 
 -- no column was looked for yet
 pub columns_none : (h : List (List ℕ)) (needed : List Column) → ColumnsSoFar h needed 0 []
@@ -54,7 +59,9 @@ after-column : (h : List (List ℕ)) (c : Column) (cs : List Column) (places : L
     ≡ (columns_at h cs >>= λ is. Ok ((places ++ i ∷ []) ++ is))
 after-column h c cs places i e = rw e (regroup (columns_at h cs))
   where
-    regroup : (r : Result (List ℕ) TableFault) → ((r >>= λ is. Ok (i ∷ is)) >>= λ is. Ok (places ++ is)) ≡ (r >>= λ is. Ok ((places ++ i ∷ []) ++ is))
+    regroup : (r : Result (List ℕ) TableFault)
+        → ((r >>= λ is. Ok (i ∷ is)) >>= λ is. Ok (places ++ is))
+        ≡ (r >>= λ is. Ok ((places ++ i ∷ []) ++ is))
     regroup (Ok is) = ap Ok (sym (append_assoc places (i ∷ []) is))
     regroup (Err f) = refl
 
@@ -64,7 +71,9 @@ pub columns_more : (h : List (List ℕ)) (needed : List Column) (k : ℕ) (place
     → column_at h (get_or needed k d) ≡ Ok i → ColumnsSoFar h needed (k + 1) (places ++ i ∷ [])
 unfolding ColumnsSoFar
 columns_more h needed k places i d lt so e =
-    so ∙ rw (drop-cons needed k d) (after-column h (get_or needed k d) (drop (suc k) needed) places i e ∙ rw (← add-one k))
+    so
+    ∙ rw (drop-cons needed k d)
+    (after-column h (get_or needed k d) (drop (suc k) needed) places i e ∙ rw (← add-one k))
 
 -- the first column that is absent is the fault
 pub columns_stop : (h : List (List ℕ)) (needed : List Column) (k : ℕ) (places : List ℕ)
@@ -91,21 +100,24 @@ columns_all h needed k places p q so =
 pub row_cells-unequal : (h : List (List ℕ)) (places : List ℕ) (n : ℕ) (raw : List (List ℕ))
     → length raw ≢ length h → row_cells h places n raw ≡ Err (NotCsv n)
 unfolding row_cells
-row_cells-unequal h places n raw ne = let e : (length raw == length h) ≡ false = grind (arith, nat_tests) in rw e
+row_cells-unequal h places n raw ne =
+    let e : (length raw == length h) ≡ false = grind (arith, nat_tests) in rw e
 
 -- a record that is skipped has no cells
 pub row_cells-skipped : (h : List (List ℕ)) (places : List ℕ) (n : ℕ) (raw : List (List ℕ))
     → length raw ≡ length h → is_skipped h (used_fields raw) places ≡ true
     → row_cells h places n raw ≡ Ok None
 unfolding row_cells
-row_cells-skipped h places n raw same skip = let e : (length raw == length h) ≡ true = grind (arith, nat_tests) in rw (e, skip)
+row_cells-skipped h places n raw same skip =
+    let e : (length raw == length h) ≡ true = grind (arith, nat_tests) in rw (e, skip)
 
 -- a record that is a row has its cells
 pub row_cells-used : (h : List (List ℕ)) (places : List ℕ) (n : ℕ) (raw : List (List ℕ))
     → length raw ≡ length h → is_skipped h (used_fields raw) places ≡ false
     → row_cells h places n raw ≡ Ok (Some (cells_at (used_fields raw) places))
 unfolding row_cells
-row_cells-used h places n raw same skip = let e : (length raw == length h) ≡ true = grind (arith, nat_tests) in rw (e, skip)
+row_cells-used h places n raw same skip =
+    let e : (length raw == length h) ≡ true = grind (arith, nat_tests) in rw (e, skip)
 
 -- the test of a record, from the program's two tests
 pub is_skipped-same : (h fields : List (List ℕ)) (places : List ℕ)
@@ -136,8 +148,10 @@ pub file_fault : {A R : Type 0} (needed : List Column) (row_of : List (List ℕ)
     (add : A → R → Result A TableFault) (none : A) (file left : List (List (List ℕ)))
     (raw : List (List ℕ)) (f : TableFault) → TakesHeader file raw left
     → columns_at (used_fields raw) needed ≡ Err f → after_file needed row_of add none file ≡ Err f
-file_fault needed row_of add none [] left raw f t e = let g : columns_at [] needed ≡ Err f = rw t at e in rw g
-file_fault needed row_of add none (first ∷ rest) left raw f t e = let g : columns_at (used_fields first) needed ≡ Err f = rw t.0 at e in rw g
+file_fault needed row_of add none [] left raw f t e =
+    let g : columns_at [] needed ≡ Err f = rw t at e in rw g
+file_fault needed row_of add none (first ∷ rest) left raw f t e =
+    let g : columns_at (used_fields first) needed ≡ Err f = rw t.0 at e in rw g
 
 -- a file whose header has the needed columns is its rows
 pub file_rows : {A R : Type 0} (needed : List Column) (row_of : List (List ℕ) → Option R)

@@ -1,10 +1,15 @@
 -- What reading one record does to the records that are left: the next of them is given, whatever
 -- the reader's buffers are. For `Records`, on which `TableB::parse` and `TableD::parse` stand.
-use Rattle.std.proofs.Common.{◌≡◌, ◌∙◌, ℕ, zero, suc, ◌<◌, ◌≤◌, ◌==◌, ◌||◌, ◌+◌, Bool, true, false, List, [], ◌∷◌, length, Option, Some, None, Result, Ok, Err, refl, ap, sym, arith, inl, inr, Bor}
+use Rattle.std.proofs.Common.{◌≡◌, ◌∙◌, ℕ, zero, suc, ◌<◌, ◌≤◌, ◌==◌, ◌||◌, ◌+◌, Bool, true, false}
+use Rattle.std.proofs.Common.{List, [], ◌∷◌, length, Option, Some, None, Result, Ok, Err, refl, ap}
+use Rattle.std.proofs.Common.{sym, arith, inl, inr, Bor}
 use Rattle.std.proofs.lemmas.Bool.{cases_Bool}
 use Rattle.std.specs.Prelude.{if◌then◌else◌, IfOk, OnOk, IfErr, MatchBool}
-use Rattle.csv.specs.Machine.{Read, next_record, step, in_field, start_field, start_record, is_end, ends_at_end, fields_after, field_after}
-use Rattle.csv.specs.Reading.{records_from, records_next, default_config, pending_of, has_failed, reader_trim, is_flexible, took_first, error_kind, stops_reader, Ready, ReadRecord, ExplainsRead, NextIs, ReadsNext}
+use Rattle.csv.specs.Machine.{Read, next_record, step, in_field, start_field, start_record, is_end}
+use Rattle.csv.specs.Machine.{ends_at_end, fields_after, field_after}
+use Rattle.csv.specs.Reading.{records_from, records_next, default_config, pending_of, has_failed}
+use Rattle.csv.specs.Reading.{reader_trim, is_flexible, took_first, error_kind, stops_reader, Ready}
+use Rattle.csv.specs.Reading.{ReadRecord, ExplainsRead, NextIs, ReadsNext}
 use Rattle.csv.specs.declared.parser.State.{State}
 use Rattle.csv.specs.declared.parser.State.TheVariants as st
 use Rattle.csv.specs.declared.parser.Action.{Action}
@@ -48,7 +53,9 @@ good-after false = record { ends = λ h. refl }
 
 -- every step inside a field is good
 good-in_field : (c : ℕ) → Good (in_field default_config c)
-good-in_field c = good-if (c == 44) _ _ (good-field st.StartField) (good-if ((c == 13) || (c == 10)) _ _ (good-after (c == 13)) (good-copy st.InField))
+good-in_field c =
+    good-if (c == 44) _ _ (good-field st.StartField)
+    (good-if ((c == 13) || (c == 10)) _ _ (good-after (c == 13)) (good-copy st.InField))
 
 -- every step at the start of a field is good
 good-start_field : (c : ℕ) → Good (start_field default_config c)
@@ -56,7 +63,8 @@ good-start_field c = good-if (c == 34) _ _ (good-skip st.InQuoted) (good-in_fiel
 
 -- every step at the start of a record is good
 good-start_record : (c : ℕ) → Good (start_record default_config c)
-good-start_record c = good-if ((c == 13) || (c == 10)) _ _ (good-skip st.StartRecord) (good-start_field c)
+good-start_record c =
+    good-if ((c == 13) || (c == 10)) _ _ (good-skip st.StartRecord) (good-start_field c)
 
 -- every step is good
 good-step : (s : State) (c : ℕ) → Good (step default_config s c)
@@ -72,7 +80,8 @@ good-step st.AfterCr c = good-if (c == 10) _ _ (good-skip st.StartRecord) (good-
 -- a state counts for one octet at most
 extra-small : (s : State) → extra s ≤ 1
 unfolding extra
-extra-small s = elim (cases_Bool (ends_at_end s)) [ inl e ↦ rw e (omega arith) | inr e ↦ rw e (omega arith) ]
+extra-small s =
+    elim (cases_Bool (ends_at_end s)) [ inl e ↦ rw e (omega arith) | inr e ↦ rw e (omega arith) ]
 
 -- a record takes something of the text, and leaves the machine between records
 record Shorter (s : State) (n : ℕ) (q : Read) : Type 0 where
@@ -83,7 +92,9 @@ record Shorter (s : State) (n : ℕ) (q : Read) : Type 0 where
 shorter-end : (s : State) (fields : List (List ℕ)) (b : Bool) (q : Read) → b ≡ ends_at_end s
     → (if b then Some (fields, st.StartRecord, []) else None) ≡ Some q → Shorter s 0 q
 unfolding extra
-shorter-end s fields true q e h = let k : (fields, st.StartRecord, []) ≡ q = cc in record { less = rw (← k, ← e) (omega arith); ends = rw (← k) refl }
+shorter-end s fields true q e h =
+    let k : (fields, st.StartRecord, []) ≡ q =
+    cc in record { less = rw (← k, ← e) (omega arith); ends = rw (← k) refl }
 shorter-end s fields false q e h = absurd (cc)
 
 -- a record leaves fewer octets than there were
@@ -92,14 +103,24 @@ shorter : (s : State) (fields : List (List ℕ)) (field xs : List ℕ) (q : Read
 unfolding next_record
 shorter s fields field [] q h = shorter-end s _ (ends_at_end s) q refl h
 shorter s fields field (c ∷ rest) q h =
-    let more = shorter (step default_config s c).0 (fields_after (step default_config s c).1 fields field) (field_after (step default_config s c).1 c field) rest q in
+    let more =
+    shorter (step default_config s c).0 (fields_after (step default_config s c).1 fields field)
+    (field_after (step default_config s c).1 c field) rest q in
     elim (cases_Bool (is_end (step default_config s c).1)) [
       | inl e ↦
-          let k : (fields_after (step default_config s c).1 fields field, (step default_config s c).0, rest) ≡ q = some-same (rw e at h) in
+          let k : (
+            fields_after (step default_config s c).1 fields field,
+            (step default_config s c).0,
+            rest,
+          ) ≡ q = some-same (rw e at h) in
           record { less = rw (← k) (omega arith); ends = rw (← k) ((good-step s c).ends e) }
       | inr e ↦
           let m = more (rw e at h) in
-          record { less = omega (arith, m.less, extra-small (step default_config s c).0); ends = m.ends }
+          record {
+            less = omega
+                (arith, m.less, extra-small (step default_config s c).0);
+            ends = m.ends;
+          }
     ]
   where
     some-same : {A : Type 0} {x y : A} → Some x ≡ Some y → x ≡ y
@@ -123,7 +144,8 @@ next-enough n m s xs p q more None e = refl
 next-enough n m s xs p q more (Some r) e =
     let k = shorter s [] [] xs r e in
     let z = none-extra r.1 k.ends in
-    ap (λ (t : List (List (List ℕ))). r.0 ∷ t) (more r.1 r.2 (omega (arith, k.less, z)) (omega (arith, k.less, z)))
+    ap (λ (t : List (List (List ℕ))). r.0 ∷ t)
+    (more r.1 r.2 (omega (arith, k.less, z)) (omega (arith, k.less, z)))
 
 -- enough steps give all records
 pub enough : (n m : ℕ) (s : State) (xs : List ℕ) → length xs + extra s < n → length xs + extra s < m
@@ -132,14 +154,16 @@ unfolding records_from
 enough zero m s xs p q = absurd (omega arith)
 enough (suc n) zero s xs p q = absurd (omega arith)
 enough (suc n) (suc m) s xs p q =
-    next-enough n m s xs p q (λ t ys a b. enough n m t ys a b) (next_record default_config s [] [] xs) refl
+    next-enough n m s xs p q (λ t ys a b. enough n m t ys a b)
+    (next_record default_config s [] [] xs) refl
 
 -- a text has all its records left
 pub all-records : (xs : List ℕ)
     → records_from default_config (length xs + 2) st.StartRecord xs
     ≡ records_from default_config (length xs + 1) st.StartRecord xs
 unfolding extra
-all-records xs = enough (length xs + 2) (length xs + 1) st.StartRecord xs (omega arith) (omega arith)
+all-records xs =
+    enough (length xs + 2) (length xs + 1) st.StartRecord xs (omega arith) (omega arith)
 
 -- the records of octets are the next one and those behind it
 one-step : (n : ℕ) (s : State) (xs : List ℕ)
@@ -166,14 +190,19 @@ read-one s s2 xs z found fields (Some p) e n =
     let k = shorter s [] [] xs p e in
     let small = extra-small s in
     let none = none-extra p.1 k.ends in
-    rw (n.0, n.1, n.2, n.3) (ap (λ (t : List (List (List ℕ))). p.0 ∷ t) (enough (length xs + 1) (length p.2 + 2) p.1 p.2 (omega (arith, k.less, small, none)) (omega (arith, none))))
+    rw (n.0, n.1, n.2, n.3)
+    (ap (λ (t : List (List (List ℕ))). p.0 ∷ t)
+    (enough (length xs + 1) (length p.2 + 2) p.1 p.2 (omega (arith, k.less, small, none))
+    (omega (arith, none))))
 
 -- what is left before a record is that record and what is left behind it
 read-left : (s s2 : State) (xs : List ℕ) (k : Option (List ℕ)) (found : Bool)
     (fields : List (List ℕ)) → ReadsNext default_config s (Some xs) k found fields s2
     → MatchBool found (left_from s (Some xs) ≡ fields ∷ left_from s2 k) (left_from s (Some xs) ≡ [])
 read-left s s2 xs None found fields r = absurd r
-read-left s s2 xs (Some z) found fields r = rw (one-step (length xs) s xs) (read-one s s2 xs z found fields (next_record default_config s [] [] xs) refl r)
+read-left s s2 xs (Some z) found fields r =
+    rw (one-step (length xs) s xs)
+    (read-one s s2 xs z found fields (next_record default_config s [] [] xs) refl r)
 
 -- the bytes that a reader of a slice may know
 bytes_of : Bor (List ℕ) → Option (List ℕ)
@@ -206,12 +235,23 @@ pub step-plain : (a b : Reader (Bor (List ℕ))) (res : Result Bool Error) (fiel
 step-plain a b (Ok found) fields plain ready reads flexible goes fails failed why = λ fine.
     let w = plain (sym goes ∙ fine) in
     let r = reads w.plain w.ready in
-    let k = reads-known a.state b.state w.known.0 (pending_of (Some b.rdr.now) b) found fields (rw (w.config, w.known.1) at r.0) in
-    record { plain = r.3 ∙ w.plain; config = r.2 ∙ w.config; ready = inl (ready w.plain); flexible = flexible ∙ w.flexible; known = (k.0, source-after b r.1 ∙ k.1) }
+    let k =
+    reads-known a.state b.state w.known.0 (pending_of (Some b.rdr.now) b) found fields
+    (rw (w.config, w.known.1) at r.0) in
+    record {
+      plain = r.3 ∙ w.plain;
+      config = r.2
+          ∙ w.config;
+      ready = inl (ready w.plain);
+      flexible = flexible
+          ∙ w.flexible;
+      known = (k.0, source-after b r.1 ∙ k.1);
+    }
 step-plain a b (Err e) fields plain ready reads flexible goes fails failed why = λ fine.
     elim (cases_Bool (has_failed a)) [
       | inl t ↦ let no_error = failed t in absurd (cc)
-      | inr f ↦ let w = plain f in absurd (stops-only a b (error_kind e) (why w.ready) w.flexible (sym fails ∙ fine))
+      | inr f ↦ let w = plain f in
+          absurd (stops-only a b (error_kind e) (why w.ready) w.flexible (sym fails ∙ fine))
     ]
 
 -- a reader gives the first of the records that it has left
@@ -225,5 +265,7 @@ step-left a b found fields plain failed reads =
       | inr f ↦
           let w = plain f in
           let r = reads w.plain w.ready in
-          rw (w.known.1, source-after b r.1) (read-left a.state b.state w.known.0 (pending_of (Some b.rdr.now) b) found fields (rw (w.config, w.known.1) at r.0))
+          rw (w.known.1, source-after b r.1)
+          (read-left a.state b.state w.known.0 (pending_of (Some b.rdr.now) b) found fields
+          (rw (w.config, w.known.1) at r.0))
     ]

@@ -1,6 +1,8 @@
 -- The fields of a record without the spaces at their ends and the first without a mark: for
 -- `used_fields`, on which the two `parse` stand.
-use Rattle.std.proofs.Common.{◌≡◌, ◌≢◌, ◌∙◌, ℕ, zero, suc, ◌==◌, ◌&&◌, Bool, true, false, List, [], ◌∷◌, ◌++◌, length, get_or, map, take, drop, reverse, Some, None, refl, ap, sym, arith, nat_eq}
+use Rattle.std.proofs.Common.{◌≡◌, ◌≢◌, ◌∙◌, ℕ, zero, suc, ◌==◌, ◌&&◌, Bool, true, false, List, []}
+use Rattle.std.proofs.Common.{◌∷◌, ◌++◌, length, get_or, map, take, drop, reverse, Some, None, refl}
+use Rattle.std.proofs.Common.{ap, sym, arith, nat_eq}
 use Rattle.std.proofs.lemmas.List.{reverse-append, reverse-reverse}
 use Rattle.csv.specs.Records.{field_at}
 use Rattle.std.proofs.lemmas.Bool.Decides.{nat_tests}
@@ -128,7 +130,10 @@ skip_back-space xs = ap skip_spaces (reverse-push xs 32) ∙ skip_spaces-space (
 -- another octet at the end stays
 pub skip_back-other : (xs : List ℕ) (c : ℕ) → c ≢ 32
     → reverse (skip_spaces (reverse (xs ++ c ∷ []))) ≡ xs ++ c ∷ []
-skip_back-other xs c h = ap (λ (t : List ℕ). reverse (skip_spaces t)) (reverse-push xs c) ∙ ap reverse (skip_spaces-other c (reverse xs) h) ∙ ap reverse (sym (reverse-push xs c)) ∙ reverse-reverse (xs ++ c ∷ [])
+skip_back-other xs c h =
+    ap (λ (t : List ℕ). reverse (skip_spaces t)) (reverse-push xs c)
+    ∙ ap reverse (skip_spaces-other c (reverse xs) h) ∙ ap reverse (sym (reverse-push xs c))
+    ∙ reverse-reverse (xs ++ c ∷ [])
 
 -- nothing has no space at its end
 pub skip_back-none : reverse (skip_spaces (reverse [])) ≡ []

@@ -1,13 +1,17 @@
 -- Numbers in digits, and whether they fit: for the fields of Table B's rows (`numbers`), on which
 -- `TableB::parse` stands.
-use Rattle.std.proofs.Common.{◌≡◌, ◌≢◌, ◌∙◌, ℤ, pos, ℕ, zero, suc, ◌<◌, ◌≤◌, ◌==◌, ◌&&◌, ◌+◌, ◌-◌, ◌*◌, ◌^◌, true, false, not, List, [], ◌∷◌, length, get_or, take, drop, fold, Option, Some, None, refl, ap, sym, arith, inl, inr, take-append-drop}
+use Rattle.std.proofs.Common.{◌≡◌, ◌≢◌, ◌∙◌, ℤ, pos, ℕ, zero, suc, ◌<◌, ◌≤◌, ◌==◌, ◌&&◌, ◌+◌, ◌-◌}
+use Rattle.std.proofs.Common.{◌*◌, ◌^◌, true, false, not, List, [], ◌∷◌, length, get_or, take, drop}
+use Rattle.std.proofs.Common.{fold, Option, Some, None, refl, ap, sym, arith, inl, inr}
+use Rattle.std.proofs.Common.{take-append-drop}
 use Rattle.std.specs.Prelude.{option_and_then, option_map, nat_lt}
 use Rattle.std.specs.Char.{is_ascii_digit}
 use Rattle.std.specs.List.{list_all}
 use Rattle.std.proofs.lemmas.Bool.{cases_Bool}
 use Rattle.std.proofs.lemmas.Bool.Decides.{nat_tests}
 use Rattle.std.proofs.lemmas.List.Sums.{fold_more, fold-append}
-use Rattle.bufr_tables.specs.Numbers.{digits_value, natural, negative, integer, unsigned, reach, unsigned_fit, signed_fit}
+use Rattle.bufr_tables.specs.Numbers.{digits_value, natural, negative, integer, unsigned, reach}
+use Rattle.bufr_tables.specs.Numbers.{unsigned_fit, signed_fit}
 
 -- more digits make no smaller number
 grows : (n : ℕ) (t : List ℕ) → n ≤ fold (λ n c. 10 * n + (c - 48)) n t
@@ -17,7 +21,9 @@ grows n (c ∷ t) = let more = grows (10 * n + (c - 48)) t in omega (arith, more
 -- the first digits spell no more than all
 pub digits_value-take : (t : List ℕ) (k : ℕ) → digits_value (take k t) ≤ digits_value t
 digits_value-take t k =
-    let whole : digits_value t ≡ fold (λ n c. 10 * n + (c - 48)) (digits_value (take k t)) (drop k t) = ap digits_value (sym (take-append-drop k t)) ∙ fold-append _ 0 (take k t) (drop k t) in
+    let whole : digits_value t
+    ≡ fold (λ n c. 10 * n + (c - 48)) (digits_value (take k t)) (drop k t) =
+    ap digits_value (sym (take-append-drop k t)) ∙ fold-append _ 0 (take k t) (drop k t) in
     rw whole (grows (digits_value (take k t)) (drop k t))
 
 -- one digit more
@@ -35,7 +41,8 @@ too-large : (t : List ℕ) → 2 ^ 64 ≤ digits_value t
     → option_and_then (unsigned_fit 64) (natural t) ≡ None
 too-large t h =
     let no : nat_lt (digits_value t) (2 ^ 64) ≡ false = grind (arith, nat_tests) in
-    elim (cases_Bool (not (length t == 0) && list_all is_ascii_digit t)) [ inl e ↦ rw (e, no) | inr e ↦ rw e ]
+    elim (cases_Bool (not (length t == 0) && list_all is_ascii_digit t))
+    [ inl e ↦ rw (e, no) | inr e ↦ rw e ]
 
 -- digits whose first ones are too many do not fit
 pub natural-too_large : (t : List ℕ) (k v : ℕ) → k < length t → v ≡ digits_value (take k t)
@@ -50,7 +57,8 @@ pub natural-all : (t : List ℕ) (k v : ℕ) → (length t == 0) ≡ false
     → list_all is_ascii_digit t ≡ true → k ≡ length t → v ≡ digits_value (take k t) → v < 2 ^ 64
     → option_and_then (unsigned_fit 64) (natural t) ≡ Some v
 natural-all t k v some all e is h =
-    let whole : v ≡ digits_value t = is ∙ ap (λ (n : ℕ). digits_value (take n t)) e ∙ ap digits_value (take-all t) in
+    let whole : v ≡ digits_value t =
+    is ∙ ap (λ (n : ℕ). digits_value (take n t)) e ∙ ap digits_value (take-all t) in
     let fits : nat_lt v (2 ^ 64) ≡ true = grind (arith, nat_tests) in
     rw (some, all, ← whole, fits)
 

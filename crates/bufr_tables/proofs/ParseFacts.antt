@@ -1,6 +1,7 @@
 -- The reading of a file, step by step, for `TableB::parse` and `TableD::parse`: `whole` is the
 -- table of the file, or its first fault.
-use Rattle.std.proofs.Common.{◌≡◌, ◌∙◌, ℕ, ◌+◌, Bool, true, false, List, [], ◌∷◌, Option, Result, Ok, Err, ap, map, Bor}
+use Rattle.std.proofs.Common.{◌≡◌, ◌∙◌, ℕ, ◌+◌, Bool, true, false, List, [], ◌∷◌, Option, Result}
+use Rattle.std.proofs.Common.{Ok, Err, ap, map, Bor}
 use Rattle.std.specs.Prelude.{MatchBool, IsErrAnd}
 use Rattle.bufr_tables.specs.declared.table_faults.Column.{Column}
 use Rattle.bufr_tables.specs.declared.table_faults.TableFault.{TableFault}
@@ -8,8 +9,10 @@ use Rattle.bufr_tables.specs.declared.failure.Failure.{Failure}
 use Rattle.bufr_tables.specs.declared.failure.Failure.TheVariants.{Fault, OutOfMemory}
 use Rattle.bufr_tables.specs.Answers.{◌>>=◌, Fails, Gives}
 use Rattle.bufr_tables.specs.Fields.{used_fields}
-use Rattle.bufr_tables.specs.TableFiles.{columns_at, row_cells, joined, after_records, after_file, TakesHeader}
-use Rattle.bufr_tables.proofs.ColumnFacts.{file_fault, file_rows, records_more, records_stop_row, records_stop_join, records_end}
+use Rattle.bufr_tables.specs.TableFiles.{columns_at, row_cells, joined, after_records, after_file}
+use Rattle.bufr_tables.specs.TableFiles.{TakesHeader}
+use Rattle.bufr_tables.proofs.ColumnFacts.{file_fault, file_rows, records_more, records_stop_row}
+use Rattle.bufr_tables.proofs.ColumnFacts.{records_stop_join, records_end}
 
 -- a fault that is passed on
 pub fails-by : {X Y : Type 0} (e : Failure TableFault) (r : Result X TableFault)
@@ -43,8 +46,12 @@ module _ {A R : Type 0} (needed : List Column) (row_of : List (List ℕ) → Opt
       → Fails e (columns_at (map (λ s. s.now) lent) needed)
       → Fails e (after_file needed row_of add none all)
   start_fails file all left raw names lent e a t n l h =
-      let eq : map (λ s. s.now) lent ≡ used_fields raw = ap (map (λ (s : Bor (List ℕ)). s.now)) l ∙ n in
-      rw (← a) (fails-by e (columns_at (map (λ s. s.now) lent) needed) (after_file needed row_of add none file) (λ f g. file_fault needed row_of add none file left raw f t (rw eq at g)) h)
+      let eq : map (λ s. s.now) lent ≡ used_fields raw =
+      ap (map (λ (s : Bor (List ℕ)). s.now)) l ∙ n in
+      rw (← a)
+      (fails-by e (columns_at (map (λ s. s.now) lent) needed)
+      (after_file needed row_of add none file)
+      (λ f g. file_fault needed row_of add none file left raw f t (rw eq at g)) h)
 
   -- one that has them makes the file what its records behind the header add to nothing
   pub starts : (file all left : List (List (List ℕ))) (raw : List (List ℕ))
@@ -55,7 +62,8 @@ module _ {A R : Type 0} (needed : List Column) (row_of : List (List ℕ) → Opt
       → after_file needed row_of add none all
       ≡ after_records row_of add (map (λ s. s.now) names) places 2 left none
   starts file all left raw names lent places absent a t n l h =
-      let eq : map (λ s. s.now) lent ≡ used_fields raw = ap (map (λ (s : Bor (List ℕ)). s.now)) l ∙ n in
+      let eq : map (λ s. s.now) lent ≡ used_fields raw =
+      ap (map (λ (s : Bor (List ℕ)). s.now)) l ∙ n in
       rw (← a, n) (file_rows needed row_of add none file left raw places absent t (rw eq at h))
 
 -- a record's cells, with names and places as the program lends them
@@ -71,7 +79,8 @@ module _ {A R : Type 0} (row_of : List (List ℕ) → Option R) (add : A → R �
   pub ends : (n : ℕ) (file left : List (List (List ℕ))) (raw : List (List ℕ)) (so_far : A)
       (found : Bool) → whole ≡ after_records row_of add names places n file so_far
       → MatchBool found (file ≡ raw ∷ left) (file ≡ []) → found ≡ false → whole ≡ Ok so_far
-  ends n file left raw so_far found w m f = let g : file ≡ [] = rw f at m in w ∙ rw g (records_end row_of add names places n so_far)
+  ends n file left raw so_far found w m f =
+      let g : file ≡ [] = rw f at m in w ∙ rw g (records_end row_of add names places n so_far)
 
   -- behind a record that is joined, it comes to what the others add to the new table
   pub goes_on : (n : ℕ) (file left : List (List (List ℕ))) (raw : List (List ℕ)) (so_far new : A)
@@ -80,7 +89,9 @@ module _ {A R : Type 0} (row_of : List (List ℕ) → Option R) (add : A → R �
       → MatchBool found (file ≡ raw ∷ left) (file ≡ []) → found ≡ true
       → row_cells names places n raw ≡ Ok cells → joined row_of add n so_far cells ≡ Ok new
       → whole ≡ after_records row_of add names places (n + 1) left new
-  goes_on n file left raw so_far new cells found w m f r j = let g : file ≡ raw ∷ left = rw f at m in w ∙ rw g (records_more row_of add names places n raw left so_far new cells r j)
+  goes_on n file left raw so_far new cells found w m f r j =
+      let g : file ≡ raw ∷ left =
+      rw f at m in w ∙ rw g (records_more row_of add names places n raw left so_far new cells r j)
 
   -- a record that is no CSV row fails the file
   pub stops_at_row : (n : ℕ) (file left : List (List (List ℕ))) (raw : List (List ℕ)) (so_far : A)
@@ -90,7 +101,8 @@ module _ {A R : Type 0} (row_of : List (List ℕ) → Option R) (add : A → R �
       → Fails e (row_cells names places n raw) → Fails e whole
   stops_at_row n file left raw so_far found e w m f h =
       let g : file ≡ raw ∷ left = rw f at m in
-      fails-by e (row_cells names places n raw) whole (λ x k. w ∙ rw g (records_stop_row row_of add names places n raw left so_far x k)) h
+      fails-by e (row_cells names places n raw) whole
+      (λ x k. w ∙ rw g (records_stop_row row_of add names places n raw left so_far x k)) h
 
   -- and so does a row that cannot be joined to the table
   pub stops_at_join : (n : ℕ) (file left : List (List (List ℕ))) (raw : List (List ℕ)) (so_far : A)
@@ -101,4 +113,6 @@ module _ {A R : Type 0} (row_of : List (List ℕ) → Option R) (add : A → R �
       → Fails e whole
   stops_at_join n file left raw so_far cells found e w m f r h =
       let g : file ≡ raw ∷ left = rw f at m in
-      fails-by e (joined row_of add n so_far cells) whole (λ x k. w ∙ rw g (records_stop_join row_of add names places n raw left so_far cells x r k)) h
+      fails-by e (joined row_of add n so_far cells) whole
+      (λ x k. w
+      ∙ rw g (records_stop_join row_of add names places n raw left so_far cells x r k)) h

@@ -1,6 +1,7 @@
 -- What a row adds, and that tables stay in ascending order: for `TableB::parse` and
 -- `TableD::parse`.
-use Rattle.std.proofs.Common.{◌≡◌, ◌≢◌, ◌∙◌, ℕ, ◌<◌, ◌==◌, Bool, true, false, List, [], ◌∷◌, ◌++◌, Option, Some, None, Ok, Err, refl, ap, sym, arith, inl, inr, ℤ}
+use Rattle.std.proofs.Common.{◌≡◌, ◌≢◌, ◌∙◌, ℕ, ◌<◌, ◌==◌, Bool, true, false, List, [], ◌∷◌, ◌++◌}
+use Rattle.std.proofs.Common.{Option, Some, None, Ok, Err, refl, ap, sym, arith, inl, inr, ℤ}
 use Rattle.std.specs.Prelude.{is_some, option_and_then, option_map, if◌then◌else◌}
 use Rattle.std.proofs.lemmas.Bool.{cases_order}
 use Rattle.std.proofs.lemmas.Bool.Decides.{nat_tests, same_from_decides}
@@ -14,7 +15,8 @@ use Rattle.bufr_tables.specs.declared.table_faults.TableFault.TheVariants.{Confl
 use Rattle.bufr_tables.specs.contracts.element.ElementPartialEq.TheImpl as element_eq
 use Rattle.bufr_tables.specs.Elements.{same_kind, same_element}
 use Rattle.bufr_tables.specs.Entries.{at, Rising, NoCounts}
-use Rattle.bufr_tables.specs.Rows.{kind_of, cell, element_row, with_element, begins, Sequences, with_member}
+use Rattle.bufr_tables.specs.Rows.{kind_of, cell, element_row, with_element, begins, Sequences}
+use Rattle.bufr_tables.specs.Rows.{with_member}
 use Rattle.bufr_tables.specs.Numbers.{signed_of, unsigned_of, descriptor_of}
 use Rattle.bufr_tables.proofs.TableFacts.{element_eq-Decides, same_element-Decides}
 
@@ -71,10 +73,14 @@ Rising-insert d v [] r = tt
 Rising-insert d v (e ∷ es) r =
     let more = Rising-insert d v es (rising-rest e es r) in
     elim (cases_order d e.0) [
-      | inl k ↦ rw (equal d e.0 k) (rising-join (e.0, v) es (rising-first e es r) (rising-rest e es r))
+      | inl k ↦
+          rw (equal d e.0 k) (rising-join (e.0, v) es (rising-first e es r) (rising-rest e es r))
       | inr k ↦ elim k [
         | inl l ↦ rw (less d e.0 l) (l, r)
-        | inr g ↦ rw (greater d e.0 g) (rising-join e (insert_entry nat_cmp es d v) (above-insert e.0 d v es g (rising-first e es r)) more)
+        | inr g ↦
+            rw (greater d e.0 g)
+            (rising-join e (insert_entry nat_cmp es d v)
+            (above-insert e.0 d v es g (rising-first e es r)) more)
       ]
     ]
 
@@ -86,23 +92,28 @@ NoCounts-insert d v (e ∷ es) k n =
     let more = NoCounts-insert d v es k n.1 in
     elim (cases_order d e.0) [
       | inl s ↦ rw (equal d e.0 s) (k, n.1)
-      | inr s ↦ elim s [ inl l ↦ rw (less d e.0 l) (k, n) | inr g ↦ rw (greater d e.0 g) (n.0, more) ]
+      | inr s ↦
+          elim s [ inl l ↦ rw (less d e.0 l) (k, n) | inr g ↦ rw (greater d e.0 g) (n.0, more) ]
     ]
 
 -- what an element adds, by cases
 same_test : (a b : Element) → element_eq.ghosts.eq a b ≡ same_element a b
-same_test a b = same_from_decides (element_eq.ghosts.eq a b) (same_element a b) (element_eq-Decides a b) (same_element-Decides a b)
+same_test a b =
+    same_from_decides (element_eq.ghosts.eq a b) (same_element a b) (element_eq-Decides a b)
+    (same_element-Decides a b)
 
 -- an equal row adds nothing
 pub with_element-same : (rows : List (ℕ × Element)) (d : ℕ) (e old : Element) → at d rows ≡ Some old
     → element_eq.ghosts.eq old e ≡ true → with_element rows (d, e) ≡ Ok rows
-with_element-same rows d e old f s = let t : same_element old e ≡ true = sym (same_test old e) ∙ s in rw (f, t)
+with_element-same rows d e old f s =
+    let t : same_element old e ≡ true = sym (same_test old e) ∙ s in rw (f, t)
 
 -- a differing row is a conflict
 pub with_element-other : (rows : List (ℕ × Element)) (d : ℕ) (e old : Element)
     → at d rows ≡ Some old → element_eq.ghosts.eq old e ≡ false
     → with_element rows (d, e) ≡ Err (Conflict d)
-with_element-other rows d e old f s = let t : same_element old e ≡ false = sym (same_test old e) ∙ s in rw (f, t)
+with_element-other rows d e old f s =
+    let t : same_element old e ≡ false = sym (same_test old e) ∙ s in rw (f, t)
 
 -- a row of a new descriptor is added
 pub with_element-new : (rows : List (ℕ × Element)) (d : ℕ) (e : Element) → at d rows ≡ None
@@ -133,14 +144,19 @@ made None scale reference width kind d e h = absurd (cc)
 made (Some f) None reference width kind d e h = absurd (cc)
 made (Some f) (Some s) None width kind d e h = absurd (cc)
 made (Some f) (Some s) (Some r) None kind d e h = absurd (cc)
-made (Some f) (Some s) (Some r) (Some w) kind d e h = let g : ◌≡◌ {A = ℕ × Element} (f, record { kind = kind; scale = s; reference = r; width = w }) (d, e) = cc in ap (λ (x : ℕ × Element). x.1.kind) (sym g)
+made (Some f) (Some s) (Some r) (Some w) kind d e h =
+    let g : ◌≡◌ {A = ℕ × Element} (f, record { kind = kind; scale = s; reference = r; width = w })
+    (d, e) = cc in ap (λ (x : ℕ × Element). x.1.kind) (sym g)
 
 -- no row is a count
 pub element_row-not_count : (cells : List (List ℕ)) (row : ℕ × Element)
     → element_row cells ≡ Some row → same_kind row.1.kind kinds.Count ≡ false
 unfolding element_row
 element_row-not_count cells row h =
-    rw (made (descriptor_of 0 (cell cells 0)) (signed_of 32 (cell cells 2)) (signed_of 64 (cell cells 3)) (unsigned_of 32 (cell cells 4)) (kind_of (cell cells 1)) row.0 row.1 h) (kind_of-not_count (cell cells 1))
+    rw
+    (made (descriptor_of 0 (cell cells 0)) (signed_of 32 (cell cells 2))
+    (signed_of 64 (cell cells 3)) (unsigned_of 32 (cell cells 4))
+    (kind_of (cell cells 1)) row.0 row.1 h) (kind_of-not_count (cell cells 1))
 
 -- what begins a sequence
 pub begins-again : (ended : List (ℕ × List ℕ)) (d m : ℕ) → is_some (at d ended) ≡ true
@@ -169,4 +185,5 @@ with_member-same s d m list h = let e : (d == d) ≡ true = grind (arith, nat_te
 -- a row of another sequence ends the one at hand and begins its own
 pub with_member-other : (s : Sequences) (d m o : ℕ) (list : List ℕ) → s.open_one ≡ Some (o, list)
     → o ≢ d → with_member s (d, m) ≡ begins (insert_entry nat_cmp s.ended o list) d m
-with_member-other s d m o list h n = let e : (o == d) ≡ false = grind (arith, nat_tests) in rw (h, e)
+with_member-other s d m o list h n =
+    let e : (o == d) ≡ false = grind (arith, nat_tests) in rw (h, e)

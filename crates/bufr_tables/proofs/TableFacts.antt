@@ -1,6 +1,7 @@
 -- What stands at a descriptor, and tests that are equalities: for `Tables::element`, `sequence` and
 -- `same`.
-use Rattle.std.proofs.Common.{◌≡◌, ◌∙◌, ℕ, ◌==◌, ◌&&◌, Bool, true, false, List, [], ◌∷◌, refl, ap, arith, ℤ, pos, negsuc}
+use Rattle.std.proofs.Common.{◌≡◌, ◌∙◌, ℕ, ◌==◌, ◌&&◌, Bool, true, false, List, [], ◌∷◌, refl, ap}
+use Rattle.std.proofs.Common.{arith, ℤ, pos, negsuc}
 use Rattle.std.proofs.lemmas.Bool.Decides.{nat_tests, Decides-eqb, Decides-int_eq}
 use Rattle.std.specs.Bool.{Decides}
 use Rattle.std.specs.Ordering.{is_eq, nat_cmp}
@@ -35,8 +36,10 @@ same_kind-Decides _ _ = (λ h. cc, λ h. cc)
 
 -- the same whole number is an equal one
 pub same_integer-Decides : (a b : ℤ) → Decides (same_integer a b) (a ≡ b)
-same_integer-Decides (pos a) (pos b) = (λ h. ap pos ((Decides-eqb a b).0 h), λ h. (Decides-eqb a b).1 (cc))
-same_integer-Decides (negsuc a) (negsuc b) = (λ h. ap negsuc ((Decides-eqb a b).0 h), λ h. (Decides-eqb a b).1 (cc))
+same_integer-Decides (pos a) (pos b) =
+    (λ h. ap pos ((Decides-eqb a b).0 h), λ h. (Decides-eqb a b).1 (cc))
+same_integer-Decides (negsuc a) (negsuc b) =
+    (λ h. ap negsuc ((Decides-eqb a b).0 h), λ h. (Decides-eqb a b).1 (cc))
 same_integer-Decides (pos a) (negsuc b) = (λ h. cc, λ h. cc)
 same_integer-Decides (negsuc a) (pos b) = (λ h. cc, λ h. cc)
 
@@ -60,27 +63,43 @@ and-Decides false false P Q p q = (λ h. cc, λ h. p.1 h.0)
 of_parts : (a b : Element) → a.kind ≡ b.kind → a.scale ≡ b.scale → a.reference ≡ b.reference
     → a.width ≡ b.width → a ≡ b
 of_parts a b k s r w =
-    ap {B = Element} (λ (x : Kind). record { kind = x; scale = a.scale; reference = a.reference; width = a.width }) k
-    ∙ ap {B = Element} (λ (x : ℤ). record { kind = b.kind; scale = x; reference = a.reference; width = a.width }) s
-    ∙ ap {B = Element} (λ (x : ℤ). record { kind = b.kind; scale = b.scale; reference = x; width = a.width }) r
-    ∙ ap {B = Element} (λ (x : ℕ). record { kind = b.kind; scale = b.scale; reference = b.reference; width = x }) w
+    ap {B = Element}
+    (λ (x : Kind).
+    record { kind = x; scale = a.scale; reference = a.reference; width = a.width }) k
+    ∙ ap {B = Element}
+    (λ (x : ℤ). record { kind = b.kind; scale = x; reference = a.reference; width = a.width }) s
+    ∙ ap {B = Element}
+    (λ (x : ℤ). record { kind = b.kind; scale = b.scale; reference = x; width = a.width }) r
+    ∙ ap {B = Element}
+    (λ (x : ℕ). record { kind = b.kind; scale = b.scale; reference = b.reference; width = x }) w
 
 -- the test of four parts decides whether elements are equal
 parts-Decides : (a b : Element) (x y z w : Bool) → Decides x (a.kind ≡ b.kind)
     → Decides y (a.scale ≡ b.scale) → Decides z (a.reference ≡ b.reference)
     → Decides w (a.width ≡ b.width) → Decides (x && (y && (z && w))) (a ≡ b)
 parts-Decides a b x y z w p q r s =
-    let all = and-Decides x (y && (z && w)) _ _ p (and-Decides y (z && w) _ _ q (and-Decides z w _ _ r s)) in (
+    let all =
+    and-Decides x (y && (z && w)) _ _ p
+    (and-Decides y (z && w) _ _ q (and-Decides z w _ _ r s)) in (
       λ h. of_parts a b (all.0 h).0 (all.0 h).1.0 (all.0 h).1.1.0 (all.0 h).1.1.1,
-      λ h. all.1 (ap (λ (e : Element). e.kind) h, (ap (λ (e : Element). e.scale) h, (ap (λ (e : Element). e.reference) h, ap (λ (e : Element). e.width) h))),
+      λ h. all.1 (
+        ap (λ (e : Element). e.kind) h,
+        (
+          ap (λ (e : Element). e.scale) h,
+          (ap (λ (e : Element). e.reference) h, ap (λ (e : Element). e.width) h),
+        ),
+      ),
     )
 
 -- the program's `==` of elements
 pub element_eq-Decides : (a b : Element) → Decides (element_eq.ghosts.eq a b) (a ≡ b)
 element_eq-Decides a b =
-    parts-Decides a b _ _ _ _ (kind_eq-Decides a.kind b.kind) (Decides-int_eq a.scale b.scale) (Decides-int_eq a.reference b.reference) (Decides-eqb a.width b.width)
+    parts-Decides a b _ _ _ _ (kind_eq-Decides a.kind b.kind) (Decides-int_eq a.scale b.scale)
+    (Decides-int_eq a.reference b.reference) (Decides-eqb a.width b.width)
 
 -- the same element is an equal one
 pub same_element-Decides : (a b : Element) → Decides (same_element a b) (a ≡ b)
 same_element-Decides a b =
-    parts-Decides a b _ _ _ _ (same_kind-Decides a.kind b.kind) (same_integer-Decides a.scale b.scale) (same_integer-Decides a.reference b.reference) (Decides-eqb a.width b.width)
+    parts-Decides a b _ _ _ _ (same_kind-Decides a.kind b.kind)
+    (same_integer-Decides a.scale b.scale) (same_integer-Decides a.reference b.reference)
+    (Decides-eqb a.width b.width)

@@ -1,6 +1,7 @@
--- What an engine over a stream answers at each of its ends: the last step to the contracts of `run_show` and
--- `run_check`.
-use Rattle.std.proofs.Common.{◌≡◌, ℕ, ◌*◌, ◌≤◌, false, Option, Some, None, List, [], ◌++◌, length, drop, Result, Ok, Err, refl, sym, subst, arith, IfSome}
+-- What an engine over a stream answers at each of its ends: the last step to the contracts of
+-- `run_show` and `run_check`.
+use Rattle.std.proofs.Common.{◌≡◌, ℕ, ◌*◌, ◌≤◌, false, Option, Some, None, List, [], ◌++◌, length}
+use Rattle.std.proofs.Common.{drop, Result, Ok, Err, refl, sym, subst, arith, IfSome}
 use Rattle.bufr_bits.specs.Devices.{Reading, Writing, FailedRead}
 use Rattle.bufr_tables.specs.Entries.{Entries}
 use Rattle.bufr_frame.specs.declared.frames.Found.{Found}
@@ -19,14 +20,16 @@ use Rattle.bufr_engines.specs.Inputs.{GoesOn}
 use Rattle.bufr_engines.specs.Limits.{longest_piece}
 use Rattle.bufr_tool.specs.Output.{frames_text, stream_text, last_text, tally_of}
 use Rattle.bufr_tool.specs.Lines.{WritesLines}
-use Rattle.bufr_tool.specs.StreamEngines.{no_counts, frames_by, text_by, Prints, PrintsFrames, HasPrintedSure, PrintsEnd}
+use Rattle.bufr_tool.specs.StreamEngines.{no_counts, frames_by, text_by, Prints, PrintsFrames}
+use Rattle.bufr_tool.specs.StreamEngines.{HasPrintedSure, PrintsEnd}
 use Rattle.bufr_engines.specs.ReadingLaws.{HasGiven_none}
 use Rattle.bufr_engines.specs.WritingLaws.{fails_longer}
 use Rattle.bufr_tool.proofs.LineFacts.{lines_none}
 use Rattle.bufr_tool.proofs.PrintingFacts.{printed_none, fails_further}
 
 -- between two reads: these octets were given, and what is sure of them was printed
-pub record Between (printing : Printing) (tables : Entries) (old now : Reading) (first last : Writing) (framer : Framing) (counts : Counts) (count : ℕ) : Type 0 where
+pub record Between (printing : Printing) (tables : Entries) (old now : Reading)
+    (first last : Writing) (framer : Framing) (counts : Counts) (count : ℕ) : Type 0 where
   pub read : List ℕ
   pub goes_on : GoesOn old now read count
   pub printed : HasPrintedSure printing tables first last framer counts read
@@ -38,8 +41,17 @@ pub between_first : (printing : Printing) (tables : Entries) (reader : Reading) 
     → Between printing tables reader reader writer writer framer no_counts 0
 between_first printing tables reader writer framer fresh works stands = record {
   read = [];
-  goes_on = record { so_far = HasGiven_none reader; works = fresh.failed; reads = fresh.reads; met_end = fresh.met_end };
-  printed = record { handed = handed_first framer stands; printed = printed_none printing tables writer works };
+  goes_on =
+      record {
+        so_far = HasGiven_none reader;
+        works = fresh.failed;
+        reads = fresh.reads;
+        met_end =
+            fresh.met_end;
+      };
+  printed =
+      record
+      { handed = handed_first framer stands; printed = printed_none printing tables writer works };
   short = omega arith;
 }
 
@@ -49,23 +61,34 @@ given_kept : (old mid new : Option (List ℕ)) (read : List ℕ)
     → IfSome mid (λ octets. new ≡ Some octets)
     → IfSome old (λ all. (rest : List ℕ) × (all ≡ read ++ rest) × (new ≡ Some rest))
 given_kept None mid new read so_far kept = tt
-given_kept (Some all) mid new read so_far kept = (so_far.0, so_far.1, (let h = rw so_far.2 at kept in h))
+given_kept (Some all) mid new read so_far kept =
+    (so_far.0, so_far.1, (let h = rw so_far.2 at kept in h))
 
 -- a read failed
 pub prints_failed : (printing : Printing) (tables : Entries) (reads : ℕ) (old mid new : Reading)
     (first now : Writing) (framer : Framing) (counts : Counts) (count : ℕ)
     → Between printing tables old mid first now framer counts count → FailedRead mid new
     → Prints printing tables reads old new first now (Err (faults.ReadFailed (Number 1)))
-prints_failed printing tables reads old mid new first now framer counts count b f =
-    (refl, f.failed, b.read, given_kept old.left mid.left new.left b.read b.goes_on.so_far f.left, b.printed.printed.text)
+prints_failed printing tables reads old mid new first now framer counts count b f = (
+  refl,
+  f.failed,
+  b.read,
+  given_kept old.left mid.left new.left b.read b.goes_on.so_far f.left,
+  b.printed.printed.text,
+)
 
 -- all reads answered octets
 pub prints_endless : (printing : Printing) (tables : Entries) (reads : ℕ) (old new : Reading)
     (first now : Writing) (framer : Framing) (counts : Counts)
     → Between printing tables old new first now framer counts reads
     → Prints printing tables reads old new first now (Err (faults.EndlessInput (Number 1)))
-prints_endless printing tables reads old new first now framer counts b =
-    (refl, record { reads = b.goes_on.reads; works = b.goes_on.works; met_end = b.goes_on.met_end }, b.read, b.goes_on.so_far, b.printed.printed.text)
+prints_endless printing tables reads old new first now framer counts b = (
+  refl,
+  record { reads = b.goes_on.reads; works = b.goes_on.works; met_end = b.goes_on.met_end },
+  b.read,
+  b.goes_on.so_far,
+  b.printed.printed.text,
+)
 
 -- a front of what is printed of sure frames is one of what is printed of the whole stream
 front_of_all : (printing : Printing) (tables : Entries) (left now : Option (List ℕ)) (read : List ℕ)
@@ -78,31 +101,46 @@ front_of_all printing tables (Some all) now read first last written given f =
     let rest = given.0 in
     let more = drop (length (sure read)) (cut (read ++ rest)) in
     let longer : FailsAfter written first last (frames_text printing tables (cut (read ++ rest))) =
-    subst (λ (fs : List Found). FailsAfter written first last (frames_text printing tables fs)) (sym (cut-piece read rest))
+    subst (λ (fs : List Found). FailsAfter written first last (frames_text printing tables fs))
+    (sym (cut-piece read rest))
     (fails_further printing tables first last (sure read) more written f) in
-    subst (λ (s : List ℕ). FailsAfter written first last (stream_text printing tables s)) (sym given.1)
-    (fails_longer first last _ (last_text printing (tally_of printing tables (read ++ rest))) written longer)
+    subst (λ (s : List ℕ). FailsAfter written first last (stream_text printing tables s))
+    (sym given.1)
+    (fails_longer first last _
+    (last_text printing (tally_of printing tables (read ++ rest))) written longer)
 
 -- printing stopped within a piece
 pub prints_part : (printing : Printing) (tables : Entries) (reads : ℕ) (old new : Reading)
     (first now : Writing) (counts : Counts) (read : List ℕ) (count : ℕ) (e : ToolFault)
     → GoesOn old new read count → PrintsFrames printing tables (sure read) counts first now (Err e)
     → Prints printing tables reads old new first now (Err e)
-prints_part printing tables reads old new first now counts read count (faults.WriteFailed written) g p = (
+prints_part printing tables reads old new first now counts read count
+    (faults.WriteFailed written) g p = (
+      g.works,
+      read,
+      g.so_far,
+      subst (λ b. FailsAfter written first now (text_by printing tables b read)) (sym g.met_end) p,
+      front_of_all printing tables old.left new.left read first now written g.so_far p,
+    )
+prints_part printing tables reads old new first now counts read count faults.OutOfMemory g p = (
   g.works,
   read,
   g.so_far,
-  subst (λ b. FailsAfter written first now (text_by printing tables b read)) (sym g.met_end) p,
-  front_of_all printing tables old.left new.left read first now written g.so_far p,
+  subst (λ b. WritesLines first now (frames_text printing tables (frames_by b read)))
+      (sym g.met_end) p,
 )
-prints_part printing tables reads old new first now counts read count faults.OutOfMemory g p =
-    (g.works, read, g.so_far, subst (λ b. WritesLines first now (frames_text printing tables (frames_by b read))) (sym g.met_end) p)
-prints_part printing tables reads old new first now counts read count (faults.ReadFailed source) g p = absurd p
-prints_part printing tables reads old new first now counts read count (faults.EndlessInput source) g p = absurd p
-prints_part printing tables reads old new first now counts read count (faults.Table source fault) g p = absurd p
-prints_part printing tables reads old new first now counts read count (faults.Listing why) g p = absurd p
-prints_part printing tables reads old new first now counts read count (faults.Encode number why) g p = absurd p
-prints_part printing tables reads old new first now counts read count (faults.NotAnArchive input place) g p = absurd p
+prints_part printing tables reads old new first now counts read count
+    (faults.ReadFailed source) g p = absurd p
+prints_part printing tables reads old new first now counts read count
+    (faults.EndlessInput source) g p = absurd p
+prints_part printing tables reads old new first now counts read count
+    (faults.Table source fault) g p = absurd p
+prints_part printing tables reads old new first now counts read count (faults.Listing why) g p =
+    absurd p
+prints_part printing tables reads old new first now counts read count
+    (faults.Encode number why) g p = absurd p
+prints_part printing tables reads old new first now counts read count
+    (faults.NotAnArchive input place) g p = absurd p
 
 -- a text of all octets is one of those that were read
 of_all : (left : Option (List ℕ)) (read : List ℕ) (P : List ℕ → Type 0)
@@ -115,25 +153,42 @@ pub prints_whole : (printing : Printing) (tables : Entries) (reads : ℕ) (old n
     (first now : Writing) (read : List ℕ) (r : Result Tally ToolFault) → WasReadOut new
     → AreAllOf old read → HasGiven old new read → PrintsEnd printing tables read first now r
     → Prints printing tables reads old new first now r
-prints_whole printing tables reads old new first now read (Ok tally) out all given p = (out, read, all, p.0, p.1)
-prints_whole printing tables reads old new first now read (Err (faults.WriteFailed written)) out all given p = (
-  out.works,
-  read,
-  given,
-  subst (λ b. FailsAfter written first now (text_by printing tables b read)) (sym out.met_end) p,
-  of_all old.left read (λ stream. FailsAfter written first now (stream_text printing tables stream)) all p,
-)
-prints_whole printing tables reads old new first now read (Err faults.OutOfMemory) out all given p =
-    (out.works, read, given, subst (λ b. WritesLines first now (frames_text printing tables (frames_by b read))) (sym out.met_end) p)
-prints_whole printing tables reads old new first now read (Err (faults.ReadFailed source)) out all given p = absurd p
-prints_whole printing tables reads old new first now read (Err (faults.EndlessInput source)) out all given p = absurd p
-prints_whole printing tables reads old new first now read (Err (faults.Table source fault)) out all given p = absurd p
-prints_whole printing tables reads old new first now read (Err (faults.Listing why)) out all given p = absurd p
-prints_whole printing tables reads old new first now read (Err (faults.Encode number why)) out all given p = absurd p
-prints_whole printing tables reads old new first now read (Err (faults.NotAnArchive input place)) out all given p = absurd p
+prints_whole printing tables reads old new first now read (Ok tally) out all given p =
+    (out, read, all, p.0, p.1)
+prints_whole printing tables reads old new first now read
+    (Err (faults.WriteFailed written)) out all given p = (
+      out.works,
+      read,
+      given,
+      subst (λ b. FailsAfter written first now (text_by printing tables b read))
+          (sym out.met_end) p,
+      of_all old.left read
+          (λ stream. FailsAfter written first now (stream_text printing tables stream)) all p,
+    )
+prints_whole printing tables reads old new first now read
+    (Err faults.OutOfMemory) out all given p = (
+      out.works,
+      read,
+      given,
+      subst (λ b. WritesLines first now (frames_text printing tables (frames_by b read)))
+          (sym out.met_end) p,
+    )
+prints_whole printing tables reads old new first now read
+    (Err (faults.ReadFailed source)) out all given p = absurd p
+prints_whole printing tables reads old new first now read
+    (Err (faults.EndlessInput source)) out all given p = absurd p
+prints_whole printing tables reads old new first now read
+    (Err (faults.Table source fault)) out all given p = absurd p
+prints_whole printing tables reads old new first now read
+    (Err (faults.Listing why)) out all given p = absurd p
+prints_whole printing tables reads old new first now read
+    (Err (faults.Encode number why)) out all given p = absurd p
+prints_whole printing tables reads old new first now read
+    (Err (faults.NotAnArchive input place)) out all given p = absurd p
 
 -- nothing was read
 pub prints_nothing : (printing : Printing) (tables : Entries) (reads : ℕ) (reader : Reading)
     (writer : Writing) → IsFresh reader → writer.failed ≡ false
     → Prints printing tables reads reader reader writer writer (Err faults.OutOfMemory)
-prints_nothing printing tables reads reader writer fresh works = (fresh.failed, [], HasGiven_none reader, lines_none writer _ works)
+prints_nothing printing tables reads reader writer fresh works =
+    (fresh.failed, [], HasGiven_none reader, lines_none writer _ works)

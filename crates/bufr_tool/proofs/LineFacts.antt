@@ -1,6 +1,6 @@
 -- Whole lines: what is printed of a frame is some, and what of it was written when memory ran out.
--- The contracts of `print_listing`, `print_judged` and all above need it, and so those of `run_show`
--- and `run_check`.
+-- The contracts of `print_listing`, `print_judged` and all above need it, and so those of
+-- `run_show` and `run_check`.
 use Rattle.std.proofs.Common.{◌≡◌, ℕ, false, inl, inr, List, [], ◌∷◌, ◌++◌, codes, decimal, length}
 use Rattle.std.proofs.Common.{Result, Ok, Err, Option, Some, None, refl, sym, ap, ◌∙◌, subst}
 use Rattle.std.proofs.Common.{append_assoc}

@@ -27,7 +27,8 @@ unlisted m count = flat_map (λ s. joined (subset_lines s)) (drop count m.subset
 
 -- the law of the parts of a listing, at one message
 abbrev pub IsJoined : Message → Type 0
-IsJoined m = listing m ≡ heading_text m ++ flat_map (λ s. joined (subset_lines s)) m.subsets ++ line end_line
+IsJoined m =
+    listing m ≡ heading_text m ++ flat_map (λ s. joined (subset_lines s)) m.subsets ++ line end_line
 
 -- both together are the listing
 pub listing_parted : (m : Message) (count : ℕ) → IsJoined m
@@ -38,7 +39,8 @@ listing_parted m count is_joined =
     let there = flat_map (λ s. joined (subset_lines s)) (drop count m.subsets) in
     let parts : flat_map (λ s. joined (subset_lines s)) m.subsets ≡ here ++ there =
     sym (ap (flat_map (λ s. joined (subset_lines s))) (take-append-drop count m.subsets))
-    ∙ flat_map-append (λ s. joined (subset_lines s)) (take count m.subsets) (drop count m.subsets) in
+    ∙ flat_map-append (λ s. joined (subset_lines s)) (take count m.subsets)
+    (drop count m.subsets) in
     is_joined ∙ ap (λ (t : List ℕ). (heading ++ t) ++ line end_line) parts
     ∙ ap (λ (t : List ℕ). t ++ line end_line) (sym (append_assoc heading here there))
     ∙ append_assoc (heading ++ here) there (line end_line)
@@ -47,7 +49,8 @@ listing_parted m count is_joined =
 pub listing_ended : (m : Message) (count : ℕ) → count ≡ length m.subsets → IsJoined m
     → listing m ≡ listed m count ++ line end_line
 listing_ended m count all is_joined =
-    is_joined ∙ ap (λ ss. heading_text m ++ flat_map (λ s. joined (subset_lines s)) ss ++ line end_line)
+    is_joined
+    ∙ ap (λ ss. heading_text m ++ flat_map (λ s. joined (subset_lines s)) ss ++ line end_line)
     (sym (ap (λ n. take n m.subsets) all ∙ take-length m.subsets))
 
 -- what a function makes of the front of a list, and of what stands behind it
@@ -77,5 +80,6 @@ pub listed_more : (m : Message) (i : ℕ) (lines : List ℕ) → i < length m.su
     → ListsSubset (slice_get m.subsets i) lines
     → listed m (i + 1) ≡ listed m i ++ lines
 listed_more m i lines below is =
-    perhaps_more (λ s. joined (subset_lines s)) ListsSubset (λ t p. p) (λ x t p. p) m.subsets i (heading_text m) lines
+    perhaps_more (λ s. joined (subset_lines s)) ListsSubset (λ t p. p) (λ x t p. p) m.subsets i
+    (heading_text m) lines
     below (slice_get m.subsets i) refl is

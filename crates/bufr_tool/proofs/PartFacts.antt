@@ -13,7 +13,8 @@ use Rattle.bufr_engines.specs.Engines.{WritesAll, FailsAfter}
 use Rattle.bufr_engines.specs.WritingLaws.{writes_none, writes_more, fails_more, fails_longer}
 use Rattle.bufr_tool.specs.Lines.{AreWholeLines, WritesLines}
 use Rattle.bufr_tool.specs.StreamEngines.{PrintsText, WritesAllBut}
-use Rattle.bufr_tool.proofs.LineFacts.{both_whole, listed_whole, lines_more, lines_longer, some_lines}
+use Rattle.bufr_tool.proofs.LineFacts.{both_whole, listed_whole, lines_more, lines_longer}
+use Rattle.bufr_tool.proofs.LineFacts.{some_lines}
 use Rattle.bufr_tool.proofs.ListingFacts.{listed, listed_more}
 
 -- nothing was written yet

@@ -1,7 +1,8 @@
 -- What is printed of a stream as its pieces come: the steps of `print_piece`, `print_pieces`,
 -- `print_end`, `print_rest` and `print_tally`, and so of the contracts of `run_show` and
 -- `run_check`.
-use Rattle.std.proofs.Common.{◌≡◌, ℕ, ◌+◌, ◌≤◌, List, [], ◌∷◌, ◌++◌, length, drop, Ok, Err, refl, sym, ap, ◌∙◌, subst, arith, length-append}
+use Rattle.std.proofs.Common.{◌≡◌, ℕ, ◌+◌, ◌≤◌, List, [], ◌∷◌, ◌++◌, length, drop, Ok, Err, refl}
+use Rattle.std.proofs.Common.{sym, ap, ◌∙◌, subst, arith, length-append}
 use Rattle.std.proofs.lemmas.List.Sums.{sum_by-append, sum_by_push}
 use Rattle.std.proofs.lemmas.List.{append-nil}
 use Rattle.bufr_bits.specs.Devices.{Writing}
@@ -9,8 +10,10 @@ use Rattle.bufr_tables.specs.Entries.{Entries}
 use Rattle.bufr_frame.specs.declared.frames.Found.{Found}
 use Rattle.bufr_frame.specs.Framings.{Framing}
 use Rattle.bufr_frame.specs.Streams.{cut, sure}
-use Rattle.bufr_frame.specs.Takings.{taken_in, IsRestOf, IsNextFrame, IsNoFrame, StandsAfter, HandedOut, IsTaking}
-use Rattle.bufr_frame.specs.TakingLaws.{handed_end, taking_first, taking_one, taking_none, taking_front}
+use Rattle.bufr_frame.specs.Takings.{taken_in, IsRestOf, IsNextFrame, IsNoFrame, StandsAfter}
+use Rattle.bufr_frame.specs.Takings.{HandedOut, IsTaking}
+use Rattle.bufr_frame.specs.TakingLaws.{handed_end, taking_first, taking_one, taking_none}
+use Rattle.bufr_frame.specs.TakingLaws.{taking_front}
 use Rattle.bufr_frame.specs.StreamLaws.{cut-end}
 use Rattle.bufr_tool.specs.declared.counts.Counts.{Counts}
 use Rattle.bufr_engines.specs.declared.fault.ToolFault.{ToolFault}
@@ -18,14 +21,18 @@ use Rattle.bufr_engines.specs.declared.fault.ToolFault.TheVariants as faults
 use Rattle.bufr_tool.specs.declared.printing.Printing.{Printing}
 use Rattle.bufr_engines.specs.declared.fault.Tally.{Tally}
 use Rattle.bufr_engines.specs.Engines.{WritesAll, WritesAfter, FailsAfter}
-use Rattle.bufr_tool.specs.Output.{octets_of, frames_text, stream_text, last_text, tally_of, skipped_by}
-use Rattle.bufr_tool.specs.StreamEngines.{PrintsFrame, HasPrinted, PrintsFrames, HasPrintedSure, HasEnded, PrintsEnd}
+use Rattle.bufr_tool.specs.Output.{octets_of, frames_text, stream_text, last_text, tally_of}
+use Rattle.bufr_tool.specs.Output.{skipped_by}
+use Rattle.bufr_tool.specs.StreamEngines.{PrintsFrame, HasPrinted, PrintsFrames, HasPrintedSure}
+use Rattle.bufr_tool.specs.StreamEngines.{HasEnded, PrintsEnd}
 use Rattle.bufr_frame.specs.FrameBounds.{sure_few, sure_short, cut_few, cut_short}
 use Rattle.bufr_engines.specs.WritingLaws.{writes_more, fails_more, fails_longer}
 use Rattle.bufr_tool.proofs.PrintingFacts.{printed_more, stopped, halted}
 
--- within a piece: all but the rest of the stream was taken in, and the frames handed out were printed
-pub record Amid (printing : Printing) (tables : Entries) (first now : Writing) (framer : Framing) (counts : Counts) (stream rest : List ℕ) : Type 0 where
+-- within a piece: all but the rest of the stream was taken in, and the frames handed out were
+-- printed
+pub record Amid (printing : Printing) (tables : Entries) (first now : Writing) (framer : Framing)
+    (counts : Counts) (stream rest : List ℕ) : Type 0 where
   pub frames : List Found
   pub taking : IsTaking framer stream rest frames
   pub printed : HasPrinted printing tables first now counts frames
@@ -47,8 +54,10 @@ pub amid_few : (framer : Framing) (stream rest : List ℕ) (frames : List Found)
     → (length frames ≤ length stream) × (octets_of frames ≤ length stream)
 amid_few framer stream rest frames t =
     let front = taking_front framer stream rest frames t in
-    let long : length (sure stream) ≡ length frames + length front.0 = ap length front.1 ∙ length-append frames front.0 in
-    let sum : octets_of (sure stream) ≡ octets_of frames + octets_of front.0 = ap octets_of front.1 ∙ sum_by-append (λ (f : Found). length f.bytes) frames front.0 in
+    let long : length (sure stream) ≡ length frames + length front.0 =
+    ap length front.1 ∙ length-append frames front.0 in
+    let sum : octets_of (sure stream) ≡ octets_of frames + octets_of front.0 =
+    ap octets_of front.1 ∙ sum_by-append (λ (f : Found). length f.bytes) frames front.0 in
     let a = sure_few stream in
     let b = sure_short stream in
     (omega arith, omega arith)
@@ -60,7 +69,8 @@ pub amid_fits : (printing : Printing) (tables : Entries) (first now : Writing)
     → IsNextFrame before (taken_in rest left) frame
     → StandsAfter before after (taken_in rest left) 1
     → (counts.frames + 1 ≤ length stream) × (counts.octets + length frame.bytes ≤ length stream)
-amid_fits printing tables first now before after counts stream rest left frame a parted next stands =
+amid_fits printing tables first now before after counts stream rest left frame a parted next
+    stands =
     let t = taking_one before after stream rest left a.frames frame a.taking parted next stands in
     let both = amid_few after stream left (a.frames ++ frame ∷ []) t in
     let one = both.0 in
@@ -79,11 +89,13 @@ pub amid_more : (printing : Printing) (tables : Entries) (first mid now : Writin
     → StandsAfter before after (taken_in rest left) 1
     → PrintsFrame printing tables frame counts counts' mid now (Ok done)
     → Amid printing tables first now after counts' stream left
-amid_more printing tables first mid now before after counts counts' stream rest left frame done a parted next stands p = record {
-  frames = a.frames ++ frame ∷ [];
-  taking = taking_one before after stream rest left a.frames frame a.taking parted next stands;
-  printed = printed_more printing tables first mid now counts counts' a.frames frame done a.printed p;
-}
+amid_more printing tables first mid now before after counts counts' stream rest left frame done a
+    parted next stands p = record {
+      frames = a.frames ++ frame ∷ [];
+      taking = taking_one before after stream rest left a.frames frame a.taking parted next stands;
+      printed =
+          printed_more printing tables first mid now counts counts' a.frames frame done a.printed p;
+    }
 
 -- no frame more is sure: the piece was taken in, and all that is sure was printed
 pub amid_none : (printing : Printing) (tables : Entries) (first now : Writing)
@@ -114,10 +126,12 @@ pub amid_stopped : (printing : Printing) (tables : Entries) (first mid now : Wri
     → StandsAfter before after (taken_in rest left) 1
     → PrintsFrame printing tables frame counts counts' mid now (Err e)
     → PrintsFrames printing tables (sure stream) last first now (Err e)
-amid_stopped printing tables first mid now before after counts counts' last stream rest left frame e a parted next stands p =
+amid_stopped printing tables first mid now before after counts counts' last stream rest left frame e
+    a parted next stands p =
     let t = taking_one before after stream rest left a.frames frame a.taking parted next stands in
     let front = taking_front after stream left (a.frames ++ frame ∷ []) t in
-    stopped printing tables first mid now counts counts' last a.frames front.0 (sure stream) frame e front.1 a.printed p
+    stopped printing tables first mid now counts counts' last a.frames front.0
+    (sure stream) frame e front.1 a.printed p
 
 -- ---- the end
 
@@ -128,8 +142,11 @@ pub rest_few : (framer : Framing) (stream : List ℕ) (last : List Found)
     × (octets_of (sure stream) + octets_of last ≤ length stream)
 rest_few framer stream last h is =
     let whole = handed_end framer stream (sure stream) last h is in
-    let long : length (cut stream) ≡ length (sure stream) + length last = ap length (sym whole) ∙ length-append (sure stream) last in
-    let sum : octets_of (cut stream) ≡ octets_of (sure stream) + octets_of last = ap octets_of (sym whole) ∙ sum_by-append (λ (f : Found). length f.bytes) (sure stream) last in
+    let long : length (cut stream) ≡ length (sure stream) + length last =
+    ap length (sym whole) ∙ length-append (sure stream) last in
+    let sum : octets_of (cut stream) ≡ octets_of (sure stream) + octets_of last =
+    ap octets_of (sym whole)
+    ∙ sum_by-append (λ (f : Found). length f.bytes) (sure stream) last in
     let a = cut_few stream in
     let b = cut_short stream in
     (omega arith, omega arith)
@@ -140,14 +157,16 @@ pub rest_halted : (printing : Printing) (tables : Entries) (first now : Writing)
     → HasPrintedSure printing tables first now framer counts stream
     → PrintsFrames printing tables (cut stream) last first now (Err faults.OutOfMemory)
 rest_halted printing tables first now framer counts last stream h =
-    halted printing tables first now counts last (sure stream) (drop (length (sure stream)) (cut stream)) (cut stream) (cut-end stream) h.printed
+    halted printing tables first now counts last (sure stream)
+    (drop (length (sure stream)) (cut stream)) (cut stream) (cut-end stream) h.printed
 
 -- what is printed of a stream, in two parts
 pub end_text : (printing : Printing) (tables : Entries) (stream text : List ℕ) (tally : Tally)
     → tally ≡ tally_of printing tables stream → text ≡ last_text printing tally
     → frames_text printing tables (cut stream) ++ text ≡ stream_text printing tables stream
 end_text printing tables stream text tally is last =
-    ap (λ (t : List ℕ). frames_text printing tables (cut stream) ++ t) (last ∙ ap (last_text printing) is)
+    ap (λ (t : List ℕ). frames_text printing tables (cut stream) ++ t)
+    (last ∙ ap (last_text printing) is)
 
 -- what is counted at the end
 pub end_tally : (printing : Printing) (tables : Entries) (first now : Writing) (counts : Counts)
@@ -164,8 +183,11 @@ pub end_done : (printing : Printing) (tables : Entries) (first mid now : Writing
     → HasEnded printing tables first mid counts fed stream → tally ≡ tally_of printing tables stream
     → text ≡ last_text printing tally → WritesAll mid now text
     → PrintsEnd printing tables stream first now (Ok tally)
-end_done printing tables first mid now counts fed stream text tally h is last w =
-    (subst (WritesAll first now) (end_text printing tables stream text tally is last) (writes_more first mid now _ text h.printed.text w), is)
+end_done printing tables first mid now counts fed stream text tally h is last w = (
+  subst (WritesAll first now) (end_text printing tables stream text tally is last)
+      (writes_more first mid now _ text h.printed.text w),
+  is,
+)
 
 -- the writer failed after a front of the last line
 pub end_fails : (printing : Printing) (tables : Entries) (first mid now : Writing) (counts : Counts)
@@ -173,32 +195,44 @@ pub end_fails : (printing : Printing) (tables : Entries) (first mid now : Writin
     → HasEnded printing tables first mid counts fed stream → tally ≡ tally_of printing tables stream
     → text ≡ last_text printing tally → WritesAfter counts.written text mid now (Err e)
     → PrintsEnd printing tables stream first now (Err e)
-end_fails printing tables first mid now counts fed stream text tally (faults.WriteFailed written) h is last w =
-    let at : written ≡ length (frames_text printing tables (cut stream)) + w.0 = w.1 ∙ ap (λ n. n + w.0) h.printed.written_are in
+end_fails printing tables first mid now counts fed stream text tally
+    (faults.WriteFailed written) h is last w =
+    let at : written ≡ length (frames_text printing tables (cut stream)) + w.0 =
+    w.1 ∙ ap (λ n. n + w.0) h.printed.written_are in
     subst (λ n. FailsAfter n first now (stream_text printing tables stream)) (sym at)
-    (subst (FailsAfter (length (frames_text printing tables (cut stream)) + w.0) first now) (end_text printing tables stream text tally is last)
+    (subst (FailsAfter (length (frames_text printing tables (cut stream)) + w.0) first now)
+    (end_text printing tables stream text tally is last)
     (fails_more first mid now _ text w.0 h.printed.text w.2))
-end_fails printing tables first mid now counts fed stream text tally faults.OutOfMemory h is last w = absurd w
-end_fails printing tables first mid now counts fed stream text tally (faults.ReadFailed source) h is last w = absurd w
-end_fails printing tables first mid now counts fed stream text tally (faults.EndlessInput source) h is last w = absurd w
-end_fails printing tables first mid now counts fed stream text tally (faults.Table source fault) h is last w = absurd w
-end_fails printing tables first mid now counts fed stream text tally (faults.Listing why) h is last w = absurd w
-end_fails printing tables first mid now counts fed stream text tally (faults.Encode number why) h is last w = absurd w
-end_fails printing tables first mid now counts fed stream text tally (faults.NotAnArchive input place) h is last w = absurd w
+end_fails printing tables first mid now counts fed stream text tally faults.OutOfMemory h is last
+    w = absurd w
+end_fails printing tables first mid now counts fed stream text tally
+    (faults.ReadFailed source) h is last w = absurd w
+end_fails printing tables first mid now counts fed stream text tally
+    (faults.EndlessInput source) h is last w = absurd w
+end_fails printing tables first mid now counts fed stream text tally
+    (faults.Table source fault) h is last w = absurd w
+end_fails printing tables first mid now counts fed stream text tally
+    (faults.Listing why) h is last w = absurd w
+end_fails printing tables first mid now counts fed stream text tally
+    (faults.Encode number why) h is last w = absurd w
+end_fails printing tables first mid now counts fed stream text tally
+    (faults.NotAnArchive input place) h is last w = absurd w
 
 -- memory ran out before the last line
 pub end_halted : (printing : Printing) (tables : Entries) (first now : Writing) (counts : Counts)
     (stream : List ℕ) → HasPrinted printing tables first now counts (cut stream)
     → PrintsEnd printing tables stream first now (Err faults.OutOfMemory)
 end_halted printing tables first now counts stream h =
-    halted printing tables first now counts counts (cut stream) [] (cut stream) (sym (append-nil (cut stream))) h
+    halted printing tables first now counts counts (cut stream) [] (cut stream)
+    (sym (append-nil (cut stream))) h
 
 -- printing stopped before the last line
 pub end_early : (printing : Printing) (tables : Entries) (first now : Writing) (counts : Counts)
     (stream : List ℕ) (e : ToolFault)
     → PrintsFrames printing tables (cut stream) counts first now (Err e)
     → PrintsEnd printing tables stream first now (Err e)
-end_early printing tables first now counts stream (faults.WriteFailed written) p = fails_longer first now _ _ written p
+end_early printing tables first now counts stream (faults.WriteFailed written) p =
+    fails_longer first now _ _ written p
 end_early printing tables first now counts stream faults.OutOfMemory p = p
 end_early printing tables first now counts stream (faults.ReadFailed source) p = absurd p
 end_early printing tables first now counts stream (faults.EndlessInput source) p = absurd p

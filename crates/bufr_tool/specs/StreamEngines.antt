@@ -13,7 +13,8 @@ use Rattle.bufr_engines.specs.declared.fault.Tally.{Tally}
 use Rattle.bufr_engines.specs.declared.fault.ToolFault.{ToolFault}
 use Rattle.bufr_engines.specs.declared.fault.ToolFault.TheVariants as faults
 use Rattle.bufr_tool.specs.declared.printing.Printing.{Printing}
-use Rattle.bufr_engines.specs.Engines.{WasReadOut, HasFailed, IsEndless, HasGiven, AreAllOf, WritesAll}
+use Rattle.bufr_engines.specs.Engines.{WasReadOut, HasFailed, IsEndless, HasGiven, AreAllOf}
+use Rattle.bufr_engines.specs.Engines.{WritesAll}
 use Rattle.bufr_engines.specs.Engines.{FailsAfter}
 use Rattle.bufr_collect.specs.Collected.{frame_refused, refused_of}
 use Rattle.bufr_tool.specs.Output.{frame_text, frames_text, octets_of}

@@ -1,5 +1,6 @@
 -- The law `texts_are_cut_apart`, from the laws of joined frames and of reports as entries.
-use Rattle.bufr_archive.proofs.ReportTextFacts.{frames_of_reports, frames_of_report_fronts, report_texts_tell}
+use Rattle.bufr_archive.proofs.ReportTextFacts.{frames_of_reports, frames_of_report_fronts}
+use Rattle.bufr_archive.proofs.ReportTextFacts.{report_texts_tell}
 use Rattle.bufr_archive.proofs.laws.texts_are_cut_apart.Goals as goal
 
 -- the frames of a text, those of its fronts, and the reports that it tells

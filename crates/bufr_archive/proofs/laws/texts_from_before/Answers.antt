@@ -1,5 +1,6 @@
 -- The law `texts_from_before`, from the laws of reports as entries and of what shelves kept.
-use Rattle.bufr_archive.proofs.BeforeFacts.{texts_from_before, from_before_are_texts, kept_before_is_the_best}
+use Rattle.bufr_archive.proofs.BeforeFacts.{texts_from_before, from_before_are_texts}
+use Rattle.bufr_archive.proofs.BeforeFacts.{kept_before_is_the_best}
 use Rattle.bufr_archive.proofs.laws.texts_from_before.Goals as goal
 
 -- by the laws of reports as entries and of what was kept while keys had no sub-centre

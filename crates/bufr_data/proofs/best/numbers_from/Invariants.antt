@@ -7,4 +7,5 @@ use Rattle.bufr_data.proofs.best.numbers_from.Given as goal
 -- the numbers are those of the field and of the subsets so far
 abbrev pub invariant-loop-other : goal.invariant-loop-other
 invariant-loop-other l =
-    l.numbers.items ≡ map number_of (values_from l.field (rows_from l.place (take l.other-index l.others)))
+    l.numbers.items
+    ≡ map number_of (values_from l.field (rows_from l.place (take l.other-index l.others)))

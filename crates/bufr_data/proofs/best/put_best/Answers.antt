@@ -12,8 +12,11 @@ put_numbers-requires c =
     let values = values_from c.args.field.now (rows_from c.args.place c.args.others.now) in
     let spec = c.args.field.now.spec in
     record {
-      narrow = short_numbers spec values c.requires.can (sym c.if-are_equal.ensures) c.in_default.not-Text;
+      narrow =
+          short_numbers spec values c.requires.can
+          (sym c.if-are_equal.ensures) c.in_default.not-Text;
       forms =
-          ap (list_all (λ n. nat_lt n (2 ^ spec.width))) (c.as_slice.ensures.value ∙ c.in_ok-numbers-in_default.ensures)
+          ap (list_all (λ n. nat_lt n (2 ^ spec.width)))
+          (c.as_slice.ensures.value ∙ c.in_ok-numbers-in_default.ensures)
           ∙ numbers_below spec values c.in_default.not-Text c.requires.forms;
     }

@@ -9,4 +9,5 @@ use Rattle.bufr_data.proofs.best.put_numbers.Given as goal
 abbrev pub invariant-loop-number : goal.invariant-loop-number
 invariant-loop-number l =
     l.sink ≡ l.fn.sink ++ (bin l.width l.minimum ++ bin 6 l.k
-    ++ flat_map (bin l.k) (map (increment_of l.width l.minimum l.k) (take l.number-index l.numbers)))
+    ++ flat_map (bin l.k)
+    (map (increment_of l.width l.minimum l.k) (take l.number-index l.numbers)))

@@ -1,12 +1,14 @@
 -- The clauses of `put_texts`: the head of the column, and then text by text.
-use Rattle.std.proofs.Common.{◌≡◌, ◌∙◌, ◌++◌, ◌∷◌, [], ◌+◌, ◌/◌, ◌<◌, ◌≤◌, length, map, take, drop, ap, arith}
+use Rattle.std.proofs.Common.{◌≡◌, ◌∙◌, ◌++◌, ◌∷◌, [], ◌+◌, ◌/◌, ◌<◌, ◌≤◌, length, map, take, drop}
+use Rattle.std.proofs.Common.{ap, arith}
 use Rattle.std.specs.Prelude.{replicate}
 use Rattle.std.specs.List.{flat_map}
 use Rattle.std.proofs.lemmas.List.{take_all}
 use Rattle.bufr_bits.specs.Bits.{bin, bits}
 use Rattle.bufr_data.specs.BestColumns.{first_raw, octets_of}
 use Rattle.bufr_data.specs.Places.{rows_from, values_from}
-use Rattle.bufr_data.proofs.PutFacts.{front_is, values_push, octets_push, put_step, put_text_head, zeros_are, kept_more}
+use Rattle.bufr_data.proofs.PutFacts.{front_is, values_push, octets_push, put_step, put_text_head}
+use Rattle.bufr_data.proofs.PutFacts.{zeros_are, kept_more}
 use Rattle.bufr_data.proofs.best.put_texts.Goals as goal
 
 -- at first the minimum of zeros, the width and the text of the first subset are put
@@ -15,35 +17,49 @@ loop-other-init c =
     let octets = c.args.field.now.spec.width / 8 in
     let zeros = zeros_are octets 63 c.requires in
     let put = rw c.from.ensures at c.in_ok-put.ensures.ok in
-    put_text_head c.args.sink.now _ _ _ octets _ c.args.field.now.raw zeros c.in_ok-put_bytes.ensures.ok put c.in_ok-put_text.ensures.put
+    put_text_head c.args.sink.now _ _ _ octets _ c.args.field.now.raw zeros
+    c.in_ok-put_bytes.ensures.ok put c.in_ok-put_text.ensures.put
 
 -- the text of one subset more is put
 pub loop-other-preserved : goal.loop-other-preserved
 loop-other-preserved c =
-    let less : c.loop-other.other-index < length c.args.others.now = omega (arith, c.loop-other-test.true) in
+    let less : c.loop-other.other-index < length c.args.others.now =
+    omega (arith, c.loop-other-test.true) in
     let i = c.loop-other.other-index in
     let f = c.args.field.now in
     let before = take i c.args.others.now in
     let after = take (i + 1) c.args.others.now in
-    let grown : after ≡ before ++ c.other-item.result ∷ [] = front_is c.args.others.now i c.other-item.result less c.other-item.is in
+    let grown : after ≡ before ++ c.other-item.result ∷ [] =
+    front_is c.args.others.now i c.other-item.result less c.other-item.is in
     let v = first_raw (drop c.args.place c.other-item.result.fields) in
     let octets = f.spec.width / 8 in
     let old = values_from f (rows_from c.args.place before) in
     let new = values_from f (rows_from c.args.place after) in
-    put_step bits (map octets_of old) (map octets_of new) (octets_of v) c.args.sink.now (bits (replicate octets 0) ++ bin 6 octets) c.loop-other.sink c.put_text_at.new.sink
-    (octets_push old new v (values_push f c.args.place before after c.other-item.result grown)) c.loop-other.invariant c.in_ok-put_text_at.ensures.put
+    put_step bits (map octets_of old) (map octets_of new) (octets_of v) c.args.sink.now
+    (bits (replicate octets 0) ++ bin 6 octets) c.loop-other.sink c.put_text_at.new.sink
+    (octets_push old new v
+    (values_push f c.args.place before after c.other-item.result grown)) c.loop-other.invariant
+    c.in_ok-put_text_at.ensures.put
 
 -- where memory runs out, the sink begins as before
 pub returns-in_err-put_text_at-clause-kept : goal.returns-in_err-put_text_at-clause-kept
-returns-in_err-put_text_at-clause-kept c = kept_more _ _ _ (_, c.loop-other.invariant) c.in_err-put_text_at.ensures.kept
+returns-in_err-put_text_at-clause-kept c =
+    kept_more _ _ _ (_, c.loop-other.invariant) c.in_err-put_text_at.ensures.kept
 
 -- where no subset is left, the best column of the texts is put
 pub returns-clause-put : goal.returns-clause-put
 returns-clause-put c =
-    let done : length c.args.others.now ≤ c.loop-other.other-index = omega (arith, c.loop-other-test.false) in
+    let done : length c.args.others.now ≤ c.loop-other.other-index =
+    omega (arith, c.loop-other-test.false) in
     let octets = c.args.field.now.spec.width / 8 in
     c.loop-other.invariant
-    ∙ ap (λ ss. c.args.sink.now ++ (bits (replicate octets 0) ++ bin 6 octets ++ flat_map bits (map octets_of (values_from c.args.field.now (rows_from c.args.place ss))))) (take_all c.loop-other.other-index c.args.others.now done)
+    ∙ ap
+    (λ ss. c.args.sink.now
+    ++
+    (bits (replicate octets 0) ++ bin 6 octets
+    ++ flat_map bits
+    (map octets_of (values_from c.args.field.now (rows_from c.args.place ss)))))
+    (take_all c.loop-other.other-index c.args.others.now done)
 
 -- and the sink begins as before
 pub returns-clause-kept : goal.returns-clause-kept

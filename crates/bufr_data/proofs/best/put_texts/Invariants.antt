@@ -11,4 +11,5 @@ use Rattle.bufr_data.proofs.best.put_texts.Given as goal
 abbrev pub invariant-loop-other : goal.invariant-loop-other
 invariant-loop-other l =
     l.sink ≡ l.fn.sink ++ (bits (replicate (l.octets) 0) ++ bin 6 l.octets
-    ++ flat_map bits (map octets_of (values_from l.fn.field (rows_from l.place (take l.other-index l.others)))))
+    ++ flat_map bits
+    (map octets_of (values_from l.fn.field (rows_from l.place (take l.other-index l.others)))))

@@ -5,7 +5,8 @@ use Rattle.bufr_data.proofs.column_pass.column_head.Goals as goal
 
 -- the width of the increments, of six bits, fits its word
 pub overflow_cast-result : goal.overflow_cast-result
-overflow_cast-result c = let below = (number_at_is 6 _ _ _ c.in-Some-take.ensures.found).1 in omega (arith, below)
+overflow_cast-result c =
+    let below = (number_at_is 6 _ _ _ c.in-Some-take.ensures.found).1 in omega (arith, below)
 
 -- the minimum stands in the width of the element
 pub returns-in-Some-take-clause-below : goal.returns-in-Some-take-clause-below

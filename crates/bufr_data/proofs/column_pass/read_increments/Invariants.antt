@@ -13,5 +13,6 @@ invariant-loop-j l = record {
   enough : (l.n - l.j) * l.k ≤ length (left l.reader);
   moved : left l.reader ≡ drop (l.j * l.k) (left l.fn.reader);
   fits : 0 < l.j → l.first < 2 ^ l.width;
-  so_far : RaisedSoFar l.i l.width l.minimum l.k l.n l.j (left l.fn.reader) (left l.reader) l.first l.equal;
+  so_far : RaisedSoFar l.i l.width l.minimum l.k l.n l.j (left l.fn.reader)
+      (left l.reader) l.first l.equal;
 }

@@ -11,9 +11,11 @@ returns c =
       | then-are_ones w ↦
           let len = sym c.as_slice.ensures.len ∙ ap length c.as_slice.ensures.value in
           let ones = rw c.as_slice.ensures.value at w.if-are_ones.ensures in
-          rw (c.from_vec.ensures, c.in_ok-resize.ensures.items) (rw len (filled_is _ _ _ _ (sym ones) w.filler-is c.requires))
+          rw (c.from_vec.ensures, c.in_ok-resize.ensures.items)
+          (rw len (filled_is _ _ _ _ (sym ones) w.filler-is c.requires))
       | else-are_ones w ↦
           let len = sym c.as_slice.ensures.len ∙ ap length c.as_slice.ensures.value in
           let ones = rw c.as_slice.ensures.value at w.if-are_ones.ensures in
-          rw (c.from_vec.ensures, c.in_ok-resize.ensures.items) (rw len (filled_is _ _ _ _ (sym ones) w.filler-is c.requires))
+          rw (c.from_vec.ensures, c.in_ok-resize.ensures.items)
+          (rw len (filled_is _ _ _ _ (sym ones) w.filler-is c.requires))
     ]

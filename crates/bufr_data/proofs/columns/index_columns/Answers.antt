@@ -1,5 +1,6 @@
 -- The clause `exact` of `index_columns`: column by column along the walk.
-use Rattle.std.proofs.Common.{◌≡◌, ◌∙◌, ◌+◌, ◌∷◌, [], Some, length, length-append, refl, ap, subst, arith}
+use Rattle.std.proofs.Common.{◌≡◌, ◌∙◌, ◌+◌, ◌∷◌, [], Some, length, length-append, refl, ap, subst}
+use Rattle.std.proofs.Common.{arith}
 use Rattle.bufr_bits.specs.Ends.{left}
 use Rattle.bufr_expand.specs.Walks as walks
 use Rattle.bufr_data.specs.Indexed.{PassesPlace}
@@ -28,7 +29,11 @@ pub loop-fault-preserved : goal.loop-fault-preserved
 loop-fault-preserved c =
     let octets = c.args.reader.now.octets in
     let passed = rw c.in-Ok-Some.field-0-is at c.in-Ok-Some.ensures.ok in
-    let step = subst (λ os. PassesPlace c.args.subsets (c.len.result + 1) (walks.left c.loop-fault.walk) os (left c.loop-fault.reader) (Some c.in-Ok-Some.place) (walks.left c.next_place.new.walk) (left c.next_place.new.reader)) c.loop-fault.invariant.octets passed in
+    let step =
+    subst
+    (λ os. PassesPlace c.args.subsets (c.len.result + 1) (walks.left c.loop-fault.walk) os
+    (left c.loop-fault.reader) (Some c.in-Ok-Some.place) (walks.left c.next_place.new.walk)
+    (left c.next_place.new.reader)) c.loop-fault.invariant.octets passed in
     let goes = rw c.in-Ok-Some.field-0-is at c.in-Ok-Some.ensures.advances in
     let grown = c.in_ok-push-in-Ok-Some.ensures.items in
     let len : length c.push.new.self.items ≡ length c.loop-fault.places.items + 1 =
@@ -39,7 +44,11 @@ loop-fault-preserved c =
       limit = goes.within;
       octets = c.in-Ok-Some.ensures.octets ∙ c.loop-fault.invariant.octets;
       onward = omega (arith, c.in-Ok-Some.ensures.onward, c.loop-fault.invariant.onward);
-      open_all = opened octets c.args.subsets c.loop-fault.places.items _ c.in-Ok-Some.place grown c.loop-fault.invariant.open_all step.0;
+      open_all =
+          opened octets c.args.subsets c.loop-fault.places.items _ c.in-Ok-Some.place grown
+          c.loop-fault.invariant.open_all step.0;
       so_far =
-          place_kept octets c.args.subsets (c.len.result + 1) c.loop-fault.places.items _ c.in-Ok-Some.place _ _ _ _ _ grown (omega (arith, c.len.ensures)) c.loop-fault.invariant.so_far step;
+          place_kept octets c.args.subsets
+          (c.len.result + 1) c.loop-fault.places.items _ c.in-Ok-Some.place _ _ _ _ _ grown
+          (omega (arith, c.len.ensures)) c.loop-fault.invariant.so_far step;
     }

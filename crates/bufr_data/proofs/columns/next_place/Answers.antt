@@ -4,12 +4,15 @@ use Rattle.std.proofs.lemmas.Result.{err_from_is_err_and}
 use Rattle.bufr_bits.specs.Bits.{bits}
 use Rattle.bufr_bits.specs.Ends.{left}
 use Rattle.bufr_data.specs.StepLaws.{field_goes_on, count_goes_on}
-use Rattle.bufr_data.proofs.PlaceFacts.{stop_refused, end_passes, field_past, count_past, field_refused, count_refused, field_passes, count_passes, count_is_below, is_count}
+use Rattle.bufr_data.proofs.PlaceFacts.{stop_refused, end_passes, field_past, count_past}
+use Rattle.bufr_data.proofs.PlaceFacts.{field_refused, count_refused, field_passes, count_passes}
+use Rattle.bufr_data.proofs.PlaceFacts.{count_is_below, is_count}
 use Rattle.bufr_data.proofs.columns.next_place.Goals as goal
 
 -- where the walk stops, its fault is that of the columns
 pub returns-in-Err-clause-err : goal.returns-in-Err-clause-err
-returns-in-Err-clause-err c = stop_refused _ _ c.args.n c.args.i _ _ _ c.in-Err.ensures c.stop_fault.ensures
+returns-in-Err-clause-err c =
+    stop_refused _ _ c.args.n c.args.i _ _ _ c.in-Err.ensures c.stop_fault.ensures
 
 -- where the walk ends, the columns end
 pub returns-in-End-clause-ok : goal.returns-in-End-clause-ok
@@ -23,37 +26,52 @@ pub returns-in_err-within_limit-in-Field-clause-err :
 returns-in_err-within_limit-in-Field-clause-err c =
     let p = err_from_is_err_and c.from_residual.result c.from_residual.ensures.1 in
     let goes = rw c.in-Field.is at c.in-Ok.ensures in
-    rw (p.1, p.2) (field_past _ _ c.args.n c.args.i _ _ _ _ goes (sym c.in_err-within_limit-in-Field.ensures))
+    rw (p.1, p.2)
+    (field_past _ _ c.args.n c.args.i _ _ _ _ goes (sym c.in_err-within_limit-in-Field.ensures))
 
 -- a column that does not stand there is refused
 pub returns-in_err-pass_column-in-Field-clause-err :
     goal.returns-in_err-pass_column-in-Field-clause-err
 returns-in_err-pass_column-in-Field-clause-err c =
-    let p = err_from_is_err_and c.from_residual-in_err-pass_column-in-Field.result c.from_residual-in_err-pass_column-in-Field.ensures.1 in
+    let p =
+    err_from_is_err_and c.from_residual-in_err-pass_column-in-Field.result
+    c.from_residual-in_err-pass_column-in-Field.ensures.1 in
     let goes = rw c.in-Field.is at c.in-Ok.ensures in
-    rw (p.1, p.2) (field_refused _ _ c.args.n c.args.i _ _ _ _ goes (sym c.in_ok-within_limit-in-Field.ensures) c.in_err-pass_column-in-Field.ensures.err)
+    rw (p.1, p.2)
+    (field_refused _ _ c.args.n c.args.i _ _ _ _ goes
+    (sym c.in_ok-within_limit-in-Field.ensures) c.in_err-pass_column-in-Field.ensures.err)
 
 -- a factor's column with which there would be too many values is refused
 pub returns-in_err-within_limit-in-Count-clause-err :
     goal.returns-in_err-within_limit-in-Count-clause-err
 returns-in_err-within_limit-in-Count-clause-err c =
-    let p = err_from_is_err_and c.from_residual-in_err-within_limit-in-Count.result c.from_residual-in_err-within_limit-in-Count.ensures.1 in
+    let p =
+    err_from_is_err_and c.from_residual-in_err-within_limit-in-Count.result
+    c.from_residual-in_err-within_limit-in-Count.ensures.1 in
     let goes = rw c.in-Count.is at c.in-Ok.ensures in
-    rw (p.1, p.2) (count_past _ _ c.args.n c.args.i _ _ _ _ goes (sym c.in_err-within_limit-in-Count.ensures))
+    rw (p.1, p.2)
+    (count_past _ _ c.args.n c.args.i _ _ _ _ goes (sym c.in_err-within_limit-in-Count.ensures))
 
 -- a factor's column that does not stand there, or whose values differ, is refused
 pub returns-in_err-number-in-Count-clause-err : goal.returns-in_err-number-in-Count-clause-err
 returns-in_err-number-in-Count-clause-err c =
-    let p = err_from_is_err_and c.from_residual-in_err-number-in-Count.result c.from_residual-in_err-number-in-Count.ensures.1 in
+    let p =
+    err_from_is_err_and c.from_residual-in_err-number-in-Count.result
+    c.from_residual-in_err-number-in-Count.ensures.1 in
     let goes = rw c.in-Count.is at c.in-Ok.ensures in
-    rw (p.1, p.2) (count_refused _ _ c.args.n c.args.i _ _ _ _ goes (sym c.in_ok-within_limit-in-Count.ensures) c.in_err-number-in-Count.ensures.err)
+    rw (p.1, p.2)
+    (count_refused _ _ c.args.n c.args.i _ _ _ _ goes
+    (sym c.in_ok-within_limit-in-Count.ensures) c.in_err-number-in-Count.ensures.err)
 
 -- the column is passed, and its place told
 pub returns-in_ok-pass_column-in-Field-clause-ok : goal.returns-in_ok-pass_column-in-Field-clause-ok
 returns-in_ok-pass_column-in-Field-clause-ok c =
     let goes = rw c.in-Field.is at c.in-Ok.ensures in
-    let there : left c.args.reader.now ≡ drop c.place-bit.result (bits c.args.reader.now.octets) = ap (λ b. drop b (bits c.args.reader.now.octets)) (sym c.place-bit.ensures) in
-    field_passes _ _ c.args.reader.now.octets c.args.n c.args.i c.in-Field.fxy c.place-bit.result c.in-Field.spec (left c.args.reader.now) (left c.pass_column.new.reader) c.requires.ready goes
+    let there : left c.args.reader.now ≡ drop c.place-bit.result (bits c.args.reader.now.octets) =
+    ap (λ b. drop b (bits c.args.reader.now.octets)) (sym c.place-bit.ensures) in
+    field_passes _ _ c.args.reader.now.octets c.args.n c.args.i c.in-Field.fxy c.place-bit.result
+    c.in-Field.spec (left c.args.reader.now)
+    (left c.pass_column.new.reader) c.requires.ready goes
     (sym c.in_ok-within_limit-in-Field.ensures) c.in_ok-pass_column-in-Field.ensures.ok there
 
 -- the walk goes on after it
@@ -67,8 +85,11 @@ returns-in_ok-pass_column-in-Field-clause-advances c =
 pub returns-in_ok-number-in-Count-clause-ok : goal.returns-in_ok-number-in-Count-clause-ok
 returns-in_ok-number-in-Count-clause-ok c =
     let goes = rw c.in-Count.is at c.in-Ok.ensures in
-    let there : left c.args.reader.now ≡ drop c.place-bit.result (bits c.args.reader.now.octets) = ap (λ b. drop b (bits c.args.reader.now.octets)) (sym c.place-bit.ensures) in
-    count_passes _ _ _ c.args.reader.now.octets c.args.n c.args.i c.in-Count.fxy c.place-bit.result _ c.in-Count.spec (left c.args.reader.now) (left c.pass_factor.new.reader) goes c.count.ensures
+    let there : left c.args.reader.now ≡ drop c.place-bit.result (bits c.args.reader.now.octets) =
+    ap (λ b. drop b (bits c.args.reader.now.octets)) (sym c.place-bit.ensures) in
+    count_passes _ _ _ c.args.reader.now.octets c.args.n c.args.i c.in-Count.fxy c.place-bit.result
+    _ c.in-Count.spec (left c.args.reader.now)
+    (left c.pass_factor.new.reader) goes c.count.ensures
     (sym c.in_ok-within_limit-in-Count.ensures) c.in_ok-number-in-Count.ensures.ok there
 
 -- the spec of a count is a count's
@@ -79,7 +100,9 @@ pass_factor-requires-clause-counts c =
 -- the number of a factor is below its bound
 pub count-requires-clause-fits : goal.count-requires-clause-fits
 count-requires-clause-fits c =
-    let goes = rw c.in-Count.is at c.in-Ok.ensures in count_is_below _ _ _ _ _ goes c.in_ok-number-in-Count.ensures.fits
+    let goes =
+    rw c.in-Count.is at c.in-Ok.ensures in
+    count_is_below _ _ _ _ _ goes c.in_ok-number-in-Count.ensures.fits
 
 -- the walk goes on after it
 pub returns-in_ok-number-in-Count-clause-advances :

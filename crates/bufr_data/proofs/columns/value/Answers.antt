@@ -9,11 +9,17 @@ pub unwrap-requires : goal.unwrap-requires
 unwrap-requires c =
     let at = c.at-reader.ensures in
     let is = rw at at c.in_ok-value.ensures in
-    some_there c.in_ok-value.value _ (is ∙ value_there c.args.octets.now c.args.subsets c.args.index c.args.place c.requires.stands c.requires.inside)
+    some_there c.in_ok-value.value _
+    (is
+    ∙ value_there c.args.octets.now c.args.subsets c.args.index c.args.place c.requires.stands
+    c.requires.inside)
 
 -- and it is the one of the column at this index
 pub returns : goal.returns
 returns c =
     let at = c.at-reader.ensures in
     let is = rw at at c.in_ok-value.ensures in
-    some_is _ _ (sym c.unwrap.ensures ∙ is ∙ value_there c.args.octets.now c.args.subsets c.args.index c.args.place c.requires.stands c.requires.inside)
+    some_is _ _
+    (sym c.unwrap.ensures ∙ is
+    ∙ value_there c.args.octets.now c.args.subsets c.args.index c.args.place c.requires.stands
+    c.requires.inside)

@@ -1,6 +1,8 @@
 -- The clauses of `fit_field`: one step of the walk is one step of fitting.
 use Rattle.std.proofs.lemmas.Result.{err_from_is_err_and}
-use Rattle.bufr_data.proofs.WriteFacts.{field_is_written, count_is_written, count_written_fits, field_misfits, count_misfits, end_misfits, stop_misfits, fits_is}
+use Rattle.bufr_data.proofs.WriteFacts.{field_is_written, count_is_written, count_written_fits}
+use Rattle.bufr_data.proofs.WriteFacts.{field_misfits, count_misfits, end_misfits, stop_misfits}
+use Rattle.bufr_data.proofs.WriteFacts.{fits_is}
 use Rattle.bufr_data.proofs.fit.fit_field.Goals as goal
 use Rattle.bufr_data.specs.StepLaws.{field_goes_on, count_goes_on}
 
@@ -24,7 +26,9 @@ returns-in_err-asked-in-Field-clause-err c =
 -- and so is one other than the count asked for
 pub returns-in_err-asked-in-Count-clause-err : goal.returns-in_err-asked-in-Count-clause-err
 returns-in_err-asked-in-Count-clause-err c =
-    let p = err_from_is_err_and c.from_residual-in_err-asked-in-Count.result c.from_residual-in_err-asked-in-Count.ensures.1 in
+    let p =
+    err_from_is_err_and c.from_residual-in_err-asked-in-Count.result
+    c.from_residual-in_err-asked-in-Count.ensures.1 in
     let goes = rw c.in-Count.is at c.in-Ok.ensures in
     rw (p.1, p.2) (λ rest. count_misfits _ _ _ _ _ _ _ _ _ goes c.in_err-asked-in-Count.ensures)
 
@@ -32,7 +36,8 @@ returns-in_err-asked-in-Count-clause-err c =
 pub returns-in_ok-asked-in-Field-clause-ok : goal.returns-in_ok-asked-in-Field-clause-ok
 returns-in_ok-asked-in-Field-clause-ok c =
     let goes = rw c.in-Field.is at c.in-Ok.ensures in
-    λ rest. field_is_written _ _ _ _ _ _ _ _ c.requires goes (fits_is _ _ _ _ c.in_ok-asked-in-Field.ensures)
+    λ rest. field_is_written _ _ _ _ _ _ _ _ c.requires goes
+    (fits_is _ _ _ _ c.in_ok-asked-in-Field.ensures)
 
 -- the walk goes on after it
 pub returns-in_ok-asked-in-Field-clause-goes_on : goal.returns-in_ok-asked-in-Field-clause-goes_on
@@ -44,14 +49,16 @@ returns-in_ok-asked-in-Field-clause-goes_on c =
 pub count-requires-clause-fits : goal.count-requires-clause-fits
 count-requires-clause-fits c =
     let goes = rw c.in-Count.is at c.in-Ok.ensures in
-    rw c.number.ensures (count_written_fits _ _ _ _ _ goes (fits_is _ _ _ _ c.in_ok-asked-in-Count.ensures))
+    rw c.number.ensures
+    (count_written_fits _ _ _ _ _ goes (fits_is _ _ _ _ c.in_ok-asked-in-Count.ensures))
 
 -- the count asked for is gone past, and the course goes on by its number
 pub returns-in_ok-asked-in-Count-clause-ok : goal.returns-in_ok-asked-in-Count-clause-ok
 returns-in_ok-asked-in-Count-clause-ok c =
     let goes = rw c.in-Count.is at c.in-Ok.ensures in
     let counted = rw c.number.ensures at c.count.ensures in
-    λ rest. count_is_written _ _ _ _ _ _ _ _ _ goes counted (fits_is _ _ _ _ c.in_ok-asked-in-Count.ensures)
+    λ rest. count_is_written _ _ _ _ _ _ _ _ _ goes counted
+    (fits_is _ _ _ _ c.in_ok-asked-in-Count.ensures)
 
 -- the walk goes on after it
 pub returns-in_ok-asked-in-Count-clause-goes_on : goal.returns-in_ok-asked-in-Count-clause-goes_on

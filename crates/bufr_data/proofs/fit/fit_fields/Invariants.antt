@@ -14,5 +14,6 @@ invariant-loop-index l = record {
   ready : IsReady l.walk;
   few : l.index ≤ most_items;
   items : l.fn.used + l.index ≤ walks.items_met l.walk;
-  so_far : items_of l.fn.j 1 (course l.fn.template l.fn.used) l.fields ≡ items_of l.fn.j (l.index + 1) (walks.left l.walk) (drop l.index l.fields);
+  so_far : items_of l.fn.j 1 (course l.fn.template l.fn.used) l.fields
+      ≡ items_of l.fn.j (l.index + 1) (walks.left l.walk) (drop l.index l.fields);
 }

@@ -6,4 +6,6 @@ use Rattle.bufr_data.proofs.form.are_ones.Goals as goal
 
 -- all octets that are yielded are 255 where all of the slice are
 pub returns : goal.returns
-returns c = all_from_yields_List (λ x. x == 255) _ _ _ c.all.ensures.ran (YieldsList-from_slice c.args.octets.now cc) (λ x b q k. search (rules, tests))
+returns c =
+    all_from_yields_List (λ x. x == 255) _ _ _ c.all.ensures.ran
+    (YieldsList-from_slice c.args.octets.now cc) (λ x b q k. search (rules, tests))

@@ -6,4 +6,6 @@ use Rattle.bufr_data.proofs.form.is_octets.Goals as goal
 -- so only their count is to be compared
 pub returns : goal.returns
 returns c =
-    rw c.from.ensures (and_true (length c.args.octets.now == c.args.width / 8) _ (octets_below c.args.octets.now c.type_inv.octets))
+    rw c.from.ensures
+    (and_true (length c.args.octets.now == c.args.width / 8) _
+    (octets_below c.args.octets.now c.type_inv.octets))

@@ -1,5 +1,6 @@
 -- The law `counted_subsets_fit`, by that courses are the unrollings of the template's tree.
-use Rattle.bufr_data.proofs.FitFacts.{counted_fit, fitting_counted, all_counted_fit, all_fitting_counted}
+use Rattle.bufr_data.proofs.FitFacts.{counted_fit, fitting_counted, all_counted_fit}
+use Rattle.bufr_data.proofs.FitFacts.{all_fitting_counted}
 use Rattle.bufr_data.proofs.laws.counted_subsets_fit.Goals as goal
 
 -- a subset counted fits and one that fits is counted, and so it is of all subsets

@@ -1,5 +1,6 @@
 -- The law `data_hold_subsets`, from the laws of plain data and of columns.
-use Rattle.bufr_data.proofs.DataFacts.{reads_exactly, refuses_exactly, writes_exactly, misfits_exactly, bare_are_data, plain_are_bare}
+use Rattle.bufr_data.proofs.DataFacts.{reads_exactly, refuses_exactly, writes_exactly}
+use Rattle.bufr_data.proofs.DataFacts.{misfits_exactly, bare_are_data, plain_are_bare}
 use Rattle.bufr_data.proofs.PackableFacts.{packed_can_be_bare, narrow_can_be_packed}
 use Rattle.bufr_data.proofs.laws.data_hold_subsets.Goals as goal
 use Rattle.bufr_data.specs.CourseLaws.{Laws}

@@ -1,5 +1,6 @@
 -- The law `read_refusals_follow_the_tree`, by that courses begin and are unrollings of the tree.
-use Rattle.bufr_data.proofs.CauseFacts.{read_refused_first, first_read_refused, subsets_refused_first, first_subsets_refused}
+use Rattle.bufr_data.proofs.CauseFacts.{read_refused_first, first_read_refused}
+use Rattle.bufr_data.proofs.CauseFacts.{subsets_refused_first, first_subsets_refused}
 use Rattle.bufr_data.proofs.RefusalFacts.{none_on_few, few_where_none}
 use Rattle.bufr_data.proofs.laws.read_refusals_follow_the_tree.Goals as goal
 use Rattle.bufr_data.specs.CourseLaws.{Laws}

@@ -1,5 +1,6 @@
 -- The law `write_refusals_follow_the_tree`, by that courses begin and are unrollings of the tree.
-use Rattle.bufr_data.proofs.CauseFacts.{write_refused_first, first_write_refused, written_refused_first, first_written_refused}
+use Rattle.bufr_data.proofs.CauseFacts.{write_refused_first, first_write_refused}
+use Rattle.bufr_data.proofs.CauseFacts.{written_refused_first, first_written_refused}
 use Rattle.bufr_data.proofs.laws.write_refusals_follow_the_tree.Goals as goal
 use Rattle.bufr_data.specs.CourseLaws.{Laws}
 

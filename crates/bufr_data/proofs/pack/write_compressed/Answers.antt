@@ -13,8 +13,12 @@ returns-then-fields-subsets c =
     let others = take (length c.args.subsets.now - 1) (drop 1 c.args.subsets.now) in
     let whole = whole_is c.args.subsets.now c.index-subsets-0.result (sym c.if-is_empty.ensures) in
     let can = rw c.as_slice-fields.ensures at c.in_default.ensures.ok in
-    let past : most_values < length s.fields * length c.args.subsets.now = rw c.as_slice-fields.ensures at (rw c.from.ensures at c.if-fields-subsets.true) in
-    (written_past c.args.template.now c.args.subsets.now others s _ c.in_ok-fit_each.ensures whole can past, refl)
+    let past : most_values < length s.fields * length c.args.subsets.now =
+    rw c.as_slice-fields.ensures at (rw c.from.ensures at c.if-fields-subsets.true) in (
+      written_past c.args.template.now c.args.subsets.now others s _ c.in_ok-fit_each.ensures whole
+          can past,
+      refl,
+    )
 
 -- each field of the first subset has its spec's form, for it fits
 pub put_columns-requires-clause-forms : goal.put_columns-requires-clause-forms
@@ -22,7 +26,9 @@ put_columns-requires-clause-forms c =
     let s = get_or c.args.subsets.now 0 c.index-subsets-0.result in
     let others = take (length c.args.subsets.now - 1) (drop 1 c.args.subsets.now) in
     let whole = whole_is c.args.subsets.now c.index-subsets-0.result (sym c.if-is_empty.ensures) in
-    rw c.as_slice-fields.ensures (first_forms c.args.template.now c.args.subsets.now others s _ c.in_ok-fit_each.ensures whole).0
+    rw c.as_slice-fields.ensures
+    (first_forms c.args.template.now c.args.subsets.now others s _ c.in_ok-fit_each.ensures
+    whole).0
 
 -- and so has each field of the others
 pub put_columns-requires-clause-other_forms : goal.put_columns-requires-clause-other_forms
@@ -39,9 +45,11 @@ returns-in-Ok c =
     let others = take (length c.args.subsets.now - 1) (drop 1 c.args.subsets.now) in
     let whole = whole_is c.args.subsets.now c.index-subsets-0.result (sym c.if-is_empty.ensures) in
     let can = rw c.as_slice-fields.ensures at c.in_default.ensures.ok in
-    let room : length s.fields * length c.args.subsets.now ≤ most_values = rw c.as_slice-fields.ensures at (rw c.from.ensures at c.if-fields-subsets.false) in
+    let room : length s.fields * length c.args.subsets.now ≤ most_values =
+    rw c.as_slice-fields.ensures at (rw c.from.ensures at c.if-fields-subsets.false) in
     let put = rw c.as_slice-fields.ensures at c.in-Ok.ensures.put in (
       best_bits (columns_here s.fields (rows_from 0 others)),
-      written_whole c.args.template.now c.args.subsets.now others s _ c.in_ok-fit_each.ensures whole can room,
+      written_whole c.args.template.now c.args.subsets.now others s _ c.in_ok-fit_each.ensures whole
+          can room,
       put,
     )

@@ -5,11 +5,14 @@ use Rattle.bufr_data.proofs.pass.bits_of.Goals as goal
 
 -- a text takes the bits of its whole octets
 pub returns-in-Text-clause-takes : goal.returns-in-Text-clause-takes
-returns-in-Text-clause-takes c = text_takes c.args.spec _ c.from.result c.in-Text.is refl c.from.ensures
+returns-in-Text-clause-takes c =
+    text_takes c.args.spec _ c.from.result c.in-Text.is refl c.from.ensures
 
 -- another field whose width is at most 64 takes so many bits
 pub returns-in_default-2 : goal.returns-in_default-2
 returns-in_default-2 c = record {
-  takes = number_takes c.args.spec _ c.in_default.not-Text c.if-spec-gt-MOST_RAW_BITS.false c.from-in_default-2.ensures;
+  takes =
+      number_takes c.args.spec _ c.in_default.not-Text c.if-spec-gt-MOST_RAW_BITS.false
+      c.from-in_default-2.ensures;
   never = tt;
 }

@@ -3,32 +3,41 @@ use Rattle.std.proofs.lemmas.Result.{err_from_is_err_and}
 use Rattle.bufr_tables.specs.declared.failure.Failure.TheVariants.{Fault}
 use Rattle.bufr_data.specs.declared.field.Raw.TheVariants.{Number}
 use Rattle.bufr_data.specs.StepLaws.{field_goes_on, count_goes_on}
-use Rattle.bufr_data.proofs.ReadFacts.{field_is_read, count_is_read, field_is_missing, count_is_missing, end_is_read, stop_is_read, count_read_fits}
+use Rattle.bufr_data.proofs.ReadFacts.{field_is_read, count_is_read, field_is_missing}
+use Rattle.bufr_data.proofs.ReadFacts.{count_is_missing, end_is_read, stop_is_read, count_read_fits}
 use Rattle.bufr_data.proofs.pass.pass_field.Goals as goal
 
 -- where the walk stops, reading the fields has its fault
 pub returns-in-Err-clause-err : goal.returns-in-Err-clause-err
-returns-in-Err-clause-err c = stop_is_read _ _ c.args.i _ _ _ c.in-Err.ensures c.fault_of.ensures.fields
+returns-in-Err-clause-err c =
+    stop_is_read _ _ c.args.i _ _ _ c.in-Err.ensures c.fault_of.ensures.fields
 
 -- where a field cannot be passed, reading the fields has this fault
 pub returns-in_err-pass_raw-in-Field-clause-err : goal.returns-in_err-pass_raw-in-Field-clause-err
 returns-in_err-pass_raw-in-Field-clause-err c =
     let p = err_from_is_err_and c.from_residual.result c.from_residual.ensures.1 in
     let goes = rw c.in-Field.is at c.in-Ok.ensures in
-    rw (p.1, p.2) (field_is_missing _ _ c.args.i _ _ _ (Fault c.in_err-pass_raw-in-Field.field-0.0) goes c.in_err-pass_raw-in-Field.ensures.err)
+    rw (p.1, p.2)
+    (field_is_missing _ _ c.args.i _ _ _
+    (Fault c.in_err-pass_raw-in-Field.field-0.0) goes c.in_err-pass_raw-in-Field.ensures.err)
 
 -- so it has where a count cannot be read
 pub returns-in_err-number-in-Count-clause-err : goal.returns-in_err-number-in-Count-clause-err
 returns-in_err-number-in-Count-clause-err c =
-    let p = err_from_is_err_and c.from_residual-in_err-number-in-Count.result c.from_residual-in_err-number-in-Count.ensures.1 in
+    let p =
+    err_from_is_err_and c.from_residual-in_err-number-in-Count.result
+    c.from_residual-in_err-number-in-Count.ensures.1 in
     let goes = rw c.in-Count.is at c.in-Ok.ensures in
-    rw (p.1, p.2) (count_is_missing _ _ c.args.i _ _ _ (Fault c.in_err-number-in-Count.field-0.0) goes c.in_err-number-in-Count.ensures.err)
+    rw (p.1, p.2)
+    (count_is_missing _ _ c.args.i _ _ _
+    (Fault c.in_err-number-in-Count.field-0.0) goes c.in_err-number-in-Count.ensures.err)
 
 -- a count that was read fits the width of its field
 pub count-requires-clause-fits : goal.count-requires-clause-fits
 count-requires-clause-fits c =
     let goes = rw c.in-Count.is at c.in-Ok.ensures in
-    count_read_fits _ _ c.args.i _ _ _ _ (Number c.in_ok-number-in-Count.number) goes c.in_ok-number-in-Count.ensures.ok
+    count_read_fits _ _ c.args.i _ _ _ _
+    (Number c.in_ok-number-in-Count.number) goes c.in_ok-number-in-Count.ensures.ok
 
 -- where the walk ends, there is no field
 pub returns-in-End-clause-ok : goal.returns-in-End-clause-ok
@@ -53,8 +62,12 @@ returns-in_ok-pass_raw-in-Field-clause-advances c =
 -- a count that was read is the next field, and the walk goes on by it
 pub returns-in_ok-number-in-Count-clause-ok : goal.returns-in_ok-number-in-Count-clause-ok
 returns-in_ok-number-in-Count-clause-ok c =
-    let goes = rw c.in-Count.is at c.in-Ok.ensures in
-    (_, count_is_read _ _ _ c.args.i _ _ _ _ (Number c.in_ok-number-in-Count.number) goes c.count.ensures c.in_ok-number-in-Count.ensures.ok)
+    let goes = rw c.in-Count.is at c.in-Ok.ensures in (
+      _,
+      count_is_read _ _ _ c.args.i _ _ _ _
+          (Number c.in_ok-number-in-Count.number) goes c.count.ensures
+          c.in_ok-number-in-Count.ensures.ok,
+    )
 
 -- behind it the walk has met an item more, and can go on
 pub returns-in_ok-number-in-Count-clause-advances :

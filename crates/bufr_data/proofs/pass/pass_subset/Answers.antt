@@ -31,5 +31,7 @@ loop-fault-preserved c =
       items = omega (arith, goes.further, c.loop-fault.invariant.items);
       octets = c.in-Ok-true.ensures.octets ∙ c.loop-fault.invariant.octets;
       onward = omega (arith, c.in-Ok-true.ensures.onward, c.loop-fault.invariant.onward);
-      so_far = one_passed _ c.loop-fault.i (c.loop-fault.i + 1) _ _ _ _ (walks.items_met c.pass_field.new.walk) refl c.loop-fault.invariant.so_far step;
+      so_far =
+          one_passed _ c.loop-fault.i (c.loop-fault.i + 1) _ _ _ _
+          (walks.items_met c.pass_field.new.walk) refl c.loop-fault.invariant.so_far step;
     }

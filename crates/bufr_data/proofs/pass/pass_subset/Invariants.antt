@@ -19,7 +19,9 @@ invariant-loop-fault l = record {
   octets : l.reader.octets ≡ l.fn.reader.octets;
   onward : l.fn.reader.place ≤ l.reader.place;
   so_far : (fields : List Field)
-      × (fields_at 1 1 (course l.template l.fn.used) (left l.fn.reader) ≡ behind_fields fields (fields_at 1 l.i (walks.left l.walk) (left l.reader)));
+      ×
+      (fields_at 1 1 (course l.template l.fn.used) (left l.fn.reader)
+      ≡ behind_fields fields (fields_at 1 l.i (walks.left l.walk) (left l.reader)));
 }
 
 -- each turn meets an item more, and a message has only so many

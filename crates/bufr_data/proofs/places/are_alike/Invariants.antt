@@ -7,4 +7,6 @@ use Rattle.bufr_data.proofs.places.are_alike.Given as goal
 
 -- each subset so far has a field of this descriptor and this spec at the place
 abbrev pub invariant-loop-other : goal.invariant-loop-other
-invariant-loop-other l = list_all (λ (s : Subset). begins_like l.field (drop l.place s.fields)) (take l.other-index l.others) ≡ true
+invariant-loop-other l =
+    list_all (λ (s : Subset). begins_like l.field (drop l.place s.fields))
+    (take l.other-index l.others) ≡ true

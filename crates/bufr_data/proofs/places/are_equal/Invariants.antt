@@ -8,4 +8,6 @@ use Rattle.bufr_data.proofs.places.are_equal.Given as goal
 
 -- each subset so far has the same value at the place
 abbrev pub invariant-loop-other : goal.invariant-loop-other
-invariant-loop-other l = list_all (λ (s : Subset). same_raw (first_raw (drop l.place s.fields)) l.raw) (take l.other-index l.others) ≡ true
+invariant-loop-other l =
+    list_all (λ (s : Subset). same_raw (first_raw (drop l.place s.fields)) l.raw)
+    (take l.other-index l.others) ≡ true

@@ -7,4 +7,5 @@ use Rattle.bufr_data.proofs.places.have_ended.Given as goal
 
 -- each subset so far has no field from the place on
 abbrev pub invariant-loop-other : goal.invariant-loop-other
-invariant-loop-other l = list_all (λ (s : Subset). is_empty (drop l.place s.fields)) (take l.other-index l.others) ≡ true
+invariant-loop-other l =
+    list_all (λ (s : Subset). is_empty (drop l.place s.fields)) (take l.other-index l.others) ≡ true

@@ -9,4 +9,5 @@ returns-in-Some-clause-ok c =
     let law = c.courses_are_unrollings.ensures in
     let is = rw c.in-Some.is at c.requires in
     let passed = c.if-pass.ensures in
-    alike_passes c.args.template.now c.in-Some.alike c.args.used (left c.args.reader.now) _ law.unrolled law.allowed is passed.room passed.enough passed.rest
+    alike_passes c.args.template.now c.in-Some.alike c.args.used
+    (left c.args.reader.now) _ law.unrolled law.allowed is passed.room passed.enough passed.rest

@@ -14,7 +14,8 @@ returns-in_err-subset-clause-exact c =
     let p = err_from_is_err_and c.from_residual.result c.from_residual.ensures.1 in
     rw (p.1, p.2)
     (fails_map c.in_err-subset.field-0.0 _ all
-    (one_fails (course c.args.template.now) c.args.count c.loop-index.index c.loop-index.used (left c.loop-index.reader) c.loop-index.subsets.items all c.in_err-subset.field-0.0
+    (one_fails (course c.args.template.now) c.args.count c.loop-index.index c.loop-index.used
+    (left c.loop-index.reader) c.loop-index.subsets.items all c.in_err-subset.field-0.0
     c.loop-index-test.true c.loop-index.invariant.read c.in_err-subset.ensures.exact))
 
 -- one subset more is read behind those so far
@@ -25,8 +26,14 @@ loop-index-preserved c = record {
   read =
       let all = subsets_at (course c.args.template.now) 1 c.args.count 0 (left c.args.reader.now) in
       rw c.in_ok-push.ensures.items
-      (one_more (course c.args.template.now) c.args.count c.loop-index.index c.loop-index.used (left c.loop-index.reader) c.loop-index.subsets.items all
-      (record { fields = c.in_ok-subset.subset.fields; items = c.in_ok-subset.items; rest = left c.read_subset.new.reader })
+      (one_more (course c.args.template.now) c.args.count c.loop-index.index c.loop-index.used
+      (left c.loop-index.reader) c.loop-index.subsets.items all
+      (record {
+        fields = c.in_ok-subset.subset.fields;
+        items = c.in_ok-subset.items;
+        rest = left
+            c.read_subset.new.reader;
+      })
       c.loop-index-test.true c.loop-index.invariant.read c.in_ok-subset.ensures.exact);
 }
 
@@ -35,7 +42,9 @@ pub returns-clause-exact : goal.returns-clause-exact
 returns-clause-exact c =
     let all = subsets_at (course c.args.template.now) 1 c.args.count 0 (left c.args.reader.now) in
     rw (
-      all_read (course c.args.template.now) (c.loop-index.index + 1) c.args.count c.loop-index.index c.loop-index.used (left c.loop-index.reader) c.loop-index.subsets.items all
+      all_read (course c.args.template.now)
+          (c.loop-index.index + 1) c.args.count c.loop-index.index c.loop-index.used
+          (left c.loop-index.reader) c.loop-index.subsets.items all
           c.loop-index-test.false c.loop-index.invariant.read,
       c.from_vec.ensures,
     ) refl

@@ -11,5 +11,7 @@ abbrev pub invariant-loop-index : goal.invariant-loop-index
 invariant-loop-index l = record {
   onward : l.fn.reader.place ≤ l.reader.place;
   same_octets : l.reader.octets ≡ l.fn.reader.octets;
-  read : subsets_at (course l.template) 1 l.count 0 (left l.fn.reader) ≡ after l.subsets.items (subsets_at (course l.template) (l.index + 1) (l.count - l.index) l.used (left l.reader));
+  read : subsets_at (course l.template) 1 l.count 0 (left l.fn.reader)
+      ≡ after l.subsets.items
+      (subsets_at (course l.template) (l.index + 1) (l.count - l.index) l.used (left l.reader));
 }

@@ -1,12 +1,14 @@
 -- The clauses of `read_field`: one step of the walk is one step of reading.
 use Rattle.std.proofs.lemmas.Result.{err_from_is_err_and}
-use Rattle.bufr_data.proofs.ReadFacts.{field_is_read, count_is_read, field_is_missing, count_is_missing, end_is_read, stop_is_read, count_read_fits}
+use Rattle.bufr_data.proofs.ReadFacts.{field_is_read, count_is_read, field_is_missing}
+use Rattle.bufr_data.proofs.ReadFacts.{count_is_missing, end_is_read, stop_is_read, count_read_fits}
 use Rattle.bufr_data.proofs.read.read_field.Goals as goal
 use Rattle.bufr_data.specs.StepLaws.{field_goes_on, count_goes_on}
 
 -- where the walk stops, its fault is that of the data
 pub returns-in-Err-clause-err : goal.returns-in-Err-clause-err
-returns-in-Err-clause-err c = stop_is_read _ _ c.args.i _ _ _ c.in-Err.ensures c.fault_of.ensures.fields
+returns-in-Err-clause-err c =
+    stop_is_read _ _ c.args.i _ _ _ c.in-Err.ensures c.fault_of.ensures.fields
 
 -- where the bits of the field are not all there, the data end
 pub returns-in_err-raw-in-Field-clause-err : goal.returns-in_err-raw-in-Field-clause-err
@@ -18,7 +20,9 @@ returns-in_err-raw-in-Field-clause-err c =
 -- and so where those of a count are not all there
 pub returns-in_err-raw-in-Count-clause-err : goal.returns-in_err-raw-in-Count-clause-err
 returns-in_err-raw-in-Count-clause-err c =
-    let p = err_from_is_err_and c.from_residual-in_err-raw-in-Count.result c.from_residual-in_err-raw-in-Count.ensures.1 in
+    let p =
+    err_from_is_err_and c.from_residual-in_err-raw-in-Count.result
+    c.from_residual-in_err-raw-in-Count.ensures.1 in
     let goes = rw c.in-Count.is at c.in-Ok.ensures in
     rw (p.1, p.2) (count_is_missing _ _ _ _ _ _ _ goes c.in_err-raw-in-Count.ensures.exact)
 

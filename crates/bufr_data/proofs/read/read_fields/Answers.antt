@@ -33,5 +33,7 @@ loop-fields-preserved c =
       items = omega (arith, goes.further, c.loop-fields.invariant.items);
       octets = c.in_ok-field.ensures.octets ∙ c.loop-fields.invariant.octets;
       onward = omega (arith, c.in_ok-field.ensures.onward, c.loop-fields.invariant.onward);
-      so_far = fields_read _ _ _ _ _ _ _ _ _ grown (omega (arith, c.len.ensures)) c.loop-fields.invariant.so_far step;
+      so_far =
+          fields_read _ _ _ _ _ _ _ _ _ grown
+          (omega (arith, c.len.ensures)) c.loop-fields.invariant.so_far step;
     }

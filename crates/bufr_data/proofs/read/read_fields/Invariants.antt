@@ -18,7 +18,9 @@ invariant-loop-fields l = record {
   items : l.fn.used + length l.fields.items ≤ walks.items_met l.walk;
   octets : l.reader.octets ≡ l.fn.reader.octets;
   onward : l.fn.reader.place ≤ l.reader.place;
-  so_far : fields_at 1 1 (course l.template l.fn.used) (left l.fn.reader) ≡ behind_fields l.fields.items (fields_at 1 (length l.fields.items + 1) (walks.left l.walk) (left l.reader));
+  so_far : fields_at 1 1 (course l.template l.fn.used) (left l.fn.reader)
+      ≡ behind_fields l.fields.items
+      (fields_at 1 (length l.fields.items + 1) (walks.left l.walk) (left l.reader));
 }
 
 -- each field is one item more at least, and there is a limit to items

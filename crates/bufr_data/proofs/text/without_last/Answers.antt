@@ -6,7 +6,8 @@ use Rattle.bufr_data.proofs.text.without_last.Goals as goal
 -- the power of ten of at most 38 places fits 128 bits
 pub pow-requires : goal.pow-requires
 pow-requires c =
-    let most : 10 ^ c.args.places ≤ 10 ^ 38 = pow-le-pow_right {n = 10} (omega arith) {i = c.args.places} {j = 38} (omega arith) in
+    let most : 10 ^ c.args.places ≤ 10 ^ 38 =
+    pow-le-pow_right {n = 10} (omega arith) {i = c.args.places} {j = 38} (omega arith) in
     omega arith
 
 -- a power of ten is not 0
@@ -16,5 +17,6 @@ nonzero_div-result c = omega (arith, c.pow.ensures, one-le-pow c.args.places 10 
 -- a number without more than 38 of its last digits is 0
 pub returns-then-places-gt38 : goal.returns-then-places-gt38
 returns-then-places-gt38 c =
-    let least : 10 ^ 39 ≤ 10 ^ c.args.places = pow-le-pow_right {n = 10} (omega arith) {i = 39} {j = c.args.places} (omega arith) in
+    let least : 10 ^ 39 ≤ 10 ^ c.args.places =
+    pow-le-pow_right {n = 10} (omega arith) {i = 39} {j = c.args.places} (omega arith) in
     sym (div-eq_of_lt {n = c.args.number} {m = 10 ^ c.args.places} (omega arith))

@@ -7,6 +7,7 @@ use Rattle.bufr_data.proofs.write.write_each.Given as goal
 -- the items from the next subset on are those of all, and the bits of the subsets so far are put
 abbrev pub invariant-loop-index : goal.invariant-loop-index
 invariant-loop-index l = record {
-  so_far : items_of_all (course l.fn.template) 1 0 l.subsets ≡ items_of_all (course l.fn.template) (l.index + 1) l.used (drop l.index l.subsets);
+  so_far : items_of_all (course l.fn.template) 1 0 l.subsets
+      ≡ items_of_all (course l.fn.template) (l.index + 1) l.used (drop l.index l.subsets);
   put : l.sink ≡ l.fn.sink ++ plain_subsets (take l.index l.subsets);
 }

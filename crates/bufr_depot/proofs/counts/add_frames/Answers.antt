@@ -1,9 +1,11 @@
 -- The clauses of `add_frames`: frame by frame, with counts that are bounded by the frames.
-use Rattle.std.proofs.Common.{◌≡◌, ◌∙◌, ◌<◌, ◌+◌, length, ap, sym, subst, arith, Ok, Err, List, ℕ, refl}
+use Rattle.std.proofs.Common.{◌≡◌, ◌∙◌, ◌<◌, ◌+◌, length, ap, sym, subst, arith, Ok, Err, List, ℕ}
+use Rattle.std.proofs.Common.{refl}
 use Rattle.std.proofs.lemmas.List.{take_all}
 use Rattle.bufr_archive.specs.Adding.{AddsMessage}
 use Rattle.bufr_archive.specs.declared.adding.AddFault.TheVariants.{Refused, OutOfMemory}
-use Rattle.bufr_depot.proofs.CountFacts.{none_yet, one_added, one_refused, ran_out, all_added, moved, tables_stay, tables_so_far, octets_at, not_memory}
+use Rattle.bufr_depot.proofs.CountFacts.{none_yet, one_added, one_refused, ran_out, all_added}
+use Rattle.bufr_depot.proofs.CountFacts.{moved, tables_stay, tables_so_far, octets_at, not_memory}
 use Rattle.bufr_depot.proofs.counts.add_frames.Goals.{in-Ok, in-Err-Refused}
 use Rattle.bufr_depot.proofs.counts.add_frames.Goals as goal
 
@@ -14,13 +16,17 @@ loop-frame-init g c = none_yet c.args.archive.now c.args.frames.now c.len-held.e
 -- no more messages are counted than frames
 pub overflow_add-counts : goal.overflow_add-counts
 overflow_add-counts g c =
-    let a = c.loop-frame.invariant.messages_few in let b = c.loop-frame-test.true in omega (arith, a, b)
+    let a =
+    c.loop-frame.invariant.messages_few in let b = c.loop-frame-test.true in omega (arith, a, b)
 
 -- the reports counted as changes are fewer than 2^16 for each frame
 pub overflow_add-counts-in-Ok : goal.overflow_add-counts-in-Ok
 overflow_add-counts-in-Ok g c =
-    let s = c.loop-frame.invariant in let a = s.changed_few in let b = s.few in let d = c.in-Ok.ensures.reports in
-    let e = c.in-Ok.ensures.changed in let f = c.loop-frame-test.true in omega (arith, a, b, d, e, f)
+    let s =
+    c.loop-frame.invariant in let a =
+    s.changed_few in let b = s.few in let d = c.in-Ok.ensures.reports in
+    let e =
+    c.in-Ok.ensures.changed in let f = c.loop-frame-test.true in omega (arith, a, b, d, e, f)
 
 -- the reports added are fewer than 2^16 for each frame
 pub overflow_add-joined : goal.overflow_add-joined
@@ -31,13 +37,16 @@ overflow_add-joined g c =
 -- no more refused frames are counted than frames
 pub overflow_add-counts-in-Err-Refused : goal.overflow_add-counts-in-Err-Refused
 overflow_add-counts-in-Err-Refused g c =
-    let a = c.loop-frame.invariant.refused_few in let b = c.loop-frame-test.true in omega (arith, a, b)
+    let a =
+    c.loop-frame.invariant.refused_few in let b = c.loop-frame-test.true in omega (arith, a, b)
 
 -- the reports added before and in this message are fewer than 2^16 for each frame
 pub overflow_add-result : goal.overflow_add-result
 overflow_add-result g c =
     let b = c.loop-frame.invariant.few in
-    let d = c.add_octets.ensures.done c.in-Err-OutOfMemory.done (c.in-Err-OutOfMemory.is ∙ ap Err c.in-Err-OutOfMemory.field-0-is) in
+    let d =
+    c.add_octets.ensures.done c.in-Err-OutOfMemory.done
+    (c.in-Err-OutOfMemory.is ∙ ap Err c.in-Err-OutOfMemory.field-0-is) in
     let f = c.loop-frame-test.true in omega (arith, b, d, f)
 
 -- where memory ran out in a message, the reports of the frames before are added and some of its own
@@ -45,41 +54,62 @@ pub returns-in-Err-OutOfMemory-clause-adds : goal.returns-in-Err-OutOfMemory-cla
 returns-in-Err-OutOfMemory-clause-adds g c =
     let fs = c.args.frames.now in let i = c.loop-frame.frame-index in let f = c.frame-item.result in
     let at = octets_at fs i f c.as_slice.result.now c.frame-item.is c.as_slice.ensures in
-    ran_out c.args.archive.now c.loop-frame.archive c.add_octets.new.archive fs i f c.loop-frame.counts c.loop-frame.joined c.in-Err-OutOfMemory.field-0 c.in-Err-OutOfMemory.done
+    ran_out c.args.archive.now c.loop-frame.archive c.add_octets.new.archive fs i f
+    c.loop-frame.counts c.loop-frame.joined c.in-Err-OutOfMemory.field-0
+    c.in-Err-OutOfMemory.done
     c.loop-frame-test.true c.loop-frame.invariant
-    (subst (λ (o : List ℕ). AddsMessage c.loop-frame.archive c.add_octets.new.archive o (Err c.in-Err-OutOfMemory.field-0)) at c.in-Err-OutOfMemory.ensures.adds) c.in-Err-OutOfMemory.field-0-is
+    (subst
+    (λ (o : List ℕ). AddsMessage c.loop-frame.archive c.add_octets.new.archive o
+    (Err c.in-Err-OutOfMemory.field-0)) at c.in-Err-OutOfMemory.ensures.adds)
+    c.in-Err-OutOfMemory.field-0-is
 
 -- and the tables stay
 pub returns-in-Err-OutOfMemory-clause-tables : goal.returns-in-Err-OutOfMemory-clause-tables
 returns-in-Err-OutOfMemory-clause-tables g c =
-    tables_stay c.args.archive.now c.add_octets.new.archive c.args.frames.now (c.loop-frame.joined + c.in-Err-OutOfMemory.done) (returns-in-Err-OutOfMemory-clause-adds g c)
+    tables_stay c.args.archive.now c.add_octets.new.archive c.args.frames.now
+    (c.loop-frame.joined + c.in-Err-OutOfMemory.done)
+    (returns-in-Err-OutOfMemory-clause-adds g c)
 
 -- one frame more is gone through, whether it spells a message or not
 pub loop-frame-preserved : goal.loop-frame-preserved
 loop-frame-preserved g c =
     let fs = c.args.frames.now in let i = c.loop-frame.frame-index in let f = c.frame-item.result in
     let at = octets_at fs i f c.as_slice.result.now c.frame-item.is c.as_slice.ensures in
-    let old = c.args.archive.now in let new = c.loop-frame.archive in let next = c.add_octets.new.archive in
+    let old =
+    c.args.archive.now in let new =
+    c.loop-frame.archive in let next = c.add_octets.new.archive in
     elim c.match-add_octets.branch [
       | in-Ok w ↦
           moved old next fs (i + 1) _ c.match-add_octets.counts _ c.match-add_octets.joined
-          (one_added old new next fs i f c.loop-frame.counts c.loop-frame.joined w.in-Ok.added c.loop-frame-test.true c.loop-frame.invariant
-          (subst (λ (o : List ℕ). AddsMessage new next o (Ok w.in-Ok.added)) at w.in-Ok.ensures.adds) w.in-Ok.ensures.reports w.in-Ok.ensures.changed)
+          (one_added old new next fs i f c.loop-frame.counts c.loop-frame.joined w.in-Ok.added
+          c.loop-frame-test.true c.loop-frame.invariant
+          (subst
+          (λ (o : List ℕ). AddsMessage new next o
+          (Ok w.in-Ok.added)) at w.in-Ok.ensures.adds) w.in-Ok.ensures.reports
+          w.in-Ok.ensures.changed)
           w.counts-is w.joined-is
       | in-Err-Refused w ↦
           moved old next fs (i + 1) _ c.match-add_octets.counts _ c.match-add_octets.joined
-          (one_refused old new next fs i f c.loop-frame.counts c.loop-frame.joined w.in-Err-Refused.field-0 c.loop-frame-test.true c.loop-frame.invariant
-          (subst (λ (o : List ℕ). AddsMessage new next o (Err w.in-Err-Refused.field-0)) at w.in-Err-Refused.ensures.adds) (not_memory w.in-Err-Refused.field-0 w.in-Err-Refused.field-0-0 w.in-Err-Refused.field-0-is))
+          (one_refused old new next fs i f c.loop-frame.counts c.loop-frame.joined
+          w.in-Err-Refused.field-0 c.loop-frame-test.true c.loop-frame.invariant
+          (subst
+          (λ (o : List ℕ). AddsMessage new next o
+          (Err w.in-Err-Refused.field-0)) at w.in-Err-Refused.ensures.adds)
+          (not_memory w.in-Err-Refused.field-0 w.in-Err-Refused.field-0-0
+          w.in-Err-Refused.field-0-is))
           w.counts-is w.joined-is
     ]
 
 -- where no frame is left, the messages of all are added and counted
 pub returns-clause-adds : goal.returns-clause-adds
 returns-clause-adds g c =
-    all_added c.args.archive.now c.loop-frame.archive c.args.frames.now c.loop-frame.frame-index c.loop-frame.counts c.loop-frame.joined
-    (take_all c.loop-frame.frame-index c.args.frames.now c.loop-frame-test.false) c.loop-frame.invariant
+    all_added c.args.archive.now c.loop-frame.archive c.args.frames.now c.loop-frame.frame-index
+    c.loop-frame.counts c.loop-frame.joined
+    (take_all c.loop-frame.frame-index c.args.frames.now c.loop-frame-test.false)
+    c.loop-frame.invariant
 
 -- and the tables stay
 pub returns-clause-tables : goal.returns-clause-tables
 returns-clause-tables g c =
-    tables_so_far c.args.archive.now c.loop-frame.archive c.args.frames.now c.loop-frame.frame-index c.loop-frame.counts c.loop-frame.joined c.loop-frame.invariant
+    tables_so_far c.args.archive.now c.loop-frame.archive c.args.frames.now c.loop-frame.frame-index
+    c.loop-frame.counts c.loop-frame.joined c.loop-frame.invariant

@@ -6,7 +6,8 @@ use Rattle.std.proofs.lemmas.Result.{err_from_is_err_and}
 use Rattle.bufr_expand.specs.Expansion.{expand_within, replication_node}
 use Rattle.bufr_expand.specs.Parts.{seen}
 use Rattle.bufr_expand.proofs.ExpansionFacts.{expanded, expanded_fault, expanded_part_fault}
-use Rattle.bufr_expand.proofs.ExpansionFacts.{expanded_more, expanded_nothing, replicated, Fails-along}
+use Rattle.bufr_expand.proofs.ExpansionFacts.{expanded_more, expanded_nothing, replicated}
+use Rattle.bufr_expand.proofs.ExpansionFacts.{Fails-along}
 use Rattle.bufr_expand.proofs.expand.+expand.Goals as goal
 
 -- the body's nodes stand behind the node of the replication, which then says how many they are

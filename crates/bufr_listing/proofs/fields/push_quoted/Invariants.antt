@@ -6,4 +6,6 @@ use Rattle.bufr_listing.proofs.fields.push_quoted.Given as goal
 
 -- behind the text's first octets stand those octets as they are printed
 abbrev pub invariant-loop-octet : goal.invariant-loop-octet
-invariant-loop-octet l = string_bytes l.text ≡ string_bytes l.initial.text ++ flat_map quoted_octet (take l.octet-index l.octets)
+invariant-loop-octet l =
+    string_bytes l.text ≡ string_bytes l.initial.text
+    ++ flat_map quoted_octet (take l.octet-index l.octets)

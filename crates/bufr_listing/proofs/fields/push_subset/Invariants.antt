@@ -6,4 +6,6 @@ use Rattle.bufr_listing.proofs.fields.push_subset.Given as goal
 
 -- behind the text's first octets stand the lines of those fields
 abbrev pub invariant-loop-field : goal.invariant-loop-field
-invariant-loop-field l = string_bytes l.text ≡ string_bytes l.initial.text ++ flat_map (λ f. line (field_line f)) (take l.field-index l.field-items)
+invariant-loop-field l =
+    string_bytes l.text ≡ string_bytes l.initial.text
+    ++ flat_map (λ f. line (field_line f)) (take l.field-index l.field-items)

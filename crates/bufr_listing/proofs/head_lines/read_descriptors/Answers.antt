@@ -18,7 +18,8 @@ use Rattle.bufr_listing.proofs.DescriptorFacts.{untitled_descriptors, descriptor
 use Rattle.bufr_listing.proofs.DescriptorFacts.{no_descriptor, lent_descriptors}
 use Rattle.bufr_listing.proofs.head_lines.read_descriptors.Goals.{in_default-via-in-Some+else-not-is_empty}
 use Rattle.bufr_listing.proofs.head_lines.read_descriptors.Goals.{in_default-via-in_default}
-use Rattle.bufr_listing.proofs.head_lines.read_descriptors.Goals.{After-behind_first, After-as_slice}
+use Rattle.bufr_listing.proofs.head_lines.read_descriptors.Goals.{After-behind_first}
+use Rattle.bufr_listing.proofs.head_lines.read_descriptors.Goals.{After-as_slice}
 use Rattle.bufr_listing.proofs.head_lines.read_descriptors.Goals as goal
 
 -- the words of a line that begins with `descriptors`

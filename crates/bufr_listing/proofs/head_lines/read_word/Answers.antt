@@ -10,4 +10,9 @@ use Rattle.bufr_listing.proofs.head_lines.read_word.Goals as goal
 -- a line that is not the word has L1
 pub returns-else-eq-clause-read : goal.returns-else-eq-clause-read
 returns-else-eq-clause-read c =
-    rw c.bad_line.ensures (taken_err (read_word c.args.word.now) (past c.args.lines.now) (left c.args.lines.now) (printed c.in_ok-line.line) (left c.take.new.self) (Fault (BadLine c.in_ok-line.line.number)) c.in_ok-line.ensures.taken (word_is_not c.args.word.now c.in_ok-line.line.number c.in_ok-line.line.text.now c.requires (sym c.eq.ensures ∙ c.if-eq.false)))
+    rw c.bad_line.ensures
+    (taken_err (read_word c.args.word.now) (past c.args.lines.now) (left c.args.lines.now)
+    (printed c.in_ok-line.line) (left c.take.new.self)
+    (Fault (BadLine c.in_ok-line.line.number)) c.in_ok-line.ensures.taken
+    (word_is_not c.args.word.now c.in_ok-line.line.number c.in_ok-line.line.text.now c.requires
+    (sym c.eq.ensures ∙ c.if-eq.false)))

@@ -6,4 +6,6 @@ use Rattle.bufr_listing.proofs.heading.push_descriptors.Given as goal
 
 -- behind the text's first octets stand those descriptors, each behind a space
 abbrev pub invariant-loop-fxy : goal.invariant-loop-fxy
-invariant-loop-fxy l = string_bytes l.text ≡ string_bytes l.initial.text ++ flat_map (λ d. 32 ∷ six_digits d) (take l.fxy-index l.descriptors)
+invariant-loop-fxy l =
+    string_bytes l.text ≡ string_bytes l.initial.text
+    ++ flat_map (λ d. 32 ∷ six_digits d) (take l.fxy-index l.descriptors)

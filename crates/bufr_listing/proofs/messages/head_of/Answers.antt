@@ -10,7 +10,8 @@ bounds-numbers-0 c = omega (arith, below_length section1_limits _ c.requires.num
 
 -- it fits the centre
 pub overflow_cast-result : goal.overflow_cast-result
-overflow_cast-result c = omega (arith, below_at section1_limits _ 0 c.requires.numbers (omega arith))
+overflow_cast-result c =
+    omega (arith, below_at section1_limits _ 0 c.requires.numbers (omega arith))
 
 -- there is a number for the sub-centre
 pub bounds-numbers-1 : goal.bounds-numbers-1
@@ -18,7 +19,8 @@ bounds-numbers-1 c = omega (arith, below_length section1_limits _ c.requires.num
 
 -- it fits the sub-centre
 pub overflow_cast-result-2 : goal.overflow_cast-result-2
-overflow_cast-result-2 c = omega (arith, below_at section1_limits _ 1 c.requires.numbers (omega arith))
+overflow_cast-result-2 c =
+    omega (arith, below_at section1_limits _ 1 c.requires.numbers (omega arith))
 
 -- there is a number for the update number
 pub bounds-numbers-2 : goal.bounds-numbers-2
@@ -26,7 +28,8 @@ bounds-numbers-2 c = omega (arith, below_length section1_limits _ c.requires.num
 
 -- it fits the update number
 pub overflow_cast-result-3 : goal.overflow_cast-result-3
-overflow_cast-result-3 c = omega (arith, below_at section1_limits _ 2 c.requires.numbers (omega arith))
+overflow_cast-result-3 c =
+    omega (arith, below_at section1_limits _ 2 c.requires.numbers (omega arith))
 
 -- there is a number for the category
 pub bounds-numbers-3 : goal.bounds-numbers-3
@@ -34,7 +37,8 @@ bounds-numbers-3 c = omega (arith, below_length section1_limits _ c.requires.num
 
 -- it fits the category
 pub overflow_cast-result-4 : goal.overflow_cast-result-4
-overflow_cast-result-4 c = omega (arith, below_at section1_limits _ 3 c.requires.numbers (omega arith))
+overflow_cast-result-4 c =
+    omega (arith, below_at section1_limits _ 3 c.requires.numbers (omega arith))
 
 -- there is a number for the international sub-category
 pub bounds-numbers-4 : goal.bounds-numbers-4
@@ -42,7 +46,8 @@ bounds-numbers-4 c = omega (arith, below_length section1_limits _ c.requires.num
 
 -- it fits the international sub-category
 pub overflow_cast-result-5 : goal.overflow_cast-result-5
-overflow_cast-result-5 c = omega (arith, below_at section1_limits _ 4 c.requires.numbers (omega arith))
+overflow_cast-result-5 c =
+    omega (arith, below_at section1_limits _ 4 c.requires.numbers (omega arith))
 
 -- there is a number for the local sub-category
 pub bounds-numbers-5 : goal.bounds-numbers-5
@@ -50,7 +55,8 @@ bounds-numbers-5 c = omega (arith, below_length section1_limits _ c.requires.num
 
 -- it fits the local sub-category
 pub overflow_cast-result-6 : goal.overflow_cast-result-6
-overflow_cast-result-6 c = omega (arith, below_at section1_limits _ 5 c.requires.numbers (omega arith))
+overflow_cast-result-6 c =
+    omega (arith, below_at section1_limits _ 5 c.requires.numbers (omega arith))
 
 -- there is a number for the master table version
 pub bounds-numbers-6 : goal.bounds-numbers-6
@@ -58,7 +64,8 @@ bounds-numbers-6 c = omega (arith, below_length section1_limits _ c.requires.num
 
 -- it fits the master table version
 pub overflow_cast-result-7 : goal.overflow_cast-result-7
-overflow_cast-result-7 c = omega (arith, below_at section1_limits _ 6 c.requires.numbers (omega arith))
+overflow_cast-result-7 c =
+    omega (arith, below_at section1_limits _ 6 c.requires.numbers (omega arith))
 
 -- there is a number for the local table version
 pub bounds-numbers-7 : goal.bounds-numbers-7
@@ -66,7 +73,8 @@ bounds-numbers-7 c = omega (arith, below_length section1_limits _ c.requires.num
 
 -- it fits the local table version
 pub overflow_cast-result-8 : goal.overflow_cast-result-8
-overflow_cast-result-8 c = omega (arith, below_at section1_limits _ 7 c.requires.numbers (omega arith))
+overflow_cast-result-8 c =
+    omega (arith, below_at section1_limits _ 7 c.requires.numbers (omega arith))
 
 -- there is a number for the year
 pub bounds-time-0 : goal.bounds-time-0

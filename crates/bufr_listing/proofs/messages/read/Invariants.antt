@@ -10,7 +10,8 @@ use Rattle.bufr_listing.proofs.messages.read.Given as goal
 abbrev pub invariant-loop-lines : goal.invariant-loop-lines
 invariant-loop-lines l = record {
   last : past l.lines ≡ length (lines l.text) + 1;
-  so_far : MessagesSoFar l.tables (length (lines l.text) + 1) (counting_lines l.text) l.messages.items (left l.lines);
+  so_far : MessagesSoFar l.tables (length (lines l.text) + 1)
+      (counting_lines l.text) l.messages.items (left l.lines);
 }
 
 -- fewer lines are left after each message

@@ -6,4 +6,5 @@ use Rattle.bufr_listing.proofs.raw_values.octets_before.Given as goal
 
 -- the text's octets are these and then those that are read of what is left
 abbrev pub invariant-loop-i : goal.invariant-loop-i
-invariant-loop-i l = octets_before l.count l.text ≡ behind l.octets.items (octets_before (l.count - l._i) l.rest)
+invariant-loop-i l =
+    octets_before l.count l.text ≡ behind l.octets.items (octets_before (l.count - l._i) l.rest)

@@ -9,4 +9,5 @@ use Rattle.bufr_listing.proofs.subsets.ends.Goals as goal
 pub returns-in-Some : goal.returns-in-Some
 returns-in-Some c =
     let p = rw c.in-Some.is at c.peek.ensures in
-    c.eq.ensures ∙ ap (λ w. bytes_eq c.in-Some.line.text.now w) c.as_slice.ensures ∙ sym (ap is_end p.1 ∙ same_test c.in-Some.line.text.now (codes "end") refl)
+    c.eq.ensures ∙ ap (λ w. bytes_eq c.in-Some.line.text.now w) c.as_slice.ensures
+    ∙ sym (ap is_end p.1 ∙ same_test c.in-Some.line.text.now (codes "end") refl)

@@ -9,7 +9,9 @@ loop-fields-init c =
     rw c.new-fields.ensures.items (record {
       ready = record {
         answered = c.in_ok-walk.ensures.answered;
-        steady = rw (c.in_ok-walk.ensures.items, c.in_ok-walk.ensures.course) (c.courses_are_steady.ensures.steady _ _);
+        steady =
+            rw (c.in_ok-walk.ensures.items, c.in_ok-walk.ensures.course)
+            (c.courses_are_steady.ensures.steady _ _);
       };
       last = refl;
       so_far = rw c.in_ok-walk.ensures.course (behind_none _);
@@ -24,5 +26,6 @@ loop-fields-preserved c =
     record {
       ready = goes.ready;
       last = c.in_ok-field.ensures.past ∙ c.loop-fields.invariant.last;
-      so_far = one_more _ _ _ _ _ _ _ _ _ c.in_ok-push.ensures.items c.loop-fields.invariant.so_far own;
+      so_far =
+          one_more _ _ _ _ _ _ _ _ _ c.in_ok-push.ensures.items c.loop-fields.invariant.so_far own;
     }

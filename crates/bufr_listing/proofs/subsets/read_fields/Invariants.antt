@@ -13,7 +13,9 @@ abbrev pub invariant-loop-fields : goal.invariant-loop-fields
 invariant-loop-fields l = record {
   ready : IsReady l.walk;
   last : past l.lines ≡ past l.fn.lines;
-  so_far : fields_read (past l.fn.lines) (course l.template l.fn.used) (left l.fn.lines) ≡ behind_fields l.fields.items (fields_read (past l.fn.lines) (walks.left l.walk) (left l.lines));
+  so_far : fields_read (past l.fn.lines) (course l.template l.fn.used) (left l.fn.lines)
+      ≡ behind_fields l.fields.items
+      (fields_read (past l.fn.lines) (walks.left l.walk) (left l.lines));
 }
 
 -- fewer items can still be met after each field

@@ -9,7 +9,8 @@ use Rattle.bufr_listing.proofs.subsets.read_subsets.Given as goal
 abbrev pub invariant-loop-alloc : goal.invariant-loop-alloc
 invariant-loop-alloc l = record {
   last : past l.lines ≡ past l.fn.lines;
-  so_far : SubsetsSoFar (past l.fn.lines) (course l.template) (left l.fn.lines) l.subsets.items l.used (left l.lines);
+  so_far : SubsetsSoFar (past l.fn.lines) (course l.template)
+      (left l.fn.lines) l.subsets.items l.used (left l.lines);
 }
 
 -- fewer lines are left after each subset

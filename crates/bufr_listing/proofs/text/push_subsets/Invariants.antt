@@ -6,4 +6,6 @@ use Rattle.bufr_listing.proofs.text.push_subsets.Given as goal
 
 -- behind the text's first octets stand the lines of those subsets
 abbrev pub invariant-loop-subset : goal.invariant-loop-subset
-invariant-loop-subset l = string_bytes l.text ≡ string_bytes l.initial.text ++ flat_map (λ s. joined (subset_lines s)) (take l.subset-index l.subsets)
+invariant-loop-subset l =
+    string_bytes l.text ≡ string_bytes l.initial.text
+    ++ flat_map (λ s. joined (subset_lines s)) (take l.subset-index l.subsets)

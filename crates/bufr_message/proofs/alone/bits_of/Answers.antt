@@ -18,4 +18,5 @@ pub returns-in-Text-clause-value : goal.returns-in-Text-clause-value
 returns-in-Text-clause-value c =
     let width = c.args.field.now.spec.width in
     let value = ap (λ (r : Raw). length (raw_bits width r)) c.in-Text.is in
-    ap (λ (n : ℕ). 8 * n) (ap length c.as_slice.ensures) ∙ sym (value ∙ length-bits c.in-Text.octets)
+    ap (λ (n : ℕ). 8 * n) (ap length c.as_slice.ensures)
+    ∙ sym (value ∙ length-bits c.in-Text.octets)

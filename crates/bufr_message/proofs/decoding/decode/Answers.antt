@@ -8,9 +8,13 @@ use Rattle.bufr_message.proofs.decoding.decode.Goals as goal
 -- a message that is answered is spelt by the octets
 pub returns-clause-found : goal.returns-clause-found
 returns-clause-found c =
-    answer_spelt c.messages_are_spelt.ensures.read c.args.tables.now c.args.octets.now c.message_of.result
-    (All-from_get_or IsOctet c.args.octets.now 0 (λ i below. omega (arith, c.type_inv.octets i))) c.message_of.ensures
+    answer_spelt c.messages_are_spelt.ensures.read c.args.tables.now c.args.octets.now
+    c.message_of.result
+    (All-from_get_or IsOctet c.args.octets.now 0
+    (λ i below. omega (arith, c.type_inv.octets i))) c.message_of.ensures
 
 -- a message that the octets spell is answered
 pub returns-clause-only : goal.returns-clause-only
-returns-clause-only c = spelt_answered c.messages_are_spelt.ensures.spelt c.args.tables.now c.args.octets.now c.message_of.result c.message_of.ensures
+returns-clause-only c =
+    spelt_answered c.messages_are_spelt.ensures.spelt c.args.tables.now c.args.octets.now
+    c.message_of.result c.message_of.ensures

@@ -8,11 +8,17 @@ use Rattle.bufr_message.proofs.encoding.enclose.Goals as goal
 -- the octets of the parts are those of the message with these data bits
 pub returns-in-Ok : goal.returns-in-Ok
 returns-in-Ok c data_bits same =
-    let octets = whole_octets_are c.args.contents.now data_bits (λ i. omega (arith, c.type_inv.contents i)) same in
+    let octets =
+    whole_octets_are c.args.contents.now data_bits
+    (λ i. omega (arith, c.type_inv.contents i)) same in
     enclosed_is (whole c.args.message.now) c.args.contents.now data_bits _ octets c.in-Ok.ensures
 
 -- the fault of the parts is that of the message with these data bits
 pub returns-in-Err-Fault : goal.returns-in-Err-Fault
 returns-in-Err-Fault c data_bits same =
-    let octets = whole_octets_are c.args.contents.now data_bits (λ i. omega (arith, c.type_inv.contents i)) same in
-    enclosed_is (whole c.args.message.now) c.args.contents.now data_bits (Err c.in-Err-Fault.fault) octets (told_fault _ _ _ c.in-Err-Fault.field-0-is c.in-Err-Fault.ensures)
+    let octets =
+    whole_octets_are c.args.contents.now data_bits
+    (λ i. omega (arith, c.type_inv.contents i)) same in
+    enclosed_is (whole c.args.message.now) c.args.contents.now data_bits
+    (Err c.in-Err-Fault.fault) octets
+    (told_fault _ _ _ c.in-Err-Fault.field-0-is c.in-Err-Fault.ensures)

@@ -4,4 +4,6 @@ use Rattle.bufr_message.proofs.laws.messages_are_spelt.Goals as goal
 
 -- a message is read of octets exactly where they spell it
 pub returns : goal.returns
-returns c = record { read = message_of_takes c.laws_below.ensures; spelt = message_of_spelt c.laws_below.ensures }
+returns c =
+    record
+    { read = message_of_takes c.laws_below.ensures; spelt = message_of_spelt c.laws_below.ensures }

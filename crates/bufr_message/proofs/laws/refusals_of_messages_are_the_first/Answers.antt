@@ -4,4 +4,9 @@ use Rattle.bufr_message.proofs.laws.refusals_of_messages_are_the_first.Goals as 
 
 -- a message is refused with a fault exactly where this is its first
 pub returns : goal.returns
-returns c = record { given = fault_when_unwritten c.laws_below.ensures; answered = unwritten_when_fault c.laws_below.ensures }
+returns c =
+    record {
+      given = fault_when_unwritten c.laws_below.ensures;
+      answered = unwritten_when_fault
+          c.laws_below.ensures;
+    }

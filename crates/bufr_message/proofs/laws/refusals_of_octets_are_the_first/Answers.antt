@@ -4,4 +4,9 @@ use Rattle.bufr_message.proofs.laws.refusals_of_octets_are_the_first.Goals as go
 
 -- octets are refused with a fault exactly where this is their first
 pub returns : goal.returns
-returns c = record { given = fault_when_refused c.laws_below.ensures; answered = refused_when_fault c.laws_below.ensures }
+returns c =
+    record {
+      given = fault_when_refused c.laws_below.ensures;
+      answered = refused_when_fault
+          c.laws_below.ensures;
+    }

@@ -7,5 +7,10 @@ use Rattle.bufr_message.proofs.message_view.index_of.Goals as goal
 -- the subsets that were indexed stand at the front of the octets
 pub returns-in-Ok-clause-stand : goal.returns-in-Ok-clause-stand
 returns-in-Ok-clause-stand c =
-    let front = ap left c.new-reader.ensures in
-    (c.args.template, c.args.count, _, ap (subsets_in c.args.template c.args.compressed c.args.count) (sym front) ∙ c.in-Ok.ensures.exact)
+    let front = ap left c.new-reader.ensures in (
+      c.args.template,
+      c.args.count,
+      _,
+      ap (subsets_in c.args.template c.args.compressed c.args.count) (sym front)
+          ∙ c.in-Ok.ensures.exact,
+    )

@@ -7,4 +7,5 @@ use Rattle.bufr_message.proofs.own_bits.bits_of_fields.Given as goal
 -- the sink has the bits of the fields so far, each of which has room
 abbrev pub invariant-loop-field : goal.invariant-loop-field
 invariant-loop-field l =
-    (l.sink ≡ plain (take l.field-index l.fields)) × (have_room (take l.field-index l.fields) ≡ true)
+    (l.sink ≡ plain (take l.field-index l.fields))
+    × (have_room (take l.field-index l.fields) ≡ true)

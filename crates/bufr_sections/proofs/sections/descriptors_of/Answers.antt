@@ -1,6 +1,7 @@
 -- For `descriptors_of`: each two octets are a descriptor, and an odd octet is none.
 use Rattle.std.proofs.Common.{◌≡◌, ◌∙◌, length, drop, ◌-◌, sym, arith, length-drop, append-nil}
-use Rattle.bufr_sections.proofs.ListFacts.{take_whole, descriptors_more, descriptors_none}
+use Rattle.std.proofs.lemmas.List.{take_all}
+use Rattle.bufr_sections.proofs.ListFacts.{descriptors_more, descriptors_none}
 use Rattle.bufr_sections.specs.Sections.{descriptors_of}
 use Rattle.bufr_sections.proofs.sections.descriptors_of.Goals as goal
 
@@ -13,10 +14,9 @@ loop-rest-preserved c =
     (c.from_bits.ensures ∙ c.number_of_two.ensures) in
     let size : length c.loop-rest.rest.now - 2 ≡ length (drop 2 c.loop-rest.rest.now) =
     omega (arith, length-drop 2 c.loop-rest.rest.now) in
-    rw (
-      c.in_ok-push.ensures.items,
-      take_whole (drop 2 c.loop-rest.rest.now) (length c.loop-rest.rest.now - 2) size,
-    ) more
+    let whole = take_all (length c.loop-rest.rest.now - 2) (drop 2 c.loop-rest.rest.now)
+    (omega (arith, size)) in
+    rw (c.in_ok-push.ensures.items, whole) more
 
 -- fewer than two octets hold no descriptor
 pub returns : goal.returns

@@ -5,4 +5,6 @@ use Rattle.bufr_tables.proofs.columns.cells_at.Given as goal
 
 -- the cells so far are those at the first places
 abbrev pub invariant-loop-place : goal.invariant-loop-place
-invariant-loop-place l = map (λ s. s.now) l.cells.items ≡ cells_at (map (λ s. s.now) l.fields) (take l.place-index l.places)
+invariant-loop-place l =
+    map (λ s. s.now) l.cells.items
+    ≡ cells_at (map (λ s. s.now) l.fields) (take l.place-index l.places)

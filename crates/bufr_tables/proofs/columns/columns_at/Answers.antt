@@ -10,13 +10,18 @@ loop-column-init c = rw c.new-places.ensures.items (columns_none _ _)
 
 -- an absent column behind columns that were found is the first absent one
 pub returns-in-Err : goal.returns-in-Err
-returns-in-Err c = columns_stop _ _ c.loop-column.column-index _ c.in-Err.fault columns.Fxy c.loop-column-test.true c.loop-column.invariant (sym c.in-Err.ensures)
+returns-in-Err c =
+    columns_stop _ _ c.loop-column.column-index _ c.in-Err.fault columns.Fxy c.loop-column-test.true
+    c.loop-column.invariant (sym c.in-Err.ensures)
 
 -- a column that is found adds its place
 pub loop-column-preserved : goal.loop-column-preserved
 loop-column-preserved c =
-    rw c.in_ok-push-in-Ok.ensures.items (columns_more _ _ c.loop-column.column-index _ c.in-Ok.place columns.Fxy c.loop-column-test.true c.loop-column.invariant (sym c.in-Ok.ensures))
+    rw c.in_ok-push-in-Ok.ensures.items
+    (columns_more _ _ c.loop-column.column-index _ c.in-Ok.place columns.Fxy
+    c.loop-column-test.true c.loop-column.invariant (sym c.in-Ok.ensures))
 
 -- past the last column the places are those of all
 pub returns : goal.returns
-returns c = columns_all _ _ c.loop-column.column-index _ (omega arith) (omega arith) c.loop-column.invariant
+returns c =
+    columns_all _ _ c.loop-column.column-index _ (omega arith) (omega arith) c.loop-column.invariant

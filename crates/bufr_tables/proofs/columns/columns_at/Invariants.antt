@@ -5,4 +5,5 @@ use Rattle.bufr_tables.proofs.columns.columns_at.Given as goal
 
 -- all columns come to the places so far, and behind them those of the columns left
 abbrev pub invariant-loop-column : goal.invariant-loop-column
-invariant-loop-column l = ColumnsSoFar (map (λ s. s.now) l.names) l.needed l.column-index l.places.items
+invariant-loop-column l =
+    ColumnsSoFar (map (λ s. s.now) l.names) l.needed l.column-index l.places.items

@@ -9,6 +9,12 @@ use Rattle.bufr_tables.proofs.columns.header.Goals.{then-not-branch, else-not-br
 pub returns : goal.returns
 returns c =
     elim c.if-not-branch.branch [
-      | then-not-branch w ↦ header-none c.in_ok-next.field-0 c.args.records.now c.next.new.self (fields_of c.next.new.row) _ w.if-not-branch.true c.in_ok-next.ensures (ap fields_of w.row-is ∙ w.clear.ensures.fields)
-      | else-not-branch w ↦ header-some c.in_ok-next.field-0 c.args.records.now c.next.new.self (fields_of c.next.new.row) _ w.if-not-branch.false c.in_ok-next.ensures (ap fields_of w.row-is)
+      | then-not-branch w ↦
+          header-none c.in_ok-next.field-0 c.args.records.now c.next.new.self
+          (fields_of c.next.new.row) _ w.if-not-branch.true c.in_ok-next.ensures
+          (ap fields_of w.row-is ∙ w.clear.ensures.fields)
+      | else-not-branch w ↦
+          header-some c.in_ok-next.field-0 c.args.records.now c.next.new.self
+          (fields_of c.next.new.row) _ w.if-not-branch.false c.in_ok-next.ensures
+          (ap fields_of w.row-is)
     ]

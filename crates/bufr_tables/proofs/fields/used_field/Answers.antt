@@ -10,9 +10,13 @@ use Rattle.bufr_tables.proofs.fields.used_field.Goals as goal
 pub returns-then-i-eq0 : goal.returns-then-i-eq0
 returns-then-i-eq0 c =
     rw c.if-i-eq0.true
-    (c.without_spaces.ensures ∙ ap without_spaces (c.without_mark.ensures ∙ ap strip_bom (c.raw_field-field.ensures ∙ rw c.if-i-eq0.true)) ∙ sym (used_fields-first (fields_of c.args.row.now)))
+    (c.without_spaces.ensures
+    ∙ ap without_spaces
+    (c.without_mark.ensures ∙ ap strip_bom (c.raw_field-field.ensures ∙ rw c.if-i-eq0.true))
+    ∙ sym (used_fields-first (fields_of c.args.row.now)))
 
 -- any later one without the spaces at both ends
 pub returns : goal.returns
 returns c =
-    c.without_spaces-2.ensures ∙ ap without_spaces c.raw_field-field.ensures ∙ sym (used_fields-later (fields_of c.args.row.now) c.args.i c.if-i-eq0.false)
+    c.without_spaces-2.ensures ∙ ap without_spaces c.raw_field-field.ensures
+    ∙ sym (used_fields-later (fields_of c.args.row.now) c.args.i c.if-i-eq0.false)

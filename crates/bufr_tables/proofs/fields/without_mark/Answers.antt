@@ -5,7 +5,8 @@ use Rattle.bufr_tables.proofs.fields.without_mark.Goals as goal
 
 -- what follows the mark is the text without it
 pub returns-in-Some : goal.returns-in-Some
-returns-in-Some c = c.in-Some.ensures.cases.1 ∙ sym (strip_bom-mark c.args.text.now c.in-Some.ensures.cases.0)
+returns-in-Some c =
+    c.in-Some.ensures.cases.1 ∙ sym (strip_bom-mark c.args.text.now c.in-Some.ensures.cases.0)
 
 -- a text that does not begin with the mark stays as it is
 pub returns-in-None : goal.returns-in-None

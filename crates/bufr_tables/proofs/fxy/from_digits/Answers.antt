@@ -7,12 +7,18 @@ use Rattle.bufr_tables.proofs.fxy.from_digits.Goals as goal
 -- digits of a Y above 255 are no descriptor
 pub returns-then-y-gt-GREATEST_Y : goal.returns-then-y-gt-GREATEST_Y
 returns-then-y-gt-GREATEST_Y c =
-    let e = of_text-digits c.args.f c.args.x10 c.args.x1 c.args.y100 c.args.y10 c.args.y1 c.requires in
-    let w : 255 < 100 * digit_value c.args.y100 + 10 * digit_value c.args.y10 + digit_value c.args.y1 = omega arith in
-    sym (e ∙ wide_y (digit_value c.args.f) (10 * digit_value c.args.x10 + digit_value c.args.x1) (100 * digit_value c.args.y100 + 10 * digit_value c.args.y10 + digit_value c.args.y1) w)
+    let e =
+    of_text-digits c.args.f c.args.x10 c.args.x1 c.args.y100 c.args.y10 c.args.y1 c.requires in
+    let w : 255 < 100 * digit_value c.args.y100 + 10 * digit_value c.args.y10 + digit_value
+    c.args.y1 = omega arith in
+    sym
+    (e
+    ∙ wide_y (digit_value c.args.f) (10 * digit_value c.args.x10 + digit_value c.args.x1)
+    (100 * digit_value c.args.y100 + 10 * digit_value c.args.y10 + digit_value c.args.y1) w)
 
 -- the others are one where F and X are in their ranges
 pub returns : goal.returns
 returns c =
-    let e = of_text-digits c.args.f c.args.x10 c.args.x1 c.args.y100 c.args.y10 c.args.y1 c.requires in
+    let e =
+    of_text-digits c.args.f c.args.x10 c.args.x1 c.args.y100 c.args.y10 c.args.y1 c.requires in
     c.new.ensures ∙ rw (c.from.ensures, c.from-2.ensures, c.from-3.ensures) (sym e)

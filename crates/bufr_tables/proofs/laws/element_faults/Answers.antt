@@ -5,4 +5,5 @@ use Rattle.bufr_tables.proofs.laws.element_faults.Goals as goal
 
 -- a file is refused as Table B with a fault exactly where this is its first
 pub returns : goal.returns
-returns c text fault = (element-fault (records_of text) fault, fault-element (records_of text) fault)
+returns c text fault =
+    (element-fault (records_of text) fault, fault-element (records_of text) fault)

@@ -5,4 +5,5 @@ use Rattle.bufr_tables.proofs.laws.element_files.Goals as goal
 
 -- a file is read as Table B exactly where its rows are these elements
 pub returns : goal.returns
-returns c text elements = (elements-are (records_of text) elements, are-elements (records_of text) elements)
+returns c text elements =
+    (elements-are (records_of text) elements, are-elements (records_of text) elements)

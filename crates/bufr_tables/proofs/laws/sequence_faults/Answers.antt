@@ -5,4 +5,5 @@ use Rattle.bufr_tables.proofs.laws.sequence_faults.Goals as goal
 
 -- a file is refused as Table D with a fault exactly where this is its first
 pub returns : goal.returns
-returns c text fault = (sequence-fault (records_of text) fault, fault-sequence (records_of text) fault)
+returns c text fault =
+    (sequence-fault (records_of text) fault, fault-sequence (records_of text) fault)

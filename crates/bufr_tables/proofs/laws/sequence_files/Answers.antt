@@ -5,4 +5,5 @@ use Rattle.bufr_tables.proofs.laws.sequence_files.Goals as goal
 
 -- a file is read as Table D exactly where its rows are these sequences
 pub returns : goal.returns
-returns c text sequences = (sequences-are (records_of text) sequences, are-sequences (records_of text) sequences)
+returns c text sequences =
+    (sequences-are (records_of text) sequences, are-sequences (records_of text) sequences)

@@ -15,7 +15,8 @@ loop-path-preserved g c =
       reads = c.in-Some.ensures.reads;
       met_end = c.in-Some.ensures.met_end;
     } in
-    rw c.in-Ok.ensures.items (unread_more c.loop-path.readers.items c.in-Some.reader c.loop-path.invariant here)
+    rw c.in-Ok.ensures.items
+    (unread_more c.loop-path.readers.items c.in-Some.reader c.loop-path.invariant here)
 
 -- readers that were not read are fresh
 pub returns : goal.returns

@@ -6,4 +6,5 @@ use Rattle.bufr_tool.proofs.encode.octets_of.Given as goal
 -- the messages so far were encoded and counted
 abbrev pub invariant-loop-message : goal.invariant-loop-message
 invariant-loop-message l =
-    AreEncodings l.fn.tables l.fn.compressed l.yielded l.octets.items × (l.number ≡ length l.yielded)
+    AreEncodings l.fn.tables l.fn.compressed l.yielded l.octets.items
+    × (l.number ≡ length l.yielded)

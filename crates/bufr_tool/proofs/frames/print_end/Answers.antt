@@ -9,9 +9,12 @@ use Rattle.bufr_tool.proofs.frames.print_end.Goals as goal
 -- lines of its frames
 pub returns-in_err-print_rest : goal.returns-in_err-print_rest
 returns-in_err-print_rest g c first stream h =
-    passed (PrintsEnd c.args.printing c.args.tables.now stream first (g.W.Sink.writing c.print_rest.new.writer))
+    passed
+    (PrintsEnd c.args.printing c.args.tables.now stream first
+    (g.W.Sink.writing c.print_rest.new.writer))
     c.from_residual.result c.in_err-print_rest.field-0.0 c.from_residual.ensures.1
-    (end_early _ _ first _ c.print_rest.new.counts stream _ (c.in_err-print_rest.ensures first stream h))
+    (end_early _ _ first _ c.print_rest.new.counts stream _
+    (c.in_err-print_rest.ensures first stream h))
 
 -- fewer than 2 ^ 48 octets were taken in
 pub print_rest-requires-clause-long : goal.print_rest-requires-clause-long
@@ -19,7 +22,8 @@ print_rest-requires-clause-long g c = c.requires.long
 
 -- so their number, which was told before the end, is below 2 ^ 48 too
 pub print_tally-requires-clause-long : goal.print_tally-requires-clause-long
-print_tally-requires-clause-long g c = let e = c.fed-fed.ensures in let l = c.requires.long in omega arith
+print_tally-requires-clause-long g c =
+    let e = c.fed-fed.ensures in let l = c.requires.long in omega arith
 
 -- the stream has so many octets, and all its frames were printed
 pub print_tally-requires-clause-ended : goal.print_tally-requires-clause-ended

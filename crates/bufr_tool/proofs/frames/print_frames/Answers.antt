@@ -13,7 +13,8 @@ long frame = length frame.bytes
 -- no more frames are counted as refused than as printed
 pub print_frame-requires-clause-refused : goal.print_frame-requires-clause-refused
 print_frame-requires-clause-refused g c =
-    refused_at_most _ _ _ _ _ _ (c.loop-frame.invariant c.requires.so_far.0 c.requires.so_far.1 c.requires.so_far.2)
+    refused_at_most _ _ _ _ _ _
+    (c.loop-frame.invariant c.requires.so_far.0 c.requires.so_far.1 c.requires.so_far.2)
 
 -- the octets of the frames so far and of the next can be counted
 pub print_frame-requires-clause-octets : goal.print_frame-requires-clause-octets
@@ -34,8 +35,13 @@ print_frame-requires-clause-octets g c =
 -- where printing a frame stops, a front of what is printed of all was written, or some of its lines
 pub returns-in_err-print_frame : goal.returns-in_err-print_frame
 returns-in_err-print_frame g c first before h =
-    passed (PrintsFrames c.args.printing c.args.tables.now (before ++ c.args.frames.now) c.print_frame.new.counts first (g.W.Sink.writing c.print_frame.new.writer))
+    passed
+    (PrintsFrames c.args.printing c.args.tables.now
+    (before ++ c.args.frames.now) c.print_frame.new.counts first
+    (g.W.Sink.writing c.print_frame.new.writer))
     c.from_residual.result c.in_err-print_frame.field-0.0 c.from_residual.ensures.1
-    (stopped _ _ first _ _ _ c.print_frame.new.counts c.print_frame.new.counts _ _ _ c.frame-item.result c.in_err-print_frame.field-0.0
-    (parted_at c.args.frames.now c.loop-frame.frame-index c.frame-item.result before c.loop-frame-test.true c.frame-item.is)
+    (stopped _ _ first _ _ _ c.print_frame.new.counts c.print_frame.new.counts _ _ _
+    c.frame-item.result c.in_err-print_frame.field-0.0
+    (parted_at c.args.frames.now c.loop-frame.frame-index c.frame-item.result before
+    c.loop-frame-test.true c.frame-item.is)
     (c.loop-frame.invariant first before h) c.in_err-print_frame.ensures)

@@ -10,4 +10,5 @@ abbrev pub invariant-loop-frame : goal.invariant-loop-frame
 invariant-loop-frame g l =
     (first : Writing) (before : List Found)
     → HasPrinted l.printing l.tables first (g.W.Sink.writing l.fn.writer) l.fn.counts before
-    → HasPrinted l.printing l.tables first (g.W.Sink.writing l.writer) l.counts (before ++ take l.frame-index l.frames)
+    → HasPrinted l.printing l.tables first (g.W.Sink.writing l.writer) l.counts
+    (before ++ take l.frame-index l.frames)

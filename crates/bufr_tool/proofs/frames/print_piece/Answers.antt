@@ -30,7 +30,10 @@ loop-found-preserved g c first stream h =
 -- where memory runs out at the next frame, only lines of sure frames were written
 pub returns-in_err-found : goal.returns-in_err-found
 returns-in_err-found g c first stream h =
-    passed (PrintsPiece c.args.printing c.args.tables.now (stream ++ c.args.piece.now) c.take_next.new.self c.loop-found.counts first (g.W.Sink.writing c.loop-found.writer))
+    passed
+    (PrintsPiece c.args.printing c.args.tables.now
+    (stream ++ c.args.piece.now) c.take_next.new.self c.loop-found.counts first
+    (g.W.Sink.writing c.loop-found.writer))
     c.from_residual.result faults.OutOfMemory c.from_residual.ensures.1
     (amid_halted _ _ first _ _ _ c.loop-found.counts _ _ (c.loop-found.invariant first stream h))
 
@@ -38,14 +41,19 @@ returns-in_err-found g c first stream h =
 pub returns-in_default : goal.returns-in_default
 returns-in_default g c first stream h =
     let e : c.in_ok-found.field-0.found ≡ None = c.in_default.is in
-    amid_none _ _ first _ _ _ _ _ _ (c.loop-found.invariant first stream h) (c.in_ok-found.ensures.none e) (c.in_ok-found.ensures.waits e)
+    amid_none _ _ first _ _ _ _ _ _ (c.loop-found.invariant first stream h)
+    (c.in_ok-found.ensures.none e) (c.in_ok-found.ensures.waits e)
 
 -- one frame more can be counted
 pub print_frame-requires-clause-few : goal.print_frame-requires-clause-few
 print_frame-requires-clause-few g c =
     let so_far = c.requires.so_far in
     let e = c.in-Some.is in
-    let fits = amid_fits _ _ _ _ _ _ _ _ _ _ c.in-Some.frame (c.loop-found.invariant so_far.0 so_far.1 so_far.2) c.in_ok-found.ensures.rest (some_is _ _ _ e c.in_ok-found.ensures.frame) (some_is _ _ _ e c.in_ok-found.ensures.next) in
+    let fits =
+    amid_fits _ _ _ _ _ _ _ _ _ _ c.in-Some.frame
+    (c.loop-found.invariant so_far.0 so_far.1 so_far.2) c.in_ok-found.ensures.rest
+    (some_is _ _ _ e c.in_ok-found.ensures.frame)
+    (some_is _ _ _ e c.in_ok-found.ensures.next) in
     let one = fits.0 in
     let whole = length-append so_far.1 c.args.piece.now in
     let start = so_far.2.handed.stands.fed in
@@ -63,7 +71,11 @@ pub print_frame-requires-clause-octets : goal.print_frame-requires-clause-octets
 print_frame-requires-clause-octets g c =
     let so_far = c.requires.so_far in
     let e = c.in-Some.is in
-    let fits = amid_fits _ _ _ _ _ _ _ _ _ _ c.in-Some.frame (c.loop-found.invariant so_far.0 so_far.1 so_far.2) c.in_ok-found.ensures.rest (some_is _ _ _ e c.in_ok-found.ensures.frame) (some_is _ _ _ e c.in_ok-found.ensures.next) in
+    let fits =
+    amid_fits _ _ _ _ _ _ _ _ _ _ c.in-Some.frame
+    (c.loop-found.invariant so_far.0 so_far.1 so_far.2) c.in_ok-found.ensures.rest
+    (some_is _ _ _ e c.in_ok-found.ensures.frame)
+    (some_is _ _ _ e c.in_ok-found.ensures.next) in
     let two = fits.1 in
     let whole = length-append so_far.1 c.args.piece.now in
     let start = so_far.2.handed.stands.fed in
@@ -75,9 +87,14 @@ print_frame-requires-clause-octets g c =
 pub returns-in_err-print_frame : goal.returns-in_err-print_frame
 returns-in_err-print_frame g c first stream h =
     let e = c.in-Some.is in
-    passed (PrintsPiece c.args.printing c.args.tables.now (stream ++ c.args.piece.now) c.take_next.new.self c.print_frame.new.counts first (g.W.Sink.writing c.print_frame.new.writer))
-    c.from_residual-in_err-print_frame.result c.in_err-print_frame.field-0.0 c.from_residual-in_err-print_frame.ensures.1
-    (amid_stopped _ _ first _ _ _ _ _ c.print_frame.new.counts c.print_frame.new.counts _ _ _ c.in-Some.frame c.in_err-print_frame.field-0.0
+    passed
+    (PrintsPiece c.args.printing c.args.tables.now
+    (stream ++ c.args.piece.now) c.take_next.new.self c.print_frame.new.counts first
+    (g.W.Sink.writing c.print_frame.new.writer))
+    c.from_residual-in_err-print_frame.result c.in_err-print_frame.field-0.0
+    c.from_residual-in_err-print_frame.ensures.1
+    (amid_stopped _ _ first _ _ _ _ _ c.print_frame.new.counts c.print_frame.new.counts _ _ _
+    c.in-Some.frame c.in_err-print_frame.field-0.0
     (c.loop-found.invariant first stream h) c.in_ok-found.ensures.rest
     (some_is _ _ _ e c.in_ok-found.ensures.frame) (some_is _ _ _ e c.in_ok-found.ensures.next)
     c.in_err-print_frame.ensures)
@@ -87,7 +104,11 @@ pub loop-found-smaller : goal.loop-found-smaller
 loop-found-smaller g c =
     let so_far = c.requires.so_far in
     let e = c.in-Some.is in
-    let fits = amid_fits _ _ _ _ _ _ _ _ _ _ c.in-Some.frame (c.loop-found.invariant so_far.0 so_far.1 so_far.2) c.in_ok-found.ensures.rest (some_is _ _ _ e c.in_ok-found.ensures.frame) (some_is _ _ _ e c.in_ok-found.ensures.next) in
+    let fits =
+    amid_fits _ _ _ _ _ _ _ _ _ _ c.in-Some.frame
+    (c.loop-found.invariant so_far.0 so_far.1 so_far.2) c.in_ok-found.ensures.rest
+    (some_is _ _ _ e c.in_ok-found.ensures.frame)
+    (some_is _ _ _ e c.in_ok-found.ensures.next) in
     let one = fits.0 in
     let whole = length-append so_far.1 c.args.piece.now in
     let start = so_far.2.handed.stands.fed in

@@ -9,8 +9,10 @@ use Rattle.bufr_tool.proofs.frames.print_piece.Given as goal
 abbrev pub invariant-loop-found : goal.invariant-loop-found
 invariant-loop-found g l =
     (first : Writing) (stream : List ℕ)
-    → HasPrintedSure l.printing l.tables first (g.W.Sink.writing l.fn.writer) l.fn.framer l.fn.counts stream
-    → Amid l.printing l.tables first (g.W.Sink.writing l.writer) l.framer l.counts (stream ++ l.piece) l.rest
+    → HasPrintedSure l.printing l.tables first
+    (g.W.Sink.writing l.fn.writer) l.fn.framer l.fn.counts stream
+    → Amid l.printing l.tables first (g.W.Sink.writing l.writer) l.framer l.counts
+    (stream ++ l.piece) l.rest
 
 -- each turn counts a frame, and there are no more than octets
 abbrev pub decreases-loop-found : goal.decreases-loop-found

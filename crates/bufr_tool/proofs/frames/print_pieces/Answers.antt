@@ -23,7 +23,9 @@ returns-then-given-eq0-clause-prints g c =
     let mid = g.S.Source.reading c.loop.reader in
     let new = g.S.Source.reading c.read.new.self in
     let ends = GoesOn_ends old mid new _ _ _ b.goes_on gave none in
-    prints_whole _ _ _ old new (g.W.Sink.writing c.args.writer.now) _ b.read c.print_end.result ends.0 ends.1 (HasGiven_more old mid new _ _ b.goes_on.so_far gave none)
+    prints_whole _ _ _ old new
+    (g.W.Sink.writing c.args.writer.now) _ b.read c.print_end.result ends.0 ends.1
+    (HasGiven_more old mid new _ _ b.goes_on.so_far gave none)
     (c.print_end.ensures (g.W.Sink.writing c.args.writer.now) b.read b.printed)
 
 -- fewer than 2 ^ 48 octets were read
@@ -37,11 +39,13 @@ print_end-requires-clause-long g c =
 
 -- of the octets that were read all sure frames were printed
 pub print_end-requires-clause-so_far : goal.print_end-requires-clause-so_far
-print_end-requires-clause-so_far g c = (g.W.Sink.writing c.args.writer.now, c.loop.invariant.read, c.loop.invariant.printed)
+print_end-requires-clause-so_far g c =
+    (g.W.Sink.writing c.args.writer.now, c.loop.invariant.read, c.loop.invariant.printed)
 
 -- of the octets that were read before the piece all sure frames were printed
 pub print_piece-requires-clause-so_far : goal.print_piece-requires-clause-so_far
-print_piece-requires-clause-so_far g c = (g.W.Sink.writing c.args.writer.now, c.loop.invariant.read, c.loop.invariant.printed)
+print_piece-requires-clause-so_far g c =
+    (g.W.Sink.writing c.args.writer.now, c.loop.invariant.read, c.loop.invariant.printed)
 
 -- with the piece there are at most 2 ^ 48 octets
 pub print_piece-requires-clause-room : goal.print_piece-requires-clause-room
@@ -63,7 +67,8 @@ loop-preserved g c =
     let whole = length-append b.read piece in
     let short = b.short in
     let room = c.requires.short in
-    let some : 0 < length piece = omega (arith, long, c.in-Ok.ensures.within, c.if-given-eq0.false) in
+    let some : 0 < length piece =
+    omega (arith, long, c.in-Ok.ensures.within, c.if-given-eq0.false) in
     record {
       read = b.read ++ piece;
       goes_on = GoesOn_more _ _ _ _ _ _ b.goes_on c.in-Ok.ensures.gave some;
@@ -77,8 +82,19 @@ pub returns-in_err-print_piece-clause-prints : goal.returns-in_err-print_piece-c
 returns-in_err-print_piece-clause-prints g c =
     let b = c.loop.invariant in
     let piece = take c.in-Ok.given c.read.new.buffer in
-    let some : 0 < length piece = omega (arith, length-take c.in-Ok.given c.read.new.buffer, c.in-Ok.ensures.within, c.if-given-eq0.false) in
-    passed (Prints c.args.printing c.args.tables.now c.args.reads (g.S.Source.reading c.args.reader.now) (g.S.Source.reading c.read.new.self) (g.W.Sink.writing c.args.writer.now) (g.W.Sink.writing c.print_piece.new.writer))
+    let some : 0 < length piece =
+    omega (
+      arith,
+      length-take c.in-Ok.given c.read.new.buffer,
+      c.in-Ok.ensures.within,
+      c.if-given-eq0.false,
+    ) in
+    passed
+    (Prints c.args.printing c.args.tables.now c.args.reads
+    (g.S.Source.reading c.args.reader.now) (g.S.Source.reading c.read.new.self)
+    (g.W.Sink.writing c.args.writer.now) (g.W.Sink.writing c.print_piece.new.writer))
     c.from_residual.result c.in_err-print_piece.field-0.0 c.from_residual.ensures.1
-    (prints_part _ _ _ _ _ (g.W.Sink.writing c.args.writer.now) _ c.print_piece.new.counts (b.read ++ piece) (c.loop.counter + 1) c.in_err-print_piece.field-0.0
-    (GoesOn_more _ _ _ _ _ _ b.goes_on c.in-Ok.ensures.gave some) (c.in_err-print_piece.ensures (g.W.Sink.writing c.args.writer.now) b.read b.printed))
+    (prints_part _ _ _ _ _ (g.W.Sink.writing c.args.writer.now) _ c.print_piece.new.counts
+    (b.read ++ piece) (c.loop.counter + 1) c.in_err-print_piece.field-0.0
+    (GoesOn_more _ _ _ _ _ _ b.goes_on c.in-Ok.ensures.gave some)
+    (c.in_err-print_piece.ensures (g.W.Sink.writing c.args.writer.now) b.read b.printed))

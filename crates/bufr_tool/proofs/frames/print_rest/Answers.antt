@@ -13,19 +13,24 @@ use Rattle.bufr_tool.proofs.frames.print_rest.Goals as goal
 -- where memory runs out before they are handed out, only lines of frames were written
 pub returns-in_err-frames : goal.returns-in_err-frames
 returns-in_err-frames g c first stream h =
-    passed (PrintsFrames c.args.printing c.args.tables.now (cut stream) c.args.counts.now first (g.W.Sink.writing c.args.writer.now))
+    passed
+    (PrintsFrames c.args.printing c.args.tables.now (cut stream) c.args.counts.now first
+    (g.W.Sink.writing c.args.writer.now))
     c.from_residual.result faults.OutOfMemory c.from_residual.ensures.1
     (rest_halted _ _ first _ _ _ c.args.counts.now stream h)
 
 -- the sure frames of the stream were printed before
 pub print_frames-requires-clause-so_far : goal.print_frames-requires-clause-so_far
-print_frames-requires-clause-so_far g c = (c.requires.so_far.0, sure c.requires.so_far.1, c.requires.so_far.2.printed)
+print_frames-requires-clause-so_far g c =
+    (c.requires.so_far.0, sure c.requires.so_far.1, c.requires.so_far.2.printed)
 
 -- there are no more frames than octets, so their count fits its word
 pub print_frames-requires-clause-few : goal.print_frames-requires-clause-few
 print_frames-requires-clause-few g c =
     let h = c.requires.so_far.2 in
-    let found = c.in_ok-frames.ensures.found c.requires.so_far.1 (length (sure c.requires.so_far.1)) h.handed.stands in
+    let found =
+    c.in_ok-frames.ensures.found c.requires.so_far.1
+    (length (sure c.requires.so_far.1)) h.handed.stands in
     let few = (rest_few _ c.requires.so_far.1 _ h.handed found).0 in
     let start = h.handed.stands.fed in
     let counted = h.printed.frames_are in
@@ -37,7 +42,9 @@ print_frames-requires-clause-few g c =
 pub print_frames-requires-clause-short : goal.print_frames-requires-clause-short
 print_frames-requires-clause-short g c =
     let h = c.requires.so_far.2 in
-    let found = c.in_ok-frames.ensures.found c.requires.so_far.1 (length (sure c.requires.so_far.1)) h.handed.stands in
+    let found =
+    c.in_ok-frames.ensures.found c.requires.so_far.1
+    (length (sure c.requires.so_far.1)) h.handed.stands in
     let few = (rest_few _ c.requires.so_far.1 _ h.handed found).1 in
     let start = h.handed.stands.fed in
     let counted = h.printed.octets_are in
@@ -49,6 +56,12 @@ print_frames-requires-clause-short g c =
 pub returns : goal.returns
 returns g c first stream h =
     let found = c.in_ok-frames.ensures.found stream (length (sure stream)) h.handed.stands in
-    let whole = ap (λ (fs : List Found). sure stream ++ fs) c.deref.ensures.value ∙ handed_end _ stream (sure stream) _ h.handed found in
-    subst (λ (fs : List Found). PrintsFrames c.args.printing c.args.tables.now fs c.print_frames.new.counts first (g.W.Sink.writing c.print_frames.new.writer) c.print_frames.result) whole
+    let whole =
+    ap (λ (fs : List Found). sure stream ++ fs) c.deref.ensures.value
+    ∙ handed_end _ stream (sure stream) _ h.handed found in
+    subst
+    (λ
+    (fs : List Found). PrintsFrames c.args.printing c.args.tables.now fs
+    c.print_frames.new.counts first
+    (g.W.Sink.writing c.print_frames.new.writer) c.print_frames.result) whole
     (c.print_frames.ensures first (sure stream) h.printed)

@@ -39,11 +39,14 @@ pub returns-in_err-write_out : goal.returns-in_err-write_out
 returns-in_err-write_out g c tables first stream h =
     let tally = end_tally _ tables first _ _ _ _ stream h c.skipped.ensures in
     passed (PrintsEnd c.args.printing tables stream first (g.W.Sink.writing c.write_out.new.writer))
-    c.from_residual-in_err-write_out.result c.in_err-write_out.field-0.0 c.from_residual-in_err-write_out.ensures.1
-    (end_fails _ tables first _ _ c.args.counts.now c.args.fed stream c.deref.result.now _ _ h tally (c.deref.ensures.value ∙ c.in_ok-text.ensures) c.in_err-write_out.ensures)
+    c.from_residual-in_err-write_out.result c.in_err-write_out.field-0.0
+    c.from_residual-in_err-write_out.ensures.1
+    (end_fails _ tables first _ _ c.args.counts.now c.args.fed stream c.deref.result.now _ _ h tally
+    (c.deref.ensures.value ∙ c.in_ok-text.ensures) c.in_err-write_out.ensures)
 
 -- with the last text all that is printed of the stream was written, and this is its tally
 pub returns : goal.returns
 returns g c tables first stream h =
     let tally = end_tally _ tables first _ _ _ _ stream h c.skipped.ensures in
-    end_done _ tables first _ _ c.args.counts.now c.args.fed stream c.deref.result.now _ h tally (c.deref.ensures.value ∙ c.in_ok-text.ensures) c.in_ok-write_out.ensures
+    end_done _ tables first _ _ c.args.counts.now c.args.fed stream c.deref.result.now _ h tally
+    (c.deref.ensures.value ∙ c.in_ok-text.ensures) c.in_ok-write_out.ensures

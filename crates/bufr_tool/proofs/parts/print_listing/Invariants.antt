@@ -8,6 +8,7 @@ use Rattle.bufr_tool.proofs.parts.print_listing.Given as goal
 -- written, and no more octets than so many vectors have
 abbrev pub invariant-loop-index : goal.invariant-loop-index
 invariant-loop-index g l = record {
-  done : WritesAllBut l.held.items (listed l.found.message l.index) l.before l.written (g.W.Sink.writing l.fn.writer) (g.W.Sink.writing l.writer);
+  done : WritesAllBut l.held.items (listed l.found.message l.index) l.before l.written
+      (g.W.Sink.writing l.fn.writer) (g.W.Sink.writing l.writer);
   short : l.written ≤ l.before + 2 ^ 64 * l.index;
 }

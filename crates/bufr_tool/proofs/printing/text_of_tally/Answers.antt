@@ -8,4 +8,5 @@ pub returns-in_ok-line-in-Checked : goal.returns-in_ok-line-in-Checked
 returns-in_ok-line-in-Checked c =
     let tally = c.args.tally.now in
     rw (c.into_bytes.ensures.value, c.in-Checked.is) (c.in_ok-line-in-Checked.ensures.ok
-    ∙ tally_joined (codes "frames ") (decimal tally.frames) (codes " refused ") (decimal tally.refused) (codes " skipped ") (decimal tally.skipped) (10 ∷ []))
+    ∙ tally_joined (codes "frames ") (decimal tally.frames) (codes " refused ")
+    (decimal tally.refused) (codes " skipped ") (decimal tally.skipped) (10 ∷ []))

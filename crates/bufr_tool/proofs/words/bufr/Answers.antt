@@ -15,5 +15,9 @@ third true true true rest h = cc
 pub returns : goal.returns
 returns c =
     let plain = λ (s : Shape). s.is_plain in
-    let one = c.in_ok-subcommand.ensures.shape (third _ _ _ _ (ap plain c.in_ok-collecting.ensures)) ∙ ap₂ with_subcommand c.in_ok-plain.ensures c.in_ok-collecting.ensures in
-    IfOk-weaker c.subcommand-2.result _ _ (λ r a. a.shape (third _ _ _ _ (ap plain c.in_ok-collecting-2.ensures)) ∙ ap₂ with_subcommand one c.in_ok-collecting-2.ensures) c.subcommand-2.ensures
+    let one =
+    c.in_ok-subcommand.ensures.shape (third _ _ _ _ (ap plain c.in_ok-collecting.ensures))
+    ∙ ap₂ with_subcommand c.in_ok-plain.ensures c.in_ok-collecting.ensures in
+    IfOk-weaker c.subcommand-2.result _ _
+    (λ r a. a.shape (third _ _ _ _ (ap plain c.in_ok-collecting-2.ensures))
+    ∙ ap₂ with_subcommand one c.in_ok-collecting-2.ensures) c.subcommand-2.ensures

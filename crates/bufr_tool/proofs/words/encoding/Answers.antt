@@ -16,4 +16,6 @@ returns c =
     let one = c.in_ok-arg.ensures.shape (search rules) ∙ ap₂ with_rule none b_is in
     let two = c.in_ok-arg-2.ensures.shape (search rules) ∙ ap₂ with_rule one d_is in
     let three = c.in_ok-arg-3.ensures.shape (search rules) ∙ ap₂ with_rule two flag_is in
-    IfOk-weaker c.arg-4.result _ _ (λ r a. ap (λ (x : App). x.top) (a.shape (search rules) ∙ ap₂ with_rule three file_is)) c.arg-4.ensures
+    IfOk-weaker c.arg-4.result _ _
+    (λ r a. ap (λ (x : App). x.top)
+    (a.shape (search rules) ∙ ap₂ with_rule three file_is)) c.arg-4.ensures

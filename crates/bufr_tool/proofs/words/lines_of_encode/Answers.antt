@@ -2,7 +2,8 @@
 use Rattle.std.proofs.Common.{◌≡◌, ◌∷◌, [], true, false, codes, refl}
 use Rattle.clap.specs.Words.{takes}
 use Rattle.clap.proofs.OnLiterals.{clap_on_literals}
-use Rattle.bufr_tool.specs.CommandLines.{commands, line_words, flag_of, task_of, value_of, values_of}
+use Rattle.bufr_tool.specs.CommandLines.{commands, line_words, flag_of, task_of, value_of}
+use Rattle.bufr_tool.specs.CommandLines.{values_of}
 use Rattle.bufr_tool.specs.declared.words.Task.TheVariants.{Encode}
 use Rattle.bufr_tool.proofs.words.lines_of_encode.Goals as goal
 
@@ -39,4 +40,12 @@ has_inputs = refl
 -- the line has all of these
 pub returns : goal.returns
 returns c =
-    record { taken = is_taken; task = has_task; b = has_b; d = has_d; compressed = has_flag; inputs = has_inputs }
+    record {
+      taken = is_taken;
+      task = has_task;
+      b = has_b;
+      d = has_d;
+      compressed = has_flag;
+      inputs =
+          has_inputs;
+    }

@@ -40,4 +40,12 @@ has_inputs = refl
 -- the line has all of these
 pub returns : goal.returns
 returns c =
-    record { taken = is_taken; task = has_task; b = has_b; d = has_d; out = has_out; inputs = has_inputs }
+    record {
+      taken = is_taken;
+      task = has_task;
+      b = has_b;
+      d = has_d;
+      out = has_out;
+      inputs =
+          has_inputs;
+    }

@@ -17,6 +17,12 @@ pub returns : goal.returns
 returns c =
     let top : app_of c.subcommand_required.result ≡ program = search rules in
     let plain = λ (s : Shape). s.is_plain in
-    let one = c.in_ok-subcommand.ensures.shape (third _ _ _ _ (ap plain c.in_ok-reading.ensures)) ∙ ap₂ with_subcommand top c.in_ok-reading.ensures in
-    let two = c.in_ok-subcommand-2.ensures.shape (third _ _ _ _ (ap plain c.in_ok-reading-2.ensures)) ∙ ap₂ with_subcommand one c.in_ok-reading-2.ensures in
-    IfOk-weaker c.subcommand-3.result _ _ (λ r a. a.shape (third _ _ _ _ (ap plain c.in_ok-encoding.ensures)) ∙ ap₂ with_subcommand two c.in_ok-encoding.ensures) c.subcommand-3.ensures
+    let one =
+    c.in_ok-subcommand.ensures.shape (third _ _ _ _ (ap plain c.in_ok-reading.ensures))
+    ∙ ap₂ with_subcommand top c.in_ok-reading.ensures in
+    let two =
+    c.in_ok-subcommand-2.ensures.shape (third _ _ _ _ (ap plain c.in_ok-reading-2.ensures))
+    ∙ ap₂ with_subcommand one c.in_ok-reading-2.ensures in
+    IfOk-weaker c.subcommand-3.result _ _
+    (λ r a. a.shape (third _ _ _ _ (ap plain c.in_ok-encoding.ensures))
+    ∙ ap₂ with_subcommand two c.in_ok-encoding.ensures) c.subcommand-3.ensures

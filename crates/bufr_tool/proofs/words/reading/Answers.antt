@@ -14,4 +14,6 @@ returns c =
     let none : app_of c.after_help.result ≡ new_app c.args.name.now = search rules in
     let one = c.in_ok-arg.ensures.shape (search rules) ∙ ap₂ with_rule none b_is in
     let two = c.in_ok-arg-2.ensures.shape (search rules) ∙ ap₂ with_rule one d_is in
-    IfOk-weaker c.arg-3.result _ _ (λ r a. ap (λ (x : App). x.top) (a.shape (search rules) ∙ ap₂ with_rule two file_is)) c.arg-3.ensures
+    IfOk-weaker c.arg-3.result _ _
+    (λ r a. ap (λ (x : App). x.top)
+    (a.shape (search rules) ∙ ap₂ with_rule two file_is)) c.arg-3.ensures

@@ -1,5 +1,6 @@
 -- The clauses of `Archive::write`: entry by entry, until the sink fails or none is left.
-use Rattle.std.proofs.Common.{◌≡◌, ◌+◌, ◌≤◌, [], ◌∷◌, ◌++◌, length, take, sym, ap, subst, ◌∙◌, arith, append_assoc}
+use Rattle.std.proofs.Common.{◌≡◌, ◌+◌, ◌≤◌, [], ◌∷◌, ◌++◌, length, take, sym, ap, subst, ◌∙◌}
+use Rattle.std.proofs.Common.{arith, append_assoc}
 use Rattle.std.proofs.lemmas.List.{length-append}
 use Rattle.bufr_bits.specs.Devices.{Writes}
 use Rattle.bufr_bits.specs.DeviceLaws.{Writes-more}

@@ -33,5 +33,7 @@ loop-spec-preserved c =
       ready = on.ready;
       few = omega (arith, c.if-more-most.true, c.loop-spec.invariant.few);
       limit = on.within;
-      so_far = one_measured _ _ _ _ _ _ _ _ refl goes c.in-Some.ensures.takes c.loop-spec.invariant.so_far;
+      so_far =
+          one_measured _ _ _ _ _ _ _ _ refl goes c.in-Some.ensures.takes
+          c.loop-spec.invariant.so_far;
     }

@@ -16,7 +16,9 @@ returns-then-self-gt0-clause-writes g c =
     let number = simp to_z-of_z at c.unsigned_abs-number.ensures.value in
     let places = simp to_z-of_z at c.unsigned_abs-places.ensures.value in
     let above = simp to_z-of_z at c.if-self-gt0.true in
-    has_written_of_eq _ _ _ _ _ (pointed_text _ _ _ _ _ _ sign number places c.without_last-whole.ensures above (omega (arith, c.unsigned_abs-number.ensures.bound))) (c.write.ensures.writes plain ok)
+    has_written_of_eq _ _ _ _ _
+    (pointed_text _ _ _ _ _ _ sign number places c.without_last-whole.ensures above
+    (omega (arith, c.unsigned_abs-number.ensures.bound))) (c.write.ensures.writes plain ok)
 
 -- at another scale, the number 0 is written without zeros behind it
 pub returns-then-number-eq0-clause-writes : goal.returns-then-number-eq0-clause-writes
@@ -27,4 +29,5 @@ returns-then-number-eq0-clause-writes g c =
     let sign = simp to_z-of_z at c.sign-sign.ensures in
     let number = simp to_z-of_z at c.unsigned_abs-number.ensures.value in
     let above = simp to_z-of_z at c.if-self-gt0.false in
-    has_written_of_eq _ _ _ _ _ (zero_text _ _ _ _ sign number c.if-number-eq0.true above) (c.write-then-number-eq0.ensures.writes plain ok)
+    has_written_of_eq _ _ _ _ _ (zero_text _ _ _ _ sign number c.if-number-eq0.true above)
+    (c.write-then-number-eq0.ensures.writes plain ok)

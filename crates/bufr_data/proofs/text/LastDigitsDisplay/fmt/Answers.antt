@@ -16,14 +16,21 @@ loop-i-preserved g c =
     let i = c.loop-i.i in
     let all = last_digits d.places d.number in
     let within : i < d.places = omega arith in
-    let digit : decimal (c.without_last.result % 10) ≡ (48 + c.without_last.result % 10) ∷ [] = decimal_digit (c.without_last.result % 10) (omega arith) in
-    let same = digit ∙ ap (λ n. (48 + n % 10) ∷ []) c.without_last.ensures ∙ ap (λ n. n ∷ []) (sym (last_digit_at d.places d.number i within)) in
+    let digit : decimal (c.without_last.result % 10) ≡ (48 + c.without_last.result % 10) ∷ [] =
+    decimal_digit (c.without_last.result % 10) (omega arith) in
+    let same =
+    digit ∙ ap (λ n. (48 + n % 10) ∷ []) c.without_last.ensures
+    ∙ ap (λ n. n ∷ []) (sym (last_digit_at d.places d.number i within)) in
     let more = take_more all i 0 (omega (arith, length-last_digits d.places d.number)) in
-    has_written_of_eq _ _ _ _ _ (ap (λ ds. take i all ++ ds) same ∙ sym more) (has_written_append _ _ _ _ _ _ (c.loop-i.invariant plain) (c.in_ok-write.ensures.writes (c.loop-i.invariant plain).plain refl))
+    has_written_of_eq _ _ _ _ _ (ap (λ ds. take i all ++ ds) same ∙ sym more)
+    (has_written_append _ _ _ _ _ _ (c.loop-i.invariant plain)
+    (c.in_ok-write.ensures.writes (c.loop-i.invariant plain).plain refl))
 
 -- where no place is left, the last digits are written
 pub returns-clause-writes : goal.returns-clause-writes
 returns-clause-writes g c =
     λ plain ok.
     let d = c.args.self.now in
-    has_written_of_eq _ _ _ _ _ (take_all c.loop-i.i (last_digits d.places d.number) (omega (arith, length-last_digits d.places d.number))) (c.loop-i.invariant plain)
+    has_written_of_eq _ _ _ _ _
+    (take_all c.loop-i.i (last_digits d.places d.number)
+    (omega (arith, length-last_digits d.places d.number))) (c.loop-i.invariant plain)

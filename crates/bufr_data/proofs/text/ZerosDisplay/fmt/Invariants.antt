@@ -6,4 +6,5 @@ use Rattle.bufr_data.proofs.text.ZerosDisplay.fmt.Given as goal
 -- as many zeros are written as rounds were done
 abbrev pub invariant-loop-i : goal.invariant-loop-i
 invariant-loop-i g l =
-    IsPlainFormatter l.initial.f → HasWritten g.W.Write.write_str_gives l.initial.f (replicate l._i 48) l.f
+    IsPlainFormatter l.initial.f
+    → HasWritten g.W.Write.write_str_gives l.initial.f (replicate l._i 48) l.f

@@ -8,7 +8,8 @@ use Rattle.bufr_depot.proofs.depot.Depot.find.Goals as goal
 -- both numbers are below the number of slots
 pub returns-clause-there : goal.returns-clause-there
 returns-clause-there g c =
-    let d : DepotView = record { tables = c.self.inside.tables.now; slots = c.self.inside.slots.items } in
+    let d : DepotView =
+    record { tables = c.self.inside.tables.now; slots = c.self.inside.slots.items } in
     let count = c.len-count.ensures ∙ c.self.inside.slots.ok.0 in
     subst (λ (d : DepotView). AreThere d c.args.from c.args.into) c.self.view_is
     (are_there d c.args.from c.args.into

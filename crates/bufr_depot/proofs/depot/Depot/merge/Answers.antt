@@ -5,7 +5,8 @@ use Rattle.bufr_archive.specs.Archives.{ArchiveView}
 use Rattle.bufr_depot.specs.Holdings.{Holding, DepotView}
 use Rattle.bufr_depot.specs.HeldSteps.{StepDoes, IsJoin, AreThere}
 use Rattle.bufr_depot.specs.declared.steps.Step.{Step}
-use Rattle.bufr_depot.proofs.DepotFacts.{is_below, read_is, is_under, self_joined, merged_back, still_back, both_merged}
+use Rattle.bufr_depot.proofs.DepotFacts.{is_below, read_is, is_under, self_joined, merged_back}
+use Rattle.bufr_depot.proofs.DepotFacts.{still_back, both_merged}
 use Rattle.bufr_depot.proofs.JoinFacts.{join_missing}
 use Rattle.bufr_depot.proofs.depot.Depot.merge.Goals.{in-Ok, in-Err}
 use Rattle.bufr_depot.proofs.depot.Depot.merge.Goals as goal
@@ -19,7 +20,8 @@ returns-in_err-find g c =
 -- a slot that is to take in itself stays as it is
 pub returns-then-from-into : goal.returns-then-from-into
 returns-then-from-into g c =
-    self_joined c.args.self.now c.args.from c.args.into c.in_ok-find.ensures.there c.if-from-into.true
+    self_joined c.args.self.now c.args.from c.args.into c.in_ok-find.ensures.there
+    c.if-from-into.true
 
 -- the target is there, so its archive can be taken out
 pub index_mut-requires : goal.index_mut-requires
@@ -49,7 +51,8 @@ merge-merged-requires g c =
     let there = c.in_ok-find.ensures.there in
     let hs = c.self.inside.slots.items in
     let h2 = c.index.result.now in
-    let k1 : Holding = record { archive = c.replace-archive.new.dest; framer = c.behind-self.inside.framer } in
+    let k1 : Holding =
+    record { archive = c.replace-archive.new.dest; framer = c.behind-self.inside.framer } in
     let target = read_is d _ c.args.into there.target c.index_mut.result.now c.self.view_is
     there.target_there c.index_mut.ensures.value in
     let source = read_is d _ c.args.from there.source h2 c.self.view_is there.source_there
@@ -63,14 +66,17 @@ merge-merged-requires g c =
 -- where both slots are there, the target has taken in the source, or all is as it was
 pub returns : goal.returns
 returns g c =
-    let d : DepotView = record { tables = c.self.inside.tables.now; slots = c.self.inside.slots.items } in
+    let d : DepotView =
+    record { tables = c.self.inside.tables.now; slots = c.self.inside.slots.items } in
     let there = subst (λ (e : DepotView). AreThere e c.args.from c.args.into) (sym c.self.view_is)
     c.in_ok-find.ensures.there in
     let h = c.index_mut.result.now in
     let h2 = c.index.result.now in
     let h3 = c.index_mut-2.result.now in
-    let k1 : Holding = record { archive = c.replace-archive.new.dest; framer = c.behind-self.inside.framer } in
-    let k2 : Holding = record { archive = c.merge-merged.new.self; framer = c.behind-self-3.inside.framer } in
+    let k1 : Holding =
+    record { archive = c.replace-archive.new.dest; framer = c.behind-self.inside.framer } in
+    let k2 : Holding =
+    record { archive = c.merge-merged.new.self; framer = c.behind-self-3.inside.framer } in
     let framer1 : k1.framer ≡ h.framer = ap (λ (k : Holding). k.framer) c.behind-self.view_is in
     let framer2 : k2.framer ≡ h3.framer = ap (λ (k : Holding). k.framer) c.behind-self-3.view_is in
     let old : c.replace-archive.result ≡ h.archive =

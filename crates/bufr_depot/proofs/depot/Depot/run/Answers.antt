@@ -31,9 +31,13 @@ loop-step-preserved g c =
       answer = c.step.ensures.answer;
       slots = c.step.ensures.slots;
     } in (
-      subst (λ found. RunSoFar c.args.self.now c.step.new.self c.args.steps.now found (c.loop-step.step-index + 1)) (sym c.push_reserved.ensures.items)
-          (one_run c.args.self.now c.loop-step.self c.step.new.self c.args.steps.now c.loop-step.answers.items c.loop-step.step-index
-          c.step-item.result c.step.result c.loop-step-test.true c.step-item.is c.loop-step.invariant.0 does),
+      subst
+          (λ found. RunSoFar c.args.self.now c.step.new.self c.args.steps.now found
+          (c.loop-step.step-index + 1)) (sym c.push_reserved.ensures.items)
+          (one_run c.args.self.now c.loop-step.self c.step.new.self c.args.steps.now
+          c.loop-step.answers.items c.loop-step.step-index
+          c.step-item.result c.step.result c.loop-step-test.true c.step-item.is
+          c.loop-step.invariant.0 does),
       c.push_reserved.ensures.capacity ∙ c.loop-step.invariant.1,
     )
 
@@ -45,10 +49,14 @@ returns-clause-tables g c = c.loop-step.invariant.0.tables
 pub returns-clause-answers : goal.returns-clause-answers
 returns-clause-answers g c = λ slots z.
     subst (λ steps. Run c.args.self.now.tables steps c.loop-step.answers.items slots)
-    (take_all c.loop-step.step-index c.args.steps.now c.loop-step-test.false) (c.loop-step.invariant.0.run slots z)
+    (take_all c.loop-step.step-index c.args.steps.now c.loop-step-test.false)
+    (c.loop-step.invariant.0.run slots z)
 
 -- and the depot stands for the slots after all of them
 pub returns-clause-slots : goal.returns-clause-slots
 returns-clause-slots g c = λ slots z.
-    subst (λ steps. StandsFor c.loop-step.self (after_all c.args.self.now.tables steps c.loop-step.answers.items slots))
-    (take_all c.loop-step.step-index c.args.steps.now c.loop-step-test.false) (c.loop-step.invariant.0.stands slots z)
+    subst
+    (λ steps. StandsFor c.loop-step.self
+    (after_all c.args.self.now.tables steps c.loop-step.answers.items slots))
+    (take_all c.loop-step.step-index c.args.steps.now c.loop-step-test.false)
+    (c.loop-step.invariant.0.stands slots z)

@@ -17,15 +17,18 @@ returns-in-Merge-clause-slots g c = (c.merge.ensures c.args.step.now (inl c.in-M
 
 -- a transfer leaves the tables
 pub returns-in-Transfer-clause-tables : goal.returns-in-Transfer-clause-tables
-returns-in-Transfer-clause-tables g c = (c.transfer.ensures c.args.step.now (inr (inl c.in-Transfer.is))).tables
+returns-in-Transfer-clause-tables g c =
+    (c.transfer.ensures c.args.step.now (inr (inl c.in-Transfer.is))).tables
 
 -- its answer is one to the step
 pub returns-in-Transfer-clause-answer : goal.returns-in-Transfer-clause-answer
-returns-in-Transfer-clause-answer g c = (c.transfer.ensures c.args.step.now (inr (inl c.in-Transfer.is))).answer
+returns-in-Transfer-clause-answer g c =
+    (c.transfer.ensures c.args.step.now (inr (inl c.in-Transfer.is))).answer
 
 -- and the depot stands for the slots after it
 pub returns-in-Transfer-clause-slots : goal.returns-in-Transfer-clause-slots
-returns-in-Transfer-clause-slots g c = (c.transfer.ensures c.args.step.now (inr (inl c.in-Transfer.is))).slots
+returns-in-Transfer-clause-slots g c =
+    (c.transfer.ensures c.args.step.now (inr (inl c.in-Transfer.is))).slots
 
 -- a copy leaves the tables
 pub returns-in-Copy-clause-tables : goal.returns-in-Copy-clause-tables

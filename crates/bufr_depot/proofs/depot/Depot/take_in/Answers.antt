@@ -11,7 +11,8 @@ use Rattle.bufr_depot.proofs.depot.Depot.take_in.Goals as goal
 -- the archive of the slot has taken in the other, or nothing is changed where memory ran out
 pub returns : goal.returns
 returns g c =
-    let d : DepotView = record { tables = c.self.inside.tables.now; slots = c.self.inside.slots.items } in
+    let d : DepotView =
+    record { tables = c.self.inside.tables.now; slots = c.self.inside.slots.items } in
     let h = c.index_mut.result.now in
     let a = c.args.archive.now in
     let below : c.args.into < length d.slots =
@@ -19,12 +20,21 @@ returns g c =
     let at : slice_get d.slots c.args.into ≡ Some h =
     slice_get_read d.slots (length d.slots) c.args.into h refl below c.index_mut.ensures.value in
     let k : Holding = record { archive = c.merge.new.self; framer = c.behind-self.inside.framer } in
-    subst (λ (e : DepotView). TakesIn e (record d { slots = set d.slots c.args.into k }) c.args.into a c.match-merge.result) c.self.view_is
+    subst
+    (λ (e : DepotView). TakesIn e
+    (record d { slots = set d.slots c.args.into k }) c.args.into a c.match-merge.result)
+    c.self.view_is
     (elim c.match-merge.branch [
-      | in-Ok w ↦ subst (TakesIn d (record d { slots = set d.slots c.args.into k }) c.args.into a) (sym w.result-is)
+      | in-Ok w ↦
+          subst (TakesIn d (record d { slots = set d.slots c.args.into k }) c.args.into a)
+          (sym w.result-is)
           (took_all d c.args.into h k a at
-          (held_merged c.behind-self.inside.archive c.merge.new.self a c.behind-self.inside.framer h c.behind-self.view_is w.in-Ok.ensures.ok))
-      | in-Err w ↦ subst (TakesIn d (record d { slots = set d.slots c.args.into k }) c.args.into a) (sym w.result-is)
+          (held_merged c.behind-self.inside.archive c.merge.new.self a c.behind-self.inside.framer h
+          c.behind-self.view_is w.in-Ok.ensures.ok))
+      | in-Err w ↦
+          subst (TakesIn d (record d { slots = set d.slots c.args.into k }) c.args.into a)
+          (sym w.result-is)
           (took_nothing d c.args.into h k a at
-          (held_still c.behind-self.inside.archive c.merge.new.self c.behind-self.inside.framer h c.behind-self.view_is w.in-Err.ensures.err))
+          (held_still c.behind-self.inside.archive c.merge.new.self c.behind-self.inside.framer h
+          c.behind-self.view_is w.in-Err.ensures.err))
     ])

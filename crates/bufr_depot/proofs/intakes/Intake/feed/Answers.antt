@@ -1,5 +1,6 @@
 -- The clause `feeds` of `Intake::feed`: the frames that are sure now, added to the archive.
-use Rattle.std.proofs.Common.{◌∙◌, ◌<◌, ◌+◌, ◌^◌, ℕ, ◌++◌, drop, length, refl, ap, sym, subst, arith}
+use Rattle.std.proofs.Common.{◌∙◌, ◌<◌, ◌+◌, ◌^◌, ℕ, ◌++◌, drop, length, refl, ap, sym, subst}
+use Rattle.std.proofs.Common.{arith}
 use Rattle.std.proofs.lemmas.List.Elements.{All-from_get_or}
 use Rattle.bufr_frame.specs.Streams.{sure, Stands}
 use Rattle.bufr_archive.specs.Archives.{IsKept}
@@ -12,11 +13,15 @@ use Rattle.bufr_depot.proofs.intakes.Intake.feed.Goals as goal
 pub returns-in_default-clause-feeds : goal.returns-in_default-clause-feeds
 returns-in_default-clause-feeds g c =
     let v = c.self.view_is in
-    let a = c.if-piece-fed.false in let b = c.fed.ensures ∙ ap (λ (h : Holding). h.framer.fed) v in (
+    let a =
+    c.if-piece-fed.false in let b = c.fed.ensures ∙ ap (λ (h : Holding). h.framer.fed) v in (
       omega (arith, a, b),
-      All-from_get_or (λ (x : ℕ). x < 2 ^ 8) c.args.piece.now 0 (λ i below. omega (arith, c.type_inv.piece i)),
+      All-from_get_or (λ (x : ℕ). x < 2 ^ 8) c.args.piece.now 0
+          (λ i below. omega (arith, c.type_inv.piece i)),
       refl,
-      λ stream out st. added_none c.args.self.now.archive (drop out (sure (stream ++ c.args.piece.now))) (subst (λ (h : Holding). IsKept h.archive) v c.len-held.ensures.kept),
+      λ stream out st. added_none c.args.self.now.archive
+          (drop out (sure (stream ++ c.args.piece.now)))
+          (subst (λ (h : Holding). IsKept h.archive) v c.len-held.ensures.kept),
     )
 
 -- the framer has taken in the piece, and the messages of the new frames are added and counted
@@ -26,9 +31,12 @@ returns-in-Ok-add_frames-clause-feeds g c =
     let a = c.if-piece-fed.false in let b = c.fed.ensures ∙ ap (λ (h : Holding). h.framer.fed) v in
     let piece = c.args.piece.now in (
       omega (arith, a, b),
-      All-from_get_or (λ (x : ℕ). x < 2 ^ 8) c.args.piece.now 0 (λ i below. omega (arith, c.type_inv.piece i)),
-      λ stream out st. subst (λ n. Stands n (stream ++ piece) (length (sure (stream ++ piece)))) (sym c.settle.ensures.next)
-          (c.in-Ok.ensures.next stream out (subst (λ (h : Holding). Stands h.framer stream out) (sym v) st)),
+      All-from_get_or (λ (x : ℕ). x < 2 ^ 8) c.args.piece.now 0
+          (λ i below. omega (arith, c.type_inv.piece i)),
+      λ stream out st. subst (λ n. Stands n (stream ++ piece) (length (sure (stream ++ piece))))
+          (sym c.settle.ensures.next)
+          (c.in-Ok.ensures.next stream out
+          (subst (λ (h : Holding). Stands h.framer stream out) (sym v) st)),
       λ stream out st. (
         c.in-Ok-add_frames.counts,
         c.fed-in-Ok-add_frames.ensures,
@@ -47,7 +55,8 @@ returns-in-Err-clause-feeds g c =
     let a = c.if-piece-fed.false in let b = c.fed.ensures ∙ ap (λ (h : Holding). h.framer.fed) v in
     let piece = c.args.piece.now in (
       omega (arith, a, b),
-      All-from_get_or (λ (x : ℕ). x < 2 ^ 8) c.args.piece.now 0 (λ i below. omega (arith, c.type_inv.piece i)),
+      All-from_get_or (λ (x : ℕ). x < 2 ^ 8) c.args.piece.now 0
+          (λ i below. omega (arith, c.type_inv.piece i)),
       ap (λ (h : Holding). h.framer) v,
       λ stream out st.
           of_held (λ a fs. AddsSome a c.add_frames.new.archive fs c.in-Err.field-0.done)

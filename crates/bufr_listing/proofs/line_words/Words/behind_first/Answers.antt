@@ -9,4 +9,5 @@ returns-in-None c = some_word c.args.line.now (sym c.of-words.ensures ∙ c.in-N
 
 -- the words left behind the first are those behind it
 pub returns-in-Some : goal.returns-in-Some
-returns-in-Some c = sym (ap (λ (ws : List (List ℕ)). drop 1 ws) (sym c.of-words.ensures ∙ c.in-Some.ensures.some))
+returns-in-Some c =
+    sym (ap (λ (ws : List (List ℕ)). drop 1 ws) (sym c.of-words.ensures ∙ c.in-Some.ensures.some))

@@ -6,7 +6,9 @@ use Rattle.bufr_listing.proofs.line_words.Words.descriptors.Given as goal
 
 -- the descriptors of all words are these, and then those of the words that are left
 abbrev pub invariant-loop-word : goal.invariant-loop-word
-invariant-loop-word l = descriptors_of (words_left l.fn.self) ≡ behind l.descriptors.items (descriptors_of (words_left l.self))
+invariant-loop-word l =
+    descriptors_of (words_left l.fn.self)
+    ≡ behind l.descriptors.items (descriptors_of (words_left l.self))
 
 -- fewer words are left after each
 abbrev pub decreases-loop-word : goal.decreases-loop-word

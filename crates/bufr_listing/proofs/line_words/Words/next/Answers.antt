@@ -20,4 +20,5 @@ unfolding words_left
 returns-in-Some-clause-some c =
     ap (λ o. words_in (option_map (λ (t : Bor (List ℕ)). t.now) o)) c.in_ok-text.was
     ∙ at_space c.in_ok-text.text.now c.in-Some.end (sym c.space_in.ensures ∙ c.in-Some.is)
-    ∙ ap (λ t. take c.in-Some.end c.in_ok-text.text.now ∷ words_of t) (sym (rest_whole (c.in-Some.end + 1) c.in_ok-text.text.now))
+    ∙ ap (λ t. take c.in-Some.end c.in_ok-text.text.now ∷ words_of t)
+    (sym (rest_whole (c.in-Some.end + 1) c.in_ok-text.text.now))

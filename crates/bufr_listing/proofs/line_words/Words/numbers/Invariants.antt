@@ -6,4 +6,6 @@ use Rattle.bufr_listing.proofs.line_words.Words.numbers.Given as goal
 
 -- the numbers of all words are these, and then those of the words and limits that are left
 abbrev pub invariant-loop-limit : goal.invariant-loop-limit
-invariant-loop-limit l = numbers_of l.limits (words_left l.fn.self) ≡ behind l.numbers.items (numbers_of (drop l.limit-index l.limits) (words_left l.self))
+invariant-loop-limit l =
+    numbers_of l.limits (words_left l.fn.self)
+    ≡ behind l.numbers.items (numbers_of (drop l.limit-index l.limits) (words_left l.self))

@@ -9,8 +9,10 @@ use Rattle.bufr_listing.proofs.lines.Lines.find.Given as goal
 abbrev pub invariant-loop-line : goal.invariant-loop-line
 invariant-loop-line l = record {
   next : l.self.next ≡ None;
-  counted : counting_from (l.self.found + 1) (lines l.self.rest.now) ≡ counting_from (l.fn.self.found + 1) (lines l.fn.self.rest.now);
-  last : l.self.found + length (lines l.self.rest.now) ≡ l.fn.self.found + length (lines l.fn.self.rest.now);
+  counted : counting_from (l.self.found + 1) (lines l.self.rest.now)
+      ≡ counting_from (l.fn.self.found + 1) (lines l.fn.self.rest.now);
+  last : l.self.found + length (lines l.self.rest.now)
+      ≡ l.fn.self.found + length (lines l.fn.self.rest.now);
 }
 
 -- less text is left behind each line

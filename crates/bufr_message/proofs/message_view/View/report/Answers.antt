@@ -13,7 +13,22 @@ use Rattle.bufr_message.proofs.message_view.View.report.Goals as goal
 pub returns-clause-under : goal.returns-clause-under
 returns-clause-under c =
     let v = c.self.inside in
-    let m : Message = record { head = v.head; section2 = v.section2; observed = v.observed; compressed = v.compressed; descriptors = v.descriptors; subsets = v.subsets } in
-    let made = one_report m (c.args.number - 1) c.in_ok-subset.subset c.report_with.result c.in_ok-subset.ensures c.report_with.ensures in
-    subst (λ (d : Decoded). (tables : Entries) (octets : List ℕ) (slack : ℕ) → Spells tables d.message octets slack → IfOk c.report_with.result (IsUnder tables))
-    c.self.view_is (under_answer c.reports_have_canonical_messages.ensures m (c.args.number - 1) c.report_with.result made)
+    let m : Message =
+    record {
+      head = v.head;
+      section2 = v.section2;
+      observed = v.observed;
+      compressed = v.compressed;
+      descriptors = v.descriptors;
+      subsets = v.subsets;
+    } in
+    let made =
+    one_report m
+    (c.args.number - 1) c.in_ok-subset.subset c.report_with.result c.in_ok-subset.ensures
+    c.report_with.ensures in
+    subst
+    (λ (d : Decoded). (tables : Entries) (octets : List ℕ) (slack : ℕ)
+    → Spells tables d.message octets slack → IfOk c.report_with.result (IsUnder tables))
+    c.self.view_is
+    (under_answer c.reports_have_canonical_messages.ensures m
+    (c.args.number - 1) c.report_with.result made)

@@ -5,4 +5,6 @@ use Rattle.bufr_tables.proofs.csv_records.Records.open.Goals as goal
 
 -- the records left to a fresh reader are those of the text without a byte order mark
 pub returns : goal.returns
-returns c = rw (c.from_reader-reader.ensures.state, c.from_reader-reader.ensures.source) (all-records (strip_bom c.args.text.now))
+returns c =
+    rw (c.from_reader-reader.ensures.state, c.from_reader-reader.ensures.source)
+    (all-records (strip_bom c.args.text.now))

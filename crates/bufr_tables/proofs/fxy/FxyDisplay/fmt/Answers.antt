@@ -12,4 +12,17 @@ last n = decimal_digit (n % 10) (omega arith)
 -- what is written are the six digits of the descriptor
 pub returns-clause-writes : goal.returns-clause-writes
 returns-clause-writes g c =
-    rw (last c.f.result, last (c.x.result / 10), last c.x-2.result, last (c.y.result / 100), last (c.y-2.result / 10), last c.y-3.result, c.f.ensures, c.x.ensures, c.x-2.ensures, c.y.ensures, c.y-2.ensures, c.y-3.ensures) at c.write.ensures.writes
+    rw (
+      last c.f.result,
+      last (c.x.result / 10),
+      last c.x-2.result,
+      last (c.y.result / 100),
+      last (c.y-2.result / 10),
+      last c.y-3.result,
+      c.f.ensures,
+      c.x.ensures,
+      c.x-2.ensures,
+      c.y.ensures,
+      c.y-2.ensures,
+      c.y-3.ensures,
+    ) at c.write.ensures.writes

@@ -3,27 +3,40 @@ use Rattle.std.proofs.Common.{◌∙◌, sym, ap, Ok, Result, List, ℕ}
 use Rattle.bufr_tables.specs.declared.element.Element.{Element}
 use Rattle.bufr_tables.specs.declared.table_faults.TableFault.{TableFault}
 use Rattle.bufr_tables.proofs.TableFacts.{at-lookup}
-use Rattle.bufr_tables.proofs.RowFacts.{with_element-same, with_element-other, with_element-new, Rising-insert, NoCounts-insert}
+use Rattle.bufr_tables.proofs.RowFacts.{with_element-same, with_element-other, with_element-new}
+use Rattle.bufr_tables.proofs.RowFacts.{Rising-insert, NoCounts-insert}
 use Rattle.bufr_tables.proofs.table_b.TableB.add.Goals as goal
 
 -- an element that is there already leaves the table as it is
 pub returns-then-eq : goal.returns-then-eq
 returns-then-eq c =
-    rw (← c.self.view_is) (with_element-same c.self.inside.rows.entries c.args.fxy c.args.element c.in-Some.old.now (at-lookup c.args.fxy c.self.inside.rows.entries ∙ sym c.in-Some.ensures.value) (sym c.if-eq.ensures))
+    rw (← c.self.view_is)
+    (with_element-same c.self.inside.rows.entries c.args.fxy c.args.element c.in-Some.old.now
+    (at-lookup c.args.fxy c.self.inside.rows.entries ∙ sym c.in-Some.ensures.value)
+    (sym c.if-eq.ensures))
 
 -- another element of the descriptor is a conflict
 pub returns-in-Some : goal.returns-in-Some
 returns-in-Some c =
-    rw (← c.self.view_is) (with_element-other c.self.inside.rows.entries c.args.fxy c.args.element c.in-Some.old.now (at-lookup c.args.fxy c.self.inside.rows.entries ∙ sym c.in-Some.ensures.value) (sym c.if-eq.ensures))
+    rw (← c.self.view_is)
+    (with_element-other c.self.inside.rows.entries c.args.fxy c.args.element c.in-Some.old.now
+    (at-lookup c.args.fxy c.self.inside.rows.entries ∙ sym c.in-Some.ensures.value)
+    (sym c.if-eq.ensures))
 
 -- with one more element the table is in rising order, and no element is a count
 pub invariant_of-self-2 : goal.invariant_of-self-2
 invariant_of-self-2 c =
-    rw c.in_ok-insert.ensures.entries (Rising-insert c.args.fxy c.args.element c.self.inside.rows.entries c.self.invariant.0, NoCounts-insert c.args.fxy c.args.element c.self.inside.rows.entries c.requires c.self.invariant.1)
+    rw c.in_ok-insert.ensures.entries (
+      Rising-insert c.args.fxy c.args.element c.self.inside.rows.entries c.self.invariant.0,
+      NoCounts-insert c.args.fxy c.args.element c.self.inside.rows.entries c.requires
+          c.self.invariant.1,
+    )
 
 -- a new descriptor adds its element
 pub returns : goal.returns
 returns c =
     rw (← c.self.view_is)
-    (with_element-new c.self.inside.rows.entries c.args.fxy c.args.element (at-lookup c.args.fxy c.self.inside.rows.entries ∙ sym c.in_default.ensures.value)
-    ∙ ap {B = Result (List (ℕ × Element)) TableFault} (λ (t : List (ℕ × Element)). Ok t) (sym c.in_ok-insert.ensures.entries))
+    (with_element-new c.self.inside.rows.entries c.args.fxy c.args.element
+    (at-lookup c.args.fxy c.self.inside.rows.entries ∙ sym c.in_default.ensures.value)
+    ∙ ap {B = Result (List (ℕ × Element)) TableFault} (λ (t : List (ℕ × Element)). Ok t)
+    (sym c.in_ok-insert.ensures.entries))

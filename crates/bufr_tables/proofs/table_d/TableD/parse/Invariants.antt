@@ -8,4 +8,5 @@ use Rattle.bufr_tables.proofs.table_d.TableD.parse.Given as goal
 abbrev pub invariant-loop-number : goal.invariant-loop-number
 invariant-loop-number l =
     after_file columns_d member_row with_member no_sequences (records_of l.fn.text)
-    ≡ after_records member_row with_member (map (λ s. s.now) l.names.items) l.places.items l.number l.records l.rows
+    ≡ after_records member_row with_member
+    (map (λ s. s.now) l.names.items) l.places.items l.number l.records l.rows
