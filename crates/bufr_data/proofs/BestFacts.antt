@@ -5,12 +5,16 @@ use Rattle.std.proofs.Common.{false, cond, List, [], ◌∷◌, ◌++◌, length
 use Rattle.std.proofs.Common.{ap, subst, ◌∙◌, arith, length-append, inl, inr}
 use Rattle.std.specs.Prelude.{◌==◌, ◌&&◌, ◌||◌, not, nat_le, min, max}
 use Rattle.std.specs.List.{AllByRecursion, flat_map, list_all}
-use Rattle.std.proofs.lemmas.Bool.{cases_lt, le-leb, leb-true, eqb-true, eqb-false, eq-eqb}
+use Rattle.std.proofs.lemmas.Bool.{and_parts, cases_lt, le-leb, leb-true, eqb-true, eqb-false}
+use Rattle.std.proofs.lemmas.Bool.{eq-eqb}
+use Rattle.std.proofs.lemmas.Bool.{not-true}
 use Rattle.bufr_bits.specs.Bits.{bin, all_ones}
 use Rattle.bufr_bits.specs.BitLaws.{length-bin}
-use Rattle.std.proofs.lemmas.List.{length-map, length-replicate, append-nil}
+use Rattle.std.proofs.lemmas.Nat.{pow_pos}
+use Rattle.std.proofs.lemmas.List.{length-map, length-replicate, append-nil, nil_from_length}
 use Rattle.std.proofs.Math.Nat.{min-le_left, min-le_right, le-min, le-max_left, le-max_right}
 use Rattle.std.proofs.Math.Nat.{max-le}
+use Rattle.std.proofs.Math.Nat.{mul-le-mul_left}
 use Rattle.bufr_tables.specs.declared.element.Kind.{Kind}
 use Rattle.bufr_tables.specs.declared.element.Kind.TheVariants as kinds
 use Rattle.bufr_tables.specs.Elements.{same_kind}
@@ -22,10 +26,11 @@ use Rattle.bufr_data.specs.Fits.{HasForm, of_text, of_number}
 use Rattle.bufr_data.specs.Columns.{Pairwise, HasIncrement, HasText, IsColumn, equal}
 use Rattle.bufr_data.specs.Columns.{numbers as number_column, texts as text_column, above, missing}
 use Rattle.bufr_data.specs.Columns.{filled as is_filled, ones as ones_text}
-use Rattle.bufr_data.proofs.ColumnFacts.{power_positive, pairwise_length, ones_of, all_ones_of}
-use Rattle.bufr_data.proofs.ColumnFacts.{strictly}
+use Rattle.bufr_data.proofs.ColumnFacts.{pairwise_length, ones_of, all_ones_of}
+use Rattle.std.proofs.Math.Arith.{lt_of_le-ne}
 use Rattle.bufr_bits.specs.NumberLaws.{length-fields}
-use Rattle.bufr_data.proofs.PlainFacts.{and_first, and_second}
+use Rattle.bufr_data.proofs.KindFacts.{kinds_differ}
+use Rattle.bufr_data.proofs.ListFacts.{all_replicated}
 use Rattle.bufr_data.proofs.ColumnWalks.{AllForm, column_form, text_kind, all_equal_is}
 use Rattle.bufr_data.proofs.ColumnWalks.{all_equal_again, are_equal}
 use Rattle.bufr_data.specs.ColumnReading.{all_equal}
@@ -71,30 +76,21 @@ fewest (suc more) k d wide le room fits =
 
 -- ---- the least and the greatest
 
--- what all numbers reach, a lower bound they reach too
-lower : (a b : ℕ) (ns : List ℕ) → b ≤ a → AllByRecursion (λ n. a ≤ n) ns
-    → AllByRecursion (λ n. b ≤ n) ns
-lower a b [] le all = tt
-lower a b (n ∷ ns) le all = (omega (arith, le, all.0), lower a b ns le all.1)
-
--- what no number passes, a higher bound none passes
-higher : (a b : ℕ) (ns : List ℕ) → a ≤ b → AllByRecursion (λ n. n ≤ a) ns
-    → AllByRecursion (λ n. n ≤ b) ns
-higher a b [] le all = tt
-higher a b (n ∷ ns) le all = (omega (arith, le, all.0), higher a b ns le all.1)
+-- what follows of each number follows of all
+pub weaken : (P Q : ℕ → Type 0) (ns : List ℕ) → ((n : ℕ) → P n → Q n) → AllByRecursion P ns
+    → AllByRecursion Q ns
+weaken P Q [] h all = tt
+weaken P Q (n ∷ ns) h all = (h n all.0, weaken P Q ns h all.1)
 
 -- the least of a number and others is below each of them
 least_with_below : (n : ℕ) (ns : List ℕ) → AllByRecursion (λ m. least_with n ns ≤ m) (n ∷ ns)
 least_with_below n [] = (omega arith, tt)
 least_with_below n (m ∷ ms) =
     let h = least_with_below n ms in
-    let small : min m (least_with n ms) ≤ least_with n ms = min-le_right m (least_with n ms) in (
-      omega (arith, small, h.0),
-      (
-        min-le_left m (least_with n ms),
-        lower (least_with n ms) (min m (least_with n ms)) ms small h.1,
-      ),
-    )
+    let small : min m (least_with n ms) ≤ least_with n ms = min-le_right m (least_with n ms) in
+    let others = weaken (λ x. least_with n ms ≤ x) (λ x. min m (least_with n ms) ≤ x) ms
+    (λ x le. omega (arith, small, le)) h.1 in
+    (omega (arith, small, h.0), (min-le_left m (least_with n ms), others))
 
 -- the least is below each number
 pub least_below : (ns : List ℕ) → AllByRecursion (λ m. least ns ≤ m) ns
@@ -104,11 +100,11 @@ least_below (n ∷ ns) = least_with_below n ns
 -- the greatest is above each number
 pub greatest_above : (ns : List ℕ) → AllByRecursion (λ m. m ≤ greatest ns) ns
 greatest_above [] = tt
-greatest_above (n ∷ ns) = (
-  le-max_left n (greatest ns),
-  higher (greatest ns) (max n (greatest ns)) ns (le-max_right n (greatest ns))
-      (greatest_above ns),
-)
+greatest_above (n ∷ ns) =
+    let great : greatest ns ≤ max n (greatest ns) = le-max_right n (greatest ns) in
+    let others = weaken (λ m. m ≤ greatest ns) (λ m. m ≤ max n (greatest ns)) ns
+    (λ m le. omega (arith, great, le)) (greatest_above ns) in
+    (le-max_left n (greatest ns), others)
 
 -- a bound of all numbers is one of their least
 above_least : (a n : ℕ) (ns : List ℕ) → a ≤ n → AllByRecursion (λ m. a ≤ m) ns → a ≤ least_with n ns
@@ -158,7 +154,7 @@ best_one_by : (width minimum k high n : ℕ) (b : Bool) → all_ones width n ≡
     → HasIncrement width minimum k (cond b (2 ^ k - 1) (n - minimum)) (Number n)
 best_one_by width minimum k high n true e below between fits =
     let ones : n + 1 ≡ 2 ^ width = eqb-true _ _ e in
-    missing (omega (arith, power_positive k)) (ap (λ m. Number m) (omega (arith, ones)))
+    missing (omega (arith, pow_pos k)) (ap (λ m. Number m) (omega (arith, ones)))
 best_one_by width minimum k high n false e below between fits =
     let h = between e in
     let back : minimum + (n - minimum) ≡ n = omega (arith, h.0) in
@@ -186,14 +182,8 @@ both P Q (n ∷ ns) p q = ((p.0, q.0), both P Q ns p.1 q.1)
 -- the least number fits where all do
 pub least_fits : (width : ℕ) (ns : List ℕ) → AllByRecursion (λ n. n < 2 ^ width) ns
     → least ns < 2 ^ width
-least_fits width [] all = power_positive width
+least_fits width [] all = pow_pos width
 least_fits width (n ∷ ns) all = omega (arith, (least_below (n ∷ ns)).0, all.0)
-
--- what follows of each number follows of all
-pub weaken : (P Q : ℕ → Type 0) (ns : List ℕ) → ((n : ℕ) → P n → Q n) → AllByRecursion P ns
-    → AllByRecursion Q ns
-weaken P Q [] h all = tt
-weaken P Q (n ∷ ns) h all = (h n all.0, weaken P Q ns h all.1)
 
 -- a column of numbers begins with its width and six bits
 size_of_head : (width minimum k : ℕ) → length (bin width minimum ++ bin 6 k) ≡ width + 6
@@ -201,13 +191,44 @@ size_of_head width minimum k =
     length-append (bin width minimum) (bin 6 k)
     ∙ (λ i. length-bin width minimum i + length-bin 6 k i)
 
--- a sum with a greater part is no less
-add_le : (a : ℕ) {b c : ℕ} → b ≤ c → a + b ≤ a + c
-add_le a {b} {c} le = omega (arith, le)
+-- and has so many increments behind them
+size_of_column : (width minimum k n : ℕ) (increments : List ℕ) → length increments ≡ n
+    → length (bin width minimum ++ bin 6 k ++ flat_map (bin k) increments) ≡ width + 6 + n * k
+size_of_column width minimum k n increments many =
+    length-append (bin width minimum ++ bin 6 k) (flat_map (bin k) increments)
+    ∙ (λ i. size_of_head width minimum k i
+    + (length-fields k increments ∙ ap (λ l. l * k) many) i)
 
--- so is a product
-mul_le : (n a b : ℕ) → a ≤ b → n * a ≤ n * b
-mul_le n a b le = grind (arith, le)
+-- what the minimum and the width of the best column of numbers are for its increments
+pub record BestParts (width : ℕ) (ns : List ℕ) (wide minimum k : ℕ) : Type 0 where
+  pub below : minimum < 2 ^ width
+  pub few : k ≤ wide
+  pub some : 1 ≤ k
+  pub each : Pairwise (HasIncrement width minimum k) (map (increment_of width minimum k) ns)
+      (map (λ n. Number n) ns)
+
+-- they have increments wherever the differences stand in so many bits, and no wider ones
+pub best_parts : (width : ℕ) (ns : List ℕ) (wide : ℕ) → AllByRecursion (λ n. n < 2 ^ width) ns
+    → 1 ≤ wide → wide < 64 → greatest (present width ns) - least (present width ns) + 2 ≤ 2 ^ wide
+    → BestParts width ns wide (least (present width ns))
+    (fewest_bits 63 1 (greatest (present width ns) - least (present width ns)))
+best_parts width ns wide below some short fits =
+    let here = present width ns in
+    let minimum = least here in
+    let k = fewest_bits 63 1 (greatest here - minimum) in
+    let h = fewest 63 1 (greatest here - minimum) wide some (omega (arith, short)) fits in
+    let between = of_present width (λ n. (minimum ≤ n) × (n ≤ greatest here)) ns
+    (both (λ n. minimum ≤ n) (λ n. n ≤ greatest here) here (least_below here)
+    (greatest_above here)) in
+    let inside = to_present width (λ n. n < 2 ^ width) ns
+    (weaken (λ n. n < 2 ^ width) (λ n. all_ones width n ≡ false → n < 2 ^ width) ns
+    (λ n lt no. lt) below) in
+    record {
+      below = least_fits width here inside;
+      few = h.0;
+      some = h.2;
+      each = best_each width minimum k (greatest here) ns below between h.1;
+    }
 
 -- the best column of numbers, where the differences stand in so many bits
 pub record BestFound (spec : Spec) (ns : List ℕ) (wide : ℕ) : Type 0 where
@@ -223,53 +244,28 @@ best_found spec ns wide other few below some short fits =
     let here = present spec.width ns in
     let minimum = least here in
     let k = fewest_bits 63 1 (greatest here - minimum) in
-    let h = fewest 63 1 (greatest here - minimum) wide some (omega (arith, short)) fits in
-    let between =
-    of_present spec.width (λ n. (minimum ≤ n) × (n ≤ greatest here)) ns
-    (both (λ n. minimum ≤ n) (λ n. n ≤ greatest here) here (least_below here)
-    (greatest_above here)) in
-    let inside : AllByRecursion (λ n. n < 2 ^ spec.width) here =
-    to_present spec.width (λ n. n < 2 ^ spec.width) ns
-    (weaken (λ n. n < 2 ^ spec.width)
-    (λ n. all_ones spec.width n ≡ false → n < 2 ^ spec.width) ns (λ n lt no. lt) below) in
-    let form = of_number minimum other few (least_fits spec.width here inside) in
-    let each = best_each spec.width minimum k (greatest here) ns below between h.1 in
+    let parts = best_parts spec.width ns wide below some short fits in
+    let form = of_number minimum other few parts.below in
     let increments = map (increment_of spec.width minimum k) ns in
     let many : length increments ≡ length ns = length-map ns (increment_of spec.width minimum k) in
-    let size : length (bin spec.width minimum ++ bin 6 k ++ flat_map (bin k) increments)
-    ≡ spec.width + 6 + length ns * k =
-    length-append (bin spec.width minimum ++ bin 6 k) (flat_map (bin k) increments)
-    ∙
-    (λ i. size_of_head spec.width minimum k i +
-    (length-fields k increments ∙ ap (λ l. l * k) many) i) in
+    let size = size_of_column spec.width minimum k (length ns) increments many in
+    let more : length ns * k ≤ length ns * wide = mul-le-mul_left (length ns) parts.few in
     record {
-      column =
-          number_column minimum k increments form (omega (arith, h.2))
-          (omega (arith, h.0, short)) each refl;
-      narrow =
-          subst (λ l. l ≤ spec.width + 6 + length ns * wide) (sym size)
-          (add_le (spec.width + 6) (mul_le (length ns) k wide h.0));
+      column = number_column minimum k increments form (omega (arith, parts.some))
+          (omega (arith, parts.few, short)) parts.each refl;
+      narrow = subst (λ l. l ≤ spec.width + 6 + length ns * wide) (sym size) (omega (arith, more));
     }
 
 -- ---- values and their numbers
 
--- the number of a raw value of numbers is this value, and fits
-number_back : (spec : Spec) (v : Raw) → (spec.kind ≡ kinds.Text → ⊥) → HasForm spec v
-    → (Number (number_of v) ≡ v) × (number_of v < 2 ^ spec.width)
+-- the number of a raw value of numbers is this value, and fits; it has 64 bits at most, and as many
+-- as the width
+pub number_back : (spec : Spec) (v : Raw) → (spec.kind ≡ kinds.Text → ⊥) → HasForm spec v
+    → (Number (number_of v) ≡ v) × (number_of v < 2 ^ spec.width) × (spec.width ≤ 64)
+    × (length (raw_bits spec.width v) ≡ spec.width)
 number_back spec v other (of_text os is size all) = absurd (other is)
-number_back spec v other (of_number n kind few below) = (refl, below)
-
--- a raw value of numbers has 64 bits at most
-number_narrow : (spec : Spec) (v : Raw) → (spec.kind ≡ kinds.Text → ⊥) → HasForm spec v
-    → spec.width ≤ 64
-number_narrow spec v other (of_text os is size all) = absurd (other is)
-number_narrow spec v other (of_number n kind few below) = few
-
--- its bits are as many as the width
-raw_narrow : (spec : Spec) (v : Raw) → (spec.kind ≡ kinds.Text → ⊥) → HasForm spec v
-    → length (raw_bits spec.width v) ≡ spec.width
-raw_narrow spec v other (of_text os is size all) = absurd (other is)
-raw_narrow spec v other (of_number n kind few below) = length-bin spec.width n
+number_back spec v other (of_number n kind few below) =
+    (refl, below, few, length-bin spec.width n)
 
 -- each column of numbers has its minimum and six bits at least
 column_wide : (spec : Spec) (values : List Raw) (column : List Bool) → (spec.kind ≡ kinds.Text → ⊥)
@@ -280,7 +276,7 @@ column_wide spec values column other (equal minimum form same is) =
       ap length is,
       length-append (raw_bits spec.width minimum) (bin 6 0),
       length-bin 6 0,
-      raw_narrow spec minimum other form,
+      (number_back spec minimum other form).3,
     )
 column_wide spec values column other (number_column minimum k increments form one few each is) =
     omega (
@@ -307,7 +303,7 @@ numbers_back spec (v ∷ vs) other all =
 numbers_narrow : (spec : Spec) (values : List Raw) → (spec.kind ≡ kinds.Text → ⊥)
     → 0 < length values → AllForm spec values → spec.width ≤ 64
 numbers_narrow spec [] other some all = absurd (omega (arith, some))
-numbers_narrow spec (v ∷ vs) other some all = number_narrow spec v other all.0
+numbers_narrow spec (v ∷ vs) other some all = (number_back spec v other all.0).2
 
 -- differing values that are no texts are written as numbers
 pub differing_is : (kind : Kind) (width : ℕ) (values : List Raw) → (kind ≡ kinds.Text → ⊥)
@@ -334,7 +330,7 @@ differ values v not_same same =
 
 -- all ones are missing
 not_present : (width : ℕ) → all_ones width (2 ^ width - 1) ≡ true
-not_present width = eq-eqb (2 ^ width - 1 + 1) (2 ^ width) (omega (arith, power_positive width))
+not_present width = eq-eqb (2 ^ width - 1 + 1) (2 ^ width) (omega (arith, pow_pos width))
 
 -- a number that is not missing is its minimum and less than all ones above it
 present_one : (width minimum k x : ℕ) (v : Raw) → HasIncrement width minimum k x v
@@ -397,12 +393,7 @@ fewest_by_kind spec values minimum k increments column other some all one few ea
     (differences minimum k (present spec.width ns) one inside) in
     let many : length increments ≡ length ns =
     pairwise_length _ increments values each ∙ sym (length-map values number_of) in
-    let size : length (bin spec.width minimum ++ bin 6 k ++ flat_map (bin k) increments)
-    ≡ spec.width + 6 + length ns * k =
-    length-append (bin spec.width minimum ++ bin 6 k) (flat_map (bin k) increments)
-    ∙
-    (λ i. size_of_head spec.width minimum k i +
-    (length-fields k increments ∙ ap (λ l. l * k) many) i) in
+    let size = size_of_column spec.width minimum k (length ns) increments many in
     let same = differing_is spec.kind spec.width values other in
     subst (λ b. IsBest spec values b column) (sym same) (
       subst (λ vs. IsColumn spec vs (best_numbers spec.width ns)) back.0 found.column,
@@ -420,7 +411,7 @@ equal_narrow spec (v ∷ vs) column other some all c =
       arith,
       length-append (raw_bits spec.width v) (bin 6 0),
       length-bin 6 0,
-      raw_narrow spec v other all.0,
+      (number_back spec v other all.0).3,
       column_wide spec (v ∷ vs) column other c,
     )
 
@@ -486,18 +477,15 @@ whole_texts spec (v ∷ vs) is all =
       whole_texts spec vs is all.1,
     )
 
--- a text of no octet is empty
-no_text : (os : List ℕ) → length os ≡ 0 → os ≡ []
-no_text [] e = refl
-no_text (x ∷ os) e = absurd (omega (arith, e))
-
 -- in a field of no octet all texts are empty
 no_texts : (spec : Spec) (values : List Raw) → spec.kind ≡ kinds.Text → spec.width / 8 ≡ 0
     → AllForm spec values → AllByRecursion (λ w. w ≡ Text []) values
 no_texts spec [] is none all = tt
 no_texts spec (v ∷ vs) is none all =
-    let h = text_of_form spec v is all.0 in
-    (h.0 ∙ ap (λ os. Text os) (no_text (octets_of v) (h.1 ∙ none)), no_texts spec vs is none all.1)
+    let h = text_of_form spec v is all.0 in (
+      h.0 ∙ ap (λ os. Text os) (nil_from_length (octets_of v) (h.1 ∙ none)),
+      no_texts spec vs is none all.1,
+    )
 
 -- texts that differ have some octet
 some_octets : (spec : Spec) (values : List Raw) → spec.kind ≡ kinds.Text → all_equal values ≡ false
@@ -509,11 +497,6 @@ some_octets spec values is e all =
           absurd (differ values (Text []) e (no_texts spec values is (omega (arith, ge)) all))
     ]
 
--- zeros are octets
-zeros_below : (n : ℕ) → AllByRecursion (λ x. x < 256) (replicate n 0)
-zeros_below zero = tt
-zeros_below (suc n) = (omega arith, zeros_below n)
-
 -- differing texts are written whole
 pub differing_texts : (kind : Kind) (width : ℕ) (values : List Raw) → kind ≡ kinds.Text
     → best_differing kind width values ≡ best_texts (width / 8) (map octets_of values)
@@ -524,7 +507,8 @@ best_of_texts : (spec : Spec) (values : List Raw) → spec.kind ≡ kinds.Text
     → all_equal values ≡ false → AllForm spec values → spec.width / 8 ≤ 63
     → IsColumn spec values (best_differing spec.kind spec.width values)
 best_of_texts spec values is e all short =
-    let form = of_text (replicate (spec.width / 8) 0) is (length-replicate _ _) (zeros_below _) in
+    let zeros = all_replicated (λ x. x < 256) (spec.width / 8) 0 (omega arith) in
+    let form = of_text (replicate (spec.width / 8) 0) is (length-replicate _ _) zeros in
     text_column (replicate (spec.width / 8) 0) (spec.width / 8) (map octets_of values) form
     (some_octets spec values is e all) (omega (arith, short)) (omega arith)
     (whole_texts spec values is all) (differing_texts spec.kind spec.width values is)
@@ -532,8 +516,20 @@ best_of_texts spec values is e all short =
 -- numbers of 63 bits at most stand in a column
 pub narrow_each : (width n : ℕ) → n < 2 ^ width → all_ones width n ≡ false → n + 2 ≤ 2 ^ width
 narrow_each width n below e =
-    omega
-    (arith, strictly (n + 1) (2 ^ width) (omega (arith, below)) (eqb-false (n + 1) (2 ^ width) e))
+    let le : n + 1 ≤ 2 ^ width = omega (arith, below) in
+    omega (arith, lt_of_le-ne le (eqb-false (n + 1) (2 ^ width) e))
+
+-- the differences of numbers of 63 bits at most stand in so many
+pub difference_fits : (width : ℕ) (ns : List ℕ) → width ≤ 63
+    → AllByRecursion (λ n. n < 2 ^ width) ns
+    → greatest (present width ns) - least (present width ns) + 2 ≤ 2 ^ 63
+difference_fits width ns short below =
+    let wide : 2 ^ width ≤ 2 ^ 63 = pow_mono short in
+    let inside = to_present width (λ n. n ≤ 2 ^ width - 2) ns
+    (weaken (λ n. n < 2 ^ width) (λ n. all_ones width n ≡ false → n ≤ 2 ^ width - 2) ns
+    (λ n lt e. omega (arith, narrow_each width n lt e)) below) in
+    let high = below_greatest (2 ^ width - 2) (present width ns) inside in
+    omega (arith, wide, high)
 
 -- the best numbers are a column
 best_of_numbers : (spec : Spec) (values : List Raw) → (spec.kind ≡ kinds.Text → ⊥)
@@ -542,18 +538,9 @@ best_of_numbers : (spec : Spec) (values : List Raw) → (spec.kind ≡ kinds.Tex
 best_of_numbers spec values other some all short =
     let ns = map number_of values in
     let back = numbers_back spec values other all in
-    let wide : 2 ^ spec.width ≤ 2 ^ 63 = pow_mono short in
-    let inside =
-    to_present spec.width (λ n. n ≤ 2 ^ spec.width - 2) ns
-    (weaken (λ n. n < 2 ^ spec.width)
-    (λ n. all_ones spec.width n ≡ false → n ≤ 2 ^ spec.width - 2) ns
-    (λ n lt e. omega (arith, narrow_each spec.width n lt e)) back.1) in
-    let high = below_greatest (2 ^ spec.width - 2) (present spec.width ns) inside in
-    let fits : greatest (present spec.width ns) - least (present spec.width ns) + 2 ≤ 2 ^ 63 =
-    omega (arith, wide, high) in
     let found =
-    best_found spec ns 63 other (omega (arith, short)) back.1 (omega arith)
-    (omega arith) fits in
+    best_found spec ns 63 other (omega (arith, short)) back.1 (omega arith) (omega arith)
+    (difference_fits spec.width ns short back.1) in
     subst (λ b. IsColumn spec values b) (sym (differing_is spec.kind spec.width values other))
     (subst (λ vs. IsColumn spec vs (best_numbers spec.width ns)) back.0 found.column)
 
@@ -570,11 +557,7 @@ best_of_kind : (spec : Spec) (values : List Raw) (text : Bool)
 best_of_kind spec values true is some e all short =
     best_of_texts spec values (same_kind_is spec.kind kinds.Text is) e all (leb-true _ _ short)
 best_of_kind spec values false is some e all short =
-    best_of_numbers spec values
-    (λ t. let yes : same_kind spec.kind kinds.Text
-    ≡ true =
-    ap (λ k. same_kind k kinds.Text) t in let bad =
-    sym yes ∙ is in cc) some all (leb-true _ _ short)
+    best_of_numbers spec values (kinds_differ spec.kind kinds.Text is) some all (leb-true _ _ short)
 
 -- the step of `best_column`, by whether the values are all the same
 best_column_by : (spec : Spec) (values : List Raw) (b : Bool) → all_equal values ≡ b
@@ -587,7 +570,7 @@ best_column_by spec values false e some all can =
     or_false (all_equal values)
     (not (same_kind spec.kind kinds.Count) && nat_le (widest spec) 63) can e in
     best_of_kind spec values _ refl some e all
-    (and_second (not (same_kind spec.kind kinds.Count)) (nat_le (widest spec) 63) short)
+    (and_parts (not (same_kind spec.kind kinds.Count)) (nat_le (widest spec) 63) short).1
 
 -- values that can be a column stand in the best one
 pub best_column : (spec : Spec) (values : List Raw) → 0 < length values → AllForm spec values
@@ -603,11 +586,8 @@ one_count_by spec values false e can is =
     let short =
     or_false (all_equal values)
     (not (same_kind spec.kind kinds.Count) && nat_le (widest spec) 63) can e in
-    let no_count =
-    and_first (not (same_kind spec.kind kinds.Count)) (nat_le (widest spec) 63) short in
-    let yes : not (same_kind spec.kind kinds.Count) ≡ false =
-    ap (λ k. not (same_kind k kinds.Count)) is in
-    let bad = sym yes ∙ no_count in absurd cc
+    let p = and_parts (not (same_kind spec.kind kinds.Count)) (nat_le (widest spec) 63) short in
+    absurd (kinds_differ spec.kind kinds.Count (not-true _ p.0) is)
 
 -- values of a factor that can be a column are all one value
 pub one_count : (spec : Spec) (values : List Raw) → can_be_column spec values ≡ true

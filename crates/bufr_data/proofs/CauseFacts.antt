@@ -7,7 +7,7 @@ use Rattle.bufr_expand.specs.declared.operators.Spec.{Spec}
 use Rattle.bufr_expand.specs.declared.walk.WalkFault.TheVariants as walks
 use Rattle.bufr_expand.specs.Courses.{Course, ends, stops, asks, course}
 use Rattle.bufr_expand.specs.Trees.{Tree}
-use Rattle.bufr_expand.specs.Unrolling.{After}
+use Rattle.bufr_expand.specs.Unrolling.{Told, After, Unrolls}
 use Rattle.bufr_expand.specs.NextFields.{wants, lacks, BeginsWithin}
 use Rattle.bufr_expand.specs.NextFields.{PassesLimit}
 use Rattle.bufr_expand.specs.Limits.{most_items}
@@ -24,12 +24,25 @@ use Rattle.bufr_data.specs.Causes.{Begin, NoneFollows, no_room, no_spec, no_bits
 use Rattle.bufr_data.specs.Causes.{FirstSubsetRefused, NotAllowed, too_many, past_limit}
 use Rattle.bufr_data.specs.Causes.{without_spec, another, FirstMisfit, FirstSubsetMisfit}
 use Rattle.bufr_data.specs.CourseLaws.{Laws, passes_after, after_passes, begun, begun_after}
-use Rattle.bufr_data.specs.CourseLaws.{limit_passed}
+use Rattle.bufr_data.specs.CourseLaws.{limit_passed, AreUnrolled, AreAllowed, IsAskedNext}
+use Rattle.bufr_data.specs.CourseLaws.{IsLackingNext, IsTooLargeNext, IsOnward}
 use Rattle.bufr_data.proofs.CourseRefusals.{CannotStand, FieldRefused, SubsetRefused, CannotGoOn}
 use Rattle.bufr_data.proofs.CourseRefusals.{FieldMisfits, SubsetMisfits}
 use Rattle.bufr_data.proofs.RefusalFacts.{refused_stand, standing_refused, subsets_refused_stand}
 use Rattle.bufr_data.proofs.RefusalFacts.{subsets_standing_refused, refused_misfit, misfit_refused}
 use Rattle.bufr_data.proofs.RefusalFacts.{written_refused_misfit, written_misfit_refused}
+
+-- what the laws `courses_are_unrollings` and `courses_begin_unrollings` say of courses
+pub laws_from : AreUnrolled → AreAllowed → IsAskedNext → IsLackingNext → IsTooLargeNext → IsOnward
+    → Laws
+laws_from unrolled allowed asked lacking too_large goes_on = record {
+  unrolled = unrolled;
+  allowed = allowed;
+  asked = asked;
+  lacking = lacking;
+  too_large = too_large;
+  goes_on = goes_on;
+}
 
 -- ---- what is left after fields with which a subset can begin, for reading and for writing
 
@@ -62,21 +75,44 @@ passes_asked laws tree used before d met spec le b w =
     let a = (laws.asked tree used (map told_of before) met d spec le).1 w in
     (a.0, after_passes (course tree used) before _ a.1 b.formed)
 
+-- what the tree says of the course that is left after fields
+abbrev pub Follows : Tree → ℕ → List Told → Course → Type 0
+Follows tree used fields (ends n) = Unrolls tree used fields n
+Follows tree used fields (stops n walks.TooLarge) = PassesLimit tree used fields
+Follows tree used fields (stops n (walks.EffectiveRange d)) =
+    BeginsWithin tree used fields (lacks d) n
+Follows tree used fields (asks met d spec more) = BeginsWithin tree used fields (wants d spec) met
+
+-- the step of `follows`
+follows_after : Laws → (tree : Tree) (used : ℕ) (fields : List Told) (next : Course)
+    → used ≤ most_items → After (course tree used) fields next → Follows tree used fields next
+follows_after laws tree used fields (ends n) le after = laws.unrolled tree used fields n le after
+follows_after laws tree used fields (stops n walks.TooLarge) le after =
+    limit_passed laws tree used n fields le after
+follows_after laws tree used fields (stops n (walks.EffectiveRange d)) le after =
+    (laws.lacking tree used fields n d le).0 after
+follows_after laws tree used fields (asks met d spec more) le after =
+    (laws.asked tree used fields met d spec le).0 (more, after)
+
+-- it says so of what is left after fields that pass
+pub follows : Laws → (tree : Tree) (used : ℕ) (before : List Field) (next : Course)
+    → used ≤ most_items → Passes (course tree used) before next
+    → Follows tree used (map told_of before) next
+follows laws tree used before next le passed =
+    follows_after laws tree used (map told_of before) next le
+    (passes_after (course tree used) before next passed).0
+
 -- ---- reading
 
 -- why the course refuses to read on is why the tree does
-read_cause : Laws → (tree : Tree) (j used : ℕ) (before : List Field) (next : Course)
-    (rest : List Bool) (fault : ReadFault) → used ≤ most_items
-    → After (course tree used) (map told_of before) next
+read_cause : (tree : Tree) (j used : ℕ) (before : List Field) (next : Course) (rest : List Bool)
+    (fault : ReadFault) → Follows tree used (map told_of before) next
     → CannotStand j (1 + length before) next rest fault → NoneFollows tree used j before rest fault
-read_cause laws tree j used before (ends n) rest fault le after h = absurd h
-read_cause laws tree j used before (stops n walks.TooLarge) rest fault le after h =
-    no_room (limit_passed laws tree used n (map told_of before) le after) h
-read_cause laws tree j used before (stops n (walks.EffectiveRange d)) rest fault le after h =
-    no_spec d n ((laws.lacking tree used (map told_of before) n d le).0 after) h
-read_cause laws tree j used before (asks met d spec more) rest fault le after h =
-    no_bits d met spec ((laws.asked tree used (map told_of before) met d spec le).0 (more, after))
-    h.1 h.0
+read_cause tree j used before (ends n) rest fault w h = absurd h
+read_cause tree j used before (stops n walks.TooLarge) rest fault w h = no_room w h
+read_cause tree j used before (stops n (walks.EffectiveRange d)) rest fault w h = no_spec d n w h
+read_cause tree j used before (asks met d spec more) rest fault w h =
+    no_bits d met spec w h.1 h.0
 
 -- so the first refusal by the course is the first by the tree
 first_of_course : Laws → (tree : Tree) (j used : ℕ) (front : List Bool) (fault : ReadFault)
@@ -88,8 +124,8 @@ first_of_course laws tree j used front fault le r =
       rest = r.rest;
       begin = begun laws tree used r.before r.next le r.passed;
       stand = r.stand;
-      refused = read_cause laws tree j used r.before r.next r.rest fault le
-          (passes_after (course tree used) r.before r.next r.passed).0 r.refused;
+      refused = read_cause tree j used r.before r.next r.rest fault
+          (follows laws tree used r.before r.next le r.passed) r.refused;
     }
 
 -- and why the tree refuses is why the course does
@@ -117,8 +153,7 @@ course_of_first laws tree j used front fault le r =
       rest = r.rest;
       passed = c.1;
       stand = r.stand;
-      refused =
-          c.2;
+      refused = c.2;
     }
 
 -- the fault of reading is the first by the tree
@@ -172,24 +207,19 @@ first_subsets_refused laws tree n front fault r =
 -- ---- writing
 
 -- why the course does not allow fields is why the tree does not
-write_cause : Laws → (tree : Tree) (j used : ℕ) (before : List Field) (next : Course)
-    (others : List Field) (fault : WriteFault) → used ≤ most_items
-    → After (course tree used) (map told_of before) next
+write_cause : (tree : Tree) (j used : ℕ) (before : List Field) (next : Course) (others : List Field)
+    (fault : WriteFault) → Follows tree used (map told_of before) next
     → CannotGoOn j (1 + length before) next others fault
     → NotAllowed tree used j before others fault
-write_cause laws tree j used before (ends n) [] fault le after h = absurd h
-write_cause laws tree j used before (ends n) (f ∷ fields) fault le after h =
-    too_many f fields n (laws.unrolled tree used (map told_of before) n le after) refl h
-write_cause laws tree j used before (stops n walks.TooLarge) others fault le after h =
-    past_limit (limit_passed laws tree used n (map told_of before) le after) h
-write_cause laws tree j used before (stops n (walks.EffectiveRange d)) others fault le after h =
-    without_spec d n ((laws.lacking tree used (map told_of before) n d le).0 after) h
-write_cause laws tree j used before (asks met d spec more) [] fault le after h =
-    another d met spec ((laws.asked tree used (map told_of before) met d spec le).0 (more, after))
-    (λ g behind e asked. cc) h
-write_cause laws tree j used before (asks met d spec more) (f ∷ fields) fault le after h =
-    another d met spec ((laws.asked tree used (map told_of before) met d spec le).0 (more, after))
-    (λ g behind e asked. let same : g ≡ f = cc in
+write_cause tree j used before (ends n) [] fault w h = absurd h
+write_cause tree j used before (ends n) (f ∷ fields) fault w h = too_many f fields n w refl h
+write_cause tree j used before (stops n walks.TooLarge) others fault w h = past_limit w h
+write_cause tree j used before (stops n (walks.EffectiveRange d)) others fault w h =
+    without_spec d n w h
+write_cause tree j used before (asks met d spec more) [] fault w h =
+    another d met spec w (λ g behind e asked. cc) h
+write_cause tree j used before (asks met d spec more) (f ∷ fields) fault w h =
+    another d met spec w (λ g behind e asked. let same : g ≡ f = cc in
     h.1 (subst (λ (x : Field). IsAsked d spec x) same asked)) h.0
 
 -- so the first misfit by the course is the first by the tree
@@ -202,8 +232,8 @@ misfit_of_course laws tree j used fields fault le m =
       others = m.others;
       begin = begun laws tree used m.before m.next le m.passed;
       joined = m.joined;
-      refused = write_cause laws tree j used m.before m.next m.others fault le
-          (passes_after (course tree used) m.before m.next m.passed).0 m.refused;
+      refused = write_cause tree j used m.before m.next m.others fault
+          (follows laws tree used m.before m.next le m.passed) m.refused;
     }
 
 -- the course does not go on at a field that it does not ask for
@@ -233,8 +263,7 @@ cause_write laws tree j used before others fault le b (another d met spec w none
     let a = passes_asked laws tree used before d met spec le b w in (
       asks met d spec a.0,
       a.1,
-      other_goes_on j (1 + length before) met d spec a.0 others fault none
-          e,
+      other_goes_on j (1 + length before) met d spec a.0 others fault none e,
     )
 
 -- so the first misfit by the tree is the first by the course

@@ -3,11 +3,9 @@
 use Rattle.std.proofs.Common.{◌≡◌, ℕ, ◌+◌, ◌*◌, ◌<◌, ◌≤◌, Bool, List, length, map, ◌++◌}
 use Rattle.std.proofs.Common.{arith, ◌⊎◌, inl, inr}
 use Rattle.std.proofs.lemmas.Bool.{cases_lt}
-use Rattle.bufr_expand.specs.declared.walk.WalkFault.{WalkFault}
 use Rattle.bufr_expand.specs.declared.walk.WalkFault.TheVariants as walks
 use Rattle.bufr_expand.specs.Courses.{Course, ends, stops, asks, course}
 use Rattle.bufr_expand.specs.Trees.{Tree}
-use Rattle.bufr_expand.specs.Unrolling.{After}
 use Rattle.bufr_expand.specs.NextFields.{Next, wants, lacks, BeginsWithin}
 use Rattle.bufr_expand.specs.Limits.{most_items}
 use Rattle.bufr_data.specs.declared.fault.ReadFault.{ReadFault}
@@ -17,15 +15,10 @@ use Rattle.bufr_data.specs.Causes.{Begin}
 use Rattle.bufr_data.specs.Columns.{Column, AreColumns, field_of}
 use Rattle.bufr_data.specs.ColumnCauses.{ColumnRefused, told_first, NoColumnFollows, no_room}
 use Rattle.bufr_data.specs.ColumnCauses.{too_many_values, no_spec, no_column, FirstColumnRefused}
-use Rattle.bufr_data.proofs.CauseFacts.{passes_full}
-use Rattle.bufr_data.proofs.CauseFacts.{passes_lacking, passes_asked}
+use Rattle.bufr_data.proofs.CauseFacts.{Follows, follows, passes_full, passes_lacking, passes_asked}
+use Rattle.bufr_data.proofs.CourseRefusals.{IsStop}
 use Rattle.bufr_data.specs.Limits.{most_values}
-use Rattle.bufr_data.specs.CourseLaws.{Laws, passes_after, begun, limit_passed}
-
--- the fault of data at which the walk stops
-abbrev pub IsStop : WalkFault → ReadFault → Type 0
-IsStop walks.TooLarge fault = fault ≡ faults.TooLarge
-IsStop (walks.EffectiveRange d) fault = fault ≡ faults.EffectiveRange d
+use Rattle.bufr_data.specs.CourseLaws.{Laws, begun}
 
 -- field i of n subsets would be more than 67,108,864 values; or it would not, and this holds
 abbrev pub PastOr : ℕ → ℕ → ReadFault → Type 0 → Type 0
@@ -53,25 +46,20 @@ pub record RefusedByCourse (n i : ℕ) (c : Course) (front : List Bool) (fault :
   pub refused : NoneByCourse n (i + length before) next rest fault
 
 -- why no column follows, from the course to the tree
-column_cause : Laws → (tree : Tree) (n : ℕ) (before : List Column) (next : Course)
-    (rest : List Bool) (fault : ReadFault) → After (course tree 0) (told_first before) next
+column_cause : (tree : Tree) (n : ℕ) (before : List Column) (next : Course) (rest : List Bool)
+    (fault : ReadFault) → Follows tree 0 (told_first before) next
     → NoneByCourse n (1 + length before) next rest fault → NoColumnFollows tree n before rest fault
-column_cause laws tree n before (ends m) rest fault after h = absurd h
-column_cause laws tree n before (stops m walks.TooLarge) rest fault after (inl h) =
-    no_room (limit_passed laws tree 0 m (told_first before) (omega arith) after) h.1
-column_cause laws tree n before (stops m walks.TooLarge) rest fault after (inr h) =
-    no_room (limit_passed laws tree 0 m (told_first before) (omega arith) after) h.1
-column_cause laws tree n before (stops m (walks.EffectiveRange d)) rest fault after (inl h) =
-    too_many_values (lacks d) m ((laws.lacking tree 0 (told_first before) m d (omega arith)).0
-    after) h.0 h.1
-column_cause laws tree n before (stops m (walks.EffectiveRange d)) rest fault after (inr h) =
-    no_spec d m ((laws.lacking tree 0 (told_first before) m d (omega arith)).0 after) h.0 h.1
-column_cause laws tree n before (asks met d spec more) rest fault after (inl h) =
-    too_many_values (wants d spec) met
-    ((laws.asked tree 0 (told_first before) met d spec (omega arith)).0 (more, after)) h.0 h.1
-column_cause laws tree n before (asks met d spec more) rest fault after (inr h) =
-    no_column d met spec ((laws.asked tree 0 (told_first before) met d spec (omega arith)).0
-    (more, after)) h.0 h.1
+column_cause tree n before (ends m) rest fault w h = absurd h
+column_cause tree n before (stops m walks.TooLarge) rest fault w (inl h) = no_room w h.1
+column_cause tree n before (stops m walks.TooLarge) rest fault w (inr h) = no_room w h.1
+column_cause tree n before (stops m (walks.EffectiveRange d)) rest fault w (inl h) =
+    too_many_values (lacks d) m w h.0 h.1
+column_cause tree n before (stops m (walks.EffectiveRange d)) rest fault w (inr h) =
+    no_spec d m w h.0 h.1
+column_cause tree n before (asks met d spec more) rest fault w (inl h) =
+    too_many_values (wants d spec) met w h.0 h.1
+column_cause tree n before (asks met d spec more) rest fault w (inr h) =
+    no_column d met spec w h.0 h.1
 
 -- the first column refused by the course is the first by the tree
 pub first_of_columns : Laws → (tree : Tree) (n : ℕ) (front : List Bool) (fault : ReadFault)
@@ -84,8 +72,8 @@ first_of_columns laws tree n front fault r =
       begin = begun laws tree 0 (map (field_of 0) r.before) r.next (omega arith) r.passed;
       columns = r.columns;
       spelt = r.spelt;
-      refused = column_cause laws tree n r.before r.next r.rest fault
-          (passes_after (course tree 0) (map (field_of 0) r.before) r.next r.passed).0 r.refused;
+      refused = column_cause tree n r.before r.next r.rest fault
+          (follows laws tree 0 (map (field_of 0) r.before) r.next (omega arith) r.passed) r.refused;
     }
 
 -- what a course leaves and why no column follows

@@ -3,64 +3,41 @@
 use Rattle.std.proofs.Common.{◌≡◌, ℕ, zero, suc, ◌+◌, ◌-◌, ◌/◌, ◌^◌, ◌<◌, ◌≤◌, Bool, true, false}
 use Rattle.std.proofs.Common.{cond, ltb, List, [], ◌∷◌, ◌++◌, length, map, replicate, Option, Some}
 use Rattle.std.proofs.Common.{None, Result, Ok, Err, refl, sym, ap, subst, ◌∙◌, arith, append_assoc}
-use Rattle.std.proofs.Common.{inl, inr}
 use Rattle.std.specs.Prelude.{◌==◌, nat_lt}
 use Rattle.std.specs.List.{AllByRecursion, flat_map, list_all}
-use Rattle.std.proofs.lemmas.Bool.{cases_lt, le-ltb, lt-ltb, ltb-true, eqb-true, eqb-false, eq-eqb}
-use Rattle.std.proofs.lemmas.Bool.{ltb-false}
+use Rattle.std.proofs.lemmas.Bool.{and_parts, le-ltb, lt-ltb, ltb-true, eqb-true, eqb-false, eq-eqb}
+use Rattle.std.proofs.lemmas.Bool.{ltb-false, ne_eqb}
+use Rattle.std.proofs.Math.Arith.{lt_of_le-ne}
 use Rattle.std.proofs.lemmas.List.{length-replicate, length-map}
 use Rattle.bufr_tables.specs.AnswerLaws.{bind_ok, guard_ok, ok_is}
-use Rattle.bufr_bits.specs.Bits.{bin, bits, number, number_at, numbers_at, octets_at}
-use Rattle.bufr_bits.specs.BitLaws.{length-bin, number_below, some_is, number_at-bin, number_at_is}
+use Rattle.bufr_bits.specs.Bits.{bin, bits, number_at, numbers_at, octets_at}
+use Rattle.bufr_bits.specs.BitLaws.{some_is, number_at-bin, number_at_is}
 use Rattle.bufr_bits.specs.NumberLaws.{numbers_at_again, numbers_at_found}
 use Rattle.bufr_expand.specs.declared.operators.Spec.{Spec}
 use Rattle.bufr_data.specs.declared.field.Raw.{Raw}
 use Rattle.bufr_data.specs.declared.field.Raw.TheVariants.{Number, Text}
 use Rattle.bufr_data.specs.declared.fault.ReadFault.{ReadFault}
 use Rattle.bufr_data.specs.Plain.{raw_bits, raw_at}
-use Rattle.bufr_data.specs.Fits.{HasForm}
 use Rattle.bufr_data.specs.Columns.{Pairwise, HasIncrement, HasText, IsColumn, equal}
 use Rattle.bufr_data.specs.Columns.{numbers as number_column, texts as text_column, above, missing}
 use Rattle.bufr_data.specs.Columns.{filled as is_filled, ones as ones_text}
 use Rattle.bufr_data.specs.ColumnReading.{or_ends, raised, value_then, all_raised, filled}
 use Rattle.bufr_data.specs.ColumnReading.{text_then, texts_then, texts_at, values_at, column_at}
+use Rattle.bufr_data.specs.ColumnCauses.{Heads}
 use Rattle.bufr_data.specs.FormLaws.{form_passes, form_is}
-use Rattle.bufr_data.proofs.PlainFacts.{and_first, and_second, raw_again, raw_read}
+use Rattle.bufr_data.proofs.ListFacts.{all_replicated}
+use Rattle.bufr_data.proofs.PlainFacts.{raw_again, raw_read}
 
 -- ---- numbers of one width, one after the other
-
--- a power of two is positive
-pub power_positive : (w : ℕ) → 0 < 2 ^ w
-power_positive w =
-    let below : number (bin w 0) < 2 ^ w =
-    subst (λ k. number (bin w 0) < 2 ^ k) (length-bin w 0) (number_below (bin w 0)) in
-    omega (arith, below)
-
--- the step of `not_equal`
-not_equal_by : (a b : ℕ) (t : Bool) → (a == b) ≡ t → (a ≡ b → ⊥) → t ≡ false
-not_equal_by a b true e other = absurd (other (eqb-true a b e))
-not_equal_by a b false e other = refl
-
--- numbers that differ are not told equal
-pub not_equal : (a b : ℕ) → (a ≡ b → ⊥) → (a == b) ≡ false
-not_equal a b other = not_equal_by a b (a == b) refl other
 
 -- an increment of a value is read as this value
 pub raised_again : (width minimum k x : ℕ) (v : Raw) → HasIncrement width minimum k x v
     → raised width minimum k x ≡ Some v
 raised_again width minimum k x v (above below room is) =
-    let some : x + 1 == 2 ^ k ≡ false = not_equal (x + 1) (2 ^ k) (λ e. omega (arith, below, e)) in
+    let some : x + 1 == 2 ^ k ≡ false = ne_eqb (x + 1) (2 ^ k) (λ e. omega (arith, below, e)) in
     rw (some, lt-ltb (minimum + x) (2 ^ width) room) (ap (λ r. Some r) (sym is))
 raised_again width minimum k x v (missing ones is) =
     rw (eq-eqb (x + 1) (2 ^ k) ones) (ap (λ r. Some r) (sym is))
-
--- a number that is not another and not above it is below it
-pub strictly : (a b : ℕ) → a ≤ b → (a ≡ b → ⊥) → a < b
-strictly a b le other =
-    elim (cases_lt a b) [
-      | inl lt ↦ lt
-      | inr ge ↦ absurd (other (omega (arith, le, ge)))
-    ]
 
 -- the step of `raised_found`: all ones, or within the field
 raised_by : (width minimum k x : ℕ) (v : Raw) → x < 2 ^ k → (ones : Bool) (room : Bool)
@@ -70,8 +47,9 @@ raised_by : (width minimum k x : ℕ) (v : Raw) → x < 2 ^ k → (ones : Bool) 
 raised_by width minimum k x v below true room o r e =
     missing (eqb-true (x + 1) (2 ^ k) o) (sym (some_is _ _ e))
 raised_by width minimum k x v below false true o r e =
-    above (strictly (x + 1) (2 ^ k) (omega (arith, below)) (eqb-false (x + 1) (2 ^ k) o))
-    (ltb-true (minimum + x) (2 ^ width) r) (sym (some_is _ _ e))
+    let le : x + 1 ≤ 2 ^ k = omega (arith, below) in
+    above (lt_of_le-ne le (eqb-false (x + 1) (2 ^ k) o)) (ltb-true (minimum + x) (2 ^ width) r)
+    (sym (some_is _ _ e))
 raised_by width minimum k x v below false false o r e = absurd cc
 
 -- what is read of an increment is its value
@@ -121,19 +99,15 @@ pub ones_of : (own : List ℕ) → list_all (λ x. x == 255) own ≡ true
     → own ≡ replicate (length own) 255
 ones_of [] e = refl
 ones_of (x ∷ own) e =
-    let first : x ≡ 255 = eqb-true x 255 (and_first (x == 255) (list_all (λ x. x == 255) own) e) in
-    let others = ones_of own (and_second (x == 255) (list_all (λ x. x == 255) own) e) in
+    let p = and_parts (x == 255) (list_all (λ x. x == 255) own) e in
+    let first : x ≡ 255 = eqb-true x 255 p.0 in
+    let others = ones_of own p.1 in
     λ i. first i ∷ others i
 
 -- and these are all ones
 pub all_ones_of : (k : ℕ) → list_all (λ x. x == 255) (replicate k 255) ≡ true
 all_ones_of zero = refl
 all_ones_of (suc k) = all_ones_of k
-
--- all ones are octets
-pub ones_below : (k : ℕ) → AllByRecursion (λ x. x < 256) (replicate k 255)
-ones_below zero = tt
-ones_below (suc k) = (omega arith, ones_below k)
 
 -- the step of `filled_again`: a text that is not all ones is filled with spaces
 filled_by : (octets k : ℕ) (own : List ℕ) (b : Bool) → length own ≡ k
@@ -156,10 +130,9 @@ filled_again octets k own v (ones_text is value) =
 pub text_octets : (octets k : ℕ) (own : List ℕ) (v : Raw) → HasText octets k own v
     → (length own ≡ k) × AllByRecursion (λ x. x < 256) own
 text_octets octets k own v (is_filled size all other is) = (size, all)
-text_octets octets k own v (ones_text is value) = (
-  ap length is ∙ length-replicate k 255,
-  subst (λ os. AllByRecursion (λ x. x < 256) os) (sym is) (ones_below k),
-)
+text_octets octets k own v (ones_text is value) =
+    let ones = all_replicated (λ x. x < 256) k 255 (omega arith) in
+    (ap length is ∙ length-replicate k 255, subst (AllByRecursion (λ x. x < 256)) (sym is) ones)
 
 -- the step of `filled_found`, by whether it is all ones
 filled_found_by : (octets k : ℕ) (own : List ℕ) (b : Bool) → length own ≡ k
@@ -191,19 +164,17 @@ all_filled_again octets k [] (v ∷ vs) h = absurd h
 all_filled_again octets k (x ∷ own) [] h = absurd h
 
 -- the octets of texts are read as these texts
-texts_at_again : (octets k : ℕ) (own : List (List ℕ)) (vs : List Raw) (rest : List Bool)
-    → Pairwise (HasText octets k) own vs
+pub texts_again : (k : ℕ) (own : List (List ℕ)) (rest : List Bool)
+    → AllByRecursion (λ t. (length t ≡ k) × AllByRecursion (λ x. x < 256) t) own
     → texts_at (length own) k (flat_map bits own ++ rest) ≡ Some (own, rest)
-texts_at_again octets k [] vs rest h = refl
-texts_at_again octets k (x ∷ own) [] rest h = absurd h
-texts_at_again octets k (x ∷ own) (v ∷ vs) rest h =
-    let is = text_octets octets k x v h.0 in
-    let e : flat_map bits (x ∷ own) ++ rest ≡ bits x ++ (flat_map bits own ++ rest) =
-    append_assoc (bits x) (flat_map bits own) rest in
+texts_again k [] rest all = refl
+texts_again k (t ∷ own) rest all =
+    let e : flat_map bits (t ∷ own) ++ rest ≡ bits t ++ (flat_map bits own ++ rest) =
+    append_assoc (bits t) (flat_map bits own) rest in
     rw (
       e,
-      numbers_at_again 8 k x (flat_map bits own ++ rest) is.0 is.1,
-      texts_at_again octets k own vs rest h.1,
+      numbers_at_again 8 k t (flat_map bits own ++ rest) all.0.0 all.0.1,
+      texts_again k own rest all.1,
     ) refl
 
 -- so many texts of so many octets stand at the front, and these bits are left
@@ -266,6 +237,24 @@ pairwise_length Belong (x ∷ xs) (y ∷ ys) h = ap suc (pairwise_length Belong 
 pairwise_length Belong [] (y ∷ ys) h = absurd h
 pairwise_length Belong (x ∷ xs) [] h = absurd h
 
+-- what follows of each that belongs to something holds of all that do
+pub pairwise_each : {A B : Type 0} (Belong : A → B → Type 0) (P : A → Type 0)
+    → ((x : A) (y : B) → Belong x y → P x) → (xs : List A) (ys : List B) → Pairwise Belong xs ys
+    → AllByRecursion P xs
+pairwise_each Belong P each [] ys h = tt
+pairwise_each Belong P each (x ∷ xs) [] h = absurd h
+pairwise_each Belong P each (x ∷ xs) (y ∷ ys) h =
+    (each x y h.0, pairwise_each Belong P each xs ys h.1)
+
+-- and so does what follows of each that something belongs to
+pub pairwise_other : {A B : Type 0} (Belong : A → B → Type 0) (P : B → Type 0)
+    → ((x : A) (y : B) → Belong x y → P y) → (xs : List A) (ys : List B) → Pairwise Belong xs ys
+    → AllByRecursion P ys
+pairwise_other Belong P each xs [] h = tt
+pairwise_other Belong P each [] (y ∷ ys) h = absurd h
+pairwise_other Belong P each (x ∷ xs) (y ∷ ys) h =
+    (each x y h.0, pairwise_other Belong P each xs ys h.1)
+
 -- an increment of a value fits its width
 pub increment_fits : (width minimum k x : ℕ) (v : Raw) → HasIncrement width minimum k x v
     → x < 2 ^ k
@@ -275,10 +264,9 @@ increment_fits width minimum k x v (missing ones is) = omega (arith, ones)
 -- so does each of them
 pub increments_fit : (width minimum k : ℕ) (xs : List ℕ) (vs : List Raw)
     → Pairwise (HasIncrement width minimum k) xs vs → AllByRecursion (λ x. x < 2 ^ k) xs
-increments_fit width minimum k [] vs h = tt
-increments_fit width minimum k (x ∷ xs) [] h = absurd h
-increments_fit width minimum k (x ∷ xs) (v ∷ vs) h =
-    (increment_fits width minimum k x v h.0, increments_fit width minimum k xs vs h.1)
+increments_fit width minimum k xs vs h =
+    pairwise_each (HasIncrement width minimum k) (λ x. x < 2 ^ k) (increment_fits width minimum k)
+    xs vs h
 
 -- equal values are one value so many times
 pub replicated : (v : Raw) (vs : List Raw) → AllByRecursion (λ w. w ≡ v) vs
@@ -288,21 +276,18 @@ replicated v (w ∷ vs) all =
     let others = replicated v vs all.1 in
     λ i. sym all.0 i ∷ others i
 
--- one value so many times are equal values
-pub replicate_equal : (n : ℕ) (v : Raw) → AllByRecursion (λ w. w ≡ v) (replicate n v)
-replicate_equal zero v = tt
-replicate_equal (suc n) v = (refl, replicate_equal n v)
+-- a minimum that stands there is read
+pub head_read : (spec : Spec) (front : List Bool) (minimum : Raw) (k : ℕ) (rest : List Bool)
+    → Heads spec front minimum k rest → raw_at spec front ≡ Some (minimum, bin 6 k ++ rest)
+head_read spec front minimum k rest h =
+    ap (raw_at spec) h.spelt
+    ∙ raw_again spec.kind spec.width minimum (bin 6 k ++ rest) (form_passes spec minimum h.form)
 
--- R0 and NBINC, and what is left to read
-head_again : (n i : ℕ) (spec : Spec) (minimum : Raw) (k : ℕ) (rest : List Bool)
-    → HasForm spec minimum → k < 64
-    → column_at n i spec (raw_bits spec.width minimum ++ (bin 6 k ++ rest))
-    ≡ values_at n i spec minimum k rest
-head_again n i spec minimum k rest form small =
-    rw (
-      raw_again spec.kind spec.width minimum (bin 6 k ++ rest) (form_passes spec minimum form),
-      number_at-bin 6 k rest small,
-    ) refl
+-- behind its minimum and width a column is read as its values
+pub head_at : (n i : ℕ) (spec : Spec) (front : List Bool) (minimum : Raw) (k : ℕ) (rest : List Bool)
+    → Heads spec front minimum k rest → column_at n i spec front ≡ values_at n i spec minimum k rest
+head_at n i spec front minimum k rest h =
+    rw (head_read spec front minimum k rest h, number_at-bin 6 k rest h.few) refl
 
 -- the three parts of a column, and then the rest
 pub regrouped : (a b c rest : List Bool) → (a ++ b ++ c) ++ rest ≡ a ++ (b ++ (c ++ rest))
@@ -317,8 +302,8 @@ column_again n i spec values column rest many (equal minimum form same is) =
     ap (λ xs. xs ++ rest) is ∙ append_assoc (raw_bits spec.width minimum) (bin 6 0) rest in
     let all : replicate n minimum ≡ values =
     ap (λ k. replicate k minimum) (sym many) ∙ replicated minimum values same in
-    ap (column_at n i spec) front ∙ head_again n i spec minimum 0 rest form (omega arith)
-    ∙ ap (λ vs. Ok (vs, rest)) all
+    head_at n i spec (column ++ rest) minimum 0 rest
+    (record { form = form; few = omega arith; spelt = front }) ∙ ap (λ vs. Ok (vs, rest)) all
 column_again n i spec values column rest many
     (number_column minimum zero increments form some few each is) = absurd (omega (arith, some))
 column_again n i spec values column rest many
@@ -329,9 +314,9 @@ column_again n i spec values column rest many
     ∙ regrouped (bin spec.width minimum) (bin 6 (suc k))
     (flat_map (bin (suc k)) increments) rest in
     let size : length increments ≡ n = pairwise_length _ increments values each ∙ many in
-    ap (column_at n i spec) front
-    ∙ head_again n i spec (Number minimum) (suc k)
-    (flat_map (bin (suc k)) increments ++ rest) form few
+    head_at n i spec (column ++ rest) (Number minimum) (suc k)
+    (flat_map (bin (suc k)) increments ++ rest)
+    (record { form = form; few = few; spelt = front })
     ∙ rw (
       numbers_at_again (suc k) n increments rest size
           (increments_fit spec.width minimum (suc k) increments values each),
@@ -345,17 +330,20 @@ column_again n i spec values column rest many
     ap (λ xs. xs ++ rest) is ∙ regrouped (bits ignored) (bin 6 (suc k)) (flat_map bits own) rest in
     let size : n ≡ length own = sym many ∙ sym (pairwise_length _ own values each) in
     let room : ltb (spec.width / 8) (suc k) ≡ false = le-ltb _ _ short in
-    ap (column_at n i spec) front
-    ∙ head_again n i spec (Text ignored) (suc k) (flat_map bits own ++ rest) form few
+    let octets = pairwise_each (HasText (spec.width / 8) (suc k))
+    (λ t. (length t ≡ suc k) × AllByRecursion (λ x. x < 256) t)
+    (text_octets (spec.width / 8) (suc k)) own values each in
+    head_at n i spec (column ++ rest) (Text ignored) (suc k) (flat_map bits own ++ rest)
+    (record { form = form; few = few; spelt = front })
     ∙ rw (
       room,
       size,
-      texts_at_again (spec.width / 8) (suc k) own values rest each,
+      texts_again (suc k) own rest octets,
       all_filled_again (spec.width / 8) (suc k) own values each,
     ) refl
 
 -- what is read where the data do not end was there
-or_ends_ok : {A : Type 0} (i : ℕ) (o : Option A) (x : A) → or_ends i o ≡ Ok x → o ≡ Some x
+pub or_ends_ok : {A : Type 0} (i : ℕ) (o : Option A) (x : A) → or_ends i o ≡ Ok x → o ≡ Some x
 or_ends_ok i None x e = absurd cc
 or_ends_ok i (Some y) x e = ap (λ z. Some z) (ok_is _ _ e)
 
@@ -364,13 +352,6 @@ abbrev pub ColumnFound : ℕ → Spec → List Bool → List Raw × List Bool �
 ColumnFound n spec front x =
     (column : List Bool) × (length x.0 ≡ n) × IsColumn spec x.0 column × (front ≡ column ++ x.1)
 
--- R0 and NBINC were read
-record HeadFound (spec : Spec) (front : List Bool) (minimum : Raw) (k : ℕ)
-    (rest : List Bool) : Type 0 where
-  pub form : HasForm spec minimum
-  pub few : k < 64
-  pub spelt : front ≡ raw_bits spec.width minimum ++ (bin 6 k ++ rest)
-
 -- the parts of a column are the front of the bits
 ungrouped : (front a b c rest : List Bool) → front ≡ a ++ (b ++ (c ++ rest))
     → front ≡ (a ++ b ++ c) ++ rest
@@ -378,10 +359,10 @@ ungrouped front a b c rest e = e ∙ sym (regrouped a b c rest)
 
 -- values that are read behind minimum and width are a column's
 values_found : (n i : ℕ) (spec : Spec) (front : List Bool) (minimum : Raw) (k : ℕ)
-    (rest : List Bool) (x : List Raw × List Bool) → HeadFound spec front minimum k rest
+    (rest : List Bool) (x : List Raw × List Bool) → Heads spec front minimum k rest
     → values_at n i spec minimum k rest ≡ Ok x → ColumnFound n spec front x
 values_found n i spec front minimum zero rest x h e =
-    let all = replicate_equal n minimum in
+    let all = all_replicated (λ v. v ≡ minimum) n minimum refl in
     let spelt : front ≡ (raw_bits spec.width minimum ++ bin 6 0) ++ rest =
     h.spelt ∙ sym (append_assoc (raw_bits spec.width minimum) (bin 6 0) rest) in
     subst (λ p. ColumnFound n spec front p) (ok_is _ _ e) (
@@ -426,18 +407,24 @@ values_found n i spec front (Text ignored) (suc k) rest x h e =
       spelt,
     )
 
+-- a minimum and a width that are read stand there
+pub heads_found : (spec : Spec) (front : List Bool) (x : Raw × List Bool) (y : ℕ × List Bool)
+    → raw_at spec front ≡ Some x → number_at 6 x.1 ≡ Some y → Heads spec front x.0 y.0 y.1
+heads_found spec front x y first second =
+    let a = raw_read spec.kind spec.width front x first in
+    let b = number_at_is 6 y.0 x.1 y.1 second in
+    record {
+      form = form_is spec x.0 a.0;
+      few = b.1;
+      spelt = a.1 ∙ ap (λ xs. raw_bits spec.width x.0 ++ xs) b.0;
+    }
+
 -- values that are read stand in a column
 pub column_found : (n i : ℕ) (spec : Spec) (front : List Bool) (x : List Raw × List Bool)
     → column_at n i spec front ≡ Ok x → ColumnFound n spec front x
 column_found n i spec front x e =
     let a = bind_ok (or_ends i (raw_at spec front)) _ x e in
     let b = bind_ok (or_ends i (number_at 6 a.0.1)) _ x a.2 in
-    let first =
-    raw_read spec.kind spec.width front a.0 (or_ends_ok i (raw_at spec front) a.0 a.1) in
-    let second = number_at_is 6 b.0.0 a.0.1 b.0.1 (or_ends_ok i (number_at 6 a.0.1) b.0 b.1) in
-    let head : HeadFound spec front a.0.0 b.0.0 b.0.1 = record {
-      form = form_is spec a.0.0 first.0;
-      few = second.1;
-      spelt = first.1 ∙ ap (λ xs. raw_bits spec.width a.0.0 ++ xs) second.0;
-    } in
+    let head = heads_found spec front a.0 b.0 (or_ends_ok i (raw_at spec front) a.0 a.1)
+    (or_ends_ok i (number_at 6 a.0.1) b.0 b.1) in
     values_found n i spec front a.0.0 b.0.0 b.0.1 x head b.2

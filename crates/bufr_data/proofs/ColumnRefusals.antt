@@ -5,39 +5,43 @@ use Rattle.std.proofs.Common.{false, cond, List, [], ◌∷◌, ◌++◌, length
 use Rattle.std.proofs.Common.{None, Result, Ok, Err, refl, sym, ap, subst, ◌∙◌, arith, append_assoc}
 use Rattle.std.proofs.Common.{◌⊎◌, inl, inr}
 use Rattle.std.specs.Prelude.{◌==◌, ◌&&◌, not, nat_lt}
-use Rattle.std.specs.List.{AllByRecursion, flat_map}
-use Rattle.std.proofs.lemmas.Bool.{cases_lt, le-ltb, lt-ltb, ltb-true, ltb-false, eqb-true}
-use Rattle.std.proofs.lemmas.Bool.{eqb-false}
+use Rattle.std.specs.List.{AllByRecursion}
+use Rattle.std.proofs.lemmas.Bool.{and_parts, cases_lt, le-ltb, lt-ltb, ltb-true, ltb-false}
+use Rattle.std.proofs.lemmas.Bool.{eqb-true, eqb-false}
+use Rattle.std.proofs.lemmas.Bool.{not-true}
+use Rattle.std.proofs.Math.Nat.{mul-le-mul_right}
 use Rattle.bufr_tables.specs.Answers.{◌>>=◌}
 use Rattle.bufr_tables.specs.declared.element.Kind.TheVariants as kinds
 use Rattle.bufr_tables.specs.Elements.{same_kind}
 use Rattle.bufr_tables.specs.AnswerLaws.{bind_ok, bind_err, err_is}
-use Rattle.bufr_bits.specs.Bits.{bin, bits, number_at, numbers_at}
-use Rattle.bufr_bits.specs.BitLaws.{number_at-bin, number_at_is}
+use Rattle.bufr_bits.specs.Bits.{bin, number_at, numbers_at}
+use Rattle.bufr_bits.specs.BitLaws.{number_at-bin}
 use Rattle.bufr_expand.specs.declared.operators.Spec.{Spec}
 use Rattle.bufr_expand.specs.Courses.{Course, ends, stops, asks}
 use Rattle.bufr_data.specs.declared.field.Raw.{Raw}
 use Rattle.bufr_data.specs.declared.field.Raw.TheVariants.{Number, Text}
 use Rattle.bufr_data.specs.declared.fault.ReadFault.{ReadFault}
 use Rattle.bufr_data.specs.declared.fault.ReadFault.TheVariants as faults
-use Rattle.bufr_data.specs.Plain.{raw_bits, raw_at, number_of, stopped}
+use Rattle.bufr_data.specs.Plain.{raw_at, number_of}
 use Rattle.bufr_data.specs.Columns.{IsColumn, Column, HaveOneCount, AreColumns, field_of}
 use Rattle.bufr_data.specs.ColumnReading.{or_ends, raised, value_then, all_raised, texts_at}
 use Rattle.bufr_data.specs.ColumnReading.{values_at, column_at, all_equal, agreeing, count_of}
-use Rattle.bufr_data.specs.ColumnReading.{ColumnsFound, columns_at}
+use Rattle.bufr_data.specs.ColumnReading.{columns_at}
 use Rattle.bufr_data.specs.ColumnCauses.{Heads, Increments, Texts, HasValue, ColumnRefused, no_head}
 use Rattle.bufr_data.specs.ColumnCauses.{wide_texts, no_increments, no_texts, passes, unequal}
-use Rattle.bufr_data.proofs.ColumnCourses.{IsStop, NoneByCourse, RefusedByCourse}
-use Rattle.bufr_expand.specs.declared.walk.WalkFault.{WalkFault}
-use Rattle.bufr_expand.specs.declared.walk.WalkFault.TheVariants as walks
+use Rattle.bufr_data.proofs.ColumnCourses.{NoneByCourse, RefusedByCourse}
+use Rattle.bufr_data.proofs.CourseRefusals.{stop_is, stop_again}
 use Rattle.bufr_data.specs.Refusals.{Passes}
-use Rattle.bufr_data.proofs.PlainFacts.{and_first, and_second, raw_again, raw_read}
-use Rattle.bufr_data.proofs.ColumnFacts.{texts_at_found, column_found, column_again, ColumnFound}
+use Rattle.bufr_data.proofs.ColumnFacts.{texts_at_found, texts_again, column_found, column_again}
+use Rattle.bufr_data.proofs.ColumnFacts.{ColumnFound}
+use Rattle.bufr_data.proofs.ColumnFacts.{or_ends_ok, head_read, heads_found, head_at}
 use Rattle.bufr_bits.specs.NumberLaws.{numbers_at_again, numbers_at_found}
-use Rattle.bufr_data.proofs.ColumnWalks.{all_equal_is, all_equal_again, kind_is, form_of}
-use Rattle.bufr_data.proofs.ColumnWalks.{column_form, count_is, agreed, agreeing_again}
+use Rattle.bufr_data.proofs.ColumnWalks.{all_equal_is, all_equal_again, column_form, count_is}
+use Rattle.bufr_data.proofs.ColumnWalks.{agreed, agreeing_again}
 use Rattle.bufr_data.specs.Limits.{most_values}
-use Rattle.bufr_data.specs.FormLaws.{form_passes, form_is}
+use Rattle.bufr_data.specs.Fits.{HasForm}
+use Rattle.bufr_data.specs.FormLaws.{same_kind_is}
+use Rattle.bufr_data.proofs.ListFacts.{all_at}
 
 -- where the data end nothing was there
 or_ends_err : {A : Type 0} (i : ℕ) (o : Option A) (fault : ReadFault) → or_ends i o ≡ Err fault
@@ -45,39 +49,9 @@ or_ends_err : {A : Type 0} (i : ℕ) (o : Option A) (fault : ReadFault) → or_e
 or_ends_err i None fault e = (refl, sym (err_is _ _ e))
 or_ends_err i (Some x) fault e = absurd cc
 
--- and what is read was there
-or_ends_some : {A : Type 0} (i : ℕ) (o : Option A) (x : A) → or_ends i o ≡ Ok x → o ≡ Some x
-or_ends_some i None x e = absurd cc
-or_ends_some i (Some y) x e = cc
-
--- a minimum that stands there is read
-head_read : (spec : Spec) (front : List Bool) (minimum : Raw) (k : ℕ) (rest : List Bool)
-    → Heads spec front minimum k rest → raw_at spec front ≡ Some (minimum, bin 6 k ++ rest)
-head_read spec front minimum k rest h =
-    ap (raw_at spec) h.spelt
-    ∙ raw_again spec.kind spec.width minimum (bin 6 k ++ rest) (form_passes spec minimum h.form)
-
--- so is a width
-width_read : (k : ℕ) (rest : List Bool) → k < 64 → number_at 6 (bin 6 k ++ rest) ≡ Some (k, rest)
-width_read k rest few = number_at-bin 6 k rest few
-
 -- one answer has one value
 one_some : {A : Type 0} (o : Option A) (x y : A) → o ≡ Some x → o ≡ Some y → x ≡ y
 one_some o x y a b = let e = sym a ∙ b in cc
-
--- the octets of texts are read as these texts
-texts_again : (k : ℕ) (own : List (List ℕ)) (rest : List Bool)
-    → AllByRecursion (λ t. (length t ≡ k) × AllByRecursion (λ x. x < 256) t) own
-    → texts_at (length own) k (flat_map bits own ++ rest) ≡ Some (own, rest)
-texts_again k [] rest all = refl
-texts_again k (t ∷ own) rest all =
-    let e : flat_map bits (t ∷ own) ++ rest ≡ bits t ++ (flat_map bits own ++ rest) =
-    append_assoc (bits t) (flat_map bits own) rest in
-    rw (
-      e,
-      numbers_at_again 8 k t (flat_map bits own ++ rest) all.0.0 all.0.1,
-      texts_again k own rest all.1,
-    ) refl
 
 -- an increment that has no value, and those before it
 abbrev pub RangePassed : ℕ → ℕ → ℕ → ℕ → ℕ → List ℕ → ReadFault → Type 0
@@ -189,21 +163,8 @@ no_width spec front x first e minimum k rest h =
     let same : x ≡ (minimum, bin 6 k ++ rest) =
     one_some (raw_at spec front) _ _ first (head_read spec front minimum k rest h) in
     let some =
-    sym e ∙ ap (λ (y : Raw × List Bool). number_at 6 y.1) same ∙ width_read k rest h.few in
+    sym e ∙ ap (λ (y : Raw × List Bool). number_at 6 y.1) same ∙ number_at-bin 6 k rest h.few in
     cc
-
--- a minimum and a width that are read stand there
-heads_found : (spec : Spec) (front : List Bool) (x : Raw × List Bool) (y : ℕ × List Bool)
-    → raw_at spec front ≡ Some x → number_at 6 x.1 ≡ Some y → Heads spec front x.0 y.0 y.1
-heads_found spec front x y first second =
-    let a = raw_read spec.kind spec.width front x first in
-    let b = number_at_is 6 y.0 x.1 y.1 second in
-    record {
-      form = form_is spec x.0 a.0;
-      few = b.1;
-      spelt = a.1
-          ∙ ap (λ xs. raw_bits spec.width x.0 ++ xs) b.0;
-    }
 
 -- where increments are not read, none stand there
 none_numbers : (n k : ℕ) (front : List Bool) → numbers_at n k front ≡ None → (xs : List ℕ)
@@ -240,7 +201,7 @@ values_refused n i spec front (Number minimum) (suc k) rest fault h e =
           let xs = some.0 in
           let found =
           numbers_at_found n (suc k) rest xs
-          (or_ends_some i (numbers_at n (suc k) rest) xs some.1) in
+          (or_ends_ok i (numbers_at n (suc k) rest) xs some.1) in
           elim (bind_err (all_raised 1 i spec.width minimum (suc k) xs.0) _ fault some.2) [
             | inl none ↦
                 let p = range_passed 1 i spec.width minimum (suc k) xs.0 fault none in
@@ -272,21 +233,16 @@ column_refused n i spec front fault e =
       | inl none ↦ let is = or_ends_err i (raw_at spec front) fault none in
           no_head (no_raw spec front is.0) is.1
       | inr x ↦
-          let first = or_ends_some i (raw_at spec front) x.0 x.1 in
+          let first = or_ends_ok i (raw_at spec front) x.0 x.1 in
           elim (bind_err (or_ends i (number_at 6 x.0.1)) _ fault x.2) [
             | inl none ↦ let is = or_ends_err i (number_at 6 x.0.1) fault none in
                 no_head (no_width spec front x.0 first is.0) is.1
             | inr y ↦
-                let second = or_ends_some i (number_at 6 x.0.1) y.0 y.1 in
+                let second = or_ends_ok i (number_at 6 x.0.1) y.0 y.1 in
                 values_refused n i spec front x.0.0 y.0.0 y.0.1 fault
                 (heads_found spec front x.0 y.0 first second) y.2
           ]
     ]
-
--- what is not so is false
-not_true : (b : Bool) → not b ≡ true → b ≡ false
-not_true true e = absurd cc
-not_true false e = refl
 
 -- a column whose values must agree and do not is a factor's
 unequal_err : (i : ℕ) (spec : Spec) (x : List Raw × List Bool) (fault : ReadFault)
@@ -294,13 +250,9 @@ unequal_err : (i : ℕ) (spec : Spec) (x : List Raw × List Bool) (fault : ReadF
     → (spec.kind ≡ kinds.Count) × (all_equal x.0 ≡ false) × (fault ≡ faults.UnequalCounts i)
 unequal_err i spec x fault e =
     elim (guard_err (same_kind spec.kind kinds.Count && not (all_equal x.0)) _ fault _ e) [
-      | inl is ↦ (
-        kind_is spec.kind
-            (and_first (same_kind spec.kind kinds.Count) (not (all_equal x.0)) is.0),
-        not_true (all_equal x.0)
-            (and_second (same_kind spec.kind kinds.Count) (not (all_equal x.0)) is.0),
-        sym is.1,
-      )
+      | inl is ↦
+          let p = and_parts (same_kind spec.kind kinds.Count) (not (all_equal x.0)) is.0 in
+          (same_kind_is spec.kind kinds.Count p.0, not-true (all_equal x.0) p.1, sym is.1)
       | inr no_fault ↦ let bad = no_fault.1 in absurd cc
     ]
 
@@ -324,12 +276,6 @@ read_column_refused n i spec front fault e =
 none_by : {A : Type 0} (o : Option A) → ((x : A) → o ≡ Some x → ⊥) → o ≡ None
 none_by None none = refl
 none_by (Some x) none = absurd (none x refl)
-
--- behind its minimum and width a column is read as its values
-head_at : (n i : ℕ) (spec : Spec) (front : List Bool) (minimum : Raw) (k : ℕ) (rest : List Bool)
-    → Heads spec front minimum k rest → column_at n i spec front ≡ values_at n i spec minimum k rest
-head_at n i spec front minimum k rest h =
-    rw (head_read spec front minimum k rest h, width_read k rest h.few) refl
 
 -- the step of `no_head_read`: the width is not there
 no_width_by : (n i : ℕ) (spec : Spec) (front : List Bool) (x : Raw × List Bool)
@@ -419,18 +365,6 @@ column_refused_again n i spec front fault
 
 -- ---- the first column that is refused
 
--- the fault at which a walk stops is that of its course
-stop_is : (why : WalkFault) (fault : ReadFault) → stopped {A = ColumnsFound} why ≡ Err fault
-    → IsStop why fault
-stop_is walks.TooLarge fault e = sym (err_is _ _ e)
-stop_is (walks.EffectiveRange d) fault e = sym (err_is _ _ e)
-
--- and the other way round
-stop_again : (why : WalkFault) (fault : ReadFault) → IsStop why fault
-    → stopped {A = ColumnsFound} why ≡ Err fault
-stop_again walks.TooLarge fault is = ap (λ f. Err f) (sym is)
-stop_again (walks.EffectiveRange d) fault is = ap (λ f. Err f) (sym is)
-
 -- no column at all is the first one refused
 refused_here : (n i : ℕ) (c : Course) (front : List Bool) (fault : ReadFault)
     → NoneByCourse n i c front fault → RefusedByCourse n i c front fault
@@ -461,7 +395,8 @@ refused_behind : (n i met d : ℕ) (spec : Spec) (more : ℕ → Course) (front 
 refused_behind n i met d spec more front x fault some found one r =
     let column : Column = record { fxy = d; spec = spec; values = x.0 } in
     let inside : 0 < length x.0 = omega (arith, some, found.1) in
-    let form = form_of spec x.0 0 (column_form spec x.0 found.0 found.2) inside in
+    let form =
+    all_at (HasForm spec) x.0 0 (Number 0) (column_form spec x.0 found.0 found.2) inside in
     let passed =
     subst (λ k. Passes (more k) (map (field_of 0) r.before) r.next)
     (count_is x.0 inside) r.passed in
@@ -532,14 +467,12 @@ past_is n i (stops met why) rest fault past (inr h) = absurd (omega (arith, past
 past_is n i (asks met d spec more) rest fault past (inl h) = h.1
 past_is n i (asks met d spec more) rest fault past (inr h) = absurd (omega (arith, past, h.0))
 
--- a product with a greater factor is no less
-mul_le : (a b n : ℕ) → a ≤ b → a * n ≤ b * n
-mul_le a b n le = grind (arith, le)
-
 -- more fields have more values
 grown : (i l n : ℕ) → most_values < i * n → most_values < (i + l) * n
 grown i l n past =
-    let le : i * n ≤ (i + l) * n = mul_le i (i + l) n (omega arith) in omega (arith, past, le)
+    let more : i ≤ i + l = omega arith in
+    let le : i * n ≤ (i + l) * n = mul-le-mul_right n more in
+    omega (arith, past, le)
 
 -- where no column follows, its fault is answered
 here_again : (n i : ℕ) (next : Course) (front : List Bool) (fault : ReadFault)

@@ -1,40 +1,38 @@
 -- Columns along a course: what is read is what stands, for each of the subsets. For the law on what
 -- messages know of data (`data_hold_subsets`).
-use Rattle.std.proofs.Common.{◌≡◌, ℕ, zero, suc, ◌+◌, ◌-◌, ◌*◌, ◌/◌, ◌^◌, ◌<◌, ◌≤◌, Bool, true}
-use Rattle.std.proofs.Common.{false, cond, ltb, List, [], ◌∷◌, ◌++◌, length, map, replicate, get_or}
-use Rattle.std.proofs.Common.{Ok, Err, refl, sym, ap, subst, ◌∙◌, arith, append_assoc}
-use Rattle.std.proofs.Common.{length-append}
+use Rattle.std.proofs.Common.{◌≡◌, ℕ, suc, ◌+◌, ◌-◌, ◌*◌, ◌/◌, ◌^◌, ◌<◌, ◌≤◌, Bool, true, false}
+use Rattle.std.proofs.Common.{cond, ltb, List, [], ◌∷◌, ◌++◌, length, map, replicate, get_or, Ok}
+use Rattle.std.proofs.Common.{Err, refl, sym, ap, subst, ◌∙◌, arith, append_assoc, length-append}
 use Rattle.std.specs.Prelude.{◌&&◌, not, nat_lt}
 use Rattle.std.specs.List.{AllByRecursion, list_all}
-use Rattle.std.proofs.lemmas.Bool.{le-ltb, ltb-false, eqb-true, eq-eqb}
+use Rattle.std.proofs.lemmas.Bool.{and_parts, le-ltb, ltb-false, eqb-true, eq-eqb}
 use Rattle.std.proofs.lemmas.List.{length-replicate}
 use Rattle.std.proofs.lemmas.Slice.Eq.{bytes_eq-Decides}
 use Rattle.bufr_tables.specs.Answers.{◌>>=◌}
-use Rattle.bufr_tables.specs.declared.element.Kind.{Kind}
 use Rattle.bufr_tables.specs.declared.element.Kind.TheVariants as kinds
 use Rattle.bufr_tables.specs.Elements.{same_kind}
 use Rattle.bufr_tables.specs.AnswerLaws.{bind_ok, guard_ok as guarded, ok_is, not_false}
 use Rattle.bufr_expand.specs.declared.operators.Spec.{Spec}
-use Rattle.bufr_expand.specs.declared.walk.WalkFault.{WalkFault}
-use Rattle.bufr_expand.specs.declared.walk.WalkFault.TheVariants as walks
 use Rattle.bufr_expand.specs.Courses.{Course, ends, stops, asks}
 use Rattle.bufr_data.specs.declared.field.Raw.{Raw}
 use Rattle.bufr_data.specs.declared.field.Raw.TheVariants.{Number, Text}
 use Rattle.bufr_data.specs.declared.fault.ReadFault.TheVariants as faults
-use Rattle.bufr_data.specs.Plain.{number_of, stopped, stands_for, items_of}
+use Rattle.bufr_data.specs.Plain.{number_of, stands_for, items_of}
 use Rattle.bufr_data.specs.Fits.{HasForm, of_text, of_number}
 use Rattle.bufr_expand.specs.Steady.{IsSteady}
-use Rattle.bufr_data.specs.Columns.{Pairwise, HasIncrement, HasText, IsColumn, equal}
+use Rattle.bufr_data.specs.Columns.{HasIncrement, HasText, IsColumn, equal}
 use Rattle.bufr_data.specs.Columns.{numbers as number_column, texts as text_column, above, missing}
 use Rattle.bufr_data.specs.Columns.{filled as is_filled, ones as ones_text, Column, HaveOneCount}
 use Rattle.bufr_data.specs.Columns.{AreColumns, field_of}
 use Rattle.bufr_data.specs.ColumnReading.{column_at, same_raw, all_equal, agreeing, count_of}
 use Rattle.bufr_data.specs.ColumnReading.{ColumnsFound, columns_at}
-use Rattle.bufr_data.proofs.PlainFacts.{and_first, and_second, guard_ok}
-use Rattle.bufr_data.proofs.ColumnFacts.{column_again, column_found, ColumnFound, power_positive}
-use Rattle.bufr_data.proofs.ColumnFacts.{ones_below}
+use Rattle.bufr_data.proofs.PlainFacts.{guard_ok, not_stopped}
+use Rattle.std.proofs.lemmas.Nat.{pow_pos}
+use Rattle.bufr_data.proofs.ColumnFacts.{column_again, column_found, ColumnFound, pairwise_other}
+use Rattle.bufr_data.proofs.KindFacts.{kinds_differ}
+use Rattle.bufr_data.proofs.ListFacts.{all_at, all_joined, all_replicated}
 use Rattle.bufr_data.specs.Limits.{most_values}
-use Rattle.bufr_data.specs.FormLaws.{same_spec_is, spec_is_same, form_passes}
+use Rattle.bufr_data.specs.FormLaws.{asked_is, asked_passes, same_kind_is}
 
 -- ---- the values of a column have its form
 
@@ -65,30 +63,7 @@ increment_form spec minimum k x v other few (above below room is) =
     subst (λ w. HasForm spec w) (sym is) (of_number (minimum + x) other few room)
 increment_form spec minimum k x v other few (missing ones is) =
     subst (λ w. HasForm spec w) (sym is)
-    (of_number (2 ^ spec.width - 1) other few (omega (arith, power_positive spec.width)))
-
--- so has each of them
-increments_form : (spec : Spec) (minimum k : ℕ) (xs : List ℕ) (vs : List Raw)
-    → (spec.kind ≡ kinds.Text → ⊥) → spec.width ≤ 64
-    → Pairwise (HasIncrement spec.width minimum k) xs vs → AllForm spec vs
-increments_form spec minimum k [] [] other few h = tt
-increments_form spec minimum k (x ∷ xs) (v ∷ vs) other few h = (
-  increment_form spec minimum k x v other few h.0,
-  increments_form spec minimum k xs vs other few h.1,
-)
-increments_form spec minimum k [] (v ∷ vs) other few h = absurd h
-increments_form spec minimum k (x ∷ xs) [] other few h = absurd h
-
--- spaces are octets
-spaces_below : (n : ℕ) → AllByRecursion (λ x. x < 256) (replicate n 32)
-spaces_below zero = tt
-spaces_below (suc n) = (omega arith, spaces_below n)
-
--- octets and octets behind them are octets
-joined_below : (xs ys : List ℕ) → AllByRecursion (λ x. x < 256) xs
-    → AllByRecursion (λ x. x < 256) ys → AllByRecursion (λ x. x < 256) (xs ++ ys)
-joined_below [] ys a b = b
-joined_below (x ∷ xs) ys a b = (a.0, joined_below xs ys a.1 b)
+    (of_number (2 ^ spec.width - 1) other few (omega (arith, pow_pos spec.width)))
 
 -- a text in a column has its spec's form
 text_form : (spec : Spec) (k : ℕ) (own : List ℕ) (v : Raw) → spec.kind ≡ kinds.Text
@@ -98,21 +73,14 @@ text_form spec k own v is short (is_filled size all other value) =
     length-replicate _ _ in
     let whole : length (own ++ replicate (spec.width / 8 - k) 32) ≡ spec.width / 8 =
     omega (arith, length-append own (replicate (spec.width / 8 - k) 32), size, spaces, short) in
+    let bytes = all_joined (λ x. x < 256) own (replicate (spec.width / 8 - k) 32) all
+    (all_replicated (λ x. x < 256) (spec.width / 8 - k) 32 (omega arith)) in
     subst (λ w. HasForm spec w) (sym value)
-    (of_text (own ++ replicate (spec.width / 8 - k) 32) is whole
-    (joined_below own (replicate (spec.width / 8 - k) 32) all (spaces_below _)))
+    (of_text (own ++ replicate (spec.width / 8 - k) 32) is whole bytes)
 text_form spec k own v is short (ones_text ones value) =
     subst (λ w. HasForm spec w) (sym value)
-    (of_text (replicate (spec.width / 8) 255) is (length-replicate _ _) (ones_below _))
-
--- so has each of them
-texts_form : (spec : Spec) (k : ℕ) (own : List (List ℕ)) (vs : List Raw) → spec.kind ≡ kinds.Text
-    → k ≤ spec.width / 8 → Pairwise (HasText (spec.width / 8) k) own vs → AllForm spec vs
-texts_form spec k [] [] is short h = tt
-texts_form spec k (x ∷ xs) (v ∷ vs) is short h =
-    (text_form spec k x v is short h.0, texts_form spec k xs vs is short h.1)
-texts_form spec k [] (v ∷ vs) is short h = absurd h
-texts_form spec k (x ∷ xs) [] is short h = absurd h
+    (of_text (replicate (spec.width / 8) 255) is (length-replicate _ _)
+    (all_replicated (λ x. x < 256) (spec.width / 8) 255 (omega arith)))
 
 -- the values of a column have its spec's form
 pub column_form : (spec : Spec) (values : List Raw) (column : List Bool)
@@ -120,18 +88,12 @@ pub column_form : (spec : Spec) (values : List Raw) (column : List Bool)
 column_form spec values column (equal minimum form same is) =
     equal_form spec minimum values form same
 column_form spec values column (number_column minimum k increments form some few each is) =
-    let kind =
-    number_kind spec minimum form in
-    increments_form spec minimum k increments values kind.0 kind.1 each
+    let kind = number_kind spec minimum form in
+    pairwise_other (HasIncrement spec.width minimum k) (HasForm spec)
+    (λ x v. increment_form spec minimum k x v kind.0 kind.1) increments values each
 column_form spec values column (text_column ignored k own form some few short each is) =
-    texts_form spec k own values (text_kind spec ignored form) short each
-
--- so has the value at an index
-pub form_of : (spec : Spec) (values : List Raw) (k : ℕ) → AllForm spec values → k < length values
-    → HasForm spec (get_or values k (Number 0))
-form_of spec [] k all short = absurd (omega (arith, short))
-form_of spec (v ∷ vs) zero all short = all.0
-form_of spec (v ∷ vs) (suc k) all short = form_of spec vs k all.1 (omega (arith, short))
+    pairwise_other (HasText (spec.width / 8) k) (HasForm spec)
+    (λ x v. text_form spec k x v (text_kind spec ignored form) short) own values each
 
 -- ---- equal values
 
@@ -151,10 +113,9 @@ same_raw_again (Text a) = (bytes_eq-Decides a a).1 refl
 pub are_equal : (v : Raw) (vs : List Raw) → list_all (λ w. same_raw w v) vs ≡ true
     → AllByRecursion (λ w. w ≡ v) vs
 are_equal v [] e = tt
-are_equal v (w ∷ vs) e = (
-  same_raw_is w v (and_first (same_raw w v) (list_all (λ u. same_raw u v) vs) e),
-  are_equal v vs (and_second (same_raw w v) (list_all (λ u. same_raw u v) vs) e),
-)
+are_equal v (w ∷ vs) e =
+    let p = and_parts (same_raw w v) (list_all (λ u. same_raw u v) vs) e in
+    (same_raw_is w v p.0, are_equal v vs p.1)
 
 -- and the other way round
 are_equal_again : (u v : Raw) (vs : List Raw) → v ≡ u → AllByRecursion (λ w. w ≡ u) vs
@@ -178,14 +139,6 @@ all_equal_again v (w ∷ vs) all = are_equal_again v w vs all.0 all.1
 
 -- ---- factors
 
--- a kind that is told a factor's is one
-pub kind_is : (k : Kind) → same_kind k kinds.Count ≡ true → k ≡ kinds.Count
-kind_is kinds.Text e = absurd cc
-kind_is kinds.Code e = absurd cc
-kind_is kinds.Flag e = absurd cc
-kind_is kinds.Quantity e = absurd cc
-kind_is kinds.Count e = refl
-
 -- the step of `agreeing_again`, by whether it is a factor's
 agreeing_again_by : (i : ℕ) (spec : Spec) (x : List Raw × List Bool) (b : Bool)
     → same_kind spec.kind kinds.Count ≡ b
@@ -193,7 +146,7 @@ agreeing_again_by : (i : ℕ) (spec : Spec) (x : List Raw × List Bool) (b : Boo
     → cond (b && not (all_equal x.0)) (Err (faults.UnequalCounts i)) (Ok x) ≡ Ok x
 agreeing_again_by i spec x false e one = refl
 agreeing_again_by i spec x true e one =
-    let h = one (kind_is spec.kind e) in rw (all_equal_again h.0 x.0 h.1) refl
+    let h = one (same_kind_is spec.kind kinds.Count e) in rw (all_equal_again h.0 x.0 h.1) refl
 
 -- values agree where those of a factor are all one
 pub agreeing_again : (i : ℕ) (spec : Spec) (x : List Raw × List Bool)
@@ -205,9 +158,7 @@ agreeing_again i spec x one = agreeing_again_by i spec x _ refl one
 agreed_by : (spec : Spec) (x : List Raw × List Bool) (b : Bool)
     → same_kind spec.kind kinds.Count ≡ b → (b && not (all_equal x.0)) ≡ false
     → spec.kind ≡ kinds.Count → all_equal x.0 ≡ true
-agreed_by spec x false e agree is =
-    let no : same_kind spec.kind kinds.Count ≡ true =
-    ap (λ k. same_kind k kinds.Count) is in let bad = sym no ∙ e in cc
+agreed_by spec x false e agree is = absurd (kinds_differ spec.kind kinds.Count e is)
 agreed_by spec x true e agree is = not_false (all_equal x.0) agree
 
 -- values that agree are those that were read, and a factor's are equal
@@ -222,13 +173,6 @@ pub count_is : (values : List Raw) → 0 < length values
     → count_of values ≡ number_of (get_or values 0 (Number 0))
 count_is [] some = absurd (omega (arith, some))
 count_is (v ∷ vs) some = refl
-
--- each of equal values is this one
-pub value_is : (v : Raw) (vs : List Raw) (k : ℕ) → AllByRecursion (λ w. w ≡ v) vs → k < length vs
-    → get_or vs k (Number 0) ≡ v
-value_is v [] k all short = absurd (omega (arith, short))
-value_is v (w ∷ vs) zero all short = all.0
-value_is v (w ∷ vs) (suc k) all short = value_is v vs k all.1 (omega (arith, short))
 
 -- ---- what stands is read
 
@@ -272,9 +216,7 @@ columns_again n i j (stops met fault) cs items front rest some are e room = absu
 columns_again n i j (asks met d spec more) [] items front rest some are e room = absurd cc
 columns_again n i j (asks met d spec more) (x ∷ cs) items front rest some are e room =
     let g = guard_ok (stands_for d spec (field_of 0 x)) _ _ items e in
-    let like = and_first _ _ g.0 in
-    let same_d : x.fxy ≡ d = eqb-true _ _ (and_first _ _ like) in
-    let same_s : x.spec ≡ spec = same_spec_is _ _ (and_second _ _ like) in
+    let is = asked_is d spec (field_of 0 x) g.0 in
     let limits = limit_step i (length cs) n room in
     let after =
     columns_again n (i + 1) j
@@ -284,7 +226,7 @@ columns_again n i j (asks met d spec more) (x ∷ cs) items front rest some are 
     column_step n i met x cs more are.0 are.1 rest items some are.3 are.4 are.5 limits.0 after
     in
     let course : asks met x.fxy x.spec more ≡ asks met d spec more =
-    λ t. asks met (same_d t) (same_s t) more in
+    λ t. asks met (is.0 t) (is.1 t) more in
     ap (λ xs. columns_at n i (asks met d spec more) (xs ++ rest)) are.2
     ∙ sym (ap (λ c. columns_at n i c ((are.0 ++ are.1) ++ rest)) course) ∙ step
 
@@ -307,17 +249,12 @@ same_course : (spec : Spec) (more : ℕ → Course) (values : List Raw) (k : ℕ
 same_course spec more values k false e steady agree short =
     steady e (count_of values) ∙ sym (steady e (number_of (get_or values k (Number 0))))
 same_course spec more values k true e steady agree short =
-    let all = all_equal_is values (agree (kind_is spec.kind e)) in
-    let here : get_or values k (Number 0) ≡ all.0 = value_is all.0 values k all.1 short in
+    let all = all_equal_is values (agree (same_kind_is spec.kind kinds.Count e)) in
+    let here : get_or values k (Number 0) ≡ all.0 =
+    all_at (λ w. w ≡ all.0) values k (Number 0) all.1 short in
     let first : get_or values 0 (Number 0) ≡ all.0 =
-    value_is all.0 values 0 all.1 (omega (arith, short)) in
+    all_at (λ w. w ≡ all.0) values 0 (Number 0) all.1 (omega (arith, short)) in
     ap more (count_is values (omega (arith, short)) ∙ ap number_of (first ∙ sym here))
-
--- a raw value of a spec's form makes a field that is asked for
-field_stands : (d : ℕ) (spec : Spec) (raw : Raw) → HasForm spec raw
-    → stands_for d spec (record { fxy = d; spec = spec; raw = raw }) ≡ true
-field_stands d spec raw form =
-    rw (eq-eqb d d refl, spec_is_same spec, form_passes spec raw form) refl
 
 -- the column that was read and those after it
 column_joined : (n i met d : ℕ) (spec : Spec) (more : ℕ → Course) (front : List Bool)
@@ -346,19 +283,14 @@ column_joined n i met d spec more front x f room steady found agree after =
           ∙ sym (append_assoc found.0 after.packed f.rest);
       asked = λ j k short.
           let inside : k < length x.0 = omega (arith, short, found.1) in
-          let form = form_of spec x.0 k (column_form spec x.0 found.0 found.2) inside in
+          let form = all_at (HasForm spec) x.0 k (Number 0) (column_form spec x.0 found.0 found.2)
+          inside in
           let others = after.asked j k short in
           let course = same_course spec more x.0 k _ refl steady agree inside in
-          rw (field_stands d spec (get_or x.0 k (Number 0)) form, ← course, others) refl;
+          let stands = asked_passes d spec (field_of k column) (refl, refl, form) in
+          rw (stands, ← course, others) refl;
       room = omega (arith, after.room);
     }
-
--- what was read did not stop at a fault
-not_stopped : (n i : ℕ) (fault : WalkFault) (f : ColumnsFound) (b : Bool)
-    → cond b (Err faults.TooLarge) (stopped fault) ≡ Ok f → ⊥
-not_stopped n i fault f true e = cc
-not_stopped n i walks.TooLarge f false e = cc
-not_stopped n i (walks.EffectiveRange d) f false e = cc
 
 -- columns that are read stand along the course, one field of each for every subset
 pub columns_found : (n i used : ℕ) (c : Course) (front : List Bool) (f : ColumnsFound)
@@ -376,7 +308,7 @@ columns_found n i used (ends m) front f steady room e =
           (arith, room);
     })
 columns_found n i used (stops met fault) front f steady room e =
-    absurd (not_stopped n i fault f _ e)
+    absurd (not_stopped fault f (guarded (nat_lt most_values (i * n)) _ _ f e).1)
 columns_found n i used (asks met d spec more) front f steady room e =
     let g = guarded (nat_lt most_values (i * n)) _ _ f e in
     let a = bind_ok (column_at n i spec front >>= agreeing i spec) _ f g.1 in

@@ -2,7 +2,9 @@
 -- cannot stand, or the first place at which subsets are not what the course allows. For the laws
 -- `read_refusals_follow_the_tree`, `write_refusals_follow_the_tree` and `data_hold_subsets`, which
 -- say the same by the template's tree.
-use Rattle.std.proofs.Common.{◌≡◌, ℕ, ◌+◌, ◌<◌, Bool, List, [], ◌∷◌, ◌++◌, length}
+use Rattle.std.proofs.Common.{◌≡◌, ℕ, ◌+◌, ◌<◌, Bool, List, [], ◌∷◌, ◌++◌, length, Err, sym, ap}
+use Rattle.bufr_tables.specs.AnswerLaws.{err_is}
+use Rattle.bufr_expand.specs.declared.walk.WalkFault.{WalkFault}
 use Rattle.bufr_expand.specs.declared.walk.WalkFault.TheVariants as walks
 use Rattle.bufr_expand.specs.Courses.{Course, ends, stops, asks, course}
 use Rattle.bufr_expand.specs.Trees.{Tree}
@@ -12,19 +14,35 @@ use Rattle.bufr_data.specs.declared.fault.ReadFault.{ReadFault}
 use Rattle.bufr_data.specs.declared.fault.ReadFault.TheVariants as faults
 use Rattle.bufr_data.specs.declared.fault.WriteFault.{WriteFault}
 use Rattle.bufr_data.specs.declared.fault.WriteFault.TheVariants as misfits
-use Rattle.bufr_data.specs.Plain.{plain, plain_subsets}
+use Rattle.bufr_data.specs.Plain.{plain, plain_subsets, stopped}
 use Rattle.bufr_data.specs.Fits.{AllFitWithin}
 use Rattle.bufr_data.specs.Refusals.{IsAsked, Passes, NoneStands}
 
 -- ---- reading
+
+-- the fault of data at which the walk stops
+abbrev pub IsStop : WalkFault → ReadFault → Type 0
+IsStop walks.TooLarge fault = fault ≡ faults.TooLarge
+IsStop (walks.EffectiveRange d) fault = fault ≡ faults.EffectiveRange d
+
+-- so it is where a walk stops
+pub stop_is : {A : Type 0} (why : WalkFault) (fault : ReadFault) → stopped {A = A} why ≡ Err fault
+    → IsStop why fault
+stop_is walks.TooLarge fault e = sym (err_is _ _ e)
+stop_is (walks.EffectiveRange d) fault e = sym (err_is _ _ e)
+
+-- and the other way round
+pub stop_again : {A : Type 0} (why : WalkFault) (fault : ReadFault) → IsStop why fault
+    → stopped {A = A} why ≡ Err fault
+stop_again walks.TooLarge fault is = ap (λ f. Err f) (sym is)
+stop_again (walks.EffectiveRange d) fault is = ap (λ f. Err f) (sym is)
 
 -- neither does a next field stand, which is field i of subset j, nor does the subset end: there is
 -- room for no further item, or the next field's spec is out of range, or the data end within the
 -- field
 abbrev pub CannotStand : ℕ → ℕ → Course → List Bool → ReadFault → Type 0
 CannotStand j i (ends n) front fault = ⊥
-CannotStand j i (stops n walks.TooLarge) front fault = fault ≡ faults.TooLarge
-CannotStand j i (stops n (walks.EffectiveRange d)) front fault = fault ≡ faults.EffectiveRange d
+CannotStand j i (stops n why) front fault = IsStop why fault
 CannotStand j i (asks met d spec more) front fault =
     (fault ≡ faults.DataEnds j i) × NoneStands spec front
 

@@ -1,7 +1,7 @@
 -- The words on data, from the laws of plain data and of columns: for the law on what messages know
 -- of data (`data_hold_subsets`).
-use Rattle.std.proofs.Common.{◌≡◌, ℕ, zero, suc, Bool, true, false, List, ◌++◌, Result, Ok, Err}
-use Rattle.std.proofs.Common.{refl, sym, ap, subst, ◌∙◌, arith}
+use Rattle.std.proofs.Common.{◌≡◌, ℕ, zero, suc, Bool, true, false, List, ◌++◌, Ok, refl, sym, ap}
+use Rattle.std.proofs.Common.{subst, ◌∙◌, arith}
 use Rattle.bufr_tables.specs.Answers.{result_map}
 use Rattle.bufr_expand.specs.Trees.{Tree}
 use Rattle.bufr_expand.specs.Courses.{course}
@@ -14,6 +14,7 @@ use Rattle.bufr_data.specs.ColumnReading.{ColumnsFound, columns_at}
 use Rattle.bufr_data.specs.Data.{BeginsWithData, subsets_in, ReadsExactly, RefusesExactly}
 use Rattle.bufr_data.specs.Data.{WritesExactly, MisfitsExactly, BareDataAreData, PlainDataAreBare}
 use Rattle.bufr_data.specs.CourseLaws.{AreUnrolled, AreAllowed, Laws}
+use Rattle.bufr_data.proofs.AnswerFacts.{map_ok, map_err}
 use Rattle.bufr_data.proofs.FitFacts.{written_fit, fitting_written, all_read_stand}
 use Rattle.bufr_data.proofs.FitFacts.{all_standing_read}
 use Rattle.bufr_data.proofs.CauseFacts.{subsets_refused_first, first_subsets_refused}
@@ -24,18 +25,6 @@ use Rattle.bufr_data.proofs.PackedFacts.{compressed_stand, compressed_read, comp
 use Rattle.bufr_data.proofs.WrittenColumns.{fitting_columns_written, written_best}
 use Rattle.bufr_data.proofs.PackedMisfits.{unpacked_is, unpacked_again}
 
--- what a view of an answer says of the answer
-mapped_ok : {A B F : Type 0} (f : A → B) (x : Result A F) (y : B) → result_map f x ≡ Ok y
-    → (a : A) × (x ≡ Ok a) × (f a ≡ y)
-mapped_ok f (Ok a) y e = (a, refl, cc)
-mapped_ok f (Err fault) y e = absurd cc
-
--- an error of what is mapped is an error before
-mapped_err : {A B F : Type 0} (f : A → B) (x : Result A F) (fault : F) → result_map f x ≡ Err fault
-    → x ≡ Err fault
-mapped_err f (Ok a) fault e = absurd cc
-mapped_err f (Err other) fault e = cc
-
 -- ---- reading
 
 -- plain subsets that are read are data at the front
@@ -44,7 +33,7 @@ plain_stand : AreUnrolled
     → subsets_in tree false count front ≡ Ok found → BeginsWithData tree false count front found
 plain_stand law tree count front found e =
     let all =
-    mapped_ok (λ (f : SubsetsRead). (f.subsets, f.rest))
+    map_ok (λ (f : SubsetsRead). (f.subsets, f.rest))
     (subsets_at (course tree) 1 count 0 front) found e in
     let h = all_read_stand law tree 1 count 0 front all.0 (omega arith) all.1 in
     subst (BeginsWithData tree false count front) all.2
@@ -88,14 +77,14 @@ pub refuses_exactly : Laws
     → RefusesExactly tree compressed count front fault
 refuses_exactly laws tree false count front fault = (
   λ e. subsets_refused_first laws tree count front fault
-      (mapped_err _ (subsets_at (course tree) 1 count 0 front) fault e),
+      (map_err _ (subsets_at (course tree) 1 count 0 front) fault e),
   λ h. rw (first_subsets_refused laws tree count front fault h) refl,
 )
 refuses_exactly laws tree true zero front fault = (λ e. absurd cc, λ h. absurd h)
 refuses_exactly laws tree true (suc n) front fault = (
   λ e. first_of_columns laws tree (suc n) front fault
       (columns_refused (suc n) 1 (course tree 0) front fault (omega arith)
-      (mapped_err _ (columns_at (suc n) 1 (course tree 0) front) fault e)),
+      (map_err _ (columns_at (suc n) 1 (course tree 0) front) fault e)),
   λ h. ap (λ o. result_map (λ (f : ColumnsFound). (subsets_from 0 (suc n) f.columns, f.rest)) o)
       (columns_refused_again (suc n) 1 (course tree 0) front fault (omega arith)
       (columns_of_first laws tree (suc n) front fault h)),

@@ -1,7 +1,7 @@
 -- The number of a text's digits, one character after the other: what `Decimal::parse` counts.
-use Rattle.std.proofs.Common.{◌≡◌, ℕ, zero, suc, ◌+◌, ◌-◌, ◌*◌, ◌^◌, ◌<◌, ◌≤◌, true, false, List}
-use Rattle.std.proofs.Common.{[], ◌∷◌, ◌++◌, length, take, drop, get_or, Option, Some, None, refl}
-use Rattle.std.proofs.Common.{sym, ap, ◌∙◌, arith, subst, take-append-drop}
+use Rattle.std.proofs.Common.{◌≡◌, ℕ, ◌+◌, ◌-◌, ◌*◌, ◌^◌, ◌<◌, ◌≤◌, true, false, List, [], ◌∷◌}
+use Rattle.std.proofs.Common.{◌++◌, length, take, drop, get_or, Option, Some, None, refl, sym, ap}
+use Rattle.std.proofs.Common.{◌∙◌, arith, subst, take-append-drop}
 use Rattle.std.specs.Prelude.{nat_lt, if◌then◌else◌}
 use Rattle.std.specs.Char.{is_ascii_digit, digit_value}
 use Rattle.std.specs.Int.{IsInRange}
@@ -9,7 +9,7 @@ use Rattle.std.specs.Str.Parse.{digits_value}
 use Rattle.std.proofs.lemmas.Bool.{lt-ltb}
 use Rattle.std.proofs.lemmas.Bool.Decides.{nat_tests}
 use Rattle.std.proofs.lemmas.Int.Digits.{digits_value_push}
-use Rattle.std.proofs.lemmas.List.{take_at}
+use Rattle.std.proofs.lemmas.List.{append-nil, take_all, take_at, take_more}
 use Rattle.std.proofs.lemmas.List.Elements.{filter-append}
 use Rattle.std.proofs.lemmas.Str.{digit_value_digit}
 use Rattle.std.proofs.lemmas.Str.Parse.{digits_value-take-le}
@@ -19,18 +19,11 @@ use Rattle.bufr_data.specs.DecimalTexts.{digits_in}
 abbrev pub number_of : List ℕ → ℕ
 number_of text = digits_value 10 (digits_in text)
 
--- the front with one more character
-front_more : (t : List ℕ) (k : ℕ) → k < length t → take (suc k) t ≡ take k t ++ get_or t k 0 ∷ []
-front_more [] k h = absurd (omega arith)
-front_more (x ∷ t) zero h = refl
-front_more (x ∷ t) (suc k) h = ap (λ xs. x ∷ xs) (front_more t k (omega arith))
-
 -- and its digits
 digits_more : (t : List ℕ) (k : ℕ) → k < length t
     → digits_in (take (k + 1) t) ≡ digits_in (take k t) ++ digits_in (get_or t k 0 ∷ [])
 digits_more t k h =
-    let next : k + 1 ≡ suc k = omega arith in
-    ap (λ n. digits_in (take n t)) next ∙ ap (λ xs. digits_in xs) (front_more t k h)
+    ap (λ xs. digits_in xs) (take_more t k 0 h)
     ∙ filter-append is_ascii_digit (take k t) (get_or t k 0 ∷ [])
 
 -- a digit lies between 0 and 9
@@ -50,11 +43,6 @@ number_more t k h is =
     let same : digit_value c ≡ c - 48 = omega (arith, digit) in
     whole ∙ ap (λ d. number_of (take k t) * 10 + d) same
 
--- nothing behind a list leaves it
-append_none : (xs : List ℕ) → xs ++ [] ≡ xs
-append_none [] = refl
-append_none (x ∷ xs) = ap (λ ys. x ∷ ys) (append_none xs)
-
 -- another character
 pub number_same : (t : List ℕ) (k : ℕ) → k < length t → is_ascii_digit (get_or t k 0) ≡ false
     → number_of (take (k + 1) t) ≡ number_of (take k t)
@@ -62,7 +50,7 @@ number_same t k h is =
     let own : digits_in (get_or t k 0 ∷ []) ≡ [] = rw is refl in
     ap (digits_value 10)
     (digits_more t k h ∙ ap (λ ds. digits_in (take k t) ++ ds) own
-    ∙ append_none (digits_in (take k t)))
+    ∙ append-nil (digits_in (take k t)))
 
 -- the digits of a front make no greater number
 number_front : (t : List ℕ) (k : ℕ) → number_of (take k t) ≤ number_of t
@@ -93,15 +81,11 @@ number_large t k v h e is over =
     let all = number_front t (k + 1) in
     large (number_of t) (omega (arith, more, all, e, over))
 
--- the whole front is the list
-take-all : (t : List ℕ) → take (length t) t ≡ t
-take-all [] = refl
-take-all (x ∷ t) = ap (λ (u : List ℕ). x ∷ u) (take-all t)
-
 -- the number of the whole front is that of the text
 pub number_all : (t : List ℕ) (k v : ℕ) → k ≡ length t → v ≡ number_of (take k t) → v < 2 ^ 128
     → number_if (number_of t) ≡ Some v
 number_all t k v all e fits =
     let whole : v ≡ number_of t =
-    e ∙ ap (λ (n : ℕ). number_of (take n t)) all ∙ ap number_of (take-all t) in
+    e ∙ ap (λ (n : ℕ). number_of (take n t)) all
+    ∙ ap number_of (take_all (length t) t (omega arith)) in
     rw (sym whole, lt-ltb v (2 ^ 128) fits) refl

@@ -1,11 +1,10 @@
 -- What is counted fits the template: its fields are an unrolling of the tree, and each raw value
 -- has its spec's form. For the laws `counted_subsets_fit` and
 -- `fitting_subsets_are_read_and_written`.
-use Rattle.std.proofs.Common.{◌≡◌, ℕ, ◌+◌, ◌≤◌, Bool, false, List, [], ◌∷◌, Result, Ok, Err, refl}
-use Rattle.std.proofs.Common.{sym, ap, subst, ◌∙◌, arith}
+use Rattle.std.proofs.Common.{◌≡◌, ℕ, ◌+◌, ◌≤◌, Bool, false, List, [], ◌∷◌, Ok, refl, sym, ap}
+use Rattle.std.proofs.Common.{subst, ◌∙◌, arith}
 use Rattle.std.specs.Prelude.{map}
-use Rattle.bufr_tables.specs.Answers.{result_map}
-use Rattle.bufr_tables.specs.AnswerLaws.{bind_ok}
+use Rattle.bufr_tables.specs.AnswerLaws.{bind_ok, ok_is}
 use Rattle.bufr_expand.specs.declared.operators.Spec.{Spec}
 use Rattle.bufr_expand.specs.Courses.{Course, ends, stops, asks, course}
 use Rattle.bufr_expand.specs.Trees.{Tree}
@@ -13,7 +12,6 @@ use Rattle.bufr_expand.specs.Unrolling.{After, Allows}
 use Rattle.bufr_expand.specs.Limits.{most_items}
 use Rattle.bufr_data.specs.declared.field.Field.{Field}
 use Rattle.bufr_data.specs.declared.field.Subset.{Subset}
-use Rattle.bufr_data.specs.declared.fault.WriteFault.{WriteFault}
 use Rattle.bufr_data.specs.Plain.{number_of, plain_subsets, SubsetRead, SubsetsRead, stands_for}
 use Rattle.bufr_data.specs.Plain.{items_of, items_of_all, fields_at, subsets_at}
 use Rattle.bufr_data.specs.Data.{written_bits}
@@ -21,7 +19,8 @@ use Rattle.bufr_data.specs.Fits.{HasForm, told_of, FitsWithin, AllFitWithin, Sub
 use Rattle.bufr_data.specs.Fits.{SubsetsStand}
 use Rattle.bufr_data.specs.FormLaws.{asked_is, asked_passes}
 use Rattle.bufr_data.specs.CourseLaws.{AreUnrolled, AreAllowed, Formed}
-use Rattle.bufr_data.proofs.PlainFacts.{guard_ok, ok_is, fields_at-plain, fields_at-found}
+use Rattle.bufr_data.proofs.AnswerFacts.{map_ok}
+use Rattle.bufr_data.proofs.PlainFacts.{guard_ok, fields_at-plain, fields_at-found}
 use Rattle.bufr_data.proofs.PlainFacts.{subsets_at-found, subsets_at-plain}
 
 -- ---- the fields that a course allows
@@ -145,19 +144,14 @@ all_standing_read law tree j n used front f h =
     subsets_at-plain (course tree) j n used front f h.0
     (all_fitting_counted law tree j used f.items f.subsets h.1) h.2
 
--- what is answered of a mapped answer was answered before
-map_ok : (o : Result ℕ WriteFault) (bits added : List Bool)
-    → result_map (λ items. bits) o ≡ Ok added → (n : ℕ) × (o ≡ Ok n) × (added ≡ bits)
-map_ok (Ok n) bits added e = (n, refl, cc)
-map_ok (Err fault) bits added e = absurd cc
-
 -- subsets that are written fit, and the bits are theirs
 pub written_fit : AreUnrolled → (tree : Tree) (subsets : List Subset) (added : List Bool)
     → written_bits tree false subsets ≡ Ok added
     → (items : ℕ) × AllFitWithin tree 0 subsets items × (added ≡ plain_subsets subsets)
 written_fit law tree subsets added e =
-    let is = map_ok (items_of_all (course tree) 1 0 subsets) (plain_subsets subsets) added e in
-    (is.0, all_counted_fit law tree 1 0 is.0 subsets (omega arith) is.1, is.2)
+    let is =
+    map_ok (λ items. plain_subsets subsets) (items_of_all (course tree) 1 0 subsets) added e in
+    (is.0, all_counted_fit law tree 1 0 is.0 subsets (omega arith) is.1, sym is.2)
 
 -- and subsets that fit are written
 pub fitting_written : AreAllowed → (tree : Tree) (subsets : List Subset) (items : ℕ)

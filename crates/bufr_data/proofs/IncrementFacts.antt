@@ -1,18 +1,21 @@
 -- Increments read one after the other have the values of their list: for the index of compressed
 -- data (`Columns::index`).
-use Rattle.std.proofs.Common.{◌≡◌, ℕ, zero, suc, ◌+◌, ◌-◌, ◌*◌, ◌<◌, ◌≤◌, Bool, true, false, cond}
-use Rattle.std.proofs.Common.{List, [], ◌∷◌, ◌++◌, length, take, drop, Some, None, Result, inl, inr}
-use Rattle.std.proofs.Common.{Ok, Err, refl, sym, ap, ◌∙◌, arith, append_assoc, append-nil}
+use Rattle.std.proofs.Common.{◌≡◌, ℕ, zero, suc, ◌+◌, ◌-◌, ◌*◌, ◌<◌, ◌≤◌, Bool, true, cond, List}
+use Rattle.std.proofs.Common.{[], ◌∷◌, ◌++◌, length, take, drop, Some, None, Result, inl, inr, Ok}
+use Rattle.std.proofs.Common.{Err, refl, sym, ap, ◌∙◌, arith, append_assoc, append-nil}
 use Rattle.std.proofs.Common.{length-append}
 use Rattle.std.specs.Prelude.{◌&&◌, ◌==◌}
 use Rattle.std.specs.List.{AllByRecursion, list_all}
-use Rattle.std.proofs.lemmas.Bool.{le-ltb, eq-eqb, cases_lt, lt-ltb}
+use Rattle.std.proofs.lemmas.Bool.{le-ltb, eq-eqb, cases_lt, lt-ltb, ne_eqb}
+use Rattle.std.proofs.Math.Bool.{and-true}
+use Rattle.std.proofs.Math.Nat.{suc-mul}
+use Rattle.std.proofs.lemmas.List.Folds.{list_all-append}
 use Rattle.std.proofs.lemmas.List.{length-drop, drop-drop}
 use Rattle.bufr_tables.specs.Answers.{◌>>=◌}
 use Rattle.bufr_data.specs.declared.fault.ReadFault.TheVariants as faults
 use Rattle.bufr_data.specs.Plain.{number_of}
 use Rattle.bufr_data.specs.PassedColumns.{AreRaised}
-use Rattle.bufr_data.proofs.ColumnFacts.{not_equal}
+use Rattle.bufr_data.proofs.ListFacts.{all_joined}
 use Rattle.bufr_bits.specs.BitLaws.{some_is}
 use Rattle.bufr_bits.specs.Bits.{number, numbers, number_at}
 use Rattle.bufr_data.specs.declared.field.Raw.{Raw}
@@ -42,20 +45,6 @@ behind_none : (o : Result (List Raw) ReadFault) → o ≡ behind_values [] o
 behind_none (Ok vs) = refl
 behind_none (Err e) = refl
 
--- one more times a number
-next_times : (n k : ℕ) → suc n * k ≡ k + n * k
-next_times n k = omega arith
-
--- true beside a truth leaves it
-and_true : (b : Bool) → (b && true) ≡ b
-and_true true = refl
-and_true false = refl
-
--- three truths in either grouping
-and_again : (a b c : Bool) → (a && (b && c)) ≡ ((a && b) && c)
-and_again true b c = refl
-and_again false b c = refl
-
 -- a number that is taken is that of the front, which is dropped
 taken_is : (k x : ℕ) (rest last : List Bool) → number_at k rest ≡ Some (x, last)
     → (x ≡ number (take k rest)) × (last ≡ drop k rest)
@@ -74,12 +63,6 @@ taken_is k x rest last e =
 pub drop_is : (k x : ℕ) (rest last : List Bool) → number_at k rest ≡ Some (x, last)
     → last ≡ drop k rest
 drop_is k x rest last e = (taken_is k x rest last e).1
-
--- one more number, and all are numbers
-all_pushed : (values : List Raw) (n : ℕ) → AllByRecursion (λ v. v ≡ Number (number_of v)) values
-    → AllByRecursion (λ v. v ≡ Number (number_of v)) (values ++ Number n ∷ [])
-all_pushed [] n all = (refl, tt)
-all_pushed (v ∷ values) n all = (all.0, all_pushed values n all.1)
 
 -- a number is the same as the first where their numbers are
 with_first : (u : Raw) (number first : ℕ) → u ≡ Number (number_of u) → number_of u ≡ first
@@ -120,14 +103,9 @@ behind_joined values v (Err e) = refl
 all_push : (u v : Raw) (us : List Raw)
     → list_all (λ w. same_raw w u) (us ++ v ∷ [])
     ≡ (list_all (λ w. same_raw w u) us && same_raw v u)
-all_push u v [] = and_true (same_raw v u)
-all_push u v (w ∷ us) =
-    ap (λ b. same_raw w u && b) (all_push u v us)
-    ∙ and_again (same_raw w u) (list_all (λ x. same_raw x u) us) (same_raw v u)
-
--- one value more
-not_zero : (j : ℕ) → (suc j == 0) ≡ false
-not_zero j = not_equal (suc j) 0 (λ e. absurd (omega (arith, e)))
+all_push u v us =
+    list_all-append (λ w. same_raw w u) us (v ∷ [])
+    ∙ ap (λ b. list_all (λ w. same_raw w u) us && b) (and-true (same_raw v u))
 
 -- with one more number: the first, and whether all are the same
 pushed : (j first x : ℕ) (equal : Bool) (values : List Raw) → length values ≡ j
@@ -139,7 +117,7 @@ pushed zero first x equal [] many all head same = (refl, rw (← same, eq-eqb x 
 pushed (suc j) first x equal [] many all head same = absurd (omega (arith, many))
 pushed zero first x equal (u ∷ us) many all head same = absurd (omega (arith, many))
 pushed (suc j) first x equal (u ∷ us) many all head same =
-    rw (not_zero j)
+    rw (ne_eqb (suc j) 0 (λ e. omega (arith, e)))
     (head, all_push u (Number x) us ∙ (λ t. same t && with_first u x first all.0 head t))
 
 -- one more increment that has a value keeps what is known so far
@@ -168,7 +146,8 @@ one_raised i width minimum k n j x number front rest last first equal less so_fa
           (all_raised (j + 1 + 1) i width minimum k (numbers (n - (j + 1)) k last));
       first_is = now.0;
       equal_is = now.1;
-      are_numbers = all_pushed so_far.values number so_far.are_numbers;
+      are_numbers = all_joined (λ v. v ≡ Number (number_of v)) so_far.values (Number number ∷ [])
+          so_far.are_numbers (refl, tt);
     }
 
 -- an increment that has none is the fault
@@ -207,8 +186,8 @@ pub enough_left : (n j k : ℕ) (front : List Bool) → j < n → (n - j) * k �
     → k ≤ length front
 enough_left n j k front less enough =
     let some : n - j ≡ suc (n - (j + 1)) = omega (arith, less) in
-    let times : (n - j) * k ≡ k + (n - (j + 1)) * k =
-    ap (λ m. m * k) some ∙ next_times (n - (j + 1)) k in
+    let times : (n - j) * k ≡ (n - (j + 1)) * k + k =
+    ap (λ m. m * k) some ∙ suc-mul (n - (j + 1)) k in
     omega (arith, enough, times)
 
 -- as long as increments are to come there is one
@@ -226,8 +205,8 @@ pub enough_behind : (n j k : ℕ) (rest last : List Bool) → j < n → (n - j) 
     → last ≡ drop k rest → (n - (j + 1)) * k ≤ length last
 enough_behind n j k rest last less enough is =
     let some : n - j ≡ suc (n - (j + 1)) = omega (arith, less) in
-    let times : (n - j) * k ≡ k + (n - (j + 1)) * k =
-    ap (λ m. m * k) some ∙ next_times (n - (j + 1)) k in
+    let times : (n - j) * k ≡ (n - (j + 1)) * k + k =
+    ap (λ m. m * k) some ∙ suc-mul (n - (j + 1)) k in
     let size : length last ≡ length rest - k = ap length is ∙ length-drop k rest in
     omega (arith, enough, times, size)
 
@@ -241,4 +220,5 @@ moved_on j k front rest last so_far is =
 -- the first number fits where each one does
 pub first_below : (j x first p : ℕ) → x < p → (0 < j → first < p) → cond (j == 0) x first < p
 first_below zero x first p now before = now
-first_below (suc j) x first p now before = rw (not_zero j) (before (omega arith))
+first_below (suc j) x first p now before =
+    rw (ne_eqb (suc j) 0 (λ e. omega (arith, e))) (before (omega arith))

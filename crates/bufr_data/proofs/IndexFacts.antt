@@ -1,11 +1,12 @@
 -- The subset of an index, and the one value of a column: for `Columns::subset`.
 use Rattle.std.proofs.Common.{◌≡◌, ℕ, zero, suc, ◌+◌, ◌*◌, ◌≤◌, List, [], ◌∷◌, length, map, take}
-use Rattle.std.proofs.Common.{refl, sym, ap, ◌∙◌, arith}
+use Rattle.std.proofs.Common.{sym, ap, ◌∙◌, arith}
 use Rattle.std.proofs.Common.{◌/◌, ◌<◌, Bool, ◌++◌, drop, get_or, Some, append_assoc}
 use Rattle.std.specs.Prelude.{option_map}
 use Rattle.std.specs.List.{flat_map}
 use Rattle.std.proofs.lemmas.Bool.{le-ltb}
-use Rattle.std.proofs.lemmas.List.{drop_at, drop-drop}
+use Rattle.std.proofs.lemmas.List.{drop_at, drop-drop, take_all}
+use Rattle.std.proofs.lemmas.Simd.{map-map}
 use Rattle.bufr_bits.specs.Bits.{bin, bits, number_at, octets_at}
 use Rattle.bufr_bits.specs.BitLaws.{length-bin, number_at-bin}
 use Rattle.bufr_expand.specs.declared.operators.Spec.{Spec}
@@ -17,27 +18,15 @@ use Rattle.bufr_data.specs.Columns.{numbers as number_column, texts as text_colu
 use Rattle.bufr_data.specs.ColumnReading.{filled}
 use Rattle.bufr_data.specs.ColumnCauses.{Heads}
 use Rattle.bufr_data.specs.Indexed.{raised_of, one_behind}
-use Rattle.bufr_data.proofs.PlainFacts.{length-bits}
 use Rattle.bufr_data.proofs.ColumnFacts.{raised_again, filled_again, increment_fits, text_octets}
 use Rattle.bufr_data.proofs.ColumnFacts.{regrouped}
-use Rattle.bufr_bits.specs.NumberLaws.{numbers_at_again}
-use Rattle.bufr_data.proofs.ColumnWalks.{value_is}
+use Rattle.bufr_bits.specs.NumberLaws.{length-fields, numbers_at_again}
+use Rattle.bufr_data.proofs.ListFacts.{all_at}
 use Rattle.bufr_data.specs.declared.field.Field.{Field}
 use Rattle.bufr_data.specs.declared.field.Subset.{Subset}
 use Rattle.bufr_data.specs.declared.columns.Place.{Place}
 use Rattle.bufr_data.specs.Columns.{Column, field_of, subset_of}
 use Rattle.bufr_data.specs.Indexed.{column_from}
-
--- at the end each place gave its field
-fields_all : (octets : List ℕ) (n k i : ℕ) (places : List Place) → length places ≤ i
-    → map (λ p. field_of k (column_from octets n p)) (take i places)
-    ≡ map (field_of k) (map (column_from octets n) places)
-fields_all octets n k zero [] all = refl
-fields_all octets n k (suc i) [] all = refl
-fields_all octets n k zero (p ∷ ps) all = absurd (omega (arith, all))
-fields_all octets n k (suc i) (p ∷ ps) all =
-    ap (λ fs. field_of k (column_from octets n p) ∷ fs)
-    (fields_all octets n k i ps (omega (arith, all)))
 
 -- so the fields are those of the subset
 pub subset_end : (octets : List ℕ) (n k i : ℕ) (places : List Place) (fields : List Field)
@@ -46,7 +35,8 @@ pub subset_end : (octets : List ℕ) (n k i : ℕ) (places : List Place) (fields
     → ◌≡◌ {A = Subset} (record { fields = fields }) (subset_of columns k)
 subset_end octets n k i places fields columns view all is =
     let same : fields ≡ map (field_of k) columns =
-    is ∙ fields_all octets n k i places all ∙ ap (map (field_of k)) (sym view) in
+    is ∙ ap (map (λ p. field_of k (column_from octets n p))) (take_all i places all)
+    ∙ sym (map-map (field_of k) (column_from octets n) places) ∙ ap (map (field_of k)) (sym view) in
     λ t. record { fields = same t }
 
 -- ---- one value
@@ -56,7 +46,7 @@ zero_times : (k : ℕ) → 0 * k ≡ 0
 zero_times k = omega arith
 
 -- one more times a number
-next_times : (index k : ℕ) → suc index * k ≡ k + index * k
+pub next_times : (index k : ℕ) → suc index * k ≡ k + index * k
 next_times index k = omega arith
 
 -- the increment at an index has the value at this index
@@ -108,7 +98,7 @@ text_there octets k (suc index) (x ∷ own) (v ∷ vs) rest h short =
     let e : flat_map bits (x ∷ own) ++ rest ≡ bits x ++ (flat_map bits own ++ rest) =
     append_assoc (bits x) (flat_map bits own) rest in
     let is = text_octets octets k x v h.0 in
-    let size : length (bits x) ≡ k * 8 = length-bits x ∙ ap (λ n. n * 8) is.0 in
+    let size : length (bits x) ≡ k * 8 = length-fields 8 x ∙ ap (λ n. n * 8) is.0 in
     let first : drop (k * 8) (bits x ++ (flat_map bits own ++ rest)) ≡ flat_map bits own ++ rest =
     drop_at (bits x) (flat_map bits own ++ rest) (k * 8) size in
     let behind : drop (suc index * (k * 8)) (flat_map bits (x ∷ own) ++ rest)
@@ -144,7 +134,7 @@ one_value spec values column rest index (equal minimum form same is) short = rec
         spelt = ap (λ xs. xs ++ rest) is
             ∙ append_assoc (raw_bits spec.width minimum) (bin 6 0) rest;
       };
-  value = ap (λ v. Some v) (sym (value_is minimum values index same short));
+  value = ap (λ v. Some v) (sym (all_at (λ w. w ≡ minimum) values index (Number 0) same short));
 }
 one_value spec values column rest index
     (number_column minimum zero increments form some few each is) short = absurd

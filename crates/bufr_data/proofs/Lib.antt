@@ -1,6 +1,7 @@
 -- The proofs of the crate: facts of courses, fields, columns, walks and texts, for the clauses of
 -- reading and writing and for [`laws`]; those of each function stand in the folder of its file.
 pub mod AlikeFacts
+pub mod AnswerFacts
 pub mod BestFacts
 pub mod CauseFacts
 pub mod ColumnCourses
@@ -15,6 +16,8 @@ pub mod DigitTestFacts
 pub mod FitFacts
 pub mod IncrementFacts
 pub mod IndexFacts
+pub mod KindFacts
+pub mod ListFacts
 pub mod MisfitFacts
 pub mod OctetFacts
 pub mod OnLiterals
@@ -32,6 +35,7 @@ pub mod RefusalFacts
 pub mod RowFacts
 pub mod ShownFacts
 pub mod StartFacts
+pub mod StepFacts
 pub mod SubsetFacts
 pub mod ValueFacts
 pub mod WriteFacts

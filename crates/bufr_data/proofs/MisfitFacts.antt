@@ -2,9 +2,9 @@
 -- be: for the law on what messages know of data (`data_hold_subsets`).
 use Rattle.std.proofs.Common.{◌≡◌, ℕ, ◌+◌, Bool, true, false, cond, List, [], ◌∷◌, map, drop}
 use Rattle.std.proofs.Common.{Result, Ok, Err, refl, sym, ap, ◌∙◌, ◌⊎◌, inl, inr}
-use Rattle.std.specs.Prelude.{◌==◌, ◌&&◌, ◌||◌, not, nat_le}
+use Rattle.std.specs.Prelude.{◌&&◌, ◌||◌, not, nat_le}
 use Rattle.std.specs.List.{AllByRecursion, list_all}
-use Rattle.std.proofs.lemmas.Bool.{le-leb, leb-true, eq-eqb, eqb-true}
+use Rattle.std.proofs.lemmas.Bool.{and_from, and_parts, or_right, le-leb, leb-true, eq-eqb}
 use Rattle.bufr_tables.specs.declared.element.Kind.TheVariants as kinds
 use Rattle.bufr_tables.specs.Elements.{same_kind}
 use Rattle.bufr_tables.specs.AnswerLaws.{err_is}
@@ -19,9 +19,10 @@ use Rattle.bufr_data.specs.ColumnReading.{all_equal}
 use Rattle.bufr_data.specs.BestColumns.{can_be_column, widest, begins_like, first_raw, is_empty}
 use Rattle.bufr_data.specs.BestColumns.{column_or, columns_of}
 use Rattle.bufr_data.specs.ColumnCauses.{BeginsLike, CanBeColumn, same, narrow, FirstApart}
-use Rattle.bufr_data.specs.FormLaws.{same_spec_is, spec_is_same}
-use Rattle.bufr_data.proofs.PlainFacts.{and_first, and_second}
-use Rattle.bufr_data.proofs.ColumnWalks.{all_equal_is, all_equal_again, kind_is}
+use Rattle.bufr_data.specs.FormLaws.{spec_is_same}
+use Rattle.bufr_data.proofs.ColumnWalks.{all_equal_is, all_equal_again}
+use Rattle.bufr_data.proofs.KindFacts.{kinds_differ, other_kind}
+use Rattle.bufr_data.proofs.PackedFacts.{column_behind, like_is}
 
 -- a subset that begins like the first passes the test
 like_passes : (f : Field) (gs : List Field) → BeginsLike f gs → begins_like f gs ≡ true
@@ -30,14 +31,6 @@ like_passes f (g ∷ gs) h =
     let spec : same_spec g.spec f.spec ≡ true =
     ap (same_spec g.spec) (sym h.1) ∙ spec_is_same g.spec in
     rw (eq-eqb f.fxy g.fxy h.0, spec) refl
-
--- and one that passes begins like it
-like_is : (f : Field) (gs : List Field) → begins_like f gs ≡ true → BeginsLike f gs
-like_is f [] e = absurd cc
-like_is f (g ∷ gs) e = (
-  eqb-true _ _ (and_first (f.fxy == g.fxy) (same_spec g.spec f.spec) e),
-  same_spec_is _ _ (and_second (f.fxy == g.fxy) (same_spec g.spec f.spec) e),
-)
 
 -- subsets that all begin like the first pass
 all_like_pass : (f : Field) (others : List (List Field)) → AllByRecursion (BeginsLike f) others
@@ -49,21 +42,9 @@ all_like_pass f (gs ∷ others) h = rw (like_passes f gs h.0, all_like_pass f ot
 all_like_is : (f : Field) (others : List (List Field)) → list_all (begins_like f) others ≡ true
     → AllByRecursion (BeginsLike f) others
 all_like_is f [] e = tt
-all_like_is f (gs ∷ others) e = (
-  like_is f gs (and_first (begins_like f gs) (list_all (begins_like f) others) e),
-  all_like_is f others (and_second (begins_like f gs) (list_all (begins_like f) others) e),
-)
-
--- a kind that is no factor's is not told one
-no_count_by : (spec : Spec) (b : Bool) → same_kind spec.kind kinds.Count ≡ b
-    → (spec.kind ≡ kinds.Count → ⊥) → b ≡ false
-no_count_by spec true e other = absurd (other (kind_is spec.kind e))
-no_count_by spec false e other = refl
-
--- the second of two that is true is enough
-or_right : (a b : Bool) → b ≡ true → (a || b) ≡ true
-or_right true b e = refl
-or_right false b e = e
+all_like_is f (gs ∷ others) e =
+    let p = and_parts (begins_like f gs) (list_all (begins_like f) others) e in
+    (like_is f gs p.0, all_like_is f others p.1)
 
 -- values that can be a column pass the test
 pub can_passes : (spec : Spec) (values : List Raw) → CanBeColumn spec values
@@ -71,10 +52,7 @@ pub can_passes : (spec : Spec) (values : List Raw) → CanBeColumn spec values
 can_passes spec values (same v all) = rw (all_equal_again v values all) refl
 can_passes spec values (narrow other short) =
     let inner : (not (same_kind spec.kind kinds.Count) && nat_le (widest spec) 63) ≡ true =
-    rw (
-      no_count_by spec (same_kind spec.kind kinds.Count) refl other,
-      le-leb (widest spec) 63 short,
-    ) refl in
+    rw (other_kind spec.kind kinds.Count other, le-leb (widest spec) 63 short) refl in
     or_right (all_equal values)
     (not (same_kind spec.kind kinds.Count) && nat_le (widest spec) 63) inner
 
@@ -85,10 +63,7 @@ can_is_by : (spec : Spec) (values : List Raw) (b c : Bool) → all_equal values 
 can_is_by spec values true c e k can = let h = all_equal_is values e in same h.0 h.1
 can_is_by spec values false true e k can = absurd cc
 can_is_by spec values false false e k can =
-    narrow
-    (λ is. let yes : same_kind spec.kind kinds.Count
-    ≡ true =
-    ap (λ x. same_kind x kinds.Count) is in let bad = sym yes ∙ k in cc) (leb-true _ _ can)
+    narrow (kinds_differ spec.kind kinds.Count k) (leb-true _ _ can)
 
 -- and values that pass can be a column
 can_is : (spec : Spec) (values : List Raw) → can_be_column spec values ≡ true
@@ -127,10 +102,6 @@ column_err i true c (Ok cs) fault e = absurd cc
 column_err i true c (Err g) fault e = inr (refl, ap (λ f. Err f) (err_is _ _ e))
 column_err i false c others fault e = inl (refl, sym (err_is _ _ e))
 
--- two truths are one
-both_true : (a b : Bool) → a ≡ true → b ≡ true → (a && b) ≡ true
-both_true a b ea eb = rw ea eb
-
 -- the fault of columns is that of the first place at which subsets are apart
 pub columns_apart : (i : ℕ) (fs : List Field) (others : List (List Field)) (fault : WriteFault)
     → columns_of i fs others ≡ Err fault → FirstApart i fs others fault
@@ -143,7 +114,7 @@ columns_apart i (f ∷ fs) others fault e =
     (f.raw ∷ map first_raw others)) _ _ fault e) [
       | inl none ↦
           inl (
-            (λ h. let yes = both_true _ _ (all_like_pass f others h.0)
+            (λ h. let yes = and_from _ _ (all_like_pass f others h.0)
                 (can_passes f.spec (f.raw ∷ map first_raw others) h.1) in let bad = sym yes
                 ∙ none.0 in cc),
             none.1,
@@ -151,9 +122,9 @@ columns_apart i (f ∷ fs) others fault e =
       | inr one ↦
           inr (
             (
-              all_like_is f others (and_first _ _ one.0),
+              all_like_is f others (and_parts _ _ one.0).0,
               can_is f.spec (f.raw ∷ map first_raw others)
-                  (and_second (list_all (begins_like f) others) _ one.0),
+                  (and_parts (list_all (begins_like f) others) _ one.0).1,
             ),
             columns_apart (i + 1) fs (map (drop 1) others) fault one.1,
           )
@@ -165,11 +136,6 @@ apart_by : (i : ℕ) (b : Bool) (c : Column) (others : Result (List Column) Writ
     → column_or i b c others ≡ Err fault
 apart_by i true c others fault none is = absurd (none refl)
 apart_by i false c others fault none is = ap (λ f. Err f) (sym is)
-
--- so is one behind a place at which they are not
-apart_behind : (i : ℕ) (b : Bool) (c : Column) (others : Result (List Column) WriteFault)
-    (fault : WriteFault) → b ≡ true → others ≡ Err fault → column_or i b c others ≡ Err fault
-apart_behind i b c others fault is e = rw (is, e) refl
 
 -- so is a subset that has more fields
 ended_again : (i : ℕ) (others : List (List Field)) (b : Bool) (fault : WriteFault)
@@ -190,14 +156,14 @@ apart_columns i (f ∷ fs) others fault (inl h) =
     (list_all (begins_like f) others && can_be_column f.spec
     (f.raw ∷ map first_raw others)) _ _ fault
     (λ e. h.0 (
-      all_like_is f others (and_first _ _ e),
+      all_like_is f others (and_parts _ _ e).0,
       can_is f.spec (f.raw ∷ map first_raw others)
-          (and_second (list_all (begins_like f) others) _ e),
+          (and_parts (list_all (begins_like f) others) _ e).1,
     )) h.1
 apart_columns i (f ∷ fs) others fault (inr h) =
-    apart_behind i
+    column_behind i
     (list_all (begins_like f) others && can_be_column f.spec
     (f.raw ∷ map first_raw others)) _ _ fault
-    (both_true _ _ (all_like_pass f others h.0.0)
+    (and_from _ _ (all_like_pass f others h.0.0)
     (can_passes f.spec (f.raw ∷ map first_raw others) h.0.1))
     (apart_columns (i + 1) fs (map (drop 1) others) fault h.1)

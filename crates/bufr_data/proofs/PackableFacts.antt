@@ -1,10 +1,9 @@
 -- Which compressed subsets a writer can write: for the law on what messages know of data
 -- (`data_hold_subsets`).
-use Rattle.std.proofs.Common.{◌≡◌, ℕ, suc, ◌*◌, ◌≤◌, Bool, true, false, List, [], ◌∷◌, length, map}
-use Rattle.std.proofs.Common.{refl, sym, ap, subst, ◌∙◌, ◌⊎◌, inl, inr}
+use Rattle.std.proofs.Common.{◌≡◌, ℕ, suc, ◌*◌, ◌≤◌, Bool, true, List, [], ◌∷◌, length, map, refl}
+use Rattle.std.proofs.Common.{sym, ap, subst, ◌∙◌, inl, inr}
 use Rattle.std.specs.List.{AllByRecursion}
 use Rattle.std.proofs.lemmas.List.{length-map}
-use Rattle.bufr_tables.specs.declared.element.Kind.{Kind}
 use Rattle.bufr_tables.specs.declared.element.Kind.TheVariants as kinds
 use Rattle.bufr_tables.specs.Elements.{same_kind}
 use Rattle.bufr_expand.specs.Trees.{Tree}
@@ -15,12 +14,11 @@ use Rattle.bufr_data.specs.BestColumns.{widest, can_be_column, CanBeWritten, bes
 use Rattle.bufr_data.specs.ColumnCauses.{same, narrow}
 use Rattle.bufr_data.specs.Data.{PackedDataCanBeBare, NarrowDataCanBePacked}
 use Rattle.bufr_data.proofs.MisfitFacts.{can_passes}
-use Rattle.bufr_data.proofs.ColumnWalks.{kind_is}
+use Rattle.std.proofs.lemmas.Bool.{cases_Bool}
+use Rattle.bufr_data.specs.FormLaws.{same_kind_is}
+use Rattle.bufr_data.proofs.KindFacts.{kinds_differ}
+use Rattle.bufr_data.proofs.PackedFacts.{cons_head}
 use Rattle.bufr_data.specs.Limits.{most_values}
-
--- equal lists begin with the same
-head_is : (s t : Subset) (ss ts : List Subset) → s ∷ ss ≡ t ∷ ts → s ≡ t
-head_is s t ss ts e = cc
 
 -- columns of the same subsets are as many
 as_many : (s : Subset) (subsets : List Subset) (n m : ℕ) (a b : List Column)
@@ -28,7 +26,7 @@ as_many : (s : Subset) (subsets : List Subset) (n m : ℕ) (a b : List Column)
     → length a ≡ length b
 as_many s subsets n m a b e f =
     let fields : map (field_of 0) a ≡ map (field_of 0) b =
-    ap (λ (t : Subset). t.fields) (sym (head_is _ _ _ _ e) ∙ head_is _ _ _ _ f) in
+    ap (λ (t : Subset). t.fields) (sym (cons_head _ _ _ _ e) ∙ cons_head _ _ _ _ f) in
     sym (length-map a (field_of 0)) ∙ ap (λ (fs : List Field). length fs) fields
     ∙ length-map b (field_of 0)
 
@@ -43,22 +41,16 @@ packed_can_be_bare tree (s ∷ subsets) columns data_bits h can =
     subst (λ k. k * length (s ∷ subsets) ≤ most_values) many h.1.2 in
     (best_bits columns, (h.0, columns, (can.0, room, can.1), refl))
 
--- a kind is a factor's or is not
-kind_decides : (k : Kind) (b : Bool) → same_kind k kinds.Count ≡ b
-    → (k ≡ kinds.Count) ⊎ (k ≡ kinds.Count → ⊥)
-kind_decides k true e = inl (kind_is k e)
-kind_decides k false e =
-    inr
-    (λ is. let bad : same_kind k kinds.Count ≡ true = ap (λ x. same_kind x kinds.Count) is in
-    absurd (let worse = sym bad ∙ e in cc))
-
 -- a column of a narrow field can be written
 narrow_column : (c : Column) → HaveOneCount c → widest c.spec ≤ 63
     → can_be_column c.spec c.values ≡ true
 narrow_column c one short =
-    elim (kind_decides c.spec.kind (same_kind c.spec.kind kinds.Count) refl) [
-      | inl is ↦ let v = one is in can_passes c.spec c.values (same v.0 v.1)
-      | inr other ↦ can_passes c.spec c.values (narrow other short)
+    elim (cases_Bool (same_kind c.spec.kind kinds.Count)) [
+      | inl is ↦
+          let v = one (same_kind_is c.spec.kind kinds.Count is) in
+          can_passes c.spec c.values (same v.0 v.1)
+      | inr other ↦
+          can_passes c.spec c.values (narrow (kinds_differ c.spec.kind kinds.Count other) short)
     ]
 
 -- so can all columns of narrow fields
@@ -75,7 +67,7 @@ pub narrow_can_be_packed : (tree : Tree) (subsets : List Subset) (data_bits : Li
 narrow_can_be_packed tree [] data_bits h short = ([], (refl, tt))
 narrow_can_be_packed tree (s ∷ subsets) data_bits h short =
     let fields : s.fields ≡ map (field_of 0) h.1.0 =
-    ap (λ (t : Subset). t.fields) (head_is _ _ _ _ h.1.1) in (
+    ap (λ (t : Subset). t.fields) (cons_head _ _ _ _ h.1.1) in (
       h.1.0,
       (
         h.1.1,

@@ -5,7 +5,7 @@ use Rattle.std.proofs.Common.{[], ◌∷◌, ◌++◌, length, map, drop, get_or
 use Rattle.std.proofs.Common.{ap, subst, ◌∙◌, arith}
 use Rattle.std.specs.Prelude.{◌==◌, ◌&&◌, nat_lt}
 use Rattle.std.specs.List.{AllByRecursion, flat_map, list_all}
-use Rattle.std.proofs.lemmas.Bool.{ltb-false, eqb-true}
+use Rattle.std.proofs.lemmas.Bool.{and_parts, ltb-false, eqb-true}
 use Rattle.std.proofs.lemmas.List.{length-map, get_or-map}
 use Rattle.bufr_tables.specs.Answers.{result_map}
 use Rattle.bufr_tables.specs.AnswerLaws.{bind_ok, guard_ok, ok_is}
@@ -25,7 +25,9 @@ use Rattle.bufr_data.specs.ColumnReading.{ColumnsFound, columns_at}
 use Rattle.bufr_data.specs.BestColumns.{best, can_be_column, begins_like, first_raw, is_empty}
 use Rattle.bufr_data.specs.BestColumns.{column_or, columns_of, columns_of_all, packed}
 use Rattle.bufr_data.specs.Data.{BeginsWithData, subsets_in, each_fits, written_bits}
-use Rattle.bufr_data.proofs.PlainFacts.{and_first, and_second}
+use Rattle.std.proofs.lemmas.List.Elements.{All-from_get_or, recursion_from_All}
+use Rattle.bufr_data.specs.ColumnCauses.{BeginsLike}
+use Rattle.bufr_data.proofs.AnswerFacts.{map_ok}
 use Rattle.bufr_data.proofs.FitFacts.{counted_fit, fitting_counted}
 use Rattle.bufr_expand.specs.Steady.{course_steady}
 use Rattle.bufr_data.proofs.ColumnWalks.{AllForm, columns_again, columns_found}
@@ -40,12 +42,6 @@ use Rattle.bufr_data.specs.CourseLaws.{AreUnrolled, AreAllowed}
 pub length-from : (k n : ℕ) (columns : List Column) → length (subsets_from k n columns) ≡ n
 length-from k zero columns = refl
 length-from k (suc n) columns = ap suc (length-from (k + 1) n columns)
-
--- what is answered of a mapped answer was answered before
-pub map_ok : {A B F : Type 0} (f : A → B) (o : Result A F) (y : B) → result_map f o ≡ Ok y
-    → (x : A) × (o ≡ Ok x) × (f x ≡ y)
-map_ok f (Ok x) y e = (x, refl, ok_is _ _ e)
-map_ok f (Err g) y e = absurd cc
 
 -- each of the subsets of columns fits
 fit_from : AreUnrolled → (tree : Tree) (n k m : ℕ) (columns : List Column) (items : ℕ) → k + m ≤ n
@@ -94,7 +90,7 @@ compressed_stand law tree (suc n) front found e =
     )
 
 -- equal lists begin with the same
-cons_head : (s t : Subset) (ss ts : List Subset) → s ∷ ss ≡ t ∷ ts → s ≡ t
+pub cons_head : (s t : Subset) (ss ts : List Subset) → s ∷ ss ≡ t ∷ ts → s ≡ t
 cons_head s t ss ts e = cc
 
 -- the step of `compressed_read`: some subset
@@ -149,21 +145,25 @@ like_at : (f : Field) (others : List (List Field)) (k : ℕ) → list_all (begin
     → k < length others → begins_like f (get_or others k []) ≡ true
 like_at f [] k e short = absurd (omega (arith, short))
 like_at f (fs ∷ others) zero e short =
-    and_first (begins_like f fs) (list_all (begins_like f) others) e
+    (and_parts (begins_like f fs) (list_all (begins_like f) others) e).0
 like_at f (fs ∷ others) (suc k) e short =
-    like_at f others k (and_second (begins_like f fs) (list_all (begins_like f) others) e)
+    like_at f others k (and_parts (begins_like f fs) (list_all (begins_like f) others) e).1
     (omega (arith, short))
 
--- such a subset begins with the first's descriptor and spec, and a value of its own
-like_is : (f : Field) (fs : List Field) → begins_like f fs ≡ true
-    → fs ≡ record { fxy = f.fxy; spec = f.spec; raw = first_raw fs } ∷ drop 1 fs
+-- such a subset begins with the first's descriptor and spec
+pub like_is : (f : Field) (gs : List Field) → begins_like f gs ≡ true → BeginsLike f gs
 like_is f [] e = absurd cc
 like_is f (g ∷ gs) e =
-    let same_d : f.fxy ≡ g.fxy =
-    eqb-true _ _ (and_first (f.fxy == g.fxy) (same_spec g.spec f.spec) e) in
-    let same_s : g.spec ≡ f.spec =
-    same_spec_is _ _ (and_second (f.fxy == g.fxy) (same_spec g.spec f.spec) e) in
-    λ i. (record { fxy = sym same_d i; spec = same_s i; raw = g.raw }) ∷ gs
+    let p = and_parts (f.fxy == g.fxy) (same_spec g.spec f.spec) e in
+    (eqb-true _ _ p.0, same_spec_is _ _ p.1)
+
+-- and then with a value of its own
+own_value : (f : Field) (fs : List Field) → begins_like f fs ≡ true
+    → fs ≡ record { fxy = f.fxy; spec = f.spec; raw = first_raw fs } ∷ drop 1 fs
+own_value f [] e = absurd cc
+own_value f (g ∷ gs) e =
+    let like = like_is f (g ∷ gs) e in
+    λ i. (record { fxy = sym like.0 i; spec = like.1 i; raw = g.raw }) ∷ gs
 
 -- one place of all subsets was taken into a column
 pub record Taken (i : ℕ) (f : Field) (fs : List Field) (others : List (List Field))
@@ -183,6 +183,16 @@ column_taken i true c (Ok cs) columns e = (cs, refl, refl, sym (ok_is _ _ e))
 column_taken i true c (Err g) columns e = absurd cc
 column_taken i false c others columns e = absurd cc
 
+-- behind a place that is a column, the columns are this one and the others
+pub column_passes : (i : ℕ) (b : Bool) (c : Column) (others : Result (List Column) WriteFault)
+    (cs : List Column) → b ≡ true → others ≡ Ok cs → column_or i b c others ≡ Ok (c ∷ cs)
+column_passes i b c others cs e f = rw (e, f) refl
+
+-- and the fault is a later one
+pub column_behind : (i : ℕ) (b : Bool) (c : Column) (others : Result (List Column) WriteFault)
+    (fault : WriteFault) → b ≡ true → others ≡ Err fault → column_or i b c others ≡ Err fault
+column_behind i b c others fault e f = rw (e, f) refl
+
 -- what is known where a place is a column
 pub taken : (i : ℕ) (f : Field) (fs : List Field) (others : List (List Field))
     (columns : List Column) → columns_of i (f ∷ fs) others ≡ Ok columns
@@ -193,14 +203,8 @@ taken i f fs others columns e =
     column_taken i
     (list_all (begins_like f) others && can_be_column f.spec (f.raw ∷ map first_raw others)) _
     (columns_of (i + 1) fs (map (drop 1) others)) columns e in
-    record {
-      behind = h.0;
-      is = h.3;
-      like = and_first _ _ h.1;
-      can = and_second
-          (list_all (begins_like f) others) _ h.1;
-      rest = h.2;
-    }
+    let p = and_parts (list_all (begins_like f) others) _ h.1 in
+    record { behind = h.0; is = h.3; like = p.0; can = p.1; rest = h.2 }
 
 -- the step of `none_taken`
 none_taken_by : (i : ℕ) (b : Bool) (columns : List Column)
@@ -236,7 +240,7 @@ rows i (f ∷ fs) others columns e (suc k) short =
     let behind =
     rows (i + 1) fs (map (drop 1) others) h.behind h.rest (suc k)
     (omega (arith, inside, many)) in
-    let here = like_is f (get_or others k []) (like_at f others k h.like inside) in
+    let here = own_value f (get_or others k []) (like_at f others k h.like inside) in
     let own : get_or (map first_raw others) k (Number 0) ≡ first_raw (get_or others k []) =
     get_or-map first_raw others k [] (Number 0) inside in
     let after : drop 1 (get_or others k []) ≡ map (field_of (suc k)) h.behind =
@@ -259,6 +263,17 @@ each_row k (s ∷ subsets) columns h =
     ∙ ap (λ n. map (field_of n) columns) (omega arith)) in
     λ t. (record { fields = here t }) ∷ others t
 
+-- so subsets whose places are columns are the subsets of these
+pub columns_whole : (s : Subset) (subsets : List Subset) (columns : List Column)
+    → columns_of 1 s.fields (map (λ (t : Subset). t.fields) subsets) ≡ Ok columns
+    → s ∷ subsets ≡ subsets_from 0 (length (s ∷ subsets)) columns
+columns_whole s subsets columns e =
+    let others = map (λ (t : Subset). t.fields) subsets in
+    let many : length others ≡ length subsets = length-map subsets (λ (t : Subset). t.fields) in
+    each_row 0 (s ∷ subsets) columns (λ l short.
+    rows 1 s.fields others columns e l (omega (arith, short, many))
+    ∙ ap (λ n. map (field_of n) columns) (omega arith))
+
 -- ---- writing
 
 -- each raw value has its spec's form
@@ -273,9 +288,8 @@ Formed n columns = (k : ℕ) → k < n → AreFormed (map (field_of k) columns)
 all_formed : (spec : Spec) (values : List Raw)
     → ((k : ℕ) → k < length values → HasForm spec (get_or values k (Number 0)))
     → AllForm spec values
-all_formed spec [] h = tt
-all_formed spec (v ∷ vs) h =
-    (h 0 (omega arith), all_formed spec vs (λ k short. h (suc k) (omega (arith, short))))
+all_formed spec values h =
+    recursion_from_All (HasForm spec) values (All-from_get_or (HasForm spec) values (Number 0) h)
 
 -- the best columns of places are columns
 are_columns : (i : ℕ) (fs : List Field) (others : List (List Field)) (columns : List Column)
@@ -343,10 +357,6 @@ written_pack tree s subsets columns content fit e p =
     let others = map (λ (t : Subset). t.fields) subsets in
     let many : length others ≡ length subsets = length-map subsets (λ (t : Subset). t.fields) in
     let row = rows 1 s.fields others columns e in
-    let whole =
-    each_row 0 (s ∷ subsets) columns
-    (λ l short. row l (omega (arith, short, many))
-    ∙ ap (λ n. map (field_of n) columns) (omega arith)) in
     let formed : Formed (1 + length others) columns =
     λ k short. subst AreFormed (row k short)
     (formed_at tree (s ∷ subsets) k fit (omega (arith, short, many))) in
@@ -355,7 +365,7 @@ written_pack tree s subsets columns content fit e p =
     let g = guard_ok (nat_lt most_values (length columns * length (s ∷ subsets))) _ _ content p in
     let bits_are = ok_is _ _ g.1 in (
       columns,
-      whole,
+      columns_whole s subsets columns e,
       ltb-false _ _ g.0,
       subst (λ b. AreColumns (length (s ∷ subsets)) columns b) bits_are
           (subst

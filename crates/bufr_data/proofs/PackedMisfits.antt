@@ -5,7 +5,6 @@ use Rattle.std.proofs.Common.{Ok, Err, refl, sym, ap, subst, ◌∙◌, arith, i
 use Rattle.std.specs.Prelude.{nat_lt}
 use Rattle.std.specs.List.{AllByRecursion}
 use Rattle.std.proofs.lemmas.Bool.{lt-ltb, ltb-true}
-use Rattle.std.proofs.lemmas.List.{length-map}
 use Rattle.bufr_tables.specs.AnswerLaws.{bind_err}
 use Rattle.bufr_expand.specs.Trees.{Tree}
 use Rattle.bufr_expand.specs.Courses.{course}
@@ -14,7 +13,7 @@ use Rattle.bufr_data.specs.declared.fault.WriteFault.{WriteFault}
 use Rattle.bufr_data.specs.declared.fault.WriteFault.TheVariants as misfits
 use Rattle.bufr_data.specs.Plain.{items_of}
 use Rattle.bufr_data.specs.Causes.{FirstMisfit}
-use Rattle.bufr_data.specs.Columns.{Column, field_of, subsets_from}
+use Rattle.bufr_data.specs.Columns.{Column, subsets_from}
 use Rattle.bufr_data.specs.BestColumns.{columns_of, columns_of_all, packed, CanBeWritten}
 use Rattle.bufr_data.specs.Data.{each_fits, written_bits}
 use Rattle.bufr_data.specs.Fits.{FitsAlone}
@@ -22,8 +21,8 @@ use Rattle.bufr_data.specs.ColumnCauses.{FirstUnpacked, misfit, apart, too_many}
 use Rattle.bufr_data.proofs.FitFacts.{counted_fit, fitting_counted}
 use Rattle.bufr_data.proofs.CauseFacts.{write_refused_first, first_write_refused}
 use Rattle.bufr_data.proofs.ColumnRefusals.{guard_err}
-use Rattle.bufr_data.proofs.PackedFacts.{rows, each_row, each_fit}
-use Rattle.bufr_data.proofs.WrittenColumns.{all_can, columns_written, each_counted}
+use Rattle.bufr_data.proofs.PackedFacts.{columns_whole, each_fit}
+use Rattle.bufr_data.proofs.WrittenColumns.{subsets_can, columns_written, each_counted}
 use Rattle.bufr_data.proofs.MisfitFacts.{columns_apart, apart_columns}
 use Rattle.bufr_data.specs.Limits.{most_values}
 use Rattle.bufr_data.specs.CourseLaws.{Laws}
@@ -86,19 +85,10 @@ too_many_err : (tree : Tree) (s : Subset) (subsets : List Subset) (columns : Lis
     → columns_of 1 s.fields (map (λ (t : Subset). t.fields) subsets) ≡ Ok columns
     → packed (length (s ∷ subsets)) columns ≡ Err fault → FirstUnpacked tree (s ∷ subsets) fault
 too_many_err tree s subsets columns fault fit e p =
-    let others = map (λ (t : Subset). t.fields) subsets in
-    let many : length others ≡ length subsets = length-map subsets (λ (t : Subset). t.fields) in
-    let row = rows 1 s.fields others columns e in
-    let whole =
-    each_row 0 (s ∷ subsets) columns
-    (λ l short. row l (omega (arith, short, many))
-    ∙ ap (λ n. map (field_of n) columns) (omega arith)) in
-    let size : 1 + length others ≡ length (s ∷ subsets) = omega (arith, many) in
     elim (guard_err (nat_lt most_values (length columns * length (s ∷ subsets))) _ fault _ p) [
       | inl past ↦
-          too_many columns fit (omega arith) whole
-          (subst (λ l. AllByRecursion (CanBeWritten l) columns) size
-          (all_can 1 s.fields others columns e)) (ltb-true _ _ past.0) (sym past.1)
+          too_many columns fit (omega arith) (columns_whole s subsets columns e)
+          (subsets_can s subsets columns e) (ltb-true _ _ past.0) (sym past.1)
       | inr ok ↦ let bad = ok.1 in absurd cc
     ]
 

@@ -1,9 +1,9 @@
 -- What is known of a column over which the index moves without reading its values: for the index of
 -- compressed data (`Columns::index`).
 use Rattle.std.proofs.Common.{◌≡◌, ℕ, zero, suc, ◌+◌, ◌-◌, ◌*◌, ◌/◌, ◌^◌, ◌<◌, ◌≤◌, Bool, true}
-use Rattle.std.proofs.Common.{false, cond, List, [], ◌∷◌, length, map, drop, replicate, Option}
-use Rattle.std.proofs.Common.{Some, None, Result, Ok, Err, refl, sym, ap, ◌∙◌, arith, inl, inr}
-use Rattle.std.specs.Prelude.{◌==◌, ◌&&◌, not, option_map}
+use Rattle.std.proofs.Common.{false, List, [], ◌∷◌, length, map, drop, replicate, Option, Some}
+use Rattle.std.proofs.Common.{None, Result, Ok, Err, refl, sym, ap, ◌∙◌, arith, inl, inr}
+use Rattle.std.specs.Prelude.{◌==◌, option_map}
 use Rattle.std.specs.List.{AllByRecursion}
 use Rattle.std.proofs.lemmas.Bool.{cases_lt, le-ltb, lt-ltb, eqb-false}
 use Rattle.std.proofs.lemmas.List.{drop-drop, length-drop}
@@ -22,8 +22,11 @@ use Rattle.bufr_data.specs.Plain.{raw_at_by, raw_at, field_number_at}
 use Rattle.bufr_data.specs.ColumnReading.{or_ends, raised, all_raised, all_equal, count_of, filled}
 use Rattle.bufr_data.specs.ColumnReading.{texts_at, values_at, column_at, agreeing}
 use Rattle.bufr_data.specs.PassedColumns.{head_at, PassesColumn, PassesFactor, AreRaised, agreed_at}
-use Rattle.bufr_data.proofs.ColumnWalks.{all_equal_again}
-use Rattle.bufr_data.proofs.ColumnFacts.{replicate_equal, strictly}
+use Rattle.bufr_data.proofs.ColumnWalks.{agreeing_again, all_equal_again, all_equal_is}
+use Rattle.std.proofs.Math.Arith.{lt_of_le-ne}
+use Rattle.bufr_data.specs.FormLaws.{same_kind_is}
+use Rattle.bufr_data.proofs.IndexFacts.{next_times}
+use Rattle.bufr_data.proofs.ListFacts.{all_replicated}
 
 -- the bits of texts, in either order of the factors
 pub times_is : (a b k n : ℕ) → a ≡ k → b ≡ n → 8 * a * b ≡ n * (k * 8)
@@ -50,10 +53,6 @@ octets_some : (m : ℕ) (front : List Bool) → m * 8 ≤ length front
     → octets_at m front ≡ Some (numbers m 8 front, drop (m * 8) front)
 unfolding numbers_at
 octets_some m front long = rw (le-ltb _ _ long) refl
-
--- one more times a number
-next_times : (n w : ℕ) → suc n * w ≡ w + n * w
-next_times n w = omega arith
 
 -- too few bits have no such texts
 texts_none : (n k : ℕ) (front : List Bool) → length front < n * (k * 8) → texts_at n k front ≡ None
@@ -297,7 +296,8 @@ raised_there : (width m k x : ℕ) (t : Bool) → (x + 1 == 2 ^ k) ≡ t → x <
 raised_there width m k x true e below narrow = (Number (2 ^ width - 1), rw e refl)
 raised_there width m k x false e below narrow =
     let other : x + 1 ≡ 2 ^ k → ⊥ = eqb-false (x + 1) (2 ^ k) e in
-    let less : x + 1 < 2 ^ k = strictly (x + 1) (2 ^ k) (omega (arith, below)) other in
+    let le : x + 1 ≤ 2 ^ k = omega (arith, below) in
+    let less : x + 1 < 2 ^ k = lt_of_le-ne le other in
     let room : m + x < 2 ^ width = omega (arith, less, narrow) in
     (Number (m + x), rw (e, lt-ltb (m + x) (2 ^ width) room) refl)
 
@@ -324,22 +324,12 @@ numbers_pass n i spec front m k rest last other e some long narrow behind =
 
 -- a factor's kind is no text's
 pub no_text : (kind : Kind) → same_kind kind kinds.Count ≡ true → same_kind kind kinds.Text ≡ false
-no_text kinds.Text is = absurd cc
-no_text kinds.Code is = absurd cc
-no_text kinds.Flag is = absurd cc
-no_text kinds.Quantity is = absurd cc
-no_text kinds.Count is = refl
+no_text kind is = ap (λ k. same_kind k kinds.Text) (same_kind_is kind kinds.Count is)
 
 -- a fault of a column is one of its factor
 pub factor_refused : (n i : ℕ) (spec : Spec) (front : List Bool) (fault : ReadFault)
     → column_at n i spec front ≡ Err fault → agreed_at n i spec front ≡ Err fault
 factor_refused n i spec front fault e = ap (λ r. r >>= agreeing i spec) e
-
--- equal values agree
-agreeing_equal : (b : Bool) (i : ℕ) (x : List Raw × List Bool) → all_equal x.0 ≡ true
-    → cond (b && not (all_equal x.0)) (Err (faults.UnequalCounts i)) (Ok x) ≡ Ok x
-agreeing_equal true i x e = rw e refl
-agreeing_equal false i x e = refl
 
 -- a factor's column of equal values is read
 factor_read : (n i : ℕ) (spec : Spec) (front : List Bool) (values : List Raw) (last : List Bool)
@@ -347,7 +337,7 @@ factor_read : (n i : ℕ) (spec : Spec) (front : List Bool) (values : List Raw) 
     → agreed_at n i spec front ≡ Ok (values, last)
 factor_read n i spec front values last e same =
     ap (λ r. r >>= agreeing i spec) e
-    ∙ agreeing_equal (same_kind spec.kind kinds.Count) i (values, last) same
+    ∙ agreeing_again i spec (values, last) (λ is. all_equal_is values same)
 
 -- the number of one value so many times
 count_replicated : (n m : ℕ) → 0 < n → count_of (replicate n (Number m)) ≡ m
@@ -362,7 +352,8 @@ factor_equal n i spec front m k rest count some e none =
     let found = numbers_equal n i spec front m k rest (no_text spec.kind count) e none in (
       replicate n (Number m),
       factor_read n i spec front (replicate n (Number m)) rest found
-          (all_equal_again (Number m) (replicate n (Number m)) (replicate_equal n (Number m))),
+          (all_equal_again (Number m) (replicate n (Number m))
+          (all_replicated (λ v. v ≡ Number m) n (Number m) refl)),
       count_replicated n m some,
     )
 

@@ -4,9 +4,8 @@ use Rattle.std.proofs.Common.{◌≡◌, ℕ, ◌+◌, ◌*◌, ◌/◌, ◌<◌
 use Rattle.std.proofs.Common.{◌++◌, length, take, drop, Some, None, Result, Ok, Err, refl, sym, ap}
 use Rattle.std.proofs.Common.{◌∙◌, arith}
 use Rattle.std.specs.Prelude.{option_map}
-use Rattle.std.proofs.lemmas.Bool.{le-ltb, lt-ltb, le-leb, lt-leb}
+use Rattle.std.proofs.lemmas.Bool.{le-ltb, lt-ltb, le-leb}
 use Rattle.bufr_bits.specs.Bits.{number, number_at}
-use Rattle.bufr_tables.specs.declared.element.Kind.{Kind}
 use Rattle.bufr_tables.specs.declared.element.Kind.TheVariants as kinds
 use Rattle.bufr_tables.specs.Elements.{same_kind}
 use Rattle.bufr_expand.specs.declared.operators.Spec.{Spec}
@@ -17,7 +16,8 @@ use Rattle.bufr_expand.specs.Courses.{Course}
 use Rattle.bufr_data.specs.declared.field.Field.{Field}
 use Rattle.bufr_data.specs.Plain.{SubsetRead, raw_at, field_number_at, fields_at}
 use Rattle.bufr_data.specs.Reads.{raw_or_ends, behind_fields}
-use Rattle.bufr_data.specs.Starts.{PassesRaw, PassesField, PassesSubset}
+use Rattle.bufr_data.specs.Starts.{PassesRaw, PassesField}
+use Rattle.bufr_data.proofs.KindFacts.{other_kind}
 use Rattle.bufr_data.proofs.ReadFacts.{behind_more}
 use Rattle.bufr_data.proofs.PassFacts.{number_raw, minimum_there, octets_none, text_raw}
 
@@ -26,14 +26,6 @@ use Rattle.bufr_data.proofs.PassFacts.{number_raw, minimum_there, octets_none, t
 -- a spec of no text
 abbrev IsOther : Spec → Type 0
 IsOther spec = spec.kind ≡ kinds.Text → ⊥
-
--- its kind is told no text's
-other_kind : (kind : Kind) → (kind ≡ kinds.Text → ⊥) → same_kind kind kinds.Text ≡ false
-other_kind kinds.Text other = absurd (other refl)
-other_kind kinds.Code other = refl
-other_kind kinds.Flag other = refl
-other_kind kinds.Quantity other = refl
-other_kind kinds.Count other = refl
 
 -- eight times in either order
 eight_times : (b w : ℕ) → b ≡ 8 * w → b ≡ w * 8
@@ -107,7 +99,7 @@ number_passes i spec front rest b other few size enough behind =
     let same : drop spec.width front ≡ rest = sym (behind ∙ ap (λ w. drop w front) size) in (
       _,
       number_taken i spec front rest (number (take spec.width front))
-          (other_kind spec.kind other) few
+          (other_kind spec.kind kinds.Text other) few
           (number_found spec.width front long
           ∙ ap (λ xs. Some (number (take spec.width front), xs)) same),
     )
@@ -118,7 +110,7 @@ pub number_ends : (i : ℕ) (spec : Spec) (front : List Bool) (b : ℕ) → IsOt
     → raw_or_ends 1 i (raw_at spec front) ≡ Err (faults.DataEnds 1 i)
 number_ends i spec front b other few size short =
     let less : length front < spec.width = omega (arith, size, short) in
-    number_short i spec front (other_kind spec.kind other) few
+    number_short i spec front (other_kind spec.kind kinds.Text other) few
     (number_missing spec.width front less)
 
 -- ---- field after field

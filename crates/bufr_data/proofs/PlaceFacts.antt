@@ -2,25 +2,21 @@
 -- of compressed data (`Columns::index`).
 use Rattle.std.proofs.Common.{◌≡◌, ℕ, zero, suc, ◌+◌, ◌*◌, ◌^◌, ◌<◌, ◌≤◌, Bool, true, false, cond}
 use Rattle.std.proofs.Common.{List, [], ◌∷◌, ◌++◌, length, map, drop, Some, None, Result, Ok, Err}
-use Rattle.std.proofs.Common.{refl, sym, ap, subst, ◌∙◌, arith, append_assoc, append-nil}
-use Rattle.std.proofs.Common.{length-append}
-use Rattle.std.specs.Prelude.{◌&&◌, not, IsOk, nat_lt}
+use Rattle.std.proofs.Common.{refl, sym, ap, subst, ◌∙◌, arith, append_assoc, length-append}
+use Rattle.std.specs.Prelude.{IsOk, nat_lt}
 use Rattle.std.specs.List.{flat_map}
 use Rattle.std.proofs.lemmas.List.{length-drop}
 use Rattle.bufr_bits.specs.Bits.{bin, bits}
 use Rattle.bufr_bits.specs.BitLaws.{length-bin}
-use Rattle.bufr_tables.specs.Answers.{◌>>=◌, Fails, result_map}
-use Rattle.bufr_tables.specs.declared.failure.Failure.{Failure}
-use Rattle.bufr_tables.specs.declared.failure.Failure.TheVariants.{Fault, OutOfMemory}
+use Rattle.bufr_tables.specs.Answers.{◌>>=◌}
 use Rattle.bufr_tables.specs.declared.element.Kind.TheVariants as kinds
 use Rattle.bufr_tables.specs.Elements.{same_kind}
-use Rattle.bufr_tables.specs.AnswerLaws.{bind_ok, ok_is as ok_same}
+use Rattle.bufr_tables.specs.AnswerLaws.{bind_ok}
 use Rattle.bufr_expand.specs.declared.operators.Spec.{Spec}
 use Rattle.bufr_expand.specs.declared.walk.Step.TheVariants as steps
 use Rattle.bufr_expand.specs.declared.walk.Walk.{Walk}
 use Rattle.bufr_expand.specs.declared.walk.WalkFault.{WalkFault}
-use Rattle.bufr_expand.specs.Courses.{Course, asks, course}
-use Rattle.bufr_expand.specs.Trees.{Tree}
+use Rattle.bufr_expand.specs.Courses.{Course, asks}
 use Rattle.bufr_expand.specs.Walks.{left, items_met, Goes, Counted, IsBelowCount}
 use Rattle.bufr_data.specs.declared.field.Raw.{Raw}
 use Rattle.bufr_data.specs.declared.field.Subset.{Subset}
@@ -28,22 +24,21 @@ use Rattle.bufr_data.specs.declared.fault.ReadFault.{ReadFault}
 use Rattle.bufr_data.specs.declared.fault.ReadFault.TheVariants as faults
 use Rattle.bufr_data.specs.declared.columns.Place.{Place}
 use Rattle.bufr_data.specs.Plain.{raw_bits, stopped}
-use Rattle.bufr_expand.specs.Steady.{IsSteady}
 use Rattle.bufr_data.specs.Steady.{IsReady}
 use Rattle.bufr_data.specs.Columns.{Column, subset_of, subsets_from, IsColumn, equal}
 use Rattle.bufr_data.specs.Columns.{numbers as number_column, texts as text_column}
-use Rattle.bufr_data.specs.ColumnReading.{column_at, agreeing, count_of, all_equal, ColumnsFound}
-use Rattle.bufr_data.specs.ColumnReading.{within_limit, column_then, columns_at}
+use Rattle.bufr_data.specs.ColumnReading.{column_at, agreeing, count_of, ColumnsFound, within_limit}
+use Rattle.bufr_data.specs.ColumnReading.{column_then, columns_at}
 use Rattle.bufr_data.specs.PassedColumns.{PassesColumn, PassesFactor, agreed_at}
-use Rattle.bufr_data.specs.Indexed.{Ahead, index_at, values_of, column_from, Opens, AllOpen}
-use Rattle.bufr_data.specs.Indexed.{behind_columns, PassesPlace}
-use Rattle.bufr_data.specs.Data.{subsets_in}
-use Rattle.bufr_data.proofs.PlainFacts.{length-bits}
+use Rattle.bufr_data.specs.Indexed.{values_of, column_from, behind_columns, PassesPlace}
+use Rattle.bufr_bits.specs.NumberLaws.{length-fields}
+use Rattle.bufr_data.proofs.KindFacts.{kinds_differ}
+use Rattle.bufr_data.proofs.ListFacts.{map_grown}
+use Rattle.bufr_data.proofs.StepFacts.{Asks, GoesOn, field_goes, count_goes}
 use Rattle.bufr_data.proofs.ColumnFacts.{column_found, column_again}
-use Rattle.bufr_data.proofs.ColumnWalks.{agreed}
-use Rattle.bufr_data.proofs.PackedFacts.{map_ok}
+use Rattle.bufr_data.proofs.ColumnWalks.{agreed, agreeing_again}
 use Rattle.bufr_data.specs.Limits.{most_values}
-use Rattle.bufr_data.specs.StepLaws.{asks_field, asks_count, ends_there, stops_there, steady_step}
+use Rattle.bufr_data.specs.StepLaws.{asks_field, asks_count, ends_there, stops_there}
 
 -- ---- the column at a place
 
@@ -82,13 +77,8 @@ place_inside octets n bit spec x e =
       size,
       column_bits spec x.0 found.0 found.2,
       length-drop bit (bits octets),
-      length-bits octets,
+      length-fields 8 octets,
     )
-
--- an answer that is known is an answer
-ok_is : {A F : Type 0} (r : Result A F) (x : A) → r ≡ Ok x → IsOk r
-ok_is (Ok y) x e = refl
-ok_is (Err f) x e = absurd cc
 
 -- ---- one step
 
@@ -141,52 +131,21 @@ end_passes old new n i octets front g =
     (items_met new, ap (λ c. columns_at n i c front) (ends_there (left old) new g))
 
 -- a field past the limit refuses the columns
-pub field_past : (old new : Walk) (n i d : ℕ) (spec : Spec) (front : List Bool) (fault : ReadFault)
-    → Goes (left old) (Ok (steps.Field d spec)) new
-    → within_limit {A = Unit {0}} n i (Ok tt) ≡ Err fault
-    → columns_at n i (left old) front ≡ Err fault
-field_past old new n i d spec front fault g e =
-    let a = asks_field (left old) d spec new g in
-    ap (λ c. columns_at n i c front) a.is ∙ asked_at n i a.met d spec a.more front
-    ∙ past_is n i _ fault e
-
--- so does a factor
-pub count_past : (old new : Walk) (n i d : ℕ) (spec : Spec) (front : List Bool) (fault : ReadFault)
-    → Goes (left old) (Ok (steps.Count d spec)) new
-    → within_limit {A = Unit {0}} n i (Ok tt) ≡ Err fault
-    → columns_at n i (left old) front ≡ Err fault
-count_past old new n i d spec front fault g e =
-    let a = asks_count (left old) d spec new g in
-    ap (λ c. columns_at n i c front) a.is ∙ asked_at n i a.met d spec a.more front
+pub step_past : (c : Course) (n i d : ℕ) (spec : Spec) (front : List Bool) (fault : ReadFault)
+    → Asks c d spec → within_limit {A = Unit {0}} n i (Ok tt) ≡ Err fault
+    → columns_at n i c front ≡ Err fault
+step_past c n i d spec front fault a e =
+    ap (λ x. columns_at n i x front) a.is ∙ asked_at n i a.met d spec a.more front
     ∙ past_is n i _ fault e
 
 -- a column that is refused refuses those from it on
-none_agreed : (n i met d : ℕ) (spec : Spec) (more : ℕ → Course) (front : List Bool)
-    (fault : ReadFault) → within_limit {A = Unit {0}} n i (Ok tt) ≡ Ok tt
-    → agreed_at n i spec front ≡ Err fault → columns_at n i (asks met d spec more) front ≡ Err fault
-none_agreed n i met d spec more front fault room e =
-    asked_at n i met d spec more front ∙ within_is n i _ room
-    ∙ ap
-    (λ r. r >>= column_then d spec (λ count rest. columns_at n (i + 1) (more count) rest)) e
-
--- so it does at a field
-pub field_refused : (old new : Walk) (n i d : ℕ) (spec : Spec) (front : List Bool)
-    (fault : ReadFault) → Goes (left old) (Ok (steps.Field d spec)) new
-    → within_limit {A = Unit {0}} n i (Ok tt) ≡ Ok tt → column_at n i spec front ≡ Err fault
-    → columns_at n i (left old) front ≡ Err fault
-field_refused old new n i d spec front fault g room e =
-    let a = asks_field (left old) d spec new g in
-    ap (λ c. columns_at n i c front) a.is
-    ∙ none_agreed n i a.met d spec a.more front fault room (ap (λ r. r >>= agreeing i spec) e)
-
--- and at a factor
-pub count_refused : (old new : Walk) (n i d : ℕ) (spec : Spec) (front : List Bool)
-    (fault : ReadFault) → Goes (left old) (Ok (steps.Count d spec)) new
-    → within_limit {A = Unit {0}} n i (Ok tt) ≡ Ok tt → agreed_at n i spec front ≡ Err fault
-    → columns_at n i (left old) front ≡ Err fault
-count_refused old new n i d spec front fault g room e =
-    let a = asks_count (left old) d spec new g in
-    ap (λ c. columns_at n i c front) a.is ∙ none_agreed n i a.met d spec a.more front fault room e
+pub step_refused : (c : Course) (n i d : ℕ) (spec : Spec) (front : List Bool) (fault : ReadFault)
+    → Asks c d spec → within_limit {A = Unit {0}} n i (Ok tt) ≡ Ok tt
+    → agreed_at n i spec front ≡ Err fault → columns_at n i c front ≡ Err fault
+step_refused c n i d spec front fault a room e =
+    ap (λ x. columns_at n i x front) a.is ∙ asked_at n i a.met d spec a.more front
+    ∙ within_is n i _ room
+    ∙ ap (λ r. r >>= column_then d spec (λ count rest. columns_at n (i + 1) (a.more count) rest)) e
 
 -- one more column in front of the others
 column_joined : (d : ℕ) (spec : Spec) (values : List Raw) (o : Result ColumnsFound ReadFault)
@@ -197,35 +156,29 @@ column_joined d spec values (Ok found) = refl
 column_joined d spec values (Err e) = refl
 
 -- the column that agrees, and those behind it
-one_agreed : (octets : List ℕ) (n i met d bit : ℕ) (spec : Spec) (more : ℕ → Course)
-    (front rest : List Bool) (values : List Raw) (next : Course)
+one_agreed : (c later : Course) (octets : List ℕ) (n i d bit : ℕ) (spec : Spec)
+    (front rest : List Bool) (values : List Raw) → GoesOn c d spec (count_of values) later
     → within_limit {A = Unit {0}} n i (Ok tt) ≡ Ok tt → agreed_at n i spec front ≡ Ok (values, rest)
-    → front ≡ drop bit (bits octets) → more (count_of values) ≡ next
-    → PassesPlace n i (asks met d spec more) octets front
-    (Some (record { fxy = d; spec = spec; bit = bit })) next rest
-one_agreed octets n i met d bit spec more front rest values next room e is after =
+    → front ≡ drop bit (bits octets)
+    → PassesPlace n i c octets front (Some (record { fxy = d; spec = spec; bit = bit })) later rest
+one_agreed c later octets n i d bit spec front rest values on room e is =
     let a = bind_ok (column_at n i spec front) _ (values, rest) e in
     let same = agreed i spec a.0 (values, rest) a.2 in
     let read : column_at n i spec front ≡ Ok (values, rest) = a.1 ∙ ap (λ x. Ok x) same.0 in
     let there : column_at n 1 spec (drop bit (bits octets)) ≡ Ok (values, rest) =
     open_place octets n i bit d spec front (values, rest) read is in
+    let place : Place = record { fxy = d; spec = spec; bit = bit } in
     let column : ◌≡◌ {A = Column} (record { fxy = d; spec = spec; values = values })
-    (column_from octets n (record { fxy = d; spec = spec; bit = bit })) =
+    (column_from octets n place) =
     λ t. record { fxy = d; spec = spec; values = values_of (sym there t) } in (
-      (place_inside octets n bit spec (values, rest) there, ok_is _ (values, rest) there),
-      asked_at n i met d spec more front ∙ within_is n i _ room
-          ∙ ap
-          (λ r. r >>= column_then d spec
-          (λ count rest. columns_at n (i + 1) (more count) rest)) e
-          ∙ column_joined d spec values (columns_at n (i + 1) (more (count_of values)) rest)
-          ∙ (λ t. behind_columns (column t ∷ []) (columns_at n (i + 1) (after t) rest)),
+      (place_inside octets n bit spec (values, rest) there, subst IsOk (sym there) refl),
+      ap (λ x. columns_at n i x front) on.is ∙ asked_at n i on.met d spec on.more front
+          ∙ within_is n i _ room
+          ∙ ap (λ r. r >>= column_then d spec
+          (λ count rest. columns_at n (i + 1) (on.more count) rest)) e
+          ∙ column_joined d spec values (columns_at n (i + 1) (on.more (count_of values)) rest)
+          ∙ (λ t. behind_columns (column t ∷ []) (columns_at n (i + 1) (on.after t) rest)),
     )
-
--- values of no factor always agree
-agreeing_other : (b : Bool) (i : ℕ) (x : List Raw × List Bool) → b ≡ false
-    → cond (b && not (all_equal x.0)) (Err (faults.UnequalCounts i)) (Ok x) ≡ Ok x
-agreeing_other true i x e = absurd cc
-agreeing_other false i x e = refl
 
 -- a field whose column was passed is a place
 pub field_passes : (old new : Walk) (octets : List ℕ) (n i d bit : ℕ) (spec : Spec)
@@ -235,20 +188,12 @@ pub field_passes : (old new : Walk) (octets : List ℕ) (n i d bit : ℕ) (spec 
     → PassesPlace n i (left old) octets front (Some (record { fxy = d; spec = spec; bit = bit }))
     (left new) rest
 field_passes old new octets n i d bit spec front rest ready g room passes is =
-    let a = asks_field (left old) d spec new g in
-    let s =
-    steady_step (items_met old) a.met d spec a.more
-    (subst (λ (x : Course). IsSteady (items_met old) x) a.is ready.steady) in
+    let kind = (asks_field (left old) d spec new g).kind in
     let agree : agreed_at n i spec front ≡ Ok (passes.0, rest) =
     ap (λ r. r >>= agreeing i spec) passes.1
-    ∙ agreeing_other (same_kind spec.kind kinds.Count) i (passes.0, rest) a.kind in
-    let after : a.more (count_of passes.0) ≡ left new =
-    s.2 a.kind (count_of passes.0) ∙ sym a.after in
-    subst
-    (λ (c : Course). PassesPlace n i c octets front
-    (Some (record { fxy = d; spec = spec; bit = bit })) (left new) rest) (sym a.is)
-    (one_agreed octets n i a.met d bit spec a.more front rest passes.0
-    (left new) room agree is after)
+    ∙ agreeing_again i spec (passes.0, rest) (λ count. absurd (kinds_differ _ _ kind count)) in
+    one_agreed (left old) (left new) octets n i d bit spec front rest passes.0
+    (field_goes old new d spec (count_of passes.0) ready g) room agree is
 
 -- so is a factor
 pub count_passes : (old mid new : Walk) (octets : List ℕ) (n i d bit number : ℕ) (spec : Spec)
@@ -258,14 +203,9 @@ pub count_passes : (old mid new : Walk) (octets : List ℕ) (n i d bit number : 
     → PassesPlace n i (left old) octets front (Some (record { fxy = d; spec = spec; bit = bit }))
     (left new) rest
 count_passes old mid new octets n i d bit number spec front rest g counted room passes is =
-    let a = asks_count (left old) d spec mid g in
-    let told = subst (λ (x : Course). Counted x number new) a.waiting counted in
-    let after : a.more (count_of passes.0) ≡ left new = ap a.more passes.2 ∙ sym told.0 in
-    subst
-    (λ (c : Course). PassesPlace n i c octets front
-    (Some (record { fxy = d; spec = spec; bit = bit })) (left new) rest) (sym a.is)
-    (one_agreed octets n i a.met d bit spec a.more front rest passes.0
-    (left new) room passes.1 is after)
+    let on = subst (λ k. GoesOn (left old) d spec k (left new)) (sym passes.2)
+    (count_goes old mid new d spec number g counted) in
+    one_agreed (left old) (left new) octets n i d bit spec front rest passes.0 on room passes.1 is
 
 -- the number of a factor is within its width
 pub count_is_below : (old mid : Walk) (d : ℕ) (spec : Spec) (n : ℕ)
@@ -294,24 +234,6 @@ behind_more cs c (Ok found) =
     ap (λ xs. Ok (record found { columns = xs })) (sym (append_assoc cs (c ∷ []) found.columns))
 behind_more cs c (Err e) = refl
 
--- one more at the end of what is mapped
-map-push : (f : Place → Column) (ps : List Place) (p : Place)
-    → map f (ps ++ p ∷ []) ≡ map f ps ++ f p ∷ []
-map-push f [] p = refl
-map-push f (q ∷ ps) p = ap (λ xs. f q ∷ xs) (map-push f ps p)
-
--- one more place at the end, and all are open
-all_push : (octets : List ℕ) (n : ℕ) (ps : List Place) (p : Place) → AllOpen octets n ps
-    → Opens octets n p → AllOpen octets n (ps ++ p ∷ [])
-all_push octets n [] p all one = (one, tt)
-all_push octets n (q ∷ ps) p all one = (all.0, all_push octets n ps p all.1 one)
-
--- the same of a grown list
-pub opened : (octets : List ℕ) (n : ℕ) (ps grown : List Place) (p : Place) → grown ≡ ps ++ p ∷ []
-    → AllOpen octets n ps → Opens octets n p → AllOpen octets n grown
-opened octets n ps grown p is all one =
-    subst (AllOpen octets n) (sym is) (all_push octets n ps p all one)
-
 -- one place more
 pub place_kept : (octets : List ℕ) (n i : ℕ) (ps grown : List Place) (p : Place)
     (whole : Result ColumnsFound ReadFault) (c d : Course) (front rest : List Bool)
@@ -329,7 +251,7 @@ place_kept octets n i ps grown p whole c d front rest is index so_far step =
     ∙ behind_more (map (column_from octets n) ps) (column_from octets n p)
     (columns_at n (i + 1) d rest)
     ∙ ap (λ cs. behind_columns cs (columns_at n (i + 1) d rest))
-    (sym (ap (map (column_from octets n)) is ∙ map-push (column_from octets n) ps p))
+    (sym (map_grown (column_from octets n) ps grown p is))
     ∙ ap (λ m. behind_columns (map (column_from octets n) grown) (columns_at n m d rest)) next
 
 -- ---- the subsets of an index

@@ -1,23 +1,19 @@
 -- What is read from bits are exactly the fields that a course allows, and the bits are theirs: for
 -- the law `plain_data_spell_subsets`.
 use Rattle.bufr_tables.specs.Answers.{◌>>=◌}
-use Rattle.std.proofs.Common.{◌≡◌, ℕ, zero, suc, ◌+◌, ◌*◌, ◌/◌, ◌^◌, ◌<◌, ◌≤◌, Bool, true, false}
-use Rattle.std.proofs.Common.{cond, ltb, List, [], ◌∷◌, ◌++◌, length, take, drop, Option, Some}
-use Rattle.std.proofs.Common.{None, Result, Ok, Err, refl, sym, ap, subst, ◌∙◌, arith, append_assoc}
-use Rattle.std.proofs.Common.{length-append, inl, inr}
+use Rattle.std.proofs.Common.{◌≡◌, ℕ, zero, suc, ◌+◌, ◌/◌, ◌^◌, Bool, true, false, cond, List, []}
+use Rattle.std.proofs.Common.{◌∷◌, ◌++◌, length, Option, Some, None, Result, Ok, Err, refl, sym, ap}
+use Rattle.std.proofs.Common.{subst, ◌∙◌, append_assoc}
 use Rattle.std.specs.Prelude.{◌==◌, ◌&&◌, nat_lt, nat_le, option_map}
 use Rattle.std.specs.List.{list_all}
-use Rattle.std.proofs.lemmas.Bool.{cases_lt, le-ltb, lt-ltb, ltb-true, eqb-true, eq-eqb}
-use Rattle.std.proofs.lemmas.List.{take_at, drop_at, take-append-drop, drop-drop, length-take}
-use Rattle.std.proofs.lemmas.List.{length-drop}
-use Rattle.bufr_bits.specs.Bits.{bin, bits, number, numbers, number_at, numbers_at}
-use Rattle.bufr_bits.specs.BitLaws.{length-bin, number-bin, number_at-bin, small_mod, number_below}
-use Rattle.bufr_bits.specs.BitLaws.{bin-number, number_at_is, some_is}
-use Rattle.bufr_bits.specs.NumberLaws.{length-numbers}
+use Rattle.std.proofs.lemmas.Bool.{and_parts, lt-ltb, ltb-true, eqb-true, eq-eqb}
+use Rattle.bufr_bits.specs.Bits.{bin, number_at, numbers_at}
+use Rattle.bufr_bits.specs.BitLaws.{number_at-bin, number_at_is, some_is}
+use Rattle.bufr_bits.specs.NumberLaws.{numbers_at_again, numbers_at_found}
 use Rattle.bufr_tables.specs.declared.element.Kind.{Kind}
 use Rattle.bufr_tables.specs.declared.element.Kind.TheVariants as kinds
 use Rattle.bufr_tables.specs.Elements.{same_kind}
-use Rattle.bufr_tables.specs.AnswerLaws.{bind_ok}
+use Rattle.bufr_tables.specs.AnswerLaws.{bind_ok, ok_is}
 use Rattle.bufr_expand.specs.declared.operators.Spec.{Spec}
 use Rattle.bufr_expand.specs.declared.walk.WalkFault.{WalkFault}
 use Rattle.bufr_expand.specs.declared.walk.WalkFault.TheVariants as walks
@@ -30,68 +26,10 @@ use Rattle.bufr_data.specs.declared.fault.WriteFault.{WriteFault}
 use Rattle.bufr_data.specs.declared.field.Subset.{Subset}
 use Rattle.bufr_data.specs.Plain.{raw_bits, field_bits, plain, plain_subsets, SubsetRead}
 use Rattle.bufr_data.specs.Plain.{SubsetsRead, field_number_at, raw_at_by, raw_at, number_of}
-use Rattle.bufr_data.specs.Plain.{field_then, stopped, fields_at, subsets_at, same_spec}
-use Rattle.bufr_data.specs.Plain.{has_form_by, stands_for, items_of, items_of_all}
-use Rattle.bufr_data.specs.FormLaws.{same_spec_is, spec_is_same}
-
--- ---- tests
-
--- the first of two truths
-pub and_first : (a b : Bool) → (a && b) ≡ true → a ≡ true
-and_first true b e = refl
-and_first false b e = absurd cc
-
--- and the second
-pub and_second : (a b : Bool) → (a && b) ≡ true → b ≡ true
-and_second true b e = e
-and_second false b e = absurd cc
-
--- ---- octets
-
--- octets begin with one, and the others are octets
-all_below : (x : ℕ) (xs : List ℕ) → list_all (λ c. nat_lt c 256) (x ∷ xs) ≡ true
-    → (x < 256) × (list_all (λ c. nat_lt c 256) xs ≡ true)
-all_below x xs e = (
-  ltb-true x 256 (and_first (nat_lt x 256) (list_all (λ c. nat_lt c 256) xs) e),
-  and_second (nat_lt x 256) (list_all (λ c. nat_lt c 256) xs) e,
-)
-
--- the numbers of eight bits of octets are these
-numbers_of_octets : (os : List ℕ) (rest : List Bool) → list_all (λ c. nat_lt c 256) os ≡ true
-    → numbers (length os) 8 (bits os ++ rest) ≡ os
-unfolding numbers
-numbers_of_octets [] rest all = refl
-numbers_of_octets (x ∷ os) rest all =
-    let h = all_below x os all in
-    let e : bits (x ∷ os) ++ rest ≡ bin 8 x ++ (bits os ++ rest) =
-    append_assoc (bin 8 x) (bits os) rest in
-    rw (
-      e,
-      take_at (bin 8 x) (bits os ++ rest) 8 (length-bin 8 x),
-      drop_at (bin 8 x) (bits os ++ rest) 8 (length-bin 8 x),
-      number-bin 8 x,
-      small_mod x 256 h.0,
-      numbers_of_octets os rest h.1,
-    ) refl
-
--- octets have eight bits each
-pub length-bits : (os : List ℕ) → length (bits os) ≡ length os * 8
-length-bits [] = refl
-length-bits (x ∷ os) =
-    omega (arith, length-append (bin 8 x) (bits os), length-bin 8 x, length-bits os)
-
--- behind the bits of octets stands the rest
-drop_bits : (os : List ℕ) (rest : List Bool) → drop (length os * 8) (bits os ++ rest) ≡ rest
-drop_bits os rest = drop_at (bits os) rest (length os * 8) (length-bits os)
-
--- octets are read of their bits
-numbers_at-bits : (os : List ℕ) (rest : List Bool) → list_all (λ c. nat_lt c 256) os ≡ true
-    → numbers_at (length os) 8 (bits os ++ rest) ≡ Some (os, rest)
-unfolding numbers_at
-numbers_at-bits os rest all =
-    let long : ltb (length (bits os ++ rest)) (length os * 8) ≡ false =
-    le-ltb _ _ (omega (arith, length-append (bits os) rest, length-bits os)) in
-    rw (long, numbers_of_octets os rest all, drop_bits os rest) refl
+use Rattle.bufr_data.specs.Plain.{field_then, stopped, fields_at, subsets_at, has_form_by}
+use Rattle.bufr_data.specs.Plain.{stands_for, items_of, items_of_all}
+use Rattle.bufr_data.specs.FormLaws.{asked_is, asked_passes, form_passes, form_is, octets_are}
+use Rattle.bufr_data.specs.FormLaws.{octets_pass}
 
 -- ---- fields
 
@@ -100,21 +38,17 @@ number_again : (width n : ℕ) (rest : List Bool) → (nat_le width 64 && nat_lt
     → option_map {U = Raw × List Bool} (λ x. (Number x.0, x.1))
     (field_number_at width (bin width n ++ rest)) ≡ Some (Number n, rest)
 number_again width n rest e =
-    let short : nat_le width 64 ≡ true = and_first _ _ e in
-    let below : n < 2 ^ width =
-    ltb-true _ _ (and_second (nat_le width 64) (nat_lt n (2 ^ width)) e) in
-    rw (short, number_at-bin width n rest below) refl
+    let p = and_parts (nat_le width 64) (nat_lt n (2 ^ width)) e in
+    rw (p.0, number_at-bin width n rest (ltb-true n (2 ^ width) p.1)) refl
 
 -- a raw value of its form is read of its bits
 pub raw_again : (kind : Kind) (width : ℕ) (raw : Raw) (rest : List Bool)
     → has_form_by kind width raw ≡ true
     → raw_at_by kind width (raw_bits width raw ++ rest) ≡ Some (raw, rest)
 raw_again kinds.Text width (Text os) rest e =
-    let size : length os ≡ width / 8 = eqb-true _ _ (and_first _ _ e) in
-    let count : width / 8 ≡ length os = sym size in
-    let all : list_all (λ c. nat_lt c 256) os ≡ true =
-    and_second (length os == width / 8) (list_all (λ c. nat_lt c 256) os) e in
-    rw (count, numbers_at-bits os rest all) refl
+    let p = and_parts (length os == width / 8) (list_all (λ c. nat_lt c 256) os) e in
+    let size : length os ≡ width / 8 = eqb-true _ _ p.0 in
+    rw (numbers_at_again 8 (width / 8) os rest size (octets_are os p.1)) refl
 raw_again kinds.Text width (Number n) rest e = absurd cc
 raw_again kinds.Code width (Number n) rest e = number_again width n rest e
 raw_again kinds.Flag width (Number n) rest e = number_again width n rest e
@@ -131,10 +65,6 @@ pub guard_ok : (b : Bool) (x : Result ℕ WriteFault) (f : WriteFault) (n : ℕ)
 guard_ok true x f n e = (refl, e)
 guard_ok false x f n e = absurd cc
 
--- equal answers have equal values
-pub ok_is : (m n : ℕ) → ◌≡◌ {A = Result ℕ WriteFault} (Ok m) (Ok n) → m ≡ n
-ok_is m n e = cc
-
 -- fields that are counted are read of their bits
 pub fields_at-plain : (j i : ℕ) (c : Course) (fs : List Field) (n : ℕ) (rest : List Bool)
     → items_of j i c fs ≡ Ok n
@@ -147,15 +77,11 @@ fields_at-plain j i (stops met fault) fs n rest e = absurd cc
 fields_at-plain j i (asks met d spec more) [] n rest e = absurd cc
 fields_at-plain j i (asks met d spec more) (f ∷ fs) n rest e =
     let g = guard_ok (stands_for d spec f) _ _ n e in
-    let like = and_first _ _ g.0 in
-    let form =
-    and_second (f.fxy == d && same_spec f.spec spec)
-    (has_form_by spec.kind spec.width f.raw) g.0 in
-    let same_d : f.fxy ≡ d = eqb-true _ _ (and_first _ _ like) in
-    let same_s : f.spec ≡ spec = same_spec_is _ _ (and_second _ _ like) in
+    let is = asked_is d spec f g.0 in
+    let form = form_passes spec f.raw is.2 in
     let same_f : ◌≡◌ {A = Field} (record { fxy = d; spec = spec; raw = f.raw }) f =
-    λ k. record { fxy = sym same_d k; spec = sym same_s k; raw = f.raw } in
-    let width : f.spec.width ≡ spec.width = ap (λ (s : Spec). s.width) same_s in
+    λ k. record { fxy = sym is.0 k; spec = sym is.1 k; raw = f.raw } in
+    let width : f.spec.width ≡ spec.width = ap (λ (s : Spec). s.width) is.1 in
     let regrouped : plain (f ∷ fs) ++ rest ≡ raw_bits spec.width f.raw ++ (plain fs ++ rest) =
     append_assoc (field_bits f) (plain fs) rest
     ∙ ap (λ w. raw_bits w f.raw ++ (plain fs ++ rest)) width in
@@ -165,60 +91,6 @@ fields_at-plain j i (asks met d spec more) (f ∷ fs) n rest e =
     (ap (λ (h : Field). Ok (record { fields = h ∷ fs; items = n; rest = rest })) same_f)
 
 -- ---- what is read has its form, and the bits are its own
-
--- equal answers have equal values
-ok_found : {A : Type 0} (x y : A) → ◌≡◌ {A = Result A ReadFault} (Ok x) (Ok y) → x ≡ y
-ok_found x y e = cc
-
--- numbers of eight bits are octets
-pub numbers_below : (n : ℕ) (front : List Bool) → n * 8 ≤ length front
-    → list_all (λ c. nat_lt c 256) (numbers n 8 front) ≡ true
-unfolding numbers
-numbers_below zero front long = refl
-numbers_below (suc n) front long =
-    let eight : length (take 8 front) ≡ 8 = omega (arith, length-take 8 front) in
-    let below : number (take 8 front) < 256 =
-    subst (λ k. number (take 8 front) < 2 ^ k) eight (number_below (take 8 front)) in
-    let others : n * 8 ≤ length (drop 8 front) = omega (arith, length-drop 8 front) in
-    rw (lt-ltb (number (take 8 front)) 256 below, numbers_below n (drop 8 front) others) refl
-
--- their bits are the front
-pub bits_of_numbers : (n : ℕ) (front : List Bool) → n * 8 ≤ length front
-    → bits (numbers n 8 front) ++ drop (n * 8) front ≡ front
-unfolding numbers
-bits_of_numbers zero front long = refl
-bits_of_numbers (suc n) front long =
-    let eight : length (take 8 front) ≡ 8 = omega (arith, length-take 8 front) in
-    let others : n * 8 ≤ length (drop 8 front) = omega (arith, length-drop 8 front) in
-    let first : bin 8 (number (take 8 front)) ≡ take 8 front = bin-number 8 (take 8 front) eight in
-    let behind : drop (suc n * 8) front ≡ drop (n * 8) (drop 8 front) =
-    ap (λ k. drop k front) (omega arith) ∙ sym (drop-drop (n * 8) 8 front) in
-    append_assoc (bin 8 (number (take 8 front))) (bits (numbers n 8 (drop 8 front)))
-    (drop (suc n * 8) front)
-    ∙ (λ i. first i ++ (bits (numbers n 8 (drop 8 front)) ++ behind i))
-    ∙ ap (λ xs. take 8 front ++ xs) (bits_of_numbers n (drop 8 front) others)
-    ∙ take-append-drop 8 front
-
--- octets that are read stand there
-numbers_at_is : (n : ℕ) (os : List ℕ) (front rest : List Bool)
-    → numbers_at n 8 front ≡ Some (os, rest)
-    → (length os ≡ n) × (list_all (λ c. nat_lt c 256) os ≡ true) × (front ≡ bits os ++ rest)
-unfolding numbers_at
-numbers_at_is n os front rest e =
-    elim (cases_lt (length front) (n * 8)) [
-      | inl lt ↦
-          absurd
-          (let short : ltb (length front) (n * 8) ≡ true = lt-ltb _ _ lt in
-          let none = rw short at e in cc)
-      | inr le ↦
-          let long : ltb (length front) (n * 8) ≡ false = le-ltb _ _ le in
-          let some = rw long at e in
-          let pair : (numbers n 8 front, drop (n * 8) front) ≡ (os, rest) = some_is _ _ some in
-          subst
-          (λ (p : List ℕ × List Bool). (length p.0 ≡ n)
-          × (list_all (λ c. nat_lt c 256) p.0 ≡ true) × (front ≡ bits p.0 ++ p.1)) pair
-          (length-numbers n 8 front, numbers_below n front le, sym (bits_of_numbers n front le))
-    ]
 
 -- a raw value of its form stands at the front, and these bits are left
 abbrev pub IsRaw : Kind → ℕ → List Bool → Raw × List Bool → Type 0
@@ -250,9 +122,9 @@ text_read : (width : ℕ) (front : List Bool) (o : Option (List ℕ × List Bool
 text_read width front None x found e = absurd cc
 text_read width front (Some y) x found e =
     let same : (Text y.0, y.1) ≡ x = some_is _ _ e in
-    let is = numbers_at_is (width / 8) y.0 front y.1 found in
+    let is = numbers_at_found (width / 8) 8 front y found in
     let form : has_form_by kinds.Text width (Text y.0) ≡ true =
-    rw (eq-eqb (length y.0) (width / 8) is.0, is.1) refl in
+    rw (eq-eqb (length y.0) (width / 8) is.0, octets_pass y.0 is.1) refl in
     subst (λ (p : Raw × List Bool). IsRaw kinds.Text width front p) same (form, is.2)
 
 -- a number within its width has the form of its kind
@@ -286,11 +158,6 @@ raw_read kinds.Count width front x e =
     number_read width front _ _ x refl refl e in
     (number_form kinds.Count width x.0 refl is.0 is.1, is.2)
 
--- a raw value of a spec's form makes a field that is asked for
-stands : (d : ℕ) (spec : Spec) (raw : Raw) → has_form_by spec.kind spec.width raw ≡ true
-    → stands_for d spec (record { fxy = d; spec = spec; raw = raw }) ≡ true
-stands d spec raw form = rw (eq-eqb d d refl, spec_is_same spec, form) refl
-
 -- fields that the course allows stand at the front
 abbrev IsFound : ℕ → ℕ → Course → List Bool → SubsetRead → Type 0
 IsFound j i c front f = (items_of j i c f.fields ≡ Ok f.items) × (front ≡ plain f.fields ++ f.rest)
@@ -313,10 +180,10 @@ unfolding items_of
 field_joined j i met d spec more front x (Err fault) f raw after e = absurd cc
 field_joined j i met d spec more front x (Ok g) f raw after e =
     let field : Field = record { fxy = d; spec = spec; raw = x.0 } in
-    let same : ◌≡◌ {A = SubsetRead} (record g { fields = field ∷ g.fields }) f = ok_found _ _ e in
+    let same : ◌≡◌ {A = SubsetRead} (record g { fields = field ∷ g.fields }) f = ok_is _ _ e in
     let others = after g refl in
     let fits : items_of j i (asks met d spec more) (field ∷ g.fields) ≡ Ok g.items =
-    rw (stands d spec x.0 raw.0) others.0 in
+    rw (asked_passes d spec field (refl, refl, form_is spec x.0 raw.0)) others.0 in
     let spelt : front ≡ plain (field ∷ g.fields) ++ g.rest =
     raw.1 ∙ ap (λ xs. raw_bits spec.width x.0 ++ xs) others.1
     ∙ sym (append_assoc (raw_bits spec.width x.0) (plain g.fields) g.rest) in
@@ -334,7 +201,7 @@ field_found j i met d spec more front (Some x) f found after e =
     (raw_read spec.kind spec.width front x found) (after (number_of x.0) x.1) e
 
 -- what was read did not stop at a fault
-not_stopped : (fault : WalkFault) (f : SubsetRead) → stopped fault ≡ Ok f → ⊥
+pub not_stopped : {A : Type 0} (fault : WalkFault) (f : A) → stopped fault ≡ Ok f → ⊥
 not_stopped walks.TooLarge f e = cc
 not_stopped (walks.EffectiveRange d) f e = cc
 
@@ -345,7 +212,7 @@ pub fields_at-found : (j i : ℕ) (c : Course) (front : List Bool) (f : SubsetRe
 unfolding items_of fields_at
 fields_at-found j i (ends n) front f e =
     subst (λ (h : SubsetRead). IsFound j i (ends n) front h)
-    (ok_found (record { fields = []; items = n; rest = front }) f e) (refl, refl)
+    (ok_is (record { fields = []; items = n; rest = front }) f e) (refl, refl)
 fields_at-found j i (stops met fault) front f e = absurd (not_stopped fault f e)
 fields_at-found j i (asks met d spec more) front f e =
     field_found j i met d spec more front _ f refl
@@ -367,7 +234,7 @@ pub subsets_at-found : (course : ℕ → Course) (j n used : ℕ) (front : List 
 unfolding subsets_at items_of_all
 subsets_at-found course j zero used front f e =
     subst (λ (h : SubsetsRead). AreFound course j 0 used front h)
-    (ok_found (record { subsets = []; items = used; rest = front }) f e) (refl, refl, refl)
+    (ok_is (record { subsets = []; items = used; rest = front }) f e) (refl, refl, refl)
 subsets_at-found course j (suc n) used front f e =
     let a = bind_ok (fields_at j 1 (course used) front) _ f e in
     let first = a.0 in
@@ -375,7 +242,7 @@ subsets_at-found course j (suc n) used front f e =
     let others = b.0 in
     let s : Subset = record { fields = first.fields } in
     let same : ◌≡◌ {A = SubsetsRead} (record others { subsets = s ∷ others.subsets }) f =
-    ok_found _ _ b.2 in
+    ok_is _ _ b.2 in
     let front_is = fields_at-found j 1 (course used) front first a.1 in
     let rest_is = subsets_at-found course (j + 1) n first.items first.rest others b.1 in
     let many : length (s ∷ others.subsets) ≡ suc n = ap suc rest_is.0 in

@@ -1,7 +1,7 @@
 -- One step of a walk is one step of reading: for `read_plain` and `read_subsets`.
 use Rattle.bufr_tables.specs.Answers.{◌>>=◌, Fails}
 use Rattle.std.proofs.Common.{◌≡◌, ℕ, ◌+◌, Bool, List, [], ◌∷◌, ◌++◌, Option, Some, None, Result}
-use Rattle.std.proofs.Common.{Ok, Err, refl, sym, ap, subst, ◌∙◌, arith, length, length-append}
+use Rattle.std.proofs.Common.{Ok, Err, refl, sym, ap, ◌∙◌, arith, length, length-append}
 use Rattle.std.proofs.Common.{append_assoc}
 use Rattle.bufr_tables.specs.declared.failure.Failure.{Failure}
 use Rattle.bufr_tables.specs.declared.failure.Failure.TheVariants.{Fault, OutOfMemory}
@@ -10,16 +10,14 @@ use Rattle.bufr_expand.specs.declared.walk.Step.TheVariants as steps
 use Rattle.bufr_expand.specs.declared.walk.Walk.{Walk}
 use Rattle.bufr_expand.specs.declared.walk.WalkFault.{WalkFault}
 use Rattle.bufr_expand.specs.Courses.{Course, asks}
-use Rattle.bufr_expand.specs.Walks.{left, items_met, Goes, Counted, IsBelowCount}
+use Rattle.bufr_expand.specs.Walks.{left, items_met, Goes, IsBelowCount}
 use Rattle.bufr_data.specs.declared.field.Raw.{Raw}
 use Rattle.bufr_data.specs.declared.field.Field.{Field}
 use Rattle.bufr_data.specs.declared.fault.ReadFault.{ReadFault}
 use Rattle.bufr_data.specs.Plain.{SubsetRead, raw_at, number_of, stopped, fields_at}
 use Rattle.bufr_data.specs.Reads.{raw_or_ends, behind_fields}
-use Rattle.bufr_expand.specs.Steady.{IsSteady}
-use Rattle.bufr_data.specs.Steady.{IsReady}
-use Rattle.bufr_data.specs.StepLaws.{asks_field, asks_count, ends_there, stops_there, steady_step}
-use Rattle.bufr_data.specs.StepLaws.{count_fits}
+use Rattle.bufr_data.specs.StepLaws.{ends_there, stops_there, count_fits}
+use Rattle.bufr_data.proofs.StepFacts.{Asks, GoesOn}
 use Rattle.bufr_data.proofs.PlainFacts.{raw_read}
 
 -- ---- reading
@@ -57,59 +55,27 @@ pub found_is : (j i : ℕ) (o : Option (Raw × List Bool)) (x : Raw × List Bool
 found_is j i None x e = absurd cc
 found_is j i (Some y) x e = cc
 
--- a field at which the walk steps is read
-pub field_is_read : (old new : Walk) (i d : ℕ) (spec : Spec) (front rest : List Bool) (raw : Raw)
-    → IsReady old → Goes (left old) (Ok (steps.Field d spec)) new
+-- a field for which the course asks is read
+pub step_is_read : (c later : Course) (i d : ℕ) (spec : Spec) (front rest : List Bool) (raw : Raw)
+    → GoesOn c d spec (number_of raw) later
     → raw_or_ends 1 i (raw_at spec front) ≡ Ok (raw, rest)
-    → fields_at 1 i (left old) front
+    → fields_at 1 i c front
     ≡ behind_fields (record { fxy = d; spec = spec; raw = raw } ∷ [])
-    (fields_at 1 (i + 1) (left new) rest)
-field_is_read old new i d spec front rest raw ready g e =
-    let a = asks_field (left old) d spec new g in
-    let s =
-    steady_step (items_met old) a.met d spec a.more
-    (subst (λ (x : Course). IsSteady (items_met old) x) a.is ready.steady) in
-    let same : a.more (number_of raw) ≡ left new = s.2 a.kind (number_of raw) ∙ sym a.after in
-    ap (λ c. fields_at 1 i c front) a.is
+    (fields_at 1 (i + 1) later rest)
+step_is_read c later i d spec front rest raw a e =
+    ap (λ x. fields_at 1 i x front) a.is
     ∙ asked_field 1 i a.met d spec a.more front rest raw (found_is 1 i _ _ e)
-    ∙ ap
-    (λ c. behind_fields (record { fxy = d; spec = spec; raw = raw } ∷ [])
-    (fields_at 1 (i + 1) c rest)) same
-
--- so is a count
-pub count_is_read : (old mid new : Walk) (i d : ℕ) (spec : Spec) (front rest : List Bool)
-    (raw : Raw)
-    → Goes (left old) (Ok (steps.Count d spec)) mid → Counted (left mid) (number_of raw) new
-    → raw_or_ends 1 i (raw_at spec front) ≡ Ok (raw, rest)
-    → fields_at 1 i (left old) front
-    ≡ behind_fields (record { fxy = d; spec = spec; raw = raw } ∷ [])
-    (fields_at 1 (i + 1) (left new) rest)
-count_is_read old mid new i d spec front rest raw g counted e =
-    let a = asks_count (left old) d spec mid g in
-    let told = subst (λ (x : Course). Counted x (number_of raw) new) a.waiting counted in
-    ap (λ c. fields_at 1 i c front) a.is
-    ∙ asked_field 1 i a.met d spec a.more front rest raw (found_is 1 i _ _ e)
-    ∙ ap
-    (λ c. behind_fields (record { fxy = d; spec = spec; raw = raw } ∷ [])
-    (fields_at 1 (i + 1) c rest)) (sym told.0)
+    ∙ ap (λ x. behind_fields (record { fxy = d; spec = spec; raw = raw } ∷ [])
+    (fields_at 1 (i + 1) x rest)) a.after
 
 -- where its bits are not there, the fields are refused
-pub field_is_missing : (old new : Walk) (i d : ℕ) (spec : Spec) (front : List Bool)
-    (e : Failure ReadFault) → Goes (left old) (Ok (steps.Field d spec)) new
-    → Fails e (raw_or_ends 1 i (raw_at spec front)) → Fails e (fields_at 1 i (left old) front)
-field_is_missing old new i d spec front OutOfMemory g h = tt
-field_is_missing old new i d spec front (Fault f) g h =
-    let a = asks_field (left old) d spec new g in
-    ap (λ c. fields_at 1 i c front) a.is ∙ missing_field 1 i a.met d spec a.more front _ f refl h
-
--- so they are at a count
-pub count_is_missing : (old mid : Walk) (i d : ℕ) (spec : Spec) (front : List Bool)
-    (e : Failure ReadFault) → Goes (left old) (Ok (steps.Count d spec)) mid
-    → Fails e (raw_or_ends 1 i (raw_at spec front)) → Fails e (fields_at 1 i (left old) front)
-count_is_missing old mid i d spec front OutOfMemory g h = tt
-count_is_missing old mid i d spec front (Fault f) g h =
-    let a = asks_count (left old) d spec mid g in
-    ap (λ c. fields_at 1 i c front) a.is ∙ missing_field 1 i a.met d spec a.more front _ f refl h
+pub step_is_missing : (c : Course) (i d : ℕ) (spec : Spec) (front : List Bool)
+    (e : Failure ReadFault) → Asks c d spec → Fails e (raw_or_ends 1 i (raw_at spec front))
+    → Fails e (fields_at 1 i c front)
+step_is_missing c i d spec front OutOfMemory a h = tt
+step_is_missing c i d spec front (Fault f) a h =
+    ap (λ x. fields_at 1 i x front) a.is
+    ∙ missing_field 1 i a.met d spec a.more front _ f refl h
 
 -- where the walk ends, the subset ends
 pub end_is_read : (old new : Walk) (i : ℕ) (front : List Bool) → Goes (left old) (Ok steps.End) new

@@ -7,9 +7,9 @@ use Rattle.std.proofs.Common.{None, Result, Ok, Err, refl, sym, ap, subst, ◌�
 use Rattle.std.proofs.Common.{length-append, inl, inr}
 use Rattle.std.proofs.lemmas.Bool.{cases_lt}
 use Rattle.std.proofs.lemmas.List.{take-append-drop, length-take}
-use Rattle.bufr_bits.specs.Bits.{bin, bits, number, numbers}
+use Rattle.bufr_bits.specs.Bits.{bin, number, numbers}
 use Rattle.bufr_bits.specs.BitLaws.{length-bin, number_below, bin-number}
-use Rattle.bufr_bits.specs.NumberLaws.{length-numbers}
+use Rattle.bufr_bits.specs.NumberLaws.{length-fields, length-numbers, numbers_fit, fields-numbers}
 use Rattle.bufr_tables.specs.Answers.{result_map}
 use Rattle.bufr_tables.specs.declared.element.Kind.{Kind}
 use Rattle.bufr_tables.specs.declared.element.Kind.TheVariants as kinds
@@ -29,18 +29,18 @@ use Rattle.bufr_data.specs.declared.fault.ReadFault.TheVariants as faults
 use Rattle.bufr_data.specs.declared.fault.WriteFault.{WriteFault}
 use Rattle.bufr_data.specs.declared.fault.WriteFault.TheVariants as misfits
 use Rattle.bufr_data.specs.Plain.{raw_bits, field_bits, plain, plain_subsets, SubsetRead, raw_at}
-use Rattle.bufr_data.specs.Plain.{number_of, field_then, stopped, fields_at, subsets_at, stands_for}
-use Rattle.bufr_data.specs.Plain.{misfit, items_of, items_of_all}
+use Rattle.bufr_data.specs.Plain.{number_of, field_then, fields_at, subsets_at, stands_for, misfit}
+use Rattle.bufr_data.specs.Plain.{items_of, items_of_all}
 use Rattle.bufr_data.specs.Data.{written_bits}
 use Rattle.bufr_data.specs.Fits.{HasForm, of_text, of_number, FitsWithin, AllFitWithin}
 use Rattle.bufr_data.specs.Fits.{SubsetStands}
 use Rattle.bufr_data.specs.Refusals.{IsAsked, Passes, NoneStands, IsWithinLimits}
 use Rattle.bufr_data.specs.CourseLaws.{AreUnrolled, AreAllowed}
-use Rattle.bufr_data.specs.FormLaws.{form_passes, form_is, asked_is, asked_passes, octets_are}
+use Rattle.bufr_data.specs.FormLaws.{form_passes, form_is, asked_is, asked_passes}
 use Rattle.bufr_data.proofs.CourseRefusals.{CannotStand, FieldRefused, SubsetRefused, CannotGoOn}
-use Rattle.bufr_data.proofs.CourseRefusals.{FieldMisfits, SubsetMisfits}
-use Rattle.bufr_data.proofs.PlainFacts.{raw_again, raw_read, length-bits, numbers_below}
-use Rattle.bufr_data.proofs.PlainFacts.{bits_of_numbers}
+use Rattle.bufr_data.proofs.CourseRefusals.{FieldMisfits, SubsetMisfits, stop_is, stop_again}
+use Rattle.bufr_data.proofs.AnswerFacts.{map_err}
+use Rattle.bufr_data.proofs.PlainFacts.{raw_again, raw_read}
 use Rattle.bufr_data.proofs.FitFacts.{counted_fit, fitting_counted, read_stands, standing_read}
 
 -- ---- whether a field stands
@@ -69,7 +69,7 @@ raw_length : (spec : Spec) (raw : Raw) → IsWithinLimits spec → HasForm spec 
     → length (raw_bits spec.width raw) ≡ spec.width
 raw_length spec raw limits (of_text os is size all) =
     let whole : spec.width % 8 ≡ 0 = limits.whole_octets is in
-    omega (arith, length-bits os)
+    omega (arith, length-fields 8 os)
 raw_length spec raw limits (of_number n other few below) = length-bin spec.width n
 
 -- too few bits have no field
@@ -106,9 +106,8 @@ text_stands spec front is limits long none =
     let whole : spec.width % 8 ≡ 0 = limits.whole_octets is in
     let room : n * 8 ≤ length front = omega arith in
     none (Text (numbers n 8 front)) (drop (n * 8) front)
-    (of_text (numbers n 8 front) is (length-numbers n 8 front)
-    (octets_are (numbers n 8 front) (numbers_below n front room)))
-    (sym (bits_of_numbers n front room))
+    (of_text (numbers n 8 front) is (length-numbers n 8 front) (numbers_fit n 8 front room))
+    (sym (fields-numbers n 8 front room))
 
 -- enough bits have a field of any kind
 stands_by : (kind : Kind) (spec : Spec) (front : List Bool) → spec.kind ≡ kind → IsWithinLimits spec
@@ -133,18 +132,6 @@ few_where_none spec front limits none =
     ]
 
 -- ---- fields that are read
-
--- where the course stops, no field can stand
-stop_refused : (j i met : ℕ) (w : WalkFault) (front : List Bool) (fault : ReadFault)
-    → stopped {A = SubsetRead} w ≡ Err fault → CannotStand j i (stops met w) front fault
-stop_refused j i met walks.TooLarge front fault e = cc
-stop_refused j i met (walks.EffectiveRange d) front fault e = cc
-
--- and its fault is the one at which it stops
-stopped_again : (j i met : ℕ) (w : WalkFault) (front : List Bool) (fault : ReadFault)
-    → CannotStand j i (stops met w) front fault → stopped {A = SubsetRead} w ≡ Err fault
-stopped_again j i met walks.TooLarge front fault e = ap (λ x. Err x) (sym e)
-stopped_again j i met (walks.EffectiveRange d) front fault e = ap (λ x. Err x) (sym e)
 
 -- the refusal of the first field left
 refused_here : (j i : ℕ) (c : Course) (front : List Bool) (fault : ReadFault)
@@ -221,7 +208,7 @@ pub refused_stand : (j i : ℕ) (c : Course) (front : List Bool) (fault : ReadFa
 unfolding fields_at
 refused_stand j i (ends n) front fault e = absurd (not_err _ fault e)
 refused_stand j i (stops met w) front fault e =
-    refused_here j i (stops met w) front fault (stop_refused j i met w front fault e)
+    refused_here j i (stops met w) front fault (stop_is w fault e)
 refused_stand j i (asks met d spec more) front fault e =
     asked_refused j i met d spec more front _ fault refl
     (λ n rest h. refused_stand j (i + 1) (more n) rest fault h) e
@@ -231,7 +218,7 @@ here_again : (j i : ℕ) (c : Course) (front : List Bool) (fault : ReadFault)
     → CannotStand j i c front fault → fields_at j i c front ≡ Err fault
 unfolding fields_at
 here_again j i (ends n) front fault h = absurd h
-here_again j i (stops met w) front fault h = stopped_again j i met w front fault h
+here_again j i (stops met w) front fault h = stop_again w fault h
 here_again j i (asks met d spec more) front fault h =
     rw (none_read spec front h.1) (ap (λ x. Err x) (sym h.0))
 
@@ -601,19 +588,13 @@ all_misfit_again law tree (s ∷ before) j used items here others fault fit m =
     (rest, fit.1.3, omega arith, few)
     (subst (λ k. FieldMisfits k 1 (course tree items) here.fields fault) place m))
 
--- an error of what is mapped is an error before
-map_err : (o : Result ℕ WriteFault) (bits : List Bool) (fault : WriteFault)
-    → result_map (λ items. bits) o ≡ Err fault → o ≡ Err fault
-map_err (Ok n) bits fault e = absurd (not_err bits fault e)
-map_err (Err g) bits fault e = cc
-
 -- the fault of what is written is that of the first subset that does not fit
 pub written_refused_misfit : AreUnrolled
     → (tree : Tree) (subsets : List Subset) (fault : WriteFault)
     → written_bits tree false subsets ≡ Err fault → SubsetMisfits tree 1 0 subsets fault
 written_refused_misfit law tree subsets fault e =
     all_refused_misfit law tree 1 0 subsets fault (omega arith)
-    (map_err (items_of_all (course tree) 1 0 subsets) (plain_subsets subsets) fault e)
+    (map_err _ (items_of_all (course tree) 1 0 subsets) fault e)
 
 -- the first subset that does not fit has its fault answered
 pub written_misfit_refused : AreAllowed → (tree : Tree) (subsets : List Subset) (fault : WriteFault)

@@ -1,11 +1,11 @@
 -- The places of subsets one after the other: for `write_compressed`.
 use Rattle.std.proofs.Common.{◌≡◌, ℕ, zero, suc, ◌+◌, ◌<◌, ◌≤◌, Bool, true, false, List, [], ◌∷◌}
 use Rattle.std.proofs.Common.{length, map, take, drop, get_or, Some, None, Result, Ok, Err, refl}
-use Rattle.std.proofs.Common.{sym, ap, ◌∙◌, add-one, arith, drop-cons}
+use Rattle.std.proofs.Common.{sym, ap, ◌∙◌, arith}
 use Rattle.std.specs.Prelude.{◌&&◌, slice_get}
 use Rattle.std.specs.List.{list_all}
 use Rattle.std.proofs.lemmas.List.{drop-drop, drop_all, take_all}
-use Rattle.std.proofs.lemmas.List.Folds.{list_all-map, list_all_more}
+use Rattle.std.proofs.lemmas.List.Folds.{list_all-map, list_all_at, list_all_more}
 use Rattle.std.proofs.lemmas.Option.{slice_get_within, get_or_from_slice_get}
 use Rattle.bufr_data.specs.declared.field.Raw.{Raw}
 use Rattle.bufr_data.specs.declared.field.Field.{Field}
@@ -16,7 +16,8 @@ use Rattle.bufr_data.specs.Columns.{Column}
 use Rattle.bufr_data.specs.BestColumns.{can_be_column, begins_like, first_raw, is_empty, column_or}
 use Rattle.bufr_data.specs.BestColumns.{columns_of}
 use Rattle.bufr_data.specs.Places.{rows_from, values_from, columns_here}
-use Rattle.bufr_data.proofs.PackedFacts.{taken, none_taken}
+use Rattle.bufr_data.proofs.ListFacts.{left_is}
+use Rattle.bufr_data.proofs.PackedFacts.{taken, none_taken, column_passes, column_behind}
 
 -- ---- one row
 
@@ -24,9 +25,7 @@ use Rattle.bufr_data.proofs.PackedFacts.{taken, none_taken}
 pub next_is : {X : Type 0} → (xs : List X) (k : ℕ) (x : X) → slice_get xs k ≡ Some x
     → drop k xs ≡ x ∷ drop (k + 1) xs
 next_is xs k x e =
-    let inside = slice_get_within xs k x e in
-    let there : get_or xs k x ≡ x = get_or_from_slice_get xs k x x e in
-    rw (add-one k) (drop-cons xs k x inside ∙ ap (λ y. y ∷ drop (suc k) xs) there)
+    left_is xs k x (slice_get_within xs k x e) (sym (get_or_from_slice_get xs k x x e))
 
 -- where there is none, nothing is left
 pub none_next : {X : Type 0} → (xs : List X) (k : ℕ) → slice_get xs k ≡ None → drop k xs ≡ []
@@ -40,14 +39,7 @@ none_next (x ∷ xs) (suc k) e = none_next xs k e
 -- a test that one fails is failed by all
 pub all_false : {X : Type 0} → (p : X → Bool) (xs : List X) (k : ℕ) (x : X) → k < length xs
     → x ≡ get_or xs k x → p x ≡ false → list_all p xs ≡ false
-all_false p [] k x less is e = absurd (omega (arith, less))
-all_false p (y ∷ xs) zero x less is e = rw (sym (ap p is) ∙ e) refl
-all_false p (y ∷ xs) (suc k) x less is e =
-    rw (all_false p xs k x (omega (arith, less)) is e) (none_both (p y))
-  where
-    none_both : (b : Bool) → (b && false) ≡ false
-    none_both true = refl
-    none_both false = refl
+all_false p xs k x less is e = list_all_at p xs k x less (sym (ap p is) ∙ e)
 
 -- a test of the front and one more
 pub all_step : {X : Type 0} → (p : X → Bool) (xs : List X) (k : ℕ) (x : X) → k < length xs
@@ -100,11 +92,6 @@ pub place_fails : (place : ℕ) (f : Field) (fs : List Field) (others : List Sub
 unfolding columns_of
 place_fails place f fs others e = column_fails (place + 1) _ _ _ e
 
--- behind a place that is a column, the fault is a later one
-column_of_next : (i : ℕ) (b : Bool) (c : Column) (others : Result (List Column) WriteFault)
-    (fault : WriteFault) → b ≡ true → others ≡ Err fault → column_or i b c others ≡ Err fault
-column_of_next i b c others fault e f = rw (e, f) refl
-
 -- so it is at a field of the first subset
 pub next_fails : (place : ℕ) (f : Field) (fs : List Field) (others : List Subset)
     (fault : WriteFault)
@@ -114,13 +101,8 @@ pub next_fails : (place : ℕ) (f : Field) (fs : List Field) (others : List Subs
     → columns_of (place + 1) (f ∷ fs) (rows_from place others) ≡ Err fault
 unfolding columns_of
 next_fails place f fs others fault e fails =
-    column_of_next (place + 1) _ _ _ fault e
+    column_behind (place + 1) _ _ _ fault e
     (ap (columns_of (place + 1 + 1) fs) (rows_next place others) ∙ fails)
-
--- a place that is a column, and then the others
-column_passes : (i : ℕ) (b : Bool) (c : Column) (others : Result (List Column) WriteFault)
-    (cs : List Column) → b ≡ true → others ≡ Ok cs → column_or i b c others ≡ Ok (c ∷ cs)
-column_passes i b c others cs e f = rw (e, f) refl
 
 -- so it is at a field of the first subset
 pub next_passes : (place : ℕ) (f : Field) (fs : List Field) (others : List Subset)
@@ -179,9 +161,7 @@ pub place_more : (fields : List Field) (others : List Subset) (place : ℕ) (f :
     && can_be_column f.spec (values_from f (rows_from place others)))
     ≡ true → PlacesSoFar fields others (place + 1)
 place_more fields others place f so_far less is e =
-    let next : drop place fields ≡ f ∷ drop (place + 1) fields =
-    rw (add-one place)
-    (drop-cons fields place f less ∙ ap (λ y. y ∷ drop (suc place) fields) (sym is)) in
+    let next = left_is fields place f less is in
     record {
       fails =
           λ fault fails. so_far.fails fault
@@ -200,9 +180,7 @@ pub place_refused : (fields : List Field) (others : List Subset) (place : ℕ) (
     && can_be_column f.spec (values_from f (rows_from place others)))
     ≡ false → columns_of 1 fields (rows_from 0 others) ≡ Err (misfits.NotCompressible (place + 1))
 place_refused fields others place f so_far less is e =
-    let next : drop place fields ≡ f ∷ drop (place + 1) fields =
-    rw (add-one place)
-    (drop-cons fields place f less ∙ ap (λ y. y ∷ drop (suc place) fields) (sym is)) in
+    let next = left_is fields place f less is in
     so_far.fails _
     (ap (λ fs. columns_of (place + 1) fs (rows_from place others)) next
     ∙ place_fails place f (drop (place + 1) fields) others e)

@@ -1,9 +1,9 @@
 -- The index keeps a start for each plain subset that is passed, one after the other
 -- (`PlainSubsets::index`).
 use Rattle.std.proofs.Common.{◌≡◌, ℕ, ◌+◌, ◌-◌, ◌*◌, ◌<◌, ◌≤◌, Bool, List, [], ◌∷◌, ◌++◌, length}
-use Rattle.std.proofs.Common.{map, drop, Result, Ok, Err, refl, sym, ap, subst, ◌∙◌}
+use Rattle.std.proofs.Common.{map, drop, Result, Ok, refl, sym, ap, subst, ◌∙◌}
 use Rattle.std.specs.Prelude.{IsOk}
-use Rattle.std.proofs.lemmas.List.{map-append}
+use Rattle.bufr_data.proofs.ListFacts.{all_grown, map_grown}
 use Rattle.bufr_bits.specs.Bits.{bits}
 use Rattle.bufr_expand.specs.Courses.{course}
 use Rattle.bufr_expand.specs.Trees.{Tree}
@@ -15,18 +15,6 @@ use Rattle.bufr_data.specs.Numbered.{numbered, after}
 use Rattle.bufr_data.specs.Starts.{PassesSubset, fields_of, subset_at, subset_from, BeginsAtStart}
 use Rattle.bufr_data.specs.Starts.{AllStand}
 use Rattle.bufr_data.proofs.SubsetFacts.{fields_at_numbered, one_more}
-
--- an answer that is known is an answer
-ok_is : {A F : Type 0} (r : Result A F) (x : A) → r ≡ Ok x → IsOk r
-ok_is (Ok y) x e = refl
-ok_is (Err f) x e = absurd cc
-
--- one more start at the end, and a subset begins at each
-all_push : (octets : List ℕ) (tree : Tree) (starts : List SubsetStart) (s : SubsetStart)
-    → AllStand octets tree starts → BeginsAtStart octets tree s
-    → AllStand octets tree (starts ++ s ∷ [])
-all_push octets tree [] s all one = (one, tt)
-all_push octets tree (t ∷ starts) s all one = (all.0, all_push octets tree starts s all.1 one)
 
 -- what was passed is read from the start on
 read_there : (octets : List ℕ) (tree : Tree) (s : SubsetStart) (front rest : List Bool) (items : ℕ)
@@ -44,9 +32,8 @@ pub one_stands : (octets : List ℕ) (tree : Tree) (s : SubsetStart) (front rest
     → PassesSubset (fields_at 1 1 (course tree s.used) front) items rest
     → AllStand octets tree grown
 one_stands octets tree s front rest items starts grown is there inside all p =
-    subst (AllStand octets tree) (sym is)
-    (all_push octets tree starts s all
-    (inside, ok_is _ _ (read_there octets tree s front rest items there p)))
+    all_grown (BeginsAtStart octets tree) starts grown s is all
+    (inside, subst IsOk (sym (read_there octets tree s front rest items there p)) refl)
 
 -- one start more is that of one subset more
 pub one_start : (octets : List ℕ) (tree : Tree) (s : SubsetStart) (n index : ℕ)
@@ -69,8 +56,7 @@ one_start octets tree s n index front rest items starts grown all is there below
     let same : map (subset_from octets tree) starts ++ record { fields = p.0 } ∷ []
     ≡ map (subset_from octets tree) grown =
     ap (λ (x : Subset). map (subset_from octets tree) starts ++ x ∷ []) here
-    ∙ sym (map-append (subset_from octets tree) starts (s ∷ []))
-    ∙ ap (map (subset_from octets tree)) (sym is) in
+    ∙ sym (map_grown (subset_from octets tree) starts grown s is) in
     one_more (course tree) n index s.used front
     (map (subset_from octets tree) starts) all first below so_far found
     ∙ ap

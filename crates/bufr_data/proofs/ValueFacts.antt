@@ -1,13 +1,13 @@
 -- One value of a column behind its minimum and width: for the subset of an index
 -- (`Columns::subset`).
 use Rattle.std.proofs.Common.{◌≡◌, ℕ, zero, suc, ◌+◌, ◌-◌, ◌*◌, ◌/◌, ◌<◌, ◌≤◌, Bool, true, false}
-use Rattle.std.proofs.Common.{cond, List, ◌∷◌, ◌++◌, length, take, drop, replicate, get_or, Option}
-use Rattle.std.proofs.Common.{Some, None, refl, sym, ap, ◌∙◌, arith}
-use Rattle.std.specs.Prelude.{◌==◌, option_map, IsSome}
+use Rattle.std.proofs.Common.{cond, List, ◌++◌, length, take, drop, replicate, get_or, Option, Some}
+use Rattle.std.proofs.Common.{None, refl, sym, ap, ◌∙◌, arith}
+use Rattle.std.specs.Prelude.{◌==◌, option_map}
 use Rattle.std.specs.List.{list_all}
 use Rattle.std.proofs.lemmas.Bool.{le-ltb, lt-ltb, le-leb}
-use Rattle.std.proofs.lemmas.List.{length-drop, take_all}
-use Rattle.bufr_bits.specs.Bits.{bin, bits, numbers, number_at, octets_at}
+use Rattle.std.proofs.lemmas.List.{length-drop, replicate-append-replicate, take_all}
+use Rattle.bufr_bits.specs.Bits.{bits, numbers, number_at, octets_at}
 use Rattle.bufr_bits.specs.BitLaws.{number_at-bin}
 use Rattle.bufr_bits.specs.NumberLaws.{numbers_at_found}
 use Rattle.bufr_tables.specs.declared.element.Kind.TheVariants as kinds
@@ -17,13 +17,11 @@ use Rattle.bufr_expand.specs.declared.operators.Spec.{Spec}
 use Rattle.bufr_data.specs.declared.field.Raw.{Raw}
 use Rattle.bufr_data.specs.declared.field.Raw.TheVariants.{Number, Text}
 use Rattle.bufr_data.specs.declared.columns.Place.{Place}
-use Rattle.bufr_data.specs.Plain.{raw_at, field_number_at}
+use Rattle.bufr_data.specs.Plain.{field_number_at}
 use Rattle.bufr_data.specs.Columns.{IsColumn}
 use Rattle.bufr_data.specs.ColumnReading.{filled}
 use Rattle.bufr_data.specs.Indexed.{values_of, read_at, Opens, one_behind, one_at}
-use Rattle.bufr_data.specs.FormLaws.{form_passes}
-use Rattle.bufr_data.proofs.PlainFacts.{raw_again}
-use Rattle.bufr_data.proofs.ColumnFacts.{column_found, ones_of}
+use Rattle.bufr_data.proofs.ColumnFacts.{column_found, head_read, ones_of}
 use Rattle.bufr_data.proofs.IndexFacts.{one_value}
 use Rattle.bufr_data.proofs.PassFacts.{octets_none, minimum_there, text_raw, number_raw}
 
@@ -118,13 +116,6 @@ pub own_octets : (k : ℕ) (front : List Bool) (own : List ℕ) (rest : List Boo
     → octets_at k front ≡ Some (own, rest) → length own ≡ k
 own_octets k front own rest e = (numbers_at_found k 8 front (own, rest) e).0
 
--- so many and so many of the same
-replicate-append : (a b x : ℕ) → replicate a x ++ replicate b x ≡ replicate (a + b) x
-replicate-append zero b x = let same : b ≡ 0 + b = omega arith in ap (λ n. replicate n x) same
-replicate-append (suc a) b x =
-    let same : suc (a + b) ≡ suc a + b = omega arith in
-    ap (λ xs. x ∷ xs) (replicate-append a b x) ∙ ap (λ n. replicate n x) same
-
 -- a text is filled as the code does
 pub filled_is : (octets : ℕ) (own : List ℕ) (filler : ℕ) (t : Bool)
     → list_all (λ x. x == 255) own ≡ t → filler ≡ cond t 255 32 → length own ≤ octets
@@ -136,7 +127,8 @@ filled_is octets own filler true ones is short =
     let joined : take octets own ++ replicate (octets - length own) filler ≡ replicate octets 255 =
     ap (λ xs. xs ++ replicate (octets - length own) filler) (take_all octets own short ∙ whole)
     ∙ ap (λ f. replicate (length own) 255 ++ replicate (octets - length own) f) is
-    ∙ replicate-append (length own) (octets - length own) 255 ∙ ap (λ n. replicate n 255) size in
+    ∙ replicate-append-replicate (length own) (octets - length own) 255
+    ∙ ap (λ n. replicate n 255) size in
     rw ones (ap (λ xs. Text xs) joined)
 filled_is octets own filler false ones is short =
     let joined : take octets own ++ replicate (octets - length own) filler ≡ own
@@ -173,13 +165,8 @@ value_at_column : (spec : Spec) (values : List Raw) (column rest : List Bool) (i
     → one_at spec index (column ++ rest) ≡ Some (get_or values index (Number 0))
 value_at_column spec values column rest index is inside =
     let one = one_value spec values column rest index is inside in
-    let first : raw_at spec (column ++ rest) ≡ Some (one.minimum, bin 6 one.k ++ one.rest) =
-    ap (raw_at spec) one.heads.spelt
-    ∙ raw_again spec.kind spec.width one.minimum (bin 6 one.k ++ one.rest)
-    (form_passes spec one.minimum one.heads.form) in
-    let second : number_at 6 (bin 6 one.k ++ one.rest) ≡ Some (one.k, one.rest) =
-    number_at-bin 6 one.k one.rest one.heads.few in
-    rw (first, second) one.value
+    let first = head_read spec (column ++ rest) one.minimum one.k one.rest one.heads in
+    rw (first, number_at-bin 6 one.k one.rest one.heads.few) one.value
 
 -- the value at an index of a column at a place
 pub value_there : (octets : List ℕ) (n index : ℕ) (p : Place) → Opens octets n p → index < n
@@ -192,11 +179,6 @@ value_there octets n index p opens inside =
     ap (one_at p.spec index) found.3
     ∙ value_at_column p.spec x.0.0 found.0 x.0.1 index found.2 short
     ∙ ap (λ vs. Some (get_or vs index (Number 0))) (ap values_of (sym x.1))
-
--- a value that is known is one
-pub some_there : {A : Type 0} (o : Option A) (x : A) → o ≡ Some x → IsSome o
-some_there (Some y) x e = refl
-some_there None x e = absurd cc
 
 -- the bits before a text, in either order of the factors
 pub behind_is : (a b index k : ℕ) → a ≡ index → b ≡ k → a * (8 * b) ≡ index * (k * 8)

@@ -1,10 +1,10 @@
 -- One step of a walk is one step of fitting: for `write_plain` and `write_subsets`.
 use Rattle.bufr_tables.specs.Answers.{Fails, result_map}
-use Rattle.std.proofs.Common.{◌≡◌, ℕ, suc, ◌+◌, ◌<◌, ◌≤◌, Bool, true, false, cond, List, [], ◌∷◌}
-use Rattle.std.proofs.Common.{◌++◌, length, take, drop, get_or, Result, Ok, Err, refl, sym, ap}
-use Rattle.std.proofs.Common.{subst, ◌∙◌, add-one, append_assoc, append-nil, drop-cons}
+use Rattle.std.proofs.Common.{◌≡◌, ℕ, ◌+◌, ◌<◌, ◌≤◌, Bool, true, false, cond, List, [], ◌∷◌, ◌++◌}
+use Rattle.std.proofs.Common.{length, take, drop, get_or, Result, Ok, Err, refl, sym, ap, subst}
+use Rattle.std.proofs.Common.{◌∙◌}
 use Rattle.std.specs.Prelude.{◌&&◌, ◌==◌}
-use Rattle.std.proofs.lemmas.List.{take_more, take_all, drop_all}
+use Rattle.std.proofs.lemmas.List.{take_all, drop_all}
 use Rattle.bufr_tables.specs.declared.failure.Failure.{Failure}
 use Rattle.bufr_tables.specs.declared.failure.Failure.TheVariants.{Fault, OutOfMemory}
 use Rattle.bufr_expand.specs.declared.operators.Spec.{Spec}
@@ -12,21 +12,22 @@ use Rattle.bufr_expand.specs.declared.walk.Step.TheVariants as steps
 use Rattle.bufr_expand.specs.declared.walk.Walk.{Walk}
 use Rattle.bufr_expand.specs.declared.walk.WalkFault.{WalkFault}
 use Rattle.bufr_expand.specs.Courses.{Course, ends, stops, asks}
-use Rattle.bufr_expand.specs.Walks.{left, items_met, Goes, Counted, IsBelowCount}
+use Rattle.bufr_expand.specs.Walks.{left, items_met, Goes, IsBelowCount}
 use Rattle.bufr_data.specs.declared.field.Field.{Field}
 use Rattle.bufr_data.specs.declared.field.Subset.{Subset}
 use Rattle.bufr_data.specs.declared.fault.WriteFault.{WriteFault}
 use Rattle.bufr_data.specs.declared.fault.WriteFault.TheVariants as misfits
 use Rattle.bufr_data.specs.Plain.{number_of, same_spec, has_form_by, stands_for, misfit, items_of}
-use Rattle.bufr_data.specs.Plain.{items_of_all, field_bits, plain, plain_subsets}
+use Rattle.bufr_data.specs.Plain.{items_of_all, plain, plain_subsets}
 use Rattle.bufr_data.specs.Subsets.{fits_or, has_own_form}
-use Rattle.bufr_data.proofs.PlainFacts.{and_first, and_second, guard_ok}
-use Rattle.std.specs.List.{list_all}
-use Rattle.bufr_expand.specs.Steady.{IsSteady}
-use Rattle.bufr_data.specs.Steady.{IsReady}
-use Rattle.bufr_data.specs.FormLaws.{same_spec_is}
-use Rattle.bufr_data.specs.StepLaws.{asks_field, asks_count, ends_there, stops_there, steady_step}
-use Rattle.bufr_data.specs.StepLaws.{count_fits}
+use Rattle.bufr_data.proofs.PlainFacts.{guard_ok}
+use Rattle.std.specs.List.{flat_map, list_all}
+use Rattle.std.proofs.lemmas.Bool.{and_parts}
+use Rattle.bufr_data.specs.Fits.{HasForm}
+use Rattle.bufr_data.specs.FormLaws.{asked_is, form_passes}
+use Rattle.bufr_data.specs.StepLaws.{ends_there, stops_there, count_fits}
+use Rattle.bufr_data.proofs.ListFacts.{front_is, left_is, put_grown}
+use Rattle.bufr_data.proofs.StepFacts.{Asks, GoesOn}
 
 -- ---- one field
 
@@ -58,35 +59,13 @@ asked_lacks : (j i met d : ℕ) (spec : Spec) (more : ℕ → Course)
 unfolding items_of
 asked_lacks j i met d spec more = refl
 
--- a field at which the walk steps is counted
-pub field_is_written : (old new : Walk) (j i d : ℕ) (spec : Spec) (f : Field) (rest : List Field)
-    → IsReady old → Goes (left old) (Ok (steps.Field d spec)) new → stands_for d spec f ≡ true
-    → items_of j i (left old) (f ∷ rest) ≡ items_of j (i + 1) (left new) rest
-field_is_written old new j i d spec f rest ready g e =
-    let a = asks_field (left old) d spec new g in
-    let s =
-    steady_step (items_met old) a.met d spec a.more
-    (subst (λ (x : Course). IsSteady (items_met old) x) a.is ready.steady) in
-    ap (λ c. items_of j i c (f ∷ rest)) a.is
-    ∙ asked_fits j i a.met d spec a.more f rest e
-    ∙ ap (λ c. items_of j (i + 1) c rest) (s.2 a.kind (number_of f.raw) ∙ sym a.after)
-
--- so is a count
-pub count_is_written : (old mid new : Walk) (j i d : ℕ) (spec : Spec) (f : Field)
-    (rest : List Field) → Goes (left old) (Ok (steps.Count d spec)) mid
-    → Counted (left mid) (number_of f.raw) new → stands_for d spec f ≡ true
-    → items_of j i (left old) (f ∷ rest) ≡ items_of j (i + 1) (left new) rest
-count_is_written old mid new j i d spec f rest g counted e =
-    let a = asks_count (left old) d spec mid g in
-    let told = subst (λ (x : Course). Counted x (number_of f.raw) new) a.waiting counted in
-    ap (λ c. items_of j i c (f ∷ rest)) a.is
-    ∙ asked_fits j i a.met d spec a.more f rest e
-    ∙ ap (λ c. items_of j (i + 1) c rest) (sym told.0)
-
--- the second of two truths
-form_of : (a b : Bool) → (a && b) ≡ true → b ≡ true
-form_of true b e = e
-form_of false b e = absurd cc
+-- a field for which the course asks is counted
+pub step_is_written : (c later : Course) (j i d : ℕ) (spec : Spec) (f : Field) (rest : List Field)
+    → GoesOn c d spec (number_of f.raw) later → stands_for d spec f ≡ true
+    → items_of j i c (f ∷ rest) ≡ items_of j (i + 1) later rest
+step_is_written c later j i d spec f rest a e =
+    ap (λ x. items_of j i x (f ∷ rest)) a.is ∙ asked_fits j i a.met d spec a.more f rest e
+    ∙ ap (λ x. items_of j (i + 1) x rest) a.after
 
 -- a count of its spec's form may be told to the walk
 pub count_written_fits : (old mid : Walk) (d : ℕ) (spec : Spec) (f : Field)
@@ -94,25 +73,16 @@ pub count_written_fits : (old mid : Walk) (d : ℕ) (spec : Spec) (f : Field)
     → IsBelowCount (left mid) (number_of f.raw)
 count_written_fits old mid d spec f g e =
     count_fits old mid d spec f.raw g
-    (form_of (f.fxy == d && same_spec f.spec spec) (has_form_by spec.kind spec.width f.raw) e)
+    (and_parts (f.fxy == d && same_spec f.spec spec) (has_form_by spec.kind spec.width f.raw) e).1
 
 -- a field that is not the one asked for is the fault
-pub field_misfits : (old new : Walk) (j i d : ℕ) (spec : Spec) (f : Field) (rest : List Field)
-    (e : Failure WriteFault) → Goes (left old) (Ok (steps.Field d spec)) new
-    → Fails e (fits_or j i (stands_for d spec f)) → Fails e (items_of j i (left old) (f ∷ rest))
-field_misfits old new j i d spec f rest OutOfMemory g h = tt
-field_misfits old new j i d spec f rest (Fault fault) g h =
-    let a = asks_field (left old) d spec new g in
-    ap (λ c. items_of j i c (f ∷ rest)) a.is ∙ asked_misfits j i a.met d spec a.more f rest fault h
-
--- so is a count
-pub count_misfits : (old mid : Walk) (j i d : ℕ) (spec : Spec) (f : Field) (rest : List Field)
-    (e : Failure WriteFault) → Goes (left old) (Ok (steps.Count d spec)) mid
-    → Fails e (fits_or j i (stands_for d spec f)) → Fails e (items_of j i (left old) (f ∷ rest))
-count_misfits old mid j i d spec f rest OutOfMemory g h = tt
-count_misfits old mid j i d spec f rest (Fault fault) g h =
-    let a = asks_count (left old) d spec mid g in
-    ap (λ c. items_of j i c (f ∷ rest)) a.is ∙ asked_misfits j i a.met d spec a.more f rest fault h
+pub step_misfits : (c : Course) (j i d : ℕ) (spec : Spec) (f : Field) (rest : List Field)
+    (e : Failure WriteFault) → Asks c d spec → Fails e (fits_or j i (stands_for d spec f))
+    → Fails e (items_of j i c (f ∷ rest))
+step_misfits c j i d spec f rest OutOfMemory a h = tt
+step_misfits c j i d spec f rest (Fault fault) a h =
+    ap (λ x. items_of j i x (f ∷ rest)) a.is
+    ∙ asked_misfits j i a.met d spec a.more f rest fault h
 
 -- a field too many is the fault
 pub end_misfits : (old new : Walk) (j i : ℕ) (f : Field) (rest : List Field)
@@ -137,20 +107,10 @@ end_fits old new j i n g e =
     ap (λ c. items_of j i c []) (ends_there (left old) new g) ∙ ap (λ x. Ok x) (sym e)
 
 -- a field too few is the fault
-pub field_lacks : (old new : Walk) (j i d : ℕ) (spec : Spec)
-    → Goes (left old) (Ok (steps.Field d spec)) new
-    → items_of j i (left old) [] ≡ Err (misfits.DoesNotFit j i)
-field_lacks old new j i d spec g =
-    let a = asks_field (left old) d spec new g in
-    ap (λ c. items_of j i c []) a.is ∙ asked_lacks j i a.met d spec a.more
-
--- so is a count too few
-pub count_lacks : (old mid : Walk) (j i d : ℕ) (spec : Spec)
-    → Goes (left old) (Ok (steps.Count d spec)) mid
-    → items_of j i (left old) [] ≡ Err (misfits.DoesNotFit j i)
-count_lacks old mid j i d spec g =
-    let a = asks_count (left old) d spec mid g in
-    ap (λ c. items_of j i c []) a.is ∙ asked_lacks j i a.met d spec a.more
+pub step_lacks : (c : Course) (j i d : ℕ) (spec : Spec) → Asks c d spec
+    → items_of j i c [] ≡ Err (misfits.DoesNotFit j i)
+step_lacks c j i d spec a =
+    ap (λ x. items_of j i x []) a.is ∙ asked_lacks j i a.met d spec a.more
 
 -- what passes the test of fields is asked for
 pub fits_is : (j i : ℕ) (b : Bool) (u : Unit {0}) → fits_or j i b ≡ Ok u → b ≡ true
@@ -159,40 +119,13 @@ fits_is j i false u e = absurd cc
 
 -- ---- fields one after the other
 
--- the list from an index on begins with the one there
-next_is : {X : Type 0} → (xs : List X) (k : ℕ) (x : X) → k < length xs → x ≡ get_or xs k x
-    → drop k xs ≡ x ∷ drop (k + 1) xs
-next_is xs k x h is = rw (add-one k) (drop-cons xs k x h ∙ ap (λ y. y ∷ drop (suc k) xs) (sym is))
-
--- the front with one more
-front_is : {X : Type 0} → (xs : List X) (k : ℕ) (x : X) → k < length xs → x ≡ get_or xs k x
-    → take (k + 1) xs ≡ take k xs ++ x ∷ []
-front_is xs k x h is = take_more xs k x h ∙ ap (λ y. take k xs ++ y ∷ []) (sym is)
-
--- the bits of fields with one more
-plain-push : (fs : List Field) (f : Field) → plain (fs ++ f ∷ []) ≡ plain fs ++ field_bits f
-plain-push [] f = append-nil (field_bits f)
-plain-push (g ∷ fs) f =
-    ap (λ xs. field_bits g ++ xs) (plain-push fs f)
-    ∙ sym (append_assoc (field_bits g) (plain fs) (field_bits f))
-
--- the bits of subsets with one more
-subsets-push : (ss : List Subset) (s : Subset)
-    → plain_subsets (ss ++ s ∷ []) ≡ plain_subsets ss ++ plain s.fields
-subsets-push [] s = append-nil (plain s.fields)
-subsets-push (t ∷ ss) s =
-    ap (λ xs. plain t.fields ++ xs) (subsets-push ss s)
-    ∙ sym (append_assoc (plain t.fields) (plain_subsets ss) (plain s.fields))
-
--- the bits that were put with those of one more field
-pub bits_step : (k : ℕ) (fields : List Field) (f : Field) (old mid new : List Bool)
-    → k < length fields → f ≡ get_or fields k f → mid ≡ old ++ plain (take k fields)
-    → new ≡ mid ++ field_bits f → new ≡ old ++ plain (take (k + 1) fields)
-bits_step k fields f old mid new h is so_far put =
-    put ∙ ap (λ xs. xs ++ field_bits f) so_far
-    ∙ append_assoc old (plain (take k fields)) (field_bits f)
-    ∙ ap (λ xs. old ++ xs) (sym (plain-push (take k fields) f))
-    ∙ ap (λ fs. old ++ plain fs) (sym (front_is fields k f h is))
+-- the bits that were put with those of one more
+pub bits_step : {X : Type 0} → (f : X → List Bool) (k : ℕ) (xs : List X) (x : X)
+    (old mid new : List Bool) → k < length xs → x ≡ get_or xs k x
+    → mid ≡ old ++ flat_map f (take k xs) → new ≡ mid ++ f x
+    → new ≡ old ++ flat_map f (take (k + 1) xs)
+bits_step f k xs x old mid new h is so_far put =
+    put_grown f (take k xs) (take (k + 1) xs) x old mid new (front_is xs k x h is) so_far put
 
 -- at the end they are those of all
 pub bits_end : (k : ℕ) (fields : List Field) (old new : List Bool) → length fields ≤ k
@@ -228,7 +161,7 @@ pub subsets_step : (course : ℕ → Course) (k used n : ℕ) (subsets : List Su
     → items_of (k + 1) 1 (course used) s.fields ≡ Ok n
     → whole ≡ items_of_all course (k + 1 + 1) n (drop (k + 1) subsets)
 subsets_step course k used n subsets s whole h is so_far e =
-    so_far ∙ ap (λ ss. items_of_all course (k + 1) used ss) (next_is subsets k s h is)
+    so_far ∙ ap (λ ss. items_of_all course (k + 1) used ss) (left_is subsets k s h is)
     ∙ one_more course (k + 1) used n s (drop (k + 1) subsets) e
 
 -- where one fails, what is written fails
@@ -240,7 +173,7 @@ pub subsets_fail : (course : ℕ → Course) (k used : ℕ) (subsets : List Subs
 subsets_fail course k used subsets s whole OutOfMemory h is so_far fails = tt
 subsets_fail course k used subsets s whole (Fault f) h is so_far fails =
     ap (result_map (λ items. plain_subsets subsets))
-    (so_far ∙ ap (λ ss. items_of_all course (k + 1) used ss) (next_is subsets k s h is)
+    (so_far ∙ ap (λ ss. items_of_all course (k + 1) used ss) (left_is subsets k s h is)
     ∙ one_fails course (k + 1) used s (drop (k + 1) subsets) (Fault f) fails)
 
 -- at the end all are written
@@ -253,28 +186,13 @@ subsets_end course k used subsets whole h so_far =
     (so_far ∙ ap (λ ss. items_of_all course (k + 1) used ss) (drop_all k subsets h)
     ∙ none_left course (k + 1) used)
 
--- the bits that were put with those of one more subset
-pub subset_bits_step : (k : ℕ) (subsets : List Subset) (s : Subset) (old mid new : List Bool)
-    → k < length subsets → s ≡ get_or subsets k s → mid ≡ old ++ plain_subsets (take k subsets)
-    → new ≡ mid ++ plain s.fields → new ≡ old ++ plain_subsets (take (k + 1) subsets)
-subset_bits_step k subsets s old mid new h is so_far put =
-    put ∙ ap (λ xs. xs ++ plain s.fields) so_far
-    ∙ append_assoc old (plain_subsets (take k subsets)) (plain s.fields)
-    ∙ ap (λ xs. old ++ xs) (sym (subsets-push (take k subsets) s))
-    ∙ ap (λ ss. old ++ plain_subsets ss) (sym (front_is subsets k s h is))
-
 -- ---- fields that were counted have their forms
 
 -- a field that is asked for has a raw value of its form
 own_form : (d : ℕ) (spec : Spec) (f : Field) → stands_for d spec f ≡ true → has_own_form f ≡ true
 own_form d spec f e =
-    let both =
-    and_first (f.fxy == d && same_spec f.spec spec)
-    (has_form_by spec.kind spec.width f.raw) e in
-    let same : f.spec ≡ spec =
-    same_spec_is _ _ (and_second (f.fxy == d) (same_spec f.spec spec) both) in
-    ap (λ (s : Spec). has_form_by s.kind s.width f.raw) same
-    ∙ and_second (f.fxy == d && same_spec f.spec spec) (has_form_by spec.kind spec.width f.raw) e
+    let is = asked_is d spec f e in
+    form_passes f.spec f.raw (subst (λ (x : Spec). HasForm x f.raw) (sym is.1) is.2)
 
 -- so has each field that is counted
 pub counted_forms : (j i : ℕ) (c : Course) (fields : List Field) (n : ℕ)

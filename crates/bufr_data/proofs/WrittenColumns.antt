@@ -1,28 +1,26 @@
 -- Which subsets are written compressed, and that their columns are the best: for the law on what
 -- messages know of data (`data_hold_subsets`).
-use Rattle.std.proofs.Common.{◌≡◌, ℕ, zero, suc, ◌+◌, ◌*◌, ◌<◌, ◌≤◌, Bool, true, List, [], ◌∷◌}
-use Rattle.std.proofs.Common.{length, map, drop, get_or, Result, Ok, refl, sym, ap, subst, ◌∙◌}
-use Rattle.std.proofs.Common.{arith}
-use Rattle.std.specs.Prelude.{◌&&◌, nat_lt}
+use Rattle.std.proofs.Common.{◌≡◌, ℕ, zero, suc, ◌+◌, ◌*◌, Bool, true, List, [], ◌∷◌, length, map}
+use Rattle.std.proofs.Common.{drop, get_or, Ok, refl, sym, ap, subst, ◌∙◌, arith}
+use Rattle.std.specs.Prelude.{nat_lt}
 use Rattle.std.specs.List.{AllByRecursion, list_all}
-use Rattle.std.proofs.lemmas.Bool.{le-ltb, ltb-false, eq-eqb}
-use Rattle.std.proofs.lemmas.List.{length-map}
+use Rattle.std.proofs.lemmas.Bool.{and_from, le-ltb, ltb-false, eq-eqb}
+use Rattle.std.proofs.lemmas.List.{at_drop_more, drop_all, length-map}
 use Rattle.bufr_tables.specs.AnswerLaws.{bind_ok, guard_ok, ok_is}
 use Rattle.bufr_expand.specs.Trees.{Tree}
 use Rattle.bufr_data.specs.declared.field.Raw.{Raw}
 use Rattle.bufr_data.specs.declared.field.Raw.TheVariants.{Number}
 use Rattle.bufr_data.specs.declared.field.Field.{Field}
 use Rattle.bufr_data.specs.declared.field.Subset.{Subset}
-use Rattle.bufr_data.specs.declared.fault.WriteFault.{WriteFault}
 use Rattle.bufr_data.specs.Plain.{same_spec}
 use Rattle.bufr_data.specs.Columns.{Column, field_of, subsets_from}
-use Rattle.bufr_data.specs.BestColumns.{can_be_column, begins_like, first_raw, is_empty, column_or}
-use Rattle.bufr_data.specs.BestColumns.{columns_of, columns_of_all, packed, best_bits, CanBeWritten}
+use Rattle.bufr_data.specs.BestColumns.{can_be_column, begins_like, first_raw, is_empty, columns_of}
+use Rattle.bufr_data.specs.BestColumns.{columns_of_all, packed, best_bits, CanBeWritten}
 use Rattle.bufr_data.specs.BestColumns.{AreBestColumns}
 use Rattle.bufr_data.specs.Fits.{FitsAlone}
 use Rattle.bufr_data.specs.Data.{each_fits, written_bits}
 use Rattle.bufr_data.proofs.FitFacts.{fitting_counted}
-use Rattle.bufr_data.proofs.PackedFacts.{taken, none_taken, rows, each_row, each_fit}
+use Rattle.bufr_data.proofs.PackedFacts.{taken, none_taken, column_passes, columns_whole, each_fit}
 use Rattle.bufr_data.specs.Limits.{most_values}
 use Rattle.bufr_data.specs.FormLaws.{spec_is_same}
 use Rattle.bufr_data.specs.CourseLaws.{AreUnrolled, AreAllowed}
@@ -53,40 +51,14 @@ all_behind : (k m : ℕ) (c : Column) (cs : List Column)
 all_behind k zero c cs = refl
 all_behind k (suc m) c cs = ap (λ rows. map (field_of k) cs ∷ rows) (all_behind (k + 1) m c cs)
 
--- behind all values there is none
-drop_whole : (k : ℕ) (vs : List Raw) → length vs ≤ k → drop k vs ≡ []
-drop_whole zero [] all = refl
-drop_whole (suc k) [] all = refl
-drop_whole zero (v ∷ vs) all = absurd (omega (arith, all))
-drop_whole (suc k) (v ∷ vs) all = drop_whole k vs (omega (arith, all))
-
--- the values from an index on begin with the one there
-drop_next : (k : ℕ) (vs : List Raw) → k < length vs
-    → drop k vs ≡ get_or vs k (Number 0) ∷ drop (k + 1) vs
-drop_next k [] short = absurd (omega (arith, short))
-drop_next zero (v ∷ vs) short = refl
-drop_next (suc k) (v ∷ vs) short =
-    let same : suc k + 1 ≡ suc (k + 1) = omega arith in
-    drop_next k vs (omega (arith, short))
-    ∙ ap (λ n. get_or vs k (Number 0) ∷ drop n (v ∷ vs)) (sym same)
-
 -- the first values of subsets are those of the column
 values_behind : (k m : ℕ) (c : Column) (cs : List Column) → length c.values ≡ k + m
     → map first_raw (fields_from k m (c ∷ cs)) ≡ drop k c.values
-values_behind k zero c cs size = sym (drop_whole k c.values (omega (arith, size)))
+values_behind k zero c cs size = sym (drop_all k c.values (omega (arith, size)))
 values_behind k (suc m) c cs size =
     ap (λ vs. get_or c.values k (Number 0) ∷ vs)
     (values_behind (k + 1) m c cs (omega (arith, size)))
-    ∙ sym (drop_next k c.values (omega (arith, size)))
-
--- two truths are one
-both_true : (a b : Bool) → a ≡ true → b ≡ true → (a && b) ≡ true
-both_true a b ea eb = rw ea eb
-
--- a place that is a column, and then the others
-column_or_ok : (i : ℕ) (b : Bool) (c d : Column) (others : Result (List Column) WriteFault)
-    (cs : List Column) → b ≡ true → c ≡ d → others ≡ Ok cs → column_or i b c others ≡ Ok (d ∷ cs)
-column_or_ok i b c d others cs can same ok = rw (can, ok) (ap (λ x. Ok (x ∷ cs)) same)
+    ∙ sym (at_drop_more (λ (vs : List Raw). vs) c.values k (Number 0) (omega (arith, size)))
 
 -- columns each of which can be written are the columns of their subsets
 pub columns_written : (i m : ℕ) (columns : List Column)
@@ -97,14 +69,15 @@ columns_written i m [] all = rw (all_empty 1 m) refl
 columns_written i m (c ∷ cs) all =
     let here : get_or c.values 0 (Number 0) ∷ map first_raw (fields_from 1 m (c ∷ cs)) ≡ c.values =
     ap (λ vs. get_or c.values 0 (Number 0) ∷ vs) (values_behind 1 m c cs (omega (arith, all.0.0)))
-    ∙ sym (drop_next 0 c.values (omega (arith, all.0.0))) in
+    ∙ sym
+    (at_drop_more (λ (vs : List Raw). vs) c.values 0 (Number 0) (omega (arith, all.0.0))) in
     let can : can_be_column c.spec
     (get_or c.values 0 (Number 0) ∷ map first_raw (fields_from 1 m (c ∷ cs)))
     ≡ true = ap (can_be_column c.spec) here ∙ all.0.1 in
-    column_or_ok i _ _ c _ cs (both_true _ _ (all_like 1 m (field_of 0 c) c cs refl refl) can)
-    (λ t. record { fxy = c.fxy; spec = c.spec; values = here t })
+    column_passes i _ _ _ cs (and_from _ _ (all_like 1 m (field_of 0 c) c cs refl refl) can)
     (ap (columns_of (i + 1) (map (field_of 0) cs)) (all_behind 1 m c cs)
     ∙ columns_written (i + 1) m cs all.1)
+    ∙ (λ t. Ok (record { fxy = c.fxy; spec = c.spec; values = here t } ∷ cs))
 
 -- subsets that fit one by one are counted one by one
 pub each_counted : AreAllowed → (tree : Tree) (j : ℕ) (subsets : List Subset)
@@ -133,7 +106,7 @@ fitting_columns_written law tree (s ∷ subsets) columns fit are =
 -- ---- what is written are the best columns
 
 -- columns of places can each be written
-pub all_can : (i : ℕ) (fs : List Field) (others : List (List Field)) (columns : List Column)
+all_can : (i : ℕ) (fs : List Field) (others : List (List Field)) (columns : List Column)
     → columns_of i fs others ≡ Ok columns
     → AllByRecursion (CanBeWritten (1 + length others)) columns
 all_can i [] others columns e =
@@ -151,27 +124,24 @@ all_can i (f ∷ fs) others columns e =
     subst (λ cs. AllByRecursion (CanBeWritten (1 + length others)) cs) (sym h.is)
     ((size, h.can), after)
 
+-- so can those of the places of subsets
+pub subsets_can : (s : Subset) (subsets : List Subset) (columns : List Column)
+    → columns_of 1 s.fields (map (λ (t : Subset). t.fields) subsets) ≡ Ok columns
+    → AllByRecursion (CanBeWritten (length (s ∷ subsets))) columns
+subsets_can s subsets columns e =
+    let others = map (λ (t : Subset). t.fields) subsets in
+    let size : 1 + length others ≡ length (s ∷ subsets) =
+    omega (arith, length-map subsets (λ (t : Subset). t.fields)) in
+    subst (λ l. AllByRecursion (CanBeWritten l) columns) size (all_can 1 s.fields others columns e)
+
 -- columns that are packed are the best
 best_pack : (s : Subset) (subsets : List Subset) (columns : List Column) (content : List Bool)
     → columns_of 1 s.fields (map (λ (t : Subset). t.fields) subsets) ≡ Ok columns
     → packed (length (s ∷ subsets)) columns ≡ Ok content
     → AreBestColumns (s ∷ subsets) columns × (content ≡ best_bits columns)
 best_pack s subsets columns content e p =
-    let others = map (λ (t : Subset). t.fields) subsets in
-    let many : length others ≡ length subsets = length-map subsets (λ (t : Subset). t.fields) in
-    let row = rows 1 s.fields others columns e in
-    let whole =
-    each_row 0 (s ∷ subsets) columns
-    (λ l short. row l (omega (arith, short, many))
-    ∙ ap (λ n. map (field_of n) columns) (omega arith)) in
-    let size : 1 + length others ≡ length (s ∷ subsets) = omega (arith, many) in
     let g = guard_ok (nat_lt most_values (length columns * length (s ∷ subsets))) _ _ content p in (
-      (
-        whole,
-        ltb-false _ _ g.0,
-        subst (λ l. AllByRecursion (CanBeWritten l) columns) size
-            (all_can 1 s.fields others columns e),
-      ),
+      (columns_whole s subsets columns e, ltb-false _ _ g.0, subsets_can s subsets columns e),
       sym (ok_is _ _ g.1),
     )
 

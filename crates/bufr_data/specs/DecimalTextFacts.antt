@@ -14,7 +14,7 @@ use Rattle.std.specs.Str.{bytes_eq}
 use Rattle.std.proofs.lemmas.Bool.{cases_Bool, ltb-true, lt-ltb, eqb-true}
 use Rattle.std.proofs.lemmas.Slice.Eq.{bytes_eq-Decides}
 use Rattle.std.proofs.lemmas.Fmt.{decimal_digit, decimal_is_IsNumeral_wide}
-use Rattle.std.proofs.lemmas.List.{take_at, length-replicate}
+use Rattle.std.proofs.lemmas.List.{take_at, length-replicate, take-append-drop}
 use Rattle.std.proofs.lemmas.List.Elements.{filter-append}
 use Rattle.std.proofs.lemmas.Str.Parse.{digit_from_value}
 use Rattle.bufr_expand.specs.OperatorsInForce.{is_within}
@@ -45,12 +45,6 @@ filter_digits : (xs : List ℕ) → AreDigits xs → filter is_ascii_digit xs �
 filter_digits [] h = refl
 filter_digits (c ∷ cs) h = rw h.0 (ap (λ ds. c ∷ ds) (filter_digits cs h.1))
 
--- the front of digits is digits
-take_digits : (k : ℕ) (xs : List ℕ) → AreDigits xs → AreDigits (take k xs)
-take_digits zero xs h = tt
-take_digits (suc k) [] h = tt
-take_digits (suc k) (c ∷ cs) h = (h.0, take_digits k cs h.1)
-
 -- digits behind digits are digits
 digits_append : (xs ys : List ℕ) → AreDigits xs → AreDigits ys → AreDigits (xs ++ ys)
 digits_append [] ys a b = b
@@ -65,12 +59,6 @@ zeros_digits (suc k) = (refl, zeros_digits k)
 zeros_value : (k : ℕ) (ds : List ℕ) → digits_value 10 (replicate k 48 ++ ds) ≡ digits_value 10 ds
 zeros_value zero ds = refl
 zeros_value (suc k) ds = zeros_value k ds
-
--- a list is its front and its back
-take_drop : (k : ℕ) (xs : List ℕ) → take k xs ++ drop k xs ≡ xs
-take_drop zero xs = refl
-take_drop (suc k) [] = refl
-take_drop (suc k) (c ∷ cs) = ap (λ ds. c ∷ ds) (take_drop k cs)
 
 -- the digits of a number are digits
 pub decimal_digits : (n : ℕ) → n < 10 ^ 64 → AreDigits (decimal n)
@@ -103,13 +91,35 @@ filled_digits : (k n : ℕ) → n < 10 ^ 64 → AreDigits (replicate k 48 ++ dec
 filled_digits k n small = digits_append (replicate k 48) (decimal n) (zeros_digits k)
     (decimal_digits n small)
 
+-- the front and the back of digits are digits
+parted_digits : (k : ℕ) (xs : List ℕ) → AreDigits xs → AreDigits (take k xs) × AreDigits (drop k xs)
+parted_digits zero xs h = (tt, h)
+parted_digits (suc k) [] h = (tt, tt)
+parted_digits (suc k) (c ∷ cs) h = let p = parted_digits k cs h.1 in ((h.0, p.0), p.1)
+
+-- what holds of digits, and of digits with a point, holds of those of a number at a scale
+by_scale : (P : List ℕ → Type 0) → ((xs : List ℕ) → AreDigits xs → P xs)
+    → ((xs ys : List ℕ) → AreDigits xs → AreDigits ys → P (xs ++ 46 ∷ ys))
+    → (scale : ℤ) (n : ℕ) → n < 10 ^ 64 → P (digits_by scale n)
+by_scale P whole pointed (pos zero) n small = whole (decimal n) (decimal_digits n small)
+by_scale P whole pointed (pos (suc s)) n small =
+    let k = suc (suc s) - length (decimal n) in
+    let ds = replicate k 48 ++ decimal n in
+    let parts = parted_digits (length ds - suc s) ds (filled_digits k n small) in
+    pointed (take (length ds - suc s) ds) (drop (length ds - suc s) ds) parts.0 parts.1
+by_scale P whole pointed (negsuc s) zero small = whole (decimal 0) (decimal_digits 0 small)
+by_scale P whole pointed (negsuc s) (suc n) small =
+    rw (not_zero n) (whole (decimal (suc n) ++ replicate (suc s) 48)
+    (digits_append (decimal (suc n)) (replicate (suc s) 48) (decimal_digits (suc n) small)
+    (zeros_digits (suc s))))
+
 -- the digits around a point are those without it
 point_out : (k : ℕ) (ds : List ℕ) → AreDigits ds
     → filter is_ascii_digit (take k ds ++ 46 ∷ drop k ds) ≡ ds
 point_out k ds h =
     filter-append is_ascii_digit (take k ds) (46 ∷ drop k ds)
     ∙ sym (filter-append is_ascii_digit (take k ds) (drop k ds))
-    ∙ ap (λ xs. filter is_ascii_digit xs) (take_drop k ds)
+    ∙ ap (λ xs. filter is_ascii_digit xs) (take-append-drop k ds)
     ∙ filter_digits ds h
 
 -- the digits that stand before a text's zeros
@@ -152,16 +162,9 @@ minus_value_by (negsuc s) n small =
 
 -- they have no sign
 sign_by : (scale : ℤ) (n m : ℕ) → n < 10 ^ 64 → signed_as (digits_by scale n) m ≡ pos m
-sign_by (pos zero) n m small = no_sign (decimal n) m (decimal_digits n small)
-sign_by (pos (suc s)) n m small =
-    let k = suc (suc s) - length (decimal n) in
-    let ds = replicate k 48 ++ decimal n in
-    no_sign_pointed (take (length ds - suc s) ds) (drop (length ds - suc s) ds) m
-    (take_digits (length ds - suc s) ds (filled_digits k n small))
-sign_by (negsuc s) zero m small = no_sign (decimal 0) m (decimal_digits 0 small)
-sign_by (negsuc s) (suc n) m small =
-    rw (not_zero n) (no_sign _ m (digits_append (decimal (suc n)) (replicate (suc s) 48)
-    (decimal_digits (suc n) small) (zeros_digits (suc s))))
+sign_by scale n m small =
+    by_scale (λ xs. signed_as xs m ≡ pos m) (λ xs h. no_sign xs m h)
+    (λ xs ys h other. no_sign_pointed xs ys m h) scale n small
 
 -- the units of a decimal are those that its text can have
 pub units_of_text : (units scale : ℤ) → size_of units < 10 ^ 64
@@ -186,17 +189,9 @@ no_m_pointed (c ∷ cs) ys rest h e =
 
 -- nor do those of a number at a scale
 no_m_by : (scale : ℤ) (n : ℕ) (rest : List ℕ) → n < 10 ^ 64 → digits_by scale n ≡ 109 ∷ rest → ⊥
-no_m_by (pos zero) n rest small e = no_m (decimal n) rest (decimal_digits n small) e
-no_m_by (pos (suc s)) n rest small e =
-    let k = suc (suc s) - length (decimal n) in
-    let ds = replicate k 48 ++ decimal n in
-    no_m_pointed (take (length ds - suc s) ds) (drop (length ds - suc s) ds) rest
-    (take_digits (length ds - suc s) ds (filled_digits k n small)) e
-no_m_by (negsuc s) zero rest small e = no_m (decimal 0) rest (decimal_digits 0 small) e
-no_m_by (negsuc s) (suc n) rest small e =
-    no_m (decimal (suc n) ++ replicate (suc s) 48) rest
-    (digits_append (decimal (suc n)) (replicate (suc s) 48) (decimal_digits (suc n) small)
-    (zeros_digits (suc s))) (rw (not_zero n) at e)
+no_m_by scale n rest small e =
+    by_scale (λ xs. xs ≡ 109 ∷ rest → ⊥) (λ xs h. no_m xs rest h)
+    (λ xs ys h other. no_m_pointed xs ys rest h) scale n small e
 
 -- the text of a decimal does not begin with `m`
 pub no_letter : (units scale : ℤ) (rest : List ℕ) → size_of units < 10 ^ 64
@@ -217,17 +212,9 @@ no_minus_pointed (c ∷ cs) ys h = digit_not_minus c h.0
 
 -- nor do those of a number at a scale
 no_minus_by : (scale : ℤ) (n : ℕ) → n < 10 ^ 64 → is_minus (digits_by scale n) ≡ false
-no_minus_by (pos zero) n small = no_minus_front (decimal n) (decimal_digits n small)
-no_minus_by (pos (suc s)) n small =
-    let k = suc (suc s) - length (decimal n) in
-    let ds = replicate k 48 ++ decimal n in
-    no_minus_pointed (take (length ds - suc s) ds) (drop (length ds - suc s) ds)
-    (take_digits (length ds - suc s) ds (filled_digits k n small))
-no_minus_by (negsuc s) zero small = no_minus_front (decimal 0) (decimal_digits 0 small)
-no_minus_by (negsuc s) (suc n) small =
-    rw (not_zero n) (no_minus_front (decimal (suc n) ++ replicate (suc s) 48)
-    (digits_append (decimal (suc n)) (replicate (suc s) 48) (decimal_digits (suc n) small)
-    (zeros_digits (suc s))))
+no_minus_by scale n small =
+    by_scale (λ xs. is_minus xs ≡ false) no_minus_front (λ xs ys h other. no_minus_pointed xs ys h)
+    scale n small
 
 -- ---- reading
 
@@ -347,12 +334,6 @@ pub digits_plain : (xs : List ℕ) → AreDigits xs → ArePlain xs
 digits_plain [] h = tt
 digits_plain (c ∷ cs) h = (digit_plain c h.0, digits_plain cs h.1)
 
--- the back of digits is digits
-drop_digits : (k : ℕ) (xs : List ℕ) → AreDigits xs → AreDigits (drop k xs)
-drop_digits zero xs h = h
-drop_digits (suc k) [] h = tt
-drop_digits (suc k) (c ∷ cs) h = drop_digits k cs h.1
-
 -- digits with a point have no control character
 plain_pointed : (xs ys : List ℕ) → AreDigits xs → AreDigits ys → ArePlain (xs ++ 46 ∷ ys)
 plain_pointed [] ys a b = (omega arith, digits_plain ys b)
@@ -360,18 +341,7 @@ plain_pointed (c ∷ cs) ys a b = (digit_plain c a.0, plain_pointed cs ys a.1 b)
 
 -- nor have those of a number at a scale
 plain_by : (scale : ℤ) (n : ℕ) → n < 10 ^ 64 → ArePlain (digits_by scale n)
-plain_by (pos zero) n small = digits_plain (decimal n) (decimal_digits n small)
-plain_by (pos (suc s)) n small =
-    let k = suc (suc s) - length (decimal n) in
-    let ds = replicate k 48 ++ decimal n in
-    plain_pointed (take (length ds - suc s) ds) (drop (length ds - suc s) ds)
-    (take_digits (length ds - suc s) ds (filled_digits k n small))
-    (drop_digits (length ds - suc s) ds (filled_digits k n small))
-plain_by (negsuc s) zero small = digits_plain (decimal 0) (decimal_digits 0 small)
-plain_by (negsuc s) (suc n) small =
-    rw (not_zero n) (digits_plain (decimal (suc n) ++ replicate (suc s) 48)
-    (digits_append (decimal (suc n)) (replicate (suc s) 48) (decimal_digits (suc n) small)
-    (zeros_digits (suc s))))
+plain_by scale n small = by_scale ArePlain digits_plain plain_pointed scale n small
 
 -- nor has the text of a decimal
 pub text_plain : (units scale : ℤ) → size_of units < 10 ^ 64

@@ -49,7 +49,7 @@ same_spec_is a b e =
     λ i. record { kind = kind i; scale = scale i; reference = reference i; width = width i }
 
 -- a kind compares alike with itself
-kind_is_same : (k : Kind) → same_kind k k ≡ true
+pub kind_is_same : (k : Kind) → same_kind k k ≡ true
 kind_is_same kinds.Text = refl
 kind_is_same kinds.Code = refl
 kind_is_same kinds.Flag = refl
@@ -73,17 +73,23 @@ spec_is_same s = rw (
 -- ---- forms
 
 -- octets pass the test of octets
-octets_pass : (os : List ℕ) → AllByRecursion (λ x. x < 256) os → list_all (λ x. nat_lt x 256) os
-    ≡ true
+pub octets_pass : (os : List ℕ) → AllByRecursion (λ x. x < 256) os
+    → list_all (λ x. nat_lt x 256) os ≡ true
 octets_pass [] h = refl
 octets_pass (x ∷ os) h = rw (lt-ltb x 256 h.0, octets_pass os h.1) refl
 
--- what passes it are octets
+-- numbers that pass the test of a bound are below it
+pub below_is : (bound : ℕ) (ns : List ℕ) → list_all (λ n. nat_lt n bound) ns ≡ true
+    → AllByRecursion (λ n. n < bound) ns
+below_is bound [] e = tt
+below_is bound (n ∷ ns) e =
+    let p = and_parts (nat_lt n bound) (list_all (λ m. nat_lt m bound) ns) e in
+    (ltb-true n bound p.0, below_is bound ns p.1)
+
+-- what passes the test of octets are octets
 pub octets_are : (os : List ℕ) → list_all (λ x. nat_lt x 256) os ≡ true
     → AllByRecursion (λ x. x < 256) os
-octets_are [] e = tt
-octets_are (x ∷ os) e = let p = and_parts (nat_lt x 256) (list_all (λ c. nat_lt c 256) os) e in
-    (ltb-true x 256 p.0, octets_are os p.1)
+octets_are os e = below_is 256 os e
 
 -- a text of the form passes
 text_passes : (kind : Kind) (width : ℕ) (os : List ℕ) → kind ≡ kinds.Text → length os ≡ width / 8

@@ -2,9 +2,6 @@
 -- walk, as `read_plain`, `write_plain` and the reader of listings above.
 use Rattle.std.proofs.Common.{◌≡◌, ℕ, ◌<◌, ◌≤◌, ◌^◌, Bool, true, false, Ok, Err, MatchBool, ◌⊎◌}
 use Rattle.std.proofs.Common.{refl, sym, ap, subst, ◌∙◌, inl, inr, arith}
-use Rattle.std.specs.Prelude.{nat_lt, nat_le}
-use Rattle.std.proofs.lemmas.Bool.{and_parts, ltb-true}
-use Rattle.bufr_tables.specs.declared.element.Kind.{Kind}
 use Rattle.bufr_tables.specs.declared.element.Kind.TheVariants as kinds
 use Rattle.bufr_tables.specs.Elements.{same_kind}
 use Rattle.bufr_expand.specs.Limits.{most_items}
@@ -16,8 +13,9 @@ use Rattle.bufr_expand.specs.Courses.{Course, ends, stops, asks}
 use Rattle.bufr_expand.specs.Steady.{IsSteady}
 use Rattle.bufr_expand.specs.Walks.{left, waits, items_met, Goes, Counted, IsBelowCount}
 use Rattle.bufr_data.specs.declared.field.Raw.{Raw}
-use Rattle.bufr_data.specs.declared.field.Raw.TheVariants.{Number, Text}
 use Rattle.bufr_data.specs.Plain.{number_of, has_form_by}
+use Rattle.bufr_data.specs.Fits.{HasForm, of_text, of_number}
+use Rattle.bufr_data.specs.FormLaws.{form_is, same_kind_is}
 use Rattle.bufr_data.specs.Steady.{IsReady, WalkAdvances}
 
 -- ---- what an answer says of the course
@@ -46,6 +44,10 @@ match_bool : (b : Bool) (P Q : Type 0) → MatchBool b P Q → ((b ≡ true) × 
 match_bool true P Q h = inl (refl, h)
 match_bool false P Q h = inr (refl, h)
 
+-- the same descriptor and the same spec
+told_same : (b d : ℕ) (s spec : Spec) → b ≡ d → s ≡ spec → ◌≡◌ {A = ℕ × Spec} (b, s) (d, spec)
+told_same b d s spec same_d same_s = λ i. (same_d i, same_s i)
+
 -- a walk that tells a field: its course asks for it
 pub asks_field : (c : Course) (d : ℕ) (spec : Spec) (w : Walk)
     → Goes c (Ok (steps.Field d spec)) w → AsksField c d spec w
@@ -55,20 +57,16 @@ asks_field (asks met b s more) d spec w g =
     elim (match_bool (same_kind s.kind kinds.Count) _ _ g) [
       | inl h ↦ absurd (let e = h.1.0 in cc)
       | inr h ↦
-          let e = h.1.0 in
-          let same_d : b ≡ d = cc in
-          let same_s : s ≡ spec = cc in
-          record {
+          let same = told_same b d s spec (let e = h.1.0 in cc) (let e = h.1.0 in cc) in
+          subst (λ (x : ℕ × Spec). AsksField (asks met b s more) x.0 x.1 w) same (record {
             met = met;
             more = more;
-            is = λ i. asks met (same_d i) (same_s i) more;
-            kind =
-                subst (λ (x : Spec). same_kind x.kind kinds.Count ≡ false) same_s h.0;
-            after =
-                h.1.1;
+            is = refl;
+            kind = h.0;
+            after = h.1.1;
             answered = h.1.2;
             items = h.1.3;
-          }
+          })
     ]
 
 -- a walk that tells a count: its course asks for it
@@ -79,19 +77,15 @@ asks_count (stops n fault) d spec w g = absurd (let e = g.0 in cc)
 asks_count (asks met b s more) d spec w g =
     elim (match_bool (same_kind s.kind kinds.Count) _ _ g) [
       | inl h ↦
-          let e = h.1.0 in
-          let same_d : b ≡ d = cc in
-          let same_s : s ≡ spec = cc in
-          record {
+          let same = told_same b d s spec (let e = h.1.0 in cc) (let e = h.1.0 in cc) in
+          subst (λ (x : ℕ × Spec). AsksCount (asks met b s more) x.0 x.1 w) same (record {
             met = met;
             more = more;
-            is = λ i. asks met (same_d i) (same_s i) more;
-            kind =
-                subst (λ (x : Spec). same_kind x.kind kinds.Count ≡ true) same_s h.0;
-            waiting =
-                h.1.1 ∙ (λ i. asks met (same_d i) (same_s i) more);
+            is = refl;
+            kind = h.0;
+            waiting = h.1.1;
             asked = h.1.2;
-          }
+          })
       | inr h ↦ absurd (let e = h.1.0 in cc)
     ]
 
@@ -160,15 +154,12 @@ count_goes_on old mid new d spec n ready g counted =
 -- ---- counts
 
 -- a count of the form is below 2 to the power of its width
-count_form : (kind : Kind) (width : ℕ) (raw : Raw) → same_kind kind kinds.Count ≡ true
-    → has_form_by kind width raw ≡ true → number_of raw < 2 ^ width
-count_form kinds.Text width raw k e = absurd cc
-count_form kinds.Code width raw k e = absurd cc
-count_form kinds.Flag width raw k e = absurd cc
-count_form kinds.Quantity width raw k e = absurd cc
-count_form kinds.Count width (Text octets) k e = absurd cc
-count_form kinds.Count width (Number n) k e =
-    ltb-true n (2 ^ width) (and_parts (nat_le width 64) (nat_lt n (2 ^ width)) e).1
+count_form : (spec : Spec) (raw : Raw) → same_kind spec.kind kinds.Count ≡ true → HasForm spec raw
+    → number_of raw < 2 ^ spec.width
+count_form spec raw count (of_number n other few below) = below
+count_form spec raw count (of_text octets text size all) =
+    let both : kinds.Text ≡ kinds.Count = sym text ∙ same_kind_is spec.kind kinds.Count count in
+    absurd cc
 
 -- so it may be told to the walk
 pub count_fits : (old mid : Walk) (d : ℕ) (spec : Spec) (raw : Raw)
@@ -176,4 +167,4 @@ pub count_fits : (old mid : Walk) (d : ℕ) (spec : Spec) (raw : Raw)
     → IsBelowCount (left mid) (number_of raw)
 count_fits old mid d spec raw g form =
     let a = asks_count (left old) d spec mid g in
-    rw a.waiting (count_form spec.kind spec.width raw a.kind form)
+    rw a.waiting (count_form spec raw a.kind (form_is spec raw form))

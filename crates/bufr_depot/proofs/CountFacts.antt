@@ -2,11 +2,12 @@
 -- to pieces and ends.
 use Rattle.std.proofs.Common.{◌≡◌, ℕ, zero, suc, ◌+◌, ◌*◌, ◌<◌, ◌≤◌, ◌^◌, Bool, true, false, not}
 use Rattle.std.proofs.Common.{cond, Option, Some, None, Result, Ok, Err, IfOk, is_ok, List, [], ◌∷◌}
-use Rattle.std.proofs.Common.{◌++◌, length, take, get_or, refl, sym, ap, ◌∙◌, subst, arith}
-use Rattle.std.proofs.Common.{append_assoc, length-append}
+use Rattle.std.proofs.Common.{◌++◌, length, take, get_or, Fits, w8, refl, sym, ap, ◌∙◌, subst}
+use Rattle.std.proofs.Common.{arith, append_assoc, length-append}
 use Rattle.std.specs.Prelude.{option_to_list}
 use Rattle.std.proofs.lemmas.List.{append-nil, map-append, length-map, take_more, take-append-le}
 use Rattle.std.proofs.Math.Seq.{take-append-add}
+use Rattle.std.proofs.lemmas.List.Elements.{All-from_get_or}
 use Rattle.std.proofs.lemmas.List.Sums.{count_by_more_no, count_by_more_yes}
 use Rattle.std.proofs.lemmas.Grind.{flat_map-append}
 use Rattle.bufr_tables.specs.Entries.{Entries}
@@ -54,6 +55,10 @@ entries_few (None ∷ rs) = let rest = entries_few rs in omega (arith, rest)
 entries_few (Some e ∷ rs) = let rest = entries_few rs in omega (arith, rest)
 
 -- ---- one message
+
+-- the octets of a slice of `u8`
+pub octets_are : (xs : List ℕ) → ((i : ℕ) → Fits w8 (get_or xs i 0)) → AreOctets xs
+octets_are xs each = All-from_get_or (λ (x : ℕ). x < 2 ^ 8) xs 0 (λ i below. omega (arith, each i))
 
 -- the reports of a message that octets spell are no more than two octets can say
 few_reports : MessagesReadAreSpelt → (tables : Entries) (octets : List ℕ) (d : Decoded)
@@ -146,12 +151,19 @@ pub record SoFar (old new : ArchiveView) (frames : List Found) (i : ℕ) (counts
   pub messages_few : counts.messages ≤ i
   pub refused_few : counts.refused ≤ i
 
+-- no report was added, as of none
+pub added_none : (a : ArchiveView) (fs : List Found) → IsKept a → AddsSome a a fs 0
+added_none a fs order = record {
+  few = omega arith;
+  archive = ap (λ es. record a { entries = es })
+      (sym order ∙ ap kept (sym (append-nil a.entries)));
+}
+
 -- at first none
 pub none_yet : (archive : ArchiveView) (frames : List Found) → IsKept archive
     → SoFar archive archive frames 0 (record { messages = 0; refused = 0; changed = 0 }) 0
 none_yet archive frames order = record {
-  archive = ap (λ es. record archive { entries = es })
-      (sym order ∙ ap kept (sym (append-nil archive.entries)));
+  archive = (added_none archive frames order).archive;
   messages = refl;
   refused = refl;
   changed = refl;
@@ -342,16 +354,6 @@ moved old new fs i counts others joined all s a b =
     subst (λ k. SoFar old new fs i k all) (sym a)
     (subst (λ j. SoFar old new fs i counts j) (sym b) s)
 
--- the tables stay where all were added, and where some were
-pub tables_stay : (old new : ArchiveView) (fs : List Found) (k : ℕ) → AddsSome old new fs k
-    → new.tables ≡ old.tables
-tables_stay old new fs k adds = ap (λ (a : ArchiveView). a.tables) adds.archive
-
--- and where the first so many frames were gone through
-pub tables_so_far : (old new : ArchiveView) (fs : List Found) (i : ℕ) (counts : Counts)
-    (joined : ℕ) → SoFar old new fs i counts joined → new.tables ≡ old.tables
-tables_so_far old new fs i counts joined s = ap (λ (a : ArchiveView). a.tables) s.archive
-
 -- octets are those of the frame at a place
 pub octets_at : (fs : List Found) (i : ℕ) (f : Found) (octets : List ℕ) → f ≡ get_or fs i f
     → octets ≡ f.bytes → octets ≡ (get_or fs i f).bytes
@@ -361,14 +363,6 @@ octets_at fs i f octets is same = same ∙ ap (λ (g : Found). g.bytes) is
 pub not_memory : (fault : AddFault) (why : Refusal) → fault ≡ Refused why → (k : ℕ)
     → fault ≡ OutOfMemory k → ⊥
 not_memory fault why is k e = let no : Refused why ≡ OutOfMemory k = sym is ∙ e in absurd cc
-
--- no report was added, as of none
-pub added_none : (a : ArchiveView) (fs : List Found) → IsKept a → AddsSome a a fs 0
-added_none a fs order = record {
-  few = omega arith;
-  archive = ap (λ es. record a { entries = es })
-      (sym order ∙ ap kept (sym (append-nil a.entries)));
-}
 
 -- what holds of the archive that was held and of the frames that were found holds of those that
 -- they are

@@ -1,12 +1,12 @@
 -- What a step does to what a depot holds, and to the slots for which it stands: for the clauses of
 -- `Depot::step`.
 use Rattle.std.proofs.Common.{◌≡◌, ℕ, zero, suc, ◌+◌, ◌-◌, ◌<◌, ◌≤◌, ◌^◌, true, false, Some, None}
-use Rattle.std.proofs.Common.{Result, Ok, Err, List, [], ◌∷◌, ◌++◌, length, take, set, refl, sym}
-use Rattle.std.proofs.Common.{ap, ◌∙◌, subst, arith}
+use Rattle.std.proofs.Common.{Result, Ok, Err, List, [], ◌∷◌, ◌++◌, length, take, set, get_or, refl}
+use Rattle.std.proofs.Common.{sym, ap, ◌∙◌, subst, arith}
 use Rattle.std.specs.Prelude.{slice_get, option_to_list}
 use Rattle.std.specs.List.{AllZip}
 use Rattle.std.proofs.lemmas.List.{map-append, length-map, take-map, set-get_or}
-use Rattle.std.proofs.lemmas.Option.{get_or_from_slice_get}
+use Rattle.std.proofs.lemmas.Option.{get_or_from_slice_get, slice_get_past, slice_get_read}
 use Rattle.std.proofs.lemmas.List.Elements.{All-append, All-nil}
 use Rattle.std.proofs.lemmas.Bool.{le-ltb, lt-ltb}
 use Rattle.std.proofs.lemmas.Grind.{flat_map-append}
@@ -32,8 +32,7 @@ use Rattle.bufr_depot.specs.Runs.{frames_of_piece, frames_of_end, is_too_long, n
 use Rattle.bufr_depot.specs.Runs.{changes_of, fed_answer, ended_answer, after, feed_answer}
 use Rattle.bufr_depot.specs.Runs.{end_answer, IsAnswer}
 use Rattle.bufr_depot.specs.Holdings.{Holding, DepotView, HoldsSlot, StandsFor}
-use Rattle.bufr_depot.specs.HeldSteps.{AddsFrames, AddsSome, Feeds, Ends, fed_of, ended_of}
-use Rattle.bufr_depot.specs.HeldSteps.{StepDoes}
+use Rattle.bufr_depot.specs.HeldSteps.{AddsFrames, AddsSome, Feeds, Ends, StepDoes}
 use Rattle.bufr_depot.specs.Agreements.{ReportsToldAreUnder}
 use Rattle.bufr_depot.specs.declared.counts.Counts.{Counts}
 use Rattle.bufr_depot.specs.declared.steps.Step.{Step}
@@ -167,10 +166,12 @@ archive_some tables h k rs frames n is adds =
 
 -- the counts of frames are those of the slot
 counts_are : (tables : Entries) (h k : ArchiveView) (slot : Slot) (frames : List Found)
-    (counts : Counts) → h ≡ archive_of tables slot.reports → AddsFrames h k frames counts
-    → (fed_of counts ≡ fed_answer tables frames slot)
-    × (ended_of counts ≡ ended_answer tables frames slot)
-counts_are tables h k slot frames counts is adds =
+    (counts : Counts) (answer : ℕ → ℕ → ℕ → Answer) → h ≡ archive_of tables slot.reports
+    → AddsFrames h k frames counts
+    → answer counts.messages counts.refused counts.changed
+    ≡ answer (count_messages tables frames) (count_refused tables frames)
+    (changes_of tables frames slot)
+counts_are tables h k slot frames counts answer is adds =
     let old = entries_of (report_entries tables slot.reports) in
     let new = entries_of (report_entries tables (reports_among tables frames)) in
     let same : AddsFrames (archive_of tables slot.reports) k frames counts =
@@ -178,12 +179,13 @@ counts_are tables h k slot frames counts is adds =
     let changed : counts.changed ≡ changes_of tables frames slot =
     same.changed ∙ count_kept old new in
     let m = count_messages tables frames in
-    let r = count_refused tables frames in (
-      ap (λ x. Fed x counts.refused counts.changed) same.messages
-          ∙ ap (λ x. Fed m x counts.changed) same.refused ∙ ap (λ x. Fed m r x) changed,
-      ap (λ x. Ended x counts.refused counts.changed) same.messages
-          ∙ ap (λ x. Ended m x counts.changed) same.refused ∙ ap (λ x. Ended m r x) changed,
-    )
+    let r = count_refused tables frames in
+    ap (λ x. answer x counts.refused counts.changed) same.messages
+    ∙ ap (λ x. answer m x counts.changed) same.refused ∙ ap (answer m r) changed
+
+-- at first no stream is taken in
+pub none_taken : Stands new_framing [] 0
+none_taken = record { fed = refl; out_of_sure = omega arith; held = refl }
 
 -- a stream that fits is not too long
 fits : (framer : Framing) (s piece : List ℕ) (out : ℕ) → Stands framer s out
@@ -203,28 +205,35 @@ too_long framer s piece out st room =
 -- ---- steps that name one slot
 
 -- a slot that is not there
-pub none_there : (d : DepotView) (i : ℕ) (piece : List ℕ) → slice_get d.slots i ≡ None
+pub none_there : (d e : DepotView) (i n : ℕ) (piece : List ℕ) → e ≡ d → n ≡ length e.slots → n ≤ i
     → StepDoes d d (Feed i piece) (Err (NoSlot i)) × StepDoes d d (End i) (Err (NoSlot i))
-none_there d i piece none = (
-  record {
-    tables = refl;
-    answer = λ slots z. ap (feed_answer d.tables i piece)
-        (zip_none (HoldsSlot d.tables) d.slots slots i z none);
-    slots = λ slots z. z;
-  },
-  record {
-    tables = refl;
-    answer = λ slots z. ap (end_answer d.tables i)
-        (zip_none (HoldsSlot d.tables) d.slots slots i z none);
-    slots = λ slots z. z;
-  },
-)
+none_there d e i n piece same long past =
+    let none = slice_get_past d.slots i
+    (subst (λ m. m ≤ i) (long ∙ ap (λ (x : DepotView). length x.slots) same) past) in (
+      record {
+        tables = refl;
+        answer = λ slots z. ap (feed_answer d.tables i piece)
+            (zip_none (HoldsSlot d.tables) d.slots slots i z none);
+        slots = λ slots z. z;
+      },
+      record {
+        tables = refl;
+        answer = λ slots z. ap (end_answer d.tables i)
+            (zip_none (HoldsSlot d.tables) d.slots slots i z none);
+        slots = λ slots z. z;
+      },
+    )
 
-module _ (told_under : ReportsToldAreUnder) (d : DepotView) (i : ℕ) (h k : Holding)
-    (there : slice_get d.slots i ≡ Some h) where
+module _ (told_under : ReportsToldAreUnder) (whole d : DepotView) (i count : ℕ) (h k : Holding)
+    (view : d ≡ whole) (count_is : count ≡ length d.slots) (below : i < count)
+    (read : h ≡ get_or d.slots i h) where
   -- the depot with the slot changed
   abbrev changed : DepotView
   changed = record d { slots = set d.slots i k }
+
+  -- the slot is there
+  there : slice_get d.slots i ≡ Some h
+  there = slice_get_read d.slots count i h count_is below read
 
   -- a step changes the slot as it should where, of each slot that is held, its answer is right and
   -- what is left of the slot is held
@@ -232,15 +241,16 @@ module _ (told_under : ReportsToldAreUnder) (d : DepotView) (i : ℕ) (h k : Hol
       → ((slots : List Slot) → changed_at slots i change ≡ after d.tables step result slots)
       → ((slots : List Slot) (s : Slot) → slice_get slots i ≡ Some s → HoldsSlot d.tables h s
       → IsAnswer d.tables step slots result × HoldsSlot d.tables k (change s))
-      → StepDoes d changed step result
-  by_slot step result change leaves each = record {
-    tables = refl;
-    answer = λ slots z. let s = zip_at (HoldsSlot d.tables) d.slots slots i h z there in
-        (each slots s.0 s.1 s.2).0;
-    slots = λ slots z. let s = zip_at (HoldsSlot d.tables) d.slots slots i h z there in
-        subst (StandsFor changed) (leaves slots)
-        (zip_set d.tables d.slots slots i k s.0 change z s.1 (each slots s.0 s.1 s.2).1);
-  }
+      → StepDoes whole changed step result
+  by_slot step result change leaves each =
+      subst (λ (x : DepotView). StepDoes x changed step result) view (record {
+        tables = refl;
+        answer = λ slots z. let s = zip_at (HoldsSlot d.tables) d.slots slots i h z there in
+            (each slots s.0 s.1 s.2).0;
+        slots = λ slots z. let s = zip_at (HoldsSlot d.tables) d.slots slots i h z there in
+            subst (StandsFor changed) (leaves slots)
+            (zip_set d.tables d.slots slots i k s.0 change z s.1 (each slots s.0 s.1 s.2).1);
+      })
 
   -- where memory ran out among the reports of frames, the slot has the first so many of them, and
   -- its stream is as it was
@@ -294,8 +304,8 @@ module _ (told_under : ReportsToldAreUnder) (d : DepotView) (i : ℕ) (h k : Hol
       let short = b.0 in
       let f = feeds.3 s.open_stream out holds.framer in
       let new : new_reports t (Feed i piece) s ≡ reports_among t frames = rw short refl in
-      let counted = counts_are t h.archive k.archive s frames f.0 holds.archive f.2 in (
-        rw short (ap Ok (sym counted.0 ∙ sym f.1)),
+      let counted = counts_are t h.archive k.archive s frames f.0 Fed holds.archive f.2 in (
+        rw short (ap Ok (sym counted ∙ sym f.1)),
         record {
           under = both (IsUnder t) s.reports (new_reports t (Feed i piece) s) holds.under
               (subst (AreUnder t) (sym new) b.2);
@@ -326,7 +336,7 @@ module _ (told_under : ReportsToldAreUnder) (d : DepotView) (i : ℕ) (h k : Hol
       )
 
   pub feed_does : (piece : List ℕ) (result : Result Answer StepFault) → Feeds h k piece result
-      → StepDoes d changed (Feed i piece) result
+      → StepDoes whole changed (Feed i piece) result
   feed_does piece (Ok answer) feeds =
       by_slot (Feed i piece) (Ok answer) _ (λ slots. refl) (λ slots s e holds.
       let f = fed_slot piece answer s holds feeds in
@@ -334,7 +344,8 @@ module _ (told_under : ReportsToldAreUnder) (d : DepotView) (i : ℕ) (h k : Hol
   feed_does piece (Err (NoSlot j)) feeds = absurd feeds
   feed_does piece (Err StreamTooLong) feeds =
       let same = ap (set d.slots i) feeds.1 ∙ set_same d.slots i h there in
-      record {
+      let result : Result Answer StepFault = Err StreamTooLong in
+      subst (λ (x : DepotView). StepDoes x changed (Feed i piece) result) view (record {
         tables = refl;
         answer = λ slots z. let s = zip_at (HoldsSlot d.tables) d.slots slots i h z there in
             let out = length (sure s.0.open_stream) in
@@ -342,7 +353,7 @@ module _ (told_under : ReportsToldAreUnder) (d : DepotView) (i : ℕ) (h k : Hol
             ap (feed_answer d.tables i piece) s.1 ∙ (rw long refl);
         slots = λ slots z. subst (λ (hs : List Holding). AllZip (HoldsSlot d.tables) hs slots)
             (sym same) z;
-      }
+      })
   feed_does piece (Err (OutOfMemory n)) feeds =
       by_slot (Feed i piece) (Err (OutOfMemory n)) _ (λ slots. refl) (λ slots s e holds.
       let f = fed_some piece n s holds feeds in (
@@ -367,21 +378,19 @@ module _ (told_under : ReportsToldAreUnder) (d : DepotView) (i : ℕ) (h k : Hol
       let out = length (sure s.open_stream) in
       let frames = frames_of_end s.open_stream in
       let f = ends.1 s.open_stream out holds.framer in
-      let counted = counts_are t h.archive k.archive s frames f.0 holds.archive f.2 in
-      let fresh : Stands new_framing [] 0 =
-      record { fed = refl; out_of_sure = omega arith; held = refl } in (
-        ap Ok (sym counted.1 ∙ sym f.1),
+      let counted = counts_are t h.archive k.archive s frames f.0 Ended holds.archive f.2 in (
+        ap Ok (sym counted ∙ sym f.1),
         record {
           under = both (IsUnder t) s.reports (reports_among t frames) holds.under
               (end_under told_under t s.open_stream holds.octets).1;
           archive = archive_all t h.archive k.archive s.reports frames f.0 holds.archive f.2;
           octets = All-nil (λ (x : ℕ). x < 2 ^ 8);
-          framer = subst (λ v. Stands v [] 0) (sym ends.0) fresh;
+          framer = subst (λ v. Stands v [] 0) (sym ends.0) none_taken;
         },
       )
 
   pub end_does : (result : Result Answer StepFault) → Ends h k result
-      → StepDoes d changed (End i) result
+      → StepDoes whole changed (End i) result
   end_does (Ok answer) ends =
       by_slot (End i) (Ok answer) _ (λ slots. refl) (λ slots s e holds.
       let f = ended_slot answer s holds ends in (ap (end_answer d.tables i) e ∙ f.0, f.1))

@@ -26,7 +26,7 @@ use Rattle.bufr_depot.specs.declared.steps.StepFault.{StepFault}
 use Rattle.bufr_depot.specs.declared.steps.StepFault.TheVariants.{NoSlot, StreamTooLong}
 use Rattle.bufr_depot.specs.declared.steps.StepFault.TheVariants.{OutOfMemory}
 use Rattle.bufr_depot.proofs.UnderFacts.{both}
-use Rattle.bufr_depot.proofs.HeldFacts.{zip_at, zip_none, zip_set, archive_joined}
+use Rattle.bufr_depot.proofs.HeldFacts.{zip_at, zip_none, zip_set, archive_joined, none_taken}
 use Rattle.bufr_depot.proofs.StepFacts.{nothing_gained, runs_join}
 
 -- what the steps that join have alike: their answer and what they leave
@@ -197,7 +197,7 @@ new_holds tables = record {
   under = tt;
   archive = refl;
   octets = All-nil (λ (x : ℕ). x < 2 ^ 8);
-  framer = record { fed = refl; out_of_sure = omega arith; held = refl };
+  framer = none_taken;
 }
 
 -- a depot of so many new archives and framers stands for so many new slots

@@ -1,7 +1,7 @@
 -- The tree of the nodes from one place to another, for the contracts of `Walk::start` and
 -- `Walk::next`, by way of `PassFacts`.
 use Rattle.std.proofs.Common.{◌≡◌, ℕ, zero, suc, ◌+◌, ◌-◌, ◌<◌, ◌≤◌, min, List, [], ◌∷◌, length}
-use Rattle.std.proofs.Common.{get_or, take, drop, refl, ap, ◌∙◌, arith, inl, inr}
+use Rattle.std.proofs.Common.{get_or, take, drop, refl, ap, arith, inl, inr}
 use Rattle.std.proofs.lemmas.List.{take-take, take_all, drop-drop, drop-take, drop_more, drop_all}
 use Rattle.std.proofs.lemmas.List.{length-take, length-drop}
 use Rattle.std.proofs.lemmas.Bool.{cases_lt}
@@ -43,24 +43,6 @@ enough (suc k) (suc m) (nodes.Delayed f e len ∷ ns) h g =
       enough k m (drop len ns) (omega arith) (omega arith),
     ) refl
 
--- the tree of an element and the nodes behind it
-pub tree_of-element : (d : ℕ) (e : Element) (ns : List Node)
-    → tree_of (nodes.Element d e ∷ ns) ≡ element d e (tree_of ns)
-unfolding tree_within
-tree_of-element d e ns = refl
-
--- of a field that no operator changes
-pub tree_of-untouched : (d : ℕ) (e : Element) (ns : List Node)
-    → tree_of (nodes.Untouched d e ∷ ns) ≡ untouched d e (tree_of ns)
-unfolding tree_within
-tree_of-untouched d e ns = refl
-
--- of an operator
-pub tree_of-operator : (d : ℕ) (ns : List Node)
-    → tree_of (nodes.Operator d ∷ ns) ≡ operator d (tree_of ns)
-unfolding tree_within
-tree_of-operator d ns = refl
-
 -- the trees of a body and of the nodes behind it, however far they may go on
 body_apart : (join : Tree → Tree → Tree) (len : ℕ) (ns : List Node)
     → join (tree_within (length ns) (take len ns)) (tree_within (length ns) (drop len ns))
@@ -73,7 +55,7 @@ body_apart join len ns =
       enough (length ns) (length (drop len ns)) (drop len ns) (omega arith) (omega arith),
     ) refl
 
--- of a replication
+-- the tree of a replication, its body and the nodes behind it
 pub tree_of-repeated : (times len : ℕ) (ns : List Node)
     → tree_of (nodes.Repeated times len ∷ ns)
     ≡ repeated times (tree_of (take len ns)) (tree_of (drop len ns))

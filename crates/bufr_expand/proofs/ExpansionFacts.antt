@@ -1,7 +1,7 @@
 -- The nodes so far, and behind them those of the descriptors that are left, for the contract of
 -- `Template::build`, by way of that of `expand`.
-use Rattle.std.proofs.Common.{◌≡◌, ℕ, zero, suc, ◌+◌, ◌-◌, ◌<◌, List, [], ◌∷◌, ◌++◌, length, drop}
-use Rattle.std.proofs.Common.{set, Ok, Err, refl, sym, ap, subst, ◌∙◌, arith, append_assoc}
+use Rattle.std.proofs.Common.{◌≡◌, ℕ, zero, suc, ◌+◌, ◌-◌, List, [], ◌∷◌, ◌++◌, length, drop}
+use Rattle.std.proofs.Common.{set, Ok, Err, refl, sym, ap, ◌∙◌, arith, append_assoc}
 use Rattle.std.proofs.Common.{length-append, Bool, true, false, cond, ltb, ◌⊎◌, inl, inr}
 use Rattle.std.proofs.lemmas.List.{append-nil}
 use Rattle.std.proofs.Math.Seq.{set-append_seam}
@@ -134,10 +134,11 @@ expanded_more tables s r d nodes after behind next h k =
     ∙ ap (λ (ns : List Node). expanded tables s r ns (drop next.taken behind)) (sym p.2)
 
 -- no descriptor is left
-pub expanded_all : (tables : Entries) (s r : ℕ) (nodes : List Node)
-    → expanded tables s r nodes [] ≡ Ok nodes
+pub expanded_nothing : (tables : Entries) (s r : ℕ) (nodes : List Node) (list : List ℕ)
+    → length list ≡ 0 → expanded tables s r nodes list ≡ Ok nodes
 unfolding expand_list
-expanded_all tables s r nodes = ap Ok (append-nil nodes)
+expanded_nothing tables s r nodes [] e = ap Ok (append-nil nodes)
+expanded_nothing tables s r nodes (d ∷ behind) e = absurd (omega arith)
 
 -- ---- a replication
 
@@ -180,13 +181,13 @@ replicated_by true deeper s p nodes mid after head body h k =
     (replication_node head (length l - length nodes - 1)))) (sym all)
 
 -- a level further in, where one more replication may stand
-replicated_below : (tables : Entries) (s p r : ℕ) (nodes mid after : List Node) (head : Repetitions)
+pub replicated : (tables : Entries) (s p r : ℕ) (nodes mid after : List Node) (head : Repetitions)
     (body : List ℕ) → suc p ≡ r → onto nodes (single_nodes (length nodes) (replication_node head 0))
     ≡ Ok mid → onto mid (expand_within (suc (s + p)) tables s p (length mid) body) ≡ Ok after
     → onto nodes (part_nodes (expand_within (s + r) tables) s r (length nodes)
     (replication head body)) ≡ Ok (set after (length nodes)
     (replication_node head (length after - length nodes - 1)))
-replicated_below tables s p r nodes mid after head body e h k =
+replicated tables s p r nodes mid after head body e h k =
     let levels : s + r ≡ suc (s + p) = omega arith in
     ap (λ (n : ℕ). onto nodes (part_nodes (expand_within n tables) s r (length nodes)
     (replication head body))) levels
@@ -194,23 +195,3 @@ replicated_below tables s p r nodes mid after head body e h k =
     (replication head body))) (sym e)
     ∙ replicated_by (ltb (length nodes) most_nodes)
     (expand_within (suc (s + p)) tables) s p nodes mid after head body h k
-
--- the same of a part
-pub replicated : (tables : Entries) (s r : ℕ) (nodes mid after : List Node) (head : Repetitions)
-    (body : List ℕ) → 0 < r → onto nodes (single_nodes (length nodes) (replication_node head 0))
-    ≡ Ok mid → onto mid (expand_within (suc (s + (r - 1))) tables s (r - 1) (length mid) body)
-    ≡ Ok after → onto nodes (part_nodes (expand_within (s + r) tables) s r (length nodes)
-    (replication head body)) ≡ Ok (set after (length nodes)
-    (replication_node head (length after - length nodes - 1)))
-replicated tables s r nodes mid after head body pos h k =
-    replicated_below tables s (r - 1) r nodes mid after head body (omega arith) h k
-
--- a fault of one expansion is that of an equal one
-pub Fails-along : (e : Failure TemplateFault) (x y : Expansion) → x ≡ y → Fails e y → Fails e x
-Fails-along e x y same h = subst (Fails e) (sym same) h
-
--- a list that is empty
-pub expanded_nothing : (tables : Entries) (s r : ℕ) (nodes : List Node) (list : List ℕ)
-    → length list ≡ 0 → expanded tables s r nodes list ≡ Ok nodes
-expanded_nothing tables s r nodes [] e = expanded_all tables s r nodes
-expanded_nothing tables s r nodes (d ∷ behind) e = absurd (omega arith)

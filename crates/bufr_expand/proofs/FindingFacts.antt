@@ -1,7 +1,7 @@
 -- What a descriptor is read as is found, and a fault is found where the tree of a list has no case,
 -- for `laws::expansion_is_the_tree_of_a_list` and `laws::refusal_is_the_first_fault`.
-use Rattle.std.proofs.Common.{◌≡◌, ◌≢◌, ℕ, suc, ◌+◌, ◌-◌, ◌<◌, ◌≤◌, false, cond, eqb, ltb, leb, not}
-use Rattle.std.proofs.Common.{List, [], ◌∷◌, length, take, Option, Some, None, Ok, Err, refl, ap}
+use Rattle.std.proofs.Common.{◌≡◌, ◌≢◌, ℕ, suc, ◌+◌, ◌-◌, ◌<◌, ◌≤◌, false, cond, eqb, ltb, not}
+use Rattle.std.proofs.Common.{List, [], ◌∷◌, length, take, Option, Some, None, Err, refl, ap}
 use Rattle.std.proofs.Common.{◌∙◌, arith}
 use Rattle.std.proofs.lemmas.Bool.{lt-ltb, le-ltb, eq-eqb, ne_eqb, not_from_false, not_from_true}
 use Rattle.std.proofs.lemmas.Bool.{false_from_ne_true, cond_both, cond-true, cond-false}

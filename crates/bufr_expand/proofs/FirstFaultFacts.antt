@@ -1,14 +1,14 @@
 -- An expansion answers a fault exactly where this is the first fault of the list, for
 -- `laws::refusal_is_the_first_fault`.
-use Rattle.std.proofs.Common.{◌≡◌, inl, inr, ℕ, zero, suc, ◌+◌, ◌<◌, ◌≤◌, Bool, true, false}
-use Rattle.std.proofs.Common.{cond, ltb, List, [], ◌∷◌, ◌++◌, length, take, drop, Ok, Err}
+use Rattle.std.proofs.Common.{◌≡◌, inl, inr, ℕ, zero, suc, ◌+◌, ◌<◌, ◌≤◌}
+use Rattle.std.proofs.Common.{ltb, List, [], ◌∷◌, ◌++◌, length, take, drop, Ok, Err}
 use Rattle.std.proofs.Common.{refl, sym, ap, subst, ◌∙◌, arith, add-one}
-use Rattle.std.proofs.lemmas.Bool.{ltb-true, ltb-false, lt-ltb, le-ltb, cond-true, cond-false}
-use Rattle.std.proofs.lemmas.List.{take-append-drop, length-take-le, drop_at}
+use Rattle.std.proofs.lemmas.Bool.{ltb-true, ltb-false, le-ltb, cond-false}
+use Rattle.std.proofs.lemmas.List.{take-append-drop, length-take-le}
 use Rattle.bufr_tables.specs.Answers.{◌>>=◌}
 use Rattle.bufr_tables.specs.Descriptors.{x_of, y_of}
 use Rattle.bufr_tables.specs.Entries.{Entries}
-use Rattle.bufr_tables.specs.AnswerLaws.{bind_ok, bind_err}
+use Rattle.bufr_tables.specs.AnswerLaws.{bind_err}
 use Rattle.bufr_expand.specs.Limits.{most_nodes}
 use Rattle.bufr_expand.specs.declared.node.Node.{Node}
 use Rattle.bufr_expand.specs.declared.node.Node.TheVariants as nodes
@@ -19,8 +19,7 @@ use Rattle.bufr_expand.specs.declared.node.TemplateFault.TheVariants.{TooDeep, T
 use Rattle.bufr_expand.specs.Expansion.{Expansion, Deeper, FirstPart, Part, single, inner}
 use Rattle.bufr_expand.specs.Expansion.{replication, text_of_characters, found, found_at}
 use Rattle.bufr_expand.specs.Expansion.{part_nodes, single_nodes, replication_nodes}
-use Rattle.bufr_expand.specs.Expansion.{replication_node, expand_list}
-use Rattle.bufr_expand.specs.Expansion.{expand_within, expansion}
+use Rattle.bufr_expand.specs.Expansion.{replication_node, expand_list, expand_within, expansion}
 use Rattle.bufr_expand.specs.Trees.{Tree, nodes_of}
 use Rattle.bufr_expand.specs.Flat.{Flat, nothing, element_first, operator_first, text_first}
 use Rattle.bufr_expand.specs.Flat.{width_first, sequence_first, repeated_first, delayed_first}
@@ -305,16 +304,14 @@ first_fault_expands tables s r used list f
     (cond-false (ltb used most_nodes) _ _ (le-ltb used most_nodes full))
 first_fault_expands tables s r used list f (in_sequence front h) zero deep = absurd (omega arith)
 first_fault_expands tables s r used list f
-    (in_sequence {sequences = below} {inside} {behind} front h)
-    (suc levels) deep =
+    (in_sequence {sequences = below} {inside} {behind} front h) (suc levels) deep =
     fault_in_front tables (expand_within (suc levels) tables) (suc below) r used list behind
     (inner inside) f (sequence_opens tables list inside behind front)
     (first_fault_expands tables below r used inside f h levels (omega arith))
 first_fault_expands tables s r used list f (in_replication front low h) zero deep =
     absurd (omega arith)
 first_fault_expands tables s r used list f
-    (in_replication {replications = below} {body} {behind} front low h)
-    (suc levels) deep =
+    (in_replication {replications = below} {body} {behind} front low h) (suc levels) deep =
     let o = replication_opens tables list body behind front in
     fault_in_front tables (expand_within (suc levels) tables) s (suc below) used list behind
     (replication o.0 body) f o.1

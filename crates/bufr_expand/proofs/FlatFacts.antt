@@ -1,6 +1,6 @@
 -- An expansion gives the nodes of a tree exactly where the list has this tree, for
 -- `laws::expansion_is_the_tree_of_a_list`.
-use Rattle.std.proofs.Common.{◌≡◌, ℕ, zero, suc, ◌+◌, ◌<◌, ◌≤◌, Bool, true, false, cond, ltb, List}
+use Rattle.std.proofs.Common.{◌≡◌, ℕ, zero, suc, ◌+◌, ◌<◌, ◌≤◌, cond, ltb, List}
 use Rattle.std.proofs.Common.{[], ◌∷◌, ◌++◌, length, take, drop, Result, Ok, Err, Some, refl, sym}
 use Rattle.std.proofs.Common.{ap, subst, ◌∙◌, arith, add-one, append_assoc, length-append}
 use Rattle.std.proofs.lemmas.Bool.{ltb-true, lt-ltb, cond-true}
@@ -18,7 +18,7 @@ use Rattle.bufr_expand.specs.declared.node.Repetitions.{Repetitions}
 use Rattle.bufr_expand.specs.declared.node.Repetitions.TheVariants as repetitions
 use Rattle.bufr_expand.specs.declared.node.TemplateFault.TheVariants.{TooManyNodes}
 use Rattle.bufr_expand.specs.Expansion.{Expansion, Deeper, FirstPart, Part, single, inner}
-use Rattle.bufr_expand.specs.Expansion.{replication, text_of_characters, found, found_at}
+use Rattle.bufr_expand.specs.Expansion.{replication, found, found_at}
 use Rattle.bufr_expand.specs.Expansion.{part_nodes, single_nodes, replication_nodes}
 use Rattle.bufr_expand.specs.Expansion.{replication_node, expand_list, expand_within, onto}
 use Rattle.bufr_expand.specs.Trees as trees
@@ -141,51 +141,29 @@ PartFlat tables s r used part ns =
     × ((rest : Tree) → nodes_of (with_rest part t rest) ≡ ns ++ nodes_of rest)
     × (used ≤ most_nodes → used + length ns ≤ most_nodes)
 
--- a part's own node has no body
-IsLeaf : Part → Type 0
-IsLeaf (single (nodes.Repeated times size)) = ⊥
-IsLeaf (single (nodes.Delayed d e size)) = ⊥
-IsLeaf (single (nodes.Element d e)) = Unit {0}
-IsLeaf (single (nodes.Untouched d e)) = Unit {0}
-IsLeaf (single (nodes.Operator d)) = Unit {0}
-IsLeaf (inner list) = Unit {0}
-IsLeaf (replication head body) = Unit {0}
-
--- what has no list in it
-is_leaf : (tables : Entries) (d : ℕ) (behind : List ℕ) (part : Part) (taken : ℕ)
-    → IsRead tables d behind part taken → IsLeaf part
-unfolding IsLeaf
-is_leaf tables d behind part taken (an_element f k) = tt
-is_leaf tables d behind part taken (an_operator f x) = tt
-is_leaf tables d behind part taken (a_text f x y) = tt
-is_leaf tables d behind part taken (a_width f x y l k) = tt
-is_leaf tables d behind part taken (a_sequence f k) = tt
-is_leaf tables d behind part taken (a_repeated f x y long) = tt
-is_leaf tables d behind part taken (a_delayed f x y i k c long) = tt
-
--- has one node
-leaf_nodes : (node : Node) (rest : Tree) → IsLeaf (single node)
+-- a part of one node has no body
+leaf_nodes : (tables : Entries) (d taken : ℕ) (behind : List ℕ) (node : Node) (rest : Tree)
+    → IsRead tables d behind (single node) taken
     → nodes_of (with_rest (single node) trees.done rest) ≡ (node ∷ []) ++ nodes_of rest
-unfolding IsLeaf with_rest nodes_of
-leaf_nodes (nodes.Element d e) rest h = refl
-leaf_nodes (nodes.Untouched d e) rest h = refl
-leaf_nodes (nodes.Operator d) rest h = refl
-leaf_nodes (nodes.Repeated times size) rest h = absurd h
-leaf_nodes (nodes.Delayed d e size) rest h = absurd h
+unfolding with_rest nodes_of
+leaf_nodes tables d taken behind node rest (an_element f k) = refl
+leaf_nodes tables d taken behind node rest (an_operator f x) = refl
+leaf_nodes tables d taken behind node rest (a_text f x y) = refl
+leaf_nodes tables d taken behind node rest (a_width f x y l k) = refl
 
 -- a node that fits
-single_flat : (tables : Entries) (s r used : ℕ) (node : Node) (ns : List Node)
-    → IsLeaf (single node) → single_nodes used node ≡ Ok ns
-    → PartFlat tables s r used (single node) ns
+single_flat : (tables : Entries) (s r used d taken : ℕ) (behind : List ℕ) (node : Node)
+    (ns : List Node) → IsRead tables d behind (single node) taken
+    → single_nodes used node ≡ Ok ns → PartFlat tables s r used (single node) ns
 unfolding PartFlat InnerFlat
-single_flat tables s r used node ns h e =
+single_flat tables s r used d taken behind node ns read e =
     let p = room_ok (ltb used most_nodes) (Ok (node ∷ [])) ns e in
     let same : node ∷ [] ≡ ns = let own = p.1 in cc in
     let long : length ns ≡ 1 = ap length (sym same) in
     let low : used < most_nodes = ltb-true used most_nodes p.0 in (
       trees.done,
       tt,
-      λ rest. leaf_nodes node rest h
+      λ rest. leaf_nodes tables d taken behind node rest read
           ∙ ap (λ (l : List Node). l ++ nodes_of rest) same,
       λ fits. omega arith,
     )
@@ -231,14 +209,14 @@ replication_flat tables deeper s r used head body ns all e =
     )
 
 -- a part that fits
-part_flat : (tables : Entries) (deeper : Deeper) (s r used : ℕ) (part : Part) (ns : List Node)
-    → AreFlat tables deeper → IsLeaf part → part_nodes deeper s r used part ≡ Ok ns
-    → PartFlat tables s r used part ns
+part_flat : (tables : Entries) (deeper : Deeper) (s r used d taken : ℕ) (behind : List ℕ)
+    (part : Part) (ns : List Node) → AreFlat tables deeper → IsRead tables d behind part taken
+    → part_nodes deeper s r used part ≡ Ok ns → PartFlat tables s r used part ns
 unfolding PartFlat InnerFlat AreFlat FlatOf with_rest
-part_flat tables deeper s r used (single node) ns all h e =
-    single_flat tables s r used node ns h e
-part_flat tables deeper zero r used (inner list) ns all h e = absurd (cc)
-part_flat tables deeper (suc s) r used (inner list) ns all h e =
+part_flat tables deeper s r used d taken behind (single node) ns all read e =
+    single_flat tables s r used d taken behind node ns read e
+part_flat tables deeper zero r used d taken behind (inner list) ns all read e = absurd (cc)
+part_flat tables deeper (suc s) r used d taken behind (inner list) ns all read e =
     let w = all s r used list ns e in (
       w.0,
       w.1,
@@ -246,8 +224,9 @@ part_flat tables deeper (suc s) r used (inner list) ns all h e =
           ∙ ap (λ (l : List Node). l ++ nodes_of rest) w.2,
       w.3,
     )
-part_flat tables deeper s zero used (replication head body) ns all h e = absurd (cc)
-part_flat tables deeper s (suc r) used (replication head body) ns all h e =
+part_flat tables deeper s zero used d taken behind (replication head body) ns all read e =
+    absurd (cc)
+part_flat tables deeper s (suc r) used d taken behind (replication head body) ns all read e =
     replication_flat tables deeper s r used head body ns all e
 
 -- a part and the rest
@@ -292,8 +271,8 @@ list_flat tables deeper s r zero used (d ∷ behind) ns all e =
     (λ (rest : List Node). Ok (first.0 ++ rest)) ns first.2 in
     let same : first.0 ++ rest.0 ≡ ns = cc in
     let read = reads tables d behind next.0 next.1 in
-    let front = part_flat tables deeper s r used next.0.part first.0 all
-    (is_leaf tables d behind next.0.part next.0.taken read) first.1 in
+    let front = part_flat tables deeper s r used d next.0.taken behind next.0.part first.0 all read
+    first.1 in
     let back = list_flat tables deeper s r next.0.taken
     (used + length first.0) behind rest.0 all rest.1 in
     join_flat tables s r used d behind next.0 first.0 rest.0 ns read same front back

@@ -1,27 +1,24 @@
 -- The fields that a course asks for are those of some nodes, in front of what comes next or of what
 -- is behind these nodes: the way back from a course to an unrolling, for
 -- `laws::courses_begin_unrollings`.
-use Rattle.std.proofs.Common.{◌≡◌, ◌⊎◌, ℕ, zero, suc, ◌+◌, ◌≤◌, Option, Some, None, List, [], ◌∷◌}
+use Rattle.std.proofs.Common.{◌≡◌, ◌⊎◌, ℕ, ◌+◌, ◌≤◌, Option, Some, None, List, [], ◌∷◌}
 use Rattle.std.proofs.Common.{◌++◌}
 use Rattle.std.proofs.Common.{refl, sym, ap, ◌∙◌, subst, inl, inr, arith, append_assoc}
 use Rattle.std.proofs.lemmas.Bool.{cases_lt}
-use Rattle.bufr_tables.specs.declared.element.Element.{Element}
 use Rattle.bufr_expand.specs.declared.operators.Operators.{Operators}
 use Rattle.bufr_expand.specs.declared.operators.Spec.{Spec}
 use Rattle.bufr_expand.specs.declared.walk.WalkFault.{WalkFault}
 use Rattle.bufr_expand.specs.declared.walk.WalkFault.TheVariants.{TooLarge}
 use Rattle.bufr_expand.specs.Limits.{most_items}
-use Rattle.bufr_expand.specs.OperatorsInForce.{in_force_after, effective, untouched, factor_spec}
-use Rattle.bufr_expand.specs.Effects.{Effective, AsInTable}
-use Rattle.bufr_expand.specs.Courses.{Course, ends, stops, asks, asks_if, item, Then, turns}
+use Rattle.bufr_expand.specs.Courses.{Course, ends, stops, asks, asks_if, item, Then}
 use Rattle.bufr_expand.specs.Courses.{course_then}
 use Rattle.bufr_expand.specs.Trees as trees
 use Rattle.bufr_expand.specs.Unrolling.{Told, Unrolled, nothing, item_then, field_then, first_then}
-use Rattle.bufr_expand.specs.Unrolling.{UnrollsTo, ItemThen, FieldThen, FirstThen, Turns, TurnsThen}
+use Rattle.bufr_expand.specs.Unrolling.{UnrollsTo, ItemThen, FieldThen, FirstThen}
 use Rattle.bufr_expand.specs.Unrolling.{Unroll, After}
 use Rattle.bufr_expand.specs.NextFields.{Next, wants, lacks, Begun, Beginning, IsNext, ItemBefore}
 use Rattle.bufr_expand.specs.NextFields.{FieldBegins}
-use Rattle.bufr_expand.specs.NextFields.{FirstBegins, TurnsBegin, TurnsThenBegin, Begins}
+use Rattle.bufr_expand.specs.NextFields.{FirstBegins, Begins}
 use Rattle.bufr_expand.proofs.PassFacts.{item-below, item-above}
 use Rattle.bufr_expand.proofs.TreeParts.{PartCourse, OfPart, OfAll, tree_kept}
 

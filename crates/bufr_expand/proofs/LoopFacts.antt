@@ -4,11 +4,13 @@ use Rattle.std.proofs.Common.{◌≡◌, ℕ, ◌+◌, ◌≤◌, cond, List, []
 use Rattle.std.proofs.Common.{◌∙◌, subst, arith}
 use Rattle.std.proofs.lemmas.List.{take-take, length_push}
 use Rattle.std.proofs.lemmas.List.Sums.{sum_by-take-le}
+use Rattle.std.specs.Vec.{vec_capacity}
 use Rattle.bufr_expand.specs.declared.node.Node.{Node}
 use Rattle.bufr_expand.specs.declared.standing.Open.{Open}
 use Rattle.bufr_expand.specs.declared.standing.State.{State}
 use Rattle.bufr_expand.specs.declared.standing.State.TheVariants as states
-use Rattle.bufr_expand.specs.Places.{repeats, in_front, begins, awaited, IsOpen}
+use Rattle.bufr_expand.specs.declared.walk.Walk.{Walk}
+use Rattle.bufr_expand.specs.Places.{repeats, replications, in_front, begins, awaited, IsOpen}
 use Rattle.bufr_expand.specs.Places.{AreOpen}
 
 -- no fewer replications stand in front of a later place
@@ -77,9 +79,23 @@ going_at s ns place k e h =
     let i : k + 0 ≤ in_front ns place = omega arith in
     subst P (sym e) (g, i)
 
--- so it does at a later place
-pub going_on : (s t : State) (ns : List Node) (from to k : ℕ) → s ≡ states.Going
-    → t ≡ states.Going → from ≤ to → k + awaited s ≤ in_front ns (begins s from)
-    → (begins t to ≤ to) × (k + awaited t ≤ in_front ns (begins t to))
-going_on s t ns from to k e f h inside =
-    going_at t ns to k f (omega (arith, inside_of s ns from k e inside, in_front-mono ns from to h))
+-- so what a walk keeps true of itself holds at a later place
+pub going_on : (w : Walk) (t : State) (to : ℕ) → w.state ≡ states.Going → t ≡ states.Going
+    → w.place ≤ to → to ≤ length w.nodes.now → record {
+      within : (to ≤ length w.nodes.now) × (w.stop ≤ length w.nodes.now);
+      in_bodies : AreOpen w.nodes.now 0 w.loops.items;
+      has_begun : begins t to ≤ to;
+      is_inside : length w.loops.items + awaited t ≤ in_front w.nodes.now (begins t to);
+      has_room : replications w.nodes.now ≤ vec_capacity w.loops;
+    }
+going_on w t to goes e h fits =
+    let inside = inside_of w.state w.nodes.now w.place (length w.loops.items) goes w.is_inside in
+    let at = going_at t w.nodes.now to (length w.loops.items) e
+    (omega (arith, inside, in_front-mono w.nodes.now w.place to h)) in
+    record {
+      within = (fits, w.within.1);
+      in_bodies = w.in_bodies;
+      has_begun = at.0;
+      is_inside = at.1;
+      has_room = w.has_room;
+    }

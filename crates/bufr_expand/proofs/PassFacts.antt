@@ -5,7 +5,6 @@ use Rattle.std.proofs.Common.{◌∷◌, ◌++◌, length, get_or, take, drop, O
 use Rattle.std.proofs.Common.{Err, MatchResult, refl, sym, ap, ◌∙◌, subst, arith}
 use Rattle.std.specs.Result.{result_ok}
 use Rattle.std.proofs.lemmas.Bool.{lt-ltb, le-ltb}
-use Rattle.bufr_tables.specs.declared.element.Element.{Element}
 use Rattle.bufr_expand.specs.Limits.{most_items}
 use Rattle.bufr_expand.specs.declared.node.Node.{Node}
 use Rattle.bufr_expand.specs.declared.node.Node.TheVariants as nodes
@@ -19,17 +18,15 @@ use Rattle.bufr_expand.specs.declared.walk.Step.{Step}
 use Rattle.bufr_expand.specs.declared.walk.Walk.{Walk}
 use Rattle.bufr_expand.specs.declared.walk.WalkFault.{WalkFault}
 use Rattle.bufr_expand.specs.declared.walk.WalkFault.TheVariants.{TooLarge}
-use Rattle.bufr_expand.specs.OperatorsInForce.{none_in_force, in_force_after, effective, untouched}
-use Rattle.bufr_expand.specs.OperatorsInForce.{factor_spec}
-use Rattle.bufr_expand.specs.Courses.{Course, ends, stops, asks, asks_if, item, Then, turns}
+use Rattle.bufr_expand.specs.OperatorsInForce.{none_in_force}
+use Rattle.bufr_expand.specs.Courses.{Course, ends, stops, asks, item, Then, turns}
 use Rattle.bufr_expand.specs.Courses.{course_then, course}
 use Rattle.bufr_expand.specs.Trees as trees
-use Rattle.bufr_expand.specs.Trees.{tree_of}
+use Rattle.bufr_expand.specs.Trees.{tree_of, tree_within}
 use Rattle.bufr_expand.specs.Walks.{tree_between, rest_then, turns_then, behind, behind_all, going}
 use Rattle.bufr_expand.specs.Walks.{told, left_in, left, is_waiting, waits, items_met, Goes}
 use Rattle.bufr_expand.specs.Walks.{Counted}
-use Rattle.bufr_expand.proofs.Between.{tree_between-all, tree_of-element, tree_of-untouched}
-use Rattle.bufr_expand.proofs.Between.{tree_of-operator, tree_of-repeated, tree_of-delayed}
+use Rattle.bufr_expand.proofs.Between.{tree_between-all}
 use Rattle.bufr_expand.proofs.Between.{tree_between-none, between-step, between-parts}
 
 -- ---- items
@@ -105,11 +102,12 @@ stops_at (trees.delayed d e body rest) q used after h g = item-above used _ g
 
 -- a node is no empty tree
 some_tree : (n : Node) (ns : List Node) → tree_of (n ∷ ns) ≡ trees.done → ⊥
-some_tree (nodes.Element d e) ns h = let k = sym (tree_of-element d e ns) ∙ h in cc
-some_tree (nodes.Untouched d e) ns h = let k = sym (tree_of-untouched d e ns) ∙ h in cc
-some_tree (nodes.Operator d) ns h = let k = sym (tree_of-operator d ns) ∙ h in cc
-some_tree (nodes.Repeated times len) ns h = let k = sym (tree_of-repeated times len ns) ∙ h in cc
-some_tree (nodes.Delayed d e len) ns h = let k = sym (tree_of-delayed d e len ns) ∙ h in cc
+unfolding tree_within
+some_tree (nodes.Element d e) ns h = cc
+some_tree (nodes.Untouched d e) ns h = cc
+some_tree (nodes.Operator d) ns h = cc
+some_tree (nodes.Repeated times len) ns h = cc
+some_tree (nodes.Delayed d e len) ns h = cc
 
 -- at any node, where there is no room for an item
 pub visit-limit : (w : Walk) → w.state ≡ states.Going → w.place < w.stop

@@ -5,7 +5,7 @@ use Rattle.std.proofs.Common.{ltb, leb, ◌==◌, ◌&&◌, ◌||◌, not, List,
 use Rattle.std.proofs.Common.{Some, None, Ok, Err, pos, negsuc, ℤ, refl, ap, subst, ◌∙◌, arith}
 use Rattle.std.specs.Bool.{Decides}
 use Rattle.std.proofs.lemmas.Bool.{ltb-true, ltb-false, leb-true, le-leb, eqb-true, eqb-false}
-use Rattle.std.proofs.lemmas.Bool.{eq-eqb, or_cases, not-true, not-false, both_ways, cond_both}
+use Rattle.std.proofs.lemmas.Bool.{or_cases, not-true, not-false, both_ways, cond_both}
 use Rattle.std.proofs.lemmas.Bool.Decides.{Decides-and, Decides-not, Decides-like, not_from_Decides}
 use Rattle.bufr_tables.specs.declared.element.Element.{Element}
 use Rattle.bufr_tables.specs.declared.element.Kind.{Kind}

@@ -41,9 +41,8 @@ GoesAt counts met d s more answer w =
 
 -- a width is asked for only at a count
 bits_at : (counts : Bool) (met d : ℕ) (s : Spec) (more : ℕ → Course)
-    (answer : Result Step WalkFault)
-    (w : Walk) (k : ℕ) → GoesAt counts met d s more answer w → Some k ≡ asked_width answer
-    → AsksBits k w
+    (answer : Result Step WalkFault) (w : Walk) (k : ℕ) → GoesAt counts met d s more answer w
+    → Some k ≡ asked_width answer → AsksBits k w
 bits_at true met d s more answer w k h e =
     let width : Some k ≡ Some s.width = e ∙ ap asked_width h.0 in
     asks_for met d k s more w (cc) h.1 h.2
@@ -52,8 +51,8 @@ bits_at false met d s more answer w k h e =
 
 -- at a count a width is asked for
 none_at : (counts : Bool) (met d : ℕ) (s : Spec) (more : ℕ → Course)
-    (answer : Result Step WalkFault)
-    (w : Walk) → GoesAt counts met d s more answer w → None ≡ asked_width answer → waits w ≡ false
+    (answer : Result Step WalkFault) (w : Walk) → GoesAt counts met d s more answer w
+    → None ≡ asked_width answer → waits w ≡ false
 none_at true met d s more answer w h e =
     let width : None ≡ Some s.width = e ∙ ap asked_width h.0 in absurd cc
 none_at false met d s more answer w h e = h.2

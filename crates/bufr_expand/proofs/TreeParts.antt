@@ -73,8 +73,7 @@ turns_then_kept Holds kept times body rest h g =
     kept.of_first (Turns times (Unroll body)) (Unroll rest)
     (TurnsBegin times (Unroll body) (Begins body)) (Begins rest) (turns times (course_then body))
     (course_then rest)
-    (turns_kept Holds kept times (Unroll body) (Begins body) (course_then body) h)
-    g
+    (turns_kept Holds kept times (Unroll body) (Begins body) (course_then body) h) g
 
 -- a factor has its one spec
 factor_has : (e : Element) (s : Spec) → Some (factor_spec e) ≡ Some s → s ≡ factor_spec e

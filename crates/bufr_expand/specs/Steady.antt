@@ -1,7 +1,7 @@
 -- Courses go on steadily: each field is one more item at least, and only a count decides what comes
 -- after it (FM 94 BUFR, regulation 94.5.4). What is said of each field that a course asks for. For
 -- the law `courses_are_steady`.
-use Rattle.std.proofs.Common.{◌≡◌, ℕ, zero, suc, ◌+◌, ◌<◌, ◌≤◌, Bool, true, false, cond, ltb}
+use Rattle.std.proofs.Common.{◌≡◌, ℕ, zero, suc, ◌+◌, ◌<◌, ◌≤◌, false, ltb}
 use Rattle.std.proofs.Common.{Option, Some, None, refl, arith}
 use Rattle.std.proofs.lemmas.Bool.{ltb-true, cond_both}
 use Rattle.bufr_tables.specs.declared.element.Kind.TheVariants as kinds

@@ -15,7 +15,8 @@ use Rattle.bufr_listing.specs.declared.fault.ListingFault.{ListingFault}
 use Rattle.bufr_listing.specs.declared.fault.ListingFault.TheVariants.{BadLine, BadValue}
 use Rattle.bufr_listing.specs.Listings.{flags_line}
 use Rattle.bufr_listing.specs.Lines.{Line, words_of, first_word, has_octets, as_printed}
-use Rattle.bufr_listing.specs.Cursors.{next_of}
+use Rattle.bufr_listing.specs.declared.lines.TextLine.{TextLine}
+use Rattle.bufr_listing.specs.Cursors.{printed, next_of}
 use Rattle.bufr_listing.specs.Reading.{with_rest, read_line, read_if, read_word, read_octets}
 use Rattle.bufr_listing.specs.Reading.{read_section2, read_flags}
 use Rattle.bufr_listing.proofs.PrintedFacts.{same_test, first_printed, count_printed, line_of_words}
@@ -140,15 +141,16 @@ title_octets text title b first octets =
 
 -- a line with this first word is read
 read_if_some : {A : Type 0} (title : List ℕ) (read : ℕ → List ℕ → Result A ListingFault)
-    (l : Line) (rest : List Line) → bytes_eq (first_word l.text) title ≡ true
-    → read_if title read (l ∷ rest) ≡ (read l.number l.text >>= λ a. with_rest rest (Some a))
-read_if_some title read l rest is = rw is refl
+    (l : TextLine) (rest : List Line) → bytes_eq (first_word l.text.now) title ≡ true
+    → read_if title read (printed l ∷ rest)
+    ≡ (read (printed l).number (printed l).text >>= λ a. with_rest rest (Some a))
+read_if_some title read l rest is = rw (first_printed l.text.now, is) refl
 
 -- what is read of it, and the lines behind it
 pub found_ok : {A : Type 0} (title : List ℕ) (read : ℕ → List ℕ → Result A ListingFault)
-    (ls : List Line) (l : Line) (rest after : List Line) (a : A)
-    → ls ≡ l ∷ rest → after ≡ drop 1 ls → bytes_eq (first_word l.text) title ≡ true
-    → read l.number l.text ≡ Ok a → read_if title read ls ≡ Ok (Some a, after)
+    (ls : List Line) (l : TextLine) (rest after : List Line) (a : A)
+    → ls ≡ printed l ∷ rest → after ≡ drop 1 ls → bytes_eq (first_word l.text.now) title ≡ true
+    → read (printed l).number (printed l).text ≡ Ok a → read_if title read ls ≡ Ok (Some a, after)
 found_ok title read ls l rest after a e behind is h =
     let same : rest ≡ after = ap (λ (xs : List Line). drop 1 xs) (sym e) ∙ sym behind in
     ap (read_if title read) e ∙ read_if_some title read l rest is
@@ -156,9 +158,9 @@ found_ok title read ls l rest after a e behind is h =
 
 -- what fails on it fails for the lines
 pub found_err : {A : Type 0} (title : List ℕ) (read : ℕ → List ℕ → Result A ListingFault)
-    (ls : List Line) (l : Line) (rest : List Line) (e : Failure ListingFault)
-    → ls ≡ l ∷ rest → bytes_eq (first_word l.text) title ≡ true → Fails e (read l.number l.text)
-    → Fails e (read_if title read ls)
+    (ls : List Line) (l : TextLine) (rest : List Line) (e : Failure ListingFault)
+    → ls ≡ printed l ∷ rest → bytes_eq (first_word l.text.now) title ≡ true
+    → Fails e (read (printed l).number (printed l).text) → Fails e (read_if title read ls)
 found_err title read ls l rest OutOfMemory e is h = tt
 found_err title read ls l rest (Fault f) e is h =
     ap (read_if title read) e ∙ read_if_some title read l rest is
@@ -166,13 +168,13 @@ found_err title read ls l rest (Fault f) e is h =
 
 -- a line with another first word is left
 pub not_found : {A : Type 0} (title : List ℕ) (read : ℕ → List ℕ → Result A ListingFault)
-    (ls : List Line) (l : Line) (rest : List Line)
-    → ls ≡ l ∷ rest → bytes_eq (first_word l.text) title ≡ false → read_if title read ls
-    ≡ Ok (None, ls)
+    (ls : List Line) (l : TextLine) (rest : List Line)
+    → ls ≡ printed l ∷ rest → bytes_eq (first_word l.text.now) title ≡ false
+    → read_if title read ls ≡ Ok (None, ls)
 not_found title read ls l rest e is =
     ap (read_if title read) e
-    ∙ cond-false _ (read l.number l.text >>= λ a. with_rest rest (Some a))
-    (with_rest (l ∷ rest) None) is
+    ∙ cond-false _ (read (printed l).number (printed l).text >>= λ a. with_rest rest (Some a))
+    (with_rest (printed l ∷ rest) None) (ap (λ w. bytes_eq w title) (first_printed l.text.now) ∙ is)
     ∙ ap (λ (xs : List Line). Ok (None, xs)) (sym e)
 
 -- where no line is left, nothing is read

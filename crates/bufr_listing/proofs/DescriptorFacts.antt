@@ -81,8 +81,8 @@ untitled_descriptors tables n text other =
 plain_line : (text : List ℕ) (ws : List (List ℕ)) → words_of text ≡ codes "descriptors" ∷ ws
     → as_printed text ≡ text
 plain_line text ws e =
-    own_printed text
-    (title_octets text (codes "descriptors") false (ap (λ us. get_or us 0 []) e) refl)
+    own_printed text (title_octets text (codes "descriptors") false
+    (ap (λ us. get_or us 0 []) e) refl)
 
 -- a word that is no descriptor
 pub descriptors_are_not : DescriptorTexts → (tables : Entries) (n : ℕ) (text : List ℕ)

@@ -7,13 +7,14 @@ use Rattle.std.specs.Prelude.{◌==◌, ◌&&◌, not, Option, Some, None, nat_l
 use Rattle.std.specs.Str.{bytes_eq}
 use Rattle.std.proofs.lemmas.Bool.{and_parts, cases_Bool, leb-true, le-leb, eq-eqb, eqb-true}
 use Rattle.std.proofs.lemmas.List.{map-append}
+use Rattle.std.proofs.lemmas.Option.{none-some}
 use Rattle.std.proofs.lemmas.List.Elements.{All-from_recursion}
 use Rattle.bufr_tables.specs.Entries.{Entries}
 use Rattle.bufr_expand.specs.declared.node.TemplateFault.{TemplateFault}
 use Rattle.bufr_expand.specs.Templates.{template}
 use Rattle.bufr_expand.specs.Trees.{Tree}
 use Rattle.bufr_sections.specs.Sections.{AreOctets}
-use Rattle.bufr_tables.specs.AnswerLaws.{ok_is, bind_err, err_is}
+use Rattle.bufr_tables.specs.AnswerLaws.{bind_ok, ok_is, bind_err, err_is}
 use Rattle.bufr_listing.specs.declared.fault.ListingFault.{ListingFault}
 use Rattle.bufr_listing.specs.declared.fault.ListingFault.TheVariants.{BadLine, Refused}
 use Rattle.bufr_listing.specs.declared.fault.Cause.TheVariants as causes
@@ -310,22 +311,14 @@ if_absent {A} title read (l ∷ ls) rest h =
     elim (cases_Bool (bytes_eq (first_word l.text) title)) [
       | inl is ↦
           let g = rw (is) at h in
-          elim (read_err_or (read l.number l.text)) [
-            | inl some ↦ let k = rw (some.1) at g in
-                let e : ◌≡◌ {A = Option A} (Some some.0) None =
-                ap (λ (x : Option A × List Line). x.0) (ok_is _ _ k) in absurd cc
-            | inr none ↦ let k = rw (none.1) at g in absurd cc
-          ]
+          let k = bind_ok (read l.number l.text) (λ a. with_rest ls (Some a)) (None, rest) g in
+          let none = sym (ap (λ (x : Option A × List Line). x.0) (ok_is _ _ k.2)) in
+          absurd (none-some k.0 none)
       | inr other ↦ λ m behind e titled.
           let same : first_word l.text ≡ title =
           ap (λ (x : Line). first_word x.text) (next_is l m ls behind e) ∙ titled in
           not_title (first_word l.text) title other same
     ]
-  where
-    read_err_or : {A : Type 0} (r : Result A ListingFault) → ((a : A) × (r ≡ Ok a))
-        ⊎ ((e : ListingFault) × (r ≡ Err e))
-    read_err_or (Ok a) = inl (a, refl)
-    read_err_or (Err e) = inr (e, refl)
 
 -- ---- first words
 
@@ -367,37 +360,29 @@ two_words : (text a b : List ℕ) → bytes_eq a b ≡ false → first_word text
     → ⊥
 two_words text a b other is also = not_title a b other (sym is ∙ also)
 
+-- the second of two does not hold, so the first does
+first_of : {A B : Type 0} → A ⊎ B → (B → ⊥) → A
+first_of (inl a) none = a
+first_of (inr b) none = absurd (none b)
+
+-- the first of two does not hold, so the second does
+second_of : {A B : Type 0} → A ⊎ B → (A → ⊥) → B
+second_of (inl a) none = absurd (none a)
+second_of (inr b) none = b
+
 -- a line of octets for local use that fails
 pub local_at : (l : Line) (fault : ListingFault) → first_word l.text ≡ codes "local1"
     → read_local l.number l.text ≡ Err fault
     → (CouldStand behind_time l.text → ⊥) × IsFaultOf (IsOfKindAt behind_time l.text) l.number fault
 local_at l fault titled h =
-    let p = local_err l.number l.text fault h in (
-      λ could.
-          elim could [
-            | inl local ↦ p.0 local
-            | inr others ↦
-                elim others [
-                  | inl two ↦ two_words l.text (codes "local1") (codes "section2") refl titled
-                      (section2_is_titled l.text two)
-                  | inr flags ↦ two_words l.text (codes "local1") (codes "flags") refl titled
-                      (flags_titled l.text flags)
-                ]
-          ],
+    let p = local_err l.number l.text fault h in
+    let no_two = two_words l.text (codes "local1") (codes "section2") refl titled in
+    let no_flags = two_words l.text (codes "local1") (codes "flags") refl titled in (
+      λ could. p.0 (first_of could (λ others. no_flags (flags_titled l.text
+          (second_of others (λ two. no_two (section2_is_titled l.text two)))))),
       same_kind_of (HasWords (codes "local1") 2 l.text) (IsOfKindAt behind_time l.text) l.number
           fault (λ k. inl k)
-          (λ kind.
-          elim kind [
-            | inl local ↦ local
-            | inr others ↦
-                elim others [
-                  | inl two ↦
-                      absurd (two_words l.text (codes "local1") (codes "section2") refl titled
-                      two.0)
-                  | inr flags ↦
-                      absurd (two_words l.text (codes "local1") (codes "flags") refl titled flags.0)
-                ]
-          ])
+          (λ kind. first_of kind (λ others. no_flags (second_of others (λ two. no_two two.0)).0))
           p.1,
     )
 
@@ -413,51 +398,22 @@ pub section2_at : (local : Option (List ℕ)) (l : Line) (fault : ListingFault) 
     → (CouldStand (place_behind local None) l.text → ⊥) × IsFaultOf
     (IsOfKindAt (place_behind local None) l.text) l.number fault
 section2_at None l fault titled h =
-    let p = section2_err l.number l.text fault h in (
-      λ could.
-          elim could [
-            | inl local ↦ two_words l.text (codes "section2") (codes "local1") refl titled
-                (local_titled l.text local)
-            | inr others ↦
-                elim others [
-                  | inl two ↦ p.0 two
-                  | inr flags ↦ two_words l.text (codes "section2") (codes "flags") refl titled
-                      (flags_titled l.text flags)
-                ]
-          ],
+    let p = section2_err l.number l.text fault h in
+    let no_local = two_words l.text (codes "section2") (codes "local1") refl titled in
+    let no_flags = two_words l.text (codes "section2") (codes "flags") refl titled in (
+      λ could. p.0 (first_of (second_of could (λ local. no_local (local_titled l.text local)))
+          (λ flags. no_flags (flags_titled l.text flags))),
       same_kind_of (HasWords (codes "section2") 2 l.text) (IsOfKindAt behind_time l.text) l.number
           fault (λ k. inr (inl k))
-          (λ kind.
-          elim kind [
-            | inl local ↦
-                absurd (two_words l.text (codes "section2") (codes "local1") refl titled local.0)
-            | inr others ↦
-                elim others [
-                  | inl two ↦ two
-                  | inr flags ↦
-                      absurd (two_words l.text (codes "section2") (codes "flags") refl titled
-                      flags.0)
-                ]
-          ])
-          p.1,
+          (λ kind. first_of (second_of kind (λ local. no_local local.0))
+          (λ flags. no_flags flags.0)) p.1,
     )
 section2_at (Some octets) l fault titled h =
-    let p = section2_err l.number l.text fault h in (
-      λ could.
-          elim could [
-            | inl two ↦ p.0 two
-            | inr flags ↦ two_words l.text (codes "section2") (codes "flags") refl titled
-                (flags_titled l.text flags)
-          ],
+    let p = section2_err l.number l.text fault h in
+    let no_flags = two_words l.text (codes "section2") (codes "flags") refl titled in (
+      λ could. p.0 (first_of could (λ flags. no_flags (flags_titled l.text flags))),
       same_kind_of (HasWords (codes "section2") 2 l.text) (IsOfKindAt behind_local l.text)
-          l.number fault (λ k. inl k)
-          (λ kind.
-          elim kind [
-            | inl two ↦ two
-            | inr flags ↦
-                absurd (two_words l.text (codes "section2") (codes "flags") refl titled flags.0)
-          ])
-          p.1,
+          l.number fault (λ k. inl k) (λ kind. first_of kind (λ flags. no_flags flags.0)) p.1,
     )
 
 -- a line of flags that fails
@@ -469,39 +425,19 @@ pub flags_at : (local two : Option (List ℕ)) (l : Line) (fault : ListingFault)
     (IsOfKindAt (place_behind local two) l.text) l.number fault
 flags_at None None l fault no_local no_two h =
     let p = flags_err l.number l.text fault h in (
-      λ could.
-          elim could [
-            | inl local ↦ no_local refl refl (local_titled l.text local)
-            | inr others ↦ elim others [
-              | inl two ↦ no_two refl (section2_is_titled l.text two)
-              | inr flags ↦ p.0 flags
-            ]
-          ],
+      λ could. p.0 (second_of
+          (second_of could (λ local. no_local refl refl (local_titled l.text local)))
+          (λ two. no_two refl (section2_is_titled l.text two))),
       same_kind_of (HasWordsOfFlags l.text) (IsOfKindAt behind_time l.text) l.number fault
           (λ k. inr (inr k))
-          (λ kind.
-          elim kind [
-            | inl local ↦ absurd (no_local refl refl local.0)
-            | inr others ↦ elim others [
-              | inl two ↦ absurd (no_two refl two.0)
-              | inr flags ↦ flags
-            ]
-          ])
-          p.1,
+          (λ kind. second_of (second_of kind (λ local. no_local refl refl local.0))
+          (λ two. no_two refl two.0)) p.1,
     )
 flags_at (Some octets) None l fault no_local no_two h =
     let p = flags_err l.number l.text fault h in (
-      λ could. elim could [
-        | inl two ↦ no_two refl (section2_is_titled l.text two)
-        | inr flags ↦ p.0 flags
-      ],
+      λ could. p.0 (second_of could (λ two. no_two refl (section2_is_titled l.text two))),
       same_kind_of (HasWordsOfFlags l.text) (IsOfKindAt behind_local l.text) l.number fault
-          (λ k. inr k)
-          (λ kind. elim kind [
-            | inl two ↦ absurd (no_two refl two.0)
-            | inr flags ↦ flags
-          ])
-          p.1,
+          (λ k. inr k) (λ kind. second_of kind (λ two. no_two refl two.0)) p.1,
     )
 flags_at None (Some two) l fault no_local no_two h = flags_err l.number l.text fault h
 flags_at (Some octets) (Some two) l fault no_local no_two h = flags_err l.number l.text fault h

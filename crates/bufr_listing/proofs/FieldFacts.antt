@@ -9,10 +9,9 @@ use Rattle.std.specs.List.{flat_map, list_all}
 use Rattle.std.specs.Str.{bytes_eq}
 use Rattle.std.specs.Int.RustNames.{unsigned_abs}
 use Rattle.std.proofs.lemmas.Bool.{and_parts, and_from, cases_Bool, ltb-true, leb-true, eqb-true}
-use Rattle.std.proofs.lemmas.Bool.{not-true, cond-true, cond-false, false_from_ne_true}
+use Rattle.std.proofs.lemmas.Bool.{not-true, eq-eqb, cond-true, cond-false, false_from_ne_true}
 use Rattle.std.proofs.Math.Nat.{pow-le-pow_right}
 use Rattle.std.proofs.Math.IntN.{+ℤ-neg_ℤ_cancel}
-use Rattle.std.proofs.lemmas.Bool.Decides.{Decides-eqb}
 use Rattle.std.proofs.lemmas.Int.{ints}
 use Rattle.std.proofs.lemmas.Slice.Eq.{bytes_eq-Decides}
 use Rattle.hex.specs.Hex.{encode_with, encode_lower}
@@ -244,7 +243,7 @@ read_field_takes d spec n text f h =
     (and_parts (is_within 600 spec.scale)
     (has_form_by spec.kind spec.width (raw_in spec (drop 7 text))) q.0).1 in
     let same : stands_for d spec (field_in d spec text) ≡ true =
-    rw (spec_is_same spec, formed, (Decides-eqb d d).1 refl) refl in (
+    rw (spec_is_same spec, formed, eq-eqb d d refl) refl in (
       sym (bytes_same (field_line (field_in d spec text)) text q.1) ∙ ap field_line p.1,
       subst (λ (g : Field). stands_for d spec g ≡ true) p.1 same,
     )

@@ -212,9 +212,8 @@ pub message_takes : LowerLaws → (tables : Entries) (past : ℕ) (ls : List Lin
 message_takes laws tables past ls x h =
     let p = message_parts tables past ls x h in
     let l0 = line_takes (read_word (codes "message")) past ls p.begin p.begins in
-    let l1 =
-    line_takes
-    (read_numbers (codes "section1") section1_limits) past p.begin.1 p.numbers p.has_numbers in
+    let l1 = line_takes (read_numbers (codes "section1") section1_limits) past p.begin.1 p.numbers
+    p.has_numbers in
     let l2 =
     line_takes (read_numbers (codes "time") time_limits) past p.numbers.1 p.time p.has_time in
     let l3 =
@@ -235,9 +234,8 @@ message_takes laws tables past ls x h =
     let w5 = flags_take l5.line.number l5.line.text p.flags.0 l5.reads in
     let w6 =
     descriptors_take laws.descriptors tables l6.line.number l6.line.text p.list.0 l6.reads in
-    let w7 =
-    subsets_take (length p.list.1) past 1
-    (course p.list.0.tree) 0 p.list.1 p.found p.has_found in
+    let w7 = subsets_take (length p.list.1) past 1 (course p.list.0.tree) 0 p.list.1 p.found
+    p.has_found in
     let eight = eight_by_place p.numbers.0 (below_length section1_limits p.numbers.0 w1.1) in
     let six = six_by_place p.time.0 (below_length time_limits p.time.0 w2.1) in
     let m =

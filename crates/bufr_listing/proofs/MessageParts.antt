@@ -89,31 +89,34 @@ pub message_parts : (tables : Entries) (past : ℕ) (ls : List Line) (x : Messag
     → message_read tables past ls ≡ Ok x → MessageParts tables past ls x
 unfolding message_read
 message_parts tables past ls x h =
-    let p0 = bind_ok (read_line (read_word (codes "message")) past ls) _ x h in
-    let p1 = bind_ok (read_line (read_numbers (codes "section1") section1_limits) past p0.0.1) _ x
-    p0.2 in
-    let p2 = bind_ok (read_line (read_numbers (codes "time") time_limits) past p1.0.1) _ x p1.2 in
-    let p3 = bind_ok (read_if (codes "local1") read_local p2.0.1) _ x p2.2 in
-    let p4 = bind_ok (read_if (codes "section2") read_section2 p3.0.1) _ x p3.2 in
-    let p5 = bind_ok (read_line read_flags past p4.0.1) _ x p4.2 in
-    let p6 = bind_ok (read_line (read_descriptors tables) past p5.0.1) _ x p5.2 in
-    let p7 = bind_ok (subsets_read (length p6.0.1) past (course p6.0.0.tree) 0 p6.0.1) _ x p6.2 in
+    let begin = bind_ok (read_line (read_word (codes "message")) past ls) _ x h in
+    let numbers =
+    bind_ok (read_line (read_numbers (codes "section1") section1_limits) past begin.0.1) _ x
+    begin.2 in
+    let time =
+    bind_ok (read_line (read_numbers (codes "time") time_limits) past numbers.0.1) _ x numbers.2 in
+    let local = bind_ok (read_if (codes "local1") read_local time.0.1) _ x time.2 in
+    let two = bind_ok (read_if (codes "section2") read_section2 local.0.1) _ x local.2 in
+    let flags = bind_ok (read_line read_flags past two.0.1) _ x two.2 in
+    let list = bind_ok (read_line (read_descriptors tables) past flags.0.1) _ x flags.2 in
+    let found =
+    bind_ok (subsets_read (length list.0.1) past (course list.0.0.tree) 0 list.0.1) _ x list.2 in
     record {
-      begin = p0.0;
-      numbers = p1.0;
-      time = p2.0;
-      local = p3.0;
-      two = p4.0;
-      flags = p5.0;
-      list = p6.0;
-      found = p7.0;
-      begins = p0.1;
-      has_numbers = p1.1;
-      has_time = p2.1;
-      has_local = p3.1;
-      has_two = p4.1;
-      has_flags = p5.1;
-      has_list = p6.1;
-      has_found = p7.1;
-      is = ok_is _ _ p7.2;
+      begin = begin.0;
+      numbers = numbers.0;
+      time = time.0;
+      local = local.0;
+      two = two.0;
+      flags = flags.0;
+      list = list.0;
+      found = found.0;
+      begins = begin.1;
+      has_numbers = numbers.1;
+      has_time = time.1;
+      has_local = local.1;
+      has_two = two.1;
+      has_flags = flags.1;
+      has_list = list.1;
+      has_found = found.1;
+      is = ok_is _ _ found.2;
     }

@@ -106,54 +106,19 @@ at_subsets tables past ls l1 l2 l3 l4 h two flags list e f g d =
 
 -- ---- faults
 
--- what fails first fails
-pub bind_fails : {A B : Type 0} (o : Result A ListingFault) (k : A → Result B ListingFault)
-    (e : Failure ListingFault) → Fails e o → Fails e (o >>= k)
-bind_fails o k OutOfMemory h = tt
-bind_fails o k (Fault f) h = ap (λ r. r >>= k) h
-
--- the same answers fail alike
-pub same_fails : {A : Type 0} (x y : Result A ListingFault) (e : Failure ListingFault) → x ≡ y
-    → Fails e y → Fails e x
-same_fails x y OutOfMemory is h = tt
-same_fails x y (Fault f) is h = is ∙ h
+-- where the next step fails, all do
+pub step_fails : {A B : Type 0} (m : Result B ListingFault) (o : Result A ListingFault)
+    (k : A → Result B ListingFault) (e : Failure ListingFault) → m ≡ (o >>= k) → Fails e o
+    → Fails e m
+step_fails m o k OutOfMemory so h = tt
+step_fails m o k (Fault f) so h = so ∙ ap (λ r. r >>= k) h
 
 -- where section 1 fails, the message does
 pub head_fails : (tables : Entries) (past : ℕ) (ls : List Line) (e : Failure ListingFault)
     → Fails e (head_read past ls) → Fails e (message_read tables past ls)
 head_fails tables past ls e h =
-    same_fails _ _ e (by_head tables past ls)
-    (bind_fails (head_read past ls) (λ x. from_section2 tables past x.0 x.1) e h)
-
--- where section 2 fails, it does
-pub section2_fails : (tables : Entries) (past : ℕ) (ls l1 : List Line) (h : Head)
-    (e : Failure ListingFault) → head_read past ls ≡ Ok (h, l1)
-    → Fails e (read_if (codes "section2") read_section2 l1) → Fails e (message_read tables past ls)
-section2_fails tables past ls l1 h e a fails =
-    same_fails _ _ e (at_section2 tables past ls l1 h a)
-    (bind_fails (read_if (codes "section2") read_section2 l1)
-    (λ x. from_flags tables past h x.0 x.1) e fails)
-
--- where the flags fail, it does
-pub flags_fail : (tables : Entries) (past : ℕ) (ls l1 l2 : List Line) (h : Head)
-    (two : Option (List ℕ)) (e : Failure ListingFault) → head_read past ls ≡ Ok (h, l1)
-    → read_if (codes "section2") read_section2 l1 ≡ Ok (two, l2)
-    → Fails e (read_line read_flags past l2) → Fails e (message_read tables past ls)
-flags_fail tables past ls l1 l2 h two e a b fails =
-    same_fails _ _ e (at_flags tables past ls l1 l2 h two a b)
-    (bind_fails (read_line read_flags past l2) (λ x. from_descriptors tables past h two x.0 x.1) e
-    fails)
-
--- where the descriptors fail, it does
-pub descriptors_fail : (tables : Entries) (past : ℕ) (ls l1 l2 l3 : List Line) (h : Head)
-    (two : Option (List ℕ)) (flags : Flags) (e : Failure ListingFault) → head_read past ls
-    ≡ Ok (h, l1) → read_if (codes "section2") read_section2 l1 ≡ Ok (two, l2)
-    → read_line read_flags past l2 ≡ Ok (flags, l3)
-    → Fails e (read_line (read_descriptors tables) past l3) → Fails e (message_read tables past ls)
-descriptors_fail tables past ls l1 l2 l3 h two flags e a b c fails =
-    same_fails _ _ e (at_descriptors tables past ls l1 l2 l3 h two flags a b c)
-    (bind_fails (read_line (read_descriptors tables) past l3)
-    (λ x. from_subsets past h two flags x.0 x.1) e fails)
+    step_fails _ (head_read past ls) (λ x. from_section2 tables past x.0 x.1) e
+    (by_head tables past ls) h
 
 -- what fails when it is changed failed before
 map_fails : (o : Result SubsetsListed ListingFault) (e : Failure ListingFault)
@@ -163,16 +128,13 @@ map_fails (Ok r) (Fault f) h = absurd cc
 map_fails (Err g) (Fault f) h = let same : g ≡ f = cc in ap Err same
 
 -- where the subsets fail, the message does
-pub subsets_fail : (tables : Entries) (past : ℕ) (ls l1 l2 l3 l4 : List Line) (h : Head)
+pub subsets_fail : (tables : Entries) (past : ℕ) (ls mid : List Line) (h : Head)
     (two : Option (List ℕ)) (flags : Flags) (list : Described) (e : Failure ListingFault)
-    → head_read past ls ≡ Ok (h, l1)
-    → read_if (codes "section2") read_section2 l1 ≡ Ok (two, l2) → read_line read_flags past l2
-    ≡ Ok (flags, l3) → read_line (read_descriptors tables) past l3 ≡ Ok (list, l4)
-    → Fails e (subsets_of past (course list.tree) l4) → Fails e (message_read tables past ls)
-subsets_fail tables past ls l1 l2 l3 l4 h two flags list e a b c d fails =
-    same_fails _ _ e (at_subsets tables past ls l1 l2 l3 l4 h two flags list a b c d)
-    (bind_fails (subsets_read (length l4) past (course list.tree) 0 l4) _ e
-    (map_fails (subsets_read (length l4) past (course list.tree) 0 l4) e fails))
+    → message_read tables past ls ≡ from_subsets past h two flags list mid
+    → Fails e (subsets_of past (course list.tree) mid) → Fails e (message_read tables past ls)
+subsets_fail tables past ls mid h two flags list e so fails =
+    step_fails _ (subsets_read (length mid) past (course list.tree) 0 mid) _ e so
+    (map_fails (subsets_read (length mid) past (course list.tree) 0 mid) e fails)
 
 -- what was answered before it was changed
 map_ok : (o : Result SubsetsListed ListingFault) (x : List Subset × List Line)
@@ -182,17 +144,14 @@ map_ok (Ok r) x h = (r, refl, ok_is (r.subsets, r.rest) x h)
 map_ok (Err f) x h = absurd cc
 
 -- the message of its lines
-pub message_is : (tables : Entries) (past : ℕ) (ls l1 l2 l3 l4 l5 : List Line) (h : Head)
+pub message_is : (tables : Entries) (past : ℕ) (ls mid rest : List Line) (h : Head)
     (two : Option (List ℕ)) (flags : Flags) (list : Described) (subsets : List Subset)
-    → head_read past ls ≡ Ok (h, l1)
-    → read_if (codes "section2") read_section2 l1 ≡ Ok (two, l2) → read_line read_flags past l2
-    ≡ Ok (flags, l3) → read_line (read_descriptors tables) past l3 ≡ Ok (list, l4)
-    → subsets_of past (course list.tree) l4 ≡ Ok (subsets, l5)
-    → message_read tables past ls
-    ≡ Ok (message_with h two flags list subsets, l5)
-message_is tables past ls l1 l2 l3 l4 l5 h two flags list subsets a b c d s =
-    let p = map_ok (subsets_read (length l4) past (course list.tree) 0 l4) (subsets, l5) s in
-    at_subsets tables past ls l1 l2 l3 l4 h two flags list a b c d
+    → message_read tables past ls ≡ from_subsets past h two flags list mid
+    → subsets_of past (course list.tree) mid ≡ Ok (subsets, rest)
+    → message_read tables past ls ≡ Ok (message_with h two flags list subsets, rest)
+message_is tables past ls mid rest h two flags list subsets so s =
+    let p = map_ok (subsets_read (length mid) past (course list.tree) 0 mid) (subsets, rest) s in
+    so
     ∙ goes_on _ _ p.0 _ p.1
     (ap (λ (x : List Subset × List Line). with_rest x.1 (message_with h two flags list x.0)) p.2)
 

@@ -520,10 +520,8 @@ message_shown laws tables m can =
     let last : IsShown end_line =
     record { plain = literal_plain end_line refl; kept = refl; own = refl } in
     all_append IsShown (heading_lines (heading_of m) ++ flat_map subset_lines m.subsets)
-    (end_line ∷ [])
-    (all_append IsShown (heading_lines (heading_of m))
-    (flat_map subset_lines m.subsets) heading subsets)
-    (last, tt)
+    (end_line ∷ []) (all_append IsShown (heading_lines (heading_of m))
+    (flat_map subset_lines m.subsets) heading subsets) (last, tt)
 
 -- the lines of messages
 messages_shown : LowerLaws → (tables : Entries) (messages : List Message)

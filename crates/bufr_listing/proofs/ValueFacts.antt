@@ -11,7 +11,6 @@ use Rattle.std.specs.Str.{bytes_eq}
 use Rattle.std.specs.Int.RustNames.{unsigned_abs}
 use Rattle.std.proofs.lemmas.Bool.{and_parts, and_from, cases_Bool, eqb-true, eq-eqb, true≢false}
 use Rattle.std.proofs.lemmas.Bool.{cond-false}
-use Rattle.std.proofs.lemmas.Bool.Decides.{Decides-eqb}
 use Rattle.std.proofs.lemmas.List.{take-append-drop}
 use Rattle.std.proofs.lemmas.Option.{none-some, same_Some}
 use Rattle.bufr_tables.specs.declared.element.Kind.{Kind}
@@ -308,7 +307,7 @@ value_some d spec n text raw fits begins h =
     let p = raw_is d spec (drop 7 text) raw h in
     let f : Field = record { fxy = d; spec = spec; raw = raw } in
     let stands : stands_for d spec (record { fxy = d; spec = spec; raw = raw }) ≡ true =
-    rw (spec_is_same spec, p.1.form, (Decides-eqb d d).1 refl) refl in
+    rw (spec_is_same spec, p.1.form, eq-eqb d d refl) refl in
     let line : field_line (record { fxy = d; spec = spec; raw = raw }) ≡ text =
     ap (λ w. six_digits d ++ 32 ∷ w) p.1.printed ∙ sym (line_is d text begins) in
     ap (read_field d spec n) (own_text d text begins ∙ sym line)

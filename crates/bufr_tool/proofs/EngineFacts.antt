@@ -129,18 +129,7 @@ prints_part printing tables reads old new first now counts read count faults.Out
   subst (λ b. WritesLines first now (frames_text printing tables (frames_by b read)))
       (sym g.met_end) p,
 )
-prints_part printing tables reads old new first now counts read count
-    (faults.ReadFailed source) g p = absurd p
-prints_part printing tables reads old new first now counts read count
-    (faults.EndlessInput source) g p = absurd p
-prints_part printing tables reads old new first now counts read count
-    (faults.Table source fault) g p = absurd p
-prints_part printing tables reads old new first now counts read count (faults.Listing why) g p =
-    absurd p
-prints_part printing tables reads old new first now counts read count
-    (faults.Encode number why) g p = absurd p
-prints_part printing tables reads old new first now counts read count
-    (faults.NotAnArchive input place) g p = absurd p
+prints_part printing tables reads old new first now counts read count e g p = absurd p
 
 -- a text of all octets is one of those that were read
 of_all : (left : Option (List ℕ)) (read : List ℕ) (P : List ℕ → Type 0)
@@ -173,18 +162,7 @@ prints_whole printing tables reads old new first now read
       subst (λ b. WritesLines first now (frames_text printing tables (frames_by b read)))
           (sym out.met_end) p,
     )
-prints_whole printing tables reads old new first now read
-    (Err (faults.ReadFailed source)) out all given p = absurd p
-prints_whole printing tables reads old new first now read
-    (Err (faults.EndlessInput source)) out all given p = absurd p
-prints_whole printing tables reads old new first now read
-    (Err (faults.Table source fault)) out all given p = absurd p
-prints_whole printing tables reads old new first now read
-    (Err (faults.Listing why)) out all given p = absurd p
-prints_whole printing tables reads old new first now read
-    (Err (faults.Encode number why)) out all given p = absurd p
-prints_whole printing tables reads old new first now read
-    (Err (faults.NotAnArchive input place)) out all given p = absurd p
+prints_whole printing tables reads old new first now read (Err e) out all given p = absurd p
 
 -- nothing was read
 pub prints_nothing : (printing : Printing) (tables : Entries) (reads : ℕ) (reader : Reading)

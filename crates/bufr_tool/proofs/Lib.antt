@@ -1,4 +1,5 @@
 -- What the contracts of the engines and of the command line are proved from.
+mod CommandFacts
 mod TextFacts
 mod LineFacts
 mod ListingFacts

@@ -1,6 +1,6 @@
 -- Lists of readers of files, none of which was read: the contract of `open_all` needs it, and so
 -- that of `run_command`.
-use Rattle.std.proofs.Common.{◌≡◌, ℕ, Bool, false, List, [], ◌∷◌, ◌++◌, map}
+use Rattle.std.proofs.Common.{◌≡◌, false, List, [], ◌∷◌, ◌++◌, map}
 use Rattle.std.specs.List.{AllByRecursion}
 use Rattle.bufr_bits.specs.Devices.{Reading}
 use Rattle.bufr_bits.specs.declared.device.FromRead.{FromRead}

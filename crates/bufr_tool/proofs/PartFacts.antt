@@ -5,6 +5,7 @@ use Rattle.std.proofs.Common.{Err, refl, sym, ap, ◌∙◌, subst, arith, lengt
 use Rattle.std.specs.Prelude.{slice_get}
 use Rattle.std.proofs.lemmas.List.{append-nil}
 use Rattle.bufr_bits.specs.Devices.{Writing}
+use Rattle.bufr_listing.specs.Listings.{listing}
 use Rattle.bufr_message.specs.declared.Message.{Message}
 use Rattle.bufr_message.specs.Views.{ListsSubset}
 use Rattle.bufr_engines.specs.declared.fault.ToolFault.{ToolFault}
@@ -15,7 +16,7 @@ use Rattle.bufr_tool.specs.Lines.{AreWholeLines, WritesLines}
 use Rattle.bufr_tool.specs.StreamEngines.{PrintsText, WritesAllBut}
 use Rattle.bufr_tool.proofs.LineFacts.{both_whole, listed_whole, lines_more, lines_longer}
 use Rattle.bufr_tool.proofs.LineFacts.{some_lines}
-use Rattle.bufr_tool.proofs.ListingFacts.{listed, listed_more}
+use Rattle.bufr_tool.proofs.ListingFacts.{listed, unlisted, listed_more, IsJoined, listing_parted}
 
 -- nothing was written yet
 pub but_all : (held text : List ℕ) (before : ℕ) (w : Writing) → text ≡ held → AreWholeLines held
@@ -58,14 +59,16 @@ held_less held held' text before then now first mid last w v = record {
   counted = omega (arith, w.counted, v.counted, length-append w.front v.front);
 }
 
--- memory ran out while some was held
-pub held_halts : (held text rest all : List ℕ) (before now : ℕ) (first last : Writing)
-    → all ≡ text ++ rest → WritesAllBut held text before now first last
-    → WritesLines first last all
-held_halts held text rest all before now first last is w =
-    some_lines first last w.front (held ++ rest) all
-    (is ∙ ap (λ (t : List ℕ). t ++ rest) w.parted ∙ append_assoc w.front held rest) w.front_whole
-    w.written
+-- memory ran out while some lines of a listing were held
+pub listing_halts : (m : Message) (i : ℕ) (held : List ℕ) (before now : ℕ) (first last : Writing)
+    → IsJoined m → WritesAllBut held (listed m i) before now first last
+    → WritesLines first last (listing m)
+listing_halts m i held before now first last law w =
+    let rest = unlisted m i in
+    some_lines first last w.front (held ++ rest) (listing m)
+    (listing_parted m i law ∙ ap (λ (t : List ℕ). t ++ rest) w.parted
+    ∙ append_assoc w.front held rest)
+    w.front_whole w.written
 
 -- writing what is held stopped
 pub held_stops : (held text rest all : List ℕ) (before then : ℕ) (first mid last : Writing)
@@ -84,17 +87,7 @@ held_stops held text rest all before then first mid last faults.OutOfMemory is w
     lines_longer first last (w.front ++ held) rest all
     (is ∙ ap (λ (t : List ℕ). t ++ rest) w.parted)
     (lines_more first mid last w.front held w.front_whole w.written p)
-held_stops held text rest all before then first mid last (faults.ReadFailed source) is w p =
-    absurd p
-held_stops held text rest all before then first mid last (faults.EndlessInput source) is w p =
-    absurd p
-held_stops held text rest all before then first mid last (faults.Table source fault) is w p =
-    absurd p
-held_stops held text rest all before then first mid last (faults.Listing why) is w p = absurd p
-held_stops held text rest all before then first mid last (faults.Encode number why) is w p =
-    absurd p
-held_stops held text rest all before then first mid last (faults.NotAnArchive i place) is w p =
-    absurd p
+held_stops held text rest all before then first mid last e is w p = absurd p
 
 -- what is held is the last that was written, or writing it stopped
 pub held_ends : (held text : List ℕ) (before then : ℕ) (first mid last : Writing)

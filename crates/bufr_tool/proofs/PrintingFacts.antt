@@ -5,7 +5,7 @@ use Rattle.std.proofs.Common.{Result, Ok, Err, get_or, refl, sym, ap, ◌∙◌,
 use Rattle.std.proofs.Common.{length-append, append_assoc, take-append-drop, IsErrAnd, IfSome}
 use Rattle.std.proofs.Common.{Option, Some}
 use Rattle.std.specs.List.{sum_by, slice_index_or}
-use Rattle.std.proofs.lemmas.List.{append-nil, drop_more, take_more}
+use Rattle.std.proofs.lemmas.List.{drop_more, flat_map_more, take_more}
 use Rattle.std.proofs.lemmas.List.Sums.{sum_by_push, sum_by-le}
 use Rattle.std.proofs.lemmas.Grind.{flat_map-append}
 use Rattle.bufr_bits.specs.Devices.{Writing}
@@ -30,20 +30,13 @@ pub text_more : (printing : Printing) (tables : Entries) (frames : List Found) (
     → frames_text printing tables (frames ++ frame ∷ [])
     ≡ frames_text printing tables frames ++ frame_text printing tables frame
 text_more printing tables frames frame =
-    flat_map-append (frame_text printing tables) frames (frame ∷ [])
-    ∙ ap (λ t. frames_text printing tables frames ++ t)
-    (append-nil (frame_text printing tables frame))
+    sym (flat_map_more (frame_text printing tables) [] frames frame)
 
 -- the text of frames and of more frames
 pub text_append : (printing : Printing) (tables : Entries) (frames more : List Found)
     → frames_text printing tables (frames ++ more)
     ≡ frames_text printing tables frames ++ frames_text printing tables more
 text_append printing tables frames more = flat_map-append (frame_text printing tables) frames more
-
--- a sum over frames and one more
-sum_more : (f : Found → ℕ) (frames : List Found) (frame : Found)
-    → sum_by f (frames ++ frame ∷ []) ≡ sum_by f frames + f frame
-sum_more f frames frame = sum_by_push f frames frame
 
 -- before the first frame none was printed
 pub printed_none : (printing : Printing) (tables : Entries) (first : Writing) → first.failed ≡ false
@@ -72,12 +65,12 @@ printed_more printing tables first mid now counts counts' frames frame done h p 
       frames_are =
           ap (λ (k : Counts). k.frames) e ∙ ap (λ n. n + 1) h.frames_are
           ∙ sym (length-append frames (frame ∷ []));
-      refused_are =
-          ap (λ (k : Counts). k.refused) e ∙ ap (λ n. n + frame_refused tables frame) h.refused_are
-          ∙ sym (sum_more (frame_refused tables) frames frame);
-      octets_are =
-          ap (λ (k : Counts). k.octets) e ∙ ap (λ n. n + length frame.bytes) h.octets_are
-          ∙ sym (sum_more (λ f. length f.bytes) frames frame);
+      refused_are = ap (λ (k : Counts). k.refused) e
+          ∙ ap (λ n. n + frame_refused tables frame) h.refused_are
+          ∙ sym (sum_by_push (frame_refused tables) frames frame);
+      octets_are = ap (λ (k : Counts). k.octets) e
+          ∙ ap (λ n. n + length frame.bytes) h.octets_are
+          ∙ sym (sum_by_push (λ f. length f.bytes) frames frame);
       written_are =
           ap (λ (k : Counts). k.written) e ∙ ap (λ n. n + long) h.written_are
           ∙ sym
@@ -162,18 +155,7 @@ stopped printing tables first mid now counts counts' last frames more all frame 
     (frames_text printing tables all) whole
     (lines_more first mid now (frames_text printing tables frames)
     (frame_text printing tables frame) (frames_whole printing tables frames) h.text p)
-stopped printing tables first mid now counts counts' last frames more all frame
-    (faults.ReadFailed source) is h p = absurd p
-stopped printing tables first mid now counts counts' last frames more all frame
-    (faults.EndlessInput source) is h p = absurd p
-stopped printing tables first mid now counts counts' last frames more all frame
-    (faults.Table source fault) is h p = absurd p
-stopped printing tables first mid now counts counts' last frames more all frame
-    (faults.Listing why) is h p = absurd p
-stopped printing tables first mid now counts counts' last frames more all frame
-    (faults.Encode number why) is h p = absurd p
-stopped printing tables first mid now counts counts' last frames more all frame
-    (faults.NotAnArchive input place) is h p = absurd p
+stopped printing tables first mid now counts counts' last frames more all frame e is h p = absurd p
 
 -- memory ran out behind some of all frames
 pub halted : (printing : Printing) (tables : Entries) (first now : Writing) (counts last : Counts)
@@ -186,15 +168,20 @@ halted printing tables first now counts last frames more all is h =
     (ap (frames_text printing tables) is ∙ text_append printing tables frames more)
     (frames_whole printing tables frames) h.text
 
+-- a list up to one of its elements, that one, and those behind it
+pub split_at : {A : Type 0} (xs : List A) (i : ℕ) (x : A) → i < length xs → x ≡ get_or xs i x
+    → xs ≡ take i xs ++ x ∷ drop (i + 1) xs
+split_at xs i x inside is =
+    sym (take-append-drop i xs)
+    ∙ ap (λ ys. take i xs ++ ys)
+    (drop_more xs i x inside ∙ ap (λ y. y ∷ drop (i + 1) xs) (sym is))
+
 -- the frames of a list up to one, that one, and those behind it
 pub parted_at : (frames : List Found) (i : ℕ) (frame : Found) (before : List Found)
     → i < length frames → frame ≡ get_or frames i frame
     → before ++ frames ≡ ((before ++ take i frames) ++ frame ∷ []) ++ drop (i + 1) frames
 parted_at frames i frame before inside is =
-    let here : drop i frames ≡ frame ∷ drop (i + 1) frames =
-    drop_more frames i frame inside ∙ ap (λ (f : Found). f ∷ drop (i + 1) frames) (sym is) in
-    ap (λ (fs : List Found). before ++ fs)
-    (sym (take-append-drop i frames) ∙ ap (λ (fs : List Found). take i frames ++ fs) here)
+    ap (λ (fs : List Found). before ++ fs) (split_at frames i frame inside is)
     ∙ sym (append_assoc before (take i frames) (frame ∷ drop (i + 1) frames))
     ∙ sym (append_assoc (before ++ take i frames) (frame ∷ []) (drop (i + 1) frames))
 

@@ -1,8 +1,8 @@
 -- What is printed of a stream as its pieces come: the steps of `print_piece`, `print_pieces`,
 -- `print_end`, `print_rest` and `print_tally`, and so of the contracts of `run_show` and
 -- `run_check`.
-use Rattle.std.proofs.Common.{◌≡◌, ℕ, ◌+◌, ◌≤◌, List, [], ◌∷◌, ◌++◌, length, drop, Ok, Err, refl}
-use Rattle.std.proofs.Common.{sym, ap, ◌∙◌, subst, arith, length-append}
+use Rattle.std.proofs.Common.{◌≡◌, ℕ, ◌+◌, ◌≤◌, List, [], ◌∷◌, ◌++◌, length, drop, Ok, Err, sym, ap}
+use Rattle.std.proofs.Common.{◌∙◌, subst, refl, arith, length-append, IfSome, Option, Some}
 use Rattle.std.proofs.lemmas.List.Sums.{sum_by-append, sum_by_push}
 use Rattle.std.proofs.lemmas.List.{append-nil}
 use Rattle.bufr_bits.specs.Devices.{Writing}
@@ -27,7 +27,7 @@ use Rattle.bufr_tool.specs.StreamEngines.{PrintsFrame, HasPrinted, PrintsFrames,
 use Rattle.bufr_tool.specs.StreamEngines.{HasEnded, PrintsEnd}
 use Rattle.bufr_frame.specs.FrameBounds.{sure_few, sure_short, cut_few, cut_short}
 use Rattle.bufr_engines.specs.WritingLaws.{writes_more, fails_more, fails_longer}
-use Rattle.bufr_tool.proofs.PrintingFacts.{printed_more, stopped, halted}
+use Rattle.bufr_tool.proofs.PrintingFacts.{printed_more, stopped, halted, some_is}
 
 -- within a piece: all but the rest of the stream was taken in, and the frames handed out were
 -- printed
@@ -62,39 +62,54 @@ amid_few framer stream rest frames t =
     let b = sure_short stream in
     (omega arith, omega arith)
 
--- a frame that was handed out can be counted
+-- a frame was handed out after all that were handed out before, and less of the piece is left
+abbrev pub Hands : Framing → Framing → List ℕ → List ℕ → Found → Type 0
+Hands before after rest left frame = (stream : List ℕ) (frames : List Found)
+    → IsTaking before stream rest frames → IsTaking after stream left (frames ++ frame ∷ [])
+
+-- so it is where `take_next` answers a frame
+pub hands : (before after : Framing) (rest left : List ℕ) (o : Option Found) (frame : Found)
+    → o ≡ Some frame → IsRestOf rest left → IfSome o (IsNextFrame before (taken_in rest left))
+    → IfSome o (λ f. StandsAfter before after (taken_in rest left) 1)
+    → Hands before after rest left frame
+hands before after rest left o frame is parted next stands = λ stream frames t.
+    taking_one before after stream rest left frames frame t parted
+    (some_is (IsNextFrame before (taken_in rest left)) o frame is next)
+    (some_is (λ f. StandsAfter before after (taken_in rest left) 1) o frame is stands)
+
+-- a frame that was handed out can be counted with those before: there are no more frames than
+-- octets that were taken in or are in the piece, and no more octets in them
 pub amid_fits : (printing : Printing) (tables : Entries) (first now : Writing)
-    (before after : Framing) (counts : Counts) (stream rest left : List ℕ) (frame : Found)
-    → (a : Amid printing tables first now before counts stream rest) → IsRestOf rest left
-    → IsNextFrame before (taken_in rest left) frame
-    → StandsAfter before after (taken_in rest left) 1
-    → (counts.frames + 1 ≤ length stream) × (counts.octets + length frame.bytes ≤ length stream)
-amid_fits printing tables first now before after counts stream rest left frame a parted next
-    stands =
-    let t = taking_one before after stream rest left a.frames frame a.taking parted next stands in
-    let both = amid_few after stream left (a.frames ++ frame ∷ []) t in
+    (before after : Framing) (counts : Counts) (stream piece rest left : List ℕ) (frame : Found)
+    (fed : ℕ) → Amid printing tables first now before counts (stream ++ piece) rest
+    → Hands before after rest left frame → fed ≡ length stream
+    → (counts.frames + 1 ≤ fed + length piece)
+    × (counts.octets + length frame.bytes ≤ fed + length piece)
+amid_fits printing tables first now before after counts stream piece rest left frame fed a h start =
+    let all = stream ++ piece in
+    let both = amid_few after all left (a.frames ++ frame ∷ []) (h all a.frames a.taking) in
     let one = both.0 in
     let two = both.1 in
     let long = length-append a.frames (frame ∷ []) in
     let sum = sum_by_push (λ (f : Found). length f.bytes) a.frames frame in
     let f = a.printed.frames_are in
     let o = a.printed.octets_are in
+    let whole = length-append stream piece in
     (omega arith, omega arith)
 
 -- a frame more was handed out and printed
 pub amid_more : (printing : Printing) (tables : Entries) (first mid now : Writing)
     (before after : Framing) (counts counts' : Counts) (stream rest left : List ℕ) (frame : Found)
     (done : Unit {0}) → Amid printing tables first mid before counts stream rest
-    → IsRestOf rest left → IsNextFrame before (taken_in rest left) frame
-    → StandsAfter before after (taken_in rest left) 1
+    → Hands before after rest left frame
     → PrintsFrame printing tables frame counts counts' mid now (Ok done)
     → Amid printing tables first now after counts' stream left
 amid_more printing tables first mid now before after counts counts' stream rest left frame done a
-    parted next stands p = record {
+    h p = record {
       frames = a.frames ++ frame ∷ [];
-      taking = taking_one before after stream rest left a.frames frame a.taking parted next stands;
-      printed =
-          printed_more printing tables first mid now counts counts' a.frames frame done a.printed p;
+      taking = h stream a.frames a.taking;
+      printed = printed_more printing tables first mid now counts counts' a.frames frame done
+          a.printed p;
     }
 
 -- no frame more is sure: the piece was taken in, and all that is sure was printed
@@ -122,26 +137,27 @@ amid_halted printing tables first now framer counts last stream rest a =
 pub amid_stopped : (printing : Printing) (tables : Entries) (first mid now : Writing)
     (before after : Framing) (counts counts' last : Counts) (stream rest left : List ℕ)
     (frame : Found) (e : ToolFault) → Amid printing tables first mid before counts stream rest
-    → IsRestOf rest left → IsNextFrame before (taken_in rest left) frame
-    → StandsAfter before after (taken_in rest left) 1
+    → Hands before after rest left frame
     → PrintsFrame printing tables frame counts counts' mid now (Err e)
     → PrintsFrames printing tables (sure stream) last first now (Err e)
-amid_stopped printing tables first mid now before after counts counts' last stream rest left frame e
-    a parted next stands p =
-    let t = taking_one before after stream rest left a.frames frame a.taking parted next stands in
-    let front = taking_front after stream left (a.frames ++ frame ∷ []) t in
+amid_stopped printing tables first mid now before after counts counts' last stream rest left frame
+    e a h p =
+    let more = a.frames ++ frame ∷ [] in
+    let front = taking_front after stream left more (h stream a.frames a.taking) in
     stopped printing tables first mid now counts counts' last a.frames front.0
     (sure stream) frame e front.1 a.printed p
 
 -- ---- the end
 
--- no more frames than octets, and no more octets in them: also behind the sure ones
-pub rest_few : (framer : Framing) (stream : List ℕ) (last : List Found)
-    → HandedOut framer stream (sure stream) → last ≡ drop (length (sure stream)) (cut stream)
-    → (length (sure stream) + length last ≤ length stream)
-    × (octets_of (sure stream) + octets_of last ≤ length stream)
-rest_few framer stream last h is =
-    let whole = handed_end framer stream (sure stream) last h is in
+-- the frames behind the sure ones can be counted with those: there are no more frames than octets
+-- that were taken in, and no more octets in them
+pub rest_fits : (printing : Printing) (tables : Entries) (first now : Writing) (framer : Framing)
+    (counts : Counts) (stream : List ℕ) (last : List Found)
+    → HasPrintedSure printing tables first now framer counts stream
+    → last ≡ drop (length (sure stream)) (cut stream)
+    → (counts.frames + length last ≤ framer.fed) × (counts.octets + octets_of last ≤ framer.fed)
+rest_fits printing tables first now framer counts stream last h is =
+    let whole = handed_end framer stream (sure stream) last h.handed is in
     let long : length (cut stream) ≡ length (sure stream) + length last =
     ap length (sym whole) ∙ length-append (sure stream) last in
     let sum : octets_of (cut stream) ≡ octets_of (sure stream) + octets_of last =
@@ -149,6 +165,9 @@ rest_few framer stream last h is =
     ∙ sum_by-append (λ (f : Found). length f.bytes) (sure stream) last in
     let a = cut_few stream in
     let b = cut_short stream in
+    let f = h.printed.frames_are in
+    let o = h.printed.octets_are in
+    let start = h.handed.stands.fed in
     (omega arith, omega arith)
 
 -- memory ran out before the frames that are left were handed out
@@ -203,20 +222,7 @@ end_fails printing tables first mid now counts fed stream text tally
     (subst (FailsAfter (length (frames_text printing tables (cut stream)) + w.0) first now)
     (end_text printing tables stream text tally is last)
     (fails_more first mid now _ text w.0 h.printed.text w.2))
-end_fails printing tables first mid now counts fed stream text tally faults.OutOfMemory h is last
-    w = absurd w
-end_fails printing tables first mid now counts fed stream text tally
-    (faults.ReadFailed source) h is last w = absurd w
-end_fails printing tables first mid now counts fed stream text tally
-    (faults.EndlessInput source) h is last w = absurd w
-end_fails printing tables first mid now counts fed stream text tally
-    (faults.Table source fault) h is last w = absurd w
-end_fails printing tables first mid now counts fed stream text tally
-    (faults.Listing why) h is last w = absurd w
-end_fails printing tables first mid now counts fed stream text tally
-    (faults.Encode number why) h is last w = absurd w
-end_fails printing tables first mid now counts fed stream text tally
-    (faults.NotAnArchive input place) h is last w = absurd w
+end_fails printing tables first mid now counts fed stream text tally e h is last w = absurd w
 
 -- memory ran out before the last line
 pub end_halted : (printing : Printing) (tables : Entries) (first now : Writing) (counts : Counts)
@@ -234,9 +240,4 @@ pub end_early : (printing : Printing) (tables : Entries) (first now : Writing) (
 end_early printing tables first now counts stream (faults.WriteFailed written) p =
     fails_longer first now _ _ written p
 end_early printing tables first now counts stream faults.OutOfMemory p = p
-end_early printing tables first now counts stream (faults.ReadFailed source) p = absurd p
-end_early printing tables first now counts stream (faults.EndlessInput source) p = absurd p
-end_early printing tables first now counts stream (faults.Table source fault) p = absurd p
-end_early printing tables first now counts stream (faults.Listing why) p = absurd p
-end_early printing tables first now counts stream (faults.Encode number why) p = absurd p
-end_early printing tables first now counts stream (faults.NotAnArchive input place) p = absurd p
+end_early printing tables first now counts stream e p = absurd p

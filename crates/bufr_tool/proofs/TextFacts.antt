@@ -19,9 +19,3 @@ pub tally_joined : (one frames two refused three skipped end : List ℕ)
     → one ++ (frames ++ (two ++ (refused ++ (three ++ (skipped ++ end)))))
     ≡ (((((one ++ frames) ++ two) ++ refused) ++ three) ++ skipped) ++ end
 tally_joined one frames two refused three skipped end = simp append_assoc
-
--- the line of `merge`
-pub merged_joined : (one archives two reports end : List ℕ)
-    → one ++ (archives ++ (two ++ (reports ++ end)))
-    ≡ (((one ++ archives) ++ two) ++ reports) ++ end
-merged_joined one archives two reports end = simp append_assoc

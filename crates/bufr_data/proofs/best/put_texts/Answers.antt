@@ -1,14 +1,13 @@
 -- The clauses of `put_texts`: the head of the column, and then text by text.
-use Rattle.std.proofs.Common.{◌≡◌, ◌∙◌, ◌++◌, ◌∷◌, [], ◌+◌, ◌/◌, ◌<◌, ◌≤◌, length, map, take, drop}
-use Rattle.std.proofs.Common.{ap, arith}
+use Rattle.std.proofs.Common.{ℕ, ◌∙◌, ◌++◌, ◌+◌, ◌/◌, ◌<◌, ◌≤◌, length, map, take, drop, ap, arith}
 use Rattle.std.specs.Prelude.{replicate}
 use Rattle.std.specs.List.{flat_map}
 use Rattle.std.proofs.lemmas.List.{take_all}
 use Rattle.bufr_bits.specs.Bits.{bin, bits}
 use Rattle.bufr_data.specs.BestColumns.{first_raw, octets_of}
 use Rattle.bufr_data.specs.Places.{rows_from, values_from}
-use Rattle.bufr_data.proofs.PutFacts.{front_is, values_push, octets_push, put_step, put_text_head}
-use Rattle.bufr_data.proofs.PutFacts.{zeros_are, kept_more}
+use Rattle.bufr_data.proofs.ListFacts.{map_grown}
+use Rattle.bufr_data.proofs.PutFacts.{values_more, put_step, put_text_head, zeros_are, kept_more}
 use Rattle.bufr_data.proofs.best.put_texts.Goals as goal
 
 -- at first the minimum of zeros, the width and the text of the first subset are put
@@ -25,21 +24,18 @@ pub loop-other-preserved : goal.loop-other-preserved
 loop-other-preserved c =
     let less : c.loop-other.other-index < length c.args.others.now =
     omega (arith, c.loop-other-test.true) in
-    let i = c.loop-other.other-index in
-    let f = c.args.field.now in
-    let before = take i c.args.others.now in
-    let after = take (i + 1) c.args.others.now in
-    let grown : after ≡ before ++ c.other-item.result ∷ [] =
-    front_is c.args.others.now i c.other-item.result less c.other-item.is in
     let v = first_raw (drop c.args.place c.other-item.result.fields) in
-    let octets = f.spec.width / 8 in
-    let old = values_from f (rows_from c.args.place before) in
-    let new = values_from f (rows_from c.args.place after) in
-    put_step bits (map octets_of old) (map octets_of new) (octets_of v) c.args.sink.now
-    (bits (replicate octets 0) ++ bin 6 octets) c.loop-other.sink c.put_text_at.new.sink
-    (octets_push old new v
-    (values_push f c.args.place before after c.other-item.result grown)) c.loop-other.invariant
-    c.in_ok-put_text_at.ensures.put
+    let i = c.loop-other.other-index in
+    let values = λ (k : ℕ).
+    values_from c.args.field.now (rows_from c.args.place (take k c.args.others.now)) in
+    let more =
+    values_more c.args.field.now c.args.place c.args.others.now i c.other-item.result less
+    c.other-item.is in
+    let octets = c.args.field.now.spec.width / 8 in
+    put_step bits (map octets_of (values i)) (map octets_of (values (i + 1))) (octets_of v)
+    c.args.sink.now (bits (replicate octets 0) ++ bin 6 octets) c.loop-other.sink
+    c.put_text_at.new.sink (map_grown octets_of (values i) (values (i + 1)) v more)
+    c.loop-other.invariant c.in_ok-put_text_at.ensures.put
 
 -- where memory runs out, the sink begins as before
 pub returns-in_err-put_text_at-clause-kept : goal.returns-in_err-put_text_at-clause-kept

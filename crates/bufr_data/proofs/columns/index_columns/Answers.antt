@@ -3,19 +3,18 @@ use Rattle.std.proofs.Common.{◌≡◌, ◌∙◌, ◌+◌, ◌∷◌, [], Some
 use Rattle.std.proofs.Common.{arith}
 use Rattle.bufr_bits.specs.Ends.{left}
 use Rattle.bufr_expand.specs.Walks as walks
-use Rattle.bufr_data.specs.Indexed.{PassesPlace}
-use Rattle.bufr_expand.specs.Steady.{course_steady}
-use Rattle.bufr_data.proofs.PlaceFacts.{behind_no_column, opened, place_kept}
+use Rattle.bufr_data.specs.Indexed.{Opens, PassesPlace}
+use Rattle.bufr_data.proofs.StepFacts.{ready_there}
+use Rattle.bufr_data.proofs.ListFacts.{all_grown}
+use Rattle.bufr_data.proofs.PlaceFacts.{behind_no_column, place_kept}
 use Rattle.bufr_data.proofs.columns.index_columns.Goals as goal
 
 -- at first the walk stands at the start of the course, and no column is passed
 pub loop-fault-init : goal.loop-fault-init
 loop-fault-init c =
     rw c.new-places.ensures.items (record {
-      ready = record {
-        answered = c.in_ok-walk.ensures.answered;
-        steady = rw (c.in_ok-walk.ensures.items, c.in_ok-walk.ensures.course) (course_steady _ _);
-      };
+      ready = ready_there _ _ _ c.in_ok-walk.ensures.answered c.in_ok-walk.ensures.items
+          c.in_ok-walk.ensures.course;
       few = omega arith;
       limit = omega (arith, c.in_ok-walk.ensures.items);
       octets = refl;
@@ -45,8 +44,8 @@ loop-fault-preserved c =
       octets = c.in-Ok-Some.ensures.octets ∙ c.loop-fault.invariant.octets;
       onward = omega (arith, c.in-Ok-Some.ensures.onward, c.loop-fault.invariant.onward);
       open_all =
-          opened octets c.args.subsets c.loop-fault.places.items _ c.in-Ok-Some.place grown
-          c.loop-fault.invariant.open_all step.0;
+          all_grown (Opens octets c.args.subsets) c.loop-fault.places.items _ c.in-Ok-Some.place
+          grown c.loop-fault.invariant.open_all step.0;
       so_far =
           place_kept octets c.args.subsets
           (c.len.result + 1) c.loop-fault.places.items _ c.in-Ok-Some.place _ _ _ _ _ grown

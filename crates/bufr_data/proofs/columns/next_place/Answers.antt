@@ -4,9 +4,11 @@ use Rattle.std.proofs.lemmas.Result.{err_from_is_err_and}
 use Rattle.bufr_bits.specs.Bits.{bits}
 use Rattle.bufr_bits.specs.Ends.{left}
 use Rattle.bufr_data.specs.StepLaws.{field_goes_on, count_goes_on}
-use Rattle.bufr_data.proofs.PlaceFacts.{stop_refused, end_passes, field_past, count_past}
-use Rattle.bufr_data.proofs.PlaceFacts.{field_refused, count_refused, field_passes, count_passes}
+use Rattle.bufr_data.proofs.PassFacts.{factor_refused}
+use Rattle.bufr_data.proofs.PlaceFacts.{stop_refused, end_passes, step_past, step_refused}
+use Rattle.bufr_data.proofs.PlaceFacts.{field_passes, count_passes}
 use Rattle.bufr_data.proofs.PlaceFacts.{count_is_below, is_count}
+use Rattle.bufr_data.proofs.StepFacts.{field_asked, count_asked}
 use Rattle.bufr_data.proofs.columns.next_place.Goals as goal
 
 -- where the walk stops, its fault is that of the columns
@@ -26,8 +28,8 @@ pub returns-in_err-within_limit-in-Field-clause-err :
 returns-in_err-within_limit-in-Field-clause-err c =
     let p = err_from_is_err_and c.from_residual.result c.from_residual.ensures.1 in
     let goes = rw c.in-Field.is at c.in-Ok.ensures in
-    rw (p.1, p.2)
-    (field_past _ _ c.args.n c.args.i _ _ _ _ goes (sym c.in_err-within_limit-in-Field.ensures))
+    rw (p.1, p.2) (step_past _ c.args.n c.args.i _ _ _ _ (field_asked _ _ _ _ goes)
+    (sym c.in_err-within_limit-in-Field.ensures))
 
 -- a column that does not stand there is refused
 pub returns-in_err-pass_column-in-Field-clause-err :
@@ -37,9 +39,10 @@ returns-in_err-pass_column-in-Field-clause-err c =
     err_from_is_err_and c.from_residual-in_err-pass_column-in-Field.result
     c.from_residual-in_err-pass_column-in-Field.ensures.1 in
     let goes = rw c.in-Field.is at c.in-Ok.ensures in
-    rw (p.1, p.2)
-    (field_refused _ _ c.args.n c.args.i _ _ _ _ goes
-    (sym c.in_ok-within_limit-in-Field.ensures) c.in_err-pass_column-in-Field.ensures.err)
+    rw (p.1, p.2) (step_refused _ c.args.n c.args.i _ _ _ _ (field_asked _ _ _ _ goes)
+    (sym c.in_ok-within_limit-in-Field.ensures)
+    (factor_refused c.args.n c.args.i c.in-Field.spec (left c.args.reader.now) _
+    c.in_err-pass_column-in-Field.ensures.err))
 
 -- a factor's column with which there would be too many values is refused
 pub returns-in_err-within_limit-in-Count-clause-err :
@@ -49,8 +52,8 @@ returns-in_err-within_limit-in-Count-clause-err c =
     err_from_is_err_and c.from_residual-in_err-within_limit-in-Count.result
     c.from_residual-in_err-within_limit-in-Count.ensures.1 in
     let goes = rw c.in-Count.is at c.in-Ok.ensures in
-    rw (p.1, p.2)
-    (count_past _ _ c.args.n c.args.i _ _ _ _ goes (sym c.in_err-within_limit-in-Count.ensures))
+    rw (p.1, p.2) (step_past _ c.args.n c.args.i _ _ _ _ (count_asked _ _ _ _ goes)
+    (sym c.in_err-within_limit-in-Count.ensures))
 
 -- a factor's column that does not stand there, or whose values differ, is refused
 pub returns-in_err-number-in-Count-clause-err : goal.returns-in_err-number-in-Count-clause-err
@@ -59,8 +62,7 @@ returns-in_err-number-in-Count-clause-err c =
     err_from_is_err_and c.from_residual-in_err-number-in-Count.result
     c.from_residual-in_err-number-in-Count.ensures.1 in
     let goes = rw c.in-Count.is at c.in-Ok.ensures in
-    rw (p.1, p.2)
-    (count_refused _ _ c.args.n c.args.i _ _ _ _ goes
+    rw (p.1, p.2) (step_refused _ c.args.n c.args.i _ _ _ _ (count_asked _ _ _ _ goes)
     (sym c.in_ok-within_limit-in-Count.ensures) c.in_err-number-in-Count.ensures.err)
 
 -- the column is passed, and its place told

@@ -1,7 +1,8 @@
 -- The clause of `value`: where a column stands, each of its subsets has a value.
-use Rattle.std.proofs.Common.{◌∙◌, sym}
+use Rattle.std.proofs.Common.{◌∙◌, refl, subst, sym}
+use Rattle.std.specs.Prelude.{IsSome}
 use Rattle.bufr_bits.specs.BitLaws.{some_is}
-use Rattle.bufr_data.proofs.ValueFacts.{value_there, some_there}
+use Rattle.bufr_data.proofs.ValueFacts.{value_there}
 use Rattle.bufr_data.proofs.columns.value.Goals as goal
 
 -- there is a value at each index below the number of subsets
@@ -9,10 +10,8 @@ pub unwrap-requires : goal.unwrap-requires
 unwrap-requires c =
     let at = c.at-reader.ensures in
     let is = rw at at c.in_ok-value.ensures in
-    some_there c.in_ok-value.value _
-    (is
-    ∙ value_there c.args.octets.now c.args.subsets c.args.index c.args.place c.requires.stands
-    c.requires.inside)
+    subst IsSome (sym (is ∙ value_there c.args.octets.now c.args.subsets c.args.index c.args.place
+    c.requires.stands c.requires.inside)) refl
 
 -- and it is the one of the column at this index
 pub returns : goal.returns

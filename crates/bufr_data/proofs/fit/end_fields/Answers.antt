@@ -1,5 +1,6 @@
 -- The clause of `end_fields`: what the walk asks for where the fields of a subset have ended.
-use Rattle.bufr_data.proofs.WriteFacts.{stop_misfits, end_fits, field_lacks, count_lacks}
+use Rattle.bufr_data.proofs.StepFacts.{field_asked, count_asked}
+use Rattle.bufr_data.proofs.WriteFacts.{stop_misfits, end_fits, step_lacks}
 use Rattle.bufr_data.proofs.fit.end_fields.Goals as goal
 
 -- where the walk stops, its fault is the misfit
@@ -16,10 +17,10 @@ returns-in-End c =
 pub returns-in-Field : goal.returns-in-Field
 returns-in-Field c =
     let goes = rw c.in-Field.is at c.in-Ok.ensures in
-    field_lacks _ _ _ _ _ _ goes
+    step_lacks _ _ _ _ _ (field_asked _ _ _ _ goes)
 
 -- and so where a count is asked for
 pub returns-in-Count : goal.returns-in-Count
 returns-in-Count c =
     let goes = rw c.in-Count.is at c.in-Ok.ensures in
-    count_lacks _ _ _ _ _ _ goes
+    step_lacks _ _ _ _ _ (count_asked _ _ _ _ goes)

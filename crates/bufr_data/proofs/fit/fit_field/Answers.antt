@@ -1,8 +1,8 @@
 -- The clauses of `fit_field`: one step of the walk is one step of fitting.
 use Rattle.std.proofs.lemmas.Result.{err_from_is_err_and}
-use Rattle.bufr_data.proofs.WriteFacts.{field_is_written, count_is_written, count_written_fits}
-use Rattle.bufr_data.proofs.WriteFacts.{field_misfits, count_misfits, end_misfits, stop_misfits}
-use Rattle.bufr_data.proofs.WriteFacts.{fits_is}
+use Rattle.bufr_data.proofs.StepFacts.{field_asked, count_asked, field_goes, count_goes}
+use Rattle.bufr_data.proofs.WriteFacts.{step_is_written, count_written_fits, step_misfits}
+use Rattle.bufr_data.proofs.WriteFacts.{end_misfits, stop_misfits, fits_is}
 use Rattle.bufr_data.proofs.fit.fit_field.Goals as goal
 use Rattle.bufr_data.specs.StepLaws.{field_goes_on, count_goes_on}
 
@@ -21,7 +21,9 @@ pub returns-in_err-asked-in-Field-clause-err : goal.returns-in_err-asked-in-Fiel
 returns-in_err-asked-in-Field-clause-err c =
     let p = err_from_is_err_and c.from_residual.result c.from_residual.ensures.1 in
     let goes = rw c.in-Field.is at c.in-Ok.ensures in
-    rw (p.1, p.2) (λ rest. field_misfits _ _ _ _ _ _ _ _ _ goes c.in_err-asked-in-Field.ensures)
+    rw (p.1, p.2)
+    (λ rest. step_misfits _ _ _ _ _ _ _ _
+    (field_asked _ _ _ _ goes) c.in_err-asked-in-Field.ensures)
 
 -- and so is one other than the count asked for
 pub returns-in_err-asked-in-Count-clause-err : goal.returns-in_err-asked-in-Count-clause-err
@@ -30,13 +32,15 @@ returns-in_err-asked-in-Count-clause-err c =
     err_from_is_err_and c.from_residual-in_err-asked-in-Count.result
     c.from_residual-in_err-asked-in-Count.ensures.1 in
     let goes = rw c.in-Count.is at c.in-Ok.ensures in
-    rw (p.1, p.2) (λ rest. count_misfits _ _ _ _ _ _ _ _ _ goes c.in_err-asked-in-Count.ensures)
+    rw (p.1, p.2)
+    (λ rest. step_misfits _ _ _ _ _ _ _ _
+    (count_asked _ _ _ _ goes) c.in_err-asked-in-Count.ensures)
 
 -- the field asked for is gone past, whatever its number is
 pub returns-in_ok-asked-in-Field-clause-ok : goal.returns-in_ok-asked-in-Field-clause-ok
 returns-in_ok-asked-in-Field-clause-ok c =
     let goes = rw c.in-Field.is at c.in-Ok.ensures in
-    λ rest. field_is_written _ _ _ _ _ _ _ _ c.requires goes
+    λ rest. step_is_written _ _ _ _ _ _ _ _ (field_goes _ _ _ _ _ c.requires goes)
     (fits_is _ _ _ _ c.in_ok-asked-in-Field.ensures)
 
 -- the walk goes on after it
@@ -57,7 +61,7 @@ pub returns-in_ok-asked-in-Count-clause-ok : goal.returns-in_ok-asked-in-Count-c
 returns-in_ok-asked-in-Count-clause-ok c =
     let goes = rw c.in-Count.is at c.in-Ok.ensures in
     let counted = rw c.number.ensures at c.count.ensures in
-    λ rest. count_is_written _ _ _ _ _ _ _ _ _ goes counted
+    λ rest. step_is_written _ _ _ _ _ _ _ _ (count_goes _ _ _ _ _ _ goes counted)
     (fits_is _ _ _ _ c.in_ok-asked-in-Count.ensures)
 
 -- the walk goes on after it

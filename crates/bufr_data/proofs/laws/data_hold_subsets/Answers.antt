@@ -1,23 +1,17 @@
 -- The law `data_hold_subsets`, from the laws of plain data and of columns.
+use Rattle.bufr_data.proofs.CauseFacts.{laws_from}
 use Rattle.bufr_data.proofs.DataFacts.{reads_exactly, refuses_exactly, writes_exactly}
 use Rattle.bufr_data.proofs.DataFacts.{misfits_exactly, bare_are_data, plain_are_bare}
 use Rattle.bufr_data.proofs.PackableFacts.{packed_can_be_bare, narrow_can_be_packed}
 use Rattle.bufr_data.proofs.laws.data_hold_subsets.Goals as goal
-use Rattle.bufr_data.specs.CourseLaws.{Laws}
 
 -- subsets are read, written and refused exactly as their data, and bare data are data
 pub returns : goal.returns
 returns c =
     let ends = c.courses_are_unrollings.ensures in
     let begins = c.courses_begin_unrollings.ensures in
-    let laws : Laws = record {
-      unrolled = ends.unrolled;
-      allowed = ends.allowed;
-      asked = begins.asked;
-      lacking = begins.lacking;
-      too_large = begins.too_large;
-      goes_on = begins.goes_on;
-    } in
+    let laws = laws_from ends.unrolled ends.allowed begins.asked begins.lacking begins.too_large
+    begins.goes_on in
     record {
       read = reads_exactly laws;
       refused = refuses_exactly laws;

@@ -1,23 +1,16 @@
 -- The law `read_refusals_follow_the_tree`, by that courses begin and are unrollings of the tree.
-use Rattle.bufr_data.proofs.CauseFacts.{read_refused_first, first_read_refused}
+use Rattle.bufr_data.proofs.CauseFacts.{laws_from, read_refused_first, first_read_refused}
 use Rattle.bufr_data.proofs.CauseFacts.{subsets_refused_first, first_subsets_refused}
 use Rattle.bufr_data.proofs.RefusalFacts.{none_on_few, few_where_none}
 use Rattle.bufr_data.proofs.laws.read_refusals_follow_the_tree.Goals as goal
-use Rattle.bufr_data.specs.CourseLaws.{Laws}
 
 -- what is refused is the first field that cannot stand, and the first that cannot stand is refused
 pub returns : goal.returns
 returns c =
     let ends = c.courses_are_unrollings.ensures in
     let begins = c.courses_begin_unrollings.ensures in
-    let laws : Laws = record {
-      unrolled = ends.unrolled;
-      allowed = ends.allowed;
-      asked = begins.asked;
-      lacking = begins.lacking;
-      too_large = begins.too_large;
-      goes_on = begins.goes_on;
-    } in
+    let laws = laws_from ends.unrolled ends.allowed begins.asked begins.lacking begins.too_large
+    begins.goes_on in
     record {
       refused = read_refused_first laws;
       cannot_stand = first_read_refused laws;

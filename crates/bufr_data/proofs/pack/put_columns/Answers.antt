@@ -4,8 +4,9 @@ use Rattle.std.proofs.Common.{arith}
 use Rattle.std.proofs.lemmas.List.{drop_all}
 use Rattle.bufr_data.specs.BestColumns.{best, best_bits}
 use Rattle.bufr_data.specs.Places.{rows_from, values_from, columns_here}
-use Rattle.bufr_data.proofs.PutFacts.{next_field, place_forms, row_forms, own_at, best_next}
-use Rattle.bufr_data.proofs.PutFacts.{best_none, kept_more, columns_step}
+use Rattle.bufr_data.proofs.ListFacts.{left_is}
+use Rattle.bufr_data.proofs.PutFacts.{place_forms, row_forms, own_at, best_next, best_none}
+use Rattle.bufr_data.proofs.PutFacts.{kept_more, columns_step}
 use Rattle.bufr_data.proofs.pack.put_columns.Goals as goal
 
 -- the values at the place can be a column
@@ -46,7 +47,7 @@ loop-place-preserved c =
           ∙ ap
           (λ fs. c.loop-place.sink
           ++ best_bits (columns_here fs (rows_from place c.args.others.now)))
-          (next_field c.args.fields.now place f less c.index-fields-place.is)
+          (left_is c.args.fields.now place f less c.index-fields-place.is)
           ∙ ap (λ bs. c.loop-place.sink ++ bs)
           (best_next f (drop (place + 1) c.args.fields.now) c.args.others.now place)
           ∙ sym

@@ -3,8 +3,9 @@ use Rattle.std.proofs.lemmas.Result.{err_from_is_err_and}
 use Rattle.bufr_tables.specs.declared.failure.Failure.TheVariants.{Fault}
 use Rattle.bufr_data.specs.declared.field.Raw.TheVariants.{Number}
 use Rattle.bufr_data.specs.StepLaws.{field_goes_on, count_goes_on}
-use Rattle.bufr_data.proofs.ReadFacts.{field_is_read, count_is_read, field_is_missing}
-use Rattle.bufr_data.proofs.ReadFacts.{count_is_missing, end_is_read, stop_is_read, count_read_fits}
+use Rattle.bufr_data.proofs.ReadFacts.{step_is_read, step_is_missing, end_is_read, stop_is_read}
+use Rattle.bufr_data.proofs.ReadFacts.{count_read_fits}
+use Rattle.bufr_data.proofs.StepFacts.{field_asked, count_asked, field_goes, count_goes}
 use Rattle.bufr_data.proofs.pass.pass_field.Goals as goal
 
 -- where the walk stops, reading the fields has its fault
@@ -18,8 +19,8 @@ returns-in_err-pass_raw-in-Field-clause-err c =
     let p = err_from_is_err_and c.from_residual.result c.from_residual.ensures.1 in
     let goes = rw c.in-Field.is at c.in-Ok.ensures in
     rw (p.1, p.2)
-    (field_is_missing _ _ c.args.i _ _ _
-    (Fault c.in_err-pass_raw-in-Field.field-0.0) goes c.in_err-pass_raw-in-Field.ensures.err)
+    (step_is_missing _ c.args.i _ _ _ (Fault c.in_err-pass_raw-in-Field.field-0.0)
+    (field_asked _ _ _ _ goes) c.in_err-pass_raw-in-Field.ensures.err)
 
 -- so it has where a count cannot be read
 pub returns-in_err-number-in-Count-clause-err : goal.returns-in_err-number-in-Count-clause-err
@@ -29,8 +30,8 @@ returns-in_err-number-in-Count-clause-err c =
     c.from_residual-in_err-number-in-Count.ensures.1 in
     let goes = rw c.in-Count.is at c.in-Ok.ensures in
     rw (p.1, p.2)
-    (count_is_missing _ _ c.args.i _ _ _
-    (Fault c.in_err-number-in-Count.field-0.0) goes c.in_err-number-in-Count.ensures.err)
+    (step_is_missing _ c.args.i _ _ _ (Fault c.in_err-number-in-Count.field-0.0)
+    (count_asked _ _ _ _ goes) c.in_err-number-in-Count.ensures.err)
 
 -- a count that was read fits the width of its field
 pub count-requires-clause-fits : goal.count-requires-clause-fits
@@ -50,7 +51,7 @@ pub returns-in_ok-pass_raw-in-Field-clause-ok : goal.returns-in_ok-pass_raw-in-F
 returns-in_ok-pass_raw-in-Field-clause-ok c =
     let goes = rw c.in-Field.is at c.in-Ok.ensures in
     let passed = c.in_ok-pass_raw-in-Field.ensures.ok in
-    (_, field_is_read _ _ c.args.i _ _ _ _ passed.0 c.requires goes passed.1)
+    (_, step_is_read _ _ c.args.i _ _ _ _ passed.0 (field_goes _ _ _ _ _ c.requires goes) passed.1)
 
 -- behind it the walk has met an item more, and can go on
 pub returns-in_ok-pass_raw-in-Field-clause-advances :
@@ -62,10 +63,10 @@ returns-in_ok-pass_raw-in-Field-clause-advances c =
 -- a count that was read is the next field, and the walk goes on by it
 pub returns-in_ok-number-in-Count-clause-ok : goal.returns-in_ok-number-in-Count-clause-ok
 returns-in_ok-number-in-Count-clause-ok c =
-    let goes = rw c.in-Count.is at c.in-Ok.ensures in (
+    let goes = rw c.in-Count.is at c.in-Ok.ensures in
+    let on = count_goes _ _ _ _ _ c.in_ok-number-in-Count.number goes c.count.ensures in (
       _,
-      count_is_read _ _ _ c.args.i _ _ _ _
-          (Number c.in_ok-number-in-Count.number) goes c.count.ensures
+      step_is_read _ _ c.args.i _ _ _ _ (Number c.in_ok-number-in-Count.number) on
           c.in_ok-number-in-Count.ensures.ok,
     )
 

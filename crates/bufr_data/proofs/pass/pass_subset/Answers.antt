@@ -1,6 +1,6 @@
 -- The clauses of `pass_subset`: field by field, until one is refused or none is left.
 use Rattle.std.proofs.Common.{◌+◌, [], refl, ◌∙◌, arith}
-use Rattle.bufr_expand.specs.Steady.{course_steady}
+use Rattle.bufr_data.proofs.StepFacts.{ready_there}
 use Rattle.bufr_expand.specs.Walks as walks
 use Rattle.bufr_data.proofs.ReadFacts.{behind_none}
 use Rattle.bufr_data.proofs.PassedFacts.{one_passed}
@@ -9,10 +9,8 @@ use Rattle.bufr_data.proofs.pass.pass_subset.Goals as goal
 -- at first no field was passed
 pub loop-fault-init : goal.loop-fault-init
 loop-fault-init c = record {
-  ready = record {
-    answered = c.in_ok-walk.ensures.answered;
-    steady = rw (c.in_ok-walk.ensures.items, c.in_ok-walk.ensures.course) (course_steady _ _);
-  };
+  ready = ready_there _ _ _ c.in_ok-walk.ensures.answered c.in_ok-walk.ensures.items
+      c.in_ok-walk.ensures.course;
   few = omega arith;
   items = omega arith;
   octets = refl;

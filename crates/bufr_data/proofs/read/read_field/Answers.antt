@@ -1,7 +1,8 @@
 -- The clauses of `read_field`: one step of the walk is one step of reading.
 use Rattle.std.proofs.lemmas.Result.{err_from_is_err_and}
-use Rattle.bufr_data.proofs.ReadFacts.{field_is_read, count_is_read, field_is_missing}
-use Rattle.bufr_data.proofs.ReadFacts.{count_is_missing, end_is_read, stop_is_read, count_read_fits}
+use Rattle.bufr_data.proofs.ReadFacts.{step_is_read, step_is_missing, end_is_read, stop_is_read}
+use Rattle.bufr_data.proofs.ReadFacts.{count_read_fits}
+use Rattle.bufr_data.proofs.StepFacts.{field_asked, count_asked, field_goes, count_goes}
 use Rattle.bufr_data.proofs.read.read_field.Goals as goal
 use Rattle.bufr_data.specs.StepLaws.{field_goes_on, count_goes_on}
 
@@ -15,7 +16,8 @@ pub returns-in_err-raw-in-Field-clause-err : goal.returns-in_err-raw-in-Field-cl
 returns-in_err-raw-in-Field-clause-err c =
     let p = err_from_is_err_and c.from_residual.result c.from_residual.ensures.1 in
     let goes = rw c.in-Field.is at c.in-Ok.ensures in
-    rw (p.1, p.2) (field_is_missing _ _ _ _ _ _ _ goes c.in_err-raw-in-Field.ensures.exact)
+    rw (p.1, p.2)
+    (step_is_missing _ _ _ _ _ _ (field_asked _ _ _ _ goes) c.in_err-raw-in-Field.ensures.exact)
 
 -- and so where those of a count are not all there
 pub returns-in_err-raw-in-Count-clause-err : goal.returns-in_err-raw-in-Count-clause-err
@@ -24,7 +26,8 @@ returns-in_err-raw-in-Count-clause-err c =
     err_from_is_err_and c.from_residual-in_err-raw-in-Count.result
     c.from_residual-in_err-raw-in-Count.ensures.1 in
     let goes = rw c.in-Count.is at c.in-Ok.ensures in
-    rw (p.1, p.2) (count_is_missing _ _ _ _ _ _ _ goes c.in_err-raw-in-Count.ensures.exact)
+    rw (p.1, p.2)
+    (step_is_missing _ _ _ _ _ _ (count_asked _ _ _ _ goes) c.in_err-raw-in-Count.ensures.exact)
 
 -- a count that was read is below its bound
 pub count-requires-clause-fits : goal.count-requires-clause-fits
@@ -42,7 +45,8 @@ returns-in-End-clause-ok c =
 pub returns-in_ok-raw-in-Field-clause-ok : goal.returns-in_ok-raw-in-Field-clause-ok
 returns-in_ok-raw-in-Field-clause-ok c =
     let goes = rw c.in-Field.is at c.in-Ok.ensures in
-    field_is_read _ _ _ _ _ _ _ _ c.requires goes c.in_ok-raw-in-Field.ensures.exact
+    step_is_read _ _ _ _ _ _ _ _ (field_goes _ _ _ _ _ c.requires goes)
+    c.in_ok-raw-in-Field.ensures.exact
 
 -- the walk goes on after it
 pub returns-in_ok-raw-in-Field-clause-goes_on : goal.returns-in_ok-raw-in-Field-clause-goes_on
@@ -55,7 +59,8 @@ pub returns-in_ok-raw-in-Count-clause-ok : goal.returns-in_ok-raw-in-Count-claus
 returns-in_ok-raw-in-Count-clause-ok c =
     let goes = rw c.in-Count.is at c.in-Ok.ensures in
     let counted = rw c.number.ensures at c.count.ensures in
-    count_is_read _ _ _ _ _ _ _ _ _ goes counted c.in_ok-raw-in-Count.ensures.exact
+    step_is_read _ _ _ _ _ _ _ _ (count_goes _ _ _ _ _ _ goes counted)
+    c.in_ok-raw-in-Count.ensures.exact
 
 -- the walk goes on after it
 pub returns-in_ok-raw-in-Count-clause-goes_on : goal.returns-in_ok-raw-in-Count-clause-goes_on

@@ -1,6 +1,6 @@
 -- The clause `exact` of `read_fields`: field by field along the walk.
 use Rattle.std.proofs.Common.{◌≡◌, ◌+◌, [], ◌∷◌, length, length-append, refl, ap, ◌∙◌, arith}
-use Rattle.bufr_expand.specs.Steady.{course_steady}
+use Rattle.bufr_data.proofs.StepFacts.{ready_there}
 use Rattle.bufr_data.proofs.ReadFacts.{behind_none, fields_read}
 use Rattle.bufr_data.proofs.read.read_fields.Goals as goal
 
@@ -8,10 +8,8 @@ use Rattle.bufr_data.proofs.read.read_fields.Goals as goal
 pub loop-fields-init : goal.loop-fields-init
 loop-fields-init c =
     rw c.in_ok-fields.ensures.items (record {
-      ready = record {
-        answered = c.in_ok-walk.ensures.answered;
-        steady = rw (c.in_ok-walk.ensures.items, c.in_ok-walk.ensures.course) (course_steady _ _);
-      };
+      ready = ready_there _ _ _ c.in_ok-walk.ensures.answered c.in_ok-walk.ensures.items
+          c.in_ok-walk.ensures.course;
       few = omega arith;
       items = omega (arith, c.in_ok-walk.ensures.items);
       octets = refl;

@@ -1,6 +1,6 @@
 -- The clauses of `put_fields`: field by field.
 use Rattle.std.proofs.Common.{◌∙◌, take, arith}
-use Rattle.bufr_data.specs.Plain.{plain}
+use Rattle.bufr_data.specs.Plain.{field_bits, plain}
 use Rattle.bufr_data.proofs.WriteFacts.{bits_step, bits_end}
 use Rattle.bufr_data.proofs.write.put_fields.Goals as goal
 
@@ -15,11 +15,9 @@ returns-in_err-put_raw-clause-kept c = (
 -- the bits of one field more are put
 pub loop-field-preserved : goal.loop-field-preserved
 loop-field-preserved c =
-    bits_step c.loop-field.field-index c.args.fields.now c.field-item.result _ _ _
-    (omega (
-      arith,
-      c.loop-field-test.true,
-    )) c.field-item.is c.loop-field.invariant c.in_ok-put_raw.ensures.put
+    bits_step field_bits c.loop-field.field-index c.args.fields.now c.field-item.result _ _ _
+    (omega (arith, c.loop-field-test.true)) c.field-item.is c.loop-field.invariant
+    c.in_ok-put_raw.ensures.put
 
 -- where no field is left, the bits of all are put
 pub returns-clause-put : goal.returns-clause-put

@@ -2,7 +2,9 @@
 use Rattle.std.proofs.Common.{◌<◌, length, arith}
 use Rattle.std.proofs.lemmas.Result.{err_from_is_err_and}
 use Rattle.bufr_expand.specs.Courses.{course}
-use Rattle.bufr_data.proofs.WriteFacts.{subsets_step, subsets_fail, subsets_end, subset_bits_step}
+use Rattle.bufr_data.specs.declared.field.Subset.{Subset}
+use Rattle.bufr_data.specs.Plain.{plain}
+use Rattle.bufr_data.proofs.WriteFacts.{subsets_step, subsets_fail, subsets_end, bits_step}
 use Rattle.bufr_data.proofs.WriteFacts.{counted_forms}
 use Rattle.bufr_data.proofs.write.write_each.Goals as goal
 
@@ -29,9 +31,9 @@ loop-index-preserved c =
           (course c.args.template.now) c.loop-index.index c.loop-index.used _ c.args.subsets.now
           c.index-subsets-index.result _ within c.index-subsets-index.is
           c.loop-index.invariant.so_far fits;
-      put =
-          subset_bits_step c.loop-index.index c.args.subsets.now c.index-subsets-index.result _ _ _
-          within c.index-subsets-index.is c.loop-index.invariant.put put;
+      put = bits_step (λ (s : Subset). plain s.fields) c.loop-index.index c.args.subsets.now
+          c.index-subsets-index.result _ _ _ within c.index-subsets-index.is
+          c.loop-index.invariant.put put;
     }
 
 -- where no subset is left, all fit and their bits are those written

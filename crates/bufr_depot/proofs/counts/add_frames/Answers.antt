@@ -1,11 +1,10 @@
 -- The clauses of `add_frames`: frame by frame, with counts that are bounded by the frames.
-use Rattle.std.proofs.Common.{◌≡◌, ◌∙◌, ◌<◌, ◌+◌, length, ap, sym, subst, arith, Ok, Err, List, ℕ}
-use Rattle.std.proofs.Common.{refl}
+use Rattle.std.proofs.Common.{◌∙◌, ◌+◌, ap, subst, arith, Ok, Err, List, ℕ}
 use Rattle.std.proofs.lemmas.List.{take_all}
+use Rattle.bufr_archive.specs.Archives.{ArchiveView}
 use Rattle.bufr_archive.specs.Adding.{AddsMessage}
-use Rattle.bufr_archive.specs.declared.adding.AddFault.TheVariants.{Refused, OutOfMemory}
 use Rattle.bufr_depot.proofs.CountFacts.{none_yet, one_added, one_refused, ran_out, all_added}
-use Rattle.bufr_depot.proofs.CountFacts.{moved, tables_stay, tables_so_far, octets_at, not_memory}
+use Rattle.bufr_depot.proofs.CountFacts.{moved, octets_at, not_memory}
 use Rattle.bufr_depot.proofs.counts.add_frames.Goals.{in-Ok, in-Err-Refused}
 use Rattle.bufr_depot.proofs.counts.add_frames.Goals as goal
 
@@ -66,9 +65,7 @@ returns-in-Err-OutOfMemory-clause-adds g c =
 -- and the tables stay
 pub returns-in-Err-OutOfMemory-clause-tables : goal.returns-in-Err-OutOfMemory-clause-tables
 returns-in-Err-OutOfMemory-clause-tables g c =
-    tables_stay c.args.archive.now c.add_octets.new.archive c.args.frames.now
-    (c.loop-frame.joined + c.in-Err-OutOfMemory.done)
-    (returns-in-Err-OutOfMemory-clause-adds g c)
+    ap (λ (a : ArchiveView). a.tables) (returns-in-Err-OutOfMemory-clause-adds g c).archive
 
 -- one frame more is gone through, whether it spells a message or not
 pub loop-frame-preserved : goal.loop-frame-preserved
@@ -110,6 +107,4 @@ returns-clause-adds g c =
 
 -- and the tables stay
 pub returns-clause-tables : goal.returns-clause-tables
-returns-clause-tables g c =
-    tables_so_far c.args.archive.now c.loop-frame.archive c.args.frames.now c.loop-frame.frame-index
-    c.loop-frame.counts c.loop-frame.joined c.loop-frame.invariant
+returns-clause-tables g c = ap (λ (a : ArchiveView). a.tables) c.loop-frame.invariant.archive

@@ -1,17 +1,13 @@
 -- The clauses of `add_octets`: a message that octets spell has fewer than 2^16 reports.
-use Rattle.std.proofs.Common.{◌^◌, ◌<◌, ℕ, arith}
-use Rattle.std.proofs.lemmas.List.Elements.{All-from_get_or}
-use Rattle.bufr_depot.proofs.CountFacts.{added_few, changed_few, done_few}
+use Rattle.bufr_depot.proofs.CountFacts.{octets_are, added_few, changed_few, done_few}
 use Rattle.bufr_depot.proofs.counts.add_octets.Goals as goal
 
 -- the reports of the message added are fewer than 2^16
 pub returns-clause-reports : goal.returns-clause-reports
 returns-clause-reports g c =
-    let octets = c.args.octets.now in
-    added_few c.messages_are_spelt.ensures.read c.args.archive.now c.add_message.new.self octets
-    c.add_message.result
-    (All-from_get_or (λ (x : ℕ). x < 2 ^ 8) octets 0
-    (λ i below. omega (arith, c.type_inv.octets i))) c.add_message.ensures
+    added_few c.messages_are_spelt.ensures.read c.args.archive.now c.add_message.new.self
+    c.args.octets.now c.add_message.result (octets_are c.args.octets.now c.type_inv.octets)
+    c.add_message.ensures
 
 -- no more of them change what is kept than there are
 pub returns-clause-changed : goal.returns-clause-changed
@@ -22,8 +18,6 @@ returns-clause-changed g c =
 -- where memory ran out, fewer than 2^16 of them were added
 pub returns-clause-done : goal.returns-clause-done
 returns-clause-done g c =
-    let octets = c.args.octets.now in
-    done_few c.messages_are_spelt.ensures.read c.args.archive.now c.add_message.new.self octets
-    c.add_message.result
-    (All-from_get_or (λ (x : ℕ). x < 2 ^ 8) octets 0
-    (λ i below. omega (arith, c.type_inv.octets i))) c.add_message.ensures
+    done_few c.messages_are_spelt.ensures.read c.args.archive.now c.add_message.new.self
+    c.args.octets.now c.add_message.result (octets_are c.args.octets.now c.type_inv.octets)
+    c.add_message.ensures

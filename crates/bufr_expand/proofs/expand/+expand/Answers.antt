@@ -1,13 +1,14 @@
 -- For `expand` and `add_part`: the nodes so far come to the same with those of the parts still
 -- left.
-use Rattle.std.proofs.Common.{◌≡◌, ◌-◌, length, drop, set, Ok, ℕ, length-drop, ap, sym, ◌∙◌, arith}
+use Rattle.std.proofs.Common.{◌≡◌, ◌-◌, length, drop, set, Ok, ℕ, length-drop, ap, sym, subst}
+use Rattle.std.proofs.Common.{◌∙◌, arith}
 use Rattle.std.proofs.lemmas.List.{take_all}
 use Rattle.std.proofs.lemmas.Result.{err_from_is_err_and}
+use Rattle.bufr_tables.specs.Answers.{Fails}
 use Rattle.bufr_expand.specs.Expansion.{expand_within, replication_node}
 use Rattle.bufr_expand.specs.Parts.{seen}
 use Rattle.bufr_expand.proofs.ExpansionFacts.{expanded, expanded_fault, expanded_part_fault}
 use Rattle.bufr_expand.proofs.ExpansionFacts.{expanded_more, expanded_nothing, replicated}
-use Rattle.bufr_expand.proofs.ExpansionFacts.{Fails-along}
 use Rattle.bufr_expand.proofs.expand.+expand.Goals as goal
 
 -- the body's nodes stand behind the node of the replication, which then says how many they are
@@ -16,8 +17,9 @@ pub add_part-returns-in_ok-expand-in-Replication :
 add_part-returns-in_ok-expand-in-Replication t c =
     let after = c.expand-in-Replication.new.nodes.items in
     let head = c.in-Replication.repetitions in
-    let e = replicated c.args.tables.now c.args.sequences c.args.replications c.args.nodes.now.items
-    c.add_replication.new.nodes.items after head c.in-Replication.body.now
+    let e = replicated c.args.tables.now c.args.sequences (c.args.replications - 1)
+    c.args.replications c.args.nodes.now.items c.add_replication.new.nodes.items after head
+    c.in-Replication.body.now
     (omega arith) c.in_ok-add_replication-in-Replication.ensures
     c.in_ok-expand-in-Replication.ensures in
     let place : c.len-place.result ≡ length c.args.nodes.now.items =
@@ -44,7 +46,7 @@ expand-returns-in_err-add_part t c =
     let more = ap (expanded c.args.tables.now c.args.sequences c.args.replications
     c.loop-first.nodes.items) c.in-Some.ensures.cases.0 in
     rw (p.1, p.2)
-    (Fails-along _ _ _ (c.loop-first.invariant ∙ more)
+    (subst (Fails _) (sym (c.loop-first.invariant ∙ more))
     (expanded_part_fault c.args.tables.now c.args.sequences c.args.replications c.in-Some.first.now
     c.loop-first.nodes.items c.in-Some.behind.now
     (seen c.in-Ok.found) _ c.in-Ok.ensures.value c.in_err-add_part.ensures))

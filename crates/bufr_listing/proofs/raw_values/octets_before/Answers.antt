@@ -1,6 +1,6 @@
 -- For `octets_before`: so many octets and the last quote, or none.
 use Rattle.std.specs.Str.{bytes_eq}
-use Rattle.std.proofs.Common.{true, false, [], ◌∷◌, ◌≡◌, ◌∙◌, ◌+◌, ◌-◌, suc, sym, ap, arith}
+use Rattle.std.proofs.Common.{◌≡◌, ◌∙◌, ◌+◌, ◌-◌, suc, sym, ap, arith}
 use Rattle.std.specs.Prelude.{Some, None}
 use Rattle.bufr_listing.specs.RawWords.{octets_before}
 use Rattle.bufr_listing.proofs.WordFacts.{behind, behind_none, behind_more}
@@ -41,19 +41,12 @@ loop-i-preserved c =
 pub returns : goal.returns
 returns c =
     let none : c.args.count - c.loop-i._i ≡ 0 = omega arith in
+    let same = sym (c.eq.ensures ∙ ap (λ t. bytes_eq c.loop-i.rest.now t) c.as_slice.ensures) in
     elim c.if-eq.branch [
-      | then-eq w ↦
-          let last : bytes_eq c.loop-i.rest.now (34 ∷ []) ≡ true =
-          sym (c.eq.ensures ∙ ap (λ t. bytes_eq c.loop-i.rest.now t) c.as_slice.ensures)
-          ∙ w.if-eq.true in
-          rw w.result-is
+      | then-eq w ↦ rw w.result-is
           (sym (c.loop-i.invariant ∙ octets_ended (c.args.count - c.loop-i._i) c.loop-i.rest.now
-          c.loop-i.octets.items none last))
-      | else-eq w ↦
-          let last : bytes_eq c.loop-i.rest.now (34 ∷ []) ≡ false =
-          sym (c.eq.ensures ∙ ap (λ t. bytes_eq c.loop-i.rest.now t) c.as_slice.ensures)
-          ∙ w.if-eq.false in
-          rw w.result-is
+          c.loop-i.octets.items none (same ∙ w.if-eq.true)))
+      | else-eq w ↦ rw w.result-is
           (sym (c.loop-i.invariant ∙ octets_unended (c.args.count - c.loop-i._i) c.loop-i.rest.now
-          c.loop-i.octets.items none last))
+          c.loop-i.octets.items none (same ∙ w.if-eq.false)))
     ]

@@ -1,5 +1,4 @@
 -- The clause of `open_all`: file by file, each of which is opened and not read.
-use Rattle.std.proofs.Common.{refl}
 use Rattle.bufr_tool.proofs.OpenFacts.{Unread, unread_more, fresh_all}
 use Rattle.bufr_tool.proofs.command.open_all.Goals as goal
 

@@ -2,8 +2,9 @@
 use Rattle.std.proofs.Common.{◌≡◌, ◌++◌, arith, ap, length-append, None}
 use Rattle.bufr_engines.specs.declared.fault.ToolFault.TheVariants as faults
 use Rattle.bufr_tool.specs.StreamEngines.{PrintsPiece}
-use Rattle.bufr_tool.proofs.PrintingFacts.{refused_at_most, passed, some_is}
-use Rattle.bufr_tool.proofs.StreamFacts.{amid_fits, amid_more, amid_none, amid_halted, amid_stopped}
+use Rattle.bufr_tool.proofs.PrintingFacts.{refused_at_most, passed}
+use Rattle.bufr_tool.proofs.StreamFacts.{hands, amid_fits, amid_more, amid_none, amid_halted}
+use Rattle.bufr_tool.proofs.StreamFacts.{amid_stopped}
 use Rattle.bufr_frame.specs.TakingLaws.{taking_fed}
 use Rattle.bufr_tool.proofs.frames.print_piece.Goals as goal
 
@@ -21,10 +22,10 @@ take_next-requires g c =
 -- one frame more was handed out and printed
 pub loop-found-preserved : goal.loop-found-preserved
 loop-found-preserved g c first stream h =
-    let e = c.in-Some.is in
     amid_more _ _ first _ _ _ _ _ _ _ _ _ c.in-Some.frame c.in_ok-print_frame.field-0
-    (c.loop-found.invariant first stream h) c.in_ok-found.ensures.rest
-    (some_is _ _ _ e c.in_ok-found.ensures.frame) (some_is _ _ _ e c.in_ok-found.ensures.next)
+    (c.loop-found.invariant first stream h)
+    (hands _ _ _ _ _ _ c.in-Some.is c.in_ok-found.ensures.rest c.in_ok-found.ensures.frame
+    c.in_ok-found.ensures.next)
     c.in_ok-print_frame.ensures
 
 -- where memory runs out at the next frame, only lines of sure frames were written
@@ -48,17 +49,12 @@ returns-in_default g c first stream h =
 pub print_frame-requires-clause-few : goal.print_frame-requires-clause-few
 print_frame-requires-clause-few g c =
     let so_far = c.requires.so_far in
-    let e = c.in-Some.is in
-    let fits =
-    amid_fits _ _ _ _ _ _ _ _ _ _ c.in-Some.frame
-    (c.loop-found.invariant so_far.0 so_far.1 so_far.2) c.in_ok-found.ensures.rest
-    (some_is _ _ _ e c.in_ok-found.ensures.frame)
-    (some_is _ _ _ e c.in_ok-found.ensures.next) in
-    let one = fits.0 in
-    let whole = length-append so_far.1 c.args.piece.now in
-    let start = so_far.2.handed.stands.fed in
-    let room = c.requires.room in
-    omega arith
+    let fits = amid_fits _ _ _ _ _ _ _ so_far.1 c.args.piece.now _ _ c.in-Some.frame _
+    (c.loop-found.invariant so_far.0 so_far.1 so_far.2)
+    (hands _ _ _ _ _ _ c.in-Some.is c.in_ok-found.ensures.rest c.in_ok-found.ensures.frame
+    c.in_ok-found.ensures.next)
+    so_far.2.handed.stands.fed in
+    omega (arith, fits.0, c.requires.room)
 
 -- no more frames are counted as refused than as printed
 pub print_frame-requires-clause-refused : goal.print_frame-requires-clause-refused
@@ -70,23 +66,17 @@ print_frame-requires-clause-refused g c =
 pub print_frame-requires-clause-octets : goal.print_frame-requires-clause-octets
 print_frame-requires-clause-octets g c =
     let so_far = c.requires.so_far in
-    let e = c.in-Some.is in
-    let fits =
-    amid_fits _ _ _ _ _ _ _ _ _ _ c.in-Some.frame
-    (c.loop-found.invariant so_far.0 so_far.1 so_far.2) c.in_ok-found.ensures.rest
-    (some_is _ _ _ e c.in_ok-found.ensures.frame)
-    (some_is _ _ _ e c.in_ok-found.ensures.next) in
-    let two = fits.1 in
-    let whole = length-append so_far.1 c.args.piece.now in
-    let start = so_far.2.handed.stands.fed in
-    let room = c.requires.room in
-    omega arith
+    let fits = amid_fits _ _ _ _ _ _ _ so_far.1 c.args.piece.now _ _ c.in-Some.frame _
+    (c.loop-found.invariant so_far.0 so_far.1 so_far.2)
+    (hands _ _ _ _ _ _ c.in-Some.is c.in_ok-found.ensures.rest c.in_ok-found.ensures.frame
+    c.in_ok-found.ensures.next)
+    so_far.2.handed.stands.fed in
+    omega (arith, fits.1, c.requires.room)
 
 -- where printing a frame stops, a front of what is printed of the sure frames was written, or some
 -- of its lines
 pub returns-in_err-print_frame : goal.returns-in_err-print_frame
 returns-in_err-print_frame g c first stream h =
-    let e = c.in-Some.is in
     passed
     (PrintsPiece c.args.printing c.args.tables.now
     (stream ++ c.args.piece.now) c.take_next.new.self c.print_frame.new.counts first
@@ -95,22 +85,18 @@ returns-in_err-print_frame g c first stream h =
     c.from_residual-in_err-print_frame.ensures.1
     (amid_stopped _ _ first _ _ _ _ _ c.print_frame.new.counts c.print_frame.new.counts _ _ _
     c.in-Some.frame c.in_err-print_frame.field-0.0
-    (c.loop-found.invariant first stream h) c.in_ok-found.ensures.rest
-    (some_is _ _ _ e c.in_ok-found.ensures.frame) (some_is _ _ _ e c.in_ok-found.ensures.next)
+    (c.loop-found.invariant first stream h)
+    (hands _ _ _ _ _ _ c.in-Some.is c.in_ok-found.ensures.rest c.in_ok-found.ensures.frame
+    c.in_ok-found.ensures.next)
     c.in_err-print_frame.ensures)
 
 -- one frame more is counted, and there are no more than octets
 pub loop-found-smaller : goal.loop-found-smaller
 loop-found-smaller g c =
     let so_far = c.requires.so_far in
-    let e = c.in-Some.is in
-    let fits =
-    amid_fits _ _ _ _ _ _ _ _ _ _ c.in-Some.frame
-    (c.loop-found.invariant so_far.0 so_far.1 so_far.2) c.in_ok-found.ensures.rest
-    (some_is _ _ _ e c.in_ok-found.ensures.frame)
-    (some_is _ _ _ e c.in_ok-found.ensures.next) in
-    let one = fits.0 in
-    let whole = length-append so_far.1 c.args.piece.now in
-    let start = so_far.2.handed.stands.fed in
-    let more = ap (λ k. k.frames) c.in_ok-print_frame.ensures.1 in
-    omega arith
+    let fits = amid_fits _ _ _ _ _ _ _ so_far.1 c.args.piece.now _ _ c.in-Some.frame _
+    (c.loop-found.invariant so_far.0 so_far.1 so_far.2)
+    (hands _ _ _ _ _ _ c.in-Some.is c.in_ok-found.ensures.rest c.in_ok-found.ensures.frame
+    c.in_ok-found.ensures.next)
+    so_far.2.handed.stands.fed in
+    omega (arith, fits.0, ap (λ k. k.frames) c.in_ok-print_frame.ensures.1)

@@ -7,7 +7,7 @@ use Rattle.bufr_engines.specs.declared.fault.ToolFault.TheVariants as faults
 use Rattle.bufr_tool.specs.Output.{octets_of}
 use Rattle.bufr_tool.specs.StreamEngines.{PrintsFrames}
 use Rattle.bufr_tool.proofs.PrintingFacts.{passed}
-use Rattle.bufr_tool.proofs.StreamFacts.{rest_few, rest_halted}
+use Rattle.bufr_tool.proofs.StreamFacts.{rest_fits, rest_halted}
 use Rattle.bufr_tool.proofs.frames.print_rest.Goals as goal
 
 -- where memory runs out before they are handed out, only lines of frames were written
@@ -31,12 +31,8 @@ print_frames-requires-clause-few g c =
     let found =
     c.in_ok-frames.ensures.found c.requires.so_far.1
     (length (sure c.requires.so_far.1)) h.handed.stands in
-    let few = (rest_few _ c.requires.so_far.1 _ h.handed found).0 in
-    let start = h.handed.stands.fed in
-    let counted = h.printed.frames_are in
-    let same = ap length c.deref.ensures.value in
-    let long = c.requires.long in
-    omega arith
+    let fits = (rest_fits _ _ _ _ _ _ _ _ h found).0 in
+    omega (arith, fits, ap length c.deref.ensures.value, c.requires.long)
 
 -- nor have they more octets, so these can be counted
 pub print_frames-requires-clause-short : goal.print_frames-requires-clause-short
@@ -45,12 +41,8 @@ print_frames-requires-clause-short g c =
     let found =
     c.in_ok-frames.ensures.found c.requires.so_far.1
     (length (sure c.requires.so_far.1)) h.handed.stands in
-    let few = (rest_few _ c.requires.so_far.1 _ h.handed found).1 in
-    let start = h.handed.stands.fed in
-    let counted = h.printed.octets_are in
-    let same = ap octets_of c.deref.ensures.value in
-    let long = c.requires.long in
-    omega arith
+    let fits = (rest_fits _ _ _ _ _ _ _ _ h found).1 in
+    omega (arith, fits, ap octets_of c.deref.ensures.value, c.requires.long)
 
 -- printing the last frames after the sure ones is printing those of the whole cut
 pub returns : goal.returns

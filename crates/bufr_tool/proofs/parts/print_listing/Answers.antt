@@ -8,7 +8,7 @@ use Rattle.bufr_tool.specs.Lines.{AreWholeLines}
 use Rattle.bufr_tool.specs.StreamEngines.{PrintsText}
 use Rattle.bufr_tool.proofs.LineFacts.{lines_none, line_whole, joined_whole}
 use Rattle.bufr_tool.proofs.ListingFacts.{listed, unlisted, listing_parted, listing_ended}
-use Rattle.bufr_tool.proofs.PartFacts.{but_all, held_more, held_less, held_halts, held_stops}
+use Rattle.bufr_tool.proofs.PartFacts.{but_all, held_more, held_less, listing_halts, held_stops}
 use Rattle.bufr_tool.proofs.PartFacts.{held_ends, subset_held}
 use Rattle.bufr_tool.proofs.PrintingFacts.{passed}
 use Rattle.bufr_tool.proofs.parts.print_listing.Goals as goal
@@ -53,25 +53,23 @@ returns-in_err-held-clause-prints g c =
 pub returns-in_err-lines-clause-prints : goal.returns-in_err-lines-clause-prints
 returns-in_err-lines-clause-prints g c =
     let m = c.args.found.now.message in
-    let i = c.loop-index.index in
     passed (PrintsText c.args.before (listing m) (g.W.Sink.writing c.args.writer.now)
     (g.W.Sink.writing c.loop-index.writer))
     c.from_residual-in_err-lines.result faults.OutOfMemory c.from_residual-in_err-lines.ensures.1
-    (held_halts _ (listed m i) (unlisted m i) (listing m) _ _ _ _
-    (listing_parted m i (c.listings_are_joined_parts.ensures m)) c.loop-index.invariant.done)
+    (listing_halts m c.loop-index.index _ _ _ _ _ (c.listings_are_joined_parts.ensures m)
+    c.loop-index.invariant.done)
 
 -- so it is where it runs out as these lines are held
 pub returns-in_err-extend_from_slice-clause-prints :
     goal.returns-in_err-extend_from_slice-clause-prints
 returns-in_err-extend_from_slice-clause-prints g c =
     let m = c.args.found.now.message in
-    let i = c.loop-index.index in
     passed (PrintsText c.args.before (listing m) (g.W.Sink.writing c.args.writer.now)
     (g.W.Sink.writing c.loop-index.writer))
     c.from_residual-in_err-extend_from_slice.result faults.OutOfMemory
     c.from_residual-in_err-extend_from_slice.ensures.1
-    (held_halts _ (listed m i) (unlisted m i) (listing m) _ _ _ _
-    (listing_parted m i (c.listings_are_joined_parts.ensures m)) c.loop-index.invariant.done)
+    (listing_halts m c.loop-index.index _ _ _ _ _ (c.listings_are_joined_parts.ensures m)
+    c.loop-index.invariant.done)
 
 -- what is held, with the lines of the subset, has whole lines
 pub write_held-requires-clause-lines : goal.write_held-requires-clause-lines
@@ -106,13 +104,12 @@ pub returns-in_err-extend_from_slice-2-clause-prints :
     goal.returns-in_err-extend_from_slice-2-clause-prints
 returns-in_err-extend_from_slice-2-clause-prints g c =
     let m = c.args.found.now.message in
-    let i = c.loop-index.index in
     passed (PrintsText c.args.before (listing m) (g.W.Sink.writing c.args.writer.now)
     (g.W.Sink.writing c.loop-index.writer))
     c.from_residual-in_err-extend_from_slice-2.result faults.OutOfMemory
     c.from_residual-in_err-extend_from_slice-2.ensures.1
-    (held_halts _ (listed m i) (unlisted m i) (listing m) _ _ _ _
-    (listing_parted m i (c.listings_are_joined_parts.ensures m)) c.loop-index.invariant.done)
+    (listing_halts m c.loop-index.index _ _ _ _ _ (c.listings_are_joined_parts.ensures m)
+    c.loop-index.invariant.done)
 
 -- what is held, with the last line, is the rest of the listing: it is written, or writing it stops
 pub returns-clause-prints : goal.returns-clause-prints

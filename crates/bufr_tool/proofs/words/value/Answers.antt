@@ -1,19 +1,10 @@
 -- The clause of `value`: the value that an argument has in the rows of the named command.
-use Rattle.std.proofs.Common.{◌≡◌, [], ap, refl, ◌∙◌, List, Option, Some, None, option_map}
-use Rattle.std.proofs.Common.{unwrap_or, Bor}
-use Rattle.std.specs.Option.{option_map_or}
-use Rattle.clap.specs.Words.{Row, Text, first_of, subcommand_rows_of, rows_of, found_of}
+use Rattle.std.proofs.Common.{◌≡◌, [], ap, refl, ◌∙◌, Option, Some, None, option_map, unwrap_or}
+use Rattle.std.proofs.Common.{Bor}
+use Rattle.clap.specs.Words.{Text, first_of, subcommand_rows_of, rows_of, found_of}
 use Rattle.clap.proofs.WalkLemmas.{first_value-rows}
+use Rattle.bufr_tool.proofs.CommandFacts.{in_rows}
 use Rattle.bufr_tool.proofs.words.value.Goals as goal
-
--- the value of the command that was named is the first in its rows
-in_rows : (entered : Option (Text × List Row)) (rows : List Row) (id : Text)
-    → Some rows ≡ option_map (λ p. p.1) entered
-    → unwrap_or (first_of id rows) []
-    ≡ option_map_or (λ found. unwrap_or (first_of id found.1) []) entered []
-in_rows None rows id h = cc
-in_rows (Some p) rows id h =
-    ap (λ (o : Option (List Row)). unwrap_or (first_of id (unwrap_or o [])) []) h
 
 -- the octets of a text, or else of another, are those of the one that is taken
 text_or : (o : Option (Bor Text)) (fallback : Bor Text)
@@ -28,5 +19,6 @@ returns-in-Some c =
     ∙ text_or c.get_str.result _
     ∙ ap (λ (o : Option Text). unwrap_or o [])
     (c.get_str.ensures ∙ first_value-rows (found_of c.in-Some.found.now) c.args.id.now)
-    ∙ in_rows (subcommand_rows_of c.args.matches.now)
-    (rows_of (found_of c.in-Some.found.now)) c.args.id.now c.in-Some.ensures.rows
+    ∙ in_rows (λ rows. unwrap_or (first_of c.args.id.now rows) [])
+    (subcommand_rows_of c.args.matches.now) (rows_of (found_of c.in-Some.found.now))
+    c.in-Some.ensures.rows

@@ -1,18 +1,10 @@
 -- The clause of `values`: the values that an argument has in the rows of the named command.
-use Rattle.std.proofs.Common.{◌≡◌, [], ap, refl, sym, subst, ◌∙◌, List, Option, Some, None}
-use Rattle.std.proofs.Common.{option_map, unwrap_or, map, Bor}
+use Rattle.std.proofs.Common.{[], ap, ◌∙◌, List, Option, unwrap_or, map, Bor}
 use Rattle.std.proofs.lemmas.Result.{IfOk-weaker}
-use Rattle.clap.specs.Words.{Row, Text, all_of, subcommand_rows_of, rows_of, found_of}
+use Rattle.clap.specs.Words.{Text, all_of, subcommand_rows_of, rows_of, found_of}
 use Rattle.clap.proofs.WalkLemmas.{raw_values-rows}
-use Rattle.bufr_tool.specs.CommandLines.{Named, values_in}
+use Rattle.bufr_tool.proofs.CommandFacts.{in_rows}
 use Rattle.bufr_tool.proofs.words.values.Goals as goal
-
--- the values of the command that was named are those in its rows
-in_rows : (named : Named) (rows : List Row) (id : Text) → Some rows ≡ option_map (λ p. p.1) named
-    → unwrap_or (all_of id rows) [] ≡ values_in id named
-in_rows None rows id h = cc
-in_rows (Some p) rows id h =
-    ap (λ (o : Option (List Row)). unwrap_or (all_of id (unwrap_or o [])) []) h
 
 -- where the command that was named has values, these are the answer, in order
 pub returns-in-Some-get_strs : goal.returns-in-Some-get_strs
@@ -20,8 +12,9 @@ returns-in-Some-get_strs c =
     let given =
     c.in-Some-get_strs.ensures ∙ raw_values-rows (found_of c.in-Some.found.now) c.args.id.now in
     let all = ap (λ (o : Option (List Text)). unwrap_or o []) given
-    ∙ in_rows (subcommand_rows_of c.args.matches.now)
-    (rows_of (found_of c.in-Some.found.now)) c.args.id.now c.in-Some.ensures.rows in
+    ∙ in_rows (λ rows. unwrap_or (all_of c.args.id.now rows) [])
+    (subcommand_rows_of c.args.matches.now) (rows_of (found_of c.in-Some.found.now))
+    c.in-Some.ensures.rows in
     IfOk-weaker c.from_slice.result _ _
     (λ found a. ap (map (λ (v : Bor Text). v.now)) a ∙ all) c.from_slice.ensures.items
 
@@ -31,6 +24,7 @@ returns-in-None-get_strs c =
     let given =
     c.in-None-get_strs.ensures ∙ raw_values-rows (found_of c.in-Some.found.now) c.args.id.now in
     let all = ap (λ (o : Option (List Text)). unwrap_or o []) given
-    ∙ in_rows (subcommand_rows_of c.args.matches.now)
-    (rows_of (found_of c.in-Some.found.now)) c.args.id.now c.in-Some.ensures.rows in
+    ∙ in_rows (λ rows. unwrap_or (all_of c.args.id.now rows) [])
+    (subcommand_rows_of c.args.matches.now) (rows_of (found_of c.in-Some.found.now))
+    c.in-Some.ensures.rows in
     ap (map (λ (v : Bor Text). v.now)) c.new.ensures.items ∙ all

@@ -1,6 +1,6 @@
 -- The clause of `Alike::within`: field by field along the walk, until it ends or asks for a count.
 use Rattle.std.proofs.Common.{refl, arith}
-use Rattle.bufr_expand.specs.Steady.{course_steady}
+use Rattle.bufr_data.proofs.StepFacts.{ready_there}
 use Rattle.bufr_data.specs.StepLaws.{field_goes_on}
 use Rattle.bufr_data.proofs.AlikeFacts.{none_measured, one_measured}
 use Rattle.bufr_data.proofs.alike.Alike.within.Goals as goal
@@ -8,10 +8,8 @@ use Rattle.bufr_data.proofs.alike.Alike.within.Goals as goal
 -- at first the walk is at the front of the course, and there are no bits
 pub loop-spec-init : goal.loop-spec-init
 loop-spec-init c = record {
-  ready = record {
-    answered = c.in_ok-walk.ensures.answered;
-    steady = rw (c.in_ok-walk.ensures.items, c.in_ok-walk.ensures.course) (course_steady _ _);
-  };
+  ready = ready_there _ _ _ c.in_ok-walk.ensures.answered c.in_ok-walk.ensures.items
+      c.in_ok-walk.ensures.course;
   few = omega arith;
   limit = rw c.in_ok-walk.ensures.items (omega arith);
   so_far = none_measured _ _ c.in_ok-walk.ensures.course;

@@ -1,5 +1,5 @@
 -- The clause `there` of `Depot::find`: two slots below the number of slots are there.
-use Rattle.std.proofs.Common.{◌≡◌, ◌∙◌, ◌<◌, subst}
+use Rattle.std.proofs.Common.{◌∙◌, ◌<◌, subst}
 use Rattle.bufr_depot.specs.Holdings.{DepotView}
 use Rattle.bufr_depot.specs.HeldSteps.{AreThere}
 use Rattle.bufr_depot.proofs.DepotFacts.{are_there}

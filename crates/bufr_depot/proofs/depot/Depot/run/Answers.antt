@@ -1,5 +1,5 @@
 -- The clauses of `Depot::run`: step by step, what is answered and left is that of a run.
-use Rattle.std.proofs.Common.{◌≡◌, ◌∙◌, ◌++◌, ◌∷◌, [], ◌+◌, Result, List, sym, subst, arith}
+use Rattle.std.proofs.Common.{◌∙◌, ◌+◌, sym, subst, arith}
 use Rattle.std.proofs.lemmas.List.{take_all}
 use Rattle.bufr_depot.specs.Runs.{Run, after_all}
 use Rattle.bufr_depot.specs.Holdings.{StandsFor}

@@ -1,6 +1,5 @@
 -- The clauses of `Depot::step` on joins, from what the three functions that join say of each step.
-use Rattle.std.proofs.Common.{◌≡◌, inl, inr}
-use Rattle.bufr_depot.specs.HeldSteps.{StepDoes}
+use Rattle.std.proofs.Common.{inl, inr}
 use Rattle.bufr_depot.proofs.depot.Depot.step.Goals as goal
 
 -- a merge leaves the tables

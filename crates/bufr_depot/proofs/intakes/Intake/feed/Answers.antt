@@ -1,12 +1,10 @@
 -- The clause `feeds` of `Intake::feed`: the frames that are sure now, added to the archive.
-use Rattle.std.proofs.Common.{◌∙◌, ◌<◌, ◌+◌, ◌^◌, ℕ, ◌++◌, drop, length, refl, ap, sym, subst}
-use Rattle.std.proofs.Common.{arith}
-use Rattle.std.proofs.lemmas.List.Elements.{All-from_get_or}
+use Rattle.std.proofs.Common.{◌∙◌, ◌+◌, ◌++◌, drop, length, refl, ap, sym, subst, arith}
 use Rattle.bufr_frame.specs.Streams.{sure, Stands}
 use Rattle.bufr_archive.specs.Archives.{IsKept}
 use Rattle.bufr_depot.specs.Holdings.{Holding}
 use Rattle.bufr_depot.specs.HeldSteps.{AddsFrames, AddsSome}
-use Rattle.bufr_depot.proofs.CountFacts.{added_none, of_held}
+use Rattle.bufr_depot.proofs.CountFacts.{octets_are, added_none, of_held}
 use Rattle.bufr_depot.proofs.intakes.Intake.feed.Goals as goal
 
 -- where no memory is had for the look, no report is added and the framer is as it was
@@ -16,8 +14,7 @@ returns-in_default-clause-feeds g c =
     let a =
     c.if-piece-fed.false in let b = c.fed.ensures ∙ ap (λ (h : Holding). h.framer.fed) v in (
       omega (arith, a, b),
-      All-from_get_or (λ (x : ℕ). x < 2 ^ 8) c.args.piece.now 0
-          (λ i below. omega (arith, c.type_inv.piece i)),
+      octets_are c.args.piece.now c.type_inv.piece,
       refl,
       λ stream out st. added_none c.args.self.now.archive
           (drop out (sure (stream ++ c.args.piece.now)))
@@ -31,8 +28,7 @@ returns-in-Ok-add_frames-clause-feeds g c =
     let a = c.if-piece-fed.false in let b = c.fed.ensures ∙ ap (λ (h : Holding). h.framer.fed) v in
     let piece = c.args.piece.now in (
       omega (arith, a, b),
-      All-from_get_or (λ (x : ℕ). x < 2 ^ 8) c.args.piece.now 0
-          (λ i below. omega (arith, c.type_inv.piece i)),
+      octets_are c.args.piece.now c.type_inv.piece,
       λ stream out st. subst (λ n. Stands n (stream ++ piece) (length (sure (stream ++ piece))))
           (sym c.settle.ensures.next)
           (c.in-Ok.ensures.next stream out
@@ -55,8 +51,7 @@ returns-in-Err-clause-feeds g c =
     let a = c.if-piece-fed.false in let b = c.fed.ensures ∙ ap (λ (h : Holding). h.framer.fed) v in
     let piece = c.args.piece.now in (
       omega (arith, a, b),
-      All-from_get_or (λ (x : ℕ). x < 2 ^ 8) c.args.piece.now 0
-          (λ i below. omega (arith, c.type_inv.piece i)),
+      octets_are c.args.piece.now c.type_inv.piece,
       ap (λ (h : Holding). h.framer) v,
       λ stream out st.
           of_held (λ a fs. AddsSome a c.add_frames.new.archive fs c.in-Err.field-0.done)

@@ -1,6 +1,5 @@
 -- For `Walk::enter`: one more replication is open, at the end of its body.
-use Rattle.std.proofs.Common.{◌≡◌, ◌+◌, ◌≤◌, length, refl, arith}
-use Rattle.bufr_expand.specs.Places.{in_front}
+use Rattle.std.proofs.Common.{length, refl, arith}
 use Rattle.bufr_expand.specs.declared.standing.State.TheVariants.{Going}
 use Rattle.bufr_expand.proofs.LoopFacts.{in_front-mono, open_more, going_at}
 use Rattle.bufr_expand.proofs.PassFacts.{entered}

@@ -1,5 +1,5 @@
 -- For `Walk::turn`: at the end of a turn the replication is over, too large, or has one turn less.
-use Rattle.std.proofs.Common.{rules, ◌≡◌, ◌+◌, [], ◌∷◌, ◌++◌, length, Ok, Err, refl, sym, ap, ◌∙◌}
+use Rattle.std.proofs.Common.{rules, ◌≡◌, [], ◌∷◌, ◌++◌, length, Ok, Err, refl, sym, ap, ◌∙◌}
 use Rattle.std.proofs.Common.{arith}
 use Rattle.std.proofs.lemmas.List.{nil_from_length, length_push}
 use Rattle.bufr_expand.specs.Walks.{left, waits, items_met, steps_left, is_waiting}

@@ -1,13 +1,12 @@
 -- For `Walk::visit`: what is left of the course at a node, by its kind.
-use Rattle.std.proofs.Common.{◌≡◌, ℕ, ◌+◌, Option, Err, refl, sym, ◌∙◌, subst}
-use Rattle.bufr_expand.specs.Walks.{left, going, Goes}
+use Rattle.std.proofs.Common.{◌≡◌, Err, refl, sym, ◌∙◌}
+use Rattle.bufr_expand.specs.Walks.{left}
 use Rattle.bufr_expand.specs.declared.node.Node.TheVariants as nodes
-use Rattle.bufr_expand.specs.declared.operators.Spec.{Spec}
 use Rattle.bufr_expand.specs.declared.walk.WalkFault.TheVariants.{TooLarge}
-use Rattle.bufr_expand.specs.OperatorsInForce.{effective, untouched, factor_spec}
-use Rattle.bufr_expand.specs.Courses.{course_then, stops, asks_if}
+use Rattle.bufr_expand.specs.OperatorsInForce.{effective}
+use Rattle.bufr_expand.specs.Courses.{course_then, stops}
 use Rattle.bufr_expand.specs.Trees as trees
-use Rattle.bufr_expand.proofs.Between.{tree_of-element, tree_of-untouched, tree_of-operator}
+use Rattle.bufr_expand.specs.Trees.{tree_within}
 use Rattle.bufr_expand.proofs.Between.{tree_of-repeated, tree_of-delayed}
 use Rattle.bufr_expand.proofs.PassFacts.{goes_as, visit-limit, at_node, behind_place, body_trees}
 use Rattle.bufr_expand.proofs.PassFacts.{spec_ok}
@@ -24,7 +23,7 @@ returns-then-self-ge-MOST_ITEMS-clause-answer c =
 
 -- an element is asked for with its spec under the operators, if it has one
 pub returns-in-Element-clause-answer : goal.returns-in-Element-clause-answer
-unfolding course_then
+unfolding course_then tree_within
 returns-in-Element-clause-answer c =
     let w = c.args.self.now in
     let o = c.in-Element in
@@ -33,30 +32,30 @@ returns-in-Element-clause-answer c =
     (λ e. e ≡ record { 0 = o.fxy }) c.effective.ensures in
     goes_as (left w) _ c.field.result c.field.new.self
     (at_node w (nodes.Element o.fxy o.element) _ _ _ c.requires.goes c.requires.more w.within.1 o.is
-    c.if-self-ge-MOST_ITEMS.false (tree_of-element o.fxy o.element (behind_place w)) refl)
+    c.if-self-ge-MOST_ITEMS.false refl refl)
     (rw spec at c.field.ensures)
 
 -- an element that no operator touches is asked for with the spec of its row, if it has one
 pub returns-in-Untouched-clause-answer : goal.returns-in-Untouched-clause-answer
-unfolding course_then
+unfolding course_then tree_within
 returns-in-Untouched-clause-answer c =
     let w = c.args.self.now in
     let o = c.in-Untouched in
     let met = c.field-in-Untouched in
     goes_as (left w) _ met.result met.new.self
     (at_node w (nodes.Untouched o.fxy o.element) _ _ _ c.requires.goes c.requires.more w.within.1
-    o.is c.if-self-ge-MOST_ITEMS.false (tree_of-untouched o.fxy o.element (behind_place w)) refl)
+    o.is c.if-self-ge-MOST_ITEMS.false refl refl)
     (rw c.untouched.ensures at met.ensures)
 
 -- the course past an operator, which is then in force, is the one that was left
 pub returns-in-Operator-clause-on : goal.returns-in-Operator-clause-on
-unfolding course_then
+unfolding course_then tree_within
 returns-in-Operator-clause-on c =
     let w = c.args.self.now in
     let o = c.in-Operator in (
       c.pass_operator.ensures.course
           ∙ sym (at_node w (nodes.Operator o.fxy) _ _ _ c.requires.goes c.requires.more w.within.1
-          o.is c.if-self-ge-MOST_ITEMS.false (tree_of-operator o.fxy (behind_place w)) refl),
+          o.is c.if-self-ge-MOST_ITEMS.false refl refl),
       c.pass_operator.ensures.goes,
       c.pass_operator.ensures.nearer,
     )

@@ -1,0 +1,17 @@
+-- What the view of an answer says of the answer: for the laws of data (`data_hold_subsets`,
+-- `fitting_subsets_are_read_and_written`, `write_refusals_follow_the_tree`).
+use Rattle.std.proofs.Common.{◌≡◌, Result, Ok, Err, refl}
+use Rattle.bufr_tables.specs.Answers.{result_map}
+use Rattle.bufr_tables.specs.AnswerLaws.{ok_is}
+
+-- what is answered of a mapped answer was answered before
+pub map_ok : {A B F : Type 0} (f : A → B) (o : Result A F) (y : B) → result_map f o ≡ Ok y
+    → (x : A) × (o ≡ Ok x) × (f x ≡ y)
+map_ok f (Ok x) y e = (x, refl, ok_is _ _ e)
+map_ok f (Err g) y e = absurd cc
+
+-- an error of what is mapped is an error before
+pub map_err : {A B F : Type 0} (f : A → B) (o : Result A F) (fault : F)
+    → result_map f o ≡ Err fault → o ≡ Err fault
+map_err f (Ok x) fault e = absurd cc
+map_err f (Err other) fault e = cc
