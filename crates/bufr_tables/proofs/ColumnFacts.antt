@@ -9,6 +9,7 @@ use Rattle.bufr_tables.specs.Answers.{◌>>=◌}
 use Rattle.std.specs.List.{list_all}
 use Rattle.std.specs.Cmp.Lexicographic.{pointwise}
 use Rattle.std.proofs.lemmas.Bool.Decides.{nat_tests}
+use Rattle.std.proofs.lemmas.List.{length-map, append-nil, drop_all}
 use Rattle.bufr_tables.specs.Fields.{used_fields}
 use Rattle.bufr_tables.specs.TableFiles.{column_at, columns_at, cells_at, is_skipped, row_cells}
 use Rattle.bufr_tables.specs.TableFiles.{joined, after_records, after_file, TakesHeader, columns_b}
@@ -23,20 +24,10 @@ prefix_len-map : {X Y : Type 0} (p : Y → Bool) (f : X → Y) (xs : List X)
 prefix_len-map p f [] = refl
 prefix_len-map p f (x ∷ xs) = rw (prefix_len-map p f xs)
 
--- as many images as elements
-pub length-map : {X Y : Type 0} (f : X → Y) (xs : List X) → length (map f xs) ≡ length xs
-length-map f [] = refl
-length-map f (x ∷ xs) = ap suc (length-map f xs)
-
 -- the first image that passes a test stands where the first such element does
 pub position-map : {X Y : Type 0} (p : Y → Bool) (f : X → Y) (xs : List X)
     → position p (map f xs) ≡ position (λ x. p (f x)) xs
-position-map p f xs = rw (prefix_len-map (λ y. not (p y)) f xs, length-map f xs)
-
--- nothing behind a list
-pub append-nil : {A : Type 0} (xs : List A) → xs ++ [] ≡ xs
-append-nil [] = refl
-append-nil (x ∷ xs) = ap (λ (t : List _). x ∷ t) (append-nil xs)
+position-map p f xs = rw (prefix_len-map (λ y. not (p y)) f xs, length-map xs f)
 
 -- the places of the columns before the k-th are these
 pub ColumnsSoFar : List (List ℕ) → List Column → ℕ → List ℕ → Type 0
@@ -82,11 +73,6 @@ pub columns_stop : (h : List (List ℕ)) (needed : List Column) (k : ℕ) (place
 unfolding ColumnsSoFar
 columns_stop h needed k places f d lt so e = so ∙ rw (drop-cons needed k d, e)
 
--- nothing is left behind all elements
-drop-all : {A : Type 0} (xs : List A) → drop (length xs) xs ≡ []
-drop-all [] = refl
-drop-all (x ∷ xs) = drop-all xs
-
 -- all columns were found
 pub columns_all : (h : List (List ℕ)) (needed : List Column) (k : ℕ) (places : List ℕ)
     → length needed ≤ k → k ≤ length needed → ColumnsSoFar h needed k places
@@ -94,7 +80,7 @@ pub columns_all : (h : List (List ℕ)) (needed : List Column) (k : ℕ) (places
 unfolding ColumnsSoFar
 columns_all h needed k places p q so =
     let e : k ≡ length needed = omega arith in
-    so ∙ rw (e, drop-all needed) (ap Ok (append-nil places))
+    so ∙ rw (e, drop_all (length needed) needed (omega arith)) (ap Ok (append-nil places))
 
 -- what row_cells answers, by cases
 pub row_cells-unequal : (h : List (List ℕ)) (places : List ℕ) (n : ℕ) (raw : List (List ℕ))

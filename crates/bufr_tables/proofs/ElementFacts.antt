@@ -5,6 +5,7 @@ use Rattle.std.proofs.Common.{◌∷◌, ◌++◌, length, Option, Some, None, R
 use Rattle.std.proofs.Common.{append_assoc}
 use Rattle.std.specs.Ordering.{nat_cmp}
 use Rattle.std.specs.BTreeMap.{insert_entry}
+use Rattle.std.proofs.lemmas.List.{append-nil}
 use Rattle.std.proofs.lemmas.List.Elements.{Contains-append_left, Contains-append_right}
 use Rattle.bufr_tables.specs.declared.element.Element.{Element}
 use Rattle.bufr_tables.specs.declared.table_faults.TableFault.{TableFault}
@@ -16,7 +17,7 @@ use Rattle.bufr_tables.specs.Rows.{element_row, with_element}
 use Rattle.bufr_tables.specs.Sheets.{SameMembers, IsRow, HasRows, IsReached, AreElementRows}
 use Rattle.bufr_tables.specs.Sheets.{IsFirstElementFault}
 use Rattle.bufr_tables.specs.TableFiles.{columns_b, after_file, header_of}
-use Rattle.bufr_tables.proofs.ColumnFacts.{needs_b, append-nil}
+use Rattle.bufr_tables.proofs.ColumnFacts.{needs_b}
 use Rattle.bufr_tables.proofs.MemberFacts.{contains-first, same-self, same-back, same-through}
 use Rattle.bufr_tables.proofs.MemberFacts.{same-append, same-again, at-contained, at-only}
 use Rattle.bufr_tables.proofs.MemberFacts.{same-rising, same-insert}

@@ -25,14 +25,6 @@ pub skip_spaces-none : skip_spaces [] ≡ []
 unfolding skip_spaces
 skip_spaces-none = refl
 
--- equality of lists of what each element shows
-pub pointwise-map : {X Y : Type 0} (E : Y → Y → Bool) (f : X → Y) (xs ys : List X)
-    → pointwise E (map f xs) (map f ys) ≡ pointwise (λ x y. E (f x) (f y)) xs ys
-pointwise-map E f [] [] = refl
-pointwise-map E f [] (y ∷ ys) = refl
-pointwise-map E f (x ∷ xs) [] = refl
-pointwise-map E f (x ∷ xs) (y ∷ ys) = rw (pointwise-map E f xs ys)
-
 -- a byte order mark, by three equal octets
 three_tests : (x y z b : Bool) → x && (y && (z && true)) ≡ b → (x && y) && z ≡ b
 three_tests true true true b h = h
@@ -108,16 +100,6 @@ used_fields-later [] i h = sym nothing-left
 used_fields-later (f ∷ fs) zero h = absurd (h refl)
 used_fields-later (f ∷ fs) (suc i) h = get_or-trimmed fs i
 
--- as many trimmed fields as fields
-length-trimmed : (fs : List (List ℕ)) → length (map without_spaces fs) ≡ length fs
-length-trimmed [] = refl
-length-trimmed (f ∷ fs) = ap suc (length-trimmed fs)
-
--- as many used fields as fields
-pub length-used_fields : (fs : List (List ℕ)) → length (used_fields fs) ≡ length fs
-length-used_fields [] = refl
-length-used_fields (f ∷ fs) = ap suc (length-trimmed fs)
-
 -- a list turned round twice
 reverse-push : (xs : List ℕ) (c : ℕ) → reverse (xs ++ c ∷ []) ≡ c ∷ reverse xs
 reverse-push xs c = reverse-append xs (c ∷ [])
@@ -139,8 +121,3 @@ skip_back-other xs c h =
 pub skip_back-none : reverse (skip_spaces (reverse [])) ≡ []
 unfolding skip_spaces
 skip_back-none = refl
-
--- a list without length is empty
-pub nothing : (xs : List ℕ) → length xs ≡ 0 → xs ≡ []
-nothing [] h = refl
-nothing (x ∷ xs) h = absurd (omega arith)

@@ -4,13 +4,12 @@ use Rattle.std.proofs.Common.{◌≡◌, ◌≢◌, ◌∙◌, inl, inr, ℕ, Li
 use Rattle.std.proofs.Common.{Some, None, refl, sym, ap, append_assoc}
 use Rattle.std.specs.Prelude.{All, Contains}
 use Rattle.std.proofs.lemmas.Grind.{flat_map-append}
-use Rattle.std.proofs.lemmas.List.{map-append}
+use Rattle.std.proofs.lemmas.List.{append-nil, map-append}
 use Rattle.std.proofs.lemmas.List.Elements.{Contains-get_or, Contains-append_left}
 use Rattle.std.proofs.lemmas.List.Elements.{Contains-append_right, Contains-append_cases, All-nil}
 use Rattle.std.proofs.lemmas.List.Elements.{All-push, All-contains}
 use Rattle.bufr_tables.specs.Entries.{at}
 use Rattle.bufr_tables.specs.Sheets.{AreGroups, written_out}
-use Rattle.bufr_tables.proofs.ColumnFacts.{append-nil}
 use Rattle.bufr_tables.proofs.MemberFacts.{contains-none, contains-first, contains-more}
 use Rattle.bufr_tables.proofs.MemberFacts.{contains-cases, at-contained}
 

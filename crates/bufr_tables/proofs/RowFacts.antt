@@ -168,15 +168,6 @@ pub begins-new : (ended : List (ℕ × List ℕ)) (d m : ℕ) → is_some (at d 
     → begins ended d m ≡ Ok (record { ended = ended; open_one = Some (d, m ∷ []) })
 begins-new ended d m h = rw h
 
--- equal answers are both there or not
-pub is_some-at : {X : Type 0} (o : Option X) (p : Option X) → o ≡ p → is_some o ≡ is_some p
-is_some-at o p h = ap is_some h
-
--- a row of the sequence at hand
-pub with_member-none : (s : Sequences) (d m : ℕ) → s.open_one ≡ None
-    → with_member s (d, m) ≡ begins s.ended d m
-with_member-none s d m h = rw h
-
 -- a row of the sequence at hand joins it
 pub with_member-same : (s : Sequences) (d m : ℕ) (list : List ℕ) → s.open_one ≡ Some (d, list)
     → with_member s (d, m) ≡ Ok (record { ended = s.ended; open_one = Some (d, list ++ m ∷ []) })

@@ -6,7 +6,9 @@ use Rattle.std.proofs.Common.{sym, ap, subst, append_assoc}
 use Rattle.std.specs.Prelude.{All, Contains, is_some}
 use Rattle.std.specs.Ordering.{nat_cmp}
 use Rattle.std.specs.BTreeMap.{insert_entry}
+use Rattle.std.proofs.lemmas.Bool.{cases_Bool}
 use Rattle.std.proofs.lemmas.Bool.Decides.{Decides-eqb}
+use Rattle.std.proofs.lemmas.List.{append-nil}
 use Rattle.std.proofs.lemmas.List.Elements.{Contains-append_left, Contains-push}
 use Rattle.std.proofs.lemmas.List.Elements.{Contains-push_cases, All-contains}
 use Rattle.bufr_tables.specs.declared.table_faults.TableFault.{TableFault}
@@ -19,7 +21,7 @@ use Rattle.bufr_tables.specs.Rows.{all_sequences}
 use Rattle.bufr_tables.specs.Sheets.{SameMembers, IsRow, AreRows, HasRows, IsReached, AreGroups}
 use Rattle.bufr_tables.specs.Sheets.{written_out, AreSequenceRows, IsFirstSequenceFault}
 use Rattle.bufr_tables.specs.TableFiles.{columns_d, after_file, header_of, rows_of}
-use Rattle.bufr_tables.proofs.ColumnFacts.{needs_d, append-nil}
+use Rattle.bufr_tables.proofs.ColumnFacts.{needs_d}
 use Rattle.bufr_tables.proofs.GroupFacts.{all-by, not-at, last-only, no-push, groups-push}
 use Rattle.bufr_tables.proofs.GroupFacts.{groups-split, groups-members, written-append}
 use Rattle.bufr_tables.proofs.GroupFacts.{written-more, written-last, written-from, written-member}
@@ -29,8 +31,8 @@ use Rattle.bufr_tables.proofs.MemberFacts.{same-insert}
 use Rattle.bufr_tables.proofs.ParseFacts.{then-gives}
 use Rattle.bufr_tables.proofs.RowFacts.{Rising-insert, begins-again, begins-new, with_member-same}
 use Rattle.bufr_tables.proofs.RowFacts.{with_member-other}
-use Rattle.bufr_tables.proofs.SheetFacts.{told, then-stops, added, Stops, IsWhole, IsLacking}
-use Rattle.bufr_tables.proofs.SheetFacts.{IsCutShort, file-has, file-lacks, file-stops, file-run}
+use Rattle.bufr_tables.proofs.SheetFacts.{then-stops, added, Stops, IsWhole, IsLacking, IsCutShort}
+use Rattle.bufr_tables.proofs.SheetFacts.{file-has, file-lacks, file-stops, file-run}
 
 -- the sequence at hand behind those whose rows have ended
 abbrev pub with_open : List (ℕ × List ℕ) → Option (ℕ × List ℕ) → List (ℕ × List ℕ)
@@ -235,7 +237,7 @@ joining-by ended None h d m =
     joining-other (record { ended = ended; open_one = None }) h d m
     (λ list q. some-other (d, list) (sym q)) (at d ended) refl
 joining-by ended (Some g) h d m =
-    elim (told (g.0 == d)) [
+    elim (cases_Bool (g.0 == d)) [
       | inl e ↦ same g.0 g.1 h ((Decides-eqb g.0 d).0 e)
       | inr e ↦
           joining-other (record { ended = ended; open_one = Some g }) h d m

@@ -7,8 +7,8 @@ use Rattle.std.specs.Prelude.{bytes_eq, position, Contains, All}
 use Rattle.std.specs.Bool.{Decides}
 use Rattle.std.specs.List.{AllZip, list_all, position_from}
 use Rattle.std.specs.Cmp.Lexicographic.{pointwise}
-use Rattle.std.proofs.lemmas.Bool.{cases_order}
-use Rattle.std.proofs.lemmas.Bool.Decides.{Decides-eqb, Decides-or}
+use Rattle.std.proofs.lemmas.Bool.{cases_order, cases_Bool, false_from_ne_true}
+use Rattle.std.proofs.lemmas.Bool.Decides.{Decides-eqb, Decides-or, Decides-by_and}
 use Rattle.std.proofs.lemmas.Iterator.Adapters.{position_from-zero}
 use Rattle.std.proofs.lemmas.List.Elements.{Contains-get_or, All-nil, All-cons, All-head, All-tail}
 use Rattle.std.proofs.lemmas.List.Quantifiers.{position-Some}
@@ -28,11 +28,6 @@ use Rattle.bufr_tables.proofs.ColumnFacts.{row_cells-unequal, row_cells-skipped,
 use Rattle.bufr_tables.proofs.MemberFacts.{contains-none, contains-cases}
 use Rattle.bufr_tables.proofs.ParseFacts.{then-gives}
 
--- what a test can say
-pub told : (b : Bool) → (b ≡ true) ⊎ (b ≡ false)
-told true = inl refl
-told false = inr refl
-
 -- what follows a fault
 pub then-stops : {X Y : Type 0} (r : Result X TableFault) (f : X → Result Y TableFault)
     (e : TableFault) → r ≡ Err e → (r >>= f) ≡ Err e
@@ -45,7 +40,7 @@ none-passes : {X : Type 0} (p : X → Bool) (n : ℕ) (xs : List X) → position
     → (x : X) → Contains xs x → p x ≡ false
 none-passes p n [] h x m = absurd (contains-none x m)
 none-passes p n (y ∷ ys) h x m =
-    elim (told (p y)) [
+    elim (cases_Bool (p y)) [
       | inl e ↦ absurd (let g : Some n ≡ None = rw e at h in cc)
       | inr e ↦
           elim (contains-cases y x ys m)
@@ -192,29 +187,10 @@ columns-lack header needed c h = rw h.2 (lacks-behind header h.0 c h.1 h.3 h.4)
 -- ---- a record
 
 -- a text of no length is empty
-empty-true : (text : List ℕ) → (length text == 0) ≡ true → text ≡ []
-empty-true [] h = refl
-empty-true (c ∷ text) h = absurd (let e = (Decides-eqb (length (c ∷ text)) 0).0 h in omega arith)
-
--- the test whether all cells are empty decides it
-empties : (cells : List (List ℕ))
-    → Decides (list_all (λ text. length text == 0) cells) (All (λ text. text ≡ []) cells)
-empties cells = (from cells, to cells)
-  where
-    from : (xs : List (List ℕ)) → list_all (λ text. length text == 0) xs ≡ true
-        → All (λ text. text ≡ []) xs
-    from [] h = All-nil (λ text. text ≡ [])
-    from (x ∷ xs) h =
-        elim (told (length x == 0)) [
-          | inl e ↦ All-cons (λ text. text ≡ []) x xs (empty-true x e) (from xs (rw e at h))
-          | inr e ↦ absurd (let g : false ≡ true = rw e at h in cc)
-        ]
-
-    to : (xs : List (List ℕ)) → All (λ text. text ≡ []) xs → list_all (λ text. length text == 0) xs
-        ≡ true
-    to [] h = refl
-    to (x ∷ xs) h =
-        rw (All-head (λ text. text ≡ []) x xs h) (to xs (All-tail (λ text. text ≡ []) x xs h))
+empties : (text : List ℕ) → Decides (length text == 0) (text ≡ [])
+empties [] = (λ h. refl, λ h. refl)
+empties (c ∷ text) =
+    (λ h. absurd (let e = (Decides-eqb (length (c ∷ text)) 0).0 h in omega arith), λ h. cc)
 
 -- the test whether a record tells nothing decides it
 skips : (header : List (List ℕ)) (places : List ℕ) (raw : List (List ℕ))
@@ -224,14 +200,16 @@ skips header places raw =
     (list_all (λ text. length text == 0) (cells_at (used_fields raw) places))
     (slice_eq-Decides bytes_eq-Decides (used_fields raw) header
     (pointwise bytes_eq (used_fields raw) header) refl)
-    (empties (cells_at (used_fields raw) places))
+    (Decides-by_and (λ text. length text == 0) (λ text. text ≡ [])
+    (list_all (λ text. length text == 0))
+    empties refl (λ _ _. refl) (cells_at (used_fields raw) places))
 
 -- a record that tells something is not skipped
 tells : (header : List (List ℕ)) (places : List ℕ) (raw : List (List ℕ))
     → (TellsNothing header places raw → ⊥) → is_skipped header (used_fields raw) places ≡ false
 tells header places raw n =
-    elim (told (is_skipped header (used_fields raw) places))
-    [ inl e ↦ absurd (n ((skips header places raw).0 e)) | inr e ↦ e ]
+    false_from_ne_true (is_skipped header (used_fields raw) places)
+    (λ e. n ((skips header places raw).0 e))
 
 -- what a record is, under a header and with the needed columns at these places
 pub data Kinds {R : Type 0} (row_of : List (List ℕ) → Option R) (header : List (List ℕ))
@@ -245,13 +223,13 @@ pub data Kinds {R : Type 0} (row_of : List (List ℕ) → Option R) (header : Li
 pub kinds : {R : Type 0} (row_of : List (List ℕ) → Option R) (header : List (List ℕ))
     (places : List ℕ) (raw : List (List ℕ)) → Kinds row_of header places raw
 kinds {R} row_of header places raw =
-    elim (told (length raw == length header)) [
+    elim (cases_Bool (length raw == length header)) [
       | inr e ↦
           not_csv
           (λ q. let t : (length raw == length header)
           ≡ true =
           (Decides-eqb (length raw) (length header)).1 q in let w : true ≡ false = sym t ∙ e in cc)
-      | inl e ↦ elim (told (is_skipped header (used_fields raw) places)) [
+      | inl e ↦ elim (cases_Bool (is_skipped header (used_fields raw) places)) [
         | inl t ↦
             skipped ((Decides-eqb (length raw) (length header)).0 e, (skips header places raw).0 t)
         | inr t ↦

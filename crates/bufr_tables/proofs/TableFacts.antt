@@ -2,7 +2,7 @@
 -- `same`.
 use Rattle.std.proofs.Common.{◌≡◌, ◌∙◌, ℕ, ◌==◌, ◌&&◌, Bool, true, false, List, [], ◌∷◌, refl, ap}
 use Rattle.std.proofs.Common.{arith, ℤ, pos, negsuc}
-use Rattle.std.proofs.lemmas.Bool.Decides.{nat_tests, Decides-eqb, Decides-int_eq}
+use Rattle.std.proofs.lemmas.Bool.Decides.{nat_tests, Decides-and, Decides-eqb, Decides-int_eq}
 use Rattle.std.specs.Bool.{Decides}
 use Rattle.std.specs.Ordering.{is_eq, nat_cmp}
 use Rattle.std.specs.BTreeMap.{is_at}
@@ -52,13 +52,6 @@ kind_eq-Decides kinds.Quantity kinds.Quantity = (λ _. refl, λ _. refl)
 kind_eq-Decides kinds.Count kinds.Count = (λ _. refl, λ _. refl)
 kind_eq-Decides _ _ = (λ h. cc, λ h. cc)
 
--- both of two tests
-and-Decides : (x y : Bool) (P Q : Type 0) → Decides x P → Decides y Q → Decides (x && y) (P × Q)
-and-Decides true true P Q p q = (λ _. (p.0 refl, q.0 refl), λ _. refl)
-and-Decides true false P Q p q = (λ h. cc, λ h. q.1 h.1)
-and-Decides false true P Q p q = (λ h. cc, λ h. p.1 h.0)
-and-Decides false false P Q p q = (λ h. cc, λ h. p.1 h.0)
-
 -- elements are equal where their parts are
 of_parts : (a b : Element) → a.kind ≡ b.kind → a.scale ≡ b.scale → a.reference ≡ b.reference
     → a.width ≡ b.width → a ≡ b
@@ -78,9 +71,7 @@ parts-Decides : (a b : Element) (x y z w : Bool) → Decides x (a.kind ≡ b.kin
     → Decides y (a.scale ≡ b.scale) → Decides z (a.reference ≡ b.reference)
     → Decides w (a.width ≡ b.width) → Decides (x && (y && (z && w))) (a ≡ b)
 parts-Decides a b x y z w p q r s =
-    let all =
-    and-Decides x (y && (z && w)) _ _ p
-    (and-Decides y (z && w) _ _ q (and-Decides z w _ _ r s)) in (
+    let all = Decides-and x (y && (z && w)) p (Decides-and y (z && w) q (Decides-and z w r s)) in (
       λ h. of_parts a b (all.0 h).0 (all.0 h).1.0 (all.0 h).1.1.0 (all.0 h).1.1.1,
       λ h. all.1 (
         ap (λ (e : Element). e.kind) h,

@@ -4,13 +4,14 @@ use Rattle.std.proofs.Common.{false, Bool, Option, Result}
 use Rattle.std.specs.Prelude.{bytes_eq}
 use Rattle.std.specs.Cmp.Lexicographic.{pointwise}
 use Rattle.std.specs.List.{list_all}
+use Rattle.std.proofs.lemmas.List.{length-map}
 use Rattle.std.proofs.lemmas.List.Folds.{list_all-map}
 use Rattle.csv.specs.Records.{fields_of}
 use Rattle.bufr_tables.specs.Fields.{used_fields}
 use Rattle.bufr_tables.specs.TableFiles.{cells_at}
 use Rattle.bufr_tables.specs.declared.table_faults.TableFault.{TableFault}
 use Rattle.bufr_tables.proofs.ColumnFacts.{row_cells-unequal, row_cells-skipped, row_cells-used}
-use Rattle.bufr_tables.proofs.ColumnFacts.{is_skipped-same, is_skipped-by, length-map}
+use Rattle.bufr_tables.proofs.ColumnFacts.{is_skipped-same, is_skipped-by}
 use Rattle.bufr_tables.proofs.columns.row_cells.Goals as goal
 use Rattle.bufr_tables.proofs.columns.row_cells.Goals.{then-same_fields-via-then-same_fields}
 use Rattle.bufr_tables.proofs.columns.row_cells.Goals.{then-same_fields-via-else-same_fields+then-are_empty}
@@ -40,14 +41,14 @@ empty_test cells deref all b t p q r s =
 pub returns-then-len-names : goal.returns-then-len-names
 returns-then-len-names c =
     row_cells-unequal _ c.args.places.now c.args.number (fields_of c.args.row.now)
-    (λ e. c.if-len-names.true (c.len.ensures ∙ e ∙ length-map _ c.args.names.now))
+    (λ e. c.if-len-names.true (c.len.ensures ∙ e ∙ length-map c.args.names.now _))
 
 -- a record that repeats the header, or has empty cells only, is skipped
 pub returns-then-same_fields : goal.returns-then-same_fields
 returns-then-same_fields c =
     let same =
     sym c.len.ensures ∙ c.if-len-names.false
-    ∙ sym (length-map (λ (s : Bor (List ℕ)). s.now) c.args.names.now) in
+    ∙ sym (length-map c.args.names.now (λ (s : Bor (List ℕ)). s.now)) in
     let cells =
     cells_are _ _ _ _ c.args.places.now c.in_ok-cells.ensures c.deref.ensures.value
     c.in_ok-fields.ensures in
@@ -72,7 +73,7 @@ pub returns : goal.returns
 returns c =
     let same =
     sym c.len.ensures ∙ c.if-len-names.false
-    ∙ sym (length-map (λ (s : Bor (List ℕ)). s.now) c.args.names.now) in
+    ∙ sym (length-map c.args.names.now (λ (s : Bor (List ℕ)). s.now)) in
     let cells =
     cells_are _ _ _ _ c.args.places.now c.in_ok-cells.ensures c.deref.ensures.value
     c.in_ok-fields.ensures in

@@ -1,6 +1,6 @@
 -- For `same_fields`: equality of slices of slices is that of the octets, one by one.
 use Rattle.std.proofs.Common.{◌∙◌, sym}
-use Rattle.bufr_tables.proofs.FieldFacts.{pointwise-map}
+use Rattle.std.specs.Cmp.Derive.Mapped.{pointwise-map}
 use Rattle.bufr_tables.proofs.fields.same_fields.Goals as goal
 
 -- what the comparison answers is whether the fields' octets are equal, one by one

@@ -1,8 +1,8 @@
 -- For `without_first_spaces`: one space less at the front has the same rest.
 use Rattle.std.proofs.Common.{◌∙◌, sym, ap, ◌∷◌, ℕ}
+use Rattle.std.proofs.lemmas.List.{nil_from_length}
 use Rattle.bufr_tables.specs.Fields.{skip_spaces}
 use Rattle.bufr_tables.proofs.FieldFacts.{skip_spaces-space, skip_spaces-other, skip_spaces-none}
-use Rattle.bufr_tables.proofs.FieldFacts.{nothing}
 use Rattle.bufr_tables.proofs.fields.without_first_spaces.Goals as goal
 
 -- a text that begins with another octet than a space is its own rest
@@ -22,5 +22,5 @@ loop-first-preserved c =
 -- no octets have no space to skip
 pub returns : goal.returns
 returns c =
-    let n = nothing c.loop-first.rest.now c.in_default.ensures.cases in
+    let n = nil_from_length c.loop-first.rest.now c.in_default.ensures.cases in
     n ∙ sym skip_spaces-none ∙ ap skip_spaces (sym n) ∙ c.loop-first.invariant

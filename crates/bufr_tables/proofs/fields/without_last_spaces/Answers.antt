@@ -1,7 +1,8 @@
 -- For `without_last_spaces`: one space less at the end has the same front.
 use Rattle.std.proofs.Common.{◌∙◌, sym, ap, ◌∷◌, ◌++◌, [], List, ℕ, reverse}
+use Rattle.std.proofs.lemmas.List.{nil_from_length}
 use Rattle.bufr_tables.specs.Fields.{skip_spaces}
-use Rattle.bufr_tables.proofs.FieldFacts.{skip_back-space, skip_back-other, skip_back-none, nothing}
+use Rattle.bufr_tables.proofs.FieldFacts.{skip_back-space, skip_back-other, skip_back-none}
 use Rattle.bufr_tables.proofs.fields.without_last_spaces.Goals as goal
 
 -- a text that ends with another octet than a space is its own front
@@ -24,6 +25,6 @@ loop-last-preserved c =
 -- no octets have no space to cut
 pub returns : goal.returns
 returns c =
-    let n = nothing c.loop-last.rest.now c.in_default.ensures.cases in
+    let n = nil_from_length c.loop-last.rest.now c.in_default.ensures.cases in
     n ∙ sym skip_back-none ∙ ap (λ (t : List ℕ). reverse (skip_spaces (reverse t))) (sym n)
     ∙ ap reverse c.loop-last.invariant
