@@ -1,8 +1,8 @@
 -- What the view of an answer says of the answer: for the laws of data (`data_hold_subsets`,
 -- `fitting_subsets_are_read_and_written`, `write_refusals_follow_the_tree`).
-use Rattle.std.proofs.Common.{◌≡◌, Result, Ok, Err, refl}
+use Rattle.std.proofs.Common.{◌≡◌, ◌⊎◌, inl, inr, Bool, true, false, cond, Result, Ok, Err, refl}
 use Rattle.bufr_tables.specs.Answers.{result_map}
-use Rattle.bufr_tables.specs.AnswerLaws.{ok_is}
+use Rattle.bufr_tables.specs.AnswerLaws.{ok_is, err_is}
 
 -- what is answered of a mapped answer was answered before
 pub map_ok : {A B F : Type 0} (f : A → B) (o : Result A F) (y : B) → result_map f o ≡ Ok y
@@ -15,3 +15,9 @@ pub map_err : {A B F : Type 0} (f : A → B) (o : Result A F) (fault : F)
     → result_map f o ≡ Err fault → o ≡ Err fault
 map_err f (Ok x) fault e = absurd cc
 map_err f (Err other) fault e = cc
+
+-- an error past a test is the test's or one behind it
+pub guard_err : {A F : Type 0} (b : Bool) (f fault : F) (x : Result A F)
+    → cond b (Err f) x ≡ Err fault → ((b ≡ true) × (f ≡ fault)) ⊎ ((b ≡ false) × (x ≡ Err fault))
+guard_err true f fault x e = inl (refl, err_is _ _ e)
+guard_err false f fault x e = inr (refl, e)

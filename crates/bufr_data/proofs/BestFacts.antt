@@ -274,7 +274,8 @@ column_wide spec values column other (equal minimum form same is) =
     omega (
       arith,
       ap length is,
-      length-append (raw_bits spec.width minimum) (bin 6 0),
+      length-append (raw_bits spec.width minimum)
+          (bin 6 0),
       length-bin 6 0,
       (number_back spec minimum other form).3,
     )
@@ -484,7 +485,8 @@ no_texts spec [] is none all = tt
 no_texts spec (v ∷ vs) is none all =
     let h = text_of_form spec v is all.0 in (
       h.0 ∙ ap (λ os. Text os) (nil_from_length (octets_of v) (h.1 ∙ none)),
-      no_texts spec vs is none all.1,
+      no_texts spec vs is none
+          all.1,
     )
 
 -- texts that differ have some octet
@@ -538,8 +540,8 @@ best_of_numbers : (spec : Spec) (values : List Raw) → (spec.kind ≡ kinds.Tex
 best_of_numbers spec values other some all short =
     let ns = map number_of values in
     let back = numbers_back spec values other all in
-    let found =
-    best_found spec ns 63 other (omega (arith, short)) back.1 (omega arith) (omega arith)
+    let found = best_found spec ns 63 other (omega (arith, short)) back.1 (omega arith)
+    (omega arith)
     (difference_fits spec.width ns short back.1) in
     subst (λ b. IsColumn spec values b) (sym (differing_is spec.kind spec.width values other))
     (subst (λ vs. IsColumn spec vs (best_numbers spec.width ns)) back.0 found.column)
@@ -569,8 +571,8 @@ best_column_by spec values false e some all can =
     let short =
     or_false (all_equal values)
     (not (same_kind spec.kind kinds.Count) && nat_le (widest spec) 63) can e in
-    best_of_kind spec values _ refl some e all
-    (and_parts (not (same_kind spec.kind kinds.Count)) (nat_le (widest spec) 63) short).1
+    best_of_kind spec values _ refl some e all (and_parts (not (same_kind spec.kind kinds.Count))
+    (nat_le (widest spec) 63) short).1
 
 -- values that can be a column stand in the best one
 pub best_column : (spec : Spec) (values : List Raw) → 0 < length values → AllForm spec values

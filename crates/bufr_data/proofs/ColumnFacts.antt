@@ -28,7 +28,7 @@ use Rattle.bufr_data.specs.FormLaws.{form_passes, form_is}
 use Rattle.bufr_data.proofs.ListFacts.{all_replicated}
 use Rattle.bufr_data.proofs.PlainFacts.{raw_again, raw_read}
 
--- ---- numbers of one width, one after the other
+-- ---- increments
 
 -- an increment of a value is read as this value
 pub raised_again : (width minimum k x : ℕ) (v : Raw) → HasIncrement width minimum k x v
@@ -174,7 +174,8 @@ texts_again k (t ∷ own) rest all =
     rw (
       e,
       numbers_at_again 8 k t (flat_map bits own ++ rest) all.0.0 all.0.1,
-      texts_again k own rest all.1,
+      texts_again k own
+          rest all.1,
     ) refl
 
 -- so many texts of so many octets stand at the front, and these bits are left
@@ -339,7 +340,8 @@ column_again n i spec values column rest many
       room,
       size,
       texts_again (suc k) own rest octets,
-      all_filled_again (spec.width / 8) (suc k) own values each,
+      all_filled_again (spec.width / 8)
+          (suc k) own values each,
     ) refl
 
 -- what is read where the data do not end was there

@@ -1,9 +1,9 @@
 -- What is refused of compressed data is the first column that cannot stand, by the course: for the
 -- law on what messages know of data (`data_hold_subsets`).
 use Rattle.std.proofs.Common.{◌≡◌, ℕ, zero, suc, ◌+◌, ◌-◌, ◌*◌, ◌/◌, ◌^◌, ◌<◌, ◌≤◌, Bool, true}
-use Rattle.std.proofs.Common.{false, cond, List, [], ◌∷◌, ◌++◌, length, map, get_or, Option, Some}
-use Rattle.std.proofs.Common.{None, Result, Ok, Err, refl, sym, ap, subst, ◌∙◌, arith, append_assoc}
-use Rattle.std.proofs.Common.{◌⊎◌, inl, inr}
+use Rattle.std.proofs.Common.{false, List, [], ◌∷◌, ◌++◌, length, map, get_or, Option, Some, None}
+use Rattle.std.proofs.Common.{Result, Ok, Err, refl, sym, ap, subst, ◌∙◌, arith, append_assoc, ◌⊎◌}
+use Rattle.std.proofs.Common.{inl, inr}
 use Rattle.std.specs.Prelude.{◌==◌, ◌&&◌, not, nat_lt}
 use Rattle.std.specs.List.{AllByRecursion}
 use Rattle.std.proofs.lemmas.Bool.{and_parts, cases_lt, le-ltb, lt-ltb, ltb-true, ltb-false}
@@ -13,7 +13,7 @@ use Rattle.std.proofs.Math.Nat.{mul-le-mul_right}
 use Rattle.bufr_tables.specs.Answers.{◌>>=◌}
 use Rattle.bufr_tables.specs.declared.element.Kind.TheVariants as kinds
 use Rattle.bufr_tables.specs.Elements.{same_kind}
-use Rattle.bufr_tables.specs.AnswerLaws.{bind_ok, bind_err, err_is}
+use Rattle.bufr_tables.specs.AnswerLaws.{bind_err, err_is}
 use Rattle.bufr_bits.specs.Bits.{bin, number_at, numbers_at}
 use Rattle.bufr_bits.specs.BitLaws.{number_at-bin}
 use Rattle.bufr_expand.specs.declared.operators.Spec.{Spec}
@@ -37,10 +37,11 @@ use Rattle.bufr_data.proofs.ColumnFacts.{ColumnFound}
 use Rattle.bufr_data.proofs.ColumnFacts.{or_ends_ok, head_read, heads_found, head_at}
 use Rattle.bufr_bits.specs.NumberLaws.{numbers_at_again, numbers_at_found}
 use Rattle.bufr_data.proofs.ColumnWalks.{all_equal_is, all_equal_again, column_form, count_is}
-use Rattle.bufr_data.proofs.ColumnWalks.{agreed, agreeing_again}
+use Rattle.bufr_data.proofs.ColumnWalks.{agreed_found, agreeing_again}
 use Rattle.bufr_data.specs.Limits.{most_values}
 use Rattle.bufr_data.specs.Fits.{HasForm}
 use Rattle.bufr_data.specs.FormLaws.{same_kind_is}
+use Rattle.bufr_data.proofs.AnswerFacts.{guard_err}
 use Rattle.bufr_data.proofs.ListFacts.{all_at}
 
 -- where the data end nothing was there
@@ -162,8 +163,8 @@ no_width : (spec : Spec) (front : List Bool) (x : Raw × List Bool) → raw_at s
 no_width spec front x first e minimum k rest h =
     let same : x ≡ (minimum, bin 6 k ++ rest) =
     one_some (raw_at spec front) _ _ first (head_read spec front minimum k rest h) in
-    let some =
-    sym e ∙ ap (λ (y : Raw × List Bool). number_at 6 y.1) same ∙ number_at-bin 6 k rest h.few in
+    let some = sym e ∙ ap (λ (y : Raw × List Bool). number_at 6 y.1) same
+    ∙ number_at-bin 6 k rest h.few in
     cc
 
 -- where increments are not read, none stand there
@@ -181,12 +182,6 @@ none_texts n k front e own h =
     sym e ∙ (λ t. texts_at (sym h.many t) k (h.spelt t)) ∙ texts_again k own h.rest h.octets in
     cc
 
--- an error past a test is the test's or one behind it
-pub guard_err : {A F : Type 0} (b : Bool) (f fault : F) (x : Result A F)
-    → cond b (Err f) x ≡ Err fault → ((b ≡ true) × (f ≡ fault)) ⊎ ((b ≡ false) × (x ≡ Err fault))
-guard_err true f fault x e = inl (refl, err_is _ _ e)
-guard_err false f fault x e = inr (refl, e)
-
 -- the fault behind minimum and width is the column's first
 values_refused : (n i : ℕ) (spec : Spec) (front : List Bool) (minimum : Raw) (k : ℕ)
     (rest : List Bool) (fault : ReadFault) → Heads spec front minimum k rest
@@ -199,9 +194,8 @@ values_refused n i spec front (Number minimum) (suc k) rest fault h e =
           no_increments minimum (suc k) rest h (omega arith) (none_numbers n (suc k) rest is.0) is.1
       | inr some ↦
           let xs = some.0 in
-          let found =
-          numbers_at_found n (suc k) rest xs
-          (or_ends_ok i (numbers_at n (suc k) rest) xs some.1) in
+          let found = numbers_at_found n (suc k) rest xs (or_ends_ok i
+          (numbers_at n (suc k) rest) xs some.1) in
           elim (bind_err (all_raised 1 i spec.width minimum (suc k) xs.0) _ fault some.2) [
             | inl none ↦
                 let p = range_passed 1 i spec.width minimum (suc k) xs.0 fault none in
@@ -395,8 +389,8 @@ refused_behind : (n i met d : ℕ) (spec : Spec) (more : ℕ → Course) (front 
 refused_behind n i met d spec more front x fault some found one r =
     let column : Column = record { fxy = d; spec = spec; values = x.0 } in
     let inside : 0 < length x.0 = omega (arith, some, found.1) in
-    let form =
-    all_at (HasForm spec) x.0 0 (Number 0) (column_form spec x.0 found.0 found.2) inside in
+    let form = all_at (HasForm spec) x.0 0 (Number 0) (column_form spec x.0 found.0 found.2) inside
+    in
     let passed =
     subst (λ k. Passes (more k) (map (field_of 0) r.before) r.next)
     (count_is x.0 inside) r.passed in
@@ -437,19 +431,11 @@ columns_refused n i (asks met d spec more) front fault some e =
                 refused_here n i (asks met d spec more) front fault
                 (inr (ltb-false _ _ within.0, read_column_refused n i spec front fault none))
             | inr a ↦
-                let b = bind_ok (column_at n i spec front) _ a.0 a.1 in
-                let same = agreed i spec b.0 a.0 b.2 in
-                let found =
-                subst (λ x. ColumnFound n spec front x) same.0
-                (column_found n i spec front b.0 b.1) in
-                let agree =
-                subst
-                (λ (x : List Raw × List Bool). spec.kind ≡ kinds.Count → all_equal x.0
-                ≡ true) same.0 same.1 in
+                let h = agreed_found n i spec front a.0 a.1 in
                 elim (bind_err (columns_at n (i + 1) (more (count_of a.0.0)) a.0.1) _ fault a.2) [
                   | inl none ↦
-                      refused_behind n i met d spec more front a.0 fault some found
-                      (λ is. all_equal_is a.0.0 (agree is))
+                      refused_behind n i met d spec more front a.0 fault some h.1
+                      (λ is. all_equal_is a.0.0 (h.2 is))
                       (columns_refused n (i + 1) (more (count_of a.0.0)) a.0.1 fault some none)
                   | inr ok ↦ let bad = ok.2 in absurd cc
                 ]

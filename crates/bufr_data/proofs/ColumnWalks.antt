@@ -62,8 +62,8 @@ increment_form : (spec : Spec) (minimum k x : ℕ) (v : Raw) → (spec.kind ≡ 
 increment_form spec minimum k x v other few (above below room is) =
     subst (λ w. HasForm spec w) (sym is) (of_number (minimum + x) other few room)
 increment_form spec minimum k x v other few (missing ones is) =
-    subst (λ w. HasForm spec w) (sym is)
-    (of_number (2 ^ spec.width - 1) other few (omega (arith, pow_pos spec.width)))
+    subst (λ w. HasForm spec w) (sym is) (of_number (2 ^ spec.width - 1) other few
+    (omega (arith, pow_pos spec.width)))
 
 -- a text in a column has its spec's form
 text_form : (spec : Spec) (k : ℕ) (own : List ℕ) (v : Raw) → spec.kind ≡ kinds.Text
@@ -75,11 +75,11 @@ text_form spec k own v is short (is_filled size all other value) =
     omega (arith, length-append own (replicate (spec.width / 8 - k) 32), size, spaces, short) in
     let bytes = all_joined (λ x. x < 256) own (replicate (spec.width / 8 - k) 32) all
     (all_replicated (λ x. x < 256) (spec.width / 8 - k) 32 (omega arith)) in
-    subst (λ w. HasForm spec w) (sym value)
-    (of_text (own ++ replicate (spec.width / 8 - k) 32) is whole bytes)
+    subst (λ w. HasForm spec w) (sym value) (of_text (own ++ replicate (spec.width / 8 - k) 32) is
+    whole bytes)
 text_form spec k own v is short (ones_text ones value) =
-    subst (λ w. HasForm spec w) (sym value)
-    (of_text (replicate (spec.width / 8) 255) is (length-replicate _ _)
+    subst (λ w. HasForm spec w) (sym value) (of_text (replicate (spec.width / 8) 255) is
+    (length-replicate _ _)
     (all_replicated (λ x. x < 256) (spec.width / 8) 255 (omega arith)))
 
 -- the values of a column have its spec's form
@@ -162,11 +162,25 @@ agreed_by spec x false e agree is = absurd (kinds_differ spec.kind kinds.Count e
 agreed_by spec x true e agree is = not_false (all_equal x.0) agree
 
 -- values that agree are those that were read, and a factor's are equal
-pub agreed : (i : ℕ) (spec : Spec) (x y : List Raw × List Bool) → agreeing i spec x ≡ Ok y
+agreed : (i : ℕ) (spec : Spec) (x y : List Raw × List Bool) → agreeing i spec x ≡ Ok y
     → (x ≡ y) × (spec.kind ≡ kinds.Count → all_equal x.0 ≡ true)
 agreed i spec x y e =
     let g = guarded (same_kind spec.kind kinds.Count && not (all_equal x.0)) _ _ y e in
     (ok_is x y g.1, agreed_by spec x _ refl g.0)
+
+-- a column whose values agree is read and stands there, and a factor's values are equal
+pub agreed_found : (n i : ℕ) (spec : Spec) (front : List Bool) (y : List Raw × List Bool)
+    → (column_at n i spec front >>= agreeing i spec) ≡ Ok y
+    → (column_at n i spec front ≡ Ok y) × ColumnFound n spec front y
+    × (spec.kind ≡ kinds.Count → all_equal y.0 ≡ true)
+agreed_found n i spec front y e =
+    let b = bind_ok (column_at n i spec front) _ y e in
+    let same = agreed i spec b.0 y b.2 in
+    let read : column_at n i spec front ≡ Ok y = b.1 ∙ ap (λ x. Ok x) same.0 in (
+      read,
+      column_found n i spec front y read,
+      λ is. ap (λ (x : List Raw × List Bool). all_equal x.0) (sym same.0) ∙ same.1 is,
+    )
 
 -- the number of a factor is its first value's
 pub count_is : (values : List Raw) → 0 < length values
@@ -312,14 +326,7 @@ columns_found n i used (stops met fault) front f steady room e =
 columns_found n i used (asks met d spec more) front f steady room e =
     let g = guarded (nat_lt most_values (i * n)) _ _ f e in
     let a = bind_ok (column_at n i spec front >>= agreeing i spec) _ f g.1 in
-    let b = bind_ok (column_at n i spec front) _ a.0 a.1 in
-    let same = agreed i spec b.0 a.0 b.2 in
-    let found =
-    subst (λ x. ColumnFound n spec front x) same.0 (column_found n i spec front b.0 b.1) in
-    let agree =
-    subst
-    (λ (x : List Raw × List Bool). spec.kind ≡ kinds.Count → all_equal x.0
-    ≡ true) same.0 same.1 in
+    let there = agreed_found n i spec front a.0 a.1 in
     let h = bind_ok (columns_at n (i + 1) (more (count_of a.0.0)) a.0.1) _ f a.2 in
     let within : i * n ≤ most_values = ltb-false _ _ g.0 in
     let next : (i + 1) * n ≤ most_values + n = omega (arith, within) in
@@ -327,4 +334,4 @@ columns_found n i used (asks met d spec more) front f steady room e =
     columns_found n (i + 1) met (more (count_of a.0.0)) a.0.1 h.0
     (steady.3 (count_of a.0.0)) next h.1 in
     subst (λ g. WalkFound n i (asks met d spec more) front g) (ok_is _ _ h.2)
-    (column_joined n i met d spec more front a.0 h.0 within steady.2 found agree after)
+    (column_joined n i met d spec more front a.0 h.0 within steady.2 there.1 there.2 after)

@@ -32,8 +32,7 @@ plain_stand : AreUnrolled
     → (tree : Tree) (count : ℕ) (front : List Bool) (found : List Subset × List Bool)
     → subsets_in tree false count front ≡ Ok found → BeginsWithData tree false count front found
 plain_stand law tree count front found e =
-    let all =
-    map_ok (λ (f : SubsetsRead). (f.subsets, f.rest))
+    let all = map_ok (λ (f : SubsetsRead). (f.subsets, f.rest))
     (subsets_at (course tree) 1 count 0 front) found e in
     let h = all_read_stand law tree 1 count 0 front all.0 (omega arith) all.1 in
     subst (BeginsWithData tree false count front) all.2
@@ -76,8 +75,8 @@ pub refuses_exactly : Laws
     → (tree : Tree) (compressed : Bool) (count : ℕ) (front : List Bool) (fault : ReadFault)
     → RefusesExactly tree compressed count front fault
 refuses_exactly laws tree false count front fault = (
-  λ e. subsets_refused_first laws tree count front fault
-      (map_err _ (subsets_at (course tree) 1 count 0 front) fault e),
+  λ e. subsets_refused_first laws tree count front fault (map_err _
+      (subsets_at (course tree) 1 count 0 front) fault e),
   λ h. rw (first_subsets_refused laws tree count front fault h) refl,
 )
 refuses_exactly laws tree true zero front fault = (λ e. absurd cc, λ h. absurd h)

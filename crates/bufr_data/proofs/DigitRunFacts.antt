@@ -48,8 +48,7 @@ pub number_same : (t : List ℕ) (k : ℕ) → k < length t → is_ascii_digit (
     → number_of (take (k + 1) t) ≡ number_of (take k t)
 number_same t k h is =
     let own : digits_in (get_or t k 0 ∷ []) ≡ [] = rw is refl in
-    ap (digits_value 10)
-    (digits_more t k h ∙ ap (λ ds. digits_in (take k t) ++ ds) own
+    ap (digits_value 10) (digits_more t k h ∙ ap (λ ds. digits_in (take k t) ++ ds) own
     ∙ append-nil (digits_in (take k t)))
 
 -- the digits of a front make no greater number

@@ -149,8 +149,8 @@ pub written_fit : AreUnrolled → (tree : Tree) (subsets : List Subset) (added :
     → written_bits tree false subsets ≡ Ok added
     → (items : ℕ) × AllFitWithin tree 0 subsets items × (added ≡ plain_subsets subsets)
 written_fit law tree subsets added e =
-    let is =
-    map_ok (λ items. plain_subsets subsets) (items_of_all (course tree) 1 0 subsets) added e in
+    let is = map_ok (λ items. plain_subsets subsets) (items_of_all (course tree) 1 0 subsets) added
+    e in
     (is.0, all_counted_fit law tree 1 0 is.0 subsets (omega arith) is.1, sym is.2)
 
 -- and subsets that fit are written

@@ -117,8 +117,11 @@ pushed zero first x equal [] many all head same = (refl, rw (← same, eq-eqb x 
 pushed (suc j) first x equal [] many all head same = absurd (omega (arith, many))
 pushed zero first x equal (u ∷ us) many all head same = absurd (omega (arith, many))
 pushed (suc j) first x equal (u ∷ us) many all head same =
-    rw (ne_eqb (suc j) 0 (λ e. omega (arith, e)))
-    (head, all_push u (Number x) us ∙ (λ t. same t && with_first u x first all.0 head t))
+    rw (ne_eqb (suc j) 0 (λ e. omega (arith, e))) (
+      head,
+      all_push u (Number x) us
+          ∙ (λ t. same t && with_first u x first all.0 head t),
+    )
 
 -- one more increment that has a value keeps what is known so far
 pub one_raised : (i width minimum k n j x number : ℕ) (front rest last : List Bool) (first : ℕ)

@@ -123,8 +123,9 @@ columns_apart i (f ∷ fs) others fault e =
           inr (
             (
               all_like_is f others (and_parts _ _ one.0).0,
-              can_is f.spec (f.raw ∷ map first_raw others)
-                  (and_parts (list_all (begins_like f) others) _ one.0).1,
+              can_is f.spec
+                  (f.raw ∷ map first_raw others) (and_parts (list_all (begins_like f) others) _
+                  one.0).1,
             ),
             columns_apart (i + 1) fs (map (drop 1) others) fault one.1,
           )
@@ -157,13 +158,12 @@ apart_columns i (f ∷ fs) others fault (inl h) =
     (f.raw ∷ map first_raw others)) _ _ fault
     (λ e. h.0 (
       all_like_is f others (and_parts _ _ e).0,
-      can_is f.spec (f.raw ∷ map first_raw others)
-          (and_parts (list_all (begins_like f) others) _ e).1,
+      can_is f.spec
+          (f.raw ∷ map first_raw others) (and_parts (list_all (begins_like f) others) _ e).1,
     )) h.1
 apart_columns i (f ∷ fs) others fault (inr h) =
-    column_behind i
-    (list_all (begins_like f) others && can_be_column f.spec
+    column_behind i (list_all (begins_like f) others && can_be_column f.spec
     (f.raw ∷ map first_raw others)) _ _ fault
-    (and_from _ _ (all_like_pass f others h.0.0)
-    (can_passes f.spec (f.raw ∷ map first_raw others) h.0.1))
+    (and_from _ _ (all_like_pass f others h.0.0) (can_passes f.spec
+    (f.raw ∷ map first_raw others) h.0.1))
     (apart_columns (i + 1) fs (map (drop 1) others) fault h.1)

@@ -25,7 +25,8 @@ use Rattle.bufr_data.specs.ColumnReading.{ColumnsFound, columns_at}
 use Rattle.bufr_data.specs.BestColumns.{best, can_be_column, begins_like, first_raw, is_empty}
 use Rattle.bufr_data.specs.BestColumns.{column_or, columns_of, columns_of_all, packed}
 use Rattle.bufr_data.specs.Data.{BeginsWithData, subsets_in, each_fits, written_bits}
-use Rattle.std.proofs.lemmas.List.Elements.{All-from_get_or, recursion_from_All}
+use Rattle.std.proofs.lemmas.List.Elements.{All-from_get_or, All-get_or, recursion_from_All}
+use Rattle.std.proofs.lemmas.List.Sums.{AllPass-from_list_all}
 use Rattle.bufr_data.specs.ColumnCauses.{BeginsLike}
 use Rattle.bufr_data.proofs.AnswerFacts.{map_ok}
 use Rattle.bufr_data.proofs.FitFacts.{counted_fit, fitting_counted}
@@ -140,16 +141,6 @@ none_like ((f ∷ fs) ∷ others) zero e = absurd cc
 none_like ([] ∷ others) (suc k) e = none_like others k e
 none_like ((f ∷ fs) ∷ others) (suc k) e = absurd cc
 
--- the subset at an index begins like the first
-like_at : (f : Field) (others : List (List Field)) (k : ℕ) → list_all (begins_like f) others ≡ true
-    → k < length others → begins_like f (get_or others k []) ≡ true
-like_at f [] k e short = absurd (omega (arith, short))
-like_at f (fs ∷ others) zero e short =
-    (and_parts (begins_like f fs) (list_all (begins_like f) others) e).0
-like_at f (fs ∷ others) (suc k) e short =
-    like_at f others k (and_parts (begins_like f fs) (list_all (begins_like f) others) e).1
-    (omega (arith, short))
-
 -- such a subset begins with the first's descriptor and spec
 pub like_is : (f : Field) (gs : List Field) → begins_like f gs ≡ true → BeginsLike f gs
 like_is f [] e = absurd cc
@@ -240,7 +231,9 @@ rows i (f ∷ fs) others columns e (suc k) short =
     let behind =
     rows (i + 1) fs (map (drop 1) others) h.behind h.rest (suc k)
     (omega (arith, inside, many)) in
-    let here = own_value f (get_or others k []) (like_at f others k h.like inside) in
+    let like = All-get_or (λ gs. begins_like f gs ≡ true) others k [] inside
+    (AllPass-from_list_all (begins_like f) others h.like) in
+    let here = own_value f (get_or others k []) like in
     let own : get_or (map first_raw others) k (Number 0) ≡ first_raw (get_or others k []) =
     get_or-map first_raw others k [] (Number 0) inside in
     let after : drop 1 (get_or others k []) ≡ map (field_of (suc k)) h.behind =
@@ -367,7 +360,8 @@ written_pack tree s subsets columns content fit e p =
       columns,
       columns_whole s subsets columns e,
       ltb-false _ _ g.0,
-      subst (λ b. AreColumns (length (s ∷ subsets)) columns b) bits_are
+      subst
+          (λ b. AreColumns (length (s ∷ subsets)) columns b) bits_are
           (subst
           (λ l. AreColumns l columns (flat_map (λ c. best c.spec c.values) columns)) size are),
     )

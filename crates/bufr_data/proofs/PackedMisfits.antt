@@ -20,7 +20,7 @@ use Rattle.bufr_data.specs.Fits.{FitsAlone}
 use Rattle.bufr_data.specs.ColumnCauses.{FirstUnpacked, misfit, apart, too_many}
 use Rattle.bufr_data.proofs.FitFacts.{counted_fit, fitting_counted}
 use Rattle.bufr_data.proofs.CauseFacts.{write_refused_first, first_write_refused}
-use Rattle.bufr_data.proofs.ColumnRefusals.{guard_err}
+use Rattle.bufr_data.proofs.AnswerFacts.{guard_err}
 use Rattle.bufr_data.proofs.PackedFacts.{columns_whole, each_fit}
 use Rattle.bufr_data.proofs.WrittenColumns.{subsets_can, columns_written, each_counted}
 use Rattle.bufr_data.proofs.MisfitFacts.{columns_apart, apart_columns}

@@ -116,6 +116,24 @@ pub texts_no_width : (n i : ℕ) (spec : Spec) (front mid : List Bool) (b : ℕ)
 texts_no_width n i spec front mid b is size long left none =
     rw (minimum_there spec front mid b is size long left, none) refl
 
+-- a minimum of texts and a width stand at the front, and these bits are left
+pub record TextHead (spec : Spec) (front : List Bool) (k : ℕ) (rest : List Bool) : Type 0 where
+  pub own : List ℕ
+  pub mid : List Bool
+  pub minimum : raw_at spec front ≡ Some (Text own, mid)
+  pub width : number_at 6 mid ≡ Some (k, rest)
+
+-- so they do where they are read
+pub text_head : (spec : Spec) (front mid : List Bool) (b k : ℕ) (rest : List Bool)
+    → spec.kind ≡ kinds.Text → b ≡ spec.width / 8 * 8 → b ≤ length front → mid ≡ drop b front
+    → number_at 6 mid ≡ Some (k, rest) → TextHead spec front k rest
+text_head spec front mid b k rest is size long left found = record {
+  own = numbers (spec.width / 8) 8 front;
+  mid = mid;
+  minimum = minimum_there spec front mid b is size long left;
+  width = found;
+}
+
 -- texts of more octets than the field are refused
 wide_values : (n i : ℕ) (spec : Spec) (own : List ℕ) (k : ℕ) (rest : List Bool) → spec.width / 8 < k
     → values_at n i spec (Text own) k rest ≡ Err (faults.CharIncrement i)
@@ -123,13 +141,11 @@ wide_values n i spec own zero rest lt = absurd (omega (arith, lt))
 wide_values n i spec own (suc k) rest lt = rw (lt-ltb (spec.width / 8) (suc k) lt) refl
 
 -- so is a column of such texts
-pub texts_too_wide : (n i : ℕ) (spec : Spec) (front mid : List Bool) (b k : ℕ) (rest : List Bool)
-    → spec.kind ≡ kinds.Text → b ≡ spec.width / 8 * 8 → b ≤ length front → mid ≡ drop b front
-    → number_at 6 mid ≡ Some (k, rest) → spec.width / 8 < k
+pub texts_too_wide : (n i : ℕ) (spec : Spec) (front : List Bool) (k : ℕ) (rest : List Bool)
+    → TextHead spec front k rest → spec.width / 8 < k
     → column_at n i spec front ≡ Err (faults.CharIncrement i)
-texts_too_wide n i spec front mid b k rest is size long left found lt =
-    rw (minimum_there spec front mid b is size long left, found)
-    (wide_values n i spec (numbers (spec.width / 8) 8 front) k rest lt)
+texts_too_wide n i spec front k rest h lt =
+    rw (h.minimum, h.width) (wide_values n i spec h.own k rest lt)
 
 -- texts that are not all there end the data
 short_values : (n i : ℕ) (spec : Spec) (own : List ℕ) (k : ℕ) (rest : List Bool) (b : ℕ)
@@ -142,13 +158,11 @@ short_values n i spec own (suc k) rest b le size short =
     rw (le-ltb (spec.width / 8) (suc k) le, texts_none n (suc k) rest less) refl
 
 -- so does a column of such texts
-pub texts_end : (n i : ℕ) (spec : Spec) (front mid : List Bool) (b k : ℕ) (rest : List Bool) (c : ℕ)
-    → spec.kind ≡ kinds.Text → b ≡ spec.width / 8 * 8 → b ≤ length front → mid ≡ drop b front
-    → number_at 6 mid ≡ Some (k, rest) → k ≤ spec.width / 8 → c ≡ n * (k * 8) → length rest < c
+pub texts_end : (n i : ℕ) (spec : Spec) (front : List Bool) (k : ℕ) (rest : List Bool) (c : ℕ)
+    → TextHead spec front k rest → k ≤ spec.width / 8 → c ≡ n * (k * 8) → length rest < c
     → column_at n i spec front ≡ Err (faults.DataEnds 0 i)
-texts_end n i spec front mid b k rest c is size long left found le times short =
-    rw (minimum_there spec front mid b is size long left, found)
-    (short_values n i spec (numbers (spec.width / 8) 8 front) k rest c le times short)
+texts_end n i spec front k rest c h le times short =
+    rw (h.minimum, h.width) (short_values n i spec h.own k rest c le times short)
 
 -- texts that are there have values
 long_values : (n i : ℕ) (spec : Spec) (own : List ℕ) (k : ℕ) (rest : List Bool) (b : ℕ)
@@ -166,17 +180,12 @@ long_values n i spec own (suc k) rest b le size long =
     )
 
 -- so a column of them is passed
-pub texts_pass : (n i : ℕ) (spec : Spec) (front mid : List Bool) (b k : ℕ) (rest : List Bool)
-    (c : ℕ) (last : List Bool) → spec.kind ≡ kinds.Text → b ≡ spec.width / 8 * 8 → b ≤ length front
-    → mid ≡ drop b front → number_at 6 mid ≡ Some (k, rest) → k ≤ spec.width / 8 → c ≡ n * (k * 8)
+pub texts_pass : (n i : ℕ) (spec : Spec) (front : List Bool) (k : ℕ) (rest : List Bool) (c : ℕ)
+    (last : List Bool) → TextHead spec front k rest → k ≤ spec.width / 8 → c ≡ n * (k * 8)
     → c ≤ length rest → last ≡ drop c rest → PassesColumn n i spec front last
-texts_pass n i spec front mid b k rest c last is size long left found le times enough behind =
-    let values =
-    long_values n i spec (numbers (spec.width / 8) 8 front) k rest c le times enough in (
-      values.0,
-      rw (minimum_there spec front mid b is size long left, found)
-          (values.1 ∙ ap (λ xs. Ok (values.0, xs)) (sym behind)),
-    )
+texts_pass n i spec front k rest c last h le times enough behind =
+    let values = long_values n i spec h.own k rest c le times enough in
+    (values.0, rw (h.minimum, h.width) (values.1 ∙ ap (λ xs. Ok (values.0, xs)) (sym behind)))
 
 -- ---- numbers
 
@@ -352,8 +361,8 @@ factor_equal n i spec front m k rest count some e none =
     let found = numbers_equal n i spec front m k rest (no_text spec.kind count) e none in (
       replicate n (Number m),
       factor_read n i spec front (replicate n (Number m)) rest found
-          (all_equal_again (Number m) (replicate n (Number m))
-          (all_replicated (λ v. v ≡ Number m) n (Number m) refl)),
+          (all_equal_again (Number m) (replicate n (Number m)) (all_replicated (λ v. v ≡ Number m) n
+          (Number m) refl)),
       count_replicated n m some,
     )
 

@@ -1,6 +1,6 @@
 -- The index keeps a place for each column that is read, one by one along the course: for the index
 -- of compressed data (`Columns::index`).
-use Rattle.std.proofs.Common.{◌≡◌, ℕ, zero, suc, ◌+◌, ◌*◌, ◌^◌, ◌<◌, ◌≤◌, Bool, true, false, cond}
+use Rattle.std.proofs.Common.{inl, inr, ◌≡◌, ℕ, zero, suc, ◌+◌, ◌*◌, ◌^◌, ◌<◌, ◌≤◌, Bool, true}
 use Rattle.std.proofs.Common.{List, [], ◌∷◌, ◌++◌, length, map, drop, Some, None, Result, Ok, Err}
 use Rattle.std.proofs.Common.{refl, sym, ap, subst, ◌∙◌, arith, append_assoc, length-append}
 use Rattle.std.specs.Prelude.{IsOk, nat_lt}
@@ -11,7 +11,7 @@ use Rattle.bufr_bits.specs.BitLaws.{length-bin}
 use Rattle.bufr_tables.specs.Answers.{◌>>=◌}
 use Rattle.bufr_tables.specs.declared.element.Kind.TheVariants as kinds
 use Rattle.bufr_tables.specs.Elements.{same_kind}
-use Rattle.bufr_tables.specs.AnswerLaws.{bind_ok}
+use Rattle.bufr_tables.specs.AnswerLaws.{guard_ok}
 use Rattle.bufr_expand.specs.declared.operators.Spec.{Spec}
 use Rattle.bufr_expand.specs.declared.walk.Step.TheVariants as steps
 use Rattle.bufr_expand.specs.declared.walk.Walk.{Walk}
@@ -36,7 +36,8 @@ use Rattle.bufr_data.proofs.KindFacts.{kinds_differ}
 use Rattle.bufr_data.proofs.ListFacts.{map_grown}
 use Rattle.bufr_data.proofs.StepFacts.{Asks, GoesOn, field_goes, count_goes}
 use Rattle.bufr_data.proofs.ColumnFacts.{column_found, column_again}
-use Rattle.bufr_data.proofs.ColumnWalks.{agreed, agreeing_again}
+use Rattle.bufr_data.proofs.AnswerFacts.{guard_err}
+use Rattle.bufr_data.proofs.ColumnWalks.{agreed_found, agreeing_again}
 use Rattle.bufr_data.specs.Limits.{most_values}
 use Rattle.bufr_data.specs.StepLaws.{asks_field, asks_count, ends_there, stops_there}
 
@@ -76,7 +77,8 @@ place_inside octets n bit spec x e =
       arith,
       size,
       column_bits spec x.0 found.0 found.2,
-      length-drop bit (bits octets),
+      length-drop bit
+          (bits octets),
       length-fields 8 octets,
     )
 
@@ -85,24 +87,16 @@ place_inside octets n bit spec x e =
 -- within the limit on values the answer is what is behind it
 within_is : {A : Type 0} (n i : ℕ) (r : Result A ReadFault)
     → within_limit {A = Unit {0}} n i (Ok tt) ≡ Ok tt → within_limit n i r ≡ r
-within_is n i r e = within_by (nat_lt most_values (i * n)) r e
-  where
-    within_by : {A : Type 0} (b : Bool) (r : Result A ReadFault)
-        → ◌≡◌ {A = Result (Unit {0}) ReadFault} (cond b (Err faults.TooLarge) (Ok tt)) (Ok tt)
-        → cond b (Err faults.TooLarge) r ≡ r
-    within_by true r e = absurd cc
-    within_by false r e = refl
+within_is n i r e = rw (guard_ok (nat_lt most_values (i * n)) _ _ tt e).0 refl
 
 -- past this limit it is its fault
 past_is : {A : Type 0} (n i : ℕ) (r : Result A ReadFault) (fault : ReadFault)
     → within_limit {A = Unit {0}} n i (Ok tt) ≡ Err fault → within_limit n i r ≡ Err fault
-past_is n i r fault e = past_by (nat_lt most_values (i * n)) r fault e
-  where
-    past_by : {A : Type 0} (b : Bool) (r : Result A ReadFault) (fault : ReadFault)
-        → ◌≡◌ {A = Result (Unit {0}) ReadFault} (cond b (Err faults.TooLarge) (Ok tt)) (Err fault)
-        → cond b (Err faults.TooLarge) r ≡ Err fault
-    past_by true r fault e = let same : faults.TooLarge ≡ fault = cc in ap (λ f. Err f) same
-    past_by false r fault e = absurd cc
+past_is n i r fault e =
+    elim (guard_err (nat_lt most_values (i * n)) faults.TooLarge fault _ e) [
+      | inl past ↦ rw past.0 (ap (λ f. Err f) past.1)
+      | inr none ↦ let bad = none.1 in absurd cc
+    ]
 
 -- a column that a course asks for is tested for the limit and read
 asked_at : (n i met d : ℕ) (spec : Spec) (more : ℕ → Course) (front : List Bool)
@@ -162,9 +156,7 @@ one_agreed : (c later : Course) (octets : List ℕ) (n i d bit : ℕ) (spec : Sp
     → front ≡ drop bit (bits octets)
     → PassesPlace n i c octets front (Some (record { fxy = d; spec = spec; bit = bit })) later rest
 one_agreed c later octets n i d bit spec front rest values on room e is =
-    let a = bind_ok (column_at n i spec front) _ (values, rest) e in
-    let same = agreed i spec a.0 (values, rest) a.2 in
-    let read : column_at n i spec front ≡ Ok (values, rest) = a.1 ∙ ap (λ x. Ok x) same.0 in
+    let read = (agreed_found n i spec front (values, rest) e).0 in
     let there : column_at n 1 spec (drop bit (bits octets)) ≡ Ok (values, rest) =
     open_place octets n i bit d spec front (values, rest) read is in
     let place : Place = record { fxy = d; spec = spec; bit = bit } in

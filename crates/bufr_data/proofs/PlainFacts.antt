@@ -211,8 +211,8 @@ pub fields_at-found : (j i : ℕ) (c : Course) (front : List Bool) (f : SubsetRe
     → (items_of j i c f.fields ≡ Ok f.items) × (front ≡ plain f.fields ++ f.rest)
 unfolding items_of fields_at
 fields_at-found j i (ends n) front f e =
-    subst (λ (h : SubsetRead). IsFound j i (ends n) front h)
-    (ok_is (record { fields = []; items = n; rest = front }) f e) (refl, refl)
+    subst (λ (h : SubsetRead). IsFound j i (ends n) front h) (ok_is
+    (record { fields = []; items = n; rest = front }) f e) (refl, refl)
 fields_at-found j i (stops met fault) front f e = absurd (not_stopped fault f e)
 fields_at-found j i (asks met d spec more) front f e =
     field_found j i met d spec more front _ f refl

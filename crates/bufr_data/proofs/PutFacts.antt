@@ -38,7 +38,9 @@ use Rattle.bufr_data.specs.Places.{greatest_step}
 use Rattle.bufr_data.specs.Subsets.{Extends, have_form, has_own_form}
 use Rattle.bufr_data.proofs.ColumnFacts.{increments_fit}
 use Rattle.bufr_data.proofs.PackedFacts.{taken, like_is}
-use Rattle.bufr_data.proofs.RangeFacts.{filter_push, least_push, greatest_push}
+use Rattle.std.proofs.lemmas.List.Elements.{All-get_or, filter-append}
+use Rattle.std.proofs.lemmas.List.Sums.{AllPass-from_list_all}
+use Rattle.bufr_data.proofs.RangeFacts.{least_push, greatest_push}
 use Rattle.bufr_data.proofs.RowFacts.{are_here, rows_next}
 use Rattle.bufr_data.proofs.WriteFacts.{counted_forms}
 use Rattle.bufr_data.proofs.BestFacts.{best_parts, difference_fits, number_back, or_false}
@@ -47,7 +49,7 @@ use Rattle.bufr_data.proofs.ListFacts.{front_is, left_is, map_grown, put_grown}
 use Rattle.bufr_data.specs.Limits.{most_values}
 use Rattle.bufr_data.specs.FormLaws.{below_is, form_is}
 
--- ---- lists that grow at their end
+-- ---- bits that stay
 
 -- bits that stay through two steps stay
 pub kept_more : (old mid new : List Bool) → Extends old mid → Extends mid new → Extends old new
@@ -84,7 +86,7 @@ pub present_more : {X : Type 0} → (extreme : List ℕ → X) (step : X → ℕ
 present_more extreme step width more ns i found less so_far =
     let x = get_or ns i 0 in
     ap (λ o. step o x) so_far ∙ more (present width (take i ns)) x _ refl
-    ∙ sym (ap extreme (filter_push (λ n. not (all_ones width n)) (take i ns) x))
+    ∙ sym (ap extreme (filter-append (λ n. not (all_ones width n)) (take i ns) (x ∷ [])))
     ∙ ap (λ xs. extreme (present width xs)) (sym (take_more ns i 0 less))
 
 -- minimum, width and increments fit the fields that they are put in
@@ -130,25 +132,29 @@ put_step f xs grown x old head mid new is so_far put =
 
 -- ---- values at a place
 
--- the values of a place in the subsets at the front, with the one there
-pub values_more : (f : Field) (place : ℕ) (others : List Subset) (i : ℕ) (s : Subset)
-    → i < length others → s ≡ get_or others i s
-    → values_from f (rows_from place (take (i + 1) others))
-    ≡ values_from f (rows_from place (take i others)) ++ first_raw (drop place s.fields) ∷ []
-values_more f place others i s less is =
-    let rows =
-    map_grown (λ (t : Subset). drop place t.fields) (take i others) (take (i + 1) others) s
+-- a view of the values of a place in the subsets at the front, with the one there
+pub values_more : {X : Type 0} → (view : Raw → X) (f : Field) (place : ℕ) (others : List Subset)
+    (i : ℕ) (s : Subset) → i < length others → s ≡ get_or others i s
+    → map view (values_from f (rows_from place (take (i + 1) others)))
+    ≡ map view (values_from f (rows_from place (take i others)))
+    ++ view (first_raw (drop place s.fields)) ∷ []
+values_more view f place others i s less is =
+    let rows = map_grown (λ (t : Subset). drop place t.fields) (take i others)
+    (take (i + 1) others) s
     (front_is others i s less is) in
-    ap (λ vs. f.raw ∷ vs) (map_grown first_raw (rows_from place (take i others))
-    (rows_from place (take (i + 1) others)) (drop place s.fields) rows)
+    let raws = map_grown first_raw (rows_from place (take i others))
+    (rows_from place (take (i + 1) others)) (drop place s.fields) rows in
+    map_grown view (values_from f (rows_from place (take i others)))
+    (values_from f (rows_from place (take (i + 1) others))) (first_raw (drop place s.fields))
+    (ap (λ vs. f.raw ∷ vs) raws)
 
 -- values that differ and can be a column are narrow
 short_of : (spec : Spec) (values : List Raw) → can_be_column spec values ≡ true
     → all_equal values ≡ false → widest spec ≤ 63
 short_of spec values can e =
     let differ = or_false (all_equal values) (can_differ spec) can e in
-    leb-true _ _
-    (and_parts (not (same_kind spec.kind kinds.Count)) (nat_le (widest spec) 63) differ).1
+    leb-true _ _ (and_parts (not (same_kind spec.kind kinds.Count))
+    (nat_le (widest spec) 63) differ).1
 
 -- numbers then have 63 bits at most
 pub short_numbers : (spec : Spec) (values : List Raw) → can_be_column spec values ≡ true
@@ -212,12 +218,10 @@ row_forms place (s ∷ subsets) e =
 -- so has the field at an index
 pub own_at : (fields : List Field) (k : ℕ) (f : Field) → k < length fields → f ≡ get_or fields k f
     → list_all has_own_form fields ≡ true → has_own_form f ≡ true
-own_at [] k f less is e = absurd (omega (arith, less))
-own_at (g ∷ fields) zero f less is e =
-    ap has_own_form is ∙ (and_parts (has_own_form g) (list_all has_own_form fields) e).0
-own_at (g ∷ fields) (suc k) f less is e =
-    own_at fields k f (omega (arith, less)) is
-    (and_parts (has_own_form g) (list_all has_own_form fields) e).1
+own_at fields k f less is e =
+    ap has_own_form is
+    ∙ All-get_or (λ g. has_own_form g ≡ true) fields k f less
+    (AllPass-from_list_all has_own_form fields e)
 
 -- ---- one place after the other
 
@@ -268,9 +272,8 @@ pub columns_step : (fields : List Field) (others : List Subset) (place : ℕ) (f
     → PlaceHere f (drop (place + 1) fields) others place
 columns_step fields others place f less is can =
     place_here f (drop (place + 1) fields) others place _
-    (subst
-    (λ fs. columns_of (place + 1) fs (rows_from place others)
-    ≡ Ok (columns_here fs (rows_from place others))) (left_is fields place f less is) can)
+    (subst (λ fs. columns_of (place + 1) fs (rows_from place others) ≡ Ok
+    (columns_here fs (rows_from place others))) (left_is fields place f less is) can)
 
 -- ---- each subset fits
 
@@ -398,9 +401,21 @@ fewest_later k d whole less more so_far =
 
 -- ---- subsets as their first one and the others
 
+-- the first of subsets, where there is one
+abbrev pub first_in : List Subset → Subset → Subset
+first_in subsets d = get_or subsets 0 d
+
+-- those behind it
+abbrev pub others_in : List Subset → List Subset
+others_in subsets = take (length subsets - 1) (drop 1 subsets)
+
+-- the columns of their places
+abbrev pub columns_in : List Subset → Subset → List Column
+columns_in subsets d = columns_here (first_in subsets d).fields (rows_from 0 (others_in subsets))
+
 -- subsets that are some are the first and the others
-pub whole_is : (subsets : List Subset) (d : Subset) → (length subsets == 0) ≡ false
-    → subsets ≡ get_or subsets 0 d ∷ take (length subsets - 1) (drop 1 subsets)
+whole_is : (subsets : List Subset) (d : Subset) → (length subsets == 0) ≡ false
+    → subsets ≡ first_in subsets d ∷ others_in subsets
 whole_is [] d some = absurd cc
 whole_is (s ∷ subsets) d some =
     let all : length subsets ≤ suc (length subsets) - 1 = omega arith in
@@ -414,41 +429,43 @@ length_here [] rows = refl
 length_here (f ∷ fs) rows = ap suc (length_here fs (map (drop 1) rows))
 
 -- with too many values nothing is written
-pub written_past : (tree : Tree) (subsets others : List Subset) (s : Subset) (u : Unit {0})
-    → each_fits tree 1 subsets ≡ Ok u → subsets ≡ s ∷ others
-    → columns_of 1 s.fields (rows_from 0 others) ≡ Ok (columns_here s.fields (rows_from 0 others))
-    → most_values < length s.fields * length subsets
+pub written_past : (tree : Tree) (subsets : List Subset) (d : Subset) (u : Unit {0})
+    → (length subsets == 0) ≡ false → each_fits tree 1 subsets ≡ Ok u
+    → columns_of 1 (first_in subsets d).fields (rows_from 0 (others_in subsets))
+    ≡ Ok (columns_in subsets d)
+    → most_values < length (first_in subsets d).fields * length subsets
     → written_bits tree true subsets ≡ Err misfits.TooLarge
-written_past tree subsets others s u fit is can past =
-    let cs = columns_here s.fields (rows_from 0 others) in
-    let all : columns_of_all subsets ≡ Ok cs = ap columns_of_all is ∙ can in
+written_past tree subsets d u some fit can past =
+    let cs = columns_in subsets d in
+    let all : columns_of_all subsets ≡ Ok cs = ap columns_of_all (whole_is subsets d some) ∙ can in
     let lt : most_values < length cs * length subsets =
     subst (λ n. most_values < n * length subsets)
-    (sym (length_here s.fields (rows_from 0 others))) past in
+    (sym (length_here (first_in subsets d).fields (rows_from 0 (others_in subsets)))) past in
     rw (fit, all, lt-ltb most_values (length cs * length subsets) lt) refl
 
 -- else the best columns are
-pub written_whole : (tree : Tree) (subsets others : List Subset) (s : Subset) (u : Unit {0})
-    → each_fits tree 1 subsets ≡ Ok u → subsets ≡ s ∷ others
-    → columns_of 1 s.fields (rows_from 0 others) ≡ Ok (columns_here s.fields (rows_from 0 others))
-    → length s.fields * length subsets ≤ most_values
-    → written_bits tree true subsets ≡ Ok (best_bits (columns_here s.fields (rows_from 0 others)))
-written_whole tree subsets others s u fit is can room =
-    let cs = columns_here s.fields (rows_from 0 others) in
-    let all : columns_of_all subsets ≡ Ok cs = ap columns_of_all is ∙ can in
+pub written_whole : (tree : Tree) (subsets : List Subset) (d : Subset) (u : Unit {0})
+    → (length subsets == 0) ≡ false → each_fits tree 1 subsets ≡ Ok u
+    → columns_of 1 (first_in subsets d).fields (rows_from 0 (others_in subsets))
+    ≡ Ok (columns_in subsets d)
+    → length (first_in subsets d).fields * length subsets ≤ most_values
+    → written_bits tree true subsets ≡ Ok (best_bits (columns_in subsets d))
+written_whole tree subsets d u some fit can room =
+    let cs = columns_in subsets d in
+    let all : columns_of_all subsets ≡ Ok cs = ap columns_of_all (whole_is subsets d some) ∙ can in
     let le : length cs * length subsets ≤ most_values =
     subst (λ n. n * length subsets ≤ most_values)
-    (sym (length_here s.fields (rows_from 0 others))) room in
+    (sym (length_here (first_in subsets d).fields (rows_from 0 (others_in subsets)))) room in
     rw (fit, all, le-ltb most_values (length cs * length subsets) le) refl
 
 -- the first subset and the others have raw values of their form
-pub first_forms : (tree : Tree) (subsets others : List Subset) (s : Subset) (u : Unit {0})
-    → each_fits tree 1 subsets ≡ Ok u → subsets ≡ s ∷ others
-    → (list_all has_own_form s.fields ≡ true)
-    × (list_all (λ (t : Subset). list_all has_own_form t.fields) others ≡ true)
-first_forms tree subsets others s u fit is =
-    and_parts (list_all has_own_form s.fields) _
-    (ap (list_all (λ (t : Subset). list_all has_own_form t.fields)) (sym is)
+pub first_forms : (tree : Tree) (subsets : List Subset) (d : Subset) (u : Unit {0})
+    → (length subsets == 0) ≡ false → each_fits tree 1 subsets ≡ Ok u
+    → (list_all has_own_form (first_in subsets d).fields ≡ true)
+    × (list_all (λ (t : Subset). list_all has_own_form t.fields) (others_in subsets) ≡ true)
+first_forms tree subsets d u some fit =
+    and_parts (list_all has_own_form (first_in subsets d).fields) _
+    (ap (list_all (λ (t : Subset). list_all has_own_form t.fields)) (sym (whole_is subsets d some))
     ∙ each_has_form tree 1 subsets u fit)
 
 -- minimum, width and the first text of a column

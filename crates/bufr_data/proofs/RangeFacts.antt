@@ -1,20 +1,7 @@
 -- The least and the greatest of numbers, one after the other: for `write_compressed`.
-use Rattle.std.proofs.Common.{◌≡◌, ℕ, Bool, true, false, cond, List, [], ◌∷◌, ◌++◌, refl, ap, arith}
-use Rattle.std.specs.Prelude.{min, max, filter}
+use Rattle.std.proofs.Common.{◌≡◌, ℕ, List, [], ◌∷◌, ◌++◌, arith}
+use Rattle.std.specs.Prelude.{min, max}
 use Rattle.bufr_data.specs.BestColumns.{least_with, greatest}
-
--- the step of `filter_push`
-kept_by : (p : ℕ → Bool) (n : ℕ) (ns ms : List ℕ) (end : List ℕ) (b : Bool)
-    → ms ≡ filter p ns ++ end → cond b (n ∷ ms) ms ≡ cond b (n ∷ filter p ns) (filter p ns) ++ end
-kept_by p n ns ms end true e = ap (λ xs. n ∷ xs) e
-kept_by p n ns ms end false e = e
-
--- what is kept of numbers with one more
-pub filter_push : (p : ℕ → Bool) (ns : List ℕ) (x : ℕ)
-    → filter p (ns ++ x ∷ []) ≡ filter p ns ++ cond (p x) (x ∷ []) []
-filter_push p [] x = refl
-filter_push p (n ∷ ns) x =
-    kept_by p n ns (filter p (ns ++ x ∷ [])) (cond (p x) (x ∷ []) []) (p n) (filter_push p ns x)
 
 -- the least with one more
 pub least_push : (n : ℕ) (ms : List ℕ) (x : ℕ)

@@ -101,8 +101,8 @@ pub next_fails : (place : ℕ) (f : Field) (fs : List Field) (others : List Subs
     → columns_of (place + 1) (f ∷ fs) (rows_from place others) ≡ Err fault
 unfolding columns_of
 next_fails place f fs others fault e fails =
-    column_behind (place + 1) _ _ _ fault e
-    (ap (columns_of (place + 1 + 1) fs) (rows_next place others) ∙ fails)
+    column_behind (place + 1) _ _ _ fault e (ap (columns_of (place + 1 + 1) fs)
+    (rows_next place others) ∙ fails)
 
 -- so it is at a field of the first subset
 pub next_passes : (place : ℕ) (f : Field) (fs : List Field) (others : List Subset)

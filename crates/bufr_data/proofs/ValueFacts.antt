@@ -7,7 +7,7 @@ use Rattle.std.specs.Prelude.{◌==◌, option_map}
 use Rattle.std.specs.List.{list_all}
 use Rattle.std.proofs.lemmas.Bool.{le-ltb, lt-ltb, le-leb}
 use Rattle.std.proofs.lemmas.List.{length-drop, replicate-append-replicate, take_all}
-use Rattle.bufr_bits.specs.Bits.{bits, numbers, number_at, octets_at}
+use Rattle.bufr_bits.specs.Bits.{bits, number_at, octets_at}
 use Rattle.bufr_bits.specs.BitLaws.{number_at-bin}
 use Rattle.bufr_bits.specs.NumberLaws.{numbers_at_found}
 use Rattle.bufr_tables.specs.declared.element.Kind.TheVariants as kinds
@@ -23,7 +23,7 @@ use Rattle.bufr_data.specs.ColumnReading.{filled}
 use Rattle.bufr_data.specs.Indexed.{values_of, read_at, Opens, one_behind, one_at}
 use Rattle.bufr_data.proofs.ColumnFacts.{column_found, head_read, ones_of}
 use Rattle.bufr_data.proofs.IndexFacts.{one_value}
-use Rattle.bufr_data.proofs.PassFacts.{octets_none, minimum_there, text_raw, number_raw}
+use Rattle.bufr_data.proofs.PassFacts.{octets_none, minimum_there, TextHead, text_raw, number_raw}
 
 -- ---- texts
 
@@ -43,13 +43,10 @@ text_without_width spec index front mid b is size long left none =
     rw (minimum_there spec front mid b is size long left, none) refl
 
 -- behind both the value is read at its place
-behind_width : (spec : Spec) (index : ℕ) (front mid : List Bool) (b k : ℕ) (rest : List Bool)
-    → spec.kind ≡ kinds.Text → b ≡ spec.width / 8 * 8 → b ≤ length front → mid ≡ drop b front
-    → number_at 6 mid ≡ Some (k, rest)
-    → one_at spec index front
-    ≡ one_behind spec (Text (numbers (spec.width / 8) 8 front)) k index rest
-behind_width spec index front mid b k rest is size long left found =
-    rw (minimum_there spec front mid b is size long left, found) refl
+behind_width : (spec : Spec) (index : ℕ) (front : List Bool) (k : ℕ) (rest : List Bool)
+    → (h : TextHead spec front k rest)
+    → one_at spec index front ≡ one_behind spec (Text h.own) k index rest
+behind_width spec index front k rest h = rw (h.minimum, h.width) refl
 
 -- texts of more octets than the field have none
 wide_behind : (spec : Spec) (own : List ℕ) (k index : ℕ) (rest : List Bool) → spec.width / 8 < k
@@ -58,13 +55,10 @@ wide_behind spec own zero index rest lt = absurd (omega (arith, lt))
 wide_behind spec own (suc k) index rest lt = rw (lt-ltb (spec.width / 8) (suc k) lt) refl
 
 -- nor has a column of such texts
-pub text_too_wide : (spec : Spec) (index : ℕ) (front mid : List Bool) (b k : ℕ) (rest : List Bool)
-    → spec.kind ≡ kinds.Text → b ≡ spec.width / 8 * 8 → b ≤ length front → mid ≡ drop b front
-    → number_at 6 mid ≡ Some (k, rest) → spec.width / 8 < k → None ≡ one_at spec index front
-text_too_wide spec index front mid b k rest is size long left found lt =
-    sym
-    (behind_width spec index front mid b k rest is size long left found
-    ∙ wide_behind spec (numbers (spec.width / 8) 8 front) k index rest lt)
+pub text_too_wide : (spec : Spec) (index : ℕ) (front : List Bool) (k : ℕ) (rest : List Bool)
+    → TextHead spec front k rest → spec.width / 8 < k → None ≡ one_at spec index front
+text_too_wide spec index front k rest h lt =
+    sym (behind_width spec index front k rest h ∙ wide_behind spec h.own k index rest lt)
 
 -- a text is there exactly where its octets are
 text_behind : (spec : Spec) (own : List ℕ) (k index : ℕ) (rest : List Bool) → (k ≡ 0 → ⊥)
@@ -82,30 +76,25 @@ nothing_there k c rest some short =
     omega (arith, length-drop c rest, short, some) in octets_none k (drop c rest) less
 
 -- so a text past the end has no value
-pub text_past : (spec : Spec) (index : ℕ) (front mid : List Bool) (b k : ℕ) (rest : List Bool)
-    (c : ℕ) → spec.kind ≡ kinds.Text → b ≡ spec.width / 8 * 8 → b ≤ length front
-    → mid ≡ drop b front → number_at 6 mid ≡ Some (k, rest) → (k ≡ 0 → ⊥) → k ≤ spec.width / 8
-    → c ≡ index * (k * 8) → length rest < c → None ≡ one_at spec index front
-text_past spec index front mid b k rest c is size long left found some le times short =
+pub text_past : (spec : Spec) (index : ℕ) (front : List Bool) (k : ℕ) (rest : List Bool) (c : ℕ)
+    → TextHead spec front k rest → (k ≡ 0 → ⊥) → k ≤ spec.width / 8 → c ≡ index * (k * 8)
+    → length rest < c → None ≡ one_at spec index front
+text_past spec index front k rest c h some le times short =
     sym
-    (behind_width spec index front mid b k rest is size long left found
-    ∙ text_behind spec (numbers (spec.width / 8) 8 front) k index rest some le
+    (behind_width spec index front k rest h ∙ text_behind spec h.own k index rest some le
     ∙ ap (λ m. option_map (λ x. filled (spec.width / 8) x.0) (octets_at k (drop m rest)))
     (sym times)
     ∙ ap (option_map (λ x. filled (spec.width / 8) x.0)) (nothing_there k c rest some short))
 
 -- a text that is there has its value
-pub text_there_is : (spec : Spec) (index : ℕ) (front mid : List Bool) (b k : ℕ) (rest : List Bool)
-    (c : ℕ) (last : List Bool) (o : Option (List ℕ × List Bool)) → spec.kind ≡ kinds.Text
-    → b ≡ spec.width / 8 * 8 → b ≤ length front → mid ≡ drop b front
-    → number_at 6 mid ≡ Some (k, rest) → (k ≡ 0 → ⊥) → k ≤ spec.width / 8 → c ≡ index * (k * 8)
-    → last ≡ drop c rest → octets_at k last ≡ o
+pub text_there_is : (spec : Spec) (index : ℕ) (front : List Bool) (k : ℕ) (rest : List Bool) (c : ℕ)
+    (last : List Bool) (o : Option (List ℕ × List Bool)) → TextHead spec front k rest
+    → (k ≡ 0 → ⊥) → k ≤ spec.width / 8 → c ≡ index * (k * 8) → last ≡ drop c rest
+    → octets_at k last ≡ o
     → option_map (λ x. filled (spec.width / 8) x.0) o ≡ one_at spec index front
-text_there_is spec index front mid b k rest c last o is size long left found some le times behind
-    there =
+text_there_is spec index front k rest c last o h some le times behind there =
     sym
-    (behind_width spec index front mid b k rest is size long left found
-    ∙ text_behind spec (numbers (spec.width / 8) 8 front) k index rest some le
+    (behind_width spec index front k rest h ∙ text_behind spec h.own k index rest some le
     ∙ ap (λ m. option_map (λ x. filled (spec.width / 8) x.0) (octets_at k (drop m rest)))
     (sym times)
     ∙ ap (λ xs. option_map (λ x. filled (spec.width / 8) x.0) (octets_at k xs)) (sym behind)

@@ -172,8 +172,8 @@ pub subsets_fail : (course : ℕ → Course) (k used : ℕ) (subsets : List Subs
     → Fails e (result_map (λ items. plain_subsets subsets) whole)
 subsets_fail course k used subsets s whole OutOfMemory h is so_far fails = tt
 subsets_fail course k used subsets s whole (Fault f) h is so_far fails =
-    ap (result_map (λ items. plain_subsets subsets))
-    (so_far ∙ ap (λ ss. items_of_all course (k + 1) used ss) (left_is subsets k s h is)
+    ap (result_map (λ items. plain_subsets subsets)) (so_far
+    ∙ ap (λ ss. items_of_all course (k + 1) used ss) (left_is subsets k s h is)
     ∙ one_fails course (k + 1) used s (drop (k + 1) subsets) (Fault f) fails)
 
 -- at the end all are written

@@ -56,9 +56,9 @@ values_behind : (k m : ℕ) (c : Column) (cs : List Column) → length c.values 
     → map first_raw (fields_from k m (c ∷ cs)) ≡ drop k c.values
 values_behind k zero c cs size = sym (drop_all k c.values (omega (arith, size)))
 values_behind k (suc m) c cs size =
-    ap (λ vs. get_or c.values k (Number 0) ∷ vs)
-    (values_behind (k + 1) m c cs (omega (arith, size)))
-    ∙ sym (at_drop_more (λ (vs : List Raw). vs) c.values k (Number 0) (omega (arith, size)))
+    ap (λ vs. get_or c.values k (Number 0) ∷ vs) (values_behind (k + 1) m c cs
+    (omega (arith, size))) ∙ sym (at_drop_more (λ (vs : List Raw). vs) c.values k (Number 0)
+    (omega (arith, size)))
 
 -- columns each of which can be written are the columns of their subsets
 pub columns_written : (i m : ℕ) (columns : List Column)
@@ -69,8 +69,7 @@ columns_written i m [] all = rw (all_empty 1 m) refl
 columns_written i m (c ∷ cs) all =
     let here : get_or c.values 0 (Number 0) ∷ map first_raw (fields_from 1 m (c ∷ cs)) ≡ c.values =
     ap (λ vs. get_or c.values 0 (Number 0) ∷ vs) (values_behind 1 m c cs (omega (arith, all.0.0)))
-    ∙ sym
-    (at_drop_more (λ (vs : List Raw). vs) c.values 0 (Number 0) (omega (arith, all.0.0))) in
+    ∙ sym (at_drop_more (λ (vs : List Raw). vs) c.values 0 (Number 0) (omega (arith, all.0.0))) in
     let can : can_be_column c.spec
     (get_or c.values 0 (Number 0) ∷ map first_raw (fields_from 1 m (c ∷ cs)))
     ≡ true = ap (can_be_column c.spec) here ∙ all.0.1 in

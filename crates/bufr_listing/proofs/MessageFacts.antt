@@ -130,7 +130,7 @@ from_flags m others =
     m.subsets ++ codes "end" ∷ others
 
 -- the lines of a message in turn, and others
-abbrev pub in_turn : Message → List (List ℕ) → List (List ℕ)
+abbrev in_turn : Message → List (List ℕ) → List (List ℕ)
 in_turn m others =
     codes "message" ∷ section1_line m.head ∷ time_line m.head
     ∷ local_lines m.head.local ++ (section2_lines m.section2 ++ from_flags m others)

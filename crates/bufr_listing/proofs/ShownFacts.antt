@@ -1,7 +1,7 @@
 -- The lines of messages are the lines of their joined listings: for `listings_are_read_back`.
 use Rattle.std.proofs.Common.{◌≡◌, ℕ, zero, suc, ◌+◌, ◌-◌, ◌/◌, ◌%◌, ◌<◌, ◌≤◌, Bool, true, false}
 use Rattle.std.proofs.Common.{List, [], ◌∷◌, ◌++◌, length, map, get_or, codes, refl, sym, ap, ◌∙◌}
-use Rattle.std.proofs.Common.{subst, arith, append_assoc, ◌^◌}
+use Rattle.std.proofs.Common.{subst, arith, append_assoc}
 use Rattle.std.specs.Prelude.{◌==◌, ◌&&◌, decimal, IfSome, Option, Some, None, nat_le, nat_lt}
 use Rattle.std.specs.Prelude.{slice_index, pos, ◌+ℤ◌, Ok, if◌then◌else◌}
 use Rattle.std.specs.List.{flat_map, list_all, slice_split, AllByRecursion}
@@ -42,12 +42,13 @@ use Rattle.bufr_listing.specs.Lines.{texts}
 use Rattle.bufr_listing.specs.Lines.{is_skipped, lower_digit, as_printed, has_octets, first_word}
 use Rattle.bufr_listing.specs.Lines.{counting_from, counting_lines}
 use Rattle.bufr_listing.specs.Lines.{CanBeListed}
-use Rattle.bufr_listing.specs.Reading.{messages_listed}
+use Rattle.bufr_listing.specs.Reading.{section1_limits, time_limits, messages_listed}
 use Rattle.bufr_listing.proofs.PrintedFacts.{own_printed}
 use Rattle.bufr_listing.proofs.FieldFacts.{other_bytes, if_answered, IsPrintable, size_small}
 use Rattle.bufr_listing.proofs.FieldFacts.{number_small}
 use Rattle.bufr_listing.proofs.CourseFacts.{AsksPrintable, course_printable}
-use Rattle.bufr_listing.proofs.LineFacts.{word_then, six_word}
+use Rattle.bufr_listing.proofs.LineFacts.{AreShort, below_short, word_then, six_word}
+use Rattle.bufr_listing.proofs.MessageFacts.{head_below, limits_most, time_limits_most}
 use Rattle.bufr_listing.proofs.ListingFacts.{listings_joined}
 use Rattle.bufr_listing.proofs.OctetFacts.{passes_at}
 use Rattle.bufr_listing.proofs.TextFacts.{listed_read}
@@ -231,11 +232,10 @@ sections_shown (Some os) h = (section2_shown os (recursion_from_All IsOctet os h
 -- ---- numbers, flags, descriptors
 
 -- numbers print plain words
-decimals_plain : (ns : List ℕ) → AllByRecursion (λ n. n < 2 ^ 16) ns
-    → AllByRecursion (λ w. IsPlain w) (map decimal ns)
+decimals_plain : (ns : List ℕ) → AreShort ns → AllByRecursion (λ w. IsPlain w) (map decimal ns)
 decimals_plain [] h = tt
-decimals_plain (n ∷ ns) h = let below = h.0 in
-    (digits_plain (decimal n) (decimal_digits n (omega (arith, below))), decimals_plain ns h.1)
+decimals_plain (n ∷ ns) h =
+    (digits_plain (decimal n) (decimal_digits n h.0), decimals_plain ns h.1)
 
 -- the line of flags
 flags_shown : (observed compressed : Bool) → IsShown (flags_line observed compressed)
@@ -413,65 +413,31 @@ subsets_shown j used course (s ∷ subsets) n fit h =
 -- ---- messages
 
 -- a line of numbers is plain
-short_plain : (title ns : List ℕ) → list_all (λ c. nat_le 32 c) title ≡ true
-    → AllByRecursion (λ n. n < 2 ^ 16) ns → IsPlain (numbers_line title ns)
+short_plain : (title ns : List ℕ) → list_all (λ c. nat_le 32 c) title ≡ true → AreShort ns
+    → IsPlain (numbers_line title ns)
 short_plain title ns literal small =
     all_append Printable title (flat_map (λ w. 32 ∷ w) (map decimal ns))
     (literal_plain title literal) (plain_words (map decimal ns) (decimals_plain ns small))
-
--- a number of 8 bits has 16
-octet_short : (n : ℕ) → n < 256 → n < 2 ^ 16
-octet_short n h = omega arith
 
 -- the lines of section 1
 head_shown : (h : Head) → HeadFits h
     → IsShown (numbers_line (codes "section1") (section1_numbers h)) × IsShown
     (numbers_line (codes "time") (time_numbers h))
-head_shown h fits = (
-  record {
-    plain = short_plain (codes "section1") (section1_numbers h) refl (
-      fits.centre,
-      (
-        fits.sub_centre,
-        (
-          octet_short h.update fits.update,
-          (
-            octet_short h.category fits.category,
-            (
-              octet_short h.international fits.international,
-              (
-                octet_short h.local_category fits.local_category,
-                (
-                  octet_short h.master_version fits.master_version,
-                  (octet_short h.local_version fits.local_version, tt),
-                ),
-              ),
-            ),
-          ),
-        ),
-      ),
-    );
-    kept = refl;
-    own = refl;
-  },
-  record {
-    plain = short_plain (codes "time") (time_numbers h) refl (
-      fits.year,
-      (
-        octet_short h.month fits.month,
-        (
-          octet_short h.day fits.day,
-          (
-            octet_short h.hour fits.hour,
-            (octet_short h.minute fits.minute, (octet_short h.second fits.second, tt)),
-          ),
-        ),
-      ),
-    );
-    kept = refl;
-    own = refl;
-  },
-)
+head_shown h fits =
+    let below = head_below h fits in
+    let numbers = below_short section1_limits (section1_numbers h) limits_most below.0 in
+    let time = below_short time_limits (time_numbers h) time_limits_most below.1 in (
+      record {
+        plain = short_plain (codes "section1") (section1_numbers h) refl numbers;
+        kept = refl;
+        own = refl;
+      },
+      record {
+        plain = short_plain (codes "time") (time_numbers h) refl time;
+        kept = refl;
+        own = refl;
+      },
+    )
 
 -- the lines before the first subset
 heading_shown : (h : Head) (two : Option (List ℕ)) (observed compressed : Bool) (ds : List ℕ)
@@ -491,19 +457,14 @@ heading_shown h two observed compressed ds fits octets some =
     let local = locals_shown h.local (recursion_from_All IsOctet h.local fits.local) in
     let last : AllByRecursion (λ l. IsShown l)
     (flags_line observed compressed ∷ descriptors_line ds ∷ []) =
-    (flags_shown observed compressed, (descriptors_shown ds some, tt)) in (
-      first,
-      (
-        numbers.0,
-        (
-          numbers.1,
-          all_append IsShown (local_lines h.local ++ section2_lines two)
-              (flags_line observed compressed ∷ descriptors_line ds ∷ [])
-              (all_append IsShown (local_lines h.local) (section2_lines two) local
-              (sections_shown two octets)) last,
-        ),
-      ),
-    )
+    (flags_shown observed compressed, (descriptors_shown ds some, tt)) in
+    let optional =
+    all_append IsShown (local_lines h.local) (section2_lines two) local
+    (sections_shown two octets) in
+    let others =
+    all_append IsShown (local_lines h.local ++ section2_lines two)
+    (flags_line observed compressed ∷ descriptors_line ds ∷ []) optional last in
+    (first, (numbers.0, (numbers.1, others)))
 
 -- the lines of a message
 message_shown : LowerLaws → (tables : Entries) (m : Message) → CanBeListed tables m

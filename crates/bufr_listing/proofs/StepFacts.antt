@@ -149,12 +149,6 @@ behind_more fields field (Ok found) =
     (sym (append_assoc fields (field ∷ []) found.fields))
 behind_more fields field (Err e) = refl
 
--- what fails behind fields fails
-pub behind_fails : (fields : List Field) (e : Failure ListingFault)
-    (o : Result FieldsListed ListingFault) → Fails e o → Fails e (behind_fields fields o)
-behind_fails fields OutOfMemory o h = tt
-behind_fails fields (Fault f) o h = rw h refl
-
 -- one field more was read
 pub one_more : (fields grown : List Field) (field : Field)
     (whole : Result FieldsListed ListingFault) (past : ℕ) (c d : Course) (ls rest : List Line)

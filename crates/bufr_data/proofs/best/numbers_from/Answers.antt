@@ -1,11 +1,8 @@
 -- The clause of `numbers_from`: subset by subset.
-use Rattle.std.proofs.Common.{ℕ, ◌∙◌, ◌++◌, ◌∷◌, [], ◌+◌, ◌<◌, ◌≤◌, length, map, take, drop, sym}
-use Rattle.std.proofs.Common.{ap, arith}
+use Rattle.std.proofs.Common.{◌∙◌, ◌++◌, ◌∷◌, [], ◌<◌, ◌≤◌, length, map, sym, ap, arith}
 use Rattle.std.proofs.lemmas.List.{take_all}
-use Rattle.bufr_data.specs.BestColumns.{first_raw}
 use Rattle.bufr_data.specs.Plain.{number_of}
 use Rattle.bufr_data.specs.Places.{rows_from, values_from}
-use Rattle.bufr_data.proofs.ListFacts.{map_grown}
 use Rattle.bufr_data.proofs.PutFacts.{values_more}
 use Rattle.bufr_data.proofs.best.numbers_from.Goals as goal
 
@@ -19,16 +16,10 @@ pub loop-other-preserved : goal.loop-other-preserved
 loop-other-preserved c =
     let less : c.loop-other.other-index < length c.args.others.now =
     omega (arith, c.loop-other-test.true) in
-    let v = first_raw (drop c.args.place c.other-item.result.fields) in
-    let i = c.loop-other.other-index in
-    let values = λ (k : ℕ).
-    values_from c.args.field.now (rows_from c.args.place (take k c.args.others.now)) in
-    let more =
-    values_more c.args.field.now c.args.place c.args.others.now i c.other-item.result less
-    c.other-item.is in
     c.in_ok-push-2.ensures.items
     ∙ (λ t. c.loop-other.invariant t ++ c.number_at.ensures t ∷ [])
-    ∙ sym (map_grown number_of (values i) (values (i + 1)) v more)
+    ∙ sym (values_more number_of c.args.field.now c.args.place c.args.others.now
+    c.loop-other.other-index c.other-item.result less c.other-item.is)
 
 -- where no subset is left, the numbers are those of the place
 pub returns : goal.returns

@@ -6,7 +6,6 @@ use Rattle.std.proofs.lemmas.List.{take_all}
 use Rattle.bufr_bits.specs.Bits.{bin, bits}
 use Rattle.bufr_data.specs.BestColumns.{first_raw, octets_of}
 use Rattle.bufr_data.specs.Places.{rows_from, values_from}
-use Rattle.bufr_data.proofs.ListFacts.{map_grown}
 use Rattle.bufr_data.proofs.PutFacts.{values_more, put_step, put_text_head, zeros_are, kept_more}
 use Rattle.bufr_data.proofs.best.put_texts.Goals as goal
 
@@ -24,17 +23,14 @@ pub loop-other-preserved : goal.loop-other-preserved
 loop-other-preserved c =
     let less : c.loop-other.other-index < length c.args.others.now =
     omega (arith, c.loop-other-test.true) in
-    let v = first_raw (drop c.args.place c.other-item.result.fields) in
-    let i = c.loop-other.other-index in
-    let values = λ (k : ℕ).
-    values_from c.args.field.now (rows_from c.args.place (take k c.args.others.now)) in
-    let more =
-    values_more c.args.field.now c.args.place c.args.others.now i c.other-item.result less
-    c.other-item.is in
+    let more = values_more octets_of c.args.field.now c.args.place c.args.others.now
+    c.loop-other.other-index c.other-item.result less c.other-item.is in
     let octets = c.args.field.now.spec.width / 8 in
-    put_step bits (map octets_of (values i)) (map octets_of (values (i + 1))) (octets_of v)
-    c.args.sink.now (bits (replicate octets 0) ++ bin 6 octets) c.loop-other.sink
-    c.put_text_at.new.sink (map_grown octets_of (values i) (values (i + 1)) v more)
+    let texts = λ (k : ℕ). map octets_of
+    (values_from c.args.field.now (rows_from c.args.place (take k c.args.others.now))) in
+    put_step bits (texts c.loop-other.other-index) (texts (c.loop-other.other-index + 1))
+    (octets_of (first_raw (drop c.args.place c.other-item.result.fields))) c.args.sink.now
+    (bits (replicate octets 0) ++ bin 6 octets) c.loop-other.sink c.put_text_at.new.sink more
     c.loop-other.invariant c.in_ok-put_text_at.ensures.put
 
 -- where memory runs out, the sink begins as before

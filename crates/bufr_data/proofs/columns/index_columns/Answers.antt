@@ -43,8 +43,8 @@ loop-fault-preserved c =
       limit = goes.within;
       octets = c.in-Ok-Some.ensures.octets ∙ c.loop-fault.invariant.octets;
       onward = omega (arith, c.in-Ok-Some.ensures.onward, c.loop-fault.invariant.onward);
-      open_all =
-          all_grown (Opens octets c.args.subsets) c.loop-fault.places.items _ c.in-Ok-Some.place
+      open_all = all_grown (Opens octets c.args.subsets) c.loop-fault.places.items _
+          c.in-Ok-Some.place
           grown c.loop-fault.invariant.open_all step.0;
       so_far =
           place_kept octets c.args.subsets

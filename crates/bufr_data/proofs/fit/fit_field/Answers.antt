@@ -22,8 +22,8 @@ returns-in_err-asked-in-Field-clause-err c =
     let p = err_from_is_err_and c.from_residual.result c.from_residual.ensures.1 in
     let goes = rw c.in-Field.is at c.in-Ok.ensures in
     rw (p.1, p.2)
-    (λ rest. step_misfits _ _ _ _ _ _ _ _
-    (field_asked _ _ _ _ goes) c.in_err-asked-in-Field.ensures)
+    (λ rest. step_misfits _ _ _ _ _ _ _ _ (field_asked _ _ _ _ goes)
+    c.in_err-asked-in-Field.ensures)
 
 -- and so is one other than the count asked for
 pub returns-in_err-asked-in-Count-clause-err : goal.returns-in_err-asked-in-Count-clause-err
@@ -33,8 +33,8 @@ returns-in_err-asked-in-Count-clause-err c =
     c.from_residual-in_err-asked-in-Count.ensures.1 in
     let goes = rw c.in-Count.is at c.in-Ok.ensures in
     rw (p.1, p.2)
-    (λ rest. step_misfits _ _ _ _ _ _ _ _
-    (count_asked _ _ _ _ goes) c.in_err-asked-in-Count.ensures)
+    (λ rest. step_misfits _ _ _ _ _ _ _ _ (count_asked _ _ _ _ goes)
+    c.in_err-asked-in-Count.ensures)
 
 -- the field asked for is gone past, whatever its number is
 pub returns-in_ok-asked-in-Field-clause-ok : goal.returns-in_ok-asked-in-Field-clause-ok

@@ -44,9 +44,8 @@ loop-place-preserved c =
       can = here.next;
       put =
           c.loop-place.invariant.put
-          ∙ ap
-          (λ fs. c.loop-place.sink
-          ++ best_bits (columns_here fs (rows_from place c.args.others.now)))
+          ∙ ap (λ fs. c.loop-place.sink ++ best_bits (columns_here fs
+          (rows_from place c.args.others.now)))
           (left_is c.args.fields.now place f less c.index-fields-place.is)
           ∙ ap (λ bs. c.loop-place.sink ++ bs)
           (best_next f (drop (place + 1) c.args.fields.now) c.args.others.now place)
