@@ -1,8 +1,7 @@
 -- How long the octets of a message are, of its parts: for the law that the reports of a message
 -- have canonical messages.
 use Rattle.std.proofs.Common.{◌≡◌, ℕ, ◌+◌, ◌*◌, ◌≤◌, Bool, Option, None, List, [], ◌∷◌, ◌++◌}
-use Rattle.std.proofs.Common.{length}
-use Rattle.std.proofs.Common.{codes, refl, ap, arith}
+use Rattle.std.proofs.Common.{length, codes, refl, ap, arith}
 use Rattle.std.specs.List.{flat_map}
 use Rattle.std.specs.Int.{bytes_high_first}
 use Rattle.std.proofs.lemmas.List.{length-append}
@@ -11,8 +10,8 @@ use Rattle.bufr_bits.specs.OctetLaws.{length-bits}
 use Rattle.bufr_sections.specs.declared.layout.Layout.{Layout}
 use Rattle.bufr_sections.specs.declared.layout.Layout.TheVariants.{Edition4}
 use Rattle.bufr_sections.specs.Sections.{Envelope, Ignored, spelling, sections, enclosed}
-use Rattle.bufr_sections.specs.Sections.{is_present}
-use Rattle.bufr_sections.specs.Sections.{nothing_ignored, section1, section2, section3, section4}
+use Rattle.bufr_sections.specs.Sections.{is_present, nothing_ignored, section1, section2, section3}
+use Rattle.bufr_sections.specs.Sections.{section4}
 use Rattle.bufr_sections.specs.SectionLaws.{BareSpellingsAreShortest}
 
 -- octets that begin with data bits have eight bits each

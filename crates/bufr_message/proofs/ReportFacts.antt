@@ -1,7 +1,6 @@
 -- The canonical message of a report tells what the report is: for the laws on canonical messages.
 use Rattle.std.proofs.Common.{◌≡◌, ℕ, ◌+◌, ◌/◌, Bool, List, [], ◌∷◌, ◌++◌, length, get_or, Ok, refl}
-use Rattle.std.proofs.Common.{sym}
-use Rattle.std.proofs.Common.{ap, ◌∙◌, arith, length-append}
+use Rattle.std.proofs.Common.{sym, ap, ◌∙◌, arith, length-append}
 use Rattle.bufr_bits.specs.Bits.{bits}
 use Rattle.bufr_data.specs.Plain.{plain}
 use Rattle.bufr_sections.specs.declared.layout.Layout.{Layout}

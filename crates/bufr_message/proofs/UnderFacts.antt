@@ -1,10 +1,8 @@
 -- Each report of a message that octets spell has a canonical message: for the law on reports.
 use Rattle.std.proofs.Common.{◌≡◌, ℕ, ◌<◌, ◌≤◌, ◌^◌, Bool, true, false, List, [], ◌∷◌, length, map}
-use Rattle.std.proofs.Common.{Ok}
 use Rattle.std.proofs.Common.{refl, arith, length-append}
 use Rattle.std.specs.Prelude.{nat_lt}
 use Rattle.std.specs.List.{AllByRecursion}
-use Rattle.std.proofs.lemmas.Bool.{le-ltb}
 use Rattle.bufr_tables.specs.Entries.{Entries}
 use Rattle.bufr_data.specs.declared.field.Subset.{Subset}
 use Rattle.bufr_data.specs.Plain.{plain, plain_subsets}
@@ -15,17 +13,16 @@ use Rattle.bufr_sections.specs.declared.message.Message.{Message}
 use Rattle.bufr_sections.specs.declared.layout.Layout.{Layout}
 use Rattle.bufr_sections.specs.declared.layout.Layout.TheVariants.{Edition4, Edition3}
 use Rattle.bufr_sections.specs.Sections.{Ignored, HeadFits, HasSection1, year_of_century}
-use Rattle.bufr_sections.specs.Spelt.{bare, longest, spelt_or}
+use Rattle.bufr_sections.specs.Spelt.{bare, longest}
 use Rattle.bufr_message.specs.Below.{Below}
 use Rattle.bufr_message.specs.Messages.{Spells, octets_alone, CanBeAlone}
-use Rattle.bufr_message.specs.Encodings.{code}
 use Rattle.bufr_message.specs.Laws.{NumbersFit}
 use Rattle.bufr_message.specs.Reports.{without_local, with_no_local, report_of, reports_of, alone}
 use Rattle.bufr_message.specs.Reports.{IsUnder}
 use Rattle.bufr_message.proofs.AloneFacts.{StandsAlone, each_alone}
 use Rattle.bufr_message.proofs.LengthFacts.{bare_long}
 use Rattle.bufr_message.proofs.WrittenFacts.{whole_octets_long, bare_when_written}
-use Rattle.bufr_message.proofs.UnwrittenFacts.{told, bits_are, some_are}
+use Rattle.bufr_message.proofs.UnwrittenFacts.{told, code_within, some_are}
 
 -- a year of the century is in the range of edition 4's field
 year_small : (n : ℕ) → n < 2 ^ 8 → year_of_century n < 2 ^ 16
@@ -47,29 +44,25 @@ under_alone : Below
     (spells : Spells tables m octets slack) → (s : Subset)
     → StandsAlone spells.tree (length spells.data_bits) s → octets_alone m.descriptors s ≤ longest
     → IsUnder tables (report_of m s)
-unfolding code spelt_or
 under_alone below tables m octets slack spells s stands few =
     let d : List Bool = plain_subsets (s ∷ []) in
+    let r = alone (report_of m s) in
     let some = some_are m.descriptors spells.fits.some_descriptor in
     let own = stands.items in
     let one : AllFitWithin spells.tree 0 (s ∷ []) own =
     (own, (own, 0, stands.fits, refl, omega arith), omega arith, stands.few) in
     let holds : IsDataOf spells.tree false (s ∷ []) d = (own, one, refl) in
-    let data_bits =
-    bits_are below tables (alone (report_of m s)) d
-    (spells.tree, some, spells.template, below.plain spells.tree (s ∷ []) d holds) in
-    let long = bare_long (told (alone (report_of m s)) d) refl refl in
+    let held = below.plain spells.tree (s ∷ []) d holds in
+    let long = bare_long (told r d) refl refl in
     let whole = whole_octets_long d in
     let bits_of = length-append (plain s.fields) [] in
-    let short : nat_lt longest (length (bare (told (alone (report_of m s)) d))) ≡ false =
-    le-ltb _ _ (omega arith) in
-    let written : code tables (alone (report_of m s)) ≡ Ok (bare (told (alone (report_of m s)) d)) =
-    rw (data_bits, short) refl in
+    let written = code_within below tables r d (spells.tree, some, spells.template, held)
+    (omega arith) (omega arith) in
     let head = head_alone spells.layout m.head spells.ignored spells.fits.head in
-    let fits : NumbersFit (alone (report_of m s)) =
+    let fits : NumbersFit r =
     record { head = head; section2 = tt; descriptors = spells.fits.descriptors } in (
-      bare (told (alone (report_of m s)) d),
-      record { spelt = bare_when_written below tables (alone (report_of m s)) _ fits written },
+      bare (told r d),
+      record { spelt = bare_when_written below tables r _ fits written },
     )
 
 -- so is each of them

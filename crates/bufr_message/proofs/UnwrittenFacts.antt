@@ -2,12 +2,9 @@
 -- subsets and the limits, and a message that octets spell is written: for the laws on messages that
 -- are written.
 use Rattle.std.proofs.Common.{◌≡◌, ◌≢◌, ◌⊎◌, ℕ, ◌-◌, ◌/◌, ◌%◌, ◌^◌, ◌<◌, ◌≤◌, Bool, true, false}
-use Rattle.std.proofs.Common.{get_or, List, []}
-use Rattle.std.proofs.Common.{◌∷◌, ◌++◌, length, replicate, Result, Ok, Err, refl, sym, ap, subst}
-use Rattle.std.proofs.Common.{◌∙◌, arith}
-use Rattle.std.proofs.Common.{inl, inr}
-use Rattle.std.specs.Prelude.{nat_lt}
-use Rattle.std.proofs.lemmas.Bool.{cases_lt, le-ltb}
+use Rattle.std.proofs.Common.{get_or, List, [], ◌∷◌, ◌++◌, length, replicate, Result, Ok, Err, refl}
+use Rattle.std.proofs.Common.{sym, ap, subst, ◌∙◌, arith, inl, inr}
+use Rattle.std.proofs.lemmas.Bool.{cases_lt}
 use Rattle.std.proofs.lemmas.List.{get_or_past}
 use Rattle.bufr_bits.specs.Bits.{bits}
 use Rattle.bufr_tables.specs.Answers.{◌>>=◌}
@@ -81,11 +78,9 @@ tree_fault below tables m fault some refused =
     elim (bind_err (template_or (template tables m.descriptors)) (held m) fault refused) [
       | inl not_so ↦
           let t = step_refuses template_passes (template tables m.descriptors) fault not_so in
-          subst (IsFirstEncodeFault tables m) t.2
-          (some, (below.refuses tables m.descriptors t.0).0 t.1)
+          subst (IsFirstEncodeFault tables m) t.2 (some, (below.refuses tables m.descriptors t.0).0 t.1)
       | inr tree ↦
-          let d =
-          step_refuses data_passes (written_bits tree.0 m.compressed m.subsets) fault tree.2 in
+          let d = step_refuses data_passes (written_bits tree.0 m.compressed m.subsets) fault tree.2 in
           let expanded = template tables m.descriptors in
           let has = (below.builds tables m.descriptors tree.0).0
           (step_takes template_passes expanded tree.0 tree.1) in
@@ -175,6 +170,16 @@ bits_are_short data_bits rest contents begins =
 pub some_are : (ds : List ℕ) → 0 < length ds → ds ≢ []
 some_are ds one = λ none. let size = ap length none in absurd (omega arith)
 
+-- a message with these data bits is written with them, where it is within the limits
+pub code_within : Below → (tables : Entries) (m : Message) (data_bits : List Bool)
+    → HasBits tables m data_bits → length m.subsets ≤ most_subsets
+    → length (bare (told m data_bits)) ≤ longest → code tables m ≡ Ok (bare (told m data_bits))
+unfolding code
+code_within below tables m data_bits has few short = elim (tells_limits (told m data_bits)) [
+  | inl within ↦ rw (bits_are below tables m data_bits has, within.2) refl
+  | inr past ↦ absurd (omega (arith, few, short, past.0))
+]
+
 -- a message that octets spell is written with the data that leave no choice, where these are no
 -- longer than those in the octets
 spelt_has_code : Below
@@ -182,23 +187,17 @@ spelt_has_code : Below
     (s : Spells tables m octets slack) → s.layout ≡ Edition4
     → IsBareDataOf s.tree m.compressed m.subsets s.data_bits
     → code tables m ≡ Ok (bare (told m s.data_bits))
-unfolding code spelt_or
 spelt_has_code below tables m octets slack s four nothing_free =
     let some = some_are m.descriptors s.fits.some_descriptor in
-    let data_bits = bits_are below tables m s.data_bits (s.tree, some, s.template, nothing_free) in
+    let e = envelope_with m s.contents in
     let contents = bits_are_short s.data_bits s.rest s.contents s.begins in
-    let no_longer =
-    below.shortest (envelope_with m s.contents) (told m s.data_bits) s.ignored (omega arith)
-    (omega arith) (omega arith) contents in
-    let total : length (spelling Edition4 (envelope_with m s.contents) s.ignored) < 2 ^ 24 =
-    subst
-    (λ (l : Layout). length
-    (spelling l (envelope_with m s.contents) s.ignored) < 2 ^ 24) four s.fits.total in
+    let no_longer = below.shortest e (told m s.data_bits) s.ignored (omega arith) (omega arith)
+    (omega arith) contents in
+    let total : length (spelling Edition4 e s.ignored) < 2 ^ 24 =
+    subst (λ (l : Layout). length (spelling l e s.ignored) < 2 ^ 24) four s.fits.total in
     let many = s.fits.count in
-    let few : nat_lt most_subsets (length m.subsets) ≡ false = le-ltb _ _ (omega arith) in
-    let short : nat_lt longest (length (bare (told m s.data_bits))) ≡ false =
-    le-ltb _ _ (omega arith) in
-    rw (data_bits, few, short) refl
+    code_within below tables m s.data_bits (s.tree, some, s.template, nothing_free) (omega arith)
+    (omega arith)
 
 -- a plain message that octets of edition 4 spell is written
 pub plain_is_written : Below

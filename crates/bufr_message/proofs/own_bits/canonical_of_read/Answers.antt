@@ -1,6 +1,6 @@
 -- The clause `canonical` of `canonical_of_read`: a canonical message is what the report's own
 -- fields spell, and this is what is answered.
-use Rattle.std.proofs.Common.{◌≡◌, ℕ, List, Option, Some, IfOk, option_map, subst}
+use Rattle.std.proofs.Common.{◌≡◌, ℕ, List, Option, IfOk, option_map, subst}
 use Rattle.bufr_message.proofs.own_bits.canonical_of_read.Goals as goal
 
 -- by the law that a canonical message is what the report's own fields spell
