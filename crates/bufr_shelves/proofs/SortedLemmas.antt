@@ -2,6 +2,8 @@
 -- functions of sorted vectors below `SortedShelf`.
 use Rattle.std.proofs.Common.{◌≡◌, ℕ, zero, suc, ◌+◌, ◌<◌, ◌≤◌, true, false, cond, Option, Some}
 use Rattle.std.proofs.Common.{None, Result, Ok, Err, List, [], ◌∷◌, length, take, drop, find}
+use Rattle.std.proofs.lemmas.Option.{slice_get_read}
+use Rattle.std.proofs.Common.{get_or}
 use Rattle.std.proofs.Common.{slice_get, slice_set, refl, sym, ap, ◌∙◌, subst, arith, add-one}
 use Rattle.std.specs.List.{AllByRecursion, insert}
 use Rattle.std.specs.List.Sorted.{IsStrictlySortedBy}
@@ -250,13 +252,29 @@ module _ {K V : Type 0} (c : K → K → Ordering) (o : IsTotalOrder c) where
       ] refl
 
   -- a value that is looked up is that of its pair
-  pub lookup-find : (k : K) (ps : List (K × V)) → lookup (is_at (c k)) ps
+  lookup-find : (k : K) (ps : List (K × V)) → lookup (is_at (c k)) ps
       ≡ option_map (λ p. p.1) (find (λ p. is_eq (c k p.0)) ps)
   lookup-find k [] = refl
   lookup-find k (q ∷ ps) =
       elim (is_eq (c k q.0)) as (λ b. cond b (Some q.1) (lookup (is_at (c k)) ps)
       ≡ option_map (λ p. p.1) (cond b (Some q) (find (λ p. is_eq (c k p.0)) ps)))
       [ true ↦ refl | false ↦ lookup-find k ps ]
+
+  -- the value at a key that has a place is that of the pair there
+  pub lookup_there : (k : K) (ps : List (K × V)) → IsStrictlySortedBy c (keys_of ps)
+      → (i : ℕ) (p : K × V) → Ok i ≡ place_of (c k) ps → i < length ps → p ≡ get_or ps i p
+      → lookup (is_at (c k)) ps ≡ Some p.1
+  lookup_there k ps sorted i p place within is =
+      lookup-find k ps
+      ∙ ap (option_map (λ p. p.1)) (find-place k ps sorted ∙ ap (λ r. at_place r ps) (sym place)
+      ∙ slice_get_read ps (length ps) i p refl within is)
+
+  -- a key that has none has no value
+  pub lookup_nowhere : (k : K) (ps : List (K × V)) → IsStrictlySortedBy c (keys_of ps) → (i : ℕ)
+      → Err i ≡ place_of (c k) ps → lookup (is_at (c k)) ps ≡ None
+  lookup_nowhere k ps sorted i place =
+      lookup-find k ps
+      ∙ ap (option_map (λ p. p.1)) (find-place k ps sorted ∙ ap (λ r. at_place r ps) (sym place))
 
   -- a pair goes in at its place
   pub insert-place : ((x y : K) → c x y ≡ Equal → x ≡ y) → (k : K) (v : V) (ps : List (K × V))

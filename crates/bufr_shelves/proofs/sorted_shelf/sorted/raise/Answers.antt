@@ -1,30 +1,23 @@
 -- For `raise` of vectors: a value is put where it is greater than the one at its key, or none is
 -- there.
-use Rattle.std.proofs.Common.{◌≡◌, ◌∙◌, sym, ap, refl, Some, length, set, slice_get, arith}
-use Rattle.std.proofs.lemmas.Option.{slice_get_read}
+use Rattle.std.proofs.Common.{◌≡◌, ◌∙◌, sym, ap, set, arith}
 use Rattle.std.specs.List.{insert}
-use Rattle.std.specs.Option.{option_map}
 use Rattle.std.specs.Ordering.{is_gt}
 use Rattle.std.specs.BTreeMap.{is_at}
 use Rattle.std.specs.Map.{lookup}
 use Rattle.std.specs.declared.cmp.Ordering.TheVariants.{Greater}
 use Rattle.bufr_shelves.proofs.PairLemmas.{put-insert, put-same, changes_new, changes_old, gt-is}
 use Rattle.bufr_shelves.proofs.PairLemmas.{only-value, no-value}
-use Rattle.bufr_shelves.proofs.SortedLemmas.{lookup-find, find-place, insert-place, at_place}
-use Rattle.bufr_shelves.proofs.SortedLemmas.{put_at}
+use Rattle.bufr_shelves.proofs.SortedLemmas.{lookup_there, lookup_nowhere, insert-place, put_at}
 use Rattle.bufr_shelves.proofs.sorted_shelf.sorted.raise.Goals as goal
 
 -- a value that is not greater than the one at its key changes nothing
 pub returns-then-not-greater-clause-changed : goal.returns-then-not-greater-clause-changed
 returns-then-not-greater-clause-changed g c =
     let items = c.args.pairs.now.items in let cmp = g.K.Ord.cmp in
-    let here : slice_get items c.in-Ok.index ≡ Some c.index.result.now =
-    slice_get_read items (length items) c.in-Ok.index c.index.result.now refl
-    (omega (arith, c.in-Ok.ensures.within)) c.index.ensures in
     changes_old cmp g.V.Ord.cmp c.args.key c.args.value c.index.result.now.1 items
-    (lookup-find cmp g.met.K.Ord.total c.args.key items
-    ∙ ap (option_map (λ p. p.1)) (find-place cmp g.met.K.Ord.total c.args.key items c.requires
-    ∙ ap (λ r. at_place r items) (sym c.in-Ok.ensures.place) ∙ here))
+    (lookup_there cmp g.met.K.Ord.total c.args.key items c.requires c.in-Ok.index
+    c.index.result.now c.in-Ok.ensures.place (omega (arith, c.in-Ok.ensures.within)) c.index.ensures)
     (ap is_gt (sym (c.cmp.ensures ∙ ap (g.V.Ord.cmp c.args.value) c.value.ensures))
     ∙ sym c.is_gt-greater.ensures ∙ c.if-not-greater.true)
 
@@ -32,14 +25,10 @@ returns-then-not-greater-clause-changed g c =
 pub returns-then-not-greater-clause-ok : goal.returns-then-not-greater-clause-ok
 returns-then-not-greater-clause-ok g c =
     let items = c.args.pairs.now.items in let cmp = g.K.Ord.cmp in
-    let here : slice_get items c.in-Ok.index ≡ Some c.index.result.now =
-    slice_get_read items (length items) c.in-Ok.index c.index.result.now refl
-    (omega (arith, c.in-Ok.ensures.within)) c.index.ensures in
     sym (put-same cmp g.V.Ord.cmp g.met.K.Ord.total c.args.key c.args.value c.index.result.now.1
     items c.requires
-    (lookup-find cmp g.met.K.Ord.total c.args.key items
-    ∙ ap (option_map (λ p. p.1)) (find-place cmp g.met.K.Ord.total c.args.key items c.requires
-    ∙ ap (λ r. at_place r items) (sym c.in-Ok.ensures.place) ∙ here))
+    (lookup_there cmp g.met.K.Ord.total c.args.key items c.requires c.in-Ok.index
+    c.index.result.now c.in-Ok.ensures.place (omega (arith, c.in-Ok.ensures.within)) c.index.ensures)
     (ap is_gt (sym (c.cmp.ensures ∙ ap (g.V.Ord.cmp c.args.value) c.value.ensures))
     ∙ sym c.is_gt-greater.ensures ∙ c.if-not-greater.true))
 
@@ -47,15 +36,11 @@ returns-then-not-greater-clause-ok g c =
 pub returns-else-not-greater-clause-changed : goal.returns-else-not-greater-clause-changed
 returns-else-not-greater-clause-changed g c =
     let items = c.args.pairs.now.items in let cmp = g.K.Ord.cmp in
-    let here : slice_get items c.in-Ok.index ≡ Some c.index.result.now =
-    slice_get_read items (length items) c.in-Ok.index c.index.result.now refl
-    (omega (arith, c.in-Ok.ensures.within)) c.index.ensures in
     changes_new cmp g.V.Ord.cmp g.met.K.Ord.total c.args.key c.args.value items c.requires
     (only-value (lookup (is_at (cmp c.args.key)) items) c.index.result.now.1
     (λ v. g.V.Ord.cmp c.args.value v ≡ Greater)
-    (sym (lookup-find cmp g.met.K.Ord.total c.args.key items
-    ∙ ap (option_map (λ p. p.1)) (find-place cmp g.met.K.Ord.total c.args.key items c.requires
-    ∙ ap (λ r. at_place r items) (sym c.in-Ok.ensures.place) ∙ here)))
+    (sym (lookup_there cmp g.met.K.Ord.total c.args.key items c.requires c.in-Ok.index
+    c.index.result.now c.in-Ok.ensures.place (omega (arith, c.in-Ok.ensures.within)) c.index.ensures))
     (gt-is _ (ap is_gt (sym (c.cmp.ensures ∙ ap (g.V.Ord.cmp c.args.value) c.value.ensures))
     ∙ sym c.is_gt-greater.ensures ∙ c.if-not-greater.false)))
 
@@ -63,16 +48,12 @@ returns-else-not-greater-clause-changed g c =
 pub returns-else-not-greater-clause-ok : goal.returns-else-not-greater-clause-ok
 returns-else-not-greater-clause-ok g c =
     let items = c.args.pairs.now.items in let cmp = g.K.Ord.cmp in
-    let here : slice_get items c.in-Ok.index ≡ Some c.index.result.now =
-    slice_get_read items (length items) c.in-Ok.index c.index.result.now refl
-    (omega (arith, c.in-Ok.ensures.within)) c.index.ensures in
     ap (set items c.in-Ok.index) c.replace.ensures
     ∙ sym (put-insert cmp g.V.Ord.cmp g.met.K.Exact.exact c.args.key c.args.value items
     (only-value (lookup (is_at (cmp c.args.key)) items) c.index.result.now.1
     (λ v. g.V.Ord.cmp c.args.value v ≡ Greater)
-    (sym (lookup-find cmp g.met.K.Ord.total c.args.key items
-    ∙ ap (option_map (λ p. p.1)) (find-place cmp g.met.K.Ord.total c.args.key items c.requires
-    ∙ ap (λ r. at_place r items) (sym c.in-Ok.ensures.place) ∙ here)))
+    (sym (lookup_there cmp g.met.K.Ord.total c.args.key items c.requires c.in-Ok.index
+    c.index.result.now c.in-Ok.ensures.place (omega (arith, c.in-Ok.ensures.within)) c.index.ensures))
     (gt-is _ (ap is_gt (sym (c.cmp.ensures ∙ ap (g.V.Ord.cmp c.args.value) c.value.ensures))
     ∙ sym c.is_gt-greater.ensures ∙ c.if-not-greater.false)))
     ∙ insert-place cmp g.met.K.Ord.total g.met.K.Exact.exact c.args.key c.args.value items
@@ -84,9 +65,8 @@ returns-in_ok-insert-in-Err-clause-changed g c =
     let items = c.args.pairs.now.items in let cmp = g.K.Ord.cmp in
     changes_new cmp g.V.Ord.cmp g.met.K.Ord.total c.args.key c.args.value items c.requires
     (no-value (lookup (is_at (cmp c.args.key)) items) (λ v. g.V.Ord.cmp c.args.value v ≡ Greater)
-    (sym (lookup-find cmp g.met.K.Ord.total c.args.key items
-    ∙ ap (option_map (λ p. p.1)) (find-place cmp g.met.K.Ord.total c.args.key items c.requires
-    ∙ ap (λ r. at_place r items) (sym c.in-Err.ensures.place)))))
+    (sym (lookup_nowhere cmp g.met.K.Ord.total c.args.key items c.requires c.in-Err.index
+    c.in-Err.ensures.place)))
 
 -- and is put where the key would go
 pub returns-in_ok-insert-in-Err-clause-ok : goal.returns-in_ok-insert-in-Err-clause-ok
@@ -96,8 +76,7 @@ returns-in_ok-insert-in-Err-clause-ok g c =
     ∙ ap (insert items c.in-Err.index) c.in_ok-new-in-Err.ensures
     ∙ sym (put-insert cmp g.V.Ord.cmp g.met.K.Exact.exact c.args.key c.args.value items
     (no-value (lookup (is_at (cmp c.args.key)) items) (λ v. g.V.Ord.cmp c.args.value v ≡ Greater)
-    (sym (lookup-find cmp g.met.K.Ord.total c.args.key items
-    ∙ ap (option_map (λ p. p.1)) (find-place cmp g.met.K.Ord.total c.args.key items c.requires
-    ∙ ap (λ r. at_place r items) (sym c.in-Err.ensures.place)))))
+    (sym (lookup_nowhere cmp g.met.K.Ord.total c.args.key items c.requires c.in-Err.index
+    c.in-Err.ensures.place)))
     ∙ insert-place cmp g.met.K.Ord.total g.met.K.Exact.exact c.args.key c.args.value items
     ∙ ap (λ r. put_at r items (c.args.key, c.args.value)) (sym c.in-Err.ensures.place))

@@ -1,10 +1,8 @@
 -- For `raise_pair` of vectors: a pair is put where its value is greater than the one at its key, or
 -- none is there.
-use Rattle.std.proofs.Common.{◌≡◌, ◌∙◌, true, cond, Result, Ok, Err, sym, ap, refl, Some, length}
-use Rattle.std.proofs.Common.{slice_get, arith}
-use Rattle.std.proofs.lemmas.Option.{slice_get_read}
+use Rattle.std.proofs.Common.{◌≡◌, ◌∙◌, true, cond, Result, Ok, Err, sym, ap, refl}
+use Rattle.std.proofs.Common.{arith}
 use Rattle.std.specs.List.{insert}
-use Rattle.std.specs.Option.{option_map}
 use Rattle.std.specs.Ordering.{is_gt}
 use Rattle.std.specs.Result.{is_ok, IsOk}
 use Rattle.std.specs.BTreeMap.{is_at}
@@ -12,8 +10,7 @@ use Rattle.std.specs.Map.{lookup}
 use Rattle.std.specs.declared.cmp.Ordering.TheVariants.{Greater}
 use Rattle.bufr_shelves.specs.Pairs.{place_of}
 use Rattle.bufr_shelves.proofs.PairLemmas.{put-insert, put-same, gt-is, only-value, no-value}
-use Rattle.bufr_shelves.proofs.SortedLemmas.{lookup-find, find-place, insert-place, at_place}
-use Rattle.bufr_shelves.proofs.SortedLemmas.{put_at}
+use Rattle.bufr_shelves.proofs.SortedLemmas.{lookup_there, lookup_nowhere, insert-place, put_at}
 use Rattle.bufr_shelves.proofs.sorted_shelf.sorted.raise_pair.Goals as goal
 
 -- an answer that is no failure
@@ -25,35 +22,27 @@ is_ok_of (Err e) h = cc
 pub returns-else-greater : goal.returns-else-greater
 returns-else-greater g c =
     let items = c.args.pairs.now.items in let cmp = g.K.Ord.cmp in
-    let here : slice_get items c.in-Ok.index ≡ Some c.index.result.now =
-    slice_get_read items (length items) c.in-Ok.index c.index.result.now refl
-    (omega (arith, c.in-Ok.ensures.within)) c.index.ensures in
     let place = c.in-Ok.ensures.place ∙ ap (λ k. place_of (cmp k) items) c.key.ensures in
     let order = c.cmp.ensures ∙ ap (λ v. g.V.Ord.cmp v c.value-in-Ok.result.now) c.value.ensures
     ∙ ap (g.V.Ord.cmp c.args.pair.1) c.value-in-Ok.ensures in
     sym (put-same cmp g.V.Ord.cmp g.met.K.Ord.total c.args.pair.0 c.args.pair.1
     c.index.result.now.1 items c.requires.sorted
-    (lookup-find cmp g.met.K.Ord.total c.args.pair.0 items
-    ∙ ap (option_map (λ p. p.1)) (find-place cmp g.met.K.Ord.total c.args.pair.0 items
-    c.requires.sorted ∙ ap (λ r. at_place r items) (sym place) ∙ here))
+    (lookup_there cmp g.met.K.Ord.total c.args.pair.0 items c.requires.sorted c.in-Ok.index
+    c.index.result.now place (omega (arith, c.in-Ok.ensures.within)) c.index.ensures)
     (ap is_gt (sym order) ∙ sym c.is_gt-greater.ensures ∙ c.if-greater.false))
 
 -- one whose value is greater takes the other's place
 pub returns-then-greater : goal.returns-then-greater
 returns-then-greater g c =
     let items = c.args.pairs.now.items in let cmp = g.K.Ord.cmp in
-    let here : slice_get items c.in-Ok.index ≡ Some c.index.result.now =
-    slice_get_read items (length items) c.in-Ok.index c.index.result.now refl
-    (omega (arith, c.in-Ok.ensures.within)) c.index.ensures in
     let place = c.in-Ok.ensures.place ∙ ap (λ k. place_of (cmp k) items) c.key.ensures in
     let order = c.cmp.ensures ∙ ap (λ v. g.V.Ord.cmp v c.value-in-Ok.result.now) c.value.ensures
     ∙ ap (g.V.Ord.cmp c.args.pair.1) c.value-in-Ok.ensures in
     sym (put-insert cmp g.V.Ord.cmp g.met.K.Exact.exact c.args.pair.0 c.args.pair.1 items
     (only-value (lookup (is_at (cmp c.args.pair.0)) items) c.index.result.now.1
     (λ v. g.V.Ord.cmp c.args.pair.1 v ≡ Greater)
-    (sym (lookup-find cmp g.met.K.Ord.total c.args.pair.0 items
-    ∙ ap (option_map (λ p. p.1)) (find-place cmp g.met.K.Ord.total c.args.pair.0 items
-    c.requires.sorted ∙ ap (λ r. at_place r items) (sym place) ∙ here)))
+    (sym (lookup_there cmp g.met.K.Ord.total c.args.pair.0 items c.requires.sorted c.in-Ok.index
+    c.index.result.now place (omega (arith, c.in-Ok.ensures.within)) c.index.ensures))
     (gt-is _ (ap is_gt (sym order) ∙ sym c.is_gt-greater.ensures ∙ c.if-greater.true)))
     ∙ insert-place cmp g.met.K.Ord.total g.met.K.Exact.exact c.args.pair.0 c.args.pair.1 items
     ∙ ap (λ r. put_at r items c.args.pair) (sym place))
@@ -69,8 +58,7 @@ returns-in-Err g c =
     ∙ sym (put-insert cmp g.V.Ord.cmp g.met.K.Exact.exact c.args.pair.0 c.args.pair.1 items
     (no-value (lookup (is_at (cmp c.args.pair.0)) items)
     (λ v. g.V.Ord.cmp c.args.pair.1 v ≡ Greater)
-    (sym (lookup-find cmp g.met.K.Ord.total c.args.pair.0 items
-    ∙ ap (option_map (λ p. p.1)) (find-place cmp g.met.K.Ord.total c.args.pair.0 items
-    c.requires.sorted ∙ ap (λ r. at_place r items) (sym place)))))
+    (sym (lookup_nowhere cmp g.met.K.Ord.total c.args.pair.0 items c.requires.sorted c.in-Err.index
+    place)))
     ∙ insert-place cmp g.met.K.Ord.total g.met.K.Exact.exact c.args.pair.0 c.args.pair.1 items
     ∙ ap (λ r. put_at r items c.args.pair) (sym place))
