@@ -99,8 +99,8 @@ numbers_at_found n width text x e =
           let long : ltb (length text) (n * width) ≡ false = le-ltb _ _ le in
           let some = rw long at e in
           let pair : (numbers n width text, drop (n * width) text) ≡ x = some_is _ _ some in
-          subst
-          (λ (p : List ℕ × List Bool). (length p.0 ≡ n) × AllByRecursion (λ y. y < 2 ^ width) p.0
+          subst (λ (p : List ℕ × List Bool). (length p.0 ≡ n)
+          × AllByRecursion (λ y. y < 2 ^ width) p.0
           × (text ≡ flat_map (bin width) p.0 ++ p.1))
           pair (
             length-numbers n width text,

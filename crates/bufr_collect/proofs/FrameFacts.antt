@@ -34,8 +34,7 @@ pub kept_more : (tables : Entries) (rs more : List Report)
 kept_more tables rs more =
     kept-early (entries_of (report_entries tables rs)) (entries_of (report_entries tables more))
     ∙ ap kept
-    (sym
-    (flat_map-append option_to_list (report_entries tables rs) (report_entries tables more))
+    (sym (flat_map-append option_to_list (report_entries tables rs) (report_entries tables more))
     ∙ ap entries_of (sym (map-append (entry_of tables) rs more)))
 
 -- the reports of frames and of one more
@@ -108,8 +107,7 @@ added_ok tables old new counts counts' frames frame octets d h is spells new_is 
     let there : new
     ≡ taken_in (archive_of tables (reports_of_frames tables frames))
     (report_entries tables (reports_of d.message)) =
-    subst
-    (λ (a : ArchiveView). new
+    subst (λ (a : ArchiveView). new
     ≡ taken_in a (report_entries a.tables (reports_of d.message))) was new_is in
     let count = refused_more tables frames frame in
     let none : frame_refused tables frame ≡ 0 = ap refused_as here in

@@ -140,8 +140,7 @@ one_raised i width minimum k n j x number front rest last first equal less so_fa
           so_far.found
           ∙ ap (λ xs. behind_values so_far.values (all_raised (j + 1) i width minimum k xs))
           (next_number k n j x rest last less e)
-          ∙ ap
-          (λ o. behind_values so_far.values
+          ∙ ap (λ o. behind_values so_far.values
           (value_then (j + 1) i o
           (all_raised (j + 1 + 1) i width minimum k (numbers (n - (j + 1)) k last))))
           (sym value)
@@ -162,8 +161,7 @@ raised_fails i width minimum k n j x front rest last first equal less so_far e v
     so_far.found
     ∙ ap (λ xs. behind_values so_far.values (all_raised (j + 1) i width minimum k xs))
     (next_number k n j x rest last less e)
-    ∙ ap
-    (λ o. behind_values so_far.values
+    ∙ ap (λ o. behind_values so_far.values
     (value_then (j + 1) i o
     (all_raised (j + 1 + 1) i width minimum k (numbers (n - (j + 1)) k last)))) (sym value)
 
@@ -176,8 +174,7 @@ all_raised_so_far i width minimum k n j front rest first equal done so_far =
     let none : n - j ≡ 0 = omega (arith, done) in (
       so_far.values,
       so_far.found
-          ∙ ap
-          (λ m. behind_values so_far.values
+          ∙ ap (λ m. behind_values so_far.values
           (all_raised (j + 1) i width minimum k (numbers m k rest))) none
           ∙ ap (λ vs. Ok vs) (append-nil so_far.values),
       so_far.first_is,

@@ -106,8 +106,7 @@ text_there octets k (suc index) (x ∷ own) (v ∷ vs) rest h short =
     (λ t. drop (next_times index (k * 8) t) (e t))
     ∙ sym (drop-drop (index * (k * 8)) (k * 8) (bits x ++ (flat_map bits own ++ rest)))
     ∙ ap (drop (index * (k * 8))) first in
-    ap
-    (λ front. option_map (λ (y : List ℕ × List Bool). filled octets y.0)
+    ap (λ front. option_map (λ (y : List ℕ × List Bool). filled octets y.0)
     (octets_at k front)) behind
     ∙ text_there octets k index own vs rest h.1 (omega (arith, short))
 

@@ -65,8 +65,7 @@ packed_from : (n : ℕ) (columns : List Column) (content : List Bool)
 packed_from n columns content room are =
     let many : suc n ≡ length (subsets_from 0 (suc n) columns) =
     sym (length-from 0 (suc n) columns) in
-    subst
-    (λ l. (cs : List Column) × (subsets_from 0 (suc n) columns ≡ subsets_from 0 l cs)
+    subst (λ l. (cs : List Column) × (subsets_from 0 (suc n) columns ≡ subsets_from 0 l cs)
     × (length cs * l ≤ most_values) × AreColumns l cs content) many (columns, refl, room, are)
 
 -- compressed subsets that are read fit and stand there
@@ -305,8 +304,7 @@ are_columns i (f ∷ fs) others columns e formed =
     are_columns (i + 1) fs (map (drop 1) others) h.behind h.rest
     (λ k short. (both k (omega (arith, short, many))).1) in
     let behind =
-    subst
-    (λ l. AreColumns (1 + l) h.behind
+    subst (λ l. AreColumns (1 + l) h.behind
     (flat_map (λ c. best c.spec c.values) h.behind)) many after in
     subst (λ cs. AreColumns (1 + length others) cs (flat_map (λ c. best c.spec c.values) cs))
     (sym h.is) (
@@ -360,10 +358,9 @@ written_pack tree s subsets columns content fit e p =
       columns,
       columns_whole s subsets columns e,
       ltb-false _ _ g.0,
-      subst
-          (λ b. AreColumns (length (s ∷ subsets)) columns b) bits_are
-          (subst
-          (λ l. AreColumns l columns (flat_map (λ c. best c.spec c.values) columns)) size are),
+      subst (λ b. AreColumns (length (s ∷ subsets)) columns b) bits_are
+          (subst (λ l. AreColumns l columns (flat_map (λ c. best c.spec c.values) columns)) size
+          are),
     )
 
 -- so what is written compressed holds its subsets

@@ -70,8 +70,7 @@ misfit_each : Laws
     → each_fits tree j (before ++ s ∷ behind) ≡ Err fault
 misfit_each laws tree j [] s behind fault fit h =
     let same : j + 0 ≡ j = omega arith in
-    rw
-    (first_write_refused laws tree j 0 s.fields fault (omega arith)
+    rw (first_write_refused laws tree j 0 s.fields fault (omega arith)
     (subst (λ k. FirstMisfit tree k 0 s.fields fault) same h)) refl
 misfit_each laws tree j (t ∷ before) s behind fault fit h =
     let same : j + suc (length before) ≡ j + 1 + length before = omega arith in

@@ -226,8 +226,7 @@ number_column : (n i : ℕ) (spec : Spec) (front : List Bool) → same_kind spec
     → column_at n i spec front
     ≡ (head_at i spec.width front >>= λ h. values_at n i spec (Number h.0.0) h.0.1 h.1)
 number_column n i spec front other =
-    ap
-    (λ o. or_ends i o >>= λ m.
+    ap (λ o. or_ends i o >>= λ m.
     (or_ends i (number_at 6 m.1) >>= λ k. values_at n i spec m.0 k.0 k.1))
     (number_raw spec.kind spec.width front other)
     ∙ after_minimum n i spec (field_number_at spec.width front)

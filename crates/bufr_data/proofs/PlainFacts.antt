@@ -109,8 +109,7 @@ number_read width front true (Some y) x s found e =
     let is = number_at_is width y.0 front y.1 found in
     let fits : (nat_le width 64 && nat_lt y.0 (2 ^ width)) ≡ true =
     rw (s, lt-ltb y.0 (2 ^ width) is.1) refl in
-    subst
-    (λ (p : Raw × List Bool). ((nat_le width 64 && nat_lt (number_of p.0) (2 ^ width)) ≡ true)
+    subst (λ (p : Raw × List Bool). ((nat_le width 64 && nat_lt (number_of p.0) (2 ^ width)) ≡ true)
     × (p.0 ≡ Number (number_of p.0)) × (front ≡ raw_bits width p.0 ++ p.1)) same
     (fits, refl, is.0)
 

@@ -255,8 +255,7 @@ pub best_next : (f : Field) (fs : List Field) (others : List Subset) (place : �
     (columns_here fs (rows_from (place + 1) others))
 unfolding columns_here
 best_next f fs others place =
-    ap
-    (λ rows. best f.spec (values_from f (rows_from place others))
+    ap (λ rows. best f.spec (values_from f (rows_from place others))
     ++ best_bits (columns_here fs rows)) (rows_next place others)
 
 -- without fields there is no column
@@ -388,8 +387,7 @@ shift_is k less =
 pub fewest_here : (k d whole : ℕ) → k < 64 → d + 2 ≤ 2 ^ k → whole ≡ fewest_bits (64 - k) k d
     → k ≡ whole
 fewest_here k d whole less fits so_far =
-    sym
-    (so_far ∙ fewest_next k d less
+    sym (so_far ∙ fewest_next k d less
     ∙ ap (λ b. cond b k (fewest_bits (64 - (k + 1)) (k + 1) d)) (le-leb (d + 2) (2 ^ k) fits))
 
 -- one that is not goes on with the next

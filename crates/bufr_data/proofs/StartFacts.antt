@@ -59,6 +59,5 @@ one_start octets tree s n index front rest items starts grown all is there below
     ∙ sym (map_grown (subset_from octets tree) starts grown s is) in
     one_more (course tree) n index s.used front
     (map (subset_from octets tree) starts) all first below so_far found
-    ∙ ap
-    (λ subsets. after subsets
+    ∙ ap (λ subsets. after subsets
     (subsets_at (course tree) (index + 1 + 1) (n - (index + 1)) items rest)) same

@@ -80,8 +80,7 @@ pub text_past : (spec : Spec) (index : ℕ) (front : List Bool) (k : ℕ) (rest 
     → TextHead spec front k rest → (k ≡ 0 → ⊥) → k ≤ spec.width / 8 → c ≡ index * (k * 8)
     → length rest < c → None ≡ one_at spec index front
 text_past spec index front k rest c h some le times short =
-    sym
-    (behind_width spec index front k rest h ∙ text_behind spec h.own k index rest some le
+    sym (behind_width spec index front k rest h ∙ text_behind spec h.own k index rest some le
     ∙ ap (λ m. option_map (λ x. filled (spec.width / 8) x.0) (octets_at k (drop m rest)))
     (sym times)
     ∙ ap (option_map (λ x. filled (spec.width / 8) x.0)) (nothing_there k c rest some short))
@@ -93,8 +92,7 @@ pub text_there_is : (spec : Spec) (index : ℕ) (front : List Bool) (k : ℕ) (r
     → octets_at k last ≡ o
     → option_map (λ x. filled (spec.width / 8) x.0) o ≡ one_at spec index front
 text_there_is spec index front k rest c last o h some le times behind there =
-    sym
-    (behind_width spec index front k rest h ∙ text_behind spec h.own k index rest some le
+    sym (behind_width spec index front k rest h ∙ text_behind spec h.own k index rest some le
     ∙ ap (λ m. option_map (λ x. filled (spec.width / 8) x.0) (octets_at k (drop m rest)))
     (sym times)
     ∙ ap (λ xs. option_map (λ x. filled (spec.width / 8) x.0) (octets_at k xs)) (sym behind)

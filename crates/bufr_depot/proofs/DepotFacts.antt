@@ -158,8 +158,7 @@ module _ (d : DepotView) (from into : ℕ) (there : AreThere d from into) (apart
   put_back a e =
       let whole : k2 ≡ record there.target { archive = a } =
       ap (λ (x : ArchiveView). let k : Holding = record { archive = x; framer = k2.framer } in k) e
-      ∙ ap
-      (λ (f : Framing). let k : Holding = record { archive = a; framer = f } in
+      ∙ ap (λ (f : Framing). let k : Holding = record { archive = a; framer = f } in
       k) framer_stays in
       set-set d.slots into k1 k2 ∙ ap (set d.slots into) whole
 

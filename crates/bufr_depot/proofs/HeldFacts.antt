@@ -143,8 +143,7 @@ archive_all : (tables : Entries) (h k : ArchiveView) (rs : List Report) (frames 
     (counts : Counts) → h ≡ archive_of tables rs → AddsFrames h k frames counts
     → k ≡ archive_of tables (rs ++ reports_among tables frames)
 archive_all tables h k rs frames counts is adds =
-    subst
-    (λ (a : ArchiveView). k
+    subst (λ (a : ArchiveView). k
     ≡ taken_in a (report_entries a.tables (reports_among a.tables frames))) is adds.archive
     ∙ archive_more tables rs (reports_among tables frames)
 

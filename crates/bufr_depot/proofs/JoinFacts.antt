@@ -122,8 +122,7 @@ joined_stands d from into there a is slots z =
       octets = t.2.octets;
       framer = t.2.framer;
     } in
-    subst
-    (λ o. StandsFor
+    subst (λ o. StandsFor
     (record d { slots = set d.slots into (record there.target { archive = a }) })
     (joined_with o into slots)) (sym s.1)
     (zip_set d.tables d.slots slots into (record there.target { archive = a }) t.0
@@ -170,8 +169,7 @@ took d new from into there a (Ok Joined) good takes step is =
     join_done d from into there (merged there.target.archive a)
     (as_good d there.source there.target a good) step is in
     subst (λ n. StepDoes d n step (Ok Joined))
-    (sym
-    (takes.2
+    (sym (takes.2
     ∙ ap (λ (t : Holding). record d { slots = with_merged d.slots into t a }) same)) done
 took d new from into there a (Ok (Fed m r c)) good takes step is = absurd takes
 took d new from into there a (Ok (Ended m r c)) good takes step is = absurd takes
@@ -242,8 +240,7 @@ one_run old new next steps answers i step answer h is s does =
     (does.answer (after_all t (take i steps) answers slots) (s.stands slots z)) in
     let left : (slots : List Slot) → StandsFor old slots
     → StandsFor next (after t step answer (after_all t (take i steps) answers slots)) = λ slots z.
-    subst
-    (λ u. StandsFor next
+    subst (λ u. StandsFor next
     (after u step answer (after_all t (take i steps) answers slots))) s.tables
     (does.slots (after_all t (take i steps) answers slots) (s.stands slots z)) in
     record {

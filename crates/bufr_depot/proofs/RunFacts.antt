@@ -187,8 +187,7 @@ feed_told tables i piece s t fits ended longer =
     ∙ ap (λ fs. all_told tables s.ended ++ reports_among tables fs) (sure-piece s.open_stream piece)
     ∙ ap (λ rs. all_told tables s.ended ++ rs)
     (among-append tables (sure s.open_stream) (frames_of_piece s.open_stream piece))
-    ∙ sym
-    (append_assoc (all_told tables s.ended) (reports_among tables (sure s.open_stream))
+    ∙ sym (append_assoc (all_told tables s.ended) (reports_among tables (sure s.open_stream))
     (reports_among tables (frames_of_piece s.open_stream piece)))
     ∙ ap (λ rs. told_so_far tables s ++ rs) (sym came)
 
@@ -199,8 +198,7 @@ end_told : (tables : Entries) (i : ℕ) (s t : Slot) → t.ended ≡ s.ended ++ 
 end_told tables i s t ended closed =
     let came = reports_among tables (frames_of_end s.open_stream) in
     ap (λ w. all_told tables w ++ reports_among tables (sure t.open_stream)) ended
-    ∙ ap
-    (λ o. all_told tables (s.ended ++ s.open_stream ∷ [])
+    ∙ ap (λ o. all_told tables (s.ended ++ s.open_stream ∷ [])
     ++ reports_among tables (sure o)) closed
     ∙ append-nil (all_told tables (s.ended ++ s.open_stream ∷ []))
     ∙ told-append tables s.ended (s.open_stream ∷ [])

@@ -23,8 +23,7 @@ pub feed_found : (fed place : ℕ) (held piece : List ℕ) (v : Framing) (frames
     → frames ≡ drop out (sure (s ++ piece))
 feed_found fed place held piece v frames is here e s out st =
     e ∙ ap (λ p. frames_from false p 0 (held ++ piece)) here
-    ∙ sym
-    (Stands-found (framing fed held) s out piece (subst (λ x. Stands x s out) (sym is) st))
+    ∙ sym (Stands-found (framing fed held) s out piece (subst (λ x. Stands x s out) (sym is) st))
 
 -- and what is left after them is what a framer holds with all of them handed out
 pub feed_next : (fed place : ℕ) (held piece rest : List ℕ) (v : Framing) (frames : List Found)

@@ -197,8 +197,7 @@ rests_at place zero out (x ∷ xs) s o =
         let size : length (take l (x ∷ xs)) ≡ l = length-take-le l (x ∷ xs) b.whole in
         subst (λ fs. RestsAt place 0 (suc out) (x ∷ xs) fs (rest_from (suc out) 0 (x ∷ xs)))
         (sym (frames_frame false place l x xs h))
-        (subst
-        (λ r. RestsAt place 0 (suc out) (x ∷ xs)
+        (subst (λ r. RestsAt place 0 (suc out) (x ∷ xs)
         (record { place = place; bytes = take l (x ∷ xs) }
         ∷ frames_from false (place + 1) (l - 1) xs) r) (sym (rest_frame out l x xs h))
         (rests_frame place l out x xs (take l (x ∷ xs)) (frames_from false (place + 1) (l - 1) xs)

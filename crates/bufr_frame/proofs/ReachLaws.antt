@@ -248,8 +248,7 @@ takes_piece place skip l all held rest frame p s is =
     takes_held place l (all ++ x) front [] frame reached (frame_front (drop skip rest) l s.frame)
     (ap (rest_from 0 0) (sym (drop_all l front (omega arith))))
     (is ∙ ap (λ (q : ℕ). let f : Found = record { place = q; bytes = front } in f) here
-    ∙ ap
-    (λ (b : List ℕ). let f : Found =
+    ∙ ap (λ (b : List ℕ). let f : Found =
     record { place = place + (length (all ++ x) - length front); bytes = b } in f) itself)
 
 -- ---- a call so far
@@ -417,8 +416,7 @@ answers_held fed held kept after piece r l next from frame known s stop past roo
       all = λ e. cc;
       found = takes_held (fed - length held) l all now (drop from after) frame s.passed start left
           (is
-          ∙ ap
-          (λ (q : ℕ). let f : Found = record { place = q; bytes = take l now } in f) place);
+          ∙ ap (λ (q : ℕ). let f : Found = record { place = q; bytes = take l now } in f) place);
     }
 
 -- a frame in the piece lies in it
@@ -463,11 +461,9 @@ answers_piece fed held kept after piece r skip l from frame known s stop same wi
           (drop skip rest);
     } =
     is
-    ∙ ap
-    (λ (q : ℕ). let f : Found =
+    ∙ ap (λ (q : ℕ). let f : Found =
     record { place = q; bytes = take l (drop (r.taken + skip) piece) } in f) place
-    ∙ ap
-    (λ (t : List ℕ). let f : Found =
+    ∙ ap (λ (t : List ℕ). let f : Found =
     record { place = (fed - length held) + (length all + skip); bytes = take l t } in f) far in
     let one : TakesFrame (fed - length held) (all ++ take (skip + l) rest) [] frame =
     takes_piece (fed - length held) skip l all now rest frame s.passed at frame_is in
@@ -540,8 +536,8 @@ stands_next v taken held n (Some frame) size t = λ stream out stands.
     let some : 0 < length later = slice_get_within later 0 frame t.next in
     let st = Stands-more v stream out 1 taken stands (omega arith) in
     subst (λ k. Stands (record { fed = v.fed + k; held = held }) (stream ++ taken) (out + 1)) size
-    (subst
-    (λ h. Stands (record { fed = v.fed + length taken; held = h }) (stream ++ taken) (out + 1))
+    (subst (λ h. Stands (record { fed = v.fed + length taken; held = h }) (stream ++ taken)
+    (out + 1))
     (sym t.held_is) st)
 
 -- where there is none, no frame is sure
@@ -565,8 +561,8 @@ pub stands_on : (v : Framing) (taken held : List ℕ) (n : ℕ) → length taken
 stands_on v taken held n size t = λ stream out stands.
     let st = Stands-more v stream out 0 taken stands (omega arith) in
     subst (λ k. Stands (record { fed = v.fed + k; held = held }) (stream ++ taken) (out + 0)) size
-    (subst
-    (λ h. Stands (record { fed = v.fed + length taken; held = h }) (stream ++ taken) (out + 0))
+    (subst (λ h. Stands (record { fed = v.fed + length taken; held = h }) (stream ++ taken)
+    (out + 0))
     (sym t.held_is) st)
 
 -- no more is held than was held and taken in

@@ -208,8 +208,7 @@ scanned_frame ended place octets frames here l s h =
       all_frames =
           s.all_frames
           ∙ ap (λ fs. frames ++ fs) (one_frame ended (place + here) l (drop here octets) h)
-          ∙ sym
-          (append_assoc frames (f ∷ [])
+          ∙ sym (append_assoc frames (f ∷ [])
           (frames_from ended ((place + here) + l) 0 (drop l (drop here octets))))
           ∙ ap (λ fs. (frames ++ f ∷ []) ++ fs)
           (ap (λ t. frames_from ended ((place + here) + l) 0 t) far
@@ -237,8 +236,7 @@ scanned_out ended place octets frames here s h =
     let none : drop here octets ≡ [] = drop_all here octets h in
     record {
       frames_are =
-          sym
-          (s.all_frames ∙ ap (λ t. frames ++ frames_from ended (place + here) 0 t) none
+          sym (s.all_frames ∙ ap (λ t. frames ++ frames_from ended (place + here) 0 t) none
           ∙ append-nil frames);
       rest_is =
           λ e. sym
@@ -263,8 +261,7 @@ pub scanned_open : (ended : Bool) (place : ℕ) (octets : List ℕ) (frames : Li
     → ScannedAll ended place octets frames here
 scanned_open ended place octets frames here is s h = record {
   frames_are =
-      sym
-      (s.all_frames
+      sym (s.all_frames
       ∙ ap (λ fs. frames ++ fs)
       (ap (λ b. frames_from b (place + here) 0 (drop here octets)) is
       ∙ open_frames (place + here) (drop here octets) h) ∙ append-nil frames);

@@ -139,8 +139,8 @@ gaps place zero (x ∷ xs) =
             gaps_later place x xs (place + length (take l (x ∷ xs)))
                 (frames_from false (place + 1) (l - 1) xs) (omega arith)
                 (past_strictly place (l - 1) xs)
-                (subst
-                (λ low. GapsClear (place + 1) xs low (frames_from false (place + 1) (l - 1) xs))
+                (subst (λ low. GapsClear (place + 1) xs low
+                (frames_from false (place + 1) (l - 1) xs))
                 (let e : (place + 1) + (l - 1)
                 ≡ place + length (take l (x ∷ xs)) =
                 omega arith in e) (gaps (place + 1) (l - 1) xs)),

@@ -106,8 +106,7 @@ message_of_takes below tables octets d all ok =
     let has = (below.builds tables e.0.descriptors tree.0).0
     (step_takes template_passes expanded tree.0 tree.1) in
     let found =
-    bind_ok
-    (data_or (subsets_in tree.0 e.0.compressed e.0.count (bits e.0.contents))) _ d tree.2 in
+    bind_ok (data_or (subsets_in tree.0 e.0.compressed e.0.count (bits e.0.contents))) _ d tree.2 in
     let held = subsets_in tree.0 e.0.compressed e.0.count (bits e.0.contents) in
     let read = step_takes data_passes held found.0 found.1 in
     let said = below.takes octets e.0 all e.1 in

@@ -78,9 +78,11 @@ tree_fault below tables m fault some refused =
     elim (bind_err (template_or (template tables m.descriptors)) (held m) fault refused) [
       | inl not_so ↦
           let t = step_refuses template_passes (template tables m.descriptors) fault not_so in
-          subst (IsFirstEncodeFault tables m) t.2 (some, (below.refuses tables m.descriptors t.0).0 t.1)
+          subst (IsFirstEncodeFault tables m) t.2
+          (some, (below.refuses tables m.descriptors t.0).0 t.1)
       | inr tree ↦
-          let d = step_refuses data_passes (written_bits tree.0 m.compressed m.subsets) fault tree.2 in
+          let d =
+          step_refuses data_passes (written_bits tree.0 m.compressed m.subsets) fault tree.2 in
           let expanded = template tables m.descriptors in
           let has = (below.builds tables m.descriptors tree.0).0
           (step_takes template_passes expanded tree.0 tree.1) in

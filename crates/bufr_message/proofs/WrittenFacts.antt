@@ -51,8 +51,7 @@ whole_octets_spelt data_bits =
     ) in
     let found = bits-numbers n text (omega arith) in
     let none : drop (n * 8) text ≡ [] = drop_all (n * 8) text (omega arith) in (
-      sym
-          (found.0 ∙ ap (λ xs. bits (numbers n 8 text) ++ xs) none
+      sym (found.0 ∙ ap (λ xs. bits (numbers n 8 text) ++ xs) none
           ∙ append-nil (bits (numbers n 8 text))),
       found.1,
     )

@@ -198,8 +198,7 @@ section_is octets shortest p fault least = by_room (nat_lt (room_end octets) (p 
   where
     by_room : (b : Bool) → nat_lt (room_end octets) (p + 3) ≡ b
         → section_at shortest fault (from octets p)
-        ≡ cond
-        (b || nat_lt (length_at octets p) shortest || nat_lt (room_end octets)
+        ≡ cond (b || nat_lt (length_at octets p) shortest || nat_lt (room_end octets)
         (p + length_at octets p)) (Err fault)
         (Ok (behind octets p, from octets (p + length_at octets p)))
     by_room true e =

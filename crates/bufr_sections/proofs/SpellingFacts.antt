@@ -121,8 +121,8 @@ room_of_takes (b ∷ u ∷ f ∷ r ∷ l1 ∷ l2 ∷ l3 ∷ edition ∷ rest) fo
     (octets 6 0 (omega arith)) whole.0 whole.1 whole.2 in
     let is : (layout.0, take (length rest - 4) rest) ≡ found =
     ap (λ xs. (layout.0, xs)) whole.3 ∙ ok_is _ _ room.2 in
-    subst
-    (λ (x : Layout × List ℕ). (b ∷ u ∷ f ∷ r ∷ l1 ∷ l2 ∷ l3 ∷ edition ∷ rest ≡ enclosed x.0 x.1)
+    subst (λ (x : Layout × List ℕ).
+    (b ∷ u ∷ f ∷ r ∷ l1 ∷ l2 ∷ l3 ∷ edition ∷ rest ≡ enclosed x.0 x.1)
     × (12 + length x.1 < 2 ^ 24) × AreOctets x.1) is (
       ap (λ xs. xs ++ l1 ∷ l2 ∷ l3 ∷ edition ∷ rest) start
           ∙ ap (λ n. codes "BUFR" ++ l1 ∷ l2 ∷ l3 ∷ n ∷ rest) number ∙ spelt.0,
@@ -157,8 +157,7 @@ section_at_takes shortest fault (a ∷ b ∷ c ∷ more) contents rest least oct
     three_spelt (3 + length (take (three a b c - 3) more)) a b c whole
     (octets 0 0 (omega arith)) (octets 1 0 (omega arith)) (octets 2 0 (omega arith)) in
     let others = All-drop IsOctet 3 (a ∷ b ∷ c ∷ more) octets in
-    subst
-    (λ (p : List ℕ × List ℕ). (a ∷ b ∷ c ∷ more ≡ section p.0 ++ p.1)
+    subst (λ (p : List ℕ × List ℕ). (a ∷ b ∷ c ∷ more ≡ section p.0 ++ p.1)
     × (shortest ≤ 3 + length p.0) × AreOctets p.0 × AreOctets p.1) (ok_is _ _ g.1) (
       ap (λ xs. a ∷ b ∷ c ∷ xs) (sym (take-append-drop (three a b c - 3) more))
           ∙ ap (λ (h : List ℕ). h ++ take (three a b c - 3) more ++ drop (three a b c - 3) more)
@@ -289,16 +288,14 @@ pub local_at_takes : (announced : Bool) (room rest : List ℕ) (local : Option (
     → (ignored : ℕ) × IsOctet ignored × (room ≡ section2 local ignored ++ rest)
     × (is_present local ≡ announced) × IfSome local AreOctets × AreOctets rest
 local_at_takes false room rest local octets e =
-    subst
-    (λ (p : Option (List ℕ) × List ℕ). (ignored : ℕ) × IsOctet ignored
+    subst (λ (p : Option (List ℕ) × List ℕ). (ignored : ℕ) × IsOctet ignored
     × (room ≡ section2 p.0 ignored ++ p.1) × (is_present p.0 ≡ false) × IfSome p.0 AreOctets
     × AreOctets p.1) (ok_is _ _ e)
     (0, omega arith, refl, refl, tt, octets)
 local_at_takes true room rest local octets e =
     let two = bind_ok (section_at 4 Section2Length room) _ (local, rest) e in
     let found = section_at_takes 4 Section2Length room two.0.0 two.0.1 (omega arith) octets two.1 in
-    subst
-    (λ (p : Option (List ℕ) × List ℕ). (ignored : ℕ) × IsOctet ignored
+    subst (λ (p : Option (List ℕ) × List ℕ). (ignored : ℕ) × IsOctet ignored
     × (room ≡ section2 p.0 ignored ++ p.1) × (is_present p.0 ≡ true) × IfSome p.0 AreOctets
     × AreOctets p.1) (ok_is _ _ two.2)
     (local_spelt room two.0.0 two.0.1 found.0 found.1 found.2 found.3)
@@ -408,8 +405,7 @@ pub contents_of_takes : (octets rest contents : List ℕ) → 4 ≤ 3 + length o
     → (ignored : ℕ) × IsOctet ignored × (section octets ++ rest ≡ section4 contents ignored ++ [])
     × AreOctets contents
 contents_of_takes octets [] contents long all e =
-    subst
-    (λ (xs : List ℕ). (ignored : ℕ) × IsOctet ignored
+    subst (λ (xs : List ℕ). (ignored : ℕ) × IsOctet ignored
     × (section octets ++ [] ≡ section4 xs ignored ++ []) × AreOctets xs) (ok_is _ _ e)
     (let c = contents_spelt octets long all in (c.0, c.1, ap (λ xs. xs ++ []) c.2, c.3))
 contents_of_takes octets (x ∷ rest) contents long all e =

@@ -77,8 +77,7 @@ added-elements (row ∷ rows) so_far total h r =
     more_rows rest more e q s =
         let k =
         rest more
-        (sym
-        (then-gives (with_element so_far row) (λ t. added with_element t rows) more
+        (sym (then-gives (with_element so_far row) (λ t. added with_element t rows) more
         (added with_element more rows) e refl) ∙ h) q in (
           k.0,
           same-through total (more ++ rows) (so_far ++ row ∷ rows) k.1
@@ -98,8 +97,8 @@ added-elements (row ∷ rows) so_far total h r =
         absurd
         (let w : Err (Conflict row.0)
         ≡ Ok total =
-        sym
-        (then-stops (with_element so_far row) (λ t. added with_element t rows) (Conflict row.0) e)
+        sym (then-stops (with_element so_far row) (λ t. added with_element t rows) (Conflict row.0)
+        e)
         ∙ h in cc)
 
 -- elements in order with the members of both are what the rows add

@@ -153,8 +153,7 @@ pub element_row-not_count : (cells : List (List ℕ)) (row : ℕ × Element)
     → element_row cells ≡ Some row → same_kind row.1.kind kinds.Count ≡ false
 unfolding element_row
 element_row-not_count cells row h =
-    rw
-    (made (descriptor_of 0 (cell cells 0)) (signed_of 32 (cell cells 2))
+    rw (made (descriptor_of 0 (cell cells 0)) (signed_of 32 (cell cells 2))
     (signed_of 64 (cell cells 3)) (unsigned_of 32 (cell cells 4))
     (kind_of (cell cells 1)) row.0 row.1 h) (kind_of-not_count (cell cells 1))
 

@@ -266,8 +266,7 @@ added-members [] so_far total h a = let e : so_far ≡ total = cc in moved total
     moved : (t : Sequences) → so_far ≡ t → (k : Grouped t)
         × (written_out (groups_of t k) ≡ written_out (groups_of so_far h) ++ [])
     moved t e =
-        subst
-        (λ (t : Sequences). (k : Grouped t)
+        subst (λ (t : Sequences). (k : Grouped t)
         × (written_out (groups_of t k) ≡ written_out (groups_of so_far h) ++ [])) e
         (h, sym (append-nil (written_out (groups_of so_far h))))
 added-members (row ∷ rows) so_far total h a =
@@ -283,8 +282,7 @@ added-members (row ∷ rows) so_far total h a =
     by_case rest (joins next k e w why) =
         let l =
         rest next k
-        (sym
-        (then-gives (with_member so_far row) (λ t. added with_member t rows) next
+        (sym (then-gives (with_member so_far row) (λ t. added with_member t rows) next
         (added with_member next rows) e refl) ∙ a) in (
           l.0,
           l.1 ∙ ap (λ (t : List (ℕ × ℕ)). t ++ rows) w
@@ -294,8 +292,7 @@ added-members (row ∷ rows) so_far total h a =
         absurd
         (let g : Err (SplitSequence row.0)
         ≡ Ok total =
-        sym
-        (then-stops (with_member so_far row) (λ t. added with_member t rows)
+        sym (then-stops (with_member so_far row) (λ t. added with_member t rows)
         (SplitSequence row.0) e) ∙ a in cc)
 
 -- the rows of one sequence behind one of its rows
@@ -313,8 +310,7 @@ run ended d list (m ∷ more) rest =
     (added with_member (record { ended = ended; open_one = Some (d, list ++ m ∷ more) }) rest)
     (with_member-same (record { ended = ended; open_one = Some (d, list) }) d m list refl)
     (run ended d (list ++ m ∷ []) more rest
-    ∙ ap
-    (λ (t : List ℕ). added with_member (record { ended = ended; open_one = Some (d, t) }) rest)
+    ∙ ap (λ (t : List ℕ). added with_member (record { ended = ended; open_one = Some (d, t) }) rest)
     (append_assoc list (m ∷ []) more))
 
 -- groups written out add up to themselves
@@ -364,8 +360,8 @@ moved-rows : (file : List (List (List ℕ))) (rows others : List (ℕ × ℕ)) �
     → (h : HasRows columns_d member_row file rows)
     → AreRows member_row (header_of file) h.places (rows_of file) others
 moved-rows file rows others e h =
-    subst
-    (λ (t : List (ℕ × ℕ)). AreRows member_row (header_of file) h.places (rows_of file) t) e h.behind
+    subst (λ (t : List (ℕ × ℕ)). AreRows member_row (header_of file) h.places (rows_of file) t) e
+    h.behind
 
 -- a file whose rows add up has these sequences
 abbrev table-of : (file : List (List (List ℕ))) (rows : List (ℕ × ℕ)) (total : Sequences)

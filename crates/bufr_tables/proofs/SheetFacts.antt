@@ -377,8 +377,7 @@ module _ {A R : Type 0} (row_of : List (List ℕ) → Option R) (add : A → R �
           records-more n raw behind so_far more (added add so_far (row ∷ rows))
           (adds_row row_of add header places n raw so_far row s ∙ e)
           (rest more
-          ∙ sym
-          (then-gives (add so_far row) (λ t. added add t rows) more
+          ∙ sym (then-gives (add so_far row) (λ t. added add t rows) more
           (added add more rows) e refl))
       by_row rest (Err f) e =
           records-stop n raw behind so_far f
@@ -429,8 +428,7 @@ module _ {A R : Type 0} (row_of : List (List ℕ) → Option R) (add : A → R �
           records-more n first (before ++ raw ∷ behind) so_far more (Err f)
           (adds_row row_of add header places n first so_far row k ∙ e)
           (rest more
-          (sym
-          (then-gives (add so_far row) (λ t. added add t rows) more
+          (sym (then-gives (add so_far row) (λ t. added add t rows) more
           (added add more rows) e refl) ∙ a))
       by_row rest (Err g) e =
           absurd

@@ -73,8 +73,8 @@ printed_more printing tables first mid now counts counts' frames frame done h p 
           ∙ sym (sum_by_push (λ f. length f.bytes) frames frame);
       written_are =
           ap (λ (k : Counts). k.written) e ∙ ap (λ n. n + long) h.written_are
-          ∙ sym
-          (length-append (frames_text printing tables frames) (frame_text printing tables frame))
+          ∙ sym (length-append (frames_text printing tables frames)
+          (frame_text printing tables frame))
           ∙ ap length (sym whole);
       short =
           let a =

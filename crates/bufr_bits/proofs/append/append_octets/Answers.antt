@@ -24,8 +24,7 @@ returns-then-free-gt0-clause-ok c =
     (c.move_up.auto.octets ∙ ap length c.as_mut_slice.ensures.value) e.ok.0 in
     let is =
     c.move_up.ensures
-    ∙ ap
-    (moved_up (c.len-count.result - 1 + 1)
+    ∙ ap (moved_up (c.len-count.result - 1 + 1)
     (8 * c.len-count.result - c.args.len)) c.as_mut_slice.ensures.value in
     rw back
     (put_octets_moved o.items e.items c.move_up.new.octets c.args.more.now c.args.len
@@ -43,8 +42,7 @@ returns-then-free-gt0-clause-filled c =
     (c.move_up.auto.octets ∙ ap length c.as_mut_slice.ensures.value) e.ok.0 in
     let is =
     c.move_up.ensures
-    ∙ ap
-    (moved_up (c.len-count.result - 1 + 1)
+    ∙ ap (moved_up (c.len-count.result - 1 + 1)
     (8 * c.len-count.result - c.args.len)) c.as_mut_slice.ensures.value in
     rw back
     (put_octets_moved o.items e.items c.move_up.new.octets c.args.more.now c.args.len

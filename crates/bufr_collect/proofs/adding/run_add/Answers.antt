@@ -24,8 +24,7 @@ returns-in_err-write_out-clause-adds g c =
     (collects_fails c.args.tables.now c.args.reads olds news writer
     (g.W.Sink.writing c.write_out.new.writer) c.add_streams.new.gatherer
     c.add_streams.new.counts _ c.in_ok-add_streams.field-0 c.in_err-write_out.field-0.0
-    (subst
-    (λ
+    (subst (λ
     (t : Entries). AddsStreams t c.args.reads olds news c.add_streams.new.gatherer
     c.add_streams.new.counts (Ok c.in_ok-add_streams.field-0)) same
     c.in_ok-add_streams.ensures.adds)
@@ -43,8 +42,7 @@ returns-clause-adds g c =
     collects_ok c.args.tables.now c.args.reads olds news writer
     (g.W.Sink.writing c.write_out.new.writer) c.add_streams.new.gatherer
     c.add_streams.new.counts _ _ c.in_ok-add_streams.field-0
-    (subst
-    (λ
+    (subst (λ
     (t : Entries). AddsStreams t c.args.reads olds news c.add_streams.new.gatherer
     c.add_streams.new.counts (Ok c.in_ok-add_streams.field-0)) same
     c.in_ok-add_streams.ensures.adds)

@@ -22,7 +22,6 @@ loop-k-preserved c =
 -- where no width below 64 will do, 64 is answered
 pub returns : goal.returns
 returns c =
-    sym
-    (c.loop-k.invariant
+    sym (c.loop-k.invariant
     ∙ fewest_done c.loop-k.k c.args.difference c.loop-k-test.false
     (c.loop-k.auto.k-end (omega arith)))

@@ -8,14 +8,12 @@ use Rattle.bufr_data.proofs.best.number_at.Goals as goal
 -- a subset with no field at the place counts as one with the number 0
 pub returns-in-None : goal.returns-in-None
 returns-in-None c =
-    sym
-    (ap (λ row. number_of (first_raw row))
+    sym (ap (λ row. number_of (first_raw row))
     (none_next c.args.subset.now.fields c.args.place (sym c.in-None.ensures)))
 
 -- the number of the field at the place is answered
 pub returns-in-Some : goal.returns-in-Some
 returns-in-Some c =
     c.number.ensures
-    ∙ sym
-    (ap (λ row. number_of (first_raw row))
+    ∙ sym (ap (λ row. number_of (first_raw row))
     (next_is c.args.subset.now.fields c.args.place _ (sym c.in-Some.ensures)))

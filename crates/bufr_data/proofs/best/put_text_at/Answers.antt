@@ -8,8 +8,7 @@ use Rattle.bufr_data.proofs.best.put_text_at.Goals as goal
 -- a subset with no field at the place has no octets to put
 pub returns-in-None-clause-put : goal.returns-in-None-clause-put
 returns-in-None-clause-put c =
-    sym
-    (ap (λ row. c.args.sink.now ++ bits (octets_of (first_raw row)))
+    sym (ap (λ row. c.args.sink.now ++ bits (octets_of (first_raw row)))
     (none_next c.args.subset.now.fields c.args.place (sym c.in-None.ensures))
     ∙ append-nil c.args.sink.now)
 
@@ -17,6 +16,5 @@ returns-in-None-clause-put c =
 pub returns-in_ok-put_text-in-Some-clause-put : goal.returns-in_ok-put_text-in-Some-clause-put
 returns-in_ok-put_text-in-Some-clause-put c =
     c.in_ok-put_text-in-Some.ensures.put
-    ∙ sym
-    (ap (λ row. c.args.sink.now ++ bits (octets_of (first_raw row)))
+    ∙ sym (ap (λ row. c.args.sink.now ++ bits (octets_of (first_raw row)))
     (next_is c.args.subset.now.fields c.args.place _ (sym c.in-Some.ensures)))

@@ -45,8 +45,7 @@ returns-clause-put c =
     omega (arith, c.loop-other-test.false) in
     let octets = c.args.field.now.spec.width / 8 in
     c.loop-other.invariant
-    ∙ ap
-    (λ ss. c.args.sink.now
+    ∙ ap (λ ss. c.args.sink.now
     ++
     (bits (replicate octets 0) ++ bin 6 octets
     ++ flat_map bits

@@ -29,8 +29,7 @@ loop-fault-preserved c =
     let octets = c.args.reader.now.octets in
     let passed = rw c.in-Ok-Some.field-0-is at c.in-Ok-Some.ensures.ok in
     let step =
-    subst
-    (λ os. PassesPlace c.args.subsets (c.len.result + 1) (walks.left c.loop-fault.walk) os
+    subst (λ os. PassesPlace c.args.subsets (c.len.result + 1) (walks.left c.loop-fault.walk) os
     (left c.loop-fault.reader) (Some c.in-Ok-Some.place) (walks.left c.next_place.new.walk)
     (left c.next_place.new.reader)) c.loop-fault.invariant.octets passed in
     let goes = rw c.in-Ok-Some.field-0-is at c.in-Ok-Some.ensures.advances in

@@ -49,14 +49,12 @@ loop-place-preserved c =
           (left_is c.args.fields.now place f less c.index-fields-place.is)
           ∙ ap (λ bs. c.loop-place.sink ++ bs)
           (best_next f (drop (place + 1) c.args.fields.now) c.args.others.now place)
-          ∙ sym
-          (append_assoc c.loop-place.sink
+          ∙ sym (append_assoc c.loop-place.sink
           (best f.spec (values_from f (rows_from place c.args.others.now)))
           (best_bits
           (columns_here (drop (place + 1) c.args.fields.now)
           (rows_from (place + 1) c.args.others.now))))
-          ∙ ap
-          (λ bs. bs
+          ∙ ap (λ bs. bs
           ++ best_bits
           (columns_here (drop (place + 1) c.args.fields.now)
           (rows_from (place + 1) c.args.others.now))) (sym c.in_ok-put_best.ensures.put);
@@ -66,10 +64,8 @@ loop-place-preserved c =
 -- where no place is left, the best columns of all are put
 pub returns-clause-put : goal.returns-clause-put
 returns-clause-put c =
-    sym
-    (c.loop-place.invariant.put
-    ∙ ap
-    (λ fs. c.loop-place.sink
+    sym (c.loop-place.invariant.put
+    ∙ ap (λ fs. c.loop-place.sink
     ++ best_bits (columns_here fs (rows_from c.loop-place.place c.args.others.now)))
     (drop_all c.loop-place.place c.args.fields.now c.loop-place-test.false)
     ∙ ap (λ bs. c.loop-place.sink ++ bs)

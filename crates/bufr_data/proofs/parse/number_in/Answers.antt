@@ -9,8 +9,7 @@ use Rattle.bufr_data.proofs.parse.number_in.Goals.{else-is_ascii_digit}
 pub returns-in_err-checked_mul : goal.returns-in_err-checked_mul
 returns-in_err-checked_mul c =
     c.from_residual.ensures
-    ∙ sym
-    (number_large c.args.text.now c.loop-c.c-index c.loop-c.value
+    ∙ sym (number_large c.args.text.now c.loop-c.c-index c.loop-c.value
     (omega arith) c.loop-c.invariant.so_far
     (sym c.is_ascii_digit.ensures.value ∙ c.if-is_ascii_digit.true)
     (omega (arith, c.in_err-checked_mul.ensures)))
@@ -19,8 +18,7 @@ returns-in_err-checked_mul c =
 pub returns-in_err-value : goal.returns-in_err-value
 returns-in_err-value c =
     c.from_residual-in_err-value.ensures
-    ∙ sym
-    (number_large c.args.text.now c.loop-c.c-index c.loop-c.value
+    ∙ sym (number_large c.args.text.now c.loop-c.c-index c.loop-c.value
     (omega arith) c.loop-c.invariant.so_far
     (sym c.is_ascii_digit.ensures.value ∙ c.if-is_ascii_digit.true)
     (omega (arith, c.in_err-value.ensures)))
@@ -51,8 +49,7 @@ loop-c-preserved c =
           record {
             so_far =
                 w.value-is ∙ c.loop-c.invariant.so_far
-                ∙ sym
-                (number_same c.args.text.now c.loop-c.c-index (omega arith)
+                ∙ sym (number_same c.args.text.now c.loop-c.c-index (omega arith)
                 (sym w.if-is_ascii_digit.ensures.value));
             fits = omega (arith, w.value-is, c.loop-c.invariant.fits);
           }
@@ -61,6 +58,5 @@ loop-c-preserved c =
 -- where no character is left, the number of the text is answered
 pub returns : goal.returns
 returns c =
-    sym
-    (number_all c.args.text.now c.loop-c.c-index c.loop-c.value
+    sym (number_all c.args.text.now c.loop-c.c-index c.loop-c.value
     (omega arith) c.loop-c.invariant.so_far c.loop-c.invariant.fits)

@@ -10,8 +10,7 @@ pub returns-then-not-is_alike : goal.returns-then-not-is_alike
 returns-then-not-is_alike c =
     let less : c.loop-other.other-index < length c.args.others.now =
     omega (arith, c.loop-other-test.true) in
-    sym
-    (rows_all (begins_like c.args.field.now) c.args.place c.args.others.now
+    sym (rows_all (begins_like c.args.field.now) c.args.place c.args.others.now
     ∙ all_false
     (λ (s : Subset). begins_like c.args.field.now
     (drop c.args.place s.fields)) c.args.others.now c.loop-other.other-index c.other-item.result
@@ -33,8 +32,7 @@ pub returns : goal.returns
 returns c =
     let done : length c.args.others.now ≤ c.loop-other.other-index =
     omega (arith, c.loop-other-test.false) in
-    sym
-    (rows_all (begins_like c.args.field.now) c.args.place c.args.others.now
+    sym (rows_all (begins_like c.args.field.now) c.args.place c.args.others.now
     ∙ all_end
     (λ (s : Subset). begins_like c.args.field.now
     (drop c.args.place s.fields)) c.args.others.now c.loop-other.other-index done

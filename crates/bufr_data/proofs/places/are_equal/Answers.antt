@@ -11,8 +11,7 @@ pub returns-then-not-has_raw : goal.returns-then-not-has_raw
 returns-then-not-has_raw c =
     let less : c.loop-other.other-index < length c.args.others.now =
     omega (arith, c.loop-other-test.true) in
-    sym
-    (values_all (λ w. same_raw w c.args.raw.now) c.args.place c.args.others.now
+    sym (values_all (λ w. same_raw w c.args.raw.now) c.args.place c.args.others.now
     ∙ all_false
     (λ (s : Subset). same_raw
     (first_raw
@@ -36,8 +35,7 @@ pub returns : goal.returns
 returns c =
     let done : length c.args.others.now ≤ c.loop-other.other-index =
     omega (arith, c.loop-other-test.false) in
-    sym
-    (values_all (λ w. same_raw w c.args.raw.now) c.args.place c.args.others.now
+    sym (values_all (λ w. same_raw w c.args.raw.now) c.args.place c.args.others.now
     ∙ all_end
     (λ (s : Subset). same_raw
     (first_raw

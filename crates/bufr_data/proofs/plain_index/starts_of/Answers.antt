@@ -33,8 +33,8 @@ loop-index-preserved c =
     ap (λ b. drop b (bits c.loop-index.reader.octets)) (sym c.bit_of-bit.ensures.is)
     ∙ ap (λ os. drop s.bit (bits os)) c.loop-index.invariant.same_octets in
     let inside : s.bit ≤ 8 * length octets =
-    subst
-    (λ os. s.bit ≤ 8 * length os) c.loop-index.invariant.same_octets c.bit_of-bit.ensures.inside
+    subst (λ os. s.bit ≤ 8 * length os) c.loop-index.invariant.same_octets
+    c.bit_of-bit.ensures.inside
     in
     record {
       onward = omega (arith, c.in_ok-items.ensures.onward, c.loop-index.invariant.onward);
@@ -51,8 +51,7 @@ loop-index-preserved c =
 -- where no subset is left, those at the starts are all
 pub returns-clause-exact : goal.returns-clause-exact
 returns-clause-exact c =
-    rw
-    (all_read (course c.args.template.now)
+    rw (all_read (course c.args.template.now)
     (c.loop-index.index + 1) c.args.count c.loop-index.index c.loop-index.used
     (left c.loop-index.reader) _ _
     c.loop-index-test.false c.loop-index.invariant.read) refl

@@ -57,8 +57,7 @@ returns-in-Err-OutOfMemory-clause-adds g c =
     c.loop-frame.counts c.loop-frame.joined c.in-Err-OutOfMemory.field-0
     c.in-Err-OutOfMemory.done
     c.loop-frame-test.true c.loop-frame.invariant
-    (subst
-    (λ (o : List ℕ). AddsMessage c.loop-frame.archive c.add_octets.new.archive o
+    (subst (λ (o : List ℕ). AddsMessage c.loop-frame.archive c.add_octets.new.archive o
     (Err c.in-Err-OutOfMemory.field-0)) at c.in-Err-OutOfMemory.ensures.adds)
     c.in-Err-OutOfMemory.field-0-is
 
@@ -80,8 +79,7 @@ loop-frame-preserved g c =
           moved old next fs (i + 1) _ c.match-add_octets.counts _ c.match-add_octets.joined
           (one_added old new next fs i f c.loop-frame.counts c.loop-frame.joined w.in-Ok.added
           c.loop-frame-test.true c.loop-frame.invariant
-          (subst
-          (λ (o : List ℕ). AddsMessage new next o
+          (subst (λ (o : List ℕ). AddsMessage new next o
           (Ok w.in-Ok.added)) at w.in-Ok.ensures.adds) w.in-Ok.ensures.reports
           w.in-Ok.ensures.changed)
           w.counts-is w.joined-is
@@ -89,8 +87,7 @@ loop-frame-preserved g c =
           moved old next fs (i + 1) _ c.match-add_octets.counts _ c.match-add_octets.joined
           (one_refused old new next fs i f c.loop-frame.counts c.loop-frame.joined
           w.in-Err-Refused.field-0 c.loop-frame-test.true c.loop-frame.invariant
-          (subst
-          (λ (o : List ℕ). AddsMessage new next o
+          (subst (λ (o : List ℕ). AddsMessage new next o
           (Err w.in-Err-Refused.field-0)) at w.in-Err-Refused.ensures.adds)
           (not_memory w.in-Err-Refused.field-0 w.in-Err-Refused.field-0-0
           w.in-Err-Refused.field-0-is))

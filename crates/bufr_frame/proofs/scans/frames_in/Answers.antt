@@ -17,8 +17,7 @@ loop-next-smaller c =
     let here = c.loop-next.next.place in
     let l = c.in-Some.length in
     let start : start_of (drop here octets) ≡ Frame l =
-    subst
-    (λ o. IfSome o
+    subst (λ o. IfSome o
     (λ n. start_of (drop here octets) ≡ Frame n)) c.in-Some.is c.loop-next.invariant.1 in
     let fits = frame_fits (drop here octets) l start in
     let long = frame_moves (drop here octets) l start in
@@ -37,15 +36,13 @@ loop-next-preserved c =
     let frames = c.loop-next.frames.items in
     let next = c.next_start-next-in-Some.ensures in
     let start : start_of (drop here octets) ≡ Frame l =
-    subst
-    (λ o. IfSome o
+    subst (λ o. IfSome o
     (λ n. start_of (drop here octets) ≡ Frame n)) c.in-Some.is c.loop-next.invariant.1 in
     let one : (here + l) - here ≡ l = omega arith in
     let same : c.in_ok-copied.field-0
     ≡ record { place = place + here; bytes = take l (drop here octets) } =
     c.in_ok-copied.ensures
-    ∙ ap
-    (λ (k : ℕ). let f : Found =
+    ∙ ap (λ (k : ℕ). let f : Found =
     record { place = place + here; bytes = take k (drop here octets) } in f) one in
     let grown = c.in_ok-push.ensures.items ∙ ap (λ (f : Found). frames ++ f ∷ []) same in
     let then =

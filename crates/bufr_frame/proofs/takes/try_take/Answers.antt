@@ -51,22 +51,19 @@ returns-in_ok-found-in-Held-clause-taken c =
     let frame : c.in_ok-found-in-Held.found
     ≡ record { place = begins - (length kept - r.from); bytes = take l (drop r.from kept) } =
     c.in_ok-found-in-Held.ensures
-    ∙ ap
-    (λ (n : ℕ). let f : Found =
+    ∙ ap (λ (n : ℕ). let f : Found =
     record {
       place = begins - (n - r.from);
       bytes = take ((r.from + l) - r.from)
           (drop r.from c.deref.result.now);
     } in f) size
-    ∙ ap
-    (λ (n : ℕ). let f : Found =
+    ∙ ap (λ (n : ℕ). let f : Found =
     record {
       place = begins - (length kept - r.from);
       bytes = take n
           (drop r.from c.deref.result.now);
     } in f) one
-    ∙ ap
-    (λ (t : List ℕ). let f : Found =
+    ∙ ap (λ (t : List ℕ). let f : Found =
     record { place = begins - (length kept - r.from); bytes = take l (drop r.from t) } in
     f) c.deref.ensures.value in
     answers_held c.args.fed _ kept c.let_go-from.new.octets.items c.args.piece.now r l place
@@ -87,8 +84,7 @@ returns-in_ok-found-in-Piece-clause-taken c =
     let frame : c.in_ok-found-in-Piece.found
     ≡ record { place = c.args.fed + at; bytes = take l (drop at piece) } =
     c.in_ok-found-in-Piece.ensures
-    ∙ ap
-    (λ (n : ℕ). let f : Found =
+    ∙ ap (λ (n : ℕ). let f : Found =
     record { place = c.args.fed + at; bytes = take n (drop at piece) } in f) one in
     answers_piece c.args.fed _ kept c.let_go-from-in-Piece.new.octets.items c.args.piece.now r
     c.in-Piece.skip c.in-Piece.length c.let_go-from-in-Piece.result c.in_ok-found-in-Piece.found

@@ -7,6 +7,5 @@ use Rattle.bufr_message.proofs.message_view.can_be_alone.Goals as goal
 pub returns-then-are_short : goal.returns-then-are_short
 returns-then-are_short c =
     let few = rw c.if-are_short.true at c.are_short.ensures in
-    sym
-    (few_octets c.data_hold_subsets.ensures.read c.args.contents.now c.args.compressed
+    sym (few_octets c.data_hold_subsets.ensures.read c.args.contents.now c.args.compressed
     c.args.descriptors.now c.args.subsets.now c.requires few)

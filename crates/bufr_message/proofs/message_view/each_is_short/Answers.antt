@@ -9,8 +9,7 @@ pub returns-then-not-is_short : goal.returns-then-not-is_short
 returns-then-not-is_short c =
     let back : c.loop-index.index + 1 - 1 ≡ c.loop-index.index = omega arith in
     let here = ap (slice_get c.args.subsets.now) (sym back) ∙ c.in_ok-subset.ensures in
-    sym
-    (one_too_long c.args.descriptors.now c.args.subsets.now c.loop-index.index
+    sym (one_too_long c.args.descriptors.now c.args.subsets.now c.loop-index.index
     c.in_ok-subset.subset here (sym c.is_short.ensures ∙ c.if-not-is_short.true))
 
 -- with one more that is short, so many subsets can each be said alone

@@ -10,11 +10,9 @@ pub returns-in-Some : goal.returns-in-Some
 returns-in-Some c =
     ap (found_or_absent c.args.column)
     (c.in-Some.ensures
-    ∙ ap
-    (λ (w : List ℕ). position
+    ∙ ap (λ (w : List ℕ). position
     (λ (s : Bor (List ℕ)). bytes_eq s.now w) c.args.names.now) c.title.ensures
-    ∙ sym
-    (position-map (λ (s : List ℕ). bytes_eq s (title c.args.column))
+    ∙ sym (position-map (λ (s : List ℕ). bytes_eq s (title c.args.column))
     (λ (s : Bor (List ℕ)). s.now) c.args.names.now))
 
 -- where no name is found, none is the title, and the column is absent
@@ -22,9 +20,7 @@ pub returns-in-None : goal.returns-in-None
 returns-in-None c =
     ap (found_or_absent c.args.column)
     (c.in-None.ensures
-    ∙ ap
-    (λ (w : List ℕ). position
+    ∙ ap (λ (w : List ℕ). position
     (λ (s : Bor (List ℕ)). bytes_eq s.now w) c.args.names.now) c.title.ensures
-    ∙ sym
-    (position-map (λ (s : List ℕ). bytes_eq s (title c.args.column))
+    ∙ sym (position-map (λ (s : List ℕ). bytes_eq s (title c.args.column))
     (λ (s : Bor (List ℕ)). s.now) c.args.names.now))

@@ -7,8 +7,7 @@ use Rattle.bufr_tables.proofs.fields.raw_field.Goals as goal
 -- a field that the row has there is the one at the place
 pub returns-in-Some : goal.returns-in-Some
 returns-in-Some c =
-    sym
-    (get_or-field_at (fields_of c.args.row.now) c.args.i c.in-Some.field.now
+    sym (get_or-field_at (fields_of c.args.row.now) c.args.i c.in-Some.field.now
     (sym c.in-Some.ensures.value))
 
 -- where the row has none, the field is empty

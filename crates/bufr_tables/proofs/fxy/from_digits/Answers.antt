@@ -11,8 +11,7 @@ returns-then-y-gt-GREATEST_Y c =
     of_text-digits c.args.f c.args.x10 c.args.x1 c.args.y100 c.args.y10 c.args.y1 c.requires in
     let w : 255 < 100 * digit_value c.args.y100 + 10 * digit_value c.args.y10 + digit_value
     c.args.y1 = omega arith in
-    sym
-    (e
+    sym (e
     ∙ wide_y (digit_value c.args.f) (10 * digit_value c.args.x10 + digit_value c.args.x1)
     (100 * digit_value c.args.y100 + 10 * digit_value c.args.y10 + digit_value c.args.y1) w)
 

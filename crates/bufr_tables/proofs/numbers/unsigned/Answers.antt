@@ -10,8 +10,7 @@ pub returns-then-first-eq43 : goal.returns-then-first-eq43
 returns-then-first-eq43 c =
     c.natural.ensures
     ∙ ap (option_and_then (unsigned_fit 64))
-    (sym
-    (unsigned-plus c.args.text.now c.in_ok-first.rest.now c.in_ok-first.first.now
+    (sym (unsigned-plus c.args.text.now c.in_ok-first.rest.now c.in_ok-first.first.now
     c.in_ok-first.ensures.cases.0 c.if-first-eq43.true))
 
 -- without a plus all octets are the digits of the number
@@ -19,6 +18,5 @@ pub returns : goal.returns
 returns c =
     c.natural-2.ensures
     ∙ ap (option_and_then (unsigned_fit 64))
-    (sym
-    (unsigned-other c.args.text.now c.in_ok-first.rest.now c.in_ok-first.first.now
+    (sym (unsigned-other c.args.text.now c.in_ok-first.rest.now c.in_ok-first.first.now
     c.in_ok-first.ensures.cases.0 c.if-first-eq43.false))

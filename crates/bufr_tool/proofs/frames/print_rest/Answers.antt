@@ -51,8 +51,7 @@ returns g c first stream h =
     let whole =
     ap (λ (fs : List Found). sure stream ++ fs) c.deref.ensures.value
     ∙ handed_end _ stream (sure stream) _ h.handed found in
-    subst
-    (λ
+    subst (λ
     (fs : List Found). PrintsFrames c.args.printing c.args.tables.now fs
     c.print_frames.new.counts first
     (g.W.Sink.writing c.print_frames.new.writer) c.print_frames.result) whole

@@ -67,7 +67,6 @@ returns-in_err-matches-clause-taken g c =
     (λ (e : Error). takes commands (map g.S.AsStr.text c.args.words.now) ≡ true → kind_of e
     ≡ OutOfMemory)
     c.from_residual-in_err-matches.ensures.1
-    (subst
-    (λ (a : App). takes a (map g.S.AsStr.text c.args.words.now) ≡ true
+    (subst (λ (a : App). takes a (map g.S.AsStr.text c.args.words.now) ≡ true
     → kind_of c.in_err-matches.field-0.0
     ≡ OutOfMemory) c.in_ok-bufr.ensures c.in_err-matches.ensures.passes)

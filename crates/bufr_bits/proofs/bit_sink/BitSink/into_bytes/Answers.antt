@@ -15,6 +15,5 @@ returns c =
     (omega (arith, length-bits s.octets.items, c.self.invariant.0)) in
     let even : s.len % 8 ≡ 0 = ap (λ k. k % 8) (sym long) ∙ whole in
     rw (← c.self.view_is)
-    (sym
-    (take_all s.len (bits s.octets.items)
+    (sym (take_all s.len (bits s.octets.items)
     (omega (arith, length-bits s.octets.items, c.self.invariant.0, c.self.invariant.1))))

@@ -10,6 +10,5 @@ pub returns : goal.returns
 returns c =
     let s = c.self.inside in
     rw (← c.self.view_is)
-    (sym
-    (length-take-le s.len (bits s.octets.items)
+    (sym (length-take-le s.len (bits s.octets.items)
     (omega (arith, length-bits s.octets.items, c.self.invariant.0))))

@@ -31,8 +31,7 @@ loop-step-preserved g c =
       answer = c.step.ensures.answer;
       slots = c.step.ensures.slots;
     } in (
-      subst
-          (λ found. RunSoFar c.args.self.now c.step.new.self c.args.steps.now found
+      subst (λ found. RunSoFar c.args.self.now c.step.new.self c.args.steps.now found
           (c.loop-step.step-index + 1)) (sym c.push_reserved.ensures.items)
           (one_run c.args.self.now c.loop-step.self c.step.new.self c.args.steps.now
           c.loop-step.answers.items c.loop-step.step-index
@@ -55,8 +54,7 @@ returns-clause-answers g c = λ slots z.
 -- and the depot stands for the slots after all of them
 pub returns-clause-slots : goal.returns-clause-slots
 returns-clause-slots g c = λ slots z.
-    subst
-    (λ steps. StandsFor c.loop-step.self
+    subst (λ steps. StandsFor c.loop-step.self
     (after_all c.args.self.now.tables steps c.loop-step.answers.items slots))
     (take_all c.loop-step.step-index c.args.steps.now c.loop-step-test.false)
     (c.loop-step.invariant.0.stands slots z)

@@ -20,8 +20,7 @@ returns g c =
     let at : slice_get d.slots c.args.into ≡ Some h =
     slice_get_read d.slots (length d.slots) c.args.into h refl below c.index_mut.ensures.value in
     let k : Holding = record { archive = c.merge.new.self; framer = c.behind-self.inside.framer } in
-    subst
-    (λ (e : DepotView). TakesIn e
+    subst (λ (e : DepotView). TakesIn e
     (record d { slots = set d.slots c.args.into k }) c.args.into a c.match-merge.result)
     c.self.view_is
     (elim c.match-merge.branch [

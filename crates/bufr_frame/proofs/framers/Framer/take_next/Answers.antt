@@ -71,8 +71,7 @@ returns-clause-none c = λ none.
     let all : take taking.taken piece ≡ piece =
     let e = t.all none in take_all taking.taken piece (omega arith) in
     let nothing : TakesNone (place_of v) (v.held ++ take taking.taken piece) held =
-    subst
-    (λ o. TakesOneOrNone o (place_of v)
+    subst (λ o. TakesOneOrNone o (place_of v)
     (v.held ++ take taking.taken piece) held) none t.found in
     let no : IsNoFrame v piece =
     subst (IsNoFrame v) all (no_frame v (take taking.taken piece) held nothing) in
@@ -92,8 +91,7 @@ returns-clause-waits c = λ none.
     let e = t.all none in take_all taking.taken piece (omega arith) in
     let size = length-take-le taking.taken piece t.taken in
     let nothing : TakesNone (place_of v) (v.held ++ take taking.taken piece) held =
-    subst
-    (λ o. TakesOneOrNone o (place_of v)
+    subst (λ o. TakesOneOrNone o (place_of v)
     (v.held ++ take taking.taken piece) held) none t.found in
     let on : StandsAfter v new piece 0 =
     subst (λ a. StandsAfter v new a 0) all

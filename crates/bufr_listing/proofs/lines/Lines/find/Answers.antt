@@ -10,8 +10,7 @@ unfolding left
 returns-then-not-is_comment-clause-lines c =
     let h = rw c.in-Some.is at c.first_line.ensures in
     let b = behind_first c.loop-line.self.rest.now c.in-Some.line.now c.in-Some.rest.now (sym h) in
-    sym
-    (counted
+    sym (counted
     (c.loop-line.self.found + 1) c.loop-line.self.rest.now c.in-Some.line.now c.in-Some.rest.now
     b.lines (sym c.is_comment.ensures ∙ c.if-not-is_comment.true))
     ∙ c.loop-line.invariant.counted
@@ -34,8 +33,7 @@ loop-line-preserved c =
     record {
       next = c.loop-line.invariant.next;
       counted =
-          sym
-          (skipped
+          sym (skipped
           (c.loop-line.self.found + 1) c.loop-line.self.rest.now c.in-Some.line.now
           c.in-Some.rest.now b.lines (sym c.is_comment.ensures ∙ c.if-not-is_comment.false))
           ∙ c.loop-line.invariant.counted;
@@ -48,8 +46,7 @@ unfolding left
 returns-clause-lines c =
     let h = rw c.in_default.is at c.first_line.ensures in
     ap (λ o. left_by o c.loop-line.self.found c.loop-line.self.rest.now) c.loop-line.invariant.next
-    ∙ sym
-    (none_counted (c.loop-line.self.found + 1) c.loop-line.self.rest.now
+    ∙ sym (none_counted (c.loop-line.self.found + 1) c.loop-line.self.rest.now
     (no_first c.loop-line.self.rest.now (sym h)))
     ∙ c.loop-line.invariant.counted
 

@@ -17,7 +17,8 @@ returns-then-not-greater-clause-changed g c =
     let items = c.args.pairs.now.items in let cmp = g.K.Ord.cmp in
     changes_old cmp g.V.Ord.cmp c.args.key c.args.value c.index.result.now.1 items
     (lookup_there cmp g.met.K.Ord.total c.args.key items c.requires c.in-Ok.index
-    c.index.result.now c.in-Ok.ensures.place (omega (arith, c.in-Ok.ensures.within)) c.index.ensures)
+    c.index.result.now c.in-Ok.ensures.place
+    (omega (arith, c.in-Ok.ensures.within)) c.index.ensures)
     (ap is_gt (sym (c.cmp.ensures ∙ ap (g.V.Ord.cmp c.args.value) c.value.ensures))
     ∙ sym c.is_gt-greater.ensures ∙ c.if-not-greater.true)
 
@@ -28,7 +29,8 @@ returns-then-not-greater-clause-ok g c =
     sym (put-same cmp g.V.Ord.cmp g.met.K.Ord.total c.args.key c.args.value c.index.result.now.1
     items c.requires
     (lookup_there cmp g.met.K.Ord.total c.args.key items c.requires c.in-Ok.index
-    c.index.result.now c.in-Ok.ensures.place (omega (arith, c.in-Ok.ensures.within)) c.index.ensures)
+    c.index.result.now c.in-Ok.ensures.place
+    (omega (arith, c.in-Ok.ensures.within)) c.index.ensures)
     (ap is_gt (sym (c.cmp.ensures ∙ ap (g.V.Ord.cmp c.args.value) c.value.ensures))
     ∙ sym c.is_gt-greater.ensures ∙ c.if-not-greater.true))
 
@@ -40,7 +42,8 @@ returns-else-not-greater-clause-changed g c =
     (only-value (lookup (is_at (cmp c.args.key)) items) c.index.result.now.1
     (λ v. g.V.Ord.cmp c.args.value v ≡ Greater)
     (sym (lookup_there cmp g.met.K.Ord.total c.args.key items c.requires c.in-Ok.index
-    c.index.result.now c.in-Ok.ensures.place (omega (arith, c.in-Ok.ensures.within)) c.index.ensures))
+    c.index.result.now c.in-Ok.ensures.place
+    (omega (arith, c.in-Ok.ensures.within)) c.index.ensures))
     (gt-is _ (ap is_gt (sym (c.cmp.ensures ∙ ap (g.V.Ord.cmp c.args.value) c.value.ensures))
     ∙ sym c.is_gt-greater.ensures ∙ c.if-not-greater.false)))
 
@@ -53,7 +56,8 @@ returns-else-not-greater-clause-ok g c =
     (only-value (lookup (is_at (cmp c.args.key)) items) c.index.result.now.1
     (λ v. g.V.Ord.cmp c.args.value v ≡ Greater)
     (sym (lookup_there cmp g.met.K.Ord.total c.args.key items c.requires c.in-Ok.index
-    c.index.result.now c.in-Ok.ensures.place (omega (arith, c.in-Ok.ensures.within)) c.index.ensures))
+    c.index.result.now c.in-Ok.ensures.place
+    (omega (arith, c.in-Ok.ensures.within)) c.index.ensures))
     (gt-is _ (ap is_gt (sym (c.cmp.ensures ∙ ap (g.V.Ord.cmp c.args.value) c.value.ensures))
     ∙ sym c.is_gt-greater.ensures ∙ c.if-not-greater.false)))
     ∙ insert-place cmp g.met.K.Ord.total g.met.K.Exact.exact c.args.key c.args.value items

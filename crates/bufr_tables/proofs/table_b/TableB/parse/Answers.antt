@@ -38,8 +38,7 @@ loop-number-init c =
 pub returns-then-not-branch : goal.returns-then-not-branch
 returns-then-not-branch c =
     ends element_row with_element (table_b c.args.text.now)
-    (map
-    (λ s. s.now) c.in_ok-names.names.items) c.in_ok-places.places.items c.loop-number.number
+    (map (λ s. s.now) c.in_ok-names.names.items) c.in_ok-places.places.items c.loop-number.number
     c.loop-number.records c.next.new.self (fields_of c.next.new.row) c.loop-number.table
     c.in_ok-next.field-0 c.loop-number.invariant c.in_ok-next.ensures c.if-not-branch.true
 
@@ -49,8 +48,7 @@ returns-in_err-cells c =
     fails-through (λ t. t) c.from_residual-in_err-cells.result _
     (table_b c.args.text.now) c.from_residual-in_err-cells.ensures.1
     (stops_at_row element_row with_element (table_b c.args.text.now)
-    (map
-    (λ s. s.now) c.in_ok-names.names.items) c.in_ok-places.places.items c.loop-number.number
+    (map (λ s. s.now) c.in_ok-names.names.items) c.in_ok-places.places.items c.loop-number.number
     c.loop-number.records c.next.new.self (fields_of c.next.new.row) c.loop-number.table
     c.in_ok-next.field-0 c.in_err-cells.field-0.0 c.loop-number.invariant c.in_ok-next.ensures
     c.if-not-branch.false
@@ -67,8 +65,7 @@ returns-in_err-add_record c =
     fails-through (λ t. t) c.from_residual-in_err-add_record.result _
     (table_b c.args.text.now) c.from_residual-in_err-add_record.ensures.1
     (stops_at_join element_row with_element (table_b c.args.text.now)
-    (map
-    (λ s. s.now) c.in_ok-names.names.items) c.in_ok-places.places.items c.loop-number.number
+    (map (λ s. s.now) c.in_ok-names.names.items) c.in_ok-places.places.items c.loop-number.number
     c.loop-number.records c.next.new.self (fields_of c.next.new.row) c.loop-number.table
     (option_map {U = List (List ℕ)}
     (λ v. map
@@ -91,8 +88,7 @@ returns-in_err-add_record c =
 pub loop-number-preserved : goal.loop-number-preserved
 loop-number-preserved c =
     goes_on element_row with_element (table_b c.args.text.now)
-    (map
-    (λ s. s.now) c.in_ok-names.names.items) c.in_ok-places.places.items c.loop-number.number
+    (map (λ s. s.now) c.in_ok-names.names.items) c.in_ok-places.places.items c.loop-number.number
     c.loop-number.records c.next.new.self (fields_of c.next.new.row) c.loop-number.table
     c.add_record.new.self
     (option_map {U = List (List ℕ)}

@@ -43,8 +43,7 @@ returns-then-not-branch c =
     let all =
     ends member_row with_member
     (after_file columns_d member_row with_member no_sequences (records_of c.args.text.now))
-    (map
-    (λ s. s.now) c.in_ok-names.names.items) c.in_ok-places.places.items c.loop-number.number
+    (map (λ s. s.now) c.in_ok-names.names.items) c.in_ok-places.places.items c.loop-number.number
     c.loop-number.records c.next.new.self (fields_of c.next.new.row) c.loop-number.rows
     c.in_ok-next.field-0 c.loop-number.invariant c.in_ok-next.ensures c.if-not-branch.true in
     then-gives
@@ -63,8 +62,7 @@ returns-in_err-cells c =
     (after_file columns_d member_row with_member no_sequences (records_of c.args.text.now)) _
     (stops_at_row member_row with_member
     (after_file columns_d member_row with_member no_sequences (records_of c.args.text.now))
-    (map
-    (λ s. s.now) c.in_ok-names.names.items) c.in_ok-places.places.items c.loop-number.number
+    (map (λ s. s.now) c.in_ok-names.names.items) c.in_ok-places.places.items c.loop-number.number
     c.loop-number.records c.next.new.self (fields_of c.next.new.row) c.loop-number.rows
     c.in_ok-next.field-0 c.in_err-cells.field-0.0 c.loop-number.invariant c.in_ok-next.ensures
     c.if-not-branch.false
@@ -84,8 +82,7 @@ returns-in_err-add_record c =
     (after_file columns_d member_row with_member no_sequences (records_of c.args.text.now)) _
     (stops_at_join member_row with_member
     (after_file columns_d member_row with_member no_sequences (records_of c.args.text.now))
-    (map
-    (λ s. s.now) c.in_ok-names.names.items) c.in_ok-places.places.items c.loop-number.number
+    (map (λ s. s.now) c.in_ok-names.names.items) c.in_ok-places.places.items c.loop-number.number
     c.loop-number.records c.next.new.self (fields_of c.next.new.row) c.loop-number.rows
     (option_map {U = List (List ℕ)}
     (λ v. map
@@ -109,8 +106,7 @@ pub loop-number-preserved : goal.loop-number-preserved
 loop-number-preserved c =
     goes_on member_row with_member
     (after_file columns_d member_row with_member no_sequences (records_of c.args.text.now))
-    (map
-    (λ s. s.now) c.in_ok-names.names.items) c.in_ok-places.places.items c.loop-number.number
+    (map (λ s. s.now) c.in_ok-names.names.items) c.in_ok-places.places.items c.loop-number.number
     c.loop-number.records c.next.new.self (fields_of c.next.new.row) c.loop-number.rows
     c.add_record.new.self
     (option_map {U = List (List ℕ)}
