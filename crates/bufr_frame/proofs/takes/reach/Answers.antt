@@ -5,6 +5,7 @@ use Rattle.bufr_frame.specs.declared.places.Start.TheVariants.{Other}
 use Rattle.bufr_frame.specs.Starts.{agrees, bufr, start_of}
 use Rattle.bufr_frame.specs.Reaches.{KeepsMore, TakesMore}
 use Rattle.bufr_frame.proofs.ReachLaws.{reaching_other, reaching_more, less_to_do}
+use Rattle.bufr_frame.proofs.takes.reach.Goals.{In-Octets}
 use Rattle.bufr_frame.proofs.takes.reach.Goals as goal
 
 -- where nothing stands at the start, all up to the next mark is passed over
@@ -22,35 +23,31 @@ loop-length-preserved-in-Other c =
     (subst (λ t. c.next_mark-start.result ≤ length t) same next.within)
     (λ k a b. subst (λ t. agrees (drop k t) bufr ≡ false) same (next.others k a b))
 
+-- what is taken in of the piece is kept, or passed over where nothing is held
+takes : (c : In-Octets)
+    → TakesMore (drop c.loop-length.start c.loop-length.octets.items) c.loop-length.octets.items
+    c.take_more.new.octets.items (drop c.loop-length.taken c.args.piece.now) c.in-Octets.more
+takes c =
+    let held = drop c.loop-length.start c.loop-length.octets.items in
+    let kept = c.loop-length.octets.items in
+    let after = c.take_more.new.octets.items in
+    let more : KeepsMore held kept after
+    (drop c.loop-length.taken c.args.piece.now) c.in_ok-skip-in-Open.field-0 =
+    subst (λ r. KeepsMore held kept after r c.in_ok-skip-in-Open.field-0)
+    (take_rest c.args.piece.now c.loop-length.taken) c.in_ok-skip-in-Open.ensures.more in
+    subst (KeepsMore held kept after (drop c.loop-length.taken c.args.piece.now)) c.in-Octets.is
+    more
+
 -- taking in more of the piece leaves less to do
 pub loop-length-smaller : goal.loop-length-smaller
 loop-length-smaller c =
-    let kept = c.loop-length.octets.items in
-    let start = c.loop-length.start in
-    let piece = c.args.piece.now in
-    let taken = c.loop-length.taken in
-    let after = c.take_more.new.octets.items in
-    let more : KeepsMore (drop start kept) kept after
-    (drop taken piece) c.in_ok-skip-in-Open.field-0 =
-    subst (λ r. KeepsMore (drop start kept) kept after r c.in_ok-skip-in-Open.field-0)
-    (take_rest piece taken) c.in_ok-skip-in-Open.ensures.more in
-    let m : TakesMore (drop start kept) kept after (drop taken piece) c.in-Octets.more =
-    subst (KeepsMore (drop start kept) kept after (drop taken piece)) c.in-Octets.is more in
-    less_to_do kept after piece start taken c.in-Octets.more c.loop-length.invariant.within
-    c.loop-length.invariant.taken_in m
+    less_to_do c.loop-length.octets.items c.take_more.new.octets.items c.args.piece.now
+    c.loop-length.start c.loop-length.taken c.in-Octets.more c.loop-length.invariant.within
+    c.loop-length.invariant.taken_in (takes (goal.at.loop-length-smaller c).In-Octets)
 
--- what is taken in of the piece is kept, or passed over where nothing is held
+-- and what is kept then is what is left of the stream
 pub loop-length-preserved : goal.loop-length-preserved
 loop-length-preserved c =
-    let kept = c.loop-length.octets.items in
-    let start = c.loop-length.start in
-    let piece = c.args.piece.now in
-    let taken = c.loop-length.taken in
-    let after = c.take_more.new.octets.items in
-    let more : KeepsMore (drop start kept) kept after
-    (drop taken piece) c.in_ok-skip-in-Open.field-0 =
-    subst (λ r. KeepsMore (drop start kept) kept after r c.in_ok-skip-in-Open.field-0)
-    (take_rest piece taken) c.in_ok-skip-in-Open.ensures.more in
-    let m : TakesMore (drop start kept) kept after (drop taken piece) c.in-Octets.more =
-    subst (KeepsMore (drop start kept) kept after (drop taken piece)) c.in-Octets.is more in
-    reaching_more _ _ kept after piece start taken c.in-Octets.more c.loop-length.invariant m
+    reaching_more _ _ c.loop-length.octets.items c.take_more.new.octets.items c.args.piece.now
+    c.loop-length.start c.loop-length.taken c.in-Octets.more c.loop-length.invariant
+    (takes (goal.at.loop-length-preserved c).In-Octets)
