@@ -1,7 +1,7 @@
 //! An archive kept in a file.
-ghost use Rattle.std.specs.Prelude.{◌≡◌, IfOk};
+ghost use Rattle.std.specs.Prelude.{◌≡◌, IfOk, IfErr};
 ghost use Rattle.bufr_archive.specs.Texts.{text};
-ghost use Rattle.bufr_callers.specs.Callers.{HasTakenIn};
+ghost use Rattle.bufr_callers.specs.Callers.{HasTakenIn, IsNotTakenIn};
 
 use bufr_archive::{AddFault, Archive, NotAnArchive, Shelf, SortedShelf};
 use bufr_bits::IntoWrite;
@@ -29,7 +29,8 @@ pub fn with_message(
     file: &[u8],
     message: &[u8],
 ) -> Result<Vec<u8>, KeepFault>
-    ensures { IfOk result (λ v. HasTakenIn tables.now file.now message.now v.items) }
+    ensures taken_in { IfOk result (λ v. HasTakenIn tables.now file.now message.now v.items) }
+    ensures refused { IfErr result (IsNotTakenIn tables.now file.now message.now) }
 {
     let mut archive: Archive<SortedShelf> = match Archive::read(alloc, tables, file) {
         Ok(archive) => archive,

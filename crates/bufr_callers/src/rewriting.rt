@@ -1,6 +1,6 @@
 //! A message decoded, and written anew.
-ghost use Rattle.std.specs.Prelude.{IfOk};
-ghost use Rattle.bufr_callers.specs.Callers.{IsRewritten};
+ghost use Rattle.std.specs.Prelude.{IfOk, IfErr};
+ghost use Rattle.bufr_callers.specs.Callers.{IsRewritten, IsNotRewritten};
 
 use bufr_message::{EncodeFault, Refused, decode, encode};
 use bufr_tables::{Failure, Tables};
@@ -21,7 +21,8 @@ pub enum RewriteFault {
 /// columns of compressed data as narrow as they can be. Refused is what spells no message, and a
 /// message that has no encoding; memory may run out.
 pub fn rewritten(alloc: Global, tables: &Tables, octets: &[u8]) -> Result<Vec<u8>, RewriteFault>
-    ensures { IfOk result (λ v. IsRewritten tables.now octets.now v.items) }
+    ensures rewritten { IfOk result (λ v. IsRewritten tables.now octets.now v.items) }
+    ensures refused { IfErr result (IsNotRewritten tables.now octets.now) }
 {
     let message = match decode(alloc, tables, octets) {
         Ok(decoded) => decoded.message,

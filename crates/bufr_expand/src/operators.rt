@@ -76,8 +76,8 @@ impl Operators {
         spec.ok_or(EffectiveRange(fxy))
     }
 
-    /// Puts an operator in force by its X. A walk puts each operator of its nodes in force, of which
-    /// it does not know which they are; `apply` asks its caller for one of the four.
+    /// Puts an operator in force by its X. A walk puts each operator of its nodes in force, of
+    /// which it does not know which they are; `apply` asks its caller for one of the four.
     pub(crate) fn put(&mut self, op: Fxy)
         ensures { self.new ≡ in_force_after self.old op }
     {

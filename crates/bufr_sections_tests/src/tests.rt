@@ -34,8 +34,8 @@ const EDITION_3: &str = "\
 000004 00
 37373737";
 
-/// The octets that hexadecimal digits are, spaces between them. `S1` stands for the usual section 1,
-/// `S1+2` for the one that announces section 2, and `NONE` for no octets.
+/// The octets that hexadecimal digits are, spaces between them. `S1` stands for the usual section
+/// 1, `S1+2` for the one that announces section 2, and `NONE` for no octets.
 fn octets(alloc: Global, text: &str) -> Result<Vec<u8>, Fail> {
     let mut digits = String::new(alloc);
     for word in text.split_whitespace() {

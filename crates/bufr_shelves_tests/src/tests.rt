@@ -1,5 +1,6 @@
 use bufr_shelves::*;
 use std::alloc::Global;
+use std::cmp::Ordering;
 use std::fmt::Debug;
 use std::process::Abort;
 
@@ -441,6 +442,17 @@ fn octets_and_faults(rt: HostRuntime) {
     assert!(rt; bytes.as_slice() == b"abc".as_slice());
     let said = format!(in rt.alloc(); "{}", JoinFault::OutOfMemory).expect(&rt, "room");
     same(&rt, said.as_str(), "out of memory");
+}
+
+#[test]
+fn octets_in_order(rt: HostRuntime) {
+    let front = octets(rt.alloc(), &[7, 200]).expect(&rt, "room");
+    let whole = octets(rt.alloc(), &[7, 200, 0]).expect(&rt, "room");
+    let next = octets(rt.alloc(), &[7, 201]).expect(&rt, "room");
+    assert!(rt; front.partial_cmp(&front) == Some(Ordering::Equal));
+    assert!(rt; front.partial_cmp(&whole) == Some(Ordering::Less));
+    assert!(rt; whole.partial_cmp(&next) == Some(Ordering::Less));
+    assert!(rt; next.partial_cmp(&front) == Some(Ordering::Greater));
 }
 
 /// Puts a report that changes the shelf. It is put again where it was refused, and then nothing had

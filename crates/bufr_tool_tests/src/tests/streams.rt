@@ -249,8 +249,8 @@ impl Source for Again<'_> {
     }
 }
 
-/// What checking a piece that is given 256 times answers within 257 reads, what was written, and the
-/// reader.
+/// What checking a piece that is given 256 times answers within 257 reads, what was written, and
+/// the reader.
 fn checked_again<'a>(
     alloc: Global,
     piece: &'a [u8],
