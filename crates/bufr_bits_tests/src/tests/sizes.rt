@@ -40,6 +40,24 @@ fn a_million_octets_on_and_off_the_edge(rt: HostRuntime) -> Result<(), Fail> {
     Ok(())
 }
 
+/// A sink with room for so many octets has just that room, also once it is full.
+fn keeps_its_room(rt: &impl Abort, alloc: Global, octets: usize) -> Result<(), Fail> {
+    let mut sink = BitSink::with_capacity(alloc, octets)?;
+    for _ in 0..octets {
+        sink.put(8, 165)?;
+    }
+    sink.fill_octet();
+    let full = sink.into_bytes();
+    same(rt, full.len(), octets);
+    same(rt, full.capacity(), octets);
+    Ok(())
+}
+
+#[test]
+fn room_for_a_thousand_octets(rt: HostRuntime) -> Result<(), Fail> {
+    keeps_its_room(&rt, rt.alloc(), 1000)
+}
+
 #[test]
 fn a_hundred_thousand_fields(rt: HostRuntime) -> Result<(), Fail> {
     let mut sink = BitSink::with_capacity(rt.alloc(), 1000)?;
