@@ -1,7 +1,7 @@
 -- The fields of a record without the spaces at their ends and the first without a mark: for
 -- `used_fields`, on which the two `parse` stand.
 use Rattle.std.proofs.Common.{◌≡◌, ◌≢◌, ◌∙◌, ℕ, zero, suc, ◌==◌, ◌&&◌, Bool, true, false, List, []}
-use Rattle.std.proofs.Common.{◌∷◌, ◌++◌, length, get_or, map, take, drop, reverse, Some, None, refl}
+use Rattle.std.proofs.Common.{◌∷◌, ◌++◌, get_or, map, take, drop, reverse, Some, None, refl}
 use Rattle.std.proofs.Common.{ap, sym, arith, nat_eq}
 use Rattle.std.proofs.lemmas.List.{reverse-append, reverse-reverse}
 use Rattle.csv.specs.Records.{field_at}

@@ -1,18 +1,18 @@
 -- Numbers in digits, and whether they fit: for the fields of Table B's rows (`numbers`), on which
 -- `TableB::parse` stands.
-use Rattle.std.proofs.Common.{◌≡◌, ◌≢◌, ◌∙◌, ℤ, pos, ℕ, zero, suc, ◌<◌, ◌≤◌, ◌==◌, ◌&&◌, ◌+◌, ◌-◌}
+use Rattle.std.proofs.Common.{◌≡◌, ◌≢◌, ◌∙◌, ℕ, ◌<◌, ◌≤◌, ◌==◌, ◌&&◌, ◌+◌, ◌-◌}
 use Rattle.std.proofs.Common.{◌*◌, ◌^◌, true, false, not, List, [], ◌∷◌, length, get_or, take, drop}
-use Rattle.std.proofs.Common.{fold, Option, Some, None, refl, ap, sym, arith, inl, inr}
+use Rattle.std.proofs.Common.{fold, Some, None, ap, sym, arith, inl, inr}
 use Rattle.std.proofs.Common.{take-append-drop}
-use Rattle.std.specs.Prelude.{option_and_then, option_map, nat_lt}
+use Rattle.std.specs.Prelude.{option_and_then, nat_lt}
 use Rattle.std.specs.Char.{is_ascii_digit}
 use Rattle.std.specs.List.{list_all}
 use Rattle.std.proofs.lemmas.Bool.{cases_Bool}
 use Rattle.std.proofs.lemmas.Bool.Decides.{nat_tests}
 use Rattle.std.proofs.lemmas.List.{take_all}
 use Rattle.std.proofs.lemmas.List.Sums.{fold_more, fold-append}
-use Rattle.bufr_tables.specs.Numbers.{digits_value, natural, negative, integer, unsigned, reach}
-use Rattle.bufr_tables.specs.Numbers.{unsigned_fit, signed_fit}
+use Rattle.bufr_tables.specs.Numbers.{digits_value, natural, unsigned}
+use Rattle.bufr_tables.specs.Numbers.{unsigned_fit}
 
 -- more digits make no smaller number
 grows : (n : ℕ) (t : List ℕ) → n ≤ fold (λ n c. 10 * n + (c - 48)) n t

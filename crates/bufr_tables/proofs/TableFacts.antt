@@ -1,6 +1,6 @@
 -- What stands at a descriptor, and tests that are equalities: for `Tables::element`, `sequence` and
 -- `same`.
-use Rattle.std.proofs.Common.{◌≡◌, ◌∙◌, ℕ, ◌==◌, ◌&&◌, Bool, true, false, List, [], ◌∷◌, refl, ap}
+use Rattle.std.proofs.Common.{◌≡◌, ◌∙◌, ℕ, ◌==◌, ◌&&◌, Bool, List, [], ◌∷◌, refl, ap}
 use Rattle.std.proofs.Common.{arith, ℤ, pos, negsuc}
 use Rattle.std.proofs.lemmas.Bool.Decides.{nat_tests, Decides-and, Decides-eqb, Decides-int_eq}
 use Rattle.std.specs.Bool.{Decides}

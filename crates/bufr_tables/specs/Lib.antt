@@ -8,5 +8,6 @@ pub mod Entries
 pub mod Fields
 pub mod Numbers
 pub mod Rows
+pub mod Samples
 pub mod Sheets
 pub mod TableFiles
