@@ -2,6 +2,8 @@
 -- bulletin's heading; a message that stands in the character data of another; a frame that could
 -- still have been the end of an outer one.
 use Rattle.std.specs.Prelude.{◌≡◌, ℕ, List, [], ◌∷◌, ◌++◌, length, map, take, refl}
+use Rattle.bufr_frame.specs.declared.places.Start.{Start}
+use Rattle.bufr_frame.specs.Starts.{start_of}
 use Rattle.bufr_frame.specs.Streams.{cut, sure, rest_from}
 
 -- a message of 62 octets whose template has two sequences
@@ -34,6 +36,18 @@ message_in_character_data = 66 ∷ 85 ∷ 70 ∷ 82 ∷ 0 ∷ 0 ∷ 99 ∷ 4 ∷
 abbrev ruled_out_outer_frame : List ℕ
 ruled_out_outer_frame = 66 ∷ 85 ∷ 70 ∷ 82 ∷ 0 ∷ 0 ∷ 22 ∷ 4 ∷ 66 ∷ 85 ∷ 70 ∷ 82 ∷ 0 ∷ 0 ∷ 12 ∷ 4 ∷ 55
     ∷ 55 ∷ 55 ∷ 55 ∷ []
+
+-- a frame of 12 octets, the least that there are
+abbrev pub shortest : List ℕ
+shortest = 66 ∷ 85 ∷ 70 ∷ 82 ∷ 0 ∷ 0 ∷ 12 ∷ 4 ∷ 55 ∷ 55 ∷ 55 ∷ 55 ∷ []
+
+-- what stands at a length of 12, an eighth octet and what follows it
+abbrev pub shortest_with : ℕ → List ℕ → Start
+shortest_with eighth octets = start_of (66 ∷ 85 ∷ 70 ∷ 82 ∷ 0 ∷ 0 ∷ 12 ∷ eighth ∷ octets)
+
+-- seven octets that announce the greatest length
+abbrev pub open_for_long : List ℕ
+open_for_long = 66 ∷ 85 ∷ 70 ∷ 82 ∷ 255 ∷ 255 ∷ 255 ∷ []
 
 -- both messages are cut
 two : map (λ f. f.place) (cut two_frames_and_a_stray) ≡ 18 ∷ 84 ∷ []
