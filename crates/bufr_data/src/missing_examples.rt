@@ -1,7 +1,7 @@
 //! Worked examples of missing values: by kind, by width, plain and compressed.
 
 ghost use Rattle.std.specs.Prelude.{◌≡◌, ◌∷◌, ◌++◌, ◌-◌, ◌^◌, [], true, false, Ok, codes, map};
-ghost use Rattle.std.specs.Prelude.{Some, None, pos, replicate};
+ghost use Rattle.std.specs.Prelude.{Some, None, pos, negsuc, replicate};
 ghost use Rattle.bufr_bits.specs.Bits.{bin, bits};
 ghost use Rattle.bufr_tables.specs.Descriptors.{descriptor};
 ghost use Rattle.bufr_data.specs.BestColumns.{best};
@@ -54,6 +54,28 @@ pub fn values_by_kind()
     ensures ones { map (λ k. value (field_as 0 k 2 (Raw.Number 3))) number_kinds
         ≡ None ∷ None ∷ None ∷ Some (record { units = pos 3; scale = pos 0 }) ∷ [] }
     ensures text { value (field_as 0 Kind.Text 16 (Raw.Text (49 ∷ 50 ∷ []))) ≡ None }
+    ensures below_zero { value (record {
+      fxy = 1282;
+      spec = record {
+        kind = Kind.Quantity;
+        scale = pos 2;
+        reference = negsuc 8999;
+        width = 15;
+      };
+      raw = Raw.Number 8999;
+    })
+        ≡ Some (record { units = negsuc 0; scale = pos 2 }) }
+    ensures above_zero { value (record {
+      fxy = 1282;
+      spec = record {
+        kind = Kind.Quantity;
+        scale = negsuc 0;
+        reference = pos 100;
+        width = 15;
+      };
+      raw = Raw.Number 7;
+    })
+        ≡ Some (record { units = pos 107; scale = negsuc 0 }) }
     ensures number_of_text { value (field_as 0 Kind.Text 8 (Raw.Number 5)) ≡ None }
     ensures text_of_number { map (λ k. value (field_as 0 k 8 (Raw.Text (49 ∷ [])))) number_kinds
         ≡ replicate 4 None }

@@ -1,14 +1,16 @@
 //! Worked examples of refusals: which comes first, and the subset and the field that it names.
 
 ghost use Rattle.std.specs.Prelude.{◌≡◌, ◌∷◌, ◌++◌, [], true, false, Ok, Err, codes, map};
-ghost use Rattle.bufr_bits.specs.Bits.{bin};
+ghost use Rattle.std.specs.Prelude.{length, pos, negsuc, replicate};
+ghost use Rattle.bufr_bits.specs.Bits.{bin, bits};
+ghost use Rattle.bufr_tables.specs.Answers.{result_map};
 ghost use Rattle.bufr_tables.specs.Descriptors.{descriptor};
 ghost use Rattle.bufr_data.specs.BestColumns.{packed, columns_of};
 ghost use Rattle.bufr_data.specs.ColumnReading.{columns_at};
-ghost use Rattle.bufr_data.specs.Plain.{fields_at, items_of};
+ghost use Rattle.bufr_data.specs.Plain.{fields_at, subsets_at, items_of, items_of_all, same_spec};
 ghost use Rattle.bufr_data.specs.Reasons.{read_reason, write_reason};
 ghost use Rattle.bufr_data.specs.Samples.{sample_course, sample_raws, recompressed, number_spec};
-ghost use Rattle.bufr_data.specs.Samples.{field_as, written_of};
+ghost use Rattle.bufr_data.specs.Samples.{field_as, written_of, number_kinds};
 
 use crate::fault::{ReadFault, WriteFault};
 use crate::field::Raw;
@@ -62,6 +64,26 @@ pub fn misfits_of_two_subsets()
         ∷ field_as (descriptor 0 2 1) Kind.Code 2 (Raw.Number 1) ∷ []) ∷ []))
         (false ∷ true ∷ [])
         ≡ Err (WriteFault.DoesNotFit 2 2) ∷ Err (WriteFault.DoesNotFit 2 2) ∷ [] }
+    ensures kinds { map (λ k. written_of (descriptor 0 2 1 ∷ []) true
+        ((field_as (descriptor 0 2 1) k 2 (Raw.Number 1) ∷ []) ∷ [])) number_kinds
+        ≡ Ok (bin 2 1 ++ bin 6 0) ∷ replicate 3 (Err (WriteFault.DoesNotFit 1 1)) }
+    ensures widths { map (λ width. written_of (descriptor 0 2 1 ∷ []) true
+        ((field_as (descriptor 0 2 1) Kind.Code width (Raw.Number 1) ∷ []) ∷ []))
+        (1 ∷ 2 ∷ 3 ∷ [])
+        ≡ Err (WriteFault.DoesNotFit 1 1) ∷ Ok (bin 2 1 ++ bin 6 0)
+        ∷ Err (WriteFault.DoesNotFit 1 1) ∷ [] }
+    ensures specs { map (same_spec (record {
+      kind = Kind.Quantity;
+      scale = pos 2;
+      reference = negsuc 8999;
+      width = 15;
+    }))
+        (record { kind = Kind.Quantity; scale = pos 2; reference = negsuc 8999; width = 15 }
+        ∷ record { kind = Kind.Code; scale = pos 2; reference = negsuc 8999; width = 15 }
+        ∷ record { kind = Kind.Quantity; scale = negsuc 1; reference = negsuc 8999; width = 15 }
+        ∷ record { kind = Kind.Quantity; scale = pos 2; reference = pos 9000; width = 15 }
+        ∷ record { kind = Kind.Quantity; scale = pos 2; reference = negsuc 8999; width = 16 } ∷ [])
+        ≡ true ∷ replicate 4 false }
     ensures other_descriptor { map (λ compressed. written_of (descriptor 0 1 1 ∷ []) compressed
         ((field_as (descriptor 0 1 1) Kind.Quantity 7 (Raw.Number 10) ∷ [])
         ∷ (field_as (descriptor 0 1 2) Kind.Quantity 7 (Raw.Number 10) ∷ []) ∷ []))
@@ -129,6 +151,10 @@ pub fn faults_of_second_fields()
         (0x14 ∷ 0x04 ∷ 0x11 ∷ 0x00 ∷ []) ≡ Err (ReadFault.IncrementRange 2 2) }
     ensures wide_text { sample_raws (descriptor 0 1 1 ∷ descriptor 2 8 1 ∷ descriptor 0 1 11 ∷ [])
         true 2 (0x14 ∷ 0x00 ∷ 0x00 ∷ 0x40 ∷ []) ≡ Err (ReadFault.CharIncrement 2) }
+    ensures texts_end { sample_raws (descriptor 2 8 1 ∷ descriptor 0 1 11 ∷ []) true 2
+        (0x5A ∷ 0x05 ∷ 0x05 ∷ []) ≡ Err (ReadFault.DataEnds 0 1) }
+    ensures factor_of_ones { sample_raws (descriptor 1 1 0 ∷ descriptor 0 31 1
+        ∷ descriptor 0 12 101 ∷ []) true 2 (0x00 ∷ 0x07 ∷ []) ≡ Err (ReadFault.DataEnds 0 2) }
     ensures factor_passes { sample_raws (descriptor 1 1 0 ∷ descriptor 0 31 1
         ∷ descriptor 0 12 101 ∷ []) true 2 (0xFE ∷ 0x08 ∷ 0x80 ∷ [])
         ≡ Err (ReadFault.IncrementRange 2 1) }
@@ -153,6 +179,16 @@ pub fn first_at_one_field()
         ≡ Err ReadFault.TooLarge }
     ensures end_of_last_item { fields_at 1 1 (sample_course (descriptor 0 12 101 ∷ []) 16777215) []
         ≡ Err (ReadFault.DataEnds 1 1) }
+    ensures items_of_two { map (λ used. result_map (λ found. length found.subsets)
+        (subsets_at (sample_course (descriptor 0 12 101 ∷ [])) 1 2 used
+        (bits (0x6A ∷ 0xB3 ∷ 0x6A ∷ 0xB4 ∷ [])))) (16777214 ∷ 16777215 ∷ [])
+        ≡ Ok 2 ∷ Err ReadFault.TooLarge ∷ [] }
+    ensures written_items_of_two { map (λ used. items_of_all
+        (sample_course (descriptor 0 2 1 ∷ [])) 1 used
+        (replicate 2 (record {
+          fields = field_as (descriptor 0 2 1) Kind.Code 2 (Raw.Number 1)
+              ∷ [];
+        }))) (16777214 ∷ 16777215 ∷ []) ≡ Ok 16777216 ∷ Err WriteFault.TooLarge ∷ [] }
     ensures written_items { items_of 1 1 (sample_course (descriptor 0 12 101 ∷ []) 16777216) []
         ≡ Err WriteFault.TooLarge }
     ensures written_end { items_of 1 1 (sample_course (descriptor 0 12 101 ∷ []) 16777215) []

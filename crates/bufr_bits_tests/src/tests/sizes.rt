@@ -40,7 +40,8 @@ fn a_million_octets_on_and_off_the_edge(rt: HostRuntime) -> Result<(), Fail> {
     Ok(())
 }
 
-/// A sink with room for so many octets has just that room, also once it is full.
+/// A sink with room for so many octets, an odd number, has just that room once it is full: one that
+/// grew has twice as much as it had before.
 fn keeps_its_room(rt: &impl Abort, alloc: Global, octets: usize) -> Result<(), Fail> {
     let mut sink = BitSink::with_capacity(alloc, octets)?;
     for _ in 0..octets {
@@ -55,7 +56,7 @@ fn keeps_its_room(rt: &impl Abort, alloc: Global, octets: usize) -> Result<(), F
 
 #[test]
 fn room_for_a_thousand_octets(rt: HostRuntime) -> Result<(), Fail> {
-    keeps_its_room(&rt, rt.alloc(), 1000)
+    keeps_its_room(&rt, rt.alloc(), 1001)
 }
 
 #[test]
