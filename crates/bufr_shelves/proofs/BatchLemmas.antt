@@ -1,5 +1,5 @@
 -- What is kept of pairs in batches: for `Batches`, whose pairs come in any order.
-use Rattle.std.proofs.Common.{◌≡◌, inl, inr, ℕ, suc, zero, ◌<◌, length, slice_index_or, List, []}
+use Rattle.std.proofs.Common.{◌≡◌, inl, inr, ℕ, suc, zero, ◌<◌, ◌≤◌, cond, length, slice_index_or, List, []}
 use Rattle.std.proofs.Common.{◌∷◌, ◌++◌, sym, ap, ◌∙◌, append_assoc, arith}
 use Rattle.std.proofs.lemmas.List.{append-nil}
 use Rattle.std.proofs.lemmas.List.Sorted.{Contains-permutation, IsPermutation-sym}
@@ -8,7 +8,8 @@ use Rattle.std.specs.List.Sorted.{IsPermutation, IsStrictlySortedBy}
 use Rattle.std.specs.Map.{keys_of}
 use Rattle.std.specs.Cmp.{IsTotalOrder}
 use Rattle.std.specs.declared.cmp.Ordering.{Ordering}
-use Rattle.std.specs.declared.cmp.Ordering.TheVariants.{Less, Equal}
+use Rattle.std.specs.Ordering.{is_gt}
+use Rattle.std.specs.declared.cmp.Ordering.TheVariants.{Less, Equal, Greater}
 use Rattle.bufr_shelves.specs.Keeping.{Has, Within, put_by, kept_by, put_all}
 use Rattle.bufr_shelves.specs.KeepingLaws as laws
 use Rattle.bufr_shelves.specs.Pairs.{by_key, by_value}
@@ -126,6 +127,25 @@ module _ {A : Type 0} (slot rank : A → A → Ordering) (so : IsTotalOrder slot
       ≡ s
   kept_alone s h =
       ap (kept_by slot rank) (append-nil s) ∙ laws.kept_sorted slot rank so ro exact s h
+
+-- ---- number
+
+-- one more in front, in the place of the first, or among the others
+put_length : {A : Type 0} (o : Ordering) (e f k : A) (ks ps : List A)
+    → length ps ≤ suc (length ks)
+    → length {A = A} (elim o [ Less ↦ e ∷ k ∷ ks | Equal ↦ f ∷ ks | Greater ↦ k ∷ ps ])
+    ≤ suc (suc (length ks))
+put_length Less e f k ks ps h = omega arith
+put_length Equal e f k ks ps h = omega arith
+put_length Greater e f k ks ps h = omega (arith, h)
+
+-- one more is put in at one place at most
+pub put_by_length : {A : Type 0} (slot rank : A → A → Ordering) (e : A) (ks : List A)
+    → length (put_by slot rank e ks) ≤ suc (length ks)
+put_by_length slot rank e [] = omega arith
+put_by_length slot rank e (k ∷ ks) =
+    put_length (slot e k) e (cond (is_gt (rank e k)) e k) k ks (put_by slot rank e ks)
+    (put_by_length slot rank e ks)
 
 -- ---- order
 

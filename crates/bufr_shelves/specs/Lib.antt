@@ -9,3 +9,6 @@ pub mod Shelves
 pub mod ChangeLaws
 pub mod WalkLaws
 pub mod Laws
+pub mod Fronts
+pub mod FrontLaws
+pub mod Samples

@@ -13,6 +13,7 @@
 #![tactic(auto)]
 
 pub mod entry;
+mod examples;
 pub mod held;
 pub mod key;
 pub mod laws;

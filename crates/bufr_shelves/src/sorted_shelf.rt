@@ -18,6 +18,7 @@ use std::alloc::Global;
 use std::marker::Model;
 
 mod batches;
+mod front;
 mod gathering;
 mod joined;
 mod merge;

@@ -1,12 +1,13 @@
 //! Pairs of key and value that come in any order, put in order batch by batch.
-ghost use Rattle.std.specs.Prelude.{◌≡◌, ◌++◌, [], OnOk, OnErr, IfOk};
+ghost use Rattle.std.specs.Prelude.{◌≡◌, ◌+◌, ◌*◌, ◌<◌, ◌≤◌, ◌++◌, ◌∷◌, [], false, OnOk, OnErr, IfOk, vec_len};
 ghost use Rattle.std.specs.List.Sorted.{IsPermutation, IsStrictlySortedBy};
 ghost use Rattle.std.specs.Map.{keys_of};
 ghost use Rattle.bufr_shelves.specs.Keeping.{kept_by, put_by};
-ghost use Rattle.bufr_shelves.specs.Pairs.{by_key, by_value};
+ghost use Rattle.bufr_shelves.specs.Pairs.{by_key, by_value, AreFalling};
 
 use crate::entry::OutOfMemory;
 use crate::rank::Exact;
+use crate::sorted_shelf::front::{Front, Fronted};
 use crate::sorted_shelf::merge::{merge, room_for};
 use crate::sorted_shelf::pair::Pair;
 use crate::sorted_shelf::sorted::raise_pair;
@@ -24,31 +25,27 @@ const LONG_BATCH: u64 = 33_554_432;
 /// How many octets more may wait for each pair that is in order.
 const OCTETS_A_PAIR: u64 = 64;
 
-/// What is compared first of two keys, since it stands beside them. Any answer is right: it only
-/// saves time where keys of different fronts are in the order of their fronts.
-pub(crate) trait Fronted {
-    /// The first part of the key in the order of keys.
-    fn front(&self) -> (u64, u64);
-}
-
 /// A pair that waits, and the front of its key.
 #[derive(Drop)]
-pub(crate) struct Waiting<K, V> {
-    front: (u64, u64),
+pub(crate) struct Waiting<K: Fronted, V> {
+    front: Front,
     pair: Pair<K, V>,
 }
 
-impl<K, V> Model for Waiting<K, V> {
+impl<K: Fronted, V> Model for Waiting<K, V> {
+    ghost use Rattle.std.specs.Prelude.{◌≡◌};
+
     ghost Value = { K × V };
 
     ghost view = { λ a. a.pair };
+
+    ghost invariant = { λ a. a.front ≡ K.front_of a.pair.0 };
 }
 
 impl<K: Fronted, V> Waiting<K, V> {
     /// A pair that waits.
     fn new(alloc: Global, key: K, value: V) -> Result<Waiting<K, V>, OutOfMemory>
     where
-        K: Drop,
         V: Drop,
         ensures { IfOk result (λ waiting. waiting ≡ (key, value)) }
     {
@@ -56,31 +53,31 @@ impl<K: Fronted, V> Waiting<K, V> {
         let pair = Pair::new(alloc, key, value)?;
         Ok(Waiting { front, pair })
     }
-}
 
-impl<K, V> Waiting<K, V> {
     /// The pair.
     fn into_pair(self) -> Pair<K, V>
         ensures { result ≡ self }
     {
         self.pair
     }
-}
 
-/// The order in which pairs that wait are put in.
-fn turn<K: Exact, V>(waiting: &Waiting<K, V>, other: &Waiting<K, V>) -> Ordering {
-    match waiting.front.cmp(&other.front) {
-        Ordering::Equal => waiting.pair.key().cmp(other.pair.key()),
-        order => order,
+    /// The order of the keys: of their fronts, and where these leave it open of themselves.
+    fn order(&self, other: &Waiting<K, V>) -> Ordering
+        ensures { result ≡ K.cmp self.now.0 other.now.0 }
+    {
+        match self.front.order(&other.front) {
+            Ordering::Equal => self.pair.key().cmp(other.pair.key()),
+            order => order,
+        }
     }
 }
 
 /// Pairs of which the one with the greatest value is kept at each key. They may come in any order:
 /// they wait until there are twice as many as were put in order before, are then sorted and merged
-/// with these. So a pair takes logarithmic time, and no more wait than twice those kept, or 64, nor
-/// octets much beyond 32 MiB and 64 for each pair kept.
+/// with these. So a pair takes logarithmic time, and no more wait than 64 and two for each that is
+/// in order (the invariant), nor octets much beyond 32 MiB and 64 for each pair kept.
 #[derive(Drop)]
-pub(crate) struct Batches<K: Exact, V: Exact> {
+pub(crate) struct Batches<K: Fronted, V: Exact> {
     alloc: Global,
     settled: Vec<Pair<K, V>>,
     fresh: Vec<Pair<K, V>>,
@@ -88,8 +85,8 @@ pub(crate) struct Batches<K: Exact, V: Exact> {
     octets: u64,
 }
 
-impl<K: Exact, V: Exact> Model for Batches<K, V> {
-    ghost use Rattle.std.specs.Prelude.{List, ◌++◌};
+impl<K: Fronted, V: Exact> Model for Batches<K, V> {
+    ghost use Rattle.std.specs.Prelude.{List, ◌++◌, ◌+◌, ◌*◌, ◌≤◌, vec_len};
     ghost use Rattle.std.specs.List.Sorted.{IsStrictlySortedBy};
     ghost use Rattle.std.specs.Map.{keys_of};
     ghost use Rattle.bufr_shelves.specs.Keeping.{kept_by};
@@ -101,10 +98,11 @@ impl<K: Exact, V: Exact> Model for Batches<K, V> {
         (a.settled.items ++ (a.fresh.items ++ a.waiting.items)) };
 
     ghost invariant = { λ a. IsStrictlySortedBy K.cmp (keys_of a.settled.items)
-        × IsStrictlySortedBy K.cmp (keys_of a.fresh.items) };
+        × IsStrictlySortedBy K.cmp (keys_of a.fresh.items)
+        × (vec_len a.fresh + vec_len a.waiting ≤ 64 + 2 * vec_len a.settled) };
 }
 
-impl<K: Exact + Fronted, V: Exact> Batches<K, V> {
+impl<K: Fronted, V: Exact> Batches<K, V> {
     /// No pairs. It takes no memory.
     pub(crate) fn new(alloc: Global) -> Self
         ensures { result ≡ [] }
@@ -125,44 +123,18 @@ impl<K: Exact + Fronted, V: Exact> Batches<K, V> {
             (self.new ≡ put_by (by_key K.cmp) (by_value V.cmp) (key, value) self.old) }
         ensures err { OnErr result (self.new ≡ self.old) }
     {
-        if self.are_many() {
-            self.settle()?;
+        let waiting = self.fresh.len().saturating_add(self.waiting.len());
+        if are_many(self.settled.len(), waiting, self.octets) {
+            settle(
+                self.alloc,
+                &mut self.settled,
+                &mut self.fresh,
+                &mut self.waiting,
+            )?;
+            self.octets = 0;
         }
+        wait(self.alloc, &mut self.waiting, key, value)?;
         self.octets = self.octets.saturating_add(octets as u64);
-        self.add(key, value)
-    }
-
-    /// Whether so many pairs wait, or octets, that it is time to put them in order.
-    fn are_many(&self) -> bool {
-        let waiting = self.waiting.len();
-        let settled = self.settled.len();
-        let room = (settled as u64).saturating_mul(OCTETS_A_PAIR);
-        let are_long = self.octets >= room.saturating_add(LONG_BATCH);
-        are_long || waiting >= SMALLEST_BATCH && waiting / 2 >= settled
-    }
-
-    /// Puts the pairs that wait in order.
-    fn settle(&mut self) -> Result<(), OutOfMemory>
-        ensures { self.new ≡ self.old }
-    {
-        settle(
-            self.alloc,
-            &mut self.settled,
-            &mut self.fresh,
-            &mut self.waiting,
-        )?;
-        self.octets = 0;
-        Ok(())
-    }
-
-    /// Lets one more pair wait.
-    fn add(&mut self, key: K, value: V) -> Result<(), OutOfMemory>
-        ensures ok { OnOk result
-            (self.new ≡ put_by (by_key K.cmp) (by_value V.cmp) (key, value) self.old) }
-        ensures err { OnErr result (self.new ≡ self.old) }
-    {
-        let waiting = Waiting::new(self.alloc, key, value)?;
-        self.waiting.push(waiting)?;
         Ok(())
     }
 
@@ -180,9 +152,33 @@ impl<K: Exact + Fronted, V: Exact> Batches<K, V> {
     }
 }
 
+/// Whether so many pairs wait, or octets, that it is time to put them in order.
+fn are_many(settled: usize, waiting: usize, octets: u64) -> bool
+    ensures { (result ≡ false) → waiting < 64 + 2 * settled }
+{
+    let room = (settled as u64).saturating_mul(OCTETS_A_PAIR);
+    let are_long = octets >= room.saturating_add(LONG_BATCH);
+    are_long || waiting >= SMALLEST_BATCH && waiting / 2 >= settled
+}
+
+/// Lets one more pair wait.
+fn wait<K: Fronted, V: Exact>(
+    alloc: Global,
+    waiting: &mut Vec<Waiting<K, V>>,
+    key: K,
+    value: V,
+) -> Result<(), OutOfMemory>
+    ensures ok { OnOk result (waiting.new.items ≡ waiting.old.items ++ (key, value) ∷ []) }
+    ensures err { OnErr result (waiting.new.items ≡ waiting.old.items) }
+{
+    let one = Waiting::new(alloc, key, value)?;
+    waiting.push(one)?;
+    Ok(())
+}
+
 /// Puts all pairs that wait, and those that were taken from them before, among the settled ones.
 /// Where memory was refused some may stand elsewhere, and together they are as they were.
-fn settle<K: Exact, V: Exact>(
+fn settle<K: Fronted, V: Exact>(
     alloc: Global,
     settled: &mut Vec<Pair<K, V>>,
     fresh: &mut Vec<Pair<K, V>>,
@@ -196,9 +192,12 @@ fn settle<K: Exact, V: Exact>(
         (settled.new.items ++ (fresh.new.items ++ waiting.new.items))
         ≡ kept_by (by_key K.cmp) (by_value V.cmp)
         (settled.old.items ++ (fresh.old.items ++ waiting.old.items)) }
+    ensures fewer { vec_len fresh.new + vec_len waiting.new
+        ≤ vec_len fresh.old + vec_len waiting.old }
     ensures done { OnOk result ((fresh.new.items ≡ []) × (waiting.new.items ≡ [])) }
+    ensures err { OnErr result (settled.new.items ≡ settled.old.items) }
 {
-    waiting.sort_unstable_by(|waits, other| turn(other, waits));
+    waiting.sort_unstable_by(|waits, other| other.order(waits));
     freshen(fresh, waiting)?;
     let room = room_for(alloc, settled, fresh)?;
     let more = mem::replace(fresh, Vec::new(alloc));
@@ -206,15 +205,18 @@ fn settle<K: Exact, V: Exact>(
     Ok(())
 }
 
-/// Puts the pairs that wait in order, from the last on.
-fn freshen<K: Exact, V: Exact>(
+/// Puts the pairs that wait in order, from the last on, which has the least key.
+fn freshen<K: Fronted, V: Exact>(
     fresh: &mut Vec<Pair<K, V>>,
     waiting: &mut Vec<Waiting<K, V>>,
 ) -> Result<(), OutOfMemory>
-    requires { IsStrictlySortedBy K.cmp (keys_of fresh.old.items) }
+    requires sorted { IsStrictlySortedBy K.cmp (keys_of fresh.old.items) }
+    requires falling { AreFalling K.cmp waiting.old.items }
     ensures sorted { IsStrictlySortedBy K.cmp (keys_of fresh.new.items) }
     ensures all { kept_by (by_key K.cmp) (by_value V.cmp) (fresh.new.items ++ waiting.new.items)
         ≡ kept_by (by_key K.cmp) (by_value V.cmp) (fresh.old.items ++ waiting.old.items) }
+    ensures fewer { vec_len fresh.new + vec_len waiting.new
+        ≤ vec_len fresh.old + vec_len waiting.old }
     ensures done { OnOk result (waiting.new.items ≡ []) }
 {
     loop {

@@ -4,11 +4,11 @@ ghost use Rattle.bufr_shelves.specs.Entries.{kept};
 ghost use Rattle.bufr_shelves.specs.declared.entry.Entry.{Entry};
 
 use crate::entry::OutOfMemory;
-use crate::key::{Key, Station};
+use crate::key::Key;
 use crate::octets::Octets;
 use crate::rank::Rank;
 use crate::sorted_shelf::SortedShelf;
-use crate::sorted_shelf::batches::{Batches, Fronted};
+use crate::sorted_shelf::batches::Batches;
 use std::alloc::Global;
 use std::marker::Model;
 
@@ -75,54 +75,5 @@ impl Gathering {
             keyed: keyed.into_sorted()?,
             unkeyed: unkeyed.into_sorted()?,
         })
-    }
-}
-
-/// A number in so many octets, or the greatest such number.
-fn in_octets(number: i128, greatest: u64) -> u64 {
-    match u64::try_from(number) {
-        Ok(number) if number < greatest => number,
-        _ => greatest,
-    }
-}
-
-impl Fronted for Key {
-    fn front(&self) -> (u64, u64) {
-        let centre = u64::from(self.centre);
-        let category = u64::from(self.category);
-        let international = u64::from(self.international);
-        let local_category = u64::from(self.local_category);
-        let head = ((centre << 8 | category) << 8 | international) << 8 | local_category;
-        match &self.station {
-            Station::Wmo { block, number } => {
-                let station = in_octets(*block, 0xFE) << 16 | in_octets(*number, 0xFFFF);
-                let moment = &self.moment;
-                let date = (u64::from(moment.year) << 8 | u64::from(moment.month)) << 8
-                    | u64::from(moment.day);
-                let time = (u64::from(moment.hour) << 8 | u64::from(moment.minute)) << 8
-                    | u64::from(moment.second);
-                (head << 24 | station, date << 24 | time)
-            }
-            Station::Wigos { .. } => (head << 24 | 0xFFFFFE, 0),
-            Station::Mobile { name } => (head << 24 | 0xFFFFFF, front_of_octets(name.as_slice())),
-        }
-    }
-}
-
-/// The first eight octets as a number.
-fn front_of_octets(octets: &[u8]) -> u64 {
-    let mut front = 0;
-    for index in 0..8 {
-        let octet = octets.get(index).copied().unwrap_or(0);
-        front = front << 8 | u64::from(octet);
-    }
-    front
-}
-
-impl Fronted for Octets {
-    fn front(&self) -> (u64, u64) {
-        let octets = self.as_slice();
-        let rest = octets.get(8..).unwrap_or(&[]);
-        (front_of_octets(octets), front_of_octets(rest))
     }
 }

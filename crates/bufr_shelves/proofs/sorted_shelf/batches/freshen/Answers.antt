@@ -1,5 +1,6 @@
 -- For `freshen`: the last pair that waits is put among the fresh ones.
-use Rattle.std.proofs.Common.{◌≡◌, ◌∙◌, ◌++◌, ◌∷◌, [], sym, ap, subst}
+use Rattle.std.proofs.Common.{◌≡◌, ◌+◌, ◌≤◌, suc, length, ◌∙◌, ◌++◌, ◌∷◌, [], sym, ap, subst, arith}
+use Rattle.std.proofs.Common.{length-append}
 use Rattle.std.proofs.lemmas.Cmp.{on_total}
 use Rattle.std.specs.List.Sorted.{IsStrictlySortedBy}
 use Rattle.std.specs.Map.{keys_of}
@@ -8,7 +9,7 @@ use Rattle.bufr_shelves.specs.Keeping.{kept_by, put_by}
 use Rattle.bufr_shelves.specs.KeepingLaws as laws
 use Rattle.bufr_shelves.specs.Pairs.{by_key, by_value}
 use Rattle.bufr_shelves.proofs.SortedLemmas.{sorted-pairs}
-use Rattle.bufr_shelves.proofs.BatchLemmas.{kept_moved, sorted-keys, exact_pairs}
+use Rattle.bufr_shelves.proofs.BatchLemmas.{put_by_length, kept_moved, sorted-keys, exact_pairs}
 use Rattle.bufr_shelves.proofs.sorted_shelf.batches.freshen.Goals as goal
 
 -- the fresh pairs stay in order, and together with those that wait they are the same
@@ -34,4 +35,11 @@ loop-waiting-preserved g c =
           pair sorted
           ∙ ap (λ ps. kept_by slot rank (fresh ++ ps)) (sym last)
           ∙ c.loop-waiting.invariant.1,
+      let n = put_by_length slot rank pair fresh in
+          let p : length c.raise_pair.new.pairs.items ≤ suc (length fresh) =
+          subst (λ ps. length ps ≤ suc (length fresh)) (sym put) n in
+          let w : length c.loop-waiting.waiting.items ≡ length rest + 1 =
+          ap length last ∙ length-append rest (pair ∷ []) in
+          let h = c.loop-waiting.invariant.2 in
+          omega (arith, p, w, h),
     )

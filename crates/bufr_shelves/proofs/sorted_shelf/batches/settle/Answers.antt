@@ -1,6 +1,10 @@
 -- For `settle`: whatever was done so far, all pairs together are as they were.
 use Rattle.std.proofs.Common.{◌∙◌, ◌++◌, [], sym, ap, subst}
+use Rattle.std.proofs.Common.{rules}
 use Rattle.std.proofs.lemmas.Cmp.{on_total}
+use Rattle.std.proofs.lemmas.Fn.{always_returns_same}
+use Rattle.std.proofs.lemmas.List.MinMax.{ranks_by, IsStrictWeakOrder-flip}
+use Rattle.std.specs.Ordering.{is_lt}
 use Rattle.std.specs.List.Sorted.{IsStrictlySortedBy}
 use Rattle.std.specs.Map.{keys_of}
 use Rattle.bufr_shelves.specs.Keeping.{kept_by, put_all}
@@ -9,6 +13,14 @@ use Rattle.bufr_shelves.proofs.SortedLemmas.{sorted-pairs}
 use Rattle.bufr_shelves.proofs.BatchLemmas.{kept_sorted_anyhow, kept_within, kept_merged}
 use Rattle.bufr_shelves.proofs.BatchLemmas.{sorted_all, sorted-keys, exact_pairs}
 use Rattle.bufr_shelves.proofs.sorted_shelf.batches.settle.Goals as goal
+
+-- the pairs that wait are sorted from the greatest key down
+pub freshen-requires-clause-falling : goal.freshen-requires-clause-falling
+freshen-requires-clause-falling g c =
+    c.sort_unstable_by.ensures.sorted (λ p q. is_lt (by_key g.K.Ord.cmp q p))
+    (IsStrictWeakOrder-flip (λ p q. is_lt (by_key g.K.Ord.cmp p q))
+    (ranks_by g.met.K.Ord.total (λ p. p.0)))
+    (always_returns_same _ _ _ (λ a r q k. search rules))
 
 -- once the pairs that wait were sorted and some of them put among the fresh ones
 pub returns-in_err-freshen-clause-all : goal.returns-in_err-freshen-clause-all

@@ -1,0 +1,197 @@
+//! What stands beside a key that waits, and is compared first.
+ghost use Rattle.std.specs.Prelude.{◌≡◌, get_or};
+ghost use Rattle.std.specs.Ordering.{ordering_then};
+ghost use Rattle.bufr_shelves.specs.Fronts.{front_cmp, place_cmp, front_of_key, place_of_station, first_octets, in_two_octets, open_front};
+ghost use Rattle.bufr_shelves.specs.declared.sorted_shelf.front.Front.{Front as AFront};
+
+use crate::key::{Key, Moment, Station};
+use crate::octets::Octets;
+use crate::rank::Exact;
+use std::cmp::Ordering;
+
+/// Centre and categories of a key.
+#[derive(Clone, Copy, Drop, PartialEq, Eq, PartialOrd, Ord)]
+pub(crate) struct FrontHead {
+    centre: u16,
+    category: u8,
+    international: u8,
+    local_category: u8,
+}
+
+/// Station and moment of a key, as far as they stand in a front.
+#[derive(Clone, Copy, Drop)]
+pub(crate) enum FrontPlace {
+    /// A WMO station whose block and number have room in two octets each, and the moment.
+    Wmo {
+        block: u16,
+        number: u16,
+        moment: Moment,
+    },
+    /// The first eight octets of a mobile name, zeros behind a shorter one.
+    Mobile {
+        name: [u8; 8],
+    },
+    /// Any other: only the key tells.
+    Open,
+}
+
+/// What is compared first of two keys, since it stands beside them and they do not.
+#[derive(Clone, Copy, Drop)]
+pub(crate) struct Front {
+    head: FrontHead,
+    place: FrontPlace,
+}
+
+impl Front {
+    /// Which of two keys comes first, as far as their fronts tell; `Equal` where they don't.
+    pub(crate) fn order(&self, other: &Front) -> Ordering
+        ensures { result ≡ front_cmp self.now other.now }
+    {
+        match self.head.cmp(&other.head) {
+            Ordering::Equal => self.place.order(&other.place),
+            order => order,
+        }
+    }
+}
+
+impl FrontPlace {
+    /// The same of station and moment.
+    fn order(&self, other: &FrontPlace) -> Ordering
+        ensures { result ≡ place_cmp self.now other.now }
+    {
+        match (self, other) {
+            (
+                FrontPlace::Wmo {
+                    block,
+                    number,
+                    moment,
+                },
+                FrontPlace::Wmo {
+                    block: other_block,
+                    number: other_number,
+                    moment: other_moment,
+                },
+            ) => match block.cmp(other_block) {
+                Ordering::Equal => match number.cmp(other_number) {
+                    Ordering::Equal => moment.cmp(other_moment),
+                    order => order,
+                },
+                order => order,
+            },
+            (FrontPlace::Wmo { .. }, FrontPlace::Mobile { .. }) => Ordering::Less,
+            (FrontPlace::Mobile { .. }, FrontPlace::Wmo { .. }) => Ordering::Greater,
+            (FrontPlace::Mobile { name }, FrontPlace::Mobile { name: other_name }) => {
+                name.cmp(other_name)
+            }
+            _ => Ordering::Equal,
+        }
+    }
+}
+
+/// A key with a front that never tells another order than the keys.
+pub(crate) trait Fronted: Exact {
+    /// Its front.
+    ghost front_of: { Self → AFront };
+
+    /// Its front.
+    fn front(&self) -> Front
+        ensures { result ≡ front_of self.now };
+
+    /// Fronts first and then the keys is the order of the keys.
+    ghost agrees: { (a b : Self)
+        → ordering_then (front_cmp (front_of a) (front_of b)) (Self.Ord.cmp a b) ≡ Self.Ord.cmp a b };
+}
+
+/// A number that has room in two octets.
+fn in_two_octets(number: i128) -> Option<u16>
+    ensures { result ≡ in_two_octets number }
+{
+    if 0 <= number && number <= 65_535 {
+        Some(number as u16)
+    } else {
+        None
+    }
+}
+
+/// An octet of some, or 0 behind them.
+fn octet_at(octets: &[u8], index: usize) -> u8
+    ensures { result ≡ get_or octets.now index 0 }
+{
+    octets.get(index).copied().unwrap_or(0)
+}
+
+/// The first eight octets, with zeros behind fewer.
+fn first_eight(octets: &[u8]) -> [u8; 8]
+    ensures { result ≡ first_octets 8 octets.now }
+{
+    [
+        octet_at(octets, 0),
+        octet_at(octets, 1),
+        octet_at(octets, 2),
+        octet_at(octets, 3),
+        octet_at(octets, 4),
+        octet_at(octets, 5),
+        octet_at(octets, 6),
+        octet_at(octets, 7),
+    ]
+}
+
+/// Station and moment, as far as they stand in a front.
+fn place_of(station: &Station, moment: Moment) -> FrontPlace
+    ensures { result ≡ place_of_station station.now moment }
+{
+    match station {
+        Station::Wmo { block, number } => match (in_two_octets(*block), in_two_octets(*number)) {
+            (Some(block), Some(number)) => FrontPlace::Wmo {
+                block,
+                number,
+                moment,
+            },
+            _ => FrontPlace::Open,
+        },
+        Station::Wigos { .. } => FrontPlace::Open,
+        Station::Mobile { name } => FrontPlace::Mobile {
+            name: first_eight(name.as_slice()),
+        },
+    }
+}
+
+impl Fronted for Key {
+    ghost use Rattle.bufr_shelves.specs.FrontLaws.{keys_agree};
+
+    ghost front_of = { front_of_key };
+
+    ghost agrees = { keys_agree };
+
+    fn front(&self) -> Front {
+        Front {
+            head: FrontHead {
+                centre: self.centre,
+                category: self.category,
+                international: self.international,
+                local_category: self.local_category,
+            },
+            place: place_of(&self.station, self.moment),
+        }
+    }
+}
+
+impl Fronted for Octets {
+    ghost use Rattle.std.proofs.Common.{refl};
+
+    ghost front_of = { λ _. open_front };
+
+    ghost agrees = { λ a b. refl };
+
+    fn front(&self) -> Front {
+        Front {
+            head: FrontHead {
+                centre: 0,
+                category: 0,
+                international: 0,
+                local_category: 0,
+            },
+            place: FrontPlace::Open,
+        }
+    }
+}
