@@ -1,14 +1,18 @@
 -- What the examples speak of: fields of stations and times.
-use Rattle.std.specs.Prelude.{ℕ, List, [], ◌∷◌, ◌++◌, codes, pos}
+use Rattle.std.specs.Prelude.{ℕ, suc, Bool, if◌then◌else◌, Option, List, [], ◌∷◌, ◌++◌, map}
+use Rattle.std.specs.Prelude.{codes, ℤ, pos}
+use Rattle.std.specs.Option.{is_some}
+use Rattle.bufr_tables.specs.declared.element.Kind.{Kind}
 use Rattle.bufr_tables.specs.declared.element.Kind.TheVariants as kinds
 use Rattle.bufr_tables.specs.Descriptors.{descriptor}
 use Rattle.bufr_data.specs.declared.field.Raw.TheVariants as raws
 use Rattle.bufr_data.specs.declared.field.Field.{Field}
 use Rattle.bufr_shelves.specs.declared.key.Station.{Station}
-use Rattle.bufr_shelves.specs.declared.key.Station.TheVariants.{Wmo, Wigos}
+use Rattle.bufr_shelves.specs.declared.key.Station.TheVariants.{Wmo, Wigos, Mobile}
 use Rattle.bufr_shelves.specs.declared.key.Moment.{Moment}
 use Rattle.bufr_shelves.specs.declared.key.Key.{Key}
 use Rattle.bufr_keys.specs.declared.keys.KeyHead.{KeyHead}
+use Rattle.bufr_keys.specs.Keys.{station, moment}
 
 -- the number of element 0 XX YYY in a field of 24 bits with scale 0 and reference value 0
 abbrev pub number_field : ℕ → ℕ → ℕ → Field
@@ -98,3 +102,69 @@ key_at_noon = record {
   moment = noon;
   sub_centre = 7;
 }
+
+-- ---- stations of each kind
+
+-- `wigos_fields` with the issue number missing
+abbrev pub without_issue_number : List Field
+without_issue_number =
+    number_field 1 125 0 ∷ number_field 1 126 20000 ∷ missing_field 1 127
+    ∷ text_field 1 128 (codes "10384    ") ∷ []
+
+-- the fields of each kind of station, usable or with one part that is missing or blank: a mobile
+-- name, a WIGOS identifier without its issue number, a WMO station without its block
+abbrev pub beside : Bool → Bool → Bool → List Field
+beside wmo wigos mobile =
+    (if mobile then text_field 1 11 (codes "SHIP     ") else text_field 1 11 (codes "         "))
+    ∷ (if wigos then wigos_fields else without_issue_number)
+    ++ (if wmo then block_and_station else missing_field 1 1 ∷ number_field 1 2 384 ∷ [])
+
+-- the station that is said beside others
+abbrev pub wmo_10384 : Station
+wmo_10384 = Wmo (pos 10) (pos 384)
+
+-- a mobile name
+abbrev pub named : List ℕ → Station
+named name = Mobile name
+
+-- the field of a kind with this raw value, scale 0 and reference value
+abbrev pub field_of : Kind → ℤ → ℕ → ℕ → ℕ → Field
+field_of kind reference x y n = record {
+  fxy = descriptor 0 x y;
+  spec = record { kind = kind; scale = pos 0; reference = reference; width = 24 };
+  raw = raws.Number n;
+}
+
+-- the station of a block that a field says, and number 384
+abbrev pub of_block : Field → Option Station
+of_block f = station (f ∷ number_field 1 2 384 ∷ [])
+
+-- the station of block 10 and a number that a field says
+abbrev pub of_number : Field → Option Station
+of_number f = station (number_field 1 1 10 ∷ f ∷ [])
+
+-- the WIGOS identifier 0-20000-1-10384 with one field in place of its own
+abbrev pub wigos_with : Field → Field → Field → Field → Option Station
+wigos_with series issuer number name = station (series ∷ issuer ∷ number ∷ name ∷ [])
+
+-- ---- dates and times
+
+-- whether there is a moment at midnight of a date
+abbrev pub is_date : ℕ × ℕ × ℕ → Bool
+is_date d = is_some (moment (date_fields d.0 d.1 d.2 0))
+
+-- the last day of each month of a common year, and of February of leap years
+abbrev pub last_days : List (ℕ × ℕ × ℕ)
+last_days =
+    (2023, 1, 31) ∷ (2023, 2, 28) ∷ (2023, 3, 31) ∷ (2023, 4, 30) ∷ (2023, 5, 31) ∷ (2023, 6, 30)
+    ∷ (2023, 7, 31) ∷ (2023, 8, 31) ∷ (2023, 9, 30) ∷ (2023, 10, 31) ∷ (2023, 11, 30)
+    ∷ (2023, 12, 31) ∷ (2024, 2, 29) ∷ (2000, 2, 29) ∷ (1900, 2, 28) ∷ []
+
+-- the day behind each of them
+abbrev pub days_behind : List (ℕ × ℕ × ℕ)
+days_behind = map (λ d. (d.0, d.1, suc d.2)) last_days
+
+-- whether there is a moment at this hour, minute and second
+abbrev pub is_time : ℕ × ℕ × ℕ → Bool
+is_time t =
+    is_some (moment (date_fields 2024 1 15 t.0 ++ number_field 4 5 t.1 ∷ number_field 4 6 t.2 ∷ []))
