@@ -1,0 +1,104 @@
+//! Prints the descriptor and the value of each field of a message, one a line.
+#![tactic(auto)]
+
+use bufr_data::{Field, Raw};
+use bufr_message::{Refused, decode};
+use bufr_tables::{Failure, TableB, TableD, TableFault, Tables};
+use std::alloc::AllocError;
+use std::process::ExitCode;
+use std::{env, fs, io};
+use thiserror::Error;
+
+/// Why the fields of a file are not printed.
+#[derive(Debug, Drop, Error)]
+enum Problem {
+    /// The words of the call are not three.
+    #[error("usage: print_fields TABLE_B TABLE_D FILE")]
+    Usage,
+    /// A file can't be read, or the output not be written.
+    #[error("{0}")]
+    Device(io::Error),
+    /// A file of tables has a fault.
+    #[error("a table: {0}")]
+    Table(TableFault),
+    /// The octets of the file spell no message.
+    #[error("refused: {0}")]
+    Message(Refused),
+    /// Memory ran out.
+    #[error("out of memory")]
+    OutOfMemory,
+}
+
+impl From<io::Error> for Problem {
+    fn from(error: io::Error) -> Problem {
+        Problem::Device(error)
+    }
+}
+
+impl From<AllocError> for Problem {
+    fn from(_error: AllocError) -> Problem {
+        Problem::OutOfMemory
+    }
+}
+
+impl From<Failure<TableFault>> for Problem {
+    fn from(failure: Failure<TableFault>) -> Problem {
+        match failure {
+            Failure::Fault(fault) => Problem::Table(fault),
+            Failure::OutOfMemory => Problem::OutOfMemory,
+        }
+    }
+}
+
+impl From<Failure<Refused>> for Problem {
+    fn from(failure: Failure<Refused>) -> Problem {
+        match failure {
+            Failure::Fault(refused) => Problem::Message(refused),
+            Failure::OutOfMemory => Problem::OutOfMemory,
+        }
+    }
+}
+
+/// Prints a field: its descriptor, and its value, which is a number, a text or missing.
+fn print_field(rt: &HostRuntime, field: &Field) -> Result<(), Problem> {
+    let descriptor = field.fxy;
+    match (field.value(), &field.raw) {
+        (Some(value), _) => println!(rt; "{descriptor} {value}")?,
+        (None, Raw::Text(octets)) if !field.is_missing() => {
+            let text = String::from_utf8_lossy(rt.alloc(), octets.as_slice())?;
+            println!(rt; "{descriptor} {text}")?;
+        }
+        (None, _) => println!(rt; "{descriptor} missing")?,
+    }
+    Ok(())
+}
+
+/// Reads the files that the words of the call name, and prints the fields of the message.
+fn run(rt: &HostRuntime) -> Result<(), Problem> {
+    let alloc = rt.alloc();
+    let words = env::args(rt)?.collect::<Vec<String>>(alloc)?;
+    let [_, b, d, file] = words.as_slice() else {
+        return Err(Problem::Usage);
+    };
+    let elements = TableB::parse(alloc, fs::read(rt, b.as_str())?.as_slice())?;
+    let sequences = TableD::parse(alloc, fs::read(rt, d.as_str())?.as_slice())?;
+    let tables = Tables::new(elements, sequences);
+    let octets = fs::read(rt, file.as_str())?;
+    let decoded = decode(alloc, &tables, octets.as_slice())?;
+    for subset in decoded.message.subsets.as_slice() {
+        for field in subset.fields.as_slice() {
+            print_field(rt, field)?;
+        }
+    }
+    Ok(())
+}
+
+fn main(rt: HostRuntime) -> ExitCode {
+    match run(&rt) {
+        Ok(()) => ExitCode::SUCCESS,
+        Err(problem) => {
+            let _ = eprintln!(rt; "print_fields: {problem}");
+            ExitCode::from(2)
+        }
+    }
+}
