@@ -33,3 +33,4 @@ pub mod RefusedLines
 pub mod RefusedFields
 pub mod RefusedHeadings
 pub mod RefusedMessages
+pub mod AnswerFacts

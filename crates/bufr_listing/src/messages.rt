@@ -1,16 +1,20 @@
 //! Reading listings.
 
-ghost use Rattle.std.specs.Prelude.{◌≡◌, List, Some, true};
+ghost use Rattle.std.specs.Prelude.{◌≡◌, List, Some, true, Ok, Err, IfOk};
 ghost use Rattle.bufr_tables.specs.Answers.{Gives};
 ghost use Rattle.bufr_listing.specs.Cursors.{left, past};
-ghost use Rattle.bufr_listing.specs.Lines.{Line};
+ghost use Rattle.bufr_listing.specs.Lines.{Line, Listed};
+ghost use Rattle.bufr_listing.specs.FirstFaults.{FirstFault};
 ghost use Rattle.bufr_listing.specs.Reading.{messages_listed, message_read, MessageRead, head_read};
 ghost use Rattle.bufr_listing.specs.Reading.{head_with, are_below, section1_limits, time_limits};
+ghost use Rattle.bufr_sections.specs.declared.message.Message.{Message};
+ghost use Rattle.bufr_listing.specs.declared.fault.ListingFault.{ListingFault};
 
 use crate::fault::ListingFault;
 use crate::head_lines::{
     read_descriptors, read_flags, read_local, read_numbers, read_section2, read_word,
 };
+use crate::laws::{faults_of_listings_are_the_first, listings_list_messages};
 use crate::lines::Lines;
 use crate::subsets::read_subsets;
 use bufr_sections::{Head, Message};
@@ -42,6 +46,31 @@ const TIME_LIMITS: [u64; 6] = [
 /// subset's end is expected. Items count over the message. `OutOfMemory` where a growth was
 /// refused.
 pub fn read(
+    alloc: Global,
+    tables: &Tables,
+    text: &[u8],
+) -> Result<Vec<Message>, Failure<ListingFault>>
+    // What is read is listed so.
+    ensures found { IfOk result (λ v. Listed tables.now text.now v.items) }
+    // What is listed so is read, and these messages alone, unless memory runs out.
+    ensures only { (messages : List Message) → Listed tables.now text.now messages
+        → Gives (λ v. v.items) result (Ok messages) }
+    // A fault is the first of the text.
+    ensures first { (fault : ListingFault) → result ≡ Err (Failure.Fault fault)
+        → FirstFault tables.now text.now fault }
+    // The first fault of the text is told, unless memory runs out.
+    ensures told { (fault : ListingFault) → FirstFault tables.now text.now fault
+        → Gives {Y = List Message} (λ v. v.items) result (Err fault) }
+    // Which messages, or which fault, these are.
+    ensures exact { Gives (λ v. v.items) result (messages_listed tables.now text.now) }
+{
+    listings_list_messages();
+    faults_of_listings_are_the_first();
+    messages_listed(alloc, tables, text)
+}
+
+/// The messages that a text lists: the one clause from which `read` has its others.
+fn messages_listed(
     alloc: Global,
     tables: &Tables,
     text: &[u8],

@@ -1,41 +1,29 @@
--- For `read`: messages up to the end of the text, or the first fault.
-use Rattle.std.proofs.Common.{◌∙◌, sym}
-use Rattle.std.proofs.lemmas.Result.{err_from_is_err_and}
-use Rattle.bufr_listing.proofs.MessageSteps.{some_next, none_next, one_message, message_shorter}
-use Rattle.bufr_listing.proofs.MessageSteps.{message_fails, messages_end}
+-- For `read`: its clauses from the laws `listings_list_messages` and
+-- `faults_of_listings_are_the_first`.
+use Rattle.bufr_listing.proofs.AnswerFacts.{answer_listed, listed_answered}
+use Rattle.bufr_listing.proofs.AnswerFacts.{answer_first_fault, first_fault_answered}
 use Rattle.bufr_listing.proofs.messages.read.Goals as goal
 
--- the fault of a message is the answer
-pub returns-in_err-read_message : goal.returns-in_err-read_message
-returns-in_err-read_message c =
-    let p = err_from_is_err_and c.from_residual.result c.from_residual.ensures.1 in
-    let own = rw c.loop-lines.invariant.last at c.in_err-read_message.ensures.read in
-    record {
-      exact = rw (p.1, p.2) (message_fails _ _ _ _ _ _ c.loop-lines.invariant.so_far
-          (some_next _ _ c.peek.ensures (sym c.is_some.ensures ∙ c.loop-lines-test.true)) own);
-    }
+-- messages that are answered are listed by the text
+pub returns-clause-found : goal.returns-clause-found
+returns-clause-found c =
+    answer_listed c.listings_list_messages.ensures.read c.args.tables.now c.args.text.now
+    (λ v. v.items) c.messages_listed.result c.messages_listed.ensures.exact
 
--- fewer lines are left behind a message
-pub loop-lines-smaller : goal.loop-lines-smaller
-loop-lines-smaller c =
-    let own = rw c.loop-lines.invariant.last at c.in_ok-read_message.ensures.read in
-    message_shorter _ _ _ _ own
+-- messages that the text lists are answered
+pub returns-clause-only : goal.returns-clause-only
+returns-clause-only c =
+    listed_answered c.listings_list_messages.ensures.listed c.args.tables.now c.args.text.now
+    (λ v. v.items) c.messages_listed.result c.messages_listed.ensures.exact
 
--- one message more was read
-pub loop-lines-preserved : goal.loop-lines-preserved
-loop-lines-preserved c =
-    let own = rw c.loop-lines.invariant.last at c.in_ok-read_message.ensures.read in
-    record {
-      last = c.in_ok-read_message.ensures.past ∙ c.loop-lines.invariant.last;
-      so_far =
-          one_message _ _ _ _ _ _ _ _ c.in_ok-push.ensures.items c.loop-lines.invariant.so_far
-          (some_next _ _ c.peek.ensures (sym c.is_some.ensures ∙ c.loop-lines-test.true)) own;
-    }
+-- a fault that is answered is the first of the text
+pub returns-clause-first : goal.returns-clause-first
+returns-clause-first c =
+    answer_first_fault c.faults_of_listings_are_the_first.ensures.given c.args.tables.now
+    c.args.text.now (λ v. v.items) c.messages_listed.result c.messages_listed.ensures.exact
 
--- where no line is left, the messages are those that were read
-pub returns : goal.returns
-returns c =
-    record {
-      exact = messages_end _ _ _ _ _ c.loop-lines.invariant.so_far
-          (none_next _ _ c.peek.ensures (sym c.is_some.ensures ∙ c.loop-lines-test.false));
-    }
+-- the first fault of the text is answered
+pub returns-clause-told : goal.returns-clause-told
+returns-clause-told c =
+    first_fault_answered c.faults_of_listings_are_the_first.ensures.answered c.args.tables.now
+    c.args.text.now (λ v. v.items) c.messages_listed.result c.messages_listed.ensures.exact

@@ -1,10 +1,10 @@
--- For `read`: the messages that were read so far.
+-- For `messages_listed`: the messages that were read so far.
 use Rattle.std.proofs.Common.{◌≡◌, ◌+◌, length}
 use Rattle.std.specs.Str.Lines.{lines}
 use Rattle.bufr_listing.specs.Cursors.{left, past}
 use Rattle.bufr_listing.specs.Lines.{counting_lines}
 use Rattle.bufr_listing.proofs.MessageSteps.{MessagesSoFar}
-use Rattle.bufr_listing.proofs.messages.read.Given as goal
+use Rattle.bufr_listing.proofs.messages.messages_listed.Given as goal
 
 -- the text's messages are these and then those that are read of the lines left
 abbrev pub invariant-loop-lines : goal.invariant-loop-lines
