@@ -8,22 +8,26 @@ ghost use Rattle.bufr_tool.specs.Output.{added_line, merged_line};
 use crate::check::run_check;
 use crate::encode::run_encode;
 use crate::late_file::LateFile;
+use crate::late_input::LateInput;
 use crate::show::run_show;
 use crate::tables::load_tables;
 use crate::words::{CommandLine, Task, line};
-use bufr_bits::{FromRead, IntoWrite, Source};
+use bufr_bits::{IntoWrite, Source};
 use bufr_collect::{run_add, run_merge};
 use bufr_engines::{Input, MOST_READS, Tally, ToolFault, write_out};
 use bufr_tables::Tables;
 use clap::error::ErrorKind;
 use std::alloc::{AllocError, Global};
 use std::convert::AsStr;
+use std::fmt;
 use std::io::Write;
 use std::rt::Files;
-use std::{fmt, fs};
 
 /// No last line of a command that writes an archive has more octets.
 const LONGEST_LINE: usize = 160;
+
+/// The line of a fault for whose own line there is no memory.
+const OUT_OF_MEMORY: &str = "bufr: out of memory\n";
 
 /// All is well, or help was asked for and written.
 const WELL: u8 = 0;
@@ -70,7 +74,8 @@ fn run_words<R: Files, S: AsStr, O: Write + Drop, E: Write + Drop>(
     }
 }
 
-/// Opens the files of a line, both tables first, and runs its engine.
+/// Opens the tables and the first input of a line, and runs its engine, which opens each further
+/// input when it has read the one before to its end.
 fn run_line<R: Files, O: Write + Drop, E: Write + Drop>(
     rt: &R,
     alloc: Global,
@@ -80,25 +85,28 @@ fn run_line<R: Files, O: Write + Drop, E: Write + Drop>(
 ) -> u8
     ensures { result ≤ 2 }
 {
-    let Some(mut b) = open(rt, line.b) else {
-        return cannot_open(line.b, err);
+    let Some(mut b) = file_of(rt, line.b, true) else {
+        return cannot_open(alloc, line.b, err);
     };
-    let Some(mut d) = open(rt, line.d) else {
-        return cannot_open(line.d, err);
+    let Some(mut d) = file_of(rt, line.d, true) else {
+        return cannot_open(alloc, line.d, err);
     };
-    let mut inputs = match open_all(rt, alloc, &line.inputs) {
+    let mut inputs = match inputs_of(rt, alloc, &line.inputs) {
         Ok(inputs) => inputs,
-        Err(Unopened::Path(path)) => return cannot_open(path, err),
-        Err(Unopened::OutOfMemory) => return say(&ToolFault::OutOfMemory, err),
+        Err(Unopened::Path(path)) => return cannot_open(alloc, path, err),
+        Err(Unopened::OutOfMemory) => return say(alloc, &ToolFault::OutOfMemory, err),
     };
     match run_task(rt, alloc, line, &mut b, &mut d, &mut inputs, out) {
         Ok(tally) if tally.refused == 0 => WELL,
         Ok(_) => REFUSED,
-        Err(fault) => say(&fault, err),
+        Err(fault) => match unopened_path(&inputs, &fault) {
+            Some(path) => cannot_open(alloc, path, err),
+            None => say(alloc, &fault, err),
+        },
     }
 }
 
-/// Why inputs are not all open.
+/// Why there are no inputs to be read.
 enum Unopened<'a> {
     /// The file of this path can't be opened.
     Path(&'a str),
@@ -106,35 +114,53 @@ enum Unopened<'a> {
     OutOfMemory,
 }
 
-/// Readers of the files of some paths, opened in order; or the first path that can't be opened.
-fn open_all<'a, R: Files>(
-    rt: &R,
+/// The files of some paths, of which the first is open; or the path of the first, if it can't be
+/// opened.
+fn inputs_of<'a, R: Files>(
+    rt: &'a R,
     alloc: Global,
     paths: &[&'a str],
-) -> Result<Vec<FromRead<R::File>>, Unopened<'a>>
-    ensures { IfOk result (λ readers. AreFresh
-        (map ⟦<FromRead<R::File> as Source>⟧.reading readers.items)) }
+) -> Result<Vec<LateInput<'a, R>>, Unopened<'a>>
+    ensures { IfOk result (λ inputs. AreFresh
+        (map ⟦<LateInput<'a, R> as Source>⟧.reading inputs.items)) }
 {
-    let mut readers = Vec::new(alloc);
+    let mut inputs = Vec::new(alloc);
     for path in paths {
-        let Some(reader) = open(rt, path) else {
+        let Some(input) = file_of(rt, path, inputs.is_empty()) else {
             return Err(Unopened::Path(path));
         };
-        let Ok(()) = readers.push(reader) else {
+        let Ok(()) = inputs.push(input) else {
             return Err(Unopened::OutOfMemory);
         };
     }
-    Ok(readers)
+    Ok(inputs)
 }
 
-/// A reader of the file of a path, where it can be opened.
-fn open<R: Files>(rt: &R, path: &str) -> Option<FromRead<R::File>>
-    ensures { IfSome result (λ reader. IsFresh (⟦<FromRead<R::File> as Source>⟧.reading reader)) }
+/// The file of a path, opened at once where that is asked; none where it can't be.
+fn file_of<'a, R: Files>(rt: &'a R, path: &'a str, at_once: bool) -> Option<LateInput<'a, R>>
+    ensures { IfSome result (λ file. IsFresh (⟦<LateInput<'a, R> as Source>⟧.reading file)) }
 {
-    match fs::open(rt, path) {
-        Ok(file) => Some(FromRead::new(file)),
-        Err(_) => None,
+    let mut file = LateInput::new(rt, path);
+    if at_once {
+        file.open();
     }
+    if file.is_unopened() {
+        return None;
+    }
+    Some(file)
+}
+
+/// The path of the input that could not be opened, where that is why a read failed.
+fn unopened_path<'a, R: Files>(inputs: &[LateInput<'a, R>], fault: &ToolFault) -> Option<&'a str> {
+    if !matches!(fault, ToolFault::ReadFailed(_)) {
+        return None;
+    }
+    for input in inputs {
+        if input.is_unopened() {
+            return Some(input.path());
+        }
+    }
+    None
 }
 
 /// Loads the tables and runs the engine of a line's task over its inputs.
@@ -193,18 +219,31 @@ fn run_collecting<R: Files, S: Source, O: Write + Drop>(
 {
     // No memory is asked for once the archive is written: then only writing can fail.
     let mut text = String::with_capacity(alloc, LONGEST_LINE)?;
-    let mut archive = LateFile::new(rt, line.out);
-    let tally = if line.task == Task::Merge {
-        let tally = run_merge(alloc, MOST_READS, tables, inputs, &mut archive)?;
+    let tally = collect(rt, alloc, line, tables, inputs)?;
+    if line.task == Task::Merge {
         push_merged(&mut text, &tally)?;
-        tally
     } else {
-        let tally = run_add(alloc, MOST_READS, tables, inputs, &mut archive)?;
         push_added(&mut text, &tally)?;
-        tally
-    };
+    }
     write_out(&mut IntoWrite::new(&mut *out), 0, text.as_bytes())?;
     Ok(tally)
+}
+
+/// Runs an engine that writes an archive, whose file is closed again at the end.
+fn collect<R: Files, S: Source>(
+    rt: &R,
+    alloc: Global,
+    line: &CommandLine,
+    tables: &Tables,
+    inputs: &mut [S],
+) -> Result<Tally, ToolFault>
+    requires { AreFresh (map S.reading inputs.old) }
+{
+    let mut archive = LateFile::new(rt, line.out);
+    if line.task == Task::Merge {
+        return run_merge(alloc, MOST_READS, tables, inputs, &mut archive);
+    }
+    run_add(alloc, MOST_READS, tables, inputs, &mut archive)
 }
 
 /// Adds what is printed after an archive of streams was written.
@@ -230,18 +269,28 @@ fn push_merged(text: &mut String, tally: &Tally) -> Result<(), AllocError>
 }
 
 /// Says a fault on `err`.
-fn say<E: Write + Drop>(fault: &ToolFault, err: &mut E) -> u8
+fn say<E: Write + Drop>(alloc: Global, fault: &ToolFault, err: &mut E) -> u8
     ensures { result ≤ 2 }
 {
-    let _ = writeln!(err, "bufr: {fault}");
-    FAULT
+    tell(format!(in alloc; "bufr: {fault}\n"), err)
 }
 
 /// Says on `err` that a file cannot be opened for reading.
-fn cannot_open<E: Write + Drop>(path: &str, err: &mut E) -> u8
+fn cannot_open<E: Write + Drop>(alloc: Global, path: &str, err: &mut E) -> u8
     ensures { result ≤ 2 }
 {
-    let _ = writeln!(err, "bufr: cannot open {path}");
+    tell(format!(in alloc; "bufr: cannot open {path}\n"), err)
+}
+
+/// Writes a line on `err`, whole and at once, so that it stands alone beside those of other
+/// programs; or, where there is no memory for it, the line that says so.
+fn tell<E: Write + Drop>(line: Result<String, AllocError>, err: &mut E) -> u8
+    ensures { result ≤ 2 }
+{
+    let _ = match &line {
+        Ok(line) => err.write_all(line.as_bytes()),
+        Err(_) => err.write_all(OUT_OF_MEMORY.as_bytes()),
+    };
     FAULT
 }
 
@@ -255,10 +304,10 @@ fn explain<O: Write + Drop, E: Write + Drop>(
     ensures { result ≤ 2 }
 {
     if error.kind() == ErrorKind::OutOfMemory {
-        return say(&ToolFault::OutOfMemory, err);
+        return say(alloc, &ToolFault::OutOfMemory, err);
     }
     let Ok(text) = format!(in alloc; "{error}") else {
-        return say(&ToolFault::OutOfMemory, err);
+        return say(alloc, &ToolFault::OutOfMemory, err);
     };
     if error.use_stderr() {
         let _ = err.write_all(text.as_bytes());
@@ -266,6 +315,6 @@ fn explain<O: Write + Drop, E: Write + Drop>(
     }
     match write_out(&mut IntoWrite::new(&mut *out), 0, text.as_bytes()) {
         Ok(()) => WELL,
-        Err(fault) => say(&fault, err),
+        Err(fault) => say(alloc, &fault, err),
     }
 }

@@ -5,11 +5,13 @@ ghost use Rattle.bufr_bits.specs.Devices.{Writing};
 
 use bufr_bits::{Failed, Sink};
 use std::fs;
-use std::io::Write;
+use std::fs::OpenFile;
+use std::io::{Error, ErrorKind, Write};
 use std::rt::Files;
 
 /// A file that is opened at its first write or flush, and holds from then on what is written and
-/// nothing else. A file that can't be opened is a failed write.
+/// nothing else. A file that can't be opened is a failed write. A flush waits until what was written
+/// is on the device.
 #[derive(Drop)]
 pub struct LateFile<'a, R: Files> {
     rt: &'a R,
@@ -52,16 +54,34 @@ impl<'a, R: Files> LateFile<'a, R> {
         }
     }
 
-    /// Flushes the file, and answers whether that worked.
+    /// Flushes the file, waits until its octets are on the device where it has one, and answers
+    /// whether that worked.
     fn hand_off(&mut self) -> bool
         ensures { self.new.failed ≡ self.old.failed }
     {
         self.open();
         match &mut self.file {
-            Some(file) => file.flush().is_ok(),
+            Some(file) => file.flush().is_ok() && is_on_device(file),
             None => false,
         }
     }
+}
+
+/// Waits until the octets of a file are on its device, and answers whether that worked. A pipe, a
+/// socket or a terminal has none to wait for.
+fn is_on_device<F: OpenFile>(file: &F) -> bool {
+    match file.sync_all() {
+        Ok(()) => true,
+        Err(error) => has_no_device(&error),
+    }
+}
+
+/// Whether an error says that a file has no device to wait for.
+fn has_no_device(error: &Error) -> bool {
+    matches!(
+        error.kind(),
+        ErrorKind::InvalidInput | ErrorKind::ReadOnlyFilesystem | ErrorKind::Unsupported
+    )
 }
 
 impl<'a, R: Files> Sink for LateFile<'a, R> {

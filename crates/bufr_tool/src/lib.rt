@@ -7,6 +7,7 @@ mod counts;
 mod encode;
 mod frames;
 mod late_file;
+mod late_input;
 mod parts;
 mod printing;
 mod show;

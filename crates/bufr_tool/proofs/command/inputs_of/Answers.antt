@@ -1,25 +1,25 @@
--- The clause of `open_all`: file by file, each of which is opened and not read.
+-- The clause of `inputs_of`: path by path, none of whose files was read.
 use Rattle.bufr_tool.proofs.OpenFacts.{Unread, unread_more, fresh_all}
-use Rattle.bufr_tool.proofs.command.open_all.Goals as goal
+use Rattle.bufr_tool.proofs.command.inputs_of.Goals as goal
 
--- at first there is no reader
+-- at first there is no input
 pub loop-path-init : goal.loop-path-init
-loop-path-init g c = rw c.new-readers.ensures.items tt
+loop-path-init g c = rw c.new-inputs.ensures.items tt
 
--- one reader more was opened, and not read
+-- one input more was not read either
 pub loop-path-preserved : goal.loop-path-preserved
 loop-path-preserved g c =
-    let here : Unread c.in-Some.reader = record {
+    let here : Unread c.in-Some.input = record {
       failed = c.in-Some.ensures.failed;
       reads = c.in-Some.ensures.reads;
       met_end = c.in-Some.ensures.met_end;
     } in
     rw c.in-Ok.ensures.items
-    (unread_more c.loop-path.readers.items c.in-Some.reader c.loop-path.invariant here)
+    (unread_more c.loop-path.inputs.items c.in-Some.input c.loop-path.invariant here)
 
--- readers that were not read are fresh
+-- inputs that were not read are fresh
 pub returns : goal.returns
 returns g c =
-    fresh_all _ c.loop-path.readers.items
+    fresh_all _ c.loop-path.inputs.items
     (λ r unread. record { reads = unread.reads; failed = unread.failed; met_end = unread.met_end })
     c.loop-path.invariant
