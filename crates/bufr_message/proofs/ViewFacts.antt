@@ -1,5 +1,5 @@
 -- Whether the subsets of a view can be said alone, for `view`; and that its reports are under the
--- tables, for `View::report`.
+-- tables, for `View::report` and `reports`.
 use Rattle.std.proofs.Common.{◌≡◌, ℕ, ◌+◌, ◌*◌, ◌<◌, ◌≤◌, Bool, true, false, List, length, take}
 use Rattle.std.proofs.Common.{Some, Result, Ok, Err, refl, sym, ap, subst, ◌∙◌, arith}
 use Rattle.std.specs.Prelude.{nat_le, slice_get, IfOk, option_map}
@@ -85,3 +85,12 @@ pub under_answer : {E : Type 0} (law : ReportsSpeltAreUnder) (m : Message) (i : 
 under_answer law m i (Ok r) is tables octets slack spells =
     under_at tables (reports_of m) i r (law tables m octets slack spells) is
 under_answer law m i (Err e) is tables octets slack spells = is
+
+-- each report of those that are answered is under the tables by which octets spell the message
+pub all_under_answer : {X E : Type 0} (law : ReportsSpeltAreUnder) (m : Message)
+    (items : X → List Report) (answer : Result X E) → IfOk answer (λ x. items x ≡ reports_of m)
+    → (tables : Entries) (octets : List ℕ) (slack : ℕ) → Spells tables m octets slack
+    → IfOk answer (λ x. AllByRecursion (IsUnder tables) (items x))
+all_under_answer law m items (Ok x) is tables octets slack spells =
+    subst (AllByRecursion (IsUnder tables)) (sym is) (law tables m octets slack spells)
+all_under_answer law m items (Err e) is tables octets slack spells = is

@@ -1,14 +1,17 @@
 //! Reports: one subset of a message with its head, and the message that says a report alone.
 
-ghost use Rattle.std.specs.Prelude.{◌≡◌, IfOk};
+ghost use Rattle.std.specs.Prelude.{◌≡◌, ℕ, List, IfOk, Ok};
+ghost use Rattle.std.specs.List.{AllByRecursion};
 ghost use Rattle.bufr_tables.specs.Answers.{Gives};
+ghost use Rattle.bufr_tables.specs.Entries.{Entries};
+ghost use Rattle.bufr_message.specs.Messages.{Spells};
 ghost use Rattle.bufr_message.specs.Encodings.{code};
 ghost use Rattle.bufr_message.specs.Reports.{reports_of, with_parts, without_local, with_no_local};
-ghost use Rattle.bufr_message.specs.Reports.{alone, IsCanonical};
+ghost use Rattle.bufr_message.specs.Reports.{alone, IsCanonical, IsUnder};
 
 use crate::encoding::octets_of;
 use crate::fault::EncodeFault;
-use crate::laws::written_messages_are_spelt;
+use crate::laws::{reports_have_canonical_messages, written_messages_are_spelt};
 use crate::lent::Lent;
 use crate::ranges::numbers_fit;
 use bufr_data::Subset;
@@ -113,6 +116,18 @@ pub struct Report {
 /// The reports of a message, one a subset, in order. It can only run out of memory; the message is
 /// then gone.
 pub fn reports(alloc: Global, message: Message) -> Result<Vec<Report>, OutOfMemory>
+    ensures are { IfOk result (λ found. found.items ≡ reports_of message) }
+    // Under tables by which octets spell the message each has a canonical message.
+    ensures under { (tables : Entries) (octets : List ℕ) (slack : ℕ)
+        → Spells tables message octets slack
+        → IfOk result (λ found. AllByRecursion (IsUnder tables) found.items) }
+{
+    reports_have_canonical_messages();
+    reports_of(alloc, message)
+}
+
+/// The reports of a message: the one clause from which `reports` has its other.
+fn reports_of(alloc: Global, message: Message) -> Result<Vec<Report>, OutOfMemory>
     ensures { IfOk result (λ found. found.items ≡ reports_of message) }
 {
     let Message {
@@ -159,6 +174,9 @@ pub fn canonical(
 ) -> Result<Vec<u8>, Failure<EncodeFault>>
     // What is answered is the report's canonical message.
     ensures canonical { IfOk result (λ v. IsCanonical tables.now report.now v.items) }
+    // The canonical message of a report that has one is answered, unless memory runs out.
+    ensures under { (octets : List ℕ) → IsCanonical tables.now report.now octets
+        → Gives (λ v. v.items) result (Ok octets) }
     // Which octets, or which fault, it is.
     ensures exact { Gives (λ v. v.items) result (code tables.now (alone report.now)) }
 {
