@@ -100,6 +100,7 @@ pub fn streams()
     ensures before_an_open_place { map (λ f. f.place) (sure (shortest ++ open_for_long))
         ≡ 0 ∷ [] }
     ensures held_behind { rest_from 1 0 (shortest ++ 0 ∷ open_for_long) ≡ open_for_long }
+    ensures held_at_once { rest_from 1 0 (shortest ++ open_for_long) ≡ open_for_long }
     ensures held_not_out { rest_from 0 0 (0 ∷ shortest ++ open_for_long)
         ≡ shortest ++ open_for_long }
     ensures held_mark { rest_from 1 0 (shortest ++ 66 ∷ 66 ∷ 85 ∷ []) ≡ 66 ∷ 85 ∷ [] }
