@@ -14,7 +14,8 @@ ghost use Rattle.bufr_expand.specs.ExampleTables.{no_spec, increased_reference};
 /// the width are those that the operators leave.
 pub fn limits_under_operators()
     ensures scale_of_the_row { Becomes (λ scale. effective temperature
-        (row Quantity scale (pos 0) 1) (in_force (operator 2 255 ∷ operator 7 56 ∷ operator 1 1 ∷ [])))
+        (row Quantity scale (pos 0) 1)
+        (in_force (operator 2 255 ∷ operator 7 56 ∷ operator 1 1 ∷ [])))
         ((pos 127, quantity (pos 310) (pos 0) 61) ∷ (pos 128, None)
         ∷ (negsuc 126, quantity (pos 56) (pos 0) 61) ∷ (negsuc 127, None) ∷ []) }
     ensures scale_lowered { Becomes (λ scale. effective temperature
