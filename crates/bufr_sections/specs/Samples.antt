@@ -1,10 +1,11 @@
 -- What the examples speak of.
 use Rattle.std.specs.Prelude.{ℕ, ◌*◌, ◌+◌, Bool, true, false, List, [], ◌∷◌, ◌++◌, codes}
-use Rattle.std.specs.Prelude.{option_to_list, Option, Some}
+use Rattle.std.specs.Prelude.{option_to_list, Option, Some, None, map, Result, Ok}
 use Rattle.std.specs.List.{flat_map}
 use Rattle.hex.specs.Hex.{hex_digit_value}
 use Rattle.bufr_sections.specs.declared.message.Head.{Head}
-use Rattle.bufr_sections.specs.Sections.{Envelope}
+use Rattle.bufr_sections.specs.declared.fault.Refused.{Refused}
+use Rattle.bufr_sections.specs.Sections.{Envelope, envelope_of}
 
 -- the octets that hexadecimal digits are, spaces and bars between them
 abbrev pub hex_digits : List ℕ → List ℕ
@@ -126,6 +127,58 @@ octets3_with_section2 =
 -- sections that announce so many subsets
 abbrev pub many_subsets : ℕ → Envelope
 many_subsets n = record (said4 true false) { count = n }
+
+-- ---- each edition with and without section 2, and with each pair of flags
+
+-- flags in octet 7 of section 3: neither, compressed, observed, both
+abbrev pub flag_pairs : List (List ℕ)
+flag_pairs = codes "00" ∷ codes "40" ∷ codes "80" ∷ codes "C0" ∷ []
+
+-- something for each of these: whether the data are observed, and whether compressed
+abbrev pub each_pair : {A : Type 0} → (Bool → Bool → A) → List A
+each_pair f = f false false ∷ f false true ∷ f true false ∷ f true true ∷ []
+
+-- what octets with each pair of flags say
+abbrev pub said_by : (List ℕ → List ℕ) → List (Result Envelope Refused)
+said_by octets = map (λ flags. envelope_of (octets flags)) flag_pairs
+
+-- this is said with each pair of flags
+abbrev pub says_each : (Bool → Bool → Envelope) → List (Result Envelope Refused)
+says_each said = each_pair (λ observed compressed. Ok (said observed compressed))
+
+-- the sections of edition 4 without section 2
+abbrev pub said4_without : Bool → Bool → Envelope
+said4_without observed compressed = record (said4 observed compressed) { section2 = None }
+
+-- their octets, with these bits in octet 10 of section 1
+abbrev pub octets4_without : List ℕ → List ℕ → List ℕ
+octets4_without bits1 flags =
+    hex (codes "42554652 000036 04")
+    ++ hex
+    (codes "000018 00 0102 0304 05" ++ bits1 ++ codes "06 07 08 09 0A 0B0C 0D 0E 0F 10 11 1213")
+    ++ hex (codes "00000B 00 1516" ++ flags ++ codes "1718 191A")
+    ++ hex (codes "000007 00 1B1C1D") ++ hex (codes "37373737")
+
+-- the sections of edition 3 with these flags
+abbrev pub said3_with : Option (List ℕ) → Bool → Bool → Envelope
+said3_with section2 observed compressed =
+    record (said3 section2) { observed = observed; compressed = compressed }
+
+-- their octets without section 2
+abbrev pub octets3_plain : List ℕ → List ℕ
+octets3_plain flags =
+    hex (codes "42554652 00002B 03")
+    ++ hex (codes "000012 00 01 02 03 00 04 05 06 07 08 09 0A 0B 0C 0D")
+    ++ hex (codes "000009 00 0001" ++ flags ++ codes "1718")
+    ++ hex (codes "000004 00") ++ hex (codes "37373737")
+
+-- and with it
+abbrev pub octets3_local : List ℕ → List ℕ
+octets3_local flags =
+    hex (codes "42554652 000030 03")
+    ++ hex (codes "000012 00 01 02 03 80 04 05 06 07 08 09 0A 0B 0C 0D")
+    ++ hex (codes "000005 00 14") ++ hex (codes "000009 00 0001" ++ flags ++ codes "1718")
+    ++ hex (codes "000004 00") ++ hex (codes "37373737")
 
 -- ---- messages that are refused
 

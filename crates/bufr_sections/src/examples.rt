@@ -2,14 +2,17 @@
 //! its threshold.
 
 ghost use Rattle.std.specs.Prelude.{◌≡◌, ◌++◌, Ok, Err, IsOk, Some, None, true, false, [], ◌∷◌};
-ghost use Rattle.std.specs.Prelude.{take, codes};
+ghost use Rattle.std.specs.Prelude.{take, codes, map};
 ghost use Rattle.bufr_data.specs.declared.fault.WriteFault.TheVariants.{TooLarge};
 ghost use Rattle.bufr_sections.specs.Sections.{three, two, layout_of, year_of_century, envelope_of};
 ghost use Rattle.bufr_sections.specs.Sections.{descriptors_of};
 ghost use Rattle.bufr_sections.specs.Spelt.{bare, spelt_or, longest};
 ghost use Rattle.bufr_sections.specs.Samples.{hex, said4, octets4, octets4_filled, said3, octets3};
 ghost use Rattle.bufr_sections.specs.Samples.{octets3_with_section2, many_subsets, framed, usual1};
-ghost use Rattle.bufr_sections.specs.Samples.{plain1, announcing1, short_section3};
+ghost use Rattle.bufr_sections.specs.Samples.{plain1, announcing1, short_section3, flag_pairs};
+ghost use Rattle.bufr_sections.specs.Samples.{each_pair, said_by, says_each, said4_without};
+ghost use Rattle.bufr_sections.specs.Samples.{octets4_without, said3_with, octets3_plain};
+ghost use Rattle.bufr_sections.specs.Samples.{octets3_local};
 
 use crate::fault::Refused;
 
@@ -52,6 +55,55 @@ pub fn edition_3_read()
     ensures year_100 { year_of_century 100 ≡ 2000 }
     ensures edition_2 { layout_of 2 ≡ None }
     ensures edition_5 { layout_of 5 ≡ None }
+{}
+
+/// Each edition with and without section 2, and with each pair of flags. Of the octet of section 1
+/// that announces section 2 the first bit alone is asked, and of section 3's octet 7 the first two.
+#[tactic(auto, unfolding(crate::proofs::OnLiterals::sections_on_literals))]
+pub fn editions_and_flags()
+    ensures edition_4 { said_by octets4 ≡ says_each said4 }
+    ensures without_section_2 { said_by (octets4_without (codes "7F")) ≡ says_each said4_without }
+    ensures edition_3 { said_by octets3_plain ≡ says_each (said3_with None) }
+    ensures edition_3_section_2 { said_by octets3_local ≡ says_each (said3_with (Some (20 ∷ []))) }
+    ensures ignored { envelope_of (octets4_without (codes "7F") (codes "7F"))
+        ≡ Ok (said4_without false true) }
+    ensures written { each_pair (λ o c. bare (said4 o c)) ≡ map octets4 flag_pairs }
+    ensures written_without { each_pair (λ o c. bare (said4_without o c))
+        ≡ map (octets4_without (codes "00")) flag_pairs }
+{}
+
+/// Where octets give two causes, the first in their order is answered: each beside the next.
+#[tactic(auto, unfolding(crate::proofs::OnLiterals::sections_on_literals))]
+pub fn order_of_refusals()
+    ensures start_before_edition { envelope_of (hex (codes "42554653 00000C 05 37373737"))
+        ≡ Err Refused.NotBufr }
+    ensures edition_before_total { envelope_of (hex (codes "42554652 00000D 05 37373737"))
+        ≡ Err (Refused.Edition 5) }
+    ensures total_before_end { envelope_of (hex (codes "42554652 00000D 04 37373738"))
+        ≡ Err Refused.TotalLength }
+    ensures end_before_section_1 { envelope_of (hex (codes "42554652 00000C 04 37373738"))
+        ≡ Err Refused.NoEnd }
+    ensures section_1_before_table { envelope_of (framed (codes "000021 04")
+        (take 21 (usual1 (codes "000015 0A") (codes "00"))))
+        ≡ Err Refused.Section1Length }
+    ensures long_section_1_before_table { envelope_of (framed (codes "000022 04")
+        (usual1 (codes "000017 0A") (codes "00")))
+        ≡ Err Refused.Section1Length }
+    ensures section_1_before_table_3 { envelope_of (framed (codes "00001C 03")
+        (hex (codes "000010 0A 00 62 00 00 00 02 25 00 18 01 0F 0C")))
+        ≡ Err Refused.Section1Length }
+    ensures table_before_section_2 { envelope_of (framed (codes "000025 04")
+        (usual1 (codes "000016 0A") (codes "80") ++ hex (codes "000003")))
+        ≡ Err (Refused.MasterTable 10) }
+    ensures table_before_section_2_3 { envelope_of (framed (codes "000020 03")
+        (hex (codes "000011 0A 00 62 00 80 00 02 25 00 18 01 0F 0C 00 000003")))
+        ≡ Err (Refused.MasterTable 10) }
+    ensures section_2_before_section_3 { envelope_of (framed (codes "00002D 04")
+        (announcing1 ++ hex (codes "000003 000008 00 0001 80 00")))
+        ≡ Err Refused.Section2Length }
+    ensures section_3_before_section_4 { envelope_of (framed (codes "00002D 04")
+        (plain1 ++ hex (codes "000008 00 0001 80 00 000003")))
+        ≡ Err Refused.Section3Length }
 {}
 
 /// Sections 0 that are refused, and the end.
