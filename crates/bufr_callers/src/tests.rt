@@ -27,6 +27,48 @@ const BARE: &[u8] = b"BUFR\x00\x00\x31\x04\
 \x00\x00\x06\x00\x6A\xB3\
 7777";
 
+/// 273.16 K.
+const WARMER: &[u8] = b"BUFR\x00\x00\x31\x04\
+\x00\x00\x16\x00\x00\x62\x00\x00\x00\x00\x00\x02\x00\x25\x00\x07\xE8\x01\x0F\x0C\x00\x00\
+\x00\x00\x09\x00\x00\x01\x80\x0C\x65\
+\x00\x00\x06\x00\x6A\xB4\
+7777";
+
+/// Both as compressed subsets, with increments of three bits: 011010101011 0011, 000011, 000, 001.
+const BOTH: &[u8] = b"BUFR\x00\x00\x33\x04\
+\x00\x00\x16\x00\x00\x62\x00\x00\x00\x00\x00\x02\x00\x25\x00\x07\xE8\x01\x0F\x0C\x00\x00\
+\x00\x00\x09\x00\x00\x02\xC0\x0C\x65\
+\x00\x00\x08\x00\x6A\xB3\x0C\x10\
+7777";
+
+/// The same with increments of two bits, the fewest: 011010101011 0011, 000010, 00, 01.
+const NARROW: &[u8] = b"BUFR\x00\x00\x33\x04\
+\x00\x00\x16\x00\x00\x62\x00\x00\x00\x00\x00\x02\x00\x25\x00\x07\xE8\x01\x0F\x0C\x00\x00\
+\x00\x00\x09\x00\x00\x02\xC0\x0C\x65\
+\x00\x00\x08\x00\x6A\xB3\x08\x40\
+7777";
+
+/// 273.15 K in edition 3, whose sub-category is 2: 44 octets.
+const EDITION_3: &[u8] = b"BUFR\x00\x00\x2C\x03\
+\x00\x00\x11\x00\x00\x62\x00\x00\x00\x02\x25\x00\x18\x01\x0F\x0C\x00\
+\x00\x00\x09\x00\x00\x01\x80\x0C\x65\
+\x00\x00\x06\x00\x6A\xB3\
+7777";
+
+/// The same in edition 4: the international sub-category is 255, the local one 2.
+const EDITION_4: &[u8] = b"BUFR\x00\x00\x31\x04\
+\x00\x00\x16\x00\x00\x62\x00\x00\x00\x00\x00\xFF\x02\x25\x00\x07\xE8\x01\x0F\x0C\x00\x00\
+\x00\x00\x09\x00\x00\x01\x80\x0C\x65\
+\x00\x00\x06\x00\x6A\xB3\
+7777";
+
+/// No subset.
+const EMPTY: &[u8] = b"BUFR\x00\x00\x2F\x04\
+\x00\x00\x16\x00\x00\x62\x00\x00\x00\x00\x00\x02\x00\x25\x00\x07\xE8\x01\x0F\x0C\x00\x00\
+\x00\x00\x09\x00\x00\x00\x80\x0C\x65\
+\x00\x00\x04\x00\
+7777";
+
 /// The front of two compressed subsets of a text of 64 octets: 208064 001015.
 const TWO_TEXTS: &[u8] = b"BUFR\x00\x00\xF0\x04\
 \x00\x00\x16\x00\x00\x62\x00\x00\x00\x00\x00\x02\x00\x25\x00\x07\xE8\x01\x0F\x0C\x00\x00\
@@ -65,7 +107,10 @@ fn tables(alloc: Global) -> Result<Tables, Fail> {
 fn reports_are_counted(rt: HostRuntime) -> Result<(), Fail> {
     let alloc = rt.alloc();
     let tables = tables(alloc)?;
-    assert!(rt; matches!(count(alloc, &tables, BARE), Ok(1)));
+    let cases = [(EMPTY, 0), (BARE, 1), (EDITION_3, 1), (BOTH, 2)];
+    for (octets, reports) in cases {
+        assert!(rt; count(alloc, &tables, octets).is_ok_and(|counted| counted == reports));
+    }
     assert!(rt; matches!(count(alloc, &tables, &two_texts(alloc)?), Ok(2)));
     let refused = count(alloc, &tables, &BARE[..40]);
     assert!(rt; matches!(refused, Err(Failure::Fault(Refused::TotalLength))));
@@ -76,7 +121,17 @@ fn reports_are_counted(rt: HostRuntime) -> Result<(), Fail> {
 fn slack_is_not_rewritten(rt: HostRuntime) -> Result<(), Fail> {
     let alloc = rt.alloc();
     let tables = tables(alloc)?;
-    assert!(rt; rewritten(alloc, &tables, SLACK).is_ok_and(|written| written.as_slice() == BARE));
+    let cases = [
+        (SLACK, BARE),
+        (BARE, BARE),
+        (EMPTY, EMPTY),
+        (BOTH, NARROW),
+        (EDITION_3, EDITION_4),
+    ];
+    for (octets, wanted) in cases {
+        let kept = rewritten(alloc, &tables, octets);
+        assert!(rt; kept.is_ok_and(|written| written.as_slice() == wanted));
+    }
     let refused = rewritten(alloc, &tables, &SLACK[..40]);
     assert!(rt; matches!(refused, Err(RewriteFault::Refused(Refused::TotalLength))));
     Ok(())
@@ -99,11 +154,13 @@ fn frames_before_and_at_the_end(rt: HostRuntime) -> Result<(), Fail> {
     stream.extend_from_slice(b"BUFR".as_slice())?;
     stream.extend_from_slice(BARE)?;
     let frames = frames_of(rt.alloc(), &stream)?;
-    assert_eq!(rt; frames.sure.len(), 1);
-    assert_eq!(rt; frames.last.len(), 1);
-    for frame in &frames.last {
-        assert_eq!(rt; frame.place, 54);
-        assert!(rt; frame.bytes.as_slice() == BARE);
+    let cases = [(&frames.sure, 0, SLACK), (&frames.last, 54, BARE)];
+    for (found, place, wanted) in cases {
+        assert_eq!(rt; found.len(), 1);
+        for frame in found {
+            assert_eq!(rt; frame.place, place);
+            assert!(rt; frame.bytes.as_slice() == wanted);
+        }
     }
     Ok(())
 }
@@ -121,6 +178,28 @@ fn message_taken_in_once(rt: HostRuntime) -> Result<(), Fail> {
         matches!(
             broken,
             Err(KeepFault::NotAnArchive(NotAnArchive { place: 0 }))
+        )
+    );
+    Ok(())
+}
+
+#[test]
+fn messages_taken_in_behind_others(rt: HostRuntime) -> Result<(), Fail> {
+    let alloc = rt.alloc();
+    let tables = tables(alloc)?;
+    let mut text = Vec::from_slice(alloc, BARE)?;
+    text.extend_from_slice(WARMER)?;
+    let cases = [(BARE, WARMER), (WARMER, BARE), (b"", BOTH), (&text, EMPTY)];
+    for (file, message) in cases {
+        let kept = with_message(alloc, &tables, file, message);
+        assert!(rt; kept.is_ok_and(|written| written.as_slice() == text.as_slice()));
+    }
+    text.push(0x42)?;
+    let broken = with_message(alloc, &tables, &text, b"BUFR".as_slice());
+    assert!(rt;
+        matches!(
+            broken,
+            Err(KeepFault::NotAnArchive(NotAnArchive { place: 98 }))
         )
     );
     Ok(())
