@@ -42,6 +42,18 @@ pub fn refusals()
         ≡ Err (Refused.Data (ReadFault.DataEnds 1 8)) }
 {}
 
+/// Operators that do not act: 201130 on a local descriptor of 16 bits that 206 gives, 208010 on the
+/// four characters of 205. Each message ends where its data do.
+#[tactic(auto, unfolding(crate::proofs::OnLiterals::messages_on_literals))]
+pub fn operators_that_do_not_act()
+    ensures on_206 { slack_of (read (framed (codes "000035 04")
+        (plain1 ++ hex (codes "00000D 00 0001 80 8182 8610 0C65 000006 00 6AB3"))))
+        ≡ Ok 0 }
+    ensures on_205 { slack_of (read (framed (codes "000035 04")
+        (plain1 ++ hex (codes "00000B 00 0001 80 880A 8504 000008 00 41424344"))))
+        ≡ Ok 0 }
+{}
+
 /// Messages of edition 3, and what is written for them: edition 4.
 #[tactic(auto, unfolding(crate::proofs::OnLiterals::messages_on_literals))]
 pub fn edition_3()

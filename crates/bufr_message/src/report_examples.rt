@@ -1,11 +1,16 @@
 //! Worked examples of reports and their canonical messages.
 
-ghost use Rattle.std.specs.Prelude.{◌≡◌, false, [], ◌∷◌, Some, codes};
+ghost use Rattle.std.specs.Prelude.{◌≡◌, false, true, [], ◌∷◌, Some, codes};
+ghost use Rattle.bufr_data.specs.declared.field.Raw.TheVariants.{Number, Text};
+ghost use Rattle.bufr_message.specs.OwnBits.{has_room};
 ghost use Rattle.bufr_message.specs.Samples.{elements_only, local_octets_and_slack};
 ghost use Rattle.bufr_message.specs.Samples.{distinct_head, compressed, edition_3_of};
 ghost use Rattle.bufr_message.specs.ReportSamples.{reports, canonicals, observed_flags};
 ghost use Rattle.bufr_message.specs.ReportSamples.{in_sequences, plain_pair, distinct_alone};
-ghost use Rattle.bufr_message.specs.ReportSamples.{edition_3_alone};
+ghost use Rattle.bufr_message.specs.ReportSamples.{edition_3_alone, for_flags, canonical_each};
+ghost use Rattle.bufr_message.specs.ReportSamples.{temperature4, temperature4_local, front3_alone};
+ghost use Rattle.bufr_message.specs.ReportSamples.{temperature3, temperature3_local};
+ghost use Rattle.bufr_sections.specs.Samples.{plain1};
 
 /// The reports of compressed subsets are those of the same subsets, plain.
 #[tactic(auto, unfolding(crate::proofs::OnLiterals::messages_on_literals))]
@@ -29,4 +34,28 @@ pub fn canonical_messages()
         ≡ Some (distinct_alone (codes "00")) ∷ [] }
     ensures edition_3 { canonicals (edition_3_of (codes "18")) ≡ Some edition_3_alone ∷ [] }
     ensures flags { observed_flags (distinct_alone (codes "00")) ≡ false ∷ [] }
+{}
+
+/// The canonical message of a temperature in each edition, with and without section 2, and with
+/// each pair of flags: of all these it keeps whether the data are observed.
+#[tactic(auto, unfolding(crate::proofs::OnLiterals::messages_on_literals))]
+pub fn canonical_messages_of_each_kind()
+    ensures edition_4 { for_flags (λ f. canonicals (temperature4 f)) ≡ canonical_each plain1 }
+    ensures edition_4_section_2 { for_flags (λ f. canonicals (temperature4_local f))
+        ≡ canonical_each plain1 }
+    ensures edition_3 { for_flags (λ f. canonicals (temperature3 f))
+        ≡ canonical_each front3_alone }
+    ensures edition_3_section_2 { for_flags (λ f. canonicals (temperature3_local f))
+        ≡ canonical_each front3_alone }
+{}
+
+/// What can be put in so many bits: numbers below 2 to their power, in 64 at most.
+pub fn room_for_values()
+    ensures least { has_room 1 (Number 1) ≡ true }
+    ensures above { has_room 1 (Number 2) ≡ false }
+    ensures none { has_room 0 (Number 0) ≡ true }
+    ensures one_in_none { has_room 0 (Number 1) ≡ false }
+    ensures widest { has_room 64 (Number 18446744073709551615) ≡ true }
+    ensures wider { has_room 65 (Number 0) ≡ false }
+    ensures text { has_room 0 (Text (65 ∷ [])) ≡ true }
 {}
