@@ -17,10 +17,6 @@ pub record ArchiveView : Type 0 where
 abbrev pub merged : ArchiveView → ArchiveView → ArchiveView
 merged a b = record a { entries = kept (a.entries ++ b.entries) }
 
--- the archive with one more entry put in
-abbrev pub with_entry : ArchiveView → Entry → ArchiveView
-with_entry a e = record a { entries = kept (a.entries ++ e ∷ []) }
-
 -- an archive holds what is kept: of each slot one entry, in order
 abbrev pub IsKept : ArchiveView → Type 0
 IsKept a = kept a.entries ≡ a.entries

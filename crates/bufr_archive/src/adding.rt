@@ -61,7 +61,6 @@ impl<'t, S: Shelf> Archive<'t, S> {
     pub fn add_message(&mut self, octets: &[u8]) -> Result<Added, AddFault>
         ensures { AddsMessage self.old self.new octets.now result }
     {
-        let _held = self.len();
         let reports = match MessageReports::of_octets(self.alloc, self.tables, octets) {
             Ok(reports) => reports,
             Err(Failure::Fault(why)) => return Err(AddFault::Refused(why)),
@@ -77,11 +76,11 @@ impl<'t, S: Shelf> Archive<'t, S> {
     pub fn add_all<L: ReportList>(&mut self, reports: &L) -> Result<Added, RanOut>
         ensures { AddsReports self.old self.new (L.entries reports.now) result }
     {
-        let _held = self.len();
+        let alloc = self.alloc;
         let count = reports.count();
         let mut changed: u128 = 0;
         for index in 0..count {
-            let Ok(changes) = self.add_one(reports, index) else {
+            let Ok(changes) = self.add_one(alloc, reports, index) else {
                 let done = index as u128;
                 return Err(RanOut { done });
             };
@@ -92,7 +91,12 @@ impl<'t, S: Shelf> Archive<'t, S> {
     }
 
     /// Adds one report, and answers whether that changed what is kept.
-    fn add_one<L: ReportList>(&mut self, reports: &L, index: usize) -> Result<bool, OutOfMemory>
+    fn add_one<L: ReportList>(
+        &mut self,
+        alloc: Global,
+        reports: &L,
+        index: usize,
+    ) -> Result<bool, OutOfMemory>
         requires { index < length (L.entries reports.now) }
         ensures ok { OnOk result
             (self.new ≡ taken_in self.old (get_or (L.entries reports.now) index None ∷ [])) }
@@ -100,9 +104,9 @@ impl<'t, S: Shelf> Archive<'t, S> {
             (entries_of (get_or (L.entries reports.now) index None ∷ []))) }
         ensures err { OnErr result (self.new ≡ self.old) }
     {
-        let _held = self.len();
-        match reports.entry(self.alloc, index)? {
-            Some(Entry { key, update, bytes }) => self.put(key, update, bytes),
+        let shelf = &mut self.shelf;
+        match reports.entry(alloc, index)? {
+            Some(Entry { key, update, bytes }) => shelf.put(key, update, bytes),
             None => Ok(false),
         }
     }

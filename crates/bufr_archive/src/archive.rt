@@ -2,12 +2,12 @@
 ghost use Rattle.std.specs.Prelude.{◌≡◌, ◌<◌, [], false, true, List, length, take, IfOk, IfErr, OnOk, OnErr};
 ghost use Rattle.std.specs.Option.{option_map};
 ghost use Rattle.bufr_bits.specs.Devices.{Writes};
-ghost use Rattle.bufr_shelves.specs.Entries.{changes, entry_at};
-ghost use Rattle.bufr_archive.specs.Archives.{merged, with_entry, IsKept};
+ghost use Rattle.bufr_shelves.specs.Entries.{entry_at};
+ghost use Rattle.bufr_archive.specs.Archives.{merged, IsKept};
 ghost use Rattle.bufr_archive.specs.Texts.{text};
 
 use bufr_bits::device::{Sink, Unwritten, write_all};
-use bufr_shelves::{JoinFault, Key, Octets, OutOfMemory, Shelf, SortedShelf};
+use bufr_shelves::{JoinFault, Key, OutOfMemory, Shelf, SortedShelf};
 use bufr_tables::Tables;
 use std::alloc::Global;
 use std::marker::Model;
@@ -23,11 +23,16 @@ pub struct Archive<'t, S: Shelf> {
 }
 
 impl<'t, S: Shelf> Model for Archive<'t, S> {
+    ghost use Rattle.std.specs.Prelude.{◌≡◌};
+    ghost use Rattle.bufr_shelves.specs.Entries.{kept};
     ghost use Rattle.bufr_archive.specs.Archives.{ArchiveView};
 
     ghost Value = { ArchiveView };
 
     ghost view = { λ a. record { tables = a.tables.now; entries = S.entries a.shelf } };
+
+    // What is held is what is kept.
+    ghost invariant = { λ a. kept (S.entries a.shelf) ≡ S.entries a.shelf };
 }
 
 /// A sink failed, once it had taken the first `written` octets of an archive's text.
@@ -68,22 +73,6 @@ impl<'t, S: Shelf> Archive<'t, S> {
             tables: self.tables,
             shelf: self.shelf.copy()?,
         })
-    }
-
-    /// Puts an entry on its shelf.
-    pub(crate) fn put(
-        &mut self,
-        key: Option<Key>,
-        update: u8,
-        bytes: Octets,
-    ) -> Result<bool, OutOfMemory>
-        ensures ok { OnOk result (self.new
-            ≡ with_entry self.old (record { key = key; update = update; bytes = bytes })) }
-        ensures changed { IfOk result (λ b.
-            b ≡ changes self.old.entries (record { key = key; update = update; bytes = bytes })) }
-        ensures err { OnErr result (self.new ≡ self.old) }
-    {
-        self.shelf.put(key, update, bytes)
     }
 
     /// How many reports it holds.
