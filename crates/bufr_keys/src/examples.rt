@@ -51,7 +51,7 @@ pub fn parts_of_stations()
     ensures no_numbers { map of_number (missing_field 1 2 ∷ scaled_field 1 2 384
         ∷ text_field 1 2 (codes "384") ∷ number_field 1 3 384 ∷ number_field 2 2 384 ∷ [])
         ≡ None ∷ None ∷ None ∷ None ∷ None ∷ [] }
-    ensures no_wigos { wigos_with (missing_field 1 125) (number_field 1 126 2) (number_field 1 127 3)
+    ensures wigos { wigos_with (missing_field 1 125) (number_field 1 126 2) (number_field 1 127 3)
         (text_field 1 128 (codes "4"))
         ∷ wigos_with (number_field 1 125 1) (missing_field 1 126) (number_field 1 127 3)
         (text_field 1 128 (codes "4"))

@@ -99,7 +99,8 @@ pub(crate) trait Fronted: Exact {
 
     /// Fronts first and then the keys is the order of the keys.
     ghost agrees: { (a b : Self)
-        → ordering_then (front_cmp (front_of a) (front_of b)) (Self.Ord.cmp a b) ≡ Self.Ord.cmp a b };
+        → ordering_then (front_cmp (front_of a) (front_of b)) (Self.Ord.cmp a b)
+        ≡ Self.Ord.cmp a b };
 }
 
 /// A number that has room in two octets.
