@@ -27,9 +27,13 @@ frames_of_piece stream piece = drop (length (sure stream)) (sure (stream ++ piec
 abbrev pub frames_of_end : List ℕ → List Found
 frames_of_end stream = drop (length (sure stream)) (cut stream)
 
+-- so many octets and so many more pass 2^64 - 1
+abbrev pub are_too_many : ℕ → ℕ → Bool
+are_too_many octets more = nat_lt (2 ^ 64 - 1) (octets + more)
+
 -- the stream would pass 2^64 - 1 octets
 abbrev pub is_too_long : List ℕ → List ℕ → Bool
-is_too_long stream piece = nat_lt (2 ^ 64 - 1) (length stream + length piece)
+is_too_long stream piece = are_too_many (length stream) (length piece)
 
 -- the frames that a step brings to the slot that it names; a piece for which the stream would be
 -- too long brings none

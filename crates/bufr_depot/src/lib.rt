@@ -10,6 +10,7 @@
 
 mod counts;
 mod depot;
+mod examples;
 mod headline;
 mod intakes;
 mod joins;
