@@ -9,3 +9,4 @@ mod StreamFacts
 mod EngineFacts
 mod EncodingFacts
 mod OpenFacts
+mod OnLiterals

@@ -4,3 +4,4 @@ pub mod Loads
 pub mod StreamEngines
 pub mod Encoding
 pub mod CommandLines
+pub mod Samples

@@ -5,6 +5,7 @@ mod check;
 mod command;
 mod counts;
 mod encode;
+mod examples;
 mod frames;
 mod late_file;
 mod late_input;
