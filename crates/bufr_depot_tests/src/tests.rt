@@ -329,15 +329,20 @@ fn feeds_all<S: Shelf>(
     }
 }
 
-// A frame that spells no message is counted; one that an end brings is added with it.
+// A frame that spells no message is counted, also one that only an end brings; a message that an
+// end brings is added with it.
 fn frames_come<S: Shelf>(rt: &impl Abort, alloc: Global, depot: &mut Depot<S>) {
-    let pieces: [(&[u8], Result<Answer, StepFault>); 3] = [
+    let pieces: [(&[u8], Result<Answer, StepFault>); 7] = [
         (EDITION_5.as_slice(), fed(0, 1, 0)),
         (b"BUFR", fed(0, 0, 0)),
         (ROW_1.as_slice(), fed(0, 0, 0)),
+        (EDITION_5.as_slice(), fed(0, 0, 0)),
+        (EDITION_5.as_slice(), fed(0, 0, 0)),
+        (ROW_1.as_slice(), fed(0, 0, 0)),
+        (EDITION_5.as_slice(), fed(0, 0, 0)),
     ];
     feeds_all(rt, alloc, depot, &pieces);
-    does(rt, depot, &Step::End { slot: 0 }, ended(1, 0, 1));
+    does(rt, depot, &Step::End { slot: 0 }, ended(2, 3, 1));
     feeds(rt, alloc, depot, 0, ROW_1.as_slice(), fed(1, 0, 0));
     assert_writes(rt, alloc, depot, 0, ROW_1.as_slice());
 }
