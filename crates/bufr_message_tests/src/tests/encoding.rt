@@ -142,10 +142,64 @@ fn with_too_many(alloc: Global) -> Result<Message, Fail> {
     Ok(Message { subsets, ..message })
 }
 
+/// A message of too many subsets is refused for these descriptors first, where it has them.
+fn assert_before_limit(
+    rt: &impl Abort,
+    alloc: Global,
+    message: &mut Message,
+    only: Option<Fxy>,
+    wanted: &str,
+) -> Result<(), Fail> {
+    message.descriptors = descriptors(alloc, only)?;
+    assert_not_written(rt, alloc, message, wanted)
+}
+
 #[test]
 fn subset_limit(rt: HostRuntime) -> Result<(), Fail> {
     let alloc = rt.alloc();
     assert_again(&rt, alloc, MOST_SUBSETS, MOST_SUBSETS)?;
-    let message = with_too_many(alloc)?;
-    assert_not_written(&rt, alloc, &message, "E3 TooLarge")
+    let mut message = with_too_many(alloc)?;
+    assert_not_written(&rt, alloc, &message, "E3 TooLarge")?;
+    let misfit = Fxy::new(0, 12, 101);
+    assert_before_limit(&rt, alloc, &mut message, misfit, "E1 DoesNotFit 1 1")?;
+    let unknown = Fxy::new(0, 1, 250);
+    assert_before_limit(
+        &rt,
+        alloc,
+        &mut message,
+        unknown,
+        "X1 UnknownElement 001250",
+    )?;
+    assert_before_limit(&rt, alloc, &mut message, None, "E4 NoDescriptors")
+}
+
+/// The front of as many subsets as there may be, of a delayed count of no temperature each.
+const NO_TEMPERATURES: &str =
+    "42554652 010032 04 | S1 | 00000D 00 FFFF 80 4100 1F01 0C65 | 010003 00";
+
+/// The subsets with the last one of these behind them.
+fn with_last_of(subsets: Items<Subset>, others: Items<Subset>) -> Result<Items<Subset>, Fail> {
+    let mut subsets = subsets.into_vec();
+    let mut others = others.into_vec();
+    subsets.push(others.pop().ok_or("subset")?)?;
+    Ok(Items::from_vec(subsets))
+}
+
+/// A message of one subset more than there may be, the last of which has one temperature and the
+/// others none.
+fn with_other_last(alloc: Global) -> Result<Message, Fail> {
+    let all = with_zeros(alloc, NO_TEMPERATURES, 65_535)?;
+    let message = read_octets(alloc, all.as_slice())?.message;
+    let other = message_of(alloc, UNEQUAL_COUNTS)?;
+    let subsets = with_last_of(message.subsets, other.subsets)?;
+    Ok(Message { subsets, ..message })
+}
+
+#[test]
+fn columns_before_subset_limit(rt: HostRuntime) -> Result<(), Fail> {
+    let alloc = rt.alloc();
+    let mut message = with_other_last(alloc)?;
+    assert_not_written(&rt, alloc, &message, "E3 TooLarge")?;
+    message.compressed = true;
+    assert_not_written(&rt, alloc, &message, "E2 NotCompressible 1")
 }
