@@ -361,6 +361,14 @@ fn lines_of_faults(rt: HostRuntime) -> Result<(), Fail> {
         (ToolFault::ReadFailed(Input::TableB), "read failed table B"),
         (ToolFault::ReadFailed(Input::TableD), "read failed table D"),
         (
+            ToolFault::ReadFailed(Input::Number(12)),
+            "read failed input 12",
+        ),
+        (
+            ToolFault::EndlessInput(Input::TableB),
+            "endless input table B",
+        ),
+        (
             ToolFault::EndlessInput(Input::Number(1)),
             "endless input input 1",
         ),
@@ -371,6 +379,17 @@ fn lines_of_faults(rt: HostRuntime) -> Result<(), Fail> {
         (
             ToolFault::Table(Input::TableB, TableFault::NoColumn(Column::Fxy)),
             "table B: B1 NoColumn FXY",
+        ),
+        (
+            ToolFault::Table(Input::TableD, TableFault::BadRow(3)),
+            "table D: B3 BadRow 3",
+        ),
+        (
+            ToolFault::NotAnArchive {
+                input: 2,
+                place: 62,
+            },
+            "not an archive input 2 at 62",
         ),
         (ToolFault::OutOfMemory, "out of memory"),
     ];
