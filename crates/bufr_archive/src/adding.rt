@@ -16,7 +16,9 @@ use thiserror::Error;
 /// what is kept.
 #[derive(Clone, Copy, Debug, Drop, PartialEq, Eq)]
 pub struct Added {
+    /// How many reports the message has.
     pub reports: u128,
+    /// How many of them changed what is kept.
     pub changed: u128,
 }
 
@@ -24,6 +26,7 @@ pub struct Added {
 #[derive(Clone, Copy, Debug, Drop, Error, PartialEq, Eq)]
 #[error("out of memory, {done} reports joined")]
 pub struct RanOut {
+    /// How many reports were joined, of those that come first.
     pub done: u128,
 }
 

@@ -39,6 +39,7 @@ impl<'t, S: Shelf> Model for Archive<'t, S> {
 #[derive(Clone, Copy, Debug, Drop, Error, PartialEq, Eq)]
 #[error("write failed after {written} octets")]
 pub struct ArchiveWriteFault {
+    /// How many octets of the text were written.
     pub written: u128,
 }
 

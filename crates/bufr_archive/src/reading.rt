@@ -22,6 +22,7 @@ use thiserror::Error;
 #[derive(Clone, Copy, Debug, Drop, Error, PartialEq, Eq)]
 #[error("N1 NotAnArchive {place}")]
 pub struct NotAnArchive {
+    /// How many octets stand before the first entry that is not right.
     pub place: u64,
 }
 

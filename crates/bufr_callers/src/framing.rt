@@ -8,7 +8,9 @@ use std::alloc::Global;
 /// The frames of a stream: those that were handed out before its end, and those that came with it.
 #[derive(Debug, Drop)]
 pub struct Frames {
+    /// The frames that were sure before the end.
     pub sure: Vec<Found>,
+    /// Those that the end brought.
     pub last: Vec<Found>,
 }
 

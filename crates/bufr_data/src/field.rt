@@ -55,8 +55,11 @@ impl Raw {
 /// A field of a subset: its descriptor, how it stands in the data, and what stands there.
 #[derive(Debug, Drop, PartialEq)]
 pub struct Field {
+    /// The descriptor of its element.
     pub fxy: Fxy,
+    /// How it is coded: kind, scale, reference value and width by the operators in force.
     pub spec: Spec,
+    /// What stands in its bits.
     pub raw: Raw,
 }
 
@@ -104,13 +107,16 @@ impl Field {
 /// The fields of one subset, in the order of the data.
 #[derive(Debug, Drop, PartialEq)]
 pub struct Subset {
+    /// The fields, in the order of the data.
     pub fields: Items<Field>,
 }
 
 /// Units times ten to the power of minus scale.
 #[derive(Clone, Copy, Debug, PartialEq, Eq)]
 pub struct Decimal {
+    /// The number without its decimal point.
     pub units: i128,
+    /// How many digits stand behind the decimal point; where it is negative, how many zeros follow.
     pub scale: i32,
 }
 

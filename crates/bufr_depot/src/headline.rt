@@ -12,15 +12,20 @@ use std::alloc::Global;
 /// A run that is to be done: these steps, on a new depot of so many slots under some tables.
 #[derive(Clone, Copy)]
 pub struct Plan<'t, 's> {
+    /// The tables that messages are read by.
     pub tables: &'t Tables,
+    /// How many slots the depot has.
     pub slots: usize,
+    /// The steps of the run, in order.
     pub steps: &'s [Step],
 }
 
 /// A depot that was new and has done steps, and what it answered to each.
 #[derive(Drop)]
 pub struct Ran<'t, S: Shelf> {
+    /// The depot after its run.
     pub depot: Depot<'t, S>,
+    /// The answer to each step, in order.
     pub answers: Vec<Result<Answer, StepFault>>,
 }
 

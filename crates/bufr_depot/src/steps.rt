@@ -23,14 +23,20 @@ pub enum Answer {
     /// Of the frames that came with a piece `messages` spell a message and `refused` do not. Of the
     /// reports of these messages, added one by one, `changed` changed what was kept.
     Fed {
+        /// How many frames spell a message.
         messages: u128,
+        /// How many frames spell none.
         refused: u128,
+        /// How many reports changed what was kept.
         changed: u128,
     },
     /// The same of the frames that came with the stream's end.
     Ended {
+        /// How many frames spell a message.
         messages: u128,
+        /// How many frames spell none.
         refused: u128,
+        /// How many reports changed what was kept.
         changed: u128,
     },
     /// All was joined.

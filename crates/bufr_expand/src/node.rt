@@ -25,7 +25,9 @@ pub enum Node {
 /// How often a replication's body stands: a number of times, or as its factor says.
 #[derive(Clone, Copy, Debug, PartialEq, Eq)]
 pub enum Repetitions {
+    /// So many turns.
     Times(u64),
+    /// As many turns as the data say at this factor (class 31).
     Factor(Fxy, Element),
 }
 

@@ -15,9 +15,13 @@ use thiserror::Error;
 /// (raw + `reference`) times 10 to the power of minus `scale`. A text has scale and reference 0.
 #[derive(Clone, Copy, Debug, PartialEq, Eq)]
 pub struct Spec {
+    /// What its values are.
     pub kind: Kind,
+    /// The decimal scale.
     pub scale: i32,
+    /// The reference value.
     pub reference: i64,
+    /// The data width, in bits.
     pub width: u32,
 }
 

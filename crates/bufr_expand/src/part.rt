@@ -19,15 +19,20 @@ use bufr_tables::{Element, Fxy, Kind, Tables};
 /// One node, the list of a sequence, or a replication of the descriptors of a list.
 #[derive(Clone, Copy, Debug)]
 pub enum Part<'a> {
+    /// One node.
     Single(Node),
+    /// The descriptors of a sequence.
     Inner(&'a [Fxy]),
+    /// A replication of these descriptors.
     Replication(Repetitions, &'a [Fxy]),
 }
 
 /// A part, and how many of the descriptors behind its first belong to it.
 #[derive(Clone, Copy, Debug)]
 pub struct FirstPart<'a> {
+    /// What stands there.
     pub part: Part<'a>,
+    /// How many descriptors it takes.
     pub taken: usize,
 }
 

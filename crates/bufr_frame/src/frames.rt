@@ -7,7 +7,9 @@ use std::alloc::{AllocError, Global};
 /// A frame, and the place in the stream at which it begins: how many octets came before it.
 #[derive(Debug, PartialEq, Eq, Drop)]
 pub struct Found {
+    /// How many octets of the stream come before it.
     pub place: u64,
+    /// Its octets, from `BUFR` to `7777`.
     pub bytes: Octets,
 }
 

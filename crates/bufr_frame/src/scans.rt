@@ -13,14 +13,18 @@ use std::alloc::{AllocError, Global};
 /// The frames found in octets, and the place at which what is left of them begins.
 #[derive(Drop)]
 pub struct Scan {
+    /// The frames that were found, in order.
     pub frames: Vec<Found>,
+    /// Where the octets begin that are held behind them.
     pub rest: usize,
 }
 
 /// Where something may stand, and how long the frame is that stands there, if one does.
 #[derive(Clone, Copy)]
 pub struct NextStart {
+    /// Where it begins.
     pub place: usize,
+    /// How many octets it has, where it is a frame.
     pub length: Option<usize>,
 }
 

@@ -29,12 +29,14 @@ pub struct Reached {
     pub from: usize,
     /// How many octets of the piece were taken in.
     pub taken: usize,
+    /// Where the next frame stands that is sure then.
     pub stop: Stop,
 }
 
 /// A frame that is handed out, if one is, and what is held then.
 #[derive(Drop)]
 pub struct Taking {
+    /// The frame, if one is handed out.
     pub found: Option<Found>,
     /// Where the octets held begin in those kept.
     pub from: usize,

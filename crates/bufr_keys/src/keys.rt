@@ -11,10 +11,15 @@ use std::alloc::Global;
 /// What section 1 says of a report's key (FM 94 BUFR edition 4, octets 5 to 8 and 11 to 13).
 #[derive(Clone, Copy, Debug, Drop, PartialEq, Eq)]
 pub struct KeyHead {
+    /// The originating centre.
     pub centre: u16,
+    /// The originating sub-centre.
     pub sub_centre: u16,
+    /// The data category (Table A).
     pub category: u8,
+    /// The international data sub-category.
     pub international: u8,
+    /// The local data sub-category.
     pub local_category: u8,
 }
 

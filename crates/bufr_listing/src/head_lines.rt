@@ -137,7 +137,9 @@ fn undecoded(line: TextLine, fault: hex::FromHexError) -> Failure<ListingFault>
 /// What the line of the flags says.
 #[derive(Clone, Copy, Debug, Drop)]
 pub struct Flags {
+    /// Whether the data are observed.
     pub observed: bool,
+    /// Whether the data are compressed.
     pub compressed: bool,
 }
 

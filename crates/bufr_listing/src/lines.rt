@@ -9,7 +9,9 @@ use bufr_tables::Failure;
 /// A line that counts: its number in the text, from 1, and its octets without its end.
 #[derive(Clone, Copy, Debug)]
 pub struct TextLine<'a> {
+    /// Its number in the listing, from 1.
     pub number: u64,
+    /// Its octets without the line end.
     pub text: &'a [u8],
 }
 

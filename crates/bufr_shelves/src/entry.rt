@@ -8,16 +8,22 @@ use thiserror::Error;
 /// An entry: its key, if it has one, its update number and its octets.
 #[derive(Debug, Drop)]
 pub struct Entry {
+    /// The key, if it has one.
     pub key: Option<Key>,
+    /// The update sequence number.
     pub update: u8,
+    /// The canonical message, octet by octet.
     pub bytes: Octets,
 }
 
 /// An entry that a shelf lends.
 #[derive(Clone, Copy, Debug, Drop)]
 pub struct Held<'a> {
+    /// The key, if it has one.
     pub key: Option<&'a Key>,
+    /// The update sequence number.
     pub update: u8,
+    /// The canonical message, octet by octet.
     pub bytes: &'a Octets,
 }
 

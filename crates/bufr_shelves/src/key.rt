@@ -9,19 +9,26 @@ use crate::octets::Octets;
 pub enum Station {
     /// WMO block number and WMO station number (Table B 001001 and 001002).
     Wmo {
+        /// The block number (001001).
         block: i128,
+        /// The station number within the block (001002).
         number: i128,
     },
     /// WIGOS identifier: series, issuer, issue number and local identifier (Table B 001125 to
     /// 001128).
     Wigos {
+        /// The identifier series (001125).
         series: i128,
+        /// The issuer of the identifier (001126).
         issuer: i128,
+        /// The issue number (001127).
         number: i128,
+        /// The local identifier (001128), without its last blanks.
         name: Octets,
     },
     /// Ship or mobile land station identifier (Table B 001011).
     Mobile {
+        /// The identifier, without its last blanks.
         name: Octets,
     },
 }
@@ -60,11 +67,17 @@ impl Station {
 /// 004006).
 #[derive(Clone, Copy, Debug, Drop, PartialEq, Eq, PartialOrd, Ord)]
 pub struct Moment {
+    /// The year, 1 to 9999 (004001).
     pub year: u16,
+    /// The month, 1 to 12 (004002).
     pub month: u8,
+    /// The day of the month, from 1 (004003).
     pub day: u8,
+    /// The hour, 0 to 23 (004004).
     pub hour: u8,
+    /// The minute, 0 to 59 (004005).
     pub minute: u8,
+    /// The second, 0 to 59 (004006).
     pub second: u8,
 }
 
@@ -73,11 +86,18 @@ pub struct Moment {
 /// ordered part by part. Centre, categories and sub-centre are those of section 1 (FM 94 BUFR).
 #[derive(Clone, Debug, Drop, PartialEq, Eq, PartialOrd, Ord)]
 pub struct Key {
+    /// The originating centre.
     pub centre: u16,
+    /// The data category (Table A).
     pub category: u8,
+    /// The international data sub-category.
     pub international: u8,
+    /// The local data sub-category.
     pub local_category: u8,
+    /// The station.
     pub station: Station,
+    /// The time.
     pub moment: Moment,
+    /// The originating sub-centre.
     pub sub_centre: u16,
 }

@@ -29,7 +29,9 @@ pub enum Printing {
 /// in it.
 #[derive(Clone, Copy, Debug, Drop, PartialEq, Eq)]
 pub struct Printed {
+    /// How many octets are written then.
     pub written: u128,
+    /// How many messages are refused in it: 0 or 1.
     pub refused: u64,
 }
 
