@@ -1,23 +1,26 @@
 # Completion of the command `bufr` in bash.
 _bufr() {
-    local word=${COMP_WORDS[COMP_CWORD]} before=${COMP_WORDS[COMP_CWORD-1]}
+    local word=${COMP_WORDS[COMP_CWORD]} before=${COMP_WORDS[COMP_CWORD-1]} choices=
     COMPREPLY=()
-    case "$before" in
-        -b | -d | -o) COMPREPLY=($(compgen -f -- "$word")); return ;;
-    esac
     if [ "$COMP_CWORD" -eq 1 ]; then
-        COMPREPLY=($(compgen -W "show check encode add merge help --help --version" -- "$word"))
-        return
+        choices="show check encode add merge help --help --version"
+    else
+        case "$before" in
+            -b | -d | -o) ;;
+            *)
+                case "$word,${COMP_WORDS[1]}" in
+                    *,help) choices="show check encode add merge" ;;
+                    -*,show | -*,check) choices="-b -d --help" ;;
+                    -*,encode) choices="-b -d --compressed --help" ;;
+                    -*,add | -*,merge) choices="-b -d -o --help" ;;
+                esac
+                ;;
+        esac
     fi
-    case "$word" in
-        -*)
-            case "${COMP_WORDS[1]}" in
-                show | check) COMPREPLY=($(compgen -W "-b -d --help" -- "$word")) ;;
-                encode) COMPREPLY=($(compgen -W "-b -d --compressed --help" -- "$word")) ;;
-                add | merge) COMPREPLY=($(compgen -W "-b -d -o --help" -- "$word")) ;;
-            esac
-            ;;
-        *) COMPREPLY=($(compgen -f -- "$word")) ;;
-    esac
+    if [ -n "$choices" ]; then
+        mapfile -t COMPREPLY < <(compgen -W "$choices" -- "$word")
+    else
+        mapfile -t COMPREPLY < <(compgen -f -- "$word")
+    fi
 }
 complete -o filenames -F _bufr bufr
