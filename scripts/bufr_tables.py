@@ -220,14 +220,15 @@ def lines_of(path):
         raise Fault(f"cannot open {path}: {error.strerror}") from error
     with file:
         for number, line in enumerate(file, 1):
-            line = line[:-1] if line.endswith(b"\n") else line
-            line = line[:-1] if line.endswith(b"\r") else line
+            if line.endswith(b"\n"):
+                line = line[:-2] if line.endswith(b"\r\n") else line[:-1]
             yield number, line.decode("latin-1")
 
 
 def run(name, main):
     """Runs a script's `main`, which answers a status. A fault is one line and status 2; a reader that went
     away ends the script quietly."""
+    sys.stdout.reconfigure(errors="surrogateescape")
     try:
         status = main()
         sys.stdout.flush()
