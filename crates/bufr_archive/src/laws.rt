@@ -1,12 +1,15 @@
 //! Laws of archives: each function states some by its contract, and does nothing.
+ghost use Rattle.bufr_archive.specs.Archives.{IsKept};
 ghost use Rattle.bufr_archive.specs.Laws.{MergeCommutes, MergeAssociates, MergeIsIdempotent, MergedIsKept};
 ghost use Rattle.bufr_archive.specs.ReportLaws.{ReportsAreEntries, FramesOfReports, FramesOfReportFronts, ReportTextsTell, TextsFromBefore, FromBeforeAreTexts, KeptBeforeIsTheBest, ToldAreTold, OnlyToldAreTold};
 
+use crate::archive::Archive;
 use bufr_frame::laws::{cut_is_taken_from_the_left, joined_frames_are_cut_apart};
 use bufr_message::laws::{
     canonical_messages_are_reports, messages_are_spelt, reports_have_canonical_messages,
     written_messages_are_spelt,
 };
+use bufr_shelves::Shelf;
 use bufr_shelves::laws::sorted_are_kept;
 
 /// Merges agree whatever their route: on archives under the same tables they are commutative,
@@ -17,6 +20,13 @@ pub fn merges_agree()
     ensures idempotent { MergeIsIdempotent }
     ensures kept { MergedIsKept }
 {}
+
+/// What an archive holds is what is kept: of each slot one entry, in order.
+pub fn archive_is_kept<S: Shelf>(archive: &Archive<S>)
+    ensures { IsKept archive.now }
+{
+    archive.len();
+}
 
 /// The entry of a report under tables is found in its own octets and in no others, and these are
 /// one frame.

@@ -5,6 +5,7 @@ ghost use Rattle.bufr_archive.specs.declared.adding.AddFault.TheVariants.{OutOfM
 ghost use Rattle.bufr_depot.specs.HeldSteps.{AddsAllFrames, fed_of, ended_of};
 
 use crate::steps::Answer;
+use bufr_archive::laws::archive_is_kept;
 use bufr_archive::{AddFault, Added, Archive, RanOut, Shelf};
 use bufr_frame::Found;
 use bufr_message::laws::messages_are_spelt;
@@ -62,7 +63,7 @@ pub(crate) fn add_frames<S: Shelf>(
     ensures adds { AddsAllFrames archive.old archive.new frames.now result }
     ensures tables { archive.new.tables ≡ archive.old.tables }
 {
-    let _held = archive.len();
+    archive_is_kept(archive);
     let mut counts = Counts {
         messages: 0,
         refused: 0,

@@ -6,6 +6,7 @@ ghost use Rattle.bufr_depot.specs.HeldSteps.{Feeds, Ends};
 
 use crate::counts::add_frames;
 use crate::steps::{Answer, StepFault};
+use bufr_archive::laws::archive_is_kept;
 use bufr_archive::{Archive, RanOut, Shelf};
 use bufr_frame::Framer;
 use bufr_tables::Tables;
@@ -46,7 +47,7 @@ impl<'t, S: Shelf> Intake<'t, S> {
         ensures feeds { Feeds self.old self.new piece.now result }
         ensures tables { self.new.archive.tables ≡ self.old.archive.tables }
     {
-        let _held = self.archive.len();
+        archive_is_kept(&self.archive);
         if piece.len() as u64 > u64::MAX - self.framer.fed() {
             return Err(StepFault::StreamTooLong);
         }
@@ -67,7 +68,7 @@ impl<'t, S: Shelf> Intake<'t, S> {
         ensures ends { Ends self.old self.new result }
         ensures tables { self.new.archive.tables ≡ self.old.archive.tables }
     {
-        let _held = self.archive.len();
+        archive_is_kept(&self.archive);
         let Ok(look) = self.framer.look_end() else {
             return Err(StepFault::OutOfMemory { joined: 0 });
         };

@@ -10,7 +10,7 @@ use Rattle.bufr_depot.proofs.counts.add_frames.Goals as goal
 
 -- at first no frame was gone through
 pub loop-frame-init : goal.loop-frame-init
-loop-frame-init g c = none_yet c.args.archive.now c.args.frames.now c.len-held.ensures.kept
+loop-frame-init g c = none_yet c.args.archive.now c.args.frames.now c.archive_is_kept.ensures
 
 -- no more messages are counted than frames
 pub overflow_add-counts : goal.overflow_add-counts

@@ -18,7 +18,7 @@ returns-in_default-clause-feeds g c =
       refl,
       λ stream out st. added_none c.args.self.now.archive
           (drop out (sure (stream ++ c.args.piece.now)))
-          (subst (λ (h : Holding). IsKept h.archive) v c.len-held.ensures.kept),
+          (subst (λ (h : Holding). IsKept h.archive) v c.archive_is_kept.ensures),
     )
 
 -- the framer has taken in the piece, and the messages of the new frames are added and counted
