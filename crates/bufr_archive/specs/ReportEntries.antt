@@ -4,11 +4,9 @@ use Rattle.std.specs.Prelude.{◌≡◌, ℕ, Bool, false, bytes_eq, if◌then�
 use Rattle.std.specs.Prelude.{Some, None, option_map, map}
 use Rattle.std.specs.List.{AllByRecursion}
 use Rattle.bufr_tables.specs.Entries.{Entries}
-use Rattle.bufr_keys.specs.declared.keys.KeyHead.{KeyHead}
 use Rattle.bufr_keys.specs.Usable.{◌>>=◌}
 use Rattle.bufr_keys.specs.Keys.{key}
 use Rattle.bufr_message.specs.declared.report.Report.{Report}
-use Rattle.bufr_message.specs.declared.report.ReportHead.{ReportHead}
 use Rattle.bufr_message.specs.OwnBits.{spelt_alone}
 use Rattle.bufr_message.specs.Reports.{reports_in, canonical, IsCanonical, IsUnder}
 use Rattle.bufr_shelves.specs.declared.key.Key.{Key}
@@ -19,19 +17,9 @@ use Rattle.bufr_archive.specs.Texts.{text}
 
 -- ---- keys
 
--- what section 1 says of a report's key
-abbrev pub key_head : ReportHead → KeyHead
-key_head h = record {
-  centre = h.centre;
-  sub_centre = h.sub_centre;
-  category = h.category;
-  international = h.international;
-  local_category = h.local_category;
-}
-
 -- the key of a report, where its subset says a station and a moment
 abbrev pub key_of : Report → Option Key
-key_of r = key (key_head r.head) r.subset.fields
+key_of r = key r.head r.subset.fields
 
 -- ---- entries
 

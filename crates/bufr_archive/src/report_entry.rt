@@ -2,36 +2,23 @@
 ghost use Rattle.std.specs.Prelude.{◌≡◌, ◌<◌, IfOk, IfSome, get_or, length};
 ghost use Rattle.std.specs.Option.{option_map};
 ghost use Rattle.bufr_tables.specs.Answers.{Gives};
-ghost use Rattle.bufr_archive.specs.ReportEntries.{key_head, key_of, entry_with, entry_of, spelt_entry, spelt_entries, only_one, entry_in, report_entries, SpellsOwn};
+ghost use Rattle.bufr_archive.specs.ReportEntries.{key_of, entry_with, entry_of, spelt_entry, spelt_entries, only_one, entry_in, report_entries, SpellsOwn};
 ghost use Rattle.bufr_message.specs.Messages.{message_of};
 ghost use Rattle.bufr_message.specs.Reports.{reports_in, reports_of, IsUnder};
 ghost use Rattle.bufr_archive.specs.Reading.{read};
 
 use crate::adding::ReportList;
 use crate::reading::ReadEntry;
-use bufr_keys::{KeyHead, key_in};
+use bufr_keys::key_in;
 use bufr_message::laws::{
     canonical_messages_are_own, reports_have_canonical_messages, written_messages_are_spelt,
 };
 use bufr_message::{
-    Refused, Report, ReportHead, View, canonical, canonical_of_read, decode, reports, view,
+    Refused, Report, View, canonical, canonical_of_read, decode, reports, view,
 };
 use bufr_shelves::{Entry, Key, Octets, OutOfMemory};
 use bufr_tables::{Failure, Tables};
 use std::alloc::{AllocError, Global};
-
-/// What section 1 says of a report's key.
-fn key_head(head: &ReportHead) -> KeyHead
-    ensures { result ≡ key_head head.now }
-{
-    KeyHead {
-        centre: head.centre,
-        sub_centre: head.sub_centre,
-        category: head.category,
-        international: head.international,
-        local_category: head.local_category,
-    }
-}
 
 /// The key of a report: originating centre, data category, international and local sub-category,
 /// station, moment and originating sub-centre. `None` where its subset does not say a station, or
@@ -39,11 +26,7 @@ fn key_head(head: &ReportHead) -> KeyHead
 pub fn key_of(alloc: Global, report: &Report) -> Result<Option<Key>, OutOfMemory>
     ensures { IfOk result (λ found. found ≡ key_of report.now) }
 {
-    key_in(
-        alloc,
-        key_head(&report.head),
-        report.subset.fields.as_slice(),
-    )
+    key_in(alloc, &report.head, report.subset.fields.as_slice())
 }
 
 /// The entry of a report with these octets: its key and its update sequence number. It can only run

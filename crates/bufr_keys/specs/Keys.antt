@@ -7,7 +7,7 @@ use Rattle.bufr_shelves.specs.declared.key.Station.{Station}
 use Rattle.bufr_shelves.specs.declared.key.Station.TheVariants.{Wmo, Wigos, Mobile}
 use Rattle.bufr_shelves.specs.declared.key.Moment.{Moment}
 use Rattle.bufr_shelves.specs.declared.key.Key.{Key}
-use Rattle.bufr_keys.specs.declared.keys.KeyHead.{KeyHead}
+use Rattle.bufr_message.specs.declared.report.ReportHead.{ReportHead}
 use Rattle.bufr_keys.specs.declared.moments.TheConstants.{GREATEST_YEAR}
 use Rattle.bufr_keys.specs.Usable.{◌>>=◌, element_number, element_text}
 
@@ -84,7 +84,7 @@ moment fields = do
 
 -- a key of its parts: originating centre, data category, international and local sub-category of
 -- section 1, station, moment, and originating sub-centre of section 1
-abbrev pub key_with : KeyHead → Station → Moment → Key
+abbrev pub key_with : ReportHead → Station → Moment → Key
 key_with head station moment = record {
   centre = head.centre;
   category = head.category;
@@ -96,7 +96,7 @@ key_with head station moment = record {
 }
 
 -- a report with station and moment has a key
-abbrev pub key : KeyHead → List Field → Option Key
+abbrev pub key : ReportHead → List Field → Option Key
 key head fields = do
   station ← station fields
   moment ← moment fields

@@ -11,7 +11,7 @@ use Rattle.bufr_shelves.specs.declared.key.Station.{Station}
 use Rattle.bufr_shelves.specs.declared.key.Station.TheVariants.{Wmo, Wigos, Mobile}
 use Rattle.bufr_shelves.specs.declared.key.Moment.{Moment}
 use Rattle.bufr_shelves.specs.declared.key.Key.{Key}
-use Rattle.bufr_keys.specs.declared.keys.KeyHead.{KeyHead}
+use Rattle.bufr_message.specs.declared.report.ReportHead.{ReportHead}
 use Rattle.bufr_keys.specs.Keys.{station, moment}
 
 -- the number of element 0 XX YYY in a field of 24 bits with scale 0 and reference value 0
@@ -82,13 +82,22 @@ abbrev pub wigos_station : Station
 wigos_station = Wigos (pos 0) (pos 20000) (pos 1) (codes "10384")
 
 -- another number in each part
-abbrev pub head_98 : KeyHead
+abbrev pub head_98 : ReportHead
 head_98 = record {
   centre = 98;
   sub_centre = 7;
+  update = 1;
   category = 2;
   international = 3;
   local_category = 37;
+  master_version = 4;
+  local_version = 5;
+  year = 2023;
+  month = 6;
+  day = 8;
+  hour = 9;
+  minute = 10;
+  second = 11;
 }
 
 -- the key of `head_98` at station 10 384 at noon

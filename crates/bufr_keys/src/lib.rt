@@ -14,4 +14,4 @@ mod moments;
 mod stations;
 mod usable;
 
-pub use keys::{KeyHead, key_in};
+pub use keys::key_in;

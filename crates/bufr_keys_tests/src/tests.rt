@@ -1,19 +1,29 @@
 //! Keys of reports, row by row of the description.
 use bufr_data::{Field, Raw};
 use bufr_expand::Spec;
-use bufr_keys::{KeyHead, key_in};
+use bufr_keys::key_in;
+use bufr_message::ReportHead;
 use bufr_shelves::{Key, Moment, Octets, Station};
 use bufr_tables::{Fxy, Items, Kind};
 use std::alloc::Global;
 use std::fmt::Debug;
 use std::process::Abort;
 
-const HEAD: KeyHead = KeyHead {
+const HEAD: ReportHead = ReportHead {
     centre: 98,
     sub_centre: 7,
+    update: 1,
     category: 2,
     international: 3,
     local_category: 37,
+    master_version: 4,
+    local_version: 5,
+    year: 2023,
+    month: 6,
+    day: 8,
+    hour: 9,
+    minute: 10,
+    second: 11,
 };
 
 /// Stops the test where the two differ. It is a function, since a comparison written out in a test
@@ -128,7 +138,7 @@ fn assert_at_noon(rt: &impl Abort, key: &Key, station: &Station) {
 
 /// Fields say this station at noon, or have no key.
 fn assert_station(rt: &impl Abort, alloc: Global, fields: &[Field], expected: Option<Station>) {
-    let found = key_in(alloc, HEAD, fields).expect(rt, "room");
+    let found = key_in(alloc, &HEAD, fields).expect(rt, "room");
     match (found, expected) {
         (Some(key), Some(station)) => assert_at_noon(rt, &key, &station),
         (None, None) => {}
@@ -162,7 +172,7 @@ fn keys(rt: HostRuntime) {
         moment: AT_NOON,
         sub_centre: 7,
     };
-    let found = key_in(alloc, HEAD, fields.as_slice()).expect(&rt, "room");
+    let found = key_in(alloc, &HEAD, fields.as_slice()).expect(&rt, "room");
     assert_key(&rt, &found.expect(&rt, "a key"), &expected);
 }
 
@@ -294,7 +304,7 @@ fn time(rt: &impl Abort, alloc: Global, date: [u64; 4], more: &[(u8, u64)]) -> O
     for (y, raw) in more {
         add(rt, &mut fields, number(4, *y, *raw));
     }
-    let found = key_in(alloc, HEAD, fields.as_slice()).expect(rt, "room");
+    let found = key_in(alloc, &HEAD, fields.as_slice()).expect(rt, "room");
     match found {
         Some(key) => Some(key.moment),
         None => None,
