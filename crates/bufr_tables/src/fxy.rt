@@ -3,7 +3,8 @@
 ghost use Rattle.std.specs.Prelude.{◌≡◌, ◌∷◌, [], Some, IsTrue};
 ghost use Rattle.std.specs.List.{list_all};
 ghost use Rattle.std.specs.Char.{is_ascii_digit};
-ghost use Rattle.bufr_tables.specs.Descriptors.{f_of, x_of, y_of, in_ranges, of_text, six_digits};
+ghost use Rattle.bufr_tables.specs.Descriptors.{digit, f_of, x_of, y_of, in_ranges};
+ghost use Rattle.bufr_tables.specs.Descriptors.{of_text, six_digits};
 
 use std::fmt;
 use std::marker::Model;
@@ -86,6 +87,28 @@ impl Fxy {
     {
         (self.0 & 255) as u8
     }
+
+    /// Its six digits FXXYYY, in ASCII. Takes no memory.
+    pub fn digits(self) -> [u8; 6]
+        ensures { result ≡ six_digits self }
+    {
+        let (x, y) = (self.x(), self.y());
+        [
+            digit(self.f()),
+            digit(x / 10),
+            digit(x),
+            digit(y / 100),
+            digit(y / 10),
+            digit(y),
+        ]
+    }
+}
+
+/// The last digit of a number, in ASCII.
+fn digit(number: u8) -> u8
+    ensures { result ≡ digit number }
+{
+    b'0' + number % 10
 }
 
 /// Whether each octet is an ASCII digit.
@@ -113,9 +136,9 @@ impl fmt::Display for Fxy {
     ghost output = { λ d. Some (six_digits d) };
 
     fn fmt<W: fmt::Write>(&self, f: &mut fmt::Formatter<W>) -> fmt::Result {
-        let first = self.f() % 10;
-        let (x10, x1) = (self.x() / 10 % 10, self.x() % 10);
-        let (y100, y10, y1) = (self.y() / 100 % 10, self.y() / 10 % 10, self.y() % 10);
-        write!(f, "{first}{x10}{x1}{y100}{y10}{y1}")
+        match str::from_utf8(&self.digits()) {
+            Ok(digits) => f.write_str(digits),
+            Err(_) => Err(fmt::Error),
+        }
     }
 }
