@@ -61,6 +61,10 @@ pub fn texts_of_values()
     ensures no_hundredth { text_of (record { units = pos 0; scale = pos 2 }) ≡ codes "0.00" }
     ensures thousands { text_of (record { units = negsuc 11; scale = negsuc 2 })
         ≡ codes "-12000" }
+    ensures powers { map (λ n. text_of (record { units = pos n; scale = pos 2 }))
+        (9 ∷ 10 ∷ 99 ∷ 100 ∷ 999 ∷ 1000 ∷ [])
+        ≡ codes "0.09" ∷ codes "0.10" ∷ codes "0.99" ∷ codes "1.00" ∷ codes "9.99"
+        ∷ codes "10.00" ∷ [] }
 {}
 
 /// The decimals that texts are read as: each text of a decimal, and no other spelling.

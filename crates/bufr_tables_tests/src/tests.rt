@@ -102,6 +102,7 @@ fn assert_no_descriptors(rt: &impl Abort) {
 fn descriptors(rt: HostRuntime) -> Result<(), Fail> {
     let date = Fxy::new(3, 10, 255).ok_or("in range")?;
     prints(&rt, rt.alloc(), &date, "310255")?;
+    same(&rt, date.digits(), *b"310255");
     assert_descriptors(&rt)?;
     assert_no_descriptors(&rt);
     Ok(())

@@ -32,6 +32,16 @@ fn prints<T: Display>(rt: &impl Abort, alloc: Global, printed: &T, text: &str) -
     Ok(())
 }
 
+/// Compares what a decimal prints, and what it adds to octets.
+fn is_text(rt: &impl Abort, alloc: Global, decimal: Decimal, text: &str) -> Result<(), Fail> {
+    prints(rt, alloc, &decimal, text)?;
+    let mut octets = Vec::from_slice(alloc, b"012101 ")?;
+    decimal.push_text(&mut octets)?;
+    same(rt, octets.starts_with(b"012101 "), true);
+    same(rt, &octets[7..], text.as_bytes());
+    Ok(())
+}
+
 #[test]
 fn values(rt: HostRuntime) -> Result<(), Fail> {
     let rows = [
@@ -46,7 +56,7 @@ fn values(rt: HostRuntime) -> Result<(), Fail> {
     ];
     for (scale, reference, width, raw, text) in rows {
         let value = quantity(scale, reference, width, raw)?.value().ok_or(text)?;
-        prints(&rt, rt.alloc(), &value, text)?;
+        is_text(&rt, rt.alloc(), value, text)?;
     }
     Ok(())
 }
@@ -66,13 +76,27 @@ fn decimals(rt: HostRuntime) -> Result<(), Fail> {
     ];
     for (units, scale, text) in rows {
         let decimal = Decimal::new(units, scale).ok_or(text)?;
-        prints(&rt, rt.alloc(), &decimal, text)?;
+        is_text(&rt, rt.alloc(), decimal, text)?;
     }
     let tiny = Decimal::new(1, 600).ok_or("scale 600")?;
     let printed = format!(in rt.alloc(); "{tiny}")?;
     same(&rt, printed.as_str().len(), 602);
     assert!(rt; Decimal::new(0, 601).is_none());
     assert!(rt; Decimal::new(0, -601).is_none());
+    Ok(())
+}
+
+#[test]
+fn many_decimals_in_octets(rt: HostRuntime) -> Result<(), Fail> {
+    let decimal = Decimal::new(-27315, 2).ok_or("scale 2")?;
+    let mut octets = Vec::new(rt.alloc());
+    for _i in 0..150_000 {
+        decimal.push_text(&mut octets)?;
+    }
+    same(&rt, octets.len(), 1_050_000);
+    for text in octets.chunks_exact(7) {
+        same(&rt, text, b"-273.15".as_slice());
+    }
     Ok(())
 }
 

@@ -1,7 +1,7 @@
 -- The clause of `without_last`: 10 to the 38th fits 128 bits, and 10 to the 39th does not.
 use Rattle.std.proofs.Common.{◌^◌, ◌≤◌, sym, arith}
 use Rattle.std.proofs.Math.Nat.{pow-le-pow_right, one-le-pow, div-eq_of_lt}
-use Rattle.bufr_data.proofs.text.without_last.Goals as goal
+use Rattle.bufr_data.proofs.digits.without_last.Goals as goal
 
 -- the power of ten of at most 38 places fits 128 bits
 pub pow-requires : goal.pow-requires
