@@ -2,6 +2,7 @@
 pub mod OnLiterals
 pub mod LowerLaws
 pub mod ListingFacts
+pub mod FrontFacts
 pub mod FieldFacts
 pub mod CourseFacts
 pub mod SubsetFacts

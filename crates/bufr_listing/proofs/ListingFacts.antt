@@ -6,11 +6,10 @@ use Rattle.std.proofs.Common.{◌≡◌, ◌<◌, ℕ, List, [], ◌∷◌, ◌+
 use Rattle.std.proofs.Common.{◌∙◌, arith, append_assoc}
 use Rattle.std.specs.List.{flat_map}
 use Rattle.std.proofs.lemmas.List.{append-nil}
-use Rattle.bufr_tables.specs.Descriptors.{six_digits}
 use Rattle.bufr_data.specs.declared.field.Field.{Field}
 use Rattle.bufr_data.specs.declared.field.Subset.{Subset}
 use Rattle.bufr_sections.specs.declared.message.Message.{Message}
-use Rattle.bufr_listing.specs.Listings.{line, joined, octets_line, section1_line, time_line}
+use Rattle.bufr_listing.specs.Listings.{words, line, joined, octets_line, section1_line, time_line}
 use Rattle.bufr_listing.specs.Listings.{local_lines, section2_lines, flags_line, descriptors_line}
 use Rattle.bufr_listing.specs.Listings.{Heading, heading_of, heading_lines, field_line}
 use Rattle.bufr_listing.specs.Listings.{subset_lines, end_line, lines_of, listing}
@@ -29,21 +28,22 @@ pub local_line_is : (local : List ℕ) → 0 < length local
 local_line_is [] h = absurd (omega arith)
 local_line_is (x ∷ xs) h = sym (append-nil (line (octets_line (codes "local1") (x ∷ xs))))
 
--- descriptors behind spaces
-sixes_joined : (ds : List ℕ) → flat_map (λ d. 32 ∷ six_digits d) ds
-    ≡ flat_map (λ w. 32 ∷ w) (map six_digits ds)
-sixes_joined [] = refl
-sixes_joined (d ∷ ds) = ap (λ zs. (32 ∷ six_digits d) ++ zs) (sixes_joined ds)
+-- words behind spaces
+spaced_joined : (f : ℕ → List ℕ) (ns : List ℕ)
+    → flat_map (λ n. 32 ∷ f n) ns ≡ flat_map (λ w. 32 ∷ w) (map f ns)
+spaced_joined f [] = refl
+spaced_joined f (n ∷ ns) = ap (λ zs. (32 ∷ f n) ++ zs) (spaced_joined f ns)
 
--- the line of descriptors, its first word, those and its end, behind what a text has already
-pub descriptors_behind : (t ds : List ℕ)
-    → t ++ codes "descriptors" ++ flat_map (λ d. 32 ∷ six_digits d) ds ++ 10 ∷ []
-    ≡ t ++ line (descriptors_line ds)
-descriptors_behind t ds =
+-- a line of numbers that are printed alike, its first word, those and its end, behind what a text
+-- has already
+pub words_behind : (f : ℕ → List ℕ) (t title ns : List ℕ)
+    → t ++ title ++ flat_map (λ n. 32 ∷ f n) ns ++ 10 ∷ []
+    ≡ t ++ line (words title (map f ns))
+words_behind f t title ns =
     ap (λ zs. zs ++ 10 ∷ [])
-    (append_assoc t (codes "descriptors") (flat_map (λ d. 32 ∷ six_digits d) ds)
-    ∙ ap (λ zs. t ++ (codes "descriptors" ++ zs)) (sixes_joined ds))
-    ∙ append_assoc t (descriptors_line ds) (10 ∷ [])
+    (append_assoc t title (flat_map (λ n. 32 ∷ f n) ns)
+    ∙ ap (λ zs. t ++ (title ++ zs)) (spaced_joined f ns))
+    ∙ append_assoc t (words title (map f ns)) (10 ∷ [])
 
 -- a list and seven behind it
 seven_behind : (t a b c d e f g : List ℕ)

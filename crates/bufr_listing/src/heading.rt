@@ -1,13 +1,15 @@
 //! The lines of a listing before its first subset.
 
-ghost use Rattle.std.specs.Prelude.{◌≡◌, ◌++◌, OnOk, string_bytes};
+ghost use Rattle.std.specs.Prelude.{◌≡◌, ◌++◌, OnOk};
 ghost use Rattle.bufr_listing.specs.Heading.{lent};
-ghost use Rattle.bufr_listing.specs.Listings.{line, joined, octets_line, section1_line, time_line};
+ghost use Rattle.bufr_listing.specs.Listings.{line, joined, numbers_line, octets_line};
+ghost use Rattle.bufr_listing.specs.Listings.{section1_line, time_line};
 ghost use Rattle.bufr_listing.specs.Listings.{local_lines, section2_lines, flags_line};
 ghost use Rattle.bufr_listing.specs.Listings.{descriptors_line, heading_of, heading_lines};
 
 use bufr_sections::{Head, Message};
 use bufr_tables::{Fxy, Items, OutOfMemory};
+use itoa::Buffer;
 use std::alloc::Global;
 
 /// What the lines of a listing before its first subset say, lent.
@@ -43,13 +45,13 @@ impl<'a> HeadingParts<'a> {
 /// Adds the lines before the first subset.
 pub(crate) fn push_heading(
     alloc: Global,
-    text: &mut String,
+    text: &mut Vec<u8>,
     parts: &HeadingParts<'_>,
 ) -> Result<(), OutOfMemory>
-    ensures { OnOk result (string_bytes text.new
-        ≡ string_bytes text.old ++ joined (heading_lines (lent parts.now))) }
+    ensures { OnOk result (text.new.items
+        ≡ text.old.items ++ joined (heading_lines (lent parts.now))) }
 {
-    text.push_str("message\n")?;
+    text.extend_from_slice(b"message\n")?;
     push_section1(text, parts.head)?;
     push_time(text, parts.head)?;
     push_local(alloc, text, parts.head.local.as_slice())?;
@@ -60,88 +62,105 @@ pub(crate) fn push_heading(
 }
 
 /// Adds the line of section 1.
-fn push_section1(text: &mut String, head: &Head) -> Result<(), OutOfMemory>
-    ensures { OnOk result (string_bytes text.new
-        ≡ string_bytes text.old ++ line (section1_line head.now)) }
+fn push_section1(text: &mut Vec<u8>, head: &Head) -> Result<(), OutOfMemory>
+    ensures { OnOk result (text.new.items
+        ≡ text.old.items ++ line (section1_line head.now)) }
 {
-    let centre = head.centre;
-    let sub_centre = head.sub_centre;
-    let update = head.update;
-    let category = head.category;
-    let international = head.international;
-    let local = head.local_category;
-    let master = head.master_version;
-    let version = head.local_version;
-    write!(
-        text,
-        "section1 {centre} {sub_centre} {update} {category} {international} {local} {master} {version}\n"
-    )
+    let numbers = [
+        head.centre,
+        head.sub_centre,
+        u16::from(head.update),
+        u16::from(head.category),
+        u16::from(head.international),
+        u16::from(head.local_category),
+        u16::from(head.master_version),
+        u16::from(head.local_version),
+    ];
+    push_numbers(text, b"section1", &numbers)
 }
 
 /// Adds the line of the time.
-fn push_time(text: &mut String, head: &Head) -> Result<(), OutOfMemory>
-    ensures { OnOk result (string_bytes text.new
-        ≡ string_bytes text.old ++ line (time_line head.now)) }
+fn push_time(text: &mut Vec<u8>, head: &Head) -> Result<(), OutOfMemory>
+    ensures { OnOk result (text.new.items
+        ≡ text.old.items ++ line (time_line head.now)) }
 {
-    let year = head.year;
-    let month = head.month;
-    let day = head.day;
-    let hour = head.hour;
-    let minute = head.minute;
-    let second = head.second;
-    write!(text, "time {year} {month} {day} {hour} {minute} {second}\n")
+    let numbers = [
+        head.year,
+        u16::from(head.month),
+        u16::from(head.day),
+        u16::from(head.hour),
+        u16::from(head.minute),
+        u16::from(head.second),
+    ];
+    push_numbers(text, b"time", &numbers)
+}
+
+/// Adds a line of numbers behind its first word.
+fn push_numbers(text: &mut Vec<u8>, title: &[u8], numbers: &[u16]) -> Result<(), OutOfMemory>
+    ensures { OnOk result (text.new.items
+        ≡ text.old.items ++ line (numbers_line title.now numbers.now)) }
+{
+    let mut buffer = Buffer::new();
+    text.extend_from_slice(title)?;
+    for number in numbers {
+        text.push(b' ')?;
+        text.extend_from_slice(buffer.format(*number).as_bytes())?;
+    }
+    text.push(b'\n')?;
+    Ok(())
 }
 
 /// Adds the line of the octets for local use of section 1, where there are any.
-fn push_local(alloc: Global, text: &mut String, local: &[u8]) -> Result<(), OutOfMemory>
-    ensures { OnOk result (string_bytes text.new
-        ≡ string_bytes text.old ++ joined (local_lines local.now)) }
+fn push_local(alloc: Global, text: &mut Vec<u8>, local: &[u8]) -> Result<(), OutOfMemory>
+    ensures { OnOk result (text.new.items
+        ≡ text.old.items ++ joined (local_lines local.now)) }
 {
     match local {
         [] => Ok(()),
-        octets => push_octets(alloc, text, "local1", octets),
+        octets => push_octets(alloc, text, b"local1", octets),
     }
 }
 
 /// Adds a line of octets, two digits each, behind its first word.
 fn push_octets(
     alloc: Global,
-    text: &mut String,
-    title: &str,
+    text: &mut Vec<u8>,
+    title: &[u8],
     octets: &[u8],
 ) -> Result<(), OutOfMemory>
-    ensures { OnOk result (string_bytes text.new
-        ≡ string_bytes text.old ++ line (octets_line title.now octets.now)) }
+    ensures { OnOk result (text.new.items
+        ≡ text.old.items ++ line (octets_line title.now octets.now)) }
 {
     let digits = hex::encode(alloc, octets)?;
-    text.push_str(title)?;
-    text.push_str(" ")?;
-    text.push_str(digits.as_str())?;
-    text.push_str("\n")
+    text.extend_from_slice(title)?;
+    text.push(b' ')?;
+    text.extend_from_slice(digits.as_bytes())?;
+    text.push(b'\n')?;
+    Ok(())
 }
 
 /// Adds the line of section 2, where there is one.
 fn push_section2(
     alloc: Global,
-    text: &mut String,
+    text: &mut Vec<u8>,
     local: &Option<Items<u8>>,
 ) -> Result<(), OutOfMemory>
-    ensures { OnOk result (string_bytes text.new
-        ≡ string_bytes text.old ++ joined (section2_lines local.now)) }
+    ensures { OnOk result (text.new.items
+        ≡ text.old.items ++ joined (section2_lines local.now)) }
 {
     match local {
         None => Ok(()),
         Some(local) => match local.as_slice() {
-            [] => text.push_str("section2\n"),
-            octets => push_octets(alloc, text, "section2", octets),
+            [] => text.extend_from_slice(b"section2\n"),
+            octets => push_octets(alloc, text, b"section2", octets),
         },
     }
 }
 
 /// Adds the line of the flags.
-fn push_flags(text: &mut String, observed: bool, compressed: bool) -> Result<(), OutOfMemory>
-    ensures { OnOk result (string_bytes text.new
-        ≡ string_bytes text.old ++ line (flags_line observed compressed)) }
+fn push_flags(text: &mut Vec<u8>, observed: bool, compressed: bool) -> Result<(), OutOfMemory>
+    ensures { OnOk result (text.new.items
+        ≡ text.old.items ++ line (flags_line observed compressed)) }
 {
     let words = match (observed, compressed) {
         (false, false) => "flags\n",
@@ -149,17 +168,19 @@ fn push_flags(text: &mut String, observed: bool, compressed: bool) -> Result<(),
         (false, true) => "flags compressed\n",
         (true, true) => "flags observed compressed\n",
     };
-    text.push_str(words)
+    text.extend_from_slice(words.as_bytes())
 }
 
 /// Adds the line of the descriptors.
-fn push_descriptors(text: &mut String, descriptors: &[Fxy]) -> Result<(), OutOfMemory>
-    ensures { OnOk result (string_bytes text.new
-        ≡ string_bytes text.old ++ line (descriptors_line descriptors.now)) }
+fn push_descriptors(text: &mut Vec<u8>, descriptors: &[Fxy]) -> Result<(), OutOfMemory>
+    ensures { OnOk result (text.new.items
+        ≡ text.old.items ++ line (descriptors_line descriptors.now)) }
 {
-    text.push_str("descriptors")?;
+    text.extend_from_slice(b"descriptors")?;
     for fxy in descriptors {
-        write!(text, " {fxy}")?;
+        text.push(b' ')?;
+        text.extend_from_slice(&fxy.digits())?;
     }
-    text.push_str("\n")
+    text.push(b'\n')?;
+    Ok(())
 }

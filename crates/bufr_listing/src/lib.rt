@@ -17,6 +17,7 @@ mod text;
 mod writer;
 
 pub use fault::{Cause, ListingFault};
+pub use fields::push_subset;
 pub use heading::HeadingParts;
 pub use messages::read;
 pub use text::{end_text, heading_text, subset_text, text_of};

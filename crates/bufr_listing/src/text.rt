@@ -1,6 +1,6 @@
 //! The text of a listing, whole or in parts.
 
-ghost use Rattle.std.specs.Prelude.{◌≡◌, ◌++◌, OnOk, IfOk, string_bytes};
+ghost use Rattle.std.specs.Prelude.{◌≡◌, ◌++◌, OnOk, IfOk};
 ghost use Rattle.std.specs.List.{flat_map};
 ghost use Rattle.bufr_listing.specs.Heading.{lent};
 ghost use Rattle.bufr_listing.specs.Listings.{line, joined, heading_lines, subset_lines, end_line};
@@ -21,11 +21,10 @@ const END_LINE: &str = "end\n";
 pub fn text_of(alloc: Global, message: &Message) -> Result<Vec<u8>, OutOfMemory>
     ensures { IfOk result (λ text. text.items ≡ listing message.now) }
 {
-    let mut text = String::new(alloc);
-    push_heading(alloc, &mut text, &HeadingParts::of_message(message))?;
+    let mut text = heading_text(alloc, &HeadingParts::of_message(message))?;
     push_subsets(alloc, &mut text, message.subsets.as_slice())?;
-    text.push_str(END_LINE)?;
-    Ok(text.into_bytes())
+    text.extend_from_slice(end_text())?;
+    Ok(text)
 }
 
 /// The lines of a listing before its first subset. With those of each subset and the last line
@@ -33,18 +32,18 @@ pub fn text_of(alloc: Global, message: &Message) -> Result<Vec<u8>, OutOfMemory>
 pub fn heading_text(alloc: Global, parts: &HeadingParts<'_>) -> Result<Vec<u8>, OutOfMemory>
     ensures { IfOk result (λ text. text.items ≡ joined (heading_lines (lent parts.now))) }
 {
-    let mut text = String::new(alloc);
+    let mut text = Vec::new(alloc);
     push_heading(alloc, &mut text, parts)?;
-    Ok(text.into_bytes())
+    Ok(text)
 }
 
 /// The lines of one subset.
 pub fn subset_text(alloc: Global, subset: &Subset) -> Result<Vec<u8>, OutOfMemory>
     ensures { IfOk result (λ text. text.items ≡ joined (subset_lines subset.now)) }
 {
-    let mut text = String::new(alloc);
+    let mut text = Vec::new(alloc);
     push_subset(alloc, &mut text, subset)?;
-    Ok(text.into_bytes())
+    Ok(text)
 }
 
 /// The last line of each listing, behind its subsets. Takes no memory.
@@ -55,9 +54,9 @@ pub fn end_text() -> &'static [u8]
 }
 
 /// Adds the lines of subsets.
-fn push_subsets(alloc: Global, text: &mut String, subsets: &[Subset]) -> Result<(), OutOfMemory>
-    ensures { OnOk result (string_bytes text.new
-        ≡ string_bytes text.old ++ flat_map (λ s. joined (subset_lines s)) subsets.now) }
+fn push_subsets(alloc: Global, text: &mut Vec<u8>, subsets: &[Subset]) -> Result<(), OutOfMemory>
+    ensures { OnOk result (text.new.items
+        ≡ text.old.items ++ flat_map (λ s. joined (subset_lines s)) subsets.now) }
 {
     for subset in subsets {
         push_subset(alloc, text, subset)?;

@@ -5,7 +5,7 @@ use super::samples::{SEQUENCES_LISTED, first_message, push_times};
 use super::writing::{assert_listed, assert_taken};
 use bufr_data::{Field, Raw, Subset};
 use bufr_expand::Spec;
-use bufr_listing::{HeadingParts, end_text, heading_text, subset_text};
+use bufr_listing::{HeadingParts, end_text, heading_text, push_subset, subset_text};
 use bufr_sections::{Head, Message};
 use bufr_tables::{Fxy, Items, Kind};
 use std::alloc::Global;
@@ -55,6 +55,10 @@ fn assert_subset(
 ) -> Result<(), Fail> {
     let listed = subset_text(alloc, subset)?;
     same(rt, listed.as_slice(), wanted.as_bytes());
+    let mut octets = Vec::from_slice(alloc, b"held")?;
+    push_subset(alloc, &mut octets, subset)?;
+    same(rt, octets.starts_with(b"held"), true);
+    same(rt, &octets[4..], wanted.as_bytes());
     Ok(())
 }
 
@@ -234,6 +238,14 @@ fn push_subsets(alloc: Global, text: &mut Vec<u8>, subsets: &[Subset]) -> Result
     Ok(())
 }
 
+/// The lines of subsets are added, each where the lines before it stand.
+fn add_subsets(alloc: Global, text: &mut Vec<u8>, subsets: &[Subset]) -> Result<(), Fail> {
+    for subset in subsets {
+        push_subset(alloc, text, subset)?;
+    }
+    Ok(())
+}
+
 /// The lines before the subsets of the message of sequences.
 fn heading_of_sequences(alloc: Global) -> Result<Vec<u8>, Fail> {
     let message = first_message(alloc, SEQUENCES_LISTED)?;
@@ -252,6 +264,10 @@ fn assert_joined(
     push_subsets(alloc, &mut joined, message.subsets.as_slice())?;
     joined.extend_from_slice(end_text())?;
     same(rt, joined.as_slice(), wanted.as_bytes());
+    let mut added = heading_of_sequences(alloc)?;
+    add_subsets(alloc, &mut added, message.subsets.as_slice())?;
+    added.extend_from_slice(end_text())?;
+    same(rt, added.as_slice(), wanted.as_bytes());
     Ok(())
 }
 

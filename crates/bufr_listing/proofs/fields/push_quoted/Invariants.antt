@@ -1,5 +1,5 @@
 -- For `push_quoted`: the octets that were written so far.
-use Rattle.std.proofs.Common.{◌≡◌, ◌++◌, take, string_bytes}
+use Rattle.std.proofs.Common.{◌≡◌, ◌++◌, take}
 use Rattle.std.specs.List.{flat_map}
 use Rattle.bufr_listing.specs.Listings.{quoted_octet}
 use Rattle.bufr_listing.proofs.fields.push_quoted.Given as goal
@@ -7,5 +7,5 @@ use Rattle.bufr_listing.proofs.fields.push_quoted.Given as goal
 -- behind the text's first octets stand those octets as they are printed
 abbrev pub invariant-loop-octet : goal.invariant-loop-octet
 invariant-loop-octet l =
-    string_bytes l.text ≡ string_bytes l.initial.text
+    l.text.items ≡ l.initial.text.items
     ++ flat_map quoted_octet (take l.octet-index l.octets)

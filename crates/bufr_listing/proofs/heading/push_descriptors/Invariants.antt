@@ -1,5 +1,5 @@
 -- For `push_descriptors`: the descriptors that were written so far.
-use Rattle.std.proofs.Common.{◌≡◌, ◌++◌, ◌∷◌, take, string_bytes}
+use Rattle.std.proofs.Common.{◌≡◌, ◌++◌, ◌∷◌, take}
 use Rattle.std.specs.List.{flat_map}
 use Rattle.bufr_tables.specs.Descriptors.{six_digits}
 use Rattle.bufr_listing.proofs.heading.push_descriptors.Given as goal
@@ -7,5 +7,5 @@ use Rattle.bufr_listing.proofs.heading.push_descriptors.Given as goal
 -- behind the text's first octets stand those descriptors, each behind a space
 abbrev pub invariant-loop-fxy : goal.invariant-loop-fxy
 invariant-loop-fxy l =
-    string_bytes l.text ≡ string_bytes l.initial.text
+    l.text.items ≡ l.initial.text.items
     ++ flat_map (λ d. 32 ∷ six_digits d) (take l.fxy-index l.descriptors)

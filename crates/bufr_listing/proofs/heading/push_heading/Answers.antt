@@ -8,6 +8,6 @@ use Rattle.bufr_listing.proofs.heading.push_heading.Goals as goal
 pub returns : goal.returns
 returns c =
     let local = rw c.as_slice.ensures at c.in_ok-push_local.ensures in
-    heading_written (lent c.args.parts.now) _ _ _ _ _ _ _ _ c.in_ok-push_str.ensures.bytes
+    heading_written (lent c.args.parts.now) _ _ _ _ _ _ _ _ c.in_ok-extend_from_slice.ensures.items
     c.in_ok-push_section1.ensures c.in_ok-push_time.ensures local
     c.in_ok-push_section2.ensures c.in_ok-push_flags.ensures c.in_ok-push_descriptors.ensures

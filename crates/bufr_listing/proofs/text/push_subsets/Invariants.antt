@@ -1,5 +1,5 @@
 -- For `push_subsets`: the subsets that were written so far.
-use Rattle.std.proofs.Common.{◌≡◌, ◌++◌, take, string_bytes}
+use Rattle.std.proofs.Common.{◌≡◌, ◌++◌, take}
 use Rattle.std.specs.List.{flat_map}
 use Rattle.bufr_listing.specs.Listings.{joined, subset_lines}
 use Rattle.bufr_listing.proofs.text.push_subsets.Given as goal
@@ -7,5 +7,5 @@ use Rattle.bufr_listing.proofs.text.push_subsets.Given as goal
 -- behind the text's first octets stand the lines of those subsets
 abbrev pub invariant-loop-subset : goal.invariant-loop-subset
 invariant-loop-subset l =
-    string_bytes l.text ≡ string_bytes l.initial.text
+    l.text.items ≡ l.initial.text.items
     ++ flat_map (λ s. joined (subset_lines s)) (take l.subset-index l.subsets)

@@ -1,0 +1,21 @@
+-- A text that was added to begins with what it was, also where memory ran out on the way: for
+-- `push_lines` and `push_quoted`, and so for `push_subset`.
+use Rattle.std.proofs.Common.{◌≡◌, List, ◌++◌, length, take, drop, Result, Ok, Err, OnErr, sym, ap}
+use Rattle.std.proofs.Common.{◌∙◌, ℕ, append_assoc}
+use Rattle.std.proofs.lemmas.List.{take-append-drop}
+use Rattle.std.proofs.Math.Seq.{take-append_seam}
+
+-- what begins with a longer text begins with the shorter one
+pub front_kept : (text longer now more : List ℕ) → longer ≡ text ++ more
+    → take (length longer) now ≡ longer → take (length text) now ≡ text
+front_kept text longer now more is kept =
+    let rest = drop (length longer) now in
+    let whole : now ≡ text ++ (more ++ rest) =
+    sym (take-append-drop (length longer) now) ∙ ap (λ z. z ++ rest) (kept ∙ is)
+    ∙ append_assoc text more rest in
+    ap (λ z. take (length text) z) whole ∙ take-append_seam text (more ++ rest)
+
+-- what holds is told of an error
+pub on_err : {A E : Type 0} (X : Type 0) (r : Result A E) → X → OnErr r X
+on_err X (Ok a) x = tt
+on_err X (Err e) x = x
