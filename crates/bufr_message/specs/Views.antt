@@ -1,5 +1,5 @@
 -- What a view stands on: octets that hold the data of subsets; and what is listed of it.
-use Rattle.std.specs.Prelude.{◌≡◌, ℕ, Bool, List, Option, Some, None, Ok}
+use Rattle.std.specs.Prelude.{◌≡◌, ℕ, Bool, List, ◌++◌, Option, Some, None, Ok}
 use Rattle.bufr_bits.specs.Bits.{bits}
 use Rattle.bufr_expand.specs.Trees.{Tree}
 use Rattle.bufr_data.specs.declared.field.Subset.{Subset}
@@ -16,3 +16,8 @@ StandIn contents compressed subsets =
 abbrev pub ListsSubset : Option Subset → List ℕ → Type 0
 ListsSubset None text = ⊥
 ListsSubset (Some s) text = text ≡ joined (subset_lines s)
+
+-- the lines of the subset that is there, joined, were added to a text
+abbrev pub AddsSubset : Option Subset → List ℕ → List ℕ → Type 0
+AddsSubset None text text' = ⊥
+AddsSubset (Some s) text text' = text' ≡ text ++ joined (subset_lines s)

@@ -5,7 +5,9 @@ use super::calls::{message_of, viewed};
 use super::same;
 use super::samples::*;
 use bufr_message::View;
-use bufr_message::listing::{end_text, heading_of_view, subset_of_view, text_of};
+use bufr_message::listing::{
+    end_text, heading_of_view, push_subset_of_view, subset_of_view, text_of,
+};
 use std::alloc::Global;
 use std::process::Abort;
 use std::test::Fail;
@@ -43,6 +45,37 @@ fn joined_of(alloc: Global, found: &View<'_>) -> Result<Vec<u8>, Fail> {
     Ok(listing)
 }
 
+/// The subset of this number is added to the lines of a listing.
+fn add_subset(
+    alloc: Global,
+    found: &View<'_>,
+    number: usize,
+    listing: &mut Vec<u8>,
+) -> Result<(), Fail> {
+    if number == 0 || found.count() < number {
+        return Err("number")?;
+    }
+    push_subset_of_view(alloc, found, number, listing)?;
+    Ok(())
+}
+
+/// The parts of the listing of a view, each added to those before it.
+fn added_of(alloc: Global, found: &View<'_>) -> Result<Vec<u8>, Fail> {
+    let mut listing = heading_of_view(alloc, found)?;
+    for number in 1..=found.count() {
+        add_subset(alloc, found, number, &mut listing)?;
+    }
+    listing.extend_from_slice(end_text())?;
+    Ok(listing)
+}
+
+/// The parts of the listing of a view of the octets of a text, added one by one.
+fn added(alloc: Global, text: &str) -> Result<Vec<u8>, Fail> {
+    let all = octets(alloc, text)?;
+    let found = viewed(alloc, all.as_slice())?;
+    added_of(alloc, &found)
+}
+
 /// The parts of the listing of a view of the octets of a text, joined.
 fn joined(alloc: Global, text: &str) -> Result<Vec<u8>, Fail> {
     let all = octets(alloc, text)?;
@@ -56,12 +89,16 @@ fn assert_joined(rt: &impl Abort, alloc: Global, text: &str) -> Result<(), Fail>
     let wanted = text_of(alloc, &message)?;
     let found = joined(alloc, text)?;
     same(rt, found.as_slice(), wanted.as_slice());
+    let found = added(alloc, text)?;
+    same(rt, found.as_slice(), wanted.as_slice());
     Ok(())
 }
 
 #[test]
 fn views_listed_subset_by_subset(rt: HostRuntime) -> Result<(), Fail> {
     let listing = joined(rt.alloc(), COMPRESSED_TEXTS)?;
+    same(&rt, listing.as_slice(), COMPRESSED_TEXTS_LISTED.as_bytes());
+    let listing = added(rt.alloc(), COMPRESSED_TEXTS)?;
     same(&rt, listing.as_slice(), COMPRESSED_TEXTS_LISTED.as_bytes());
     assert_joined(&rt, rt.alloc(), UNEQUAL_COUNTS)?;
     assert_joined(&rt, rt.alloc(), NO_SUBSETS)?;
