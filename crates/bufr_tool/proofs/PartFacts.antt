@@ -1,13 +1,14 @@
 -- A text that is written in parts: the steps of the loop of `print_listing`, for the contract of
 -- `run_show`.
-use Rattle.std.proofs.Common.{◌≡◌, ℕ, ◌+◌, ◌-◌, ◌<◌, false, inl, List, [], ◌++◌, length, Result, Ok}
+use Rattle.std.proofs.Common.{◌≡◌, ℕ, ◌+◌, ◌-◌, ◌<◌, false, inl, List, [], ◌++◌, length, Option, Some}
+use Rattle.std.proofs.Common.{None, Result, Ok}
 use Rattle.std.proofs.Common.{Err, refl, sym, ap, ◌∙◌, subst, arith, length-append, append_assoc}
 use Rattle.std.specs.Prelude.{slice_get}
 use Rattle.std.proofs.lemmas.List.{append-nil}
 use Rattle.bufr_bits.specs.Devices.{Writing}
-use Rattle.bufr_listing.specs.Listings.{listing}
+use Rattle.bufr_listing.specs.Listings.{joined, subset_lines, listing}
 use Rattle.bufr_message.specs.declared.Message.{Message}
-use Rattle.bufr_message.specs.Views.{ListsSubset}
+use Rattle.bufr_message.specs.Views.{AddsSubset, ListsSubset}
 use Rattle.bufr_engines.specs.declared.fault.ToolFault.{ToolFault}
 use Rattle.bufr_engines.specs.declared.fault.ToolFault.TheVariants as faults
 use Rattle.bufr_engines.specs.Engines.{WritesAll, FailsAfter}
@@ -102,15 +103,21 @@ held_ends held text before then first mid last (Ok now) w p = (
 held_ends held text before then first mid last (Err e) w p =
     held_stops held text [] text before then first mid last e (sym (append-nil text)) w p
 
+-- lines that were added are those of the subset that is there
+added_lines : (o : Option _) (text text' : List ℕ) → AddsSubset o text text'
+    → (lines : List ℕ) × ListsSubset o lines × (text' ≡ text ++ lines)
+added_lines None text text' adds = absurd adds
+added_lines (Some s) text text' adds = (joined (subset_lines s), refl, adds)
+
 -- the lines of one subset more are held
-pub subset_held : (m : Message) (i : ℕ) (held lines items held' : List ℕ) (before now : ℕ)
+pub subset_held : (m : Message) (i : ℕ) (held held' : List ℕ) (before now : ℕ)
     (first last : Writing) → i < length m.subsets
-    → ListsSubset (slice_get m.subsets (i + 1 - 1)) lines → items ≡ lines → held' ≡ held ++ items
+    → AddsSubset (slice_get m.subsets (i + 1 - 1)) held held'
     → WritesAllBut held (listed m i) before now first last
     → WritesAllBut held' (listed m (i + 1)) before now first last
-subset_held m i held lines items held' before now first last below is same more w =
+subset_held m i held held' before now first last below adds w =
     let back : i + 1 - 1 ≡ i = omega arith in
-    let here = subst (λ (n : ℕ). ListsSubset (slice_get m.subsets n) lines) back is in
-    held_more held (listed m i) lines held' (listed m (i + 1)) before now first last
-    (more ∙ ap (λ (t : List ℕ). held ++ t) same)
-    (listed_more m i lines below here) (listed_whole _ lines is) w
+    let here = subst (λ (n : ℕ). AddsSubset (slice_get m.subsets n) held held') back adds in
+    let more = added_lines (slice_get m.subsets i) held held' here in
+    held_more held (listed m i) more.0 held' (listed m (i + 1)) before now first last
+    more.2 (listed_more m i more.0 below more.1) (listed_whole _ more.0 more.1) w

@@ -68,8 +68,7 @@ pub fn print_listing<W: Sink>(
     let mut held = listing::heading_of_view(alloc, found)?;
     let mut written = before;
     for index in 0..found.count() {
-        let lines = listing::subset_of_view(alloc, found, index + 1)?;
-        held.extend_from_slice(&lines)?;
+        listing::push_subset_of_view(alloc, found, index + 1, &mut held)?;
         write_held(writer, &mut written, &mut held)?;
     }
     held.extend_from_slice(listing::end_text())?;

@@ -1,6 +1,6 @@
 //! What is printed of a frame, and after the last.
 
-ghost use Rattle.std.specs.Prelude.{◌≡◌, ◌≤◌, ◌<◌, ◌+◌, ◌^◌, false, length, Ok, IfOk};
+ghost use Rattle.std.specs.Prelude.{◌≡◌, ◌≤◌, ◌<◌, ◌+◌, ◌^◌, ◌++◌, false, length, Ok, OnOk, IfOk};
 ghost use Rattle.bufr_tables.specs.Answers.{result_map};
 ghost use Rattle.bufr_message.specs.Messages.{message_of};
 ghost use Rattle.bufr_collect.specs.Collected.{frame_refused};
@@ -14,6 +14,7 @@ use bufr_engines::{Tally, ToolFault};
 use bufr_frame::Found;
 use bufr_message::{Refused, View, view};
 use bufr_tables::{Failure, Tables};
+use itoa::{Buffer, Integer};
 use std::alloc::{AllocError, Global};
 
 /// What a command prints of the frames of a stream.
@@ -52,16 +53,29 @@ fn judge<'a>(
     }
 }
 
+/// How many octets a line of `check` mostly has at most.
+const LINE: usize = 64;
+
+/// Adds words, and a number behind them.
+fn push_number<I: Integer>(text: &mut Vec<u8>, words: &[u8], number: I) -> Result<(), AllocError>
+    ensures { OnOk result (text.new.items ≡ text.old.items ++ words.now ++ I.text number) }
+{
+    text.extend_from_slice(words)?;
+    text.extend_from_slice(Buffer::new().format(number).as_bytes())?;
+    Ok(())
+}
+
 /// The line of `check` of a frame that spells a message. No subset is built for it.
 fn checked_line(alloc: Global, frame: &Found, found: &View<'_>) -> Result<Vec<u8>, AllocError>
     ensures { IfOk result (λ line. line.items ≡ checked_as frame.now (Ok found.now)) }
 {
-    let place = frame.place;
-    let length = frame.bytes.as_slice().len();
-    let subsets = found.count();
-    let slack = found.slack();
-    let line = format!(in alloc; "{place} {length} ok {subsets} {slack}\n")?;
-    Ok(line.into_bytes())
+    let mut line = Vec::with_capacity(alloc, LINE)?;
+    push_number(&mut line, b"", frame.place)?;
+    push_number(&mut line, b" ", frame.bytes.as_slice().len())?;
+    push_number(&mut line, b" ok ", found.count())?;
+    push_number(&mut line, b" ", found.slack())?;
+    line.push(b'\n')?;
+    Ok(line)
 }
 
 /// Prints a frame that spells a message behind so many octets, and answers how many are written
@@ -154,11 +168,12 @@ pub fn text_of_tally(
     match printing {
         Printing::Shown => Ok(Vec::new(alloc)),
         Printing::Checked => {
-            let frames = tally.frames;
-            let refused = tally.refused;
-            let skipped = tally.skipped;
-            let line = format!(in alloc; "frames {frames} refused {refused} skipped {skipped}\n")?;
-            Ok(line.into_bytes())
+            let mut line = Vec::with_capacity(alloc, LINE)?;
+            push_number(&mut line, b"frames ", tally.frames)?;
+            push_number(&mut line, b" refused ", tally.refused)?;
+            push_number(&mut line, b" skipped ", tally.skipped)?;
+            line.push(b'\n')?;
+            Ok(line)
         }
     }
 }

@@ -32,8 +32,8 @@ loop-index-preserved g c =
     let i = c.loop-index.index in
     let below : i < length m.subsets =
     omega (arith, c.loop-index-test.true, c.count-index-end.ensures) in
-    let more = subset_held m i _ _ _ _ _ _ _ _ below c.in_ok-lines.ensures c.deref.ensures.value
-    c.in_ok-extend_from_slice.ensures.items c.loop-index.invariant.done in
+    let more = subset_held m i _ _ _ _ _ _ below c.in_ok-push_subset_of_view.ensures.ok
+    c.loop-index.invariant.done in
     record {
       done = held_less _ _ _ _ _ _ _ _ _ more c.in_ok-write_held.ensures.writes;
       short = let a = c.loop-index.invariant.short in let b =
@@ -50,24 +50,12 @@ returns-in_err-held-clause-prints g c =
     (lines_none writer text c.requires.works)
 
 -- where it runs out at the lines of a subset, only lines of the listing were written
-pub returns-in_err-lines-clause-prints : goal.returns-in_err-lines-clause-prints
-returns-in_err-lines-clause-prints g c =
+pub returns-in_err-push_subset_of_view-clause-prints : goal.returns-in_err-push_subset_of_view-clause-prints
+returns-in_err-push_subset_of_view-clause-prints g c =
     let m = c.args.found.now.message in
     passed (PrintsText c.args.before (listing m) (g.W.Sink.writing c.args.writer.now)
     (g.W.Sink.writing c.loop-index.writer))
-    c.from_residual-in_err-lines.result faults.OutOfMemory c.from_residual-in_err-lines.ensures.1
-    (listing_halts m c.loop-index.index _ _ _ _ _ (c.listings_are_joined_parts.ensures m)
-    c.loop-index.invariant.done)
-
--- so it is where it runs out as these lines are held
-pub returns-in_err-extend_from_slice-clause-prints :
-    goal.returns-in_err-extend_from_slice-clause-prints
-returns-in_err-extend_from_slice-clause-prints g c =
-    let m = c.args.found.now.message in
-    passed (PrintsText c.args.before (listing m) (g.W.Sink.writing c.args.writer.now)
-    (g.W.Sink.writing c.loop-index.writer))
-    c.from_residual-in_err-extend_from_slice.result faults.OutOfMemory
-    c.from_residual-in_err-extend_from_slice.ensures.1
+    c.from_residual-in_err-push_subset_of_view.result faults.OutOfMemory c.from_residual-in_err-push_subset_of_view.ensures.1
     (listing_halts m c.loop-index.index _ _ _ _ _ (c.listings_are_joined_parts.ensures m)
     c.loop-index.invariant.done)
 
@@ -78,8 +66,8 @@ write_held-requires-clause-lines g c =
     let i = c.loop-index.index in
     let below : i < length m.subsets =
     omega (arith, c.loop-index-test.true, c.count-index-end.ensures) in
-    (subset_held m i _ _ _ _ _ _ _ _ below c.in_ok-lines.ensures c.deref.ensures.value
-    c.in_ok-extend_from_slice.ensures.items c.loop-index.invariant.done).held_whole
+    (subset_held m i _ _ _ _ _ _ below c.in_ok-push_subset_of_view.ensures.ok
+    c.loop-index.invariant.done).held_whole
 
 -- where writing what is held stops, a front of the listing was written, or some of its lines
 pub returns-in_err-write_held-clause-prints : goal.returns-in_err-write_held-clause-prints
@@ -88,8 +76,8 @@ returns-in_err-write_held-clause-prints g c =
     let i = c.loop-index.index in
     let below : i < length m.subsets =
     omega (arith, c.loop-index-test.true, c.count-index-end.ensures) in
-    let more = subset_held m i _ _ _ _ _ _ _ _ below c.in_ok-lines.ensures c.deref.ensures.value
-    c.in_ok-extend_from_slice.ensures.items c.loop-index.invariant.done in
+    let more = subset_held m i _ _ _ _ _ _ below c.in_ok-push_subset_of_view.ensures.ok
+    c.loop-index.invariant.done in
     passed (PrintsText c.args.before (listing m) (g.W.Sink.writing c.args.writer.now)
     (g.W.Sink.writing c.write_held.new.writer))
     c.from_residual-in_err-write_held.result c.in_err-write_held.field-0.0
@@ -100,14 +88,14 @@ returns-in_err-write_held-clause-prints g c =
     c.in_err-write_held.ensures.writes)
 
 -- where memory runs out as the last line is held, only lines of the listing were written
-pub returns-in_err-extend_from_slice-2-clause-prints :
-    goal.returns-in_err-extend_from_slice-2-clause-prints
-returns-in_err-extend_from_slice-2-clause-prints g c =
+pub returns-in_err-extend_from_slice-clause-prints :
+    goal.returns-in_err-extend_from_slice-clause-prints
+returns-in_err-extend_from_slice-clause-prints g c =
     let m = c.args.found.now.message in
     passed (PrintsText c.args.before (listing m) (g.W.Sink.writing c.args.writer.now)
     (g.W.Sink.writing c.loop-index.writer))
-    c.from_residual-in_err-extend_from_slice-2.result faults.OutOfMemory
-    c.from_residual-in_err-extend_from_slice-2.ensures.1
+    c.from_residual-in_err-extend_from_slice.result faults.OutOfMemory
+    c.from_residual-in_err-extend_from_slice.ensures.1
     (listing_halts m c.loop-index.index _ _ _ _ _ (c.listings_are_joined_parts.ensures m)
     c.loop-index.invariant.done)
 
@@ -124,10 +112,10 @@ returns-clause-prints g c =
       c.loop-index.auto.index-end,
       c.count-index-end.ensures,
     ) in
-    let grown = c.deref-2.ensures.value ∙ c.in_ok-extend_from_slice-2.ensures.items
+    let grown = c.deref.ensures.value ∙ c.in_ok-extend_from_slice.ensures.items
     ∙ ap (λ (t : List ℕ). held ++ t) c.end_text.ensures in
-    held_ends c.deref-2.result.now (listing m) _ _ _ _ _ c.print_text.result
-    (held_more held (listed m i) (line end_line) c.deref-2.result.now (listing m) _ _ _ _ grown
+    held_ends c.deref.result.now (listing m) _ _ _ _ _ c.print_text.result
+    (held_more held (listed m i) (line end_line) c.deref.result.now (listing m) _ _ _ _ grown
     (listing_ended m i all (c.listings_are_joined_parts.ensures m)) (line_whole end_line)
     c.loop-index.invariant.done)
     c.print_text.ensures.prints
