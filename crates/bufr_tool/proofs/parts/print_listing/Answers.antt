@@ -50,12 +50,14 @@ returns-in_err-held-clause-prints g c =
     (lines_none writer text c.requires.works)
 
 -- where it runs out at the lines of a subset, only lines of the listing were written
-pub returns-in_err-push_subset_of_view-clause-prints : goal.returns-in_err-push_subset_of_view-clause-prints
+pub returns-in_err-push_subset_of_view-clause-prints :
+    goal.returns-in_err-push_subset_of_view-clause-prints
 returns-in_err-push_subset_of_view-clause-prints g c =
     let m = c.args.found.now.message in
     passed (PrintsText c.args.before (listing m) (g.W.Sink.writing c.args.writer.now)
     (g.W.Sink.writing c.loop-index.writer))
-    c.from_residual-in_err-push_subset_of_view.result faults.OutOfMemory c.from_residual-in_err-push_subset_of_view.ensures.1
+    c.from_residual-in_err-push_subset_of_view.result faults.OutOfMemory
+    c.from_residual-in_err-push_subset_of_view.ensures.1
     (listing_halts m c.loop-index.index _ _ _ _ _ (c.listings_are_joined_parts.ensures m)
     c.loop-index.invariant.done)
 
