@@ -21,7 +21,8 @@ const VERSION: &str = "0.1.0";
 /// An example of each command, at the end of its help.
 const SHOW: &str = "Example: bufr show -b elements.csv -d sequences.csv bulletins.bufr";
 
-const CHECK: &str = "Example: bufr check -b elements.csv -d sequences.csv bulletins.bufr";
+const CHECK: &str =
+    "Example: zcat bulletins.bufr.gz | bufr check -b elements.csv -d sequences.csv /dev/stdin";
 
 const ENCODE: &str = "Example: bufr encode -b elements.csv -d sequences.csv listing.txt > out.bufr";
 
@@ -263,7 +264,7 @@ fn reading<'a>(alloc: Global, name: &'a str, texts: [&'a str; 2]) -> Result<Comm
         .after_help(example)
         .arg(path(alloc, "b", 'b', "TABLE_B", b))?
         .arg(path(alloc, "d", 'd', "TABLE_D", d))?
-        .arg(input(alloc, "FILE", "The file of the messages"))
+        .arg(input(alloc, "FILE", "The file of the messages, or /dev/stdin"))
 }
 
 /// The command that reads a listing under tables.
@@ -278,7 +279,7 @@ fn encoding<'a>(alloc: Global) -> Result<Command<'a>, AllocError>
         .arg(path(alloc, "b", 'b', "TABLE_B", b))?
         .arg(path(alloc, "d", 'd', "TABLE_D", d))?
         .arg(switch(alloc, "compressed", "Compresses every message"))?
-        .arg(input(alloc, "LISTING", "The file of the listing"))
+        .arg(input(alloc, "LISTING", "The file of the listing, or /dev/stdin"))
 }
 
 /// A command that writes an archive of what it reads under tables, with what it does and an
