@@ -10,7 +10,7 @@ use Rattle.bufr_frame.specs.Starts.{announced}
 use Rattle.bufr_frame.specs.Cuts.{IsOneFrame}
 use Rattle.bufr_shelves.specs.declared.entry.Entry.{Entry}
 use Rattle.bufr_sections.specs.Sections.{AreOctets}
-use Rattle.bufr_keys.specs.Usable.{◌>>=◌}
+use Rattle.bufr_report_keys.specs.Usable.{◌>>=◌}
 use Rattle.bufr_archive.specs.Texts.{comes_after, front_of, right_entry}
 use Rattle.bufr_archive.specs.EntryLaws.{HasEntryLaws}
 

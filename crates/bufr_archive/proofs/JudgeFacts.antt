@@ -6,7 +6,7 @@ use Rattle.std.proofs.Common.{refl, sym, ap, subst, ◌∙◌, arith, append_ass
 use Rattle.std.specs.List.{AllByRecursion}
 use Rattle.std.proofs.lemmas.List.{drop_at}
 use Rattle.std.proofs.lemmas.List.Elements.{All-from_recursion}
-use Rattle.bufr_tables.specs.Answers.{result_map}
+use Rattle.bufr_answers.specs.Answers.{result_map}
 use Rattle.bufr_shelves.specs.declared.entry.Entry.{Entry}
 use Rattle.bufr_archive.specs.Texts.{text, comes_after, right_entry, entry_then, judged}
 use Rattle.bufr_archive.specs.EntryLaws.{HasEntryLaws}

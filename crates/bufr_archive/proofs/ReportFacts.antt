@@ -23,7 +23,7 @@ use Rattle.bufr_message.specs.Laws.{MessagesReadAreSpelt, BareAreWritten}
 use Rattle.bufr_message.specs.Reports.{reports_of, reports_read, reports_in, alone, canonical}
 use Rattle.bufr_message.specs.Reports.{if_written, IsCanonical, IsUnder, CanonicalIsRead}
 use Rattle.bufr_message.specs.Reports.{ReportsSpeltAreUnder}
-use Rattle.bufr_keys.specs.Usable.{◌>>=◌}
+use Rattle.bufr_report_keys.specs.Usable.{◌>>=◌}
 use Rattle.bufr_shelves.specs.declared.entry.Entry.{Entry}
 use Rattle.bufr_sections.specs.Sections.{AreOctets}
 use Rattle.bufr_archive.specs.ReportEntries.{AreUnder, entry_of, entry_with, IsReportEntry}

@@ -5,9 +5,9 @@ use Rattle.std.specs.Prelude.{IfOk, IfErr, option_map, option_to_list}
 use Rattle.std.specs.List.{AllByRecursion, flat_map}
 use Rattle.std.proofs.lemmas.List.{map-append}
 use Rattle.bufr_tables.specs.Entries.{Entries}
-use Rattle.bufr_tables.specs.Answers.{Gives}
-use Rattle.bufr_tables.specs.declared.failure.Failure.{Failure}
-use Rattle.bufr_tables.specs.declared.failure.Failure.TheVariants.{Fault, OutOfMemory}
+use Rattle.bufr_answers.specs.Answers.{Gives}
+use Rattle.bufr_answers.specs.declared.failure.Failure.{Failure}
+use Rattle.bufr_answers.specs.declared.failure.Failure.TheVariants.{Fault, OutOfMemory}
 use Rattle.bufr_frame.specs.declared.frames.Found.{Found}
 use Rattle.bufr_frame.specs.Streams.{cut}
 use Rattle.bufr_message.specs.declared.report.Report.{Report}

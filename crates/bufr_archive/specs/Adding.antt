@@ -22,11 +22,11 @@ AddsMessage old new octets (Err (OutOfMemory done)) =
     AddsFirst old new (entries_told old.tables octets) done
 
 -- The same of a call that does not count what is changed.
-abbrev pub GathersMessage : ArchiveView → ArchiveView → List ℕ → Result (Unit {0}) AddFault → Type 0
-GathersMessage old new octets (Ok done) =
+abbrev pub AddsToBuilder : ArchiveView → ArchiveView → List ℕ → Result (Unit {0}) AddFault → Type 0
+AddsToBuilder old new octets (Ok done) =
     (d : Decoded) × (message_of old.tables octets ≡ Ok d)
     × (new ≡ taken_in old (report_entries old.tables (reports_of d.message)))
-GathersMessage old new octets (Err (Refused why)) =
+AddsToBuilder old new octets (Err (Refused why)) =
     (message_of old.tables octets ≡ Err why) × (new ≡ old)
-GathersMessage old new octets (Err (OutOfMemory done)) =
+AddsToBuilder old new octets (Err (OutOfMemory done)) =
     AddsFirst old new (entries_told old.tables octets) done

@@ -56,7 +56,7 @@ AddsReports old new reports (Ok added) = AddsAll old new reports added
 AddsReports old new reports (Err ran_out) = AddsFirst old new reports ran_out.done
 
 -- so of a call that does not count changes
-abbrev pub Gathers : ArchiveView → ArchiveView → List (Option Entry) → Result (Unit {0}) RanOut
+abbrev pub PutsIntoBuilder : ArchiveView → ArchiveView → List (Option Entry) → Result (Unit {0}) RanOut
     → Type 0
-Gathers old new reports (Ok done) = new ≡ taken_in old reports
-Gathers old new reports (Err ran_out) = AddsFirst old new reports ran_out.done
+PutsIntoBuilder old new reports (Ok done) = new ≡ taken_in old reports
+PutsIntoBuilder old new reports (Err ran_out) = AddsFirst old new reports ran_out.done

@@ -4,12 +4,12 @@ use Rattle.std.specs.Prelude.{◌≡◌, ℕ, Bool, false, bytes_eq, if◌then�
 use Rattle.std.specs.Prelude.{Some, None, option_map, map}
 use Rattle.std.specs.List.{AllByRecursion}
 use Rattle.bufr_tables.specs.Entries.{Entries}
-use Rattle.bufr_keys.specs.Usable.{◌>>=◌}
-use Rattle.bufr_keys.specs.Keys.{key}
+use Rattle.bufr_report_keys.specs.Usable.{◌>>=◌}
+use Rattle.bufr_report_keys.specs.Keys.{key}
 use Rattle.bufr_message.specs.declared.report.Report.{Report}
 use Rattle.bufr_message.specs.OwnBits.{spelt_alone}
 use Rattle.bufr_message.specs.Reports.{reports_in, canonical, IsCanonical, IsUnder}
-use Rattle.bufr_shelves.specs.declared.key.Key.{Key}
+use Rattle.bufr_keys.specs.declared.key.Key.{Key}
 use Rattle.bufr_shelves.specs.declared.entry.Entry.{Entry}
 use Rattle.bufr_shelves.specs.Entries.{kept}
 use Rattle.bufr_archive.specs.Archives.{entries_of}

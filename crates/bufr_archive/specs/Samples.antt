@@ -4,8 +4,8 @@ use Rattle.std.specs.Prelude.{ℕ, List, ◌++◌, map, codes, Option, Result, p
 use Rattle.bufr_expand.specs.Samples.{sample}
 use Rattle.bufr_sections.specs.Samples.{hex, framed, plain1}
 use Rattle.bufr_message.specs.Reports.{reports_in}
-use Rattle.bufr_shelves.specs.declared.key.Station.TheVariants.{Wmo}
-use Rattle.bufr_shelves.specs.declared.key.Key.{Key}
+use Rattle.bufr_keys.specs.declared.key.Station.TheVariants.{Wmo}
+use Rattle.bufr_keys.specs.declared.key.Key.{Key}
 use Rattle.bufr_shelves.specs.declared.entry.Entry.{Entry}
 use Rattle.bufr_archive.specs.Archives.{entries_of}
 use Rattle.bufr_archive.specs.Texts.{text, entries_read}

@@ -7,12 +7,12 @@ use Rattle.std.specs.Prelude.{List, [], ◌∷◌, length, take, Option, Some, N
 use Rattle.std.specs.Prelude.{Ok, Err}
 use Rattle.std.specs.List.{flat_map, AllByRecursion}
 use Rattle.std.specs.Ordering.{is_lt}
-use Rattle.bufr_tables.specs.Answers.{result_map}
+use Rattle.bufr_answers.specs.Answers.{result_map}
 use Rattle.bufr_frame.specs.Starts.{announced}
 use Rattle.bufr_frame.specs.Streams.{cut}
 use Rattle.bufr_shelves.specs.declared.entry.Entry.{Entry}
 use Rattle.bufr_shelves.specs.Entries.{slot_cmp, kept}
-use Rattle.bufr_keys.specs.Usable.{◌>>=◌}
+use Rattle.bufr_report_keys.specs.Usable.{◌>>=◌}
 
 -- ---- texts
 

@@ -6,9 +6,9 @@ ghost use Rattle.bufr_archive.specs.Adding.{AddsMessage};
 
 use crate::archive::Archive;
 use crate::report_entry::MessageReports;
+use bufr_answers::{Failure, OutOfMemory};
 use bufr_message::Refused;
-use bufr_shelves::{Entry, OutOfMemory, Shelf};
-use bufr_tables::Failure;
+use bufr_shelves::{Entry, Shelf};
 use std::alloc::Global;
 use thiserror::Error;
 

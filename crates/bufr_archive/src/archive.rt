@@ -6,8 +6,10 @@ ghost use Rattle.bufr_shelves.specs.Entries.{entry_at};
 ghost use Rattle.bufr_archive.specs.Archives.{merged, IsKept};
 ghost use Rattle.bufr_archive.specs.Texts.{text};
 
+use bufr_answers::OutOfMemory;
 use bufr_bits::device::{Sink, Unwritten, write_all};
-use bufr_shelves::{JoinFault, Key, OutOfMemory, Shelf, SortedShelf};
+use bufr_keys::Key;
+use bufr_shelves::{JoinFault, Shelf, SortedShelf};
 use bufr_tables::Tables;
 use std::alloc::Global;
 use std::marker::Model;

@@ -11,19 +11,19 @@
 
 pub mod adding;
 pub mod archive;
-mod examples;
-pub mod gatherer;
+pub mod builder;
 pub mod laws;
 pub mod reading;
 mod report_entry;
+mod worked_values;
 
 pub use adding::{AddFault, Added, RanOut, ReportList};
 pub use archive::{Archive, ArchiveWriteFault};
+pub use bufr_keys::{Key, Moment, Station};
 pub use bufr_shelves::{
-    Entry, Gathering, Held, JoinFault, Key, MapShelf, Moment, Octets, OutOfMemory, Shelf,
-    SortedShelf, Station, entry, held, key, laws as shelf_laws, map_shelf, octets, shelf, shelve,
-    shelving, slot_order, sorted_shelf,
+    Entry, Held, JoinFault, MapShelf, Shelf, ShelfBuilder, SortedShelf, laws as shelf_laws, shelve,
+    slot_order,
 };
-pub use gatherer::Gatherer;
+pub use builder::ArchiveBuilder;
 pub use reading::NotAnArchive;
 pub use report_entry::{entry_of, key_of};

@@ -1,7 +1,7 @@
 //! An archive's text, judged from the left.
 ghost use Rattle.std.specs.Prelude.{◌≡◌, ◌≤◌, ◌++◌, ◌∷◌, [], List, length, drop, IfOk, IfErr, OnOk, Ok};
 ghost use Rattle.std.specs.Option.{option_map};
-ghost use Rattle.bufr_tables.specs.Answers.{Gives};
+ghost use Rattle.bufr_answers.specs.Answers.{Gives};
 ghost use Rattle.bufr_message.specs.declared.report.Report.{Report as AReport};
 ghost use Rattle.bufr_shelves.specs.Entries.{kept};
 ghost use Rattle.bufr_archive.specs.Texts.{comes_after, front_of, right_entry};
@@ -12,9 +12,11 @@ ghost use Rattle.bufr_archive.specs.ReportTexts.{IsArchiveOf, RefusedAt, archive
 use crate::archive::Archive;
 use crate::laws::reports_are_entries;
 use crate::report_entry::entry_in;
+use bufr_answers::{Failure, Items, OutOfMemory};
+use bufr_keys::Key;
 use bufr_message::laws::written_messages_are_spelt;
-use bufr_shelves::{Key, Octets, OutOfMemory, Shelf, slot_order};
-use bufr_tables::{Failure, Tables};
+use bufr_shelves::{Shelf, slot_order};
+use bufr_tables::Tables;
 use std::alloc::Global;
 use thiserror::Error;
 
@@ -92,7 +94,7 @@ fn keep<S: Shelf>(alloc: Global, shelf: &mut S, entry: &ReadEntry) -> Result<(),
     ensures { OnOk result
         (S.entries shelf.new ≡ kept (S.entries shelf.old ++ read entry.now ∷ [])) }
 {
-    let bytes = Octets::new(Vec::from_slice(alloc, entry.bytes)?);
+    let bytes = Items::from_vec(Vec::from_slice(alloc, entry.bytes)?);
     shelf.put(entry.key.clone()?, entry.update, bytes)?;
     Ok(())
 }

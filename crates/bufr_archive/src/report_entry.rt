@@ -1,7 +1,7 @@
 //! Reports as entries of an archive.
 ghost use Rattle.std.specs.Prelude.{◌≡◌, ◌<◌, IfOk, IfSome, get_or, length};
 ghost use Rattle.std.specs.Option.{option_map};
-ghost use Rattle.bufr_tables.specs.Answers.{Gives};
+ghost use Rattle.bufr_answers.specs.Answers.{Gives};
 ghost use Rattle.bufr_archive.specs.ReportEntries.{key_of, entry_with, entry_of, spelt_entry, spelt_entries, only_one, entry_in, report_entries, SpellsOwn};
 ghost use Rattle.bufr_message.specs.Messages.{message_of};
 ghost use Rattle.bufr_message.specs.Reports.{reports_in, reports_of, IsUnder};
@@ -9,16 +9,16 @@ ghost use Rattle.bufr_archive.specs.Reading.{read};
 
 use crate::adding::ReportList;
 use crate::reading::ReadEntry;
-use bufr_keys::key_in;
+use bufr_answers::{Failure, Items, OutOfMemory};
+use bufr_keys::Key;
 use bufr_message::laws::{
     canonical_messages_are_own, reports_have_canonical_messages, written_messages_are_spelt,
 };
-use bufr_message::{
-    Refused, Report, View, canonical, canonical_of_read, decode, reports, view,
-};
-use bufr_shelves::{Entry, Key, Octets, OutOfMemory};
-use bufr_tables::{Failure, Tables};
-use std::alloc::{AllocError, Global};
+use bufr_message::{Refused, Report, View, canonical, canonical_of_read, decode, reports, view};
+use bufr_report_keys::key_in;
+use bufr_shelves::Entry;
+use bufr_tables::Tables;
+use std::alloc::Global;
 
 /// The key of a report: originating centre, data category, international and local sub-category,
 /// station, moment and originating sub-centre. `None` where its subset does not say a station, or
@@ -37,7 +37,7 @@ fn entry_with(alloc: Global, report: &Report, octets: Vec<u8>) -> Result<Entry, 
     Ok(Entry {
         key: key_of(alloc, report)?,
         update: report.head.update,
-        bytes: Octets::new(octets),
+        bytes: Items::from_vec(octets),
     })
 }
 
@@ -54,7 +54,7 @@ pub fn entry_of(
     let octets = match canonical(alloc, tables, report) {
         Ok(octets) => octets,
         Err(Failure::Fault(_)) => return Ok(None),
-        Err(Failure::OutOfMemory) => return Err(AllocError),
+        Err(Failure::OutOfMemory) => return Err(OutOfMemory),
     };
     Ok(Some(entry_with(alloc, report, octets)?))
 }
@@ -80,7 +80,7 @@ fn only_report(alloc: Global, tables: &Tables, octets: &[u8]) -> Result<Option<R
     let message = match decode(alloc, tables, octets) {
         Ok(decoded) => decoded.message,
         Err(Failure::Fault(_)) => return Ok(None),
-        Err(Failure::OutOfMemory) => return Err(AllocError),
+        Err(Failure::OutOfMemory) => return Err(OutOfMemory),
     };
     let mut found = reports(alloc, message)?;
     if found.len() != 1 {

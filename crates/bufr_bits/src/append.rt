@@ -5,7 +5,7 @@ ghost use Rattle.std.specs.Prelude.{slice_index, OnOk, OnErr};
 ghost use Rattle.bufr_bits.specs.Bits.{bin, bits};
 ghost use Rattle.bufr_bits.specs.Filled.{IsFilled, moved_up};
 
-use crate::OutOfMemory;
+use bufr_answers::OutOfMemory;
 
 /// Puts a field of `width` bits after the first `len` bits of octets that are filled with zero bits
 /// from there on.

@@ -8,7 +8,7 @@ ghost use Rattle.bufr_bits.specs.Ends.{BitPlace, left};
 
 use super::field::field;
 use super::octets::octets_from;
-use crate::OutOfMemory;
+use bufr_answers::OutOfMemory;
 use std::alloc::Global;
 use std::marker::Model;
 

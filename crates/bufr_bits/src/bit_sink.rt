@@ -5,7 +5,7 @@ ghost use Rattle.std.specs.Prelude.{replicate, false, IfOk, OnOk, OnErr};
 ghost use Rattle.bufr_bits.specs.Bits.{bin, bits};
 
 use super::append::{append, append_octets, cut_after};
-use crate::OutOfMemory;
+use bufr_answers::OutOfMemory;
 use std::alloc::Global;
 use std::marker::Model;
 

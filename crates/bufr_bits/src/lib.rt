@@ -5,12 +5,11 @@ mod append;
 mod bit_reader;
 mod bit_sink;
 pub mod device;
-mod examples;
 mod field;
 pub mod laws;
 mod octets;
+mod worked_values;
 
 pub use bit_reader::BitReader;
 pub use bit_sink::BitSink;
 pub use device::{Failed, FromRead, IntoWrite, Sink, Source};
-pub use std::alloc::AllocError as OutOfMemory;

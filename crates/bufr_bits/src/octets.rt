@@ -3,7 +3,7 @@
 ghost use Rattle.std.specs.Prelude.{◌≡◌, ◌+◌, ◌*◌, ◌<◌, ◌≤◌, length, drop, IfOk};
 ghost use Rattle.bufr_bits.specs.Bits.{bits, numbers};
 
-use crate::OutOfMemory;
+use bufr_answers::OutOfMemory;
 use std::alloc::Global;
 
 /// The octets from a bit on: a copy on an octet's edge, else two neighbours combined for each.

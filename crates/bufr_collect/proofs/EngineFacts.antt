@@ -18,13 +18,13 @@ use Rattle.bufr_archive.specs.Archives.{ArchiveView, entries_of, merged}
 use Rattle.bufr_archive.specs.ReportEntries.{AreUnder, report_entries, kept_of, text_of}
 use Rattle.bufr_archive.specs.ReportTexts.{told, archive_of}
 use Rattle.bufr_archive.specs.Texts.{text}
-use Rattle.bufr_engines.specs.declared.fault.Tally.{Tally}
-use Rattle.bufr_engines.specs.declared.fault.Input.TheVariants.{Number}
-use Rattle.bufr_engines.specs.declared.fault.ToolFault.{ToolFault}
-use Rattle.bufr_engines.specs.declared.fault.ToolFault.TheVariants as faults
-use Rattle.bufr_engines.specs.Engines.{WasReadOut, HasFailed, IsEndless, AreAllOf, WritesAll}
-use Rattle.bufr_engines.specs.Engines.{WritesAfter, FailsAfter}
-use Rattle.bufr_engines.specs.Limits.{most_reads}
+use Rattle.bufr_io.specs.declared.fault.Tally.{Tally}
+use Rattle.bufr_io.specs.declared.fault.Input.TheVariants.{Number}
+use Rattle.bufr_io.specs.declared.fault.ToolFault.{ToolFault}
+use Rattle.bufr_io.specs.declared.fault.ToolFault.TheVariants as faults
+use Rattle.bufr_io.specs.Engines.{WasReadOut, HasFailed, IsEndless, AreAllOf, WritesAll}
+use Rattle.bufr_io.specs.Engines.{WritesAfter, FailsAfter}
+use Rattle.bufr_io.specs.Limits.{most_reads}
 use Rattle.bufr_collect.specs.declared.counts.Counts.{Counts}
 use Rattle.bufr_depot.specs.Slots.{all_told}
 use Rattle.bufr_collect.specs.Collected.{frames_of, refused_of, collected_text, collected_tally}

@@ -6,7 +6,7 @@ use Rattle.std.specs.List.{AllByRecursion}
 use Rattle.std.proofs.lemmas.List.{append-nil, length-map}
 use Rattle.std.proofs.Math.ListN.{set}
 use Rattle.bufr_bits.specs.Devices.{Reading}
-use Rattle.bufr_engines.specs.Engines.{IsFresh, WasReadOut, AreAllOf}
+use Rattle.bufr_io.specs.Engines.{IsFresh, WasReadOut, AreAllOf}
 use Rattle.bufr_collect.specs.Readers.{AreFresh, AreReadAtMost, WereReadOut, EndsAt}
 
 -- ---- lists

@@ -9,17 +9,17 @@ use Rattle.bufr_frame.specs.declared.frames.Found.{Found}
 use Rattle.bufr_frame.specs.Framings.{Framing}
 use Rattle.bufr_frame.specs.Streams.{cut, sure, Stands}
 use Rattle.bufr_frame.specs.StreamLaws.{cut-end}
-use Rattle.bufr_frame.specs.Takings.{taken_in, IsRestOf, IsNextFrame, IsNoFrame, StandsAfter}
-use Rattle.bufr_frame.specs.Takings.{AreLast, HandedOut, IsTaking}
+use Rattle.bufr_frame.specs.NextFrames.{taken_in, IsRestOf, IsNextFrame, IsNoFrame, StandsAfter}
+use Rattle.bufr_frame.specs.NextFrames.{AreLast, HandedOut, IsBetweenCalls}
 use Rattle.bufr_frame.specs.FrameBounds.{sure_few, cut_few}
-use Rattle.bufr_frame.specs.TakingLaws.{handed_first, handed_end, taking_first, taking_one}
-use Rattle.bufr_frame.specs.TakingLaws.{taking_none, taking_front, taking_fed}
+use Rattle.bufr_frame.specs.NextFrameLaws.{handed_first, handed_end, between_first, between_one}
+use Rattle.bufr_frame.specs.NextFrameLaws.{between_none, between_front, between_fed}
 use Rattle.bufr_archive.specs.Archives.{ArchiveView}
-use Rattle.bufr_engines.specs.declared.fault.Input.{Input}
-use Rattle.bufr_engines.specs.Engines.{IsFresh}
-use Rattle.bufr_engines.specs.Inputs.{GoesOn}
-use Rattle.bufr_engines.specs.Limits.{longest_piece}
-use Rattle.bufr_engines.specs.ReadingLaws.{HasGiven_none}
+use Rattle.bufr_io.specs.declared.fault.Input.{Input}
+use Rattle.bufr_io.specs.Engines.{IsFresh}
+use Rattle.bufr_io.specs.Inputs.{GoesOn}
+use Rattle.bufr_io.specs.Limits.{longest_piece}
+use Rattle.bufr_io.specs.ReadingLaws.{HasGiven_none}
 use Rattle.bufr_collect.specs.declared.counts.Counts.{Counts}
 use Rattle.bufr_collect.specs.Adds.{HasAdded, HasAddedSure}
 
@@ -29,7 +29,7 @@ use Rattle.bufr_collect.specs.Adds.{HasAdded, HasAddedSure}
 pub record Amid (tables : Entries) (archive : ArchiveView) (counts : Counts) (before : List Found)
     (framer : Framing) (stream rest : List ℕ) : Type 0 where
   pub frames : List Found
-  pub taking : IsTaking framer stream rest frames
+  pub taking : IsBetweenCalls framer stream rest frames
   pub added : HasAdded tables archive counts (before ++ frames)
   pub few : length before < 2 ^ 127
 
@@ -40,16 +40,16 @@ pub amid_first : (tables : Entries) (archive : ArchiveView) (counts : Counts) (b
     → Amid tables archive counts before framer (stream ++ piece) piece
 amid_first tables archive counts before framer stream piece h = record {
   frames = sure stream;
-  taking = taking_first framer stream piece (sure stream) h.handed;
+  taking = between_first framer stream piece (sure stream) h.handed;
   added = h.added;
   few = h.few;
 }
 
 -- the frames that were handed out are no more than the stream's octets
 amid_few : (framer : Framing) (stream rest : List ℕ) (frames : List Found)
-    → IsTaking framer stream rest frames → length frames ≤ length stream
+    → IsBetweenCalls framer stream rest frames → length frames ≤ length stream
 amid_few framer stream rest frames t =
-    let front = taking_front framer stream rest frames t in
+    let front = between_front framer stream rest frames t in
     let long : length (sure stream) ≡ length frames + length front.0 =
     ap length front.1 ∙ length-append frames front.0 in
     let a = sure_few stream in
@@ -63,7 +63,7 @@ pub amid_fits : (tables : Entries) (archive : ArchiveView) (counts : Counts) (be
     → StandsAfter framer after (taken_in rest left) 1
     → counts.frames + 1 ≤ length before + length stream
 amid_fits tables archive counts before framer after stream rest left frame a parted next stands =
-    let t = taking_one framer after stream rest left a.frames frame a.taking parted next stands in
+    let t = between_one framer after stream rest left a.frames frame a.taking parted next stands in
     let one = amid_few after stream left (a.frames ++ frame ∷ []) t in
     let long = length-append a.frames (frame ∷ []) in
     let all = length-append before a.frames in
@@ -82,7 +82,7 @@ pub amid_more : (tables : Entries) (archive archive' : ArchiveView) (counts coun
 amid_more tables archive archive' counts counts' before framer after stream rest left frame a parted
     next stands adds = record {
       frames = a.frames ++ frame ∷ [];
-      taking = taking_one framer after stream rest left a.frames frame a.taking parted next stands;
+      taking = between_one framer after stream rest left a.frames frame a.taking parted next stands;
       added =
           subst (HasAdded tables archive' counts') (append_assoc before a.frames (frame ∷ []))
           (adds (before ++ a.frames) a.added);
@@ -95,7 +95,7 @@ pub amid_none : (tables : Entries) (archive : ArchiveView) (counts : Counts) (be
     → Amid tables archive counts before framer stream rest → IsNoFrame framer rest
     → StandsAfter framer after rest 0 → HasAddedSure tables archive counts before after stream
 amid_none tables archive counts before framer after stream rest a none stands =
-    let both = taking_none framer after stream rest a.frames a.taking none stands in
+    let both = between_none framer after stream rest a.frames a.taking none stands in
     record {
       handed = subst (HandedOut after stream) both.1 both.0;
       added =
@@ -107,7 +107,7 @@ amid_none tables archive counts before framer after stream rest a none stands =
 pub amid_room : (tables : Entries) (archive : ArchiveView) (counts : Counts) (before : List Found)
     (framer : Framing) (stream rest : List ℕ) → Amid tables archive counts before framer stream rest
     → framer.fed + length rest ≡ length stream
-amid_room tables archive counts before framer stream rest a = taking_fed _ _ _ _ a.taking
+amid_room tables archive counts before framer stream rest a = between_fed _ _ _ _ a.taking
 
 -- ---- the end
 
@@ -159,10 +159,10 @@ pub record Between (old now : Reading) (first archive : ArchiveView) (start coun
       → HasAddedSure tables archive counts before framer read
 
 -- before the first
-pub between_first : (reader : Reading) (archive : ArchiveView) (counts : Counts) (framer : Framing)
+pub nothing_read : (reader : Reading) (archive : ArchiveView) (counts : Counts) (framer : Framing)
     → IsFresh reader → Stands framer [] 0
     → Between reader reader archive archive counts counts framer 0
-between_first reader archive counts framer fresh stands = record {
+nothing_read reader archive counts framer fresh stands = record {
   read = [];
   goes_on =
       record {

@@ -6,16 +6,16 @@ use Rattle.bufr_tables.specs.Entries.{Entries}
 use Rattle.bufr_frame.specs.declared.frames.Found.{Found}
 use Rattle.bufr_frame.specs.Framings.{Framing}
 use Rattle.bufr_frame.specs.Streams.{cut, sure}
-use Rattle.bufr_frame.specs.Takings.{HandedOut}
+use Rattle.bufr_frame.specs.NextFrames.{HandedOut}
 use Rattle.bufr_message.specs.declared.report.Report.{Report}
 use Rattle.bufr_message.specs.Reports.{reports_in}
 use Rattle.bufr_archive.specs.Archives.{ArchiveView}
-use Rattle.bufr_engines.specs.declared.fault.Input.{Input}
-use Rattle.bufr_engines.specs.declared.fault.Input.TheVariants.{Number}
-use Rattle.bufr_engines.specs.declared.fault.ToolFault.{ToolFault}
-use Rattle.bufr_engines.specs.declared.fault.ToolFault.TheVariants as faults
-use Rattle.bufr_engines.specs.Engines.{WasReadOut, HasFailed, IsEndless, AreAllOf}
-use Rattle.bufr_engines.specs.Limits.{longest_piece}
+use Rattle.bufr_io.specs.declared.fault.Input.{Input}
+use Rattle.bufr_io.specs.declared.fault.Input.TheVariants.{Number}
+use Rattle.bufr_io.specs.declared.fault.ToolFault.{ToolFault}
+use Rattle.bufr_io.specs.declared.fault.ToolFault.TheVariants as faults
+use Rattle.bufr_io.specs.Engines.{WasReadOut, HasFailed, IsEndless, AreAllOf}
+use Rattle.bufr_io.specs.Limits.{longest_piece}
 use Rattle.bufr_collect.specs.declared.counts.Counts.{Counts}
 use Rattle.bufr_archive.specs.ReportTexts.{archive_of, IsArchiveOf}
 use Rattle.bufr_collect.specs.Collected.{refused_of, frames_of, AreTextsOf, all_of}

@@ -2,7 +2,7 @@
 use Rattle.std.specs.Prelude.{◌≡◌, ℕ, ◌+◌, ◌≤◌, List, [], ◌∷◌, ◌++◌, length}
 use Rattle.std.specs.List.{AllByRecursion}
 use Rattle.bufr_bits.specs.Devices.{Reading}
-use Rattle.bufr_engines.specs.Engines.{IsFresh, WasReadOut, AreAllOf}
+use Rattle.bufr_io.specs.Engines.{IsFresh, WasReadOut, AreAllOf}
 
 -- none of the readers was read, and all work
 abbrev pub AreFresh : List Reading → Type 0

@@ -3,13 +3,13 @@
 ghost use Rattle.std.specs.Prelude.{◌≡◌, ◌≤◌, false, map};
 ghost use Rattle.bufr_collect.specs.Collects.{Collects};
 ghost use Rattle.bufr_collect.specs.Readers.{AreFresh, AreReadAtMost};
-ghost use Rattle.bufr_engines.specs.Limits.{most_reads};
+ghost use Rattle.bufr_io.specs.Limits.{most_reads};
 
 use crate::counts::Counts;
 use crate::streams::add_streams;
-use bufr_archive::Gatherer;
+use bufr_archive::ArchiveBuilder;
 use bufr_bits::{Sink, Source};
-use bufr_engines::{Tally, ToolFault, room, write_out};
+use bufr_io::{Tally, ToolFault, room, write_out};
 use bufr_tables::Tables;
 use std::alloc::Global;
 
@@ -31,13 +31,13 @@ pub fn run_add<S: Source, W: Sink>(
         (map S.reading readers.new) (W.writing writer.old) (W.writing writer.new) result }
 {
     let mut room = room(alloc)?;
-    let mut gatherer = Gatherer::new(alloc, tables);
+    let mut builder = ArchiveBuilder::new(alloc, tables);
     let mut counts = Counts {
         frames: 0,
         refused: 0,
     };
-    add_streams(alloc, reads, readers, &mut room, &mut gatherer, &mut counts)?;
-    let archive = gatherer.into_archive()?;
+    add_streams(alloc, reads, readers, &mut room, &mut builder, &mut counts)?;
+    let archive = builder.into_archive()?;
     let reports = archive.len() as u128;
     let text = archive.into_octets()?;
     write_out(writer, 0, &text)?;

@@ -7,26 +7,26 @@ ghost use Rattle.bufr_tables.specs.Entries.{Entries};
 ghost use Rattle.bufr_collect.specs.Adds.{HasAdded, HasAddedSure};
 
 use crate::counts::Counts;
-use bufr_archive::{AddFault, Gatherer};
+use bufr_answers::OutOfMemory;
+use bufr_archive::{AddFault, ArchiveBuilder};
 use bufr_frame::{Found, Framer, Taken};
-use std::alloc::AllocError;
 
 /// Adds the message of a frame, where it spells one, and counts it.
 fn add_frame(
     frame: &Found,
-    gatherer: &mut Gatherer<'_>,
+    builder: &mut ArchiveBuilder<'_>,
     counts: &mut Counts,
-) -> Result<(), AllocError>
+) -> Result<(), OutOfMemory>
     requires few { counts.old.frames + 1 < 2 ^ 128 }
     requires refused { counts.old.refused ≤ counts.old.frames }
     ensures { OnOk result ((tables : Entries) (frames : List FoundFrame)
-        → HasAdded tables gatherer.old counts.old frames
-        → HasAdded tables gatherer.new counts.new (frames ++ frame.now ∷ [])) }
+        → HasAdded tables builder.old counts.old frames
+        → HasAdded tables builder.new counts.new (frames ++ frame.now ∷ [])) }
 {
-    let refused = match gatherer.add_message(frame.bytes.as_slice()) {
+    let refused = match builder.add_message(frame.bytes.as_slice()) {
         Ok(()) => 0,
         Err(AddFault::Refused(_)) => 1,
-        Err(AddFault::OutOfMemory { done: _ }) => return Err(AllocError),
+        Err(AddFault::OutOfMemory { done: _ }) => return Err(OutOfMemory),
     };
     counts.frames += 1;
     counts.refused += refused;
@@ -36,18 +36,18 @@ fn add_frame(
 /// Adds the messages of frames after those of others.
 fn add_frames(
     frames: &[Found],
-    gatherer: &mut Gatherer<'_>,
+    builder: &mut ArchiveBuilder<'_>,
     counts: &mut Counts,
-) -> Result<(), AllocError>
+) -> Result<(), OutOfMemory>
     requires so_far { (tables : Entries) × (before : List FoundFrame)
-        × HasAdded tables gatherer.old counts.old before }
+        × HasAdded tables builder.old counts.old before }
     requires few { counts.old.frames + length frames.now < 2 ^ 128 }
     ensures { OnOk result ((tables : Entries) (before : List FoundFrame)
-        → HasAdded tables gatherer.old counts.old before
-        → HasAdded tables gatherer.new counts.new (before ++ frames.now)) }
+        → HasAdded tables builder.old counts.old before
+        → HasAdded tables builder.new counts.new (before ++ frames.now)) }
 {
     for frame in frames {
-        add_frame(frame, gatherer, counts)?;
+        add_frame(frame, builder, counts)?;
     }
     Ok(())
 }
@@ -56,15 +56,15 @@ fn add_frames(
 pub(crate) fn add_piece(
     piece: &[u8],
     framer: &mut Framer,
-    gatherer: &mut Gatherer<'_>,
+    builder: &mut ArchiveBuilder<'_>,
     counts: &mut Counts,
-) -> Result<(), AllocError>
+) -> Result<(), OutOfMemory>
     requires so_far { (tables : Entries) × (before : List FoundFrame) × (stream : List ℕ)
-        × HasAddedSure tables gatherer.old counts.old before framer.old stream }
+        × HasAddedSure tables builder.old counts.old before framer.old stream }
     requires room { framer.old.fed + length piece.now < 2 ^ 64 }
     ensures { OnOk result ((tables : Entries) (before : List FoundFrame) (stream : List ℕ)
-        → HasAddedSure tables gatherer.old counts.old before framer.old stream
-        → HasAddedSure tables gatherer.new counts.new before framer.new (stream ++ piece.now)) }
+        → HasAddedSure tables builder.old counts.old before framer.old stream
+        → HasAddedSure tables builder.new counts.new before framer.new (stream ++ piece.now)) }
 {
     let mut rest = piece;
     loop {
@@ -72,7 +72,7 @@ pub(crate) fn add_piece(
         let Some(frame) = found else {
             return Ok(());
         };
-        add_frame(&frame, gatherer, counts)?;
+        add_frame(&frame, builder, counts)?;
         rest = left;
     }
 }
@@ -80,16 +80,16 @@ pub(crate) fn add_piece(
 /// Ends a stream, and adds the messages of the frames that are left.
 pub(crate) fn add_rest(
     framer: &mut Framer,
-    gatherer: &mut Gatherer<'_>,
+    builder: &mut ArchiveBuilder<'_>,
     counts: &mut Counts,
-) -> Result<(), AllocError>
+) -> Result<(), OutOfMemory>
     requires long { framer.old.fed < 2 ^ 64 }
     requires so_far { (tables : Entries) × (before : List FoundFrame) × (stream : List ℕ)
-        × HasAddedSure tables gatherer.old counts.old before framer.old stream }
+        × HasAddedSure tables builder.old counts.old before framer.old stream }
     ensures { OnOk result ((tables : Entries) (before : List FoundFrame) (stream : List ℕ)
-        → HasAddedSure tables gatherer.old counts.old before framer.old stream
-        → HasAdded tables gatherer.new counts.new (before ++ cut stream)) }
+        → HasAddedSure tables builder.old counts.old before framer.old stream
+        → HasAdded tables builder.new counts.new (before ++ cut stream)) }
 {
     let frames = framer.finish()?;
-    add_frames(&frames, gatherer, counts)
+    add_frames(&frames, builder, counts)
 }

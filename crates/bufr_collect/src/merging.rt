@@ -1,17 +1,18 @@
 //! The engine of `merge`.
 
 ghost use Rattle.std.specs.Prelude.{◌≡◌, ◌≤◌, false, map};
-ghost use Rattle.bufr_tables.specs.Answers.{result_map};
-ghost use Rattle.bufr_engines.specs.Engines.{IsFresh};
-ghost use Rattle.bufr_engines.specs.Limits.{most_reads};
+ghost use Rattle.bufr_answers.specs.Answers.{result_map};
+ghost use Rattle.bufr_io.specs.Engines.{IsFresh};
+ghost use Rattle.bufr_io.specs.Limits.{most_reads};
 ghost use Rattle.bufr_collect.specs.Adds.{ReadsArchive, MergesReaders};
 ghost use Rattle.bufr_collect.specs.Collects.{Merges};
 ghost use Rattle.bufr_collect.specs.Readers.{AreFresh, AreReadAtMost};
 
+use bufr_answers::Failure;
 use bufr_archive::{Archive, NotAnArchive, Shelf, SortedShelf};
 use bufr_bits::{Sink, Source};
-use bufr_engines::{Input, Tally, ToolFault, read_all, write_out};
-use bufr_tables::{Failure, Tables};
+use bufr_io::{Input, Tally, ToolFault, read_all, write_out};
+use bufr_tables::Tables;
 use std::alloc::Global;
 
 /// The archive whose text a reader has, which has this number.

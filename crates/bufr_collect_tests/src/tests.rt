@@ -2,13 +2,14 @@
 
 ghost use Rattle.std.specs.Prelude.{◌≡◌, ◌≤◌, ◌<◌, None, Some, false, IfOk, map};
 ghost use Rattle.bufr_collect.specs.Readers.{AreFresh};
-ghost use Rattle.bufr_engines.specs.Limits.{most_reads};
+ghost use Rattle.bufr_io.specs.Limits.{most_reads};
 
+use bufr_answers::OutOfMemory;
 use bufr_bits::{Failed, IntoWrite, Sink, Source};
 use bufr_collect::{run_add, run_merge};
-use bufr_engines::{Input, Tally, ToolFault};
+use bufr_io::{Input, Tally, ToolFault};
 use bufr_tables::{TableB, TableD, Tables};
-use std::alloc::{AllocError, Global};
+use std::alloc::Global;
 use std::fmt::Debug;
 use std::process::Abort;
 use std::test::Fail;
@@ -121,7 +122,7 @@ fn tables(alloc: Global) -> Result<Tables, Fail> {
 }
 
 /// Readers of these octets.
-fn readers(alloc: Global, inputs: &[&[u8]]) -> Result<Vec<Pieces>, AllocError>
+fn readers(alloc: Global, inputs: &[&[u8]]) -> Result<Vec<Pieces>, OutOfMemory>
     ensures { IfOk result (λ readers. AreFresh (map ⟦<Pieces as Source>⟧.reading readers.items)) }
 {
     let mut readers = Vec::new(alloc);
@@ -163,7 +164,7 @@ fn collected_of(
 }
 
 /// The octets of lists, joined.
-fn joined(alloc: Global, parts: &[&[u8]]) -> Result<Vec<u8>, AllocError> {
+fn joined(alloc: Global, parts: &[&[u8]]) -> Result<Vec<u8>, OutOfMemory> {
     let mut octets = Vec::new(alloc);
     for part in parts {
         octets.extend_from_slice(*part)?;
@@ -451,7 +452,7 @@ fn failing_writer(rt: HostRuntime) -> Result<(), Fail> {
 }
 
 /// An archive of one report, of a station of this number.
-fn report_of(alloc: Global, number: usize) -> Result<Vec<u8>, AllocError>
+fn report_of(alloc: Global, number: usize) -> Result<Vec<u8>, OutOfMemory>
     requires { number < 1000 }
 {
     let mut message = Vec::from_slice(alloc, FIRST)?;
@@ -463,7 +464,7 @@ fn report_of(alloc: Global, number: usize) -> Result<Vec<u8>, AllocError>
 }
 
 /// A thousand archives of one report, each of a station of its own.
-fn thousand_reports(alloc: Global) -> Result<Vec<Vec<u8>>, AllocError> {
+fn thousand_reports(alloc: Global) -> Result<Vec<Vec<u8>>, OutOfMemory> {
     let mut streams = Vec::new(alloc);
     for number in 0usize..1000 {
         streams.push(report_of(alloc, number)?)?;

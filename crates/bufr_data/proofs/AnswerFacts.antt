@@ -1,8 +1,8 @@
 -- What the view of an answer says of the answer: for the laws of data (`data_hold_subsets`,
 -- `fitting_subsets_are_read_and_written`, `write_refusals_follow_the_tree`).
 use Rattle.std.proofs.Common.{◌≡◌, ◌⊎◌, inl, inr, Bool, true, false, cond, Result, Ok, Err, refl}
-use Rattle.bufr_tables.specs.Answers.{result_map}
-use Rattle.bufr_tables.specs.AnswerLaws.{ok_is, err_is}
+use Rattle.bufr_answers.specs.Answers.{result_map}
+use Rattle.bufr_answers.specs.AnswerLaws.{ok_is, err_is}
 
 -- what is answered of a mapped answer was answered before
 pub map_ok : {A B F : Type 0} (f : A → B) (o : Result A F) (y : B) → result_map f o ≡ Ok y

@@ -19,15 +19,15 @@ use Rattle.bufr_data.specs.declared.field.Subset.{Subset}
 use Rattle.bufr_data.specs.Plain.{fields_at, subsets_at, items_of}
 use Rattle.bufr_data.specs.Data.{written_bits}
 use Rattle.bufr_data.specs.Fits.{told_of}
-use Rattle.bufr_data.specs.Refusals.{IsAsked, Passes}
+use Rattle.bufr_data.specs.Plain.Refusals.{IsAsked, Passes}
 use Rattle.bufr_data.specs.Causes.{Begin, NoneFollows, no_room, no_spec, no_bits, FirstRefused}
 use Rattle.bufr_data.specs.Causes.{FirstSubsetRefused, NotAllowed, too_many, past_limit}
 use Rattle.bufr_data.specs.Causes.{without_spec, another, FirstMisfit, FirstSubsetMisfit}
 use Rattle.bufr_data.specs.CourseLaws.{Laws, passes_after, after_passes, begun, begun_after}
 use Rattle.bufr_data.specs.CourseLaws.{limit_passed, AreUnrolled, AreAllowed, IsAskedNext}
 use Rattle.bufr_data.specs.CourseLaws.{IsLackingNext, IsTooLargeNext, IsOnward}
-use Rattle.bufr_data.proofs.CourseRefusals.{CannotStand, FieldRefused, SubsetRefused, CannotGoOn}
-use Rattle.bufr_data.proofs.CourseRefusals.{FieldMisfits, SubsetMisfits}
+use Rattle.bufr_data.proofs.PlainFacts.Refusals.{CannotStand, FieldRefused, SubsetRefused, CannotGoOn}
+use Rattle.bufr_data.proofs.PlainFacts.Refusals.{FieldMisfits, SubsetMisfits}
 use Rattle.bufr_data.proofs.RefusalFacts.{refused_stand, standing_refused, subsets_refused_stand}
 use Rattle.bufr_data.proofs.RefusalFacts.{subsets_standing_refused, refused_misfit, misfit_refused}
 use Rattle.bufr_data.proofs.RefusalFacts.{written_refused_misfit, written_misfit_refused}

@@ -2,15 +2,15 @@
 -- of data (`data_hold_subsets`).
 use Rattle.std.proofs.Common.{◌≡◌, ℕ, zero, suc, Bool, true, false, List, ◌++◌, Ok, refl, sym, ap}
 use Rattle.std.proofs.Common.{subst, ◌∙◌, arith}
-use Rattle.bufr_tables.specs.Answers.{result_map}
+use Rattle.bufr_answers.specs.Answers.{result_map}
 use Rattle.bufr_expand.specs.Trees.{Tree}
 use Rattle.bufr_expand.specs.Courses.{course}
 use Rattle.bufr_data.specs.declared.field.Subset.{Subset}
 use Rattle.bufr_data.specs.declared.fault.ReadFault.{ReadFault}
 use Rattle.bufr_data.specs.declared.fault.WriteFault.{WriteFault}
 use Rattle.bufr_data.specs.Plain.{SubsetsRead, plain_subsets, subsets_at}
-use Rattle.bufr_data.specs.Columns.{subsets_from}
-use Rattle.bufr_data.specs.ColumnReading.{ColumnsFound, columns_at}
+use Rattle.bufr_data.specs.Compressed.{subsets_from}
+use Rattle.bufr_data.specs.Compressed.Reading.{ColumnsFound, columns_at}
 use Rattle.bufr_data.specs.Data.{BeginsWithData, subsets_in, ReadsExactly, RefusesExactly}
 use Rattle.bufr_data.specs.Data.{WritesExactly, MisfitsExactly, BareDataAreData, PlainDataAreBare}
 use Rattle.bufr_data.specs.CourseLaws.{AreUnrolled, AreAllowed, Laws}
@@ -19,11 +19,11 @@ use Rattle.bufr_data.proofs.FitFacts.{written_fit, fitting_written, all_read_sta
 use Rattle.bufr_data.proofs.FitFacts.{all_standing_read}
 use Rattle.bufr_data.proofs.CauseFacts.{subsets_refused_first, first_subsets_refused}
 use Rattle.bufr_data.proofs.CauseFacts.{written_refused_first, first_written_refused}
-use Rattle.bufr_data.proofs.ColumnCourses.{first_of_columns, columns_of_first}
-use Rattle.bufr_data.proofs.ColumnRefusals.{columns_refused, columns_refused_again}
-use Rattle.bufr_data.proofs.PackedFacts.{compressed_stand, compressed_read, compressed_hold}
-use Rattle.bufr_data.proofs.WrittenColumns.{fitting_columns_written, written_best}
-use Rattle.bufr_data.proofs.PackedMisfits.{unpacked_is, unpacked_again}
+use Rattle.bufr_data.proofs.CompressedFacts.Courses.{first_of_columns, columns_of_first}
+use Rattle.bufr_data.proofs.CompressedFacts.Refusals.{columns_refused, columns_refused_again}
+use Rattle.bufr_data.proofs.CompressedFacts.Packed.{compressed_stand, compressed_read, compressed_hold}
+use Rattle.bufr_data.proofs.CompressedFacts.Written.{fitting_columns_written, written_best}
+use Rattle.bufr_data.proofs.CompressedFacts.PackedMisfits.{unpacked_is, unpacked_again}
 
 -- ---- reading
 

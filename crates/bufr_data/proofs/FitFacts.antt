@@ -4,7 +4,7 @@
 use Rattle.std.proofs.Common.{◌≡◌, ℕ, ◌+◌, ◌≤◌, Bool, false, List, [], ◌∷◌, Ok, refl, sym, ap}
 use Rattle.std.proofs.Common.{subst, ◌∙◌, arith}
 use Rattle.std.specs.Prelude.{map}
-use Rattle.bufr_tables.specs.AnswerLaws.{bind_ok, ok_is}
+use Rattle.bufr_answers.specs.AnswerLaws.{bind_ok, ok_is}
 use Rattle.bufr_expand.specs.declared.operators.Spec.{Spec}
 use Rattle.bufr_expand.specs.Courses.{Course, ends, stops, asks, course}
 use Rattle.bufr_expand.specs.Trees.{Tree}
@@ -12,11 +12,11 @@ use Rattle.bufr_expand.specs.Unrolling.{After, Allows}
 use Rattle.bufr_expand.specs.Limits.{most_items}
 use Rattle.bufr_data.specs.declared.field.Field.{Field}
 use Rattle.bufr_data.specs.declared.field.Subset.{Subset}
-use Rattle.bufr_data.specs.Plain.{number_of, plain_subsets, SubsetRead, SubsetsRead, stands_for}
+use Rattle.bufr_data.specs.Plain.{number_of, plain_subsets, SubsetRead, SubsetsRead, matches_spec}
 use Rattle.bufr_data.specs.Plain.{items_of, items_of_all, fields_at, subsets_at}
 use Rattle.bufr_data.specs.Data.{written_bits}
-use Rattle.bufr_data.specs.Fits.{HasForm, told_of, FitsWithin, AllFitWithin, SubsetStands}
-use Rattle.bufr_data.specs.Fits.{SubsetsStand}
+use Rattle.bufr_data.specs.Fits.{HasForm, told_of, FitsWithin, AllFitWithin, BeginsWithSubset}
+use Rattle.bufr_data.specs.Fits.{BeginsWithSubsets}
 use Rattle.bufr_data.specs.FormLaws.{asked_is, asked_passes}
 use Rattle.bufr_data.specs.CourseLaws.{AreUnrolled, AreAllowed, Formed}
 use Rattle.bufr_data.proofs.AnswerFacts.{map_ok}
@@ -34,7 +34,7 @@ counted_allowed j i (ends m) (f ∷ fields) n e = absurd cc
 counted_allowed j i (stops met fault) fields n e = absurd cc
 counted_allowed j i (asks met d spec more) [] n e = absurd cc
 counted_allowed j i (asks met d spec more) (f ∷ fields) n e =
-    let g = guard_ok (stands_for d spec f) _ _ n e in
+    let g = guard_ok (matches_spec d spec f) _ _ n e in
     let is = asked_is d spec f g.0 in
     let others = counted_allowed j (i + 1) (more (number_of f.raw)) fields n g.1 in
     ((is.0, is.1, others.0), (subst (λ (s : Spec). HasForm s f.raw) (sym is.1) is.2, others.1))
@@ -75,14 +75,14 @@ fitting_counted law tree j used n fields h =
 -- a subset that is read fits and stands there
 pub read_stands : AreUnrolled → (tree : Tree) (j used : ℕ) (front : List Bool) (f : SubsetRead)
     → used ≤ most_items → fields_at j 1 (course tree used) front ≡ Ok f
-    → SubsetStands tree used front f
+    → BeginsWithSubset tree used front f
 read_stands law tree j used front f le e =
     let is = fields_at-found j 1 (course tree used) front f e in
     (counted_fit law tree j used f.items f.fields le is.0, is.1)
 
 -- and such a subset is read
 pub standing_read : AreAllowed → (tree : Tree) (j used : ℕ) (front : List Bool) (f : SubsetRead)
-    → SubsetStands tree used front f → fields_at j 1 (course tree used) front ≡ Ok f
+    → BeginsWithSubset tree used front f → fields_at j 1 (course tree used) front ≡ Ok f
 standing_read law tree j used front f h =
     ap (fields_at j 1 (course tree used)) h.1
     ∙ fields_at-plain j 1 (course tree used) f.fields f.items f.rest
@@ -131,7 +131,7 @@ all_fitting_counted law tree j used n (s ∷ subsets) h =
 -- subsets that are read fit and stand there
 pub all_read_stand : AreUnrolled
     → (tree : Tree) (j n used : ℕ) (front : List Bool) (f : SubsetsRead) → used ≤ most_items
-    → subsets_at (course tree) j n used front ≡ Ok f → SubsetsStand tree n used front f
+    → subsets_at (course tree) j n used front ≡ Ok f → BeginsWithSubsets tree n used front f
 all_read_stand law tree j n used front f le e =
     let is = subsets_at-found (course tree) j n used front f e in
     (is.0, all_counted_fit law tree j used f.items f.subsets le is.1, is.2)
@@ -139,7 +139,7 @@ all_read_stand law tree j n used front f le e =
 -- and such subsets are read
 pub all_standing_read : AreAllowed
     → (tree : Tree) (j n used : ℕ) (front : List Bool) (f : SubsetsRead)
-    → SubsetsStand tree n used front f → subsets_at (course tree) j n used front ≡ Ok f
+    → BeginsWithSubsets tree n used front f → subsets_at (course tree) j n used front ≡ Ok f
 all_standing_read law tree j n used front f h =
     subsets_at-plain (course tree) j n used front f h.0
     (all_fitting_counted law tree j used f.items f.subsets h.1) h.2

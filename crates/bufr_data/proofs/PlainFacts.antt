@@ -1,6 +1,6 @@
 -- What is read from bits are exactly the fields that a course allows, and the bits are theirs: for
 -- the law `plain_data_spell_subsets`.
-use Rattle.bufr_tables.specs.Answers.{◌>>=◌}
+use Rattle.bufr_answers.specs.Answers.{◌>>=◌}
 use Rattle.std.proofs.Common.{◌≡◌, ℕ, zero, suc, ◌+◌, ◌/◌, ◌^◌, Bool, true, false, cond, List, []}
 use Rattle.std.proofs.Common.{◌∷◌, ◌++◌, length, Option, Some, None, Result, Ok, Err, refl, sym, ap}
 use Rattle.std.proofs.Common.{subst, ◌∙◌, append_assoc}
@@ -13,7 +13,7 @@ use Rattle.bufr_bits.specs.NumberLaws.{numbers_at_again, numbers_at_found}
 use Rattle.bufr_tables.specs.declared.element.Kind.{Kind}
 use Rattle.bufr_tables.specs.declared.element.Kind.TheVariants as kinds
 use Rattle.bufr_tables.specs.Elements.{same_kind}
-use Rattle.bufr_tables.specs.AnswerLaws.{bind_ok, ok_is}
+use Rattle.bufr_answers.specs.AnswerLaws.{bind_ok, ok_is}
 use Rattle.bufr_expand.specs.declared.operators.Spec.{Spec}
 use Rattle.bufr_expand.specs.declared.walk.WalkFault.{WalkFault}
 use Rattle.bufr_expand.specs.declared.walk.WalkFault.TheVariants as walks
@@ -27,9 +27,16 @@ use Rattle.bufr_data.specs.declared.field.Subset.{Subset}
 use Rattle.bufr_data.specs.Plain.{raw_bits, field_bits, plain, plain_subsets, SubsetRead}
 use Rattle.bufr_data.specs.Plain.{SubsetsRead, field_number_at, raw_at_by, raw_at, number_of}
 use Rattle.bufr_data.specs.Plain.{field_then, stopped, fields_at, subsets_at, has_form_by}
-use Rattle.bufr_data.specs.Plain.{stands_for, items_of, items_of_all}
+use Rattle.bufr_data.specs.Plain.{matches_spec, items_of, items_of_all}
 use Rattle.bufr_data.specs.FormLaws.{asked_is, asked_passes, form_passes, form_is, octets_are}
 use Rattle.bufr_data.specs.FormLaws.{octets_pass}
+pub mod Alike
+pub mod Passed
+pub mod Reads
+pub mod Refusals
+pub mod Starts
+pub mod Subsets
+pub mod Writes
 
 -- ---- fields
 
@@ -76,7 +83,7 @@ fields_at-plain j i (ends m) (f ∷ fs) n rest e = absurd cc
 fields_at-plain j i (stops met fault) fs n rest e = absurd cc
 fields_at-plain j i (asks met d spec more) [] n rest e = absurd cc
 fields_at-plain j i (asks met d spec more) (f ∷ fs) n rest e =
-    let g = guard_ok (stands_for d spec f) _ _ n e in
+    let g = guard_ok (matches_spec d spec f) _ _ n e in
     let is = asked_is d spec f g.0 in
     let form = form_passes spec f.raw is.2 in
     let same_f : ◌≡◌ {A = Field} (record { fxy = d; spec = spec; raw = f.raw }) f =

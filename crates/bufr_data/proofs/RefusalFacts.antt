@@ -10,10 +10,10 @@ use Rattle.std.proofs.lemmas.List.{take-append-drop, length-take}
 use Rattle.bufr_bits.specs.Bits.{bin, number, numbers}
 use Rattle.bufr_bits.specs.BitLaws.{length-bin, number_below, bin-number}
 use Rattle.bufr_bits.specs.NumberLaws.{length-fields, length-numbers, numbers_fit, fields-numbers}
-use Rattle.bufr_tables.specs.Answers.{result_map}
+use Rattle.bufr_answers.specs.Answers.{result_map}
 use Rattle.bufr_tables.specs.declared.element.Kind.{Kind}
 use Rattle.bufr_tables.specs.declared.element.Kind.TheVariants as kinds
-use Rattle.bufr_tables.specs.AnswerLaws.{bind_err, err_is}
+use Rattle.bufr_answers.specs.AnswerLaws.{bind_err, err_is}
 use Rattle.bufr_expand.specs.declared.operators.Spec.{Spec}
 use Rattle.bufr_expand.specs.declared.walk.WalkFault.{WalkFault}
 use Rattle.bufr_expand.specs.declared.walk.WalkFault.TheVariants as walks
@@ -29,16 +29,16 @@ use Rattle.bufr_data.specs.declared.fault.ReadFault.TheVariants as faults
 use Rattle.bufr_data.specs.declared.fault.WriteFault.{WriteFault}
 use Rattle.bufr_data.specs.declared.fault.WriteFault.TheVariants as misfits
 use Rattle.bufr_data.specs.Plain.{raw_bits, field_bits, plain, plain_subsets, SubsetRead, raw_at}
-use Rattle.bufr_data.specs.Plain.{number_of, field_then, fields_at, subsets_at, stands_for, misfit}
+use Rattle.bufr_data.specs.Plain.{number_of, field_then, fields_at, subsets_at, matches_spec, misfit}
 use Rattle.bufr_data.specs.Plain.{items_of, items_of_all}
 use Rattle.bufr_data.specs.Data.{written_bits}
 use Rattle.bufr_data.specs.Fits.{HasForm, of_text, of_number, FitsWithin, AllFitWithin}
-use Rattle.bufr_data.specs.Fits.{SubsetStands}
-use Rattle.bufr_data.specs.Refusals.{IsAsked, Passes, NoneStands, IsWithinLimits}
+use Rattle.bufr_data.specs.Fits.{BeginsWithSubset}
+use Rattle.bufr_data.specs.Plain.Refusals.{IsAsked, Passes, BeginsWithNone, IsWithinLimits}
 use Rattle.bufr_data.specs.CourseLaws.{AreUnrolled, AreAllowed}
 use Rattle.bufr_data.specs.FormLaws.{form_passes, form_is, asked_is, asked_passes}
-use Rattle.bufr_data.proofs.CourseRefusals.{CannotStand, FieldRefused, SubsetRefused, CannotGoOn}
-use Rattle.bufr_data.proofs.CourseRefusals.{FieldMisfits, SubsetMisfits, stop_is, stop_again}
+use Rattle.bufr_data.proofs.PlainFacts.Refusals.{CannotStand, FieldRefused, SubsetRefused, CannotGoOn}
+use Rattle.bufr_data.proofs.PlainFacts.Refusals.{FieldMisfits, SubsetMisfits, stop_is, stop_again}
 use Rattle.bufr_data.proofs.AnswerFacts.{map_err}
 use Rattle.bufr_data.proofs.PlainFacts.{raw_again, raw_read}
 use Rattle.bufr_data.proofs.FitFacts.{counted_fit, fitting_counted, read_stands, standing_read}
@@ -47,18 +47,18 @@ use Rattle.bufr_data.proofs.FitFacts.{counted_fit, fitting_counted, read_stands,
 
 -- the step of `none_read`
 none_by : (spec : Spec) (front : List Bool) (o : Option (Raw × List Bool)) → raw_at spec front ≡ o
-    → NoneStands spec front → raw_at spec front ≡ None
+    → BeginsWithNone spec front → raw_at spec front ≡ None
 none_by spec front None e none = e
 none_by spec front (Some x) e none =
     let is = raw_read spec.kind spec.width front x e in
     absurd (none x.0 x.1 (form_is spec x.0 is.0) is.1)
 
 -- where no field stands, none is read
-none_read : (spec : Spec) (front : List Bool) → NoneStands spec front → raw_at spec front ≡ None
+none_read : (spec : Spec) (front : List Bool) → BeginsWithNone spec front → raw_at spec front ≡ None
 none_read spec front none = none_by spec front (raw_at spec front) refl none
 
 -- where none is read, no field stands
-none_stands : (spec : Spec) (front : List Bool) → raw_at spec front ≡ None → NoneStands spec front
+none_stands : (spec : Spec) (front : List Bool) → raw_at spec front ≡ None → BeginsWithNone spec front
 none_stands spec front e = λ raw rest form is.
     let some : raw_at spec front ≡ Some (raw, rest) =
     ap (raw_at spec) is ∙ raw_again spec.kind spec.width raw rest (form_passes spec raw form) in
@@ -74,7 +74,7 @@ raw_length spec raw limits (of_number n other few below) = length-bin spec.width
 
 -- too few bits have no field
 pub none_on_few : (spec : Spec) (front : List Bool) → IsWithinLimits spec
-    → length front < spec.width → NoneStands spec front
+    → length front < spec.width → BeginsWithNone spec front
 none_on_few spec front limits short = λ raw rest form is.
     omega (
       arith,
@@ -85,7 +85,7 @@ none_on_few spec front limits short = λ raw rest form is.
 
 -- enough bits have a number
 number_stands : (spec : Spec) (front : List Bool) → (spec.kind ≡ kinds.Text → ⊥)
-    → IsWithinLimits spec → spec.width ≤ length front → NoneStands spec front → ⊥
+    → IsWithinLimits spec → spec.width ≤ length front → BeginsWithNone spec front → ⊥
 number_stands spec front other limits long none =
     let size : length (take spec.width front) ≡ spec.width =
     omega (arith, length-take spec.width front) in
@@ -100,7 +100,7 @@ number_stands spec front other limits long none =
 
 -- enough bits have a text
 text_stands : (spec : Spec) (front : List Bool) → spec.kind ≡ kinds.Text → IsWithinLimits spec
-    → spec.width ≤ length front → NoneStands spec front → ⊥
+    → spec.width ≤ length front → BeginsWithNone spec front → ⊥
 text_stands spec front is limits long none =
     let n = spec.width / 8 in
     let whole : spec.width % 8 ≡ 0 = limits.whole_octets is in
@@ -111,7 +111,7 @@ text_stands spec front is limits long none =
 
 -- enough bits have a field of any kind
 stands_by : (kind : Kind) (spec : Spec) (front : List Bool) → spec.kind ≡ kind → IsWithinLimits spec
-    → spec.width ≤ length front → NoneStands spec front → ⊥
+    → spec.width ≤ length front → BeginsWithNone spec front → ⊥
 stands_by kinds.Text spec front is limits long none = text_stands spec front is limits long none
 stands_by kinds.Code spec front is limits long none =
     number_stands spec front (λ t. let e = sym is ∙ t in cc) limits long none
@@ -123,7 +123,7 @@ stands_by kinds.Count spec front is limits long none =
     number_stands spec front (λ t. let e = sym is ∙ t in cc) limits long none
 
 -- where no field stands there are too few bits
-pub few_where_none : (spec : Spec) (front : List Bool) → IsWithinLimits spec → NoneStands spec front
+pub few_where_none : (spec : Spec) (front : List Bool) → IsWithinLimits spec → BeginsWithNone spec front
     → length front < spec.width
 few_where_none spec front limits none =
     elim (cases_lt (length front) spec.width) [
@@ -280,7 +280,7 @@ first_refused tree j n used front fault le e =
 
 -- one that is refused behind a subset that stands is the first of all
 later_refused : (tree : Tree) (j n used : ℕ) (front : List Bool) (first : SubsetRead)
-    (fault : ReadFault) → SubsetStands tree used front first
+    (fault : ReadFault) → BeginsWithSubset tree used front first
     → SubsetRefused tree (j + 1) n first.items first.rest fault
     → SubsetRefused tree j (suc n) used front fault
 later_refused tree j n used front first fault h r =
@@ -422,7 +422,7 @@ stops_again j i met (walks.EffectiveRange d) fields fault e = sym e
 
 -- the test of the field that is asked for
 asked_misfits : (j i met d : ℕ) (spec : Spec) (more : ℕ → Course) (f : Field) (fields : List Field)
-    (fault : WriteFault) (is : Bool) → stands_for d spec f ≡ is
+    (fault : WriteFault) (is : Bool) → matches_spec d spec f ≡ is
     → (items_of j (i + 1) (more (number_of f.raw)) fields ≡ Err fault
     → FieldMisfits j (i + 1) (more (number_of f.raw)) fields fault)
     → cond is (items_of j (i + 1) (more (number_of f.raw)) fields) (Err (misfits.DoesNotFit j i))
@@ -432,7 +432,7 @@ asked_misfits j i met d spec more f fields fault true is after e =
 asked_misfits j i met d spec more f fields fault false is after e =
     misfit_here j i (asks met d spec more) (f ∷ fields) fault (
       sym (err_is {A = ℕ} (misfits.DoesNotFit j i) fault e),
-      λ asked. let yes : stands_for d spec f
+      λ asked. let yes : matches_spec d spec f
           ≡ true = asked_passes d spec f asked in cc,
     )
 
@@ -451,12 +451,12 @@ refused_misfit j i (asks met d spec more) [] fault e =
     misfit_here j i (asks met d spec more) [] fault
     (sym (err_is {A = ℕ} (misfits.DoesNotFit j i) fault e))
 refused_misfit j i (asks met d spec more) (f ∷ fields) fault e =
-    asked_misfits j i met d spec more f fields fault (stands_for d spec f) refl
+    asked_misfits j i met d spec more f fields fault (matches_spec d spec f) refl
     (refused_misfit j (i + 1) (more (number_of f.raw)) fields fault) e
 
 -- a field that is not asked for does not pass
-not_asked : (d : ℕ) (spec : Spec) (f : Field) (is : Bool) → stands_for d spec f ≡ is
-    → (IsAsked d spec f → ⊥) → stands_for d spec f ≡ false
+not_asked : (d : ℕ) (spec : Spec) (f : Field) (is : Bool) → matches_spec d spec f ≡ is
+    → (IsAsked d spec f → ⊥) → matches_spec d spec f ≡ false
 not_asked d spec f false e none = e
 not_asked d spec f true e none = absurd (none (asked_is d spec f e))
 
@@ -470,7 +470,7 @@ go_on_again j i (stops met w) fields fault h =
     ap (λ x. Err x) (stops_again j i met w fields fault h)
 go_on_again j i (asks met d spec more) [] fault h = ap (λ x. Err x) (sym h)
 go_on_again j i (asks met d spec more) (f ∷ fields) fault h =
-    rw (not_asked d spec f (stands_for d spec f) refl h.1) (ap (λ x. Err x) (sym h.0))
+    rw (not_asked d spec f (matches_spec d spec f) refl h.1) (ap (λ x. Err x) (sym h.0))
 
 -- so they have behind fields that are asked for
 misfit_again : (j i : ℕ) (before others : List Field) (c next : Course) (fault : WriteFault)

@@ -14,7 +14,7 @@ use Rattle.bufr_data.specs.declared.fault.WriteFault.{WriteFault}
 use Rattle.bufr_data.specs.declared.fault.WriteFault.TheVariants as misfits
 use Rattle.bufr_data.specs.Plain.{plain, plain_subsets}
 use Rattle.bufr_data.specs.Fits.{HasForm, told_of, AllFitWithin}
-use Rattle.bufr_data.specs.Refusals.{IsAsked, NoneStands}
+use Rattle.bufr_data.specs.Plain.Refusals.{IsAsked, BeginsWithNone}
 
 -- fields with which a subset can begin: each comes next in an unrolling after those before it,
 -- within the items that a message may have, and each raw value has its spec's form
@@ -33,7 +33,7 @@ pub data NoneFollows (tree : Tree) (used j : ℕ) (before : List Field) (front :
   no_spec : (d met : ℕ) → BeginsWithin tree used (map told_of before) (lacks d) met
       → fault ≡ faults.EffectiveRange d → NoneFollows tree used j before front fault
   no_bits : (d met : ℕ) (spec : Spec)
-      → BeginsWithin tree used (map told_of before) (wants d spec) met → NoneStands spec front
+      → BeginsWithin tree used (map told_of before) (wants d spec) met → BeginsWithNone spec front
       → fault ≡ faults.DataEnds j (1 + length before) → NoneFollows tree used j before front fault
 
 -- the first field of subset j that cannot stand: those before it stand in the data

@@ -18,7 +18,7 @@ use Rattle.bufr_expand.specs.Limits.{most_items}
 use Rattle.bufr_data.specs.declared.field.Field.{Field}
 use Rattle.bufr_data.specs.Plain.{number_of}
 use Rattle.bufr_data.specs.Fits.{HasForm, told_of}
-use Rattle.bufr_data.specs.Refusals.{Passes}
+use Rattle.bufr_data.specs.Plain.Refusals.{Passes}
 use Rattle.bufr_data.specs.Causes.{Begin}
 
 -- ---- what bufr_expand says of courses and trees

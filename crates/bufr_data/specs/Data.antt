@@ -5,7 +5,7 @@
 use Rattle.std.specs.Prelude.{◌≡◌, ◌↔◌, ℕ, zero, suc, ◌+◌, Bool, true, false, List, [], ◌∷◌, ◌++◌}
 use Rattle.std.specs.Prelude.{length, Result, Ok, Err}
 use Rattle.std.specs.List.{AllByRecursion}
-use Rattle.bufr_tables.specs.Answers.{◌>>=◌, result_map}
+use Rattle.bufr_answers.specs.Answers.{◌>>=◌, result_map}
 use Rattle.bufr_expand.specs.Trees.{Tree}
 use Rattle.bufr_expand.specs.Courses.{course}
 use Rattle.bufr_data.specs.declared.field.Subset.{Subset}
@@ -14,11 +14,11 @@ use Rattle.bufr_data.specs.declared.fault.WriteFault.{WriteFault}
 use Rattle.bufr_data.specs.Plain.{plain_subsets, subsets_at, items_of, items_of_all}
 use Rattle.bufr_data.specs.Fits.{AllFitWithin, FitsAlone}
 use Rattle.bufr_data.specs.Causes.{FirstSubsetRefused, FirstSubsetMisfit}
-use Rattle.bufr_data.specs.Columns.{Column, Packed, subsets_from}
-use Rattle.bufr_data.specs.ColumnReading.{columns_at}
-use Rattle.bufr_data.specs.BestColumns.{columns_of_all, packed, best_bits, AreBestColumns}
-use Rattle.bufr_data.specs.BestColumns.{CanBePacked, HasNarrowFields}
-use Rattle.bufr_data.specs.ColumnCauses.{FirstColumnRefused, FirstUnpacked}
+use Rattle.bufr_data.specs.Compressed.{Column, Packed, subsets_from}
+use Rattle.bufr_data.specs.Compressed.Reading.{columns_at}
+use Rattle.bufr_data.specs.Compressed.Best.{columns_of_all, packed, best_bits, AreBestColumns}
+use Rattle.bufr_data.specs.Compressed.Best.{CanBePacked, HasNarrowFields}
+use Rattle.bufr_data.specs.Compressed.Causes.{FirstColumnRefused, FirstUnpacked}
 
 -- ---- the data of subsets
 

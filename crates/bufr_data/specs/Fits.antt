@@ -59,12 +59,12 @@ abbrev pub FitsAlone : Tree → Subset → Type 0
 FitsAlone tree s = (items : ℕ) × FitsWithin tree 0 s.fields items
 
 -- a subset that fits stands at the front of the data, and these bits are left
-abbrev pub SubsetStands : Tree → ℕ → List Bool → SubsetRead → Type 0
-SubsetStands tree used front f = FitsWithin tree used f.fields f.items
+abbrev pub BeginsWithSubset : Tree → ℕ → List Bool → SubsetRead → Type 0
+BeginsWithSubset tree used front f = FitsWithin tree used f.fields f.items
     × (front ≡ plain f.fields ++ f.rest)
 
 -- so many subsets that fit stand at the front of the data one after the other, and these bits are
 -- left
-abbrev pub SubsetsStand : Tree → ℕ → ℕ → List Bool → SubsetsRead → Type 0
-SubsetsStand tree n used front f = (length f.subsets ≡ n) × AllFitWithin tree used f.subsets f.items
+abbrev pub BeginsWithSubsets : Tree → ℕ → ℕ → List Bool → SubsetsRead → Type 0
+BeginsWithSubsets tree n used front f = (length f.subsets ≡ n) × AllFitWithin tree used f.subsets f.items
     × (front ≡ plain_subsets f.subsets ++ f.rest)

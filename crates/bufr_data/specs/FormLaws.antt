@@ -13,9 +13,9 @@ use Rattle.bufr_expand.specs.declared.operators.Spec.{Spec}
 use Rattle.bufr_data.specs.declared.field.Raw.{Raw}
 use Rattle.bufr_data.specs.declared.field.Raw.TheVariants.{Number, Text}
 use Rattle.bufr_data.specs.declared.field.Field.{Field}
-use Rattle.bufr_data.specs.Plain.{same_spec, has_form_by, stands_for}
+use Rattle.bufr_data.specs.Plain.{same_spec, has_form_by, matches_spec}
 use Rattle.bufr_data.specs.Fits.{HasForm, of_text, of_number}
-use Rattle.bufr_data.specs.Refusals.{IsAsked}
+use Rattle.bufr_data.specs.Plain.Refusals.{IsAsked}
 use Rattle.bufr_data.specs.Limits.{most_raw_bits}
 
 -- ---- specs that are the same
@@ -157,7 +157,7 @@ form_is spec raw e = form_by spec.kind spec raw refl e
 -- ---- the field that is asked for
 
 -- a field that stands for what is asked is asked for
-pub asked_is : (d : ℕ) (spec : Spec) (f : Field) → stands_for d spec f ≡ true → IsAsked d spec f
+pub asked_is : (d : ℕ) (spec : Spec) (f : Field) → matches_spec d spec f ≡ true → IsAsked d spec f
 asked_is d spec f e =
     let p = and_parts (f.fxy == d && same_spec f.spec spec)
     (has_form_by spec.kind spec.width f.raw) e in
@@ -165,7 +165,7 @@ asked_is d spec f e =
     (eqb-true f.fxy d q.0, same_spec_is f.spec spec q.1, form_is spec f.raw p.1)
 
 -- a field that is asked for stands for it
-pub asked_passes : (d : ℕ) (spec : Spec) (f : Field) → IsAsked d spec f → stands_for d spec f ≡ true
+pub asked_passes : (d : ℕ) (spec : Spec) (f : Field) → IsAsked d spec f → matches_spec d spec f ≡ true
 asked_passes d spec f h =
     let same : same_spec f.spec spec ≡ true =
     subst (λ (s : Spec). same_spec s spec ≡ true) (sym h.1) (spec_is_same spec) in

@@ -12,8 +12,8 @@ use Rattle.bufr_data.specs.declared.fault.WriteFault.{WriteFault}
 use Rattle.bufr_data.specs.Plain.{SubsetRead, SubsetsRead, plain_subsets, fields_at, subsets_at}
 use Rattle.bufr_data.specs.Plain.{items_of, items_of_all}
 use Rattle.bufr_data.specs.Data.{written_bits}
-use Rattle.bufr_data.specs.Fits.{FitsWithin, AllFitWithin, SubsetStands, SubsetsStand}
-use Rattle.bufr_data.specs.Refusals.{IsWithinLimits, NoneStands}
+use Rattle.bufr_data.specs.Fits.{FitsWithin, AllFitWithin, BeginsWithSubset, BeginsWithSubsets}
+use Rattle.bufr_data.specs.Plain.Refusals.{IsWithinLimits, BeginsWithNone}
 use Rattle.bufr_data.specs.Causes.{FirstRefused, FirstSubsetRefused, FirstMisfit, FirstSubsetMisfit}
 
 -- these subsets are so many and fit their courses, and the bits are theirs and then those that are
@@ -24,13 +24,13 @@ AreSubsets course j n used front f =
     × (front ≡ plain_subsets f.subsets ++ f.rest)
 
 -- subsets that are read stand in the bits
-abbrev pub ReadStand : Type 0
-ReadStand = (course : ℕ → Course) (j n used : ℕ) (front : List Bool) (f : SubsetsRead)
+abbrev pub ReadAreHeld : Type 0
+ReadAreHeld = (course : ℕ → Course) (j n used : ℕ) (front : List Bool) (f : SubsetsRead)
     → subsets_at course j n used front ≡ Ok f → AreSubsets course j n used front f
 
 -- subsets that stand in the bits are read, and no others
-abbrev pub StandingAreRead : Type 0
-StandingAreRead = (course : ℕ → Course) (j n used : ℕ) (front : List Bool) (f : SubsetsRead)
+abbrev pub HeldAreRead : Type 0
+HeldAreRead = (course : ℕ → Course) (j n used : ℕ) (front : List Bool) (f : SubsetsRead)
     → AreSubsets course j n used front f → subsets_at course j n used front ≡ Ok f
 
 -- ---- what fits a template
@@ -58,26 +58,26 @@ AllFittingAreCounted = (tree : Tree) (j used n : ℕ) (subsets : List Subset)
 -- ---- where there are bits and subsets
 
 -- a subset that is read fits the template and stands in the bits
-abbrev pub SubsetReadStands : Type 0
-SubsetReadStands = (tree : Tree) (j used : ℕ) (front : List Bool) (f : SubsetRead)
+abbrev pub SubsetReadIsHeld : Type 0
+SubsetReadIsHeld = (tree : Tree) (j used : ℕ) (front : List Bool) (f : SubsetRead)
     → used ≤ most_items
-    → fields_at j 1 (course tree used) front ≡ Ok f → SubsetStands tree used front f
+    → fields_at j 1 (course tree used) front ≡ Ok f → BeginsWithSubset tree used front f
 
 -- a subset that fits the template and stands in the bits is read, and no other
-abbrev pub SubsetStandingIsRead : Type 0
-SubsetStandingIsRead = (tree : Tree) (j used : ℕ) (front : List Bool) (f : SubsetRead)
-    → SubsetStands tree used front f → fields_at j 1 (course tree used) front ≡ Ok f
+abbrev pub SubsetHeldIsRead : Type 0
+SubsetHeldIsRead = (tree : Tree) (j used : ℕ) (front : List Bool) (f : SubsetRead)
+    → BeginsWithSubset tree used front f → fields_at j 1 (course tree used) front ≡ Ok f
 
 -- the same of so many subsets
-abbrev pub SubsetsReadStand : Type 0
-SubsetsReadStand = (tree : Tree) (j n used : ℕ) (front : List Bool) (f : SubsetsRead)
+abbrev pub SubsetsReadAreHeld : Type 0
+SubsetsReadAreHeld = (tree : Tree) (j n used : ℕ) (front : List Bool) (f : SubsetsRead)
     → used ≤ most_items → subsets_at (course tree) j n used front ≡ Ok f
-    → SubsetsStand tree n used front f
+    → BeginsWithSubsets tree n used front f
 
 -- and subsets that stand are read
-abbrev pub SubsetsStandingAreRead : Type 0
-SubsetsStandingAreRead = (tree : Tree) (j n used : ℕ) (front : List Bool) (f : SubsetsRead)
-    → SubsetsStand tree n used front f → subsets_at (course tree) j n used front ≡ Ok f
+abbrev pub SubsetsHeldAreRead : Type 0
+SubsetsHeldAreRead = (tree : Tree) (j n used : ℕ) (front : List Bool) (f : SubsetsRead)
+    → BeginsWithSubsets tree n used front f → subsets_at (course tree) j n used front ≡ Ok f
 
 -- bits that are written are those of subsets that fit the template, with 16,777,216 items at most
 abbrev pub WrittenFit : Type 0
@@ -94,14 +94,14 @@ FittingAreWritten = (tree : Tree) (subsets : List Subset) (items : ℕ)
 -- ---- refusals, by what the template's tree stands for
 
 -- within the limits no field stands exactly where there are fewer bits than it has
-abbrev pub NoneStandsOnFewBits : Type 0
-NoneStandsOnFewBits = (spec : Spec) (front : List Bool) → IsWithinLimits spec
-    → length front < spec.width → NoneStands spec front
+abbrev pub NoneOnFewBits : Type 0
+NoneOnFewBits = (spec : Spec) (front : List Bool) → IsWithinLimits spec
+    → length front < spec.width → BeginsWithNone spec front
 
 -- and where none stands there are fewer bits
-abbrev pub FewBitsWhereNoneStands : Type 0
-FewBitsWhereNoneStands = (spec : Spec) (front : List Bool) → IsWithinLimits spec
-    → NoneStands spec front → length front < spec.width
+abbrev pub FewBitsWhereNone : Type 0
+FewBitsWhereNone = (spec : Spec) (front : List Bool) → IsWithinLimits spec
+    → BeginsWithNone spec front → length front < spec.width
 
 -- the fault that reading answers is that of the first field that cannot stand
 abbrev pub ReadRefusedIsFirst : Type 0

@@ -5,7 +5,7 @@ use Rattle.std.specs.Prelude.{length, Option, Some, None, option_map, Result, Ok
 use Rattle.std.specs.Prelude.{nat_le, if◌then◌else◌}
 use Rattle.std.specs.List.{flat_map, list_all}
 use Rattle.bufr_bits.specs.Bits.{bin, bits, number_at, octets_at}
-use Rattle.bufr_tables.specs.Answers.{◌>>=◌}
+use Rattle.bufr_answers.specs.Answers.{◌>>=◌}
 use Rattle.bufr_tables.specs.declared.element.Kind.{Kind}
 use Rattle.bufr_tables.specs.declared.element.Kind.TheVariants as kinds
 use Rattle.bufr_tables.specs.Elements.{same_kind, same_integer}
@@ -22,6 +22,11 @@ use Rattle.bufr_data.specs.declared.fault.ReadFault.TheVariants as faults
 use Rattle.bufr_data.specs.declared.fault.WriteFault.{WriteFault}
 use Rattle.bufr_data.specs.declared.fault.WriteFault.TheVariants as misfits
 use Rattle.bufr_data.specs.Limits.{most_raw_bits}
+pub mod Alike
+pub mod Numbered
+pub mod Reads
+pub mod Refusals
+pub mod Starts
 
 -- ---- bits of fields
 
@@ -122,8 +127,8 @@ has_form_by kind width (Number n) = nat_le width most_raw_bits && nat_lt n (2 ^ 
 has_form_by kind width (Text octets) = false
 
 -- a field is what a course asks for: this descriptor, this spec, and a raw value of its form
-abbrev pub stands_for : ℕ → Spec → Field → Bool
-stands_for d spec f = f.fxy == d && same_spec f.spec spec && has_form_by spec.kind spec.width f.raw
+abbrev pub matches_spec : ℕ → Spec → Field → Bool
+matches_spec d spec f = f.fxy == d && same_spec f.spec spec && has_form_by spec.kind spec.width f.raw
 
 -- the fault of subsets at which the walk stops
 abbrev pub misfit : ℕ → ℕ → WalkFault → WriteFault
@@ -138,7 +143,7 @@ items_of j i (ends n) (f ∷ fs) = Err (misfits.DoesNotFit j i)
 items_of j i (stops met fault) fs = Err (misfit j i fault)
 items_of j i (asks met d spec more) [] = Err (misfits.DoesNotFit j i)
 items_of j i (asks met d spec more) (f ∷ fs) =
-    if stands_for d spec f then items_of j (i + 1) (more (number_of f.raw)) fs
+    if matches_spec d spec f then items_of j (i + 1) (more (number_of f.raw)) fs
     else Err (misfits.DoesNotFit j i)
 
 -- the same of subsets from subset j on, plain: the items are counted through all of them

@@ -16,7 +16,7 @@ use Rattle.bufr_data.specs.Values.{is_missing, value, text_of}
 use Rattle.bufr_data.specs.declared.field.Subset.{Subset}
 use Rattle.bufr_data.specs.Data.{subsets_in, written_bits}
 use Rattle.bufr_bits.specs.Bits.{bits}
-use Rattle.bufr_tables.specs.Answers.{result_map}
+use Rattle.bufr_answers.specs.Answers.{result_map}
 use Rattle.bufr_tables.specs.declared.element.Kind.{Kind}
 use Rattle.bufr_tables.specs.declared.element.Kind.TheVariants as kinds
 use Rattle.bufr_expand.specs.declared.operators.Spec.{Spec}

@@ -1,11 +1,11 @@
 -- The subsets of an index, plain or compressed.
 use Rattle.std.specs.Prelude.{List}
 use Rattle.bufr_data.specs.declared.field.Subset.{Subset}
-use Rattle.bufr_data.specs.declared.subset_index.Standing.{Standing}
-use Rattle.bufr_data.specs.declared.subset_index.Standing.TheVariants.{Plain, Compressed}
-use Rattle.bufr_data.specs.Columns.{subsets_from}
+use Rattle.bufr_data.specs.declared.subset_index.DataIndex.{DataIndex}
+use Rattle.bufr_data.specs.declared.subset_index.DataIndex.TheVariants.{Plain, Compressed}
+use Rattle.bufr_data.specs.Compressed.{subsets_from}
 
 -- the subsets that an index shows: plain ones as they stand, compressed ones of its columns
-abbrev pub shown : Standing → List Subset
+abbrev pub shown : DataIndex → List Subset
 shown (Plain subsets) = subsets
 shown (Compressed c) = subsets_from 0 c.subsets c.columns

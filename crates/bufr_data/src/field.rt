@@ -2,8 +2,9 @@
 
 use crate::form::{are_ones, is_below, is_greatest, is_octets, is_same};
 use crate::limits::MOST_DECIMAL_SCALE;
+use bufr_answers::Items;
 use bufr_expand::Spec;
-use bufr_tables::{Fxy, Items, Kind};
+use bufr_tables::{Fxy, Kind};
 
 /// What stands in the data for a field.
 #[derive(Debug, Drop, PartialEq)]
@@ -65,12 +66,12 @@ pub struct Field {
 
 impl Field {
     ghost use Rattle.std.specs.Prelude.{◌≡◌};
-    ghost use Rattle.bufr_data.specs.Plain.{stands_for};
+    ghost use Rattle.bufr_data.specs.Plain.{matches_spec};
     ghost use Rattle.bufr_data.specs.Values.{is_missing, value};
 
     /// Whether it has this descriptor and this spec, and a raw value of its form.
-    pub(crate) fn stands_for(&self, fxy: Fxy, spec: Spec) -> bool
-        ensures { result ≡ stands_for fxy spec self.now }
+    pub(crate) fn matches_spec(&self, fxy: Fxy, spec: Spec) -> bool
+        ensures { result ≡ matches_spec fxy spec self.now }
     {
         self.fxy == fxy && is_same(self.spec, spec) && self.raw.has_form(spec.kind, spec.width)
     }

@@ -1,19 +1,20 @@
 //! Fields that fit a template, or their first misfit.
 
 ghost use Rattle.std.specs.Prelude.{◌≡◌, ◌+◌, ◌∷◌, [], List, OnOk, IfErr};
-ghost use Rattle.bufr_tables.specs.Answers.{Gives, Fails};
+ghost use Rattle.bufr_answers.specs.Answers.{Gives, Fails};
 ghost use Rattle.bufr_expand.specs.Courses.{course};
 ghost use Rattle.bufr_expand.specs.Walks as walks;
 ghost use Rattle.bufr_data.specs.declared.field.Field.{Field};
 ghost use Rattle.bufr_data.specs.Plain as plain;
-ghost use Rattle.bufr_data.specs.Plain.{items_of, stands_for};
+ghost use Rattle.bufr_data.specs.Plain.{items_of, matches_spec};
 ghost use Rattle.bufr_data.specs.Steady.{IsReady, WalkAdvances};
 ghost use Rattle.bufr_data.specs.Subsets.{fits_or};
 
 use crate::fault::WriteFault;
 use crate::field::Field;
+use bufr_answers::Failure;
 use bufr_expand::{Spec, Step, Template, Walk, WalkFault};
-use bufr_tables::{Failure, Fxy};
+use bufr_tables::Fxy;
 use std::alloc::Global;
 
 /// How many items the message has met after subset `j`, which begins with no operator in force,
@@ -91,9 +92,9 @@ fn misfit(fault: WalkFault, j: u64, i: u64) -> WriteFault
 /// Nothing, where field `i` of subset `j` has this descriptor and this spec and a raw value of its
 /// form.
 fn asked(field: &Field, fxy: Fxy, spec: Spec, j: u64, i: u64) -> Result<(), Failure<WriteFault>>
-    ensures { Gives (λ u. u) result (fits_or j i (stands_for fxy spec field.now)) }
+    ensures { Gives (λ u. u) result (fits_or j i (matches_spec fxy spec field.now)) }
 {
-    if field.stands_for(fxy, spec) {
+    if field.matches_spec(fxy, spec) {
         Ok(())
     } else {
         Err(Failure::Fault(WriteFault::DoesNotFit(j, i)))

@@ -1,10 +1,10 @@
 //! Laws of data, for any template, and of the texts of decimals.
 
-ghost use Rattle.bufr_data.specs.Laws.{ReadStand, StandingAreRead, CountedFit, FittingAreCounted};
+ghost use Rattle.bufr_data.specs.Laws.{ReadAreHeld, HeldAreRead, CountedFit, FittingAreCounted};
 ghost use Rattle.bufr_data.specs.Laws.{AllCountedFit, AllFittingAreCounted};
-ghost use Rattle.bufr_data.specs.Laws.{SubsetReadStands, SubsetStandingIsRead, SubsetsReadStand};
-ghost use Rattle.bufr_data.specs.Laws.{SubsetsStandingAreRead, WrittenFit, FittingAreWritten};
-ghost use Rattle.bufr_data.specs.Laws.{NoneStandsOnFewBits, FewBitsWhereNoneStands};
+ghost use Rattle.bufr_data.specs.Laws.{SubsetReadIsHeld, SubsetHeldIsRead, SubsetsReadAreHeld};
+ghost use Rattle.bufr_data.specs.Laws.{SubsetsHeldAreRead, WrittenFit, FittingAreWritten};
+ghost use Rattle.bufr_data.specs.Laws.{NoneOnFewBits, FewBitsWhereNone};
 ghost use Rattle.bufr_data.specs.Laws.{ReadRefusedIsFirst, FirstReadIsRefused};
 ghost use Rattle.bufr_data.specs.Laws.{SubsetsReadRefusedIsFirst, FirstSubsetsReadIsRefused};
 ghost use Rattle.bufr_data.specs.Laws.{WriteRefusedIsFirst, FirstWriteIsRefused};
@@ -15,9 +15,9 @@ ghost use Rattle.bufr_data.specs.Data.{ReadsExactly, RefusesExactly, WritesExact
 ghost use Rattle.bufr_data.specs.Data.{BareDataAreData, PlainDataAreBare, PackedDataCanBeBare};
 ghost use Rattle.bufr_data.specs.Data.{NarrowDataCanBePacked};
 ghost use Rattle.bufr_data.specs.DecimalTexts.{UnitsOfTexts};
-ghost use Rattle.bufr_data.specs.Columns.{Column};
-ghost use Rattle.bufr_data.specs.ColumnLaws.{ColumnReadStands, StandingColumnIsRead, BestIsColumn};
-ghost use Rattle.bufr_data.specs.ColumnLaws.{BestIsShortest};
+ghost use Rattle.bufr_data.specs.Compressed.{Column};
+ghost use Rattle.bufr_data.specs.Compressed.Laws.{ColumnReadIsHeld, HeldColumnIsRead, BestIsColumn};
+ghost use Rattle.bufr_data.specs.Compressed.Laws.{BestIsShortest};
 ghost use Rattle.bufr_data.specs.declared.field.Subset.{Subset};
 ghost use Rattle.bufr_data.specs.declared.fault.ReadFault.{ReadFault};
 ghost use Rattle.bufr_data.specs.declared.fault.WriteFault.{WriteFault};
@@ -27,8 +27,8 @@ use bufr_expand::laws::{courses_are_unrollings, courses_begin_unrollings};
 /// Reading plain data answers subsets exactly where they fit the template and their bits stand at
 /// the front, item counts and rest included.
 pub fn plain_data_spell_subsets()
-    ensures read_stand { ReadStand }
-    ensures standing_are_read { StandingAreRead }
+    ensures read_stand { ReadAreHeld }
+    ensures standing_are_read { HeldAreRead }
 {}
 
 /// The subsets that are counted are those that fit the template: their fields are what its tree
@@ -46,10 +46,10 @@ pub fn counted_subsets_fit()
 /// Reading plain data answers exactly the subsets that fit the template and stand at the front of
 /// the bits, and writing them answers bits exactly where the subsets fit, and then theirs.
 pub fn fitting_subsets_are_read_and_written()
-    ensures subset_stands { SubsetReadStands }
-    ensures subset_is_read { SubsetStandingIsRead }
-    ensures subsets_stand { SubsetsReadStand }
-    ensures subsets_are_read { SubsetsStandingAreRead }
+    ensures subset_stands { SubsetReadIsHeld }
+    ensures subset_is_read { SubsetHeldIsRead }
+    ensures subsets_stand { SubsetsReadAreHeld }
+    ensures subsets_are_read { SubsetsHeldAreRead }
     ensures written_fit { WrittenFit }
     ensures fitting_are_written { FittingAreWritten }
 {
@@ -65,8 +65,8 @@ pub fn read_refusals_follow_the_tree()
     ensures cannot_stand { FirstReadIsRefused }
     ensures subsets_refused { SubsetsReadRefusedIsFirst }
     ensures subsets_cannot_stand { FirstSubsetsReadIsRefused }
-    ensures few_bits { NoneStandsOnFewBits }
-    ensures none_stands { FewBitsWhereNoneStands }
+    ensures few_bits { NoneOnFewBits }
+    ensures none_stands { FewBitsWhereNone }
 {
     courses_are_unrollings();
     courses_begin_unrollings();
@@ -90,8 +90,8 @@ pub fn write_refusals_follow_the_tree()
 /// bits. The column that is written is one wherever it can be; and wherever numbers stand in a
 /// column, no column of them is shorter.
 pub fn columns_hold_values()
-    ensures stand { ColumnReadStands }
-    ensures is_read { StandingColumnIsRead }
+    ensures stand { ColumnReadIsHeld }
+    ensures is_read { HeldColumnIsRead }
     ensures best { BestIsColumn }
     ensures shortest { BestIsShortest }
 {}

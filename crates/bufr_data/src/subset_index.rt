@@ -3,24 +3,24 @@
 ghost use Rattle.std.specs.Prelude.{◌≡◌, ◌-◌, ◌≤◌, length, slice_get, Bool, List, Some, IfOk};
 ghost use Rattle.std.specs.Prelude.{OnErr};
 ghost use Rattle.bufr_bits.specs.Ends.{left};
-ghost use Rattle.bufr_tables.specs.Answers.{Gives};
+ghost use Rattle.bufr_answers.specs.Answers.{Gives};
 ghost use Rattle.bufr_data.specs.declared.field.Subset.{Subset};
 ghost use Rattle.bufr_data.specs.Data.{subsets_in};
 ghost use Rattle.bufr_data.specs.Shown.{shown};
 
-use crate::columns::Columns;
+use crate::compressed::index::Columns;
 use crate::fault::ReadFault;
 use crate::field::Subset;
-use crate::plain_index::PlainSubsets;
-use bufr_bits::{BitReader, OutOfMemory};
+use crate::plain::index::PlainSubsets;
+use bufr_answers::{Failure, OutOfMemory};
+use bufr_bits::BitReader;
 use bufr_expand::Template;
-use bufr_tables::Failure;
 use std::alloc::Global;
 use std::marker::Model;
 
 /// Where the subsets stand, plain or compressed.
 #[derive(Debug, Drop)]
-pub(crate) enum Standing<'a> {
+pub(crate) enum DataIndex<'a> {
     Plain(PlainSubsets<'a>),
     Compressed(Columns<'a>),
 }
@@ -29,7 +29,7 @@ pub(crate) enum Standing<'a> {
 /// borrows the octets. Contracts see the list of the subsets.
 #[derive(Debug, Drop)]
 pub struct SubsetIndex<'a> {
-    standing: Standing<'a>,
+    standing: DataIndex<'a>,
 }
 
 impl<'a> Model for SubsetIndex<'a> {
@@ -73,8 +73,8 @@ impl<'a> SubsetIndex<'a> {
         ensures { result ≡ length self.now }
     {
         match &self.standing {
-            Standing::Plain(subsets) => subsets.count(),
-            Standing::Compressed(columns) => usize::from(columns.count()),
+            DataIndex::Plain(subsets) => subsets.count(),
+            DataIndex::Compressed(columns) => usize::from(columns.count()),
         }
     }
 
@@ -86,8 +86,8 @@ impl<'a> SubsetIndex<'a> {
         ensures { IfOk result (λ s. slice_get self.now (number - 1) ≡ Some s) }
     {
         match &self.standing {
-            Standing::Plain(subsets) => subsets.subset(alloc, number),
-            Standing::Compressed(columns) => {
+            DataIndex::Plain(subsets) => subsets.subset(alloc, number),
+            DataIndex::Compressed(columns) => {
                 let _count = columns.count();
                 columns.subset(alloc, number as u16)
             }
@@ -110,9 +110,9 @@ fn index_of<'a>(
     ensures onward { reader.old.place ≤ reader.new.place }
 {
     let standing = if compressed {
-        Standing::Compressed(Columns::index(alloc, &template, reader, count)?)
+        DataIndex::Compressed(Columns::index(alloc, &template, reader, count)?)
     } else {
-        Standing::Plain(PlainSubsets::index(alloc, template, reader, count)?)
+        DataIndex::Plain(PlainSubsets::index(alloc, template, reader, count)?)
     };
     Ok(SubsetIndex { standing })
 }

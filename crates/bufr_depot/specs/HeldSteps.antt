@@ -7,7 +7,7 @@ use Rattle.bufr_frame.specs.declared.frames.Found.{Found}
 use Rattle.bufr_frame.specs.Framings.{Framing}
 use Rattle.bufr_frame.specs.Looks.{new_framing}
 use Rattle.bufr_frame.specs.Streams.{sure, cut, Stands}
-use Rattle.bufr_frame.specs.Takings.{StandsWithAll}
+use Rattle.bufr_frame.specs.NextFrames.{StandsWithAll}
 use Rattle.bufr_message.specs.declared.report.Report.{Report}
 use Rattle.bufr_archive.specs.Archives.{ArchiveView, taken_in, merged, entries_of, count_changes}
 use Rattle.bufr_archive.specs.Archives.{AddsFirst, IsKept}

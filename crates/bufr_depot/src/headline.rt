@@ -5,7 +5,8 @@ ghost use Rattle.bufr_depot.specs.Headline.{run_of, WasRun, RunsConverge};
 use crate::depot::Depot;
 use crate::laws::headline;
 use crate::steps::{Answer, Step, StepFault};
-use bufr_archive::{OutOfMemory, Shelf};
+use bufr_answers::OutOfMemory;
+use bufr_archive::Shelf;
 use bufr_tables::Tables;
 use std::alloc::Global;
 

@@ -10,12 +10,12 @@
 
 mod counts;
 mod depot;
-mod examples;
 mod headline;
 mod intakes;
 mod joins;
 pub mod laws;
 pub mod steps;
+mod worked_values;
 
 pub use depot::Depot;
 pub use headline::{Plan, Ran, run_both};

@@ -1,12 +1,12 @@
 //! What is done to a depot, and what is answered.
-use bufr_archive::Octets;
+use bufr_answers::Items;
 use thiserror::Error;
 
 /// A step. Slots are counted from 0.
 #[derive(Debug, Drop)]
 pub enum Step {
     /// The stream of a slot goes on by a piece.
-    Feed { slot: usize, piece: Octets },
+    Feed { slot: usize, piece: Items<u8> },
     /// The stream of a slot ends, and a new one begins.
     End { slot: usize },
     /// A slot takes in all that another holds.

@@ -1,6 +1,7 @@
 //! Depots over both shelves. Octets and answers are typed from the rules of the format and of
 //! depots.
-use bufr_archive::{MapShelf, Octets, Shelf, SortedShelf};
+use bufr_answers::Items;
+use bufr_archive::{MapShelf, Shelf, SortedShelf};
 use bufr_bits::device::IntoWrite;
 use bufr_depot::*;
 use bufr_tables::{TableB, TableD, Tables};
@@ -94,7 +95,7 @@ fn depot_of<'t, S: Shelf>(
 
 // A piece for a slot.
 fn feed(rt: &impl Abort, alloc: Global, slot: usize, octets: &[u8]) -> Step {
-    let piece = Octets::new(Vec::from_slice(alloc, octets).expect(rt, "room"));
+    let piece = Items::from_vec(Vec::from_slice(alloc, octets).expect(rt, "room"));
     Step::Feed { slot, piece }
 }
 

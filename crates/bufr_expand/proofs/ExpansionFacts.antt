@@ -5,9 +5,9 @@ use Rattle.std.proofs.Common.{set, Ok, Err, refl, sym, ap, ◌∙◌, arith, app
 use Rattle.std.proofs.Common.{length-append, Bool, true, false, cond, ltb, ◌⊎◌, inl, inr}
 use Rattle.std.proofs.lemmas.List.{append-nil}
 use Rattle.std.proofs.Math.Seq.{set-append_seam}
-use Rattle.bufr_tables.specs.Answers.{Fails, ◌>>=◌}
-use Rattle.bufr_tables.specs.declared.failure.Failure.{Failure}
-use Rattle.bufr_tables.specs.declared.failure.Failure.TheVariants.{Fault, OutOfMemory}
+use Rattle.bufr_answers.specs.Answers.{Fails, ◌>>=◌}
+use Rattle.bufr_answers.specs.declared.failure.Failure.{Failure}
+use Rattle.bufr_answers.specs.declared.failure.Failure.TheVariants.{Fault, OutOfMemory}
 use Rattle.bufr_tables.specs.Entries.{Entries}
 use Rattle.bufr_expand.specs.Limits.{most_nodes}
 use Rattle.bufr_expand.specs.declared.node.Node.{Node}

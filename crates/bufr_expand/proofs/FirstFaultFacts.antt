@@ -5,10 +5,10 @@ use Rattle.std.proofs.Common.{ltb, List, [], ◌∷◌, ◌++◌, length, take, 
 use Rattle.std.proofs.Common.{refl, sym, ap, subst, ◌∙◌, arith, add-one}
 use Rattle.std.proofs.lemmas.Bool.{ltb-true, ltb-false, le-ltb, cond-false}
 use Rattle.std.proofs.lemmas.List.{take-append-drop, length-take-le}
-use Rattle.bufr_tables.specs.Answers.{◌>>=◌}
+use Rattle.bufr_answers.specs.Answers.{◌>>=◌}
 use Rattle.bufr_tables.specs.Descriptors.{x_of, y_of}
 use Rattle.bufr_tables.specs.Entries.{Entries}
-use Rattle.bufr_tables.specs.AnswerLaws.{bind_err}
+use Rattle.bufr_answers.specs.AnswerLaws.{bind_err}
 use Rattle.bufr_expand.specs.Limits.{most_nodes}
 use Rattle.bufr_expand.specs.declared.node.Node.{Node}
 use Rattle.bufr_expand.specs.declared.node.Node.TheVariants as nodes

@@ -6,11 +6,11 @@ use Rattle.std.proofs.Common.{ap, subst, ◌∙◌, arith, add-one, append_assoc
 use Rattle.std.proofs.lemmas.Bool.{ltb-true, lt-ltb, cond-true}
 use Rattle.std.proofs.lemmas.List.{take-append-drop, length-take-le, drop_at, take_at}
 use Rattle.std.proofs.lemmas.List.{drop_all}
-use Rattle.bufr_tables.specs.Answers.{◌>>=◌}
+use Rattle.bufr_answers.specs.Answers.{◌>>=◌}
 use Rattle.bufr_tables.specs.Descriptors.{f_of, x_of, y_of}
 use Rattle.bufr_tables.specs.declared.element.Element.{Element}
 use Rattle.bufr_tables.specs.Entries.{Entries, element, sequence}
-use Rattle.bufr_tables.specs.AnswerLaws.{bind_ok}
+use Rattle.bufr_answers.specs.AnswerLaws.{bind_ok}
 use Rattle.bufr_expand.specs.Limits.{most_nodes}
 use Rattle.bufr_expand.specs.declared.node.Node.{Node}
 use Rattle.bufr_expand.specs.declared.node.Node.TheVariants as nodes

@@ -3,7 +3,7 @@
 use Rattle.std.specs.Prelude.{ℕ, zero, suc, ◌+◌, ◌*◌, ◌==◌, ◌&&◌, ◌||◌, not, Bool, List, [], ◌∷◌}
 use Rattle.std.specs.Prelude.{◌++◌, length, take, Option, Some, None, Result, Ok, Err, pos, nat_lt}
 use Rattle.std.specs.Prelude.{nat_le, if◌then◌else◌}
-use Rattle.bufr_tables.specs.Answers.{◌>>=◌, result_map}
+use Rattle.bufr_answers.specs.Answers.{◌>>=◌, result_map}
 use Rattle.bufr_tables.specs.declared.element.Element.{Element}
 use Rattle.bufr_tables.specs.declared.element.Kind.TheVariants as kinds
 use Rattle.bufr_tables.specs.Descriptors.{f_of, x_of, y_of, descriptor}
@@ -99,14 +99,14 @@ abbrev pub text_of_characters : ℕ → Element
 text_of_characters y = record { kind = kinds.Text; scale = pos 0; reference = pos 0; width = 8 * y }
 
 -- a number of so many bits that no table describes
-abbrev pub plain_number : ℕ → Element
-plain_number y = record { kind = kinds.Quantity; scale = pos 0; reference = pos 0; width = y }
+abbrev pub local_number : ℕ → Element
+local_number y = record { kind = kinds.Quantity; scale = pos 0; reference = pos 0; width = y }
 
 -- 206 YYY before an element without a row of YYY bits: a number of at most 63 bits
 abbrev pub number_found : ℕ → ℕ → Finding
 number_found d local =
     if nat_lt most_number_bits (y_of d) then Err (BadOperand d)
-    else found (single (nodes.Untouched local (plain_number (y_of d)))) 1
+    else found (single (nodes.Untouched local (local_number (y_of d)))) 1
 
 -- the element behind 206 YYY is read by its row where that has the width YYY, else as a plain
 -- number (Table C, 206)

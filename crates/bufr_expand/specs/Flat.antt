@@ -9,7 +9,7 @@ use Rattle.bufr_tables.specs.Descriptors.{f_of, x_of, y_of, descriptor}
 use Rattle.bufr_tables.specs.Entries.{Entries, element, sequence}
 use Rattle.bufr_expand.specs.Limits.{most_nodes, most_levels, most_number_bits, most_factor_bits}
 use Rattle.bufr_expand.specs.declared.node.Node.{Node}
-use Rattle.bufr_expand.specs.Expansion.{text_of_characters, plain_number, expand_within, expansion}
+use Rattle.bufr_expand.specs.Expansion.{text_of_characters, local_number, expand_within, expansion}
 use Rattle.bufr_expand.specs.Trees as trees
 use Rattle.bufr_expand.specs.Trees.{Tree, nodes_of, tree_of}
 
@@ -46,7 +46,7 @@ pub data ReadAt : Entries → ℕ → ℕ → Element → Type 0 where
       → row.width ≡ y → ReadAt tables fxy y row
   as_number : {tables : Entries} {fxy y : ℕ}
       → ((row : Element) → element tables fxy ≡ Some row → row.width ≢ y) → y ≤ most_number_bits
-      → ReadAt tables fxy y (plain_number y)
+      → ReadAt tables fxy y (local_number y)
 
 -- a list has a tree, where so many sequences and so many replications may still stand in each other
 pub data Flat : (tables : Entries) (sequences replications : ℕ) (list : List ℕ) (tree : Tree)

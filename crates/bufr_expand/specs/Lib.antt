@@ -2,7 +2,7 @@ pub mod StepAnswers
 pub mod NextFields
 pub mod Courses
 pub mod Effects
-pub mod ExampleTables
+pub mod WorkedTables
 pub mod Expansion
 pub mod FirstFaults
 pub mod Flat

@@ -1,7 +1,7 @@
 //! The nodes of a list of descriptors.
 
 ghost use Rattle.std.specs.Prelude.{◌≡◌, ◌+◌, ◌-◌, ◌<◌, suc, length, slice_set};
-ghost use Rattle.bufr_tables.specs.Answers.{Gives};
+ghost use Rattle.bufr_answers.specs.Answers.{Gives};
 ghost use Rattle.bufr_expand.specs.Expansion.{onto, expand_within, part_nodes, replication_nodes};
 ghost use Rattle.bufr_expand.specs.Expansion.{single_nodes, replication_node};
 ghost use Rattle.bufr_expand.specs.Parts.{seen_part};
@@ -9,7 +9,8 @@ ghost use Rattle.bufr_expand.specs.Parts.{seen_part};
 use crate::limits::MOST_NODES;
 use crate::node::{Node, Repetitions, TemplateFault};
 use crate::part::{Part, found_at};
-use bufr_tables::{Failure, Fxy, Tables};
+use bufr_answers::Failure;
+use bufr_tables::{Fxy, Tables};
 
 /// Adds the nodes of a list of descriptors, or tells its first fault, X1 to X9. So many sequences
 /// and replications may still stand in each other.

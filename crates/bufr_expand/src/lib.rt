@@ -1,7 +1,6 @@
 //! Templates: descriptors expanded by the tables, and the fields that they ask for.
 #![tactic(auto)]
 
-mod examples;
 mod expand;
 pub mod laws;
 mod limits;
@@ -13,6 +12,7 @@ mod template;
 #[cfg(test)]
 mod tests;
 mod walk;
+mod worked_values;
 
 pub use limits::{
     MOST_FACTOR_BITS, MOST_ITEMS, MOST_LEVELS, MOST_NODES, MOST_NUMBER_BITS, MOST_REFERENCE,
@@ -20,6 +20,5 @@ pub use limits::{
 };
 pub use node::{Node, TemplateFault};
 pub use operators::{EffectiveRange, Operators, Spec};
-pub use std::alloc::AllocError as OutOfMemory;
 pub use template::Template;
 pub use walk::{Step, Walk, WalkFault};

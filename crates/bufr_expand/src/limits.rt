@@ -1,5 +1,5 @@
 //! The limits of templates, fields and messages. The definitions cite them by these names
-//! (`specs/Limits.antt`), and `examples` pins each number.
+//! (`specs/Limits.antt`), and `worked_values` pins each number.
 
 /// A message has at most so many items: a node that is met is one, and so is a turn that is begun.
 pub const MOST_ITEMS: u64 = 16_777_216;

@@ -1,14 +1,14 @@
 //! What one descriptor of a list stands for.
 
 ghost use Rattle.std.specs.Prelude.{◌≡◌, ◌≤◌, length, IfOk, IfSome, option_map, option_copied};
-ghost use Rattle.bufr_tables.specs.Answers.{result_map};
+ghost use Rattle.bufr_answers.specs.Answers.{result_map};
 ghost use Rattle.bufr_tables.specs.Descriptors.{f_of};
 ghost use Rattle.bufr_tables.specs.Entries.{element, sequence};
 ghost use Rattle.bufr_expand.specs.Expansion.{found_at, element_found, sequence_found};
 ghost use Rattle.bufr_expand.specs.Expansion.{replication_found, repeated_found, delayed_found};
 ghost use Rattle.bufr_expand.specs.Expansion.{factor_row, is_factor_row, operator_found};
 ghost use Rattle.bufr_expand.specs.Expansion.{width_found, local_found, number_found};
-ghost use Rattle.bufr_expand.specs.Expansion.{text_of_characters, plain_number};
+ghost use Rattle.bufr_expand.specs.Expansion.{text_of_characters, local_number};
 ghost use Rattle.bufr_expand.specs.Expansion as expansion;
 ghost use Rattle.bufr_expand.specs.Parts.{seen};
 
@@ -211,8 +211,8 @@ fn text_of_characters(count: u8) -> Element
 }
 
 /// A number of so many bits that no table describes.
-fn plain_number(width: u8) -> Element
-    ensures { result ≡ plain_number width }
+fn local_number(width: u8) -> Element
+    ensures { result ≡ local_number width }
 {
     Element {
         kind: Kind::Quantity,
@@ -249,6 +249,6 @@ fn local_found<'a>(tables: &Tables, first: Fxy, local: Fxy) -> Result<FirstPart<
             Ok(single(Node::Untouched(local, *element), 1))
         }
         _ if u32::from(first.y()) > MOST_NUMBER_BITS => Err(TemplateFault::BadOperand(first)),
-        _ => Ok(single(Node::Untouched(local, plain_number(first.y())), 1)),
+        _ => Ok(single(Node::Untouched(local, local_number(first.y())), 1)),
     }
 }

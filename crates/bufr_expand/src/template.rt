@@ -1,14 +1,15 @@
 //! Templates.
 
 ghost use Rattle.std.specs.Prelude.{◌≡◌, length};
-ghost use Rattle.bufr_tables.specs.Answers.{Gives};
+ghost use Rattle.bufr_answers.specs.Answers.{Gives};
 ghost use Rattle.bufr_expand.specs.Templates.{template};
 ghost use Rattle.bufr_expand.specs.Trees.{nodes_of};
 
 use crate::expand::expand;
 use crate::limits::MOST_LEVELS;
 use crate::node::{Node, TemplateFault};
-use bufr_tables::{Failure, Fxy, Tables};
+use bufr_answers::Failure;
+use bufr_tables::{Fxy, Tables};
 use std::alloc::Global;
 use std::marker::Model;
 

@@ -7,8 +7,9 @@ ghost use Rattle.bufr_expand.specs.StepAnswers.{asked_width};
 use crate::node::Node;
 use crate::operators::{EffectiveRange, Operators, Spec};
 use crate::walk::{Step, Walk, WalkFault};
+use bufr_answers::OutOfMemory;
 use bufr_tables::{Element, Fxy, Kind};
-use std::alloc::{AllocError, Global};
+use std::alloc::Global;
 use std::fmt::Debug;
 use std::process::Abort;
 use std::test::Fail;
@@ -298,13 +299,13 @@ struct Walked {
 }
 
 /// Walks over nodes, after so many items, each count having this number.
-fn walk_over(alloc: Global, nodes: &[Node], used: u64, told: u64) -> Result<Walked, AllocError> {
+fn walk_over(alloc: Global, nodes: &[Node], used: u64, told: u64) -> Result<Walked, OutOfMemory> {
     let mut walk = Walk::over(alloc, nodes, used)?;
     finish_walk(alloc, &mut walk, told)
 }
 
 /// How a walk goes on, each count having this number.
-fn finish_walk(alloc: Global, walk: &mut Walk<'_>, told: u64) -> Result<Walked, AllocError>
+fn finish_walk(alloc: Global, walk: &mut Walk<'_>, told: u64) -> Result<Walked, OutOfMemory>
     requires { waits walk.old ≡ false }
 {
     let mut widths = Vec::new(alloc);
@@ -417,14 +418,14 @@ fn assert_prints(
     alloc: Global,
     fault: WalkFault,
     wanted: &str,
-) -> Result<(), AllocError> {
+) -> Result<(), OutOfMemory> {
     let text = format!(in alloc; "{fault}")?;
     same(rt, text.as_str(), wanted);
     Ok(())
 }
 
 /// The greatest number of items is reached, and then no further one is taken.
-fn assert_refused_items(rt: &impl Abort, alloc: Global) -> Result<(), AllocError> {
+fn assert_refused_items(rt: &impl Abort, alloc: Global) -> Result<(), OutOfMemory> {
     let fits = walk_over(alloc, &[field(rt)], 16_777_215, 0)?;
     same(rt, fits.last, Ok(Step::End));
     same(rt, fits.items, 16_777_216);

@@ -7,12 +7,12 @@ ghost use Rattle.bufr_expand.specs.Places.{AreOpen, AreOpen-prop, in_front, repl
 ghost use Rattle.bufr_expand.specs.Places.{awaited};
 ghost use Rattle.bufr_expand.specs.OperatorsInForce.{factor_spec};
 
-use crate::OutOfMemory;
 use crate::limits::MOST_ITEMS;
 use crate::node::Node;
 use crate::operators::{Operators, Spec, untouched};
 use crate::standing::{Asked, Open, State};
 use crate::template::Template;
+use bufr_answers::OutOfMemory;
 use bufr_tables::{Element, Fxy, Kind};
 use std::alloc::Global;
 use thiserror::Error;

@@ -13,14 +13,14 @@ use Rattle.std.proofs.Math.Seq.{take-add}
 use Rattle.bufr_frame.specs.declared.places.TheConstants.{LONGEST}
 use Rattle.bufr_frame.specs.declared.frames.Found.{Found}
 use Rattle.bufr_frame.specs.declared.places.Start.TheVariants.{Frame, Open, Other}
-use Rattle.bufr_frame.specs.declared.takes.Reached.{Reached}
-use Rattle.bufr_frame.specs.declared.takes.Stop.TheVariants.{Held, Piece, Nowhere}
+use Rattle.bufr_frame.specs.declared.reaching.Reached.{Reached}
+use Rattle.bufr_frame.specs.declared.reaching.Stop.TheVariants.{Held, Piece, Nowhere}
 use Rattle.bufr_frame.specs.Starts.{agrees, announced, bufr, start_of}
 use Rattle.bufr_frame.specs.Framings.{Framing}
 use Rattle.bufr_frame.specs.Streams.{frames_from, rest_from, sure, Stands}
-use Rattle.bufr_frame.specs.Takings.{taken_in, IsNextFrame, IsNoFrame, StandsAfter}
+use Rattle.bufr_frame.specs.NextFrames.{taken_in, IsNextFrame, IsNoFrame, StandsAfter}
 use Rattle.bufr_frame.specs.Reaches.{Extends, IsPassedTo, Reaches, StandsInPiece, StopsAt}
-use Rattle.bufr_frame.specs.Reaches.{StopsNowhere, Takes, TakesFrame, TakesMore, TakesNone}
+use Rattle.bufr_frame.specs.Reaches.{StopsNowhere, HandsOver, HandsOverFrame, KeepsPart, HandsOverNone}
 use Rattle.bufr_frame.specs.Reaches.{TakesOneOrNone}
 use Rattle.bufr_frame.specs.StreamLaws.{Frame-append, Other-append, announced-append, begins_from}
 use Rattle.bufr_frame.specs.StreamLaws.{rest_none, rest_from-length, place_of, Stands-sure}
@@ -168,7 +168,7 @@ passed_rest out all held p =
 
 -- where what is held is open, there is no frame
 pub takes_none : (place : ℕ) (all held : List ℕ) → IsPassedTo all held → start_of held ≡ Open
-    → TakesNone place all held
+    → HandsOverNone place all held
 takes_none place all held p h = record {
   none = passed_frames place all held p ∙ open_frames (place + (length all - length held)) held h;
   held_is = sym (passed_rest 0 all held p ∙ open_rest held h);
@@ -178,7 +178,7 @@ takes_none place all held p h = record {
 pub takes_held : (place l : ℕ) (all held left : List ℕ) (frame : Found) → IsPassedTo all held
     → start_of held ≡ Frame l → left ≡ rest_from 0 0 (drop l held)
     → frame ≡ record { place = place + (length all - length held); bytes = take l held }
-    → TakesFrame place all left frame
+    → HandsOverFrame place all left frame
 takes_held place l all held left frame p h rest is =
     let fs =
     passed_frames place all held p
@@ -228,7 +228,7 @@ frame_front octets l h =
 pub takes_piece : (place skip l : ℕ) (all held rest : List ℕ) (frame : Found) → IsPassedTo all held
     → StandsInPiece held rest skip l
     → frame ≡ record { place = place + (length all + skip); bytes = take l (drop skip rest) }
-    → TakesFrame place (all ++ take (skip + l) rest) [] frame
+    → HandsOverFrame place (all ++ take (skip + l) rest) [] frame
 takes_piece place skip l all held rest frame p s is =
     let fits = frame_fits (drop skip rest) l s.frame in
     let long = frame_moves (drop skip rest) l s.frame in
@@ -315,7 +315,7 @@ reaching_other held before kept piece from taken next r h later room others =
 -- more of the piece is taken in
 pub reaching_more : (held before kept after piece : List ℕ) (from taken n : ℕ)
     → Reaching held before kept piece from taken
-    → TakesMore (drop from kept) kept after (drop taken piece) n
+    → KeepsPart (drop from kept) kept after (drop taken piece) n
     → Reaching held before after piece from (taken + n)
 reaching_more held before kept after piece from taken n r m =
     let rest = drop taken piece in
@@ -348,7 +348,7 @@ left_to_do kept piece from taken =
 
 -- it gets less
 pub less_to_do : (kept after piece : List ℕ) (from taken n : ℕ) → from ≤ length kept
-    → taken ≤ length piece → TakesMore (drop from kept) kept after (drop taken piece) n
+    → taken ≤ length piece → KeepsPart (drop from kept) kept after (drop taken piece) n
     → left_to_do after piece from (taken + n) < left_to_do kept piece from taken
 less_to_do kept after piece from taken n within inside m =
     let some = m.some in
@@ -391,7 +391,7 @@ pub answers_held : (fed : ℕ) (held kept after piece : List ℕ) (r : Reached) 
     → from ≤ length after → from ≤ length (drop from after)
     → frame
     ≡ record { place = (fed + r.taken) - (length kept - r.from); bytes = take l (drop r.from kept) }
-    → Takes fed held after piece (record { found = Some frame; from = from; taken = r.taken })
+    → HandsOver fed held after piece (record { found = Some frame; from = from; taken = r.taken })
 answers_held fed held kept after piece r l next from frame known s stop past room passed here same
     within half is =
     let now = drop r.from kept in
@@ -437,7 +437,7 @@ pub answers_piece : (fed : ℕ) (held kept after piece : List ℕ) (r : Reached)
     → drop from after ≡ drop r.from kept → from ≤ length after → from ≤ length (drop from after)
     → frame
     ≡ record { place = fed + (r.taken + skip); bytes = take l (drop (r.taken + skip) piece) }
-    → Takes fed held after piece
+    → HandsOver fed held after piece
     (record { found = Some frame; from = from; taken = (r.taken + skip) + l })
 answers_piece fed held kept after piece r skip l from frame known s stop same within half is =
     let now = drop r.from kept in
@@ -465,7 +465,7 @@ answers_piece fed held kept after piece r skip l from frame known s stop same wi
     record { place = q; bytes = take l (drop (r.taken + skip) piece) } in f) place
     ∙ ap (λ (t : List ℕ). let f : Found =
     record { place = (fed - length held) + (length all + skip); bytes = take l t } in f) far in
-    let one : TakesFrame (fed - length held) (all ++ take (skip + l) rest) [] frame =
+    let one : HandsOverFrame (fed - length held) (all ++ take (skip + l) rest) [] frame =
     takes_piece (fed - length held) skip l all now rest frame s.passed at frame_is in
     record {
       within = within;
@@ -473,8 +473,8 @@ answers_piece fed held kept after piece r skip l from frame known s stop same wi
       short = omega (arith, ap length none);
       taken = piece_room held kept piece r skip l s stop;
       all = λ e. cc;
-      found = subst (λ t. TakesFrame (fed - length held) t (drop from after) frame) (sym more)
-          (subst (λ t. TakesFrame (fed - length held) (all ++ take (skip + l) rest) t frame)
+      found = subst (λ t. HandsOverFrame (fed - length held) t (drop from after) frame) (sym more)
+          (subst (λ t. HandsOverFrame (fed - length held) (all ++ take (skip + l) rest) t frame)
           (sym none) one);
     }
 
@@ -482,7 +482,7 @@ answers_piece fed held kept after piece r skip l from frame known s stop same wi
 pub answers_none : (fed : ℕ) (held kept after piece : List ℕ) (r : Reached) (from : ℕ)
     → Reaches held kept piece r → r.stop ≡ Nowhere
     → drop from after ≡ drop r.from kept → from ≤ length after → from ≤ length (drop from after)
-    → Takes fed held after piece (record { found = None; from = from; taken = r.taken })
+    → HandsOver fed held after piece (record { found = None; from = from; taken = r.taken })
 answers_none fed held kept after piece r from s stop same within half =
     let now = drop r.from kept in
     let at : StopsNowhere now (drop r.taken piece) =
@@ -495,7 +495,7 @@ answers_none fed held kept after piece r from s stop same within half =
       short = omega (arith, ap length same);
       taken = s.taken;
       all = λ _. omega (arith, ap length at.nothing, length-drop r.taken piece);
-      found = subst (λ t. TakesNone (fed - length held) (held ++ take r.taken piece) t) (sym same)
+      found = subst (λ t. HandsOverNone (fed - length held) (held ++ take r.taken piece) t) (sym same)
           (takes_none (fed - length held) (held ++ take r.taken piece) now s.passed at.waits);
     }
 
@@ -541,7 +541,7 @@ stands_next v taken held n (Some frame) size t = λ stream out stands.
     (sym t.held_is) st)
 
 -- where there is none, no frame is sure
-pub no_frame : (v : Framing) (taken held : List ℕ) → TakesNone (place_of v) (v.held ++ taken) held
+pub no_frame : (v : Framing) (taken held : List ℕ) → HandsOverNone (place_of v) (v.held ++ taken) held
     → IsNoFrame v taken
 no_frame v taken held t = λ stream out stands.
     let fits = stands.out_of_sure in
@@ -556,7 +556,7 @@ no_frame v taken held t = λ stream out stands.
 
 -- and the framer goes on to hold what it must
 pub stands_on : (v : Framing) (taken held : List ℕ) (n : ℕ) → length taken ≡ n
-    → TakesNone (place_of v) (v.held ++ taken) held
+    → HandsOverNone (place_of v) (v.held ++ taken) held
     → StandsAfter v (record { fed = v.fed + n; held = held }) taken 0
 stands_on v taken held n size t = λ stream out stands.
     let st = Stands-more v stream out 0 taken stands (omega arith) in

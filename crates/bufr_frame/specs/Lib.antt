@@ -5,11 +5,11 @@ pub mod Cuts
 pub mod Sures
 pub mod Holdings
 pub mod Looks
-pub mod Takings
+pub mod NextFrames
 pub mod StreamLaws
 pub mod CutLaws
 pub mod JoinedLaws
-pub mod TakingLaws
+pub mod NextFrameLaws
 pub mod FrameBounds
 pub mod Reaches
-pub mod Examples
+pub mod WorkedFrames

@@ -5,12 +5,12 @@ use Rattle.std.specs.Prelude.{◌++◌, length, take, drop, slice_get}
 use Rattle.bufr_frame.specs.declared.places.TheConstants.{LONGEST}
 use Rattle.bufr_frame.specs.declared.frames.Found.{Found}
 use Rattle.bufr_frame.specs.declared.places.Start.TheVariants.{Frame, Open, Other}
-use Rattle.bufr_frame.specs.declared.takes.Stop.{Stop}
-use Rattle.bufr_frame.specs.declared.takes.Stop.TheVariants.{Held, Piece, Nowhere}
-use Rattle.bufr_frame.specs.declared.takes.More.{More}
-use Rattle.bufr_frame.specs.declared.takes.More.TheVariants.{InRest, Octets}
-use Rattle.bufr_frame.specs.declared.takes.Reached.{Reached}
-use Rattle.bufr_frame.specs.declared.takes.Taking.{Taking}
+use Rattle.bufr_frame.specs.declared.reaching.Stop.{Stop}
+use Rattle.bufr_frame.specs.declared.reaching.Stop.TheVariants.{Held, Piece, Nowhere}
+use Rattle.bufr_frame.specs.declared.reaching.More.{More}
+use Rattle.bufr_frame.specs.declared.reaching.More.TheVariants.{InRest, Octets}
+use Rattle.bufr_frame.specs.declared.reaching.Reached.{Reached}
+use Rattle.bufr_frame.specs.declared.reaching.Handed.{Handed}
 use Rattle.bufr_frame.specs.Starts.{agrees, bufr, start_of}
 use Rattle.bufr_frame.specs.Streams.{frames_from, rest_from}
 
@@ -45,7 +45,7 @@ StopsAt held rest (Piece skip l) = StandsInPiece held rest skip l
 StopsAt held rest Nowhere = StopsNowhere held rest
 
 -- so many of the octets of the rest were taken in, and what is held of them is kept
-pub record TakesMore (held before after rest : List ℕ) (n : ℕ) : Type 0 where
+pub record KeepsPart (held before after rest : List ℕ) (n : ℕ) : Type 0 where
   pub some : 1 ≤ n
   pub within : n ≤ length rest
   pub kept : List ℕ
@@ -57,7 +57,7 @@ pub record TakesMore (held before after rest : List ℕ) (n : ℕ) : Type 0 wher
 -- nothing is held, and else octets of it are taken in
 abbrev pub KeepsMore : List ℕ → List ℕ → List ℕ → List ℕ → More → Type 0
 KeepsMore held before after rest (InRest skip l) = (after ≡ before) × StandsInPiece held rest skip l
-KeepsMore held before after rest (Octets n) = TakesMore held before after rest n
+KeepsMore held before after rest (Octets n) = KeepsPart held before after rest n
 
 -- of what was held and the piece, so much was taken in and passed over, and it stops there
 pub record Reaches (held kept piece : List ℕ) (reached : Reached) : Type 0 where
@@ -68,23 +68,23 @@ pub record Reaches (held kept piece : List ℕ) (reached : Reached) : Type 0 whe
   pub stops : StopsAt (drop reached.from kept) (drop reached.taken piece) reached.stop
 
 -- of all these octets from a place on, this is the first sure frame, and these are held after it
-pub record TakesFrame (place : ℕ) (all held : List ℕ) (frame : Found) : Type 0 where
+pub record HandsOverFrame (place : ℕ) (all held : List ℕ) (frame : Found) : Type 0 where
   pub next : slice_get (frames_from false place 0 all) 0 ≡ Some frame
   pub held_is : held ≡ rest_from 1 0 all
 
 -- they have no sure frame, and these are held
-pub record TakesNone (place : ℕ) (all held : List ℕ) : Type 0 where
+pub record HandsOverNone (place : ℕ) (all held : List ℕ) : Type 0 where
   pub none : frames_from false place 0 all ≡ []
   pub held_is : held ≡ rest_from 0 0 all
 
 -- the frame handed out and what is held then, or that there is none
 abbrev pub TakesOneOrNone : Option Found → ℕ → List ℕ → List ℕ → Type 0
-TakesOneOrNone (Some frame) place all held = TakesFrame place all held frame
-TakesOneOrNone None place all held = TakesNone place all held
+TakesOneOrNone (Some frame) place all held = HandsOverFrame place all held frame
+TakesOneOrNone None place all held = HandsOverNone place all held
 
 -- of what was held and the piece, after so many octets of the stream: what was taken in, handed
 -- out and kept; the piece is all taken in where none is handed out
-pub record Takes (fed : ℕ) (held kept piece : List ℕ) (taking : Taking) : Type 0 where
+pub record HandsOver (fed : ℕ) (held kept piece : List ℕ) (taking : Handed) : Type 0 where
   pub within : taking.from ≤ length kept
   pub half : taking.from ≤ length (drop taking.from kept)
   pub short : length (drop taking.from kept) ≤ LONGEST

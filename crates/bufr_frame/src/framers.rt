@@ -4,16 +4,17 @@ ghost use Rattle.std.specs.Prelude.{None, IfOk, IfSome, OnOk, OnErr};
 ghost use Rattle.bufr_frame.specs.declared.places.TheConstants.{LONGEST};
 ghost use Rattle.bufr_frame.specs.Streams.{Stands};
 ghost use Rattle.bufr_frame.specs.Looks.{new_framing};
-ghost use Rattle.bufr_frame.specs.Takings.{taken_in, IsRestOf, IsNextFrame, IsNoFrame};
-ghost use Rattle.bufr_frame.specs.Takings.{StandsAfter, AreSureNext, AreLast, StandsWithAll};
+ghost use Rattle.bufr_frame.specs.NextFrames.{taken_in, IsRestOf, IsNextFrame, IsNoFrame};
+ghost use Rattle.bufr_frame.specs.NextFrames.{StandsAfter, AreSureNext, AreLast, StandsWithAll};
 
 use crate::frames::Found;
-use crate::kept::take_in;
+use crate::kept::append_and_scan;
 use crate::looks::Look;
+use crate::next_frame::Taken;
+use crate::reaching::hand_over;
 use crate::scans::frames_in;
-use crate::taken::Taken;
-use crate::takes::take_one;
-use std::alloc::{AllocError, Global};
+use bufr_answers::OutOfMemory;
+use std::alloc::Global;
 use std::marker::Model;
 
 /// Finds the frames of a stream that comes in pieces.
@@ -65,7 +66,7 @@ impl Framer {
     }
 
     /// What `feed` of this piece would hand out, and the framer after it.
-    pub fn look(&self, piece: &[u8]) -> Result<Look, AllocError>
+    pub fn look(&self, piece: &[u8]) -> Result<Look, OutOfMemory>
         requires { self.now.fed + length piece.now < 2 ^ 64 }
         ensures found { IfOk result (λ look. AreSureNext self.now piece.now look.frames) }
         ensures next { IfOk result (λ look. StandsWithAll self.now look.next piece.now) }
@@ -82,7 +83,7 @@ impl Framer {
     }
 
     /// What `finish` would hand out, and the framer after it.
-    pub fn look_end(&self) -> Result<Look, AllocError>
+    pub fn look_end(&self) -> Result<Look, OutOfMemory>
         ensures found { IfOk result (λ look. AreLast self.now look.frames) }
         ensures next { IfOk result (λ look. look.next ≡ new_framing) }
     {
@@ -108,7 +109,7 @@ impl Framer {
     }
 
     /// Takes in a piece, and hands out the frames that are sure now.
-    pub fn feed(&mut self, piece: &[u8]) -> Result<Vec<Found>, AllocError>
+    pub fn feed(&mut self, piece: &[u8]) -> Result<Vec<Found>, OutOfMemory>
         requires { self.old.fed + length piece.now < 2 ^ 64 }
         ensures found { IfOk result (λ found. AreSureNext self.old piece.now found.items) }
         ensures next { OnOk result (StandsWithAll self.old self.new piece.now) }
@@ -116,7 +117,7 @@ impl Framer {
         ensures err { OnErr result (self.new ≡ self.old) }
     {
         let held = self.octets.len() - self.from;
-        let scan = take_in(&mut self.octets, self.from, self.fed - held as u64, piece)?;
+        let scan = append_and_scan(&mut self.octets, self.from, self.fed - held as u64, piece)?;
         self.from = scan.rest;
         self.fed += piece.len() as u64;
         Ok(scan.frames)
@@ -126,7 +127,7 @@ impl Framer {
     /// it has taken in all of the piece and no further frame is sure. Call it again with the rest
     /// until it hands out none: an empty rest alone does not say that no frame is left. Err where
     /// memory runs out; nothing is changed then.
-    pub fn take_next<'p>(&mut self, piece: &'p [u8]) -> Result<Taken<'p>, AllocError>
+    pub fn take_next<'p>(&mut self, piece: &'p [u8]) -> Result<Taken<'p>, OutOfMemory>
         requires { self.old.fed + length piece.now < 2 ^ 64 }
         ensures rest { IfOk result (λ taken. IsRestOf piece.now taken.rest.now) }
         ensures frame { IfOk result (λ taken. IfSome taken.found (λ frame.
@@ -141,7 +142,7 @@ impl Framer {
             self.new.fed ≡ self.old.fed + length (taken_in piece.now taken.rest.now)) }
         ensures err { OnErr result (self.new ≡ self.old) }
     {
-        let taking = take_one(&mut self.octets, self.from, self.fed, piece)?;
+        let taking = hand_over(&mut self.octets, self.from, self.fed, piece)?;
         self.from = taking.from;
         self.fed += taking.taken as u64;
         Ok(Taken {
@@ -151,7 +152,7 @@ impl Framer {
     }
 
     /// Ends the stream, and hands out its last frames. The framer is then as new.
-    pub fn finish(&mut self) -> Result<Vec<Found>, AllocError>
+    pub fn finish(&mut self) -> Result<Vec<Found>, OutOfMemory>
         ensures found { IfOk result (λ found. AreLast self.old found.items) }
         ensures next { OnOk result (self.new ≡ new_framing) }
         ensures err { OnErr result (self.new ≡ self.old) }

@@ -1,8 +1,8 @@
 //! A frame of a stream.
 ghost use Rattle.std.specs.Prelude.{◌≡◌, IfOk};
 
-use crate::octet_lists::Octets;
-use std::alloc::{AllocError, Global};
+use bufr_answers::{Items, OutOfMemory};
+use std::alloc::Global;
 
 /// A frame, and the place in the stream at which it begins: how many octets came before it.
 #[derive(Debug, PartialEq, Eq, Drop)]
@@ -10,15 +10,15 @@ pub struct Found {
     /// How many octets of the stream come before it.
     pub place: u64,
     /// Its octets, from `BUFR` to `7777`.
-    pub bytes: Octets,
+    pub bytes: Items<u8>,
 }
 
 impl Found {
     /// The frame of these octets at this place.
-    pub(crate) fn copied(alloc: Global, place: u64, octets: &[u8]) -> Result<Found, AllocError>
+    pub(crate) fn copied(alloc: Global, place: u64, octets: &[u8]) -> Result<Found, OutOfMemory>
         ensures { IfOk result (λ found. found ≡ record { place = place; bytes = octets.now }) }
     {
-        let bytes = Octets::new(Vec::from_slice(alloc, octets)?);
+        let bytes = Items::from_vec(Vec::from_slice(alloc, octets)?);
         Ok(Found { place, bytes })
     }
 }

@@ -5,7 +5,7 @@ ghost use Rattle.bufr_frame.specs.declared.places.TheConstants.{LONGEST};
 ghost use Rattle.bufr_frame.specs.Streams.{frames_from, rest_from};
 
 use crate::scans::{Scan, frames_in};
-use std::alloc::AllocError;
+use bufr_answers::OutOfMemory;
 
 /// Memory for four times so many octets is not given back, however few are kept.
 const ROOM: usize = 65_536;
@@ -34,7 +34,7 @@ pub fn let_go(octets: &mut Vec<u8>, place: usize) -> usize
 /// Finds the frames that are sure in a piece that follows `place` octets of the stream, none of
 /// them held, and keeps what is left of it. The piece is searched where it stands. Answers the
 /// frames, and where the octets held begin.
-fn take_in_anew(octets: &mut Vec<u8>, place: u64, piece: &[u8]) -> Result<Scan, AllocError>
+fn scan_in_place(octets: &mut Vec<u8>, place: u64, piece: &[u8]) -> Result<Scan, OutOfMemory>
     requires { place + length piece.now < 2 ^ 64 }
     ensures frames { IfOk result (λ scan. scan.frames.items ≡ frames_from false place 0 piece.now) }
     ensures rest { IfOk result (λ scan. drop scan.rest octets.new.items
@@ -57,12 +57,12 @@ fn take_in_anew(octets: &mut Vec<u8>, place: u64, piece: &[u8]) -> Result<Scan, 
 /// Appends a piece to the octets kept and finds the frames that are sure now. Those from `from` on
 /// are held, and follow `place` octets of the stream. Answers the frames, and where the octets held
 /// begin then.
-pub fn take_in(
+pub fn append_and_scan(
     octets: &mut Vec<u8>,
     from: usize,
     place: u64,
     piece: &[u8],
-) -> Result<Scan, AllocError>
+) -> Result<Scan, OutOfMemory>
     requires within { from ≤ length octets.old.items }
     requires room { place + (length octets.old.items - from) + length piece.now < 2 ^ 64 }
     ensures frames { IfOk result (λ scan. scan.frames.items
@@ -78,7 +78,7 @@ pub fn take_in(
 {
     let kept = octets.len();
     if from == kept {
-        return take_in_anew(octets, place, piece);
+        return scan_in_place(octets, place, piece);
     }
     let alloc = *octets.allocator();
     octets.extend_from_slice(piece)?;

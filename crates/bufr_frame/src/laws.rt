@@ -8,8 +8,8 @@ ghost use Rattle.bufr_frame.specs.Streams.{cut, frames_from, sure, Stands};
 ghost use Rattle.bufr_frame.specs.Cuts.{IsCut, IsOneFrame, frames_at, joined};
 ghost use Rattle.bufr_frame.specs.Sures.{IsSure};
 ghost use Rattle.bufr_frame.specs.Holdings.{StandsFor};
-ghost use Rattle.bufr_frame.specs.Takings.{taken_in, IsRestOf, IsNextFrame, IsNoFrame};
-ghost use Rattle.bufr_frame.specs.Takings.{StandsAfter, HandedOut, IsTaking};
+ghost use Rattle.bufr_frame.specs.NextFrames.{taken_in, IsRestOf, IsNextFrame, IsNoFrame};
+ghost use Rattle.bufr_frame.specs.NextFrames.{StandsAfter, HandedOut, IsBetweenCalls};
 
 /// The cut of a stream is the one list of frames that stand there, in order and apart, such that
 /// each place at which a frame stands lies in one of them.
@@ -64,17 +64,17 @@ pub fn joined_frames_are_cut_apart()
 pub fn frames_taken_are_the_sure_ones()
     ensures first { (framer : Framing) → Stands framer [] 0 → HandedOut framer [] [] }
     ensures piece { (framer : Framing) (stream piece : List ℕ) (frames : List FoundFrame)
-        → HandedOut framer stream frames → IsTaking framer (stream ++ piece) piece frames }
+        → HandedOut framer stream frames → IsBetweenCalls framer (stream ++ piece) piece frames }
     ensures one { (before after : Framing) (stream piece rest : List ℕ)
         (frames : List FoundFrame) (frame : FoundFrame)
-        → IsTaking before stream piece frames → IsRestOf piece rest
+        → IsBetweenCalls before stream piece frames → IsRestOf piece rest
         → IsNextFrame before (taken_in piece rest) frame
         → StandsAfter before after (taken_in piece rest) 1
-        → IsTaking after stream rest (frames ++ frame ∷ []) }
+        → IsBetweenCalls after stream rest (frames ++ frame ∷ []) }
     ensures room { (framer : Framing) (stream rest : List ℕ) (frames : List FoundFrame)
-        → IsTaking framer stream rest frames → framer.fed + length rest ≡ length stream }
+        → IsBetweenCalls framer stream rest frames → framer.fed + length rest ≡ length stream }
     ensures none { (before after : Framing) (stream piece : List ℕ) (frames : List FoundFrame)
-        → IsTaking before stream piece frames → IsNoFrame before piece
+        → IsBetweenCalls before stream piece frames → IsNoFrame before piece
         → StandsAfter before after piece 0
         → HandedOut after stream frames × (frames ≡ sure stream) }
     ensures end { (framer : Framing) (stream : List ℕ) (frames last : List FoundFrame)

@@ -36,27 +36,7 @@
 //! however long the rest of the piece is. The loop ends where it hands out no frame: after an outer
 //! frame is ruled out, several frames may be held although the piece is all taken in.
 //!
-//! Timed as LLVM builds it, on one core of a shared machine, in milliseconds, the middle one of
-//! three runs:
-//!
-//! | stream | single octets | pieces of 65,536 | one piece |
-//! |---|---|---|---|
-//! | 4,194,304 times `BUFR` (16.8 MB, each open for 4.3 MB) | 474 | 87 | 76 |
-//! | a million messages of 60 octets (60 MB) | 1,533 | 90 | 101 |
-//! | the same after a false `BUFR` that announces 16,777,215 octets | 1,375 | 64 | 89 |
-//! | four million false `BUFR` that each announce 16,777,215 octets (32 MB) | 743 | 93 | 81 |
-//! | 104 MB without `BUFR`, with stray `B`, `BU` and `BUF` | 2,563 | 29 | 36 |
-//!
-//! By `take_next`, the least of four runs beside other work:
-//!
-//! | stream | single octets | pieces of 65,536 | one piece |
-//! |---|---|---|---|
-//! | 4,194,304 times `BUFR` (16.8 MB) | 617 | 168 | 172 |
-//! | a million messages of 62 octets (62 MB) | 1,978 | 63 | 62 |
-//! | the same, each after a heading of 24 octets (86 MB) | 2,739 | 62 | 62 |
-//! | the million messages after a false `BUFR` (16,777,215 octets) | 1,915 | 72 | 75 |
-//! | four million false `BUFR` (32 MB) | 1,174 | 149 | 147 |
-//! | 100 MB without `BUFR`, with stray `B`, `BU` and `BUF` | 2,849 | 19 | 19 |
+//! Times stand in `bench/RESULTS.md`.
 //!
 //! # What is proved
 //!
@@ -73,20 +53,17 @@
 pub use framers::Framer;
 pub use frames::Found;
 pub use looks::Look;
-pub use octet_lists::Octets;
+pub use next_frame::Taken;
 pub use pieces::frames_of_pieces;
-pub use std::alloc::AllocError as OutOfMemory;
-pub use taken::Taken;
 
-mod examples;
 mod framers;
 mod frames;
 mod kept;
 pub mod laws;
 mod looks;
-mod octet_lists;
+mod next_frame;
 mod pieces;
 mod places;
+mod reaching;
 mod scans;
-mod taken;
-mod takes;
+mod worked_values;

@@ -5,10 +5,11 @@ ghost use Rattle.bufr_frame.specs.Streams.{cut};
 
 use crate::framers::Framer;
 use crate::frames::Found;
-use std::alloc::{AllocError, Global};
+use bufr_answers::OutOfMemory;
+use std::alloc::Global;
 
 /// The frames of the stream that comes in these pieces: each piece is fed, and the stream ended.
-pub fn frames_of_pieces(alloc: Global, pieces: &[&[u8]]) -> Result<Vec<Found>, AllocError>
+pub fn frames_of_pieces(alloc: Global, pieces: &[&[u8]]) -> Result<Vec<Found>, OutOfMemory>
     requires { length (flat_map (λ piece. piece.now) pieces.now) < 2 ^ 64 }
     ensures { IfOk result (λ found. found.items ≡ cut (flat_map (λ piece. piece.now) pieces.now)) }
 {

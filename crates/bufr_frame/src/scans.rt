@@ -7,8 +7,9 @@ ghost use Rattle.bufr_frame.specs.Streams.{frames_from, rest_from};
 
 use crate::frames::Found;
 use crate::places::{MARK, Start, agrees, start_of};
+use bufr_answers::OutOfMemory;
 use memchr::memmem::Finder;
-use std::alloc::{AllocError, Global};
+use std::alloc::Global;
 
 /// The frames found in octets, and the place at which what is left of them begins.
 #[derive(Drop)]
@@ -96,7 +97,7 @@ pub fn next_start(finder: &Finder<'_>, ended: bool, octets: &[u8], from: usize) 
 /// Finds the frames of these octets, which follow `place` octets of the stream. Each octet is
 /// searched once. Where the stream has not ended, the scan stops at the first place that is open
 /// and leaves the octets from there on.
-pub fn frames_in(alloc: Global, ended: bool, place: u64, octets: &[u8]) -> Result<Scan, AllocError>
+pub fn frames_in(alloc: Global, ended: bool, place: u64, octets: &[u8]) -> Result<Scan, OutOfMemory>
     requires { place + length octets.now < 2 ^ 64 }
     ensures frames { IfOk result (λ scan.
         scan.frames.items ≡ frames_from ended place 0 octets.now) }

@@ -1,7 +1,8 @@
 ghost use Rattle.std.specs.Prelude.{◌<◌, ◌+◌, ◌^◌, length};
 
+use bufr_answers::{Items, OutOfMemory};
 use bufr_frame::*;
-use std::alloc::{AllocError, Global};
+use std::alloc::Global;
 use std::fmt::Debug;
 use std::marker::Model;
 use std::process::Abort;
@@ -36,7 +37,7 @@ fn same<T: PartialEq + Debug + Drop>(rt: &impl Abort, found: T, wanted: T) {
 }
 
 /// These octets one after another.
-fn joined(alloc: Global, parts: &[&[u8]]) -> Result<Vec<u8>, AllocError> {
+fn joined(alloc: Global, parts: &[&[u8]]) -> Result<Vec<u8>, OutOfMemory> {
     let mut all = Vec::new(alloc);
     for part in parts {
         all.extend_from_slice(*part)?;
@@ -45,7 +46,7 @@ fn joined(alloc: Global, parts: &[&[u8]]) -> Result<Vec<u8>, AllocError> {
 }
 
 /// A bulletin's heading, the message, a stray `BUFR` and the message again.
-fn message_stray_message(alloc: Global) -> Result<Vec<u8>, AllocError> {
+fn message_stray_message(alloc: Global) -> Result<Vec<u8>, OutOfMemory> {
     joined(
         alloc,
         &[b"ISMD01 EDZW 151200", SEQUENCES, b"BUFR", SEQUENCES],
@@ -67,7 +68,7 @@ fn take<'p>(
     rt: &impl Abort,
     framer: &mut Framer,
     piece: &'p [u8],
-) -> Result<Taken<'p>, AllocError> {
+) -> Result<Taken<'p>, OutOfMemory> {
     assert!(rt; framer.fed() <= u64::MAX - piece.len() as u64);
     framer.take_next(piece)
 }
@@ -77,7 +78,7 @@ fn take_counted<'p>(
     rt: &impl Abort,
     framer: &mut Framer,
     piece: &'p [u8],
-) -> Result<Taken<'p>, AllocError> {
+) -> Result<Taken<'p>, OutOfMemory> {
     let fed = framer.fed();
     let taken = take(rt, framer, piece)?;
     assert!(rt; taken.rest.len() <= piece.len());
@@ -94,7 +95,7 @@ fn take_all(
     alloc: Global,
     framer: &mut Framer,
     piece: &[u8],
-) -> Result<Vec<Found>, AllocError> {
+) -> Result<Vec<Found>, OutOfMemory> {
     let mut all = Vec::new(alloc);
     let mut rest = piece;
     for _ in 0..1_000_000 {
@@ -113,7 +114,7 @@ fn take_all(
 }
 
 /// Takes in a piece for which there is room, by a look.
-fn look_and_settle(framer: &mut Framer, piece: &[u8]) -> Result<Vec<Found>, AllocError>
+fn look_and_settle(framer: &mut Framer, piece: &[u8]) -> Result<Vec<Found>, OutOfMemory>
     requires { framer.old.fed + length piece.now < 2 ^ 64 }
 {
     let look = framer.look(piece)?;
@@ -127,7 +128,7 @@ fn give(
     way: Way,
     framer: &mut Framer,
     piece: &[u8],
-) -> Result<Vec<Found>, AllocError> {
+) -> Result<Vec<Found>, OutOfMemory> {
     assert!(rt; framer.fed() <= u64::MAX - piece.len() as u64);
     match way {
         Way::Feed => framer.feed(piece),
@@ -163,7 +164,7 @@ fn assert_gives(
     framer: &mut Framer,
     piece: &[u8],
     wanted: (&[(u64, &[u8])], usize),
-) -> Result<(), AllocError> {
+) -> Result<(), OutOfMemory> {
     let found = give(rt, alloc, way, framer, piece)?;
     assert!(rt; are(&found, wanted.0), "{way:?}");
     same(rt, framer.pending(), wanted.1);
@@ -175,7 +176,7 @@ fn assert_finishes(
     rt: &impl Abort,
     framer: &mut Framer,
     wanted: &[(u64, &[u8])],
-) -> Result<(), AllocError> {
+) -> Result<(), OutOfMemory> {
     let last = framer.finish()?;
     assert!(rt; are(&last, wanted));
     assert_state(rt, framer, 0, 0);
@@ -190,13 +191,13 @@ fn give_more(
     framer: &mut Framer,
     piece: &[u8],
     all: &mut Vec<Found>,
-) -> Result<(), AllocError> {
+) -> Result<(), OutOfMemory> {
     let mut found = give(rt, alloc, way, framer, piece)?;
     all.append(&mut found)
 }
 
 /// Adds the frames of the stream's end to those found.
-fn finish_more(framer: &mut Framer, all: &mut Vec<Found>) -> Result<(), AllocError> {
+fn finish_more(framer: &mut Framer, all: &mut Vec<Found>) -> Result<(), OutOfMemory> {
     let mut last = framer.finish()?;
     all.append(&mut last)
 }
@@ -207,7 +208,7 @@ fn in_pieces(
     alloc: Global,
     way: Way,
     pieces: &[&[u8]],
-) -> Result<Vec<Found>, AllocError> {
+) -> Result<Vec<Found>, OutOfMemory> {
     let mut framer = Framer::new(alloc);
     let mut all = Vec::new(alloc);
     for piece in pieces {
@@ -224,7 +225,7 @@ fn one_by_one(
     alloc: Global,
     way: Way,
     octets: &[u8],
-) -> Result<Vec<Found>, AllocError> {
+) -> Result<Vec<Found>, OutOfMemory> {
     let mut framer = Framer::new(alloc);
     let mut all = Vec::new(alloc);
     for octet in octets {
@@ -243,7 +244,7 @@ fn have_frames_cut_at(
     octets: &[u8],
     place: usize,
     wanted: &[(u64, &[u8])],
-) -> Result<bool, AllocError> {
+) -> Result<bool, OutOfMemory> {
     assert!(rt; place <= octets.len());
     let pieces: &[&[u8]] = &[&octets[..place], &octets[place..]];
     let found = in_pieces(rt, alloc, way, pieces)?;
@@ -256,7 +257,7 @@ fn have_frames(
     alloc: Global,
     octets: &[u8],
     wanted: &[(u64, &[u8])],
-) -> Result<bool, AllocError> {
+) -> Result<bool, OutOfMemory> {
     for way in WAYS {
         for place in 0..=octets.len() {
             if !have_frames_cut_at(rt, alloc, way, octets, place, wanted)? {
@@ -278,7 +279,7 @@ fn assert_frames(
     octets: &[u8],
     wanted: &[(u64, &[u8])],
     text: &str,
-) -> Result<(), AllocError> {
+) -> Result<(), OutOfMemory> {
     let have = have_frames(rt, alloc, octets, wanted)?;
     assert!(rt; have, "{text}");
     Ok(())
@@ -314,7 +315,7 @@ fn take_first_of_two<'p>(
 }
 
 /// Takes a piece in which no further frame is sure.
-fn take_none(rt: &impl Abort, framer: &mut Framer, piece: &[u8]) -> Result<(), AllocError> {
+fn take_none(rt: &impl Abort, framer: &mut Framer, piece: &[u8]) -> Result<(), OutOfMemory> {
     let Taken { found, rest } = take(rt, framer, piece)?;
     assert!(rt; found.is_none() && rest.is_empty());
     Ok(())
@@ -353,7 +354,7 @@ fn two_frames_and_a_stray_whole(rt: HostRuntime) -> Result<(), Fail> {
 }
 
 /// Looks at a piece, and then settles the look, with one frame more and 66 octets pending.
-fn look_then_settle(rt: &impl Abort, framer: &mut Framer, piece: &[u8]) -> Result<(), AllocError> {
+fn look_then_settle(rt: &impl Abort, framer: &mut Framer, piece: &[u8]) -> Result<(), OutOfMemory> {
     assert!(rt; framer.fed() == 30);
     assert!(rt; piece.len() == 116);
     let look = framer.look(piece)?;
@@ -474,7 +475,7 @@ fn refusals_without_a_frame(rt: HostRuntime) -> Result<(), Fail> {
 }
 
 /// A message of 66,051 octets, whose length is 01 02 03.
-fn long_message(alloc: Global) -> Result<Vec<u8>, AllocError> {
+fn long_message(alloc: Global) -> Result<Vec<u8>, OutOfMemory> {
     let mut message = joined(alloc, &[b"BUFR\x01\x02\x03\x04"])?;
     for _ in 0..66_039 {
         message.push(0)?;
@@ -489,7 +490,7 @@ fn assert_one_frame(
     alloc: Global,
     way: Way,
     message: &[u8],
-) -> Result<(), AllocError> {
+) -> Result<(), OutOfMemory> {
     let found = in_pieces(rt, alloc, way, &[message])?;
     assert!(rt; are(&found, &[(0, message)]), "{way:?}");
     Ok(())
@@ -536,7 +537,7 @@ fn give_often(
     way: Way,
     framer: &mut Framer,
     piece: &[u8],
-) -> Result<(), AllocError> {
+) -> Result<(), OutOfMemory> {
     for _ in 0..256 {
         let none = give(rt, alloc, way, framer, piece)?;
         assert!(rt; none.is_empty());
@@ -561,7 +562,7 @@ fn bufr_without_end(rt: HostRuntime) -> Result<(), Fail> {
 }
 
 /// 12,500 bulletins of one message each, and then a frame in one that lacks its end.
-fn many_bulletins(alloc: Global) -> Result<Vec<u8>, AllocError> {
+fn many_bulletins(alloc: Global) -> Result<Vec<u8>, OutOfMemory> {
     let mut stream = Vec::new(alloc);
     for _ in 0..12_500 {
         stream.extend_from_slice(b"\r\r\nISMD01 EDZW 151200\r\r\n")?;
@@ -592,7 +593,7 @@ fn give_both(
     fed: &mut Framer,
     taken: &mut Framer,
     piece: &[u8],
-) -> Result<Vec<Found>, AllocError> {
+) -> Result<Vec<Found>, OutOfMemory> {
     let by_feed = give(rt, alloc, Way::Feed, fed, piece)?;
     let by_take = give(rt, alloc, Way::TakeNext, taken, piece)?;
     assert!(rt; by_feed.as_slice() == by_take.as_slice());
@@ -638,7 +639,7 @@ impl<'p> Model for Pieces<'p> {
 
 impl<'p> Pieces<'p> {
     /// Adds a piece for which there is room.
-    fn push(&mut self, rt: &impl Abort, piece: &'p [u8]) -> Result<(), AllocError> {
+    fn push(&mut self, rt: &impl Abort, piece: &'p [u8]) -> Result<(), OutOfMemory> {
         assert!(rt; self.octets <= usize::MAX - piece.len());
         self.list.push(piece)?;
         self.octets += piece.len();
@@ -652,7 +653,7 @@ fn frames_at_once(
     alloc: Global,
     stream: &[u8],
     count: usize,
-) -> Result<Vec<Found>, AllocError> {
+) -> Result<Vec<Found>, OutOfMemory> {
     let mut pieces = Pieces {
         list: Vec::new(alloc),
         octets: 0,
@@ -679,9 +680,9 @@ fn a_thousand_pieces_at_once(rt: HostRuntime) -> Result<(), Fail> {
 
 #[test]
 fn octets_kept(rt: HostRuntime) -> Result<(), Fail> {
-    let octets = Octets::new(joined(rt.alloc(), &[b"7777"])?);
+    let octets = Items::from_vec(joined(rt.alloc(), &[b"7777"])?);
     assert!(rt; octets.as_slice() == b"7777".as_slice());
-    assert!(rt; octets == Octets::new(joined(rt.alloc(), &[b"77", b"77"])?));
+    assert!(rt; octets == Items::from_vec(joined(rt.alloc(), &[b"77", b"77"])?));
     assert!(rt; octets.into_vec().as_slice() == b"7777".as_slice());
     Ok(())
 }

@@ -1,4 +1,1 @@
--- The lemmas behind the contracts and laws of this crate: blanks, usable texts and moments.
-pub mod BlankFacts
-pub mod MomentFacts
-pub mod UsableFacts
+-- This crate shares no lemmas: its orders are derived.

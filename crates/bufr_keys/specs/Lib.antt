@@ -1,4 +1,3 @@
-pub mod Keys
-pub mod Laws
+pub mod KeyOrders
+pub mod DerivedOrders
 pub mod Samples
-pub mod Usable

@@ -1,68 +1,20 @@
--- What the examples speak of: fields of stations and times.
-use Rattle.std.specs.Prelude.{ℕ, suc, Bool, if◌then◌else◌, Option, List, [], ◌∷◌, ◌++◌, map}
-use Rattle.std.specs.Prelude.{codes, ℤ, pos}
-use Rattle.std.specs.Option.{is_some}
-use Rattle.bufr_tables.specs.declared.element.Kind.{Kind}
-use Rattle.bufr_tables.specs.declared.element.Kind.TheVariants as kinds
-use Rattle.bufr_tables.specs.Descriptors.{descriptor}
-use Rattle.bufr_data.specs.declared.field.Raw.TheVariants as raws
-use Rattle.bufr_data.specs.declared.field.Field.{Field}
-use Rattle.bufr_shelves.specs.declared.key.Station.{Station}
-use Rattle.bufr_shelves.specs.declared.key.Station.TheVariants.{Wmo, Wigos, Mobile}
-use Rattle.bufr_shelves.specs.declared.key.Moment.{Moment}
-use Rattle.bufr_shelves.specs.declared.key.Key.{Key}
-use Rattle.bufr_message.specs.declared.report.ReportHead.{ReportHead}
-use Rattle.bufr_keys.specs.Keys.{station, moment}
+-- What the worked values speak of: keys, stations and moments.
+use Rattle.std.specs.Prelude.{ℕ, List, [], ◌∷◌, map, pos, codes}
+use Rattle.std.specs.declared.cmp.Ordering.{Ordering}
+use Rattle.bufr_keys.specs.declared.key.Station.{Station}
+use Rattle.bufr_keys.specs.declared.key.Station.TheVariants.{Wmo, Wigos, Mobile}
+use Rattle.bufr_keys.specs.declared.key.Moment.{Moment}
+use Rattle.bufr_keys.specs.declared.key.Key.{Key}
 
--- the number of element 0 XX YYY in a field of 24 bits with scale 0 and reference value 0
-abbrev pub number_field : ℕ → ℕ → ℕ → Field
-number_field x y n = record {
-  fxy = descriptor 0 x y;
-  spec = record { kind = kinds.Quantity; scale = pos 0; reference = pos 0; width = 24 };
-  raw = raws.Number n;
-}
+-- the order of the parts of each pair
+abbrev pub orders : {A : Type 0} → (A → A → Ordering) → List (A × A) → List Ordering
+orders cmp pairs = map (λ p. cmp p.0 p.1) pairs
 
--- its number under an operator that gives it the scale 1
-abbrev pub scaled_field : ℕ → ℕ → ℕ → Field
-scaled_field x y n = record {
-  fxy = descriptor 0 x y;
-  spec = record { kind = kinds.Quantity; scale = pos 1; reference = pos 0; width = 24 };
-  raw = raws.Number n;
-}
+-- each pair the other way round
+abbrev pub turned : {A : Type 0} → List (A × A) → List (A × A)
+turned pairs = map (λ p. (p.1, p.0)) pairs
 
--- the text of element 0 XX YYY in a field of nine octets
-abbrev pub text_field : ℕ → ℕ → List ℕ → Field
-text_field x y octets = record {
-  fxy = descriptor 0 x y;
-  spec = record { kind = kinds.Text; scale = pos 0; reference = pos 0; width = 72 };
-  raw = raws.Text octets;
-}
-
--- a field of which all bits are one
-abbrev pub missing_field : ℕ → ℕ → Field
-missing_field x y = number_field x y 16777215
-
--- year, month, day and hour
-abbrev pub date_fields : ℕ → ℕ → ℕ → ℕ → List Field
-date_fields year month day hour =
-    number_field 4 1 year ∷ number_field 4 2 month ∷ number_field 4 3 day
-    ∷ number_field 4 4 hour ∷ []
-
--- block 10 and station 384
-abbrev pub block_and_station : List Field
-block_and_station = number_field 1 1 10 ∷ number_field 1 2 384 ∷ []
-
--- the WIGOS identifier 0-20000-1-10384
-abbrev pub wigos_fields : List Field
-wigos_fields =
-    number_field 1 125 0 ∷ number_field 1 126 20000 ∷ number_field 1 127 1
-    ∷ text_field 1 128 (codes "10384    ") ∷ []
-
--- 2024-01-15 12:00
-abbrev pub noon : Moment
-noon = record { year = 2024; month = 1; day = 15; hour = 12; minute = 0; second = 0 }
-
--- a time of a date, hour, minute and second
+-- year, month, day, hour, minute and second
 abbrev pub time : ℕ → ℕ → ℕ → ℕ → ℕ → ℕ → Moment
 time year month day hour minute second = record {
   year = year;
@@ -73,107 +25,54 @@ time year month day hour minute second = record {
   second = second;
 }
 
--- the fields of `noon` and a minute and second
-abbrev pub minute_and_second : Field → Field → List Field
-minute_and_second minute second = date_fields 2024 1 15 12 ++ minute ∷ second ∷ []
+-- moments that differ in one part, and the other way round in all parts behind it
+abbrev pub moments_by_part : List (Moment × Moment)
+moments_by_part =
+    (time 1 9 9 9 9 9, time 2 0 0 0 0 0) ∷ (time 5 1 9 9 9 9, time 5 2 0 0 0 0)
+    ∷ (time 5 5 1 9 9 9, time 5 5 2 0 0 0) ∷ (time 5 5 5 1 9 9, time 5 5 5 2 0 0)
+    ∷ (time 5 5 5 5 1 9, time 5 5 5 5 2 0) ∷ (time 5 5 5 5 5 1, time 5 5 5 5 5 2) ∷ []
 
--- the station that `wigos_fields` say
-abbrev pub wigos_station : Station
-wigos_station = Wigos (pos 0) (pos 20000) (pos 1) (codes "10384")
+-- block and station number
+abbrev pub wmo : ℕ → ℕ → Station
+wmo block number = Wmo (pos block) (pos number)
 
--- another number in each part
-abbrev pub head_98 : ReportHead
-head_98 = record {
-  centre = 98;
-  sub_centre = 7;
-  update = 1;
-  category = 2;
-  international = 3;
-  local_category = 37;
-  master_version = 4;
-  local_version = 5;
-  year = 2023;
-  month = 6;
-  day = 8;
-  hour = 9;
-  minute = 10;
-  second = 11;
+-- series, issuer, issue number and local identifier
+abbrev pub wigos : ℕ → ℕ → ℕ → List ℕ → Station
+wigos series issuer number name = Wigos (pos series) (pos issuer) (pos number) name
+
+-- stations that differ in one part, and the other way round in all parts behind it
+abbrev pub stations_by_part : List (Station × Station)
+stations_by_part =
+    (wmo 9 99, wmo 10 0) ∷ (wmo 5 9, wmo 5 10)
+    ∷ (wigos 9 9 9 (codes "9"), wigos 10 0 0 (codes "0"))
+    ∷ (wigos 5 9 9 (codes "9"), wigos 5 10 0 (codes "0"))
+    ∷ (wigos 5 5 9 (codes "9"), wigos 5 5 10 (codes "0"))
+    ∷ (wigos 5 5 5 (codes "A"), wigos 5 5 5 (codes "AB"))
+    ∷ (Mobile (codes "AZ"), Mobile (codes "B")) ∷ []
+
+-- stations of two kinds, the first in order with the greater parts
+abbrev pub stations_by_kind : List (Station × Station)
+stations_by_kind =
+    (wmo 9 9, wigos 0 0 0 []) ∷ (wmo 9 9, Mobile [])
+    ∷ (wigos 9 9 9 (codes "Z"), Mobile []) ∷ []
+
+-- a key of centre, category, international and local sub-category, station number, hour and
+-- sub-centre
+abbrev pub key_of : ℕ → ℕ → ℕ → ℕ → ℕ → ℕ → ℕ → Key
+key_of centre category international local_category number hour sub_centre = record {
+  centre = centre;
+  category = category;
+  international = international;
+  local_category = local_category;
+  station = wmo 10 number;
+  moment = time 2024 1 15 hour 0 0;
+  sub_centre = sub_centre;
 }
 
--- the key of `head_98` at station 10 384 at noon
-abbrev pub key_at_noon : Key
-key_at_noon = record {
-  centre = 98;
-  category = 2;
-  international = 3;
-  local_category = 37;
-  station = Wmo (pos 10) (pos 384);
-  moment = noon;
-  sub_centre = 7;
-}
-
--- ---- stations of each kind
-
--- `wigos_fields` with the issue number missing
-abbrev pub without_issue_number : List Field
-without_issue_number =
-    number_field 1 125 0 ∷ number_field 1 126 20000 ∷ missing_field 1 127
-    ∷ text_field 1 128 (codes "10384    ") ∷ []
-
--- the fields of each kind of station, usable or with one part that is missing or blank: a mobile
--- name, a WIGOS identifier without its issue number, a WMO station without its block
-abbrev pub beside : Bool → Bool → Bool → List Field
-beside wmo wigos mobile =
-    (if mobile then text_field 1 11 (codes "SHIP     ") else text_field 1 11 (codes "         "))
-    ∷ (if wigos then wigos_fields else without_issue_number)
-    ++ (if wmo then block_and_station else missing_field 1 1 ∷ number_field 1 2 384 ∷ [])
-
--- the station that is said beside others
-abbrev pub wmo_10384 : Station
-wmo_10384 = Wmo (pos 10) (pos 384)
-
--- a mobile name
-abbrev pub named : List ℕ → Station
-named name = Mobile name
-
--- the field of a kind with this raw value, scale 0 and reference value
-abbrev pub field_of : Kind → ℤ → ℕ → ℕ → ℕ → Field
-field_of kind reference x y n = record {
-  fxy = descriptor 0 x y;
-  spec = record { kind = kind; scale = pos 0; reference = reference; width = 24 };
-  raw = raws.Number n;
-}
-
--- the station of a block that a field says, and number 384
-abbrev pub of_block : Field → Option Station
-of_block f = station (f ∷ number_field 1 2 384 ∷ [])
-
--- the station of block 10 and a number that a field says
-abbrev pub of_number : Field → Option Station
-of_number f = station (number_field 1 1 10 ∷ f ∷ [])
-
--- the WIGOS identifier 0-20000-1-10384 with one field in place of its own
-abbrev pub wigos_with : Field → Field → Field → Field → Option Station
-wigos_with series issuer number name = station (series ∷ issuer ∷ number ∷ name ∷ [])
-
--- ---- dates and times
-
--- whether there is a moment at midnight of a date
-abbrev pub is_date : ℕ × ℕ × ℕ → Bool
-is_date d = is_some (moment (date_fields d.0 d.1 d.2 0))
-
--- the last day of each month of a common year, and of February of leap years
-abbrev pub last_days : List (ℕ × ℕ × ℕ)
-last_days =
-    (2023, 1, 31) ∷ (2023, 2, 28) ∷ (2023, 3, 31) ∷ (2023, 4, 30) ∷ (2023, 5, 31) ∷ (2023, 6, 30)
-    ∷ (2023, 7, 31) ∷ (2023, 8, 31) ∷ (2023, 9, 30) ∷ (2023, 10, 31) ∷ (2023, 11, 30)
-    ∷ (2023, 12, 31) ∷ (2024, 2, 29) ∷ (2000, 2, 29) ∷ (1900, 2, 28) ∷ []
-
--- the day behind each of them
-abbrev pub days_behind : List (ℕ × ℕ × ℕ)
-days_behind = map (λ d. (d.0, d.1, suc d.2)) last_days
-
--- whether there is a moment at this hour, minute and second
-abbrev pub is_time : ℕ × ℕ × ℕ → Bool
-is_time t =
-    is_some (moment (date_fields 2024 1 15 t.0 ++ number_field 4 5 t.1 ∷ number_field 4 6 t.2 ∷ []))
+-- keys that differ in one part, and the other way round in all parts behind it
+abbrev pub keys_by_part : List (Key × Key)
+keys_by_part =
+    (key_of 1 9 9 9 9 9 9, key_of 2 0 0 0 0 0 0) ∷ (key_of 5 1 9 9 9 9 9, key_of 5 2 0 0 0 0 0)
+    ∷ (key_of 5 5 1 9 9 9 9, key_of 5 5 2 0 0 0 0) ∷ (key_of 5 5 5 1 9 9 9, key_of 5 5 5 2 0 0 0)
+    ∷ (key_of 5 5 5 5 1 9 9, key_of 5 5 5 5 2 0 0) ∷ (key_of 5 5 5 5 5 1 9, key_of 5 5 5 5 5 2 0)
+    ∷ (key_of 5 5 5 5 5 5 1, key_of 5 5 5 5 5 5 2) ∷ []

@@ -1,18 +1,16 @@
 //! Laws of keys: each function states some by its contract, and does nothing.
-ghost use Rattle.bufr_keys.specs.Laws.{UsableNumbersAre, UsableNumbersOnly, UsableTextsAre, UsableTextsOnly, MomentsAreSaid, SaidMomentsAre};
+ghost use Rattle.std.specs.Prelude.{◌≡◌};
+ghost use Rattle.bufr_keys.specs.KeyOrders.{station_cmp, moment_cmp, key_cmp};
+ghost use Rattle.bufr_keys.specs.declared.key.Key.{Key as AKey};
+ghost use Rattle.bufr_keys.specs.declared.key.Station.{Station as AStation};
+ghost use Rattle.bufr_keys.specs.declared.key.Moment.{Moment as AMoment};
 
-/// A usable number is that of a field that is not missing, no text and of scale 0; a usable text
-/// that of one that is not missing, of kind Text and more than blanks.
-pub fn usable_values()
-    ensures numbers { UsableNumbersAre }
-    ensures numbers_only { UsableNumbersOnly }
-    ensures texts { UsableTextsAre }
-    ensures texts_only { UsableTextsOnly }
-{}
+use crate::key::{Key, Moment, Station};
 
-/// A moment is what the fields say of year, month, day and hour, which are a date of the civil
-/// calendar and an hour from 0 to 23, and of minute and second.
-pub fn moments_are_dates()
-    ensures are { MomentsAreSaid }
-    ensures only { SaidMomentsAre }
+/// The order of keys is part by part: centre, category, its two sub-categories, station, moment and
+/// sub-centre; names are compared by octets.
+pub fn keys_in_order()
+    ensures keys { (a b : AKey) → ⟦<Key as Ord>⟧.cmp a b ≡ key_cmp a b }
+    ensures stations { (a b : AStation) → ⟦<Station as Ord>⟧.cmp a b ≡ station_cmp a b }
+    ensures moments { (a b : AMoment) → ⟦<Moment as Ord>⟧.cmp a b ≡ moment_cmp a b }
 {}

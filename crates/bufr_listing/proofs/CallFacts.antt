@@ -7,10 +7,10 @@ use Rattle.std.specs.List.{onto_first}
 use Rattle.std.proofs.lemmas.Bool.{cases_Bool, cond-false, false≢true}
 use Rattle.std.proofs.lemmas.List.Splits.{slice_split-cons_yes, slice_split-cons_no}
 use Rattle.std.specs.Str.{bytes_eq}
-use Rattle.bufr_tables.specs.Answers.{◌>>=◌, Fails}
-use Rattle.bufr_tables.specs.declared.failure.Failure.{Failure}
-use Rattle.bufr_tables.specs.declared.failure.Failure.TheVariants.{Fault, OutOfMemory}
-use Rattle.bufr_tables.specs.AnswerLaws.{ok_is}
+use Rattle.bufr_answers.specs.Answers.{◌>>=◌, Fails}
+use Rattle.bufr_answers.specs.declared.failure.Failure.{Failure}
+use Rattle.bufr_answers.specs.declared.failure.Failure.TheVariants.{Fault, OutOfMemory}
+use Rattle.bufr_answers.specs.AnswerLaws.{ok_is}
 use Rattle.bufr_listing.specs.declared.fault.ListingFault.{ListingFault}
 use Rattle.bufr_listing.specs.declared.fault.ListingFault.TheVariants.{BadLine, BadValue}
 use Rattle.bufr_listing.specs.Listings.{flags_line}

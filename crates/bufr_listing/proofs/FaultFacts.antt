@@ -10,7 +10,7 @@ use Rattle.bufr_expand.specs.declared.operators.Spec.{Spec}
 use Rattle.bufr_data.specs.Plain.{has_form_by}
 use Rattle.bufr_data.specs.FormLaws.{asked_passes}
 use Rattle.bufr_expand.specs.OperatorsInForce.{is_within}
-use Rattle.bufr_tables.specs.AnswerLaws.{bind_err, err_is}
+use Rattle.bufr_answers.specs.AnswerLaws.{bind_err, err_is}
 use Rattle.bufr_listing.specs.declared.fault.ListingFault.{ListingFault}
 use Rattle.bufr_listing.specs.declared.fault.ListingFault.TheVariants.{BadLine, BadValue}
 use Rattle.bufr_listing.specs.Listings.{field_line}

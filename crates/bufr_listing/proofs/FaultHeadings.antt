@@ -14,7 +14,7 @@ use Rattle.bufr_expand.specs.declared.node.TemplateFault.{TemplateFault}
 use Rattle.bufr_expand.specs.Templates.{template}
 use Rattle.bufr_expand.specs.Trees.{Tree}
 use Rattle.bufr_sections.specs.Sections.{AreOctets}
-use Rattle.bufr_tables.specs.AnswerLaws.{bind_ok, ok_is, bind_err, err_is}
+use Rattle.bufr_answers.specs.AnswerLaws.{bind_ok, ok_is, bind_err, err_is}
 use Rattle.bufr_listing.specs.declared.fault.ListingFault.{ListingFault}
 use Rattle.bufr_listing.specs.declared.fault.ListingFault.TheVariants.{BadLine, Refused}
 use Rattle.bufr_listing.specs.declared.fault.Cause.TheVariants as causes
@@ -29,7 +29,7 @@ use Rattle.bufr_listing.specs.Reading.{described, read_descriptors, fault_behind
 use Rattle.bufr_listing.specs.Reading.{time_limits}
 use Rattle.bufr_listing.specs.FirstFaults.{text_ends, Place, at_message, at_section1, at_time}
 use Rattle.bufr_listing.specs.FirstFaults.{behind_time, behind_local, behind_section2}
-use Rattle.bufr_listing.specs.FirstFaults.{at_descriptors, AreBefore, CouldStand, IsOfKindAt}
+use Rattle.bufr_listing.specs.FirstFaults.{at_descriptors, AreBefore, CouldBeAt, IsOfKindAt}
 use Rattle.bufr_listing.specs.FirstFaults.{IsLocal, IsSection2, IsFlags, AreOfLine, HasWords}
 use Rattle.bufr_listing.specs.FirstFaults.{HasWordsOfFlags, MessageFault}
 use Rattle.bufr_listing.specs.FirstFaults.{in_heading}
@@ -67,7 +67,7 @@ not_read {A} read n text own a fault is back h =
 -- a line that is read as no numbers of section 1
 pub section1_err : (n : ℕ) (text : List ℕ) (fault : ListingFault)
     → read_numbers (codes "section1") section1_limits n text ≡ Err fault
-    → (CouldStand at_section1 text → ⊥) × IsFaultOf (IsOfKindAt at_section1 text) n fault
+    → (CouldBeAt at_section1 text → ⊥) × IsFaultOf (IsOfKindAt at_section1 text) n fault
 section1_err n text fault h = (
   λ could.
       not_read (read_numbers (codes "section1") section1_limits) n text (section1_line could.0)
@@ -79,7 +79,7 @@ section1_err n text fault h = (
 -- a line that is read as no time
 pub time_err : (n : ℕ) (text : List ℕ) (fault : ListingFault)
     → read_numbers (codes "time") time_limits n text ≡ Err fault
-    → (CouldStand at_time text → ⊥) × IsFaultOf (IsOfKindAt at_time text) n fault
+    → (CouldBeAt at_time text → ⊥) × IsFaultOf (IsOfKindAt at_time text) n fault
 time_err n text fault h = (
   λ could.
       not_read (read_numbers (codes "time") time_limits) n text (time_line could.0)
@@ -91,7 +91,7 @@ time_err n text fault h = (
 -- a line that begins no message
 pub message_err : (n : ℕ) (text : List ℕ) (fault : ListingFault)
     → read_word (codes "message") n text ≡ Err fault
-    → (CouldStand at_message text → ⊥) × IsFaultOf (IsOfKindAt at_message text) n fault
+    → (CouldBeAt at_message text → ⊥) × IsFaultOf (IsOfKindAt at_message text) n fault
 message_err n text fault h = let p = word_err (codes "message") n text fault h in
     (not_title text (codes "message") p.0, other_kind ⊥ n fault (λ k. k) p.1)
 
@@ -172,7 +172,7 @@ flags_err n text fault h = (
 -- a line that is none of descriptors, or one of descriptors that have no template
 pub data DescriptorsErr (tables : Entries) (n : ℕ) (text : List ℕ) (fault : ListingFault) : Type 0
   where
-    no_line : (CouldStand at_descriptors text → ⊥) → fault ≡ BadLine n
+    no_line : (CouldBeAt at_descriptors text → ⊥) → fault ≡ BadLine n
         → DescriptorsErr tables n text fault
     no_template : (ds : List ℕ) (why : TemplateFault) → AreOfLine text ds → template tables ds
         ≡ Err why → fault ≡ Refused n (causes.Template why) → DescriptorsErr tables n text fault
@@ -247,7 +247,7 @@ pub at_place : {A : Type 0} (tables : Entries) (past : ℕ) (ls : List Line) (fa
     (mid : List Line)
     → UpTo ls lines mid → AreBefore place lines
     → ((l : Line) (behind : List Line) → mid ≡ l ∷ behind → read l.number l.text ≡ Err fault
-    → (CouldStand place l.text → ⊥) × IsFaultOf (IsOfKindAt place l.text) l.number fault)
+    → (CouldBeAt place l.text → ⊥) × IsFaultOf (IsOfKindAt place l.text) l.number fault)
     → read_line read past mid ≡ Err fault → MessageFault tables past ls fault
 at_place tables past ls fault place read lines mid u before each h =
     let stand : AreBefore place (texts u.own) =
@@ -257,7 +257,7 @@ at_place tables past ls fault place read lines mid u before each h =
       | inr some ↦
           let p = each some.0 some.1 some.2 some.3 in
           in_heading place u.own mid u.in_order stand
-          (unfit_line (CouldStand place) (IsOfKindAt place) past mid fault some.0 some.1 some.2
+          (unfit_line (CouldBeAt place) (IsOfKindAt place) past mid fault some.0 some.1 some.2
           p.0 p.1)
     ]
 
@@ -373,7 +373,7 @@ second_of (inr b) none = b
 -- a line of octets for local use that fails
 pub local_at : (l : Line) (fault : ListingFault) → first_word l.text ≡ codes "local1"
     → read_local l.number l.text ≡ Err fault
-    → (CouldStand behind_time l.text → ⊥) × IsFaultOf (IsOfKindAt behind_time l.text) l.number fault
+    → (CouldBeAt behind_time l.text → ⊥) × IsFaultOf (IsOfKindAt behind_time l.text) l.number fault
 local_at l fault titled h =
     let p = local_err l.number l.text fault h in
     let no_two = two_words l.text (codes "local1") (codes "section2") refl titled in
@@ -395,7 +395,7 @@ place_behind local (Some octets) = behind_section2
 -- a line of section 2 that fails
 pub section2_at : (local : Option (List ℕ)) (l : Line) (fault : ListingFault) → first_word l.text
     ≡ codes "section2" → read_section2 l.number l.text ≡ Err fault
-    → (CouldStand (place_behind local None) l.text → ⊥) × IsFaultOf
+    → (CouldBeAt (place_behind local None) l.text → ⊥) × IsFaultOf
     (IsOfKindAt (place_behind local None) l.text) l.number fault
 section2_at None l fault titled h =
     let p = section2_err l.number l.text fault h in
@@ -421,7 +421,7 @@ pub flags_at : (local two : Option (List ℕ)) (l : Line) (fault : ListingFault)
     → (local ≡ None → two ≡ None → first_word l.text ≡ codes "local1" → ⊥)
     → (two ≡ None → first_word l.text ≡ codes "section2" → ⊥)
     → read_flags l.number l.text ≡ Err fault
-    → (CouldStand (place_behind local two) l.text → ⊥) × IsFaultOf
+    → (CouldBeAt (place_behind local two) l.text → ⊥) × IsFaultOf
     (IsOfKindAt (place_behind local two) l.text) l.number fault
 flags_at None None l fault no_local no_two h =
     let p = flags_err l.number l.text fault h in (

@@ -25,12 +25,12 @@ use Rattle.bufr_listing.specs.Reading.{messages_listed}
 use Rattle.bufr_listing.specs.FirstFaults as faults
 use Rattle.bufr_listing.specs.FirstFaults.{Unfit, text_ends, bad_line, Place, at_message}
 use Rattle.bufr_listing.specs.FirstFaults.{at_section1, at_time, behind_time, behind_local}
-use Rattle.bufr_listing.specs.FirstFaults.{behind_section2, at_descriptors, AreBefore, CouldStand}
+use Rattle.bufr_listing.specs.FirstFaults.{behind_section2, at_descriptors, AreBefore, CouldBeAt}
 use Rattle.bufr_listing.specs.FirstFaults.{IsOfKindAt, AreOfLine}
 use Rattle.bufr_listing.specs.FirstFaults.{up_to_time, up_to_local, MessageFault, in_heading}
 use Rattle.bufr_listing.specs.FirstFaults.{in_subsets, FirstFault}
 use Rattle.bufr_tables.specs.DescriptorLaws.{six_by_place}
-use Rattle.bufr_tables.specs.AnswerLaws.{passed_ok, bind_err}
+use Rattle.bufr_answers.specs.AnswerLaws.{passed_ok, bind_err}
 use Rattle.bufr_listing.proofs.FieldFacts.{bytes_same}
 use Rattle.bufr_listing.proofs.SubsetFacts.{line_takes}
 use Rattle.bufr_listing.proofs.LineFacts.{numbers_take, octets_take, flags_take, descriptors_take}
@@ -163,7 +163,7 @@ flags_fault laws tables past ls fault ns ts local two mid fits some octets u no_
                       fault l.3) [
                         | no_line other is ↦
                             in_heading at_descriptors u5.own p5.0.1 u5.in_order stands
-                            (unfit_line (CouldStand at_descriptors) (IsOfKindAt at_descriptors)
+                            (unfit_line (CouldBeAt at_descriptors) (IsOfKindAt at_descriptors)
                             past p5.0.1 fault l.0 l.1 l.2 other
                             (other_kind ⊥ l.0.number fault (λ k. k) (sym is)))
                         | no_template ds why line has is ↦
@@ -226,7 +226,7 @@ two_fault laws tables past ls fault ns ts local mid fits some u no_local h =
           subst (λ (ls : List (List ℕ)). AreBefore (place_behind local None) ls)
           (append-nil all ∙ sym u.spelled) (behind_options ns ts local None fits some tt) in
           in_heading (place_behind local None) u.own mid u.in_order stand
-          (unfit_line (CouldStand (place_behind local None))
+          (unfit_line (CouldBeAt (place_behind local None))
           (IsOfKindAt (place_behind local None)) past mid fault i.line i.behind i.front p.0 p.1)
       | inr p4 ↦
           let t = if_takes (codes "section2") read_section2 mid p4.0 p4.1 in
@@ -302,7 +302,7 @@ message_fault laws tables past ls fault h =
                             let p = local_at i.line fault i.titled i.fails in
                             in_heading behind_time u2.own p2.0.1 u2.in_order
                             (h2, head_fits p1.0.0 p2.0.0 None w1.1 w2.1 none_fit, u2.spelled)
-                            (unfit_line (CouldStand behind_time) (IsOfKindAt behind_time) past
+                            (unfit_line (CouldBeAt behind_time) (IsOfKindAt behind_time) past
                             p2.0.1 fault i.line i.behind i.front p.0 p.1)
                         | inr p3 ↦
                             let t = if_takes (codes "local1") read_local p2.0.1 p3.0 p3.1 in

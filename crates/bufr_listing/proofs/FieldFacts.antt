@@ -18,13 +18,13 @@ use Rattle.hex.specs.Hex.{encode_with, encode_lower}
 use Rattle.hex.proofs.HexLemmas.{IsDigits-lower_digits}
 use Rattle.bufr_tables.specs.declared.element.Kind.{Kind}
 use Rattle.bufr_tables.specs.declared.element.Kind.TheVariants as kinds
-use Rattle.bufr_tables.specs.AnswerLaws.{passed_ok}
+use Rattle.bufr_answers.specs.AnswerLaws.{passed_ok}
 use Rattle.bufr_expand.specs.declared.operators.Spec.{Spec}
 use Rattle.bufr_expand.specs.OperatorsInForce.{is_within}
 use Rattle.bufr_data.specs.declared.field.Raw.{Raw}
 use Rattle.bufr_data.specs.declared.field.Raw.TheVariants.{Number, Text}
 use Rattle.bufr_data.specs.declared.field.Field.{Field}
-use Rattle.bufr_data.specs.Plain.{has_form_by, stands_for, same_spec}
+use Rattle.bufr_data.specs.Plain.{has_form_by, matches_spec, same_spec}
 use Rattle.bufr_data.specs.Values.{size_of, is_all_ones, is_missing, decimal_within, text_of}
 use Rattle.bufr_data.specs.DecimalTextFacts.{units_of_text, no_letter}
 use Rattle.bufr_data.specs.FormLaws.{same_spec_is, spec_is_same}
@@ -219,7 +219,7 @@ own_line n f fit form =
 
 -- a field that is asked for is read of its line
 pub read_field_back : (d : ℕ) (spec : Spec) (n : ℕ) (f : Field) → IsPrintable spec
-    → stands_for d spec f ≡ true → read_field d spec n (field_line f) ≡ Ok f
+    → matches_spec d spec f ≡ true → read_field d spec n (field_line f) ≡ Ok f
 read_field_back d spec n f fit stands =
     let p = and_parts (f.fxy == d && same_spec f.spec spec)
     (has_form_by spec.kind spec.width f.raw) stands in
@@ -232,7 +232,7 @@ read_field_back d spec n f fit stands =
 
 -- a field that is read is asked for, and the line is its own
 pub read_field_takes : (d : ℕ) (spec : Spec) (n : ℕ) (text : List ℕ) (f : Field)
-    → read_field d spec n text ≡ Ok f → (text ≡ field_line f) × (stands_for d spec f ≡ true)
+    → read_field d spec n text ≡ Ok f → (text ≡ field_line f) × (matches_spec d spec f ≡ true)
 read_field_takes d spec n text f h =
     let p = passed_ok (is_within 600 spec.scale && has_form_by spec.kind spec.width
     (raw_in spec (drop 7 text)) && bytes_eq (field_line (field_in d spec text)) text)
@@ -242,8 +242,8 @@ read_field_takes d spec n text f h =
     let formed =
     (and_parts (is_within 600 spec.scale)
     (has_form_by spec.kind spec.width (raw_in spec (drop 7 text))) q.0).1 in
-    let same : stands_for d spec (field_in d spec text) ≡ true =
+    let same : matches_spec d spec (field_in d spec text) ≡ true =
     rw (spec_is_same spec, formed, eq-eqb d d refl) refl in (
       sym (bytes_same (field_line (field_in d spec text)) text q.1) ∙ ap field_line p.1,
-      subst (λ (g : Field). stands_for d spec g ≡ true) p.1 same,
+      subst (λ (g : Field). matches_spec d spec g ≡ true) p.1 same,
     )

@@ -29,7 +29,7 @@ use Rattle.bufr_listing.specs.Limits.{two_octets}
 use Rattle.bufr_listing.specs.declared.fault.ListingFault.{ListingFault}
 use Rattle.bufr_listing.specs.declared.fault.ListingFault.TheVariants.{BadLine}
 use Rattle.bufr_sections.specs.Sections.{AreOctets, IsOctet}
-use Rattle.bufr_tables.specs.AnswerLaws.{ok_is, passed_ok}
+use Rattle.bufr_answers.specs.AnswerLaws.{ok_is, passed_ok}
 use Rattle.bufr_listing.specs.Listings.{words}
 use Rattle.bufr_listing.specs.Lines.{words_of}
 use Rattle.bufr_listing.specs.Reading.{are_below, numbers_in, read_numbers, octets_by, octets_in}

@@ -4,13 +4,13 @@ use Rattle.std.proofs.Common.{length, length-append, map, codes, Result, Ok, Err
 use Rattle.std.proofs.Common.{◌∙◌, arith}
 use Rattle.std.specs.Str.{bytes_eq}
 use Rattle.std.proofs.lemmas.List.{append-nil, length-map}
-use Rattle.bufr_tables.specs.Answers.{◌>>=◌, Fails, result_map}
-use Rattle.bufr_tables.specs.declared.failure.Failure.{Failure}
-use Rattle.bufr_tables.specs.declared.failure.Failure.TheVariants.{Fault, OutOfMemory}
+use Rattle.bufr_answers.specs.Answers.{◌>>=◌, Fails, result_map}
+use Rattle.bufr_answers.specs.declared.failure.Failure.{Failure}
+use Rattle.bufr_answers.specs.declared.failure.Failure.TheVariants.{Fault, OutOfMemory}
 use Rattle.bufr_expand.specs.Courses.{Course}
 use Rattle.bufr_data.specs.declared.field.Field.{Field}
 use Rattle.bufr_data.specs.declared.field.Subset.{Subset}
-use Rattle.bufr_tables.specs.AnswerLaws.{bind_ok, ok_is}
+use Rattle.bufr_answers.specs.AnswerLaws.{bind_ok, ok_is}
 use Rattle.bufr_listing.specs.declared.fault.ListingFault.{ListingFault}
 use Rattle.bufr_listing.specs.declared.fault.ListingFault.TheVariants.{BadLine}
 use Rattle.bufr_listing.specs.Cursors.{is_end, behind}

@@ -8,7 +8,7 @@ use Rattle.std.specs.List.{flat_map, AllByRecursion}
 use Rattle.std.specs.Str.{bytes_eq}
 use Rattle.std.proofs.lemmas.Bool.{and_from, lt-ltb}
 use Rattle.std.proofs.lemmas.List.Elements.{All-from_recursion}
-use Rattle.bufr_tables.specs.Answers.{◌>>=◌}
+use Rattle.bufr_answers.specs.Answers.{◌>>=◌}
 use Rattle.bufr_tables.specs.Entries.{Entries}
 use Rattle.bufr_expand.specs.Courses.{course}
 use Rattle.bufr_expand.specs.Limits.{most_items}
@@ -24,7 +24,7 @@ use Rattle.bufr_listing.specs.Listings.{section1_numbers, time_numbers, numbers_
 use Rattle.bufr_listing.specs.Limits.{two_octets}
 use Rattle.bufr_listing.specs.declared.fault.ListingFault.{ListingFault}
 use Rattle.bufr_sections.specs.Sections.{AreOctets, HeadFits, IsOctet}
-use Rattle.bufr_tables.specs.AnswerLaws.{bind_ok, ok_is, passed_ok}
+use Rattle.bufr_answers.specs.AnswerLaws.{bind_ok, ok_is, passed_ok}
 use Rattle.bufr_listing.specs.Lines.{Line, texts, first_word}
 use Rattle.bufr_listing.specs.Lines.{CanBeListed}
 use Rattle.bufr_listing.specs.Reading.{with_rest, read_if, read_word, are_below}

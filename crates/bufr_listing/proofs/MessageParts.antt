@@ -3,8 +3,8 @@
 -- the laws of listings.
 use Rattle.std.proofs.Common.{◌≡◌, ℕ, List, length, codes, Result, Ok}
 use Rattle.std.specs.Prelude.{Option}
-use Rattle.bufr_tables.specs.Answers.{◌>>=◌}
-use Rattle.bufr_tables.specs.AnswerLaws.{bind_ok, ok_is}
+use Rattle.bufr_answers.specs.Answers.{◌>>=◌}
+use Rattle.bufr_answers.specs.AnswerLaws.{bind_ok, ok_is}
 use Rattle.bufr_tables.specs.Entries.{Entries}
 use Rattle.bufr_expand.specs.Courses.{course}
 use Rattle.bufr_data.specs.declared.field.Subset.{Subset}

@@ -5,15 +5,15 @@ use Rattle.std.proofs.Common.{◌++◌, append_assoc, length, length-append, cod
 use Rattle.std.proofs.Common.{refl, sym, ap, ◌∙◌, subst, arith}
 use Rattle.std.specs.Prelude.{Option, Some, None}
 use Rattle.std.proofs.lemmas.List.{append-nil}
-use Rattle.bufr_tables.specs.Answers.{◌>>=◌, Fails, result_map}
+use Rattle.bufr_answers.specs.Answers.{◌>>=◌, Fails, result_map}
 use Rattle.bufr_tables.specs.Entries.{Entries}
-use Rattle.bufr_tables.specs.declared.failure.Failure.{Failure}
-use Rattle.bufr_tables.specs.declared.failure.Failure.TheVariants.{Fault, OutOfMemory}
+use Rattle.bufr_answers.specs.declared.failure.Failure.{Failure}
+use Rattle.bufr_answers.specs.declared.failure.Failure.TheVariants.{Fault, OutOfMemory}
 use Rattle.bufr_expand.specs.Courses.{course}
 use Rattle.bufr_data.specs.declared.field.Subset.{Subset}
 use Rattle.bufr_sections.specs.declared.message.Head.{Head}
 use Rattle.bufr_sections.specs.declared.message.Message.{Message}
-use Rattle.bufr_tables.specs.AnswerLaws.{ok_is}
+use Rattle.bufr_answers.specs.AnswerLaws.{ok_is}
 use Rattle.bufr_listing.specs.declared.fault.ListingFault.{ListingFault}
 use Rattle.std.specs.Option.{is_some}
 use Rattle.bufr_listing.specs.declared.lines.TextLine.{TextLine}

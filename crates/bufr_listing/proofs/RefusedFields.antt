@@ -7,7 +7,7 @@ use Rattle.std.proofs.Common.{Result, Ok, Err, refl, sym, ap, ◌∙◌, subst, 
 use Rattle.std.specs.List.{flat_map}
 use Rattle.std.specs.Str.{bytes_eq}
 use Rattle.std.proofs.lemmas.List.{map-append}
-use Rattle.bufr_tables.specs.Answers.{◌>>=◌}
+use Rattle.bufr_answers.specs.Answers.{◌>>=◌}
 use Rattle.bufr_expand.specs.Limits.{most_items}
 use Rattle.bufr_expand.specs.declared.operators.Spec.{Spec}
 use Rattle.bufr_expand.specs.declared.walk.WalkFault.{WalkFault}
@@ -20,10 +20,10 @@ use Rattle.bufr_data.specs.declared.field.Field.{Field}
 use Rattle.bufr_data.specs.declared.field.Subset.{Subset}
 use Rattle.bufr_data.specs.Plain.{number_of, items_of, items_of_all}
 use Rattle.bufr_data.specs.Fits.{HasForm, told_of}
-use Rattle.bufr_data.specs.Refusals.{Passes}
+use Rattle.bufr_data.specs.Plain.Refusals.{Passes}
 use Rattle.bufr_data.specs.FormLaws.{asked_is, asked_passes}
 use Rattle.bufr_data.specs.CourseLaws.{Formed, passes_after, one_left}
-use Rattle.bufr_tables.specs.AnswerLaws.{bind_ok}
+use Rattle.bufr_answers.specs.AnswerLaws.{bind_ok}
 use Rattle.bufr_listing.specs.declared.fault.ListingFault.{ListingFault}
 use Rattle.bufr_listing.specs.declared.fault.ListingFault.TheVariants.{BadLine}
 use Rattle.bufr_listing.specs.Listings.{field_line, subset_lines}

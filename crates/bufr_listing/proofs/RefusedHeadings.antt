@@ -8,9 +8,9 @@ use Rattle.std.proofs.Common.{Result, Ok, Err, refl, sym, ap, ◌∙◌, subst, 
 use Rattle.std.specs.Prelude.{IfSome, Option, Some, None}
 use Rattle.std.specs.Str.{bytes_eq}
 use Rattle.std.proofs.lemmas.List.{append-nil}
-use Rattle.bufr_tables.specs.Answers.{◌>>=◌}
+use Rattle.bufr_answers.specs.Answers.{◌>>=◌}
 use Rattle.bufr_tables.specs.Entries.{Entries}
-use Rattle.bufr_tables.specs.declared.failure.Failure.TheVariants.{Fault}
+use Rattle.bufr_answers.specs.declared.failure.Failure.TheVariants.{Fault}
 use Rattle.bufr_sections.specs.declared.message.Head.{Head}
 use Rattle.bufr_sections.specs.Sections.{AreOctets, HeadFits}
 use Rattle.bufr_listing.specs.declared.fault.ListingFault.{ListingFault}
@@ -24,7 +24,7 @@ use Rattle.bufr_listing.specs.Reading.{read_descriptors, section1_limits, time_l
 use Rattle.bufr_listing.specs.Reading.{are_below, head_read, message_read}
 use Rattle.bufr_listing.specs.FirstFaults.{Unfit, Place, at_message, at_section1, at_time}
 use Rattle.bufr_listing.specs.FirstFaults.{behind_time, behind_local, behind_section2}
-use Rattle.bufr_listing.specs.FirstFaults.{at_descriptors, AreBefore, CouldStand, IsOfKindAt}
+use Rattle.bufr_listing.specs.FirstFaults.{at_descriptors, AreBefore, CouldBeAt, IsOfKindAt}
 use Rattle.bufr_listing.specs.FirstFaults.{IsSection2, IsFlags, up_to_time, up_to_local}
 use Rattle.bufr_listing.proofs.LowerLaws.{DescriptorTexts}
 use Rattle.bufr_listing.proofs.LineFacts.{numbers_take, octets_take, local_back, section2_take}
@@ -51,20 +51,20 @@ use Rattle.bufr_listing.proofs.RefusedLines.{none_before, line_passed}
 -- a line that could not stand at a place of section 1 is the fault of section 1
 abbrev RefusedInHead : Place → Type 0
 RefusedInHead place = (past : ℕ) (own rest : List Line) (fault : ListingFault)
-    → AreBefore place (texts own) → Unfit (CouldStand place) (IsOfKindAt place) past rest fault
+    → AreBefore place (texts own) → Unfit (CouldBeAt place) (IsOfKindAt place) past rest fault
     → head_read past (own ++ rest) ≡ Err fault
 
 -- one that could not stand at a place of a heading is that of the message
 abbrev pub RefusedAt : Entries → Place → Type 0
 RefusedAt tables place = (past : ℕ) (own rest : List Line) (fault : ListingFault)
-    → AreBefore place (texts own) → Unfit (CouldStand place) (IsOfKindAt place) past rest fault
+    → AreBefore place (texts own) → Unfit (CouldBeAt place) (IsOfKindAt place) past rest fault
     → message_read tables past (own ++ rest) ≡ Err fault
 
 -- ---- reading decides which lines could stand
 
 -- the line of section 1 but its time
 section1_decides : (l : Line)
-    → Decides (CouldStand at_section1) (IsOfKindAt at_section1)
+    → Decides (CouldBeAt at_section1) (IsOfKindAt at_section1)
     (read_numbers (codes "section1") section1_limits) l
 section1_decides l =
     let zeros : List ℕ = 0 ∷ 0 ∷ 0 ∷ 0 ∷ 0 ∷ 0 ∷ [] in
@@ -84,7 +84,7 @@ time_head ts below =
 
 -- the line of the time
 time_decides : (l : Line)
-    → Decides (CouldStand at_time) (IsOfKindAt at_time) (read_numbers (codes "time") time_limits) l
+    → Decides (CouldBeAt at_time) (IsOfKindAt at_time) (read_numbers (codes "time") time_limits) l
 time_decides l =
     let zeros : List ℕ = 0 ∷ 0 ∷ 0 ∷ 0 ∷ 0 ∷ 0 ∷ 0 ∷ 0 ∷ [] in
     record {
@@ -99,7 +99,7 @@ time_decides l =
 
 -- a line of octets for local use
 local_decides : (l : Line) → first_word l.text ≡ codes "local1"
-    → Decides (CouldStand behind_time) (IsOfKindAt behind_time) read_local l
+    → Decides (CouldBeAt behind_time) (IsOfKindAt behind_time) read_local l
 local_decides l titled =
     record {
       stands = λ os h.
@@ -110,13 +110,13 @@ local_decides l titled =
 
 -- a line of section 2 could stand behind the time and behind the local octets
 section2_could : (local : Option (List ℕ)) (text : List ℕ) → IsSection2 text
-    → CouldStand (place_behind local None) text
+    → CouldBeAt (place_behind local None) text
 section2_could None text is = inr (inl is)
 section2_could (Some octets) text is = inl is
 
 -- a line of section 2
 section2_decides : (local : Option (List ℕ)) (l : Line) → first_word l.text ≡ codes "section2"
-    → Decides (CouldStand (place_behind local None)) (IsOfKindAt (place_behind local None))
+    → Decides (CouldBeAt (place_behind local None)) (IsOfKindAt (place_behind local None))
     read_section2 l
 section2_decides local l titled =
     record {
@@ -128,7 +128,7 @@ section2_decides local l titled =
 
 -- a line of flags could stand behind the time, the local octets and section 2
 flags_could : (local two : Option (List ℕ)) (text : List ℕ) → IsFlags text
-    → CouldStand (place_behind local two) text
+    → CouldBeAt (place_behind local two) text
 flags_could None None text is = inr (inr is)
 flags_could (Some octets) None text is = inr is
 flags_could None (Some two) text is = is
@@ -138,7 +138,7 @@ flags_could (Some octets) (Some two) text is = is
 flags_decide : (local two : Option (List ℕ)) (l : Line)
     → (local ≡ None → two ≡ None → first_word l.text ≡ codes "local1" → ⊥)
     → (two ≡ None → first_word l.text ≡ codes "section2" → ⊥)
-    → Decides (CouldStand (place_behind local two)) (IsOfKindAt (place_behind local two))
+    → Decides (CouldBeAt (place_behind local two)) (IsOfKindAt (place_behind local two))
     read_flags l
 flags_decide local two l no_local no_two =
     record {
@@ -150,7 +150,7 @@ flags_decide local two l no_local no_two =
 
 -- a line of descriptors
 descriptors_decide : DescriptorTexts → (tables : Entries) (l : Line)
-    → Decides (CouldStand at_descriptors) (IsOfKindAt at_descriptors) (read_descriptors tables) l
+    → Decides (CouldBeAt at_descriptors) (IsOfKindAt at_descriptors) (read_descriptors tables) l
 descriptors_decide texts tables l =
     record {
       stands = λ x h.
@@ -200,7 +200,7 @@ message_line_refused : RefusedInHead at_message
 message_line_refused past own rest fault e h =
     ap (λ (ls : List Line). head_read past ls) (none_before own rest e)
     ∙ fails_on (read_line (read_word (codes "message")) past rest) _ fault
-    (unfit_read (CouldStand at_message) (IsOfKindAt at_message) (read_word (codes "message")) past
+    (unfit_read (CouldBeAt at_message) (IsOfKindAt at_message) (read_word (codes "message")) past
     rest fault (λ l behind is. word_decides (codes "message") l) h)
 
 -- that of section 1 could not
@@ -211,7 +211,7 @@ section1_line_refused past own rest fault e h =
     (λ n. word_back (codes "message") n) e in
     let fails : read_line read past (a.others ++ rest) ≡ Err fault =
     ap (λ (ls : List Line). read_line read past ls) (none_before a.others rest a.spelled)
-    ∙ unfit_read (CouldStand at_section1) (IsOfKindAt at_section1) read past rest fault
+    ∙ unfit_read (CouldBeAt at_section1) (IsOfKindAt at_section1) read past rest fault
     (λ l behind is. section1_decides l) h in
     goes_on _ _ _ _ a.reads (fails_on (read_line read past (a.others ++ rest)) _ fault fails)
 
@@ -226,7 +226,7 @@ time_line_refused past own rest fault before h =
     (λ n. section1_back n before.0 before.1) a.spelled in
     let fails : read_line read past (b.others ++ rest) ≡ Err fault =
     ap (λ (ls : List Line). read_line read past ls) (none_before b.others rest b.spelled)
-    ∙ unfit_read (CouldStand at_time) (IsOfKindAt at_time) read past rest fault
+    ∙ unfit_read (CouldBeAt at_time) (IsOfKindAt at_time) read past rest fault
     (λ l behind is. time_decides l) h in
     goes_on _ _ _ _ a.reads
     (goes_on _ _ _ _ b.reads (fails_on (read_line read past (b.others ++ rest)) _ fault fails))
@@ -350,11 +350,11 @@ head_passed past own rest h more fits other e =
 flags_refused : (local two : Option (List ℕ)) (past : ℕ) (ls : List Line) (fault : ListingFault)
     → (local ≡ None → two ≡ None → IsNotTitled (codes "local1") ls)
     → (two ≡ None → IsNotTitled (codes "section2") ls)
-    → Unfit (CouldStand (place_behind local two)) (IsOfKindAt (place_behind local two))
+    → Unfit (CouldBeAt (place_behind local two)) (IsOfKindAt (place_behind local two))
     past ls fault
     → read_line read_flags past ls ≡ Err fault
 flags_refused local two past ls fault no_local no_two h =
-    unfit_read (CouldStand (place_behind local two)) (IsOfKindAt (place_behind local two))
+    unfit_read (CouldBeAt (place_behind local two)) (IsOfKindAt (place_behind local two))
     read_flags past ls fault
     (λ l behind e.
     flags_decide local two l (λ a b. no_local a b l behind e) (λ b. no_two b l behind e)) h
@@ -362,14 +362,14 @@ flags_refused local two past ls fault no_local no_two h =
 -- where neither section 2 nor the flags could stand, that is the fault
 section2_refused : (tables : Entries) (past : ℕ) (h : Head) (local : Option (List ℕ))
     (ls : List Line) (fault : ListingFault) → (local ≡ None → IsNotTitled (codes "local1") ls)
-    → Unfit (CouldStand (place_behind local None)) (IsOfKindAt (place_behind local None))
+    → Unfit (CouldBeAt (place_behind local None)) (IsOfKindAt (place_behind local None))
     past ls fault
     → from_section2 tables past h ls ≡ Err fault
 section2_refused tables past h local ls fault no_local u =
     elim (titled_or_not (codes "section2") ls) [
       | inl p ↦
           fails_on (read_if (codes "section2") read_section2 ls) _ fault
-          (titled_refused (CouldStand (place_behind local None))
+          (titled_refused (CouldBeAt (place_behind local None))
           (IsOfKindAt (place_behind local None)) (codes "section2") read_section2 past ls p.0 p.1
           fault p.2 p.3 (section2_decides local p.0 p.3) u)
       | inr other ↦
@@ -394,7 +394,7 @@ behind_time_refused tables past own rest fault before u =
           head_fails tables past (own ++ rest) (Fault fault)
           (reads
           ∙ fails_on (read_if (codes "local1") read_local rest) _ fault
-          (titled_refused (CouldStand behind_time) (IsOfKindAt behind_time) (codes "local1")
+          (titled_refused (CouldBeAt behind_time) (IsOfKindAt behind_time) (codes "local1")
           read_local past rest p.0 p.1 fault p.2 p.3 (local_decides p.0 p.3) u))
       | inr other ↦
           let g = head_with (section1_numbers h) (time_numbers h) None in
@@ -480,7 +480,7 @@ descriptors_refused : DescriptorTexts → (tables : Entries) → RefusedAt table
 descriptors_refused texts tables past own rest fault before u =
     flags_passed tables past own rest before
     ∙ fails_on (read_line (read_descriptors tables) past rest) _ fault
-    (unfit_read (CouldStand at_descriptors) (IsOfKindAt at_descriptors) (read_descriptors tables)
+    (unfit_read (CouldBeAt at_descriptors) (IsOfKindAt at_descriptors) (read_descriptors tables)
     past rest fault (λ l behind e. descriptors_decide texts tables l) u)
 
 -- ---- at each place

@@ -8,8 +8,8 @@ use Rattle.std.specs.Prelude.{Some, None}
 use Rattle.std.specs.Str.{bytes_eq}
 use Rattle.std.proofs.lemmas.Bool.{cases_Bool}
 use Rattle.std.proofs.lemmas.List.{drop_at}
-use Rattle.bufr_tables.specs.Answers.{◌>>=◌}
-use Rattle.bufr_tables.specs.AnswerLaws.{passed_ok}
+use Rattle.bufr_answers.specs.Answers.{◌>>=◌}
+use Rattle.bufr_answers.specs.AnswerLaws.{passed_ok}
 use Rattle.bufr_listing.specs.declared.fault.ListingFault.{ListingFault}
 use Rattle.bufr_listing.specs.declared.fault.ListingFault.TheVariants.{BadLine}
 use Rattle.bufr_listing.specs.Lines.{Line, texts, first_word}

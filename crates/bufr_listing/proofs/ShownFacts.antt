@@ -22,7 +22,7 @@ use Rattle.bufr_expand.specs.declared.operators.Spec.{Spec}
 use Rattle.bufr_expand.specs.Courses.{Course, ends, stops, asks, course}
 use Rattle.bufr_data.specs.declared.field.Raw.{Raw}
 use Rattle.bufr_data.specs.declared.field.Raw.TheVariants.{Number, Text}
-use Rattle.bufr_data.specs.Plain.{number_of, has_form_by, same_spec, stands_for, items_of}
+use Rattle.bufr_data.specs.Plain.{number_of, has_form_by, same_spec, matches_spec, items_of}
 use Rattle.bufr_data.specs.Plain.{items_of_all}
 use Rattle.bufr_data.specs.Values.{is_missing, decimal_within}
 use Rattle.bufr_listing.proofs.LowerLaws.{LowerLaws}
@@ -31,12 +31,12 @@ use Rattle.bufr_data.specs.FormLaws.{same_spec_is}
 use Rattle.bufr_sections.specs.declared.message.Message.{Message}
 use Rattle.bufr_sections.specs.Sections.{AreOctets, HeadFits, IsOctet}
 use Rattle.bufr_sections.specs.declared.message.Head.{Head}
-use Rattle.bufr_tables.specs.AnswerLaws.{bind_ok}
+use Rattle.bufr_answers.specs.AnswerLaws.{bind_ok}
 use Rattle.bufr_listing.specs.Listings.{field_line, subset_lines, end_line, lines_of}
 use Rattle.bufr_listing.specs.Listings.{flags_line, descriptors_line, heading_of}
 use Rattle.bufr_listing.specs.Listings.{octets_line, local_lines, section2_line, section2_lines}
 use Rattle.bufr_listing.specs.Listings.{section1_numbers, time_numbers, numbers_line}
-use Rattle.bufr_listing.specs.Listings.{joined, is_plain, quoted_octet, quoted, number_word}
+use Rattle.bufr_listing.specs.Listings.{joined, stands_for_itself, quoted_octet, quoted, number_word}
 use Rattle.bufr_listing.specs.Listings.{value_word, heading_lines, listing}
 use Rattle.bufr_listing.specs.Lines.{texts}
 use Rattle.bufr_listing.specs.Lines.{is_skipped, lower_digit, as_printed, has_octets, first_word}
@@ -275,7 +275,7 @@ descriptors_shown (d ∷ ds) some =
 
 -- what is quoted for an octet is plain
 octet_plain : (c : ℕ) → c < 256 → IsPlain (quoted_octet c)
-octet_plain c small = by_test (is_plain c)
+octet_plain c small = by_test (stands_for_itself c)
     (λ e. leb-true 32 c (and_parts _ _ (and_parts _ _ (and_parts _ _ e).0).0).0)
   where
     by_test : (b : Bool) → (b ≡ true → 32 ≤ c)
@@ -370,7 +370,7 @@ field_shown f form fit = record {
 }
 
 -- the line of a field that is asked for
-asked_shown : (d : ℕ) (spec : Spec) (f : Field) → IsPrintable spec → stands_for d spec f ≡ true
+asked_shown : (d : ℕ) (spec : Spec) (f : Field) → IsPrintable spec → matches_spec d spec f ≡ true
     → IsShown (field_line f)
 asked_shown d spec f fit stands =
     let p = and_parts (f.fxy == d && same_spec f.spec spec)
@@ -389,7 +389,7 @@ fields_shown j i (stops met fault) fields n fit h = absurd cc
 fields_shown j i (asks met d spec more) [] n fit h = absurd cc
 fields_shown j i (asks met d spec more) (f ∷ fields) n fit h =
     let p =
-    if_answered (stands_for d spec f) (items_of j (i + 1) (more (number_of f.raw)) fields) _ n
+    if_answered (matches_spec d spec f) (items_of j (i + 1) (more (number_of f.raw)) fields) _ n
     h in (
       asked_shown d spec f fit.0 p.0,
       fields_shown j (i + 1) (more (number_of f.raw)) fields n

@@ -7,12 +7,12 @@ use Rattle.std.specs.Prelude.{Result, Ok}
 use Rattle.std.specs.List.{flat_map}
 use Rattle.std.specs.Str.{bytes_eq}
 use Rattle.std.proofs.lemmas.Bool.{cases_Bool}
-use Rattle.bufr_tables.specs.Answers.{◌>>=◌}
+use Rattle.bufr_answers.specs.Answers.{◌>>=◌}
 use Rattle.bufr_expand.specs.Courses.{Course, ends, stops, asks}
 use Rattle.bufr_data.specs.declared.field.Field.{Field}
 use Rattle.bufr_data.specs.declared.field.Subset.{Subset}
-use Rattle.bufr_data.specs.Plain.{number_of, stands_for, items_of, items_of_all}
-use Rattle.bufr_tables.specs.AnswerLaws.{bind_ok, ok_is, passed_ok}
+use Rattle.bufr_data.specs.Plain.{number_of, matches_spec, items_of, items_of_all}
+use Rattle.bufr_answers.specs.AnswerLaws.{bind_ok, ok_is, passed_ok}
 use Rattle.bufr_listing.specs.declared.fault.ListingFault.{ListingFault}
 use Rattle.bufr_listing.specs.Listings.{field_line, subset_lines}
 use Rattle.bufr_listing.specs.Lines.{Line, texts}
@@ -114,7 +114,7 @@ fields_back past j i (ends n) ls (f ∷ fields) items others fit h e = absurd cc
 fields_back past j i (stops met fault) ls fields items others fit h e = absurd cc
 fields_back past j i (asks met d spec more) ls [] items others fit h e = absurd cc
 fields_back past j i (asks met d spec more) ls (f ∷ fields) items others fit h e =
-    let p = if_answered (stands_for d spec f) (items_of j (i + 1) (more (number_of f.raw)) fields) _
+    let p = if_answered (matches_spec d spec f) (items_of j (i + 1) (more (number_of f.raw)) fields) _
     items h in
     let one =
     line_back (read_field d spec) past ls (field_line f) (map field_line fields ++ others) f

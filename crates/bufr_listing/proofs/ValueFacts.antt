@@ -22,7 +22,7 @@ use Rattle.bufr_expand.specs.OperatorsInForce.{is_within}
 use Rattle.bufr_data.specs.declared.field.Raw.{Raw}
 use Rattle.bufr_data.specs.declared.field.Raw.TheVariants.{Number, Text}
 use Rattle.bufr_data.specs.declared.field.Field.{Field}
-use Rattle.bufr_data.specs.Plain.{has_form_by, stands_for}
+use Rattle.bufr_data.specs.Plain.{has_form_by, matches_spec}
 use Rattle.bufr_data.specs.FormLaws.{spec_is_same}
 use Rattle.bufr_listing.specs.declared.fault.ListingFault.TheVariants.{BadLine, BadValue}
 use Rattle.bufr_listing.specs.Listings.{quoted_octet, quoted, value_word, field_line}
@@ -306,7 +306,7 @@ pub value_some : (d : ℕ) (spec : Spec) (n : ℕ) (text : List ℕ) (raw : Raw)
 value_some d spec n text raw fits begins h =
     let p = raw_is d spec (drop 7 text) raw h in
     let f : Field = record { fxy = d; spec = spec; raw = raw } in
-    let stands : stands_for d spec (record { fxy = d; spec = spec; raw = raw }) ≡ true =
+    let stands : matches_spec d spec (record { fxy = d; spec = spec; raw = raw }) ≡ true =
     rw (spec_is_same spec, p.1.form, eq-eqb d d refl) refl in
     let line : field_line (record { fxy = d; spec = spec; raw = raw }) ≡ text =
     ap (λ w. six_digits d ++ 32 ∷ w) p.1.printed ∙ sym (line_is d text begins) in

@@ -17,7 +17,7 @@ use Rattle.bufr_expand.specs.NextFields.{wants, lacks, BeginsWithin, PassesLimit
 use Rattle.bufr_data.specs.declared.field.Field.{Field}
 use Rattle.bufr_data.specs.declared.field.Subset.{Subset}
 use Rattle.bufr_data.specs.Fits.{told_of, AllFitWithin}
-use Rattle.bufr_data.specs.Refusals.{IsAsked}
+use Rattle.bufr_data.specs.Plain.Refusals.{IsAsked}
 use Rattle.bufr_data.specs.Causes.{Begin}
 use Rattle.bufr_sections.specs.declared.message.Head.{Head}
 use Rattle.bufr_sections.specs.declared.message.Message.{Message}
@@ -104,14 +104,14 @@ abbrev pub AreOfLine : List ℕ → List ℕ → Type 0
 AreOfLine text ds = (0 < length ds) × All (λ d. d < 2 ^ 16) ds × (text ≡ descriptors_line ds)
 
 -- a line could stand at a place
-abbrev pub CouldStand : Place → List ℕ → Type 0
-CouldStand at_message text = text ≡ codes "message"
-CouldStand at_section1 text = (h : Head) × HeadFits h × (text ≡ section1_line h)
-CouldStand at_time text = (h : Head) × HeadFits h × (text ≡ time_line h)
-CouldStand behind_time text = IsLocal text ⊎ (IsSection2 text ⊎ IsFlags text)
-CouldStand behind_local text = IsSection2 text ⊎ IsFlags text
-CouldStand behind_section2 text = IsFlags text
-CouldStand at_descriptors text = (ds : List ℕ) × AreOfLine text ds
+abbrev pub CouldBeAt : Place → List ℕ → Type 0
+CouldBeAt at_message text = text ≡ codes "message"
+CouldBeAt at_section1 text = (h : Head) × HeadFits h × (text ≡ section1_line h)
+CouldBeAt at_time text = (h : Head) × HeadFits h × (text ≡ time_line h)
+CouldBeAt behind_time text = IsLocal text ⊎ (IsSection2 text ⊎ IsFlags text)
+CouldBeAt behind_local text = IsSection2 text ⊎ IsFlags text
+CouldBeAt behind_section2 text = IsFlags text
+CouldBeAt at_descriptors text = (ds : List ℕ) × AreOfLine text ds
 
 -- a line has this first word and so many words
 abbrev pub HasWords : List ℕ → ℕ → List ℕ → Type 0
@@ -201,7 +201,7 @@ pub data MessageFault (tables : Entries) (past : ℕ) (ls : List Line) (fault : 
     : Type 0 where
   in_heading : (place : Place) (own rest : List Line) → ls ≡ own ++ rest
       → AreBefore place (texts own)
-      → Unfit (CouldStand place) (IsOfKindAt place) past rest fault
+      → Unfit (CouldBeAt place) (IsOfKindAt place) past rest fault
       → MessageFault tables past ls fault
   no_tree : (own : List Line) (l : Line) (rest : List Line) (ds : List ℕ) (why : TemplateFault)
       → ls ≡ own ++ l ∷ rest → AreBefore at_descriptors (texts own) → AreOfLine l.text ds

@@ -31,12 +31,12 @@ joined ls = flat_map line ls
 -- ---- values
 
 -- an octet that stands for itself between quotes: 0x20 to 0x7E, but for the quote and the backslash
-abbrev pub is_plain : ℕ → Bool
-is_plain c = nat_le 32 c && nat_le c 126 && not (c == 34) && not (c == 92)
+abbrev pub stands_for_itself : ℕ → Bool
+stands_for_itself c = nat_le 32 c && nat_le c 126 && not (c == 34) && not (c == 92)
 
 -- every other octet stands as a backslash and two digits
 abbrev pub quoted_octet : ℕ → List ℕ
-quoted_octet c = if is_plain c then c ∷ [] else 92 ∷ encode_lower (c ∷ [])
+quoted_octet c = if stands_for_itself c then c ∷ [] else 92 ∷ encode_lower (c ∷ [])
 
 -- characters between quotes
 abbrev pub quoted : List ℕ → List ℕ

@@ -8,7 +8,7 @@ use Rattle.std.specs.Str.Lines.{lines}
 use Rattle.std.specs.Str.Parse.{digits_value}
 use Rattle.hex.specs.declared.error.FromHexError.{FromHexError}
 use Rattle.hex.specs.Hex.{decode_of}
-use Rattle.bufr_tables.specs.Answers.{◌>>=◌, result_map}
+use Rattle.bufr_answers.specs.Answers.{◌>>=◌, result_map}
 use Rattle.bufr_tables.specs.Descriptors.{of_text}
 use Rattle.bufr_tables.specs.Entries.{Entries}
 use Rattle.bufr_expand.specs.declared.node.TemplateFault.{TemplateFault}

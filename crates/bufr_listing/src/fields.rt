@@ -5,8 +5,8 @@ ghost use Rattle.bufr_data.specs.Values.{value};
 ghost use Rattle.bufr_listing.specs.Listings.{line, joined, quoted_octet, quoted, number_word};
 ghost use Rattle.bufr_listing.specs.Listings.{value_word, field_line, subset_lines};
 
+use bufr_answers::OutOfMemory;
 use bufr_data::{Field, Raw, Subset};
-use bufr_tables::OutOfMemory;
 use std::alloc::Global;
 
 /// Adds the lines of a subset to octets. Where memory runs out they are as they were.

@@ -5,7 +5,7 @@ ghost use Rattle.std.specs.Prelude.{option_map, true, false, if◌then◌else◌
 ghost use Rattle.std.specs.Str.{bytes_eq};
 ghost use Rattle.std.specs.List.{AllByRecursion};
 ghost use Rattle.hex.specs.declared.error.FromHexError.TheVariants.{OutOfMemory};
-ghost use Rattle.bufr_tables.specs.Answers.{Gives};
+ghost use Rattle.bufr_answers.specs.Answers.{Gives};
 ghost use Rattle.bufr_expand.specs.Templates.{template};
 ghost use Rattle.bufr_listing.specs.Limits.{two_octets};
 ghost use Rattle.bufr_listing.specs.Cursors.{left, past};
@@ -18,9 +18,10 @@ ghost use Rattle.bufr_listing.specs.Reading.{read_descriptors, Described, descri
 use crate::fault::{Cause, ListingFault};
 use crate::line_words::{Words, begins};
 use crate::lines::{Lines, TextLine};
+use bufr_answers::{Failure, Items};
 use bufr_expand::Template;
 use bufr_tables::laws::descriptor_texts;
-use bufr_tables::{Failure, Fxy, Items, Tables};
+use bufr_tables::{Fxy, Tables};
 use std::alloc::Global;
 
 /// Reads a line that is this word alone.

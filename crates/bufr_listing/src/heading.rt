@@ -7,8 +7,9 @@ ghost use Rattle.bufr_listing.specs.Listings.{section1_line, time_line};
 ghost use Rattle.bufr_listing.specs.Listings.{local_lines, section2_lines, flags_line};
 ghost use Rattle.bufr_listing.specs.Listings.{descriptors_line, heading_of, heading_lines};
 
+use bufr_answers::{Items, OutOfMemory};
 use bufr_sections::{Head, Message};
-use bufr_tables::{Fxy, Items, OutOfMemory};
+use bufr_tables::Fxy;
 use itoa::Buffer;
 use std::alloc::Global;
 

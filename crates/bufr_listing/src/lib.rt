@@ -1,7 +1,6 @@
 //! Listings: messages as lines of words, written and read.
 #![tactic(auto)]
 
-mod examples;
 mod fault;
 mod fields;
 mod head_lines;
@@ -14,6 +13,7 @@ mod messages;
 mod raw_values;
 mod subsets;
 mod text;
+mod worked_values;
 mod writer;
 
 pub use fault::{Cause, ListingFault};

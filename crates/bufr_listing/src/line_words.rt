@@ -8,8 +8,9 @@ ghost use Rattle.bufr_listing.specs.Lines.{first_word, words_of};
 ghost use Rattle.bufr_listing.specs.Words.{words_left, below, number_below, numbers_of};
 ghost use Rattle.bufr_listing.specs.Words.{descriptors_of};
 
+use bufr_answers::OutOfMemory;
 use bufr_data::Decimal;
-use bufr_tables::{Fxy, OutOfMemory};
+use bufr_tables::Fxy;
 use std::alloc::Global;
 
 /// The words that are left of a line: none, or those of a text, which are parted by one space.

@@ -4,7 +4,7 @@ ghost use Rattle.std.specs.Prelude.{◌<◌, ◌+◌, ◌^◌, length};
 
 use crate::fault::ListingFault;
 use crate::line_ends::{first_line, is_comment};
-use bufr_tables::Failure;
+use bufr_answers::Failure;
 
 /// A line that counts: its number in the text, from 1, and its octets without its end.
 #[derive(Clone, Copy, Debug)]
@@ -28,7 +28,7 @@ pub struct Lines<'a> {
 impl<'a> Lines<'a> {
     ghost use Rattle.std.specs.Prelude.{◌≡◌};
     ghost use Rattle.std.specs.Str.Lines.{lines};
-    ghost use Rattle.bufr_tables.specs.Answers.{Gives};
+    ghost use Rattle.bufr_answers.specs.Answers.{Gives};
     ghost use Rattle.bufr_listing.specs.Lines.{counting_from, counting_lines};
     ghost use Rattle.bufr_listing.specs.Cursors as cursors;
     ghost use Rattle.bufr_listing.specs.Cursors.{printed, next_of};

@@ -1,7 +1,7 @@
 //! Reading listings.
 
 ghost use Rattle.std.specs.Prelude.{◌≡◌, List, Some, true, Ok, Err, IfOk};
-ghost use Rattle.bufr_tables.specs.Answers.{Gives};
+ghost use Rattle.bufr_answers.specs.Answers.{Gives};
 ghost use Rattle.bufr_listing.specs.Cursors.{left, past};
 ghost use Rattle.bufr_listing.specs.Lines.{Line, Listed};
 ghost use Rattle.bufr_listing.specs.FirstFaults.{FirstFault};
@@ -17,8 +17,9 @@ use crate::head_lines::{
 use crate::laws::{faults_of_listings_are_the_first, listings_list_messages};
 use crate::lines::Lines;
 use crate::subsets::read_subsets;
+use bufr_answers::{Failure, Items};
 use bufr_sections::{Head, Message};
-use bufr_tables::{Failure, Items, Tables};
+use bufr_tables::Tables;
 use std::alloc::Global;
 
 /// A number that stands in one octet is below this.

@@ -1,6 +1,6 @@
 //! The raw values that words print.
 
-ghost use Rattle.bufr_listing.specs.Listings.{is_plain};
+ghost use Rattle.bufr_listing.specs.Listings.{stands_for_itself};
 ghost use Rattle.bufr_listing.specs.Words.{below};
 ghost use Rattle.std.specs.Prelude.{◌≡◌, ◌≤◌, ◌^◌, ◌-◌, ◌-ℤ◌, IfOk, option_map};
 ghost use Rattle.bufr_listing.specs.RawWords as words;
@@ -9,9 +9,10 @@ ghost use Rattle.bufr_listing.specs.RawWords.{lower_value};
 ghost use Rattle.bufr_data.specs.Limits.{most_raw_bits};
 
 use crate::line_words::natural;
+use bufr_answers::{Items, OutOfMemory};
 use bufr_data::{Decimal, MOST_DECIMAL_SCALE, MOST_RAW_BITS, Raw};
 use bufr_expand::Spec;
-use bufr_tables::{Items, Kind, OutOfMemory};
+use bufr_tables::Kind;
 use std::alloc::Global;
 
 /// What stands for a missing value.
@@ -174,20 +175,20 @@ fn first_octet(text: &[u8]) -> Option<(u8, &[u8])>
     match text {
         [b'\\', high, low, behind @ ..] => {
             let octet = 16 * lower_value(*high)? + lower_value(*low)?;
-            if is_plain(octet) {
+            if stands_for_itself(octet) {
                 None
             } else {
                 Some((octet, behind))
             }
         }
-        [octet, behind @ ..] if is_plain(*octet) => Some((*octet, behind)),
+        [octet, behind @ ..] if stands_for_itself(*octet) => Some((*octet, behind)),
         _ => None,
     }
 }
 
 /// Whether an octet stands for itself between quotes.
-fn is_plain(octet: u8) -> bool
-    ensures { result ≡ is_plain octet }
+fn stands_for_itself(octet: u8) -> bool
+    ensures { result ≡ stands_for_itself octet }
 {
     octet >= 32 && octet <= 126 && octet != b'"' && octet != b'\\'
 }

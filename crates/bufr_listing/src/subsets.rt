@@ -3,7 +3,7 @@
 ghost use Rattle.std.specs.Prelude.{◌≡◌, ◌++◌, ◌∷◌, [], ℕ, List, take, OnSome, IfOk, IfErr};
 ghost use Rattle.std.specs.Str.{bytes_eq};
 ghost use Rattle.bufr_tables.specs.Descriptors.{six_digits};
-ghost use Rattle.bufr_tables.specs.Answers.{Gives, Fails};
+ghost use Rattle.bufr_answers.specs.Answers.{Gives, Fails};
 ghost use Rattle.bufr_expand.specs.Courses.{course, stops};
 ghost use Rattle.bufr_expand.specs.Walks as walks;
 ghost use Rattle.bufr_data.specs.Plain as plain;
@@ -18,10 +18,11 @@ use crate::fault::{Cause, ListingFault};
 use crate::head_lines::{bad_line, bad_value, read_word, refused};
 use crate::lines::{Lines, TextLine};
 use crate::raw_values::raw_of;
+use bufr_answers::{Failure, Items};
 use bufr_data::{Field, Raw, Subset};
 use bufr_expand::laws::courses_are_steady;
 use bufr_expand::{Spec, Step, Template, Walk, WalkFault};
-use bufr_tables::{Failure, Fxy, Items};
+use bufr_tables::Fxy;
 use std::alloc::Global;
 
 /// Reads subsets up to the line `end`. The items count over all of them.

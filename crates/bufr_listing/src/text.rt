@@ -8,9 +8,9 @@ ghost use Rattle.bufr_listing.specs.Listings.{listing};
 
 use crate::fields::push_subset;
 use crate::heading::{HeadingParts, push_heading};
+use bufr_answers::OutOfMemory;
 use bufr_data::Subset;
 use bufr_sections::Message;
-use bufr_tables::OutOfMemory;
 use std::alloc::Global;
 
 /// The last line of a listing.

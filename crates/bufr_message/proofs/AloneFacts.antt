@@ -15,8 +15,8 @@ use Rattle.bufr_data.specs.declared.field.Field.{Field}
 use Rattle.bufr_data.specs.declared.field.Subset.{Subset}
 use Rattle.bufr_data.specs.Plain.{raw_bits, plain, plain_subsets}
 use Rattle.bufr_data.specs.Fits.{HasForm, of_text, of_number, Fits, AllFit, FitsAlone}
-use Rattle.bufr_data.specs.Columns.{IsColumn, equal, numbers, texts, Column, AreColumns, field_of}
-use Rattle.bufr_data.specs.Columns.{subset_of, subsets_from}
+use Rattle.bufr_data.specs.Compressed.{IsColumn, equal, numbers, texts, Column, AreColumns, field_of}
+use Rattle.bufr_data.specs.Compressed.{subset_of, subsets_from}
 use Rattle.bufr_data.specs.Data.{IsDataOf}
 
 -- ---- one value and its column

@@ -5,7 +5,7 @@ use Rattle.std.proofs.Common.{refl, ap, subst, ◌∙◌, inl, inr}
 use Rattle.std.proofs.lemmas.Bool.{not-true}
 use Rattle.std.proofs.lemmas.Bool.Decides.{not_from_Decides, Decides-not}
 use Rattle.bufr_bits.specs.Bits.{bits}
-use Rattle.bufr_tables.specs.Answers.{◌>>=◌}
+use Rattle.bufr_answers.specs.Answers.{◌>>=◌}
 use Rattle.bufr_tables.specs.Entries.{Entries}
 use Rattle.bufr_expand.specs.Templates.{template}
 use Rattle.bufr_expand.specs.Flat.{IsTreeOf}
@@ -21,7 +21,7 @@ use Rattle.bufr_data.specs.declared.fault.ReadFault.TheVariants.{TooLarge}
 use Rattle.bufr_sections.specs.Causes.{IsFirstRefusal, HasSections, is_of_sections}
 use Rattle.bufr_message.specs.Refusals.{IsFirstFault}
 use Rattle.bufr_message.specs.Below.{Below}
-use Rattle.bufr_tables.specs.AnswerLaws.{bind_err}
+use Rattle.bufr_answers.specs.AnswerLaws.{bind_err}
 use Rattle.bufr_message.proofs.MessageFacts.{template_passes, data_passes}
 use Rattle.bufr_message.proofs.StepFacts.{step_takes, step_refuses}
 use Rattle.bufr_message.proofs.CanBeAlone.{alone_is_tested}

@@ -1,7 +1,7 @@
 -- The message that is read is the one that the octets spell: for `decode` and the laws on messages
 -- that are read.
-use Rattle.bufr_tables.specs.Answers.{Gives}
-use Rattle.bufr_tables.specs.declared.failure.Failure.{Failure}
+use Rattle.bufr_answers.specs.Answers.{Gives}
+use Rattle.bufr_answers.specs.declared.failure.Failure.{Failure}
 use Rattle.std.proofs.Common.{◌≡◌, ℕ, ◌/◌, Bool, true, List, length, Result, Ok, Err, refl, sym, ap}
 use Rattle.std.proofs.Common.{subst, ◌∙◌}
 use Rattle.std.specs.Prelude.{IfOk}
@@ -21,7 +21,7 @@ use Rattle.bufr_sections.specs.Sections.{envelope_of}
 use Rattle.bufr_message.specs.Messages.{envelope_with, Spells, template_or, data_or, message_with}
 use Rattle.bufr_message.specs.Messages.{CanBeAlone, can_be_alone, message_in, message_of}
 use Rattle.bufr_message.specs.Laws.{MessagesReadAreSpelt, MessagesSpeltAreRead}
-use Rattle.bufr_tables.specs.AnswerLaws.{bind_ok, passed_ok}
+use Rattle.bufr_answers.specs.AnswerLaws.{bind_ok, passed_ok}
 use Rattle.bufr_sections.specs.declared.fault.Refused.TheVariants.{Template, Data}
 use Rattle.bufr_data.specs.declared.fault.ReadFault.TheVariants.{TooLarge}
 use Rattle.bufr_message.specs.Below.{Below}

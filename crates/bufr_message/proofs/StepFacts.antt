@@ -1,7 +1,7 @@
 -- A step that passes a value on, and a fault as one of its own: for the laws on messages that are
 -- read and on those that are written.
 use Rattle.std.proofs.Common.{◌≡◌, Result, Ok, Err, refl, sym, ap, ◌∙◌}
-use Rattle.bufr_tables.specs.AnswerLaws.{ok_is, err_is}
+use Rattle.bufr_answers.specs.AnswerLaws.{ok_is, err_is}
 
 -- a step passes values on, and makes this of faults
 pub record PassesOn {A E F : Type 0} (step : Result A E → Result A F) (made : E → F) : Type 0 where

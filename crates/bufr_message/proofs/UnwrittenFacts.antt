@@ -7,14 +7,14 @@ use Rattle.std.proofs.Common.{sym, ap, subst, ◌∙◌, arith, inl, inr}
 use Rattle.std.proofs.lemmas.Bool.{cases_lt}
 use Rattle.std.proofs.lemmas.List.{get_or_past}
 use Rattle.bufr_bits.specs.Bits.{bits}
-use Rattle.bufr_tables.specs.Answers.{◌>>=◌}
+use Rattle.bufr_answers.specs.Answers.{◌>>=◌}
 use Rattle.bufr_tables.specs.Entries.{Entries}
 use Rattle.bufr_expand.specs.Templates.{template}
 use Rattle.bufr_expand.specs.Trees.{Tree}
 use Rattle.bufr_data.specs.declared.fault.WriteFault.TheVariants.{TooLarge}
 use Rattle.bufr_data.specs.Data.{IsDataOf, IsBareDataOf, written_bits}
-use Rattle.bufr_data.specs.Columns.{Column}
-use Rattle.bufr_data.specs.BestColumns.{CanBePacked}
+use Rattle.bufr_data.specs.Compressed.{Column}
+use Rattle.bufr_data.specs.Compressed.Best.{CanBePacked}
 use Rattle.bufr_sections.specs.declared.message.Message.{Message}
 use Rattle.bufr_sections.specs.declared.layout.Layout.{Layout}
 use Rattle.bufr_sections.specs.declared.layout.Layout.TheVariants.{Edition4}
@@ -26,7 +26,7 @@ use Rattle.bufr_message.specs.Messages.{envelope_with, Spells}
 use Rattle.bufr_message.specs.Encodings.{whole_octets, some_descriptors, template_or, data_or}
 use Rattle.bufr_message.specs.Encodings.{data_bits_or, enclosed_or, filled, SpellsBare, code}
 use Rattle.bufr_message.specs.Refusals.{IsTooLong, IsFirstEncodeFault}
-use Rattle.bufr_tables.specs.AnswerLaws.{bind_err, err_is}
+use Rattle.bufr_answers.specs.AnswerLaws.{bind_err, err_is}
 use Rattle.bufr_message.specs.Below.{Below}
 use Rattle.bufr_message.proofs.EncodingFacts.{whole_octets_are}
 use Rattle.bufr_message.proofs.LengthFacts.{contents_hold}

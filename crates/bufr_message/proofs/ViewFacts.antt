@@ -18,7 +18,7 @@ use Rattle.bufr_tables.specs.Entries.{Entries}
 use Rattle.bufr_message.specs.Messages.{octets_alone, can_be_alone, Spells}
 use Rattle.bufr_message.specs.Reports.{report_of, reports_of, with_parts, IsUnder}
 use Rattle.bufr_message.specs.Reports.{ReportsSpeltAreUnder}
-use Rattle.bufr_message.specs.Views.{StandIn}
+use Rattle.bufr_message.specs.Views.{AreReadFrom}
 use Rattle.bufr_message.proofs.AloneFacts.{each_alone}
 use Rattle.bufr_message.proofs.CanBeAlone.{all_short, alone_is_tested}
 use Rattle.bufr_message.proofs.LengthFacts.{contents_hold}
@@ -29,7 +29,7 @@ use Rattle.bufr_message.proofs.LengthFacts.{contents_hold}
 pub few_octets : ((tree : Tree) (compressed : Bool) (count : ℕ) (front : List Bool)
     (found : List Subset × List Bool) → ReadsExactly tree compressed count front found)
     → (contents : List ℕ) (compressed : Bool) (descriptors : List ℕ) (subsets : List Subset)
-    → StandIn contents compressed subsets → 45 + 2 * length descriptors + length contents ≤ longest
+    → AreReadFrom contents compressed subsets → 45 + 2 * length descriptors + length contents ≤ longest
     → can_be_alone descriptors subsets ≡ true
 few_octets reads contents compressed descriptors subsets (tree, count, rest, is) few =
     let begins = (reads tree compressed count (bits contents) (subsets, rest)).0 is in

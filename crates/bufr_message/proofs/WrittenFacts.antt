@@ -24,7 +24,7 @@ use Rattle.bufr_message.specs.Encodings.{whole_octets, some_descriptors, templat
 use Rattle.bufr_message.specs.Encodings.{data_bits_or, enclosed_or, SpellsBare, code}
 use Rattle.bufr_message.specs.declared.fault.EncodeFault.TheVariants.{Template, Data}
 use Rattle.bufr_message.specs.Laws.{NumbersFit}
-use Rattle.bufr_tables.specs.AnswerLaws.{bind_ok, ok_is}
+use Rattle.bufr_answers.specs.AnswerLaws.{bind_ok, ok_is}
 use Rattle.bufr_message.specs.Below.{Below}
 use Rattle.bufr_message.proofs.CanBeAlone.{alone_in_edition_4}
 use Rattle.bufr_message.proofs.MessageFacts.{message_of_spelt}

@@ -8,7 +8,7 @@ use Rattle.bufr_expand.specs.Trees.{Tree}
 use Rattle.bufr_data.specs.declared.field.Subset.{Subset}
 use Rattle.bufr_data.specs.declared.fault.ReadFault.{ReadFault}
 use Rattle.bufr_data.specs.declared.fault.WriteFault.{WriteFault}
-use Rattle.bufr_data.specs.Columns.{Column}
+use Rattle.bufr_data.specs.Compressed.{Column}
 use Rattle.bufr_data.specs.Data as held
 use Rattle.bufr_sections.specs.SectionLaws as sections
 

@@ -7,8 +7,8 @@ use Rattle.bufr_sections.specs.declared.layout.Layout.TheVariants.{Edition4}
 use Rattle.bufr_sections.specs.declared.message.Decoded.{Decoded}
 use Rattle.bufr_sections.specs.declared.fault.Refused.{Refused}
 use Rattle.bufr_data.specs.declared.fault.WriteFault.TheVariants.{TooLarge}
-use Rattle.bufr_data.specs.Columns.{Column}
-use Rattle.bufr_data.specs.BestColumns.{CanBePacked}
+use Rattle.bufr_data.specs.Compressed.{Column}
+use Rattle.bufr_data.specs.Compressed.Best.{CanBePacked}
 use Rattle.bufr_message.specs.declared.fault.EncodeFault.{EncodeFault}
 use Rattle.bufr_message.specs.declared.fault.EncodeFault.TheVariants.{Data}
 use Rattle.bufr_message.specs.Refusals.{IsFirstFault, IsFirstEncodeFault}

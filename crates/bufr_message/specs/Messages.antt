@@ -4,7 +4,7 @@ use Rattle.std.specs.Prelude.{◌≡◌, ℕ, ◌+◌, ◌*◌, ◌/◌, ◌≤�
 use Rattle.std.specs.Prelude.{nat_le, if◌then◌else◌}
 use Rattle.std.specs.List.{AllByRecursion, list_all}
 use Rattle.bufr_bits.specs.Bits.{bits}
-use Rattle.bufr_tables.specs.Answers.{◌>>=◌}
+use Rattle.bufr_answers.specs.Answers.{◌>>=◌}
 use Rattle.bufr_tables.specs.Entries.{Entries}
 use Rattle.bufr_expand.specs.declared.node.TemplateFault.{TemplateFault}
 use Rattle.bufr_expand.specs.Templates.{template}

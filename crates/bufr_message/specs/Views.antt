@@ -7,8 +7,8 @@ use Rattle.bufr_data.specs.Data.{subsets_in}
 use Rattle.bufr_listing.specs.Listings.{joined, subset_lines}
 
 -- these subsets are read at the front of the octets, under some template
-abbrev pub StandIn : List ℕ → Bool → List Subset → Type 0
-StandIn contents compressed subsets =
+abbrev pub AreReadFrom : List ℕ → Bool → List Subset → Type 0
+AreReadFrom contents compressed subsets =
     (tree : Tree) × (count : ℕ) × (rest : List Bool)
     × (subsets_in tree compressed count (bits contents) ≡ Ok (subsets, rest))
 

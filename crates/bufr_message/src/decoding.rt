@@ -2,7 +2,7 @@
 
 ghost use Rattle.std.specs.Prelude.{◌≡◌, ℕ, ◌/◌, List, Bool, length, IfOk, Ok};
 ghost use Rattle.bufr_bits.specs.Bits.{bits};
-ghost use Rattle.bufr_tables.specs.Answers.{Gives, result_map};
+ghost use Rattle.bufr_answers.specs.Answers.{Gives, result_map};
 ghost use Rattle.bufr_expand.specs.Templates.{template};
 ghost use Rattle.bufr_data.specs.Data.{subsets_in};
 ghost use Rattle.bufr_sections.specs.SectionsRead.{envelope};
@@ -12,11 +12,12 @@ ghost use Rattle.bufr_data.specs.declared.field.Subset.{Subset};
 
 use crate::alone::can_be_alone;
 use crate::laws::messages_are_spelt;
+use bufr_answers::{Failure, Items};
 use bufr_bits::BitReader;
 use bufr_data::{ReadFault, Subset, read_subsets};
 use bufr_expand::Template;
 use bufr_sections::{Decoded, Envelope, Message, Refused, read_sections};
-use bufr_tables::{Failure, Fxy, Items, Tables};
+use bufr_tables::{Fxy, Tables};
 use std::alloc::Global;
 
 /// The message that octets spell, and how many octets of section 4 stand after its data. The slice

@@ -1,7 +1,7 @@
 //! Messages to octets.
 
 ghost use Rattle.std.specs.Prelude.{◌≡◌, List, Bool, IfOk};
-ghost use Rattle.bufr_tables.specs.Answers.{Gives, result_map};
+ghost use Rattle.bufr_answers.specs.Answers.{Gives, result_map};
 ghost use Rattle.bufr_expand.specs.Templates.{template};
 ghost use Rattle.bufr_bits.specs.Bits.{bits};
 ghost use Rattle.bufr_data.specs.Data.{written_bits};
@@ -13,11 +13,12 @@ use crate::fault::EncodeFault;
 use crate::laws::written_messages_are_spelt;
 use crate::lent::Lent;
 use crate::ranges::numbers_fit;
+use bufr_answers::Failure;
 use bufr_bits::BitSink;
 use bufr_data::{Subset, write_subsets};
 use bufr_expand::Template;
 use bufr_sections::{Message, Parts, spell};
-use bufr_tables::{Failure, Fxy, Tables};
+use bufr_tables::{Fxy, Tables};
 use std::alloc::Global;
 
 /// The octets of a message: what is free is zero, and nothing stands behind the data but bits to

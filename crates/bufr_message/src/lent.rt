@@ -3,9 +3,10 @@
 ghost use Rattle.std.specs.Prelude.{◌≡◌};
 ghost use Rattle.bufr_message.specs.Lent.{whole};
 
+use bufr_answers::Items;
 use bufr_data::Subset;
 use bufr_sections::{Head, Message};
-use bufr_tables::{Fxy, Items};
+use bufr_tables::Fxy;
 
 /// The parts of what is written.
 #[derive(Clone, Copy, Debug)]

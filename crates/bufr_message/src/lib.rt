@@ -5,7 +5,6 @@
 mod alone;
 mod decoding;
 mod encoding;
-mod examples;
 mod fault;
 pub mod laws;
 mod lent;
@@ -14,10 +13,15 @@ mod message_view;
 mod own_bits;
 mod ranges;
 mod report;
-mod report_examples;
 mod viewing;
+mod worked_reports;
+mod worked_values;
 
+pub use bufr_answers::{Failure, Items, OutOfMemory};
+pub use bufr_data::{Decimal, Field, Raw, ReadFault, Subset, WriteFault};
+pub use bufr_expand::{Spec, TemplateFault};
 pub use bufr_sections::{Decoded, Head, Message, Refused};
+pub use bufr_tables::{Element, Fxy, Kind, TableB, TableD, TableFault, Tables};
 pub use decoding::decode;
 pub use encoding::encode;
 pub use fault::EncodeFault;

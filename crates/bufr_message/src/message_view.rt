@@ -2,7 +2,7 @@
 
 ghost use Rattle.std.specs.Prelude.{◌≡◌, ℕ, ◌-◌, ◌/◌, ◌≤◌, List, Bool, length, slice_get, Some, IfOk};
 ghost use Rattle.bufr_bits.specs.Bits.{bits};
-ghost use Rattle.bufr_tables.specs.Answers.{Gives, result_map};
+ghost use Rattle.bufr_answers.specs.Answers.{Gives, result_map};
 ghost use Rattle.bufr_tables.specs.Entries.{Entries};
 ghost use Rattle.bufr_data.specs.declared.field.Subset.{Subset};
 ghost use Rattle.bufr_data.specs.Data.{subsets_in};
@@ -10,18 +10,19 @@ ghost use Rattle.bufr_sections.specs.SectionsRead.{envelope};
 ghost use Rattle.bufr_message.specs.Messages.{data_or, message_in, message_of, can_be_alone};
 ghost use Rattle.bufr_message.specs.Messages.{Spells};
 ghost use Rattle.bufr_message.specs.Reports.{reports_of, IsUnder};
-ghost use Rattle.bufr_message.specs.Views.{StandIn};
+ghost use Rattle.bufr_message.specs.Views.{AreReadFrom};
 
 use crate::alone::{are_short, is_short};
 use crate::decoding::template_of;
 use crate::laws::reports_have_canonical_messages;
 use crate::report::{Report, report_with};
+use bufr_answers::{Failure, Items, OutOfMemory};
 use bufr_bits::BitReader;
 use bufr_data::laws::data_hold_subsets;
 use bufr_data::{ReadFault, Subset, SubsetIndex};
 use bufr_expand::Template;
 use bufr_sections::{Envelope, Head, Refused, read_sections};
-use bufr_tables::{Failure, Fxy, Items, OutOfMemory, Tables};
+use bufr_tables::{Fxy, Tables};
 use std::alloc::Global;
 use std::marker::Model;
 
@@ -197,7 +198,7 @@ fn index_of<'a>(
     ensures exact { Gives {Y = List Subset × ℕ} (λ x. (x.0, x.1)) result
         (data_or (result_map (λ found. (found.0, length found.1 / 8))
         (subsets_in template compressed count (bits contents.now)))) }
-    ensures stand { IfOk result (λ x. StandIn contents.now compressed x.0) }
+    ensures stand { IfOk result (λ x. AreReadFrom contents.now compressed x.0) }
 {
     let mut reader = BitReader::new(contents);
     match SubsetIndex::index(alloc, template, compressed, &mut reader, count) {
@@ -215,7 +216,7 @@ fn can_be_alone(
     contents: &[u8],
     subsets: &SubsetIndex,
 ) -> Result<bool, OutOfMemory>
-    requires { StandIn contents.now compressed subsets.now }
+    requires { AreReadFrom contents.now compressed subsets.now }
     ensures { IfOk result (λ b. b ≡ can_be_alone descriptors.now subsets.now) }
 {
     data_hold_subsets();

@@ -14,9 +14,9 @@ use crate::encoding::enclose;
 use crate::laws::canonical_messages_are_own;
 use crate::lent::Lent;
 use crate::report::Report;
+use bufr_answers::{Failure, OutOfMemory};
 use bufr_bits::BitSink;
 use bufr_data::{Field, MOST_RAW_BITS, Raw};
-use bufr_tables::{Failure, OutOfMemory};
 use std::alloc::Global;
 use std::slice;
 

@@ -6,8 +6,9 @@ ghost use Rattle.bufr_message.specs.Laws.{NumbersFit};
 ghost use Rattle.bufr_message.specs.Lent.{whole};
 
 use crate::lent::Lent;
+use bufr_answers::Items;
 use bufr_sections::Head;
-use bufr_tables::{Fxy, Items};
+use bufr_tables::Fxy;
 
 /// The numbers of a message are in the ranges of their fields, by their types. Nothing is done with
 /// them.

@@ -2,7 +2,7 @@
 
 ghost use Rattle.std.specs.Prelude.{◌≡◌, ℕ, List, IfOk, Ok};
 ghost use Rattle.std.specs.List.{AllByRecursion};
-ghost use Rattle.bufr_tables.specs.Answers.{Gives};
+ghost use Rattle.bufr_answers.specs.Answers.{Gives};
 ghost use Rattle.bufr_tables.specs.Entries.{Entries};
 ghost use Rattle.bufr_message.specs.Messages.{Spells};
 ghost use Rattle.bufr_message.specs.Encodings.{code};
@@ -14,9 +14,10 @@ use crate::fault::EncodeFault;
 use crate::laws::{reports_have_canonical_messages, written_messages_are_spelt};
 use crate::lent::Lent;
 use crate::ranges::numbers_fit;
+use bufr_answers::{Failure, Items, OutOfMemory};
 use bufr_data::Subset;
 use bufr_sections::{Head, Message};
-use bufr_tables::{Failure, Fxy, Items, OutOfMemory, Tables};
+use bufr_tables::{Fxy, Tables};
 use std::alloc::Global;
 use std::slice;
 

@@ -1,14 +1,15 @@
 //! Octets to views.
 
 ghost use Rattle.std.specs.Prelude.{◌≡◌, ℕ, Ok, IfOk};
-ghost use Rattle.bufr_tables.specs.Answers.{Gives};
+ghost use Rattle.bufr_answers.specs.Answers.{Gives};
 ghost use Rattle.bufr_sections.specs.declared.message.Message.{Message};
 ghost use Rattle.bufr_message.specs.Messages.{Spells, message_of};
 
 use crate::laws::messages_are_spelt;
 use crate::message_view::{View, view_of};
+use bufr_answers::Failure;
 use bufr_sections::Refused;
-use bufr_tables::{Failure, Tables};
+use bufr_tables::Tables;
 use std::alloc::Global;
 
 /// The message that octets spell, none of whose subsets is built yet. The octets are refused

@@ -5,12 +5,12 @@ use Rattle.std.proofs.Common.{refl, arith}
 use Rattle.std.specs.Prelude.{◌==◌, nat_le}
 use Rattle.bufr_sections.specs.declared.fault.Refused.TheVariants.{Section1Length, MasterTable}
 use Rattle.bufr_sections.specs.Sections.{head4_of, head3_of}
-use Rattle.bufr_sections.specs.SectionsRead.{head_with, head3_with}
+use Rattle.bufr_sections.specs.SectionsRead.{head4_with, head3_with}
 
 -- where there are enough octets, the master table decides
 pub head_is : (xs : List ℕ) → 19 ≤ length xs
     → head4_of xs ≡ cond (get_or xs 0 0 == 0) (Ok
-    (head_with xs (drop 19 xs), nat_le 128 (get_or xs 6 0))) (Err (MasterTable (get_or xs 0 0)))
+    (head4_with xs (drop 19 xs), nat_le 128 (get_or xs 6 0))) (Err (MasterTable (get_or xs 0 0)))
 unfolding head4_of
 head_is
     (master ∷ c1 ∷ c2 ∷ s1 ∷ s2 ∷ update ∷ flags ∷ category ∷ international ∷ local_category

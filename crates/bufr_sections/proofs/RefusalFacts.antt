@@ -10,7 +10,7 @@ use Rattle.std.proofs.lemmas.Bool.{cases_lt, ltb-true, ltb-false, lt-ltb, le-ltb
 use Rattle.std.proofs.lemmas.Bool.{eqb-false, eq-eqb, ne_eqb}
 use Rattle.std.proofs.lemmas.List.{drop_more, drop-drop, drop-take}
 use Rattle.std.proofs.lemmas.List.Elements.{All-nil, All-cons, All-head, All-tail}
-use Rattle.bufr_tables.specs.Answers.{◌>>=◌}
+use Rattle.bufr_answers.specs.Answers.{◌>>=◌}
 use Rattle.bufr_sections.specs.declared.fault.Refused.{Refused}
 use Rattle.bufr_sections.specs.declared.message.Head.{Head}
 use Rattle.bufr_sections.specs.declared.layout.Layout.{Layout}
@@ -20,12 +20,12 @@ use Rattle.bufr_sections.specs.declared.fault.Refused.TheVariants.{Section1Lengt
 use Rattle.bufr_sections.specs.declared.fault.Refused.TheVariants.{Section2Length, Section3Length}
 use Rattle.bufr_sections.specs.declared.fault.Refused.TheVariants.{Section4Length}
 use Rattle.bufr_sections.specs.Sections.{Envelope, three, two, layout_of, layout_or, shortest1}
-use Rattle.bufr_sections.specs.Sections.{room_in, room_of, section_at, head_of, local_at}
+use Rattle.bufr_sections.specs.Sections.{room_in, room_of, section_at, head_of, section2_at}
 use Rattle.bufr_sections.specs.Sections.{Description, descriptors_of, description_of, contents_of}
 use Rattle.bufr_sections.specs.Sections.{sections_of, envelope_of}
-use Rattle.bufr_sections.specs.SectionsRead.{head_with, head3_with}
+use Rattle.bufr_sections.specs.SectionsRead.{head4_with, head3_with}
 use Rattle.bufr_sections.proofs.HeadFacts.{head_is, head3_is}
-use Rattle.bufr_tables.specs.AnswerLaws.{or_first, not_false}
+use Rattle.bufr_answers.specs.AnswerLaws.{or_first, not_false}
 use Rattle.bufr_sections.specs.Causes.{octet_at, length_at, room_end, announces_section2, place2}
 use Rattle.bufr_sections.specs.Causes.{place3, place4, no_section, Cause, causes_in, causes}
 use Rattle.bufr_sections.specs.Causes.{IsFirstRefusal, is_of_sections}
@@ -239,7 +239,7 @@ description_is _ long = absurd (omega arith)
 
 -- section 2, where it is announced
 local_is : (announced : Bool) (octets : List ℕ) (p : ℕ)
-    → (local : Option (List ℕ)) × (local_at announced (from octets p)
+    → (local : Option (List ℕ)) × (section2_at announced (from octets p)
     ≡ cond (announced && no_section octets 4 p) (Err Section2Length)
     (Ok (local, from octets (if announced then p + length_at octets p else p))))
 local_is false octets p = (None, refl)
@@ -298,7 +298,7 @@ head_here Edition4 octets there =
     behind_at octets 8 0 l.1 (omega (arith, l.2)) in
     let flags : get_or (behind octets 8) 6 0 ≡ octet_at octets 17 =
     behind_at octets 8 6 l.1 (omega (arith, l.2)) in (
-      head_with (behind octets 8) (drop 19 (behind octets 8)),
+      head4_with (behind octets 8) (drop 19 (behind octets 8)),
       head_is (behind octets 8) (omega (arith, l.0)) ∙ rw (master, flags) refl,
     )
 head_here Edition3 octets there =
@@ -377,7 +377,7 @@ sections_fault layout octets =
     h.1
     (λ meteorology. let local = local_is (announces_section2 layout octets) octets
     (place2 octets) in
-    tested_then (local_at (announces_section2 layout octets) (from octets (place2 octets))) _
+    tested_then (section2_at (announces_section2 layout octets) (from octets (place2 octets))) _
     (announces_section2 layout octets && no_section octets 4 (place2 octets)) Section2Length
     (local.0, from octets (place3 layout octets)) (drop 3 (later layout octets))
     local.1

@@ -19,7 +19,7 @@ use Rattle.bufr_sections.specs.Sections.{Envelope, Ignored, section, section1, s
 use Rattle.bufr_sections.specs.Sections.{section4, sections, enclosed, spelling, flag, is_present}
 use Rattle.bufr_sections.specs.Sections.{edition_number, layout_of, shortest1, head_octets}
 use Rattle.bufr_sections.specs.Sections.{HasSection1, EnvelopeFits, three, two, room_in, room_of}
-use Rattle.bufr_sections.specs.Sections.{section_at, head4_of, head3_of, head_of, local_at}
+use Rattle.bufr_sections.specs.Sections.{section_at, head4_of, head3_of, head_of, section2_at}
 use Rattle.bufr_sections.specs.Sections.{Description, descriptors_of, description_of, sections_of}
 use Rattle.bufr_sections.specs.Sections.{envelope_of}
 use Rattle.bufr_sections.proofs.LengthFacts.{four_parts}
@@ -146,7 +146,7 @@ compressed_is false false b h = let e : (0 + 0 + b) / 64 % 2 ≡ 0 = omega arith
 steps : (layout : Layout) (room c1 room2 room3 c3 room4 c4 : List ℕ) (h : Head × Bool)
     (local : Option (List ℕ)) (d : Description)
     → section_at (shortest1 layout) Section1Length room ≡ Ok (c1, room2) → head_of layout c1 ≡ Ok h
-    → local_at h.1 room2 ≡ Ok (local, room3) → section_at 9 Section3Length room3 ≡ Ok (c3, room4)
+    → section2_at h.1 room2 ≡ Ok (local, room3) → section_at 9 Section3Length room3 ≡ Ok (c3, room4)
     → description_of c3 ≡ Ok d → section_at 4 Section4Length room4 ≡ Ok (c4, [])
     → sections_of layout room ≡ Ok (record {
       head = h.0;
@@ -162,11 +162,11 @@ steps layout room c1 room2 room3 c3 room4 c4 h local d e1 e2 e3 e4 e5 e6 =
     rw (e1, e2, e3, e4, e5, e6) refl
 
 -- section 2 that is spelt is read
-local_at-section2 : (local : Option (List ℕ)) (ignored : ℕ) (rest : List ℕ)
+section2_at-section2 : (local : Option (List ℕ)) (ignored : ℕ) (rest : List ℕ)
     → length (section2 local ignored) < 2 ^ 24
-    → local_at (is_present local) (section2 local ignored ++ rest) ≡ Ok (local, rest)
-local_at-section2 None ignored rest small = refl
-local_at-section2 (Some local) ignored rest small =
+    → section2_at (is_present local) (section2 local ignored ++ rest) ≡ Ok (local, rest)
+section2_at-section2 None ignored rest small = refl
+section2_at-section2 (Some local) ignored rest small =
     rw (section_at-section 4 Section2Length (ignored ∷ local) rest (omega arith) (omega arith)) refl
 
 -- section 3 behind its length
@@ -230,7 +230,7 @@ sections_of-sections layout e i fits small =
     (section_at-section (shortest1 layout) Section1Length c1 (s2 ++ (s3 ++ (s4 ++ [])))
     (omega arith) (omega arith))
     (head_of-section1 layout e.head (is_present e.section2) i fits.head fits.ignored.0)
-    (local_at-section2 e.section2 i.octet2 (s3 ++ (s4 ++ [])) (omega arith))
+    (section2_at-section2 e.section2 i.octet2 (s3 ++ (s4 ++ [])) (omega arith))
     (section_at-section 9 Section3Length c3 (s4 ++ []) (omega arith) (omega arith))
     (description_of-section3 layout e i fits)
     (section_at-section 4 Section4Length c4 [] (omega arith) (omega arith))

@@ -24,13 +24,13 @@ use Rattle.bufr_sections.specs.Sections.{section2, section3, section4, sections,
 use Rattle.bufr_sections.specs.Sections.{flag, is_present, edition_number, layout_of, layout_or}
 use Rattle.bufr_sections.specs.Sections.{shortest1, head_octets, nothing_ignored, HasSection1}
 use Rattle.bufr_sections.specs.Sections.{EnvelopeFits, three, two, room_in, room_of, section_at}
-use Rattle.bufr_sections.specs.Sections.{head4_of, head3_of, head_of, year_of_century, local_at}
+use Rattle.bufr_sections.specs.Sections.{head4_of, head3_of, head_of, year_of_century, section2_at}
 use Rattle.bufr_sections.specs.Sections.{Description, descriptors_of, description_of, contents_of}
 use Rattle.bufr_sections.specs.Sections.{sections_of, envelope_of}
 use Rattle.bufr_sections.specs.Causes.{HasSections}
 use Rattle.bufr_sections.proofs.SectionFacts.{regrouped, head_is_long}
-use Rattle.bufr_tables.specs.AnswerLaws.{bind_ok, guard_ok, passed_ok, ok_is, or_first, or_second}
-use Rattle.bufr_tables.specs.AnswerLaws.{not_false}
+use Rattle.bufr_answers.specs.AnswerLaws.{bind_ok, guard_ok, passed_ok, ok_is, or_first, or_second}
+use Rattle.bufr_answers.specs.AnswerLaws.{not_false}
 
 -- ---- numbers of octets
 
@@ -284,7 +284,7 @@ head_of_takes Edition3 octets h all e = head3_of_takes octets h all e
 
 -- section 2 that is read is spelt so
 pub local_at_takes : (announced : Bool) (room rest : List ℕ) (local : Option (List ℕ))
-    → AreOctets room → local_at announced room ≡ Ok (local, rest)
+    → AreOctets room → section2_at announced room ≡ Ok (local, rest)
     → (ignored : ℕ) × IsOctet ignored × (room ≡ section2 local ignored ++ rest)
     × (is_present local ≡ announced) × IfSome local AreOctets × AreOctets rest
 local_at_takes false room rest local octets e =
@@ -491,7 +491,7 @@ unfolding sections_of
 sections_of_takes layout room e octets small ok =
     let one = bind_ok (section_at (shortest1 layout) Section1Length room) _ e ok in
     let head = bind_ok (head_of layout one.0.0) _ e one.2 in
-    let two = bind_ok (local_at head.0.1 one.0.1) _ e head.2 in
+    let two = bind_ok (section2_at head.0.1 one.0.1) _ e head.2 in
     let three = bind_ok (section_at 9 Section3Length two.0.1) _ e two.2 in
     let said = bind_ok (description_of three.0.0) _ e three.2 in
     let four = bind_ok (section_at 4 Section4Length three.0.1) _ e said.2 in

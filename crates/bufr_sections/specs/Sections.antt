@@ -1,6 +1,6 @@
 -- The sections of a message, with no regard to what the data bits mean (FM 94 BUFR, WMO-No. 306
 -- Volume I.2: regulations 94.1 and 94.2 and the specifications of sections 0 to 5).
-use Rattle.bufr_tables.specs.Answers.{◌>>=◌}
+use Rattle.bufr_answers.specs.Answers.{◌>>=◌}
 use Rattle.std.specs.Prelude.{◌≡◌, ℕ, ◌+◌, ◌-◌, ◌*◌, ◌/◌, ◌%◌, ◌^◌, ◌<◌, ◌≤◌, ◌==◌, ◌||◌, not, Bool}
 use Rattle.std.specs.Prelude.{true, false, List, [], ◌∷◌, ◌++◌, length, take, drop, All, codes}
 use Rattle.std.specs.Prelude.{bytes_eq, Option, Some, None, IfSome, Result, Ok, Err, nat_lt, nat_le}
@@ -301,10 +301,10 @@ head_of Edition4 octets = head4_of octets
 head_of Edition3 octets = head3_of octets
 
 -- section 2, where it is announced
-abbrev pub local_at : Bool → List ℕ → Result (Option (List ℕ) × List ℕ) Refused
-local_at true room =
+abbrev pub section2_at : Bool → List ℕ → Result (Option (List ℕ) × List ℕ) Refused
+section2_at true room =
     section_at 4 Section2Length room >>= λ found. Ok (Some (drop 1 found.0), found.1)
-local_at false room = Ok (None, room)
+section2_at false room = Ok (None, room)
 
 -- descriptors of two octets each; an odd octet is none
 unfoldable pub descriptors_of : List ℕ → List ℕ
@@ -340,7 +340,7 @@ unfoldable pub sections_of : Layout → List ℕ → Result Envelope Refused
 sections_of layout room = do
   one ← section_at (shortest1 layout) Section1Length room
   head ← head_of layout one.0
-  two ← local_at head.1 one.1
+  two ← section2_at head.1 one.1
   three ← section_at 9 Section3Length two.1
   description ← description_of three.0
   four ← section_at 4 Section4Length three.1

@@ -67,8 +67,8 @@ head3_with octets local =
 
 -- the numbers of section 1 at their places behind its length, with these octets for local use (FM
 -- 94 BUFR, section 1: octets 5 to 22)
-abbrev pub head_with : List ℕ → List ℕ → Head
-head_with octets local =
+abbrev pub head4_with : List ℕ → List ℕ → Head
+head4_with octets local =
     record {
       centre = said.two (get_or octets 1 0) (get_or octets 2 0);
       sub_centre = said.two (get_or octets 3 0) (get_or octets 4 0);

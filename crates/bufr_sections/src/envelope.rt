@@ -1,7 +1,8 @@
 //! What the sections of a message say.
 
 use crate::message::Head;
-use bufr_tables::{Fxy, Items};
+use bufr_answers::Items;
+use bufr_tables::Fxy;
 
 /// What the sections that were read say. The octets of section 4 after its fourth are lent.
 #[derive(Debug, Drop)]

@@ -3,7 +3,6 @@
 #![tactic(auto)]
 
 mod envelope;
-mod examples;
 mod fault;
 pub mod laws;
 mod layout;
@@ -11,6 +10,7 @@ mod message;
 mod section_octets;
 mod sections;
 mod spelling;
+mod worked_values;
 
 pub use envelope::{Envelope, Parts};
 pub use fault::Refused;

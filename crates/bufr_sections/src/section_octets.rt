@@ -9,7 +9,8 @@ ghost use Rattle.bufr_sections.specs.Spelt.{bare_section3};
 ghost use Rattle.bufr_sections.specs.declared.layout.Layout.TheVariants.{Edition4};
 
 use crate::message::Head;
-use bufr_tables::{Fxy, Items, OutOfMemory};
+use bufr_answers::{Items, OutOfMemory};
+use bufr_tables::Fxy;
 
 /// Adds the three octets of a length.
 pub(crate) fn push_length(out: &mut Vec<u8>, length: u64) -> Result<(), OutOfMemory>

@@ -1,19 +1,20 @@
 //! The sections of a message, with no regard to what the data bits mean.
 
 ghost use Rattle.std.specs.Prelude.{◌≡◌, List, ℕ, Bool, Option, ◌≤◌, IfOk, length, drop};
-ghost use Rattle.bufr_tables.specs.Answers.{Gives};
+ghost use Rattle.bufr_answers.specs.Answers.{Gives};
 ghost use Rattle.bufr_sections.specs.declared.message.Head.{Head};
 ghost use Rattle.bufr_sections.specs.Sections.{three, two, section_at, room_in, room_of, head4_of};
-ghost use Rattle.bufr_sections.specs.Sections.{head3_of, head_of, year_of_century, local_at};
+ghost use Rattle.bufr_sections.specs.Sections.{head3_of, head_of, year_of_century, section2_at};
 ghost use Rattle.bufr_sections.specs.Sections.{descriptors_of, description_of, contents_of};
 ghost use Rattle.bufr_sections.specs.Sections.{sections_of, envelope_of};
-ghost use Rattle.bufr_sections.specs.SectionsRead.{envelope, description, head_with, head3_with};
+ghost use Rattle.bufr_sections.specs.SectionsRead.{envelope, description, head4_with, head3_with};
 
 use crate::envelope::Envelope;
 use crate::fault::Refused;
 use crate::layout::Layout;
 use crate::message::Head;
-use bufr_tables::{Failure, Fxy, Items, OutOfMemory};
+use bufr_answers::{Failure, Items, OutOfMemory};
+use bufr_tables::Fxy;
 use std::alloc::Global;
 
 /// What section 3 says.
@@ -119,9 +120,9 @@ fn copied(alloc: Global, octets: &[u8]) -> Result<Items<u8>, OutOfMemory>
 
 /// What the octets of section 1 behind its length say, with these octets for local use behind the
 /// nineteenth.
-fn head_with(octets: &[u8], local: Items<u8>) -> Head
+fn head4_with(octets: &[u8], local: Items<u8>) -> Head
     requires { 19 ≤ length octets.now }
-    ensures { result ≡ head_with octets.now local }
+    ensures { result ≡ head4_with octets.now local }
 {
     Head {
         centre: number_of_two(octets[1], octets[2]),
@@ -195,9 +196,9 @@ fn head3_of(alloc: Global, octets: &[u8]) -> Result<(Head, bool), Failure<Refuse
     if octets.len() < 14 {
         return Err(Failure::Fault(Refused::Section1Length));
     }
-    let table = octets[0];
-    if table != 0 {
-        return Err(Failure::Fault(Refused::MasterTable(table)));
+    let master = octets[0];
+    if master != 0 {
+        return Err(Failure::Fault(Refused::MasterTable(master)));
     }
     let (_, local) = octets.split_at(14);
     let local = copied(alloc, local)?;
@@ -217,17 +218,17 @@ fn head4_of(alloc: Global, octets: &[u8]) -> Result<(Head, bool), Failure<Refuse
     }
     let (_, local) = octets.split_at(19);
     let local = copied(alloc, local)?;
-    Ok((head_with(octets, local), octets[6] >= 128))
+    Ok((head4_with(octets, local), octets[6] >= 128))
 }
 
 /// The octets for local use of section 2, where it is announced, and the room that is left.
-fn local_at(
+fn section2_at(
     alloc: Global,
     announced: bool,
     room: &[u8],
 ) -> Result<(Option<Items<u8>>, &[u8]), Failure<Refused>>
     ensures { Gives {Y = Option (List ℕ) × List ℕ} (λ x. (x.0, x.1.now)) result
-        (local_at announced room.now) }
+        (section2_at announced room.now) }
 {
     if !announced {
         return Ok((None, room));
@@ -282,7 +283,7 @@ fn sections_of(alloc: Global, layout: Layout, room: &[u8]) -> Result<Envelope<'_
 {
     let (one, room) = section_at(layout.shortest(), Refused::Section1Length, room)?;
     let (head, announced) = head_of(alloc, layout, one)?;
-    let (section2, room) = local_at(alloc, announced, room)?;
+    let (section2, room) = section2_at(alloc, announced, room)?;
     let (three, room) = section_at(9, Refused::Section3Length, room)?;
     let description = description_of(alloc, three)?;
     let (four, left) = section_at(4, Refused::Section4Length, room)?;

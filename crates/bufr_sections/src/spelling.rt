@@ -1,7 +1,7 @@
 //! The octets of a whole message: section 0, the sections that say its parts, and `7777`.
 
 ghost use Rattle.std.specs.Prelude.{◌≡◌, ◌<◌, ◌^◌, [], length, OnOk};
-ghost use Rattle.bufr_tables.specs.Answers.{Gives};
+ghost use Rattle.bufr_answers.specs.Answers.{Gives};
 ghost use Rattle.bufr_sections.specs.Sections.{section2};
 ghost use Rattle.bufr_sections.specs.SectionsRead.{lent};
 ghost use Rattle.bufr_sections.specs.Spelt.{bare, spelt_or};
@@ -10,8 +10,8 @@ use crate::envelope::Parts;
 use crate::section_octets::{
     push_length, push_section1, push_section2, push_section3, push_section4,
 };
+use bufr_answers::{Failure, Items, OutOfMemory};
 use bufr_data::WriteFault;
-use bufr_tables::{Failure, Items, OutOfMemory};
 use std::alloc::Global;
 
 /// The greatest number of octets of a message: it stands in three octets of section 0.

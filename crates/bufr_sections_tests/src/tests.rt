@@ -1,8 +1,9 @@
 //! Sections that are read, written and refused. Octets and answers are typed from the rules of the
 //! format.
 
+use bufr_answers::Items;
 use bufr_sections::{Envelope, Head, Parts, read_sections, spell};
-use bufr_tables::{Fxy, Items};
+use bufr_tables::Fxy;
 use std::alloc::Global;
 use std::fmt::{Debug, Display};
 use std::process::Abort;

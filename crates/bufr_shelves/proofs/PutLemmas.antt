@@ -6,9 +6,10 @@ use Rattle.std.specs.Ordering.{nat_cmp}
 use Rattle.std.specs.Cmp.Lexicographic.{slice_cmp}
 use Rattle.bufr_shelves.specs.Keeping.{changes_by}
 use Rattle.bufr_shelves.specs.Entries.{kept, changes}
-use Rattle.bufr_shelves.specs.Ranks.{key_order, rank_order}
+use Rattle.bufr_keys.specs.DerivedOrders.{key_order}
+use Rattle.bufr_shelves.specs.Ranks.{rank_order}
 use Rattle.bufr_shelves.specs.Pairs.{by_key, by_value, shelved, with_key, without_key}
-use Rattle.bufr_shelves.specs.declared.key.Key.{Key}
+use Rattle.bufr_keys.specs.declared.key.Key.{Key}
 use Rattle.bufr_shelves.specs.declared.rank.Rank.{Rank}
 use Rattle.bufr_shelves.specs.declared.entry.Entry.{Entry}
 use Rattle.bufr_shelves.specs.ChangeLaws.{changes-kept}

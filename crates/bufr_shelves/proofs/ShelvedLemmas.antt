@@ -13,14 +13,16 @@ use Rattle.std.specs.declared.cmp.Ordering.{Ordering}
 use Rattle.std.specs.declared.cmp.Ordering.TheVariants.{Less, Equal, Greater}
 use Rattle.bufr_shelves.specs.Keeping.{put_by, put_all, changes_by, first_of}
 use Rattle.bufr_shelves.specs.KeepingLaws.{put_less, put_equal, put_greater}
-use Rattle.bufr_shelves.specs.Entries.{octets_cmp, key_cmp, slot_by, slot_cmp, rank_cmp, kept}
+use Rattle.bufr_keys.specs.KeyOrders.{octets_cmp, key_cmp}
+use Rattle.bufr_shelves.specs.Entries.{slot_by, slot_cmp, rank_cmp, kept}
 use Rattle.bufr_shelves.specs.Entries.{changes, entry_at, entry_after}
 use Rattle.bufr_shelves.specs.Orders.{kept-swap, kept-early, kept-late, kept-kept, kept-are}
 use Rattle.bufr_shelves.specs.Orders.{then-Equal}
-use Rattle.bufr_shelves.specs.Ranks.{key_order, rank_order}
-use Rattle.bufr_shelves.proofs.KeyFacts.{keys_are}
+use Rattle.bufr_keys.specs.DerivedOrders.{key_order}
+use Rattle.bufr_shelves.specs.Ranks.{rank_order}
+use Rattle.bufr_keys.specs.DerivedOrders.{keys_are}
 use Rattle.bufr_shelves.specs.Pairs.{by_key, by_value, with_key, without_key, shelved}
-use Rattle.bufr_shelves.specs.declared.key.Key.{Key}
+use Rattle.bufr_keys.specs.declared.key.Key.{Key}
 use Rattle.bufr_shelves.specs.declared.rank.Rank.{Rank}
 use Rattle.bufr_shelves.specs.declared.entry.Entry.{Entry}
 

@@ -1,4 +1,4 @@
--- Fronts never tell another order than the keys: for the types that `Gathering` puts in order.
+-- Fronts never tell another order than the keys: for the types that `ShelfBuilder` puts in order.
 use Rattle.std.proofs.Common.{◌≡◌, ℕ, zero, suc, List, [], ◌∷◌, Option, Some, None, ℤ, pos, negsuc}
 use Rattle.std.proofs.Common.{Bool, true, false, cond, refl, sym, ap, arith}
 use Rattle.std.specs.Prelude.{int_le, ◌&&◌}
@@ -9,15 +9,15 @@ use Rattle.std.specs.Cmp.{nat_cmp_is, int_cmp_is}
 use Rattle.std.specs.Ordering.{MatchOrdering, nat_cmp, int_cmp, ordering_then}
 use Rattle.std.specs.declared.cmp.Ordering.{Ordering}
 use Rattle.std.specs.declared.cmp.Ordering.TheVariants.{Less, Equal, Greater}
-use Rattle.bufr_shelves.specs.Entries.{octets_cmp, station_cmp, moment_cmp}
+use Rattle.bufr_keys.specs.KeyOrders.{octets_cmp, station_cmp, moment_cmp}
 use Rattle.bufr_shelves.specs.Fronts.{place_cmp, front_cmp, in_two_octets, first_octets}
 use Rattle.bufr_shelves.specs.Fronts.{place_of_numbers, place_of_station, front_of_key}
-use Rattle.bufr_shelves.specs.Ranks.{key_order, stations_are}
-use Rattle.bufr_shelves.specs.declared.key.Station.{Station}
-use Rattle.bufr_shelves.specs.declared.key.Station.TheVariants.{Wmo, Wigos, Mobile}
+use Rattle.bufr_keys.specs.DerivedOrders.{key_order, stations_are}
+use Rattle.bufr_keys.specs.declared.key.Station.{Station}
+use Rattle.bufr_keys.specs.declared.key.Station.TheVariants.{Wmo, Wigos, Mobile}
 use Rattle.bufr_shelves.specs.declared.sorted_shelf.front.FrontPlace.TheVariants as places
-use Rattle.bufr_shelves.specs.declared.key.Moment.{Moment}
-use Rattle.bufr_shelves.specs.declared.key.Key.{Key}
+use Rattle.bufr_keys.specs.declared.key.Moment.{Moment}
+use Rattle.bufr_keys.specs.declared.key.Key.{Key}
 
 -- ---- orders in turn
 

@@ -1,18 +1,18 @@
--- Fronts of keys, which `Gathering` compares before the keys.
+-- Fronts of keys, which `ShelfBuilder` compares before the keys.
 use Rattle.std.specs.Prelude.{ℕ, zero, suc, ◌&&◌, if◌then◌else◌, List, [], ◌∷◌, Option, Some, None}
 use Rattle.std.specs.Prelude.{ℤ, pos, int_le, unsigned_abs}
 use Rattle.std.specs.Ordering.{nat_cmp, ordering_then}
 use Rattle.std.specs.declared.cmp.Ordering.{Ordering}
 use Rattle.std.specs.declared.cmp.Ordering.TheVariants.{Less, Equal, Greater}
-use Rattle.bufr_shelves.specs.declared.key.Station.{Station}
-use Rattle.bufr_shelves.specs.declared.key.Station.TheVariants as stations
-use Rattle.bufr_shelves.specs.declared.key.Moment.{Moment}
-use Rattle.bufr_shelves.specs.declared.key.Key.{Key}
+use Rattle.bufr_keys.specs.declared.key.Station.{Station}
+use Rattle.bufr_keys.specs.declared.key.Station.TheVariants as stations
+use Rattle.bufr_keys.specs.declared.key.Moment.{Moment}
+use Rattle.bufr_keys.specs.declared.key.Key.{Key}
 use Rattle.bufr_shelves.specs.declared.sorted_shelf.front.FrontHead.{FrontHead}
 use Rattle.bufr_shelves.specs.declared.sorted_shelf.front.FrontPlace.{FrontPlace}
 use Rattle.bufr_shelves.specs.declared.sorted_shelf.front.FrontPlace.TheVariants.{Wmo, Mobile, Open}
 use Rattle.bufr_shelves.specs.declared.sorted_shelf.front.Front.{Front}
-use Rattle.bufr_shelves.specs.Entries.{octets_cmp, moment_cmp}
+use Rattle.bufr_keys.specs.KeyOrders.{octets_cmp, moment_cmp}
 
 -- ---- the order of fronts
 

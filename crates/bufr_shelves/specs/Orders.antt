@@ -12,11 +12,12 @@ use Rattle.std.proofs.lemmas.Cmp.{nat_list_cmp_total}
 use Rattle.std.proofs.lemmas.Map.Lookups.{exact_signed, exact_unsigned, exact_bytes}
 use Rattle.std.specs.declared.cmp.Ordering.{Ordering}
 use Rattle.std.specs.declared.cmp.Ordering.TheVariants.{Less, Equal, Greater}
-use Rattle.bufr_shelves.specs.declared.key.Station.{Station}
-use Rattle.bufr_shelves.specs.declared.key.Station.TheVariants.{Wmo, Wigos, Mobile}
-use Rattle.bufr_shelves.specs.declared.key.Moment.{Moment}
-use Rattle.bufr_shelves.specs.declared.key.Key.{Key}
-use Rattle.bufr_shelves.specs.Entries.{octets_cmp, station_cmp, moment_cmp, key_cmp, coarse_key_cmp}
+use Rattle.bufr_keys.specs.declared.key.Station.{Station}
+use Rattle.bufr_keys.specs.declared.key.Station.TheVariants.{Wmo, Wigos, Mobile}
+use Rattle.bufr_keys.specs.declared.key.Moment.{Moment}
+use Rattle.bufr_keys.specs.declared.key.Key.{Key}
+use Rattle.bufr_keys.specs.KeyOrders.{octets_cmp, station_cmp, moment_cmp, key_cmp}
+use Rattle.bufr_shelves.specs.Entries.{coarse_key_cmp}
 use Rattle.bufr_shelves.specs.Entries.{slot_in, slot_by, slot_cmp, coarse_slot_cmp, rank_cmp, kept}
 use Rattle.bufr_shelves.specs.Entries.{coarsely_kept}
 use Rattle.bufr_shelves.specs.declared.entry.Entry.{Entry}

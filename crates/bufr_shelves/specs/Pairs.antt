@@ -3,7 +3,7 @@ use Rattle.std.specs.Prelude.{Some, None, Result, Ok, Err, List, [], ◌∷◌, 
 use Rattle.std.specs.List.Sorted.{IsSortedBy}
 use Rattle.std.specs.Ordering.{match_ordering, is_lt}
 use Rattle.std.specs.declared.cmp.Ordering.{Ordering}
-use Rattle.bufr_shelves.specs.declared.key.Key.{Key}
+use Rattle.bufr_keys.specs.declared.key.Key.{Key}
 use Rattle.bufr_shelves.specs.declared.entry.Entry.{Entry}
 use Rattle.bufr_shelves.specs.declared.rank.Rank.{Rank}
 

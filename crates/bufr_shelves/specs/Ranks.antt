@@ -1,40 +1,17 @@
--- The orders that the types derive are those of the definitions, and tell all values apart; clones
--- equal their sources: for the law `keys_in_order` and the types that shelves compare.
-use Rattle.std.proofs.Common.{◌≡◌, ap, ◌∙◌, refl}
+-- Ranks that tie are one, and clones equal their sources: for the types that shelves compare.
+use Rattle.std.proofs.Common.{◌≡◌, ap, ◌∙◌}
 use Rattle.std.proofs.lemmas.Map.Lookups.{exact_unsigned, exact_bytes}
 use Rattle.std.specs.Ordering.{nat_cmp, ordering_then}
 use Rattle.std.specs.declared.cmp.Ordering.{Ordering}
 use Rattle.std.specs.declared.cmp.Ordering.TheVariants.{Equal}
-use Rattle.bufr_shelves.specs.Entries.{octets_cmp, station_cmp}
+use Rattle.bufr_keys.specs.KeyOrders.{octets_cmp}
 use Rattle.bufr_shelves.specs.declared.rank.Rank.{Rank}
-use Rattle.bufr_shelves.specs.declared.key.Key.{Key}
-use Rattle.bufr_shelves.specs.declared.key.Station.{Station}
-use Rattle.bufr_shelves.specs.declared.key.Station.TheVariants.{Wmo, Wigos, Mobile}
-use Rattle.bufr_shelves.specs.contracts.key.StationOrd.TheImpl as station_ord
-use Rattle.bufr_shelves.specs.contracts.key.KeyOrd.TheImpl as key_ord
-use Rattle.bufr_shelves.specs.contracts.key.StationClone.TheImpl as station_clone
 use Rattle.bufr_shelves.specs.contracts.rank.RankOrd.TheImpl as rank_ord
 use Rattle.bufr_shelves.specs.Orders.{both_equal}
-
--- the order of keys that the type derives
-abbrev pub key_order : Key → Key → Ordering
-key_order = (key_ord.ghosts).cmp
 
 -- the order of ranks that the type derives
 abbrev pub rank_order : Rank → Rank → Ordering
 rank_order = (rank_ord.ghosts).cmp
-
--- the order of stations that the type derives is that of the definition
-pub stations_are : (a b : Station) → (station_ord.ghosts).cmp a b ≡ station_cmp a b
-stations_are (Wmo b n) (Wmo c m) = refl
-stations_are (Wmo b n) (Wigos s i m a) = refl
-stations_are (Wmo b n) (Mobile a) = refl
-stations_are (Wigos s i n a) (Wmo b m) = refl
-stations_are (Wigos s i n a) (Wigos t j m b) = refl
-stations_are (Wigos s i n a) (Mobile b) = refl
-stations_are (Mobile a) (Wmo b n) = refl
-stations_are (Mobile a) (Wigos s i n b) = refl
-stations_are (Mobile a) (Mobile b) = refl
 
 -- ranks that tie are one
 pub exact_ranks : (a b : Rank)
@@ -47,17 +24,3 @@ exact_ranks a b h =
 -- a clone of a rank is the same
 pub same_ranks : (a b : Rank) → b.update ≡ a.update → b.bytes ≡ a.bytes → b ≡ a
 same_ranks a b u o = ap (λ z. record b { update = z }) u ∙ ap (λ z. record a { bytes = z }) o
-
--- a clone of a station is the same
-pub same_stations : (a b : Station) → (station_clone.ghosts).is_clone a b → b ≡ a
-same_stations (Wmo b n) (Wmo c m) h = ap (λ z. Wmo z m) h.0 ∙ ap (λ z. Wmo b z) h.1
-same_stations (Wmo b n) (Wigos s i m a) h = absurd h
-same_stations (Wmo b n) (Mobile a) h = absurd h
-same_stations (Wigos s i n a) (Wmo b m) h = absurd h
-same_stations (Wigos s i n a) (Wigos t j m b) h =
-    ap (λ z. Wigos z j m b) h.0 ∙ ap (λ z. Wigos s z m b) h.1.0
-    ∙ ap (λ z. Wigos s i z b) h.1.1.0 ∙ ap (λ z. Wigos s i n z) h.1.1.1
-same_stations (Wigos s i n a) (Mobile b) h = absurd h
-same_stations (Mobile a) (Wmo b n) h = absurd h
-same_stations (Mobile a) (Wigos s i n b) h = absurd h
-same_stations (Mobile a) (Mobile b) h = ap Mobile h

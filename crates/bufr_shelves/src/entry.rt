@@ -1,8 +1,6 @@
 //! Entries of a shelf.
-use crate::key::Key;
-use crate::octets::Octets;
-use std::alloc::AllocError;
-pub use std::alloc::AllocError as OutOfMemory;
+use bufr_answers::{Items, OutOfMemory};
+use bufr_keys::Key;
 use thiserror::Error;
 
 /// An entry: its key, if it has one, its update number and its octets.
@@ -13,7 +11,7 @@ pub struct Entry {
     /// The update sequence number.
     pub update: u8,
     /// The canonical message, octet by octet.
-    pub bytes: Octets,
+    pub bytes: Items<u8>,
 }
 
 /// An entry that a shelf lends.
@@ -24,7 +22,7 @@ pub struct Held<'a> {
     /// The update sequence number.
     pub update: u8,
     /// The canonical message, octet by octet.
-    pub bytes: &'a Octets,
+    pub bytes: &'a Items<u8>,
 }
 
 /// Why nothing was joined.
@@ -35,13 +33,13 @@ pub enum JoinFault {
     OutOfMemory,
 }
 
-impl From<AllocError> for JoinFault {
+impl From<OutOfMemory> for JoinFault {
     ghost use Rattle.std.specs.Prelude.{◌≡◌};
     ghost use Rattle.bufr_shelves.specs.declared.entry.JoinFault.TheVariants.{OutOfMemory as NothingJoined};
 
     ghost from_gives = { λ _ fault. fault ≡ NothingJoined };
 
-    fn from(_: AllocError) -> JoinFault {
+    fn from(_: OutOfMemory) -> JoinFault {
         JoinFault::OutOfMemory
     }
 }

@@ -2,19 +2,20 @@
 ghost use Rattle.std.specs.Prelude.{◌≡◌};
 ghost use Rattle.std.specs.Option.{option_map, option_copied};
 ghost use Rattle.std.specs.Map.Iter.{deref_pair};
-ghost use Rattle.bufr_shelves.specs.Entries.{octets_cmp, slot_by, slot_cmp};
+ghost use Rattle.bufr_keys.specs.KeyOrders.{octets_cmp};
+ghost use Rattle.bufr_shelves.specs.Entries.{slot_by, slot_cmp};
 ghost use Rattle.bufr_shelves.specs.Pairs.{with_key, without_key};
 ghost use Rattle.bufr_shelves.specs.Shelves.{lent};
 
 use crate::entry::Held;
-use crate::key::Key;
-use crate::octets::Octets;
 use crate::rank::Rank;
+use bufr_answers::Items;
+use bufr_keys::Key;
 use std::cmp::Ordering;
 
 /// The order of two slots, each of a key or, where there is none, of octets: those with a key by
 /// key, and after them those without by octets.
-#[tactic(auto, using(crate::proofs::KeyFacts::keys_are))]
+#[tactic(auto, using(bufr_keys::specs::DerivedOrders::keys_are))]
 pub fn slot_order(
     key: Option<&Key>,
     bytes: &[u8],
@@ -59,7 +60,7 @@ pub(crate) fn held_with_key<'a>(found: Option<(&'a Key, &'a Rank)>) -> Option<He
 }
 
 /// Octets and their update number as an entry that is lent.
-pub(crate) fn held_without_key<'a>(found: Option<(&'a Octets, &'a u8)>) -> Option<Held<'a>>
+pub(crate) fn held_without_key<'a>(found: Option<(&'a Items<u8>, &'a u8)>) -> Option<Held<'a>>
     ensures { option_map lent result ≡ option_map without_key (option_map deref_pair found.entry) }
 {
     let (bytes, update) = found?;

@@ -1,12 +1,6 @@
 //! What is kept of entries, and that joining shelves by any route gives the same.
 ghost use Rattle.std.specs.Prelude.{◌≡◌, ℕ, List};
-ghost use Rattle.bufr_shelves.specs.Entries.{station_cmp, moment_cmp, key_cmp};
 ghost use Rattle.bufr_shelves.specs.Laws.{KeptIsTheBest, OnlyKeptIsTheBest, SameEntriesSameKept, KeptEarly, JoinCommutes, JoinAssociates, JoinIsIdempotent, ChangesTells, NoTies, InOneOrder, SortedAreKept, CoarselyKeptAreKept, CoarselyKeptIsTheBest};
-ghost use Rattle.bufr_shelves.specs.declared.key.Key.{Key as AKey};
-ghost use Rattle.bufr_shelves.specs.declared.key.Station.{Station as AStation};
-ghost use Rattle.bufr_shelves.specs.declared.key.Moment.{Moment as AMoment};
-
-use crate::key::{Key, Moment, Station};
 
 /// What is kept of entries is the only list in order of slots, no slot twice, that has exactly the
 /// entries whose rank none of the same slot passes.
@@ -39,12 +33,4 @@ pub fn sorted_are_kept()
 pub fn entries_never_tie()
     ensures ties { NoTies }
     ensures orders { InOneOrder }
-{}
-
-/// The order of keys is part by part: centre, category, its two sub-categories, station, moment and
-/// sub-centre; names are compared by octets.
-pub fn keys_in_order()
-    ensures keys { (a b : AKey) → ⟦<Key as Ord>⟧.cmp a b ≡ key_cmp a b }
-    ensures stations { (a b : AStation) → ⟦<Station as Ord>⟧.cmp a b ≡ station_cmp a b }
-    ensures moments { (a b : AMoment) → ⟦<Moment as Ord>⟧.cmp a b ≡ moment_cmp a b }
 {}

@@ -7,28 +7,24 @@
 //!
 //! [`MapShelf`] stands on ordered maps, where `put` takes logarithmic time. [`SortedShelf`] stands
 //! on sorted vectors, where `put` also moves all that comes after its place, eight octets for each
-//! entry: it is for entries that come nearly in order, and for joins. A [`Gathering`] takes entries
+//! entry: it is for entries that come nearly in order, and for joins. A [`ShelfBuilder`] takes entries
 //! in any order where none is looked up before all are there, and then becomes a sorted shelf.
-//! Times of each stand in `docs/DESIGN.md`.
+//! Times of each stand in `bench/RESULTS.md`.
 #![tactic(auto)]
 
 pub mod entry;
-mod examples;
 pub mod held;
-pub mod key;
 pub mod laws;
 pub mod map_shelf;
-pub mod octets;
 mod rank;
 pub mod shelf;
 pub mod shelving;
 pub mod sorted_shelf;
+mod worked_values;
 
-pub use entry::{Entry, Held, JoinFault, OutOfMemory};
+pub use entry::{Entry, Held, JoinFault};
 pub use held::slot_order;
-pub use key::{Key, Moment, Station};
 pub use map_shelf::MapShelf;
-pub use octets::Octets;
 pub use shelf::Shelf;
 pub use shelving::shelve;
-pub use sorted_shelf::{Gathering, SortedShelf};
+pub use sorted_shelf::{ShelfBuilder, SortedShelf};

@@ -5,12 +5,12 @@ ghost use Rattle.bufr_shelves.specs.Entries.{kept};
 ghost use Rattle.bufr_shelves.specs.Orders.{kept-early, kept-swap, kept-join, kept-twice, kept-kept};
 ghost use Rattle.bufr_shelves.specs.declared.entry.Entry.{Entry};
 
-use crate::entry::{Held, JoinFault, OutOfMemory};
+use crate::entry::{Held, JoinFault};
 use crate::held::{held_with_key, held_without_key};
-use crate::key::Key;
-use crate::octets::Octets;
 use crate::rank::Rank;
 use crate::shelf::Shelf;
+use bufr_answers::{Items, OutOfMemory};
+use bufr_keys::Key;
 use raise::{at_key, copied, first_pair, next_after, raise, raise_all};
 use std::alloc::Global;
 use std::collections::BTreeMap;
@@ -23,7 +23,7 @@ mod raise;
 #[derive(Drop)]
 pub struct MapShelf {
     keyed: BTreeMap<Key, Rank>,
-    unkeyed: BTreeMap<Octets, u8>,
+    unkeyed: BTreeMap<Items<u8>, u8>,
 }
 
 impl Model for MapShelf {
@@ -59,7 +59,7 @@ impl Shelf for MapShelf {
         }
     }
 
-    fn put(&mut self, key: Option<Key>, update: u8, bytes: Octets) -> Result<bool, OutOfMemory> {
+    fn put(&mut self, key: Option<Key>, update: u8, bytes: Items<u8>) -> Result<bool, OutOfMemory> {
         match key {
             Some(key) => raise(&mut self.keyed, key, Rank { update, bytes }),
             None => raise(&mut self.unkeyed, bytes, update),

@@ -2,14 +2,14 @@
 ghost use Rattle.std.specs.Prelude.{◌≡◌};
 ghost use Rattle.std.specs.declared.cmp.Ordering.TheVariants.{Equal};
 
-use crate::key::Key;
-use crate::octets::Octets;
+use bufr_answers::Items;
+use bufr_keys::Key;
 
 /// What decides between two entries of one key: the update number, and then the octets.
 #[derive(Clone, Debug, Drop, PartialEq, Eq, PartialOrd, Ord)]
 pub(crate) struct Rank {
     pub(crate) update: u8,
-    pub(crate) bytes: Octets,
+    pub(crate) bytes: Items<u8>,
 }
 
 /// A type whose order tells all its values apart, and whose clones equal their sources.
@@ -29,7 +29,7 @@ impl Exact for u8 {
     ghost faithful = { λ a b h. h };
 }
 
-impl Exact for Octets {
+impl Exact for Items<u8> {
     ghost use Rattle.std.proofs.lemmas.Map.Lookups.{exact_bytes};
 
     ghost exact = { exact_bytes };
@@ -47,9 +47,9 @@ impl Exact for Rank {
 
 impl Exact for Key {
     ghost use Rattle.std.proofs.Common.{sym, refl, ◌∙◌, ap};
-    ghost use Rattle.bufr_shelves.specs.Entries.{key_cmp};
+    ghost use Rattle.bufr_keys.specs.KeyOrders.{key_cmp};
     ghost use Rattle.bufr_shelves.specs.Orders.{exact_keys};
-    ghost use Rattle.bufr_shelves.specs.Ranks.{stations_are, same_stations};
+    ghost use Rattle.bufr_keys.specs.DerivedOrders.{stations_are, same_stations};
 
     ghost exact = { λ a b h.
         let e : Self.cmp a b ≡ key_cmp a b = rw (stations_are a.station b.station) refl in

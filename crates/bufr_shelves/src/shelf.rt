@@ -6,9 +6,9 @@ ghost use Rattle.bufr_shelves.specs.Keeping.{first_of};
 ghost use Rattle.bufr_shelves.specs.Shelves.{lent};
 ghost use Rattle.bufr_shelves.specs.declared.entry.Entry.{Entry};
 
-use crate::entry::{Held, JoinFault, OutOfMemory};
-use crate::key::Key;
-use crate::octets::Octets;
+use crate::entry::{Held, JoinFault};
+use bufr_answers::{Items, OutOfMemory};
+use bufr_keys::Key;
 use std::alloc::Global;
 
 /// What an archive keeps its entries in: of the entries that share a slot the one of greatest
@@ -24,7 +24,7 @@ pub trait Shelf: Drop {
 
     /// Puts an entry in: a key or none, an update number and octets. It answers whether that
     /// changed what is kept. Where memory was refused the entries are as they were.
-    fn put(&mut self, key: Option<Key>, update: u8, bytes: Octets) -> Result<bool, OutOfMemory>
+    fn put(&mut self, key: Option<Key>, update: u8, bytes: Items<u8>) -> Result<bool, OutOfMemory>
         ensures changed { IfOk result (λ b. b ≡ changes (entries self.old)
             (record { key = key; update = update; bytes = bytes })) }
         ensures ok { OnOk result (entries self.new ≡ kept (entries self.old

@@ -4,8 +4,9 @@ ghost use Rattle.bufr_shelves.specs.Keeping.{SameMembers};
 ghost use Rattle.bufr_shelves.specs.Entries.{kept};
 ghost use Rattle.bufr_shelves.specs.declared.entry.Entry.{Entry as AnEntry};
 
-use crate::entry::{Entry, OutOfMemory};
+use crate::entry::Entry;
 use crate::shelf::Shelf;
+use bufr_answers::OutOfMemory;
 use std::alloc::Global;
 
 /// A new shelf with these entries put in one after another. It can only run out of memory.

@@ -5,12 +5,12 @@ ghost use Rattle.bufr_shelves.specs.Entries.{kept};
 ghost use Rattle.bufr_shelves.specs.Orders.{kept-early, kept-swap, kept-join, kept-twice, kept-kept};
 ghost use Rattle.bufr_shelves.specs.declared.entry.Entry.{Entry};
 
-use crate::entry::{Held, JoinFault, OutOfMemory};
+use crate::entry::{Held, JoinFault};
 use crate::held::{held_with_key, held_without_key};
-use crate::key::Key;
-use crate::octets::Octets;
 use crate::rank::Rank;
 use crate::shelf::Shelf;
+use bufr_answers::{Items, OutOfMemory};
+use bufr_keys::Key;
 use merge::{merge, room_for};
 use pair::Pair;
 use sorted::{at_key, copied, first_pair, next_after, raise};
@@ -18,14 +18,14 @@ use std::alloc::Global;
 use std::marker::Model;
 
 mod batches;
+mod builder;
 mod front;
-mod gathering;
 mod joined;
 mod merge;
 mod pair;
 mod sorted;
 
-pub use gathering::Gathering;
+pub use builder::ShelfBuilder;
 
 /// A shelf on sorted vectors: one of keys with their ranks, and one of the octets of what has no
 /// key with the update number. `put` finds its place by binary search and moves what follows, eight
@@ -34,7 +34,7 @@ pub use gathering::Gathering;
 pub struct SortedShelf {
     alloc: Global,
     keyed: Vec<Pair<Key, Rank>>,
-    unkeyed: Vec<Pair<Octets, u8>>,
+    unkeyed: Vec<Pair<Items<u8>, u8>>,
 }
 
 impl Model for SortedShelf {
@@ -71,7 +71,7 @@ impl Shelf for SortedShelf {
         }
     }
 
-    fn put(&mut self, key: Option<Key>, update: u8, bytes: Octets) -> Result<bool, OutOfMemory> {
+    fn put(&mut self, key: Option<Key>, update: u8, bytes: Items<u8>) -> Result<bool, OutOfMemory> {
         match key {
             Some(key) => raise(self.alloc, &mut self.keyed, key, Rank { update, bytes }),
             None => raise(self.alloc, &mut self.unkeyed, bytes, update),

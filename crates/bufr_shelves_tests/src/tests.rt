@@ -1,3 +1,5 @@
+use bufr_answers::{Items, OutOfMemory};
+use bufr_keys::{Key, Moment, Station};
 use bufr_shelves::*;
 use std::alloc::Global;
 use std::cmp::Ordering;
@@ -9,8 +11,8 @@ mod large;
 mod orders;
 
 /// Octets of their own.
-fn octets(alloc: Global, bytes: &[u8]) -> Result<Octets, OutOfMemory> {
-    Ok(Octets::new(Vec::from_slice(alloc, bytes)?))
+fn octets(alloc: Global, bytes: &[u8]) -> Result<Items<u8>, OutOfMemory> {
+    Ok(Items::from_vec(Vec::from_slice(alloc, bytes)?))
 }
 
 /// The key of a report of centre 98 at a station and an hour.
@@ -355,7 +357,7 @@ fn order_of_keys(rt: HostRuntime) {
 
 /// What comes after an absent entry of this key is the text "four", and after one without key "b",
 /// which is the last.
-fn assert_after<S: Shelf>(rt: &impl Abort, shelf: &S, absent: &Key, bytes: &Octets) {
+fn assert_after<S: Shelf>(rt: &impl Abort, shelf: &S, absent: &Key, bytes: &Items<u8>) {
     let update = 9;
     let key = Some(absent);
     let held = Held { key, update, bytes };

@@ -5,7 +5,7 @@ use Rattle.std.proofs.Common.{[], ◌∷◌, ◌++◌, length, get_or, map, drop
 use Rattle.std.proofs.Common.{Ok, Err, refl, ap, sym, arith, append_assoc, add-one, drop-cons, not}
 use Rattle.std.specs.Prelude.{position, bytes_eq, MatchBool}
 use Rattle.std.specs.List.{prefix_len}
-use Rattle.bufr_tables.specs.Answers.{◌>>=◌}
+use Rattle.bufr_answers.specs.Answers.{◌>>=◌}
 use Rattle.std.specs.List.{list_all}
 use Rattle.std.specs.Cmp.Lexicographic.{pointwise}
 use Rattle.std.proofs.lemmas.Bool.Decides.{nat_tests}

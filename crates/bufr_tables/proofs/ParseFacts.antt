@@ -5,9 +5,9 @@ use Rattle.std.proofs.Common.{Ok, Err, ap, map, Bor}
 use Rattle.std.specs.Prelude.{MatchBool, IsErrAnd}
 use Rattle.bufr_tables.specs.declared.table_faults.Column.{Column}
 use Rattle.bufr_tables.specs.declared.table_faults.TableFault.{TableFault}
-use Rattle.bufr_tables.specs.declared.failure.Failure.{Failure}
-use Rattle.bufr_tables.specs.declared.failure.Failure.TheVariants.{Fault, OutOfMemory}
-use Rattle.bufr_tables.specs.Answers.{◌>>=◌, Fails, Gives}
+use Rattle.bufr_answers.specs.declared.failure.Failure.{Failure}
+use Rattle.bufr_answers.specs.declared.failure.Failure.TheVariants.{Fault, OutOfMemory}
+use Rattle.bufr_answers.specs.Answers.{◌>>=◌, Fails, Gives}
 use Rattle.bufr_tables.specs.Fields.{used_fields}
 use Rattle.bufr_tables.specs.TableFiles.{columns_at, row_cells, joined, after_records, after_file}
 use Rattle.bufr_tables.specs.TableFiles.{TakesHeader}

@@ -14,7 +14,7 @@ use Rattle.std.proofs.lemmas.List.Elements.{Contains-push_cases, All-contains}
 use Rattle.bufr_tables.specs.declared.table_faults.TableFault.{TableFault}
 use Rattle.bufr_tables.specs.declared.table_faults.TableFault.TheVariants.{NoColumn, NotCsv, BadRow}
 use Rattle.bufr_tables.specs.declared.table_faults.TableFault.TheVariants.{Conflict, SplitSequence}
-use Rattle.bufr_tables.specs.Answers.{◌>>=◌}
+use Rattle.bufr_answers.specs.Answers.{◌>>=◌}
 use Rattle.bufr_tables.specs.Entries.{at, Rising}
 use Rattle.bufr_tables.specs.Rows.{member_row, with_member, begins, Sequences, no_sequences}
 use Rattle.bufr_tables.specs.Rows.{all_sequences}

@@ -16,7 +16,7 @@ use Rattle.std.proofs.lemmas.Slice.Eq.{bytes_eq-Decides, slice_eq-Decides}
 use Rattle.bufr_tables.specs.declared.table_faults.Column.{Column}
 use Rattle.bufr_tables.specs.declared.table_faults.TableFault.{TableFault}
 use Rattle.bufr_tables.specs.declared.table_faults.TableFault.TheVariants.{NoColumn, NotCsv, BadRow}
-use Rattle.bufr_tables.specs.Answers.{◌>>=◌}
+use Rattle.bufr_answers.specs.Answers.{◌>>=◌}
 use Rattle.bufr_tables.specs.Fields.{used_fields}
 use Rattle.bufr_tables.specs.Sheets.{HasColumn, StandsAt, IsFirstAbsent, IsNotCsv, TellsNothing}
 use Rattle.bufr_tables.specs.Sheets.{IsSkipped, IsRow, IsBadRow, AreRows, no_record, skipped_first}

@@ -1,5 +1,3 @@
-pub mod Answers
-pub mod AnswerLaws
 pub mod CsvRecords
 pub mod DescriptorLaws
 pub mod Descriptors

@@ -4,7 +4,7 @@ use Rattle.std.specs.Prelude.{ℕ, List, [], ◌∷◌, codes, Result, Ok, pos}
 use Rattle.bufr_tables.specs.declared.element.Element.{Element}
 use Rattle.bufr_tables.specs.declared.element.Kind.TheVariants as kinds
 use Rattle.bufr_tables.specs.declared.table_faults.TableFault.{TableFault}
-use Rattle.bufr_tables.specs.Answers.{◌>>=◌}
+use Rattle.bufr_answers.specs.Answers.{◌>>=◌}
 use Rattle.bufr_tables.specs.Fields.{Record}
 use Rattle.bufr_tables.specs.Rows.{element_row, member_row, with_element, with_member, no_sequences}
 use Rattle.bufr_tables.specs.Rows.{all_sequences}

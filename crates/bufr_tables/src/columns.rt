@@ -5,17 +5,17 @@ ghost use Rattle.std.specs.Prelude.{IfOk};
 ghost use Rattle.std.specs.List.{list_all};
 ghost use Rattle.std.specs.Cmp.Lexicographic.{pointwise};
 ghost use Rattle.csv.specs.Records.{fields_of};
-ghost use Rattle.bufr_tables.specs.Answers.{Gives};
+ghost use Rattle.bufr_answers.specs.Answers.{Gives};
 ghost use Rattle.bufr_tables.specs.Fields.{used_fields};
 ghost use Rattle.bufr_tables.specs.TableFiles.{title, column_at, columns_at, cells_at, row_cells};
 ghost use Rattle.bufr_tables.specs.TableFiles.{TakesHeader};
 
 use crate::csv_records::Records;
-use crate::failure::Failure;
 use crate::fields::{cell, same_fields, used_fields};
 use crate::table_faults::{Column, TableFault};
+use bufr_answers::{Failure, OutOfMemory};
 use csv::ByteRecord;
-use std::alloc::{AllocError, Global};
+use std::alloc::Global;
 
 // The title of a column.
 fn title(column: Column) -> &'static [u8]
@@ -73,7 +73,7 @@ fn cells_at<'a>(
     alloc: Global,
     fields: &[&'a [u8]],
     places: &[usize],
-) -> Result<Vec<&'a [u8]>, AllocError>
+) -> Result<Vec<&'a [u8]>, OutOfMemory>
     ensures { IfOk result (λ v. map (λ s. s.now) v.items
         ≡ cells_at (map (λ s. s.now) fields.now) places.now) }
 {
@@ -114,7 +114,7 @@ pub(crate) fn row_cells<'a>(
 }
 
 /// The first of the records; an empty one where there is none.
-pub(crate) fn header(alloc: Global, records: &mut Records<'_>) -> Result<ByteRecord, AllocError>
+pub(crate) fn header(alloc: Global, records: &mut Records<'_>) -> Result<ByteRecord, OutOfMemory>
     ensures { IfOk result (λ row. TakesHeader records.old (fields_of row) records.new) }
 {
     let mut row = ByteRecord::new(alloc);

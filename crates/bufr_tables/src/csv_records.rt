@@ -4,8 +4,9 @@ ghost use Rattle.std.specs.Prelude.{◌≡◌, ◌∷◌, [], IfOk, MatchBool};
 ghost use Rattle.csv.specs.Records.{fields_of};
 ghost use Rattle.bufr_tables.specs.TableFiles.{records_of};
 
+use bufr_answers::OutOfMemory;
 use csv::{ByteRecord, Reader, ReaderBuilder};
-use std::alloc::{AllocError, Global};
+use std::alloc::Global;
 use std::marker::Model;
 
 /// The records that a text has left.
@@ -38,13 +39,13 @@ impl<'a> Records<'a> {
     }
 
     /// The next record into `row`, and whether there was one.
-    pub(crate) fn next(&mut self, row: &mut ByteRecord) -> Result<bool, AllocError>
+    pub(crate) fn next(&mut self, row: &mut ByteRecord) -> Result<bool, OutOfMemory>
         ensures { IfOk result (λ found. MatchBool found
             (self.old ≡ fields_of row.new ∷ self.new) (self.old ≡ [])) }
     {
         let Ok(found) = self.reader.read_byte_record(row) else {
             // A slice gives no error of its own, so this is want of memory.
-            return Err(AllocError);
+            return Err(OutOfMemory);
         };
         Ok(found)
     }

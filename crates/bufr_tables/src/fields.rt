@@ -7,8 +7,9 @@ ghost use Rattle.csv.specs.Reading.{strip_bom};
 ghost use Rattle.bufr_tables.specs.Fields.{skip_spaces, without_spaces, used_fields};
 ghost use Rattle.bufr_tables.specs.Rows.{cell};
 
+use bufr_answers::OutOfMemory;
 use csv::ByteRecord;
-use std::alloc::{AllocError, Global};
+use std::alloc::Global;
 
 const MARK: [u8; 3] = [0xEF, 0xBB, 0xBF];
 
@@ -79,7 +80,7 @@ fn used_field(row: &ByteRecord, i: usize) -> &[u8]
 }
 
 /// The fields of a record as they are used.
-pub(crate) fn used_fields(alloc: Global, row: &ByteRecord) -> Result<Vec<&[u8]>, AllocError>
+pub(crate) fn used_fields(alloc: Global, row: &ByteRecord) -> Result<Vec<&[u8]>, OutOfMemory>
     ensures { IfOk result (λ v. map (λ s. s.now) v.items ≡ used_fields (fields_of row.now)) }
 {
     let mut fields = Vec::new(alloc);

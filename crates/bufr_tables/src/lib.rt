@@ -4,11 +4,8 @@
 mod columns;
 mod csv_records;
 mod element;
-mod examples;
-mod failure;
 mod fields;
 mod fxy;
-mod items;
 pub mod laws;
 mod numbers;
 mod rows;
@@ -17,12 +14,10 @@ mod table_b;
 mod table_d;
 mod table_faults;
 mod tables;
+mod worked_values;
 
 pub use element::{Element, Kind};
-pub use failure::Failure;
 pub use fxy::{Fxy, GREATEST_F, GREATEST_X, GREATEST_Y};
-pub use items::Items;
-pub use std::alloc::AllocError as OutOfMemory;
 pub use table_b::TableB;
 pub use table_d::TableD;
 pub use table_faults::{Column, TableFault};

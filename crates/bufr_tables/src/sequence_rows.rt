@@ -3,18 +3,17 @@
 ghost use Rattle.std.specs.Prelude.{◌≡◌, IfOk, OnOk, map, option_map};
 ghost use Rattle.std.specs.Ordering.{nat_cmp};
 ghost use Rattle.std.specs.BTreeMap.{insert_entry};
-ghost use Rattle.bufr_tables.specs.Answers.{Gives};
+ghost use Rattle.bufr_answers.specs.Answers.{Gives};
 ghost use Rattle.bufr_tables.specs.Entries.{Rising};
 ghost use Rattle.bufr_tables.specs.Rows.{member_row, with_member, begins, no_sequences};
 ghost use Rattle.bufr_tables.specs.Rows.{all_sequences};
 ghost use Rattle.bufr_tables.specs.TableFiles.{joined};
 
-use crate::failure::Failure;
 use crate::fxy::Fxy;
-use crate::items::Items;
 use crate::rows::member_row;
 use crate::table_faults::TableFault;
-use std::alloc::{AllocError, Global};
+use bufr_answers::{Failure, Items, OutOfMemory};
+use std::alloc::Global;
 use std::collections::BTreeMap;
 use std::marker::Model;
 
@@ -105,7 +104,7 @@ impl SequenceRows {
     }
 
     /// All sequences.
-    pub(crate) fn finish(self) -> Result<BTreeMap<Fxy, Items<Fxy>>, AllocError>
+    pub(crate) fn finish(self) -> Result<BTreeMap<Fxy, Items<Fxy>>, OutOfMemory>
         ensures all { IfOk result (λ m. m.entries ≡ all_sequences self) }
         ensures rising { IfOk result (λ m. Rising m.entries) }
     {
@@ -126,7 +125,7 @@ fn end(
     ended: &mut BTreeMap<Fxy, Items<Fxy>>,
     sequence: Fxy,
     list: Vec<Fxy>,
-) -> Result<(), AllocError>
+) -> Result<(), OutOfMemory>
     requires { Rising ended.old.entries }
     ensures ok { OnOk result (ended.new.entries
         ≡ insert_entry nat_cmp ended.old.entries sequence list.items) }

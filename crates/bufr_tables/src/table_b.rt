@@ -2,7 +2,7 @@
 
 ghost use Rattle.std.specs.Prelude.{◌≡◌, ◌↔◌, IsTrue, [], false, map, option_copied, option_map};
 ghost use Rattle.bufr_tables.specs.declared.element.Kind.TheVariants as kinds;
-ghost use Rattle.bufr_tables.specs.Answers.{Gives};
+ghost use Rattle.bufr_answers.specs.Answers.{Gives};
 ghost use Rattle.bufr_tables.specs.Elements.{same_kind};
 ghost use Rattle.bufr_tables.specs.Entries.{at, AreElements};
 ghost use Rattle.bufr_tables.specs.Rows.{element_row, with_element};
@@ -11,11 +11,11 @@ ghost use Rattle.bufr_tables.specs.TableFiles.{joined, table_b};
 use crate::columns::{columns_at, header, row_cells};
 use crate::csv_records::Records;
 use crate::element::Element;
-use crate::failure::Failure;
 use crate::fields::used_fields;
 use crate::fxy::Fxy;
 use crate::rows::element_row;
 use crate::table_faults::{Column, TableFault};
+use bufr_answers::Failure;
 use csv::ByteRecord;
 use std::alloc::Global;
 use std::collections::BTreeMap;

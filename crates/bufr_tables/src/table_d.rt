@@ -1,18 +1,17 @@
 //! Table D.
 
 ghost use Rattle.std.specs.Prelude.{◌≡◌, ◌↔◌, IsTrue, option_map};
-ghost use Rattle.bufr_tables.specs.Answers.{Gives};
+ghost use Rattle.bufr_answers.specs.Answers.{Gives};
 ghost use Rattle.bufr_tables.specs.Entries.{at, Rising};
 ghost use Rattle.bufr_tables.specs.TableFiles.{table_d};
 
 use crate::columns::{columns_at, header, row_cells};
 use crate::csv_records::Records;
-use crate::failure::Failure;
 use crate::fields::used_fields;
 use crate::fxy::Fxy;
-use crate::items::Items;
 use crate::sequence_rows::SequenceRows;
 use crate::table_faults::{Column, TableFault};
+use bufr_answers::{Failure, Items};
 use csv::ByteRecord;
 use std::alloc::Global;
 use std::collections::BTreeMap;

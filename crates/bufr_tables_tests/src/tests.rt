@@ -2,8 +2,9 @@
 
 mod sizes;
 
-use bufr_tables::{Column, Element, Failure, Fxy, Items, Kind, TableB, TableD, TableFault, Tables};
-use std::alloc::{AllocError, Global};
+use bufr_answers::{Failure, Items, OutOfMemory};
+use bufr_tables::{Column, Element, Fxy, Kind, TableB, TableD, TableFault, Tables};
+use std::alloc::Global;
 use std::fmt::{Debug, Display};
 use std::process::Abort;
 use std::test::Fail;
@@ -30,14 +31,14 @@ fn prints<T: Display>(
     alloc: Global,
     value: &T,
     wanted: &str,
-) -> Result<(), AllocError> {
+) -> Result<(), OutOfMemory> {
     let text = format!(in alloc; "{value}")?;
     same(rt, text.as_str(), wanted);
     Ok(())
 }
 
 // Lines, one after another.
-fn joined(alloc: Global, lines: &[&[u8]]) -> Result<Vec<u8>, AllocError> {
+fn joined(alloc: Global, lines: &[&[u8]]) -> Result<Vec<u8>, OutOfMemory> {
     let mut text = Vec::new(alloc);
     for line in lines {
         text.extend_from_slice(line)?;
@@ -109,7 +110,7 @@ fn descriptors(rt: HostRuntime) -> Result<(), Fail> {
 }
 
 /// Whether a descriptor is read back from its text, and made again of its parts.
-fn is_read_back(alloc: Global, fxy: Fxy) -> Result<bool, AllocError> {
+fn is_read_back(alloc: Global, fxy: Fxy) -> Result<bool, OutOfMemory> {
     let text = fxy.to_string(alloc)?;
     let read = Fxy::from_text(text.as_bytes()) == Some(fxy);
     Ok(read && Fxy::new(fxy.f(), fxy.x(), fxy.y()) == Some(fxy))
@@ -134,7 +135,7 @@ fn assert_seven_and_eight(rt: &impl Abort, list: &Items<i32>) {
 }
 
 /// Whether a list is equal to one of these numbers.
-fn is_list_of(alloc: Global, list: &Items<i32>, numbers: [i32; 2]) -> Result<bool, AllocError> {
+fn is_list_of(alloc: Global, list: &Items<i32>, numbers: [i32; 2]) -> Result<bool, OutOfMemory> {
     Ok(*list == Items::from_vec(numbers.to_vec(alloc)?))
 }
 
@@ -149,7 +150,7 @@ fn lists(rt: HostRuntime) -> Result<(), Fail> {
 }
 
 // The failure of a Table B of the usual header and these lines.
-fn fault_b(alloc: Global, lines: &[u8]) -> Result<Option<Failure<TableFault>>, AllocError> {
+fn fault_b(alloc: Global, lines: &[u8]) -> Result<Option<Failure<TableFault>>, OutOfMemory> {
     let text = joined(alloc, &[HEADER, lines])?;
     Ok(TableB::parse(alloc, &text).err())
 }
@@ -166,7 +167,7 @@ fn assert_fault_b(
     alloc: Global,
     lines: &[u8],
     fault: TableFault,
-) -> Result<(), AllocError> {
+) -> Result<(), OutOfMemory> {
     same(rt, fault_b(alloc, lines)?, Some(Failure::Fault(fault)));
     Ok(())
 }
@@ -426,13 +427,13 @@ fn assert_fault_prints(
     alloc: Global,
     fault: TableFault,
     text: &str,
-) -> Result<(), AllocError> {
+) -> Result<(), OutOfMemory> {
     prints(rt, alloc, &fault, text)?;
     prints(rt, alloc, &Failure::Fault(fault), text)
 }
 
 /// The names of columns as they are printed.
-fn assert_columns_print(rt: &impl Abort, alloc: Global) -> Result<(), AllocError> {
+fn assert_columns_print(rt: &impl Abort, alloc: Global) -> Result<(), OutOfMemory> {
     let columns = [
         (Column::Fxy, "FXY"),
         (Column::Scale, "BUFR_Scale"),

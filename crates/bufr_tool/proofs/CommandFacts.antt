@@ -1,5 +1,5 @@
 -- The commands of the program, and the rows of the one that was named: the contracts of `bufr`,
--- `plain`, `value` and `values` need it, and so that of `line`.
+-- `without_archive`, `value` and `values` need it, and so that of `line`.
 use Rattle.std.proofs.Common.{◌≡◌, Bool, true, false, not, ◌&&◌, List, [], Option, Some, None, ap}
 use Rattle.std.proofs.Common.{refl}
 use Rattle.std.proofs.Common.{option_map, unwrap_or}

@@ -7,8 +7,8 @@ use Rattle.std.proofs.lemmas.List.{flat_map_more, map-append}
 use Rattle.bufr_tables.specs.Entries.{Entries}
 use Rattle.bufr_message.specs.declared.EncodeFault.{EncodeFault}
 use Rattle.bufr_message.specs.declared.Message.{Message}
-use Rattle.bufr_engines.specs.declared.fault.ToolFault.{ToolFault}
-use Rattle.bufr_engines.specs.declared.fault.ToolFault.TheVariants as faults
+use Rattle.bufr_io.specs.declared.fault.ToolFault.{ToolFault}
+use Rattle.bufr_io.specs.declared.fault.ToolFault.TheVariants as faults
 use Rattle.bufr_tool.specs.Encoding.{AreEncodings, AddsEncoding, EncodesAll, code_as_asked}
 use Rattle.bufr_tool.proofs.PrintingFacts.{split_at}
 

@@ -8,22 +8,22 @@ use Rattle.bufr_frame.specs.declared.frames.Found.{Found}
 use Rattle.bufr_frame.specs.Framings.{Framing}
 use Rattle.bufr_frame.specs.Streams.{cut, sure, Stands}
 use Rattle.bufr_frame.specs.StreamLaws.{cut-piece}
-use Rattle.bufr_frame.specs.TakingLaws.{handed_first}
+use Rattle.bufr_frame.specs.NextFrameLaws.{handed_first}
 use Rattle.bufr_tool.specs.declared.counts.Counts.{Counts}
-use Rattle.bufr_engines.specs.declared.fault.Input.TheVariants.{Number}
-use Rattle.bufr_engines.specs.declared.fault.Tally.{Tally}
-use Rattle.bufr_engines.specs.declared.fault.ToolFault.{ToolFault}
-use Rattle.bufr_engines.specs.declared.fault.ToolFault.TheVariants as faults
+use Rattle.bufr_io.specs.declared.fault.Input.TheVariants.{Number}
+use Rattle.bufr_io.specs.declared.fault.Tally.{Tally}
+use Rattle.bufr_io.specs.declared.fault.ToolFault.{ToolFault}
+use Rattle.bufr_io.specs.declared.fault.ToolFault.TheVariants as faults
 use Rattle.bufr_tool.specs.declared.printing.Printing.{Printing}
-use Rattle.bufr_engines.specs.Engines.{IsFresh, WasReadOut, HasGiven, AreAllOf, FailsAfter}
-use Rattle.bufr_engines.specs.Inputs.{GoesOn}
-use Rattle.bufr_engines.specs.Limits.{longest_piece}
+use Rattle.bufr_io.specs.Engines.{IsFresh, WasReadOut, HasGiven, AreAllOf, FailsAfter}
+use Rattle.bufr_io.specs.Inputs.{GoesOn}
+use Rattle.bufr_io.specs.Limits.{longest_piece}
 use Rattle.bufr_tool.specs.Output.{frames_text, stream_text, last_text, tally_of}
 use Rattle.bufr_tool.specs.Lines.{WritesLines}
 use Rattle.bufr_tool.specs.StreamEngines.{no_counts, frames_by, text_by, Prints, PrintsFrames}
 use Rattle.bufr_tool.specs.StreamEngines.{HasPrintedSure, PrintsEnd}
-use Rattle.bufr_engines.specs.ReadingLaws.{HasGiven_none}
-use Rattle.bufr_engines.specs.WritingLaws.{fails_longer}
+use Rattle.bufr_io.specs.ReadingLaws.{HasGiven_none}
+use Rattle.bufr_io.specs.WritingLaws.{fails_longer}
 use Rattle.bufr_tool.proofs.LineFacts.{lines_none}
 use Rattle.bufr_tool.proofs.PrintingFacts.{printed_none, fails_further}
 

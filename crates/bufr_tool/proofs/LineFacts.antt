@@ -18,8 +18,8 @@ use Rattle.bufr_message.specs.Reasons.{reason}
 use Rattle.bufr_message.specs.Views.{ListsSubset}
 use Rattle.bufr_tool.specs.declared.printing.Printing.{Printing}
 use Rattle.bufr_tool.specs.declared.printing.Printing.TheVariants.{Shown, Checked}
-use Rattle.bufr_engines.specs.Engines.{WritesAll}
-use Rattle.bufr_engines.specs.WritingLaws.{writes_none, writes_more}
+use Rattle.bufr_io.specs.Engines.{WritesAll}
+use Rattle.bufr_io.specs.WritingLaws.{writes_none, writes_more}
 use Rattle.bufr_tool.specs.Output.{place_and_length, printed_as, frame_text, frames_text}
 use Rattle.bufr_tool.specs.Lines.{AreWholeLines, WritesLines}
 

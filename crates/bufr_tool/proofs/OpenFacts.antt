@@ -4,7 +4,7 @@ use Rattle.std.proofs.Common.{◌≡◌, false, List, [], ◌∷◌, ◌++◌, m
 use Rattle.std.specs.List.{AllByRecursion}
 use Rattle.bufr_bits.specs.Devices.{Reading}
 use Rattle.bufr_tool.specs.declared.late_input.LateInput.{LateInput}
-use Rattle.bufr_engines.specs.Engines.{IsFresh}
+use Rattle.bufr_io.specs.Engines.{IsFresh}
 use Rattle.bufr_collect.specs.Readers.{AreFresh}
 
 -- a file was not read, and works

@@ -9,10 +9,10 @@ use Rattle.bufr_bits.specs.Devices.{Writing}
 use Rattle.bufr_listing.specs.Listings.{joined, subset_lines, listing}
 use Rattle.bufr_message.specs.declared.Message.{Message}
 use Rattle.bufr_message.specs.Views.{AddsSubset, ListsSubset}
-use Rattle.bufr_engines.specs.declared.fault.ToolFault.{ToolFault}
-use Rattle.bufr_engines.specs.declared.fault.ToolFault.TheVariants as faults
-use Rattle.bufr_engines.specs.Engines.{WritesAll, FailsAfter}
-use Rattle.bufr_engines.specs.WritingLaws.{writes_none, writes_more, fails_more, fails_longer}
+use Rattle.bufr_io.specs.declared.fault.ToolFault.{ToolFault}
+use Rattle.bufr_io.specs.declared.fault.ToolFault.TheVariants as faults
+use Rattle.bufr_io.specs.Engines.{WritesAll, FailsAfter}
+use Rattle.bufr_io.specs.WritingLaws.{writes_none, writes_more, fails_more, fails_longer}
 use Rattle.bufr_tool.specs.Lines.{AreWholeLines, WritesLines}
 use Rattle.bufr_tool.specs.StreamEngines.{PrintsText, WritesAllBut}
 use Rattle.bufr_tool.proofs.LineFacts.{both_whole, listed_whole, lines_more, lines_longer}

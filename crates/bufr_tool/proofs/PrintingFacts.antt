@@ -15,15 +15,15 @@ use Rattle.bufr_message.specs.declared.Refused.{Refused}
 use Rattle.bufr_message.specs.declared.Decoded.{Decoded}
 use Rattle.bufr_message.specs.Messages.{message_of}
 use Rattle.bufr_tool.specs.declared.counts.Counts.{Counts}
-use Rattle.bufr_engines.specs.declared.fault.ToolFault.{ToolFault}
-use Rattle.bufr_engines.specs.declared.fault.ToolFault.TheVariants as faults
+use Rattle.bufr_io.specs.declared.fault.ToolFault.{ToolFault}
+use Rattle.bufr_io.specs.declared.fault.ToolFault.TheVariants as faults
 use Rattle.bufr_tool.specs.declared.printing.Printing.{Printing}
-use Rattle.bufr_engines.specs.Engines.{WritesAll, FailsAfter}
+use Rattle.bufr_io.specs.Engines.{WritesAll, FailsAfter}
 use Rattle.bufr_collect.specs.Collected.{frame_refused, refused_as}
 use Rattle.bufr_tool.specs.Output.{frame_text, frames_text}
 use Rattle.bufr_tool.specs.StreamEngines.{no_counts, PrintsFrame, HasPrinted, PrintsFrames}
 use Rattle.bufr_tool.proofs.LineFacts.{frames_whole, some_lines, lines_longer, lines_more}
-use Rattle.bufr_engines.specs.WritingLaws.{writes_none, writes_more, fails_more, fails_longer}
+use Rattle.bufr_io.specs.WritingLaws.{writes_none, writes_more, fails_more, fails_longer}
 
 -- the text of frames and one more
 pub text_more : (printing : Printing) (tables : Entries) (frames : List Found) (frame : Found)

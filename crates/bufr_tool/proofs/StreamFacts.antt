@@ -10,23 +10,23 @@ use Rattle.bufr_tables.specs.Entries.{Entries}
 use Rattle.bufr_frame.specs.declared.frames.Found.{Found}
 use Rattle.bufr_frame.specs.Framings.{Framing}
 use Rattle.bufr_frame.specs.Streams.{cut, sure}
-use Rattle.bufr_frame.specs.Takings.{taken_in, IsRestOf, IsNextFrame, IsNoFrame, StandsAfter}
-use Rattle.bufr_frame.specs.Takings.{HandedOut, IsTaking}
-use Rattle.bufr_frame.specs.TakingLaws.{handed_end, taking_first, taking_one, taking_none}
-use Rattle.bufr_frame.specs.TakingLaws.{taking_front}
+use Rattle.bufr_frame.specs.NextFrames.{taken_in, IsRestOf, IsNextFrame, IsNoFrame, StandsAfter}
+use Rattle.bufr_frame.specs.NextFrames.{HandedOut, IsBetweenCalls}
+use Rattle.bufr_frame.specs.NextFrameLaws.{handed_end, between_first, between_one, between_none}
+use Rattle.bufr_frame.specs.NextFrameLaws.{between_front}
 use Rattle.bufr_frame.specs.StreamLaws.{cut-end}
 use Rattle.bufr_tool.specs.declared.counts.Counts.{Counts}
-use Rattle.bufr_engines.specs.declared.fault.ToolFault.{ToolFault}
-use Rattle.bufr_engines.specs.declared.fault.ToolFault.TheVariants as faults
+use Rattle.bufr_io.specs.declared.fault.ToolFault.{ToolFault}
+use Rattle.bufr_io.specs.declared.fault.ToolFault.TheVariants as faults
 use Rattle.bufr_tool.specs.declared.printing.Printing.{Printing}
-use Rattle.bufr_engines.specs.declared.fault.Tally.{Tally}
-use Rattle.bufr_engines.specs.Engines.{WritesAll, WritesAfter, FailsAfter}
+use Rattle.bufr_io.specs.declared.fault.Tally.{Tally}
+use Rattle.bufr_io.specs.Engines.{WritesAll, WritesAfter, FailsAfter}
 use Rattle.bufr_tool.specs.Output.{octets_of, frames_text, stream_text, last_text, tally_of}
 use Rattle.bufr_tool.specs.Output.{skipped_by}
 use Rattle.bufr_tool.specs.StreamEngines.{PrintsFrame, HasPrinted, PrintsFrames, HasPrintedSure}
 use Rattle.bufr_tool.specs.StreamEngines.{HasEnded, PrintsEnd}
 use Rattle.bufr_frame.specs.FrameBounds.{sure_few, sure_short, cut_few, cut_short}
-use Rattle.bufr_engines.specs.WritingLaws.{writes_more, fails_more, fails_longer}
+use Rattle.bufr_io.specs.WritingLaws.{writes_more, fails_more, fails_longer}
 use Rattle.bufr_tool.proofs.PrintingFacts.{printed_more, stopped, halted, some_is}
 
 -- within a piece: all but the rest of the stream was taken in, and the frames handed out were
@@ -34,7 +34,7 @@ use Rattle.bufr_tool.proofs.PrintingFacts.{printed_more, stopped, halted, some_i
 pub record Amid (printing : Printing) (tables : Entries) (first now : Writing) (framer : Framing)
     (counts : Counts) (stream rest : List ℕ) : Type 0 where
   pub frames : List Found
-  pub taking : IsTaking framer stream rest frames
+  pub taking : IsBetweenCalls framer stream rest frames
   pub printed : HasPrinted printing tables first now counts frames
 
 -- where a piece begins
@@ -44,16 +44,16 @@ pub amid_first : (printing : Printing) (tables : Entries) (first now : Writing) 
     → Amid printing tables first now framer counts (stream ++ piece) piece
 amid_first printing tables first now framer counts stream piece h = record {
   frames = sure stream;
-  taking = taking_first framer stream piece (sure stream) h.handed;
+  taking = between_first framer stream piece (sure stream) h.handed;
   printed = h.printed;
 }
 
 -- the frames that were handed out are no more than the stream's octets, and have no more octets
 pub amid_few : (framer : Framing) (stream rest : List ℕ) (frames : List Found)
-    → IsTaking framer stream rest frames
+    → IsBetweenCalls framer stream rest frames
     → (length frames ≤ length stream) × (octets_of frames ≤ length stream)
 amid_few framer stream rest frames t =
-    let front = taking_front framer stream rest frames t in
+    let front = between_front framer stream rest frames t in
     let long : length (sure stream) ≡ length frames + length front.0 =
     ap length front.1 ∙ length-append frames front.0 in
     let sum : octets_of (sure stream) ≡ octets_of frames + octets_of front.0 =
@@ -65,7 +65,7 @@ amid_few framer stream rest frames t =
 -- a frame was handed out after all that were handed out before, and less of the piece is left
 abbrev pub Hands : Framing → Framing → List ℕ → List ℕ → Found → Type 0
 Hands before after rest left frame = (stream : List ℕ) (frames : List Found)
-    → IsTaking before stream rest frames → IsTaking after stream left (frames ++ frame ∷ [])
+    → IsBetweenCalls before stream rest frames → IsBetweenCalls after stream left (frames ++ frame ∷ [])
 
 -- so it is where `take_next` answers a frame
 pub hands : (before after : Framing) (rest left : List ℕ) (o : Option Found) (frame : Found)
@@ -73,7 +73,7 @@ pub hands : (before after : Framing) (rest left : List ℕ) (o : Option Found) (
     → IfSome o (λ f. StandsAfter before after (taken_in rest left) 1)
     → Hands before after rest left frame
 hands before after rest left o frame is parted next stands = λ stream frames t.
-    taking_one before after stream rest left frames frame t parted
+    between_one before after stream rest left frames frame t parted
     (some_is (IsNextFrame before (taken_in rest left)) o frame is next)
     (some_is (λ f. StandsAfter before after (taken_in rest left) 1) o frame is stands)
 
@@ -118,7 +118,7 @@ pub amid_none : (printing : Printing) (tables : Entries) (first now : Writing)
     → Amid printing tables first now before counts stream rest → IsNoFrame before rest
     → StandsAfter before after rest 0 → HasPrintedSure printing tables first now after counts stream
 amid_none printing tables first now before after counts stream rest a none stands =
-    let both = taking_none before after stream rest a.frames a.taking none stands in
+    let both = between_none before after stream rest a.frames a.taking none stands in
     record {
       handed = subst (HandedOut after stream) both.1 both.0;
       printed = subst (HasPrinted printing tables first now counts) both.1 a.printed;
@@ -130,7 +130,7 @@ pub amid_halted : (printing : Printing) (tables : Entries) (first now : Writing)
     → Amid printing tables first now framer counts stream rest
     → PrintsFrames printing tables (sure stream) last first now (Err faults.OutOfMemory)
 amid_halted printing tables first now framer counts last stream rest a =
-    let front = taking_front framer stream rest a.frames a.taking in
+    let front = between_front framer stream rest a.frames a.taking in
     halted printing tables first now counts last a.frames front.0 (sure stream) front.1 a.printed
 
 -- printing stopped at the frame that was handed out
@@ -143,7 +143,7 @@ pub amid_stopped : (printing : Printing) (tables : Entries) (first mid now : Wri
 amid_stopped printing tables first mid now before after counts counts' last stream rest left frame
     e a h p =
     let more = a.frames ++ frame ∷ [] in
-    let front = taking_front after stream left more (h stream a.frames a.taking) in
+    let front = between_front after stream left more (h stream a.frames a.taking) in
     stopped printing tables first mid now counts counts' last a.frames front.0
     (sure stream) frame e front.1 a.printed p
 

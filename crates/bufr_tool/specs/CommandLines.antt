@@ -8,8 +8,8 @@ use Rattle.clap.specs.Words.{subcommand_of}
 use Rattle.clap.specs.Words.{with_subcommand}
 use Rattle.clap.specs.Simple.{new_shape, on_top}
 use Rattle.clap.specs.declared.builder.action.ArgAction.TheVariants.{Set, SetTrue, Append}
-use Rattle.bufr_tool.specs.declared.words.Task.{Task}
-use Rattle.bufr_tool.specs.declared.words.Task.TheVariants.{Show, Check, Encode, Add, Merge}
+use Rattle.bufr_tool.specs.declared.command_line.Task.{Task}
+use Rattle.bufr_tool.specs.declared.command_line.Task.TheVariants.{Show, Check, Encode, Add, Merge}
 
 -- ---- the commands
 
@@ -60,15 +60,15 @@ program = on_top (λ s. record s
     (new_app (codes "bufr"))
 
 -- the program's commands that write no archive
-abbrev pub plain_commands : App
-plain_commands = with_subcommand
+abbrev pub commands_without_archive : App
+commands_without_archive = with_subcommand
     (with_subcommand (with_subcommand program (reading_command (codes "show")))
     (reading_command (codes "check")))
     encoding_command
 
 -- all its commands
 abbrev pub commands : App
-commands = with_subcommand (with_subcommand plain_commands (collecting_command (codes "add")))
+commands = with_subcommand (with_subcommand commands_without_archive (collecting_command (codes "add")))
     (collecting_command (codes "merge"))
 
 -- ---- what a line asks for

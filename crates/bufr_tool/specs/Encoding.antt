@@ -9,12 +9,12 @@ use Rattle.bufr_message.specs.declared.EncodeFault.{EncodeFault}
 use Rattle.bufr_message.specs.declared.Message.{Message}
 use Rattle.bufr_listing.specs.Reading.{messages_listed}
 use Rattle.bufr_listing.specs.declared.ListingFault.{ListingFault}
-use Rattle.bufr_engines.specs.declared.fault.Input.TheVariants.{Number}
-use Rattle.bufr_engines.specs.declared.fault.Tally.{Tally}
-use Rattle.bufr_engines.specs.declared.fault.ToolFault.{ToolFault}
-use Rattle.bufr_engines.specs.declared.fault.ToolFault.TheVariants as faults
-use Rattle.bufr_engines.specs.Engines.{WasReadOut, HasFailed, IsEndless, AreAllOf, WritesAll}
-use Rattle.bufr_engines.specs.Engines.{FailsAfter}
+use Rattle.bufr_io.specs.declared.fault.Input.TheVariants.{Number}
+use Rattle.bufr_io.specs.declared.fault.Tally.{Tally}
+use Rattle.bufr_io.specs.declared.fault.ToolFault.{ToolFault}
+use Rattle.bufr_io.specs.declared.fault.ToolFault.TheVariants as faults
+use Rattle.bufr_io.specs.Engines.{WasReadOut, HasFailed, IsEndless, AreAllOf, WritesAll}
+use Rattle.bufr_io.specs.Engines.{FailsAfter}
 
 -- ---- messages
 

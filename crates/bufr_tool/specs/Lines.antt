@@ -1,7 +1,7 @@
 -- Lines of a text that a writer took, each of them whole.
 use Rattle.std.specs.Prelude.{◌≡◌, ℕ, ◌⊎◌, List, [], ◌∷◌, ◌++◌}
 use Rattle.bufr_bits.specs.Devices.{Writing}
-use Rattle.bufr_engines.specs.Engines.{WritesAll}
+use Rattle.bufr_io.specs.Engines.{WritesAll}
 
 -- there are no octets, or the last of them is a line feed
 abbrev pub AreWholeLines : List ℕ → Type 0

@@ -4,11 +4,11 @@ use Rattle.bufr_bits.specs.Devices.{Reading}
 use Rattle.bufr_tables.specs.declared.table_faults.TableFault.{TableFault}
 use Rattle.bufr_tables.specs.Entries.{Entries}
 use Rattle.bufr_tables.specs.TableFiles.{table_b, table_d}
-use Rattle.bufr_engines.specs.declared.fault.Input.{Input}
-use Rattle.bufr_engines.specs.declared.fault.Input.TheVariants.{TableB, TableD, Number}
-use Rattle.bufr_engines.specs.declared.fault.ToolFault.{ToolFault}
-use Rattle.bufr_engines.specs.declared.fault.ToolFault.TheVariants as faults
-use Rattle.bufr_engines.specs.Engines.{WasReadOut, HasFailed, IsEndless}
+use Rattle.bufr_io.specs.declared.fault.Input.{Input}
+use Rattle.bufr_io.specs.declared.fault.Input.TheVariants.{TableB, TableD, Number}
+use Rattle.bufr_io.specs.declared.fault.ToolFault.{ToolFault}
+use Rattle.bufr_io.specs.declared.fault.ToolFault.TheVariants as faults
+use Rattle.bufr_io.specs.Engines.{WasReadOut, HasFailed, IsEndless}
 
 -- Table B was read to its end and has no fault
 abbrev pub LoadsB : Reading → Reading → Type 0

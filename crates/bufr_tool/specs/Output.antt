@@ -11,7 +11,7 @@ use Rattle.bufr_message.specs.declared.Refused.{Refused}
 use Rattle.bufr_message.specs.Messages.{message_of}
 use Rattle.bufr_message.specs.Listings.{listing}
 use Rattle.bufr_message.specs.Reasons.{reason}
-use Rattle.bufr_engines.specs.declared.fault.Tally.{Tally}
+use Rattle.bufr_io.specs.declared.fault.Tally.{Tally}
 use Rattle.bufr_collect.specs.Collected.{refused_of}
 use Rattle.bufr_tool.specs.declared.printing.Printing.{Printing}
 use Rattle.bufr_tool.specs.declared.printing.Printing.TheVariants.{Shown, Checked}

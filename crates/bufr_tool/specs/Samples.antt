@@ -2,7 +2,7 @@
 use Rattle.std.specs.Prelude.{true, false, [], ◌∷◌, None, codes}
 use Rattle.bufr_frame.specs.declared.frames.Found.{Found}
 use Rattle.bufr_message.specs.declared.Decoded.{Decoded}
-use Rattle.bufr_engines.specs.declared.fault.Tally.{Tally}
+use Rattle.bufr_io.specs.declared.fault.Tally.{Tally}
 
 -- a frame of twelve octets at the place 1840
 abbrev pub frame_of_12 : Found

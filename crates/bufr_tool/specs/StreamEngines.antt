@@ -6,16 +6,16 @@ use Rattle.bufr_tables.specs.Entries.{Entries}
 use Rattle.bufr_frame.specs.declared.frames.Found.{Found}
 use Rattle.bufr_frame.specs.Framings.{Framing}
 use Rattle.bufr_frame.specs.Streams.{cut, sure}
-use Rattle.bufr_frame.specs.Takings.{HandedOut}
+use Rattle.bufr_frame.specs.NextFrames.{HandedOut}
 use Rattle.bufr_tool.specs.declared.counts.Counts.{Counts}
-use Rattle.bufr_engines.specs.declared.fault.Input.TheVariants.{Number}
-use Rattle.bufr_engines.specs.declared.fault.Tally.{Tally}
-use Rattle.bufr_engines.specs.declared.fault.ToolFault.{ToolFault}
-use Rattle.bufr_engines.specs.declared.fault.ToolFault.TheVariants as faults
+use Rattle.bufr_io.specs.declared.fault.Input.TheVariants.{Number}
+use Rattle.bufr_io.specs.declared.fault.Tally.{Tally}
+use Rattle.bufr_io.specs.declared.fault.ToolFault.{ToolFault}
+use Rattle.bufr_io.specs.declared.fault.ToolFault.TheVariants as faults
 use Rattle.bufr_tool.specs.declared.printing.Printing.{Printing}
-use Rattle.bufr_engines.specs.Engines.{WasReadOut, HasFailed, IsEndless, HasGiven, AreAllOf}
-use Rattle.bufr_engines.specs.Engines.{WritesAll}
-use Rattle.bufr_engines.specs.Engines.{FailsAfter}
+use Rattle.bufr_io.specs.Engines.{WasReadOut, HasFailed, IsEndless, HasGiven, AreAllOf}
+use Rattle.bufr_io.specs.Engines.{WritesAll}
+use Rattle.bufr_io.specs.Engines.{FailsAfter}
 use Rattle.bufr_collect.specs.Collected.{frame_refused, refused_of}
 use Rattle.bufr_tool.specs.Output.{frame_text, frames_text, octets_of}
 use Rattle.bufr_tool.specs.Output.{stream_text, tally_of}

@@ -1,15 +1,15 @@
 //! The engine of `check`.
 
 ghost use Rattle.std.specs.Prelude.{◌≡◌, ◌≤◌, false};
-ghost use Rattle.bufr_engines.specs.Engines.{IsFresh};
-ghost use Rattle.bufr_engines.specs.Limits.{most_reads};
+ghost use Rattle.bufr_io.specs.Engines.{IsFresh};
+ghost use Rattle.bufr_io.specs.Limits.{most_reads};
 ghost use Rattle.bufr_tool.specs.StreamEngines.{Prints};
 ghost use Rattle.bufr_tool.specs.declared.printing.Printing.TheVariants.{Checked};
 
 use crate::frames::print_stream;
 use crate::printing::Printing;
 use bufr_bits::{Sink, Source};
-use bufr_engines::{Tally, ToolFault};
+use bufr_io::{Tally, ToolFault};
 use bufr_tables::Tables;
 use std::alloc::Global;
 

@@ -2,22 +2,23 @@
 
 ghost use Rattle.std.specs.Prelude.{◌≡◌, ◌≤◌, ◌++◌, map, string_bytes, IfOk, OnOk, IfSome};
 ghost use Rattle.bufr_collect.specs.Readers.{AreFresh};
-ghost use Rattle.bufr_engines.specs.Engines.{IsFresh};
+ghost use Rattle.bufr_io.specs.Engines.{IsFresh};
 ghost use Rattle.bufr_tool.specs.Output.{added_line, merged_line};
 
 use crate::check::run_check;
+use crate::command_line::{CommandLine, Task, line};
 use crate::encode::run_encode;
 use crate::late_file::LateFile;
 use crate::late_input::LateInput;
 use crate::show::run_show;
 use crate::tables::load_tables;
-use crate::words::{CommandLine, Task, line};
+use bufr_answers::OutOfMemory;
 use bufr_bits::{IntoWrite, Source};
 use bufr_collect::{run_add, run_merge};
-use bufr_engines::{Input, MOST_READS, Tally, ToolFault, write_out};
+use bufr_io::{Input, MOST_READS, Tally, ToolFault, write_out};
 use bufr_tables::Tables;
 use clap::error::ErrorKind;
-use std::alloc::{AllocError, Global};
+use std::alloc::Global;
 use std::convert::AsStr;
 use std::fmt;
 use std::io::Write;
@@ -182,13 +183,13 @@ fn run_task<R: Files, S: Source, O: Write + Drop>(
         return run_collecting(rt, alloc, line, &tables, inputs, out);
     }
     match inputs.first_mut() {
-        Some(input) => run_plain(alloc, line, &tables, input, out),
+        Some(input) => run_to_output(alloc, line, &tables, input, out),
         None => Err(ToolFault::ReadFailed(Input::Number(1))),
     }
 }
 
 /// Runs an engine that writes to the output.
-fn run_plain<S: Source, O: Write + Drop>(
+fn run_to_output<S: Source, O: Write + Drop>(
     alloc: Global,
     line: &CommandLine,
     tables: &Tables,
@@ -247,7 +248,7 @@ fn collect<R: Files, S: Source>(
 }
 
 /// Adds what is printed after an archive of streams was written.
-fn push_added(text: &mut String, tally: &Tally) -> Result<(), AllocError>
+fn push_added(text: &mut String, tally: &Tally) -> Result<(), OutOfMemory>
     ensures { OnOk result (string_bytes text.new ≡ string_bytes text.old ++ added_line tally.now) }
 {
     let frames = tally.frames;
@@ -260,7 +261,7 @@ fn push_added(text: &mut String, tally: &Tally) -> Result<(), AllocError>
 }
 
 /// Adds what is printed after an archive of archives was written.
-fn push_merged(text: &mut String, tally: &Tally) -> Result<(), AllocError>
+fn push_merged(text: &mut String, tally: &Tally) -> Result<(), OutOfMemory>
     ensures { OnOk result (string_bytes text.new ≡ string_bytes text.old ++ merged_line tally.now) }
 {
     let archives = tally.frames;
@@ -284,7 +285,7 @@ fn cannot_open<E: Write + Drop>(alloc: Global, path: &str, err: &mut E) -> u8
 
 /// Writes a line on `err`, whole and at once, so that it stands alone beside those of other
 /// programs; or, where there is no memory for it, the line that says so.
-fn tell<E: Write + Drop>(line: Result<String, AllocError>, err: &mut E) -> u8
+fn tell<E: Write + Drop>(line: Result<String, OutOfMemory>, err: &mut E) -> u8
     ensures { result ≤ 2 }
 {
     let _ = match &line {

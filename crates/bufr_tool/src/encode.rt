@@ -1,16 +1,17 @@
 //! The engine of `encode`.
 
 ghost use Rattle.std.specs.Prelude.{◌≡◌, ◌≤◌, false};
-ghost use Rattle.bufr_tables.specs.Answers.{Gives, result_map};
-ghost use Rattle.bufr_engines.specs.Engines.{IsFresh};
-ghost use Rattle.bufr_engines.specs.Limits.{most_reads};
+ghost use Rattle.bufr_answers.specs.Answers.{Gives, result_map};
+ghost use Rattle.bufr_io.specs.Engines.{IsFresh};
+ghost use Rattle.bufr_io.specs.Limits.{most_reads};
 ghost use Rattle.bufr_tool.specs.Encoding.{AddsEncoding, Encodes, EncodesAll, ReadsListing};
 ghost use Rattle.bufr_tool.specs.Encoding.{code_as_asked};
 
+use bufr_answers::Failure;
 use bufr_bits::{Sink, Source};
-use bufr_engines::{Input, Tally, ToolFault, read_all, write_out};
+use bufr_io::{Input, Tally, ToolFault, read_all, write_out};
 use bufr_message::{EncodeFault, Message, encode, listing};
-use bufr_tables::{Failure, Tables};
+use bufr_tables::Tables;
 use std::alloc::Global;
 
 /// Writes the octets of each message that a reader's text lists, one behind another, each

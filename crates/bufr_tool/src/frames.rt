@@ -5,8 +5,8 @@ ghost use Rattle.bufr_bits.specs.Devices.{Writing};
 ghost use Rattle.bufr_frame.specs.declared.frames.Found.{Found as FoundFrame};
 ghost use Rattle.bufr_frame.specs.Streams.{cut};
 ghost use Rattle.bufr_tables.specs.Entries.{Entries};
-ghost use Rattle.bufr_engines.specs.Engines.{IsFresh};
-ghost use Rattle.bufr_engines.specs.Limits.{most_reads, longest_piece};
+ghost use Rattle.bufr_io.specs.Engines.{IsFresh};
+ghost use Rattle.bufr_io.specs.Limits.{most_reads, longest_piece};
 ghost use Rattle.bufr_tool.specs.Output.{octets_of, skipped_by};
 ghost use Rattle.bufr_tool.specs.StreamEngines.{HasEnded, HasPrinted, HasPrintedSure, Prints};
 ghost use Rattle.bufr_tool.specs.StreamEngines.{PrintsEnd, PrintsFrame, PrintsFrames, PrintsPiece};
@@ -14,8 +14,8 @@ ghost use Rattle.bufr_tool.specs.StreamEngines.{PrintsEnd, PrintsFrame, PrintsFr
 use crate::counts::Counts;
 use crate::printing::{Printed, Printing, print_judged, text_of_tally};
 use bufr_bits::{Sink, Source};
-use bufr_engines::{Input, Tally, ToolFault, room, write_out};
 use bufr_frame::{Found, Framer, Taken};
+use bufr_io::{Input, Tally, ToolFault, room, write_out};
 use bufr_tables::Tables;
 use std::alloc::Global;
 

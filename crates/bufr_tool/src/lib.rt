@@ -3,25 +3,23 @@
 
 mod check;
 mod command;
+mod command_line;
 mod counts;
 mod encode;
-mod examples;
 mod frames;
 mod late_file;
 mod late_input;
+pub mod laws;
 mod parts;
 mod printing;
 mod show;
 mod tables;
-mod words;
+mod worked_values;
 
-pub use bufr_engines::{Input, MOST_READS, Tally, ToolFault};
+pub use bufr_io::{Input, MOST_READS, Tally, ToolFault};
 pub use check::run_check;
 pub use command::run_command;
+pub use command_line::{CommandLine, Task, line};
 pub use encode::run_encode;
 pub use show::run_show;
 pub use tables::load_tables;
-pub use words::{
-    CommandLine, Task, line, lines_of_add, lines_of_check, lines_of_compressed_encode,
-    lines_of_encode, lines_of_merge, lines_of_show,
-};

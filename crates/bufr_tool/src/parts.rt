@@ -6,7 +6,7 @@ ghost use Rattle.bufr_tool.specs.Lines.{AreWholeLines};
 ghost use Rattle.bufr_tool.specs.StreamEngines.{PrintsText, WritesHeld};
 
 use bufr_bits::Sink;
-use bufr_engines::{ToolFault, write_after};
+use bufr_io::{ToolFault, write_after};
 use bufr_listing::laws::listings_are_joined_parts;
 use bufr_message::{View, listing};
 use std::alloc::Global;

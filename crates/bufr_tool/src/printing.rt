@@ -1,7 +1,7 @@
 //! What is printed of a frame, and after the last.
 
 ghost use Rattle.std.specs.Prelude.{◌≡◌, ◌≤◌, ◌<◌, ◌+◌, ◌^◌, ◌++◌, false, length, Ok, OnOk, IfOk};
-ghost use Rattle.bufr_tables.specs.Answers.{result_map};
+ghost use Rattle.bufr_answers.specs.Answers.{result_map};
 ghost use Rattle.bufr_message.specs.Messages.{message_of};
 ghost use Rattle.bufr_collect.specs.Collected.{frame_refused};
 ghost use Rattle.bufr_tool.specs.Output.{checked_as, frame_text, last_text};
@@ -9,13 +9,14 @@ ghost use Rattle.bufr_tool.specs.Output.{printed_as};
 ghost use Rattle.bufr_tool.specs.StreamEngines.{PrintsText};
 
 use crate::parts::{print_listing, print_text};
+use bufr_answers::{Failure, OutOfMemory};
 use bufr_bits::Sink;
-use bufr_engines::{Tally, ToolFault};
 use bufr_frame::Found;
+use bufr_io::{Tally, ToolFault};
 use bufr_message::{Refused, View, view};
-use bufr_tables::{Failure, Tables};
+use bufr_tables::Tables;
 use itoa::{Buffer, Integer};
-use std::alloc::{AllocError, Global};
+use std::alloc::Global;
 
 /// What a command prints of the frames of a stream.
 #[derive(Clone, Copy, Debug, Drop, PartialEq, Eq)]
@@ -42,14 +43,14 @@ fn judge<'a>(
     alloc: Global,
     tables: &Tables,
     octets: &'a [u8],
-) -> Result<Result<View<'a>, Refused>, AllocError>
+) -> Result<Result<View<'a>, Refused>, OutOfMemory>
     ensures exact { IfOk result (λ found. found ≡ message_of tables.now octets.now) }
     ensures few { IfOk result (λ found. IfOk found (λ d. length d.message.subsets < 2 ^ 16)) }
 {
     match view(alloc, tables, octets) {
         Ok(found) => Ok(Ok(found)),
         Err(Failure::Fault(why)) => Ok(Err(why)),
-        Err(Failure::OutOfMemory) => Err(AllocError),
+        Err(Failure::OutOfMemory) => Err(OutOfMemory),
     }
 }
 
@@ -57,7 +58,7 @@ fn judge<'a>(
 const LINE: usize = 64;
 
 /// Adds words, and a number behind them.
-fn push_number<I: Integer>(text: &mut Vec<u8>, words: &[u8], number: I) -> Result<(), AllocError>
+fn push_number<I: Integer>(text: &mut Vec<u8>, words: &[u8], number: I) -> Result<(), OutOfMemory>
     ensures { OnOk result (text.new.items ≡ text.old.items ++ words.now ++ I.text number) }
 {
     text.extend_from_slice(words)?;
@@ -66,7 +67,7 @@ fn push_number<I: Integer>(text: &mut Vec<u8>, words: &[u8], number: I) -> Resul
 }
 
 /// The line of `check` of a frame that spells a message. No subset is built for it.
-fn checked_line(alloc: Global, frame: &Found, found: &View<'_>) -> Result<Vec<u8>, AllocError>
+fn checked_line(alloc: Global, frame: &Found, found: &View<'_>) -> Result<Vec<u8>, OutOfMemory>
     ensures { IfOk result (λ line. line.items ≡ checked_as frame.now (Ok found.now)) }
 {
     let mut line = Vec::with_capacity(alloc, LINE)?;
@@ -110,7 +111,7 @@ fn refused_line(
     printing: Printing,
     frame: &Found,
     why: &Refused,
-) -> Result<Vec<u8>, AllocError>
+) -> Result<Vec<u8>, OutOfMemory>
     ensures { IfOk result (λ line. line.items ≡ printed_as printing frame.now (Err why.now)) }
 {
     let place = frame.place;
@@ -162,7 +163,7 @@ pub fn text_of_tally(
     alloc: Global,
     printing: Printing,
     tally: &Tally,
-) -> Result<Vec<u8>, AllocError>
+) -> Result<Vec<u8>, OutOfMemory>
     ensures { IfOk result (λ text. text.items ≡ last_text printing tally.now) }
 {
     match printing {

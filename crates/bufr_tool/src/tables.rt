@@ -1,14 +1,15 @@
 //! The tables of two files.
 
 ghost use Rattle.std.specs.Prelude.{◌≤◌};
-ghost use Rattle.bufr_tables.specs.Answers.{result_map};
-ghost use Rattle.bufr_engines.specs.Engines.{IsFresh};
-ghost use Rattle.bufr_engines.specs.Limits.{most_reads};
+ghost use Rattle.bufr_answers.specs.Answers.{result_map};
+ghost use Rattle.bufr_io.specs.Engines.{IsFresh};
+ghost use Rattle.bufr_io.specs.Limits.{most_reads};
 ghost use Rattle.bufr_tool.specs.Loads.{Loads};
 
+use bufr_answers::Failure;
 use bufr_bits::Source;
-use bufr_engines::{Input, ToolFault, read_all};
-use bufr_tables::{Failure, TableB, TableD, Tables};
+use bufr_io::{Input, ToolFault, read_all};
+use bufr_tables::{TableB, TableD, Tables};
 use std::alloc::Global;
 
 /// The tables of the files of Table B and Table D. Table B is read and parsed before Table D is

@@ -8,7 +8,7 @@ mod parts;
 mod streams;
 
 use bufr_bits::{Failed, FromRead, IntoWrite, Sink, Source};
-use bufr_engines::{Input, Tally, ToolFault};
+use bufr_io::{Input, Tally, ToolFault};
 use bufr_tables::{Column, Element, Fxy, Kind, TableB, TableD, TableFault, Tables};
 use bufr_tool::{load_tables, run_show};
 use std::alloc::Global;

@@ -1,10 +1,10 @@
 //! Prints the descriptor and the value of each field of a message, one a line.
 #![tactic(auto)]
 
+use bufr_answers::{Failure, OutOfMemory};
 use bufr_data::{Field, Raw};
 use bufr_message::{Refused, decode};
-use bufr_tables::{Failure, TableB, TableD, TableFault, Tables};
-use std::alloc::AllocError;
+use bufr_tables::{TableB, TableD, TableFault, Tables};
 use std::process::ExitCode;
 use std::{env, fs, io};
 use thiserror::Error;
@@ -35,8 +35,8 @@ impl From<io::Error> for Problem {
     }
 }
 
-impl From<AllocError> for Problem {
-    fn from(_error: AllocError) -> Problem {
+impl From<OutOfMemory> for Problem {
+    fn from(_error: OutOfMemory) -> Problem {
         Problem::OutOfMemory
     }
 }

@@ -3,7 +3,7 @@ ghost use Rattle.std.specs.Prelude.{◌≡◌};
 
 use super::samples::*;
 use super::*;
-use bufr_tables::Failure;
+use bufr_answers::Failure;
 use std::alloc::Global;
 use std::io;
 use std::io::{ErrorKind, Write};

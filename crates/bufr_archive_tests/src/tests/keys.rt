@@ -1,6 +1,7 @@
 //! Keys of reports, through messages.
 use super::samples::*;
 use super::*;
+use bufr_answers::Items;
 use bufr_message::{Report, decode, reports};
 use std::alloc::Global;
 use std::process::Abort;
@@ -21,8 +22,8 @@ fn assert_key(rt: &impl Abort, alloc: Global, message: &str, expected: Option<Ke
     assert!(rt; key == expected, "{key:?}");
 }
 
-fn name(rt: &impl Abort, alloc: Global, octets: &[u8]) -> Octets {
-    Octets::new(Vec::from_slice(alloc, octets).expect(rt, "room"))
+fn name(rt: &impl Abort, alloc: Global, octets: &[u8]) -> Items<u8> {
+    Items::from_vec(Vec::from_slice(alloc, octets).expect(rt, "room"))
 }
 
 fn with_station(station: Station) -> Option<Key> {

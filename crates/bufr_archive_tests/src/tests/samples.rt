@@ -1,7 +1,7 @@
 //! The tables and messages of the tests.
 ghost use Rattle.std.specs.Prelude.{◌≡◌, Some, None};
 
-use bufr_archive::{Key, Moment, Station};
+use bufr_keys::{Key, Moment, Station};
 use bufr_tables::{TableB, TableD, Tables};
 use std::alloc::Global;
 use std::process::Abort;

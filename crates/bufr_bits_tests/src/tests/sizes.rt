@@ -1,13 +1,14 @@
 //! Large texts and many fields: want of memory meets every contract, so these are compared whole.
 
 use super::{expect_text, same};
+use bufr_answers::OutOfMemory;
 use bufr_bits::{BitReader, BitSink};
-use std::alloc::{AllocError, Global};
+use std::alloc::Global;
 use std::process::Abort;
 use std::test::Fail;
 
 /// So many octets, which go round by 251.
-pub(super) fn octets_of_length(alloc: Global, n: usize) -> Result<Vec<u8>, AllocError> {
+pub(super) fn octets_of_length(alloc: Global, n: usize) -> Result<Vec<u8>, OutOfMemory> {
     let mut octets = Vec::with_capacity(alloc, n)?;
     for i in 0..n {
         octets.push((i % 251) as u8)?;

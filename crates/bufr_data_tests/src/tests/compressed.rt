@@ -2,10 +2,10 @@
 
 use super::same;
 use super::samples::{octets_of, same_numbers, same_text, template};
+use bufr_answers::{Failure, Items};
 use bufr_bits::{BitReader, BitSink};
 use bufr_data::{Columns, ReadFault, Subset, WriteFault, read_subsets, write_subsets};
 use bufr_expand::Template;
-use bufr_tables::{Failure, Items};
 use std::alloc::Global;
 use std::process::Abort;
 use std::test::Fail;

@@ -2,10 +2,11 @@
 
 use super::same;
 use super::samples::{octets_of, same_numbers, same_text, template};
+use bufr_answers::{Failure, Items};
 use bufr_bits::{BitReader, BitSink};
 use bufr_data::{ReadFault, Subset, WriteFault, read_plain, read_subsets, write_plain};
 use bufr_expand::Template;
-use bufr_tables::{Failure, Fxy, Items};
+use bufr_tables::Fxy;
 use std::alloc::Global;
 use std::process::Abort;
 use std::test::Fail;

@@ -2,10 +2,11 @@
 
 use super::same;
 use super::samples::template;
+use bufr_answers::{Failure, Items};
 use bufr_bits::BitSink;
 use bufr_data::{Field, Raw, Subset, WriteFault, write_subsets};
 use bufr_expand::Spec;
-use bufr_tables::{Failure, Fxy, Items, Kind};
+use bufr_tables::{Fxy, Kind};
 use std::alloc::Global;
 use std::process::Abort;
 use std::test::Fail;

@@ -2,9 +2,9 @@
 
 use super::same;
 use super::samples::{octets_of, same_numbers, same_text, template};
+use bufr_answers::Failure;
 use bufr_bits::{BitReader, BitSink};
 use bufr_data::{ReadFault, SubsetIndex, read_subsets};
-use bufr_tables::Failure;
 use std::alloc::Global;
 use std::process::Abort;
 use std::test::Fail;

@@ -1,11 +1,12 @@
 //! Tables, templates and subsets that several tests use.
 
 use super::same;
+use bufr_answers::OutOfMemory;
 use bufr_bits::BitSink;
 use bufr_data::{Field, Raw, Subset};
 use bufr_expand::Template;
 use bufr_tables::{Fxy, TableB, TableD, Tables};
-use std::alloc::{AllocError, Global};
+use std::alloc::Global;
 use std::process::Abort;
 use std::test::Fail;
 
@@ -59,7 +60,7 @@ pub(crate) fn template(alloc: Global, list: &[(u8, u8, u8)]) -> Result<Template,
 }
 
 /// The raw numbers of a subset, 0 for a text.
-fn numbers(alloc: Global, subset: &Subset) -> Result<Vec<u64>, AllocError> {
+fn numbers(alloc: Global, subset: &Subset) -> Result<Vec<u64>, OutOfMemory> {
     let mut numbers = Vec::new(alloc);
     for field in subset.fields.as_slice() {
         match &field.raw {
@@ -76,7 +77,7 @@ pub(crate) fn same_numbers(
     alloc: Global,
     subset: &Subset,
     wanted: &[u64],
-) -> Result<(), AllocError> {
+) -> Result<(), OutOfMemory> {
     let found = numbers(alloc, subset)?;
     same(rt, found.as_slice(), wanted);
     Ok(())

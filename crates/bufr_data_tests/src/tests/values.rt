@@ -1,9 +1,10 @@
 //! Values of fields, and the texts of faults.
 
 use super::same;
+use bufr_answers::Items;
 use bufr_data::{Decimal, Field, Raw, ReadFault, WriteFault};
 use bufr_expand::Spec;
-use bufr_tables::{Fxy, Items, Kind};
+use bufr_tables::{Fxy, Kind};
 use std::alloc::Global;
 use std::fmt::Display;
 use std::process::Abort;

@@ -58,7 +58,7 @@ fn message(index: usize) -> [u8; 62] {
 /// What a slot has taken in: a set of messages, the stream that is open, and what is to come in it.
 #[derive(Drop)]
 struct Taken {
-    messages: Vec<Octets>,
+    messages: Vec<Items<u8>>,
     open: Vec<u8>,
     coming: Vec<u8>,
 }
@@ -83,23 +83,23 @@ impl Taken {
 
     fn insert(&mut self, rt: &impl Abort, alloc: Global, octets: &[u8]) {
         if !self.has(octets) {
-            let held = Octets::new(copy_of(rt, alloc, octets));
+            let held = Items::from_vec(copy_of(rt, alloc, octets));
             self.messages.push(held).expect(rt, "room");
         }
     }
 
     // Copies of the messages.
-    fn copied(&self, rt: &impl Abort, alloc: Global) -> Vec<Octets> {
+    fn copied(&self, rt: &impl Abort, alloc: Global) -> Vec<Items<u8>> {
         let mut messages = Vec::new(alloc);
         for held in &self.messages {
-            let copied = Octets::new(copy_of(rt, alloc, held.as_slice()));
+            let copied = Items::from_vec(copy_of(rt, alloc, held.as_slice()));
             messages.push(copied).expect(rt, "room");
         }
         messages
     }
 
     // Takes in each of these messages.
-    fn insert_all(&mut self, rt: &impl Abort, alloc: Global, messages: &[Octets]) {
+    fn insert_all(&mut self, rt: &impl Abort, alloc: Global, messages: &[Items<u8>]) {
         for held in messages {
             self.insert(rt, alloc, held.as_slice());
         }
@@ -138,14 +138,14 @@ impl Taken {
         alloc: Global,
         size: usize,
         numbers: &mut Numbers,
-    ) -> Octets {
+    ) -> Items<u8> {
         for _ in 0..3usize {
             append(rt, &mut self.coming, message(numbers.below(6)).as_slice());
         }
         let piece = copy_of(rt, alloc, front(self.coming.as_slice(), size));
         let rest = copy_of(rt, alloc, behind(self.coming.as_slice(), size));
         self.coming = rest;
-        Octets::new(piece)
+        Items::from_vec(piece)
     }
 
     // Takes in the messages that are whole with a piece, and answers how many there are and how
@@ -214,7 +214,7 @@ impl Plain {
     // The step of a piece of so many octets, and its answer.
     fn feed(&mut self, rt: &impl Abort, alloc: Global, slot: usize, size: usize) -> Asked {
         let Some(taken) = self.slots.get_mut(slot) else {
-            let piece = Octets::new(Vec::new(alloc));
+            let piece = Items::from_vec(Vec::new(alloc));
             return (Step::Feed { slot, piece }, Err(StepFault::NoSlot(slot)));
         };
         let piece = taken.next_piece(rt, alloc, size, &mut self.numbers);
@@ -232,7 +232,7 @@ impl Plain {
     }
 
     // The messages of a slot, if it is there.
-    fn messages(&self, rt: &impl Abort, alloc: Global, slot: usize) -> Option<Vec<Octets>> {
+    fn messages(&self, rt: &impl Abort, alloc: Global, slot: usize) -> Option<Vec<Items<u8>>> {
         match self.slots.get(slot) {
             Some(taken) => Some(taken.copied(rt, alloc)),
             None => None,

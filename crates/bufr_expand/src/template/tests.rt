@@ -1,7 +1,8 @@
 use super::Template;
 use crate::node::{Node, TemplateFault};
 use crate::tests::same;
-use bufr_tables::{Element, Failure, Fxy, Kind, TableB, TableD, TableFault, Tables};
+use bufr_answers::Failure;
+use bufr_tables::{Element, Fxy, Kind, TableB, TableD, TableFault, Tables};
 use std::alloc::Global;
 use std::process::Abort;
 use std::test::Fail;

@@ -4,8 +4,9 @@ use super::{Walked, assert_counts, finish_walk, row, same, temperature};
 use crate::node::Node;
 use crate::template::Template;
 use crate::walk::{Step, Walk};
+use bufr_answers::OutOfMemory;
 use bufr_tables::{Fxy, Kind, TableB, TableD, Tables};
-use std::alloc::{AllocError, Global};
+use std::alloc::Global;
 use std::process::Abort;
 use std::test::Fail;
 
@@ -44,7 +45,7 @@ fn is_repeated(
     template: &Template,
     times: u32,
     pair: [Node; 2],
-) -> Result<bool, AllocError> {
+) -> Result<bool, OutOfMemory> {
     let mut expected = Vec::new(alloc);
     for _ in 0..times {
         expected.push(pair[0])?;
@@ -60,7 +61,7 @@ fn walked_to_the_end(
     template: &Template,
     fields: u64,
     items: u64,
-) -> Result<Walked, AllocError> {
+) -> Result<Walked, OutOfMemory> {
     let mut walk = Walk::start(alloc, template, 0)?;
     let all = finish_walk(alloc, &mut walk, 0)?;
     assert_counts(rt, &all, fields, items);

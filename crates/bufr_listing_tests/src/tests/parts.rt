@@ -3,11 +3,12 @@
 use super::same;
 use super::samples::{SEQUENCES_LISTED, first_message, push_times};
 use super::writing::{assert_listed, assert_taken};
+use bufr_answers::Items;
 use bufr_data::{Field, Raw, Subset};
 use bufr_expand::Spec;
 use bufr_listing::{HeadingParts, end_text, heading_text, push_subset, subset_text};
 use bufr_sections::{Head, Message};
-use bufr_tables::{Fxy, Items, Kind};
+use bufr_tables::{Fxy, Kind};
 use std::alloc::Global;
 use std::process::Abort;
 use std::test::Fail;

@@ -1,9 +1,9 @@
 //! Listings that are read.
 
 use super::samples::{HEAD, SEQUENCES_LISTED, tables};
+use bufr_answers::Failure;
 use bufr_listing::{ListingFault, read, text_of};
 use bufr_sections::Message;
-use bufr_tables::Failure;
 use std::alloc::Global;
 use std::process::Abort;
 use std::test::Fail;

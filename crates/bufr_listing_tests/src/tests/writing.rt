@@ -2,12 +2,13 @@
 
 use super::same;
 use super::samples::{SEQUENCES_LISTED, first_message};
+use bufr_answers::Items;
 use bufr_bits::device::IntoWrite;
 use bufr_data::{Field, Raw, Subset};
 use bufr_expand::Spec;
 use bufr_listing::{ListingWriteFault, text_of, write_message};
 use bufr_sections::{Head, Message};
-use bufr_tables::{Fxy, Items, Kind};
+use bufr_tables::{Fxy, Kind};
 use std::alloc::Global;
 use std::io;
 use std::io::{ErrorKind, Write};

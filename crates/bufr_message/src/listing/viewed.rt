@@ -7,8 +7,8 @@ ghost use Rattle.bufr_listing.specs.Listings.{joined, heading_of, heading_lines}
 ghost use Rattle.bufr_message.specs.Views.{AddsSubset, ListsSubset};
 
 use crate::message_view::View;
+use bufr_answers::OutOfMemory;
 use bufr_listing::{HeadingParts, heading_text, push_subset, subset_text};
-use bufr_tables::OutOfMemory;
 use std::alloc::Global;
 
 /// The lines of the listing before its first subset.

@@ -4,9 +4,9 @@
 
 use super::samples::{octets, tables};
 use super::{holds, same, same_at};
+use bufr_answers::Items;
 use bufr_data::{Field, Raw};
 use bufr_message::{Decoded, Message, Report, View, canonical, decode, encode, reports, view};
-use bufr_tables::Items;
 use std::alloc::Global;
 use std::fmt::Display;
 use std::process::Abort;

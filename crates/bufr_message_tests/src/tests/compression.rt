@@ -4,9 +4,9 @@
 use super::calls::*;
 use super::samples::{COMPRESSED_PAIR, COMPRESSED_TEXTS, SEQUENCES, UNEQUAL_COUNTS};
 use super::{holds, same};
+use bufr_answers::Items;
 use bufr_data::Raw;
 use bufr_message::Message;
-use bufr_tables::Items;
 use std::alloc::Global;
 use std::process::Abort;
 use std::test::Fail;

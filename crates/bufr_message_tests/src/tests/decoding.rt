@@ -3,8 +3,9 @@
 use super::calls::*;
 use super::samples::*;
 use super::{holds, same};
+use bufr_answers::Items;
 use bufr_sections::{Head, Message};
-use bufr_tables::{Fxy, Items};
+use bufr_tables::Fxy;
 use std::alloc::Global;
 use std::process::Abort;
 use std::test::Fail;

@@ -4,9 +4,10 @@
 use super::calls::*;
 use super::same_at;
 use super::samples::*;
+use bufr_answers::Items;
 use bufr_data::Subset;
 use bufr_sections::Message;
-use bufr_tables::{Fxy, Items};
+use bufr_tables::Fxy;
 use std::alloc::Global;
 use std::process::Abort;
 use std::test::Fail;

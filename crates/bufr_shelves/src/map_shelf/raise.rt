@@ -6,8 +6,8 @@ ghost use Rattle.std.specs.Map.Iter.{deref_pair};
 ghost use Rattle.bufr_shelves.specs.Keeping.{put_by, put_all, changes_by, first_of};
 ghost use Rattle.bufr_shelves.specs.Pairs.{by_key, by_value};
 
-use crate::entry::OutOfMemory;
 use crate::rank::Exact;
+use bufr_answers::OutOfMemory;
 use std::collections::BTreeMap;
 use std::ops::Bound;
 

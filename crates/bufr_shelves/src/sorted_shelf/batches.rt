@@ -5,12 +5,12 @@ ghost use Rattle.std.specs.Map.{keys_of};
 ghost use Rattle.bufr_shelves.specs.Keeping.{kept_by, put_by};
 ghost use Rattle.bufr_shelves.specs.Pairs.{by_key, by_value, AreFalling};
 
-use crate::entry::OutOfMemory;
 use crate::rank::Exact;
 use crate::sorted_shelf::front::{Front, Fronted};
 use crate::sorted_shelf::merge::{merge, room_for};
 use crate::sorted_shelf::pair::Pair;
 use crate::sorted_shelf::sorted::raise_pair;
+use bufr_answers::OutOfMemory;
 use std::alloc::Global;
 use std::cmp::Ordering;
 use std::marker::Model;

@@ -4,9 +4,9 @@ ghost use Rattle.std.specs.Ordering.{ordering_then};
 ghost use Rattle.bufr_shelves.specs.Fronts.{front_cmp, place_cmp, front_of_key, place_of_station, first_octets, in_two_octets, open_front};
 ghost use Rattle.bufr_shelves.specs.declared.sorted_shelf.front.Front.{Front as AFront};
 
-use crate::key::{Key, Moment, Station};
-use crate::octets::Octets;
 use crate::rank::Exact;
+use bufr_answers::Items;
+use bufr_keys::{Key, Moment, Station};
 use std::cmp::Ordering;
 
 /// Centre and categories of a key.
@@ -177,7 +177,7 @@ impl Fronted for Key {
     }
 }
 
-impl Fronted for Octets {
+impl Fronted for Items<u8> {
     ghost use Rattle.std.proofs.Common.{refl};
 
     ghost front_of = { λ _. open_front };

@@ -3,12 +3,11 @@ ghost use Rattle.std.specs.Prelude.{◌≡◌, ◌++◌, IfOk, OnOk};
 ghost use Rattle.std.specs.List.{flat_map};
 ghost use Rattle.bufr_shelves.specs.Entries.{kept};
 
-use crate::entry::OutOfMemory;
-use crate::key::Key;
-use crate::octets::Octets;
 use crate::rank::Rank;
 use crate::sorted_shelf::SortedShelf;
 use crate::sorted_shelf::pair::Pair;
+use bufr_answers::{Items, OutOfMemory};
+use bufr_keys::Key;
 
 /// Adds the octets of entries with a key, each of which is given back once they are added.
 fn push_keyed(out: &mut Vec<u8>, pairs: Vec<Pair<Key, Rank>>) -> Result<(), OutOfMemory>
@@ -22,7 +21,7 @@ fn push_keyed(out: &mut Vec<u8>, pairs: Vec<Pair<Key, Rank>>) -> Result<(), OutO
 }
 
 /// Adds the octets of entries without one, each of which is given back once they are added.
-fn push_unkeyed(out: &mut Vec<u8>, pairs: Vec<Pair<Octets, u8>>) -> Result<(), OutOfMemory>
+fn push_unkeyed(out: &mut Vec<u8>, pairs: Vec<Pair<Items<u8>, u8>>) -> Result<(), OutOfMemory>
     ensures { OnOk result
         (out.new.items ≡ out.old.items ++ flat_map (λ p. p.0) pairs.items) }
 {

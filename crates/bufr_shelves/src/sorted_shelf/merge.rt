@@ -8,9 +8,9 @@ ghost use Rattle.bufr_shelves.specs.Keeping.{put_all};
 ghost use Rattle.bufr_shelves.specs.Merging.{merged, heads_order, greater_of};
 ghost use Rattle.bufr_shelves.specs.Pairs.{by_key, by_value};
 
-use crate::entry::OutOfMemory;
 use crate::rank::Exact;
 use crate::sorted_shelf::pair::Pair;
+use bufr_answers::OutOfMemory;
 use std::alloc::Global;
 use std::cmp::Ordering;
 

@@ -1,7 +1,7 @@
 //! Pairs of a sorted vector.
 ghost use Rattle.std.specs.Prelude.{◌≡◌, IfOk};
 
-use crate::entry::OutOfMemory;
+use bufr_answers::OutOfMemory;
 use std::alloc::Global;
 use std::marker::Model;
 

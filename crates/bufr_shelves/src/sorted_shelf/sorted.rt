@@ -9,9 +9,9 @@ ghost use Rattle.std.specs.Map.Iter.{deref_pair};
 ghost use Rattle.bufr_shelves.specs.Keeping.{put_by, changes_by, first_of};
 ghost use Rattle.bufr_shelves.specs.Pairs.{by_key, by_value, place_of};
 
-use crate::entry::OutOfMemory;
 use crate::rank::Exact;
 use crate::sorted_shelf::pair::Pair;
+use bufr_answers::OutOfMemory;
 use std::alloc::Global;
 use std::cmp::Ordering;
 

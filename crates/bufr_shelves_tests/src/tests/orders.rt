@@ -116,7 +116,7 @@ fn parts_of_stations(rt: HostRuntime) {
 }
 
 /// The slot of this place among some.
-fn held_at<'a>(slot: (Option<&'a Key>, u8, &'a Octets)) -> Held<'a> {
+fn held_at<'a>(slot: (Option<&'a Key>, u8, &'a Items<u8>)) -> Held<'a> {
     let (key, update, bytes) = slot;
     Held { key, update, bytes }
 }

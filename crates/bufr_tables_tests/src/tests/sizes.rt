@@ -1,12 +1,13 @@
 //! Table files of thousands of rows: want of memory meets every contract, so each row is compared.
 
 use super::{HEADER, joined, same, tables};
-use bufr_tables::{Element, Fxy, Items, Kind, Tables};
-use std::alloc::{AllocError, Global};
+use bufr_answers::{Items, OutOfMemory};
+use bufr_tables::{Element, Fxy, Kind, Tables};
+use std::alloc::Global;
 use std::test::Fail;
 
 /// Adds the row of 0 XX YYY: scale XX, reference value YYY thousand, width YYY and one.
-fn add_element(alloc: Global, text: &mut Vec<u8>, x: u8, y: u8) -> Result<(), AllocError> {
+fn add_element(alloc: Global, text: &mut Vec<u8>, x: u8, y: u8) -> Result<(), OutOfMemory> {
     if let Some(fxy) = Fxy::new(0, x, y) {
         let width = u32::from(y) + 1;
         let line = format!(in alloc;
@@ -18,7 +19,7 @@ fn add_element(alloc: Global, text: &mut Vec<u8>, x: u8, y: u8) -> Result<(), Al
 }
 
 /// The rows of 0 XX YYY for Y below 100.
-fn long_table_b(alloc: Global) -> Result<Vec<u8>, AllocError> {
+fn long_table_b(alloc: Global) -> Result<Vec<u8>, OutOfMemory> {
     let mut text = joined(alloc, &[HEADER])?;
     for x in 0..64u8 {
         for y in 0..100u8 {
@@ -63,7 +64,7 @@ fn thousands_of_elements(rt: HostRuntime) -> Result<(), Fail> {
 }
 
 /// Adds the rows of the sequence 3 XX YYY, of 0 XX 001 and 0 XX YYY.
-fn add_sequence(alloc: Global, text: &mut Vec<u8>, x: u8, y: u8) -> Result<(), AllocError> {
+fn add_sequence(alloc: Global, text: &mut Vec<u8>, x: u8, y: u8) -> Result<(), OutOfMemory> {
     if let Some(fxy) = Fxy::new(3, x, y) {
         let tens = x / 10;
         let ones = x % 10;
@@ -76,7 +77,7 @@ fn add_sequence(alloc: Global, text: &mut Vec<u8>, x: u8, y: u8) -> Result<(), A
 }
 
 /// Adds the rows of 363255, of the descriptors with 0 to 2999 as their bits.
-fn add_long_sequence(alloc: Global, text: &mut Vec<u8>) -> Result<(), AllocError> {
+fn add_long_sequence(alloc: Global, text: &mut Vec<u8>) -> Result<(), OutOfMemory> {
     for bits in 0..3000u16 {
         let line = format!(in alloc; "363255,{}\n", Fxy::from_bits(bits))?;
         text.extend_from_slice(line.as_bytes())?;
@@ -85,7 +86,7 @@ fn add_long_sequence(alloc: Global, text: &mut Vec<u8>) -> Result<(), AllocError
 }
 
 /// The sequences 3 XX YYY for Y below 50, and then 363255.
-fn long_table_d(alloc: Global) -> Result<Vec<u8>, AllocError> {
+fn long_table_d(alloc: Global) -> Result<Vec<u8>, OutOfMemory> {
     let mut text = joined(alloc, &[b"FXY1,FXY2\n"])?;
     for x in 0..64u8 {
         for y in 0..50u8 {
@@ -105,7 +106,7 @@ fn has_sequence(all: &Tables, x: u8, y: u8) -> Result<bool, Fail> {
 }
 
 /// Whether 363255 is of the descriptors with 0 to 2999 as their bits.
-fn has_long_sequence(alloc: Global, all: &Tables) -> Result<bool, AllocError> {
+fn has_long_sequence(alloc: Global, all: &Tables) -> Result<bool, OutOfMemory> {
     let mut members = Vec::new(alloc);
     for bits in 0..3000u16 {
         members.push(Fxy::from_bits(bits))?;

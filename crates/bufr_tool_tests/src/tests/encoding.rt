@@ -1,19 +1,20 @@
 //! Listings through the engine of `encode`: each fault, every failing device.
 
 ghost use Rattle.std.specs.Prelude.{◌≤◌};
-ghost use Rattle.bufr_engines.specs.Limits.{most_reads};
+ghost use Rattle.bufr_io.specs.Limits.{most_reads};
 
 use super::{
     Breaks, Drips, ELEMENTS_ONLY, LISTING, SEQUENCES, assert_broken, assert_line, same, shown,
     tables,
 };
+use bufr_answers::OutOfMemory;
 use bufr_bits::{FromRead, IntoWrite};
-use bufr_engines::{Input, Tally, ToolFault};
+use bufr_io::{Input, Tally, ToolFault};
 use bufr_message::EncodeFault;
 use bufr_message::listing::ListingFault;
 use bufr_tables::Tables;
 use bufr_tool::run_encode;
-use std::alloc::{AllocError, Global};
+use std::alloc::Global;
 use std::process::Abort;
 use std::test::Fail;
 
@@ -116,7 +117,7 @@ fn assert_encoded(
 }
 
 /// Octets with others behind them.
-fn joined(alloc: Global, front: &[u8], back: &[u8]) -> Result<Vec<u8>, AllocError> {
+fn joined(alloc: Global, front: &[u8], back: &[u8]) -> Result<Vec<u8>, OutOfMemory> {
     let mut octets = Vec::from_slice(alloc, front)?;
     octets.extend_from_slice(back)?;
     Ok(octets)
@@ -359,7 +360,7 @@ fn endless_and_failing_readers(rt: HostRuntime) -> Result<(), Fail> {
 }
 
 /// The four examples one behind another, five hundred times.
-fn two_thousand_messages(alloc: Global) -> Result<Vec<u8>, AllocError> {
+fn two_thousand_messages(alloc: Global) -> Result<Vec<u8>, OutOfMemory> {
     let mut octets = Vec::new(alloc);
     for _ in 0u32..500 {
         for example in [SEQUENCES, COMPRESSED_PAIR, UNEQUAL_COUNTS, ELEMENTS_ONLY] {

@@ -4,7 +4,7 @@ ghost use Rattle.std.specs.Prelude.{Some};
 
 use super::{ELEMENTS_ONLY, LISTING, assert_broken, same, same_at, tables};
 use bufr_bits::{Failed, FromRead, Sink};
-use bufr_engines::ToolFault;
+use bufr_io::ToolFault;
 use bufr_tool::run_show;
 use std::alloc::Global;
 use std::process::Abort;

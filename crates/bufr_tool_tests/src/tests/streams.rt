@@ -7,7 +7,7 @@ use super::{
     tables,
 };
 use bufr_bits::{Failed, FromRead, IntoWrite, Sink, Source};
-use bufr_engines::{Input, Tally, ToolFault};
+use bufr_io::{Input, Tally, ToolFault};
 use bufr_tables::Tables;
 use bufr_tool::{MOST_READS, load_tables, run_check, run_command, run_encode};
 use std::alloc::Global;

@@ -15,17 +15,17 @@ returns-in_err-write_out-clause-adds g c =
     let olds = map g.S.Source.reading c.args.readers.now in
     let news = map g.S.Source.reading c.add_streams.new.readers in
     let writer = g.W.Sink.writing c.args.writer.now in
-    let same = ap (λ (a : ArchiveView). a.tables) c.new-gatherer.ensures in
+    let same = ap (λ (a : ArchiveView). a.tables) c.new-builder.ensures in
     passed
     (Collects c.args.tables.now c.args.reads olds news writer
     (g.W.Sink.writing c.write_out.new.writer))
     c.from_residual-in_err-write_out.result c.in_err-write_out.field-0.0
     c.from_residual-in_err-write_out.ensures.1
     (collects_fails c.args.tables.now c.args.reads olds news writer
-    (g.W.Sink.writing c.write_out.new.writer) c.add_streams.new.gatherer
+    (g.W.Sink.writing c.write_out.new.writer) c.add_streams.new.builder
     c.add_streams.new.counts _ c.in_ok-add_streams.field-0 c.in_err-write_out.field-0.0
     (subst (λ
-    (t : Entries). AddsStreams t c.args.reads olds news c.add_streams.new.gatherer
+    (t : Entries). AddsStreams t c.args.reads olds news c.add_streams.new.builder
     c.add_streams.new.counts (Ok c.in_ok-add_streams.field-0)) same
     c.in_ok-add_streams.ensures.adds)
     (c.deref.ensures.value ∙ c.in_ok-text.ensures
@@ -38,12 +38,12 @@ returns-clause-adds g c =
     let olds = map g.S.Source.reading c.args.readers.now in
     let news = map g.S.Source.reading c.add_streams.new.readers in
     let writer = g.W.Sink.writing c.args.writer.now in
-    let same = ap (λ (a : ArchiveView). a.tables) c.new-gatherer.ensures in
+    let same = ap (λ (a : ArchiveView). a.tables) c.new-builder.ensures in
     collects_ok c.args.tables.now c.args.reads olds news writer
-    (g.W.Sink.writing c.write_out.new.writer) c.add_streams.new.gatherer
+    (g.W.Sink.writing c.write_out.new.writer) c.add_streams.new.builder
     c.add_streams.new.counts _ _ c.in_ok-add_streams.field-0
     (subst (λ
-    (t : Entries). AddsStreams t c.args.reads olds news c.add_streams.new.gatherer
+    (t : Entries). AddsStreams t c.args.reads olds news c.add_streams.new.builder
     c.add_streams.new.counts (Ok c.in_ok-add_streams.field-0)) same
     c.in_ok-add_streams.ensures.adds)
     (c.deref.ensures.value ∙ c.in_ok-text.ensures

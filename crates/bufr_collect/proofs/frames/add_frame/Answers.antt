@@ -7,7 +7,7 @@ use Rattle.bufr_collect.proofs.frames.add_frame.Goals.{in-Ok, in-Err-Refused}
 -- after some frames this one was added and counted, whether it spells a message or not
 pub returns : goal.returns
 returns c tables frames h =
-    let old = c.args.gatherer.now in
+    let old = c.args.builder.now in
     let counts = c.args.counts.now in
     elim c.match-add_message.branch [
       | in-Ok w ↦ let m = w.in-Ok.ensures in

@@ -8,5 +8,5 @@ use Rattle.bufr_collect.proofs.frames.add_frames.Given as goal
 -- whatever was added before, the messages of the frames up to this one were added after it
 abbrev pub invariant-loop-frame : goal.invariant-loop-frame
 invariant-loop-frame l =
-    (tables : Entries) (before : List Found) → HasAdded tables l.fn.gatherer l.fn.counts before
-    → HasAdded tables l.gatherer l.counts (before ++ take l.frame-index l.frames)
+    (tables : Entries) (before : List Found) → HasAdded tables l.fn.builder l.fn.counts before
+    → HasAdded tables l.builder l.counts (before ++ take l.frame-index l.frames)

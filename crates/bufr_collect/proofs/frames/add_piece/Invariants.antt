@@ -10,8 +10,8 @@ use Rattle.bufr_collect.proofs.frames.add_piece.Given as goal
 abbrev pub invariant-loop-found : goal.invariant-loop-found
 invariant-loop-found l =
     (tables : Entries) (before : List Found) (stream : List ℕ)
-    → HasAddedSure tables l.fn.gatherer l.fn.counts before l.fn.framer stream
-    → Amid tables l.gatherer l.counts before l.framer (stream ++ l.piece) l.rest
+    → HasAddedSure tables l.fn.builder l.fn.counts before l.fn.framer stream
+    → Amid tables l.builder l.counts before l.framer (stream ++ l.piece) l.rest
 
 -- each turn counts a frame, and there are no more than octets
 abbrev pub decreases-loop-found : goal.decreases-loop-found

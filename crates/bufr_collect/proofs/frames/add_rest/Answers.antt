@@ -26,7 +26,7 @@ add_frames-requires-clause-few c =
 pub returns : goal.returns
 returns c =
     ok_then _ _ _
-    (rest_added c.args.gatherer.now c.add_frames.new.gatherer c.args.counts.now
+    (rest_added c.args.builder.now c.add_frames.new.builder c.args.counts.now
     c.add_frames.new.counts c.args.framer.now _ _
     c.in_ok-frames.ensures.found c.deref.ensures.value)
     c.add_frames.ensures

@@ -1,9 +1,9 @@
 -- The clauses of `merge_readers`: reader by reader, until one is no archive or cannot be read.
 use Rattle.std.proofs.Common.{◌<◌, ◌+◌, length, map, arith, slice_set, Result}
 use Rattle.std.proofs.lemmas.List.{map-set}
-use Rattle.bufr_tables.specs.Answers.{result_map}
+use Rattle.bufr_answers.specs.Answers.{result_map}
 use Rattle.bufr_archive.specs.Archives.{ArchiveView}
-use Rattle.bufr_engines.specs.declared.fault.ToolFault.{ToolFault}
+use Rattle.bufr_io.specs.declared.fault.ToolFault.{ToolFault}
 use Rattle.bufr_collect.specs.Adds.{MergesReaders}
 use Rattle.bufr_collect.proofs.FrameFacts.{passed}
 use Rattle.bufr_collect.proofs.ReaderFacts.{reach_item, fresh_next}

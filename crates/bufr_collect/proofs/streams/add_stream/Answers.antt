@@ -1,13 +1,13 @@
 -- The clauses of `add_stream`: read by read, with counts that the number of reads bounds.
 use Rattle.std.proofs.Common.{◌≡◌, ◌<◌, ◌≤◌, ◌+◌, ◌++◌, length, take, arith, refl, length-append}
 use Rattle.std.proofs.lemmas.List.{length-take}
-use Rattle.bufr_engines.specs.ReadingLaws.{GoesOn_more, GoesOn_ends}
-use Rattle.bufr_collect.proofs.StreamFacts.{between_first, cut_bounded}
+use Rattle.bufr_io.specs.ReadingLaws.{GoesOn_more, GoesOn_ends}
+use Rattle.bufr_collect.proofs.StreamFacts.{nothing_read, cut_bounded}
 use Rattle.bufr_collect.proofs.streams.add_stream.Goals as goal
 
 -- at first nothing was read or added
 pub loop-init : goal.loop-init
-loop-init g c = between_first _ _ _ _ c.requires.fresh c.new-framer.ensures.starts
+loop-init g c = nothing_read _ _ _ _ c.requires.fresh c.new-framer.ensures.starts
 
 -- of the octets read the messages of the sure frames were added
 pub add_rest-requires-clause-so_far : goal.add_rest-requires-clause-so_far

@@ -6,5 +6,5 @@ use Rattle.bufr_collect.proofs.streams.add_stream.Given as goal
 abbrev pub invariant-loop : goal.invariant-loop
 invariant-loop g l =
     Between (g.S.Source.reading l.initial.reader)
-    (g.S.Source.reading l.reader) l.initial.gatherer l.gatherer l.initial.counts l.counts
+    (g.S.Source.reading l.reader) l.initial.builder l.builder l.initial.counts l.counts
     l.framer l.counter

@@ -28,16 +28,16 @@ loop-index-preserved g c =
     let few = inv.few in
     let inside : c.loop-index.index < length c.loop-index.readers = omega arith in
     let fit : length (frames_of inv.streams) < 2 ^ 127 = omega arith in
-    added_next c.args.gatherer.now.tables c.args.reads (map g.S.Source.reading c.args.readers.now)
+    added_next c.args.builder.now.tables c.args.reads (map g.S.Source.reading c.args.readers.now)
     (map g.S.Source.reading c.loop-index.readers) _
-    c.loop-index.gatherer c.add_stream.new.gatherer c.loop-index.counts c.add_stream.new.counts
+    c.loop-index.builder c.add_stream.new.builder c.loop-index.counts c.add_stream.new.counts
     c.loop-index.index _ (g.S.Source.reading c.add_stream.new.reader) c.in_ok-add_stream.field-0
     c.requires.few inv
     (reach_item g.S.Source.reading _ c.loop-index.readers inv.streams c.loop-index.index
     c.index-readers-index.result inv.through inside)
     (map-set g.S.Source.reading c.loop-index.readers c.loop-index.index c.add_stream.new.reader)
     c.in_ok-add_stream.ensures.bounded
-    (c.in_ok-add_stream.ensures.adds c.args.gatherer.now.tables
+    (c.in_ok-add_stream.ensures.adds c.args.builder.now.tables
     (frames_of inv.streams) inv.added fit)
 
 -- each reader was read at most so often, the one that cannot be read too
@@ -58,17 +58,17 @@ returns-in_err-add_stream-clause-adds g c =
     let news = map g.S.Source.reading c.loop-index.readers in
     let olds = map g.S.Source.reading c.args.readers.now in
     passed
-    (AddsStreams c.args.gatherer.now.tables c.args.reads olds
+    (AddsStreams c.args.builder.now.tables c.args.reads olds
     (map g.S.Source.reading
     (slice_set c.loop-index.readers c.loop-index.index c.add_stream.new.reader))
-    c.add_stream.new.gatherer c.add_stream.new.counts)
+    c.add_stream.new.builder c.add_stream.new.counts)
     c.from_residual.result c.in_err-add_stream.field-0.0 c.from_residual.ensures.1
-    (added_ends c.args.gatherer.now.tables c.args.reads olds news _ c.add_stream.new.gatherer
-    c.add_stream.new.gatherer c.add_stream.new.counts c.add_stream.new.counts
+    (added_ends c.args.builder.now.tables c.args.reads olds news _ c.add_stream.new.builder
+    c.add_stream.new.builder c.add_stream.new.counts c.add_stream.new.counts
     inv.streams (frames_of inv.streams) c.loop-index.index _
     (g.S.Source.reading c.add_stream.new.reader) c.in_err-add_stream.field-0.0
     (reach_item g.S.Source.reading olds c.loop-index.readers inv.streams c.loop-index.index
     c.index-readers-index.result inv.through inside)
     (map-set g.S.Source.reading c.loop-index.readers c.loop-index.index c.add_stream.new.reader)
-    (c.in_err-add_stream.ensures.adds c.args.gatherer.now.tables
+    (c.in_err-add_stream.ensures.adds c.args.builder.now.tables
     (frames_of inv.streams) inv.added fit))

@@ -6,5 +6,5 @@ use Rattle.bufr_collect.proofs.streams.add_streams.Given as goal
 -- the streams of the readers so far were added
 abbrev pub invariant-loop-index : goal.invariant-loop-index
 invariant-loop-index g l =
-    AddedThrough l.initial.gatherer.tables l.reads (map g.S.Source.reading l.initial.readers)
-    (map g.S.Source.reading l.readers) l.gatherer l.counts l.index
+    AddedThrough l.initial.builder.tables l.reads (map g.S.Source.reading l.initial.readers)
+    (map g.S.Source.reading l.readers) l.builder l.counts l.index

@@ -3,7 +3,7 @@ use Rattle.std.proofs.Common.{◌≡◌, ℕ, Bool, false, List, [], ◌∷◌, 
 use Rattle.std.specs.List.{AllByRecursion}
 use Rattle.bufr_bits.specs.Devices.{Reading}
 use Rattle.bufr_collect_tests.specs.declared.tests.Pieces.{Pieces}
-use Rattle.bufr_engines.specs.Engines.{IsFresh}
+use Rattle.bufr_io.specs.Engines.{IsFresh}
 use Rattle.bufr_collect.specs.Readers.{AreFresh}
 use Rattle.bufr_collect_tests.proofs.tests.readers.Given as goal
 

@@ -1,6 +1,6 @@
 -- The clause of `end_fields`: what the walk asks for where the fields of a subset have ended.
 use Rattle.bufr_data.proofs.StepFacts.{field_asked, count_asked}
-use Rattle.bufr_data.proofs.WriteFacts.{stop_misfits, end_fits, step_lacks}
+use Rattle.bufr_data.proofs.PlainFacts.Writes.{stop_misfits, end_fits, step_lacks}
 use Rattle.bufr_data.proofs.fit.end_fields.Goals as goal
 
 -- where the walk stops, its fault is the misfit

@@ -1,8 +1,8 @@
 -- The clauses of `fit_field`: one step of the walk is one step of fitting.
 use Rattle.std.proofs.lemmas.Result.{err_from_is_err_and}
 use Rattle.bufr_data.proofs.StepFacts.{field_asked, count_asked, field_goes, count_goes}
-use Rattle.bufr_data.proofs.WriteFacts.{step_is_written, count_written_fits, step_misfits}
-use Rattle.bufr_data.proofs.WriteFacts.{end_misfits, stop_misfits, fits_is}
+use Rattle.bufr_data.proofs.PlainFacts.Writes.{step_is_written, count_written_fits, step_misfits}
+use Rattle.bufr_data.proofs.PlainFacts.Writes.{end_misfits, stop_misfits, fits_is}
 use Rattle.bufr_data.proofs.fit.fit_field.Goals as goal
 use Rattle.bufr_data.specs.StepLaws.{field_goes_on, count_goes_on}
 

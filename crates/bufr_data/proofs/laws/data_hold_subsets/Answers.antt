@@ -2,7 +2,7 @@
 use Rattle.bufr_data.proofs.CauseFacts.{laws_from}
 use Rattle.bufr_data.proofs.DataFacts.{reads_exactly, refuses_exactly, writes_exactly}
 use Rattle.bufr_data.proofs.DataFacts.{misfits_exactly, bare_are_data, plain_are_bare}
-use Rattle.bufr_data.proofs.PackableFacts.{packed_can_be_bare, narrow_can_be_packed}
+use Rattle.bufr_data.proofs.CompressedFacts.Writable.{packed_can_be_bare, narrow_can_be_packed}
 use Rattle.bufr_data.proofs.laws.data_hold_subsets.Goals as goal
 
 -- subsets are read, written and refused exactly as their data, and bare data are data

@@ -4,7 +4,7 @@ use Rattle.std.proofs.Common.{◌≡◌, ◌-◌, length, drop, set, Ok, ℕ, le
 use Rattle.std.proofs.Common.{◌∙◌, arith}
 use Rattle.std.proofs.lemmas.List.{take_all}
 use Rattle.std.proofs.lemmas.Result.{err_from_is_err_and}
-use Rattle.bufr_tables.specs.Answers.{Fails}
+use Rattle.bufr_answers.specs.Answers.{Fails}
 use Rattle.bufr_expand.specs.Expansion.{expand_within, replication_node}
 use Rattle.bufr_expand.specs.Parts.{seen}
 use Rattle.bufr_expand.proofs.ExpansionFacts.{expanded, expanded_fault, expanded_part_fault}

@@ -2,9 +2,9 @@
 use Rattle.std.proofs.Common.{◌≡◌, List, ◌∷◌, ◌∙◌, sym, ap, subst, codes, ℕ, Vec, Global, Ok}
 use Rattle.std.proofs.Common.{Err, length, true}
 use Rattle.std.proofs.lemmas.Result.{err_from_is_err_and}
-use Rattle.bufr_tables.specs.Answers.{Fails}
+use Rattle.bufr_answers.specs.Answers.{Fails}
 use Rattle.std.specs.Prelude.{◌==◌, Option, option_map}
-use Rattle.bufr_tables.specs.declared.failure.Failure.TheVariants.{Fault}
+use Rattle.bufr_answers.specs.declared.failure.Failure.TheVariants.{Fault}
 use Rattle.bufr_tables.specs.declared.fxy.Fxy.{Fxy}
 use Rattle.bufr_listing.specs.declared.fault.ListingFault.TheVariants.{BadLine}
 use Rattle.bufr_expand.specs.Templates.{template}

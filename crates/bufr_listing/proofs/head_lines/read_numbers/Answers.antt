@@ -1,7 +1,7 @@
 -- For the clause `read` of `read_numbers`: numbers, L1 or L2, by the line's words.
 use Rattle.std.proofs.Common.{◌≡◌, ◌∷◌, ◌∙◌, sym, ap, ℕ, Vec, Global, Err}
 use Rattle.std.specs.Prelude.{Option, option_map, if◌then◌else◌}
-use Rattle.bufr_tables.specs.declared.failure.Failure.TheVariants.{Fault}
+use Rattle.bufr_answers.specs.declared.failure.Failure.TheVariants.{Fault}
 use Rattle.bufr_listing.specs.declared.fault.ListingFault.TheVariants.{BadLine, BadValue}
 use Rattle.bufr_listing.specs.Cursors.{left, past, printed}
 use Rattle.bufr_listing.specs.Lines.{words_of, first_word}

@@ -2,7 +2,7 @@
 use Rattle.std.proofs.Common.{◌∙◌, sym, ap, codes, subst}
 use Rattle.std.specs.Str.{bytes_eq}
 use Rattle.std.proofs.lemmas.Result.{err_from_is_err_and}
-use Rattle.bufr_tables.specs.Answers.{Fails}
+use Rattle.bufr_answers.specs.Answers.{Fails}
 use Rattle.bufr_listing.specs.Cursors.{left}
 use Rattle.bufr_listing.specs.Reading.{read_section2}
 use Rattle.bufr_listing.proofs.CallFacts.{found_ok, found_err, not_found, none_found}

@@ -1,6 +1,6 @@
 -- For the clause `read` of `read_word`: L1 at another line.
 use Rattle.std.proofs.Common.{◌∙◌, sym}
-use Rattle.bufr_tables.specs.declared.failure.Failure.TheVariants.{Fault}
+use Rattle.bufr_answers.specs.declared.failure.Failure.TheVariants.{Fault}
 use Rattle.bufr_listing.specs.declared.fault.ListingFault.TheVariants.{BadLine}
 use Rattle.bufr_listing.specs.Cursors.{left, past, printed}
 use Rattle.bufr_listing.specs.Reading.{read_word}

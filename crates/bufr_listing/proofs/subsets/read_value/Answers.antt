@@ -2,7 +2,7 @@
 -- word.
 use Rattle.std.proofs.Common.{◌∙◌, sym, ap, FitsSigned, rules}
 use Rattle.std.specs.Int.{w64}
-use Rattle.bufr_tables.specs.declared.failure.Failure.TheVariants.{Fault}
+use Rattle.bufr_answers.specs.declared.failure.Failure.TheVariants.{Fault}
 use Rattle.bufr_listing.specs.declared.fault.ListingFault.TheVariants.{BadLine, BadValue}
 use Rattle.bufr_listing.specs.Cursors.{left, past, printed}
 use Rattle.bufr_listing.specs.FieldLines.{read_field}

@@ -1,6 +1,6 @@
 -- For `enclose`: octets whose bits are the filled data bits are those that a message has them in.
 use Rattle.std.proofs.Common.{arith, Err}
-use Rattle.bufr_tables.specs.AnswerLaws.{told_fault}
+use Rattle.bufr_answers.specs.AnswerLaws.{told_fault}
 use Rattle.bufr_message.specs.Lent.{whole}
 use Rattle.bufr_message.proofs.EncodingFacts.{whole_octets_are, enclosed_is}
 use Rattle.bufr_message.proofs.encoding.enclose.Goals as goal

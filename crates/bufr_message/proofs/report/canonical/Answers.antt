@@ -1,6 +1,6 @@
 -- For `canonical`: the clause `under`, from the law `written_messages_are_spelt`.
 use Rattle.std.proofs.Common.{subst}
-use Rattle.bufr_tables.specs.Answers.{Gives}
+use Rattle.bufr_answers.specs.Answers.{Gives}
 use Rattle.bufr_message.specs.Reports.{alone}
 use Rattle.bufr_message.proofs.report.canonical.Goals as goal
 

@@ -23,4 +23,4 @@ returns c =
     eq-eqb _ _ (omega (arith, c.if-master-ne0.false)) in
     let local : c.in_ok-local.local ≡ drop 19 c.args.octets.now =
     c.in_ok-local.ensures ∙ c.split_at.ensures.back in
-    head_is c.args.octets.now c.if-octets-lt19.false ∙ rw (none, c.head_with.ensures, local) refl
+    head_is c.args.octets.now c.if-octets-lt19.false ∙ rw (none, c.head4_with.ensures, local) refl

@@ -1,11 +1,11 @@
 -- The clause of `print_piece`: frame by frame, until `take_next` hands out none.
 use Rattle.std.proofs.Common.{◌≡◌, ◌++◌, arith, ap, length-append, None}
-use Rattle.bufr_engines.specs.declared.fault.ToolFault.TheVariants as faults
+use Rattle.bufr_io.specs.declared.fault.ToolFault.TheVariants as faults
 use Rattle.bufr_tool.specs.StreamEngines.{PrintsPiece}
 use Rattle.bufr_tool.proofs.PrintingFacts.{refused_at_most, passed}
 use Rattle.bufr_tool.proofs.StreamFacts.{hands, amid_fits, amid_more, amid_none, amid_halted}
 use Rattle.bufr_tool.proofs.StreamFacts.{amid_stopped}
-use Rattle.bufr_frame.specs.TakingLaws.{taking_fed}
+use Rattle.bufr_frame.specs.NextFrameLaws.{between_fed}
 use Rattle.bufr_tool.proofs.frames.print_piece.Goals as goal
 
 -- the octets taken in and those left of the piece can be counted
@@ -13,7 +13,7 @@ pub take_next-requires : goal.take_next-requires
 take_next-requires g c =
     let so_far = c.requires.so_far in
     let a = c.loop-found.invariant so_far.0 so_far.1 so_far.2 in
-    let fed = taking_fed _ _ _ _ a.taking in
+    let fed = between_fed _ _ _ _ a.taking in
     let whole = length-append so_far.1 c.args.piece.now in
     let start = so_far.2.handed.stands.fed in
     let room = c.requires.room in

@@ -2,7 +2,7 @@
 use Rattle.std.proofs.Common.{◌≡◌, ◌<◌, ◌+◌, ◌++◌, length, take, arith, refl, length-append}
 use Rattle.std.proofs.lemmas.List.{length-take}
 use Rattle.bufr_tool.specs.StreamEngines.{Prints}
-use Rattle.bufr_engines.specs.ReadingLaws.{GoesOn_more, GoesOn_ends, HasGiven_more}
+use Rattle.bufr_io.specs.ReadingLaws.{GoesOn_more, GoesOn_ends, HasGiven_more}
 use Rattle.bufr_tool.proofs.PrintingFacts.{passed}
 use Rattle.bufr_tool.proofs.EngineFacts.{between_first, prints_part, prints_whole}
 use Rattle.bufr_tool.proofs.frames.print_pieces.Goals as goal

@@ -2,8 +2,8 @@
 use Rattle.std.proofs.Common.{◌++◌, List, length, arith, ap, subst, ◌∙◌}
 use Rattle.bufr_frame.specs.declared.frames.Found.{Found}
 use Rattle.bufr_frame.specs.Streams.{cut, sure}
-use Rattle.bufr_frame.specs.TakingLaws.{handed_end}
-use Rattle.bufr_engines.specs.declared.fault.ToolFault.TheVariants as faults
+use Rattle.bufr_frame.specs.NextFrameLaws.{handed_end}
+use Rattle.bufr_io.specs.declared.fault.ToolFault.TheVariants as faults
 use Rattle.bufr_tool.specs.Output.{octets_of}
 use Rattle.bufr_tool.specs.StreamEngines.{PrintsFrames}
 use Rattle.bufr_tool.proofs.PrintingFacts.{passed}

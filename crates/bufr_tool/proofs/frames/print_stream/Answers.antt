@@ -1,5 +1,5 @@
 -- The clause `prints` of `print_stream`: where memory runs out before the first read.
-use Rattle.bufr_engines.specs.declared.fault.ToolFault.TheVariants as faults
+use Rattle.bufr_io.specs.declared.fault.ToolFault.TheVariants as faults
 use Rattle.bufr_tool.specs.StreamEngines.{Prints}
 use Rattle.bufr_tool.proofs.PrintingFacts.{passed}
 use Rattle.bufr_tool.proofs.EngineFacts.{prints_nothing}

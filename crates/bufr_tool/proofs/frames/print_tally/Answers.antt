@@ -1,6 +1,6 @@
 -- The clause of `print_tally`: the counts of the whole stream, and the text behind its frames.
 use Rattle.std.proofs.Common.{arith, ◌∙◌}
-use Rattle.bufr_engines.specs.declared.fault.ToolFault.TheVariants as faults
+use Rattle.bufr_io.specs.declared.fault.ToolFault.TheVariants as faults
 use Rattle.bufr_tool.specs.StreamEngines.{PrintsEnd}
 use Rattle.bufr_frame.specs.FrameBounds.{cut_few, cut_short}
 use Rattle.bufr_tool.proofs.PrintingFacts.{passed}

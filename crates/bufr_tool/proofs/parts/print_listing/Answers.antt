@@ -3,7 +3,7 @@ use Rattle.std.proofs.Common.{◌≡◌, ℕ, ◌+◌, ◌<◌, List, ◌++◌, 
 use Rattle.std.proofs.Common.{arith}
 use Rattle.std.proofs.lemmas.List.{append-nil}
 use Rattle.bufr_listing.specs.Listings.{line, heading_of, heading_lines, end_line, listing}
-use Rattle.bufr_engines.specs.declared.fault.ToolFault.TheVariants as faults
+use Rattle.bufr_io.specs.declared.fault.ToolFault.TheVariants as faults
 use Rattle.bufr_tool.specs.Lines.{AreWholeLines}
 use Rattle.bufr_tool.specs.StreamEngines.{PrintsText}
 use Rattle.bufr_tool.proofs.LineFacts.{lines_none, line_whole, joined_whole}

@@ -1,6 +1,6 @@
 -- The clause `prints` of `print_judged`: where memory runs out at the line of a refused frame.
-use Rattle.bufr_tables.specs.Answers.{result_map}
-use Rattle.bufr_engines.specs.declared.fault.ToolFault.TheVariants as faults
+use Rattle.bufr_answers.specs.Answers.{result_map}
+use Rattle.bufr_io.specs.declared.fault.ToolFault.TheVariants as faults
 use Rattle.bufr_tool.specs.Output.{frame_text}
 use Rattle.bufr_tool.specs.StreamEngines.{PrintsText}
 use Rattle.bufr_tool.proofs.LineFacts.{lines_none}

@@ -1,6 +1,6 @@
 -- The clause of `SubsetIndex::count`: of compressed data.
 use Rattle.std.proofs.Common.{◌∙◌, sym}
-use Rattle.bufr_data.proofs.ShownFacts.{many_shown}
+use Rattle.bufr_data.proofs.CompressedFacts.Shown.{many_shown}
 use Rattle.bufr_data.proofs.subset_index.SubsetIndex.count.Goals as goal
 
 -- the columns count as many subsets as the list has

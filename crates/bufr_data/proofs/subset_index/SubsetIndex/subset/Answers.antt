@@ -1,6 +1,6 @@
 -- The clause of `SubsetIndex::subset`: of compressed data.
 use Rattle.std.proofs.Common.{◌-◌, arith}
-use Rattle.bufr_data.proofs.ShownFacts.{many_shown, one_shown}
+use Rattle.bufr_data.proofs.CompressedFacts.Shown.{many_shown, one_shown}
 use Rattle.bufr_data.proofs.subset_index.SubsetIndex.subset.Goals as goal
 
 -- a number up to the count of the subsets fits two octets

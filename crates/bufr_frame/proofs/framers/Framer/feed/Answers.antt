@@ -41,6 +41,6 @@ returns-clause-next c =
     omega
     (arith, c.len.ensures, inside.octets.ok.0, length-drop inside.from inside.octets.items) in
     feed_next inside.fed _ (drop inside.from inside.octets.items) c.args.piece.now
-    (drop c.in_ok-scan.scan.rest c.take_in.new.octets.items) c.args.self.now
+    (drop c.in_ok-scan.scan.rest c.append_and_scan.new.octets.items) c.args.self.now
     c.in_ok-scan.scan.frames.items c.self.view_is place c.in_ok-scan.ensures.frames
     c.in_ok-scan.ensures.rest

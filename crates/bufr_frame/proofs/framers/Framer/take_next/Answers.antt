@@ -1,11 +1,11 @@
--- The clauses of `Framer::take_next`, from what `take_one` says of the octets held and taken in.
+-- The clauses of `Framer::take_next`, from what `hand_over` says of the octets held and taken in.
 use Rattle.std.proofs.Common.{◌≡◌, ◌+◌, ◌++◌, drop, take, sym, subst, arith, length-append}
 use Rattle.std.specs.Prelude.{IfSome}
 use Rattle.std.proofs.lemmas.List.{length-take-le, take_all}
 use Rattle.bufr_frame.specs.Framings.{Framing}
-use Rattle.bufr_frame.specs.Reaches.{TakesOneOrNone, TakesNone}
+use Rattle.bufr_frame.specs.Reaches.{TakesOneOrNone, HandsOverNone}
 use Rattle.bufr_frame.specs.StreamLaws.{place_of}
-use Rattle.bufr_frame.specs.Takings.{IsNextFrame, IsNoFrame, StandsAfter}
+use Rattle.bufr_frame.specs.NextFrames.{IsNextFrame, IsNoFrame, StandsAfter}
 use Rattle.bufr_frame.proofs.ReachLaws.{taken_is, next_frame, stands_next, no_frame, stands_on}
 use Rattle.bufr_frame.proofs.ReachLaws.{held_taken}
 use Rattle.bufr_frame.proofs.framers.Framer.take_next.Goals as goal
@@ -49,7 +49,7 @@ returns-clause-next c =
     let inside = c.self.inside in
     let piece = c.args.piece.now in
     let taken = take taking.taken piece in
-    let held = drop taking.from c.take_one.new.octets.items in
+    let held = drop taking.from c.hand_over.new.octets.items in
     let v : Framing = record { fed = inside.fed; held = drop inside.from inside.octets.items } in
     let new : Framing = record { fed = inside.fed + taking.taken; held = held } in
     let size = length-take-le taking.taken piece t.taken in
@@ -66,11 +66,11 @@ returns-clause-none c = λ none.
     let taking = c.in_ok-taking.taking in
     let inside = c.self.inside in
     let piece = c.args.piece.now in
-    let held = drop taking.from c.take_one.new.octets.items in
+    let held = drop taking.from c.hand_over.new.octets.items in
     let v : Framing = record { fed = inside.fed; held = drop inside.from inside.octets.items } in
     let all : take taking.taken piece ≡ piece =
     let e = t.all none in take_all taking.taken piece (omega arith) in
-    let nothing : TakesNone (place_of v) (v.held ++ take taking.taken piece) held =
+    let nothing : HandsOverNone (place_of v) (v.held ++ take taking.taken piece) held =
     subst (λ o. TakesOneOrNone o (place_of v)
     (v.held ++ take taking.taken piece) held) none t.found in
     let no : IsNoFrame v piece =
@@ -84,13 +84,13 @@ returns-clause-waits c = λ none.
     let taking = c.in_ok-taking.taking in
     let inside = c.self.inside in
     let piece = c.args.piece.now in
-    let held = drop taking.from c.take_one.new.octets.items in
+    let held = drop taking.from c.hand_over.new.octets.items in
     let v : Framing = record { fed = inside.fed; held = drop inside.from inside.octets.items } in
     let new : Framing = record { fed = inside.fed + taking.taken; held = held } in
     let all : take taking.taken piece ≡ piece =
     let e = t.all none in take_all taking.taken piece (omega arith) in
     let size = length-take-le taking.taken piece t.taken in
-    let nothing : TakesNone (place_of v) (v.held ++ take taking.taken piece) held =
+    let nothing : HandsOverNone (place_of v) (v.held ++ take taking.taken piece) held =
     subst (λ o. TakesOneOrNone o (place_of v)
     (v.held ++ take taking.taken piece) held) none t.found in
     let on : StandsAfter v new piece 0 =

@@ -6,7 +6,8 @@ use Rattle.std.specs.Ordering.{nat_cmp}
 use Rattle.std.specs.Cmp.Lexicographic.{slice_cmp}
 use Rattle.bufr_shelves.specs.Keeping.{put_all}
 use Rattle.bufr_shelves.specs.Pairs.{shelved, by_key, by_value}
-use Rattle.bufr_shelves.specs.Ranks.{key_order, rank_order}
+use Rattle.bufr_keys.specs.DerivedOrders.{key_order}
+use Rattle.bufr_shelves.specs.Ranks.{rank_order}
 use Rattle.bufr_shelves.proofs.ShelvedLemmas.{shelved-all, kept-of, entries-join, sorted-keyed}
 use Rattle.bufr_shelves.proofs.ShelvedLemmas.{sorted-unkeyed}
 use Rattle.bufr_shelves.proofs.sorted_shelf.SortedShelfShelf.join.Goals as goal

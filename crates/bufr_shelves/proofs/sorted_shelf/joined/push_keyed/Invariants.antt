@@ -1,7 +1,7 @@
 -- For `push_keyed`: what its loop keeps.
 use Rattle.std.proofs.Common.{◌≡◌, ◌++◌}
 use Rattle.std.specs.List.{flat_map}
-use Rattle.bufr_shelves.specs.declared.key.Key.{Key}
+use Rattle.bufr_keys.specs.declared.key.Key.{Key}
 use Rattle.bufr_shelves.specs.declared.rank.Rank.{Rank}
 use Rattle.bufr_shelves.proofs.sorted_shelf.joined.push_keyed.Given as goal
 

@@ -3,7 +3,7 @@
 use Rattle.std.proofs.Common.{◌≡◌, map, Ok, List, ℕ, Option, Result, option_map, []}
 use Rattle.csv.specs.Records.{fields_of}
 use Rattle.bufr_tables.specs.declared.table_faults.TableFault.{TableFault}
-use Rattle.bufr_tables.specs.Answers.{Fails}
+use Rattle.bufr_answers.specs.Answers.{Fails}
 use Rattle.bufr_tables.specs.Rows.{element_row, with_element}
 use Rattle.bufr_tables.specs.TableFiles.{table_b, columns_b, records_of}
 use Rattle.bufr_tables.proofs.ColumnFacts.{needs_b}

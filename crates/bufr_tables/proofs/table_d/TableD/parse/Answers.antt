@@ -3,7 +3,7 @@
 use Rattle.std.proofs.Common.{◌≡◌, sym, ap, map, Ok, List, ℕ, Option, Result, option_map}
 use Rattle.csv.specs.Records.{fields_of}
 use Rattle.bufr_tables.specs.declared.table_faults.TableFault.{TableFault}
-use Rattle.bufr_tables.specs.Answers.{Fails}
+use Rattle.bufr_answers.specs.Answers.{Fails}
 use Rattle.bufr_tables.specs.Rows.{member_row, with_member, no_sequences, all_sequences, Sequences}
 use Rattle.bufr_tables.specs.TableFiles.{table_d, columns_d, records_of, after_file}
 use Rattle.bufr_tables.proofs.ColumnFacts.{needs_d}

@@ -1,0 +1,1 @@
+-- This crate shares no lemmas: laws of answers stand in its specs.

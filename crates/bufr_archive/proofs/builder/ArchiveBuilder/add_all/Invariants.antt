@@ -1,0 +1,9 @@
+-- The loop of `ArchiveBuilder::add_all`: the reports added so far.
+use Rattle.std.proofs.Common.{◌≡◌, take}
+use Rattle.bufr_archive.specs.Archives.{taken_in}
+use Rattle.bufr_archive.proofs.builder.ArchiveBuilder.add_all.Given as goal
+
+-- the reports so far were added
+abbrev pub invariant-loop-index : goal.invariant-loop-index
+invariant-loop-index g l =
+    l.self ≡ taken_in l.fn.self (take l.index (g.L.ReportList.entries l.reports))

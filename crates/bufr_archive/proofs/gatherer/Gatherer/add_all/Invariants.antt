@@ -1,9 +1,0 @@
--- The loop of `Gatherer::add_all`: the reports added so far.
-use Rattle.std.proofs.Common.{◌≡◌, take}
-use Rattle.bufr_archive.specs.Archives.{taken_in}
-use Rattle.bufr_archive.proofs.gatherer.Gatherer.add_all.Given as goal
-
--- the reports so far were added
-abbrev pub invariant-loop-index : goal.invariant-loop-index
-invariant-loop-index g l =
-    l.self ≡ taken_in l.fn.self (take l.index (g.L.ReportList.entries l.reports))

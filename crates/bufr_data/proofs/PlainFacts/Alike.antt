@@ -1,0 +1,153 @@
+-- Plain subsets that are alike are passed by their bits alone (`PlainSubsets::index`).
+use Rattle.std.proofs.Common.{◌≡◌, ℕ, ◌+◌, ◌*◌, ◌/◌, ◌≤◌, Bool, false, List, [], ◌∷◌, ◌++◌, length}
+use Rattle.std.proofs.Common.{drop, Ok, refl, sym, ap, subst, ◌∙◌, arith}
+use Rattle.std.proofs.lemmas.List.{drop-drop, length-drop}
+use Rattle.bufr_tables.specs.declared.element.Kind.TheVariants as kinds
+use Rattle.bufr_tables.specs.Elements.{same_kind}
+use Rattle.bufr_expand.specs.declared.operators.Spec.{Spec}
+use Rattle.bufr_expand.specs.declared.walk.Step.TheVariants as steps
+use Rattle.bufr_expand.specs.declared.walk.Walk.{Walk}
+use Rattle.bufr_expand.specs.Courses.{Course, ends, stops, asks, course}
+use Rattle.bufr_expand.specs.Trees.{Tree}
+use Rattle.bufr_expand.specs.Unrolling.{Told, After, Allows, Unrolls}
+use Rattle.bufr_expand.specs.Limits.{most_items}
+use Rattle.bufr_expand.specs.Steady.{IsSteady, course_steady}
+use Rattle.bufr_expand.specs.Walks.{left, Goes}
+use Rattle.bufr_data.specs.declared.plain.alike.Alike.{Alike}
+use Rattle.bufr_data.specs.declared.field.Field.{Field}
+use Rattle.bufr_data.specs.Plain.Alike.{TakesBits, TakeAll, IsAlike}
+use Rattle.bufr_data.specs.Plain.{number_of, fields_at}
+use Rattle.bufr_data.specs.Plain.Reads.{behind_fields}
+use Rattle.bufr_data.specs.Plain.Starts.{PassesSubset}
+use Rattle.bufr_data.specs.StepLaws.{asks_field}
+use Rattle.bufr_data.proofs.PlainFacts.Passed.{text_passes, text_ends, number_passes, number_ends}
+use Rattle.bufr_data.proofs.PlainFacts.Reads.{asked_field, found_is}
+
+-- ---- the bits of one field
+
+-- a text takes the bits of its octets
+pub text_takes : (spec : Spec) (b w : ℕ) → spec.kind ≡ kinds.Text → b ≡ 8 * w → w ≡ spec.width / 8
+    → TakesBits spec b
+text_takes spec b w is times eighth = record {
+  there = λ i front enough. text_passes i spec front (drop b front) b w is times eighth enough refl;
+  short = λ i front short. text_ends i spec front b w is times eighth short;
+}
+
+-- a number of 64 bits at most takes its width
+pub number_takes : (spec : Spec) (b : ℕ) → (spec.kind ≡ kinds.Text → ⊥) → spec.width ≤ 64
+    → b ≡ spec.width → TakesBits spec b
+number_takes spec b other few size = record {
+  there = λ i front enough. number_passes i spec front (drop b front) b other few size enough refl;
+  short = λ i front short. number_ends i spec front b other few size short;
+}
+
+-- ---- the fields that a walk meets
+
+-- a field of which only the descriptor and the spec are known
+abbrev pub untold : ℕ → Spec → Told
+untold d spec = record { fxy = d; spec = spec; number = 0 }
+
+-- a course asks for one field more, which is no count
+after_more : (c : Course) (fields : List Told) (met d : ℕ) (spec : Spec) (more : ℕ → Course)
+    → After c fields (asks met d spec more) → After c (fields ++ untold d spec ∷ []) (more 0)
+unfolding After
+after_more c [] met d spec more h =
+    subst (λ x. After x (untold d spec ∷ []) (more 0)) (sym h) (refl, refl, refl)
+after_more (ends n) (f ∷ fields) met d spec more h = absurd h
+after_more (stops n fault) (f ∷ fields) met d spec more h = absurd h
+after_more (asks m e s next) (f ∷ fields) met d spec more h =
+    (h.0, h.1, after_more (next f.number) fields met d spec more h.2)
+
+-- so many bits more are taken
+take_more : (fields : List Told) (bits d : ℕ) (spec : Spec) (own : ℕ)
+    → same_kind spec.kind kinds.Count ≡ false → TakesBits spec own → TakeAll fields bits
+    → TakeAll (fields ++ untold d spec ∷ []) (bits + own)
+take_more [] bits d spec own kind takes all = (own, 0, kind, takes, refl, omega (arith, all))
+take_more (f ∷ fields) bits d spec own kind takes all = (
+  all.0,
+  all.1 + own,
+  all.2,
+  all.3,
+  take_more fields all.1 d spec own kind takes all.4,
+  omega (arith, all.5),
+)
+
+-- the fields so far take so many bits, and the walk is behind them
+pub record Measured (c : Course) (bits : ℕ) (later : Course) : Type 0 where
+  pub fields : List Told
+  pub behind : After c fields later
+  pub taken : TakeAll fields bits
+
+-- at first there is none
+pub none_measured : (c later : Course) → later ≡ c → Measured c 0 later
+unfolding After
+none_measured c later is = record { fields = []; behind = sym is; taken = refl }
+
+-- one field more
+pub one_measured : (c : Course) (old new : Walk) (bits grown own d : ℕ) (spec : Spec)
+    → grown ≡ bits + own → Goes (left old) (Ok (steps.Field d spec)) new → TakesBits spec own
+    → Measured c bits (left old) → Measured c grown (left new)
+one_measured c old new bits grown own d spec sum goes takes m =
+    let a = asks_field (left old) d spec new goes in
+    let behind = subst (After c m.fields) a.is m.behind in
+    record {
+      fields = m.fields ++ untold d spec ∷ [];
+      behind =
+          subst (After c (m.fields ++ untold d spec ∷ [])) (sym a.after)
+          (after_more c m.fields a.met d spec a.more behind);
+      taken =
+          subst (TakeAll (m.fields ++ untold d spec ∷ [])) (sym sum)
+          (take_more m.fields bits d spec own a.kind takes m.taken);
+    }
+
+-- ---- bits that hold a subset
+
+-- the fields that a steady course allows, none a count, are passed where their bits are there
+fields_pass : (used met i : ℕ) (c : Course) (fields : List Told) (bits : ℕ) (front : List Bool)
+    → IsSteady used c → Allows c fields met → TakeAll fields bits → bits ≤ length front
+    → PassesSubset (fields_at 1 i c front) met (drop bits front)
+unfolding After IsSteady fields_at
+fields_pass used met i c [] bits front steady allowed taken enough = ([], rw (allowed, taken) refl)
+fields_pass used met i (ends n) (f ∷ fields) bits front steady allowed taken enough = absurd allowed
+fields_pass used met i (stops n fault) (f ∷ fields) bits front steady allowed taken enough =
+    absurd allowed
+fields_pass used met i (asks m d spec more) (f ∷ fields) bits front steady allowed taken enough =
+    let own = taken.0 in
+    let kind : same_kind spec.kind kinds.Count ≡ false =
+    subst (λ (s : Spec). same_kind s.kind kinds.Count ≡ false) allowed.1 taken.2 in
+    let takes : TakesBits spec own = subst (λ (s : Spec). TakesBits s own) allowed.1 taken.3 in
+    let p = takes.there i front (omega (arith, taken.5, enough)) in
+    let field : Field = record { fxy = d; spec = spec; raw = p.0 } in
+    let same : more (number_of p.0) ≡ more f.number =
+    steady.2 kind (number_of p.0) ∙ sym (steady.2 kind f.number) in
+    let size : taken.1 ≤ length (drop own front) =
+    omega (arith, length-drop own front, taken.5, enough) in
+    let others =
+    fields_pass m met (i + 1) (more f.number) fields taken.1 (drop own front)
+    (steady.3 f.number) allowed.2 taken.4 size in
+    let rest : drop taken.1 (drop own front) ≡ drop bits front =
+    drop-drop taken.1 own front ∙ ap (λ n. drop n front) (sym taken.5) in (
+      field ∷ others.0,
+      asked_field 1 i m d spec more front (drop own front) p.0 (found_is 1 i _ _ p.1)
+          ∙ ap (λ c. behind_fields (field ∷ []) (fields_at 1 (i + 1) c (drop own front))) same
+          ∙ ap (behind_fields (field ∷ [])) others.1
+          ∙ ap (λ xs. Ok (record { fields = field ∷ others.0; items = met; rest = xs })) rest,
+    )
+
+-- a subset of a tree all of whose subsets are alike is passed where its bits are there and its
+-- items have room, by the laws of unrollings
+pub alike_passes : (tree : Tree) (alike : Alike) (used : ℕ) (front rest : List Bool)
+    → ((tree : Tree) (used : ℕ) (fields : List Told) (met : ℕ)
+    → used ≤ most_items → Allows (course tree used) fields met → Unrolls tree used fields met)
+    → ((tree : Tree) (used : ℕ) (fields : List Told) (met : ℕ)
+    → Unrolls tree used fields met → Allows (course tree used) fields met)
+    → IsAlike tree alike → used + alike.items ≤ most_items → alike.bits ≤ length front
+    → rest ≡ drop alike.bits front
+    → PassesSubset (fields_at 1 1 (course tree used) front) (used + alike.items) rest
+alike_passes tree alike used front rest unrolled allowed is room enough behind =
+    let u = unrolled tree 0 is.fields alike.items (omega arith) is.allowed in
+    let sum : used + alike.items ≡ used + u.1 = omega (arith, u.3) in
+    let here = allowed tree used is.fields (used + alike.items) (u.0, u.1, u.2, sum, room) in
+    subst (PassesSubset (fields_at 1 1 (course tree used) front) (used + alike.items)) (sym behind)
+    (fields_pass used (used + alike.items) 1 (course tree used) is.fields alike.bits front
+    (course_steady tree used) here is.taken enough)

@@ -1,0 +1,129 @@
+-- What is known of a plain subset over which the index moves without building its fields
+-- (`PlainSubsets::index`).
+use Rattle.std.proofs.Common.{◌≡◌, ℕ, ◌+◌, ◌*◌, ◌/◌, ◌<◌, ◌≤◌, Bool, true, false, List, [], ◌∷◌}
+use Rattle.std.proofs.Common.{◌++◌, length, take, drop, Some, None, Result, Ok, Err, refl, sym, ap}
+use Rattle.std.proofs.Common.{◌∙◌, arith}
+use Rattle.std.specs.Prelude.{option_map}
+use Rattle.std.proofs.lemmas.Bool.{le-ltb, lt-ltb, le-leb}
+use Rattle.bufr_bits.specs.Bits.{number, number_at}
+use Rattle.bufr_tables.specs.declared.element.Kind.TheVariants as kinds
+use Rattle.bufr_tables.specs.Elements.{same_kind}
+use Rattle.bufr_expand.specs.declared.operators.Spec.{Spec}
+use Rattle.bufr_data.specs.declared.field.Raw.TheVariants.{Number}
+use Rattle.bufr_data.specs.declared.fault.ReadFault.{ReadFault}
+use Rattle.bufr_data.specs.declared.fault.ReadFault.TheVariants as faults
+use Rattle.bufr_expand.specs.Courses.{Course}
+use Rattle.bufr_data.specs.declared.field.Field.{Field}
+use Rattle.bufr_data.specs.Plain.{SubsetRead, raw_at, field_number_at, fields_at}
+use Rattle.bufr_data.specs.Plain.Reads.{raw_or_ends, behind_fields}
+use Rattle.bufr_data.specs.Plain.Starts.{PassesRaw, PassesField}
+use Rattle.bufr_data.proofs.KindFacts.{other_kind}
+use Rattle.bufr_data.proofs.PlainFacts.Reads.{behind_more}
+use Rattle.bufr_data.proofs.CompressedFacts.Passed.{number_raw, minimum_there, octets_none, text_raw}
+
+-- ---- one raw value
+
+-- a spec of no text
+abbrev IsOther : Spec → Type 0
+IsOther spec = spec.kind ≡ kinds.Text → ⊥
+
+-- eight times in either order
+eight_times : (b w : ℕ) → b ≡ 8 * w → b ≡ w * 8
+eight_times b w e = omega (arith, e)
+
+-- a text that is there is passed
+pub text_passes : (i : ℕ) (spec : Spec) (front rest : List Bool) (b w : ℕ) → spec.kind ≡ kinds.Text
+    → b ≡ 8 * w → w ≡ spec.width / 8 → b ≤ length front → rest ≡ drop b front
+    → PassesRaw i spec front rest
+text_passes i spec front rest b w is times eighth enough behind =
+    let size : b ≡ spec.width / 8 * 8 = eight_times b w times ∙ ap (λ n. n * 8) eighth in
+    (_, ap (raw_or_ends 1 i) (minimum_there spec front rest b is size enough behind))
+
+-- one that is not ends the data
+pub text_ends : (i : ℕ) (spec : Spec) (front : List Bool) (b w : ℕ) → spec.kind ≡ kinds.Text
+    → b ≡ 8 * w → w ≡ spec.width / 8 → length front < b
+    → raw_or_ends 1 i (raw_at spec front) ≡ Err (faults.DataEnds 1 i)
+text_ends i spec front b w is times eighth short =
+    let size : b ≡ spec.width / 8 * 8 = eight_times b w times ∙ ap (λ n. n * 8) eighth in
+    let less : length front < spec.width / 8 * 8 = omega (arith, size, short) in
+    rw (text_raw spec front is, octets_none (spec.width / 8) front less) refl
+
+-- a field of 64 bits at most has a number where its bits are there
+there : (width : ℕ) (front : List Bool) → width ≤ 64
+    → field_number_at width front ≡ number_at width front
+there width front few = rw (le-leb width 64 few) refl
+
+-- a number is the front of enough bits
+number_found : (width : ℕ) (front : List Bool) → width ≤ length front
+    → number_at width front ≡ Some (number (take width front), drop width front)
+unfolding number_at
+number_found width front long = rw (le-ltb (length front) width long) refl
+
+-- too few bits have none
+number_missing : (width : ℕ) (front : List Bool) → length front < width
+    → number_at width front ≡ None
+unfolding number_at
+number_missing width front short = rw (lt-ltb (length front) width short) refl
+
+-- a raw value of no text is a number
+raw_number : (spec : Spec) (front : List Bool) → same_kind spec.kind kinds.Text ≡ false
+    → spec.width ≤ 64
+    → raw_at spec front ≡ option_map (λ x. (Number x.0, x.1)) (number_at spec.width front)
+raw_number spec front other few =
+    number_raw spec.kind spec.width front other
+    ∙ ap (option_map (λ x. (Number x.0, x.1))) (there spec.width front few)
+
+-- one that is there is read
+pub number_taken : (i : ℕ) (spec : Spec) (front rest : List Bool) (n : ℕ)
+    → same_kind spec.kind kinds.Text ≡ false → spec.width ≤ 64
+    → number_at spec.width front ≡ Some (n, rest)
+    → raw_or_ends 1 i (raw_at spec front) ≡ Ok (Number n, rest)
+number_taken i spec front rest n other few found =
+    ap (raw_or_ends 1 i)
+    (raw_number spec front other few ∙ ap (option_map (λ x. (Number x.0, x.1))) found)
+
+-- one that is not ends the data
+pub number_short : (i : ℕ) (spec : Spec) (front : List Bool)
+    → same_kind spec.kind kinds.Text ≡ false → spec.width ≤ 64 → number_at spec.width front ≡ None
+    → raw_or_ends 1 i (raw_at spec front) ≡ Err (faults.DataEnds 1 i)
+number_short i spec front other few none =
+    ap (raw_or_ends 1 i)
+    (raw_number spec front other few ∙ ap (option_map (λ x. (Number x.0, x.1))) none)
+
+-- a number that is there is passed
+pub number_passes : (i : ℕ) (spec : Spec) (front rest : List Bool) (b : ℕ) → IsOther spec
+    → spec.width ≤ 64 → b ≡ spec.width → b ≤ length front → rest ≡ drop b front
+    → PassesRaw i spec front rest
+number_passes i spec front rest b other few size enough behind =
+    let long : spec.width ≤ length front = omega (arith, size, enough) in
+    let same : drop spec.width front ≡ rest = sym (behind ∙ ap (λ w. drop w front) size) in (
+      _,
+      number_taken i spec front rest (number (take spec.width front))
+          (other_kind spec.kind kinds.Text other) few
+          (number_found spec.width front long
+          ∙ ap (λ xs. Some (number (take spec.width front), xs)) same),
+    )
+
+-- one that is not ends the data
+pub number_ends : (i : ℕ) (spec : Spec) (front : List Bool) (b : ℕ) → IsOther spec → spec.width ≤ 64
+    → b ≡ spec.width → length front < b
+    → raw_or_ends 1 i (raw_at spec front) ≡ Err (faults.DataEnds 1 i)
+number_ends i spec front b other few size short =
+    let less : length front < spec.width = omega (arith, size, short) in
+    number_short i spec front (other_kind spec.kind kinds.Text other) few
+    (number_missing spec.width front less)
+
+-- ---- field after field
+
+-- one field more was passed
+pub one_passed : (whole : Result SubsetRead ReadFault) (i j : ℕ) (c next : Course)
+    (front rest : List Bool) (items : ℕ) → j ≡ i + 1
+    → (fields : List Field) × (whole ≡ behind_fields fields (fields_at 1 i c front))
+    → PassesField i c front true next items rest
+    → (fields : List Field) × (whole ≡ behind_fields fields (fields_at 1 j next rest))
+one_passed whole i j c next front rest items index so_far step = (
+  so_far.0 ++ step.0 ∷ [],
+  so_far.1 ∙ ap (behind_fields so_far.0) step.1
+      ∙ behind_more so_far.0 step.0 (fields_at 1 (i + 1) next rest)
+      ∙ ap (λ n. behind_fields (so_far.0 ++ step.0 ∷ []) (fields_at 1 n next rest)) (sym index),
+)

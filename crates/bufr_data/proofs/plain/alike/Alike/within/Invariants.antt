@@ -1,0 +1,21 @@
+-- The loop of `Alike::within`: the fields so far, and the bits that they take.
+use Rattle.std.proofs.Common.{◌+◌, ◌-◌, ◌≤◌}
+use Rattle.bufr_expand.specs.Courses.{course}
+use Rattle.bufr_expand.specs.Walks as walks
+use Rattle.bufr_expand.specs.Limits.{most_items}
+use Rattle.bufr_data.specs.Steady.{IsReady}
+use Rattle.bufr_data.proofs.PlainFacts.Alike.{Measured}
+use Rattle.bufr_data.proofs.plain.alike.Alike.within.Given as goal
+
+-- the fields so far take so many bits, at most as many as asked, and the walk can go on behind them
+abbrev pub invariant-loop-spec : goal.invariant-loop-spec
+invariant-loop-spec l = record {
+  ready : IsReady l.walk;
+  few : l.bits ≤ l.most;
+  limit : walks.items_met l.walk ≤ most_items;
+  so_far : Measured (course l.template 0) l.bits (walks.left l.walk);
+}
+
+-- each turn meets an item more, and a message has only so many
+abbrev pub decreases-loop-spec : goal.decreases-loop-spec
+decreases-loop-spec l = most_items + 1 - walks.items_met l.walk

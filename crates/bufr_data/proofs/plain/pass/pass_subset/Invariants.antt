@@ -1,0 +1,29 @@
+-- The loop of `pass_subset`: the fields passed so far.
+use Rattle.std.proofs.Common.{◌≡◌, ◌≤◌, ◌+◌, ◌-◌, List}
+use Rattle.bufr_bits.specs.Ends.{left}
+use Rattle.bufr_expand.specs.Courses.{course}
+use Rattle.bufr_expand.specs.Walks as walks
+use Rattle.bufr_expand.specs.Limits.{most_items}
+use Rattle.bufr_data.specs.declared.field.Field.{Field}
+use Rattle.bufr_data.specs.Plain.{fields_at}
+use Rattle.bufr_data.specs.Plain.Reads.{behind_fields}
+use Rattle.bufr_data.specs.Steady.{IsReady}
+use Rattle.bufr_data.proofs.plain.pass.pass_subset.Given as goal
+
+-- what is read of the subset is the fields passed so far and what is read behind them
+abbrev pub invariant-loop-fault : goal.invariant-loop-fault
+invariant-loop-fault l = record {
+  ready : IsReady l.walk;
+  few : l.i ≤ most_items + 1;
+  items : l.i ≤ walks.items_met l.walk + 1;
+  octets : l.reader.octets ≡ l.fn.reader.octets;
+  onward : l.fn.reader.place ≤ l.reader.place;
+  so_far : (fields : List Field)
+      ×
+      (fields_at 1 1 (course l.template l.fn.used) (left l.fn.reader)
+      ≡ behind_fields fields (fields_at 1 l.i (walks.left l.walk) (left l.reader)));
+}
+
+-- each turn meets an item more, and a message has only so many
+abbrev pub decreases-loop-fault : goal.decreases-loop-fault
+decreases-loop-fault l = most_items + 1 - walks.items_met l.walk

@@ -1,0 +1,108 @@
+-- Compressed data (FM 94 BUFR, regulation 94.6.3): a column for each place of the subsets, which
+-- holds the value of that place in each subset.
+use Rattle.std.specs.Prelude.{◌≡◌, ℕ, zero, suc, ◌+◌, ◌-◌, ◌*◌, ◌/◌, ◌^◌, ◌<◌, ◌≤◌, Bool, List, []}
+use Rattle.std.specs.Prelude.{◌∷◌, ◌++◌, length, map, replicate, get_or}
+use Rattle.std.specs.List.{AllByRecursion, flat_map}
+use Rattle.bufr_bits.specs.Bits.{bin, bits}
+use Rattle.bufr_tables.specs.declared.element.Kind.TheVariants as kinds
+use Rattle.bufr_expand.specs.declared.operators.Spec.{Spec}
+use Rattle.bufr_data.specs.declared.field.Raw.{Raw}
+use Rattle.bufr_data.specs.declared.field.Raw.TheVariants.{Number, Text}
+use Rattle.bufr_data.specs.declared.field.Field.{Field}
+use Rattle.bufr_data.specs.declared.field.Subset.{Subset}
+use Rattle.bufr_data.specs.Plain.{raw_bits}
+use Rattle.bufr_data.specs.Fits.{HasForm}
+use Rattle.bufr_data.specs.Limits.{most_values}
+pub mod Best
+pub mod Causes
+pub mod Indexed
+pub mod Laws
+pub mod Passed
+pub mod Places
+pub mod Reading
+
+-- ---- the bits of a column
+
+-- the members of two lists belong together, one by one
+abbrev pub Pairwise : {A B : Type 0} → (A → B → Type 0) → List A → List B → Type 0
+Pairwise Belong [] [] = Unit {0}
+Pairwise Belong (x ∷ xs) (y ∷ ys) = Belong x y × Pairwise Belong xs ys
+Pairwise Belong [] (y ∷ ys) = ⊥
+Pairwise Belong (x ∷ xs) [] = ⊥
+
+-- the value of an increment of NBINC bits: the minimum and the increment, a number of the field; or
+-- a missing value, all bits one, where all bits of the increment are one
+pub data HasIncrement (width minimum nbinc increment : ℕ) (value : Raw) : Type 0 where
+  above : increment + 1 < 2 ^ nbinc → minimum + increment < 2 ^ width
+      → value ≡ Number (minimum + increment) → HasIncrement width minimum nbinc increment value
+  missing : increment + 1 ≡ 2 ^ nbinc → value ≡ Number (2 ^ width - 1)
+      → HasIncrement width minimum nbinc increment value
+
+-- the value of a text of NBINC octets in a field of more: it is filled with spaces; or a missing
+-- value, all bits one, where all bits of the text are one
+pub data HasText (octets nbinc : ℕ) (own : List ℕ) (value : Raw) : Type 0 where
+  filled : length own ≡ nbinc → AllByRecursion (λ x. x < 256) own
+      → (own ≡ replicate nbinc 255 → ⊥)
+      → value ≡ Text (own ++ replicate (octets - nbinc) 32) → HasText octets nbinc own value
+  ones : own ≡ replicate nbinc 255 → value ≡ Text (replicate octets 255)
+      → HasText octets nbinc own value
+
+-- the bits of the values of one place: the minimum R0 as a value of the field, the width NBINC of
+-- the increments in six bits, and an increment for each subset. With NBINC 0 all values are R0 and
+-- there are no increments. In columns of texts NBINC counts octets, and where it is not 0 R0 says
+-- nothing
+pub data IsColumn (spec : Spec) (values : List Raw) (column : List Bool) : Type 0 where
+  equal : (minimum : Raw) → HasForm spec minimum → AllByRecursion (λ v. v ≡ minimum) values
+      → column ≡ raw_bits spec.width minimum ++ bin 6 0 → IsColumn spec values column
+  numbers : (minimum nbinc : ℕ) (increments : List ℕ) → HasForm spec (Number minimum)
+      → 0 < nbinc → nbinc < 2 ^ 6
+      → Pairwise (HasIncrement spec.width minimum nbinc) increments values
+      → column ≡ bin spec.width minimum ++ bin 6 nbinc ++ flat_map (bin nbinc) increments
+      → IsColumn spec values column
+  texts : (ignored : List ℕ) (nbinc : ℕ) (own : List (List ℕ)) → HasForm spec (Text ignored)
+      → 0 < nbinc → nbinc < 2 ^ 6 → nbinc ≤ spec.width / 8
+      → Pairwise (HasText (spec.width / 8) nbinc) own values
+      → column ≡ bits ignored ++ bin 6 nbinc ++ flat_map bits own
+      → IsColumn spec values column
+
+-- ---- columns of subsets
+
+-- one place of the subsets: its descriptor, its spec, and its value in each subset
+pub record Column : Type 0 where
+  pub fxy : ℕ
+  pub spec : Spec
+  pub values : List Raw
+
+-- the values of a factor are the same in all subsets (regulation 94.5.4.3 under 94.6.3)
+abbrev pub HaveOneCount : Column → Type 0
+HaveOneCount c = c.spec.kind ≡ kinds.Count → (v : Raw) × AllByRecursion (λ w. w ≡ v) c.values
+
+-- bits that are the columns of so many subsets, joined
+abbrev pub AreColumns : ℕ → List Column → List Bool → Type 0
+AreColumns count [] front = front ≡ []
+AreColumns count (c ∷ cs) front =
+    (column others : List Bool) × (front ≡ column ++ others) × (length c.values ≡ count)
+    × IsColumn c.spec c.values column × HaveOneCount c × AreColumns count cs others
+
+-- the field of a column in the subset at an index, from 0
+abbrev pub field_of : ℕ → Column → Field
+field_of index c = record { fxy = c.fxy; spec = c.spec; raw = get_or c.values index (Number 0) }
+
+-- the subset at an index, from 0: the value there of each column
+abbrev pub subset_of : List Column → ℕ → Subset
+subset_of columns index = record { fields = map (field_of index) columns }
+
+-- so many subsets, from the one at an index on
+abbrev pub subsets_from : ℕ → ℕ → List Column → List Subset
+subsets_from index zero columns = []
+subsets_from index (suc count) columns =
+    subset_of columns index ∷ subsets_from (index + 1) count columns
+
+-- bits that hold subsets column by column: all of them have the same descriptors and specs, and
+-- there are 67,108,864 values at most. Without subsets there are no bits
+abbrev pub Packed : List Subset → List Bool → Type 0
+Packed [] front = front ≡ []
+Packed (s ∷ subsets) front =
+    (columns : List Column) × (s ∷ subsets ≡ subsets_from 0 (length (s ∷ subsets)) columns)
+    × (length columns * length (s ∷ subsets) ≤ most_values)
+    × AreColumns (length (s ∷ subsets)) columns front

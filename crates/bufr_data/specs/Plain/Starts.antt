@@ -1,0 +1,60 @@
+-- Plain data that are indexed: where each subset begins, and its fields there (FM 94 BUFR,
+-- regulations 94.1.3 and 94.5).
+use Rattle.std.specs.Prelude.{◌≡◌, ℕ, ◌+◌, ◌*◌, ◌≤◌, Bool, true, false, List, [], ◌∷◌, drop, length}
+use Rattle.std.specs.Prelude.{Result, Ok, Err, IsOk}
+use Rattle.std.specs.List.{AllByRecursion}
+use Rattle.bufr_bits.specs.Bits.{bits}
+use Rattle.bufr_expand.specs.declared.operators.Spec.{Spec}
+use Rattle.bufr_expand.specs.Courses.{Course, course}
+use Rattle.bufr_expand.specs.Trees.{Tree}
+use Rattle.bufr_data.specs.declared.field.Raw.{Raw}
+use Rattle.bufr_data.specs.declared.field.Field.{Field}
+use Rattle.bufr_data.specs.declared.field.Subset.{Subset}
+use Rattle.bufr_data.specs.declared.fault.ReadFault.{ReadFault}
+use Rattle.bufr_data.specs.declared.plain.index.SubsetStart.{SubsetStart}
+use Rattle.bufr_data.specs.Plain.{SubsetRead, raw_at, fields_at}
+use Rattle.bufr_data.specs.Plain.Reads.{raw_or_ends, behind_fields}
+
+-- ---- moving past a subset
+
+-- field i of the subset stands at the front, and these bits are left
+abbrev pub PassesRaw : ℕ → Spec → List Bool → List Bool → Type 0
+PassesRaw i spec front rest =
+    (raw : Raw) × (raw_or_ends 1 i (raw_at spec front) ≡ Ok (raw, rest))
+
+-- field i of the subset was passed; or there is none, and the message has met so many items
+abbrev pub PassesField : ℕ → Course → List Bool → Bool → Course → ℕ → List Bool → Type 0
+PassesField i course front true after items rest =
+    (field : Field)
+    × (fields_at 1 i course front ≡ behind_fields (field ∷ []) (fields_at 1 (i + 1) after rest))
+PassesField i course front false after items rest =
+    fields_at 1 i course front ≡ Ok (record { fields = []; items = items; rest = rest })
+
+-- a subset was passed: there are fields with which the message has met so many items, and these
+-- bits are left
+abbrev pub PassesSubset : Result SubsetRead ReadFault → ℕ → List Bool → Type 0
+PassesSubset found items rest =
+    (fields : List Field) × (found ≡ Ok (record { fields = fields; items = items; rest = rest }))
+
+-- ---- the subset at a place
+
+-- the fields that were read
+abbrev pub fields_of : Result SubsetRead ReadFault → List Field
+fields_of (Ok found) = found.fields
+fields_of (Err e) = []
+
+-- what is read from the place on where a subset begins
+abbrev pub subset_at : List ℕ → Tree → SubsetStart → Result SubsetRead ReadFault
+subset_at octets tree s = fields_at 1 1 (course tree s.used) (drop s.bit (bits octets))
+
+-- the subset that begins there
+abbrev pub subset_from : List ℕ → Tree → SubsetStart → Subset
+subset_from octets tree s = record { fields = fields_of (subset_at octets tree s) }
+
+-- a subset begins there
+abbrev pub BeginsAtStart : List ℕ → Tree → SubsetStart → Type 0
+BeginsAtStart octets tree s = (s.bit ≤ 8 * length octets) × IsOk (subset_at octets tree s)
+
+-- a subset begins at each start
+abbrev pub AllBegin : List ℕ → Tree → List SubsetStart → Type 0
+AllBegin octets tree starts = AllByRecursion (BeginsAtStart octets tree) starts

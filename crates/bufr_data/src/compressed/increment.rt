@@ -1,0 +1,49 @@
+//! Increments of numbers in compressed data.
+
+ghost use Rattle.std.specs.Prelude.{◌≡◌, ◌≤◌, ◌<◌, ◌+◌, ◌^◌, option_map, IfSome, nat_lt};
+ghost use Rattle.bufr_data.specs.declared.field.Raw.TheVariants.{Number};
+ghost use Rattle.bufr_data.specs.Compressed.Reading as reading;
+ghost use Rattle.bufr_data.specs.Limits.{most_raw_bits};
+
+use crate::form::is_greatest;
+use crate::limits::MOST_RAW_BITS;
+
+/// The number of an increment of `k` bits above a minimum in a field of so many bits: all ones
+/// where the increment is all ones. `None` where the sum passes the field's greatest number.
+pub(crate) fn raised(width: u32, minimum: u64, k: u32, increment: u64) -> Option<u64>
+    requires narrow { width ≤ most_raw_bits }
+    requires few { k < 2 ^ 6 }
+    ensures value { option_map (λ n. Number n) result ≡ reading.raised width minimum k increment }
+    ensures fits { IfSome result (λ n. n < 2 ^ width) }
+{
+    if is_greatest(increment, k) {
+        return Some(greatest(width));
+    }
+    let value = u128::from(minimum) + u128::from(increment);
+    if value < 1 << width {
+        Some(value as u64)
+    } else {
+        None
+    }
+}
+
+/// The greatest number of a field of so many bits.
+fn greatest(width: u32) -> u64
+    requires { width ≤ most_raw_bits }
+    ensures { result + 1 ≡ 2 ^ width }
+{
+    if width == MOST_RAW_BITS {
+        u64::MAX
+    } else {
+        (1 << width) - 1
+    }
+}
+
+/// Whether no increment of `k` bits passes the greatest number of a field of so many bits.
+pub(crate) fn never_passes(width: u32, minimum: u64, k: u32) -> bool
+    requires narrow { width ≤ most_raw_bits }
+    requires few { k < 2 ^ 6 }
+    ensures { result ≡ nat_lt (minimum + 2 ^ k) (2 ^ width + 2) }
+{
+    u128::from(minimum) + (1 << k) < (1u128 << width) + 2
+}

@@ -1,0 +1,245 @@
+//! Compressed data, one subset at a time.
+
+ghost use Rattle.std.specs.Prelude.{◌≡◌, ◌-◌, ◌<◌, ◌≤◌, map, get_or, true, Bool, List, Ok, Err};
+ghost use Rattle.std.specs.Prelude.{IfOk, IfErr, OnErr, OnSome, ◌+◌};
+ghost use Rattle.bufr_bits.specs.Ends.{left};
+ghost use Rattle.bufr_answers.specs.Answers.{Gives};
+ghost use Rattle.bufr_expand.specs.Walks as walks;
+ghost use Rattle.bufr_expand.specs.Limits.{most_items};
+ghost use Rattle.bufr_data.specs.declared.field.Raw.TheVariants.{Number};
+ghost use Rattle.bufr_data.specs.declared.field.Subset.{Subset};
+ghost use Rattle.bufr_data.specs.Compressed.Reading as reading;
+ghost use Rattle.bufr_data.specs.Compressed.Reading.{ColumnsFound, columns_at};
+ghost use Rattle.bufr_data.specs.Plain.{stopped};
+ghost use Rattle.bufr_data.specs.Compressed.{subset_of, subsets_from};
+ghost use Rattle.bufr_data.specs.Data.{subsets_in};
+ghost use Rattle.bufr_data.specs.Compressed.Indexed.{Indexed, Ahead, Opens, PassesPlace, column_from};
+ghost use Rattle.bufr_data.specs.Compressed.Indexed.{index_at};
+ghost use Rattle.bufr_data.specs.Steady.{IsReady, WalkAdvances};
+
+use crate::compressed::pass::{pass_column, pass_factor};
+use crate::compressed::value::column_value;
+use crate::fault::ReadFault;
+use crate::field::{Field, Raw, Subset};
+use crate::limits::MOST_VALUES;
+use crate::plain::read::fault_of;
+use bufr_answers::{Failure, Items, OutOfMemory};
+use bufr_bits::BitReader;
+use bufr_expand::{Spec, Step, Template, Walk, WalkFault};
+use bufr_tables::Fxy;
+use std::alloc::Global;
+use std::marker::Model;
+
+/// Where a column begins.
+#[derive(Clone, Copy, Debug, PartialEq)]
+pub(crate) struct Place {
+    fxy: Fxy,
+    spec: Spec,
+    bit: u128,
+}
+
+/// The columns of compressed subsets. It keeps where each column begins, and borrows the octets.
+#[derive(Debug, Drop)]
+pub struct Columns<'a> {
+    octets: &'a [u8],
+    subsets: u16,
+    places: Vec<Place>,
+}
+
+impl<'a> Model for Columns<'a> {
+    ghost use Rattle.std.specs.Prelude.{map};
+    ghost use Rattle.bufr_data.specs.Compressed.Indexed.{Indexed, AllOpen, column_from};
+
+    ghost Value = { Indexed };
+
+    ghost view = { λ c. record {
+      subsets = c.subsets;
+      columns =
+          map (column_from c.octets.now c.subsets) c.places.items;
+    } };
+
+    ghost invariant = { λ c. AllOpen c.octets.now c.subsets c.places.items };
+}
+
+impl<'a> Columns<'a> {
+    /// The columns of so many subsets at the front of the bits (94.6.3). The reader moves past
+    /// exactly their bits; on an error it stays where it is. The first fault is answered, at one
+    /// field in this order: V6 `TooLarge` where an item would be the 16,777,217th or with this
+    /// field there would be more than 67,108,864 values, V1 `EffectiveRange`, V2 `DataEnds` with
+    /// subset 0 where minimum or width are not all there, V5 `CharIncrement`, V2 where the
+    /// increments are not all there, V4 `IncrementRange` with the subset, from 1, V3
+    /// `UnequalCounts`. `OutOfMemory` where a growth was refused.
+    pub fn index(
+        alloc: Global,
+        template: &Template,
+        reader: &mut BitReader<'a>,
+        subsets: u16,
+    ) -> Result<Columns<'a>, Failure<ReadFault>>
+        ensures exact { Gives {Y = Ahead} (λ c. record { index = c; rest = left reader.new }) result
+            (index_at template.now subsets (left reader.old)) }
+        ensures octets { reader.new.octets ≡ reader.old.octets }
+        ensures err { OnErr result (reader.new ≡ reader.old) }
+        ensures onward { reader.old.place ≤ reader.new.place }
+    {
+        let place = reader.place();
+        let answer = index_columns(alloc, template, reader, subsets);
+        if answer.is_err() {
+            reader.return_to(place);
+        }
+        answer
+    }
+
+    /// How many subsets there are.
+    pub fn count(&self) -> u16
+        ensures { result ≡ self.now.subsets }
+    {
+        self.subsets
+    }
+
+    /// The subset of this number, from 1. `OutOfMemory` where a growth was refused.
+    pub fn subset(&self, alloc: Global, number: u16) -> Result<Subset, OutOfMemory>
+        requires first { 1 ≤ number }
+        requires last { number ≤ self.now.subsets }
+        ensures { IfOk result (λ s. s ≡ subset_of self.now.columns (number - 1)) }
+    {
+        let mut fields = Vec::new(alloc);
+        for place in self.places.iter() {
+            let raw = value(alloc, self.octets, self.subsets, *place, number - 1)?;
+            fields.push(Field {
+                fxy: place.fxy,
+                spec: place.spec,
+                raw,
+            })?;
+        }
+        let fields = Items::from_vec(fields);
+        Ok(Subset { fields })
+    }
+}
+
+/// The columns of so many subsets at the front of the bits. After an error the reader may have
+/// moved on.
+fn index_columns<'a>(
+    alloc: Global,
+    template: &Template,
+    reader: &mut BitReader<'a>,
+    subsets: u16,
+) -> Result<Columns<'a>, Failure<ReadFault>>
+    ensures exact { Gives {Y = Ahead} (λ c. record { index = c; rest = left reader.new }) result
+        (index_at template.now subsets (left reader.old)) }
+    ensures octets { reader.new.octets ≡ reader.old.octets }
+    ensures onward { reader.old.place ≤ reader.new.place }
+{
+    let octets = reader.octets();
+    let mut places = Vec::new(alloc);
+    if subsets == 0 {
+        return Ok(Columns {
+            octets,
+            subsets,
+            places,
+        });
+    }
+    let mut walk = Walk::start(alloc, template, 0)?;
+    loop {
+        let i = places.len() as u64 + 1;
+        match next_place(&mut walk, reader, subsets, i) {
+            Err(fault) => return Err(Failure::Fault(fault)),
+            Ok(None) => return Ok(Columns {
+                octets,
+                subsets,
+                places,
+            }),
+            Ok(Some(place)) => places.push(place)?,
+        }
+    }
+}
+
+/// Where the column of field `i` begins, which is passed, or `None` at the end of the subsets.
+fn next_place(
+    walk: &mut Walk,
+    reader: &mut BitReader,
+    n: u16,
+    i: u64,
+) -> Result<Option<Place>, ReadFault>
+    requires ready { IsReady walk.old }
+    requires some { 0 < n }
+    requires few { i ≤ most_items + 1 }
+    ensures ok { IfOk result (λ place. PassesPlace n i (walks.left walk.old) reader.old.octets
+        (left reader.old) place (walks.left walk.new) (left reader.new)) }
+    ensures advances { IfOk result (λ place. OnSome place (WalkAdvances walk.old walk.new)) }
+    ensures err { IfErr result (λ fault. columns_at n i (walks.left walk.old) (left reader.old)
+        ≡ Err fault) }
+    ensures octets { reader.new.octets ≡ reader.old.octets }
+    ensures onward { reader.old.place ≤ reader.new.place }
+{
+    let bit = reader.place();
+    let step = match walk.next() {
+        Err(fault) => return Err(stop_fault(fault, n, i)),
+        Ok(step) => step,
+    };
+    match step {
+        Step::End => Ok(None),
+        Step::Field(fxy, spec) => {
+            within_limit(n, i)?;
+            pass_column(reader, spec, n, i)?;
+            Ok(Some(Place { fxy, spec, bit }))
+        }
+        Step::Count(fxy, spec) => {
+            within_limit(n, i)?;
+            let number = pass_factor(reader, spec, n, i)?;
+            walk.count(number);
+            Ok(Some(Place { fxy, spec, bit }))
+        }
+    }
+}
+
+/// Nothing, where `i` fields of `n` subsets are no more values than compressed data may have.
+fn within_limit(n: u16, i: u64) -> Result<(), ReadFault>
+    requires { i ≤ most_items + 1 }
+    ensures { result ≡ reading.within_limit n i (Ok tt) }
+{
+    if i * u64::from(n) > MOST_VALUES {
+        return Err(ReadFault::TooLarge);
+    }
+    Ok(())
+}
+
+/// The fault of field `i` of `n` subsets, at which the walk stops.
+fn stop_fault(fault: WalkFault, n: u16, i: u64) -> ReadFault
+    requires { i ≤ most_items + 1 }
+    ensures { reading.within_limit {A = ColumnsFound} n i (stopped fault) ≡ Err result }
+{
+    match within_limit(n, i) {
+        Err(past) => past,
+        Ok(()) => fault_of(fault),
+    }
+}
+
+/// The value at this index in the column of so many subsets that begins at a place.
+fn value(
+    alloc: Global,
+    octets: &[u8],
+    subsets: u16,
+    place: Place,
+    index: u16,
+) -> Result<Raw, OutOfMemory>
+    requires stands { Opens octets.now subsets place }
+    requires inside { index < subsets }
+    ensures { IfOk result (λ v. v ≡ get_or (column_from octets.now subsets place).values index
+        (Number 0)) }
+{
+    let mut reader = BitReader::at(octets, place.bit);
+    let value = column_value(alloc, &mut reader, place.spec, index)?;
+    Ok(value.unwrap())
+}
+
+/// All subsets, from the first on.
+pub(crate) fn all_subsets(alloc: Global, columns: &Columns) -> Result<Items<Subset>, OutOfMemory>
+    ensures { IfOk result (λ subsets. subsets ≡ subsets_from 0 columns.now.subsets
+        columns.now.columns) }
+{
+    let mut subsets = Vec::new(alloc);
+    for index in 0..columns.subsets {
+        subsets.push(columns.subset(alloc, index + 1)?)?;
+    }
+    Ok(Items::from_vec(subsets))
+}

@@ -1,0 +1,137 @@
+//! The places of subsets that are written compressed.
+
+ghost use Rattle.std.specs.Prelude.{◌≡◌, ◌∷◌, ◌==◌, ◌&&◌, map, drop, Ok, Err, OnOk, IfErr};
+ghost use Rattle.std.specs.List.{list_all};
+ghost use Rattle.bufr_data.specs.Compressed.Best as best;
+ghost use Rattle.bufr_data.specs.Compressed.Best.{begins_like, first_raw, is_empty, columns_of};
+ghost use Rattle.bufr_data.specs.Compressed.Reading as reading;
+ghost use Rattle.bufr_data.specs.Plain.{same_spec};
+ghost use Rattle.bufr_data.specs.Compressed.Places.{rows_from, values_from, columns_here};
+
+use crate::fault::WriteFault;
+use crate::field::{Field, Raw, Subset};
+use crate::form::is_same;
+use crate::limits::MOST_INCREMENT_BITS;
+use bufr_expand::Spec;
+use bufr_tables::Kind;
+
+/// Nothing, where each place of the first subset's fields can stand in one column with those of the
+/// other subsets, and none of these has more; else E2 with the first place that cannot, from 1.
+pub(crate) fn check_places(fields: &[Field], others: &[Subset]) -> Result<(), WriteFault>
+    ensures ok { OnOk result (columns_of 1 fields.now (rows_from 0 others.now)
+        ≡ Ok (columns_here fields.now (rows_from 0 others.now))) }
+    ensures err { IfErr result (λ fault. columns_of 1 fields.now (rows_from 0 others.now)
+        ≡ Err fault) }
+{
+    for (place, field) in fields.iter().enumerate() {
+        if !is_one_place(field, others, place) {
+            return Err(WriteFault::NotCompressible(place as u64 + 1));
+        }
+    }
+    if have_ended(others, fields.len()) {
+        Ok(())
+    } else {
+        Err(WriteFault::NotCompressible(fields.len() as u64 + 1))
+    }
+}
+
+/// Whether a field of the first subset and those of the others at its place can stand in one
+/// column.
+fn is_one_place(field: &Field, others: &[Subset], place: usize) -> bool
+    ensures { result ≡ (list_all (begins_like field.now) (rows_from place others.now)
+        && best.can_be_column field.now.spec (values_from field.now (rows_from place others.now))) }
+{
+    are_alike(field, others, place)
+        && (are_equal(&field.raw, others, place) || can_differ(field.spec))
+}
+
+/// Whether differing values of this spec can stand in a column: no factor, and at most 63 bits or,
+/// of a text, 63 octets.
+fn can_differ(spec: Spec) -> bool
+    ensures { result ≡ best.can_differ spec }
+{
+    match spec.kind {
+        Kind::Count => false,
+        Kind::Text => spec.width / 8 <= MOST_INCREMENT_BITS,
+        _ => spec.width <= MOST_INCREMENT_BITS,
+    }
+}
+
+/// Whether the other subsets have a field of this descriptor and this spec at a place.
+fn are_alike(field: &Field, others: &[Subset], place: usize) -> bool
+    ensures { result ≡ list_all (begins_like field.now) (rows_from place others.now) }
+{
+    for other in others {
+        if !is_alike(field, other, place) {
+            return false;
+        }
+    }
+    true
+}
+
+fn is_alike(field: &Field, other: &Subset, place: usize) -> bool
+    ensures { result ≡ begins_like field.now (drop place other.now.fields) }
+{
+    match other.fields.get(place) {
+        None => false,
+        Some(own) => is_like(field, own),
+    }
+}
+
+fn is_like(field: &Field, own: &Field) -> bool
+    ensures { result ≡ (field.now.fxy == own.now.fxy && same_spec own.now.spec field.now.spec) }
+{
+    field.fxy == own.fxy && is_same(own.spec, field.spec)
+}
+
+/// Whether the other subsets have this value at a place.
+pub(crate) fn are_equal(raw: &Raw, others: &[Subset], place: usize) -> bool
+    ensures { result ≡ reading.all_equal (raw.now ∷ map first_raw (rows_from place others.now)) }
+{
+    for other in others {
+        if !has_raw(raw, other, place) {
+            return false;
+        }
+    }
+    true
+}
+
+fn has_raw(raw: &Raw, other: &Subset, place: usize) -> bool
+    ensures { result ≡ reading.same_raw (first_raw (drop place other.now.fields)) raw.now }
+{
+    match other.fields.get(place) {
+        None => same_raw(&Raw::Number(0), raw),
+        Some(own) => same_raw(&own.raw, raw),
+    }
+}
+
+fn same_raw(a: &Raw, b: &Raw) -> bool
+    ensures { result ≡ reading.same_raw a.now b.now }
+{
+    match (a, b) {
+        (Raw::Number(a), Raw::Number(b)) => a == b,
+        (Raw::Text(a), Raw::Text(b)) => a.as_slice() == b.as_slice(),
+        (_, _) => false,
+    }
+}
+
+/// Whether the other subsets have no field from a place on.
+fn have_ended(others: &[Subset], place: usize) -> bool
+    ensures { result ≡ list_all is_empty (rows_from place others.now) }
+{
+    for other in others {
+        if !has_ended(other, place) {
+            return false;
+        }
+    }
+    true
+}
+
+fn has_ended(other: &Subset, place: usize) -> bool
+    ensures { result ≡ is_empty (drop place other.now.fields) }
+{
+    match other.fields.get(place) {
+        None => true,
+        Some(_) => false,
+    }
+}

@@ -1,0 +1,40 @@
+//! Reading compressed data, all subsets at once.
+
+ghost use Rattle.std.specs.Prelude.{◌≡◌, true, Bool, List, OnErr};
+ghost use Rattle.bufr_bits.specs.Ends.{left};
+ghost use Rattle.bufr_answers.specs.Answers.{Gives};
+ghost use Rattle.bufr_data.specs.declared.field.Subset.{Subset};
+ghost use Rattle.bufr_data.specs.Data.{subsets_in};
+
+use crate::compressed::index::{Columns, all_subsets};
+use crate::fault::ReadFault;
+use crate::field::Subset;
+use bufr_answers::{Failure, Items};
+use bufr_bits::BitReader;
+use bufr_expand::Template;
+use std::alloc::Global;
+
+/// Compressed subsets: so many, whose columns the bits begin with. The reader moves past exactly
+/// their bits; on an error it stays where it is. The first fault is answered, as `Columns::index`
+/// tells it. `OutOfMemory` where a growth was refused.
+pub fn read_compressed(
+    alloc: Global,
+    template: &Template,
+    reader: &mut BitReader,
+    count: u16,
+) -> Result<Items<Subset>, Failure<ReadFault>>
+    ensures exact { Gives {Y = List Subset × List Bool} (λ subsets. (subsets, left reader.new))
+        result (subsets_in template.now true count (left reader.old)) }
+    ensures octets { reader.new.octets ≡ reader.old.octets }
+    ensures err { OnErr result (reader.new ≡ reader.old) }
+{
+    let place = reader.place();
+    let columns = Columns::index(alloc, template, reader, count)?;
+    match all_subsets(alloc, &columns) {
+        Ok(subsets) => Ok(subsets),
+        Err(_) => {
+            reader.return_to(place);
+            Err(Failure::OutOfMemory)
+        }
+    }
+}

@@ -1,0 +1,103 @@
+//! One value of a column of compressed data.
+
+ghost use Rattle.std.specs.Prelude.{◌≡◌, ◌≤◌, ◌<◌, ◌*◌, ◌/◌, length, drop, option_map, get_or};
+ghost use Rattle.std.specs.Prelude.{false, IfOk, Some};
+ghost use Rattle.bufr_bits.specs.Bits.{bits};
+ghost use Rattle.bufr_bits.specs.Ends.{left};
+ghost use Rattle.bufr_tables.specs.declared.element.Kind.TheVariants.{Text};
+ghost use Rattle.bufr_tables.specs.Elements.{same_kind};
+ghost use Rattle.bufr_data.specs.declared.field.Raw.TheVariants as raws;
+ghost use Rattle.bufr_data.specs.Compressed.Reading as reading;
+ghost use Rattle.bufr_data.specs.Compressed.Indexed.{one_at};
+
+use crate::compressed::increment::raised;
+use crate::field::Raw;
+use crate::form::are_ones;
+use crate::limits::MOST_RAW_BITS;
+use bufr_answers::{Items, OutOfMemory};
+use bufr_bits::BitReader;
+use bufr_expand::Spec;
+use bufr_tables::Kind;
+use std::alloc::Global;
+
+/// The value at this index of the column at the front of the bits, where there is one.
+pub(crate) fn column_value(
+    alloc: Global,
+    reader: &mut BitReader,
+    spec: Spec,
+    index: u16,
+) -> Result<Option<Raw>, OutOfMemory>
+    ensures { IfOk result (λ value. value ≡ one_at spec index (left reader.old)) }
+{
+    match spec.kind {
+        Kind::Text => text_value(alloc, reader, spec, index),
+        _ => Ok(number_value(reader, spec, index).map(|number| Raw::Number(number))),
+    }
+}
+
+/// The same of a column of numbers.
+fn number_value(reader: &mut BitReader, spec: Spec, index: u16) -> Option<u64>
+    requires { same_kind spec.kind Text ≡ false }
+    ensures { option_map (λ n. raws.Number n) result ≡ one_at spec index (left reader.old) }
+{
+    if spec.width > MOST_RAW_BITS {
+        return None;
+    }
+    let minimum = reader.take(spec.width)?;
+    let k = reader.take(6)? as u32;
+    if k == 0 {
+        return Some(minimum);
+    }
+    if !reader.pass(u128::from(index) * u128::from(k)) {
+        return None;
+    }
+    let increment = reader.take(k)?;
+    raised(spec.width, minimum, k, increment)
+}
+
+/// The same of a column of texts.
+fn text_value(
+    alloc: Global,
+    reader: &mut BitReader,
+    spec: Spec,
+    index: u16,
+) -> Result<Option<Raw>, OutOfMemory>
+    requires { spec.kind ≡ Text }
+    ensures { IfOk result (λ value. value ≡ one_at spec index (left reader.old)) }
+{
+    let octets = u64::from(spec.width / 8);
+    let start = reader.place();
+    if !reader.pass(8 * u128::from(octets)) {
+        return Ok(None);
+    }
+    let k = match reader.take(6) {
+        None => return Ok(None),
+        Some(k) => k,
+    };
+    if k == 0 {
+        reader.return_to(start);
+        let minimum = reader.take_bytes(alloc, octets)?;
+        return Ok(minimum.map(|text| Raw::Text(Items::from_vec(text))));
+    }
+    if k > octets {
+        return Ok(None);
+    }
+    if !reader.pass(u128::from(index) * (8 * u128::from(k))) {
+        return Ok(None);
+    }
+    match reader.take_bytes(alloc, k)? {
+        None => Ok(None),
+        Some(own) => Ok(Some(Raw::Text(filled(own, octets)?))),
+    }
+}
+
+/// A text in a field of so many octets, which it does not pass: filled with spaces, or all ones
+/// where it is all ones.
+fn filled(mut own: Vec<u8>, octets: u64) -> Result<Items<u8>, OutOfMemory>
+    requires { length own.items ≤ octets }
+    ensures { IfOk result (λ text. raws.Text text ≡ reading.filled octets own.items) }
+{
+    let filler = if are_ones(own.as_slice()) { 255 } else { 32 };
+    own.resize(octets as usize, filler)?;
+    Ok(Items::from_vec(own))
+}

@@ -1,0 +1,186 @@
+//! Plain data, one subset at a time.
+
+ghost use Rattle.std.specs.Prelude.{◌≡◌, ◌-◌, ◌*◌, ◌≤◌, map, length, slice_get, false, Bool, List};
+ghost use Rattle.std.specs.Prelude.{Some, IfOk, IfErr, IfSome};
+ghost use Rattle.bufr_bits.specs.Ends.{left};
+ghost use Rattle.bufr_answers.specs.Answers.{Gives, Fails};
+ghost use Rattle.bufr_expand.specs.Courses.{course};
+ghost use Rattle.bufr_data.specs.declared.field.Subset.{Subset};
+ghost use Rattle.bufr_data.specs.Plain.Alike.{IsAlike};
+ghost use Rattle.bufr_data.specs.Data.{subsets_in};
+ghost use Rattle.bufr_data.specs.Plain.{fields_at};
+ghost use Rattle.bufr_data.specs.Plain.Starts.{PassesSubset, AllBegin, subset_from};
+
+use crate::fault::ReadFault;
+use crate::field::Subset;
+use crate::plain::alike::Alike;
+use crate::plain::pass::pass_subset;
+use crate::plain::read::read_plain;
+use crate::plain::read_each::of_subset;
+use bufr_answers::{Failure, OutOfMemory};
+use bufr_bits::BitReader;
+use bufr_expand::Template;
+use bufr_expand::laws::courses_are_unrollings;
+use std::alloc::Global;
+use std::marker::Model;
+
+/// Where a subset begins, and how many items the message has met before it.
+#[derive(Clone, Copy, Debug, PartialEq)]
+pub(crate) struct SubsetStart {
+    bit: u128,
+    used: u64,
+}
+
+/// The plain subsets of a message. It keeps where each begins, and borrows the octets.
+#[derive(Debug, Drop)]
+pub(crate) struct PlainSubsets<'a> {
+    octets: &'a [u8],
+    template: Template,
+    starts: Vec<SubsetStart>,
+}
+
+impl<'a> Model for PlainSubsets<'a> {
+    ghost use Rattle.std.specs.Prelude.{List, map};
+    ghost use Rattle.bufr_data.specs.declared.field.Subset.{Subset};
+    ghost use Rattle.bufr_data.specs.Plain.Starts.{AllBegin, subset_from};
+
+    ghost Value = { List Subset };
+
+    ghost view = { λ s. map (subset_from s.octets.now s.template) s.starts.items };
+
+    ghost invariant = { λ s. AllBegin s.octets.now s.template s.starts.items };
+}
+
+impl<'a> PlainSubsets<'a> {
+    /// So many subsets, whose data the bits begin with: each is passed once, and none is built. The
+    /// reader moves past exactly their data; after an error it may have moved on.
+    pub(crate) fn index(
+        alloc: Global,
+        template: Template,
+        reader: &mut BitReader<'a>,
+        count: u16,
+    ) -> Result<PlainSubsets<'a>, Failure<ReadFault>>
+        ensures exact { Gives {Y = List Subset × List Bool} (λ subsets. (subsets, left reader.new))
+            result (subsets_in template false count (left reader.old)) }
+        ensures octets { reader.new.octets ≡ reader.old.octets }
+        ensures onward { reader.old.place ≤ reader.new.place }
+    {
+        let octets = reader.octets();
+        let starts = starts_of(alloc, &template, reader, count)?;
+        Ok(PlainSubsets {
+            octets,
+            template,
+            starts,
+        })
+    }
+
+    /// How many there are.
+    pub(crate) fn count(&self) -> usize
+        ensures { result ≡ length self.now }
+    {
+        self.starts.len()
+    }
+
+    /// The subset of this number, from 1. `OutOfMemory` where a growth was refused.
+    pub(crate) fn subset(&self, alloc: Global, number: usize) -> Result<Subset, OutOfMemory>
+        requires first { 1 ≤ number }
+        requires last { number ≤ length self.now }
+        ensures { IfOk result (λ s. slice_get self.now (number - 1) ≡ Some s) }
+    {
+        let start = self.starts[number - 1];
+        let mut reader = BitReader::at(self.octets, start.bit);
+        match read_plain(alloc, &self.template, &mut reader, start.used) {
+            Ok((subset, _)) => Ok(subset),
+            Err(Failure::OutOfMemory) => Err(OutOfMemory),
+            Err(Failure::Fault(_)) => unreachable!(),
+        }
+    }
+}
+
+/// Where so many subsets begin, whose data the bits begin with. After an error the reader may have
+/// moved on. Where the template asks for no count it is walked once, and each subset is then passed
+/// by its bits alone.
+fn starts_of(
+    alloc: Global,
+    template: &Template,
+    reader: &mut BitReader,
+    count: u16,
+) -> Result<Vec<SubsetStart>, Failure<ReadFault>>
+    ensures exact { Gives {Y = List Subset × List Bool}
+        (λ starts. (map (subset_from reader.old.octets template.now) starts.items, left reader.new))
+        result (subsets_in template.now false count (left reader.old)) }
+    ensures stand { IfOk result (λ starts. AllBegin reader.old.octets template.now starts.items) }
+    ensures octets { reader.new.octets ≡ reader.old.octets }
+    ensures onward { reader.old.place ≤ reader.new.place }
+{
+    let alike = if count > 1 {
+        Alike::within(alloc, template, reader.left())?
+    } else {
+        None
+    };
+    let mut starts = Vec::new(alloc);
+    let mut used = 0;
+    for index in 0..count {
+        let bit = bit_of(reader);
+        let items = pass_one(alloc, template, reader, alike, index as u64 + 1, used)?;
+        starts.push(SubsetStart { bit, used })?;
+        used = items;
+    }
+    Ok(starts)
+}
+
+/// How many items the message has met behind the subset of this number, where it had met `used`
+/// before. The reader moves past exactly its bits; after an error it may have moved on. Where all
+/// subsets are alike it is walked only to be refused.
+fn pass_one(
+    alloc: Global,
+    template: &Template,
+    reader: &mut BitReader,
+    alike: Option<Alike>,
+    number: u64,
+    used: u64,
+) -> Result<u64, Failure<ReadFault>>
+    requires { IfSome alike (IsAlike template.now) }
+    ensures ok { IfOk result (λ items. PassesSubset
+        (fields_at 1 1 (course template.now used) (left reader.old)) items (left reader.new)) }
+    ensures err { IfErr result (λ e. Fails e
+        (fields_at number 1 (course template.now used) (left reader.old))) }
+    ensures octets { reader.new.octets ≡ reader.old.octets }
+    ensures onward { reader.old.place ≤ reader.new.place }
+{
+    courses_are_unrollings();
+    match alike {
+        Some(alike) if alike.pass(reader, used) => Ok(used + alike.items),
+        _ => pass_numbered(alloc, template, reader, number, used),
+    }
+}
+
+/// The same, field by field.
+fn pass_numbered(
+    alloc: Global,
+    template: &Template,
+    reader: &mut BitReader,
+    number: u64,
+    used: u64,
+) -> Result<u64, Failure<ReadFault>>
+    ensures ok { IfOk result (λ items. PassesSubset
+        (fields_at 1 1 (course template.now used) (left reader.old)) items (left reader.new)) }
+    ensures err { IfErr result (λ e. Fails e
+        (fields_at number 1 (course template.now used) (left reader.old))) }
+    ensures octets { reader.new.octets ≡ reader.old.octets }
+    ensures onward { reader.old.place ≤ reader.new.place }
+{
+    match pass_subset(alloc, template, reader, used) {
+        Ok(items) => Ok(items),
+        Err(failure) => Err(of_subset(number, failure)),
+    }
+}
+
+/// The bit at which a reader stands, which is no further than its octets end.
+fn bit_of(reader: &BitReader) -> u128
+    ensures is { result ≡ reader.now.place }
+    ensures inside { result ≤ 8 * length reader.now.octets }
+{
+    let _left = reader.left();
+    reader.place()
+}

@@ -1,0 +1,127 @@
+//! Moving past one plain subset, of which only the counts are read.
+
+ghost use Rattle.std.specs.Prelude.{◌≡◌, ◌≤◌, true, Ok, Err, IfOk, IfErr, OnOk, IfSome};
+ghost use Rattle.std.specs.Prelude.{IfNone};
+ghost use Rattle.std.specs.Bool.{OnTrue};
+ghost use Rattle.bufr_bits.specs.Ends.{left};
+ghost use Rattle.bufr_answers.specs.Answers.{Fails};
+ghost use Rattle.bufr_tables.specs.declared.element.Kind.TheVariants.{Count};
+ghost use Rattle.bufr_tables.specs.Elements.{same_kind};
+ghost use Rattle.bufr_expand.specs.Courses.{course};
+ghost use Rattle.bufr_expand.specs.Walks as walks;
+ghost use Rattle.bufr_data.specs.declared.field.Raw.TheVariants.{Number};
+ghost use Rattle.bufr_data.specs.Plain.Alike.{TakesBits, NoBitsHold};
+ghost use Rattle.bufr_data.specs.Plain.{raw_at, fields_at};
+ghost use Rattle.bufr_data.specs.Plain.Reads.{raw_or_ends};
+ghost use Rattle.bufr_data.specs.Plain.Starts.{PassesRaw, PassesField, PassesSubset};
+ghost use Rattle.bufr_data.specs.Steady.{IsReady, WalkAdvances};
+
+use crate::fault::ReadFault;
+use crate::limits::MOST_RAW_BITS;
+use crate::plain::read::fault_of;
+use bufr_answers::Failure;
+use bufr_bits::BitReader;
+use bufr_expand::{Spec, Step, Template, Walk};
+use bufr_tables::Kind;
+use std::alloc::Global;
+
+/// How many items the message has met behind the subset at the front of the bits, where it had met
+/// `used` before. The reader moves past exactly the subset's bits; after an error it may have moved
+/// on.
+pub(crate) fn pass_subset(
+    alloc: Global,
+    template: &Template,
+    reader: &mut BitReader,
+    used: u64,
+) -> Result<u64, Failure<ReadFault>>
+    ensures ok { IfOk result (λ items. PassesSubset
+        (fields_at 1 1 (course template.now used) (left reader.old)) items (left reader.new)) }
+    ensures err { IfErr result (λ e. Fails e
+        (fields_at 1 1 (course template.now used) (left reader.old))) }
+    ensures octets { reader.new.octets ≡ reader.old.octets }
+    ensures onward { reader.old.place ≤ reader.new.place }
+{
+    let mut walk = Walk::start(alloc, template, used)?;
+    let mut i = 1;
+    loop {
+        match pass_field(&mut walk, reader, i) {
+            Err(fault) => return Err(Failure::Fault(fault)),
+            Ok(false) => return Ok(walk.items()),
+            Ok(true) => i += 1,
+        }
+    }
+}
+
+/// Moves past field `i` of the subset, and answers whether there is one.
+fn pass_field(walk: &mut Walk, reader: &mut BitReader, i: u64) -> Result<bool, ReadFault>
+    requires { IsReady walk.old }
+    ensures ok { IfOk result (λ more. PassesField i (walks.left walk.old) (left reader.old) more
+        (walks.left walk.new) (walks.items_met walk.new) (left reader.new)) }
+    ensures advances { IfOk result (λ more. OnTrue more (WalkAdvances walk.old walk.new)) }
+    ensures err { IfErr result (λ fault.
+        fields_at 1 i (walks.left walk.old) (left reader.old) ≡ Err fault) }
+    ensures octets { reader.new.octets ≡ reader.old.octets }
+    ensures onward { reader.old.place ≤ reader.new.place }
+{
+    let step = match walk.next() {
+        Err(fault) => return Err(fault_of(fault)),
+        Ok(step) => step,
+    };
+    match step {
+        Step::End => Ok(false),
+        Step::Field(_, spec) => {
+            pass_raw(spec, reader, i)?;
+            Ok(true)
+        }
+        Step::Count(_, spec) => {
+            let number = take_count(spec, reader, i)?;
+            walk.count(number);
+            Ok(true)
+        }
+    }
+}
+
+/// Moves past the raw value of field `i` of the subset, which is not read.
+fn pass_raw(spec: Spec, reader: &mut BitReader, i: u64) -> Result<(), ReadFault>
+    ensures ok { OnOk result (PassesRaw i spec (left reader.old) (left reader.new)) }
+    ensures err { IfErr result (λ fault.
+        raw_or_ends 1 i (raw_at spec (left reader.old)) ≡ Err fault) }
+    ensures octets { reader.new.octets ≡ reader.old.octets }
+    ensures onward { reader.old.place ≤ reader.new.place }
+{
+    match bits_of(spec) {
+        Some(bits) if reader.pass(bits) => Ok(()),
+        _ => Err(ReadFault::DataEnds(1, i)),
+    }
+}
+
+/// How many bits a field of this spec has: octets where it is a text, and else 64 bits at most.
+pub(crate) fn bits_of(spec: Spec) -> Option<u128>
+    ensures takes { IfSome result (TakesBits spec) }
+    ensures never { IfNone result (NoBitsHold spec) }
+{
+    match spec.kind {
+        Kind::Text => Some(8 * u128::from(spec.width / 8)),
+        _ if spec.width > MOST_RAW_BITS => None,
+        _ => Some(u128::from(spec.width)),
+    }
+}
+
+/// The number of field `i` of the subset, which is a count.
+fn take_count(spec: Spec, reader: &mut BitReader, i: u64) -> Result<u64, ReadFault>
+    requires { same_kind spec.kind Count ≡ true }
+    ensures ok { IfOk result (λ number.
+        raw_or_ends 1 i (raw_at spec (left reader.old)) ≡ Ok (Number number, left reader.new)) }
+    ensures err { IfErr result (λ fault.
+        raw_or_ends 1 i (raw_at spec (left reader.old)) ≡ Err fault) }
+    ensures octets { reader.new.octets ≡ reader.old.octets }
+    ensures onward { reader.old.place ≤ reader.new.place }
+{
+    if spec.width > MOST_RAW_BITS {
+        return Err(ReadFault::DataEnds(1, i));
+    }
+    match reader.take(spec.width) {
+        None => Err(ReadFault::DataEnds(1, i)),
+        Some(number) => Ok(number),
+    }
+}

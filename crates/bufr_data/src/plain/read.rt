@@ -1,0 +1,145 @@
+//! Reading subsets that stand one after the other.
+
+ghost use Rattle.std.specs.Prelude.{◌≡◌, ◌≤◌, ℕ, Bool, List, Err, OnErr, OnSome, IfOk, IfErr};
+ghost use Rattle.bufr_bits.specs.Ends.{left};
+ghost use Rattle.bufr_answers.specs.Answers.{Gives, Fails};
+ghost use Rattle.bufr_expand.specs.Courses.{course};
+ghost use Rattle.bufr_expand.specs.Walks as walks;
+ghost use Rattle.bufr_data.specs.Compressed.Reading.{ColumnsFound};
+ghost use Rattle.bufr_data.specs.Plain.{SubsetRead, raw_at, stopped, fields_at};
+ghost use Rattle.bufr_data.specs.Plain.Reads.{raw_or_ends, Reads};
+ghost use Rattle.bufr_data.specs.Steady.{IsReady, WalkAdvances};
+
+use crate::fault::ReadFault;
+use crate::field::{Field, Raw, Subset};
+use crate::limits::MOST_RAW_BITS;
+use bufr_answers::{Failure, Items};
+use bufr_bits::BitReader;
+use bufr_expand::{Spec, Step, Template, Walk, WalkFault};
+use bufr_tables::Kind;
+use std::alloc::Global;
+
+/// The subset at the front of the bits, and how many items the message has met by then, where it
+/// had met `used` before. The reader moves past exactly the subset's bits; on an error it stays
+/// where it is. The first fault is answered: V1 `EffectiveRange` with the element whose spec is out
+/// of range, V2 `DataEnds` with subset 1 and the field whose bits are not all there, V6 `TooLarge`
+/// where an item would be the message's 16,777,217th. `OutOfMemory` where a growth was refused.
+pub fn read_plain(
+    alloc: Global,
+    template: &Template,
+    reader: &mut BitReader,
+    used: u64,
+) -> Result<(Subset, u64), Failure<ReadFault>>
+    ensures exact { Gives (λ x. record { fields = x.0.fields; items = x.1; rest = left reader.new })
+        result (fields_at 1 1 (course template.now used) (left reader.old)) }
+    ensures octets { reader.new.octets ≡ reader.old.octets }
+    ensures err { OnErr result (reader.new ≡ reader.old) }
+    ensures onward { reader.old.place ≤ reader.new.place }
+{
+    let place = reader.place();
+    let answer = read_fields(alloc, template, reader, used);
+    if answer.is_err() {
+        reader.return_to(place);
+    }
+    answer
+}
+
+/// How many fields of a subset are given room before any is read, where the template has as many
+/// nodes.
+const FIELDS_WITH_ROOM: usize = 64;
+
+/// The same, but that after an error the reader may have moved on.
+fn read_fields(
+    alloc: Global,
+    template: &Template,
+    reader: &mut BitReader,
+    used: u64,
+) -> Result<(Subset, u64), Failure<ReadFault>>
+    ensures exact { Gives (λ x. record { fields = x.0.fields; items = x.1; rest = left reader.new })
+        result (fields_at 1 1 (course template.now used) (left reader.old)) }
+    ensures octets { reader.new.octets ≡ reader.old.octets }
+    ensures onward { reader.old.place ≤ reader.new.place }
+{
+    let mut walk = Walk::start(alloc, template, used)?;
+    let room = template.nodes().min(FIELDS_WITH_ROOM);
+    let mut fields = Vec::with_capacity(alloc, room)?;
+    while let Some(field) = read_field(alloc, &mut walk, reader, fields.len() as u64 + 1)? {
+        fields.push(field)?;
+    }
+    let fields = Items::from_vec(fields);
+    Ok((Subset { fields }, walk.items()))
+}
+
+/// Field `i` of the subset, or `None` at its end.
+fn read_field(
+    alloc: Global,
+    walk: &mut Walk,
+    reader: &mut BitReader,
+    i: u64,
+) -> Result<Option<Field>, Failure<ReadFault>>
+    requires { IsReady walk.old }
+    ensures ok { IfOk result (λ o. Reads 1 i (walks.left walk.old) (left reader.old) o
+        (walks.left walk.new) (walks.items_met walk.new) (left reader.new)) }
+    ensures err { IfErr result (λ e. Fails e
+        (fields_at 1 i (walks.left walk.old) (left reader.old))) }
+    ensures goes_on { IfOk result (λ o. OnSome o (WalkAdvances walk.old walk.new)) }
+    ensures octets { reader.new.octets ≡ reader.old.octets }
+    ensures onward { reader.old.place ≤ reader.new.place }
+{
+    let step = match walk.next() {
+        Err(fault) => return Err(Failure::Fault(fault_of(fault))),
+        Ok(step) => step,
+    };
+    match step {
+        Step::End => Ok(None),
+        Step::Field(fxy, spec) => {
+            let raw = read_raw(alloc, spec, reader, i)?;
+            Ok(Some(Field { fxy, spec, raw }))
+        }
+        Step::Count(fxy, spec) => {
+            let raw = read_raw(alloc, spec, reader, i)?;
+            walk.count(raw.number());
+            Ok(Some(Field { fxy, spec, raw }))
+        }
+    }
+}
+
+/// The fault of data at which the walk stops.
+pub(crate) fn fault_of(fault: WalkFault) -> ReadFault
+    ensures fields { stopped {A = SubsetRead} fault ≡ Err result }
+    ensures columns { stopped {A = ColumnsFound} fault ≡ Err result }
+{
+    match fault {
+        WalkFault::TooLarge => ReadFault::TooLarge,
+        WalkFault::EffectiveRange(fxy) => ReadFault::EffectiveRange(fxy),
+    }
+}
+
+/// The raw value of field `i` of the subset.
+fn read_raw(
+    alloc: Global,
+    spec: Spec,
+    reader: &mut BitReader,
+    i: u64,
+) -> Result<Raw, Failure<ReadFault>>
+    ensures exact { Gives {Y = Raw × List Bool} (λ raw. (raw, left reader.new)) result
+        (raw_or_ends 1 i (raw_at spec (left reader.old))) }
+    ensures octets { reader.new.octets ≡ reader.old.octets }
+    ensures onward { reader.old.place ≤ reader.new.place }
+{
+    let ends = Failure::Fault(ReadFault::DataEnds(1, i));
+    match spec.kind {
+        Kind::Text => {
+            let octets = reader.take_bytes(alloc, u64::from(spec.width / 8))?;
+            match octets {
+                None => Err(ends),
+                Some(octets) => Ok(Raw::Text(Items::from_vec(octets))),
+            }
+        }
+        _ if spec.width > MOST_RAW_BITS => Err(ends),
+        _ => match reader.take(spec.width) {
+            None => Err(ends),
+            Some(number) => Ok(Raw::Number(number)),
+        },
+    }
+}

@@ -1,0 +1,163 @@
+//! Worked examples of missing values: by kind, by width, plain and compressed.
+
+ghost use Rattle.std.specs.Prelude.{◌≡◌, ◌∷◌, ◌++◌, ◌-◌, ◌^◌, [], true, false, Ok, codes, map};
+ghost use Rattle.std.specs.Prelude.{Some, None, pos, negsuc, replicate};
+ghost use Rattle.bufr_bits.specs.Bits.{bin, bits};
+ghost use Rattle.bufr_tables.specs.Descriptors.{descriptor};
+ghost use Rattle.bufr_data.specs.Compressed.Best.{best};
+ghost use Rattle.bufr_data.specs.Compressed.Reading.{raised, filled, column_at};
+ghost use Rattle.bufr_data.specs.Samples.{number_kinds, spec_of, field_as, text_spec};
+ghost use Rattle.bufr_data.specs.Samples.{sample_raws, sample_missing, sample_texts};
+ghost use Rattle.bufr_data.specs.Values.{is_missing, value};
+
+use crate::field::Raw;
+use bufr_tables::Kind;
+
+/// Code tables, flag tables, quantities and factors, in this order: all bits are one, but neither
+/// of a field of one bit nor of a factor. Texts: all octets are 255.
+#[tactic(auto, unfolding(crate::proofs::OnLiterals::columns_on_literals))]
+pub fn missing_by_kind()
+    ensures one_bit { map (λ k. is_missing (field_as 0 k 1 (Raw.Number 1))) number_kinds
+        ≡ false ∷ false ∷ false ∷ false ∷ [] }
+    ensures zero_bit { map (λ k. is_missing (field_as 0 k 1 (Raw.Number 0))) number_kinds
+        ≡ false ∷ false ∷ false ∷ false ∷ [] }
+    ensures two_bits { map (λ k. is_missing (field_as 0 k 2 (Raw.Number 3))) number_kinds
+        ≡ true ∷ true ∷ true ∷ false ∷ [] }
+    ensures below_two_bits { map (λ k. is_missing (field_as 0 k 2 (Raw.Number 2))) number_kinds
+        ≡ false ∷ false ∷ false ∷ false ∷ [] }
+    ensures eight_bits { map (λ k. is_missing (field_as 0 k 8 (Raw.Number 255))) number_kinds
+        ≡ true ∷ true ∷ true ∷ false ∷ [] }
+    ensures below_eight_bits { map (λ k. is_missing (field_as 0 k 8 (Raw.Number 254))) number_kinds
+        ≡ false ∷ false ∷ false ∷ false ∷ [] }
+    ensures above_eight_bits { map (λ k. is_missing (field_as 0 k 8 (Raw.Number 256))) number_kinds
+        ≡ false ∷ false ∷ false ∷ false ∷ [] }
+    ensures most_bits { map (λ k. is_missing (field_as 0 k 63 (Raw.Number 9223372036854775807)))
+        number_kinds ≡ true ∷ true ∷ true ∷ false ∷ [] }
+    ensures text { is_missing (field_as 0 Kind.Text 16 (Raw.Text (255 ∷ 255 ∷ []))) ≡ true }
+    ensures text_with_space { is_missing (field_as 0 Kind.Text 16 (Raw.Text (255 ∷ 32 ∷ [])))
+        ≡ false }
+    ensures blank_text { is_missing (field_as 0 Kind.Text 16 (Raw.Text (32 ∷ 32 ∷ []))) ≡ false }
+    ensures zero_text { is_missing (field_as 0 Kind.Text 16 (Raw.Text (0 ∷ 0 ∷ []))) ≡ false }
+    ensures short_text { is_missing (field_as 0 Kind.Text 16 (Raw.Text (255 ∷ []))) ≡ false }
+    ensures number_of_text { is_missing (field_as 0 Kind.Text 8 (Raw.Number 255)) ≡ false }
+    ensures text_of_number { map (λ k. is_missing (field_as 0 k 16 (Raw.Text (255 ∷ 255 ∷ []))))
+        number_kinds ≡ false ∷ false ∷ false ∷ false ∷ [] }
+{}
+
+/// The values of the same kinds: none where they are missing, and none of a text.
+#[tactic(auto, unfolding(crate::proofs::OnLiterals::columns_on_literals))]
+pub fn values_by_kind()
+    ensures one_bit { map (λ k. value (field_as 0 k 1 (Raw.Number 1))) number_kinds
+        ≡ replicate 4 (Some (record { units = pos 1; scale = pos 0 })) }
+    ensures below { map (λ k. value (field_as 0 k 2 (Raw.Number 2))) number_kinds
+        ≡ replicate 4 (Some (record { units = pos 2; scale = pos 0 })) }
+    ensures ones { map (λ k. value (field_as 0 k 2 (Raw.Number 3))) number_kinds
+        ≡ None ∷ None ∷ None ∷ Some (record { units = pos 3; scale = pos 0 }) ∷ [] }
+    ensures text { value (field_as 0 Kind.Text 16 (Raw.Text (49 ∷ 50 ∷ []))) ≡ None }
+    ensures below_zero { value (record {
+      fxy = 1282;
+      spec = record {
+        kind = Kind.Quantity;
+        scale = pos 2;
+        reference = negsuc 8999;
+        width = 15;
+      };
+      raw = Raw.Number 8999;
+    })
+        ≡ Some (record { units = negsuc 0; scale = pos 2 }) }
+    ensures above_zero { value (record {
+      fxy = 1282;
+      spec = record {
+        kind = Kind.Quantity;
+        scale = negsuc 0;
+        reference = pos 100;
+        width = 15;
+      };
+      raw = Raw.Number 7;
+    })
+        ≡ Some (record { units = pos 107; scale = negsuc 0 }) }
+    ensures number_of_text { value (field_as 0 Kind.Text 8 (Raw.Number 5)) ≡ None }
+    ensures text_of_number { map (λ k. value (field_as 0 k 8 (Raw.Text (49 ∷ [])))) number_kinds
+        ≡ replicate 4 None }
+{}
+
+/// R0 and an increment: their sum, also where it is all ones; all ones where the increment is; and
+/// nothing past the field's greatest number.
+#[tactic(auto, unfolding(crate::proofs::OnLiterals::columns_on_literals))]
+pub fn numbers_of_increments()
+    ensures sum { raised 8 200 6 5 ≡ Some (Raw.Number 205) }
+    ensures none { raised 8 200 6 0 ≡ Some (Raw.Number 200) }
+    ensures sum_of_ones { raised 8 200 6 55 ≡ Some (Raw.Number 255) }
+    ensures past_ones { raised 8 200 6 56 ≡ None }
+    ensures below_ones { raised 16 200 6 62 ≡ Some (Raw.Number 262) }
+    ensures ones { raised 16 200 6 63 ≡ Some (Raw.Number 65535) }
+    ensures ones_past { raised 8 250 6 63 ≡ Some (Raw.Number 255) }
+    ensures one_bit { raised 16 27315 1 1 ≡ Some (Raw.Number 65535) }
+    ensures zero_bit { raised 16 27315 1 0 ≡ Some (Raw.Number 27315) }
+    ensures one_bit_in_one { raised 1 0 1 1 ≡ Some (Raw.Number 1) }
+    ensures above_one_in_one { raised 1 1 1 1 ≡ Some (Raw.Number 1) }
+    ensures past_one { raised 1 1 2 1 ≡ None }
+    ensures wider_than_field { raised 2 1 3 1 ≡ Some (Raw.Number 2) }
+    ensures wider_ones { raised 2 1 3 7 ≡ Some (Raw.Number 3) }
+    ensures most_bits { raised 63 1 63 9223372036854775806 ≡ Some (Raw.Number 9223372036854775807) }
+{}
+
+/// Columns of each kind of number: R0 1 and increments of two bits, of which the first makes all
+/// ones; and the best column of a missing value and another.
+#[tactic(auto, unfolding(crate::proofs::OnLiterals::columns_on_literals))]
+pub fn columns_by_kind()
+    ensures sum_of_ones { map (λ k. column_at 2 1 (spec_of k 2) (bits (0x42 ∷ 0x80 ∷ [])))
+        number_kinds
+        ≡ replicate 4 (Ok (Raw.Number 3 ∷ Raw.Number 1 ∷ [], bin 4 0)) }
+    ensures one_bit { map (λ k. column_at 2 1 (spec_of k 1) (bits (0x02 ∷ 0x80 ∷ []))) number_kinds
+        ≡ replicate 4 (Ok (Raw.Number 0 ∷ Raw.Number 1 ∷ [], bin 7 0)) }
+    ensures equal { map (λ k. column_at 2 1 (spec_of k 2) (bits (0xC0 ∷ []))) number_kinds
+        ≡ replicate 4 (Ok (Raw.Number 3 ∷ Raw.Number 3 ∷ [], [])) }
+    ensures best_of_missing { map (λ k. best (spec_of k 2) (Raw.Number 3 ∷ Raw.Number 1 ∷ []))
+        number_kinds ≡ replicate 4 (bin 2 1 ++ bin 6 1 ++ bin 1 1 ++ bin 1 0) }
+    ensures best_of_one_bit { map (λ k. best (spec_of k 1) (Raw.Number 0 ∷ Raw.Number 1 ∷ []))
+        number_kinds ≡ replicate 4 (bin 1 0 ++ bin 6 1 ++ bin 1 0 ++ bin 1 1) }
+    ensures best_of_equal { map (λ k. best (spec_of k 2) (Raw.Number 3 ∷ Raw.Number 3 ∷ []))
+        number_kinds ≡ replicate 4 (bin 2 3 ++ bin 6 0) }
+{}
+
+/// The same in data: whether the sum of R0 and an increment is missing, and the values of a field
+/// of one bit.
+#[tactic(auto, unfolding(crate::proofs::OnLiterals::columns_on_literals, crate::proofs::OnLiterals::decimals_on_literals))]
+pub fn missing_in_data()
+    ensures sum_of_ones { sample_missing (descriptor 0 2 1 ∷ []) true 2 (0x42 ∷ 0x80 ∷ [])
+        ≡ Ok ((true ∷ []) ∷ (false ∷ []) ∷ []) }
+    ensures values { sample_texts (descriptor 0 2 1 ∷ []) true 2 (0x42 ∷ 0x80 ∷ [])
+        ≡ Ok ((None ∷ []) ∷ (Some (codes "1") ∷ []) ∷ []) }
+    ensures one_bit { sample_texts (descriptor 0 31 0 ∷ []) true 2 (0x02 ∷ 0x80 ∷ [])
+        ≡ Ok ((Some (codes "0") ∷ []) ∷ (Some (codes "1") ∷ []) ∷ []) }
+    ensures plain { sample_texts (descriptor 0 2 1 ∷ descriptor 0 31 0 ∷ []) false 2 (0xF8 ∷ [])
+        ≡ Ok ((None ∷ Some (codes "1") ∷ []) ∷ (None ∷ Some (codes "0") ∷ []) ∷ []) }
+    ensures factor { sample_texts (descriptor 1 1 0 ∷ descriptor 0 31 0 ∷ descriptor 0 2 1 ∷ [])
+        false 1 (0xE0 ∷ []) ≡ Ok ((Some (codes "1") ∷ None ∷ []) ∷ []) }
+{}
+
+/// Texts of a column: filled with spaces behind their octets, and missing where all octets are 255;
+/// R0 says nothing where there are increments.
+#[tactic(auto, unfolding(crate::proofs::OnLiterals::columns_on_literals))]
+pub fn texts_of_columns()
+    ensures one_short { filled 3 (65 ∷ 66 ∷ []) ≡ Raw.Text (65 ∷ 66 ∷ 32 ∷ []) }
+    ensures two_short { filled 3 (65 ∷ []) ≡ Raw.Text (65 ∷ 32 ∷ 32 ∷ []) }
+    ensures whole { filled 2 (65 ∷ 0 ∷ []) ≡ Raw.Text (65 ∷ 0 ∷ []) }
+    ensures of_ones { filled 3 (255 ∷ []) ≡ Raw.Text (255 ∷ 255 ∷ 255 ∷ []) }
+    ensures begins_with_ones { filled 3 (255 ∷ 65 ∷ []) ≡ Raw.Text (255 ∷ 65 ∷ 32 ∷ []) }
+    ensures below_ones { filled 2 (254 ∷ []) ≡ Raw.Text (254 ∷ 32 ∷ []) }
+    ensures ignored { sample_raws (descriptor 2 8 1 ∷ descriptor 0 1 11 ∷ []) true 2
+        (0x5A ∷ 0x05 ∷ 0x05 ∷ 0x08 ∷ [])
+        ≡ Ok ((Raw.Text (65 ∷ []) ∷ []) ∷ (Raw.Text (66 ∷ []) ∷ []) ∷ []) }
+    ensures equal { sample_raws (descriptor 2 8 1 ∷ descriptor 0 1 11 ∷ []) true 2
+        (0x5A ∷ 0x00 ∷ []) ≡ Ok ((Raw.Text (90 ∷ []) ∷ []) ∷ (Raw.Text (90 ∷ []) ∷ []) ∷ []) }
+    ensures equal_ones { sample_missing (descriptor 2 8 1 ∷ descriptor 0 1 11 ∷ []) true 2
+        (0xFF ∷ 0x00 ∷ []) ≡ Ok ((true ∷ []) ∷ (true ∷ []) ∷ []) }
+    ensures best_of_missing { best (text_spec 2)
+        (Raw.Text (255 ∷ 255 ∷ []) ∷ Raw.Text (65 ∷ 32 ∷ []) ∷ [])
+        ≡ bits (0 ∷ 0 ∷ []) ++ bin 6 2 ++ bits (255 ∷ 255 ∷ 65 ∷ 32 ∷ []) }
+    ensures best_of_equal { best (text_spec 2)
+        (Raw.Text (65 ∷ 66 ∷ []) ∷ Raw.Text (65 ∷ 66 ∷ []) ∷ [])
+        ≡ bits (65 ∷ 66 ∷ []) ++ bin 6 0 }
+{}

@@ -1,0 +1,214 @@
+//! Worked examples of refusals: which comes first, and the subset and the field that it names.
+
+ghost use Rattle.std.specs.Prelude.{◌≡◌, ◌∷◌, ◌++◌, [], true, false, Ok, Err, codes, map};
+ghost use Rattle.std.specs.Prelude.{length, pos, negsuc, replicate};
+ghost use Rattle.bufr_bits.specs.Bits.{bin, bits};
+ghost use Rattle.bufr_answers.specs.Answers.{result_map};
+ghost use Rattle.bufr_tables.specs.Descriptors.{descriptor};
+ghost use Rattle.bufr_data.specs.Compressed.Best.{packed, columns_of};
+ghost use Rattle.bufr_data.specs.Compressed.Reading.{columns_at};
+ghost use Rattle.bufr_data.specs.Plain.{fields_at, subsets_at, items_of, items_of_all, same_spec};
+ghost use Rattle.bufr_data.specs.Reasons.{read_reason, write_reason};
+ghost use Rattle.bufr_data.specs.Samples.{sample_course, sample_raws, recompressed, number_spec};
+ghost use Rattle.bufr_data.specs.Samples.{field_as, written_of, number_kinds};
+
+use crate::fault::{ReadFault, WriteFault};
+use crate::field::Raw;
+use bufr_tables::Kind;
+
+/// Two subsets of two fields, 001001 of seven bits and 002001 of two, of which one has a misfit.
+#[tactic(auto, unfolding(crate::proofs::OnLiterals::columns_on_literals))]
+pub fn misfits_of_two_subsets()
+    ensures none { map (λ compressed. written_of (descriptor 0 1 1 ∷ descriptor 0 2 1 ∷ [])
+        compressed
+        ((field_as (descriptor 0 1 1) Kind.Quantity 7 (Raw.Number 127)
+        ∷ field_as (descriptor 0 2 1) Kind.Code 2 (Raw.Number 3) ∷ [])
+        ∷ (field_as (descriptor 0 1 1) Kind.Quantity 7 (Raw.Number 127)
+        ∷ field_as (descriptor 0 2 1) Kind.Code 2 (Raw.Number 2) ∷ []) ∷ []))
+        (false ∷ true ∷ [])
+        ≡ Ok (bin 7 127 ++ bin 2 3 ++ bin 7 127 ++ bin 2 2)
+        ∷ Ok (bin 7 127 ++ bin 6 0 ++ bin 2 2 ++ bin 6 1 ++ bin 1 1 ++ bin 1 0) ∷ [] }
+    ensures first_field { map (λ compressed. written_of (descriptor 0 1 1 ∷ descriptor 0 2 1 ∷ [])
+        compressed
+        ((field_as (descriptor 0 1 1) Kind.Quantity 7 (Raw.Number 10)
+        ∷ field_as (descriptor 0 2 1) Kind.Code 2 (Raw.Number 1) ∷ [])
+        ∷ (field_as (descriptor 0 1 1) Kind.Quantity 7 (Raw.Number 128)
+        ∷ field_as (descriptor 0 2 1) Kind.Code 2 (Raw.Number 1) ∷ []) ∷ []))
+        (false ∷ true ∷ [])
+        ≡ Err (WriteFault.DoesNotFit 2 1) ∷ Err (WriteFault.DoesNotFit 2 1) ∷ [] }
+    ensures second_field { map (λ compressed. written_of (descriptor 0 1 1 ∷ descriptor 0 2 1 ∷ [])
+        compressed
+        ((field_as (descriptor 0 1 1) Kind.Quantity 7 (Raw.Number 10)
+        ∷ field_as (descriptor 0 2 1) Kind.Code 2 (Raw.Number 1) ∷ [])
+        ∷ (field_as (descriptor 0 1 1) Kind.Quantity 7 (Raw.Number 10)
+        ∷ field_as (descriptor 0 2 1) Kind.Code 2 (Raw.Number 4) ∷ []) ∷ []))
+        (false ∷ true ∷ [])
+        ≡ Err (WriteFault.DoesNotFit 2 2) ∷ Err (WriteFault.DoesNotFit 2 2) ∷ [] }
+    ensures first_subset { map (λ compressed. written_of (descriptor 0 1 1 ∷ descriptor 0 2 1 ∷ [])
+        compressed
+        ((field_as (descriptor 0 1 1) Kind.Quantity 7 (Raw.Number 10)
+        ∷ field_as (descriptor 0 2 1) Kind.Code 2 (Raw.Number 4) ∷ [])
+        ∷ (field_as (descriptor 0 1 1) Kind.Quantity 7 (Raw.Number 128) ∷ []) ∷ []))
+        (false ∷ true ∷ [])
+        ≡ Err (WriteFault.DoesNotFit 1 2) ∷ Err (WriteFault.DoesNotFit 1 2) ∷ [] }
+    ensures too_few { map (λ compressed. written_of (descriptor 0 1 1 ∷ descriptor 0 2 1 ∷ [])
+        compressed
+        ((field_as (descriptor 0 1 1) Kind.Quantity 7 (Raw.Number 10)
+        ∷ field_as (descriptor 0 2 1) Kind.Code 2 (Raw.Number 1) ∷ [])
+        ∷ (field_as (descriptor 0 1 1) Kind.Quantity 7 (Raw.Number 10) ∷ []) ∷ []))
+        (false ∷ true ∷ [])
+        ≡ Err (WriteFault.DoesNotFit 2 2) ∷ Err (WriteFault.DoesNotFit 2 2) ∷ [] }
+    ensures too_many { map (λ compressed. written_of (descriptor 0 1 1 ∷ []) compressed
+        ((field_as (descriptor 0 1 1) Kind.Quantity 7 (Raw.Number 10) ∷ [])
+        ∷ (field_as (descriptor 0 1 1) Kind.Quantity 7 (Raw.Number 10)
+        ∷ field_as (descriptor 0 2 1) Kind.Code 2 (Raw.Number 1) ∷ []) ∷ []))
+        (false ∷ true ∷ [])
+        ≡ Err (WriteFault.DoesNotFit 2 2) ∷ Err (WriteFault.DoesNotFit 2 2) ∷ [] }
+    ensures kinds { map (λ k. written_of (descriptor 0 2 1 ∷ []) true
+        ((field_as (descriptor 0 2 1) k 2 (Raw.Number 1) ∷ []) ∷ [])) number_kinds
+        ≡ Ok (bin 2 1 ++ bin 6 0) ∷ replicate 3 (Err (WriteFault.DoesNotFit 1 1)) }
+    ensures widths { map (λ width. written_of (descriptor 0 2 1 ∷ []) true
+        ((field_as (descriptor 0 2 1) Kind.Code width (Raw.Number 1) ∷ []) ∷ []))
+        (1 ∷ 2 ∷ 3 ∷ [])
+        ≡ Err (WriteFault.DoesNotFit 1 1) ∷ Ok (bin 2 1 ++ bin 6 0)
+        ∷ Err (WriteFault.DoesNotFit 1 1) ∷ [] }
+    ensures specs { map (same_spec (record {
+      kind = Kind.Quantity;
+      scale = pos 2;
+      reference = negsuc 8999;
+      width = 15;
+    }))
+        (record { kind = Kind.Quantity; scale = pos 2; reference = negsuc 8999; width = 15 }
+        ∷ record { kind = Kind.Code; scale = pos 2; reference = negsuc 8999; width = 15 }
+        ∷ record { kind = Kind.Quantity; scale = negsuc 1; reference = negsuc 8999; width = 15 }
+        ∷ record { kind = Kind.Quantity; scale = pos 2; reference = pos 9000; width = 15 }
+        ∷ record { kind = Kind.Quantity; scale = pos 2; reference = negsuc 8999; width = 16 } ∷ [])
+        ≡ true ∷ replicate 4 false }
+    ensures other_descriptor { map (λ compressed. written_of (descriptor 0 1 1 ∷ []) compressed
+        ((field_as (descriptor 0 1 1) Kind.Quantity 7 (Raw.Number 10) ∷ [])
+        ∷ (field_as (descriptor 0 1 2) Kind.Quantity 7 (Raw.Number 10) ∷ []) ∷ []))
+        (false ∷ true ∷ [])
+        ≡ Err (WriteFault.DoesNotFit 2 1) ∷ Err (WriteFault.DoesNotFit 2 1) ∷ [] }
+{}
+
+/// Where subsets cannot stand in columns, and in which order their faults come.
+#[tactic(auto, unfolding(crate::proofs::OnLiterals::columns_on_literals))]
+pub fn places_apart()
+    ensures second_place { recompressed (descriptor 0 1 1 ∷ descriptor 1 1 0 ∷ descriptor 0 31 1
+        ∷ descriptor 0 12 101 ∷ []) false 2 (0x14 ∷ 0x00 ∷ 0x28 ∷ 0x05 ∷ 0xAA ∷ 0xCC ∷ [])
+        ≡ Err (WriteFault.NotCompressible 2) }
+    ensures end { columns_of 3 []
+        ((field_as (descriptor 0 2 1) Kind.Code 2 (Raw.Number 1) ∷ []) ∷ [])
+        ≡ Err (WriteFault.NotCompressible 3) }
+    ensures no_other { columns_of 3 (field_as (descriptor 0 2 1) Kind.Code 2 (Raw.Number 1) ∷ [])
+        ([] ∷ []) ≡ Err (WriteFault.NotCompressible 3) }
+    ensures other_descriptor { columns_of 3
+        (field_as (descriptor 0 2 1) Kind.Code 2 (Raw.Number 1) ∷ [])
+        ((field_as (descriptor 0 2 2) Kind.Code 2 (Raw.Number 1) ∷ []) ∷ [])
+        ≡ Err (WriteFault.NotCompressible 3) }
+    ensures other_spec { columns_of 3 (field_as (descriptor 0 2 1) Kind.Code 2 (Raw.Number 1) ∷ [])
+        ((field_as (descriptor 0 2 1) Kind.Code 3 (Raw.Number 1) ∷ []) ∷ [])
+        ≡ Err (WriteFault.NotCompressible 3) }
+    ensures later_place { columns_of 3 (field_as (descriptor 0 2 1) Kind.Code 2 (Raw.Number 1)
+        ∷ field_as (descriptor 0 2 1) Kind.Code 2 (Raw.Number 1) ∷ [])
+        ((field_as (descriptor 0 2 1) Kind.Code 2 (Raw.Number 2) ∷ []) ∷ [])
+        ≡ Err (WriteFault.NotCompressible 4) }
+    ensures misfit_before { written_of (descriptor 0 1 1 ∷ descriptor 1 1 0 ∷ descriptor 0 31 1
+        ∷ descriptor 0 12 101 ∷ []) true
+        ((field_as (descriptor 0 1 1) Kind.Quantity 7 (Raw.Number 10)
+        ∷ field_as (descriptor 0 31 1) Kind.Count 8 (Raw.Number 0) ∷ [])
+        ∷ (field_as (descriptor 0 1 1) Kind.Quantity 7 (Raw.Number 10)
+        ∷ field_as (descriptor 0 31 1) Kind.Count 8 (Raw.Number 1) ∷ []) ∷ [])
+        ≡ Err (WriteFault.DoesNotFit 2 3) }
+    ensures at_limit { packed 33554432
+        (record { fxy = 1; spec = number_spec 7; values = Raw.Number 5 ∷ [] }
+        ∷ record { fxy = 2; spec = number_spec 2; values = Raw.Number 1 ∷ [] } ∷ [])
+        ≡ Ok (bin 7 5 ++ bin 6 0 ++ bin 2 1 ++ bin 6 0) }
+    ensures past_limit { packed 33554433
+        (record { fxy = 1; spec = number_spec 7; values = Raw.Number 5 ∷ [] }
+        ∷ record { fxy = 2; spec = number_spec 2; values = Raw.Number 1 ∷ [] } ∷ [])
+        ≡ Err WriteFault.TooLarge }
+{}
+
+/// Where the data of 001001, of seven bits, and of a field behind it are refused: the second field,
+/// and in plain data the second subset.
+#[tactic(auto, unfolding(crate::proofs::OnLiterals::columns_on_literals))]
+pub fn faults_of_second_fields()
+    ensures plain_end { sample_raws (descriptor 0 1 1 ∷ descriptor 0 2 1 ∷ []) false 2
+        (0x14 ∷ 0x0A ∷ []) ≡ Err (ReadFault.DataEnds 2 2) }
+    ensures plain_start { sample_raws (descriptor 0 1 1 ∷ []) false 2 (0x14 ∷ [])
+        ≡ Err (ReadFault.DataEnds 2 1) }
+    ensures column_end { sample_raws (descriptor 0 1 1 ∷ descriptor 0 2 1 ∷ []) true 2
+        (0x14 ∷ 0x00 ∷ []) ≡ Err (ReadFault.DataEnds 0 2) }
+    ensures no_spec { map (λ compressed. sample_raws (descriptor 0 1 1 ∷ descriptor 2 1 255
+        ∷ descriptor 0 12 101 ∷ []) compressed 2 (0x14 ∷ 0x00 ∷ [])) (false ∷ true ∷ [])
+        ≡ Err (ReadFault.EffectiveRange (descriptor 0 12 101))
+        ∷ Err (ReadFault.EffectiveRange (descriptor 0 12 101)) ∷ [] }
+    ensures unequal { sample_raws (descriptor 0 1 1 ∷ descriptor 1 1 0 ∷ descriptor 0 31 1
+        ∷ descriptor 0 12 101 ∷ []) true 2 (0x14 ∷ 0x00 ∷ 0x00 ∷ 0x28 ∷ [])
+        ≡ Err (ReadFault.UnequalCounts 2) }
+    ensures passes { sample_raws (descriptor 0 1 1 ∷ descriptor 0 2 1 ∷ []) true 2
+        (0x14 ∷ 0x04 ∷ 0x11 ∷ 0x00 ∷ []) ≡ Err (ReadFault.IncrementRange 2 2) }
+    ensures wide_text { sample_raws (descriptor 0 1 1 ∷ descriptor 2 8 1 ∷ descriptor 0 1 11 ∷ [])
+        true 2 (0x14 ∷ 0x00 ∷ 0x00 ∷ 0x40 ∷ []) ≡ Err (ReadFault.CharIncrement 2) }
+    ensures texts_end { sample_raws (descriptor 2 8 1 ∷ descriptor 0 1 11 ∷ []) true 2
+        (0x5A ∷ 0x05 ∷ 0x05 ∷ []) ≡ Err (ReadFault.DataEnds 0 1) }
+    ensures factor_of_ones { sample_raws (descriptor 1 1 0 ∷ descriptor 0 31 1
+        ∷ descriptor 0 12 101 ∷ []) true 2 (0x00 ∷ 0x07 ∷ []) ≡ Err (ReadFault.DataEnds 0 2) }
+    ensures factor_passes { sample_raws (descriptor 1 1 0 ∷ descriptor 0 31 1
+        ∷ descriptor 0 12 101 ∷ []) true 2 (0xFE ∷ 0x08 ∷ 0x80 ∷ [])
+        ≡ Err (ReadFault.IncrementRange 2 1) }
+{}
+
+/// Which fault of one field comes first: too many items or values, then a field without a spec,
+/// then data that end.
+#[tactic(auto, unfolding(crate::proofs::OnLiterals::columns_on_literals))]
+pub fn first_at_one_field()
+    ensures values { columns_at 65535 1025
+        (sample_course (descriptor 2 1 255 ∷ descriptor 0 12 101 ∷ []) 0) []
+        ≡ Err ReadFault.TooLarge }
+    ensures spec { columns_at 65535 1024
+        (sample_course (descriptor 2 1 255 ∷ descriptor 0 12 101 ∷ []) 0) []
+        ≡ Err (ReadFault.EffectiveRange (descriptor 0 12 101)) }
+    ensures items { fields_at 1 1 (sample_course (descriptor 2 1 255 ∷ descriptor 0 12 101 ∷ [])
+        16777215) [] ≡ Err ReadFault.TooLarge }
+    ensures spec_of_last_item { fields_at 1 1
+        (sample_course (descriptor 2 1 255 ∷ descriptor 0 12 101 ∷ []) 16777214) []
+        ≡ Err (ReadFault.EffectiveRange (descriptor 0 12 101)) }
+    ensures items_before_end { fields_at 1 1 (sample_course (descriptor 0 12 101 ∷ []) 16777216) []
+        ≡ Err ReadFault.TooLarge }
+    ensures end_of_last_item { fields_at 1 1 (sample_course (descriptor 0 12 101 ∷ []) 16777215) []
+        ≡ Err (ReadFault.DataEnds 1 1) }
+    ensures items_of_two { map (λ used. result_map (λ found. length found.subsets)
+        (subsets_at (sample_course (descriptor 0 12 101 ∷ [])) 1 2 used
+        (bits (0x6A ∷ 0xB3 ∷ 0x6A ∷ 0xB4 ∷ [])))) (16777214 ∷ 16777215 ∷ [])
+        ≡ Ok 2 ∷ Err ReadFault.TooLarge ∷ [] }
+    ensures written_items_of_two { map (λ used. items_of_all
+        (sample_course (descriptor 0 2 1 ∷ [])) 1 used
+        (replicate 2 (record {
+          fields = field_as (descriptor 0 2 1) Kind.Code 2 (Raw.Number 1)
+              ∷ [];
+        }))) (16777214 ∷ 16777215 ∷ []) ≡ Ok 16777216 ∷ Err WriteFault.TooLarge ∷ [] }
+    ensures written_items { items_of 1 1 (sample_course (descriptor 0 12 101 ∷ []) 16777216) []
+        ≡ Err WriteFault.TooLarge }
+    ensures written_end { items_of 1 1 (sample_course (descriptor 0 12 101 ∷ []) 16777215) []
+        ≡ Err (WriteFault.DoesNotFit 1 1) }
+    ensures written_spec { items_of 1 1
+        (sample_course (descriptor 2 1 255 ∷ descriptor 0 12 101 ∷ []) 16777214) []
+        ≡ Err (WriteFault.DoesNotFit 1 1) }
+{}
+
+/// The words of refusals.
+#[tactic(auto, unfolding(crate::proofs::OnLiterals::decimals_on_literals, crate::specs::Reasons::read_reason, crate::specs::Reasons::write_reason))]
+pub fn reasons()
+    ensures v1 { read_reason (ReadFault.EffectiveRange (descriptor 0 12 101))
+        ≡ codes "V1 EffectiveRange 012101" }
+    ensures v2 { read_reason (ReadFault.DataEnds 0 65) ≡ codes "V2 DataEnds 0 65" }
+    ensures v3 { read_reason (ReadFault.UnequalCounts 12) ≡ codes "V3 UnequalCounts 12" }
+    ensures v4 { read_reason (ReadFault.IncrementRange 2 17) ≡ codes "V4 IncrementRange 2 17" }
+    ensures v5 { read_reason (ReadFault.CharIncrement 3) ≡ codes "V5 CharIncrement 3" }
+    ensures v6 { read_reason ReadFault.TooLarge ≡ codes "V6 TooLarge" }
+    ensures e1 { write_reason (WriteFault.DoesNotFit 2 31) ≡ codes "E1 DoesNotFit 2 31" }
+    ensures e2 { write_reason (WriteFault.NotCompressible 2) ≡ codes "E2 NotCompressible 2" }
+    ensures e3 { write_reason WriteFault.TooLarge ≡ codes "E3 TooLarge" }
+{}

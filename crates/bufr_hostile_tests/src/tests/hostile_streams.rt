@@ -1,0 +1,225 @@
+//! Hostile streams: random octets, frames and harmed messages. Cut into any pieces, each has the
+//! same frames and the same lines.
+
+ghost use Rattle.std.specs.Prelude.{◌≡◌, false};
+
+use crate::tests::devices::{End, Pieces};
+use crate::tests::random::Numbers;
+use crate::tests::samples::{
+    COMPRESSED_PAIR, COMPRESSED_TEXTS, EDITION_3, LOCAL_OCTETS, SEQUENCES, UNEQUAL_COUNTS, tables,
+};
+use bufr_bits::IntoWrite;
+use bufr_frame::{Found, Framer};
+use bufr_io::{Tally, ToolFault};
+use bufr_tables::Tables;
+use bufr_tool::run_check;
+use std::alloc::Global;
+use std::process::Abort;
+use std::test::Fail;
+
+/// The messages of which streams are made.
+const MESSAGES: [&[u8]; 6] = [
+    SEQUENCES,
+    COMPRESSED_PAIR,
+    UNEQUAL_COUNTS,
+    COMPRESSED_TEXTS,
+    LOCAL_OCTETS,
+    EDITION_3,
+];
+
+/// One of the messages.
+fn message(numbers: &mut Numbers) -> Result<&'static [u8], Fail> {
+    let found = MESSAGES.get(numbers.below(MESSAGES.len())).copied();
+    Ok(found.ok_or("a message")?)
+}
+
+/// Some octets, each any.
+fn put_noise(stream: &mut Vec<u8>, numbers: &mut Numbers) -> Result<(), Fail> {
+    for _ in 0..numbers.below(40) {
+        stream.push(numbers.octet())?;
+    }
+    Ok(())
+}
+
+/// A message of which some octets, each any, are others: its mark, a length, its edition, a count,
+/// data or the end among them.
+fn put_harmed(stream: &mut Vec<u8>, numbers: &mut Numbers) -> Result<(), Fail> {
+    let start = stream.len();
+    stream.extend_from_slice(message(numbers)?)?;
+    for _ in 0..numbers.below(4) {
+        let place = start.saturating_add(numbers.below(70));
+        let octet = numbers.octet();
+        if let Some(harmed) = stream.get_mut(place) {
+            *harmed = octet;
+        }
+    }
+    Ok(())
+}
+
+/// The start of a frame that announces a length of less than 256, whatever follows.
+fn put_start(stream: &mut Vec<u8>, numbers: &mut Numbers) -> Result<(), Fail> {
+    stream.extend_from_slice(b"BUFR\x00\x00".as_slice())?;
+    stream.push(numbers.octet())?;
+    stream.push(4)?;
+    Ok(())
+}
+
+/// A part of a stream: noise, a front of a message, the start of a frame, an end, a stray `BUFR`, a
+/// message or a harmed one.
+fn put_part(stream: &mut Vec<u8>, numbers: &mut Numbers) -> Result<(), Fail> {
+    match numbers.below(9) {
+        0 => put_noise(stream, numbers),
+        1 => {
+            let whole = message(numbers)?;
+            let front = whole.get(..numbers.below(whole.len())).ok_or("a front")?;
+            Ok(stream.extend_from_slice(front)?)
+        }
+        2 => put_start(stream, numbers),
+        3 => Ok(stream.extend_from_slice(b"7777".as_slice())?),
+        4 => Ok(stream.extend_from_slice(b"BUFR".as_slice())?),
+        5 | 6 => Ok(stream.extend_from_slice(message(numbers)?)?),
+        _ => put_harmed(stream, numbers),
+    }
+}
+
+/// A hostile stream.
+fn hostile(alloc: Global, numbers: &mut Numbers) -> Result<Vec<u8>, Fail> {
+    let mut stream = Vec::new(alloc);
+    for _ in 0..numbers.below(14) {
+        put_part(&mut stream, numbers)?;
+    }
+    Ok(stream)
+}
+
+/// How a framer takes in a piece.
+#[derive(Clone, Copy)]
+enum Way {
+    /// At once.
+    Fed,
+    /// One frame after another.
+    OneByOne,
+}
+
+/// A piece is fed, and its frames are put behind those that were found.
+fn feed(
+    rt: &impl Abort,
+    framer: &mut Framer,
+    piece: &[u8],
+    found: &mut Vec<Found>,
+) -> Result<(), Fail> {
+    assert!(rt; framer.fed() <= 1_000_000 && piece.len() <= 1_000_000);
+    for frame in framer.feed(piece)? {
+        found.push(frame)?;
+    }
+    Ok(())
+}
+
+/// The frames of a piece are taken one by one, and put behind those that were found.
+fn take(
+    rt: &impl Abort,
+    framer: &mut Framer,
+    piece: &[u8],
+    found: &mut Vec<Found>,
+) -> Result<(), Fail> {
+    let mut rest = piece;
+    for _ in 0..1000 {
+        assert!(rt; framer.fed() <= 1_000_000 && rest.len() <= 1_000_000);
+        let taken = framer.take_next(rest)?;
+        rest = taken.rest;
+        let Some(frame) = taken.found else {
+            return Ok(());
+        };
+        found.push(frame)?;
+    }
+    Err("frames without end".into())
+}
+
+/// The frames of a stream in at most so many pieces of random lengths, some of them empty, and a
+/// last one of all that is left.
+fn frames(
+    rt: &impl Abort,
+    alloc: Global,
+    stream: &[u8],
+    way: Way,
+    numbers: &mut Numbers,
+    cuts: usize,
+) -> Result<Vec<Found>, Fail> {
+    let mut framer = Framer::new(alloc);
+    let mut found = Vec::new(alloc);
+    let mut rest = stream;
+    for cut in 0..=cuts {
+        let most = if cut == cuts {
+            rest.len()
+        } else {
+            numbers.below(90).min(rest.len())
+        };
+        let (piece, behind) = rest.split_at(most);
+        match way {
+            Way::Fed => feed(rt, &mut framer, piece, &mut found)?,
+            Way::OneByOne => take(rt, &mut framer, piece, &mut found)?,
+        }
+        rest = behind;
+    }
+    for frame in framer.finish()? {
+        found.push(frame)?;
+    }
+    Ok(found)
+}
+
+/// The frames of each of two hundred streams are the same in one piece and in many, fed at once or
+/// taken one by one.
+#[test]
+fn frames_of_any_pieces(rt: HostRuntime) -> Result<(), Fail> {
+    let alloc = rt.alloc();
+    for seed in 0u64..200 {
+        let mut numbers = Numbers::new(seed);
+        let stream = hostile(alloc, &mut numbers)?;
+        let wanted = frames(&rt, alloc, &stream, Way::Fed, &mut numbers, 0)?;
+        for way in [Way::Fed, Way::OneByOne] {
+            let cuts = numbers.below(30);
+            let found = frames(&rt, alloc, &stream, way, &mut numbers, cuts)?;
+            assert!(rt; found == wanted, "seed {seed}");
+        }
+    }
+    Ok(())
+}
+
+/// What checking a reader's stream answers, and what is written.
+fn checked(
+    alloc: Global,
+    tables: &Tables,
+    mut reader: Pieces<'_>,
+) -> (Result<Tally, ToolFault>, Vec<u8>)
+    requires works { reader.failed ≡ false }
+    requires not_read { reader.reads ≡ 0 }
+    requires not_ended { reader.met_end ≡ false }
+{
+    let mut writer = IntoWrite::new(Vec::new(alloc));
+    let answer = run_check(alloc, 1_000_000, tables, &mut reader, &mut writer);
+    (answer, writer.into_inner())
+}
+
+/// The lines of each of two hundred streams are the same in one piece and in many.
+#[test]
+fn lines_of_any_pieces(rt: HostRuntime) -> Result<(), Fail> {
+    let alloc = rt.alloc();
+    let tables = tables(alloc)?;
+    let (mut accepted, mut refused) = (0u128, 0u128);
+    for seed in 0u64..200 {
+        let mut numbers = Numbers::new(seed);
+        let stream = hostile(alloc, &mut numbers)?;
+        let wanted = checked(alloc, &tables, Pieces::even(&stream, 1_000_000, End::Met));
+        let tally = wanted.0?;
+        accepted = accepted.saturating_add(tally.frames.saturating_sub(tally.refused));
+        refused = refused.saturating_add(tally.refused);
+        for most in [1usize, 9, 100] {
+            let found = checked(alloc, &tables, Pieces::uneven(&stream, most, seed));
+            assert!(rt; found == wanted, "seed {seed}, at most {most}");
+        }
+    }
+    assert!(rt;
+        accepted >= 100 && refused >= 50,
+        "{accepted} accepted, {refused} refused"
+    );
+    Ok(())
+}

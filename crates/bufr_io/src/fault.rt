@@ -1,0 +1,86 @@
+//! What an engine answers.
+
+ghost use Rattle.std.specs.Prelude.{◌≡◌, Some};
+ghost use Rattle.bufr_io.specs.Faults.{input_text};
+ghost use Rattle.bufr_io.specs.declared.fault.ToolFault.TheVariants.{OutOfMemory as NoMemory};
+
+use bufr_answers::OutOfMemory;
+use bufr_message::EncodeFault;
+use bufr_message::listing::ListingFault;
+use bufr_tables::TableFault;
+use std::fmt;
+use thiserror::Error;
+
+/// What an engine has read and written.
+#[derive(Clone, Copy, Debug, Drop, PartialEq, Eq)]
+pub struct Tally {
+    /// The frames that were found; the messages that were written, the archives that were read.
+    pub frames: u128,
+    /// Those of them that spell no message.
+    pub refused: u128,
+    /// The octets outside frames, where the command counts them.
+    pub skipped: u128,
+    /// The reports of the archive, where the command has one.
+    pub reports: u128,
+}
+
+/// What is read by a command.
+#[derive(Clone, Copy, Debug, Drop, PartialEq, Eq)]
+pub enum Input {
+    /// The file of Table B.
+    TableB,
+    /// The file of Table D.
+    TableD,
+    /// An input of the engine, counted from 1.
+    Number(u128),
+}
+
+impl fmt::Display for Input {
+    ghost output = { λ input. Some (input_text input) };
+
+    #[tactic(auto, unfolding(crate::specs::Faults::input_text))]
+    fn fmt<W: fmt::Write>(&self, f: &mut fmt::Formatter<W>) -> fmt::Result {
+        match self {
+            Input::TableB => write!(f, "table B"),
+            Input::TableD => write!(f, "table D"),
+            Input::Number(n) => write!(f, "input {n}"),
+        }
+    }
+}
+
+/// Why an engine gave no tally.
+#[derive(Clone, Copy, Debug, Drop, PartialEq, Eq, Error)]
+pub enum ToolFault {
+    /// A reader failed.
+    #[error("read failed {0}")]
+    ReadFailed(Input),
+    /// All reads that were allowed answered octets.
+    #[error("endless input {0}")]
+    EndlessInput(Input),
+    /// The writer failed after so many octets of the output.
+    #[error("write failed after {written} octets")]
+    WriteFailed { written: u128 },
+    /// The file of a table has a fault.
+    #[error("{0}: {1}")]
+    Table(Input, TableFault),
+    /// The listing has a fault.
+    #[error("listing: {0}")]
+    Listing(ListingFault),
+    /// A message of the listing, counted from 1, is not written.
+    #[error("message {0}: {1}")]
+    Encode(u128, EncodeFault),
+    /// An input, counted from 1, is no archive: the start of its first entry that is not right.
+    #[error("not an archive input {input} at {place}")]
+    NotAnArchive { input: u128, place: u64 },
+    /// Memory ran out.
+    #[error("out of memory")]
+    OutOfMemory,
+}
+
+impl From<OutOfMemory> for ToolFault {
+    ghost from_gives = { λ _ fault. fault ≡ NoMemory };
+
+    fn from(_error: OutOfMemory) -> ToolFault {
+        ToolFault::OutOfMemory
+    }
+}

@@ -1,0 +1,4 @@
+pub mod Keys
+pub mod Laws
+pub mod Samples
+pub mod Usable

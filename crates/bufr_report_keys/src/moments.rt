@@ -1,0 +1,84 @@
+//! The time that fields say.
+ghost use Rattle.std.specs.Prelude.{◌≡◌, ◌≤◌, pos};
+ghost use Rattle.jiff.specs.Words.{days_in_month};
+ghost use Rattle.bufr_report_keys.specs.Keys.{greatest_year, is_from_to, from_to, sixtieth, moment};
+
+use crate::usable::element_number;
+use bufr_data::Field;
+use bufr_keys::Moment;
+use jiff::civil::Date;
+
+/// Whether a number lies from low to high.
+fn is_from_to(low: u16, high: u16, number: i128) -> bool
+    ensures { result ≡ is_from_to low high number }
+{
+    i128::from(low) <= number && number <= i128::from(high)
+}
+
+/// The last year of the civil calendar as it is used here.
+pub const GREATEST_YEAR: u16 = 9999;
+
+/// A year from 1 to the greatest.
+fn year_of(number: i128) -> Option<u16>
+    ensures { result ≡ from_to 1 greatest_year number }
+{
+    if is_from_to(1, GREATEST_YEAR, number) {
+        Some(number as u16)
+    } else {
+        None
+    }
+}
+
+/// A number from low to high.
+fn from_to(low: u8, high: u8, number: i128) -> Option<u8>
+    ensures { result ≡ from_to low high number }
+{
+    if is_from_to(low as u16, high as u16, number) {
+        Some(number as u8)
+    } else {
+        None
+    }
+}
+
+/// A day that the civil calendar has in a month.
+fn day_of(year: u16, month: u8, number: i128) -> Option<u8>
+    requires year { year ≤ greatest_year }
+    requires month { (1 ≤ month) × (month ≤ 12) }
+    ensures { result ≡ from_to 1 (days_in_month (pos year) month) number }
+{
+    let day = from_to(1, 31, number)?;
+    match Date::new(year as i16, month as i8, day as i8) {
+        Ok(_) => Some(day),
+        Err(_) => None,
+    }
+}
+
+/// A minute or second: 0 where none is said.
+fn sixtieth(number: Option<i128>) -> Option<u8>
+    ensures { result ≡ sixtieth number }
+{
+    match number {
+        None => Some(0),
+        Some(number) => from_to(0, 59, number),
+    }
+}
+
+/// The time that fields say.
+pub(crate) fn moment_of(fields: &[Field]) -> Option<Moment>
+    ensures { result ≡ moment fields.now }
+{
+    let year = year_of(element_number(fields, 4, 1)?)?;
+    let month = from_to(1, 12, element_number(fields, 4, 2)?)?;
+    let day = day_of(year, month, element_number(fields, 4, 3)?)?;
+    let hour = from_to(0, 23, element_number(fields, 4, 4)?)?;
+    let minute = sixtieth(element_number(fields, 4, 5))?;
+    let second = sixtieth(element_number(fields, 4, 6))?;
+    Some(Moment {
+        year,
+        month,
+        day,
+        hour,
+        minute,
+        second,
+    })
+}

@@ -1,0 +1,61 @@
+//! An archive kept in a file.
+ghost use Rattle.std.specs.Prelude.{◌≡◌, IfOk, IfErr};
+ghost use Rattle.bufr_archive.specs.Texts.{text};
+ghost use Rattle.bufr_usage.specs.Callers.{HasTakenIn, IsNotTakenIn};
+
+use bufr_answers::{Failure, OutOfMemory};
+use bufr_archive::{AddFault, Archive, NotAnArchive, Shelf, SortedShelf};
+use bufr_bits::IntoWrite;
+use bufr_message::Refused;
+use bufr_tables::Tables;
+use std::alloc::Global;
+
+/// Why a message was not taken into a file's archive.
+#[derive(Debug, Drop)]
+pub enum KeepFault {
+    /// The file is no archive's text.
+    NotAnArchive(NotAnArchive),
+    /// The octets spell no message.
+    Refused(Refused),
+    /// Memory ran out.
+    OutOfMemory,
+}
+
+/// What an archive's file has to hold once the reports of a message are taken in: `file` is its
+/// octets before, empty where there was none, and `message` those of the message. Refused are a
+/// file that is no archive's text and octets that spell no message; memory may run out.
+pub fn with_message(
+    alloc: Global,
+    tables: &Tables,
+    file: &[u8],
+    message: &[u8],
+) -> Result<Vec<u8>, KeepFault>
+    ensures taken_in { IfOk result (λ v. HasTakenIn tables.now file.now message.now v.items) }
+    ensures refused { IfErr result (IsNotTakenIn tables.now file.now message.now) }
+{
+    let mut archive: Archive<SortedShelf> = match Archive::read(alloc, tables, file) {
+        Ok(archive) => archive,
+        Err(Failure::Fault(why)) => return Err(KeepFault::NotAnArchive(why)),
+        Err(Failure::OutOfMemory) => return Err(KeepFault::OutOfMemory),
+    };
+    match archive.add_message(message) {
+        Ok(_) => {}
+        Err(AddFault::Refused(why)) => return Err(KeepFault::Refused(why)),
+        Err(AddFault::OutOfMemory { .. }) => return Err(KeepFault::OutOfMemory),
+    }
+    match text_of(alloc, &archive) {
+        Ok(text) => Ok(text),
+        Err(_) => Err(KeepFault::OutOfMemory),
+    }
+}
+
+/// The text of an archive, all at once. It can only run out of memory.
+fn text_of<S: Shelf>(alloc: Global, archive: &Archive<'_, S>) -> Result<Vec<u8>, OutOfMemory>
+    ensures { IfOk result (λ octets. octets.items ≡ text archive.now.entries) }
+{
+    let mut octets = IntoWrite::new(Vec::new(alloc));
+    match archive.write(&mut octets) {
+        Ok(()) => Ok(octets.into_inner()),
+        Err(_) => Err(OutOfMemory),
+    }
+}

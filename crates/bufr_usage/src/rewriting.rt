@@ -1,0 +1,38 @@
+//! A message decoded, and written anew.
+ghost use Rattle.std.specs.Prelude.{IfOk, IfErr};
+ghost use Rattle.bufr_usage.specs.Callers.{IsRewritten, IsNotRewritten};
+
+use bufr_answers::Failure;
+use bufr_message::{EncodeFault, Refused, decode, encode};
+use bufr_tables::Tables;
+use std::alloc::Global;
+
+/// Why octets were not rewritten.
+#[derive(Debug, Drop)]
+pub enum RewriteFault {
+    /// The octets spell no message.
+    Refused(Refused),
+    /// The message has no encoding.
+    Unwritable(EncodeFault),
+    /// Memory ran out.
+    OutOfMemory,
+}
+
+/// The message that octets spell, written anew: of edition 4, with nothing in what is free, and the
+/// columns of compressed data as narrow as they can be. Refused is what spells no message, and a
+/// message that has no encoding; memory may run out.
+pub fn rewritten(alloc: Global, tables: &Tables, octets: &[u8]) -> Result<Vec<u8>, RewriteFault>
+    ensures rewritten { IfOk result (λ v. IsRewritten tables.now octets.now v.items) }
+    ensures refused { IfErr result (IsNotRewritten tables.now octets.now) }
+{
+    let message = match decode(alloc, tables, octets) {
+        Ok(decoded) => decoded.message,
+        Err(Failure::Fault(why)) => return Err(RewriteFault::Refused(why)),
+        Err(Failure::OutOfMemory) => return Err(RewriteFault::OutOfMemory),
+    };
+    match encode(alloc, tables, &message) {
+        Ok(written) => Ok(written),
+        Err(Failure::Fault(why)) => Err(RewriteFault::Unwritable(why)),
+        Err(Failure::OutOfMemory) => Err(RewriteFault::OutOfMemory),
+    }
+}
