@@ -4,9 +4,7 @@ ghost use Rattle.bufr_answers.specs.Answers.{Fails};
 ghost use Rattle.bufr_message.specs.Messages.{message_of};
 ghost use Rattle.bufr_usage.specs.Callers.{HasSoManyReports};
 
-use bufr_answers::Failure;
-use bufr_message::{Refused, decode};
-use bufr_tables::Tables;
+use bufr_message::{Failure, Refused, Tables, decode};
 use std::alloc::Global;
 
 /// How many reports a message of these octets has, or why it can't be read.

@@ -3,11 +3,9 @@ ghost use Rattle.std.specs.Prelude.{◌≡◌, IfOk, IfErr};
 ghost use Rattle.bufr_archive.specs.Texts.{text};
 ghost use Rattle.bufr_usage.specs.Callers.{HasTakenIn, IsNotTakenIn};
 
-use bufr_answers::{Failure, OutOfMemory};
 use bufr_archive::{AddFault, Archive, NotAnArchive, Shelf, SortedShelf};
 use bufr_bits::IntoWrite;
-use bufr_message::Refused;
-use bufr_tables::Tables;
+use bufr_message::{Failure, OutOfMemory, Refused, Tables};
 use std::alloc::Global;
 
 /// Why a message was not taken into a file's archive.

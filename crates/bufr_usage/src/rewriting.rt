@@ -2,9 +2,7 @@
 ghost use Rattle.std.specs.Prelude.{IfOk, IfErr};
 ghost use Rattle.bufr_usage.specs.Callers.{IsRewritten, IsNotRewritten};
 
-use bufr_answers::Failure;
-use bufr_message::{EncodeFault, Refused, decode, encode};
-use bufr_tables::Tables;
+use bufr_message::{EncodeFault, Failure, Refused, Tables, decode, encode};
 use std::alloc::Global;
 
 /// Why octets were not rewritten.

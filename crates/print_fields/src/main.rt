@@ -1,10 +1,9 @@
 //! Prints the descriptor and the value of each field of a message, one a line.
 #![tactic(auto)]
 
-use bufr_answers::{Failure, OutOfMemory};
-use bufr_data::{Field, Raw};
-use bufr_message::{Refused, decode};
-use bufr_tables::{TableB, TableD, TableFault, Tables};
+use bufr_message::{
+    Failure, Field, OutOfMemory, Raw, Refused, TableB, TableD, TableFault, Tables, decode,
+};
 use std::process::ExitCode;
 use std::{env, fs, io};
 use thiserror::Error;
