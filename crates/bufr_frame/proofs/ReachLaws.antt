@@ -122,6 +122,26 @@ disagrees_front (suc n) (x ∷ xs) (y ∷ ys) l h =
       | false ↦ λ e. refl
     ] h
 
+-- what disagrees in its first octets does so
+disagrees_longer : (n : ℕ) (xs ys : List ℕ) → agrees (take n xs) ys ≡ false → agrees xs ys ≡ false
+disagrees_longer zero xs ys h = cc
+disagrees_longer (suc n) [] ys h = h
+disagrees_longer (suc n) (x ∷ xs) [] h = h
+disagrees_longer (suc n) (x ∷ xs) (y ∷ ys) h =
+    elim (eqb x y) as
+    (λ b. cond b (agrees (take n xs) ys) false ≡ false → cond b (agrees xs ys) false ≡ false)
+    [ true ↦ λ e. disagrees_longer n xs ys e | false ↦ λ e. refl ] h
+
+-- a place that does not begin as `BUFR` in the first octets does not in all
+pub disagrees_near : (octets : List ℕ) (n k : ℕ) → k ≤ n
+    → agrees (drop k (take n octets)) bufr ≡ false → agrees (drop k octets) bufr ≡ false
+disagrees_near octets n k low h =
+    let m = n - k in
+    let whole : n ≡ k + m = omega arith in
+    disagrees_longer m (drop k octets) bufr
+    (subst (λ t. agrees t bufr ≡ false) (drop-take k m octets)
+    (subst (λ j. agrees (drop k (take j octets)) bufr ≡ false) whole h))
+
 -- where no octet before one begins as `BUFR`, none of so many octets of it and more does
 others_front : (rest : List ℕ) (skip n k : ℕ) → k < skip → (4 ≤ n) ⊎ (length rest ≤ skip + n)
     → agrees (drop k rest) bufr ≡ false → start_of (drop k (take (skip + n) rest)) ≡ Other
@@ -477,6 +497,40 @@ answers_piece fed held kept after piece r skip l from frame known s stop same wi
           (subst (λ t. HandsOverFrame (fed - length held) (all ++ take (skip + l) rest) t frame)
           (sym none) one);
     }
+
+-- nothing is held, and a frame stands in the piece behind so many octets that are passed over
+pub reaches_piece : (kept piece : List ℕ) (from skip l : ℕ) → from ≤ length kept
+    → drop from kept ≡ [] → skip ≤ length piece
+    → ((k : ℕ) → k < skip → agrees (drop k piece) bufr ≡ false)
+    → start_of (drop skip piece) ≡ Frame l
+    → Reaches (drop from kept) kept piece
+    (record { from = from; taken = 0; stop = Piece skip l })
+reaches_piece kept piece from skip l within none room others frame = record {
+  within = within;
+  taken = omega arith;
+  short = omega (arith, ap length none);
+  passed = passed_none (drop from kept) piece;
+  stops = record { nothing = none; within = room; others = others; frame = frame };
+}
+
+-- such a frame is handed out, and nothing is held after it
+pub answers_lent : (fed : ℕ) (kept piece : List ℕ) (from skip l : ℕ) (frame : Found)
+    → length (drop from kept) ≤ fed → from ≤ length kept → from ≤ length (drop from kept)
+    → drop from kept ≡ [] → skip ≤ length piece
+    → ((k : ℕ) → k < skip → agrees (drop k piece) bufr ≡ false)
+    → start_of (drop skip piece) ≡ Frame l
+    → frame ≡ record { place = fed + skip; bytes = take l (drop skip piece) }
+    → HandsOver fed (drop from kept) kept piece
+    (record { found = Some frame; from = from; taken = skip + l })
+answers_lent fed kept piece from skip l frame known within half none room others at is =
+    let zero_more : 0 + skip ≡ skip = omega arith in
+    subst (λ n. HandsOver fed (drop from kept) kept piece
+    (record { found = Some frame; from = from; taken = n + l })) zero_more
+    (answers_piece fed (drop from kept) kept kept piece
+    (record { from = from; taken = 0; stop = Piece skip l }) skip l from frame known
+    (reaches_piece kept piece from skip l within none room others at) refl refl within half
+    (subst (λ n. frame ≡ record { place = fed + n; bytes = take l (drop n piece) })
+    (sym zero_more) is))
 
 -- no frame, and all of the piece is taken in
 pub answers_none : (fed : ℕ) (held kept after piece : List ℕ) (r : Reached) (from : ℕ)

@@ -1,4 +1,5 @@
 pub mod Framings
+pub mod FrameOctets
 pub mod Starts
 pub mod Streams
 pub mod Cuts

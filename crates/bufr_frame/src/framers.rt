@@ -1,6 +1,6 @@
 //! The framer of a stream.
 ghost use Rattle.std.specs.Prelude.{◌≡◌, ◌≤◌, ◌+◌, ◌^◌, ◌<◌, ◌++◌, [], List, ℕ, length, drop};
-ghost use Rattle.std.specs.Prelude.{None, IfOk, IfSome, OnOk, OnErr};
+ghost use Rattle.std.specs.Prelude.{None, IfOk, IfSome, IfNone, OnOk, OnErr};
 ghost use Rattle.bufr_frame.specs.declared.places.TheConstants.{LONGEST};
 ghost use Rattle.bufr_frame.specs.Streams.{Stands};
 ghost use Rattle.bufr_frame.specs.Looks.{new_framing};
@@ -9,9 +9,11 @@ ghost use Rattle.bufr_frame.specs.NextFrames.{StandsAfter, AreSureNext, AreLast,
 
 use crate::frames::Found;
 use crate::kept::append_and_scan;
+use crate::lent_frame::LentFrame;
 use crate::looks::Look;
-use crate::next_frame::Taken;
-use crate::reaching::hand_over;
+use crate::next_frame::{NextFrame, Taken};
+use crate::places::{Start, start_of};
+use crate::reaching::{hand_over, near_mark};
 use crate::scans::frames_in;
 use bufr_answers::OutOfMemory;
 use std::alloc::Global;
@@ -149,6 +151,64 @@ impl Framer {
             found: taking.found,
             rest: &piece[taking.taken..],
         })
+    }
+
+    /// What `take_next` does, but the frame is lent where it lies whole in the piece, which takes no
+    /// memory. Call it again with the rest until it hands out none. Err where memory runs out;
+    /// nothing is changed then.
+    pub fn next_frame<'p>(&mut self, piece: &'p [u8]) -> Result<NextFrame<'p>, OutOfMemory>
+        requires { self.old.fed + length piece.now < 2 ^ 64 }
+        ensures rest { IfOk result (λ next. IsRestOf piece.now next.rest.now) }
+        ensures frame { IfOk result (λ next. IfSome next.found (λ frame.
+            IsNextFrame self.old (taken_in piece.now next.rest.now) frame)) }
+        ensures next { IfOk result (λ next. IfSome next.found (λ frame.
+            StandsAfter self.old self.new (taken_in piece.now next.rest.now) 1)) }
+        ensures all_taken { IfOk result (λ next. next.found ≡ None → next.rest.now ≡ []) }
+        ensures none { IfOk result (λ next. next.found ≡ None → IsNoFrame self.old piece.now) }
+        ensures waits { IfOk result (λ next. next.found ≡ None
+            → StandsAfter self.old self.new piece.now 0) }
+        ensures fed { IfOk result (λ next.
+            self.new.fed ≡ self.old.fed + length (taken_in piece.now next.rest.now)) }
+        ensures err { OnErr result (self.new ≡ self.old) }
+    {
+        if let Some((frame, rest)) = self.lend(piece) {
+            let found = Some(frame);
+            return Ok(NextFrame { found, rest });
+        }
+        let Taken { found, rest } = self.take_next(piece)?;
+        match found {
+            None => Ok(NextFrame { found: None, rest }),
+            Some(frame) => {
+                let found = Some(LentFrame::own(frame));
+                Ok(NextFrame { found, rest })
+            }
+        }
+    }
+
+    /// The frame at the next mark of the piece, and what is left of the piece behind it, where
+    /// nothing is held and the mark is near. Else nothing is changed.
+    fn lend<'p>(&mut self, piece: &'p [u8]) -> Option<(LentFrame<'p>, &'p [u8])>
+        requires { self.old.fed + length piece.now < 2 ^ 64 }
+        ensures rest { IfSome result (λ lent. IsRestOf piece.now lent.1.now) }
+        ensures frame { IfSome result (λ lent.
+            IsNextFrame self.old (taken_in piece.now lent.1.now) lent.0) }
+        ensures next { IfSome result (λ lent.
+            StandsAfter self.old self.new (taken_in piece.now lent.1.now) 1) }
+        ensures fed { IfSome result (λ lent.
+            self.new.fed ≡ self.old.fed + length (taken_in piece.now lent.1.now)) }
+        ensures none { IfNone result (self.new ≡ self.old) }
+    {
+        if self.from != self.octets.len() {
+            return None;
+        }
+        let skip = near_mark(piece);
+        let Start::Frame(length) = start_of(&piece[skip..]) else {
+            return None;
+        };
+        let end = skip + length;
+        let frame = LentFrame::lent(self.fed + skip as u64, &piece[skip..end]);
+        self.fed += end as u64;
+        Some((frame, &piece[end..]))
     }
 
     /// Ends the stream, and hands out its last frames. The framer is then as new.

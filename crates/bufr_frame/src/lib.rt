@@ -30,11 +30,13 @@
 //! into the framer that it makes, and so is the dearer way for tiny pieces; `feed` copies nothing
 //! but the piece and the frames.
 //!
-//! `take_next` hands out one frame a call, so a loop over it holds one frame at a time. Where
-//! nothing is held, it searches the piece where it stands and copies out the frame that it finds;
-//! where a place is open, it appends at most what decides it. So a call costs what it takes in,
-//! however long the rest of the piece is. The loop ends where it hands out no frame: after an outer
-//! frame is ruled out, several frames may be held although the piece is all taken in.
+//! `next_frame` hands out one frame a call, so a loop over it holds one frame at a time. Where
+//! nothing is held, and the next `BUFR` begins within 256 octets a frame that lies whole in the
+//! piece, it lends that frame and takes no memory. Else it does what `take_next` does, which copies
+//! the frame out: where nothing is held, it searches the piece where it stands; where a place is
+//! open, it appends at most what decides it. So a call costs what it takes in, however long the
+//! rest of the piece is. The loop ends where it hands out no frame: after an outer frame is ruled
+//! out, several frames may be held although the piece is all taken in.
 //!
 //! Times stand in `bench/RESULTS.md`.
 //!
@@ -42,8 +44,9 @@
 //!
 //! For every stream and every number of frames for which a framer stands, `feed`, or `settle` of
 //! its `look`, hands out the sure frames of the longer stream that were not handed out, and the
-//! framer then stands for that stream with all of them out; `take_next` takes in a front of the
-//! piece and hands out the next sure frame, or all of the piece where no further frame is sure;
+//! framer then stands for that stream with all of them out; `take_next` and `next_frame` take in a
+//! front of the piece and hand out the next sure frame, or take in all of the piece where no further
+//! frame is sure;
 //! `finish` hands out what is left of the cut. [`laws`] ties the words: the cut and the sure frames
 //! are the only lists with their properties, sure frames stay sure, a framer holds exactly what it
 //! must, and frames joined are cut apart again. Want of memory meets every clause, so the tests
@@ -52,14 +55,16 @@
 
 pub use framers::Framer;
 pub use frames::Found;
+pub use lent_frame::LentFrame;
 pub use looks::Look;
-pub use next_frame::Taken;
+pub use next_frame::{NextFrame, Taken};
 pub use pieces::frames_of_pieces;
 
 mod framers;
 mod frames;
 mod kept;
 pub mod laws;
+mod lent_frame;
 mod looks;
 mod next_frame;
 mod pieces;

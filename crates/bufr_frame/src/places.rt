@@ -12,7 +12,7 @@ pub const END: &[u8] = b"7777";
 /// The least length that a frame may announce.
 pub const SHORTEST: usize = 12;
 
-/// The greatest length that three octets announce.
+/// The greatest length that three octets announce. No rule asks for it: it bounds what is held.
 pub const LONGEST: usize = 16_777_215;
 
 /// How many octets tell the length: `BUFR` and the three octets after it.
@@ -74,8 +74,9 @@ pub fn start_of(octets: &[u8]) -> Start
     }
 }
 
-/// How many more octets decide what stands where these follow, which is open: those that the length
-/// lacks, and else those of which the frame would have so many.
+/// How many more octets have to come before it is decided what stands here, where it is open: up to
+/// the end of the length, if the length is not all there, else up to the end of the frame that it
+/// announces.
 pub fn missing(octets: &[u8]) -> usize
     requires { start_of octets.now ≡ Start.Open }
     ensures some { 1 ≤ result }

@@ -1,12 +1,12 @@
 //! What is taken in of a piece until the next frame is sure.
-ghost use Rattle.std.specs.Prelude.{◌≡◌, ◌+◌, ◌-◌, ◌<◌, ◌≤◌, ◌^◌, [], length, drop, IfOk, OnErr};
+ghost use Rattle.std.specs.Prelude.{◌≡◌, ℕ, ◌+◌, ◌-◌, ◌<◌, ◌≤◌, ◌^◌, [], length, drop, false, IfOk, OnErr};
 ghost use Rattle.bufr_frame.specs.declared.places.TheConstants.{LONGEST};
-ghost use Rattle.bufr_frame.specs.Starts.{bufr, start_of};
+ghost use Rattle.bufr_frame.specs.Starts.{agrees, bufr, start_of};
 ghost use Rattle.bufr_frame.specs.Reaches.{Extends, KeepsMore, Reaches, HandsOver};
 
 use crate::frames::Found;
 use crate::kept::let_go;
-use crate::places::{HEAD, MARK, Start, missing, start_of};
+use crate::places::{HEAD, MARK, Start, agrees, missing, start_of};
 use crate::scans::{next_mark, next_start};
 use bufr_answers::OutOfMemory;
 use memchr::memmem::Finder;
@@ -143,6 +143,21 @@ fn reach(octets: &mut Vec<u8>, from: usize, piece: &[u8]) -> Result<Reached, Out
         taken,
         stop,
     })
+}
+
+/// In how many octets a mark is looked for before it is known whether a frame stands there.
+const NEAR: usize = 256;
+
+/// The place of the first mark, where it is near, or one before which there is none.
+pub fn near_mark(piece: &[u8]) -> usize
+    ensures within { result ≤ length piece.now }
+    ensures others { (k : ℕ) → k < result → agrees (drop k piece.now) bufr ≡ false }
+{
+    if agrees(piece, MARK) {
+        return 0;
+    }
+    let near = &piece[..piece.len().min(NEAR)];
+    next_mark(&Finder::new(MARK), near, 0)
 }
 
 /// Takes in a front of the piece, after `fed` octets of the stream, and copies out the next frame.

@@ -59,9 +59,10 @@ enum Way {
     Feed,
     Look,
     TakeNext,
+    NextFrame,
 }
 
-const WAYS: [Way; 3] = [Way::Feed, Way::Look, Way::TakeNext];
+const WAYS: [Way; 4] = [Way::Feed, Way::Look, Way::TakeNext, Way::NextFrame];
 
 /// Takes in a piece for which there is room, up to its first frame.
 fn take<'p>(
@@ -113,6 +114,55 @@ fn take_all(
     Ok(all)
 }
 
+/// The octets of a frame, copied.
+fn copied(alloc: Global, frame: &LentFrame<'_>) -> Result<Found, OutOfMemory> {
+    Ok(Found {
+        place: frame.place(),
+        bytes: Items::from_vec(Vec::from_slice(alloc, frame.as_slice())?),
+    })
+}
+
+/// Takes in a piece for which there is room, up to its first frame, and counts the octets.
+fn lend_counted<'p>(
+    rt: &impl Abort,
+    framer: &mut Framer,
+    piece: &'p [u8],
+) -> Result<NextFrame<'p>, OutOfMemory> {
+    assert!(rt; framer.fed() <= u64::MAX - piece.len() as u64);
+    let fed = framer.fed();
+    let next = framer.next_frame(piece)?;
+    assert!(rt; next.rest.len() <= piece.len());
+    assert!(rt; framer.fed() >= fed);
+    let octets = (piece.len() - next.rest.len()) as u64;
+    same(rt, framer.fed() - fed, octets);
+    assert!(rt; framer.pending() <= 16_777_215);
+    Ok(next)
+}
+
+/// Takes in a piece for which there is room, frame by frame, each lent where it can be.
+fn lend_all(
+    rt: &impl Abort,
+    alloc: Global,
+    framer: &mut Framer,
+    piece: &[u8],
+) -> Result<Vec<Found>, OutOfMemory> {
+    let mut all = Vec::new(alloc);
+    let mut rest = piece;
+    for _ in 0..1_000_000 {
+        let next = lend_counted(rt, framer, rest)?;
+        rest = next.rest;
+        match next.found {
+            Some(frame) => all.push(copied(alloc, &frame)?)?,
+            None => {
+                assert!(rt; rest.is_empty());
+                return Ok(all);
+            }
+        }
+    }
+    assert!(rt; false, "no end of frames");
+    Ok(all)
+}
+
 /// Takes in a piece for which there is room, by a look.
 fn look_and_settle(framer: &mut Framer, piece: &[u8]) -> Result<Vec<Found>, OutOfMemory>
     requires { framer.old.fed + length piece.now < 2 ^ 64 }
@@ -134,6 +184,7 @@ fn give(
         Way::Feed => framer.feed(piece),
         Way::Look => look_and_settle(framer, piece),
         Way::TakeNext => take_all(rt, alloc, framer, piece),
+        Way::NextFrame => lend_all(rt, alloc, framer, piece),
     }
 }
 

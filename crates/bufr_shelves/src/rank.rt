@@ -5,7 +5,8 @@ ghost use Rattle.std.specs.declared.cmp.Ordering.TheVariants.{Equal};
 use bufr_answers::Items;
 use bufr_keys::Key;
 
-/// What decides between two entries of one key: the update number, and then the octets.
+/// What decides between two entries of one key: the update number, and then the octets. The greater
+/// one is kept. Its order is derived, so it is the order in which the fields stand here.
 #[derive(Clone, Debug, Drop, PartialEq, Eq, PartialOrd, Ord)]
 pub(crate) struct Rank {
     pub(crate) update: u8,

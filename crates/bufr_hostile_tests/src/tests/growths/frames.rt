@@ -2,7 +2,7 @@
 
 use crate::tests::same;
 use crate::tests::samples::{SEQUENCES, is_refused};
-use bufr_frame::{Found, Framer, Look, Taken};
+use bufr_frame::{Found, Framer, LentFrame, Look, NextFrame, Taken};
 use std::process::Abort;
 use std::test::Fail;
 
@@ -150,6 +150,40 @@ fn frames_taken_one_by_one(rt: HostRuntime) -> Result<(), Fail> {
     take_message(&rt, &mut framer, SEQUENCES, 62)?;
     take_none(&rt, &mut framer, HEADING)?;
     take_none(&rt, &mut framer, SEQUENCES)?;
+    assert!(rt; is_message_at(&finished(&rt, &mut framer)?, 136));
+    Ok(())
+}
+
+/// The next frame of a piece; after a refusal the framer has as much as before.
+fn next<'a>(rt: &impl Abort, framer: &mut Framer, piece: &'a [u8]) -> Result<NextFrame<'a>, Fail> {
+    let before = standing(framer);
+    assert!(rt; framer.fed() <= 1_000_000);
+    assert!(rt; piece.len() <= 1000);
+    let mut answer = framer.next_frame(piece);
+    if is_refused(&answer) {
+        same(rt, standing(framer), before);
+        answer = framer.next_frame(piece);
+    }
+    Ok(answer?)
+}
+
+/// Whether a frame of the message at a place was lent.
+fn is_message_lent(found: &Option<LentFrame<'_>>, place: u64) -> bool {
+    match found {
+        Some(frame) => frame.place() == place && frame.as_slice() == SEQUENCES,
+        None => false,
+    }
+}
+
+#[test]
+fn frames_lent_one_by_one(rt: HostRuntime) -> Result<(), Fail> {
+    let mut framer = Framer::new(rt.alloc());
+    assert!(rt; next(&rt, &mut framer, &SEQUENCES[..40])?.found.is_none());
+    let held = next(&rt, &mut framer, &SEQUENCES[40..])?;
+    assert!(rt; is_message_lent(&held.found, 0));
+    assert!(rt; is_message_lent(&next(&rt, &mut framer, SEQUENCES)?.found, 62));
+    assert!(rt; next(&rt, &mut framer, HEADING)?.found.is_none());
+    assert!(rt; next(&rt, &mut framer, SEQUENCES)?.found.is_none());
     assert!(rt; is_message_at(&finished(&rt, &mut framer)?, 136));
     Ok(())
 }

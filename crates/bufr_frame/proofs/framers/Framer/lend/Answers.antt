@@ -1,0 +1,72 @@
+-- The clauses of `Framer::lend`: a frame that is lent is the next sure one, as if it were copied out.
+use Rattle.std.proofs.Common.{◌≡◌, ℕ, ◌+◌, ◌-◌, ◌≤◌, List, [], length, drop, take, sym, ap, subst}
+use Rattle.std.proofs.Common.{◌∙◌, Some, arith}
+use Rattle.std.proofs.lemmas.List.{length-take-le, take_rest, drop_all}
+use Rattle.bufr_frame.specs.declared.frames.Found.{Found}
+use Rattle.bufr_frame.specs.declared.places.Start.TheVariants.{Frame}
+use Rattle.bufr_frame.specs.Framings.{Framing}
+use Rattle.bufr_frame.specs.Reaches.{HandsOver}
+use Rattle.bufr_frame.specs.Starts.{start_of}
+use Rattle.bufr_frame.specs.NextFrames.{IsNextFrame, StandsAfter}
+use Rattle.bufr_frame.proofs.ReachLaws.{answers_lent, taken_is, next_frame, stands_next}
+use Rattle.bufr_frame.proofs.framers.Framer.lend.Goals as goal
+
+-- the call of `take_next` that would copy the frame out
+hands_over : (c : goal.After-result-1)
+    → HandsOver c.self.inside.fed (drop c.self.inside.from c.self.inside.octets.items)
+    c.self.inside.octets.items c.args.piece.now (record {
+      found = Some c.lent-frame.result;
+      from = c.self.inside.from;
+      taken = c.near_mark-skip.result + c.in-Frame.length;
+    })
+hands_over c =
+    let inside = c.self.inside in
+    let kept = inside.octets.items in
+    let piece = c.args.piece.now in
+    let skip = c.near_mark-skip.result in
+    let l = c.in-Frame.length in
+    let known = c.self.invariant in
+    let none : drop inside.from kept ≡ [] = drop_all inside.from kept (omega arith) in
+    let start : start_of (drop skip piece) ≡ Frame l =
+    subst (λ t. start_of t ≡ Frame l) (take_rest piece skip)
+    (sym c.start_of.ensures.start ∙ c.in-Frame.is) in
+    let one : (skip + l) - skip ≡ l = omega arith in
+    let frame : c.lent-frame.result ≡ record { place = inside.fed + skip; bytes = take l (drop skip piece) } =
+    c.lent-frame.ensures
+    ∙ ap (λ (n : ℕ). let f : Found =
+    record { place = inside.fed + skip; bytes = take n (drop skip piece) } in f) one in
+    answers_lent inside.fed kept piece inside.from skip l c.lent-frame.result known.taken
+    known.within known.half none c.near_mark-skip.ensures.within c.near_mark-skip.ensures.others
+    start frame
+
+-- a frame lent is the next sure one of the stream with the octets taken in
+pub returns-clause-frame : goal.returns-clause-frame
+returns-clause-frame c =
+    let t = hands_over c in
+    let inside = c.self.inside in
+    let piece = c.args.piece.now in
+    let n = c.near_mark-skip.result + c.in-Frame.length in
+    let taken = take n piece in
+    let v : Framing = record { fed = inside.fed; held = drop inside.from inside.octets.items } in
+    let next : IsNextFrame v taken c.lent-frame.result =
+    next_frame v taken _ (Some c.lent-frame.result) t.found in
+    subst (λ a. IsNextFrame c.args.self.now a c.lent-frame.result)
+    (sym (taken_is piece n t.taken))
+    (subst (λ w. IsNextFrame w taken c.lent-frame.result) c.self.view_is next)
+
+-- the framer then stands for that stream with one frame more handed out
+pub returns-clause-next : goal.returns-clause-next
+returns-clause-next c =
+    let t = hands_over c in
+    let inside = c.self.inside in
+    let piece = c.args.piece.now in
+    let n = c.near_mark-skip.result + c.in-Frame.length in
+    let taken = take n piece in
+    let held = drop inside.from inside.octets.items in
+    let v : Framing = record { fed = inside.fed; held = held } in
+    let new : Framing = record { fed = inside.fed + n; held = held } in
+    let next : StandsAfter v new taken 1 =
+    stands_next v taken held n (Some c.lent-frame.result) (length-take-le n piece t.taken) t.found in
+    subst (λ a. StandsAfter c.args.self.now new a 1)
+    (sym (taken_is piece n t.taken))
+    (subst (λ w. StandsAfter w new taken 1) c.self.view_is next)
