@@ -23,6 +23,7 @@ use Rattle.bufr_data.specs.declared.fault.WriteFault.{WriteFault}
 use Rattle.bufr_data.specs.declared.fault.WriteFault.TheVariants as misfits
 use Rattle.bufr_data.specs.Limits.{most_raw_bits}
 pub mod Alike
+pub mod Even
 pub mod Numbered
 pub mod Reads
 pub mod Refusals

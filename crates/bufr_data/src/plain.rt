@@ -5,4 +5,5 @@ pub(crate) mod index;
 pub(crate) mod pass;
 pub(crate) mod read;
 pub(crate) mod read_each;
+pub(crate) mod starts;
 pub(crate) mod write;

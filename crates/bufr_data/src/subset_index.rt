@@ -11,6 +11,7 @@ ghost use Rattle.bufr_data.specs.Shown.{shown};
 use crate::compressed::index::Columns;
 use crate::fault::ReadFault;
 use crate::field::Subset;
+use crate::plain::alike::Alike;
 use crate::plain::index::PlainSubsets;
 use bufr_answers::{Failure, OutOfMemory};
 use bufr_bits::BitReader;
@@ -112,7 +113,8 @@ fn index_of<'a>(
     let standing = if compressed {
         DataIndex::Compressed(Columns::index(alloc, &template, reader, count)?)
     } else {
-        DataIndex::Plain(PlainSubsets::index(alloc, template, reader, count)?)
+        let alike = Alike::of_several(alloc, &template, reader.left(), count)?;
+        DataIndex::Plain(PlainSubsets::index(alloc, template, alike, reader, count)?)
     };
     Ok(SubsetIndex { standing })
 }

@@ -5,6 +5,7 @@ mod data;
 mod forms;
 mod index;
 mod samples;
+mod starts;
 mod values;
 
 use std::fmt::Debug;

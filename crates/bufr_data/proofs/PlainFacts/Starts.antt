@@ -1,8 +1,9 @@
 -- The index keeps a start for each plain subset that is passed, one after the other
 -- (`PlainSubsets::index`).
 use Rattle.std.proofs.Common.{◌≡◌, ℕ, ◌+◌, ◌-◌, ◌*◌, ◌<◌, ◌≤◌, Bool, List, [], ◌∷◌, ◌++◌, length}
-use Rattle.std.proofs.Common.{map, drop, Result, Ok, refl, sym, ap, subst, ◌∙◌}
-use Rattle.std.specs.Prelude.{IsOk}
+use Rattle.std.proofs.Common.{map, drop, Some, Result, Ok, refl, sym, ap, subst, ◌∙◌}
+use Rattle.std.specs.Prelude.{IsOk, slice_get, option_map}
+use Rattle.std.proofs.lemmas.Option.{slice_get-map}
 use Rattle.bufr_data.proofs.ListFacts.{all_grown, map_grown}
 use Rattle.bufr_bits.specs.Bits.{bits}
 use Rattle.bufr_expand.specs.Courses.{course}
@@ -17,12 +18,30 @@ use Rattle.bufr_data.specs.Plain.Starts.{AllBegin}
 use Rattle.bufr_data.proofs.PlainFacts.Subsets.{fields_at_numbered, one_more}
 
 -- what was passed is read from the start on
-read_there : (octets : List ℕ) (tree : Tree) (s : SubsetStart) (front rest : List Bool) (items : ℕ)
+pub read_there : (octets : List ℕ) (tree : Tree) (s : SubsetStart) (front rest : List Bool) (items : ℕ)
     → front ≡ drop s.bit (bits octets)
     → (p : PassesSubset (fields_at 1 1 (course tree s.used) front) items rest)
     → subset_at octets tree s ≡ Ok (record { fields = p.0; items = items; rest = rest })
 read_there octets tree s front rest items is p =
     ap (fields_at 1 1 (course tree s.used)) (sym is) ∙ p.1
+
+-- its fields are those of the subset that begins there
+pub here_is : (octets : List ℕ) (tree : Tree) (s : SubsetStart) (front rest : List Bool) (items : ℕ)
+    → front ≡ drop s.bit (bits octets)
+    → (p : PassesSubset (fields_at 1 1 (course tree s.used) front) items rest)
+    → ◌≡◌ {A = Subset} (record { fields = p.0 }) (subset_from octets tree s)
+here_is octets tree s front rest items is p =
+    λ t. record { fields = fields_of (sym (read_there octets tree s front rest items is p) t) }
+
+-- the subset of an index is the one that is read at its start
+pub read_shown : (octets : List ℕ) (tree : Tree) (starts : List SubsetStart) (subsets : List Subset)
+    (k : ℕ) (s : SubsetStart) (found : SubsetRead) → map (subset_from octets tree) starts ≡ subsets
+    → slice_get starts k ≡ Some s → subset_at octets tree s ≡ Ok found
+    → slice_get subsets k ≡ Some (record { fields = found.fields })
+read_shown octets tree starts subsets k s found view is read =
+    ap (λ xs. slice_get xs k) (sym view) ∙ slice_get-map (subset_from octets tree) starts k
+    ∙ ap (option_map (subset_from octets tree)) is
+    ∙ (λ t. Some (record { fields = fields_of (read t) }))
 
 -- one start more stands
 pub one_stands : (octets : List ℕ) (tree : Tree) (s : SubsetStart) (front rest : List Bool)
@@ -50,9 +69,7 @@ one_start octets tree s n index front rest items starts grown all is there below
     let found : fields_at (index + 1) 1 (course tree s.used) front ≡ Ok first =
     fields_at_numbered (index + 1) 1 (course tree s.used) front
     ∙ ap (numbered (index + 1)) p.1 in
-    let here : ◌≡◌ {A = Subset} (record { fields = p.0 }) (subset_from octets tree s) =
-    λ t.
-    record { fields = fields_of (sym (read_there octets tree s front rest items there p) t) } in
+    let here = here_is octets tree s front rest items there p in
     let same : map (subset_from octets tree) starts ++ record { fields = p.0 } ∷ []
     ≡ map (subset_from octets tree) grown =
     ap (λ (x : Subset). map (subset_from octets tree) starts ++ x ∷ []) here

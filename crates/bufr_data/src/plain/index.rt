@@ -1,6 +1,6 @@
 //! Plain data, one subset at a time.
 
-ghost use Rattle.std.specs.Prelude.{◌≡◌, ◌-◌, ◌*◌, ◌≤◌, map, length, slice_get, false, Bool, List};
+ghost use Rattle.std.specs.Prelude.{◌≡◌, ◌+◌, ◌-◌, ◌*◌, ◌^◌, ◌<◌, ◌≤◌, map, length, slice_get, false, Bool, List};
 ghost use Rattle.std.specs.Prelude.{Some, IfOk, IfErr, IfSome};
 ghost use Rattle.bufr_bits.specs.Ends.{left};
 ghost use Rattle.bufr_answers.specs.Answers.{Gives, Fails};
@@ -17,6 +17,7 @@ use crate::plain::alike::Alike;
 use crate::plain::pass::pass_subset;
 use crate::plain::read::read_plain;
 use crate::plain::read_each::of_subset;
+use crate::plain::starts::Starts;
 use bufr_answers::{Failure, OutOfMemory};
 use bufr_bits::BitReader;
 use bufr_expand::Template;
@@ -27,8 +28,8 @@ use std::marker::Model;
 /// Where a subset begins, and how many items the message has met before it.
 #[derive(Clone, Copy, Debug, PartialEq)]
 pub(crate) struct SubsetStart {
-    bit: u128,
-    used: u64,
+    pub(crate) bit: u128,
+    pub(crate) used: u64,
 }
 
 /// The plain subsets of a message. It keeps where each begins, and borrows the octets.
@@ -36,7 +37,7 @@ pub(crate) struct SubsetStart {
 pub(crate) struct PlainSubsets<'a> {
     octets: &'a [u8],
     template: Template,
-    starts: Vec<SubsetStart>,
+    starts: Starts,
 }
 
 impl<'a> Model for PlainSubsets<'a> {
@@ -46,27 +47,30 @@ impl<'a> Model for PlainSubsets<'a> {
 
     ghost Value = { List Subset };
 
-    ghost view = { λ s. map (subset_from s.octets.now s.template) s.starts.items };
+    ghost view = { λ s. map (subset_from s.octets.now s.template) s.starts };
 
-    ghost invariant = { λ s. AllBegin s.octets.now s.template s.starts.items };
+    ghost invariant = { λ s. AllBegin s.octets.now s.template s.starts };
 }
 
 impl<'a> PlainSubsets<'a> {
-    /// So many subsets, whose data the bits begin with: each is passed once, and none is built. The
-    /// reader moves past exactly their data; after an error it may have moved on.
+    /// So many subsets, whose data the bits begin with, none of which is built. The reader moves
+    /// past exactly their data; after an error it may have moved on. Where it is known what each
+    /// subset has, all are passed at once.
     pub(crate) fn index(
         alloc: Global,
         template: Template,
+        alike: Option<Alike>,
         reader: &mut BitReader<'a>,
         count: u16,
     ) -> Result<PlainSubsets<'a>, Failure<ReadFault>>
+        requires { IfSome alike (IsAlike template) }
         ensures exact { Gives {Y = List Subset × List Bool} (λ subsets. (subsets, left reader.new))
             result (subsets_in template false count (left reader.old)) }
         ensures octets { reader.new.octets ≡ reader.old.octets }
         ensures onward { reader.old.place ≤ reader.new.place }
     {
         let octets = reader.octets();
-        let starts = starts_of(alloc, &template, reader, count)?;
+        let starts = starts_of(alloc, &template, alike, reader, count)?;
         Ok(PlainSubsets {
             octets,
             template,
@@ -87,7 +91,7 @@ impl<'a> PlainSubsets<'a> {
         requires last { number ≤ length self.now }
         ensures { IfOk result (λ s. slice_get self.now (number - 1) ≡ Some s) }
     {
-        let start = self.starts[number - 1];
+        let start = self.starts.at(number);
         let mut reader = BitReader::at(self.octets, start.bit);
         match read_plain(alloc, &self.template, &mut reader, start.used) {
             Ok((subset, _)) => Ok(subset),
@@ -98,14 +102,68 @@ impl<'a> PlainSubsets<'a> {
 }
 
 /// Where so many subsets begin, whose data the bits begin with. After an error the reader may have
-/// moved on. Where the template asks for no count it is walked once, and each subset is then passed
-/// by its bits alone.
+/// moved on. Where it is known what each subset has, and all their bits and items are there, they
+/// are passed at once, with no memory.
 fn starts_of(
     alloc: Global,
     template: &Template,
+    alike: Option<Alike>,
+    reader: &mut BitReader,
+    count: u16,
+) -> Result<Starts, Failure<ReadFault>>
+    requires { IfSome alike (IsAlike template.now) }
+    ensures exact { Gives {Y = List Subset × List Bool}
+        (λ starts. (map (subset_from reader.old.octets template.now) starts, left reader.new))
+        result (subsets_in template.now false count (left reader.old)) }
+    ensures stand { IfOk result (λ starts. AllBegin reader.old.octets template.now starts) }
+    ensures octets { reader.new.octets ≡ reader.old.octets }
+    ensures onward { reader.old.place ≤ reader.new.place }
+{
+    courses_are_unrollings();
+    let bit = bit_of(reader);
+    match alike {
+        Some(each) if each.pass_all(reader, count) => {
+            Ok(Starts::even(SubsetStart { bit, used: 0 }, each, count))
+        }
+        None if count == 1 => only_start(alloc, template, reader),
+        _ => {
+            let starts = starts_in_turn(alloc, template, alike, reader, count)?;
+            Ok(Starts::listed(starts))
+        }
+    }
+}
+
+/// Where the one subset begins, whose data the bits begin with. After an error the reader may have
+/// moved on.
+fn only_start(
+    alloc: Global,
+    template: &Template,
+    reader: &mut BitReader,
+) -> Result<Starts, Failure<ReadFault>>
+    ensures exact { Gives {Y = List Subset × List Bool}
+        (λ starts. (map (subset_from reader.old.octets template.now) starts, left reader.new))
+        result (subsets_in template.now false 1 (left reader.old)) }
+    ensures stand { IfOk result (λ starts. AllBegin reader.old.octets template.now starts) }
+    ensures octets { reader.new.octets ≡ reader.old.octets }
+    ensures onward { reader.old.place ≤ reader.new.place }
+{
+    let bit = bit_of(reader);
+    let items = pass_numbered(alloc, template, reader, 1, 0)?;
+    let bits = bit_of(reader) - bit;
+    let each = Alike { bits, items };
+    Ok(Starts::even(SubsetStart { bit, used: 0 }, each, 1))
+}
+
+/// Where so many subsets begin, each of which is passed by itself. After an error the reader may
+/// have moved on.
+fn starts_in_turn(
+    alloc: Global,
+    template: &Template,
+    alike: Option<Alike>,
     reader: &mut BitReader,
     count: u16,
 ) -> Result<Vec<SubsetStart>, Failure<ReadFault>>
+    requires { IfSome alike (IsAlike template.now) }
     ensures exact { Gives {Y = List Subset × List Bool}
         (λ starts. (map (subset_from reader.old.octets template.now) starts.items, left reader.new))
         result (subsets_in template.now false count (left reader.old)) }
@@ -113,11 +171,6 @@ fn starts_of(
     ensures octets { reader.new.octets ≡ reader.old.octets }
     ensures onward { reader.old.place ≤ reader.new.place }
 {
-    let alike = if count > 1 {
-        Alike::within(alloc, template, reader.left())?
-    } else {
-        None
-    };
     let mut starts = Vec::new(alloc);
     let mut used = 0;
     for index in 0..count {
@@ -180,7 +233,9 @@ fn pass_numbered(
 fn bit_of(reader: &BitReader) -> u128
     ensures is { result ≡ reader.now.place }
     ensures inside { result ≤ 8 * length reader.now.octets }
+    ensures few { result + length (left reader.now) < 2 ^ 128 }
 {
     let _left = reader.left();
+    let _octets = reader.octets().len();
     reader.place()
 }

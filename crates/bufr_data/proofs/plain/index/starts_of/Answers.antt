@@ -1,57 +1,43 @@
--- The clauses of `starts_of`: subset by subset, until one is refused or none is left.
-use Rattle.std.proofs.Common.{◌≡◌, ◌+◌, ◌∙◌, drop, refl, sym, ap, subst, arith}
-use Rattle.std.specs.Prelude.{◌≤◌, ◌*◌, length}
-use Rattle.std.proofs.lemmas.Result.{err_from_is_err_and}
-use Rattle.bufr_bits.specs.Bits.{bits}
+-- The clauses of `starts_of`: where all subsets are alike, all are passed at once.
+use Rattle.std.proofs.Common.{refl, sym, subst, arith}
 use Rattle.bufr_bits.specs.Ends.{left}
-use Rattle.bufr_expand.specs.Courses.{course}
 use Rattle.bufr_data.specs.declared.plain.index.SubsetStart.{SubsetStart}
-use Rattle.bufr_data.specs.Plain.{subsets_at}
-use Rattle.bufr_data.proofs.PlainFacts.Starts.{one_start, one_stands}
-use Rattle.bufr_data.proofs.PlainFacts.Subsets.{one_fails, all_read, fails_map}
+use Rattle.bufr_data.specs.Plain.Starts.{AllBegin}
+use Rattle.bufr_data.proofs.PlainFacts.Even.{stand_alike, alike_begin, alike_read}
 use Rattle.bufr_data.proofs.plain.index.starts_of.Goals as goal
 
--- where a subset is refused, the subsets are refused with its fault
-pub returns-in_err-items-clause-exact : goal.returns-in_err-items-clause-exact
-returns-in_err-items-clause-exact c =
-    let all = subsets_at (course c.args.template.now) 1 c.args.count 0 (left c.args.reader.now) in
-    let p =
-    err_from_is_err_and c.from_residual-in_err-items.result
-    c.from_residual-in_err-items.ensures.1 in
-    rw (p.1, p.2)
-    (fails_map c.in_err-items.field-0.0 _ all
-    (one_fails (course c.args.template.now) c.args.count c.loop-index.index c.loop-index.used
-    (left c.loop-index.reader) _ all c.in_err-items.field-0.0
-    c.loop-index-test.true c.loop-index.invariant.read c.in_err-items.ensures.err))
+-- the last of them ends where the octets do at the latest
+pub even-requires-clause-bits : goal.even-requires-clause-bits
+even-requires-clause-bits c =
+    omega (arith, c.bit_of-bit.ensures.few, c.if-pass_all.ensures.enough)
 
--- one subset more was passed, and begins at the start that was put behind the others
-pub loop-index-preserved : goal.loop-index-preserved
-loop-index-preserved c =
+-- those that begin at even distances are all subsets
+pub returns-in-Some-clause-exact : goal.returns-in-Some-clause-exact
+returns-in-Some-clause-exact c =
     let octets = c.args.reader.now.octets in
-    let s : SubsetStart = record { bit = c.bit_of-bit.result; used = c.loop-index.used } in
-    let there : left c.loop-index.reader ≡ drop s.bit (bits octets) =
-    ap (λ b. drop b (bits c.loop-index.reader.octets)) (sym c.bit_of-bit.ensures.is)
-    ∙ ap (λ os. drop s.bit (bits os)) c.loop-index.invariant.same_octets in
-    let inside : s.bit ≤ 8 * length octets =
-    subst (λ os. s.bit ≤ 8 * length os) c.loop-index.invariant.same_octets
-    c.bit_of-bit.ensures.inside
-    in
-    record {
-      onward = omega (arith, c.in_ok-items.ensures.onward, c.loop-index.invariant.onward);
-      same_octets = c.in_ok-items.ensures.octets ∙ c.loop-index.invariant.same_octets;
-      stand =
-          one_stands octets c.args.template.now s _ _ _ _ _ c.in_ok-push.ensures.items there inside
-          c.loop-index.invariant.stand c.in_ok-items.ensures.ok;
-      read =
-          one_start octets c.args.template.now s c.args.count c.loop-index.index _ _ _ _ _ _
-          c.in_ok-push.ensures.items there c.loop-index-test.true c.loop-index.invariant.read
-          c.in_ok-items.ensures.ok;
-    }
+    let tree = c.args.template.now in
+    let s : SubsetStart = record { bit = c.bit_of-bit.result; used = 0 } in
+    let law = c.courses_are_unrollings.ensures in
+    let stand =
+    stand_alike octets tree c.in-Some.each s.bit _ c.args.count law.unrolled law.allowed
+    (rw c.in-Some.is at c.requires) c.bit_of-bit.ensures.is c.bit_of-bit.ensures.inside
+    c.if-pass_all.ensures.room c.if-pass_all.ensures.enough in
+    rw (
+      c.even.ensures,
+      alike_read octets tree c.in-Some.each s 1 c.args.count (left c.args.reader.now) stand,
+      c.if-pass_all.ensures.rest,
+    ) refl
 
--- where no subset is left, those at the starts are all
-pub returns-clause-exact : goal.returns-clause-exact
-returns-clause-exact c =
-    rw (all_read (course c.args.template.now)
-    (c.loop-index.index + 1) c.args.count c.loop-index.index c.loop-index.used
-    (left c.loop-index.reader) _ _
-    c.loop-index-test.false c.loop-index.invariant.read) refl
+-- and one begins at each start
+pub returns-in-Some-clause-stand : goal.returns-in-Some-clause-stand
+returns-in-Some-clause-stand c =
+    let octets = c.args.reader.now.octets in
+    let tree = c.args.template.now in
+    let s : SubsetStart = record { bit = c.bit_of-bit.result; used = 0 } in
+    let law = c.courses_are_unrollings.ensures in
+    let stand =
+    stand_alike octets tree c.in-Some.each s.bit _ c.args.count law.unrolled law.allowed
+    (rw c.in-Some.is at c.requires) c.bit_of-bit.ensures.is c.bit_of-bit.ensures.inside
+    c.if-pass_all.ensures.room c.if-pass_all.ensures.enough in
+    subst (AllBegin octets tree) (sym c.even.ensures)
+    (alike_begin octets tree c.in-Some.each s c.args.count (left c.args.reader.now) stand)

@@ -1,11 +1,11 @@
--- The loop of `starts_of`: where the subsets so far begin.
+-- The loop of `starts_in_turn`: where the subsets so far begin.
 use Rattle.std.proofs.Common.{◌≡◌, ◌+◌, ◌-◌, ◌≤◌, map}
 use Rattle.bufr_bits.specs.Ends.{left}
 use Rattle.bufr_expand.specs.Courses.{course}
 use Rattle.bufr_data.specs.Plain.{subsets_at}
 use Rattle.bufr_data.specs.Plain.Numbered.{after}
 use Rattle.bufr_data.specs.Plain.Starts.{AllBegin, subset_from}
-use Rattle.bufr_data.proofs.plain.index.starts_of.Given as goal
+use Rattle.bufr_data.proofs.plain.index.starts_in_turn.Given as goal
 
 -- a subset begins at each start so far, and these and those read behind them are all subsets
 abbrev pub invariant-loop-index : goal.invariant-loop-index

@@ -1,0 +1,34 @@
+-- The clause `exact` of `only_start`: where the subset is passed, it is all subsets.
+use Rattle.std.proofs.Common.{◌≡◌, drop, refl, sym, ap}
+use Rattle.std.proofs.lemmas.Result.{err_from_is_err_and}
+use Rattle.bufr_bits.specs.Bits.{bits}
+use Rattle.bufr_bits.specs.Ends.{left}
+use Rattle.bufr_expand.specs.Courses.{course}
+use Rattle.bufr_data.specs.declared.plain.index.SubsetStart.{SubsetStart}
+use Rattle.bufr_data.specs.Plain.{subsets_at}
+use Rattle.bufr_data.proofs.PlainFacts.Even.{only_read, only_fails}
+use Rattle.bufr_data.proofs.PlainFacts.Subsets.{fails_map}
+use Rattle.bufr_data.proofs.plain.index.only_start.Goals as goal
+
+-- where it is refused, the subsets are refused with its fault
+pub returns-in_err-items-clause-exact : goal.returns-in_err-items-clause-exact
+returns-in_err-items-clause-exact c =
+    let tree = c.args.template.now in
+    let front = left c.args.reader.now in
+    let p = err_from_is_err_and c.from_residual.result c.from_residual.ensures.1 in
+    rw (p.1, p.2)
+    (fails_map c.in_err-items.field-0.0 _ (subsets_at (course tree) 1 1 0 front)
+    (only_fails tree 0 front c.in_err-items.field-0.0 c.in_err-items.ensures.err))
+
+-- where it is passed, it begins at the one start
+pub returns-clause-exact : goal.returns-clause-exact
+returns-clause-exact c =
+    let octets = c.args.reader.now.octets in
+    let s : SubsetStart = record { bit = c.bit_of-bit.result; used = 0 } in
+    let there : left c.args.reader.now ≡ drop s.bit (bits octets) =
+    ap (λ b. drop b (bits octets)) (sym c.bit_of-bit.ensures.is) in
+    rw (
+      c.even.ensures,
+      only_read octets c.args.template.now s (left c.args.reader.now) _ _ there
+          c.in_ok-items.ensures.ok,
+    ) refl

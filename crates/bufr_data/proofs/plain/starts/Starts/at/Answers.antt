@@ -1,0 +1,39 @@
+-- The clauses of `Starts::at`: the start at an index is listed there, or reckoned from the first.
+use Rattle.std.proofs.Common.{◌≡◌, ◌-◌, ◌∙◌, length, refl, sym, ap, arith}
+use Rattle.std.specs.Prelude.{slice_get}
+use Rattle.std.proofs.lemmas.Option.{slice_get_read}
+use Rattle.bufr_data.specs.Plain.Even.{starts_in}
+use Rattle.bufr_data.proofs.PlainFacts.Even.{many_kept, one_kept, one_fits}
+use Rattle.bufr_data.proofs.plain.starts.Starts.at.Goals as goal
+
+-- the place of a start up to the last fits
+pub start_of-requires-clause-bits : goal.start_of-requires-clause-bits
+start_of-requires-clause-bits c =
+    let many = many_kept _ _ _ _ _ c.self.view_is c.in-Even.is in
+    (one_fits _ _ _ _ (c.args.number - 1) c.self.invariant c.in-Even.is
+    (omega (arith, c.requires.first, c.requires.last, many))).0
+
+-- and so do the items before it
+pub start_of-requires-clause-items : goal.start_of-requires-clause-items
+start_of-requires-clause-items c =
+    let many = many_kept _ _ _ _ _ c.self.view_is c.in-Even.is in
+    (one_fits _ _ _ _ (c.args.number - 1) c.self.invariant c.in-Even.is
+    (omega (arith, c.requires.first, c.requires.last, many))).1
+
+-- a start that is listed stands at its index
+pub returns-in-Listed : goal.returns-in-Listed
+returns-in-Listed c =
+    let items : starts_in c.self.inside.spacing ≡ c.in-Listed.starts.items =
+    ap starts_in c.in-Listed.is in
+    let same : c.in-Listed.starts.items ≡ c.args.self.now = sym items ∙ c.self.view_is in
+    let many : length c.in-Listed.starts.items ≡ length c.args.self.now = ap length same in
+    ap (λ xs. slice_get xs (c.args.number - 1)) (sym same)
+    ∙ slice_get_read c.in-Listed.starts.items _ (c.args.number - 1) _ refl
+    (omega (arith, c.requires.first, c.requires.last, many)) c.index.ensures
+
+-- one that is reckoned does so too
+pub returns-in-Even : goal.returns-in-Even
+returns-in-Even c =
+    let many = many_kept _ _ _ _ _ c.self.view_is c.in-Even.is in
+    one_kept _ _ _ _ _ (c.args.number - 1) _ c.self.view_is c.in-Even.is
+    (omega (arith, c.requires.first, c.requires.last, many)) c.start_of.ensures
