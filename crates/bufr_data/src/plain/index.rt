@@ -1,34 +1,38 @@
 //! Plain data, one subset at a time.
 
 ghost use Rattle.std.specs.Prelude.{◌≡◌, ◌-◌, ◌*◌, ◌≤◌, map, length, slice_get, false, Bool, List};
-ghost use Rattle.std.specs.Prelude.{Some, IfOk, IfErr, IfSome};
+ghost use Rattle.std.specs.Prelude.{◌++◌, Some, IfOk, IfErr, IfSome, OnOk};
 ghost use Rattle.bufr_bits.specs.Ends.{left};
 ghost use Rattle.bufr_answers.specs.Answers.{Gives, Fails};
 ghost use Rattle.bufr_expand.specs.Courses.{course};
 ghost use Rattle.bufr_data.specs.declared.field.Subset.{Subset};
 ghost use Rattle.bufr_data.specs.Plain.Alike.{IsAlike};
 ghost use Rattle.bufr_data.specs.Data.{subsets_in};
-ghost use Rattle.bufr_data.specs.Plain.{fields_at};
+ghost use Rattle.bufr_data.specs.Plain.{fields_at, plain};
 ghost use Rattle.bufr_data.specs.Plain.Starts.{PassesSubset, AllBegin, subset_from};
+ghost use Rattle.bufr_data.specs.Subsets.{Extends};
 
 use crate::fault::ReadFault;
-use crate::field::Subset;
+use crate::fields::Fields;
 use crate::plain::alike::Alike;
+use crate::plain::copy::copy_bits;
+use crate::plain::fields::PlainFields;
 use crate::plain::pass::pass_subset;
-use crate::plain::read::read_plain;
+use crate::plain::read::FIELDS_WITH_ROOM;
 use crate::plain::read_each::of_subset;
 use bufr_answers::{Failure, OutOfMemory};
-use bufr_bits::BitReader;
+use bufr_bits::{BitReader, BitSink};
 use bufr_expand::Template;
 use bufr_expand::laws::courses_are_unrollings;
 use std::alloc::Global;
 use std::marker::Model;
 
-/// Where a subset begins, and how many items the message has met before it.
+/// Where a subset begins and where it ends, and how many items the message has met before it.
 #[derive(Clone, Copy, Debug, PartialEq)]
 pub(crate) struct SubsetStart {
-    bit: u128,
-    used: u64,
+    pub(crate) bit: u128,
+    pub(crate) end: u128,
+    pub(crate) used: u64,
 }
 
 /// The plain subsets of a message. It keeps where each begins, and borrows the octets.
@@ -81,20 +85,44 @@ impl<'a> PlainSubsets<'a> {
         self.starts.len()
     }
 
-    /// The subset of this number, from 1. `OutOfMemory` where a growth was refused.
-    pub(crate) fn subset(&self, alloc: Global, number: usize) -> Result<Subset, OutOfMemory>
+    /// The fields of the subset of this number, from 1. `OutOfMemory` where a growth was refused.
+    pub(crate) fn fields(&self, alloc: Global, number: usize) -> Result<Fields<'_>, OutOfMemory>
         requires first { 1 ≤ number }
         requires last { number ≤ length self.now }
-        ensures { IfOk result (λ s. slice_get self.now (number - 1) ≡ Some s) }
+        ensures { IfOk result (λ fields.
+            slice_get self.now (number - 1) ≡ Some (record { fields = fields })) }
     {
-        let start = self.starts[number - 1];
-        let mut reader = BitReader::at(self.octets, start.bit);
-        match read_plain(alloc, &self.template, &mut reader, start.used) {
-            Ok((subset, _)) => Ok(subset),
-            Err(Failure::OutOfMemory) => Err(OutOfMemory),
-            Err(Failure::Fault(_)) => unreachable!(),
-        }
+        let start = start_of(&self.starts, number);
+        let fields = PlainFields::start(alloc, &self.template, self.octets, start)?;
+        Ok(Fields::of_plain(fields, self.template.nodes().min(FIELDS_WITH_ROOM)))
     }
+
+    /// Puts the bits of the subset of this number, from 1, at a sink's end, as they stand: no field
+    /// is built. `OutOfMemory` where a growth was refused; some of the bits may then be put.
+    pub(crate) fn put(
+        &self,
+        alloc: Global,
+        number: usize,
+        sink: &mut BitSink,
+    ) -> Result<(), OutOfMemory>
+        requires first { 1 ≤ number }
+        requires last { number ≤ length self.now }
+        ensures put { IfSome (slice_get self.now (number - 1)) (λ s.
+            OnOk result (sink.new ≡ sink.old ++ plain s.fields)) }
+        ensures kept { Extends sink.old sink.new }
+    {
+        let start = start_of(&self.starts, number);
+        copy_bits(alloc, self.octets, start.bit, start.end, sink)
+    }
+}
+
+/// The start of the subset of this number, from 1.
+fn start_of(starts: &Vec<SubsetStart>, number: usize) -> SubsetStart
+    requires first { 1 ≤ number }
+    requires last { number ≤ length starts.now.items }
+    ensures { slice_get starts.now.items (number - 1) ≡ Some result }
+{
+    starts[number - 1]
 }
 
 /// Where so many subsets begin, whose data the bits begin with. After an error the reader may have
@@ -123,7 +151,8 @@ fn starts_of(
     for index in 0..count {
         let bit = bit_of(reader);
         let items = pass_one(alloc, template, reader, alike, index as u64 + 1, used)?;
-        starts.push(SubsetStart { bit, used })?;
+        let end = bit_of(reader);
+        starts.push(SubsetStart { bit, end, used })?;
         used = items;
     }
     Ok(starts)
