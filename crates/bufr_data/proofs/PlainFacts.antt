@@ -31,10 +31,13 @@ use Rattle.bufr_data.specs.Plain.{matches_spec, items_of, items_of_all}
 use Rattle.bufr_data.specs.FormLaws.{asked_is, asked_passes, form_passes, form_is, octets_are}
 use Rattle.bufr_data.specs.FormLaws.{octets_pass}
 pub mod Alike
+pub mod Copied
 pub mod Even
+pub mod Handed
 pub mod Passed
 pub mod Reads
 pub mod Refusals
+pub mod Shown
 pub mod Starts
 pub mod Subsets
 pub mod Writes

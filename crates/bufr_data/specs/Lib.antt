@@ -17,3 +17,5 @@ pub mod CourseLaws
 pub mod Compressed
 pub mod Data
 pub mod Shown
+pub mod Handed
+pub mod LeftFields

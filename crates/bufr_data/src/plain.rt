@@ -1,6 +1,8 @@
 //! Plain data: the subsets stand one after the other, bit by bit.
 
 pub(crate) mod alike;
+pub(crate) mod copy;
+pub(crate) mod fields;
 pub(crate) mod index;
 pub(crate) mod pass;
 pub(crate) mod read;

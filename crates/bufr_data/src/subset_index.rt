@@ -1,20 +1,23 @@
 //! The subsets of a message, plain or compressed, one at a time.
 
 ghost use Rattle.std.specs.Prelude.{◌≡◌, ◌-◌, ◌≤◌, length, slice_get, Bool, List, Some, IfOk};
-ghost use Rattle.std.specs.Prelude.{OnErr};
+ghost use Rattle.std.specs.Prelude.{◌++◌, IfSome, OnErr, OnOk};
 ghost use Rattle.bufr_bits.specs.Ends.{left};
 ghost use Rattle.bufr_answers.specs.Answers.{Gives};
 ghost use Rattle.bufr_data.specs.declared.field.Subset.{Subset};
 ghost use Rattle.bufr_data.specs.Data.{subsets_in};
+ghost use Rattle.bufr_data.specs.Plain.{plain};
 ghost use Rattle.bufr_data.specs.Shown.{shown};
+ghost use Rattle.bufr_data.specs.Subsets.{Extends};
 
 use crate::compressed::index::Columns;
 use crate::fault::ReadFault;
 use crate::field::Subset;
+use crate::fields::Fields;
 use crate::plain::alike::Alike;
 use crate::plain::index::PlainSubsets;
 use bufr_answers::{Failure, OutOfMemory};
-use bufr_bits::BitReader;
+use bufr_bits::{BitReader, BitSink};
 use bufr_expand::Template;
 use std::alloc::Global;
 use std::marker::Model;
@@ -86,11 +89,58 @@ impl<'a> SubsetIndex<'a> {
         requires last { number ≤ length self.now }
         ensures { IfOk result (λ s. slice_get self.now (number - 1) ≡ Some s) }
     {
+        let fields = self.fields(alloc, number)?.rest(alloc)?;
+        Ok(Subset { fields })
+    }
+
+    /// The fields of the subset of this number, from 1, one at a time. `OutOfMemory` where a growth
+    /// was refused.
+    pub fn fields(&self, alloc: Global, number: usize) -> Result<Fields<'_>, OutOfMemory>
+        requires first { 1 ≤ number }
+        requires last { number ≤ length self.now }
+        ensures { IfOk result (λ fields.
+            slice_get self.now (number - 1) ≡ Some (record { fields = fields })) }
+    {
         match &self.standing {
-            DataIndex::Plain(subsets) => subsets.subset(alloc, number),
+            DataIndex::Plain(subsets) => subsets.fields(alloc, number),
             DataIndex::Compressed(columns) => {
                 let _count = columns.count();
-                columns.subset(alloc, number as u16)
+                Ok(columns.fields(number as u16))
+            }
+        }
+    }
+
+    /// Puts the bits of the subset of this number, from 1, at a sink's end, as plain data have
+    /// them. Of plain data they are copied as they stand, and no field is built; of compressed data
+    /// one field at a time is built. `OutOfMemory` where a growth was refused; nothing is then put.
+    pub fn put(&self, alloc: Global, number: usize, sink: &mut BitSink) -> Result<(), OutOfMemory>
+        requires first { 1 ≤ number }
+        requires last { number ≤ length self.now }
+        ensures put { IfSome (slice_get self.now (number - 1)) (λ s.
+            OnOk result (sink.new ≡ sink.old ++ plain s.fields)) }
+        ensures err { OnErr result (sink.new ≡ sink.old) }
+    {
+        let len = sink.len_bits();
+        let answer = self.put_bits(alloc, number, sink);
+        if answer.is_err() {
+            sink.cut(len);
+        }
+        answer
+    }
+
+    /// The same, but that some of the bits may be put where a growth was refused.
+    fn put_bits(&self, alloc: Global, number: usize, sink: &mut BitSink) -> Result<(), OutOfMemory>
+        requires first { 1 ≤ number }
+        requires last { number ≤ length self.now }
+        ensures put { IfSome (slice_get self.now (number - 1)) (λ s.
+            OnOk result (sink.new ≡ sink.old ++ plain s.fields)) }
+        ensures kept { Extends sink.old sink.new }
+    {
+        match &self.standing {
+            DataIndex::Plain(subsets) => subsets.put(alloc, number, sink),
+            DataIndex::Compressed(columns) => {
+                let _count = columns.count();
+                columns.put(alloc, number as u16, sink)
             }
         }
     }

@@ -1,12 +1,11 @@
--- The subset of an index, and the one value of a column: for `Columns::subset`.
-use Rattle.std.proofs.Common.{◌≡◌, ℕ, zero, suc, ◌+◌, ◌*◌, ◌≤◌, List, [], ◌∷◌, length, map, take}
+-- The one value of a column: for `Columns::subset`.
+use Rattle.std.proofs.Common.{◌≡◌, ℕ, zero, suc, ◌+◌, ◌*◌, List, [], ◌∷◌, length}
 use Rattle.std.proofs.Common.{sym, ap, ◌∙◌, arith}
 use Rattle.std.proofs.Common.{◌/◌, ◌<◌, Bool, ◌++◌, drop, get_or, Some, append_assoc}
 use Rattle.std.specs.Prelude.{option_map}
 use Rattle.std.specs.List.{flat_map}
 use Rattle.std.proofs.lemmas.Bool.{le-ltb}
-use Rattle.std.proofs.lemmas.List.{drop_at, drop-drop, take_all}
-use Rattle.std.proofs.lemmas.Simd.{map-map}
+use Rattle.std.proofs.lemmas.List.{drop_at, drop-drop}
 use Rattle.bufr_bits.specs.Bits.{bin, bits, number_at, octets_at}
 use Rattle.bufr_bits.specs.BitLaws.{length-bin, number_at-bin}
 use Rattle.bufr_expand.specs.declared.operators.Spec.{Spec}
@@ -22,22 +21,6 @@ use Rattle.bufr_data.proofs.CompressedFacts.{raised_again, filled_again, increme
 use Rattle.bufr_data.proofs.CompressedFacts.{regrouped}
 use Rattle.bufr_bits.specs.NumberLaws.{length-fields, numbers_at_again}
 use Rattle.bufr_data.proofs.ListFacts.{all_at}
-use Rattle.bufr_data.specs.declared.field.Field.{Field}
-use Rattle.bufr_data.specs.declared.field.Subset.{Subset}
-use Rattle.bufr_data.specs.declared.compressed.index.Place.{Place}
-use Rattle.bufr_data.specs.Compressed.{Column, field_of, subset_of}
-use Rattle.bufr_data.specs.Compressed.Indexed.{column_from}
-
--- so the fields are those of the subset
-pub subset_end : (octets : List ℕ) (n k i : ℕ) (places : List Place) (fields : List Field)
-    (columns : List Column) → columns ≡ map (column_from octets n) places → length places ≤ i
-    → fields ≡ map (λ p. field_of k (column_from octets n p)) (take i places)
-    → ◌≡◌ {A = Subset} (record { fields = fields }) (subset_of columns k)
-subset_end octets n k i places fields columns view all is =
-    let same : fields ≡ map (field_of k) columns =
-    is ∙ ap (map (λ p. field_of k (column_from octets n p))) (take_all i places all)
-    ∙ sym (map-map (field_of k) (column_from octets n) places) ∙ ap (map (field_of k)) (sym view) in
-    λ t. record { fields = same t }
 
 -- ---- one value
 

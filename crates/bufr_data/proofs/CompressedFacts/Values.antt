@@ -2,7 +2,7 @@
 -- (`Columns::subset`).
 use Rattle.std.proofs.Common.{◌≡◌, ℕ, zero, suc, ◌+◌, ◌-◌, ◌*◌, ◌/◌, ◌<◌, ◌≤◌, Bool, true, false}
 use Rattle.std.proofs.Common.{cond, List, ◌++◌, length, take, drop, replicate, get_or, Option, Some}
-use Rattle.std.proofs.Common.{None, refl, sym, ap, ◌∙◌, arith}
+use Rattle.std.proofs.Common.{None, refl, sym, ap, subst, ◌∙◌, arith}
 use Rattle.std.specs.Prelude.{◌==◌, option_map}
 use Rattle.std.specs.List.{list_all}
 use Rattle.std.proofs.lemmas.Bool.{le-ltb, lt-ltb, le-leb}
@@ -17,12 +17,16 @@ use Rattle.bufr_expand.specs.declared.operators.Spec.{Spec}
 use Rattle.bufr_data.specs.declared.field.Raw.{Raw}
 use Rattle.bufr_data.specs.declared.field.Raw.TheVariants.{Number, Text}
 use Rattle.bufr_data.specs.declared.compressed.index.Place.{Place}
-use Rattle.bufr_data.specs.Plain.{field_number_at}
+use Rattle.bufr_data.specs.Plain.{has_form_by, field_number_at}
+use Rattle.bufr_data.specs.Fits.{HasForm}
+use Rattle.bufr_data.specs.FormLaws.{form_passes}
 use Rattle.bufr_data.specs.Compressed.{IsColumn}
 use Rattle.bufr_data.specs.Compressed.Reading.{filled}
 use Rattle.bufr_data.specs.Compressed.Indexed.{values_of, read_at, Opens, one_behind, one_at}
 use Rattle.bufr_data.proofs.CompressedFacts.{column_found, head_read, ones_of}
 use Rattle.bufr_data.proofs.CompressedFacts.Indexed.{one_value}
+use Rattle.bufr_data.proofs.CompressedFacts.Walks.{column_form}
+use Rattle.bufr_data.proofs.ListFacts.{all_at}
 use Rattle.bufr_data.proofs.CompressedFacts.Passed.{octets_none, minimum_there, TextHead, text_raw, number_raw}
 
 -- ---- texts
@@ -166,6 +170,21 @@ value_there octets n index p opens inside =
     ap (one_at p.spec index) found.3
     ∙ value_at_column p.spec x.0.0 found.0 x.0.1 index found.2 short
     ∙ ap (λ vs. Some (get_or vs index (Number 0))) (ap values_of (sym x.1))
+
+-- a value at an open place has its spec's form
+pub form_there : (octets : List ℕ) (n index : ℕ) (p : Place) (v : Raw) → Opens octets n p
+    → index < n → v ≡ get_or (values_of (read_at octets n p)) index (Number 0)
+    → has_form_by p.spec.kind p.spec.width v ≡ true
+form_there octets n index p v opens inside is =
+    let x = ok_value (read_at octets n p) opens.1 in
+    let found = column_found n 1 p.spec (drop p.bit (bits octets)) x.0 x.1 in
+    let short : index < length x.0.0 = omega (arith, inside, found.1) in
+    let form =
+    all_at (HasForm p.spec) x.0.0 index (Number 0) (column_form p.spec x.0.0 found.0 found.2) short
+    in
+    let same : v ≡ get_or x.0.0 index (Number 0) =
+    is ∙ ap (λ vs. get_or vs index (Number 0)) (ap values_of x.1) in
+    form_passes p.spec v (subst (HasForm p.spec) (sym same) form)
 
 -- the bits before a text, in either order of the factors
 pub behind_is : (a b index k : ℕ) → a ≡ index → b ≡ k → a * (8 * b) ≡ index * (k * 8)

@@ -1,9 +1,9 @@
 -- The index keeps a start for each plain subset that is passed, one after the other
--- (`PlainSubsets::index`).
+-- (`PlainSubsets::index`), and the bits between where it begins and where it ends are its own
+-- (`PlainSubsets::put`).
 use Rattle.std.proofs.Common.{◌≡◌, ℕ, ◌+◌, ◌-◌, ◌*◌, ◌<◌, ◌≤◌, Bool, List, [], ◌∷◌, ◌++◌, length}
-use Rattle.std.proofs.Common.{map, drop, Some, Result, Ok, refl, sym, ap, subst, ◌∙◌}
-use Rattle.std.specs.Prelude.{IsOk, slice_get, option_map}
-use Rattle.std.proofs.lemmas.Option.{slice_get-map}
+use Rattle.std.proofs.Common.{take, arith, length-append, map, drop, Result, Ok, refl, sym, ap, subst, ◌∙◌}
+use Rattle.std.specs.Prelude.{IsOk}
 use Rattle.bufr_data.proofs.ListFacts.{all_grown, map_grown}
 use Rattle.bufr_bits.specs.Bits.{bits}
 use Rattle.bufr_expand.specs.Courses.{course}
@@ -11,10 +11,15 @@ use Rattle.bufr_expand.specs.Trees.{Tree}
 use Rattle.bufr_data.specs.declared.field.Subset.{Subset}
 use Rattle.bufr_data.specs.declared.fault.ReadFault.{ReadFault}
 use Rattle.bufr_data.specs.declared.plain.index.SubsetStart.{SubsetStart}
-use Rattle.bufr_data.specs.Plain.{SubsetRead, SubsetsRead, fields_at, subsets_at}
+use Rattle.bufr_data.specs.Plain.{SubsetRead, SubsetsRead, plain, fields_at, subsets_at}
 use Rattle.bufr_data.specs.Plain.Numbered.{numbered, after}
-use Rattle.bufr_data.specs.Plain.Starts.{PassesSubset, fields_of, subset_at, subset_from, BeginsAtStart}
+use Rattle.bufr_data.specs.Plain.Starts.{rest_of, PassesSubset, fields_of, subset_at, subset_from, BeginsAtStart}
 use Rattle.bufr_data.specs.Plain.Starts.{AllBegin}
+use Rattle.std.proofs.Math.Seq.{take-append_seam}
+use Rattle.bufr_answers.specs.AnswerLaws.{ok_value}
+use Rattle.std.proofs.lemmas.List.{length-drop}
+use Rattle.bufr_bits.specs.OctetLaws.{length-bits}
+use Rattle.bufr_data.proofs.PlainFacts.{fields_at-found}
 use Rattle.bufr_data.proofs.PlainFacts.Subsets.{fields_at_numbered, one_more}
 
 -- what was passed is read from the start on
@@ -33,26 +38,48 @@ pub here_is : (octets : List ℕ) (tree : Tree) (s : SubsetStart) (front rest : 
 here_is octets tree s front rest items is p =
     λ t. record { fields = fields_of (sym (read_there octets tree s front rest items is p) t) }
 
--- the subset of an index is the one that is read at its start
-pub read_shown : (octets : List ℕ) (tree : Tree) (starts : List SubsetStart) (subsets : List Subset)
-    (k : ℕ) (s : SubsetStart) (found : SubsetRead) → map (subset_from octets tree) starts ≡ subsets
-    → slice_get starts k ≡ Some s → subset_at octets tree s ≡ Ok found
-    → slice_get subsets k ≡ Some (record { fields = found.fields })
-read_shown octets tree starts subsets k s found view is read =
-    ap (λ xs. slice_get xs k) (sym view) ∙ slice_get-map (subset_from octets tree) starts k
-    ∙ ap (option_map (subset_from octets tree)) is
-    ∙ (λ t. Some (record { fields = fields_of (read t) }))
-
 -- one start more stands
 pub one_stands : (octets : List ℕ) (tree : Tree) (s : SubsetStart) (front rest : List Bool)
     (items : ℕ)
     (starts grown : List SubsetStart) → grown ≡ starts ++ s ∷ [] → front ≡ drop s.bit (bits octets)
-    → s.bit ≤ 8 * length octets → AllBegin octets tree starts
+    → s.bit ≤ 8 * length octets → rest ≡ drop s.end (bits octets) → s.end ≤ 8 * length octets
+    → AllBegin octets tree starts
     → PassesSubset (fields_at 1 1 (course tree s.used) front) items rest
     → AllBegin octets tree grown
-one_stands octets tree s front rest items starts grown is there inside all p =
+one_stands octets tree s front rest items starts grown is there inside behind ends all p =
+    let read = read_there octets tree s front rest items there p in
     all_grown (BeginsAtStart octets tree) starts grown s is all
-    (inside, subst IsOk (sym (read_there octets tree s front rest items there p)) refl)
+    (inside, subst IsOk (sym read) refl, ends, ap rest_of read ∙ behind)
+
+-- a subset ends no sooner than it begins, and the bits from where it begins to where it ends are
+-- those of its fields
+pub bits_between : (octets : List ℕ) (tree : Tree) (s : SubsetStart) → BeginsAtStart octets tree s
+    → (s.bit ≤ s.end)
+    × (take (s.end - s.bit) (drop s.bit (bits octets))
+    ≡ plain (fields_of (subset_at octets tree s)))
+bits_between octets tree s begins =
+    let read = ok_value (subset_at octets tree s) begins.1 in
+    let f = read.0 in
+    let front_is =
+    (fields_at-found 1 1 (course tree s.used) (drop s.bit (bits octets)) f read.1).1 in
+    let rest_is : f.rest ≡ drop s.end (bits octets) = ap rest_of (sym read.1) ∙ begins.3 in
+    let whole : s.bit + length (plain f.fields) ≡ s.end =
+    omega (
+      arith,
+      length-drop s.bit (bits octets),
+      length-drop s.end (bits octets),
+      length-bits octets,
+      ap length front_is,
+      length-append (plain f.fields) f.rest,
+      ap length rest_is,
+      begins.0,
+      begins.2,
+    ) in
+    let size : s.end - s.bit ≡ length (plain f.fields) = omega (arith, whole) in (
+      omega (arith, whole),
+      (λ i. take (size i) (front_is i)) ∙ take-append_seam (plain f.fields) f.rest
+          ∙ ap (λ r. plain (fields_of r)) (sym read.1),
+    )
 
 -- one start more is that of one subset more
 pub one_start : (octets : List ℕ) (tree : Tree) (s : SubsetStart) (n index : ℕ)

@@ -6,27 +6,32 @@ use Rattle.bufr_data.specs.declared.plain.index.SubsetStart.{SubsetStart}
 use Rattle.bufr_data.specs.declared.plain.starts.Spacing.{Spacing}
 use Rattle.bufr_data.specs.declared.plain.starts.Spacing.TheVariants.{Listed, Even}
 
--- where a subset begins that has so many before it, all alike, of which the first begins here
-abbrev pub start_after : SubsetStart → Alike → ℕ → SubsetStart
-start_after first each before =
-    record { bit = first.bit + before * each.bits; used = first.used + before * each.items }
+-- where a subset begins and ends that has so many before it, all alike, of which the first begins at
+-- this bit
+abbrev pub start_after : ℕ → Alike → ℕ → SubsetStart
+start_after bit each before = record {
+  bit = bit + before * each.bits;
+  end = bit + before * each.bits + each.bits;
+  used = before * each.items;
+}
 
--- the start of the next subset
-abbrev pub next_start : SubsetStart → Alike → SubsetStart
-next_start s each = record { bit = s.bit + each.bits; used = s.used + each.items }
+-- the start of a subset of these bits at a bit, before which the message has met so many items
+abbrev pub start_here : ℕ → ℕ → Alike → SubsetStart
+start_here bit used each = record { bit = bit; end = bit + each.bits; used = used }
 
--- the starts of so many subsets, of which the first begins here
-abbrev pub even_starts : SubsetStart → Alike → ℕ → List SubsetStart
-even_starts s each zero = []
-even_starts s each (suc n) = s ∷ even_starts (next_start s each) each n
+-- the starts of so many subsets, of which the first begins there
+abbrev pub even_starts : ℕ → ℕ → Alike → ℕ → List SubsetStart
+even_starts bit used each zero = []
+even_starts bit used each (suc n) =
+    start_here bit used each ∷ even_starts (bit + each.bits) (used + each.items) each n
 
 -- the starts that are kept
 abbrev pub starts_in : Spacing → List SubsetStart
 starts_in (Listed starts) = starts.items
-starts_in (Even first each count) = even_starts first each count
+starts_in (Even bit each count) = even_starts bit 0 each count
 
 -- no start is too great for its numbers
 abbrev pub HasRoom : Spacing → Type 0
 HasRoom (Listed starts) = Unit {0}
-HasRoom (Even first each count) =
-    (first.bit + count * each.bits < 2 ^ 128) × (first.used + count * each.items < 2 ^ 64)
+HasRoom (Even bit each count) =
+    (bit + count * each.bits < 2 ^ 128) × (count * each.items < 2 ^ 64)

@@ -43,6 +43,11 @@ abbrev pub fields_of : Result SubsetRead ReadFault → List Field
 fields_of (Ok found) = found.fields
 fields_of (Err e) = []
 
+-- the bits behind them
+abbrev pub rest_of : Result SubsetRead ReadFault → List Bool
+rest_of (Ok found) = found.rest
+rest_of (Err e) = []
+
 -- what is read from the place on where a subset begins
 abbrev pub subset_at : List ℕ → Tree → SubsetStart → Result SubsetRead ReadFault
 subset_at octets tree s = fields_at 1 1 (course tree s.used) (drop s.bit (bits octets))
@@ -51,9 +56,11 @@ subset_at octets tree s = fields_at 1 1 (course tree s.used) (drop s.bit (bits o
 abbrev pub subset_from : List ℕ → Tree → SubsetStart → Subset
 subset_from octets tree s = record { fields = fields_of (subset_at octets tree s) }
 
--- a subset begins there
+-- a subset begins there, and ends where it is said
 abbrev pub BeginsAtStart : List ℕ → Tree → SubsetStart → Type 0
 BeginsAtStart octets tree s = (s.bit ≤ 8 * length octets) × IsOk (subset_at octets tree s)
+    × (s.end ≤ 8 * length octets)
+    × (rest_of (subset_at octets tree s) ≡ drop s.end (bits octets))
 
 -- a subset begins at each start
 abbrev pub AllBegin : List ℕ → Tree → List SubsetStart → Type 0

@@ -1,7 +1,7 @@
 //! Compressed data, one subset at a time.
 
 ghost use Rattle.std.specs.Prelude.{◌≡◌, ◌-◌, ◌<◌, ◌≤◌, map, get_or, true, Bool, List, Ok, Err};
-ghost use Rattle.std.specs.Prelude.{IfOk, IfErr, OnErr, OnSome, ◌+◌};
+ghost use Rattle.std.specs.Prelude.{IfOk, IfErr, OnErr, OnOk, OnSome, ◌+◌, ◌++◌};
 ghost use Rattle.bufr_bits.specs.Ends.{left};
 ghost use Rattle.bufr_answers.specs.Answers.{Gives};
 ghost use Rattle.bufr_expand.specs.Walks as walks;
@@ -10,21 +10,24 @@ ghost use Rattle.bufr_data.specs.declared.field.Raw.TheVariants.{Number};
 ghost use Rattle.bufr_data.specs.declared.field.Subset.{Subset};
 ghost use Rattle.bufr_data.specs.Compressed.Reading as reading;
 ghost use Rattle.bufr_data.specs.Compressed.Reading.{ColumnsFound, columns_at};
-ghost use Rattle.bufr_data.specs.Plain.{stopped};
+ghost use Rattle.bufr_data.specs.Plain.{has_form_by, plain, stopped};
 ghost use Rattle.bufr_data.specs.Compressed.{subset_of, subsets_from};
 ghost use Rattle.bufr_data.specs.Data.{subsets_in};
 ghost use Rattle.bufr_data.specs.Compressed.Indexed.{Indexed, Ahead, Opens, PassesPlace, column_from};
 ghost use Rattle.bufr_data.specs.Compressed.Indexed.{index_at};
 ghost use Rattle.bufr_data.specs.Steady.{IsReady, WalkAdvances};
+ghost use Rattle.bufr_data.specs.Subsets.{Extends};
 
+use crate::compressed::fields::ColumnFields;
 use crate::compressed::pass::{pass_column, pass_factor};
 use crate::compressed::value::column_value;
 use crate::fault::ReadFault;
-use crate::field::{Field, Raw, Subset};
+use crate::field::{Raw, Subset};
+use crate::fields::Fields;
 use crate::limits::MOST_VALUES;
 use crate::plain::read::fault_of;
 use bufr_answers::{Failure, Items, OutOfMemory};
-use bufr_bits::BitReader;
+use bufr_bits::{BitReader, BitSink};
 use bufr_expand::{Spec, Step, Template, Walk, WalkFault};
 use bufr_tables::Fxy;
 use std::alloc::Global;
@@ -33,9 +36,9 @@ use std::marker::Model;
 /// Where a column begins.
 #[derive(Clone, Copy, Debug, PartialEq)]
 pub(crate) struct Place {
-    fxy: Fxy,
-    spec: Spec,
-    bit: u128,
+    pub(crate) fxy: Fxy,
+    pub(crate) spec: Spec,
+    pub(crate) bit: u128,
 }
 
 /// The columns of compressed subsets. It keeps where each column begins, and borrows the octets.
@@ -102,17 +105,49 @@ impl<'a> Columns<'a> {
         requires last { number ≤ self.now.subsets }
         ensures { IfOk result (λ s. s ≡ subset_of self.now.columns (number - 1)) }
     {
-        let mut fields = Vec::new(alloc);
-        for place in self.places.iter() {
-            let raw = value(alloc, self.octets, self.subsets, *place, number - 1)?;
-            fields.push(Field {
-                fxy: place.fxy,
-                spec: place.spec,
-                raw,
-            })?;
-        }
-        let fields = Items::from_vec(fields);
+        let fields = self.fields(number).rest(alloc)?;
         Ok(Subset { fields })
+    }
+
+    /// The fields of the subset of this number, from 1.
+    pub(crate) fn fields(&self, number: u16) -> Fields<'_>
+        requires first { 1 ≤ number }
+        requires last { number ≤ self.now.subsets }
+        ensures { result ≡ (subset_of self.now.columns (number - 1)).fields }
+    {
+        Fields::of_columns(self.column_fields(number), self.places.len())
+    }
+
+    /// Puts the bits of the subset of this number, from 1, at a sink's end, as plain data have
+    /// them. One field at a time is built. `OutOfMemory` where a growth was refused; some of the
+    /// bits may then be put.
+    pub(crate) fn put(
+        &self,
+        alloc: Global,
+        number: u16,
+        sink: &mut BitSink,
+    ) -> Result<(), OutOfMemory>
+        requires first { 1 ≤ number }
+        requires last { number ≤ self.now.subsets }
+        ensures put { OnOk result (sink.new
+            ≡ sink.old ++ plain (subset_of self.now.columns (number - 1)).fields) }
+        ensures kept { Extends sink.old sink.new }
+    {
+        self.column_fields(number).put(alloc, sink)
+    }
+
+    /// The fields of the subset of this number, from 1, in the columns.
+    fn column_fields(&self, number: u16) -> ColumnFields<'_>
+        requires first { 1 ≤ number }
+        requires last { number ≤ self.now.subsets }
+        ensures { result ≡ (subset_of self.now.columns (number - 1)).fields }
+    {
+        ColumnFields::start(
+            self.octets,
+            self.subsets,
+            self.places.as_slice(),
+            number - 1,
+        )
     }
 }
 
@@ -214,8 +249,9 @@ fn stop_fault(fault: WalkFault, n: u16, i: u64) -> ReadFault
     }
 }
 
-/// The value at this index in the column of so many subsets that begins at a place.
-fn value(
+/// The value at this index in the column of so many subsets that begins at a place. It has its
+/// spec's form.
+pub(crate) fn value(
     alloc: Global,
     octets: &[u8],
     subsets: u16,
@@ -224,8 +260,9 @@ fn value(
 ) -> Result<Raw, OutOfMemory>
     requires stands { Opens octets.now subsets place }
     requires inside { index < subsets }
-    ensures { IfOk result (λ v. v ≡ get_or (column_from octets.now subsets place).values index
+    ensures is { IfOk result (λ v. v ≡ get_or (column_from octets.now subsets place).values index
         (Number 0)) }
+    ensures formed { IfOk result (λ v. has_form_by place.spec.kind place.spec.width v ≡ true) }
 {
     let mut reader = BitReader::at(octets, place.bit);
     let value = column_value(alloc, &mut reader, place.spec, index)?;

@@ -1,34 +1,38 @@
 //! Plain data, one subset at a time.
 
-ghost use Rattle.std.specs.Prelude.{◌≡◌, ◌+◌, ◌-◌, ◌*◌, ◌^◌, ◌<◌, ◌≤◌, map, length, slice_get, false, Bool, List};
-ghost use Rattle.std.specs.Prelude.{Some, IfOk, IfErr, IfSome};
+ghost use Rattle.std.specs.Prelude.{◌≡◌, ◌+◌, ◌-◌, ◌*◌, ◌^◌, ◌<◌, ◌≤◌, ◌++◌, map, length, slice_get, false, Bool, List};
+ghost use Rattle.std.specs.Prelude.{Some, IfOk, IfErr, IfSome, OnOk};
 ghost use Rattle.bufr_bits.specs.Ends.{left};
 ghost use Rattle.bufr_answers.specs.Answers.{Gives, Fails};
 ghost use Rattle.bufr_expand.specs.Courses.{course};
 ghost use Rattle.bufr_data.specs.declared.field.Subset.{Subset};
 ghost use Rattle.bufr_data.specs.Plain.Alike.{IsAlike};
 ghost use Rattle.bufr_data.specs.Data.{subsets_in};
-ghost use Rattle.bufr_data.specs.Plain.{fields_at};
+ghost use Rattle.bufr_data.specs.Plain.{fields_at, plain};
 ghost use Rattle.bufr_data.specs.Plain.Starts.{PassesSubset, AllBegin, subset_from};
+ghost use Rattle.bufr_data.specs.Subsets.{Extends};
 
 use crate::fault::ReadFault;
-use crate::field::Subset;
+use crate::fields::Fields;
 use crate::plain::alike::Alike;
+use crate::plain::copy::copy_bits;
+use crate::plain::fields::PlainFields;
 use crate::plain::pass::pass_subset;
-use crate::plain::read::read_plain;
+use crate::plain::read::FIELDS_WITH_ROOM;
 use crate::plain::read_each::of_subset;
 use crate::plain::starts::Starts;
 use bufr_answers::{Failure, OutOfMemory};
-use bufr_bits::BitReader;
+use bufr_bits::{BitReader, BitSink};
 use bufr_expand::Template;
 use bufr_expand::laws::courses_are_unrollings;
 use std::alloc::Global;
 use std::marker::Model;
 
-/// Where a subset begins, and how many items the message has met before it.
+/// Where a subset begins and where it ends, and how many items the message has met before it.
 #[derive(Clone, Copy, Debug, PartialEq)]
 pub(crate) struct SubsetStart {
     pub(crate) bit: u128,
+    pub(crate) end: u128,
     pub(crate) used: u64,
 }
 
@@ -85,19 +89,34 @@ impl<'a> PlainSubsets<'a> {
         self.starts.len()
     }
 
-    /// The subset of this number, from 1. `OutOfMemory` where a growth was refused.
-    pub(crate) fn subset(&self, alloc: Global, number: usize) -> Result<Subset, OutOfMemory>
+    /// The fields of the subset of this number, from 1. `OutOfMemory` where a growth was refused.
+    pub(crate) fn fields(&self, alloc: Global, number: usize) -> Result<Fields<'_>, OutOfMemory>
         requires first { 1 ≤ number }
         requires last { number ≤ length self.now }
-        ensures { IfOk result (λ s. slice_get self.now (number - 1) ≡ Some s) }
+        ensures { IfOk result (λ fields.
+            slice_get self.now (number - 1) ≡ Some (record { fields = fields })) }
     {
         let start = self.starts.at(number);
-        let mut reader = BitReader::at(self.octets, start.bit);
-        match read_plain(alloc, &self.template, &mut reader, start.used) {
-            Ok((subset, _)) => Ok(subset),
-            Err(Failure::OutOfMemory) => Err(OutOfMemory),
-            Err(Failure::Fault(_)) => unreachable!(),
-        }
+        let fields = PlainFields::start(alloc, &self.template, self.octets, start)?;
+        Ok(Fields::of_plain(fields, self.template.nodes().min(FIELDS_WITH_ROOM)))
+    }
+
+    /// Puts the bits of the subset of this number, from 1, at a sink's end, as they stand: no field
+    /// is built. `OutOfMemory` where a growth was refused; some of the bits may then be put.
+    pub(crate) fn put(
+        &self,
+        alloc: Global,
+        number: usize,
+        sink: &mut BitSink,
+    ) -> Result<(), OutOfMemory>
+        requires first { 1 ≤ number }
+        requires last { number ≤ length self.now }
+        ensures put { IfSome (slice_get self.now (number - 1)) (λ s.
+            OnOk result (sink.new ≡ sink.old ++ plain s.fields)) }
+        ensures kept { Extends sink.old sink.new }
+    {
+        let start = self.starts.at(number);
+        copy_bits(alloc, self.octets, start.bit, start.end, sink)
     }
 }
 
@@ -122,9 +141,7 @@ fn starts_of(
     courses_are_unrollings();
     let bit = bit_of(reader);
     match alike {
-        Some(each) if each.pass_all(reader, count) => {
-            Ok(Starts::even(SubsetStart { bit, used: 0 }, each, count))
-        }
+        Some(each) if each.pass_all(reader, count) => { Ok(Starts::even(bit, each, count)) }
         None if count == 1 => only_start(alloc, template, reader),
         _ => {
             let starts = starts_in_turn(alloc, template, alike, reader, count)?;
@@ -149,9 +166,10 @@ fn only_start(
 {
     let bit = bit_of(reader);
     let items = pass_numbered(alloc, template, reader, 1, 0)?;
-    let bits = bit_of(reader) - bit;
+    let end = bit_of(reader);
+    let bits = end - bit;
     let each = Alike { bits, items };
-    Ok(Starts::even(SubsetStart { bit, used: 0 }, each, 1))
+    Ok(Starts::even(bit, each, 1))
 }
 
 /// Where so many subsets begin, each of which is passed by itself. After an error the reader may
@@ -176,7 +194,8 @@ fn starts_in_turn(
     for index in 0..count {
         let bit = bit_of(reader);
         let items = pass_one(alloc, template, reader, alike, index as u64 + 1, used)?;
-        starts.push(SubsetStart { bit, used })?;
+        let end = bit_of(reader);
+        starts.push(SubsetStart { bit, end, used })?;
         used = items;
     }
     Ok(starts)

@@ -46,7 +46,7 @@ pub fn read_plain(
 
 /// How many fields of a subset are given room before any is read, where the template has as many
 /// nodes.
-const FIELDS_WITH_ROOM: usize = 64;
+pub(crate) const FIELDS_WITH_ROOM: usize = 64;
 
 /// The same, but that after an error the reader may have moved on.
 fn read_fields(
@@ -71,7 +71,7 @@ fn read_fields(
 }
 
 /// Field `i` of the subset, or `None` at its end.
-fn read_field(
+pub(crate) fn read_field(
     alloc: Global,
     walk: &mut Walk,
     reader: &mut BitReader,

@@ -7,12 +7,12 @@ use crate::plain::alike::Alike;
 use crate::plain::index::SubsetStart;
 use std::marker::Model;
 
-/// How starts are kept: each by itself, or, where all subsets are alike, by the first, by what each
-/// subset has, and by how many there are.
+/// How starts are kept: each by itself, or, where all subsets are alike, by the bit at which the
+/// first begins, by what each subset has, and by how many there are.
 #[derive(Debug, Drop)]
 pub(crate) enum Spacing {
     Listed(Vec<SubsetStart>),
-    Even(SubsetStart, Alike, u16),
+    Even(u128, Alike, u16),
 }
 
 /// Where the subsets of a message begin, one after the other. Contracts see the list of the starts.
@@ -43,14 +43,15 @@ impl Starts {
         }
     }
 
-    /// Those of so many subsets that are all alike, from the first on. No memory is taken.
-    pub(crate) fn even(first: SubsetStart, each: Alike, count: u16) -> Starts
-        requires bits { first.bit + count * each.bits < 2 ^ 128 }
-        requires items { first.used + count * each.items < 2 ^ 64 }
-        ensures { result ≡ even_starts first each count }
+    /// Those of so many subsets that are all alike, of which the first begins at this bit. No memory
+    /// is taken.
+    pub(crate) fn even(bit: u128, each: Alike, count: u16) -> Starts
+        requires bits { bit + count * each.bits < 2 ^ 128 }
+        requires items { count * each.items < 2 ^ 64 }
+        ensures { result ≡ even_starts bit 0 each count }
     {
         Starts {
-            spacing: Spacing::Even(first, each, count),
+            spacing: Spacing::Even(bit, each, count),
         }
     }
 
@@ -72,20 +73,22 @@ impl Starts {
     {
         match &self.spacing {
             Spacing::Listed(starts) => starts[number - 1],
-            Spacing::Even(first, each, _) => start_of(*first, *each, number - 1),
+            Spacing::Even(bit, each, _) => start_of(*bit, *each, number - 1),
         }
     }
 }
 
-/// Where a subset begins that has so many others before it, all alike, of which the first begins
-/// there.
-fn start_of(first: SubsetStart, each: Alike, before: usize) -> SubsetStart
-    requires bits { first.bit + before * each.bits < 2 ^ 128 }
-    requires items { first.used + before * each.items < 2 ^ 64 }
-    ensures { result ≡ start_after first each before }
+/// Where a subset begins and ends that has so many others before it, all alike, of which the first
+/// begins at this bit.
+fn start_of(bit: u128, each: Alike, before: usize) -> SubsetStart
+    requires bits { bit + (before + 1) * each.bits < 2 ^ 128 }
+    requires items { before * each.items < 2 ^ 64 }
+    ensures { result ≡ start_after bit each before }
 {
+    let begins = bit + before as u128 * each.bits;
     SubsetStart {
-        bit: first.bit + before as u128 * each.bits,
-        used: first.used + before as u64 * each.items,
+        bit: begins,
+        end: begins + each.bits,
+        used: before as u64 * each.items,
     }
 }

@@ -1,8 +1,8 @@
--- The clause of `value`: where a column stands, each of its subsets has a value.
+-- The clauses of `value`: where a column stands, each of its subsets has a value.
 use Rattle.std.proofs.Common.{◌∙◌, refl, subst, sym}
 use Rattle.std.specs.Prelude.{IsSome}
 use Rattle.bufr_bits.specs.BitLaws.{some_is}
-use Rattle.bufr_data.proofs.CompressedFacts.Values.{value_there}
+use Rattle.bufr_data.proofs.CompressedFacts.Values.{value_there, form_there}
 use Rattle.bufr_data.proofs.compressed.index.value.Goals as goal
 
 -- there is a value at each index below the number of subsets
@@ -14,11 +14,23 @@ unwrap-requires c =
     c.requires.stands c.requires.inside)) refl
 
 -- and it is the one of the column at this index
-pub returns : goal.returns
-returns c =
+pub returns-clause-is : goal.returns-clause-is
+returns-clause-is c =
     let at = c.at-reader.ensures in
     let is = rw at at c.in_ok-value.ensures in
     some_is _ _
     (sym c.unwrap.ensures ∙ is
     ∙ value_there c.args.octets.now c.args.subsets c.args.index c.args.place c.requires.stands
     c.requires.inside)
+
+-- which has its spec's form
+pub returns-clause-formed : goal.returns-clause-formed
+returns-clause-formed c =
+    let at = c.at-reader.ensures in
+    let is = rw at at c.in_ok-value.ensures in
+    form_there c.args.octets.now c.args.subsets c.args.index c.args.place _ c.requires.stands
+    c.requires.inside
+    (some_is _ _
+    (sym c.unwrap.ensures ∙ is
+    ∙ value_there c.args.octets.now c.args.subsets c.args.index c.args.place c.requires.stands
+    c.requires.inside))

@@ -28,7 +28,14 @@ returns-in_err-items-clause-exact c =
 pub loop-index-preserved : goal.loop-index-preserved
 loop-index-preserved c =
     let octets = c.args.reader.now.octets in
-    let s : SubsetStart = record { bit = c.bit_of-bit.result; used = c.loop-index.used } in
+    let s : SubsetStart =
+    record { bit = c.bit_of-bit.result; end = c.bit_of-end.result; used = c.loop-index.used } in
+    let same = c.in_ok-items.ensures.octets ∙ c.loop-index.invariant.same_octets in
+    let behind : left c.pass_one.new.reader ≡ drop s.end (bits octets) =
+    ap (λ b. drop b (bits c.pass_one.new.reader.octets)) (sym c.bit_of-end.ensures.is)
+    ∙ ap (λ os. drop s.end (bits os)) same in
+    let ends : s.end ≤ 8 * length octets =
+    subst (λ os. s.end ≤ 8 * length os) same c.bit_of-end.ensures.inside in
     let there : left c.loop-index.reader ≡ drop s.bit (bits octets) =
     ap (λ b. drop b (bits c.loop-index.reader.octets)) (sym c.bit_of-bit.ensures.is)
     ∙ ap (λ os. drop s.bit (bits os)) c.loop-index.invariant.same_octets in
@@ -41,7 +48,7 @@ loop-index-preserved c =
       same_octets = c.in_ok-items.ensures.octets ∙ c.loop-index.invariant.same_octets;
       stand =
           one_stands octets c.args.template.now s _ _ _ _ _ c.in_ok-push.ensures.items there inside
-          c.loop-index.invariant.stand c.in_ok-items.ensures.ok;
+          behind ends c.loop-index.invariant.stand c.in_ok-items.ensures.ok;
       read =
           one_start octets c.args.template.now s c.args.count c.loop-index.index _ _ _ _ _ _
           c.in_ok-push.ensures.items there c.loop-index-test.true c.loop-index.invariant.read

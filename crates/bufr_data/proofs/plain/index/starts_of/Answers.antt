@@ -1,7 +1,6 @@
 -- The clauses of `starts_of`: where all subsets are alike, all are passed at once.
 use Rattle.std.proofs.Common.{refl, sym, subst, arith}
 use Rattle.bufr_bits.specs.Ends.{left}
-use Rattle.bufr_data.specs.declared.plain.index.SubsetStart.{SubsetStart}
 use Rattle.bufr_data.specs.Plain.Starts.{AllBegin}
 use Rattle.bufr_data.proofs.PlainFacts.Even.{stand_alike, alike_begin, alike_read}
 use Rattle.bufr_data.proofs.plain.index.starts_of.Goals as goal
@@ -16,15 +15,15 @@ pub returns-in-Some-clause-exact : goal.returns-in-Some-clause-exact
 returns-in-Some-clause-exact c =
     let octets = c.args.reader.now.octets in
     let tree = c.args.template.now in
-    let s : SubsetStart = record { bit = c.bit_of-bit.result; used = 0 } in
+    let bit = c.bit_of-bit.result in
     let law = c.courses_are_unrollings.ensures in
     let stand =
-    stand_alike octets tree c.in-Some.each s.bit _ c.args.count law.unrolled law.allowed
+    stand_alike octets tree c.in-Some.each bit _ c.args.count law.unrolled law.allowed
     (rw c.in-Some.is at c.requires) c.bit_of-bit.ensures.is c.bit_of-bit.ensures.inside
     c.if-pass_all.ensures.room c.if-pass_all.ensures.enough in
     rw (
       c.even.ensures,
-      alike_read octets tree c.in-Some.each s 1 c.args.count (left c.args.reader.now) stand,
+      alike_read octets tree c.in-Some.each bit 0 1 c.args.count (left c.args.reader.now) stand,
       c.if-pass_all.ensures.rest,
     ) refl
 
@@ -33,11 +32,11 @@ pub returns-in-Some-clause-stand : goal.returns-in-Some-clause-stand
 returns-in-Some-clause-stand c =
     let octets = c.args.reader.now.octets in
     let tree = c.args.template.now in
-    let s : SubsetStart = record { bit = c.bit_of-bit.result; used = 0 } in
+    let bit = c.bit_of-bit.result in
     let law = c.courses_are_unrollings.ensures in
     let stand =
-    stand_alike octets tree c.in-Some.each s.bit _ c.args.count law.unrolled law.allowed
+    stand_alike octets tree c.in-Some.each bit _ c.args.count law.unrolled law.allowed
     (rw c.in-Some.is at c.requires) c.bit_of-bit.ensures.is c.bit_of-bit.ensures.inside
     c.if-pass_all.ensures.room c.if-pass_all.ensures.enough in
     subst (AllBegin octets tree) (sym c.even.ensures)
-    (alike_begin octets tree c.in-Some.each s c.args.count (left c.args.reader.now) stand)
+    (alike_begin octets tree c.in-Some.each bit 0 c.args.count (left c.args.reader.now) stand)

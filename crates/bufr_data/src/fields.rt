@@ -1,0 +1,81 @@
+//! The fields of a subset, one at a time.
+
+ghost use Rattle.std.specs.Prelude.{◌≡◌, IfOk};
+ghost use Rattle.bufr_data.specs.Handed.{HandsOut};
+
+use crate::compressed::fields::ColumnFields;
+use crate::field::Field;
+use crate::plain::fields::PlainFields;
+use bufr_answers::{Items, OutOfMemory};
+use std::alloc::Global;
+use std::marker::Model;
+
+/// Where the fields stand, plain or compressed.
+#[derive(Debug, Drop)]
+pub(crate) enum StandingFields<'v> {
+    Plain(PlainFields<'v>),
+    Compressed(ColumnFields<'v>),
+}
+
+/// The fields of a subset that are left, none of which is built before it is asked for. It borrows
+/// the index. Contracts see the list of the fields.
+#[derive(Debug, Drop)]
+pub struct Fields<'v> {
+    standing: StandingFields<'v>,
+    room: usize,
+}
+
+impl<'v> Model for Fields<'v> {
+    ghost use Rattle.std.specs.Prelude.{List};
+    ghost use Rattle.bufr_data.specs.declared.field.Field.{Field};
+    ghost use Rattle.bufr_data.specs.LeftFields.{left_of};
+
+    ghost Value = { List Field };
+
+    ghost view = { λ f. left_of f.standing };
+}
+
+impl<'v> Fields<'v> {
+    /// The fields of a plain subset; `rest` begins with room for so many.
+    pub(crate) fn of_plain(fields: PlainFields<'v>, room: usize) -> Fields<'v>
+        ensures { result ≡ fields.entry }
+    {
+        Fields {
+            standing: StandingFields::Plain(fields),
+            room,
+        }
+    }
+
+    /// The fields of a compressed subset; `rest` begins with room for so many.
+    pub(crate) fn of_columns(fields: ColumnFields<'v>, room: usize) -> Fields<'v>
+        ensures { result ≡ fields.entry }
+    {
+        Fields {
+            standing: StandingFields::Compressed(fields),
+            room,
+        }
+    }
+
+    /// The first of the fields that are left, and then those behind it are left; `None` where none
+    /// is. `OutOfMemory` where a text could not be copied: then ask for no more, since those that
+    /// are left may be lost.
+    pub fn next(&mut self, alloc: Global) -> Result<Option<Field>, OutOfMemory>
+        ensures { IfOk result (λ found. HandsOut self.old found self.new) }
+    {
+        match &mut self.standing {
+            StandingFields::Plain(fields) => fields.next(alloc),
+            StandingFields::Compressed(fields) => fields.next(alloc),
+        }
+    }
+
+    /// All fields that are left, in a list. `OutOfMemory` where a growth was refused.
+    pub fn rest(mut self, alloc: Global) -> Result<Items<Field>, OutOfMemory>
+        ensures { IfOk result (λ fields. fields ≡ self.entry) }
+    {
+        let mut fields = Vec::with_capacity(alloc, self.room)?;
+        while let Some(field) = self.next(alloc)? {
+            fields.push(field)?;
+        }
+        Ok(Items::from_vec(fields))
+    }
+}
