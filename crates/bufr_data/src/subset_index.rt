@@ -1,11 +1,12 @@
 //! The subsets of a message, plain or compressed, one at a time.
 
 ghost use Rattle.std.specs.Prelude.{◌≡◌, ◌-◌, ◌≤◌, length, slice_get, Bool, List, Some, IfOk};
-ghost use Rattle.std.specs.Prelude.{OnErr};
+ghost use Rattle.std.specs.Prelude.{IfSome, OnErr};
 ghost use Rattle.bufr_bits.specs.Ends.{left};
 ghost use Rattle.bufr_answers.specs.Answers.{Gives};
 ghost use Rattle.bufr_data.specs.declared.field.Subset.{Subset};
 ghost use Rattle.bufr_data.specs.Data.{subsets_in};
+ghost use Rattle.bufr_data.specs.Plain.Alike.{IsAlike};
 ghost use Rattle.bufr_data.specs.Shown.{shown};
 
 use crate::compressed::index::Columns;
@@ -61,12 +62,12 @@ impl<'a> SubsetIndex<'a> {
         ensures octets { reader.new.octets ≡ reader.old.octets }
         ensures err { OnErr result (reader.new ≡ reader.old) }
     {
-        let place = reader.place();
-        let answer = index_of(alloc, template, compressed, reader, count);
-        if answer.is_err() {
-            reader.return_to(place);
-        }
-        answer
+        let alike = if compressed {
+            None
+        } else {
+            Alike::of_several(alloc, &template, reader.left(), count)?
+        };
+        index_known(alloc, template, alike, compressed, reader, count)
     }
 
     /// How many subsets there are.
@@ -96,15 +97,41 @@ impl<'a> SubsetIndex<'a> {
     }
 }
 
+/// The index of so many subsets, whose data the bits begin with, where it may be known what each
+/// plain subset has. On an error the reader stays where it is.
+pub(crate) fn index_known<'a>(
+    alloc: Global,
+    template: Template,
+    alike: Option<Alike>,
+    compressed: bool,
+    reader: &mut BitReader<'a>,
+    count: u16,
+) -> Result<SubsetIndex<'a>, Failure<ReadFault>>
+    requires { IfSome alike (IsAlike template) }
+    ensures exact { Gives {Y = List Subset × List Bool} (λ subsets. (subsets, left reader.new))
+        result (subsets_in template compressed count (left reader.old)) }
+    ensures octets { reader.new.octets ≡ reader.old.octets }
+    ensures err { OnErr result (reader.new ≡ reader.old) }
+{
+    let place = reader.place();
+    let answer = index_of(alloc, template, alike, compressed, reader, count);
+    if answer.is_err() {
+        reader.return_to(place);
+    }
+    answer
+}
+
 /// The index of so many subsets, whose data the bits begin with. After an error the reader may have
 /// moved on.
 fn index_of<'a>(
     alloc: Global,
     template: Template,
+    alike: Option<Alike>,
     compressed: bool,
     reader: &mut BitReader<'a>,
     count: u16,
 ) -> Result<SubsetIndex<'a>, Failure<ReadFault>>
+    requires { IfSome alike (IsAlike template) }
     ensures exact { Gives {Y = List Subset × List Bool} (λ subsets. (subsets, left reader.new))
         result (subsets_in template compressed count (left reader.old)) }
     ensures octets { reader.new.octets ≡ reader.old.octets }
@@ -113,7 +140,6 @@ fn index_of<'a>(
     let standing = if compressed {
         DataIndex::Compressed(Columns::index(alloc, &template, reader, count)?)
     } else {
-        let alike = Alike::of_several(alloc, &template, reader.left(), count)?;
         DataIndex::Plain(PlainSubsets::index(alloc, template, alike, reader, count)?)
     };
     Ok(SubsetIndex { standing })
