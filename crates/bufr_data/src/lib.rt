@@ -2,6 +2,7 @@
 #![tactic(auto)]
 
 mod compressed;
+mod data_template;
 mod digits;
 mod fault;
 mod field;
@@ -23,6 +24,7 @@ mod worked_values;
 pub use compressed::index::Columns;
 pub use compressed::read::read_compressed;
 pub use compressed::write::write_compressed;
+pub use data_template::DataTemplate;
 pub use fault::{ReadFault, WriteFault};
 pub use field::{Decimal, Field, Raw, Subset};
 pub use fields::Fields;

@@ -7,6 +7,7 @@ ghost use Rattle.bufr_answers.specs.Answers.{Gives};
 ghost use Rattle.bufr_data.specs.declared.field.Subset.{Subset};
 ghost use Rattle.bufr_data.specs.Data.{subsets_in};
 ghost use Rattle.bufr_data.specs.Plain.{plain};
+ghost use Rattle.bufr_data.specs.Plain.Alike.{IsAlike};
 ghost use Rattle.bufr_data.specs.Shown.{shown};
 ghost use Rattle.bufr_data.specs.Subsets.{Extends};
 
@@ -64,12 +65,12 @@ impl<'a> SubsetIndex<'a> {
         ensures octets { reader.new.octets ≡ reader.old.octets }
         ensures err { OnErr result (reader.new ≡ reader.old) }
     {
-        let place = reader.place();
-        let answer = index_of(alloc, template, compressed, reader, count);
-        if answer.is_err() {
-            reader.return_to(place);
-        }
-        answer
+        let alike = if compressed {
+            None
+        } else {
+            Alike::of_several(alloc, &template, reader.left(), count)?
+        };
+        index_known(alloc, template, alike, compressed, reader, count)
     }
 
     /// How many subsets there are.
@@ -146,15 +147,41 @@ impl<'a> SubsetIndex<'a> {
     }
 }
 
+/// The index of so many subsets, whose data the bits begin with, where it may be known what each
+/// plain subset has. On an error the reader stays where it is.
+pub(crate) fn index_known<'a>(
+    alloc: Global,
+    template: Template,
+    alike: Option<Alike>,
+    compressed: bool,
+    reader: &mut BitReader<'a>,
+    count: u16,
+) -> Result<SubsetIndex<'a>, Failure<ReadFault>>
+    requires { IfSome alike (IsAlike template) }
+    ensures exact { Gives {Y = List Subset × List Bool} (λ subsets. (subsets, left reader.new))
+        result (subsets_in template compressed count (left reader.old)) }
+    ensures octets { reader.new.octets ≡ reader.old.octets }
+    ensures err { OnErr result (reader.new ≡ reader.old) }
+{
+    let place = reader.place();
+    let answer = index_of(alloc, template, alike, compressed, reader, count);
+    if answer.is_err() {
+        reader.return_to(place);
+    }
+    answer
+}
+
 /// The index of so many subsets, whose data the bits begin with. After an error the reader may have
 /// moved on.
 fn index_of<'a>(
     alloc: Global,
     template: Template,
+    alike: Option<Alike>,
     compressed: bool,
     reader: &mut BitReader<'a>,
     count: u16,
 ) -> Result<SubsetIndex<'a>, Failure<ReadFault>>
+    requires { IfSome alike (IsAlike template) }
     ensures exact { Gives {Y = List Subset × List Bool} (λ subsets. (subsets, left reader.new))
         result (subsets_in template compressed count (left reader.old)) }
     ensures octets { reader.new.octets ≡ reader.old.octets }
@@ -163,7 +190,6 @@ fn index_of<'a>(
     let standing = if compressed {
         DataIndex::Compressed(Columns::index(alloc, &template, reader, count)?)
     } else {
-        let alike = Alike::of_several(alloc, &template, reader.left(), count)?;
         DataIndex::Plain(PlainSubsets::index(alloc, template, alike, reader, count)?)
     };
     Ok(SubsetIndex { standing })

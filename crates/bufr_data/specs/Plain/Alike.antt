@@ -8,6 +8,8 @@ use Rattle.bufr_expand.specs.Courses.{course}
 use Rattle.bufr_expand.specs.Trees.{Tree}
 use Rattle.bufr_expand.specs.Unrolling.{Told, Allows}
 use Rattle.bufr_data.specs.declared.plain.alike.Alike.{Alike}
+use Rattle.bufr_data.specs.declared.plain.alike.Likeness.{Likeness}
+use Rattle.bufr_data.specs.declared.plain.alike.Likeness.TheVariants.{Unasked, Same, Varied}
 use Rattle.bufr_data.specs.declared.fault.ReadFault.TheVariants as faults
 use Rattle.bufr_data.specs.Plain.{raw_at}
 use Rattle.bufr_data.specs.Plain.Reads.{raw_or_ends}
@@ -41,3 +43,9 @@ pub record IsAlike (tree : Tree) (alike : Alike) : Type 0 where
   pub fields : List Told
   pub allowed : Allows (course tree 0) fields alike.items
   pub taken : TakeAll fields alike.bits
+
+-- what is known of a tree's subsets is so: those that are said to be alike are
+abbrev pub IsKnown : Tree → Likeness → Type 0
+IsKnown tree Unasked = Unit {0}
+IsKnown tree (Same each) = IsAlike tree each
+IsKnown tree Varied = Unit {0}

@@ -5,7 +5,8 @@ ghost use Rattle.std.specs.Prelude.{◌≡◌, ◌+◌, ◌*◌, ◌≤◌, leng
 ghost use Rattle.std.specs.Bool.{OnTrue, OnFalse};
 ghost use Rattle.bufr_bits.specs.Ends.{left};
 ghost use Rattle.bufr_expand.specs.Limits.{most_items};
-ghost use Rattle.bufr_data.specs.Plain.Alike.{IsAlike};
+ghost use Rattle.bufr_expand.specs.Trees.{Tree};
+ghost use Rattle.bufr_data.specs.Plain.Alike.{IsAlike, IsKnown};
 
 use crate::plain::pass::bits_of;
 use bufr_answers::OutOfMemory;
@@ -20,15 +21,24 @@ pub(crate) struct Alike {
     pub(crate) items: u64,
 }
 
-impl Alike {
-    /// What each plain subset of a template has, where it asks for no count and for at most so many
-    /// bits. The template is walked once, and no data are read.
+/// What is known of the plain subsets of a template: not asked yet, or not by as many bits as there
+/// were; or what each has; or that it takes a count, or a field that has no spec, to say.
+#[derive(Clone, Copy, Debug, PartialEq)]
+pub(crate) enum Likeness {
+    Unasked,
+    Same(Alike),
+    Varied,
+}
+
+impl Likeness {
+    /// What is to be known of the plain subsets of a template, where each has at most so many bits.
+    /// The template is walked once, and no data are read.
     pub(crate) fn within(
         alloc: Global,
         template: &Template,
         most: u128,
-    ) -> Result<Option<Alike>, OutOfMemory>
-        ensures { IfOk result (λ found. IfSome found (IsAlike template.now)) }
+    ) -> Result<Likeness, OutOfMemory>
+        ensures { IfOk result (IsKnown template.now) }
     {
         let mut walk = Walk::start(alloc, template, 0)?;
         let mut bits = 0;
@@ -36,18 +46,48 @@ impl Alike {
             match walk.next() {
                 Ok(Step::Field(_, spec)) => match bits_of(spec) {
                     Some(more) if more <= most - bits => bits += more,
-                    _ => return Ok(None),
+                    Some(_) => return Ok(Likeness::Unasked),
+                    None => return Ok(Likeness::Varied),
                 },
                 Ok(Step::End) => {
                     let items = walk.items();
-                    return Ok(Some(Alike { bits, items }));
+                    return Ok(Likeness::Same(Alike { bits, items }));
                 }
-                Ok(Step::Count(_, _)) | Err(_) => return Ok(None),
+                Ok(Step::Count(_, _)) | Err(_) => return Ok(Likeness::Varied),
             }
         }
     }
 
-    /// The same, where there are several subsets: one alone is passed as fast field by field.
+    /// What is known already of the plain subsets of a template, or else what `within` finds.
+    pub(crate) fn or_within(
+        self,
+        alloc: Global,
+        template: &Template,
+        most: u128,
+    ) -> Result<Likeness, OutOfMemory>
+        requires { IsKnown template.now self }
+        ensures { IfOk result (IsKnown template.now) }
+    {
+        match self {
+            Likeness::Unasked => Likeness::within(alloc, template, most),
+            known => Ok(known),
+        }
+    }
+
+    /// What each subset has, where that is known.
+    pub(crate) fn alike(self) -> Option<Alike>
+        ensures { (tree : Tree) → IsKnown tree self → IfSome result (IsAlike tree) }
+    {
+        match self {
+            Likeness::Same(each) => Some(each),
+            Likeness::Unasked | Likeness::Varied => None,
+        }
+    }
+}
+
+impl Alike {
+    /// What each plain subset of a template has, where that can be known by so many bits, and there
+    /// are several: one alone is passed as fast field by field.
     pub(crate) fn of_several(
         alloc: Global,
         template: &Template,
@@ -57,7 +97,7 @@ impl Alike {
         ensures { IfOk result (λ found. IfSome found (IsAlike template.now)) }
     {
         if count > 1 {
-            Alike::within(alloc, template, most)
+            Ok(Likeness::within(alloc, template, most)?.alike())
         } else {
             Ok(None)
         }

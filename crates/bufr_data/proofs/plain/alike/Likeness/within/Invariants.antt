@@ -1,11 +1,11 @@
--- The loop of `Alike::within`: the fields so far, and the bits that they take.
+-- The loop of `Likeness::within`: the fields so far, and the bits that they take.
 use Rattle.std.proofs.Common.{◌+◌, ◌-◌, ◌≤◌}
 use Rattle.bufr_expand.specs.Courses.{course}
 use Rattle.bufr_expand.specs.Walks as walks
 use Rattle.bufr_expand.specs.Limits.{most_items}
 use Rattle.bufr_data.specs.Steady.{IsReady}
 use Rattle.bufr_data.proofs.PlainFacts.Alike.{Measured}
-use Rattle.bufr_data.proofs.plain.alike.Alike.within.Given as goal
+use Rattle.bufr_data.proofs.plain.alike.Likeness.within.Given as goal
 
 -- the fields so far take so many bits, at most as many as asked, and the walk can go on behind them
 abbrev pub invariant-loop-spec : goal.invariant-loop-spec

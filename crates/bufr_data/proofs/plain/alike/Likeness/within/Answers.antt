@@ -1,9 +1,9 @@
--- The clause of `Alike::within`: field by field along the walk, until it ends or asks for a count.
+-- The clause of `Likeness::within`: field by field along the walk, until it ends or asks for a count.
 use Rattle.std.proofs.Common.{refl, arith}
 use Rattle.bufr_data.proofs.StepFacts.{ready_there}
 use Rattle.bufr_data.specs.StepLaws.{field_goes_on}
 use Rattle.bufr_data.proofs.PlainFacts.Alike.{none_measured, one_measured}
-use Rattle.bufr_data.proofs.plain.alike.Alike.within.Goals as goal
+use Rattle.bufr_data.proofs.plain.alike.Likeness.within.Goals as goal
 
 -- at first the walk is at the front of the course, and there are no bits
 pub loop-spec-init : goal.loop-spec-init

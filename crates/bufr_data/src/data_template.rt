@@ -1,0 +1,92 @@
+//! Templates of data, with what is known of their subsets.
+
+ghost use Rattle.std.specs.Prelude.{◌≡◌, Bool, List, IfOk, IfSome, OnErr};
+ghost use Rattle.bufr_bits.specs.Ends.{left};
+ghost use Rattle.bufr_answers.specs.Answers.{Gives};
+ghost use Rattle.bufr_data.specs.declared.field.Subset.{Subset};
+ghost use Rattle.bufr_data.specs.Data.{subsets_in};
+ghost use Rattle.bufr_data.specs.Plain.Alike.{IsAlike};
+
+use crate::fault::ReadFault;
+use crate::plain::alike::{Alike, Likeness};
+use crate::subset_index::{SubsetIndex, index_known};
+use bufr_answers::{Failure, OutOfMemory};
+use bufr_bits::BitReader;
+use bufr_expand::Template;
+use std::alloc::Global;
+use std::marker::Model;
+
+/// A template for the data of one message after another. Whether all its plain subsets are alike is
+/// found out once, and kept. Contracts see it as the template's tree.
+#[derive(Debug, Drop)]
+pub struct DataTemplate {
+    template: Template,
+    likeness: Likeness,
+}
+
+impl Model for DataTemplate {
+    ghost use Rattle.bufr_expand.specs.Trees.{Tree};
+    ghost use Rattle.bufr_expand.specs.TreeCodes.{tree_code};
+    ghost use Rattle.bufr_data.specs.Plain.Alike.{IsKnown};
+
+    ghost Value = { Tree };
+
+    ghost coded = { tree_code };
+
+    ghost view = { λ t. t.template };
+
+    ghost invariant = { λ t. IsKnown t.template t.likeness };
+}
+
+impl DataTemplate {
+    /// The template, of whose subsets nothing is known yet.
+    pub fn new(template: Template) -> DataTemplate
+        ensures { result ≡ template }
+    {
+        DataTemplate {
+            template,
+            likeness: Likeness::Unasked,
+        }
+    }
+
+    /// The subsets of a message, as `SubsetIndex::index` answers them, or the same fault. The
+    /// template stays, and its nodes are shared with the index. Plain subsets that are known to be
+    /// alike are passed at once, with no walk. `OutOfMemory` where a growth was refused.
+    pub fn index<'a>(
+        &mut self,
+        alloc: Global,
+        compressed: bool,
+        reader: &mut BitReader<'a>,
+        count: u16,
+    ) -> Result<SubsetIndex<'a>, Failure<ReadFault>>
+        ensures exact { Gives {Y = List Subset × List Bool} (λ subsets. (subsets, left reader.new))
+            result (subsets_in self.old compressed count (left reader.old)) }
+        ensures octets { reader.new.octets ≡ reader.old.octets }
+        ensures err { OnErr result (reader.new ≡ reader.old) }
+        ensures same { self.new ≡ self.old }
+    {
+        let alike = self.alike(alloc, compressed, reader.left(), count)?;
+        let template = self.template.share()?;
+        index_known(alloc, template, alike, compressed, reader, count)
+    }
+
+    /// What each subset has, where that is known: it is asked where there are plain subsets, and
+    /// the template is then walked once, as far as so many bits.
+    fn alike(
+        &mut self,
+        alloc: Global,
+        compressed: bool,
+        most: u128,
+        count: u16,
+    ) -> Result<Option<Alike>, OutOfMemory>
+        ensures found { IfOk result (λ found. IfSome found (IsAlike self.old)) }
+        ensures same { self.new ≡ self.old }
+    {
+        if compressed || count == 0 {
+            return Ok(None);
+        }
+        let likeness = self.likeness.or_within(alloc, &self.template, most)?;
+        self.likeness = likeness;
+        Ok(likeness.alike())
+    }
+}
