@@ -1,10 +1,11 @@
 -- Lines with their ends, joined: the parts of a listing as the writers write them, one behind the
 -- other. For `push_heading`, `push_local`, `push_section2`, `push_descriptors` and `push_subset`,
 -- by which `heading_text`, `subset_text` and `text_of` write, for `text_of` and for the laws
--- `listings_are_joined_parts` and `listings_are_read_back`.
+-- `listings_are_joined_parts`, `subsets_are_joined_lines` and `listings_are_read_back`.
 use Rattle.std.proofs.Common.{◌≡◌, ◌<◌, ℕ, List, [], ◌∷◌, ◌++◌, length, map, codes, refl, sym, ap}
 use Rattle.std.proofs.Common.{◌∙◌, arith, append_assoc}
 use Rattle.std.specs.List.{flat_map}
+use Rattle.std.proofs.lemmas.Grind.{flat_map-append}
 use Rattle.std.proofs.lemmas.List.{append-nil}
 use Rattle.bufr_data.specs.declared.field.Field.{Field}
 use Rattle.bufr_data.specs.declared.field.Subset.{Subset}
@@ -12,7 +13,7 @@ use Rattle.bufr_sections.specs.declared.message.Message.{Message}
 use Rattle.bufr_listing.specs.Listings.{words, line, joined, octets_line, section1_line, time_line}
 use Rattle.bufr_listing.specs.Listings.{local_lines, section2_lines, flags_line, descriptors_line}
 use Rattle.bufr_listing.specs.Listings.{Heading, heading_of, heading_lines, field_line}
-use Rattle.bufr_listing.specs.Listings.{subset_lines, end_line, lines_of, listing}
+use Rattle.bufr_listing.specs.Listings.{subset_line, subset_lines, end_line, lines_of, listing}
 
 -- lines behind lines are joined one behind the other
 pub joined_append : (xs ys : List (List ℕ)) → joined (xs ++ ys) ≡ joined xs ++ joined ys
@@ -108,6 +109,17 @@ pub subset_behind : (t : List ℕ) (s : Subset)
     ≡ t ++ joined (subset_lines s)
 subset_behind t s = append_assoc t (codes "subset\n") (flat_map (λ f. line (field_line f)) s.fields)
     ∙ ap (λ zs. t ++ (codes "subset\n" ++ zs)) (fields_joined s.fields)
+
+-- the lines of a subset, its first and those of its fields, up to one of these and from it on
+pub subset_in_lines : (before left : List Field)
+    → joined (subset_lines (record { fields = before ++ left }))
+    ≡ line subset_line ++ flat_map (λ f. line (field_line f)) before
+    ++ flat_map (λ f. line (field_line f)) left
+subset_in_lines before left =
+    ap (λ zs. line subset_line ++ zs)
+    (sym (fields_joined (before ++ left)) ∙ flat_map-append (λ f. line (field_line f)) before left)
+    ∙ sym (append_assoc (line subset_line) (flat_map (λ f. line (field_line f)) before)
+    (flat_map (λ f. line (field_line f)) left))
 
 -- the lines of subsets
 subsets_joined : (subsets : List Subset) → joined (flat_map subset_lines subsets)

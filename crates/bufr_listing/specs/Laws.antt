@@ -2,9 +2,10 @@
 use Rattle.std.specs.Prelude.{◌≡◌, ℕ, List, ◌++◌, Ok, Err}
 use Rattle.std.specs.List.{flat_map, AllByRecursion}
 use Rattle.bufr_tables.specs.Entries.{Entries}
+use Rattle.bufr_data.specs.declared.field.Field.{Field}
 use Rattle.bufr_sections.specs.declared.message.Message.{Message}
 use Rattle.bufr_listing.specs.Listings.{line, joined, heading_of, heading_lines, subset_lines}
-use Rattle.bufr_listing.specs.Listings.{end_line, listing}
+use Rattle.bufr_listing.specs.Listings.{end_line, field_line, subset_line, listing}
 use Rattle.bufr_listing.specs.Lines.{Listed, CanBeListed}
 use Rattle.bufr_listing.specs.Reading.{messages_listed}
 use Rattle.bufr_listing.specs.FirstFaults.{FirstFault}
@@ -16,6 +17,14 @@ abbrev pub ListingsAreJoinedParts : Type 0
 ListingsAreJoinedParts = (m : Message)
     → listing m ≡ joined (heading_lines (heading_of m))
     ++ flat_map (λ s. joined (subset_lines s)) m.subsets ++ line end_line
+
+-- the lines of a subset are its first line and that of each field, one behind another: of those
+-- before any place, and then of those that are left
+abbrev pub SubsetsAreJoinedLines : Type 0
+SubsetsAreJoinedLines = (before left : List Field)
+    → joined (subset_lines (record { fields = before ++ left }))
+    ≡ line subset_line ++ flat_map (λ f. line (field_line f)) before
+    ++ flat_map (λ f. line (field_line f)) left
 
 -- what is read of a text is listed by it
 abbrev pub MessagesReadAreListed : Type 0

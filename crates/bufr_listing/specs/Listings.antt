@@ -147,9 +147,13 @@ heading_lines h =
 abbrev pub field_line : Field → List ℕ
 field_line f = six_digits f.fxy ++ 32 ∷ value_word f
 
+-- the first line of a subset
+abbrev pub subset_line : List ℕ
+subset_line = codes "subset"
+
 -- the lines of a subset: its first one and one for each field
 abbrev pub subset_lines : Subset → List (List ℕ)
-subset_lines s = codes "subset" ∷ map field_line s.fields
+subset_lines s = subset_line ∷ map field_line s.fields
 
 -- the last line
 abbrev pub end_line : List ℕ

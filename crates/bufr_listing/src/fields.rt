@@ -3,7 +3,7 @@
 ghost use Rattle.std.specs.Prelude.{◌≡◌, ◌++◌, length, take, OnOk, OnErr};
 ghost use Rattle.bufr_data.specs.Values.{value};
 ghost use Rattle.bufr_listing.specs.Listings.{line, joined, quoted_octet, quoted, number_word};
-ghost use Rattle.bufr_listing.specs.Listings.{value_word, field_line, subset_lines};
+ghost use Rattle.bufr_listing.specs.Listings.{value_word, field_line, subset_line, subset_lines};
 
 use bufr_answers::OutOfMemory;
 use bufr_data::{Field, Raw, Subset};
@@ -22,6 +22,28 @@ pub fn push_subset(alloc: Global, text: &mut Vec<u8>, subset: &Subset) -> Result
     added
 }
 
+/// Adds the first line of a subset to octets. With the line of each field behind it they are the
+/// lines of the subset. Where memory runs out the octets are as they were.
+pub fn push_subset_line(text: &mut Vec<u8>) -> Result<(), OutOfMemory>
+    ensures ok { OnOk result (text.new.items ≡ text.old.items ++ line subset_line) }
+    ensures err { OnErr result (text.new.items ≡ text.old.items) }
+{
+    text.extend_from_slice(b"subset\n")
+}
+
+/// Adds the line of a field to octets. Where memory runs out they are as they were.
+pub fn push_field(alloc: Global, text: &mut Vec<u8>, field: &Field) -> Result<(), OutOfMemory>
+    ensures ok { OnOk result (text.new.items ≡ text.old.items ++ line (field_line field.now)) }
+    ensures err { OnErr result (text.new.items ≡ text.old.items) }
+{
+    let held = text.len();
+    let added = push_words(alloc, text, field);
+    if added.is_err() {
+        text.truncate(held);
+    }
+    added
+}
+
 // What follows adds to octets, and only a part where memory runs out.
 
 /// Adds the lines of a subset.
@@ -29,15 +51,15 @@ fn push_lines(alloc: Global, text: &mut Vec<u8>, subset: &Subset) -> Result<(), 
     ensures ok { OnOk result (text.new.items ≡ text.old.items ++ joined (subset_lines subset.now)) }
     ensures kept { OnErr result (take (length text.old.items) text.new.items ≡ text.old.items) }
 {
-    text.extend_from_slice(b"subset\n")?;
+    push_subset_line(text)?;
     for field in subset.fields.as_slice() {
-        push_field(alloc, text, field)?;
+        push_words(alloc, text, field)?;
     }
     Ok(())
 }
 
 /// Adds the line of a field.
-fn push_field(alloc: Global, text: &mut Vec<u8>, field: &Field) -> Result<(), OutOfMemory>
+fn push_words(alloc: Global, text: &mut Vec<u8>, field: &Field) -> Result<(), OutOfMemory>
     ensures ok { OnOk result (text.new.items ≡ text.old.items ++ line (field_line field.now)) }
     ensures kept { OnErr result (take (length text.old.items) text.new.items ≡ text.old.items) }
 {

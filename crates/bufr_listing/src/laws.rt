@@ -1,6 +1,7 @@
 //! Laws of listings and the messages that they list.
 
-ghost use Rattle.bufr_listing.specs.Laws.{ListingsAreJoinedParts, MessagesReadAreListed};
+ghost use Rattle.bufr_listing.specs.Laws.{ListingsAreJoinedParts, SubsetsAreJoinedLines};
+ghost use Rattle.bufr_listing.specs.Laws.{MessagesReadAreListed};
 ghost use Rattle.bufr_listing.specs.Laws.{MessagesListedAreRead, ListingsAreReadBack};
 ghost use Rattle.bufr_listing.specs.Laws.{FaultsReadAreFirst, FirstFaultsAreRead};
 
@@ -26,6 +27,13 @@ pub fn listings_list_messages()
 #[tactic(auto, using(crate::proofs::ListingFacts::listing_in_parts))]
 pub fn listings_are_joined_parts()
     ensures { ListingsAreJoinedParts }
+{}
+
+/// The lines of a subset are its first line and that of each field, one behind another: of the
+/// fields before any place among them, and then of those that are left.
+#[tactic(auto, using(crate::proofs::ListingFacts::subset_in_lines))]
+pub fn subsets_are_joined_lines()
+    ensures { SubsetsAreJoinedLines }
 {}
 
 /// The joined listings of messages are read back as these messages.

@@ -6,7 +6,9 @@ use super::writing::{assert_listed, assert_taken};
 use bufr_answers::Items;
 use bufr_data::{Field, Raw, Subset};
 use bufr_expand::Spec;
-use bufr_listing::{HeadingParts, end_text, heading_text, push_subset, subset_text};
+use bufr_listing::{
+    HeadingParts, end_text, heading_text, push_field, push_subset, push_subset_line, subset_text,
+};
 use bufr_sections::{Head, Message};
 use bufr_tables::{Fxy, Kind};
 use std::alloc::Global;
@@ -58,9 +60,21 @@ fn assert_subset(
     same(rt, listed.as_slice(), wanted.as_bytes());
     let mut octets = Vec::from_slice(alloc, b"held")?;
     push_subset(alloc, &mut octets, subset)?;
-    same(rt, octets.starts_with(b"held"), true);
-    same(rt, &octets[4..], wanted.as_bytes());
+    assert_behind(rt, octets.as_slice(), wanted);
+    let mut octets = Vec::from_slice(alloc, b"held")?;
+    push_subset_line(&mut octets)?;
+    for field in subset.fields.as_slice() {
+        push_field(alloc, &mut octets, field)?;
+    }
+    assert_behind(rt, octets.as_slice(), wanted);
     Ok(())
+}
+
+/// These octets are those that were held, and these lines behind them.
+fn assert_behind(rt: &impl Abort, octets: &[u8], wanted: &str) {
+    assert!(rt; 4 <= octets.len());
+    same(rt, &octets[..4], b"held".as_slice());
+    same(rt, &octets[4..], wanted.as_bytes());
 }
 
 /// The lines of a message before its first subset.

@@ -13,12 +13,12 @@ returns-clause-ok c =
     let all = take_all c.loop-field.field-index c.as_slice-field-items.result.now
     c.loop-field-test.false ∙ c.as_slice-field-items.ensures in
     c.loop-field.invariant
-    ∙ (λ i. c.in_ok-extend_from_slice.ensures.items i ++ flat_map (λ f. line (field_line f)) (all i))
+    ∙ (λ i. c.in_ok-push_subset_line.ensures.ok i ++ flat_map (λ f. line (field_line f)) (all i))
     ∙ subset_behind c.args.text.now.items c.args.subset.now
 
 -- where memory runs out at a field, the text begins with what it was
-pub returns-in_err-push_field-clause-kept : goal.returns-in_err-push_field-clause-kept
-returns-in_err-push_field-clause-kept c =
-    let first = front_kept _ _ _ _ c.loop-field.invariant c.in_err-push_field.ensures.kept in
-    on_err _ c.from_residual-in_err-push_field.result
-    (front_kept _ _ _ _ c.in_ok-extend_from_slice.ensures.items first)
+pub returns-in_err-push_words-clause-kept : goal.returns-in_err-push_words-clause-kept
+returns-in_err-push_words-clause-kept c =
+    let first = front_kept _ _ _ _ c.loop-field.invariant c.in_err-push_words.ensures.kept in
+    on_err _ c.from_residual-in_err-push_words.result
+    (front_kept _ _ _ _ c.in_ok-push_subset_line.ensures.ok first)
