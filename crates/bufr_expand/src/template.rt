@@ -1,26 +1,32 @@
 //! Templates.
 
-ghost use Rattle.std.specs.Prelude.{◌≡◌, length};
+ghost use Rattle.std.specs.Prelude.{◌≡◌, length, IfOk};
 ghost use Rattle.bufr_answers.specs.Answers.{Gives};
+ghost use Rattle.bufr_expand.specs.Places as places;
+ghost use Rattle.bufr_expand.specs.Places.{replications};
 ghost use Rattle.bufr_expand.specs.Templates.{template};
 ghost use Rattle.bufr_expand.specs.Trees.{nodes_of};
 
 use crate::expand::expand;
 use crate::limits::MOST_LEVELS;
 use crate::node::{Node, TemplateFault};
-use bufr_answers::Failure;
+use bufr_answers::{Failure, OutOfMemory};
 use bufr_tables::{Fxy, Tables};
 use std::alloc::Global;
 use std::marker::Model;
+use std::rc::Rc;
 
-/// The expansion of a list of descriptors. Contracts see it as a tree.
+/// The expansion of a list of descriptors. Contracts see it as a tree. It keeps how many of its
+/// nodes are replications, so that a walk takes room for all levels with no look at the nodes.
 #[derive(Debug, Drop)]
 pub struct Template {
-    nodes: Vec<Node>,
+    nodes: Rc<Vec<Node>>,
+    levels: usize,
 }
 
 impl Model for Template {
     ghost use Rattle.std.specs.Prelude.{◌≡◌};
+    ghost use Rattle.bufr_expand.specs.Places.{replications};
     ghost use Rattle.bufr_expand.specs.Trees.{Tree, tree_of, nodes_of};
     ghost use Rattle.bufr_expand.specs.TreeCodes.{tree_code};
 
@@ -28,9 +34,10 @@ impl Model for Template {
 
     ghost coded = { tree_code };
 
-    ghost view = { λ t. tree_of t.nodes.items };
+    ghost view = { λ t. tree_of t.nodes.value.items };
 
-    ghost invariant = { λ t. nodes_of (tree_of t.nodes.items) ≡ t.nodes.items };
+    ghost invariant = { λ t. (nodes_of (tree_of t.nodes.value.items) ≡ t.nodes.value.items)
+        × (t.levels ≡ replications t.nodes.value.items) };
 }
 
 impl Template {
@@ -44,7 +51,24 @@ impl Template {
     {
         let mut nodes = Vec::new(alloc);
         expand(tables, MOST_LEVELS, MOST_LEVELS, list, &mut nodes)?;
-        Ok(Template { nodes })
+        let levels = levels(&nodes);
+        let shared = Rc::new(alloc, nodes)?;
+        Ok(Template {
+            nodes: shared,
+            levels,
+        })
+    }
+
+    /// The same template once more: its nodes are shared, not copied. `OutOfMemory` where a template
+    /// is shared more often than can be counted.
+    pub fn share(&self) -> Result<Template, OutOfMemory>
+        ensures { IfOk result (λ t. t ≡ self.now) }
+    {
+        let nodes = self.nodes.clone()?;
+        Ok(Template {
+            nodes,
+            levels: self.levels,
+        })
     }
 
     /// How many nodes it has. Those of a replication's body count once.
@@ -59,6 +83,30 @@ impl Template {
         ensures { result.now ≡ nodes_of self.now }
     {
         self.nodes.as_slice()
+    }
+
+    /// How many of the nodes are replications: there are no more levels than that.
+    pub(crate) fn levels(&self) -> usize
+        ensures { result ≡ replications (nodes_of self.now) }
+    {
+        self.levels
+    }
+}
+
+/// How many nodes are replications.
+pub(crate) fn levels(nodes: &[Node]) -> usize
+    ensures { result ≡ replications nodes.now }
+{
+    nodes.iter().filter(|node| repeats(node)).count()
+}
+
+/// Whether a node is a replication.
+fn repeats(node: &Node) -> bool
+    ensures { result ≡ places.repeats node.now }
+{
+    match node {
+        Node::Repeated(_, _) | Node::Delayed(_, _, _) => true,
+        Node::Element(_, _) | Node::Untouched(_, _) | Node::Operator(_) => false,
     }
 }
 

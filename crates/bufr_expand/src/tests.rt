@@ -6,6 +6,7 @@ ghost use Rattle.bufr_expand.specs.StepAnswers.{asked_width};
 
 use crate::node::Node;
 use crate::operators::{EffectiveRange, Operators, Spec};
+use crate::template::levels;
 use crate::walk::{Step, Walk, WalkFault};
 use bufr_answers::OutOfMemory;
 use bufr_tables::{Element, Fxy, Kind};
@@ -300,7 +301,7 @@ struct Walked {
 
 /// Walks over nodes, after so many items, each count having this number.
 fn walk_over(alloc: Global, nodes: &[Node], used: u64, told: u64) -> Result<Walked, OutOfMemory> {
-    let mut walk = Walk::over(alloc, nodes, used)?;
+    let mut walk = Walk::over(alloc, nodes, levels(nodes), used)?;
     finish_walk(alloc, &mut walk, told)
 }
 
@@ -365,7 +366,7 @@ fn first_steps(rt: HostRuntime) -> Result<(), Fail> {
     let k = fxy(&rt, 0, 12, 101);
     let factor = Node::Delayed(d, row(Kind::Quantity, 0, 0, 8), 1);
     let nodes = [factor, Node::Untouched(k, temperature())];
-    let mut walk = Walk::over(rt.alloc(), &nodes, 0)?;
+    let mut walk = Walk::over(rt.alloc(), &nodes, levels(&nodes), 0)?;
     let count = Step::Count(d, spec(Kind::Count, 0, 0, 8));
     same(&rt, step(&mut walk, 1), Ok(count));
     same(&rt, walk.items(), 1);

@@ -2,7 +2,6 @@
 
 ghost use Rattle.std.specs.Prelude.{◌≡◌, ◌≤◌, ◌+◌, ◌-◌, min, length};
 ghost use Rattle.std.specs.Vec.{vec_capacity};
-ghost use Rattle.bufr_expand.specs.Places as places;
 ghost use Rattle.bufr_expand.specs.Places.{AreOpen, AreOpen-prop, in_front, replications, begins};
 ghost use Rattle.bufr_expand.specs.Places.{awaited};
 ghost use Rattle.bufr_expand.specs.OperatorsInForce.{factor_spec};
@@ -77,16 +76,22 @@ impl<'t> Walk<'t> {
         ensures answered { IfOk result (λ w. waits w ≡ false) }
         ensures items { IfOk result (λ w. items_met w ≡ used) }
     {
-        Walk::over(alloc, template.as_slice(), used)
+        Walk::over(alloc, template.as_slice(), template.levels(), used)
     }
 
-    /// At the front of some nodes.
-    pub(crate) fn over(alloc: Global, nodes: &'t [Node], used: u64) -> Result<Walk<'t>, OutOfMemory>
+    /// At the front of some nodes, of which so many are replications.
+    pub(crate) fn over(
+        alloc: Global,
+        nodes: &'t [Node],
+        levels: usize,
+        used: u64,
+    ) -> Result<Walk<'t>, OutOfMemory>
+        requires counted { levels ≡ replications nodes.now }
         ensures course { IfOk result (λ w. left w ≡ course (tree_of nodes.now) used) }
         ensures answered { IfOk result (λ w. waits w ≡ false) }
         ensures items { IfOk result (λ w. items_met w ≡ used) }
     {
-        let loops = Vec::with_capacity(alloc, levels(nodes))?;
+        let loops = Vec::with_capacity(alloc, levels)?;
         Ok(Walk {
             nodes,
             place: 0,
@@ -354,23 +359,6 @@ fn body_end(from: usize, stop: usize, len: u64) -> usize
         from + len as usize
     } else {
         stop
-    }
-}
-
-/// How many nodes are replications: there are no more levels than that.
-fn levels(nodes: &[Node]) -> usize
-    ensures { result ≡ replications nodes.now }
-{
-    nodes.iter().filter(|node| repeats(node)).count()
-}
-
-/// Whether a node is a replication.
-fn repeats(node: &Node) -> bool
-    ensures { result ≡ places.repeats node.now }
-{
-    match node {
-        Node::Repeated(_, _) | Node::Delayed(_, _, _) => true,
-        Node::Element(_, _) | Node::Untouched(_, _) | Node::Operator(_) => false,
     }
 }
 

@@ -148,6 +148,18 @@ fn assert_fault(
     Ok(())
 }
 
+#[test]
+fn shared(rt: HostRuntime) -> Result<(), Fail> {
+    let digits = [103255, 101002, 301001, 12101, 1001];
+    let template = template_of(rt.alloc(), TABLE_D, &digits)??;
+    let once_more = template.share()?;
+    assert!(rt; once_more.as_slice() == template.as_slice());
+    same(&rt, once_more.levels(), 2);
+    drop(template);
+    same(&rt, once_more.nodes(), 6);
+    Ok(())
+}
+
 /// The node of an element of this width that is written FXXYYY.
 fn element(digits: u32, width: u32) -> Result<Node, Fail> {
     Ok(Node::Element(fxy(digits)?, number(width)))

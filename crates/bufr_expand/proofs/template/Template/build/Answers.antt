@@ -5,5 +5,8 @@ use Rattle.bufr_expand.proofs.template.Template.build.Goals as goal
 -- the nodes of an expansion are those of the tree that they make
 pub invariant_of-result : goal.invariant_of-result
 invariant_of-result c =
-    built-well_formed c.args.tables.now c.args.list.now c.new-nodes.result.items
-    c.expand.new.nodes.items c.new-nodes.ensures.items c.in_ok-expand.ensures
+    rw c.in_ok-shared.ensures.ok (
+      built-well_formed c.args.tables.now c.args.list.now c.new-nodes.result.items
+          c.expand.new.nodes.items c.new-nodes.ensures.items c.in_ok-expand.ensures,
+      rw c.deref.ensures.value at c.levels-levels.ensures,
+    )

@@ -21,7 +21,7 @@ invariant_of-result c =
       in_bodies = subst P (sym none) tt;
       has_begun = front;
       is_inside = inside;
-      has_room = omega (arith, c.in_ok-loops.ensures.exact, c.levels.ensures);
+      has_room = omega (arith, c.in_ok-loops.ensures.exact, c.requires.counted);
     }
 
 -- the course that is left is that of the tree of the nodes
