@@ -15,7 +15,7 @@ envelope e =
       section2 = e.section2;
       observed = e.observed;
       compressed = e.compressed;
-      descriptors = e.descriptors;
+      descriptors = said.descriptors_of e.listed.now;
       count = e.count;
       contents = e.contents.now;
     }
@@ -40,7 +40,7 @@ description s =
       count = s.count;
       observed = s.observed;
       compressed = s.compressed;
-      descriptors = s.descriptors;
+      descriptors = said.descriptors_of s.listed.now;
     }
 
 -- the numbers of section 1 of edition 3 at their places behind its length, with these octets for

@@ -4,7 +4,8 @@ use crate::message::Head;
 use bufr_answers::Items;
 use bufr_tables::Fxy;
 
-/// What the sections that were read say. The octets of section 4 after its fourth are lent.
+/// What the sections that were read say. The octets of the descriptors, and those of section 4 after
+/// its fourth, are lent.
 #[derive(Debug, Drop)]
 pub struct Envelope<'a> {
     /// Section 1.
@@ -15,8 +16,8 @@ pub struct Envelope<'a> {
     pub observed: bool,
     /// Whether the data are compressed.
     pub compressed: bool,
-    /// The descriptors of section 3.
-    pub descriptors: Items<Fxy>,
+    /// The octets of section 3 after its seventh: two a descriptor, and an odd last one is none.
+    pub listed: &'a [u8],
     /// How many subsets are announced.
     pub count: u16,
     /// The octets of section 4 after its fourth.

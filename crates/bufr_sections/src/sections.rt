@@ -3,27 +3,27 @@
 ghost use Rattle.std.specs.Prelude.{◌≡◌, List, ℕ, Bool, Option, ◌≤◌, IfOk, length, drop};
 ghost use Rattle.bufr_answers.specs.Answers.{Gives};
 ghost use Rattle.bufr_sections.specs.declared.message.Head.{Head};
-ghost use Rattle.bufr_sections.specs.Sections.{three, two, section_at, room_in, room_of, head4_of};
+ghost use Rattle.bufr_sections.specs.Sections.{three, section_at, room_in, room_of, head4_of};
 ghost use Rattle.bufr_sections.specs.Sections.{head3_of, head_of, year_of_century, section2_at};
-ghost use Rattle.bufr_sections.specs.Sections.{descriptors_of, description_of, contents_of};
-ghost use Rattle.bufr_sections.specs.Sections.{sections_of, envelope_of};
+ghost use Rattle.bufr_sections.specs.Sections.{description_of, contents_of, sections_of};
+ghost use Rattle.bufr_sections.specs.Sections.{envelope_of};
 ghost use Rattle.bufr_sections.specs.SectionsRead.{envelope, description, head4_with, head3_with};
 
 use crate::envelope::Envelope;
 use crate::fault::Refused;
 use crate::layout::Layout;
+use crate::listed::number_of_two;
 use crate::message::Head;
 use bufr_answers::{Failure, Items, OutOfMemory};
-use bufr_tables::Fxy;
 use std::alloc::Global;
 
 /// What section 3 says.
 #[derive(Debug, Drop)]
-struct Description {
+struct Description<'a> {
     count: u16,
     observed: bool,
     compressed: bool,
-    descriptors: Items<Fxy>,
+    listed: &'a [u8],
 }
 
 /// The number of three octets.
@@ -31,13 +31,6 @@ fn number_of_three(high: u8, middle: u8, low: u8) -> usize
     ensures { result ≡ three high middle low }
 {
     65536 * high as usize + 256 * middle as usize + low as usize
-}
-
-/// The number of two octets.
-fn number_of_two(high: u8, low: u8) -> u16
-    ensures { result ≡ two high low }
-{
-    256 * high as u16 + low as u16
 }
 
 /// The layout of the edition, and the room between section 0 and `7777`.
@@ -237,32 +230,19 @@ fn section2_at(
     Ok((Some(copied(alloc, behind_first(octets))?), left))
 }
 
-/// The descriptors of two octets each; an odd octet is none.
-fn descriptors_of(alloc: Global, octets: &[u8]) -> Result<Items<Fxy>, OutOfMemory>
-    ensures { IfOk result (λ list. list ≡ descriptors_of octets.now) }
-{
-    let mut list = Vec::with_capacity(alloc, octets.len() / 2)?;
-    let mut rest = octets;
-    while let [high, low, others @ ..] = rest {
-        list.push(Fxy::from_bits(number_of_two(*high, *low)))?;
-        rest = others;
-    }
-    Ok(Items::from_vec(list))
-}
-
 /// Section 3 behind its length.
 #[tactic(auto, unfolding(crate::specs::Sections::description_of))]
-fn description_of(alloc: Global, octets: &[u8]) -> Result<Description, Failure<Refused>>
+fn description_of(octets: &[u8]) -> Result<Description<'_>, Failure<Refused>>
     ensures { Gives description result (description_of octets.now) }
 {
-    let [_ignored, n1, n2, flags, list @ ..] = octets else {
+    let [_ignored, n1, n2, flags, listed @ ..] = octets else {
         return Err(Failure::Fault(Refused::Section3Length));
     };
     Ok(Description {
         count: number_of_two(*n1, *n2),
         observed: *flags >= 128,
         compressed: *flags / 64 % 2 == 1,
-        descriptors: descriptors_of(alloc, list)?,
+        listed,
     })
 }
 
@@ -285,21 +265,21 @@ fn sections_of(alloc: Global, layout: Layout, room: &[u8]) -> Result<Envelope<'_
     let (head, announced) = head_of(alloc, layout, one)?;
     let (section2, room) = section2_at(alloc, announced, room)?;
     let (three, room) = section_at(9, Refused::Section3Length, room)?;
-    let description = description_of(alloc, three)?;
+    let description = description_of(three)?;
     let (four, left) = section_at(4, Refused::Section4Length, room)?;
     let contents = contents_of(four, left)?;
     let Description {
         count,
         observed,
         compressed,
-        descriptors,
+        listed,
     } = description;
     Ok(Envelope {
         head,
         section2,
         observed,
         compressed,
-        descriptors,
+        listed,
         count,
         contents,
     })

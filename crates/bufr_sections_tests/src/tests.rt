@@ -2,7 +2,7 @@
 //! format.
 
 use bufr_answers::Items;
-use bufr_sections::{Envelope, Head, Parts, read_sections, spell};
+use bufr_sections::{Envelope, Head, Parts, are_listed, descriptors_of, read_sections, spell};
 use bufr_tables::Fxy;
 use std::alloc::Global;
 use std::fmt::{Debug, Display};
@@ -105,15 +105,33 @@ fn same<T: PartialEq + Debug + Drop>(rt: &impl Abort, found: T, wanted: T) {
     assert_eq!(rt; found, wanted);
 }
 
+/// The octets list these descriptors.
+fn assert_listed(
+    rt: &impl Abort,
+    alloc: Global,
+    octets: &[u8],
+    wanted: &[Fxy],
+) -> Result<(), Fail> {
+    let list = descriptors_of(alloc, octets)?;
+    same(rt, list.as_slice(), wanted);
+    same(rt, are_listed(octets, wanted), true);
+    Ok(())
+}
+
 /// The sections that were read say this.
-fn assert_parts(rt: &impl Abort, found: &Envelope<'_>, wanted: &Parts<'_>) {
+fn assert_parts(
+    rt: &impl Abort,
+    alloc: Global,
+    found: &Envelope<'_>,
+    wanted: &Parts<'_>,
+) -> Result<(), Fail> {
     same(rt, &found.head, wanted.head);
     same(rt, &found.section2, wanted.section2);
     same(rt, found.observed, wanted.observed);
     same(rt, found.compressed, wanted.compressed);
-    same(rt, found.descriptors.as_slice(), wanted.descriptors);
     same(rt, usize::from(found.count), wanted.count);
     same(rt, found.contents, wanted.contents);
+    assert_listed(rt, alloc, found.listed, wanted.descriptors)
 }
 
 /// The sections of these octets say this.
@@ -124,8 +142,7 @@ fn assert_said(
     wanted: &Parts<'_>,
 ) -> Result<(), Fail> {
     let found = read_sections(alloc, octets)?;
-    assert_parts(rt, &found, wanted);
-    Ok(())
+    assert_parts(rt, alloc, &found, wanted)
 }
 
 /// The sections of the octets that hexadecimal digits are say this.
@@ -142,6 +159,41 @@ fn each_octet_at_its_place(rt: HostRuntime) -> Result<(), Fail> {
     let parts = parts_4(&head, &section2, descriptors.as_slice());
     assert_read(&rt, alloc, EDITION_4, &parts)?;
     assert_read(&rt, alloc, EDITION_4_FILLED, &parts)
+}
+
+/// Octets list exactly these descriptors, or they do not, as is said.
+fn assert_compared(
+    rt: &impl Abort,
+    alloc: Global,
+    text: &str,
+    list: &[Fxy],
+    wanted: bool,
+) -> Result<(), Fail> {
+    let octets = octets(alloc, text)?;
+    same(rt, are_listed(octets.as_slice(), list), wanted);
+    Ok(())
+}
+
+#[test]
+fn octets_against_lists(rt: HostRuntime) -> Result<(), Fail> {
+    let alloc = rt.alloc();
+    let list = descriptors_4();
+    for (text, wanted) in [
+        ("1718 191A", true),
+        ("1718 191A FF", true),
+        ("1718 19", false),
+        ("1718", false),
+        ("NONE", false),
+        ("1718 191B", false),
+        ("1618 191A", false),
+        ("191A 1718", false),
+        ("1718 191A 1718", false),
+    ] {
+        assert_compared(&rt, alloc, text, list.as_slice(), wanted)?;
+    }
+    assert_compared(&rt, alloc, "NONE", &[], true)?;
+    assert_compared(&rt, alloc, "FF", &[], true)?;
+    assert_compared(&rt, alloc, "1718", &[], false)
 }
 
 /// What is written from parts is the octets that hexadecimal digits are.

@@ -3,7 +3,7 @@ use Rattle.std.proofs.Common.{◌≡◌, ◌∙◌, length, drop, ◌-◌, sym, 
 use Rattle.std.proofs.lemmas.List.{take_all}
 use Rattle.bufr_sections.proofs.ListFacts.{descriptors_more, descriptors_none}
 use Rattle.bufr_sections.specs.Sections.{descriptors_of}
-use Rattle.bufr_sections.proofs.sections.descriptors_of.Goals as goal
+use Rattle.bufr_sections.proofs.listed.descriptors_of.Goals as goal
 
 -- with the descriptor of the next two octets put, the list and the rest come to the same
 pub loop-rest-preserved : goal.loop-rest-preserved

@@ -1,7 +1,7 @@
 -- For `descriptors_of`: what its loop keeps, and why it ends.
 use Rattle.std.proofs.Common.{◌≡◌, ◌++◌, length}
 use Rattle.bufr_sections.specs.Sections.{descriptors_of}
-use Rattle.bufr_sections.proofs.sections.descriptors_of.Given as goal
+use Rattle.bufr_sections.proofs.listed.descriptors_of.Given as goal
 
 -- the list, and behind it the descriptors of the rest, are those of all octets
 abbrev pub invariant-loop-rest : goal.invariant-loop-rest
