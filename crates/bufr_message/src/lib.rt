@@ -14,12 +14,13 @@ mod own_bits;
 mod ranges;
 mod report;
 mod templates;
+mod view_canonical;
 mod viewing;
 mod worked_reports;
 mod worked_values;
 
 pub use bufr_answers::{Failure, Items, OutOfMemory};
-pub use bufr_data::{Decimal, Field, Raw, ReadFault, Subset, WriteFault};
+pub use bufr_data::{Decimal, Field, Fields, Raw, ReadFault, Subset, WriteFault};
 pub use bufr_expand::{Spec, TemplateFault};
 pub use bufr_sections::{Decoded, Head, Message, Refused};
 pub use bufr_tables::{Element, Fxy, Kind, TableB, TableD, TableFault, Tables};

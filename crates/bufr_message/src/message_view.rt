@@ -19,7 +19,7 @@ use crate::report::{Report, report_with};
 use bufr_answers::{Failure, Items, OutOfMemory};
 use bufr_bits::BitReader;
 use bufr_data::laws::data_hold_subsets;
-use bufr_data::{ReadFault, Subset, SubsetIndex};
+use bufr_data::{Fields, ReadFault, Subset, SubsetIndex};
 use bufr_expand::Template;
 use bufr_sections::{Envelope, Head, Refused, read_sections};
 use bufr_tables::{Fxy, Tables};
@@ -114,6 +114,23 @@ impl<'a> View<'a> {
         ensures { IfOk result (λ s. slice_get self.now.message.subsets (number - 1) ≡ Some s) }
     {
         self.subsets.subset(alloc, number)
+    }
+
+    /// The fields of the subset of this number, from 1, one at a time. It can only run out of memory.
+    pub fn fields(&self, alloc: Global, number: usize) -> Result<Fields<'_>, OutOfMemory>
+        requires first { 1 ≤ number }
+        requires last { number ≤ length self.now.message.subsets }
+        ensures { IfOk result (λ fields.
+            slice_get self.now.message.subsets (number - 1) ≡ Some (record { fields = fields })) }
+    {
+        self.subsets.fields(alloc, number)
+    }
+
+    /// Where the subsets stand.
+    pub(crate) fn index(&self) -> &SubsetIndex<'a>
+        ensures { result.now ≡ self.now.message.subsets }
+    {
+        &self.subsets
     }
 
     /// The report of this number, from 1, which is built anew. It can only run out of memory.

@@ -46,6 +46,7 @@ later bit used each k = record {
 
 -- one that has no other before it
 first_even : (bit used : ℕ) (each : Alike) → start_here bit used each ≡ later bit used each 0
+unfolding later
 first_even bit used each =
     let begins : bit ≡ bit + 0 * each.bits = omega arith in
     let met : used ≡ used + 0 * each.items = omega arith in
@@ -54,6 +55,7 @@ first_even bit used each =
 -- one further behind the next
 further : (bit used : ℕ) (each : Alike) (k : ℕ)
     → later (bit + each.bits) (used + each.items) each k ≡ later bit used each (suc k)
+unfolding later
 further bit used each k =
     let begins : bit + each.bits + k * each.bits ≡ bit + suc k * each.bits = omega arith in
     let met : used + each.items + k * each.items ≡ used + suc k * each.items = omega arith in
@@ -71,6 +73,7 @@ one_later bit used each (suc n) (suc k) below =
 -- so it is where no item was met before the first
 pub one_even : (bit : ℕ) (each : Alike) (n k : ℕ) → k < n
     → slice_get (even_starts bit 0 each n) k ≡ Some (start_after bit each k)
+unfolding later
 one_even bit each n k below =
     let met : 0 + k * each.items ≡ k * each.items = omega arith in
     one_later bit 0 each n k below

@@ -27,7 +27,11 @@ pub returns-clause-exact : goal.returns-clause-exact
 returns-clause-exact c =
     let octets = c.args.reader.now.octets in
     let s : SubsetStart =
-    record { bit = c.bit_of-bit.result; end = c.bit_of-bit.result + c.each.bits; used = 0 } in
+    record {
+      bit = c.bit_of-bit.result;
+      end = c.bit_of-bit.result + (c.bit_of-end.result - c.bit_of-bit.result);
+      used = 0;
+    } in
     let there : left c.args.reader.now ≡ drop s.bit (bits octets) =
     ap (λ b. drop b (bits octets)) (sym c.bit_of-bit.ensures.is) in
     rw (
