@@ -13,7 +13,8 @@ all_taken P (suc n) (x ∷ xs) all = (all.0, all_taken P n xs all.1)
 -- of those that stay
 pub all_left : {X : Type 0} (P : X → Type 0) (i : ℕ) (xs : List X) → AllByRecursion P xs
     → AllByRecursion P (take i xs ++ drop (suc i) xs)
-all_left P i [] all = ?
+all_left P zero [] all = tt
+all_left P (suc i) [] all = tt
 all_left P zero (x ∷ xs) all = all.1
 all_left P (suc i) (x ∷ xs) all = (all.0, all_left P i xs all.1)
 
