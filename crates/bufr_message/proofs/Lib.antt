@@ -15,3 +15,4 @@ pub mod AloneFacts
 pub mod UnderFacts
 pub mod ViewFacts
 pub mod OwnBitsFacts
+pub mod KeptFacts

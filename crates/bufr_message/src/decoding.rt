@@ -16,7 +16,7 @@ use bufr_answers::{Failure, Items};
 use bufr_bits::BitReader;
 use bufr_data::{ReadFault, Subset, read_subsets};
 use bufr_expand::Template;
-use bufr_sections::{Decoded, Envelope, Message, Refused, read_sections};
+use bufr_sections::{Decoded, Envelope, Message, Refused, descriptors_of, read_sections};
 use bufr_tables::{Fxy, Tables};
 use std::alloc::Global;
 
@@ -62,10 +62,11 @@ fn message_in(
         section2,
         observed,
         compressed,
-        descriptors,
+        listed,
         count,
         contents,
     } = sections;
+    let descriptors = descriptors_of(alloc, listed)?;
     let template = template_of(alloc, tables, descriptors.as_slice())?;
     let (subsets, slack_octets) = data_of(alloc, &template, compressed, count, contents)?;
     if !can_be_alone(descriptors.as_slice(), subsets.as_slice()) {

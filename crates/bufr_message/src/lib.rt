@@ -6,6 +6,7 @@ mod alone;
 mod decoding;
 mod encoding;
 mod fault;
+mod kept;
 pub mod laws;
 mod lent;
 pub mod listing;

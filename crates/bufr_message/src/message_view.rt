@@ -6,14 +6,15 @@ ghost use Rattle.bufr_answers.specs.Answers.{Gives, result_map};
 ghost use Rattle.bufr_tables.specs.Entries.{Entries};
 ghost use Rattle.bufr_data.specs.declared.field.Subset.{Subset};
 ghost use Rattle.bufr_data.specs.Data.{subsets_in};
+ghost use Rattle.bufr_sections.specs.Sections.{descriptors_of};
 ghost use Rattle.bufr_sections.specs.SectionsRead.{envelope};
-ghost use Rattle.bufr_message.specs.Messages.{data_or, message_in, message_of, can_be_alone};
-ghost use Rattle.bufr_message.specs.Messages.{Spells};
+ghost use Rattle.bufr_message.specs.Kept.{message_under};
+ghost use Rattle.bufr_message.specs.Messages.{data_or, message_of, can_be_alone, Spells};
 ghost use Rattle.bufr_message.specs.Reports.{reports_of, IsUnder};
 ghost use Rattle.bufr_message.specs.Views.{AreReadFrom};
 
 use crate::alone::{are_short, is_short};
-use crate::decoding::template_of;
+use crate::kept::{Kept, kept_of};
 use crate::laws::reports_have_canonical_messages;
 use crate::report::{Report, report_with};
 use bufr_answers::{Failure, Items, OutOfMemory};
@@ -25,6 +26,7 @@ use bufr_sections::{Envelope, Head, Refused, read_sections};
 use bufr_tables::{Fxy, Tables};
 use std::alloc::Global;
 use std::marker::Model;
+use std::rc::Rc;
 
 /// A message that was read, none of whose subsets is built before it is asked for. It borrows the
 /// octets. Contracts see what `decode` answers.
@@ -34,7 +36,7 @@ pub struct View<'a> {
     section2: Option<Items<u8>>,
     observed: bool,
     compressed: bool,
-    descriptors: Items<Fxy>,
+    descriptors: Rc<Items<Fxy>>,
     subsets: SubsetIndex<'a>,
     slack_octets: u64,
 }
@@ -50,7 +52,7 @@ impl<'a> Model for View<'a> {
         section2 = v.section2;
         observed = v.observed;
         compressed = v.compressed;
-        descriptors = v.descriptors;
+        descriptors = v.descriptors.value;
         subsets = v.subsets;
       };
       slack_octets = v.slack_octets;
@@ -146,12 +148,18 @@ impl<'a> View<'a> {
     {
         reports_have_canonical_messages();
         let subset = self.subsets.subset(alloc, number)?;
-        report_with(alloc, &self.head, self.observed, &self.descriptors, subset)
+        report_with(
+            alloc,
+            &self.head,
+            self.observed,
+            self.descriptors.as_slice(),
+            subset,
+        )
     }
 }
 
 /// The message that octets spell: the one clause from which `view` has its others.
-#[tactic(auto, unfolding(crate::specs::Messages::message_of))]
+#[tactic(auto, unfolding(crate::specs::Messages::message_of, crate::specs::Messages::message_in))]
 pub(crate) fn view_of<'a>(
     alloc: Global,
     tables: &Tables,
@@ -160,28 +168,30 @@ pub(crate) fn view_of<'a>(
     ensures { Gives (λ d. d) result (message_of tables.now octets.now) }
 {
     let sections = read_sections(alloc, octets)?;
-    view_in(alloc, tables, sections)
+    let kept = kept_of(alloc, tables, sections.listed)?;
+    view_in(alloc, &kept, sections)
 }
 
-/// The message of sections.
-#[tactic(auto, unfolding(crate::specs::Messages::message_in))]
-fn view_in<'a>(
+/// The message of sections, whose descriptors are this list with its template.
+pub(crate) fn view_in<'a>(
     alloc: Global,
-    tables: &Tables,
+    kept: &Kept,
     sections: Envelope<'a>,
 ) -> Result<View<'a>, Failure<Refused>>
-    ensures { Gives (λ d. d) result (message_in tables.now (envelope sections.entry)) }
+    requires { kept.now.descriptors.value ≡ descriptors_of sections.listed.now }
+    ensures { Gives (λ d. d) result (message_under kept.now.template (envelope sections.entry)) }
 {
     let Envelope {
         head,
         section2,
         observed,
         compressed,
-        descriptors,
+        listed: _,
         count,
         contents,
     } = sections;
-    let template = template_of(alloc, tables, descriptors.as_slice())?;
+    let descriptors = kept.descriptors.clone()?;
+    let template = kept.template.share()?;
     let (subsets, slack_octets) = index_of(alloc, template, compressed, count, contents)?;
     if !can_be_alone(
         alloc,

@@ -141,7 +141,7 @@ fn reports_of(alloc: Global, message: Message) -> Result<Vec<Report>, OutOfMemor
     } = message;
     let mut found = Vec::new(alloc);
     for subset in subsets.into_vec() {
-        found.push(report_with(alloc, &head, observed, &descriptors, subset)?)?;
+        found.push(report_with(alloc, &head, observed, descriptors.as_slice(), subset)?)?;
     }
     Ok(found)
 }
@@ -151,12 +151,12 @@ pub(crate) fn report_with(
     alloc: Global,
     head: &Head,
     observed: bool,
-    descriptors: &Items<Fxy>,
+    descriptors: &[Fxy],
     subset: Subset,
 ) -> Result<Report, OutOfMemory>
     ensures { IfOk result (λ r. r ≡ with_parts head.now observed descriptors.now subset) }
 {
-    let descriptors = Items::from_vec(Vec::from_slice(alloc, descriptors.as_slice())?);
+    let descriptors = Items::from_vec(Vec::from_slice(alloc, descriptors)?);
     Ok(Report {
         head: ReportHead::of_head(head),
         observed,

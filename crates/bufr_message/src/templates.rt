@@ -3,37 +3,49 @@
 ghost use Rattle.std.specs.Prelude.{◌≡◌, ℕ, Ok, IfOk};
 ghost use Rattle.bufr_answers.specs.Answers.{Gives};
 ghost use Rattle.bufr_sections.specs.declared.message.Message.{Message};
+ghost use Rattle.bufr_message.specs.Kept.{AreOf};
 ghost use Rattle.bufr_message.specs.Messages.{Spells, message_of};
 
-use crate::message_view::View;
-use crate::viewing::view;
+use crate::kept::{Kept, taken};
+use crate::laws::messages_are_spelt;
+use crate::message_view::{View, view_in};
 use bufr_answers::Failure;
-use bufr_sections::Refused;
+use bufr_sections::{Refused, read_sections};
 use bufr_tables::Tables;
 use std::alloc::Global;
 use std::marker::Model;
 
-/// Tables, and the templates of the last lists of descriptors that were met under them. Contracts
-/// see the tables.
+/// How many lists of descriptors are kept at most.
+const MOST_KEPT: usize = 4;
+
+/// Tables, and the last four lists of descriptors that were met under them with their templates.
+/// Contracts see the tables.
 #[derive(Debug, Drop)]
 pub struct Templates<'t> {
     tables: &'t Tables,
+    kept: Vec<Kept>,
 }
 
 impl<'t> Model for Templates<'t> {
     ghost use Rattle.bufr_tables.specs.Entries.{Entries};
+    ghost use Rattle.bufr_message.specs.Kept.{AreOf};
 
     ghost Value = { Entries };
 
     ghost view = { λ t. t.tables.now };
+
+    ghost invariant = { λ t. AreOf t.tables.now t.kept.items };
 }
 
 impl<'t> Templates<'t> {
     /// These tables, of which no template was met. It takes no memory.
-    pub fn new(_alloc: Global, tables: &'t Tables) -> Templates<'t>
+    pub fn new(alloc: Global, tables: &'t Tables) -> Templates<'t>
         ensures { result ≡ tables.now }
     {
-        Templates { tables }
+        Templates {
+            tables,
+            kept: Vec::new(alloc),
+        }
     }
 
     /// The tables.
@@ -44,7 +56,8 @@ impl<'t> Templates<'t> {
     }
 
     /// The message that octets spell, none of whose subsets is built yet: what `view` answers, with
-    /// no template built where the list of descriptors is one of the last few.
+    /// no template built where the list of descriptors is one of the last four that had one.
+    /// `OutOfMemory` where a growth was refused.
     pub fn view<'a>(
         &mut self,
         alloc: Global,
@@ -60,6 +73,26 @@ impl<'t> Templates<'t> {
         // Which message, or which fault, it is.
         ensures exact { Gives (λ d. d) result (message_of self.old octets.now) }
     {
-        view(alloc, self.tables, octets)
+        messages_are_spelt();
+        view_keeping(alloc, self.tables, &mut self.kept, octets)
     }
+}
+
+/// The message that octets spell, with its list of descriptors then kept in front of the others.
+fn view_keeping<'a>(
+    alloc: Global,
+    tables: &Tables,
+    kept: &mut Vec<Kept>,
+    octets: &'a [u8],
+) -> Result<View<'a>, Failure<Refused>>
+    requires { AreOf tables.now kept.old.items }
+    ensures are { AreOf tables.now kept.new.items }
+    ensures exact { Gives (λ d. d) result (message_of tables.now octets.now) }
+{
+    let sections = read_sections(alloc, octets)?;
+    let own = taken(alloc, tables, kept, sections.listed)?;
+    let answer = view_in(alloc, &own, sections);
+    kept.truncate(MOST_KEPT - 1);
+    kept.insert(0, own)?;
+    answer
 }

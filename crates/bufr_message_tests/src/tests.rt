@@ -9,6 +9,7 @@ mod limits;
 mod listing;
 mod reports;
 mod samples;
+mod templates;
 mod viewed_listing;
 mod viewing;
 

@@ -19,7 +19,7 @@ fn own(alloc: Global, found: &View<'_>, number: usize) -> Result<Vec<u8>, Fail> 
 }
 
 /// The report of this number has this canonical message.
-fn assert_own(
+pub(crate) fn assert_own(
     rt: &impl Abort,
     alloc: Global,
     found: &View<'_>,

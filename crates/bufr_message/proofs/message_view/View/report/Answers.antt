@@ -19,7 +19,7 @@ returns-clause-under c =
       section2 = v.section2;
       observed = v.observed;
       compressed = v.compressed;
-      descriptors = v.descriptors;
+      descriptors = v.descriptors.value;
       subsets = v.subsets;
     } in
     let made =
