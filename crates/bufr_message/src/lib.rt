@@ -15,7 +15,6 @@ mod own_bits;
 mod ranges;
 mod report;
 mod templates;
-mod view_canonical;
 mod viewing;
 mod worked_reports;
 mod worked_values;

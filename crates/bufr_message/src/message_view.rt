@@ -128,13 +128,6 @@ impl<'a> View<'a> {
         self.subsets.fields(alloc, number)
     }
 
-    /// Where the subsets stand.
-    pub(crate) fn index(&self) -> &SubsetIndex<'a>
-        ensures { result.now ≡ self.now.message.subsets }
-    {
-        &self.subsets
-    }
-
     /// The report of this number, from 1, which is built anew. It can only run out of memory.
     pub fn report(&self, alloc: Global, number: usize) -> Result<Report, OutOfMemory>
         requires first { 1 ≤ number }
