@@ -7,7 +7,6 @@ use bufr_bits::{BitReader, BitSink};
 use std::alloc::Global;
 use std::fmt::Debug;
 use std::process::Abort;
-use std::test::Fail;
 
 /// The data octets of 301001 301011 301012 012101: block 10, station 384, 2024-01-15 12:00,
 /// 273.15 K.
@@ -38,21 +37,20 @@ fn same<T: PartialEq + Debug + Drop>(rt: &impl Abort, found: T, wanted: T) {
 }
 
 /// Puts the fields of `SEQUENCES` and compares the octets.
-fn put_sequences(rt: &impl Abort, alloc: Global) -> Result<(), Fail> {
+fn put_sequences(rt: &impl Abort, alloc: Global) {
     let mut sink = BitSink::new(alloc);
-    sink.put(7, 10)?;
-    sink.put(10, 384)?;
-    sink.put(12, 2024)?;
-    sink.put(4, 1)?;
-    sink.put(6, 15)?;
-    sink.put(5, 12)?;
-    sink.put(6, 0)?;
-    sink.put(16, 27315)?;
+    sink.put(7, 10).expect(rt, "room");
+    sink.put(10, 384).expect(rt, "room");
+    sink.put(12, 2024).expect(rt, "room");
+    sink.put(4, 1).expect(rt, "room");
+    sink.put(6, 15).expect(rt, "room");
+    sink.put(5, 12).expect(rt, "room");
+    sink.put(6, 0).expect(rt, "room");
+    sink.put(16, 27315).expect(rt, "room");
     same(rt, sink.len_bits(), 66);
     sink.fill_octet();
     same(rt, sink.len_bits(), 72);
     same(rt, sink.into_bytes().as_slice(), SEQUENCES.as_slice());
-    Ok(())
 }
 
 /// Takes a text of so many octets and compares it.
@@ -62,14 +60,16 @@ fn expect_text(
     reader: &mut BitReader<'_>,
     length: u64,
     wanted: &[u8],
-) -> Result<(), Fail> {
-    let text = reader.take_bytes(alloc, length)?.ok_or("no text")?;
+) {
+    let text = reader
+        .take_bytes(alloc, length)
+        .expect(rt, "an answer")
+        .expect(rt, "no text");
     same(rt, text.as_slice(), wanted);
-    Ok(())
 }
 
 #[test]
-fn sequences(rt: HostRuntime) -> Result<(), Fail> {
+fn sequences(rt: HostRuntime) {
     let fields = [
         (7, 10),
         (10, 384),
@@ -90,51 +90,55 @@ fn sequences(rt: HostRuntime) -> Result<(), Fail> {
     same(&rt, reader.take(6), Some(0));
     same(&rt, reader.take(1), None);
     same(&rt, reader.take(0), Some(0));
-    put_sequences(&rt, rt.alloc())
+    put_sequences(&rt, rt.alloc());
 }
 
 /// A message, three bits, and the message again, in octets.
-fn message_twice(rt: &impl Abort, alloc: Global) -> Result<Vec<u8>, Fail> {
+fn message_twice(rt: &impl Abort, alloc: Global) -> Vec<u8> {
     let mut sink = BitSink::new(alloc);
-    sink.put_bytes(&DELAYED_COUNT)?;
+    sink.put_bytes(&DELAYED_COUNT).expect(rt, "room");
     same(rt, sink.len_bits(), 416);
-    sink.put(3, 5)?;
-    sink.put_bytes(&DELAYED_COUNT)?;
+    sink.put(3, 5).expect(rt, "room");
+    sink.put_bytes(&DELAYED_COUNT).expect(rt, "room");
     same(rt, sink.len_bits(), 835);
     sink.fill_octet();
-    Ok(sink.into_bytes())
+    sink.into_bytes()
 }
 
 #[test]
-fn message_in_character_data(rt: HostRuntime) -> Result<(), Fail> {
+fn message_in_character_data(rt: HostRuntime) {
     let alloc = rt.alloc();
-    let octets = message_twice(&rt, alloc)?;
+    let octets = message_twice(&rt, alloc);
     same(&rt, octets.len(), 105);
 
     let mut reader = BitReader::new(octets.as_slice());
-    expect_text(&rt, alloc, &mut reader, 52, &DELAYED_COUNT)?;
+    expect_text(&rt, alloc, &mut reader, 52, &DELAYED_COUNT);
     same(&rt, reader.take(3), Some(5));
-    expect_text(&rt, alloc, &mut reader, 52, &DELAYED_COUNT)?;
+    expect_text(&rt, alloc, &mut reader, 52, &DELAYED_COUNT);
     same(&rt, reader.place(), 835);
-    assert!(rt; reader.take_bytes(alloc, 1)?.is_none());
+    assert!(rt;
+        reader
+            .take_bytes(alloc, 1)
+            .expect(&rt, "an answer")
+            .is_none()
+    );
     same(&rt, reader.place(), 835);
-    expect_text(&rt, alloc, &mut reader, 0, &[])
+    expect_text(&rt, alloc, &mut reader, 0, &[]);
 }
 
 /// Texts of three octets compressed: `AB ` and missing, as two octets each.
 const TEXTS: [u8; 8] = [0x00, 0x00, 0x00, 0x09, 0x05, 0x0B, 0xFF, 0xFC];
 
 /// Puts the fields of `TEXTS` and compares the octets.
-fn put_texts(rt: &impl Abort, alloc: Global) -> Result<(), Fail> {
+fn put_texts(rt: &impl Abort, alloc: Global) {
     let mut sink = BitSink::new(alloc);
-    sink.put(24, 0)?;
-    sink.put(6, 2)?;
-    sink.put_bytes(b"AB")?;
-    sink.put_bytes(&[0xFF, 0xFF])?;
+    sink.put(24, 0).expect(rt, "room");
+    sink.put(6, 2).expect(rt, "room");
+    sink.put_bytes(b"AB").expect(rt, "room");
+    sink.put_bytes(&[0xFF, 0xFF]).expect(rt, "room");
     same(rt, sink.len_bits(), 62);
     sink.fill_octet();
     same(rt, sink.into_bytes().as_slice(), TEXTS.as_slice());
-    Ok(())
 }
 
 /// Takes these fields off the front of octets and compares the bits left.
@@ -145,7 +149,7 @@ fn expect_front(rt: &impl Abort, octets: &[u8], fields: &[(u32, u64)], left: u12
 }
 
 #[test]
-fn compressed_refusals_and_texts(rt: HostRuntime) -> Result<(), Fail> {
+fn compressed_refusals_and_texts(rt: HostRuntime) {
     // Two numbers of two bits: R0, NBINC and the increments.
     let numbers = [(2, 2), (6, 2), (2, 2), (2, 0), (4, 0)];
     expect_front(&rt, &[0x82, 0x80], &numbers, 0);
@@ -157,21 +161,21 @@ fn compressed_refusals_and_texts(rt: HostRuntime) -> Result<(), Fail> {
     let alloc = rt.alloc();
     let mut texts = BitReader::new(&TEXTS);
     expect_fields(&rt, &mut texts, &[(24, 0), (6, 2)]);
-    expect_text(&rt, alloc, &mut texts, 2, b"AB")?;
-    expect_text(&rt, alloc, &mut texts, 2, &[0xFF, 0xFF])?;
+    expect_text(&rt, alloc, &mut texts, 2, b"AB");
+    expect_text(&rt, alloc, &mut texts, 2, &[0xFF, 0xFF]);
     same(&rt, texts.left(), 2);
-    put_texts(&rt, alloc)
+    put_texts(&rt, alloc);
 }
 
 #[test]
-fn widest_fields_at_every_place(rt: HostRuntime) -> Result<(), Fail> {
+fn widest_fields_at_every_place(rt: HostRuntime) {
     let number = 0xFEDC_BA98_7654_3210;
     for shift in 0..8u32 {
         let mut sink = BitSink::new(rt.alloc());
-        sink.put(shift, 0)?;
-        sink.put(64, number)?;
-        sink.put(1, 1)?;
-        sink.put(64, u64::MAX)?;
+        sink.put(shift, 0).expect(&rt, "room");
+        sink.put(64, number).expect(&rt, "room");
+        sink.put(1, 1).expect(&rt, "room");
+        sink.put(64, u64::MAX).expect(&rt, "room");
         same(&rt, sink.len_bits(), u128::from(shift) + 129);
         sink.fill_octet();
         let octets = sink.into_bytes();
@@ -183,29 +187,27 @@ fn widest_fields_at_every_place(rt: HostRuntime) -> Result<(), Fail> {
             &[(shift, 0), (64, number), (1, 1), (64, u64::MAX)],
         );
     }
-    Ok(())
 }
 
 #[test]
-fn places_and_cuts(rt: HostRuntime) -> Result<(), Fail> {
+fn places_and_cuts(rt: HostRuntime) {
     let mut reader = BitReader::at(&SEQUENCES, 50);
     same(&rt, reader.left(), 22);
     same(&rt, reader.take(16), Some(27315));
 
     let mut sink = BitSink::new(rt.alloc());
-    sink.put_bytes(&SEQUENCES)?;
+    sink.put_bytes(&SEQUENCES).expect(&rt, "room");
     sink.cut(17);
     assert_eq!(rt; sink.len_bits(), 17);
-    sink.put(12, 2024)?;
-    sink.put(4, 1)?;
-    sink.put_bytes(b"BUFR")?;
+    sink.put(12, 2024).expect(&rt, "room");
+    sink.put(4, 1).expect(&rt, "room");
+    sink.put_bytes(b"BUFR").expect(&rt, "room");
     // `cut` requires that so many bits are there, which a comparison in place shows.
     assert_eq!(rt; sink.len_bits(), 65);
     sink.cut(33);
     sink.fill_octet();
     let octets = [0x14, 0xC0, 0x3F, 0x40, 0x80];
     same(&rt, sink.into_bytes().as_slice(), octets.as_slice());
-    Ok(())
 }
 
 /// The octets of a reader, which is gone when they come back.

@@ -9,7 +9,6 @@ use std::alloc::Global;
 use std::io;
 use std::io::{ErrorKind, Read, Write};
 use std::process::Abort;
-use std::test::Fail;
 
 /// A reader that gives an octet, fails, and gives another.
 #[derive(Drop)]
@@ -49,56 +48,53 @@ impl Write for TakesOne {
 }
 
 #[test]
-fn a_source_of_octets_in_memory(rt: HostRuntime) -> Result<(), Fail> {
+fn a_source_of_octets_in_memory(rt: HostRuntime) {
     let octets = [1u8, 2, 3, 4, 5];
     let mut source = FromRead::new(octets.as_slice());
     let mut buffer = [0; 3];
-    same(&rt, source.read(&mut buffer)?, 3);
+    same(&rt, source.read(&mut buffer).expect(&rt, "an answer"), 3);
     same(&rt, buffer, [1, 2, 3]);
-    same(&rt, source.read(&mut buffer)?, 2);
+    same(&rt, source.read(&mut buffer).expect(&rt, "an answer"), 2);
     same(&rt, buffer, [4, 5, 3]);
-    same(&rt, source.read(&mut buffer)?, 0);
-    same(&rt, source.read(&mut buffer)?, 0);
+    same(&rt, source.read(&mut buffer).expect(&rt, "an answer"), 0);
+    same(&rt, source.read(&mut buffer).expect(&rt, "an answer"), 0);
     same(&rt, source.into_inner().len(), 0);
-    Ok(())
 }
 
 #[test]
-fn a_source_fails_at_any_error(rt: HostRuntime) -> Result<(), Fail> {
+fn a_source_fails_at_any_error(rt: HostRuntime) {
     let mut source = FromRead::new(FailsOnce { reads: 0 });
     let mut buffer = [0; 4];
-    same(&rt, source.read(&mut buffer)?, 1);
+    same(&rt, source.read(&mut buffer).expect(&rt, "an answer"), 1);
     same(&rt, source.read(&mut buffer), Err(Failed));
     same(&rt, source.into_inner().reads, 2);
-    Ok(())
 }
 
 /// Writes to a lent vector, and compares what stands in it after the loan.
-fn write_to_lent(rt: &impl Abort, alloc: Global) -> Result<(), Fail> {
+fn write_to_lent(rt: &impl Abort, alloc: Global) {
     let mut kept = Vec::new(alloc);
     let mut lent = IntoWrite::new(&mut kept);
-    same(rt, lent.write(b"BUFR")?, 4);
+    same(rt, lent.write(b"BUFR").expect(rt, "an answer"), 4);
     let _ = lent.into_inner();
     same(rt, kept.as_slice(), b"BUFR".as_slice());
-    Ok(())
 }
 
 #[test]
-fn a_sink_in_memory(rt: HostRuntime) -> Result<(), Fail> {
+fn a_sink_in_memory(rt: HostRuntime) {
     let mut sink = IntoWrite::new(Vec::new(rt.alloc()));
-    same(&rt, sink.write(b"BUFR")?, 4);
-    same(&rt, sink.write(&[])?, 0);
-    sink.flush()?;
-    write_all(&mut sink, b"7777").map_err(|_| Failed)?;
+    same(&rt, sink.write(b"BUFR").expect(&rt, "an answer"), 4);
+    same(&rt, sink.write(&[]).expect(&rt, "an answer"), 0);
+    sink.flush().expect(&rt, "an answer");
+    write_all(&mut sink, b"7777").expect(&rt, "an answer");
     same(&rt, sink.into_inner().as_slice(), b"BUFR7777".as_slice());
-    write_to_lent(&rt, rt.alloc())
+    write_to_lent(&rt, rt.alloc());
 }
 
 #[test]
-fn a_sink_fails_where_nothing_is_taken(rt: HostRuntime) -> Result<(), Fail> {
+fn a_sink_fails_where_nothing_is_taken(rt: HostRuntime) {
     let mut sink = IntoWrite::new(TakesOne { full: false });
-    same(&rt, sink.write(&[])?, 0);
-    same(&rt, sink.write(b"BUFR")?, 1);
+    same(&rt, sink.write(&[]).expect(&rt, "an answer"), 0);
+    same(&rt, sink.write(b"BUFR").expect(&rt, "an answer"), 1);
     same(&rt, sink.write(b"UFR"), Err(Failed));
 
     let mut again = IntoWrite::new(TakesOne { full: false });
@@ -106,7 +102,6 @@ fn a_sink_fails_where_nothing_is_taken(rt: HostRuntime) -> Result<(), Fail> {
     same(&rt, write_all(&mut again, b"BUFR"), unwritten);
     let mut flushed = IntoWrite::new(TakesOne { full: false });
     same(&rt, flushed.flush(), Err(Failed));
-    Ok(())
 }
 
 /// A reader of octets that gives a few at a time.
@@ -126,46 +121,44 @@ impl Read for GivesFew<'_> {
 }
 
 /// All that a source gives, up to a hundred thousand reads into so much room.
-fn all_of<S: Source>(alloc: Global, source: &mut S, room: &mut [u8]) -> Result<Vec<u8>, Fail>
+fn all_of<S: Source>(rt: &impl Abort, alloc: Global, source: &mut S, room: &mut [u8]) -> Vec<u8>
     requires works { (S.reading source.old).failed ≡ false }
     requires unread { (S.reading source.old).reads ≡ 0 }
     requires some { 0 < length room.old }
 {
     let mut octets = Vec::new(alloc);
     for _ in 0..100_000u64 {
-        let n = source.read(room)?;
+        let n = source.read(room).expect(rt, "an answer");
         if n == 0 {
-            return Ok(octets);
+            return octets;
         }
-        octets.extend_from_slice(&room[..n])?;
+        octets.extend_from_slice(&room[..n]).expect(rt, "room");
     }
-    Err(Fail::from("no end"))
+    panic!(rt; "no end")
 }
 
 #[test]
-fn a_source_gives_all_over_a_thousand_reads(rt: HostRuntime) -> Result<(), Fail> {
-    let octets = octets_of_length(rt.alloc(), 10_000)?;
+fn a_source_gives_all_over_a_thousand_reads(rt: HostRuntime) {
+    let octets = octets_of_length(rt.alloc(), 10_000).expect(&rt, "an answer");
     let reader = GivesFew {
         rest: octets.as_slice(),
         most: 7,
     };
     let mut room = [0; 64];
     let mut source = FromRead::new(reader);
-    let whole = all_of(rt.alloc(), &mut source, &mut room)?;
+    let whole = all_of(&rt, rt.alloc(), &mut source, &mut room);
     assert!(rt; whole.as_slice() == octets.as_slice());
     same(&rt, source.into_inner().rest.len(), 0);
-    Ok(())
 }
 
 #[test]
-fn a_lent_source_gives_all_in_large_reads(rt: HostRuntime) -> Result<(), Fail> {
-    let octets = octets_of_length(rt.alloc(), 1_000_003)?;
-    let mut room = vec![in rt.alloc(); 0u8; 70_000]?;
+fn a_lent_source_gives_all_in_large_reads(rt: HostRuntime) {
+    let octets = octets_of_length(rt.alloc(), 1_000_003).expect(&rt, "an answer");
+    let mut room = vec![in rt.alloc(); 0u8; 70_000].expect(&rt, "room");
     let mut source = FromRead::new(octets.as_slice());
     let mut lent = &mut source;
-    let whole = all_of(rt.alloc(), &mut lent, room.as_mut_slice())?;
+    let whole = all_of(&rt, rt.alloc(), &mut lent, room.as_mut_slice());
     assert!(rt; whole.as_slice() == octets.as_slice());
-    Ok(())
 }
 
 /// A writer that takes a few octets at a time, and counts how often it was to hand them on.
@@ -192,31 +185,29 @@ impl Write for TakesFew {
 }
 
 #[test]
-fn a_sink_takes_all_over_a_thousand_writes(rt: HostRuntime) -> Result<(), Fail> {
-    let octets = octets_of_length(rt.alloc(), 10_000)?;
+fn a_sink_takes_all_over_a_thousand_writes(rt: HostRuntime) {
+    let octets = octets_of_length(rt.alloc(), 10_000).expect(&rt, "an answer");
     let mut sink = IntoWrite::new(TakesFew {
         taken: Vec::new(rt.alloc()),
         most: 7,
         flushes: 0,
     });
-    write_all(&mut sink, octets.as_slice()).map_err(|_| Failed)?;
+    write_all(&mut sink, octets.as_slice()).expect(&rt, "an answer");
     assert!(rt; sink.into_inner().taken.as_slice() == octets.as_slice());
-    Ok(())
 }
 
 #[test]
-fn a_lent_sink_takes_a_large_piece_and_hands_it_on(rt: HostRuntime) -> Result<(), Fail> {
-    let octets = octets_of_length(rt.alloc(), 1_000_003)?;
+fn a_lent_sink_takes_a_large_piece_and_hands_it_on(rt: HostRuntime) {
+    let octets = octets_of_length(rt.alloc(), 1_000_003).expect(&rt, "an answer");
     let mut sink = IntoWrite::new(TakesFew {
         taken: Vec::new(rt.alloc()),
         most: 70_000,
         flushes: 0,
     });
     let mut lent = &mut sink;
-    write_all(&mut lent, octets.as_slice()).map_err(|_| Failed)?;
-    lent.flush()?;
+    write_all(&mut lent, octets.as_slice()).expect(&rt, "an answer");
+    lent.flush().expect(&rt, "an answer");
     let writer = sink.into_inner();
     assert!(rt; writer.taken.as_slice() == octets.as_slice());
     same(&rt, writer.flushes, 1);
-    Ok(())
 }

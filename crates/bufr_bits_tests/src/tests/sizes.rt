@@ -5,7 +5,6 @@ use bufr_answers::OutOfMemory;
 use bufr_bits::{BitReader, BitSink};
 use std::alloc::Global;
 use std::process::Abort;
-use std::test::Fail;
 
 /// So many octets, which go round by 251.
 pub(super) fn octets_of_length(alloc: Global, n: usize) -> Result<Vec<u8>, OutOfMemory> {
@@ -17,55 +16,53 @@ pub(super) fn octets_of_length(alloc: Global, n: usize) -> Result<Vec<u8>, OutOf
 }
 
 /// A text, three bits, and the text again, in octets.
-fn text_twice(rt: &impl Abort, alloc: Global, text: &[u8]) -> Result<Vec<u8>, Fail> {
+fn text_twice(rt: &impl Abort, alloc: Global, text: &[u8]) -> Vec<u8> {
     let mut sink = BitSink::new(alloc);
-    sink.put_bytes(text)?;
-    sink.put(3, 5)?;
-    sink.put_bytes(text)?;
+    sink.put_bytes(text).expect(rt, "room");
+    sink.put(3, 5).expect(rt, "room");
+    sink.put_bytes(text).expect(rt, "room");
     same(rt, sink.len_bits(), 16_000_051);
     sink.fill_octet();
-    Ok(sink.into_bytes())
+    sink.into_bytes()
 }
 
 #[test]
-fn a_million_octets_on_and_off_the_edge(rt: HostRuntime) -> Result<(), Fail> {
+fn a_million_octets_on_and_off_the_edge(rt: HostRuntime) {
     let alloc = rt.alloc();
-    let text = octets_of_length(alloc, 1_000_003)?;
-    let octets = text_twice(&rt, alloc, text.as_slice())?;
+    let text = octets_of_length(alloc, 1_000_003).expect(&rt, "an answer");
+    let octets = text_twice(&rt, alloc, text.as_slice());
     same(&rt, octets.len(), 2_000_007);
     let mut reader = BitReader::new(octets.as_slice());
-    expect_text(&rt, alloc, &mut reader, 1_000_003, text.as_slice())?;
+    expect_text(&rt, alloc, &mut reader, 1_000_003, text.as_slice());
     same(&rt, reader.take(3), Some(5));
-    expect_text(&rt, alloc, &mut reader, 1_000_003, text.as_slice())?;
+    expect_text(&rt, alloc, &mut reader, 1_000_003, text.as_slice());
     same(&rt, reader.left(), 5);
-    Ok(())
 }
 
 /// A sink with room for so many octets, an odd number, has just that room once it is full: one that
 /// grew has twice as much as it had before.
-fn keeps_its_room(rt: &impl Abort, alloc: Global, octets: usize) -> Result<(), Fail> {
-    let mut sink = BitSink::with_capacity(alloc, octets)?;
+fn keeps_its_room(rt: &impl Abort, alloc: Global, octets: usize) {
+    let mut sink = BitSink::with_capacity(alloc, octets).expect(rt, "room");
     for _ in 0..octets {
-        sink.put(8, 165)?;
+        sink.put(8, 165).expect(rt, "room");
     }
     sink.fill_octet();
     let full = sink.into_bytes();
     same(rt, full.len(), octets);
     same(rt, full.capacity(), octets);
-    Ok(())
 }
 
 #[test]
-fn room_for_a_thousand_octets(rt: HostRuntime) -> Result<(), Fail> {
-    keeps_its_room(&rt, rt.alloc(), 1001)
+fn room_for_a_thousand_octets(rt: HostRuntime) {
+    keeps_its_room(&rt, rt.alloc(), 1001);
 }
 
 #[test]
-fn a_hundred_thousand_fields(rt: HostRuntime) -> Result<(), Fail> {
-    let mut sink = BitSink::with_capacity(rt.alloc(), 1000)?;
+fn a_hundred_thousand_fields(rt: HostRuntime) {
+    let mut sink = BitSink::with_capacity(rt.alloc(), 1000).expect(&rt, "room");
     same(&rt, sink.len_bits(), 0);
     for i in 0..100_000u64 {
-        sink.put(13, i % 8191)?;
+        sink.put(13, i % 8191).expect(&rt, "room");
     }
     same(&rt, sink.len_bits(), 1_300_000);
     sink.fill_octet();
@@ -76,5 +73,4 @@ fn a_hundred_thousand_fields(rt: HostRuntime) -> Result<(), Fail> {
         good = good && reader.take(13) == Some(i % 8191);
     }
     assert!(rt; good && reader.left() == 0);
-    Ok(())
 }
