@@ -1,14 +1,29 @@
--- What holds of each of a list, when one is taken out of it: for templates that are kept.
-use Rattle.std.proofs.Common.{ℕ, ◌+◌, ◌<◌, zero, suc, List, [], ◌∷◌, ◌++◌, length, take, drop, get_or}
-use Rattle.std.proofs.Common.{arith}
-use Rattle.std.specs.List.{AllByRecursion}
+-- What holds of each of a list, when one is taken out of it or put in front: for templates that are
+-- kept.
+use Rattle.std.proofs.Common.{ℕ, ◌<◌, zero, suc, List, [], ◌∷◌, ◌++◌, length, take, drop, get_or}
+use Rattle.std.proofs.Common.{◌≡◌, arith, Bool, true, false, if◌then◌else◌, Result, Ok, Err, sym, subst, ap, ◌∙◌}
+use Rattle.std.specs.List.{AllByRecursion, insert}
+use Rattle.bufr_answers.specs.AnswerLaws.{ok_is}
+use Rattle.bufr_tables.specs.Entries.{Entries}
+use Rattle.bufr_expand.specs.Templates.{template}
+use Rattle.bufr_expand.specs.Trees.{Tree}
+use Rattle.bufr_expand.specs.declared.node.TemplateFault.{TemplateFault}
+use Rattle.bufr_sections.specs.Sections.{descriptors_of}
+use Rattle.bufr_message.specs.declared.kept.Kept.{Kept}
+use Rattle.bufr_message.specs.Kept.{IsOf}
+use Rattle.bufr_message.specs.Messages.{template_or}
 
 -- of the first so many
-pub all_taken : {X : Type 0} (P : X → Type 0) (n : ℕ) (xs : List X) → AllByRecursion P xs
+all_taken : {X : Type 0} (P : X → Type 0) (n : ℕ) (xs : List X) → AllByRecursion P xs
     → AllByRecursion P (take n xs)
 all_taken P zero xs all = tt
 all_taken P (suc n) [] all = tt
 all_taken P (suc n) (x ∷ xs) all = (all.0, all_taken P n xs all.1)
+
+-- of those of them that are left
+pub all_cut : {X : Type 0} (P : X → Type 0) (n : ℕ) (xs ys : List X) → ys ≡ take n xs
+    → AllByRecursion P xs → AllByRecursion P ys
+all_cut P n xs ys is all = subst (AllByRecursion P) (sym is) (all_taken P n xs all)
 
 -- of those that stay
 pub all_left : {X : Type 0} (P : X → Type 0) (i : ℕ) (xs : List X) → AllByRecursion P xs
@@ -24,3 +39,22 @@ pub all_at : {X : Type 0} (P : X → Type 0) (i : ℕ) (xs : List X) (d : X) →
 all_at P i [] d h all = absurd (omega arith)
 all_at P zero (x ∷ xs) d h all = all.0
 all_at P (suc i) (x ∷ xs) d h all = all_at P i xs d (omega (arith, h)) all.1
+
+-- of all of them behind one that was put in front, or of those that there were
+pub all_behind : {X : Type 0} (P : X → Type 0) (x : X) (xs ys : List X) (put : Bool)
+    → ys ≡ (if put then insert xs 0 x else xs) → AllByRecursion P xs → P x → AllByRecursion P ys
+all_behind P x xs ys true is all one = subst (AllByRecursion P) (sym is) (one, all)
+all_behind P x xs ys false is all one = subst (AllByRecursion P) (sym is) all
+
+-- a tree that is answered is that of the descriptors
+tree_is : (found : Result Tree TemplateFault) (tree : Tree) → template_or found ≡ Ok tree
+    → found ≡ Ok tree
+tree_is (Ok t) tree is = ap (λ x. Ok x) (ok_is t tree is)
+tree_is (Err fault) tree is = cc
+
+-- what was taken out or built is a list with its template
+pub own_is : (tables : Entries) (k : Kept) (listed : List ℕ)
+    → k.descriptors.value ≡ descriptors_of listed
+    → template_or (template tables (descriptors_of listed)) ≡ Ok k.template → IsOf tables k
+own_is tables k listed list exact =
+    ap (template tables) list ∙ tree_is (template tables (descriptors_of listed)) k.template exact

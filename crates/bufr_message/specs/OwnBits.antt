@@ -1,7 +1,7 @@
 -- The octets that a report's own fields spell alone. The tables are not asked: a report under some
 -- tables has this one canonical message under each tables under which it has one.
 use Rattle.std.specs.Prelude.{◌≡◌, ℕ, ◌^◌, ◌&&◌, Bool, true, List, Option, Some, None, nat_lt}
-use Rattle.std.specs.Prelude.{nat_le, option_map, if◌then◌else◌}
+use Rattle.std.specs.Prelude.{nat_le, if◌then◌else◌}
 use Rattle.std.specs.List.{list_all}
 use Rattle.bufr_tables.specs.Entries.{Entries}
 use Rattle.bufr_data.specs.declared.field.Raw.{Raw}

@@ -9,7 +9,7 @@ ghost use Rattle.bufr_message.specs.Kept.{AreOf};
 
 use crate::decoding::template_of;
 use bufr_answers::{Failure, Items};
-use bufr_expand::Template;
+use bufr_data::DataTemplate;
 use bufr_sections::{Refused, are_listed, descriptors_of};
 use bufr_tables::{Fxy, Tables};
 use std::alloc::Global;
@@ -20,8 +20,8 @@ use std::rc::Rc;
 pub(crate) struct Kept {
     /// The list, which views share.
     pub(crate) descriptors: Rc<Items<Fxy>>,
-    /// Its template.
-    pub(crate) template: Template,
+    /// Its template, with what is known of plain subsets.
+    pub(crate) template: DataTemplate,
 }
 
 /// The descriptors that octets of section 3 list, with their template, which is built.
@@ -39,7 +39,7 @@ pub(crate) fn kept_of(
     let descriptors = Rc::new(alloc, descriptors)?;
     Ok(Kept {
         descriptors,
-        template,
+        template: DataTemplate::new(template),
     })
 }
 

@@ -20,8 +20,7 @@ use crate::report::{Report, report_with};
 use bufr_answers::{Failure, Items, OutOfMemory};
 use bufr_bits::BitReader;
 use bufr_data::laws::data_hold_subsets;
-use bufr_data::{Fields, ReadFault, Subset, SubsetIndex};
-use bufr_expand::Template;
+use bufr_data::{DataTemplate, Fields, ReadFault, Subset, SubsetIndex};
 use bufr_sections::{Envelope, Head, Refused, read_sections};
 use bufr_tables::{Fxy, Tables};
 use std::alloc::Global;
@@ -161,18 +160,20 @@ pub(crate) fn view_of<'a>(
     ensures { Gives (λ d. d) result (message_of tables.now octets.now) }
 {
     let sections = read_sections(alloc, octets)?;
-    let kept = kept_of(alloc, tables, sections.listed)?;
-    view_in(alloc, &kept, sections)
+    let mut kept = kept_of(alloc, tables, sections.listed)?;
+    view_in(alloc, &mut kept, sections)
 }
 
 /// The message of sections, whose descriptors are this list with its template.
 pub(crate) fn view_in<'a>(
     alloc: Global,
-    kept: &Kept,
+    kept: &mut Kept,
     sections: Envelope<'a>,
 ) -> Result<View<'a>, Failure<Refused>>
-    requires { kept.now.descriptors.value ≡ descriptors_of sections.listed.now }
-    ensures { Gives (λ d. d) result (message_under kept.now.template (envelope sections.entry)) }
+    requires { kept.old.descriptors.value ≡ descriptors_of sections.listed.now }
+    ensures exact { Gives (λ d. d) result
+        (message_under kept.old.template (envelope sections.entry)) }
+    ensures same { kept.new ≡ kept.old }
 {
     let Envelope {
         head,
@@ -184,8 +185,7 @@ pub(crate) fn view_in<'a>(
         contents,
     } = sections;
     let descriptors = kept.descriptors.clone()?;
-    let template = kept.template.share()?;
-    let (subsets, slack_octets) = index_of(alloc, template, compressed, count, contents)?;
+    let (subsets, slack_octets) = index_of(alloc, &mut kept.template, compressed, count, contents)?;
     if !can_be_alone(
         alloc,
         descriptors.as_slice(),
@@ -210,18 +210,19 @@ pub(crate) fn view_in<'a>(
 /// stand after their bits.
 fn index_of<'a>(
     alloc: Global,
-    template: Template,
+    template: &mut DataTemplate,
     compressed: bool,
     count: u16,
     contents: &'a [u8],
 ) -> Result<(SubsetIndex<'a>, u64), Failure<Refused>>
     ensures exact { Gives {Y = List Subset × ℕ} (λ x. (x.0, x.1)) result
         (data_or (result_map (λ found. (found.0, length found.1 / 8))
-        (subsets_in template compressed count (bits contents.now)))) }
+        (subsets_in template.old compressed count (bits contents.now)))) }
     ensures stand { IfOk result (λ x. AreReadFrom contents.now compressed x.0) }
+    ensures same { template.new ≡ template.old }
 {
     let mut reader = BitReader::new(contents);
-    match SubsetIndex::index(alloc, template, compressed, &mut reader, count) {
+    match template.index(alloc, compressed, &mut reader, count) {
         Ok(subsets) => Ok((subsets, (reader.left() / 8) as u64)),
         Err(failure) => Err(failure.map(Refused::Data)),
     }

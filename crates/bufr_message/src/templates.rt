@@ -79,6 +79,7 @@ impl<'t> Templates<'t> {
 }
 
 /// The message that octets spell, with its list of descriptors then kept in front of the others.
+#[tactic(auto, unfolding(crate::specs::Messages::message_of, crate::specs::Messages::message_in))]
 fn view_keeping<'a>(
     alloc: Global,
     tables: &Tables,
@@ -90,8 +91,8 @@ fn view_keeping<'a>(
     ensures exact { Gives (λ d. d) result (message_of tables.now octets.now) }
 {
     let sections = read_sections(alloc, octets)?;
-    let own = taken(alloc, tables, kept, sections.listed)?;
-    let answer = view_in(alloc, &own, sections);
+    let mut own = taken(alloc, tables, kept, sections.listed)?;
+    let answer = view_in(alloc, &mut own, sections);
     kept.truncate(MOST_KEPT - 1);
     kept.insert(0, own)?;
     answer

@@ -8,9 +8,9 @@ use Rattle.bufr_message.proofs.message_view.index_of.Goals as goal
 pub returns-in-Ok-clause-stand : goal.returns-in-Ok-clause-stand
 returns-in-Ok-clause-stand c =
     let front = ap left c.new-reader.ensures in (
-      c.args.template,
+      c.args.template.now,
       c.args.count,
       _,
-      ap (subsets_in c.args.template c.args.compressed c.args.count) (sym front)
+      ap (subsets_in c.args.template.now c.args.compressed c.args.count) (sym front)
           ∙ c.in-Ok.ensures.exact,
     )

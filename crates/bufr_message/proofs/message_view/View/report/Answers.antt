@@ -25,7 +25,7 @@ returns-clause-under c =
     let made =
     one_report m
     (c.args.number - 1) c.in_ok-subset.subset c.report_with.result c.in_ok-subset.ensures
-    c.report_with.ensures in
+    (rw (c.as_slice.ensures, c.deref.ensures) at c.report_with.ensures) in
     subst (λ (d : Decoded). (tables : Entries) (octets : List ℕ) (slack : ℕ)
     → Spells tables d.message octets slack → IfOk c.report_with.result (IsUnder tables))
     c.self.view_is
