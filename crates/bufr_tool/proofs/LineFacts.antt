@@ -66,7 +66,7 @@ listing_whole m = joined_whole (lines_of m)
 -- ---- frames
 
 -- what is printed of a frame, whether it spells a message or not, has whole lines
-printed_whole : (printing : Printing) (frame : Found) (found : Result Decoded Refused)
+pub printed_whole : (printing : Printing) (frame : Found) (found : Result Decoded Refused)
     → AreWholeLines (printed_as printing frame found)
 printed_whole Shown frame (Ok found) = listing_whole found.message
 printed_whole Shown frame (Err why) =
@@ -77,12 +77,16 @@ printed_whole Checked frame (Ok found) =
 printed_whole Checked frame (Err why) =
     line_whole (place_and_length frame ++ codes " refused " ++ reason why)
 
+-- what is printed of a frame under the tables has whole lines
+pub frame_whole : (printing : Printing) (tables : Entries) (frame : Found)
+    → AreWholeLines (frame_text printing tables frame)
+frame_whole printing tables frame = printed_whole printing frame (message_of tables frame.bytes)
+
 -- what is printed of frames has whole lines
 pub frames_whole : (printing : Printing) (tables : Entries) (frames : List Found)
     → AreWholeLines (frames_text printing tables frames)
 frames_whole printing tables frames =
-    all_whole (frame_text printing tables) frames
-    (λ frame. printed_whole printing frame (message_of tables frame.bytes))
+    all_whole (frame_text printing tables) frames (frame_whole printing tables)
 
 -- ---- lines that were written
 
