@@ -1,7 +1,7 @@
 -- Texts that are held and written in parts: the steps of `Printer`, for the contracts of `run_show`
 -- and `run_check`.
 use Rattle.std.proofs.Common.{◌≡◌, ℕ, ◌+◌, ◌-◌, ◌<◌, false, inl, List, [], ◌++◌, length, Option, Some}
-use Rattle.std.proofs.Common.{None, Result, Ok}
+use Rattle.std.proofs.Common.{None}
 use Rattle.std.proofs.Common.{Err, refl, sym, ap, ◌∙◌, subst, arith, length-append, append_assoc}
 use Rattle.std.specs.Prelude.{slice_get}
 use Rattle.std.proofs.lemmas.List.{append-nil}
@@ -17,7 +17,7 @@ use Rattle.bufr_tool.specs.declared.printer.Printer.{Printer}
 use Rattle.bufr_tool.specs.Lines.{AreWholeLines, WritesLines}
 use Rattle.bufr_tool.specs.StreamEngines.{Adds, Fits, Stops, StopsWithin}
 use Rattle.bufr_tool.specs.StreamEngines.{WritesAllBut, WritesSome}
-use Rattle.bufr_tool.proofs.LineFacts.{both_whole, listed_whole, some_lines, lines_longer}
+use Rattle.bufr_tool.proofs.LineFacts.{both_whole, listed_whole, some_lines}
 use Rattle.bufr_tool.proofs.ListingFacts.{listed, listed_more}
 
 -- ---- all lines of a text are written or held

@@ -2,7 +2,6 @@
 use Rattle.std.proofs.Common.{arith, ◌∙◌}
 use Rattle.bufr_frame.specs.Streams.{cut}
 use Rattle.bufr_tool.specs.Output.{frames_text}
-use Rattle.bufr_tool.specs.StreamEngines.{PrintsEnd}
 use Rattle.bufr_tool.proofs.StreamFacts.{end_stopped}
 use Rattle.bufr_tool.proofs.frames.print_end.Goals as goal
 

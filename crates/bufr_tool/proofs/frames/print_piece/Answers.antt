@@ -1,5 +1,5 @@
 -- The clause of `print_piece`: what is held behind the piece was written, or printing stopped.
-use Rattle.std.proofs.Common.{◌++◌, ◌≤◌, ◌+◌, ◌^◌, arith, length, length-append, Err, Ok}
+use Rattle.std.proofs.Common.{◌++◌, arith, length-append}
 use Rattle.bufr_frame.specs.Streams.{sure}
 use Rattle.bufr_tool.specs.Output.{frames_text}
 use Rattle.bufr_tool.proofs.StreamFacts.{sure_ends, sure_fits}

@@ -1,7 +1,6 @@
 -- The clause of `print_tally`: the counts of the whole stream, and the text behind its frames.
 use Rattle.std.proofs.Common.{arith, ◌∙◌, refl}
 use Rattle.bufr_frame.specs.Streams.{cut}
-use Rattle.bufr_io.specs.declared.fault.ToolFault.TheVariants as faults
 use Rattle.bufr_tool.specs.declared.printer.Printer.{Printer}
 use Rattle.bufr_tool.specs.Output.{frames_text}
 use Rattle.bufr_tool.specs.StreamEngines.{PrintsEnd}

@@ -1,5 +1,5 @@
 -- The clause of `take_piece`: frame by frame, until `take_next` hands out none.
-use Rattle.std.proofs.Common.{◌≡◌, ◌++◌, arith, ap, length-append, None}
+use Rattle.std.proofs.Common.{◌≡◌, ◌++◌, arith, length-append, None}
 use Rattle.bufr_io.specs.declared.fault.ToolFault.TheVariants as faults
 use Rattle.bufr_tool.specs.StreamEngines.{TakesPiece}
 use Rattle.bufr_tool.proofs.PrintingFacts.{printed_short, refused_at_most, passed}

@@ -1,6 +1,6 @@
 -- The clause `prints` of `print_frame`: the frame as it was judged, counted, and then what is held
 -- is written where it is long.
-use Rattle.std.proofs.Common.{List, ℕ, ◌≡◌, ◌≤◌, ◌+◌, ◌^◌, ◌++◌, ◌∙◌, ap, subst, arith, length}
+use Rattle.std.proofs.Common.{◌≤◌, ◌+◌, ◌^◌, ◌++◌, ◌∙◌, ap, subst, arith, length}
 use Rattle.bufr_message.specs.Messages.{message_of}
 use Rattle.bufr_collect.specs.Collected.{refused_as}
 use Rattle.bufr_tool.specs.declared.printer.Printer.{Printer}

@@ -1,5 +1,5 @@
 -- The clause `prints` of `print_judged`, for the line of a frame that spells no message.
-use Rattle.std.proofs.Common.{List, ℕ, ◌++◌, ◌∙◌, ap, sym, refl}
+use Rattle.std.proofs.Common.{◌++◌, ◌∙◌, ap, sym, refl}
 use Rattle.bufr_io.specs.declared.fault.ToolFault.TheVariants as faults
 use Rattle.bufr_tool.specs.declared.printer.Printer.{Printer}
 use Rattle.bufr_tool.specs.Output.{printed_as}

@@ -1,5 +1,5 @@
 -- The clause `prints` of `print_message`, for the line of `check`.
-use Rattle.std.proofs.Common.{List, ℕ, ◌++◌, ◌∙◌, ap, sym, refl, Ok}
+use Rattle.std.proofs.Common.{◌++◌, ◌∙◌, ap, sym, refl, Ok}
 use Rattle.bufr_io.specs.declared.fault.ToolFault.TheVariants as faults
 use Rattle.bufr_tool.specs.declared.printer.Printer.{Printer}
 use Rattle.bufr_tool.specs.Output.{printed_as}
