@@ -9,37 +9,41 @@ use Rattle.bufr_frame.specs.Framings.{Framing}
 use Rattle.bufr_frame.specs.Streams.{cut, sure, Stands}
 use Rattle.bufr_frame.specs.StreamLaws.{cut-piece}
 use Rattle.bufr_frame.specs.NextFrameLaws.{handed_first}
-use Rattle.bufr_tool.specs.declared.counts.Counts.{Counts}
+use Rattle.bufr_tool.specs.declared.printer.Printer.{Printer}
 use Rattle.bufr_io.specs.declared.fault.Input.TheVariants.{Number}
 use Rattle.bufr_io.specs.declared.fault.Tally.{Tally}
 use Rattle.bufr_io.specs.declared.fault.ToolFault.{ToolFault}
 use Rattle.bufr_io.specs.declared.fault.ToolFault.TheVariants as faults
 use Rattle.bufr_tool.specs.declared.printing.Printing.{Printing}
-use Rattle.bufr_io.specs.Engines.{IsFresh, WasReadOut, HasGiven, AreAllOf, FailsAfter}
+use Rattle.bufr_io.specs.Engines.{IsFresh, WasReadOut, HasGiven, AreAllOf, FailsAfter, WritesAll}
 use Rattle.bufr_io.specs.Inputs.{GoesOn}
 use Rattle.bufr_io.specs.Limits.{longest_piece}
 use Rattle.bufr_tool.specs.Output.{frames_text, stream_text, last_text, tally_of}
 use Rattle.bufr_tool.specs.Lines.{WritesLines}
-use Rattle.bufr_tool.specs.StreamEngines.{no_counts, frames_by, text_by, Prints, PrintsFrames}
-use Rattle.bufr_tool.specs.StreamEngines.{HasPrintedSure, PrintsEnd}
+use Rattle.bufr_tool.specs.StreamEngines.{no_counts, frames_by, text_by, Prints, PrintsEnd}
+use Rattle.bufr_tool.specs.StreamEngines.{HasPrintedSure, Stops}
 use Rattle.bufr_io.specs.ReadingLaws.{HasGiven_none}
 use Rattle.bufr_io.specs.WritingLaws.{fails_longer}
 use Rattle.bufr_tool.proofs.LineFacts.{lines_none}
+use Rattle.bufr_tool.proofs.PartFacts.{all_written}
 use Rattle.bufr_tool.proofs.PrintingFacts.{printed_none, fails_further}
 
--- between two reads: these octets were given, and what is sure of them was printed
+-- between two reads: these octets were given, and what is sure of them was printed; no line is held
 pub record Between (printing : Printing) (tables : Entries) (old now : Reading)
-    (first last : Writing) (framer : Framing) (counts : Counts) (count : ℕ) : Type 0 where
+    (first last : Writing) (framer : Framing) (p : Printer) (count : ℕ) : Type 0 where
   pub read : List ℕ
   pub goes_on : GoesOn old now read count
-  pub printed : HasPrintedSure printing tables first last framer counts read
+  pub printed : HasPrintedSure printing tables first last framer p read
+  pub held : p.held.items ≡ []
   pub short : length read ≤ longest_piece * count
 
 -- before the first
 pub between_first : (printing : Printing) (tables : Entries) (reader : Reading) (writer : Writing)
-    (framer : Framing) → IsFresh reader → writer.failed ≡ false → Stands framer [] 0
-    → Between printing tables reader reader writer writer framer no_counts 0
-between_first printing tables reader writer framer fresh works stands = record {
+    (framer : Framing) (p : Printer) → p.printing ≡ printing → p.templates ≡ tables
+    → p.counts ≡ no_counts → p.held.items ≡ []
+    → IsFresh reader → writer.failed ≡ false → Stands framer [] 0
+    → Between printing tables reader reader writer writer framer p 0
+between_first printing tables reader writer framer p is under none held fresh works stands = record {
   read = [];
   goes_on =
       record {
@@ -50,10 +54,21 @@ between_first printing tables reader writer framer fresh works stands = record {
             fresh.met_end;
       };
   printed =
-      record
-      { handed = handed_first framer stands; printed = printed_none printing tables writer works };
+      record {
+        handed = handed_first framer stands;
+        printed = printed_none printing tables writer p is under none held works;
+      };
+  held = held;
   short = omega arith;
 }
+
+-- all that is printed of the octets was written
+between_text : (printing : Printing) (tables : Entries) (old now : Reading)
+    (first last : Writing) (framer : Framing) (p : Printer) (count : ℕ)
+    → (b : Between printing tables old now first last framer p count)
+    → WritesAll first last (frames_text printing tables (sure b.read))
+between_text printing tables old now first last framer p count b =
+    all_written p.held.items _ 0 p.counts.written first last b.held b.printed.printed.text
 
 -- a read that took nothing leaves what was given as it was
 given_kept : (old mid new : Option (List ℕ)) (read : List ℕ)
@@ -66,28 +81,28 @@ given_kept (Some all) mid new read so_far kept =
 
 -- a read failed
 pub prints_failed : (printing : Printing) (tables : Entries) (reads : ℕ) (old mid new : Reading)
-    (first now : Writing) (framer : Framing) (counts : Counts) (count : ℕ)
-    → Between printing tables old mid first now framer counts count → FailedRead mid new
+    (first now : Writing) (framer : Framing) (p : Printer) (count : ℕ)
+    → Between printing tables old mid first now framer p count → FailedRead mid new
     → Prints printing tables reads old new first now (Err (faults.ReadFailed (Number 1)))
-prints_failed printing tables reads old mid new first now framer counts count b f = (
+prints_failed printing tables reads old mid new first now framer p count b f = (
   refl,
   f.failed,
   b.read,
   given_kept old.left mid.left new.left b.read b.goes_on.so_far f.left,
-  b.printed.printed.text,
+  between_text printing tables old mid first now framer p count b,
 )
 
 -- all reads answered octets
 pub prints_endless : (printing : Printing) (tables : Entries) (reads : ℕ) (old new : Reading)
-    (first now : Writing) (framer : Framing) (counts : Counts)
-    → Between printing tables old new first now framer counts reads
+    (first now : Writing) (framer : Framing) (p : Printer)
+    → Between printing tables old new first now framer p reads
     → Prints printing tables reads old new first now (Err (faults.EndlessInput (Number 1)))
-prints_endless printing tables reads old new first now framer counts b = (
+prints_endless printing tables reads old new first now framer p b = (
   refl,
   record { reads = b.goes_on.reads; works = b.goes_on.works; met_end = b.goes_on.met_end },
   b.read,
   b.goes_on.so_far,
-  b.printed.printed.text,
+  between_text printing tables old new first now framer p reads b,
 )
 
 -- a front of what is printed of sure frames is one of what is printed of the whole stream
@@ -111,10 +126,10 @@ front_of_all printing tables (Some all) now read first last written given f =
 
 -- printing stopped within a piece
 pub prints_part : (printing : Printing) (tables : Entries) (reads : ℕ) (old new : Reading)
-    (first now : Writing) (counts : Counts) (read : List ℕ) (count : ℕ) (e : ToolFault)
-    → GoesOn old new read count → PrintsFrames printing tables (sure read) counts first now (Err e)
+    (first now : Writing) (read : List ℕ) (count : ℕ) (e : ToolFault)
+    → GoesOn old new read count → Stops (frames_text printing tables (sure read)) first now e
     → Prints printing tables reads old new first now (Err e)
-prints_part printing tables reads old new first now counts read count
+prints_part printing tables reads old new first now read count
     (faults.WriteFailed written) g p = (
       g.works,
       read,
@@ -122,14 +137,14 @@ prints_part printing tables reads old new first now counts read count
       subst (λ b. FailsAfter written first now (text_by printing tables b read)) (sym g.met_end) p,
       front_of_all printing tables old.left new.left read first now written g.so_far p,
     )
-prints_part printing tables reads old new first now counts read count faults.OutOfMemory g p = (
+prints_part printing tables reads old new first now read count faults.OutOfMemory g p = (
   g.works,
   read,
   g.so_far,
   subst (λ b. WritesLines first now (frames_text printing tables (frames_by b read)))
       (sym g.met_end) p,
 )
-prints_part printing tables reads old new first now counts read count e g p = absurd p
+prints_part printing tables reads old new first now read count e g p = absurd p
 
 -- a text of all octets is one of those that were read
 of_all : (left : Option (List ℕ)) (read : List ℕ) (P : List ℕ → Type 0)

@@ -1,5 +1,5 @@
--- Whole lines: what is printed of a frame is some, and what of it was written when memory ran out.
--- The contracts of `print_listing`, `print_judged` and all above need it, and so those of
+-- Whole lines: what is printed of a frame is some, and so is what of it was written when memory ran
+-- out. The contracts of `print_listing`, `print_judged` and all above need it, and so those of
 -- `run_show` and `run_check`.
 use Rattle.std.proofs.Common.{◌≡◌, ℕ, false, inl, inr, List, [], ◌∷◌, ◌++◌, codes, decimal, length}
 use Rattle.std.proofs.Common.{Result, Ok, Err, Option, Some, None, refl, sym, ap, ◌∙◌, subst}
@@ -19,8 +19,8 @@ use Rattle.bufr_message.specs.Views.{ListsSubset}
 use Rattle.bufr_tool.specs.declared.printing.Printing.{Printing}
 use Rattle.bufr_tool.specs.declared.printing.Printing.TheVariants.{Shown, Checked}
 use Rattle.bufr_io.specs.Engines.{WritesAll}
-use Rattle.bufr_io.specs.WritingLaws.{writes_none, writes_more}
-use Rattle.bufr_tool.specs.Output.{place_and_length, printed_as, frame_text, frames_text}
+use Rattle.bufr_io.specs.WritingLaws.{writes_none}
+use Rattle.bufr_tool.specs.Output.{place_and_length, printed_as, frame_text}
 use Rattle.bufr_tool.specs.Lines.{AreWholeLines, WritesLines}
 
 -- ---- whole lines
@@ -66,7 +66,7 @@ listing_whole m = joined_whole (lines_of m)
 -- ---- frames
 
 -- what is printed of a frame, whether it spells a message or not, has whole lines
-printed_whole : (printing : Printing) (frame : Found) (found : Result Decoded Refused)
+pub printed_whole : (printing : Printing) (frame : Found) (found : Result Decoded Refused)
     → AreWholeLines (printed_as printing frame found)
 printed_whole Shown frame (Ok found) = listing_whole found.message
 printed_whole Shown frame (Err why) =
@@ -77,12 +77,10 @@ printed_whole Checked frame (Ok found) =
 printed_whole Checked frame (Err why) =
     line_whole (place_and_length frame ++ codes " refused " ++ reason why)
 
--- what is printed of frames has whole lines
-pub frames_whole : (printing : Printing) (tables : Entries) (frames : List Found)
-    → AreWholeLines (frames_text printing tables frames)
-frames_whole printing tables frames =
-    all_whole (frame_text printing tables) frames
-    (λ frame. printed_whole printing frame (message_of tables frame.bytes))
+-- what is printed of a frame under the tables has whole lines
+pub frame_whole : (printing : Printing) (tables : Entries) (frame : Found)
+    → AreWholeLines (frame_text printing tables frame)
+frame_whole printing tables frame = printed_whole printing frame (message_of tables frame.bytes)
 
 -- ---- lines that were written
 
@@ -101,28 +99,3 @@ pub some_lines : (first now : Writing) (front rest text : List ℕ) → text ≡
     → AreWholeLines front → WritesAll first now front → WritesLines first now text
 some_lines first now front rest text parted whole all =
     record { front = front; rest = rest; parted = parted; whole = whole; written = all }
-
--- lines of a front are lines of the text
-pub lines_longer : (first now : Writing) (front rest text : List ℕ) → text ≡ front ++ rest
-    → WritesLines first now front → WritesLines first now text
-lines_longer first now front rest text parted some =
-    let is : text ≡ some.front ++ (some.rest ++ rest) =
-    parted ∙ ap (λ (t : List ℕ). t ++ rest) some.parted ∙ append_assoc some.front some.rest rest in
-    record {
-      front = some.front;
-      rest = some.rest ++ rest;
-      parted = is;
-      whole = some.whole;
-      written = some.written;
-    }
-
--- a text was written, and of another some lines
-pub lines_more : (first mid now : Writing) (a b : List ℕ) → AreWholeLines a → WritesAll first mid a
-    → WritesLines mid now b → WritesLines first now (a ++ b)
-lines_more first mid now a b whole all some = record {
-  front = a ++ some.front;
-  rest = some.rest;
-  parted = ap (λ (t : List ℕ). a ++ t) some.parted ∙ sym (append_assoc a some.front some.rest);
-  whole = both_whole a some.front whole some.whole;
-  written = writes_more first mid now a some.front all some.written;
-}

@@ -1,23 +1,26 @@
--- A text that is written in parts: the steps of the loop of `print_listing`, for the contract of
--- `run_show`.
+-- Texts that are held and written in parts: the steps of `Printer`, for the contracts of `run_show`
+-- and `run_check`.
 use Rattle.std.proofs.Common.{◌≡◌, ℕ, ◌+◌, ◌-◌, ◌<◌, false, inl, List, [], ◌++◌, length, Option, Some}
-use Rattle.std.proofs.Common.{None, Result, Ok}
+use Rattle.std.proofs.Common.{None}
 use Rattle.std.proofs.Common.{Err, refl, sym, ap, ◌∙◌, subst, arith, length-append, append_assoc}
 use Rattle.std.specs.Prelude.{slice_get}
 use Rattle.std.proofs.lemmas.List.{append-nil}
 use Rattle.bufr_bits.specs.Devices.{Writing}
-use Rattle.bufr_listing.specs.Listings.{joined, subset_lines, listing}
+use Rattle.bufr_listing.specs.Listings.{joined, subset_lines}
 use Rattle.bufr_message.specs.declared.Message.{Message}
 use Rattle.bufr_message.specs.Views.{AddsSubset, ListsSubset}
 use Rattle.bufr_io.specs.declared.fault.ToolFault.{ToolFault}
 use Rattle.bufr_io.specs.declared.fault.ToolFault.TheVariants as faults
-use Rattle.bufr_io.specs.Engines.{WritesAll, FailsAfter}
+use Rattle.bufr_io.specs.Engines.{WritesAll, WritesAfter, FailsAfter}
 use Rattle.bufr_io.specs.WritingLaws.{writes_none, writes_more, fails_more, fails_longer}
+use Rattle.bufr_tool.specs.declared.printer.Printer.{Printer}
 use Rattle.bufr_tool.specs.Lines.{AreWholeLines, WritesLines}
-use Rattle.bufr_tool.specs.StreamEngines.{PrintsText, WritesAllBut}
-use Rattle.bufr_tool.proofs.LineFacts.{both_whole, listed_whole, lines_more, lines_longer}
-use Rattle.bufr_tool.proofs.LineFacts.{some_lines}
-use Rattle.bufr_tool.proofs.ListingFacts.{listed, unlisted, listed_more, IsJoined, listing_parted}
+use Rattle.bufr_tool.specs.StreamEngines.{Adds, Fits, Stops, StopsWithin}
+use Rattle.bufr_tool.specs.StreamEngines.{WritesAllBut, WritesSome}
+use Rattle.bufr_tool.proofs.LineFacts.{both_whole, listed_whole, some_lines}
+use Rattle.bufr_tool.proofs.ListingFacts.{listed, listed_more}
+
+-- ---- all lines of a text are written or held
 
 -- nothing was written yet
 pub but_all : (held text : List ℕ) (before : ℕ) (w : Writing) → text ≡ held → AreWholeLines held
@@ -60,23 +63,102 @@ held_less held held' text before then now first mid last w v = record {
   counted = omega (arith, w.counted, v.counted, length-append w.front v.front);
 }
 
--- memory ran out while some lines of a listing were held
-pub listing_halts : (m : Message) (i : ℕ) (held : List ℕ) (before now : ℕ) (first last : Writing)
-    → IsJoined m → WritesAllBut held (listed m i) before now first last
-    → WritesLines first last (listing m)
-listing_halts m i held before now first last law w =
-    let rest = unlisted m i in
-    some_lines first last w.front (held ++ rest) (listing m)
-    (listing_parted m i law ∙ ap (λ (t : List ℕ). t ++ rest) w.parted
-    ∙ append_assoc w.front held rest)
-    w.front_whole w.written
+-- all that was held was written, and none is held
+pub held_none : (held held' text : List ℕ) (before then now : ℕ) (first mid last : Writing)
+    → WritesAllBut held text before then first mid → WritesAll mid last held → held' ≡ []
+    → now ≡ then + length held → WritesAllBut held' text before now first last
+held_none held held' text before then now first mid last w all none long =
+    held_less held held' text before then now first mid last w
+    (record {
+      front = held;
+      parted = sym (ap (λ (t : List ℕ). held ++ t) none ∙ append-nil held);
+      front_whole = w.held_whole;
+      held_whole = inl none;
+      written = all;
+      counted = long;
+    })
 
--- writing what is held stopped
-pub held_stops : (held text rest all : List ℕ) (before then : ℕ) (first mid last : Writing)
+-- lines were added to what is held
+pub adds_held : (text held : List ℕ) (p : Printer) (w : Writing) → held ≡ p.held.items ++ text
+    → AreWholeLines p.held.items → AreWholeLines text → w.failed ≡ false
+    → WritesAllBut held (p.held.items ++ text) p.counts.written p.counts.written w w
+adds_held text held p w is one two works =
+    but_all held (p.held.items ++ text) p.counts.written w (sym is)
+    (subst AreWholeLines (sym is) (both_whole p.held.items text one two)) works
+
+-- where none is held all was written
+pub all_written : (held text : List ℕ) (before now : ℕ) (first last : Writing)
+    → held ≡ [] → WritesAllBut held text before now first last → WritesAll first last text
+all_written held text before now first last none w =
+    subst (WritesAll first last)
+    (sym (w.parted ∙ ap (λ (t : List ℕ). w.front ++ t) none ∙ append-nil w.front)) w.written
+
+-- how many octets are written and held
+pub counted_all : (held text : List ℕ) (before now : ℕ) (first last : Writing)
+    → WritesAllBut held text before now first last → now + length held ≡ before + length text
+counted_all held text before now first last w =
+    let a = w.counted in
+    let b = ap length w.parted ∙ length-append w.front held in
+    omega arith
+
+-- ---- the first lines of a text are written or held
+
+-- those of a front of it, all of which are
+pub some_all : (held text rest all : List ℕ) (before now : ℕ) (first last : Writing)
+    → all ≡ text ++ rest → WritesAllBut held text before now first last
+    → WritesSome held all before now first last
+some_all held text rest all before now first last is w =
+    record { front = text; rest = rest; parted = is; done = w }
+
+-- and so of a longer text
+pub some_longer : (held text rest all : List ℕ) (before now : ℕ) (first last : Writing)
+    → all ≡ text ++ rest → WritesSome held text before now first last
+    → WritesSome held all before now first last
+some_longer held text rest all before now first last is w = record {
+  front = w.front;
+  rest = w.rest ++ rest;
+  parted = is ∙ ap (λ (t : List ℕ). t ++ rest) w.parted ∙ append_assoc w.front w.rest rest;
+  done = w.done;
+}
+
+-- behind what was written stand the first lines of what was held
+pub some_less : (held held' text : List ℕ) (before then now : ℕ) (first mid last : Writing)
+    → WritesAllBut held text before then first mid → WritesSome held' held then now mid last
+    → WritesSome held' text before now first last
+some_less held held' text before then now first mid last w v = record {
+  front = w.front ++ v.front;
+  rest = v.rest;
+  parted = w.parted ∙ ap (λ (t : List ℕ). w.front ++ t) v.parted
+      ∙ sym (append_assoc w.front v.front v.rest);
+  done = record {
+    front = w.front ++ v.done.front;
+    parted = ap (λ (t : List ℕ). w.front ++ t) v.done.parted
+        ∙ sym (append_assoc w.front v.done.front held');
+    front_whole = both_whole w.front v.done.front w.front_whole v.done.front_whole;
+    held_whole = v.done.held_whole;
+    written = writes_more first mid last w.front v.done.front w.written v.done.written;
+    counted = omega (arith, w.counted, v.done.counted, length-append w.front v.done.front);
+  };
+}
+
+-- all that was held was written: they are whole lines
+pub some_written : (held text : List ℕ) (before then : ℕ) (first mid last : Writing)
+    → WritesSome held text before then first mid → WritesAll mid last held
+    → WritesLines first last text
+some_written held text before then first mid last w all =
+    some_lines first last w.front w.rest text w.parted
+    (subst AreWholeLines (sym w.done.parted)
+    (both_whole w.done.front held w.done.front_whole w.done.held_whole))
+    (subst (WritesAll first last) (sym w.done.parted)
+    (writes_more first mid last w.done.front held w.done.written all))
+
+-- ---- the writer failed
+
+-- after a front of what was held
+pub held_fails : (held text rest all : List ℕ) (before then : ℕ) (first mid last : Writing)
     (e : ToolFault) → all ≡ text ++ rest → WritesAllBut held text before then first mid
-    → PrintsText then held mid last (Err e)
-    → PrintsText before all first last (Err e)
-held_stops held text rest all before then first mid last (faults.WriteFailed written) is w p = (
+    → WritesAfter then held mid last (Err e) → WritesAfter before all first last (Err e)
+held_fails held text rest all before then first mid last (faults.WriteFailed written) is w p = (
   length w.front + p.0,
   omega (arith, w.counted, p.1),
   subst (FailsAfter (length w.front + p.0) first last)
@@ -84,24 +166,90 @@ held_stops held text rest all before then first mid last (faults.WriteFailed wri
       (fails_longer first last (w.front ++ held) rest (length w.front + p.0)
       (fails_more first mid last w.front held p.0 w.written p.2)),
 )
-held_stops held text rest all before then first mid last faults.OutOfMemory is w p =
-    lines_longer first last (w.front ++ held) rest all
-    (is ∙ ap (λ (t : List ℕ). t ++ rest) w.parted)
-    (lines_more first mid last w.front held w.front_whole w.written p)
-held_stops held text rest all before then first mid last e is w p = absurd p
+held_fails held text rest all before then first mid last e is w p = absurd p
 
--- what is held is the last that was written, or writing it stopped
-pub held_ends : (held text : List ℕ) (before then : ℕ) (first mid last : Writing)
-    (r : Result ℕ ToolFault) → WritesAllBut held text before then first mid
-    → PrintsText then held mid last r
-    → PrintsText before text first last r
-held_ends held text before then first mid last (Ok now) w p = (
-  subst (WritesAll first last) (sym w.parted)
-      (writes_more first mid last w.front held w.written p.0),
-  omega (arith, w.counted, p.1, length-append w.front held, ap length w.parted),
+-- so adding a text to what was held stopped
+pub adds_failed : (text : List ℕ) (p p' : Printer) (first last : Writing) (e : ToolFault)
+    → WritesAfter p.counts.written (p.held.items ++ text) first last (Err e)
+    → Adds text p p' first last (Err e)
+adds_failed text p p' first last (faults.WriteFailed written) f = f
+adds_failed text p p' first last e f = absurd f
+
+-- so it did where memory ran out behind a front of the text
+pub adds_halts : (text done rest held : List ℕ) (p p' : Printer) (first last : Writing)
+    → text ≡ done ++ rest
+    → WritesAllBut held (p.held.items ++ done) p.counts.written p'.counts.written first last
+    → p'.held.items ≡ held → Adds text p p' first last (Err faults.OutOfMemory)
+adds_halts text done rest held p p' first last is w same =
+    some_all p'.held.items (p.held.items ++ done) rest (p.held.items ++ text) p.counts.written
+    p'.counts.written first last
+    (ap (λ (t : List ℕ). p.held.items ++ t) is ∙ sym (append_assoc p.held.items done rest))
+    (subst (λ (t : List ℕ). WritesAllBut t (p.held.items ++ done) p.counts.written
+    p'.counts.written first last) (sym same) w)
+
+-- or before the first of it
+pub adds_none : (text : List ℕ) (p p' : Printer) (w : Writing) → AreWholeLines p.held.items
+    → w.failed ≡ false → p'.held.items ≡ p.held.items → p'.counts.written ≡ p.counts.written
+    → Adds text p p' w w (Err faults.OutOfMemory)
+adds_none text p p' w whole works same written =
+    adds_halts text [] text p.held.items p p' w w refl
+    (subst (λ n. WritesAllBut p.held.items (p.held.items ++ []) p.counts.written n w w)
+    (sym written)
+    (but_all p.held.items (p.held.items ++ []) p.counts.written w (append-nil p.held.items) whole
+    works))
+    same
+
+-- and so did printing a text
+pub stops_failed : (text : List ℕ) (first last : Writing) (e : ToolFault)
+    → WritesAfter 0 text first last (Err e) → Stops text first last e
+stops_failed text first last (faults.WriteFailed written) f =
+    let at : f.0 ≡ written = omega (arith, f.1) in
+    subst (λ n. FailsAfter n first last text) at f.2
+stops_failed text first last e f = absurd f
+
+-- ---- printing stopped
+
+-- within a text, and so within a longer one
+pub within_longer : (text rest all : List ℕ) (first now : Writing) (p : Printer) (e : ToolFault)
+    → all ≡ text ++ rest → StopsWithin text first p now e → StopsWithin all first p now e
+within_longer text rest all first now p (faults.WriteFailed written) is s =
+    subst (FailsAfter written first now) (sym is) (fails_longer first now text rest written s)
+within_longer text rest all first now p faults.OutOfMemory is s =
+    (some_longer _ text rest all _ _ first now is s.0, s.1)
+within_longer text rest all first now p e is s = absurd s
+
+-- within a text that was added to what is held
+pub within_more : (text more : List ℕ) (first mid last : Writing) (p p' : Printer) (e : ToolFault)
+    → AreWholeLines more → WritesAllBut p.held.items text 0 p.counts.written first mid
+    → Adds more p p' mid last (Err e) → Fits p' → StopsWithin (text ++ more) first p' last e
+within_more text more first mid last p p' (faults.WriteFailed written) whole w a fits =
+    let f = held_fails (p.held.items ++ more) (text ++ more) [] (text ++ more) 0 p.counts.written
+    first mid last (faults.WriteFailed written) (sym (append-nil (text ++ more)))
+    (held_more p.held.items text more _ _ 0 p.counts.written first mid refl refl whole w) a in
+    stops_failed (text ++ more) first last (faults.WriteFailed written) f
+within_more text more first mid last p p' faults.OutOfMemory whole w a fits = (
+  some_less (p.held.items ++ more) p'.held.items (text ++ more) 0 p.counts.written
+      p'.counts.written first mid last
+      (held_more p.held.items text more _ _ 0 p.counts.written first mid refl refl whole w) a,
+  fits,
 )
-held_ends held text before then first mid last (Err e) w p =
-    held_stops held text [] text before then first mid last e (sym (append-nil text)) w p
+within_more text more first mid last p p' e whole w a fits = absurd a
+
+-- and what was held was written
+pub stops_written : (text : List ℕ) (first mid last : Writing) (p : Printer)
+    → StopsWithin text first p mid faults.OutOfMemory → WritesAll mid last p.held.items
+    → Stops text first last faults.OutOfMemory
+stops_written text first mid last p s all = some_written _ text _ _ first mid last s.0 all
+
+-- or the writer failed then
+pub stops_then : (text : List ℕ) (first mid last : Writing) (p : Printer) (e : ToolFault)
+    → StopsWithin text first p mid faults.OutOfMemory
+    → WritesAfter p.counts.written p.held.items mid last (Err e) → Stops text first last e
+stops_then text first mid last p e s f =
+    stops_failed text first last e
+    (held_fails _ s.0.front s.0.rest text 0 _ first mid last e s.0.parted s.0.done f)
+
+-- ---- subsets
 
 -- lines that were added are those of the subset that is there
 added_lines : (o : Option _) (text text' : List ℕ) → AddsSubset o text text'
@@ -109,15 +257,18 @@ added_lines : (o : Option _) (text text' : List ℕ) → AddsSubset o text text'
 added_lines None text text' adds = absurd adds
 added_lines (Some s) text text' adds = (joined (subset_lines s), refl, adds)
 
--- the lines of one subset more are held
-pub subset_held : (m : Message) (i : ℕ) (held held' : List ℕ) (before now : ℕ)
+-- behind other lines, the lines of one subset more are held
+pub subset_held : (m : Message) (i : ℕ) (other held held' : List ℕ) (before now : ℕ)
     (first last : Writing) → i < length m.subsets
     → AddsSubset (slice_get m.subsets (i + 1 - 1)) held held'
-    → WritesAllBut held (listed m i) before now first last
-    → WritesAllBut held' (listed m (i + 1)) before now first last
-subset_held m i held held' before now first last below adds w =
+    → WritesAllBut held (other ++ listed m i) before now first last
+    → WritesAllBut held' (other ++ listed m (i + 1)) before now first last
+subset_held m i other held held' before now first last below adds w =
     let back : i + 1 - 1 ≡ i = omega arith in
     let here = subst (λ (n : ℕ). AddsSubset (slice_get m.subsets n) held held') back adds in
     let more = added_lines (slice_get m.subsets i) held held' here in
-    held_more held (listed m i) more.0 held' (listed m (i + 1)) before now first last
-    more.2 (listed_more m i more.0 below more.1) (listed_whole _ more.0 more.1) w
+    held_more held (other ++ listed m i) more.0 held' (other ++ listed m (i + 1)) before now
+    first last more.2
+    (ap (λ (t : List ℕ). other ++ t) (listed_more m i more.0 below more.1)
+    ∙ sym (append_assoc other (listed m i) more.0))
+    (listed_whole _ more.0 more.1) w

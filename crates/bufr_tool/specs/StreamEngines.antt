@@ -1,6 +1,6 @@
 -- What the engines over the frames of a stream answer and do.
 use Rattle.std.specs.Prelude.{◌≡◌, ℕ, ◌+◌, ◌*◌, ◌^◌, ◌≤◌, Bool, true, false, List, ◌++◌, length}
-use Rattle.std.specs.Prelude.{IfSome, Result, Ok, Err}
+use Rattle.std.specs.Prelude.{◌<◌, [], IfSome, Result, Ok, Err}
 use Rattle.bufr_bits.specs.Devices.{Reading, Writing}
 use Rattle.bufr_tables.specs.Entries.{Entries}
 use Rattle.bufr_frame.specs.declared.frames.Found.{Found}
@@ -8,14 +8,14 @@ use Rattle.bufr_frame.specs.Framings.{Framing}
 use Rattle.bufr_frame.specs.Streams.{cut, sure}
 use Rattle.bufr_frame.specs.NextFrames.{HandedOut}
 use Rattle.bufr_tool.specs.declared.counts.Counts.{Counts}
+use Rattle.bufr_tool.specs.declared.printer.Printer.{Printer}
 use Rattle.bufr_io.specs.declared.fault.Input.TheVariants.{Number}
 use Rattle.bufr_io.specs.declared.fault.Tally.{Tally}
 use Rattle.bufr_io.specs.declared.fault.ToolFault.{ToolFault}
 use Rattle.bufr_io.specs.declared.fault.ToolFault.TheVariants as faults
 use Rattle.bufr_tool.specs.declared.printing.Printing.{Printing}
 use Rattle.bufr_io.specs.Engines.{WasReadOut, HasFailed, IsEndless, HasGiven, AreAllOf}
-use Rattle.bufr_io.specs.Engines.{WritesAll}
-use Rattle.bufr_io.specs.Engines.{FailsAfter}
+use Rattle.bufr_io.specs.Engines.{WritesAll, WritesAfter, FailsAfter}
 use Rattle.bufr_collect.specs.Collected.{frame_refused, refused_of}
 use Rattle.bufr_tool.specs.Output.{frame_text, frames_text, octets_of}
 use Rattle.bufr_tool.specs.Output.{stream_text, tally_of}
@@ -65,16 +65,6 @@ Prints printing tables reads reader reader' writer writer' (Err fault) = ⊥
 
 -- ---- text by text
 
--- a text was written all behind so many octets before it, and so many are written now; or the
--- writer failed after a front of it; or memory ran out after some of its lines
-abbrev pub PrintsText : ℕ → List ℕ → Writing → Writing → Result ℕ ToolFault → Type 0
-PrintsText before text writer writer' (Ok now) =
-    WritesAll writer writer' text × (now ≡ before + length text)
-PrintsText before text writer writer' (Err (faults.WriteFailed written)) =
-    (more : ℕ) × (written ≡ before + more) × FailsAfter more writer writer' text
-PrintsText before text writer writer' (Err faults.OutOfMemory) = WritesLines writer writer' text
-PrintsText before text writer writer' (Err fault) = ⊥
-
 -- of a text the first lines were written behind so many octets before it, so that so many are
 -- written now, and what is held is the rest of it: whole lines both
 pub record WritesAllBut (held text : List ℕ) (before now : ℕ) (writer writer' : Writing) : Type 0
@@ -86,14 +76,57 @@ pub record WritesAllBut (held text : List ℕ) (before now : ℕ) (writer writer
     pub written : WritesAll writer writer' front
     pub counted : now ≡ before + length front
 
--- so it is with lines that were held, of which fewer are held now; or the writer failed after a
--- front of them
-abbrev pub WritesHeld : List ℕ → List ℕ → ℕ → ℕ → Writing → Writing → Result (Unit {0}) ToolFault
+-- so it is with the first lines of a text
+pub record WritesSome (held text : List ℕ) (before now : ℕ) (writer writer' : Writing) : Type 0
+  where
+    pub front : List ℕ
+    pub rest : List ℕ
+    pub parted : text ≡ front ++ rest
+    pub done : WritesAllBut held front before now writer writer'
+
+-- the lines that are held were written, and none is held; or the writer failed after a front of
+-- them
+abbrev pub WritesHeld : Printer → Printer → Writing → Writing → Result (Unit {0}) ToolFault
     → Type 0
-WritesHeld held held' before now writer writer' (Ok done) =
-    WritesAllBut held' held before now writer writer'
-WritesHeld held held' before now writer writer' (Err fault) =
-    PrintsText before held writer writer' (Err fault)
+WritesHeld p p' writer writer' (Ok done) =
+    WritesAll writer writer' p.held.items × (p'.held.items ≡ [])
+    × (p'.counts.written ≡ p.counts.written + length p.held.items)
+WritesHeld p p' writer writer' (Err fault) =
+    WritesAfter p.counts.written p.held.items writer writer' (Err fault)
+
+-- a text was added to the lines that were held: of both the first lines were written and the others
+-- are held; or the writer failed after a front of them; or memory ran out behind some of the lines
+abbrev pub Adds : List ℕ → Printer → Printer → Writing → Writing → Result (Unit {0}) ToolFault
+    → Type 0
+Adds text p p' writer writer' (Ok done) = WritesAllBut p'.held.items (p.held.items ++ text)
+    p.counts.written p'.counts.written writer writer'
+Adds text p p' writer writer' (Err (faults.WriteFailed written)) =
+    (more : ℕ) × (written ≡ p.counts.written + more)
+    × FailsAfter more writer writer' (p.held.items ++ text)
+Adds text p p' writer writer' (Err faults.OutOfMemory) = WritesSome p'.held.items
+    (p.held.items ++ text) p.counts.written p'.counts.written writer writer'
+Adds text p p' writer writer' (Err fault) = ⊥
+
+-- so it is with lines that were held, of which fewer are held now
+abbrev pub WritesPart : Printer → Printer → Writing → Writing → Result (Unit {0}) ToolFault
+    → Type 0
+WritesPart p p' writer writer' (Ok done) = WritesAllBut p'.held.items p.held.items
+    p.counts.written p'.counts.written writer writer'
+WritesPart p p' writer writer' (Err fault) =
+    WritesAfter p.counts.written p.held.items writer writer' (Err fault)
+
+-- what is printed of frames, under which tables, and what was counted of them stay; lines are held
+-- or written
+pub record Keeps (p p' : Printer) : Type 0 where
+  pub printing : p'.printing ≡ p.printing
+  pub tables : p'.templates ≡ p.templates
+  pub frames : p'.counts.frames ≡ p.counts.frames
+  pub refused : p'.counts.refused ≡ p.counts.refused
+  pub octets : p'.counts.octets ≡ p.counts.octets
+
+-- what is held, which is no longer than a vector can be, can be counted with what was written
+abbrev pub Fits : Printer → Type 0
+Fits p = length p.held.items < 2 ^ 64 → p.counts.written + length p.held.items < 2 ^ 128
 
 -- ---- frame by frame
 
@@ -101,62 +134,85 @@ WritesHeld held held' before now writer writer' (Err fault) =
 abbrev pub no_counts : Counts
 no_counts = record { frames = 0; refused = 0; octets = 0; written = 0 }
 
--- a frame was printed and counted, or the writer failed after a front of its text, or memory ran
--- out after some of its lines
-abbrev pub PrintsFrame : Printing → Entries → Found → Counts → Counts → Writing → Writing
-    → Result (Unit {0}) ToolFault → Type 0
-PrintsFrame printing tables frame counts counts' writer writer' (Ok done) =
-    WritesAll writer writer' (frame_text printing tables frame)
-    × (counts' ≡ record {
-      frames = counts.frames + 1;
-      refused = counts.refused + frame_refused tables frame;
-      octets = counts.octets + length frame.bytes;
-      written = counts.written + length (frame_text printing tables frame);
-    })
-    × (length (frame_text printing tables frame) ≤ 2 ^ 80)
-PrintsFrame printing tables frame counts counts' writer writer' (Err fault) =
-    PrintsText counts.written (frame_text printing tables frame) writer writer' (Err fault)
+-- a frame was printed and counted
+pub record HasAdded (printing : Printing) (tables : Entries) (frame : Found) (p p' : Printer)
+    (writer writer' : Writing) : Type 0 where
+  pub text : WritesAllBut p'.held.items (p.held.items ++ frame_text printing tables frame)
+      p.counts.written p'.counts.written writer writer'
+  pub frames : p'.counts.frames ≡ p.counts.frames + 1
+  pub refused : p'.counts.refused ≡ p.counts.refused + frame_refused tables frame
+  pub octets : p'.counts.octets ≡ p.counts.octets + length frame.bytes
+  pub short : length (frame_text printing tables frame) < 2 ^ 80
 
--- these frames were printed since the first of the two states of the writer, and counted
+-- so it is, or printing it stopped
+abbrev pub PrintsFrame : Printing → Entries → Found → Printer → Printer → Writing → Writing
+    → Result (Unit {0}) ToolFault → Type 0
+PrintsFrame printing tables frame p p' writer writer' (Ok done) =
+    HasAdded printing tables frame p p' writer writer'
+PrintsFrame printing tables frame p p' writer writer' (Err fault) =
+    Adds (frame_text printing tables frame) p p' writer writer' (Err fault) × Fits p'
+
+-- these frames were printed since the first of the two states of the writer, and counted: their
+-- text is what was written since then and what is held
 pub record HasPrinted (printing : Printing) (tables : Entries) (first now : Writing)
-    (counts : Counts) (frames : List Found) : Type 0 where
-  pub text : WritesAll first now (frames_text printing tables frames)
-  pub frames_are : counts.frames ≡ length frames
-  pub refused_are : counts.refused ≡ refused_of tables frames
-  pub octets_are : counts.octets ≡ octets_of frames
-  pub written_are : counts.written ≡ length (frames_text printing tables frames)
-  pub short : counts.written ≤ 2 ^ 80 * counts.frames
+    (p : Printer) (frames : List Found) : Type 0 where
+  pub printing_is : p.printing ≡ printing
+  pub tables_are : p.templates ≡ tables
+  pub text : WritesAllBut p.held.items (frames_text printing tables frames) 0 p.counts.written
+      first now
+  pub frames_are : p.counts.frames ≡ length frames
+  pub refused_are : p.counts.refused ≡ refused_of tables frames
+  pub octets_are : p.counts.octets ≡ octets_of frames
+  pub short : length (frames_text printing tables frames) + length frames ≤ 2 ^ 80 * length frames
 
--- so it is with these frames; or the writer failed after a front of their text; or memory ran out
--- after some of their lines
-abbrev pub PrintsFrames : Printing → Entries → List Found → Counts → Writing → Writing
+-- printing a text stopped with a fault: the writer failed after a front of it; or memory ran out
+-- when some of its lines were written or held
+abbrev pub StopsWithin : List ℕ → Writing → Printer → Writing → ToolFault → Type 0
+StopsWithin text first p now (faults.WriteFailed written) = FailsAfter written first now text
+StopsWithin text first p now faults.OutOfMemory =
+    WritesSome p.held.items text 0 p.counts.written first now × Fits p
+StopsWithin text first p now fault = ⊥
+
+-- so it is when no line is held
+abbrev pub Stops : List ℕ → Writing → Writing → ToolFault → Type 0
+Stops text first now (faults.WriteFailed written) = FailsAfter written first now text
+Stops text first now faults.OutOfMemory = WritesLines first now text
+Stops text first now fault = ⊥
+
+-- these frames were printed, or printing them stopped
+abbrev pub PrintsFrames : Printing → Entries → List Found → Printer → Writing → Writing
     → Result (Unit {0}) ToolFault → Type 0
-PrintsFrames printing tables frames counts first now (Ok done) =
-    HasPrinted printing tables first now counts frames
-PrintsFrames printing tables frames counts first now (Err (faults.WriteFailed written)) =
-    FailsAfter written first now (frames_text printing tables frames)
-PrintsFrames printing tables frames counts first now (Err faults.OutOfMemory) =
-    WritesLines first now (frames_text printing tables frames)
-PrintsFrames printing tables frames counts first now (Err fault) = ⊥
+PrintsFrames printing tables frames p first now (Ok done) =
+    HasPrinted printing tables first now p frames
+PrintsFrames printing tables frames p first now (Err fault) =
+    StopsWithin (frames_text printing tables frames) first p now fault
 
 -- of this stream all sure frames were handed out and printed
 pub record HasPrintedSure (printing : Printing) (tables : Entries) (first now : Writing)
-    (framer : Framing) (counts : Counts) (stream : List ℕ) : Type 0 where
+    (framer : Framing) (p : Printer) (stream : List ℕ) : Type 0 where
   pub handed : HandedOut framer stream (sure stream)
-  pub printed : HasPrinted printing tables first now counts (sure stream)
+  pub printed : HasPrinted printing tables first now p (sure stream)
 
--- a stream with one piece more was printed so, or the frames that are sure then in part
-abbrev pub PrintsPiece : Printing → Entries → List ℕ → Framing → Counts → Writing → Writing
+-- a stream with one piece more was printed so, or printing the frames that are sure then stopped
+abbrev pub TakesPiece : Printing → Entries → List ℕ → Framing → Printer → Writing → Writing
     → Result (Unit {0}) ToolFault → Type 0
-PrintsPiece printing tables stream framer counts first now (Ok done) =
-    HasPrintedSure printing tables first now framer counts stream
-PrintsPiece printing tables stream framer counts first now (Err fault) =
-    PrintsFrames printing tables (sure stream) counts first now (Err fault)
+TakesPiece printing tables stream framer p first now (Ok done) =
+    HasPrintedSure printing tables first now framer p stream
+TakesPiece printing tables stream framer p first now (Err fault) =
+    StopsWithin (frames_text printing tables (sure stream)) first p now fault
+
+-- and no line is held
+abbrev pub PrintsPiece : Printing → Entries → List ℕ → Framing → Printer → Writing → Writing
+    → Result (Unit {0}) ToolFault → Type 0
+PrintsPiece printing tables stream framer p first now (Ok done) =
+    HasPrintedSure printing tables first now framer p stream × (p.held.items ≡ [])
+PrintsPiece printing tables stream framer p first now (Err fault) =
+    Stops (frames_text printing tables (sure stream)) first now fault
 
 -- a stream of so many octets has ended, and all its frames were printed
-pub record HasEnded (printing : Printing) (tables : Entries) (first now : Writing) (counts : Counts)
+pub record HasEnded (printing : Printing) (tables : Entries) (first now : Writing) (p : Printer)
     (fed : ℕ) (stream : List ℕ) : Type 0 where
-  pub printed : HasPrinted printing tables first now counts (cut stream)
+  pub printed : HasPrinted printing tables first now p (cut stream)
   pub long : fed ≡ length stream
 
 -- and what stands after them was written, or a front of all that is printed of the stream; where

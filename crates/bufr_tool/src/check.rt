@@ -14,8 +14,10 @@ use bufr_tables::Tables;
 use std::alloc::Global;
 
 /// Writes a line for each frame of a reader's stream: its place, its length and whether it spells a
-/// message. Each is written as soon as its frame is sure. A last line counts the frames, those that
-/// are refused, and the octets outside frames; so does the tally.
+/// message. The lines of the frames that a read makes sure are written before the next read. A last
+/// line counts the frames, those that are refused, and the octets outside frames; so does the tally.
+/// Where memory runs out, the lines so far are written; the fault is the writer's where it fails
+/// then.
 pub fn run_check<S: Source, W: Sink>(
     alloc: Global,
     reads: u64,

@@ -179,72 +179,131 @@ fn run_task<R: Files, S: Source, O: Write + Drop>(
     requires fresh_inputs { AreFresh (map S.reading inputs.old) }
 {
     let tables = load_tables(alloc, MOST_READS, b, d)?;
-    if let Task::Add | Task::Merge = line.task {
-        return run_collecting(rt, alloc, line, &tables, inputs, out);
-    }
-    match inputs.first_mut() {
-        Some(input) => run_to_output(alloc, line, &tables, input, out),
-        None => Err(ToolFault::ReadFailed(Input::Number(1))),
-    }
-}
-
-/// Runs an engine that writes to the output.
-fn run_to_output<S: Source, O: Write + Drop>(
-    alloc: Global,
-    line: &CommandLine,
-    tables: &Tables,
-    input: &mut S,
-    out: &mut O,
-) -> Result<Tally, ToolFault>
-    requires { IsFresh (S.reading input.old) }
-{
-    let mut writer = IntoWrite::new(&mut *out);
-    let compressed = line.compressed;
     match line.task {
-        Task::Encode => run_encode(alloc, MOST_READS, tables, compressed, input, &mut writer),
-        Task::Check => run_check(alloc, MOST_READS, tables, input, &mut writer),
-        _ => run_show(alloc, MOST_READS, tables, input, &mut writer),
+        Task::Show => show_first(alloc, &tables, inputs, out),
+        Task::Check => check_first(alloc, &tables, inputs, out),
+        Task::Encode => encode_first(alloc, &tables, line.compressed, inputs, out),
+        Task::Add => add_all(rt, alloc, &tables, inputs, line.out, out),
+        Task::Merge => merge_all(rt, alloc, &tables, inputs, line.out, out),
     }
 }
 
-/// Runs an engine that writes an archive, and then prints what was counted.
-fn run_collecting<R: Files, S: Source, O: Write + Drop>(
-    rt: &R,
+/// The fault of a task over one input that has none.
+const NO_INPUT: ToolFault = ToolFault::ReadFailed(Input::Number(1));
+
+/// Shows the messages of the first input.
+fn show_first<S: Source, O: Write + Drop>(
     alloc: Global,
-    line: &CommandLine,
     tables: &Tables,
     inputs: &mut [S],
+    out: &mut O,
+) -> Result<Tally, ToolFault>
+    requires { AreFresh (map S.reading inputs.old) }
+{
+    let Some(input) = inputs.first_mut() else {
+        return Err(NO_INPUT);
+    };
+    let mut writer = IntoWrite::new(&mut *out);
+    run_show(alloc, MOST_READS, tables, input, &mut writer)
+}
+
+/// Checks the frames of the first input.
+fn check_first<S: Source, O: Write + Drop>(
+    alloc: Global,
+    tables: &Tables,
+    inputs: &mut [S],
+    out: &mut O,
+) -> Result<Tally, ToolFault>
+    requires { AreFresh (map S.reading inputs.old) }
+{
+    let Some(input) = inputs.first_mut() else {
+        return Err(NO_INPUT);
+    };
+    let mut writer = IntoWrite::new(&mut *out);
+    run_check(alloc, MOST_READS, tables, input, &mut writer)
+}
+
+/// Encodes the listing of the first input, each message compressed where that is asked.
+fn encode_first<S: Source, O: Write + Drop>(
+    alloc: Global,
+    tables: &Tables,
+    compressed: bool,
+    inputs: &mut [S],
+    out: &mut O,
+) -> Result<Tally, ToolFault>
+    requires { AreFresh (map S.reading inputs.old) }
+{
+    let Some(input) = inputs.first_mut() else {
+        return Err(NO_INPUT);
+    };
+    let mut writer = IntoWrite::new(&mut *out);
+    run_encode(alloc, MOST_READS, tables, compressed, input, &mut writer)
+}
+
+/// Writes an archive of streams to the file of a path, and then prints what was counted.
+fn add_all<R: Files, S: Source, O: Write + Drop>(
+    rt: &R,
+    alloc: Global,
+    tables: &Tables,
+    inputs: &mut [S],
+    path: &str,
     out: &mut O,
 ) -> Result<Tally, ToolFault>
     requires { AreFresh (map S.reading inputs.old) }
 {
     // No memory is asked for once the archive is written: then only writing can fail.
     let mut text = String::with_capacity(alloc, LONGEST_LINE)?;
-    let tally = collect(rt, alloc, line, tables, inputs)?;
-    if line.task == Task::Merge {
-        push_merged(&mut text, &tally)?;
-    } else {
-        push_added(&mut text, &tally)?;
-    }
+    let tally = add(rt, alloc, tables, inputs, path)?;
+    push_added(&mut text, &tally)?;
     write_out(&mut IntoWrite::new(&mut *out), 0, text.as_bytes())?;
     Ok(tally)
 }
 
-/// Runs an engine that writes an archive, whose file is closed again at the end.
-fn collect<R: Files, S: Source>(
+/// Writes an archive of streams to the file of a path, which is closed again at the end.
+fn add<R: Files, S: Source>(
     rt: &R,
     alloc: Global,
-    line: &CommandLine,
     tables: &Tables,
     inputs: &mut [S],
+    path: &str,
 ) -> Result<Tally, ToolFault>
     requires { AreFresh (map S.reading inputs.old) }
 {
-    let mut archive = LateFile::new(rt, line.out);
-    if line.task == Task::Merge {
-        return run_merge(alloc, MOST_READS, tables, inputs, &mut archive);
-    }
+    let mut archive = LateFile::new(rt, path);
     run_add(alloc, MOST_READS, tables, inputs, &mut archive)
+}
+
+/// Writes an archive of archives to the file of a path, and then prints what was counted.
+fn merge_all<R: Files, S: Source, O: Write + Drop>(
+    rt: &R,
+    alloc: Global,
+    tables: &Tables,
+    inputs: &mut [S],
+    path: &str,
+    out: &mut O,
+) -> Result<Tally, ToolFault>
+    requires { AreFresh (map S.reading inputs.old) }
+{
+    // Here too no memory is asked for once the archive is written.
+    let mut text = String::with_capacity(alloc, LONGEST_LINE)?;
+    let tally = merge(rt, alloc, tables, inputs, path)?;
+    push_merged(&mut text, &tally)?;
+    write_out(&mut IntoWrite::new(&mut *out), 0, text.as_bytes())?;
+    Ok(tally)
+}
+
+/// Writes an archive of archives to the file of a path, which is closed again at the end.
+fn merge<R: Files, S: Source>(
+    rt: &R,
+    alloc: Global,
+    tables: &Tables,
+    inputs: &mut [S],
+    path: &str,
+) -> Result<Tally, ToolFault>
+    requires { AreFresh (map S.reading inputs.old) }
+{
+    let mut archive = LateFile::new(rt, path);
+    run_merge(alloc, MOST_READS, tables, inputs, &mut archive)
 }
 
 /// Adds what is printed after an archive of streams was written.

@@ -8,91 +8,58 @@ ghost use Rattle.bufr_tables.specs.Entries.{Entries};
 ghost use Rattle.bufr_io.specs.Engines.{IsFresh};
 ghost use Rattle.bufr_io.specs.Limits.{most_reads, longest_piece};
 ghost use Rattle.bufr_tool.specs.Output.{octets_of, skipped_by};
+ghost use Rattle.bufr_tool.specs.declared.printing.Printing.{Printing as PrintingKind};
 ghost use Rattle.bufr_tool.specs.StreamEngines.{HasEnded, HasPrinted, HasPrintedSure, Prints};
-ghost use Rattle.bufr_tool.specs.StreamEngines.{PrintsEnd, PrintsFrame, PrintsFrames, PrintsPiece};
+ghost use Rattle.bufr_tool.specs.StreamEngines.{PrintsEnd, PrintsFrames, PrintsPiece, TakesPiece};
 
-use crate::counts::Counts;
-use crate::printing::{Printed, Printing, print_judged, text_of_tally};
+use crate::printer::Printer;
+use crate::printing::{Printing, hold_tally};
 use bufr_bits::{Sink, Source};
 use bufr_frame::{Found, Framer, Taken};
 use bufr_io::{Input, Tally, ToolFault, room, write_out};
 use bufr_tables::Tables;
 use std::alloc::Global;
 
-/// Prints a frame, and counts it.
-fn print_frame<W: Sink>(
-    alloc: Global,
-    printing: Printing,
-    tables: &Tables,
-    frame: &Found,
-    counts: &mut Counts,
-    writer: &mut W,
-) -> Result<(), ToolFault>
-    requires works { (W.writing writer.old).failed ≡ false }
-    requires few { counts.old.frames + 1 ≤ 2 ^ 48 }
-    requires refused { counts.old.refused ≤ counts.old.frames }
-    requires octets { counts.old.octets + length frame.now.bytes < 2 ^ 64 }
-    requires short { counts.old.written ≤ 2 ^ 80 * counts.old.frames }
-    ensures { PrintsFrame printing tables.now frame.now counts.old counts.new (W.writing writer.old)
-        (W.writing writer.new) result }
-{
-    let Printed { written, refused } = print_judged(
-        alloc,
-        printing,
-        tables,
-        frame,
-        counts.written,
-        writer,
-    )?;
-    counts.frames += 1;
-    counts.refused += refused;
-    counts.octets += frame.bytes.as_slice().len() as u64;
-    counts.written = written;
-    Ok(())
-}
-
 /// Prints frames after those that were printed.
 fn print_frames<W: Sink>(
     alloc: Global,
-    printing: Printing,
-    tables: &Tables,
     frames: &[Found],
-    counts: &mut Counts,
+    printer: &mut Printer<'_>,
     writer: &mut W,
 ) -> Result<(), ToolFault>
-    requires so_far { (first : Writing) × (before : List FoundFrame)
-        × HasPrinted printing tables.now first (W.writing writer.old) counts.old before }
-    requires few { counts.old.frames + length frames.now ≤ 2 ^ 48 }
-    requires short { counts.old.octets + octets_of frames.now < 2 ^ 64 }
-    ensures { (first : Writing) (before : List FoundFrame)
-        → HasPrinted printing tables.now first (W.writing writer.old) counts.old before
-        → PrintsFrames printing tables.now (before ++ frames.now) counts.new first
+    requires so_far { (printing : PrintingKind) × (tables : Entries) × (first : Writing)
+        × (before : List FoundFrame)
+        × HasPrinted printing tables first (W.writing writer.old) printer.old before }
+    requires few { printer.old.counts.frames + length frames.now ≤ 2 ^ 48 }
+    requires short { printer.old.counts.octets + octets_of frames.now < 2 ^ 64 }
+    ensures { (printing : PrintingKind) (tables : Entries) (first : Writing)
+        (before : List FoundFrame)
+        → HasPrinted printing tables first (W.writing writer.old) printer.old before
+        → PrintsFrames printing tables (before ++ frames.now) printer.new first
         (W.writing writer.new) result }
 {
     for frame in frames {
-        print_frame(alloc, printing, tables, frame, counts, writer)?;
+        printer.print_frame(alloc, frame, writer)?;
     }
     Ok(())
 }
 
 /// Takes in a piece of a stream, and prints the frames that are sure then.
-fn print_piece<W: Sink>(
+fn take_piece<W: Sink>(
     alloc: Global,
-    printing: Printing,
-    tables: &Tables,
     piece: &[u8],
     framer: &mut Framer,
-    counts: &mut Counts,
+    printer: &mut Printer<'_>,
     writer: &mut W,
 ) -> Result<(), ToolFault>
-    requires so_far { (first : Writing) × (stream : List ℕ)
-        × HasPrintedSure printing tables.now first
-        (W.writing writer.old) framer.old counts.old stream }
+    requires so_far { (printing : PrintingKind) × (tables : Entries) × (first : Writing)
+        × (stream : List ℕ) × HasPrintedSure printing tables first
+        (W.writing writer.old) framer.old printer.old stream }
     requires room { framer.old.fed + length piece.now ≤ 2 ^ 48 }
-    ensures { (first : Writing) (stream : List ℕ)
-        → HasPrintedSure printing tables.now first
-        (W.writing writer.old) framer.old counts.old stream
-        → PrintsPiece printing tables.now (stream ++ piece.now) framer.new counts.new first
+    ensures { (printing : PrintingKind) (tables : Entries) (first : Writing) (stream : List ℕ)
+        → HasPrintedSure printing tables first
+        (W.writing writer.old) framer.old printer.old stream
+        → TakesPiece printing tables (stream ++ piece.now) framer.new printer.new first
         (W.writing writer.new) result }
 {
     let mut rest = piece;
@@ -101,32 +68,54 @@ fn print_piece<W: Sink>(
         let Some(frame) = found else {
             return Ok(());
         };
-        print_frame(alloc, printing, tables, &frame, counts, writer)?;
+        printer.print_frame(alloc, &frame, writer)?;
         rest = left;
+    }
+}
+
+/// Takes in a piece of a stream, prints the frames that are sure then, and holds no line of them.
+fn print_piece<W: Sink>(
+    alloc: Global,
+    piece: &[u8],
+    framer: &mut Framer,
+    printer: &mut Printer<'_>,
+    writer: &mut W,
+) -> Result<(), ToolFault>
+    requires so_far { (printing : PrintingKind) × (tables : Entries) × (first : Writing)
+        × (stream : List ℕ) × HasPrintedSure printing tables first
+        (W.writing writer.old) framer.old printer.old stream }
+    requires room { framer.old.fed + length piece.now ≤ 2 ^ 48 }
+    ensures { (printing : PrintingKind) (tables : Entries) (first : Writing) (stream : List ℕ)
+        → HasPrintedSure printing tables first
+        (W.writing writer.old) framer.old printer.old stream
+        → PrintsPiece printing tables (stream ++ piece.now) framer.new printer.new first
+        (W.writing writer.new) result }
+{
+    match take_piece(alloc, piece, framer, printer, writer) {
+        Ok(()) => printer.write_held(writer),
+        Err(fault) => Err(printer.stop(fault, writer)),
     }
 }
 
 /// Ends a stream, and prints the frames that are left.
 fn print_rest<W: Sink>(
     alloc: Global,
-    printing: Printing,
-    tables: &Tables,
     framer: &mut Framer,
-    counts: &mut Counts,
+    printer: &mut Printer<'_>,
     writer: &mut W,
 ) -> Result<(), ToolFault>
     requires long { framer.old.fed < 2 ^ 48 }
-    requires so_far { (first : Writing) × (stream : List ℕ)
-        × HasPrintedSure printing tables.now first
-        (W.writing writer.old) framer.old counts.old stream }
-    ensures { (first : Writing) (stream : List ℕ)
-        → HasPrintedSure printing tables.now first
-        (W.writing writer.old) framer.old counts.old stream
-        → PrintsFrames printing tables.now (cut stream) counts.new first
+    requires so_far { (printing : PrintingKind) × (tables : Entries) × (first : Writing)
+        × (stream : List ℕ) × HasPrintedSure printing tables first
+        (W.writing writer.old) framer.old printer.old stream }
+    ensures { (printing : PrintingKind) (tables : Entries) (first : Writing) (stream : List ℕ)
+        → HasPrintedSure printing tables first
+        (W.writing writer.old) framer.old printer.old stream
+        → PrintsFrames printing tables (cut stream) printer.new first
         (W.writing writer.new) result }
 {
     let frames = framer.finish()?;
-    print_frames(alloc, printing, tables, &frames, counts, writer)
+    print_frames(alloc, &frames, printer, writer)
 }
 
 /// How many of so many octets stand in no frame, where the command counts them.
@@ -140,54 +129,55 @@ fn skipped(printing: Printing, fed: u64, inside: u64) -> u64
     }
 }
 
-/// Counts a stream of so many octets, all of whose frames were printed, and prints what stands
-/// after them.
+/// Counts a stream of so many octets, all of whose frames were printed, prints what stands after
+/// them, and writes all that is held.
 fn print_tally<W: Sink>(
-    alloc: Global,
-    printing: Printing,
     fed: u64,
-    counts: &Counts,
+    printer: &mut Printer<'_>,
     writer: &mut W,
 ) -> Result<Tally, ToolFault>
     requires long { fed < 2 ^ 48 }
-    requires ended { (tables : Entries) × (first : Writing) × (stream : List ℕ)
-        × HasEnded printing tables first (W.writing writer.old) counts.now fed stream }
-    ensures { (tables : Entries) (first : Writing) (stream : List ℕ)
-        → HasEnded printing tables first (W.writing writer.old) counts.now fed stream
+    requires ended { (printing : PrintingKind) × (tables : Entries) × (first : Writing)
+        × (stream : List ℕ)
+        × HasEnded printing tables first (W.writing writer.old) printer.old fed stream }
+    ensures { (printing : PrintingKind) (tables : Entries) (first : Writing) (stream : List ℕ)
+        → HasEnded printing tables first (W.writing writer.old) printer.old fed stream
         → PrintsEnd printing tables stream first (W.writing writer.new) result }
 {
     let tally = Tally {
-        frames: counts.frames as u128,
-        refused: counts.refused as u128,
-        skipped: skipped(printing, fed, counts.octets) as u128,
+        frames: printer.counts.frames as u128,
+        refused: printer.counts.refused as u128,
+        skipped: skipped(printer.printing, fed, printer.counts.octets) as u128,
         reports: 0,
     };
-    let text = text_of_tally(alloc, printing, &tally)?;
-    write_out(writer, counts.written, &text)?;
+    let Ok(()) = hold_tally(&mut printer.held, printer.printing, &tally) else {
+        return Err(printer.stop(ToolFault::OutOfMemory, writer));
+    };
+    write_out(writer, printer.counts.written, &printer.held)?;
     Ok(tally)
 }
 
 /// Ends a stream: prints the frames that are left, and what stands after them.
 fn print_end<W: Sink>(
     alloc: Global,
-    printing: Printing,
-    tables: &Tables,
     framer: &mut Framer,
-    counts: &mut Counts,
+    printer: &mut Printer<'_>,
     writer: &mut W,
 ) -> Result<Tally, ToolFault>
     requires long { framer.old.fed < 2 ^ 48 }
-    requires so_far { (first : Writing) × (stream : List ℕ)
-        × HasPrintedSure printing tables.now first
-        (W.writing writer.old) framer.old counts.old stream }
-    ensures { (first : Writing) (stream : List ℕ)
-        → HasPrintedSure printing tables.now first
-        (W.writing writer.old) framer.old counts.old stream
-        → PrintsEnd printing tables.now stream first (W.writing writer.new) result }
+    requires so_far { (printing : PrintingKind) × (tables : Entries) × (first : Writing)
+        × (stream : List ℕ) × HasPrintedSure printing tables first
+        (W.writing writer.old) framer.old printer.old stream }
+    ensures { (printing : PrintingKind) (tables : Entries) (first : Writing) (stream : List ℕ)
+        → HasPrintedSure printing tables first
+        (W.writing writer.old) framer.old printer.old stream
+        → PrintsEnd printing tables stream first (W.writing writer.new) result }
 {
     let fed = framer.fed();
-    print_rest(alloc, printing, tables, framer, counts, writer)?;
-    print_tally(alloc, printing, fed, counts, writer)
+    match print_rest(alloc, framer, printer, writer) {
+        Ok(()) => print_tally(fed, printer, writer),
+        Err(fault) => Err(printer.stop(fault, writer)),
+    }
 }
 
 /// Prints the frames of the stream of a reader, read through some room, each as soon as it is sure.
@@ -210,29 +200,23 @@ fn print_pieces<S: Source, W: Sink>(
         (W.writing writer.old) (W.writing writer.new) result }
 {
     let mut framer = Framer::new(alloc);
-    let mut counts = Counts::none();
+    let mut printer = Printer::new(alloc, printing, tables);
     for _ in 0..reads {
         let Ok(given) = reader.read(&mut *room) else {
             return Err(ToolFault::ReadFailed(Input::Number(1)));
         };
         if given == 0 {
-            return print_end(alloc, printing, tables, &mut framer, &mut counts, writer);
+            return print_end(alloc, &mut framer, &mut printer, writer);
         }
         let piece = &room[..given];
-        print_piece(
-            alloc,
-            printing,
-            tables,
-            piece,
-            &mut framer,
-            &mut counts,
-            writer,
-        )?;
+        print_piece(alloc, piece, &mut framer, &mut printer, writer)?;
     }
     Err(ToolFault::EndlessInput(Input::Number(1)))
 }
 
-/// Prints the frames of the stream of a reader, each as soon as it is sure.
+/// Prints the frames of the stream of a reader, each as soon as it is sure. The lines of the frames
+/// that a piece makes sure are written together, before the next read. Where memory runs out they
+/// are written too, and the fault is the writer's where it fails then.
 pub fn print_stream<S: Source, W: Sink>(
     alloc: Global,
     printing: Printing,

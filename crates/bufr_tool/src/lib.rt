@@ -10,7 +10,7 @@ mod frames;
 mod late_file;
 mod late_input;
 pub mod laws;
-mod parts;
+mod printer;
 mod printing;
 mod show;
 mod tables;

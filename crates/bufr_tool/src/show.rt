@@ -13,8 +13,10 @@ use bufr_io::{Tally, ToolFault};
 use bufr_tables::Tables;
 use std::alloc::Global;
 
-/// Writes the listing of each message of a reader's stream, or why a frame spells none. Each is
-/// written as soon as its frame is sure. The tally counts frames and those that are refused.
+/// Writes the listing of each message of a reader's stream, or why a frame spells none. Those of the
+/// frames that a read makes sure are written before the next read. The tally counts frames and those
+/// that are refused. Where memory runs out, the lines so far are written; the fault is the writer's
+/// where it fails then.
 pub fn run_show<S: Source, W: Sink>(
     alloc: Global,
     reads: u64,

@@ -1,20 +1,9 @@
 -- The clause of `print_end`: the frames that are left, and then what stands after them.
 use Rattle.std.proofs.Common.{arith, ◌∙◌}
-use Rattle.bufr_tool.specs.StreamEngines.{PrintsEnd}
-use Rattle.bufr_tool.proofs.PrintingFacts.{passed}
-use Rattle.bufr_tool.proofs.StreamFacts.{end_early}
+use Rattle.bufr_frame.specs.Streams.{cut}
+use Rattle.bufr_tool.specs.Output.{frames_text}
+use Rattle.bufr_tool.proofs.StreamFacts.{end_stopped}
 use Rattle.bufr_tool.proofs.frames.print_end.Goals as goal
-
--- where printing these frames stops, a front of what is printed of the stream was written, or some
--- lines of its frames
-pub returns-in_err-print_rest : goal.returns-in_err-print_rest
-returns-in_err-print_rest g c first stream h =
-    passed
-    (PrintsEnd c.args.printing c.args.tables.now stream first
-    (g.W.Sink.writing c.print_rest.new.writer))
-    c.from_residual.result c.in_err-print_rest.field-0.0 c.from_residual.ensures.1
-    (end_early _ _ first _ c.print_rest.new.counts stream _
-    (c.in_err-print_rest.ensures first stream h))
 
 -- fewer than 2 ^ 48 octets were taken in
 pub print_rest-requires-clause-long : goal.print_rest-requires-clause-long
@@ -28,20 +17,36 @@ print_tally-requires-clause-long g c =
 -- the stream has so many octets, and all its frames were printed
 pub print_tally-requires-clause-ended : goal.print_tally-requires-clause-ended
 print_tally-requires-clause-ended g c =
-    let so_far = c.requires.so_far in (
-      c.args.tables.now,
-      so_far.0,
-      so_far.1,
+    let s = c.requires.so_far in (
+      s.0,
+      s.1,
+      s.2,
+      s.3,
       record {
-        printed = c.in_ok-print_rest.ensures so_far.0 so_far.1 so_far.2;
-        long = c.fed-fed.ensures ∙ so_far.2.handed.stands.fed;
+        printed = c.in-Ok.ensures s.0 s.1 s.2 s.3 s.4;
+        long = c.fed-fed.ensures ∙ s.4.handed.stands.fed;
       },
     )
 
+-- printing stopped within the frames of the stream
+pub stop-requires : goal.stop-requires
+stop-requires g c =
+    let s = c.requires.so_far in
+    record {
+      stopped = (s.2, frames_text s.0 s.1 (cut s.3), c.in-Err.ensures s.0 s.1 s.2 s.3 s.4);
+    }
+
+-- where it did, what is held was written
+pub returns-in-Err : goal.returns-in-Err
+returns-in-Err g c printing tables first stream h =
+    end_stopped printing tables first _ stream _
+    (c.stop.ensures first (frames_text printing tables (cut stream))
+    (c.in-Err.ensures printing tables first stream h))
+
 -- what stands after the frames comes behind all frames of the stream
-pub returns : goal.returns
-returns g c first stream h =
-    c.print_tally.ensures c.args.tables.now first stream (record {
-      printed = c.in_ok-print_rest.ensures first stream h;
+pub returns-in-Ok : goal.returns-in-Ok
+returns-in-Ok g c printing tables first stream h =
+    c.print_tally.ensures printing tables first stream (record {
+      printed = c.in-Ok.ensures printing tables first stream h;
       long = c.fed-fed.ensures ∙ h.handed.stands.fed;
     })

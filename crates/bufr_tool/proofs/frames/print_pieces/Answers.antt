@@ -10,8 +10,9 @@ use Rattle.bufr_tool.proofs.frames.print_pieces.Goals as goal
 -- before the first read nothing was read or printed
 pub loop-init : goal.loop-init
 loop-init g c =
-    rw c.none-counts.ensures
-    (between_first _ _ _ _ _ c.requires.fresh c.requires.works c.new-framer.ensures.starts)
+    let e = c.new-printer.ensures in
+    between_first _ _ _ _ _ _ e.printing e.tables e.counts e.held c.requires.fresh
+    c.requires.works c.new-framer.ensures.starts
 
 -- a read that takes nothing ends the stream, which is all that was read
 pub returns-then-given-eq0-clause-prints : goal.returns-then-given-eq0-clause-prints
@@ -26,7 +27,8 @@ returns-then-given-eq0-clause-prints g c =
     prints_whole _ _ _ old new
     (g.W.Sink.writing c.args.writer.now) _ b.read c.print_end.result ends.0 ends.1
     (HasGiven_more old mid new _ _ b.goes_on.so_far gave none)
-    (c.print_end.ensures (g.W.Sink.writing c.args.writer.now) b.read b.printed)
+    (c.print_end.ensures c.args.printing c.args.tables.now (g.W.Sink.writing c.args.writer.now)
+    b.read b.printed)
 
 -- fewer than 2 ^ 48 octets were read
 pub print_end-requires-clause-long : goal.print_end-requires-clause-long
@@ -40,12 +42,24 @@ print_end-requires-clause-long g c =
 -- of the octets that were read all sure frames were printed
 pub print_end-requires-clause-so_far : goal.print_end-requires-clause-so_far
 print_end-requires-clause-so_far g c =
-    (g.W.Sink.writing c.args.writer.now, c.loop.invariant.read, c.loop.invariant.printed)
+    let b = c.loop.invariant in (
+      c.args.printing,
+      c.args.tables.now,
+      g.W.Sink.writing c.args.writer.now,
+      b.read,
+      b.printed,
+    )
 
 -- of the octets that were read before the piece all sure frames were printed
 pub print_piece-requires-clause-so_far : goal.print_piece-requires-clause-so_far
 print_piece-requires-clause-so_far g c =
-    (g.W.Sink.writing c.args.writer.now, c.loop.invariant.read, c.loop.invariant.printed)
+    let b = c.loop.invariant in (
+      c.args.printing,
+      c.args.tables.now,
+      g.W.Sink.writing c.args.writer.now,
+      b.read,
+      b.printed,
+    )
 
 -- with the piece there are at most 2 ^ 48 octets
 pub print_piece-requires-clause-room : goal.print_piece-requires-clause-room
@@ -69,10 +83,13 @@ loop-preserved g c =
     let room = c.requires.short in
     let some : 0 < length piece =
     omega (arith, long, c.in-Ok.ensures.within, c.if-given-eq0.false) in
+    let e = c.in_ok-print_piece.ensures c.args.printing c.args.tables.now
+    (g.W.Sink.writing c.args.writer.now) b.read b.printed in
     record {
       read = b.read ++ piece;
       goes_on = GoesOn_more _ _ _ _ _ _ b.goes_on c.in-Ok.ensures.gave some;
-      printed = c.in_ok-print_piece.ensures (g.W.Sink.writing c.args.writer.now) b.read b.printed;
+      printed = e.0;
+      held = e.1;
       short = omega arith;
     }
 
@@ -94,7 +111,8 @@ returns-in_err-print_piece-clause-prints g c =
     (g.S.Source.reading c.args.reader.now) (g.S.Source.reading c.read.new.self)
     (g.W.Sink.writing c.args.writer.now) (g.W.Sink.writing c.print_piece.new.writer))
     c.from_residual.result c.in_err-print_piece.field-0.0 c.from_residual.ensures.1
-    (prints_part _ _ _ _ _ (g.W.Sink.writing c.args.writer.now) _ c.print_piece.new.counts
+    (prints_part _ _ _ _ _ (g.W.Sink.writing c.args.writer.now) _
     (b.read ++ piece) (c.loop.counter + 1) c.in_err-print_piece.field-0.0
     (GoesOn_more _ _ _ _ _ _ b.goes_on c.in-Ok.ensures.gave some)
-    (c.in_err-print_piece.ensures (g.W.Sink.writing c.args.writer.now) b.read b.printed))
+    (c.in_err-print_piece.ensures c.args.printing c.args.tables.now
+    (g.W.Sink.writing c.args.writer.now) b.read b.printed))

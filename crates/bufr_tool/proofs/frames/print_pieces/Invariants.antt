@@ -5,5 +5,5 @@ use Rattle.bufr_tool.proofs.frames.print_pieces.Given as goal
 -- what was read and printed so far
 abbrev pub invariant-loop : goal.invariant-loop
 invariant-loop g l =
-    Between l.printing l.tables (g.S.Source.reading l.initial.reader) (g.S.Source.reading l.reader)
-    (g.W.Sink.writing l.initial.writer) (g.W.Sink.writing l.writer) l.framer l.counts l.counter
+    Between l.fn.printing l.tables (g.S.Source.reading l.initial.reader) (g.S.Source.reading l.reader)
+    (g.W.Sink.writing l.initial.writer) (g.W.Sink.writing l.writer) l.framer l.printer l.counter

@@ -10,49 +10,46 @@ use Rattle.bufr_tool.proofs.PrintingFacts.{passed}
 use Rattle.bufr_tool.proofs.StreamFacts.{rest_fits, rest_halted}
 use Rattle.bufr_tool.proofs.frames.print_rest.Goals as goal
 
--- where memory runs out before they are handed out, only lines of frames were written
+-- where memory runs out before they are handed out, lines of frames are written or held
 pub returns-in_err-frames : goal.returns-in_err-frames
-returns-in_err-frames g c first stream h =
+returns-in_err-frames g c printing tables first stream h =
     passed
-    (PrintsFrames c.args.printing c.args.tables.now (cut stream) c.args.counts.now first
+    (PrintsFrames printing tables (cut stream) c.args.printer.now first
     (g.W.Sink.writing c.args.writer.now))
     c.from_residual.result faults.OutOfMemory c.from_residual.ensures.1
-    (rest_halted _ _ first _ _ _ c.args.counts.now stream h)
+    (rest_halted _ _ first _ _ c.args.printer.now stream h c.requires.long)
 
 -- the sure frames of the stream were printed before
 pub print_frames-requires-clause-so_far : goal.print_frames-requires-clause-so_far
 print_frames-requires-clause-so_far g c =
-    (c.requires.so_far.0, sure c.requires.so_far.1, c.requires.so_far.2.printed)
+    let s = c.requires.so_far in (s.0, s.1, s.2, sure s.3, s.4.printed)
 
 -- there are no more frames than octets, so their count fits its word
 pub print_frames-requires-clause-few : goal.print_frames-requires-clause-few
 print_frames-requires-clause-few g c =
-    let h = c.requires.so_far.2 in
+    let s = c.requires.so_far in
     let found =
-    c.in_ok-frames.ensures.found c.requires.so_far.1
-    (length (sure c.requires.so_far.1)) h.handed.stands in
-    let fits = (rest_fits _ _ _ _ _ _ _ _ h found).0 in
+    c.in_ok-frames.ensures.found s.3 (length (sure s.3)) s.4.handed.stands in
+    let fits = (rest_fits _ _ _ _ _ _ _ _ s.4 found).0 in
     omega (arith, fits, ap length c.deref.ensures.value, c.requires.long)
 
 -- nor have they more octets, so these can be counted
 pub print_frames-requires-clause-short : goal.print_frames-requires-clause-short
 print_frames-requires-clause-short g c =
-    let h = c.requires.so_far.2 in
+    let s = c.requires.so_far in
     let found =
-    c.in_ok-frames.ensures.found c.requires.so_far.1
-    (length (sure c.requires.so_far.1)) h.handed.stands in
-    let fits = (rest_fits _ _ _ _ _ _ _ _ h found).1 in
+    c.in_ok-frames.ensures.found s.3 (length (sure s.3)) s.4.handed.stands in
+    let fits = (rest_fits _ _ _ _ _ _ _ _ s.4 found).1 in
     omega (arith, fits, ap octets_of c.deref.ensures.value, c.requires.long)
 
 -- printing the last frames after the sure ones is printing those of the whole cut
 pub returns : goal.returns
-returns g c first stream h =
+returns g c printing tables first stream h =
     let found = c.in_ok-frames.ensures.found stream (length (sure stream)) h.handed.stands in
     let whole =
     ap (λ (fs : List Found). sure stream ++ fs) c.deref.ensures.value
     ∙ handed_end _ stream (sure stream) _ h.handed found in
     subst (λ
-    (fs : List Found). PrintsFrames c.args.printing c.args.tables.now fs
-    c.print_frames.new.counts first
+    (fs : List Found). PrintsFrames printing tables fs c.print_frames.new.printer first
     (g.W.Sink.writing c.print_frames.new.writer) c.print_frames.result) whole
-    (c.print_frames.ensures first (sure stream) h.printed)
+    (c.print_frames.ensures printing tables first (sure stream) h.printed)

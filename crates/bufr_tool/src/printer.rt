@@ -1,0 +1,249 @@
+//! What is printed of a stream, frame by frame: lines are held, and written where they are many.
+
+ghost use Rattle.std.specs.Prelude.{◌≡◌, ◌≤◌, ◌<◌, ◌+◌, ◌*◌, ◌^◌, ℕ, List, false, [], length};
+ghost use Rattle.std.specs.Prelude.{IfOk, OnOk};
+ghost use Rattle.bufr_bits.specs.Devices.{Writing};
+ghost use Rattle.bufr_message.specs.Listings.{listing};
+ghost use Rattle.bufr_message.specs.Messages.{message_of};
+ghost use Rattle.bufr_collect.specs.Collected.{frame_refused, refused_as};
+ghost use Rattle.bufr_tool.specs.Lines.{AreWholeLines};
+ghost use Rattle.bufr_tool.specs.Output.{frame_text, printed_as};
+ghost use Rattle.bufr_tool.specs.StreamEngines.{Adds, Fits, Keeps, no_counts, PrintsFrame};
+ghost use Rattle.bufr_tool.specs.StreamEngines.{Stops, StopsWithin, WritesHeld, WritesPart};
+
+use crate::counts::Counts;
+use crate::printing::{Printing, hold_checked, hold_refused};
+use bufr_answers::{Failure, OutOfMemory};
+use bufr_bits::Sink;
+use bufr_frame::Found;
+use bufr_io::{ToolFault, write_after};
+use bufr_listing::laws::listings_are_joined_parts;
+use bufr_message::{Refused, Templates, View, listing};
+use bufr_tables::Tables;
+use std::alloc::Global;
+
+/// How many octets are held before they are written.
+const PART: usize = 65_536;
+
+/// What prints the frames of a stream: lines that are printed are held until they are many, or
+/// until they are to be written.
+#[derive(Debug, Drop)]
+pub struct Printer<'t> {
+    /// What is printed of a frame.
+    pub printing: Printing,
+    /// The tables of the stream.
+    pub templates: Templates<'t>,
+    /// What was counted of the frames that were printed.
+    pub counts: Counts,
+    /// The lines that are printed and not yet written.
+    pub held: Vec<u8>,
+}
+
+impl<'t> Printer<'t> {
+    /// What prints the frames of a stream under some tables. It takes no memory.
+    pub fn new(alloc: Global, printing: Printing, tables: &'t Tables) -> Printer<'t>
+        ensures printing { result.printing ≡ printing }
+        ensures tables { result.templates ≡ tables.now }
+        ensures counts { result.counts ≡ no_counts }
+        ensures held { result.held.items ≡ [] }
+    {
+        Printer {
+            printing,
+            templates: Templates::new(alloc, tables),
+            counts: Counts::none(),
+            held: Vec::new(alloc),
+        }
+    }
+
+    /// Writes the lines that are held, and holds none then.
+    pub fn write_held<W: Sink>(&mut self, writer: &mut W) -> Result<(), ToolFault>
+        requires works { (W.writing writer.old).failed ≡ false }
+        requires fits { Fits self.old }
+        ensures writes { WritesHeld self.old self.new (W.writing writer.old) (W.writing writer.new)
+            result }
+        ensures keeps { Keeps self.old self.new }
+        ensures short { self.new.counts.written + length self.new.held.items
+            < self.old.counts.written + 2 ^ 64 }
+    {
+        if self.held.is_empty() {
+            return Ok(());
+        }
+        let long = self.held.len() as u128;
+        write_after(writer, self.counts.written, &self.held)?;
+        self.counts.written += long;
+        self.held.clear();
+        Ok(())
+    }
+
+    /// Writes the lines that are held where they are long, and holds none then.
+    fn write_long<W: Sink>(&mut self, writer: &mut W) -> Result<(), ToolFault>
+        requires works { (W.writing writer.old).failed ≡ false }
+        requires fits { self.old.counts.written + 2 ^ 64 ≤ 2 ^ 128 }
+        requires lines { AreWholeLines self.old.held.items }
+        ensures writes { WritesPart self.old self.new (W.writing writer.old) (W.writing writer.new)
+            result }
+        ensures keeps { Keeps self.old self.new }
+        ensures short { self.new.counts.written + length self.new.held.items
+            < self.old.counts.written + 2 ^ 64 }
+    {
+        if self.held.len() < PART {
+            return Ok(());
+        }
+        self.write_held(writer)
+    }
+
+    /// Prints the listing of a message, of which one subset at a time is built. No more is held
+    /// than the lines before the first subset, or a part, and with either the lines of one subset
+    /// and of the end.
+    fn print_listing<W: Sink>(
+        &mut self,
+        alloc: Global,
+        found: &View<'_>,
+        writer: &mut W,
+    ) -> Result<(), ToolFault>
+        requires works { (W.writing writer.old).failed ≡ false }
+        requires few { length found.now.message.subsets < 2 ^ 16 }
+        requires fits { self.old.counts.written + 2 ^ 80 ≤ 2 ^ 128 }
+        requires lines { AreWholeLines self.old.held.items }
+        ensures prints { Adds (listing found.now.message) self.old self.new (W.writing writer.old)
+            (W.writing writer.new) result }
+        ensures keeps { Keeps self.old self.new }
+        ensures short { self.new.counts.written + 2 ^ 64 ≤ self.old.counts.written + 2 ^ 80 }
+    {
+        listings_are_joined_parts();
+        let heading = listing::heading_of_view(alloc, found)?;
+        self.held.extend_from_slice(&heading)?;
+        for index in 0..found.count() {
+            listing::push_subset_of_view(alloc, found, index + 1, &mut self.held)?;
+            self.write_long(writer)?;
+        }
+        self.held.extend_from_slice(listing::end_text())?;
+        Ok(())
+    }
+
+    /// Prints a frame that spells a message.
+    fn print_message<W: Sink>(
+        &mut self,
+        alloc: Global,
+        frame: &Found,
+        found: &View<'_>,
+        writer: &mut W,
+    ) -> Result<(), ToolFault>
+        requires works { (W.writing writer.old).failed ≡ false }
+        requires few { length found.now.message.subsets < 2 ^ 16 }
+        requires fits { self.old.counts.written + 2 ^ 80 ≤ 2 ^ 128 }
+        requires lines { AreWholeLines self.old.held.items }
+        ensures prints { Adds (printed_as self.old.printing frame.now (Ok found.now)) self.old self.new
+            (W.writing writer.old) (W.writing writer.new) result }
+        ensures keeps { Keeps self.old self.new }
+        ensures short { self.new.counts.written + 2 ^ 64 ≤ self.old.counts.written + 2 ^ 80 }
+    {
+        match self.printing {
+            Printing::Shown => self.print_listing(alloc, found, writer),
+            Printing::Checked => {
+                hold_checked(&mut self.held, frame, found)?;
+                Ok(())
+            }
+        }
+    }
+
+    /// The message that the octets of a frame spell, none of whose subsets is built yet, or why
+    /// they spell none.
+    fn judge<'a>(
+        &mut self,
+        alloc: Global,
+        octets: &'a [u8],
+    ) -> Result<Result<View<'a>, Refused>, OutOfMemory>
+        ensures same { self.new ≡ self.old }
+        ensures exact { IfOk result (λ found. found ≡ message_of self.old.templates octets.now) }
+        ensures few { IfOk result (λ found. IfOk found (λ d. length d.message.subsets < 2 ^ 16)) }
+    {
+        match self.templates.view(alloc, octets) {
+            Ok(found) => Ok(Ok(found)),
+            Err(Failure::Fault(why)) => Ok(Err(why)),
+            Err(Failure::OutOfMemory) => Err(OutOfMemory),
+        }
+    }
+
+    /// Prints what a frame was judged to spell, or why it spells no message.
+    fn print_judged<W: Sink>(
+        &mut self,
+        alloc: Global,
+        frame: &Found,
+        judged: &Result<View<'_>, Refused>,
+        writer: &mut W,
+    ) -> Result<(), ToolFault>
+        requires works { (W.writing writer.old).failed ≡ false }
+        requires few { IfOk judged.now (λ d. length d.message.subsets < 2 ^ 16) }
+        requires fits { self.old.counts.written + 2 ^ 80 ≤ 2 ^ 128 }
+        requires lines { AreWholeLines self.old.held.items }
+        ensures prints { Adds (printed_as self.old.printing frame.now judged.now) self.old self.new
+            (W.writing writer.old) (W.writing writer.new) result }
+        ensures keeps { Keeps self.old self.new }
+        ensures short { self.new.counts.written + 2 ^ 64 ≤ self.old.counts.written + 2 ^ 80 }
+    {
+        match judged {
+            Ok(found) => self.print_message(alloc, frame, found, writer),
+            Err(why) => {
+                hold_refused(alloc, &mut self.held, self.printing, frame, why)?;
+                Ok(())
+            }
+        }
+    }
+
+    /// Prints a frame, and counts it.
+    pub fn print_frame<W: Sink>(
+        &mut self,
+        alloc: Global,
+        frame: &Found,
+        writer: &mut W,
+    ) -> Result<(), ToolFault>
+        requires works { (W.writing writer.old).failed ≡ false }
+        requires lines { AreWholeLines self.old.held.items }
+        requires few { self.old.counts.frames + 1 ≤ 2 ^ 48 }
+        requires refused { self.old.counts.refused ≤ self.old.counts.frames }
+        requires octets { self.old.counts.octets + length frame.now.bytes < 2 ^ 64 }
+        requires short { self.old.counts.written + length self.old.held.items
+            + self.old.counts.frames ≤ 2 ^ 80 * self.old.counts.frames }
+        ensures prints { PrintsFrame self.old.printing self.old.templates frame.now self.old
+            self.new (W.writing writer.old) (W.writing writer.new) result }
+        ensures printing { self.new.printing ≡ self.old.printing }
+        ensures tables { self.new.templates ≡ self.old.templates }
+    {
+        let judged = self.judge(alloc, frame.bytes.as_slice())?;
+        self.print_judged(alloc, frame, &judged, writer)?;
+        self.counts.frames += 1;
+        self.counts.refused += refused(&judged);
+        self.counts.octets += frame.bytes.as_slice().len() as u64;
+        self.write_long(writer)
+    }
+
+    /// Writes the lines that are held where printing stopped with a fault, unless the writer has
+    /// failed; and answers the fault, or that of the writer where it fails now.
+    pub fn stop<W: Sink>(&mut self, fault: ToolFault, writer: &mut W) -> ToolFault
+        requires stopped { (first : Writing) × (text : List ℕ)
+            × StopsWithin text first self.old (W.writing writer.old) fault }
+        ensures { (first : Writing) (text : List ℕ)
+            → StopsWithin text first self.old (W.writing writer.old) fault
+            → Stops text first (W.writing writer.new) result }
+    {
+        match fault {
+            ToolFault::OutOfMemory => match self.write_held(writer) {
+                Ok(()) => fault,
+                Err(failed) => failed,
+            },
+            _ => fault,
+        }
+    }
+}
+
+/// How many messages are refused of a frame that was judged so: one or none.
+fn refused(judged: &Result<View<'_>, Refused>) -> u64
+    ensures count { result ≡ refused_as judged.now }
+    ensures most { result ≤ 1 }
+{
+    match judged {
+        Ok(_) => 0,
+        Err(_) => 1,
+    }
+}
