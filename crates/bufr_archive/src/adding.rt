@@ -64,7 +64,7 @@ impl<'t, S: Shelf> Archive<'t, S> {
     pub fn add_message(&mut self, octets: &[u8]) -> Result<Added, AddFault>
         ensures { AddsMessage self.old self.new octets.now result }
     {
-        let reports = match MessageReports::of_octets(self.alloc, self.tables, octets) {
+        let reports = match MessageReports::of_octets(self.alloc, &mut self.templates, octets) {
             Ok(reports) => reports,
             Err(Failure::Fault(why)) => return Err(AddFault::Refused(why)),
             Err(Failure::OutOfMemory) => return Err(AddFault::OutOfMemory { done: 0 }),

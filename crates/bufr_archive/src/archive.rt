@@ -9,6 +9,7 @@ ghost use Rattle.bufr_archive.specs.Texts.{text};
 use bufr_answers::OutOfMemory;
 use bufr_bits::device::{Sink, Unwritten, write_all};
 use bufr_keys::Key;
+use bufr_message::Templates;
 use bufr_shelves::{JoinFault, Shelf, SortedShelf};
 use bufr_tables::Tables;
 use std::alloc::Global;
@@ -20,7 +21,7 @@ use thiserror::Error;
 #[derive(Drop)]
 pub struct Archive<'t, S: Shelf> {
     pub(crate) alloc: Global,
-    pub(crate) tables: &'t Tables,
+    pub(crate) templates: Templates<'t>,
     pub(crate) shelf: S,
 }
 
@@ -31,7 +32,7 @@ impl<'t, S: Shelf> Model for Archive<'t, S> {
 
     ghost Value = { ArchiveView };
 
-    ghost view = { λ a. record { tables = a.tables.now; entries = S.entries a.shelf } };
+    ghost view = { λ a. record { tables = a.templates; entries = S.entries a.shelf } };
 
     // What is held is what is kept.
     ghost invariant = { λ a. kept (S.entries a.shelf) ≡ S.entries a.shelf };
@@ -52,7 +53,7 @@ impl<'t, S: Shelf> Archive<'t, S> {
     {
         Archive {
             alloc,
-            tables,
+            templates: Templates::new(alloc, tables),
             shelf: S::new(alloc),
         }
     }
@@ -73,7 +74,7 @@ impl<'t, S: Shelf> Archive<'t, S> {
     {
         Ok(Archive {
             alloc: self.alloc,
-            tables: self.tables,
+            templates: Templates::new(self.alloc, self.templates.tables()),
             shelf: self.shelf.copy()?,
         })
     }

@@ -8,6 +8,7 @@ use crate::adding::{AddFault, RanOut, ReportList};
 use crate::archive::Archive;
 use crate::report_entry::MessageReports;
 use bufr_answers::{Failure, OutOfMemory};
+use bufr_message::Templates;
 use bufr_shelves::{Entry, ShelfBuilder, SortedShelf};
 use bufr_tables::Tables;
 use std::alloc::Global;
@@ -19,7 +20,7 @@ use std::marker::Model;
 #[derive(Drop)]
 pub struct ArchiveBuilder<'t> {
     alloc: Global,
-    tables: &'t Tables,
+    templates: Templates<'t>,
     entries: ShelfBuilder,
 }
 
@@ -29,7 +30,7 @@ impl<'t> Model for ArchiveBuilder<'t> {
 
     ghost Value = { ArchiveView };
 
-    ghost view = { λ g. record { tables = g.tables.now; entries = kept g.entries } };
+    ghost view = { λ g. record { tables = g.templates; entries = kept g.entries } };
 }
 
 impl<'t> ArchiveBuilder<'t> {
@@ -39,7 +40,7 @@ impl<'t> ArchiveBuilder<'t> {
     {
         ArchiveBuilder {
             alloc,
-            tables,
+            templates: Templates::new(alloc, tables),
             entries: ShelfBuilder::new(alloc),
         }
     }
@@ -51,7 +52,7 @@ impl<'t> ArchiveBuilder<'t> {
     pub fn add_message(&mut self, octets: &[u8]) -> Result<(), AddFault>
         ensures { AddsToBuilder self.old self.new octets.now result }
     {
-        let reports = match MessageReports::of_octets(self.alloc, self.tables, octets) {
+        let reports = match MessageReports::of_octets(self.alloc, &mut self.templates, octets) {
             Ok(reports) => reports,
             Err(Failure::Fault(why)) => return Err(AddFault::Refused(why)),
             Err(Failure::OutOfMemory) => {
@@ -106,12 +107,12 @@ impl<'t> ArchiveBuilder<'t> {
     {
         let ArchiveBuilder {
             alloc,
-            tables,
+            templates,
             entries,
         } = self;
         Ok(Archive {
             alloc,
-            tables,
+            templates,
             shelf: entries.into_shelf()?,
         })
     }

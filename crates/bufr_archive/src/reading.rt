@@ -14,6 +14,7 @@ use crate::laws::reports_are_entries;
 use crate::report_entry::entry_in;
 use bufr_answers::{Failure, Items, OutOfMemory};
 use bufr_keys::Key;
+use bufr_message::Templates;
 use bufr_message::laws::written_messages_are_spelt;
 use bufr_shelves::{Shelf, slot_order};
 use bufr_tables::Tables;
@@ -155,9 +156,10 @@ impl<'t, S: Shelf> Archive<'t, S> {
             rest = behind(rest, entry.bytes.len());
             before = Some(entry);
         }
+        let templates = Templates::new(alloc, tables);
         Ok(Archive {
             alloc,
-            tables,
+            templates,
             shelf,
         })
     }

@@ -14,7 +14,9 @@ use bufr_keys::Key;
 use bufr_message::laws::{
     canonical_messages_are_own, reports_have_canonical_messages, written_messages_are_spelt,
 };
-use bufr_message::{Refused, Report, View, canonical, canonical_of_read, decode, reports, view};
+use bufr_message::{
+    Refused, Report, Templates, View, canonical, canonical_of_read, decode, reports,
+};
 use bufr_report_keys::key_in;
 use bufr_shelves::Entry;
 use bufr_tables::Tables;
@@ -136,17 +138,18 @@ impl<'a> MessageReports<'a> {
     /// them. Memory may run out.
     pub(crate) fn of_octets(
         alloc: Global,
-        tables: &Tables,
+        templates: &mut Templates<'_>,
         octets: &'a [u8],
     ) -> Result<Self, Failure<Refused>>
-        ensures is { Gives (λ s. s.view) result (message_of tables.now octets.now) }
+        ensures same { templates.new ≡ templates.old }
+        ensures is { Gives (λ s. s.view) result (message_of templates.old octets.now) }
         ensures entries { IfOk result (λ s. spelt_entries (reports_of s.view.message)
-            ≡ report_entries tables.now (reports_of s.view.message)) }
+            ≡ report_entries templates.old (reports_of s.view.message)) }
     {
         reports_have_canonical_messages();
         canonical_messages_are_own();
         written_messages_are_spelt();
-        let view = view(alloc, tables, octets)?;
+        let view = templates.view(alloc, octets)?;
         Ok(MessageReports { view })
     }
 }

@@ -67,8 +67,9 @@ loop-rest-smaller g c =
 pub returns : goal.returns
 returns g c =
     let tables = c.args.tables.now in
-    ap (archive_or tables)
+    rw c.new-templates.ensures
+    (ap (archive_or tables)
     (read_all (IsReportEntry tables) (entry_in tables) (c.reports_are_entries.ensures tables)
     c.args.octets.now (g.S.Shelf.entries c.loop-rest.shelf)
     (option_map read c.loop-rest.before) c.loop-rest.place c.loop-rest.rest.now
-    c.loop-rest.invariant (omega arith))
+    c.loop-rest.invariant (omega arith)))
