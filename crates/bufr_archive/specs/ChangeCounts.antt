@@ -1,7 +1,7 @@
 -- How many entries change what is kept (`count_changes`), of two lists one behind the other and of
 -- what is kept already: for the counts that `Archive::add_message` answers, and for crates above,
 -- which add message by message, as `Depot::step` of bufr_depot.
-use Rattle.std.proofs.Common.{◌≡◌, ℕ, ◌+◌, cond, List, [], ◌∷◌, ◌++◌, refl, sym, ap, ◌∙◌, arith}
+use Rattle.std.proofs.Common.{◌≡◌, ◌+◌, cond, List, [], ◌∷◌, ◌++◌, refl, sym, ap, ◌∙◌, arith}
 use Rattle.std.proofs.Common.{append_assoc}
 use Rattle.std.proofs.lemmas.List.{append-nil}
 use Rattle.bufr_shelves.specs.declared.entry.Entry.{Entry}

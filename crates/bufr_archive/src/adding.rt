@@ -3,8 +3,13 @@ ghost use Rattle.std.specs.Prelude.{◌≡◌, ◌<◌, ◌∷◌, [], if◌then
 ghost use Rattle.bufr_shelves.specs.declared.entry.Entry.{Entry as AnEntry};
 ghost use Rattle.bufr_archive.specs.Archives.{IsKept, AddsReports, taken_in, entries_of, count_changes};
 ghost use Rattle.bufr_archive.specs.Adding.{AddsMessage};
+ghost use Rattle.bufr_answers.specs.Answers.{Gives};
+ghost use Rattle.bufr_message.specs.Messages.{message_of};
+ghost use Rattle.bufr_message.specs.Reports.{reports_of};
+ghost use Rattle.bufr_archive.specs.ReportEntries.{report_entries, spelt_entries};
 
 use crate::archive::Archive;
+use crate::laws::archive_is_kept;
 use crate::report_entry::MessageReports;
 use bufr_answers::{Failure, OutOfMemory};
 use bufr_message::Refused;
@@ -64,15 +69,29 @@ impl<'t, S: Shelf> Archive<'t, S> {
     pub fn add_message(&mut self, octets: &[u8]) -> Result<Added, AddFault>
         ensures { AddsMessage self.old self.new octets.now result }
     {
-        let reports = match MessageReports::of_octets(self.alloc, &mut self.templates, octets) {
+        let reports = match self.reports_in(octets) {
             Ok(reports) => reports,
             Err(Failure::Fault(why)) => return Err(AddFault::Refused(why)),
-            Err(Failure::OutOfMemory) => return Err(AddFault::OutOfMemory { done: 0 }),
+            Err(Failure::OutOfMemory) => {
+                archive_is_kept(self);
+                return Err(AddFault::OutOfMemory { done: 0 });
+            }
         };
         match self.add_all(&reports) {
             Ok(added) => Ok(added),
             Err(RanOut { done }) => Err(AddFault::OutOfMemory { done }),
         }
+    }
+
+    /// The reports of the message that octets spell, under templates that are kept from one message
+    /// to the next. The octets are refused as `decode` refuses them. Memory may run out.
+    fn reports_in<'m>(&mut self, octets: &'m [u8]) -> Result<MessageReports<'m>, Failure<Refused>>
+        ensures same { self.new ≡ self.old }
+        ensures is { Gives (λ s. s.view) result (message_of self.old.tables octets.now) }
+        ensures entries { IfOk result (λ s. spelt_entries (reports_of s.view.message)
+            ≡ report_entries self.old.tables (reports_of s.view.message)) }
+    {
+        MessageReports::of_octets(self.alloc, &mut self.templates, octets)
     }
 
     /// Adds reports one after the other. Where memory runs out, the first `done` are joined.

@@ -3,12 +3,16 @@ ghost use Rattle.std.specs.Prelude.{◌≡◌, ◌<◌, ◌∷◌, [], get_or, l
 ghost use Rattle.bufr_shelves.specs.Entries.{kept};
 ghost use Rattle.bufr_archive.specs.Archives.{IsKept, PutsIntoBuilder, taken_in};
 ghost use Rattle.bufr_archive.specs.Adding.{AddsToBuilder};
+ghost use Rattle.bufr_answers.specs.Answers.{Gives};
+ghost use Rattle.bufr_message.specs.Messages.{message_of};
+ghost use Rattle.bufr_message.specs.Reports.{reports_of};
+ghost use Rattle.bufr_archive.specs.ReportEntries.{report_entries, spelt_entries};
 
 use crate::adding::{AddFault, RanOut, ReportList};
 use crate::archive::Archive;
 use crate::report_entry::MessageReports;
 use bufr_answers::{Failure, OutOfMemory};
-use bufr_message::Templates;
+use bufr_message::{Refused, Templates};
 use bufr_shelves::{Entry, ShelfBuilder, SortedShelf};
 use bufr_tables::Tables;
 use std::alloc::Global;
@@ -52,7 +56,7 @@ impl<'t> ArchiveBuilder<'t> {
     pub fn add_message(&mut self, octets: &[u8]) -> Result<(), AddFault>
         ensures { AddsToBuilder self.old self.new octets.now result }
     {
-        let reports = match MessageReports::of_octets(self.alloc, &mut self.templates, octets) {
+        let reports = match self.reports_in(octets) {
             Ok(reports) => reports,
             Err(Failure::Fault(why)) => return Err(AddFault::Refused(why)),
             Err(Failure::OutOfMemory) => {
@@ -64,6 +68,17 @@ impl<'t> ArchiveBuilder<'t> {
             Ok(()) => Ok(()),
             Err(RanOut { done }) => Err(AddFault::OutOfMemory { done }),
         }
+    }
+
+    /// The reports of the message that octets spell, under templates that are kept from one message
+    /// to the next. The octets are refused as `decode` refuses them. Memory may run out.
+    fn reports_in<'m>(&mut self, octets: &'m [u8]) -> Result<MessageReports<'m>, Failure<Refused>>
+        ensures same { self.new ≡ self.old }
+        ensures is { Gives (λ s. s.view) result (message_of self.old.tables octets.now) }
+        ensures entries { IfOk result (λ s. spelt_entries (reports_of s.view.message)
+            ≡ report_entries self.old.tables (reports_of s.view.message)) }
+    {
+        MessageReports::of_octets(self.alloc, &mut self.templates, octets)
     }
 
     /// What is held is what is kept.
