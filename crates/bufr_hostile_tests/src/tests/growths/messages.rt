@@ -8,7 +8,10 @@ use crate::tests::samples::{
 };
 use bufr_bits::IntoWrite;
 use bufr_message::listing::{ListingWriteFault, read, text_of, write_message};
-use bufr_message::{Decoded, Message, Report, canonical, decode, encode, reports};
+use bufr_message::{
+    Decoded, Field, Items, Message, OutOfMemory, Report, Templates, View, canonical, decode,
+    encode, reports,
+};
 use bufr_tables::Tables;
 use std::alloc::Global;
 use std::process::Abort;
@@ -188,4 +191,39 @@ fn listing_written(rt: HostRuntime) -> Result<(), Fail> {
     let tables = tables(alloc)?;
     let found = decoded(alloc, &tables, SEQUENCES)?;
     assert_listed(&rt, alloc, &found.message, SEQUENCES_LISTED)
+}
+
+/// The fields of the first subset of a view, one after another.
+fn fields_of(rt: &impl Abort, alloc: Global, view: &View<'_>) -> Result<Items<Field>, OutOfMemory> {
+    assert!(rt; view.count() >= 1);
+    view.fields(alloc, 1)?.rest(alloc)
+}
+
+/// The message is viewed under templates that are kept: its eight fields end with 273.15 K.
+fn assert_viewed(
+    rt: &impl Abort,
+    alloc: Global,
+    templates: &mut Templates<'_>,
+) -> Result<(), Fail> {
+    let view = repeated!(templates.view(alloc, SEQUENCES))?;
+    let fields = repeated!(fields_of(rt, alloc, &view))?;
+    same(rt, fields.len(), 8);
+    let last = match fields.get(7) {
+        Some(field) => field.value(),
+        None => None,
+    };
+    let units = match last {
+        Some(value) => value.units,
+        None => 0,
+    };
+    same(rt, units, 27_315);
+    Ok(())
+}
+
+#[test]
+fn messages_viewed_by_kept_templates(rt: HostRuntime) -> Result<(), Fail> {
+    let tables = tables(rt.alloc())?;
+    let mut templates = Templates::new(rt.alloc(), &tables);
+    assert_viewed(&rt, rt.alloc(), &mut templates)?;
+    assert_viewed(&rt, rt.alloc(), &mut templates)
 }
