@@ -5,7 +5,6 @@ mod data;
 mod forms;
 mod index;
 mod samples;
-mod starts;
 mod values;
 
 use std::fmt::Debug;

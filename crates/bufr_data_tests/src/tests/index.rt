@@ -4,7 +4,7 @@ use super::same;
 use super::samples::{octets_of, same_numbers, same_text, template};
 use bufr_answers::Failure;
 use bufr_bits::{BitReader, BitSink};
-use bufr_data::{Field, Fields, Raw, ReadFault, Subset, SubsetIndex, read_subsets};
+use bufr_data::{ReadFault, SubsetIndex, read_subsets};
 use std::alloc::Global;
 use std::process::Abort;
 use std::test::Fail;
@@ -30,49 +30,6 @@ fn has_numbers(
     assert!(rt; 1 <= number && number <= index.count());
     let subset = index.subset(alloc, number)?;
     same_numbers(rt, alloc, &subset, wanted)?;
-    Ok(())
-}
-
-/// Compares the number of the field that is handed out next.
-fn hands_out(
-    rt: &impl Abort,
-    alloc: Global,
-    fields: &mut Fields<'_>,
-    wanted: Option<u64>,
-) -> Result<(), Fail> {
-    let found = fields.next(alloc)?;
-    same(rt, found.map(|field| number_of(&field)), wanted);
-    Ok(())
-}
-
-/// The number of a field, 0 for a text.
-fn number_of(field: &Field) -> u64 {
-    match &field.raw {
-        Raw::Number(number) => *number,
-        Raw::Text(_) => 0,
-    }
-}
-
-/// Compares the bits that are put of one subset of an index, of which the last octet is filled with
-/// zero bits: behind none, and behind three bits.
-fn puts(
-    rt: &impl Abort,
-    alloc: Global,
-    index: &SubsetIndex,
-    number: usize,
-    wanted: &[u8],
-    behind_three: &[u8],
-) -> Result<(), Fail> {
-    assert!(rt; 1 <= number && number <= index.count());
-    let mut sink = BitSink::new(alloc);
-    index.put(alloc, number, &mut sink)?;
-    let octets = octets_of(sink);
-    same(rt, octets.as_slice(), wanted);
-    let mut sink = BitSink::new(alloc);
-    sink.put(3, 5)?;
-    index.put(alloc, number, &mut sink)?;
-    let octets = octets_of(sink);
-    same(rt, octets.as_slice(), behind_three);
     Ok(())
 }
 
@@ -141,115 +98,6 @@ fn texts_are_passed(rt: HostRuntime) -> Result<(), Fail> {
         same_text(&rt, field, wanted);
     }
     Ok(())
-}
-
-#[test]
-fn plain_fields_one_at_a_time(rt: HostRuntime) -> Result<(), Fail> {
-    let alloc = rt.alloc();
-    let octets = [0x00, 0x02, 0x6A, 0xB3, 0x6A, 0xB4, 0x01, 0x00, 0x05, 0xFF];
-    let mut reader = BitReader::new(&octets);
-    let index = SubsetIndex::index(alloc, template(alloc, &DELAYED)?, false, &mut reader, 3)?;
-    assert!(rt; index.count() == 3);
-    let mut fields = index.fields(alloc, 2)?;
-    let mut others = index.fields(alloc, 1)?;
-    hands_out(&rt, alloc, &mut fields, Some(2))?;
-    hands_out(&rt, alloc, &mut others, Some(0))?;
-    hands_out(&rt, alloc, &mut others, None)?;
-    hands_out(&rt, alloc, &mut fields, Some(27315))?;
-    hands_out(&rt, alloc, &mut fields, Some(27316))?;
-    hands_out(&rt, alloc, &mut fields, None)?;
-    hands_out(&rt, alloc, &mut fields, None)?;
-    let mut fields = index.fields(alloc, 2)?;
-    hands_out(&rt, alloc, &mut fields, Some(2))?;
-    let fields = fields.rest(alloc)?;
-    Ok(same_numbers(&rt, alloc, &Subset { fields }, &[27315, 27316])?)
-}
-
-#[test]
-fn compressed_fields_one_at_a_time(rt: HostRuntime) -> Result<(), Fail> {
-    let alloc = rt.alloc();
-    // 27315 and 27316, then 1 and 3, each as the least value, the width and the increments:
-    // 0110101010110011 000010 00 01, 0000000000000001 000010 00 10
-    let octets = [0x6A, 0xB3, 0x08, 0x40, 0x00, 0x42, 0x20];
-    let mut reader = BitReader::new(&octets);
-    let index = SubsetIndex::index(alloc, template(alloc, &TWICE)?, true, &mut reader, 2)?;
-    same(&rt, reader.place(), 52);
-    assert!(rt; index.count() == 2);
-    let mut fields = index.fields(alloc, 2)?;
-    let others = index.fields(alloc, 1)?;
-    hands_out(&rt, alloc, &mut fields, Some(27316))?;
-    hands_out(&rt, alloc, &mut fields, Some(3))?;
-    hands_out(&rt, alloc, &mut fields, None)?;
-    let fields = others.rest(alloc)?;
-    Ok(same_numbers(&rt, alloc, &Subset { fields }, &[27315, 1])?)
-}
-
-#[test]
-fn plain_bits_of_one_subset(rt: HostRuntime) -> Result<(), Fail> {
-    let alloc = rt.alloc();
-    let octets = [0x00, 0x02, 0x6A, 0xB3, 0x6A, 0xB4, 0x01, 0x00, 0x05, 0xFF];
-    let mut reader = BitReader::new(&octets);
-    let index = SubsetIndex::index(alloc, template(alloc, &DELAYED)?, false, &mut reader, 3)?;
-    puts(&rt, alloc, &index, 1, &[0x00], &[0xA0, 0x00])?;
-    let (second, behind) = (
-        [0x02, 0x6A, 0xB3, 0x6A, 0xB4],
-        [0xA0, 0x4D, 0x56, 0x6D, 0x56, 0x80],
-    );
-    puts(&rt, alloc, &index, 2, &second, &behind)?;
-    puts(
-        &rt,
-        alloc,
-        &index,
-        3,
-        &[0x01, 0x00, 0x05],
-        &[0xA0, 0x20, 0x00, 0xA0],
-    )?;
-    // 94 and 578, 3 and 1000, 127 and 0, in 7 and 10 bits
-    let octets = [0xBD, 0x21, 0x03, 0xFA, 0x3F, 0x80, 0x1F];
-    let mut reader = BitReader::new(&octets);
-    let index = SubsetIndex::index(alloc, template(alloc, &STATION)?, false, &mut reader, 3)?;
-    puts(
-        &rt,
-        alloc,
-        &index,
-        1,
-        &[0xBD, 0x21, 0x00],
-        &[0xB7, 0xA4, 0x20],
-    )?;
-    puts(
-        &rt,
-        alloc,
-        &index,
-        2,
-        &[0x07, 0xF4, 0x00],
-        &[0xA0, 0xFE, 0x80],
-    )?;
-    puts(
-        &rt,
-        alloc,
-        &index,
-        3,
-        &[0xFE, 0x00, 0x00],
-        &[0xBF, 0xC0, 0x00],
-    )
-}
-
-#[test]
-fn compressed_bits_of_one_subset(rt: HostRuntime) -> Result<(), Fail> {
-    let alloc = rt.alloc();
-    let octets = [0x6A, 0xB3, 0x08, 0x40];
-    let mut reader = BitReader::new(&octets);
-    let index = SubsetIndex::index(alloc, template(alloc, &TEMPERATURE)?, true, &mut reader, 2)?;
-    puts(&rt, alloc, &index, 1, &[0x6A, 0xB3], &[0xAD, 0x56, 0x60])?;
-    puts(&rt, alloc, &index, 2, &[0x6A, 0xB4], &[0xAD, 0x56, 0x80])?;
-    // texts of two octets: a minimum that says nothing, one octet each, "A" and "B", which are filled
-    let list = [(2, 8, 2), (0, 1, 11)];
-    let octets = [0x00, 0x00, 0x05, 0x05, 0x08];
-    let mut reader = BitReader::new(&octets);
-    let index = SubsetIndex::index(alloc, template(alloc, &list)?, true, &mut reader, 2)?;
-    same(&rt, reader.place(), 38);
-    puts(&rt, alloc, &index, 1, b"A ", &[0xA8, 0x24, 0x00])?;
-    puts(&rt, alloc, &index, 2, b"B ", &[0xA8, 0x44, 0x00])
 }
 
 #[test]
