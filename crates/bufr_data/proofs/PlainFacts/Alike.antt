@@ -1,6 +1,8 @@
--- Plain subsets that are alike are passed by their bits alone (`PlainSubsets::index`).
+-- Plain subsets that are alike, and turns of a replication that are, are passed by their bits alone
+-- (`PlainSubsets::index`).
 use Rattle.std.proofs.Common.{◌≡◌, ℕ, ◌+◌, ◌*◌, ◌/◌, ◌≤◌, Bool, false, List, [], ◌∷◌, ◌++◌, length}
-use Rattle.std.proofs.Common.{drop, Ok, refl, sym, ap, subst, ◌∙◌, arith}
+use Rattle.std.proofs.Common.{drop, Result, Ok, Err, refl, sym, ap, subst, ◌∙◌, inl, inr, arith}
+use Rattle.std.proofs.lemmas.Bool.{cases_Bool}
 use Rattle.std.proofs.lemmas.List.{drop-drop, length-drop}
 use Rattle.bufr_tables.specs.declared.element.Kind.TheVariants as kinds
 use Rattle.bufr_tables.specs.Elements.{same_kind}
@@ -12,16 +14,22 @@ use Rattle.bufr_expand.specs.Trees.{Tree}
 use Rattle.bufr_expand.specs.Unrolling.{Told, After, Allows, Unrolls}
 use Rattle.bufr_expand.specs.Limits.{most_items}
 use Rattle.bufr_expand.specs.Steady.{IsSteady, course_steady}
-use Rattle.bufr_expand.specs.Walks.{left, Goes}
+use Rattle.bufr_expand.specs.declared.run.Run.{Run}
+use Rattle.bufr_expand.specs.Runs.{HasWidth, AddUp, PassesRun}
+use Rattle.bufr_expand.specs.Walks.{left, items_met, Goes}
 use Rattle.bufr_data.specs.declared.plain.alike.Alike.{Alike}
 use Rattle.bufr_data.specs.declared.field.Field.{Field}
 use Rattle.bufr_data.specs.Plain.Alike.{TakesBits, TakeAll, IsAlike}
-use Rattle.bufr_data.specs.Plain.{number_of, fields_at}
+use Rattle.bufr_data.specs.declared.fault.ReadFault.{ReadFault}
+use Rattle.bufr_data.specs.FormLaws.{same_kind_is}
+use Rattle.bufr_data.specs.Steady.{IsReady, WalkAdvances}
+use Rattle.bufr_data.specs.Plain.{SubsetRead, number_of, fields_at}
 use Rattle.bufr_data.specs.Plain.Reads.{behind_fields}
-use Rattle.bufr_data.specs.Plain.Starts.{PassesSubset}
+use Rattle.bufr_data.specs.Plain.Starts.{PassesFields, PassesSubset}
 use Rattle.bufr_data.specs.StepLaws.{asks_field}
 use Rattle.bufr_data.proofs.PlainFacts.Passed.{text_passes, text_ends, number_passes, number_ends}
-use Rattle.bufr_data.proofs.PlainFacts.Reads.{asked_field, found_is}
+use Rattle.bufr_data.proofs.PlainFacts.Reads.{asked_field, found_is, behind_none}
+use Rattle.bufr_data.proofs.KindFacts.{kinds_differ}
 
 -- ---- the bits of one field
 
@@ -102,20 +110,34 @@ one_measured c old new bits grown own d spec sum goes takes m =
 
 -- ---- bits that hold a subset
 
--- the fields that a steady course allows, none a count, are passed where their bits are there
-fields_pass : (used met i : ℕ) (c : Course) (fields : List Told) (bits : ℕ) (front : List Bool)
-    → IsSteady used c → Allows c fields met → TakeAll fields bits → bits ≤ length front
-    → PassesSubset (fields_at 1 i c front) met (drop bits front)
-unfolding After IsSteady fields_at
-fields_pass used met i c [] bits front steady allowed taken enough = ([], rw (allowed, taken) refl)
-fields_pass used met i (ends n) (f ∷ fields) bits front steady allowed taken enough = absurd allowed
-fields_pass used met i (stops n fault) (f ∷ fields) bits front steady allowed taken enough =
-    absurd allowed
-fields_pass used met i (asks m d spec more) (f ∷ fields) bits front steady allowed taken enough =
+-- one field more in front of others
+in_front_of : (field : Field) (fields : List Field) (o : Result SubsetRead ReadFault)
+    → behind_fields (field ∷ []) (behind_fields fields o) ≡ behind_fields (field ∷ fields) o
+in_front_of field fields (Ok found) = refl
+in_front_of field fields (Err e) = refl
+
+-- the fields for which a steady course asks, none a count, are passed where their bits are there
+asked_pass : (used i : ℕ) (c later : Course) (fields : List Told) (bits : ℕ) (front : List Bool)
+    → IsSteady used c → After c fields later → TakeAll fields bits → bits ≤ length front
+    → (read : List Field) × (fields_at 1 i c front
+    ≡ behind_fields read (fields_at 1 (i + length fields) later (drop bits front)))
+unfolding After IsSteady
+asked_pass used i c later [] bits front steady asked taken enough =
+    let same : i ≡ i + 0 = omega arith in (
+      [],
+      ap (λ x. fields_at 1 i x front) asked
+          ∙ ap (λ n. fields_at 1 n later front) same
+          ∙ ap (λ n. fields_at 1 (i + 0) later (drop n front)) (sym taken)
+          ∙ behind_none _,
+    )
+asked_pass used i (ends n) later (f ∷ fields) bits front steady asked taken enough = absurd asked
+asked_pass used i (stops n fault) later (f ∷ fields) bits front steady asked taken enough =
+    absurd asked
+asked_pass used i (asks m d spec more) later (f ∷ fields) bits front steady asked taken enough =
     let own = taken.0 in
     let kind : same_kind spec.kind kinds.Count ≡ false =
-    subst (λ (s : Spec). same_kind s.kind kinds.Count ≡ false) allowed.1 taken.2 in
-    let takes : TakesBits spec own = subst (λ (s : Spec). TakesBits s own) allowed.1 taken.3 in
+    subst (λ (s : Spec). same_kind s.kind kinds.Count ≡ false) asked.1 taken.2 in
+    let takes : TakesBits spec own = subst (λ (s : Spec). TakesBits s own) asked.1 taken.3 in
     let p = takes.there i front (omega (arith, taken.5, enough)) in
     let field : Field = record { fxy = d; spec = spec; raw = p.0 } in
     let same : more (number_of p.0) ≡ more f.number =
@@ -123,16 +145,77 @@ fields_pass used met i (asks m d spec more) (f ∷ fields) bits front steady all
     let size : taken.1 ≤ length (drop own front) =
     omega (arith, length-drop own front, taken.5, enough) in
     let others =
-    fields_pass m met (i + 1) (more f.number) fields taken.1 (drop own front)
-    (steady.3 f.number) allowed.2 taken.4 size in
+    asked_pass m (i + 1) (more f.number) later fields taken.1 (drop own front)
+    (steady.3 f.number) asked.2 taken.4 size in
     let rest : drop taken.1 (drop own front) ≡ drop bits front =
-    drop-drop taken.1 own front ∙ ap (λ n. drop n front) (sym taken.5) in (
+    drop-drop taken.1 own front ∙ ap (λ n. drop n front) (sym taken.5) in
+    let index : i + 1 + length fields ≡ i + length (f ∷ fields) = omega arith in (
       field ∷ others.0,
       asked_field 1 i m d spec more front (drop own front) p.0 (found_is 1 i _ _ p.1)
           ∙ ap (λ c. behind_fields (field ∷ []) (fields_at 1 (i + 1) c (drop own front))) same
           ∙ ap (behind_fields (field ∷ [])) others.1
-          ∙ ap (λ xs. Ok (record { fields = field ∷ others.0; items = met; rest = xs })) rest,
+          ∙ in_front_of field others.0 _
+          ∙ ap (λ n. behind_fields (field ∷ others.0)
+          (fields_at 1 n later (drop taken.1 (drop own front)))) index
+          ∙ ap (λ xs. behind_fields (field ∷ others.0)
+          (fields_at 1 (i + length (f ∷ fields)) later xs)) rest,
     )
+
+-- those up to the end of the course too
+fields_pass : (used met i : ℕ) (c : Course) (fields : List Told) (bits : ℕ) (front : List Bool)
+    → IsSteady used c → Allows c fields met → TakeAll fields bits → bits ≤ length front
+    → PassesSubset (fields_at 1 i c front) met (drop bits front)
+unfolding fields_at
+fields_pass used met i c fields bits front steady allowed taken enough =
+    let p = asked_pass used i c (ends met) fields bits front steady allowed taken enough in
+    (p.0 ++ [], p.1)
+
+-- ---- turns that are passed at once
+
+-- a field that has its width in bits takes just these
+width_takes : (spec : Spec) → HasWidth spec → TakesBits spec spec.width
+width_takes spec has =
+    elim (cases_Bool (same_kind spec.kind kinds.Text)) [
+      | inl e ↦
+          let is = same_kind_is spec.kind kinds.Text e in
+          let whole = has.whole_octets is in
+          let size : spec.width ≡ 8 * (spec.width / 8) = omega (arith, whole) in
+          text_takes spec spec.width (spec.width / 8) is size refl
+      | inr e ↦
+          let other = kinds_differ spec.kind kinds.Text e in
+          let few : spec.width ≤ 64 = omega (arith, has.few_bits other) in
+          number_takes spec spec.width other few refl
+    ]
+
+-- so fields whose widths add up take these bits
+widths_take : (fields : List Told) (bits : ℕ) → AddUp fields bits → TakeAll fields bits
+unfolding AddUp
+widths_take [] bits h = h
+widths_take (f ∷ fields) bits h =
+    (f.spec.width, h.0, h.1.no_count, width_takes f.spec h.1, widths_take fields h.0 h.2, h.3)
+
+-- turns that a walk has passed at once are passed in bits that hold them
+pub turns_pass : (old new : Walk) (run : Run) (front rest : List Bool) → IsReady old
+    → PassesRun old run new → run.bits ≤ length front → rest ≡ drop run.bits front
+    → PassesFields run.fields (left old) front (left new) rest
+turns_pass old new run front rest ready passed enough behind i =
+    let p =
+    asked_pass (items_met old) i (left old) (left new) passed.leads.fields run.bits front
+    ready.steady passed.leads.asked (widths_take _ _ passed.leads.bits_are) enough in (
+      p.0,
+      p.1
+          ∙ ap (λ n. behind_fields p.0 (fields_at 1 (i + n) (left new) (drop run.bits front)))
+          passed.leads.fields_are
+          ∙ ap (λ xs. behind_fields p.0 (fields_at 1 (i + run.fields) (left new) xs)) (sym behind),
+    )
+
+-- and the walk has met an item more at least, and can go on
+pub turns_advance : (old new : Walk) (run : Run) → PassesRun old run new → WalkAdvances old new
+turns_advance old new run passed = record {
+  ready = record { answered = passed.answered; steady = passed.steady };
+  further = omega (arith, passed.items_are, passed.some_item);
+  within = passed.within;
+}
 
 -- a subset of a tree all of whose subsets are alike is passed where its bits are there and its
 -- items have room, by the laws of unrollings
