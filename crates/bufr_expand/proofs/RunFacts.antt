@@ -27,7 +27,7 @@ use Rattle.bufr_expand.specs.Trees.{Tree, tree_of, tree_within}
 use Rattle.bufr_expand.specs.Unrolling.{Told, After}
 use Rattle.bufr_expand.specs.Runs.{HasWidth, AddUp, Leads, no_run, joined_runs, turned_run}
 use Rattle.bufr_expand.specs.Runs.{behind_item, IsFieldRun, BeginsRun, TurnsRun, PassesRun}
-use Rattle.bufr_expand.specs.Runs.{IsInnermost}
+use Rattle.bufr_expand.specs.Runs.{IsInnermost, after_joined}
 use Rattle.bufr_expand.specs.declared.standing.Open.{Open}
 use Rattle.bufr_expand.specs.declared.standing.State.TheVariants.{Going}
 use Rattle.bufr_expand.specs.declared.walk.Walk.{Walk}
@@ -39,16 +39,6 @@ use Rattle.bufr_expand.proofs.PassFacts.{item-below, left_going, entered}
 use Rattle.bufr_expand.proofs.SpecFacts.{in_table, effective_found}
 
 -- ---- from one course to another
-
--- fields behind fields
-after_joined : (c d e : Course) (xs ys : List Told) → After c xs d → After d ys e
-    → After c (xs ++ ys) e
-unfolding After
-after_joined c d e [] ys h g = subst (λ x. After x ys e) (sym h) g
-after_joined (ends n) d e (x ∷ xs) ys h g = absurd h
-after_joined (stops n fault) d e (x ∷ xs) ys h g = absurd h
-after_joined (asks met fxy spec more) d e (x ∷ xs) ys h g =
-    (h.0, h.1, after_joined (more x.number) d e xs ys h.2 g)
 
 -- their bits add up
 bits_joined : (xs ys : List Told) (a b c : ℕ) → c ≡ a + b → AddUp xs a → AddUp ys b

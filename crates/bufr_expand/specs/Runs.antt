@@ -3,6 +3,7 @@
 -- regulations 94.5.4 and 94.5.5).
 use Rattle.std.specs.Prelude.{◌≡◌, ℕ, ◌+◌, ◌*◌, ◌%◌, ◌<◌, ◌≤◌, false, List, [], ◌∷◌, ◌++◌}
 use Rattle.std.specs.Prelude.{length, take, ◌-◌, Option, Some}
+use Rattle.std.proofs.Common.{sym, subst}
 use Rattle.bufr_tables.specs.declared.element.Kind.TheVariants as kinds
 use Rattle.bufr_tables.specs.Elements.{same_kind}
 use Rattle.bufr_expand.specs.declared.operators.Operators.{Operators}
@@ -12,7 +13,7 @@ use Rattle.bufr_expand.specs.declared.standing.Open.{Open}
 use Rattle.bufr_expand.specs.declared.standing.State.TheVariants.{Going}
 use Rattle.bufr_expand.specs.declared.walk.Walk.{Walk}
 use Rattle.bufr_expand.specs.Limits.{most_items, most_number_bits}
-use Rattle.bufr_expand.specs.Courses.{Course, Then, turns, course_then}
+use Rattle.bufr_expand.specs.Courses.{Course, ends, stops, asks, Then, turns, course_then}
 use Rattle.bufr_expand.specs.Steady.{IsSteady}
 use Rattle.bufr_expand.specs.Trees.{Tree}
 use Rattle.bufr_expand.specs.Unrolling.{Told, After}
@@ -107,3 +108,15 @@ pub record IsInnermost (w : Walk) (turn : Open) : Type 0 where
   pub goes : w.state ≡ Going
   pub passed : w.stop ≤ w.place
   pub loops_are : w.loops.items ≡ take (length w.loops.items - 1) w.loops.items ++ turn ∷ []
+
+-- ---- the law of fields behind fields, for proofs about walks
+
+-- what is asked for first, and what is asked for from there on
+pub after_joined : (c d e : Course) (xs ys : List Told) → After c xs d → After d ys e
+    → After c (xs ++ ys) e
+unfolding After
+after_joined c d e [] ys h g = subst (λ x. After x ys e) (sym h) g
+after_joined (ends n) d e (x ∷ xs) ys h g = absurd h
+after_joined (stops n fault) d e (x ∷ xs) ys h g = absurd h
+after_joined (asks met fxy spec more) d e (x ∷ xs) ys h g =
+    (h.0, h.1, after_joined (more x.number) d e xs ys h.2 g)

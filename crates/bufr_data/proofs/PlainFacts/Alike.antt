@@ -15,7 +15,7 @@ use Rattle.bufr_expand.specs.Unrolling.{Told, After, Allows, Unrolls}
 use Rattle.bufr_expand.specs.Limits.{most_items}
 use Rattle.bufr_expand.specs.Steady.{IsSteady, course_steady}
 use Rattle.bufr_expand.specs.declared.run.Run.{Run}
-use Rattle.bufr_expand.specs.Runs.{HasWidth, AddUp, PassesRun}
+use Rattle.bufr_expand.specs.Runs.{HasWidth, AddUp, PassesRun, after_joined}
 use Rattle.bufr_expand.specs.Walks.{left, items_met, Goes}
 use Rattle.bufr_data.specs.declared.plain.alike.Alike.{Alike}
 use Rattle.bufr_data.specs.declared.field.Field.{Field}
@@ -55,30 +55,18 @@ number_takes spec b other few size = record {
 abbrev pub untold : ℕ → Spec → Told
 untold d spec = record { fxy = d; spec = spec; number = 0 }
 
--- a course asks for one field more, which is no count
-after_more : (c : Course) (fields : List Told) (met d : ℕ) (spec : Spec) (more : ℕ → Course)
-    → After c fields (asks met d spec more) → After c (fields ++ untold d spec ∷ []) (more 0)
+-- a field for which a course asks
+one_asked : (met d : ℕ) (spec : Spec) (more : ℕ → Course)
+    → After (asks met d spec more) (untold d spec ∷ []) (more 0)
 unfolding After
-after_more c [] met d spec more h =
-    subst (λ x. After x (untold d spec ∷ []) (more 0)) (sym h) (refl, refl, refl)
-after_more (ends n) (f ∷ fields) met d spec more h = absurd h
-after_more (stops n fault) (f ∷ fields) met d spec more h = absurd h
-after_more (asks m e s next) (f ∷ fields) met d spec more h =
-    (h.0, h.1, after_more (next f.number) fields met d spec more h.2)
+one_asked met d spec more = (refl, refl, refl)
 
--- so many bits more are taken
-take_more : (fields : List Told) (bits d : ℕ) (spec : Spec) (own : ℕ)
-    → same_kind spec.kind kinds.Count ≡ false → TakesBits spec own → TakeAll fields bits
-    → TakeAll (fields ++ untold d spec ∷ []) (bits + own)
-take_more [] bits d spec own kind takes all = (own, 0, kind, takes, refl, omega (arith, all))
-take_more (f ∷ fields) bits d spec own kind takes all = (
-  all.0,
-  all.1 + own,
-  all.2,
-  all.3,
-  take_more fields all.1 d spec own kind takes all.4,
-  omega (arith, all.5),
-)
+-- the bits of fields behind fields
+take_joined : (xs ys : List Told) (a b c : ℕ) → c ≡ a + b → TakeAll xs a → TakeAll ys b
+    → TakeAll (xs ++ ys) c
+take_joined [] ys a b c sum h g = let same : b ≡ c = omega (arith, sum, h) in subst (TakeAll ys) same g
+take_joined (x ∷ xs) ys a b c sum h g =
+    (h.0, h.1 + b, h.2, h.3, take_joined xs ys h.1 b (h.1 + b) refl h.4 g, omega (arith, sum, h.5))
 
 -- the fields so far take so many bits, and the walk is behind them
 pub record Measured (c : Course) (bits : ℕ) (later : Course) : Type 0 where
@@ -91,22 +79,29 @@ pub none_measured : (c later : Course) → later ≡ c → Measured c 0 later
 unfolding After
 none_measured c later is = record { fields = []; behind = sym is; taken = refl }
 
+-- fields more
+more_measured : (c d e : Course) (bits own grown : ℕ) → grown ≡ bits + own → Measured c bits d
+    → Measured d own e → Measured c grown e
+more_measured c d e bits own grown sum m n = record {
+  fields = m.fields ++ n.fields;
+  behind = after_joined c d e m.fields n.fields m.behind n.behind;
+  taken = take_joined m.fields n.fields bits own grown sum m.taken n.taken;
+}
+
 -- one field more
 pub one_measured : (c : Course) (old new : Walk) (bits grown own d : ℕ) (spec : Spec)
     → grown ≡ bits + own → Goes (left old) (Ok (steps.Field d spec)) new → TakesBits spec own
     → Measured c bits (left old) → Measured c grown (left new)
 one_measured c old new bits grown own d spec sum goes takes m =
     let a = asks_field (left old) d spec new goes in
-    let behind = subst (After c m.fields) a.is m.behind in
-    record {
-      fields = m.fields ++ untold d spec ∷ [];
-      behind =
-          subst (After c (m.fields ++ untold d spec ∷ [])) (sym a.after)
-          (after_more c m.fields a.met d spec a.more behind);
-      taken =
-          subst (TakeAll (m.fields ++ untold d spec ∷ [])) (sym sum)
-          (take_more m.fields bits d spec own a.kind takes m.taken);
-    }
+    let P : Course → Course → Type 0 = λ x y. After x (untold d spec ∷ []) y in
+    let asked : P (left old) (a.more 0) =
+    subst (λ x. P x (a.more 0)) (sym a.is) (one_asked a.met d spec a.more) in
+    more_measured c (left old) (left new) bits own grown sum m (record {
+      fields = untold d spec ∷ [];
+      behind = subst (P (left old)) (sym a.after) asked;
+      taken = (own, 0, a.kind, takes, refl, omega arith);
+    })
 
 -- ---- bits that hold a subset
 
@@ -193,6 +188,17 @@ unfolding AddUp
 widths_take [] bits h = h
 widths_take (f ∷ fields) bits h =
     (f.spec.width, h.0, h.1.no_count, width_takes f.spec h.1, widths_take fields h.0 h.2, h.3)
+
+-- the fields of turns that a walk has passed at once, behind those before
+pub turns_measured : (c : Course) (old new : Walk) (run : Run) (bits grown : ℕ)
+    → grown ≡ bits + run.bits → PassesRun old run new → Measured c bits (left old)
+    → Measured c grown (left new)
+turns_measured c old new run bits grown sum passed m =
+    more_measured c (left old) (left new) bits run.bits grown sum m (record {
+      fields = passed.leads.fields;
+      behind = passed.leads.asked;
+      taken = widths_take _ _ passed.leads.bits_are;
+    })
 
 -- turns that a walk has passed at once are passed in bits that hold them
 pub turns_pass : (old new : Walk) (run : Run) (front rest : List Bool) → IsReady old
