@@ -11,6 +11,7 @@ pub mod LoopFacts
 pub mod PassFacts
 pub mod Powers
 pub mod ReadingFacts
+pub mod RunFacts
 pub mod SpecFacts
 pub mod Steps
 pub mod TemplateFacts

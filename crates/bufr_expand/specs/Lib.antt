@@ -11,6 +11,7 @@ pub mod OperatorsInForce
 pub mod Parts
 pub mod Places
 pub mod Reasons
+pub mod Runs
 pub mod Samples
 pub mod Steady
 pub mod Templates

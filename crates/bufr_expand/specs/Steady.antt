@@ -61,7 +61,7 @@ steady_field used d None c room s = tt
 steady_field used d (Some spec) c room s = (omega arith, omega arith, λ other n. refl, λ n. s)
 
 -- turns of a body
-steady_turns : (n : ℕ) (body : Operators → ℕ → Then → Course)
+pub steady_turns : (n : ℕ) (body : Operators → ℕ → Then → Course)
     → ((q : Operators) (used : ℕ) (after : Then) → IsSteadyThen after
     → IsSteady used (body q used after))
     → (q : Operators) (used : ℕ) (after : Then) → IsSteadyThen after
@@ -73,7 +73,7 @@ steady_turns (suc n) body each q used after s =
     (each q (used + 1) _ (λ q used. steady_turns n body each q used after s)))
 
 -- the nodes of a tree
-steady_then : (t : trees.Tree) (q : Operators) (used : ℕ) (after : Then) → IsSteadyThen after
+pub steady_then : (t : trees.Tree) (q : Operators) (used : ℕ) (after : Then) → IsSteadyThen after
     → IsSteady used (course_then t q used after)
 unfolding course_then IsSteady
 steady_then trees.done q used after s = s q used

@@ -7,6 +7,7 @@ mod limits;
 mod node;
 mod operators;
 mod part;
+mod run;
 mod standing;
 mod template;
 #[cfg(test)]
@@ -20,5 +21,6 @@ pub use limits::{
 };
 pub use node::{Node, TemplateFault};
 pub use operators::{EffectiveRange, Operators, Spec};
+pub use run::Run;
 pub use template::Template;
 pub use walk::{Step, Walk, WalkFault};

@@ -9,6 +9,7 @@ ghost use Rattle.bufr_expand.specs.OperatorsInForce.{factor_spec};
 use crate::limits::MOST_ITEMS;
 use crate::node::Node;
 use crate::operators::{Operators, Spec, untouched};
+use crate::run::{Run, turns_run};
 use crate::standing::{Asked, Open, State};
 use crate::template::Template;
 use bufr_answers::OutOfMemory;
@@ -67,6 +68,8 @@ impl<'t> Walk<'t> {
     ghost use Rattle.bufr_expand.specs.Courses.{course, ends, stops, asks, asks_if};
     ghost use Rattle.bufr_expand.specs.Walks.{left, waits, items_met, steps_left, going, told};
     ghost use Rattle.bufr_expand.specs.Walks.{turns_then, behind_all, Goes, Counted, IsBelowCount};
+    ghost use Rattle.bufr_expand.specs.Walks.{tree_between};
+    ghost use Rattle.bufr_expand.specs.Runs.{PassesRun, TurnsRun, IsInnermost};
     ghost use Rattle.bufr_expand.specs.declared.standing.State.TheVariants.{Going};
 
     /// At the front of a template, after so many items of the message. It takes the room for all
@@ -128,6 +131,27 @@ impl<'t> Walk<'t> {
                 Some(from) => self.enter(n, from),
             }
         }
+    }
+
+    /// Passes all turns that are left of a replication at once, where the next one of them is what
+    /// comes next, each has the same fields whatever the data are, and these have at most so many
+    /// bits in all. It answers how many fields, items and bits these turns have; else the walk stays
+    /// where it is.
+    pub fn pass_turns(&mut self, most: u128) -> Option<Run>
+        requires { waits self.old ≡ false }
+        ensures passed { IfSome result (λ run. PassesRun self.old run self.new) }
+        ensures enough { IfSome result (λ run. run.bits ≤ most) }
+        ensures unmoved { IfNone result (self.new ≡ self.old) }
+    {
+        let (turn, run) = self.turns_ahead()?;
+        if run.bits > most {
+            return None;
+        }
+        self.loops.pop();
+        self.items += run.items;
+        self.place = turn.to;
+        self.stop = turn.stop;
+        Some(run)
     }
 
     /// The items of the message by now: what a refused step met counts too.
@@ -216,6 +240,40 @@ impl<'t> Walk<'t> {
         self.place = turn.from;
         self.stop = turn.to;
         None
+    }
+
+    /// The innermost replication that is open and the run of all its turns that are left, one at
+    /// least, where the next one of them comes next and the message has room for their items.
+    fn turns_ahead(&self) -> Option<(Open, Run)>
+        ensures innermost { IfSome result (λ found. IsInnermost self.now found.0) }
+        ensures room { IfSome result (λ found. self.now.items + found.1.items ≤ most_items) }
+        ensures some { IfSome result (λ found. 0 < found.1.items) }
+        ensures turns { IfSome result (λ found. TurnsRun found.0.turns
+            (tree_between self.now.nodes.now found.0.from found.0.to) self.now.operators found.1) }
+    {
+        let turn = self.innermost()?;
+        if turn.turns == 0 || self.items > MOST_ITEMS {
+            return None;
+        }
+        let body = &self.nodes[turn.from..turn.to];
+        let run = turns_run(turn.turns, body, &self.operators)?;
+        if run.items > MOST_ITEMS - self.items {
+            return None;
+        }
+        Some((turn, run))
+    }
+
+    /// The innermost replication that is open, where the nodes at hand are passed.
+    fn innermost(&self) -> Option<Open>
+        ensures innermost { IfSome result (λ turn. IsInnermost self.now turn) }
+        ensures order { IfSome result (λ turn. turn.from ≤ turn.to) }
+        ensures within { IfSome result (λ turn. turn.to ≤ length self.now.nodes.now) }
+    {
+        if self.state != State::Going || self.place < self.stop {
+            return None;
+        }
+        let turn = *self.loops.last()?;
+        Some(turn)
     }
 
     /// Stops at a fault.

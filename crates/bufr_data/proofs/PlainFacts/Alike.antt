@@ -1,6 +1,8 @@
--- Plain subsets that are alike are passed by their bits alone (`PlainSubsets::index`).
+-- Plain subsets that are alike, and turns of a replication that are, are passed by their bits alone
+-- (`PlainSubsets::index`).
 use Rattle.std.proofs.Common.{◌≡◌, ℕ, ◌+◌, ◌*◌, ◌/◌, ◌≤◌, Bool, false, List, [], ◌∷◌, ◌++◌, length}
-use Rattle.std.proofs.Common.{drop, Ok, refl, sym, ap, subst, ◌∙◌, arith}
+use Rattle.std.proofs.Common.{drop, Result, Ok, Err, refl, sym, ap, subst, ◌∙◌, inl, inr, arith}
+use Rattle.std.proofs.lemmas.Bool.{cases_Bool}
 use Rattle.std.proofs.lemmas.List.{drop-drop, length-drop}
 use Rattle.bufr_tables.specs.declared.element.Kind.TheVariants as kinds
 use Rattle.bufr_tables.specs.Elements.{same_kind}
@@ -12,16 +14,22 @@ use Rattle.bufr_expand.specs.Trees.{Tree}
 use Rattle.bufr_expand.specs.Unrolling.{Told, After, Allows, Unrolls}
 use Rattle.bufr_expand.specs.Limits.{most_items}
 use Rattle.bufr_expand.specs.Steady.{IsSteady, course_steady}
-use Rattle.bufr_expand.specs.Walks.{left, Goes}
+use Rattle.bufr_expand.specs.declared.run.Run.{Run}
+use Rattle.bufr_expand.specs.Runs.{HasWidth, AddUp, PassesRun, after_joined}
+use Rattle.bufr_expand.specs.Walks.{left, items_met, Goes}
 use Rattle.bufr_data.specs.declared.plain.alike.Alike.{Alike}
 use Rattle.bufr_data.specs.declared.field.Field.{Field}
 use Rattle.bufr_data.specs.Plain.Alike.{TakesBits, TakeAll, IsAlike}
-use Rattle.bufr_data.specs.Plain.{number_of, fields_at}
+use Rattle.bufr_data.specs.declared.fault.ReadFault.{ReadFault}
+use Rattle.bufr_data.specs.FormLaws.{same_kind_is}
+use Rattle.bufr_data.specs.Steady.{IsReady, WalkAdvances}
+use Rattle.bufr_data.specs.Plain.{SubsetRead, number_of, fields_at}
 use Rattle.bufr_data.specs.Plain.Reads.{behind_fields}
-use Rattle.bufr_data.specs.Plain.Starts.{PassesSubset}
+use Rattle.bufr_data.specs.Plain.Starts.{PassesFields, PassesSubset}
 use Rattle.bufr_data.specs.StepLaws.{asks_field}
 use Rattle.bufr_data.proofs.PlainFacts.Passed.{text_passes, text_ends, number_passes, number_ends}
-use Rattle.bufr_data.proofs.PlainFacts.Reads.{asked_field, found_is}
+use Rattle.bufr_data.proofs.PlainFacts.Reads.{asked_field, found_is, behind_none}
+use Rattle.bufr_data.proofs.KindFacts.{kinds_differ}
 
 -- ---- the bits of one field
 
@@ -47,30 +55,18 @@ number_takes spec b other few size = record {
 abbrev pub untold : ℕ → Spec → Told
 untold d spec = record { fxy = d; spec = spec; number = 0 }
 
--- a course asks for one field more, which is no count
-after_more : (c : Course) (fields : List Told) (met d : ℕ) (spec : Spec) (more : ℕ → Course)
-    → After c fields (asks met d spec more) → After c (fields ++ untold d spec ∷ []) (more 0)
+-- a field for which a course asks
+one_asked : (met d : ℕ) (spec : Spec) (more : ℕ → Course)
+    → After (asks met d spec more) (untold d spec ∷ []) (more 0)
 unfolding After
-after_more c [] met d spec more h =
-    subst (λ x. After x (untold d spec ∷ []) (more 0)) (sym h) (refl, refl, refl)
-after_more (ends n) (f ∷ fields) met d spec more h = absurd h
-after_more (stops n fault) (f ∷ fields) met d spec more h = absurd h
-after_more (asks m e s next) (f ∷ fields) met d spec more h =
-    (h.0, h.1, after_more (next f.number) fields met d spec more h.2)
+one_asked met d spec more = (refl, refl, refl)
 
--- so many bits more are taken
-take_more : (fields : List Told) (bits d : ℕ) (spec : Spec) (own : ℕ)
-    → same_kind spec.kind kinds.Count ≡ false → TakesBits spec own → TakeAll fields bits
-    → TakeAll (fields ++ untold d spec ∷ []) (bits + own)
-take_more [] bits d spec own kind takes all = (own, 0, kind, takes, refl, omega (arith, all))
-take_more (f ∷ fields) bits d spec own kind takes all = (
-  all.0,
-  all.1 + own,
-  all.2,
-  all.3,
-  take_more fields all.1 d spec own kind takes all.4,
-  omega (arith, all.5),
-)
+-- the bits of fields behind fields
+take_joined : (xs ys : List Told) (a b c : ℕ) → c ≡ a + b → TakeAll xs a → TakeAll ys b
+    → TakeAll (xs ++ ys) c
+take_joined [] ys a b c sum h g = let same : b ≡ c = omega (arith, sum, h) in subst (TakeAll ys) same g
+take_joined (x ∷ xs) ys a b c sum h g =
+    (h.0, h.1 + b, h.2, h.3, take_joined xs ys h.1 b (h.1 + b) refl h.4 g, omega (arith, sum, h.5))
 
 -- the fields so far take so many bits, and the walk is behind them
 pub record Measured (c : Course) (bits : ℕ) (later : Course) : Type 0 where
@@ -83,39 +79,60 @@ pub none_measured : (c later : Course) → later ≡ c → Measured c 0 later
 unfolding After
 none_measured c later is = record { fields = []; behind = sym is; taken = refl }
 
+-- fields more
+more_measured : (c d e : Course) (bits own grown : ℕ) → grown ≡ bits + own → Measured c bits d
+    → Measured d own e → Measured c grown e
+more_measured c d e bits own grown sum m n = record {
+  fields = m.fields ++ n.fields;
+  behind = after_joined c d e m.fields n.fields m.behind n.behind;
+  taken = take_joined m.fields n.fields bits own grown sum m.taken n.taken;
+}
+
 -- one field more
 pub one_measured : (c : Course) (old new : Walk) (bits grown own d : ℕ) (spec : Spec)
     → grown ≡ bits + own → Goes (left old) (Ok (steps.Field d spec)) new → TakesBits spec own
     → Measured c bits (left old) → Measured c grown (left new)
 one_measured c old new bits grown own d spec sum goes takes m =
     let a = asks_field (left old) d spec new goes in
-    let behind = subst (After c m.fields) a.is m.behind in
-    record {
-      fields = m.fields ++ untold d spec ∷ [];
-      behind =
-          subst (After c (m.fields ++ untold d spec ∷ [])) (sym a.after)
-          (after_more c m.fields a.met d spec a.more behind);
-      taken =
-          subst (TakeAll (m.fields ++ untold d spec ∷ [])) (sym sum)
-          (take_more m.fields bits d spec own a.kind takes m.taken);
-    }
+    let P : Course → Course → Type 0 = λ x y. After x (untold d spec ∷ []) y in
+    let asked : P (left old) (a.more 0) =
+    subst (λ x. P x (a.more 0)) (sym a.is) (one_asked a.met d spec a.more) in
+    more_measured c (left old) (left new) bits own grown sum m (record {
+      fields = untold d spec ∷ [];
+      behind = subst (P (left old)) (sym a.after) asked;
+      taken = (own, 0, a.kind, takes, refl, omega arith);
+    })
 
 -- ---- bits that hold a subset
 
--- the fields that a steady course allows, none a count, are passed where their bits are there
-fields_pass : (used met i : ℕ) (c : Course) (fields : List Told) (bits : ℕ) (front : List Bool)
-    → IsSteady used c → Allows c fields met → TakeAll fields bits → bits ≤ length front
-    → PassesSubset (fields_at 1 i c front) met (drop bits front)
-unfolding After IsSteady fields_at
-fields_pass used met i c [] bits front steady allowed taken enough = ([], rw (allowed, taken) refl)
-fields_pass used met i (ends n) (f ∷ fields) bits front steady allowed taken enough = absurd allowed
-fields_pass used met i (stops n fault) (f ∷ fields) bits front steady allowed taken enough =
-    absurd allowed
-fields_pass used met i (asks m d spec more) (f ∷ fields) bits front steady allowed taken enough =
+-- one field more in front of others
+in_front_of : (field : Field) (fields : List Field) (o : Result SubsetRead ReadFault)
+    → behind_fields (field ∷ []) (behind_fields fields o) ≡ behind_fields (field ∷ fields) o
+in_front_of field fields (Ok found) = refl
+in_front_of field fields (Err e) = refl
+
+-- the fields for which a steady course asks, none a count, are passed where their bits are there
+asked_pass : (used i : ℕ) (c later : Course) (fields : List Told) (bits : ℕ) (front : List Bool)
+    → IsSteady used c → After c fields later → TakeAll fields bits → bits ≤ length front
+    → (read : List Field) × (fields_at 1 i c front
+    ≡ behind_fields read (fields_at 1 (i + length fields) later (drop bits front)))
+unfolding After IsSteady
+asked_pass used i c later [] bits front steady asked taken enough =
+    let same : i ≡ i + 0 = omega arith in (
+      [],
+      ap (λ x. fields_at 1 i x front) asked
+          ∙ ap (λ n. fields_at 1 n later front) same
+          ∙ ap (λ n. fields_at 1 (i + 0) later (drop n front)) (sym taken)
+          ∙ behind_none _,
+    )
+asked_pass used i (ends n) later (f ∷ fields) bits front steady asked taken enough = absurd asked
+asked_pass used i (stops n fault) later (f ∷ fields) bits front steady asked taken enough =
+    absurd asked
+asked_pass used i (asks m d spec more) later (f ∷ fields) bits front steady asked taken enough =
     let own = taken.0 in
     let kind : same_kind spec.kind kinds.Count ≡ false =
-    subst (λ (s : Spec). same_kind s.kind kinds.Count ≡ false) allowed.1 taken.2 in
-    let takes : TakesBits spec own = subst (λ (s : Spec). TakesBits s own) allowed.1 taken.3 in
+    subst (λ (s : Spec). same_kind s.kind kinds.Count ≡ false) asked.1 taken.2 in
+    let takes : TakesBits spec own = subst (λ (s : Spec). TakesBits s own) asked.1 taken.3 in
     let p = takes.there i front (omega (arith, taken.5, enough)) in
     let field : Field = record { fxy = d; spec = spec; raw = p.0 } in
     let same : more (number_of p.0) ≡ more f.number =
@@ -123,16 +140,88 @@ fields_pass used met i (asks m d spec more) (f ∷ fields) bits front steady all
     let size : taken.1 ≤ length (drop own front) =
     omega (arith, length-drop own front, taken.5, enough) in
     let others =
-    fields_pass m met (i + 1) (more f.number) fields taken.1 (drop own front)
-    (steady.3 f.number) allowed.2 taken.4 size in
+    asked_pass m (i + 1) (more f.number) later fields taken.1 (drop own front)
+    (steady.3 f.number) asked.2 taken.4 size in
     let rest : drop taken.1 (drop own front) ≡ drop bits front =
-    drop-drop taken.1 own front ∙ ap (λ n. drop n front) (sym taken.5) in (
+    drop-drop taken.1 own front ∙ ap (λ n. drop n front) (sym taken.5) in
+    let index : i + 1 + length fields ≡ i + length (f ∷ fields) = omega arith in (
       field ∷ others.0,
       asked_field 1 i m d spec more front (drop own front) p.0 (found_is 1 i _ _ p.1)
           ∙ ap (λ c. behind_fields (field ∷ []) (fields_at 1 (i + 1) c (drop own front))) same
           ∙ ap (behind_fields (field ∷ [])) others.1
-          ∙ ap (λ xs. Ok (record { fields = field ∷ others.0; items = met; rest = xs })) rest,
+          ∙ in_front_of field others.0 _
+          ∙ ap (λ n. behind_fields (field ∷ others.0)
+          (fields_at 1 n later (drop taken.1 (drop own front)))) index
+          ∙ ap (λ xs. behind_fields (field ∷ others.0)
+          (fields_at 1 (i + length (f ∷ fields)) later xs)) rest,
     )
+
+-- those up to the end of the course too
+fields_pass : (used met i : ℕ) (c : Course) (fields : List Told) (bits : ℕ) (front : List Bool)
+    → IsSteady used c → Allows c fields met → TakeAll fields bits → bits ≤ length front
+    → PassesSubset (fields_at 1 i c front) met (drop bits front)
+unfolding fields_at
+fields_pass used met i c fields bits front steady allowed taken enough =
+    let p = asked_pass used i c (ends met) fields bits front steady allowed taken enough in
+    (p.0 ++ [], p.1)
+
+-- ---- turns that are passed at once
+
+-- a field that has its width in bits takes just these
+width_takes : (spec : Spec) → HasWidth spec → TakesBits spec spec.width
+width_takes spec has =
+    elim (cases_Bool (same_kind spec.kind kinds.Text)) [
+      | inl e ↦
+          let is = same_kind_is spec.kind kinds.Text e in
+          let whole = has.whole_octets is in
+          let size : spec.width ≡ 8 * (spec.width / 8) = omega (arith, whole) in
+          text_takes spec spec.width (spec.width / 8) is size refl
+      | inr e ↦
+          let other = kinds_differ spec.kind kinds.Text e in
+          let few : spec.width ≤ 64 = omega (arith, has.few_bits other) in
+          number_takes spec spec.width other few refl
+    ]
+
+-- so fields whose widths add up take these bits
+widths_take : (fields : List Told) (bits : ℕ) → AddUp fields bits → TakeAll fields bits
+unfolding AddUp
+widths_take [] bits h = h
+widths_take (f ∷ fields) bits h =
+    (f.spec.width, h.0, h.1.no_count, width_takes f.spec h.1, widths_take fields h.0 h.2, h.3)
+
+-- the fields of turns that a walk has passed at once, behind those before
+pub turns_measured : (c : Course) (old new : Walk) (run : Run) (bits grown : ℕ)
+    → grown ≡ bits + run.bits → PassesRun old run new → Measured c bits (left old)
+    → Measured c grown (left new)
+turns_measured c old new run bits grown sum passed m =
+    more_measured c (left old) (left new) bits run.bits grown sum m (record {
+      fields = passed.leads.fields;
+      behind = passed.leads.asked;
+      taken = widths_take _ _ passed.leads.bits_are;
+    })
+
+-- turns that a walk has passed at once are passed in bits that hold them
+pub turns_pass : (old new : Walk) (run : Run) (front rest : List Bool) → IsReady old
+    → PassesRun old run new → run.bits ≤ length front → rest ≡ drop run.bits front
+    → PassesFields run.fields (left old) front (left new) rest
+turns_pass old new run front rest ready passed enough behind i =
+    let p =
+    asked_pass (items_met old) i (left old) (left new) passed.leads.fields run.bits front
+    ready.steady passed.leads.asked (widths_take _ _ passed.leads.bits_are) enough in (
+      p.0,
+      p.1
+          ∙ ap (λ n. behind_fields p.0 (fields_at 1 (i + n) (left new) (drop run.bits front)))
+          passed.leads.fields_are
+          ∙ ap (λ xs. behind_fields p.0 (fields_at 1 (i + run.fields) (left new) xs)) (sym behind),
+    )
+
+-- and the walk has met an item more at least, and can go on
+pub turns_advance : (old new : Walk) (run : Run) → PassesRun old run new → WalkAdvances old new
+turns_advance old new run passed = record {
+  ready = record { answered = passed.answered; steady = passed.steady };
+  further = omega (arith, passed.items_are, passed.some_item);
+  within = passed.within;
+}
 
 -- a subset of a tree all of whose subsets are alike is passed where its bits are there and its
 -- items have room, by the laws of unrollings

@@ -16,9 +16,9 @@ use Rattle.bufr_expand.specs.Courses.{Course}
 use Rattle.bufr_data.specs.declared.field.Field.{Field}
 use Rattle.bufr_data.specs.Plain.{SubsetRead, raw_at, field_number_at, fields_at}
 use Rattle.bufr_data.specs.Plain.Reads.{raw_or_ends, behind_fields}
-use Rattle.bufr_data.specs.Plain.Starts.{PassesRaw, PassesField}
+use Rattle.bufr_data.specs.Plain.Starts.{PassesRaw, PassesOn}
 use Rattle.bufr_data.proofs.KindFacts.{other_kind}
-use Rattle.bufr_data.proofs.PlainFacts.Reads.{behind_more}
+use Rattle.bufr_data.proofs.PlainFacts.Reads.{behind_both}
 use Rattle.bufr_data.proofs.CompressedFacts.Passed.{number_raw, minimum_there, octets_none, text_raw}
 
 -- ---- one raw value
@@ -115,15 +115,14 @@ number_ends i spec front b other few size short =
 
 -- ---- field after field
 
--- one field more was passed
-pub one_passed : (whole : Result SubsetRead ReadFault) (i j : ℕ) (c next : Course)
-    (front rest : List Bool) (items : ℕ) → j ≡ i + 1
+-- fields were passed
+pub more_passed : (whole : Result SubsetRead ReadFault) (i next : ℕ) (c later : Course)
+    (front rest : List Bool) (items : ℕ)
     → (fields : List Field) × (whole ≡ behind_fields fields (fields_at 1 i c front))
-    → PassesField i c front true next items rest
-    → (fields : List Field) × (whole ≡ behind_fields fields (fields_at 1 j next rest))
-one_passed whole i j c next front rest items index so_far step = (
-  so_far.0 ++ step.0 ∷ [],
+    → PassesOn i c front (Some next) later items rest
+    → (fields : List Field) × (whole ≡ behind_fields fields (fields_at 1 next later rest))
+more_passed whole i next c later front rest items so_far step = (
+  so_far.0 ++ step.0,
   so_far.1 ∙ ap (behind_fields so_far.0) step.1
-      ∙ behind_more so_far.0 step.0 (fields_at 1 (i + 1) next rest)
-      ∙ ap (λ n. behind_fields (so_far.0 ++ step.0 ∷ []) (fields_at 1 n next rest)) (sym index),
+      ∙ behind_both so_far.0 step.0 (fields_at 1 next later rest),
 )

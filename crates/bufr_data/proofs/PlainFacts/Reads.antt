@@ -109,13 +109,17 @@ pub behind_none : (o : Result SubsetRead ReadFault) → o ≡ behind_fields [] o
 behind_none (Ok found) = refl
 behind_none (Err e) = refl
 
+-- fields behind those before
+pub behind_both : (fields others : List Field) (o : Result SubsetRead ReadFault)
+    → behind_fields fields (behind_fields others o) ≡ behind_fields (fields ++ others) o
+behind_both fields others (Ok found) =
+    ap (λ fs. Ok (record found { fields = fs })) (sym (append_assoc fields others found.fields))
+behind_both fields others (Err e) = refl
+
 -- one more field behind those before
 pub behind_more : (fields : List Field) (field : Field) (o : Result SubsetRead ReadFault)
     → behind_fields fields (behind_fields (field ∷ []) o) ≡ behind_fields (fields ++ field ∷ []) o
-behind_more fields field (Ok found) =
-    ap (λ fs. Ok (record found { fields = fs }))
-    (sym (append_assoc fields (field ∷ []) found.fields))
-behind_more fields field (Err e) = refl
+behind_more fields field o = behind_both fields (field ∷ []) o
 
 -- one field more was read
 pub fields_read : (fields grown : List Field) (field : Field) (whole : Result SubsetRead ReadFault)

@@ -1,7 +1,7 @@
 -- Plain data that are indexed: where each subset begins, and its fields there (FM 94 BUFR,
 -- regulations 94.1.3 and 94.5).
 use Rattle.std.specs.Prelude.{◌≡◌, ℕ, ◌+◌, ◌*◌, ◌≤◌, Bool, true, false, List, [], ◌∷◌, drop, length}
-use Rattle.std.specs.Prelude.{Result, Ok, Err, IsOk}
+use Rattle.std.specs.Prelude.{Option, Some, None, Result, Ok, Err, IsOk}
 use Rattle.std.specs.List.{AllByRecursion}
 use Rattle.bufr_bits.specs.Bits.{bits}
 use Rattle.bufr_expand.specs.declared.operators.Spec.{Spec}
@@ -28,6 +28,19 @@ PassesField i course front true after items rest =
     (field : Field)
     × (fields_at 1 i course front ≡ behind_fields (field ∷ []) (fields_at 1 (i + 1) after rest))
 PassesField i course front false after items rest =
+    fields_at 1 i course front ≡ Ok (record { fields = []; items = items; rest = rest })
+
+-- so many fields were passed, the first of which may be any of the subset
+abbrev pub PassesFields : ℕ → Course → List Bool → Course → List Bool → Type 0
+PassesFields count course front after rest = (i : ℕ) → (fields : List Field)
+    × (fields_at 1 i course front ≡ behind_fields fields (fields_at 1 (i + count) after rest))
+
+-- the fields from field i of the subset on were passed, up to the next one that is told; or there
+-- is no field i, and the message has met so many items
+abbrev pub PassesOn : ℕ → Course → List Bool → Option ℕ → Course → ℕ → List Bool → Type 0
+PassesOn i course front (Some next) after items rest = (fields : List Field)
+    × (fields_at 1 i course front ≡ behind_fields fields (fields_at 1 next after rest))
+PassesOn i course front None after items rest =
     fields_at 1 i course front ≡ Ok (record { fields = []; items = items; rest = rest })
 
 -- a subset was passed: there are fields with which the message has met so many items, and these

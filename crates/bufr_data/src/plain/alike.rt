@@ -43,6 +43,10 @@ impl Likeness {
         let mut walk = Walk::start(alloc, template, 0)?;
         let mut bits = 0;
         loop {
+            if let Some(run) = walk.pass_turns(most - bits) {
+                bits += run.bits;
+                continue;
+            }
             match walk.next() {
                 Ok(Step::Field(_, spec)) => match bits_of(spec) {
                     Some(more) if more <= most - bits => bits += more,

@@ -1,7 +1,7 @@
 //! Moving past one plain subset, of which only the counts are read.
 
-ghost use Rattle.std.specs.Prelude.{◌≡◌, ◌≤◌, true, Ok, Err, IfOk, IfErr, OnOk, IfSome};
-ghost use Rattle.std.specs.Prelude.{IfNone};
+ghost use Rattle.std.specs.Prelude.{◌≡◌, ◌+◌, ◌≤◌, true, Ok, Err, IfOk, IfErr, OnOk, IfSome};
+ghost use Rattle.std.specs.Prelude.{IfNone, OnSome};
 ghost use Rattle.std.specs.Bool.{OnTrue};
 ghost use Rattle.bufr_bits.specs.Ends.{left};
 ghost use Rattle.bufr_answers.specs.Answers.{Fails};
@@ -13,7 +13,8 @@ ghost use Rattle.bufr_data.specs.declared.field.Raw.TheVariants.{Number};
 ghost use Rattle.bufr_data.specs.Plain.Alike.{TakesBits, NoBitsHold};
 ghost use Rattle.bufr_data.specs.Plain.{raw_at, fields_at};
 ghost use Rattle.bufr_data.specs.Plain.Reads.{raw_or_ends};
-ghost use Rattle.bufr_data.specs.Plain.Starts.{PassesRaw, PassesField, PassesSubset};
+ghost use Rattle.bufr_data.specs.Plain.Starts.{PassesRaw, PassesField, PassesFields, PassesOn};
+ghost use Rattle.bufr_data.specs.Plain.Starts.{PassesSubset};
 ghost use Rattle.bufr_data.specs.Steady.{IsReady, WalkAdvances};
 
 use crate::fault::ReadFault;
@@ -44,12 +45,57 @@ pub(crate) fn pass_subset(
     let mut walk = Walk::start(alloc, template, used)?;
     let mut i = 1;
     loop {
-        match pass_field(&mut walk, reader, i) {
+        match pass_next(&mut walk, reader, i) {
             Err(fault) => return Err(Failure::Fault(fault)),
-            Ok(false) => return Ok(walk.items()),
-            Ok(true) => i += 1,
+            Ok(None) => return Ok(walk.items()),
+            Ok(Some(next)) => i = next,
         }
     }
+}
+
+/// Moves past all turns that are left of a replication, where they can be passed at once, and else
+/// past field `i` of the subset. It answers the number of the next field, or that there is no field
+/// `i`.
+fn pass_next(walk: &mut Walk, reader: &mut BitReader, i: u64) -> Result<Option<u64>, ReadFault>
+    requires ready { IsReady walk.old }
+    requires counted { i ≤ walks.items_met walk.old + 1 }
+    ensures ok { IfOk result (λ next. PassesOn i (walks.left walk.old) (left reader.old) next
+        (walks.left walk.new) (walks.items_met walk.new) (left reader.new)) }
+    ensures advances { IfOk result (λ next. OnSome next (WalkAdvances walk.old walk.new)) }
+    ensures counted { IfOk result (λ next. IfSome next (λ n.
+        n ≤ walks.items_met walk.new + 1)) }
+    ensures err { IfErr result (λ fault.
+        fields_at 1 i (walks.left walk.old) (left reader.old) ≡ Err fault) }
+    ensures octets { reader.new.octets ≡ reader.old.octets }
+    ensures onward { reader.old.place ≤ reader.new.place }
+{
+    if let Some(fields) = pass_turns(walk, reader) {
+        return Ok(Some(i + fields));
+    }
+    match pass_field(walk, reader, i) {
+        Err(fault) => Err(fault),
+        Ok(false) => Ok(None),
+        Ok(true) => Ok(Some(i + 1)),
+    }
+}
+
+/// Moves past all turns that are left of a replication, where these are what comes next, each has
+/// the same fields whatever the data are, and all their bits are there. It answers how many fields
+/// they have; else the walk and the reader stay where they are.
+fn pass_turns(walk: &mut Walk, reader: &mut BitReader) -> Option<u64>
+    requires { IsReady walk.old }
+    ensures passed { IfSome result (λ fields. PassesFields fields (walks.left walk.old)
+        (left reader.old) (walks.left walk.new) (left reader.new)) }
+    ensures advances { OnSome result (WalkAdvances walk.old walk.new) }
+    ensures counted { IfSome result (λ fields.
+        walks.items_met walk.old + fields ≤ walks.items_met walk.new) }
+    ensures unmoved { IfNone result ((walk.new ≡ walk.old) × (reader.new ≡ reader.old)) }
+    ensures octets { reader.new.octets ≡ reader.old.octets }
+    ensures onward { reader.old.place ≤ reader.new.place }
+{
+    let run = walk.pass_turns(reader.left())?;
+    reader.pass(run.bits);
+    Some(run.fields)
 }
 
 /// Moves past field `i` of the subset, and answers whether there is one.

@@ -2,12 +2,12 @@
 use Rattle.std.proofs.Common.{refl, arith}
 use Rattle.bufr_data.proofs.StepFacts.{ready_there}
 use Rattle.bufr_data.specs.StepLaws.{field_goes_on}
-use Rattle.bufr_data.proofs.PlainFacts.Alike.{none_measured, one_measured}
+use Rattle.bufr_data.proofs.PlainFacts.Alike.{none_measured, one_measured, turns_measured}
 use Rattle.bufr_data.proofs.plain.alike.Likeness.within.Goals as goal
 
 -- at first the walk is at the front of the course, and there are no bits
-pub loop-spec-init : goal.loop-spec-init
-loop-spec-init c = record {
+pub loop-run-init : goal.loop-run-init
+loop-run-init c = record {
   ready = ready_there _ _ _ c.in_ok-walk.ensures.answered c.in_ok-walk.ensures.items
       c.in_ok-walk.ensures.course;
   few = omega arith;
@@ -16,22 +16,34 @@ loop-spec-init c = record {
 }
 
 -- behind a field the walk has met an item more
-pub loop-spec-smaller : goal.loop-spec-smaller
-loop-spec-smaller c =
-    let goes = rw c.in-Ok-Field.field-0-is at c.in-Ok-Field.ensures in
-    let on = field_goes_on _ _ _ _ c.loop-spec.invariant.ready goes in
-    omega (arith, on.further, on.within, c.loop-spec.invariant.limit)
+pub loop-run-smaller : goal.loop-run-smaller
+loop-run-smaller c =
+    let goes = rw (c.in-Ok-Field.field-0-is, c.in_default.ensures.unmoved) at c.in-Ok-Field.ensures in
+    let on = field_goes_on _ _ _ _ c.loop-run.invariant.ready goes in
+    omega (arith, on.further, on.within, c.loop-run.invariant.limit)
+
+-- turns that were passed at once take their bits, and the walk is behind them
+pub loop-run-preserved-in-Some : goal.loop-run-preserved-in-Some
+loop-run-preserved-in-Some c =
+    let passed = c.in-Some.ensures.passed in
+    record {
+      ready = record { answered = passed.answered; steady = passed.steady };
+      few = omega (arith, c.in-Some.ensures.enough, c.loop-run.invariant.few);
+      limit = passed.within;
+      so_far =
+          turns_measured _ _ _ c.in-Some.run' _ _ refl passed c.loop-run.invariant.so_far;
+    }
 
 -- one field more takes its bits, and the walk is behind it
-pub loop-spec-preserved : goal.loop-spec-preserved
-loop-spec-preserved c =
-    let goes = rw c.in-Ok-Field.field-0-is at c.in-Ok-Field.ensures in
-    let on = field_goes_on _ _ _ _ c.loop-spec.invariant.ready goes in
+pub loop-run-preserved : goal.loop-run-preserved
+loop-run-preserved c =
+    let goes = rw (c.in-Ok-Field.field-0-is, c.in_default.ensures.unmoved) at c.in-Ok-Field.ensures in
+    let on = field_goes_on _ _ _ _ c.loop-run.invariant.ready goes in
     record {
       ready = on.ready;
-      few = omega (arith, c.if-more-most.true, c.loop-spec.invariant.few);
+      few = omega (arith, c.if-more-most.true, c.loop-run.invariant.few);
       limit = on.within;
       so_far =
-          one_measured _ _ _ _ _ _ _ _ refl goes c.in-Some.ensures.takes
-          c.loop-spec.invariant.so_far;
+          one_measured _ _ _ _ _ _ _ _ refl goes c.in-Some-bits_of.ensures.takes
+          c.loop-run.invariant.so_far;
     }

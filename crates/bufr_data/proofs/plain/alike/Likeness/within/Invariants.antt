@@ -8,8 +8,8 @@ use Rattle.bufr_data.proofs.PlainFacts.Alike.{Measured}
 use Rattle.bufr_data.proofs.plain.alike.Likeness.within.Given as goal
 
 -- the fields so far take so many bits, at most as many as asked, and the walk can go on behind them
-abbrev pub invariant-loop-spec : goal.invariant-loop-spec
-invariant-loop-spec l = record {
+abbrev pub invariant-loop-run : goal.invariant-loop-run
+invariant-loop-run l = record {
   ready : IsReady l.walk;
   few : l.bits ≤ l.most;
   limit : walks.items_met l.walk ≤ most_items;
@@ -17,5 +17,5 @@ invariant-loop-spec l = record {
 }
 
 -- each turn meets an item more, and a message has only so many
-abbrev pub decreases-loop-spec : goal.decreases-loop-spec
-decreases-loop-spec l = most_items + 1 - walks.items_met l.walk
+abbrev pub decreases-loop-run : goal.decreases-loop-run
+decreases-loop-run l = most_items + 1 - walks.items_met l.walk

@@ -1,0 +1,375 @@
+-- Runs of fields: how they join, and which nodes and turns are runs, for `Walk::pass_turns`.
+use Rattle.std.proofs.Common.{◌≡◌, ℕ, zero, suc, ◌+◌, ◌*◌, ◌%◌, ◌<◌, ◌≤◌, false, List, [], ◌∷◌, ◌++◌}
+use Rattle.std.proofs.Common.{length, drop, take, min, Option, Some, None, refl, sym, ap, ◌∙◌, subst}
+use Rattle.std.proofs.Common.{length-append, inl, inr, arith}
+use Rattle.std.specs.Prelude.{IfSome}
+use Rattle.std.proofs.lemmas.List.{take_all, drop_all, take_more}
+use Rattle.std.proofs.lemmas.Option.{get_or_from_slice_get, slice_get_within}
+use Rattle.std.specs.List.{slice_get}
+use Rattle.std.proofs.Common.{◌-◌}
+use Rattle.std.proofs.lemmas.Bool.{cases_lt}
+use Rattle.bufr_tables.specs.declared.element.Element.{Element}
+use Rattle.bufr_tables.specs.declared.element.Kind.TheVariants as kinds
+use Rattle.bufr_tables.specs.Elements.{same_kind}
+use Rattle.bufr_expand.specs.declared.node.Node.{Node}
+use Rattle.bufr_expand.specs.declared.node.Node.TheVariants as nodes
+use Rattle.bufr_expand.specs.declared.operators.Operators.{Operators}
+use Rattle.bufr_expand.specs.declared.operators.Spec.{Spec}
+use Rattle.bufr_expand.specs.declared.run.Run.{Run}
+use Rattle.bufr_expand.specs.Limits.{most_items}
+use Rattle.bufr_expand.specs.OperatorsInForce.{effective, untouched}
+use Rattle.bufr_expand.specs.Effects.{IsTextSpec, IsAsRow, AsInTable, text, number, IsChanged}
+use Rattle.bufr_expand.specs.Effects.{Effective, of_text, changed, unchanged}
+use Rattle.bufr_expand.specs.Courses.{Course, ends, stops, asks, Then, item, asks_if, turns}
+use Rattle.bufr_expand.specs.Courses.{course_then}
+use Rattle.bufr_expand.specs.Trees as trees
+use Rattle.bufr_expand.specs.Trees.{Tree, tree_of, tree_within}
+use Rattle.bufr_expand.specs.Unrolling.{Told, After}
+use Rattle.bufr_expand.specs.Runs.{HasWidth, AddUp, Leads, no_run, joined_runs, turned_run}
+use Rattle.bufr_expand.specs.Runs.{behind_item, IsFieldRun, BeginsRun, TurnsRun, PassesRun}
+use Rattle.bufr_expand.specs.Runs.{IsInnermost, after_joined}
+use Rattle.bufr_expand.specs.declared.standing.Open.{Open}
+use Rattle.bufr_expand.specs.declared.standing.State.TheVariants.{Going}
+use Rattle.bufr_expand.specs.declared.walk.Walk.{Walk}
+use Rattle.bufr_expand.specs.Steady.{IsSteady, steady_turns, steady_then}
+use Rattle.bufr_expand.specs.Walks.{tree_between, rest_then, turns_then, behind, behind_all, going}
+use Rattle.bufr_expand.specs.Walks.{left, is_waiting, waits, items_met}
+use Rattle.bufr_expand.proofs.Between.{tree_of-repeated}
+use Rattle.bufr_expand.proofs.PassFacts.{item-below, left_going, entered}
+use Rattle.bufr_expand.proofs.SpecFacts.{in_table, effective_found}
+
+-- ---- from one course to another
+
+-- their bits add up
+bits_joined : (xs ys : List Told) (a b c : ℕ) → c ≡ a + b → AddUp xs a → AddUp ys b
+    → AddUp (xs ++ ys) c
+unfolding AddUp
+bits_joined [] ys a b c sum h g = let same : b ≡ c = omega (arith, sum, h) in subst (AddUp ys) same g
+bits_joined (x ∷ xs) ys a b c sum h g =
+    (h.0 + b, h.1, bits_joined xs ys h.0 b (h.0 + b) refl h.2 g, omega (arith, sum, h.3))
+
+-- one run behind another
+pub leads_joined : (c d e : Course) (r s t : Run) → t.fields ≡ r.fields + s.fields
+    → t.bits ≡ r.bits + s.bits → Leads c r d → Leads d s e → Leads c t e
+leads_joined c d e r s t fields bits h g = record {
+  fields = h.fields ++ g.fields;
+  asked = after_joined c d e h.fields g.fields h.asked g.asked;
+  fields_are =
+      omega (arith, length-append h.fields g.fields, h.fields_are, g.fields_are, fields);
+  bits_are = bits_joined h.fields g.fields r.bits s.bits t.bits bits h.bits_are g.bits_are;
+}
+
+-- no field
+pub leads_nowhere : (c d : Course) (r : Run) → r.fields ≡ 0 → r.bits ≡ 0 → c ≡ d → Leads c r d
+unfolding After AddUp
+leads_nowhere c d r fields bits is =
+    record { fields = []; asked = is; fields_are = sym fields; bits_are = bits }
+
+-- one field, whose number decides nothing
+leads_field : (met d : ℕ) (spec : Spec) (c later : Course) (r : Run) → r.fields ≡ 1
+    → r.bits ≡ spec.width → HasWidth spec → c ≡ asks met d spec (λ n. later) → Leads c r later
+unfolding After AddUp
+leads_field met d spec c later r fields bits has is = record {
+  fields = record { fxy = d; spec = spec; number = 0 } ∷ [];
+  asked =
+      subst (λ x. After x (record { fxy = d; spec = spec; number = 0 } ∷ []) later) (sym is)
+      (refl, refl, refl);
+  fields_are = sym fields;
+  bits_are = (0, has, refl, omega (arith, bits));
+}
+
+-- the same fields by another run that has as many, of as many bits
+leads_parts : (c d : Course) (r s : Run) → s.fields ≡ r.fields → s.bits ≡ r.bits → Leads c r d
+    → Leads c s d
+leads_parts c d r s fields bits h = record {
+  fields = h.fields;
+  asked = h.asked;
+  fields_are = h.fields_are ∙ sym fields;
+  bits_are = subst (AddUp h.fields) (sym bits) h.bits_are;
+}
+
+-- a run by an equal course in front, and an equal one behind
+leads_from : (b c d e : Course) (r : Run) → b ≡ c → d ≡ e → Leads c r d → Leads b r e
+leads_from b c d e r front back h =
+    subst (λ x. Leads x r e) (sym front) (subst (Leads c r) back h)
+
+-- the same run by its parts
+leads_as : (c d : Course) (r s : Run) → r ≡ s → Leads c r d → Leads c s d
+leads_as c d r s same h = subst (λ x. Leads c x d) same h
+
+-- ---- specs
+
+-- a text
+text_width : (spec : Spec) → IsTextSpec spec → HasWidth spec
+text_width spec h = record {
+  no_count = rw h.is_text refl;
+  whole_octets = λ is. h.whole_octets;
+  few_bits = λ not. absurd (not h.is_text);
+}
+
+-- a number as its row says
+row_width : (e : Element) (spec : Spec) → same_kind spec.kind kinds.Count ≡ false
+    → (e.kind ≡ kinds.Text → ⊥) → IsAsRow e spec → HasWidth spec
+row_width e spec kind not h = record {
+  no_count = kind;
+  whole_octets = λ is. absurd (not (sym h.kind_is ∙ is));
+  few_bits = λ other. h.within.few_bits;
+}
+
+-- a field that no operator changes
+table_width : (e : Element) (spec : Spec) → same_kind spec.kind kinds.Count ≡ false
+    → AsInTable e spec → HasWidth spec
+table_width e spec kind (text is same h) = text_width spec h
+table_width e spec kind (number not h) = row_width e spec kind not h
+
+-- a field under operators
+effective_width : (d : ℕ) (e : Element) (q : Operators) (spec : Spec)
+    → same_kind spec.kind kinds.Count ≡ false → Effective d e q spec → HasWidth spec
+effective_width d e q spec kind (of_text is bits h) = text_width spec h
+effective_width d e q spec kind (changed is class h) = record {
+  no_count = kind;
+  whole_octets = λ is. let no : kinds.Quantity ≡ kinds.Text = sym h.kind_is ∙ is in absurd cc;
+  few_bits = λ other. h.within.few_bits;
+}
+effective_width d e q spec kind (unchanged not class h) = row_width e spec kind not h
+
+-- ---- nodes
+
+-- no node
+pub begins_nowhere : (t : Tree) (q : Operators) → BeginsRun t q no_run t
+begins_nowhere t q = record {
+  few = omega arith;
+  leads = λ used after room.
+      let same : used ≡ used + 0 = omega arith in
+      leads_nowhere _ _ no_run refl refl (ap (λ n. course_then t q n after) same);
+}
+
+-- nodes behind nodes
+pub begins_joined : (a b c : Tree) (q : Operators) (r s t : Run) → t ≡ joined_runs r s
+    → BeginsRun a q r b → BeginsRun b q s c → BeginsRun a q t c
+begins_joined a b c q r s t is h g =
+    subst (λ x. BeginsRun a q x c) (sym is) (record {
+      few = omega (arith, h.few, g.few);
+      leads = λ used after room.
+          let same : used + r.items + s.items ≡ used + (r.items + s.items) = omega arith in
+          leads_joined _ _ _ r s (joined_runs r s) refl refl
+          (h.leads used after (omega (arith, room)))
+          (leads_from _ _ _ _ s refl (ap (λ n. course_then c q n after) same)
+          (g.leads (used + r.items) after (omega (arith, room))));
+    })
+
+-- one field, and the rest of the nodes
+field_leads : (d used : ℕ) (found : Option Spec) (later : Course) (r : Run)
+    → used < most_items → IsFieldRun found r → ((spec : Spec) → found ≡ Some spec → same_kind spec.kind kinds.Count ≡ false → HasWidth spec)
+    → Leads (item used (asks_if found (used + 1) d (λ n. later))) r later
+field_leads d used found later r room (spec, is, kind, same) has =
+    leads_as _ _ _ r (sym same)
+    (leads_field (used + 1) d spec _ later _ refl refl (has spec is kind)
+    (item-below used _ room ∙ ap (λ o. asks_if o (used + 1) d (λ n. later)) is))
+
+-- an element
+pub begins_element : (d : ℕ) (e : Element) (rest : List Node) (q : Operators) (r : Run)
+    → IsFieldRun (effective d e q) r
+    → BeginsRun (tree_of (nodes.Element d e ∷ rest)) q r (tree_of rest)
+unfolding tree_within course_then
+begins_element d e rest q r h = record {
+  few = let same = h.3 in rw same (omega arith);
+  leads = λ used after room.
+      let one : r.items ≡ 1 = ap (λ (x : Run). x.items) h.3 in
+      let next : used + 1 ≡ used + r.items = omega (arith, one) in
+      leads_from _ _ _ _ r refl (ap (λ n. course_then (tree_of rest) q n after) next)
+      (field_leads d used (effective d e q) (course_then (tree_of rest) q (used + 1) after) r
+      (omega (arith, one, room)) h
+      (λ spec is kind. effective_width d e q spec kind (effective_found d e q spec is)));
+}
+
+-- one that no operator changes
+pub begins_untouched : (d : ℕ) (e : Element) (rest : List Node) (q : Operators) (r : Run)
+    → IsFieldRun (untouched e) r
+    → BeginsRun (tree_of (nodes.Untouched d e ∷ rest)) q r (tree_of rest)
+unfolding tree_within course_then
+begins_untouched d e rest q r h = record {
+  few = let same = h.3 in rw same (omega arith);
+  leads = λ used after room.
+      let one : r.items ≡ 1 = ap (λ (x : Run). x.items) h.3 in
+      let next : used + 1 ≡ used + r.items = omega (arith, one) in
+      leads_from _ _ _ _ r refl (ap (λ n. course_then (tree_of rest) q n after) next)
+      (field_leads d used (untouched e) (course_then (tree_of rest) q (used + 1) after) r
+      (omega (arith, one, room)) h
+      (λ spec is kind. table_width e spec kind (in_table e spec is)));
+}
+
+-- ---- turns
+
+-- one turn and those behind it
+turn_items : (n b : ℕ) → suc n * (1 + b) ≡ 1 + b + n * (1 + b)
+turn_items n b = grind arith
+
+-- turns of a body that is a run
+turns_lead : (n : ℕ) (t : Tree) (q : Operators) (body : Run) → BeginsRun t q body trees.done
+    → (used : ℕ) (after : Then) → used + n * (1 + body.items) ≤ most_items
+    → Leads (turns n (course_then t) q used after) (turned_run n body)
+    (after q (used + n * (1 + body.items)))
+unfolding turns course_then
+turns_lead zero t q body h used after room =
+    let same : used ≡ used + 0 * (1 + body.items) = omega arith in
+    leads_nowhere _ _ (turned_run 0 body) (omega arith) (omega arith) (ap (after q) same)
+turns_lead (suc n) t q body h used after room =
+    let items = turn_items n body.items in
+    let others =
+    turns_lead n t q body h (used + 1 + body.items) after (omega (arith, items, room)) in
+    let next : used + 1 + body.items + n * (1 + body.items) ≡ used + suc n * (1 + body.items) =
+    omega (arith, items) in
+    leads_from _ _ _ _ _
+    (item-below used _ (omega (arith, items, room))) refl
+    (leads_joined _ _ _ body (turned_run n body) (turned_run (suc n) body)
+    (omega arith) (omega arith)
+    (h.leads (used + 1) _ (omega (arith, items, room)))
+    (leads_from _ _ _ _ _ refl (ap (after q) next) others))
+
+-- no more fields than items
+turns_few : (n f i : ℕ) → f ≤ i → n * f ≤ n * (1 + i)
+turns_few n f i h = grind arith
+
+-- each turn is an item
+turns_count : (n i : ℕ) → n ≤ n * (1 + i)
+turns_count n i = grind arith
+
+-- so turns of nodes are one
+pub turns_of_run : (n : ℕ) (t : Tree) (q : Operators) (body r : Run) → r ≡ turned_run n body
+    → BeginsRun t q body trees.done → TurnsRun n t q r
+turns_of_run n t q body r is h =
+    subst (TurnsRun n t q) (sym is)
+    (record {
+      few = turns_few n body.fields body.items h.few;
+      each_counts = turns_count n body.items;
+      leads = turns_lead n t q body h;
+    })
+
+-- if there is such a run
+pub if_turned : (n : ℕ) (t : Tree) (q : Operators) (body : Run) (found : Option Run)
+    → BeginsRun t q body trees.done → IfSome found (λ r. r ≡ turned_run n body)
+    → IfSome found (TurnsRun n t q)
+if_turned n t q body None h is = tt
+if_turned n t q body (Some r) h is = turns_of_run n t q body r is h
+
+-- ---- replications
+
+-- the nodes of a body, which ends with those that are there
+body_nodes : (len n : ℕ) (rest : List Node) → n ≡ min len (length rest)
+    → (take len rest ≡ take n rest) × (drop len rest ≡ drop n rest)
+body_nodes len n rest is =
+    elim (cases_lt (length rest) len) [
+      | inl s ↦ (
+        take_all len rest (omega arith) ∙ sym (take_all n rest (omega (arith, is))),
+        drop_all len rest (omega arith) ∙ sym (drop_all n rest (omega (arith, is))),
+      )
+      | inr s ↦
+          let same : len ≡ n = omega (arith, is) in
+          (ap (λ k. take k rest) same, ap (λ k. drop k rest) same)
+    ]
+
+-- the turns of a body, and the nodes behind it
+repeated_leads : (times : ℕ) (body rest : Tree) (q : Operators) (turned r : Run)
+    → r ≡ behind_item turned → TurnsRun times body q turned
+    → BeginsRun (trees.repeated times body rest) q r rest
+unfolding course_then
+repeated_leads times body rest q turned r is h =
+    subst (λ x. BeginsRun (trees.repeated times body rest) q x rest) (sym is) (record {
+      few = omega (arith, h.few);
+      leads = λ used after room.
+          let next : used + 1 + turned.items ≡ used + (1 + turned.items) = omega arith in
+          let below : used < most_items = omega (arith, room) in
+          leads_from _ _ _ _ (behind_item turned) (item-below used _ below)
+          (ap (λ n. course_then rest q n after) next)
+          (leads_parts _ _ turned (behind_item turned) refl refl
+          (h.leads (used + 1) (λ q used. course_then rest q used after)
+          (omega (arith, room))));
+    })
+
+-- a replication
+pub begins_repeated : (times len n : ℕ) (rest : List Node) (q : Operators) (turned r : Run)
+    → n ≡ min len (length rest) → r ≡ behind_item turned
+    → TurnsRun times (tree_of (take n rest)) q turned
+    → BeginsRun (tree_of (nodes.Repeated times len ∷ rest)) q r (tree_of (drop n rest))
+begins_repeated times len n rest q turned r size is h =
+    let parts = body_nodes len n rest size in
+    subst (λ t. BeginsRun t q r (tree_of (drop n rest)))
+    (sym (tree_of-repeated times len rest
+    ∙ ap (λ l. trees.repeated times (tree_of l) (tree_of (drop len rest))) parts.0
+    ∙ ap (λ l. trees.repeated times (tree_of (take n rest)) (tree_of l)) parts.1))
+    (repeated_leads times (tree_of (take n rest)) (tree_of (drop n rest)) q turned r is h)
+
+-- ---- all nodes
+
+-- the nodes that a loop has left
+pub begins_rest : (t : Tree) (q : Operators) (r : Run) (ns ms : List Node) → ns ≡ ms
+    → BeginsRun t q r (tree_of ns) → BeginsRun t q r (tree_of ms)
+begins_rest t q r ns ms is h = subst (λ l. BeginsRun t q r (tree_of l)) is h
+
+-- ---- walks
+
+-- the last of a list, and those before it
+pub last_apart : {A : Type 0} (xs : List A) (x : A) → slice_get xs (length xs - 1) ≡ Some x
+    → xs ≡ take (length xs - 1) xs ++ x ∷ []
+last_apart xs x is =
+    let inside = slice_get_within xs (length xs - 1) x is in
+    let all : length xs - 1 + 1 ≡ length xs = omega arith in
+    sym (take_all (length xs) xs (omega arith))
+    ∙ ap (λ n. take n xs) (sym all)
+    ∙ take_more xs (length xs - 1) x inside
+    ∙ ap (λ y. take (length xs - 1) xs ++ y ∷ []) (get_or_from_slice_get xs (length xs - 1) x x is)
+
+-- what comes after the nodes at hand is steady
+steady_behind : (ns : List Node) (os : List Open) (after : Then)
+    → ((q : Operators) (used : ℕ) → IsSteady used (after q used)) → (q : Operators) (used : ℕ)
+    → IsSteady used (behind ns os after q used)
+unfolding behind
+steady_behind ns [] after s q used = s q used
+steady_behind ns (o ∷ os) after s q used =
+    steady_behind ns os (turns_then ns o.turns o.from o.to o.stop after)
+    (λ q used. steady_turns o.turns (course_then (tree_between ns o.from o.to))
+    (steady_then (tree_between ns o.from o.to)) q used _
+    (λ q used. steady_then (tree_between ns o.to o.stop) q used after s)) q used
+
+-- so is what is left at a place
+pub steady_going : (ns : List Node) (place stop : ℕ) (os : List Open) (q : Operators) (used : ℕ)
+    → IsSteady used (going ns place stop os q used)
+unfolding IsSteady
+steady_going ns place stop os q used =
+    steady_then (tree_between ns place stop) q used (behind_all ns os)
+    (steady_behind ns os (λ q used. ends used) (λ q used. tt))
+
+-- what is left of a walk in front of turns leads to what is left behind them
+pub turns_passed : (w v : Walk) (turn : Open) (r : Run) → IsInnermost w turn
+    → w.items + r.items ≤ most_items
+    → TurnsRun turn.turns (tree_between w.nodes.now turn.from turn.to) w.operators r
+    → 0 < r.items → v.state ≡ Going → v.nodes.now ≡ w.nodes.now → v.place ≡ turn.to
+    → v.stop ≡ turn.stop → v.loops.items ≡ take (length w.loops.items - 1) w.loops.items
+    → v.operators ≡ w.operators → v.items ≡ w.items + r.items → PassesRun w r v
+unfolding waits items_met
+turns_passed w v turn r inner room h some goes nodes place stop loops operators items =
+    let os = take (length w.loops.items - 1) w.loops.items in
+    let later : left v ≡ going w.nodes.now turn.to turn.stop os w.operators (w.items + r.items) =
+    left_going v os goes loops
+    ∙ ap (λ ns. going ns v.place v.stop os v.operators v.items) nodes
+    ∙ ap (λ p. going w.nodes.now p v.stop os v.operators v.items) place
+    ∙ ap (λ p. going w.nodes.now turn.to p os v.operators v.items) stop
+    ∙ ap (λ q. going w.nodes.now turn.to turn.stop os q v.items) operators
+    ∙ ap (λ n. going w.nodes.now turn.to turn.stop os w.operators n) items in
+    record {
+      leads =
+          leads_from _ _ _ _ r
+          (entered w os turn inner.goes inner.loops_are inner.passed) (sym later)
+          (h.leads w.items (rest_then w.nodes.now turn.to turn.stop (behind_all w.nodes.now os))
+          room);
+      answered = ap is_waiting goes;
+      steady =
+          subst (λ n. IsSteady n (left v)) (sym items)
+          (subst (IsSteady (w.items + r.items)) (sym later)
+          (steady_going w.nodes.now turn.to turn.stop os w.operators (w.items + r.items)));
+      few = h.few;
+      some_item = some;
+      items_are = items;
+      within = omega (arith, items, room);
+    }

@@ -1,0 +1,28 @@
+-- For `Walk::innermost`: the last of the open replications has its body within the nodes.
+use Rattle.std.proofs.Common.{◌≡◌, ◌-◌, ◌≤◌, Some, length, sym, ap, ◌∙◌, subst, arith}
+use Rattle.std.specs.List.{slice_get}
+use Rattle.bufr_expand.specs.declared.standing.Open.{Open}
+use Rattle.bufr_expand.specs.declared.walk.Walk.{Walk}
+use Rattle.bufr_expand.proofs.LoopFacts.{open_fewer}
+use Rattle.bufr_expand.proofs.RunFacts.{last_apart}
+use Rattle.bufr_expand.proofs.walk.Walk.innermost.Goals as goal
+
+-- the body of the last open replication of a walk
+within : (w : Walk) (turn : Open)
+    → slice_get w.loops.items (length w.loops.items - 1) ≡ Some turn
+    → (turn.from ≤ turn.to) × (turn.to ≤ length w.nodes.now)
+within w turn is =
+    let s = open_fewer w.nodes.now _ w.loops.items turn (last_apart w.loops.items turn is)
+    w.in_bodies in (s.1.0.1, s.1.1.0)
+
+-- it begins in front of its end
+pub returns-clause-order : goal.returns-clause-order
+returns-clause-order c =
+    (within c.args.self.now c.in_ok-turn.field-0.now
+    (sym (rw c.deref.ensures.value at c.in_ok-turn.ensures.value))).0
+
+-- and ends within the nodes
+pub returns-clause-within : goal.returns-clause-within
+returns-clause-within c =
+    (within c.args.self.now c.in_ok-turn.field-0.now
+    (sym (rw c.deref.ensures.value at c.in_ok-turn.ensures.value))).1
