@@ -1,26 +1,26 @@
 -- Whole lines: what is printed of a frame is some, and so is what of it was written when memory ran
--- out. The contracts of `print_listing`, `print_judged` and all above need it, and so those of
+-- out. The contracts of `print_fields`, `print_judged` and all above need it, and so those of
 -- `run_show` and `run_check`.
 use Rattle.std.proofs.Common.{◌≡◌, ℕ, false, inl, inr, List, [], ◌∷◌, ◌++◌, codes, decimal, length}
-use Rattle.std.proofs.Common.{Result, Ok, Err, Option, Some, None, refl, sym, ap, ◌∙◌, subst}
+use Rattle.std.proofs.Common.{Result, Ok, Err, refl, sym, ap, ◌∙◌, subst}
 use Rattle.std.proofs.Common.{append_assoc}
 use Rattle.std.specs.List.{flat_map}
 use Rattle.std.proofs.lemmas.List.{append-nil}
 use Rattle.bufr_bits.specs.Devices.{Writing}
 use Rattle.bufr_tables.specs.Entries.{Entries}
 use Rattle.bufr_frame.specs.declared.frames.Found.{Found}
-use Rattle.bufr_listing.specs.Listings.{line, joined, subset_lines, lines_of, listing}
+use Rattle.bufr_listing.specs.Listings.{line, joined, field_line, lines_of, listing}
 use Rattle.bufr_message.specs.declared.Decoded.{Decoded}
+use Rattle.bufr_message.specs.declared.Field.{Field}
 use Rattle.bufr_message.specs.declared.Message.{Message}
 use Rattle.bufr_message.specs.declared.Refused.{Refused}
 use Rattle.bufr_message.specs.Messages.{message_of}
 use Rattle.bufr_message.specs.Reasons.{reason}
-use Rattle.bufr_message.specs.Views.{ListsSubset}
 use Rattle.bufr_tool.specs.declared.printing.Printing.{Printing}
 use Rattle.bufr_tool.specs.declared.printing.Printing.TheVariants.{Shown, Checked}
 use Rattle.bufr_io.specs.Engines.{WritesAll}
 use Rattle.bufr_io.specs.WritingLaws.{writes_none}
-use Rattle.bufr_tool.specs.Output.{place_and_length, printed_as, frame_text}
+use Rattle.bufr_tool.specs.Output.{fields_text, place_and_length, printed_as, frame_text}
 use Rattle.bufr_tool.specs.Lines.{AreWholeLines, WritesLines}
 
 -- ---- whole lines
@@ -53,10 +53,9 @@ all_whole f (x ∷ xs) each = both_whole (f x) (flat_map f xs) (each x) (all_who
 pub joined_whole : (ls : List (List ℕ)) → AreWholeLines (joined ls)
 joined_whole ls = all_whole line ls line_whole
 
--- the lines of what may stand in a place are whole
-pub listed_whole : (o : Option _) (text : List ℕ) → ListsSubset o text → AreWholeLines text
-listed_whole None text is = absurd is
-listed_whole (Some s) text is = subst AreWholeLines (sym is) (joined_whole (subset_lines s))
+-- the lines of fields are whole
+pub fields_whole : (fields : List Field) → AreWholeLines (fields_text fields)
+fields_whole fields = all_whole (λ f. line (field_line f)) fields (λ f. line_whole (field_line f))
 
 -- the listing of a message has whole lines
 listing_whole : (m : Message) → AreWholeLines (listing m)

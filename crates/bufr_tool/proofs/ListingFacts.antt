@@ -1,17 +1,28 @@
--- The listing of a message, subset by subset: the contract of `print_listing` needs it, and so that
--- of `run_show`.
-use Rattle.std.proofs.Common.{◌≡◌, ℕ, ◌+◌, ◌<◌, List, [], ◌∷◌, ◌++◌, length, take, drop, Option}
-use Rattle.std.proofs.Common.{Some, None, refl, sym, ap, ◌∙◌, append_assoc, take-append-drop}
+-- The listing of a message, subset by subset and field by field: the contracts of `print_fields`,
+-- `print_subset` and `print_listing` need it, and so that of `run_show`.
+use Rattle.std.proofs.Common.{◌≡◌, ℕ, ◌+◌, ◌-◌, ◌<◌, ◌≤◌, ◌⊎◌, false, inl, inr, List, [], ◌∷◌, ◌++◌, length, take}
+use Rattle.std.proofs.Common.{drop, Option, Some, None, Result, Ok, Err, refl, sym, ap, ◌∙◌, subst}
+use Rattle.std.proofs.Common.{append_assoc, take-append-drop, get_or, arith}
 use Rattle.std.specs.Prelude.{slice_get}
 use Rattle.std.specs.List.{flat_map}
 use Rattle.std.proofs.Math.Seq.{take-length}
-use Rattle.std.proofs.lemmas.List.{flat_map_more, take_more}
+use Rattle.std.proofs.lemmas.List.{append-nil, flat_map_more, take_more}
 use Rattle.std.proofs.lemmas.Grind.{flat_map-append}
-use Rattle.std.proofs.lemmas.Option.{get_or_from_slice_get}
-use Rattle.bufr_listing.specs.Listings.{line, joined, heading_of, heading_lines, subset_lines}
-use Rattle.bufr_listing.specs.Listings.{end_line, listing}
+use Rattle.std.proofs.lemmas.Option.{get_or_from_slice_get, slice_get_cases, slice_get_within}
+use Rattle.bufr_bits.specs.Devices.{Writing}
+use Rattle.bufr_listing.specs.Listings.{line, joined, heading_of, heading_lines, subset_line}
+use Rattle.bufr_listing.specs.Listings.{subset_lines, field_line, end_line, listing}
+use Rattle.bufr_message.specs.declared.Field.{Field}
 use Rattle.bufr_message.specs.declared.Message.{Message}
-use Rattle.bufr_message.specs.Views.{ListsSubset}
+use Rattle.bufr_message.specs.declared.Subset.{Subset}
+use Rattle.bufr_io.specs.declared.fault.ToolFault.{ToolFault}
+use Rattle.bufr_io.specs.declared.fault.ToolFault.TheVariants as faults
+use Rattle.bufr_tool.specs.declared.printer.Printer.{Printer}
+use Rattle.bufr_tool.specs.Lines.{AreWholeLines}
+use Rattle.bufr_tool.specs.Output.{fields_text}
+use Rattle.bufr_tool.specs.StreamEngines.{Adds, WritesAllBut}
+use Rattle.bufr_tool.proofs.LineFacts.{fields_whole, joined_whole, line_whole}
+use Rattle.bufr_tool.proofs.PartFacts.{adds_halts, adds_held, adds_longer, adds_then, but_all}
 
 -- that of the lines before the first subset
 abbrev heading_text : Message → List ℕ
@@ -63,23 +74,148 @@ one_more f xs i x before below at =
     (get_or_from_slice_get xs i x x at))
     ∙ sym (flat_map_more f before (take i xs) x)
 
--- the same of what may stand there, of which so much is known
-perhaps_more : {A : Type 0} (f : A → List ℕ) (P : Option A → List ℕ → Type 0)
-    → ((t : List ℕ) → P None t → ⊥)
-    → ((x : A) (t : List ℕ) → P (Some x) t → t ≡ f x)
-    → (xs : List A) (i : ℕ) (before lines : List ℕ) → i < length xs
-    → (o : Option A) → slice_get xs i ≡ o → P o lines
-    → before ++ flat_map f (take (i + 1) xs) ≡ (before ++ flat_map f (take i xs)) ++ lines
-perhaps_more f P none some xs i before lines below None at p = absurd (none lines p)
-perhaps_more f P none some xs i before lines below (Some x) at p =
-    one_more f xs i x before below at
-    ∙ ap (λ (t : List ℕ). (before ++ flat_map f (take i xs)) ++ t) (sym (some x lines p))
+-- there is a subset at each place below their number
+at_case : {A : Type 0} (xs : List A) (i : ℕ) → i < length xs
+    → ((x : A) × (i < length xs) × (slice_get xs i ≡ Some x) × (get_or xs i x ≡ x))
+    ⊎ ((length xs ≤ i) × (slice_get xs i ≡ None))
+    → (x : A) × (slice_get xs i ≡ Some x)
+at_case xs i below (inl there) = (there.0, there.2)
+at_case xs i below (inr past) = absurd (omega (arith, past.0))
+
+-- the same of subsets by their numbers, from 1
+pub subset_at : (m : Message) (i : ℕ) → i < length m.subsets
+    → (s : Subset) × (slice_get m.subsets (i + 1 - 1) ≡ Some s)
+subset_at m i below =
+    let back : i + 1 - 1 ≡ i = omega arith in
+    let there = at_case m.subsets i below (slice_get_cases m.subsets i).1 in
+    (there.0, ap (slice_get m.subsets) back ∙ there.1)
 
 -- the lines of one subset more
-pub listed_more : (m : Message) (i : ℕ) (lines : List ℕ) → i < length m.subsets
-    → ListsSubset (slice_get m.subsets i) lines
-    → listed m (i + 1) ≡ listed m i ++ lines
-listed_more m i lines below is =
-    perhaps_more (λ s. joined (subset_lines s)) ListsSubset (λ t p. p) (λ x t p. p) m.subsets i
-    (heading_text m) lines
-    below (slice_get m.subsets i) refl is
+listed_more : (m : Message) (i : ℕ) (s : Subset) → slice_get m.subsets (i + 1 - 1) ≡ Some s
+    → listed m (i + 1) ≡ listed m i ++ joined (subset_lines s)
+listed_more m i s at =
+    let back : i ≡ i + 1 - 1 = omega arith in
+    let here = ap (slice_get m.subsets) back ∙ at in
+    one_more (λ s. joined (subset_lines s)) m.subsets i s (heading_text m)
+    (slice_get_within m.subsets i s here) here
+
+-- ---- subset by subset
+
+-- the lines of one subset more were added
+pub subset_more : (m : Message) (i : ℕ) (s : Subset) (p q p' : Printer) (first mid last : Writing)
+    (done : Unit {0}) → slice_get m.subsets (i + 1 - 1) ≡ Some s
+    → WritesAllBut q.held.items (p.held.items ++ listed m i) p.counts.written q.counts.written
+    first mid
+    → Adds (joined (subset_lines s)) q p' mid last (Ok done)
+    → WritesAllBut p'.held.items (p.held.items ++ listed m (i + 1)) p.counts.written
+    p'.counts.written first last
+subset_more m i s p q p' first mid last done at w a =
+    subst
+    (λ (t : List ℕ). WritesAllBut p'.held.items (p.held.items ++ t) p.counts.written
+    p'.counts.written first last)
+    (sym (listed_more m i s at))
+    (adds_then (listed m i) (joined (subset_lines s)) p q p' first mid last (Ok done)
+    (joined_whole (subset_lines s)) w a)
+
+-- or adding them stopped
+pub subset_stopped : (m : Message) (i : ℕ) (s : Subset) (p q p' : Printer)
+    (first mid last : Writing) (e : ToolFault) → slice_get m.subsets (i + 1 - 1) ≡ Some s
+    → IsJoined m
+    → WritesAllBut q.held.items (p.held.items ++ listed m i) p.counts.written q.counts.written
+    first mid
+    → Adds (joined (subset_lines s)) q p' mid last (Err e) → Adds (listing m) p p' first last (Err e)
+subset_stopped m i s p q p' first mid last e at is_joined w a =
+    adds_longer (listed m i ++ joined (subset_lines s)) (unlisted m (i + 1)) (listing m) p p' first
+    last e
+    (listing_parted m (i + 1) is_joined
+    ∙ ap (λ (t : List ℕ). t ++ unlisted m (i + 1)) (listed_more m i s at))
+    (adds_then (listed m i) (joined (subset_lines s)) p q p' first mid last (Err e)
+    (joined_whole (subset_lines s)) w a)
+
+-- ---- field by field
+
+-- the law of the lines of a subset, at fields none of which comes before
+abbrev pub IsLined : List Field → Type 0
+IsLined fields =
+    joined (subset_lines (record { fields = fields }))
+    ≡ line subset_line ++ [] ++ fields_text fields
+
+-- the lines of a subset are its first and those of its fields
+pub subset_text : (o : Option Subset) (fields : List Field) (s : Subset)
+    → o ≡ Some (record { fields = fields }) → o ≡ Some s → IsLined fields
+    → joined (subset_lines s) ≡ line subset_line ++ fields_text fields
+subset_text o fields s here there lined =
+    let same : s ≡ record { fields = fields } = cc in
+    ap (λ s. joined (subset_lines s)) same ∙ lined
+    ∙ ap (λ (t : List ℕ). t ++ fields_text fields) (append-nil (line subset_line))
+
+-- the lines of the fields that were handed out were added: with those of the fields that are left
+-- they are the lines of all
+pub record AmidFields (all left : List Field) (p p' : Printer) (first now : Writing) : Type 0 where
+  pub text : List ℕ
+  pub parted : fields_text all ≡ text ++ fields_text left
+  pub added : WritesAllBut p'.held.items (p.held.items ++ text) p.counts.written p'.counts.written
+      first now
+
+-- before the first was handed out
+pub amid_fields : (all : List Field) (p : Printer) (w : Writing) → AreWholeLines p.held.items
+    → w.failed ≡ false → AmidFields all all p p w w
+amid_fields all p w whole works = record {
+  text = [];
+  parted = refl;
+  added = but_all p.held.items (p.held.items ++ []) p.counts.written w (append-nil p.held.items)
+      whole works;
+}
+
+-- the line of the first that is left, and those of the others
+field_parted : (all left left' : List Field) (field : Field) (text : List ℕ)
+    → left ≡ field ∷ left' → fields_text all ≡ text ++ fields_text left
+    → fields_text all ≡ (text ++ line (field_line field)) ++ fields_text left'
+field_parted all left left' field text is parted =
+    parted ∙ ap (λ fs. text ++ fields_text fs) is
+    ∙ sym (append_assoc text (line (field_line field)) (fields_text left'))
+
+-- the line of one more was added
+pub field_more : (all left left' : List Field) (field : Field) (p q p' : Printer)
+    (first mid last : Writing) (done : Unit {0}) → left ≡ field ∷ left'
+    → AmidFields all left p q first mid → Adds (line (field_line field)) q p' mid last (Ok done)
+    → AmidFields all left' p p' first last
+field_more all left left' field p q p' first mid last done is a added =
+    let here = line (field_line field) in
+    record {
+      text = a.text ++ here;
+      parted = field_parted all left left' field a.text is a.parted;
+      added = adds_then a.text here p q p' first mid last (Ok done)
+          (line_whole (field_line field)) a.added added;
+    }
+
+-- or adding it stopped
+pub field_stopped : (all left left' : List Field) (field : Field) (p q p' : Printer)
+    (first mid last : Writing) (e : ToolFault) → left ≡ field ∷ left'
+    → AmidFields all left p q first mid → Adds (line (field_line field)) q p' mid last (Err e)
+    → Adds (fields_text all) p p' first last (Err e)
+field_stopped all left left' field p q p' first mid last e is a added =
+    let here = line (field_line field) in
+    adds_longer (a.text ++ here) (fields_text left') (fields_text all) p p' first last e
+    (field_parted all left left' field a.text is a.parted)
+    (adds_then a.text here p q p' first mid last (Err e) (line_whole (field_line field)) a.added
+    added)
+
+-- no memory was there for one more
+pub field_halted : (all left : List Field) (p q : Printer) (first mid : Writing)
+    → AmidFields all left p q first mid
+    → Adds (fields_text all) p q first mid (Err faults.OutOfMemory)
+field_halted all left p q first mid a =
+    adds_halts (fields_text all) a.text (fields_text left) q.held.items p q first mid a.parted
+    a.added refl
+
+-- none is left
+pub fields_done : (all left : List Field) (p q : Printer) (first mid : Writing) → left ≡ []
+    → AmidFields all left p q first mid
+    → WritesAllBut q.held.items (p.held.items ++ fields_text all) p.counts.written
+    q.counts.written first mid
+fields_done all left p q first mid none a =
+    subst
+    (λ (t : List ℕ). WritesAllBut q.held.items (p.held.items ++ t) p.counts.written
+    q.counts.written first mid)
+    (sym (a.parted ∙ ap (λ fs. a.text ++ fields_text fs) none ∙ append-nil a.text)) a.added

@@ -1,24 +1,28 @@
 -- Texts that are held and written in parts: the steps of `Printer`, for the contracts of `run_show`
 -- and `run_check`.
-use Rattle.std.proofs.Common.{◌≡◌, ℕ, ◌+◌, ◌-◌, ◌<◌, false, inl, List, [], ◌++◌, length, Option, Some}
-use Rattle.std.proofs.Common.{None}
-use Rattle.std.proofs.Common.{Err, refl, sym, ap, ◌∙◌, subst, arith, length-append, append_assoc}
-use Rattle.std.specs.Prelude.{slice_get}
+use Rattle.std.proofs.Common.{◌≡◌, ℕ, ◌+◌, false, inl, List, [], ◌++◌, length, Result, Ok, Err}
+use Rattle.std.proofs.Common.{refl, sym, ap, ◌∙◌, subst, arith, length-append, append_assoc}
 use Rattle.std.proofs.lemmas.List.{append-nil}
 use Rattle.bufr_bits.specs.Devices.{Writing}
-use Rattle.bufr_listing.specs.Listings.{joined, subset_lines}
-use Rattle.bufr_message.specs.declared.Message.{Message}
-use Rattle.bufr_message.specs.Views.{AddsSubset, ListsSubset}
 use Rattle.bufr_io.specs.declared.fault.ToolFault.{ToolFault}
 use Rattle.bufr_io.specs.declared.fault.ToolFault.TheVariants as faults
 use Rattle.bufr_io.specs.Engines.{WritesAll, WritesAfter, FailsAfter}
 use Rattle.bufr_io.specs.WritingLaws.{writes_none, writes_more, fails_more, fails_longer}
 use Rattle.bufr_tool.specs.declared.printer.Printer.{Printer}
 use Rattle.bufr_tool.specs.Lines.{AreWholeLines, WritesLines}
-use Rattle.bufr_tool.specs.StreamEngines.{Adds, Fits, Stops, StopsWithin}
-use Rattle.bufr_tool.specs.StreamEngines.{WritesAllBut, WritesSome}
-use Rattle.bufr_tool.proofs.LineFacts.{both_whole, listed_whole, some_lines}
-use Rattle.bufr_tool.proofs.ListingFacts.{listed, listed_more}
+use Rattle.bufr_tool.specs.StreamEngines.{Adds, Fits, Keeps, Stops, StopsWithin}
+use Rattle.bufr_tool.specs.StreamEngines.{WritesAllBut, WritesPart, WritesSome}
+use Rattle.bufr_tool.proofs.LineFacts.{both_whole, some_lines}
+
+-- what stays in two steps stays in both
+pub keeps_both : (p q p' : Printer) → Keeps p q → Keeps q p' → Keeps p p'
+keeps_both p q p' a b = record {
+  printing = b.printing ∙ a.printing;
+  tables = b.tables ∙ a.tables;
+  frames = b.frames ∙ a.frames;
+  refused = b.refused ∙ a.refused;
+  octets = b.octets ∙ a.octets;
+}
 
 -- ---- all lines of a text are written or held
 
@@ -85,6 +89,16 @@ pub adds_held : (text held : List ℕ) (p : Printer) (w : Writing) → held ≡ 
 adds_held text held p w is one two works =
     but_all held (p.held.items ++ text) p.counts.written w (sym is)
     (subst AreWholeLines (sym is) (both_whole p.held.items text one two)) works
+
+-- a text was added, and one more is held behind it
+both_held : (one two : List ℕ) (p q : Printer) (first mid : Writing) → AreWholeLines two
+    → WritesAllBut q.held.items (p.held.items ++ one) p.counts.written q.counts.written first mid
+    → WritesAllBut (q.held.items ++ two) (p.held.items ++ (one ++ two)) p.counts.written
+    q.counts.written first mid
+both_held one two p q first mid whole w =
+    held_more q.held.items (p.held.items ++ one) two (q.held.items ++ two)
+    (p.held.items ++ (one ++ two)) p.counts.written q.counts.written first mid refl
+    (sym (append_assoc p.held.items one two)) whole w
 
 -- where none is held all was written
 pub all_written : (held text : List ℕ) (before now : ℕ) (first last : Writing)
@@ -169,7 +183,7 @@ held_fails held text rest all before then first mid last (faults.WriteFailed wri
 held_fails held text rest all before then first mid last e is w p = absurd p
 
 -- so adding a text to what was held stopped
-pub adds_failed : (text : List ℕ) (p p' : Printer) (first last : Writing) (e : ToolFault)
+adds_failed : (text : List ℕ) (p p' : Printer) (first last : Writing) (e : ToolFault)
     → WritesAfter p.counts.written (p.held.items ++ text) first last (Err e)
     → Adds text p p' first last (Err e)
 adds_failed text p p' first last (faults.WriteFailed written) f = f
@@ -199,7 +213,59 @@ adds_none text p p' w whole works same written =
     works))
     same
 
--- and so did printing a text
+-- a text and its parts, behind another
+behind_all : (before front rest text : List ℕ) → text ≡ front ++ rest
+    → before ++ text ≡ (before ++ front) ++ rest
+behind_all before front rest text is =
+    ap (λ (t : List ℕ). before ++ t) is ∙ sym (append_assoc before front rest)
+
+-- a text was added, and then another was, or adding it stopped: so it is with both
+pub adds_then : (one two : List ℕ) (p q p' : Printer) (first mid last : Writing)
+    (r : Result (Unit {0}) ToolFault) → AreWholeLines two
+    → WritesAllBut q.held.items (p.held.items ++ one) p.counts.written q.counts.written first mid
+    → Adds two q p' mid last r → Adds (one ++ two) p p' first last r
+adds_then one two p q p' first mid last (Ok done) whole w a =
+    held_less (q.held.items ++ two) p'.held.items (p.held.items ++ (one ++ two)) p.counts.written
+    q.counts.written p'.counts.written first mid last (both_held one two p q first mid whole w) a
+adds_then one two p q p' first mid last (Err (faults.WriteFailed written)) whole w a =
+    let all = p.held.items ++ (one ++ two) in
+    held_fails (q.held.items ++ two) all [] all p.counts.written q.counts.written first mid last
+    (faults.WriteFailed written) (sym (append-nil all)) (both_held one two p q first mid whole w) a
+adds_then one two p q p' first mid last (Err faults.OutOfMemory) whole w a =
+    some_less (q.held.items ++ two) p'.held.items (p.held.items ++ (one ++ two)) p.counts.written
+    q.counts.written p'.counts.written first mid last (both_held one two p q first mid whole w) a
+adds_then one two p q p' first mid last (Err e) whole w a = absurd a
+
+-- where adding the front of a text stopped, adding the text did
+pub adds_longer : (front rest text : List ℕ) (p p' : Printer) (first last : Writing)
+    (e : ToolFault) → text ≡ front ++ rest → Adds front p p' first last (Err e)
+    → Adds text p p' first last (Err e)
+adds_longer front rest text p p' first last (faults.WriteFailed written) is a = (
+  a.0,
+  a.1,
+  subst (FailsAfter a.0 first last) (sym (behind_all p.held.items front rest text is))
+      (fails_longer first last (p.held.items ++ front) rest a.0 a.2),
+)
+adds_longer front rest text p p' first last faults.OutOfMemory is a =
+    some_longer p'.held.items (p.held.items ++ front) rest (p.held.items ++ text) p.counts.written
+    p'.counts.written first last (behind_all p.held.items front rest text is) a
+adds_longer front rest text p p' first last e is a = absurd a
+
+-- a text was added, and then some of what is held was written, or the writer failed
+pub adds_written : (text : List ℕ) (p q p' : Printer) (first mid last : Writing)
+    (r : Result (Unit {0}) ToolFault)
+    → WritesAllBut q.held.items (p.held.items ++ text) p.counts.written q.counts.written first mid
+    → WritesPart q p' mid last r → Adds text p p' first last r
+adds_written text p q p' first mid last (Ok done) w part =
+    held_less q.held.items p'.held.items (p.held.items ++ text) p.counts.written q.counts.written
+    p'.counts.written first mid last w part
+adds_written text p q p' first mid last (Err e) w part =
+    let all = p.held.items ++ text in
+    adds_failed text p p' first last e
+    (held_fails q.held.items all [] all p.counts.written q.counts.written first mid last e
+    (sym (append-nil all)) w part)
+
+-- printing a text stopped where the writer failed
 pub stops_failed : (text : List ℕ) (first last : Writing) (e : ToolFault)
     → WritesAfter 0 text first last (Err e) → Stops text first last e
 stops_failed text first last (faults.WriteFailed written) f =
@@ -248,27 +314,3 @@ pub stops_then : (text : List ℕ) (first mid last : Writing) (p : Printer) (e :
 stops_then text first mid last p e s f =
     stops_failed text first last e
     (held_fails _ s.0.front s.0.rest text 0 _ first mid last e s.0.parted s.0.done f)
-
--- ---- subsets
-
--- lines that were added are those of the subset that is there
-added_lines : (o : Option _) (text text' : List ℕ) → AddsSubset o text text'
-    → (lines : List ℕ) × ListsSubset o lines × (text' ≡ text ++ lines)
-added_lines None text text' adds = absurd adds
-added_lines (Some s) text text' adds = (joined (subset_lines s), refl, adds)
-
--- behind other lines, the lines of one subset more are held
-pub subset_held : (m : Message) (i : ℕ) (other held held' : List ℕ) (before now : ℕ)
-    (first last : Writing) → i < length m.subsets
-    → AddsSubset (slice_get m.subsets (i + 1 - 1)) held held'
-    → WritesAllBut held (other ++ listed m i) before now first last
-    → WritesAllBut held' (other ++ listed m (i + 1)) before now first last
-subset_held m i other held held' before now first last below adds w =
-    let back : i + 1 - 1 ≡ i = omega arith in
-    let here = subst (λ (n : ℕ). AddsSubset (slice_get m.subsets n) held held') back adds in
-    let more = added_lines (slice_get m.subsets i) held held' here in
-    held_more held (other ++ listed m i) more.0 held' (other ++ listed m (i + 1)) before now
-    first last more.2
-    (ap (λ (t : List ℕ). other ++ t) (listed_more m i more.0 below more.1)
-    ∙ sym (append_assoc other (listed m i) more.0))
-    (listed_whole _ more.0 more.1) w

@@ -26,7 +26,7 @@ use Rattle.bufr_tool.specs.Output.{frame_text, frames_text}
 use Rattle.bufr_tool.specs.StreamEngines.{Fits, HasPrinted, Keeps, no_counts, PrintsFrame}
 use Rattle.bufr_tool.specs.StreamEngines.{StopsWithin, WritesAllBut, WritesHeld, WritesPart}
 use Rattle.bufr_tool.proofs.LineFacts.{frame_whole}
-use Rattle.bufr_tool.proofs.PartFacts.{adds_failed, but_all, counted_all, held_fails, held_less}
+use Rattle.bufr_tool.proofs.PartFacts.{adds_written, but_all, counted_all, held_less}
 use Rattle.bufr_tool.proofs.PartFacts.{held_more, held_none, some_all, within_longer, within_more}
 use Rattle.bufr_io.specs.WritingLaws.{fails_longer}
 
@@ -72,11 +72,8 @@ frame_ends printing tables frame p q p' first mid last (Ok done) part keeps shor
           omega (arith, a, b, most, short);
     }
 frame_ends printing tables frame p q p' first mid last (Err e) part keeps short w frames refused
-    octets most fits =
-    let text = p.held.items ++ frame_text printing tables frame in (
-      adds_failed (frame_text printing tables frame) p p' first last e
-          (held_fails q.held.items text [] text p.counts.written q.counts.written first mid last e
-          (sym (append-nil text)) w part),
+    octets most fits = (
+      adds_written (frame_text printing tables frame) p q p' first mid last (Err e) w part,
       λ long. omega (arith, most, short, fits),
     )
 

@@ -9,7 +9,8 @@ use Rattle.bufr_frame.specs.Streams.{cut}
 use Rattle.bufr_message.specs.declared.Decoded.{Decoded}
 use Rattle.bufr_message.specs.declared.Refused.{Refused}
 use Rattle.bufr_message.specs.Messages.{message_of}
-use Rattle.bufr_message.specs.Listings.{listing}
+use Rattle.bufr_message.specs.declared.Field.{Field}
+use Rattle.bufr_message.specs.Listings.{line, field_line, listing}
 use Rattle.bufr_message.specs.Reasons.{reason}
 use Rattle.bufr_io.specs.declared.fault.Tally.{Tally}
 use Rattle.bufr_collect.specs.Collected.{refused_of}
@@ -17,6 +18,10 @@ use Rattle.bufr_tool.specs.declared.printing.Printing.{Printing}
 use Rattle.bufr_tool.specs.declared.printing.Printing.TheVariants.{Shown, Checked}
 
 -- ---- one frame
+
+-- what `show` prints of fields of a subset, a line each
+abbrev pub fields_text : List Field → List ℕ
+fields_text fields = flat_map (λ f. line (field_line f)) fields
 
 -- what `show` prints of a frame: the listing of its message, or its place and why it spells none
 abbrev pub shown_as : Found → Result Decoded Refused → List ℕ

@@ -1,13 +1,14 @@
 //! What is printed of a stream, frame by frame: lines are held, and written where they are many.
 
-ghost use Rattle.std.specs.Prelude.{◌≡◌, ◌≤◌, ◌<◌, ◌+◌, ◌*◌, ◌^◌, ℕ, List, false, [], length};
-ghost use Rattle.std.specs.Prelude.{IfOk, OnOk};
+ghost use Rattle.std.specs.Prelude.{◌≡◌, ◌≤◌, ◌<◌, ◌+◌, ◌-◌, ◌*◌, ◌^◌, ℕ, List, false, [], length};
+ghost use Rattle.std.specs.Prelude.{IfOk, OnOk, Some, slice_get};
 ghost use Rattle.bufr_bits.specs.Devices.{Writing};
-ghost use Rattle.bufr_message.specs.Listings.{listing};
+ghost use Rattle.bufr_message.specs.declared.Subset.{Subset};
+ghost use Rattle.bufr_message.specs.Listings.{line, joined, field_line, subset_lines, listing};
 ghost use Rattle.bufr_message.specs.Messages.{message_of};
 ghost use Rattle.bufr_collect.specs.Collected.{frame_refused, refused_as};
 ghost use Rattle.bufr_tool.specs.Lines.{AreWholeLines};
-ghost use Rattle.bufr_tool.specs.Output.{frame_text, printed_as};
+ghost use Rattle.bufr_tool.specs.Output.{fields_text, frame_text, printed_as};
 ghost use Rattle.bufr_tool.specs.StreamEngines.{Adds, Fits, Keeps, no_counts, PrintsFrame};
 ghost use Rattle.bufr_tool.specs.StreamEngines.{Stops, StopsWithin, WritesHeld, WritesPart};
 
@@ -17,8 +18,9 @@ use bufr_answers::{Failure, OutOfMemory};
 use bufr_bits::Sink;
 use bufr_frame::Found;
 use bufr_io::{ToolFault, write_after};
-use bufr_listing::laws::listings_are_joined_parts;
-use bufr_message::{Refused, Templates, View, listing};
+use bufr_listing::laws::{listings_are_joined_parts, subsets_are_joined_lines};
+use bufr_listing::{push_field, push_subset_line};
+use bufr_message::{Field, Fields, Refused, Templates, View, listing};
 use bufr_tables::Tables;
 use std::alloc::Global;
 
@@ -92,9 +94,84 @@ impl<'t> Printer<'t> {
         self.write_held(writer)
     }
 
-    /// Prints the listing of a message, of which one subset at a time is built. No more is held
-    /// than the lines before the first subset, or a part, and with either the lines of one subset
-    /// and of the end.
+    /// Prints the line of a field, unless more octets than these were written.
+    fn print_field<W: Sink>(
+        &mut self,
+        alloc: Global,
+        field: &Field,
+        most: u128,
+        writer: &mut W,
+    ) -> Result<(), ToolFault>
+        requires works { (W.writing writer.old).failed ≡ false }
+        requires fits { most + 2 ^ 65 ≤ 2 ^ 128 }
+        requires lines { AreWholeLines self.old.held.items }
+        requires below { self.old.counts.written < most + 2 ^ 64 }
+        ensures prints { Adds (line (field_line field.now)) self.old self.new (W.writing writer.old)
+            (W.writing writer.new) result }
+        ensures keeps { Keeps self.old self.new }
+        ensures short { self.new.counts.written < most + 2 ^ 64 }
+    {
+        push_field(alloc, &mut self.held, field)?;
+        if self.counts.written > most {
+            return Err(ToolFault::OutOfMemory);
+        }
+        self.write_long(writer)
+    }
+
+    /// Prints the lines of the fields that are left.
+    fn print_fields<W: Sink>(
+        &mut self,
+        alloc: Global,
+        mut fields: Fields<'_>,
+        most: u128,
+        writer: &mut W,
+    ) -> Result<(), ToolFault>
+        requires works { (W.writing writer.old).failed ≡ false }
+        requires fits { most + 2 ^ 65 ≤ 2 ^ 128 }
+        requires lines { AreWholeLines self.old.held.items }
+        requires below { self.old.counts.written < most + 2 ^ 64 }
+        ensures prints { Adds (fields_text fields.entry) self.old self.new (W.writing writer.old)
+            (W.writing writer.new) result }
+        ensures keeps { Keeps self.old self.new }
+        ensures short { self.new.counts.written < most + 2 ^ 64 }
+    {
+        while let Some(field) = fields.next(alloc)? {
+            self.print_field(alloc, &field, most, writer)?;
+        }
+        Ok(())
+    }
+
+    /// Prints the lines of the subset of this number, from 1.
+    fn print_subset<W: Sink>(
+        &mut self,
+        alloc: Global,
+        found: &View<'_>,
+        number: usize,
+        most: u128,
+        writer: &mut W,
+    ) -> Result<(), ToolFault>
+        requires works { (W.writing writer.old).failed ≡ false }
+        requires first { 1 ≤ number }
+        requires last { number ≤ length found.now.message.subsets }
+        requires fits { most + 2 ^ 65 ≤ 2 ^ 128 }
+        requires lines { AreWholeLines self.old.held.items }
+        requires below { self.old.counts.written < most + 2 ^ 64 }
+        ensures prints { (subset : Subset)
+            → slice_get found.now.message.subsets (number - 1) ≡ Some subset
+            → Adds (joined (subset_lines subset)) self.old self.new (W.writing writer.old)
+            (W.writing writer.new) result }
+        ensures keeps { Keeps self.old self.new }
+        ensures short { self.new.counts.written < most + 2 ^ 64 }
+    {
+        subsets_are_joined_lines();
+        let fields = found.fields(alloc, number)?;
+        push_subset_line(&mut self.held)?;
+        self.print_fields(alloc, fields, most, writer)
+    }
+
+    /// Prints the listing of a message, of which one field at a time is built. No more is held than
+    /// the lines before the first subset, or a part, and with either the line of one field. A
+    /// listing of 2 ^ 64 octets or more, which no message has, is want of memory.
     fn print_listing<W: Sink>(
         &mut self,
         alloc: Global,
@@ -102,7 +179,6 @@ impl<'t> Printer<'t> {
         writer: &mut W,
     ) -> Result<(), ToolFault>
         requires works { (W.writing writer.old).failed ≡ false }
-        requires few { length found.now.message.subsets < 2 ^ 16 }
         requires fits { self.old.counts.written + 2 ^ 80 ≤ 2 ^ 128 }
         requires lines { AreWholeLines self.old.held.items }
         ensures prints { Adds (listing found.now.message) self.old self.new (W.writing writer.old)
@@ -111,11 +187,11 @@ impl<'t> Printer<'t> {
         ensures short { self.new.counts.written + 2 ^ 64 ≤ self.old.counts.written + 2 ^ 80 }
     {
         listings_are_joined_parts();
+        let most = self.counts.written + u64::MAX as u128;
         let heading = listing::heading_of_view(alloc, found)?;
         self.held.extend_from_slice(&heading)?;
         for index in 0..found.count() {
-            listing::push_subset_of_view(alloc, found, index + 1, &mut self.held)?;
-            self.write_long(writer)?;
+            self.print_subset(alloc, found, index + 1, most, writer)?;
         }
         self.held.extend_from_slice(listing::end_text())?;
         Ok(())
@@ -130,7 +206,6 @@ impl<'t> Printer<'t> {
         writer: &mut W,
     ) -> Result<(), ToolFault>
         requires works { (W.writing writer.old).failed ≡ false }
-        requires few { length found.now.message.subsets < 2 ^ 16 }
         requires fits { self.old.counts.written + 2 ^ 80 ≤ 2 ^ 128 }
         requires lines { AreWholeLines self.old.held.items }
         ensures prints { Adds (printed_as self.old.printing frame.now (Ok found.now)) self.old self.new
@@ -156,7 +231,6 @@ impl<'t> Printer<'t> {
     ) -> Result<Result<View<'a>, Refused>, OutOfMemory>
         ensures same { self.new ≡ self.old }
         ensures exact { IfOk result (λ found. found ≡ message_of self.old.templates octets.now) }
-        ensures few { IfOk result (λ found. IfOk found (λ d. length d.message.subsets < 2 ^ 16)) }
     {
         match self.templates.view(alloc, octets) {
             Ok(found) => Ok(Ok(found)),
@@ -174,7 +248,6 @@ impl<'t> Printer<'t> {
         writer: &mut W,
     ) -> Result<(), ToolFault>
         requires works { (W.writing writer.old).failed ≡ false }
-        requires few { IfOk judged.now (λ d. length d.message.subsets < 2 ^ 16) }
         requires fits { self.old.counts.written + 2 ^ 80 ≤ 2 ^ 128 }
         requires lines { AreWholeLines self.old.held.items }
         ensures prints { Adds (printed_as self.old.printing frame.now judged.now) self.old self.new

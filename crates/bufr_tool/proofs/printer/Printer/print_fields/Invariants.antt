@@ -1,0 +1,18 @@
+-- The loop of `print_fields`: the fields handed out so far, whose lines are written or held.
+use Rattle.std.proofs.Common.{◌+◌, ◌^◌, ◌<◌, length}
+use Rattle.bufr_tool.specs.StreamEngines.{Keeps}
+use Rattle.bufr_tool.proofs.ListingFacts.{AmidFields}
+use Rattle.bufr_tool.proofs.printer.Printer.print_fields.Given as goal
+
+-- the lines of the fields that were handed out were added, and those of the others are left
+abbrev pub invariant-loop-fields : goal.invariant-loop-fields
+invariant-loop-fields g l = record {
+  amid : AmidFields l.fn.fields l.fields l.fn.self l.self (g.W.Sink.writing l.fn.writer)
+      (g.W.Sink.writing l.writer);
+  keeps : Keeps l.fn.self l.self;
+  short : l.self.counts.written < l.most + 2 ^ 64;
+}
+
+-- each turn leaves one less
+abbrev pub decreases-loop-fields : goal.decreases-loop-fields
+decreases-loop-fields g l = length l.fields
