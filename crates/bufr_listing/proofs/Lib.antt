@@ -23,6 +23,7 @@ pub mod MessageParts
 pub mod MessageFacts
 pub mod LoopFacts
 pub mod MessageSteps
+pub mod UnreadFacts
 pub mod TextFacts
 mod ShownFacts
 pub mod ValueFacts

@@ -1,10 +1,8 @@
--- The lines of a message one after the other, and messages one after the other: for their readers,
--- and so for `read`.
-use Rattle.std.proofs.Common.{◌≡◌, ℕ, zero, suc, ◌<◌, ◌≤◌, true, false, List, [], ◌∷◌}
+-- The lines of a message one after the other: for their readers, and so for `read`.
+use Rattle.std.proofs.Common.{◌≡◌, ℕ, ◌<◌, List, [], ◌∷◌}
 use Rattle.std.proofs.Common.{◌++◌, append_assoc, length, length-append, codes, Result, Ok, Err}
 use Rattle.std.proofs.Common.{refl, sym, ap, ◌∙◌, subst, arith}
 use Rattle.std.specs.Prelude.{Option, Some, None}
-use Rattle.std.proofs.lemmas.List.{append-nil}
 use Rattle.bufr_answers.specs.Answers.{◌>>=◌, Fails, result_map}
 use Rattle.bufr_tables.specs.Entries.{Entries}
 use Rattle.bufr_answers.specs.declared.failure.Failure.{Failure}
@@ -12,18 +10,14 @@ use Rattle.bufr_answers.specs.declared.failure.Failure.TheVariants.{Fault, OutOf
 use Rattle.bufr_expand.specs.Courses.{course}
 use Rattle.bufr_data.specs.declared.field.Subset.{Subset}
 use Rattle.bufr_sections.specs.declared.message.Head.{Head}
-use Rattle.bufr_sections.specs.declared.message.Message.{Message}
 use Rattle.bufr_answers.specs.AnswerLaws.{ok_is}
 use Rattle.bufr_listing.specs.declared.fault.ListingFault.{ListingFault}
-use Rattle.std.specs.Option.{is_some}
-use Rattle.bufr_listing.specs.declared.lines.TextLine.{TextLine}
-use Rattle.bufr_listing.specs.Cursors.{IsNextLine, printed}
 use Rattle.bufr_listing.specs.Lines.{Line}
 use Rattle.bufr_listing.specs.Reading.{with_rest, read_line, read_if, read_word, read_numbers}
 use Rattle.bufr_listing.specs.Reading.{read_local, read_section2, Flags, read_flags, Described}
 use Rattle.bufr_listing.specs.Reading.{read_descriptors, SubsetsListed, subsets_read, subsets_of}
 use Rattle.bufr_listing.specs.Reading.{section1_limits, time_limits, head_with, head_read}
-use Rattle.bufr_listing.specs.Reading.{MessageRead, message_read, messages_read}
+use Rattle.bufr_listing.specs.Reading.{MessageRead, message_read}
 use Rattle.bufr_listing.proofs.SubsetFacts.{line_takes}
 use Rattle.bufr_listing.proofs.LoopFacts.{goes_on, line_shorter}
 use Rattle.bufr_listing.proofs.MessageParts.{message_with, from_subsets, from_descriptors}
@@ -157,19 +151,6 @@ message_is tables past ls mid rest h two flags list subsets so s =
 
 -- ---- messages
 
--- whether there is a next line
-pub some_next : (ls : List Line) (o : Option TextLine) → IsNextLine ls o → is_some o ≡ true → ls
-    ≡ []
-    → ⊥
-some_next ls None next h none = cc h
-some_next ls (Some l) next h none = let e : printed l ∷ next.0 ≡ [] = sym next.1 ∙ none in cc e
-
--- no line comes next, no line is left
-pub none_next : (ls : List Line) (o : Option TextLine) → IsNextLine ls o → is_some o ≡ false → ls
-    ≡ []
-none_next ls None next h = next
-none_next ls (Some l) next h = absurd cc
-
 -- lines behind lines that stand behind others
 then_behind : (ls mid rest : List Line) → IsBehind ls mid → IsBehind mid rest → IsBehind ls rest
 then_behind ls mid rest a b =
@@ -228,110 +209,3 @@ message_shorter tables past ls x h =
     let whole = ap length b.in_order in
     let sum = length-append b.own x.1 in
     omega (arith, first, whole, sum)
-
--- these messages, and then those that are read
-abbrev pub behind_messages : List Message → Result (List Message) ListingFault
-    → Result (List Message) ListingFault
-behind_messages messages (Ok more) = Ok (messages ++ more)
-behind_messages messages (Err e) = Err e
-
--- behind no message stands what is read
-messages_none : (o : Result (List Message) ListingFault) → o ≡ behind_messages [] o
-messages_none (Ok more) = refl
-messages_none (Err e) = refl
-
--- one message more, and then what is read
-messages_joined : (messages : List Message) (m : Message) (o : Result (List Message) ListingFault)
-    → behind_messages messages (o >>= λ others. Ok (m ∷ others)) ≡ behind_messages
-    (messages ++ m ∷ []) o
-messages_joined messages m (Ok more) = ap Ok (sym (append_assoc messages (m ∷ []) more))
-messages_joined messages m (Err e) = refl
-
--- what has been read of messages: these, and those that follow, of which there are lines enough
-pub record MessagesSoFar (tables : Entries) (past : ℕ) (start : List Line)
-    (messages : List Message) (ls : List Line) : Type 0 where
-  pub fuel : ℕ
-  pub few : length ls ≤ fuel
-  pub so_far : messages_read (length start) tables past start ≡ behind_messages messages
-      (messages_read fuel tables past ls)
-
--- before the first message nothing was read
-pub no_message : (tables : Entries) (past : ℕ) (ls : List Line) → MessagesSoFar tables past ls [] ls
-no_message tables past ls =
-    record {
-      fuel = length ls;
-      few = omega arith;
-      so_far =
-          messages_none (messages_read (length ls) tables past ls);
-    }
-
--- one message more was read, by how many lines may be left
-more_by : (fuel : ℕ) (tables : Entries) (past : ℕ) (start : List Line)
-    (messages grown : List Message) (m : Message) (l : Line) (ls rest : List Line)
-    → grown ≡ messages ++ m ∷ [] → length (l ∷ ls) ≤ fuel
-    → messages_read (length start) tables past start ≡ behind_messages messages
-    (messages_read fuel tables past (l ∷ ls)) → message_read tables past (l ∷ ls) ≡ Ok (m, rest)
-    → MessagesSoFar tables past start grown rest
-unfolding messages_read
-more_by zero tables past start messages grown m l ls rest e few so_far h =
-    absurd (omega (arith, few))
-more_by (suc fuel) tables past start messages grown m l ls rest e few so_far h =
-    let shorter = message_shorter tables past (l ∷ ls) (m, rest) h in
-    record {
-      fuel = fuel;
-      few = omega (arith, few, shorter);
-      so_far = so_far
-          ∙ ap (λ (r : Result MessageRead ListingFault). behind_messages messages
-          (r >>= λ first. messages_read fuel tables past first.1 >>= λ others.
-          Ok (first.0 ∷ others))) h
-          ∙ messages_joined messages m (messages_read fuel tables past rest)
-          ∙ ap (λ ms. behind_messages ms (messages_read fuel tables past rest)) (sym e);
-    }
-
--- one message more was read
-pub one_message : (tables : Entries) (past : ℕ) (start : List Line)
-    (messages grown : List Message) (m : Message) (ls rest : List Line)
-    → grown ≡ messages ++ m ∷ [] → MessagesSoFar tables past start messages ls
-    → (ls ≡ [] → ⊥) → message_read tables past ls ≡ Ok (m, rest)
-    → MessagesSoFar tables past start grown rest
-one_message tables past start messages grown m [] rest e so some h = absurd (some refl)
-one_message tables past start messages grown m (l ∷ ls) rest e so some h =
-    more_by so.fuel tables past start messages grown m l ls rest e so.few so.so_far h
-
--- the next message fails, by the same
-fails_by : (fuel : ℕ) (tables : Entries) (past : ℕ) (start : List Line) (messages : List Message)
-    (l : Line) (ls : List Line) (f : ListingFault) → length (l ∷ ls) ≤ fuel
-    → messages_read (length start) tables past start ≡ behind_messages messages
-    (messages_read fuel tables past (l ∷ ls)) → message_read tables past (l ∷ ls) ≡ Err f
-    → messages_read (length start) tables past start ≡ Err f
-unfolding messages_read
-fails_by zero tables past start messages l ls f few so_far h = absurd (omega (arith, few))
-fails_by (suc fuel) tables past start messages l ls f few so_far h =
-    so_far ∙ ap (λ (r : Result MessageRead ListingFault). behind_messages messages
-    (r >>= λ first. messages_read fuel tables past first.1 >>= λ others. Ok (first.0 ∷ others))) h
-
--- the next message fails
-pub message_fails : (tables : Entries) (past : ℕ) (start : List Line) (messages : List Message)
-    (ls : List Line) (e : Failure ListingFault) → MessagesSoFar tables past start messages ls
-    → (ls ≡ [] → ⊥) → Fails e (message_read tables past ls)
-    → Fails e (messages_read (length start) tables past start)
-message_fails tables past start messages ls OutOfMemory so some h = tt
-message_fails tables past start messages [] (Fault f) so some h = absurd (some refl)
-message_fails tables past start messages (l ∷ ls) (Fault f) so some h =
-    fails_by so.fuel tables past start messages l ls f so.few so.so_far h
-
--- where no line is left, no message is
-ended : (fuel : ℕ) (tables : Entries) (past : ℕ) → messages_read fuel tables past [] ≡ Ok []
-unfolding messages_read
-ended zero tables past = refl
-ended (suc fuel) tables past = refl
-
--- the end of the text
-pub messages_end : (tables : Entries) (past : ℕ) (start : List Line) (messages : List Message)
-    (ls : List Line) → MessagesSoFar tables past start messages ls → ls ≡ []
-    → messages_read (length start) tables past start ≡ Ok messages
-messages_end tables past start messages ls so none =
-    so.so_far
-    ∙ ap (λ (t : List Line). behind_messages messages (messages_read so.fuel tables past t)) none
-    ∙ ap (behind_messages messages) (ended so.fuel tables past)
-    ∙ ap Ok (append-nil messages)

@@ -5,6 +5,8 @@ pub mod Lines
 pub mod FieldLines
 pub mod Cursors
 pub mod Reading
+pub mod Unread
+pub mod UnreadLaws
 pub mod Words
 pub mod RawWords
 pub mod Steps

@@ -13,6 +13,7 @@ mod messages;
 mod raw_values;
 mod subsets;
 mod text;
+mod unread;
 mod worked_values;
 mod writer;
 
@@ -21,4 +22,5 @@ pub use fields::{push_field, push_subset, push_subset_line};
 pub use heading::HeadingParts;
 pub use messages::read;
 pub use text::{end_text, heading_text, subset_text, text_of};
+pub use unread::Messages;
 pub use writer::{ListingWriteFault, write_message};

@@ -17,7 +17,7 @@ pub struct TextLine<'a> {
 
 /// The lines that are left: the next one that counts, and the text behind it. How many lines were
 /// found so far, those that are skipped too. Each line is found once.
-#[derive(Debug, Drop)]
+#[derive(Clone, Copy, Debug)]
 pub struct Lines<'a> {
     next: Option<TextLine<'a>>,
     rest: &'a [u8],

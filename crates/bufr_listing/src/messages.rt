@@ -17,6 +17,7 @@ use crate::head_lines::{
 use crate::laws::{faults_of_listings_are_the_first, listings_list_messages};
 use crate::lines::Lines;
 use crate::subsets::read_subsets;
+use crate::unread::Messages;
 use bufr_answers::{Failure, Items};
 use bufr_sections::{Head, Message};
 use bufr_tables::Tables;
@@ -78,16 +79,16 @@ fn messages_listed(
 ) -> Result<Vec<Message>, Failure<ListingFault>>
     ensures exact { Gives (λ v. v.items) result (messages_listed tables.now text.now) }
 {
-    let mut lines = Lines::of(text);
+    let mut left = Messages::of(tables, text);
     let mut messages = Vec::new(alloc);
-    while lines.peek().is_some() {
-        messages.push(read_message(alloc, tables, &mut lines)?)?;
+    while let Some(message) = left.next(alloc)? {
+        messages.push(message)?;
     }
     Ok(messages)
 }
 
 /// Reads the lines of one message.
-fn read_message(
+pub(crate) fn read_message(
     alloc: Global,
     tables: &Tables,
     lines: &mut Lines,

@@ -1,5 +1,6 @@
 //! Listings of messages, written and read. Expected values are typed from the rules of the format.
 
+mod one_at_a_time;
 mod parts;
 mod places;
 mod reading;
