@@ -1,10 +1,11 @@
 -- Keys see no more of fields than the first of each element that they ask for: for `asked_of` and
 -- `key_of_fields`.
 use Rattle.std.proofs.Common.{◌≡◌, ℕ, ◌==◌, Bool, true, false, List, [], ◌∷◌, ◌++◌, Option, Some}
-use Rattle.std.proofs.Common.{None, refl, sym, ap, subst, ◌∙◌, append_assoc}
+use Rattle.std.proofs.Common.{None, refl, sym, ap, subst, ◌∙◌}
 use Rattle.std.proofs.Common.{cond}
 use Rattle.std.specs.Prelude.{◌&&◌}
 use Rattle.std.specs.Option.{is_none, option_or}
+use Rattle.std.proofs.lemmas.Bool.{eqb-true}
 use Rattle.std.proofs.lemmas.List.Folds.{find-append}
 use Rattle.bufr_tables.specs.Descriptors.{descriptor}
 use Rattle.bufr_data.specs.declared.field.Field.{Field}
@@ -96,9 +97,3 @@ pub let_go : (kept rest all : List Field) (f : Field)
     → HaveSameFirsts (kept ++ f ∷ rest) all → HaveSameFirsts (kept ++ rest) all
 let_go kept rest all f h same d asked =
     sym (not_first d kept rest f (not_wanted d kept f h asked)) ∙ same d asked
-
--- one that is wanted is kept
-pub held : (kept rest all : List Field) (f : Field) → HaveSameFirsts (kept ++ f ∷ rest) all
-    → HaveSameFirsts ((kept ++ f ∷ []) ++ rest) all
-held kept rest all f same =
-    subst (λ fs. HaveSameFirsts fs all) (sym (append_assoc kept (f ∷ []) rest)) same
