@@ -6,7 +6,7 @@ use Rattle.std.specs.Prelude.{IfOk, IfSome, codes, option_map, slice_get}
 use Rattle.std.proofs.lemmas.Option.{cond_some, same_Some, slice_get-map, get_or_from_slice_get}
 use Rattle.std.specs.Int.{bytes_high_first}
 use Rattle.std.specs.List.{AllByRecursion}
-use Rattle.std.proofs.lemmas.List.{drop_at}
+use Rattle.std.proofs.lemmas.List.{drop_at, length-map}
 use Rattle.std.proofs.lemmas.Slice.Eq.{bytes_eq-Decides}
 use Rattle.bufr_tables.specs.Entries.{Entries}
 use Rattle.bufr_frame.specs.Starts.{sevens}
@@ -20,7 +20,7 @@ use Rattle.bufr_message.specs.declared.report.Report.{Report}
 use Rattle.bufr_message.specs.Messages.{message_of}
 use Rattle.bufr_message.specs.OwnBits.{CanonicalIsOwn}
 use Rattle.bufr_message.specs.Laws.{MessagesReadAreSpelt, BareAreWritten}
-use Rattle.bufr_message.specs.Reports.{reports_of, reports_read, reports_in, alone, canonical}
+use Rattle.bufr_message.specs.Reports.{report_of, reports_of, reports_read, reports_in, alone, canonical}
 use Rattle.bufr_message.specs.Reports.{if_written, IsCanonical, IsUnder, CanonicalIsRead}
 use Rattle.bufr_message.specs.Reports.{ReportsSpeltAreUnder}
 use Rattle.bufr_report_keys.specs.Usable.{◌>>=◌}
@@ -110,6 +110,19 @@ only_one_is [] r e = absurd cc
 only_one_is (x ∷ []) r e = ap (λ y. y ∷ []) cc
 only_one_is (x ∷ y ∷ rs) r e = absurd cc
 
+-- the first of one is that one
+only_first : (rs : List Report) (r : Report) → length rs ≡ 1 → slice_get rs 0 ≡ Some r
+    → only_one rs ≡ Some r
+only_first [] r one e = absurd (omega arith)
+only_first (x ∷ []) r one e = e
+only_first (x ∷ y ∷ rs) r one e = absurd (omega arith)
+
+-- of fewer or more there is no such
+only_other : (rs : List Report) → (length rs ≡ 1 → ⊥) → only_one rs ≡ None
+only_other [] other = refl
+only_other (x ∷ []) other = absurd (other refl)
+only_other (x ∷ y ∷ rs) other = refl
+
 -- the octets that were compared
 canonical_of : (x : Option (List ℕ)) (octets : List ℕ) → is_canonical x octets ≡ true
     → x ≡ Some octets
@@ -177,6 +190,24 @@ spelt_are_entries written own tables [] u = refl
 spelt_are_entries written own tables (r ∷ rs) u =
     ap (λ e. e ∷ spelt_entries rs) (spelt_is_entry written own tables r u.0)
     ∙ ap (λ es. entry_of tables r ∷ es) (spelt_are_entries written own tables rs u.1)
+
+-- the one report of octets that spell a message of one subset
+pub only_read : (tables : Entries) (octets : List ℕ) (d : Decoded) (r : Report)
+    → message_of tables octets ≡ Ok d → length d.message.subsets ≡ 1
+    → slice_get (reports_of d.message) 0 ≡ Some r → Some r ≡ only_one (reports_in tables octets)
+only_read tables octets d r is one first =
+    sym (ap (λ x. only_one (reports_read x)) is
+    ∙ only_first (reports_of d.message) r (length-map d.message.subsets (report_of d.message) ∙ one)
+    first)
+
+-- and none of octets that spell one of more subsets, or of none
+pub only_of_one : (tables : Entries) (octets : List ℕ) (d : Decoded)
+    → message_of tables octets ≡ Ok d → (length d.message.subsets ≡ 1 → ⊥)
+    → None ≡ only_one (reports_in tables octets)
+only_of_one tables octets d is other =
+    sym (ap (λ x. only_one (reports_read x)) is
+    ∙ only_other (reports_of d.message)
+    (λ e. other (sym (length-map d.message.subsets (report_of d.message)) ∙ e)))
 
 -- the one report that was found, if any, spells its own canonical message
 pub found_spells_own : BareAreWritten → CanonicalIsOwn → (tables : Entries) → {E : Type 0}

@@ -70,17 +70,18 @@ fn comes_after(before: &Option<ReadEntry>, entry: &ReadEntry) -> bool
 /// The right entry that begins here, where there is one.
 fn right_entry<'a>(
     alloc: Global,
-    tables: &Tables,
+    templates: &mut Templates<'_>,
     before: &Option<ReadEntry>,
     octets: &'a [u8],
 ) -> Result<Option<ReadEntry<'a>>, OutOfMemory>
-    ensures { IfOk result (λ found. option_map read found
-        ≡ right_entry (entry_in tables.now) (option_map read before.now) octets.now) }
+    ensures same { templates.new ≡ templates.old }
+    ensures is { IfOk result (λ found. option_map read found
+        ≡ right_entry (entry_in templates.old) (option_map read before.now) octets.now) }
 {
     let Some(front) = front_of(octets) else {
         return Ok(None);
     };
-    let Some(entry) = entry_in(alloc, tables, front)? else {
+    let Some(entry) = entry_in(alloc, templates, front)? else {
         return Ok(None);
     };
     if comes_after(before, &entry) {
@@ -142,12 +143,13 @@ impl<'t, S: Shelf> Archive<'t, S> {
         ensures { Gives (λ a. a) result (archive_read tables.now octets.now) }
     {
         reports_are_entries();
+        let mut templates = Templates::new(alloc, tables);
         let mut shelf = S::new(alloc);
         let mut before: Option<ReadEntry> = None;
         let mut place: usize = 0;
         let mut rest = octets;
         while rest.len() > 0 {
-            let Some(entry) = right_entry(alloc, tables, &before, rest)? else {
+            let Some(entry) = right_entry(alloc, &mut templates, &before, rest)? else {
                 let place = place as u64;
                 return Err(Failure::Fault(NotAnArchive { place }));
             };
@@ -156,7 +158,6 @@ impl<'t, S: Shelf> Archive<'t, S> {
             rest = behind(rest, entry.bytes.len());
             before = Some(entry);
         }
-        let templates = Templates::new(alloc, tables);
         Ok(Archive {
             alloc,
             templates,

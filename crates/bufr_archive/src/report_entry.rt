@@ -14,9 +14,7 @@ use bufr_keys::Key;
 use bufr_message::laws::{
     canonical_messages_are_own, reports_have_canonical_messages, written_messages_are_spelt,
 };
-use bufr_message::{
-    Refused, Report, Templates, View, canonical, canonical_of_read, decode, reports,
-};
+use bufr_message::{Refused, Report, Templates, View, canonical, canonical_of_read};
 use bufr_report_keys::key_in;
 use bufr_shelves::Entry;
 use bufr_tables::Tables;
@@ -74,44 +72,56 @@ fn spelt_entry(alloc: Global, report: &Report) -> Result<Option<Entry>, OutOfMem
 
 /// The one report of the message that octets spell, where they spell one of one subset. It can
 /// only run out of memory.
-fn only_report(alloc: Global, tables: &Tables, octets: &[u8]) -> Result<Option<Report>, OutOfMemory>
-    ensures is { IfOk result (λ found. found ≡ only_one (reports_in tables.now octets.now)) }
-    ensures under { IfOk result (λ found. IfSome found (IsUnder tables.now)) }
+fn only_report(
+    alloc: Global,
+    templates: &mut Templates<'_>,
+    octets: &[u8],
+) -> Result<Option<Report>, OutOfMemory>
+    ensures same { templates.new ≡ templates.old }
+    ensures is { IfOk result (λ found.
+        found ≡ only_one (reports_in templates.old octets.now)) }
+    ensures under { IfOk result (λ found. IfSome found (IsUnder templates.old)) }
 {
-    reports_have_canonical_messages();
-    let message = match decode(alloc, tables, octets) {
-        Ok(decoded) => decoded.message,
+    let view = match templates.view(alloc, octets) {
+        Ok(view) => view,
         Err(Failure::Fault(_)) => return Ok(None),
         Err(Failure::OutOfMemory) => return Err(OutOfMemory),
     };
-    let mut found = reports(alloc, message)?;
-    if found.len() != 1 {
+    if view.count() != 1 {
         return Ok(None);
     }
-    Ok(found.pop())
+    Ok(Some(view.report(alloc, 1)?))
 }
 
 /// The one report of the message that octets spell, as `only_report` finds it, whose own fields
 /// spell its canonical message.
-fn only_own(alloc: Global, tables: &Tables, octets: &[u8]) -> Result<Option<Report>, OutOfMemory>
-    ensures is { IfOk result (λ found. found ≡ only_one (reports_in tables.now octets.now)) }
-    ensures own { IfOk result (λ found. IfSome found (SpellsOwn tables.now)) }
+fn only_own(
+    alloc: Global,
+    templates: &mut Templates<'_>,
+    octets: &[u8],
+) -> Result<Option<Report>, OutOfMemory>
+    ensures same { templates.new ≡ templates.old }
+    ensures is { IfOk result (λ found.
+        found ≡ only_one (reports_in templates.old octets.now)) }
+    ensures own { IfOk result (λ found. IfSome found (SpellsOwn templates.old)) }
 {
     written_messages_are_spelt();
     canonical_messages_are_own();
-    only_report(alloc, tables, octets)
+    only_report(alloc, templates, octets)
 }
 
 /// The entry that octets are: they spell a message of one subset whose canonical message they are.
 /// It can only run out of memory.
 pub(crate) fn entry_in<'a>(
     alloc: Global,
-    tables: &Tables,
+    templates: &mut Templates<'_>,
     octets: &'a [u8],
 ) -> Result<Option<ReadEntry<'a>>, OutOfMemory>
-    ensures { IfOk result (λ found. option_map read found ≡ entry_in tables.now octets.now) }
+    ensures same { templates.new ≡ templates.old }
+    ensures is { IfOk result (λ found.
+        option_map read found ≡ entry_in templates.old octets.now) }
 {
-    let Some(report) = only_own(alloc, tables, octets)? else {
+    let Some(report) = only_own(alloc, templates, octets)? else {
         return Ok(None);
     };
     let Some(bytes) = canonical_of_read(alloc, &report)? else {

@@ -1,24 +1,54 @@
--- A canonical message is what the report's own fields spell: for the law on canonical messages and
--- `canonical_of_read`.
-use Rattle.std.proofs.Common.{◌≡◌, ℕ, ◌^◌, true, List, [], ◌∷◌, Some, refl, sym, ap, ◌∙◌}
-use Rattle.std.specs.Prelude.{nat_lt, nat_le}
+-- A canonical message is what the report's own fields spell: for the law on canonical messages,
+-- `canonical_of_read` and `View::canonical`.
+use Rattle.std.proofs.Common.{◌≡◌, ℕ, zero, suc, ◌^◌, ◌<◌, Bool, true, false, List, [], ◌∷◌, length}
+use Rattle.std.proofs.Common.{Option, Some, None, Result, Ok, Err, refl, sym, ap, subst, ◌∙◌, arith}
+use Rattle.std.specs.Prelude.{nat_lt, nat_le, slice_get, IfOk, IfSome, option_map}
 use Rattle.std.specs.List.{AllByRecursion}
 use Rattle.std.proofs.lemmas.Bool.{and_from, le-leb, lt-ltb}
 use Rattle.std.proofs.lemmas.List.{append-nil}
+use Rattle.std.proofs.lemmas.Option.{same_Some, slice_get-map}
+use Rattle.bufr_bits.specs.Bits.{bits}
 use Rattle.bufr_tables.specs.Entries.{Entries}
 use Rattle.bufr_expand.specs.declared.operators.Spec.{Spec}
 use Rattle.bufr_data.specs.declared.field.Raw.{Raw}
 use Rattle.bufr_data.specs.declared.field.Field.{Field}
+use Rattle.bufr_data.specs.declared.field.Subset.{Subset}
+use Rattle.bufr_data.specs.declared.fault.WriteFault.{WriteFault}
+use Rattle.bufr_data.specs.Data.{ReadsExactly}
+use Rattle.bufr_expand.specs.Trees.{Tree}
+use Rattle.bufr_sections.specs.declared.message.Head.{Head}
+use Rattle.bufr_sections.specs.declared.message.Message.{Message}
+use Rattle.bufr_sections.specs.Sections.{Envelope}
+use Rattle.bufr_sections.specs.Spelt.{spelt_or}
 use Rattle.bufr_data.specs.Fits.{HasForm, of_text, of_number}
 use Rattle.bufr_data.specs.Plain.{plain}
 use Rattle.bufr_answers.specs.AnswerLaws.{bind_ok}
 use Rattle.bufr_message.specs.declared.report.Report.{Report}
 use Rattle.bufr_message.specs.Below.{Below}
-use Rattle.bufr_message.specs.Encodings.{data_bits_or, enclosed_or, code}
-use Rattle.bufr_message.specs.Reports.{alone, if_written, IsCanonical}
-use Rattle.bufr_message.specs.OwnBits.{has_room, have_room, spelt_alone}
+use Rattle.bufr_message.specs.Encodings.{filled, whole_octets, data_or, data_bits_or, enclosed_or}
+use Rattle.bufr_message.specs.Encodings.{code}
+use Rattle.bufr_message.specs.Reports.{report_of, reports_of, with_no_local, alone, if_written}
+use Rattle.bufr_message.specs.Reports.{IsCanonical}
+use Rattle.bufr_message.specs.OwnBits.{has_room, have_room, HaveRoom, own_bits, spelt_with}
+use Rattle.bufr_message.specs.OwnBits.{report_with, spelt_alone}
+use Rattle.bufr_message.specs.Views.{AreReadFrom}
+use Rattle.bufr_message.proofs.AloneFacts.{StandsAlone, each_alone}
+use Rattle.bufr_message.proofs.EncodingFacts.{enclosed_is}
 use Rattle.bufr_message.proofs.WrittenFacts.{bits_found}
 use Rattle.bufr_message.proofs.UnwrittenFacts.{bare_is_written}
+
+-- the sections of a report alone with this head and these octets behind the fourth of section 4
+abbrev pub envelope_alone : Head → Report → List ℕ → Envelope
+envelope_alone h r contents =
+    record {
+      head = h;
+      section2 = None;
+      observed = r.observed;
+      compressed = false;
+      descriptors = r.descriptors;
+      count = 1;
+      contents = contents;
+    }
 
 -- a raw value of a spec's form has room in its bits
 room_of : (spec : Spec) (raw : Raw) → HasForm spec raw → has_room spec.width raw ≡ true
@@ -44,3 +74,80 @@ canonical_is_own below tables r octets c =
     let rooms = rooms_of r.subset.fields held.3.1.1.2.formed in
     let same : found.0 ≡ plain r.subset.fields = held.3.2 ∙ append-nil (plain r.subset.fields) in
     rw rooms (ap if_written (sym (ap (enclosed_or (alone r)) same) ∙ found.2))
+
+-- ---- subsets that were read
+
+-- so have the fields of subsets that stand alone
+all_rooms : (tree : Tree) (most : ℕ) (subsets : List Subset)
+    → AllByRecursion (StandsAlone tree most) subsets → HaveRoom subsets
+all_rooms tree most [] all = tt
+all_rooms tree most (s ∷ ss) (first, others) =
+    (rooms_of s.fields first.fits.formed, all_rooms tree most ss others)
+
+-- and so have those of subsets that are read
+pub rooms_read : ((tree : Tree) (compressed : Bool) (count : ℕ) (front : List Bool)
+    (found : List Subset × List Bool) → ReadsExactly tree compressed count front found)
+    → (contents : List ℕ) (compressed : Bool) (subsets : List Subset)
+    → AreReadFrom contents compressed subsets → HaveRoom subsets
+rooms_read reads contents compressed subsets (tree, count, rest, is) =
+    let begins = (reads tree compressed count (bits contents) (subsets, rest)).0 is in
+    all_rooms tree (length begins.0) subsets (each_alone tree compressed subsets begins.0 begins.1)
+
+-- ---- the canonical message of a report of a view
+
+-- there is a subset at each number below their count, whose fields have room
+room_at : (subsets : List Subset) (i : ℕ) → i < length subsets → HaveRoom subsets
+    → (s : Subset) × (slice_get subsets i ≡ Some s) × (have_room s.fields ≡ true)
+room_at [] i below rooms = absurd (omega arith)
+room_at (s ∷ ss) zero below rooms = (s, refl, rooms.0)
+room_at (s ∷ ss) (suc i) below rooms = room_at ss i (omega (arith, below)) rooms.1
+
+-- what is spelt with the bits of the subset of a number is what its report spells alone
+pub spelt_there : {A E : Type 0} (m : Message) (i : ℕ) (contents : List ℕ) (items : A → List ℕ)
+    (answer : Result (Option A) E) → i < length m.subsets → HaveRoom m.subsets
+    → IfSome (slice_get m.subsets i) (λ s. bits contents ≡ filled (plain s.fields))
+    → ((s : Subset) (data_bits : List Bool) → bits contents ≡ filled data_bits
+    → IfOk answer (λ found. option_map items found ≡ spelt_with (report_of m s) (Some data_bits)))
+    → IfOk answer (λ found. option_map spelt_alone (slice_get (reports_of m) i)
+    ≡ Some (option_map items found))
+spelt_there m i contents items (Err e) below rooms holds spelt = tt
+spelt_there m i contents items (Ok found) below rooms holds spelt =
+    let t = room_at m.subsets i below rooms in
+    let s = t.0 in
+    let held : bits contents ≡ filled (plain s.fields) =
+    subst (λ (o : Option Subset). IfSome o (λ s. bits contents ≡ filled (plain s.fields))) t.1 holds
+    in
+    let own : own_bits s.fields ≡ Some (plain s.fields) = rw t.2 refl in
+    let is : spelt_alone (report_of m s) ≡ option_map items found =
+    ap (spelt_with (report_of m s)) own ∙ sym (spelt s (plain s.fields) held) in
+    ap (option_map spelt_alone)
+    (slice_get-map (report_of m) m.subsets i ∙ ap (option_map (report_of m)) t.1)
+    ∙ ap Some is
+
+-- what is answered for a report alone with these octets behind the fourth of section 4
+pub alone_is : (r : Report) (h : Head) (contents : List ℕ) (data_bits : List Bool)
+    (x : Result (List ℕ) WriteFault) → whole_octets data_bits ≡ contents → h ≡ with_no_local r.head
+    → spelt_or (envelope_alone h r contents) ≡ x
+    → spelt_with r (Some data_bits) ≡ if_written (data_or x)
+alone_is r h contents data_bits x whole same told =
+    ap if_written
+    (enclosed_is (alone r) contents data_bits x whole
+    (subst (λ (k : Head). spelt_or (envelope_alone k r contents) ≡ x) same told))
+
+-- what is spelt with the bits of a report's own fields is what it spells alone
+pub own_spelt : {A E : Type 0} (r : Report) (contents : List ℕ) (items : A → List ℕ)
+    (answer : Result (Option A) E)
+    → Some (bits contents) ≡ option_map filled (own_bits r.subset.fields)
+    → ((s : Subset) (data_bits : List Bool) → bits contents ≡ filled data_bits
+    → IfOk answer (λ found. option_map items found
+    ≡ spelt_with (report_with r.head r.observed r.descriptors s) (Some data_bits)))
+    → IfOk answer (λ found. option_map items found ≡ spelt_alone r)
+own_spelt {A} {E} r contents items answer held spelt = by_own (own_bits r.subset.fields) refl
+  where
+    by_own : (o : Option (List Bool)) → own_bits r.subset.fields ≡ o
+        → IfOk answer (λ found. option_map items found ≡ spelt_alone r)
+    by_own None is = let none = rw is at held in absurd cc
+    by_own (Some d) is =
+        let same : bits contents ≡ filled d = same_Some _ _ (rw is at held) in
+        subst (λ (o : Option (List Bool)). IfOk answer (λ found. option_map items found
+        ≡ spelt_with r o)) (sym is) (spelt r.subset d same)

@@ -2,14 +2,16 @@
 -- tables has this one canonical message under each tables under which it has one.
 use Rattle.std.specs.Prelude.{◌≡◌, ℕ, ◌^◌, ◌&&◌, Bool, true, List, Option, Some, None, nat_lt}
 use Rattle.std.specs.Prelude.{nat_le, if◌then◌else◌}
-use Rattle.std.specs.List.{list_all}
+use Rattle.std.specs.List.{AllByRecursion, list_all}
 use Rattle.bufr_tables.specs.Entries.{Entries}
 use Rattle.bufr_data.specs.declared.field.Raw.{Raw}
 use Rattle.bufr_data.specs.declared.field.Raw.TheVariants.{Number, Text}
 use Rattle.bufr_data.specs.declared.field.Field.{Field}
+use Rattle.bufr_data.specs.declared.field.Subset.{Subset}
 use Rattle.bufr_data.specs.Plain.{plain}
 use Rattle.bufr_data.specs.Limits.{most_raw_bits}
 use Rattle.bufr_message.specs.declared.report.Report.{Report}
+use Rattle.bufr_message.specs.declared.report.ReportHead.{ReportHead}
 use Rattle.bufr_message.specs.Encodings.{enclosed_or}
 use Rattle.bufr_message.specs.Reports.{alone, if_written, IsCanonical}
 
@@ -26,6 +28,20 @@ have_room fields = list_all (λ (f : Field). has_room f.spec.width f.raw) fields
 -- the bits of fields, where each has room
 abbrev pub own_bits : List Field → Option (List Bool)
 own_bits fields = if have_room fields then Some (plain fields) else None
+
+-- the fields of each of the subsets have room
+abbrev pub HaveRoom : List Subset → Type 0
+HaveRoom subsets = AllByRecursion (λ s. have_room s.fields ≡ true) subsets
+
+-- a report of these parts
+abbrev pub report_with : ReportHead → Bool → List ℕ → Subset → Report
+report_with head observed descriptors subset =
+    record {
+      head = head;
+      observed = observed;
+      descriptors = descriptors;
+      subset = subset;
+    }
 
 -- the octets of the report alone with these data bits, where it is not too long
 abbrev pub spelt_with : Report → Option (List Bool) → Option (List ℕ)

@@ -54,7 +54,7 @@ pub(crate) fn octets_of(
 }
 
 /// The octets of a message whose data bits, filled, are these octets.
-pub(crate) fn enclose(
+fn enclose(
     alloc: Global,
     message: &Lent<'_>,
     contents: &[u8],

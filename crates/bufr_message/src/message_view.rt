@@ -1,24 +1,29 @@
 //! Messages whose reports are built one at a time.
 
 ghost use Rattle.std.specs.Prelude.{◌≡◌, ℕ, ◌-◌, ◌/◌, ◌≤◌, List, Bool, length, slice_get, Some, IfOk};
+ghost use Rattle.std.specs.Prelude.{IfSome, option_map};
 ghost use Rattle.bufr_bits.specs.Bits.{bits};
 ghost use Rattle.bufr_answers.specs.Answers.{Gives, result_map};
 ghost use Rattle.bufr_tables.specs.Entries.{Entries};
 ghost use Rattle.bufr_data.specs.declared.field.Subset.{Subset};
 ghost use Rattle.bufr_data.specs.Data.{subsets_in};
+ghost use Rattle.bufr_data.specs.Plain.{plain};
 ghost use Rattle.bufr_sections.specs.Sections.{descriptors_of};
 ghost use Rattle.bufr_sections.specs.SectionsRead.{envelope};
+ghost use Rattle.bufr_message.specs.Encodings.{filled};
 ghost use Rattle.bufr_message.specs.Kept.{message_under};
 ghost use Rattle.bufr_message.specs.Messages.{data_or, message_of, can_be_alone, Spells};
+ghost use Rattle.bufr_message.specs.OwnBits.{HaveRoom, spelt_alone};
 ghost use Rattle.bufr_message.specs.Reports.{reports_of, IsUnder};
 ghost use Rattle.bufr_message.specs.Views.{AreReadFrom};
 
 use crate::alone::{are_short, is_short};
 use crate::kept::{Kept, kept_of};
 use crate::laws::reports_have_canonical_messages;
-use crate::report::{Report, report_with};
+use crate::own_bits::enclosed_alone;
+use crate::report::{Report, ReportHead, report_with};
 use bufr_answers::{Failure, Items, OutOfMemory};
-use bufr_bits::BitReader;
+use bufr_bits::{BitReader, BitSink};
 use bufr_data::laws::data_hold_subsets;
 use bufr_data::{DataTemplate, Fields, ReadFault, Subset, SubsetIndex};
 use bufr_sections::{Envelope, Head, Refused, read_sections};
@@ -42,6 +47,7 @@ pub struct View<'a> {
 
 impl<'a> Model for View<'a> {
     ghost use Rattle.bufr_sections.specs.declared.message.Decoded.{Decoded};
+    ghost use Rattle.bufr_message.specs.OwnBits.{HaveRoom};
 
     ghost Value = { Decoded };
 
@@ -56,6 +62,9 @@ impl<'a> Model for View<'a> {
       };
       slack_octets = v.slack_octets;
     } };
+
+    // What was read has room in its bits.
+    ghost invariant = { λ v. HaveRoom v.subsets };
 }
 
 impl<'a> View<'a> {
@@ -148,6 +157,45 @@ impl<'a> View<'a> {
             subset,
         )
     }
+
+    /// The canonical message of the report of this number, from 1: what `canonical_of_read` answers
+    /// of it, but no subset is built. Of plain data the bits are copied as they stand. It can only
+    /// run out of memory.
+    pub fn canonical(&self, alloc: Global, number: usize) -> Result<Option<Vec<u8>>, OutOfMemory>
+        requires first { 1 ≤ number }
+        requires last { number ≤ length self.now.message.subsets }
+        ensures { IfOk result (λ found.
+            option_map spelt_alone (slice_get (reports_of self.now.message) (number - 1))
+            ≡ Some (option_map (λ v. v.items) found)) }
+    {
+        let contents = contents_alone(alloc, &self.subsets, number)?;
+        let head = ReportHead::of_head(&self.head);
+        enclosed_alone(
+            alloc,
+            &head,
+            self.observed,
+            self.descriptors.as_slice(),
+            &contents,
+        )
+    }
+}
+
+/// The bits of the subset of this number, from 1, filled to whole octets. It can only run out of
+/// memory.
+fn contents_alone(
+    alloc: Global,
+    subsets: &SubsetIndex<'_>,
+    number: usize,
+) -> Result<Vec<u8>, OutOfMemory>
+    requires first { 1 ≤ number }
+    requires last { number ≤ length subsets.now }
+    ensures { IfSome (slice_get subsets.now (number - 1)) (λ s.
+        IfOk result (λ contents. bits contents.items ≡ filled (plain s.fields))) }
+{
+    let mut sink = BitSink::new(alloc);
+    subsets.put(alloc, number, &mut sink)?;
+    sink.fill_octet();
+    Ok(sink.into_bytes())
 }
 
 /// The message that octets spell: the one clause from which `view` has its others.
@@ -219,8 +267,10 @@ fn index_of<'a>(
         (data_or (result_map (λ found. (found.0, length found.1 / 8))
         (subsets_in template.old compressed count (bits contents.now)))) }
     ensures stand { IfOk result (λ x. AreReadFrom contents.now compressed x.0) }
+    ensures room { IfOk result (λ x. HaveRoom x.0) }
     ensures same { template.new ≡ template.old }
 {
+    data_hold_subsets();
     let mut reader = BitReader::new(contents);
     match template.index(alloc, compressed, &mut reader, count) {
         Ok(subsets) => Ok((subsets, (reader.left() / 8) as u64)),

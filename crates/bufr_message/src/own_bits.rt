@@ -1,24 +1,24 @@
 //! The canonical message of a report that was read, from its own fields alone.
 
-ghost use Rattle.std.specs.Prelude.{◌≡◌, ◌++◌, ◌^◌, ◌&&◌, ℕ, List, true, Some, IfOk, OnOk};
+ghost use Rattle.std.specs.Prelude.{◌≡◌, ◌++◌, ◌^◌, ◌&&◌, ℕ, Bool, List, true, Some, IfOk, OnOk};
 ghost use Rattle.std.specs.Prelude.{option_map, nat_lt, nat_le};
 ghost use Rattle.bufr_bits.specs.Bits.{bits};
 ghost use Rattle.bufr_tables.specs.Entries.{Entries};
+ghost use Rattle.bufr_data.specs.declared.field.Subset.{Subset};
 ghost use Rattle.bufr_data.specs.Plain.{raw_bits};
 ghost use Rattle.bufr_data.specs.Limits.{most_raw_bits};
 ghost use Rattle.bufr_message.specs.Encodings.{filled};
-ghost use Rattle.bufr_message.specs.OwnBits.{has_room, own_bits, spelt_alone};
+ghost use Rattle.bufr_message.specs.OwnBits.{has_room, own_bits, report_with, spelt_alone, spelt_with};
 ghost use Rattle.bufr_message.specs.Reports.{IsCanonical};
 
-use crate::encoding::enclose;
 use crate::laws::canonical_messages_are_own;
-use crate::lent::Lent;
-use crate::report::Report;
+use crate::report::{Report, ReportHead};
 use bufr_answers::{Failure, OutOfMemory};
 use bufr_bits::BitSink;
 use bufr_data::{Field, MOST_RAW_BITS, Raw};
+use bufr_sections::{Parts, spell};
+use bufr_tables::Fxy;
 use std::alloc::Global;
-use std::slice;
 
 /// The canonical message of a report that has one under some tables, as each report of a decoded
 /// message and of a view has: the octets that `canonical` answers, written from the report's own
@@ -48,17 +48,40 @@ fn spelt_alone(alloc: Global, report: &Report) -> Result<Option<Vec<u8>>, OutOfM
     let Some(contents) = bits_of_fields(alloc, fields)? else {
         return Ok(None);
     };
-    let head = report.head.with_no_local(alloc);
+    enclosed_alone(
+        alloc,
+        &report.head,
+        report.observed,
+        report.descriptors.as_slice(),
+        &contents,
+    )
+}
+
+/// The octets that say alone a subset with this head, this flag and these descriptors, whose data
+/// bits, filled, are the contents; `None` where they are too many. It can only run out of memory.
+pub(crate) fn enclosed_alone(
+    alloc: Global,
+    head: &ReportHead,
+    observed: bool,
+    descriptors: &[Fxy],
+    contents: &[u8],
+) -> Result<Option<Vec<u8>>, OutOfMemory>
+    ensures { (subset : Subset) (data_bits : List Bool) → bits contents.now ≡ filled data_bits
+        → IfOk result (λ found. option_map (λ v. v.items) found
+        ≡ spelt_with (report_with head.now observed descriptors.now subset) (Some data_bits)) }
+{
+    let head = head.with_no_local(alloc);
     let none = None;
-    let lent = Lent {
+    let parts = Parts {
         head: &head,
         section2: &none,
-        observed: report.observed,
+        observed,
         compressed: false,
-        descriptors: report.descriptors.as_slice(),
-        subsets: slice::from_ref(&report.subset),
+        descriptors,
+        count: 1,
+        contents,
     };
-    match enclose(alloc, &lent, &contents) {
+    match spell(alloc, &parts) {
         Ok(octets) => Ok(Some(octets)),
         Err(Failure::Fault(_)) => Ok(None),
         Err(Failure::OutOfMemory) => Err(OutOfMemory),

@@ -56,7 +56,7 @@ pub struct ReportHead {
 
 impl ReportHead {
     /// What a head says but for its octets for local use.
-    fn of_head(head: &Head) -> ReportHead
+    pub fn of_head(head: &Head) -> ReportHead
         ensures { result ≡ without_local head.now }
     {
         ReportHead {

@@ -1,3 +1,4 @@
+pub mod Asked
 pub mod Keys
 pub mod Laws
 pub mod Samples

@@ -2,10 +2,11 @@
 ghost use Rattle.std.specs.Prelude.{◌≡◌, IfOk};
 ghost use Rattle.bufr_report_keys.specs.Keys.{key};
 
+use crate::asked::asked_of;
 use crate::moments::moment_of;
 use crate::stations::station_of;
 use bufr_answers::OutOfMemory;
-use bufr_data::Field;
+use bufr_data::{Field, Fields};
 use bufr_keys::Key;
 use bufr_message::ReportHead;
 use std::alloc::Global;
@@ -35,4 +36,17 @@ pub fn key_in(
         moment,
         sub_centre: head.sub_centre,
     }))
+}
+
+/// What `key_in` answers of these fields, which are handed out one at a time: at most 13 of them
+/// are held. It can only run out of memory.
+pub fn key_of_fields(
+    alloc: Global,
+    head: &ReportHead,
+    fields: Fields<'_>,
+) -> Result<Option<Key>, OutOfMemory>
+    ensures { IfOk result (λ found. found ≡ key head.now fields.entry) }
+{
+    let asked = asked_of(alloc, fields)?;
+    key_in(alloc, head, &asked)
 }

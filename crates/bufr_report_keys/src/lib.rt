@@ -7,6 +7,7 @@
 //! where they are said. A report that says both has a key.
 #![tactic(auto)]
 
+mod asked;
 mod keys;
 pub mod laws;
 mod moments;
@@ -14,4 +15,4 @@ mod stations;
 mod usable;
 mod worked_values;
 
-pub use keys::key_in;
+pub use keys::{key_in, key_of_fields};

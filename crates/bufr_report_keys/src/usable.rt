@@ -59,7 +59,13 @@ fn first_field(fields: &[Field], x: u8, y: u8) -> Option<&Field>
     requires { x < 64 }
     ensures { option_copied result ≡ first_field (descriptor 0 x y) fields.now }
 {
-    let fxy = Fxy::from_bits(256 * x as u16 + y as u16);
+    first_of(fields, Fxy::from_bits(256 * x as u16 + y as u16))
+}
+
+/// The first field with this descriptor.
+pub(crate) fn first_of(fields: &[Field], fxy: Fxy) -> Option<&Field>
+    ensures { option_copied result ≡ first_field fxy fields.now }
+{
     fields.iter().find(|field| field.fxy == fxy)
 }
 

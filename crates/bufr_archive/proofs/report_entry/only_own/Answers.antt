@@ -6,4 +6,4 @@ use Rattle.bufr_archive.proofs.report_entry.only_own.Goals as goal
 pub returns-clause-own : goal.returns-clause-own
 returns-clause-own c =
     found_spells_own c.written_messages_are_spelt.ensures.only c.canonical_messages_are_own.ensures
-    c.args.tables.now c.only_report.result c.only_report.ensures.under
+    c.args.templates.now c.only_report.result c.only_report.ensures.under

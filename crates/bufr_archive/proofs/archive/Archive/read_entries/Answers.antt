@@ -16,21 +16,22 @@ pub returns-in_default : goal.returns-in_default
 returns-in_default g c =
     let tables = c.args.tables.now in
     let before = option_map read c.loop-rest.before in
+    let found = rw c.loop-rest.invariant.tables at c.in_ok-entry.ensures.is in
     let none : right_entry (entry_in tables) before c.loop-rest.rest.now ≡ None =
-    sym c.in_ok-entry.ensures ∙ ap (option_map read) c.in_default.is in
+    sym found ∙ ap (option_map read) c.in_default.is in
     ap (archive_or tables)
     (read_stops (IsReportEntry tables) (entry_in tables) (c.reports_are_entries.ensures tables)
     c.args.octets.now (g.S.Shelf.entries c.loop-rest.shelf)
-    before c.loop-rest.place c.loop-rest.rest.now c.loop-rest.invariant (omega arith) none)
+    before c.loop-rest.place c.loop-rest.rest.now c.loop-rest.invariant.so_far (omega arith) none)
 
 -- a right entry has no more octets than are left
 pub behind-rest-requires : goal.behind-rest-requires
 behind-rest-requires g c =
+    let found = rw c.loop-rest.invariant.tables at c.in_ok-entry.ensures.is in
     (read_next (IsReportEntry c.args.tables.now) (entry_in c.args.tables.now)
     (c.reports_are_entries.ensures c.args.tables.now) c.args.octets.now
     (g.S.Shelf.entries c.loop-rest.shelf) c.loop-rest.before c.loop-rest.place
-    c.loop-rest.rest.now _ c.in-Some.entry c.loop-rest.invariant c.in_ok-entry.ensures
-    c.in-Some.is).1
+    c.loop-rest.rest.now _ c.in-Some.entry c.loop-rest.invariant.so_far found c.in-Some.is).1
 
 -- one entry more was read and put on the shelf, and the octets behind it are left
 pub loop-rest-preserved : goal.loop-rest-preserved
@@ -38,24 +39,28 @@ loop-rest-preserved g c =
     let e = read c.in-Some.entry in
     let old = g.S.Shelf.entries c.loop-rest.shelf in
     let place = c.loop-rest.place + length c.in-Some.entry.bytes.now in
+    let found = rw c.loop-rest.invariant.tables at c.in_ok-entry.ensures.is in
     let next = read_next (IsReportEntry c.args.tables.now) (entry_in c.args.tables.now)
     (c.reports_are_entries.ensures c.args.tables.now) c.args.octets.now
     (g.S.Shelf.entries c.loop-rest.shelf) c.loop-rest.before c.loop-rest.place
-    c.loop-rest.rest.now _ c.in-Some.entry c.loop-rest.invariant c.in_ok-entry.ensures
-    c.in-Some.is in
+    c.loop-rest.rest.now _ c.in-Some.entry c.loop-rest.invariant.so_far found c.in-Some.is in
     let left = subst (λ (r : List ℕ). ReadSoFar (IsReportEntry c.args.tables.now)
     c.args.octets.now (kept (old ++ e ∷ [])) (Some e) place r) (sym c.behind-rest.ensures) next.2 in
-    subst (λ (es : List Entry). ReadSoFar (IsReportEntry c.args.tables.now) c.args.octets.now
-    es (Some e) place c.behind-rest.result.now) (sym c.in_ok-keep.ensures) left
+    record {
+      so_far = subst (λ (es : List Entry). ReadSoFar (IsReportEntry c.args.tables.now)
+          c.args.octets.now es (Some e) place c.behind-rest.result.now) (sym c.in_ok-keep.ensures)
+          left;
+      tables = c.in_ok-entry.ensures.same ∙ c.loop-rest.invariant.tables;
+    }
 
 -- a right entry has some octets, so fewer are left
 pub loop-rest-smaller : goal.loop-rest-smaller
 loop-rest-smaller g c =
+    let found = rw c.loop-rest.invariant.tables at c.in_ok-entry.ensures.is in
     let next = read_next (IsReportEntry c.args.tables.now) (entry_in c.args.tables.now)
     (c.reports_are_entries.ensures c.args.tables.now) c.args.octets.now
     (g.S.Shelf.entries c.loop-rest.shelf) c.loop-rest.before c.loop-rest.place
-    c.loop-rest.rest.now _ c.in-Some.entry c.loop-rest.invariant c.in_ok-entry.ensures
-    c.in-Some.is in
+    c.loop-rest.rest.now _ c.in-Some.entry c.loop-rest.invariant.so_far found c.in-Some.is in
     let some = next.0 in
     let within = next.1 in
     let n = length c.in-Some.entry.bytes.now in
@@ -67,9 +72,9 @@ loop-rest-smaller g c =
 pub returns : goal.returns
 returns g c =
     let tables = c.args.tables.now in
-    rw c.new-templates.ensures
+    rw c.loop-rest.invariant.tables
     (ap (archive_or tables)
     (read_all (IsReportEntry tables) (entry_in tables) (c.reports_are_entries.ensures tables)
     c.args.octets.now (g.S.Shelf.entries c.loop-rest.shelf)
     (option_map read c.loop-rest.before) c.loop-rest.place c.loop-rest.rest.now
-    c.loop-rest.invariant (omega arith)))
+    c.loop-rest.invariant.so_far (omega arith)))
