@@ -2,7 +2,7 @@
 use Rattle.std.proofs.Common.{◌≡◌, ℕ, ◌+◌, ◌-◌, ◌*◌, ◌/◌, ◌%◌, ◌^◌, ◌<◌, true, cond, List, [], ◌∷◌}
 use Rattle.std.proofs.Common.{◌++◌, length, take, drop, Option, Some, None, Result, Ok, Err, refl}
 use Rattle.std.proofs.Common.{sym, ap, subst, ◌∙◌, arith, length-append, get_or}
-use Rattle.std.specs.Prelude.{IfOk, IfSome, codes, option_map, slice_get}
+use Rattle.std.specs.Prelude.{IfOk, codes, option_map, slice_get}
 use Rattle.std.proofs.lemmas.Option.{cond_some, same_Some, slice_get-map, get_or_from_slice_get}
 use Rattle.std.specs.Int.{bytes_high_first}
 use Rattle.std.specs.List.{AllByRecursion}
@@ -17,7 +17,7 @@ use Rattle.bufr_sections.specs.declared.fault.Refused.{Refused}
 use Rattle.bufr_sections.specs.Sections.{Envelope, Ignored, EnvelopeFits, sections, enclosed}
 use Rattle.bufr_sections.specs.Sections.{spelling, edition_number}
 use Rattle.bufr_message.specs.declared.report.Report.{Report}
-use Rattle.bufr_message.specs.Messages.{message_of}
+use Rattle.bufr_message.specs.Messages.{message_of, Spells}
 use Rattle.bufr_message.specs.OwnBits.{CanonicalIsOwn}
 use Rattle.bufr_message.specs.Laws.{MessagesReadAreSpelt, BareAreWritten}
 use Rattle.bufr_message.specs.Reports.{report_of, reports_of, reports_read, reports_in, alone, canonical}
@@ -28,7 +28,10 @@ use Rattle.bufr_shelves.specs.declared.entry.Entry.{Entry}
 use Rattle.bufr_sections.specs.Sections.{AreOctets}
 use Rattle.bufr_archive.specs.ReportEntries.{AreUnder, entry_of, entry_with, IsReportEntry}
 use Rattle.bufr_archive.specs.ReportEntries.{is_canonical, only_one, own_entry, entry_in}
-use Rattle.bufr_archive.specs.ReportEntries.{report_entries, spelt_entry, spelt_entries, SpellsOwn}
+use Rattle.bufr_archive.specs.ReportEntries.{report_entries, spelt_entry, spelt_entries}
+use Rattle.bufr_archive.specs.ReportEntries.{entry_spelt}
+use Rattle.bufr_archive.specs.declared.reading.ReadEntry.{ReadEntry}
+use Rattle.bufr_archive.specs.Reading.{read}
 use Rattle.bufr_archive.specs.ReportLaws.{ReportsAreEntries}
 use Rattle.bufr_archive.proofs.EntryFacts.{bind_some}
 
@@ -110,14 +113,7 @@ only_one_is [] r e = absurd cc
 only_one_is (x ∷ []) r e = ap (λ y. y ∷ []) cc
 only_one_is (x ∷ y ∷ rs) r e = absurd cc
 
--- the first of one is that one
-only_first : (rs : List Report) (r : Report) → length rs ≡ 1 → slice_get rs 0 ≡ Some r
-    → only_one rs ≡ Some r
-only_first [] r one e = absurd (omega arith)
-only_first (x ∷ []) r one e = e
-only_first (x ∷ y ∷ rs) r one e = absurd (omega arith)
-
--- of fewer or more there is no such
+-- of fewer or more than one there is no such
 only_other : (rs : List Report) → (length rs ≡ 1 → ⊥) → only_one rs ≡ None
 only_other [] other = refl
 only_other (x ∷ []) other = absurd (other refl)
@@ -191,32 +187,48 @@ spelt_are_entries written own tables (r ∷ rs) u =
     ap (λ e. e ∷ spelt_entries rs) (spelt_is_entry written own tables r u.0)
     ∙ ap (λ es. entry_of tables r ∷ es) (spelt_are_entries written own tables rs u.1)
 
--- the one report of octets that spell a message of one subset
-pub only_read : (tables : Entries) (octets : List ℕ) (d : Decoded) (r : Report)
-    → message_of tables octets ≡ Ok d → length d.message.subsets ≡ 1
-    → slice_get (reports_of d.message) 0 ≡ Some r → Some r ≡ only_one (reports_in tables octets)
-only_read tables octets d r is one first =
-    sym (ap (λ x. only_one (reports_read x)) is
-    ∙ only_first (reports_of d.message) r (length-map d.message.subsets (report_of d.message) ∙ one)
-    first)
-
--- and none of octets that spell one of more subsets, or of none
-pub only_of_one : (tables : Entries) (octets : List ℕ) (d : Decoded)
+-- none of octets that spell a message of more subsets than one, or of none
+pub none_of_more : (tables : Entries) (octets : List ℕ) (d : Decoded)
     → message_of tables octets ≡ Ok d → (length d.message.subsets ≡ 1 → ⊥)
-    → None ≡ only_one (reports_in tables octets)
-only_of_one tables octets d is other =
-    sym (ap (λ x. only_one (reports_read x)) is
-    ∙ only_other (reports_of d.message)
-    (λ e. other (sym (length-map d.message.subsets (report_of d.message)) ∙ e)))
+    → None ≡ entry_in tables octets
+none_of_more tables octets d is other =
+    sym (ap (λ x. only_one (reports_read x) >>= own_entry tables octets) is
+    ∙ ap (λ o. o >>= own_entry tables octets) (only_other (reports_of d.message)
+    (λ e. other (sym (length-map d.message.subsets (report_of d.message)) ∙ e))))
 
--- the one report that was found, if any, spells its own canonical message
-pub found_spells_own : BareAreWritten → CanonicalIsOwn → (tables : Entries) → {E : Type 0}
-    → (x : Result (Option Report) E) → IfOk x (λ found. IfSome found (IsUnder tables))
-    → IfOk x (λ found. IfSome found (SpellsOwn tables))
-found_spells_own written own tables (Ok (Some r)) u =
-    (u.0, canonical_is written tables r u.0 u.1, own tables r u.0 u.1)
-found_spells_own written own tables (Ok None) u = tt
-found_spells_own written own tables (Err e) u = tt
+-- one of some
+one_there : (rs : List Report) → length rs ≡ 1 → (r : Report) × (rs ≡ r ∷ [])
+one_there [] one = absurd (omega arith)
+one_there (r ∷ []) one = (r, refl)
+one_there (r ∷ s ∷ rs) one = absurd (omega arith)
+
+-- of a report under the tables it is the same what is written of it and what its own fields spell
+own_is_spelt : BareAreWritten → CanonicalIsOwn → (tables : Entries) (octets : List ℕ) (r : Report)
+    → IsUnder tables r → own_entry tables octets r ≡ entry_spelt octets r
+own_is_spelt written own tables octets r u =
+    ap (λ (x : Option (List ℕ)). cond (is_canonical x octets) (Some (entry_with r octets)) None)
+    (canonical_is written tables r u.0 u.1 ∙ sym (own tables r u.0 u.1))
+
+-- that of the one report of octets
+pub entry_of_one : BareAreWritten → CanonicalIsOwn → ReportsSpeltAreUnder → (tables : Entries)
+    (octets : List ℕ) (d : Decoded) → {E : Type 0} → (answer : Result (Option ReadEntry) E)
+    → message_of tables octets ≡ Ok d → Spells tables d.message octets d.slack_octets
+    → length d.message.subsets ≡ 1
+    → IfOk answer (λ found. option_map (entry_spelt octets) (slice_get (reports_of d.message) 0)
+    ≡ Some (option_map read found))
+    → IfOk answer (λ found. option_map read found ≡ entry_in tables octets)
+entry_of_one written own under tables octets d (Err e) is spells one told = tt
+entry_of_one written own under tables octets d (Ok found) is spells one told =
+    let t =
+    one_there (reports_of d.message)
+    (length-map d.message.subsets (report_of d.message) ∙ one) in
+    let each =
+    subst (AllByRecursion (IsUnder tables)) t.1
+    (under tables d.message octets d.slack_octets spells) in
+    let here : entry_spelt octets t.0 ≡ option_map read found = same_Some _ _ (rw t.1 at told) in
+    sym (ap (λ x. only_one (reports_read x) >>= own_entry tables octets) is
+    ∙ ap (λ (rs : List Report). only_one rs >>= own_entry tables octets) t.1
+    ∙ own_is_spelt written own tables octets t.0 each.0 ∙ here)
 
 -- the entry at an index is that of the report there, which is counted from 1
 pub spelt_at : (rs : List Report) (i : ℕ) (r : Report) → slice_get rs (i + 1 - 1) ≡ Some r
@@ -226,3 +238,14 @@ spelt_at rs i r e =
     let there = subst (λ k. slice_get rs k ≡ Some r) same e in
     sym (get_or_from_slice_get (spelt_entries rs) i (spelt_entry r) None
     (slice_get-map spelt_entry rs i ∙ ap (option_map spelt_entry) there))
+
+-- so it is of the report viewed there
+pub viewed_at : {E : Type 0} (rs : List Report) (i : ℕ) (answer : Result (Option Entry) E)
+    → IfOk answer (λ found. option_map spelt_entry (slice_get rs (i + 1 - 1)) ≡ Some found)
+    → IfOk answer (λ found. found ≡ get_or (spelt_entries rs) i None)
+viewed_at rs i (Err e) told = tt
+viewed_at rs i (Ok found) told =
+    let same : i + 1 - 1 ≡ i = omega arith in
+    let there = subst (λ k. option_map spelt_entry (slice_get rs k) ≡ Some found) same told in
+    sym (get_or_from_slice_get (spelt_entries rs) i found None
+    (slice_get-map spelt_entry rs i ∙ there))

@@ -44,11 +44,6 @@ spelt_entry r = option_map (entry_with r) (spelt_alone r)
 abbrev pub spelt_entries : List Report → List (Option Entry)
 spelt_entries rs = map spelt_entry rs
 
--- a report has a canonical message under the tables, which is what its own fields spell
-abbrev pub SpellsOwn : Entries → Report → Type 0
-SpellsOwn tables r = (canon : List ℕ) × (canonical tables r ≡ Some canon)
-    × (spelt_alone r ≡ Some canon)
-
 -- the entries of all reports of the message that octets spell
 abbrev pub entries_told : Entries → List ℕ → List (Option Entry)
 entries_told tables octets = report_entries tables (reports_in tables octets)
@@ -87,6 +82,11 @@ only_one _ = None
 abbrev pub own_entry : Entries → List ℕ → Report → Option Entry
 own_entry tables octets r =
     if is_canonical (canonical tables r) octets then Some (entry_with r octets) else None
+
+-- the same where its own fields spell these octets, with no tables asked
+abbrev pub entry_spelt : List ℕ → Report → Option Entry
+entry_spelt octets r =
+    if is_canonical (spelt_alone r) octets then Some (entry_with r octets) else None
 
 -- the entry that octets are: they spell a message of one subset whose canonical message they are
 abbrev pub entry_in : Entries → List ℕ → Option Entry

@@ -1,10 +1,10 @@
 //! Reports as entries of an archive.
-ghost use Rattle.std.specs.Prelude.{◌≡◌, ◌<◌, IfOk, IfSome, get_or, length};
+ghost use Rattle.std.specs.Prelude.{◌≡◌, ◌-◌, ◌<◌, ◌≤◌, IfOk, Some, get_or, length, slice_get};
 ghost use Rattle.std.specs.Option.{option_map};
 ghost use Rattle.bufr_answers.specs.Answers.{Gives};
-ghost use Rattle.bufr_archive.specs.ReportEntries.{key_of, entry_with, entry_of, spelt_entry, spelt_entries, only_one, entry_in, report_entries, SpellsOwn};
+ghost use Rattle.bufr_archive.specs.ReportEntries.{key_of, entry_with, entry_of, spelt_entry, spelt_entries, entry_spelt, entry_in, report_entries};
 ghost use Rattle.bufr_message.specs.Messages.{message_of};
-ghost use Rattle.bufr_message.specs.Reports.{reports_in, reports_of, IsUnder};
+ghost use Rattle.bufr_message.specs.Reports.{reports_of};
 ghost use Rattle.bufr_archive.specs.Reading.{read};
 
 use crate::adding::ReportList;
@@ -14,8 +14,8 @@ use bufr_keys::Key;
 use bufr_message::laws::{
     canonical_messages_are_own, reports_have_canonical_messages, written_messages_are_spelt,
 };
-use bufr_message::{Refused, Report, Templates, View, canonical, canonical_of_read};
-use bufr_report_keys::key_in;
+use bufr_message::{Refused, Report, ReportHead, Templates, View, canonical, canonical_of_read};
+use bufr_report_keys::{key_in, key_of_fields};
 use bufr_shelves::Entry;
 use bufr_tables::Tables;
 use std::alloc::Global;
@@ -70,44 +70,51 @@ fn spelt_entry(alloc: Global, report: &Report) -> Result<Option<Entry>, OutOfMem
     Ok(Some(entry_with(alloc, report, octets)?))
 }
 
-/// The one report of the message that octets spell, where they spell one of one subset. It can
-/// only run out of memory.
-fn only_report(
-    alloc: Global,
-    templates: &mut Templates<'_>,
-    octets: &[u8],
-) -> Result<Option<Report>, OutOfMemory>
-    ensures same { templates.new ≡ templates.old }
-    ensures is { IfOk result (λ found.
-        found ≡ only_one (reports_in templates.old octets.now)) }
-    ensures under { IfOk result (λ found. IfSome found (IsUnder templates.old)) }
+/// The same of the report of this number, from 1, of a view: no subset is built.
+fn viewed_entry(alloc: Global, view: &View<'_>, number: usize) -> Result<Option<Entry>, OutOfMemory>
+    requires first { 1 ≤ number }
+    requires last { number ≤ length view.now.message.subsets }
+    ensures { IfOk result (λ found.
+        option_map spelt_entry (slice_get (reports_of view.now.message) (number - 1))
+        ≡ Some found) }
 {
-    let view = match templates.view(alloc, octets) {
-        Ok(view) => view,
-        Err(Failure::Fault(_)) => return Ok(None),
-        Err(Failure::OutOfMemory) => return Err(OutOfMemory),
-    };
-    if view.count() != 1 {
+    let Some(octets) = view.canonical(alloc, number)? else {
         return Ok(None);
-    }
-    Ok(Some(view.report(alloc, 1)?))
+    };
+    let head = ReportHead::of_head(view.head());
+    let fields = view.fields(alloc, number)?;
+    Ok(Some(Entry {
+        key: key_of_fields(alloc, &head, fields)?,
+        update: head.update,
+        bytes: Items::from_vec(octets),
+    }))
 }
 
-/// The one report of the message that octets spell, as `only_report` finds it, whose own fields
-/// spell its canonical message.
-fn only_own(
+/// The entry of the one report of a view, where the octets are what its own fields spell. It can
+/// only run out of memory.
+fn own_entry<'a>(
     alloc: Global,
-    templates: &mut Templates<'_>,
-    octets: &[u8],
-) -> Result<Option<Report>, OutOfMemory>
-    ensures same { templates.new ≡ templates.old }
-    ensures is { IfOk result (λ found.
-        found ≡ only_one (reports_in templates.old octets.now)) }
-    ensures own { IfOk result (λ found. IfSome found (SpellsOwn templates.old)) }
+    view: &View<'_>,
+    octets: &'a [u8],
+) -> Result<Option<ReadEntry<'a>>, OutOfMemory>
+    requires { length view.now.message.subsets ≡ 1 }
+    ensures { IfOk result (λ found.
+        option_map (entry_spelt octets.now) (slice_get (reports_of view.now.message) 0)
+        ≡ Some (option_map read found)) }
 {
-    written_messages_are_spelt();
-    canonical_messages_are_own();
-    only_report(alloc, templates, octets)
+    let Some(bytes) = view.canonical(alloc, 1)? else {
+        return Ok(None);
+    };
+    if bytes.as_slice() != octets {
+        return Ok(None);
+    }
+    let head = ReportHead::of_head(view.head());
+    let fields = view.fields(alloc, 1)?;
+    Ok(Some(ReadEntry {
+        key: key_of_fields(alloc, &head, fields)?,
+        update: head.update,
+        bytes: octets,
+    }))
 }
 
 /// The entry that octets are: they spell a message of one subset whose canonical message they are.
@@ -121,23 +128,21 @@ pub(crate) fn entry_in<'a>(
     ensures is { IfOk result (λ found.
         option_map read found ≡ entry_in templates.old octets.now) }
 {
-    let Some(report) = only_own(alloc, templates, octets)? else {
-        return Ok(None);
+    reports_have_canonical_messages();
+    canonical_messages_are_own();
+    written_messages_are_spelt();
+    let view = match templates.view(alloc, octets) {
+        Ok(view) => view,
+        Err(Failure::Fault(_)) => return Ok(None),
+        Err(Failure::OutOfMemory) => return Err(OutOfMemory),
     };
-    let Some(bytes) = canonical_of_read(alloc, &report)? else {
-        return Ok(None);
-    };
-    if bytes.as_slice() != octets {
+    if view.count() != 1 {
         return Ok(None);
     }
-    Ok(Some(ReadEntry {
-        key: key_of(alloc, &report)?,
-        update: report.head.update,
-        bytes: octets,
-    }))
+    own_entry(alloc, &view, octets)
 }
 
-/// The reports of a message that was read, one of which is built at a time.
+/// The reports of a message that was read, whose entries are made one at a time.
 #[derive(Drop)]
 pub(crate) struct MessageReports<'a> {
     pub(crate) view: View<'a>,
@@ -173,7 +178,10 @@ impl ReportList for MessageReports<'_> {
 
     fn entry(&self, alloc: Global, index: usize) -> Result<Option<Entry>, OutOfMemory> {
         let _count = self.view.count();
-        let report = self.view.report(alloc, index + 1)?;
-        spelt_entry(alloc, &report)
+        if self.view.compressed() {
+            let report = self.view.report(alloc, index + 1)?;
+            return spelt_entry(alloc, &report);
+        }
+        viewed_entry(alloc, &self.view, index + 1)
     }
 }
