@@ -28,7 +28,7 @@ announced_more (_ ∷ _ ∷ _ ∷ _ ∷ _ ∷ _ ∷ []) more l e = absurd cc
 announced_more (_ ∷ _ ∷ _ ∷ _ ∷ x ∷ y ∷ z ∷ rest) more l e = e
 
 -- a frame at the front is announced
-front_is : (octets more : List ℕ) → IsOneFrame octets → front_of (octets ++ more) ≡ Some octets
+pub front_is : (octets more : List ℕ) → IsOneFrame octets → front_of (octets ++ more) ≡ Some octets
 front_is octets more f =
     ap (option_map (λ l. take l (octets ++ more)))
     (announced_more octets more (length octets) f.told)
@@ -58,7 +58,7 @@ bind_some (Some a) f y e = (a, refl, e)
 bind_some None f y e = absurd cc
 
 -- a value that is mapped
-mapped_some : {A B : Type 0} (f : A → B) (x : Option A) (y : B) → option_map f x ≡ Some y
+pub mapped_some : {A B : Type 0} (f : A → B) (x : Option A) (y : B) → option_map f x ≡ Some y
     → (a : A) × (y ≡ f a)
 mapped_some f (Some a) y e = (a, cc)
 mapped_some f None y e = absurd cc

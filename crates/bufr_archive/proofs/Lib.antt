@@ -3,11 +3,15 @@ pub mod AddFacts
 pub mod BeforeFacts
 pub mod EntryFacts
 pub mod FrameFacts
+pub mod HeldFacts
 pub mod JudgeFacts
+pub mod KnownFacts
+pub mod MergeFacts
 pub mod OnLiterals
 pub mod ReadFacts
 pub mod ReportFacts
 pub mod ReportTextFacts
 pub mod TextFacts
 pub mod TextLemmas
+pub mod TextMergeFacts
 pub mod ToldFacts

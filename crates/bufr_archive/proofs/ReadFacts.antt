@@ -46,23 +46,21 @@ module _ (is_entry : Entry → Type 0) (entry_in : List ℕ → Option Entry)
       (run.0, run.1, run_more (Some f) fs e run.2 is after)
 
   -- the next entry has some octets, and no more than are left, and with it one entry more was read
-  pub read_next : (octets : List ℕ) (es : List Entry) (before : Option ReadEntry) (place : ℕ)
+  pub read_more : (octets : List ℕ) (es : List Entry) (before : Option ReadEntry) (place : ℕ)
       (rest : List ℕ) (found : Option ReadEntry) (entry : ReadEntry)
       → ReadSoFar is_entry octets es (option_map read before) place rest
       → option_map read found ≡ right_entry entry_in (option_map read before) rest
       → found ≡ Some entry
       → (12 ≤ length (read entry).bytes) × (length (read entry).bytes ≤ length rest)
-      × ReadSoFar is_entry octets (kept (es ++ read entry ∷ [])) (Some (read entry))
+      × ReadSoFar is_entry octets (es ++ read entry ∷ []) (Some (read entry))
       (place + length (read entry).bytes) (drop (length (read entry).bytes) rest)
-  read_next octets es before place rest found entry s answered is =
+  read_more octets es before place rest found entry s answered is =
       let e = read entry in
       let right = sym answered ∙ ap (option_map read) is in
       let k = facts.right_takes is_entry entry_in laws (option_map read before) rest e s.some right
       in
       let after = ap (λ b. comes_after b e) s.last ∙ k.after in
       let run = run_more None es e s.run k.entry after in
-      let same : es ++ e ∷ [] ≡ kept (es ++ e ∷ []) =
-      sym (texts.kept_of_run is_entry entry_in laws None (es ++ e ∷ []) run) in
       let behind : drop (length e.bytes) rest ≡ k.more =
       ap (drop (length e.bytes)) k.is ∙ drop_at e.bytes k.more (length e.bytes) refl in
       let there = s.there in
@@ -85,7 +83,27 @@ module _ (is_entry : Entry → Type 0) (entry_in : List ℕ → Option Entry)
       } in (
         judging.long_entry is_entry entry_in laws e k.entry,
         omega (arith, size),
-        subst (λ (xs : List Entry). ReadSoFar is_entry octets xs (Some e) next left) same so_far,
+        so_far,
+      )
+
+  -- all entries that were read are kept
+  pub read_next : (octets : List ℕ) (es : List Entry) (before : Option ReadEntry) (place : ℕ)
+      (rest : List ℕ) (found : Option ReadEntry) (entry : ReadEntry)
+      → ReadSoFar is_entry octets es (option_map read before) place rest
+      → option_map read found ≡ right_entry entry_in (option_map read before) rest
+      → found ≡ Some entry
+      → (12 ≤ length (read entry).bytes) × (length (read entry).bytes ≤ length rest)
+      × ReadSoFar is_entry octets (kept (es ++ read entry ∷ [])) (Some (read entry))
+      (place + length (read entry).bytes) (drop (length (read entry).bytes) rest)
+  read_next octets es before place rest found entry s answered is =
+      let e = read entry in
+      let m = read_more octets es before place rest found entry s answered is in
+      let same : es ++ e ∷ [] ≡ kept (es ++ e ∷ []) =
+      sym (texts.kept_of_run is_entry entry_in laws None (es ++ e ∷ []) m.2.run) in (
+        m.0,
+        m.1,
+        subst (λ (xs : List Entry). ReadSoFar is_entry octets xs (Some e)
+            (place + length e.bytes) (drop (length e.bytes) rest)) same m.2,
       )
 
   -- all was read

@@ -108,7 +108,7 @@ entry_found written reads tables r octets c =
 -- ---- octets in which an entry is found
 
 -- the one of some
-only_one_is : (rs : List Report) (r : Report) → only_one rs ≡ Some r → rs ≡ r ∷ []
+pub only_one_is : (rs : List Report) (r : Report) → only_one rs ≡ Some r → rs ≡ r ∷ []
 only_one_is [] r e = absurd cc
 only_one_is (x ∷ []) r e = ap (λ y. y ∷ []) cc
 only_one_is (x ∷ y ∷ rs) r e = absurd cc

@@ -4,6 +4,7 @@ pub use Rattle.bufr_shelves.specs.Shelves
 pub use Rattle.bufr_shelves.specs.Laws as ShelfLaws
 pub mod Adding
 pub mod Archives
+pub mod ArchiveTexts
 pub mod ChangeCounts
 pub mod EntryLaws
 pub mod Laws

@@ -11,14 +11,17 @@
 
 pub mod adding;
 pub mod archive;
+pub mod archive_text;
 pub mod builder;
 pub mod laws;
+mod merging_texts;
 pub mod reading;
 mod report_entry;
 mod worked_values;
 
 pub use adding::{AddFault, Added, RanOut, ReportList};
 pub use archive::{Archive, ArchiveWriteFault};
+pub use archive_text::ArchiveText;
 pub use bufr_keys::{Key, Moment, Station};
 pub use bufr_shelves::{
     Entry, Held, JoinFault, MapShelf, Shelf, ShelfBuilder, SortedShelf, laws as shelf_laws, shelve,

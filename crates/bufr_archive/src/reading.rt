@@ -38,7 +38,7 @@ pub(crate) struct ReadEntry<'a> {
 }
 
 /// The octets of the message that begins here, as its total length announces them.
-fn front_of(octets: &[u8]) -> Option<&[u8]>
+pub(crate) fn front_of(octets: &[u8]) -> Option<&[u8]>
     ensures { option_map (λ s. s.now) result ≡ front_of octets.now }
 {
     let [_, _, _, _, a, b, c, ..] = octets else {
@@ -68,7 +68,7 @@ fn comes_after(before: &Option<ReadEntry>, entry: &ReadEntry) -> bool
 }
 
 /// The right entry that begins here, where there is one.
-fn right_entry<'a>(
+pub(crate) fn right_entry<'a>(
     alloc: Global,
     templates: &mut Templates<'_>,
     before: &Option<ReadEntry>,
@@ -102,7 +102,7 @@ fn keep<S: Shelf>(alloc: Global, shelf: &mut S, entry: &ReadEntry) -> Result<(),
 }
 
 /// The octets behind the first so many.
-fn behind(octets: &[u8], count: usize) -> &[u8]
+pub(crate) fn behind(octets: &[u8], count: usize) -> &[u8]
     requires { count ≤ length octets.now }
     ensures { result.now ≡ drop count octets.now }
 {

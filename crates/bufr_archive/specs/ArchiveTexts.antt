@@ -1,0 +1,94 @@
+-- Archives held as their text, and two such texts merged from the left.
+use Rattle.std.specs.Prelude.{◌≡◌, ℕ, ◌+◌, ◌<◌, if◌then◌else◌, Option, Some, None, option_map}
+use Rattle.std.specs.Prelude.{Result, Ok, Err, List, [], ◌∷◌, ◌++◌, length, drop}
+use Rattle.std.specs.List.{AllByRecursion}
+use Rattle.std.specs.List.Sorted.{IsStrictlySortedBy}
+use Rattle.std.specs.Ordering.{is_gt}
+use Rattle.std.specs.declared.cmp.Ordering.{Ordering}
+use Rattle.std.specs.declared.cmp.Ordering.TheVariants.{Less, Greater}
+use Rattle.bufr_tables.specs.Entries.{Entries}
+use Rattle.bufr_shelves.specs.declared.entry.Entry.{Entry}
+use Rattle.bufr_shelves.specs.Entries.{slot_cmp, rank_cmp, kept}
+use Rattle.bufr_shelves.specs.Keeping.{first_of}
+use Rattle.bufr_archive.specs.declared.reading.NotAnArchive.{NotAnArchive}
+use Rattle.bufr_archive.specs.declared.merging_texts.Unmerged.{Unmerged}
+use Rattle.bufr_archive.specs.Texts.{text, entries_read}
+use Rattle.bufr_archive.specs.ReportEntries.{IsReportEntry, entry_in}
+use Rattle.bufr_archive.specs.Reading.{read}
+
+-- ---- what is held
+
+-- the entries that were read, and none where a place was refused
+abbrev pub entries_or_none : Result (List Entry) ℕ → List Entry
+entries_or_none (Ok es) = es
+entries_or_none (Err place) = []
+
+-- the entries that octets are the text of; none where they are no text
+abbrev pub entries_in : Entries → List ℕ → List Entry
+entries_in tables octets = entries_or_none (entries_read (entry_in tables) octets)
+
+-- octets are the text of so many entries of reports under the tables, all of which are kept
+pub record IsTextOf (tables : Entries) (octets : List ℕ) (count : ℕ) (es : List Entry)
+    : Type 0 where
+  pub each : AllByRecursion (IsReportEntry tables) es
+  pub says : octets ≡ text es
+  pub all_kept : kept es ≡ es
+  pub counted : count ≡ length es
+
+-- how many entries were read, or the place as the fault
+abbrev pub count_or : Result (List Entry) ℕ → Result ℕ NotAnArchive
+count_or (Ok es) = Ok (length es)
+count_or (Err place) = Err (record { place = place })
+
+-- ---- two texts merged
+
+-- entries of reports under the tables, in order of slots, no slot twice
+pub record AreInOrder (tables : Entries) (es : List Entry) : Type 0 where
+  pub each : AllByRecursion (IsReportEntry tables) es
+  pub ordered : IsStrictlySortedBy slot_cmp es
+
+-- these entries are left of a text, of which the first was read
+pub record AreLeft (tables : Entries) (es : List Entry) (left : Unmerged) : Type 0 where
+  pub in_order : AreInOrder tables es
+  pub first : option_map read left.first ≡ first_of es
+  pub behind : left.behind.now ≡ text (drop 1 es)
+
+-- the octets of an entry that may be there
+abbrev pub octets_of : Option Entry → Option (List ℕ)
+octets_of e = option_map (λ (e : Entry). e.bytes) e
+
+-- the order of the slots of two entries; where one is missing it is told as if its slot were
+-- greater
+abbrev pub order_of_firsts : Option Entry → Option Entry → Ordering
+order_of_firsts e None = Less
+order_of_firsts None (Some f) = Greater
+order_of_firsts (Some e) (Some f) = slot_cmp e f
+
+-- of two entries that may be there the one of greater rank
+abbrev pub greater_of : Option Entry → Option Entry → Option Entry
+greater_of e None = e
+greater_of None (Some f) = Some f
+greater_of (Some e) (Some f) = Some (if is_gt (rank_cmp e f) then e else f)
+
+-- the first entry that is kept of two lists was taken, with those of its slot; these are left
+pub record FirstTaken (tables : Entries) (es fs : List Entry) (left right : Unmerged)
+    (octets : List ℕ) : Type 0 where
+  pub taken : Entry
+  pub bytes : octets ≡ taken.bytes
+  pub left_behind : List Entry
+  pub right_behind : List Entry
+  pub are_kept : kept (es ++ fs) ≡ taken ∷ kept (left_behind ++ right_behind)
+  pub fewer : length left_behind + length right_behind < length es + length fs
+  pub left_are : AreLeft tables left_behind left
+  pub right_are : AreLeft tables right_behind right
+
+-- so it is, or nothing is left of both
+abbrev pub TakesFirst : Entries → List Entry → List Entry → Unmerged → Unmerged
+    → Option (List ℕ) → Type 0
+TakesFirst tables es fs left right None = (es ≡ []) × (fs ≡ [])
+TakesFirst tables es fs left right (Some octets) = FirstTaken tables es fs left right octets
+
+-- the text of what is kept of two lists was added to some octets, and its entries counted
+pub record AddsMerged (es fs : List Entry) (octets octets' : List ℕ) (count : ℕ) : Type 0 where
+  pub text_is : octets' ≡ octets ++ text (kept (es ++ fs))
+  pub counted : count ≡ length (kept (es ++ fs))
