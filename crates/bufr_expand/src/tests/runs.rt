@@ -61,6 +61,11 @@ fn block(rt: &impl Abort) -> Node {
     Node::Element(fxy(rt, 0, 1, 1), row(Kind::Quantity, 0, 0, 7))
 }
 
+/// 201130, two bits more.
+fn wider(rt: &impl Abort) -> Node {
+    Node::Operator(fxy(rt, 2, 1, 130))
+}
+
 /// A call sign of 72 bits.
 fn call_sign(rt: &impl Abort) -> Node {
     Node::Element(fxy(rt, 0, 1, 11), row(Kind::Text, 0, 0, 72))
@@ -125,8 +130,7 @@ fn counts_in_turns(rt: HostRuntime) -> Result<(), Fail> {
 
 #[test]
 fn operators_in_turns(rt: HostRuntime) -> Result<(), Fail> {
-    let wider = Node::Operator(fxy(&rt, 2, 1, 130));
-    let nodes = [factor(&rt, 2), field(&rt), wider];
+    let nodes = [factor(&rt, 2), field(&rt), wider(&rt)];
     assert_passes(&rt, rt.alloc(), &nodes, 1, 2, None)?;
     let without_spec = [factor(&rt, 2), field(&rt), wide(&rt)];
     assert_passes(&rt, rt.alloc(), &without_spec, 1, 2, None)?;
@@ -135,11 +139,10 @@ fn operators_in_turns(rt: HostRuntime) -> Result<(), Fail> {
 
 #[test]
 fn turns_under_operators(rt: HostRuntime) -> Result<(), Fail> {
-    let wider = Node::Operator(fxy(&rt, 2, 1, 130));
-    let nodes = [wider, factor(&rt, 2), field(&rt), call_sign(&rt)];
+    let nodes = [wider(&rt), factor(&rt, 2), field(&rt), call_sign(&rt)];
     assert_passes(&rt, rt.alloc(), &nodes, 1, 5, run(10, 15, 450))?;
     let stays = Node::Untouched(fxy(&rt, 0, 12, 101), temperature());
-    let untouched = [wider, factor(&rt, 2), stays, field(&rt)];
+    let untouched = [wider(&rt), factor(&rt, 2), stays, field(&rt)];
     assert_passes(&rt, rt.alloc(), &untouched, 1, 2, run(4, 6, 68))?;
     Ok(())
 }
