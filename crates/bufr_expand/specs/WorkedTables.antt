@@ -15,6 +15,7 @@ use Rattle.bufr_expand.specs.declared.node.TemplateFault.{TemplateFault}
 use Rattle.bufr_expand.specs.declared.node.TemplateFault.TheVariants.{UnsupportedOperator}
 use Rattle.bufr_expand.specs.declared.node.TemplateFault.TheVariants.{BadReplication, BadFactor}
 use Rattle.bufr_expand.specs.declared.operators.Spec.{Spec}
+use Rattle.bufr_expand.specs.declared.run.Run.{Run}
 use Rattle.bufr_expand.specs.declared.walk.WalkFault.TheVariants.{TooLarge, EffectiveRange}
 use Rattle.bufr_expand.specs.Courses.{Course, ends, stops, asks, course}
 use Rattle.bufr_expand.specs.Expansion.{Expansion, expansion, expand_within}
@@ -220,6 +221,10 @@ kelvin scale width = (temperature, spec kinds.Quantity (pos scale) (pos 0) width
 -- a field of the block number: its width
 abbrev pub blocks : ℕ → ℕ × Spec
 blocks width = (block, spec kinds.Quantity (pos 0) (pos 0) width)
+
+-- a run of so many fields, items and bits
+abbrev pub run : ℕ → ℕ → ℕ → Run
+run fields items bits = record { fields = fields; items = items; bits = bits }
 
 -- ---- specs under operators
 

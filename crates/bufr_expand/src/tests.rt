@@ -494,3 +494,4 @@ fn item_and_product_limits(rt: HostRuntime) -> Result<(), Fail> {
 }
 
 mod large;
+mod runs;

@@ -140,6 +140,7 @@ impl<'t> Walk<'t> {
     pub fn pass_turns(&mut self, most: u128) -> Option<Run>
         requires { waits self.old ≡ false }
         ensures passed { IfSome result (λ run. PassesRun self.old run self.new) }
+        ensures answered { waits self.new ≡ false }
         ensures enough { IfSome result (λ run. run.bits ≤ most) }
         ensures unmoved { IfNone result (self.new ≡ self.old) }
     {

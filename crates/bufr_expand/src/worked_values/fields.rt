@@ -8,7 +8,8 @@ ghost use Rattle.bufr_expand.specs.Samples.{sample, with_factor, row, number_row
 ghost use Rattle.bufr_expand.specs.WorkedTables.{Becomes, temperature, block, call_sign, code};
 ghost use Rattle.bufr_expand.specs.WorkedTables.{local, factor, rows_of, spec, walk, ending};
 ghost use Rattle.bufr_expand.specs.WorkedTables.{without_specs, refused, full, count, kelvin};
-ghost use Rattle.bufr_expand.specs.WorkedTables.{blocks, counting, chain};
+ghost use Rattle.bufr_expand.specs.WorkedTables.{blocks, counting, chain, run};
+ghost use Rattle.bufr_expand.specs.Runs.{joined_runs, turned_run, behind_item};
 
 use crate::walk::WalkFault;
 
@@ -155,4 +156,13 @@ pub fn most_items()
         ((0, Ok (0, stops 1 (WalkFault.EffectiveRange temperature)))
         ∷ (16777215, Ok (0, stops 16777216 (WalkFault.EffectiveRange temperature)))
         ∷ (16777216, Ok (0, full)) ∷ []) }
+{}
+
+/// A run behind another, the turns of a body, each of which is an item, and the node of their
+/// replication in front of them.
+pub fn runs()
+    ensures joined { joined_runs (run 2 4 23) (run 5 7 90) ≡ run 7 11 113 }
+    ensures turned { turned_run 3 (run 2 4 23) ≡ run 6 15 69 }
+    ensures turned_never { turned_run 0 (run 2 4 23) ≡ run 0 0 0 }
+    ensures behind { behind_item (turned_run 3 (run 2 4 23)) ≡ run 6 16 69 }
 {}

@@ -1,5 +1,6 @@
 -- For `Walk::pass_turns`: behind all turns of the innermost replication.
 use Rattle.std.proofs.Common.{◌≡◌, ◌-◌, ◌++◌, ◌∷◌, [], length, take, vec_len, refl, sym, ap, ◌∙◌, arith}
+use Rattle.bufr_expand.specs.Walks.{is_waiting, waits}
 use Rattle.bufr_expand.proofs.LoopFacts.{in_front-mono, open_fewer, going_at}
 use Rattle.bufr_expand.proofs.RunFacts.{turns_passed}
 use Rattle.bufr_expand.proofs.walk.Walk.pass_turns.Goals as goal
@@ -35,3 +36,8 @@ returns-clause-passed c =
     let popped = c.pop.ensures.rest ∙ ap (λ n. take (n - 1) w.loops.items) all in
     turns_passed w _ c.in_ok-turn.turn c.in_ok-turn.run' f.innermost f.room f.turns
     f.some f.innermost.goes refl refl refl popped refl refl
+
+-- the walk waits for no number
+pub returns-clause-answered : goal.returns-clause-answered
+unfolding waits
+returns-clause-answered c = ap is_waiting c.in_ok-turn.ensures.innermost.goes
