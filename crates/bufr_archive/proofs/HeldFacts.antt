@@ -12,11 +12,10 @@ use Rattle.bufr_shelves.specs.declared.entry.Entry.{Entry}
 use Rattle.bufr_shelves.specs.Entries.{slot_cmp, kept}
 use Rattle.bufr_shelves.specs.Orders.{kept-are, kept-kept}
 use Rattle.bufr_archive.specs.declared.reading.ReadEntry.{ReadEntry}
-use Rattle.bufr_archive.specs.declared.reading.NotAnArchive.{NotAnArchive}
 use Rattle.bufr_archive.specs.Archives.{ArchiveView, merged}
 use Rattle.bufr_archive.specs.ArchiveTexts.{entries_or_none, entries_in, IsTextOf, count_or}
 use Rattle.bufr_archive.specs.ArchiveTexts.{AreInOrder, AddsMerged}
-use Rattle.bufr_archive.specs.Reading.{read, archive_or, archive_read}
+use Rattle.bufr_archive.specs.Reading.{read}
 use Rattle.bufr_archive.specs.ReportEntries.{IsReportEntry, entry_in}
 use Rattle.bufr_archive.specs.ReportLaws.{ReportsAreEntries}
 use Rattle.bufr_archive.specs.Texts.{text, right_entry, judged, entries_read}

@@ -1,15 +1,13 @@
 -- Entries that are known to be entries: for `known_entry`.
-use Rattle.std.proofs.Common.{◌≡◌, ℕ, List, [], ◌∷◌, length, Option, Some, None, Ok, Err, refl}
-use Rattle.std.proofs.Common.{sym, ap, subst, ◌∙◌, arith}
-use Rattle.std.specs.Prelude.{slice_get}
+use Rattle.std.proofs.Common.{◌≡◌, ℕ, List, [], ◌∷◌, length, Some, Ok}
+use Rattle.std.proofs.Common.{sym, ap, ◌∙◌}
 use Rattle.std.proofs.lemmas.List.{length-map}
 use Rattle.std.proofs.lemmas.Option.{cond_some}
 use Rattle.bufr_tables.specs.Entries.{Entries}
 use Rattle.bufr_sections.specs.declared.message.Decoded.{Decoded}
-use Rattle.bufr_sections.specs.declared.fault.Refused.{Refused}
 use Rattle.bufr_message.specs.declared.report.Report.{Report}
 use Rattle.bufr_message.specs.Messages.{message_of}
-use Rattle.bufr_message.specs.Reports.{report_of, reports_of, reports_read, reports_in, canonical}
+use Rattle.bufr_message.specs.Reports.{report_of, reports_read, reports_in, canonical}
 use Rattle.bufr_shelves.specs.declared.entry.Entry.{Entry}
 use Rattle.bufr_archive.specs.ReportEntries.{entry_with, only_one, entry_in, is_canonical}
 use Rattle.bufr_archive.proofs.EntryFacts.{bind_some}
@@ -23,14 +21,6 @@ known_is tables octets e found =
     let t = cond_some (is_canonical (canonical tables r.0) octets) (entry_with r.0 octets) e r.2 in
     (r.0, only_one_is (reports_in tables octets) r.0 r.1, t.1)
 
--- octets that spell no message are no entry
-pub none_refused : (tables : Entries) (octets : List ℕ) (why : Refused) (e : Entry)
-    → message_of tables octets ≡ Err why → entry_in tables octets ≡ Some e → ⊥
-none_refused tables octets why e refused found =
-    let k = known_is tables octets e found in
-    let none : [] ≡ k.0 ∷ [] = sym (ap reports_read refused) ∙ k.1 in
-    absurd cc
-
 -- an entry is spelt as a message of one subset
 pub one_subset : (tables : Entries) (octets : List ℕ) (d : Decoded) (e : Entry)
     → message_of tables octets ≡ Ok d → entry_in tables octets ≡ Some e
@@ -39,14 +29,3 @@ one_subset tables octets d e spelt found =
     let k = known_is tables octets e found in
     sym (length-map d.message.subsets (report_of d.message))
     ∙ ap length (sym (ap reports_read spelt) ∙ k.1)
-
--- whose report is that of the entry
-pub one_report : (tables : Entries) (octets : List ℕ) (d : Decoded) (r : Report) (e : Entry)
-    → message_of tables octets ≡ Ok d → slice_get (reports_of d.message) 0 ≡ Some r
-    → entry_in tables octets ≡ Some e → entry_with r octets ≡ e
-one_report tables octets d r e spelt there found =
-    let k = known_is tables octets e found in
-    let one : reports_of d.message ≡ k.0 ∷ [] = sym (ap reports_read spelt) ∙ k.1 in
-    let same : Some k.0 ≡ Some r = sym (ap (λ (rs : List Report). slice_get rs 0) one) ∙ there in
-    let is : k.0 ≡ r = cc in
-    ap (λ (r : Report). entry_with r octets) (sym is) ∙ k.2

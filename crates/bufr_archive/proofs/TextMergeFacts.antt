@@ -1,9 +1,8 @@
 -- Texts merged step by step: for `take_first`, the loop of `add_merged` and `ArchiveText::merge`.
-use Rattle.std.proofs.Common.{◌≡◌, ℕ, suc, ◌+◌, ◌<◌, ◌≤◌, List, [], ◌∷◌, ◌++◌, length, drop, take, cond}
+use Rattle.std.proofs.Common.{◌≡◌, ℕ, ◌+◌, ◌≤◌, List, [], ◌∷◌, ◌++◌, length, drop, cond}
 use Rattle.std.proofs.Common.{Option, Some, None, Result, Ok, Err, refl, sym, ap, subst, ◌∙◌, arith, append_assoc}
 use Rattle.std.proofs.Common.{length-append}
 use Rattle.std.specs.Prelude.{option_map, IfOk, OnOk}
-use Rattle.std.specs.List.{AllByRecursion}
 use Rattle.std.specs.Ordering.{is_gt, ordering_reverse}
 use Rattle.std.specs.declared.cmp.Ordering.TheVariants.{Less, Equal, Greater}
 use Rattle.std.proofs.lemmas.List.{append-nil, drop_at}
@@ -13,12 +12,10 @@ use Rattle.bufr_shelves.specs.Entries.{slot_cmp, rank_cmp, kept}
 use Rattle.bufr_shelves.specs.Keeping.{first_of}
 use Rattle.bufr_shelves.specs.Orders.{slots_total}
 use Rattle.bufr_archive.specs.declared.merging_texts.Unmerged.{Unmerged}
-use Rattle.bufr_archive.specs.declared.reading.ReadEntry.{ReadEntry}
 use Rattle.bufr_archive.specs.ArchiveTexts.{AreInOrder, AreLeft, octets_of, order_of_firsts}
 use Rattle.bufr_archive.specs.ArchiveTexts.{greater_of, FirstTaken, TakesFirst, AddsMerged}
-use Rattle.bufr_archive.specs.EntryLaws.{HasEntryLaws}
 use Rattle.bufr_archive.specs.Reading.{read}
-use Rattle.bufr_archive.specs.ReportEntries.{IsReportEntry, entry_in}
+use Rattle.bufr_archive.specs.ReportEntries.{entry_in}
 use Rattle.bufr_archive.specs.ReportLaws.{ReportsAreEntries}
 use Rattle.bufr_archive.specs.Texts.{text, front_of}
 use Rattle.bufr_archive.proofs.EntryFacts.{front_is}
@@ -62,15 +59,6 @@ front_left laws tables octets front (e ∷ es) a is some =
       ap (drop (length front)) is
           ∙ drop_at e.bytes (text es) (length front) (ap length same),
     )
-
--- where nothing was read nothing is left
-pub nothing_taken : (tables : Entries) (es : List Entry) (left : Unmerged)
-    → None ≡ octets_of (option_map read left.first) → AreLeft tables es left
-    → AreLeft tables (drop 1 es) left
-nothing_taken tables [] left none l = l
-nothing_taken tables (e ∷ es) left none l =
-    let some : octets_of (option_map read left.first) ≡ Some e.bytes = ap octets_of l.first in
-    absurd cc
 
 -- ---- one step
 

@@ -21,13 +21,7 @@ fn assert_held(rt: &impl Abort, archive: ArchiveText, count: usize, text: &[u8])
 }
 
 // An archive that takes in another has this text, of so many reports.
-fn merge_into(
-    rt: &impl Abort,
-    alloc: Global,
-    texts: [Vec<u8>; 2],
-    count: usize,
-    text: &[u8],
-) {
+fn merge_into(rt: &impl Abort, alloc: Global, texts: [Vec<u8>; 2], count: usize, text: &[u8]) {
     let tables = tables(rt, alloc);
     let [first, second] = texts;
     let mut archive = held(rt, alloc, &tables, first);

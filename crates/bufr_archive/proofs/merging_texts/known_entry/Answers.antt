@@ -1,5 +1,5 @@
 -- The clause `is` of `known_entry`: an entry is spelt as a message of one subset.
-use Rattle.std.proofs.Common.{sym, arith}
+use Rattle.std.proofs.Common.{arith}
 use Rattle.bufr_archive.proofs.KnownFacts.{one_subset}
 use Rattle.bufr_archive.proofs.merging_texts.known_entry.Goals as goal
 

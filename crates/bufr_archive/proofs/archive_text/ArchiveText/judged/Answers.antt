@@ -1,5 +1,5 @@
 -- The clause of `ArchiveText::judged`: octets whose entries were counted are held as their text.
-use Rattle.std.proofs.Common.{◌≡◌, Ok, List, ℕ, sym, ap, subst, ◌∙◌}
+use Rattle.std.proofs.Common.{◌≡◌, Ok, List, ℕ, sym, subst}
 use Rattle.bufr_sections.specs.Sections.{AreOctets}
 use Rattle.bufr_tables.specs.Entries.{Entries}
 use Rattle.bufr_archive.specs.ArchiveTexts.{entries_in, IsTextOf, count_or}

@@ -1,11 +1,7 @@
 -- The clause `ok` of `ArchiveText::merge`: what is held then is the text of what is kept of both.
-use Rattle.std.proofs.Common.{◌≡◌, ◌+◌, ◌≤◌, List, [], ℕ, length, sym, ap, subst, ◌∙◌, arith}
-use Rattle.bufr_tables.specs.Entries.{Entries}
-use Rattle.bufr_shelves.specs.declared.entry.Entry.{Entry}
-use Rattle.bufr_shelves.specs.Entries.{kept}
+use Rattle.std.proofs.Common.{◌≡◌, sym, ap, ◌∙◌, arith}
 use Rattle.bufr_archive.specs.Archives.{ArchiveView, merged}
-use Rattle.bufr_archive.specs.ArchiveTexts.{entries_in, IsTextOf}
-use Rattle.bufr_archive.specs.ReportLaws.{ReportsAreEntries}
+use Rattle.bufr_archive.specs.ArchiveTexts.{entries_in}
 use Rattle.bufr_archive.proofs.HeldFacts.{few_held, merged_held}
 use Rattle.bufr_archive.proofs.archive_text.ArchiveText.merge.Goals as goal
 

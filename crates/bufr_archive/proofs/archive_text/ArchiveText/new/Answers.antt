@@ -1,5 +1,5 @@
 -- The clause of `ArchiveText::new`: no octets are the text of no reports.
-use Rattle.std.proofs.Common.{◌≡◌, List, [], ap, ◌∙◌}
+use Rattle.std.proofs.Common.{List, [], ap, ◌∙◌}
 use Rattle.bufr_tables.specs.Entries.{Entries}
 use Rattle.bufr_shelves.specs.declared.entry.Entry.{Entry}
 use Rattle.bufr_archive.specs.Archives.{ArchiveView}

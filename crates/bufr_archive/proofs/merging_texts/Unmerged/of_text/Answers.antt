@@ -1,8 +1,7 @@
 -- The clause `left` of `Unmerged::of_text`: the first entry is announced, and the others follow it.
-use Rattle.std.proofs.Common.{◌≡◌, ℕ, List, Some, None, sym, ap, ◌∙◌}
-use Rattle.std.specs.Option.{option_map}
-use Rattle.bufr_archive.specs.Texts.{front_of, text}
-use Rattle.bufr_archive.proofs.TextMergeFacts.{none_left, front_left}
+use Rattle.std.proofs.Common.{◌≡◌, Some, sym, ◌∙◌}
+use Rattle.bufr_archive.specs.Texts.{front_of}
+use Rattle.bufr_archive.proofs.TextMergeFacts.{front_left}
 use Rattle.bufr_archive.proofs.merging_texts.Unmerged.of_text.Goals as goal
 
 -- the first entry was read, and behind it stand the others

@@ -1,6 +1,6 @@
 -- The clause `left` of `Unmerged::take`: behind the first entry stand the others.
-use Rattle.std.proofs.Common.{◌≡◌, drop}
-use Rattle.bufr_archive.proofs.TextMergeFacts.{behind_in_order, nothing_taken}
+use Rattle.std.proofs.Common.{drop}
+use Rattle.bufr_archive.proofs.TextMergeFacts.{behind_in_order}
 use Rattle.bufr_archive.proofs.merging_texts.Unmerged.take.Goals as goal
 
 -- the others are left
