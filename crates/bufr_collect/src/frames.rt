@@ -9,21 +9,21 @@ ghost use Rattle.bufr_collect.specs.Adds.{HasAdded, HasAddedSure};
 use crate::counts::Counts;
 use bufr_answers::OutOfMemory;
 use bufr_archive::{AddFault, ArchiveBuilder};
-use bufr_frame::{Found, Framer, Taken};
+use bufr_frame::{Found, Framer, NextFrame};
 
-/// Adds the message of a frame, where it spells one, and counts it.
+/// Adds the message of a frame with these octets, where it spells one, and counts it.
 fn add_frame(
-    frame: &Found,
+    octets: &[u8],
     builder: &mut ArchiveBuilder<'_>,
     counts: &mut Counts,
 ) -> Result<(), OutOfMemory>
     requires few { counts.old.frames + 1 < 2 ^ 128 }
     requires refused { counts.old.refused ≤ counts.old.frames }
-    ensures { OnOk result ((tables : Entries) (frames : List FoundFrame)
-        → HasAdded tables builder.old counts.old frames
-        → HasAdded tables builder.new counts.new (frames ++ frame.now ∷ [])) }
+    ensures { OnOk result ((tables : Entries) (frames : List FoundFrame) (frame : FoundFrame)
+        → octets.now ≡ frame.bytes → HasAdded tables builder.old counts.old frames
+        → HasAdded tables builder.new counts.new (frames ++ frame ∷ [])) }
 {
-    let refused = match builder.add_message(frame.bytes.as_slice()) {
+    let refused = match builder.add_message(octets) {
         Ok(()) => 0,
         Err(AddFault::Refused(_)) => 1,
         Err(AddFault::OutOfMemory { done: _ }) => return Err(OutOfMemory),
@@ -47,12 +47,13 @@ fn add_frames(
         → HasAdded tables builder.new counts.new (before ++ frames.now)) }
 {
     for frame in frames {
-        add_frame(frame, builder, counts)?;
+        add_frame(frame.bytes.as_slice(), builder, counts)?;
     }
     Ok(())
 }
 
-/// Takes in a piece of a stream, and adds the messages of the frames that are sure then.
+/// Takes in a piece of a stream, and adds the messages of the frames that are sure then. One that
+/// lies whole in the piece is not copied.
 pub(crate) fn add_piece(
     piece: &[u8],
     framer: &mut Framer,
@@ -68,11 +69,11 @@ pub(crate) fn add_piece(
 {
     let mut rest = piece;
     loop {
-        let Taken { found, rest: left } = framer.take_next(rest)?;
+        let NextFrame { found, rest: left } = framer.next_frame(rest)?;
         let Some(frame) = found else {
             return Ok(());
         };
-        add_frame(&frame, builder, counts)?;
+        add_frame(frame.as_slice(), builder, counts)?;
         rest = left;
     }
 }

@@ -6,18 +6,18 @@ use Rattle.bufr_collect.proofs.frames.add_frame.Goals.{in-Ok, in-Err-Refused}
 
 -- after some frames this one was added and counted, whether it spells a message or not
 pub returns : goal.returns
-returns c tables frames h =
+returns c tables frames frame is h =
     let old = c.args.builder.now in
     let counts = c.args.counts.now in
     elim c.match-add_message.branch [
       | in-Ok w ↦ let m = w.in-Ok.ensures in
           let same : counts.refused + c.match-add_message.refused ≡ counts.refused =
           omega (arith, w.refused-is) in
-          added_ok tables old c.add_message.new.self counts _ frames c.args.frame.now _ m.0 h
-          c.as_slice.ensures m.1 m.2 refl same
+          added_ok tables old c.add_message.new.self counts _ frames frame _ m.0 h
+          is m.1 m.2 refl same
       | in-Err-Refused w ↦ let m = rw w.in-Err-Refused.field-0-is at w.in-Err-Refused.ensures in
           let more : counts.refused + c.match-add_message.refused ≡ counts.refused + 1 =
           omega (arith, w.refused-is) in
-          added_none tables old c.add_message.new.self counts _ frames c.args.frame.now _ _ h
-          c.as_slice.ensures m.0 m.1 refl more
+          added_none tables old c.add_message.new.self counts _ frames frame _ _ h
+          is m.0 m.1 refl more
     ]
