@@ -1,7 +1,7 @@
 -- The listing of a message, subset by subset and field by field: the contracts of `print_fields`,
 -- `print_subset` and `print_listing` need it, and so that of `run_show`.
-use Rattle.std.proofs.Common.{◌≡◌, ℕ, ◌+◌, ◌-◌, ◌<◌, ◌≤◌, ◌⊎◌, false, inl, inr, List, [], ◌∷◌, ◌++◌, length, take}
-use Rattle.std.proofs.Common.{drop, Option, Some, None, Result, Ok, Err, refl, sym, ap, ◌∙◌, subst}
+use Rattle.std.proofs.Common.{◌≡◌, ℕ, ◌+◌, ◌-◌, ◌<◌, ◌≤◌, ◌⊎◌, false, inl, inr, List, [], ◌∷◌, ◌++◌}
+use Rattle.std.proofs.Common.{length, take, drop, Option, Some, None, Ok, Err, refl, sym, ap, ◌∙◌, subst}
 use Rattle.std.proofs.Common.{append_assoc, take-append-drop, get_or, arith}
 use Rattle.std.specs.Prelude.{slice_get}
 use Rattle.std.specs.List.{flat_map}
@@ -21,8 +21,8 @@ use Rattle.bufr_tool.specs.declared.printer.Printer.{Printer}
 use Rattle.bufr_tool.specs.Lines.{AreWholeLines}
 use Rattle.bufr_tool.specs.Output.{fields_text}
 use Rattle.bufr_tool.specs.StreamEngines.{Adds, WritesAllBut}
-use Rattle.bufr_tool.proofs.LineFacts.{fields_whole, joined_whole, line_whole}
-use Rattle.bufr_tool.proofs.PartFacts.{adds_halts, adds_held, adds_longer, adds_then, but_all}
+use Rattle.bufr_tool.proofs.LineFacts.{joined_whole, line_whole}
+use Rattle.bufr_tool.proofs.PartFacts.{adds_halts, adds_longer, adds_then, but_all}
 
 -- that of the lines before the first subset
 abbrev heading_text : Message → List ℕ
@@ -123,7 +123,8 @@ pub subset_stopped : (m : Message) (i : ℕ) (s : Subset) (p q p' : Printer)
     → IsJoined m
     → WritesAllBut q.held.items (p.held.items ++ listed m i) p.counts.written q.counts.written
     first mid
-    → Adds (joined (subset_lines s)) q p' mid last (Err e) → Adds (listing m) p p' first last (Err e)
+    → Adds (joined (subset_lines s)) q p' mid last (Err e)
+    → Adds (listing m) p p' first last (Err e)
 subset_stopped m i s p q p' first mid last e at is_joined w a =
     adds_longer (listed m i ++ joined (subset_lines s)) (unlisted m (i + 1)) (listing m) p p' first
     last e

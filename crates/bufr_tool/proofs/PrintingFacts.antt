@@ -6,7 +6,7 @@ use Rattle.std.proofs.Common.{Result, Ok, Err, get_or, refl, sym, ap, ◌∙◌,
 use Rattle.std.proofs.Common.{length-append, append_assoc, take-append-drop, IsErrAnd, IfSome}
 use Rattle.std.proofs.Common.{Option, Some}
 use Rattle.std.specs.List.{sum_by, slice_index_or}
-use Rattle.std.proofs.lemmas.List.{append-nil, drop_more, flat_map_more, take_more}
+use Rattle.std.proofs.lemmas.List.{drop_more, flat_map_more, take_more}
 use Rattle.std.proofs.lemmas.List.Sums.{sum_by_push, sum_by-le}
 use Rattle.std.proofs.lemmas.Grind.{flat_map-append}
 use Rattle.bufr_bits.specs.Devices.{Writing}
@@ -22,7 +22,7 @@ use Rattle.bufr_io.specs.declared.fault.ToolFault.TheVariants as faults
 use Rattle.bufr_tool.specs.declared.printing.Printing.{Printing}
 use Rattle.bufr_io.specs.Engines.{FailsAfter}
 use Rattle.bufr_collect.specs.Collected.{frame_refused, refused_as}
-use Rattle.bufr_tool.specs.Output.{frame_text, frames_text}
+use Rattle.bufr_tool.specs.Output.{frame_at, frame_text, frames_text}
 use Rattle.bufr_tool.specs.StreamEngines.{Fits, HasPrinted, Keeps, no_counts, PrintsFrame}
 use Rattle.bufr_tool.specs.StreamEngines.{StopsWithin, WritesAllBut, WritesHeld, WritesPart}
 use Rattle.bufr_tool.proofs.LineFacts.{frame_whole}
@@ -248,6 +248,11 @@ split_at xs i x inside is =
     sym (take-append-drop i xs)
     ∙ ap (λ ys. take i xs ++ ys)
     (drop_more xs i x inside ∙ ap (λ y. y ∷ drop (i + 1) xs) (sym is))
+
+-- the octets of a frame at its place are that frame
+pub same_frame : (frame : Found) (place : ℕ) (octets : List ℕ) → place ≡ frame.place
+    → octets ≡ frame.bytes → frame_at place octets ≡ frame
+same_frame frame place octets at has = rw (at, has) refl
 
 -- the frames of a list up to one, that one, and those behind it
 pub parted_at : (frames : List Found) (i : ℕ) (frame : Found) (before : List Found)

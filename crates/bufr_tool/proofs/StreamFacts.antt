@@ -23,7 +23,7 @@ use Rattle.bufr_tool.specs.declared.printing.Printing.{Printing}
 use Rattle.bufr_io.specs.declared.fault.Tally.{Tally}
 use Rattle.bufr_io.specs.Engines.{WritesAll, WritesAfter, FailsAfter}
 use Rattle.bufr_tool.specs.Output.{octets_of, frames_text, stream_text, last_text, tally_of}
-use Rattle.bufr_tool.specs.Output.{skipped_by}
+use Rattle.bufr_tool.specs.Output.{frame_at, skipped_by}
 use Rattle.bufr_tool.specs.StreamEngines.{Fits, HasEnded, HasPrinted, HasPrintedSure, Keeps}
 use Rattle.bufr_tool.specs.StreamEngines.{PrintsEnd, PrintsFrame, PrintsPiece, Stops, StopsWithin}
 use Rattle.bufr_tool.specs.StreamEngines.{WritesHeld}
@@ -31,7 +31,7 @@ use Rattle.bufr_frame.specs.FrameBounds.{sure_few, sure_short, cut_few, cut_shor
 use Rattle.bufr_io.specs.WritingLaws.{writes_more, fails_more, fails_longer}
 use Rattle.bufr_tool.proofs.PartFacts.{held_fails, stops_failed}
 use Rattle.bufr_tool.proofs.PrintingFacts.{halted, printed_fits, printed_more, printed_written}
-use Rattle.bufr_tool.proofs.PrintingFacts.{some_is, stopped}
+use Rattle.bufr_tool.proofs.PrintingFacts.{same_frame, some_is, stopped}
 
 -- within a piece: all but the rest of the stream was taken in, and the frames handed out were
 -- printed
@@ -71,15 +71,18 @@ abbrev pub Hands : Framing → Framing → List ℕ → List ℕ → Found → T
 Hands before after rest left frame = (stream : List ℕ) (frames : List Found)
     → IsBetweenCalls before stream rest frames → IsBetweenCalls after stream left (frames ++ frame ∷ [])
 
--- so it is where `take_next` answers a frame
+-- so it is where `next_frame` answers a frame, which has these octets at this place
 pub hands : (before after : Framing) (rest left : List ℕ) (o : Option Found) (frame : Found)
-    → o ≡ Some frame → IsRestOf rest left → IfSome o (IsNextFrame before (taken_in rest left))
+    (place : ℕ) (octets : List ℕ) → o ≡ Some frame → place ≡ frame.place → octets ≡ frame.bytes
+    → IsRestOf rest left → IfSome o (IsNextFrame before (taken_in rest left))
     → IfSome o (λ f. StandsAfter before after (taken_in rest left) 1)
-    → Hands before after rest left frame
-hands before after rest left o frame is parted next stands = λ stream frames t.
-    between_one before after stream rest left frames frame t parted
-    (some_is (IsNextFrame before (taken_in rest left)) o frame is next)
-    (some_is (λ f. StandsAfter before after (taken_in rest left) 1) o frame is stands)
+    → Hands before after rest left (frame_at place octets)
+hands before after rest left o frame place octets is at has parted next stands = λ stream frames t.
+    let here = is ∙ ap Some (sym (same_frame frame place octets at has)) in
+    between_one before after stream rest left frames (frame_at place octets) t parted
+    (some_is (IsNextFrame before (taken_in rest left)) o (frame_at place octets) here next)
+    (some_is (λ f. StandsAfter before after (taken_in rest left) 1) o (frame_at place octets) here
+    stands)
 
 -- a frame that was handed out can be counted with those before: there are no more frames than
 -- octets that were taken in or are in the piece, and no more octets in them

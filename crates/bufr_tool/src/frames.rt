@@ -15,7 +15,7 @@ ghost use Rattle.bufr_tool.specs.StreamEngines.{PrintsEnd, PrintsFrames, PrintsP
 use crate::printer::Printer;
 use crate::printing::{Printing, hold_tally};
 use bufr_bits::{Sink, Source};
-use bufr_frame::{Found, Framer, Taken};
+use bufr_frame::{Found, Framer, NextFrame};
 use bufr_io::{Input, Tally, ToolFault, room, write_out};
 use bufr_tables::Tables;
 use std::alloc::Global;
@@ -39,7 +39,7 @@ fn print_frames<W: Sink>(
         (W.writing writer.new) result }
 {
     for frame in frames {
-        printer.print_frame(alloc, frame, writer)?;
+        printer.print_frame(alloc, frame.place, frame.bytes.as_slice(), writer)?;
     }
     Ok(())
 }
@@ -64,11 +64,11 @@ fn take_piece<W: Sink>(
 {
     let mut rest = piece;
     loop {
-        let Taken { found, rest: left } = framer.take_next(rest)?;
+        let NextFrame { found, rest: left } = framer.next_frame(rest)?;
         let Some(frame) = found else {
             return Ok(());
         };
-        printer.print_frame(alloc, &frame, writer)?;
+        printer.print_frame(alloc, frame.place(), frame.as_slice(), writer)?;
         rest = left;
     }
 }

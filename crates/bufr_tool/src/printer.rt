@@ -8,7 +8,7 @@ ghost use Rattle.bufr_message.specs.Listings.{line, joined, field_line, subset_l
 ghost use Rattle.bufr_message.specs.Messages.{message_of};
 ghost use Rattle.bufr_collect.specs.Collected.{frame_refused, refused_as};
 ghost use Rattle.bufr_tool.specs.Lines.{AreWholeLines};
-ghost use Rattle.bufr_tool.specs.Output.{fields_text, frame_text, printed_as};
+ghost use Rattle.bufr_tool.specs.Output.{fields_text, frame_at, frame_text, printed_as};
 ghost use Rattle.bufr_tool.specs.StreamEngines.{Adds, Fits, Keeps, no_counts, PrintsFrame};
 ghost use Rattle.bufr_tool.specs.StreamEngines.{Stops, StopsWithin, WritesHeld, WritesPart};
 
@@ -16,7 +16,6 @@ use crate::counts::Counts;
 use crate::printing::{Printing, hold_checked, hold_refused};
 use bufr_answers::{Failure, OutOfMemory};
 use bufr_bits::Sink;
-use bufr_frame::Found;
 use bufr_io::{ToolFault, write_after};
 use bufr_listing::laws::{listings_are_joined_parts, subsets_are_joined_lines};
 use bufr_listing::{push_field, push_subset_line};
@@ -94,7 +93,8 @@ impl<'t> Printer<'t> {
         self.write_held(writer)
     }
 
-    /// Prints the line of a field, unless more octets than these were written.
+    /// Prints the line of a field. `OutOfMemory`, when the line is held, where more octets than
+    /// `most` were written.
     fn print_field<W: Sink>(
         &mut self,
         alloc: Global,
@@ -118,7 +118,7 @@ impl<'t> Printer<'t> {
         self.write_long(writer)
     }
 
-    /// Prints the lines of the fields that are left.
+    /// Prints the lines of the fields that are left, each as it is built.
     fn print_fields<W: Sink>(
         &mut self,
         alloc: Global,
@@ -170,8 +170,8 @@ impl<'t> Printer<'t> {
     }
 
     /// Prints the listing of a message, of which one field at a time is built. No more is held than
-    /// the lines before the first subset, or a part, and with either the line of one field. A
-    /// listing of 2 ^ 64 octets or more, which no message has, is want of memory.
+    /// the lines before the first subset, or a part, and with either the line of one field. Where
+    /// 2 ^ 64 octets of it were written, which no message's listing has, it is `OutOfMemory`.
     fn print_listing<W: Sink>(
         &mut self,
         alloc: Global,
@@ -197,26 +197,28 @@ impl<'t> Printer<'t> {
         Ok(())
     }
 
-    /// Prints a frame that spells a message.
+    /// Prints the frame of these octets at this place, which spells a message.
     fn print_message<W: Sink>(
         &mut self,
         alloc: Global,
-        frame: &Found,
+        place: u64,
+        octets: &[u8],
         found: &View<'_>,
         writer: &mut W,
     ) -> Result<(), ToolFault>
         requires works { (W.writing writer.old).failed ≡ false }
         requires fits { self.old.counts.written + 2 ^ 80 ≤ 2 ^ 128 }
         requires lines { AreWholeLines self.old.held.items }
-        ensures prints { Adds (printed_as self.old.printing frame.now (Ok found.now)) self.old self.new
-            (W.writing writer.old) (W.writing writer.new) result }
+        ensures prints { Adds
+            (printed_as self.old.printing (frame_at place octets.now) (Ok found.now)) self.old
+            self.new (W.writing writer.old) (W.writing writer.new) result }
         ensures keeps { Keeps self.old self.new }
         ensures short { self.new.counts.written + 2 ^ 64 ≤ self.old.counts.written + 2 ^ 80 }
     {
         match self.printing {
             Printing::Shown => self.print_listing(alloc, found, writer),
             Printing::Checked => {
-                hold_checked(&mut self.held, frame, found)?;
+                hold_checked(&mut self.held, place, octets, found)?;
                 Ok(())
             }
         }
@@ -239,55 +241,59 @@ impl<'t> Printer<'t> {
         }
     }
 
-    /// Prints what a frame was judged to spell, or why it spells no message.
+    /// Prints what the frame of these octets at this place was judged to spell, or why it spells no
+    /// message.
     fn print_judged<W: Sink>(
         &mut self,
         alloc: Global,
-        frame: &Found,
+        place: u64,
+        octets: &[u8],
         judged: &Result<View<'_>, Refused>,
         writer: &mut W,
     ) -> Result<(), ToolFault>
         requires works { (W.writing writer.old).failed ≡ false }
         requires fits { self.old.counts.written + 2 ^ 80 ≤ 2 ^ 128 }
         requires lines { AreWholeLines self.old.held.items }
-        ensures prints { Adds (printed_as self.old.printing frame.now judged.now) self.old self.new
-            (W.writing writer.old) (W.writing writer.new) result }
+        ensures prints { Adds (printed_as self.old.printing (frame_at place octets.now) judged.now)
+            self.old self.new (W.writing writer.old) (W.writing writer.new) result }
         ensures keeps { Keeps self.old self.new }
         ensures short { self.new.counts.written + 2 ^ 64 ≤ self.old.counts.written + 2 ^ 80 }
     {
         match judged {
-            Ok(found) => self.print_message(alloc, frame, found, writer),
+            Ok(found) => self.print_message(alloc, place, octets, found, writer),
             Err(why) => {
-                hold_refused(alloc, &mut self.held, self.printing, frame, why)?;
+                hold_refused(alloc, &mut self.held, self.printing, place, octets, why)?;
                 Ok(())
             }
         }
     }
 
-    /// Prints a frame, and counts it.
+    /// Prints the frame of these octets at this place, and counts it.
     pub fn print_frame<W: Sink>(
         &mut self,
         alloc: Global,
-        frame: &Found,
+        place: u64,
+        octets: &[u8],
         writer: &mut W,
     ) -> Result<(), ToolFault>
         requires works { (W.writing writer.old).failed ≡ false }
         requires lines { AreWholeLines self.old.held.items }
         requires few { self.old.counts.frames + 1 ≤ 2 ^ 48 }
         requires refused { self.old.counts.refused ≤ self.old.counts.frames }
-        requires octets { self.old.counts.octets + length frame.now.bytes < 2 ^ 64 }
+        requires octets { self.old.counts.octets + length octets.now < 2 ^ 64 }
         requires short { self.old.counts.written + length self.old.held.items
             + self.old.counts.frames ≤ 2 ^ 80 * self.old.counts.frames }
-        ensures prints { PrintsFrame self.old.printing self.old.templates frame.now self.old
-            self.new (W.writing writer.old) (W.writing writer.new) result }
+        ensures prints { PrintsFrame self.old.printing self.old.templates
+            (frame_at place octets.now) self.old self.new (W.writing writer.old)
+            (W.writing writer.new) result }
         ensures printing { self.new.printing ≡ self.old.printing }
         ensures tables { self.new.templates ≡ self.old.templates }
     {
-        let judged = self.judge(alloc, frame.bytes.as_slice())?;
-        self.print_judged(alloc, frame, &judged, writer)?;
+        let judged = self.judge(alloc, octets)?;
+        self.print_judged(alloc, place, octets, &judged, writer)?;
         self.counts.frames += 1;
         self.counts.refused += refused(&judged);
-        self.counts.octets += frame.bytes.as_slice().len() as u64;
+        self.counts.octets += octets.len() as u64;
         self.write_long(writer)
     }
 

@@ -1,10 +1,9 @@
 //! The lines that are printed of a frame, and the one behind the last.
 
 ghost use Rattle.std.specs.Prelude.{◌≡◌, ◌++◌, length, take, Ok, Err, OnOk, OnErr};
-ghost use Rattle.bufr_tool.specs.Output.{checked_as, last_text, printed_as};
+ghost use Rattle.bufr_tool.specs.Output.{checked_as, frame_at, last_text, printed_as};
 
 use bufr_answers::OutOfMemory;
-use bufr_frame::Found;
 use bufr_io::Tally;
 use bufr_message::{Refused, View};
 use itoa::{Buffer, Integer};
@@ -19,34 +18,41 @@ pub enum Printing {
     Checked,
 }
 
-/// Adds the line of `check` of a frame that spells a message. No subset is built for it. Where
-/// memory runs out the text is as it was.
-pub fn hold_checked(text: &mut Vec<u8>, frame: &Found, found: &View<'_>) -> Result<(), OutOfMemory>
-    ensures ok { OnOk result (text.new.items ≡ text.old.items ++ checked_as frame.now (Ok found.now)) }
+/// Adds the line of `check` of the frame of these octets at this place, which spells a message. No
+/// subset is built for it. Where memory runs out the text is as it was.
+pub fn hold_checked(
+    text: &mut Vec<u8>,
+    place: u64,
+    octets: &[u8],
+    found: &View<'_>,
+) -> Result<(), OutOfMemory>
+    ensures ok { OnOk result (text.new.items
+        ≡ text.old.items ++ checked_as (frame_at place octets.now) (Ok found.now)) }
     ensures err { OnErr result (text.new.items ≡ text.old.items) }
 {
     let held = text.len();
-    let added = push_checked(text, frame, found);
+    let added = push_checked(text, place, octets, found);
     if added.is_err() {
         text.truncate(held);
     }
     added
 }
 
-/// Adds the line of a frame that spells no message. Where memory runs out the text is as it was.
+/// Adds the line of the frame of these octets at this place, which spells no message. Where memory
+/// runs out the text is as it was.
 pub fn hold_refused(
     alloc: Global,
     text: &mut Vec<u8>,
     printing: Printing,
-    frame: &Found,
+    place: u64,
+    octets: &[u8],
     why: &Refused,
 ) -> Result<(), OutOfMemory>
     ensures ok { OnOk result (text.new.items
-        ≡ text.old.items ++ printed_as printing frame.now (Err why.now)) }
+        ≡ text.old.items ++ printed_as printing (frame_at place octets.now) (Err why.now)) }
     ensures err { OnErr result (text.new.items ≡ text.old.items) }
 {
-    let place = frame.place;
-    let length = frame.bytes.as_slice().len();
+    let length = octets.len();
     let line = match printing {
         Printing::Shown => format!(in alloc; "# refused {place} {why}\n")?,
         Printing::Checked => format!(in alloc; "{place} {length} refused {why}\n")?,
@@ -81,12 +87,18 @@ fn push_number<I: Integer>(text: &mut Vec<u8>, words: &[u8], number: I) -> Resul
 }
 
 /// Adds the line of `check` of a frame that spells a message.
-fn push_checked(text: &mut Vec<u8>, frame: &Found, found: &View<'_>) -> Result<(), OutOfMemory>
-    ensures ok { OnOk result (text.new.items ≡ text.old.items ++ checked_as frame.now (Ok found.now)) }
+fn push_checked(
+    text: &mut Vec<u8>,
+    place: u64,
+    octets: &[u8],
+    found: &View<'_>,
+) -> Result<(), OutOfMemory>
+    ensures ok { OnOk result (text.new.items
+        ≡ text.old.items ++ checked_as (frame_at place octets.now) (Ok found.now)) }
     ensures kept { OnErr result (take (length text.old.items) text.new.items ≡ text.old.items) }
 {
-    push_number(text, b"", frame.place)?;
-    push_number(text, b" ", frame.bytes.as_slice().len())?;
+    push_number(text, b"", place)?;
+    push_number(text, b" ", octets.len())?;
     push_number(text, b" ok ", found.count())?;
     push_number(text, b" ", found.slack())?;
     text.push(b'\n')?;

@@ -1,17 +1,26 @@
 -- The clause of `print_frames`: frame by frame, with counts that stay within their word.
-use Rattle.std.proofs.Common.{◌+◌, ◌++◌, ℕ, List, length, take, arith, ap, subst}
-use Rattle.std.proofs.Common.{length-append}
+use Rattle.std.proofs.Common.{◌≡◌, ◌+◌, ◌++◌, ℕ, List, length, take, get_or, arith, ap, refl, sym}
+use Rattle.std.proofs.Common.{subst, length-append}
 use Rattle.std.proofs.lemmas.List.{length-take, take_all}
 use Rattle.std.proofs.lemmas.List.Sums.{sum_by-append, sum_by_more, sum_by-take-le}
 use Rattle.bufr_frame.specs.declared.frames.Found.{Found}
+use Rattle.bufr_tool.specs.Output.{frame_at}
 use Rattle.bufr_tool.specs.StreamEngines.{HasPrinted, PrintsFrames}
 use Rattle.bufr_tool.proofs.PrintingFacts.{refused_at_most, passed, stopped, parted_at, taken_to}
-use Rattle.bufr_tool.proofs.PrintingFacts.{printed_more, printed_short}
+use Rattle.bufr_tool.proofs.PrintingFacts.{printed_more, printed_short, same_frame}
 use Rattle.bufr_tool.proofs.frames.print_frames.Goals as goal
 
 -- how many octets a frame has
 abbrev long : Found → ℕ
 long frame = length frame.bytes
+
+-- the octets of an element of a list at its place are that element
+item_is : (frames : List Found) (i : ℕ) (frame : Found) (octets : List ℕ) → octets ≡ frame.bytes
+    → frame ≡ get_or frames i frame
+    → frame_at frame.place octets ≡ get_or frames i (frame_at frame.place octets)
+item_is frames i frame octets has is =
+    subst (λ (f : Found). f ≡ get_or frames i f)
+    (sym (same_frame frame frame.place octets refl has)) is
 
 -- the writer works
 pub print_frame-requires-clause-works : goal.print_frame-requires-clause-works
@@ -56,6 +65,7 @@ print_frame-requires-clause-octets g c =
     let parts = sum_by-append long before (take i frames) in
     let more = sum_by_more long frames i frame c.loop-frame-test.true in
     let here = ap long c.frame-item.is in
+    let lent = ap length c.as_slice.ensures in
     let all = sum_by-take-le long frames (i + 1) in
     let short = c.requires.short in
     omega arith
@@ -72,11 +82,14 @@ loop-frame-preserved g c printing tables first before h =
     let frames = c.args.frames.now in
     let i = c.loop-frame.frame-index in
     let e = c.in_ok-print_frame.ensures in
+    let frame = frame_at c.frame-item.result.place c.as_slice.result.now in
+    let is = item_is frames i c.frame-item.result c.as_slice.result.now c.as_slice.ensures
+    c.frame-item.is in
     subst
     (HasPrinted printing tables first (g.W.Sink.writing c.print_frame.new.writer)
     c.print_frame.new.self)
-    (taken_to frames i c.frame-item.result before c.loop-frame-test.true c.frame-item.is)
-    (printed_more printing tables first _ _ _ _ (before ++ take i frames) c.frame-item.result
+    (taken_to frames i frame before c.loop-frame-test.true is)
+    (printed_more printing tables first _ _ _ _ (before ++ take i frames) frame
     c.in_ok-print_frame.field-0 (c.loop-frame.invariant printing tables first before h) e.prints
     e.printing e.tables)
 
@@ -84,13 +97,18 @@ loop-frame-preserved g c printing tables first before h =
 -- are written or held
 pub returns-in_err-print_frame : goal.returns-in_err-print_frame
 returns-in_err-print_frame g c printing tables first before h =
+    let frames = c.args.frames.now in
+    let i = c.loop-frame.frame-index in
+    let frame = frame_at c.frame-item.result.place c.as_slice.result.now in
+    let is = item_is frames i c.frame-item.result c.as_slice.result.now c.as_slice.ensures
+    c.frame-item.is in
     passed
     (PrintsFrames printing tables (before ++ c.args.frames.now) c.print_frame.new.self first
     (g.W.Sink.writing c.print_frame.new.writer))
     c.from_residual.result c.in_err-print_frame.field-0.0 c.from_residual.ensures.1
-    (stopped _ _ first _ _ c.loop-frame.printer c.print_frame.new.self _ _ _ c.frame-item.result c.in_err-print_frame.field-0.0
-    (parted_at c.args.frames.now c.loop-frame.frame-index c.frame-item.result before
-    c.loop-frame-test.true c.frame-item.is)
+    (stopped _ _ first _ _ c.loop-frame.printer c.print_frame.new.self _ _ _ frame
+    c.in_err-print_frame.field-0.0
+    (parted_at frames i frame before c.loop-frame-test.true is)
     (c.loop-frame.invariant printing tables first before h) c.in_err-print_frame.ensures.prints)
 
 -- all frames were printed

@@ -1,6 +1,7 @@
--- The clause of `take_piece`: frame by frame, until `take_next` hands out none.
+-- The clause of `take_piece`: frame by frame, until `next_frame` hands out none.
 use Rattle.std.proofs.Common.{◌≡◌, ◌++◌, arith, length-append, None}
 use Rattle.bufr_io.specs.declared.fault.ToolFault.TheVariants as faults
+use Rattle.bufr_tool.specs.Output.{frame_at}
 use Rattle.bufr_tool.specs.StreamEngines.{TakesPiece}
 use Rattle.bufr_tool.proofs.PrintingFacts.{printed_short, refused_at_most, passed}
 use Rattle.bufr_tool.proofs.StreamFacts.{hands, amid_first, amid_fits, amid_more, amid_none}
@@ -9,8 +10,8 @@ use Rattle.bufr_frame.specs.NextFrameLaws.{between_fed}
 use Rattle.bufr_tool.proofs.frames.take_piece.Goals as goal
 
 -- the octets taken in and those left of the piece can be counted
-pub take_next-requires : goal.take_next-requires
-take_next-requires g c =
+pub next_frame-requires : goal.next_frame-requires
+next_frame-requires g c =
     let s = c.requires.so_far in
     let a = c.loop-found.invariant s.0 s.1 s.2 s.3 s.4 in
     let fed = between_fed _ _ _ _ a.taking in
@@ -28,10 +29,22 @@ loop-found-init g c printing tables first stream h =
 pub loop-found-preserved : goal.loop-found-preserved
 loop-found-preserved g c printing tables first stream h =
     let e = c.in_ok-print_frame.ensures in
-    amid_more _ _ first _ _ _ _ _ _ _ _ _ c.in-Some.frame c.in_ok-print_frame.field-0
+    amid_more _ _ first _ _ _ _ _ _ _ _ _ (frame_at c.place.result c.as_slice.result.now)
+    c.in_ok-print_frame.field-0
     (c.loop-found.invariant printing tables first stream h)
-    (hands _ _ _ _ _ _ c.in-Some.is c.in_ok-found.ensures.rest c.in_ok-found.ensures.frame
-    c.in_ok-found.ensures.next)
+    (hands _ _ _ _ _ _ _ _ c.in-Some.is c.place.ensures c.as_slice.ensures
+    c.in_ok-found.ensures.rest c.in_ok-found.ensures.frame c.in_ok-found.ensures.next)
+    e.prints e.printing e.tables
+
+-- the same of a frame with octets of its own
+pub loop-found-preserved-in_ok-print_frame : goal.loop-found-preserved-in_ok-print_frame
+loop-found-preserved-in_ok-print_frame g c printing tables first stream h =
+    let e = c.in_ok-print_frame.ensures in
+    amid_more _ _ first _ _ _ _ _ _ _ _ _ (frame_at c.place.result c.as_slice.result.now)
+    c.in_ok-print_frame.field-0
+    (c.loop-found.invariant printing tables first stream h)
+    (hands _ _ _ _ _ _ _ _ c.in-Some.is c.place.ensures c.as_slice.ensures
+    c.in_ok-found.ensures.rest c.in_ok-found.ensures.frame c.in_ok-found.ensures.next)
     e.prints e.printing e.tables
 
 -- where memory runs out at the next frame, the lines of sure frames are written or held
@@ -41,7 +54,7 @@ returns-in_err-found g c printing tables first stream h =
     let start = h.handed.stands.fed in
     let room = c.requires.room in
     passed
-    (TakesPiece printing tables (stream ++ c.args.piece.now) c.take_next.new.self
+    (TakesPiece printing tables (stream ++ c.args.piece.now) c.next_frame.new.self
     c.loop-found.printer first (g.W.Sink.writing c.loop-found.writer))
     c.from_residual.result faults.OutOfMemory c.from_residual.ensures.1
     (amid_halted _ _ first _ _ c.loop-found.printer _ _
@@ -76,10 +89,11 @@ print_frame-requires-clause-short g c =
 pub print_frame-requires-clause-few : goal.print_frame-requires-clause-few
 print_frame-requires-clause-few g c =
     let s = c.requires.so_far in
-    let fits = amid_fits _ _ _ _ _ _ _ s.3 c.args.piece.now _ _ c.in-Some.frame _
+    let fits = amid_fits _ _ _ _ _ _ _ s.3 c.args.piece.now _ _
+    (frame_at c.place.result c.as_slice.result.now) _
     (c.loop-found.invariant s.0 s.1 s.2 s.3 s.4)
-    (hands _ _ _ _ _ _ c.in-Some.is c.in_ok-found.ensures.rest c.in_ok-found.ensures.frame
-    c.in_ok-found.ensures.next)
+    (hands _ _ _ _ _ _ _ _ c.in-Some.is c.place.ensures c.as_slice.ensures
+    c.in_ok-found.ensures.rest c.in_ok-found.ensures.frame c.in_ok-found.ensures.next)
     s.4.handed.stands.fed in
     omega (arith, fits.0, c.requires.room)
 
@@ -93,10 +107,11 @@ print_frame-requires-clause-refused g c =
 pub print_frame-requires-clause-octets : goal.print_frame-requires-clause-octets
 print_frame-requires-clause-octets g c =
     let s = c.requires.so_far in
-    let fits = amid_fits _ _ _ _ _ _ _ s.3 c.args.piece.now _ _ c.in-Some.frame _
+    let fits = amid_fits _ _ _ _ _ _ _ s.3 c.args.piece.now _ _
+    (frame_at c.place.result c.as_slice.result.now) _
     (c.loop-found.invariant s.0 s.1 s.2 s.3 s.4)
-    (hands _ _ _ _ _ _ c.in-Some.is c.in_ok-found.ensures.rest c.in_ok-found.ensures.frame
-    c.in_ok-found.ensures.next)
+    (hands _ _ _ _ _ _ _ _ c.in-Some.is c.place.ensures c.as_slice.ensures
+    c.in_ok-found.ensures.rest c.in_ok-found.ensures.frame c.in_ok-found.ensures.next)
     s.4.handed.stands.fed in
     omega (arith, fits.1, c.requires.room)
 
@@ -105,24 +120,37 @@ print_frame-requires-clause-octets g c =
 pub returns-in_err-print_frame : goal.returns-in_err-print_frame
 returns-in_err-print_frame g c printing tables first stream h =
     passed
-    (TakesPiece printing tables (stream ++ c.args.piece.now) c.take_next.new.self
+    (TakesPiece printing tables (stream ++ c.args.piece.now) c.next_frame.new.self
     c.print_frame.new.self first (g.W.Sink.writing c.print_frame.new.writer))
     c.from_residual-in_err-print_frame.result c.in_err-print_frame.field-0.0
     c.from_residual-in_err-print_frame.ensures.1
     (amid_stopped _ _ first _ _ _ _ c.loop-found.printer c.print_frame.new.self _ _ _
-    c.in-Some.frame c.in_err-print_frame.field-0.0
+    (frame_at c.place.result c.as_slice.result.now) c.in_err-print_frame.field-0.0
     (c.loop-found.invariant printing tables first stream h)
-    (hands _ _ _ _ _ _ c.in-Some.is c.in_ok-found.ensures.rest c.in_ok-found.ensures.frame
-    c.in_ok-found.ensures.next)
+    (hands _ _ _ _ _ _ _ _ c.in-Some.is c.place.ensures c.as_slice.ensures
+    c.in_ok-found.ensures.rest c.in_ok-found.ensures.frame c.in_ok-found.ensures.next)
     c.in_err-print_frame.ensures.prints)
 
 -- one frame more is counted, and there are no more than octets
 pub loop-found-smaller : goal.loop-found-smaller
 loop-found-smaller g c =
     let s = c.requires.so_far in
-    let fits = amid_fits _ _ _ _ _ _ _ s.3 c.args.piece.now _ _ c.in-Some.frame _
+    let fits = amid_fits _ _ _ _ _ _ _ s.3 c.args.piece.now _ _
+    (frame_at c.place.result c.as_slice.result.now) _
     (c.loop-found.invariant s.0 s.1 s.2 s.3 s.4)
-    (hands _ _ _ _ _ _ c.in-Some.is c.in_ok-found.ensures.rest c.in_ok-found.ensures.frame
-    c.in_ok-found.ensures.next)
+    (hands _ _ _ _ _ _ _ _ c.in-Some.is c.place.ensures c.as_slice.ensures
+    c.in_ok-found.ensures.rest c.in_ok-found.ensures.frame c.in_ok-found.ensures.next)
+    s.4.handed.stands.fed in
+    omega (arith, fits.0, c.in_ok-print_frame.ensures.prints.frames)
+
+-- the same of a frame with octets of its own
+pub loop-found-smaller-in_ok-print_frame : goal.loop-found-smaller-in_ok-print_frame
+loop-found-smaller-in_ok-print_frame g c =
+    let s = c.requires.so_far in
+    let fits = amid_fits _ _ _ _ _ _ _ s.3 c.args.piece.now _ _
+    (frame_at c.place.result c.as_slice.result.now) _
+    (c.loop-found.invariant s.0 s.1 s.2 s.3 s.4)
+    (hands _ _ _ _ _ _ _ _ c.in-Some.is c.place.ensures c.as_slice.ensures
+    c.in_ok-found.ensures.rest c.in_ok-found.ensures.frame c.in_ok-found.ensures.next)
     s.4.handed.stands.fed in
     omega (arith, fits.0, c.in_ok-print_frame.ensures.prints.frames)

@@ -7,8 +7,8 @@ use Rattle.bufr_tool.proofs.printing.push_checked.Goals as goal
 pub returns-clause-ok : goal.returns-clause-ok
 returns-clause-ok c =
     let text = c.args.text.now.items in
-    let place = decimal c.args.frame.now.place in
-    let long = decimal (length c.as_slice.result.now) in
+    let place = decimal c.args.place in
+    let long = decimal (length c.args.octets.now) in
     let subsets = decimal c.count.result in
     let slack = decimal c.slack.result in
     let one = c.in_ok-push_number.ensures.ok in
@@ -19,7 +19,6 @@ returns-clause-ok c =
     let four = c.in_ok-push_number-4.ensures.ok
     ∙ ap (λ (z : List ℕ). z ++ (32 ∷ []) ++ slack) three in
     rw (
-      ← c.as_slice.ensures,
       ← c.count.ensures,
       ← c.slack.ensures,
     ) (c.in_ok-push.ensures.items ∙ ap (λ (z : List ℕ). z ++ 10 ∷ []) four

@@ -48,8 +48,8 @@ returns-then-self-most-clause-prints g c =
 pub write_long-requires-clause-lines : goal.write_long-requires-clause-lines
 write_long-requires-clause-lines g c =
     (adds_held (line (field_line c.args.field.now)) _ c.args.self.now
-    (g.W.Sink.writing c.args.writer.now) c.in_ok-push_field.ensures.ok c.requires.lines (line_whole (field_line c.args.field.now))
-    c.requires.works).held_whole
+    (g.W.Sink.writing c.args.writer.now) c.in_ok-push_field.ensures.ok c.requires.lines
+    (line_whole (field_line c.args.field.now)) c.requires.works).held_whole
 
 -- what was held with it is held or written
 pub returns-clause-prints : goal.returns-clause-prints

@@ -60,9 +60,11 @@ returns-in_err-print_field-clause-prints g c =
     c.from_residual-in_err-print_field.ensures.1
     (field_stopped _ _ _ c.in-Some.field c.args.self.now c.loop-fields.self
     c.print_field.new.self _ _ _ c.in_err-print_field.field-0.0
-    (rw c.in-Some.is at c.in_ok-field.ensures) c.loop-fields.invariant.amid c.in_err-print_field.ensures.prints)
+    (rw c.in-Some.is at c.in_ok-field.ensures) c.loop-fields.invariant.amid
+    c.in_err-print_field.ensures.prints)
 
 -- none is left
 pub returns-clause-prints : goal.returns-clause-prints
 returns-clause-prints g c =
-    fields_done _ _ c.args.self.now c.loop-fields.self _ _ (rw c.in_default.is at c.in_ok-field.ensures).0 c.loop-fields.invariant.amid
+    fields_done _ _ c.args.self.now c.loop-fields.self _ _
+    (rw c.in_default.is at c.in_ok-field.ensures).0 c.loop-fields.invariant.amid

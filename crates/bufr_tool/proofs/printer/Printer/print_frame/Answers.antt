@@ -1,10 +1,9 @@
 -- The clause `prints` of `print_frame`: the frame as it was judged, counted, and then what is held
 -- is written where it is long.
-use Rattle.std.proofs.Common.{◌≤◌, ◌+◌, ◌^◌, ◌++◌, ◌∙◌, ap, subst, arith, length}
-use Rattle.bufr_message.specs.Messages.{message_of}
+use Rattle.std.proofs.Common.{◌≤◌, ◌+◌, ◌^◌, ◌++◌, ap, subst, arith}
 use Rattle.bufr_collect.specs.Collected.{refused_as}
 use Rattle.bufr_tool.specs.declared.printer.Printer.{Printer}
-use Rattle.bufr_tool.specs.Output.{printed_as}
+use Rattle.bufr_tool.specs.Output.{frame_at, printed_as}
 use Rattle.bufr_tool.specs.StreamEngines.{Keeps, WritesAllBut}
 use Rattle.bufr_tool.proofs.PrintingFacts.{frame_ends}
 use Rattle.bufr_tool.proofs.printer.Printer.print_frame.Goals as goal
@@ -14,13 +13,13 @@ pub returns-clause-prints : goal.returns-clause-prints
 returns-clause-prints g c =
     let p = c.args.self.now in
     let q = c.print_judged.new.self in
-    let frame = c.args.frame.now in
+    let frame = frame_at c.args.place c.args.octets.now in
     let first = g.W.Sink.writing c.args.writer.now in
     let mid = g.W.Sink.writing c.print_judged.new.writer in
     let same = c.judge.ensures.same in
     let e = c.in_ok-print_judged.ensures in
     let judged = c.in_ok-judged.judged in
-    let is = c.in_ok-judged.ensures.exact ∙ ap (message_of p.templates) c.as_slice.ensures in
+    let is = c.in_ok-judged.ensures.exact in
     let keeps = subst (λ (s : Printer). Keeps s q) same e.keeps in
     let short = subst
     (λ (s : Printer). q.counts.written + 2 ^ 64 ≤ s.counts.written + 2 ^ 80) same e.short in
@@ -34,5 +33,5 @@ returns-clause-prints g c =
     frame_ends p.printing p.templates frame p _ c.write_long.new.self first mid _
     c.write_long.result ends.writes ends.keeps ends.short text (ap (λ n. n + 1) keeps.frames)
     (omega (arith, keeps.refused, c.refused.ensures.count, ap refused_as is))
-    (omega (arith, keeps.octets, ap length c.as_slice-2.ensures)) short
+    (omega (arith, keeps.octets)) short
     (omega (arith, c.requires.short, c.requires.few))

@@ -40,7 +40,8 @@ loop-index-preserved g c =
     let s = subset_at m i (omega (arith, c.loop-index-test.true, c.count-index-end.ensures)) in
     let e = c.in_ok-print_subset.ensures in
     record {
-      done = subset_more m i s.0 c.args.self.now c.loop-index.self c.print_subset.new.self _ _ _ c.in_ok-print_subset.field-0 s.1
+      done = subset_more m i s.0 c.args.self.now c.loop-index.self c.print_subset.new.self _ _ _
+          c.in_ok-print_subset.field-0 s.1
           c.loop-index.invariant.done (e.prints s.0 s.1);
       keeps = keeps_both _ _ _ c.loop-index.invariant.keeps e.keeps;
       short = e.short;
@@ -86,7 +87,8 @@ returns-in_err-print_subset-clause-prints g c =
     (g.W.Sink.writing c.args.writer.now) (g.W.Sink.writing c.print_subset.new.writer))
     c.from_residual-in_err-print_subset.result c.in_err-print_subset.field-0.0
     c.from_residual-in_err-print_subset.ensures.1
-    (subset_stopped m i s.0 c.args.self.now c.loop-index.self c.print_subset.new.self _ _ _ c.in_err-print_subset.field-0.0 s.1
+    (subset_stopped m i s.0 c.args.self.now c.loop-index.self c.print_subset.new.self _ _ _
+    c.in_err-print_subset.field-0.0 s.1
     (c.listings_are_joined_parts.ensures m) c.loop-index.invariant.done
     (c.in_err-print_subset.ensures.prints s.0 s.1))
 

@@ -2,7 +2,7 @@
 use Rattle.std.proofs.Common.{◌++◌, ◌∙◌, ap, sym, refl, Ok}
 use Rattle.bufr_io.specs.declared.fault.ToolFault.TheVariants as faults
 use Rattle.bufr_tool.specs.declared.printer.Printer.{Printer}
-use Rattle.bufr_tool.specs.Output.{printed_as}
+use Rattle.bufr_tool.specs.Output.{frame_at, printed_as}
 use Rattle.bufr_tool.specs.StreamEngines.{Adds}
 use Rattle.bufr_tool.proofs.LineFacts.{printed_whole}
 use Rattle.bufr_tool.proofs.PartFacts.{adds_held, adds_none}
@@ -14,7 +14,8 @@ pub returns-in_err-hold_checked-in-Checked-clause-prints :
     goal.returns-in_err-hold_checked-in-Checked-clause-prints
 returns-in_err-hold_checked-in-Checked-clause-prints g c =
     let p = c.args.self.now in
-    let text = printed_as p.printing c.args.frame.now (Ok c.args.found.now) in
+    let frame = frame_at c.args.place c.args.octets.now in
+    let text = printed_as p.printing frame (Ok c.args.found.now) in
     let now : Printer = record {
       printing = p.printing;
       templates = p.templates;
@@ -32,7 +33,7 @@ pub returns-in_ok-hold_checked-in-Checked-clause-prints :
     goal.returns-in_ok-hold_checked-in-Checked-clause-prints
 returns-in_ok-hold_checked-in-Checked-clause-prints g c =
     let p = c.args.self.now in
-    let frame = c.args.frame.now in
+    let frame = frame_at c.args.place c.args.octets.now in
     let found = Ok c.args.found.now in
     adds_held (printed_as p.printing frame found) c.hold_checked.new.text.items p _
     (c.in_ok-hold_checked-in-Checked.ensures.ok

@@ -1,5 +1,5 @@
 -- The clauses of `print_subset`: its first line, and then those of its fields.
-use Rattle.std.proofs.Common.{◌++◌, [], refl, sym, subst}
+use Rattle.std.proofs.Common.{[], refl, sym, subst}
 use Rattle.bufr_listing.specs.Listings.{line, joined, subset_line, subset_lines}
 use Rattle.bufr_io.specs.declared.fault.ToolFault.TheVariants as faults
 use Rattle.bufr_tool.specs.declared.printer.Printer.{Printer}
