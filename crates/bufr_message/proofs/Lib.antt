@@ -12,6 +12,8 @@ pub mod WrittenFacts
 pub mod UnwrittenFacts
 pub mod ReportFacts
 pub mod AloneFacts
+pub mod LineLengths
+pub mod ShortFacts
 pub mod UnderFacts
 pub mod ViewFacts
 pub mod OwnBitsFacts

@@ -7,6 +7,7 @@ pub mod Lent
 pub mod Reports
 pub mod OwnBits
 pub mod Views
+pub mod ShortListings
 pub mod Samples
 pub mod ReportSamples
 pub mod EncodeReasons

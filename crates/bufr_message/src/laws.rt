@@ -10,9 +10,10 @@ ghost use Rattle.bufr_message.specs.Laws.{MessagesWrittenAreBare, BareAreWritten
 ghost use Rattle.bufr_message.specs.Laws.{MessagesWrittenAreRead, UnwrittenForFirstFault};
 ghost use Rattle.bufr_message.specs.Laws.{FirstEncodeFaultIsAnswered, PlainSpeltAreWritten};
 ghost use Rattle.bufr_message.specs.Laws.{PackableSpeltAreWritten};
+ghost use Rattle.bufr_message.specs.ShortListings.{ListingsAreShort};
 
 use bufr_data::laws::data_hold_subsets;
-use bufr_expand::laws::templates_are_trees;
+use bufr_expand::laws::{courses_are_steady, courses_are_unrollings, templates_are_trees};
 use bufr_sections::laws::bare_spellings_are_shortest;
 pub use bufr_sections::laws::{refusals_of_sections_are_the_first, sections_are_spelt};
 
@@ -90,4 +91,13 @@ pub fn reports_have_canonical_messages()
     ensures { ReportsSpeltAreUnder }
 {
     laws_below();
+}
+
+/// A message that octets spell has less than 2 to the 16 subsets, and the lines of each of them, in
+/// the listing of the message, have less than 2 to the 40 octets.
+pub fn listings_are_short()
+    ensures { ListingsAreShort }
+{
+    courses_are_steady();
+    courses_are_unrollings();
 }
