@@ -1,6 +1,6 @@
 -- How long the line of a field is at most: for the law that listings are short.
 use Rattle.std.proofs.Common.{◌≡◌, ℕ, zero, suc, ◌+◌, ◌-◌, ◌*◌, ◌^◌, ◌<◌, ◌≤◌, Bool, true, false}
-use Rattle.std.proofs.Common.{List, [], ◌∷◌, ◌++◌, length, take, drop, replicate, codes, sym, ap, ◌∙◌}
+use Rattle.std.proofs.Common.{List, [], ◌∷◌, ◌++◌, length, take, drop, replicate, codes, ap}
 use Rattle.std.proofs.Common.{arith, length-append, inl, inr}
 use Rattle.std.specs.Prelude.{ℤ, pos, negsuc, ◌+ℤ◌, ◌==◌, None, Some, decimal, nat_lt, if◌then◌else◌}
 use Rattle.std.specs.List.{flat_map}
@@ -18,7 +18,7 @@ use Rattle.bufr_expand.specs.OperatorsInForce.{is_within}
 use Rattle.bufr_data.specs.declared.field.Raw.{Raw}
 use Rattle.bufr_data.specs.declared.field.Raw.TheVariants.{Number, Text}
 use Rattle.bufr_data.specs.declared.field.Field.{Field}
-use Rattle.bufr_data.specs.Values.{size_of, sign_of, digits_by, text_of, is_missing, decimal_within}
+use Rattle.bufr_data.specs.Values.{size_of, digits_by, text_of, is_missing, decimal_within}
 use Rattle.bufr_listing.specs.Listings.{stands_for_itself, quoted_octet, quoted, number_word}
 use Rattle.bufr_listing.specs.Listings.{value_word, field_line, line}
 

@@ -1,12 +1,10 @@
 -- The lines of a subset of a message that octets spell are few and short: for the law that listings
 -- are short.
-use Rattle.std.proofs.Common.{◌≡◌, ℕ, ◌+◌, ◌*◌, ◌/◌, ◌^◌, ◌<◌, ◌≤◌, List, [], ◌∷◌, ◌++◌, length, map}
-use Rattle.std.proofs.Common.{refl, sym, ap, subst, arith, length-append}
-use Rattle.std.specs.Prelude.{◌≢◌}
+use Rattle.std.proofs.Common.{ℕ, ◌+◌, ◌*◌, ◌^◌, ◌<◌, ◌≤◌, List, [], ◌∷◌, length, map}
+use Rattle.std.proofs.Common.{sym, subst, arith, length-append}
 use Rattle.std.specs.List.{AllByRecursion}
 use Rattle.std.proofs.Math.Nat.{pow-le-pow_right}
 use Rattle.std.proofs.lemmas.List.{length-map}
-use Rattle.bufr_tables.specs.declared.element.Kind.TheVariants as kinds
 use Rattle.bufr_tables.specs.Entries.{Entries}
 use Rattle.bufr_expand.specs.declared.operators.Spec.{Spec}
 use Rattle.bufr_expand.specs.Courses.{Course, ends, stops, asks, course}
@@ -20,12 +18,10 @@ use Rattle.bufr_data.specs.declared.field.Raw.{Raw}
 use Rattle.bufr_data.specs.declared.field.Field.{Field}
 use Rattle.bufr_data.specs.declared.field.Subset.{Subset}
 use Rattle.bufr_data.specs.CourseLaws.{AreAllowed, Formed}
-use Rattle.bufr_data.specs.Fits.{HasForm, of_text, of_number, told_of, Fits}
+use Rattle.bufr_data.specs.Fits.{HasForm, of_text, of_number, told_of}
 use Rattle.bufr_data.specs.Plain.{number_of}
-use Rattle.bufr_sections.specs.declared.message.Message.{Message}
 use Rattle.bufr_listing.specs.Listings.{line, joined, field_line, subset_lines}
-use Rattle.bufr_message.specs.Messages.{Spells}
-use Rattle.bufr_message.specs.ShortListings.{HasShortListing, ListingsAreShort}
+use Rattle.bufr_message.specs.ShortListings.{ListingsAreShort}
 use Rattle.bufr_message.proofs.AloneFacts.{StandsAlone, each_alone}
 use Rattle.bufr_message.proofs.LineLengths.{IsSmall, line_short}
 

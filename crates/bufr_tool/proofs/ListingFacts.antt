@@ -2,12 +2,13 @@
 -- `print_subset` and `print_listing` need it, and so that of `run_show`.
 use Rattle.std.proofs.Common.{◌≡◌, ℕ, ◌+◌, ◌-◌, ◌<◌, ◌≤◌, ◌⊎◌, false, inl, inr, List, [], ◌∷◌, ◌++◌}
 use Rattle.std.proofs.Common.{length, take, drop, Option, Some, None, Ok, Err, refl, sym, ap, ◌∙◌, subst}
-use Rattle.std.proofs.Common.{append_assoc, take-append-drop, get_or, arith}
+use Rattle.std.proofs.Common.{append_assoc, length-append, take-append-drop, get_or, arith, ◌^◌}
 use Rattle.std.specs.Prelude.{slice_get}
 use Rattle.std.specs.List.{flat_map}
 use Rattle.std.proofs.Math.Seq.{take-length}
 use Rattle.std.proofs.lemmas.List.{append-nil, flat_map_more, take_more}
 use Rattle.std.proofs.lemmas.Grind.{flat_map-append}
+use Rattle.std.proofs.lemmas.List.Elements.{All-from_recursion, All-get_or}
 use Rattle.std.proofs.lemmas.Option.{get_or_from_slice_get, slice_get_cases, slice_get_within}
 use Rattle.bufr_bits.specs.Devices.{Writing}
 use Rattle.bufr_listing.specs.Listings.{line, joined, heading_of, heading_lines, subset_line}
@@ -15,14 +16,15 @@ use Rattle.bufr_listing.specs.Listings.{subset_lines, field_line, end_line, list
 use Rattle.bufr_message.specs.declared.Field.{Field}
 use Rattle.bufr_message.specs.declared.Message.{Message}
 use Rattle.bufr_message.specs.declared.Subset.{Subset}
+use Rattle.bufr_message.specs.ShortListings.{HasShortListing}
 use Rattle.bufr_io.specs.declared.fault.ToolFault.{ToolFault}
 use Rattle.bufr_io.specs.declared.fault.ToolFault.TheVariants as faults
 use Rattle.bufr_tool.specs.declared.printer.Printer.{Printer}
 use Rattle.bufr_tool.specs.Lines.{AreWholeLines}
 use Rattle.bufr_tool.specs.Output.{fields_text}
 use Rattle.bufr_tool.specs.StreamEngines.{Adds, WritesAllBut}
-use Rattle.bufr_tool.proofs.LineFacts.{joined_whole, line_whole}
-use Rattle.bufr_tool.proofs.PartFacts.{adds_halts, adds_longer, adds_then, but_all}
+use Rattle.bufr_tool.proofs.LineFacts.{both_whole, joined_whole, line_whole}
+use Rattle.bufr_tool.proofs.PartFacts.{adds_halts, adds_longer, adds_then, but_all, counted_all}
 
 -- that of the lines before the first subset
 abbrev heading_text : Message → List ℕ
@@ -99,7 +101,42 @@ listed_more m i s at =
     one_more (λ s. joined (subset_lines s)) m.subsets i s (heading_text m)
     (slice_get_within m.subsets i s here) here
 
+-- the lines before the first subset are held behind those that were
+pub heading_added : (m : Message) (p : Printer) (held : List ℕ) (w : Writing)
+    → held ≡ p.held.items ++ heading_text m → AreWholeLines p.held.items → w.failed ≡ false
+    → WritesAllBut held (p.held.items ++ listed m 0) p.counts.written p.counts.written w w
+heading_added m p held w grown whole works =
+    but_all held (p.held.items ++ listed m 0) p.counts.written w
+    (ap (λ (t : List ℕ). p.held.items ++ t) (append-nil _) ∙ sym grown)
+    (subst AreWholeLines (sym grown)
+    (both_whole p.held.items (heading_text m) whole (joined_whole (heading_lines (heading_of m)))))
+    works
+
 -- ---- subset by subset
+
+-- the lines of one subset of a short listing are short
+pub lines_at : (m : Message) → HasShortListing m → (i : ℕ) (s : Subset)
+    → slice_get m.subsets i ≡ Some s → length (joined (subset_lines s)) < 2 ^ 40
+lines_at m listed i s at =
+    subst (λ s. length (joined (subset_lines s)) < 2 ^ 40) (get_or_from_slice_get m.subsets i s s at)
+    (All-get_or (λ s. length (joined (subset_lines s)) < 2 ^ 40) m.subsets i s
+    (slice_get_within m.subsets i s at)
+    (All-from_recursion (λ s. length (joined (subset_lines s)) < 2 ^ 40) m.subsets listed.short))
+
+-- with them few octets more are written and held
+pub subset_few : (m : Message) → HasShortListing m → (i : ℕ) (s : Subset) (q p' : Printer)
+    (mid last : Writing) (done : Unit {0}) → slice_get m.subsets i ≡ Some s
+    → Adds (joined (subset_lines s)) q p' mid last (Ok done)
+    → p'.counts.written + length p'.held.items
+    < q.counts.written + length q.held.items + 2 ^ 40
+subset_few m listed i s q p' mid last done at added =
+    let counted = counted_all _ _ _ _ _ _ added in
+    omega (
+      arith,
+      counted,
+      lines_at m listed i s at,
+      length-append q.held.items (joined (subset_lines s)),
+    )
 
 -- the lines of one subset more were added
 pub subset_more : (m : Message) (i : ℕ) (s : Subset) (p q p' : Printer) (first mid last : Writing)
@@ -149,6 +186,16 @@ subset_text o fields s here there lined =
     let same : s ≡ record { fields = fields } = cc in
     ap (λ s. joined (subset_lines s)) same ∙ lined
     ∙ ap (λ (t : List ℕ). t ++ fields_text fields) (append-nil (line subset_line))
+
+-- so its first line and those of its fields are short where the listing is
+pub fields_few : (m : Message) → HasShortListing m → (i : ℕ) (fields : List Field)
+    → slice_get m.subsets i ≡ Some (record { fields = fields }) → IsLined fields
+    → length (line subset_line) + length (fields_text fields) < 2 ^ 40
+fields_few m listed i fields at lined =
+    let s : Subset = record { fields = fields } in
+    let short = lines_at m listed i s at in
+    let whole = ap length (subset_text (slice_get m.subsets i) fields s at at lined) in
+    omega (arith, short, whole, length-append (line subset_line) (fields_text fields))
 
 -- the lines of the fields that were handed out were added: with those of the fields that are left
 -- they are the lines of all
@@ -209,6 +256,22 @@ pub field_halted : (all left : List Field) (p q : Printer) (first mid : Writing)
 field_halted all left p q first mid a =
     adds_halts (fields_text all) a.text (fields_text left) q.held.items p q first mid a.parted
     a.added refl
+
+-- what was written then and what is held are no more octets than those of all lines
+pub amid_few : (all left : List Field) (p q : Printer) (first mid : Writing)
+    → AmidFields all left p q first mid
+    → q.counts.written + length q.held.items
+    ≤ p.counts.written + length p.held.items + length (fields_text all)
+amid_few all left p q first mid a =
+    let counted = counted_all _ _ _ _ _ _ a.added in
+    let whole = ap length a.parted in
+    omega (
+      arith,
+      counted,
+      whole,
+      length-append p.held.items a.text,
+      length-append a.text (fields_text left),
+    )
 
 -- none is left
 pub fields_done : (all left : List Field) (p q : Printer) (first mid : Writing) → left ≡ []

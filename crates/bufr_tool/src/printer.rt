@@ -6,6 +6,7 @@ ghost use Rattle.bufr_bits.specs.Devices.{Writing};
 ghost use Rattle.bufr_message.specs.declared.Subset.{Subset};
 ghost use Rattle.bufr_message.specs.Listings.{line, joined, field_line, subset_lines, listing};
 ghost use Rattle.bufr_message.specs.Messages.{message_of};
+ghost use Rattle.bufr_message.specs.ShortListings.{HasShortListing};
 ghost use Rattle.bufr_collect.specs.Collected.{frame_refused, refused_as};
 ghost use Rattle.bufr_tool.specs.Lines.{AreWholeLines};
 ghost use Rattle.bufr_tool.specs.Output.{fields_text, frame_at, frame_text, printed_as};
@@ -19,6 +20,7 @@ use bufr_bits::Sink;
 use bufr_io::{ToolFault, write_after};
 use bufr_listing::laws::{listings_are_joined_parts, subsets_are_joined_lines};
 use bufr_listing::{push_field, push_subset_line};
+use bufr_message::laws::listings_are_short;
 use bufr_message::{Field, Fields, Refused, Templates, View, listing};
 use bufr_tables::Tables;
 use std::alloc::Global;
@@ -93,28 +95,22 @@ impl<'t> Printer<'t> {
         self.write_held(writer)
     }
 
-    /// Prints the line of a field. `OutOfMemory`, when the line is held, where more octets than
-    /// `most` were written.
+    /// Prints the line of a field.
     fn print_field<W: Sink>(
         &mut self,
         alloc: Global,
         field: &Field,
-        most: u128,
         writer: &mut W,
     ) -> Result<(), ToolFault>
         requires works { (W.writing writer.old).failed ≡ false }
-        requires fits { most + 2 ^ 65 ≤ 2 ^ 128 }
+        requires fits { self.old.counts.written + 2 ^ 64 ≤ 2 ^ 128 }
         requires lines { AreWholeLines self.old.held.items }
-        requires below { self.old.counts.written < most + 2 ^ 64 }
         ensures prints { Adds (line (field_line field.now)) self.old self.new (W.writing writer.old)
             (W.writing writer.new) result }
         ensures keeps { Keeps self.old self.new }
-        ensures short { self.new.counts.written < most + 2 ^ 64 }
+        ensures short { self.new.counts.written < self.old.counts.written + 2 ^ 64 }
     {
         push_field(alloc, &mut self.held, field)?;
-        if self.counts.written > most {
-            return Err(ToolFault::OutOfMemory);
-        }
         self.write_long(writer)
     }
 
@@ -123,20 +119,20 @@ impl<'t> Printer<'t> {
         &mut self,
         alloc: Global,
         mut fields: Fields<'_>,
-        most: u128,
         writer: &mut W,
     ) -> Result<(), ToolFault>
         requires works { (W.writing writer.old).failed ≡ false }
-        requires fits { most + 2 ^ 65 ≤ 2 ^ 128 }
+        requires fits { self.old.counts.written + length self.old.held.items
+            + length (fields_text fields) + 2 ^ 64 ≤ 2 ^ 128 }
         requires lines { AreWholeLines self.old.held.items }
-        requires below { self.old.counts.written < most + 2 ^ 64 }
         ensures prints { Adds (fields_text fields.entry) self.old self.new (W.writing writer.old)
             (W.writing writer.new) result }
         ensures keeps { Keeps self.old self.new }
-        ensures short { self.new.counts.written < most + 2 ^ 64 }
+        ensures short { self.new.counts.written < self.old.counts.written
+            + length self.old.held.items + length (fields_text fields.entry) + 2 ^ 64 }
     {
         while let Some(field) = fields.next(alloc)? {
-            self.print_field(alloc, &field, most, writer)?;
+            self.print_field(alloc, &field, writer)?;
         }
         Ok(())
     }
@@ -147,31 +143,30 @@ impl<'t> Printer<'t> {
         alloc: Global,
         found: &View<'_>,
         number: usize,
-        most: u128,
         writer: &mut W,
     ) -> Result<(), ToolFault>
         requires works { (W.writing writer.old).failed ≡ false }
         requires first { 1 ≤ number }
         requires last { number ≤ length found.now.message.subsets }
-        requires fits { most + 2 ^ 65 ≤ 2 ^ 128 }
+        requires listed { HasShortListing found.now.message }
+        requires fits { self.old.counts.written + length self.old.held.items + 2 ^ 65 ≤ 2 ^ 128 }
         requires lines { AreWholeLines self.old.held.items }
-        requires below { self.old.counts.written < most + 2 ^ 64 }
         ensures prints { (subset : Subset)
             → slice_get found.now.message.subsets (number - 1) ≡ Some subset
             → Adds (joined (subset_lines subset)) self.old self.new (W.writing writer.old)
             (W.writing writer.new) result }
         ensures keeps { Keeps self.old self.new }
-        ensures short { self.new.counts.written < most + 2 ^ 64 }
+        ensures short { self.new.counts.written < self.old.counts.written
+            + length self.old.held.items + 2 ^ 65 }
     {
         subsets_are_joined_lines();
         let fields = found.fields(alloc, number)?;
         push_subset_line(&mut self.held)?;
-        self.print_fields(alloc, fields, most, writer)
+        self.print_fields(alloc, fields, writer)
     }
 
     /// Prints the listing of a message, of which one field at a time is built. No more is held than
-    /// the lines before the first subset, or a part, and with either the line of one field. Where
-    /// 2 ^ 64 octets of it were written, which no message's listing has, it is `OutOfMemory`.
+    /// the lines before the first subset, or a part, and with either the line of one field.
     fn print_listing<W: Sink>(
         &mut self,
         alloc: Global,
@@ -179,6 +174,7 @@ impl<'t> Printer<'t> {
         writer: &mut W,
     ) -> Result<(), ToolFault>
         requires works { (W.writing writer.old).failed ≡ false }
+        requires listed { HasShortListing found.now.message }
         requires fits { self.old.counts.written + 2 ^ 80 ≤ 2 ^ 128 }
         requires lines { AreWholeLines self.old.held.items }
         ensures prints { Adds (listing found.now.message) self.old self.new (W.writing writer.old)
@@ -187,11 +183,11 @@ impl<'t> Printer<'t> {
         ensures short { self.new.counts.written + 2 ^ 64 ≤ self.old.counts.written + 2 ^ 80 }
     {
         listings_are_joined_parts();
-        let most = self.counts.written + u64::MAX as u128;
         let heading = listing::heading_of_view(alloc, found)?;
         self.held.extend_from_slice(&heading)?;
+        self.write_long(writer)?;
         for index in 0..found.count() {
-            self.print_subset(alloc, found, index + 1, most, writer)?;
+            self.print_subset(alloc, found, index + 1, writer)?;
         }
         self.held.extend_from_slice(listing::end_text())?;
         Ok(())
@@ -207,6 +203,7 @@ impl<'t> Printer<'t> {
         writer: &mut W,
     ) -> Result<(), ToolFault>
         requires works { (W.writing writer.old).failed ≡ false }
+        requires listed { HasShortListing found.now.message }
         requires fits { self.old.counts.written + 2 ^ 80 ≤ 2 ^ 128 }
         requires lines { AreWholeLines self.old.held.items }
         ensures prints { Adds
@@ -233,7 +230,9 @@ impl<'t> Printer<'t> {
     ) -> Result<Result<View<'a>, Refused>, OutOfMemory>
         ensures same { self.new ≡ self.old }
         ensures exact { IfOk result (λ found. found ≡ message_of self.old.templates octets.now) }
+        ensures listed { IfOk result (λ found. IfOk found (λ d. HasShortListing d.message)) }
     {
+        listings_are_short();
         match self.templates.view(alloc, octets) {
             Ok(found) => Ok(Ok(found)),
             Err(Failure::Fault(why)) => Ok(Err(why)),
@@ -252,6 +251,7 @@ impl<'t> Printer<'t> {
         writer: &mut W,
     ) -> Result<(), ToolFault>
         requires works { (W.writing writer.old).failed ≡ false }
+        requires listed { IfOk judged.now (λ d. HasShortListing d.message) }
         requires fits { self.old.counts.written + 2 ^ 80 ≤ 2 ^ 128 }
         requires lines { AreWholeLines self.old.held.items }
         ensures prints { Adds (printed_as self.old.printing (frame_at place octets.now) judged.now)

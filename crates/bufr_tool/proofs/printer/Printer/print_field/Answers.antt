@@ -1,12 +1,11 @@
 -- The clauses of `print_field`: the line is held, and a part is written where it is full.
-use Rattle.std.proofs.Common.{[], refl, sym}
-use Rattle.std.proofs.lemmas.List.{append-nil}
+use Rattle.std.proofs.Common.{refl}
 use Rattle.bufr_listing.specs.Listings.{line, field_line}
 use Rattle.bufr_io.specs.declared.fault.ToolFault.TheVariants as faults
 use Rattle.bufr_tool.specs.declared.printer.Printer.{Printer}
 use Rattle.bufr_tool.specs.StreamEngines.{Adds}
 use Rattle.bufr_tool.proofs.LineFacts.{line_whole}
-use Rattle.bufr_tool.proofs.PartFacts.{adds_halts, adds_held, adds_none, adds_written}
+use Rattle.bufr_tool.proofs.PartFacts.{adds_held, adds_none, adds_written}
 use Rattle.bufr_tool.proofs.PrintingFacts.{passed}
 use Rattle.bufr_tool.proofs.printer.Printer.print_field.Goals as goal
 
@@ -26,23 +25,6 @@ returns-in_err-push_field-clause-prints g c =
     c.from_residual.ensures.1
     (adds_none text p now writer c.requires.lines c.requires.works
     c.in_err-push_field.ensures.err refl)
-
--- where too much was written, the line is held
-pub returns-then-self-most-clause-prints : goal.returns-then-self-most-clause-prints
-returns-then-self-most-clause-prints g c =
-    let p = c.args.self.now in
-    let text = line (field_line c.args.field.now) in
-    let held = c.push_field.new.text in
-    let now : Printer = record {
-      printing = p.printing;
-      templates = p.templates;
-      counts = p.counts;
-      held = held;
-    } in
-    adds_halts text text [] held.items p now _ _ (sym (append-nil text))
-    (adds_held text held.items p _ c.in_ok-push_field.ensures.ok c.requires.lines
-    (line_whole (field_line c.args.field.now)) c.requires.works)
-    refl
 
 -- what is held, with the line, has whole lines
 pub write_long-requires-clause-lines : goal.write_long-requires-clause-lines

@@ -1,10 +1,10 @@
 -- The clauses of `print_fields`: field by field, until none is left.
-use Rattle.std.proofs.Common.{refl}
+use Rattle.std.proofs.Common.{refl, arith}
 use Rattle.bufr_io.specs.declared.fault.ToolFault.TheVariants as faults
 use Rattle.bufr_tool.specs.Output.{fields_text}
 use Rattle.bufr_tool.specs.StreamEngines.{Adds}
 use Rattle.bufr_tool.proofs.ListingFacts.{amid_fields, field_more, field_stopped, field_halted}
-use Rattle.bufr_tool.proofs.ListingFacts.{fields_done}
+use Rattle.bufr_tool.proofs.ListingFacts.{amid_few, fields_done}
 use Rattle.bufr_tool.proofs.PartFacts.{keeps_both}
 use Rattle.bufr_tool.proofs.PrintingFacts.{passed}
 use Rattle.bufr_tool.proofs.printer.Printer.print_fields.Goals as goal
@@ -14,7 +14,6 @@ pub loop-fields-init : goal.loop-fields-init
 loop-fields-init g c = record {
   amid = amid_fields _ _ _ c.requires.lines c.requires.works;
   keeps = record { printing = refl; tables = refl; frames = refl; refused = refl; octets = refl };
-  short = c.requires.below;
 }
 
 -- one more was, and its line was added
@@ -26,7 +25,6 @@ loop-fields-preserved g c =
           c.print_field.new.self _ _ _ c.in_ok-print_field.field-0
           (rw c.in-Some.is at c.in_ok-field.ensures) c.loop-fields.invariant.amid e.prints;
       keeps = keeps_both _ _ _ c.loop-fields.invariant.keeps e.keeps;
-      short = e.short;
     }
 
 -- the same where it has octets of its own
@@ -38,8 +36,16 @@ loop-fields-preserved-in_ok-print_field g c =
           c.print_field.new.self _ _ _ c.in_ok-print_field.field-0
           (rw c.in-Some.is at c.in_ok-field.ensures) c.loop-fields.invariant.amid e.prints;
       keeps = keeps_both _ _ _ c.loop-fields.invariant.keeps e.keeps;
-      short = e.short;
     }
+
+-- so there is room for its octets in the count
+pub print_field-requires-clause-fits : goal.print_field-requires-clause-fits
+print_field-requires-clause-fits g c =
+    omega (
+      arith,
+      c.requires.fits,
+      amid_few _ _ c.args.self.now c.loop-fields.self _ _ c.loop-fields.invariant.amid,
+    )
 
 -- where memory runs out at a field, the lines before it are written or held
 pub returns-in_err-field-clause-prints : goal.returns-in_err-field-clause-prints
@@ -49,6 +55,12 @@ returns-in_err-field-clause-prints g c =
     (g.W.Sink.writing c.args.writer.now) (g.W.Sink.writing c.loop-fields.writer))
     c.from_residual.result faults.OutOfMemory c.from_residual.ensures.1
     (field_halted _ _ c.args.self.now c.loop-fields.self _ _ c.loop-fields.invariant.amid)
+
+-- few octets were written then
+pub returns-in_err-field-clause-short : goal.returns-in_err-field-clause-short
+returns-in_err-field-clause-short g c =
+    let few = amid_few _ _ c.args.self.now c.loop-fields.self _ _ c.loop-fields.invariant.amid in
+    omega (arith, few)
 
 -- where printing its line stops, so does printing all
 pub returns-in_err-print_field-clause-prints : goal.returns-in_err-print_field-clause-prints
@@ -63,8 +75,20 @@ returns-in_err-print_field-clause-prints g c =
     (rw c.in-Some.is at c.in_ok-field.ensures) c.loop-fields.invariant.amid
     c.in_err-print_field.ensures.prints)
 
+-- few octets were written then
+pub returns-in_err-print_field-clause-short : goal.returns-in_err-print_field-clause-short
+returns-in_err-print_field-clause-short g c =
+    let few = amid_few _ _ c.args.self.now c.loop-fields.self _ _ c.loop-fields.invariant.amid in
+    omega (arith, few, c.in_err-print_field.ensures.short)
+
 -- none is left
 pub returns-clause-prints : goal.returns-clause-prints
 returns-clause-prints g c =
     fields_done _ _ c.args.self.now c.loop-fields.self _ _
     (rw c.in_default.is at c.in_ok-field.ensures).0 c.loop-fields.invariant.amid
+
+-- few octets were written
+pub returns-clause-short : goal.returns-clause-short
+returns-clause-short g c =
+    let few = amid_few _ _ c.args.self.now c.loop-fields.self _ _ c.loop-fields.invariant.amid in
+    omega (arith, few)

@@ -1,5 +1,5 @@
 -- The loop of `print_fields`: the fields handed out so far, whose lines are written or held.
-use Rattle.std.proofs.Common.{◌+◌, ◌^◌, ◌<◌, length}
+use Rattle.std.proofs.Common.{length}
 use Rattle.bufr_tool.specs.StreamEngines.{Keeps}
 use Rattle.bufr_tool.proofs.ListingFacts.{AmidFields}
 use Rattle.bufr_tool.proofs.printer.Printer.print_fields.Given as goal
@@ -10,7 +10,6 @@ invariant-loop-fields g l = record {
   amid : AmidFields l.fn.fields l.fields l.fn.self l.self (g.W.Sink.writing l.fn.writer)
       (g.W.Sink.writing l.writer);
   keeps : Keeps l.fn.self l.self;
-  short : l.self.counts.written < l.most + 2 ^ 64;
 }
 
 -- each turn leaves one less

@@ -1,35 +1,74 @@
 -- The clauses of `print_listing`: the heading, subset by subset, and the last line.
-use Rattle.std.proofs.Common.{◌≡◌, ℕ, List, ◌++◌, length, ◌∙◌, ap, sym, subst, arith}
+use Rattle.std.proofs.Common.{◌≡◌, ℕ, List, ◌++◌, length, ◌∙◌, ap, sym, arith, Err}
 use Rattle.std.proofs.Common.{append_assoc, refl}
-use Rattle.std.proofs.lemmas.List.{append-nil}
-use Rattle.bufr_listing.specs.Listings.{line, heading_of, heading_lines, end_line, listing}
+use Rattle.bufr_listing.specs.Listings.{line, end_line, listing}
 use Rattle.bufr_io.specs.declared.fault.ToolFault.TheVariants as faults
 use Rattle.bufr_tool.specs.declared.printer.Printer.{Printer}
-use Rattle.bufr_tool.specs.Lines.{AreWholeLines}
 use Rattle.bufr_tool.specs.StreamEngines.{Adds}
-use Rattle.bufr_tool.proofs.LineFacts.{both_whole, line_whole, joined_whole}
-use Rattle.bufr_tool.proofs.ListingFacts.{listed, unlisted, listing_parted, listing_ended}
-use Rattle.bufr_tool.proofs.ListingFacts.{subset_at, subset_more, subset_stopped}
-use Rattle.bufr_tool.proofs.PartFacts.{adds_halts, adds_none, but_all, held_more, keeps_both}
+use Rattle.bufr_tool.proofs.LineFacts.{line_whole}
+use Rattle.bufr_tool.proofs.ListingFacts.{heading_added, listed, unlisted, listing_parted, listing_ended}
+use Rattle.bufr_tool.proofs.ListingFacts.{subset_at, subset_few, subset_more, subset_stopped}
+use Rattle.bufr_tool.proofs.PartFacts.{adds_halts, adds_longer, adds_none, adds_written, held_less, held_more}
+use Rattle.bufr_tool.proofs.PartFacts.{keeps_both}
 use Rattle.bufr_tool.proofs.PrintingFacts.{passed}
 use Rattle.bufr_tool.proofs.printer.Printer.print_listing.Goals as goal
 
--- at first the lines before the first subset are held behind those that were, and nothing was
--- written
+-- what is held, with the lines before the first subset, has whole lines
+pub write_long-requires-clause-lines : goal.write_long-requires-clause-lines
+write_long-requires-clause-lines g c =
+    let p = c.args.self.now in
+    let grown = c.in_ok-extend_from_slice.ensures.items
+    ∙ ap (λ (t : List ℕ). p.held.items ++ t) (c.deref.ensures.value ∙ c.in_ok-heading.ensures) in
+    (heading_added c.args.found.now.message p _ (g.W.Sink.writing c.args.writer.now) grown
+    c.requires.lines c.requires.works).held_whole
+
+-- where the writer fails at them, so does printing the listing
+pub returns-in_err-write_long-clause-prints : goal.returns-in_err-write_long-clause-prints
+returns-in_err-write_long-clause-prints g c =
+    let m = c.args.found.now.message in
+    let p = c.args.self.now in
+    let q : Printer = record {
+      printing = p.printing;
+      templates = p.templates;
+      counts = p.counts;
+      held = c.extend_from_slice.new.self;
+    } in
+    let first = g.W.Sink.writing c.args.writer.now in
+    let last = g.W.Sink.writing c.write_long.new.writer in
+    let e = c.in_err-write_long.field-0.0 in
+    let grown = c.in_ok-extend_from_slice.ensures.items
+    ∙ ap (λ (t : List ℕ). p.held.items ++ t) (c.deref.ensures.value ∙ c.in_ok-heading.ensures) in
+    passed (Adds (listing m) p c.write_long.new.self first last)
+    c.from_residual-in_err-write_long.result e c.from_residual-in_err-write_long.ensures.1
+    (adds_longer (listed m 0) (unlisted m 0) (listing m) p c.write_long.new.self first last e
+    (listing_parted m 0 (c.listings_are_joined_parts.ensures m))
+    (adds_written (listed m 0) p q c.write_long.new.self first first last (Err e)
+    (heading_added m p q.held.items first grown c.requires.lines c.requires.works)
+    c.in_err-write_long.ensures.writes))
+
+-- at first the lines before the first subset are written or held, behind those that were held
 pub loop-index-init : goal.loop-index-init
 loop-index-init g c =
     let m = c.args.found.now.message in
-    let old = c.args.self.now.held.items in
+    let p = c.args.self.now in
+    let first = g.W.Sink.writing c.args.writer.now in
+    let last = g.W.Sink.writing c.write_long.new.writer in
+    let held = c.extend_from_slice.new.self.items in
     let grown = c.in_ok-extend_from_slice.ensures.items
-    ∙ ap (λ (t : List ℕ). old ++ t) (c.deref.ensures.value ∙ c.in_ok-heading.ensures) in
+    ∙ ap (λ (t : List ℕ). p.held.items ++ t) (c.deref.ensures.value ∙ c.in_ok-heading.ensures) in
+    let e = c.in_ok-write_long.ensures in
     record {
-      done = but_all _ (old ++ listed m 0) c.args.self.now.counts.written _
-          (ap (λ (t : List ℕ). old ++ t) (append-nil _) ∙ sym grown)
-          (subst AreWholeLines (sym grown)
-          (both_whole old _ c.requires.lines (joined_whole (heading_lines (heading_of m)))))
-          c.requires.works;
-      keeps = record { printing = refl; tables = refl; frames = refl; refused = refl; octets = refl };
-      short = omega arith;
+      done = held_less held c.write_long.new.self.held.items (p.held.items ++ listed m 0)
+          p.counts.written p.counts.written c.write_long.new.self.counts.written first first last
+          (heading_added m p held first grown c.requires.lines c.requires.works) e.writes;
+      keeps = record {
+        printing = e.keeps.printing;
+        tables = e.keeps.tables;
+        frames = e.keeps.frames;
+        refused = e.keeps.refused;
+        octets = e.keeps.octets;
+      };
+      short = omega (arith, e.short);
     }
 
 -- of the lines with those of one subset more all but what is held then was written
@@ -44,8 +83,23 @@ loop-index-preserved g c =
           c.in_ok-print_subset.field-0 s.1
           c.loop-index.invariant.done (e.prints s.0 s.1);
       keeps = keeps_both _ _ _ c.loop-index.invariant.keeps e.keeps;
-      short = e.short;
+      short =
+          let few = subset_few m c.requires.listed _ s.0 c.loop-index.self c.print_subset.new.self
+          _ _ c.in_ok-print_subset.field-0 s.1 (e.prints s.0 s.1) in
+          omega (arith, few, c.loop-index.invariant.short);
     }
+
+-- there is room for the octets of a subset in the count
+pub print_subset-requires-clause-fits : goal.print_subset-requires-clause-fits
+print_subset-requires-clause-fits g c =
+    omega (
+      arith,
+      c.requires.fits,
+      c.requires.listed.few,
+      c.loop-index.invariant.short,
+      c.loop-index-test.true,
+      c.count-index-end.ensures,
+    )
 
 -- where memory runs out at the lines before the first subset, nothing was written
 pub returns-in_err-heading-clause-prints : goal.returns-in_err-heading-clause-prints
@@ -92,6 +146,18 @@ returns-in_err-print_subset-clause-prints g c =
     (c.listings_are_joined_parts.ensures m) c.loop-index.invariant.done
     (c.in_err-print_subset.ensures.prints s.0 s.1))
 
+-- few octets were written then
+pub returns-in_err-print_subset-clause-short : goal.returns-in_err-print_subset-clause-short
+returns-in_err-print_subset-clause-short g c =
+    omega (
+      arith,
+      c.requires.listed.few,
+      c.loop-index.invariant.short,
+      c.loop-index-test.true,
+      c.count-index-end.ensures,
+      c.in_err-print_subset.ensures.short,
+    )
+
 -- where memory runs out as the last line is held, those before it are written or held
 pub returns-in_err-extend_from_slice-2-clause-prints :
     goal.returns-in_err-extend_from_slice-2-clause-prints
@@ -114,6 +180,29 @@ returns-in_err-extend_from_slice-2-clause-prints g c =
     (adds_halts (listing m) (listed m i) (unlisted m i) q.held.items p now _ _
     (listing_parted m i (c.listings_are_joined_parts.ensures m)) c.loop-index.invariant.done
     c.in_err-extend_from_slice-2.ensures.items)
+
+-- few octets were written then
+pub returns-in_err-extend_from_slice-2-clause-short :
+    goal.returns-in_err-extend_from_slice-2-clause-short
+returns-in_err-extend_from_slice-2-clause-short g c =
+    omega (
+      arith,
+      c.requires.listed.few,
+      c.loop-index.invariant.short,
+      c.loop-index.auto.index-end,
+      c.count-index-end.ensures,
+    )
+
+-- and when the last line is held
+pub returns-clause-short : goal.returns-clause-short
+returns-clause-short g c =
+    omega (
+      arith,
+      c.requires.listed.few,
+      c.loop-index.invariant.short,
+      c.loop-index.auto.index-end,
+      c.count-index-end.ensures,
+    )
 
 -- the last line is held behind those before it
 pub returns-clause-prints : goal.returns-clause-prints

@@ -1,12 +1,12 @@
 -- The clauses of `print_subset`: its first line, and then those of its fields.
-use Rattle.std.proofs.Common.{[], refl, sym, subst}
+use Rattle.std.proofs.Common.{[], refl, sym, ap, subst, arith, length, length-append}
 use Rattle.bufr_listing.specs.Listings.{line, joined, subset_line, subset_lines}
 use Rattle.bufr_io.specs.declared.fault.ToolFault.TheVariants as faults
 use Rattle.bufr_tool.specs.declared.printer.Printer.{Printer}
 use Rattle.bufr_tool.specs.Output.{fields_text}
 use Rattle.bufr_tool.specs.StreamEngines.{Adds}
 use Rattle.bufr_tool.proofs.LineFacts.{fields_whole, line_whole}
-use Rattle.bufr_tool.proofs.ListingFacts.{subset_text}
+use Rattle.bufr_tool.proofs.ListingFacts.{fields_few, subset_text}
 use Rattle.bufr_tool.proofs.PartFacts.{adds_held, adds_none, adds_then}
 use Rattle.bufr_tool.proofs.PrintingFacts.{passed}
 use Rattle.bufr_tool.proofs.printer.Printer.print_subset.Goals as goal
@@ -45,6 +45,34 @@ print_fields-requires-clause-lines g c =
     (adds_held (line subset_line) _ c.args.self.now (g.W.Sink.writing c.args.writer.now)
     c.in_ok-push_subset_line.ensures.ok c.requires.lines (line_whole subset_line)
     c.requires.works).held_whole
+
+-- there is room for the octets of the fields in the count
+pub print_fields-requires-clause-fits : goal.print_fields-requires-clause-fits
+print_fields-requires-clause-fits g c =
+    let few = fields_few c.args.found.now.message c.requires.listed _ c.in_ok-fields.fields
+    c.in_ok-fields.ensures (c.subsets_are_joined_lines.ensures [] c.in_ok-fields.fields) in
+    let held = ap length c.in_ok-push_subset_line.ensures.ok in
+    omega (
+      arith,
+      c.requires.fits,
+      few,
+      held,
+      length-append c.args.self.now.held.items (line subset_line),
+    )
+
+-- and few are written
+pub returns-clause-short : goal.returns-clause-short
+returns-clause-short g c =
+    let few = fields_few c.args.found.now.message c.requires.listed _ c.in_ok-fields.fields
+    c.in_ok-fields.ensures (c.subsets_are_joined_lines.ensures [] c.in_ok-fields.fields) in
+    let held = ap length c.in_ok-push_subset_line.ensures.ok in
+    omega (
+      arith,
+      c.print_fields.ensures.short,
+      few,
+      held,
+      length-append c.args.self.now.held.items (line subset_line),
+    )
 
 -- the lines of the fields are added behind it
 pub returns-clause-prints : goal.returns-clause-prints
