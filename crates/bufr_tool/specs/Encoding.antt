@@ -1,13 +1,16 @@
 -- What `encode` answers and does.
 use Rattle.std.specs.Prelude.{◌≡◌, ℕ, ◌+◌, Bool, ◌||◌, List, ◌∷◌, ◌++◌, length, map}
-use Rattle.std.specs.Prelude.{Result, Ok, Err}
+use Rattle.std.specs.Prelude.{Option, Some, None, Result, Ok, Err}
 use Rattle.std.specs.List.{flat_map}
+use Rattle.bufr_answers.specs.declared.failure.Failure.{Failure}
+use Rattle.bufr_answers.specs.declared.failure.Failure.TheVariants.{Fault}
 use Rattle.bufr_bits.specs.Devices.{Reading, Writing}
 use Rattle.bufr_tables.specs.Entries.{Entries}
 use Rattle.bufr_message.specs.Encodings.{code}
 use Rattle.bufr_message.specs.declared.EncodeFault.{EncodeFault}
 use Rattle.bufr_message.specs.declared.Message.{Message}
 use Rattle.bufr_listing.specs.Reading.{messages_listed}
+use Rattle.bufr_listing.specs.Unread.{Unread, HandsOutMessage}
 use Rattle.bufr_listing.specs.declared.ListingFault.{ListingFault}
 use Rattle.bufr_io.specs.declared.fault.Input.TheVariants.{Number}
 use Rattle.bufr_io.specs.declared.fault.Tally.{Tally}
@@ -15,6 +18,7 @@ use Rattle.bufr_io.specs.declared.fault.ToolFault.{ToolFault}
 use Rattle.bufr_io.specs.declared.fault.ToolFault.TheVariants as faults
 use Rattle.bufr_io.specs.Engines.{WasReadOut, HasFailed, IsEndless, AreAllOf, WritesAll}
 use Rattle.bufr_io.specs.Engines.{FailsAfter}
+use Rattle.bufr_tool.specs.declared.encode.Encoded.{Encoded}
 
 -- ---- messages
 
@@ -98,27 +102,40 @@ Encodes compressed tables reads reader reader' writer writer' (Err fault) = ⊥
 
 -- ---- message by message
 
--- the encoding of a message of this number was added to octets, or why it has none
-abbrev pub AddsEncoding : Entries → Bool → ℕ → Message → List ℕ → List ℕ
-    → Result (Unit {0}) ToolFault → Type 0
-AddsEncoding tables compressed number m octets octets' (Ok done) =
-    (more : List ℕ) × (code_as_asked tables compressed m ≡ Ok more) × (octets' ≡ octets ++ more)
-AddsEncoding tables compressed number m octets octets' (Err (faults.Encode which why)) =
-    (which ≡ number) × (code_as_asked tables compressed m ≡ Err why)
-AddsEncoding tables compressed number m octets octets' (Err faults.OutOfMemory) = Unit {0}
-AddsEncoding tables compressed number m octets octets' (Err fault) = ⊥
+-- the encodings of the messages that a text lists and how many these are; or the first fault of the
+-- listing; or else that of a message
+abbrev pub EncodesListing : Entries → Bool → List ℕ → Result Encoded ToolFault → Type 0
+EncodesListing tables compressed text (Ok encoded) =
+    (messages : List Message) × (messages_listed tables text ≡ Ok messages)
+    × AreEncodings tables compressed messages encoded.octets.items
+    × (encoded.count ≡ length messages)
+EncodesListing tables compressed text (Err (faults.Listing why)) =
+    messages_listed tables text ≡ Err why
+EncodesListing tables compressed text (Err (faults.Encode number why)) =
+    (messages : List Message) × (messages_listed tables text ≡ Ok messages)
+    × IsFirstNotEncoded tables compressed messages number why
+EncodesListing tables compressed text (Err faults.OutOfMemory) = Unit {0}
+EncodesListing tables compressed text (Err fault) = ⊥
 
--- the encodings of messages, or the first fault
-abbrev pub EncodesAll : Entries → Bool → List Message → Result (List ℕ) ToolFault → Type 0
-EncodesAll tables compressed messages (Ok octets) = AreEncodings tables compressed messages octets
-EncodesAll tables compressed messages (Err (faults.Encode number why)) =
-    IsFirstNotEncoded tables compressed messages number why
-EncodesAll tables compressed messages (Err faults.OutOfMemory) = Unit {0}
-EncodesAll tables compressed messages (Err fault) = ⊥
+-- what was handed out of the messages that were left, or the fault of the listing
+abbrev pub ReadsMessage : Unread → Unread → Result (Option Message) ToolFault → Type 0
+ReadsMessage old new (Ok found) = HandsOutMessage old (Ok found) new
+ReadsMessage old new (Err (faults.Listing why)) = HandsOutMessage old (Err (Fault why)) new
+ReadsMessage old new (Err faults.OutOfMemory) = Unit {0}
+ReadsMessage old new (Err fault) = ⊥
 
--- the messages that a text lists, or its first fault
-abbrev pub ReadsListing : Entries → List ℕ → Result (List Message) ToolFault → Type 0
-ReadsListing tables text (Ok messages) = messages_listed tables text ≡ Ok messages
-ReadsListing tables text (Err (faults.Listing why)) = messages_listed tables text ≡ Err why
-ReadsListing tables text (Err faults.OutOfMemory) = Unit {0}
-ReadsListing tables text (Err fault) = ⊥
+-- no fault is behind the messages that are left, or it is told
+abbrev pub PassesAll : Unread → Result (Unit {0}) ToolFault → Type 0
+PassesAll u (Ok done) = u.fault ≡ None
+PassesAll u (Err (faults.Listing why)) = u.fault ≡ Some why
+PassesAll u (Err faults.OutOfMemory) = Unit {0}
+PassesAll u (Err fault) = ⊥
+
+-- the fault behind the messages that are left, or else why the message of this number before them
+-- has no encoding
+abbrev pub TellsFault : Unread → ℕ → Failure EncodeFault → ToolFault → Type 0
+TellsFault u number failure (faults.Listing why) = u.fault ≡ Some why
+TellsFault u number failure (faults.Encode which why) =
+    (u.fault ≡ None) × (which ≡ number) × (failure ≡ Fault why)
+TellsFault u number failure faults.OutOfMemory = Unit {0}
+TellsFault u number failure fault = ⊥

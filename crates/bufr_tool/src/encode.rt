@@ -1,23 +1,32 @@
 //! The engine of `encode`.
 
 ghost use Rattle.std.specs.Prelude.{◌≡◌, ◌≤◌, false};
-ghost use Rattle.bufr_answers.specs.Answers.{Gives, result_map};
+ghost use Rattle.bufr_answers.specs.Answers.{Gives};
 ghost use Rattle.bufr_io.specs.Engines.{IsFresh};
 ghost use Rattle.bufr_io.specs.Limits.{most_reads};
-ghost use Rattle.bufr_tool.specs.Encoding.{AddsEncoding, Encodes, EncodesAll, ReadsListing};
-ghost use Rattle.bufr_tool.specs.Encoding.{code_as_asked};
+ghost use Rattle.bufr_tool.specs.Encoding.{Encodes, EncodesListing, PassesAll, ReadsMessage};
+ghost use Rattle.bufr_tool.specs.Encoding.{TellsFault, code_as_asked};
 
 use bufr_answers::Failure;
 use bufr_bits::{Sink, Source};
 use bufr_io::{Input, Tally, ToolFault, read_all, write_out};
-use bufr_message::{EncodeFault, Message, encode, listing};
+use bufr_message::listing::Messages;
+use bufr_message::{EncodeFault, Message, encode};
 use bufr_tables::Tables;
 use std::alloc::Global;
+
+/// The octets of messages, one behind another, and how many messages these are.
+#[derive(Debug, Drop)]
+struct Encoded {
+    octets: Vec<u8>,
+    count: u128,
+}
 
 /// Writes the octets of each message that a reader's text lists, one behind another, each
 /// compressed where that is asked. The whole listing is read and all its messages are encoded
 /// before the first octet is written. The first fault of the listing is told before that of a
-/// message. The tally counts the messages.
+/// message. The tally counts the messages. It holds the listing, the octets, and one message at a
+/// time.
 pub fn run_encode<S: Source, W: Sink>(
     alloc: Global,
     reads: u64,
@@ -34,68 +43,76 @@ pub fn run_encode<S: Source, W: Sink>(
         (S.reading reader.new) (W.writing writer.old) (W.writing writer.new) result }
 {
     let text = read_all(alloc, reads, Input::Number(1), reader)?;
-    let messages = messages_of(alloc, tables, &text)?;
-    let count = messages.len() as u128;
-    let octets = octets_of(alloc, tables, compressed, messages)?;
-    write_out(writer, 0, &octets)?;
+    let encoded = octets_of(alloc, tables, compressed, &text)?;
+    write_out(writer, 0, &encoded.octets)?;
     Ok(Tally {
-        frames: count,
+        frames: encoded.count,
         refused: 0,
         skipped: 0,
         reports: 0,
     })
 }
 
-/// The messages that a text lists.
-fn messages_of(alloc: Global, tables: &Tables, text: &[u8]) -> Result<Vec<Message>, ToolFault>
-    ensures { ReadsListing tables.now text.now (result_map (λ v. v.items) result) }
+/// The octets of the messages that a text lists, one behind another, each compressed where that is
+/// asked. Each message is encoded as soon as it is read, and then let go. Once one has no encoding,
+/// the rest is read for a fault of the listing, which is told before that of the message.
+fn octets_of(
+    alloc: Global,
+    tables: &Tables,
+    compressed: bool,
+    text: &[u8],
+) -> Result<Encoded, ToolFault>
+    ensures { EncodesListing tables.now compressed text.now result }
 {
-    match listing::read(alloc, tables, text) {
-        Ok(messages) => Ok(messages),
+    let mut messages = Messages::of(tables, text);
+    let mut octets = Vec::new(alloc);
+    let mut count: u128 = 0;
+    while let Some(message) = next_of(alloc, &mut messages)? {
+        count += 1;
+        match octets_as_asked(alloc, tables, compressed, message) {
+            Ok(more) => octets.extend_from_slice(&more)?,
+            Err(failure) => return Err(fault_of(alloc, messages, count, failure)),
+        }
+    }
+    Ok(Encoded { octets, count })
+}
+
+/// The next message of a listing.
+fn next_of(alloc: Global, messages: &mut Messages<'_>) -> Result<Option<Message>, ToolFault>
+    ensures { ReadsMessage messages.old messages.new result }
+{
+    match messages.next(alloc) {
+        Ok(next) => Ok(next),
         Err(Failure::Fault(why)) => Err(ToolFault::Listing(why)),
         Err(Failure::OutOfMemory) => Err(ToolFault::OutOfMemory),
     }
 }
 
-/// The octets of messages, one behind another, each compressed where that is asked.
-fn octets_of(
+/// What is told where the message of this number has no encoding: the fault of the listing behind
+/// it, and else its own.
+fn fault_of(
     alloc: Global,
-    tables: &Tables,
-    compressed: bool,
-    messages: Vec<Message>,
-) -> Result<Vec<u8>, ToolFault>
-    ensures { EncodesAll tables.now compressed messages.items
-        (result_map (λ v. v.items) result) }
+    messages: Messages<'_>,
+    number: u128,
+    failure: Failure<EncodeFault>,
+) -> ToolFault
+    ensures { TellsFault messages.entry number failure result }
 {
-    let mut octets = Vec::new(alloc);
-    let mut number: u128 = 0;
-    for message in messages {
-        number += 1;
-        add_octets(alloc, tables, compressed, number, message, &mut octets)?;
+    match failure {
+        Failure::OutOfMemory => ToolFault::OutOfMemory,
+        Failure::Fault(why) => match pass_all(alloc, messages) {
+            Ok(()) => ToolFault::Encode(number, why),
+            Err(fault) => fault,
+        },
     }
-    Ok(octets)
 }
 
-/// Adds the octets of the message of this number behind those that there are.
-fn add_octets(
-    alloc: Global,
-    tables: &Tables,
-    compressed: bool,
-    number: u128,
-    message: Message,
-    octets: &mut Vec<u8>,
-) -> Result<(), ToolFault>
-    ensures { AddsEncoding tables.now compressed number message octets.old.items octets.new.items
-        result }
+/// Reads the messages that are left and lets them go.
+fn pass_all(alloc: Global, mut messages: Messages<'_>) -> Result<(), ToolFault>
+    ensures { PassesAll messages.entry result }
 {
-    match octets_as_asked(alloc, tables, compressed, message) {
-        Ok(more) => {
-            octets.extend_from_slice(&more)?;
-            Ok(())
-        }
-        Err(Failure::Fault(why)) => Err(ToolFault::Encode(number, why)),
-        Err(Failure::OutOfMemory) => Err(ToolFault::OutOfMemory),
-    }
+    while next_of(alloc, &mut messages)?.is_some() {}
+    Ok(())
 }
 
 /// The octets of a message, compressed too where that is asked.

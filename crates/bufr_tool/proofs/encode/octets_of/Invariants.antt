@@ -1,10 +1,13 @@
--- The loop of `octets_of`: the messages encoded so far.
-use Rattle.std.proofs.Common.{◌≡◌, length}
-use Rattle.bufr_tool.specs.Encoding.{AreEncodings}
+-- The loop of `octets_of`: the messages read and encoded so far.
+use Rattle.std.proofs.Common.{length}
+use Rattle.bufr_tool.proofs.EncodingFacts.{EncodedSoFar}
 use Rattle.bufr_tool.proofs.encode.octets_of.Given as goal
 
--- the messages so far were encoded and counted
-abbrev pub invariant-loop-message : goal.invariant-loop-message
-invariant-loop-message l =
-    AreEncodings l.fn.tables l.fn.compressed l.yielded l.octets.items
-    × (l.number ≡ length l.yielded)
+-- the messages so far were encoded and counted, and the others are left
+abbrev pub invariant-loop-octets : goal.invariant-loop-octets
+invariant-loop-octets l =
+    EncodedSoFar l.tables l.compressed l.text l.messages l.octets.items l.count
+
+-- each turn leaves one less
+abbrev pub decreases-loop-octets : goal.decreases-loop-octets
+decreases-loop-octets l = length l.messages.messages

@@ -1,0 +1,11 @@
+-- The loop of `pass_all`: the messages let go so far.
+use Rattle.std.proofs.Common.{◌≡◌, length}
+use Rattle.bufr_tool.proofs.encode.pass_all.Given as goal
+
+-- the fault behind the messages stays
+abbrev pub invariant-loop : goal.invariant-loop
+invariant-loop l = l.messages.fault ≡ l.fn.messages.fault
+
+-- each turn leaves one less
+abbrev pub decreases-loop : goal.decreases-loop
+decreases-loop l = length l.messages.messages
