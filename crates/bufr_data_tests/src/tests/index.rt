@@ -178,13 +178,7 @@ fn plain_subsets_of_turns(rt: HostRuntime) -> Result<(), Fail> {
 }
 
 /// A temperature and a type of station at each level, and then a block number.
-const LEVELS: [(u8, u8, u8); 5] = [
-    (1, 2, 0),
-    (0, 31, 1),
-    (0, 12, 101),
-    (0, 2, 1),
-    (0, 1, 1),
-];
+const LEVELS: [(u8, u8, u8); 5] = [(1, 2, 0), (0, 31, 1), (0, 12, 101), (0, 2, 1), (0, 1, 1)];
 
 #[test]
 fn levels_are_passed(rt: HostRuntime) -> Result<(), Fail> {
@@ -219,13 +213,7 @@ fn levels_are_passed(rt: HostRuntime) -> Result<(), Fail> {
 #[test]
 fn operators_go_from_turn_to_turn(rt: HostRuntime) -> Result<(), Fail> {
     let alloc = rt.alloc();
-    let list = [
-        (1, 3, 0),
-        (0, 31, 1),
-        (0, 12, 101),
-        (2, 1, 130),
-        (0, 2, 1),
-    ];
+    let list = [(1, 3, 0), (0, 31, 1), (0, 12, 101), (2, 1, 130), (0, 2, 1)];
     let mut plain = BitSink::new(alloc);
     plain.put(8, 3)?;
     for (bits, number) in [(16, 27315), (2, 1), (18, 200000), (2, 0), (18, 131), (2, 3)] {
@@ -236,13 +224,7 @@ fn operators_go_from_turn_to_turn(rt: HostRuntime) -> Result<(), Fail> {
     let mut reader = BitReader::new(octets.as_slice());
     let index = SubsetIndex::index(alloc, template(alloc, &list)?, false, &mut reader, 1)?;
     same(&rt, reader.place(), 66);
-    has_numbers(
-        &rt,
-        alloc,
-        &index,
-        1,
-        &[3, 27315, 1, 200000, 0, 131, 3],
-    )?;
+    has_numbers(&rt, alloc, &index, 1, &[3, 27315, 1, 200000, 0, 131, 3])?;
     let ends = ReadFault::DataEnds(1, 6);
     refuses(&rt, alloc, &list, false, 1, &octets[..7], ends)
 }
