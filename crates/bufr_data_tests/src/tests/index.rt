@@ -177,58 +177,6 @@ fn plain_subsets_of_turns(rt: HostRuntime) -> Result<(), Fail> {
     refuses(&rt, alloc, &TWICE, false, 4, &octets, ends)
 }
 
-/// A temperature and a type of station at each level, and then a block number.
-const LEVELS: [(u8, u8, u8); 5] = [(1, 2, 0), (0, 31, 1), (0, 12, 101), (0, 2, 1), (0, 1, 1)];
-
-#[test]
-fn levels_are_passed(rt: HostRuntime) -> Result<(), Fail> {
-    let alloc = rt.alloc();
-    let mut plain = BitSink::new(alloc);
-    for (count, block) in [(100u64, 94), (0, 3), (1, 127)] {
-        plain.put(8, count)?;
-        for level in 0..count {
-            plain.put(16, 27315 - level)?;
-            plain.put(2, level % 4)?;
-        }
-        plain.put(7, block)?;
-    }
-    let octets = octets_of(plain);
-    let mut reader = BitReader::new(octets.as_slice());
-    let index = SubsetIndex::index(alloc, template(alloc, &LEVELS)?, false, &mut reader, 3)?;
-    same(&rt, reader.place(), 1863);
-    has_numbers(&rt, alloc, &index, 2, &[0, 3])?;
-    has_numbers(&rt, alloc, &index, 3, &[1, 27315, 0, 127])?;
-    // 8 bits, and 44 levels of 18
-    let ends = ReadFault::DataEnds(1, 90);
-    refuses(&rt, alloc, &LEVELS, false, 3, &octets[..100], ends)?;
-    refuses(&rt, alloc, &LEVELS, false, 3, &octets[..101], ends)?;
-    let ends = ReadFault::DataEnds(1, 91);
-    refuses(&rt, alloc, &LEVELS, false, 3, &octets[..102], ends)?;
-    let ends = ReadFault::DataEnds(1, 202);
-    refuses(&rt, alloc, &LEVELS, false, 3, &octets[..226], ends)?;
-    let ends = ReadFault::DataEnds(3, 2);
-    refuses(&rt, alloc, &LEVELS, false, 3, &octets[..230], ends)
-}
-
-#[test]
-fn operators_go_from_turn_to_turn(rt: HostRuntime) -> Result<(), Fail> {
-    let alloc = rt.alloc();
-    let list = [(1, 3, 0), (0, 31, 1), (0, 12, 101), (2, 1, 130), (0, 2, 1)];
-    let mut plain = BitSink::new(alloc);
-    plain.put(8, 3)?;
-    for (bits, number) in [(16, 27315), (2, 1), (18, 200000), (2, 0), (18, 131), (2, 3)] {
-        plain.put(bits, number)?;
-    }
-    plain.put(6, 0)?;
-    let octets = octets_of(plain);
-    let mut reader = BitReader::new(octets.as_slice());
-    let index = SubsetIndex::index(alloc, template(alloc, &list)?, false, &mut reader, 1)?;
-    same(&rt, reader.place(), 66);
-    has_numbers(&rt, alloc, &index, 1, &[3, 27315, 1, 200000, 0, 131, 3])?;
-    let ends = ReadFault::DataEnds(1, 6);
-    refuses(&rt, alloc, &list, false, 1, &octets[..7], ends)
-}
-
 #[test]
 fn items_up_to_the_limit(rt: HostRuntime) -> Result<(), Fail> {
     let alloc = rt.alloc();
