@@ -1,5 +1,5 @@
 -- Runs of fields: how they join, and which nodes and turns are runs, for `Walk::pass_turns`.
-use Rattle.std.proofs.Common.{◌≡◌, ℕ, zero, suc, ◌+◌, ◌*◌, ◌%◌, ◌<◌, ◌≤◌, false, List, [], ◌∷◌, ◌++◌}
+use Rattle.std.proofs.Common.{◌≡◌, ℕ, zero, suc, ◌+◌, ◌*◌, ◌<◌, ◌≤◌, false, List, [], ◌∷◌, ◌++◌}
 use Rattle.std.proofs.Common.{length, drop, take, min, Option, Some, None, refl, sym, ap, ◌∙◌, subst}
 use Rattle.std.proofs.Common.{length-append, inl, inr, arith}
 use Rattle.std.specs.Prelude.{IfSome}
@@ -18,9 +18,9 @@ use Rattle.bufr_expand.specs.declared.operators.Spec.{Spec}
 use Rattle.bufr_expand.specs.declared.run.Run.{Run}
 use Rattle.bufr_expand.specs.Limits.{most_items}
 use Rattle.bufr_expand.specs.OperatorsInForce.{effective, untouched}
-use Rattle.bufr_expand.specs.Effects.{IsTextSpec, IsAsRow, AsInTable, text, number, IsChanged}
+use Rattle.bufr_expand.specs.Effects.{IsTextSpec, IsAsRow, AsInTable, text, number}
 use Rattle.bufr_expand.specs.Effects.{Effective, of_text, changed, unchanged}
-use Rattle.bufr_expand.specs.Courses.{Course, ends, stops, asks, Then, item, asks_if, turns}
+use Rattle.bufr_expand.specs.Courses.{Course, ends, asks, Then, item, asks_if, turns}
 use Rattle.bufr_expand.specs.Courses.{course_then}
 use Rattle.bufr_expand.specs.Trees as trees
 use Rattle.bufr_expand.specs.Trees.{Tree, tree_of, tree_within}

@@ -1,10 +1,10 @@
 -- For `run_of`, `first_run` and `turns_run`: a run of nodes, node by node.
-use Rattle.std.proofs.Common.{◌≡◌, ◌≤◌, ◌-◌, length, drop, take, Some, sym, ap, subst, ◌∙◌, arith}
-use Rattle.std.proofs.Common.{length-drop, [], ◌∷◌, refl}
+use Rattle.std.proofs.Common.{◌≡◌, ◌-◌, length, drop, take, ap, subst, ◌∙◌, arith}
+use Rattle.std.proofs.Common.{length-drop, []}
 use Rattle.std.proofs.lemmas.List.{take_all, nil_from_length}
 use Rattle.bufr_expand.specs.OperatorsInForce.{effective}
-use Rattle.bufr_expand.specs.Runs.{BeginsRun, IsFieldRun}
-use Rattle.bufr_expand.specs.Trees.{tree_of, tree_within}
+use Rattle.bufr_expand.specs.Runs.{IsFieldRun}
+use Rattle.bufr_expand.specs.Trees.{tree_within}
 use Rattle.bufr_expand.proofs.PassFacts.{spec_ok}
 use Rattle.bufr_expand.proofs.RunFacts.{begins_nowhere, begins_joined, begins_element}
 use Rattle.bufr_expand.proofs.RunFacts.{begins_untouched, begins_repeated, begins_rest, if_turned}

@@ -1,5 +1,5 @@
 -- For `Walk::innermost`: the last of the open replications has its body within the nodes.
-use Rattle.std.proofs.Common.{◌≡◌, ◌-◌, ◌≤◌, Some, length, sym, ap, ◌∙◌, subst, arith}
+use Rattle.std.proofs.Common.{◌≡◌, ◌-◌, ◌≤◌, Some, length, sym}
 use Rattle.std.specs.List.{slice_get}
 use Rattle.bufr_expand.specs.declared.standing.Open.{Open}
 use Rattle.bufr_expand.specs.declared.walk.Walk.{Walk}
