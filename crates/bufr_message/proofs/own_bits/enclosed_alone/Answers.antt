@@ -1,6 +1,6 @@
 -- For `enclosed_alone`: octets whose bits are the filled data bits are those that a report alone has
 -- them in.
-use Rattle.std.proofs.Common.{arith, sym, Ok, Err}
+use Rattle.std.proofs.Common.{arith, sym, Err}
 use Rattle.bufr_answers.specs.AnswerLaws.{told_fault}
 use Rattle.bufr_message.specs.OwnBits.{report_with}
 use Rattle.bufr_message.proofs.EncodingFacts.{whole_octets_are}

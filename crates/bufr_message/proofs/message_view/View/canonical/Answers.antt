@@ -1,10 +1,6 @@
 -- For `View::canonical`: what the bits of a subset spell with the parts of the view.
-use Rattle.std.proofs.Common.{◌≡◌, ◌-◌, ◌<◌, ℕ, List, Option, length, subst, arith}
-use Rattle.std.specs.Prelude.{IfOk, option_map, slice_get, Some}
+use Rattle.std.proofs.Common.{◌-◌, ◌<◌, length, arith}
 use Rattle.bufr_sections.specs.declared.message.Message.{Message}
-use Rattle.bufr_sections.specs.declared.message.Decoded.{Decoded}
-use Rattle.bufr_message.specs.OwnBits.{spelt_alone}
-use Rattle.bufr_message.specs.Reports.{reports_of}
 use Rattle.bufr_message.proofs.OwnBitsFacts.{spelt_there}
 use Rattle.bufr_message.proofs.message_view.View.canonical.Goals as goal
 
