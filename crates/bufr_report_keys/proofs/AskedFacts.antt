@@ -1,6 +1,6 @@
 -- Keys see no more of fields than the first of each element that they ask for: for `asked_of` and
 -- `key_of_fields`.
-use Rattle.std.proofs.Common.{◌≡◌, ℕ, ◌==◌, Bool, true, false, List, [], ◌∷◌, ◌++◌, Option, Some}
+use Rattle.std.proofs.Common.{◌≡◌, ℕ, ◌==◌, Bool, true, false, List, ◌∷◌, ◌++◌, Option, Some}
 use Rattle.std.proofs.Common.{None, refl, sym, ap, subst, ◌∙◌}
 use Rattle.std.proofs.Common.{cond}
 use Rattle.std.specs.Prelude.{◌&&◌}
@@ -9,11 +9,10 @@ use Rattle.std.proofs.lemmas.Bool.{eqb-true}
 use Rattle.std.proofs.lemmas.List.Folds.{find-append}
 use Rattle.bufr_tables.specs.Descriptors.{descriptor}
 use Rattle.bufr_data.specs.declared.field.Field.{Field}
-use Rattle.bufr_keys.specs.declared.key.Station.{Station}
 use Rattle.bufr_message.specs.declared.report.ReportHead.{ReportHead}
 use Rattle.bufr_report_keys.specs.Usable.{◌>>=◌, first_field, element_number, element_text}
 use Rattle.bufr_report_keys.specs.Usable.{usable_number, usable_text}
-use Rattle.bufr_report_keys.specs.Keys.{wmo, wigos, mobile, station, moment, key, or_else}
+use Rattle.bufr_report_keys.specs.Keys.{wmo, wigos, mobile, station, moment, key}
 use Rattle.bufr_report_keys.specs.Asked.{is_asked, HaveSameFirsts}
 
 -- ---- keys of fields with the same firsts
