@@ -1,9 +1,7 @@
 -- What the loop of `octets_of` over the messages of a text keeps, and what it answers at each of its
 -- ends: for the contract of `run_encode`.
-use Rattle.std.proofs.Common.{◌≡◌, ℕ, ◌+◌, ◌<◌, ◌≤◌, Bool, List, [], ◌∷◌, ◌++◌, length, Result, Ok, Err}
-use Rattle.std.proofs.Common.{true, false, refl, sym, ap, ap₂, ◌∙◌, subst, arith}
-use Rattle.std.specs.Prelude.{Option, Some, None}
-use Rattle.std.specs.Option.{is_some}
+use Rattle.std.proofs.Common.{◌≡◌, ℕ, ◌+◌, ◌≤◌, Bool, List, [], ◌∷◌, ◌++◌, length, Result, Ok, Err}
+use Rattle.std.proofs.Common.{refl, sym, ap, ap₂, ◌∙◌, subst, arith}
 use Rattle.std.proofs.lemmas.List.{append-nil, flat_map_more, length_push, map-append}
 use Rattle.bufr_answers.specs.Answers.{Fails}
 use Rattle.bufr_answers.specs.declared.failure.Failure.{Failure}
@@ -11,7 +9,7 @@ use Rattle.bufr_tables.specs.Entries.{Entries}
 use Rattle.bufr_message.specs.declared.EncodeFault.{EncodeFault}
 use Rattle.bufr_message.specs.declared.Message.{Message}
 use Rattle.bufr_listing.specs.Reading.{messages_listed}
-use Rattle.bufr_listing.specs.Unread.{Unread, behind, nothing, or_fault, all_of, HandsOutMessage}
+use Rattle.bufr_listing.specs.Unread.{Unread, behind, nothing, or_fault, all_of}
 use Rattle.bufr_listing.specs.UnreadLaws.{behind_one}
 use Rattle.bufr_io.specs.declared.fault.ToolFault.{ToolFault}
 use Rattle.bufr_io.specs.declared.fault.ToolFault.TheVariants as faults
