@@ -14,7 +14,6 @@ mod adding;
 mod files;
 mod keys;
 mod samples;
-mod texts;
 
 /// Reports by number and update sequence number.
 type Reports<'a> = &'a [(u16, u8)];

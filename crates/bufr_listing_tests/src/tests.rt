@@ -1,6 +1,5 @@
 //! Listings of messages, written and read. Expected values are typed from the rules of the format.
 
-mod one_at_a_time;
 mod parts;
 mod places;
 mod reading;

@@ -2,8 +2,7 @@
 use super::samples::*;
 use super::*;
 use bufr_answers::Items;
-use bufr_message::{Report, ReportHead, decode, reports, view};
-use bufr_report_keys::key_of_fields;
+use bufr_message::{Report, decode, reports};
 use std::alloc::Global;
 use std::process::Abort;
 
@@ -15,23 +14,11 @@ fn reports_of(rt: &impl Abort, alloc: Global, message: &str) -> Vec<Report> {
     reports(alloc, decoded.message).expect(rt, "room")
 }
 
-// The key of the first report of a message, whose fields are handed out one at a time.
-fn key_handed_out(rt: &impl Abort, alloc: Global, message: &str, head: &ReportHead) -> Option<Key> {
-    let tables = tables(rt, alloc);
-    let octets = octets(rt, alloc, message);
-    let view = view(alloc, &tables, octets.as_slice()).expect(rt, "a message");
-    assert!(rt; view.count() >= 1);
-    let fields = view.fields(alloc, 1).expect(rt, "room");
-    key_of_fields(alloc, head, fields).expect(rt, "room")
-}
-
-// The first report of a message has this key, whether it is built or not.
+// The first report of a message has this key.
 fn assert_key(rt: &impl Abort, alloc: Global, message: &str, expected: Option<Key>) {
     let found = reports_of(rt, alloc, message);
     let report = found.as_slice().get(0).expect(rt, "a report");
     let key = key_of(alloc, report).expect(rt, "room");
-    assert!(rt; key == expected, "{key:?}");
-    let key = key_handed_out(rt, alloc, message, &report.head);
     assert!(rt; key == expected, "{key:?}");
 }
 

@@ -18,15 +18,7 @@ fn own(alloc: Global, found: &View<'_>, number: usize) -> Result<Vec<u8>, Fail> 
     Ok(canonical_of_read(alloc, &report)?.ok_or("octets")?)
 }
 
-/// The same as the view answers it, which builds no subset.
-fn canonical(alloc: Global, found: &View<'_>, number: usize) -> Result<Vec<u8>, Fail> {
-    if number == 0 || found.count() < number {
-        return Err("number")?;
-    }
-    Ok(found.canonical(alloc, number)?.ok_or("octets")?)
-}
-
-/// The report of this number has this canonical message, built or not.
+/// The report of this number has this canonical message.
 pub(crate) fn assert_own(
     rt: &impl Abort,
     alloc: Global,
@@ -35,9 +27,7 @@ pub(crate) fn assert_own(
     wanted: &str,
 ) -> Result<(), Fail> {
     let own = own(alloc, found, number)?;
-    assert_octets(rt, alloc, own.as_slice(), wanted)?;
-    let canonical = canonical(alloc, found, number)?;
-    assert_octets(rt, alloc, canonical.as_slice(), wanted)
+    assert_octets(rt, alloc, own.as_slice(), wanted)
 }
 
 /// The two reports of a message, asked for in any order and twice, have these canonical messages.
