@@ -1,5 +1,5 @@
 //! Reports gathered for an archive.
-ghost use Rattle.std.specs.Prelude.{◌≡◌, ◌<◌, ◌∷◌, [], get_or, length, IfOk, OnOk, OnErr};
+ghost use Rattle.std.specs.Prelude.{◌≡◌, ◌<◌, ◌∷◌, [], get_or, length, map, IfOk, OnOk, OnErr};
 ghost use Rattle.bufr_shelves.specs.Entries.{kept};
 ghost use Rattle.bufr_archive.specs.Archives.{IsKept, PutsIntoBuilder, taken_in};
 ghost use Rattle.bufr_archive.specs.Adding.{AddsToBuilder};
@@ -13,7 +13,7 @@ use crate::archive::Archive;
 use crate::report_entry::MessageReports;
 use bufr_answers::{Failure, OutOfMemory};
 use bufr_message::{Refused, Templates};
-use bufr_shelves::{Entry, ShelfBuilder, SortedShelf};
+use bufr_shelves::{Entry, KeptOctets, ShelfBuilder, SortedShelf};
 use bufr_tables::Tables;
 use std::alloc::Global;
 use std::marker::Model;
@@ -130,5 +130,14 @@ impl<'t> ArchiveBuilder<'t> {
             templates,
             shelf: entries.into_shelf()?,
         })
+    }
+
+    /// The canonical messages of the archive of all that was added, in order of slots: its text is
+    /// these joined. They are gone where memory was refused.
+    pub fn into_octets(self) -> Result<KeptOctets, OutOfMemory>
+        ensures { IfOk result (λ left. left ≡ map (λ e. e.bytes) self.entry.entries) }
+    {
+        let ArchiveBuilder { entries, .. } = self;
+        entries.into_octets()
     }
 }

@@ -24,8 +24,8 @@ pub use archive::{Archive, ArchiveWriteFault};
 pub use archive_text::ArchiveText;
 pub use bufr_keys::{Key, Moment, Station};
 pub use bufr_shelves::{
-    Entry, Held, JoinFault, MapShelf, Shelf, ShelfBuilder, SortedShelf, laws as shelf_laws, shelve,
-    slot_order,
+    Entry, Held, JoinFault, KeptOctets, MapShelf, Shelf, ShelfBuilder, SortedShelf,
+    laws as shelf_laws, shelve, slot_order,
 };
 pub use builder::ArchiveBuilder;
 pub use reading::NotAnArchive;

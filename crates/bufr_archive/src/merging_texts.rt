@@ -9,7 +9,7 @@ ghost use Rattle.bufr_archive.specs.Texts.{text};
 
 use crate::laws::reports_are_entries;
 use crate::reading::{ReadEntry, behind, front_of};
-use crate::report_entry::key_of;
+use crate::report_entry::read_entry;
 use bufr_answers::{Failure, OutOfMemory};
 use bufr_message::Templates;
 use bufr_shelves::slot_order;
@@ -35,12 +35,8 @@ fn known_entry<'a>(
     if view.count() != 1 {
         return Ok(None);
     }
-    let report = view.report(alloc, 1)?;
-    Ok(Some(ReadEntry {
-        key: key_of(alloc, &report)?,
-        update: report.head.update,
-        bytes: octets,
-    }))
+    let entry = read_entry(alloc, &view, octets)?;
+    Ok(Some(entry))
 }
 
 /// What is left of a text that is merged: its first entry, and the octets behind it.

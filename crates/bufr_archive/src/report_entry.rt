@@ -90,6 +90,27 @@ fn viewed_entry(alloc: Global, view: &View<'_>, number: usize) -> Result<Option<
     }))
 }
 
+/// The entry of the one report of a view with these octets: no subset is built. It can only run out
+/// of memory.
+pub(crate) fn read_entry<'a>(
+    alloc: Global,
+    view: &View<'_>,
+    octets: &'a [u8],
+) -> Result<ReadEntry<'a>, OutOfMemory>
+    requires { length view.now.message.subsets ≡ 1 }
+    ensures { IfOk result (λ entry.
+        option_map (λ r. entry_with r octets.now) (slice_get (reports_of view.now.message) 0)
+        ≡ Some (read entry)) }
+{
+    let head = ReportHead::of_head(view.head());
+    let fields = view.fields(alloc, 1)?;
+    Ok(ReadEntry {
+        key: key_of_fields(alloc, &head, fields)?,
+        update: head.update,
+        bytes: octets,
+    })
+}
+
 /// The entry of the one report of a view, where the octets are what its own fields spell. It can
 /// only run out of memory.
 fn own_entry<'a>(
@@ -108,13 +129,7 @@ fn own_entry<'a>(
     if bytes.as_slice() != octets {
         return Ok(None);
     }
-    let head = ReportHead::of_head(view.head());
-    let fields = view.fields(alloc, 1)?;
-    Ok(Some(ReadEntry {
-        key: key_of_fields(alloc, &head, fields)?,
-        update: head.update,
-        bytes: octets,
-    }))
+    Ok(Some(read_entry(alloc, view, octets)?))
 }
 
 /// The entry that octets are: they spell a message of one subset whose canonical message they are.

@@ -5,4 +5,6 @@ pub mod StreamFacts
 pub mod ReaderFacts
 pub mod EngineFacts
 pub mod LawFacts
+pub mod PartFacts
 pub mod WayFacts
+pub mod StackFacts

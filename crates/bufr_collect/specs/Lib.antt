@@ -4,3 +4,5 @@ pub mod Collects
 pub mod Adds
 pub mod Laws
 pub mod ReaderLaws
+pub mod Parts
+pub mod Stacks

@@ -6,10 +6,11 @@ ghost use Rattle.bufr_collect.specs.Readers.{AreFresh, AreReadAtMost};
 ghost use Rattle.bufr_io.specs.Limits.{most_reads};
 
 use crate::counts::Counts;
+use crate::parts::write_parts;
 use crate::streams::add_streams;
 use bufr_archive::ArchiveBuilder;
 use bufr_bits::{Sink, Source};
-use bufr_io::{Tally, ToolFault, room, write_out};
+use bufr_io::{Tally, ToolFault, room};
 use bufr_tables::Tables;
 use std::alloc::Global;
 
@@ -37,10 +38,9 @@ pub fn run_add<S: Source, W: Sink>(
         refused: 0,
     };
     add_streams(alloc, reads, readers, &mut room, &mut builder, &mut counts)?;
-    let archive = builder.into_archive()?;
-    let reports = archive.len() as u128;
-    let text = archive.into_octets()?;
-    write_out(writer, 0, &text)?;
+    let octets = builder.into_octets()?;
+    let reports = octets.len() as u128;
+    write_parts(octets, room, writer)?;
     Ok(Tally {
         frames: counts.frames,
         refused: counts.refused,

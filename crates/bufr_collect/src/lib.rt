@@ -6,7 +6,9 @@ mod counts;
 mod frames;
 pub mod laws;
 mod merging;
+mod parts;
 mod streams;
+mod text_stack;
 
 pub use adding::run_add;
 pub use merging::run_merge;

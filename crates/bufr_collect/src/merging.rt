@@ -8,21 +8,22 @@ ghost use Rattle.bufr_collect.specs.Adds.{ReadsArchive, MergesReaders};
 ghost use Rattle.bufr_collect.specs.Collects.{Merges};
 ghost use Rattle.bufr_collect.specs.Readers.{AreFresh, AreReadAtMost};
 
+use crate::text_stack::TextStack;
 use bufr_answers::Failure;
-use bufr_archive::{Archive, NotAnArchive, Shelf, SortedShelf};
+use bufr_archive::{ArchiveText, NotAnArchive};
 use bufr_bits::{Sink, Source};
 use bufr_io::{Input, Tally, ToolFault, read_all, write_out};
 use bufr_tables::Tables;
 use std::alloc::Global;
 
 /// The archive whose text a reader has, which has this number.
-fn read_archive<'t, K: Shelf, S: Source>(
+fn read_archive<'t, S: Source>(
     alloc: Global,
     reads: u64,
     tables: &'t Tables,
     number: u128,
     reader: &mut S,
-) -> Result<Archive<'t, K>, ToolFault>
+) -> Result<ArchiveText<'t>, ToolFault>
     requires few { reads ≤ most_reads }
     requires fresh { IsFresh (S.reading reader.old) }
     ensures bounded { (S.reading reader.new).reads ≤ reads }
@@ -30,7 +31,7 @@ fn read_archive<'t, K: Shelf, S: Source>(
         (S.reading reader.new) (result_map (λ archive. archive) result) }
 {
     let octets = read_all(alloc, reads, Input::Number(number), reader)?;
-    match Archive::read(alloc, tables, &octets) {
+    match ArchiveText::read(alloc, tables, octets) {
         Ok(archive) => Ok(archive),
         Err(Failure::Fault(NotAnArchive { place })) => Err(ToolFault::NotAnArchive {
             input: number,
@@ -41,33 +42,36 @@ fn read_archive<'t, K: Shelf, S: Source>(
 }
 
 /// The archive of the reports of all readers' archives.
-fn merge_readers<'t, K: Shelf, S: Source>(
+fn merge_readers<'t, S: Source>(
     alloc: Global,
     reads: u64,
     tables: &'t Tables,
     readers: &mut [S],
-) -> Result<Archive<'t, K>, ToolFault>
+) -> Result<ArchiveText<'t>, ToolFault>
     requires few { reads ≤ most_reads }
     requires fresh { AreFresh (map S.reading readers.old) }
     ensures bounded { AreReadAtMost reads (map S.reading readers.new) }
     ensures merges { MergesReaders tables.now reads (map S.reading readers.old)
         (map S.reading readers.new) (result_map (λ archive. archive) result) }
 {
-    let mut merged: Archive<'t, K> = Archive::new(alloc, tables);
+    let mut merged = TextStack::new(alloc, tables);
     for (index, reader) in readers.iter_mut().enumerate() {
         let number = index as u128 + 1;
         let archive = read_archive(alloc, reads, tables, number, reader)?;
-        let Ok(()) = merged.merge(&archive) else {
+        let Ok(()) = merged.push(archive) else {
             return Err(ToolFault::OutOfMemory);
         };
     }
+    let Ok(merged) = merged.into_text() else {
+        return Err(ToolFault::OutOfMemory);
+    };
     Ok(merged)
 }
 
 /// Reads the archives of all readers, each of which is judged before the next is read, and then
-/// writes the text of an archive of the reports of all. The first that is no archive is told, with
-/// the start of its first entry that is not right. Nothing is written before every reader was read
-/// out.
+/// writes the text of an archive of the reports of all. Nothing is held but the octets of texts. The
+/// first that is no archive is told, with the start of its first entry that is not right. Nothing is
+/// written before every reader was read out.
 pub fn run_merge<S: Source, W: Sink>(
     alloc: Global,
     reads: u64,
@@ -82,9 +86,9 @@ pub fn run_merge<S: Source, W: Sink>(
     ensures merges { Merges tables.now reads (map S.reading readers.old)
         (map S.reading readers.new) (W.writing writer.old) (W.writing writer.new) result }
 {
-    let merged: Archive<'_, SortedShelf> = merge_readers(alloc, reads, tables, readers)?;
+    let merged = merge_readers(alloc, reads, tables, readers)?;
     let reports = merged.len() as u128;
-    let text = merged.into_octets()?;
+    let text = merged.into_octets();
     write_out(writer, 0, &text)?;
     Ok(Tally {
         frames: readers.len() as u128,

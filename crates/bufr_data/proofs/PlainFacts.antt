@@ -34,6 +34,7 @@ pub mod Alike
 pub mod Copied
 pub mod Even
 pub mod Handed
+pub mod Layouts
 pub mod Passed
 pub mod Reads
 pub mod Refusals

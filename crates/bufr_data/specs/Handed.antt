@@ -7,9 +7,11 @@ use Rattle.bufr_expand.specs.declared.walk.Walk.{Walk}
 use Rattle.bufr_expand.specs.Walks as walks
 use Rattle.bufr_data.specs.declared.field.Field.{Field}
 use Rattle.bufr_data.specs.declared.compressed.index.Place.{Place}
+use Rattle.bufr_data.specs.declared.plain.layout.LaidField.{LaidField}
 use Rattle.bufr_data.specs.Compressed.{field_of}
 use Rattle.bufr_data.specs.Compressed.Indexed.{AllOpen, column_from}
 use Rattle.bufr_data.specs.Plain.{fields_at}
+use Rattle.bufr_data.specs.Plain.Layouts.{laid_course}
 use Rattle.bufr_data.specs.Plain.Starts.{fields_of}
 use Rattle.bufr_data.specs.Steady.{IsReady}
 
@@ -28,6 +30,14 @@ abbrev pub StandAhead : Bool → Walk → BitPlace → Type 0
 StandAhead true walk reader = Unit {0}
 StandAhead false walk reader =
     IsReady walk × IsOk (fields_at 1 1 (walks.left walk) (left reader))
+
+-- the fields that are laid out, in the bits that are left
+abbrev pub fields_laid : List LaidField → BitPlace → List Field
+fields_laid fields reader = fields_of (fields_at 1 1 (laid_course fields) (left reader))
+
+-- all of them are there
+abbrev pub StandLaid : List LaidField → BitPlace → Type 0
+StandLaid fields reader = IsOk (fields_at 1 1 (laid_course fields) (left reader))
 
 -- the values at an index of the columns at places, as fields
 abbrev pub fields_there : List ℕ → ℕ → ℕ → List Place → List Field

@@ -24,6 +24,7 @@ use Rattle.bufr_data.specs.declared.fault.WriteFault.TheVariants as misfits
 use Rattle.bufr_data.specs.Limits.{most_raw_bits}
 pub mod Alike
 pub mod Even
+pub mod Layouts
 pub mod Numbered
 pub mod Reads
 pub mod Refusals

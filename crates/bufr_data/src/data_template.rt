@@ -6,28 +6,35 @@ ghost use Rattle.bufr_answers.specs.Answers.{Gives};
 ghost use Rattle.bufr_data.specs.declared.field.Subset.{Subset};
 ghost use Rattle.bufr_data.specs.Data.{subsets_in};
 ghost use Rattle.bufr_data.specs.Plain.Alike.{IsAlike};
+ghost use Rattle.bufr_data.specs.Plain.Layouts.{IsLaid};
 
 use crate::fault::ReadFault;
 use crate::plain::alike::{Alike, Likeness};
+use crate::plain::layout::Layout;
+use crate::plain::plan::Plan;
 use crate::subset_index::{SubsetIndex, index_known};
 use bufr_answers::{Failure, OutOfMemory};
 use bufr_bits::BitReader;
 use bufr_expand::Template;
 use std::alloc::Global;
 use std::marker::Model;
+use std::rc::Rc;
 
 /// A template for the data of one message after another. Whether all its plain subsets are alike is
-/// found out once, and kept. Contracts see it as the template's tree.
+/// found out once, and kept; for its second message the fields of these are laid out, and kept too.
+/// Contracts see it as the template's tree.
 #[derive(Debug, Drop)]
 pub struct DataTemplate {
     template: Template,
     likeness: Likeness,
+    plan: Plan,
 }
 
 impl Model for DataTemplate {
     ghost use Rattle.bufr_expand.specs.Trees.{Tree};
     ghost use Rattle.bufr_expand.specs.TreeCodes.{tree_code};
     ghost use Rattle.bufr_data.specs.Plain.Alike.{IsKnown};
+    ghost use Rattle.bufr_data.specs.Plain.Layouts.{IsPlan};
 
     ghost Value = { Tree };
 
@@ -35,7 +42,7 @@ impl Model for DataTemplate {
 
     ghost view = { λ t. t.template };
 
-    ghost invariant = { λ t. IsKnown t.template t.likeness };
+    ghost invariant = { λ t. IsKnown t.template t.likeness × IsPlan t.template t.plan };
 }
 
 impl DataTemplate {
@@ -46,12 +53,14 @@ impl DataTemplate {
         DataTemplate {
             template,
             likeness: Likeness::Unasked,
+            plan: Plan::Unserved,
         }
     }
 
     /// The subsets of a message, as `SubsetIndex::index` answers them, or the same fault. The
     /// template stays, and its nodes are shared with the index. Plain subsets that are known to be
-    /// alike are passed at once, with no walk. `OutOfMemory` where a growth was refused.
+    /// alike are passed at once, with no walk; from the second message on their fields are handed
+    /// out with no walk too. `OutOfMemory` where a growth was refused.
     pub fn index<'a>(
         &mut self,
         alloc: Global,
@@ -66,8 +75,13 @@ impl DataTemplate {
         ensures same { self.new ≡ self.old }
     {
         let alike = self.alike(alloc, compressed, reader.left(), count)?;
+        let layout = if alike.is_some() {
+            self.layout(alloc)?
+        } else {
+            None
+        };
         let template = self.template.share()?;
-        index_known(alloc, template, alike, compressed, reader, count)
+        index_known(alloc, template, alike, layout, compressed, reader, count)
     }
 
     /// What each subset has, where that is known: it is asked where there are plain subsets, and
@@ -88,5 +102,16 @@ impl DataTemplate {
         let likeness = self.likeness.or_within(alloc, &self.template, most)?;
         self.likeness = likeness;
         Ok(likeness.alike())
+    }
+
+    /// The fields of each subset, where they are laid out: for the second message that asks for
+    /// them, and for all behind it. They are shared.
+    fn layout(&mut self, alloc: Global) -> Result<Option<Rc<Layout>>, OutOfMemory>
+        ensures found { IfOk result (λ found. IfSome found (λ layout.
+            IsLaid self.old layout.value)) }
+        ensures same { self.new ≡ self.old }
+    {
+        self.plan.go_on(alloc, &self.template)?;
+        self.plan.layout()
     }
 }

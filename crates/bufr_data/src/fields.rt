@@ -6,14 +6,16 @@ ghost use Rattle.bufr_data.specs.Handed.{HandsOut};
 use crate::compressed::fields::ColumnFields;
 use crate::field::Field;
 use crate::plain::fields::PlainFields;
+use crate::plain::laid_fields::LaidFields;
 use bufr_answers::{Items, OutOfMemory};
 use std::alloc::Global;
 use std::marker::Model;
 
-/// Where the fields stand, plain or compressed.
+/// Where the fields stand: plain, met by a walk or laid out, or compressed.
 #[derive(Debug, Drop)]
 pub(crate) enum StandingFields<'v> {
     Plain(PlainFields<'v>),
+    Laid(LaidFields<'v>),
     Compressed(ColumnFields<'v>),
 }
 
@@ -46,6 +48,16 @@ impl<'v> Fields<'v> {
         }
     }
 
+    /// The fields of a plain subset that are laid out; `rest` begins with room for so many.
+    pub(crate) fn of_laid(fields: LaidFields<'v>, room: usize) -> Fields<'v>
+        ensures { result ≡ fields.entry }
+    {
+        Fields {
+            standing: StandingFields::Laid(fields),
+            room,
+        }
+    }
+
     /// The fields of a compressed subset; `rest` begins with room for so many.
     pub(crate) fn of_columns(fields: ColumnFields<'v>, room: usize) -> Fields<'v>
         ensures { result ≡ fields.entry }
@@ -64,6 +76,7 @@ impl<'v> Fields<'v> {
     {
         match &mut self.standing {
             StandingFields::Plain(fields) => fields.next(alloc),
+            StandingFields::Laid(fields) => fields.next(alloc),
             StandingFields::Compressed(fields) => fields.next(alloc),
         }
     }

@@ -8,6 +8,7 @@ ghost use Rattle.bufr_data.specs.declared.field.Subset.{Subset};
 ghost use Rattle.bufr_data.specs.Data.{subsets_in};
 ghost use Rattle.bufr_data.specs.Plain.{plain};
 ghost use Rattle.bufr_data.specs.Plain.Alike.{IsAlike};
+ghost use Rattle.bufr_data.specs.Plain.Layouts.{IsLaid};
 ghost use Rattle.bufr_data.specs.Shown.{shown};
 ghost use Rattle.bufr_data.specs.Subsets.{Extends};
 
@@ -17,11 +18,13 @@ use crate::field::Subset;
 use crate::fields::Fields;
 use crate::plain::alike::Alike;
 use crate::plain::index::PlainSubsets;
+use crate::plain::layout::Layout;
 use bufr_answers::{Failure, OutOfMemory};
 use bufr_bits::{BitReader, BitSink};
 use bufr_expand::Template;
 use std::alloc::Global;
 use std::marker::Model;
+use std::rc::Rc;
 
 /// Where the subsets stand, plain or compressed.
 #[derive(Debug, Drop)]
@@ -70,7 +73,7 @@ impl<'a> SubsetIndex<'a> {
         } else {
             Alike::of_several(alloc, &template, reader.left(), count)?
         };
-        index_known(alloc, template, alike, compressed, reader, count)
+        index_known(alloc, template, alike, None, compressed, reader, count)
     }
 
     /// How many subsets there are.
@@ -148,23 +151,25 @@ impl<'a> SubsetIndex<'a> {
 }
 
 /// The index of so many subsets, whose data the bits begin with, where it may be known what each
-/// plain subset has. On an error the reader stays where it is.
+/// plain subset has, and which fields these are. On an error the reader stays where it is.
 pub(crate) fn index_known<'a>(
     alloc: Global,
     template: Template,
     alike: Option<Alike>,
+    layout: Option<Rc<Layout>>,
     compressed: bool,
     reader: &mut BitReader<'a>,
     count: u16,
 ) -> Result<SubsetIndex<'a>, Failure<ReadFault>>
-    requires { IfSome alike (IsAlike template) }
+    requires known { IfSome alike (IsAlike template) }
+    requires laid { IfSome layout (λ l. IsLaid template l.value) }
     ensures exact { Gives {Y = List Subset × List Bool} (λ subsets. (subsets, left reader.new))
         result (subsets_in template compressed count (left reader.old)) }
     ensures octets { reader.new.octets ≡ reader.old.octets }
     ensures err { OnErr result (reader.new ≡ reader.old) }
 {
     let place = reader.place();
-    let answer = index_of(alloc, template, alike, compressed, reader, count);
+    let answer = index_of(alloc, template, alike, layout, compressed, reader, count);
     if answer.is_err() {
         reader.return_to(place);
     }
@@ -177,11 +182,13 @@ fn index_of<'a>(
     alloc: Global,
     template: Template,
     alike: Option<Alike>,
+    layout: Option<Rc<Layout>>,
     compressed: bool,
     reader: &mut BitReader<'a>,
     count: u16,
 ) -> Result<SubsetIndex<'a>, Failure<ReadFault>>
-    requires { IfSome alike (IsAlike template) }
+    requires known { IfSome alike (IsAlike template) }
+    requires laid { IfSome layout (λ l. IsLaid template l.value) }
     ensures exact { Gives {Y = List Subset × List Bool} (λ subsets. (subsets, left reader.new))
         result (subsets_in template compressed count (left reader.old)) }
     ensures octets { reader.new.octets ≡ reader.old.octets }
@@ -190,7 +197,7 @@ fn index_of<'a>(
     let standing = if compressed {
         DataIndex::Compressed(Columns::index(alloc, &template, reader, count)?)
     } else {
-        DataIndex::Plain(PlainSubsets::index(alloc, template, alike, reader, count)?)
+        DataIndex::Plain(PlainSubsets::index(alloc, template, alike, layout, reader, count)?)
     };
     Ok(SubsetIndex { standing })
 }

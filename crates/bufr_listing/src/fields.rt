@@ -1,21 +1,26 @@
 //! The lines of fields.
 
-ghost use Rattle.std.specs.Prelude.{◌≡◌, ◌++◌, length, take, OnOk, OnErr};
+ghost use Rattle.std.specs.Prelude.{◌≡◌, ◌∷◌, ◌++◌, [], length, take, None, OnOk, OnErr};
+ghost use Rattle.std.specs.List.{flat_map, list_all};
+ghost use Rattle.hex.specs.Hex.{encode_lower};
+ghost use Rattle.bufr_tables.specs.Descriptors.{six_digits};
 ghost use Rattle.bufr_data.specs.Values.{value};
-ghost use Rattle.bufr_listing.specs.Listings.{line, joined, quoted_octet, quoted, number_word};
+ghost use Rattle.bufr_listing.specs.Listings as listings;
+ghost use Rattle.bufr_listing.specs.Listings.{line, joined, quoted_octet, quoted};
 ghost use Rattle.bufr_listing.specs.Listings.{value_word, field_line, subset_line, subset_lines};
 
 use bufr_answers::OutOfMemory;
 use bufr_data::{Field, Raw, Subset};
+use bufr_tables::Fxy;
 use std::alloc::Global;
 
 /// Adds the lines of a subset to octets. Where memory runs out they are as they were.
-pub fn push_subset(alloc: Global, text: &mut Vec<u8>, subset: &Subset) -> Result<(), OutOfMemory>
+pub fn push_subset(_alloc: Global, text: &mut Vec<u8>, subset: &Subset) -> Result<(), OutOfMemory>
     ensures ok { OnOk result (text.new.items ≡ text.old.items ++ joined (subset_lines subset.now)) }
     ensures err { OnErr result (text.new.items ≡ text.old.items) }
 {
     let held = text.len();
-    let added = push_lines(alloc, text, subset);
+    let added = push_lines(text, subset);
     if added.is_err() {
         text.truncate(held);
     }
@@ -32,12 +37,12 @@ pub fn push_subset_line(text: &mut Vec<u8>) -> Result<(), OutOfMemory>
 }
 
 /// Adds the line of a field to octets. Where memory runs out they are as they were.
-pub fn push_field(alloc: Global, text: &mut Vec<u8>, field: &Field) -> Result<(), OutOfMemory>
+pub fn push_field(_alloc: Global, text: &mut Vec<u8>, field: &Field) -> Result<(), OutOfMemory>
     ensures ok { OnOk result (text.new.items ≡ text.old.items ++ line (field_line field.now)) }
     ensures err { OnErr result (text.new.items ≡ text.old.items) }
 {
     let held = text.len();
-    let added = push_words(alloc, text, field);
+    let added = push_words(text, field);
     if added.is_err() {
         text.truncate(held);
     }
@@ -47,31 +52,52 @@ pub fn push_field(alloc: Global, text: &mut Vec<u8>, field: &Field) -> Result<()
 // What follows adds to octets, and only a part where memory runs out.
 
 /// Adds the lines of a subset.
-fn push_lines(alloc: Global, text: &mut Vec<u8>, subset: &Subset) -> Result<(), OutOfMemory>
+fn push_lines(text: &mut Vec<u8>, subset: &Subset) -> Result<(), OutOfMemory>
     ensures ok { OnOk result (text.new.items ≡ text.old.items ++ joined (subset_lines subset.now)) }
     ensures kept { OnErr result (take (length text.old.items) text.new.items ≡ text.old.items) }
 {
     push_subset_line(text)?;
     for field in subset.fields.as_slice() {
-        push_words(alloc, text, field)?;
+        push_words(text, field)?;
     }
     Ok(())
 }
 
 /// Adds the line of a field.
-fn push_words(alloc: Global, text: &mut Vec<u8>, field: &Field) -> Result<(), OutOfMemory>
+fn push_words(text: &mut Vec<u8>, field: &Field) -> Result<(), OutOfMemory>
     ensures ok { OnOk result (text.new.items ≡ text.old.items ++ line (field_line field.now)) }
     ensures kept { OnErr result (take (length text.old.items) text.new.items ≡ text.old.items) }
 {
-    text.extend_from_slice(&field.fxy.digits())?;
-    text.push(b' ')?;
-    push_value(alloc, text, field)?;
+    text.extend_from_slice(&title(field.fxy))?;
+    push_value(text, field)?;
     text.push(b'\n')?;
     Ok(())
 }
 
+/// The six digits of a descriptor and a space.
+fn title(fxy: Fxy) -> [u8; 7]
+    ensures { result ≡ six_digits fxy ++ 32 ∷ [] }
+{
+    let digits = fxy.digits();
+    [
+        digits[0], digits[1], digits[2], digits[3], digits[4], digits[5], b' ',
+    ]
+}
+
 /// Adds the value of a field.
-fn push_value(alloc: Global, text: &mut Vec<u8>, field: &Field) -> Result<(), OutOfMemory>
+fn push_value(text: &mut Vec<u8>, field: &Field) -> Result<(), OutOfMemory>
+    ensures ok { OnOk result (text.new.items ≡ text.old.items ++ value_word field.now) }
+    ensures kept { OnErr result (take (length text.old.items) text.new.items ≡ text.old.items) }
+{
+    match field.value() {
+        Some(number) => number.push_text(text),
+        None => push_other(text, field),
+    }
+}
+
+/// Adds what stands for a field with no value of a number.
+fn push_other(text: &mut Vec<u8>, field: &Field) -> Result<(), OutOfMemory>
+    requires { value field.now ≡ None }
     ensures ok { OnOk result (text.new.items ≡ text.old.items ++ value_word field.now) }
     ensures kept { OnErr result (take (length text.old.items) text.new.items ≡ text.old.items) }
 {
@@ -79,48 +105,72 @@ fn push_value(alloc: Global, text: &mut Vec<u8>, field: &Field) -> Result<(), Ou
         return text.extend_from_slice(b"missing");
     }
     match &field.raw {
-        Raw::Number(_) => push_number(text, field),
-        Raw::Text(octets) => push_quoted(alloc, text, octets.as_slice()),
-    }
-}
-
-/// Adds the digits of a field's value, where it has one.
-fn push_number(text: &mut Vec<u8>, field: &Field) -> Result<(), OutOfMemory>
-    ensures ok { OnOk result (text.new.items
-        ≡ text.old.items ++ number_word (value field.now)) }
-    ensures err { OnErr result (text.new.items ≡ text.old.items) }
-{
-    match field.value() {
-        None => Ok(()),
-        Some(value) => value.push_text(text),
+        Raw::Number(_) => Ok(()),
+        Raw::Text(octets) => push_quoted(text, octets.as_slice()),
     }
 }
 
 /// Adds characters between quotes.
-fn push_quoted(alloc: Global, text: &mut Vec<u8>, octets: &[u8]) -> Result<(), OutOfMemory>
+fn push_quoted(text: &mut Vec<u8>, octets: &[u8]) -> Result<(), OutOfMemory>
     ensures ok { OnOk result (text.new.items ≡ text.old.items ++ quoted octets.now) }
     ensures kept { OnErr result (take (length text.old.items) text.new.items ≡ text.old.items) }
 {
     text.push(b'"')?;
-    for octet in octets {
-        push_octet(alloc, text, *octet)?;
-    }
+    push_characters(text, octets)?;
     text.push(b'"')?;
     Ok(())
 }
 
-/// Adds an octet of a text: itself where it can be printed, else its two digits behind a backslash.
-fn push_octet(alloc: Global, text: &mut Vec<u8>, octet: u8) -> Result<(), OutOfMemory>
-    ensures ok { OnOk result (text.new.items ≡ text.old.items ++ quoted_octet octet) }
+/// Adds characters as they stand between quotes.
+fn push_characters(text: &mut Vec<u8>, octets: &[u8]) -> Result<(), OutOfMemory>
+    ensures ok { OnOk result (text.new.items
+        ≡ text.old.items ++ flat_map quoted_octet octets.now) }
     ensures kept { OnErr result (take (length text.old.items) text.new.items ≡ text.old.items) }
 {
-    if octet >= 32 && octet <= 126 && octet != b'"' && octet != b'\\' {
+    if are_printed(octets) {
+        return text.extend_from_slice(octets);
+    }
+    for octet in octets {
+        push_octet(text, *octet)?;
+    }
+    Ok(())
+}
+
+/// Whether each octet of a text is printed as itself.
+fn are_printed(octets: &[u8]) -> bool
+    ensures { result ≡ list_all listings.stands_for_itself octets.now }
+{
+    octets.iter().all(|octet| stands_for_itself(*octet))
+}
+
+/// Whether an octet of a text is printed as itself.
+fn stands_for_itself(octet: u8) -> bool
+    ensures { result ≡ listings.stands_for_itself octet }
+{
+    octet >= 32 && octet <= 126 && octet != b'"' && octet != b'\\'
+}
+
+/// Adds an octet of a text: itself where it can be printed, else its two digits behind a backslash.
+fn push_octet(text: &mut Vec<u8>, octet: u8) -> Result<(), OutOfMemory>
+    ensures ok { OnOk result (text.new.items ≡ text.old.items ++ quoted_octet octet) }
+    ensures err { OnErr result (text.new.items ≡ text.old.items) }
+{
+    if stands_for_itself(octet) {
         text.push(octet)?;
         Ok(())
     } else {
-        let digits = hex::encode(alloc, [octet].as_slice())?;
-        text.push(b'\\')?;
-        text.extend_from_slice(digits.as_bytes())?;
-        Ok(())
+        text.extend_from_slice(&escaped(octet))
     }
+}
+
+/// A backslash and the two digits of an octet, in lower hexadecimal digits.
+fn escaped(octet: u8) -> [u8; 3]
+    ensures { result ≡ 92 ∷ encode_lower (octet ∷ []) }
+{
+    let digits = b"0123456789abcdef";
+    [
+        b'\\',
+        digits[usize::from(octet / 16)],
+        digits[usize::from(octet % 16)],
+    ]
 }

@@ -13,6 +13,10 @@ use bufr_data::Subset;
 use bufr_sections::Message;
 use std::alloc::Global;
 
+/// How many octets of memory are asked for at first for the lines before the first subset: most are
+/// shorter.
+const HEADING_ROOM: usize = 512;
+
 /// The last line of a listing.
 const END_LINE: &str = "end\n";
 
@@ -32,7 +36,7 @@ pub fn text_of(alloc: Global, message: &Message) -> Result<Vec<u8>, OutOfMemory>
 pub fn heading_text(alloc: Global, parts: &HeadingParts<'_>) -> Result<Vec<u8>, OutOfMemory>
     ensures { IfOk result (λ text. text.items ≡ joined (heading_lines (lent parts.now))) }
 {
-    let mut text = Vec::new(alloc);
+    let mut text = Vec::with_capacity(alloc, HEADING_ROOM)?;
     push_heading(alloc, &mut text, parts)?;
     Ok(text)
 }

@@ -1,5 +1,5 @@
 -- Entries and their order, and what an archive keeps of entries.
-use Rattle.std.specs.Prelude.{ℕ, Bool, false, find, Option, Some, None, List}
+use Rattle.std.specs.Prelude.{Bool, false, find, Option, Some, None, List}
 use Rattle.std.specs.Ordering.{nat_cmp, ordering_then, is_eq, is_lt}
 use Rattle.std.specs.declared.cmp.Ordering.{Ordering}
 use Rattle.std.specs.declared.cmp.Ordering.TheVariants.{Less, Greater}

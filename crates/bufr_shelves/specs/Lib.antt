@@ -11,4 +11,5 @@ pub mod WalkLaws
 pub mod Laws
 pub mod Fronts
 pub mod FrontLaws
+pub mod PackedKeys
 pub mod Samples

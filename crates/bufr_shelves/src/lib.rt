@@ -27,4 +27,4 @@ pub use held::slot_order;
 pub use map_shelf::MapShelf;
 pub use shelf::Shelf;
 pub use shelving::shelve;
-pub use sorted_shelf::{ShelfBuilder, SortedShelf};
+pub use sorted_shelf::{KeptOctets, ShelfBuilder, SortedShelf};

@@ -21,11 +21,14 @@ mod batches;
 mod builder;
 mod front;
 mod joined;
+mod kept_octets;
 mod merge;
+mod packed_key;
 mod pair;
 mod sorted;
 
 pub use builder::ShelfBuilder;
+pub use kept_octets::KeptOctets;
 
 /// A shelf on sorted vectors: one of keys with their ranks, and one of the octets of what has no
 /// key with the update number. `put` finds its place by binary search and moves what follows, eight

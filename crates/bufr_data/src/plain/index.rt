@@ -7,6 +7,7 @@ ghost use Rattle.bufr_answers.specs.Answers.{Gives, Fails};
 ghost use Rattle.bufr_expand.specs.Courses.{course};
 ghost use Rattle.bufr_data.specs.declared.field.Subset.{Subset};
 ghost use Rattle.bufr_data.specs.Plain.Alike.{IsAlike};
+ghost use Rattle.bufr_data.specs.Plain.Layouts.{IsLaid};
 ghost use Rattle.bufr_data.specs.Data.{subsets_in};
 ghost use Rattle.bufr_data.specs.Plain.{fields_at, plain};
 ghost use Rattle.bufr_data.specs.Plain.Starts.{PassesSubset, AllBegin, subset_from};
@@ -17,6 +18,8 @@ use crate::fields::Fields;
 use crate::plain::alike::Alike;
 use crate::plain::copy::copy_bits;
 use crate::plain::fields::PlainFields;
+use crate::plain::laid_fields::LaidFields;
+use crate::plain::layout::Layout;
 use crate::plain::pass::pass_subset;
 use crate::plain::read::FIELDS_WITH_ROOM;
 use crate::plain::read_each::of_subset;
@@ -27,6 +30,7 @@ use bufr_expand::Template;
 use bufr_expand::laws::courses_are_unrollings;
 use std::alloc::Global;
 use std::marker::Model;
+use std::rc::Rc;
 
 /// Where a subset begins and where it ends, and how many items the message has met before it.
 #[derive(Clone, Copy, Debug, PartialEq)]
@@ -36,24 +40,28 @@ pub(crate) struct SubsetStart {
     pub(crate) used: u64,
 }
 
-/// The plain subsets of a message. It keeps where each begins, and borrows the octets.
+/// The plain subsets of a message. It keeps where each begins, and borrows the octets. Where the
+/// fields of each are laid out, it shares them.
 #[derive(Debug, Drop)]
 pub(crate) struct PlainSubsets<'a> {
     octets: &'a [u8],
     template: Template,
+    layout: Option<Rc<Layout>>,
     starts: Starts,
 }
 
 impl<'a> Model for PlainSubsets<'a> {
-    ghost use Rattle.std.specs.Prelude.{List, map};
+    ghost use Rattle.std.specs.Prelude.{List, map, IfSome};
     ghost use Rattle.bufr_data.specs.declared.field.Subset.{Subset};
+    ghost use Rattle.bufr_data.specs.Plain.Layouts.{IsLaid};
     ghost use Rattle.bufr_data.specs.Plain.Starts.{AllBegin, subset_from};
 
     ghost Value = { List Subset };
 
     ghost view = { λ s. map (subset_from s.octets.now s.template) s.starts };
 
-    ghost invariant = { λ s. AllBegin s.octets.now s.template s.starts };
+    ghost invariant = { λ s. AllBegin s.octets.now s.template s.starts
+        × IfSome s.layout (λ layout. IsLaid s.template layout.value) };
 }
 
 impl<'a> PlainSubsets<'a> {
@@ -64,10 +72,12 @@ impl<'a> PlainSubsets<'a> {
         alloc: Global,
         template: Template,
         alike: Option<Alike>,
+        layout: Option<Rc<Layout>>,
         reader: &mut BitReader<'a>,
         count: u16,
     ) -> Result<PlainSubsets<'a>, Failure<ReadFault>>
-        requires { IfSome alike (IsAlike template) }
+        requires known { IfSome alike (IsAlike template) }
+        requires laid { IfSome layout (λ l. IsLaid template l.value) }
         ensures exact { Gives {Y = List Subset × List Bool} (λ subsets. (subsets, left reader.new))
             result (subsets_in template false count (left reader.old)) }
         ensures octets { reader.new.octets ≡ reader.old.octets }
@@ -78,6 +88,7 @@ impl<'a> PlainSubsets<'a> {
         Ok(PlainSubsets {
             octets,
             template,
+            layout,
             starts,
         })
     }
@@ -89,7 +100,8 @@ impl<'a> PlainSubsets<'a> {
         self.starts.len()
     }
 
-    /// The fields of the subset of this number, from 1. `OutOfMemory` where a growth was refused.
+    /// The fields of the subset of this number, from 1. They are met by a walk where they are not
+    /// laid out, and else no memory is taken. `OutOfMemory` where a growth was refused.
     pub(crate) fn fields(&self, alloc: Global, number: usize) -> Result<Fields<'_>, OutOfMemory>
         requires first { 1 ≤ number }
         requires last { number ≤ length self.now }
@@ -97,8 +109,18 @@ impl<'a> PlainSubsets<'a> {
             slice_get self.now (number - 1) ≡ Some (record { fields = fields })) }
     {
         let start = self.starts.at(number);
-        let fields = PlainFields::start(alloc, &self.template, self.octets, start)?;
-        Ok(Fields::of_plain(fields, self.template.nodes().min(FIELDS_WITH_ROOM)))
+        match &self.layout {
+            Some(layout) if layout.has_room(start.used) => {
+                let room = layout.fields.len();
+                let fields = LaidFields::start(layout, self.octets, start.bit);
+                Ok(Fields::of_laid(fields, room))
+            }
+            _ => {
+                let room = self.template.nodes().min(FIELDS_WITH_ROOM);
+                let fields = PlainFields::start(alloc, &self.template, self.octets, start)?;
+                Ok(Fields::of_plain(fields, room))
+            }
+        }
     }
 
     /// Puts the bits of the subset of this number, from 1, at a sink's end, as they stand: no field

@@ -116,7 +116,7 @@ pub(crate) fn fault_of(fault: WalkFault) -> ReadFault
 }
 
 /// The raw value of field `i` of the subset.
-fn read_raw(
+pub(crate) fn read_raw(
     alloc: Global,
     spec: Spec,
     reader: &mut BitReader,

@@ -4,7 +4,7 @@ use super::same;
 use super::samples::{octets_of, same_numbers, same_text, template};
 use bufr_answers::Failure;
 use bufr_bits::{BitReader, BitSink};
-use bufr_data::{ReadFault, SubsetIndex, read_subsets};
+use bufr_data::{DataTemplate, ReadFault, SubsetIndex, read_subsets};
 use std::alloc::Global;
 use std::process::Abort;
 use std::test::Fail;
@@ -66,6 +66,42 @@ fn plain_in_any_order(rt: HostRuntime) -> Result<(), Fail> {
     has_numbers(&rt, alloc, &index, 1, &[0])?;
     has_numbers(&rt, alloc, &index, 2, &[2, 27315, 27316])?;
     has_numbers(&rt, alloc, &index, 3, &[1, 5])
+}
+
+/// Compares the numbers of both subsets of two messages and more that one template serves, where
+/// each has these octets.
+fn serves(
+    rt: &impl Abort,
+    alloc: Global,
+    list: Descriptors,
+    octets: &[u8],
+    wanted: [&[u64]; 2],
+) -> Result<(), Fail> {
+    let mut template = DataTemplate::new(template(alloc, list)?);
+    for _message in 0..4 {
+        let mut reader = BitReader::new(octets);
+        let index = template.index(alloc, false, &mut reader, 2)?;
+        has_numbers(rt, alloc, &index, 2, wanted[1])?;
+        has_numbers(rt, alloc, &index, 1, wanted[0])?;
+    }
+    Ok(())
+}
+
+#[test]
+fn laid_out_from_the_second_message_on(rt: HostRuntime) -> Result<(), Fail> {
+    let alloc = rt.alloc();
+    // 0000110 1001011001 and 0001010 0110000000
+    let stations = [0x0D, 0x2C, 0x8A, 0x60, 0x00];
+    serves(&rt, alloc, &STATION, &stations, [&[6, 601], &[10, 384]])?;
+    let four = [0x6A, 0xB3, 0x6A, 0xB4, 0x00, 0x05, 0xFF, 0xFE];
+    serves(&rt, alloc, &TWICE, &four, [&[27315, 27316], &[5, 65534]])
+}
+
+#[test]
+fn counts_are_never_laid_out(rt: HostRuntime) -> Result<(), Fail> {
+    let alloc = rt.alloc();
+    let octets = [0x00, 0x02, 0x6A, 0xB3, 0x6A, 0xB4];
+    serves(&rt, alloc, &DELAYED, &octets, [&[0], &[2, 27315, 27316]])
 }
 
 #[test]

@@ -205,7 +205,8 @@ fn settle<K: Fronted, V: Exact>(
     Ok(())
 }
 
-/// Puts the pairs that wait in order, from the last on, which has the least key.
+/// Puts the pairs that wait in order, from the last on, which has the least key, and then gives back
+/// the room that they had.
 fn freshen<K: Fronted, V: Exact>(
     fresh: &mut Vec<Pair<K, V>>,
     waiting: &mut Vec<Waiting<K, V>>,
@@ -222,6 +223,7 @@ fn freshen<K: Fronted, V: Exact>(
     loop {
         fresh.reserve(1)?;
         let Some(last) = waiting.pop() else {
+            waiting.shrink_to_fit();
             return Ok(());
         };
         raise_pair(fresh, last.into_pair());

@@ -1,11 +1,13 @@
 //! Entries gathered in any order, which become a sorted shelf.
-ghost use Rattle.std.specs.Prelude.{◌≡◌, ◌++◌, ◌∷◌, [], IfOk, OnOk, OnErr};
+ghost use Rattle.std.specs.Prelude.{◌≡◌, ◌++◌, ◌∷◌, [], map, IfOk, OnOk, OnErr};
 ghost use Rattle.bufr_shelves.specs.Entries.{kept};
 ghost use Rattle.bufr_shelves.specs.declared.entry.Entry.{Entry};
 
 use crate::rank::Rank;
 use crate::sorted_shelf::SortedShelf;
 use crate::sorted_shelf::batches::Batches;
+use crate::sorted_shelf::kept_octets::KeptOctets;
+use crate::sorted_shelf::packed_key::{PackedKey, unpacked};
 use bufr_answers::{Items, OutOfMemory};
 use bufr_keys::Key;
 use std::alloc::Global;
@@ -17,7 +19,7 @@ use std::marker::Model;
 #[derive(Drop)]
 pub struct ShelfBuilder {
     alloc: Global,
-    keyed: Batches<Key, Rank>,
+    keyed: Batches<PackedKey, Rank>,
     unkeyed: Batches<Items<u8>, u8>,
 }
 
@@ -55,7 +57,10 @@ impl ShelfBuilder {
     {
         let octets = bytes.as_slice().len();
         match key {
-            Some(key) => self.keyed.put(key, Rank { update, bytes }, octets),
+            Some(key) => {
+                let packed = PackedKey::new(self.alloc, key)?;
+                self.keyed.put(packed, Rank { update, bytes }, octets)
+            }
             None => self.unkeyed.put(bytes, update, octets),
         }
     }
@@ -71,8 +76,16 @@ impl ShelfBuilder {
         } = self;
         Ok(SortedShelf {
             alloc,
-            keyed: keyed.into_sorted()?,
+            keyed: unpacked(alloc, keyed.into_sorted()?)?,
             unkeyed: unkeyed.into_sorted()?,
         })
+    }
+
+    /// The octets of what is kept of these entries. They are gone where memory was refused.
+    pub fn into_octets(self) -> Result<KeptOctets, OutOfMemory>
+        ensures { IfOk result (λ left. left ≡ map (λ e. e.bytes) (kept self)) }
+    {
+        let ShelfBuilder { keyed, unkeyed, .. } = self;
+        Ok(KeptOctets::new(keyed.into_sorted()?, unkeyed.into_sorted()?))
     }
 }

@@ -104,7 +104,7 @@ pub(crate) trait Fronted: Exact {
 }
 
 /// A number that has room in two octets.
-fn in_two_octets(number: i128) -> Option<u16>
+pub(crate) fn in_two_octets(number: i128) -> Option<u16>
     ensures { result ≡ in_two_octets number }
 {
     if 0 <= number && number <= 65_535 {

@@ -50,4 +50,11 @@ impl<K, V> Pair<K, V> {
     {
         &self.parts.1
     }
+
+    /// Its parts.
+    pub(crate) fn into_parts(self) -> (K, V)
+        ensures { result ≡ self }
+    {
+        Box::into_inner(self.parts)
+    }
 }

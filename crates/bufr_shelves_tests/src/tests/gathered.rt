@@ -134,3 +134,17 @@ fn unusual_stations_gathered(rt: HostRuntime) {
         &[b"a", b"b", b"c", b"d", b"e", b"f", b"g", b"h", b"i", b"j"],
     );
 }
+
+/// The octets of what was gathered are handed out in order of stations, each once.
+#[test]
+fn gathered_octets_handed_out(rt: HostRuntime) {
+    let builder = hundred_thousand(&rt, rt.alloc());
+    let mut kept = builder.into_octets().expect(&rt, "room");
+    same(&rt, kept.len(), 100_000);
+    for number in 0..100_000u32 {
+        let octets = kept.next().expect(&rt, "octets");
+        let wanted = digits(number);
+        assert!(rt; octets.as_slice() == wanted.as_slice(), "{number}");
+    }
+    same(&rt, kept.len(), 0);
+}

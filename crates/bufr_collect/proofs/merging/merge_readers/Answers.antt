@@ -30,7 +30,7 @@ loop-index-preserved g c =
     let inside : c.loop-index.index < length c.loop-index.readers = omega arith in
     merged_next c.args.tables.now c.args.reads (map g.S.Source.reading c.args.readers.now)
     (map g.S.Source.reading c.loop-index.readers) _
-    c.loop-index.merged _ c.merge.new.self c.loop-index.index _
+    c.loop-index.merged _ c.push.new.self c.loop-index.index _
     (g.S.Source.reading c.read_archive.new.reader)
     inv
     (reach_item g.S.Source.reading _ c.loop-index.readers inv.texts c.loop-index.index

@@ -14,7 +14,7 @@ returns-clause-merges g c =
     (g.W.Sink.writing c.write_out.new.writer) c.in_ok-merged.merged _
     (length c.merge_readers.new.readers) _
     c.in_ok-merged.ensures.merges
-    (c.deref.ensures.value ∙ c.in_ok-text.ensures)
+    (c.deref.ensures.value ∙ c.into_octets-text.ensures)
     (sym (length-map c.merge_readers.new.readers g.S.Source.reading))
     c.len-reports.ensures.count
     c.in_ok-write_out.ensures

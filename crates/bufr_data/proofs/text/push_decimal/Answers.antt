@@ -13,6 +13,6 @@ returns-clause-ok c =
     let sign = simp to_z-of_z at c.sign.ensures in
     let number = simp to_z-of_z at c.unsigned_abs.ensures.value in
     let digits = simp to_z-of_z at c.parts_of.ensures in
-    let mid = c.in_ok-extend_from_slice.ensures.items
+    let mid = c.in_ok-push_octets.ensures.ok
     ∙ ap (λ s. c.args.text.now.items ++ s) c.as_bytes.ensures.value in
     text_behind _ _ _ _ _ _ _ _ mid sign number digits c.in_ok-push_parts.ensures.ok

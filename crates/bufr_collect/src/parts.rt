@@ -1,0 +1,75 @@
+//! Writing the octets of entries, part by part.
+
+ghost use Rattle.std.specs.Prelude.{◌≡◌, ◌+◌, ◌≤◌, ◌<◌, ◌^◌, ◌++◌, false, vec_len, length};
+ghost use Rattle.std.specs.Vec.{vec_capacity};
+ghost use Rattle.bufr_io.specs.Engines.{WritesAfter};
+ghost use Rattle.bufr_collect.specs.Parts.{HandsOn, joined};
+
+use bufr_archive::KeptOctets;
+use bufr_bits::Sink;
+use bufr_io::{ToolFault, write_after, write_out};
+
+/// Octets that were gathered to be written, and how many were written before them.
+#[derive(Drop)]
+pub(crate) struct Part {
+    octets: Vec<u8>,
+    written: u128,
+}
+
+/// Puts octets behind others, where there is room for them. It takes no memory.
+fn gather(gathered: &mut Vec<u8>, octets: &[u8])
+    requires { vec_len gathered.old + length octets.now ≤ vec_capacity gathered.old }
+    ensures { gathered.new.items ≡ gathered.old.items ++ octets.now }
+{
+    let _there_is_room = gathered.extend_from_slice(octets);
+}
+
+/// Gathers octets behind those of a part. Where it has no room for them the part is written first,
+/// and where it would have none for them alone they are written behind it. It takes no memory.
+fn hand_on<W: Sink>(writer: &mut W, part: &mut Part, octets: &[u8]) -> Result<(), ToolFault>
+    requires works { (W.writing writer.old).failed ≡ false }
+    requires fits { part.old.written + length part.old.octets.items + 2 ^ 64 ≤ 2 ^ 128 }
+    ensures short { length octets.now < 2 ^ 64 }
+    ensures hands { HandsOn (W.writing writer.old) (W.writing writer.new) part.old.written
+        part.old.octets.items part.new octets.now result }
+{
+    let room = part.octets.capacity() as u128;
+    let long = octets.len() as u128;
+    if part.octets.len() as u128 + long <= room {
+        gather(&mut part.octets, octets);
+        return Ok(());
+    }
+    write_after(writer, part.written, &part.octets)?;
+    part.written += part.octets.len() as u128;
+    part.octets.clear();
+    if long <= room {
+        gather(&mut part.octets, octets);
+        return Ok(());
+    }
+    write_after(writer, part.written, octets)?;
+    part.written += long;
+    Ok(())
+}
+
+/// Writes the octets of entries one after the other and hands them on, in parts that have as many
+/// octets as some room fits, or those of one entry that has more. It takes no memory.
+pub(crate) fn write_parts<W: Sink>(
+    mut left: KeptOctets,
+    mut room: Vec<u8>,
+    writer: &mut W,
+) -> Result<(), ToolFault>
+    requires { (W.writing writer.old).failed ≡ false }
+    ensures { WritesAfter 0 (joined left) (W.writing writer.old) (W.writing writer.new) result }
+{
+    // No more than can be counted.
+    let _count = left.len();
+    room.clear();
+    let mut part = Part {
+        octets: room,
+        written: 0,
+    };
+    while let Some(octets) = left.next() {
+        hand_on(writer, &mut part, octets.as_slice())?;
+    }
+    write_out(writer, part.written, &part.octets)
+}

@@ -1,0 +1,119 @@
+//! Archives held as a stack of texts.
+ghost use Rattle.std.specs.Prelude.{◌≡◌, ◌++◌, [], IfOk, OnOk};
+ghost use Rattle.std.specs.Option.{option_to_list};
+ghost use Rattle.bufr_archive.specs.Archives.{merged};
+ghost use Rattle.bufr_collect.specs.Stacks.{together, AreUnderTables};
+
+use bufr_answers::OutOfMemory;
+use bufr_archive::ArchiveText;
+use bufr_tables::Tables;
+use std::alloc::Global;
+use std::marker::Model;
+
+/// What was merged of archives under some tables, held as texts of which each has more than twice
+/// as many reports as the one above it. So each report is merged a few times, however many archives
+/// come, and nothing is held beside the texts.
+#[derive(Drop)]
+pub(crate) struct TextStack<'t> {
+    alloc: Global,
+    tables: &'t Tables,
+    texts: Vec<ArchiveText<'t>>,
+}
+
+impl<'t> Model for TextStack<'t> {
+    ghost use Rattle.bufr_archive.specs.Archives.{ArchiveView};
+    ghost use Rattle.bufr_collect.specs.Stacks.{together, AreUnderTables};
+
+    ghost Value = { ArchiveView };
+
+    ghost view = { λ s. together s.tables.now s.texts.items };
+
+    ghost invariant = { λ s. AreUnderTables s.tables.now s.texts.items };
+}
+
+impl<'t> TextStack<'t> {
+    /// An archive with no reports. It takes no memory.
+    pub(crate) fn new(alloc: Global, tables: &'t Tables) -> Self
+        ensures { result ≡ record { tables = tables.now; entries = [] } }
+    {
+        TextStack {
+            alloc,
+            tables,
+            texts: Vec::new(alloc),
+        }
+    }
+
+    /// Takes in all that an archive under the same tables holds. It can only run out of memory, and
+    /// then some of what was held may be gone.
+    pub(crate) fn push(&mut self, text: ArchiveText<'t>) -> Result<(), OutOfMemory>
+        requires { self.old.tables ≡ text.tables }
+        ensures ok { OnOk result (self.new ≡ merged self.old text.entry) }
+    {
+        put_on(self.alloc, self.tables, &mut self.texts, text)
+    }
+
+    /// The text of all that is held. It can only run out of memory.
+    pub(crate) fn into_text(self) -> Result<ArchiveText<'t>, OutOfMemory>
+        ensures { IfOk result (λ text. text ≡ self.entry) }
+    {
+        let TextStack {
+            alloc,
+            tables,
+            texts,
+        } = self;
+        merge_all(alloc, tables, texts)
+    }
+}
+
+/// Takes the uppermost text, if it has at most some twice as many reports as another.
+fn pop_alike<'t>(texts: &mut Vec<ArchiveText<'t>>, top: &ArchiveText) -> Option<ArchiveText<'t>>
+    ensures { texts.old.items ≡ texts.new.items ++ option_to_list result }
+{
+    let below = texts.last()?;
+    if below.len() / 2 > top.len() {
+        return None;
+    }
+    texts.pop()
+}
+
+/// Puts a text on others, merged with those at the top that are not much larger. It can only run
+/// out of memory.
+fn put_on<'t>(
+    alloc: Global,
+    tables: &Tables,
+    texts: &mut Vec<ArchiveText<'t>>,
+    text: ArchiveText<'t>,
+) -> Result<(), OutOfMemory>
+    requires under { AreUnderTables tables.now texts.old.items }
+    requires same { tables.now ≡ text.tables }
+    ensures under { AreUnderTables tables.now texts.new.items }
+    ensures ok { OnOk result (together tables.now texts.new.items
+        ≡ merged (together tables.now texts.old.items) text.entry) }
+{
+    let mut top = text;
+    while let Some(mut below) = pop_alike(texts, &top) {
+        below.merge(alloc, top)?;
+        top = below;
+    }
+    texts.push(top)?;
+    Ok(())
+}
+
+/// The text of what texts hold together, merged from the uppermost on. It can only run out of
+/// memory.
+fn merge_all<'t>(
+    alloc: Global,
+    tables: &'t Tables,
+    mut texts: Vec<ArchiveText<'t>>,
+) -> Result<ArchiveText<'t>, OutOfMemory>
+    requires { AreUnderTables tables.now texts.items }
+    ensures { IfOk result (λ text. text ≡ together tables.now texts.entry.items) }
+{
+    let mut top = ArchiveText::new(alloc, tables);
+    while let Some(mut below) = texts.pop() {
+        below.merge(alloc, top)?;
+        top = below;
+    }
+    top.len();
+    Ok(top)
+}

@@ -1,0 +1,212 @@
+-- Fields that are laid out are those for which the course of each plain subset asks
+-- (`Layout::of`, `PlainSubsets::fields`, `LaidFields`).
+use Rattle.std.proofs.Common.{◌≡◌, ℕ, ◌+◌, ◌≤◌, Bool, false, List, [], ◌∷◌, ◌++◌, Option, Some, None}
+use Rattle.std.proofs.Common.{Result, Ok, Err, map, length, drop, refl, sym, ap, subst, ◌∙◌, arith}
+use Rattle.std.specs.Prelude.{IsOk}
+use Rattle.bufr_answers.specs.Answers.{◌>>=◌}
+use Rattle.bufr_tables.specs.declared.element.Kind.TheVariants as kinds
+use Rattle.bufr_tables.specs.Elements.{same_kind}
+use Rattle.bufr_expand.specs.declared.operators.Spec.{Spec}
+use Rattle.bufr_expand.specs.declared.walk.Step.TheVariants as steps
+use Rattle.bufr_expand.specs.declared.walk.Walk.{Walk}
+use Rattle.bufr_expand.specs.Courses.{Course, ends, stops, asks, course}
+use Rattle.bufr_expand.specs.Trees.{Tree}
+use Rattle.bufr_expand.specs.Unrolling.{Told, After, Allows, Unrolls}
+use Rattle.bufr_expand.specs.Limits.{most_items}
+use Rattle.bufr_expand.specs.Runs.{after_joined}
+use Rattle.bufr_expand.specs.Steady.{IsSteady, course_steady}
+use Rattle.bufr_expand.specs.Walks.{left, items_met, Goes}
+use Rattle.bufr_data.specs.declared.field.Raw.{Raw}
+use Rattle.bufr_data.specs.declared.field.Field.{Field}
+use Rattle.bufr_data.specs.declared.fault.ReadFault.{ReadFault}
+use Rattle.bufr_data.specs.declared.plain.index.SubsetStart.{SubsetStart}
+use Rattle.bufr_data.specs.declared.plain.layout.LaidField.{LaidField}
+use Rattle.bufr_data.specs.declared.plain.layout.Layout.{Layout}
+use Rattle.bufr_data.specs.Plain.{SubsetRead, raw_at, number_of, field_then, fields_at}
+use Rattle.bufr_data.specs.Plain.Layouts.{laid_course, told_laid, HaveNoCount, IsLaid}
+use Rattle.bufr_bits.specs.Bits.{bits}
+use Rattle.bufr_bits.specs.Ends as ends_of
+use Rattle.bufr_bits.specs.Ends.{BitPlace}
+use Rattle.bufr_data.specs.Handed.{fields_laid, StandLaid}
+use Rattle.bufr_data.specs.Plain.Reads.{raw_or_ends, behind_fields}
+use Rattle.bufr_data.specs.Plain.Starts.{fields_of, subset_at, BeginsAtStart}
+use Rattle.bufr_data.specs.StepLaws.{asks_field, ends_there}
+use Rattle.bufr_data.proofs.ListFacts.{all_grown, map_grown}
+use Rattle.bufr_data.proofs.PlainFacts.Handed.{Handed, field_handed}
+use Rattle.bufr_data.proofs.PlainFacts.Reads.{asked_field, found_is}
+
+-- ---- the walk that lays them out
+
+-- the fields so far are those for which the course asks, none a count, and the walk is behind them
+pub record LaidSoFar (c : Course) (fields : List LaidField) (later : Course) : Type 0 where
+  pub behind : After c (map told_laid fields) later
+  pub no_count : HaveNoCount fields
+
+-- at first there is none
+pub none_laid : (c later : Course) → later ≡ c → LaidSoFar c [] later
+unfolding After
+none_laid c later is = record { behind = sym is; no_count = tt }
+
+-- a field for which a course asks
+one_asked : (met : ℕ) (f : LaidField) (more : ℕ → Course)
+    → After (asks met f.fxy f.spec more) (told_laid f ∷ []) (more 0)
+unfolding After
+one_asked met f more = (refl, refl, refl)
+
+-- one field more
+pub one_laid : (c : Course) (old new : Walk) (fields grown : List LaidField) (f : LaidField)
+    → grown ≡ fields ++ f ∷ [] → Goes (left old) (Ok (steps.Field f.fxy f.spec)) new
+    → LaidSoFar c fields (left old) → LaidSoFar c grown (left new)
+one_laid c old new fields grown f is goes so_far =
+    let a = asks_field (left old) f.fxy f.spec new goes in
+    let P : Course → Course → Type 0 = λ x y. After x (told_laid f ∷ []) y in
+    let asked : P (left old) (a.more 0) =
+    subst (λ x. P x (a.more 0)) (sym a.is) (one_asked a.met f a.more) in
+    record {
+      behind =
+          subst (λ (fs : List Told). After c fs (left new))
+          (sym (map_grown told_laid fields grown f is))
+          (after_joined c (left old) (left new) (map told_laid fields) (told_laid f ∷ [])
+          so_far.behind (subst (P (left old)) (sym a.after) asked));
+      no_count =
+          all_grown (λ f. same_kind f.spec.kind kinds.Count ≡ false) fields grown f is
+          so_far.no_count a.kind;
+    }
+
+-- where the walk ends they are those of each subset, by the laws of unrollings
+pub all_laid : (tree : Tree) (old new : Walk) (layout : Layout)
+    → ((tree : Tree) (used : ℕ) (fields : List Told) (met : ℕ)
+    → used ≤ most_items → Allows (course tree used) fields met → Unrolls tree used fields met)
+    → ((tree : Tree) (used : ℕ) (fields : List Told) (met : ℕ)
+    → Unrolls tree used fields met → Allows (course tree used) fields met)
+    → Goes (left old) (Ok steps.End) new → layout.items ≡ items_met new
+    → LaidSoFar (course tree 0) layout.fields (left old) → IsLaid tree layout
+all_laid tree old new layout unrolled allowed goes met so_far =
+    let fields = map told_laid layout.fields in
+    let end : left old ≡ ends layout.items =
+    ends_there (left old) new goes ∙ ap ends (sym met) in
+    let u =
+    unrolled tree 0 fields layout.items (omega arith)
+    (subst (After (course tree 0) fields) end so_far.behind) in
+    record {
+      no_count = so_far.no_count;
+      asked = λ used room.
+          let sum : used + layout.items ≡ used + u.1 = omega (arith, u.3) in
+          allowed tree used fields (used + layout.items) (u.0, u.1, u.2, sum, room);
+    }
+
+-- ---- what is read by them
+
+-- what was read, but that items are not counted
+abbrev pub uncounted : Result SubsetRead ReadFault → Result SubsetRead ReadFault
+uncounted (Ok found) = Ok (record found { items = 0 })
+uncounted (Err e) = Err e
+
+-- a field in front
+abbrev with_front : Field → Result SubsetRead ReadFault → Result SubsetRead ReadFault
+with_front f o = o >>= λ found. Ok (record found { fields = f ∷ found.fields })
+
+-- in front of either
+in_front : (f : Field) (one other : Result SubsetRead ReadFault) → one ≡ uncounted other
+    → with_front f one ≡ uncounted (with_front f other)
+in_front f one (Ok found) is = ap (with_front f) is
+in_front f one (Err e) is = ap (with_front f) is
+
+-- a field and those behind it
+field_uncounted : (i d : ℕ) (spec : Spec) (one other : ℕ → List Bool → Result SubsetRead ReadFault)
+    (o : Option (Raw × List Bool))
+    → ((n : ℕ) (rest : List Bool) → one n rest ≡ uncounted (other n rest))
+    → field_then 1 i d spec one o ≡ uncounted (field_then 1 i d spec other o)
+field_uncounted i d spec one other None same = refl
+field_uncounted i d spec one other (Some x) same =
+    in_front (record { fxy = d; spec = spec; raw = x.0 }) (one (number_of x.0) x.1)
+    (other (number_of x.0) x.1) (same (number_of x.0) x.1)
+
+-- fields that are laid out are read as those for which a steady course asks
+read_as_laid : (used met i : ℕ) (c : Course) (fields : List LaidField) (front : List Bool)
+    → IsSteady used c → HaveNoCount fields → Allows c (map told_laid fields) met
+    → fields_at 1 i (laid_course fields) front ≡ uncounted (fields_at 1 i c front)
+unfolding After IsSteady fields_at laid_course
+read_as_laid used met i c [] front steady none asked =
+    ap (λ x. uncounted (fields_at 1 i x front)) (sym asked)
+read_as_laid used met i (ends n) (f ∷ fields) front steady none asked = absurd asked
+read_as_laid used met i (stops n fault) (f ∷ fields) front steady none asked = absurd asked
+read_as_laid used met i (asks m d spec more) (f ∷ fields) front steady none asked =
+    let kind : same_kind spec.kind kinds.Count ≡ false =
+    subst (λ (s : Spec). same_kind s.kind kinds.Count ≡ false) asked.1 none.0 in
+    (λ t. fields_at 1 i (asks 0 (asked.0 t) (asked.1 t) (λ number. laid_course fields)) front)
+    ∙ field_uncounted i d spec (λ n rest. fields_at 1 (i + 1) (laid_course fields) rest)
+    (λ n rest. fields_at 1 (i + 1) (more n) rest) (raw_at spec front)
+    (λ n rest.
+    read_as_laid m met (i + 1) (more 0) fields rest (steady.3 0) none.1 asked.2
+    ∙ ap (λ c. uncounted (fields_at 1 (i + 1) c rest)) (sym (steady.2 kind n)))
+
+-- the same fields
+fields_uncounted : (found : Result SubsetRead ReadFault) → fields_of (uncounted found)
+    ≡ fields_of found
+fields_uncounted (Ok found) = refl
+fields_uncounted (Err e) = refl
+
+-- and they are there
+there_uncounted : (found : Result SubsetRead ReadFault) → IsOk found → IsOk (uncounted found)
+there_uncounted (Ok found) ok = refl
+there_uncounted (Err e) ok = absurd cc
+
+-- fields that are laid out are there where a subset is, and are its fields
+pub record Same (fields : List LaidField) (subset : Result SubsetRead ReadFault)
+    (front : List Bool) : Type 0 where
+  pub there : IsOk (fields_at 1 1 (laid_course fields) front)
+  pub are : fields_of (fields_at 1 1 (laid_course fields) front) ≡ fields_of subset
+
+-- so it is where there is room for the subset's items
+pub laid_fields : (tree : Tree) (layout : Layout) (used : ℕ) (front : List Bool)
+    → IsLaid tree layout → used + layout.items ≤ most_items
+    → IsOk (fields_at 1 1 (course tree used) front)
+    → Same layout.fields (fields_at 1 1 (course tree used) front) front
+laid_fields tree layout used front laid room ok =
+    let same =
+    read_as_laid used (used + layout.items) 1 (course tree used) layout.fields front
+    (course_steady tree used) laid.no_count (laid.asked used room) in
+    record {
+      there = subst IsOk (sym same) (there_uncounted (fields_at 1 1 (course tree used) front) ok);
+      are = ap fields_of same ∙ fields_uncounted (fields_at 1 1 (course tree used) front);
+    }
+
+-- so it is at the start of a subset
+pub laid_here : (octets : List ℕ) (tree : Tree) (s : SubsetStart) (kept one other : Layout)
+    → one ≡ kept → other ≡ kept → IsLaid tree kept → s.used + one.items ≤ most_items
+    → BeginsAtStart octets tree s
+    → Same other.fields (subset_at octets tree s) (drop s.bit (bits octets))
+laid_here octets tree s kept one other same_one same_other laid room begins =
+    subst (λ (l : Layout). Same l.fields (subset_at octets tree s) (drop s.bit (bits octets)))
+    (sym same_other)
+    (laid_fields tree kept s.used (drop s.bit (bits octets)) laid
+    (subst (λ (l : Layout). s.used + l.items ≤ most_items) same_one room) begins.1)
+
+-- ---- one after the other
+
+-- where none is laid out none is left
+pub none_left : (fields : List LaidField) (reader : BitPlace) → length fields ≡ 0
+    → StandLaid fields reader × (fields_laid fields reader ≡ [])
+unfolding fields_at laid_course
+none_left [] reader is = (refl, refl)
+none_left (f ∷ fields) reader is = absurd (omega (arith, is))
+
+-- the first that is laid out is handed out where it is read, and those behind it are left
+pub first_handed : (fields others : List LaidField) (f : LaidField) (reader rest : BitPlace)
+    (raw : Raw) → fields ≡ f ∷ others → StandLaid fields reader
+    → raw_or_ends 1 1 (raw_at f.spec (ends_of.left reader)) ≡ Ok (raw, ends_of.left rest)
+    → Handed (record { fxy = f.fxy; spec = f.spec; raw = raw })
+    (fields_at 1 1 (laid_course fields) (ends_of.left reader))
+    (fields_at 1 1 (laid_course others) (ends_of.left rest))
+unfolding laid_course
+first_handed [] others f reader rest raw is stand read = absurd cc
+first_handed (g ∷ fields) others f reader rest raw is stand read =
+    let step : fields_at 1 1 (laid_course (f ∷ others)) (ends_of.left reader)
+    ≡ behind_fields (record { fxy = f.fxy; spec = f.spec; raw = raw } ∷ [])
+    (fields_at 1 2 (laid_course others) (ends_of.left rest)) =
+    asked_field 1 1 0 f.fxy f.spec (λ n. laid_course others) (ends_of.left reader)
+    (ends_of.left rest) raw (found_is 1 1 _ _ read) in
+    field_handed (laid_course (g ∷ fields)) (laid_course others) (ends_of.left reader)
+    (ends_of.left rest) (record { fxy = f.fxy; spec = f.spec; raw = raw }) stand
+    (ap (λ fs. fields_at 1 1 (laid_course fs) (ends_of.left reader)) is ∙ step)

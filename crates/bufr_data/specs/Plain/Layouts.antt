@@ -1,0 +1,50 @@
+-- The fields that each plain subset of a tree has, laid out once, where no count decides which they
+-- are (FM 94 BUFR, regulations 94.5.4 and 94.5.5).
+use Rattle.std.specs.Prelude.{◌≡◌, ℕ, ◌+◌, ◌≤◌, false, List, [], ◌∷◌, map, Option, Some, None}
+use Rattle.std.specs.Prelude.{Ok}
+use Rattle.std.specs.List.{AllByRecursion}
+use Rattle.bufr_tables.specs.declared.element.Kind.TheVariants as kinds
+use Rattle.bufr_tables.specs.Elements.{same_kind}
+use Rattle.bufr_expand.specs.declared.walk.Step.TheVariants as steps
+use Rattle.bufr_expand.specs.declared.walk.Walk.{Walk}
+use Rattle.bufr_expand.specs.Walks.{left, Goes}
+use Rattle.bufr_expand.specs.Courses.{Course, ends, asks, course}
+use Rattle.bufr_expand.specs.Trees.{Tree}
+use Rattle.bufr_expand.specs.Unrolling.{Told, Allows}
+use Rattle.bufr_expand.specs.Limits.{most_items}
+use Rattle.bufr_data.specs.declared.plain.layout.LaidField.{LaidField}
+use Rattle.bufr_data.specs.declared.plain.layout.Layout.{Layout}
+use Rattle.bufr_data.specs.declared.plain.plan.Plan.{Plan}
+use Rattle.bufr_data.specs.declared.plain.plan.Plan.TheVariants.{Unserved, Served, Laid, Unlaid}
+
+-- the course that asks for these fields one after the other, whatever their numbers are
+unfoldable pub laid_course : List LaidField → Course
+laid_course [] = ends 0
+laid_course (f ∷ fields) = asks 0 f.fxy f.spec (λ number. laid_course fields)
+
+-- a field as an unrolling tells of it, whose number is not known
+abbrev pub told_laid : LaidField → Told
+told_laid f = record { fxy = f.fxy; spec = f.spec; number = 0 }
+
+-- none of the fields is a count
+abbrev pub HaveNoCount : List LaidField → Type 0
+HaveNoCount fields = AllByRecursion (λ f. same_kind f.spec.kind kinds.Count ≡ false) fields
+
+-- each subset of this tree has these fields, none a count, and so many items: however many items
+-- the message has met before, its course asks for just them, where there is room for the items
+pub record IsLaid (tree : Tree) (layout : Layout) : Type 0 where
+  pub no_count : HaveNoCount layout.fields
+  pub asked : (used : ℕ) → used + layout.items ≤ most_items
+      → Allows (course tree used) (map told_laid layout.fields) (used + layout.items)
+
+-- the fields of a tree's subsets are as they are laid out, where they are
+abbrev pub IsPlan : Tree → Plan → Type 0
+IsPlan tree Unserved = Unit {0}
+IsPlan tree Served = Unit {0}
+IsPlan tree (Laid layout) = IsLaid tree layout.value
+IsPlan tree Unlaid = Unit {0}
+
+-- a walk has told this field, which is no count, or its end
+abbrev pub TellsNext : Walk → Option LaidField → Walk → Type 0
+TellsNext old (Some f) new = Goes (left old) (Ok (steps.Field f.fxy f.spec)) new
+TellsNext old None new = Goes (left old) (Ok steps.End) new

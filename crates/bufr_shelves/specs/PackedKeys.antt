@@ -1,0 +1,24 @@
+-- Keys in little room: what a packed key stands for.
+use Rattle.std.specs.Prelude.{pos}
+use Rattle.bufr_keys.specs.declared.key.Key.{Key}
+use Rattle.bufr_keys.specs.declared.key.Station.TheVariants.{Wmo}
+use Rattle.bufr_shelves.specs.declared.sorted_shelf.packed_key.WmoKey.{WmoKey}
+use Rattle.bufr_shelves.specs.declared.sorted_shelf.packed_key.KeyForm.{KeyForm}
+use Rattle.bufr_shelves.specs.declared.sorted_shelf.packed_key.KeyForm.TheVariants as forms
+
+-- the key of a WMO station, with numbers that have no sign
+abbrev pub wmo_key : WmoKey → Key
+wmo_key w = record {
+  centre = w.centre;
+  category = w.category;
+  international = w.international;
+  local_category = w.local_category;
+  station = Wmo (pos w.block) (pos w.number);
+  moment = w.moment;
+  sub_centre = w.sub_centre;
+}
+
+-- the key that a form holds
+abbrev pub key_in : KeyForm → Key
+key_in (forms.Wmo w) = wmo_key w
+key_in (forms.Other key) = key.value

@@ -1,0 +1,237 @@
+//! Keys in little room, while entries are gathered.
+ghost use Rattle.std.specs.Prelude.{◌≡◌, IfOk, IfSome};
+ghost use Rattle.bufr_shelves.specs.PackedKeys.{wmo_key};
+ghost use Rattle.bufr_shelves.specs.Fronts.{front_of_key};
+
+use crate::rank::{Exact, Rank};
+use crate::sorted_shelf::front::{Front, Fronted, in_two_octets};
+use crate::sorted_shelf::pair::Pair;
+use bufr_answers::OutOfMemory;
+use bufr_keys::{Key, Moment, Station};
+use std::alloc::Global;
+use std::cmp::Ordering;
+use std::marker::Model;
+
+/// The key of a WMO station whose block and number have room in two octets each.
+#[derive(Clone, Copy, Drop)]
+pub(crate) struct WmoKey {
+    centre: u16,
+    category: u8,
+    international: u8,
+    local_category: u8,
+    block: u16,
+    number: u16,
+    moment: Moment,
+    sub_centre: u16,
+}
+
+impl WmoKey {
+    /// A key in this form, if it has it.
+    fn of_key(key: &Key) -> Option<WmoKey>
+        ensures { IfSome result (λ packed. wmo_key packed ≡ key.now) }
+    {
+        let Station::Wmo { block, number } = &key.station else {
+            return None;
+        };
+        Some(WmoKey {
+            centre: key.centre,
+            category: key.category,
+            international: key.international,
+            local_category: key.local_category,
+            block: in_two_octets(*block)?,
+            number: in_two_octets(*number)?,
+            moment: key.moment,
+            sub_centre: key.sub_centre,
+        })
+    }
+
+    /// The key. It takes no memory.
+    fn key(&self) -> Key
+        ensures { result ≡ wmo_key self.now }
+    {
+        Key {
+            centre: self.centre,
+            category: self.category,
+            international: self.international,
+            local_category: self.local_category,
+            station: Station::Wmo {
+                block: self.block as i128,
+                number: self.number as i128,
+            },
+            moment: self.moment,
+            sub_centre: self.sub_centre,
+        }
+    }
+}
+
+/// A key as it is held: most need no more than 24 octets.
+#[derive(Drop)]
+pub(crate) enum KeyForm {
+    /// The key of a WMO station whose numbers have room.
+    Wmo(WmoKey),
+    /// Any other.
+    Other(Box<Key>),
+}
+
+/// A key in little room. Contracts see the key.
+#[derive(Drop)]
+pub(crate) struct PackedKey {
+    form: KeyForm,
+}
+
+impl Model for PackedKey {
+    ghost use Rattle.bufr_keys.specs.declared.key.Key.{Key as AKey};
+
+    ghost Value = { AKey };
+
+    ghost use Rattle.bufr_shelves.specs.PackedKeys.{key_in};
+
+    ghost view = { λ a. key_in a.form };
+}
+
+impl PackedKey {
+    /// A key in little room.
+    pub(crate) fn new(alloc: Global, key: Key) -> Result<PackedKey, OutOfMemory>
+        ensures { IfOk result (λ packed. packed ≡ key) }
+    {
+        let form = match WmoKey::of_key(&key) {
+            Some(packed) => KeyForm::Wmo(packed),
+            None => KeyForm::Other(Box::new(alloc, key)?),
+        };
+        Ok(PackedKey { form })
+    }
+
+    /// The key. It takes no memory.
+    pub(crate) fn into_key(self) -> Key
+        ensures { result ≡ self }
+    {
+        let PackedKey { form } = self;
+        match form {
+            KeyForm::Wmo(packed) => packed.key(),
+            KeyForm::Other(key) => Box::into_inner(key),
+        }
+    }
+}
+
+/// The pairs with each key as it came.
+pub(crate) fn unpacked(
+    alloc: Global,
+    pairs: Vec<Pair<PackedKey, Rank>>,
+) -> Result<Vec<Pair<Key, Rank>>, OutOfMemory>
+    ensures { IfOk result (λ out. out.items ≡ pairs.items) }
+{
+    let mut out = Vec::with_capacity(alloc, pairs.len())?;
+    for pair in pairs {
+        let (packed, rank) = pair.into_parts();
+        out.push(Pair::new(alloc, packed.into_key(), rank)?)?;
+    }
+    Ok(out)
+}
+
+impl PartialEq for PackedKey {
+    ghost use Rattle.bufr_keys.specs.contracts.key.KeyPartialEq.TheImpl.Laws.{laws-law};
+
+    ghost eq = { ⟦<Key as PartialEq>⟧.eq };
+
+    ghost laws = { laws-law };
+
+    fn eq(&self, other: &PackedKey) -> bool {
+        match (&self.form, &other.form) {
+            (KeyForm::Wmo(one), KeyForm::Wmo(two)) => one.key() == two.key(),
+            (KeyForm::Wmo(one), KeyForm::Other(two)) => one.key() == **two,
+            (KeyForm::Other(one), KeyForm::Wmo(two)) => **one == two.key(),
+            (KeyForm::Other(one), KeyForm::Other(two)) => **one == **two,
+        }
+    }
+}
+
+impl Eq for PackedKey {
+    ghost use Rattle.bufr_keys.specs.contracts.key.KeyEq.TheImpl.Laws.{laws-law};
+
+    ghost laws = { laws-law };
+}
+
+impl PartialOrd for PackedKey {
+    ghost use Rattle.bufr_keys.specs.contracts.key.KeyPartialOrd.TheImpl.Laws.{laws-law};
+
+    ghost partial_cmp = { ⟦<Key as PartialOrd>⟧.partial_cmp };
+
+    ghost laws = { laws-law };
+
+    fn partial_cmp(&self, other: &PackedKey) -> Option<Ordering> {
+        match (&self.form, &other.form) {
+            (KeyForm::Wmo(one), KeyForm::Wmo(two)) => one.key().partial_cmp(&two.key()),
+            (KeyForm::Wmo(one), KeyForm::Other(two)) => one.key().partial_cmp(&**two),
+            (KeyForm::Other(one), KeyForm::Wmo(two)) => (**one).partial_cmp(&two.key()),
+            (KeyForm::Other(one), KeyForm::Other(two)) => (**one).partial_cmp(&**two),
+        }
+    }
+}
+
+impl Ord for PackedKey {
+    ghost use Rattle.bufr_keys.specs.contracts.key.KeyOrd.TheImpl.Laws.{total-law, matches_partial_cmp-law, matches_eq-law};
+
+    ghost cmp = { ⟦<Key as Ord>⟧.cmp };
+
+    ghost total = { total-law };
+
+    ghost matches_partial_cmp = { matches_partial_cmp-law };
+
+    ghost matches_eq = { matches_eq-law };
+
+    fn cmp(&self, other: &PackedKey) -> Ordering {
+        match (&self.form, &other.form) {
+            (KeyForm::Wmo(one), KeyForm::Wmo(two)) => one.key().cmp(&two.key()),
+            (KeyForm::Wmo(one), KeyForm::Other(two)) => one.key().cmp(&**two),
+            (KeyForm::Other(one), KeyForm::Wmo(two)) => (**one).cmp(&two.key()),
+            (KeyForm::Other(one), KeyForm::Other(two)) => (**one).cmp(&**two),
+        }
+    }
+}
+
+/// The same key once more.
+fn copied<K: Exact>(key: &K) -> Result<K, OutOfMemory>
+    ensures { IfOk result (λ copy. copy ≡ key.now) }
+{
+    Ok(key.clone()?)
+}
+
+impl Clone for PackedKey {
+    ghost is_clone = { λ a b. b ≡ a };
+
+    fn clone(&self) -> Result<PackedKey, OutOfMemory> {
+        let form = match &self.form {
+            KeyForm::Wmo(packed) => KeyForm::Wmo(*packed),
+            KeyForm::Other(key) => {
+                let alloc = *Box::allocator(key);
+                KeyForm::Other(Box::new(alloc, copied(&**key)?)?)
+            }
+        };
+        Ok(PackedKey { form })
+    }
+}
+
+impl Exact for PackedKey {
+    ghost use Rattle.std.proofs.Common.{sym, ◌∙◌};
+    ghost use Rattle.bufr_keys.specs.DerivedOrders.{keys_are};
+    ghost use Rattle.bufr_shelves.specs.Orders.{exact_keys};
+
+    ghost exact = { λ a b h. exact_keys a b (sym (keys_are a b) ∙ h) };
+
+    ghost faithful = { λ a b h. h };
+}
+
+impl Fronted for PackedKey {
+    ghost use Rattle.bufr_shelves.specs.FrontLaws.{keys_agree};
+
+    ghost front_of = { front_of_key };
+
+    ghost agrees = { keys_agree };
+
+    fn front(&self) -> Front {
+        match &self.form {
+            KeyForm::Wmo(packed) => packed.key().front(),
+            KeyForm::Other(key) => key.front(),
+        }
+    }
+}
