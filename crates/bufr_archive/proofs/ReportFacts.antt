@@ -230,16 +230,7 @@ entry_of_one written own under tables octets d (Ok found) is spells one told =
     ∙ ap (λ (rs : List Report). only_one rs >>= own_entry tables octets) t.1
     ∙ own_is_spelt written own tables octets t.0 each.0 ∙ here)
 
--- the entry at an index is that of the report there, which is counted from 1
-pub spelt_at : (rs : List Report) (i : ℕ) (r : Report) → slice_get rs (i + 1 - 1) ≡ Some r
-    → spelt_entry r ≡ get_or (spelt_entries rs) i None
-spelt_at rs i r e =
-    let same : i + 1 - 1 ≡ i = omega arith in
-    let there = subst (λ k. slice_get rs k ≡ Some r) same e in
-    sym (get_or_from_slice_get (spelt_entries rs) i (spelt_entry r) None
-    (slice_get-map spelt_entry rs i ∙ ap (option_map spelt_entry) there))
-
--- so it is of the report viewed there
+-- the entry at an index is that of the report viewed there, which is counted from 1
 pub viewed_at : {E : Type 0} (rs : List Report) (i : ℕ) (answer : Result (Option Entry) E)
     → IfOk answer (λ found. option_map spelt_entry (slice_get rs (i + 1 - 1)) ≡ Some found)
     → IfOk answer (λ found. found ≡ get_or (spelt_entries rs) i None)

@@ -14,7 +14,7 @@ use bufr_keys::Key;
 use bufr_message::laws::{
     canonical_messages_are_own, reports_have_canonical_messages, written_messages_are_spelt,
 };
-use bufr_message::{Refused, Report, ReportHead, Templates, View, canonical, canonical_of_read};
+use bufr_message::{Refused, Report, ReportHead, Templates, View, canonical};
 use bufr_report_keys::{key_in, key_of_fields};
 use bufr_shelves::Entry;
 use bufr_tables::Tables;
@@ -59,18 +59,8 @@ pub fn entry_of(
     Ok(Some(entry_with(alloc, report, octets)?))
 }
 
-/// The entry of a report as its own fields spell it, with no tables asked: of a report that was
-/// read it is its entry. It can only run out of memory.
-fn spelt_entry(alloc: Global, report: &Report) -> Result<Option<Entry>, OutOfMemory>
-    ensures { IfOk result (λ found. found ≡ spelt_entry report.now) }
-{
-    let Some(octets) = canonical_of_read(alloc, report)? else {
-        return Ok(None);
-    };
-    Ok(Some(entry_with(alloc, report, octets)?))
-}
-
-/// The same of the report of this number, from 1, of a view: no subset is built.
+/// The entry of the report of this number, from 1, of a view, as its own fields spell it: no tables
+/// are asked, and no subset is built. It can only run out of memory.
 fn viewed_entry(alloc: Global, view: &View<'_>, number: usize) -> Result<Option<Entry>, OutOfMemory>
     requires first { 1 ≤ number }
     requires last { number ≤ length view.now.message.subsets }
@@ -193,10 +183,6 @@ impl ReportList for MessageReports<'_> {
 
     fn entry(&self, alloc: Global, index: usize) -> Result<Option<Entry>, OutOfMemory> {
         let _count = self.view.count();
-        if self.view.compressed() {
-            let report = self.view.report(alloc, index + 1)?;
-            return spelt_entry(alloc, &report);
-        }
         viewed_entry(alloc, &self.view, index + 1)
     }
 }
