@@ -20,11 +20,6 @@ all_taken P zero xs all = tt
 all_taken P (suc n) [] all = tt
 all_taken P (suc n) (x ∷ xs) all = (all.0, all_taken P n xs all.1)
 
--- of those of them that are left
-pub all_cut : {X : Type 0} (P : X → Type 0) (n : ℕ) (xs ys : List X) → ys ≡ take n xs
-    → AllByRecursion P xs → AllByRecursion P ys
-all_cut P n xs ys is all = subst (AllByRecursion P) (sym is) (all_taken P n xs all)
-
 -- of those that stay
 pub all_left : {X : Type 0} (P : X → Type 0) (i : ℕ) (xs : List X) → AllByRecursion P xs
     → AllByRecursion P (take i xs ++ drop (suc i) xs)
@@ -40,11 +35,14 @@ all_at P i [] d h all = absurd (omega arith)
 all_at P zero (x ∷ xs) d h all = all.0
 all_at P (suc i) (x ∷ xs) d h all = all_at P i xs d (omega (arith, h)) all.1
 
--- of all of them behind one that was put in front, or of those that there were
-pub all_behind : {X : Type 0} (P : X → Type 0) (x : X) (xs ys : List X) (put : Bool)
-    → ys ≡ (if put then insert xs 0 x else xs) → AllByRecursion P xs → P x → AllByRecursion P ys
-all_behind P x xs ys true is all one = subst (AllByRecursion P) (sym is) (one, all)
-all_behind P x xs ys false is all one = subst (AllByRecursion P) (sym is) all
+-- of the first so many behind one that was put in front, or of those alone
+pub all_behind : {X : Type 0} (P : X → Type 0) (n : ℕ) (x : X) (xs ys zs : List X) (put : Bool)
+    → ys ≡ take n xs → zs ≡ (if put then insert ys 0 x else ys) → AllByRecursion P xs → P x
+    → AllByRecursion P zs
+all_behind P n x xs ys zs true cut is all one =
+    subst (AllByRecursion P) (sym (is ∙ ap (λ l. x ∷ l) cut)) (one, all_taken P n xs all)
+all_behind P n x xs ys zs false cut is all one =
+    subst (AllByRecursion P) (sym (is ∙ cut)) (all_taken P n xs all)
 
 -- a tree that is answered is that of the descriptors
 tree_is : (found : Result Tree TemplateFault) (tree : Tree) → template_or found ≡ Ok tree

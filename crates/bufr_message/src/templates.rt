@@ -6,7 +6,7 @@ ghost use Rattle.bufr_sections.specs.declared.message.Message.{Message};
 ghost use Rattle.bufr_message.specs.Kept.{AreOf};
 ghost use Rattle.bufr_message.specs.Messages.{Spells, message_of};
 
-use crate::kept::{Kept, taken};
+use crate::kept::{Kept, bring_to_front};
 use crate::laws::messages_are_spelt;
 use crate::message_view::{View, view_in};
 use bufr_answers::Failure;
@@ -14,9 +14,6 @@ use bufr_sections::{Refused, read_sections};
 use bufr_tables::Tables;
 use std::alloc::Global;
 use std::marker::Model;
-
-/// How many lists of descriptors are kept at most.
-const MOST_KEPT: usize = 4;
 
 /// Tables, and the last four lists of descriptors that were met under them with their templates.
 /// Contracts see the tables.
@@ -91,9 +88,6 @@ fn view_keeping<'a>(
     ensures exact { Gives (λ d. d) result (message_of tables.now octets.now) }
 {
     let sections = read_sections(alloc, octets)?;
-    let mut own = taken(alloc, tables, kept, sections.listed)?;
-    let answer = view_in(alloc, &mut own, sections);
-    kept.truncate(MOST_KEPT - 1);
-    kept.insert(0, own)?;
-    answer
+    bring_to_front(alloc, tables, kept, sections.listed)?;
+    view_in(alloc, &mut kept[0], sections)
 }
