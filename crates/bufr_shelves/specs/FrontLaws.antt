@@ -1,6 +1,6 @@
 -- Fronts never tell another order than the keys: for the types that `ShelfBuilder` puts in order.
 use Rattle.std.proofs.Common.{◌≡◌, ℕ, zero, suc, List, [], ◌∷◌, Option, Some, None, ℤ, pos, negsuc}
-use Rattle.std.proofs.Common.{Bool, true, false, cond, refl, sym, ap, arith}
+use Rattle.std.proofs.Common.{Bool, true, false, cond, refl, sym, ap, arith, ◌∙◌}
 use Rattle.std.specs.Prelude.{int_le, ◌&&◌}
 use Rattle.std.proofs.Common.{◌<◌, ◌<ℤ◌}
 use Rattle.std.proofs.Math.Facts.{yes_ltb}
@@ -28,19 +28,30 @@ behind Less p q h = refl
 behind Equal p q h = h
 behind Greater p q h = refl
 
--- so does it behind four parts
+-- one order after the other is both in turn
+pub in_turn : (o p q : Ordering)
+    → ordering_then (ordering_then o p) q ≡ ordering_then o (ordering_then p q)
+in_turn Less p q = refl
+in_turn Equal p q = refl
+in_turn Greater p q = refl
+
+-- four parts in turn before one more
+pub four_in_turn : (a b c d q : Ordering)
+    → ordering_then (ordering_then a (ordering_then b (ordering_then c d))) q
+    ≡ ordering_then a (ordering_then b (ordering_then c (ordering_then d q)))
+four_in_turn a b c d q =
+    in_turn a _ q
+    ∙ ap (ordering_then a) (in_turn b _ q ∙ ap (ordering_then b) (in_turn c d q))
+
+-- what agrees goes on to agree behind four more parts
 behind_four : (a b c d p q : Ordering) → ordering_then p q ≡ q
     → ordering_then
     (ordering_then (ordering_then a (ordering_then b (ordering_then c d))) p)
     (ordering_then a (ordering_then b (ordering_then c (ordering_then d q))))
     ≡ ordering_then a (ordering_then b (ordering_then c (ordering_then d q)))
-behind_four Less b c d p q h = refl
-behind_four Greater b c d p q h = refl
-behind_four Equal Less c d p q h = refl
-behind_four Equal Greater c d p q h = refl
-behind_four Equal Equal Less d p q h = refl
-behind_four Equal Equal Greater d p q h = refl
-behind_four Equal Equal Equal d p q h = behind d p q h
+behind_four a b c d p q h =
+    rw (sym (four_in_turn a b c d q))
+    (behind (ordering_then a (ordering_then b (ordering_then c d))) p q h)
 
 -- a front of three parts agrees with these and one more
 three_first : (a b c d : Ordering)
@@ -120,7 +131,7 @@ signed_match a b Equal h = ap pos h
 signed_match a b Greater h = record { lt = yes_ltb h }
 
 -- their order is one
-same_signed : (a b : ℕ) → int_cmp (pos a) (pos b) ≡ nat_cmp a b
+pub same_signed : (a b : ℕ) → int_cmp (pos a) (pos b) ≡ nat_cmp a b
 same_signed a b =
     sym (int_cmp_is (pos a) (pos b) (nat_cmp a b)
     (signed_match a b (nat_cmp a b) (ranked a b (nat_cmp a b) refl)))

@@ -9,6 +9,7 @@ use Rattle.bufr_keys.specs.declared.key.Station.TheVariants as stations
 use Rattle.bufr_keys.specs.declared.key.Moment.{Moment}
 use Rattle.bufr_keys.specs.declared.key.Key.{Key}
 use Rattle.bufr_shelves.specs.declared.sorted_shelf.front.FrontHead.{FrontHead}
+use Rattle.bufr_shelves.specs.declared.sorted_shelf.front.WmoPlace.{WmoPlace}
 use Rattle.bufr_shelves.specs.declared.sorted_shelf.front.FrontPlace.{FrontPlace}
 use Rattle.bufr_shelves.specs.declared.sorted_shelf.front.FrontPlace.TheVariants.{Wmo, Mobile, Open}
 use Rattle.bufr_shelves.specs.declared.sorted_shelf.front.Front.{Front}
@@ -23,13 +24,18 @@ head_cmp a b =
     (ordering_then (nat_cmp a.international b.international)
     (nat_cmp a.local_category b.local_category)))
 
+-- WMO block and station number, and then the moment
+abbrev pub wmo_cmp : WmoPlace → WmoPlace → Ordering
+wmo_cmp a b =
+    ordering_then (nat_cmp a.block b.block) (ordering_then (nat_cmp a.number b.number)
+    (moment_cmp a.moment b.moment))
+
 -- station and moment, where both fronts have them; else the order is open: `Equal`
 abbrev pub place_cmp : FrontPlace → FrontPlace → Ordering
-place_cmp (Wmo b n m) (Wmo c k l) =
-    ordering_then (nat_cmp b c) (ordering_then (nat_cmp n k) (moment_cmp m l))
-place_cmp (Wmo _ _ _) (Mobile _) = Less
-place_cmp (Wmo _ _ _) Open = Equal
-place_cmp (Mobile _) (Wmo _ _ _) = Greater
+place_cmp (Wmo a) (Wmo b) = wmo_cmp a b
+place_cmp (Wmo _) (Mobile _) = Less
+place_cmp (Wmo _) Open = Equal
+place_cmp (Mobile _) (Wmo _) = Greater
 place_cmp (Mobile a) (Mobile b) = octets_cmp a b
 place_cmp (Mobile _) Open = Equal
 place_cmp Open p = Equal
@@ -53,7 +59,7 @@ first_octets (suc n) (x ∷ xs) = x ∷ first_octets n xs
 
 -- a WMO station whose numbers have room
 abbrev pub place_of_numbers : Option ℕ → Option ℕ → Moment → FrontPlace
-place_of_numbers (Some b) (Some n) m = Wmo b n m
+place_of_numbers (Some b) (Some n) m = Wmo (record { block = b; number = n; moment = m })
 place_of_numbers (Some b) None m = Open
 place_of_numbers None n m = Open
 
@@ -63,17 +69,18 @@ place_of_station (stations.Wmo b n) m = place_of_numbers (in_two_octets b) (in_t
 place_of_station (stations.Wigos _ _ _ _) m = Open
 place_of_station (stations.Mobile name) m = Mobile (first_octets 8 name)
 
+-- centre and categories of a key
+abbrev pub head_of_key : Key → FrontHead
+head_of_key k = record {
+  centre = k.centre;
+  category = k.category;
+  international = k.international;
+  local_category = k.local_category;
+}
+
 -- the front of a key
 abbrev pub front_of_key : Key → Front
-front_of_key k = record {
-  head = record {
-    centre = k.centre;
-    category = k.category;
-    international = k.international;
-    local_category = k.local_category;
-  };
-  place = place_of_station k.station k.moment;
-}
+front_of_key k = record { head = head_of_key k; place = place_of_station k.station k.moment }
 
 -- a front that leaves the order of two keys open
 abbrev pub open_front : Front

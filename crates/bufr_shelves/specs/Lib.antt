@@ -12,4 +12,5 @@ pub mod Laws
 pub mod Fronts
 pub mod FrontLaws
 pub mod PackedKeys
+pub mod PackedKeyLaws
 pub mod Samples

@@ -9,12 +9,12 @@ use Rattle.bufr_shelves.specs.declared.sorted_shelf.packed_key.KeyForm.TheVarian
 -- the key of a WMO station, with numbers that have no sign
 abbrev pub wmo_key : WmoKey → Key
 wmo_key w = record {
-  centre = w.centre;
-  category = w.category;
-  international = w.international;
-  local_category = w.local_category;
-  station = Wmo (pos w.block) (pos w.number);
-  moment = w.moment;
+  centre = w.head.centre;
+  category = w.head.category;
+  international = w.head.international;
+  local_category = w.head.local_category;
+  station = Wmo (pos w.place.block) (pos w.place.number);
+  moment = w.place.moment;
   sub_centre = w.sub_centre;
 }
 

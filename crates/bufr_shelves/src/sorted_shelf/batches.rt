@@ -7,7 +7,7 @@ ghost use Rattle.bufr_shelves.specs.Pairs.{by_key, by_value, AreFalling};
 
 use crate::rank::Exact;
 use crate::sorted_shelf::front::{Front, Fronted};
-use crate::sorted_shelf::merge::{merge, room_for};
+use crate::sorted_shelf::merge::{merge, room_for, take_last};
 use crate::sorted_shelf::pair::Pair;
 use crate::sorted_shelf::sorted::raise_pair;
 use bufr_answers::OutOfMemory;
@@ -18,6 +18,9 @@ use std::mem;
 
 /// The fewest pairs that wait before they are put in order, unless they are long.
 const SMALLEST_BATCH: usize = 64;
+
+/// The most that wait, besides one for each four that are in order.
+const LARGEST_BATCH: usize = 65_536;
 
 /// The fewest octets that wait before that, whatever their number.
 const LONG_BATCH: u64 = 33_554_432;
@@ -73,9 +76,10 @@ impl<K: Fronted, V> Waiting<K, V> {
 }
 
 /// Pairs of which the one with the greatest value is kept at each key. They may come in any order:
-/// they wait until there are twice as many as were put in order before, are then sorted and merged
-/// with these. So a pair takes logarithmic time, and no more wait than 64 and two for each that is
-/// in order (the invariant), nor octets much beyond 32 MiB and 64 for each pair kept.
+/// they wait until there are twice as many as were put in order before, or 65,536 and a quarter of
+/// these, are then sorted and merged with these. So a pair takes logarithmic time, and no more wait
+/// than 64 and two for each that is in order (the invariant), nor octets much beyond 32 MiB and 64
+/// for each pair kept.
 #[derive(Drop)]
 pub(crate) struct Batches<K: Fronted, V: Exact> {
     alloc: Global,
@@ -158,7 +162,8 @@ fn are_many(settled: usize, waiting: usize, octets: u64) -> bool
 {
     let room = (settled as u64).saturating_mul(OCTETS_A_PAIR);
     let are_long = octets >= room.saturating_add(LONG_BATCH);
-    are_long || waiting >= SMALLEST_BATCH && waiting / 2 >= settled
+    let are_most = waiting >= (settled / 4).saturating_add(LARGEST_BATCH);
+    are_long || are_most || waiting >= SMALLEST_BATCH && waiting / 2 >= settled
 }
 
 /// Lets one more pair wait.
@@ -222,7 +227,7 @@ fn freshen<K: Fronted, V: Exact>(
 {
     loop {
         fresh.reserve(1)?;
-        let Some(last) = waiting.pop() else {
+        let Some(last) = take_last(waiting) else {
             waiting.shrink_to_fit();
             return Ok(());
         };

@@ -1,7 +1,7 @@
 //! What stands beside a key that waits, and is compared first.
 ghost use Rattle.std.specs.Prelude.{◌≡◌, get_or};
 ghost use Rattle.std.specs.Ordering.{ordering_then};
-ghost use Rattle.bufr_shelves.specs.Fronts.{front_cmp, place_cmp, front_of_key, place_of_station, first_octets, in_two_octets, open_front};
+ghost use Rattle.bufr_shelves.specs.Fronts.{front_cmp, place_cmp, head_of_key, front_of_key, place_of_station, first_octets, in_two_octets, open_front};
 ghost use Rattle.bufr_shelves.specs.declared.sorted_shelf.front.Front.{Front as AFront};
 
 use crate::rank::Exact;
@@ -12,25 +12,27 @@ use std::cmp::Ordering;
 /// Centre and categories of a key.
 #[derive(Clone, Copy, Drop, PartialEq, Eq, PartialOrd, Ord)]
 pub(crate) struct FrontHead {
-    centre: u16,
-    category: u8,
-    international: u8,
-    local_category: u8,
+    pub(crate) centre: u16,
+    pub(crate) category: u8,
+    pub(crate) international: u8,
+    pub(crate) local_category: u8,
+}
+
+/// A WMO station whose block and number have room in two octets each, and the moment.
+#[derive(Clone, Copy, Drop, PartialEq, Eq, PartialOrd, Ord)]
+pub(crate) struct WmoPlace {
+    pub(crate) block: u16,
+    pub(crate) number: u16,
+    pub(crate) moment: Moment,
 }
 
 /// Station and moment of a key, as far as they stand in a front.
 #[derive(Clone, Copy, Drop)]
 pub(crate) enum FrontPlace {
-    /// A WMO station whose block and number have room in two octets each, and the moment.
-    Wmo {
-        block: u16,
-        number: u16,
-        moment: Moment,
-    },
+    /// A WMO station whose numbers have room.
+    Wmo(WmoPlace),
     /// The first eight octets of a mobile name, zeros behind a shorter one.
-    Mobile {
-        name: [u8; 8],
-    },
+    Mobile { name: [u8; 8] },
     /// Any other: only the key tells.
     Open,
 }
@@ -40,6 +42,20 @@ pub(crate) enum FrontPlace {
 pub(crate) struct Front {
     head: FrontHead,
     place: FrontPlace,
+}
+
+impl FrontHead {
+    /// Those of a key.
+    pub(crate) fn of_key(key: &Key) -> FrontHead
+        ensures { result ≡ head_of_key key.now }
+    {
+        FrontHead {
+            centre: key.centre,
+            category: key.category,
+            international: key.international,
+            local_category: key.local_category,
+        }
+    }
 }
 
 impl Front {
@@ -60,26 +76,9 @@ impl FrontPlace {
         ensures { result ≡ place_cmp self.now other.now }
     {
         match (self, other) {
-            (
-                FrontPlace::Wmo {
-                    block,
-                    number,
-                    moment,
-                },
-                FrontPlace::Wmo {
-                    block: other_block,
-                    number: other_number,
-                    moment: other_moment,
-                },
-            ) => match block.cmp(other_block) {
-                Ordering::Equal => match number.cmp(other_number) {
-                    Ordering::Equal => moment.cmp(other_moment),
-                    order => order,
-                },
-                order => order,
-            },
-            (FrontPlace::Wmo { .. }, FrontPlace::Mobile { .. }) => Ordering::Less,
-            (FrontPlace::Mobile { .. }, FrontPlace::Wmo { .. }) => Ordering::Greater,
+            (FrontPlace::Wmo(one), FrontPlace::Wmo(two)) => one.cmp(two),
+            (FrontPlace::Wmo(_), FrontPlace::Mobile { .. }) => Ordering::Less,
+            (FrontPlace::Mobile { .. }, FrontPlace::Wmo(_)) => Ordering::Greater,
             (FrontPlace::Mobile { name }, FrontPlace::Mobile { name: other_name }) => {
                 name.cmp(other_name)
             }
@@ -143,11 +142,11 @@ fn place_of(station: &Station, moment: Moment) -> FrontPlace
 {
     match station {
         Station::Wmo { block, number } => match (in_two_octets(*block), in_two_octets(*number)) {
-            (Some(block), Some(number)) => FrontPlace::Wmo {
+            (Some(block), Some(number)) => FrontPlace::Wmo(WmoPlace {
                 block,
                 number,
                 moment,
-            },
+            }),
             _ => FrontPlace::Open,
         },
         Station::Wigos { .. } => FrontPlace::Open,
@@ -166,12 +165,7 @@ impl Fronted for Key {
 
     fn front(&self) -> Front {
         Front {
-            head: FrontHead {
-                centre: self.centre,
-                category: self.category,
-                international: self.international,
-                local_category: self.local_category,
-            },
+            head: FrontHead::of_key(self),
             place: place_of(&self.station, self.moment),
         }
     }

@@ -1,5 +1,5 @@
 //! Two sorted vectors merged in one pass that only moves.
-ghost use Rattle.std.specs.Prelude.{◌≡◌, ◌+◌, ◌≤◌, ◌<◌, ◌++◌, [], IfOk, OnSome, IfNone, vec_len, reverse};
+ghost use Rattle.std.specs.Prelude.{◌≡◌, ◌+◌, ◌≤◌, ◌<◌, ◌++◌, [], IfOk, OnSome, IfNone, MatchOption, length, vec_len, reverse};
 ghost use Rattle.std.specs.Vec.{vec_capacity};
 ghost use Rattle.std.specs.Option.{option_to_list};
 ghost use Rattle.std.specs.List.Sorted.{IsStrictlySortedBy};
@@ -13,6 +13,22 @@ use crate::sorted_shelf::pair::Pair;
 use bufr_answers::OutOfMemory;
 use std::alloc::Global;
 use std::cmp::Ordering;
+
+/// So many places at the end of a vector are given back once they are free.
+const FREE_PLACES: usize = 65_536;
+
+/// Takes the last member, and gives back much room that is free.
+pub(crate) fn take_last<T>(members: &mut Vec<T>) -> Option<T>
+    ensures items { members.old.items ≡ members.new.items ++ option_to_list result }
+    ensures len { vec_len members.new + length (option_to_list result) ≡ vec_len members.old }
+    ensures cases { MatchOption result ((vec_len members.old ≡ 0) × (vec_len members.new ≡ 0))
+        (λ _. vec_len members.new + 1 ≡ vec_len members.old) }
+{
+    if members.capacity().saturating_sub(members.len()) >= FREE_PLACES {
+        members.shrink_to_fit();
+    }
+    members.pop()
+}
 
 /// An empty vector with room for all pairs of two.
 pub(crate) fn room_for<K, V>(
@@ -61,11 +77,11 @@ fn take_lesser<K: Exact, V: Exact>(
     ensures done { IfNone result ((left.new.items ≡ []) × (right.new.items ≡ [])) }
 {
     match order_of_ends(left, right) {
-        Ordering::Less => left.pop(),
-        Ordering::Greater => right.pop(),
+        Ordering::Less => take_last(left),
+        Ordering::Greater => take_last(right),
         Ordering::Equal => {
-            let pair = left.pop();
-            greater_of(pair, right.pop())
+            let pair = take_last(left);
+            greater_of(pair, take_last(right))
         }
     }
 }

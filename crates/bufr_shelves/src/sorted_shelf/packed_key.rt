@@ -4,24 +4,20 @@ ghost use Rattle.bufr_shelves.specs.PackedKeys.{wmo_key};
 ghost use Rattle.bufr_shelves.specs.Fronts.{front_of_key};
 
 use crate::rank::{Exact, Rank};
-use crate::sorted_shelf::front::{Front, Fronted, in_two_octets};
+use crate::sorted_shelf::front::{Front, FrontHead, Fronted, WmoPlace, in_two_octets};
 use crate::sorted_shelf::pair::Pair;
 use bufr_answers::OutOfMemory;
-use bufr_keys::{Key, Moment, Station};
+use bufr_keys::{Key, Station};
 use std::alloc::Global;
 use std::cmp::Ordering;
 use std::marker::Model;
 
-/// The key of a WMO station whose block and number have room in two octets each.
-#[derive(Clone, Copy, Drop)]
+/// The key of a WMO station whose block and number have room in two octets each. Its order is
+/// derived: it is that of the keys.
+#[derive(Clone, Copy, Drop, PartialEq, Eq, PartialOrd, Ord)]
 pub(crate) struct WmoKey {
-    centre: u16,
-    category: u8,
-    international: u8,
-    local_category: u8,
-    block: u16,
-    number: u16,
-    moment: Moment,
+    head: FrontHead,
+    place: WmoPlace,
     sub_centre: u16,
 }
 
@@ -34,13 +30,12 @@ impl WmoKey {
             return None;
         };
         Some(WmoKey {
-            centre: key.centre,
-            category: key.category,
-            international: key.international,
-            local_category: key.local_category,
-            block: in_two_octets(*block)?,
-            number: in_two_octets(*number)?,
-            moment: key.moment,
+            head: FrontHead::of_key(key),
+            place: WmoPlace {
+                block: in_two_octets(*block)?,
+                number: in_two_octets(*number)?,
+                moment: key.moment,
+            },
             sub_centre: key.sub_centre,
         })
     }
@@ -49,17 +44,22 @@ impl WmoKey {
     fn key(&self) -> Key
         ensures { result ≡ wmo_key self.now }
     {
+        let WmoKey {
+            head,
+            place,
+            sub_centre,
+        } = *self;
         Key {
-            centre: self.centre,
-            category: self.category,
-            international: self.international,
-            local_category: self.local_category,
+            centre: head.centre,
+            category: head.category,
+            international: head.international,
+            local_category: head.local_category,
             station: Station::Wmo {
-                block: self.block as i128,
-                number: self.number as i128,
+                block: place.block as i128,
+                number: place.number as i128,
             },
-            moment: self.moment,
-            sub_centre: self.sub_centre,
+            moment: place.moment,
+            sub_centre,
         }
     }
 }
@@ -129,59 +129,57 @@ pub(crate) fn unpacked(
 }
 
 impl PartialEq for PackedKey {
-    ghost use Rattle.bufr_keys.specs.contracts.key.KeyPartialEq.TheImpl.Laws.{laws-law};
+    ghost use Rattle.std.specs.Ordering.{eq_by_cmp};
+    ghost use Rattle.std.specs.Cmp.{partial_equiv_from_equiv};
+    ghost use Rattle.std.proofs.lemmas.Cmp.{eq_by_cmp_equiv};
+    ghost use Rattle.bufr_keys.specs.contracts.key.KeyOrd.TheImpl.Laws.{total-law};
 
-    ghost eq = { ⟦<Key as PartialEq>⟧.eq };
+    ghost eq = { eq_by_cmp ⟦<Key as Ord>⟧.cmp };
 
-    ghost laws = { laws-law };
+    ghost laws = { partial_equiv_from_equiv (eq_by_cmp_equiv total-law) };
 
     fn eq(&self, other: &PackedKey) -> bool {
-        match (&self.form, &other.form) {
-            (KeyForm::Wmo(one), KeyForm::Wmo(two)) => one.key() == two.key(),
-            (KeyForm::Wmo(one), KeyForm::Other(two)) => one.key() == **two,
-            (KeyForm::Other(one), KeyForm::Wmo(two)) => **one == two.key(),
-            (KeyForm::Other(one), KeyForm::Other(two)) => **one == **two,
-        }
+        self.cmp(other).is_eq()
     }
 }
 
 impl Eq for PackedKey {
-    ghost use Rattle.bufr_keys.specs.contracts.key.KeyEq.TheImpl.Laws.{laws-law};
+    ghost use Rattle.std.proofs.lemmas.Cmp.{eq_by_cmp_equiv};
+    ghost use Rattle.bufr_keys.specs.contracts.key.KeyOrd.TheImpl.Laws.{total-law};
 
-    ghost laws = { laws-law };
+    ghost laws = { eq_by_cmp_equiv total-law };
 }
 
 impl PartialOrd for PackedKey {
-    ghost use Rattle.bufr_keys.specs.contracts.key.KeyPartialOrd.TheImpl.Laws.{laws-law};
+    ghost use Rattle.std.specs.Ordering.{as_partial_cmp};
+    ghost use Rattle.std.specs.Cmp.{partial_order_from_total};
+    ghost use Rattle.bufr_keys.specs.contracts.key.KeyOrd.TheImpl.Laws.{total-law};
 
-    ghost partial_cmp = { ⟦<Key as PartialOrd>⟧.partial_cmp };
+    ghost partial_cmp = { as_partial_cmp ⟦<Key as Ord>⟧.cmp };
 
-    ghost laws = { laws-law };
+    ghost laws = { partial_order_from_total total-law };
 
     fn partial_cmp(&self, other: &PackedKey) -> Option<Ordering> {
-        match (&self.form, &other.form) {
-            (KeyForm::Wmo(one), KeyForm::Wmo(two)) => one.key().partial_cmp(&two.key()),
-            (KeyForm::Wmo(one), KeyForm::Other(two)) => one.key().partial_cmp(&**two),
-            (KeyForm::Other(one), KeyForm::Wmo(two)) => (**one).partial_cmp(&two.key()),
-            (KeyForm::Other(one), KeyForm::Other(two)) => (**one).partial_cmp(&**two),
-        }
+        Some(self.cmp(other))
     }
 }
 
 impl Ord for PackedKey {
-    ghost use Rattle.bufr_keys.specs.contracts.key.KeyOrd.TheImpl.Laws.{total-law, matches_partial_cmp-law, matches_eq-law};
+    ghost use Rattle.std.proofs.Common.{refl};
+    ghost use Rattle.bufr_keys.specs.contracts.key.KeyOrd.TheImpl.Laws.{total-law};
 
     ghost cmp = { ⟦<Key as Ord>⟧.cmp };
 
     ghost total = { total-law };
 
-    ghost matches_partial_cmp = { matches_partial_cmp-law };
+    ghost matches_partial_cmp = { λ a b. refl };
 
-    ghost matches_eq = { matches_eq-law };
+    ghost matches_eq = { λ a b. refl };
 
+    #[tactic(auto, using(crate::specs::PackedKeyLaws::wmo_keys_are))]
     fn cmp(&self, other: &PackedKey) -> Ordering {
         match (&self.form, &other.form) {
-            (KeyForm::Wmo(one), KeyForm::Wmo(two)) => one.key().cmp(&two.key()),
+            (KeyForm::Wmo(one), KeyForm::Wmo(two)) => one.cmp(two),
             (KeyForm::Wmo(one), KeyForm::Other(two)) => one.key().cmp(&**two),
             (KeyForm::Other(one), KeyForm::Wmo(two)) => (**one).cmp(&two.key()),
             (KeyForm::Other(one), KeyForm::Other(two)) => (**one).cmp(&**two),

@@ -19,14 +19,14 @@ loop-waiting-preserved g c =
     let so = on_total (λ p. p.0) g.met.K.Ord.total in
     let ro = on_total (λ p. p.1) g.met.V.Ord.total in
     let fresh = c.loop-waiting.fresh.items in
-    let rest = c.pop.new.self.items in
+    let rest = c.take_last.new.members.items in
     let pair = c.in-Some.last in
     let sorted = sorted-pairs g.K.Ord.cmp fresh c.loop-waiting.invariant.0 in
     let put = c.raise_pair.ensures
     ∙ ap (λ p. put_by slot rank p c.reserve.new.self.items) c.into_pair.ensures
     ∙ ap (put_by slot rank pair) c.reserve.ensures.items in
     let last : c.loop-waiting.waiting.items ≡ rest ++ pair ∷ [] =
-    c.pop.ensures.items ∙ ap (λ o. rest ++ option_to_list o) c.in-Some.is in (
+    c.take_last.ensures.items ∙ ap (λ o. rest ++ option_to_list o) c.in-Some.is in (
       subst (λ ps. IsStrictlySortedBy g.K.Ord.cmp (keys_of ps)) (sym put)
           (sorted-keys g.K.Ord.cmp _ (laws.put_ordered slot rank so ro pair fresh sorted)),
       ap (λ ps. kept_by slot rank (ps ++ rest)) put
