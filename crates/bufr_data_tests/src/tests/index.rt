@@ -83,7 +83,12 @@ fn has_rows(rt: &impl Abort, alloc: Global, index: &SubsetIndex, rows: Rows) -> 
     Ok(())
 }
 
-const DELAYED_ROWS: Rows = &[(3, &[1, 5]), (1, &[0]), (2, &[2, 27315, 27316]), (3, &[1, 5])];
+const DELAYED_ROWS: Rows = &[
+    (3, &[1, 5]),
+    (1, &[0]),
+    (2, &[2, 27315, 27316]),
+    (3, &[1, 5]),
+];
 
 #[test]
 fn plain_in_any_order(rt: HostRuntime) -> Result<(), Fail> {
@@ -291,6 +296,14 @@ fn has_ten_thousand(rt: &impl Abort, alloc: Global, index: &SubsetIndex) -> Resu
 fn ten_thousand_plain_subsets(rt: HostRuntime) -> Result<(), Fail> {
     let alloc = rt.alloc();
     let octets = ten_thousand_octets(alloc)?;
-    let index = indexed(&rt, alloc, &DELAYED, false, 10000, octets.as_slice(), 400_000)?;
+    let index = indexed(
+        &rt,
+        alloc,
+        &DELAYED,
+        false,
+        10000,
+        octets.as_slice(),
+        400_000,
+    )?;
     has_ten_thousand(&rt, alloc, &index)
 }
