@@ -54,18 +54,61 @@ fn refuses(
     Ok(())
 }
 
+/// The index of octets, which ends at this place and has so many subsets.
+fn indexed<'a>(
+    rt: &impl Abort,
+    alloc: Global,
+    list: Descriptors,
+    compressed: bool,
+    count: u16,
+    octets: &'a [u8],
+    place: u128,
+) -> Result<SubsetIndex<'a>, Fail> {
+    let template = template(alloc, list)?;
+    let mut reader = BitReader::new(octets);
+    let index = SubsetIndex::index(alloc, template, compressed, &mut reader, count)?;
+    same(rt, reader.place(), place);
+    same(rt, index.count(), usize::from(count));
+    Ok(index)
+}
+
+/// Subsets by their number, each with its numbers, in the order in which they are asked for.
+type Rows<'a> = &'a [(usize, &'a [u64])];
+
+/// Compares the numbers of subsets of an index.
+fn has_rows(rt: &impl Abort, alloc: Global, index: &SubsetIndex, rows: Rows) -> Result<(), Fail> {
+    for (number, wanted) in rows {
+        has_numbers(rt, alloc, index, *number, wanted)?;
+    }
+    Ok(())
+}
+
+const DELAYED_ROWS: Rows = &[
+    (3, &[1, 5]),
+    (1, &[0]),
+    (2, &[2, 27315, 27316]),
+    (3, &[1, 5]),
+];
+
 #[test]
 fn plain_in_any_order(rt: HostRuntime) -> Result<(), Fail> {
     let alloc = rt.alloc();
     let octets = [0x00, 0x02, 0x6A, 0xB3, 0x6A, 0xB4, 0x01, 0x00, 0x05, 0xFF];
-    let mut reader = BitReader::new(&octets);
-    let index = SubsetIndex::index(alloc, template(alloc, &DELAYED)?, false, &mut reader, 3)?;
-    same(&rt, reader.place(), 72);
-    same(&rt, index.count(), 3);
-    has_numbers(&rt, alloc, &index, 3, &[1, 5])?;
-    has_numbers(&rt, alloc, &index, 1, &[0])?;
-    has_numbers(&rt, alloc, &index, 2, &[2, 27315, 27316])?;
-    has_numbers(&rt, alloc, &index, 3, &[1, 5])
+    let index = indexed(&rt, alloc, &DELAYED, false, 3, &octets, 72)?;
+    has_rows(&rt, alloc, &index, DELAYED_ROWS)
+}
+
+/// Compares the numbers of both subsets of a message of these octets.
+fn serves_one(
+    rt: &impl Abort,
+    alloc: Global,
+    template: &mut DataTemplate,
+    octets: &[u8],
+    wanted: [&[u64]; 2],
+) -> Result<(), Fail> {
+    let mut reader = BitReader::new(octets);
+    let index = template.index(alloc, false, &mut reader, 2)?;
+    has_rows(rt, alloc, &index, &[(2, wanted[1]), (1, wanted[0])])
 }
 
 /// Compares the numbers of both subsets of two messages and more that one template serves, where
@@ -79,10 +122,7 @@ fn serves(
 ) -> Result<(), Fail> {
     let mut template = DataTemplate::new(template(alloc, list)?);
     for _message in 0..4 {
-        let mut reader = BitReader::new(octets);
-        let index = template.index(alloc, false, &mut reader, 2)?;
-        has_numbers(rt, alloc, &index, 2, wanted[1])?;
-        has_numbers(rt, alloc, &index, 1, wanted[0])?;
+        serves_one(rt, alloc, &mut template, octets, wanted)?;
     }
     Ok(())
 }
@@ -104,17 +144,28 @@ fn counts_are_never_laid_out(rt: HostRuntime) -> Result<(), Fail> {
     serves(&rt, alloc, &DELAYED, &octets, [&[0], &[2, 27315, 27316]])
 }
 
+const COMPRESSED_ROWS: Rows = &[(2, &[27316]), (1, &[27315]), (2, &[27316])];
+
 #[test]
 fn compressed_in_any_order(rt: HostRuntime) -> Result<(), Fail> {
     let alloc = rt.alloc();
     let octets = [0x6A, 0xB3, 0x08, 0x40];
-    let mut reader = BitReader::new(&octets);
-    let index = SubsetIndex::index(alloc, template(alloc, &TEMPERATURE)?, true, &mut reader, 2)?;
-    same(&rt, reader.place(), 26);
-    same(&rt, index.count(), 2);
-    has_numbers(&rt, alloc, &index, 2, &[27316])?;
-    has_numbers(&rt, alloc, &index, 1, &[27315])?;
-    has_numbers(&rt, alloc, &index, 2, &[27316])
+    let index = indexed(&rt, alloc, &TEMPERATURE, true, 2, &octets, 26)?;
+    has_rows(&rt, alloc, &index, COMPRESSED_ROWS)
+}
+
+/// Compares the text that the second field of a subset of an index is.
+fn has_text(
+    rt: &impl Abort,
+    alloc: Global,
+    index: &SubsetIndex,
+    number: usize,
+    wanted: &[u8],
+) -> Result<(), Fail> {
+    assert!(rt; 1 <= number && number <= index.count());
+    let subset = index.subset(alloc, number)?;
+    same_text(rt, subset.fields.get(1).ok_or("no field")?, wanted);
+    Ok(())
 }
 
 #[test]
@@ -123,28 +174,15 @@ fn texts_are_passed(rt: HostRuntime) -> Result<(), Fail> {
     // two bits, and "A ", twice: 01 01000001 00100000 10 01000010 01000011
     let list = [(0, 2, 1), (2, 8, 2), (0, 1, 11)];
     let octets = [0x50, 0x48, 0x24, 0x24, 0x30];
-    let mut reader = BitReader::new(&octets);
-    let index = SubsetIndex::index(alloc, template(alloc, &list)?, false, &mut reader, 2)?;
-    same(&rt, reader.place(), 36);
-    let texts: [&[u8]; 2] = [b"A ", b"BC"];
-    for (i, wanted) in texts.iter().enumerate() {
-        assert!(rt; i < index.count());
-        let subset = index.subset(alloc, i + 1)?;
-        let field = subset.fields.get(1).ok_or("no field")?;
-        same_text(&rt, field, wanted);
-    }
-    Ok(())
+    let index = indexed(&rt, alloc, &list, false, 2, &octets, 36)?;
+    has_text(&rt, alloc, &index, 1, b"A ")?;
+    has_text(&rt, alloc, &index, 2, b"BC")
 }
 
 #[test]
 fn no_subset(rt: HostRuntime) -> Result<(), Fail> {
-    let alloc = rt.alloc();
     for compressed in [false, true] {
-        let template = template(alloc, &TEMPERATURE)?;
-        let mut reader = BitReader::new(&[0xFF]);
-        let index = SubsetIndex::index(alloc, template, compressed, &mut reader, 0)?;
-        same(&rt, index.count(), 0);
-        same(&rt, reader.place(), 0);
+        indexed(&rt, rt.alloc(), &TEMPERATURE, compressed, 0, &[0xFF], 0)?;
     }
     Ok(())
 }
@@ -176,23 +214,24 @@ fn refused_as_reading(rt: HostRuntime) -> Result<(), Fail> {
     refuses(&rt, alloc, &[(0, 2, 1)], true, 2, &columns, fault)
 }
 
+/// 7 bits and 10 bits, three times: 94 and 578, 3 and 1000, 127 and 0; five bits are left.
+const THREE_STATIONS: [u8; 7] = [0xBD, 0x21, 0x03, 0xFA, 0x3F, 0x80, 0x1F];
+
+const STATION_ROWS: Rows = &[(2, &[3, 1000]), (3, &[127, 0]), (1, &[94, 578])];
+
 #[test]
 fn plain_subsets_without_counts(rt: HostRuntime) -> Result<(), Fail> {
     let alloc = rt.alloc();
-    // 7 bits and 10 bits, three times: 94 and 578, 3 and 1000, 127 and 0; five bits are left
-    let octets = [0xBD, 0x21, 0x03, 0xFA, 0x3F, 0x80, 0x1F];
-    let mut reader = BitReader::new(&octets);
-    let index = SubsetIndex::index(alloc, template(alloc, &STATION)?, false, &mut reader, 3)?;
-    same(&rt, reader.place(), 51);
-    same(&rt, index.count(), 3);
-    has_numbers(&rt, alloc, &index, 2, &[3, 1000])?;
-    has_numbers(&rt, alloc, &index, 3, &[127, 0])?;
-    has_numbers(&rt, alloc, &index, 1, &[94, 578])?;
+    let octets = THREE_STATIONS;
     let ends = ReadFault::DataEnds(3, 2);
     refuses(&rt, alloc, &STATION, false, 3, &octets[..6], ends)?;
     let ends = ReadFault::DataEnds(3, 1);
-    refuses(&rt, alloc, &STATION, false, 3, &octets[..5], ends)
+    refuses(&rt, alloc, &STATION, false, 3, &octets[..5], ends)?;
+    let index = indexed(&rt, alloc, &STATION, false, 3, &octets, 51)?;
+    has_rows(&rt, alloc, &index, STATION_ROWS)
 }
+
+const TURNS_ROWS: Rows = &[(1, &[27315, 27316]), (2, &[1, 2]), (3, &[65535, 0])];
 
 #[test]
 fn plain_subsets_of_turns(rt: HostRuntime) -> Result<(), Fail> {
@@ -200,56 +239,71 @@ fn plain_subsets_of_turns(rt: HostRuntime) -> Result<(), Fail> {
     let octets = [
         0x6A, 0xB3, 0x6A, 0xB4, 0x00, 0x01, 0x00, 0x02, 0xFF, 0xFF, 0x00, 0x00, 0x07,
     ];
-    let mut reader = BitReader::new(&octets);
-    let index = SubsetIndex::index(alloc, template(alloc, &TWICE)?, false, &mut reader, 3)?;
-    same(&rt, reader.place(), 96);
-    same(&rt, index.count(), 3);
-    has_numbers(&rt, alloc, &index, 1, &[27315, 27316])?;
-    has_numbers(&rt, alloc, &index, 2, &[1, 2])?;
-    has_numbers(&rt, alloc, &index, 3, &[65535, 0])?;
     let ends = ReadFault::DataEnds(3, 2);
     refuses(&rt, alloc, &TWICE, false, 3, &octets[..11], ends)?;
     let ends = ReadFault::DataEnds(4, 1);
-    refuses(&rt, alloc, &TWICE, false, 4, &octets, ends)
+    refuses(&rt, alloc, &TWICE, false, 4, &octets, ends)?;
+    let index = indexed(&rt, alloc, &TWICE, false, 3, &octets, 96)?;
+    has_rows(&rt, alloc, &index, TURNS_ROWS)
+}
+
+/// A replication, 255 turns of an operator, and one field of two bits: 512 items a subset, so that
+/// 32,768 subsets have 16,777,216.
+const MANY_ITEMS: [(u8, u8, u8); 3] = [(1, 1, 255), (2, 1, 129), (0, 2, 1)];
+
+const MANY_ITEMS_ROWS: Rows = &[(3, &[2]), (32767, &[0]), (32768, &[1])];
+
+/// The octets of 32,772 fields of two bits.
+fn many_octets(alloc: Global) -> Result<Vec<u8>, Fail> {
+    let mut octets = vec![in alloc; 0x1B; 8193]?;
+    octets[8191] = 0x01;
+    Ok(octets)
 }
 
 #[test]
 fn items_up_to_the_limit(rt: HostRuntime) -> Result<(), Fail> {
     let alloc = rt.alloc();
-    // a replication, 255 turns of an operator, and one field of two bits: 512 items a subset, so
-    // that 32,768 subsets have 16,777,216
-    let list = [(1, 1, 255), (2, 1, 129), (0, 2, 1)];
-    let mut octets = vec![in alloc; 0x1B; 8193]?;
-    octets[8191] = 0x01;
-    let mut reader = BitReader::new(octets.as_slice());
-    let index = SubsetIndex::index(alloc, template(alloc, &list)?, false, &mut reader, 32768)?;
-    same(&rt, reader.place(), 65536);
-    same(&rt, index.count(), 32768);
-    has_numbers(&rt, alloc, &index, 3, &[2])?;
-    has_numbers(&rt, alloc, &index, 32767, &[0])?;
-    has_numbers(&rt, alloc, &index, 32768, &[1])?;
+    let octets = many_octets(alloc)?;
+    let octets = octets.as_slice();
     let fault = ReadFault::TooLarge;
-    refuses(&rt, alloc, &list, false, 32769, octets.as_slice(), fault)
+    refuses(&rt, alloc, &MANY_ITEMS, false, 32769, octets, fault)?;
+    let index = indexed(&rt, alloc, &MANY_ITEMS, false, 32768, octets, 65536)?;
+    has_rows(&rt, alloc, &index, MANY_ITEMS_ROWS)
 }
 
-#[test]
-fn ten_thousand_plain_subsets(rt: HostRuntime) -> Result<(), Fail> {
-    let alloc = rt.alloc();
+/// The octets of ten thousand counts of two temperatures.
+fn ten_thousand_octets(alloc: Global) -> Result<Vec<u8>, Fail> {
     let mut plain = BitSink::new(alloc);
     for subset in 0u64..10000 {
         plain.put(8, 2)?;
         plain.put(16, subset)?;
         plain.put(16, 20000 + subset)?;
     }
-    let octets = octets_of(plain);
-    let mut reader = BitReader::new(octets.as_slice());
-    let template = template(alloc, &DELAYED)?;
-    let index = SubsetIndex::index(alloc, template, false, &mut reader, 10000)?;
-    same(&rt, index.count(), 10000);
+    Ok(octets_of(plain))
+}
+
+/// Compares the numbers of all those subsets, the last first.
+fn has_ten_thousand(rt: &impl Abort, alloc: Global, index: &SubsetIndex) -> Result<(), Fail> {
     for i in 0usize..10000 {
         let k = 9999 - i;
         let wanted = [2, k as u64, 20000 + k as u64];
-        has_numbers(&rt, alloc, &index, k + 1, &wanted)?;
+        has_numbers(rt, alloc, index, k + 1, &wanted)?;
     }
     Ok(())
+}
+
+#[test]
+fn ten_thousand_plain_subsets(rt: HostRuntime) -> Result<(), Fail> {
+    let alloc = rt.alloc();
+    let octets = ten_thousand_octets(alloc)?;
+    let index = indexed(
+        &rt,
+        alloc,
+        &DELAYED,
+        false,
+        10000,
+        octets.as_slice(),
+        400_000,
+    )?;
+    has_ten_thousand(&rt, alloc, &index)
 }
