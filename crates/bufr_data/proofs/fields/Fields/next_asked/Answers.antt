@@ -1,4 +1,4 @@
--- For `Fields::next_asked`: a field that is not asked for is let go, and is one more of those passed.
+-- For `Fields::next_asked`: a field that is not asked for is let go, one more of those passed.
 use Rattle.std.proofs.Common.{sym, ◌∙◌}
 use Rattle.bufr_data.proofs.AskedFacts.{one_passed}
 use Rattle.bufr_data.proofs.fields.Fields.next_asked.Goals as goal

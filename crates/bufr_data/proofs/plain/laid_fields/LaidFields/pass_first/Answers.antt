@@ -1,6 +1,5 @@
 -- For `LaidFields::pass_first`: the first field that is laid out is passed by its bits.
-use Rattle.std.proofs.Common.{sym, subst, ◌∙◌}
-use Rattle.bufr_data.specs.Handed.{PassesFirst}
+use Rattle.std.proofs.Common.{sym, ◌∙◌}
 use Rattle.bufr_data.proofs.PlainFacts.Layouts.{first_passed}
 use Rattle.bufr_data.proofs.plain.laid_fields.LaidFields.pass_first.Goals as goal
 
