@@ -1,6 +1,7 @@
 -- The proofs of the crate: facts of courses, fields, columns, walks and texts, for the clauses of
 -- reading and writing and for [`laws`]; those of each function stand in the folder of its file.
 pub mod AnswerFacts
+pub mod AskedFacts
 pub mod CauseFacts
 pub mod CompressedFacts
 pub mod DataFacts

@@ -1,7 +1,8 @@
 -- Fields of a subset that are handed out one at a time, in the order of the data: what is left of
 -- them is a list.
-use Rattle.std.specs.Prelude.{◌≡◌, ℕ, Bool, true, false, List, [], ◌∷◌, map, Option, Some, None}
-use Rattle.std.specs.Prelude.{IsOk, ◌<◌}
+use Rattle.std.specs.Prelude.{◌≡◌, ℕ, Bool, true, false, List, [], ◌∷◌, ◌++◌, map, Option, Some}
+use Rattle.std.specs.Prelude.{None, IsOk, ◌<◌}
+use Rattle.std.specs.List.{AllByRecursion}
 use Rattle.bufr_bits.specs.Ends.{BitPlace, left}
 use Rattle.bufr_expand.specs.declared.walk.Walk.{Walk}
 use Rattle.bufr_expand.specs.Walks as walks
@@ -19,6 +20,26 @@ use Rattle.bufr_data.specs.Steady.{IsReady}
 abbrev pub HandsOut : {A : Type 0} → List A → Option A → List A → Type 0
 HandsOut old (Some x) new = old ≡ x ∷ new
 HandsOut old None new = (old ≡ []) × (new ≡ [])
+
+-- none of the fields is asked for
+abbrev pub NoneAsked : (ℕ → Bool) → List Field → Type 0
+NoneAsked asks fields = AllByRecursion (λ f. asks f.fxy ≡ false) fields
+
+-- the first of the fields that is asked for is handed out and those behind it are left; or none is
+-- asked for, and none is left
+abbrev pub HandsOutAsked : (ℕ → Bool) → List Field → Option Field → List Field → Type 0
+HandsOutAsked asks old (Some f) new = (passed : List Field) × NoneAsked asks passed
+    × (asks f.fxy ≡ true) × (old ≡ passed ++ f ∷ new)
+HandsOutAsked asks old None new = NoneAsked asks old × (new ≡ [])
+
+-- the first of the fields is passed, which is not asked for, and the others are left
+abbrev pub PassesFirst : (ℕ → Bool) → List Field → List Field → Type 0
+PassesFirst asks old new = (f : Field) × (asks f.fxy ≡ false) × (old ≡ f ∷ new)
+
+-- fields in front are passed of which none is asked for, and the others are left
+abbrev pub PassesUnasked : (ℕ → Bool) → List Field → List Field → Type 0
+PassesUnasked asks old new =
+    (passed : List Field) × NoneAsked asks passed × (old ≡ passed ++ new)
 
 -- the fields that a walk meets in the bits that are left, till the subset is done
 abbrev pub fields_ahead : Bool → Walk → BitPlace → List Field

@@ -1,8 +1,10 @@
 //! The fields of a subset, one at a time.
 
 ghost use Rattle.std.specs.Prelude.{◌≡◌, IfOk};
-ghost use Rattle.bufr_data.specs.Handed.{HandsOut};
+ghost use Rattle.std.specs.Bool.{OnTrue, OnFalse};
+ghost use Rattle.bufr_data.specs.Handed.{HandsOut, HandsOutAsked, PassesFirst, PassesUnasked};
 
+use crate::asks::Asks;
 use crate::compressed::fields::ColumnFields;
 use crate::field::Field;
 use crate::plain::fields::PlainFields;
@@ -78,6 +80,42 @@ impl<'v> Fields<'v> {
             StandingFields::Plain(fields) => fields.next(alloc),
             StandingFields::Laid(fields) => fields.next(alloc),
             StandingFields::Compressed(fields) => fields.next(alloc),
+        }
+    }
+
+    /// The first of the fields that are left and are asked for, and then those behind it are left;
+    /// `None` where none is asked for, and then none is left. It can only run out of memory, as
+    /// `next`. What no clause says: of fields that are laid out or compressed those that are not
+    /// asked for are not built.
+    pub fn next_asked<A: Asks>(&mut self, alloc: Global) -> Result<Option<Field>, OutOfMemory>
+        ensures { IfOk result (λ found. HandsOutAsked A.is_asked self.old found self.new) }
+    {
+        self.pass_unasked::<A>();
+        while let Some(field) = self.next(alloc)? {
+            if A::asks(field.fxy) {
+                return Ok(Some(field));
+            }
+        }
+        Ok(None)
+    }
+
+    /// Passes fields in front that are not asked for: all of them, unless a walk meets them.
+    fn pass_unasked<A: Asks>(&mut self)
+        ensures { PassesUnasked A.is_asked self.old self.new }
+    {
+        while self.pass_first::<A>() {}
+    }
+
+    /// Passes the first of the fields that are left, where it is not asked for and no walk meets
+    /// it.
+    fn pass_first<A: Asks>(&mut self) -> bool
+        ensures passed { OnTrue result (PassesFirst A.is_asked self.old self.new) }
+        ensures unmoved { OnFalse result (self.new ≡ self.old) }
+    {
+        match &mut self.standing {
+            StandingFields::Plain(_) => false,
+            StandingFields::Laid(fields) => fields.pass_first::<A>(),
+            StandingFields::Compressed(fields) => fields.pass_first::<A>(),
         }
     }
 

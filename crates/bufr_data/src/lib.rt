@@ -1,6 +1,7 @@
 //! The values of fields, and the bits that subsets stand in.
 #![tactic(auto)]
 
+mod asks;
 mod compressed;
 mod data_template;
 mod digits;
@@ -21,6 +22,7 @@ mod worked_missing;
 mod worked_refusals;
 mod worked_values;
 
+pub use asks::Asks;
 pub use compressed::index::Columns;
 pub use compressed::read::read_compressed;
 pub use compressed::write::write_compressed;

@@ -27,7 +27,8 @@ use Rattle.bufr_data.specs.Plain.Layouts.{laid_course, told_laid, HaveNoCount, I
 use Rattle.bufr_bits.specs.Bits.{bits}
 use Rattle.bufr_bits.specs.Ends as ends_of
 use Rattle.bufr_bits.specs.Ends.{BitPlace}
-use Rattle.bufr_data.specs.Handed.{fields_laid, StandLaid}
+use Rattle.bufr_data.specs.Handed.{fields_laid, StandLaid, PassesFirst}
+use Rattle.bufr_data.specs.Plain.Alike.{TakesBits}
 use Rattle.bufr_data.specs.Plain.Reads.{raw_or_ends, behind_fields}
 use Rattle.bufr_data.specs.Plain.Starts.{fields_of, subset_at, BeginsAtStart}
 use Rattle.bufr_data.specs.StepLaws.{asks_field, ends_there}
@@ -210,3 +211,17 @@ first_handed (g ∷ fields) others f reader rest raw is stand read =
     field_handed (laid_course (g ∷ fields)) (laid_course others) (ends_of.left reader)
     (ends_of.left rest) (record { fxy = f.fxy; spec = f.spec; raw = raw }) stand
     (ap (λ fs. fields_at 1 1 (laid_course fs) (ends_of.left reader)) is ∙ step)
+
+-- the first that is laid out is passed with the bits that it takes, where it is not asked for
+pub first_passed : (is_asked : ℕ → Bool) (fields others : List LaidField) (f : LaidField)
+    (reader rest : BitPlace) (size : ℕ) → fields ≡ f ∷ others → StandLaid fields reader
+    → TakesBits f.spec size → size ≤ length (ends_of.left reader)
+    → ends_of.left rest ≡ drop size (ends_of.left reader) → is_asked f.fxy ≡ false
+    → StandLaid others rest
+    × PassesFirst is_asked (fields_laid fields reader) (fields_laid others rest)
+first_passed is_asked fields others f reader rest size is stand takes enough behind unasked =
+    let passed = takes.there 1 (ends_of.left reader) enough in
+    let h =
+    first_handed fields others f reader rest passed.0 is stand
+    (passed.1 ∙ ap (λ bs. Ok (passed.0, bs)) (sym behind)) in
+    (h.there, (_, unasked, h.is))

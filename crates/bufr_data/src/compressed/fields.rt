@@ -1,11 +1,13 @@
 //! The fields of a compressed subset, one at a time.
 
 ghost use Rattle.std.specs.Prelude.{◌≡◌, ◌<◌, ◌++◌, true, IfOk, IfSome, OnOk};
-ghost use Rattle.bufr_data.specs.Handed.{HandsOut, fields_there};
+ghost use Rattle.std.specs.Bool.{OnTrue, OnFalse};
+ghost use Rattle.bufr_data.specs.Handed.{HandsOut, PassesFirst, fields_there};
 ghost use Rattle.bufr_data.specs.Compressed.Indexed.{AllOpen};
 ghost use Rattle.bufr_data.specs.Plain.{plain};
 ghost use Rattle.bufr_data.specs.Subsets.{Extends, has_own_form};
 
+use crate::asks::Asks;
 use crate::compressed::index::{Place, value};
 use crate::field::Field;
 use crate::plain::write::put_raw;
@@ -72,6 +74,21 @@ impl<'v> ColumnFields<'v> {
             spec: place.spec,
             raw,
         }))
+    }
+
+    /// Passes the first of the fields that are left, where it is not asked for; it is not read.
+    pub(crate) fn pass_first<A: Asks>(&mut self) -> bool
+        ensures passed { OnTrue result (PassesFirst A.is_asked self.old self.new) }
+        ensures unmoved { OnFalse result (self.new ≡ self.old) }
+    {
+        let Some((place, others)) = self.places.split_first() else {
+            return false;
+        };
+        if A::asks(place.fxy) {
+            return false;
+        }
+        self.places = others;
+        true
     }
 
     /// Puts the bits of all fields that are left at a sink's end, as plain data have them. Each is

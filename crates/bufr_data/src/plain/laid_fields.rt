@@ -1,14 +1,17 @@
 //! The fields of a plain subset, one at a time, where they are laid out.
 
 ghost use Rattle.std.specs.Prelude.{◌≡◌, ◌≤◌, ◌*◌, length, drop, IfOk, IsOk};
+ghost use Rattle.std.specs.Bool.{OnTrue, OnFalse};
 ghost use Rattle.bufr_bits.specs.Bits.{bits};
-ghost use Rattle.bufr_data.specs.Handed.{HandsOut};
+ghost use Rattle.bufr_data.specs.Handed.{HandsOut, PassesFirst};
 ghost use Rattle.bufr_data.specs.Plain.{fields_at};
 ghost use Rattle.bufr_data.specs.Plain.Layouts.{laid_course};
 ghost use Rattle.bufr_data.specs.Plain.Starts.{fields_of};
 
+use crate::asks::Asks;
 use crate::field::Field;
 use crate::plain::layout::{LaidField, Layout};
+use crate::plain::pass::bits_of;
 use crate::plain::read::read_raw;
 use bufr_answers::OutOfMemory;
 use bufr_bits::BitReader;
@@ -72,6 +75,26 @@ impl<'v> LaidFields<'v> {
                 self.fields = &[];
                 Err(OutOfMemory)
             }
+        }
+    }
+
+    /// Passes the first of the fields that are left, where it is not asked for; it is not read.
+    pub(crate) fn pass_first<A: Asks>(&mut self) -> bool
+        ensures passed { OnTrue result (PassesFirst A.is_asked self.old self.new) }
+        ensures unmoved { OnFalse result (self.new ≡ self.old) }
+    {
+        let Some((field, others)) = self.fields.split_first() else {
+            return false;
+        };
+        if A::asks(field.fxy) {
+            return false;
+        }
+        match bits_of(field.spec) {
+            Some(bits) if self.reader.pass(bits) => {
+                self.fields = others;
+                true
+            }
+            _ => false,
         }
     }
 }

@@ -1,0 +1,18 @@
+-- For `Fields::next_asked`: a field that is not asked for is let go, one more of those passed.
+use Rattle.std.proofs.Common.{sym, ◌∙◌}
+use Rattle.bufr_data.proofs.AskedFacts.{one_passed}
+use Rattle.bufr_data.proofs.fields.Fields.next_asked.Goals as goal
+
+-- none of those that were passed is asked for
+pub loop-field-preserved-else-asks : goal.loop-field-preserved-else-asks
+loop-field-preserved-else-asks g c =
+    let first = rw c.in-Some.is at c.in_ok-field.ensures in
+    one_passed g.A.Asks.is_asked c.args.self.now c.loop-field.self c.next.new.self
+    c.loop-field.invariant (c.in-Some.field, sym c.asks.ensures ∙ c.if-asks.false, first)
+
+-- so too where it was moved on
+pub loop-field-preserved : goal.loop-field-preserved
+loop-field-preserved g c =
+    let first = rw c.in-Some.is at c.in_ok-field.ensures in
+    one_passed g.A.Asks.is_asked c.args.self.now c.loop-field.self c.next.new.self
+    c.loop-field.invariant (c.in-Some.field, sym c.asks.ensures ∙ c.if-asks.false, first)
