@@ -3,6 +3,7 @@ pub mod OnLiterals
 pub mod LowerLaws
 pub mod ListingFacts
 pub mod FrontFacts
+pub mod RowFacts
 pub mod QuoteFacts
 pub mod FieldFacts
 pub mod CourseFacts

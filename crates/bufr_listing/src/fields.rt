@@ -1,18 +1,26 @@
 //! The lines of fields.
 
-ghost use Rattle.std.specs.Prelude.{◌≡◌, ◌∷◌, ◌++◌, [], length, take, None, OnOk, OnErr};
+ghost use Rattle.std.specs.Prelude.{◌≡◌, ◌≤◌, ◌∷◌, ◌++◌, [], length, take, pos, None, OnOk};
+ghost use Rattle.std.specs.Prelude.{OnErr};
 ghost use Rattle.std.specs.List.{flat_map, list_all};
 ghost use Rattle.hex.specs.Hex.{encode_lower};
 ghost use Rattle.bufr_tables.specs.Descriptors.{six_digits};
-ghost use Rattle.bufr_data.specs.Values.{value};
+ghost use Rattle.bufr_data.specs.Values.{digits_by, sign_of, text_of, value};
 ghost use Rattle.bufr_listing.specs.Listings as listings;
 ghost use Rattle.bufr_listing.specs.Listings.{line, joined, quoted_octet, quoted};
 ghost use Rattle.bufr_listing.specs.Listings.{value_word, field_line, subset_line, subset_lines};
 
 use bufr_answers::OutOfMemory;
-use bufr_data::{Field, Raw, Subset};
+use bufr_data::{Decimal, Field, Raw, Subset};
 use bufr_tables::Fxy;
+use itoa::write_digits;
 use std::alloc::Global;
+
+/// The most digits behind a point of a number that is written into a row.
+const MOST_PLACES: i32 = 20;
+
+/// Where the line's end stands in a row, behind the digits of a number.
+const ROW_END: usize = 31;
 
 /// Adds the lines of a subset to octets. Where memory runs out they are as they were.
 pub fn push_subset(_alloc: Global, text: &mut Vec<u8>, subset: &Subset) -> Result<(), OutOfMemory>
@@ -70,7 +78,6 @@ fn push_words(text: &mut Vec<u8>, field: &Field) -> Result<(), OutOfMemory>
 {
     text.extend_from_slice(&title(field.fxy))?;
     push_value(text, field)?;
-    text.push(b'\n')?;
     Ok(())
 }
 
@@ -84,40 +91,87 @@ fn title(fxy: Fxy) -> [u8; 7]
     ]
 }
 
-/// Adds the value of a field.
+/// Adds the value of a field and the line's end.
 fn push_value(text: &mut Vec<u8>, field: &Field) -> Result<(), OutOfMemory>
-    ensures ok { OnOk result (text.new.items ≡ text.old.items ++ value_word field.now) }
+    ensures ok { OnOk result (text.new.items ≡ text.old.items ++ line (value_word field.now)) }
     ensures kept { OnErr result (take (length text.old.items) text.new.items ≡ text.old.items) }
 {
     match field.value() {
-        Some(number) => number.push_text(text),
+        Some(number) => push_number(text, number),
         None => push_other(text, field),
     }
 }
 
-/// Adds what stands for a field with no value of a number.
+/// Adds a number and the line's end.
+fn push_number(text: &mut Vec<u8>, number: Decimal) -> Result<(), OutOfMemory>
+    ensures ok { OnOk result (text.new.items ≡ text.old.items ++ line (text_of number)) }
+    ensures kept { OnErr result (take (length text.old.items) text.new.items ≡ text.old.items) }
+{
+    let size = number.units.unsigned_abs();
+    if size > u64::MAX as u128 || number.scale < 0 || number.scale > MOST_PLACES {
+        number.push_text(text)?;
+        text.push(b'\n')?;
+        return Ok(());
+    }
+    push_sign(text, number.units)?;
+    push_digits(text, size as u64, number.scale as usize)?;
+    Ok(())
+}
+
+/// Adds `-` before a negative number.
+fn push_sign(text: &mut Vec<u8>, units: i128) -> Result<(), OutOfMemory>
+    ensures ok { OnOk result (text.new.items ≡ text.old.items ++ sign_of units) }
+    ensures err { OnErr result (text.new.items ≡ text.old.items) }
+{
+    if units < 0 {
+        text.push(b'-')?;
+    }
+    Ok(())
+}
+
+/// Adds the digits of a number, with so many behind a point, and the line's end.
+fn push_digits(text: &mut Vec<u8>, size: u64, places: usize) -> Result<(), OutOfMemory>
+    requires { places ≤ 20 }
+    ensures ok { OnOk result (text.new.items
+        ≡ text.old.items ++ line (digits_by (pos places) size)) }
+    ensures kept { OnErr result (take (length text.old.items) text.new.items ≡ text.old.items) }
+{
+    let mut row = [b'0'; ROW_END + 1];
+    row[ROW_END] = b'\n';
+    let first = write_digits(size, &mut row, ROW_END);
+    if places == 0 {
+        return text.extend_from_slice(&row[first..]);
+    }
+    let point = ROW_END - places;
+    let start = first.min(point - 1);
+    text.extend_from_slice(&row[start..point])?;
+    row[point - 1] = b'.';
+    text.extend_from_slice(&row[point - 1..])
+}
+
+/// Adds what stands for a field with no value of a number, and the line's end.
 fn push_other(text: &mut Vec<u8>, field: &Field) -> Result<(), OutOfMemory>
     requires { value field.now ≡ None }
-    ensures ok { OnOk result (text.new.items ≡ text.old.items ++ value_word field.now) }
+    ensures ok { OnOk result (text.new.items ≡ text.old.items ++ line (value_word field.now)) }
     ensures kept { OnErr result (take (length text.old.items) text.new.items ≡ text.old.items) }
 {
     if field.is_missing() {
-        return text.extend_from_slice(b"missing");
+        return text.extend_from_slice(b"missing\n");
     }
     match &field.raw {
-        Raw::Number(_) => Ok(()),
+        Raw::Number(_) => text.extend_from_slice(b"\n"),
         Raw::Text(octets) => push_quoted(text, octets.as_slice()),
     }
 }
 
-/// Adds characters between quotes.
+/// Adds characters between quotes and the line's end.
 fn push_quoted(text: &mut Vec<u8>, octets: &[u8]) -> Result<(), OutOfMemory>
-    ensures ok { OnOk result (text.new.items ≡ text.old.items ++ quoted octets.now) }
+    ensures ok { OnOk result (text.new.items ≡ text.old.items ++ line (quoted octets.now)) }
     ensures kept { OnErr result (take (length text.old.items) text.new.items ≡ text.old.items) }
 {
     text.push(b'"')?;
     push_characters(text, octets)?;
-    text.push(b'"')?;
+    text.extend_from_slice(b"\"\n")?;
     Ok(())
 }
 
