@@ -1,14 +1,16 @@
 -- Keys see no more of fields than the first of each element that they ask for: for `asked_of` and
 -- `key_of_fields`.
-use Rattle.std.proofs.Common.{◌≡◌, ℕ, ◌==◌, Bool, true, false, List, ◌∷◌, ◌++◌, Option, Some}
-use Rattle.std.proofs.Common.{None, refl, sym, ap, subst, ◌∙◌}
-use Rattle.std.proofs.Common.{cond}
+use Rattle.std.proofs.Common.{◌≡◌, ℕ, ◌==◌, Bool, true, false, List, [], ◌∷◌, ◌++◌, Option, Some}
+use Rattle.std.proofs.Common.{None, Bor, refl, sym, ap, subst, ◌∙◌, append_assoc}
+use Rattle.std.proofs.Common.{cond, not}
 use Rattle.std.specs.Prelude.{◌&&◌}
-use Rattle.std.specs.Option.{is_none, option_or}
+use Rattle.std.specs.Option.{is_none, is_some, option_copied, option_or}
 use Rattle.std.proofs.lemmas.Bool.{eqb-true}
+use Rattle.std.proofs.lemmas.List.{append-nil}
 use Rattle.std.proofs.lemmas.List.Folds.{find-append}
 use Rattle.bufr_tables.specs.Descriptors.{descriptor}
 use Rattle.bufr_data.specs.declared.field.Field.{Field}
+use Rattle.bufr_data.specs.Handed.{HandsOutAsked, NoneAsked}
 use Rattle.bufr_message.specs.declared.report.ReportHead.{ReportHead}
 use Rattle.bufr_report_keys.specs.Usable.{◌>>=◌, first_field, element_number, element_text}
 use Rattle.bufr_report_keys.specs.Usable.{usable_number, usable_text}
@@ -91,8 +93,51 @@ not_wanted d kept f h asked = by_test (f.fxy == d) refl
         rw asked at there
 
 -- one that is not wanted is let go
-pub let_go : (kept rest all : List Field) (f : Field)
+let_go : (kept rest all : List Field) (f : Field)
     → (is_asked f.fxy && is_none (first_field f.fxy kept)) ≡ false
     → HaveSameFirsts (kept ++ f ∷ rest) all → HaveSameFirsts (kept ++ rest) all
 let_go kept rest all f h same d asked =
     sym (not_first d kept rest f (not_wanted d kept f h asked)) ∙ same d asked
+
+-- so are those that are not asked for
+all_let_go : (kept passed rest all : List Field) → NoneAsked is_asked passed
+    → HaveSameFirsts (kept ++ (passed ++ rest)) all → HaveSameFirsts (kept ++ rest) all
+all_let_go kept [] rest all none same = same
+all_let_go kept (f ∷ passed) rest all none same =
+    all_let_go kept passed rest all none.1
+    (let_go kept (passed ++ rest) all f (rw none.0 refl) same)
+
+-- ---- the next that is asked for
+
+-- one of its element was met before where one is found
+pub was_met : (answer : Option (Bor Field)) (found : Option Field) (none : Bool)
+    → option_copied answer ≡ found → is_some answer ≡ not none → none ≡ false
+    → is_none found ≡ false
+was_met (Some r) found none is told h = rw (sym is) refl
+was_met None found true is told h = absurd cc
+was_met None found false is told h = absurd cc
+
+module _ (kept old new all : List Field) (f : Field)
+    (handed : HandsOutAsked is_asked old (Some f) new) (same : HaveSameFirsts (kept ++ old) all) where
+  -- those before it are let go
+  next : HaveSameFirsts (kept ++ f ∷ new) all
+  next = all_let_go kept handed.0 (f ∷ new) all handed.1
+      (subst (λ l. HaveSameFirsts (kept ++ l) all) handed.3 same)
+
+  -- it is kept
+  pub one_kept : HaveSameFirsts ((kept ++ f ∷ []) ++ new) all
+  one_kept = subst (λ l. HaveSameFirsts l all) (sym (append_assoc kept (f ∷ []) new)) next
+
+  -- or let go, where one of its element was met before
+  pub one_let_go : is_none (first_field f.fxy kept) ≡ false → HaveSameFirsts (kept ++ new) all
+  one_let_go met = let_go kept new all f (rw (handed.2, met) refl) next
+
+-- where none is left, those that are kept have the first fields
+pub none_left : (kept old new all : List Field) (found : Option Field)
+    → HandsOutAsked is_asked old found new → ((f : Field) → found ≡ Some f → ⊥)
+    → HaveSameFirsts (kept ++ old) all → HaveSameFirsts kept all
+none_left kept old new all (Some f) handed none same = absurd (none f refl)
+none_left kept old new all None handed none same =
+    subst (λ l. HaveSameFirsts l all) (append-nil kept)
+    (all_let_go kept old [] all handed.0
+    (subst (λ l. HaveSameFirsts (kept ++ l) all) (sym (append-nil old)) same))

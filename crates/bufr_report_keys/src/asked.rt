@@ -1,12 +1,10 @@
 //! The fields that a key asks for, of those that are handed out one at a time.
-ghost use Rattle.std.specs.Prelude.{◌≡◌, ◌&&◌, IfOk};
-ghost use Rattle.std.specs.Option.{is_none};
-ghost use Rattle.bufr_report_keys.specs.Usable.{first_field};
+ghost use Rattle.std.specs.Prelude.{◌≡◌, IfOk};
 ghost use Rattle.bufr_report_keys.specs.Asked.{is_station, is_time, is_asked, HaveSameFirsts};
 
 use crate::usable::first_of;
 use bufr_answers::OutOfMemory;
-use bufr_data::{Field, Fields};
+use bufr_data::{Asks, Field, Fields};
 use bufr_tables::Fxy;
 use std::alloc::Global;
 
@@ -36,22 +34,25 @@ fn is_asked(fxy: Fxy) -> bool
     is_station(bits) || is_time(bits)
 }
 
-/// Whether a field of this descriptor is the first that there is of an element that a key asks for,
-/// where these came before it.
-fn is_wanted(kept: &[Field], fxy: Fxy) -> bool
-    ensures { result ≡ (is_asked fxy && is_none (first_field fxy kept.now)) }
-{
-    is_asked(fxy) && first_of(kept, fxy).is_none()
+/// The elements that a key asks for.
+struct KeyElements;
+
+impl Asks for KeyElements {
+    ghost is_asked = { is_asked };
+
+    fn asks(fxy: Fxy) -> bool {
+        is_asked(fxy)
+    }
 }
 
 /// Of each element that a key asks for the first field, in the order of the fields: 13 fields at
-/// most. The others are let go one by one. It can only run out of memory.
+/// most. The others are let go one by one, and most are not built. It can only run out of memory.
 pub(crate) fn asked_of(alloc: Global, mut fields: Fields<'_>) -> Result<Vec<Field>, OutOfMemory>
     ensures { IfOk result (λ kept. HaveSameFirsts kept.items fields.entry) }
 {
     let mut kept = Vec::with_capacity(alloc, MOST_ASKED)?;
-    while let Some(field) = fields.next(alloc)? {
-        if is_wanted(&kept, field.fxy) {
+    while let Some(field) = fields.next_asked::<KeyElements>(alloc)? {
+        if first_of(&kept, field.fxy).is_none() {
             kept.push(field)?;
         }
     }

@@ -1,10 +1,13 @@
 //! Subsets asked for one at a time.
 
+ghost use Rattle.std.specs.Prelude.{◌==◌};
+
 use super::same;
 use super::samples::{octets_of, same_numbers, same_text, template};
-use bufr_answers::Failure;
+use bufr_answers::{Failure, OutOfMemory};
 use bufr_bits::{BitReader, BitSink};
-use bufr_data::{DataTemplate, ReadFault, SubsetIndex, read_subsets};
+use bufr_data::{Asks, DataTemplate, Fields, Raw, ReadFault, SubsetIndex, read_subsets};
+use bufr_tables::Fxy;
 use std::alloc::Global;
 use std::process::Abort;
 use std::test::Fail;
@@ -16,6 +19,16 @@ const TEMPERATURE: [(u8, u8, u8); 1] = [(0, 12, 101)];
 const STATION: [(u8, u8, u8); 1] = [(3, 1, 1)];
 
 const TWICE: [(u8, u8, u8); 2] = [(1, 1, 2), (0, 12, 101)];
+
+const MIXED: [(u8, u8, u8); 7] = [
+    (0, 2, 1),
+    (0, 12, 101),
+    (2, 8, 2),
+    (0, 1, 11),
+    (0, 12, 101),
+    (0, 1, 1),
+    (0, 12, 101),
+];
 
 const DELAYED: [(u8, u8, u8); 3] = [(1, 1, 0), (0, 31, 1), (0, 12, 101)];
 
@@ -145,6 +158,79 @@ fn counts_are_never_laid_out(rt: HostRuntime) -> Result<(), Fail> {
 }
 
 const COMPRESSED_ROWS: Rows = &[(2, &[27316]), (1, &[27315]), (2, &[27316])];
+
+/// Temperatures, 0 12 101.
+struct Temperatures;
+
+impl Asks for Temperatures {
+    ghost is_asked = { λ d. d == 3173 };
+
+    fn asks(fxy: Fxy) -> bool {
+        fxy.bits() == 3173
+    }
+}
+
+/// The raw numbers of the first four temperatures that are left, or of all that there are.
+fn asked_numbers(alloc: Global, mut fields: Fields<'_>) -> Result<Vec<u64>, OutOfMemory> {
+    let mut numbers = Vec::new(alloc);
+    for _turn in 0..4 {
+        if let Some(field) = fields.next_asked::<Temperatures>(alloc)? {
+            if let Raw::Number(number) = field.raw {
+                numbers.push(number)?;
+            }
+        }
+    }
+    Ok(numbers)
+}
+
+/// Compares those of the last subset of an index.
+fn has_temperatures(
+    rt: &impl Abort,
+    alloc: Global,
+    index: &SubsetIndex,
+    wanted: &[u64],
+) -> Result<(), OutOfMemory> {
+    let last = index.count();
+    assert!(rt; 1 <= last);
+    let found = asked_numbers(alloc, index.fields(alloc, last)?)?;
+    same(rt, found.as_slice(), wanted);
+    Ok(())
+}
+
+/// Compares those of the second subset of each of two messages that one template serves, where each
+/// has these octets.
+fn serves_temperatures(
+    rt: &impl Abort,
+    alloc: Global,
+    compressed: bool,
+    octets: &[u8],
+    wanted: &[u64],
+) -> Result<(), Fail> {
+    let mut template = DataTemplate::new(template(alloc, &MIXED)?);
+    for _message in 0..2 {
+        let mut reader = BitReader::new(octets);
+        let index = template.index(alloc, compressed, &mut reader, 2)?;
+        has_temperatures(rt, alloc, &index, wanted)?;
+    }
+    Ok(())
+}
+
+#[test]
+fn temperatures_alone_are_asked_for(rt: HostRuntime) -> Result<(), Fail> {
+    let alloc = rt.alloc();
+    // two bits, 16, "A " or "BC", 16, seven and 16: 1, 27315, 5, 94 and 65535; 2, 1, 2, 3 and 0
+    let plain = [
+        0x5A, 0xAC, 0xD0, 0x48, 0x00, 0x01, 0x6F, 0x7F, 0xFF, 0xC0, 0x00, 0x28, 0x48, 0x60, 0x00,
+        0x40, 0xC0, 0x00, 0x00,
+    ];
+    serves_temperatures(&rt, alloc, false, &plain, &[1, 2, 0])?;
+    // the same places, each a minimum, NBINC, and both increments or texts where there are some
+    let columns = [
+        0x42, 0x16, 0xAB, 0x30, 0x84, 0x00, 0x00, 0x24, 0x12, 0x04, 0x24, 0x30, 0x00, 0x50, 0x2F,
+        0x00, 0x00, 0x0E, 0x11, 0x00,
+    ];
+    serves_temperatures(&rt, alloc, true, &columns, &[27316, 5, 9])
+}
 
 #[test]
 fn compressed_in_any_order(rt: HostRuntime) -> Result<(), Fail> {
