@@ -1,9 +1,24 @@
 -- Fields that are passed since they are not asked for, one after the other: for the loops of
--- `Fields::next_asked` and `Fields::pass_unasked`.
-use Rattle.std.proofs.Common.{◌≡◌, ℕ, Bool, false, List, [], ◌∷◌, ◌++◌, sym}
+-- `Fields::next_asked` and `Fields::pass_unasked`. And fields that a walk would meet, none of which
+-- is asked for: for `PlainFields::ends_unasked`.
+use Rattle.std.proofs.Common.{◌≡◌, ℕ, ◌+◌, Bool, true, false, List, [], ◌∷◌, ◌++◌, sym, subst}
+use Rattle.std.proofs.Common.{Option, Some, None, Result, Ok, Err}
 use Rattle.std.proofs.Common.{ap, ◌∙◌, append_assoc}
+use Rattle.bufr_bits.specs.Ends.{BitPlace, left}
+use Rattle.bufr_answers.specs.Answers.{◌>>=◌}
+use Rattle.bufr_expand.specs.declared.operators.Spec.{Spec}
+use Rattle.bufr_expand.specs.declared.walk.Walk.{Walk}
+use Rattle.bufr_expand.specs.declared.walk.WalkFault.{WalkFault}
+use Rattle.bufr_expand.specs.declared.walk.WalkFault.TheVariants as faults
+use Rattle.bufr_expand.specs.Asked.{TellsNone}
+use Rattle.bufr_expand.specs.Courses.{Course, ends, stops, asks}
+use Rattle.bufr_expand.specs.Walks as walks
 use Rattle.bufr_data.specs.declared.field.Field.{Field}
-use Rattle.bufr_data.specs.Handed.{PassesFirst, PassesUnasked}
+use Rattle.bufr_data.specs.declared.field.Raw.{Raw}
+use Rattle.bufr_data.specs.declared.fault.ReadFault.{ReadFault}
+use Rattle.bufr_data.specs.Handed.{NoneAsked, PassesFirst, PassesUnasked, fields_ahead}
+use Rattle.bufr_data.specs.Plain.{SubsetRead, fields_at, field_then, number_of, raw_at, stopped}
+use Rattle.bufr_data.specs.Plain.Starts.{fields_of}
 use Rattle.bufr_data.proofs.ListFacts.{all_joined}
 
 module _ (asks : ℕ → Bool) (all old new : List Field) where
@@ -16,3 +31,45 @@ module _ (asks : ℕ → Bool) (all old new : List Field) where
     so_far.2 ∙ ap (λ fields. so_far.0 ++ fields) step.2
         ∙ sym (append_assoc so_far.0 (step.0 ∷ []) new),
   )
+
+-- ---- fields that a walk would meet
+
+-- a fault has no field
+none_stopped : (P : ℕ → Bool) (fault : WalkFault) → NoneAsked P (fields_of (stopped fault))
+none_stopped P faults.TooLarge = tt
+none_stopped P (faults.EffectiveRange d) = tt
+
+-- a field in front of others
+none_in_front : (P : ℕ → Bool) (f : Field) (r : Result SubsetRead ReadFault) → P f.fxy ≡ false
+    → NoneAsked P (fields_of r)
+    → NoneAsked P (fields_of (r >>= λ found. Ok (record found { fields = f ∷ found.fields })))
+none_in_front P f (Ok found) unasked h = (unasked, h)
+none_in_front P f (Err e) unasked h = tt
+
+-- a field, if it is there, and others behind it
+none_from : (P : ℕ → Bool) (j i d : ℕ) (spec : Spec)
+    (after : ℕ → List Bool → Result SubsetRead ReadFault) (found : Option (Raw × List Bool))
+    → P d ≡ false → ((n : ℕ) (rest : List Bool) → NoneAsked P (fields_of (after n rest)))
+    → NoneAsked P (fields_of (field_then j i d spec after found))
+none_from P j i d spec after None unasked h = tt
+none_from P j i d spec after (Some x) unasked h =
+    none_in_front P (record { fxy = d; spec = spec; raw = x.0 }) (after (number_of x.0) x.1) unasked
+    (h (number_of x.0) x.1)
+
+-- the fields that a course asks for
+none_read : (P : ℕ → Bool) (j i : ℕ) (c : Course) (front : List Bool) → TellsNone P c
+    → NoneAsked P (fields_of (fields_at j i c front))
+unfolding fields_at TellsNone
+none_read P j i (ends met) front h = tt
+none_read P j i (stops met fault) front h = none_stopped P fault
+none_read P j i (asks met d spec more) front h =
+    none_from P j i d spec (λ n rest. fields_at j (i + 1) (more n) rest) (raw_at spec front) h.0
+    (λ n rest. none_read P j (i + 1) (more n) rest (h.1 n))
+
+-- so where a walk tells of none, none of the fields ahead is asked for
+pub none_ahead : (P : ℕ → Bool) (done : Bool) (w : Walk) (r : BitPlace) (fields : List Field)
+    → done ≡ false → fields_ahead done w r ≡ fields → TellsNone P (walks.left w)
+    → NoneAsked P fields
+none_ahead P true w r fields e view h = absurd cc
+none_ahead P false w r fields e view h =
+    subst (NoneAsked P) view (none_read P 1 1 (walks.left w) (left r) h)

@@ -1,5 +1,6 @@
 -- What writing leaves at a sink's end.
-use Rattle.std.specs.Prelude.{◌≡◌, ℕ, Bool, true, false, List, ◌++◌, Result, Ok, Err}
+use Rattle.std.specs.Prelude.{◌≡◌, ℕ, ◌-◌, ◌%◌, Bool, true, false, List, ◌++◌, length, replicate}
+use Rattle.std.specs.Prelude.{Result, Ok, Err}
 use Rattle.bufr_answers.specs.declared.failure.Failure.{Failure}
 use Rattle.bufr_answers.specs.Answers.{Fails}
 use Rattle.std.specs.List.{list_all}
@@ -13,6 +14,10 @@ use Rattle.bufr_data.specs.Plain.{has_form_by}
 -- bits of which others are the front
 abbrev pub Extends : List Bool → List Bool → Type 0
 Extends old new = (added : List Bool) × (new ≡ old ++ added)
+
+-- bits, and zero bits behind them to an octet's end
+abbrev pub filled : List Bool → List Bool
+filled data_bits = data_bits ++ replicate ((8 - length data_bits % 8) % 8) false
 
 -- nothing, where field i of subset j fits
 abbrev pub fits_or : ℕ → ℕ → Bool → Result (Unit {0}) WriteFault

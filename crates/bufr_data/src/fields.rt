@@ -1,15 +1,15 @@
 //! The fields of a subset, one at a time.
 
-ghost use Rattle.std.specs.Prelude.{◌≡◌, IfOk};
+ghost use Rattle.std.specs.Prelude.{◌≡◌, [], IfOk};
 ghost use Rattle.std.specs.Bool.{OnTrue, OnFalse};
-ghost use Rattle.bufr_data.specs.Handed.{HandsOut, HandsOutAsked, PassesFirst, PassesUnasked};
+ghost use Rattle.bufr_data.specs.Handed.{HandsOut, HandsOutAsked, NoneAsked, PassesFirst, PassesUnasked};
 
-use crate::asks::Asks;
 use crate::compressed::fields::ColumnFields;
 use crate::field::Field;
 use crate::plain::fields::PlainFields;
 use crate::plain::laid_fields::LaidFields;
 use bufr_answers::{Items, OutOfMemory};
+use bufr_expand::Asks;
 use std::alloc::Global;
 use std::marker::Model;
 
@@ -86,11 +86,15 @@ impl<'v> Fields<'v> {
     /// The first of the fields that are left and are asked for, and then those behind it are left;
     /// `None` where none is asked for, and then none is left. It can only run out of memory, as
     /// `next`. What no clause says: of fields that are laid out or compressed those that are not
-    /// asked for are not built.
+    /// asked for are not built; of those that a walk meets none is met behind the last that can be
+    /// asked for, where the template tells which that is.
     pub fn next_asked<A: Asks>(&mut self, alloc: Global) -> Result<Option<Field>, OutOfMemory>
         ensures { IfOk result (λ found. HandsOutAsked A.is_asked self.old found self.new) }
     {
         self.pass_unasked::<A>();
+        if self.ends_unasked::<A>() {
+            return Ok(None);
+        }
         while let Some(field) = self.next(alloc)? {
             if A::asks(field.fxy) {
                 return Ok(Some(field));
@@ -116,6 +120,17 @@ impl<'v> Fields<'v> {
             StandingFields::Plain(_) => false,
             StandingFields::Laid(fields) => fields.pass_first::<A>(),
             StandingFields::Compressed(fields) => fields.pass_first::<A>(),
+        }
+    }
+
+    /// Lets all fields go that are left, where a walk meets them and tells that none is asked for.
+    fn ends_unasked<A: Asks>(&mut self) -> bool
+        ensures ended { OnTrue result (NoneAsked A.is_asked self.old × (self.new ≡ [])) }
+        ensures unmoved { OnFalse result (self.new ≡ self.old) }
+    {
+        match &mut self.standing {
+            StandingFields::Plain(fields) => fields.ends_unasked::<A>(),
+            StandingFields::Laid(_) | StandingFields::Compressed(_) => false,
         }
     }
 

@@ -1,7 +1,6 @@
 //! The values of fields, and the bits that subsets stand in.
 #![tactic(auto)]
 
-mod asks;
 mod compressed;
 mod data_template;
 mod digits;
@@ -22,7 +21,7 @@ mod worked_missing;
 mod worked_refusals;
 mod worked_values;
 
-pub use asks::Asks;
+pub use bufr_expand::Asks;
 pub use compressed::index::Columns;
 pub use compressed::read::read_compressed;
 pub use compressed::write::write_compressed;

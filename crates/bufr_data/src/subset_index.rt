@@ -2,6 +2,7 @@
 
 ghost use Rattle.std.specs.Prelude.{◌≡◌, ◌-◌, ◌≤◌, length, slice_get, Bool, List, Some, IfOk};
 ghost use Rattle.std.specs.Prelude.{◌++◌, IfSome, OnErr, OnOk};
+ghost use Rattle.bufr_bits.specs.Bits.{bits};
 ghost use Rattle.bufr_bits.specs.Ends.{left};
 ghost use Rattle.bufr_answers.specs.Answers.{Gives};
 ghost use Rattle.bufr_data.specs.declared.field.Subset.{Subset};
@@ -10,7 +11,7 @@ ghost use Rattle.bufr_data.specs.Plain.{plain};
 ghost use Rattle.bufr_data.specs.Plain.Alike.{IsAlike};
 ghost use Rattle.bufr_data.specs.Plain.Layouts.{IsLaid};
 ghost use Rattle.bufr_data.specs.Shown.{shown};
-ghost use Rattle.bufr_data.specs.Subsets.{Extends};
+ghost use Rattle.bufr_data.specs.Subsets.{Extends, filled};
 
 use crate::compressed::index::Columns;
 use crate::fault::ReadFault;
@@ -146,6 +147,21 @@ impl<'a> SubsetIndex<'a> {
                 let _count = columns.count();
                 columns.put(alloc, number as u16, sink)
             }
+        }
+    }
+
+    /// The octets that the bits of the subset of this number, from 1, as plain data have them, are
+    /// with zero bits behind them to an octet's end, where they stand so in the message: else they
+    /// have to be put. No memory is taken.
+    pub fn lent(&self, number: usize) -> Option<&'a [u8]>
+        requires first { 1 ≤ number }
+        requires last { number ≤ length self.now }
+        ensures { IfSome result (λ lent. IfSome (slice_get self.now (number - 1)) (λ s.
+            bits lent.now ≡ filled (plain s.fields))) }
+    {
+        match &self.standing {
+            DataIndex::Plain(subsets) => subsets.lent(number),
+            DataIndex::Compressed(_) => None,
         }
     }
 }

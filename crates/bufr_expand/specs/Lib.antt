@@ -1,3 +1,4 @@
+pub mod Asked
 pub mod StepAnswers
 pub mod NextFields
 pub mod Courses

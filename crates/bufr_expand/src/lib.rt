@@ -1,6 +1,7 @@
 //! Templates: descriptors expanded by the tables, and the fields that they ask for.
 #![tactic(auto)]
 
+mod asks;
 mod expand;
 pub mod laws;
 mod limits;
@@ -15,6 +16,7 @@ mod tests;
 mod walk;
 mod worked_values;
 
+pub use asks::Asks;
 pub use limits::{
     MOST_FACTOR_BITS, MOST_ITEMS, MOST_LEVELS, MOST_NODES, MOST_NUMBER_BITS, MOST_REFERENCE,
     MOST_SCALE, MOST_TEXT_BITS,

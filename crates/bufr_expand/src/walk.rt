@@ -6,6 +6,7 @@ ghost use Rattle.bufr_expand.specs.Places.{AreOpen, AreOpen-prop, in_front, repl
 ghost use Rattle.bufr_expand.specs.Places.{awaited};
 ghost use Rattle.bufr_expand.specs.OperatorsInForce.{factor_spec};
 
+use crate::asks::{Asks, tell_none};
 use crate::limits::MOST_ITEMS;
 use crate::node::Node;
 use crate::operators::{Operators, Spec, untouched};
@@ -69,6 +70,8 @@ impl<'t> Walk<'t> {
     ghost use Rattle.bufr_expand.specs.Walks.{left, waits, items_met, steps_left, going, told};
     ghost use Rattle.bufr_expand.specs.Walks.{turns_then, behind_all, Goes, Counted, IsBelowCount};
     ghost use Rattle.bufr_expand.specs.Walks.{tree_between};
+    ghost use Rattle.std.specs.Bool.{OnTrue};
+    ghost use Rattle.bufr_expand.specs.Asked.{TellsNone};
     ghost use Rattle.bufr_expand.specs.Runs.{PassesRun, TurnsRun, IsInnermost};
     ghost use Rattle.bufr_expand.specs.declared.standing.State.TheVariants.{Going};
 
@@ -162,6 +165,19 @@ impl<'t> Walk<'t> {
     {
         let met = self.items;
         met
+    }
+
+    /// Whether no field that is left is asked for, so far as the nodes ahead tell: no replication is
+    /// open, and none of them is such a field. No memory is taken.
+    pub fn tells_no_more<A: Asks>(&self) -> bool
+        ensures { OnTrue result (TellsNone A.is_asked (left self.now)) }
+    {
+        match self.state {
+            State::Going if self.loops.len() == 0 && self.place <= self.stop => {
+                tell_none::<A>(&self.nodes[self.place..self.stop])
+            }
+            _ => false,
+        }
     }
 
     /// Passes a node, a turn or the end of a replication, or answers.

@@ -159,8 +159,8 @@ impl<'a> View<'a> {
     }
 
     /// The canonical message of the report of this number, from 1: what `canonical_of_read` answers
-    /// of it, but no subset is built. Of plain data the bits are copied as they stand. It can only
-    /// run out of memory.
+    /// of it, but no subset is built. Of plain data the bits are copied as they stand, at once where
+    /// they stand in whole octets. It can only run out of memory.
     pub fn canonical(&self, alloc: Global, number: usize) -> Result<Option<Vec<u8>>, OutOfMemory>
         requires first { 1 ≤ number }
         requires last { number ≤ length self.now.message.subsets }
@@ -168,15 +168,13 @@ impl<'a> View<'a> {
             option_map spelt_alone (slice_get (reports_of self.now.message) (number - 1))
             ≡ Some (option_map (λ v. v.items) found)) }
     {
-        let contents = contents_alone(alloc, &self.subsets, number)?;
         let head = ReportHead::of_head(&self.head);
-        enclosed_alone(
-            alloc,
-            &head,
-            self.observed,
-            self.descriptors.as_slice(),
-            &contents,
-        )
+        let descriptors = self.descriptors.as_slice();
+        if let Some(contents) = self.subsets.lent(number) {
+            return enclosed_alone(alloc, &head, self.observed, descriptors, contents);
+        }
+        let contents = contents_alone(alloc, &self.subsets, number)?;
+        enclosed_alone(alloc, &head, self.observed, descriptors, &contents)
     }
 }
 

@@ -1,15 +1,20 @@
--- Bits that are copied, whole octets first: for `copy_bits` and `PlainSubsets::put`.
-use Rattle.std.proofs.Common.{◌≡◌, ℕ, ◌-◌, ◌*◌, ◌/◌, ◌%◌, ◌≤◌, Bool, List, ◌++◌, length, take}
+-- Bits that are copied, whole octets first: for `copy_bits` and `PlainSubsets::put`; and bits whose
+-- octets are lent: for `lent_octets`.
+use Rattle.std.proofs.Common.{◌≡◌, ℕ, zero, suc, ◌+◌, ◌-◌, ◌*◌, ◌/◌, ◌%◌, ◌^◌, ◌<◌, ◌≤◌, Bool}
+use Rattle.std.proofs.Common.{false, List, ◌++◌, length, take, replicate, subst}
 use Rattle.std.proofs.Common.{drop, Some, None, Result, Ok, Err, refl, sym, ap, ◌∙◌, arith}
 use Rattle.std.proofs.Common.{append_assoc, length-append}
 use Rattle.std.specs.Prelude.{OnOk}
 use Rattle.std.proofs.lemmas.Bool.{le-ltb}
-use Rattle.std.proofs.lemmas.List.{length-drop}
-use Rattle.std.proofs.Math.Seq.{take-append_seam}
+use Rattle.std.proofs.lemmas.List.{length-drop, length-replicate, length-take-le, drop-drop}
+use Rattle.std.proofs.lemmas.List.{take-append-drop, take_at}
+use Rattle.std.proofs.Math.Seq.{take-append_seam, drop-append_seam}
 use Rattle.bufr_bits.specs.Bits.{bin, bits, number, numbers, number_at, numbers_at, octets_at}
-use Rattle.bufr_bits.specs.BitLaws.{length-bin, number_at_is}
+use Rattle.bufr_bits.specs.BitLaws.{length-bin, number-bin, number_at_is, number_below}
+use Rattle.bufr_bits.specs.BitLaws.{number_same, small_mod}
 use Rattle.bufr_bits.specs.Ends.{BitPlace, left}
-use Rattle.bufr_bits.specs.OctetLaws.{length-bits, octets_at_is}
+use Rattle.bufr_bits.specs.OctetLaws.{length-bits, bits-append, octets_at_is}
+use Rattle.bufr_data.specs.Subsets.{filled}
 
 -- octets and a number behind them are the front of the bits that they were taken of
 pub copied : (n w r last : ℕ) (octets : List ℕ) (old mid new front behind rest : List Bool)
@@ -71,3 +76,90 @@ others_long n octets front rest room taken =
 pub ok_then : {A E P Q : Type 0} (r : Result A E) → (P → Q) → OnOk r P → OnOk r Q
 ok_then (Ok x) f p = f p
 ok_then (Err e) f p = p
+
+-- ---- octets that are lent
+
+-- zero bits spell zero
+zeros : (n : ℕ) → number (replicate n false) ≡ 0
+unfolding number
+zeros zero = refl
+zeros (suc n) = omega (arith, zeros n)
+
+-- zero in a field is zero bits
+bin_zero : (w : ℕ) → bin w 0 ≡ replicate w false
+bin_zero w =
+    let below =
+    subst (λ k. number (bin w 0) < 2 ^ k) (length-bin w 0) (number_below (bin w 0)) in
+    number_same (bin w 0) (replicate w false) (length-bin w 0 ∙ sym (length-replicate w false))
+    (number-bin w 0 ∙ small_mod 0 (2 ^ w) (omega (arith, below)) ∙ sym (zeros w))
+
+-- the bits of some octets behind others
+bits_there : (n k : ℕ) (octets : List ℕ) → n + k ≤ length octets
+    → bits (take k (drop n octets)) ≡ take (8 * k) (drop (8 * n) (bits octets))
+bits_there n k octets room =
+    let behind = drop n octets in
+    let long : k ≤ length behind = omega (arith, length-drop n octets) in
+    let fore : length (bits (take n octets)) ≡ 8 * n =
+    length-bits (take n octets) ∙ ap (λ z. 8 * z) (length-take-le n octets (omega arith)) in
+    let own : length (bits (take k behind)) ≡ 8 * k =
+    length-bits (take k behind) ∙ ap (λ z. 8 * z) (length-take-le k behind long) in
+    let all : bits octets ≡ bits (take n octets) ++ bits behind =
+    ap bits (sym (take-append-drop n octets)) ∙ bits-append (take n octets) behind in
+    let there : drop (8 * n) (bits octets) ≡ bits behind =
+    (λ i. drop (sym fore i) (all i)) ∙ drop-append_seam (bits (take n octets)) (bits behind) in
+    let parted : bits behind ≡ bits (take k behind) ++ bits (drop k behind) =
+    ap bits (sym (take-append-drop k behind)) ∙ bits-append (take k behind) (drop k behind) in
+    sym (ap (take (8 * k)) (there ∙ parted) ∙ take_at (bits (take k behind)) _ (8 * k) own)
+
+-- bits with a field of zeros behind them, which reaches so far
+fore_filled : (count free : ℕ) (front rest : List Bool) → count ≤ length front
+    → free ≡ (8 - count % 8) % 8 → drop count front ≡ bin free 0 ++ rest
+    → take (count + free) front ≡ filled (take count front)
+fore_filled count free front rest room is behind =
+    let long : length (take count front) ≡ count = length-take-le count front room in
+    let own = take count front ++ bin free 0 in
+    let parted : front ≡ own ++ rest =
+    sym (take-append-drop count front) ∙ ap (λ xs. take count front ++ xs) behind
+    ∙ sym (append_assoc (take count front) (bin free 0) rest) in
+    let size : length own ≡ count + free =
+    length-append (take count front) (bin free 0) ∙ (λ i. long i + length-bin free 0 i) in
+    let few : free ≡ (8 - length (take count front) % 8) % 8 =
+    is ∙ ap (λ z. (8 - z % 8) % 8) (sym long) in
+    ap (take (count + free)) parted ∙ take_at own rest (count + free) size
+    ∙ ap (λ xs. take count front ++ xs) (bin_zero free ∙ ap (λ z. replicate z false) few)
+
+-- the octets in which bits from one up to another stand, where they begin with an octet and a field
+-- of zeros is behind them to an octet's end
+pub lent_there : (octets : List ℕ) (from end n : ℕ) (rest : List Bool) → from ≤ end
+    → end ≤ 8 * length octets → from % 8 ≡ 0 → n ≡ 0
+    → number_at ((8 - end % 8) % 8) (drop end (bits octets)) ≡ Some (n, rest)
+    → bits (take ((end + (8 - end % 8) % 8) / 8 - from / 8) (drop (from / 8) octets))
+    ≡ filled (take (end - from) (drop from (bits octets)))
+lent_there octets from end n rest onward inside edge none taken =
+    let free = (8 - end % 8) % 8 in
+    let first = from / 8 in
+    let k = (end + free) / 8 - first in
+    let count = end - from in
+    let front = drop from (bits octets) in
+    let is : drop end (bits octets) ≡ bin free 0 ++ rest =
+    (number_at_is free n (drop end (bits octets)) rest taken).0
+    ∙ ap (λ z. bin free z ++ rest) none in
+    let room : end + free ≤ 8 * length octets = omega (
+      arith,
+      ap length is,
+      length-drop end (bits octets),
+      length-bits octets,
+      length-append (bin free 0) rest,
+      length-bin free 0,
+      inside,
+    ) in
+    let whole : 8 * k ≡ count + free = omega (arith, edge, onward) in
+    let begins : 8 * first ≡ from = omega (arith, edge) in
+    let fits : first + k ≤ length octets = omega (arith, edge, onward, room) in
+    let long : count ≤ length front =
+    omega (arith, length-drop from (bits octets), length-bits octets, onward, inside) in
+    let few : free ≡ (8 - count % 8) % 8 = omega (arith, edge, onward) in
+    let sum : from + count ≡ end = omega (arith, onward) in
+    bits_there first k octets fits ∙ (λ i. take (whole i) (drop (begins i) (bits octets)))
+    ∙ fore_filled count free front rest long few
+    (drop-drop count from (bits octets) ∙ ap (λ z. drop z (bits octets)) sum ∙ is)

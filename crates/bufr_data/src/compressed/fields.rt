@@ -7,12 +7,12 @@ ghost use Rattle.bufr_data.specs.Compressed.Indexed.{AllOpen};
 ghost use Rattle.bufr_data.specs.Plain.{plain};
 ghost use Rattle.bufr_data.specs.Subsets.{Extends, has_own_form};
 
-use crate::asks::Asks;
 use crate::compressed::index::{Place, value};
 use crate::field::Field;
 use crate::plain::write::put_raw;
 use bufr_answers::OutOfMemory;
 use bufr_bits::BitSink;
+use bufr_expand::Asks;
 use std::alloc::Global;
 use std::marker::Model;
 

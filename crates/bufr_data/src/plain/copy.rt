@@ -1,8 +1,8 @@
-//! Bits that are copied as they stand.
+//! Bits that are copied as they stand, or lent.
 
-ghost use Rattle.std.specs.Prelude.{◌≡◌, ◌-◌, ◌*◌, ◌≤◌, ◌++◌, drop, length, take, OnOk};
+ghost use Rattle.std.specs.Prelude.{◌≡◌, ◌-◌, ◌*◌, ◌≤◌, ◌++◌, drop, length, take, IfSome, OnOk};
 ghost use Rattle.bufr_bits.specs.Bits.{bits};
-ghost use Rattle.bufr_data.specs.Subsets.{Extends};
+ghost use Rattle.bufr_data.specs.Subsets.{Extends, filled};
 
 use bufr_answers::OutOfMemory;
 use bufr_bits::{BitReader, BitSink};
@@ -35,4 +35,27 @@ pub(crate) fn copy_bits(
         unreachable!();
     };
     sink.put(width, last)
+}
+
+/// The octets that the bits from one up to another are, where they begin with an octet and have
+/// zero bits behind them to an octet's end. No memory is taken.
+pub(crate) fn lent_octets(octets: &[u8], from: u128, end: u128) -> Option<&[u8]>
+    requires onward { from ≤ end }
+    requires inside { end ≤ 8 * length octets.now }
+    ensures { IfSome result (λ lent. bits lent.now
+        ≡ filled (take (end - from) (drop from (bits octets.now)))) }
+{
+    let _count = octets.len();
+    if from % 8 != 0 {
+        return None;
+    }
+    let free = (8 - end % 8) % 8;
+    match BitReader::at(octets, end).take(free as u32) {
+        Some(0) => {
+            let first = (from / 8) as usize;
+            let last = ((end + free) / 8) as usize;
+            Some(&octets[first..last])
+        }
+        _ => None,
+    }
 }

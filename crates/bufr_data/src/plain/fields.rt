@@ -1,10 +1,11 @@
 //! The fields of a plain subset, one at a time.
 
-ghost use Rattle.std.specs.Prelude.{◌≡◌, ◌≤◌, ◌*◌, length, Some, IfOk, IsOk};
+ghost use Rattle.std.specs.Prelude.{◌≡◌, ◌≤◌, ◌*◌, [], length, Some, IfOk, IsOk};
+ghost use Rattle.std.specs.Bool.{OnTrue, OnFalse};
 ghost use Rattle.bufr_bits.specs.Bits.{bits};
 ghost use Rattle.bufr_expand.specs.Courses.{course};
 ghost use Rattle.bufr_data.specs.declared.plain.index.SubsetStart.{SubsetStart as Start};
-ghost use Rattle.bufr_data.specs.Handed.{HandsOut};
+ghost use Rattle.bufr_data.specs.Handed.{HandsOut, NoneAsked};
 ghost use Rattle.bufr_data.specs.Plain.Starts.{BeginsAtStart, subset_at, fields_of};
 
 use crate::field::Field;
@@ -12,7 +13,7 @@ use crate::plain::index::SubsetStart;
 use crate::plain::read::read_field;
 use bufr_answers::OutOfMemory;
 use bufr_bits::BitReader;
-use bufr_expand::{Template, Walk};
+use bufr_expand::{Asks, Template, Walk};
 use std::alloc::Global;
 use std::marker::Model;
 
@@ -76,5 +77,17 @@ impl<'v> PlainFields<'v> {
                 Err(OutOfMemory)
             }
         }
+    }
+
+    /// Lets all fields go that are left, where the walk tells that none is asked for.
+    pub(crate) fn ends_unasked<A: Asks>(&mut self) -> bool
+        ensures ended { OnTrue result (NoneAsked A.is_asked self.old × (self.new ≡ [])) }
+        ensures unmoved { OnFalse result (self.new ≡ self.old) }
+    {
+        if !self.done && self.walk.tells_no_more::<A>() {
+            self.done = true;
+            return true;
+        }
+        false
     }
 }

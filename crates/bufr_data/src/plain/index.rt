@@ -2,6 +2,7 @@
 
 ghost use Rattle.std.specs.Prelude.{◌≡◌, ◌+◌, ◌-◌, ◌*◌, ◌^◌, ◌<◌, ◌≤◌, ◌++◌, map, length, slice_get, false, Bool, List};
 ghost use Rattle.std.specs.Prelude.{Some, IfOk, IfErr, IfSome, OnOk};
+ghost use Rattle.bufr_bits.specs.Bits.{bits};
 ghost use Rattle.bufr_bits.specs.Ends.{left};
 ghost use Rattle.bufr_answers.specs.Answers.{Gives, Fails};
 ghost use Rattle.bufr_expand.specs.Courses.{course};
@@ -11,12 +12,12 @@ ghost use Rattle.bufr_data.specs.Plain.Layouts.{IsLaid};
 ghost use Rattle.bufr_data.specs.Data.{subsets_in};
 ghost use Rattle.bufr_data.specs.Plain.{fields_at, plain};
 ghost use Rattle.bufr_data.specs.Plain.Starts.{PassesSubset, AllBegin, subset_from};
-ghost use Rattle.bufr_data.specs.Subsets.{Extends};
+ghost use Rattle.bufr_data.specs.Subsets.{Extends, filled};
 
 use crate::fault::ReadFault;
 use crate::fields::Fields;
 use crate::plain::alike::Alike;
-use crate::plain::copy::copy_bits;
+use crate::plain::copy::{copy_bits, lent_octets};
 use crate::plain::fields::PlainFields;
 use crate::plain::laid_fields::LaidFields;
 use crate::plain::layout::Layout;
@@ -139,6 +140,18 @@ impl<'a> PlainSubsets<'a> {
     {
         let start = self.starts.at(number);
         copy_bits(alloc, self.octets, start.bit, start.end, sink)
+    }
+
+    /// The octets that the bits of the subset of this number, from 1, are with zero bits behind them
+    /// to an octet's end, where they stand so. No memory is taken.
+    pub(crate) fn lent(&self, number: usize) -> Option<&'a [u8]>
+        requires first { 1 ≤ number }
+        requires last { number ≤ length self.now }
+        ensures { IfSome result (λ lent. IfSome (slice_get self.now (number - 1)) (λ s.
+            bits lent.now ≡ filled (plain s.fields))) }
+    {
+        let start = self.starts.at(number);
+        lent_octets(self.octets, start.bit, start.end)
     }
 }
 

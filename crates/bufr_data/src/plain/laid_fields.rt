@@ -8,13 +8,13 @@ ghost use Rattle.bufr_data.specs.Plain.{fields_at};
 ghost use Rattle.bufr_data.specs.Plain.Layouts.{laid_course};
 ghost use Rattle.bufr_data.specs.Plain.Starts.{fields_of};
 
-use crate::asks::Asks;
 use crate::field::Field;
 use crate::plain::layout::{LaidField, Layout};
 use crate::plain::pass::bits_of;
 use crate::plain::read::read_raw;
 use bufr_answers::OutOfMemory;
 use bufr_bits::BitReader;
+use bufr_expand::Asks;
 use std::alloc::Global;
 use std::marker::Model;
 

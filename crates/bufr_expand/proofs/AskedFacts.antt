@@ -1,0 +1,153 @@
+-- Where no node ahead is a field that is asked for, the course has none: for
+-- `Walk::tells_no_more`.
+use Rattle.std.proofs.Common.{◌≡◌, ℕ, zero, suc, ◌+◌, ◌-◌, ◌<◌, ◌&&◌, Bool, true, false, List, [], ◌∷◌}
+use Rattle.std.proofs.Common.{take, drop, Option, Some, None, not, sym, subst, refl, ltb}
+use Rattle.std.specs.Bool.{OnTrue}
+use Rattle.std.specs.List.{list_all}
+use Rattle.std.proofs.lemmas.Bool.{cond_both}
+use Rattle.bufr_expand.specs.declared.node.Node.{Node}
+use Rattle.bufr_expand.specs.declared.node.Node.TheVariants as nodes
+use Rattle.bufr_expand.specs.declared.operators.Operators.{Operators}
+use Rattle.bufr_expand.specs.declared.operators.Spec.{Spec}
+use Rattle.bufr_expand.specs.declared.standing.State.TheVariants as states
+use Rattle.bufr_expand.specs.declared.walk.Walk.{Walk}
+use Rattle.bufr_expand.specs.declared.walk.WalkFault.TheVariants.{TooLarge}
+use Rattle.bufr_expand.specs.Limits.{most_items}
+use Rattle.bufr_expand.specs.Asked.{tells, TellsNone}
+use Rattle.bufr_expand.specs.OperatorsInForce.{in_force_after, effective, untouched}
+use Rattle.bufr_expand.specs.Trees as trees
+use Rattle.bufr_expand.specs.Trees.{tree_within, tree_of}
+use Rattle.bufr_expand.specs.Courses.{Course, ends, stops, asks, Then, item, asks_if, turns}
+use Rattle.bufr_expand.specs.Courses.{course_then}
+use Rattle.bufr_expand.specs.Walks.{left, behind}
+use Rattle.bufr_expand.proofs.PassFacts.{left_going}
+
+-- none of some nodes is a field that is asked for
+abbrev none : (ℕ → Bool) → List Node → Bool
+none P ns = list_all (λ node. not (tells P node)) ns
+
+-- no node of a tree is one
+HasNone : (ℕ → Bool) → trees.Tree → Type 0
+HasNone P trees.done = Unit {0}
+HasNone P (trees.element d row rest) = (P d ≡ false) × HasNone P rest
+HasNone P (trees.untouched d row rest) = (P d ≡ false) × HasNone P rest
+HasNone P (trees.operator d rest) = HasNone P rest
+HasNone P (trees.repeated times body rest) = HasNone P body × HasNone P rest
+HasNone P (trees.delayed d row body rest) = (P d ≡ false) × HasNone P body × HasNone P rest
+
+-- ---- nodes
+
+-- what is not so
+not_so : (b rest : Bool) → (not b && rest) ≡ true → (b ≡ false) × (rest ≡ true)
+not_so false rest e = (refl, e)
+not_so true rest e = absurd cc
+
+-- nor is one of the first nodes
+none_first : (P : ℕ → Bool) (k : ℕ) (ns : List Node) → none P ns ≡ true → none P (take k ns) ≡ true
+none_first P zero ns e = refl
+none_first P (suc k) [] e = refl
+none_first P (suc k) (n ∷ ns) e =
+    let both = not_so (tells P n) (none P ns) e in
+    rw both.0 (none_first P k ns both.1)
+
+-- nor of those behind them
+none_behind : (P : ℕ → Bool) (k : ℕ) (ns : List Node) → none P ns ≡ true → none P (drop k ns) ≡ true
+none_behind P zero ns e = e
+none_behind P (suc k) [] e = refl
+none_behind P (suc k) (n ∷ ns) e = none_behind P k ns (not_so (tells P n) (none P ns) e).1
+
+-- nor of their tree
+none_within : (P : ℕ → Bool) (k : ℕ) (ns : List Node) → none P ns ≡ true
+    → HasNone P (tree_within k ns)
+unfolding tree_within HasNone
+none_within P zero ns e = tt
+none_within P (suc k) [] e = tt
+none_within P (suc k) (nodes.Element d row ∷ ns) e =
+    let both = not_so (P d) (none P ns) e in (both.0, none_within P k ns both.1)
+none_within P (suc k) (nodes.Untouched d row ∷ ns) e =
+    let both = not_so (P d) (none P ns) e in (both.0, none_within P k ns both.1)
+none_within P (suc k) (nodes.Operator d ∷ ns) e = none_within P k ns e
+none_within P (suc k) (nodes.Repeated times len ∷ ns) e =
+    (none_within P k (take len ns) (none_first P len ns e),
+      none_within P k (drop len ns) (none_behind P len ns e))
+none_within P (suc k) (nodes.Delayed d row len ∷ ns) e =
+    let both = not_so (P d) (none P ns) e in (
+      both.0,
+      none_within P k (take len ns) (none_first P len ns both.1),
+      none_within P k (drop len ns) (none_behind P len ns both.1),
+    )
+
+-- ---- courses
+
+-- what comes after some nodes has none
+abbrev NoneThen : (ℕ → Bool) → Then → Type 0
+NoneThen P after = (q : Operators) (used : ℕ) → TellsNone P (after q used)
+
+-- one more item
+none_item : (P : ℕ → Bool) (used : ℕ) (c : Course) → TellsNone P c → TellsNone P (item used c)
+unfolding TellsNone
+none_item P used c s =
+    cond_both (ltb used most_items) c (stops used TooLarge) (TellsNone P) (λ e. s) (λ e. tt)
+
+-- a field that is not asked for
+none_field : (P : ℕ → Bool) (met d : ℕ) (spec : Option Spec) (c : Course) → P d ≡ false
+    → TellsNone P c → TellsNone P (asks_if spec met d (λ n. c))
+unfolding TellsNone
+none_field P met d None c unasked s = tt
+none_field P met d (Some spec) c unasked s = (unasked, λ n. s)
+
+-- turns of a body
+none_turns : (P : ℕ → Bool) (n : ℕ) (body : Operators → ℕ → Then → Course)
+    → ((q : Operators) (used : ℕ) (after : Then) → NoneThen P after
+    → TellsNone P (body q used after))
+    → (q : Operators) (used : ℕ) (after : Then) → NoneThen P after
+    → TellsNone P (turns n body q used after)
+unfolding turns
+none_turns P zero body each q used after s = s q used
+none_turns P (suc n) body each q used after s =
+    none_item P used _
+    (each q (used + 1) _ (λ q used. none_turns P n body each q used after s))
+
+-- the nodes of a tree
+none_then : (P : ℕ → Bool) (t : trees.Tree) (q : Operators) (used : ℕ) (after : Then)
+    → HasNone P t → NoneThen P after → TellsNone P (course_then t q used after)
+unfolding course_then TellsNone HasNone
+none_then P trees.done q used after h s = s q used
+none_then P (trees.operator d rest) q used after h s =
+    none_item P used _ (none_then P rest (in_force_after q d) (used + 1) after h s)
+none_then P (trees.element d row rest) q used after h s =
+    none_item P used _ (none_field P (used + 1) d (effective d row q) _ h.0
+    (none_then P rest q (used + 1) after h.1 s))
+none_then P (trees.untouched d row rest) q used after h s =
+    none_item P used _ (none_field P (used + 1) d (untouched row) _ h.0
+    (none_then P rest q (used + 1) after h.1 s))
+none_then P (trees.repeated times body rest) q used after h s =
+    none_item P used _ (none_turns P times (course_then body)
+    (λ q used after s. none_then P body q used after h.0 s)
+    q (used + 1) _ (λ q used. none_then P rest q used after h.1 s))
+none_then P (trees.delayed d row body rest) q used after h s =
+    none_item P used _ (
+      h.0,
+      λ n. none_turns P n (course_then body)
+          (λ q used after s. none_then P body q used after h.1 s)
+          q (used + 1) _ (λ q used. none_then P rest q used after h.2 s),
+    )
+
+-- ---- walks
+
+-- what a walk has left in which no replication is open
+pub none_left : (P : ℕ → Bool) (w : Walk) → w.state ≡ states.Going → w.loops.items ≡ []
+    → none P (take (w.stop - w.place) (drop w.place w.nodes.now)) ≡ true → TellsNone P (left w)
+unfolding TellsNone behind
+none_left P w goes closed e =
+    let ahead = take (w.stop - w.place) (drop w.place w.nodes.now) in
+    subst (TellsNone P) (sym (left_going w [] goes closed))
+    (none_then P (tree_of ahead) w.operators w.items (λ q used. ends used)
+    (none_within P _ ahead e) (λ q used. tt))
+
+-- so a walk tells that it has none, where the nodes ahead tell so
+pub none_told : (P : ℕ → Bool) (w : Walk) (told : Bool) → w.state ≡ states.Going
+    → w.loops.items ≡ [] → told ≡ none P (take (w.stop - w.place) (drop w.place w.nodes.now))
+    → OnTrue told (TellsNone P (left w))
+none_told P w true goes closed e = none_left P w goes closed (sym e)
+none_told P w false goes closed e = tt
