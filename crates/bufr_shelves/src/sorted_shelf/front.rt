@@ -3,6 +3,7 @@ ghost use Rattle.std.specs.Prelude.{◌≡◌, get_or};
 ghost use Rattle.std.specs.Ordering.{ordering_then};
 ghost use Rattle.bufr_shelves.specs.Fronts.{front_cmp, place_cmp, head_of_key, front_of_key, place_of_station, first_octets, in_two_octets, open_front};
 ghost use Rattle.bufr_shelves.specs.declared.sorted_shelf.front.Front.{Front as AFront};
+ghost use Rattle.bufr_shelves.specs.declared.sorted_shelf.front.FrontPlace.TheVariants.{Wmo};
 
 use crate::rank::Exact;
 use bufr_answers::Items;
@@ -59,6 +60,14 @@ impl FrontHead {
 }
 
 impl Front {
+    /// That of a WMO station whose numbers have room.
+    pub(crate) fn of_wmo(head: FrontHead, place: WmoPlace) -> Front
+        ensures { result ≡ record { head = head; place = Wmo place } }
+    {
+        let place = FrontPlace::Wmo(place);
+        Front { head, place }
+    }
+
     /// Which of two keys comes first, as far as their fronts tell; `Equal` where they don't.
     pub(crate) fn order(&self, other: &Front) -> Ordering
         ensures { result ≡ front_cmp self.now other.now }

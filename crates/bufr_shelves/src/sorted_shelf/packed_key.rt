@@ -62,6 +62,13 @@ impl WmoKey {
             sub_centre,
         }
     }
+
+    /// The front of the key. It takes no memory.
+    fn front(&self) -> Front
+        ensures { result ≡ front_of_key (wmo_key self.now) }
+    {
+        Front::of_wmo(self.head, self.place)
+    }
 }
 
 /// A key as it is held: most need no more than 24 octets.
@@ -228,7 +235,7 @@ impl Fronted for PackedKey {
 
     fn front(&self) -> Front {
         match &self.form {
-            KeyForm::Wmo(packed) => packed.key().front(),
+            KeyForm::Wmo(packed) => packed.front(),
             KeyForm::Other(key) => key.front(),
         }
     }
