@@ -4,7 +4,28 @@ use Rattle.bufr_sections.specs.declared.message.Message.{Message}
 use Rattle.bufr_message.proofs.OwnBitsFacts.{spelt_there}
 use Rattle.bufr_message.proofs.message_view.View.canonical.Goals as goal
 
--- what is answered is what the report spells alone
+-- what is answered of octets that are lent is what the report spells alone
+pub returns-in-Some : goal.returns-in-Some
+returns-in-Some c =
+    let v = c.self.inside in
+    let m : Message =
+    record {
+      head = v.head;
+      section2 = v.section2;
+      observed = v.observed;
+      compressed = v.compressed;
+      descriptors = v.descriptors.value;
+      subsets = v.subsets;
+    } in
+    let last = rw (← c.self.view_is) at c.requires.last in
+    let below : c.args.number - 1 < length v.subsets = omega (arith, last, c.requires.first) in
+    let spelt = rw (c.of_head-head.ensures, c.as_slice-descriptors.ensures, c.deref.ensures)
+    at c.enclosed_alone.ensures in
+    rw (← c.self.view_is)
+    (spelt_there m (c.args.number - 1) c.in-Some.contents.now (λ v. v.items)
+    c.enclosed_alone.result below c.self.invariant c.in-Some.ensures spelt)
+
+-- so it is of bits that were put
 pub returns : goal.returns
 returns c =
     let v = c.self.inside in
@@ -19,8 +40,9 @@ returns c =
     } in
     let last = rw (← c.self.view_is) at c.requires.last in
     let below : c.args.number - 1 < length v.subsets = omega (arith, last, c.requires.first) in
-    let spelt = rw (c.of_head-head.ensures, c.as_slice.ensures, c.deref.ensures, c.deref-2.ensures.value)
-    at c.enclosed_alone.ensures in
+    let spelt =
+    rw (c.of_head-head.ensures, c.as_slice-descriptors.ensures, c.deref.ensures,
+    c.deref-2.ensures.value) at c.enclosed_alone-2.ensures in
     rw (← c.self.view_is)
     (spelt_there m (c.args.number - 1) c.in_ok-contents.contents.items (λ v. v.items)
-    c.enclosed_alone.result below c.self.invariant c.in_ok-contents.ensures spelt)
+    c.enclosed_alone-2.result below c.self.invariant c.in_ok-contents.ensures spelt)
