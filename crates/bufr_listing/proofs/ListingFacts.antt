@@ -12,7 +12,7 @@ use Rattle.bufr_data.specs.declared.field.Subset.{Subset}
 use Rattle.bufr_sections.specs.declared.message.Message.{Message}
 use Rattle.bufr_listing.specs.Listings.{words, line, joined, octets_line, section1_line, time_line}
 use Rattle.bufr_listing.specs.Listings.{local_lines, section2_lines, flags_line, descriptors_line}
-use Rattle.bufr_listing.specs.Listings.{Heading, heading_of, heading_lines, field_line}
+use Rattle.bufr_listing.specs.Listings.{heading_lines, field_line}
 use Rattle.bufr_listing.specs.Listings.{subset_line, subset_lines, end_line, lines_of, listing}
 
 -- lines behind lines are joined one behind the other
@@ -59,41 +59,41 @@ seven_behind t a b c d e f g =
     ∙ append_assoc t a (b ++ (c ++ (d ++ e ++ (f ++ g))))
 
 -- the lines before the first subset, one behind the other behind what a text has already
-heading_behind : (t : List ℕ) (h : Heading)
-    → t ++ codes "message\n" ++ line (section1_line h.head) ++ line (time_line h.head)
-    ++ joined (local_lines h.head.local) ++ joined (section2_lines h.section2)
-    ++ line (flags_line h.observed h.compressed) ++ line (descriptors_line h.descriptors)
-    ≡ t ++ joined (heading_lines h)
+heading_behind : (t : List ℕ) (m : Message)
+    → t ++ codes "message\n" ++ line (section1_line m.head) ++ line (time_line m.head)
+    ++ joined (local_lines m.head.local) ++ joined (section2_lines m.section2)
+    ++ line (flags_line m.observed m.compressed) ++ line (descriptors_line m.descriptors)
+    ≡ t ++ joined (heading_lines m)
 unfolding heading_lines
-heading_behind t h =
-    let local = local_lines h.head.local in
-    let two = section2_lines h.section2 in
-    let flags = flags_line h.observed h.compressed in
-    let last = descriptors_line h.descriptors in
+heading_behind t m =
+    let local = local_lines m.head.local in
+    let two = section2_lines m.section2 in
+    let flags = flags_line m.observed m.compressed in
+    let last = descriptors_line m.descriptors in
     let behind : joined (local ++ two ++ flags ∷ last ∷ [])
     ≡ joined local ++ joined two ++ (line flags ++ line last) =
     joined_append (local ++ two) (flags ∷ last ∷ [])
     ∙ (λ i. joined_append local two i ++ (line flags ++ append-nil (line last) i)) in
-    seven_behind t (codes "message\n") (line (section1_line h.head)) (line (time_line h.head))
+    seven_behind t (codes "message\n") (line (section1_line m.head)) (line (time_line m.head))
     (joined local) (joined two) (line flags) (line last)
-    ∙ ap (λ zs. t ++ (codes "message\n" ++ (line (section1_line h.head)
-    ++ (line (time_line h.head) ++ zs)))) (sym behind)
+    ∙ ap (λ zs. t ++ (codes "message\n" ++ (line (section1_line m.head)
+    ++ (line (time_line m.head) ++ zs)))) (sym behind)
 
 -- so what is written of them in turn is a text with them behind what it had
-pub heading_written : (h : Heading) (t a b c d e f g : List ℕ) → a ≡ t ++ codes "message\n"
-    → b ≡ a ++ line (section1_line h.head) → c ≡ b ++ line (time_line h.head)
-    → d ≡ c ++ joined (local_lines h.head.local) → e ≡ d ++ joined (section2_lines h.section2)
-    → f ≡ e ++ line (flags_line h.observed h.compressed)
-    → g ≡ f ++ line (descriptors_line h.descriptors) → g ≡ t ++ joined (heading_lines h)
-heading_written h t a b c d e f g first numbers time local two flags last =
+pub heading_written : (m : Message) (t a b c d e f g : List ℕ) → a ≡ t ++ codes "message\n"
+    → b ≡ a ++ line (section1_line m.head) → c ≡ b ++ line (time_line m.head)
+    → d ≡ c ++ joined (local_lines m.head.local) → e ≡ d ++ joined (section2_lines m.section2)
+    → f ≡ e ++ line (flags_line m.observed m.compressed)
+    → g ≡ f ++ line (descriptors_line m.descriptors) → g ≡ t ++ joined (heading_lines m)
+heading_written m t a b c d e f g first numbers time local two flags last =
     last
-    ∙ ap (λ zs. zs ++ line (descriptors_line h.descriptors)) (flags
-    ∙ ap (λ zs. zs ++ line (flags_line h.observed h.compressed)) (two
-    ∙ ap (λ zs. zs ++ joined (section2_lines h.section2)) (local
-    ∙ ap (λ zs. zs ++ joined (local_lines h.head.local)) (time
-    ∙ ap (λ zs. zs ++ line (time_line h.head)) (numbers
-    ∙ ap (λ zs. zs ++ line (section1_line h.head)) first)))))
-    ∙ heading_behind t h
+    ∙ ap (λ zs. zs ++ line (descriptors_line m.descriptors)) (flags
+    ∙ ap (λ zs. zs ++ line (flags_line m.observed m.compressed)) (two
+    ∙ ap (λ zs. zs ++ joined (section2_lines m.section2)) (local
+    ∙ ap (λ zs. zs ++ joined (local_lines m.head.local)) (time
+    ∙ ap (λ zs. zs ++ line (time_line m.head)) (numbers
+    ∙ ap (λ zs. zs ++ line (section1_line m.head)) first)))))
+    ∙ heading_behind t m
 
 -- ---- the lines of subsets
 
@@ -132,11 +132,11 @@ subsets_joined (s ∷ subsets) = joined_append (subset_lines s) (flat_map subset
 
 -- the listing of a message is its parts, one behind another
 pub listing_in_parts : (m : Message) → listing m
-    ≡ joined (heading_lines (heading_of m)) ++ flat_map (λ s. joined (subset_lines s)) m.subsets
+    ≡ joined (heading_lines m) ++ flat_map (λ s. joined (subset_lines s)) m.subsets
     ++ line end_line
 unfolding listing lines_of
 listing_in_parts m =
-    let heading = heading_lines (heading_of m) in
+    let heading = heading_lines m in
     let subsets = flat_map subset_lines m.subsets in
     joined_append (heading ++ subsets) (end_line ∷ [])
     ∙ (λ i. joined_append heading subsets i ++ line end_line)

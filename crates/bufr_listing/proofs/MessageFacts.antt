@@ -18,7 +18,7 @@ use Rattle.bufr_listing.proofs.LowerLaws.{LowerLaws}
 use Rattle.bufr_sections.specs.declared.message.Head.{Head}
 use Rattle.bufr_sections.specs.declared.message.Message.{Message}
 use Rattle.bufr_listing.specs.Listings.{heading_lines, subset_lines, lines_of}
-use Rattle.bufr_listing.specs.Listings.{section2_lines, flags_line, descriptors_line, heading_of}
+use Rattle.bufr_listing.specs.Listings.{section2_lines, flags_line, descriptors_line}
 use Rattle.bufr_listing.specs.Listings.{section1_line, time_line, local_lines, section2_line}
 use Rattle.bufr_listing.specs.Listings.{section1_numbers, time_numbers, numbers_line}
 use Rattle.bufr_listing.specs.Limits.{two_octets}
@@ -139,7 +139,7 @@ in_turn m others =
 pub regrouped : (m : Message) (others : List (List ℕ)) → lines_of m ++ others ≡ in_turn m others
 unfolding heading_lines lines_of
 regrouped m others =
-    let heading = heading_lines (heading_of m) in
+    let heading = heading_lines m in
     let subsets = flat_map subset_lines m.subsets in
     let local = local_lines m.head.local in
     let two = section2_lines m.section2 in

@@ -33,7 +33,7 @@ use Rattle.bufr_sections.specs.Sections.{AreOctets, HeadFits, IsOctet}
 use Rattle.bufr_sections.specs.declared.message.Head.{Head}
 use Rattle.bufr_answers.specs.AnswerLaws.{bind_ok}
 use Rattle.bufr_listing.specs.Listings.{field_line, subset_lines, end_line, lines_of}
-use Rattle.bufr_listing.specs.Listings.{flags_line, descriptors_line, heading_of}
+use Rattle.bufr_listing.specs.Listings.{flags_line, descriptors_line}
 use Rattle.bufr_listing.specs.Listings.{octets_line, local_lines, section2_line, section2_lines}
 use Rattle.bufr_listing.specs.Listings.{section1_numbers, time_numbers, numbers_line}
 use Rattle.bufr_listing.specs.Listings.{joined, stands_for_itself, quoted_octet, quoted, number_word}
@@ -440,30 +440,23 @@ head_shown h fits =
     )
 
 -- the lines before the first subset
-heading_shown : (h : Head) (two : Option (List ℕ)) (observed compressed : Bool) (ds : List ℕ)
-    → HeadFits h → IfSome two AreOctets → 0 < length ds
-    → AllByRecursion (λ l. IsShown l) (heading_lines (record {
-      head = h;
-      section2 = two;
-      observed = observed;
-      compressed = compressed;
-      descriptors = ds;
-    }))
+heading_shown : (m : Message) → HeadFits m.head → IfSome m.section2 AreOctets
+    → 0 < length m.descriptors → AllByRecursion (λ l. IsShown l) (heading_lines m)
 unfolding heading_lines
-heading_shown h two observed compressed ds fits octets some =
-    let numbers = head_shown h fits in
+heading_shown m fits octets some =
+    let numbers = head_shown m.head fits in
     let first : IsShown (codes "message") =
     record { plain = literal_plain (codes "message") refl; kept = refl; own = refl } in
-    let local = locals_shown h.local (recursion_from_All IsOctet h.local fits.local) in
-    let last : AllByRecursion (λ l. IsShown l)
-    (flags_line observed compressed ∷ descriptors_line ds ∷ []) =
-    (flags_shown observed compressed, (descriptors_shown ds some, tt)) in
+    let local = locals_shown m.head.local (recursion_from_All IsOctet m.head.local fits.local) in
+    let flags = flags_line m.observed m.compressed in
+    let last : AllByRecursion (λ l. IsShown l) (flags ∷ descriptors_line m.descriptors ∷ []) =
+    (flags_shown m.observed m.compressed, (descriptors_shown m.descriptors some, tt)) in
     let optional =
-    all_append IsShown (local_lines h.local) (section2_lines two) local
-    (sections_shown two octets) in
+    all_append IsShown (local_lines m.head.local) (section2_lines m.section2) local
+    (sections_shown m.section2 octets) in
     let others =
-    all_append IsShown (local_lines h.local ++ section2_lines two)
-    (flags_line observed compressed ∷ descriptors_line ds ∷ []) optional last in
+    all_append IsShown (local_lines m.head.local ++ section2_lines m.section2)
+    (flags ∷ descriptors_line m.descriptors ∷ []) optional last in
     (first, (numbers.0, (numbers.1, others)))
 
 -- the lines of a message
@@ -471,17 +464,15 @@ message_shown : LowerLaws → (tables : Entries) (m : Message) → CanBeListed t
     → AllByRecursion (λ l. IsShown l) (lines_of m)
 unfolding lines_of
 message_shown laws tables m can =
-    let heading =
-    heading_shown m.head m.section2 m.observed m.compressed m.descriptors can.head can.section2
-    can.some_descriptor in
+    let heading = heading_shown m can.head can.section2 can.some_descriptor in
     let subsets =
     subsets_shown 1 0 (course can.tree) m.subsets can.items
     (λ n. course_printable laws.specs can.tree n)
     (laws.counted can.tree 1 0 can.items m.subsets can.fit) in
     let last : IsShown end_line =
     record { plain = literal_plain end_line refl; kept = refl; own = refl } in
-    all_append IsShown (heading_lines (heading_of m) ++ flat_map subset_lines m.subsets)
-    (end_line ∷ []) (all_append IsShown (heading_lines (heading_of m))
+    all_append IsShown (heading_lines m ++ flat_map subset_lines m.subsets)
+    (end_line ∷ []) (all_append IsShown (heading_lines m)
     (flat_map subset_lines m.subsets) heading subsets) (last, tt)
 
 -- the lines of messages

@@ -4,7 +4,7 @@ use Rattle.std.specs.List.{flat_map, AllByRecursion}
 use Rattle.bufr_tables.specs.Entries.{Entries}
 use Rattle.bufr_data.specs.declared.field.Field.{Field}
 use Rattle.bufr_sections.specs.declared.message.Message.{Message}
-use Rattle.bufr_listing.specs.Listings.{line, joined, heading_of, heading_lines, subset_lines}
+use Rattle.bufr_listing.specs.Listings.{line, joined, heading_lines, subset_lines}
 use Rattle.bufr_listing.specs.Listings.{end_line, field_line, subset_line, listing}
 use Rattle.bufr_listing.specs.Lines.{Listed, CanBeListed}
 use Rattle.bufr_listing.specs.Reading.{messages_listed}
@@ -15,7 +15,7 @@ use Rattle.bufr_listing.specs.declared.fault.ListingFault.{ListingFault}
 -- those of each subset, and the last
 abbrev pub ListingsAreJoinedParts : Type 0
 ListingsAreJoinedParts = (m : Message)
-    → listing m ≡ joined (heading_lines (heading_of m))
+    → listing m ≡ joined (heading_lines m)
     ++ flat_map (λ s. joined (subset_lines s)) m.subsets ++ line end_line
 
 -- the lines of a subset are its first line and that of each field, one behind another: of those

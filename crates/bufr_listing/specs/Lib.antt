@@ -1,5 +1,4 @@
 pub mod Listings
-pub mod Heading
 pub mod Limits
 pub mod Lines
 pub mod FieldLines

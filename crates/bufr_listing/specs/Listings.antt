@@ -114,32 +114,12 @@ flags_line observed compressed =
 abbrev pub descriptors_line : List ℕ → List ℕ
 descriptors_line descriptors = words (codes "descriptors") (map six_digits descriptors)
 
--- what the lines before the first subset say: section 1, section 2 where there is one, the flags
--- and the descriptors of section 3
-pub record Heading : Type 0 where
-  pub head : Head
-  pub section2 : Option (List ℕ)
-  pub observed : Bool
-  pub compressed : Bool
-  pub descriptors : List ℕ
-
--- what those of a message's listing say
-abbrev pub heading_of : Message → Heading
-heading_of m =
-    record {
-      head = m.head;
-      section2 = m.section2;
-      observed = m.observed;
-      compressed = m.compressed;
-      descriptors = m.descriptors;
-    }
-
 -- the lines before the first subset, in this order
-unfoldable pub heading_lines : Heading → List (List ℕ)
-heading_lines h =
-    codes "message" ∷ section1_line h.head ∷ time_line h.head
-    ∷ local_lines h.head.local ++ section2_lines h.section2
-    ++ flags_line h.observed h.compressed ∷ descriptors_line h.descriptors ∷ []
+unfoldable pub heading_lines : Message → List (List ℕ)
+heading_lines m =
+    codes "message" ∷ section1_line m.head ∷ time_line m.head
+    ∷ local_lines m.head.local ++ section2_lines m.section2
+    ++ flags_line m.observed m.compressed ∷ descriptors_line m.descriptors ∷ []
 
 -- ---- the lines of subsets
 
@@ -163,7 +143,7 @@ end_line = codes "end"
 
 -- the lines of a message, in this order
 unfoldable pub lines_of : Message → List (List ℕ)
-lines_of m = heading_lines (heading_of m) ++ flat_map subset_lines m.subsets ++ end_line ∷ []
+lines_of m = heading_lines m ++ flat_map subset_lines m.subsets ++ end_line ∷ []
 
 -- the listing of a message: its lines, each with its end
 unfoldable pub listing : Message → List ℕ

@@ -1,64 +1,35 @@
 //! The lines of a listing before its first subset.
 
-ghost use Rattle.std.specs.Prelude.{◌≡◌, ◌++◌, OnOk};
-ghost use Rattle.bufr_listing.specs.Heading.{lent};
+ghost use Rattle.std.specs.Prelude.{◌≡◌, ◌++◌, List, OnOk};
+ghost use Rattle.bufr_data.specs.declared.field.Subset.{Subset};
+ghost use Rattle.bufr_sections.specs.SectionsRead.{message_lent};
 ghost use Rattle.bufr_listing.specs.Listings.{line, joined, numbers_line, octets_line};
 ghost use Rattle.bufr_listing.specs.Listings.{section1_line, time_line};
 ghost use Rattle.bufr_listing.specs.Listings.{local_lines, section2_lines, flags_line};
-ghost use Rattle.bufr_listing.specs.Listings.{descriptors_line, heading_of, heading_lines};
+ghost use Rattle.bufr_listing.specs.Listings.{descriptors_line, heading_lines};
 
 use bufr_answers::{Items, OutOfMemory};
-use bufr_sections::{Head, Message};
+use bufr_sections::{Head, LentSections};
 use bufr_tables::Fxy;
 use itoa::Buffer;
 use std::alloc::Global;
 
-/// What the lines of a listing before its first subset say, lent.
-#[derive(Clone, Copy, Debug)]
-pub struct HeadingParts<'a> {
-    /// Section 1.
-    pub head: &'a Head,
-    /// The octets for local use of section 2, where there is one.
-    pub section2: &'a Option<Items<u8>>,
-    /// Whether the data are observed.
-    pub observed: bool,
-    /// Whether the data are compressed.
-    pub compressed: bool,
-    /// The descriptors of section 3.
-    pub descriptors: &'a [Fxy],
-}
-
-impl<'a> HeadingParts<'a> {
-    /// Those of a message.
-    pub fn of_message(message: &'a Message) -> HeadingParts<'a>
-        ensures { lent result ≡ heading_of message.now }
-    {
-        HeadingParts {
-            head: &message.head,
-            section2: &message.section2,
-            observed: message.observed,
-            compressed: message.compressed,
-            descriptors: message.descriptors.as_slice(),
-        }
-    }
-}
-
-/// Adds the lines before the first subset.
+/// Adds the lines before the first subset of a message of these sections, whatever its subsets.
 pub(crate) fn push_heading(
     alloc: Global,
     text: &mut Vec<u8>,
-    parts: &HeadingParts<'_>,
+    sections: &LentSections<'_>,
 ) -> Result<(), OutOfMemory>
-    ensures { OnOk result (text.new.items
-        ≡ text.old.items ++ joined (heading_lines (lent parts.now))) }
+    ensures { (subsets : List Subset) → OnOk result (text.new.items
+        ≡ text.old.items ++ joined (heading_lines (message_lent sections.now subsets))) }
 {
     text.extend_from_slice(b"message\n")?;
-    push_section1(text, parts.head)?;
-    push_time(text, parts.head)?;
-    push_local(alloc, text, parts.head.local.as_slice())?;
-    push_section2(alloc, text, parts.section2)?;
-    push_flags(text, parts.observed, parts.compressed)?;
-    push_descriptors(text, parts.descriptors)?;
+    push_section1(text, sections.head)?;
+    push_time(text, sections.head)?;
+    push_local(alloc, text, sections.head.local.as_slice())?;
+    push_section2(alloc, text, sections.section2)?;
+    push_flags(text, sections.observed, sections.compressed)?;
+    push_descriptors(text, sections.descriptors)?;
     Ok(())
 }
 

@@ -19,7 +19,6 @@ mod writer;
 
 pub use fault::{Cause, ListingFault};
 pub use fields::{push_field, push_subset, push_subset_line};
-pub use heading::HeadingParts;
 pub use messages::read;
 pub use text::{end_text, heading_text, subset_text, text_of};
 pub use unread::Messages;

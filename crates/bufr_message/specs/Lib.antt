@@ -3,7 +3,6 @@ pub mod Encodings
 pub mod Refusals
 pub mod Below
 pub mod Laws
-pub mod Lent
 pub mod Reports
 pub mod OwnBits
 pub mod Views

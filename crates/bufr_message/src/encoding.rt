@@ -5,19 +5,18 @@ ghost use Rattle.bufr_answers.specs.Answers.{Gives, result_map};
 ghost use Rattle.bufr_expand.specs.Templates.{template};
 ghost use Rattle.bufr_bits.specs.Bits.{bits};
 ghost use Rattle.bufr_data.specs.Data.{written_bits};
-ghost use Rattle.bufr_message.specs.Lent.{whole};
+ghost use Rattle.bufr_sections.specs.SectionsRead.{message_lent};
 ghost use Rattle.bufr_message.specs.Encodings.{filled, template_or, data_or, data_bits_or};
 ghost use Rattle.bufr_message.specs.Encodings.{enclosed_or, code, SpellsBare};
 
 use crate::fault::EncodeFault;
 use crate::laws::written_messages_are_spelt;
-use crate::lent::Lent;
 use crate::ranges::numbers_fit;
 use bufr_answers::Failure;
 use bufr_bits::BitSink;
 use bufr_data::{Subset, write_subsets};
 use bufr_expand::Template;
-use bufr_sections::{Message, Parts, spell};
+use bufr_sections::{LentSections, Message, spell};
 use bufr_tables::{Fxy, Tables};
 use std::alloc::Global;
 
@@ -35,43 +34,39 @@ pub fn encode(
     ensures exact { Gives (λ v. v.items) result (code tables.now message.now) }
 {
     written_messages_are_spelt();
-    let lent = Lent::of_message(message);
-    numbers_fit(&lent);
-    octets_of(alloc, tables, &lent)
+    let sections = LentSections::of_message(message);
+    numbers_fit(&sections);
+    octets_of(alloc, tables, &sections, message.subsets.as_slice())
 }
 
-/// The octets of a message: the one clause from which `encode` and `canonical` have their others.
+/// The octets of a message of these sections and subsets: the one clause from which `encode` and
+/// `canonical` have their others.
 #[tactic(auto, unfolding(crate::specs::Encodings::code))]
 pub(crate) fn octets_of(
     alloc: Global,
     tables: &Tables,
-    message: &Lent<'_>,
+    sections: &LentSections<'_>,
+    subsets: &[Subset],
 ) -> Result<Vec<u8>, Failure<EncodeFault>>
-    ensures { Gives (λ v. v.items) result (code tables.now (whole message.now)) }
+    ensures { Gives (λ v. v.items) result
+        (code tables.now (message_lent sections.now subsets.now)) }
 {
-    let contents = contents_of(alloc, tables, message)?;
-    enclose(alloc, message, &contents)
+    let contents = contents_of(alloc, tables, sections, subsets)?;
+    enclose(alloc, sections, subsets, &contents)
 }
 
 /// The octets of a message whose data bits, filled, are these octets.
 fn enclose(
     alloc: Global,
-    message: &Lent<'_>,
+    sections: &LentSections<'_>,
+    subsets: &[Subset],
     contents: &[u8],
 ) -> Result<Vec<u8>, Failure<EncodeFault>>
     ensures { (data_bits : List Bool) → bits contents.now ≡ filled data_bits
-        → Gives (λ v. v.items) result (enclosed_or (whole message.now) data_bits) }
+        → Gives (λ v. v.items) result
+        (enclosed_or (message_lent sections.now subsets.now) data_bits) }
 {
-    let parts = Parts {
-        head: message.head,
-        section2: message.section2,
-        observed: message.observed,
-        compressed: message.compressed,
-        descriptors: message.descriptors,
-        count: message.subsets.len(),
-        contents,
-    };
-    match spell(alloc, &parts) {
+    match spell(alloc, sections, subsets.len(), contents) {
         Ok(octets) => Ok(octets),
         Err(Failure::Fault(fault)) => Err(Failure::Fault(EncodeFault::Data(fault))),
         Err(Failure::OutOfMemory) => Err(Failure::OutOfMemory),
@@ -83,17 +78,18 @@ fn enclose(
 fn contents_of(
     alloc: Global,
     tables: &Tables,
-    message: &Lent<'_>,
+    sections: &LentSections<'_>,
+    subsets: &[Subset],
 ) -> Result<Vec<u8>, Failure<EncodeFault>>
     ensures { Gives {Y = List Bool} (λ v. bits v.items) result
-        (result_map filled (data_bits_or tables.now (whole message.now))) }
+        (result_map filled (data_bits_or tables.now (message_lent sections.now subsets.now))) }
 {
-    let descriptors = message.descriptors;
+    let descriptors = sections.descriptors;
     if descriptors.is_empty() {
         return Err(Failure::Fault(EncodeFault::NoDescriptors));
     }
     let template = template_of(alloc, tables, descriptors)?;
-    data_of(alloc, &template, message.compressed, message.subsets)
+    data_of(alloc, &template, sections.compressed, subsets)
 }
 
 /// The template of descriptors.

@@ -9,7 +9,7 @@ ghost use Rattle.bufr_data.specs.declared.field.Subset.{Subset};
 ghost use Rattle.bufr_data.specs.Data.{subsets_in};
 ghost use Rattle.bufr_data.specs.Plain.{plain};
 ghost use Rattle.bufr_sections.specs.Sections.{descriptors_of};
-ghost use Rattle.bufr_sections.specs.SectionsRead.{envelope};
+ghost use Rattle.bufr_sections.specs.SectionsRead.{envelope, message_lent};
 ghost use Rattle.bufr_message.specs.Encodings.{filled};
 ghost use Rattle.bufr_message.specs.Kept.{message_under};
 ghost use Rattle.bufr_message.specs.Messages.{data_or, message_of, can_be_alone, Spells};
@@ -26,7 +26,7 @@ use bufr_answers::{Failure, Items, OutOfMemory};
 use bufr_bits::{BitReader, BitSink};
 use bufr_data::laws::data_hold_subsets;
 use bufr_data::{DataTemplate, Fields, ReadFault, Subset, SubsetIndex};
-use bufr_sections::{Envelope, Head, Refused, read_sections};
+use bufr_sections::{Envelope, Head, LentSections, Refused, read_sections};
 use bufr_tables::{Fxy, Tables};
 use std::alloc::Global;
 use std::marker::Model;
@@ -89,32 +89,17 @@ impl<'a> View<'a> {
         &self.head
     }
 
-    /// The octets for local use of section 2, where there is one.
-    pub fn section2(&self) -> &Option<Items<u8>>
-        ensures { result.now ≡ self.now.message.section2 }
+    /// What the sections say before the data, lent.
+    pub fn sections(&self) -> LentSections<'_>
+        ensures { message_lent result self.now.message.subsets ≡ self.now.message }
     {
-        &self.section2
-    }
-
-    /// Whether the data are observed.
-    pub fn observed(&self) -> bool
-        ensures { result ≡ self.now.message.observed }
-    {
-        self.observed
-    }
-
-    /// Whether the data are compressed.
-    pub fn compressed(&self) -> bool
-        ensures { result ≡ self.now.message.compressed }
-    {
-        self.compressed
-    }
-
-    /// The descriptors of section 3.
-    pub fn descriptors(&self) -> &[Fxy]
-        ensures { result.now ≡ self.now.message.descriptors }
-    {
-        self.descriptors.as_slice()
+        LentSections {
+            head: &self.head,
+            section2: &self.section2,
+            observed: self.observed,
+            compressed: self.compressed,
+            descriptors: self.descriptors.as_slice(),
+        }
     }
 
     /// The subset of this number, from 1, which is built anew. It can only run out of memory.

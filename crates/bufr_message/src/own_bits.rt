@@ -16,7 +16,7 @@ use crate::report::{Report, ReportHead};
 use bufr_answers::{Failure, OutOfMemory};
 use bufr_bits::BitSink;
 use bufr_data::{Field, MOST_RAW_BITS, Raw};
-use bufr_sections::{Parts, spell};
+use bufr_sections::{LentSections, spell};
 use bufr_tables::Fxy;
 use std::alloc::Global;
 
@@ -72,16 +72,14 @@ pub(crate) fn enclosed_alone(
 {
     let head = head.with_no_local(alloc);
     let none = None;
-    let parts = Parts {
+    let sections = LentSections {
         head: &head,
         section2: &none,
         observed,
         compressed: false,
         descriptors,
-        count: 1,
-        contents,
     };
-    match spell(alloc, &parts) {
+    match spell(alloc, &sections, 1, contents) {
         Ok(octets) => Ok(Some(octets)),
         Err(Failure::Fault(_)) => Ok(None),
         Err(Failure::OutOfMemory) => Err(OutOfMemory),

@@ -1,23 +1,23 @@
 //! The ranges of a message's numbers, which its types keep.
 
-ghost use Rattle.std.specs.Prelude.{◌<◌, ◌^◌, All, IfSome};
+ghost use Rattle.std.specs.Prelude.{◌<◌, ◌^◌, List, All, IfSome};
+ghost use Rattle.bufr_data.specs.declared.field.Subset.{Subset};
 ghost use Rattle.bufr_sections.specs.Sections.{AreOctets, HeadFits};
+ghost use Rattle.bufr_sections.specs.SectionsRead.{message_lent};
 ghost use Rattle.bufr_message.specs.Laws.{NumbersFit};
-ghost use Rattle.bufr_message.specs.Lent.{whole};
 
-use crate::lent::Lent;
 use bufr_answers::Items;
-use bufr_sections::Head;
+use bufr_sections::{Head, LentSections};
 use bufr_tables::Fxy;
 
-/// The numbers of a message are in the ranges of their fields, by their types. Nothing is done with
-/// them.
-pub(crate) fn numbers_fit(message: &Lent<'_>)
-    ensures { NumbersFit (whole message.now) }
+/// The numbers of a message of these sections, whatever its subsets, are in the ranges of their
+/// fields, by their types. Nothing is done with them.
+pub(crate) fn numbers_fit(sections: &LentSections<'_>)
+    ensures { (subsets : List Subset) → NumbersFit (message_lent sections.now subsets) }
 {
-    head_fits(message.head);
-    section2_fits(message.section2);
-    descriptors_fit(message.descriptors);
+    head_fits(sections.head);
+    section2_fits(sections.section2);
+    descriptors_fit(sections.descriptors);
 }
 
 /// The same of the head.

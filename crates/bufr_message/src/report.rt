@@ -12,11 +12,10 @@ ghost use Rattle.bufr_message.specs.Reports.{alone, IsCanonical, IsUnder};
 use crate::encoding::octets_of;
 use crate::fault::EncodeFault;
 use crate::laws::{reports_have_canonical_messages, written_messages_are_spelt};
-use crate::lent::Lent;
 use crate::ranges::numbers_fit;
 use bufr_answers::{Failure, Items, OutOfMemory};
 use bufr_data::Subset;
-use bufr_sections::{Head, Message};
+use bufr_sections::{Head, LentSections, Message};
 use bufr_tables::{Fxy, Tables};
 use std::alloc::Global;
 use std::slice;
@@ -184,14 +183,13 @@ pub fn canonical(
     written_messages_are_spelt();
     let head = report.head.with_no_local(alloc);
     let none = None;
-    let lent = Lent {
+    let sections = LentSections {
         head: &head,
         section2: &none,
         observed: report.observed,
         compressed: false,
         descriptors: report.descriptors.as_slice(),
-        subsets: slice::from_ref(&report.subset),
     };
-    numbers_fit(&lent);
-    octets_of(alloc, tables, &lent)
+    numbers_fit(&sections);
+    octets_of(alloc, tables, &sections, slice::from_ref(&report.subset))
 }

@@ -1,9 +1,11 @@
 -- What the sections that the program holds say, and the places of what section 1 says behind its
 -- length.
 use Rattle.std.specs.Prelude.{ℕ, List, get_or}
+use Rattle.bufr_data.specs.declared.field.Subset.{Subset}
 use Rattle.bufr_sections.specs.declared.message.Head.{Head}
+use Rattle.bufr_sections.specs.declared.message.Message.{Message}
 use Rattle.bufr_sections.specs.declared.envelope.Envelope.{Envelope}
-use Rattle.bufr_sections.specs.declared.envelope.Parts.{Parts}
+use Rattle.bufr_sections.specs.declared.lent_sections.LentSections.{LentSections}
 use Rattle.bufr_sections.specs.declared.sections.Description.{Description}
 use Rattle.bufr_sections.specs.Sections as said
 
@@ -20,17 +22,30 @@ envelope e =
       contents = e.contents.now;
     }
 
--- what the sections that are to be written say
-abbrev pub lent : Parts → said.Envelope
-lent p =
+-- the sections that are lent, of a message of so many subsets that has these octets behind the
+-- fourth of section 4
+abbrev pub envelope_lent : LentSections → ℕ → List ℕ → said.Envelope
+envelope_lent s count contents =
     record {
-      head = p.head.now;
-      section2 = p.section2.now;
-      observed = p.observed;
-      compressed = p.compressed;
-      descriptors = p.descriptors.now;
-      count = p.count;
-      contents = p.contents.now;
+      head = s.head.now;
+      section2 = s.section2.now;
+      observed = s.observed;
+      compressed = s.compressed;
+      descriptors = s.descriptors.now;
+      count = count;
+      contents = contents;
+    }
+
+-- the message of the sections that are lent and these subsets
+abbrev pub message_lent : LentSections → List Subset → Message
+message_lent s subsets =
+    record {
+      head = s.head.now;
+      section2 = s.section2.now;
+      observed = s.observed;
+      compressed = s.compressed;
+      descriptors = s.descriptors.now;
+      subsets = subsets;
     }
 
 -- what section 3 says

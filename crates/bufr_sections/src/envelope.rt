@@ -1,8 +1,7 @@
-//! What the sections of a message say.
+//! What the sections that were read say.
 
 use crate::message::Head;
 use bufr_answers::Items;
-use bufr_tables::Fxy;
 
 /// What the sections that were read say. The octets of the descriptors, and those of section 4 after
 /// its fourth, are lent.
@@ -20,25 +19,6 @@ pub struct Envelope<'a> {
     pub listed: &'a [u8],
     /// How many subsets are announced.
     pub count: u16,
-    /// The octets of section 4 after its fourth.
-    pub contents: &'a [u8],
-}
-
-/// What sections are to say, lent by a message or a report that is written.
-#[derive(Clone, Copy, Debug)]
-pub struct Parts<'a> {
-    /// Section 1.
-    pub head: &'a Head,
-    /// The octets for local use of section 2, where there is to be one.
-    pub section2: &'a Option<Items<u8>>,
-    /// Whether the data are observed.
-    pub observed: bool,
-    /// Whether the data are compressed.
-    pub compressed: bool,
-    /// The descriptors of section 3.
-    pub descriptors: &'a [Fxy],
-    /// How many subsets there are.
-    pub count: usize,
     /// The octets of section 4 after its fourth.
     pub contents: &'a [u8],
 }

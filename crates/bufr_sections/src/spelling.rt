@@ -1,12 +1,12 @@
-//! The octets of a whole message: section 0, the sections that say its parts, and `7777`.
+//! The octets of a whole message: section 0, its sections, and `7777`.
 
-ghost use Rattle.std.specs.Prelude.{◌≡◌, ◌<◌, ◌^◌, [], length, OnOk};
+ghost use Rattle.std.specs.Prelude.{◌≡◌, ℕ, ◌<◌, ◌^◌, [], length, OnOk};
 ghost use Rattle.bufr_answers.specs.Answers.{Gives};
 ghost use Rattle.bufr_sections.specs.Sections.{section2};
-ghost use Rattle.bufr_sections.specs.SectionsRead.{lent};
+ghost use Rattle.bufr_sections.specs.SectionsRead.{envelope_lent};
 ghost use Rattle.bufr_sections.specs.Spelt.{bare, spelt_or};
 
-use crate::envelope::Parts;
+use crate::lent_sections::LentSections;
 use crate::section_octets::{
     push_length, push_section1, push_section2, push_section3, push_section4,
 };
@@ -31,53 +31,67 @@ fn section2_length(local: &Option<Items<u8>>) -> u128
     }
 }
 
-/// How many octets a message of these parts has.
+/// How many octets a message of these sections has, whatever the number of its subsets.
 #[tactic(auto, using(crate::proofs::LengthFacts::length_of_spelling))]
-fn total_length(parts: &Parts<'_>) -> u128
-    ensures { result ≡ length (bare (lent parts.now)) }
+fn total_length(sections: &LentSections<'_>, contents: &[u8]) -> u128
+    ensures { (count : ℕ)
+        → result ≡ length (bare (envelope_lent sections.now count contents.now)) }
 {
-    45 + parts.head.local.as_slice().len() as u128
-        + section2_length(parts.section2)
-        + 2 * parts.descriptors.len() as u128
-        + parts.contents.len() as u128
+    45 + sections.head.local.as_slice().len() as u128
+        + section2_length(sections.section2)
+        + 2 * sections.descriptors.len() as u128
+        + contents.len() as u128
 }
 
-/// The octets of a message of these parts, in edition 4 with nothing in what is free. `TooLarge`
-/// where it has more than 65,535 subsets or 16,777,215 octets; memory may run out.
+/// The octets of a message of these sections and so many subsets, with these octets in section 4
+/// after its fourth, in edition 4 with nothing in what is free. `TooLarge` where it has more than
+/// 65,535 subsets or 16,777,215 octets; memory may run out.
 #[tactic(auto, unfolding(crate::specs::Spelt::spelt_or))]
-pub fn spell(alloc: Global, parts: &Parts<'_>) -> Result<Vec<u8>, Failure<WriteFault>>
-    ensures { Gives (λ v. v.items) result (spelt_or (lent parts.now)) }
+pub fn spell(
+    alloc: Global,
+    sections: &LentSections<'_>,
+    count: usize,
+    contents: &[u8],
+) -> Result<Vec<u8>, Failure<WriteFault>>
+    ensures { Gives (λ v. v.items) result
+        (spelt_or (envelope_lent sections.now count contents.now)) }
 {
-    let length = total_length(parts);
-    if parts.count > MOST_SUBSETS || length > LONGEST {
+    let length = total_length(sections, contents);
+    if count > MOST_SUBSETS || length > LONGEST {
         return Err(Failure::Fault(WriteFault::TooLarge));
     }
     let mut out = Vec::with_capacity(alloc, length as usize)?;
-    push_sections(&mut out, parts, length as u64)?;
+    push_sections(&mut out, sections, count as u16, contents, length as u64)?;
     Ok(out)
 }
 
-/// Adds all of a message of these parts, which has so many octets.
+/// Adds all of a message of these sections, which has so many octets.
 #[tactic(auto, unfolding(crate::specs::Sections::spelling, crate::specs::Sections::sections))]
-fn push_sections(out: &mut Vec<u8>, parts: &Parts<'_>, total: u64) -> Result<(), OutOfMemory>
+fn push_sections(
+    out: &mut Vec<u8>,
+    sections: &LentSections<'_>,
+    count: u16,
+    contents: &[u8],
+    total: u64,
+) -> Result<(), OutOfMemory>
     requires empty { out.old.items ≡ [] }
-    requires long { total ≡ length (bare (lent parts.now)) }
+    requires long { total ≡ length (bare (envelope_lent sections.now count contents.now)) }
     requires short { total < 2 ^ 24 }
-    requires few { parts.now.count < 2 ^ 16 }
-    ensures { OnOk result (out.new.items ≡ bare (lent parts.now)) }
+    ensures { OnOk result
+        (out.new.items ≡ bare (envelope_lent sections.now count contents.now)) }
 {
     out.extend_from_slice(b"BUFR")?;
     push_length(out, total)?;
     out.push(4)?;
-    push_section1(out, parts.head, parts.section2.is_some())?;
-    push_section2(out, parts.section2)?;
+    push_section1(out, sections.head, sections.section2.is_some())?;
+    push_section2(out, sections.section2)?;
     push_section3(
         out,
-        parts.count as u16,
-        parts.observed,
-        parts.compressed,
-        parts.descriptors,
+        count,
+        sections.observed,
+        sections.compressed,
+        sections.descriptors,
     )?;
-    push_section4(out, parts.contents)?;
+    push_section4(out, contents)?;
     out.extend_from_slice(b"7777")
 }

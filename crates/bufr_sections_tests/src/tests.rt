@@ -2,7 +2,9 @@
 //! format.
 
 use bufr_answers::Items;
-use bufr_sections::{Envelope, Head, Parts, are_listed, descriptors_of, read_sections, spell};
+use bufr_sections::{
+    Envelope, Head, LentSections, are_listed, descriptors_of, read_sections, spell,
+};
 use bufr_tables::Fxy;
 use std::alloc::Global;
 use std::fmt::{Debug, Display};
@@ -82,18 +84,26 @@ fn descriptors_4() -> [Fxy; 2] {
     [Fxy::from_bits(0x1718), Fxy::from_bits(0x191A)]
 }
 
+/// What the sections of a message say, with the number of its subsets and the octets of section 4
+/// after its fourth.
+#[derive(Clone, Copy, Debug)]
+struct Said<'a> {
+    sections: LentSections<'a>,
+    count: usize,
+    contents: &'a [u8],
+}
+
 /// What the sections of edition 4 say, with these sections 1 and 2, and these descriptors.
-fn parts_4<'a>(
-    head: &'a Head,
-    section2: &'a Option<Items<u8>>,
-    descriptors: &'a [Fxy],
-) -> Parts<'a> {
-    Parts {
+fn said_4<'a>(head: &'a Head, section2: &'a Option<Items<u8>>, descriptors: &'a [Fxy]) -> Said<'a> {
+    let sections = LentSections {
         head,
         section2,
         observed: true,
         compressed: false,
         descriptors,
+    };
+    Said {
+        sections,
         count: 5398,
         contents: &[27, 28, 29],
     }
@@ -119,19 +129,20 @@ fn assert_listed(
 }
 
 /// The sections that were read say this.
-fn assert_parts(
+fn assert_found(
     rt: &impl Abort,
     alloc: Global,
     found: &Envelope<'_>,
-    wanted: &Parts<'_>,
+    wanted: &Said<'_>,
 ) -> Result<(), Fail> {
-    same(rt, &found.head, wanted.head);
-    same(rt, &found.section2, wanted.section2);
-    same(rt, found.observed, wanted.observed);
-    same(rt, found.compressed, wanted.compressed);
+    let sections = &wanted.sections;
+    same(rt, &found.head, sections.head);
+    same(rt, &found.section2, sections.section2);
+    same(rt, found.observed, sections.observed);
+    same(rt, found.compressed, sections.compressed);
     same(rt, usize::from(found.count), wanted.count);
     same(rt, found.contents, wanted.contents);
-    assert_listed(rt, alloc, found.listed, wanted.descriptors)
+    assert_listed(rt, alloc, found.listed, sections.descriptors)
 }
 
 /// The sections of these octets say this.
@@ -139,14 +150,14 @@ fn assert_said(
     rt: &impl Abort,
     alloc: Global,
     octets: &[u8],
-    wanted: &Parts<'_>,
+    wanted: &Said<'_>,
 ) -> Result<(), Fail> {
     let found = read_sections(alloc, octets)?;
-    assert_parts(rt, alloc, &found, wanted)
+    assert_found(rt, alloc, &found, wanted)
 }
 
 /// The sections of the octets that hexadecimal digits are say this.
-fn assert_read(rt: &impl Abort, alloc: Global, text: &str, wanted: &Parts<'_>) -> Result<(), Fail> {
+fn assert_read(rt: &impl Abort, alloc: Global, text: &str, wanted: &Said<'_>) -> Result<(), Fail> {
     let all = octets(alloc, text)?;
     assert_said(rt, alloc, all.as_slice(), wanted)
 }
@@ -156,9 +167,9 @@ fn each_octet_at_its_place(rt: HostRuntime) -> Result<(), Fail> {
     let alloc = rt.alloc();
     let (head, section2) = (head_4(alloc)?, section2_4(alloc)?);
     let descriptors = descriptors_4();
-    let parts = parts_4(&head, &section2, descriptors.as_slice());
-    assert_read(&rt, alloc, EDITION_4, &parts)?;
-    assert_read(&rt, alloc, EDITION_4_FILLED, &parts)
+    let said = said_4(&head, &section2, descriptors.as_slice());
+    assert_read(&rt, alloc, EDITION_4, &said)?;
+    assert_read(&rt, alloc, EDITION_4_FILLED, &said)
 }
 
 /// Octets list exactly these descriptors, or they do not, as is said.
@@ -196,9 +207,9 @@ fn octets_against_lists(rt: HostRuntime) -> Result<(), Fail> {
     assert_compared(&rt, alloc, "1718", &[], false)
 }
 
-/// What is written from parts is the octets that hexadecimal digits are.
-fn assert_spelt(rt: &impl Abort, alloc: Global, parts: &Parts<'_>, text: &str) -> Result<(), Fail> {
-    let written = spell(alloc, parts)?;
+/// What is written so is the octets that hexadecimal digits are.
+fn assert_spelt(rt: &impl Abort, alloc: Global, said: &Said<'_>, text: &str) -> Result<(), Fail> {
+    let written = spell(alloc, &said.sections, said.count, said.contents)?;
     let wanted = octets(alloc, text)?;
     same(rt, written.as_slice(), wanted.as_slice());
     Ok(())
@@ -209,8 +220,8 @@ fn each_octet_written_at_its_place(rt: HostRuntime) -> Result<(), Fail> {
     let alloc = rt.alloc();
     let (head, section2) = (head_4(alloc)?, section2_4(alloc)?);
     let descriptors = descriptors_4();
-    let parts = parts_4(&head, &section2, descriptors.as_slice());
-    assert_spelt(&rt, alloc, &parts, EDITION_4)
+    let said = said_4(&head, &section2, descriptors.as_slice());
+    assert_spelt(&rt, alloc, &said, EDITION_4)
 }
 
 /// The head of the sections of edition 3.
@@ -238,12 +249,15 @@ fn head_3(alloc: Global) -> Result<Head, Fail> {
 fn edition_3(rt: HostRuntime) -> Result<(), Fail> {
     let alloc = rt.alloc();
     let head = head_3(alloc)?;
-    let wanted = Parts {
+    let sections = LentSections {
         head: &head,
         section2: &None,
         observed: true,
         compressed: false,
         descriptors: &[Fxy::from_bits(0x1718)],
+    };
+    let wanted = Said {
+        sections,
         count: 1,
         contents: &[],
     };
@@ -284,11 +298,11 @@ fn assert_lengths(rt: &impl Abort, written: &[u8]) {
     same(rt, written.get(8..11), Some(section1.as_slice()));
 }
 
-/// What was written from parts is read as them, and has the lengths of the long sections.
-fn assert_long(rt: &impl Abort, alloc: Global, parts: &Parts<'_>) -> Result<(), Fail> {
-    let written = spell(alloc, parts)?;
+/// What was written is read so, and has the lengths of the long sections.
+fn assert_long(rt: &impl Abort, alloc: Global, said: &Said<'_>) -> Result<(), Fail> {
+    let written = spell(alloc, &said.sections, said.count, said.contents)?;
     assert_lengths(rt, written.as_slice());
-    assert_said(rt, alloc, written.as_slice(), parts)
+    assert_said(rt, alloc, written.as_slice(), said)
 }
 
 #[test]
@@ -298,16 +312,19 @@ fn long_sections(rt: HostRuntime) -> Result<(), Fail> {
     let section2 = Some(Items::from_vec(many(alloc, 2, 400_000)?));
     let descriptors = long_descriptors(alloc)?;
     let contents = many(alloc, 3, 100_000)?;
-    let parts = Parts {
+    let sections = LentSections {
         head: &head,
         section2: &section2,
         observed: false,
         compressed: true,
         descriptors: descriptors.as_slice(),
+    };
+    let said = Said {
+        sections,
         count: 65_535,
         contents: contents.as_slice(),
     };
-    assert_long(&rt, alloc, &parts)
+    assert_long(&rt, alloc, &said)
 }
 
 /// The text of a failure.
@@ -320,16 +337,14 @@ fn shown(alloc: Global, failure: &impl Display) -> Result<String, Fail> {
 fn written(alloc: Global, count: usize, length: usize) -> Result<String, Fail> {
     let head = head_4(alloc)?;
     let contents = many(alloc, 0, length)?;
-    let parts = Parts {
+    let sections = LentSections {
         head: &head,
         section2: &None,
         observed: true,
         compressed: false,
         descriptors: &[Fxy::from_bits(0x0C65)],
-        count,
-        contents: contents.as_slice(),
     };
-    match spell(alloc, &parts) {
+    match spell(alloc, &sections, count, contents.as_slice()) {
         Ok(_octets) => Ok(String::from_str(alloc, "written")?),
         Err(failure) => shown(alloc, &failure),
     }

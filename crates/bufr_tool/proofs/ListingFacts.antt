@@ -11,7 +11,7 @@ use Rattle.std.proofs.lemmas.Grind.{flat_map-append}
 use Rattle.std.proofs.lemmas.List.Elements.{All-from_recursion, All-get_or}
 use Rattle.std.proofs.lemmas.Option.{get_or_from_slice_get, slice_get_cases, slice_get_within}
 use Rattle.bufr_bits.specs.Devices.{Writing}
-use Rattle.bufr_listing.specs.Listings.{line, joined, heading_of, heading_lines, subset_line}
+use Rattle.bufr_listing.specs.Listings.{line, joined, heading_lines, subset_line}
 use Rattle.bufr_listing.specs.Listings.{subset_lines, field_line, end_line, listing}
 use Rattle.bufr_message.specs.declared.Field.{Field}
 use Rattle.bufr_message.specs.declared.Message.{Message}
@@ -28,7 +28,7 @@ use Rattle.bufr_tool.proofs.PartFacts.{adds_halts, adds_longer, adds_then, but_a
 
 -- that of the lines before the first subset
 abbrev heading_text : Message → List ℕ
-heading_text m = joined (heading_lines (heading_of m))
+heading_text m = joined (heading_lines m)
 
 -- the lines before the first subset and those of so many subsets
 abbrev pub listed : Message → ℕ → List ℕ
@@ -109,7 +109,7 @@ heading_added m p held w grown whole works =
     but_all held (p.held.items ++ listed m 0) p.counts.written w
     (ap (λ (t : List ℕ). p.held.items ++ t) (append-nil _) ∙ sym grown)
     (subst AreWholeLines (sym grown)
-    (both_whole p.held.items (heading_text m) whole (joined_whole (heading_lines (heading_of m)))))
+    (both_whole p.held.items (heading_text m) whole (joined_whole (heading_lines m))))
     works
 
 -- ---- subset by subset

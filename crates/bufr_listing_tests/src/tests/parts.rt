@@ -7,9 +7,9 @@ use bufr_answers::Items;
 use bufr_data::{Field, Raw, Subset};
 use bufr_expand::Spec;
 use bufr_listing::{
-    HeadingParts, end_text, heading_text, push_field, push_subset, push_subset_line, subset_text,
+    end_text, heading_text, push_field, push_subset, push_subset_line, subset_text,
 };
-use bufr_sections::{Head, Message};
+use bufr_sections::{Head, LentSections, Message};
 use bufr_tables::{Fxy, Kind};
 use std::alloc::Global;
 use std::process::Abort;
@@ -37,14 +37,14 @@ subset
 012101 273.15
 ";
 
-/// These parts are listed so.
+/// These sections are listed so.
 fn assert_heading(
     rt: &impl Abort,
     alloc: Global,
-    parts: &HeadingParts<'_>,
+    sections: &LentSections<'_>,
     wanted: &str,
 ) -> Result<(), Fail> {
-    let listed = heading_text(alloc, parts)?;
+    let listed = heading_text(alloc, sections)?;
     same(rt, listed.as_slice(), wanted.as_bytes());
     Ok(())
 }
@@ -79,8 +79,8 @@ fn assert_behind(rt: &impl Abort, octets: &[u8], wanted: &str) {
 
 /// The lines of a message before its first subset.
 fn heading_of(alloc: Global, message: &Message) -> Result<Vec<u8>, Fail> {
-    let parts = HeadingParts::of_message(message);
-    Ok(heading_text(alloc, &parts)?)
+    let sections = LentSections::of_message(message);
+    Ok(heading_text(alloc, &sections)?)
 }
 
 /// The first subset of a message is listed so.
@@ -138,7 +138,7 @@ fn octets(alloc: Global, count: usize) -> Result<Items<u8>, Fail> {
 /// Lines of which all that may be absent is.
 fn assert_bare_heading(rt: &impl Abort, alloc: Global) -> Result<(), Fail> {
     let head = head(octets(alloc, 0)?);
-    let bare = HeadingParts {
+    let bare = LentSections {
         head: &head,
         section2: &None,
         observed: false,
@@ -155,10 +155,10 @@ fn large_descriptors(alloc: Global) -> Result<Vec<Fxy>, Fail> {
     Ok(Vec::from_elem(alloc, Fxy::from_bits(0xC101), 1000)?)
 }
 
-/// These parts are listed as the lines of which each part is large.
-fn assert_large(rt: &impl Abort, alloc: Global, parts: &HeadingParts<'_>) -> Result<(), Fail> {
+/// These sections are listed as the lines of which each part is large.
+fn assert_large(rt: &impl Abort, alloc: Global, sections: &LentSections<'_>) -> Result<(), Fail> {
     let wanted = large_heading(alloc)?;
-    assert_heading(rt, alloc, parts, wanted.as_str())
+    assert_heading(rt, alloc, sections, wanted.as_str())
 }
 
 /// Lines of which each part is large.
@@ -166,7 +166,7 @@ fn assert_large_heading(rt: &impl Abort, alloc: Global) -> Result<(), Fail> {
     let head = head(octets(alloc, 1000)?);
     let section2 = Some(octets(alloc, 70_000)?);
     let descriptors = large_descriptors(alloc)?;
-    let large = HeadingParts {
+    let large = LentSections {
         head: &head,
         section2: &section2,
         observed: true,

@@ -3,27 +3,20 @@
 
 ghost use Rattle.std.specs.Prelude.{◌≡◌, ◌-◌, ◌≤◌, length, slice_get, Some, OnOk, OnErr};
 ghost use Rattle.std.specs.Prelude.{IfOk};
-ghost use Rattle.bufr_listing.specs.Listings.{joined, heading_of, heading_lines};
+ghost use Rattle.bufr_listing.specs.Listings.{joined, heading_lines};
 ghost use Rattle.bufr_message.specs.Views.{AddsSubset, ListsSubset};
 
 use crate::message_view::View;
 use bufr_answers::OutOfMemory;
-use bufr_listing::{HeadingParts, heading_text, push_subset, subset_text};
+use bufr_listing::{heading_text, push_subset, subset_text};
 use std::alloc::Global;
 
 /// The lines of the listing before its first subset.
 pub fn heading_of_view(alloc: Global, view: &View<'_>) -> Result<Vec<u8>, OutOfMemory>
     ensures { IfOk result (λ text.
-        text.items ≡ joined (heading_lines (heading_of view.now.message))) }
+        text.items ≡ joined (heading_lines view.now.message)) }
 {
-    let parts = HeadingParts {
-        head: view.head(),
-        section2: view.section2(),
-        observed: view.observed(),
-        compressed: view.compressed(),
-        descriptors: view.descriptors(),
-    };
-    heading_text(alloc, &parts)
+    heading_text(alloc, &view.sections())
 }
 
 /// Adds the lines of the subset of this number, from 1, which is built for them and let go, to

@@ -1,7 +1,7 @@
 -- For `enclose`: octets whose bits are the filled data bits are those that a message has them in.
 use Rattle.std.proofs.Common.{arith, Err}
 use Rattle.bufr_answers.specs.AnswerLaws.{told_fault}
-use Rattle.bufr_message.specs.Lent.{whole}
+use Rattle.bufr_sections.specs.SectionsRead.{message_lent}
 use Rattle.bufr_message.proofs.EncodingFacts.{whole_octets_are, enclosed_is}
 use Rattle.bufr_message.proofs.encoding.enclose.Goals as goal
 
@@ -11,7 +11,8 @@ returns-in-Ok c data_bits same =
     let octets =
     whole_octets_are c.args.contents.now data_bits
     (λ i. omega (arith, c.type_inv.contents i)) same in
-    enclosed_is (whole c.args.message.now) c.args.contents.now data_bits _ octets c.in-Ok.ensures
+    enclosed_is (message_lent c.args.sections.now c.args.subsets.now) c.args.contents.now data_bits
+    _ octets c.in-Ok.ensures
 
 -- the fault of the parts is that of the message with these data bits
 pub returns-in-Err-Fault : goal.returns-in-Err-Fault
@@ -19,6 +20,6 @@ returns-in-Err-Fault c data_bits same =
     let octets =
     whole_octets_are c.args.contents.now data_bits
     (λ i. omega (arith, c.type_inv.contents i)) same in
-    enclosed_is (whole c.args.message.now) c.args.contents.now data_bits
+    enclosed_is (message_lent c.args.sections.now c.args.subsets.now) c.args.contents.now data_bits
     (Err c.in-Err-Fault.fault) octets
     (told_fault _ _ _ c.in-Err-Fault.field-0-is c.in-Err-Fault.ensures)
