@@ -8,7 +8,8 @@ use Rattle.bufr_data.specs.declared.fault.WriteFault.{WriteFault}
 use Rattle.bufr_sections.specs.declared.message.Message.{Message}
 use Rattle.bufr_sections.specs.Spelt.{spelt_or}
 use Rattle.bufr_message.specs.Messages.{envelope_with}
-use Rattle.bufr_message.specs.Encodings.{filled, whole_octets, data_or, enclosed_or}
+use Rattle.bufr_message.specs.Encodings.{whole_octets, data_or, enclosed_or}
+use Rattle.bufr_data.specs.Subsets.{filled}
 
 -- bits filled to whole octets, as octets
 pub whole_octets_are : (octets : List ℕ) (data_bits : List Bool)

@@ -25,7 +25,8 @@ use Rattle.bufr_data.specs.Plain.{plain}
 use Rattle.bufr_answers.specs.AnswerLaws.{bind_ok}
 use Rattle.bufr_message.specs.declared.report.Report.{Report}
 use Rattle.bufr_message.specs.Below.{Below}
-use Rattle.bufr_message.specs.Encodings.{filled, whole_octets, data_or, data_bits_or, enclosed_or}
+use Rattle.bufr_message.specs.Encodings.{whole_octets, data_or, data_bits_or, enclosed_or}
+use Rattle.bufr_data.specs.Subsets.{filled}
 use Rattle.bufr_message.specs.Encodings.{code}
 use Rattle.bufr_message.specs.Reports.{report_of, reports_of, with_no_local, alone, if_written}
 use Rattle.bufr_message.specs.Reports.{IsCanonical}

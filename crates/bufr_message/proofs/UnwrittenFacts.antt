@@ -24,7 +24,8 @@ use Rattle.bufr_sections.specs.Sections.{AreOctets, Envelope, Ignored, nothing_i
 use Rattle.bufr_sections.specs.Spelt.{bare, most_subsets, longest, spelt_or}
 use Rattle.bufr_message.specs.Messages.{envelope_with, Spells}
 use Rattle.bufr_message.specs.Encodings.{whole_octets, some_descriptors, template_or, data_or}
-use Rattle.bufr_message.specs.Encodings.{data_bits_or, enclosed_or, filled, SpellsBare, code}
+use Rattle.bufr_message.specs.Encodings.{data_bits_or, enclosed_or, SpellsBare, code}
+use Rattle.bufr_data.specs.Subsets.{filled}
 use Rattle.bufr_message.specs.Refusals.{IsTooLong, IsFirstEncodeFault}
 use Rattle.bufr_answers.specs.AnswerLaws.{bind_err, err_is}
 use Rattle.bufr_message.specs.Below.{Below}

@@ -39,10 +39,6 @@ abbrev pub data_or : {A : Type 0} → Result A WriteFault → Result A EncodeFau
 data_or (Ok found) = Ok found
 data_or (Err fault) = Err (faults.Data fault)
 
--- bits, and zero bits behind them to an octet's end
-abbrev pub filled : List Bool → List Bool
-filled data_bits = data_bits ++ replicate ((8 - length data_bits % 8) % 8) false
-
 -- the data bits of a message, or the first fault
 unfoldable pub data_bits_or : Entries → Message → Result (List Bool) EncodeFault
 data_bits_or tables m = do

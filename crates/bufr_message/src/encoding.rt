@@ -5,8 +5,9 @@ ghost use Rattle.bufr_answers.specs.Answers.{Gives, result_map};
 ghost use Rattle.bufr_expand.specs.Templates.{template};
 ghost use Rattle.bufr_bits.specs.Bits.{bits};
 ghost use Rattle.bufr_data.specs.Data.{written_bits};
+ghost use Rattle.bufr_data.specs.Subsets.{filled};
 ghost use Rattle.bufr_sections.specs.SectionsRead.{message_lent};
-ghost use Rattle.bufr_message.specs.Encodings.{filled, template_or, data_or, data_bits_or};
+ghost use Rattle.bufr_message.specs.Encodings.{template_or, data_or, data_bits_or};
 ghost use Rattle.bufr_message.specs.Encodings.{enclosed_or, code, SpellsBare};
 
 use crate::fault::EncodeFault;

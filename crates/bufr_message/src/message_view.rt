@@ -8,9 +8,9 @@ ghost use Rattle.bufr_tables.specs.Entries.{Entries};
 ghost use Rattle.bufr_data.specs.declared.field.Subset.{Subset};
 ghost use Rattle.bufr_data.specs.Data.{subsets_in};
 ghost use Rattle.bufr_data.specs.Plain.{plain};
+ghost use Rattle.bufr_data.specs.Subsets.{filled};
 ghost use Rattle.bufr_sections.specs.Sections.{descriptors_of};
 ghost use Rattle.bufr_sections.specs.SectionsRead.{envelope, message_lent};
-ghost use Rattle.bufr_message.specs.Encodings.{filled};
 ghost use Rattle.bufr_message.specs.Kept.{message_under};
 ghost use Rattle.bufr_message.specs.Messages.{data_or, message_of, can_be_alone, Spells};
 ghost use Rattle.bufr_message.specs.OwnBits.{HaveRoom, spelt_alone};
@@ -163,6 +163,9 @@ impl<'a> View<'a> {
     }
 }
 
+/// How many octets of a subset are given room before any is put: most have fewer.
+const OCTETS_WITH_ROOM: usize = 64;
+
 /// The bits of the subset of this number, from 1, filled to whole octets. It can only run out of
 /// memory.
 fn contents_alone(
@@ -175,7 +178,7 @@ fn contents_alone(
     ensures { IfSome (slice_get subsets.now (number - 1)) (λ s.
         IfOk result (λ contents. bits contents.items ≡ filled (plain s.fields))) }
 {
-    let mut sink = BitSink::new(alloc);
+    let mut sink = BitSink::with_capacity(alloc, OCTETS_WITH_ROOM)?;
     subsets.put(alloc, number, &mut sink)?;
     sink.fill_octet();
     Ok(sink.into_bytes())
