@@ -36,8 +36,9 @@ pub fn encode(
 {
     written_messages_are_spelt();
     let sections = LentSections::of_message(message);
-    numbers_fit(&sections);
-    octets_of(alloc, tables, &sections, message.subsets.as_slice())
+    let subsets = message.subsets.as_slice();
+    numbers_fit(&sections, subsets);
+    octets_of(alloc, tables, &sections, subsets)
 }
 
 /// The octets of a message of these sections and subsets: the one clause from which `encode` and

@@ -1,20 +1,21 @@
 //! The ranges of a message's numbers, which its types keep.
 
-ghost use Rattle.std.specs.Prelude.{◌<◌, ◌^◌, List, All, IfSome};
-ghost use Rattle.bufr_data.specs.declared.field.Subset.{Subset};
+ghost use Rattle.std.specs.Prelude.{◌<◌, ◌^◌, All, IfSome};
 ghost use Rattle.bufr_sections.specs.Sections.{AreOctets, HeadFits};
 ghost use Rattle.bufr_sections.specs.SectionsRead.{message_lent};
 ghost use Rattle.bufr_message.specs.Laws.{NumbersFit};
 
 use bufr_answers::Items;
+use bufr_data::Subset;
 use bufr_sections::{Head, LentSections};
 use bufr_tables::Fxy;
 
-/// The numbers of a message of these sections, whatever its subsets, are in the ranges of their
-/// fields, by their types. Nothing is done with them.
-pub(crate) fn numbers_fit(sections: &LentSections<'_>)
-    ensures { (subsets : List Subset) → NumbersFit (message_lent sections.now subsets) }
+/// The numbers of a message of these sections and subsets are in the ranges of their fields, by
+/// their types. Nothing is done with them.
+pub(crate) fn numbers_fit(sections: &LentSections<'_>, subsets: &[Subset])
+    ensures { NumbersFit (message_lent sections.now subsets.now) }
 {
+    let _subsets = subsets;
     head_fits(sections.head);
     section2_fits(sections.section2);
     descriptors_fit(sections.descriptors);

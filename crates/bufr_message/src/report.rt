@@ -190,6 +190,7 @@ pub fn canonical(
         compressed: false,
         descriptors: report.descriptors.as_slice(),
     };
-    numbers_fit(&sections);
-    octets_of(alloc, tables, &sections, slice::from_ref(&report.subset))
+    let subsets = slice::from_ref(&report.subset);
+    numbers_fit(&sections, subsets);
+    octets_of(alloc, tables, &sections, subsets)
 }

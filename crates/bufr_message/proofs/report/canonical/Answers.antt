@@ -10,5 +10,5 @@ returns-clause-under c = λ octets is.
     subst (Gives (λ v. v.items) c.octets_of.result)
     (c.written_messages_are_spelt.ensures.only c.args.tables.now
     (alone c.args.report.now) octets is.spelt)
-    (rw (c.with_no_local-head.ensures, c.as_slice.ensures, c.from_ref.ensures.value)
+    (rw (c.with_no_local-head.ensures, c.as_slice.ensures, c.from_ref-subsets.ensures.value)
     at c.octets_of.ensures)
