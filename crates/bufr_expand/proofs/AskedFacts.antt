@@ -1,6 +1,6 @@
 -- Where no node ahead is a field that is asked for, the course has none: for
 -- `Walk::tells_no_more`.
-use Rattle.std.proofs.Common.{◌≡◌, ℕ, zero, suc, ◌+◌, ◌-◌, ◌<◌, ◌&&◌, Bool, true, false, List, [], ◌∷◌}
+use Rattle.std.proofs.Common.{◌≡◌, ℕ, zero, suc, ◌+◌, ◌-◌, ◌&&◌, Bool, true, false, List, [], ◌∷◌}
 use Rattle.std.proofs.Common.{take, drop, Option, Some, None, not, sym, subst, refl, ltb}
 use Rattle.std.specs.Bool.{OnTrue}
 use Rattle.std.specs.List.{list_all}
@@ -17,7 +17,7 @@ use Rattle.bufr_expand.specs.Asked.{tells, TellsNone}
 use Rattle.bufr_expand.specs.OperatorsInForce.{in_force_after, effective, untouched}
 use Rattle.bufr_expand.specs.Trees as trees
 use Rattle.bufr_expand.specs.Trees.{tree_within, tree_of}
-use Rattle.bufr_expand.specs.Courses.{Course, ends, stops, asks, Then, item, asks_if, turns}
+use Rattle.bufr_expand.specs.Courses.{Course, ends, stops, Then, item, asks_if, turns}
 use Rattle.bufr_expand.specs.Courses.{course_then}
 use Rattle.bufr_expand.specs.Walks.{left, behind}
 use Rattle.bufr_expand.proofs.PassFacts.{left_going}

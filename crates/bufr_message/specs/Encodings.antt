@@ -1,6 +1,6 @@
 -- The octets that are written for a message (FM 94 BUFR, WMO-No. 306 Volume I.2: sections 0 to 5;
 -- regulation 94.1.3).
-use Rattle.std.specs.Prelude.{◌≡◌, ℕ, ◌+◌, ◌-◌, ◌*◌, ◌/◌, ◌%◌, Bool, false, List, [], ◌∷◌, ◌++◌}
+use Rattle.std.specs.Prelude.{◌≡◌, ℕ, ◌+◌, ◌-◌, ◌*◌, ◌/◌, Bool, false, List, [], ◌∷◌, ◌++◌}
 use Rattle.std.specs.Prelude.{length, replicate, Result, Ok, Err}
 use Rattle.bufr_bits.specs.Bits.{numbers}
 use Rattle.bufr_answers.specs.Answers.{◌>>=◌}

@@ -1,5 +1,5 @@
 -- The clause of `Layout::of`: field by field along the walk, until it ends or asks for a count.
-use Rattle.std.proofs.Common.{refl, arith}
+use Rattle.std.proofs.Common.{arith}
 use Rattle.bufr_data.proofs.StepFacts.{ready_there}
 use Rattle.bufr_data.specs.StepLaws.{field_goes_on}
 use Rattle.bufr_data.proofs.PlainFacts.Layouts.{none_laid, one_laid, all_laid}
