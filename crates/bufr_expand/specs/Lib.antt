@@ -1,4 +1,3 @@
-pub mod StepAnswers
 pub mod NextFields
 pub mod Courses
 pub mod Effects

@@ -1,8 +1,8 @@
--- For `turns_at_once`: the walk can go on after each step.
+-- For `finish`: what its loop keeps.
 use Rattle.std.proofs.Common.{◌≡◌, false}
 use Rattle.bufr_expand.specs.Walks.{waits}
-use Rattle.bufr_expand.proofs.tests.runs.turns_at_once.Given as goal
+use Rattle.bufr_expand_tests.proofs.tests.walks.finish.Given as goal
 
--- no step leaves the walk waiting
+-- the walk waits for no number
 abbrev pub invariant-loop : goal.invariant-loop
 invariant-loop l = waits l.walk ≡ false
