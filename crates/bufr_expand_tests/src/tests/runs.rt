@@ -4,7 +4,7 @@ ghost use Rattle.std.specs.Prelude.{◌≡◌, false};
 ghost use Rattle.bufr_expand.specs.Walks.{waits};
 
 use super::same;
-use super::samples::{step, template_of};
+use super::samples::{step, temperature, template_of};
 use bufr_expand::{Run, Step, Walk, WalkFault};
 use std::alloc::Global;
 use std::process::Abort;
@@ -85,8 +85,13 @@ fn all_turns_at_once(rt: HostRuntime) -> Result<(), Fail> {
 
 #[test]
 fn turns_of_too_many_bits(rt: HostRuntime) -> Result<(), Fail> {
-    let short = turns_at_once(rt.alloc(), PAIRS, (0, 1, 100), 2299)?;
-    same(&rt, (short.run, short.items), (None, 1));
+    let none = AtOnce {
+        run: None,
+        items: 1,
+        next: Ok(temperature(16)?),
+    };
+    let found = turns_at_once(rt.alloc(), PAIRS, (0, 1, 100), 2299)?;
+    same(&rt, found, none);
     Ok(())
 }
 
@@ -153,7 +158,12 @@ fn turns_up_to_the_limit(rt: HostRuntime) -> Result<(), Fail> {
 
 #[test]
 fn turns_beyond_the_limit(rt: HostRuntime) -> Result<(), Fail> {
+    let none = AtOnce {
+        run: None,
+        items: 16_776_707,
+        next: Ok(temperature(16)?),
+    };
     let beyond = turns_at_once(rt.alloc(), TEMPERATURES, (16_776_706, 1, 255), MANY)?;
-    same(&rt, (beyond.run, beyond.items), (None, 16_776_707));
+    same(&rt, beyond, none);
     Ok(())
 }

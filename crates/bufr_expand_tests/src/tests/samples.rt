@@ -1,6 +1,6 @@
 //! Tables, templates and steps that several tests use.
 
-ghost use Rattle.std.specs.Prelude.{◌≡◌, ◌<◌, ◌^◌, false};
+ghost use Rattle.std.specs.Prelude.{◌≡◌, ◌<◌, ◌^◌, false, Ok};
 ghost use Rattle.bufr_expand.specs.Walks.{waits};
 ghost use Rattle.bufr_expand_tests.specs.StepAnswers.{asked_width};
 
@@ -46,17 +46,19 @@ pub(crate) const SEQUENCES: &[u8] = b"FXY1,FXY2\n\
 
 /// The descriptor that is written FXXYYY.
 pub(crate) fn fxy(digits: u32) -> Result<Fxy, Fail> {
-    let f = u8::try_from(digits / 100_000)?;
-    let x = u8::try_from(digits / 1000 % 100)?;
-    let y = u8::try_from(digits % 1000)?;
-    Ok(Fxy::new(f, x, y).ok_or("no descriptor")?)
+    let (f, x, y) = (digits / 100_000, digits / 1000 % 100, digits % 1000);
+    if f > 3 || y > 255 {
+        return Err("no descriptor".into());
+    }
+    Ok(Fxy::new(f as u8, x as u8, y as u8).ok_or("no descriptor")?)
 }
 
 /// The descriptors that are written FXXYYY.
 pub(crate) fn list_of(alloc: Global, digits: &[u32]) -> Result<Vec<Fxy>, Fail> {
     let mut list = Vec::new(alloc);
     for number in digits {
-        list.push(fxy(*number)?)?;
+        let fxy = fxy(*number)?;
+        list.push(fxy)?;
     }
     Ok(list)
 }
@@ -117,13 +119,24 @@ fn number(width: u32, told: u64) -> u64
     if width == 8 && told < 256 { told } else { 0 }
 }
 
+/// The width of the number that a step asks for.
+fn asked_by(step: &Step) -> Option<u32>
+    ensures { result ≡ asked_width (Ok step.now) }
+{
+    match step {
+        Step::Count(_, spec) => Some(spec.width),
+        Step::Field(_, _) => None,
+        Step::End => None,
+    }
+}
+
 /// The width of the number that an answer asks for.
 fn asked(answer: &Result<Step, WalkFault>) -> Option<u32>
     ensures { result ≡ asked_width answer.now }
 {
     match answer {
-        Ok(Step::Count(_, spec)) => Some(spec.width),
-        Ok(Step::Field(_, _)) | Ok(Step::End) | Err(_) => None,
+        Ok(step) => asked_by(step),
+        Err(_) => None,
     }
 }
 

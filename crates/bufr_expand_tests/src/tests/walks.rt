@@ -12,21 +12,30 @@ use std::process::Abort;
 use std::test::Fail;
 
 /// How a walk went: the widths of its first eight fields, or 0, how many fields and items there
-/// were, the last step, and the step after it.
+/// were, the last step, and whether the step after it is the same.
 #[derive(Clone, Copy, Debug, PartialEq)]
 pub(crate) struct Walked {
     pub(crate) widths: [u32; 8],
     pub(crate) fields: u64,
     pub(crate) items: u64,
     pub(crate) last: Result<Step, WalkFault>,
-    pub(crate) again: Result<Step, WalkFault>,
+    pub(crate) stays: bool,
+}
+
+/// The width of the field of a step.
+fn width_of(step: &Step) -> Option<u32> {
+    match step {
+        Step::Count(_, spec) => Some(spec.width),
+        Step::Field(_, spec) => Some(spec.width),
+        Step::End => None,
+    }
 }
 
 /// The width of a field.
 fn width(answer: &Result<Step, WalkFault>) -> Option<u32> {
     match answer {
-        Ok(Step::Count(_, spec)) | Ok(Step::Field(_, spec)) => Some(spec.width),
-        Ok(Step::End) | Err(_) => None,
+        Ok(step) => width_of(step),
+        Err(_) => None,
     }
 }
 
@@ -58,14 +67,14 @@ fn finish(walk: &mut Walk<'_>, told: u64) -> Walked
         }
         fields = fields.saturating_add(1);
     }
-    let again = step(walk, told);
+    let stays = step(walk, told) == last;
     let items = walk.items();
     Walked {
         widths,
         fields,
         items,
         last,
-        again,
+        stays,
     }
 }
 
@@ -76,7 +85,7 @@ fn to_the_end(widths: [u32; 8], fields: u64, items: u64) -> Walked {
         fields,
         items,
         last: Ok(Step::End),
-        again: Ok(Step::End),
+        stays: true,
     }
 }
 
@@ -87,7 +96,7 @@ fn to_a_fault(widths: [u32; 8], fields: u64, fault: WalkFault) -> Walked {
         fields,
         items: 16_777_216,
         last: Err(fault),
-        again: Err(fault),
+        stays: true,
     }
 }
 

@@ -5,4 +5,4 @@ use Rattle.bufr_expand_tests.proofs.tests.large.assert_repeats.Given as goal
 
 -- the walk waits for no number
 abbrev pub invariant-loop : goal.invariant-loop
-invariant-loop l = waits l.walk ≡ false
+invariant-loop g l = waits l.walk ≡ false
