@@ -14,7 +14,6 @@ pub mod Powers
 pub mod ReadingFacts
 pub mod RunFacts
 pub mod SpecFacts
-pub mod Steps
 pub mod TemplateFacts
 pub mod TreeParts
 pub mod UnrollFacts

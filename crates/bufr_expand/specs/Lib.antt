@@ -1,5 +1,4 @@
 pub mod Asked
-pub mod StepAnswers
 pub mod NextFields
 pub mod Courses
 pub mod Effects

@@ -11,8 +11,6 @@ mod part;
 mod run;
 mod standing;
 mod template;
-#[cfg(test)]
-mod tests;
 mod walk;
 mod worked_values;
 

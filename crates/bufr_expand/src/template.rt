@@ -109,6 +109,3 @@ fn repeats(node: &Node) -> bool
         Node::Element(_, _) | Node::Untouched(_, _) | Node::Operator(_) => false,
     }
 }
-
-#[cfg(test)]
-mod tests;

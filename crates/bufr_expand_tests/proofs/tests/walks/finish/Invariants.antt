@@ -1,7 +1,7 @@
--- For `finish_walk` of the tests: what its loop keeps.
+-- For `finish`: what its loop keeps.
 use Rattle.std.proofs.Common.{◌≡◌, false}
 use Rattle.bufr_expand.specs.Walks.{waits}
-use Rattle.bufr_expand.proofs.tests.finish_walk.Given as goal
+use Rattle.bufr_expand_tests.proofs.tests.walks.finish.Given as goal
 
 -- the walk waits for no number
 abbrev pub invariant-loop : goal.invariant-loop

@@ -1,7 +1,7 @@
--- For `turns_at_once`: the walk can go on after each step.
+-- For `passed`: the walk can go on after each step.
 use Rattle.std.proofs.Common.{◌≡◌, false}
 use Rattle.bufr_expand.specs.Walks.{waits}
-use Rattle.bufr_expand.proofs.tests.runs.turns_at_once.Given as goal
+use Rattle.bufr_expand_tests.proofs.tests.runs.passed.Given as goal
 
 -- no step leaves the walk waiting
 abbrev pub invariant-loop : goal.invariant-loop

@@ -1,7 +1,7 @@
 -- For `step` of the tests: what an answer says of the walk, by the lemmas of steps.
 use Rattle.bufr_expand.specs.Walks.{left}
-use Rattle.bufr_expand.proofs.Steps.{asks_bits, asks_none}
-use Rattle.bufr_expand.proofs.tests.step.Goals as goal
+use Rattle.bufr_expand_tests.proofs.Steps.{asks_bits, asks_none}
+use Rattle.bufr_expand_tests.proofs.tests.samples.step.Goals as goal
 
 -- behind a count the walk waits for its number
 pub count-requires-clause-asked : goal.count-requires-clause-asked

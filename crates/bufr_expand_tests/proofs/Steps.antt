@@ -11,7 +11,7 @@ use Rattle.bufr_expand.specs.declared.walk.Step.TheVariants as steps
 use Rattle.bufr_expand.specs.declared.walk.Walk.{Walk}
 use Rattle.bufr_expand.specs.declared.walk.WalkFault.{WalkFault}
 use Rattle.bufr_expand.specs.Courses.{Course, ends, stops, asks}
-use Rattle.bufr_expand.specs.StepAnswers.{asked_width}
+use Rattle.bufr_expand_tests.specs.StepAnswers.{asked_width}
 use Rattle.bufr_expand.specs.Walks.{left, waits, items_met, Goes, Counted, IsBelowCount}
 
 -- a walk that waits for a number of so many bits

@@ -1,0 +1,2 @@
+-- The lemmas behind the steps of the tests.
+pub mod Steps

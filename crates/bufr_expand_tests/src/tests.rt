@@ -1,0 +1,17 @@
+//! Templates, operators in force, and walks, row by row of the description.
+
+mod large;
+mod operators;
+mod runs;
+mod samples;
+mod templates;
+mod walks;
+
+use std::fmt::Debug;
+use std::process::Abort;
+
+/// Stops the test where the two differ. It is a function, since a comparison written out in a test
+/// makes the proof of that test more than twice as long.
+fn same<T: PartialEq + Debug + Drop>(rt: &impl Abort, found: T, wanted: T) {
+    assert_eq!(rt; found, wanted);
+}

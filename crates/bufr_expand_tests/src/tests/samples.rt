@@ -1,0 +1,166 @@
+//! Tables, templates and steps that several tests use.
+
+ghost use Rattle.std.specs.Prelude.{◌≡◌, ◌<◌, ◌^◌, false, Ok};
+ghost use Rattle.bufr_expand.specs.Walks.{waits};
+ghost use Rattle.bufr_expand_tests.specs.StepAnswers.{asked_width};
+
+use super::same;
+use bufr_answers::Failure;
+use bufr_expand::{Spec, Step, Template, TemplateFault, Walk, WalkFault};
+use bufr_tables::{Fxy, Kind, TableB, TableD, TableFault, Tables};
+use std::alloc::Global;
+use std::process::Abort;
+use std::test::Fail;
+
+/// Elements with their unit, scale, reference value and width. A field of 012102 has more bits than
+/// a number may have.
+const TABLE_B: &[u8] = b"FXY,BUFR_Unit,BUFR_Scale,BUFR_ReferenceValue,BUFR_DataWidth_Bits\n\
+001001,Numeric,0,0,7\n\
+001002,Numeric,0,0,10\n\
+001011,CCITT IA5,0,0,72\n\
+002001,Code table,0,0,2\n\
+004001,a,0,0,12\n\
+004002,mon,0,0,4\n\
+004003,d,0,0,6\n\
+004004,h,0,0,5\n\
+004005,min,0,0,6\n\
+012101,K,2,0,16\n\
+012102,K,2,0,64\n\
+031000,Numeric,0,0,1\n\
+031001,Numeric,0,0,8\n\
+031002,Numeric,0,0,17\n\
+031011,Numeric,0,0,8\n";
+
+/// Sequences, of which 301250 holds itself, and 301251 and 301252 hold each other.
+pub(crate) const SEQUENCES: &[u8] = b"FXY1,FXY2\n\
+301001,001001\n\
+301001,001002\n\
+301011,004001\n\
+301011,004002\n\
+301011,004003\n\
+301012,004004\n\
+301012,004005\n\
+301250,301250\n\
+301251,301252\n\
+301252,301251\n";
+
+/// The descriptor that is written FXXYYY.
+pub(crate) fn fxy(digits: u32) -> Result<Fxy, Fail> {
+    let (f, x, y) = (digits / 100_000, digits / 1000 % 100, digits % 1000);
+    if f > 3 || y > 255 {
+        return Err("no descriptor".into());
+    }
+    Ok(Fxy::new(f as u8, x as u8, y as u8).ok_or("no descriptor")?)
+}
+
+/// The descriptors that are written FXXYYY.
+pub(crate) fn list_of(alloc: Global, digits: &[u32]) -> Result<Vec<Fxy>, Fail> {
+    let mut list = Vec::new(alloc);
+    for number in digits {
+        let fxy = fxy(*number)?;
+        list.push(fxy)?;
+    }
+    Ok(list)
+}
+
+/// The rows of the tests and a Table D.
+fn tables_of(alloc: Global, sequences: &[u8]) -> Result<Tables, Failure<TableFault>> {
+    let b = TableB::parse(alloc, TABLE_B)?;
+    let d = TableD::parse(alloc, sequences)?;
+    Ok(Tables::new(b, d))
+}
+
+/// What is answered for a list, by the rows of the tests and a Table D.
+pub(crate) fn answer_of(
+    alloc: Global,
+    sequences: &[u8],
+    list: &[Fxy],
+) -> Result<Result<Template, Failure<TemplateFault>>, Failure<TableFault>> {
+    let tables = tables_of(alloc, sequences)?;
+    Ok(Template::build(alloc, &tables, list))
+}
+
+/// The template of descriptors that are written FXXYYY.
+pub(crate) fn template_of(alloc: Global, digits: &[u32]) -> Result<Template, Fail> {
+    let list = list_of(alloc, digits)?;
+    Ok(answer_of(alloc, SEQUENCES, &list)??)
+}
+
+/// A spec.
+pub(crate) fn spec(kind: Kind, scale: i32, reference: i64, width: u32) -> Spec {
+    Spec {
+        kind,
+        scale,
+        reference,
+        width,
+    }
+}
+
+/// The step to a field that has no scale and no reference value, and so many bits.
+pub(crate) fn field(digits: u32, kind: Kind, width: u32) -> Result<Step, Fail> {
+    Ok(Step::Field(fxy(digits)?, spec(kind, 0, 0, width)))
+}
+
+/// The step to a temperature of so many bits.
+pub(crate) fn temperature(width: u32) -> Result<Step, Fail> {
+    Ok(Step::Field(fxy(12101)?, spec(Kind::Quantity, 2, 0, width)))
+}
+
+/// The step to a factor of eight bits.
+pub(crate) fn count() -> Result<Step, Fail> {
+    Ok(Step::Count(fxy(31001)?, spec(Kind::Count, 0, 0, 8)))
+}
+
+/// A number that a count of this width can have.
+#[tactic(auto, using(std::proofs::lemmas::Nat::pow_pos))]
+fn number(width: u32, told: u64) -> u64
+    ensures { result < 2 ^ width }
+{
+    if width == 8 && told < 256 { told } else { 0 }
+}
+
+/// The width of the number that a step asks for.
+fn asked_by(step: &Step) -> Option<u32>
+    ensures { result ≡ asked_width (Ok step.now) }
+{
+    match step {
+        Step::Count(_, spec) => Some(spec.width),
+        Step::Field(_, _) => None,
+        Step::End => None,
+    }
+}
+
+/// The width of the number that an answer asks for.
+fn asked(answer: &Result<Step, WalkFault>) -> Option<u32>
+    ensures { result ≡ asked_width answer.now }
+{
+    match answer {
+        Ok(step) => asked_by(step),
+        Err(_) => None,
+    }
+}
+
+/// One step, which tells a count its number.
+pub(crate) fn step(walk: &mut Walk<'_>, told: u64) -> Result<Step, WalkFault>
+    requires { waits walk.old ≡ false }
+    ensures { waits walk.new ≡ false }
+{
+    let answer = walk.next();
+    match asked(&answer) {
+        Some(width) => {
+            walk.count(number(width, told));
+            answer
+        }
+        None => answer,
+    }
+}
+
+/// A walk takes these steps next, each count having this number.
+pub(crate) fn assert_steps(rt: &impl Abort, walk: &mut Walk<'_>, told: u64, wanted: &[Step])
+    requires { waits walk.old ≡ false }
+    ensures { waits walk.new ≡ false }
+{
+    for next in wanted {
+        same(rt, step(walk, told), Ok(*next));
+    }
+}
