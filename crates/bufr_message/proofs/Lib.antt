@@ -8,7 +8,6 @@ pub mod AloneBits
 pub mod MessageFacts
 pub mod FaultFacts
 pub mod EncodingFacts
-pub mod AnswerFacts
 pub mod WrittenFacts
 pub mod UnwrittenFacts
 pub mod ReportFacts

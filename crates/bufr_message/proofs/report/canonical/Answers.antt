@@ -1,19 +1,8 @@
--- For `canonical`: the clauses `canonical` and `under`, from the law `written_messages_are_spelt`.
-use Rattle.std.proofs.Common.{subst, ◌∷◌, []}
+-- For `canonical`: the clause `under`, from the law `written_messages_are_spelt`.
+use Rattle.std.proofs.Common.{subst}
 use Rattle.bufr_answers.specs.Answers.{Gives}
 use Rattle.bufr_message.specs.Reports.{alone}
-use Rattle.bufr_message.proofs.AnswerFacts.{answer_canonical}
 use Rattle.bufr_message.proofs.report.canonical.Goals as goal
-
--- the octets that are answered are the report's canonical message
-pub returns-clause-canonical : goal.returns-clause-canonical
-returns-clause-canonical c =
-    let fit = c.numbers_fit.ensures (c.args.report.now.subset ∷ []) in
-    answer_canonical c.written_messages_are_spelt.ensures.bare c.args.tables.now c.args.report.now
-    (λ v. v.items) c.octets_of.result
-    (rw (c.with_no_local-head.ensures, c.as_slice.ensures) at fit)
-    (rw (c.with_no_local-head.ensures, c.as_slice.ensures, c.from_ref.ensures.value)
-    at c.octets_of.ensures)
 
 -- a report's canonical message is what is written of it
 pub returns-clause-under : goal.returns-clause-under
