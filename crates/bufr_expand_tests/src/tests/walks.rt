@@ -168,20 +168,18 @@ impl Asks for Temperatures {
     }
 }
 
-/// Whether a walk tells that no temperature is left, in front of each of its first four fields, each
-/// count having this number.
-fn told(walk: &mut Walk<'_>, number: u64) -> [bool; 4]
+/// Whether a walk tells that no temperature is left; then it goes on by a field, each count having
+/// the number 1.
+fn told(walk: &mut Walk<'_>) -> bool
     requires { waits walk.old ≡ false }
+    ensures { waits walk.new ≡ false }
 {
-    let mut told = [false; 4];
-    for index in 0..4 {
-        told[index] = walk.tells_no_more::<Temperatures>();
-        let _step = step(walk, number);
-    }
+    let told = walk.tells_no_more::<Temperatures>();
+    let _step = step(walk, 1);
     told
 }
 
-/// This is what a walk over the template of descriptors tells so.
+/// This is what a walk over the template of descriptors tells in front of its first four fields.
 fn assert_told(
     rt: &impl Abort,
     alloc: Global,
@@ -190,7 +188,13 @@ fn assert_told(
 ) -> Result<(), Fail> {
     let template = template_of(alloc, digits)?;
     let mut walk = Walk::start(alloc, &template, 0)?;
-    same(rt, told(&mut walk, 1), wanted);
+    let found = [
+        told(&mut walk),
+        told(&mut walk),
+        told(&mut walk),
+        told(&mut walk),
+    ];
+    same(rt, found, wanted);
     Ok(())
 }
 
@@ -198,12 +202,27 @@ fn assert_told(
 #[test]
 fn no_more_that_are_asked_for(rt: HostRuntime) -> Result<(), Fail> {
     let behind_the_first = [false, true, true, true];
-    assert_told(&rt, rt.alloc(), &[12101, 1001, 1002, 2001], behind_the_first)?;
+    assert_told(
+        &rt,
+        rt.alloc(),
+        &[12101, 1001, 1002, 2001],
+        behind_the_first,
+    )?;
     let behind_the_last = [false, false, true, true];
     assert_told(&rt, rt.alloc(), &[1001, 12101, 1002, 2001], behind_the_last)?;
     let behind_the_turn = [false, false, false, true];
-    assert_told(&rt, rt.alloc(), &[101000, 31001, 12101, 1001], behind_the_turn)?;
-    assert_told(&rt, rt.alloc(), &[101002, 1001, 1002, 2001], [true, false, false, true])
+    assert_told(
+        &rt,
+        rt.alloc(),
+        &[101000, 31001, 12101, 1001],
+        behind_the_turn,
+    )?;
+    assert_told(
+        &rt,
+        rt.alloc(),
+        &[101002, 1001, 1002, 2001],
+        [true, false, false, true],
+    )
 }
 
 #[test]
