@@ -75,11 +75,7 @@ impl<'a> Unmerged<'a> {
     }
 
     /// Passes the first entry, and reads the next. It can only run out of memory.
-    fn pass(
-        &mut self,
-        alloc: Global,
-        templates: &mut Templates<'_>,
-    ) -> Result<(), OutOfMemory>
+    fn pass(&mut self, alloc: Global, templates: &mut Templates<'_>) -> Result<(), OutOfMemory>
         ensures same { templates.new ≡ templates.old }
         ensures left { OnOk result ((es : List AnEntry) → AreLeft templates.old es self.old
             → AreLeft templates.old (drop 1 es) self.new) }

@@ -8,12 +8,7 @@ use std::alloc::Global;
 use std::process::Abort;
 
 // The archive whose text is that of such reports, which come in order.
-fn held<'t>(
-    rt: &impl Abort,
-    alloc: Global,
-    tables: &'t Tables,
-    reports: Reports,
-) -> ArchiveText<'t>
+fn held<'t>(rt: &impl Abort, alloc: Global, tables: &'t Tables, reports: Reports) -> ArchiveText<'t>
     ensures { result.tables ≡ tables.now }
 {
     let text = joined(rt, alloc, reports);

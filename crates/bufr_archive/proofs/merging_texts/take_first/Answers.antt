@@ -9,7 +9,7 @@ use Rattle.bufr_archive.proofs.merging_texts.take_first.Goals as goal
 pub returns-in_ok-pass-in-Less-clause-takes : goal.returns-in_ok-pass-in-Less-clause-takes
 returns-in_ok-pass-in-Less-clause-takes c =
     λ es fs l r.
-    left_taken c.args.templates.now es fs c.args.left.now c.pass-in-Less.new.self
+    left_taken c.args.templates.now es fs c.args.left.now c.pass.new.self
     c.args.right.now _ l r (sym c.in-Less.ensures) c.in-Some.is
     (c.in_ok-pass-in-Less.ensures.left es l)
 
