@@ -1,7 +1,7 @@
 -- Texts that are held: for `count_entries`, `ArchiveText::read` and `ArchiveText::merge`.
 use Rattle.std.proofs.Common.{◌≡◌, ℕ, ◌+◌, ◌<◌, ◌≤◌, List, [], ◌∷◌, ◌++◌, length, drop, Option}
 use Rattle.std.proofs.Common.{Some, None, Result, Ok, Err, refl, sym, ap, subst, ◌∙◌, arith}
-use Rattle.std.proofs.Common.{length-append}
+use Rattle.std.proofs.Common.{length-append, map}
 use Rattle.std.specs.Prelude.{option_map}
 use Rattle.std.proofs.lemmas.List.{length-drop}
 use Rattle.std.specs.List.{AllByRecursion}
@@ -225,3 +225,28 @@ merged_held laws tables others tables' left right left' right' octets n m count 
           ∙ ap (λ (t : Entries). merged (seen tables es) (seen t (entries_in t right))) same,
       subst (λ (t : Entries). IsTextOf t octets count (entries_in t octets)) (sym stays) h.1,
     )
+
+-- what is handed out of two texts is that of what both merged hold
+pub merged_handed : (tables others tables' : Entries) (left right left' right' : List ℕ) (n m : ℕ)
+    (handed : List (List ℕ)) → tables ≡ others → tables' ≡ tables → left' ≡ left → right' ≡ right
+    → IsTextOf tables left n (entries_in tables left)
+    → IsTextOf others right m (entries_in others right)
+    → ((es fs : List Entry) → AreInOrder tables' es → AreInOrder tables' fs → left' ≡ text es
+    → right' ≡ text fs → length es + length fs ≤ n + m
+    → handed ≡ map (λ (e : Entry). e.bytes) (kept (es ++ fs)))
+    → handed ≡ map (λ (e : Entry). e.bytes)
+    (merged (seen tables (entries_in tables left)) (seen others (entries_in others right))).entries
+merged_handed tables others tables' left right left' right' n m handed same is left_is right_is l r
+    hands =
+    let es = entries_in tables left in
+    let fs = entries_in tables right in
+    let few : IsTextOf tables right m fs =
+    subst (λ (t : Entries). IsTextOf t right m (entries_in t right)) (sym same) r in
+    let left_few = l.counted in
+    let right_few = few.counted in
+    let in_order : (es : List Entry) → AreInOrder tables es → AreInOrder tables' es =
+    λ es a. subst (λ (t : Entries). AreInOrder t es) (sym is) a in
+    hands es fs (in_order es (held_in_order tables left n es l))
+    (in_order fs (held_in_order tables right m fs few)) (left_is ∙ l.says)
+    (right_is ∙ few.says) (omega arith)
+    ∙ ap (λ (t : Entries). map (λ (e : Entry). e.bytes) (kept (es ++ entries_in t right))) same

@@ -7,6 +7,7 @@ pub mod HeldFacts
 pub mod JudgeFacts
 pub mod KnownFacts
 pub mod MergeFacts
+pub mod MergedOctetsFacts
 pub mod OnLiterals
 pub mod ReadFacts
 pub mod ReportFacts

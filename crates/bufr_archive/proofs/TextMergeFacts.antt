@@ -1,19 +1,27 @@
--- Texts merged step by step: for `take_first`, the loop of `add_merged` and `ArchiveText::merge`.
-use Rattle.std.proofs.Common.{◌≡◌, ℕ, ◌+◌, ◌≤◌, List, [], ◌∷◌, ◌++◌, length, drop, cond}
-use Rattle.std.proofs.Common.{Option, Some, None, Result, Ok, Err, refl, sym, ap, subst, ◌∙◌, arith, append_assoc}
-use Rattle.std.proofs.Common.{length-append}
-use Rattle.std.specs.Prelude.{option_map, IfOk, OnOk}
+-- Texts merged step by step: for `take_first`, the loop of `origins_of`, `merged_text` and
+-- `ArchiveText::merge`.
+use Rattle.std.proofs.Common.{◌≡◌, ℕ, ◌+◌, ◌≤◌, Bool, true, false, List, [], ◌∷◌, ◌++◌, length, drop}
+use Rattle.std.proofs.Common.{map, cond, Option, Some, None, refl, sym, ap, subst, ◌∙◌, arith}
+use Rattle.std.proofs.Common.{append_assoc, length-append}
+use Rattle.std.specs.Prelude.{option_map}
+use Rattle.std.specs.List.{flat_map}
 use Rattle.std.specs.Ordering.{is_gt, ordering_reverse}
 use Rattle.std.specs.declared.cmp.Ordering.TheVariants.{Less, Equal, Greater}
-use Rattle.std.proofs.lemmas.List.{append-nil, drop_at}
+use Rattle.std.proofs.lemmas.List.{append-nil, drop_at, map-append, length-map}
 use Rattle.bufr_tables.specs.Entries.{Entries}
 use Rattle.bufr_shelves.specs.declared.entry.Entry.{Entry}
 use Rattle.bufr_shelves.specs.Entries.{slot_cmp, rank_cmp, kept}
 use Rattle.bufr_shelves.specs.Keeping.{first_of}
 use Rattle.bufr_shelves.specs.Orders.{slots_total}
+use Rattle.bufr_archive.specs.declared.merged_octets.Origin.{Origin}
+use Rattle.bufr_archive.specs.declared.merged_octets.Origin.TheVariants.{Left, Right, LeftOfBoth}
+use Rattle.bufr_archive.specs.declared.merged_octets.Origin.TheVariants.{RightOfBoth}
 use Rattle.bufr_archive.specs.declared.merging_texts.Unmerged.{Unmerged}
-use Rattle.bufr_archive.specs.ArchiveTexts.{AreInOrder, AreLeft, octets_of, order_of_firsts}
-use Rattle.bufr_archive.specs.ArchiveTexts.{greater_of, FirstTaken, TakesFirst, AddsMerged}
+use Rattle.bufr_archive.specs.declared.reading.ReadEntry.{ReadEntry}
+use Rattle.bufr_archive.specs.ArchiveTexts.{AreInOrder, AreLeft, order_of_firsts, greater_of}
+use Rattle.bufr_archive.specs.ArchiveTexts.{ComesFirst, FirstTaken, TakesFirst, AddsMerged}
+use Rattle.bufr_archive.specs.MergedOctets.{first_octets, behind_first, octets_or_none}
+use Rattle.bufr_archive.specs.MergedOctets.{handed_out, HandOutMerged}
 use Rattle.bufr_archive.specs.Reading.{read}
 use Rattle.bufr_archive.specs.ReportEntries.{entry_in}
 use Rattle.bufr_archive.specs.ReportLaws.{ReportsAreEntries}
@@ -21,7 +29,6 @@ use Rattle.bufr_archive.specs.Texts.{text, front_of}
 use Rattle.bufr_archive.proofs.EntryFacts.{front_is}
 use Rattle.bufr_archive.proofs.MergeFacts.{kept_left, kept_right, kept_both_first, after_all}
 use Rattle.bufr_archive.proofs.MergeFacts.{after_first, order_behind}
-use Rattle.bufr_archive.proofs.TextLemmas.{text-push}
 
 -- ---- what is left of a text
 
@@ -62,147 +69,138 @@ front_left laws tables octets front (e ∷ es) a is some =
 
 -- ---- one step
 
+-- nothing is left of both texts
+pub none_taken : (tables : Entries) (es fs : List Entry) (left right : Unmerged)
+    → AreLeft tables es left → AreLeft tables fs right
+    → order_of_firsts (option_map read left.first) (option_map read right.first) ≡ Less
+    → left.first ≡ None → (es ≡ []) × (fs ≡ [])
+none_taken tables es fs left right l r less none =
+    by es fs
+    (sym (ap (λ x. order_of_firsts x (option_map read right.first)) l.first
+    ∙ ap (order_of_firsts (first_of es)) r.first) ∙ less)
+    (sym l.first ∙ ap (option_map read) none)
+  where
+    -- by the two lists
+    by : (es fs : List Entry) → order_of_firsts (first_of es) (first_of fs) ≡ Less
+        → first_of es ≡ None → (es ≡ []) × (fs ≡ [])
+    by [] [] less none = (refl, refl)
+    by [] (f ∷ fs) less none = absurd cc
+    by (e ∷ es) fs less none = absurd cc
+
 -- the first entry of the left text was taken
-left_taken : (tables : Entries) (es fs : List Entry) (before left right : Unmerged)
-    (found : Option (List ℕ)) → AreLeft tables es before → AreLeft tables fs right
+pub left_taken : (tables : Entries) (es fs : List Entry) (before left right : Unmerged)
+    (entry : ReadEntry) → AreLeft tables es before → AreLeft tables fs right
     → order_of_firsts (option_map read before.first) (option_map read right.first) ≡ Less
-    → found ≡ octets_of (option_map read before.first) → AreLeft tables (drop 1 es) left
-    → TakesFirst tables es fs left right found
-left_taken tables es fs before left right found b r less is l =
+    → before.first ≡ Some entry → AreLeft tables (drop 1 es) left
+    → FirstTaken tables es fs left right Left
+left_taken tables es fs before left right entry b r less some l =
     by es fs b.in_order r.in_order r
     (sym (ap (λ x. order_of_firsts x (option_map read right.first)) b.first
     ∙ ap (order_of_firsts (first_of es)) r.first) ∙ less)
-    (sym (ap octets_of b.first) ∙ sym is) l
+    (sym b.first ∙ ap (option_map read) some) l
   where
     -- by the two lists
     by : (es fs : List Entry) → AreInOrder tables es → AreInOrder tables fs
         → AreLeft tables fs right → order_of_firsts (first_of es) (first_of fs) ≡ Less
-        → octets_of (first_of es) ≡ found → AreLeft tables (drop 1 es) left
-        → TakesFirst tables es fs left right found
-    by [] [] a b r less is l = subst (TakesFirst tables [] [] left right) is (refl, refl)
-    by [] (f ∷ fs) a b r less is l = absurd cc
-    by (e ∷ es) [] a b r less is l =
-        subst (TakesFirst tables (e ∷ es) [] left right) is (record {
-          taken = e;
-          bytes = refl;
-          left_behind = es;
-          right_behind = [];
-          are_kept = kept_left e es [] (after_first e es a.ordered) tt;
-          fewer = omega arith;
-          left_are = l;
-          right_are = r;
-        })
-    by (e ∷ es) (f ∷ fs) a b r less is l =
-        subst (TakesFirst tables (e ∷ es) (f ∷ fs) left right) is (record {
-          taken = e;
-          bytes = refl;
-          left_behind = es;
-          right_behind = f ∷ fs;
-          are_kept = kept_left e es (f ∷ fs) (after_first e es a.ordered)
-              (after_all e f fs less b.ordered);
-          fewer = omega arith;
-          left_are = l;
-          right_are = r;
-        })
-
--- so it is of what the call answers that takes it
-pub left_takes : (tables : Entries) (before left right : Unmerged) {B E : Type 0}
-    (now : B → List ℕ) (x : Result (Option B) E)
-    → order_of_firsts (option_map read before.first) (option_map read right.first) ≡ Less
-    → IfOk x (λ found. option_map now found ≡ octets_of (option_map read before.first))
-    → OnOk x ((es : List Entry) → AreLeft tables es before → AreLeft tables (drop 1 es) left)
-    → IfOk x (λ found. (es fs : List Entry) → AreLeft tables es before
-    → AreLeft tables fs right → TakesFirst tables es fs left right (option_map now found))
-left_takes tables before left right now (Ok found) less is behind =
-    λ es fs l r.
-    left_taken tables es fs before left right (option_map now found) l r less is (behind es l)
-left_takes tables before left right now (Err e) less is behind = tt
+        → first_of es ≡ Some (read entry) → AreLeft tables (drop 1 es) left
+        → FirstTaken tables es fs left right Left
+    by [] fs a b r less some l = absurd cc
+    by (e ∷ es) [] a b r less some l = record {
+      taken = e;
+      left_behind = es;
+      right_behind = [];
+      comes = (refl, refl);
+      are_kept = kept_left e es [] (after_first e es a.ordered) tt;
+      fewer = omega arith;
+      left_are = l;
+      right_are = r;
+    }
+    by (e ∷ es) (f ∷ fs) a b r less some l = record {
+      taken = e;
+      left_behind = es;
+      right_behind = f ∷ fs;
+      comes = (refl, refl);
+      are_kept = kept_left e es (f ∷ fs) (after_first e es a.ordered)
+          (after_all e f fs less b.ordered);
+      fewer = omega arith;
+      left_are = l;
+      right_are = r;
+    }
 
 -- the first entry of the right text was taken
-right_taken : (tables : Entries) (es fs : List Entry) (left before right : Unmerged)
-    (found : Option (List ℕ)) → AreLeft tables es left → AreLeft tables fs before
+pub right_taken : (tables : Entries) (es fs : List Entry) (left before right : Unmerged)
+    → AreLeft tables es left → AreLeft tables fs before
     → order_of_firsts (option_map read left.first) (option_map read before.first) ≡ Greater
-    → found ≡ octets_of (option_map read before.first) → AreLeft tables (drop 1 fs) right
-    → TakesFirst tables es fs left right found
-right_taken tables es fs left before right found l b greater is r =
+    → AreLeft tables (drop 1 fs) right → FirstTaken tables es fs left right Right
+right_taken tables es fs left before right l b greater r =
     by es fs l.in_order b.in_order l
     (sym (ap (λ x. order_of_firsts x (option_map read before.first)) l.first
-    ∙ ap (order_of_firsts (first_of es)) b.first) ∙ greater)
-    (sym (ap octets_of b.first) ∙ sym is) r
+    ∙ ap (order_of_firsts (first_of es)) b.first) ∙ greater) r
   where
     -- by the two lists
     by : (es fs : List Entry) → AreInOrder tables es → AreInOrder tables fs
         → AreLeft tables es left → order_of_firsts (first_of es) (first_of fs) ≡ Greater
-        → octets_of (first_of fs) ≡ found → AreLeft tables (drop 1 fs) right
-        → TakesFirst tables es fs left right found
-    by es [] a b l greater is r = absurd cc
-    by [] (f ∷ fs) a b l greater is r =
-        subst (TakesFirst tables [] (f ∷ fs) left right) is (record {
-          taken = f;
-          bytes = refl;
-          left_behind = [];
-          right_behind = fs;
-          are_kept = kept_right f [] fs tt (after_first f fs b.ordered);
-          fewer = omega arith;
-          left_are = l;
-          right_are = r;
-        })
-    by (e ∷ es) (f ∷ fs) a b l greater is r =
+        → AreLeft tables (drop 1 fs) right → FirstTaken tables es fs left right Right
+    by es [] a b l greater r = absurd cc
+    by [] (f ∷ fs) a b l greater r = record {
+      taken = f;
+      left_behind = [];
+      right_behind = fs;
+      comes = (refl, refl);
+      are_kept = kept_right f [] fs tt (after_first f fs b.ordered);
+      fewer = omega arith;
+      left_are = l;
+      right_are = r;
+    }
+    by (e ∷ es) (f ∷ fs) a b l greater r =
         let less : slot_cmp f e ≡ Less =
         slots_total.antisymm f e ∙ ap ordering_reverse greater in
-        subst (TakesFirst tables (e ∷ es) (f ∷ fs) left right) is (record {
+        record {
           taken = f;
-          bytes = refl;
           left_behind = e ∷ es;
           right_behind = fs;
+          comes = (refl, refl);
           are_kept = kept_right f (e ∷ es) fs (after_all f e es less a.ordered)
               (after_first f fs b.ordered);
           fewer = omega arith;
           left_are = l;
           right_are = r;
-        })
+        }
 
--- so it is of what the call answers that takes it
-pub right_takes : (tables : Entries) (left before right : Unmerged) {B E : Type 0}
-    (now : B → List ℕ) (x : Result (Option B) E)
-    → order_of_firsts (option_map read left.first) (option_map read before.first) ≡ Greater
-    → IfOk x (λ found. option_map now found ≡ octets_of (option_map read before.first))
-    → OnOk x ((fs : List Entry) → AreLeft tables fs before → AreLeft tables (drop 1 fs) right)
-    → IfOk x (λ found. (es fs : List Entry) → AreLeft tables es left
-    → AreLeft tables fs before → TakesFirst tables es fs left right (option_map now found))
-right_takes tables left before right now (Ok found) greater is behind =
-    λ es fs l r.
-    right_taken tables es fs left before right (option_map now found) l r greater is (behind fs r)
-right_takes tables left before right now (Err e) greater is behind = tt
+-- that of two entries which is greater comes first
+greater_comes : (e f : Entry) (es fs : List Entry) (greater : Bool)
+    → ComesFirst (cond greater LeftOfBoth RightOfBoth) (e ∷ es) (f ∷ fs) (cond greater e f) es fs
+greater_comes e f es fs true = (refl, f, refl)
+greater_comes e f es fs false = (refl, e, refl)
 
 -- the first entries of both were taken, which are of one slot
 pub both_taken : (tables : Entries) (es fs : List Entry) (left left' right right' : Unmerged)
-    (found : Option (List ℕ)) → AreLeft tables es left → AreLeft tables fs right
+    (origin : Origin) → AreLeft tables es left → AreLeft tables fs right
     → order_of_firsts (option_map read left.first) (option_map read right.first) ≡ Equal
-    → found ≡ octets_of (greater_of (option_map read left.first) (option_map read right.first))
+    → origin ≡ greater_of (option_map read left.first) (option_map read right.first)
     → AreLeft tables (drop 1 es) left' → AreLeft tables (drop 1 fs) right'
-    → TakesFirst tables es fs left' right' found
-both_taken tables es fs left left' right right' found l r equal is l' r' =
+    → FirstTaken tables es fs left' right' origin
+both_taken tables es fs left left' right right' origin l r equal is l' r' =
     by es fs l.in_order r.in_order
     (sym (ap (λ x. order_of_firsts x (option_map read right.first)) l.first
     ∙ ap (order_of_firsts (first_of es)) r.first) ∙ equal)
-    (sym (ap (λ x. octets_of (greater_of x (option_map read right.first))) l.first
-    ∙ ap (λ x. octets_of (greater_of (first_of es) x)) r.first) ∙ sym is) l' r'
+    (sym (ap (λ x. greater_of x (option_map read right.first)) l.first
+    ∙ ap (greater_of (first_of es)) r.first) ∙ sym is) l' r'
   where
     -- by the two lists
     by : (es fs : List Entry) → AreInOrder tables es → AreInOrder tables fs
         → order_of_firsts (first_of es) (first_of fs) ≡ Equal
-        → octets_of (greater_of (first_of es) (first_of fs)) ≡ found
+        → greater_of (first_of es) (first_of fs) ≡ origin
         → AreLeft tables (drop 1 es) left' → AreLeft tables (drop 1 fs) right'
-        → TakesFirst tables es fs left' right' found
+        → FirstTaken tables es fs left' right' origin
     by es [] a b equal is l r = absurd cc
     by [] (f ∷ fs) a b equal is l r = absurd cc
     by (e ∷ es) (f ∷ fs) a b equal is l r =
-        subst (TakesFirst tables (e ∷ es) (f ∷ fs) left' right') is (record {
+        subst (FirstTaken tables (e ∷ es) (f ∷ fs) left' right') is (record {
           taken = cond (is_gt (rank_cmp e f)) e f;
-          bytes = refl;
           left_behind = es;
           right_behind = fs;
+          comes = greater_comes e f es fs (is_gt (rank_cmp e f));
           are_kept = kept_both_first e f es fs equal (after_first e es a.ordered)
               (after_first f fs b.ordered);
           fewer = omega arith;
@@ -210,127 +208,210 @@ both_taken tables es fs left left' right right' found l r equal is l' r' =
           right_are = r;
         })
 
+-- ---- what is handed out of texts
+
+module _ (laws : ReportsAreEntries) (tables : Entries) where
+  -- the octets of the first entry of a text
+  first_is : (e : Entry) (es : List Entry) → AreInOrder tables (e ∷ es)
+      → first_octets (text (e ∷ es)) ≡ e.bytes
+  first_is e es a =
+      ap octets_or_none (front_is e.bytes (text es) ((laws tables).frame e a.each.0))
+
+  -- and behind them the others
+  behind_is : (e : Entry) (es : List Entry) → AreInOrder tables (e ∷ es)
+      → behind_first (text (e ∷ es)) ≡ text es
+  behind_is e es a =
+      drop_at e.bytes (text es) (length (first_octets (text (e ∷ es))))
+      (ap length (sym (first_is e es a)))
+
+  -- the entry that comes first is handed out, and then what is handed out of those behind it
+  pub hands_first : (origin : Origin) (es fs : List Entry) (e : Entry) (left right : List Entry)
+      → AreInOrder tables es → AreInOrder tables fs → ComesFirst origin es fs e left right
+      → (more : List Origin) → handed_out (origin ∷ more) (text es) (text fs)
+      ≡ e.bytes ∷ handed_out more (text left) (text right)
+  hands_first Left es fs e left right a b comes more =
+      let first = subst (AreInOrder tables) comes.0 a in
+      ap (λ (es : List Entry). handed_out (Left ∷ more) (text es) (text fs)) comes.0
+      ∙ ap (λ (fs : List Entry). handed_out (Left ∷ more) (text (e ∷ left)) (text fs)) comes.1
+      ∙ ap (λ (o : List ℕ). o ∷ handed_out more (behind_first (text (e ∷ left))) (text right))
+      (first_is e left first)
+      ∙ ap (λ (o : List ℕ). e.bytes ∷ handed_out more o (text right)) (behind_is e left first)
+  hands_first Right es fs e left right a b comes more =
+      let first = subst (AreInOrder tables) comes.1 b in
+      ap (λ (es : List Entry). handed_out (Right ∷ more) (text es) (text fs)) comes.0
+      ∙ ap (λ (fs : List Entry). handed_out (Right ∷ more) (text left) (text fs)) comes.1
+      ∙ ap (λ (o : List ℕ). o ∷ handed_out more (text left) (behind_first (text (e ∷ right))))
+      (first_is e right first)
+      ∙ ap (λ (o : List ℕ). e.bytes ∷ handed_out more (text left) o) (behind_is e right first)
+  hands_first LeftOfBoth es fs e left right a b comes more =
+      let f = comes.1 in
+      let first = subst (AreInOrder tables) comes.0 a in
+      let other = subst (AreInOrder tables) comes.2 b in
+      ap (λ (es : List Entry). handed_out (LeftOfBoth ∷ more) (text es) (text fs)) comes.0
+      ∙ ap (λ (fs : List Entry). handed_out (LeftOfBoth ∷ more) (text (e ∷ left)) (text fs))
+      comes.2
+      ∙ ap (λ (o : List ℕ). o ∷ handed_out more (behind_first (text (e ∷ left)))
+      (behind_first (text (f ∷ right)))) (first_is e left first)
+      ∙ ap (λ (o : List ℕ). e.bytes ∷ handed_out more o (behind_first (text (f ∷ right))))
+      (behind_is e left first)
+      ∙ ap (λ (o : List ℕ). e.bytes ∷ handed_out more (text left) o) (behind_is f right other)
+  hands_first RightOfBoth es fs e left right a b comes more =
+      let f = comes.1 in
+      let first = subst (AreInOrder tables) comes.0 b in
+      let other = subst (AreInOrder tables) comes.2 a in
+      ap (λ (fs : List Entry). handed_out (RightOfBoth ∷ more) (text es) (text fs)) comes.0
+      ∙ ap (λ (es : List Entry). handed_out (RightOfBoth ∷ more) (text es) (text (e ∷ right)))
+      comes.2
+      ∙ ap (λ (o : List ℕ). o ∷ handed_out more (behind_first (text (f ∷ left)))
+      (behind_first (text (e ∷ right)))) (first_is e right first)
+      ∙ ap (λ (o : List ℕ). e.bytes ∷ handed_out more o (behind_first (text (e ∷ right))))
+      (behind_is f left other)
+      ∙ ap (λ (o : List ℕ). e.bytes ∷ handed_out more (text left) o) (behind_is e right first)
+
 -- ---- step by step
 
--- so far these entries were added, and these are left
-pub record MergedSoFar (tables : Entries) (es fs : List Entry) (before octets : List ℕ)
+-- the octets of entries
+abbrev octets_of : List Entry → List (List ℕ)
+octets_of es = map (λ (e : Entry). e.bytes) es
+
+-- the origins of these entries are told so far, and these are left
+pub record ToldSoFar (tables : Entries) (es fs : List Entry) (origins : List Origin)
     (left right : Unmerged) (most at : ℕ) : Type 0 where
   pub done : List Entry
   pub left_behind : List Entry
   pub right_behind : List Entry
   pub are_kept : kept (es ++ fs) ≡ done ++ kept (left_behind ++ right_behind)
-  pub says : octets ≡ before ++ text done
-  pub counted : at ≡ length done
+  pub hands : (more : List Origin) → handed_out (origins ++ more) (text es) (text fs)
+      ≡ octets_of done ++ handed_out more (text left_behind) (text right_behind)
   pub few : at + (length left_behind + length right_behind) ≤ most
   pub left_are : AreLeft tables left_behind left
   pub right_are : AreLeft tables right_behind right
 
--- at first none was added
-pub merged_none : (tables : Entries) (es fs : List Entry) (octets : List ℕ)
-    (left right : Unmerged) (most : ℕ) → AreLeft tables es left → AreLeft tables fs right
-    → length es + length fs ≤ most
-    → MergedSoFar tables es fs octets octets left right most 0
-merged_none tables es fs octets left right most l r few = record {
+-- at first none is told
+pub told_none : (tables : Entries) (es fs : List Entry) (origins : List Origin)
+    (left right : Unmerged) (most : ℕ) → origins ≡ [] → AreLeft tables es left
+    → AreLeft tables fs right → length es + length fs ≤ most
+    → ToldSoFar tables es fs origins left right most 0
+told_none tables es fs origins left right most none l r few = record {
   done = [];
   left_behind = es;
   right_behind = fs;
   are_kept = refl;
-  says = sym (append-nil octets);
-  counted = refl;
+  hands = λ more.
+      ap (λ (os : List Origin). handed_out (os ++ more) (text es) (text fs)) none;
   few = omega arith;
   left_are = l;
   right_are = r;
 }
 
--- one more was
-pub merged_more : (tables : Entries) (es fs : List Entry) (before octets bytes : List ℕ)
-    (left right left' right' : Unmerged) (most at : ℕ)
-    → (s : MergedSoFar tables es fs before octets left right most at)
-    → FirstTaken tables s.left_behind s.right_behind left' right' bytes
-    → MergedSoFar tables es fs before (octets ++ bytes) left' right' most (at + 1)
-merged_more tables es fs before octets bytes left right left' right' most at s t =
+-- one more is
+told_more : ReportsAreEntries → (tables : Entries) (es fs : List Entry) (origins : List Origin)
+    (origin : Origin) (left right left' right' : Unmerged) (most at : ℕ)
+    → (s : ToldSoFar tables es fs origins left right most at)
+    → FirstTaken tables s.left_behind s.right_behind left' right' origin
+    → ToldSoFar tables es fs (origins ++ origin ∷ []) left' right' most (at + 1)
+told_more laws tables es fs origins origin left right left' right' most at s t =
     let rest = kept (t.left_behind ++ t.right_behind) in
-    let count = s.counted in
     let room = s.few in
     let fewer = t.fewer in
+    let first = hands_first laws tables origin s.left_behind s.right_behind t.taken t.left_behind
+    t.right_behind s.left_are.in_order s.right_are.in_order t.comes in
     record {
       done = s.done ++ t.taken ∷ [];
       left_behind = t.left_behind;
       right_behind = t.right_behind;
       are_kept = s.are_kept ∙ ap (λ (ks : List Entry). s.done ++ ks) t.are_kept
           ∙ sym (append_assoc s.done (t.taken ∷ []) rest);
-      says = ap (λ (o : List ℕ). o ++ bytes) s.says ∙ append_assoc before (text s.done) bytes
-          ∙ ap (λ (o : List ℕ). before ++ o)
-          (ap (λ (b : List ℕ). text s.done ++ b) t.bytes ∙ sym (text-push s.done t.taken));
-      counted = omega (arith, length-append s.done (t.taken ∷ []));
+      hands = λ more.
+          let behind = handed_out more (text t.left_behind) (text t.right_behind) in
+          ap (λ (os : List Origin). handed_out os (text es) (text fs))
+          (append_assoc origins (origin ∷ []) more)
+          ∙ s.hands (origin ∷ more)
+          ∙ ap (λ (os : List (List ℕ)). octets_of s.done ++ os) (first more)
+          ∙ sym (append_assoc (octets_of s.done) (t.taken.bytes ∷ []) behind)
+          ∙ ap (λ (os : List (List ℕ)). os ++ behind)
+          (sym (map-append (λ (e : Entry). e.bytes) s.done (t.taken ∷ [])));
       few = omega arith;
       left_are = t.left_are;
       right_are = t.right_are;
     }
 
 -- nothing is left of both
-pub merged_done : (tables : Entries) (es fs : List Entry) (before octets : List ℕ)
+told_done : (tables : Entries) (es fs : List Entry) (origins : List Origin)
     (left right : Unmerged) (most at : ℕ)
-    → (s : MergedSoFar tables es fs before octets left right most at)
-    → s.left_behind ≡ [] → s.right_behind ≡ [] → AddsMerged es fs before octets at
-merged_done tables es fs before octets left right most at s none none_too =
+    → (s : ToldSoFar tables es fs origins left right most at)
+    → s.left_behind ≡ [] → s.right_behind ≡ [] → HandOutMerged es fs origins
+told_done tables es fs origins left right most at s none none_too =
     let all : kept (es ++ fs) ≡ s.done =
     s.are_kept
     ∙ ap (λ (ks : List Entry). s.done ++ kept (ks ++ s.right_behind)) none
     ∙ ap (λ (ks : List Entry). s.done ++ kept ks) none_too ∙ append-nil s.done in
-    record {
-      text_is = s.says ∙ ap (λ (ks : List Entry). before ++ text ks) (sym all);
-      counted = s.counted ∙ ap length (sym all);
-    }
+    ap (λ (os : List Origin). handed_out os (text es) (text fs)) (sym (append-nil origins))
+    ∙ s.hands [] ∙ append-nil (octets_of s.done) ∙ ap octets_of (sym all)
 
 -- a list with no members
 empty : (es : List Entry) → length es ≡ 0 → es ≡ []
 empty [] none = refl
 empty (e ∷ es) none = absurd (omega arith)
 
--- so it is where as many were added as there are at most
-pub merged_all : (tables : Entries) (es fs : List Entry) (before octets : List ℕ)
-    (left right : Unmerged) (most : ℕ) → MergedSoFar tables es fs before octets left right most most
-    → AddsMerged es fs before octets most
-merged_all tables es fs before octets left right most s =
+-- so it is where as many are told as there are at most
+pub told_all : (tables : Entries) (es fs : List Entry) (origins : List Origin)
+    (left right : Unmerged) (most at : ℕ) → ToldSoFar tables es fs origins left right most at
+    → most ≤ at → HandOutMerged es fs origins
+told_all tables es fs origins left right most at s all =
     let room = s.few in
-    merged_done tables es fs before octets left right most most s
+    told_done tables es fs origins left right most at s
     (empty s.left_behind (omega arith)) (empty s.right_behind (omega arith))
 
 -- the step that is made, whatever is left
-abbrev pub Takes : Entries → Unmerged → Unmerged → Unmerged → Unmerged → Option (List ℕ) → Type 0
+abbrev pub Takes : Entries → Unmerged → Unmerged → Unmerged → Unmerged → Option Origin → Type 0
 Takes tables left right left' right' found =
     (es fs : List Entry) → AreLeft tables es left → AreLeft tables fs right
     → TakesFirst tables es fs left' right' found
 
--- where nothing is taken all was added
-pub merged_stops : (tables tables' : Entries) (es fs : List Entry) (before octets : List ℕ)
-    (left right left' right' : Unmerged) (found : Option (List ℕ)) (most at : ℕ)
-    → MergedSoFar tables es fs before octets left right most at → tables' ≡ tables
-    → Takes tables' left right left' right' found → found ≡ None
-    → AddsMerged es fs before octets at
-merged_stops tables tables' es fs before octets left right left' right' found most at s same takes
-    none =
+-- where nothing is taken all are told
+pub told_stops : (tables tables' : Entries) (es fs : List Entry) (origins : List Origin)
+    (left right left' right' : Unmerged) (found : Option Origin) (most at : ℕ)
+    → ToldSoFar tables es fs origins left right most at → tables' ≡ tables
+    → Takes tables' left right left' right' found → found ≡ None → HandOutMerged es fs origins
+told_stops tables tables' es fs origins left right left' right' found most at s same takes none =
     let t : Takes tables left right left' right' found =
     subst (λ (t : Entries). Takes t left right left' right' found) same takes in
     let n : TakesFirst tables s.left_behind s.right_behind left' right' None =
     subst (TakesFirst tables s.left_behind s.right_behind left' right') none
     (t s.left_behind s.right_behind s.left_are s.right_are) in
-    merged_done tables es fs before octets left right most at s n.0 n.1
+    told_done tables es fs origins left right most at s n.0 n.1
 
--- what is taken is added
-pub merged_goes_on : (tables tables' : Entries) (es fs : List Entry)
-    (before octets bytes octets' : List ℕ) (left right left' right' : Unmerged)
-    (found : Option (List ℕ)) (most at : ℕ)
-    → MergedSoFar tables es fs before octets left right most at → tables' ≡ tables
-    → Takes tables' left right left' right' found → found ≡ Some bytes → octets' ≡ octets ++ bytes
-    → MergedSoFar tables es fs before octets' left' right' most (at + 1)
-merged_goes_on tables tables' es fs before octets bytes octets' left right left' right' found most
+-- the origin of what is taken is told
+pub told_goes_on : ReportsAreEntries → (tables tables' : Entries) (es fs : List Entry)
+    (origins origins' : List Origin) (origin : Origin) (left right left' right' : Unmerged)
+    (found : Option Origin) (most at : ℕ) → ToldSoFar tables es fs origins left right most at
+    → tables' ≡ tables → Takes tables' left right left' right' found → found ≡ Some origin
+    → origins' ≡ origins ++ origin ∷ []
+    → ToldSoFar tables es fs origins' left' right' most (at + 1)
+told_goes_on laws tables tables' es fs origins origins' origin left right left' right' found most
     at s same takes some is =
     let t : Takes tables left right left' right' found =
     subst (λ (t : Entries). Takes t left right left' right' found) same takes in
-    let n : TakesFirst tables s.left_behind s.right_behind left' right' (Some bytes) =
+    let n : TakesFirst tables s.left_behind s.right_behind left' right' (Some origin) =
     subst (TakesFirst tables s.left_behind s.right_behind left' right') some
     (t s.left_behind s.right_behind s.left_are s.right_are) in
-    subst (λ (o : List ℕ). MergedSoFar tables es fs before o left' right' most (at + 1)) (sym is)
-    (merged_more tables es fs before octets bytes left right left' right' most at s n)
+    subst (λ (os : List Origin). ToldSoFar tables es fs os left' right' most (at + 1)) (sym is)
+    (told_more laws tables es fs origins origin left right left' right' most at s n)
+
+-- ---- the octets joined
+
+-- the octets of entries joined are their text
+joined_text : (es : List Entry) → flat_map (λ (o : List ℕ). o) (octets_of es) ≡ text es
+joined_text [] = refl
+joined_text (e ∷ es) = ap (λ (xs : List ℕ). e.bytes ++ xs) (joined_text es)
+
+-- so those of what is kept of two lists are the text of both merged, and they are counted
+pub adds_joined : (es fs : List Entry) (merged : List (List ℕ)) (octets : List ℕ) (count : ℕ)
+    → merged ≡ octets_of (kept (es ++ fs)) → octets ≡ flat_map (λ (o : List ℕ). o) merged
+    → count ≡ length merged → AddsMerged es fs [] octets count
+adds_joined es fs merged octets count are joined counted = record {
+  text_is = joined ∙ ap (λ (os : List (List ℕ)). flat_map (λ (o : List ℕ). o) os) are
+      ∙ joined_text (kept (es ++ fs));
+  counted = counted ∙ ap length are ∙ length-map (kept (es ++ fs)) (λ (e : Entry). e.bytes);
+}

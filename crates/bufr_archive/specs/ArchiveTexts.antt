@@ -12,6 +12,9 @@ use Rattle.bufr_shelves.specs.Entries.{slot_cmp, rank_cmp, kept}
 use Rattle.bufr_shelves.specs.Keeping.{first_of}
 use Rattle.bufr_archive.specs.declared.reading.NotAnArchive.{NotAnArchive}
 use Rattle.bufr_archive.specs.declared.merging_texts.Unmerged.{Unmerged}
+use Rattle.bufr_archive.specs.declared.merged_octets.Origin.{Origin}
+use Rattle.bufr_archive.specs.declared.merged_octets.Origin.TheVariants.{Left, Right, LeftOfBoth}
+use Rattle.bufr_archive.specs.declared.merged_octets.Origin.TheVariants.{RightOfBoth}
 use Rattle.bufr_archive.specs.Texts.{text, entries_read}
 use Rattle.bufr_archive.specs.ReportEntries.{IsReportEntry, entry_in}
 use Rattle.bufr_archive.specs.Reading.{read}
@@ -53,10 +56,6 @@ pub record AreLeft (tables : Entries) (es : List Entry) (left : Unmerged) : Type
   pub first : option_map read left.first ≡ first_of es
   pub behind : left.behind.now ≡ text (drop 1 es)
 
--- the octets of an entry that may be there
-abbrev pub octets_of : Option Entry → Option (List ℕ)
-octets_of e = option_map (λ (e : Entry). e.bytes) e
-
 -- the order of the slots of two entries; where one is missing it is told as if its slot were
 -- greater
 abbrev pub order_of_firsts : Option Entry → Option Entry → Ordering
@@ -64,29 +63,38 @@ order_of_firsts e None = Less
 order_of_firsts None (Some f) = Greater
 order_of_firsts (Some e) (Some f) = slot_cmp e f
 
--- of two entries that may be there the one of greater rank
-abbrev pub greater_of : Option Entry → Option Entry → Option Entry
-greater_of e None = e
-greater_of None (Some f) = Some f
-greater_of (Some e) (Some f) = Some (if is_gt (rank_cmp e f) then e else f)
+-- of two entries of one slot that of the greater rank
+abbrev pub greater_of : Option Entry → Option Entry → Origin
+greater_of e None = LeftOfBoth
+greater_of None (Some f) = RightOfBoth
+greater_of (Some e) (Some f) = if is_gt (rank_cmp e f) then LeftOfBoth else RightOfBoth
+
+-- the first entry of this origin is one of two lists, and behind it these are left
+abbrev pub ComesFirst : Origin → List Entry → List Entry → Entry → List Entry → List Entry → Type 0
+ComesFirst Left es fs e left right = (es ≡ e ∷ left) × (fs ≡ right)
+ComesFirst Right es fs e left right = (es ≡ left) × (fs ≡ e ∷ right)
+ComesFirst LeftOfBoth es fs e left right =
+    (es ≡ e ∷ left) × (f : Entry) × (fs ≡ f ∷ right)
+ComesFirst RightOfBoth es fs e left right =
+    (fs ≡ e ∷ right) × (f : Entry) × (es ≡ f ∷ left)
 
 -- the first entry that is kept of two lists was taken, with those of its slot; these are left
 pub record FirstTaken (tables : Entries) (es fs : List Entry) (left right : Unmerged)
-    (octets : List ℕ) : Type 0 where
+    (origin : Origin) : Type 0 where
   pub taken : Entry
-  pub bytes : octets ≡ taken.bytes
   pub left_behind : List Entry
   pub right_behind : List Entry
+  pub comes : ComesFirst origin es fs taken left_behind right_behind
   pub are_kept : kept (es ++ fs) ≡ taken ∷ kept (left_behind ++ right_behind)
   pub fewer : length left_behind + length right_behind < length es + length fs
   pub left_are : AreLeft tables left_behind left
   pub right_are : AreLeft tables right_behind right
 
 -- so it is, or nothing is left of both
-abbrev pub TakesFirst : Entries → List Entry → List Entry → Unmerged → Unmerged
-    → Option (List ℕ) → Type 0
+abbrev pub TakesFirst : Entries → List Entry → List Entry → Unmerged → Unmerged → Option Origin
+    → Type 0
 TakesFirst tables es fs left right None = (es ≡ []) × (fs ≡ [])
-TakesFirst tables es fs left right (Some octets) = FirstTaken tables es fs left right octets
+TakesFirst tables es fs left right (Some origin) = FirstTaken tables es fs left right origin
 
 -- the text of what is kept of two lists was added to some octets, and its entries counted
 pub record AddsMerged (es fs : List Entry) (octets octets' : List ℕ) (count : ℕ) : Type 0 where

@@ -8,6 +8,7 @@ pub mod ArchiveTexts
 pub mod ChangeCounts
 pub mod EntryLaws
 pub mod Laws
+pub mod MergedOctets
 pub mod Reading
 pub mod ReportEntries
 pub mod ReportLaws

@@ -1,5 +1,5 @@
 //! Archives held as their text.
-ghost use Rattle.std.specs.Prelude.{◌≡◌, [], List, length, IfOk, IfErr, OnOk, OnErr, Ok};
+ghost use Rattle.std.specs.Prelude.{◌≡◌, [], List, length, map, IfOk, IfErr, OnOk, OnErr, Ok};
 ghost use Rattle.bufr_answers.specs.Answers.{Gives};
 ghost use Rattle.bufr_message.specs.declared.report.Report.{Report as AReport};
 ghost use Rattle.bufr_sections.specs.Sections.{AreOctets};
@@ -11,7 +11,8 @@ ghost use Rattle.bufr_archive.specs.ReportTexts.{IsArchiveOf, RefusedAt, archive
 ghost use Rattle.bufr_archive.specs.Texts.{text, entries_read};
 
 use crate::laws::reports_are_entries;
-use crate::merging_texts::merged_text;
+use crate::merged_octets::MergedOctets;
+use crate::merging_texts::{merged_octets, merged_text};
 use crate::reading::{NotAnArchive, ReadEntry, behind, right_entry};
 use bufr_answers::{Failure, OutOfMemory};
 use bufr_message::Templates;
@@ -123,6 +124,25 @@ impl<'t> ArchiveText<'t> {
         self.octets = octets;
         self.count = count;
         Ok(())
+    }
+
+    /// The octets of the entries that are kept of it and of another archive under the same tables:
+    /// joined they are the text of both merged, which is not built. For each entry an octet is held
+    /// beside the two texts. It can only run out of memory.
+    pub fn merged_with<'a>(
+        &'a self,
+        alloc: Global,
+        other: &'a ArchiveText<'t>,
+    ) -> Result<MergedOctets<'a>, OutOfMemory>
+        requires { self.now.tables ≡ other.now.tables }
+        ensures { IfOk result (λ left.
+            left ≡ map (λ e. e.bytes) (merged self.now other.now).entries) }
+    {
+        reports_are_entries();
+        let most = self.count + other.count;
+        let mut templates = Templates::new(alloc, self.templates.tables());
+        let left = merged_octets(alloc, &mut templates, &self.octets, &other.octets, most)?;
+        Ok(left)
     }
 
     /// How many reports it holds.

@@ -14,6 +14,7 @@ pub mod archive;
 pub mod archive_text;
 pub mod builder;
 pub mod laws;
+pub mod merged_octets;
 mod merging_texts;
 pub mod reading;
 mod report_entry;
@@ -28,5 +29,6 @@ pub use bufr_shelves::{
     laws as shelf_laws, shelve, slot_order,
 };
 pub use builder::ArchiveBuilder;
+pub use merged_octets::MergedOctets;
 pub use reading::NotAnArchive;
 pub use report_entry::{entry_of, key_of};

@@ -1,13 +1,16 @@
 //! Two texts merged from the left, of each of which one entry is held at a time.
-ghost use Rattle.std.specs.Prelude.{◌≡◌, ◌+◌, ◌≤◌, List, [], drop, length, IfOk, OnOk};
+ghost use Rattle.std.specs.Prelude.{◌≡◌, ◌+◌, ◌++◌, ◌≤◌, List, [], drop, length, map, IfOk, OnOk};
 ghost use Rattle.std.specs.Option.{option_map};
 ghost use Rattle.bufr_shelves.specs.declared.entry.Entry.{Entry as AnEntry};
-ghost use Rattle.bufr_archive.specs.ArchiveTexts.{AreInOrder, AreLeft, TakesFirst, AddsMerged, octets_of, order_of_firsts, greater_of};
+ghost use Rattle.bufr_shelves.specs.Entries.{kept};
+ghost use Rattle.bufr_archive.specs.ArchiveTexts.{AreInOrder, AreLeft, TakesFirst, AddsMerged, order_of_firsts, greater_of};
+ghost use Rattle.bufr_archive.specs.MergedOctets.{HandOutMerged};
 ghost use Rattle.bufr_archive.specs.ReportEntries.{entry_in};
 ghost use Rattle.bufr_archive.specs.Reading.{read};
 ghost use Rattle.bufr_archive.specs.Texts.{text};
 
 use crate::laws::reports_are_entries;
+use crate::merged_octets::{MergedOctets, Origin};
 use crate::reading::{ReadEntry, behind, front_of};
 use crate::report_entry::read_entry;
 use bufr_answers::{Failure, OutOfMemory};
@@ -71,31 +74,14 @@ impl<'a> Unmerged<'a> {
         })
     }
 
-    /// The octets of its first entry, if anything is left.
-    fn octets(&self) -> Option<&'a [u8]>
-        ensures { option_map (λ s. s.now) result ≡ octets_of (option_map read self.now.first) }
-    {
-        let entry = self.first.as_ref()?;
-        Some(entry.bytes)
-    }
-
-    /// Takes the octets of the first entry, and reads the next. It can only run out of memory.
-    fn take(
-        &mut self,
-        alloc: Global,
-        templates: &mut Templates<'_>,
-    ) -> Result<Option<&'a [u8]>, OutOfMemory>
+    /// Passes the first entry, and reads the next. It can only run out of memory.
+    fn pass(&mut self, alloc: Global, templates: &mut Templates<'_>) -> Result<(), OutOfMemory>
         ensures same { templates.new ≡ templates.old }
-        ensures octets { IfOk result (λ found. option_map (λ s. s.now) found
-            ≡ octets_of (option_map read self.old.first)) }
         ensures left { OnOk result ((es : List AnEntry) → AreLeft templates.old es self.old
             → AreLeft templates.old (drop 1 es) self.new) }
     {
-        let Some(octets) = self.octets() else {
-            return Ok(None);
-        };
         *self = Unmerged::of_text(alloc, templates, self.behind)?;
-        Ok(Some(octets))
+        Ok(())
     }
 }
 
@@ -119,74 +105,104 @@ fn order_of_firsts(left: &Unmerged, right: &Unmerged) -> Ordering
     )
 }
 
-/// The octets of that of two first entries which has the greater rank.
-fn greater_of<'a>(left: &Unmerged<'a>, right: &Unmerged<'a>) -> Option<&'a [u8]>
-    ensures { option_map (λ s. s.now) result ≡ octets_of (greater_of
-        (option_map read left.now.first) (option_map read right.now.first)) }
+/// Of two first entries of one slot that which has the greater rank.
+fn greater_of(left: &Unmerged, right: &Unmerged) -> Origin
+    ensures { result ≡ greater_of (option_map read left.now.first)
+        (option_map read right.now.first) }
 {
     let Some(other) = &right.first else {
-        return left.octets();
+        return Origin::LeftOfBoth;
     };
     let Some(entry) = &left.first else {
-        return Some(other.bytes);
+        return Origin::RightOfBoth;
     };
     let order = entry.update.cmp(&other.update);
     if order.then(entry.bytes.cmp(other.bytes)).is_gt() {
-        Some(entry.bytes)
+        Origin::LeftOfBoth
     } else {
-        Some(other.bytes)
+        Origin::RightOfBoth
     }
 }
 
-/// Takes the octets of the first entry that is kept of two texts: of the two first the one of the
-/// lesser slot, or of one slot the one of the greater rank, and then both are taken. It can only
-/// run out of memory.
+/// Takes the first entry that is kept of two texts, and answers of which text it is: of the two
+/// first the one of the lesser slot, or of one slot the one of the greater rank, and then both are
+/// passed. It can only run out of memory.
 fn take_first<'a>(
     alloc: Global,
     templates: &mut Templates<'_>,
     left: &mut Unmerged<'a>,
     right: &mut Unmerged<'a>,
-) -> Result<Option<&'a [u8]>, OutOfMemory>
+) -> Result<Option<Origin>, OutOfMemory>
     ensures same { templates.new ≡ templates.old }
     ensures takes { IfOk result (λ found. (es fs : List AnEntry)
         → AreLeft templates.old es left.old → AreLeft templates.old fs right.old
-        → TakesFirst templates.old es fs left.new right.new (option_map (λ s. s.now) found)) }
+        → TakesFirst templates.old es fs left.new right.new found) }
 {
     match order_of_firsts(left, right) {
-        Ordering::Less => left.take(alloc, templates),
-        Ordering::Greater => right.take(alloc, templates),
+        Ordering::Less => {
+            let Some(_entry) = &left.first else {
+                return Ok(None);
+            };
+            left.pass(alloc, templates)?;
+            Ok(Some(Origin::Left))
+        }
+        Ordering::Greater => {
+            right.pass(alloc, templates)?;
+            Ok(Some(Origin::Right))
+        }
         Ordering::Equal => {
-            let octets = greater_of(left, right);
-            left.take(alloc, templates)?;
-            right.take(alloc, templates)?;
-            Ok(octets)
+            let origin = greater_of(left, right);
+            left.pass(alloc, templates)?;
+            right.pass(alloc, templates)?;
+            Ok(Some(origin))
         }
     }
 }
 
-/// Adds the text of what is kept of two texts, which have at most so many entries, to octets, and
-/// answers how many are kept. It can only run out of memory.
-fn add_merged<'a>(
+/// Of which text each entry is that is kept of two texts, which have at most so many entries. It
+/// can only run out of memory.
+fn origins_of<'a>(
     alloc: Global,
     templates: &mut Templates<'_>,
     mut left: Unmerged<'a>,
     mut right: Unmerged<'a>,
     most: usize,
-    octets: &mut Vec<u8>,
-) -> Result<usize, OutOfMemory>
+) -> Result<Vec<Origin>, OutOfMemory>
     ensures same { templates.new ≡ templates.old }
-    ensures merged { IfOk result (λ count. (es fs : List AnEntry)
+    ensures origins { IfOk result (λ origins. (es fs : List AnEntry)
         → AreLeft templates.old es left.entry → AreLeft templates.old fs right.entry
-        → length es + length fs ≤ most
-        → AddsMerged es fs octets.old.items octets.new.items count) }
+        → length es + length fs ≤ most → HandOutMerged es fs origins.items) }
 {
-    for count in 0..most {
-        let Some(bytes) = take_first(alloc, templates, &mut left, &mut right)? else {
-            return Ok(count);
+    reports_are_entries();
+    let mut origins = Vec::with_capacity(alloc, most)?;
+    for _ in 0..most {
+        let Some(origin) = take_first(alloc, templates, &mut left, &mut right)? else {
+            return Ok(origins);
         };
-        octets.extend_from_slice(bytes)?;
+        origins.push(origin)?;
     }
-    Ok(most)
+    Ok(origins)
+}
+
+/// The octets of the entries that are kept of two texts, which have at most so many entries. It can
+/// only run out of memory.
+pub(crate) fn merged_octets<'a>(
+    alloc: Global,
+    templates: &mut Templates<'_>,
+    left: &'a [u8],
+    right: &'a [u8],
+    most: usize,
+) -> Result<MergedOctets<'a>, OutOfMemory>
+    ensures same { templates.new ≡ templates.old }
+    ensures merged { IfOk result (λ merged. (es fs : List AnEntry)
+        → AreInOrder templates.old es → AreInOrder templates.old fs
+        → left.now ≡ text es → right.now ≡ text fs → length es + length fs ≤ most
+        → merged ≡ map (λ e. e.bytes) (kept (es ++ fs))) }
+{
+    let first = Unmerged::of_text(alloc, templates, left)?;
+    let other = Unmerged::of_text(alloc, templates, right)?;
+    let origins = origins_of(alloc, templates, first, other, most)?;
+    Ok(MergedOctets::new(origins, left, right))
 }
 
 /// The text of what is kept of two texts, which have at most so many entries, and how many are
@@ -204,9 +220,8 @@ pub(crate) fn merged_text<'a>(
         → left.now ≡ text es → right.now ≡ text fs → length es + length fs ≤ most
         → AddsMerged es fs [] merged.0.items merged.1) }
 {
-    let mut octets = Vec::with_capacity(alloc, left.len() + right.len())?;
-    let left = Unmerged::of_text(alloc, templates, left)?;
-    let right = Unmerged::of_text(alloc, templates, right)?;
-    let count = add_merged(alloc, templates, left, right, most, &mut octets)?;
+    let merged = merged_octets(alloc, templates, left, right, most)?;
+    let count = merged.len();
+    let octets = merged.into_text(alloc, left.len() + right.len())?;
     Ok((octets, count))
 }

@@ -14,6 +14,7 @@ mod adding;
 mod files;
 mod keys;
 mod samples;
+mod texts;
 
 /// Reports by number and update sequence number.
 type Reports<'a> = &'a [(u16, u8)];

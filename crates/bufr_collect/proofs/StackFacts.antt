@@ -1,7 +1,7 @@
--- Texts merged from the uppermost on: for `put_on` and `merge_all`.
-use Rattle.std.proofs.Common.{◌≡◌, List, [], ◌∷◌, ◌++◌, Option, Some, None, sym, ap, ◌∙◌}
-use Rattle.std.proofs.Common.{append_assoc}
-use Rattle.std.proofs.lemmas.List.{append-nil}
+-- Texts merged from the uppermost on: for `put_on`, `settle`, `put_above` and `merge_upper`.
+use Rattle.std.proofs.Common.{◌≡◌, ◌≤◌, List, [], ◌∷◌, ◌++◌, length, Option, Some, None, refl, sym}
+use Rattle.std.proofs.Common.{ap, subst, ◌∙◌, arith, append_assoc, length-append}
+use Rattle.std.proofs.lemmas.List.{append-nil, nil_from_length}
 use Rattle.std.proofs.lemmas.List.Elements.{All-pop}
 use Rattle.std.proofs.lemmas.Grind.{flat_map-append}
 use Rattle.std.specs.Option.{option_to_list}
@@ -84,16 +84,103 @@ put_together tables old text archives rest archives' top found h taken none put 
     ∙ h.same
     ∙ sym (kept-early (entries_together old) text.entries))
 
--- nothing is left below the one above
-pub all_together : (tables : Entries) (old : List ArchiveView) (archives : List ArchiveView)
-    (top nothing : ArchiveView) → HoldTogether tables old nothing archives top → archives ≡ []
-    → nothing.entries ≡ [] → kept top.entries ≡ top.entries → top ≡ together tables old
-all_together tables old archives top nothing h none empty is =
-    let same : top.entries ≡ kept (entries_together old) =
-    sym is
-    ∙ ap (λ (xs : List ArchiveView). kept (entries_together xs ++ top.entries)) (sym none)
-    ∙ h.same
-    ∙ ap (λ (es : List Entry). kept (entries_together old ++ es)) empty
-    ∙ ap kept (append-nil (entries_together old)) in
-    ap (λ (t : Entries). record { tables = t; entries = top.entries }) h.top_under
-    ∙ ap (λ (es : List Entry). record { tables = tables; entries = es }) same
+-- the uppermost was taken: those that are left are under the tables
+pub popped_under : (tables : Entries) (archives rest : List ArchiveView)
+    (found : Option ArchiveView) → AreUnderTables tables archives
+    → archives ≡ rest ++ option_to_list found → AreUnderTables tables rest
+popped_under tables archives rest found under taken =
+    (All-pop (λ (a : ArchiveView). a.tables ≡ tables) archives rest found taken under).0
+
+-- and so is it
+pub top_under : (tables : Entries) (archives rest : List ArchiveView) (top : ArchiveView)
+    (found : Option ArchiveView) → AreUnderTables tables archives
+    → archives ≡ rest ++ option_to_list found → found ≡ Some top → tables ≡ top.tables
+top_under tables archives rest top found under taken is =
+    let joined : archives ≡ rest ++ top ∷ [] =
+    taken ∙ ap (λ (o : Option ArchiveView). rest ++ option_to_list o) is in
+    sym ((All-pop (λ (a : ArchiveView). a.tables ≡ tables) archives rest (Some top) joined
+    under).1)
+
+-- none was there to be taken
+pub none_popped : (tables : Entries) (archives rest : List ArchiveView)
+    (found : Option ArchiveView) → archives ≡ rest ++ option_to_list found → found ≡ None
+    → together tables rest ≡ together tables archives
+none_popped tables archives rest found taken none =
+    ap (together tables) (sym (taken
+    ∙ ap (λ (o : Option ArchiveView). rest ++ option_to_list o) none ∙ append-nil rest))
+
+-- the uppermost was put back, merged with others or not
+pub put_back : (tables : Entries) (archives rest : List ArchiveView) (top : ArchiveView)
+    (found : Option ArchiveView) → archives ≡ rest ++ option_to_list found → found ≡ Some top
+    → merged (together tables rest) top ≡ together tables archives
+put_back tables archives rest top found taken is =
+    let joined : archives ≡ rest ++ top ∷ [] =
+    taken ∙ ap (λ (o : Option ArchiveView). rest ++ option_to_list o) is in
+    ap (λ (es : List Entry). record { tables = tables; entries = es })
+    (kept-early (entries_together rest) top.entries
+    ∙ ap kept (sym (together_more rest top))
+    ∙ ap (λ (xs : List ArchiveView). kept (entries_together xs)) (sym joined))
+
+-- a text was put on others, which hold what others held
+pub put_above_is : (tables : Entries) (old settled archives : List ArchiveView)
+    (text : ArchiveView) → together tables settled ≡ together tables old
+    → archives ≡ settled ++ text ∷ []
+    → together tables archives ≡ merged (together tables old) text
+put_above_is tables old settled archives text same put =
+    sym (put_back tables archives settled text (Some text) put refl)
+    ∙ ap (λ (a : ArchiveView). merged a text) same
+
+-- no more was taken
+pub none_left : (tables : Entries) (old : List ArchiveView) (text : ArchiveView)
+    (archives rest : List ArchiveView) (top : ArchiveView) (found : Option ArchiveView)
+    → HoldTogether tables old text archives top → archives ≡ rest ++ option_to_list found
+    → found ≡ None → HoldTogether tables old text rest top
+none_left tables old text archives rest top found h taken is =
+    let same : archives ≡ rest =
+    taken ∙ ap (λ (o : Option ArchiveView). rest ++ option_to_list o) is ∙ append-nil rest in
+    subst (λ (xs : List ArchiveView). HoldTogether tables old text xs top) same h
+
+-- at most one is left below the one above
+pub two_together : (tables : Entries) (old : List ArchiveView) (archives rest : List ArchiveView)
+    (top lowest nothing : ArchiveView) (found : Option ArchiveView)
+    → HoldTogether tables old nothing archives top → archives ≡ rest ++ option_to_list found
+    → found ≡ Some lowest → length archives ≤ 1 → nothing.entries ≡ []
+    → (lowest.tables ≡ top.tables) × (merged lowest top ≡ together tables old)
+two_together tables old archives rest top lowest nothing found h taken is few empty =
+    let joined : archives ≡ rest ++ lowest ∷ [] =
+    taken ∙ ap (λ (o : Option ArchiveView). rest ++ option_to_list o) is in
+    let long = ap length joined ∙ length-append rest (lowest ∷ []) in
+    let none : rest ≡ [] = nil_from_length rest (omega arith) in
+    let one : archives ≡ lowest ∷ [] =
+    joined ∙ ap (λ (xs : List ArchiveView). xs ++ lowest ∷ []) none in
+    let under = taken_under tables old nothing archives rest top lowest found h taken is in (
+      under,
+      ap (λ (t : Entries). record { tables = t; entries = kept (lowest.entries ++ top.entries) })
+          (under ∙ h.top_under)
+          ∙ ap (λ (es : List Entry). record { tables = tables; entries = es })
+          (ap (λ (es : List Entry). kept (es ++ top.entries))
+          (sym (append-nil lowest.entries)
+          ∙ ap entries_together (sym one))
+          ∙ h.same
+          ∙ ap (λ (es : List Entry). kept (entries_together old ++ es)) empty
+          ∙ ap kept (append-nil (entries_together old))),
+    )
+
+-- none is left below it
+pub one_together : (tables : Entries) (old : List ArchiveView) (archives rest : List ArchiveView)
+    (top lowest nothing : ArchiveView) (found : Option ArchiveView)
+    → HoldTogether tables old nothing archives top → archives ≡ rest ++ option_to_list found
+    → found ≡ None → rest ≡ [] → nothing.entries ≡ []
+    → lowest ≡ record { tables = tables; entries = [] }
+    → (lowest.tables ≡ top.tables) × (merged lowest top ≡ together tables old)
+one_together tables old archives rest top lowest nothing found h taken is none empty new =
+    let left : archives ≡ [] =
+    taken ∙ ap (λ (o : Option ArchiveView). rest ++ option_to_list o) is ∙ append-nil rest ∙ none in (
+      ap (λ (a : ArchiveView). a.tables) new ∙ sym h.top_under,
+      ap (λ (a : ArchiveView). merged a top) new
+          ∙ ap (λ (es : List Entry). record { tables = tables; entries = es })
+          (ap (λ (xs : List ArchiveView). kept (entries_together xs ++ top.entries)) (sym left)
+          ∙ h.same
+          ∙ ap (λ (es : List Entry). kept (entries_together old ++ es)) empty
+          ∙ ap kept (append-nil (entries_together old))),
+    )

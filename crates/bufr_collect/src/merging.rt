@@ -8,11 +8,12 @@ ghost use Rattle.bufr_collect.specs.Adds.{ReadsArchive, MergesReaders};
 ghost use Rattle.bufr_collect.specs.Collects.{Merges};
 ghost use Rattle.bufr_collect.specs.Readers.{AreFresh, AreReadAtMost};
 
+use crate::parts::write_merged;
 use crate::text_stack::TextStack;
 use bufr_answers::Failure;
 use bufr_archive::{ArchiveText, NotAnArchive};
 use bufr_bits::{Sink, Source};
-use bufr_io::{Input, Tally, ToolFault, read_all, write_out};
+use bufr_io::{Input, Tally, ToolFault, read_all, room};
 use bufr_tables::Tables;
 use std::alloc::Global;
 
@@ -47,7 +48,7 @@ fn merge_readers<'t, S: Source>(
     reads: u64,
     tables: &'t Tables,
     readers: &mut [S],
-) -> Result<ArchiveText<'t>, ToolFault>
+) -> Result<TextStack<'t>, ToolFault>
     requires few { reads ≤ most_reads }
     requires fresh { AreFresh (map S.reading readers.old) }
     ensures bounded { AreReadAtMost reads (map S.reading readers.new) }
@@ -62,9 +63,6 @@ fn merge_readers<'t, S: Source>(
             return Err(ToolFault::OutOfMemory);
         };
     }
-    let Ok(merged) = merged.into_text() else {
-        return Err(ToolFault::OutOfMemory);
-    };
     Ok(merged)
 }
 
@@ -87,9 +85,11 @@ pub fn run_merge<S: Source, W: Sink>(
         (map S.reading readers.new) (W.writing writer.old) (W.writing writer.new) result }
 {
     let merged = merge_readers(alloc, reads, tables, readers)?;
-    let reports = merged.len() as u128;
-    let text = merged.into_octets();
-    write_out(writer, 0, &text)?;
+    let (lowest, upper) = merged.into_two()?;
+    let left = lowest.merged_with(alloc, &upper)?;
+    let reports = left.len() as u128;
+    let room = room(alloc)?;
+    write_merged(left, room, writer)?;
     Ok(Tally {
         frames: readers.len() as u128,
         refused: 0,

@@ -5,7 +5,7 @@ ghost use Rattle.std.specs.Vec.{vec_capacity};
 ghost use Rattle.bufr_io.specs.Engines.{WritesAfter};
 ghost use Rattle.bufr_collect.specs.Parts.{HandsOn, joined};
 
-use bufr_archive::KeptOctets;
+use bufr_archive::{KeptOctets, MergedOctets};
 use bufr_bits::Sink;
 use bufr_io::{ToolFault, write_after, write_out};
 
@@ -70,6 +70,29 @@ pub(crate) fn write_parts<W: Sink>(
     };
     while let Some(octets) = left.next() {
         hand_on(writer, &mut part, octets.as_slice())?;
+    }
+    write_out(writer, part.written, &part.octets)
+}
+
+/// Writes the octets of entries of two texts merged one after the other and hands them on, in parts
+/// as `write_parts` does. It takes no memory.
+pub(crate) fn write_merged<W: Sink>(
+    mut left: MergedOctets<'_>,
+    mut room: Vec<u8>,
+    writer: &mut W,
+) -> Result<(), ToolFault>
+    requires { (W.writing writer.old).failed ≡ false }
+    ensures { WritesAfter 0 (joined left) (W.writing writer.old) (W.writing writer.new) result }
+{
+    // No more than can be counted.
+    let _count = left.len();
+    room.clear();
+    let mut part = Part {
+        octets: room,
+        written: 0,
+    };
+    while let Some(octets) = left.next() {
+        hand_on(writer, &mut part, octets)?;
     }
     write_out(writer, part.written, &part.octets)
 }

@@ -1,5 +1,5 @@
 //! Archives held as a stack of texts.
-ghost use Rattle.std.specs.Prelude.{◌≡◌, ◌++◌, [], IfOk, OnOk};
+ghost use Rattle.std.specs.Prelude.{◌≡◌, ◌≤◌, ◌++◌, [], length, IfNone, IfOk, OnOk};
 ghost use Rattle.std.specs.Option.{option_to_list};
 ghost use Rattle.bufr_archive.specs.Archives.{merged};
 ghost use Rattle.bufr_collect.specs.Stacks.{together, AreUnderTables};
@@ -43,25 +43,27 @@ impl<'t> TextStack<'t> {
         }
     }
 
-    /// Takes in all that an archive under the same tables holds. It can only run out of memory, and
-    /// then some of what was held may be gone.
+    /// Takes in all that an archive under the same tables holds: it is put on top as it is, once the
+    /// one that was on top was merged with those below it that are not much larger. It can only run
+    /// out of memory, and then some of what was held may be gone.
     pub(crate) fn push(&mut self, text: ArchiveText<'t>) -> Result<(), OutOfMemory>
         requires { self.old.tables ≡ text.tables }
         ensures ok { OnOk result (self.new ≡ merged self.old text.entry) }
     {
-        put_on(self.alloc, self.tables, &mut self.texts, text)
+        put_above(self.alloc, self.tables, &mut self.texts, text)
     }
 
-    /// The text of all that is held. It can only run out of memory.
-    pub(crate) fn into_text(self) -> Result<ArchiveText<'t>, OutOfMemory>
-        ensures { IfOk result (λ text. text ≡ self.entry) }
+    /// The lowest text, and that of all that is held above it. It can only run out of memory.
+    pub(crate) fn into_two(self) -> Result<(ArchiveText<'t>, ArchiveText<'t>), OutOfMemory>
+        ensures same { IfOk result (λ two. two.0.tables ≡ two.1.tables) }
+        ensures all { IfOk result (λ two. merged two.0 two.1 ≡ self.entry) }
     {
         let TextStack {
             alloc,
             tables,
             texts,
         } = self;
-        merge_all(alloc, tables, texts)
+        merge_upper(alloc, tables, texts)
     }
 }
 
@@ -99,21 +101,73 @@ fn put_on<'t>(
     Ok(())
 }
 
-/// The text of what texts hold together, merged from the uppermost on. It can only run out of
+/// Merges the uppermost text with those below it that are not much larger. It can only run out of
 /// memory.
-fn merge_all<'t>(
+fn settle<'t>(
+    alloc: Global,
+    tables: &Tables,
+    texts: &mut Vec<ArchiveText<'t>>,
+) -> Result<(), OutOfMemory>
+    requires { AreUnderTables tables.now texts.old.items }
+    ensures under { AreUnderTables tables.now texts.new.items }
+    ensures ok { OnOk result
+        (together tables.now texts.new.items ≡ together tables.now texts.old.items) }
+{
+    let Some(top) = texts.pop() else {
+        return Ok(());
+    };
+    put_on(alloc, tables, texts, top)
+}
+
+/// Puts a text on others as it is, once the uppermost of these was merged with those below it that
+/// are not much larger. It can only run out of memory.
+fn put_above<'t>(
+    alloc: Global,
+    tables: &Tables,
+    texts: &mut Vec<ArchiveText<'t>>,
+    text: ArchiveText<'t>,
+) -> Result<(), OutOfMemory>
+    requires under { AreUnderTables tables.now texts.old.items }
+    requires same { tables.now ≡ text.tables }
+    ensures under { AreUnderTables tables.now texts.new.items }
+    ensures ok { OnOk result (together tables.now texts.new.items
+        ≡ merged (together tables.now texts.old.items) text.entry) }
+{
+    settle(alloc, tables, texts)?;
+    texts.push(text)?;
+    Ok(())
+}
+
+/// Takes the uppermost text, if it is not the lowest.
+fn pop_upper<'t>(texts: &mut Vec<ArchiveText<'t>>) -> Option<ArchiveText<'t>>
+    ensures taken { texts.old.items ≡ texts.new.items ++ option_to_list result }
+    ensures none { IfNone result (length texts.new.items ≤ 1) }
+{
+    if texts.len() <= 1 {
+        return None;
+    }
+    texts.pop()
+}
+
+/// The lowest of texts, and the text of what those above it hold together, merged from the
+/// uppermost on. It can only run out of memory.
+fn merge_upper<'t>(
     alloc: Global,
     tables: &'t Tables,
     mut texts: Vec<ArchiveText<'t>>,
-) -> Result<ArchiveText<'t>, OutOfMemory>
+) -> Result<(ArchiveText<'t>, ArchiveText<'t>), OutOfMemory>
     requires { AreUnderTables tables.now texts.items }
-    ensures { IfOk result (λ text. text ≡ together tables.now texts.entry.items) }
+    ensures same { IfOk result (λ two. two.0.tables ≡ two.1.tables) }
+    ensures all { IfOk result (λ two.
+        merged two.0 two.1 ≡ together tables.now texts.entry.items) }
 {
     let mut top = ArchiveText::new(alloc, tables);
-    while let Some(mut below) = texts.pop() {
+    while let Some(mut below) = pop_upper(&mut texts) {
         below.merge(alloc, top)?;
         top = below;
     }
-    top.len();
-    Ok(top)
+    match texts.pop() {
+        Some(lowest) => Ok((lowest, top)),
+        None => Ok((ArchiveText::new(alloc, tables), top)),
+    }
 }

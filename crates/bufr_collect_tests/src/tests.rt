@@ -463,20 +463,22 @@ fn report_of(alloc: Global, number: usize) -> Result<Vec<u8>, OutOfMemory>
     Ok(message)
 }
 
-/// A thousand archives of one report, each of a station of its own.
-fn thousand_reports(alloc: Global) -> Result<Vec<Vec<u8>>, OutOfMemory> {
+/// So many archives of one report, each of a station of its own.
+fn reports_of(alloc: Global, count: usize) -> Result<Vec<Vec<u8>>, OutOfMemory>
+    requires { count ≤ 1000 }
+{
     let mut streams = Vec::new(alloc);
-    for number in 0usize..1000 {
+    for number in 0..count {
         streams.push(report_of(alloc, number)?)?;
     }
     Ok(streams)
 }
 
-/// A thousand inputs, each an archive of one report of a station of its own.
-#[test]
-fn thousand_inputs(rt: HostRuntime) -> Result<(), Fail> {
-    let alloc = rt.alloc();
-    let streams = thousand_reports(alloc)?;
+/// So many inputs, each an archive of one report of a station of its own, the last station first.
+fn assert_inputs(rt: &impl Abort, alloc: Global, count: usize) -> Result<(), Fail>
+    requires { count ≤ 1000 }
+{
+    let streams = reports_of(alloc, count)?;
     let mut text = Vec::new(alloc);
     for stream in &streams {
         text.extend_from_slice(stream)?;
@@ -485,8 +487,23 @@ fn thousand_inputs(rt: HostRuntime) -> Result<(), Fail> {
     for stream in streams.iter().rev() {
         inputs.push(stream.as_slice())?;
     }
-    assert_added(&rt, alloc, &inputs, tally(1000, 0, 1000), &text)?;
-    assert_merged(&rt, alloc, &inputs, tally(1000, 0, 1000), &text)
+    let reports = count as u128;
+    assert_added(rt, alloc, &inputs, tally(reports, 0, reports), &text)?;
+    assert_merged(rt, alloc, &inputs, tally(reports, 0, reports), &text)
+}
+
+/// One to eleven inputs: whichever texts are merged while they are written.
+#[test]
+fn few_inputs(rt: HostRuntime) -> Result<(), Fail> {
+    for count in 1usize..12 {
+        assert_inputs(&rt, rt.alloc(), count)?;
+    }
+    Ok(())
+}
+
+#[test]
+fn thousand_inputs(rt: HostRuntime) -> Result<(), Fail> {
+    assert_inputs(&rt, rt.alloc(), 1000)
 }
 
 /// What the reads of an input ask for at most.

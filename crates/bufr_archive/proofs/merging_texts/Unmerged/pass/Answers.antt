@@ -1,7 +1,7 @@
--- The clause `left` of `Unmerged::take`: behind the first entry stand the others.
+-- The clause `left` of `Unmerged::pass`: behind the first entry stand the others.
 use Rattle.std.proofs.Common.{drop}
 use Rattle.bufr_archive.proofs.TextMergeFacts.{behind_in_order}
-use Rattle.bufr_archive.proofs.merging_texts.Unmerged.take.Goals as goal
+use Rattle.bufr_archive.proofs.merging_texts.Unmerged.pass.Goals as goal
 
 -- the others are left
 pub returns-clause-left : goal.returns-clause-left

@@ -1,0 +1,38 @@
+-- The octets of the entries of two texts merged, handed out one after the other.
+use Rattle.std.specs.Prelude.{◌≡◌, ℕ, Option, Some, None, List, [], ◌∷◌, ◌++◌, drop, length, map}
+use Rattle.bufr_shelves.specs.declared.entry.Entry.{Entry}
+use Rattle.bufr_shelves.specs.Entries.{kept}
+use Rattle.bufr_archive.specs.declared.merged_octets.Origin.{Origin}
+use Rattle.bufr_archive.specs.declared.merged_octets.Origin.TheVariants.{Left, Right, LeftOfBoth}
+use Rattle.bufr_archive.specs.declared.merged_octets.Origin.TheVariants.{RightOfBoth}
+use Rattle.bufr_archive.specs.Texts.{text, front_of}
+
+-- octets that may be there, and none where they are not
+abbrev pub octets_or_none : Option (List ℕ) → List ℕ
+octets_or_none None = []
+octets_or_none (Some octets) = octets
+
+-- the octets of the first entry of a text, as its total length announces them
+abbrev pub first_octets : List ℕ → List ℕ
+first_octets octets = octets_or_none (front_of octets)
+
+-- the octets behind them
+abbrev pub behind_first : List ℕ → List ℕ
+behind_first octets = drop (length (first_octets octets)) octets
+
+-- the octets of entries of two texts, of which these are the origins
+abbrev pub handed_out : List Origin → List ℕ → List ℕ → List (List ℕ)
+handed_out [] left right = []
+handed_out (Left ∷ more) left right =
+    first_octets left ∷ handed_out more (behind_first left) right
+handed_out (Right ∷ more) left right =
+    first_octets right ∷ handed_out more left (behind_first right)
+handed_out (LeftOfBoth ∷ more) left right =
+    first_octets left ∷ handed_out more (behind_first left) (behind_first right)
+handed_out (RightOfBoth ∷ more) left right =
+    first_octets right ∷ handed_out more (behind_first left) (behind_first right)
+
+-- the entries of these origins are those that are kept of two lists, whose texts they stand in
+abbrev pub HandOutMerged : List Entry → List Entry → List Origin → Type 0
+HandOutMerged es fs origins =
+    handed_out origins (text es) (text fs) ≡ map (λ (e : Entry). e.bytes) (kept (es ++ fs))
