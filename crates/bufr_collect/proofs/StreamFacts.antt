@@ -16,13 +16,15 @@ use Rattle.bufr_frame.specs.NextFrameLaws.{handed_first, handed_end, between_fir
 use Rattle.bufr_frame.specs.NextFrameLaws.{between_none, between_front, between_fed}
 use Rattle.bufr_archive.specs.Archives.{ArchiveView}
 use Rattle.bufr_io.specs.declared.fault.Input.{Input}
+use Rattle.bufr_io.specs.declared.fault.ToolFault.{ToolFault}
+use Rattle.bufr_io.specs.declared.fault.ToolFault.TheVariants as faults
 use Rattle.bufr_io.specs.declared.input.Pieces.{Pieces}
 use Rattle.bufr_io.specs.Engines.{IsFresh}
-use Rattle.bufr_io.specs.Inputs.{HasRead}
+use Rattle.bufr_io.specs.Inputs.{HasRead, ReadsOn}
 use Rattle.bufr_io.specs.Limits.{longest_piece}
 use Rattle.bufr_io.specs.ReadingLaws.{HasRead_none}
 use Rattle.bufr_collect.specs.declared.counts.Counts.{Counts}
-use Rattle.bufr_collect.specs.Adds.{HasAdded, HasAddedSure}
+use Rattle.bufr_collect.specs.Adds.{AddsStream, HasAdded, HasAddedSure}
 
 -- ---- within a piece
 
@@ -177,3 +179,14 @@ nothing_read source most reader archive counts framer fresh stands = record {
 pub cut_bounded : (stream : List ℕ) (count reads : ℕ) → length stream ≤ longest_piece * count
     → count ≤ reads → length (cut stream) ≤ longest_piece * reads
 cut_bounded stream count reads short most = let few = cut_few stream in omega arith
+
+-- where no piece can be read, a stream is not added
+pub adds_unread : (tables : Entries) (source : Input) (reads : ℕ) (old new : Reading)
+    (pieces : Pieces) (octets : List ℕ) (archive : ArchiveView) (counts : Counts)
+    (before : List Found) (e : ToolFault) → ReadsOn source reads old new pieces octets (Err e)
+    → AddsStream tables source reads old new archive counts before (Err e)
+adds_unread tables source reads old new pieces octets archive counts before
+    (faults.ReadFailed which) r = (r.0, r.1)
+adds_unread tables source reads old new pieces octets archive counts before
+    (faults.EndlessInput which) r = (r.0, r.1)
+adds_unread tables source reads old new pieces octets archive counts before e r = absurd r

@@ -1,16 +1,17 @@
--- A reader that is read again and again: what a read adds to what was read before, for the contract
--- of `next`.
-use Rattle.std.proofs.Common.{◌≡◌, ℕ, ◌+◌, ◌*◌, ◌<◌, ◌≤◌, false, nat_eq, Option, Some, None, Ok, Err}
+-- A reader that is read again and again: what a read adds to what was read before, for the contracts
+-- of `next` and `read_all`.
+use Rattle.std.proofs.Common.{◌≡◌, ℕ, ◌+◌, ◌<◌, ◌≤◌, false, nat_eq, Option, Some, None, Ok, Err}
 use Rattle.std.proofs.Common.{List, [], ◌∷◌, ◌++◌, length, take, drop, subst, refl, sym, ◌∙◌, ap}
 use Rattle.std.proofs.Common.{arith, IfSome, append_assoc, length-append}
 use Rattle.std.proofs.lemmas.List.{take-append-drop, append-nil}
 use Rattle.std.proofs.lemmas.Bool.Decides.{nat_tests}
 use Rattle.bufr_bits.specs.Devices.{Reading, Gave, FailedRead}
 use Rattle.bufr_io.specs.declared.fault.Input.{Input}
+use Rattle.bufr_io.specs.declared.fault.ToolFault.{ToolFault}
 use Rattle.bufr_io.specs.declared.fault.ToolFault.TheVariants as faults
 use Rattle.bufr_io.specs.declared.input.Pieces.{Pieces}
 use Rattle.bufr_io.specs.Engines.{WasReadOut, HasGiven, AreAllOf}
-use Rattle.bufr_io.specs.Inputs.{GoesOn, HasRead, ReadsOn}
+use Rattle.bufr_io.specs.Inputs.{GoesOn, HasRead, ReadsAll, ReadsOn}
 use Rattle.bufr_io.specs.Limits.{longest_piece}
 
 -- what was given, and one piece more
@@ -118,11 +119,11 @@ reads_failed source most first mid now pieces after octets h few f =
     )
 
 -- a read met the end
-pub reads_ends : (source : Input) (most : ℕ) (first mid now : Reading) (pieces after : Pieces)
+pub reads_ends : (source : Input) (most : ℕ) (first mid now : Reading) (pieces : Pieces)
     (octets given : List ℕ) → HasRead source most first mid pieces octets
     → pieces.made < pieces.most → Gave mid now given → length given ≡ 0
-    → ReadsOn source most first now after octets (Ok None)
-reads_ends source most first mid now pieces after octets given h few gave none =
+    → ReadsOn source most first now (record pieces { made = pieces.made + 1 }) octets (Ok None)
+reads_ends source most first mid now pieces octets given h few gave none =
     let most_is = h.most_is in
     let before = h.goes_on.reads in
     let more = gave.reads in
@@ -130,6 +131,7 @@ reads_ends source most first mid now pieces after octets given h few gave none =
       ends.0,
       ends.1,
       HasGiven_more first mid now octets given h.goes_on.so_far gave none,
+      omega arith,
       omega arith,
     )
 
@@ -153,3 +155,11 @@ reads_more source most first mid now pieces octets given h few gave some room =
       },
       some,
     )
+
+-- where no piece can be read, not all octets are
+pub no_more : (source : Input) (most : ℕ) (old new : Reading) (pieces : Pieces) (octets : List ℕ)
+    (e : ToolFault) → ReadsOn source most old new pieces octets (Err e)
+    → ReadsAll source most old new (Err e)
+no_more source most old new pieces octets (faults.ReadFailed which) r = (r.0, r.1)
+no_more source most old new pieces octets (faults.EndlessInput which) r = (r.0, r.1)
+no_more source most old new pieces octets e r = absurd r

@@ -34,6 +34,7 @@ ReadsOn source most old new pieces octets (Ok (Some piece)) =
     HasRead source most old new pieces (octets ++ piece) × (0 < length piece)
 ReadsOn source most old new pieces octets (Ok None) =
     WasReadOut new × AreAllOf old octets × HasGiven old new octets × (new.reads ≤ most)
+    × (pieces.made ≤ most)
 ReadsOn source most old new pieces octets (Err (faults.ReadFailed which)) =
     (which ≡ source) × HasFailed new × HasGiven old new octets × (new.reads ≤ most)
 ReadsOn source most old new pieces octets (Err (faults.EndlessInput which)) =

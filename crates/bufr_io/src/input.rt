@@ -28,7 +28,7 @@ pub fn room(alloc: Global) -> Result<Vec<u8>, OutOfMemory>
 }
 
 /// The reads of an input, piece by piece to its end.
-#[derive(Clone, Copy, Debug, Drop, PartialEq, Eq)]
+#[derive(Debug, Drop)]
 pub struct Pieces {
     /// The reads that were made.
     pub made: u64,

@@ -1,11 +1,24 @@
 -- The clauses of `add_stream`: piece by piece, with counts that the number of reads bounds.
 use Rattle.std.proofs.Common.{◌+◌, ◌≤◌, ◌++◌, length, arith, length-append}
-use Rattle.bufr_collect.proofs.StreamFacts.{nothing_read, cut_bounded}
+use Rattle.bufr_collect.specs.Adds.{AddsStream}
+use Rattle.bufr_collect.proofs.FrameFacts.{passed}
+use Rattle.bufr_collect.proofs.StreamFacts.{nothing_read, adds_unread, cut_bounded}
 use Rattle.bufr_collect.proofs.streams.add_stream.Goals as goal
 
 -- at first nothing was read or added
 pub loop-piece-init : goal.loop-piece-init
 loop-piece-init g c = nothing_read _ _ _ _ _ _ c.requires.fresh c.new-framer.ensures.starts
+
+-- where no piece can be read, the fault of that is told
+pub returns-in_err-piece-clause-adds : goal.returns-in_err-piece-clause-adds
+returns-in_err-piece-clause-adds g c tables before h few =
+    passed
+    (AddsStream tables c.args.source c.args.reads (g.S.Source.reading c.args.reader.now)
+    (g.S.Source.reading c.next.new.reader) c.loop-piece.builder c.loop-piece.counts before)
+    c.from_residual.result c.in_err-piece.field-0.0 c.from_residual.ensures.1
+    (adds_unread _ _ _ (g.S.Source.reading c.args.reader.now)
+    (g.S.Source.reading c.next.new.reader) c.next.new.self _ _ _ _ _
+    (c.in_err-piece.ensures.reads _ _ _ _ c.loop-piece.invariant.so_far))
 
 -- of the octets read before the messages of the sure frames were added
 pub add_piece-requires-clause-so_far : goal.add_piece-requires-clause-so_far

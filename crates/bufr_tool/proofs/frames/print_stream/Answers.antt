@@ -36,7 +36,8 @@ returns-in_err-piece-clause-prints g c =
     (g.W.Sink.writing c.args.writer.now) (g.W.Sink.writing c.loop-piece.writer))
     c.from_residual-in_err-piece.result c.in_err-piece.field-0.0
     c.from_residual-in_err-piece.ensures.1
-    (prints_unread _ _ _ _ _ _ _ c.next.new.self _ _ _ _ _ b
+    (prints_unread _ _ _ _ (g.S.Source.reading c.loop-piece.reader)
+    (g.S.Source.reading c.next.new.reader) _ c.next.new.self _ _ _ _ _ b
     (c.in_err-piece.ensures.reads _ _ _ _ b.so_far))
 
 -- of the octets that were read before the piece all sure frames were printed
@@ -101,7 +102,9 @@ print_end-requires-clause-long g c =
     let b = c.loop-piece.invariant.1 in
     let fed = b.printed.handed.stands.fed in
     let short = b.so_far.short in
-    let allowed = b.so_far.allowed in
+    let ends = rw c.in-None.is at (c.in_ok-piece.ensures.reads _ _ _ _ b.so_far) in
+    let allowed = ends.4 in
+    let counts = c.in_ok-piece.ensures.counts in
     let few = c.requires.few in
     omega arith
 
