@@ -18,32 +18,33 @@ returns-in_err-room-clause-prints g c =
     (prints_nothing _ _ c.args.reads _ _ c.requires.fresh c.requires.works)
 
 -- before the first read nothing was read or printed
-pub loop-piece-init : goal.loop-piece-init
-loop-piece-init g c =
+pub loop-framer-init : goal.loop-framer-init
+loop-framer-init g c =
     let e = c.new-printer.ensures in (
       c.in_ok-room.ensures,
-      between_first _ _ _ _ _ _ _ e.printing e.tables e.counts e.held c.requires.fresh
-          c.requires.works c.new-framer.ensures.starts,
+      rw c.new-pieces.ensures
+          (between_first _ _ _ _ _ _ _ e.printing e.tables e.counts e.held c.requires.fresh
+          c.requires.works c.new-framer.ensures.starts),
     )
 
 -- where no piece can be read, what was printed before was written
 pub returns-in_err-piece-clause-prints : goal.returns-in_err-piece-clause-prints
 returns-in_err-piece-clause-prints g c =
-    let b = c.loop-piece.invariant.1 in
+    let b = c.loop-framer.invariant.1 in
     passed
     (Prints c.args.printing c.args.tables.now c.args.reads
     (g.S.Source.reading c.args.reader.now) (g.S.Source.reading c.next.new.reader)
-    (g.W.Sink.writing c.args.writer.now) (g.W.Sink.writing c.loop-piece.writer))
+    (g.W.Sink.writing c.args.writer.now) (g.W.Sink.writing c.loop-framer.writer))
     c.from_residual-in_err-piece.result c.in_err-piece.field-0.0
     c.from_residual-in_err-piece.ensures.1
-    (prints_unread _ _ _ _ (g.S.Source.reading c.loop-piece.reader)
+    (prints_unread _ _ _ _ (g.S.Source.reading c.loop-framer.reader)
     (g.S.Source.reading c.next.new.reader) _ c.next.new.self _ _ _ _ _ b
     (c.in_err-piece.ensures.reads _ _ _ _ b.so_far))
 
 -- of the octets that were read before the piece all sure frames were printed
 pub print_piece-requires-clause-so_far : goal.print_piece-requires-clause-so_far
 print_piece-requires-clause-so_far g c =
-    let b = c.loop-piece.invariant.1 in (
+    let b = c.loop-framer.invariant.1 in (
       c.args.printing,
       c.args.tables.now,
       g.W.Sink.writing c.args.writer.now,
@@ -54,7 +55,7 @@ print_piece-requires-clause-so_far g c =
 -- with the piece there are at most 2 ^ 48 octets
 pub print_piece-requires-clause-room : goal.print_piece-requires-clause-room
 print_piece-requires-clause-room g c =
-    let b = c.loop-piece.invariant.1 in
+    let b = c.loop-framer.invariant.1 in
     let fed = b.printed.handed.stands.fed in
     let more = (rw c.in-Some.is at (c.in_ok-piece.ensures.reads _ _ _ _ b.so_far)).0 in
     let whole = length-append b.read c.in-Some.piece.now in
@@ -64,13 +65,13 @@ print_piece-requires-clause-room g c =
     omega arith
 
 -- one piece more was read, and the frames that are sure with it were printed
-pub loop-piece-preserved : goal.loop-piece-preserved
-loop-piece-preserved g c =
-    let b = c.loop-piece.invariant.1 in
+pub loop-framer-preserved : goal.loop-framer-preserved
+loop-framer-preserved g c =
+    let b = c.loop-framer.invariant.1 in
     let more = rw c.in-Some.is at (c.in_ok-piece.ensures.reads _ _ _ _ b.so_far) in
     let e = c.in_ok-print_piece.ensures c.args.printing c.args.tables.now
     (g.W.Sink.writing c.args.writer.now) b.read b.printed in (
-      c.loop-piece.invariant.0,
+      c.loop-framer.invariant.0,
       record {
         read = b.read ++ c.in-Some.piece.now;
         so_far = more.0;
@@ -83,7 +84,7 @@ loop-piece-preserved g c =
 -- its lines
 pub returns-in_err-print_piece-clause-prints : goal.returns-in_err-print_piece-clause-prints
 returns-in_err-print_piece-clause-prints g c =
-    let b = c.loop-piece.invariant.1 in
+    let b = c.loop-framer.invariant.1 in
     let more = rw c.in-Some.is at (c.in_ok-piece.ensures.reads _ _ _ _ b.so_far) in
     passed
     (Prints c.args.printing c.args.tables.now c.args.reads
@@ -99,10 +100,10 @@ returns-in_err-print_piece-clause-prints g c =
 -- fewer than 2 ^ 48 octets were read
 pub print_end-requires-clause-long : goal.print_end-requires-clause-long
 print_end-requires-clause-long g c =
-    let b = c.loop-piece.invariant.1 in
+    let b = c.loop-framer.invariant.1 in
     let fed = b.printed.handed.stands.fed in
     let short = b.so_far.short in
-    let ends = rw c.in-None.is at (c.in_ok-piece.ensures.reads _ _ _ _ b.so_far) in
+    let ends = rw c.in_default.is at (c.in_ok-piece.ensures.reads _ _ _ _ b.so_far) in
     let allowed = ends.4 in
     let counts = c.in_ok-piece.ensures.counts in
     let few = c.requires.few in
@@ -111,7 +112,7 @@ print_end-requires-clause-long g c =
 -- of the octets that were read all sure frames were printed
 pub print_end-requires-clause-so_far : goal.print_end-requires-clause-so_far
 print_end-requires-clause-so_far g c =
-    let b = c.loop-piece.invariant.1 in (
+    let b = c.loop-framer.invariant.1 in (
       c.args.printing,
       c.args.tables.now,
       g.W.Sink.writing c.args.writer.now,
@@ -122,8 +123,8 @@ print_end-requires-clause-so_far g c =
 -- where no piece is left, the stream is all that was read
 pub returns-clause-prints : goal.returns-clause-prints
 returns-clause-prints g c =
-    let b = c.loop-piece.invariant.1 in
-    let ends = rw c.in-None.is at (c.in_ok-piece.ensures.reads _ _ _ _ b.so_far) in
+    let b = c.loop-framer.invariant.1 in
+    let ends = rw c.in_default.is at (c.in_ok-piece.ensures.reads _ _ _ _ b.so_far) in
     prints_whole _ _ _ (g.S.Source.reading c.args.reader.now)
     (g.S.Source.reading c.next.new.reader) (g.W.Sink.writing c.args.writer.now) _ b.read
     c.print_end.result ends.0 ends.1 ends.2
