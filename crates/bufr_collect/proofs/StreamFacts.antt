@@ -16,12 +16,15 @@ use Rattle.bufr_frame.specs.NextFrameLaws.{handed_first, handed_end, between_fir
 use Rattle.bufr_frame.specs.NextFrameLaws.{between_none, between_front, between_fed}
 use Rattle.bufr_archive.specs.Archives.{ArchiveView}
 use Rattle.bufr_io.specs.declared.fault.Input.{Input}
+use Rattle.bufr_io.specs.declared.fault.ToolFault.{ToolFault}
+use Rattle.bufr_io.specs.declared.fault.ToolFault.TheVariants as faults
+use Rattle.bufr_io.specs.declared.input.Pieces.{Pieces}
 use Rattle.bufr_io.specs.Engines.{IsFresh}
-use Rattle.bufr_io.specs.Inputs.{GoesOn}
+use Rattle.bufr_io.specs.Inputs.{HasRead, ReadsOn}
 use Rattle.bufr_io.specs.Limits.{longest_piece}
-use Rattle.bufr_io.specs.ReadingLaws.{HasGiven_none}
+use Rattle.bufr_io.specs.ReadingLaws.{HasRead_none}
 use Rattle.bufr_collect.specs.declared.counts.Counts.{Counts}
-use Rattle.bufr_collect.specs.Adds.{HasAdded, HasAddedSure}
+use Rattle.bufr_collect.specs.Adds.{AddsStream, HasAdded, HasAddedSure}
 
 -- ---- within a piece
 
@@ -149,30 +152,22 @@ rest_added archive archive' counts counts' framer last frames are is adds tables
 
 -- these octets were given, and whatever was added before, the messages of what is sure of them were
 -- added after it
-pub record Between (old now : Reading) (first archive : ArchiveView) (start counts : Counts)
-    (framer : Framing) (count : ℕ) : Type 0 where
+pub record Between (source : Input) (most : ℕ) (old now : Reading) (pieces : Pieces)
+    (first archive : ArchiveView) (start counts : Counts) (framer : Framing) : Type 0 where
   pub read : List ℕ
-  pub goes_on : GoesOn old now read count
-  pub short : length read ≤ longest_piece * count
+  pub so_far : HasRead source most old now pieces read
   pub added : (tables : Entries) (before : List Found) → HasAdded tables first start before
       → length before < 2 ^ 127
       → HasAddedSure tables archive counts before framer read
 
 -- before the first
-pub nothing_read : (reader : Reading) (archive : ArchiveView) (counts : Counts) (framer : Framing)
-    → IsFresh reader → Stands framer [] 0
-    → Between reader reader archive archive counts counts framer 0
-nothing_read reader archive counts framer fresh stands = record {
+pub nothing_read : (source : Input) (most : ℕ) (reader : Reading) (archive : ArchiveView)
+    (counts : Counts) (framer : Framing) → IsFresh reader → Stands framer [] 0
+    → Between source most reader reader (record { made = 0; most = most; source = source })
+    archive archive counts counts framer
+nothing_read source most reader archive counts framer fresh stands = record {
   read = [];
-  goes_on =
-      record {
-        so_far = HasGiven_none reader;
-        works = fresh.failed;
-        reads = fresh.reads;
-        met_end =
-            fresh.met_end;
-      };
-  short = omega arith;
+  so_far = HasRead_none source most reader fresh;
   added = λ tables before h few. record {
     handed = handed_first framer stands;
     added = subst (HasAdded tables archive counts) (sym (append-nil before)) h;
@@ -184,3 +179,14 @@ nothing_read reader archive counts framer fresh stands = record {
 pub cut_bounded : (stream : List ℕ) (count reads : ℕ) → length stream ≤ longest_piece * count
     → count ≤ reads → length (cut stream) ≤ longest_piece * reads
 cut_bounded stream count reads short most = let few = cut_few stream in omega arith
+
+-- where no piece can be read, a stream is not added
+pub adds_unread : (tables : Entries) (source : Input) (reads : ℕ) (old new : Reading)
+    (pieces : Pieces) (octets : List ℕ) (archive : ArchiveView) (counts : Counts)
+    (before : List Found) (e : ToolFault) → ReadsOn source reads old new pieces octets (Err e)
+    → AddsStream tables source reads old new archive counts before (Err e)
+adds_unread tables source reads old new pieces octets archive counts before
+    (faults.ReadFailed which) r = (r.0, r.1)
+adds_unread tables source reads old new pieces octets archive counts before
+    (faults.EndlessInput which) r = (r.0, r.1)
+adds_unread tables source reads old new pieces octets archive counts before e r = absurd r

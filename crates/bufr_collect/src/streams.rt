@@ -13,7 +13,7 @@ use crate::frames::{add_piece, add_rest};
 use bufr_archive::ArchiveBuilder;
 use bufr_bits::Source;
 use bufr_frame::Framer;
-use bufr_io::{Input, ToolFault};
+use bufr_io::{Input, Pieces, ToolFault};
 use std::alloc::Global;
 
 /// Adds the messages of the stream of a reader, read through some room.
@@ -39,17 +39,12 @@ fn add_stream<S: Source>(
         counts.new before result }
 {
     let mut framer = Framer::new(alloc);
-    for _ in 0..reads {
-        let Ok(given) = reader.read(&mut *room) else {
-            return Err(ToolFault::ReadFailed(source));
-        };
-        if given == 0 {
-            add_rest(&mut framer, builder, counts)?;
-            return Ok(());
-        }
-        add_piece(&room[..given], &mut framer, builder, counts)?;
+    let mut pieces = Pieces::new(reads, source);
+    while let Some(piece) = pieces.next(reader, &mut *room)? {
+        add_piece(piece, &mut framer, builder, counts)?;
     }
-    Err(ToolFault::EndlessInput(source))
+    add_rest(&mut framer, builder, counts)?;
+    Ok(())
 }
 
 /// Adds the messages of the streams of all readers to a new builder.

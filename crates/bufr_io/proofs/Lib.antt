@@ -1,1 +1,1 @@
--- This crate shares no lemmas: those of readings and writings stand in its specs.
+pub mod ReadingFacts

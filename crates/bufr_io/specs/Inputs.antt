@@ -1,10 +1,13 @@
 -- What is read of an input.
-use Rattle.std.specs.Prelude.{◌≡◌, ℕ, false, List, ◌++◌, take, Result, Ok, Err}
+use Rattle.std.specs.Prelude.{◌≡◌, ℕ, ◌*◌, ◌≤◌, ◌<◌, false, Option, Some, None, List, ◌++◌, length}
+use Rattle.std.specs.Prelude.{Result, Ok, Err}
 use Rattle.bufr_bits.specs.Devices.{Reading}
 use Rattle.bufr_io.specs.declared.fault.Input.{Input}
 use Rattle.bufr_io.specs.declared.fault.ToolFault.{ToolFault}
 use Rattle.bufr_io.specs.declared.fault.ToolFault.TheVariants as faults
+use Rattle.bufr_io.specs.declared.input.Pieces.{Pieces}
 use Rattle.bufr_io.specs.Engines.{WasReadOut, HasFailed, IsEndless, HasGiven, AreAllOf}
+use Rattle.bufr_io.specs.Limits.{longest_piece}
 
 -- a reader that was read so often, works, has not met its end, and gave these octets
 pub record GoesOn (old new : Reading) (octets : List ℕ) (count : ℕ) : Type 0 where
@@ -13,12 +16,30 @@ pub record GoesOn (old new : Reading) (octets : List ℕ) (count : ℕ) : Type 0
   pub reads : new.reads ≡ count
   pub met_end : new.met_end ≡ false
 
--- so many octets of the front of some room were added to those that there were, unless memory ran
--- out
-abbrev pub KeepsFront : List ℕ → ℕ → List ℕ → List ℕ → Result (Unit {0}) ToolFault → Type 0
-KeepsFront room given old new (Ok done) = new ≡ old ++ take given room
-KeepsFront room given old new (Err faults.OutOfMemory) = Unit {0}
-KeepsFront room given old new (Err fault) = ⊥
+-- pieces of an input were read, by some of so many reads: the reader goes on, and gave these
+-- octets, no more than these reads asked for
+pub record HasRead (source : Input) (most : ℕ) (old now : Reading) (pieces : Pieces)
+    (octets : List ℕ) : Type 0 where
+  pub goes_on : GoesOn old now octets pieces.made
+  pub short : length octets ≤ longest_piece * pieces.made
+  pub allowed : pieces.made ≤ most
+  pub most_is : pieces.most ≡ most
+  pub source_is : pieces.source ≡ source
+
+-- behind these octets a piece more was read; or a read met the end, and they are all; or a read
+-- failed, or all that are allowed answered octets
+abbrev pub ReadsOn : Input → ℕ → Reading → Reading → Pieces → List ℕ
+    → Result (Option (List ℕ)) ToolFault → Type 0
+ReadsOn source most old new pieces octets (Ok (Some piece)) =
+    HasRead source most old new pieces (octets ++ piece) × (0 < length piece)
+ReadsOn source most old new pieces octets (Ok None) =
+    WasReadOut new × AreAllOf old octets × HasGiven old new octets × (new.reads ≤ most)
+    × (pieces.made ≤ most)
+ReadsOn source most old new pieces octets (Err (faults.ReadFailed which)) =
+    (which ≡ source) × HasFailed new × HasGiven old new octets × (new.reads ≤ most)
+ReadsOn source most old new pieces octets (Err (faults.EndlessInput which)) =
+    (which ≡ source) × IsEndless most new × HasGiven old new octets
+ReadsOn source most old new pieces octets (Err fault) = ⊥
 
 -- all octets of the reader, where it tells them, or the fault that kept them back
 abbrev pub ReadsAll : Input → ℕ → Reading → Reading → Result (List ℕ) ToolFault → Type 0

@@ -1,9 +1,12 @@
 //! Reading an input to its end.
 
-ghost use Rattle.std.specs.Prelude.{◌≡◌, ◌≤◌, ◌<◌, [], IfOk, length, vec_len};
+ghost use Rattle.std.specs.Prelude.{◌≡◌, ◌≤◌, ◌<◌, ◌+◌, ℕ, List, false, IfOk, OnOk, length, vec_len};
+ghost use Rattle.std.specs.Option.{option_map};
 ghost use Rattle.bufr_answers.specs.Answers.{result_map};
+ghost use Rattle.bufr_bits.specs.Devices.{Reading};
+ghost use Rattle.bufr_io.specs.declared.fault.Input.{Input as InputKind};
 ghost use Rattle.bufr_io.specs.Engines.{IsFresh};
-ghost use Rattle.bufr_io.specs.Inputs.{KeepsFront, ReadsAll};
+ghost use Rattle.bufr_io.specs.Inputs.{HasRead, ReadsAll, ReadsOn};
 ghost use Rattle.bufr_io.specs.Limits.{most_reads, longest_piece};
 
 use crate::fault::{Input, ToolFault};
@@ -24,13 +27,57 @@ pub fn room(alloc: Global) -> Result<Vec<u8>, OutOfMemory>
     vec![in alloc; 0u8; LONGEST_PIECE]
 }
 
-/// Adds the octets that a read gave, the first of its room.
-fn keep(octets: &mut Vec<u8>, room: &[u8], given: usize) -> Result<(), ToolFault>
-    requires { given ≤ length room.now }
-    ensures { KeepsFront room.now given octets.old.items octets.new.items result }
-{
-    octets.extend_from_slice(&room[..given])?;
-    Ok(())
+/// The reads of an input, piece by piece to its end.
+#[derive(Debug, Drop)]
+pub struct Pieces {
+    /// The reads that were made.
+    pub made: u64,
+    /// How many are made at the most.
+    pub most: u64,
+    /// What is read.
+    pub source: Input,
+}
+
+impl Pieces {
+    /// No read was made yet.
+    pub fn new(most: u64, source: Input) -> Pieces
+        ensures { result ≡ record { made = 0; most = most; source = source } }
+    {
+        Pieces {
+            made: 0,
+            most,
+            source,
+        }
+    }
+
+    /// Reads the next piece into some room: `None` at the end. A piece has some octets.
+    pub fn next<'r, S: Source>(
+        &mut self,
+        reader: &mut S,
+        room: &'r mut [u8],
+    ) -> Result<Option<&'r [u8]>, ToolFault>
+        requires works { (S.reading reader.old).failed ≡ false }
+        requires counted { (S.reading reader.old).reads ≡ self.old.made }
+        requires some { 0 < length room.old }
+        requires short { length room.old ≤ longest_piece }
+        ensures counts { OnOk result (self.new.made ≡ self.old.made + 1) }
+        ensures reads { (source : InputKind) (most : ℕ) (first : Reading) (octets : List ℕ)
+            → HasRead source most first (S.reading reader.old) self.old octets
+            → ReadsOn source most first (S.reading reader.new) self.new octets
+            (result_map (option_map (λ piece. piece.now)) result) }
+    {
+        if self.made >= self.most {
+            return Err(ToolFault::EndlessInput(self.source));
+        }
+        self.made += 1;
+        let Ok(given) = reader.read(&mut *room) else {
+            return Err(ToolFault::ReadFailed(self.source));
+        };
+        if given == 0 {
+            return Ok(None);
+        }
+        Ok(Some(&room[..given]))
+    }
 }
 
 /// All octets of a reader, by at most so many reads.
@@ -48,34 +95,9 @@ pub fn read_all<S: Source>(
 {
     let mut room = room(alloc)?;
     let mut octets = Vec::new(alloc);
-    append_all(reads, source, reader, &mut room, &mut octets)?;
-    Ok(octets)
-}
-
-/// Puts all octets of a reader into an empty list, piece by piece through some room.
-fn append_all<S: Source>(
-    reads: u64,
-    source: Input,
-    reader: &mut S,
-    room: &mut [u8],
-    octets: &mut Vec<u8>,
-) -> Result<(), ToolFault>
-    requires few { reads ≤ most_reads }
-    requires fresh { IsFresh (S.reading reader.old) }
-    requires some { 0 < length room.old }
-    requires empty { octets.old.items ≡ [] }
-    ensures bounded { (S.reading reader.new).reads ≤ reads }
-    ensures all { ReadsAll source reads (S.reading reader.old) (S.reading reader.new)
-        (result_map (λ done. octets.new.items) result) }
-{
-    for _ in 0..reads {
-        let Ok(given) = reader.read(&mut *room) else {
-            return Err(ToolFault::ReadFailed(source));
-        };
-        if given == 0 {
-            return Ok(());
-        }
-        keep(octets, room, given)?;
+    let mut pieces = Pieces::new(reads, source);
+    while let Some(piece) = pieces.next(reader, &mut room)? {
+        octets.extend_from_slice(piece)?;
     }
-    Err(ToolFault::EndlessInput(source))
+    Ok(octets)
 }

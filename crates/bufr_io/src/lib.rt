@@ -7,5 +7,5 @@ mod input;
 mod output;
 
 pub use fault::{Input, Tally, ToolFault};
-pub use input::{LONGEST_PIECE, MOST_READS, read_all, room};
+pub use input::{LONGEST_PIECE, MOST_READS, Pieces, read_all, room};
 pub use output::{write_after, write_out};

@@ -1,8 +1,8 @@
 -- What an engine over a stream answers at each of its ends: the last step to the contracts of
 -- `run_show` and `run_check`.
-use Rattle.std.proofs.Common.{◌≡◌, ℕ, ◌*◌, ◌≤◌, false, Option, Some, None, List, [], ◌++◌, length}
-use Rattle.std.proofs.Common.{drop, Result, Ok, Err, refl, sym, subst, arith, IfSome}
-use Rattle.bufr_bits.specs.Devices.{Reading, Writing, FailedRead}
+use Rattle.std.proofs.Common.{◌≡◌, ℕ, false, Option, Some, None, List, [], ◌++◌, length}
+use Rattle.std.proofs.Common.{drop, Result, Ok, Err, sym, subst, IfSome}
+use Rattle.bufr_bits.specs.Devices.{Reading, Writing}
 use Rattle.bufr_tables.specs.Entries.{Entries}
 use Rattle.bufr_frame.specs.declared.frames.Found.{Found}
 use Rattle.bufr_frame.specs.Framings.{Framing}
@@ -14,96 +14,78 @@ use Rattle.bufr_io.specs.declared.fault.Input.TheVariants.{Number}
 use Rattle.bufr_io.specs.declared.fault.Tally.{Tally}
 use Rattle.bufr_io.specs.declared.fault.ToolFault.{ToolFault}
 use Rattle.bufr_io.specs.declared.fault.ToolFault.TheVariants as faults
+use Rattle.bufr_io.specs.declared.input.Pieces.{Pieces}
 use Rattle.bufr_tool.specs.declared.printing.Printing.{Printing}
 use Rattle.bufr_io.specs.Engines.{IsFresh, WasReadOut, HasGiven, AreAllOf, FailsAfter, WritesAll}
-use Rattle.bufr_io.specs.Inputs.{GoesOn}
-use Rattle.bufr_io.specs.Limits.{longest_piece}
+use Rattle.bufr_io.specs.Inputs.{GoesOn, HasRead, ReadsOn}
 use Rattle.bufr_tool.specs.Output.{frames_text, stream_text, last_text, tally_of}
 use Rattle.bufr_tool.specs.Lines.{WritesLines}
 use Rattle.bufr_tool.specs.StreamEngines.{no_counts, frames_by, text_by, Prints, PrintsEnd}
 use Rattle.bufr_tool.specs.StreamEngines.{HasPrintedSure, Stops}
-use Rattle.bufr_io.specs.ReadingLaws.{HasGiven_none}
+use Rattle.bufr_io.specs.ReadingLaws.{HasGiven_none, HasRead_none}
 use Rattle.bufr_io.specs.WritingLaws.{fails_longer}
 use Rattle.bufr_tool.proofs.LineFacts.{lines_none}
 use Rattle.bufr_tool.proofs.PartFacts.{all_written}
 use Rattle.bufr_tool.proofs.PrintingFacts.{printed_none, fails_further}
 
 -- between two reads: these octets were given, and what is sure of them was printed; no line is held
-pub record Between (printing : Printing) (tables : Entries) (old now : Reading)
-    (first last : Writing) (framer : Framing) (p : Printer) (count : ℕ) : Type 0 where
+pub record Between (printing : Printing) (tables : Entries) (reads : ℕ) (old now : Reading)
+    (pieces : Pieces) (first last : Writing) (framer : Framing) (p : Printer) : Type 0 where
   pub read : List ℕ
-  pub goes_on : GoesOn old now read count
+  pub so_far : HasRead (Number 1) reads old now pieces read
   pub printed : HasPrintedSure printing tables first last framer p read
   pub held : p.held.items ≡ []
-  pub short : length read ≤ longest_piece * count
 
 -- before the first
-pub between_first : (printing : Printing) (tables : Entries) (reader : Reading) (writer : Writing)
-    (framer : Framing) (p : Printer) → p.printing ≡ printing → p.templates ≡ tables
-    → p.counts ≡ no_counts → p.held.items ≡ []
+pub between_first : (printing : Printing) (tables : Entries) (reads : ℕ) (reader : Reading)
+    (writer : Writing) (framer : Framing) (p : Printer) → p.printing ≡ printing
+    → p.templates ≡ tables → p.counts ≡ no_counts → p.held.items ≡ []
     → IsFresh reader → writer.failed ≡ false → Stands framer [] 0
-    → Between printing tables reader reader writer writer framer p 0
-between_first printing tables reader writer framer p is under none held fresh works stands = record {
-  read = [];
-  goes_on =
-      record {
-        so_far = HasGiven_none reader;
-        works = fresh.failed;
-        reads = fresh.reads;
-        met_end =
-            fresh.met_end;
-      };
-  printed =
-      record {
-        handed = handed_first framer stands;
-        printed = printed_none printing tables writer p is under none held works;
-      };
-  held = held;
-  short = omega arith;
-}
+    → Between printing tables reads reader reader
+    (record { made = 0; most = reads; source = Number 1 }) writer writer framer p
+between_first printing tables reads reader writer framer p is under none held fresh works stands =
+    record {
+      read = [];
+      so_far = HasRead_none (Number 1) reads reader fresh;
+      printed =
+          record {
+            handed = handed_first framer stands;
+            printed = printed_none printing tables writer p is under none held works;
+          };
+      held = held;
+    }
 
 -- all that is printed of the octets was written
-between_text : (printing : Printing) (tables : Entries) (old now : Reading)
-    (first last : Writing) (framer : Framing) (p : Printer) (count : ℕ)
-    → (b : Between printing tables old now first last framer p count)
+between_text : (printing : Printing) (tables : Entries) (reads : ℕ) (old now : Reading)
+    (pieces : Pieces) (first last : Writing) (framer : Framing) (p : Printer)
+    → (b : Between printing tables reads old now pieces first last framer p)
     → WritesAll first last (frames_text printing tables (sure b.read))
-between_text printing tables old now first last framer p count b =
+between_text printing tables reads old now pieces first last framer p b =
     all_written p.held.items _ 0 p.counts.written first last b.held b.printed.printed.text
 
--- a read that took nothing leaves what was given as it was
-given_kept : (old mid new : Option (List ℕ)) (read : List ℕ)
-    → IfSome old (λ all. (rest : List ℕ) × (all ≡ read ++ rest) × (mid ≡ Some rest))
-    → IfSome mid (λ octets. new ≡ Some octets)
-    → IfSome old (λ all. (rest : List ℕ) × (all ≡ read ++ rest) × (new ≡ Some rest))
-given_kept None mid new read so_far kept = tt
-given_kept (Some all) mid new read so_far kept =
-    (so_far.0, so_far.1, (let h = rw so_far.2 at kept in h))
-
--- a read failed
-pub prints_failed : (printing : Printing) (tables : Entries) (reads : ℕ) (old mid new : Reading)
-    (first now : Writing) (framer : Framing) (p : Printer) (count : ℕ)
-    → Between printing tables old mid first now framer p count → FailedRead mid new
-    → Prints printing tables reads old new first now (Err (faults.ReadFailed (Number 1)))
-prints_failed printing tables reads old mid new first now framer p count b f = (
-  refl,
-  f.failed,
-  b.read,
-  given_kept old.left mid.left new.left b.read b.goes_on.so_far f.left,
-  between_text printing tables old mid first now framer p count b,
-)
-
--- all reads answered octets
-pub prints_endless : (printing : Printing) (tables : Entries) (reads : ℕ) (old new : Reading)
-    (first now : Writing) (framer : Framing) (p : Printer)
-    → Between printing tables old new first now framer p reads
-    → Prints printing tables reads old new first now (Err (faults.EndlessInput (Number 1)))
-prints_endless printing tables reads old new first now framer p b = (
-  refl,
-  record { reads = b.goes_on.reads; works = b.goes_on.works; met_end = b.goes_on.met_end },
-  b.read,
-  b.goes_on.so_far,
-  between_text printing tables old new first now framer p reads b,
-)
+-- a read failed, or all reads answered octets
+pub prints_unread : (printing : Printing) (tables : Entries) (reads : ℕ) (old mid new : Reading)
+    (pieces after : Pieces) (first now : Writing) (framer : Framing) (p : Printer) (e : ToolFault)
+    → (b : Between printing tables reads old mid pieces first now framer p)
+    → ReadsOn (Number 1) reads old new after b.read (Err e)
+    → Prints printing tables reads old new first now (Err e)
+prints_unread printing tables reads old mid new pieces after first now framer p
+    (faults.ReadFailed which) b r = (
+      r.0,
+      r.1,
+      b.read,
+      r.2,
+      between_text printing tables reads old mid pieces first now framer p b,
+    )
+prints_unread printing tables reads old mid new pieces after first now framer p
+    (faults.EndlessInput which) b r = (
+      r.0,
+      r.1,
+      b.read,
+      r.2,
+      between_text printing tables reads old mid pieces first now framer p b,
+    )
+prints_unread printing tables reads old mid new pieces after first now framer p e b r = absurd r
 
 -- a front of what is printed of sure frames is one of what is printed of the whole stream
 front_of_all : (printing : Printing) (tables : Entries) (left now : Option (List ℕ)) (read : List ℕ)

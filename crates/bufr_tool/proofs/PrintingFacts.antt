@@ -1,5 +1,5 @@
 -- What is printed frame by frame: the steps of the loops of `print_frames`, `print_piece` and
--- `print_pieces`, and so of the contracts of `run_show` and `run_check`.
+-- `print_stream`, and so of the contracts of `run_show` and `run_check`.
 use Rattle.std.proofs.Common.{◌≡◌, ℕ, ◌+◌, ◌*◌, ◌^◌, ◌<◌, ◌≤◌, false, inl, List, []}
 use Rattle.std.proofs.Common.{◌∷◌, ◌++◌, length, take, drop}
 use Rattle.std.proofs.Common.{Result, Ok, Err, get_or, refl, sym, ap, ◌∙◌, subst, arith}

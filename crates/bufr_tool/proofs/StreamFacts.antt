@@ -1,5 +1,5 @@
 -- What is printed of a stream as its pieces come: the steps of `take_piece`, `print_piece`,
--- `print_pieces`, `print_end`, `print_rest` and `print_tally`, and so of the contracts of `run_show`
+-- `print_stream`, `print_end`, `print_rest` and `print_tally`, and so of the contracts of `run_show`
 -- and `run_check`.
 use Rattle.std.proofs.Common.{◌≡◌, ℕ, ◌+◌, ◌^◌, ◌<◌, ◌≤◌, List, [], ◌∷◌, ◌++◌, length}
 use Rattle.std.proofs.Common.{drop, Result, Ok, Err, sym, ap, append_assoc}

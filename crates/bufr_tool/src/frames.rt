@@ -6,7 +6,7 @@ ghost use Rattle.bufr_frame.specs.declared.frames.Found.{Found as FoundFrame};
 ghost use Rattle.bufr_frame.specs.Streams.{cut};
 ghost use Rattle.bufr_tables.specs.Entries.{Entries};
 ghost use Rattle.bufr_io.specs.Engines.{IsFresh};
-ghost use Rattle.bufr_io.specs.Limits.{most_reads, longest_piece};
+ghost use Rattle.bufr_io.specs.Limits.{most_reads};
 ghost use Rattle.bufr_tool.specs.Output.{octets_of, skipped_by};
 ghost use Rattle.bufr_tool.specs.declared.printing.Printing.{Printing as PrintingKind};
 ghost use Rattle.bufr_tool.specs.StreamEngines.{HasEnded, HasPrinted, HasPrintedSure, Prints};
@@ -16,7 +16,7 @@ use crate::printer::Printer;
 use crate::printing::{Printing, hold_tally};
 use bufr_bits::{Sink, Source};
 use bufr_frame::{Found, Framer, NextFrame};
-use bufr_io::{Input, Tally, ToolFault, room, write_out};
+use bufr_io::{Input, Pieces, Tally, ToolFault, room, write_out};
 use bufr_tables::Tables;
 use std::alloc::Global;
 
@@ -180,40 +180,6 @@ fn print_end<W: Sink>(
     }
 }
 
-/// Prints the frames of the stream of a reader, read through some room, each as soon as it is sure.
-fn print_pieces<S: Source, W: Sink>(
-    alloc: Global,
-    printing: Printing,
-    reads: u64,
-    tables: &Tables,
-    reader: &mut S,
-    room: &mut [u8],
-    writer: &mut W,
-) -> Result<Tally, ToolFault>
-    requires few { reads ≤ most_reads }
-    requires fresh { IsFresh (S.reading reader.old) }
-    requires some { 0 < length room.old }
-    requires short { length room.old ≤ longest_piece }
-    requires works { (W.writing writer.old).failed ≡ false }
-    ensures bounded { (S.reading reader.new).reads ≤ reads }
-    ensures prints { Prints printing tables.now reads (S.reading reader.old) (S.reading reader.new)
-        (W.writing writer.old) (W.writing writer.new) result }
-{
-    let mut framer = Framer::new(alloc);
-    let mut printer = Printer::new(alloc, printing, tables);
-    for _ in 0..reads {
-        let Ok(given) = reader.read(&mut *room) else {
-            return Err(ToolFault::ReadFailed(Input::Number(1)));
-        };
-        if given == 0 {
-            return print_end(alloc, &mut framer, &mut printer, writer);
-        }
-        let piece = &room[..given];
-        print_piece(alloc, piece, &mut framer, &mut printer, writer)?;
-    }
-    Err(ToolFault::EndlessInput(Input::Number(1)))
-}
-
 /// Prints the frames of the stream of a reader, each as soon as it is sure. The lines of the frames
 /// that a piece makes sure are written together, before the next read. Where memory runs out they
 /// are written too, and the fault is the writer's where it fails then.
@@ -233,5 +199,11 @@ pub fn print_stream<S: Source, W: Sink>(
         (W.writing writer.old) (W.writing writer.new) result }
 {
     let mut room = room(alloc)?;
-    print_pieces(alloc, printing, reads, tables, reader, &mut room, writer)
+    let mut framer = Framer::new(alloc);
+    let mut printer = Printer::new(alloc, printing, tables);
+    let mut pieces = Pieces::new(reads, Input::Number(1));
+    while let Some(piece) = pieces.next(reader, &mut room)? {
+        print_piece(alloc, piece, &mut framer, &mut printer, writer)?;
+    }
+    print_end(alloc, &mut framer, &mut printer, writer)
 }
