@@ -9,7 +9,6 @@ use bufr_expand::Spec;
 use bufr_tables::{Fxy, Kind};
 use std::alloc::Global;
 use std::process::Abort;
-use std::test::Fail;
 
 type Descriptors<'a> = &'a [(u8, u8, u8)];
 
@@ -24,13 +23,13 @@ fn misfit(
     list: Descriptors,
     compressed: bool,
     subsets: &[Subset],
-) -> Result<Option<Failure<WriteFault>>, Fail> {
-    let template = template(alloc, list)?;
+) -> Option<Failure<WriteFault>> {
+    let template = template(rt, alloc, list);
     let mut sink = BitSink::new(alloc);
-    sink.put(3, 5)?;
+    sink.put(3, 5).expect(rt, "room");
     let answer = write_subsets(alloc, &template, compressed, subsets, &mut sink);
     assert!(rt; answer.is_ok() || sink.len_bits() == 3);
-    Ok(answer.err())
+    answer.err()
 }
 
 /// Why a field is not written, alone in its subset.
@@ -40,28 +39,28 @@ fn misfit_of(
     list: Descriptors,
     compressed: bool,
     field: Field,
-) -> Result<Option<Failure<WriteFault>>, Fail> {
-    let fields = Items::from_vec(vec![in alloc; field]?);
-    let subsets = vec![in alloc; Subset { fields }]?;
+) -> Option<Failure<WriteFault>> {
+    let fields = Items::from_vec(vec![in alloc; field].expect(rt, "room"));
+    let subsets = vec![in alloc; Subset { fields }].expect(rt, "room");
     misfit(rt, alloc, list, compressed, subsets.as_slice())
 }
 
 /// A temperature of this scale and width.
-fn temperature(scale: i32, width: u32, number: u64) -> Result<Field, Fail> {
+fn temperature(rt: &impl Abort, scale: i32, width: u32, number: u64) -> Field {
     let spec = Spec {
         kind: Kind::Quantity,
         scale,
         reference: 0,
         width,
     };
-    let fxy = Fxy::new(0, 12, 101).ok_or("no descriptor")?;
+    let fxy = Fxy::new(0, 12, 101).expect(rt, "a descriptor");
     let raw = Raw::Number(number);
-    Ok(Field { fxy, spec, raw })
+    Field { fxy, spec, raw }
 }
 
 /// The row has scale 2 and 16 bits, of which the greatest number is 65,535.
 #[test]
-fn numbers_of_another_form(rt: HostRuntime) -> Result<(), Fail> {
+fn numbers_of_another_form(rt: HostRuntime) {
     let alloc = rt.alloc();
     let wanted = Failure::Fault(WriteFault::DoesNotFit(1, 1));
     for compressed in [false, true] {
@@ -72,37 +71,35 @@ fn numbers_of_another_form(rt: HostRuntime) -> Result<(), Fail> {
             (2, 17, 27_315, false),
             (2, 15, 27_315, false),
         ] {
-            let field = temperature(scale, width, number)?;
-            let found = misfit_of(&rt, alloc, &TEMPERATURE, compressed, field)?;
+            let field = temperature(&rt, scale, width, number);
+            let found = misfit_of(&rt, alloc, &TEMPERATURE, compressed, field);
             same(&rt, found, if does_fit { None } else { Some(wanted) });
         }
     }
-    Ok(())
 }
 
 /// A text of so many characters where the row has nine.
-fn text(alloc: Global, characters: usize) -> Result<Field, Fail> {
+fn text(rt: &impl Abort, alloc: Global, characters: usize) -> Field {
     let spec = Spec {
         kind: Kind::Text,
         scale: 0,
         reference: 0,
         width: 72,
     };
-    let fxy = Fxy::new(0, 1, 11).ok_or("no descriptor")?;
-    let raw = Raw::Text(Items::from_vec(vec![in alloc; b'A'; characters]?));
-    Ok(Field { fxy, spec, raw })
+    let fxy = Fxy::new(0, 1, 11).expect(rt, "a descriptor");
+    let raw = Raw::Text(Items::from_vec(vec![in alloc; b'A'; characters].expect(rt, "room")));
+    Field { fxy, spec, raw }
 }
 
 #[test]
-fn texts_of_another_length(rt: HostRuntime) -> Result<(), Fail> {
+fn texts_of_another_length(rt: HostRuntime) {
     let alloc = rt.alloc();
     let wanted = Failure::Fault(WriteFault::DoesNotFit(1, 1));
     for compressed in [false, true] {
         for (characters, does_fit) in [(8, false), (9, true), (10, false)] {
-            let field = text(alloc, characters)?;
-            let found = misfit_of(&rt, alloc, &TEXT, compressed, field)?;
+            let field = text(&rt, alloc, characters);
+            let found = misfit_of(&rt, alloc, &TEXT, compressed, field);
             same(&rt, found, if does_fit { None } else { Some(wanted) });
         }
     }
-    Ok(())
 }

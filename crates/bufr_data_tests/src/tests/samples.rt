@@ -8,7 +8,6 @@ use bufr_expand::Template;
 use bufr_tables::{Fxy, TableB, TableD, Tables};
 use std::alloc::Global;
 use std::process::Abort;
-use std::test::Fail;
 
 /// Elements with their unit, scale, reference value and width.
 const TABLE_B: &[u8] = b"FXY,BUFR_Unit,BUFR_Scale,BUFR_ReferenceValue,BUFR_DataWidth_Bits
@@ -37,50 +36,44 @@ const TABLE_D: &[u8] = b"FXY1,FXY2
 ";
 
 /// The tables of the tests.
-fn tables(alloc: Global) -> Result<Tables, Fail> {
-    let elements = TableB::parse(alloc, TABLE_B)?;
-    let sequences = TableD::parse(alloc, TABLE_D)?;
-    Ok(Tables::new(elements, sequences))
+fn tables(rt: &impl Abort, alloc: Global) -> Tables {
+    let elements = TableB::parse(alloc, TABLE_B).expect(rt, "a table");
+    let sequences = TableD::parse(alloc, TABLE_D).expect(rt, "a table");
+    Tables::new(elements, sequences)
 }
 
 /// These descriptors.
-fn descriptors(alloc: Global, list: &[(u8, u8, u8)]) -> Result<Vec<Fxy>, Fail> {
+fn descriptors(rt: &impl Abort, alloc: Global, list: &[(u8, u8, u8)]) -> Vec<Fxy> {
     let mut descriptors = Vec::new(alloc);
     for (f, x, y) in list {
-        let fxy = Fxy::new(*f, *x, *y).ok_or("no descriptor")?;
-        descriptors.push(fxy)?;
+        let fxy = Fxy::new(*f, *x, *y).expect(rt, "a descriptor");
+        descriptors.push(fxy).expect(rt, "room");
     }
-    Ok(descriptors)
+    descriptors
 }
 
 /// The template of descriptors.
-pub(crate) fn template(alloc: Global, list: &[(u8, u8, u8)]) -> Result<Template, Fail> {
-    let (tables, descriptors) = (tables(alloc)?, descriptors(alloc, list)?);
-    Ok(Template::build(alloc, &tables, descriptors.as_slice())?)
+pub(crate) fn template(rt: &impl Abort, alloc: Global, list: &[(u8, u8, u8)]) -> Template {
+    let (tables, descriptors) = (tables(rt, alloc), descriptors(rt, alloc, list));
+    Template::build(alloc, &tables, descriptors.as_slice()).expect(rt, "a template")
 }
 
 /// The raw numbers of a subset, 0 for a text.
-fn numbers(alloc: Global, subset: &Subset) -> Result<Vec<u64>, OutOfMemory> {
+fn numbers(rt: &impl Abort, alloc: Global, subset: &Subset) -> Vec<u64> {
     let mut numbers = Vec::new(alloc);
     for field in subset.fields.as_slice() {
         match &field.raw {
-            Raw::Number(number) => numbers.push(*number)?,
-            Raw::Text(_) => numbers.push(0)?,
+            Raw::Number(number) => numbers.push(*number).expect(rt, "room"),
+            Raw::Text(_) => numbers.push(0).expect(rt, "room"),
         }
     }
-    Ok(numbers)
+    numbers
 }
 
 /// Compares the raw numbers of a subset.
-pub(crate) fn same_numbers(
-    rt: &impl Abort,
-    alloc: Global,
-    subset: &Subset,
-    wanted: &[u64],
-) -> Result<(), OutOfMemory> {
-    let found = numbers(alloc, subset)?;
+pub(crate) fn same_numbers(rt: &impl Abort, alloc: Global, subset: &Subset, wanted: &[u64]) {
+    let found = numbers(rt, alloc, subset);
     same(rt, found.as_slice(), wanted);
-    Ok(())
 }
 
 /// Compares the text of a field, which is to be one.

@@ -10,141 +10,117 @@ use bufr_message::{Decoded, Message, Report, View, canonical, decode, encode, re
 use std::alloc::Global;
 use std::fmt::Display;
 use std::process::Abort;
-use std::test::Fail;
 
 /// What octets are read as.
-pub(crate) fn read_octets(alloc: Global, all: &[u8]) -> Result<Decoded, Fail> {
-    let tables = tables(alloc)?;
-    Ok(decode(alloc, &tables, all)?)
+pub(crate) fn read_octets(rt: &impl Abort, alloc: Global, all: &[u8]) -> Decoded {
+    let tables = tables(rt, alloc);
+    decode(alloc, &tables, all).expect(rt, "a message")
 }
 
 /// What the octets of a text are read as.
-pub(crate) fn read(alloc: Global, text: &str) -> Result<Decoded, Fail> {
-    let all = octets(alloc, text)?;
-    read_octets(alloc, all.as_slice())
+pub(crate) fn read(rt: &impl Abort, alloc: Global, text: &str) -> Decoded {
+    let all = octets(rt, alloc, text);
+    read_octets(rt, alloc, all.as_slice())
 }
 
 /// The message that the octets of a text are read as.
-pub(crate) fn message_of(alloc: Global, text: &str) -> Result<Message, Fail> {
-    let found = read(alloc, text)?;
-    Ok(found.message)
+pub(crate) fn message_of(rt: &impl Abort, alloc: Global, text: &str) -> Message {
+    let found = read(rt, alloc, text);
+    found.message
 }
 
 /// The octets that are written for a message.
-pub(crate) fn written(alloc: Global, message: &Message) -> Result<Vec<u8>, Fail> {
-    let tables = tables(alloc)?;
-    Ok(encode(alloc, &tables, message)?)
+pub(crate) fn written(rt: &impl Abort, alloc: Global, message: &Message) -> Vec<u8> {
+    let tables = tables(rt, alloc);
+    encode(alloc, &tables, message).expect(rt, "octets")
 }
 
 /// What octets are viewed as.
-pub(crate) fn viewed(alloc: Global, all: &[u8]) -> Result<View<'_>, Fail> {
-    let tables = tables(alloc)?;
-    Ok(view(alloc, &tables, all)?)
+pub(crate) fn viewed<'a>(rt: &impl Abort, alloc: Global, all: &'a [u8]) -> View<'a> {
+    let tables = tables(rt, alloc);
+    view(alloc, &tables, all).expect(rt, "a view")
 }
 
 /// The reports of the message that octets are read as.
-pub(crate) fn reports_of_octets(alloc: Global, all: &[u8]) -> Result<Vec<Report>, Fail> {
-    let found = read_octets(alloc, all)?;
-    Ok(reports(alloc, found.message)?)
+pub(crate) fn reports_of_octets(rt: &impl Abort, alloc: Global, all: &[u8]) -> Vec<Report> {
+    let found = read_octets(rt, alloc, all);
+    reports(alloc, found.message).expect(rt, "room")
 }
 
 /// The reports of the message that the octets of a text are read as.
-pub(crate) fn reports_of(alloc: Global, text: &str) -> Result<Vec<Report>, Fail> {
-    let all = octets(alloc, text)?;
-    reports_of_octets(alloc, all.as_slice())
+pub(crate) fn reports_of(rt: &impl Abort, alloc: Global, text: &str) -> Vec<Report> {
+    let all = octets(rt, alloc, text);
+    reports_of_octets(rt, alloc, all.as_slice())
 }
 
 /// The canonical message of a report.
-pub(crate) fn canonical_of(alloc: Global, report: &Report) -> Result<Vec<u8>, Fail> {
-    let tables = tables(alloc)?;
-    Ok(canonical(alloc, &tables, report)?)
+pub(crate) fn canonical_of(rt: &impl Abort, alloc: Global, report: &Report) -> Vec<u8> {
+    let tables = tables(rt, alloc);
+    canonical(alloc, &tables, report).expect(rt, "room")
 }
 
 /// What is printed for a value.
-pub(crate) fn printed<T: Display>(alloc: Global, value: &T) -> Result<String, Fail> {
-    Ok(format!(in alloc; "{value}")?)
+pub(crate) fn printed<T: Display>(rt: &impl Abort, alloc: Global, value: &T) -> String {
+    format!(in alloc; "{value}").expect(rt, "room")
 }
 
 /// Why a call answered nothing, or this word where it answered.
 pub(crate) fn reason<T: Drop, F: Display + Drop>(
+    rt: &impl Abort,
     alloc: Global,
     answer: Result<T, F>,
     answered: &str,
-) -> Result<String, Fail> {
+) -> String {
     match answer {
-        Ok(_value) => Ok(String::from_str(alloc, answered)?),
-        Err(failure) => printed(alloc, &failure),
+        Ok(_value) => String::from_str(alloc, answered).expect(rt, "room"),
+        Err(failure) => printed(rt, alloc, &failure),
     }
 }
 
 /// Why the octets of a text are not read, or `read`.
-pub(crate) fn reason_of_reading(alloc: Global, text: &str) -> Result<String, Fail> {
-    let all = octets(alloc, text)?;
-    let tables = tables(alloc)?;
-    reason(alloc, decode(alloc, &tables, all.as_slice()), "read")
+pub(crate) fn reason_of_reading(rt: &impl Abort, alloc: Global, text: &str) -> String {
+    let all = octets(rt, alloc, text);
+    let tables = tables(rt, alloc);
+    reason(rt, alloc, decode(alloc, &tables, all.as_slice()), "read")
 }
 
 /// The octets of a text are not read for this reason.
-pub(crate) fn assert_not_read(
-    rt: &impl Abort,
-    alloc: Global,
-    text: &str,
-    wanted: &str,
-) -> Result<(), Fail> {
-    let found = reason_of_reading(alloc, text)?;
+pub(crate) fn assert_not_read(rt: &impl Abort, alloc: Global, text: &str, wanted: &str) {
+    let found = reason_of_reading(rt, alloc, text);
     same_at(rt, text, found.as_str(), wanted);
-    Ok(())
 }
 
 /// The octets of a line are not read for the reason behind its `=`. A line that begins with `#`
 /// says what follows.
-pub(crate) fn assert_line_not_read(rt: &impl Abort, alloc: Global, line: &str) -> Result<(), Fail> {
-    if line.starts_with('#') {
-        return Ok(());
+pub(crate) fn assert_line_not_read(rt: &impl Abort, alloc: Global, line: &str) {
+    if !line.starts_with('#') {
+        let (text, wanted) = line.split_once(" = ").expect(rt, "a case");
+        assert_not_read(rt, alloc, text, wanted);
     }
-    let (text, wanted) = line.split_once(" = ").ok_or("a case")?;
-    assert_not_read(rt, alloc, text, wanted)
 }
 
 /// Why a message is not written, or `written`.
-fn reason_of_writing(alloc: Global, message: &Message) -> Result<String, Fail> {
-    let tables = tables(alloc)?;
-    reason(alloc, encode(alloc, &tables, message), "written")
+fn reason_of_writing(rt: &impl Abort, alloc: Global, message: &Message) -> String {
+    let tables = tables(rt, alloc);
+    reason(rt, alloc, encode(alloc, &tables, message), "written")
 }
 
 /// A message is not written for this reason.
-pub(crate) fn assert_not_written(
-    rt: &impl Abort,
-    alloc: Global,
-    message: &Message,
-    wanted: &str,
-) -> Result<(), Fail> {
-    let found = reason_of_writing(alloc, message)?;
+pub(crate) fn assert_not_written(rt: &impl Abort, alloc: Global, message: &Message, wanted: &str) {
+    let found = reason_of_writing(rt, alloc, message);
     same(rt, found.as_str(), wanted);
-    Ok(())
 }
 
 /// Octets are those of a text.
-pub(crate) fn assert_octets(
-    rt: &impl Abort,
-    alloc: Global,
-    found: &[u8],
-    wanted: &str,
-) -> Result<(), Fail> {
-    let wanted = octets(alloc, wanted)?;
+pub(crate) fn assert_octets(rt: &impl Abort, alloc: Global, found: &[u8], wanted: &str) {
+    let wanted = octets(rt, alloc, wanted);
     same(rt, found, wanted.as_slice());
-    Ok(())
 }
 
 /// The message is written as these octets.
-pub(crate) fn assert_written(
-    rt: &impl Abort,
-    alloc: Global,
-    message: &Message,
-    wanted: &str,
-) -> Result<(), Fail> {
-    let found = written(alloc, message)?;
-    assert_octets(rt, alloc, found.as_slice(), wanted)
+pub(crate) fn assert_written(rt: &impl Abort, alloc: Global, message: &Message, wanted: &str) {
+    let found = written(rt, alloc, message);
+    assert_octets(rt, alloc, found.as_slice(), wanted);
 }
 
 /// The canonical message of the report at an index is this one.
@@ -154,22 +130,39 @@ pub(crate) fn assert_canonical(
     reports: &[Report],
     index: usize,
     wanted: &str,
-) -> Result<(), Fail> {
-    let report = reports.get(index).ok_or("report")?;
-    let found = canonical_of(alloc, report)?;
-    assert_octets(rt, alloc, found.as_slice(), wanted)
+) {
+    let report = reports.get(index).expect(rt, "report");
+    let found = canonical_of(rt, alloc, report);
+    assert_octets(rt, alloc, found.as_slice(), wanted);
 }
 
 /// The fields of the subset at an index.
-pub(crate) fn fields_of(message: &Message, subset: usize) -> Result<&Items<Field>, Fail> {
-    let subset = message.subsets.get(subset).ok_or("subset")?;
-    Ok(&subset.fields)
+pub(crate) fn fields_of<'m>(
+    rt: &impl Abort,
+    message: &'m Message,
+    subset: usize,
+) -> &'m Items<Field> {
+    let subset = message.subsets.get(subset).expect(rt, "subset");
+    &subset.fields
 }
 
 /// The field at an index of the subset at an index.
-pub(crate) fn field_of(message: &Message, subset: usize, index: usize) -> Result<&Field, Fail> {
-    let fields = fields_of(message, subset)?;
-    Ok(fields.get(index).ok_or("field")?)
+pub(crate) fn field_of<'m>(
+    rt: &impl Abort,
+    message: &'m Message,
+    subset: usize,
+    index: usize,
+) -> &'m Field {
+    let fields = fields_of(rt, message, subset);
+    fields.get(index).expect(rt, "field")
+}
+
+/// The characters that the field holds.
+pub(crate) fn characters_of<'f>(rt: &impl Abort, field: &'f Field) -> &'f [u8] {
+    match &field.raw {
+        Raw::Text(text) => text.as_slice(),
+        Raw::Number(_) => panic!(rt; "a number"),
+    }
 }
 
 /// The field holds this number.
@@ -184,10 +177,9 @@ pub(crate) fn assert_missing(
     subset: usize,
     index: usize,
     wanted: bool,
-) -> Result<(), Fail> {
-    let field = field_of(message, subset, index)?;
+) {
+    let field = field_of(rt, message, subset, index);
     same(rt, field.is_missing(), wanted);
-    Ok(())
 }
 
 /// The message has no subset.

@@ -5,11 +5,9 @@ use super::calls::*;
 use super::samples::{COMPRESSED_PAIR, COMPRESSED_TEXTS, SEQUENCES, UNEQUAL_COUNTS};
 use super::{holds, same};
 use bufr_answers::Items;
-use bufr_data::Raw;
 use bufr_message::Message;
 use std::alloc::Global;
 use std::process::Abort;
-use std::test::Fail;
 
 /// Two subsets whose temperatures are 27315 and 27316, whose increments need two bits.
 const COMPRESSED_INCREMENTS: &str = "\
@@ -34,47 +32,34 @@ const COMPRESSED_NOT_A_FACTOR: &str = "\
 42554652 000031 04 | S1 | 000009 00 0002 C0 1F00 | 000006 00 0280 | END";
 
 /// The message that octets with no slack are read as.
-fn read_whole(rt: &impl Abort, alloc: Global, text: &str) -> Result<Message, Fail> {
-    let found = read(alloc, text)?;
+fn read_whole(rt: &impl Abort, alloc: Global, text: &str) -> Message {
+    let found = read(rt, alloc, text);
     same(rt, found.slack_octets, 0);
-    Ok(found.message)
+    found.message
 }
 
 /// The numbers of the fields of a subset are these.
-fn assert_numbers(
-    rt: &impl Abort,
-    message: &Message,
-    subset: usize,
-    wanted: &[u64],
-) -> Result<(), Fail> {
-    let fields = fields_of(message, subset)?;
+fn assert_numbers(rt: &impl Abort, message: &Message, subset: usize, wanted: &[u64]) {
+    let fields = fields_of(rt, message, subset);
     same(rt, fields.len(), wanted.len());
     for (index, number) in wanted.iter().enumerate() {
-        assert_number(rt, fields.get(index).ok_or("field")?, *number);
+        assert_number(rt, fields.get(index).expect(rt, "field"), *number);
     }
-    Ok(())
 }
 
 /// The message has two subsets, whose fields have these numbers.
-fn assert_two(rt: &impl Abort, message: &Message, wanted: [&[u64]; 2]) -> Result<(), Fail> {
+fn assert_two(rt: &impl Abort, message: &Message, wanted: [&[u64]; 2]) {
     same(rt, message.subsets.len(), wanted.len());
     for (subset, numbers) in wanted.into_iter().enumerate() {
-        assert_numbers(rt, message, subset, numbers)?;
+        assert_numbers(rt, message, subset, numbers);
     }
-    Ok(())
 }
 
 /// The octets of a text are read as two subsets of these numbers, and then these are written.
-fn assert_read(
-    rt: &impl Abort,
-    alloc: Global,
-    text: &str,
-    numbers: [&[u64]; 2],
-    wanted: &str,
-) -> Result<(), Fail> {
-    let message = read_whole(rt, alloc, text)?;
-    assert_two(rt, &message, numbers)?;
-    assert_written(rt, alloc, &message, wanted)
+fn assert_read(rt: &impl Abort, alloc: Global, text: &str, numbers: [&[u64]; 2], wanted: &str) {
+    let message = read_whole(rt, alloc, text);
+    assert_two(rt, &message, numbers);
+    assert_written(rt, alloc, &message, wanted);
 }
 
 /// The numbers of the subsets of `COMPRESSED_PAIR`.
@@ -96,74 +81,68 @@ const FACTOR_NUMBERS: [&[u64]; 2] = [&[0], &[0]];
 const NOT_A_FACTOR_NUMBERS: [&[u64]; 2] = [&[0], &[1]];
 
 #[test]
-fn compressed_pair(rt: HostRuntime) -> Result<(), Fail> {
+fn compressed_pair(rt: HostRuntime) {
     let pair = COMPRESSED_PAIR;
-    assert_read(&rt, rt.alloc(), pair, PAIR_NUMBERS, pair)?;
-    let message = read_whole(&rt, rt.alloc(), pair)?;
+    assert_read(&rt, rt.alloc(), pair, PAIR_NUMBERS, pair);
+    let message = read_whole(&rt, rt.alloc(), pair);
     holds(&rt, message.compressed);
-    assert_missing(&rt, &message, 1, 7, true)
+    assert_missing(&rt, &message, 1, 7, true);
 }
 
 #[test]
-fn compressed_increments(rt: HostRuntime) -> Result<(), Fail> {
+fn compressed_increments(rt: HostRuntime) {
     let text = COMPRESSED_INCREMENTS;
-    assert_read(&rt, rt.alloc(), text, INCREMENTS_NUMBERS, text)
+    assert_read(&rt, rt.alloc(), text, INCREMENTS_NUMBERS, text);
 }
 
 #[test]
-fn encode_compressed_one(rt: HostRuntime) -> Result<(), Fail> {
-    let mut message = read_whole(&rt, rt.alloc(), SEQUENCES)?;
+fn encode_compressed_one(rt: HostRuntime) {
+    let mut message = read_whole(&rt, rt.alloc(), SEQUENCES);
     message.compressed = true;
-    assert_written(&rt, rt.alloc(), &message, ENCODE_COMPRESSED_ONE)?;
+    assert_written(&rt, rt.alloc(), &message, ENCODE_COMPRESSED_ONE);
     same(
         &rt,
-        read_whole(&rt, rt.alloc(), ENCODE_COMPRESSED_ONE)?,
+        read_whole(&rt, rt.alloc(), ENCODE_COMPRESSED_ONE),
         message,
     );
-    Ok(())
 }
 
 #[test]
-fn compressed_factor(rt: HostRuntime) -> Result<(), Fail> {
+fn compressed_factor(rt: HostRuntime) {
     let text = COMPRESSED_FACTOR;
-    assert_read(&rt, rt.alloc(), text, FACTOR_NUMBERS, FACTOR_WRITTEN)
+    assert_read(&rt, rt.alloc(), text, FACTOR_NUMBERS, FACTOR_WRITTEN);
 }
 
 #[test]
-fn compressed_not_a_factor(rt: HostRuntime) -> Result<(), Fail> {
+fn compressed_not_a_factor(rt: HostRuntime) {
     let text = COMPRESSED_NOT_A_FACTOR;
-    assert_read(&rt, rt.alloc(), text, NOT_A_FACTOR_NUMBERS, text)
+    assert_read(&rt, rt.alloc(), text, NOT_A_FACTOR_NUMBERS, text);
 }
 
 /// The text of the only field of a subset is this one.
-fn assert_text(
-    rt: &impl Abort,
-    message: &Message,
-    subset: usize,
-    wanted: &[u8],
-) -> Result<(), Fail> {
-    same(rt, fields_of(message, subset)?.len(), 1);
-    let Raw::Text(text) = &field_of(message, subset, 0)?.raw else {
-        return Err("a text")?;
-    };
-    same(rt, text.as_slice(), wanted);
-    Ok(())
+fn assert_text(rt: &impl Abort, message: &Message, subset: usize, wanted: &[u8]) {
+    same(rt, fields_of(rt, message, subset).len(), 1);
+    same(
+        rt,
+        characters_of(rt, field_of(rt, message, subset, 0)),
+        wanted,
+    );
 }
 
 #[test]
-fn compressed_texts(rt: HostRuntime) -> Result<(), Fail> {
-    let message = read_whole(&rt, rt.alloc(), COMPRESSED_TEXTS)?;
-    assert_text(&rt, &message, 0, b"AB ")?;
-    assert_text(&rt, &message, 1, &[255, 255, 255])?;
-    assert_missing(&rt, &message, 1, 0, true)
+fn compressed_texts(rt: HostRuntime) {
+    let message = read_whole(&rt, rt.alloc(), COMPRESSED_TEXTS);
+    assert_text(&rt, &message, 0, b"AB ");
+    assert_text(&rt, &message, 1, &[255, 255, 255]);
+    assert_missing(&rt, &message, 1, 0, true);
 }
 
 #[test]
-fn no_compressed_subsets(rt: HostRuntime) -> Result<(), Fail> {
+fn no_compressed_subsets(rt: HostRuntime) {
     let text = "42554652 000035 04 | S1 | 00000F 00 0000 C0 C101 C10B C10C 0C65 | 000004 00 | END";
-    let message = read_whole(&rt, rt.alloc(), text)?;
+    let message = read_whole(&rt, rt.alloc(), text);
     assert_no_subset(&rt, &message);
-    assert_written(&rt, rt.alloc(), &message, text)
+    assert_written(&rt, rt.alloc(), &message, text);
 }
 
 /// Compressed octets that are refused, each with its reason behind `=`.
@@ -176,19 +155,18 @@ const REFUSED: &str = "\
 ";
 
 #[test]
-fn compressed_refusals(rt: HostRuntime) -> Result<(), Fail> {
+fn compressed_refusals(rt: HostRuntime) {
     for line in REFUSED.lines() {
-        assert_line_not_read(&rt, rt.alloc(), line)?;
+        assert_line_not_read(&rt, rt.alloc(), line);
     }
-    Ok(())
 }
 
 #[test]
-fn unequal_counts(rt: HostRuntime) -> Result<(), Fail> {
+fn unequal_counts(rt: HostRuntime) {
     let alloc = rt.alloc();
-    let mut message = read_whole(&rt, alloc, UNEQUAL_COUNTS)?;
+    let mut message = read_whole(&rt, alloc, UNEQUAL_COUNTS);
     message.compressed = true;
-    assert_not_written(&rt, alloc, &message, "E2 NotCompressible 1")?;
+    assert_not_written(&rt, alloc, &message, "E2 NotCompressible 1");
     message.descriptors = Items::from_vec(Vec::new(alloc));
-    assert_not_written(&rt, alloc, &message, "E4 NoDescriptors")
+    assert_not_written(&rt, alloc, &message, "E4 NoDescriptors");
 }

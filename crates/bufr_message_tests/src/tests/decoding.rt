@@ -8,26 +8,18 @@ use bufr_sections::{Head, Message};
 use bufr_tables::Fxy;
 use std::alloc::Global;
 use std::process::Abort;
-use std::test::Fail;
 
 /// The descriptor at an index is this one, and so is that of the field there, which holds this
 /// number.
-fn assert_field(
-    rt: &impl Abort,
-    message: &Message,
-    index: usize,
-    fxy: Fxy,
-    number: u64,
-) -> Result<(), Fail> {
+fn assert_field(rt: &impl Abort, message: &Message, index: usize, fxy: Fxy, number: u64) {
     same(rt, message.descriptors.get(index), Some(&fxy));
-    let field = field_of(message, 0, index)?;
+    let field = field_of(rt, message, 0, index);
     same(rt, field.fxy, fxy);
     assert_number(rt, field, number);
-    Ok(())
 }
 
 /// The descriptors and numbers of the fields of a message's only subset are these.
-fn assert_fields(rt: &impl Abort, message: &Message) -> Result<(), Fail> {
+fn assert_fields(rt: &impl Abort, message: &Message) {
     let wanted = [
         (0, 1, 1, 10),
         (0, 1, 2, 384),
@@ -40,12 +32,11 @@ fn assert_fields(rt: &impl Abort, message: &Message) -> Result<(), Fail> {
     ];
     same(rt, message.descriptors.len(), wanted.len());
     same(rt, message.subsets.len(), 1);
-    same(rt, fields_of(message, 0)?.len(), wanted.len());
+    same(rt, fields_of(rt, message, 0).len(), wanted.len());
     for (index, (f, x, y, number)) in wanted.into_iter().enumerate() {
-        let fxy = Fxy::new(f, x, y).ok_or("descriptor")?;
-        assert_field(rt, message, index, fxy, number)?;
+        let fxy = Fxy::new(f, x, y).expect(rt, "descriptor");
+        assert_field(rt, message, index, fxy, number);
     }
-    Ok(())
 }
 
 /// What section 1 of the messages says, with these octets for local use.
@@ -70,9 +61,9 @@ fn head(local: Vec<u8>) -> Head {
 }
 
 /// The message is the first of the samples, with these octets for local use.
-fn assert_first(rt: &impl Abort, message: &Message, local: Vec<u8>) -> Result<(), Fail> {
+fn assert_first(rt: &impl Abort, message: &Message, local: Vec<u8>) {
     same(rt, &message.head, &head(local));
-    assert_fields(rt, message)
+    assert_fields(rt, message);
 }
 
 /// The message has no section 2, and observed data that are not compressed.
@@ -83,46 +74,39 @@ fn assert_plain(rt: &impl Abort, message: &Message) {
 }
 
 #[test]
-fn elements_only(rt: HostRuntime) -> Result<(), Fail> {
-    let found = read(rt.alloc(), ELEMENTS_ONLY)?;
+fn elements_only(rt: HostRuntime) {
+    let found = read(&rt, rt.alloc(), ELEMENTS_ONLY);
     same(&rt, found.slack_octets, 0);
-    assert_first(&rt, &found.message, Vec::new(rt.alloc()))?;
+    assert_first(&rt, &found.message, Vec::new(rt.alloc()));
     assert_plain(&rt, &found.message);
-    Ok(())
 }
 
 /// The octets for local use of section 2 are those of a text.
-fn assert_section2(
-    rt: &impl Abort,
-    alloc: Global,
-    message: &Message,
-    wanted: &str,
-) -> Result<(), Fail> {
-    let section2 = message.section2.as_ref().ok_or("section 2")?;
-    assert_octets(rt, alloc, section2.as_slice(), wanted)
+fn assert_section2(rt: &impl Abort, alloc: Global, message: &Message, wanted: &str) {
+    let section2 = message.section2.as_ref().expect(rt, "section 2");
+    assert_octets(rt, alloc, section2.as_slice(), wanted);
 }
 
 #[test]
-fn local_octets_section_2_and_slack(rt: HostRuntime) -> Result<(), Fail> {
+fn local_octets_section_2_and_slack(rt: HostRuntime) {
     let alloc = rt.alloc();
-    let found = read(alloc, LOCAL_OCTETS_AND_SLACK)?;
+    let found = read(&rt, alloc, LOCAL_OCTETS_AND_SLACK);
     same(&rt, found.slack_octets, 2);
-    assert_first(&rt, &found.message, octets(alloc, "ABCD")?)?;
-    assert_section2(&rt, alloc, &found.message, "0102")
+    assert_first(&rt, &found.message, octets(&rt, alloc, "ABCD"));
+    assert_section2(&rt, alloc, &found.message, "0102");
 }
 
 /// The octets are read as a message with no subset, and so much slack.
-fn assert_empty(rt: &impl Abort, alloc: Global, text: &str, slack: u64) -> Result<(), Fail> {
-    let found = read(alloc, text)?;
+fn assert_empty(rt: &impl Abort, alloc: Global, text: &str, slack: u64) {
+    let found = read(rt, alloc, text);
     assert_no_subset(rt, &found.message);
     same(rt, found.slack_octets, slack);
-    Ok(())
 }
 
 #[test]
-fn no_subsets(rt: HostRuntime) -> Result<(), Fail> {
-    assert_empty(&rt, rt.alloc(), NO_SUBSETS, 0)?;
-    assert_empty(&rt, rt.alloc(), NO_SUBSETS_AND_SLACK, 9)
+fn no_subsets(rt: HostRuntime) {
+    assert_empty(&rt, rt.alloc(), NO_SUBSETS, 0);
+    assert_empty(&rt, rt.alloc(), NO_SUBSETS_AND_SLACK, 9);
 }
 
 /// A head whose fourteen numbers all differ, with these octets for local use.
@@ -147,19 +131,17 @@ fn head_of_distinct_numbers(local: Vec<u8>) -> Head {
 }
 
 #[test]
-fn distinct_head(rt: HostRuntime) -> Result<(), Fail> {
-    let found = message_of(rt.alloc(), DISTINCT_HEAD)?;
-    let wanted = head_of_distinct_numbers(octets(rt.alloc(), "1213")?);
+fn distinct_head(rt: HostRuntime) {
+    let found = message_of(&rt, rt.alloc(), DISTINCT_HEAD);
+    let wanted = head_of_distinct_numbers(octets(&rt, rt.alloc(), "1213"));
     same(&rt, &found.head, &wanted);
-    Ok(())
 }
 
 #[test]
-fn what_is_ignored(rt: HostRuntime) -> Result<(), Fail> {
-    let ignored = read(rt.alloc(), IGNORED_ONES)?;
-    let plain = read(rt.alloc(), ELEMENTS_ONLY)?;
+fn what_is_ignored(rt: HostRuntime) {
+    let ignored = read(&rt, rt.alloc(), IGNORED_ONES);
+    let plain = read(&rt, rt.alloc(), ELEMENTS_ONLY);
     same(&rt, ignored, plain);
-    Ok(())
 }
 
 /// Octets that are refused, each with its reason behind `=`. Lines that begin with `#` say what
@@ -204,16 +186,15 @@ const DATA_ENDS: &str = "\
 | 00000C 00 14C03F409EC01AAC | END";
 
 #[test]
-fn refusals(rt: HostRuntime) -> Result<(), Fail> {
+fn refusals(rt: HostRuntime) {
     for (text, wanted) in [
         (EDITION_5, "M2 Edition 5"),
         (TOTAL_TOO_LARGE, "M3 TotalLength"),
         (DATA_ENDS, "V2 DataEnds 1 8"),
     ] {
-        assert_not_read(&rt, rt.alloc(), text, wanted)?;
+        assert_not_read(&rt, rt.alloc(), text, wanted);
     }
     for line in REFUSED.lines() {
-        assert_line_not_read(&rt, rt.alloc(), line)?;
+        assert_line_not_read(&rt, rt.alloc(), line);
     }
-    Ok(())
 }

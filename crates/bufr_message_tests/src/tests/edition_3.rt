@@ -7,7 +7,6 @@ use bufr_message::listing::text_of;
 use bufr_message::{Decoded, Message, View, reports, view};
 use std::alloc::Global;
 use std::process::Abort;
-use std::test::Fail;
 
 /// The octets before the year of the century: section 1 has 18 octets.
 const FRONT: &str = "42554652 00003C 03 | 000012 00 00 62 00 00 00 02 0D 00";
@@ -47,53 +46,51 @@ end
 ";
 
 /// The message of this year of the century.
-fn of_year(alloc: Global, year: u8) -> Result<Vec<u8>, Fail> {
-    let mut all = octets(alloc, FRONT)?;
-    all.push(year)?;
-    let back = octets(alloc, BACK)?;
-    all.extend_from_slice(back.as_slice())?;
-    Ok(all)
+fn of_year(rt: &impl Abort, alloc: Global, year: u8) -> Vec<u8> {
+    let mut all = octets(rt, alloc, FRONT);
+    all.push(year).expect(rt, "room");
+    let back = octets(rt, alloc, BACK);
+    all.extend_from_slice(back.as_slice()).expect(rt, "room");
+    all
 }
 
 /// What the octets of edition 3 are read as.
-fn read_year(alloc: Global, year: u8) -> Result<Decoded, Fail> {
-    let all = of_year(alloc, year)?;
-    read_octets(alloc, all.as_slice())
+fn read_year(rt: &impl Abort, alloc: Global, year: u8) -> Decoded {
+    let all = of_year(rt, alloc, year);
+    read_octets(rt, alloc, all.as_slice())
 }
 
 /// The listing of a message is the one above.
-fn assert_listed(rt: &impl Abort, alloc: Global, message: &Message) -> Result<(), Fail> {
-    let listing = text_of(alloc, message)?;
+fn assert_listed(rt: &impl Abort, alloc: Global, message: &Message) {
+    let listing = text_of(alloc, message).expect(rt, "room");
     same(rt, listing.as_slice(), LISTED.as_bytes());
-    Ok(())
 }
 
 #[test]
-fn edition_3(rt: HostRuntime) -> Result<(), Fail> {
-    let found = read_year(rt.alloc(), 0x18)?;
+fn edition_3(rt: HostRuntime) {
+    let found = read_year(&rt, rt.alloc(), 0x18);
     same(&rt, found.slack_octets, 1);
-    assert_written(&rt, rt.alloc(), &found.message, WRITTEN)?;
-    assert_listed(&rt, rt.alloc(), &found.message)
+    assert_written(&rt, rt.alloc(), &found.message, WRITTEN);
+    assert_listed(&rt, rt.alloc(), &found.message);
 }
 
 #[test]
-fn edition_3_canonical(rt: HostRuntime) -> Result<(), Fail> {
+fn edition_3_canonical(rt: HostRuntime) {
     let alloc = rt.alloc();
-    let found = read_year(alloc, 0x18)?;
-    let all = reports(alloc, found.message)?;
+    let found = read_year(&rt, alloc, 0x18);
+    let all = reports(alloc, found.message).expect(&rt, "room");
     same(&rt, all.len(), 1);
-    assert_canonical(&rt, alloc, all.as_slice(), 0, CANONICAL)
+    assert_canonical(&rt, alloc, all.as_slice(), 0, CANONICAL);
 }
 
 /// The year of the head of a message of this year of the century is this.
-fn assert_year(rt: &impl Abort, alloc: Global, octet: u8, year: u16) -> Result<(), Fail> {
-    let found = read_year(alloc, octet)?;
+fn assert_year(rt: &impl Abort, alloc: Global, octet: u8, year: u16) {
+    let found = read_year(rt, alloc, octet);
     same(rt, found.message.head.year, year);
-    Ok(())
 }
 
 #[test]
-fn edition_3_years_and_faults(rt: HostRuntime) -> Result<(), Fail> {
+fn edition_3_years_and_faults(rt: HostRuntime) {
     let alloc = rt.alloc();
     for (octet, year) in [
         (0x45, 2069),
@@ -102,10 +99,10 @@ fn edition_3_years_and_faults(rt: HostRuntime) -> Result<(), Fail> {
         (0x64, 2000),
         (0x00, 2000),
     ] {
-        assert_year(&rt, alloc, octet, year)?;
+        assert_year(&rt, alloc, octet, year);
     }
-    assert_outcome(&rt, alloc, SHORT, 0, "M5 Section1Length")?;
-    assert_outcome(&rt, alloc, EDITION_2, 0, "M2 Edition 2")
+    assert_outcome(&rt, alloc, SHORT, 0, "M5 Section1Length");
+    assert_outcome(&rt, alloc, EDITION_2, 0, "M2 Edition 2");
 }
 
 /// The message without section 5, with a section 1 that says it has 16 octets.
@@ -119,25 +116,25 @@ const EDITION_2: &str = "\
 000010 00 0001 80 C101 C10B C10C 0C65 00 | 00000E 00 14C03F409EC01AACC0 00";
 
 /// How a view tells how many subsets it has.
-fn told(alloc: Global, found: &View<'_>) -> Result<String, Fail> {
+fn told(rt: &impl Abort, alloc: Global, found: &View<'_>) -> String {
     let count = found.count();
-    Ok(format!(in alloc; "{count} subsets")?)
+    format!(in alloc; "{count} subsets").expect(rt, "room")
 }
 
 /// How octets are viewed: how many subsets they have, or why they are refused.
-fn outcome_of(alloc: Global, all: &[u8]) -> Result<String, Fail> {
-    let tables = tables(alloc)?;
+fn outcome_of(rt: &impl Abort, alloc: Global, all: &[u8]) -> String {
+    let tables = tables(rt, alloc);
     match view(alloc, &tables, all) {
-        Ok(found) => told(alloc, &found),
-        Err(failure) => printed(alloc, &failure),
+        Ok(found) => told(rt, alloc, &found),
+        Err(failure) => printed(rt, alloc, &failure),
     }
 }
 
 /// How the message of this front, so many zero octets and section 5 is read: how many subsets it
 /// has, or why it is refused.
-fn outcome(alloc: Global, front: &str, zeros: usize) -> Result<String, Fail> {
-    let all = with_zeros(alloc, front, zeros)?;
-    outcome_of(alloc, all.as_slice())
+fn outcome(rt: &impl Abort, alloc: Global, front: &str, zeros: usize) -> String {
+    let all = with_zeros(rt, alloc, front, zeros);
+    outcome_of(rt, alloc, all.as_slice())
 }
 
 /// One subset of 16,777,151 characters, in the longest message of edition 3.
@@ -151,20 +148,13 @@ const LONGEST_READ: &str = "\
 00001F 00 0001 80 42FF 41FF 85FF 41FF 85FF 41FF 85FF 41FF 85FF 85FF 85FF 85BA | FFFFBE 00";
 
 /// The message of this front is read so.
-fn assert_outcome(
-    rt: &impl Abort,
-    alloc: Global,
-    front: &str,
-    zeros: usize,
-    wanted: &str,
-) -> Result<(), Fail> {
-    let found = outcome(alloc, front, zeros)?;
+fn assert_outcome(rt: &impl Abort, alloc: Global, front: &str, zeros: usize, wanted: &str) {
+    let found = outcome(rt, alloc, front, zeros);
     same(rt, found.as_str(), wanted);
-    Ok(())
 }
 
 #[test]
-fn edition_3_too_long(rt: HostRuntime) -> Result<(), Fail> {
-    assert_outcome(&rt, rt.alloc(), LONGEST, 16_777_151, "V6 TooLarge")?;
-    assert_outcome(&rt, rt.alloc(), LONGEST_READ, 16_777_146, "1 subsets")
+fn edition_3_too_long(rt: HostRuntime) {
+    assert_outcome(&rt, rt.alloc(), LONGEST, 16_777_151, "V6 TooLarge");
+    assert_outcome(&rt, rt.alloc(), LONGEST_READ, 16_777_146, "1 subsets");
 }

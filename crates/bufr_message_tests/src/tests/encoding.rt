@@ -10,7 +10,6 @@ use bufr_sections::Message;
 use bufr_tables::Fxy;
 use std::alloc::Global;
 use std::process::Abort;
-use std::test::Fail;
 
 /// Octets that are read and written again as they are.
 const KEPT: [&str; 16] = [
@@ -36,111 +35,111 @@ const KEPT: [&str; 16] = [
 const TEMPERATURE: &str = "42554652 000031 04 | S1 | 000009 00 0001 80 0C65 | 000006 00 6AB3 | END";
 
 /// What is written for what the octets of a text are read as.
-fn written_again(alloc: Global, text: &str) -> Result<Vec<u8>, Fail> {
-    let message = message_of(alloc, text)?;
-    written(alloc, &message)
+fn written_again(rt: &impl Abort, alloc: Global, text: &str) -> Vec<u8> {
+    let message = message_of(rt, alloc, text);
+    written(rt, alloc, &message)
 }
 
 /// What is read of octets is written as these octets.
-fn assert_again(rt: &impl Abort, alloc: Global, text: &str, wanted: &str) -> Result<(), Fail> {
-    let found = written_again(alloc, text)?;
-    let wanted = octets(alloc, wanted)?;
+fn assert_again(rt: &impl Abort, alloc: Global, text: &str, wanted: &str) {
+    let found = written_again(rt, alloc, text);
+    let wanted = octets(rt, alloc, wanted);
     same_at(rt, text, found.as_slice(), wanted.as_slice());
-    Ok(())
 }
 
 #[test]
-fn written_as_they_were(rt: HostRuntime) -> Result<(), Fail> {
+fn written_as_they_were(rt: HostRuntime) {
     for text in KEPT {
-        assert_again(&rt, rt.alloc(), text, text)?;
+        assert_again(&rt, rt.alloc(), text, text);
     }
-    Ok(())
 }
 
 #[test]
-fn written_without_what_is_free(rt: HostRuntime) -> Result<(), Fail> {
-    assert_again(&rt, rt.alloc(), LOCAL_OCTETS_AND_SLACK, LOCAL_OCTETS)?;
-    assert_again(&rt, rt.alloc(), IGNORED_ONES, ELEMENTS_ONLY)?;
-    assert_again(&rt, rt.alloc(), NO_SUBSETS_AND_SLACK, NO_SUBSETS)
+fn written_without_what_is_free(rt: HostRuntime) {
+    assert_again(&rt, rt.alloc(), LOCAL_OCTETS_AND_SLACK, LOCAL_OCTETS);
+    assert_again(&rt, rt.alloc(), IGNORED_ONES, ELEMENTS_ONLY);
+    assert_again(&rt, rt.alloc(), NO_SUBSETS_AND_SLACK, NO_SUBSETS);
 }
 
 /// The list of one descriptor, or of none.
-fn descriptors(alloc: Global, only: Option<Fxy>) -> Result<Items<Fxy>, Fail> {
+fn descriptors(rt: &impl Abort, alloc: Global, only: Option<Fxy>) -> Items<Fxy> {
     let mut list = Vec::new(alloc);
     if let Some(fxy) = only {
-        list.push(fxy)?;
+        list.push(fxy).expect(rt, "room");
     }
-    Ok(Items::from_vec(list))
+    Items::from_vec(list)
 }
 
 /// The subset without its last field.
-fn without_last(subset: Subset) -> Result<Subset, Fail> {
+fn without_last(rt: &impl Abort, subset: Subset) -> Subset {
     let mut fields = subset.fields.into_vec();
-    let _last = fields.pop().ok_or("field")?;
+    let _last = fields.pop().expect(rt, "field");
     let fields = Items::from_vec(fields);
-    Ok(Subset { fields })
+    Subset { fields }
 }
 
 /// The subsets without the last field of the last one.
-fn shortened(subsets: Items<Subset>) -> Result<Items<Subset>, Fail> {
+fn shortened(rt: &impl Abort, subsets: Items<Subset>) -> Items<Subset> {
     let mut subsets = subsets.into_vec();
-    let subset = subsets.pop().ok_or("subset")?;
-    subsets.push(without_last(subset)?)?;
-    Ok(Items::from_vec(subsets))
+    let subset = subsets.pop().expect(rt, "subset");
+    subsets.push(without_last(rt, subset)).expect(rt, "room");
+    Items::from_vec(subsets)
 }
 
 /// The message of the eight elements without the last field of its last subset.
-fn without_last_field(alloc: Global) -> Result<Message, Fail> {
-    let message = message_of(alloc, ELEMENTS_ONLY)?;
-    let subsets = shortened(message.subsets)?;
-    Ok(Message { subsets, ..message })
+fn without_last_field(rt: &impl Abort, alloc: Global) -> Message {
+    let message = message_of(rt, alloc, ELEMENTS_ONLY);
+    let subsets = shortened(rt, message.subsets);
+    Message { subsets, ..message }
 }
 
 #[test]
-fn refusals_in_their_order(rt: HostRuntime) -> Result<(), Fail> {
+fn refusals_in_their_order(rt: HostRuntime) {
     let alloc = rt.alloc();
-    let mut message = without_last_field(alloc)?;
-    assert_not_written(&rt, alloc, &message, "E1 DoesNotFit 1 8")?;
-    message.descriptors = descriptors(alloc, Fxy::new(0, 1, 250))?;
-    assert_not_written(&rt, alloc, &message, "X1 UnknownElement 001250")?;
-    message.descriptors = descriptors(alloc, None)?;
-    assert_not_written(&rt, alloc, &message, "E4 NoDescriptors")
+    let mut message = without_last_field(&rt, alloc);
+    assert_not_written(&rt, alloc, &message, "E1 DoesNotFit 1 8");
+    message.descriptors = descriptors(&rt, alloc, Fxy::new(0, 1, 250));
+    assert_not_written(&rt, alloc, &message, "X1 UnknownElement 001250");
+    message.descriptors = descriptors(&rt, alloc, None);
+    assert_not_written(&rt, alloc, &message, "E4 NoDescriptors");
 }
 
 /// An operator of 127 bits more, and the temperature.
-fn widened_temperature(alloc: Global) -> Result<Items<Fxy>, Fail> {
+fn widened_temperature(rt: &impl Abort, alloc: Global) -> Items<Fxy> {
     let mut list = Vec::new(alloc);
-    list.push(Fxy::new(2, 1, 255).ok_or("operator")?)?;
-    list.push(Fxy::new(0, 12, 101).ok_or("element")?)?;
-    Ok(Items::from_vec(list))
+    list.push(Fxy::new(2, 1, 255).expect(rt, "operator"))
+        .expect(rt, "room");
+    list.push(Fxy::new(0, 12, 101).expect(rt, "element"))
+        .expect(rt, "room");
+    Items::from_vec(list)
 }
 
 #[test]
-fn misfits(rt: HostRuntime) -> Result<(), Fail> {
+fn misfits(rt: HostRuntime) {
     let alloc = rt.alloc();
-    let mut message = message_of(alloc, TEMPERATURE)?;
-    message.descriptors = descriptors(alloc, Fxy::new(0, 4, 1))?;
-    assert_not_written(&rt, alloc, &message, "E1 DoesNotFit 1 1")?;
-    message.descriptors = widened_temperature(alloc)?;
-    assert_not_written(&rt, alloc, &message, "E1 DoesNotFit 1 1")
+    let mut message = message_of(&rt, alloc, TEMPERATURE);
+    message.descriptors = descriptors(&rt, alloc, Fxy::new(0, 4, 1));
+    assert_not_written(&rt, alloc, &message, "E1 DoesNotFit 1 1");
+    message.descriptors = widened_temperature(&rt, alloc);
+    assert_not_written(&rt, alloc, &message, "E1 DoesNotFit 1 1");
 }
 
 /// As many subsets as there may be, of no field.
 const MOST_SUBSETS: &str = "42554652 00002F 04 | S1 | 000009 00 FFFF 80 8100 | 000004 00 | END";
 
 /// The subsets with one more, of no field.
-fn with_one_more(alloc: Global, subsets: Items<Subset>) -> Result<Items<Subset>, Fail> {
+fn with_one_more(rt: &impl Abort, alloc: Global, subsets: Items<Subset>) -> Items<Subset> {
     let mut subsets = subsets.into_vec();
     let fields = Items::from_vec(Vec::new(alloc));
-    subsets.push(Subset { fields })?;
-    Ok(Items::from_vec(subsets))
+    subsets.push(Subset { fields }).expect(rt, "room");
+    Items::from_vec(subsets)
 }
 
 /// The message of as many subsets as there may be, with one more.
-fn with_too_many(alloc: Global) -> Result<Message, Fail> {
-    let message = message_of(alloc, MOST_SUBSETS)?;
-    let subsets = with_one_more(alloc, message.subsets)?;
-    Ok(Message { subsets, ..message })
+fn with_too_many(rt: &impl Abort, alloc: Global) -> Message {
+    let message = message_of(rt, alloc, MOST_SUBSETS);
+    let subsets = with_one_more(rt, alloc, message.subsets);
+    Message { subsets, ..message }
 }
 
 /// A message of too many subsets is refused for these descriptors first, where it has them.
@@ -150,19 +149,19 @@ fn assert_before_limit(
     message: &mut Message,
     only: Option<Fxy>,
     wanted: &str,
-) -> Result<(), Fail> {
-    message.descriptors = descriptors(alloc, only)?;
-    assert_not_written(rt, alloc, message, wanted)
+) {
+    message.descriptors = descriptors(rt, alloc, only);
+    assert_not_written(rt, alloc, message, wanted);
 }
 
 #[test]
-fn subset_limit(rt: HostRuntime) -> Result<(), Fail> {
+fn subset_limit(rt: HostRuntime) {
     let alloc = rt.alloc();
-    assert_again(&rt, alloc, MOST_SUBSETS, MOST_SUBSETS)?;
-    let mut message = with_too_many(alloc)?;
-    assert_not_written(&rt, alloc, &message, "E3 TooLarge")?;
+    assert_again(&rt, alloc, MOST_SUBSETS, MOST_SUBSETS);
+    let mut message = with_too_many(&rt, alloc);
+    assert_not_written(&rt, alloc, &message, "E3 TooLarge");
     let misfit = Fxy::new(0, 12, 101);
-    assert_before_limit(&rt, alloc, &mut message, misfit, "E1 DoesNotFit 1 1")?;
+    assert_before_limit(&rt, alloc, &mut message, misfit, "E1 DoesNotFit 1 1");
     let unknown = Fxy::new(0, 1, 250);
     assert_before_limit(
         &rt,
@@ -170,8 +169,8 @@ fn subset_limit(rt: HostRuntime) -> Result<(), Fail> {
         &mut message,
         unknown,
         "X1 UnknownElement 001250",
-    )?;
-    assert_before_limit(&rt, alloc, &mut message, None, "E4 NoDescriptors")
+    );
+    assert_before_limit(&rt, alloc, &mut message, None, "E4 NoDescriptors");
 }
 
 /// The front of as many subsets as there may be, of a delayed count of no temperature each.
@@ -179,28 +178,30 @@ const NO_TEMPERATURES: &str =
     "42554652 010032 04 | S1 | 00000D 00 FFFF 80 4100 1F01 0C65 | 010003 00";
 
 /// The subsets with the last one of these behind them.
-fn with_last_of(subsets: Items<Subset>, others: Items<Subset>) -> Result<Items<Subset>, Fail> {
+fn with_last_of(rt: &impl Abort, subsets: Items<Subset>, others: Items<Subset>) -> Items<Subset> {
     let mut subsets = subsets.into_vec();
     let mut others = others.into_vec();
-    subsets.push(others.pop().ok_or("subset")?)?;
-    Ok(Items::from_vec(subsets))
+    subsets
+        .push(others.pop().expect(rt, "subset"))
+        .expect(rt, "room");
+    Items::from_vec(subsets)
 }
 
 /// A message of one subset more than there may be, the last of which has one temperature and the
 /// others none.
-fn with_other_last(alloc: Global) -> Result<Message, Fail> {
-    let all = with_zeros(alloc, NO_TEMPERATURES, 65_535)?;
-    let message = read_octets(alloc, all.as_slice())?.message;
-    let other = message_of(alloc, UNEQUAL_COUNTS)?;
-    let subsets = with_last_of(message.subsets, other.subsets)?;
-    Ok(Message { subsets, ..message })
+fn with_other_last(rt: &impl Abort, alloc: Global) -> Message {
+    let all = with_zeros(rt, alloc, NO_TEMPERATURES, 65_535);
+    let message = read_octets(rt, alloc, all.as_slice()).message;
+    let other = message_of(rt, alloc, UNEQUAL_COUNTS);
+    let subsets = with_last_of(rt, message.subsets, other.subsets);
+    Message { subsets, ..message }
 }
 
 #[test]
-fn columns_before_subset_limit(rt: HostRuntime) -> Result<(), Fail> {
+fn columns_before_subset_limit(rt: HostRuntime) {
     let alloc = rt.alloc();
-    let mut message = with_other_last(alloc)?;
-    assert_not_written(&rt, alloc, &message, "E3 TooLarge")?;
+    let mut message = with_other_last(&rt, alloc);
+    assert_not_written(&rt, alloc, &message, "E3 TooLarge");
     message.compressed = true;
-    assert_not_written(&rt, alloc, &message, "E2 NotCompressible 1")
+    assert_not_written(&rt, alloc, &message, "E2 NotCompressible 1");
 }

@@ -7,7 +7,6 @@ use super::{same, same_at};
 use bufr_message::listing::text_of;
 use std::alloc::Global;
 use std::process::Abort;
-use std::test::Fail;
 
 /// The lines before those of local octets and flags.
 const FRONT: &str = "\
@@ -93,41 +92,40 @@ end
 ";
 
 /// The lines before the flags, and those that are given, to the end.
-fn listing_of(alloc: Global, lines: &[&str]) -> Result<String, Fail> {
-    let mut whole = String::from_str(alloc, FRONT)?;
+fn listing_of(rt: &impl Abort, alloc: Global, lines: &[&str]) -> String {
+    let mut whole = String::from_str(alloc, FRONT).expect(rt, "room");
     for line in lines {
-        whole.push_str(line)?;
+        whole.push_str(line).expect(rt, "room");
     }
-    whole.push_str("end\n")?;
-    Ok(whole)
+    whole.push_str("end\n").expect(rt, "room");
+    whole
 }
 
 /// The octets are listed by the lines before the flags, and these.
-fn assert_listed(rt: &impl Abort, alloc: Global, text: &str, lines: &[&str]) -> Result<(), Fail> {
-    let message = message_of(alloc, text)?;
-    let listing = text_of(alloc, &message)?;
-    let wanted = listing_of(alloc, lines)?;
+fn assert_listed(rt: &impl Abort, alloc: Global, text: &str, lines: &[&str]) {
+    let message = message_of(rt, alloc, text);
+    let listing = text_of(alloc, &message).expect(rt, "room");
+    let wanted = listing_of(rt, alloc, lines);
     same_at(rt, text, listing.as_slice(), wanted.as_str().as_bytes());
-    Ok(())
 }
 
 #[test]
-fn elements_and_sequences(rt: HostRuntime) -> Result<(), Fail> {
+fn elements_and_sequences(rt: HostRuntime) {
     let elements = [OBSERVED, IN_ELEMENTS, STATION_AND_TIME, TEMPERATURE];
-    assert_listed(&rt, rt.alloc(), ELEMENTS_ONLY, &elements)?;
+    assert_listed(&rt, rt.alloc(), ELEMENTS_ONLY, &elements);
     let sequences = [OBSERVED, IN_SEQUENCES, STATION_AND_TIME, TEMPERATURE];
-    assert_listed(&rt, rt.alloc(), SEQUENCES, &sequences)?;
+    assert_listed(&rt, rt.alloc(), SEQUENCES, &sequences);
     let missing = [OBSERVED, IN_SEQUENCES, STATION_AND_TIME, "012101 missing\n"];
-    assert_listed(&rt, rt.alloc(), MISSING_TEMPERATURE, &missing)?;
+    assert_listed(&rt, rt.alloc(), MISSING_TEMPERATURE, &missing);
     let counts = [OBSERVED, OF_UNEQUAL_COUNTS];
-    assert_listed(&rt, rt.alloc(), UNEQUAL_COUNTS, &counts)?;
-    assert_listed(&rt, rt.alloc(), NO_SUBSETS, &[OBSERVED, IN_SEQUENCES])
+    assert_listed(&rt, rt.alloc(), UNEQUAL_COUNTS, &counts);
+    assert_listed(&rt, rt.alloc(), NO_SUBSETS, &[OBSERVED, IN_SEQUENCES]);
 }
 
 #[test]
-fn flags_and_octets_for_local_use(rt: HostRuntime) -> Result<(), Fail> {
+fn flags_and_octets_for_local_use(rt: HostRuntime) {
     let unobserved = ["flags\n", IN_SEQUENCES, STATION_AND_TIME, TEMPERATURE];
-    assert_listed(&rt, rt.alloc(), UNOBSERVED, &unobserved)?;
+    assert_listed(&rt, rt.alloc(), UNOBSERVED, &unobserved);
     let empty = [
         "section2\n",
         OBSERVED,
@@ -135,7 +133,7 @@ fn flags_and_octets_for_local_use(rt: HostRuntime) -> Result<(), Fail> {
         STATION_AND_TIME,
         TEMPERATURE,
     ];
-    assert_listed(&rt, rt.alloc(), EMPTY_SECTION_2, &empty)?;
+    assert_listed(&rt, rt.alloc(), EMPTY_SECTION_2, &empty);
     let sections = "local1 abcd\nsection2 0102\n";
     let local = [
         sections,
@@ -144,43 +142,40 @@ fn flags_and_octets_for_local_use(rt: HostRuntime) -> Result<(), Fail> {
         STATION_AND_TIME,
         TEMPERATURE,
     ];
-    assert_listed(&rt, rt.alloc(), LOCAL_OCTETS_AND_SLACK, &local)
+    assert_listed(&rt, rt.alloc(), LOCAL_OCTETS_AND_SLACK, &local);
 }
 
 #[test]
-fn numbers_of_section_1(rt: HostRuntime) -> Result<(), Fail> {
-    let message = message_of(rt.alloc(), DISTINCT_HEAD)?;
-    let listing = text_of(rt.alloc(), &message)?;
+fn numbers_of_section_1(rt: HostRuntime) {
+    let message = message_of(&rt, rt.alloc(), DISTINCT_HEAD);
+    let listing = text_of(rt.alloc(), &message).expect(&rt, "room");
     same(&rt, listing.as_slice(), DISTINCT_HEAD_LISTED.as_bytes());
-    Ok(())
 }
 
 #[test]
-fn operators_and_characters(rt: HostRuntime) -> Result<(), Fail> {
+fn operators_and_characters(rt: HostRuntime) {
     for (text, lines) in [
         (OPERATORS, UNDER_OPERATORS),
         (TEXT_WIDTH_AND_ESCAPES, OF_FOUR_CHARACTERS),
         (CHARACTERS, OF_TEN_CHARACTERS),
         (LOCAL_DESCRIPTOR, OF_A_LOCAL_ELEMENT),
     ] {
-        assert_listed(&rt, rt.alloc(), text, &[OBSERVED, lines])?;
+        assert_listed(&rt, rt.alloc(), text, &[OBSERVED, lines]);
     }
-    Ok(())
 }
 
 /// The line of the flags of a message that is said to be compressed is this one.
-fn assert_flags(rt: &impl Abort, alloc: Global, observed: bool, flags: &str) -> Result<(), Fail> {
-    let mut message = message_of(alloc, NO_SUBSETS)?;
+fn assert_flags(rt: &impl Abort, alloc: Global, observed: bool, flags: &str) {
+    let mut message = message_of(rt, alloc, NO_SUBSETS);
     message.observed = observed;
     message.compressed = true;
-    let listing = text_of(alloc, &message)?;
-    let wanted = listing_of(alloc, &[flags, IN_SEQUENCES])?;
+    let listing = text_of(alloc, &message).expect(rt, "room");
+    let wanted = listing_of(rt, alloc, &[flags, IN_SEQUENCES]);
     same(rt, listing.as_slice(), wanted.as_str().as_bytes());
-    Ok(())
 }
 
 #[test]
-fn flags_of_compressed_data(rt: HostRuntime) -> Result<(), Fail> {
-    assert_flags(&rt, rt.alloc(), false, "flags compressed\n")?;
-    assert_flags(&rt, rt.alloc(), true, "flags observed compressed\n")
+fn flags_of_compressed_data(rt: HostRuntime) {
+    assert_flags(&rt, rt.alloc(), false, "flags compressed\n");
+    assert_flags(&rt, rt.alloc(), true, "flags observed compressed\n");
 }

@@ -5,32 +5,31 @@ use super::samples::*;
 use super::{holds, same};
 use bufr_message::{Report, ReportHead};
 use std::process::Abort;
-use std::test::Fail;
 
 #[test]
-fn compressed_pair(rt: HostRuntime) -> Result<(), Fail> {
+fn compressed_pair(rt: HostRuntime) {
     let alloc = rt.alloc();
-    let found = reports_of(alloc, COMPRESSED_PAIR)?;
+    let found = reports_of(&rt, alloc, COMPRESSED_PAIR);
     same(&rt, found.len(), 2);
-    assert_canonical(&rt, alloc, found.as_slice(), 0, SEQUENCES)?;
-    assert_canonical(&rt, alloc, found.as_slice(), 1, MISSING_TEMPERATURE)
+    assert_canonical(&rt, alloc, found.as_slice(), 0, SEQUENCES);
+    assert_canonical(&rt, alloc, found.as_slice(), 1, MISSING_TEMPERATURE);
 }
 
 #[test]
-fn canonical_drops_local_octets(rt: HostRuntime) -> Result<(), Fail> {
+fn canonical_drops_local_octets(rt: HostRuntime) {
     let alloc = rt.alloc();
-    let found = reports_of(alloc, LOCAL_OCTETS_AND_SLACK)?;
+    let found = reports_of(&rt, alloc, LOCAL_OCTETS_AND_SLACK);
     same(&rt, found.len(), 1);
-    assert_canonical(&rt, alloc, found.as_slice(), 0, ELEMENTS_ONLY)
+    assert_canonical(&rt, alloc, found.as_slice(), 0, ELEMENTS_ONLY);
 }
 
 #[test]
-fn each_subset_in_order(rt: HostRuntime) -> Result<(), Fail> {
+fn each_subset_in_order(rt: HostRuntime) {
     let alloc = rt.alloc();
-    let found = reports_of(alloc, UNEQUAL_COUNTS)?;
+    let found = reports_of(&rt, alloc, UNEQUAL_COUNTS);
     same(&rt, found.len(), 2);
-    assert_canonical(&rt, alloc, found.as_slice(), 0, DELAYED_COUNT_0)?;
-    assert_canonical(&rt, alloc, found.as_slice(), 1, DELAYED_COUNT_1)
+    assert_canonical(&rt, alloc, found.as_slice(), 0, DELAYED_COUNT_0);
+    assert_canonical(&rt, alloc, found.as_slice(), 1, DELAYED_COUNT_1);
 }
 
 /// The head of the report of `DISTINCT_HEAD`, whose numbers all differ.
@@ -52,24 +51,22 @@ const HEAD: ReportHead = ReportHead {
 };
 
 /// The report has that head and one temperature.
-fn assert_distinct(rt: &impl Abort, report: &Report) -> Result<(), Fail> {
+fn assert_distinct(rt: &impl Abort, report: &Report) {
     same(rt, &report.head, &HEAD);
     holds(rt, report.observed);
-    let field = report.subset.fields.get(0).ok_or("field")?;
+    let field = report.subset.fields.get(0).expect(rt, "field");
     assert_number(rt, field, 27315);
-    Ok(())
 }
 
 #[test]
-fn heads_of_reports(rt: HostRuntime) -> Result<(), Fail> {
-    let found = reports_of(rt.alloc(), DISTINCT_HEAD)?;
-    let report = found.as_slice().get(0).ok_or("report")?;
-    assert_distinct(&rt, report)
+fn heads_of_reports(rt: HostRuntime) {
+    let found = reports_of(&rt, rt.alloc(), DISTINCT_HEAD);
+    let report = found.as_slice().get(0).expect(&rt, "report");
+    assert_distinct(&rt, report);
 }
 
 #[test]
-fn no_reports(rt: HostRuntime) -> Result<(), Fail> {
-    let found = reports_of(rt.alloc(), NO_SUBSETS)?;
+fn no_reports(rt: HostRuntime) {
+    let found = reports_of(&rt, rt.alloc(), NO_SUBSETS);
     holds(&rt, found.is_empty());
-    Ok(())
 }

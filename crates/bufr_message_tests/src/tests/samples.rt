@@ -2,7 +2,7 @@
 
 use bufr_tables::{TableB, TableD, Tables};
 use std::alloc::Global;
-use std::test::Fail;
+use std::process::Abort;
 
 /// Table B of the tests.
 const TABLE_B: &str = "\
@@ -35,25 +35,25 @@ FXY1,FXY2
 ";
 
 /// The tables of the tests.
-pub(crate) fn tables(alloc: Global) -> Result<Tables, Fail> {
-    tables_of(alloc, TABLE_D)
+pub(crate) fn tables(rt: &impl Abort, alloc: Global) -> Tables {
+    tables_of(rt, alloc, TABLE_D)
 }
 
 /// The tables of the tests with these sequences.
-pub(crate) fn tables_of(alloc: Global, sequences: &str) -> Result<Tables, Fail> {
-    let b = TableB::parse(alloc, TABLE_B.as_bytes())?;
-    let d = TableD::parse(alloc, sequences.as_bytes())?;
-    Ok(Tables::new(b, d))
+pub(crate) fn tables_of(rt: &impl Abort, alloc: Global, sequences: &str) -> Tables {
+    let b = TableB::parse(alloc, TABLE_B.as_bytes()).expect(rt, "a table");
+    let d = TableD::parse(alloc, sequences.as_bytes()).expect(rt, "a table");
+    Tables::new(b, d)
 }
 
 /// The octets that hexadecimal digits are. `S1` and `END` stand for the usual section 1 and for
 /// section 5; spaces and bars part the digits.
-pub(crate) fn octets(alloc: Global, text: &str) -> Result<Vec<u8>, Fail> {
+pub(crate) fn octets(rt: &impl Abort, alloc: Global, text: &str) -> Vec<u8> {
     let mut digits = String::new(alloc);
     for word in text.split_whitespace() {
-        digits.push_str(digits_of(word))?;
+        digits.push_str(digits_of(word)).expect(rt, "room");
     }
-    Ok(hex::decode(alloc, digits.as_str())?)
+    hex::decode(alloc, digits.as_str()).expect(rt, "a message")
 }
 
 /// The digits that a word of such a text stands for.
@@ -67,13 +67,13 @@ fn digits_of(word: &str) -> &str {
 }
 
 /// The octets of a text, so many zero octets, and section 5.
-pub(crate) fn with_zeros(alloc: Global, front: &str, zeros: usize) -> Result<Vec<u8>, Fail> {
-    let mut all = octets(alloc, front)?;
+pub(crate) fn with_zeros(rt: &impl Abort, alloc: Global, front: &str, zeros: usize) -> Vec<u8> {
+    let mut all = octets(rt, alloc, front);
     for _ in 0..zeros {
-        all.push(0)?;
+        all.push(0).expect(rt, "room");
     }
-    all.extend_from_slice(b"7777")?;
-    Ok(all)
+    all.extend_from_slice(b"7777").expect(rt, "room");
+    all
 }
 
 /// One plain subset of eight elements: 70 octets.

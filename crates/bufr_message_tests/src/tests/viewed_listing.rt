@@ -10,7 +10,6 @@ use bufr_message::listing::{
 };
 use std::alloc::Global;
 use std::process::Abort;
-use std::test::Fail;
 
 /// Texts of three characters, compressed, the second missing.
 const COMPRESSED_TEXTS_LISTED: &str = "\
@@ -27,80 +26,77 @@ end
 ";
 
 /// The part of the listing of a view that the subset of this number is.
-fn subset_listed(alloc: Global, found: &View<'_>, number: usize) -> Result<Vec<u8>, Fail> {
-    if number == 0 || found.count() < number {
-        return Err("number")?;
-    }
-    Ok(subset_of_view(alloc, found, number)?)
+fn subset_listed(rt: &impl Abort, alloc: Global, found: &View<'_>, number: usize) -> Vec<u8> {
+    assert!(rt; 1 <= number && number <= found.count());
+    subset_of_view(alloc, found, number).expect(rt, "room")
 }
 
 /// The parts of the listing of a view, joined.
-fn joined_of(alloc: Global, found: &View<'_>) -> Result<Vec<u8>, Fail> {
-    let mut listing = heading_of_view(alloc, found)?;
+fn joined_of(rt: &impl Abort, alloc: Global, found: &View<'_>) -> Vec<u8> {
+    let mut listing = heading_of_view(alloc, found).expect(rt, "room");
     for number in 1..=found.count() {
-        let part = subset_listed(alloc, found, number)?;
-        listing.extend_from_slice(part.as_slice())?;
+        let part = subset_listed(rt, alloc, found, number);
+        listing
+            .extend_from_slice(part.as_slice())
+            .expect(rt, "room");
     }
-    listing.extend_from_slice(end_text())?;
-    Ok(listing)
+    listing.extend_from_slice(end_text()).expect(rt, "room");
+    listing
 }
 
 /// The subset of this number is added to the lines of a listing.
 fn add_subset(
+    rt: &impl Abort,
     alloc: Global,
     found: &View<'_>,
     number: usize,
     listing: &mut Vec<u8>,
-) -> Result<(), Fail> {
-    if number == 0 || found.count() < number {
-        return Err("number")?;
-    }
-    push_subset_of_view(alloc, found, number, listing)?;
-    Ok(())
+) {
+    assert!(rt; 1 <= number && number <= found.count());
+    push_subset_of_view(alloc, found, number, listing).expect(rt, "room");
 }
 
 /// The parts of the listing of a view, each added to those before it.
-fn added_of(alloc: Global, found: &View<'_>) -> Result<Vec<u8>, Fail> {
-    let mut listing = heading_of_view(alloc, found)?;
+fn added_of(rt: &impl Abort, alloc: Global, found: &View<'_>) -> Vec<u8> {
+    let mut listing = heading_of_view(alloc, found).expect(rt, "room");
     for number in 1..=found.count() {
-        add_subset(alloc, found, number, &mut listing)?;
+        add_subset(rt, alloc, found, number, &mut listing);
     }
-    listing.extend_from_slice(end_text())?;
-    Ok(listing)
+    listing.extend_from_slice(end_text()).expect(rt, "room");
+    listing
 }
 
 /// The parts of the listing of a view of the octets of a text, added one by one.
-fn added(alloc: Global, text: &str) -> Result<Vec<u8>, Fail> {
-    let all = octets(alloc, text)?;
-    let found = viewed(alloc, all.as_slice())?;
-    added_of(alloc, &found)
+fn added(rt: &impl Abort, alloc: Global, text: &str) -> Vec<u8> {
+    let all = octets(rt, alloc, text);
+    let found = viewed(rt, alloc, all.as_slice());
+    added_of(rt, alloc, &found)
 }
 
 /// The parts of the listing of a view of the octets of a text, joined.
-fn joined(alloc: Global, text: &str) -> Result<Vec<u8>, Fail> {
-    let all = octets(alloc, text)?;
-    let found = viewed(alloc, all.as_slice())?;
-    joined_of(alloc, &found)
+fn joined(rt: &impl Abort, alloc: Global, text: &str) -> Vec<u8> {
+    let all = octets(rt, alloc, text);
+    let found = viewed(rt, alloc, all.as_slice());
+    joined_of(rt, alloc, &found)
 }
 
 /// The parts are, joined, the listing of the message.
-fn assert_joined(rt: &impl Abort, alloc: Global, text: &str) -> Result<(), Fail> {
-    let message = message_of(alloc, text)?;
-    let wanted = text_of(alloc, &message)?;
-    let found = joined(alloc, text)?;
+fn assert_joined(rt: &impl Abort, alloc: Global, text: &str) {
+    let message = message_of(rt, alloc, text);
+    let wanted = text_of(alloc, &message).expect(rt, "room");
+    let found = joined(rt, alloc, text);
     same(rt, found.as_slice(), wanted.as_slice());
-    let found = added(alloc, text)?;
+    let found = added(rt, alloc, text);
     same(rt, found.as_slice(), wanted.as_slice());
-    Ok(())
 }
 
 #[test]
-fn views_listed_subset_by_subset(rt: HostRuntime) -> Result<(), Fail> {
-    let listing = joined(rt.alloc(), COMPRESSED_TEXTS)?;
+fn views_listed_subset_by_subset(rt: HostRuntime) {
+    let listing = joined(&rt, rt.alloc(), COMPRESSED_TEXTS);
     same(&rt, listing.as_slice(), COMPRESSED_TEXTS_LISTED.as_bytes());
-    let listing = added(rt.alloc(), COMPRESSED_TEXTS)?;
+    let listing = added(&rt, rt.alloc(), COMPRESSED_TEXTS);
     same(&rt, listing.as_slice(), COMPRESSED_TEXTS_LISTED.as_bytes());
-    assert_joined(&rt, rt.alloc(), UNEQUAL_COUNTS)?;
-    assert_joined(&rt, rt.alloc(), NO_SUBSETS)?;
-    assert_joined(&rt, rt.alloc(), LOCAL_OCTETS_AND_SLACK)
+    assert_joined(&rt, rt.alloc(), UNEQUAL_COUNTS);
+    assert_joined(&rt, rt.alloc(), NO_SUBSETS);
+    assert_joined(&rt, rt.alloc(), LOCAL_OCTETS_AND_SLACK);
 }

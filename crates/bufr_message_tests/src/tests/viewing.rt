@@ -4,18 +4,26 @@
 use super::calls::{assert_octets, reason, viewed};
 use super::same;
 use super::samples::*;
-use bufr_message::{View, canonical_of_read, view};
+use bufr_message::{Report, View, canonical_of_read, view};
 use std::alloc::Global;
 use std::process::Abort;
-use std::test::Fail;
+
+/// The report of this number.
+fn report_of(rt: &impl Abort, alloc: Global, found: &View<'_>, number: usize) -> Report {
+    assert!(rt; 1 <= number && number <= found.count());
+    found.report(alloc, number).expect(rt, "room")
+}
+
+/// The canonical message of a report that was read.
+fn own_of(rt: &impl Abort, alloc: Global, report: &Report) -> Vec<u8> {
+    let own = canonical_of_read(alloc, report).expect(rt, "room");
+    own.expect(rt, "octets")
+}
 
 /// The canonical message of the report of this number.
-fn own(alloc: Global, found: &View<'_>, number: usize) -> Result<Vec<u8>, Fail> {
-    if number == 0 || found.count() < number {
-        return Err("number")?;
-    }
-    let report = found.report(alloc, number)?;
-    Ok(canonical_of_read(alloc, &report)?.ok_or("octets")?)
+fn own(rt: &impl Abort, alloc: Global, found: &View<'_>, number: usize) -> Vec<u8> {
+    let report = report_of(rt, alloc, found, number);
+    own_of(rt, alloc, &report)
 }
 
 /// The report of this number has this canonical message.
@@ -25,69 +33,54 @@ pub(crate) fn assert_own(
     found: &View<'_>,
     number: usize,
     wanted: &str,
-) -> Result<(), Fail> {
-    let own = own(alloc, found, number)?;
-    assert_octets(rt, alloc, own.as_slice(), wanted)
+) {
+    let own = own(rt, alloc, found, number);
+    assert_octets(rt, alloc, own.as_slice(), wanted);
 }
 
 /// The two reports of a message, asked for in any order and twice, have these canonical messages.
-fn assert_in_any_order(
-    rt: &impl Abort,
-    alloc: Global,
-    text: &str,
-    first: &str,
-    second: &str,
-) -> Result<(), Fail> {
-    let all = octets(alloc, text)?;
-    let found = viewed(alloc, all.as_slice())?;
+fn assert_in_any_order(rt: &impl Abort, alloc: Global, text: &str, first: &str, second: &str) {
+    let all = octets(rt, alloc, text);
+    let found = viewed(rt, alloc, all.as_slice());
     for (number, wanted) in [(2, second), (1, first), (1, first), (2, second)] {
-        assert_own(rt, alloc, &found, number, wanted)?;
+        assert_own(rt, alloc, &found, number, wanted);
     }
-    Ok(())
 }
 
 #[test]
-fn view_in_any_order(rt: HostRuntime) -> Result<(), Fail> {
+fn view_in_any_order(rt: HostRuntime) {
     let alloc = rt.alloc();
-    assert_in_any_order(&rt, alloc, COMPRESSED_PAIR, SEQUENCES, MISSING_TEMPERATURE)?;
-    assert_in_any_order(&rt, alloc, UNEQUAL_COUNTS, DELAYED_COUNT_0, DELAYED_COUNT_1)
+    assert_in_any_order(&rt, alloc, COMPRESSED_PAIR, SEQUENCES, MISSING_TEMPERATURE);
+    assert_in_any_order(&rt, alloc, UNEQUAL_COUNTS, DELAYED_COUNT_0, DELAYED_COUNT_1);
 }
 
 /// A view of octets tells so many subsets and so much slack.
-fn assert_told(
-    rt: &impl Abort,
-    alloc: Global,
-    text: &str,
-    count: usize,
-    slack: u64,
-) -> Result<(), Fail> {
-    let all = octets(alloc, text)?;
-    let found = viewed(alloc, all.as_slice())?;
+fn assert_told(rt: &impl Abort, alloc: Global, text: &str, count: usize, slack: u64) {
+    let all = octets(rt, alloc, text);
+    let found = viewed(rt, alloc, all.as_slice());
     same(rt, found.count(), count);
     same(rt, found.slack(), slack);
-    Ok(())
 }
 
 #[test]
-fn counts_and_slacks(rt: HostRuntime) -> Result<(), Fail> {
-    assert_told(&rt, rt.alloc(), LOCAL_OCTETS_AND_SLACK, 1, 2)?;
-    assert_told(&rt, rt.alloc(), NO_SUBSETS_AND_SLACK, 0, 9)?;
-    assert_told(&rt, rt.alloc(), UNEQUAL_COUNTS, 2, 0)?;
-    assert_told(&rt, rt.alloc(), COMPRESSED_PAIR, 2, 0)
+fn counts_and_slacks(rt: HostRuntime) {
+    assert_told(&rt, rt.alloc(), LOCAL_OCTETS_AND_SLACK, 1, 2);
+    assert_told(&rt, rt.alloc(), NO_SUBSETS_AND_SLACK, 0, 9);
+    assert_told(&rt, rt.alloc(), UNEQUAL_COUNTS, 2, 0);
+    assert_told(&rt, rt.alloc(), COMPRESSED_PAIR, 2, 0);
 }
 
 /// Why the octets of a text are not viewed, or `viewed`.
-fn reason_of_viewing(alloc: Global, text: &str) -> Result<String, Fail> {
-    let all = octets(alloc, text)?;
-    let tables = tables(alloc)?;
-    reason(alloc, view(alloc, &tables, all.as_slice()), "viewed")
+fn reason_of_viewing(rt: &impl Abort, alloc: Global, text: &str) -> String {
+    let all = octets(rt, alloc, text);
+    let tables = tables(rt, alloc);
+    reason(rt, alloc, view(alloc, &tables, all.as_slice()), "viewed")
 }
 
 /// Octets are refused for this reason.
-fn assert_refused(rt: &impl Abort, alloc: Global, text: &str, wanted: &str) -> Result<(), Fail> {
-    let found = reason_of_viewing(alloc, text)?;
+fn assert_refused(rt: &impl Abort, alloc: Global, text: &str, wanted: &str) {
+    let found = reason_of_viewing(rt, alloc, text);
     same(rt, found.as_str(), wanted);
-    Ok(())
 }
 
 /// No descriptor.
@@ -103,9 +96,9 @@ const DATA_END: &str = "42554652 000031 04 | S1 | 000009 00 0002 80 0C65 | 00000
 const INCREMENT: &str = "42554652 000031 04 | S1 | 000009 00 0002 C0 0201 | 000006 00 8280 | END";
 
 #[test]
-fn refused_as_messages(rt: HostRuntime) -> Result<(), Fail> {
-    assert_refused(&rt, rt.alloc(), NO_DESCRIPTOR, "M8 Section3Length")?;
-    assert_refused(&rt, rt.alloc(), UNKNOWN, "X1 UnknownElement 001250")?;
-    assert_refused(&rt, rt.alloc(), DATA_END, "V2 DataEnds 2 1")?;
-    assert_refused(&rt, rt.alloc(), INCREMENT, "V4 IncrementRange 1 1")
+fn refused_as_messages(rt: HostRuntime) {
+    assert_refused(&rt, rt.alloc(), NO_DESCRIPTOR, "M8 Section3Length");
+    assert_refused(&rt, rt.alloc(), UNKNOWN, "X1 UnknownElement 001250");
+    assert_refused(&rt, rt.alloc(), DATA_END, "V2 DataEnds 2 1");
+    assert_refused(&rt, rt.alloc(), INCREMENT, "V4 IncrementRange 1 1");
 }
