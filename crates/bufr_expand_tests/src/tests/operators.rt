@@ -1,7 +1,7 @@
 //! Rows of operators.
 
-use super::same;
 use super::samples::spec;
+use super::{assert_prints, same};
 use bufr_expand::{EffectiveRange, Operators, Spec};
 use bufr_tables::{Element, Fxy, Kind};
 use std::process::Abort;
@@ -103,9 +103,7 @@ fn replaced_width(rt: HostRuntime) {
 #[test]
 fn printed_refusal(rt: HostRuntime) -> Result<(), Fail> {
     let fault = EffectiveRange(fxy(&rt, 0, 12, 101));
-    let text = format!(in rt.alloc(); "{fault}")?;
-    same(&rt, text.as_str(), "V1 EffectiveRange 012101");
-    Ok(())
+    Ok(assert_prints(&rt, rt.alloc(), &fault, "V1 EffectiveRange 012101")?)
 }
 
 #[test]

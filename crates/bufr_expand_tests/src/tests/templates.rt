@@ -1,12 +1,12 @@
 //! Rows of templates.
 
-use super::same;
 use super::samples::{
-    SEQUENCES, answer_of, assert_steps, count, field, list_of, spec, temperature, template_of,
+    SEQUENCES, answer_of, assert_steps, count, field, list_of, temperature, template_of,
 };
 use super::walks::{Walked, walk_over};
-use bufr_answers::{Failure, OutOfMemory};
-use bufr_expand::{Step, Template, TemplateFault, Walk};
+use super::{assert_prints, same};
+use bufr_answers::Failure;
+use bufr_expand::{Step, Template, Walk};
 use bufr_tables::Kind;
 use std::alloc::Global;
 use std::process::Abort;
@@ -123,18 +123,6 @@ fn local_descriptor_and_operators(rt: HostRuntime) -> Result<(), Fail> {
     assert_template(&rt, rt.alloc(), &digits, (8, 0), &wanted)
 }
 
-/// This is the text of a fault.
-fn assert_prints(
-    rt: &impl Abort,
-    alloc: Global,
-    fault: TemplateFault,
-    wanted: &str,
-) -> Result<(), OutOfMemory> {
-    let text = format!(in alloc; "{fault}")?;
-    same(rt, text.as_str(), wanted);
-    Ok(())
-}
-
 /// This is the text of the fault of descriptors by this Table D.
 fn assert_fault(
     rt: &impl Abort,
@@ -145,7 +133,7 @@ fn assert_fault(
 ) -> Result<(), Fail> {
     let list = list_of(alloc, digits)?;
     match answer_of(alloc, sequences, &list)? {
-        Err(Failure::Fault(fault)) => Ok(assert_prints(rt, alloc, fault, wanted)?),
+        Err(Failure::Fault(fault)) => Ok(assert_prints(rt, alloc, &fault, wanted)?),
         _ => Err("no fault".into()),
     }
 }

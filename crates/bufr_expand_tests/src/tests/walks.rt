@@ -3,8 +3,8 @@
 ghost use Rattle.std.specs.Prelude.{◌≡◌, ◌==◌, false};
 ghost use Rattle.bufr_expand.specs.Walks.{waits};
 
-use super::same;
 use super::samples::{assert_steps, count, fxy, step, temperature, template_of};
+use super::{assert_prints, same};
 use bufr_answers::OutOfMemory;
 use bufr_expand::{Asks, Step, Template, Walk, WalkFault};
 use bufr_tables::Fxy;
@@ -251,23 +251,11 @@ fn refusals_of_walks(rt: HostRuntime) -> Result<(), Fail> {
     assert_walked(&rt, rt.alloc(), &[12101, 12102], (16_777_214, 0), refused)
 }
 
-/// This is printed of a fault.
-fn assert_prints(
-    rt: &impl Abort,
-    alloc: Global,
-    fault: WalkFault,
-    wanted: &str,
-) -> Result<(), OutOfMemory> {
-    let text = format!(in alloc; "{fault}")?;
-    same(rt, text.as_str(), wanted);
-    Ok(())
-}
-
 #[test]
 fn printed_faults(rt: HostRuntime) -> Result<(), Fail> {
     let range = WalkFault::EffectiveRange(fxy(12101)?);
-    assert_prints(&rt, rt.alloc(), range, "V1 EffectiveRange 012101")?;
-    assert_prints(&rt, rt.alloc(), WalkFault::TooLarge, "V6 TooLarge")?;
+    assert_prints(&rt, rt.alloc(), &range, "V1 EffectiveRange 012101")?;
+    assert_prints(&rt, rt.alloc(), &WalkFault::TooLarge, "V6 TooLarge")?;
     Ok(())
 }
 
