@@ -1,6 +1,6 @@
 //! What the engines answer and write. Octets are typed from the layouts of messages.
 
-ghost use Rattle.std.specs.Prelude.{◌≡◌, ◌≤◌, ◌<◌, None, Some, false, IfOk, map};
+ghost use Rattle.std.specs.Prelude.{◌≡◌, ◌≤◌, None, Some, false, IfOk, map};
 ghost use Rattle.bufr_collect.specs.Readers.{AreFresh};
 ghost use Rattle.bufr_io.specs.Limits.{most_reads};
 
@@ -132,6 +132,26 @@ fn readers(alloc: Global, inputs: &[&[u8]]) -> Result<Vec<Pieces>, OutOfMemory>
     Ok(readers)
 }
 
+/// Adds streams to an archive, or merges archives.
+fn run<W: Sink>(
+    alloc: Global,
+    merging: bool,
+    reads: u64,
+    tables: &Tables,
+    inputs: &mut [Pieces],
+    writer: &mut W,
+) -> Result<Tally, ToolFault>
+    requires few { reads ≤ most_reads }
+    requires fresh { AreFresh (map ⟦<Pieces as Source>⟧.reading inputs.old) }
+    requires works { (W.writing writer.old).failed ≡ false }
+{
+    if merging {
+        run_merge(alloc, reads, tables, inputs, writer)
+    } else {
+        run_add(alloc, reads, tables, inputs, writer)
+    }
+}
+
 /// What adding or merging inputs answers, and what was written.
 fn collected(
     alloc: Global,
@@ -144,11 +164,7 @@ fn collected(
 {
     let tables = tables(alloc)?;
     let mut writer = IntoWrite::new(Vec::new(alloc));
-    let answer = if merging {
-        run_merge(alloc, reads, &tables, inputs, &mut writer)
-    } else {
-        run_add(alloc, reads, &tables, inputs, &mut writer)
-    };
+    let answer = run(alloc, merging, reads, &tables, inputs, &mut writer);
     Ok((answer, writer.into_inner()))
 }
 
@@ -188,29 +204,16 @@ fn same<T: PartialEq + Debug + Drop>(rt: &impl Abort, found: T, wanted: T) {
     assert_eq!(rt; found, wanted);
 }
 
-/// Adding such streams answers and writes this.
-fn assert_added(
+/// Adding such streams, or merging such archives, answers and writes this.
+fn assert_collected(
     rt: &impl Abort,
     alloc: Global,
+    merging: bool,
     inputs: &[&[u8]],
     wanted: Result<Tally, ToolFault>,
     text: &[u8],
 ) -> Result<(), Fail> {
-    let (answer, written) = collected_of(alloc, false, inputs)?;
-    same(rt, answer, wanted);
-    same(rt, written.as_slice(), text);
-    Ok(())
-}
-
-/// Merging such archives answers and writes this.
-fn assert_merged(
-    rt: &impl Abort,
-    alloc: Global,
-    inputs: &[&[u8]],
-    wanted: Result<Tally, ToolFault>,
-    text: &[u8],
-) -> Result<(), Fail> {
-    let (answer, written) = collected_of(alloc, true, inputs)?;
+    let (answer, written) = collected_of(alloc, merging, inputs)?;
     same(rt, answer, wanted);
     same(rt, written.as_slice(), text);
     Ok(())
@@ -220,14 +223,14 @@ fn assert_merged(
 fn one_stream(rt: HostRuntime) -> Result<(), Fail> {
     let alloc = rt.alloc();
     let stream = joined(alloc, &[b"ISMD01 EDZW 151200", FIRST, b"BUFR", FIRST])?;
-    assert_added(&rt, alloc, &[&stream], tally(2, 0, 1), FIRST)
+    assert_collected(&rt, alloc, false, &[&stream], tally(2, 0, 1), FIRST)
 }
 
 #[test]
 fn greatest_update_in_any_order(rt: HostRuntime) -> Result<(), Fail> {
     let alloc = rt.alloc();
     for inputs in [[FIRST, UPDATE], [UPDATE, FIRST]] {
-        assert_added(&rt, alloc, inputs.as_slice(), tally(2, 0, 1), UPDATE)?;
+        assert_collected(&rt, alloc, false, inputs.as_slice(), tally(2, 0, 1), UPDATE)?;
     }
     Ok(())
 }
@@ -239,28 +242,20 @@ fn refused_among_others(rt: HostRuntime) -> Result<(), Fail> {
     let stream = joined(alloc, &[MONTH_13, EDITION_5, UPDATE])?;
     let text = joined(alloc, &[UPDATE, MONTH_13])?;
     let inputs: [&[u8]; 4] = [FIRST, EDITION_5, &stream, FIRST];
-    assert_added(&rt, alloc, inputs.as_slice(), tally(6, 2, 2), &text)
-}
-
-/// Streams are cut apart each by itself: what begins in one does not go on in the next.
-#[test]
-fn each_stream_by_itself(rt: HostRuntime) -> Result<(), Fail> {
-    let front = FIRST.get(..30).ok_or("thirty octets")?;
-    let back = FIRST.get(30..).ok_or("the others")?;
-    assert_added(&rt, rt.alloc(), &[front, back], tally(0, 0, 0), b"")
+    assert_collected(&rt, alloc, false, inputs.as_slice(), tally(6, 2, 2), &text)
 }
 
 #[test]
 fn no_readers(rt: HostRuntime) -> Result<(), Fail> {
     let alloc = rt.alloc();
-    assert_added(&rt, alloc, &[], tally(0, 0, 0), b"")?;
-    assert_merged(&rt, alloc, &[], tally(0, 0, 0), b"")
+    assert_collected(&rt, alloc, false, &[], tally(0, 0, 0), b"")?;
+    assert_collected(&rt, alloc, true, &[], tally(0, 0, 0), b"")
 }
 
 #[test]
 fn archives_merged(rt: HostRuntime) -> Result<(), Fail> {
     let alloc = rt.alloc();
-    assert_merged(&rt, alloc, &[FIRST, UPDATE], tally(2, 0, 1), UPDATE)?;
+    assert_collected(&rt, alloc, true, &[FIRST, UPDATE], tally(2, 0, 1), UPDATE)?;
     let both = joined(alloc, &[UPDATE, MONTH_13])?;
     for inputs in [
         [FIRST, UPDATE, MONTH_13],
@@ -268,49 +263,8 @@ fn archives_merged(rt: HostRuntime) -> Result<(), Fail> {
         [&both, FIRST, FIRST],
         [b"", &both, b""],
     ] {
-        assert_merged(&rt, alloc, inputs.as_slice(), tally(3, 0, 2), &both)?;
+        assert_collected(&rt, alloc, true, inputs.as_slice(), tally(3, 0, 2), &both)?;
     }
-    Ok(())
-}
-
-/// The first that is no archive is named, with the start of its first entry that is not right.
-#[test]
-fn archive_not_in_order(rt: HostRuntime) -> Result<(), Fail> {
-    let alloc = rt.alloc();
-    let keyed_last = joined(alloc, &[MONTH_13, UPDATE])?;
-    let same_slot = joined(alloc, &[FIRST, UPDATE])?;
-    for (inputs, input, place) in [
-        ([keyed_last.as_slice(), FIRST, EDITION_5], 1, 62),
-        ([FIRST, same_slot.as_slice(), EDITION_5], 2, 62),
-        ([FIRST, UPDATE, EDITION_5], 3, 0),
-    ] {
-        let wanted = Err(ToolFault::NotAnArchive { input, place });
-        assert_merged(&rt, alloc, inputs.as_slice(), wanted, b"")?;
-    }
-    assert_added(&rt, alloc, &[&same_slot], tally(2, 0, 1), UPDATE)
-}
-
-/// What merging the first archive by tables of which D has one row only answers, and what was
-/// written.
-fn merged_by_others(alloc: Global) -> Result<(Result<Tally, ToolFault>, Vec<u8>), Fail> {
-    let d = TableD::parse(alloc, b"FXY1,FXY2\n301001,001001\n".as_slice())?;
-    let others = Tables::new(TableB::parse(alloc, TABLE_B)?, d);
-    let mut writer = IntoWrite::new(Vec::new(alloc));
-    let mut archives = readers(alloc, &[FIRST])?;
-    let answer = run_merge(alloc, 10, &others, &mut archives, &mut writer);
-    Ok((answer, writer.into_inner()))
-}
-
-/// An archive whose descriptors these tables do not have is refused.
-#[test]
-fn archive_of_other_tables(rt: HostRuntime) -> Result<(), Fail> {
-    let (answer, written) = merged_by_others(rt.alloc())?;
-    same(
-        &rt,
-        answer,
-        Err(ToolFault::NotAnArchive { input: 1, place: 0 }),
-    );
-    assert!(rt; written.is_empty());
     Ok(())
 }
 
@@ -411,11 +365,7 @@ fn broken_after(
         room,
         failed: false,
     };
-    let answer = if merging {
-        run_merge(alloc, 10, tables, &mut inputs, &mut writer)
-    } else {
-        run_add(alloc, 10, tables, &mut inputs, &mut writer)
-    };
+    let answer = run(alloc, merging, 10, tables, &mut inputs, &mut writer);
     Ok((answer, writer.taken))
 }
 
@@ -428,12 +378,8 @@ fn assert_broken(
     text: &[u8],
 ) {
     let written = room as u128;
-    assert_eq!(rt;
-        answer,
-        Err(ToolFault::WriteFailed { written }),
-        "at {room}"
-    );
     same(rt, taken.len(), room);
+    same(rt, answer, Err(ToolFault::WriteFailed { written }));
     assert!(rt; text.starts_with(taken));
 }
 
@@ -488,8 +434,7 @@ fn assert_inputs(rt: &impl Abort, alloc: Global, count: usize) -> Result<(), Fai
         inputs.push(stream.as_slice())?;
     }
     let reports = count as u128;
-    assert_added(rt, alloc, &inputs, tally(reports, 0, reports), &text)?;
-    assert_merged(rt, alloc, &inputs, tally(reports, 0, reports), &text)
+    assert_collected(rt, alloc, true, &inputs, tally(reports, 0, reports), &text)
 }
 
 /// One to eleven inputs: whichever texts are merged while they are written.
@@ -499,11 +444,6 @@ fn few_inputs(rt: HostRuntime) -> Result<(), Fail> {
         assert_inputs(&rt, rt.alloc(), count)?;
     }
     Ok(())
-}
-
-#[test]
-fn thousand_inputs(rt: HostRuntime) -> Result<(), Fail> {
-    assert_inputs(&rt, rt.alloc(), 1000)
 }
 
 /// What the reads of an input ask for at most.

@@ -9,6 +9,8 @@ mod streams;
 
 use bufr_bits::{Failed, FromRead, IntoWrite, Sink, Source};
 use bufr_io::{Input, Tally, ToolFault};
+use bufr_message::EncodeFault;
+use bufr_message::listing::ListingFault;
 use bufr_tables::{Column, Element, Fxy, Kind, TableB, TableD, TableFault, Tables};
 use bufr_tool::{load_tables, run_show};
 use std::alloc::Global;
@@ -166,22 +168,15 @@ impl Sink for Breaks {
 }
 
 /// Shows the message to a writer that has room for so many octets.
-fn broken_after(alloc: Global, room: usize) -> Result<(Option<ToolFault>, Vec<u8>), Fail> {
-    let tables = tables(alloc)?;
+fn broken_after(alloc: Global, tables: &Tables, room: usize) -> (Option<ToolFault>, Vec<u8>) {
     let mut writer = Breaks {
         taken: Vec::new(alloc),
         room,
         failed: false,
     };
-    let fault = run_show(
-        alloc,
-        10,
-        &tables,
-        &mut FromRead::new(ELEMENTS_ONLY),
-        &mut writer,
-    )
-    .err();
-    Ok((fault, writer.taken))
+    let mut reader = FromRead::new(ELEMENTS_ONLY);
+    let fault = run_show(alloc, 10, tables, &mut reader, &mut writer).err();
+    (fault, writer.taken)
 }
 
 /// The writer failed where it had room for so many octets, and it took so much of the text.
@@ -201,8 +196,9 @@ fn assert_broken(
 #[test]
 fn failing_writer(rt: HostRuntime) -> Result<(), Fail> {
     let alloc = rt.alloc();
+    let tables = tables(alloc)?;
     for room in 0usize..237 {
-        let (fault, taken) = broken_after(alloc, room)?;
+        let (fault, taken) = broken_after(alloc, &tables, room);
         assert_broken(&rt, room, fault, &taken, LISTING);
     }
     Ok(())
@@ -241,10 +237,10 @@ impl Source for Drips {
 /// What showing so many octets, one a read, answers within four reads, and what was written.
 fn dripping(
     alloc: Global,
+    tables: &Tables,
     octets: usize,
     breaks: bool,
-) -> Result<(Option<ToolFault>, usize), Fail> {
-    let tables = tables(alloc)?;
+) -> (Option<ToolFault>, usize) {
     let mut reader = Drips {
         octets,
         breaks,
@@ -253,22 +249,27 @@ fn dripping(
         met_end: false,
     };
     let mut writer = IntoWrite::new(Vec::new(alloc));
-    let fault = run_show(alloc, 4, &tables, &mut reader, &mut writer).err();
-    Ok((fault, writer.into_inner().len()))
+    let fault = run_show(alloc, 4, tables, &mut reader, &mut writer).err();
+    (fault, writer.into_inner().len())
 }
+
+/// Octets that come one a read, whether their reader then fails, and what is answered of them.
+const DRIPPED: [(usize, bool, Option<ToolFault>); 4] = [
+    (100, false, Some(ToolFault::EndlessInput(Input::Number(1)))),
+    (4, false, Some(ToolFault::EndlessInput(Input::Number(1)))),
+    (3, false, None),
+    (2, true, Some(ToolFault::ReadFailed(Input::Number(1)))),
+];
 
 #[test]
 fn endless_and_failing_readers(rt: HostRuntime) -> Result<(), Fail> {
-    let alloc = rt.alloc();
-    let endless = Some(ToolFault::EndlessInput(Input::Number(1)));
-    let failed = Some(ToolFault::ReadFailed(Input::Number(1)));
-    for (octets, breaks, wanted) in [
-        (100, false, endless),
-        (4, false, endless),
-        (3, false, None),
-        (2, true, failed),
-    ] {
-        same(&rt, dripping(alloc, octets, breaks)?, (wanted, 0));
+    let tables = tables(rt.alloc())?;
+    for (octets, breaks, wanted) in DRIPPED {
+        same(
+            &rt,
+            dripping(rt.alloc(), &tables, octets, breaks),
+            (wanted, 0),
+        );
     }
     Ok(())
 }
@@ -278,20 +279,26 @@ fn loaded(alloc: Global, b: &[u8], d: &[u8]) -> Option<ToolFault> {
     load_tables(alloc, 10, &mut FromRead::new(b), &mut FromRead::new(d)).err()
 }
 
+/// Texts of Table B and Table D, and why they can't be loaded.
+const LOADED: [(&[u8], &[u8], Option<ToolFault>); 3] = [
+    (TABLE_B, TABLE_D, None),
+    (
+        TABLE_B,
+        b"FXY1,FXY2\n301001,x\n",
+        Some(ToolFault::Table(Input::TableD, TableFault::BadRow(2))),
+    ),
+    (
+        b"FXY\n\"a\",b\n",
+        b"",
+        Some(ToolFault::Table(Input::TableB, TableFault::NoColumn(Column::Unit))),
+    ),
+];
+
 #[test]
 fn faults_of_tables(rt: HostRuntime) {
-    let alloc = rt.alloc();
-    same(&rt, loaded(alloc, TABLE_B, TABLE_D), None);
-    same(
-        &rt,
-        loaded(alloc, TABLE_B, b"FXY1,FXY2\n301001,x\n".as_slice()),
-        Some(ToolFault::Table(Input::TableD, TableFault::BadRow(2))),
-    );
-    same(
-        &rt,
-        loaded(alloc, b"FXY\n\"a\",b\n".as_slice(), b"".as_slice()),
-        Some(ToolFault::Table(Input::TableB, TableFault::NoColumn(Column::Unit))),
-    );
+    for (b, d, wanted) in LOADED {
+        same(&rt, loaded(rt.alloc(), b, d), wanted);
+    }
 }
 
 /// Five thousand rows, of the descriptors with 0 to 4999 as their bits, which are their reference
@@ -333,19 +340,29 @@ fn assert_row(rt: &impl Abort, tables: &Tables, members: &[Fxy], bits: u16) {
     );
 }
 
+/// The tables of two texts.
+fn tables_of(alloc: Global, b: &[u8], d: &[u8]) -> Result<Tables, ToolFault> {
+    load_tables(alloc, 10, &mut FromRead::new(b), &mut FromRead::new(d))
+}
+
+/// The tables have each of the five thousand rows.
+fn assert_rows(rt: &impl Abort, tables: &Tables) -> Result<(), Fail> {
+    let members = tables.sequence(Fxy::from_bits(0xFFFF)).ok_or("members")?;
+    same(rt, members.len(), 5000);
+    for bits in 0..5000u16 {
+        assert_row(rt, tables, members, bits);
+    }
+    Ok(())
+}
+
 /// The tables of two files of more than 65,536 octets.
 #[test]
 fn tables_of_thousands_of_rows(rt: HostRuntime) -> Result<(), Fail> {
-    let (b, d) = (many_elements(rt.alloc())?, many_members(rt.alloc())?);
+    let b = many_elements(rt.alloc())?;
+    let d = many_members(rt.alloc())?;
     same(&rt, d.len(), 70_010);
-    let (mut b, mut d) = (FromRead::new(b.as_slice()), FromRead::new(d.as_slice()));
-    let tables = load_tables(rt.alloc(), 10, &mut b, &mut d)?;
-    let members = tables.sequence(Fxy::from_bits(0xFFFF)).ok_or("members")?;
-    same(&rt, members.len(), 5000);
-    for bits in 0..5000u16 {
-        assert_row(&rt, &tables, members, bits);
-    }
-    Ok(())
+    let tables = tables_of(rt.alloc(), &b, &d)?;
+    assert_rows(&rt, &tables)
 }
 
 /// The line of a fault is this.
@@ -355,45 +372,59 @@ fn assert_line(rt: &impl Abort, alloc: Global, fault: ToolFault, text: &str) -> 
     Ok(())
 }
 
+/// Faults and their lines.
+const FAULTS: [(ToolFault, &str); 13] = [
+    (ToolFault::ReadFailed(Input::TableB), "read failed table B"),
+    (ToolFault::ReadFailed(Input::TableD), "read failed table D"),
+    (
+        ToolFault::ReadFailed(Input::Number(12)),
+        "read failed input 12",
+    ),
+    (
+        ToolFault::EndlessInput(Input::TableB),
+        "endless input table B",
+    ),
+    (
+        ToolFault::EndlessInput(Input::Number(1)),
+        "endless input input 1",
+    ),
+    (
+        ToolFault::WriteFailed { written: 236 },
+        "write failed after 236 octets",
+    ),
+    (
+        ToolFault::Table(Input::TableB, TableFault::NoColumn(Column::Fxy)),
+        "table B: B1 NoColumn FXY",
+    ),
+    (
+        ToolFault::Table(Input::TableD, TableFault::BadRow(3)),
+        "table D: B3 BadRow 3",
+    ),
+    (
+        ToolFault::NotAnArchive {
+            input: 2,
+            place: 62,
+        },
+        "not an archive input 2 at 62",
+    ),
+    (ToolFault::OutOfMemory, "out of memory"),
+    (
+        ToolFault::Listing(ListingFault::BadLine(3)),
+        "listing: L1 BadLine 3",
+    ),
+    (
+        ToolFault::Listing(ListingFault::BadValue(14)),
+        "listing: L2 BadValue 14",
+    ),
+    (
+        ToolFault::Encode(7, EncodeFault::NoDescriptors),
+        "message 7: E4 NoDescriptors",
+    ),
+];
+
 #[test]
 fn lines_of_faults(rt: HostRuntime) -> Result<(), Fail> {
-    let faults = [
-        (ToolFault::ReadFailed(Input::TableB), "read failed table B"),
-        (ToolFault::ReadFailed(Input::TableD), "read failed table D"),
-        (
-            ToolFault::ReadFailed(Input::Number(12)),
-            "read failed input 12",
-        ),
-        (
-            ToolFault::EndlessInput(Input::TableB),
-            "endless input table B",
-        ),
-        (
-            ToolFault::EndlessInput(Input::Number(1)),
-            "endless input input 1",
-        ),
-        (
-            ToolFault::WriteFailed { written: 236 },
-            "write failed after 236 octets",
-        ),
-        (
-            ToolFault::Table(Input::TableB, TableFault::NoColumn(Column::Fxy)),
-            "table B: B1 NoColumn FXY",
-        ),
-        (
-            ToolFault::Table(Input::TableD, TableFault::BadRow(3)),
-            "table D: B3 BadRow 3",
-        ),
-        (
-            ToolFault::NotAnArchive {
-                input: 2,
-                place: 62,
-            },
-            "not an archive input 2 at 62",
-        ),
-        (ToolFault::OutOfMemory, "out of memory"),
-    ];
-    for (fault, text) in faults {
+    for (fault, text) in FAULTS {
         assert_line(&rt, rt.alloc(), fault, text)?;
     }
     Ok(())

@@ -4,9 +4,11 @@ use super::*;
 use bufr_answers::Failure;
 use bufr_archive::NotAnArchive;
 use bufr_data::WriteFault;
+use bufr_frame::Found;
 use bufr_message::{EncodeFault, Refused};
 use bufr_tables::{TableB, TableD, Tables};
 use std::alloc::Global;
+use std::process::Abort;
 use std::test::Fail;
 
 /// Table B of the tests.
@@ -104,112 +106,192 @@ fn tables(alloc: Global) -> Result<Tables, Fail> {
     Ok(Tables::new(elements, sequences))
 }
 
+/// Octets with others behind them.
+fn joined(alloc: Global, front: &[u8], back: &[u8]) -> Result<Vec<u8>, Fail> {
+    let mut octets = Vec::from_slice(alloc, front)?;
+    octets.extend_from_slice(back)?;
+    Ok(octets)
+}
+
+/// Whether a caller answers these octets.
+fn gives<E: Drop>(answer: Result<Vec<u8>, E>, wanted: &[u8]) -> bool {
+    match answer {
+        Ok(octets) => octets.as_slice() == wanted,
+        Err(_) => false,
+    }
+}
+
+/// Octets have so many reports.
+fn assert_counted(rt: &impl Abort, alloc: Global, tables: &Tables, octets: &[u8], reports: usize) {
+    assert!(rt; count(alloc, tables, octets) == Ok(reports));
+}
+
+/// Messages, and how many reports each has.
+const COUNTED: [(&[u8], usize); 4] = [(EMPTY, 0), (BARE, 1), (EDITION_3, 1), (BOTH, 2)];
+
+/// The messages, two texts and a message that is cut are counted.
+fn assert_all_counted(rt: &impl Abort, alloc: Global, tables: &Tables, texts: &[u8]) {
+    for (octets, reports) in COUNTED {
+        assert_counted(rt, alloc, tables, octets, reports);
+    }
+    assert_counted(rt, alloc, tables, texts, 2);
+    let refused = count(alloc, tables, &BARE[..40]);
+    assert!(rt; refused == Err(Failure::Fault(Refused::TotalLength)));
+}
+
 #[test]
 fn reports_are_counted(rt: HostRuntime) -> Result<(), Fail> {
     let alloc = rt.alloc();
     let tables = tables(alloc)?;
-    let cases = [(EMPTY, 0), (BARE, 1), (EDITION_3, 1), (BOTH, 2)];
-    for (octets, reports) in cases {
-        assert!(rt; count(alloc, &tables, octets).is_ok_and(|counted| counted == reports));
-    }
-    assert!(rt; matches!(count(alloc, &tables, &two_texts(alloc)?), Ok(2)));
-    let refused = count(alloc, &tables, &BARE[..40]);
-    assert!(rt; matches!(refused, Err(Failure::Fault(Refused::TotalLength))));
+    let texts = two_texts(alloc)?;
+    assert_all_counted(&rt, alloc, &tables, &texts);
     Ok(())
+}
+
+/// Messages, and what each is when it is written anew.
+const REWRITTEN: [(&[u8], &[u8]); 5] = [
+    (SLACK, BARE),
+    (BARE, BARE),
+    (EMPTY, EMPTY),
+    (BOTH, NARROW),
+    (EDITION_3, EDITION_4),
+];
+
+/// Why a message was not written anew: for its octets, if it was so.
+fn refused_of(answer: &Result<Vec<u8>, RewriteFault>) -> Option<Refused> {
+    match answer {
+        Err(RewriteFault::Refused(why)) => Some(*why),
+        _ => None,
+    }
+}
+
+/// A message that is cut is refused.
+fn assert_cut_refused(rt: &impl Abort, alloc: Global, tables: &Tables) {
+    let answer = rewritten(alloc, tables, &SLACK[..40]);
+    assert!(rt; refused_of(&answer) == Some(Refused::TotalLength));
 }
 
 #[test]
 fn slack_is_not_rewritten(rt: HostRuntime) -> Result<(), Fail> {
     let alloc = rt.alloc();
     let tables = tables(alloc)?;
-    let cases = [
-        (SLACK, BARE),
-        (BARE, BARE),
-        (EMPTY, EMPTY),
-        (BOTH, NARROW),
-        (EDITION_3, EDITION_4),
-    ];
-    for (octets, wanted) in cases {
-        let kept = rewritten(alloc, &tables, octets);
-        assert!(rt; kept.is_ok_and(|written| written.as_slice() == wanted));
+    for (octets, wanted) in REWRITTEN {
+        assert!(rt; gives(rewritten(alloc, &tables, octets), wanted));
     }
-    let refused = rewritten(alloc, &tables, &SLACK[..40]);
-    assert!(rt; matches!(refused, Err(RewriteFault::Refused(Refused::TotalLength))));
+    assert_cut_refused(&rt, alloc, &tables);
     Ok(())
+}
+
+/// Why a message was not written anew: for its encoding, if it was so.
+fn unwritable_of(answer: &Result<Vec<u8>, RewriteFault>) -> Option<EncodeFault> {
+    match answer {
+        Err(RewriteFault::Unwritable(why)) => Some(*why),
+        _ => None,
+    }
+}
+
+/// A message whose first field cannot be compressed has no encoding.
+fn assert_unwritable(rt: &impl Abort, alloc: Global, tables: &Tables, octets: &[u8]) {
+    let answer = rewritten(alloc, tables, octets);
+    let wanted = EncodeFault::Data(WriteFault::NotCompressible(1));
+    assert!(rt; unwritable_of(&answer) == Some(wanted));
 }
 
 #[test]
 fn message_without_encoding(rt: HostRuntime) -> Result<(), Fail> {
     let alloc = rt.alloc();
-    let kept = rewritten(alloc, &tables(alloc)?, &two_texts(alloc)?);
-    let Err(RewriteFault::Unwritable(why)) = kept else {
-        return Err("a message that has an encoding")?;
-    };
-    assert!(rt; why == EncodeFault::Data(WriteFault::NotCompressible(1)));
+    let tables = tables(alloc)?;
+    let texts = two_texts(alloc)?;
+    assert_unwritable(&rt, alloc, &tables, &texts);
     Ok(())
+}
+
+/// Whether one frame, of these octets at a place, was handed out.
+fn is_frame(found: &[Found], place: u64, octets: &[u8]) -> bool {
+    match found {
+        [frame] => frame.place == place && frame.bytes.as_slice() == octets,
+        _ => false,
+    }
 }
 
 #[test]
 fn frames_before_and_at_the_end(rt: HostRuntime) -> Result<(), Fail> {
-    let mut stream = Vec::from_slice(rt.alloc(), SLACK)?;
-    stream.extend_from_slice(b"BUFR".as_slice())?;
-    stream.extend_from_slice(BARE)?;
+    let front = joined(rt.alloc(), SLACK, b"BUFR")?;
+    let stream = joined(rt.alloc(), &front, BARE)?;
     let frames = frames_of(rt.alloc(), &stream)?;
-    let cases = [(&frames.sure, 0, SLACK), (&frames.last, 54, BARE)];
-    for (found, place, wanted) in cases {
-        assert_eq!(rt; found.len(), 1);
-        for frame in found {
-            assert_eq!(rt; frame.place, place);
-            assert!(rt; frame.bytes.as_slice() == wanted);
-        }
-    }
+    assert!(rt; is_frame(&frames.sure, 0, SLACK));
+    assert!(rt; is_frame(&frames.last, 54, BARE));
     Ok(())
+}
+
+/// An archive's file, a message, and the file once the message's reports are taken in.
+type Kept<'a> = (&'a [u8], &'a [u8], &'a [u8]);
+
+/// A message is taken into a file.
+fn assert_kept(rt: &impl Abort, alloc: Global, tables: &Tables, (file, message, text): Kept<'_>) {
+    assert!(rt; gives(with_message(alloc, tables, file, message), text));
+}
+
+/// Where a file that a message was not taken into breaks, if it is no archive's text.
+fn place_of(answer: &Result<Vec<u8>, KeepFault>) -> Option<u64> {
+    match answer {
+        Err(KeepFault::NotAnArchive(NotAnArchive { place })) => Some(*place),
+        _ => None,
+    }
+}
+
+/// A file is no archive's text from a place on, whatever the message.
+fn assert_broken(
+    rt: &impl Abort,
+    alloc: Global,
+    tables: &Tables,
+    (file, message): (&[u8], &[u8]),
+    place: u64,
+) {
+    let answer = with_message(alloc, tables, file, message);
+    assert!(rt; place_of(&answer) == Some(place));
 }
 
 #[test]
 fn message_taken_in_once(rt: HostRuntime) -> Result<(), Fail> {
     let alloc = rt.alloc();
     let tables = tables(alloc)?;
-    for file in [b"".as_slice(), BARE] {
-        let kept = with_message(alloc, &tables, file, SLACK);
-        assert!(rt; kept.is_ok_and(|text| text.as_slice() == BARE));
-    }
-    let broken = with_message(alloc, &tables, SLACK, BARE);
-    assert!(rt;
-        matches!(
-            broken,
-            Err(KeepFault::NotAnArchive(NotAnArchive { place: 0 }))
-        )
-    );
+    assert_kept(&rt, alloc, &tables, (b"", SLACK, BARE));
+    assert_kept(&rt, alloc, &tables, (BARE, SLACK, BARE));
+    assert_broken(&rt, alloc, &tables, (SLACK, BARE), 0);
     Ok(())
+}
+
+/// Messages are taken in behind or before a file's reports, which are these in the end.
+fn assert_all_kept(rt: &impl Abort, alloc: Global, tables: &Tables, text: &[u8]) {
+    for (file, message) in [(BARE, WARMER), (WARMER, BARE), (b"", BOTH), (text, EMPTY)] {
+        assert_kept(rt, alloc, tables, (file, message, text));
+    }
 }
 
 #[test]
 fn messages_taken_in_behind_others(rt: HostRuntime) -> Result<(), Fail> {
     let alloc = rt.alloc();
     let tables = tables(alloc)?;
-    let mut text = Vec::from_slice(alloc, BARE)?;
-    text.extend_from_slice(WARMER)?;
-    let cases = [(BARE, WARMER), (WARMER, BARE), (b"", BOTH), (&text, EMPTY)];
-    for (file, message) in cases {
-        let kept = with_message(alloc, &tables, file, message);
-        assert!(rt; kept.is_ok_and(|written| written.as_slice() == text.as_slice()));
-    }
-    text.push(0x42)?;
-    let broken = with_message(alloc, &tables, &text, b"BUFR".as_slice());
-    assert!(rt;
-        matches!(
-            broken,
-            Err(KeepFault::NotAnArchive(NotAnArchive { place: 98 }))
-        )
-    );
+    let text = joined(alloc, BARE, WARMER)?;
+    assert_all_kept(&rt, alloc, &tables, &text);
+    let broken = joined(alloc, &text, b"B")?;
+    assert_broken(&rt, alloc, &tables, (&broken, b"BUFR"), 98);
     Ok(())
+}
+
+/// Why octets were not taken into a file, if they spell no message.
+fn not_taken_in(answer: &Result<Vec<u8>, KeepFault>) -> Option<Refused> {
+    match answer {
+        Err(KeepFault::Refused(why)) => Some(*why),
+        _ => None,
+    }
 }
 
 #[test]
 fn octets_that_are_not_taken_in(rt: HostRuntime) -> Result<(), Fail> {
-    let alloc = rt.alloc();
-    let refused = with_message(alloc, &tables(alloc)?, b"", b"BUFR".as_slice());
-    assert!(rt; matches!(refused, Err(KeepFault::Refused(Refused::NotBufr))));
+    let tables = tables(rt.alloc())?;
+    let answer = with_message(rt.alloc(), &tables, b"", b"BUFR".as_slice());
+    assert!(rt; not_taken_in(&answer) == Some(Refused::NotBufr));
     Ok(())
 }

@@ -2,7 +2,6 @@
 
 ghost use Rattle.std.specs.Prelude.{◌≡◌, ◌≤◌, length, Some, None, false};
 
-use crate::tests::random::Numbers;
 use bufr_bits::{Failed, Sink, Source};
 use std::alloc::Global;
 
@@ -15,13 +14,11 @@ pub(super) enum End {
     Failed,
 }
 
-/// A reader that gives its octets in pieces of so many at the most, of any length from one to that
-/// where it is `uneven`.
+/// A reader that gives its octets in pieces of so many.
 #[derive(Debug, Drop)]
 pub(super) struct Pieces<'a> {
     octets: &'a [u8],
     most: usize,
-    uneven: Option<Numbers>,
     end: End,
     failed: bool,
     reads: u64,
@@ -38,41 +35,10 @@ impl<'a> Pieces<'a> {
         Pieces {
             octets,
             most,
-            uneven: None,
             end,
             failed: false,
             reads: 0,
             met_end: false,
-        }
-    }
-
-    /// A reader of uneven pieces.
-    pub(super) fn uneven(octets: &'a [u8], most: usize, seed: u64) -> Self
-        ensures works { result.failed ≡ false }
-        ensures not_read { result.reads ≡ 0 }
-        ensures not_ended { result.met_end ≡ false }
-    {
-        Pieces {
-            octets,
-            most,
-            uneven: Some(Numbers::new(seed)),
-            end: End::Met,
-            failed: false,
-            reads: 0,
-            met_end: false,
-        }
-    }
-
-    /// How many octets the next read gives at the most.
-    fn piece(&mut self) -> usize
-        ensures failed { self.new.failed ≡ self.old.failed }
-        ensures reads { self.new.reads ≡ self.old.reads }
-        ensures met_end { self.new.met_end ≡ self.old.met_end }
-    {
-        let most = self.most.max(1);
-        match &mut self.uneven {
-            None => most,
-            Some(numbers) => numbers.below(most).saturating_add(1),
         }
     }
 
@@ -83,7 +49,7 @@ impl<'a> Pieces<'a> {
         ensures reads { self.new.reads ≡ self.old.reads }
         ensures met_end { self.new.met_end ≡ self.old.met_end }
     {
-        let most = self.piece();
+        let most = self.most.max(1);
         let octets = self.octets;
         let given = octets.len().min(most).min(buffer.len());
         buffer[..given].copy_from_slice(&octets[..given]);
@@ -143,27 +109,24 @@ impl Source for Endless {
     }
 }
 
-/// A writer that takes so many octets, some at a time, and then fails; or fails at its flush.
+/// A writer that takes so many octets, some at a time, and then fails.
 #[derive(Debug, Drop)]
 pub(super) struct Narrow {
     taken: Vec<u8>,
     room: usize,
     most: usize,
-    flushes: bool,
     failed: bool,
 }
 
 impl Narrow {
-    /// A writer with room for so many octets, taken up to `most` at a time, which flushes or fails
-    /// then.
-    pub(super) fn new(alloc: Global, room: usize, most: usize, flushes: bool) -> Self
+    /// A writer with room for so many octets, taken up to `most` at a time.
+    pub(super) fn new(alloc: Global, room: usize, most: usize) -> Self
         ensures { result.failed ≡ false }
     {
         Narrow {
             taken: Vec::new(alloc),
             room,
             most,
-            flushes,
             failed: false,
         }
     }
@@ -189,10 +152,6 @@ impl Sink for Narrow {
     }
 
     fn flush(&mut self) -> Result<(), Failed> {
-        if !self.flushes {
-            self.failed = true;
-            return Err(Failed);
-        }
         Ok(())
     }
 }

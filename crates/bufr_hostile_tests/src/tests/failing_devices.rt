@@ -214,7 +214,7 @@ fn assert_front_taken(
     listed: &[u8],
     (room, most): (usize, usize),
 ) {
-    let mut writer = Narrow::new(alloc, room, most, true);
+    let mut writer = Narrow::new(alloc, room, most);
     let mut reader = FromRead::new(COMPRESSED_PAIR);
     let answer = run_show(alloc, 10, tables, &mut reader, &mut writer);
     let written = room as u128;
@@ -236,39 +236,5 @@ fn failing_writer_of_a_compressed_message(rt: HostRuntime) -> Result<(), Fail> {
             assert_front_taken(&rt, alloc, &tables, &listed, (room, most));
         }
     }
-    Ok(())
-}
-
-/// What showing the first message to a writer that does not flush answers.
-fn shown_without_flush(alloc: Global, tables: &Tables) -> Written {
-    let mut writer = Narrow::new(alloc, 10_000, 100, false);
-    let mut reader = FromRead::new(SEQUENCES);
-    let answer = run_show(alloc, 10, tables, &mut reader, &mut writer);
-    (answer, writer.into_taken())
-}
-
-/// What checking the first message to a writer that does not flush answers.
-fn checked_without_flush(alloc: Global, tables: &Tables) -> Written {
-    let mut writer = Narrow::new(alloc, 10_000, 100, false);
-    let mut reader = FromRead::new(SEQUENCES);
-    let answer = run_check(alloc, 10, tables, &mut reader, &mut writer);
-    (answer, writer.into_taken())
-}
-
-/// The writer failed with all octets written.
-fn assert_not_flushed(rt: &impl Abort, (answer, taken): Written, wanted: &[u8]) {
-    same(rt, taken.as_slice(), wanted);
-    let written = wanted.len() as u128;
-    same(rt, answer.err(), Some(ToolFault::WriteFailed { written }));
-}
-
-/// A flush that fails is told with all octets written.
-#[test]
-fn failing_flush(rt: HostRuntime) -> Result<(), Fail> {
-    let alloc = rt.alloc();
-    let tables = tables(alloc)?;
-    assert_not_flushed(&rt, shown_without_flush(alloc, &tables), SEQUENCES_LISTED);
-    let checked = b"0 62 ok 1 0\nframes 1 refused 0 skipped 0\n".as_slice();
-    assert_not_flushed(&rt, checked_without_flush(alloc, &tables), checked);
     Ok(())
 }

@@ -6,7 +6,6 @@
 mod archives;
 mod data;
 mod depots;
-mod engines;
 mod frames;
 mod messages;
 mod shelves;

@@ -1,18 +1,11 @@
 //! Hostile streams: random octets, frames and harmed messages. Cut into any pieces, each has the
-//! same frames and the same lines.
+//! same frames.
 
-ghost use Rattle.std.specs.Prelude.{◌≡◌, false};
-
-use crate::tests::devices::{End, Pieces};
 use crate::tests::random::Numbers;
 use crate::tests::samples::{
-    COMPRESSED_PAIR, COMPRESSED_TEXTS, EDITION_3, LOCAL_OCTETS, SEQUENCES, UNEQUAL_COUNTS, tables,
+    COMPRESSED_PAIR, COMPRESSED_TEXTS, EDITION_3, LOCAL_OCTETS, SEQUENCES, UNEQUAL_COUNTS,
 };
-use bufr_bits::IntoWrite;
 use bufr_frame::{Found, Framer};
-use bufr_io::{Tally, ToolFault};
-use bufr_tables::Tables;
-use bufr_tool::run_check;
 use std::alloc::Global;
 use std::process::Abort;
 use std::test::Fail;
@@ -181,45 +174,5 @@ fn frames_of_any_pieces(rt: HostRuntime) -> Result<(), Fail> {
             assert!(rt; found == wanted, "seed {seed}");
         }
     }
-    Ok(())
-}
-
-/// What checking a reader's stream answers, and what is written.
-fn checked(
-    alloc: Global,
-    tables: &Tables,
-    mut reader: Pieces<'_>,
-) -> (Result<Tally, ToolFault>, Vec<u8>)
-    requires works { reader.failed ≡ false }
-    requires not_read { reader.reads ≡ 0 }
-    requires not_ended { reader.met_end ≡ false }
-{
-    let mut writer = IntoWrite::new(Vec::new(alloc));
-    let answer = run_check(alloc, 1_000_000, tables, &mut reader, &mut writer);
-    (answer, writer.into_inner())
-}
-
-/// The lines of each of two hundred streams are the same in one piece and in many.
-#[test]
-fn lines_of_any_pieces(rt: HostRuntime) -> Result<(), Fail> {
-    let alloc = rt.alloc();
-    let tables = tables(alloc)?;
-    let (mut accepted, mut refused) = (0u128, 0u128);
-    for seed in 0u64..200 {
-        let mut numbers = Numbers::new(seed);
-        let stream = hostile(alloc, &mut numbers)?;
-        let wanted = checked(alloc, &tables, Pieces::even(&stream, 1_000_000, End::Met));
-        let tally = wanted.0?;
-        accepted = accepted.saturating_add(tally.frames.saturating_sub(tally.refused));
-        refused = refused.saturating_add(tally.refused);
-        for most in [1usize, 9, 100] {
-            let found = checked(alloc, &tables, Pieces::uneven(&stream, most, seed));
-            assert!(rt; found == wanted, "seed {seed}, at most {most}");
-        }
-    }
-    assert!(rt;
-        accepted >= 100 && refused >= 50,
-        "{accepted} accepted, {refused} refused"
-    );
     Ok(())
 }

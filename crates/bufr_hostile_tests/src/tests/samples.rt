@@ -1,12 +1,10 @@
 //! Tables and messages, and want of memory told from faults.
 
 use bufr_answers::{Failure, OutOfMemory};
-use bufr_io::ToolFault;
 use bufr_message::listing::ListingWriteFault;
 use bufr_shelves::JoinFault;
 use bufr_tables::{TableB, TableD, Tables};
 use std::alloc::Global;
-use std::process::Abort;
 use std::test::Fail;
 
 /// Table B of the tests.
@@ -179,12 +177,6 @@ impl Refusal for ListingWriteFault {
     }
 }
 
-impl Refusal for ToolFault {
-    fn is_refusal(&self) -> bool {
-        *self == ToolFault::OutOfMemory
-    }
-}
-
 /// Whether memory was refused to a call.
 pub(super) fn is_refused<T, E: Refusal>(answer: &Result<T, E>) -> bool {
     match answer {
@@ -221,13 +213,6 @@ fn sequences(alloc: Global) -> Result<TableD, Fail> {
 pub(super) fn tables(alloc: Global) -> Result<Tables, Fail> {
     let elements = elements(alloc)?;
     Ok(Tables::new(elements, sequences(alloc)?))
-}
-
-/// These are the tables of the tests.
-pub(super) fn assert_tables(rt: &impl Abort, alloc: Global, found: &Tables) -> Result<(), Fail> {
-    let wanted = tables(alloc)?;
-    assert!(rt; found.same(&wanted));
-    Ok(())
 }
 
 /// An empty vector with room for so many octets.

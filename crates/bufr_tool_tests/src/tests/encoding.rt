@@ -3,14 +3,10 @@
 ghost use Rattle.std.specs.Prelude.{◌≤◌};
 ghost use Rattle.bufr_io.specs.Limits.{most_reads};
 
-use super::{
-    Breaks, Drips, ELEMENTS_ONLY, LISTING, SEQUENCES, assert_broken, assert_line, same, shown,
-    tables,
-};
+use super::{Breaks, Drips, ELEMENTS_ONLY, LISTING, SEQUENCES, assert_broken, same, shown, tables};
 use bufr_answers::OutOfMemory;
 use bufr_bits::{FromRead, IntoWrite};
 use bufr_io::{Input, Tally, ToolFault};
-use bufr_message::EncodeFault;
 use bufr_message::listing::ListingFault;
 use bufr_tables::Tables;
 use bufr_tool::run_encode;
@@ -133,50 +129,6 @@ fn messages(count: u128) -> Result<Tally, ToolFault> {
     })
 }
 
-/// The listing of each example in the folder of examples is encoded to the example.
-#[test]
-fn listings_of_examples(rt: HostRuntime) -> Result<(), Fail> {
-    let alloc = rt.alloc();
-    for (listing, octets) in [
-        (LISTING, ELEMENTS_ONLY),
-        (SEQUENCES_LISTING, SEQUENCES),
-        (COMPRESSED_PAIR_LISTING, COMPRESSED_PAIR),
-        (UNEQUAL_COUNTS_LISTING, UNEQUAL_COUNTS),
-    ] {
-        assert_encoded(&rt, alloc, false, listing, messages(1), octets)?;
-    }
-    let bulletin = joined(alloc, SEQUENCES_LISTING, SEQUENCES_LISTING)?;
-    let octets = joined(alloc, SEQUENCES, SEQUENCES)?;
-    assert_encoded(&rt, alloc, false, &bulletin, messages(2), &octets)
-}
-
-/// The listing of a message that was read in edition 3 is written in edition 4.
-#[test]
-fn listing_of_edition_3(rt: HostRuntime) -> Result<(), Fail> {
-    let listing: &[u8] = b"message\n\
-section1 98 0 0 0 255 2 13 0\n\
-time 2024 1 15 12 0 0\n\
-local1 00\n\
-flags observed\n\
-descriptors 301001 301011 301012 012101\n\
-subset\n\
-001001 10\n\
-001002 384\n\
-004001 2024\n\
-004002 1\n\
-004003 15\n\
-004004 12\n\
-004005 0\n\
-012101 273.15\n\
-end\n";
-    let octets: &[u8] = b"BUFR\x00\x00\x3F\x04\
-\x00\x00\x17\x00\x00\x62\x00\x00\x00\x00\x00\xFF\x02\x0D\x00\x07\xE8\x01\x0F\x0C\x00\x00\x00\
-\x00\x00\x0F\x00\x00\x01\x80\xC1\x01\xC1\x0B\xC1\x0C\x0C\x65\
-\x00\x00\x0D\x00\x14\xC0\x3F\x40\x9E\xC0\x1A\xAC\xC0\
-7777";
-    assert_encoded(&rt, rt.alloc(), false, listing, messages(1), octets)
-}
-
 /// A plain listing of two subsets, of which the second has another temperature.
 const PAIR_LISTING: &[u8] = b"message\n\
 section1 98 0 0 0 2 0 37 0\n\
@@ -222,19 +174,43 @@ fn assert_plain(rt: &impl Abort, alloc: Global) -> Result<(), Fail> {
     Ok(())
 }
 
+/// Whether compression is asked for, the listing of a message, and what it is encoded to.
+const ENCODED: [(bool, &[u8], &[u8]); 6] = [
+    (false, LISTING, ELEMENTS_ONLY),
+    (false, SEQUENCES_LISTING, SEQUENCES),
+    (false, COMPRESSED_PAIR_LISTING, COMPRESSED_PAIR),
+    (false, UNEQUAL_COUNTS_LISTING, UNEQUAL_COUNTS),
+    (true, PAIR_LISTING, PAIR_COMPRESSED),
+    (true, COMPRESSED_PAIR_LISTING, COMPRESSED_PAIR),
+];
+
+/// The listing of each example in the folder of examples is encoded to the example, and compressed
+/// where that is asked for. Edition 3 is tried by `tests/commands` at the top.
 #[test]
-fn compressed_where_asked(rt: HostRuntime) -> Result<(), Fail> {
-    let alloc = rt.alloc();
-    for (listing, octets) in [
-        (PAIR_LISTING, PAIR_COMPRESSED),
-        (COMPRESSED_PAIR_LISTING, COMPRESSED_PAIR),
-    ] {
-        assert_encoded(&rt, alloc, true, listing, messages(1), octets)?;
+fn listings_of_examples(rt: HostRuntime) -> Result<(), Fail> {
+    for (compressed, listing, octets) in ENCODED {
+        assert_encoded(&rt, rt.alloc(), compressed, listing, messages(1), octets)?;
     }
-    let both = joined(alloc, PAIR_LISTING, PAIR_LISTING)?;
-    let octets = joined(alloc, PAIR_COMPRESSED, PAIR_COMPRESSED)?;
-    assert_encoded(&rt, alloc, true, &both, messages(2), &octets)?;
-    assert_plain(&rt, alloc)
+    assert_plain(&rt, rt.alloc())
+}
+
+/// The listing of a message and the same again is encoded to the message and the same again.
+fn assert_twice(
+    rt: &impl Abort,
+    alloc: Global,
+    compressed: bool,
+    listing: &[u8],
+    octets: &[u8],
+) -> Result<(), Fail> {
+    let listing = joined(alloc, listing, listing)?;
+    let octets = joined(alloc, octets, octets)?;
+    assert_encoded(rt, alloc, compressed, &listing, messages(2), &octets)
+}
+
+#[test]
+fn listings_of_two_messages(rt: HostRuntime) -> Result<(), Fail> {
+    assert_twice(&rt, rt.alloc(), false, SEQUENCES_LISTING, SEQUENCES)?;
+    assert_twice(&rt, rt.alloc(), true, PAIR_LISTING, PAIR_COMPRESSED)
 }
 
 #[test]
@@ -274,20 +250,28 @@ fn assert_bad_line(
     assert_encoded(rt, alloc, compressed, listing, wanted, b"")
 }
 
-/// A message that is refused leaves nothing written of those before it, and the listing's fault
-/// comes before that of any message.
+/// A message that is refused leaves nothing written of those before it, whatever comes behind it.
+fn assert_second_refused(rt: &impl Abort, alloc: Global, behind: &[u8]) -> Result<(), Fail> {
+    let two = joined(alloc, PAIR_LISTING, UNEQUAL_COUNTS_LISTING)?;
+    let listing = joined(alloc, &two, behind)?;
+    assert_not_compressible(rt, alloc, &listing)
+}
+
+/// The listing's fault comes before that of any message.
+fn assert_listing_first(rt: &impl Abort, alloc: Global) -> Result<(), Fail> {
+    let two = joined(alloc, PAIR_LISTING, UNEQUAL_COUNTS_LISTING)?;
+    let three = joined(alloc, &two, PAIR_LISTING)?;
+    let four = joined(alloc, &three, b"message\nsection\n")?;
+    assert_bad_line(rt, alloc, true, &four, 61)
+}
+
 #[test]
 fn first_faults(rt: HostRuntime) -> Result<(), Fail> {
-    let alloc = rt.alloc();
-    let two = joined(alloc, PAIR_LISTING, UNEQUAL_COUNTS_LISTING)?;
-    assert_not_compressible(&rt, alloc, &two)?;
-    let three = joined(alloc, &two, PAIR_LISTING)?;
-    let (_, written) = encoded(alloc, 10, true, &three)?;
-    same(&rt, written.len(), 0);
-    let four = joined(alloc, &three, b"message\nsection\n".as_slice())?;
-    assert_bad_line(&rt, alloc, true, &four, 61)?;
+    assert_second_refused(&rt, rt.alloc(), b"")?;
+    assert_second_refused(&rt, rt.alloc(), PAIR_LISTING)?;
+    assert_listing_first(&rt, rt.alloc())?;
     let cut = LISTING.get(..232).ok_or("without its end")?;
-    assert_bad_line(&rt, alloc, false, cut, 15)
+    assert_bad_line(&rt, rt.alloc(), false, cut, 15)
 }
 
 /// Why a listing was not encoded to a writer that has room for so many octets, if it was not, and
@@ -308,26 +292,37 @@ fn broken_after(
     (fault, writer.taken)
 }
 
+/// The writer fails after each number of octets.
+fn assert_all_broken(
+    rt: &impl Abort,
+    alloc: Global,
+    tables: &Tables,
+    listing: &[u8],
+    octets: &[u8],
+) {
+    for room in 0usize..133 {
+        let (fault, taken) = broken_after(alloc, tables, listing, room);
+        assert_broken(rt, room, fault, &taken, octets);
+    }
+}
+
 #[test]
 fn failing_writer(rt: HostRuntime) -> Result<(), Fail> {
     let alloc = rt.alloc();
     let tables = tables(alloc)?;
     let listing = joined(alloc, LISTING, SEQUENCES_LISTING)?;
     let octets = joined(alloc, ELEMENTS_ONLY, SEQUENCES)?;
-    for room in 0usize..133 {
-        let (fault, taken) = broken_after(alloc, &tables, &listing, room);
-        assert_broken(&rt, room, fault, &taken, &octets);
-    }
+    assert_all_broken(&rt, alloc, &tables, &listing, &octets);
     Ok(())
 }
 
 /// What encoding so many octets, one a read, answers within four reads, and how much was written.
 fn dripping(
     alloc: Global,
+    tables: &Tables,
     octets: usize,
     breaks: bool,
-) -> Result<(Result<Tally, ToolFault>, usize), Fail> {
-    let tables = tables(alloc)?;
+) -> (Result<Tally, ToolFault>, usize) {
     let mut reader = Drips {
         octets,
         breaks,
@@ -336,26 +331,29 @@ fn dripping(
         met_end: false,
     };
     let mut writer = IntoWrite::new(Vec::new(alloc));
-    let answer = run_encode(alloc, 4, &tables, false, &mut reader, &mut writer);
-    Ok((answer, writer.into_inner().len()))
+    let answer = run_encode(alloc, 4, tables, false, &mut reader, &mut writer);
+    (answer, writer.into_inner().len())
 }
+
+/// Octets that come one a read, whether their reader then fails, and the fault of them.
+const DRIPPED: [(usize, bool, ToolFault); 5] = [
+    (100, false, ToolFault::EndlessInput(Input::Number(1))),
+    (4, false, ToolFault::EndlessInput(Input::Number(1))),
+    (2, true, ToolFault::ReadFailed(Input::Number(1))),
+    (0, true, ToolFault::ReadFailed(Input::Number(1))),
+    (3, false, ToolFault::Listing(ListingFault::BadLine(1))),
+];
 
 #[test]
 fn endless_and_failing_readers(rt: HostRuntime) -> Result<(), Fail> {
     let alloc = rt.alloc();
-    let endless = Err(ToolFault::EndlessInput(Input::Number(1)));
-    let failed = Err(ToolFault::ReadFailed(Input::Number(1)));
-    let fault = Err(ToolFault::Listing(ListingFault::BadLine(1)));
-    for (octets, breaks, wanted) in [
-        (100, false, endless),
-        (4, false, endless),
-        (2, true, failed),
-        (0, true, failed),
-        (3, false, fault),
-        (0, false, messages(0)),
-    ] {
-        same(&rt, dripping(alloc, octets, breaks)?, (wanted, 0));
+    let tables = tables(alloc)?;
+    for (octets, breaks, fault) in DRIPPED {
+        let found = dripping(alloc, &tables, octets, breaks);
+        same(&rt, found, (Err(fault), 0));
     }
+    let found = dripping(alloc, &tables, 0, false);
+    same(&rt, found, (messages(0), 0));
     Ok(())
 }
 
@@ -370,38 +368,37 @@ fn two_thousand_messages(alloc: Global) -> Result<Vec<u8>, OutOfMemory> {
     Ok(octets)
 }
 
+/// What is shown of octets.
+fn listing_of(
+    rt: &impl Abort,
+    alloc: Global,
+    octets: &[u8],
+    wanted: Result<Tally, ToolFault>,
+) -> Result<Vec<u8>, Fail> {
+    let (answer, listing) = shown(alloc, octets)?;
+    same(rt, answer, wanted);
+    Ok(listing)
+}
+
+/// A long listing is encoded to so many messages, which are these octets.
+fn assert_long_encoded(
+    rt: &impl Abort,
+    alloc: Global,
+    listing: &[u8],
+    wanted: Result<Tally, ToolFault>,
+    octets: &[u8],
+) -> Result<(), Fail> {
+    let (answer, written) = encoded(alloc, 100, false, listing)?;
+    same(rt, answer, wanted);
+    same(rt, written.as_slice(), octets);
+    Ok(())
+}
+
 /// Two thousand messages are written one behind another, and what is shown of them is encoded to
 /// them again.
 #[test]
 fn many_messages(rt: HostRuntime) -> Result<(), Fail> {
-    let alloc = rt.alloc();
-    let octets = two_thousand_messages(alloc)?;
-    let (answer, listing) = shown(alloc, &octets)?;
-    same(&rt, answer, messages(2000));
-    let (answer, written) = encoded(alloc, 100, false, &listing)?;
-    same(&rt, answer, messages(2000));
-    same(&rt, written.as_slice(), octets.as_slice());
-    Ok(())
-}
-
-#[test]
-fn lines_of_faults(rt: HostRuntime) -> Result<(), Fail> {
-    let faults = [
-        (
-            ToolFault::Listing(ListingFault::BadLine(3)),
-            "listing: L1 BadLine 3",
-        ),
-        (
-            ToolFault::Listing(ListingFault::BadValue(14)),
-            "listing: L2 BadValue 14",
-        ),
-        (
-            ToolFault::Encode(7, EncodeFault::NoDescriptors),
-            "message 7: E4 NoDescriptors",
-        ),
-    ];
-    for (fault, text) in faults {
-        assert_line(&rt, rt.alloc(), fault, text)?;
-    }
-    Ok(())
+    let octets = two_thousand_messages(rt.alloc())?;
+    let listing = listing_of(&rt, rt.alloc(), &octets, messages(2000))?;
+    assert_long_encoded(&rt, rt.alloc(), &listing, messages(2000), &octets)
 }

@@ -3,18 +3,21 @@
 ghost use Rattle.std.specs.Prelude.{◌≤◌};
 
 use crate::tests::same;
-use crate::tests::samples::{assert_tables, is_refused, repeated, tables};
-use bufr_answers::Items;
+use crate::tests::samples::{is_refused, repeated, tables};
+use bufr_answers::{Failure, Items, OutOfMemory};
 use bufr_bits::{BitReader, BitSink};
-use bufr_data::{Columns, Raw, Subset, read_compressed, read_plain, write_compressed, write_plain};
+use bufr_data::{
+    Columns, Raw, ReadFault, Subset, WriteFault, read_compressed, read_plain, write_compressed,
+    write_plain,
+};
 use bufr_expand::Template;
-use bufr_tables::{Fxy, Tables};
+use bufr_tables::Fxy;
 use std::alloc::Global;
 use std::process::Abort;
 use std::test::Fail;
 
-/// A delayed replication of a temperature, and then two characters.
-const DESCRIPTORS: [(u8, u8, u8); 4] = [(1, 1, 0), (0, 31, 1), (0, 12, 101), (2, 5, 2)];
+/// A delayed replication of a temperature, and then two characters: 101000 031001 012101 205002.
+const DESCRIPTORS: [u16; 4] = [0x4100, 0x1F01, 0x0C65, 0x8502];
 
 /// One subset: one temperature, 273.15 K, and `AB`.
 const PLAIN: &[u8] = b"\x01\x6A\xB3AB";
@@ -25,9 +28,8 @@ const PACKED: &[u8] = b"\x01\x01\xAA\xCC\x21\x00\x00\x09\x05\x09\x0D\x10";
 /// The descriptors, in a list.
 fn descriptors(alloc: Global) -> Result<Vec<Fxy>, Fail> {
     let mut list = repeated!(Vec::with_capacity(alloc, 4))?;
-    for (f, x, y) in DESCRIPTORS {
-        let fxy = Fxy::new(f, x, y).ok_or("no descriptor")?;
-        list.push(fxy)?;
+    for bits in DESCRIPTORS {
+        list.push(Fxy::from_bits(bits))?;
     }
     Ok(list)
 }
@@ -63,39 +65,27 @@ fn pair(alloc: Global) -> Result<Items<Subset>, Fail> {
     Ok(repeated!(read_compressed(alloc, &template, &mut BitReader::new(PACKED), 2))?)
 }
 
-/// The tables have the temperature.
-fn assert_temperature(rt: &impl Abort, tables: &Tables) -> Result<(), Fail> {
-    let temperature = Fxy::new(0, 12, 101).ok_or("no descriptor")?;
-    let found = tables.element(temperature).ok_or("no element")?;
-    same(rt, (found.scale, found.reference, found.width), (2, 0, 16));
-    Ok(())
-}
-
-#[test]
-fn tables_parsed(rt: HostRuntime) -> Result<(), Fail> {
-    let alloc = rt.alloc();
-    let once = tables(alloc)?;
-    assert_tables(&rt, alloc, &once)?;
-    assert_temperature(&rt, &once)
-}
-
-#[test]
-fn templates_built(rt: HostRuntime) -> Result<(), Fail> {
-    same(&rt, template(rt.alloc())?.nodes(), 3);
-    Ok(())
+/// A plain subset and the items that it brings the message to; after a refusal the reader is where
+/// it was.
+fn read_one(
+    rt: &impl Abort,
+    alloc: Global,
+    template: &Template,
+    reader: &mut BitReader<'_>,
+) -> Result<(Subset, u64), Failure<ReadFault>> {
+    let answer = read_plain(alloc, template, reader, 5);
+    if !is_refused(&answer) {
+        return answer;
+    }
+    same(rt, reader.place(), 0);
+    read_plain(alloc, template, reader, 5)
 }
 
 #[test]
 fn plain_subsets_read(rt: HostRuntime) -> Result<(), Fail> {
-    let alloc = rt.alloc();
-    let template = template(alloc)?;
+    let template = template(rt.alloc())?;
     let mut reader = BitReader::new(PLAIN);
-    let mut answer = read_plain(alloc, &template, &mut reader, 5);
-    if is_refused(&answer) {
-        same(&rt, reader.place(), 0);
-        answer = read_plain(alloc, &template, &mut reader, 5);
-    }
-    let (subset, items) = answer?;
+    let (subset, items) = read_one(&rt, rt.alloc(), &template, &mut reader)?;
     assert_values(&rt, &subset, 27315, b"AB");
     same(&rt, (items, reader.place()), (9, 40));
     Ok(())
@@ -111,17 +101,26 @@ fn assert_pair(rt: &impl Abort, subsets: &[Subset]) -> Result<(), Fail> {
     Ok(())
 }
 
+/// The two subsets; after a refusal the reader is where it was.
+fn read_both(
+    rt: &impl Abort,
+    alloc: Global,
+    template: &Template,
+    reader: &mut BitReader<'_>,
+) -> Result<Items<Subset>, Failure<ReadFault>> {
+    let answer = read_compressed(alloc, template, reader, 2);
+    if !is_refused(&answer) {
+        return answer;
+    }
+    same(rt, reader.place(), 0);
+    read_compressed(alloc, template, reader, 2)
+}
+
 #[test]
 fn compressed_subsets_read(rt: HostRuntime) -> Result<(), Fail> {
-    let alloc = rt.alloc();
-    let template = template(alloc)?;
+    let template = template(rt.alloc())?;
     let mut reader = BitReader::new(PACKED);
-    let mut answer = read_compressed(alloc, &template, &mut reader, 2);
-    if is_refused(&answer) {
-        same(&rt, reader.place(), 0);
-        answer = read_compressed(alloc, &template, &mut reader, 2);
-    }
-    let subsets = answer?;
+    let subsets = read_both(&rt, rt.alloc(), &template, &mut reader)?;
     same(&rt, reader.place(), 94);
     assert_pair(&rt, subsets.as_slice())
 }
@@ -165,72 +164,102 @@ fn octets_of(mut sink: BitSink) -> Vec<u8> {
     sink.into_bytes()
 }
 
-#[test]
-fn plain_subsets_written(rt: HostRuntime) -> Result<(), Fail> {
-    let alloc = rt.alloc();
-    let template = template(alloc)?;
-    let subsets = pair(alloc)?;
-    let mut sink = begun(alloc)?;
-    let mut answer = write_plain(alloc, &template, subsets.as_slice(), &mut sink);
-    if is_refused(&answer) {
-        same(&rt, sink.len_bits(), 8);
-        answer = write_plain(alloc, &template, subsets.as_slice(), &mut sink);
+/// Subsets are written behind the octet of a begun sink; after a refusal it has that one alone.
+fn write(
+    rt: &impl Abort,
+    alloc: Global,
+    template: &Template,
+    subsets: &[Subset],
+    sink: &mut BitSink,
+) -> Result<(), Failure<WriteFault>> {
+    let answer = write_plain(alloc, template, subsets, sink);
+    if !is_refused(&answer) {
+        return answer;
     }
-    answer?;
-    let written = octets_of(sink);
-    same(
-        &rt,
-        written.as_slice(),
-        b"\xEE\x01\x6A\xB3AB\x01\x6A\xB4CD".as_slice(),
-    );
+    same(rt, sink.len_bits(), 8);
+    write_plain(alloc, template, subsets, sink)
+}
+
+/// The same, compressed.
+fn write_packed(
+    rt: &impl Abort,
+    alloc: Global,
+    template: &Template,
+    subsets: &[Subset],
+    sink: &mut BitSink,
+) -> Result<(), Failure<WriteFault>> {
+    let answer = write_compressed(alloc, template, subsets, sink);
+    if !is_refused(&answer) {
+        return answer;
+    }
+    same(rt, sink.len_bits(), 8);
+    write_compressed(alloc, template, subsets, sink)
+}
+
+/// The two subsets are written as these octets.
+fn assert_written(
+    rt: &impl Abort,
+    alloc: Global,
+    subsets: &[Subset],
+    packed: bool,
+    wanted: &[u8],
+) -> Result<(), Fail> {
+    let template = template(alloc)?;
+    let mut sink = begun(alloc)?;
+    if packed {
+        write_packed(rt, alloc, &template, subsets, &mut sink)?;
+    } else {
+        write(rt, alloc, &template, subsets, &mut sink)?;
+    }
+    same(rt, octets_of(sink).as_slice(), wanted);
     Ok(())
 }
 
 #[test]
+fn plain_subsets_written(rt: HostRuntime) -> Result<(), Fail> {
+    let subsets = pair(rt.alloc())?;
+    let wanted = b"\xEE\x01\x6A\xB3AB\x01\x6A\xB4CD";
+    assert_written(&rt, rt.alloc(), subsets.as_slice(), false, wanted)
+}
+
+#[test]
 fn compressed_subsets_written(rt: HostRuntime) -> Result<(), Fail> {
-    let alloc = rt.alloc();
-    let template = template(alloc)?;
-    let subsets = pair(alloc)?;
-    let mut sink = begun(alloc)?;
-    let mut answer = write_compressed(alloc, &template, subsets.as_slice(), &mut sink);
-    if is_refused(&answer) {
-        same(&rt, sink.len_bits(), 8);
-        answer = write_compressed(alloc, &template, subsets.as_slice(), &mut sink);
-    }
-    answer?;
-    let written = octets_of(sink);
-    same(&rt, written.as_slice().get(1..), Some(PACKED));
-    Ok(())
+    let subsets = pair(rt.alloc())?;
+    let wanted = b"\xEE\x01\x01\xAA\xCC\x21\x00\x00\x09\x05\x09\x0D\x10";
+    assert_written(&rt, rt.alloc(), subsets.as_slice(), true, wanted)
 }
 
 /// Octets put behind the one of a begun sink; after a refusal it has that one alone.
 fn put(rt: &impl Abort, alloc: Global, octets: &[u8]) -> Result<Vec<u8>, Fail> {
     let mut sink = begun(alloc)?;
-    let mut answer = sink.put_bytes(octets);
-    if is_refused(&answer) {
+    if sink.put_bytes(octets).is_err() {
         same(rt, sink.len_bits(), 8);
-        answer = sink.put_bytes(octets);
+        sink.put_bytes(octets)?;
     }
-    answer?;
     Ok(octets_of(sink))
 }
 
 /// The first so many octets, taken of all; after a refusal none is taken.
-fn taken(rt: &impl Abort, alloc: Global, octets: &[u8], count: u64) -> Result<Vec<u8>, Fail> {
+fn taken(
+    rt: &impl Abort,
+    alloc: Global,
+    octets: &[u8],
+    count: u64,
+) -> Result<Option<Vec<u8>>, OutOfMemory> {
     let mut reader = BitReader::new(octets);
-    let mut taken = reader.take_bytes(alloc, count);
-    if is_refused(&taken) {
-        same(rt, reader.place(), 0);
-        taken = reader.take_bytes(alloc, count);
+    let answer = reader.take_bytes(alloc, count);
+    if answer.is_ok() {
+        return answer;
     }
-    Ok(taken?.ok_or("too few bits")?)
+    same(rt, reader.place(), 0);
+    reader.take_bytes(alloc, count)
 }
 
 #[test]
 fn bits_put_and_taken(rt: HostRuntime) -> Result<(), Fail> {
     let alloc = rt.alloc();
     let written = put(&rt, alloc, b"0123456789ABCDEF")?;
-    let octets = taken(&rt, alloc, &written, 17)?;
+    let octets = taken(&rt, alloc, &written, 17)?.ok_or("too few bits")?;
     same(&rt, octets.as_slice(), b"\xEE0123456789ABCDEF".as_slice());
     Ok(())
 }

@@ -2,6 +2,7 @@
 
 use crate::tests::same;
 use crate::tests::samples::{SEQUENCES, is_refused};
+use bufr_answers::OutOfMemory;
 use bufr_frame::{Found, Framer, LentFrame, Look, NextFrame, Taken};
 use std::process::Abort;
 use std::test::Fail;
@@ -26,16 +27,16 @@ fn standing(framer: &Framer) -> Standing {
 }
 
 /// A piece is taken in; after a refusal the framer has as much as before.
-fn fed(rt: &impl Abort, framer: &mut Framer, piece: &[u8]) -> Result<Vec<Found>, Fail> {
+fn fed(rt: &impl Abort, framer: &mut Framer, piece: &[u8]) -> Result<Vec<Found>, OutOfMemory> {
     let before = standing(framer);
     assert!(rt; framer.fed() <= 1_000_000);
     assert!(rt; piece.len() <= 1000);
-    let mut answer = framer.feed(piece);
-    if is_refused(&answer) {
-        same(rt, standing(framer), before);
-        answer = framer.feed(piece);
+    let answer = framer.feed(piece);
+    if answer.is_ok() {
+        return answer;
     }
-    Ok(answer?)
+    same(rt, standing(framer), before);
+    framer.feed(piece)
 }
 
 /// A piece is taken in, and no frame is handed out.
@@ -56,16 +57,27 @@ fn finished(rt: &impl Abort, framer: &mut Framer) -> Result<Vec<Found>, Fail> {
     Ok(answer?)
 }
 
+/// The message is handed out at once. In two pieces behind the heading it is still open.
+fn feed_all(rt: &impl Abort, framer: &mut Framer) -> Result<(), Fail> {
+    assert!(rt; is_message_at(&fed(rt, framer, SEQUENCES)?, 0));
+    for piece in [HEADING, &SEQUENCES[..40], &SEQUENCES[40..]] {
+        feed_open(rt, framer, piece)?;
+    }
+    Ok(())
+}
+
+/// The stream's end brings the message at a place.
+fn end_with_message(rt: &impl Abort, framer: &mut Framer, place: u64) -> Result<(), Fail> {
+    assert!(rt; is_message_at(&finished(rt, framer)?, place));
+    Ok(())
+}
+
 #[test]
 fn pieces_taken_in(rt: HostRuntime) -> Result<(), Fail> {
     let mut framer = Framer::new(rt.alloc());
-    assert!(rt; is_message_at(&fed(&rt, &mut framer, SEQUENCES)?, 0));
-    feed_open(&rt, &mut framer, HEADING)?;
-    feed_open(&rt, &mut framer, &SEQUENCES[..40])?;
-    feed_open(&rt, &mut framer, &SEQUENCES[40..])?;
+    feed_all(&rt, &mut framer)?;
     same(&rt, framer.fed(), 136);
-    assert!(rt; is_message_at(&finished(&rt, &mut framer)?, 74));
-    Ok(())
+    end_with_message(&rt, &mut framer, 74)
 }
 
 /// A look at a piece, which leaves the framer as it is, and so does a refused one.
@@ -83,12 +95,11 @@ fn looked(rt: &impl Abort, framer: &Framer, piece: &[u8]) -> Result<Look, Fail> 
 }
 
 /// A look at the end.
-fn looked_at_end(framer: &Framer) -> Result<Look, Fail> {
-    let mut answer = framer.look_end();
-    if is_refused(&answer) {
-        answer = framer.look_end();
+fn looked_at_end(framer: &Framer) -> Result<Look, OutOfMemory> {
+    match framer.look_end() {
+        Ok(look) => Ok(look),
+        Err(_) => framer.look_end(),
     }
-    Ok(answer?)
 }
 
 #[test]
@@ -103,16 +114,20 @@ fn pieces_looked_at(rt: HostRuntime) -> Result<(), Fail> {
 }
 
 /// One frame is taken out of a piece; after a refusal the framer has as much as before.
-fn taken<'a>(rt: &impl Abort, framer: &mut Framer, piece: &'a [u8]) -> Result<Taken<'a>, Fail> {
+fn taken<'a>(
+    rt: &impl Abort,
+    framer: &mut Framer,
+    piece: &'a [u8],
+) -> Result<Taken<'a>, OutOfMemory> {
     let before = standing(framer);
     assert!(rt; framer.fed() <= 1_000_000);
     assert!(rt; piece.len() <= 1000);
-    let mut answer = framer.take_next(piece);
-    if is_refused(&answer) {
-        same(rt, standing(framer), before);
-        answer = framer.take_next(piece);
+    let answer = framer.take_next(piece);
+    if answer.is_ok() {
+        return answer;
     }
-    Ok(answer?)
+    same(rt, standing(framer), before);
+    framer.take_next(piece)
 }
 
 /// Whether a frame of the message at a place was handed out.
@@ -129,42 +144,62 @@ fn take_none(rt: &impl Abort, framer: &mut Framer, piece: &[u8]) -> Result<(), F
     Ok(())
 }
 
-/// The message at a place is taken out of a piece. Answered is the rest of that.
-fn take_message<'a>(
+/// The message at a place is taken out of a piece that ends with it.
+fn take_message(
     rt: &impl Abort,
     framer: &mut Framer,
-    piece: &'a [u8],
+    piece: &[u8],
     place: u64,
-) -> Result<&'a [u8], Fail> {
+) -> Result<(), Fail> {
     let taken = taken(rt, framer, piece)?;
-    assert!(rt; is_message(&taken.found, place));
-    Ok(taken.rest)
+    assert!(rt; is_message(&taken.found, place) && taken.rest.is_empty());
+    Ok(())
+}
+
+/// Pieces of a stream, and the place of the message that is handed out with each, if one is.
+fn pieces() -> [(&'static [u8], Option<u64>); 5] {
+    [
+        (&SEQUENCES[..40], None),
+        (&SEQUENCES[40..], Some(0)),
+        (SEQUENCES, Some(62)),
+        (HEADING, None),
+        (SEQUENCES, None),
+    ]
+}
+
+/// The pieces are taken in, with the message of each.
+fn take_all(rt: &impl Abort, framer: &mut Framer) -> Result<(), Fail> {
+    for (piece, message) in pieces() {
+        match message {
+            Some(place) => take_message(rt, framer, piece, place)?,
+            None => take_none(rt, framer, piece)?,
+        }
+    }
+    Ok(())
 }
 
 #[test]
 fn frames_taken_one_by_one(rt: HostRuntime) -> Result<(), Fail> {
     let mut framer = Framer::new(rt.alloc());
-    take_none(&rt, &mut framer, &SEQUENCES[..40])?;
-    let rest = take_message(&rt, &mut framer, &SEQUENCES[40..], 0)?;
-    assert!(rt; rest.is_empty());
-    take_message(&rt, &mut framer, SEQUENCES, 62)?;
-    take_none(&rt, &mut framer, HEADING)?;
-    take_none(&rt, &mut framer, SEQUENCES)?;
-    assert!(rt; is_message_at(&finished(&rt, &mut framer)?, 136));
-    Ok(())
+    take_all(&rt, &mut framer)?;
+    end_with_message(&rt, &mut framer, 136)
 }
 
 /// The next frame of a piece; after a refusal the framer has as much as before.
-fn next<'a>(rt: &impl Abort, framer: &mut Framer, piece: &'a [u8]) -> Result<NextFrame<'a>, Fail> {
+fn next<'a>(
+    rt: &impl Abort,
+    framer: &mut Framer,
+    piece: &'a [u8],
+) -> Result<NextFrame<'a>, OutOfMemory> {
     let before = standing(framer);
     assert!(rt; framer.fed() <= 1_000_000);
     assert!(rt; piece.len() <= 1000);
-    let mut answer = framer.next_frame(piece);
-    if is_refused(&answer) {
-        same(rt, standing(framer), before);
-        answer = framer.next_frame(piece);
+    let answer = framer.next_frame(piece);
+    if answer.is_ok() {
+        return answer;
     }
-    Ok(answer?)
+    same(rt, standing(framer), before);
+    framer.next_frame(piece)
 }
 
 /// Whether a frame of the message at a place was lent.
@@ -175,15 +210,32 @@ fn is_message_lent(found: &Option<LentFrame<'_>>, place: u64) -> bool {
     }
 }
 
+/// The message at a place is lent with a piece, or none.
+fn lend(
+    rt: &impl Abort,
+    framer: &mut Framer,
+    piece: &[u8],
+    message: Option<u64>,
+) -> Result<(), Fail> {
+    let found = next(rt, framer, piece)?.found;
+    match message {
+        Some(place) => assert!(rt; is_message_lent(&found, place)),
+        None => assert!(rt; found.is_none()),
+    }
+    Ok(())
+}
+
+/// The pieces are taken in, and the message of each is lent.
+fn lend_all(rt: &impl Abort, framer: &mut Framer) -> Result<(), Fail> {
+    for (piece, message) in pieces() {
+        lend(rt, framer, piece, message)?;
+    }
+    Ok(())
+}
+
 #[test]
 fn frames_lent_one_by_one(rt: HostRuntime) -> Result<(), Fail> {
     let mut framer = Framer::new(rt.alloc());
-    assert!(rt; next(&rt, &mut framer, &SEQUENCES[..40])?.found.is_none());
-    let held = next(&rt, &mut framer, &SEQUENCES[40..])?;
-    assert!(rt; is_message_lent(&held.found, 0));
-    assert!(rt; is_message_lent(&next(&rt, &mut framer, SEQUENCES)?.found, 62));
-    assert!(rt; next(&rt, &mut framer, HEADING)?.found.is_none());
-    assert!(rt; next(&rt, &mut framer, SEQUENCES)?.found.is_none());
-    assert!(rt; is_message_at(&finished(&rt, &mut framer)?, 136));
-    Ok(())
+    lend_all(&rt, &mut framer)?;
+    end_with_message(&rt, &mut framer, 136)
 }

@@ -7,7 +7,7 @@ use crate::tests::samples::{
     tables,
 };
 use bufr_bits::IntoWrite;
-use bufr_message::listing::{ListingWriteFault, read, text_of, write_message};
+use bufr_message::listing::{ListingWriteFault, text_of, write_message};
 use bufr_message::{
     Decoded, Field, Items, Message, OutOfMemory, Report, Templates, View, canonical, decode,
     encode, reports,
@@ -145,17 +145,6 @@ fn reports_of_compressed_subsets(rt: HostRuntime) -> Result<(), Fail> {
     let tables = tables(rt.alloc())?;
     let wanted = [SEQUENCES, MISSING_TEMPERATURE];
     parts_into(&rt, rt.alloc(), &tables, COMPRESSED_PAIR, wanted)
-}
-
-#[test]
-fn listing_read(rt: HostRuntime) -> Result<(), Fail> {
-    let alloc = rt.alloc();
-    let tables = tables(alloc)?;
-    let messages = repeated!(read(alloc, &tables, SEQUENCES_LISTED))?;
-    let [message] = messages.as_slice() else {
-        return Err("one message".into());
-    };
-    assert_written(&rt, alloc, &tables, message, SEQUENCES)
 }
 
 /// What writing the listing of a message to a fresh writer with room answers, and what it took.

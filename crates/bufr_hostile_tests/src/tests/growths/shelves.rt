@@ -80,6 +80,19 @@ fn assert_holds<S: Shelf>(rt: &impl Abort, shelf: &S, wanted: &[&[u8]]) {
     assert!(rt; next.is_none());
 }
 
+/// A later report is put in the place of the first, which then changes nothing.
+fn put_again<S: Shelf>(rt: &impl Abort, alloc: Global, shelf: &mut S) -> Result<(), Fail> {
+    let rows: [(u8, &'static [u8], bool); 2] = [(1, b"later", true), (0, b"seven", false)];
+    for (update, octets, changes) in rows {
+        same(
+            rt,
+            put(rt, alloc, shelf, (Some(7), update, octets))?,
+            changes,
+        );
+    }
+    Ok(())
+}
+
 /// Reports are put, a later one in the place of the first.
 fn puts<S: Shelf>(rt: &impl Abort, alloc: Global) -> Result<(), Fail> {
     let reports: [Put; 3] = [
@@ -88,8 +101,7 @@ fn puts<S: Shelf>(rt: &impl Abort, alloc: Global) -> Result<(), Fail> {
         (Some(5), 0, b"five".as_slice()),
     ];
     let mut shelf: S = shelf_of(rt, alloc, &reports)?;
-    assert!(rt; put(rt, alloc, &mut shelf, (Some(7), 1, b"later".as_slice()))?);
-    assert!(rt; !put(rt, alloc, &mut shelf, (Some(7), 0, b"seven".as_slice()))?);
+    put_again(rt, alloc, &mut shelf)?;
     let wanted: [&[u8]; 3] = [b"five", b"later", b"none"];
     assert_holds(rt, &shelf, &wanted);
     Ok(())
@@ -112,6 +124,16 @@ fn assert_copied<S: Shelf>(rt: &impl Abort, shelf: &S, wanted: &[&[u8]]) -> Resu
     Ok(())
 }
 
+/// A shelf takes in another, which stays, and a copy of it holds the same.
+fn assert_joins<S: Shelf>(rt: &impl Abort, shelf: &mut S, other: &S) -> Result<(), Fail> {
+    join(rt, shelf, other, &[b"seven", b"none"])?;
+    let wanted: [&[u8]; 4] = [b"five", b"later", b"also none", b"none"];
+    assert_holds(rt, shelf, &wanted);
+    let held: [&[u8]; 3] = [b"five", b"later", b"also none"];
+    assert_holds(rt, other, &held);
+    assert_copied(rt, shelf, &wanted)
+}
+
 /// Two shelves are joined: after a refusal both hold what they held.
 fn joins<S: Shelf>(rt: &impl Abort, alloc: Global) -> Result<(), Fail> {
     let first: [Put; 2] = [
@@ -125,12 +147,7 @@ fn joins<S: Shelf>(rt: &impl Abort, alloc: Global) -> Result<(), Fail> {
     ];
     let mut shelf: S = shelf_of(rt, alloc, &first)?;
     let other: S = shelf_of(rt, alloc, &second)?;
-    join(rt, &mut shelf, &other, &[b"seven", b"none"])?;
-    let wanted: [&[u8]; 4] = [b"five", b"later", b"also none", b"none"];
-    assert_holds(rt, &shelf, &wanted);
-    let held: [&[u8]; 3] = [b"five", b"later", b"also none"];
-    assert_holds(rt, &other, &held);
-    assert_copied(rt, &shelf, &wanted)
+    assert_joins(rt, &mut shelf, &other)
 }
 
 /// Gathers a report: after a refusal the others are still there, and it is put again.
@@ -165,23 +182,29 @@ fn shelf_gathered(alloc: Global, reports: &[Put]) -> Result<SortedShelf, Fail> {
     }
 }
 
+/// Reports in any order, one of them twice.
+const REPORTS: [Put; 5] = [
+    (Some(7), 0, b"seven"),
+    (None, 0, b"none"),
+    (Some(7), 1, b"later"),
+    (Some(5), 0, b"five"),
+    (Some(7), 0, b"seven"),
+];
+
+/// The octets of a shelf of those reports, gathered again where they were refused.
+fn octets_gathered(alloc: Global, shelf: SortedShelf) -> Result<Vec<u8>, Fail> {
+    match shelf.into_octets() {
+        Ok(octets) => Ok(octets),
+        Err(_) => Ok(shelf_gathered(alloc, &REPORTS)?.into_octets()?),
+    }
+}
+
 #[test]
 fn gathered_in_any_order(rt: HostRuntime) -> Result<(), Fail> {
-    let alloc = rt.alloc();
-    let reports: [Put; 5] = [
-        (Some(7), 0, b"seven".as_slice()),
-        (None, 0, b"none".as_slice()),
-        (Some(7), 1, b"later".as_slice()),
-        (Some(5), 0, b"five".as_slice()),
-        (Some(7), 0, b"seven".as_slice()),
-    ];
-    let shelf = shelf_gathered(alloc, &reports)?;
+    let shelf = shelf_gathered(rt.alloc(), &REPORTS)?;
     let wanted: [&[u8]; 3] = [b"five", b"later", b"none"];
     assert_holds(&rt, &shelf, &wanted);
-    let octets = match shelf.into_octets() {
-        Ok(octets) => octets,
-        Err(_) => gathered(alloc, &reports)?.into_shelf()?.into_octets()?,
-    };
+    let octets = octets_gathered(rt.alloc(), shelf)?;
     same(&rt, octets.as_slice(), b"fivelaternone".as_slice());
     Ok(())
 }
