@@ -4,6 +4,7 @@ mod compressed;
 mod data;
 mod forms;
 mod index;
+mod lent;
 mod samples;
 mod values;
 
