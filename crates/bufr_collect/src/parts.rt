@@ -82,7 +82,7 @@ pub(crate) fn write_merged<W: Sink>(
     writer: &mut W,
 ) -> Result<(), ToolFault>
     requires { (W.writing writer.old).failed ≡ false }
-    ensures { WritesAfter 0 (joined left) (W.writing writer.old) (W.writing writer.new) result }
+    ensures { WritesAfter 0 (joined left.entry) (W.writing writer.old) (W.writing writer.new) result }
 {
     // No more than can be counted.
     let _count = left.len();

@@ -1,5 +1,5 @@
 -- The clause `merged` of `merged_octets`: of the origins that were told what is kept is handed out.
-use Rattle.std.proofs.Common.{◌≡◌, ℕ, List, sym, ap, subst, ◌∙◌}
+use Rattle.std.proofs.Common.{ℕ, List, sym, ap, subst, ◌∙◌}
 use Rattle.bufr_tables.specs.Entries.{Entries}
 use Rattle.bufr_archive.specs.ArchiveTexts.{AreInOrder, AreLeft}
 use Rattle.bufr_archive.specs.MergedOctets.{handed_out}

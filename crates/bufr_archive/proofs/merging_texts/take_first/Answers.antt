@@ -1,5 +1,5 @@
 -- The clause `takes` of `take_first`: of which text the first entry is taken, or of both.
-use Rattle.std.proofs.Common.{List, drop, sym, subst}
+use Rattle.std.proofs.Common.{drop, sym, subst}
 use Rattle.bufr_tables.specs.Entries.{Entries}
 use Rattle.bufr_archive.specs.ArchiveTexts.{AreLeft}
 use Rattle.bufr_archive.proofs.TextMergeFacts.{left_taken, right_taken, both_taken}

@@ -1,11 +1,20 @@
 -- The clauses of `write_merged`: entry after entry, and then what is left of them.
-use Rattle.std.proofs.Common.{ℕ, List, subst}
+use Rattle.std.proofs.Common.{◌<◌, ℕ, List, length, refl, subst, arith}
 use Rattle.bufr_bits.specs.Devices.{Writing}
 use Rattle.bufr_io.specs.Engines.{WritesAfter}
 use Rattle.bufr_collect.specs.Parts.{joined}
 use Rattle.bufr_collect.proofs.FrameFacts.{passed}
-use Rattle.bufr_collect.proofs.PartFacts.{handed_next, handed_fails, handed_all}
+use Rattle.bufr_collect.proofs.PartFacts.{handed_first, handed_next, handed_fails, handed_all}
 use Rattle.bufr_collect.proofs.parts.write_merged.Goals as goal
+
+-- at first none was handed out
+pub loop-octets-init : goal.loop-octets-init
+loop-octets-init g c =
+    let few : length c.args.left < 18446744073709551616 =
+    omega (arith, c.len-count.ensures, c.len-count.type_inv) in
+    handed_first (g.W.Sink.writing c.args.writer.now)
+    (record { octets = c.clear.new.self; written = 0 }) c.args.left c.requires refl
+    c.clear.ensures.items few
 
 -- the writer failed at the octets of an entry
 pub returns-in_err-hand_on : goal.returns-in_err-hand_on

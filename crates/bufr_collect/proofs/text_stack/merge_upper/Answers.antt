@@ -29,8 +29,8 @@ loop-below-preserved c =
     c.pop_upper.ensures.taken c.in-Some.is c.in_ok-merge.ensures.ok
 
 -- the lowest is under the tables of the one that was merged of those above it
-pub returns-in-Some-clause-same : goal.returns-in-Some-clause-same
-returns-in-Some-clause-same c =
+pub returns-in-Some-pop-clause-same : goal.returns-in-Some-pop-clause-same
+returns-in-Some-pop-clause-same c =
     (two_together c.args.tables.now c.args.texts.items c.pop_upper.new.texts.items
     c.pop.new.self.items c.loop-below.top c.in-Some-pop.lowest c.new-top.result c.pop.result
     (none_left c.args.tables.now c.args.texts.items c.new-top.result c.loop-below.texts.items
@@ -40,8 +40,8 @@ returns-in-Some-clause-same c =
     (ap (λ (a : ArchiveView). a.entries) c.new-top.ensures)).0
 
 -- and together they hold what all held
-pub returns-in-Some-clause-all : goal.returns-in-Some-clause-all
-returns-in-Some-clause-all c =
+pub returns-in-Some-pop-clause-all : goal.returns-in-Some-pop-clause-all
+returns-in-Some-pop-clause-all c =
     (two_together c.args.tables.now c.args.texts.items c.pop_upper.new.texts.items
     c.pop.new.self.items c.loop-below.top c.in-Some-pop.lowest c.new-top.result c.pop.result
     (none_left c.args.tables.now c.args.texts.items c.new-top.result c.loop-below.texts.items
@@ -51,8 +51,8 @@ returns-in-Some-clause-all c =
     (ap (λ (a : ArchiveView). a.entries) c.new-top.ensures)).1
 
 -- where none is left, a new one is
-pub returns-in-None-clause-same : goal.returns-in-None-clause-same
-returns-in-None-clause-same c =
+pub returns-clause-same : goal.returns-clause-same
+returns-clause-same c =
     (one_together c.args.tables.now c.args.texts.items c.pop_upper.new.texts.items
     c.pop.new.self.items c.loop-below.top c.new.result c.new-top.result c.pop.result
     (none_left c.args.tables.now c.args.texts.items c.new-top.result c.loop-below.texts.items
@@ -64,8 +64,8 @@ returns-in-None-clause-same c =
     (ap (λ (a : ArchiveView). a.entries) c.new-top.ensures) c.new.ensures).0
 
 -- and it holds nothing
-pub returns-in-None-clause-all : goal.returns-in-None-clause-all
-returns-in-None-clause-all c =
+pub returns-clause-all : goal.returns-clause-all
+returns-clause-all c =
     (one_together c.args.tables.now c.args.texts.items c.pop_upper.new.texts.items
     c.pop.new.self.items c.loop-below.top c.new.result c.new-top.result c.pop.result
     (none_left c.args.tables.now c.args.texts.items c.new-top.result c.loop-below.texts.items

@@ -1,5 +1,5 @@
 -- The clauses of `put_above`: what was there was settled, and the text was put on it.
-use Rattle.std.proofs.Common.{◌≡◌, ◌++◌, ◌∷◌, [], List, sym, subst}
+use Rattle.std.proofs.Common.{◌≡◌, sym, subst}
 use Rattle.std.proofs.lemmas.List.Elements.{All-push}
 use Rattle.bufr_archive.specs.Archives.{ArchiveView}
 use Rattle.bufr_collect.specs.Stacks.{AreUnderTables}
