@@ -1,7 +1,7 @@
 -- What an engine over a stream answers at each of its ends: the last step to the contracts of
 -- `run_show` and `run_check`.
-use Rattle.std.proofs.Common.{◌≡◌, ℕ, false, Option, Some, None, List, [], ◌++◌, length}
-use Rattle.std.proofs.Common.{drop, Result, Ok, Err, sym, subst, IfSome}
+use Rattle.std.proofs.Common.{◌≡◌, ℕ, ◌≤◌, false, Option, Some, None, List, [], ◌++◌, length}
+use Rattle.std.proofs.Common.{drop, Result, Ok, Err, sym, subst, arith, IfSome}
 use Rattle.bufr_bits.specs.Devices.{Reading, Writing}
 use Rattle.bufr_tables.specs.Entries.{Entries}
 use Rattle.bufr_frame.specs.declared.frames.Found.{Found}
@@ -86,6 +86,14 @@ prints_unread printing tables reads old mid new pieces after first now framer p
       between_text printing tables reads old mid pieces first now framer p b,
     )
 prints_unread printing tables reads old mid new pieces after first now framer p e b r = absurd r
+
+-- so many reads were made at the most
+pub unread_bounded : (reads : ℕ) (old new : Reading) (after : Pieces) (read : List ℕ)
+    (e : ToolFault) → ReadsOn (Number 1) reads old new after read (Err e) → new.reads ≤ reads
+unread_bounded reads old new after read (faults.ReadFailed which) r = r.3
+unread_bounded reads old new after read (faults.EndlessInput which) r =
+    let all = r.1.reads in omega arith
+unread_bounded reads old new after read e r = absurd r
 
 -- a front of what is printed of sure frames is one of what is printed of the whole stream
 front_of_all : (printing : Printing) (tables : Entries) (left now : Option (List ℕ)) (read : List ℕ)
