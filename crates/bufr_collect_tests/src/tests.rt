@@ -59,7 +59,7 @@ const EDITION_5: &[u8] = b"BUFR\x00\x00\x0C\x057777";
 
 /// A reader that gives so many octets a read; where `breaks` is told, it fails at its end. It
 /// remembers the most that a read asked for.
-#[derive(Debug, Drop)]
+#[derive(Drop)]
 struct Pieces {
     octets: Vec<u8>,
     place: usize,
@@ -321,7 +321,7 @@ fn failing_and_endless_readers(rt: HostRuntime) -> Result<(), Fail> {
 }
 
 /// A writer that takes so many octets, and then fails, at the flush too.
-#[derive(Debug, Drop)]
+#[derive(Drop)]
 struct Narrow {
     taken: Vec<u8>,
     room: usize,
@@ -383,18 +383,28 @@ fn assert_broken(
     assert!(rt; text.starts_with(taken));
 }
 
+/// The writer fails after each number of octets of the text.
+fn assert_all_broken(
+    rt: &impl Abort,
+    alloc: Global,
+    tables: &Tables,
+    merging: bool,
+    text: &[u8],
+) -> Result<(), Fail> {
+    for room in 0usize..125 {
+        let (answer, taken) = broken_after(alloc, tables, merging, room)?;
+        assert_broken(rt, room, answer, &taken, text);
+    }
+    Ok(())
+}
+
 #[test]
 fn failing_writer(rt: HostRuntime) -> Result<(), Fail> {
     let alloc = rt.alloc();
     let tables = tables(alloc)?;
     let text = joined(alloc, &[UPDATE, MONTH_13])?;
-    for room in 0usize..125 {
-        for merging in [false, true] {
-            let (answer, taken) = broken_after(alloc, &tables, merging, room)?;
-            assert_broken(&rt, room, answer, &taken, &text);
-        }
-    }
-    Ok(())
+    assert_all_broken(&rt, alloc, &tables, false, &text)?;
+    assert_all_broken(&rt, alloc, &tables, true, &text)
 }
 
 /// An archive of one report, of a station of this number.

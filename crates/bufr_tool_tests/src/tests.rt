@@ -140,7 +140,7 @@ fn refusals(rt: HostRuntime) -> Result<(), Fail> {
 }
 
 /// A writer that takes so many octets, one by one, and then fails; or fails when it is flushed.
-#[derive(Debug, Drop)]
+#[derive(Drop)]
 struct Breaks {
     taken: Vec<u8>,
     room: usize,
@@ -205,7 +205,7 @@ fn failing_writer(rt: HostRuntime) -> Result<(), Fail> {
 }
 
 /// A reader that gives one octet a read, so often, and then fails or meets its end.
-#[derive(Debug, Drop)]
+#[derive(Drop)]
 struct Drips {
     octets: usize,
     breaks: bool,

@@ -6,7 +6,7 @@ use bufr_bits::{Failed, Sink, Source};
 use std::alloc::Global;
 
 /// What a reader does when its octets are all given.
-#[derive(Clone, Copy, Debug, Drop, PartialEq, Eq)]
+#[derive(Clone, Copy, Drop, PartialEq, Eq)]
 pub(super) enum End {
     /// It meets its end.
     Met,
@@ -15,7 +15,7 @@ pub(super) enum End {
 }
 
 /// A reader that gives its octets in pieces of so many.
-#[derive(Debug, Drop)]
+#[derive(Drop)]
 pub(super) struct Pieces<'a> {
     octets: &'a [u8],
     most: usize,
@@ -78,7 +78,7 @@ impl Source for Pieces<'_> {
 }
 
 /// A reader that gives one octet a read, without end.
-#[derive(Debug, Drop)]
+#[derive(Drop)]
 pub(super) struct Endless {
     octet: u8,
     reads: u64,
@@ -110,7 +110,7 @@ impl Source for Endless {
 }
 
 /// A writer that takes so many octets, some at a time, and then fails.
-#[derive(Debug, Drop)]
+#[derive(Drop)]
 pub(super) struct Narrow {
     taken: Vec<u8>,
     room: usize,

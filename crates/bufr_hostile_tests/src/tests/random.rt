@@ -3,7 +3,7 @@
 ghost use Rattle.std.specs.Prelude.{◌≤◌};
 
 /// A linear congruential generator: the same numbers from the same seed.
-#[derive(Clone, Copy, Debug, Drop)]
+#[derive(Drop)]
 pub(super) struct Numbers {
     state: u64,
 }

@@ -29,7 +29,7 @@ const SUBSET: &[u8] = b"subset\n001001 10\n";
 
 /// A writer that takes so many octets and then fails. It counts the pieces that it takes whole, and
 /// remembers how long the longest is.
-#[derive(Debug, Drop)]
+#[derive(Drop)]
 struct Pieces {
     taken: Vec<u8>,
     room: usize,

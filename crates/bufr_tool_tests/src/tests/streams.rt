@@ -29,7 +29,7 @@ fn two_frames_and_a_stray(alloc: Global) -> Result<Vec<u8>, Fail> {
 /// A reader that gives so many octets a read, first the front of its octets up to a place, then the
 /// others; where `breaks` is told, it fails at its end. It remembers the most that a read asked
 /// for.
-#[derive(Debug, Drop)]
+#[derive(Drop)]
 struct Pieces<'a> {
     octets: &'a [u8],
     cut: usize,
@@ -248,7 +248,7 @@ fn thousand_refused(rt: HostRuntime) -> Result<(), Fail> {
 
 /// A reader that gives a piece again and again, so often. It remembers the most that a read asked
 /// for.
-#[derive(Debug, Drop)]
+#[derive(Drop)]
 struct Again<'a> {
     piece: &'a [u8],
     times: u64,
@@ -355,7 +355,7 @@ fn reads_of_65536_octets(rt: HostRuntime) -> Result<(), Fail> {
 }
 
 /// A writer that takes so many octets, three at most at a time, and then fails, at the flush too.
-#[derive(Debug, Drop)]
+#[derive(Drop)]
 struct Narrow {
     taken: Vec<u8>,
     room: usize,
