@@ -1,6 +1,6 @@
 -- What `add_streams` and `merge_readers` keep from reader to reader, and what the engines answer:
 -- for the contracts of `run_add` and `run_merge`.
-use Rattle.std.proofs.Common.{◌≡◌, ℕ, suc, ◌+◌, ◌*◌, ◌<◌, ◌≤◌, List, [], ◌∷◌, ◌++◌, length, Result}
+use Rattle.std.proofs.Common.{◌≡◌, ℕ, suc, ◌+◌, ◌*◌, ◌≤◌, List, [], ◌∷◌, ◌++◌, length}
 use Rattle.std.proofs.Common.{Ok, Err, refl, sym, ap, ◌∙◌, subst, arith, length-append}
 use Rattle.std.proofs.lemmas.List.{append-nil}
 use Rattle.std.proofs.lemmas.Grind.{flat_map-append}
@@ -22,7 +22,7 @@ use Rattle.bufr_io.specs.declared.fault.Tally.{Tally}
 use Rattle.bufr_io.specs.declared.fault.Input.TheVariants.{Number}
 use Rattle.bufr_io.specs.declared.fault.ToolFault.{ToolFault}
 use Rattle.bufr_io.specs.declared.fault.ToolFault.TheVariants as faults
-use Rattle.bufr_io.specs.Engines.{WasReadOut, HasFailed, IsEndless, AreAllOf, WritesAll}
+use Rattle.bufr_io.specs.Engines.{HasFailed, IsEndless, WritesAll}
 use Rattle.bufr_io.specs.Engines.{WritesAfter, FailsAfter}
 use Rattle.bufr_io.specs.Limits.{most_reads}
 use Rattle.bufr_collect.specs.declared.counts.Counts.{Counts}

@@ -1,10 +1,9 @@
 -- The messages of frames added to an archive one after the other: the steps of `add_frame` and
 -- `add_frames`, for the contract of `run_add`; and what is kept of reports and of more, for that of
 -- `run_merge` too.
-use Rattle.std.proofs.Common.{◌≡◌, ℕ, ◌+◌, ◌<◌, ◌≤◌, List, [], ◌∷◌, ◌++◌, length, take, drop}
-use Rattle.std.proofs.Common.{Option, Some, Result, Ok, Err, IsErrAnd, IfSome, OnOk, map, get_or}
-use Rattle.std.proofs.Common.{refl, sym, ap, ◌∙◌, subst, arith, length-append, append_assoc}
-use Rattle.std.proofs.Common.{take-append-drop}
+use Rattle.std.proofs.Common.{◌≡◌, ℕ, ◌+◌, ◌<◌, ◌≤◌, List, [], ◌∷◌, ◌++◌, length, take}
+use Rattle.std.proofs.Common.{Option, Some, Result, Ok, Err, IsErrAnd, IfSome, OnOk, get_or}
+use Rattle.std.proofs.Common.{sym, ap, ◌∙◌, subst, arith, length-append, append_assoc}
 use Rattle.std.specs.Prelude.{option_to_list}
 use Rattle.std.specs.List.{slice_index_or}
 use Rattle.std.proofs.lemmas.List.{append-nil, map-append, take_more}

@@ -1,14 +1,13 @@
 -- The messages of a stream added to an archive as its pieces come: the steps of `add_piece`,
 -- `add_rest` and `add_stream`, for the contract of `run_add`.
 use Rattle.std.proofs.Common.{◌≡◌, ℕ, ◌+◌, ◌*◌, ◌^◌, ◌<◌, ◌≤◌, List, [], ◌∷◌, ◌++◌, length, drop}
-use Rattle.std.proofs.Common.{Ok, Err, sym, ap, ◌∙◌, subst, arith, length-append, append_assoc}
+use Rattle.std.proofs.Common.{Err, sym, ap, ◌∙◌, subst, arith, length-append, append_assoc}
 use Rattle.std.proofs.lemmas.List.{append-nil}
 use Rattle.bufr_bits.specs.Devices.{Reading}
 use Rattle.bufr_tables.specs.Entries.{Entries}
 use Rattle.bufr_frame.specs.declared.frames.Found.{Found}
 use Rattle.bufr_frame.specs.Framings.{Framing}
 use Rattle.bufr_frame.specs.Streams.{cut, sure, Stands}
-use Rattle.bufr_frame.specs.StreamLaws.{cut-end}
 use Rattle.bufr_frame.specs.NextFrames.{taken_in, IsRestOf, IsNextFrame, IsNoFrame, StandsAfter}
 use Rattle.bufr_frame.specs.NextFrames.{AreLast, HandedOut, IsBetweenCalls}
 use Rattle.bufr_frame.specs.FrameBounds.{sure_few, cut_few}

@@ -1,10 +1,9 @@
 -- Any way of adding and merging writes what one `add` of all streams would: for the law
 -- `any_way_writes_the_same`.
 use Rattle.std.proofs.Common.{◌≡◌, ℕ, List, [], ◌∷◌, ◌++◌, map, refl, sym, ap, subst, ◌∙◌}
-use Rattle.std.specs.List.{flat_map, AllByRecursion}
+use Rattle.std.specs.List.{AllByRecursion}
 use Rattle.bufr_tables.specs.Entries.{Entries}
 use Rattle.bufr_sections.specs.Sections.{AreOctets}
-use Rattle.bufr_message.specs.declared.report.Report.{Report}
 use Rattle.bufr_message.specs.Reports.{IsUnder}
 use Rattle.bufr_archive.specs.Texts.{text}
 use Rattle.bufr_archive.specs.ReportEntries.{AreUnder}

@@ -1,13 +1,8 @@
 -- What the engines over archives answer and do.
-use Rattle.std.specs.Prelude.{◌≡◌, ℕ, ◌+◌, IfSome, Result, Ok, Err, List, ◌++◌, length}
+use Rattle.std.specs.Prelude.{◌≡◌, ℕ, Result, Ok, Err, List}
 use Rattle.bufr_bits.specs.Devices.{Reading, Writing}
 use Rattle.bufr_tables.specs.Entries.{Entries}
-use Rattle.bufr_frame.specs.declared.frames.Found.{Found}
-use Rattle.bufr_frame.specs.Framings.{Framing}
-use Rattle.bufr_frame.specs.Streams.{cut, sure}
-use Rattle.bufr_frame.specs.NextFrames.{HandedOut}
 use Rattle.bufr_message.specs.declared.report.Report.{Report}
-use Rattle.bufr_archive.specs.Archives.{ArchiveView}
 use Rattle.bufr_io.specs.declared.fault.Input.{Input}
 use Rattle.bufr_io.specs.declared.fault.Input.TheVariants.{TableB, TableD, Number}
 use Rattle.bufr_io.specs.declared.fault.Tally.{Tally}
@@ -15,10 +10,9 @@ use Rattle.bufr_io.specs.declared.fault.ToolFault.{ToolFault}
 use Rattle.bufr_io.specs.declared.fault.ToolFault.TheVariants as faults
 use Rattle.bufr_io.specs.Engines.{WasReadOut, HasFailed, IsEndless, AreAllOf, WritesAll}
 use Rattle.bufr_io.specs.Engines.{FailsAfter}
-use Rattle.bufr_collect.specs.declared.counts.Counts.{Counts}
-use Rattle.bufr_archive.specs.ReportTexts.{archive_of, BreaksAt}
-use Rattle.bufr_collect.specs.Collected.{refused_of, frames_of, collected_text}
-use Rattle.bufr_collect.specs.Collected.{collected_tally, AreTextsOf, all_of, merged_text}
+use Rattle.bufr_archive.specs.ReportTexts.{BreaksAt}
+use Rattle.bufr_collect.specs.Collected.{collected_text}
+use Rattle.bufr_collect.specs.Collected.{collected_tally, AreTextsOf, merged_text}
 use Rattle.bufr_collect.specs.Collected.{merged_tally}
 use Rattle.bufr_collect.specs.Readers.{WereReadOut, EndsAt}
 

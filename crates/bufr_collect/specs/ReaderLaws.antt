@@ -1,5 +1,5 @@
 -- Lists of readers that grow: what a caller needs to hand a list of fresh readers to the engines.
-use Rattle.std.proofs.Common.{◌≡◌, List, [], ◌∷◌, ◌++◌, map}
+use Rattle.std.proofs.Common.{List, [], ◌∷◌, ◌++◌, map}
 use Rattle.bufr_bits.specs.Devices.{Reading}
 use Rattle.bufr_io.specs.Engines.{IsFresh}
 use Rattle.bufr_collect.specs.Readers.{AreFresh}

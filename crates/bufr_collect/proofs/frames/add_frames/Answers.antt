@@ -1,5 +1,5 @@
 -- The clauses of `add_frames`: frame by frame, with counts that stay within their word.
-use Rattle.std.proofs.Common.{◌+◌, ◌++◌, ◌<◌, length, take, subst, arith, length-append}
+use Rattle.std.proofs.Common.{◌++◌, take, subst, arith, length-append}
 use Rattle.std.proofs.lemmas.List.{length-take}
 use Rattle.bufr_collect.specs.Adds.{HasAdded}
 use Rattle.bufr_collect.proofs.FrameFacts.{refused_at_most, taken_to}

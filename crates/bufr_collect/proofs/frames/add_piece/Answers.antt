@@ -2,7 +2,7 @@
 use Rattle.std.proofs.Common.{◌≡◌, ◌++◌, ◌∷◌, [], arith, length-append, None}
 use Rattle.bufr_frame.specs.Streams.{sure}
 use Rattle.bufr_collect.proofs.FrameFacts.{refused_at_most, some_is}
-use Rattle.bufr_collect.proofs.StreamFacts.{amid_first, amid_fits, amid_more, amid_none, amid_room}
+use Rattle.bufr_collect.proofs.StreamFacts.{amid_fits, amid_more, amid_none, amid_room}
 use Rattle.bufr_collect.proofs.frames.add_piece.Goals as goal
 
 -- the octets taken in and those left of the piece can be counted

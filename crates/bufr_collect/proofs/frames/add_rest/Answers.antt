@@ -1,8 +1,6 @@
 -- The clause of `add_rest`: the frames that come with the end of a stream, added after the others.
-use Rattle.std.proofs.Common.{◌++◌, List, length, arith, ap, subst, ◌∙◌, length-append}
-use Rattle.bufr_frame.specs.declared.frames.Found.{Found}
-use Rattle.bufr_frame.specs.Streams.{cut, sure}
-use Rattle.bufr_collect.specs.Adds.{HasAdded}
+use Rattle.std.proofs.Common.{length, arith, ap, length-append}
+use Rattle.bufr_frame.specs.Streams.{sure}
 use Rattle.bufr_collect.proofs.FrameFacts.{ok_then}
 use Rattle.bufr_collect.proofs.StreamFacts.{rest_few, rest_added}
 use Rattle.bufr_collect.proofs.frames.add_rest.Goals as goal

@@ -1,5 +1,5 @@
 -- The clauses of `merge_readers`: reader by reader, until one is no archive or cannot be read.
-use Rattle.std.proofs.Common.{◌<◌, ◌+◌, length, map, arith, slice_set, Result}
+use Rattle.std.proofs.Common.{◌<◌, length, map, arith, slice_set, Result}
 use Rattle.std.proofs.lemmas.List.{map-set}
 use Rattle.bufr_answers.specs.Answers.{result_map}
 use Rattle.bufr_archive.specs.Archives.{ArchiveView}

@@ -1,5 +1,5 @@
 -- The clauses of `add_stream`: piece by piece, with counts that the number of reads bounds.
-use Rattle.std.proofs.Common.{◌+◌, ◌≤◌, ◌++◌, length, arith, length-append}
+use Rattle.std.proofs.Common.{◌++◌, arith, length-append}
 use Rattle.bufr_collect.specs.Adds.{AddsStream}
 use Rattle.bufr_collect.proofs.FrameFacts.{passed}
 use Rattle.bufr_collect.proofs.StreamFacts.{nothing_read, adds_unread, cut_bounded}

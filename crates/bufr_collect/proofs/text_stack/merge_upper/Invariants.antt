@@ -1,5 +1,5 @@
 -- The loop of `merge_upper`: the texts that are left, and the one that was merged of those above them.
-use Rattle.std.proofs.Common.{◌≡◌, length}
+use Rattle.std.proofs.Common.{length}
 use Rattle.bufr_collect.proofs.StackFacts.{HoldTogether}
 use Rattle.bufr_collect.proofs.text_stack.merge_upper.Given as goal
 

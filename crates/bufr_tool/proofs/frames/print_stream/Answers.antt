@@ -1,5 +1,5 @@
 -- The clause `prints` of `print_stream`: piece by piece, until none is left or printing stops.
-use Rattle.std.proofs.Common.{◌≡◌, ◌+◌, ◌≤◌, ◌++◌, length, arith, length-append}
+use Rattle.std.proofs.Common.{◌++◌, arith, length-append}
 use Rattle.bufr_io.specs.declared.fault.ToolFault.TheVariants as faults
 use Rattle.bufr_tool.specs.StreamEngines.{Prints}
 use Rattle.bufr_tool.proofs.PrintingFacts.{passed}
