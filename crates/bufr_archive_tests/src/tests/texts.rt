@@ -41,13 +41,14 @@ fn assert_merged(rt: &impl Abort, alloc: Global, left: Reports, right: Reports, 
     same(rt, first.into_octets().as_slice(), text.as_slice());
 }
 
-/// Entries of one text and of the other, and of both, of which the one or the other is greater.
+/// Entries of one text and of the other, and of both, of which the one or the other is greater, or
+/// neither.
 #[test]
 fn texts_merged(rt: HostRuntime) {
     let alloc = rt.alloc();
-    let left = [(300, 0), (384, 2), (1005, 0)];
-    let right = [(384, 1), (385, 0), (1005, 3)];
-    let both = [(300, 0), (384, 2), (385, 0), (1005, 3)];
+    let left = [(300, 0), (384, 2), (900, 0), (1005, 0)];
+    let right = [(384, 1), (385, 0), (900, 3), (1005, 0)];
+    let both = [(300, 0), (384, 2), (385, 0), (900, 3), (1005, 0)];
     assert_merged(&rt, alloc, &left, &right, &both);
     assert_merged(&rt, alloc, &right, &left, &both);
     assert_merged(&rt, alloc, &both, &left, &both);
