@@ -67,9 +67,10 @@ none_within P (suc k) (nodes.Element d row ∷ ns) e =
 none_within P (suc k) (nodes.Untouched d row ∷ ns) e =
     let both = not_so (P d) (none P ns) e in (both.0, none_within P k ns both.1)
 none_within P (suc k) (nodes.Operator d ∷ ns) e = none_within P k ns e
-none_within P (suc k) (nodes.Repeated times len ∷ ns) e =
-    (none_within P k (take len ns) (none_first P len ns e),
-      none_within P k (drop len ns) (none_behind P len ns e))
+none_within P (suc k) (nodes.Repeated times len ∷ ns) e = (
+  none_within P k (take len ns) (none_first P len ns e),
+  none_within P k (drop len ns) (none_behind P len ns e),
+)
 none_within P (suc k) (nodes.Delayed d row len ∷ ns) e =
     let both = not_so (P d) (none P ns) e in (
       both.0,

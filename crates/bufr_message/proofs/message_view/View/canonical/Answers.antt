@@ -41,8 +41,12 @@ returns c =
     let last = rw (← c.self.view_is) at c.requires.last in
     let below : c.args.number - 1 < length v.subsets = omega (arith, last, c.requires.first) in
     let spelt =
-    rw (c.of_head-head.ensures, c.as_slice-descriptors.ensures, c.deref.ensures,
-    c.deref-2.ensures.value) at c.enclosed_alone-2.ensures in
+    rw (
+      c.of_head-head.ensures,
+      c.as_slice-descriptors.ensures,
+      c.deref.ensures,
+      c.deref-2.ensures.value,
+    ) at c.enclosed_alone-2.ensures in
     rw (← c.self.view_is)
     (spelt_there m (c.args.number - 1) c.in_ok-contents.contents.items (λ v. v.items)
     c.enclosed_alone-2.result below c.self.invariant c.in_ok-contents.ensures spelt)
