@@ -1,6 +1,6 @@
 //! What the engines answer and write. Octets are typed from the layouts of messages.
 
-ghost use Rattle.std.specs.Prelude.{◌≡◌, ◌≤◌, None, Some, false, IfOk, map};
+ghost use Rattle.std.specs.Prelude.{◌≡◌, ◌<◌, ◌≤◌, None, Some, false, IfOk, map};
 ghost use Rattle.bufr_collect.specs.Readers.{AreFresh};
 ghost use Rattle.bufr_io.specs.Limits.{most_reads};
 
