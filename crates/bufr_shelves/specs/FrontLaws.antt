@@ -1,4 +1,4 @@
--- Fronts never tell another order than the keys: for the types that `ShelfBuilder` puts in order.
+-- Fronts never tell another order than the keys: for `PackedKey`.
 use Rattle.std.proofs.Common.{◌≡◌, ℕ, zero, suc, List, [], ◌∷◌, Option, Some, None, ℤ, pos, negsuc}
 use Rattle.std.proofs.Common.{Bool, true, false, cond, refl, sym, ap, arith, ◌∙◌}
 use Rattle.std.specs.Prelude.{int_le, ◌&&◌}
@@ -198,3 +198,9 @@ keys_agree a b =
     (behind_four (nat_cmp a.centre b.centre) (nat_cmp a.category b.category)
     (nat_cmp a.international b.international) (nat_cmp a.local_category b.local_category) _ _
     (places_agree a.station b.station a.moment b.moment (nat_cmp a.sub_centre b.sub_centre)))
+
+-- where fronts tell the order, it is that of the keys
+pub told : (a b : Key) (o : Ordering) → ordering_then o (key_order a b) ≡ o
+    → o ≡ front_cmp (front_of_key a) (front_of_key b) → o ≡ key_order a b
+told a b o ends is =
+    sym ends ∙ ap (λ p. ordering_then p (key_order a b)) is ∙ keys_agree a b

@@ -81,10 +81,3 @@ head_of_key k = record {
 -- the front of a key
 abbrev pub front_of_key : Key → Front
 front_of_key k = record { head = head_of_key k; place = place_of_station k.station k.moment }
-
--- a front that leaves the order of two keys open
-abbrev pub open_front : Front
-open_front = record {
-  head = record { centre = 0; category = 0; international = 0; local_category = 0 };
-  place = Open;
-}

@@ -12,7 +12,7 @@ use crate::shelf::Shelf;
 use bufr_answers::{Items, OutOfMemory};
 use bufr_keys::Key;
 use merge::{merge, room_for};
-use pair::Pair;
+use pair::Boxed;
 use sorted::{at_key, copied, first_pair, next_after, raise};
 use std::alloc::Global;
 use std::marker::Model;
@@ -36,8 +36,8 @@ pub use kept_octets::KeptOctets;
 #[derive(Drop)]
 pub struct SortedShelf {
     alloc: Global,
-    keyed: Vec<Pair<Key, Rank>>,
-    unkeyed: Vec<Pair<Items<u8>, u8>>,
+    keyed: Vec<Boxed<Key, Rank>>,
+    unkeyed: Vec<Boxed<Items<u8>, u8>>,
 }
 
 impl Model for SortedShelf {

@@ -6,13 +6,11 @@ ghost use Rattle.bufr_shelves.specs.Keeping.{kept_by, put_by};
 ghost use Rattle.bufr_shelves.specs.Pairs.{by_key, by_value, AreFalling};
 
 use crate::rank::Exact;
-use crate::sorted_shelf::front::{Front, Fronted};
 use crate::sorted_shelf::merge::{merge, room_for, take_last};
-use crate::sorted_shelf::pair::Pair;
+use crate::sorted_shelf::pair::{Holds, Pair};
 use crate::sorted_shelf::sorted::raise_pair;
 use bufr_answers::OutOfMemory;
 use std::alloc::Global;
-use std::cmp::Ordering;
 use std::marker::Model;
 use std::mem;
 
@@ -28,68 +26,21 @@ const LONG_BATCH: u64 = 33_554_432;
 /// How many octets more may wait for each pair that is in order.
 const OCTETS_A_PAIR: u64 = 64;
 
-/// A pair that waits, and the front of its key.
-#[derive(Drop)]
-pub(crate) struct Waiting<K: Fronted, V> {
-    front: Front,
-    pair: Pair<K, V>,
-}
-
-impl<K: Fronted, V> Model for Waiting<K, V> {
-    ghost use Rattle.std.specs.Prelude.{◌≡◌};
-
-    ghost Value = { K × V };
-
-    ghost view = { λ a. a.pair };
-
-    ghost invariant = { λ a. a.front ≡ K.front_of a.pair.0 };
-}
-
-impl<K: Fronted, V> Waiting<K, V> {
-    /// A pair that waits.
-    fn new(alloc: Global, key: K, value: V) -> Result<Waiting<K, V>, OutOfMemory>
-    where
-        V: Drop,
-        ensures { IfOk result (λ waiting. waiting ≡ (key, value)) }
-    {
-        let front = key.front();
-        let pair = Pair::new(alloc, key, value)?;
-        Ok(Waiting { front, pair })
-    }
-
-    /// The pair.
-    fn into_pair(self) -> Pair<K, V>
-        ensures { result ≡ self }
-    {
-        self.pair
-    }
-
-    /// The order of the keys: of their fronts, and where these leave it open of themselves.
-    fn order(&self, other: &Waiting<K, V>) -> Ordering
-        ensures { result ≡ K.cmp self.now.0 other.now.0 }
-    {
-        match self.front.order(&other.front) {
-            Ordering::Equal => self.pair.key().cmp(other.pair.key()),
-            order => order,
-        }
-    }
-}
-
 /// Pairs of which the one with the greatest value is kept at each key. They may come in any order:
 /// they wait until there are twice as many as were put in order before, or 65,536 and a quarter of
 /// these, are then sorted and merged with these. So a pair takes logarithmic time, and no more wait
 /// than 64 and two for each that is in order (the invariant), nor octets much beyond 32 MiB and 64
 /// for each pair kept.
 #[derive(Drop)]
-pub(crate) struct Batches<K: Fronted, V: Exact> {
+pub(crate) struct Batches<K: Exact, V: Exact, H: Holds<K, V>> {
     alloc: Global,
-    settled: Vec<Pair<K, V>>,
-    fresh: Vec<Pair<K, V>>,
-    waiting: Vec<Waiting<K, V>>,
+    settled: Vec<Pair<K, V, H>>,
+    fresh: Vec<Pair<K, V, H>>,
+    waiting: Vec<Pair<K, V, H>>,
     octets: u64,
 }
 
-impl<K: Fronted, V: Exact> Model for Batches<K, V> {
+impl<K: Exact, V: Exact, H: Holds<K, V>> Model for Batches<K, V, H> {
     ghost use Rattle.std.specs.Prelude.{List, ◌++◌, ◌+◌, ◌*◌, ◌≤◌, vec_len};
     ghost use Rattle.std.specs.List.Sorted.{IsStrictlySortedBy};
     ghost use Rattle.std.specs.Map.{keys_of};
@@ -106,7 +57,7 @@ impl<K: Fronted, V: Exact> Model for Batches<K, V> {
         × (vec_len a.fresh + vec_len a.waiting ≤ 64 + 2 * vec_len a.settled) };
 }
 
-impl<K: Fronted, V: Exact> Batches<K, V> {
+impl<K: Exact, V: Exact, H: Holds<K, V>> Batches<K, V, H> {
     /// No pairs. It takes no memory.
     pub(crate) fn new(alloc: Global) -> Self
         ensures { result ≡ [] }
@@ -143,7 +94,7 @@ impl<K: Fronted, V: Exact> Batches<K, V> {
     }
 
     /// The pairs in order of keys. They are gone where memory was refused.
-    pub(crate) fn into_sorted(mut self) -> Result<Vec<Pair<K, V>>, OutOfMemory>
+    pub(crate) fn into_sorted(mut self) -> Result<Vec<Pair<K, V, H>>, OutOfMemory>
         ensures { IfOk result (λ pairs. pairs.items ≡ self) }
     {
         settle(
@@ -167,27 +118,27 @@ fn are_many(settled: usize, waiting: usize, octets: u64) -> bool
 }
 
 /// Lets one more pair wait.
-fn wait<K: Fronted, V: Exact>(
+fn wait<K: Exact, V: Exact, H: Holds<K, V>>(
     alloc: Global,
-    waiting: &mut Vec<Waiting<K, V>>,
+    waiting: &mut Vec<Pair<K, V, H>>,
     key: K,
     value: V,
 ) -> Result<(), OutOfMemory>
     ensures ok { OnOk result (waiting.new.items ≡ waiting.old.items ++ (key, value) ∷ []) }
     ensures err { OnErr result (waiting.new.items ≡ waiting.old.items) }
 {
-    let one = Waiting::new(alloc, key, value)?;
+    let one = Pair::new(alloc, key, value)?;
     waiting.push(one)?;
     Ok(())
 }
 
 /// Puts all pairs that wait, and those that were taken from them before, among the settled ones.
 /// Where memory was refused some may stand elsewhere, and together they are as they were.
-fn settle<K: Fronted, V: Exact>(
+fn settle<K: Exact, V: Exact, H: Holds<K, V>>(
     alloc: Global,
-    settled: &mut Vec<Pair<K, V>>,
-    fresh: &mut Vec<Pair<K, V>>,
-    waiting: &mut Vec<Waiting<K, V>>,
+    settled: &mut Vec<Pair<K, V, H>>,
+    fresh: &mut Vec<Pair<K, V, H>>,
+    waiting: &mut Vec<Pair<K, V, H>>,
 ) -> Result<(), OutOfMemory>
     requires settled { IsStrictlySortedBy K.cmp (keys_of settled.old.items) }
     requires fresh { IsStrictlySortedBy K.cmp (keys_of fresh.old.items) }
@@ -212,9 +163,9 @@ fn settle<K: Fronted, V: Exact>(
 
 /// Puts the pairs that wait in order, from the last on, which has the least key, and then gives back
 /// the room that they had.
-fn freshen<K: Fronted, V: Exact>(
-    fresh: &mut Vec<Pair<K, V>>,
-    waiting: &mut Vec<Waiting<K, V>>,
+fn freshen<K: Exact, V: Exact, H: Holds<K, V>>(
+    fresh: &mut Vec<Pair<K, V, H>>,
+    waiting: &mut Vec<Pair<K, V, H>>,
 ) -> Result<(), OutOfMemory>
     requires sorted { IsStrictlySortedBy K.cmp (keys_of fresh.old.items) }
     requires falling { AreFalling K.cmp waiting.old.items }
@@ -231,6 +182,6 @@ fn freshen<K: Fronted, V: Exact>(
             waiting.shrink_to_fit();
             return Ok(());
         };
-        raise_pair(fresh, last.into_pair());
+        raise_pair(fresh, last);
     }
 }

@@ -8,6 +8,7 @@ use crate::sorted_shelf::SortedShelf;
 use crate::sorted_shelf::batches::Batches;
 use crate::sorted_shelf::kept_octets::KeptOctets;
 use crate::sorted_shelf::packed_key::{PackedKey, unpacked};
+use crate::sorted_shelf::sorted::boxed;
 use bufr_answers::{Items, OutOfMemory};
 use bufr_keys::Key;
 use std::alloc::Global;
@@ -19,8 +20,8 @@ use std::marker::Model;
 #[derive(Drop)]
 pub struct ShelfBuilder {
     alloc: Global,
-    keyed: Batches<PackedKey, Rank>,
-    unkeyed: Batches<Items<u8>, u8>,
+    keyed: Batches<PackedKey, Rank, (PackedKey, Rank)>,
+    unkeyed: Batches<Items<u8>, u8, (Items<u8>, u8)>,
 }
 
 impl Model for ShelfBuilder {
@@ -77,7 +78,7 @@ impl ShelfBuilder {
         Ok(SortedShelf {
             alloc,
             keyed: unpacked(alloc, keyed.into_sorted()?)?,
-            unkeyed: unkeyed.into_sorted()?,
+            unkeyed: boxed(alloc, unkeyed.into_sorted()?)?,
         })
     }
 

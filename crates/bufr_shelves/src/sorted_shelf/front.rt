@@ -1,12 +1,8 @@
-//! What stands beside a key that waits, and is compared first.
+//! What of a packed key is compared first.
 ghost use Rattle.std.specs.Prelude.{◌≡◌, get_or};
-ghost use Rattle.std.specs.Ordering.{ordering_then};
-ghost use Rattle.bufr_shelves.specs.Fronts.{front_cmp, place_cmp, head_of_key, front_of_key, place_of_station, first_octets, in_two_octets, open_front};
-ghost use Rattle.bufr_shelves.specs.declared.sorted_shelf.front.Front.{Front as AFront};
-ghost use Rattle.bufr_shelves.specs.declared.sorted_shelf.front.FrontPlace.TheVariants.{Wmo};
+ghost use Rattle.bufr_shelves.specs.Fronts.{front_cmp, place_cmp, head_of_key, front_of_key, place_of_station, first_octets, in_two_octets};
+ghost use Rattle.bufr_shelves.specs.declared.sorted_shelf.front.FrontPlace.TheVariants.{Wmo, Mobile};
 
-use crate::rank::Exact;
-use bufr_answers::Items;
 use bufr_keys::{Key, Moment, Station};
 use std::cmp::Ordering;
 
@@ -38,11 +34,11 @@ pub(crate) enum FrontPlace {
     Open,
 }
 
-/// What is compared first of two keys, since it stands beside them and they do not.
+/// What is compared first of two keys, since it stands at hand where they may not.
 #[derive(Clone, Copy, Drop)]
 pub(crate) struct Front {
-    head: FrontHead,
-    place: FrontPlace,
+    pub(crate) head: FrontHead,
+    pub(crate) place: FrontPlace,
 }
 
 impl FrontHead {
@@ -60,11 +56,29 @@ impl FrontHead {
 }
 
 impl Front {
+    /// That of a key.
+    pub(crate) fn of_key(key: &Key) -> Front
+        ensures { result ≡ front_of_key key.now }
+    {
+        Front {
+            head: FrontHead::of_key(key),
+            place: place_of(&key.station, key.moment),
+        }
+    }
+
     /// That of a WMO station whose numbers have room.
     pub(crate) fn of_wmo(head: FrontHead, place: WmoPlace) -> Front
         ensures { result ≡ record { head = head; place = Wmo place } }
     {
         let place = FrontPlace::Wmo(place);
+        Front { head, place }
+    }
+
+    /// That of a mobile name with these first octets.
+    pub(crate) fn of_mobile(head: FrontHead, name: [u8; 8]) -> Front
+        ensures { result ≡ record { head = head; place = Mobile name } }
+    {
+        let place = FrontPlace::Mobile { name };
         Front { head, place }
     }
 
@@ -94,21 +108,6 @@ impl FrontPlace {
             _ => Ordering::Equal,
         }
     }
-}
-
-/// A key with a front that never tells another order than the keys.
-pub(crate) trait Fronted: Exact {
-    /// Its front.
-    ghost front_of: { Self → AFront };
-
-    /// Its front.
-    fn front(&self) -> Front
-        ensures { result ≡ front_of self.now };
-
-    /// Fronts first and then the keys is the order of the keys.
-    ghost agrees: { (a b : Self)
-        → ordering_then (front_cmp (front_of a) (front_of b)) (Self.Ord.cmp a b)
-        ≡ Self.Ord.cmp a b };
 }
 
 /// A number that has room in two octets.
@@ -162,40 +161,5 @@ fn place_of(station: &Station, moment: Moment) -> FrontPlace
         Station::Mobile { name } => FrontPlace::Mobile {
             name: first_eight(name.as_slice()),
         },
-    }
-}
-
-impl Fronted for Key {
-    ghost use Rattle.bufr_shelves.specs.FrontLaws.{keys_agree};
-
-    ghost front_of = { front_of_key };
-
-    ghost agrees = { keys_agree };
-
-    fn front(&self) -> Front {
-        Front {
-            head: FrontHead::of_key(self),
-            place: place_of(&self.station, self.moment),
-        }
-    }
-}
-
-impl Fronted for Items<u8> {
-    ghost use Rattle.std.proofs.Common.{refl};
-
-    ghost front_of = { λ _. open_front };
-
-    ghost agrees = { λ a b. refl };
-
-    fn front(&self) -> Front {
-        Front {
-            head: FrontHead {
-                centre: 0,
-                category: 0,
-                international: 0,
-                local_category: 0,
-            },
-            place: FrontPlace::Open,
-        }
     }
 }

@@ -5,7 +5,7 @@ ghost use Rattle.bufr_shelves.specs.Pairs.{shelved};
 
 use crate::rank::Rank;
 use crate::sorted_shelf::packed_key::PackedKey;
-use crate::sorted_shelf::pair::Pair;
+use crate::sorted_shelf::pair::InLine;
 use bufr_answers::Items;
 use std::marker::Model;
 
@@ -13,8 +13,8 @@ use std::marker::Model;
 /// at a time, and nothing else of it stays. Contracts see the list of those that are left.
 #[derive(Drop)]
 pub struct KeptOctets {
-    keyed: Vec<Pair<PackedKey, Rank>>,
-    unkeyed: Vec<Pair<Items<u8>, u8>>,
+    keyed: Vec<InLine<PackedKey, Rank>>,
+    unkeyed: Vec<InLine<Items<u8>, u8>>,
 }
 
 impl Model for KeptOctets {
@@ -32,8 +32,8 @@ impl Model for KeptOctets {
 impl KeptOctets {
     /// The octets of pairs in order, those with a key first.
     pub(crate) fn new(
-        mut keyed: Vec<Pair<PackedKey, Rank>>,
-        mut unkeyed: Vec<Pair<Items<u8>, u8>>,
+        mut keyed: Vec<InLine<PackedKey, Rank>>,
+        mut unkeyed: Vec<InLine<Items<u8>, u8>>,
     ) -> KeptOctets
         ensures { result ≡ map (λ e. e.bytes) (shelved keyed.items unkeyed.items) }
     {

@@ -9,13 +9,13 @@ ghost use Rattle.bufr_shelves.specs.Merging.{merged, heads_order, greater_of};
 ghost use Rattle.bufr_shelves.specs.Pairs.{by_key, by_value};
 
 use crate::rank::Exact;
-use crate::sorted_shelf::pair::Pair;
+use crate::sorted_shelf::pair::{Holds, Pair};
 use bufr_answers::OutOfMemory;
 use std::alloc::Global;
 use std::cmp::Ordering;
 
 /// So many places at the end of a vector are given back once they are free.
-const FREE_PLACES: usize = 65_536;
+const FREE_PLACES: usize = 8_192;
 
 /// Takes the last member, and gives back much room that is free.
 pub(crate) fn take_last<T>(members: &mut Vec<T>) -> Option<T>
@@ -31,11 +31,11 @@ pub(crate) fn take_last<T>(members: &mut Vec<T>) -> Option<T>
 }
 
 /// An empty vector with room for all pairs of two.
-pub(crate) fn room_for<K, V>(
+pub(crate) fn room_for<K, V, H: Holds<K, V>>(
     alloc: Global,
-    left: &Vec<Pair<K, V>>,
-    right: &Vec<Pair<K, V>>,
-) -> Result<Vec<Pair<K, V>>, OutOfMemory>
+    left: &Vec<Pair<K, V, H>>,
+    right: &Vec<Pair<K, V, H>>,
+) -> Result<Vec<Pair<K, V, H>>, OutOfMemory>
     ensures empty { IfOk result (λ room. room.items ≡ []) }
     ensures room { IfOk result (λ room. vec_len left.now + vec_len right.now ≤ vec_capacity room) }
 {
@@ -44,10 +44,10 @@ pub(crate) fn room_for<K, V>(
 
 /// Merges pairs into others, of each key the one with the greater value: all are moved into the
 /// room, which then takes the place of the first.
-pub(crate) fn merge<K: Exact, V: Exact>(
-    left: &mut Vec<Pair<K, V>>,
-    mut right: Vec<Pair<K, V>>,
-    mut room: Vec<Pair<K, V>>,
+pub(crate) fn merge<K: Exact, V: Exact, H: Holds<K, V>>(
+    left: &mut Vec<Pair<K, V, H>>,
+    mut right: Vec<Pair<K, V, H>>,
+    mut room: Vec<Pair<K, V, H>>,
 )
     requires sorted { IsStrictlySortedBy K.cmp (keys_of right.items) }
     requires empty { room.items ≡ [] }
@@ -64,10 +64,10 @@ pub(crate) fn merge<K: Exact, V: Exact>(
 
 /// Takes the pair of lesser key from the ends of two vectors in falling order; of two with one key
 /// it takes both and gives the one with the greater value.
-fn take_lesser<K: Exact, V: Exact>(
-    left: &mut Vec<Pair<K, V>>,
-    right: &mut Vec<Pair<K, V>>,
-) -> Option<Pair<K, V>>
+fn take_lesser<K: Exact, V: Exact, H: Holds<K, V>>(
+    left: &mut Vec<Pair<K, V, H>>,
+    right: &mut Vec<Pair<K, V, H>>,
+) -> Option<Pair<K, V, H>>
     ensures taken { merged (by_key K.cmp) (by_value V.cmp)
         (reverse left.old.items) (reverse right.old.items)
         ≡ option_to_list result ++ merged (by_key K.cmp) (by_value V.cmp)
@@ -88,7 +88,10 @@ fn take_lesser<K: Exact, V: Exact>(
 
 /// The order of the keys at the ends of two vectors; an empty one is told as if its key were
 /// greater.
-fn order_of_ends<K: Exact, V: Exact>(left: &Vec<Pair<K, V>>, right: &Vec<Pair<K, V>>) -> Ordering
+fn order_of_ends<K: Exact, V: Exact, H: Holds<K, V>>(
+    left: &Vec<Pair<K, V, H>>,
+    right: &Vec<Pair<K, V, H>>,
+) -> Ordering
     ensures { result
         ≡ heads_order (by_key K.cmp) (reverse left.now.items) (reverse right.now.items) }
 {
@@ -98,14 +101,14 @@ fn order_of_ends<K: Exact, V: Exact>(left: &Vec<Pair<K, V>>, right: &Vec<Pair<K,
     let Some(pair) = left.last() else {
         return Ordering::Greater;
     };
-    pair.key().cmp(next.key())
+    pair.order(next)
 }
 
 /// Of two pairs the one with the greater value, the left one where they are equal.
-fn greater_of<K: Exact, V: Exact>(
-    left: Option<Pair<K, V>>,
-    right: Option<Pair<K, V>>,
-) -> Option<Pair<K, V>>
+fn greater_of<K: Exact, V: Exact, H: Holds<K, V>>(
+    left: Option<Pair<K, V, H>>,
+    right: Option<Pair<K, V, H>>,
+) -> Option<Pair<K, V, H>>
     ensures { result ≡ greater_of (by_value V.cmp) left right }
 {
     let Some(pair) = left else {

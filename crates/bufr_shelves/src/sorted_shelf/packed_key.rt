@@ -1,11 +1,12 @@
 //! Keys in little room, while entries are gathered.
 ghost use Rattle.std.specs.Prelude.{◌≡◌, IfOk, IfSome};
-ghost use Rattle.bufr_shelves.specs.PackedKeys.{wmo_key};
+ghost use Rattle.bufr_keys.specs.DerivedOrders.{key_order};
+ghost use Rattle.bufr_shelves.specs.PackedKeys.{wmo_key, key_in, IsFronted};
 ghost use Rattle.bufr_shelves.specs.Fronts.{front_of_key};
 
 use crate::rank::{Exact, Rank};
-use crate::sorted_shelf::front::{Front, FrontHead, Fronted, WmoPlace, in_two_octets};
-use crate::sorted_shelf::pair::Pair;
+use crate::sorted_shelf::front::{Front, FrontHead, FrontPlace, WmoPlace, in_two_octets};
+use crate::sorted_shelf::pair::{Boxed, InLine, Pair};
 use bufr_answers::OutOfMemory;
 use bufr_keys::{Key, Station};
 use std::alloc::Global;
@@ -71,11 +72,17 @@ impl WmoKey {
     }
 }
 
-/// A key as it is held: most need no more than 24 octets.
+/// A key as it is held, in 24 octets: most need no other room.
 #[derive(Drop)]
 pub(crate) enum KeyForm {
     /// The key of a WMO station whose numbers have room.
     Wmo(WmoKey),
+    /// A key with a mobile name, and what its front has.
+    Mobile {
+        head: FrontHead,
+        key: Box<Key>,
+        name: [u8; 8],
+    },
     /// Any other.
     Other(Box<Key>),
 }
@@ -91,9 +98,37 @@ impl Model for PackedKey {
 
     ghost Value = { AKey };
 
-    ghost use Rattle.bufr_shelves.specs.PackedKeys.{key_in};
+    ghost use Rattle.bufr_shelves.specs.PackedKeys.{key_in, IsFronted};
 
     ghost view = { λ a. key_in a.form };
+
+    ghost invariant = { λ a. IsFronted a.form };
+}
+
+/// A key that is no WMO station's whose numbers have room, in its form.
+fn form_of(alloc: Global, key: Key) -> Result<KeyForm, OutOfMemory>
+    ensures key { IfOk result (λ form. key_in form ≡ key) }
+    ensures fronted { IfOk result IsFronted }
+{
+    let Front { head, place } = Front::of_key(&key);
+    let key = Box::new(alloc, key)?;
+    match place {
+        FrontPlace::Mobile { name } => Ok(KeyForm::Mobile { head, key, name }),
+        _ => Ok(KeyForm::Other(key)),
+    }
+}
+
+impl KeyForm {
+    /// The order of keys.
+    fn order(&self, other: &Key) -> Ordering
+        ensures { result ≡ key_order (key_in self.now) other.now }
+    {
+        match self {
+            KeyForm::Wmo(packed) => packed.key().cmp(other),
+            KeyForm::Mobile { key, .. } => (**key).cmp(other),
+            KeyForm::Other(key) => (**key).cmp(other),
+        }
+    }
 }
 
 impl PackedKey {
@@ -103,7 +138,7 @@ impl PackedKey {
     {
         let form = match WmoKey::of_key(&key) {
             Some(packed) => KeyForm::Wmo(packed),
-            None => KeyForm::Other(Box::new(alloc, key)?),
+            None => form_of(alloc, key)?,
         };
         Ok(PackedKey { form })
     }
@@ -115,7 +150,44 @@ impl PackedKey {
         let PackedKey { form } = self;
         match form {
             KeyForm::Wmo(packed) => packed.key(),
+            KeyForm::Mobile { key, .. } => Box::into_inner(key),
             KeyForm::Other(key) => Box::into_inner(key),
+        }
+    }
+
+    /// The front of the key, where that stands here.
+    fn front(&self) -> Option<Front>
+        ensures { IfSome result (λ front. front ≡ front_of_key self.now) }
+    {
+        match &self.form {
+            KeyForm::Wmo(packed) => Some(packed.front()),
+            KeyForm::Mobile { head, name, .. } => Some(Front::of_mobile(*head, *name)),
+            KeyForm::Other(_) => None,
+        }
+    }
+
+    /// The order of the keys themselves.
+    fn order_of_keys(&self, other: &PackedKey) -> Ordering
+        ensures { result ≡ key_order self.now other.now }
+    {
+        match &other.form {
+            KeyForm::Wmo(packed) => self.form.order(&packed.key()),
+            KeyForm::Mobile { key, .. } => self.form.order(&**key),
+            KeyForm::Other(key) => self.form.order(&**key),
+        }
+    }
+
+    /// The same, by the fronts first where both stand here.
+    fn order_by_fronts(&self, other: &PackedKey) -> Ordering
+        ensures { result ≡ key_order self.now other.now }
+    {
+        let (Some(front), Some(other_front)) = (self.front(), other.front()) else {
+            return self.order_of_keys(other);
+        };
+        match front.order(&other_front) {
+            Ordering::Less => Ordering::Less,
+            Ordering::Equal => self.order_of_keys(other),
+            Ordering::Greater => Ordering::Greater,
         }
     }
 }
@@ -123,8 +195,8 @@ impl PackedKey {
 /// The pairs with each key as it came.
 pub(crate) fn unpacked(
     alloc: Global,
-    pairs: Vec<Pair<PackedKey, Rank>>,
-) -> Result<Vec<Pair<Key, Rank>>, OutOfMemory>
+    pairs: Vec<InLine<PackedKey, Rank>>,
+) -> Result<Vec<Boxed<Key, Rank>>, OutOfMemory>
     ensures { IfOk result (λ out. out.items ≡ pairs.items) }
 {
     let mut out = Vec::with_capacity(alloc, pairs.len())?;
@@ -187,18 +259,17 @@ impl Ord for PackedKey {
     fn cmp(&self, other: &PackedKey) -> Ordering {
         match (&self.form, &other.form) {
             (KeyForm::Wmo(one), KeyForm::Wmo(two)) => one.cmp(two),
-            (KeyForm::Wmo(one), KeyForm::Other(two)) => one.key().cmp(&**two),
-            (KeyForm::Other(one), KeyForm::Wmo(two)) => (**one).cmp(&two.key()),
-            (KeyForm::Other(one), KeyForm::Other(two)) => (**one).cmp(&**two),
+            _ => self.order_by_fronts(other),
         }
     }
 }
 
 /// The same key once more.
-fn copied<K: Exact>(key: &K) -> Result<K, OutOfMemory>
-    ensures { IfOk result (λ copy. copy ≡ key.now) }
+fn copied(key: &Box<Key>) -> Result<Box<Key>, OutOfMemory>
+    ensures { IfOk result (λ copy. copy.value ≡ key.now.value) }
 {
-    Ok(key.clone()?)
+    let alloc = *Box::allocator(key);
+    Ok(Box::new(alloc, (**key).clone()?)?)
 }
 
 impl Clone for PackedKey {
@@ -207,10 +278,12 @@ impl Clone for PackedKey {
     fn clone(&self) -> Result<PackedKey, OutOfMemory> {
         let form = match &self.form {
             KeyForm::Wmo(packed) => KeyForm::Wmo(*packed),
-            KeyForm::Other(key) => {
-                let alloc = *Box::allocator(key);
-                KeyForm::Other(Box::new(alloc, copied(&**key)?)?)
-            }
+            KeyForm::Mobile { head, key, name } => KeyForm::Mobile {
+                head: *head,
+                key: copied(key)?,
+                name: *name,
+            },
+            KeyForm::Other(key) => KeyForm::Other(copied(key)?),
         };
         Ok(PackedKey { form })
     }
@@ -224,19 +297,4 @@ impl Exact for PackedKey {
     ghost exact = { λ a b h. exact_keys a b (sym (keys_are a b) ∙ h) };
 
     ghost faithful = { λ a b h. h };
-}
-
-impl Fronted for PackedKey {
-    ghost use Rattle.bufr_shelves.specs.FrontLaws.{keys_agree};
-
-    ghost front_of = { front_of_key };
-
-    ghost agrees = { keys_agree };
-
-    fn front(&self) -> Front {
-        match &self.form {
-            KeyForm::Wmo(packed) => packed.front(),
-            KeyForm::Other(key) => key.front(),
-        }
-    }
 }

@@ -23,7 +23,6 @@ loop-waiting-preserved g c =
     let pair = c.in-Some.last in
     let sorted = sorted-pairs g.K.Ord.cmp fresh c.loop-waiting.invariant.0 in
     let put = c.raise_pair.ensures
-    ∙ ap (λ p. put_by slot rank p c.reserve.new.self.items) c.into_pair.ensures
     ∙ ap (put_by slot rank pair) c.reserve.ensures.items in
     let last : c.loop-waiting.waiting.items ≡ rest ++ pair ∷ [] =
     c.take_last.ensures.items ∙ ap (λ o. rest ++ option_to_list o) c.in-Some.is in (
