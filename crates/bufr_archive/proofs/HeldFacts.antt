@@ -1,7 +1,8 @@
--- Texts that are held: for `count_entries`, `ArchiveText::read` and `ArchiveText::merge`.
+-- Texts that are held: for `count_entries`, `ArchiveText::read`, `ArchiveText::merge`,
+-- `ArchiveText::merged_with` and `ArchiveText::unmerged`.
 use Rattle.std.proofs.Common.{◌≡◌, ℕ, ◌+◌, ◌<◌, ◌≤◌, List, [], ◌∷◌, ◌++◌, length, drop, Option}
 use Rattle.std.proofs.Common.{Some, None, Result, Ok, Err, refl, sym, ap, subst, ◌∙◌, arith}
-use Rattle.std.proofs.Common.{length-append, map}
+use Rattle.std.proofs.Common.{length-append, map, replicate}
 use Rattle.std.specs.Prelude.{option_map}
 use Rattle.std.proofs.lemmas.List.{length-drop}
 use Rattle.std.specs.List.{AllByRecursion}
@@ -11,10 +12,13 @@ use Rattle.bufr_sections.specs.Sections.{AreOctets}
 use Rattle.bufr_shelves.specs.declared.entry.Entry.{Entry}
 use Rattle.bufr_shelves.specs.Entries.{slot_cmp, kept}
 use Rattle.bufr_shelves.specs.Orders.{kept-are, kept-kept}
+use Rattle.bufr_archive.specs.declared.merged_octets.Origin.{Origin}
+use Rattle.bufr_archive.specs.declared.merged_octets.Origin.TheVariants.{Left}
 use Rattle.bufr_archive.specs.declared.reading.ReadEntry.{ReadEntry}
 use Rattle.bufr_archive.specs.Archives.{ArchiveView, merged}
 use Rattle.bufr_archive.specs.ArchiveTexts.{entries_or_none, entries_in, IsTextOf, count_or}
 use Rattle.bufr_archive.specs.ArchiveTexts.{AreInOrder, AddsMerged}
+use Rattle.bufr_archive.specs.MergedOctets.{handed_out}
 use Rattle.bufr_archive.specs.Reading.{read}
 use Rattle.bufr_archive.specs.ReportEntries.{IsReportEntry, entry_in}
 use Rattle.bufr_archive.specs.ReportLaws.{ReportsAreEntries}
@@ -22,6 +26,7 @@ use Rattle.bufr_archive.specs.Texts.{text, right_entry, judged, entries_read}
 use Rattle.bufr_archive.proofs.JudgeFacts.{long_entry}
 use Rattle.bufr_archive.proofs.ReadFacts.{ReadSoFar, read_more, read_all, read_stops}
 use Rattle.bufr_archive.proofs.TextFacts.{kept_each, read_are_texts, texts_are_read}
+use Rattle.bufr_archive.proofs.TextMergeFacts.{hands_all}
 
 -- what contracts see of entries under tables
 abbrev seen : Entries → List Entry → ArchiveView
@@ -250,3 +255,16 @@ merged_handed tables others tables' left right left' right' n m handed same is l
     (in_order fs (held_in_order tables right m fs few)) (left_is ∙ l.says)
     (right_is ∙ few.says) (omega arith)
     ∙ ap (λ (t : Entries). map (λ (e : Entry). e.bytes) (kept (es ++ entries_in t right))) same
+
+-- of one text the octets of each entry are handed out
+pub handed_all : ReportsAreEntries → (tables : Entries) (octets octets' right : List ℕ)
+    (count : ℕ) (origins : List Origin) → octets' ≡ octets → origins ≡ replicate count Left
+    → IsTextOf tables octets count (entries_in tables octets)
+    → handed_out origins octets' right
+    ≡ map (λ (e : Entry). e.bytes) (entries_in tables octets)
+handed_all laws tables octets octets' right count origins is are t =
+    let es = entries_in tables octets in
+    ap (λ (os : List Origin). handed_out os octets' right)
+    (are ∙ ap (λ (n : ℕ). replicate n Left) t.counted)
+    ∙ ap (λ (o : List ℕ). handed_out (replicate (length es) Left) o right) (is ∙ t.says)
+    ∙ hands_all laws tables es right (held_in_order tables octets count es t)

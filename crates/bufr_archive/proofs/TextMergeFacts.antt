@@ -2,7 +2,7 @@
 -- `ArchiveText::merge`.
 use Rattle.std.proofs.Common.{◌≡◌, ℕ, ◌+◌, ◌≤◌, Bool, true, false, List, [], ◌∷◌, ◌++◌, length, drop}
 use Rattle.std.proofs.Common.{map, cond, Option, Some, None, refl, sym, ap, subst, ◌∙◌, arith}
-use Rattle.std.proofs.Common.{append_assoc}
+use Rattle.std.proofs.Common.{append_assoc, replicate}
 use Rattle.std.specs.Prelude.{option_map}
 use Rattle.std.specs.List.{flat_map}
 use Rattle.std.specs.Ordering.{is_gt, ordering_reverse}
@@ -268,11 +268,24 @@ module _ (laws : ReportsAreEntries) (tables : Entries) where
       (behind_is f left other)
       ∙ ap (λ (o : List ℕ). e.bytes ∷ handed_out more (text left) o) (behind_is e right first)
 
--- ---- step by step
-
 -- the octets of entries
 abbrev octets_of : List Entry → List (List ℕ)
 octets_of es = map (λ (e : Entry). e.bytes) es
+
+-- of one text, as many as it has entries: the octets of each
+pub hands_all : ReportsAreEntries → (tables : Entries) (es : List Entry) (right : List ℕ)
+    → AreInOrder tables es
+    → handed_out (replicate (length es) Left) (text es) right ≡ octets_of es
+hands_all laws tables [] right a = refl
+hands_all laws tables (e ∷ es) right a =
+    let more = replicate (length es) Left in
+    ap (λ (o : List ℕ). o ∷ handed_out more (behind_first (text (e ∷ es))) right)
+    (first_is laws tables e es a)
+    ∙ ap (λ (o : List ℕ). e.bytes ∷ handed_out more o right) (behind_is laws tables e es a)
+    ∙ ap (λ (os : List (List ℕ)). e.bytes ∷ os)
+    (hands_all laws tables es right (behind_in_order tables (e ∷ es) a))
+
+-- ---- step by step
 
 -- the origins of these entries are told so far, and these are left
 pub record ToldSoFar (tables : Entries) (es fs : List Entry) (origins : List Origin)

@@ -11,7 +11,7 @@ ghost use Rattle.bufr_archive.specs.ReportTexts.{IsArchiveOf, RefusedAt, archive
 ghost use Rattle.bufr_archive.specs.Texts.{text, entries_read};
 
 use crate::laws::reports_are_entries;
-use crate::merged_octets::MergedOctets;
+use crate::merged_octets::{MergedOctets, Origin};
 use crate::merging_texts::{merged_octets, merged_text};
 use crate::reading::{NotAnArchive, ReadEntry, behind, right_entry};
 use bufr_answers::{Failure, OutOfMemory};
@@ -140,9 +140,22 @@ impl<'t> ArchiveText<'t> {
     {
         reports_are_entries();
         let most = self.count + other.count;
+        if other.count == 0 {
+            return self.unmerged(alloc);
+        }
         let mut templates = Templates::new(alloc, self.templates.tables());
         let left = merged_octets(alloc, &mut templates, &self.octets, &other.octets, most)?;
         Ok(left)
+    }
+
+    /// The octets of all its entries, none of which is read once more. It can only run out of
+    /// memory.
+    fn unmerged(&self, alloc: Global) -> Result<MergedOctets<'_>, OutOfMemory>
+        ensures { IfOk result (λ left. left ≡ map (λ e. e.bytes) self.now.entries) }
+    {
+        reports_are_entries();
+        let origins = Vec::from_elem(alloc, Origin::Left, self.count)?;
+        Ok(MergedOctets::new(origins, &self.octets, &[]))
     }
 
     /// How many reports it holds.
