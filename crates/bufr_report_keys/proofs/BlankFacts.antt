@@ -1,7 +1,8 @@
 -- Octets without the blanks that they end with: for `without_last_blanks`, and so for `key_in`, and
 -- for `laws::usable_values`.
 use Rattle.std.proofs.Common.{◌≡◌, ◌⊎◌, inl, inr, ℕ, true, false, cond, Some, List, [], ◌∷◌, ◌++◌}
-use Rattle.std.proofs.Common.{refl, sym, ap, ◌∙◌, append_assoc}
+use Rattle.std.proofs.Common.{refl, sym, ap, ◌∙◌, append_assoc, length, take, ◌==◌}
+use Rattle.std.proofs.Math.Seq.{take-append_seam}
 use Rattle.std.proofs.lemmas.List.{append-nil}
 use Rattle.std.specs.List.{AllByRecursion}
 use Rattle.bufr_report_keys.specs.Usable.{is_blank, unless_last_blank, without_last_blanks, some_octets}
@@ -84,3 +85,22 @@ pub ends_are_some : (front : List ℕ) (last : ℕ)
     → some_octets (front ++ last ∷ []) ≡ Some (front ++ last ∷ [])
 ends_are_some [] last = refl
 ends_are_some (x ∷ front) last = refl
+
+-- it is the octets up to its length
+pub left_is_taken : (xs : List ℕ)
+    → take (length (without_last_blanks xs)) xs ≡ without_last_blanks xs
+left_is_taken xs =
+    let parts = left_and_blanks xs in
+    let w = without_last_blanks xs in
+    ap (take (length w)) parts.2 ∙ take-append_seam w parts.0
+
+-- octets that are some
+are_some : (w : List ℕ) → (length w == 0) ≡ false → Some w ≡ some_octets w
+are_some [] h = absurd cc
+are_some (x ∷ xs) h = refl
+
+-- so those up to its length are it, where there are some
+pub some_left : (xs left : List ℕ) → left ≡ take (length (without_last_blanks xs)) xs
+    → (length left == 0) ≡ false → Some left ≡ some_octets (without_last_blanks xs)
+some_left xs left e h =
+    are_some left h ∙ ap (λ (t : List ℕ). some_octets t) (e ∙ left_is_taken xs)

@@ -1,6 +1,6 @@
--- The lemmas behind the contracts and laws of this crate: blanks, fields that are asked for, usable
+-- The lemmas behind the contracts and laws of this crate: blanks, what first fields say, usable
 -- texts and moments.
-pub mod AskedFacts
 pub mod BlankFacts
+pub mod FirstFacts
 pub mod MomentFacts
 pub mod UsableFacts

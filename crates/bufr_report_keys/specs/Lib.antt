@@ -1,4 +1,5 @@
 pub mod Asked
+pub mod FirstValues
 pub mod Keys
 pub mod Laws
 pub mod Samples

@@ -1,15 +1,13 @@
-//! The fields that a key asks for, of those that are handed out one at a time.
+//! The fields that a key asks for, and what the first of each element says.
 ghost use Rattle.std.specs.Prelude.{◌≡◌, IfOk};
-ghost use Rattle.bufr_report_keys.specs.Asked.{is_station, is_time, is_asked, HaveSameFirsts};
+ghost use Rattle.bufr_report_keys.specs.Asked.{is_station, is_time, is_asked};
+ghost use Rattle.bufr_report_keys.specs.FirstValues.{first_values};
 
-use crate::usable::first_of;
-use bufr_answers::OutOfMemory;
-use bufr_data::{Asks, Field, Fields};
+use crate::first_values::FirstValues;
+use bufr_answers::{Items, OutOfMemory};
+use bufr_data::{Asks, Field, Fields, Raw};
 use bufr_tables::Fxy;
 use std::alloc::Global;
-
-/// How many elements a key asks for.
-const MOST_ASKED: usize = 13;
 
 /// Whether a descriptor is an element that says a station: 001001, 001002, 001011 and 001125 to
 /// 001128.
@@ -45,16 +43,44 @@ impl Asks for KeyElements {
     }
 }
 
-/// Of each element that a key asks for the first field, in the order of the fields: 13 fields at
-/// most. The others are let go one by one, and most are not built. It can only run out of memory.
-pub(crate) fn asked_of(alloc: Global, mut fields: Fields<'_>) -> Result<Vec<Field>, OutOfMemory>
-    ensures { IfOk result (λ kept. HaveSameFirsts kept.items fields.entry) }
+/// What the first fields say of fields that are handed out one at a time. The others are let go one
+/// by one, and most are not built. It can only run out of memory.
+pub(crate) fn values_of(alloc: Global, mut fields: Fields<'_>) -> Result<FirstValues, OutOfMemory>
+    ensures { IfOk result (λ values. values ≡ first_values fields.entry) }
 {
-    let mut kept = Vec::with_capacity(alloc, MOST_ASKED)?;
+    let mut values = FirstValues::none();
     while let Some(field) = fields.next_asked::<KeyElements>(alloc)? {
-        if first_of(&kept, field.fxy).is_none() {
-            kept.push(field)?;
+        values.note(field);
+    }
+    Ok(values)
+}
+
+/// What they say in a list of fields. It can only run out of memory, where a text is copied.
+pub(crate) fn values_in(alloc: Global, fields: &[Field]) -> Result<FirstValues, OutOfMemory>
+    ensures { IfOk result (λ values. values ≡ first_values fields.now) }
+{
+    let mut values = FirstValues::none();
+    for field in fields {
+        if is_asked(field.fxy) {
+            values.note(copied(alloc, field)?);
         }
     }
-    Ok(kept)
+    Ok(values)
+}
+
+/// A field of its own like another.
+fn copied(alloc: Global, field: &Field) -> Result<Field, OutOfMemory>
+    ensures { IfOk result (λ copy. copy ≡ field.now) }
+{
+    let raw = match &field.raw {
+        Raw::Number(number) => Raw::Number(*number),
+        Raw::Text(octets) => {
+            Raw::Text(Items::from_vec(Vec::from_slice(alloc, octets.as_slice())?))
+        }
+    };
+    Ok(Field {
+        fxy: field.fxy,
+        spec: field.spec,
+        raw,
+    })
 }

@@ -1,8 +1,10 @@
 //! The key that a report's head and fields say.
 ghost use Rattle.std.specs.Prelude.{◌≡◌, IfOk};
 ghost use Rattle.bufr_report_keys.specs.Keys.{key};
+ghost use Rattle.bufr_report_keys.specs.FirstValues.{key_of};
 
-use crate::asked::asked_of;
+use crate::asked::{values_in, values_of};
+use crate::first_values::FirstValues;
 use crate::moments::moment_of;
 use crate::stations::station_of;
 use bufr_answers::OutOfMemory;
@@ -21,25 +23,12 @@ pub fn key_in(
 ) -> Result<Option<Key>, OutOfMemory>
     ensures { IfOk result (λ found. found ≡ key head.now fields.now) }
 {
-    let Some(station) = station_of(alloc, fields)? else {
-        return Ok(None);
-    };
-    let Some(moment) = moment_of(fields) else {
-        return Ok(None);
-    };
-    Ok(Some(Key {
-        centre: head.centre,
-        category: head.category,
-        international: head.international,
-        local_category: head.local_category,
-        station,
-        moment,
-        sub_centre: head.sub_centre,
-    }))
+    let values = values_in(alloc, fields)?;
+    Ok(key_of(head, values))
 }
 
-/// What `key_in` answers of these fields, which are handed out one at a time: at most 13 of them
-/// are held. It can only run out of memory.
+/// What `key_in` answers of these fields, which are handed out one at a time: none is held longer
+/// than it takes to note what it says. It can only run out of memory, where a text is copied.
 pub fn key_of_fields(
     alloc: Global,
     head: &ReportHead,
@@ -47,6 +36,24 @@ pub fn key_of_fields(
 ) -> Result<Option<Key>, OutOfMemory>
     ensures { IfOk result (λ found. found ≡ key head.now fields.entry) }
 {
-    let asked = asked_of(alloc, fields)?;
-    key_in(alloc, head, &asked)
+    let values = values_of(alloc, fields)?;
+    Ok(key_of(head, values))
+}
+
+/// The key of a report with this head where the first fields of its subset say this.
+fn key_of(head: &ReportHead, values: FirstValues) -> Option<Key>
+    ensures { result ≡ key_of head.now values }
+{
+    let moment = moment_of(&values);
+    let station = station_of(values)?;
+    let moment = moment?;
+    Some(Key {
+        centre: head.centre,
+        category: head.category,
+        international: head.international,
+        local_category: head.local_category,
+        station,
+        moment,
+        sub_centre: head.sub_centre,
+    })
 }

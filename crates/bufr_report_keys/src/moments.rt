@@ -1,10 +1,10 @@
 //! The time that fields say.
 ghost use Rattle.std.specs.Prelude.{◌≡◌, ◌≤◌, pos};
 ghost use Rattle.jiff.specs.Words.{days_in_month};
-ghost use Rattle.bufr_report_keys.specs.Keys.{greatest_year, is_from_to, from_to, sixtieth, moment};
+ghost use Rattle.bufr_report_keys.specs.Keys.{greatest_year, is_from_to, from_to, sixtieth};
+ghost use Rattle.bufr_report_keys.specs.FirstValues.{moment_of};
 
-use crate::usable::element_number;
-use bufr_data::Field;
+use crate::first_values::FirstValues;
 use bufr_keys::Moment;
 use jiff::civil::Date;
 
@@ -63,16 +63,16 @@ fn sixtieth(number: Option<i128>) -> Option<u8>
     }
 }
 
-/// The time that fields say.
-pub(crate) fn moment_of(fields: &[Field]) -> Option<Moment>
-    ensures { result ≡ moment fields.now }
+/// The time that the first fields say.
+pub(crate) fn moment_of(values: &FirstValues) -> Option<Moment>
+    ensures { result ≡ moment_of values.now }
 {
-    let year = year_of(element_number(fields, 4, 1)?)?;
-    let month = from_to(1, 12, element_number(fields, 4, 2)?)?;
-    let day = day_of(year, month, element_number(fields, 4, 3)?)?;
-    let hour = from_to(0, 23, element_number(fields, 4, 4)?)?;
-    let minute = sixtieth(element_number(fields, 4, 5))?;
-    let second = sixtieth(element_number(fields, 4, 6))?;
+    let year = year_of(values.year.flatten()?)?;
+    let month = from_to(1, 12, values.month.flatten()?)?;
+    let day = day_of(year, month, values.day.flatten()?)?;
+    let hour = from_to(0, 23, values.hour.flatten()?)?;
+    let minute = sixtieth(values.minute.flatten())?;
+    let second = sixtieth(values.second.flatten())?;
     Some(Moment {
         year,
         month,

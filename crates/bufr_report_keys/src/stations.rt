@@ -1,62 +1,49 @@
 //! The station that fields say.
-ghost use Rattle.std.specs.Prelude.{◌≡◌, IfOk};
-ghost use Rattle.bufr_report_keys.specs.Keys.{wmo, wigos, mobile, station};
+ghost use Rattle.std.specs.Prelude.{◌≡◌};
+ghost use Rattle.bufr_report_keys.specs.FirstValues.{wmo_of, wigos_of, mobile_of, station_of};
 
-use crate::usable::{element_number, element_text};
-use bufr_answers::{Items, OutOfMemory};
-use bufr_data::Field;
+use crate::first_values::FirstValues;
+use bufr_answers::Items;
 use bufr_keys::Station;
-use std::alloc::Global;
 
 /// WMO block and station number.
-fn wmo(fields: &[Field]) -> Option<Station>
-    ensures { result ≡ wmo fields.now }
+fn wmo(block: Option<i128>, number: Option<i128>) -> Option<Station>
+    ensures { result ≡ wmo_of block number }
 {
-    let block = element_number(fields, 1, 1)?;
-    let number = element_number(fields, 1, 2)?;
-    Some(Station::wmo(block, number))
+    Some(Station::wmo(block?, number?))
 }
 
 /// WIGOS identifier.
-fn wigos(alloc: Global, fields: &[Field]) -> Result<Option<Station>, OutOfMemory>
-    ensures { IfOk result (λ found. found ≡ wigos fields.now) }
+fn wigos(
+    series: Option<i128>,
+    issuer: Option<i128>,
+    number: Option<i128>,
+    name: Option<Items<u8>>,
+) -> Option<Station>
+    ensures { result ≡ wigos_of series issuer number name }
 {
-    let Some(series) = element_number(fields, 1, 125) else {
-        return Ok(None);
-    };
-    let Some(issuer) = element_number(fields, 1, 126) else {
-        return Ok(None);
-    };
-    let Some(number) = element_number(fields, 1, 127) else {
-        return Ok(None);
-    };
-    let Some(text) = element_text(fields, 1, 128) else {
-        return Ok(None);
-    };
-    let name = Items::from_vec(Vec::from_slice(alloc, text)?);
-    Ok(Some(Station::wigos(series, issuer, number, name)))
+    Some(Station::wigos(series?, issuer?, number?, name?))
 }
 
 /// Ship or mobile land station identifier.
-fn mobile(alloc: Global, fields: &[Field]) -> Result<Option<Station>, OutOfMemory>
-    ensures { IfOk result (λ found. found ≡ mobile fields.now) }
+fn mobile(name: Option<Items<u8>>) -> Option<Station>
+    ensures { result ≡ mobile_of name }
 {
-    let Some(text) = element_text(fields, 1, 11) else {
-        return Ok(None);
-    };
-    let name = Items::from_vec(Vec::from_slice(alloc, text)?);
-    Ok(Some(Station::mobile(name)))
+    Some(Station::mobile(name?))
 }
 
-/// The station that fields say: the first that there is of these. It can only run out of memory.
-pub(crate) fn station_of(alloc: Global, fields: &[Field]) -> Result<Option<Station>, OutOfMemory>
-    ensures { IfOk result (λ found. found ≡ station fields.now) }
+/// The station that the first fields say: the first that there is of these.
+pub(crate) fn station_of(values: FirstValues) -> Option<Station>
+    ensures { result ≡ station_of values }
 {
-    if let Some(station) = wmo(fields) {
-        return Ok(Some(station));
+    if let Some(station) = wmo(values.block.flatten(), values.station.flatten()) {
+        return Some(station);
     }
-    if let Some(station) = wigos(alloc, fields)? {
-        return Ok(Some(station));
+    let series = values.series.flatten();
+    let issuer = values.issuer.flatten();
+    let issue = values.issue.flatten();
+    if let Some(station) = wigos(series, issuer, issue, values.local.flatten()) {
+        return Some(station);
     }
-    mobile(alloc, fields)
+    mobile(values.mobile.flatten())
 }

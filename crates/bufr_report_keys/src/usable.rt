@@ -1,14 +1,13 @@
 //! Which numbers and texts of fields count for a key.
-ghost use Rattle.std.specs.Prelude.{◌≡◌, ◌<◌};
-ghost use Rattle.std.specs.Option.{option_copied, option_map};
-ghost use Rattle.bufr_tables.specs.Descriptors.{descriptor};
-ghost use Rattle.bufr_report_keys.specs.Usable.{usable_number, is_blank, without_last_blanks, usable_text, first_field, element_number, element_text};
+ghost use Rattle.std.specs.Prelude.{◌≡◌};
+ghost use Rattle.bufr_report_keys.specs.Usable.{usable_number, is_blank, without_last_blanks, some_octets, usable_text};
 
+use bufr_answers::Items;
 use bufr_data::{Field, Raw};
-use bufr_tables::{Fxy, Kind};
+use bufr_tables::Kind;
 
 /// The number of a field that is not missing, is no text and has scale 0.
-fn usable_number(field: &Field) -> Option<i128>
+pub(crate) fn usable_number(field: &Field) -> Option<i128>
     ensures { result ≡ usable_number field.now }
 {
     let value = field.value()?;
@@ -40,47 +39,28 @@ fn without_last_blanks(text: &[u8]) -> &[u8]
     rest
 }
 
-/// The text of a field whose kind is Text, that is not missing, and of which something is left
-/// without the blanks at its end.
-fn usable_text(field: &Field) -> Option<&[u8]>
-    ensures { option_map (λ s. s.now) result ≡ usable_text field.now }
+/// The octets without those blanks, where some are left.
+fn octets_left(octets: Items<u8>) -> Option<Items<u8>>
+    ensures { result ≡ some_octets (without_last_blanks octets) }
 {
-    match (field.spec.kind, &field.raw) {
-        (Kind::Text, Raw::Text(octets)) if !field.is_missing() => {
-            let text = without_last_blanks(octets.as_slice());
-            if text.is_empty() { None } else { Some(text) }
-        }
-        _ => None,
+    let mut octets = octets.into_vec();
+    let left = without_last_blanks(octets.as_slice()).len();
+    octets.truncate(left);
+    if octets.is_empty() {
+        None
+    } else {
+        Some(Items::from_vec(octets))
     }
 }
 
-/// The first field of element 0 XX YYY.
-fn first_field(fields: &[Field], x: u8, y: u8) -> Option<&Field>
-    requires { x < 64 }
-    ensures { option_copied result ≡ first_field (descriptor 0 x y) fields.now }
+/// The text of a field whose kind is Text, that is not missing, and of which something is left
+/// without the blanks at its end.
+pub(crate) fn usable_text(field: Field) -> Option<Items<u8>>
+    ensures { result ≡ usable_text field }
 {
-    first_of(fields, Fxy::from_bits(256 * x as u16 + y as u16))
-}
-
-/// The first field with this descriptor.
-pub(crate) fn first_of(fields: &[Field], fxy: Fxy) -> Option<&Field>
-    ensures { option_copied result ≡ first_field fxy fields.now }
-{
-    fields.iter().find(|field| field.fxy == fxy)
-}
-
-/// The number that element 0 XX YYY says.
-pub(crate) fn element_number(fields: &[Field], x: u8, y: u8) -> Option<i128>
-    requires { x < 64 }
-    ensures { result ≡ element_number x y fields.now }
-{
-    usable_number(first_field(fields, x, y)?)
-}
-
-/// The text that it says.
-pub(crate) fn element_text(fields: &[Field], x: u8, y: u8) -> Option<&[u8]>
-    requires { x < 64 }
-    ensures { option_map (λ s. s.now) result ≡ element_text x y fields.now }
-{
-    usable_text(first_field(fields, x, y)?)
+    let missing = field.is_missing();
+    match (field.spec.kind, field.raw) {
+        (Kind::Text, Raw::Text(octets)) if !missing => octets_left(octets),
+        _ => None,
+    }
 }

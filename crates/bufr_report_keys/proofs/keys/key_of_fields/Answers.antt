@@ -1,12 +1,11 @@
--- For `key_of_fields`: keys see the first fields of elements that they ask for alone.
-use Rattle.std.proofs.Common.{◌≡◌, IfOk, Option, subst}
-use Rattle.bufr_keys.specs.declared.key.Key.{Key}
-use Rattle.bufr_report_keys.proofs.AskedFacts.{same_key}
+-- For `key_of_fields`: the first fields say the key.
+use Rattle.std.proofs.Common.{ap, ◌∙◌}
+use Rattle.bufr_report_keys.specs.FirstValues.{key_of}
+use Rattle.bufr_report_keys.proofs.FirstFacts.{key_said}
 use Rattle.bufr_report_keys.proofs.keys.key_of_fields.Goals as goal
 
--- the key of the fields kept is that of all
+-- the key that is said is that of the fields
 pub returns : goal.returns
 returns c =
-    subst (λ (k : Option Key). IfOk c.key_in.result (λ found. found ≡ k))
-    (same_key c.in_ok-asked.asked.items c.args.fields c.in_ok-asked.ensures c.args.head.now)
-    (rw c.deref.ensures.value at c.key_in.ensures)
+    c.key_of.ensures ∙ ap (key_of c.args.head.now) c.in_ok-values.ensures
+    ∙ key_said c.args.fields c.args.head.now
