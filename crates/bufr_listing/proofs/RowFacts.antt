@@ -1,12 +1,19 @@
--- Rows that the digits of a number are written into, up to the line's end: for `push_digits`.
+-- Rows that the digits of numbers are written into, up to the line's end: for `push_digits`,
+-- `put_number` and `push_numbers`.
 use Rattle.std.proofs.Common.{◌≡◌, ℕ, zero, suc, pos, ◌+◌, ◌-◌, ◌<◌, ◌≤◌, List, [], ◌∷◌, ◌++◌}
-use Rattle.std.proofs.Common.{◌∙◌, length, take, drop, replicate, set, min, decimal, refl, ap, sym}
-use Rattle.std.proofs.Common.{arith, append_assoc}
+use Rattle.std.proofs.Common.{◌∙◌, ◌^◌, length, take, drop, replicate, set, min, decimal, refl, ap}
+use Rattle.std.proofs.Common.{sym, map, get_or, arith, append_assoc}
+use Rattle.std.specs.List.{flat_map}
 use Rattle.std.proofs.lemmas.List.{take-append-drop, take-append-le, take-replicate, take_all}
 use Rattle.std.proofs.lemmas.List.{drop-append-le, drop-replicate, drop-set, drop-drop}
 use Rattle.std.proofs.lemmas.List.{length-replicate, length-drop, length-set, length-append}
+use Rattle.std.proofs.lemmas.List.{drop_more}
+use Rattle.std.proofs.lemmas.Fmt.{length-decimal-le, decimal_nonempty}
 use Rattle.bufr_data.specs.Values.{pointed, digits_by}
-use Rattle.bufr_listing.specs.Listings.{line}
+use Rattle.bufr_listing.specs.Listings.{line, words}
+use Rattle.bufr_listing.proofs.ListingFacts.{words_behind}
+
+-- ---- the digits of one number
 
 -- what stands from a place on, at or before the first digit: zeros, the digits and the line's end
 padded : (row digits : List ℕ) (first start : ℕ) → start ≤ first → first ≤ 31
@@ -81,3 +88,54 @@ row_written old mid row n first start places some few all least long same behind
     (with_point row digits start places some (omega arith) (omega arith) long stands
     ∙ ap (λ k. line (pointed places (replicate k 48 ++ decimal n))) zeros
     ∙ ap line (sym (pointed_by places n some)))
+
+-- ---- numbers behind spaces
+
+-- a space and the digits of a number
+abbrev spaced_number : ℕ → List ℕ
+spaced_number n = 32 ∷ decimal n
+
+-- a number of 16 bits that stands before an end leaves room for a space before it
+pub room_before : (n first end : ℕ) → n < 2 ^ 16 → 6 ≤ end → first + length (decimal n) ≡ end
+    → (1 ≤ first) × (first - 1 < end) × (end ≤ first - 1 + 6)
+room_before n first end small room all =
+    let short = length-decimal-le 5 n (omega arith) (omega (arith, small)) (omega (arith, small)) in
+    let some = decimal_nonempty n (omega (arith, small)) in
+    (omega arith, omega arith, omega arith)
+
+-- a space that is put before a number
+pub space_put : (row rest : List ℕ) (n first : ℕ) → 1 ≤ first → first ≤ length row
+    → drop first row ≡ decimal n ++ rest
+    → drop (first - 1) (set row (first - 1) 32) ≡ 32 ∷ decimal n ++ rest
+space_put row rest n first some within behind =
+    let next : first - 1 + 1 ≡ first = omega arith in
+    drop-set row (first - 1) 32 (omega arith)
+    ∙ ap (λ zs. 32 ∷ zs) (ap (λ k. drop k row) next ∙ behind)
+
+-- a number more stands before those that are behind it
+pub number_before : (row rest ns : List ℕ) (k : ℕ) → 0 < k → k ≤ length ns
+    → row ≡ 32 ∷ decimal (get_or ns (k - 1) 0) ++ rest
+    → rest ≡ flat_map spaced_number (drop k ns) ++ 10 ∷ []
+    → row ≡ flat_map spaced_number (drop (k - 1) ns) ++ 10 ∷ []
+number_before row rest ns k some within is behind =
+    let number = get_or ns (k - 1) 0 in
+    let next : k - 1 + 1 ≡ k = omega arith in
+    let parts : drop (k - 1) ns ≡ number ∷ drop k ns =
+    drop_more ns (k - 1) 0 (omega arith) ∙ ap (λ j. number ∷ drop j ns) next in
+    is ∙ ap (λ zs. spaced_number number ++ zs) behind
+    ∙ sym (append_assoc (spaced_number number) (flat_map spaced_number (drop k ns)) (10 ∷ []))
+    ∙ ap (λ zs. flat_map spaced_number zs ++ 10 ∷ []) (sym parts)
+
+-- the numbers of a row behind their first word are their line
+pub numbers_written : (old mid title row ns : List ℕ) (first left : ℕ) → length row ≡ 49
+    → first ≤ 48 → left ≡ 0
+    → drop first row ≡ flat_map spaced_number (drop left ns) ++ 10 ∷ []
+    → mid ≡ old ++ title
+    → mid ++ take (49 - first) (drop first row) ≡ old ++ line (words title (map decimal ns))
+numbers_written old mid title row ns first left long within none behind is =
+    let all : take (49 - first) (drop first row) ≡ flat_map spaced_number ns ++ 10 ∷ [] =
+    take_all (49 - first) (drop first row) (omega (arith, long, length-drop first row))
+    ∙ behind ∙ ap (λ k. flat_map spaced_number (drop k ns) ++ 10 ∷ []) none in
+    (λ i. is i ++ all i)
+    ∙ sym (append_assoc (old ++ title) (flat_map spaced_number ns) (10 ∷ []))
+    ∙ words_behind decimal old title ns

@@ -1,6 +1,8 @@
 //! The lines of a listing before its first subset.
 
-ghost use Rattle.std.specs.Prelude.{◌≡◌, ◌++◌, List, OnOk};
+ghost use Rattle.std.specs.Prelude.{◌≡◌, ◌<◌, ◌≤◌, ◌+◌, ◌∷◌, ◌++◌, List, OnOk, length, drop};
+ghost use Rattle.std.specs.Prelude.{decimal};
+ghost use Rattle.bufr_tables.specs.Descriptors.{six_digits};
 ghost use Rattle.bufr_data.specs.declared.field.Subset.{Subset};
 ghost use Rattle.bufr_sections.specs.SectionsRead.{message_lent};
 ghost use Rattle.bufr_listing.specs.Listings.{line, joined, numbers_line, octets_line};
@@ -11,8 +13,14 @@ ghost use Rattle.bufr_listing.specs.Listings.{descriptors_line, heading_lines};
 use bufr_answers::{Items, OutOfMemory};
 use bufr_sections::{Head, LentSections};
 use bufr_tables::Fxy;
-use itoa::Buffer;
+use itoa::write_digits;
 use std::alloc::Global;
+
+/// The most digits of a number of 16 bits, and the space before it.
+const MOST_OCTETS: usize = 6;
+
+/// Where the line's end stands in a row, behind eight numbers.
+const ROW_END: usize = 8 * MOST_OCTETS;
 
 /// Adds the lines before the first subset of a message of these sections, whatever its subsets.
 pub(crate) fn push_heading(
@@ -67,19 +75,35 @@ fn push_time(text: &mut Vec<u8>, head: &Head) -> Result<(), OutOfMemory>
     push_numbers(text, b"time", &numbers)
 }
 
-/// Adds a line of numbers behind its first word.
+/// Adds a line of eight numbers at most behind its first word. The numbers are put into a row, the
+/// last first, so that they are added at once.
 fn push_numbers(text: &mut Vec<u8>, title: &[u8], numbers: &[u16]) -> Result<(), OutOfMemory>
+    requires { length numbers.now ≤ 8 }
     ensures { OnOk result (text.new.items
         ≡ text.old.items ++ line (numbers_line title.now numbers.now)) }
 {
-    let mut buffer = Buffer::new();
-    text.extend_from_slice(title)?;
-    for number in numbers {
-        text.push(b' ')?;
-        text.extend_from_slice(buffer.format(*number).as_bytes())?;
+    let mut row = [b'\n'; ROW_END + 1];
+    let mut first = ROW_END;
+    let mut left = numbers.len();
+    while left > 0 {
+        left -= 1;
+        first = put_number(&mut row, numbers[left], first);
     }
-    text.push(b'\n')?;
-    Ok(())
+    text.extend_from_slice(title)?;
+    text.extend_from_slice(&row[first..])
+}
+
+/// Puts a number and the space before it into a row, before an index, and answers where they begin.
+fn put_number(row: &mut [u8; ROW_END + 1], number: u16, end: usize) -> usize
+    requires low { 6 ≤ end }
+    requires high { end ≤ 48 }
+    ensures before { result < end }
+    ensures near { end ≤ result + 6 }
+    ensures written { drop result row.new ≡ 32 ∷ decimal number ++ drop end row.old }
+{
+    let first = write_digits(u64::from(number), row, end) - 1;
+    row[first] = b' ';
+    first
 }
 
 /// Adds the line of the octets for local use of section 1, where there are any.
@@ -150,9 +174,18 @@ fn push_descriptors(text: &mut Vec<u8>, descriptors: &[Fxy]) -> Result<(), OutOf
 {
     text.extend_from_slice(b"descriptors")?;
     for fxy in descriptors {
-        text.push(b' ')?;
-        text.extend_from_slice(&fxy.digits())?;
+        text.extend_from_slice(&spaced(*fxy))?;
     }
     text.push(b'\n')?;
     Ok(())
+}
+
+/// A space and the six digits of a descriptor.
+fn spaced(fxy: Fxy) -> [u8; 7]
+    ensures { result ≡ 32 ∷ six_digits fxy }
+{
+    let digits = fxy.digits();
+    [
+        b' ', digits[0], digits[1], digits[2], digits[3], digits[4], digits[5],
+    ]
 }

@@ -16,5 +16,5 @@ returns c =
     ≡ old ++ codes "descriptors" ++ flat_map (λ d. 32 ∷ six_digits d) ds =
     c.loop-fxy.invariant ∙ (λ i. c.in_ok-extend_from_slice.ensures.items i
     ++ flat_map (λ d. 32 ∷ six_digits d) (all i)) in
-    c.in_ok-push-2.ensures.items ∙ ap (λ zs. zs ++ 10 ∷ []) before
+    c.in_ok-push.ensures.items ∙ ap (λ zs. zs ++ 10 ∷ []) before
     ∙ words_behind six_digits old (codes "descriptors") ds
