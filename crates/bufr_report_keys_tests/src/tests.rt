@@ -1,4 +1,7 @@
 //! Keys of reports, row by row of the description.
+
+mod handed;
+
 use bufr_answers::Items;
 use bufr_data::{Field, Raw};
 use bufr_expand::Spec;
@@ -405,4 +408,23 @@ fn thousand_fields(rt: HostRuntime) {
         number: 384,
     };
     assert_station(&rt, alloc, fields.as_slice(), Some(expected));
+}
+
+/// What fields say that are handed out one at a time: the first of an element counts, also where it
+/// is missing or blank.
+#[test]
+fn handed_out(rt: HostRuntime) {
+    let alloc = rt.alloc();
+    let ship = mobile(&rt, alloc, b"SHIP1");
+    let name: &[u8] = b"SHIP1    ";
+    let blank: &[u8] = b"         ";
+    let rows = [
+        ([10, 11], [name, blank], Some(Station::wmo(10, 384))),
+        ([127, 11], [name, blank], Some(ship)),
+        ([127, 11], [blank, name], None),
+    ];
+    for (blocks, names, station) in rows {
+        let octets = handed::octets(&rt, alloc, blocks, names);
+        handed::says(&rt, alloc, octets.as_slice(), station.as_ref());
+    }
 }
