@@ -12,7 +12,7 @@ use Rattle.std.proofs.lemmas.Nat.{pow_pos, pow-add, one_shl, and_mask, shl-shr, 
 use Rattle.std.proofs.lemmas.Nat.{mod_low, mod_below}
 use Rattle.std.proofs.lemmas.List.{append-nil, take_at, drop_at, take-append-drop, length-take-le}
 use Rattle.std.proofs.lemmas.List.{length-replicate, drop-drop, take-take, drop-take, get_or-take}
-use Rattle.std.proofs.lemmas.List.{get_or-drop, get_or_past, drop_more}
+use Rattle.std.proofs.lemmas.List.{get_or-drop, get_or_past, drop_more, take_more}
 use Rattle.std.proofs.lemmas.Bool.{cases_lt}
 use Rattle.bufr_bits.specs.Bits.{bin, bits, number, numbers}
 use Rattle.bufr_bits.specs.BitLaws.{length-bin, number_below, number-bin, number_same, small_mod}
@@ -189,15 +189,55 @@ number_of_octets xs k h =
     pow-le-pow_right (omega arith) (omega (arith, length-bits xs)) in
     omega arith
 
--- the same, cut out by a mask
-pub field_masked : (octets : List ℕ) (n first end place width spare : ℕ)
+-- the same, cut out by a mask of more bits
+pub field_masked : (octets : List ℕ) (n first end place width spare wide : ℕ)
     → n ≡ number (bits (take (end - first) (drop first octets))) → 8 * first ≤ place
-    → place + width + spare ≡ 8 * end → end ≤ length octets → width < 128
-    → bit_and (n / 2 ^ spare) (1 * 2 ^ width % 2 ^ 128 - 1)
+    → place + width + spare ≡ 8 * end → end ≤ length octets → width < wide
+    → bit_and (n / 2 ^ spare) (1 * 2 ^ width % 2 ^ wide - 1)
     ≡ number (take width (drop place (bits octets)))
-field_masked octets n first end place width spare spelt begins ends within narrow =
-    rw (one_shl width 128 narrow, and_mask (n / 2 ^ spare) width, spelt)
+field_masked octets n first end place width spare wide spelt begins ends within narrow =
+    rw (one_shl width wide narrow, and_mask (n / 2 ^ spare) width, spelt)
     (field_is octets first end place width spare begins ends within)
+
+-- no bits spell zero
+number_nil : number [] ≡ 0
+unfolding number
+number_nil = refl
+
+-- one octet more behind some from a place on
+octet_more : (octets : List ℕ) (first k at : ℕ) → at ≡ first + k → at < length octets
+    → ((i : ℕ) → get_or octets i 0 < 256)
+    → number (bits (take (k + 1) (drop first octets)))
+    ≡ number (bits (take k (drop first octets))) * 256 + get_or octets at 0
+octet_more octets first k at is below small =
+    let there : get_or (drop first octets) k 0 ≡ get_or octets at 0 =
+    get_or-drop first octets k 0 ∙ ap (λ j. get_or octets j 0) (sym is) in
+    ap (λ (ys : List ℕ). number (bits ys))
+    (take_more (drop first octets) k 0 (omega (arith, length-drop first octets))
+    ∙ ap (λ (y : ℕ). take k (drop first octets) ++ y ∷ []) there)
+    ∙ number_push (take k (drop first octets)) (get_or octets at 0) (small at)
+
+-- eight octets from a place on as one number, the first the most significant
+pub number_of_eight : (octets : List ℕ) (i : ℕ) → i + 8 ≤ length octets
+    → ((j : ℕ) → get_or octets j 0 < 256)
+    → get_or octets i 0 * 72057594037927936 + get_or octets (i + 1) 0 * 281474976710656
+    + get_or octets (i + 2) 0 * 1099511627776 + get_or octets (i + 3) 0 * 4294967296
+    + get_or octets (i + 4) 0 * 16777216 + get_or octets (i + 5) 0 * 65536
+    + get_or octets (i + 6) 0 * 256 + get_or octets (i + 7) 0
+    ≡ number (bits (take 8 (drop i octets)))
+number_of_eight octets i within small =
+    omega (
+      arith,
+      number_nil,
+      octet_more octets i 0 i (omega arith) (omega arith) small,
+      octet_more octets i 1 (i + 1) (omega arith) (omega arith) small,
+      octet_more octets i 2 (i + 2) (omega arith) (omega arith) small,
+      octet_more octets i 3 (i + 3) (omega arith) (omega arith) small,
+      octet_more octets i 4 (i + 4) (omega arith) (omega arith) small,
+      octet_more octets i 5 (i + 5) (omega arith) (omega arith) small,
+      octet_more octets i 6 (i + 6) (omega arith) (omega arith) small,
+      octet_more octets i 7 (i + 7) (omega arith) (omega arith) small,
+    )
 
 -- one number more of a row of numbers
 pub numbers-more : (k width t : ℕ) (text : List Bool) → t ≡ k * width
@@ -239,11 +279,6 @@ two_octets : (xs : List ℕ) (k : ℕ) → k + 1 < length xs
     → take 2 (drop k xs) ≡ get_or xs k 0 ∷ get_or xs (k + 1) 0 ∷ []
 two_octets xs k h =
     rw (drop_more xs k 0 (omega arith), drop_more xs (k + 1) 0 h) refl
-
--- no bits spell zero
-number_nil : number [] ≡ 0
-unfolding number
-number_nil = refl
 
 -- an octet off the edge, from its two neighbours
 pub number_of_two : (octets : List ℕ) (k shift spare a b : ℕ) → shift + spare ≡ 8

@@ -15,9 +15,29 @@ fn spelt(octets: &[u8]) -> u128
     total
 }
 
+/// The most bits of a field that stands in eight octets, wherever in the first of them it begins.
+const MOST_BITS_IN_A_WORD: u32 = 56;
+
+/// The number that the bits of eight octets from an index on spell.
+fn word_at(octets: &[u8], first: usize) -> u64
+    requires { first + 8 ≤ length octets.now }
+    ensures { result ≡ number (bits (take 8 (drop first octets.now))) }
+{
+    u64::from_be_bytes([
+        octets[first],
+        octets[first + 1],
+        octets[first + 2],
+        octets[first + 3],
+        octets[first + 4],
+        octets[first + 5],
+        octets[first + 6],
+        octets[first + 7],
+    ])
+}
+
 /// The number in a field of `width` bits that begins at a bit of the octets. It reads whole octets,
 /// at most nine.
-pub fn field(octets: &[u8], place: u128, width: u32) -> u64
+fn field_by_octets(octets: &[u8], place: u128, width: u32) -> u64
     requires narrow { width ≤ 64 }
     requires within { place + width ≤ 8 * length octets.now }
     ensures { result ≡ number (take width (drop place (bits octets.now))) }
@@ -27,4 +47,19 @@ pub fn field(octets: &[u8], place: u128, width: u32) -> u64
     let spare = 8 * end - end_bit;
     let number = spelt(&octets[(place / 8) as usize..end as usize]);
     ((number >> spare) & ((1u128 << width) - 1)) as u64
+}
+
+/// The same. Eight octets are read at once where so many are there and the field is no wider than
+/// 56 bits.
+pub fn field(octets: &[u8], place: u128, width: u32) -> u64
+    requires narrow { width ≤ 64 }
+    requires within { place + width ≤ 8 * length octets.now }
+    ensures { result ≡ number (take width (drop place (bits octets.now))) }
+{
+    let first = (place / 8) as usize;
+    if 1 <= width && width <= MOST_BITS_IN_A_WORD && octets.len() - first >= 8 {
+        let spare = 64 - (place % 8) as u32 - width;
+        return (word_at(octets, first) >> spare) & ((1u64 << width) - 1);
+    }
+    field_by_octets(octets, place, width)
 }

@@ -73,6 +73,8 @@ impl<'v> Fields<'v> {
     /// The first of the fields that are left, and then those behind it are left; `None` where none
     /// is. `OutOfMemory` where a text could not be copied: then ask for no more, since those that
     /// are left may be lost.
+    // A call would move each field through memory.
+    #[inline(always)]
     pub fn next(&mut self, alloc: Global) -> Result<Option<Field>, OutOfMemory>
         ensures { IfOk result (λ found. HandsOut self.old found self.new) }
     {

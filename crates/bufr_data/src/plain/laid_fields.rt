@@ -55,6 +55,8 @@ impl<'v> LaidFields<'v> {
 
     /// The first of the fields that are left, and then those behind it are left; `None` where none
     /// is. It can only run out of memory, where a text is copied; then none is left.
+    // A call would move each field through memory.
+    #[inline(always)]
     pub(crate) fn next(&mut self, alloc: Global) -> Result<Option<Field>, OutOfMemory>
         ensures { IfOk result (λ found. HandsOut self.old found self.new) }
     {

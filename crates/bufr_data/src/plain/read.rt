@@ -116,6 +116,8 @@ pub(crate) fn fault_of(fault: WalkFault) -> ReadFault
 }
 
 /// The raw value of field `i` of the subset.
+// A call would move each value through memory.
+#[inline(always)]
 pub(crate) fn read_raw(
     alloc: Global,
     spec: Spec,

@@ -1,0 +1,15 @@
+-- For `field_by_octets`: the octets in which a field stands spell its number, once shifted and masked.
+use Rattle.std.proofs.Common.{◌+◌, ◌-◌, ◌*◌, ◌/◌, arith}
+use Rattle.bufr_bits.proofs.BitLists.{field_masked}
+use Rattle.bufr_bits.proofs.field.field_by_octets.Goals as goal
+
+-- the number of those octets, less the spare bits behind and masked, is that of the field
+pub returns : goal.returns
+returns c =
+    let place = c.args.place in
+    let end = c.div_ceil-end.result in
+    let up = c.div_ceil-end.ensures in
+    field_masked c.args.octets.now c.spelt-number.result (place / 8) end place c.args.width
+    (8 * end - (place + c.from.result)) 128
+    c.spelt-number.ensures (omega arith) (omega (arith, c.from.ensures, up))
+    (omega (arith, c.from.ensures, up, c.requires)) (omega (arith, c.requires))
