@@ -273,10 +273,35 @@ fn joins_itself<S: Shelf>(rt: &impl Abort, alloc: Global, depot: &mut Depot<S>) 
     joins_without_key(rt, alloc, depot, &Step::Copy { from, into });
 }
 
+/// A slot that had nothing takes in the report without key of another.
+fn joins_into_an_empty_slot<S: Shelf>(
+    rt: &impl Abort,
+    alloc: Global,
+    depot: &mut Depot<S>,
+    step: &Step,
+    into: usize,
+) {
+    joins(rt, depot, step);
+    assert_writes(rt, alloc, depot, into, MONTH_13.as_slice());
+}
+
+// Each kind of step brings the only report of an archive, which has no key, to another slot.
+fn joins_others<S: Shelf>(rt: &impl Abort, alloc: Global, depot: &mut Depot<S>) {
+    let steps = [
+        (1usize, Step::Merge { from: 0, into: 1 }),
+        (2, Step::Transfer { from: 0, into: 2 }),
+        (3, Step::Copy { from: 0, into: 3 }),
+    ];
+    for (into, step) in &steps {
+        joins_into_an_empty_slot(rt, alloc, depot, step, *into);
+    }
+}
+
 fn joined_to_itself<S: Shelf>(rt: &impl Abort, alloc: Global) {
     let tables = tables(rt, alloc);
-    let mut depot: Depot<S> = depot_of(rt, alloc, &tables, 1);
+    let mut depot: Depot<S> = depot_of(rt, alloc, &tables, 4);
     joins_itself(rt, alloc, &mut depot);
+    joins_others(rt, alloc, &mut depot);
 }
 
 #[test]

@@ -115,13 +115,14 @@ fn refuse<S: Shelf>(rt: &impl Abort, alloc: Global) {
 }
 
 // A message that is not canonical is no entry: compressed, of two subsets, with octets for local
-// use, or with an octet after its data.
+// use, with an octet after its data, or with a bit behind them that is not zero.
 fn refuse_not_canonical<S: Shelf>(rt: &impl Abort, alloc: Global) {
     refused_at::<S>(rt, alloc, [COMPRESSED_PAIR, "", ""], 0);
     refused_at::<S>(rt, alloc, [PAIR_OF_STATIONS, "", ""], 0);
     refused_at::<S>(rt, alloc, [WITH_LOCAL_OCTETS, "", ""], 0);
     refused_at::<S>(rt, alloc, [WITH_SLACK, "", ""], 0);
     refused_at::<S>(rt, alloc, [ROW_1, WITH_SLACK, ""], 62);
+    refused_at::<S>(rt, alloc, [WITH_FILL_BIT, "", ""], 0);
 }
 
 #[test]

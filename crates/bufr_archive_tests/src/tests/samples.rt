@@ -118,6 +118,11 @@ pub(crate) const WITH_SLACK: &str = "\
 42554652 00003F 04 | S1 | 00000F 00 0001 80 C101 C10B C10C 0C65 |
 00000E 00 14C03F409EC01AACC000 | END";
 
+/// The first with a one among the bits that fill its last octet of data: 62 octets.
+pub(crate) const WITH_FILL_BIT: &str = "\
+42554652 00003E 04 | S1 | 00000F 00 0001 80 C101 C10B C10C 0C65 |
+00000D 00 14C03F409EC01AACC1 | END";
+
 /// A WIGOS identifier and the first's time: 80 octets.
 pub(crate) const WIGOS: &str = "\
 42554652 000050 04 | S1 | 00000F 00 0001 80 C196 C10B C10C 0C65 |

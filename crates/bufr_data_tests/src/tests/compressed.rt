@@ -261,14 +261,9 @@ fn compressed_factor(rt: HostRuntime) {
     let none = [0];
     let wanted = [none.as_slice(), none.as_slice()];
     reads(&rt, alloc, &list, &[0x00, 0x04], &wanted, &[0x00, 0x00]);
-    refuses(
-        &rt,
-        alloc,
-        &list,
-        2,
-        &[0x00, 0x05],
-        ReadFault::UnequalCounts(1),
-    );
+    for octets in [[0x00, 0x05], [0x01, 0x05]] {
+        refuses(&rt, alloc, &list, 2, &octets, ReadFault::UnequalCounts(1));
+    }
 }
 
 #[test]

@@ -383,6 +383,31 @@ fn misfits(rt: HostRuntime) {
     misfits_of(&rt, rt.alloc(), &pair, &short, subsets.as_slice(), &octets);
 }
 
+/// A replication, 255 turns of an operator, and one field of two bits: 512 items a subset, so that
+/// 32,768 subsets have 16,777,216.
+const MANY_ITEMS: [(u8, u8, u8); 3] = [(1, 1, 255), (2, 1, 129), (0, 2, 1)];
+
+/// 32,769 subsets of the field alone are too many by one under that template.
+fn writes_many_items(rt: &impl Abort, alloc: Global, subsets: &[Subset], octets: &[u8]) {
+    let many = template(rt, alloc, &MANY_ITEMS);
+    let mut sink = BitSink::new(alloc);
+    sink.put(3, 5).expect(rt, "room");
+    misfit(rt, alloc, &many, subsets, &mut sink, WriteFault::TooLarge);
+    let fewer = subsets.get(..32_768).expect(rt, "subsets");
+    same_written(rt, alloc, &many, fewer, octets);
+}
+
+#[test]
+fn items_written_up_to_the_limit(rt: HostRuntime) {
+    let alloc = rt.alloc();
+    let octets = vec![in alloc; 0x1B; 8193].expect(&rt, "room");
+    let one = template(&rt, alloc, &[(0, 2, 1)]);
+    let mut reader = BitReader::new(octets.as_slice());
+    let subsets = read_subsets(alloc, &one, false, 32_769, &mut reader).expect(&rt, "data");
+    let wanted = octets.get(..8192).expect(&rt, "octets");
+    writes_many_items(&rt, alloc, subsets.as_slice(), wanted);
+}
+
 #[test]
 fn no_subsets(rt: HostRuntime) {
     let alloc = rt.alloc();

@@ -183,6 +183,29 @@ fn counts_are_never_laid_out(rt: HostRuntime) {
     serves(&rt, alloc, &DELAYED, &octets, [&[0], &[2, 27315, 27316]]);
 }
 
+/// 17 times 255 fields of two bits: 4,335 fields.
+const MANY_FIELDS: [(u8, u8, u8); 3] = [(1, 2, 17), (1, 1, 255), (0, 2, 1)];
+
+/// The numbers 0, 1, 2, 3 and again, from this one on, 4,335 of them.
+fn in_turn(rt: &impl Abort, alloc: Global, first: u8) -> Vec<u64> {
+    let mut numbers = Vec::new(alloc);
+    for place in 0u64..4335 {
+        let number = (place + u64::from(first)) % 4;
+        numbers.push(number).expect(rt, "room");
+    }
+    numbers
+}
+
+/// More fields than 4,096, which no template lays out.
+#[test]
+fn more_fields_than_are_laid_out(rt: HostRuntime) {
+    let alloc = rt.alloc();
+    let octets = vec![in alloc; 0x1B; 2168].expect(&rt, "room");
+    let (first, second) = (in_turn(&rt, alloc, 0), in_turn(&rt, alloc, 3));
+    let wanted = [first.as_slice(), second.as_slice()];
+    serves(&rt, alloc, &MANY_FIELDS, octets.as_slice(), wanted);
+}
+
 const COMPRESSED_ROWS: Rows = &[(2, &[27316]), (1, &[27315]), (2, &[27316])];
 
 /// Temperatures, 0 12 101.

@@ -87,6 +87,11 @@ fn decimals(rt: HostRuntime) {
     let tiny = Decimal::new(1, 600).expect(&rt, "scale 600");
     let printed = format!(in rt.alloc(); "{tiny}").expect(&rt, "room");
     same(&rt, printed.as_str().len(), 602);
+    same(
+        &rt,
+        Decimal::parse(printed.as_str().as_bytes(), 600),
+        Some(tiny),
+    );
     assert!(rt; Decimal::new(0, 601).is_none());
     assert!(rt; Decimal::new(0, -601).is_none());
 }

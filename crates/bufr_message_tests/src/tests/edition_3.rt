@@ -4,7 +4,7 @@ use super::calls::*;
 use super::same;
 use super::samples::{octets, tables, with_zeros};
 use bufr_message::listing::text_of;
-use bufr_message::{Decoded, Message, View, reports, view};
+use bufr_message::{Decoded, Message, View, decode, reports, view};
 use std::alloc::Global;
 use std::process::Abort;
 
@@ -130,11 +130,16 @@ fn outcome_of(rt: &impl Abort, alloc: Global, all: &[u8]) -> String {
     }
 }
 
-/// How the message of this front, so many zero octets and section 5 is read: how many subsets it
-/// has, or why it is refused.
-fn outcome(rt: &impl Abort, alloc: Global, front: &str, zeros: usize) -> String {
-    let all = with_zeros(rt, alloc, front, zeros);
-    outcome_of(rt, alloc, all.as_slice())
+/// The same where they are decoded.
+fn decoded_outcome(rt: &impl Abort, alloc: Global, all: &[u8]) -> String {
+    let tables = tables(rt, alloc);
+    match decode(alloc, &tables, all) {
+        Ok(found) => {
+            let count = found.message.subsets.len();
+            format!(in alloc; "{count} subsets").expect(rt, "room")
+        }
+        Err(failure) => printed(rt, alloc, &failure),
+    }
 }
 
 /// One subset of 16,777,151 characters, in the longest message of edition 3.
@@ -147,10 +152,14 @@ const LONGEST_READ: &str = "\
 42554652 FFFFFA 03 | 000011 00 00 62 00 00 00 02 0D 00 18 01 0F 0C 00 |
 00001F 00 0001 80 42FF 41FF 85FF 41FF 85FF 41FF 85FF 41FF 85FF 85FF 85FF 85BA | FFFFBE 00";
 
-/// The message of this front is read so.
+/// The message of this front, so many zero octets and section 5 is viewed and decoded so: how many
+/// subsets it has, or why it is refused.
 fn assert_outcome(rt: &impl Abort, alloc: Global, front: &str, zeros: usize, wanted: &str) {
-    let found = outcome(rt, alloc, front, zeros);
-    same(rt, found.as_str(), wanted);
+    let all = with_zeros(rt, alloc, front, zeros);
+    let viewed = outcome_of(rt, alloc, all.as_slice());
+    same(rt, viewed.as_str(), wanted);
+    let decoded = decoded_outcome(rt, alloc, all.as_slice());
+    same(rt, decoded.as_str(), wanted);
 }
 
 #[test]

@@ -152,7 +152,8 @@ fn brought(answer: &Result<Answer, StepFault>, all: u128) -> u128 {
     }
 }
 
-/// What the answers of a run tell is held. Answered is whether each step was done.
+/// What the answers of a run tell is held: the piece brings all three reports, of two messages.
+/// Answered is whether each step was done.
 fn assert_told<S: Shelf>(
     rt: &impl Abort,
     alloc: Global,
@@ -162,7 +163,7 @@ fn assert_told<S: Shelf>(
     let [fed, ended, joined] = answers else {
         return Err("three answers".into());
     };
-    let first = brought(fed, 2).saturating_add(brought(ended, 0));
+    let first = brought(fed, 3).saturating_add(brought(ended, 0));
     assert_slot(rt, alloc, depot, 0, first)?;
     assert_slot(rt, alloc, depot, 1, brought(joined, first))?;
     Ok(were_done(answers))
@@ -194,15 +195,15 @@ fn run_to_end<S: Shelf>(
     if !run(rt, alloc, depot, steps)? {
         assert!(rt; run(rt, alloc, depot, steps)?);
     }
-    assert_slot(rt, alloc, depot, 0, 2)?;
-    assert_slot(rt, alloc, depot, 1, 2)
+    assert_slot(rt, alloc, depot, 0, 3)?;
+    assert_slot(rt, alloc, depot, 1, 3)
 }
 
 /// A run, and the same run again where a step was refused.
 fn runs<S: Shelf>(rt: &impl Abort, alloc: Global) -> Result<(), Fail> {
     let tables = tables(alloc)?;
     let steps = [
-        feed(alloc, &[PAIR_OF_STATIONS])?,
+        feed(alloc, &[PAIR_OF_STATIONS, MONTH_13])?,
         Step::End { slot: 0 },
         Step::Transfer { from: 0, into: 1 },
     ];
