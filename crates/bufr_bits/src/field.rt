@@ -49,17 +49,18 @@ fn field_by_octets(octets: &[u8], place: u128, width: u32) -> u64
     ((number >> spare) & ((1u128 << width) - 1)) as u64
 }
 
-/// The same. Eight octets are read at once where so many are there and the field is no wider than
-/// 56 bits.
+/// The same. Eight octets are read at once where the field is no wider than 56 bits and there are so
+/// many octets: the last eight where fewer follow the one in which the field begins.
 pub fn field(octets: &[u8], place: u128, width: u32) -> u64
     requires narrow { width ≤ 64 }
     requires within { place + width ≤ 8 * length octets.now }
     ensures { result ≡ number (take width (drop place (bits octets.now))) }
 {
-    let first = (place / 8) as usize;
-    if 1 <= width && width <= MOST_BITS_IN_A_WORD && octets.len() - first >= 8 {
-        let spare = 64 - (place % 8) as u32 - width;
-        return (word_at(octets, first) >> spare) & ((1u64 << width) - 1);
+    if 1 <= width && width <= MOST_BITS_IN_A_WORD && octets.len() >= 8 {
+        let whole = (place / 8) as usize;
+        let first = whole.min(octets.len() - 8);
+        let before = 8 * (whole - first) as u32 + (place % 8) as u32;
+        return (word_at(octets, first) >> (64 - before - width)) & ((1u64 << width) - 1);
     }
     field_by_octets(octets, place, width)
 }

@@ -1,6 +1,7 @@
 //! Bits as they stand in messages.
 
 mod devices;
+mod ends;
 mod sizes;
 
 use bufr_bits::{BitReader, BitSink};

@@ -1,9 +1,9 @@
--- Fields that are passed since they are not asked for, one after the other: for the loops of
--- `Fields::next_asked` and `Fields::pass_unasked`. And fields that a walk would meet, none of which
--- is asked for: for `PlainFields::ends_unasked`.
+-- Fields that are passed since they are not asked for, one after the other, and the first behind
+-- them: for `next_asked` of `PlainFields`, `LaidFields` and `ColumnFields`. And fields that a walk
+-- would meet, none of which is asked for: for `PlainFields::ends_unasked`.
 use Rattle.std.proofs.Common.{◌≡◌, ℕ, ◌+◌, Bool, true, false, List, [], ◌∷◌, ◌++◌, sym, subst}
 use Rattle.std.proofs.Common.{Option, Some, None, Result, Ok, Err}
-use Rattle.std.proofs.Common.{ap, ◌∙◌, append_assoc}
+use Rattle.std.proofs.Common.{ap, ◌∙◌, append_assoc, append-nil}
 use Rattle.bufr_bits.specs.Ends.{BitPlace, left}
 use Rattle.bufr_answers.specs.Answers.{◌>>=◌}
 use Rattle.bufr_expand.specs.declared.operators.Spec.{Spec}
@@ -16,7 +16,8 @@ use Rattle.bufr_expand.specs.Walks as walks
 use Rattle.bufr_data.specs.declared.field.Field.{Field}
 use Rattle.bufr_data.specs.declared.field.Raw.{Raw}
 use Rattle.bufr_data.specs.declared.fault.ReadFault.{ReadFault}
-use Rattle.bufr_data.specs.Handed.{NoneAsked, PassesFirst, PassesUnasked, fields_ahead}
+use Rattle.bufr_data.specs.Handed.{HandsOut, HandsOutAsked, NoneAsked, FirstIsAsked, PassesFirst}
+use Rattle.bufr_data.specs.Handed.{PassesUnasked, fields_ahead}
 use Rattle.bufr_data.specs.Plain.{SubsetRead, fields_at, field_then, number_of, raw_at, stopped}
 use Rattle.bufr_data.specs.Plain.Starts.{fields_of}
 use Rattle.bufr_data.proofs.ListFacts.{all_joined}
@@ -31,6 +32,35 @@ module _ (asks : ℕ → Bool) (all old new : List Field) where
     so_far.2 ∙ ap (λ fields. so_far.0 ++ fields) step.2
         ∙ sym (append_assoc so_far.0 (step.0 ∷ []) new),
   )
+
+-- the first that is left is handed out, which is asked for; or none is left
+pub asked_handed : (P : ℕ → Bool) (all old new : List Field) (found : Option Field)
+    → PassesUnasked P all old → FirstIsAsked P old → HandsOut old found new
+    → HandsOutAsked P all found new
+asked_handed P all old new (Some f) so_far first handed = (
+  so_far.0,
+  so_far.1,
+  subst (FirstIsAsked P) handed first,
+  so_far.2 ∙ ap (λ fields. so_far.0 ++ fields) handed,
+)
+asked_handed P all old new None so_far first handed =
+    let none : all ≡ so_far.0 =
+    so_far.2 ∙ ap (λ fields. so_far.0 ++ fields) handed.0 ∙ append-nil so_far.0 in
+    (subst (NoneAsked P) (sym none) so_far.1, handed.1)
+
+-- a field that is asked for, in front of those that are read behind it
+asked_in_front : (P : ℕ → Bool) (f : Field) (r : Result SubsetRead ReadFault) → P f.fxy ≡ true
+    → FirstIsAsked P (fields_of (r >>= λ found. Ok (record found { fields = f ∷ found.fields })))
+asked_in_front P f (Ok found) asked = asked
+asked_in_front P f (Err e) asked = tt
+
+-- so it is where the field is read, if it is there
+pub asked_from : (P : ℕ → Bool) (j i d : ℕ) (spec : Spec)
+    (after : ℕ → List Bool → Result SubsetRead ReadFault) (found : Option (Raw × List Bool))
+    → P d ≡ true → FirstIsAsked P (fields_of (field_then j i d spec after found))
+asked_from P j i d spec after None asked = tt
+asked_from P j i d spec after (Some x) asked =
+    asked_in_front P (record { fxy = d; spec = spec; raw = x.0 }) (after (number_of x.0) x.1) asked
 
 -- ---- fields that a walk would meet
 

@@ -1,7 +1,7 @@
 -- Fields of a subset that are handed out one at a time, in the order of the data: what is left of
 -- them is a list.
 use Rattle.std.specs.Prelude.{◌≡◌, ℕ, Bool, true, false, List, [], ◌∷◌, ◌++◌, map, Option, Some}
-use Rattle.std.specs.Prelude.{None, IsOk, ◌<◌}
+use Rattle.std.specs.Prelude.{None, IsOk, ◌<◌, ◌≤◌, ◌+◌, length}
 use Rattle.std.specs.List.{AllByRecursion}
 use Rattle.bufr_bits.specs.Ends.{BitPlace, left}
 use Rattle.bufr_expand.specs.declared.walk.Walk.{Walk}
@@ -41,6 +41,11 @@ abbrev pub PassesUnasked : (ℕ → Bool) → List Field → List Field → Type
 PassesUnasked asks old new =
     (passed : List Field) × NoneAsked asks passed × (old ≡ passed ++ new)
 
+-- the first of the fields is asked for, or there is none
+abbrev pub FirstIsAsked : (ℕ → Bool) → List Field → Type 0
+FirstIsAsked asks [] = Unit {0}
+FirstIsAsked asks (f ∷ fields) = asks f.fxy ≡ true
+
 -- the fields that a walk meets in the bits that are left, till the subset is done
 abbrev pub fields_ahead : Bool → Walk → BitPlace → List Field
 fields_ahead true walk reader = []
@@ -56,9 +61,21 @@ StandAhead false walk reader =
 abbrev pub fields_laid : List LaidField → BitPlace → List Field
 fields_laid fields reader = fields_of (fields_at 1 1 (laid_course fields) (left reader))
 
+-- so many bits further on
+abbrev pub moved_on : BitPlace → ℕ → BitPlace
+moved_on reader bits = record reader { place = reader.place + bits }
+
 -- all of them are there
 abbrev pub StandLaid : List LaidField → BitPlace → Type 0
 StandLaid fields reader = IsOk (fields_at 1 1 (laid_course fields) (left reader))
+
+-- fields that are laid out are passed, of which none is asked for, with all their bits; the others
+-- are left, and are there
+pub record PassesLaid (asks : ℕ → Bool) (old new : List LaidField) (reader : BitPlace) (bits : ℕ)
+    : Type 0 where
+  pub within : bits ≤ length (left reader)
+  pub there : StandLaid new (moved_on reader bits)
+  pub passed : PassesUnasked asks (fields_laid old reader) (fields_laid new (moved_on reader bits))
 
 -- the values at an index of the columns at places, as fields
 abbrev pub fields_there : List ℕ → ℕ → ℕ → List Place → List Field

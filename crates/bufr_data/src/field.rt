@@ -82,8 +82,8 @@ impl Field {
         ensures { result ≡ is_missing self.now }
     {
         let width = self.spec.width;
-        self.raw.has_form(self.spec.kind, width)
-            && self.raw.is_all_ones(width)
+        self.raw.is_all_ones(width)
+            && self.raw.has_form(self.spec.kind, width)
             && width != 1
             && !matches!(self.spec.kind, Kind::Count)
     }

@@ -1,8 +1,7 @@
 //! The fields of a subset, one at a time.
 
-ghost use Rattle.std.specs.Prelude.{◌≡◌, [], IfOk};
-ghost use Rattle.std.specs.Bool.{OnTrue, OnFalse};
-ghost use Rattle.bufr_data.specs.Handed.{HandsOut, HandsOutAsked, NoneAsked, PassesFirst, PassesUnasked};
+ghost use Rattle.std.specs.Prelude.{◌≡◌, IfOk, IfErr};
+ghost use Rattle.bufr_data.specs.Handed.{HandsOut, HandsOutAsked};
 
 use crate::compressed::fields::ColumnFields;
 use crate::field::Field;
@@ -93,46 +92,25 @@ impl<'v> Fields<'v> {
     pub fn next_asked<A: Asks>(&mut self, alloc: Global) -> Result<Option<Field>, OutOfMemory>
         ensures { IfOk result (λ found. HandsOutAsked A.is_asked self.old found self.new) }
     {
-        self.pass_unasked::<A>();
-        if self.ends_unasked::<A>() {
-            return Ok(None);
-        }
-        while let Some(field) = self.next(alloc)? {
-            if A::asks(field.fxy) {
-                return Ok(Some(field));
-            }
-        }
-        Ok(None)
-    }
-
-    /// Passes fields in front that are not asked for: all of them, unless a walk meets them.
-    fn pass_unasked<A: Asks>(&mut self)
-        ensures { PassesUnasked A.is_asked self.old self.new }
-    {
-        while self.pass_first::<A>() {}
-    }
-
-    /// Passes the first of the fields that are left, where it is not asked for and no walk meets
-    /// it.
-    fn pass_first<A: Asks>(&mut self) -> bool
-        ensures passed { OnTrue result (PassesFirst A.is_asked self.old self.new) }
-        ensures unmoved { OnFalse result (self.new ≡ self.old) }
-    {
         match &mut self.standing {
-            StandingFields::Plain(_) => false,
-            StandingFields::Laid(fields) => fields.pass_first::<A>(),
-            StandingFields::Compressed(fields) => fields.pass_first::<A>(),
+            StandingFields::Plain(fields) => fields.next_asked::<A>(alloc),
+            StandingFields::Laid(fields) => fields.next_asked::<A>(alloc),
+            StandingFields::Compressed(fields) => fields.next_asked::<A>(alloc),
         }
     }
 
-    /// Lets all fields go that are left, where a walk meets them and tells that none is asked for.
-    fn ends_unasked<A: Asks>(&mut self) -> bool
-        ensures ended { OnTrue result (NoneAsked A.is_asked self.old × (self.new ≡ [])) }
-        ensures unmoved { OnFalse result (self.new ≡ self.old) }
+    /// The fields that are left, where they are those of a plain subset and laid out; else they are
+    /// given back. A loop over `next_asked` need not ask at each field where they stand.
+    pub fn laid(self) -> Result<LaidFields<'v>, Fields<'v>>
+        ensures laid { IfOk result (λ fields. fields ≡ self.entry) }
+        ensures others { IfErr result (λ fields. fields ≡ self.entry) }
     {
-        match &mut self.standing {
-            StandingFields::Plain(fields) => fields.ends_unasked::<A>(),
-            StandingFields::Laid(_) | StandingFields::Compressed(_) => false,
+        match self.standing {
+            StandingFields::Laid(fields) => Ok(fields),
+            standing => Err(Fields {
+                standing,
+                room: self.room,
+            }),
         }
     }
 

@@ -30,6 +30,7 @@ pub use fault::{ReadFault, WriteFault};
 pub use field::{Decimal, Field, Raw, Subset};
 pub use fields::Fields;
 pub use limits::{MOST_DECIMAL_SCALE, MOST_INCREMENT_BITS, MOST_RAW_BITS, MOST_VALUES};
+pub use plain::laid_fields::LaidFields;
 pub use plain::read::read_plain;
 pub use plain::write::write_plain;
 pub use subset_index::SubsetIndex;

@@ -1,5 +1,6 @@
 //! Values and data, row by row of the description.
 
+mod asked;
 mod compressed;
 mod data;
 mod forms;

@@ -1,5 +1,5 @@
--- What first fields say, field by field, and the key that they say: for `values_of`, `values_in`,
--- `key_in` and `key_of_fields`.
+-- What first fields say, field by field, and the key that they say: for `values_laid`,
+-- `values_met`, `values_in`, `key_in` and `key_of_fields`.
 use Rattle.std.proofs.Common.{◌≡◌, ℕ, ◌==◌, Bool, true, false, List, [], ◌∷◌, ◌++◌, Option, Some}
 use Rattle.std.proofs.Common.{None, refl, sym, ap, subst, ◌∙◌, append_assoc, cond, length, take}
 use Rattle.std.proofs.Common.{slice_index_or, ◌+◌, ◌<◌}

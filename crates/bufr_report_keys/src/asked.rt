@@ -5,7 +5,7 @@ ghost use Rattle.bufr_report_keys.specs.FirstValues.{first_values};
 
 use crate::first_values::FirstValues;
 use bufr_answers::{Items, OutOfMemory};
-use bufr_data::{Asks, Field, Fields, Raw};
+use bufr_data::{Asks, Field, Fields, LaidFields, Raw};
 use bufr_tables::Fxy;
 use std::alloc::Global;
 
@@ -45,7 +45,28 @@ impl Asks for KeyElements {
 
 /// What the first fields say of fields that are handed out one at a time. The others are let go one
 /// by one, and most are not built. It can only run out of memory.
-pub(crate) fn values_of(alloc: Global, mut fields: Fields<'_>) -> Result<FirstValues, OutOfMemory>
+pub(crate) fn values_of(alloc: Global, fields: Fields<'_>) -> Result<FirstValues, OutOfMemory>
+    ensures { IfOk result (λ values. values ≡ first_values fields.entry) }
+{
+    match fields.laid() {
+        Ok(fields) => values_laid(alloc, fields),
+        Err(fields) => values_met(alloc, fields),
+    }
+}
+
+/// The same of fields that are laid out.
+fn values_laid(alloc: Global, mut fields: LaidFields<'_>) -> Result<FirstValues, OutOfMemory>
+    ensures { IfOk result (λ values. values ≡ first_values fields.entry) }
+{
+    let mut values = FirstValues::none();
+    while let Some(field) = fields.next_asked::<KeyElements>(alloc)? {
+        values.note(field);
+    }
+    Ok(values)
+}
+
+/// The same of any fields.
+fn values_met(alloc: Global, mut fields: Fields<'_>) -> Result<FirstValues, OutOfMemory>
     ensures { IfOk result (λ values. values ≡ first_values fields.entry) }
 {
     let mut values = FirstValues::none();

@@ -1,9 +1,10 @@
 //! What the first field of each element says that a key asks for.
 ghost use Rattle.std.specs.Prelude.{◌≡◌, [], Some};
 ghost use Rattle.std.specs.Option.{option_or};
-ghost use Rattle.bufr_report_keys.specs.Usable.{usable_number, usable_text};
+ghost use Rattle.bufr_report_keys.specs.Usable.{usable_text};
 
-use crate::usable::{usable_number, usable_text};
+use crate::first_number::FirstNumber;
+use crate::usable::usable_text;
 use bufr_answers::Items;
 use bufr_data::Field;
 
@@ -12,31 +13,31 @@ use bufr_data::Field;
 #[derive(Drop)]
 pub(crate) struct FirstValues {
     /// WMO block number (001001).
-    pub(crate) block: Option<Option<i128>>,
+    pub(crate) block: FirstNumber,
     /// WMO station number (001002).
-    pub(crate) station: Option<Option<i128>>,
+    pub(crate) station: FirstNumber,
     /// Ship or mobile land station identifier (001011).
     pub(crate) mobile: Option<Option<Items<u8>>>,
     /// WIGOS identifier series (001125).
-    pub(crate) series: Option<Option<i128>>,
+    pub(crate) series: FirstNumber,
     /// WIGOS issuer of identifier (001126).
-    pub(crate) issuer: Option<Option<i128>>,
+    pub(crate) issuer: FirstNumber,
     /// WIGOS issue number (001127).
-    pub(crate) issue: Option<Option<i128>>,
+    pub(crate) issue: FirstNumber,
     /// WIGOS local identifier (001128).
     pub(crate) local: Option<Option<Items<u8>>>,
     /// Year (004001).
-    pub(crate) year: Option<Option<i128>>,
+    pub(crate) year: FirstNumber,
     /// Month (004002).
-    pub(crate) month: Option<Option<i128>>,
+    pub(crate) month: FirstNumber,
     /// Day (004003).
-    pub(crate) day: Option<Option<i128>>,
+    pub(crate) day: FirstNumber,
     /// Hour (004004).
-    pub(crate) hour: Option<Option<i128>>,
+    pub(crate) hour: FirstNumber,
     /// Minute (004005).
-    pub(crate) minute: Option<Option<i128>>,
+    pub(crate) minute: FirstNumber,
     /// Second (004006).
-    pub(crate) second: Option<Option<i128>>,
+    pub(crate) second: FirstNumber,
 }
 
 impl FirstValues {
@@ -47,55 +48,48 @@ impl FirstValues {
         ensures { result ≡ first_values [] }
     {
         FirstValues {
-            block: None,
-            station: None,
+            block: FirstNumber::unmet(),
+            station: FirstNumber::unmet(),
             mobile: None,
-            series: None,
-            issuer: None,
-            issue: None,
+            series: FirstNumber::unmet(),
+            issuer: FirstNumber::unmet(),
+            issue: FirstNumber::unmet(),
             local: None,
-            year: None,
-            month: None,
-            day: None,
-            hour: None,
-            minute: None,
-            second: None,
+            year: FirstNumber::unmet(),
+            month: FirstNumber::unmet(),
+            day: FirstNumber::unmet(),
+            hour: FirstNumber::unmet(),
+            minute: FirstNumber::unmet(),
+            second: FirstNumber::unmet(),
         }
     }
 
     /// Notes one more field: it counts where it is the first of an element that is asked for.
+    // A call would move each field through memory.
+    #[inline(always)]
     pub(crate) fn note(&mut self, field: Field)
         ensures { self.new ≡ noted field self.old }
     {
         match field.fxy.bits() {
-            257 => note_number(&mut self.block, &field),
-            258 => note_number(&mut self.station, &field),
+            257 => self.block.note(&field),
+            258 => self.station.note(&field),
             267 => note_text(&mut self.mobile, field),
-            381 => note_number(&mut self.series, &field),
-            382 => note_number(&mut self.issuer, &field),
-            383 => note_number(&mut self.issue, &field),
+            381 => self.series.note(&field),
+            382 => self.issuer.note(&field),
+            383 => self.issue.note(&field),
             384 => note_text(&mut self.local, field),
-            1025 => note_number(&mut self.year, &field),
-            1026 => note_number(&mut self.month, &field),
-            1027 => note_number(&mut self.day, &field),
-            1028 => note_number(&mut self.hour, &field),
-            1029 => note_number(&mut self.minute, &field),
-            1030 => note_number(&mut self.second, &field),
+            1025 => self.year.note(&field),
+            1026 => self.month.note(&field),
+            1027 => self.day.note(&field),
+            1028 => self.hour.note(&field),
+            1029 => self.minute.note(&field),
+            1030 => self.second.note(&field),
             _ => {}
         }
     }
 }
 
-/// Notes the number of a field, where none of its element was met before.
-fn note_number(value: &mut Option<Option<i128>>, field: &Field)
-    ensures { value.new ≡ option_or value.old (Some (usable_number field.now)) }
-{
-    if value.is_none() {
-        *value = Some(usable_number(field));
-    }
-}
-
-/// Notes its text.
+/// Notes the text of a field, where none of its element was met before.
 fn note_text(value: &mut Option<Option<Items<u8>>>, field: Field)
     ensures { value.new ≡ option_or value.old (Some (usable_text field)) }
 {

@@ -8,6 +8,7 @@
 #![tactic(auto)]
 
 mod asked;
+mod first_number;
 mod first_values;
 mod keys;
 pub mod laws;

@@ -67,12 +67,12 @@ fn sixtieth(number: Option<i128>) -> Option<u8>
 pub(crate) fn moment_of(values: &FirstValues) -> Option<Moment>
     ensures { result ≡ moment_of values.now }
 {
-    let year = year_of(values.year.flatten()?)?;
-    let month = from_to(1, 12, values.month.flatten()?)?;
-    let day = day_of(year, month, values.day.flatten()?)?;
-    let hour = from_to(0, 23, values.hour.flatten()?)?;
-    let minute = sixtieth(values.minute.flatten())?;
-    let second = sixtieth(values.second.flatten())?;
+    let year = year_of(values.year.usable()?)?;
+    let month = from_to(1, 12, values.month.usable()?)?;
+    let day = day_of(year, month, values.day.usable()?)?;
+    let hour = from_to(0, 23, values.hour.usable()?)?;
+    let minute = sixtieth(values.minute.usable())?;
+    let second = sixtieth(values.second.usable())?;
     Some(Moment {
         year,
         month,

@@ -36,12 +36,12 @@ fn mobile(name: Option<Items<u8>>) -> Option<Station>
 pub(crate) fn station_of(values: FirstValues) -> Option<Station>
     ensures { result ≡ station_of values }
 {
-    if let Some(station) = wmo(values.block.flatten(), values.station.flatten()) {
+    if let Some(station) = wmo(values.block.usable(), values.station.usable()) {
         return Some(station);
     }
-    let series = values.series.flatten();
-    let issuer = values.issuer.flatten();
-    let issue = values.issue.flatten();
+    let series = values.series.usable();
+    let issuer = values.issuer.usable();
+    let issue = values.issue.usable();
     if let Some(station) = wigos(series, issuer, issue, values.local.flatten()) {
         return Some(station);
     }

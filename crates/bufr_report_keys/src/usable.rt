@@ -10,11 +10,12 @@ use bufr_tables::Kind;
 pub(crate) fn usable_number(field: &Field) -> Option<i128>
     ensures { result ≡ usable_number field.now }
 {
-    let value = field.value()?;
-    if value.scale == 0 {
-        Some(value.units)
-    } else {
-        None
+    if field.spec.scale != 0 {
+        return None;
+    }
+    match field.value() {
+        Some(value) => Some(value.units),
+        None => None,
     }
 }
 

@@ -428,3 +428,27 @@ fn handed_out(rt: HostRuntime) {
         handed::says(&rt, alloc, octets.as_slice(), station.as_ref());
     }
 }
+
+/// Where each element comes twice, the first counts.
+#[test]
+fn handed_out_twice(rt: HostRuntime) {
+    let alloc = rt.alloc();
+    let station = wigos(&rt, alloc);
+    let moment = Moment {
+        minute: 30,
+        second: 45,
+        ..AT_NOON
+    };
+    let keys = handed::keys_twice(&rt, alloc);
+    assert_eq!(&rt; keys.len(), 3);
+    for found in keys.as_slice() {
+        let key = found.as_ref().expect(&rt, "a key");
+        assert!(&rt; key.station == station, "{key:?}");
+        assert!(&rt; key.moment == moment, "{key:?}");
+    }
+}
+
+#[test]
+fn handed_out_none(rt: HostRuntime) {
+    assert!(&rt; handed::keys_of_none(&rt, rt.alloc()));
+}

@@ -1,8 +1,9 @@
 -- Fields that are laid out are those for which the course of each plain subset asks
 -- (`Layout::of`, `PlainSubsets::fields`, `LaidFields`).
-use Rattle.std.proofs.Common.{◌≡◌, ℕ, ◌+◌, ◌≤◌, Bool, false, List, [], ◌∷◌, ◌++◌, Option, Some, None}
+use Rattle.std.proofs.Common.{◌≡◌, ℕ, ◌+◌, ◌≤◌, Bool, true, false, List, [], ◌∷◌, ◌++◌, Option, Some, None}
 use Rattle.std.proofs.Common.{Result, Ok, Err, map, length, drop, refl, sym, ap, subst, ◌∙◌, arith}
 use Rattle.std.specs.Prelude.{IsOk}
+use Rattle.std.proofs.lemmas.List.{drop-drop, length-drop}
 use Rattle.bufr_answers.specs.Answers.{◌>>=◌}
 use Rattle.bufr_tables.specs.declared.element.Kind.TheVariants as kinds
 use Rattle.bufr_tables.specs.Elements.{same_kind}
@@ -27,11 +28,11 @@ use Rattle.bufr_data.specs.Plain.Layouts.{laid_course, told_laid, HaveNoCount, I
 use Rattle.bufr_bits.specs.Bits.{bits}
 use Rattle.bufr_bits.specs.Ends as ends_of
 use Rattle.bufr_bits.specs.Ends.{BitPlace}
-use Rattle.bufr_data.specs.Handed.{fields_laid, StandLaid, PassesFirst}
-use Rattle.bufr_data.specs.Plain.Alike.{TakesBits}
+use Rattle.bufr_data.specs.Handed.{fields_laid, StandLaid, FirstIsAsked, PassesLaid, moved_on}
 use Rattle.bufr_data.specs.Plain.Reads.{raw_or_ends, behind_fields}
-use Rattle.bufr_data.specs.Plain.Starts.{fields_of, subset_at, BeginsAtStart}
+use Rattle.bufr_data.specs.Plain.Starts.{PassesRaw, fields_of, subset_at, BeginsAtStart}
 use Rattle.bufr_data.specs.StepLaws.{asks_field, ends_there}
+use Rattle.bufr_data.proofs.AskedFacts.{one_passed, asked_from}
 use Rattle.bufr_data.proofs.ListFacts.{all_grown, map_grown}
 use Rattle.bufr_data.proofs.PlainFacts.Handed.{Handed, field_handed}
 use Rattle.bufr_data.proofs.PlainFacts.Reads.{asked_field, found_is}
@@ -212,16 +213,80 @@ first_handed (g ∷ fields) others f reader rest raw is stand read =
     (ends_of.left rest) (record { fxy = f.fxy; spec = f.spec; raw = raw }) stand
     (ap (λ fs. fields_at 1 1 (laid_course fs) (ends_of.left reader)) is ∙ step)
 
--- the first that is laid out is passed with the bits that it takes, where it is not asked for
-pub first_passed : (is_asked : ℕ → Bool) (fields others : List LaidField) (f : LaidField)
-    (reader rest : BitPlace) (size : ℕ) → fields ≡ f ∷ others → StandLaid fields reader
-    → TakesBits f.spec size → size ≤ length (ends_of.left reader)
-    → ends_of.left rest ≡ drop size (ends_of.left reader) → is_asked f.fxy ≡ false
-    → StandLaid others rest
-    × PassesFirst is_asked (fields_laid fields reader) (fields_laid others rest)
-first_passed is_asked fields others f reader rest size is stand takes enough behind unasked =
-    let passed = takes.there 1 (ends_of.left reader) enough in
+-- ---- those that are not asked for are passed
+
+-- where a field is read and others behind it, it is there
+then_there : (d : ℕ) (spec : Spec) (after : ℕ → List Bool → Result SubsetRead ReadFault)
+    (found : Option (Raw × List Bool)) → IsOk (field_then 1 1 d spec after found)
+    → IsOk (raw_or_ends 1 1 found)
+then_there d spec after None ok = absurd cc
+then_there d spec after (Some x) ok = refl
+
+-- so the first that is laid out is there
+first_there : (others : List LaidField) (f : LaidField) (reader : BitPlace)
+    → StandLaid (f ∷ others) reader → IsOk (raw_or_ends 1 1 (raw_at f.spec (ends_of.left reader)))
+unfolding fields_at laid_course
+first_there others f reader stand =
+    then_there f.fxy f.spec (λ n rest. fields_at 1 2 (laid_course others) rest)
+    (raw_at f.spec (ends_of.left reader)) stand
+
+-- a reader that moves on by no bits stands where it stood
+pub unmoved : (reader : BitPlace) → moved_on reader 0 ≡ reader
+unmoved reader =
+    ap (λ (k : ℕ). record { octets = reader.octets; place = k }) (omega arith)
+
+-- at first none is passed
+pub none_passed : (P : ℕ → Bool) (fields : List LaidField) (reader : BitPlace)
+    → StandLaid fields reader → PassesLaid P fields fields reader 0
+none_passed P fields reader stand =
+    let same = sym (unmoved reader) in
+    record {
+      within = omega arith;
+      there = subst (StandLaid fields) same stand;
+      passed = ([], tt, ap (fields_laid fields) same);
+    }
+
+-- one more is passed, which is not asked for, with the bits that it has
+pub one_more_passed : (P : ℕ → Bool) (all fields others : List LaidField) (f : LaidField)
+    (reader : BitPlace) (passed size : ℕ) → fields ≡ f ∷ others
+    → PassesLaid P all fields reader passed → P f.fxy ≡ false
+    → ((front : List Bool) → IsOk (raw_or_ends 1 1 (raw_at f.spec front))
+    → (size ≤ length front) × PassesRaw 1 f.spec front (drop size front))
+    → PassesLaid P all others reader (passed + size)
+one_more_passed P all fields others f reader passed size is so_far unasked takes =
+    let at = moved_on reader passed in
+    let next = moved_on reader (passed + size) in
+    let all_bits = bits reader.octets in
+    let stand : StandLaid (f ∷ others) at = subst (λ fs. StandLaid fs at) is so_far.there in
+    let taken = takes (ends_of.left at) (first_there others f at stand) in
+    let further : reader.place + (passed + size) ≡ reader.place + passed + size = omega arith in
+    let behind : ends_of.left next ≡ drop size (ends_of.left at) =
+    ap (λ k. drop k all_bits) further
+    ∙ sym (drop-drop size (reader.place + passed) all_bits) in
     let h =
-    first_handed fields others f reader rest passed.0 is stand
-    (passed.1 ∙ ap (λ bs. Ok (passed.0, bs)) (sym behind)) in
-    (h.there, (_, unasked, h.is))
+    first_handed fields others f at next taken.1.0 is so_far.there
+    (taken.1.1 ∙ ap (λ bs. Ok (taken.1.0, bs)) (sym behind)) in
+    record {
+      within =
+          omega (
+            arith,
+            so_far.within,
+            taken.0,
+            length-drop reader.place all_bits,
+            length-drop (reader.place + passed) all_bits,
+          );
+      there = h.there;
+      passed =
+          one_passed P (fields_laid all reader) (fields_laid fields at) (fields_laid others next)
+          so_far.passed (_, unasked, h.is);
+    }
+
+-- the first of those that are left is asked for where its descriptor is
+pub first_asked : (P : ℕ → Bool) (fields others : List LaidField) (f : LaidField)
+    (reader : BitPlace) → fields ≡ f ∷ others → P f.fxy ≡ true
+    → FirstIsAsked P (fields_laid fields reader)
+unfolding fields_at laid_course
+first_asked P fields others f reader is asked =
+    subst (λ fs. FirstIsAsked P (fields_laid fs reader)) (sym is)
+    (asked_from P 1 1 f.fxy f.spec (λ n rest. fields_at 1 2 (laid_course others) rest)
+    (raw_at f.spec (ends_of.left reader)) asked)

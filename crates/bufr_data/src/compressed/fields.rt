@@ -2,7 +2,8 @@
 
 ghost use Rattle.std.specs.Prelude.{◌≡◌, ◌<◌, ◌++◌, true, IfOk, IfSome, OnOk};
 ghost use Rattle.std.specs.Bool.{OnTrue, OnFalse};
-ghost use Rattle.bufr_data.specs.Handed.{HandsOut, PassesFirst, fields_there};
+ghost use Rattle.bufr_data.specs.Handed.{HandsOut, HandsOutAsked, FirstIsAsked, PassesFirst};
+ghost use Rattle.bufr_data.specs.Handed.{fields_there};
 ghost use Rattle.bufr_data.specs.Compressed.Indexed.{AllOpen};
 ghost use Rattle.bufr_data.specs.Plain.{plain};
 ghost use Rattle.bufr_data.specs.Subsets.{Extends, has_own_form};
@@ -76,10 +77,24 @@ impl<'v> ColumnFields<'v> {
         }))
     }
 
+    /// The first of the fields that are left and are asked for, and then those behind it are left;
+    /// `None` where none is asked for, and then none is left. It can only run out of memory, as
+    /// `next`. Those that are not asked for are not read.
+    pub(crate) fn next_asked<A: Asks>(
+        &mut self,
+        alloc: Global,
+    ) -> Result<Option<Field>, OutOfMemory>
+        ensures { IfOk result (λ found. HandsOutAsked A.is_asked self.old found self.new) }
+    {
+        while self.pass_first::<A>() {}
+        self.next(alloc)
+    }
+
     /// Passes the first of the fields that are left, where it is not asked for; it is not read.
-    pub(crate) fn pass_first<A: Asks>(&mut self) -> bool
+    fn pass_first<A: Asks>(&mut self) -> bool
         ensures passed { OnTrue result (PassesFirst A.is_asked self.old self.new) }
         ensures unmoved { OnFalse result (self.new ≡ self.old) }
+        ensures asked { OnFalse result (FirstIsAsked A.is_asked self.old) }
     {
         let Some((place, others)) = self.places.split_first() else {
             return false;

@@ -5,7 +5,7 @@ ghost use Rattle.std.specs.Bool.{OnTrue, OnFalse};
 ghost use Rattle.bufr_bits.specs.Bits.{bits};
 ghost use Rattle.bufr_expand.specs.Courses.{course};
 ghost use Rattle.bufr_data.specs.declared.plain.index.SubsetStart.{SubsetStart as Start};
-ghost use Rattle.bufr_data.specs.Handed.{HandsOut, NoneAsked};
+ghost use Rattle.bufr_data.specs.Handed.{HandsOut, HandsOutAsked, NoneAsked};
 ghost use Rattle.bufr_data.specs.Plain.Starts.{BeginsAtStart, subset_at, fields_of};
 
 use crate::field::Field;
@@ -79,8 +79,28 @@ impl<'v> PlainFields<'v> {
         }
     }
 
+    /// The first of the fields that are left and are asked for, and then those behind it are left;
+    /// `None` where none is asked for, and then none is left. It can only run out of memory, as
+    /// `next`. None is met behind the last that can be asked for, where the walk tells which that is.
+    pub(crate) fn next_asked<A: Asks>(
+        &mut self,
+        alloc: Global,
+    ) -> Result<Option<Field>, OutOfMemory>
+        ensures { IfOk result (λ found. HandsOutAsked A.is_asked self.old found self.new) }
+    {
+        if self.ends_unasked::<A>() {
+            return Ok(None);
+        }
+        while let Some(field) = self.next(alloc)? {
+            if A::asks(field.fxy) {
+                return Ok(Some(field));
+            }
+        }
+        Ok(None)
+    }
+
     /// Lets all fields go that are left, where the walk tells that none is asked for.
-    pub(crate) fn ends_unasked<A: Asks>(&mut self) -> bool
+    fn ends_unasked<A: Asks>(&mut self) -> bool
         ensures ended { OnTrue result (NoneAsked A.is_asked self.old × (self.new ≡ [])) }
         ensures unmoved { OnFalse result (self.new ≡ self.old) }
     {

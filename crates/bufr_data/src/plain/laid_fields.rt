@@ -1,12 +1,14 @@
 //! The fields of a plain subset, one at a time, where they are laid out.
 
-ghost use Rattle.std.specs.Prelude.{◌≡◌, ◌≤◌, ◌*◌, length, drop, IfOk, IsOk};
-ghost use Rattle.std.specs.Bool.{OnTrue, OnFalse};
+ghost use Rattle.std.specs.Prelude.{◌≡◌, ◌≤◌, ◌*◌, Bool, List, length, drop, IfOk, IsOk};
 ghost use Rattle.bufr_bits.specs.Bits.{bits};
-ghost use Rattle.bufr_data.specs.Handed.{HandsOut, PassesFirst};
-ghost use Rattle.bufr_data.specs.Plain.{fields_at};
+ghost use Rattle.bufr_bits.specs.Ends.{left};
+ghost use Rattle.bufr_data.specs.Handed.{HandsOut, HandsOutAsked, FirstIsAsked, PassesUnasked};
+ghost use Rattle.bufr_data.specs.Handed.{PassesLaid, StandLaid, fields_laid, moved_on};
+ghost use Rattle.bufr_data.specs.Plain.{fields_at, raw_at};
 ghost use Rattle.bufr_data.specs.Plain.Layouts.{laid_course};
-ghost use Rattle.bufr_data.specs.Plain.Starts.{fields_of};
+ghost use Rattle.bufr_data.specs.Plain.Reads.{raw_or_ends};
+ghost use Rattle.bufr_data.specs.Plain.Starts.{PassesRaw, fields_of};
 
 use crate::field::Field;
 use crate::plain::layout::{LaidField, Layout};
@@ -14,14 +16,14 @@ use crate::plain::pass::bits_of;
 use crate::plain::read::read_raw;
 use bufr_answers::OutOfMemory;
 use bufr_bits::BitReader;
-use bufr_expand::Asks;
+use bufr_expand::{Asks, Spec};
 use std::alloc::Global;
 use std::marker::Model;
 
 /// The fields of a plain subset that are left, where it is known which they are: the template is
-/// not walked.
+/// not walked. Contracts see the list of the fields.
 #[derive(Debug, Drop)]
-pub(crate) struct LaidFields<'v> {
+pub struct LaidFields<'v> {
     fields: &'v [LaidField],
     reader: BitReader<'v>,
 }
@@ -80,23 +82,67 @@ impl<'v> LaidFields<'v> {
         }
     }
 
-    /// Passes the first of the fields that are left, where it is not asked for; it is not read.
-    pub(crate) fn pass_first<A: Asks>(&mut self) -> bool
-        ensures passed { OnTrue result (PassesFirst A.is_asked self.old self.new) }
-        ensures unmoved { OnFalse result (self.new ≡ self.old) }
+    /// The first of the fields that are left and are asked for, and then those behind it are left;
+    /// `None` where none is asked for, and then none is left. It can only run out of memory, as
+    /// `next`. What no clause says: those that are not asked for are not read.
+    // A call would move each field through memory.
+    #[inline(always)]
+    pub fn next_asked<A: Asks>(&mut self, alloc: Global) -> Result<Option<Field>, OutOfMemory>
+        ensures { IfOk result (λ found. HandsOutAsked A.is_asked self.old found self.new) }
     {
-        let Some((field, others)) = self.fields.split_first() else {
-            return false;
-        };
+        self.pass_unasked::<A>();
+        self.next(alloc)
+    }
+
+    /// Passes the fields in front that are not asked for, all at once; none of them is read.
+    fn pass_unasked<A: Asks>(&mut self)
+        ensures passed { PassesUnasked A.is_asked self.old self.new }
+        ensures asked { FirstIsAsked A.is_asked self.new }
+    {
+        let (fields, bits) = first_asked::<A>(self.fields, &self.reader);
+        move_on(&mut self.reader, bits);
+        self.fields = fields;
+    }
+}
+
+/// Moves a reader on by so many bits, which are left.
+fn move_on(reader: &mut BitReader, bits: u128)
+    requires { bits ≤ length (left reader.old) }
+    ensures { reader.new ≡ moved_on reader.old bits }
+{
+    if bits > 0 {
+        let _enough = reader.pass(bits);
+    }
+}
+
+/// The fields from the first on that is asked for, and how many bits those before it have.
+fn first_asked<'f, A: Asks>(fields: &'f [LaidField], reader: &BitReader) -> (&'f [LaidField], u128)
+    requires { StandLaid fields.now reader.now }
+    ensures passed { PassesLaid A.is_asked fields.now result.0.now reader.now result.1 }
+    ensures asked { FirstIsAsked A.is_asked
+        (fields_laid result.0.now (moved_on reader.now result.1)) }
+{
+    // So many bits are a number: the sum stays below it.
+    let _most = reader.left();
+    let mut bits = 0u128;
+    let mut left = fields;
+    while let Some((field, others)) = left.split_first() {
         if A::asks(field.fxy) {
-            return false;
+            return (left, bits);
         }
-        match bits_of(field.spec) {
-            Some(bits) if self.reader.pass(bits) => {
-                self.fields = others;
-                true
-            }
-            _ => false,
-        }
+        bits += standing_bits(field.spec);
+        left = others;
+    }
+    (left, bits)
+}
+
+/// How many bits a field of this spec has that is there.
+fn standing_bits(spec: Spec) -> u128
+    ensures { (front : List Bool) → IsOk (raw_or_ends 1 1 (raw_at spec front))
+        → (result ≤ length front) × PassesRaw 1 spec front (drop result front) }
+{
+    match bits_of(spec) {
+        Some(bits) => bits,
+        None => 0,
     }
 }

@@ -1,19 +1,21 @@
 -- For `field`: eight octets in which a field stands spell its number, once shifted and masked.
-use Rattle.std.proofs.Common.{◌≡◌, ℕ, ◌+◌, ◌-◌, ◌/◌, ◌%◌, take, drop, ap, ◌∙◌, arith}
+use Rattle.std.proofs.Common.{◌≡◌, ℕ, ◌+◌, ◌-◌, ◌*◌, ◌/◌, ◌%◌, take, drop, ap, ◌∙◌, arith}
 use Rattle.bufr_bits.specs.Bits.{bits, number}
 use Rattle.bufr_bits.proofs.BitLists.{field_masked}
 use Rattle.bufr_bits.proofs.field.field.Goals as goal
 
 -- the number of those octets, less the spare bits behind and masked, is that of the field
-pub returns-then-octets-first-ge8 : goal.returns-then-octets-first-ge8
-returns-then-octets-first-ge8 c =
+pub returns-then-octets-ge8 : goal.returns-then-octets-ge8
+returns-then-octets-ge8 c =
     let octets = c.args.octets.now in
     let place = c.args.place in
-    let first = place / 8 in
+    let first = c.min-first.result in
     let eight : 8 ≡ first + 8 - first = omega arith in
     let narrow = c.if-width-le-MOST_BITS_IN_A_WORD.true in
+    let least = c.min-first.ensures in
+    let long = c.if-octets-ge8.true in
     field_masked octets c.word_at.result first (first + 8) place c.args.width
-    (64 - place % 8 - c.args.width) 64
+    (64 - (8 * (place / 8 - first) + place % 8) - c.args.width) 64
     (c.word_at.ensures ∙ ap (λ (k : ℕ). number (bits (take k (drop first octets)))) eight)
-    (omega arith) (omega (arith, narrow)) (omega (arith, c.if-octets-first-ge8.true))
-    (omega (arith, narrow))
+    (omega (arith, least)) (omega (arith, narrow, least, long, c.requires))
+    (omega (arith, least, long)) (omega (arith, narrow))

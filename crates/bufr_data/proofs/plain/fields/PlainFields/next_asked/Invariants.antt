@@ -1,7 +1,7 @@
--- The loop of `Fields::next_asked`: the fields that were passed so far.
+-- The loop of `PlainFields::next_asked`: the fields that were passed so far.
 use Rattle.std.proofs.Common.{length}
 use Rattle.bufr_data.specs.Handed.{PassesUnasked}
-use Rattle.bufr_data.proofs.fields.Fields.next_asked.Given as goal
+use Rattle.bufr_data.proofs.plain.fields.PlainFields.next_asked.Given as goal
 
 -- none of them is asked for
 abbrev pub invariant-loop-field : goal.invariant-loop-field

@@ -1,8 +1,8 @@
--- The loop of `values_of`: the fields noted so far.
+-- The loop of `values_met`: the fields noted so far.
 use Rattle.std.proofs.Common.{◌≡◌, length}
 use Rattle.bufr_report_keys.specs.FirstValues.{first_values}
 use Rattle.bufr_report_keys.proofs.FirstFacts.{all_noted}
-use Rattle.bufr_report_keys.proofs.asked.values_of.Given as goal
+use Rattle.bufr_report_keys.proofs.asked.values_met.Given as goal
 
 -- once those that are left are noted too, it is known what the first of all say
 abbrev pub invariant-loop-values : goal.invariant-loop-values

@@ -1,7 +1,7 @@
--- The loop of `Fields::pass_unasked`: the fields that were passed so far.
+-- The loop of `ColumnFields::next_asked`: the fields that were passed so far.
 use Rattle.std.proofs.Common.{length}
 use Rattle.bufr_data.specs.Handed.{PassesUnasked}
-use Rattle.bufr_data.proofs.fields.Fields.pass_unasked.Given as goal
+use Rattle.bufr_data.proofs.compressed.fields.ColumnFields.next_asked.Given as goal
 
 -- none of them is asked for
 abbrev pub invariant-loop : goal.invariant-loop

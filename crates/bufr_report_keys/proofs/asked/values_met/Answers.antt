@@ -1,7 +1,7 @@
--- For `values_of`: the next field that is asked for is noted.
+-- For `values_met`: the next field that is asked for is noted.
 use Rattle.std.proofs.Common.{ap, sym, ◌∙◌}
 use Rattle.bufr_report_keys.proofs.FirstFacts.{all_noted, are_noted, next_noted, none_left}
-use Rattle.bufr_report_keys.proofs.asked.values_of.Goals as goal
+use Rattle.bufr_report_keys.proofs.asked.values_met.Goals as goal
 
 -- at first none is
 pub loop-values-init : goal.loop-values-init

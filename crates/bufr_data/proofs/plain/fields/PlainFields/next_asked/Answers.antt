@@ -1,7 +1,7 @@
--- For `Fields::next_asked`: a field that is not asked for is let go, one more of those passed.
+-- For `PlainFields::next_asked`: a field that is not asked for is let go, one more of those passed.
 use Rattle.std.proofs.Common.{sym, ◌∙◌}
 use Rattle.bufr_data.proofs.AskedFacts.{one_passed}
-use Rattle.bufr_data.proofs.fields.Fields.next_asked.Goals as goal
+use Rattle.bufr_data.proofs.plain.fields.PlainFields.next_asked.Goals as goal
 
 -- none of those that were passed is asked for
 pub loop-field-preserved-else-asks : goal.loop-field-preserved-else-asks
