@@ -186,11 +186,12 @@ few_messages tables text =
 
 -- ---- the reader
 
--- what is left in the lines of a text
-pub unread_at : (tables : Entries) (text : List ℕ) (past : ℕ) (ls : List Line)
-    → past ≡ length (lines text) + 1 → ls ≡ counting_lines text
-    → unread tables past ls ≡ unread_in tables text
-unread_at tables text past ls e is = ap₂ (unread tables) e is
+-- what is left in the lines of a text, by tables that are the same
+pub unread_at : (tables tables' : Entries) (text : List ℕ) (past : ℕ) (ls : List Line)
+    → tables' ≡ tables → past ≡ length (lines text) + 1 → ls ≡ counting_lines text
+    → unread tables' past ls ≡ unread_in tables text
+unread_at tables tables' text past ls same e is =
+    ap (λ (t : Entries). unread t past ls) same ∙ ap₂ (unread tables) e is
 
 -- no line comes next
 pub no_line : (ls : List Line) (o : Option TextLine) (b : Bool) → IsNextLine ls o
@@ -206,18 +207,20 @@ a_line ls (Some l) b next e h none =
     let no : printed l ∷ next.0 ≡ [] = sym next.1 ∙ none in cc no
 
 -- no message could be read, and all stays
-pub none_handed : (tables : Entries) (past : ℕ) (ls : List Line) (u : Unread)
-    (e : Failure ListingFault) → unread tables past ls ≡ u → (ls ≡ [] → ⊥)
-    → Fails e (message_read tables past ls) → HandsOutMessage u (Err e) u
-none_handed tables past ls u OutOfMemory is some fails = refl
-none_handed tables past ls u (Fault f) is some fails =
-    let e = sym is ∙ none_read tables past ls f some fails in (e, e)
+pub none_handed : (tables tables' : Entries) (past : ℕ) (ls : List Line) (u : Unread)
+    (e : Failure ListingFault) → unread tables past ls ≡ u → tables' ≡ tables → (ls ≡ [] → ⊥)
+    → Fails e (message_read tables past ls) → HandsOutMessage u (Err e) (unread tables' past ls)
+none_handed tables tables' past ls u OutOfMemory is same some fails =
+    ap (λ (t : Entries). unread t past ls) same ∙ is
+none_handed tables tables' past ls u (Fault f) is same some fails =
+    let stopped_at = none_read tables past ls f some fails in
+    (sym is ∙ stopped_at, ap (λ (t : Entries). unread t past ls) same ∙ stopped_at)
 
 -- a message was read
-pub one_handed : (tables : Entries) (past past' : ℕ) (ls rest : List Line) (u : Unread)
-    (m : Message) → unread tables past ls ≡ u → past' ≡ past → (ls ≡ [] → ⊥)
+pub one_handed : (tables tables' : Entries) (past past' : ℕ) (ls rest : List Line) (u : Unread)
+    (m : Message) → unread tables past ls ≡ u → tables' ≡ tables → past' ≡ past → (ls ≡ [] → ⊥)
     → message_read tables past ls ≡ Ok (m, rest)
-    → u ≡ behind (m ∷ []) (unread tables past' rest)
-one_handed tables past past' ls rest u m is e some read =
+    → u ≡ behind (m ∷ []) (unread tables' past' rest)
+one_handed tables tables' past past' ls rest u m is same e some read =
     sym is ∙ one_read tables past ls m rest some read
-    ∙ ap (λ (n : ℕ). behind (m ∷ []) (unread tables n rest)) (sym e)
+    ∙ ap₂ (λ (t : Entries) (n : ℕ). behind (m ∷ []) (unread t n rest)) (sym same) (sym e)

@@ -16,12 +16,13 @@ ghost use Rattle.bufr_listing.specs.Reading.{read_octets, read_local, read_secti
 ghost use Rattle.bufr_listing.specs.Reading.{read_descriptors, Described, described};
 
 use crate::fault::{Cause, ListingFault};
+use crate::kept_templates::KeptTemplates;
 use crate::line_words::{Words, begins};
 use crate::lines::{Lines, TextLine};
 use bufr_answers::{Failure, Items};
 use bufr_expand::Template;
+use bufr_tables::Fxy;
 use bufr_tables::laws::descriptor_texts;
-use bufr_tables::{Fxy, Tables};
 use std::alloc::Global;
 
 /// Reads a line that is this word alone.
@@ -183,13 +184,14 @@ fn flags_of(observed: bool, compressed: bool) -> Flags
 /// Reads the line of the descriptors, one at least, which have a template.
 pub fn read_descriptors(
     alloc: Global,
-    tables: &Tables,
+    templates: &mut KeptTemplates<'_>,
     lines: &mut Lines,
 ) -> Result<(Vec<Fxy>, Template), Failure<ListingFault>>
     ensures read { Gives {Y = Described × List Line}
         (λ x. (record { descriptors = x.0.items; tree = x.1 }, left lines.new)) result
-        (read_line (read_descriptors tables.now) (past lines.old) (left lines.old)) }
+        (read_line (read_descriptors templates.old) (past lines.old) (left lines.old)) }
     ensures past { past lines.new ≡ past lines.old }
+    ensures same { templates.new ≡ templates.old }
 {
     descriptor_texts();
     let line = lines.take()?;
@@ -200,21 +202,22 @@ pub fn read_descriptors(
         Some(descriptors) if !descriptors.is_empty() => descriptors,
         _ => return Err(bad_line(line)),
     };
-    let template = template_of(alloc, tables, line, descriptors.as_slice())?;
+    let template = template_of(alloc, templates, line, descriptors.as_slice())?;
     Ok((descriptors, template))
 }
 
 /// The template of the descriptors of a line, or L3 at this line where they have none.
 fn template_of(
     alloc: Global,
-    tables: &Tables,
+    templates: &mut KeptTemplates<'_>,
     line: TextLine,
     descriptors: &[Fxy],
 ) -> Result<Template, Failure<ListingFault>>
-    ensures { Gives (λ t. record { descriptors = descriptors.now; tree = t }) result
-        (described line.entry.number descriptors.now (template tables.now descriptors.now)) }
+    ensures exact { Gives (λ t. record { descriptors = descriptors.now; tree = t }) result
+        (described line.entry.number descriptors.now (template templates.old descriptors.now)) }
+    ensures same { templates.new ≡ templates.old }
 {
-    match Template::build(alloc, tables, descriptors) {
+    match templates.template_of(alloc, descriptors) {
         Ok(template) => Ok(template),
         Err(failure) => Err(failure.map(|fault| {
             ListingFault::Refused(u128::from(line.number), Cause::Template(fault))

@@ -5,6 +5,7 @@ mod fault;
 mod fields;
 mod head_lines;
 mod heading;
+mod kept_templates;
 pub mod laws;
 mod line_ends;
 mod line_words;
@@ -19,6 +20,7 @@ mod writer;
 
 pub use fault::{Cause, ListingFault};
 pub use fields::{push_field, push_subset, push_subset_line};
+pub use kept_templates::KeptTemplates;
 pub use messages::read;
 pub use text::{end_text, heading_text, subset_text, text_of};
 pub use unread::Messages;

@@ -14,6 +14,7 @@ use crate::fault::ListingFault;
 use crate::head_lines::{
     read_descriptors, read_flags, read_local, read_numbers, read_section2, read_word,
 };
+use crate::kept_templates::KeptTemplates;
 use crate::laws::{faults_of_listings_are_the_first, listings_list_messages};
 use crate::lines::Lines;
 use crate::subsets::read_subsets;
@@ -79,7 +80,7 @@ fn messages_listed(
 ) -> Result<Vec<Message>, Failure<ListingFault>>
     ensures exact { Gives (λ v. v.items) result (messages_listed tables.now text.now) }
 {
-    let mut left = Messages::of(tables, text);
+    let mut left = Messages::of(alloc, tables, text);
     let mut messages = Vec::new(alloc);
     while let Some(message) = left.next(alloc)? {
         messages.push(message)?;
@@ -90,17 +91,18 @@ fn messages_listed(
 /// Reads the lines of one message.
 pub(crate) fn read_message(
     alloc: Global,
-    tables: &Tables,
+    templates: &mut KeptTemplates<'_>,
     lines: &mut Lines,
 ) -> Result<Message, Failure<ListingFault>>
     ensures read { Gives {Y = MessageRead} (λ m. (m, left lines.new)) result
-        (message_read tables.now (past lines.old) (left lines.old)) }
+        (message_read templates.old (past lines.old) (left lines.old)) }
     ensures past { past lines.new ≡ past lines.old }
+    ensures same { templates.new ≡ templates.old }
 {
     let head = read_head(alloc, lines)?;
     let section2 = read_section2(alloc, lines)?;
     let flags = read_flags(lines)?;
-    let (descriptors, template) = read_descriptors(alloc, tables, lines)?;
+    let (descriptors, template) = read_descriptors(alloc, templates, lines)?;
     let subsets = read_subsets(alloc, &template, lines)?;
     Ok(Message {
         head,

@@ -5,6 +5,7 @@ ghost use Rattle.bufr_listing.specs.Reading.{messages_listed};
 ghost use Rattle.bufr_listing.specs.Unread.{HandsOutMessage, all_of, unread_in};
 
 use crate::fault::ListingFault;
+use crate::kept_templates::KeptTemplates;
 use crate::lines::Lines;
 use crate::messages::read_message;
 use bufr_answers::Failure;
@@ -14,11 +15,11 @@ use std::alloc::Global;
 use std::marker::Model;
 
 /// The messages of a text that are left to read, one at a time. It borrows the text and the tables,
-/// and takes no memory of its own. Contracts see the messages that are left before the first fault,
-/// and that fault, where there is one.
+/// and keeps the templates of the last four lists of descriptors. Contracts see the messages that
+/// are left before the first fault, and that fault, where there is one.
 #[derive(Debug, Drop)]
 pub struct Messages<'a> {
-    tables: &'a Tables,
+    templates: KeptTemplates<'a>,
     lines: Lines<'a>,
 }
 
@@ -28,12 +29,12 @@ impl<'a> Model for Messages<'a> {
 
     ghost Value = { Unread };
 
-    ghost view = { λ m. unread m.tables.now (past m.lines) (left m.lines) };
+    ghost view = { λ m. unread m.templates (past m.lines) (left m.lines) };
 }
 
 impl<'a> Messages<'a> {
-    /// All messages of a text, of which none was read.
-    pub fn of(tables: &'a Tables, text: &'a [u8]) -> Messages<'a>
+    /// All messages of a text, of which none was read. It takes no memory.
+    pub fn of(alloc: Global, tables: &'a Tables, text: &'a [u8]) -> Messages<'a>
         // Its messages are left, up to the first fault.
         ensures exact { result ≡ unread_in tables.now text.now }
         // They are what `read` answers.
@@ -42,7 +43,7 @@ impl<'a> Messages<'a> {
         ensures few { length result.messages ≤ length text.now }
     {
         Messages {
-            tables,
+            templates: KeptTemplates::new(alloc, tables),
             lines: Lines::of(text),
         }
     }
@@ -58,7 +59,7 @@ impl<'a> Messages<'a> {
         if ahead.peek().is_none() {
             return Ok(None);
         }
-        let message = read_message(alloc, self.tables, &mut ahead)?;
+        let message = read_message(alloc, &mut self.templates, &mut ahead)?;
         self.lines = ahead;
         Ok(Some(message))
     }

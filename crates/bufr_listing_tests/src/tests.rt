@@ -4,6 +4,7 @@ mod parts;
 mod places;
 mod reading;
 mod samples;
+mod turns;
 mod widths;
 mod writing;
 

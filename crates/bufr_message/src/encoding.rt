@@ -17,6 +17,7 @@ use bufr_answers::Failure;
 use bufr_bits::BitSink;
 use bufr_data::{Subset, write_subsets};
 use bufr_expand::Template;
+use bufr_listing::KeptTemplates;
 use bufr_sections::{LentSections, Message, spell};
 use bufr_tables::{Fxy, Tables};
 use std::alloc::Global;
@@ -39,6 +40,44 @@ pub fn encode(
     let subsets = message.subsets.as_slice();
     numbers_fit(&sections, subsets);
     octets_of(alloc, tables, &sections, subsets)
+}
+
+/// The octets of a message: what `encode` answers under the tables of these templates, with no
+/// template built where the list of descriptors is one of the last four that had one.
+pub fn keep_and_encode(
+    alloc: Global,
+    templates: &mut KeptTemplates<'_>,
+    message: &Message,
+) -> Result<Vec<u8>, Failure<EncodeFault>>
+    // The tables stay.
+    ensures same { templates.new ≡ templates.old }
+    // What is written spells the message, with nothing in what is free.
+    ensures spells { IfOk result (λ v. SpellsBare templates.old message.now v.items) }
+    // Which octets, or which fault, it is.
+    ensures exact { Gives (λ v. v.items) result (code templates.old message.now) }
+{
+    written_messages_are_spelt();
+    let sections = LentSections::of_message(message);
+    let subsets = message.subsets.as_slice();
+    numbers_fit(&sections, subsets);
+    octets_keeping(alloc, templates, &sections, subsets)
+}
+
+/// The octets of a message of these sections and subsets: the one clause from which
+/// `keep_and_encode` has its others.
+#[tactic(auto, unfolding(crate::specs::Encodings::code))]
+fn octets_keeping(
+    alloc: Global,
+    templates: &mut KeptTemplates<'_>,
+    sections: &LentSections<'_>,
+    subsets: &[Subset],
+) -> Result<Vec<u8>, Failure<EncodeFault>>
+    ensures same { templates.new ≡ templates.old }
+    ensures exact { Gives (λ v. v.items) result
+        (code templates.old (message_lent sections.now subsets.now)) }
+{
+    let contents = contents_keeping(alloc, templates, sections, subsets)?;
+    enclose(alloc, sections, subsets, &contents)
 }
 
 /// The octets of a message of these sections and subsets: the one clause from which `encode` and
@@ -94,6 +133,26 @@ fn contents_of(
     data_of(alloc, &template, sections.compressed, subsets)
 }
 
+/// The same octets, with the template taken from those that are kept.
+#[tactic(auto, unfolding(crate::specs::Encodings::data_bits_or))]
+fn contents_keeping(
+    alloc: Global,
+    templates: &mut KeptTemplates<'_>,
+    sections: &LentSections<'_>,
+    subsets: &[Subset],
+) -> Result<Vec<u8>, Failure<EncodeFault>>
+    ensures same { templates.new ≡ templates.old }
+    ensures exact { Gives {Y = List Bool} (λ v. bits v.items) result
+        (result_map filled (data_bits_or templates.old (message_lent sections.now subsets.now))) }
+{
+    let descriptors = sections.descriptors;
+    if descriptors.is_empty() {
+        return Err(Failure::Fault(EncodeFault::NoDescriptors));
+    }
+    let template = template_keeping(alloc, templates, descriptors)?;
+    data_of(alloc, &template, sections.compressed, subsets)
+}
+
 /// The template of descriptors.
 fn template_of(
     alloc: Global,
@@ -103,6 +162,21 @@ fn template_of(
     ensures { Gives (λ t. t) result (template_or (template tables.now descriptors.now)) }
 {
     match Template::build(alloc, tables, descriptors) {
+        Ok(template) => Ok(template),
+        Err(failure) => Err(failure.map(EncodeFault::Template)),
+    }
+}
+
+/// The template of descriptors, taken from those that are kept.
+fn template_keeping(
+    alloc: Global,
+    templates: &mut KeptTemplates<'_>,
+    descriptors: &[Fxy],
+) -> Result<Template, Failure<EncodeFault>>
+    ensures same { templates.new ≡ templates.old }
+    ensures exact { Gives (λ t. t) result (template_or (template templates.old descriptors.now)) }
+{
+    match templates.template_of(alloc, descriptors) {
         Ok(template) => Ok(template),
         Err(failure) => Err(failure.map(EncodeFault::Template)),
     }

@@ -10,6 +10,7 @@ mod listing;
 mod reports;
 mod samples;
 mod templates;
+mod turns;
 mod viewed_listing;
 mod viewing;
 

@@ -11,7 +11,7 @@ use bufr_answers::Failure;
 use bufr_bits::{Sink, Source};
 use bufr_io::{Input, Tally, ToolFault, read_all, write_out};
 use bufr_message::listing::Messages;
-use bufr_message::{EncodeFault, Message, encode};
+use bufr_message::{EncodeFault, KeptTemplates, Message, keep_and_encode};
 use bufr_tables::Tables;
 use std::alloc::Global;
 
@@ -25,8 +25,8 @@ struct Encoded {
 /// Writes the octets of each message that a reader's text lists, one behind another, each
 /// compressed where that is asked. The whole listing is read and all its messages are encoded
 /// before the first octet is written. The first fault of the listing is told before that of a
-/// message. The tally counts the messages. It holds the listing, the octets, and one message at a
-/// time.
+/// message. The tally counts the messages. It holds the listing, the octets, one message at a time
+/// and a few templates.
 pub fn run_encode<S: Source, W: Sink>(
     alloc: Global,
     reads: u64,
@@ -54,8 +54,10 @@ pub fn run_encode<S: Source, W: Sink>(
 }
 
 /// The octets of the messages that a text lists, one behind another, each compressed where that is
-/// asked. Each message is encoded as soon as it is read, and then let go. Once one has no encoding,
-/// the rest is read for a fault of the listing, which is told before that of the message.
+/// asked. Each message is encoded as soon as it is read, and then let go; its template is built
+/// neither to read nor to encode it where its list of descriptors is one of the last four. Once one
+/// has no encoding, the rest is read for a fault of the listing, which is told before that of the
+/// message.
 fn octets_of(
     alloc: Global,
     tables: &Tables,
@@ -64,12 +66,13 @@ fn octets_of(
 ) -> Result<Encoded, ToolFault>
     ensures { EncodesListing tables.now compressed text.now result }
 {
-    let mut messages = Messages::of(tables, text);
+    let mut messages = Messages::of(alloc, tables, text);
+    let mut templates = KeptTemplates::new(alloc, tables);
     let mut octets = Vec::new(alloc);
     let mut count: u128 = 0;
     while let Some(message) = next_of(alloc, &mut messages)? {
         count += 1;
-        match octets_as_asked(alloc, tables, compressed, message) {
+        match octets_as_asked(alloc, &mut templates, compressed, message) {
             Ok(more) => octets.extend_from_slice(&more)?,
             Err(failure) => return Err(fault_of(alloc, messages, count, failure)),
         }
@@ -118,12 +121,13 @@ fn pass_all(alloc: Global, mut messages: Messages<'_>) -> Result<(), ToolFault>
 /// The octets of a message, compressed too where that is asked.
 fn octets_as_asked(
     alloc: Global,
-    tables: &Tables,
+    templates: &mut KeptTemplates<'_>,
     compressed: bool,
     mut message: Message,
 ) -> Result<Vec<u8>, Failure<EncodeFault>>
-    ensures { Gives (λ v. v.items) result (code_as_asked tables.now compressed message) }
+    ensures same { templates.new ≡ templates.old }
+    ensures exact { Gives (λ v. v.items) result (code_as_asked templates.old compressed message) }
 {
     message.compressed |= compressed;
-    encode(alloc, tables, &message)
+    keep_and_encode(alloc, templates, &message)
 }

@@ -34,27 +34,27 @@ in_words c =
 -- the template of the descriptors of such a line is what is read of it
 own : (c : After-as_slice) → words_of c.in_ok-line.line.text.now
     ≡ codes "descriptors" ∷ words_left c.behind_first.result
-    → read_descriptors c.args.tables.now c.in_ok-line.line.number
+    → read_descriptors c.args.templates.now c.in_ok-line.line.number
     (as_printed c.in_ok-line.line.text.now)
     ≡ described c.in_ok-line.line.number c.as_slice.result.now
-    (template c.args.tables.now c.as_slice.result.now)
+    (template c.args.templates.now c.as_slice.result.now)
 own c e =
     let found =
     sym c.in_ok-descriptors.ensures
     ∙ ap (λ (o : Option (Vec Fxy Global)). option_map (λ ns. ns.items) o) c.in-Some.is in
     let some = ap (λ (n : ℕ). n == 0) (sym c.in-Some.descriptors.ok.0) ∙ sym c.is_empty.ensures
     ∙ c.if-not-is_empty.true in
-    lent_descriptors c.descriptor_texts.ensures c.args.tables.now c.in_ok-line.line.number
+    lent_descriptors c.descriptor_texts.ensures c.args.templates.now c.in_ok-line.line.number
     c.in_ok-line.line.text.now (words_left c.behind_first.result) c.in-Some.descriptors.items
     c.as_slice.result.now e found some c.as_slice.ensures.value
 
 -- a line that does not begin with `descriptors` has L1
 pub returns-then-not-begins-clause-read : goal.returns-then-not-begins-clause-read
 returns-then-not-begins-clause-read c =
-    rw c.bad_line.ensures (taken_err (read_descriptors c.args.tables.now) (past c.args.lines.now)
+    rw c.bad_line.ensures (taken_err (read_descriptors c.args.templates.now) (past c.args.lines.now)
     (left c.args.lines.now) (printed c.in_ok-line.line) (left c.take.new.self)
     (Fault (BadLine c.in_ok-line.line.number)) c.in_ok-line.ensures.taken
-    (untitled_descriptors c.args.tables.now c.in_ok-line.line.number c.in_ok-line.line.text.now
+    (untitled_descriptors c.args.templates.now c.in_ok-line.line.number c.in_ok-line.line.text.now
     (sym c.begins.ensures ∙ c.if-not-begins.true)))
 
 -- so has one with no words behind it, or with a word that is no descriptor
@@ -64,7 +64,7 @@ returns-in_default-clause-read c =
     let text = c.in_ok-line.line.text.now in
     let ws = words_left c.behind_first.result in
     let e = in_words (goal.at.returns-in_default-clause-read c).After-behind_first in
-    let bad : read_descriptors c.args.tables.now n (as_printed text) ≡ Err (BadLine n) =
+    let bad : read_descriptors c.args.templates.now n (as_printed text) ≡ Err (BadLine n) =
     elim c.in_default.branch [
       | in_default-via-in-Some+else-not-is_empty w ↦
           let ds = w.in-Some.descriptors.items in
@@ -74,14 +74,14 @@ returns-in_default-clause-read c =
           let none : (length ds == 0) ≡ true =
           ap (λ (k : ℕ). k == 0) (sym w.in-Some.descriptors.ok.0) ∙ sym w.is_empty.ensures
           ∙ w.if-not-is_empty.false in
-          no_descriptor c.descriptor_texts.ensures c.args.tables.now n text ws ds e found none
+          no_descriptor c.descriptor_texts.ensures c.args.templates.now n text ws ds e found none
       | in_default-via-in_default w ↦
           let found =
           sym c.in_ok-descriptors.ensures
           ∙ ap (λ (o : Option (Vec Fxy Global)). option_map (λ ns. ns.items) o) w.in_default.is in
-          descriptors_are_not c.descriptor_texts.ensures c.args.tables.now n text ws e found
+          descriptors_are_not c.descriptor_texts.ensures c.args.templates.now n text ws e found
     ] in
-    rw c.bad_line-in_default.ensures (taken_err (read_descriptors c.args.tables.now)
+    rw c.bad_line-in_default.ensures (taken_err (read_descriptors c.args.templates.now)
     (past c.args.lines.now) (left c.args.lines.now) (printed c.in_ok-line.line)
     (left c.take.new.self) (Fault (BadLine n)) c.in_ok-line.ensures.taken bad)
 
@@ -92,10 +92,10 @@ returns-in_err-template-clause-read c =
     let same = own on.After-as_slice (in_words on.After-behind_first) in
     let p = err_from_is_err_and c.from_residual-in_err-template.result
     c.from_residual-in_err-template.ensures.1 in
-    rw (p.1, p.2) (taken_err (read_descriptors c.args.tables.now) (past c.args.lines.now)
+    rw (p.1, p.2) (taken_err (read_descriptors c.args.templates.now) (past c.args.lines.now)
     (left c.args.lines.now) (printed c.in_ok-line.line) (left c.take.new.self)
     c.in_err-template.field-0.0 c.in_ok-line.ensures.taken
-    (subst (λ r. Fails c.in_err-template.field-0.0 r) (sym same) c.in_err-template.ensures))
+    (subst (λ r. Fails c.in_err-template.field-0.0 r) (sym same) c.in_err-template.ensures.exact))
 
 -- else the descriptors of the line and their template are read
 pub returns-clause-read : goal.returns-clause-read
@@ -104,8 +104,8 @@ returns-clause-read c =
     let same = own on.After-as_slice (in_words on.After-behind_first) in
     let ds = ap (λ (xs : List ℕ). record { descriptors = xs; tree = c.in_ok-template.template })
     c.as_slice.ensures.value in
-    taken_ok (read_descriptors c.args.tables.now) (past c.args.lines.now) (left c.args.lines.now)
+    taken_ok (read_descriptors c.args.templates.now) (past c.args.lines.now) (left c.args.lines.now)
     (printed c.in_ok-line.line) (left c.take.new.self)
     (record { descriptors = c.in-Some.descriptors.items; tree = c.in_ok-template.template })
     c.in_ok-line.ensures.taken
-    (same ∙ c.in_ok-template.ensures ∙ ap Ok ds)
+    (same ∙ c.in_ok-template.ensures.exact ∙ ap Ok ds)

@@ -3,9 +3,9 @@ use Rattle.std.proofs.Common.{◌≡◌, length}
 use Rattle.bufr_tool.proofs.encode.pass_all.Given as goal
 
 -- the fault behind the messages stays
-abbrev pub invariant-loop : goal.invariant-loop
-invariant-loop l = l.messages.fault ≡ l.fn.messages.fault
+abbrev pub invariant-loop-messages : goal.invariant-loop-messages
+invariant-loop-messages l = l.messages.fault ≡ l.fn.messages.fault
 
 -- each turn leaves one less
-abbrev pub decreases-loop : goal.decreases-loop
-decreases-loop l = length l.messages.messages
+abbrev pub decreases-loop-messages : goal.decreases-loop-messages
+decreases-loop-messages l = length l.messages.messages

@@ -14,13 +14,14 @@ returns-then-is_none c =
 pub returns-in_err-message : goal.returns-in_err-message
 returns-in_err-message c =
     let p = err_from_is_err_and c.from_residual.result c.from_residual.ensures.1 in
-    rw (p.1, p.2) (none_handed _ _ _ _ _ c.self.view_is
+    rw (p.1, p.2) (none_handed _ _ _ _ _ _ c.self.view_is c.in_err-message.ensures.same
     (a_line _ _ _ c.peek.ensures c.is_none.ensures c.if-is_none.false)
     c.in_err-message.ensures.read)
 
 -- a message that was read is the first of those that were left
 pub returns : goal.returns
 returns c =
-    one_handed _ _ _ _ _ _ _ c.self.view_is c.in_ok-message.ensures.past
+    one_handed _ _ _ _ _ _ _ _ c.self.view_is c.in_ok-message.ensures.same
+    c.in_ok-message.ensures.past
     (a_line _ _ _ c.peek.ensures c.is_none.ensures c.if-is_none.false)
     c.in_ok-message.ensures.read

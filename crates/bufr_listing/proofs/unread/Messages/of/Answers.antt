@@ -7,17 +7,20 @@ use Rattle.bufr_listing.proofs.unread.Messages.of.Goals as goal
 -- its messages up to the first fault
 pub returns-clause-exact : goal.returns-clause-exact
 returns-clause-exact c =
-    unread_at c.args.tables.now c.args.text.now _ _ c.of.ensures.past c.of.ensures.lines
+    unread_at c.args.tables.now _ c.args.text.now _ _ c.new.ensures c.of.ensures.past
+    c.of.ensures.lines
 
 -- these are what is read of it
 pub returns-clause-listed : goal.returns-clause-listed
 returns-clause-listed c =
-    ap all_of (unread_at c.args.tables.now c.args.text.now _ _ c.of.ensures.past c.of.ensures.lines)
+    ap all_of (unread_at c.args.tables.now _ c.args.text.now _ _ c.new.ensures c.of.ensures.past
+    c.of.ensures.lines)
     ∙ all_listed c.args.tables.now c.args.text.now
 
 -- and no more than it has octets
 pub returns-clause-few : goal.returns-clause-few
 returns-clause-few c =
     let is =
-    unread_at c.args.tables.now c.args.text.now _ _ c.of.ensures.past c.of.ensures.lines in
+    unread_at c.args.tables.now _ c.args.text.now _ _ c.new.ensures c.of.ensures.past
+    c.of.ensures.lines in
     rw is (few_messages c.args.tables.now c.args.text.now)
