@@ -5,7 +5,6 @@ pub mod EntryFacts
 pub mod FrameFacts
 pub mod HeldFacts
 pub mod JudgeFacts
-pub mod KnownFacts
 pub mod MergeFacts
 pub mod MergedOctetsFacts
 pub mod OnLiterals

@@ -1,36 +1,39 @@
--- Texts merged step by step: for `take_first`, the loop of `origins_of`, `merged_text` and
+-- Texts merged step by step: for `take_first`, the loop of `origins_of` and
 -- `ArchiveText::merge`.
 use Rattle.std.proofs.Common.{◌≡◌, ℕ, ◌+◌, ◌≤◌, Bool, true, false, List, [], ◌∷◌, ◌++◌, length, drop}
 use Rattle.std.proofs.Common.{map, cond, Option, Some, None, refl, sym, ap, subst, ◌∙◌, arith}
-use Rattle.std.proofs.Common.{append_assoc, replicate}
+use Rattle.std.proofs.Common.{append_assoc, ◌⊎◌, inl, inr}
 use Rattle.std.specs.Prelude.{option_map}
 use Rattle.std.specs.List.{flat_map}
 use Rattle.std.specs.Ordering.{is_gt, ordering_reverse}
 use Rattle.std.specs.declared.cmp.Ordering.TheVariants.{Less, Equal, Greater}
-use Rattle.std.proofs.lemmas.List.{append-nil, drop_at, map-append, length-map}
+use Rattle.std.proofs.lemmas.List.{append-nil, drop_at, map-append}
 use Rattle.bufr_tables.specs.Entries.{Entries}
 use Rattle.bufr_shelves.specs.declared.entry.Entry.{Entry}
 use Rattle.bufr_shelves.specs.Entries.{slot_cmp, rank_cmp, kept}
 use Rattle.bufr_shelves.specs.Keeping.{first_of}
+use Rattle.bufr_shelves.specs.Marks.{MarkView}
 use Rattle.bufr_shelves.specs.Orders.{slots_total}
 use Rattle.bufr_archive.specs.declared.merged_octets.Origin.{Origin}
 use Rattle.bufr_archive.specs.declared.merged_octets.Origin.TheVariants.{Left, Right, LeftOfBoth}
 use Rattle.bufr_archive.specs.declared.merged_octets.Origin.TheVariants.{RightOfBoth}
 use Rattle.bufr_archive.specs.declared.merging_texts.Unmerged.{Unmerged}
-use Rattle.bufr_archive.specs.declared.reading.ReadEntry.{ReadEntry}
-use Rattle.bufr_archive.specs.ArchiveTexts.{AreInOrder, AreLeft, order_of_firsts, greater_of}
-use Rattle.bufr_archive.specs.ArchiveTexts.{ComesFirst, FirstTaken, TakesFirst, AddsMerged}
+use Rattle.bufr_archive.specs.declared.merging_texts.KnownEntry.{KnownEntry}
+use Rattle.bufr_archive.specs.ArchiveTexts.{AreInOrder, AreLeft, known, order_of_firsts, greater_of}
+use Rattle.bufr_archive.specs.ArchiveTexts.{ComesFirst, FirstTaken, TakesFirst, AreMerged}
 use Rattle.bufr_archive.specs.MergedOctets.{first_octets, behind_first, octets_or_none}
-use Rattle.bufr_archive.specs.MergedOctets.{handed_out, HandOutMerged}
-use Rattle.bufr_archive.specs.Reading.{read}
-use Rattle.bufr_archive.specs.ReportEntries.{entry_in}
+use Rattle.bufr_archive.specs.MergedOctets.{handed_out, marks_out, HandOutMerged}
 use Rattle.bufr_archive.specs.ReportLaws.{ReportsAreEntries}
-use Rattle.bufr_archive.specs.Texts.{text, front_of}
+use Rattle.bufr_archive.specs.Texts.{text, mark_of, marks_of, front_of}
 use Rattle.bufr_archive.proofs.EntryFacts.{front_is}
 use Rattle.bufr_archive.proofs.MergeFacts.{kept_left, kept_right, kept_both_first, after_all}
 use Rattle.bufr_archive.proofs.MergeFacts.{after_first, order_behind}
 
 -- ---- what is left of a text
+
+-- an entry of a mark and octets
+abbrev seen : MarkView → List ℕ → Entry
+seen m bytes = record { key = m.key; update = m.update; bytes = bytes }
 
 -- what stands behind the first of a list in order is in order
 pub behind_in_order : (tables : Entries) (es : List Entry) → AreInOrder tables es
@@ -39,46 +42,74 @@ behind_in_order tables [] a = a
 behind_in_order tables (e ∷ es) a =
     record { each = a.each.1; ordered = order_behind e es a.ordered }
 
--- where no length is announced, nothing is left
-pub none_left : ReportsAreEntries → (tables : Entries) (octets : List ℕ) (es : List Entry)
-    → AreInOrder tables es → octets ≡ text es → front_of octets ≡ None → es ≡ []
-none_left laws tables octets [] a is none = refl
-none_left laws tables octets (e ∷ es) a is none =
+-- where no mark is left or no length is announced, nothing is left
+pub none_left : ReportsAreEntries → (tables : Entries) (marks : List MarkView) (octets : List ℕ)
+    (es : List Entry) → AreInOrder tables es → marks ≡ marks_of es → octets ≡ text es
+    → (length marks ≡ 0) ⊎ (front_of octets ≡ None) → es ≡ []
+none_left laws tables marks octets [] a are is none = refl
+none_left laws tables marks octets (e ∷ es) a are is (inl none) =
+    let some : length marks ≡ length (marks_of (e ∷ es)) = ap length are in
+    absurd (omega arith)
+none_left laws tables marks octets (e ∷ es) a are is (inr none) =
     let some : front_of octets ≡ Some e.bytes =
     ap front_of is ∙ front_is e.bytes (text es) ((laws tables).frame e a.each.0) in
     absurd cc
 
--- the octets that are announced are the first entry, and behind them stand the others
-pub front_left : ReportsAreEntries → (tables : Entries) (octets front : List ℕ) (es : List Entry)
-    → AreInOrder tables es → octets ≡ text es → front_of octets ≡ Some front
-    → (e : Entry) × (first_of es ≡ Some e) × (entry_in tables front ≡ Some e)
-    × (drop (length front) octets ≡ text (drop 1 es))
-front_left laws tables octets front [] a is some =
-    let none : front_of octets ≡ None = ap front_of is in absurd cc
-front_left laws tables octets front (e ∷ es) a is some =
-    let own : front_of octets ≡ Some e.bytes =
+-- so these are left
+pub nothing_left : ReportsAreEntries → (tables : Entries) (marks : List MarkView)
+    (octets : List ℕ) (es : List Entry) (left : Unmerged) → AreInOrder tables es
+    → marks ≡ marks_of es → octets ≡ text es → (length marks ≡ 0) ⊎ (front_of octets ≡ None)
+    → left.first ≡ None → left.marks.now ≡ marks → left.behind.now ≡ octets
+    → AreLeft tables es left
+nothing_left laws tables marks octets es left a are is none first marked behind =
+    let empty = none_left laws tables marks octets es a are is none in
+    record {
+      in_order = a;
+      first = ap (option_map known) first ∙ ap first_of (sym empty);
+      marked = marked ∙ are ∙ ap marks_of empty ∙ ap (λ (es : List Entry). marks_of (drop 1 es)) (sym empty);
+      behind = behind ∙ is ∙ ap text empty ∙ ap (λ (es : List Entry). text (drop 1 es)) (sym empty);
+    }
+
+-- the octets that are announced are the first entry, whose mark comes first, and behind them stand
+-- the others
+pub front_left : ReportsAreEntries → (tables : Entries) (marks others : List MarkView)
+    (octets front : List ℕ) (es : List Entry) (left : Unmerged) (entry : KnownEntry)
+    → AreInOrder tables es → marks ≡ marks_of es → octets ≡ text es
+    → marks ≡ entry.mark.now ∷ others → front_of octets ≡ Some front
+    → left.first ≡ Some entry → entry.bytes.now ≡ front → left.marks.now ≡ others
+    → left.behind.now ≡ drop (length front) octets → AreLeft tables es left
+front_left laws tables marks others octets front [] left entry a are is first some at own marked
+    behind = let none : front_of octets ≡ None = ap front_of is in absurd cc
+front_left laws tables marks others octets front (e ∷ es) left entry a are is first some at own
+    marked behind =
+    let announced : front_of octets ≡ Some e.bytes =
     ap front_of is ∙ front_is e.bytes (text es) ((laws tables).frame e a.each.0) in
-    let same : e.bytes ≡ front = cc in
-    let found : entry_in tables e.bytes ≡ Some e = (laws tables).found e a.each.0 in (
-      e,
-      refl,
-      subst (λ (f : List ℕ). entry_in tables f ≡ Some e) same found,
-      ap (drop (length front)) is
-          ∙ drop_at e.bytes (text es) (length front) (ap length same),
-    )
+    let same : front ≡ e.bytes = cc in
+    let joined : entry.mark.now ∷ others ≡ mark_of e ∷ marks_of es = sym first ∙ are in
+    let mark : entry.mark.now ≡ mark_of e = cc in
+    let more : others ≡ marks_of es = cc in
+    record {
+      in_order = a;
+      first = ap (option_map known) at
+          ∙ ap (λ (m : MarkView). Some (seen m entry.bytes.now)) mark
+          ∙ ap (λ (b : List ℕ). Some (seen (mark_of e) b)) (own ∙ same);
+      marked = marked ∙ more;
+      behind = behind ∙ ap (drop (length front)) is
+          ∙ drop_at e.bytes (text es) (length front) (ap length (sym same));
+    }
 
 -- ---- one step
 
 -- nothing is left of both texts
 pub none_taken : (tables : Entries) (es fs : List Entry) (left right : Unmerged)
     → AreLeft tables es left → AreLeft tables fs right
-    → order_of_firsts (option_map read left.first) (option_map read right.first) ≡ Less
+    → order_of_firsts (option_map known left.first) (option_map known right.first) ≡ Less
     → left.first ≡ None → (es ≡ []) × (fs ≡ [])
 none_taken tables es fs left right l r less none =
     by es fs
-    (sym (ap (λ x. order_of_firsts x (option_map read right.first)) l.first
+    (sym (ap (λ x. order_of_firsts x (option_map known right.first)) l.first
     ∙ ap (order_of_firsts (first_of es)) r.first) ∙ less)
-    (sym l.first ∙ ap (option_map read) none)
+    (sym l.first ∙ ap (option_map known) none)
   where
     -- by the two lists
     by : (es fs : List Entry) → order_of_firsts (first_of es) (first_of fs) ≡ Less
@@ -89,20 +120,20 @@ none_taken tables es fs left right l r less none =
 
 -- the first entry of the left text was taken
 pub left_taken : (tables : Entries) (es fs : List Entry) (before left right : Unmerged)
-    (entry : ReadEntry) → AreLeft tables es before → AreLeft tables fs right
-    → order_of_firsts (option_map read before.first) (option_map read right.first) ≡ Less
+    (entry : KnownEntry) → AreLeft tables es before → AreLeft tables fs right
+    → order_of_firsts (option_map known before.first) (option_map known right.first) ≡ Less
     → before.first ≡ Some entry → AreLeft tables (drop 1 es) left
     → FirstTaken tables es fs left right Left
 left_taken tables es fs before left right entry b r less some l =
     by es fs b.in_order r.in_order r
-    (sym (ap (λ x. order_of_firsts x (option_map read right.first)) b.first
+    (sym (ap (λ x. order_of_firsts x (option_map known right.first)) b.first
     ∙ ap (order_of_firsts (first_of es)) r.first) ∙ less)
-    (sym b.first ∙ ap (option_map read) some) l
+    (sym b.first ∙ ap (option_map known) some) l
   where
     -- by the two lists
     by : (es fs : List Entry) → AreInOrder tables es → AreInOrder tables fs
         → AreLeft tables fs right → order_of_firsts (first_of es) (first_of fs) ≡ Less
-        → first_of es ≡ Some (read entry) → AreLeft tables (drop 1 es) left
+        → first_of es ≡ Some (known entry) → AreLeft tables (drop 1 es) left
         → FirstTaken tables es fs left right Left
     by [] fs a b r less some l = absurd cc
     by (e ∷ es) [] a b r less some l = record {
@@ -130,11 +161,11 @@ left_taken tables es fs before left right entry b r less some l =
 -- the first entry of the right text was taken
 pub right_taken : (tables : Entries) (es fs : List Entry) (left before right : Unmerged)
     → AreLeft tables es left → AreLeft tables fs before
-    → order_of_firsts (option_map read left.first) (option_map read before.first) ≡ Greater
+    → order_of_firsts (option_map known left.first) (option_map known before.first) ≡ Greater
     → AreLeft tables (drop 1 fs) right → FirstTaken tables es fs left right Right
 right_taken tables es fs left before right l b greater r =
     by es fs l.in_order b.in_order l
-    (sym (ap (λ x. order_of_firsts x (option_map read before.first)) l.first
+    (sym (ap (λ x. order_of_firsts x (option_map known before.first)) l.first
     ∙ ap (order_of_firsts (first_of es)) b.first) ∙ greater) r
   where
     -- by the two lists
@@ -176,15 +207,15 @@ greater_comes e f es fs false = (refl, e, refl)
 -- the first entries of both were taken, which are of one slot
 pub both_taken : (tables : Entries) (es fs : List Entry) (left left' right right' : Unmerged)
     (origin : Origin) → AreLeft tables es left → AreLeft tables fs right
-    → order_of_firsts (option_map read left.first) (option_map read right.first) ≡ Equal
-    → origin ≡ greater_of (option_map read left.first) (option_map read right.first)
+    → order_of_firsts (option_map known left.first) (option_map known right.first) ≡ Equal
+    → origin ≡ greater_of (option_map known left.first) (option_map known right.first)
     → AreLeft tables (drop 1 es) left' → AreLeft tables (drop 1 fs) right'
     → FirstTaken tables es fs left' right' origin
 both_taken tables es fs left left' right right' origin l r equal is l' r' =
     by es fs l.in_order r.in_order
-    (sym (ap (λ x. order_of_firsts x (option_map read right.first)) l.first
+    (sym (ap (λ x. order_of_firsts x (option_map known right.first)) l.first
     ∙ ap (order_of_firsts (first_of es)) r.first) ∙ equal)
-    (sym (ap (λ x. greater_of x (option_map read right.first)) l.first
+    (sym (ap (λ x. greater_of x (option_map known right.first)) l.first
     ∙ ap (greater_of (first_of es)) r.first) ∙ sym is) l' r'
   where
     -- by the two lists
@@ -268,22 +299,29 @@ module _ (laws : ReportsAreEntries) (tables : Entries) where
       (behind_is f left other)
       ∙ ap (λ (o : List ℕ). e.bytes ∷ handed_out more (text left) o) (behind_is e right first)
 
+-- the mark of the entry that comes first is handed out, and then those of the ones behind it
+marks_first : (origin : Origin) (es fs : List Entry) (e : Entry) (left right : List Entry)
+    → ComesFirst origin es fs e left right → (more : List Origin)
+    → marks_out (origin ∷ more) (marks_of es) (marks_of fs)
+    ≡ mark_of e ∷ marks_out more (marks_of left) (marks_of right)
+marks_first Left es fs e left right comes more =
+    ap (λ (es : List Entry). marks_out (Left ∷ more) (marks_of es) (marks_of fs)) comes.0
+    ∙ ap (λ (fs : List Entry). marks_out (Left ∷ more) (marks_of (e ∷ left)) (marks_of fs)) comes.1
+marks_first Right es fs e left right comes more =
+    ap (λ (es : List Entry). marks_out (Right ∷ more) (marks_of es) (marks_of fs)) comes.0
+    ∙ ap (λ (fs : List Entry). marks_out (Right ∷ more) (marks_of left) (marks_of fs)) comes.1
+marks_first LeftOfBoth es fs e left right comes more =
+    ap (λ (es : List Entry). marks_out (LeftOfBoth ∷ more) (marks_of es) (marks_of fs)) comes.0
+    ∙ ap (λ (fs : List Entry). marks_out (LeftOfBoth ∷ more) (marks_of (e ∷ left)) (marks_of fs))
+    comes.2
+marks_first RightOfBoth es fs e left right comes more =
+    ap (λ (fs : List Entry). marks_out (RightOfBoth ∷ more) (marks_of es) (marks_of fs)) comes.0
+    ∙ ap (λ (es : List Entry). marks_out (RightOfBoth ∷ more) (marks_of es) (marks_of (e ∷ right)))
+    comes.2
+
 -- the octets of entries
 abbrev octets_of : List Entry → List (List ℕ)
 octets_of es = map (λ (e : Entry). e.bytes) es
-
--- of one text, as many as it has entries: the octets of each
-pub hands_all : ReportsAreEntries → (tables : Entries) (es : List Entry) (right : List ℕ)
-    → AreInOrder tables es
-    → handed_out (replicate (length es) Left) (text es) right ≡ octets_of es
-hands_all laws tables [] right a = refl
-hands_all laws tables (e ∷ es) right a =
-    let more = replicate (length es) Left in
-    ap (λ (o : List ℕ). o ∷ handed_out more (behind_first (text (e ∷ es))) right)
-    (first_is laws tables e es a)
-    ∙ ap (λ (o : List ℕ). e.bytes ∷ handed_out more o right) (behind_is laws tables e es a)
-    ∙ ap (λ (os : List (List ℕ)). e.bytes ∷ os)
-    (hands_all laws tables es right (behind_in_order tables (e ∷ es) a))
 
 -- ---- step by step
 
@@ -296,6 +334,8 @@ pub record ToldSoFar (tables : Entries) (es fs : List Entry) (origins : List Ori
   pub are_kept : kept (es ++ fs) ≡ done ++ kept (left_behind ++ right_behind)
   pub hands : (more : List Origin) → handed_out (origins ++ more) (text es) (text fs)
       ≡ octets_of done ++ handed_out more (text left_behind) (text right_behind)
+  pub marks : (more : List Origin) → marks_out (origins ++ more) (marks_of es) (marks_of fs)
+      ≡ marks_of done ++ marks_out more (marks_of left_behind) (marks_of right_behind)
   pub few : at + (length left_behind + length right_behind) ≤ most
   pub left_are : AreLeft tables left_behind left
   pub right_are : AreLeft tables right_behind right
@@ -312,6 +352,8 @@ told_none tables es fs origins left right most none l r few = record {
   are_kept = refl;
   hands = λ more.
       ap (λ (os : List Origin). handed_out (os ++ more) (text es) (text fs)) none;
+  marks = λ more.
+      ap (λ (os : List Origin). marks_out (os ++ more) (marks_of es) (marks_of fs)) none;
   few = omega arith;
   left_are = l;
   right_are = r;
@@ -344,6 +386,17 @@ told_more laws tables es fs origins origin left right left' right' most at s t =
           ∙ sym (append_assoc (octets_of s.done) (t.taken.bytes ∷ []) behind)
           ∙ ap (λ (os : List (List ℕ)). os ++ behind)
           (sym (map-append (λ (e : Entry). e.bytes) s.done (t.taken ∷ [])));
+      marks = λ more.
+          let behind = marks_out more (marks_of t.left_behind) (marks_of t.right_behind) in
+          ap (λ (os : List Origin). marks_out os (marks_of es) (marks_of fs))
+          (append_assoc origins (origin ∷ []) more)
+          ∙ s.marks (origin ∷ more)
+          ∙ ap (λ (ms : List MarkView). marks_of s.done ++ ms)
+          (marks_first origin s.left_behind s.right_behind t.taken t.left_behind t.right_behind
+          t.comes more)
+          ∙ sym (append_assoc (marks_of s.done) (mark_of t.taken ∷ []) behind)
+          ∙ ap (λ (ms : List MarkView). ms ++ behind)
+          (sym (map-append mark_of s.done (t.taken ∷ [])));
       few = omega arith;
       left_are = t.left_are;
       right_are = t.right_are;
@@ -359,8 +412,14 @@ told_done tables es fs origins left right most at s none none_too =
     s.are_kept
     ∙ ap (λ (ks : List Entry). s.done ++ kept (ks ++ s.right_behind)) none
     ∙ ap (λ (ks : List Entry). s.done ++ kept ks) none_too ∙ append-nil s.done in
-    ap (λ (os : List Origin). handed_out os (text es) (text fs)) (sym (append-nil origins))
-    ∙ s.hands [] ∙ append-nil (octets_of s.done) ∙ ap octets_of (sym all)
+    record {
+      octets = ap (λ (os : List Origin). handed_out os (text es) (text fs))
+          (sym (append-nil origins))
+          ∙ s.hands [] ∙ append-nil (octets_of s.done) ∙ ap octets_of (sym all);
+      marks = ap (λ (os : List Origin). marks_out os (marks_of es) (marks_of fs))
+          (sym (append-nil origins))
+          ∙ s.marks [] ∙ append-nil (marks_of s.done) ∙ ap marks_of (sym all);
+    }
 
 -- a list with no members
 empty : (es : List Entry) → length es ≡ 0 → es ≡ []
@@ -377,38 +436,34 @@ told_all tables es fs origins left right most at s all =
     (empty s.left_behind (omega arith)) (empty s.right_behind (omega arith))
 
 -- the step that is made, whatever is left
-abbrev pub Takes : Entries → Unmerged → Unmerged → Unmerged → Unmerged → Option Origin → Type 0
-Takes tables left right left' right' found =
-    (es fs : List Entry) → AreLeft tables es left → AreLeft tables fs right
+abbrev pub Takes : Unmerged → Unmerged → Unmerged → Unmerged → Option Origin → Type 0
+Takes left right left' right' found =
+    (tables : Entries) (es fs : List Entry) → AreLeft tables es left → AreLeft tables fs right
     → TakesFirst tables es fs left' right' found
 
 -- where nothing is taken all are told
-pub told_stops : (tables tables' : Entries) (es fs : List Entry) (origins : List Origin)
+pub told_stops : (tables : Entries) (es fs : List Entry) (origins : List Origin)
     (left right left' right' : Unmerged) (found : Option Origin) (most at : ℕ)
-    → ToldSoFar tables es fs origins left right most at → tables' ≡ tables
-    → Takes tables' left right left' right' found → found ≡ None → HandOutMerged es fs origins
-told_stops tables tables' es fs origins left right left' right' found most at s same takes none =
-    let t : Takes tables left right left' right' found =
-    subst (λ (t : Entries). Takes t left right left' right' found) same takes in
+    → ToldSoFar tables es fs origins left right most at
+    → Takes left right left' right' found → found ≡ None → HandOutMerged es fs origins
+told_stops tables es fs origins left right left' right' found most at s takes none =
     let n : TakesFirst tables s.left_behind s.right_behind left' right' None =
     subst (TakesFirst tables s.left_behind s.right_behind left' right') none
-    (t s.left_behind s.right_behind s.left_are s.right_are) in
+    (takes tables s.left_behind s.right_behind s.left_are s.right_are) in
     told_done tables es fs origins left right most at s n.0 n.1
 
 -- the origin of what is taken is told
-pub told_goes_on : ReportsAreEntries → (tables tables' : Entries) (es fs : List Entry)
+pub told_goes_on : ReportsAreEntries → (tables : Entries) (es fs : List Entry)
     (origins origins' : List Origin) (origin : Origin) (left right left' right' : Unmerged)
     (found : Option Origin) (most at : ℕ) → ToldSoFar tables es fs origins left right most at
-    → tables' ≡ tables → Takes tables' left right left' right' found → found ≡ Some origin
+    → Takes left right left' right' found → found ≡ Some origin
     → origins' ≡ origins ++ origin ∷ []
     → ToldSoFar tables es fs origins' left' right' most (at + 1)
-told_goes_on laws tables tables' es fs origins origins' origin left right left' right' found most
-    at s same takes some is =
-    let t : Takes tables left right left' right' found =
-    subst (λ (t : Entries). Takes t left right left' right' found) same takes in
+told_goes_on laws tables es fs origins origins' origin left right left' right' found most at s
+    takes some is =
     let n : TakesFirst tables s.left_behind s.right_behind left' right' (Some origin) =
     subst (TakesFirst tables s.left_behind s.right_behind left' right') some
-    (t s.left_behind s.right_behind s.left_are s.right_are) in
+    (takes tables s.left_behind s.right_behind s.left_are s.right_are) in
     subst (λ (os : List Origin). ToldSoFar tables es fs os left' right' most (at + 1)) (sym is)
     (told_more laws tables es fs origins origin left right left' right' most at s n)
 
@@ -419,12 +474,14 @@ joined_text : (es : List Entry) → flat_map (λ (o : List ℕ). o) (octets_of e
 joined_text [] = refl
 joined_text (e ∷ es) = ap (λ (xs : List ℕ). e.bytes ++ xs) (joined_text es)
 
--- so those of what is kept of two lists are the text of both merged, and they are counted
-pub adds_joined : (es fs : List Entry) (merged : List (List ℕ)) (octets : List ℕ) (count : ℕ)
-    → merged ≡ octets_of (kept (es ++ fs)) → octets ≡ flat_map (λ (o : List ℕ). o) merged
-    → count ≡ length merged → AddsMerged es fs [] octets count
-adds_joined es fs merged octets count are joined counted = record {
-  text_is = joined ∙ ap (λ (os : List (List ℕ)). flat_map (λ (o : List ℕ). o) os) are
+-- so the octets and the marks of what is kept of two lists are those of both merged
+pub merged_are : (es fs : List Entry) (origins : List Origin) (octets : List ℕ)
+    (marks : List MarkView) → HandOutMerged es fs origins
+    → octets ≡ flat_map (λ (o : List ℕ). o) (handed_out origins (text es) (text fs))
+    → marks ≡ marks_out origins (marks_of es) (marks_of fs) → AreMerged es fs octets marks
+merged_are es fs origins octets marks hand joined out = record {
+  text_is = joined
+      ∙ ap (λ (os : List (List ℕ)). flat_map (λ (o : List ℕ). o) os) hand.octets
       ∙ joined_text (kept (es ++ fs));
-  counted = counted ∙ ap length are ∙ length-map (kept (es ++ fs)) (λ (e : Entry). e.bytes);
+  marked = out ∙ hand.marks;
 }

@@ -10,14 +10,15 @@ use Rattle.bufr_tables.specs.Entries.{Entries}
 use Rattle.bufr_shelves.specs.declared.entry.Entry.{Entry}
 use Rattle.bufr_shelves.specs.Entries.{slot_cmp, rank_cmp, kept}
 use Rattle.bufr_shelves.specs.Keeping.{first_of}
+use Rattle.bufr_shelves.specs.Marks.{MarkView}
 use Rattle.bufr_archive.specs.declared.reading.NotAnArchive.{NotAnArchive}
+use Rattle.bufr_archive.specs.declared.merging_texts.KnownEntry.{KnownEntry}
 use Rattle.bufr_archive.specs.declared.merging_texts.Unmerged.{Unmerged}
 use Rattle.bufr_archive.specs.declared.merged_octets.Origin.{Origin}
 use Rattle.bufr_archive.specs.declared.merged_octets.Origin.TheVariants.{Left, Right, LeftOfBoth}
 use Rattle.bufr_archive.specs.declared.merged_octets.Origin.TheVariants.{RightOfBoth}
-use Rattle.bufr_archive.specs.Texts.{text, entries_read}
+use Rattle.bufr_archive.specs.Texts.{text, marks_of, entries_read}
 use Rattle.bufr_archive.specs.ReportEntries.{IsReportEntry, entry_in}
-use Rattle.bufr_archive.specs.Reading.{read}
 
 -- ---- what is held
 
@@ -30,18 +31,19 @@ entries_or_none (Err place) = []
 abbrev pub entries_in : Entries → List ℕ → List Entry
 entries_in tables octets = entries_or_none (entries_read (entry_in tables) octets)
 
--- octets are the text of so many entries of reports under the tables, all of which are kept
-pub record IsTextOf (tables : Entries) (octets : List ℕ) (count : ℕ) (es : List Entry)
+-- octets are the text of entries of reports under the tables, all of which are kept and have these
+-- marks
+pub record IsTextOf (tables : Entries) (octets : List ℕ) (marks : List MarkView) (es : List Entry)
     : Type 0 where
   pub each : AllByRecursion (IsReportEntry tables) es
   pub says : octets ≡ text es
   pub all_kept : kept es ≡ es
-  pub counted : count ≡ length es
+  pub marked : marks ≡ marks_of es
 
--- how many entries were read, or the place as the fault
-abbrev pub count_or : Result (List Entry) ℕ → Result ℕ NotAnArchive
-count_or (Ok es) = Ok (length es)
-count_or (Err place) = Err (record { place = place })
+-- the marks of the entries that were read, or the place as the fault
+abbrev pub marks_or : Result (List Entry) ℕ → Result (List MarkView) NotAnArchive
+marks_or (Ok es) = Ok (marks_of es)
+marks_or (Err place) = Err (record { place = place })
 
 -- ---- two texts merged
 
@@ -50,10 +52,15 @@ pub record AreInOrder (tables : Entries) (es : List Entry) : Type 0 where
   pub each : AllByRecursion (IsReportEntry tables) es
   pub ordered : IsStrictlySortedBy slot_cmp es
 
--- these entries are left of a text, of which the first was read
+-- an entry whose mark is held
+abbrev pub known : KnownEntry → Entry
+known e = record { key = e.mark.now.key; update = e.mark.now.update; bytes = e.bytes.now }
+
+-- these entries are left of a text, of which the first is at hand
 pub record AreLeft (tables : Entries) (es : List Entry) (left : Unmerged) : Type 0 where
   pub in_order : AreInOrder tables es
-  pub first : option_map read left.first ≡ first_of es
+  pub first : option_map known left.first ≡ first_of es
+  pub marked : left.marks.now ≡ marks_of (drop 1 es)
   pub behind : left.behind.now ≡ text (drop 1 es)
 
 -- the order of the slots of two entries; where one is missing it is told as if its slot were
@@ -96,7 +103,7 @@ abbrev pub TakesFirst : Entries → List Entry → List Entry → Unmerged → U
 TakesFirst tables es fs left right None = (es ≡ []) × (fs ≡ [])
 TakesFirst tables es fs left right (Some origin) = FirstTaken tables es fs left right origin
 
--- the text of what is kept of two lists was added to some octets, and its entries counted
-pub record AddsMerged (es fs : List Entry) (octets octets' : List ℕ) (count : ℕ) : Type 0 where
-  pub text_is : octets' ≡ octets ++ text (kept (es ++ fs))
-  pub counted : count ≡ length (kept (es ++ fs))
+-- octets and marks are those of what is kept of two lists
+pub record AreMerged (es fs : List Entry) (octets : List ℕ) (marks : List MarkView) : Type 0 where
+  pub text_is : octets ≡ text (kept (es ++ fs))
+  pub marked : marks ≡ marks_of (kept (es ++ fs))

@@ -1,6 +1,7 @@
 pub use Rattle.bufr_shelves.specs.Keeping
 pub use Rattle.bufr_shelves.specs.Entries
 pub use Rattle.bufr_shelves.specs.Shelves
+pub use Rattle.bufr_shelves.specs.Marks
 pub use Rattle.bufr_shelves.specs.Laws as ShelfLaws
 pub mod Adding
 pub mod Archives

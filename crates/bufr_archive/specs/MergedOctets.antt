@@ -1,11 +1,12 @@
 -- The octets of the entries of two texts merged, handed out one after the other.
-use Rattle.std.specs.Prelude.{◌≡◌, ℕ, Option, Some, None, List, [], ◌∷◌, ◌++◌, drop, length, map}
+use Rattle.std.specs.Prelude.{◌≡◌, ℕ, Option, Some, None, List, [], ◌∷◌, ◌++◌, drop, length, map, take}
 use Rattle.bufr_shelves.specs.declared.entry.Entry.{Entry}
 use Rattle.bufr_shelves.specs.Entries.{kept}
+use Rattle.bufr_shelves.specs.Marks.{MarkView}
 use Rattle.bufr_archive.specs.declared.merged_octets.Origin.{Origin}
 use Rattle.bufr_archive.specs.declared.merged_octets.Origin.TheVariants.{Left, Right, LeftOfBoth}
 use Rattle.bufr_archive.specs.declared.merged_octets.Origin.TheVariants.{RightOfBoth}
-use Rattle.bufr_archive.specs.Texts.{text, front_of}
+use Rattle.bufr_archive.specs.Texts.{text, marks_of, front_of}
 
 -- octets that may be there, and none where they are not
 abbrev pub octets_or_none : Option (List ℕ) → List ℕ
@@ -32,7 +33,19 @@ handed_out (LeftOfBoth ∷ more) left right =
 handed_out (RightOfBoth ∷ more) left right =
     first_octets right ∷ handed_out more (behind_first left) (behind_first right)
 
--- the entries of these origins are those that are kept of two lists, whose texts they stand in
-abbrev pub HandOutMerged : List Entry → List Entry → List Origin → Type 0
-HandOutMerged es fs origins =
-    handed_out origins (text es) (text fs) ≡ map (λ (e : Entry). e.bytes) (kept (es ++ fs))
+-- the marks of entries of two lists, of which these are the origins
+abbrev pub marks_out : List Origin → List MarkView → List MarkView → List MarkView
+marks_out [] left right = []
+marks_out (Left ∷ more) left right = take 1 left ++ marks_out more (drop 1 left) right
+marks_out (Right ∷ more) left right = take 1 right ++ marks_out more left (drop 1 right)
+marks_out (LeftOfBoth ∷ more) left right =
+    take 1 left ++ marks_out more (drop 1 left) (drop 1 right)
+marks_out (RightOfBoth ∷ more) left right =
+    take 1 right ++ marks_out more (drop 1 left) (drop 1 right)
+
+-- the entries of these origins are those that are kept of two lists, whose texts and marks they
+-- stand in
+pub record HandOutMerged (es fs : List Entry) (origins : List Origin) : Type 0 where
+  pub octets : handed_out origins (text es) (text fs)
+      ≡ map (λ (e : Entry). e.bytes) (kept (es ++ fs))
+  pub marks : marks_out origins (marks_of es) (marks_of fs) ≡ marks_of (kept (es ++ fs))

@@ -10,7 +10,7 @@ use Rattle.bufr_archive.specs.ReportEntries.{entry_in}
 
 -- an entry whose octets stand in what is read
 abbrev pub read : ReadEntry → Entry
-read e = record { key = e.key; update = e.update; bytes = e.bytes.now }
+read e = record { key = e.mark.key; update = e.mark.update; bytes = e.bytes.now }
 
 -- the archive of entries, or the place as the fault
 abbrev pub archive_or : Entries → Result (List Entry) ℕ → Result ArchiveView NotAnArchive

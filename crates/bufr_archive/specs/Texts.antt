@@ -3,7 +3,7 @@
 -- Which entries are those of reports, and which entry octets are, is said in `ReportEntries`:
 -- `is_entry` and `entry_in` stand for it here.
 use Rattle.std.specs.Prelude.{◌≡◌, ℕ, zero, suc, ◌+◌, ◌-◌, ◌<◌, ◌≤◌, Bool, true, if◌then◌else◌}
-use Rattle.std.specs.Prelude.{List, [], ◌∷◌, length, take, Option, Some, None, option_map, Result}
+use Rattle.std.specs.Prelude.{List, [], ◌∷◌, length, map, take, Option, Some, None, option_map, Result}
 use Rattle.std.specs.Prelude.{Ok, Err}
 use Rattle.std.specs.List.{flat_map, AllByRecursion}
 use Rattle.std.specs.Ordering.{is_lt}
@@ -12,6 +12,7 @@ use Rattle.bufr_frame.specs.Starts.{announced}
 use Rattle.bufr_frame.specs.Streams.{cut}
 use Rattle.bufr_shelves.specs.declared.entry.Entry.{Entry}
 use Rattle.bufr_shelves.specs.Entries.{slot_cmp, kept}
+use Rattle.bufr_shelves.specs.Marks.{MarkView}
 use Rattle.bufr_report_keys.specs.Usable.{◌>>=◌}
 
 -- ---- texts
@@ -19,6 +20,14 @@ use Rattle.bufr_report_keys.specs.Usable.{◌>>=◌}
 -- the octets of entries, joined
 abbrev pub text : List Entry → List ℕ
 text es = flat_map (λ e. e.bytes) es
+
+-- what is said of an entry beside its octets
+abbrev pub mark_of : Entry → MarkView
+mark_of e = record { key = e.key; update = e.update }
+
+-- the same of each of some
+abbrev pub marks_of : List Entry → List MarkView
+marks_of es = map mark_of es
 
 -- octets that are the joined octets of what is kept of some entries
 pub record IsEntryText (is_entry : Entry → Type 0) (octets : List ℕ) : Type 0 where

@@ -1,33 +1,41 @@
 //! Archives held as their text.
-ghost use Rattle.std.specs.Prelude.{◌≡◌, [], List, length, map, IfOk, IfErr, OnOk, OnErr, Ok};
+ghost use Rattle.std.specs.Prelude.{◌≡◌, ◌++◌, [], List, length, map, IfOk, IfErr, OnOk, OnErr, Ok};
+ghost use Rattle.std.specs.List.{flat_map};
+ghost use Rattle.std.specs.Option.{option_map, option_to_list};
 ghost use Rattle.bufr_answers.specs.Answers.{Gives};
 ghost use Rattle.bufr_message.specs.declared.report.Report.{Report as AReport};
 ghost use Rattle.bufr_sections.specs.Sections.{AreOctets};
 ghost use Rattle.bufr_archive.specs.Archives.{merged, IsKept};
-ghost use Rattle.bufr_archive.specs.ArchiveTexts.{count_or};
-ghost use Rattle.bufr_archive.specs.Reading.{archive_read};
+ghost use Rattle.bufr_archive.specs.ArchiveTexts.{marks_or};
+ghost use Rattle.bufr_archive.specs.MergedOctets.{HandOutMerged, handed_out};
+ghost use Rattle.bufr_archive.specs.Reading.{read, archive_read};
 ghost use Rattle.bufr_archive.specs.ReportEntries.{AreUnder, text_of, entry_in};
 ghost use Rattle.bufr_archive.specs.ReportTexts.{IsArchiveOf, RefusedAt, archive_of};
-ghost use Rattle.bufr_archive.specs.Texts.{text, entries_read};
+ghost use Rattle.bufr_archive.specs.Texts.{text, mark_of, entries_read};
 
 use crate::laws::reports_are_entries;
+use crate::merged_marks::merged_marks;
 use crate::merged_octets::{MergedOctets, Origin};
-use crate::merging_texts::{merged_octets, merged_text};
+use crate::merging_texts::{Unmerged, origins_of};
 use crate::reading::{NotAnArchive, ReadEntry, behind, right_entry};
 use bufr_answers::{Failure, OutOfMemory};
 use bufr_message::Templates;
 use bufr_message::laws::written_messages_are_spelt;
+use bufr_shelves::Mark;
 use bufr_tables::Tables;
 use std::alloc::Global;
 use std::marker::Model;
+use std::mem;
 
-/// An archive that holds nothing but its text. It is read, merged with others and given back
-/// without a shelf, so that it takes as much memory as the text has octets.
+/// An archive that holds nothing but its text and a mark of each entry. It is read, merged with
+/// others and given back without a shelf, and no message is read twice: so it takes as much memory
+/// as the text has octets, and 24 octets for each entry. A key that is not that of a WMO station
+/// takes more.
 #[derive(Drop)]
 pub struct ArchiveText<'t> {
-    templates: Templates<'t>,
+    tables: &'t Tables,
     octets: Vec<u8>,
-    count: usize,
+    marks: Vec<Mark>,
 }
 
 impl<'t> Model for ArchiveText<'t> {
@@ -37,13 +45,13 @@ impl<'t> Model for ArchiveText<'t> {
     ghost Value = { ArchiveView };
 
     ghost view = { λ t. record {
-      tables = t.templates;
-      entries = entries_in t.templates t.octets.items;
+      tables = t.tables.now;
+      entries = entries_in t.tables.now t.octets.items;
     } };
 
-    // The octets are the text of what is held, and its entries are counted.
-    ghost invariant = { λ t.
-        IsTextOf t.templates t.octets.items t.count (entries_in t.templates t.octets.items) };
+    // The octets are the text of what is held, and the marks are those of its entries.
+    ghost invariant = { λ t. IsTextOf t.tables.now t.octets.items t.marks.items
+        (entries_in t.tables.now t.octets.items) };
 }
 
 impl<'t> ArchiveText<'t> {
@@ -52,9 +60,9 @@ impl<'t> ArchiveText<'t> {
         ensures { result ≡ record { tables = tables.now; entries = [] } }
     {
         ArchiveText {
-            templates: Templates::new(alloc, tables),
+            tables,
             octets: Vec::new(alloc),
-            count: 0,
+            marks: Vec::new(alloc),
         }
     }
 
@@ -84,22 +92,23 @@ impl<'t> ArchiveText<'t> {
     }
 
     /// The archive of the entries that octets are the text of, or the place of the first that is
-    /// not right.
+    /// not right. Room that they do not take is given back.
     fn judged(
         alloc: Global,
         tables: &'t Tables,
-        octets: Vec<u8>,
+        mut octets: Vec<u8>,
     ) -> Result<Self, Failure<NotAnArchive>>
         ensures { Gives (λ a. a) result (archive_read tables.now octets.items) }
     {
         reports_are_entries();
         are_octets(&octets);
         let mut templates = Templates::new(alloc, tables);
-        let count = count_entries(alloc, &mut templates, &octets)?;
+        octets.shrink_to_fit();
+        let marks = read_marks(alloc, &mut templates, &octets)?;
         Ok(ArchiveText {
-            templates,
+            tables,
             octets,
-            count,
+            marks,
         })
     }
 
@@ -111,19 +120,44 @@ impl<'t> ArchiveText<'t> {
         ensures err { OnErr result (self.new ≡ self.old) }
     {
         reports_are_entries();
-        let most = self.count + other.count;
-        if self.count == 0 {
+        if self.marks.is_empty() {
             *self = other;
             return Ok(());
         }
-        if other.count == 0 {
+        if other.marks.is_empty() {
             return Ok(());
         }
-        let templates = &mut self.templates;
-        let (octets, count) = merged_text(alloc, templates, &self.octets, &other.octets, most)?;
+        let origins = self.origins_with(alloc, &other)?;
+        let octets = joined_octets(alloc, &origins, &self.octets, &other.octets)?;
+        let room = Vec::with_capacity(alloc, origins.len())?;
+        let ArchiveText {
+            octets: other_octets,
+            marks: other_marks,
+            ..
+        } = other;
+        drop(other_octets);
         self.octets = octets;
-        self.count = count;
+        let own_marks = mem::replace(&mut self.marks, Vec::new(alloc));
+        self.marks = merged_marks(&origins, own_marks, other_marks, room);
         Ok(())
+    }
+
+    /// Of which of the two each entry is that is kept of it and of another archive under the same
+    /// tables. It can only run out of memory.
+    fn origins_with(
+        &self,
+        alloc: Global,
+        other: &ArchiveText<'t>,
+    ) -> Result<Vec<Origin>, OutOfMemory>
+        requires { self.now.tables ≡ other.now.tables }
+        ensures { IfOk result (λ origins.
+            HandOutMerged self.now.entries other.now.entries origins.items) }
+    {
+        let most = self.marks.len() + other.marks.len();
+        let left = Unmerged::of_text(&self.marks, &self.octets);
+        let right = Unmerged::of_text(&other.marks, &other.octets);
+        let origins = origins_of(alloc, left, right, most)?;
+        Ok(origins)
     }
 
     /// The octets of the entries that are kept of it and of another archive under the same tables:
@@ -138,24 +172,8 @@ impl<'t> ArchiveText<'t> {
         ensures { IfOk result (λ left.
             left ≡ map (λ e. e.bytes) (merged self.now other.now).entries) }
     {
-        reports_are_entries();
-        let most = self.count + other.count;
-        if other.count == 0 {
-            return self.unmerged(alloc);
-        }
-        let mut templates = Templates::new(alloc, self.templates.tables());
-        let left = merged_octets(alloc, &mut templates, &self.octets, &other.octets, most)?;
-        Ok(left)
-    }
-
-    /// The octets of all its entries, none of which is read once more. It can only run out of
-    /// memory.
-    fn unmerged(&self, alloc: Global) -> Result<MergedOctets<'_>, OutOfMemory>
-        ensures { IfOk result (λ left. left ≡ map (λ e. e.bytes) self.now.entries) }
-    {
-        reports_are_entries();
-        let origins = Vec::from_elem(alloc, Origin::Left, self.count)?;
-        Ok(MergedOctets::new(origins, &self.octets, &[]))
+        let origins = self.origins_with(alloc, other)?;
+        Ok(MergedOctets::new(origins, &self.octets, &other.octets))
     }
 
     /// How many reports it holds.
@@ -163,7 +181,7 @@ impl<'t> ArchiveText<'t> {
         ensures count { result ≡ length self.now.entries }
         ensures kept { IsKept self.now }
     {
-        self.count
+        self.marks.len()
     }
 
     /// Its text: the canonical messages of what it holds, joined in order of slots.
@@ -179,19 +197,45 @@ fn are_octets(octets: &[u8])
     ensures { AreOctets octets.now }
 {}
 
-/// How many entries octets are the text of, or the place of the first that is not right.
-fn count_entries(
+/// The octets of entries of these origins of two texts, joined. It can only run out of memory.
+fn joined_octets(
+    alloc: Global,
+    origins: &[Origin],
+    left: &[u8],
+    right: &[u8],
+) -> Result<Vec<u8>, OutOfMemory>
+    ensures { IfOk result (λ octets.
+        octets.items ≡ flat_map (λ o. o) (handed_out origins.now left.now right.now)) }
+{
+    let origins = Vec::from_slice(alloc, origins)?;
+    MergedOctets::new(origins, left, right).into_text(alloc, left.len() + right.len())
+}
+
+/// Puts the mark of an entry, if there is one, behind others.
+fn push_mark(marks: &mut Vec<Mark>, last: Option<ReadEntry>) -> Result<(), OutOfMemory>
+    ensures { OnOk result (marks.new.items
+        ≡ marks.old.items ++ option_to_list (option_map mark_of (option_map read last.entry))) }
+{
+    if let Some(entry) = last {
+        marks.push(entry.mark)?;
+    }
+    Ok(())
+}
+
+/// The marks of the entries that octets are the text of, or the place of the first entry that is
+/// not right.
+fn read_marks(
     alloc: Global,
     templates: &mut Templates<'_>,
     octets: &[u8],
-) -> Result<usize, Failure<NotAnArchive>>
+) -> Result<Vec<Mark>, Failure<NotAnArchive>>
     ensures same { templates.new ≡ templates.old }
-    ensures counts { Gives (λ n. n) result
-        (count_or (entries_read (entry_in templates.old) octets.now)) }
+    ensures marks { Gives (λ marks. marks.items) result
+        (marks_or (entries_read (entry_in templates.old) octets.now)) }
 {
     reports_are_entries();
+    let mut marks = Vec::new(alloc);
     let mut before: Option<ReadEntry> = None;
-    let mut count: usize = 0;
     let mut place: usize = 0;
     let mut rest = octets;
     while rest.len() > 0 {
@@ -199,10 +243,12 @@ fn count_entries(
             let place = place as u64;
             return Err(Failure::Fault(NotAnArchive { place }));
         };
-        count += 1;
         place += entry.bytes.len();
         rest = behind(rest, entry.bytes.len());
+        push_mark(&mut marks, before)?;
         before = Some(entry);
     }
-    Ok(count)
+    push_mark(&mut marks, before)?;
+    marks.shrink_to_fit();
+    Ok(marks)
 }

@@ -14,6 +14,7 @@ pub mod archive;
 pub mod archive_text;
 pub mod builder;
 pub mod laws;
+mod merged_marks;
 pub mod merged_octets;
 mod merging_texts;
 pub mod reading;

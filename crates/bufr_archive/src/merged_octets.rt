@@ -76,32 +76,34 @@ impl<'a> MergedOctets<'a> {
         ensures none { IfNone result (self.old ≡ []) }
     {
         let origin = self.origins.pop()?;
-        let (left, behind_left) = split_first(self.left);
-        let (right, behind_right) = split_first(self.right);
         match origin {
             Origin::Left => {
+                let (left, behind_left) = split_first(self.left);
                 self.left = behind_left;
                 Some(left)
             }
             Origin::Right => {
+                let (right, behind_right) = split_first(self.right);
                 self.right = behind_right;
                 Some(right)
             }
             Origin::LeftOfBoth => {
+                let (left, behind_left) = split_first(self.left);
                 self.left = behind_left;
-                self.right = behind_right;
+                self.right = split_first(self.right).1;
                 Some(left)
             }
             Origin::RightOfBoth => {
-                self.left = behind_left;
+                let (right, behind_right) = split_first(self.right);
+                self.left = split_first(self.left).1;
                 self.right = behind_right;
                 Some(right)
             }
         }
     }
 
-    /// All that are left, joined in room for so many octets or in more. It can only run out of
-    /// memory.
+    /// All that are left, joined in room for so many octets or in more, of which what is not taken is
+    /// given back. It can only run out of memory.
     pub(crate) fn into_text(mut self, alloc: Global, room: usize) -> Result<Vec<u8>, OutOfMemory>
         ensures { IfOk result (λ octets. octets.items ≡ flat_map (λ o. o) self.entry) }
     {
@@ -109,6 +111,7 @@ impl<'a> MergedOctets<'a> {
         while let Some(octets) = self.next() {
             text.extend_from_slice(octets)?;
         }
+        text.shrink_to_fit();
         Ok(text)
     }
 }

@@ -13,10 +13,9 @@ use crate::archive::Archive;
 use crate::laws::reports_are_entries;
 use crate::report_entry::entry_in;
 use bufr_answers::{Failure, Items, OutOfMemory};
-use bufr_keys::Key;
 use bufr_message::Templates;
 use bufr_message::laws::written_messages_are_spelt;
-use bufr_shelves::{Shelf, slot_order};
+use bufr_shelves::{Mark, Shelf};
 use bufr_tables::Tables;
 use std::alloc::Global;
 use thiserror::Error;
@@ -30,10 +29,9 @@ pub struct NotAnArchive {
 }
 
 /// An entry whose octets stand in what is read.
-#[derive(Debug, Drop)]
+#[derive(Drop)]
 pub(crate) struct ReadEntry<'a> {
-    pub(crate) key: Option<Key>,
-    pub(crate) update: u8,
+    pub(crate) mark: Mark,
     pub(crate) bytes: &'a [u8],
 }
 
@@ -58,12 +56,9 @@ fn comes_after(before: &Option<ReadEntry>, entry: &ReadEntry) -> bool
     let Some(before) = before else {
         return true;
     };
-    let order = slot_order(
-        before.key.as_ref(),
-        before.bytes,
-        entry.key.as_ref(),
-        entry.bytes,
-    );
+    let order = before
+        .mark
+        .slot_order(before.bytes, &entry.mark, entry.bytes);
     order.is_lt()
 }
 
@@ -97,7 +92,7 @@ fn keep<S: Shelf>(alloc: Global, shelf: &mut S, entry: &ReadEntry) -> Result<(),
         (S.entries shelf.new ≡ kept (S.entries shelf.old ++ read entry.now ∷ [])) }
 {
     let bytes = Items::from_vec(Vec::from_slice(alloc, entry.bytes)?);
-    shelf.put(entry.key.clone()?, entry.update, bytes)?;
+    shelf.put(entry.mark.key()?, entry.mark.update(), bytes)?;
     Ok(())
 }
 

@@ -16,7 +16,7 @@ use bufr_message::laws::{
 };
 use bufr_message::{Refused, Report, ReportHead, Templates, View, canonical};
 use bufr_report_keys::{key_in, key_of_fields};
-use bufr_shelves::Entry;
+use bufr_shelves::{Entry, Mark};
 use bufr_tables::Tables;
 use std::alloc::Global;
 
@@ -82,7 +82,7 @@ fn viewed_entry(alloc: Global, view: &View<'_>, number: usize) -> Result<Option<
 
 /// The entry of the one report of a view with these octets: no subset is built. It can only run out
 /// of memory.
-pub(crate) fn read_entry<'a>(
+fn read_entry<'a>(
     alloc: Global,
     view: &View<'_>,
     octets: &'a [u8],
@@ -94,9 +94,9 @@ pub(crate) fn read_entry<'a>(
 {
     let head = ReportHead::of_head(view.head());
     let fields = view.fields(alloc, 1)?;
+    let key = key_of_fields(alloc, &head, fields)?;
     Ok(ReadEntry {
-        key: key_of_fields(alloc, &head, fields)?,
-        update: head.update,
+        mark: Mark::new(alloc, key, head.update)?,
         bytes: octets,
     })
 }

@@ -122,13 +122,11 @@ put_back tables archives rest top found taken is =
     ∙ ap (λ (xs : List ArchiveView). kept (entries_together xs)) (sym joined))
 
 -- a text was put on others, which hold what others held
-pub put_above_is : (tables : Entries) (old settled archives : List ArchiveView)
-    (text : ArchiveView) → together tables settled ≡ together tables old
-    → archives ≡ settled ++ text ∷ []
+pub put_above_is : (tables : Entries) (old archives : List ArchiveView) (text : ArchiveView)
+    → archives ≡ old ++ text ∷ []
     → together tables archives ≡ merged (together tables old) text
-put_above_is tables old settled archives text same put =
-    sym (put_back tables archives settled text (Some text) put refl)
-    ∙ ap (λ (a : ArchiveView). merged a text) same
+put_above_is tables old archives text put =
+    sym (put_back tables archives old text (Some text) put refl)
 
 -- no more was taken
 pub none_left : (tables : Entries) (old : List ArchiveView) (text : ArchiveView)

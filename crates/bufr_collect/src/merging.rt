@@ -57,6 +57,9 @@ fn merge_readers<'t, S: Source>(
 {
     let mut merged = TextStack::new(alloc, tables);
     for (index, reader) in readers.iter_mut().enumerate() {
+        let Ok(()) = merged.settle() else {
+            return Err(ToolFault::OutOfMemory);
+        };
         let number = index as u128 + 1;
         let archive = read_archive(alloc, reads, tables, number, reader)?;
         let Ok(()) = merged.push(archive) else {
@@ -67,7 +70,7 @@ fn merge_readers<'t, S: Source>(
 }
 
 /// Reads the archives of all readers, each of which is judged before the next is read, and then
-/// writes the text of an archive of the reports of all. Nothing is held but the octets of texts. The
+/// writes the text of an archive of the reports of all. Nothing is held but texts (`ArchiveText`). The
 /// first that is no archive is told, with the start of its first entry that is not right. Nothing is
 /// written before every reader was read out.
 pub fn run_merge<S: Source, W: Sink>(

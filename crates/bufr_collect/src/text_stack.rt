@@ -10,9 +10,9 @@ use bufr_tables::Tables;
 use std::alloc::Global;
 use std::marker::Model;
 
-/// What was merged of archives under some tables, held as texts of which each has more than twice
-/// as many reports as the one above it. So each report is merged a few times, however many archives
-/// come, and nothing is held beside the texts.
+/// What was merged of archives under some tables, held as texts of which each but the uppermost has
+/// a third more reports than the one above it, or still more. So each report is merged a few times, however
+/// many archives come, and nothing is held beside the texts.
 #[derive(Drop)]
 pub(crate) struct TextStack<'t> {
     alloc: Global,
@@ -43,14 +43,22 @@ impl<'t> TextStack<'t> {
         }
     }
 
-    /// Takes in all that an archive under the same tables holds: it is put on top as it is, once the
-    /// one that was on top was merged with those below it that are not much larger. It can only run
-    /// out of memory, and then some of what was held may be gone.
+    /// Merges the uppermost text with those below it that are not much larger, before the next one
+    /// is read. It can only run out of memory, and then some of what was held may be gone.
+    pub(crate) fn settle(&mut self) -> Result<(), OutOfMemory>
+        ensures ok { OnOk result (self.new ≡ self.old) }
+    {
+        settle(self.alloc, self.tables, &mut self.texts)
+    }
+
+    /// Takes in all that an archive under the same tables holds, which is put on top as it is. It can
+    /// only run out of memory, and then nothing is taken in.
     pub(crate) fn push(&mut self, text: ArchiveText<'t>) -> Result<(), OutOfMemory>
         requires { self.old.tables ≡ text.tables }
         ensures ok { OnOk result (self.new ≡ merged self.old text.entry) }
     {
-        put_above(self.alloc, self.tables, &mut self.texts, text)
+        self.texts.push(text)?;
+        Ok(())
     }
 
     /// The lowest text, and that of all that is held above it. It can only run out of memory.
@@ -67,12 +75,12 @@ impl<'t> TextStack<'t> {
     }
 }
 
-/// Takes the uppermost text, if it has at most some twice as many reports as another.
+/// Takes the uppermost text, if it has at most some third more reports than another.
 fn pop_alike<'t>(texts: &mut Vec<ArchiveText<'t>>, top: &ArchiveText) -> Option<ArchiveText<'t>>
     ensures { texts.old.items ≡ texts.new.items ++ option_to_list result }
 {
     let below = texts.last()?;
-    if below.len() / 2 > top.len() {
+    if below.len() / 4 * 3 > top.len() {
         return None;
     }
     texts.pop()
@@ -117,25 +125,6 @@ fn settle<'t>(
         return Ok(());
     };
     put_on(alloc, tables, texts, top)
-}
-
-/// Puts a text on others as it is, once the uppermost of these was merged with those below it that
-/// are not much larger. It can only run out of memory.
-fn put_above<'t>(
-    alloc: Global,
-    tables: &Tables,
-    texts: &mut Vec<ArchiveText<'t>>,
-    text: ArchiveText<'t>,
-) -> Result<(), OutOfMemory>
-    requires under { AreUnderTables tables.now texts.old.items }
-    requires same { tables.now ≡ text.tables }
-    ensures under { AreUnderTables tables.now texts.new.items }
-    ensures ok { OnOk result (together tables.now texts.new.items
-        ≡ merged (together tables.now texts.old.items) text.entry) }
-{
-    settle(alloc, tables, texts)?;
-    texts.push(text)?;
-    Ok(())
 }
 
 /// Takes the uppermost text, if it is not the lowest.

@@ -12,5 +12,6 @@ pub mod Laws
 pub mod Fronts
 pub mod FrontLaws
 pub mod PackedKeys
+pub mod Marks
 pub mod PackedKeyLaws
 pub mod Samples

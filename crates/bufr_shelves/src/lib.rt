@@ -9,6 +9,7 @@
 //! on sorted vectors, where `put` also moves all that comes after its place, eight octets for each
 //! entry: it is for entries that come nearly in order, and for joins. A [`ShelfBuilder`] takes entries
 //! in any order where none is looked up before all are there, and then becomes a sorted shelf.
+//! A [`Mark`] says of an entry whose octets stand elsewhere all the rest, in little room.
 //! Times of each stand in `bench/RESULTS.md`.
 #![tactic(auto)]
 
@@ -16,6 +17,7 @@ pub mod entry;
 pub mod held;
 pub mod laws;
 pub mod map_shelf;
+pub mod mark;
 mod rank;
 pub mod shelf;
 pub mod shelving;
@@ -25,6 +27,7 @@ mod worked_values;
 pub use entry::{Entry, Held, JoinFault};
 pub use held::slot_order;
 pub use map_shelf::MapShelf;
+pub use mark::Mark;
 pub use shelf::Shelf;
 pub use shelving::shelve;
 pub use sorted_shelf::{KeptOctets, ShelfBuilder, SortedShelf};

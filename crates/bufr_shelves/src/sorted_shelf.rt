@@ -23,7 +23,7 @@ mod front;
 mod joined;
 mod kept_octets;
 mod merge;
-mod packed_key;
+pub(crate) mod packed_key;
 mod pair;
 mod sorted;
 

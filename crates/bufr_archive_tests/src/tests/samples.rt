@@ -92,6 +92,10 @@ pub(crate) const MONTH_13: &str = "\
 pub(crate) const NO_STATION: &str =
     "42554652 000036 04 | S1 | 00000D 00 0001 80 4100 1F01 0C65 | 000007 00 016AB3 | END";
 
+/// The same with 273.16 K.
+pub(crate) const NO_STATION_WARMER: &str =
+    "42554652 000036 04 | S1 | 00000D 00 0001 80 4100 1F01 0C65 | 000007 00 016AB4 | END";
+
 /// Two compressed subsets, of which the first is the first message's and the other has a missing
 /// temperature: 68 octets.
 pub(crate) const COMPRESSED_PAIR: &str = "\

@@ -56,3 +56,62 @@ fn texts_merged(rt: HostRuntime) {
     assert_merged(&rt, alloc, &[], &right, &right);
     assert_merged(&rt, alloc, &[], &[], &[]);
 }
+
+// These messages, joined.
+fn messages(rt: &impl Abort, alloc: Global, digits: &[&str]) -> Vec<u8> {
+    let mut text = Vec::new(alloc);
+    for message in digits {
+        let next = octets(rt, alloc, message);
+        text.extend_from_slice(next.as_slice()).expect(rt, "room");
+    }
+    text
+}
+
+// The archive whose text these messages are, which come in order.
+fn text_of<'t>(
+    rt: &impl Abort,
+    alloc: Global,
+    tables: &'t Tables,
+    digits: &[&str],
+) -> ArchiveText<'t>
+    ensures { result.tables ≡ tables.now }
+{
+    let text = messages(rt, alloc, digits);
+    ArchiveText::read(alloc, tables, text).expect(rt, "a text")
+}
+
+// Of these texts, merged one after the other, that of these messages is left, which is read again.
+fn assert_three_merged(rt: &impl Abort, alloc: Global, texts: [&[&str]; 3], wanted: &[&str]) {
+    let tables = tables(rt, alloc);
+    let [one, two, three] = texts;
+    let mut first = text_of(rt, alloc, &tables, one);
+    let second = text_of(rt, alloc, &tables, two);
+    let third = text_of(rt, alloc, &tables, three);
+    first.merge(alloc, second).expect(rt, "room");
+    let text = messages(rt, alloc, wanted);
+    let left = first.merged_with(alloc, &third).expect(rt, "room");
+    same(rt, left.len(), wanted.len());
+    let handed = rest_of(alloc, left).expect(rt, "room");
+    same(rt, handed.as_slice(), text.as_slice());
+    first.merge(alloc, third).expect(rt, "room");
+    same(rt, first.len(), wanted.len());
+    same(rt, first.into_octets().as_slice(), text.as_slice());
+    same(rt, text_of(rt, alloc, &tables, wanted).len(), wanted.len());
+}
+
+/// Three texts in each order: reports of one key with other update numbers and other octets, one of
+/// another sub-centre, and some without key.
+#[test]
+fn three_texts_merged(rt: HostRuntime) {
+    let alloc = rt.alloc();
+    let a: &[&str] = &[ROW_1, NO_STATION_WARMER];
+    let b: &[&str] = &[UPDATED, NO_STATION, NO_STATION_WARMER];
+    let c: &[&str] = &[WARMER, OTHER_SUB_CENTRE, NO_STATION];
+    let all: &[&str] = &[UPDATED, OTHER_SUB_CENTRE, NO_STATION, NO_STATION_WARMER];
+    assert_three_merged(&rt, alloc, [a, b, c], all);
+    assert_three_merged(&rt, alloc, [a, c, b], all);
+    assert_three_merged(&rt, alloc, [b, a, c], all);
+    assert_three_merged(&rt, alloc, [b, c, a], all);
+    assert_three_merged(&rt, alloc, [c, a, b], all);
+    assert_three_merged(&rt, alloc, [c, b, a], all);
+}

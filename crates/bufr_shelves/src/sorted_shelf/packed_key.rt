@@ -24,7 +24,7 @@ pub(crate) struct WmoKey {
 
 impl WmoKey {
     /// A key in this form, if it has it.
-    fn of_key(key: &Key) -> Option<WmoKey>
+    pub(crate) fn of_key(key: &Key) -> Option<WmoKey>
         ensures { IfSome result (λ packed. wmo_key packed ≡ key.now) }
     {
         let Station::Wmo { block, number } = &key.station else {
@@ -42,7 +42,7 @@ impl WmoKey {
     }
 
     /// The key. It takes no memory.
-    fn key(&self) -> Key
+    pub(crate) fn key(&self) -> Key
         ensures { result ≡ wmo_key self.now }
     {
         let WmoKey {

@@ -149,3 +149,72 @@ fn order_of_slots(rt: HostRuntime) {
         }
     }
 }
+
+/// A mark, and what it was made of.
+#[derive(Drop)]
+struct Marked<'a> {
+    mark: Mark,
+    key: Option<Key>,
+    update: u8,
+    bytes: &'a [u8],
+}
+
+fn row_of<'a>(
+    rt: &impl Abort,
+    alloc: Global,
+    key: Option<Key>,
+    update: u8,
+    bytes: &'a [u8],
+) -> Marked<'a> {
+    let own: Result<_, _> = key.clone();
+    let own = own.expect(rt, "room");
+    Marked {
+        mark: Mark::new(alloc, own, update).expect(rt, "room"),
+        key,
+        update,
+        bytes,
+    }
+}
+
+/// The mark has the key and the update number that it was made of.
+fn assert_mark(rt: &impl Abort, row: &Marked) {
+    let key = row.mark.key().expect(rt, "room");
+    assert!(rt; key == row.key);
+    same(rt, row.mark.update(), row.update);
+}
+
+/// The slots of two marks have the order of their places.
+fn assert_marks(rt: &impl Abort, one: &Marked, other: &Marked, place: usize, other_place: usize) {
+    assert!(rt;
+        one.mark.slot_order(one.bytes, &other.mark, other.bytes) == place.cmp(&other_place),
+        "{place}, {other_place}"
+    );
+}
+
+/// The order of the slots of marks: by key where both have one, whatever room it takes, then those
+/// without by octets. A number of 70,000 has no room in two octets.
+#[test]
+fn order_of_marks(rt: HostRuntime) {
+    let alloc = rt.alloc();
+    let large = Station::Wmo {
+        block: 5,
+        number: 70_000,
+    };
+    let large = key_with(large, moment_of(6, 13), 5, 13);
+    let rows = [
+        row_of(&rt, alloc, Some(wmo_key(13)), 9, b"b"),
+        row_of(&rt, alloc, Some(wmo_key(12)), 0, b"a"),
+        row_of(&rt, alloc, Some(large), 255, b"b"),
+        row_of(&rt, alloc, Some(wigos_key(&rt, alloc, 15)), 7, b"a"),
+        row_of(&rt, alloc, Some(mobile_key(&rt, alloc, 12)), 0, b"b"),
+        row_of(&rt, alloc, Some(mobile_key(&rt, alloc, 11)), 1, b"a"),
+        row_of(&rt, alloc, None, 9, b"a"),
+        row_of(&rt, alloc, None, 0, b"b"),
+    ];
+    for (place, row) in rows.iter().enumerate() {
+        assert_mark(&rt, row);
+        for (other_place, other) in rows.iter().enumerate() {
+            assert_marks(&rt, row, other, place, other_place);
+        }
+    }
+}

@@ -1,34 +1,36 @@
--- The clause `takes` of `take_first`: of which text the first entry is taken, or of both.
-use Rattle.std.proofs.Common.{drop, sym, subst}
-use Rattle.bufr_tables.specs.Entries.{Entries}
-use Rattle.bufr_archive.specs.ArchiveTexts.{AreLeft}
-use Rattle.bufr_archive.proofs.TextMergeFacts.{left_taken, right_taken, both_taken}
+-- The clause of `take_first`: of which text the first entry is taken, or of both.
+use Rattle.std.proofs.Common.{sym}
+use Rattle.bufr_archive.proofs.TextMergeFacts.{none_taken, left_taken, right_taken, both_taken}
 use Rattle.bufr_archive.proofs.merging_texts.take_first.Goals as goal
 
+-- nothing is left of both
+pub returns-in_default : goal.returns-in_default
+returns-in_default c =
+    λ tables es fs l r.
+    none_taken tables es fs c.args.left.now c.args.right.now l r (sym c.in-Less.ensures)
+    c.in_default.is
+
 -- that of the left text
-pub returns-in_ok-pass-in-Less-clause-takes : goal.returns-in_ok-pass-in-Less-clause-takes
-returns-in_ok-pass-in-Less-clause-takes c =
-    λ es fs l r.
-    left_taken c.args.templates.now es fs c.args.left.now c.pass.new.self
+pub returns-in-Some : goal.returns-in-Some
+returns-in-Some c =
+    λ tables es fs l r.
+    left_taken tables es fs c.args.left.now c.passed.result
     c.args.right.now _ l r (sym c.in-Less.ensures) c.in-Some.is
-    (c.in_ok-pass-in-Less.ensures.left es l)
+    (c.passed.ensures tables es l)
 
 -- that of the right text
-pub returns-in_ok-pass-in-Greater-clause-takes : goal.returns-in_ok-pass-in-Greater-clause-takes
-returns-in_ok-pass-in-Greater-clause-takes c =
-    λ es fs l r.
-    right_taken c.args.templates.now es fs c.args.left.now c.args.right.now
-    c.pass-in-Greater.new.self l r (sym c.in-Greater.ensures)
-    (c.in_ok-pass-in-Greater.ensures.left fs r)
+pub returns-in-Greater : goal.returns-in-Greater
+returns-in-Greater c =
+    λ tables es fs l r.
+    right_taken tables es fs c.args.left.now c.args.right.now
+    c.passed-in-Greater.result l r (sym c.in-Greater.ensures)
+    (c.passed-in-Greater.ensures tables fs r)
 
 -- those of both
-pub returns-in_ok-pass-in-Equal-2-clause-takes : goal.returns-in_ok-pass-in-Equal-2-clause-takes
-returns-in_ok-pass-in-Equal-2-clause-takes c =
-    λ es fs l r.
-    both_taken c.args.templates.now es fs c.args.left.now c.pass-in-Equal.new.self
-    c.args.right.now c.pass-in-Equal-2.new.self c.greater_of-origin.result l r
+pub returns-in-Equal : goal.returns-in-Equal
+returns-in-Equal c =
+    λ tables es fs l r.
+    both_taken tables es fs c.args.left.now c.passed-in-Equal.result
+    c.args.right.now c.passed-in-Equal-2.result c.greater_of-origin.result l r
     (sym c.in-Equal.ensures) c.greater_of-origin.ensures
-    (c.in_ok-pass-in-Equal.ensures.left es l)
-    (subst (λ (t : Entries). AreLeft t fs c.args.right.now
-    → AreLeft t (drop 1 fs) c.pass-in-Equal-2.new.self) c.in_ok-pass-in-Equal.ensures.same
-    (c.in_ok-pass-in-Equal-2.ensures.left fs) r)
+    (c.passed-in-Equal.ensures tables es l) (c.passed-in-Equal-2.ensures tables fs r)

@@ -1,8 +1,8 @@
 -- The clauses of `merge_readers`: reader by reader, until one is no archive or cannot be read.
-use Rattle.std.proofs.Common.{◌<◌, length, map, arith, slice_set, Result}
+use Rattle.std.proofs.Common.{◌<◌, length, map, arith, slice_set, Result, ap, ◌∙◌}
 use Rattle.std.proofs.lemmas.List.{map-set}
 use Rattle.bufr_answers.specs.Answers.{result_map}
-use Rattle.bufr_archive.specs.Archives.{ArchiveView}
+use Rattle.bufr_archive.specs.Archives.{ArchiveView, merged}
 use Rattle.bufr_io.specs.declared.fault.ToolFault.{ToolFault}
 use Rattle.bufr_collect.specs.Adds.{MergesReaders}
 use Rattle.bufr_collect.proofs.FrameFacts.{passed}
@@ -38,7 +38,8 @@ loop-index-preserved g c =
     (map-set g.S.Source.reading c.loop-index.readers c.loop-index.index c.read_archive.new.reader)
     c.in_ok-archive.ensures.bounded
     c.in_ok-archive.ensures.reads
-    c.in-Ok.ensures.ok
+    (c.in-Ok-push.ensures.ok
+    ∙ ap (λ (a : ArchiveView). merged a c.in_ok-archive.archive) c.in-Ok.ensures.ok)
 
 -- each reader was read at most so often, the one that cannot be read or is no archive too
 pub returns-in_err-archive-clause-bounded : goal.returns-in_err-archive-clause-bounded
@@ -49,8 +50,8 @@ returns-in_err-archive-clause-bounded g c =
     c.in_err-archive.ensures.bounded
 
 -- and so it is where no memory is had to merge
-pub returns-in_default-clause-bounded : goal.returns-in_default-clause-bounded
-returns-in_default-clause-bounded g c =
+pub returns-in_default-push-clause-bounded : goal.returns-in_default-push-clause-bounded
+returns-in_default-push-clause-bounded g c =
     bounded_next c.args.reads (map g.S.Source.reading c.loop-index.readers) _ c.loop-index.index
     (g.S.Source.reading c.read_archive.new.reader) c.loop-index.invariant.bounded
     (map-set g.S.Source.reading c.loop-index.readers c.loop-index.index c.read_archive.new.reader)

@@ -1,0 +1,119 @@
+//! What is said of an entry whose octets stand elsewhere.
+ghost use Rattle.std.specs.Prelude.{◌≡◌, IfOk, Some};
+ghost use Rattle.bufr_keys.specs.KeyOrders.{octets_cmp};
+ghost use Rattle.bufr_shelves.specs.Entries.{slot_by};
+ghost use Rattle.bufr_shelves.specs.Marks.{mark_in};
+ghost use Rattle.bufr_keys.specs.DerivedOrders.{key_order};
+
+use crate::sorted_shelf::packed_key::WmoKey;
+use bufr_answers::OutOfMemory;
+use bufr_keys::Key;
+use std::alloc::Global;
+use std::cmp::Ordering;
+use std::marker::Model;
+
+/// The key of an entry, if it has one, and its update number, as they are held.
+#[derive(Drop)]
+pub(crate) enum MarkForm {
+    /// No key.
+    Keyless { update: u8 },
+    /// The key of a WMO station whose numbers have room in two octets each.
+    Wmo { update: u8, key: WmoKey },
+    /// Any other key.
+    Other { update: u8, key: Box<Key> },
+}
+
+/// The key of an entry, if it has one, and its update number, in 24 octets. Only a key that is not
+/// that of a WMO station whose numbers have room in two octets each takes more. Contracts see both.
+#[derive(Drop)]
+pub struct Mark {
+    form: MarkForm,
+}
+
+impl Model for Mark {
+    ghost use Rattle.bufr_shelves.specs.Marks.{MarkView, mark_in};
+
+    ghost Value = { MarkView };
+
+    ghost view = { λ a. mark_in a.form };
+}
+
+/// A key and an update number, as they are held.
+fn form_with(alloc: Global, key: Key, update: u8) -> Result<MarkForm, OutOfMemory>
+    ensures { IfOk result (λ form. mark_in form ≡ record { key = Some key; update = update }) }
+{
+    match WmoKey::of_key(&key) {
+        Some(key) => Ok(MarkForm::Wmo { update, key }),
+        None => {
+            let key = Box::new(alloc, key)?;
+            Ok(MarkForm::Other { update, key })
+        }
+    }
+}
+
+impl MarkForm {
+    /// The order of its slot and that of a key.
+    fn order_to(&self, key: &Key) -> Ordering
+        ensures { (by_octets : Ordering) → result ≡ slot_by (mark_in self.now).key (Some key.now) by_octets }
+    {
+        match self {
+            MarkForm::Keyless { .. } => Ordering::Greater,
+            MarkForm::Wmo { key: packed, .. } => packed.key().cmp(key),
+            MarkForm::Other { key: own, .. } => (**own).cmp(key),
+        }
+    }
+}
+
+impl Mark {
+    /// A key, if there is one, and an update number. It can only run out of memory.
+    pub fn new(alloc: Global, key: Option<Key>, update: u8) -> Result<Mark, OutOfMemory>
+        ensures { IfOk result (λ mark. mark ≡ record { key = key; update = update }) }
+    {
+        let form = match key {
+            Some(key) => form_with(alloc, key, update)?,
+            None => MarkForm::Keyless { update },
+        };
+        Ok(Mark { form })
+    }
+
+    /// The update number.
+    pub fn update(&self) -> u8
+        ensures { result ≡ self.now.update }
+    {
+        match &self.form {
+            MarkForm::Keyless { update } => *update,
+            MarkForm::Wmo { update, .. } => *update,
+            MarkForm::Other { update, .. } => *update,
+        }
+    }
+
+    /// The key once more, if there is one. It can only run out of memory.
+    pub fn key(&self) -> Result<Option<Key>, OutOfMemory>
+        ensures { IfOk result (λ key. key ≡ self.now.key) }
+    {
+        match &self.form {
+            MarkForm::Keyless { .. } => Ok(None),
+            MarkForm::Wmo { key, .. } => Ok(Some(key.key())),
+            MarkForm::Other { key, .. } => Ok(Some((**key).clone()?)),
+        }
+    }
+
+    /// The order of the slots of two entries with these octets: those with a key by key, and after
+    /// them those without by octets.
+    #[tactic(auto, using(crate::specs::PackedKeyLaws::wmo_keys_are))]
+    pub fn slot_order(&self, bytes: &[u8], other: &Mark, other_bytes: &[u8]) -> Ordering
+        ensures { let by_octets = octets_cmp bytes.now other_bytes.now in
+            result ≡ slot_by self.now.key other.now.key by_octets }
+    {
+        match (&self.form, &other.form) {
+            (MarkForm::Wmo { key: one, .. }, MarkForm::Wmo { key: two, .. }) => one.cmp(two),
+            (MarkForm::Keyless { .. }, MarkForm::Keyless { .. }) => bytes.cmp(other_bytes),
+            (_, MarkForm::Keyless { .. }) => Ordering::Less,
+            (form, MarkForm::Wmo { key, .. }) => form.order_to(&key.key()),
+            (form, MarkForm::Other { key, .. }) => form.order_to(&**key),
+        }
+    }
+}
+
+/// A mark takes so many octets.
+const _: () = prove!(size_of::<Mark>() == 24);
