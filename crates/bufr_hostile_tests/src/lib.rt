@@ -1,5 +1,4 @@
-//! Trials of the whole: every growth refused in turn, failing devices and hostile streams. It has
-//! tests only.
+//! Trials of the whole: failing devices and hostile streams. It has tests only.
 #![tactic(auto)]
 
 #[cfg(test)]

@@ -127,6 +127,42 @@ fn take(
     Err("frames without end".into())
 }
 
+/// A piece is taken in.
+fn take_in(
+    rt: &impl Abort,
+    framer: &mut Framer,
+    piece: &[u8],
+    way: Way,
+    found: &mut Vec<Found>,
+) -> Result<(), Fail> {
+    match way {
+        Way::Fed => feed(rt, framer, piece, found),
+        Way::OneByOne => take(rt, framer, piece, found),
+    }
+}
+
+/// A front of at most so many octets is taken in; what is behind it is answered.
+fn take_front<'s>(
+    rt: &impl Abort,
+    framer: &mut Framer,
+    stream: &'s [u8],
+    way: Way,
+    most: usize,
+    found: &mut Vec<Found>,
+) -> Result<&'s [u8], Fail> {
+    let (front, behind) = stream.split_at(most.min(stream.len()));
+    take_in(rt, framer, front, way, found)?;
+    Ok(behind)
+}
+
+/// The frames of the stream's end are put behind those that were found.
+fn finish(framer: &mut Framer, found: &mut Vec<Found>) -> Result<(), Fail> {
+    for frame in framer.finish()? {
+        found.push(frame)?;
+    }
+    Ok(())
+}
+
 /// The frames of a stream in at most so many pieces of random lengths, some of them empty, and a
 /// last one of all that is left.
 fn frames(
@@ -140,39 +176,46 @@ fn frames(
     let mut framer = Framer::new(alloc);
     let mut found = Vec::new(alloc);
     let mut rest = stream;
-    for cut in 0..=cuts {
-        let most = if cut == cuts {
-            rest.len()
-        } else {
-            numbers.below(90).min(rest.len())
-        };
-        let (piece, behind) = rest.split_at(most);
-        match way {
-            Way::Fed => feed(rt, &mut framer, piece, &mut found)?,
-            Way::OneByOne => take(rt, &mut framer, piece, &mut found)?,
-        }
-        rest = behind;
+    for _ in 0..cuts {
+        rest = take_front(rt, &mut framer, rest, way, numbers.below(90), &mut found)?;
     }
-    for frame in framer.finish()? {
-        found.push(frame)?;
-    }
+    take_in(rt, &mut framer, rest, way, &mut found)?;
+    finish(&mut framer, &mut found)?;
     Ok(found)
 }
 
-/// The frames of each of two hundred streams are the same in one piece and in many, fed at once or
-/// taken one by one.
+/// Whether a stream in random pieces has these frames.
+fn has_frames(
+    rt: &impl Abort,
+    alloc: Global,
+    stream: &[u8],
+    way: Way,
+    numbers: &mut Numbers,
+    wanted: &[Found],
+) -> Result<bool, Fail> {
+    let cuts = numbers.below(30);
+    let found = frames(rt, alloc, stream, way, numbers, cuts)?;
+    Ok(found.as_slice() == wanted)
+}
+
+/// The stream of a seed has the same frames in one piece and in many, fed at once or taken one by
+/// one.
+fn assert_seed(rt: &impl Abort, alloc: Global, seed: u64) -> Result<(), Fail> {
+    let mut numbers = Numbers::new(seed);
+    let stream = hostile(alloc, &mut numbers)?;
+    let wanted = frames(rt, alloc, &stream, Way::Fed, &mut numbers, 0)?;
+    for way in [Way::Fed, Way::OneByOne] {
+        let is_same = has_frames(rt, alloc, &stream, way, &mut numbers, &wanted)?;
+        assert!(rt; is_same, "seed {seed}");
+    }
+    Ok(())
+}
+
+/// Each of two hundred streams has the same frames in one piece and in many.
 #[test]
 fn frames_of_any_pieces(rt: HostRuntime) -> Result<(), Fail> {
-    let alloc = rt.alloc();
     for seed in 0u64..200 {
-        let mut numbers = Numbers::new(seed);
-        let stream = hostile(alloc, &mut numbers)?;
-        let wanted = frames(&rt, alloc, &stream, Way::Fed, &mut numbers, 0)?;
-        for way in [Way::Fed, Way::OneByOne] {
-            let cuts = numbers.below(30);
-            let found = frames(&rt, alloc, &stream, way, &mut numbers, cuts)?;
-            assert!(rt; found == wanted, "seed {seed}");
-        }
+        assert_seed(&rt, rt.alloc(), seed)?;
     }
     Ok(())
 }

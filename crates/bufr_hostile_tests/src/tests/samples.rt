@@ -1,8 +1,5 @@
-//! Tables and messages, and want of memory told from faults.
+//! Tables and messages.
 
-use bufr_answers::{Failure, OutOfMemory};
-use bufr_message::listing::ListingWriteFault;
-use bufr_shelves::JoinFault;
 use bufr_tables::{TableB, TableD, Tables};
 use std::alloc::Global;
 use std::test::Fail;
@@ -40,34 +37,6 @@ pub(super) const SEQUENCES: &[u8] = b"BUFR\x00\x00\x3E\x04\
 \x00\x00\x0D\x00\x14\xC0\x3F\x40\x9E\xC0\x1A\xAC\xC0\
 7777";
 
-/// The same with update sequence number 1 and 274.00 K.
-pub(super) const UPDATED: &[u8] = b"BUFR\x00\x00\x3E\x04\
-\x00\x00\x16\x00\x00\x62\x00\x00\x01\x00\x00\x02\x00\x25\x00\x07\xE8\x01\x0F\x0C\x00\x00\
-\x00\x00\x0F\x00\x00\x01\x80\xC1\x01\xC1\x0B\xC1\x0C\x0C\x65\
-\x00\x00\x0D\x00\x14\xC0\x3F\x40\x9E\xC0\x1A\xC2\x00\
-7777";
-
-/// The first at the next station.
-pub(super) const NEXT_STATION: &[u8] = b"BUFR\x00\x00\x3E\x04\
-\x00\x00\x16\x00\x00\x62\x00\x00\x00\x00\x00\x02\x00\x25\x00\x07\xE8\x01\x0F\x0C\x00\x00\
-\x00\x00\x0F\x00\x00\x01\x80\xC1\x01\xC1\x0B\xC1\x0C\x0C\x65\
-\x00\x00\x0D\x00\x14\xC0\xBF\x40\x9E\xC0\x1A\xAC\xC0\
-7777";
-
-/// The first in month 13, so without key.
-pub(super) const MONTH_13: &[u8] = b"BUFR\x00\x00\x3E\x04\
-\x00\x00\x16\x00\x00\x62\x00\x00\x00\x00\x00\x02\x00\x25\x00\x07\xE8\x01\x0F\x0C\x00\x00\
-\x00\x00\x0F\x00\x00\x01\x80\xC1\x01\xC1\x0B\xC1\x0C\x0C\x65\
-\x00\x00\x0D\x00\x14\xC0\x3F\x46\x9E\xC0\x1A\xAC\xC0\
-7777";
-
-/// The first and the next station as two plain subsets: 70 octets.
-pub(super) const PAIR_OF_STATIONS: &[u8] = b"BUFR\x00\x00\x46\x04\
-\x00\x00\x16\x00\x00\x62\x00\x00\x00\x00\x00\x02\x00\x25\x00\x07\xE8\x01\x0F\x0C\x00\x00\
-\x00\x00\x0F\x00\x00\x02\x80\xC1\x01\xC1\x0B\xC1\x0C\x0C\x65\
-\x00\x00\x15\x00\x14\xC0\x3F\x40\x9E\xC0\x1A\xAC\xC5\x30\x2F\xD0\x27\xB0\x06\xAB\x30\
-7777";
-
 /// The listing of the first.
 pub(super) const SEQUENCES_LISTED: &[u8] = b"message\n\
 section1 98 0 0 0 2 0 37 0\n\
@@ -92,32 +61,11 @@ pub(super) const COMPRESSED_PAIR: &[u8] = b"BUFR\x00\x00\x44\x04\
 \x00\x00\x13\x00\x14\x03\x00\x03\xF4\x00\x20\x1E\x03\x00\x00\x06\xAB\x30\x50\
 7777";
 
-/// The second subset as a plain message of its own: 62 octets.
-pub(super) const MISSING_TEMPERATURE: &[u8] = b"BUFR\x00\x00\x3E\x04\
-\x00\x00\x16\x00\x00\x62\x00\x00\x00\x00\x00\x02\x00\x25\x00\x07\xE8\x01\x0F\x0C\x00\x00\
-\x00\x00\x0F\x00\x00\x01\x80\xC1\x01\xC1\x0B\xC1\x0C\x0C\x65\
-\x00\x00\x0D\x00\x14\xC0\x3F\x40\x9E\xC0\x3F\xFF\xC0\
-7777";
-
 /// Two plain subsets of counts 0 and 1: 55 octets.
 pub(super) const UNEQUAL_COUNTS: &[u8] = b"BUFR\x00\x00\x37\x04\
 \x00\x00\x16\x00\x00\x62\x00\x00\x00\x00\x00\x02\x00\x25\x00\x07\xE8\x01\x0F\x0C\x00\x00\
 \x00\x00\x0D\x00\x00\x02\x80\x41\x00\x1F\x01\x0C\x65\
 \x00\x00\x08\x00\x00\x01\x6A\xB3\
-7777";
-
-/// Its first subset as a message of its own: 52 octets.
-pub(super) const COUNT_0: &[u8] = b"BUFR\x00\x00\x34\x04\
-\x00\x00\x16\x00\x00\x62\x00\x00\x00\x00\x00\x02\x00\x25\x00\x07\xE8\x01\x0F\x0C\x00\x00\
-\x00\x00\x0D\x00\x00\x01\x80\x41\x00\x1F\x01\x0C\x65\
-\x00\x00\x05\x00\x00\
-7777";
-
-/// Its second subset as a message of its own: 54 octets.
-pub(super) const COUNT_1: &[u8] = b"BUFR\x00\x00\x36\x04\
-\x00\x00\x16\x00\x00\x62\x00\x00\x00\x00\x00\x02\x00\x25\x00\x07\xE8\x01\x0F\x0C\x00\x00\
-\x00\x00\x0D\x00\x00\x01\x80\x41\x00\x1F\x01\x0C\x65\
-\x00\x00\x07\x00\x01\x6A\xB3\
 7777";
 
 /// Two compressed texts of three characters: 59 octets. The second is missing.
@@ -142,89 +90,10 @@ pub(super) const EDITION_3: &[u8] = b"BUFR\x00\x00\x3C\x03\
 \x00\x00\x0E\x00\x14\xC0\x3F\x40\x9E\xC0\x1A\xAC\xC0\x00\
 7777";
 
-/// A call's answer for want of memory.
-pub(super) trait Refusal {
-    /// Whether memory was refused.
-    fn is_refusal(&self) -> bool;
-}
-
-impl Refusal for OutOfMemory {
-    fn is_refusal(&self) -> bool {
-        true
-    }
-}
-
-impl<F> Refusal for Failure<F> {
-    fn is_refusal(&self) -> bool {
-        match self {
-            Failure::Fault(_) => false,
-            Failure::OutOfMemory => true,
-        }
-    }
-}
-
-impl Refusal for JoinFault {
-    fn is_refusal(&self) -> bool {
-        match self {
-            JoinFault::OutOfMemory => true,
-        }
-    }
-}
-
-impl Refusal for ListingWriteFault {
-    fn is_refusal(&self) -> bool {
-        *self == ListingWriteFault::OutOfMemory
-    }
-}
-
-/// Whether memory was refused to a call.
-pub(super) fn is_refused<T, E: Refusal>(answer: &Result<T, E>) -> bool {
-    match answer {
-        Ok(_) => false,
-        Err(fault) => fault.is_refusal(),
-    }
-}
-
-/// What a call answers, made once more where memory was refused to it.
-macro_rules! repeated {
-    ($call:expr) => {{
-        let first = $call;
-        if $crate::tests::samples::is_refused(&first) {
-            $call
-        } else {
-            first
-        }
-    }};
-}
-
-pub(super) use repeated;
-
-/// Table B of the tests, parsed.
-fn elements(alloc: Global) -> Result<TableB, Fail> {
-    Ok(repeated!(TableB::parse(alloc, TABLE_B))?)
-}
-
-/// Table D of the tests, parsed.
-fn sequences(alloc: Global) -> Result<TableD, Fail> {
-    Ok(repeated!(TableD::parse(alloc, TABLE_D))?)
-}
-
 /// The tables of the tests.
 pub(super) fn tables(alloc: Global) -> Result<Tables, Fail> {
-    let elements = elements(alloc)?;
-    Ok(Tables::new(elements, sequences(alloc)?))
-}
-
-/// An empty vector with room for so many octets.
-pub(super) fn room(alloc: Global, octets: usize) -> Result<Vec<u8>, Fail> {
-    Ok(repeated!(Vec::with_capacity(alloc, octets))?)
-}
-
-/// Octets joined in one vector.
-pub(super) fn joined(alloc: Global, parts: &[&[u8]]) -> Result<Vec<u8>, Fail> {
-    let mut octets = Vec::new(alloc);
-    for part in parts {
-        repeated!(octets.extend_from_slice(part))?;
-    }
-    Ok(octets)
+    Ok(Tables::new(
+        TableB::parse(alloc, TABLE_B)?,
+        TableD::parse(alloc, TABLE_D)?,
+    ))
 }

@@ -1,7 +1,8 @@
 //! Frames of a stream.
 
+use crate::tests::refusals::is_refused;
 use crate::tests::same;
-use crate::tests::samples::{SEQUENCES, is_refused};
+use crate::tests::samples::SEQUENCES;
 use bufr_answers::OutOfMemory;
 use bufr_frame::{Found, Framer, LentFrame, Look, NextFrame, Taken};
 use std::process::Abort;

@@ -1,7 +1,7 @@
 //! Shelves of reports, of both kinds, and reports gathered for one.
 
+use crate::tests::refusals::{is_refused, repeated};
 use crate::tests::same;
-use crate::tests::samples::{is_refused, repeated};
 use bufr_answers::Items;
 use bufr_keys::{Key, Moment, Station};
 use bufr_shelves::{MapShelf, Shelf, ShelfBuilder, SortedShelf};

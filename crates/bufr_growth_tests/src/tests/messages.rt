@@ -1,10 +1,12 @@
 //! Messages, reports and listings.
 
+ghost use Rattle.std.specs.Prelude.{◌≤◌, length};
+
+use crate::tests::refusals::{is_refused, repeated};
 use crate::tests::same;
 use crate::tests::samples::{
     COMPRESSED_PAIR, COMPRESSED_TEXTS, COUNT_0, COUNT_1, EDITION_3, LOCAL_OCTETS,
-    MISSING_TEMPERATURE, SEQUENCES, SEQUENCES_LISTED, UNEQUAL_COUNTS, is_refused, repeated, room,
-    tables,
+    MISSING_TEMPERATURE, SEQUENCES, SEQUENCES_LISTED, UNEQUAL_COUNTS, room, tables,
 };
 use bufr_bits::IntoWrite;
 use bufr_message::listing::{ListingWriteFault, text_of, write_message};
@@ -182,10 +184,21 @@ fn listing_written(rt: HostRuntime) -> Result<(), Fail> {
     assert_listed(&rt, alloc, &found.message, SEQUENCES_LISTED)
 }
 
-/// The fields of the first subset of a view, one after another.
-fn fields_of(rt: &impl Abort, alloc: Global, view: &View<'_>) -> Result<Items<Field>, OutOfMemory> {
+/// A view has a subset.
+fn assert_subset(rt: &impl Abort, view: &View<'_>)
+    ensures { 1 ≤ length view.now.message.subsets }
+{
     assert!(rt; view.count() >= 1);
-    view.fields(alloc, 1)?.rest(alloc)
+}
+
+/// The fields of the first subset of a view, one after another.
+fn fields_of(alloc: Global, view: &View<'_>) -> Result<Items<Field>, OutOfMemory>
+    requires { 1 ≤ length view.now.message.subsets }
+{
+    match view.fields(alloc, 1) {
+        Ok(fields) => fields.rest(alloc),
+        Err(fault) => Err(fault),
+    }
 }
 
 /// The message is viewed under templates that are kept: its eight fields end with 273.15 K.
@@ -195,7 +208,8 @@ fn assert_viewed(
     templates: &mut Templates<'_>,
 ) -> Result<(), Fail> {
     let view = repeated!(templates.view(alloc, SEQUENCES))?;
-    let fields = repeated!(fields_of(rt, alloc, &view))?;
+    assert_subset(rt, &view);
+    let fields = repeated!(fields_of(alloc, &view))?;
     same(rt, fields.len(), 8);
     let last = match fields.get(7) {
         Some(field) => field.value(),

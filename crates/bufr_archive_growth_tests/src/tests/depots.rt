@@ -1,10 +1,9 @@
 //! Depots, over both shelves.
 
-use crate::tests::growths::archives::assert_holds;
+use crate::tests::archives::assert_holds;
+use crate::tests::refusals::{is_refused, repeated};
 use crate::tests::same;
-use crate::tests::samples::{
-    MONTH_13, NEXT_STATION, PAIR_OF_STATIONS, SEQUENCES, is_refused, joined, repeated, tables,
-};
+use crate::tests::samples::{MONTH_13, NEXT_STATION, PAIR_OF_STATIONS, SEQUENCES, joined, tables};
 use bufr_answers::Items;
 use bufr_archive::{MapShelf, Shelf, SortedShelf};
 use bufr_depot::{Answer, Depot, Plan, Ran, Step, StepFault, run_both};
@@ -36,6 +35,14 @@ fn feed(alloc: Global, parts: &[&[u8]]) -> Result<Step, Fail> {
     Ok(Step::Feed { slot: 0, piece })
 }
 
+/// How many reports were joined when memory was refused; none where it was not.
+fn joined_before(answer: &Result<Answer, StepFault>) -> Option<u128> {
+    match answer {
+        Err(StepFault::OutOfMemory { joined }) => Some(*joined),
+        _ => None,
+    }
+}
+
 /// A step is done. After a refusal a slot has the reports that it had and those that were told, and
 /// no others, and the step is done again. Answered too is how many were told.
 fn done<S: Shelf>(
@@ -45,13 +52,13 @@ fn done<S: Shelf>(
     step: &Step,
     slot: usize,
     had: u128,
-) -> Result<(Answer, u128), Fail> {
+) -> Result<(Result<Answer, StepFault>, u128), Fail> {
     let answer = depot.step(step);
-    if let Err(StepFault::OutOfMemory { joined }) = answer {
-        assert_slot(rt, alloc, depot, slot, had.saturating_add(joined))?;
-        return Ok((depot.step(step)?, joined));
-    }
-    Ok((answer?, 0))
+    let Some(joined) = joined_before(&answer) else {
+        return Ok((answer, 0));
+    };
+    assert_slot(rt, alloc, depot, slot, had.saturating_add(joined))?;
+    Ok((depot.step(step), joined))
 }
 
 /// A front of a message.
@@ -63,7 +70,7 @@ fn feeds_front<S: Shelf>(rt: &impl Abort, alloc: Global, depot: &mut Depot<S>) -
         refused: 0,
         changed: 0,
     };
-    same(rt, answer, nothing);
+    same(rt, answer, Ok(nothing));
     Ok(())
 }
 
@@ -76,7 +83,7 @@ fn feeds_rest<S: Shelf>(rt: &impl Abort, alloc: Global, depot: &mut Depot<S>) ->
         refused: 0,
         changed: 2u128.saturating_sub(before),
     };
-    same(rt, answer, both);
+    same(rt, answer, Ok(both));
     assert_slot(rt, alloc, depot, 0, 2)
 }
 
@@ -88,7 +95,7 @@ fn ends<S: Shelf>(rt: &impl Abort, alloc: Global, depot: &mut Depot<S>) -> Resul
         refused: 0,
         changed: 1u128.saturating_sub(before),
     };
-    same(rt, answer, one);
+    same(rt, answer, Ok(one));
     assert_slot(rt, alloc, depot, 0, 3)
 }
 
@@ -101,7 +108,7 @@ fn joins<S: Shelf>(
     slot: usize,
 ) -> Result<(), Fail> {
     let (answer, before) = done(rt, alloc, depot, step, slot, 0)?;
-    same(rt, (answer, before), (Answer::Joined, 0));
+    same(rt, (answer, before), (Ok(Answer::Joined), 0));
     assert_slot(rt, alloc, depot, slot, 3)
 }
 

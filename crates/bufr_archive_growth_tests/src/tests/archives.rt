@@ -2,10 +2,11 @@
 
 ghost use Rattle.std.specs.Prelude.{◌≡◌, IfOk};
 
+use crate::tests::refusals::{is_refused, repeated};
 use crate::tests::same;
 use crate::tests::samples::{
     COMPRESSED_PAIR, MISSING_TEMPERATURE, MONTH_13, NEXT_STATION, PAIR_OF_STATIONS, SEQUENCES,
-    UPDATED, is_refused, joined, repeated, room, tables,
+    UPDATED, joined, room, tables,
 };
 use bufr_archive::{AddFault, Added, Archive, ArchiveWriteFault, MapShelf, Shelf, SortedShelf};
 use bufr_bits::IntoWrite;

@@ -2,8 +2,9 @@
 
 ghost use Rattle.std.specs.Prelude.{◌≤◌};
 
+use crate::tests::refusals::{is_refused, repeated};
 use crate::tests::same;
-use crate::tests::samples::{is_refused, repeated, tables};
+use crate::tests::samples::tables;
 use bufr_answers::{Failure, Items, OutOfMemory};
 use bufr_bits::{BitReader, BitSink};
 use bufr_data::{

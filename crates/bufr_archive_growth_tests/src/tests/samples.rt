@@ -1,0 +1,106 @@
+//! Tables and messages.
+
+use crate::tests::refusals::repeated;
+use bufr_tables::{TableB, TableD, Tables};
+use std::alloc::Global;
+use std::test::Fail;
+
+/// Table B of the tests.
+const TABLE_B: &[u8] = b"FXY,BUFR_Unit,BUFR_Scale,BUFR_ReferenceValue,BUFR_DataWidth_Bits\n\
+001001,Numeric,0,0,7\n\
+001002,Numeric,0,0,10\n\
+004001,a,0,0,12\n\
+004002,mon,0,0,4\n\
+004003,d,0,0,6\n\
+004004,h,0,0,5\n\
+004005,min,0,0,6\n\
+012101,K,2,0,16\n";
+
+/// Table D of the tests.
+const TABLE_D: &[u8] = b"FXY1,FXY2\n\
+301001,001001\n\
+301001,001002\n\
+301011,004001\n\
+301011,004002\n\
+301011,004003\n\
+301012,004004\n\
+301012,004005\n";
+
+/// One plain subset of a station, a time and a temperature: 62 octets.
+pub(super) const SEQUENCES: &[u8] = b"BUFR\x00\x00\x3E\x04\
+\x00\x00\x16\x00\x00\x62\x00\x00\x00\x00\x00\x02\x00\x25\x00\x07\xE8\x01\x0F\x0C\x00\x00\
+\x00\x00\x0F\x00\x00\x01\x80\xC1\x01\xC1\x0B\xC1\x0C\x0C\x65\
+\x00\x00\x0D\x00\x14\xC0\x3F\x40\x9E\xC0\x1A\xAC\xC0\
+7777";
+
+/// The same with update sequence number 1 and 274.00 K.
+pub(super) const UPDATED: &[u8] = b"BUFR\x00\x00\x3E\x04\
+\x00\x00\x16\x00\x00\x62\x00\x00\x01\x00\x00\x02\x00\x25\x00\x07\xE8\x01\x0F\x0C\x00\x00\
+\x00\x00\x0F\x00\x00\x01\x80\xC1\x01\xC1\x0B\xC1\x0C\x0C\x65\
+\x00\x00\x0D\x00\x14\xC0\x3F\x40\x9E\xC0\x1A\xC2\x00\
+7777";
+
+/// The first at the next station.
+pub(super) const NEXT_STATION: &[u8] = b"BUFR\x00\x00\x3E\x04\
+\x00\x00\x16\x00\x00\x62\x00\x00\x00\x00\x00\x02\x00\x25\x00\x07\xE8\x01\x0F\x0C\x00\x00\
+\x00\x00\x0F\x00\x00\x01\x80\xC1\x01\xC1\x0B\xC1\x0C\x0C\x65\
+\x00\x00\x0D\x00\x14\xC0\xBF\x40\x9E\xC0\x1A\xAC\xC0\
+7777";
+
+/// The first in month 13, so without key.
+pub(super) const MONTH_13: &[u8] = b"BUFR\x00\x00\x3E\x04\
+\x00\x00\x16\x00\x00\x62\x00\x00\x00\x00\x00\x02\x00\x25\x00\x07\xE8\x01\x0F\x0C\x00\x00\
+\x00\x00\x0F\x00\x00\x01\x80\xC1\x01\xC1\x0B\xC1\x0C\x0C\x65\
+\x00\x00\x0D\x00\x14\xC0\x3F\x46\x9E\xC0\x1A\xAC\xC0\
+7777";
+
+/// The first and the next station as two plain subsets: 70 octets.
+pub(super) const PAIR_OF_STATIONS: &[u8] = b"BUFR\x00\x00\x46\x04\
+\x00\x00\x16\x00\x00\x62\x00\x00\x00\x00\x00\x02\x00\x25\x00\x07\xE8\x01\x0F\x0C\x00\x00\
+\x00\x00\x0F\x00\x00\x02\x80\xC1\x01\xC1\x0B\xC1\x0C\x0C\x65\
+\x00\x00\x15\x00\x14\xC0\x3F\x40\x9E\xC0\x1A\xAC\xC5\x30\x2F\xD0\x27\xB0\x06\xAB\x30\
+7777";
+
+/// The first, compressed, with a second subset whose temperature is missing: 68 octets.
+pub(super) const COMPRESSED_PAIR: &[u8] = b"BUFR\x00\x00\x44\x04\
+\x00\x00\x16\x00\x00\x62\x00\x00\x00\x00\x00\x02\x00\x25\x00\x07\xE8\x01\x0F\x0C\x00\x00\
+\x00\x00\x0F\x00\x00\x02\xC0\xC1\x01\xC1\x0B\xC1\x0C\x0C\x65\
+\x00\x00\x13\x00\x14\x03\x00\x03\xF4\x00\x20\x1E\x03\x00\x00\x06\xAB\x30\x50\
+7777";
+
+/// The second subset as a plain message of its own: 62 octets.
+pub(super) const MISSING_TEMPERATURE: &[u8] = b"BUFR\x00\x00\x3E\x04\
+\x00\x00\x16\x00\x00\x62\x00\x00\x00\x00\x00\x02\x00\x25\x00\x07\xE8\x01\x0F\x0C\x00\x00\
+\x00\x00\x0F\x00\x00\x01\x80\xC1\x01\xC1\x0B\xC1\x0C\x0C\x65\
+\x00\x00\x0D\x00\x14\xC0\x3F\x40\x9E\xC0\x3F\xFF\xC0\
+7777";
+
+/// Table B of the tests, parsed.
+fn elements(alloc: Global) -> Result<TableB, Fail> {
+    Ok(repeated!(TableB::parse(alloc, TABLE_B))?)
+}
+
+/// Table D of the tests, parsed.
+fn sequences(alloc: Global) -> Result<TableD, Fail> {
+    Ok(repeated!(TableD::parse(alloc, TABLE_D))?)
+}
+
+/// The tables of the tests.
+pub(super) fn tables(alloc: Global) -> Result<Tables, Fail> {
+    let elements = elements(alloc)?;
+    Ok(Tables::new(elements, sequences(alloc)?))
+}
+
+/// An empty vector with room for so many octets.
+pub(super) fn room(alloc: Global, octets: usize) -> Result<Vec<u8>, Fail> {
+    Ok(repeated!(Vec::with_capacity(alloc, octets))?)
+}
+
+/// Octets joined in one vector.
+pub(super) fn joined(alloc: Global, parts: &[&[u8]]) -> Result<Vec<u8>, Fail> {
+    let mut octets = Vec::new(alloc);
+    for part in parts {
+        repeated!(octets.extend_from_slice(part))?;
+    }
+    Ok(octets)
+}

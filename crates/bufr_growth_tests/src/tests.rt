@@ -1,0 +1,20 @@
+//! Every growth refused in turn, of bits, messages and frames: each call that takes memory, once in a
+//! test of its own, which repeats a refused call and compares the state after the refusal and the
+//! answer. Run as they are, no growth is refused; `tests/refuse-each-growth` runs each test once for
+//! each of its growths, which then fails. Octets, texts and counts are typed from the rules of the
+//! formats.
+
+mod data;
+mod frames;
+mod messages;
+mod refusals;
+mod samples;
+
+use std::fmt::Debug;
+use std::process::Abort;
+
+/// Stops the test where the two differ. It is a function, since a comparison written out in a test
+/// makes the proof of that test more than twice as long.
+fn same<T: PartialEq + Debug + Drop>(rt: &impl Abort, found: T, wanted: T) {
+    assert_eq!(rt; found, wanted);
+}
