@@ -1,8 +1,5 @@
 //! What was counted of the frames of a stream.
 
-ghost use Rattle.std.specs.Prelude.{◌≡◌};
-ghost use Rattle.bufr_tool.specs.StreamEngines.{no_counts};
-
 /// How many frames of a stream were printed, how many of them are refused, how many octets they
 /// have, and how many octets were written for them.
 #[derive(Clone, Copy, Debug, Drop, PartialEq, Eq)]
@@ -15,18 +12,4 @@ pub struct Counts {
     pub octets: u64,
     /// How many octets were written for them.
     pub written: u128,
-}
-
-impl Counts {
-    /// What is counted before the first frame.
-    pub fn none() -> Counts
-        ensures { result ≡ no_counts }
-    {
-        Counts {
-            frames: 0,
-            refused: 0,
-            octets: 0,
-            written: 0,
-        }
-    }
 }

@@ -118,17 +118,6 @@ fn print_rest<W: Sink>(
     print_frames(alloc, &frames, printer, writer)
 }
 
-/// How many of so many octets stand in no frame, where the command counts them.
-fn skipped(printing: Printing, fed: u64, inside: u64) -> u64
-    requires { inside ≤ fed }
-    ensures { result ≡ skipped_by printing fed inside }
-{
-    match printing {
-        Printing::Shown => 0,
-        Printing::Checked => fed - inside,
-    }
-}
-
 /// Counts a stream of so many octets, all of whose frames were printed, prints what stands after
 /// them, and writes all that is held.
 fn print_tally<W: Sink>(
@@ -144,10 +133,14 @@ fn print_tally<W: Sink>(
         → HasEnded printing tables first (W.writing writer.old) printer.old fed stream
         → PrintsEnd printing tables stream first (W.writing writer.new) result }
 {
+    let skipped = match printer.printing {
+        Printing::Shown => 0,
+        Printing::Checked => fed - printer.counts.octets,
+    };
     let tally = Tally {
         frames: printer.counts.frames as u128,
         refused: printer.counts.refused as u128,
-        skipped: skipped(printer.printing, fed, printer.counts.octets) as u128,
+        skipped: skipped as u128,
         reports: 0,
     };
     let Ok(()) = hold_tally(&mut printer.held, printer.printing, &tally) else {

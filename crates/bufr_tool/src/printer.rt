@@ -53,7 +53,12 @@ impl<'t> Printer<'t> {
         Printer {
             printing,
             templates: Templates::new(alloc, tables),
-            counts: Counts::none(),
+            counts: Counts {
+                frames: 0,
+                refused: 0,
+                octets: 0,
+                written: 0,
+            },
             held: Vec::new(alloc),
         }
     }
@@ -193,34 +198,6 @@ impl<'t> Printer<'t> {
         Ok(())
     }
 
-    /// Prints the frame of these octets at this place, which spells a message.
-    fn print_message<W: Sink>(
-        &mut self,
-        alloc: Global,
-        place: u64,
-        octets: &[u8],
-        found: &View<'_>,
-        writer: &mut W,
-    ) -> Result<(), ToolFault>
-        requires works { (W.writing writer.old).failed ≡ false }
-        requires listed { HasShortListing found.now.message }
-        requires fits { self.old.counts.written + 2 ^ 80 ≤ 2 ^ 128 }
-        requires lines { AreWholeLines self.old.held.items }
-        ensures prints { Adds
-            (printed_as self.old.printing (frame_at place octets.now) (Ok found.now)) self.old
-            self.new (W.writing writer.old) (W.writing writer.new) result }
-        ensures keeps { Keeps self.old self.new }
-        ensures short { self.new.counts.written + 2 ^ 64 ≤ self.old.counts.written + 2 ^ 80 }
-    {
-        match self.printing {
-            Printing::Shown => self.print_listing(alloc, found, writer),
-            Printing::Checked => {
-                hold_checked(&mut self.held, place, octets, found)?;
-                Ok(())
-            }
-        }
-    }
-
     /// The message that the octets of a frame spell, none of whose subsets is built yet, or why
     /// they spell none.
     fn judge<'a>(
@@ -260,7 +237,13 @@ impl<'t> Printer<'t> {
         ensures short { self.new.counts.written + 2 ^ 64 ≤ self.old.counts.written + 2 ^ 80 }
     {
         match judged {
-            Ok(found) => self.print_message(alloc, place, octets, found, writer),
+            Ok(found) => match self.printing {
+                Printing::Shown => self.print_listing(alloc, found, writer),
+                Printing::Checked => {
+                    hold_checked(&mut self.held, place, octets, found)?;
+                    Ok(())
+                }
+            },
             Err(why) => {
                 hold_refused(alloc, &mut self.held, self.printing, place, octets, why)?;
                 Ok(())

@@ -1,7 +1,7 @@
 //! The lines that are printed of a frame, and the one behind the last.
 
 ghost use Rattle.std.specs.Prelude.{◌≡◌, ◌++◌, length, take, Ok, Err, OnOk, OnErr};
-ghost use Rattle.bufr_tool.specs.Output.{checked_as, frame_at, last_text, printed_as};
+ghost use Rattle.bufr_tool.specs.Output.{checked_as, frame_at, last_text, printed_as, tally_line};
 
 use bufr_answers::OutOfMemory;
 use bufr_io::Tally;
@@ -66,8 +66,11 @@ pub fn hold_tally(text: &mut Vec<u8>, printing: Printing, tally: &Tally) -> Resu
     ensures ok { OnOk result (text.new.items ≡ text.old.items ++ last_text printing tally.now) }
     ensures err { OnErr result (text.new.items ≡ text.old.items) }
 {
+    let Printing::Checked = printing else {
+        return Ok(());
+    };
     let held = text.len();
-    let added = push_tally(text, printing, tally);
+    let added = push_tally(text, tally);
     if added.is_err() {
         text.truncate(held);
     }
@@ -105,14 +108,11 @@ fn push_checked(
     Ok(())
 }
 
-/// Adds what is printed behind the last frame.
-fn push_tally(text: &mut Vec<u8>, printing: Printing, tally: &Tally) -> Result<(), OutOfMemory>
-    ensures ok { OnOk result (text.new.items ≡ text.old.items ++ last_text printing tally.now) }
+/// Adds the last line of `check`.
+fn push_tally(text: &mut Vec<u8>, tally: &Tally) -> Result<(), OutOfMemory>
+    ensures ok { OnOk result (text.new.items ≡ text.old.items ++ tally_line tally.now) }
     ensures kept { OnErr result (take (length text.old.items) text.new.items ≡ text.old.items) }
 {
-    if printing == Printing::Shown {
-        return Ok(());
-    }
     push_number(text, b"frames ", tally.frames)?;
     push_number(text, b" refused ", tally.refused)?;
     push_number(text, b" skipped ", tally.skipped)?;

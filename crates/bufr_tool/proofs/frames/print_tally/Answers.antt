@@ -1,18 +1,19 @@
 -- The clause of `print_tally`: the counts of the whole stream, and the text behind its frames.
-use Rattle.std.proofs.Common.{arith, ◌∙◌, refl}
+use Rattle.std.proofs.Common.{◌≡◌, arith, ◌∙◌, ap, refl, sym}
 use Rattle.bufr_frame.specs.Streams.{cut}
 use Rattle.bufr_tool.specs.declared.printer.Printer.{Printer}
-use Rattle.bufr_tool.specs.Output.{frames_text}
+use Rattle.bufr_tool.specs.Output.{frames_text, skipped_by}
 use Rattle.bufr_tool.specs.StreamEngines.{PrintsEnd}
 use Rattle.bufr_frame.specs.FrameBounds.{cut_few, cut_short}
 use Rattle.bufr_tool.proofs.PrintingFacts.{passed}
 use Rattle.bufr_tool.proofs.PartFacts.{counted_all}
 use Rattle.bufr_tool.proofs.StreamFacts.{end_tally, end_done, end_fails, end_halted, end_stopped}
 use Rattle.bufr_tool.proofs.frames.print_tally.Goals as goal
+use Rattle.bufr_tool.proofs.frames.print_tally.Goals.{in-Shown, in-Checked}
 
 -- the frames have no more octets than the stream
-pub skipped-requires : goal.skipped-requires
-skipped-requires g c =
+pub overflow_sub-skipped : goal.overflow_sub-skipped
+overflow_sub-skipped g c =
     let s = c.requires.ended in
     let a = s.4.long in
     let b = s.4.printed.octets_are in
@@ -68,7 +69,16 @@ write_out-requires-clause-fits g c =
 -- where writing the last text fails, a front of what is printed of the stream was written
 pub returns-in_err-write_out : goal.returns-in_err-write_out
 returns-in_err-write_out g c printing tables first stream h =
-    let tally = end_tally printing tables first _ c.args.printer.now _ _ stream h c.skipped.ensures in
+    let p = c.args.printer.now in
+    let counted : c.match-printer.skipped ≡ skipped_by p.printing c.args.fed p.counts.octets =
+    elim c.match-printer.branch [
+      | in-Shown w ↦
+          w.skipped-is ∙ ap (λ q. skipped_by q c.args.fed p.counts.octets) (sym w.in-Shown.is)
+      | in-Checked w ↦
+          w.skipped-is ∙ ap (λ q. skipped_by q c.args.fed p.counts.octets) (sym w.in-Checked.is)
+    ] in
+    let tally = end_tally printing tables first _ p c.args.fed c.match-printer.skipped stream h
+    counted in
     passed (PrintsEnd printing tables stream first (g.W.Sink.writing c.write_out.new.writer))
     c.from_residual.result c.in_err-write_out.field-0.0
     c.from_residual.ensures.1
@@ -78,6 +88,15 @@ returns-in_err-write_out g c printing tables first stream h =
 -- with the last text all that is printed of the stream was written, and this is its tally
 pub returns : goal.returns
 returns g c printing tables first stream h =
-    let tally = end_tally printing tables first _ c.args.printer.now _ _ stream h c.skipped.ensures in
+    let p = c.args.printer.now in
+    let counted : c.match-printer.skipped ≡ skipped_by p.printing c.args.fed p.counts.octets =
+    elim c.match-printer.branch [
+      | in-Shown w ↦
+          w.skipped-is ∙ ap (λ q. skipped_by q c.args.fed p.counts.octets) (sym w.in-Shown.is)
+      | in-Checked w ↦
+          w.skipped-is ∙ ap (λ q. skipped_by q c.args.fed p.counts.octets) (sym w.in-Checked.is)
+    ] in
+    let tally = end_tally printing tables first _ p c.args.fed c.match-printer.skipped stream h
+    counted in
     end_done printing tables first _ _ c.args.printer.now c.args.fed stream c.deref.result.now _ h
     tally (c.deref.ensures.value ∙ c.in-Ok.ensures.ok) c.in_ok-write_out.ensures
