@@ -15,3 +15,4 @@ pub mod TextFacts
 pub mod TextLemmas
 pub mod TextMergeFacts
 pub mod ToldFacts
+pub mod UnderFacts

@@ -14,6 +14,8 @@ pub mod Reading
 pub mod ReportEntries
 pub mod ReportLaws
 pub mod ReportTexts
+pub mod SameToldLaws
 pub mod Samples
+pub mod StreamsTold
 pub mod TextLaws
 pub mod Texts

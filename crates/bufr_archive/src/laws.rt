@@ -1,6 +1,7 @@
 //! Laws of archives: each function states some by its contract, and does nothing.
 ghost use Rattle.bufr_archive.specs.Archives.{IsKept};
 ghost use Rattle.bufr_archive.specs.Laws.{MergeCommutes, MergeAssociates, MergeIsIdempotent, MergedIsKept};
+ghost use Rattle.bufr_archive.specs.StreamsTold.{SameMessagesSameKept, ReportsToldAreUnder};
 ghost use Rattle.bufr_archive.specs.ReportLaws.{ReportsAreEntries, FramesOfReports, FramesOfReportFronts, ReportTextsTell, TextsFromBefore, FromBeforeAreTexts, KeptBeforeIsTheBest, ToldAreTold, OnlyToldAreTold};
 
 use crate::archive::Archive;
@@ -73,4 +74,18 @@ pub fn told_are_of_messages()
 {
     cut_is_taken_from_the_left();
     messages_are_spelt();
+}
+
+/// Streams that hold the same messages tell reports of which the same is kept.
+pub fn same_messages_same_kept()
+    ensures { SameMessagesSameKept }
+{}
+
+/// The reports that a stream tells are reports under the tables: each has its canonical message.
+pub fn reports_told_are_under()
+    ensures { ReportsToldAreUnder }
+{
+    cut_is_taken_from_the_left();
+    messages_are_spelt();
+    reports_have_canonical_messages();
 }

@@ -26,7 +26,7 @@ use Rattle.bufr_io.specs.Engines.{HasFailed, IsEndless, WritesAll}
 use Rattle.bufr_io.specs.Engines.{WritesAfter, FailsAfter}
 use Rattle.bufr_io.specs.Limits.{most_reads}
 use Rattle.bufr_collect.specs.declared.counts.Counts.{Counts}
-use Rattle.bufr_depot.specs.Slots.{all_told}
+use Rattle.bufr_archive.specs.StreamsTold.{all_told}
 use Rattle.bufr_collect.specs.Collected.{frames_of, refused_of, collected_text, collected_tally}
 use Rattle.bufr_collect.specs.Collected.{AreTextsOf, all_of, merged_text}
 use Rattle.bufr_collect.specs.Readers.{AreFresh, AreReadAtMost, WereReadOut, EndsAt}

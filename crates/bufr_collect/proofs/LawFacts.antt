@@ -10,7 +10,7 @@ use Rattle.bufr_archive.specs.Texts.{text}
 use Rattle.bufr_archive.specs.ReportEntries.{AreUnder, kept_of}
 use Rattle.bufr_archive.specs.ReportTexts.{told}
 use Rattle.bufr_archive.specs.ReportLaws.{ReportTextsTell}
-use Rattle.bufr_depot.specs.Slots.{all_told}
+use Rattle.bufr_archive.specs.StreamsTold.{all_told}
 use Rattle.bufr_collect.specs.Collected.{collected_text, AreTextsOf, all_of}
 use Rattle.bufr_collect.specs.Laws.{SharedOutAnyhow}
 use Rattle.bufr_collect.proofs.EngineFacts.{kept_both}

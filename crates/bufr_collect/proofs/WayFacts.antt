@@ -9,8 +9,8 @@ use Rattle.bufr_archive.specs.Texts.{text}
 use Rattle.bufr_archive.specs.ReportEntries.{AreUnder}
 use Rattle.bufr_archive.specs.ReportTexts.{told}
 use Rattle.bufr_archive.specs.ReportLaws.{ReportTextsTell}
-use Rattle.bufr_depot.specs.Agreements.{ReportsToldAreUnder, SameMessagesSameKept}
-use Rattle.bufr_depot.specs.Slots.{all_told}
+use Rattle.bufr_archive.specs.StreamsTold.{ReportsToldAreUnder, SameMessagesSameKept}
+use Rattle.bufr_archive.specs.StreamsTold.{all_told}
 use Rattle.bufr_collect.specs.Collected.{collected_text, AreTextsOf, merged_text}
 use Rattle.bufr_collect.specs.Laws.{AreMadeOf, none, by_add, by_merge, all_streams}
 use Rattle.bufr_collect.specs.Laws.{AnyWayWritesTheSame}

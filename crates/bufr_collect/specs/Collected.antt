@@ -11,7 +11,7 @@ use Rattle.bufr_message.specs.declared.report.Report.{Report}
 use Rattle.bufr_message.specs.Messages.{message_of}
 use Rattle.bufr_io.specs.declared.fault.Tally.{Tally}
 use Rattle.bufr_archive.specs.ReportEntries.{AreUnder, kept_of, text_of}
-use Rattle.bufr_depot.specs.Slots.{all_told}
+use Rattle.bufr_archive.specs.StreamsTold.{all_told}
 
 -- ---- streams
 

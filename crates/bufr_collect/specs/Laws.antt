@@ -6,8 +6,8 @@ use Rattle.bufr_tables.specs.Entries.{Entries}
 use Rattle.bufr_message.specs.declared.report.Report.{Report}
 use Rattle.bufr_archive.specs.ReportEntries.{AreUnder}
 use Rattle.bufr_sections.specs.Sections.{AreOctets}
-use Rattle.bufr_depot.specs.Headline.{HoldSameMessages}
-use Rattle.bufr_depot.specs.Slots.{all_told}
+use Rattle.bufr_archive.specs.StreamsTold.{HoldSameMessages}
+use Rattle.bufr_archive.specs.StreamsTold.{all_told}
 use Rattle.bufr_collect.specs.Collected.{collected_text, AreTextsOf, merged_text}
 
 -- the streams of groups, one after another

@@ -2,8 +2,7 @@
 
 ghost use Rattle.bufr_collect.specs.Laws.{AnyWayWritesTheSame, SharedOutAnyhow};
 
-use bufr_archive::laws::texts_are_cut_apart;
-use bufr_depot::laws::{reports_told_are_under, same_messages_same_kept};
+use bufr_archive::laws::{reports_told_are_under, same_messages_same_kept, texts_are_cut_apart};
 
 /// It does not matter how streams are shared out among archives before these are merged.
 pub fn streams_are_shared_out_anyhow()

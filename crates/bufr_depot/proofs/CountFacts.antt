@@ -28,7 +28,8 @@ use Rattle.bufr_archive.specs.Adding.{AddsMessage}
 use Rattle.bufr_archive.specs.declared.adding.Added.{Added}
 use Rattle.bufr_archive.specs.declared.adding.AddFault.{AddFault}
 use Rattle.bufr_archive.specs.declared.adding.AddFault.TheVariants.{Refused, OutOfMemory}
-use Rattle.bufr_depot.specs.Slots.{spells, reports_among, count_messages, count_refused}
+use Rattle.bufr_archive.specs.StreamsTold.{spells, reports_among}
+use Rattle.bufr_depot.specs.Slots.{count_messages, count_refused}
 use Rattle.bufr_depot.specs.Holdings.{Holding}
 use Rattle.bufr_depot.specs.HeldSteps.{AddsFrames, AddsSome}
 use Rattle.bufr_depot.specs.declared.counts.Counts.{Counts}

@@ -7,10 +7,11 @@ use Rattle.bufr_archive.specs.Archives.{ArchiveView}
 use Rattle.bufr_archive.specs.Texts.{text}
 use Rattle.bufr_archive.specs.ReportEntries.{kept_of}
 use Rattle.bufr_archive.specs.ReportTexts.{archive_of}
-use Rattle.bufr_depot.specs.Slots.{all_told, Slot}
+use Rattle.bufr_archive.specs.StreamsTold.{all_told, HoldSameMessages}
+use Rattle.bufr_depot.specs.Slots.{Slot}
 use Rattle.bufr_depot.specs.Holdings.{Holding, HoldsSlot}
 use Rattle.bufr_depot.specs.Agreements.{EndsRun}
-use Rattle.bufr_depot.specs.Headline.{NewRun, slots_after, WasRun, TookIn, HoldSameMessages}
+use Rattle.bufr_depot.specs.Headline.{NewRun, slots_after, WasRun, TookIn}
 use Rattle.bufr_depot.specs.Headline.{Headline}
 use Rattle.bufr_depot.proofs.HeldFacts.{zip_at}
 use Rattle.bufr_depot.proofs.AgreementFacts.{converges, keeps_what_was_told}

@@ -26,14 +26,14 @@ use Rattle.bufr_archive.specs.Archives.{ArchiveView, taken_in, merged, entries_o
 use Rattle.bufr_archive.specs.ChangeCounts.{count_kept}
 use Rattle.bufr_archive.specs.ReportEntries.{AreUnder, entry_of, report_entries, kept_of}
 use Rattle.bufr_archive.specs.ReportTexts.{archive_of}
-use Rattle.bufr_depot.specs.Slots.{reports_among, count_messages, count_refused, Slot, changed_at}
+use Rattle.bufr_archive.specs.StreamsTold.{reports_among, ReportsToldAreUnder}
+use Rattle.bufr_depot.specs.Slots.{count_messages, count_refused, Slot, changed_at}
 use Rattle.bufr_depot.specs.Slots.{gains}
 use Rattle.bufr_depot.specs.Runs.{frames_of_piece, frames_of_end, is_too_long, new_reports}
 use Rattle.bufr_depot.specs.Runs.{changes_of, fed_answer, ended_answer, after, feed_answer}
 use Rattle.bufr_depot.specs.Runs.{end_answer, IsAnswer}
 use Rattle.bufr_depot.specs.Holdings.{Holding, DepotView, HoldsSlot, StandsFor}
 use Rattle.bufr_depot.specs.HeldSteps.{AddsFrames, AddsSome, Feeds, Ends, StepDoes}
-use Rattle.bufr_depot.specs.Agreements.{ReportsToldAreUnder}
 use Rattle.bufr_depot.specs.declared.counts.Counts.{Counts}
 use Rattle.bufr_depot.specs.declared.steps.Step.{Step}
 use Rattle.bufr_depot.specs.declared.steps.Step.TheVariants.{Feed, End}
@@ -42,7 +42,7 @@ use Rattle.bufr_depot.specs.declared.steps.Answer.TheVariants.{Fed, Ended}
 use Rattle.bufr_depot.specs.declared.steps.StepFault.{StepFault}
 use Rattle.bufr_depot.specs.declared.steps.StepFault.TheVariants.{NoSlot, StreamTooLong}
 use Rattle.bufr_depot.specs.declared.steps.StepFault.TheVariants.{OutOfMemory}
-use Rattle.bufr_depot.proofs.UnderFacts.{both, each_of, front_of}
+use Rattle.bufr_depot.proofs.ListFacts.{both, each_of, front_of}
 use Rattle.bufr_depot.proofs.RunFacts.{among-append}
 
 -- ---- lists at each other's side

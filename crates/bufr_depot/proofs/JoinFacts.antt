@@ -25,7 +25,7 @@ use Rattle.bufr_depot.specs.declared.steps.Answer.TheVariants.{Fed, Ended, Joine
 use Rattle.bufr_depot.specs.declared.steps.StepFault.{StepFault}
 use Rattle.bufr_depot.specs.declared.steps.StepFault.TheVariants.{NoSlot, StreamTooLong}
 use Rattle.bufr_depot.specs.declared.steps.StepFault.TheVariants.{OutOfMemory}
-use Rattle.bufr_depot.proofs.UnderFacts.{both}
+use Rattle.bufr_depot.proofs.ListFacts.{both}
 use Rattle.bufr_depot.proofs.HeldFacts.{zip_at, zip_none, zip_set, archive_joined, none_taken}
 use Rattle.bufr_depot.proofs.StepFacts.{nothing_gained, runs_join}
 

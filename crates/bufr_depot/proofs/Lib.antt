@@ -6,6 +6,6 @@ pub mod DepotFacts
 pub mod HeadlineFacts
 pub mod HeldFacts
 pub mod JoinFacts
+pub mod ListFacts
 pub mod RunFacts
 pub mod StepFacts
-pub mod UnderFacts

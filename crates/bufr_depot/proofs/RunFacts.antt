@@ -16,7 +16,8 @@ use Rattle.bufr_tables.specs.Entries.{Entries}
 use Rattle.bufr_message.specs.declared.report.Report.{Report}
 use Rattle.bufr_message.specs.Reports.{reports_in}
 use Rattle.bufr_archive.specs.ReportTexts.{told}
-use Rattle.bufr_depot.specs.Slots.{reports_among, all_told, Slot, slot_at, changed_at, gains}
+use Rattle.bufr_archive.specs.StreamsTold.{reports_among, all_told}
+use Rattle.bufr_depot.specs.Slots.{Slot, slot_at, changed_at, gains}
 use Rattle.bufr_depot.specs.Slots.{gains_all, new_slot, new_slots}
 use Rattle.bufr_depot.specs.Runs.{frames_of_piece, frames_of_end, is_too_long, new_reports, slot_of}
 use Rattle.bufr_depot.specs.Runs.{joined_with, joined, done, after, fed_answer, feed_answer}

@@ -8,10 +8,11 @@ use Rattle.bufr_shelves.specs.Keeping.{SameMembers}
 use Rattle.bufr_archive.specs.ReportEntries.{AreUnder, kept_of, text_of}
 use Rattle.bufr_archive.specs.ReportTexts.{told}
 use Rattle.bufr_sections.specs.Sections.{AreOctets}
-use Rattle.bufr_depot.specs.Slots.{reports_among, all_told, Slot, slot_at, new_slots}
+use Rattle.bufr_archive.specs.StreamsTold.{reports_among, all_told, HoldSameMessages}
+use Rattle.bufr_depot.specs.Slots.{Slot, slot_at, new_slots}
 use Rattle.bufr_depot.specs.Runs.{after, Run, after_all}
 use Rattle.bufr_depot.specs.declared.steps.Step.{Step}
-use Rattle.bufr_depot.specs.Headline.{AreRepeated, AllJoinClosed, HoldSameMessages}
+use Rattle.bufr_depot.specs.Headline.{AreRepeated, AllJoinClosed}
 use Rattle.bufr_depot.specs.declared.steps.Answer.{Answer}
 use Rattle.bufr_depot.specs.declared.steps.StepFault.{StepFault}
 use Rattle.bufr_depot.specs.declared.steps.StepFault.TheVariants.{OutOfMemory}
@@ -67,12 +68,6 @@ abbrev pub Converges : Entries → Type 0
 Converges tables = (a b : Slot) → EndsRun tables a → EndsRun tables b
     → HoldSameMessages tables a.ended b.ended → Agree tables a b
 
--- Streams that hold the same messages tell reports of which the same is kept, however often and in
--- whatever order they stand.
-abbrev pub SameMessagesSameKept : Type 0
-SameMessagesSameKept = (tables : Entries) (a b : List (List ℕ)) → HoldSameMessages tables a b
-    → kept_of tables (all_told tables a) ≡ kept_of tables (all_told tables b)
-
 -- two slots have taken in the same
 pub record SameSlot (s t : Slot) : Type 0 where
   pub reports : SameMembers s.reports t.reports
@@ -103,9 +98,3 @@ abbrev pub RunsJoin : Entries → Type 0
 RunsJoin tables = (steps more : List Step) (answers others : List (Result Answer StepFault))
     (slots : List Slot) → length steps ≡ length answers
     → RunsInTurn tables steps more answers others slots
-
--- the reports that a stream of octets tells are reports under the tables: each has its canonical
--- message
-abbrev pub ReportsToldAreUnder : Type 0
-ReportsToldAreUnder = (tables : Entries) (stream : List ℕ) → AreOctets stream
-    → AreUnder tables (told tables stream)

@@ -5,9 +5,10 @@
 -- the same set of messages hold the same reports and write the same octets, the stated text of that
 -- set.
 --
--- What a slot has taken in (`Slot`, `new_slots`, `slot_at`) and what streams tell (`spells`,
--- `frames_of`, `all_told`) is said in `Slots`; what a step leaves (`after`, `after_all`) and which
--- answers steps may be given (`Run`) in `Runs`; for which slots a depot stands in `Holdings`.
+-- What a slot has taken in (`Slot`, `new_slots`, `slot_at`) is said in `Slots`; what streams tell
+-- (`spells`, `frames_of`, `all_told`) and when they hold the same messages (`HoldSameMessages`) in
+-- `StreamsTold` of bufr_archive; what a step leaves (`after`, `after_all`) and which answers steps
+-- may be given (`Run`) in `Runs`; for which slots a depot stands in `Holdings`.
 use Rattle.std.specs.Prelude.{◌≡◌, ℕ, Option, Some, Result, Ok, Err, List, [], ◌∷◌, slice_get, true}
 use Rattle.std.specs.Option.{option_map}
 use Rattle.bufr_tables.specs.Entries.{Entries}
@@ -15,7 +16,8 @@ use Rattle.bufr_shelves.specs.Keeping.{Has}
 use Rattle.bufr_archive.specs.Archives.{ArchiveView}
 use Rattle.bufr_archive.specs.Texts.{text}
 use Rattle.bufr_archive.specs.ReportEntries.{kept_of, text_of}
-use Rattle.bufr_depot.specs.Slots.{spells, all_told, frames_of, Slot, slot_at, new_slots}
+use Rattle.bufr_archive.specs.StreamsTold.{all_told, HoldSameMessages}
+use Rattle.bufr_depot.specs.Slots.{Slot, slot_at, new_slots}
 use Rattle.bufr_depot.specs.Runs.{after, Run, after_all}
 use Rattle.bufr_depot.specs.Holdings.{DepotView, StandsFor}
 use Rattle.bufr_depot.specs.declared.steps.Step.{Step}
@@ -100,14 +102,6 @@ AllJoinClosed tables (step ∷ steps) (answer ∷ answers) slots =
     JoinsClosed step slots × AllJoinClosed tables steps answers (after tables step answer slots)
 AllJoinClosed tables [] answers slots = Unit {0}
 AllJoinClosed tables (step ∷ steps) [] slots = Unit {0}
-
--- the streams hold the same set of messages: each frame of the one that spells a message is a frame
--- of the other, however often and wherever it stands
-pub record HoldSameMessages (tables : Entries) (a b : List (List ℕ)) : Type 0 where
-  pub first : (octets : List ℕ) → spells tables octets ≡ true
-      → Has (frames_of a) octets → Has (frames_of b) octets
-  pub second : (octets : List ℕ) → spells tables octets ≡ true
-      → Has (frames_of b) octets → Has (frames_of a) octets
 
 -- At the end of the run slot i has this archive, which has taken in these ended streams. Each step
 -- that was refused for want of memory was repeated at once, each join was from a slot with no open

@@ -15,7 +15,8 @@ use Rattle.bufr_archive.specs.ReportEntries.{report_entries, AreUnder}
 use Rattle.bufr_archive.specs.ReportTexts.{archive_of}
 use Rattle.bufr_sections.specs.Sections.{AreOctets}
 use Rattle.bufr_archive.specs.declared.adding.RanOut.{RanOut}
-use Rattle.bufr_depot.specs.Slots.{Slot, reports_among, count_messages, count_refused}
+use Rattle.bufr_archive.specs.StreamsTold.{reports_among}
+use Rattle.bufr_depot.specs.Slots.{Slot, count_messages, count_refused}
 use Rattle.bufr_depot.specs.Runs.{IsAnswer, after}
 use Rattle.bufr_depot.specs.Holdings.{Holding, DepotView, StandsFor}
 use Rattle.bufr_depot.specs.declared.counts.Counts.{Counts}

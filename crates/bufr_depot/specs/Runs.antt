@@ -7,7 +7,8 @@ use Rattle.bufr_tables.specs.Entries.{Entries}
 use Rattle.bufr_message.specs.declared.report.Report.{Report}
 use Rattle.bufr_archive.specs.Archives.{entries_of, count_changes}
 use Rattle.bufr_archive.specs.ReportEntries.{report_entries}
-use Rattle.bufr_depot.specs.Slots.{reports_among, count_messages, count_refused, Slot, slot_at}
+use Rattle.bufr_archive.specs.StreamsTold.{reports_among}
+use Rattle.bufr_depot.specs.Slots.{count_messages, count_refused, Slot, slot_at}
 use Rattle.bufr_depot.specs.Slots.{changed_at, gains, gains_all}
 use Rattle.bufr_depot.specs.declared.steps.Step.{Step}
 use Rattle.bufr_depot.specs.declared.steps.Step.TheVariants.{Feed, End, Merge, Transfer, Copy}

@@ -1,24 +1,13 @@
--- What the slots of a depot have taken in, and what streams tell.
-use Rattle.std.specs.Prelude.{ℕ, zero, suc, Bool, not, is_ok, Option, List, [], ◌∷◌, ◌++◌, count_by}
-use Rattle.std.specs.Prelude.{map, replicate, slice_get}
-use Rattle.std.specs.List.{flat_map}
+-- What the slots of a depot have taken in. What frames and streams tell is said in `StreamsTold` of
+-- bufr_archive.
+use Rattle.std.specs.Prelude.{ℕ, zero, suc, not, Option, List, [], ◌∷◌, ◌++◌, count_by}
+use Rattle.std.specs.Prelude.{replicate, slice_get}
 use Rattle.bufr_tables.specs.Entries.{Entries}
 use Rattle.bufr_frame.specs.declared.frames.Found.{Found}
-use Rattle.bufr_frame.specs.Streams.{cut}
 use Rattle.bufr_message.specs.declared.report.Report.{Report}
-use Rattle.bufr_message.specs.Messages.{message_of}
-use Rattle.bufr_message.specs.Reports.{reports_in}
-use Rattle.bufr_archive.specs.ReportTexts.{told}
+use Rattle.bufr_archive.specs.StreamsTold.{spells}
 
--- ---- what frames and streams tell
-
--- whether octets spell a message
-abbrev pub spells : Entries → List ℕ → Bool
-spells tables octets = is_ok (message_of tables octets)
-
--- the reports of the messages among frames, in order; a frame that spells none has none
-abbrev pub reports_among : Entries → List Found → List Report
-reports_among tables frames = flat_map (λ f. reports_in tables f.bytes) frames
+-- ---- what is counted of frames
 
 -- how many frames spell a message
 abbrev pub count_messages : Entries → List Found → ℕ
@@ -27,14 +16,6 @@ count_messages tables frames = count_by (λ f. spells tables f.bytes) frames
 -- how many frames do not
 abbrev pub count_refused : Entries → List Found → ℕ
 count_refused tables frames = count_by (λ f. not (spells tables f.bytes)) frames
-
--- the reports that streams tell, one after another, once they have ended
-abbrev pub all_told : Entries → List (List ℕ) → List Report
-all_told tables streams = flat_map (told tables) streams
-
--- the octets of the frames of streams that have ended
-abbrev pub frames_of : List (List ℕ) → List (List ℕ)
-frames_of streams = flat_map (λ s. map (λ f. f.bytes) (cut s)) streams
 
 -- ---- slots
 

@@ -4,13 +4,11 @@ ghost use Rattle.bufr_tables.specs.Entries.{Entries};
 ghost use Rattle.bufr_message.specs.Laws.{MessagesWrittenAreRead};
 ghost use Rattle.bufr_archive.specs.Laws.{MergeCommutes, MergeAssociates, MergeIsIdempotent};
 ghost use Rattle.bufr_depot.specs.Headline.{Headline};
-ghost use Rattle.bufr_depot.specs.Agreements.{TookExactly, KeepsWhatWasTold, Converges, RepeatCompletes, RunsJoin, ReportsToldAreUnder, SameMessagesSameKept};
+ghost use Rattle.bufr_depot.specs.Agreements.{TookExactly, KeepsWhatWasTold, Converges, RepeatCompletes, RunsJoin};
 
 use bufr_archive::laws::merges_agree;
-use bufr_frame::laws::cut_is_taken_from_the_left;
-use bufr_message::laws::{
-    messages_are_spelt, reports_have_canonical_messages, written_messages_are_spelt,
-};
+pub use bufr_archive::laws::{reports_told_are_under, same_messages_same_kept};
+use bufr_message::laws::written_messages_are_spelt;
 
 /// The headline. Whatever streams any archives take in under the same tables, cut into any pieces,
 /// in any order, with repeats, and through any merges, copies and transfers, two archives whose
@@ -40,11 +38,6 @@ pub fn archives_converge()
     ensures exactly { (tables : Entries) → TookExactly tables }
 {}
 
-/// Streams that hold the same messages tell reports of which the same is kept.
-pub fn same_messages_same_kept()
-    ensures { SameMessagesSameKept }
-{}
-
 /// A step that ran out of memory, done again, leaves what it would have left at once.
 pub fn repeated_steps_complete()
     ensures { (tables : Entries) → RepeatCompletes tables }
@@ -54,12 +47,3 @@ pub fn repeated_steps_complete()
 pub fn runs_join()
     ensures { (tables : Entries) → RunsJoin tables }
 {}
-
-/// The reports that a stream tells are reports under the tables: each has its canonical message.
-pub fn reports_told_are_under()
-    ensures { ReportsToldAreUnder }
-{
-    cut_is_taken_from_the_left();
-    messages_are_spelt();
-    reports_have_canonical_messages();
-}

@@ -1,9 +1,8 @@
 -- The reports that a stream tells are reports under the tables: for `laws::reports_told_are_under`.
-use Rattle.std.proofs.Common.{◌≡◌, ℕ, ◌<◌, ◌^◌, Ok, Err, List, [], ◌∷◌, ◌++◌, length, take, drop}
+use Rattle.std.proofs.Common.{◌≡◌, ℕ, ◌<◌, ◌^◌, Ok, Err, List, [], ◌∷◌, ◌++◌, length, drop}
 use Rattle.std.proofs.Common.{refl, sym, subst}
 use Rattle.std.specs.List.{AllByRecursion}
-use Rattle.std.proofs.lemmas.List.Elements.{All-from_recursion, recursion_from_All, All-take}
-use Rattle.std.proofs.lemmas.List.Elements.{All-drop}
+use Rattle.std.proofs.lemmas.List.Elements.{All-take, All-drop}
 use Rattle.bufr_tables.specs.Entries.{Entries}
 use Rattle.bufr_frame.specs.declared.frames.Found.{Found}
 use Rattle.bufr_frame.specs.Streams.{cut}
@@ -13,26 +12,13 @@ use Rattle.bufr_message.specs.Reports.{IsUnder, ReportsSpeltAreUnder, reports_in
 use Rattle.bufr_message.specs.Laws.{MessagesReadAreSpelt}
 use Rattle.bufr_sections.specs.Sections.{AreOctets}
 use Rattle.bufr_archive.specs.ReportEntries.{AreUnder}
-use Rattle.bufr_depot.specs.Slots.{reports_among}
-use Rattle.bufr_depot.specs.Agreements.{ReportsToldAreUnder}
+use Rattle.bufr_archive.specs.StreamsTold.{reports_among, ReportsToldAreUnder}
 
 -- all of two lists
 pub both : {A : Type 0} (P : A → Type 0) (xs ys : List A) → AllByRecursion P xs
     → AllByRecursion P ys → AllByRecursion P (xs ++ ys)
 both P [] ys p q = q
 both P (x ∷ xs) ys p q = (p.0, both P xs ys p.1 q)
-
--- all of each of two
-pub each_of : {A : Type 0} (P : A → Type 0) (xs ys : List A) → AllByRecursion P (xs ++ ys)
-    → AllByRecursion P xs × AllByRecursion P ys
-each_of P [] ys p = (tt, p)
-each_of P (x ∷ xs) ys p = let r = each_of P xs ys p.1 in ((p.0, r.0), r.1)
-
--- all of a front
-pub front_of : {A : Type 0} (P : A → Type 0) (n : ℕ) (xs : List A) → AllByRecursion P xs
-    → AllByRecursion P (take n xs)
-front_of P n xs p =
-    recursion_from_All P (take n xs) (All-take P n xs (All-from_recursion P xs p))
 
 -- the reports of the message that octets spell are under the tables, and else there are none
 under_frame : MessagesReadAreSpelt → ReportsSpeltAreUnder → (tables : Entries) (octets : List ℕ)

@@ -1,7 +1,7 @@
 -- The law `reports_told_are_under`: a frame has octets of its stream, and each report of the
 -- message that these spell has its canonical message.
-use Rattle.bufr_depot.proofs.UnderFacts.{told_under}
-use Rattle.bufr_depot.proofs.laws.reports_told_are_under.Goals as goal
+use Rattle.bufr_archive.proofs.UnderFacts.{told_under}
+use Rattle.bufr_archive.proofs.laws.reports_told_are_under.Goals as goal
 
 -- by the laws of the cut, of messages spelt and of canonical messages
 pub returns : goal.returns
