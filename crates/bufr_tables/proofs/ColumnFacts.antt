@@ -12,7 +12,7 @@ use Rattle.std.proofs.lemmas.Bool.Decides.{nat_tests}
 use Rattle.std.proofs.lemmas.List.{length-map, append-nil, drop_all}
 use Rattle.bufr_tables.specs.Fields.{used_fields}
 use Rattle.bufr_tables.specs.TableFiles.{column_at, columns_at, cells_at, is_skipped, row_cells}
-use Rattle.bufr_tables.specs.TableFiles.{joined, after_records, after_file, TakesHeader, columns_b}
+use Rattle.bufr_tables.specs.TableFiles.{after_record, after_records, after_file, TakesHeader, columns_b}
 use Rattle.bufr_tables.specs.TableFiles.{columns_d}
 use Rattle.bufr_tables.specs.declared.table_faults.TableFault.TheVariants.{NotCsv}
 use Rattle.bufr_tables.specs.declared.table_faults.Column.{Column}
@@ -162,31 +162,20 @@ needs_d p e = cc
 pub records_more : {A R : Type 0} (row_of : List (List ℕ) → Option R)
     (add : A → R → Result A TableFault) (h : List (List ℕ)) (places : List ℕ) (n : ℕ)
     (raw : List (List ℕ)) (rest : List (List (List ℕ))) (so_far new : A)
-    (cells : Option (List (List ℕ))) → row_cells h places n raw ≡ Ok cells
-    → joined row_of add n so_far cells ≡ Ok new
+    → after_record row_of add h places n raw so_far ≡ Ok new
     → after_records row_of add h places n (raw ∷ rest) so_far
     ≡ after_records row_of add h places (n + 1) rest new
 unfolding after_records
-records_more row_of add h places n raw rest so_far new cells e f = rw (e, f)
+records_more row_of add h places n raw rest so_far new e = rw e
 
--- a record that is no row and is not skipped ends the reading with its fault
-pub records_stop_row : {A R : Type 0} (row_of : List (List ℕ) → Option R)
+-- a record that fails ends the reading with its fault
+pub records_stop : {A R : Type 0} (row_of : List (List ℕ) → Option R)
     (add : A → R → Result A TableFault) (h : List (List ℕ)) (places : List ℕ) (n : ℕ)
     (raw : List (List ℕ)) (rest : List (List (List ℕ))) (so_far : A) (f : TableFault)
-    → row_cells h places n raw ≡ Err f
+    → after_record row_of add h places n raw so_far ≡ Err f
     → after_records row_of add h places n (raw ∷ rest) so_far ≡ Err f
 unfolding after_records
-records_stop_row row_of add h places n raw rest so_far f e = rw e
-
--- a row that does not fit those before it ends the reading with its fault
-pub records_stop_join : {A R : Type 0} (row_of : List (List ℕ) → Option R)
-    (add : A → R → Result A TableFault) (h : List (List ℕ)) (places : List ℕ) (n : ℕ)
-    (raw : List (List ℕ)) (rest : List (List (List ℕ))) (so_far : A)
-    (cells : Option (List (List ℕ))) (f : TableFault) → row_cells h places n raw ≡ Ok cells
-    → joined row_of add n so_far cells ≡ Err f
-    → after_records row_of add h places n (raw ∷ rest) so_far ≡ Err f
-unfolding after_records
-records_stop_join row_of add h places n raw rest so_far cells f e g = rw (e, g)
+records_stop row_of add h places n raw rest so_far f e = rw e
 
 -- no record adds nothing
 pub records_end : {A R : Type 0} (row_of : List (List ℕ) → Option R)

@@ -1,18 +1,21 @@
 //! The rows of Table D as they come.
 
-ghost use Rattle.std.specs.Prelude.{◌≡◌, IfOk, OnOk, map, option_map};
+ghost use Rattle.std.specs.Prelude.{◌≡◌, IfOk, OnOk, map};
 ghost use Rattle.std.specs.Ordering.{nat_cmp};
 ghost use Rattle.std.specs.BTreeMap.{insert_entry};
+ghost use Rattle.csv.specs.Records.{fields_of};
 ghost use Rattle.bufr_answers.specs.Answers.{Gives};
 ghost use Rattle.bufr_tables.specs.Entries.{Rising};
 ghost use Rattle.bufr_tables.specs.Rows.{member_row, with_member, begins, no_sequences};
 ghost use Rattle.bufr_tables.specs.Rows.{all_sequences};
-ghost use Rattle.bufr_tables.specs.TableFiles.{joined};
+ghost use Rattle.bufr_tables.specs.TableFiles.{after_record};
 
+use crate::columns::row_cells;
 use crate::fxy::Fxy;
 use crate::rows::member_row;
 use crate::table_faults::TableFault;
 use bufr_answers::{Failure, Items, OutOfMemory};
+use csv::ByteRecord;
 use std::alloc::Global;
 use std::collections::BTreeMap;
 use std::marker::Model;
@@ -88,16 +91,18 @@ impl SequenceRows {
     pub(crate) fn add_record(
         &mut self,
         alloc: Global,
+        names: &[&[u8]],
+        places: &[usize],
         number: u64,
-        cells: &Option<Vec<&[u8]>>,
+        row: &ByteRecord,
     ) -> Result<(), Failure<TableFault>>
-        ensures { Gives (λ _. self.new) result (joined member_row with_member number self.old
-            (option_map (λ v. map (λ s. s.now) v.items) cells.now)) }
+        ensures { Gives (λ _. self.new) result (after_record member_row with_member
+            (map (λ s. s.now) names.now) places.now number (fields_of row.now) self.old) }
     {
-        let Some(cells) = cells else {
+        let Some(cells) = row_cells(alloc, names, places, number, row)? else {
             return Ok(());
         };
-        match member_row(cells) {
+        match member_row(&cells) {
             Some((sequence, member)) => self.add(alloc, sequence, member),
             None => Err(Failure::Fault(TableFault::BadRow(number))),
         }

@@ -1,12 +1,13 @@
 //! Table B.
 
-ghost use Rattle.std.specs.Prelude.{◌≡◌, ◌↔◌, IsTrue, [], false, map, option_copied, option_map};
+ghost use Rattle.std.specs.Prelude.{◌≡◌, ◌↔◌, IsTrue, [], false, map, option_copied};
+ghost use Rattle.csv.specs.Records.{fields_of};
 ghost use Rattle.bufr_tables.specs.declared.element.Kind.TheVariants as kinds;
 ghost use Rattle.bufr_answers.specs.Answers.{Gives};
 ghost use Rattle.bufr_tables.specs.Elements.{same_kind};
 ghost use Rattle.bufr_tables.specs.Entries.{at, AreElements};
 ghost use Rattle.bufr_tables.specs.Rows.{element_row, with_element};
-ghost use Rattle.bufr_tables.specs.TableFiles.{joined, table_b};
+ghost use Rattle.bufr_tables.specs.TableFiles.{after_record, after_records, table_b};
 
 use crate::columns::{columns_at, header, row_cells};
 use crate::csv_records::Records;
@@ -58,14 +59,26 @@ impl TableB {
         let header = header(alloc, &mut records)?;
         let names = used_fields(alloc, &header)?;
         let places = columns_at(alloc, &names, &COLUMNS)?;
+        TableB::of_records(alloc, &mut records, &names, &places)
+    }
+
+    // The elements of the records behind the header.
+    fn of_records(
+        alloc: Global,
+        records: &mut Records<'_>,
+        names: &[&[u8]],
+        places: &[usize],
+    ) -> Result<TableB, Failure<TableFault>>
+        ensures { Gives (λ t. t) result (after_records element_row with_element
+            (map (λ s. s.now) names.now) places.now 2 records.old []) }
+    {
         let mut table = TableB::new(alloc);
         let mut row = ByteRecord::new(alloc);
         for number in 2..u64::MAX {
             if !records.next(&mut row)? {
                 return Ok(table);
             }
-            let cells = row_cells(alloc, &names, &places, number, &row)?;
-            table.add_record(number, &cells)?;
+            table.add_record(alloc, names, places, number, &row)?;
         }
         Err(Failure::OutOfMemory)
     }
@@ -97,16 +110,19 @@ impl TableB {
     // The row of a record; a skipped one adds nothing.
     fn add_record(
         &mut self,
+        alloc: Global,
+        names: &[&[u8]],
+        places: &[usize],
         number: u64,
-        cells: &Option<Vec<&[u8]>>,
+        row: &ByteRecord,
     ) -> Result<(), Failure<TableFault>>
-        ensures { Gives (λ _. self.new) result (joined element_row with_element number self.old
-            (option_map (λ v. map (λ s. s.now) v.items) cells.now)) }
+        ensures { Gives (λ _. self.new) result (after_record element_row with_element
+            (map (λ s. s.now) names.now) places.now number (fields_of row.now) self.old) }
     {
-        let Some(cells) = cells else {
+        let Some(cells) = row_cells(alloc, names, places, number, row)? else {
             return Ok(());
         };
-        match element_row(cells) {
+        match element_row(&cells) {
             Some((fxy, element)) => self.add(fxy, element),
             None => Err(Failure::Fault(TableFault::BadRow(number))),
         }

@@ -1,11 +1,12 @@
 //! Table D.
 
-ghost use Rattle.std.specs.Prelude.{◌≡◌, ◌↔◌, IsTrue, option_map};
-ghost use Rattle.bufr_answers.specs.Answers.{Gives};
+ghost use Rattle.std.specs.Prelude.{◌≡◌, ◌↔◌, IsTrue, map, option_map};
+ghost use Rattle.bufr_answers.specs.Answers.{Gives, result_map};
 ghost use Rattle.bufr_tables.specs.Entries.{at, Rising};
-ghost use Rattle.bufr_tables.specs.TableFiles.{table_d};
+ghost use Rattle.bufr_tables.specs.Rows.{member_row, with_member, no_sequences, all_sequences};
+ghost use Rattle.bufr_tables.specs.TableFiles.{after_records, table_d};
 
-use crate::columns::{columns_at, header, row_cells};
+use crate::columns::{columns_at, header};
 use crate::csv_records::Records;
 use crate::fields::used_fields;
 use crate::fxy::Fxy;
@@ -47,6 +48,19 @@ impl TableD {
         let header = header(alloc, &mut records)?;
         let names = used_fields(alloc, &header)?;
         let places = columns_at(alloc, &names, &COLUMNS)?;
+        TableD::of_records(alloc, &mut records, &names, &places)
+    }
+
+    // The sequences of the records behind the header.
+    fn of_records(
+        alloc: Global,
+        records: &mut Records<'_>,
+        names: &[&[u8]],
+        places: &[usize],
+    ) -> Result<TableD, Failure<TableFault>>
+        ensures { Gives (λ t. t) result (result_map all_sequences (after_records member_row
+            with_member (map (λ s. s.now) names.now) places.now 2 records.old no_sequences)) }
+    {
         let mut rows = SequenceRows::new(alloc);
         let mut row = ByteRecord::new(alloc);
         for number in 2..u64::MAX {
@@ -54,8 +68,7 @@ impl TableD {
                 let rows = rows.finish()?;
                 return Ok(TableD { rows });
             }
-            let cells = row_cells(alloc, &names, &places, number, &row)?;
-            rows.add_record(alloc, number, &cells)?;
+            rows.add_record(alloc, names, places, number, &row)?;
         }
         Err(Failure::OutOfMemory)
     }
