@@ -1,6 +1,6 @@
 -- A text that was added to begins with what it was, also where memory ran out on the way: for
 -- `push_lines` and `push_quoted`, and so for `push_subset`.
-use Rattle.std.proofs.Common.{◌≡◌, List, ◌++◌, length, take, drop, Result, Ok, Err, OnErr, sym, ap}
+use Rattle.std.proofs.Common.{◌≡◌, List, ◌++◌, length, take, drop, Result, Ok, Err, OnErr, OnOk, sym, ap}
 use Rattle.std.proofs.Common.{◌∙◌, ℕ, append_assoc}
 use Rattle.std.proofs.lemmas.List.{take-append-drop}
 use Rattle.std.proofs.Math.Seq.{take-append_seam}
@@ -19,3 +19,16 @@ front_kept text longer now more is kept =
 pub on_err : {A E : Type 0} (X : Type 0) (r : Result A E) → X → OnErr r X
 on_err X (Ok a) x = tt
 on_err X (Err e) x = x
+
+-- behind what was added first, a text that begins with both begins with what was there before
+pub kept_behind : {A E : Type 0} (r : Result A E) (old first mid now : List ℕ) → mid ≡ old ++ first
+    → OnErr r (take (length mid) now ≡ mid) → OnErr r (take (length old) now ≡ old)
+kept_behind (Ok a) old first mid now p q = tt
+kept_behind (Err e) old first mid now p q = front_kept old mid now first p q
+
+-- what is added behind what was added first
+pub added_behind : {A E : Type 0} (r : Result A E) (old first mid more now : List ℕ)
+    → mid ≡ old ++ first → OnOk r (now ≡ mid ++ more) → OnOk r (now ≡ old ++ (first ++ more))
+added_behind (Ok a) old first mid more now p q =
+    q ∙ ap (λ z. z ++ more) p ∙ append_assoc old first more
+added_behind (Err e) old first mid more now p q = tt

@@ -276,15 +276,10 @@ octets_are title n text digits os octets e decoded some =
     same_bytes (octets_line title own) t (ap (octets_line title) same ∙ printed) in
     rw (not_empty, line) (ap Ok same)
 
--- what a fault of the digits is answered by
-pub undecoded_is : (digits : List ℕ) (fault : FromHexError) (r : Failure ListingFault)
-    (bad : ListingFault) (meant : Result (List ℕ) ListingFault)
-    → (fault ≡ hexes.OutOfMemory → r ≡ OutOfMemory)
-    → ((fault ≡ hexes.OutOfMemory → ⊥) → r ≡ Fault bad)
+-- a fault of the digits that is no want of memory
+pub undecoded_is : (digits : List ℕ) (fault : FromHexError) (bad : ListingFault)
+    (meant : Result (List ℕ) ListingFault) → (fault ≡ hexes.OutOfMemory → ⊥)
     → (decode_of digits ≡ Err fault → meant ≡ Err bad)
-    → ((fault ≡ hexes.OutOfMemory) ⊎ (decode_of digits ≡ Err fault)) → Fails r meant
-undecoded_is digits hexes.OutOfMemory r bad meant memory other h by =
-    subst (λ x. Fails x meant) (sym (memory refl)) tt
-undecoded_is digits fault r bad meant memory other h (inl e) = absurd cc
-undecoded_is digits fault r bad meant memory other h (inr d) =
-    subst (λ x. Fails x meant) (sym (other (λ e. cc e))) (h d)
+    → ((fault ≡ hexes.OutOfMemory) ⊎ (decode_of digits ≡ Err fault)) → meant ≡ Err bad
+undecoded_is digits fault bad meant other h (inl e) = absurd (other e)
+undecoded_is digits fault bad meant other h (inr d) = h d

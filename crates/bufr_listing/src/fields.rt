@@ -77,29 +77,20 @@ fn push_words(text: &mut Vec<u8>, field: &Field) -> Result<(), OutOfMemory>
     ensures kept { OnErr result (take (length text.old.items) text.new.items ≡ text.old.items) }
 {
     text.extend_from_slice(&title(field.fxy))?;
-    push_value(text, field)?;
-    Ok(())
+    match field.value() {
+        Some(number) => push_number(text, number),
+        None => push_other(text, field),
+    }
 }
 
 /// The six digits of a descriptor and a space.
-fn title(fxy: Fxy) -> [u8; 7]
+pub fn title(fxy: Fxy) -> [u8; 7]
     ensures { result ≡ six_digits fxy ++ 32 ∷ [] }
 {
     let digits = fxy.digits();
     [
         digits[0], digits[1], digits[2], digits[3], digits[4], digits[5], b' ',
     ]
-}
-
-/// Adds the value of a field and the line's end.
-fn push_value(text: &mut Vec<u8>, field: &Field) -> Result<(), OutOfMemory>
-    ensures ok { OnOk result (text.new.items ≡ text.old.items ++ line (value_word field.now)) }
-    ensures kept { OnErr result (take (length text.old.items) text.new.items ≡ text.old.items) }
-{
-    match field.value() {
-        Some(number) => push_number(text, number),
-        None => push_other(text, field),
-    }
 }
 
 /// Adds a number and the line's end.
@@ -110,23 +101,12 @@ fn push_number(text: &mut Vec<u8>, number: Decimal) -> Result<(), OutOfMemory>
     let size = number.units.unsigned_abs();
     if size > u64::MAX as u128 || number.scale < 0 || number.scale > MOST_PLACES {
         number.push_text(text)?;
-        text.push(b'\n')?;
-        return Ok(());
+        return text.extend_from_slice(b"\n");
     }
-    push_sign(text, number.units)?;
-    push_digits(text, size as u64, number.scale as usize)?;
-    Ok(())
-}
-
-/// Adds `-` before a negative number.
-fn push_sign(text: &mut Vec<u8>, units: i128) -> Result<(), OutOfMemory>
-    ensures ok { OnOk result (text.new.items ≡ text.old.items ++ sign_of units) }
-    ensures err { OnErr result (text.new.items ≡ text.old.items) }
-{
-    if units < 0 {
+    if number.units < 0 {
         text.push(b'-')?;
     }
-    Ok(())
+    push_digits(text, size as u64, number.scale as usize)
 }
 
 /// Adds the digits of a number, with so many behind a point, and the line's end.
@@ -171,8 +151,7 @@ fn push_quoted(text: &mut Vec<u8>, octets: &[u8]) -> Result<(), OutOfMemory>
 {
     text.push(b'"')?;
     push_characters(text, octets)?;
-    text.extend_from_slice(b"\"\n")?;
-    Ok(())
+    text.extend_from_slice(b"\"\n")
 }
 
 /// Adds characters as they stand between quotes.

@@ -62,7 +62,8 @@ pub fn read_numbers(
     let found = words.numbers(alloc, limits)?;
     match found {
         Some(numbers) => Ok(numbers),
-        None => Err(wrong_words(line, words.has_count(limits.len()))),
+        None if words.has_count(limits.len()) => Err(bad_value(line)),
+        None => Err(bad_line(line)),
     }
 }
 
@@ -118,21 +119,12 @@ fn octets_of(alloc: Global, line: TextLine, title: &[u8]) -> Result<Vec<u8>, Fai
         return Err(bad_line(line));
     };
     match hex::decode(alloc, digits) {
-        Err(fault) => Err(undecoded(line, fault)),
+        Err(fault) => match fault {
+            hex::FromHexError::OutOfMemory => Err(Failure::OutOfMemory),
+            _ => Err(bad_value(line)),
+        },
         Ok(octets) if octets.is_empty() => Err(bad_value(line)),
         Ok(octets) => Ok(octets),
-    }
-}
-
-/// Want of memory, or L2 at a line whose digits are those of no octets.
-fn undecoded(line: TextLine, fault: hex::FromHexError) -> Failure<ListingFault>
-    ensures memory { fault ≡ OutOfMemory → result ≡ Failure.OutOfMemory }
-    ensures digits { (fault ≡ OutOfMemory → ⊥)
-        → result ≡ Failure.Fault (ListingFault.BadValue line.entry.number) }
-{
-    match fault {
-        hex::FromHexError::OutOfMemory => Failure::OutOfMemory,
-        _ => bad_value(line),
     }
 }
 
@@ -154,31 +146,33 @@ pub fn read_flags(lines: &mut Lines) -> Result<Flags, Failure<ListingFault>>
 {
     let line = lines.take()?;
     if line.text == b"flags".as_slice() {
-        return Ok(flags_of(false, false));
+        return Ok(Flags {
+            observed: false,
+            compressed: false,
+        });
     }
     if line.text == b"flags observed".as_slice() {
-        return Ok(flags_of(true, false));
+        return Ok(Flags {
+            observed: true,
+            compressed: false,
+        });
     }
     if line.text == b"flags compressed".as_slice() {
-        return Ok(flags_of(false, true));
+        return Ok(Flags {
+            observed: false,
+            compressed: true,
+        });
     }
     if line.text == b"flags observed compressed".as_slice() {
-        return Ok(flags_of(true, true));
+        return Ok(Flags {
+            observed: true,
+            compressed: true,
+        });
     }
     if begins(line.text, b"flags") && Words::of(line.text).has_at_most(3) {
         return Err(bad_value(line));
     }
     Err(bad_line(line))
-}
-
-/// These flags.
-fn flags_of(observed: bool, compressed: bool) -> Flags
-    ensures { result ≡ record { observed = observed; compressed = compressed } }
-{
-    Flags {
-        observed,
-        compressed,
-    }
 }
 
 /// Reads the line of the descriptors, one at least, which have a template.
@@ -222,19 +216,6 @@ fn template_of(
         Err(failure) => Err(failure.map(|fault| {
             ListingFault::Refused(u128::from(line.number), Cause::Template(fault))
         })),
-    }
-}
-
-/// L2 at a line that has the words of its kind, else L1.
-fn wrong_words(line: TextLine, has_count: bool) -> Failure<ListingFault>
-    ensures { result ≡ Failure.Fault (if has_count
-        then ListingFault.BadValue line.entry.number
-        else ListingFault.BadLine line.entry.number) }
-{
-    if has_count {
-        bad_value(line)
-    } else {
-        bad_line(line)
     }
 }
 

@@ -131,8 +131,7 @@ fn push_octets(
     text.extend_from_slice(title)?;
     text.push(b' ')?;
     text.extend_from_slice(digits.as_bytes())?;
-    text.push(b'\n')?;
-    Ok(())
+    text.extend_from_slice(b"\n")
 }
 
 /// Adds the line of section 2, where there is one.
@@ -174,18 +173,11 @@ fn push_descriptors(text: &mut Vec<u8>, descriptors: &[Fxy]) -> Result<(), OutOf
 {
     text.extend_from_slice(b"descriptors")?;
     for fxy in descriptors {
-        text.extend_from_slice(&spaced(*fxy))?;
+        let digits = fxy.digits();
+        text.extend_from_slice(&[
+            b' ', digits[0], digits[1], digits[2], digits[3], digits[4], digits[5],
+        ])?;
     }
     text.push(b'\n')?;
     Ok(())
-}
-
-/// A space and the six digits of a descriptor.
-fn spaced(fxy: Fxy) -> [u8; 7]
-    ensures { result ≡ 32 ∷ six_digits fxy }
-{
-    let digits = fxy.digits();
-    [
-        b' ', digits[0], digits[1], digits[2], digits[3], digits[4], digits[5],
-    ]
 }

@@ -15,6 +15,7 @@ ghost use Rattle.bufr_listing.specs.FieldLines.{read_field};
 ghost use Rattle.bufr_listing.specs.Steps.{Reads};
 
 use crate::fault::{Cause, ListingFault};
+use crate::fields::title;
 use crate::head_lines::{bad_line, bad_value, read_word, refused};
 use crate::lines::{Lines, TextLine};
 use crate::raw_values::raw_of;
@@ -158,22 +159,6 @@ fn read_value(
 fn begins_field(text: &[u8], fxy: Fxy) -> bool
     ensures { result ≡ bytes_eq (take 7 text.now) (six_digits fxy ++ 32 ∷ []) }
 {
-    let front = front_of(fxy);
+    let front = title(fxy);
     text.len() >= 7 && &text[..7] == front.as_slice()
-}
-
-/// The six digits of a descriptor and a space.
-fn front_of(fxy: Fxy) -> [u8; 7]
-    ensures { result ≡ six_digits fxy ++ 32 ∷ [] }
-{
-    let (f, x, y) = (fxy.f(), fxy.x(), fxy.y());
-    [
-        b'0' + f % 10,
-        b'0' + x / 10 % 10,
-        b'0' + x % 10,
-        b'0' + y / 100 % 10,
-        b'0' + y / 10 % 10,
-        b'0' + y % 10,
-        b' ',
-    ]
 }

@@ -34,15 +34,15 @@ returns-in_default c =
     (has (goal.at.returns-in_default c).After-behind_first)
     (titled_words text title ws c.requires.titled c.behind_first.ensures) c.in_default.ensures.none)
 
--- digits that are those of no octets have L2, unless memory is wanting
-pub returns-in-Err : goal.returns-in-Err
-returns-in-Err c =
-    let on = goal.at.returns-in-Err c in
-    undecoded_is c.in-Some.digits.now c.in-Err.fault c.undecoded.result
-    (BadValue c.args.line.number) _ c.undecoded.ensures.memory c.undecoded.ensures.digits
+-- digits that are those of no octets have L2
+pub returns-in_default-fault : goal.returns-in_default-fault
+returns-in_default-fault c =
+    let on = goal.at.returns-in_default-fault c in
+    rw c.bad_value.ensures (undecoded_is c.in-Some.digits.now c.in-Err.fault
+    (BadValue c.args.line.number) _ c.in_default-fault.not-OutOfMemory
     (λ none. octets_are_bad c.args.title.now c.args.line.number c.args.line.text.now
     c.in-Some.digits.now (has on.After-behind_first) (in_words on.In-Some) (ap octets_by none))
-    c.in-Err.ensures.err
+    c.in-Err.ensures.err)
 
 -- digits of no octet at all have L2
 pub returns-in-Ok : goal.returns-in-Ok
@@ -51,7 +51,7 @@ returns-in-Ok c =
     let items = c.in-Ok.octets.items in
     let none : (length items == 0) ≡ true = ap (λ (n : ℕ). n == 0) (sym c.in-Ok.octets.ok.0)
     ∙ sym c.is_empty.ensures ∙ c.if-is_empty.true in
-    rw c.bad_value.ensures (octets_are_bad c.args.title.now c.args.line.number
+    rw c.bad_value-in-Ok.ensures (octets_are_bad c.args.title.now c.args.line.number
     c.args.line.text.now c.in-Some.digits.now (has on.After-behind_first) (in_words on.In-Some)
     (ap octets_by c.in-Ok.ensures.ok ∙ nil_from_length items (eqb-true (length items) 0 none)))
 

@@ -48,7 +48,7 @@ returns-in-Some-clause-read c =
     c.requires.word c.requires.short c.requires.plain
     (in_words (goal.at.returns-in-Some-clause-read c).After-behind_first-words) found)
 
--- where they are none, it has L2 if they are as many as the limits, else L1
+-- where they are none, it has L2 if they are as many as the limits
 pub returns-in-None-clause-read : goal.returns-in-None-clause-read
 returns-in-None-clause-read c =
     let title = c.args.title.now in
@@ -57,10 +57,29 @@ returns-in-None-clause-read c =
     let none =
     sym c.in_ok-found.ensures
     ∙ ap (λ (o : Option (Vec ℕ Global)). option_map (λ ns. ns.items) o) c.in-None.is in
-    rw c.wrong_words.ensures (taken_err (read_numbers title limits) (past c.args.lines.now)
+    rw c.bad_value.ensures (taken_err (read_numbers title limits) (past c.args.lines.now)
     (left c.args.lines.now) (printed c.in_ok-line.line) (left c.take.new.self)
-    (Fault (if c.has_count.result then BadValue n else BadLine n)) c.in_ok-line.ensures.taken
+    (Fault (BadValue n)) c.in_ok-line.ensures.taken
     (numbers_are_not title limits n c.in_ok-line.line.text.now
     (words_left c.behind_first-words.result) c.requires.word c.requires.short c.requires.plain
     (in_words (goal.at.returns-in-None-clause-read c).After-behind_first-words) none
-    ∙ ap (λ b. Err (if b then BadValue n else BadLine n)) (sym c.has_count.ensures)))
+    ∙ ap (λ b. Err (if b then BadValue n else BadLine n))
+    (sym c.has_count.ensures ∙ c.if-has_count.true)))
+
+-- else it has L1
+pub returns-in-None-2-clause-read : goal.returns-in-None-2-clause-read
+returns-in-None-2-clause-read c =
+    let title = c.args.title.now in
+    let limits = c.args.limits.now in
+    let n = c.in_ok-line.line.number in
+    let none =
+    sym c.in_ok-found.ensures
+    ∙ ap (λ (o : Option (Vec ℕ Global)). option_map (λ ns. ns.items) o) c.in-None-2.is in
+    rw c.bad_line-in-None-2.ensures (taken_err (read_numbers title limits) (past c.args.lines.now)
+    (left c.args.lines.now) (printed c.in_ok-line.line) (left c.take.new.self)
+    (Fault (BadLine n)) c.in_ok-line.ensures.taken
+    (numbers_are_not title limits n c.in_ok-line.line.text.now
+    (words_left c.behind_first-words.result) c.requires.word c.requires.short c.requires.plain
+    (in_words (goal.at.returns-in-None-2-clause-read c).After-behind_first-words) none
+    ∙ ap (λ b. Err (if b then BadValue n else BadLine n))
+    (sym c.has_count.ensures ∙ c.if-has_count.false)))
