@@ -12,7 +12,7 @@ use bufr_message::laws::messages_are_spelt;
 
 /// How many of some frames spell a message, how many do not, and how many of the reports of these
 /// messages, added one by one, changed what was kept.
-#[derive(Clone, Copy, Debug, Drop)]
+#[derive(Clone, Copy, Drop)]
 pub(crate) struct Counts {
     pub(crate) messages: u128,
     pub(crate) refused: u128,

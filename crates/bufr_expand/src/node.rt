@@ -23,7 +23,7 @@ pub enum Node {
 }
 
 /// How often a replication's body stands: a number of times, or as its factor says.
-#[derive(Clone, Copy, Debug, PartialEq, Eq)]
+#[derive(Clone, Copy)]
 pub enum Repetitions {
     /// So many turns.
     Times(u64),

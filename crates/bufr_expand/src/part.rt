@@ -8,7 +8,6 @@ ghost use Rattle.bufr_expand.specs.Expansion.{found_at, element_found, sequence_
 ghost use Rattle.bufr_expand.specs.Expansion.{replication_found, repeated_found, delayed_found};
 ghost use Rattle.bufr_expand.specs.Expansion.{factor_row, is_factor_row, operator_found};
 ghost use Rattle.bufr_expand.specs.Expansion.{width_found, local_found, number_found};
-ghost use Rattle.bufr_expand.specs.Expansion.{text_of_characters, local_number};
 ghost use Rattle.bufr_expand.specs.Expansion as expansion;
 ghost use Rattle.bufr_expand.specs.Parts.{seen};
 
@@ -17,7 +16,7 @@ use crate::node::{Node, Repetitions, TemplateFault};
 use bufr_tables::{Element, Fxy, Kind, Tables};
 
 /// One node, the list of a sequence, or a replication of the descriptors of a list.
-#[derive(Clone, Copy, Debug)]
+#[derive(Clone, Copy)]
 pub enum Part<'a> {
     /// One node.
     Single(Node),
@@ -28,7 +27,7 @@ pub enum Part<'a> {
 }
 
 /// A part, and how many of the descriptors behind its first belong to it.
-#[derive(Clone, Copy, Debug)]
+#[derive(Clone, Copy)]
 pub struct FirstPart<'a> {
     /// What stands there.
     pub part: Part<'a>,
@@ -192,33 +191,17 @@ fn operator_found<'a>(
     match first.x() {
         1 | 2 | 7 | 8 => Ok(single(Node::Operator(first), 0)),
         5 | 6 if first.y() == 0 => Err(TemplateFault::BadOperand(first)),
-        5 => Ok(single(Node::Untouched(first, text_of_characters(first.y())), 0)),
+        5 => {
+            let text = Element {
+                kind: Kind::Text,
+                scale: 0,
+                reference: 0,
+                width: 8 * first.y() as u32,
+            };
+            Ok(single(Node::Untouched(first, text), 0))
+        }
         6 => width_found(tables, first, behind),
         _ => Err(TemplateFault::UnsupportedOperator(first)),
-    }
-}
-
-/// So many characters stand in the data.
-fn text_of_characters(count: u8) -> Element
-    ensures { result ≡ text_of_characters count }
-{
-    Element {
-        kind: Kind::Text,
-        scale: 0,
-        reference: 0,
-        width: 8 * count as u32,
-    }
-}
-
-/// A number of so many bits that no table describes.
-fn local_number(width: u8) -> Element
-    ensures { result ≡ local_number width }
-{
-    Element {
-        kind: Kind::Quantity,
-        scale: 0,
-        reference: 0,
-        width: width as u32,
     }
 }
 
@@ -249,6 +232,14 @@ fn local_found<'a>(tables: &Tables, first: Fxy, local: Fxy) -> Result<FirstPart<
             Ok(single(Node::Untouched(local, *element), 1))
         }
         _ if u32::from(first.y()) > MOST_NUMBER_BITS => Err(TemplateFault::BadOperand(first)),
-        _ => Ok(single(Node::Untouched(local, local_number(first.y())), 1)),
+        _ => {
+            let number = Element {
+                kind: Kind::Quantity,
+                scale: 0,
+                reference: 0,
+                width: first.y() as u32,
+            };
+            Ok(single(Node::Untouched(local, number), 1))
+        }
     }
 }

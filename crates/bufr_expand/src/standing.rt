@@ -5,7 +5,7 @@ use crate::walk::WalkFault;
 use bufr_tables::Fxy;
 
 /// A replication that the walk is in.
-#[derive(Clone, Copy, Debug, PartialEq, Eq)]
+#[derive(Clone, Copy, Debug)]
 pub struct Open {
     /// How many more turns there are.
     pub turns: u64,
@@ -18,7 +18,7 @@ pub struct Open {
 }
 
 /// A number that was asked for and has not been told yet.
-#[derive(Clone, Copy, Debug, PartialEq, Eq)]
+#[derive(Clone, Copy, Debug)]
 pub struct Asked {
     /// The descriptor of its field.
     pub fxy: Fxy,
@@ -30,7 +30,7 @@ pub struct Asked {
 }
 
 /// What a walk does next.
-#[derive(Clone, Copy, Debug, PartialEq, Eq)]
+#[derive(Clone, Copy, Debug)]
 pub enum State {
     /// It goes on to the next node.
     Going,

@@ -286,7 +286,7 @@ impl<'t> Walk<'t> {
         ensures order { IfSome result (λ turn. turn.from ≤ turn.to) }
         ensures within { IfSome result (λ turn. turn.to ≤ length self.now.nodes.now) }
     {
-        if self.state != State::Going || self.place < self.stop {
+        if !matches!(self.state, State::Going) || self.place < self.stop {
             return None;
         }
         let turn = *self.loops.last()?;

@@ -19,7 +19,7 @@ pub const LONGEST: usize = 16_777_215;
 pub const HEAD: usize = 7;
 
 /// What stands at a place.
-#[derive(Clone, Copy, Debug)]
+#[derive(Clone, Copy)]
 pub enum Start {
     /// A frame of so many octets.
     Frame(usize),

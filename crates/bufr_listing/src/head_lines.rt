@@ -129,7 +129,7 @@ fn octets_of(alloc: Global, line: TextLine, title: &[u8]) -> Result<Vec<u8>, Fai
 }
 
 /// What the line of the flags says.
-#[derive(Clone, Copy, Debug, Drop)]
+#[derive(Clone, Copy, Drop)]
 pub struct Flags {
     /// Whether the data are observed.
     pub observed: bool,

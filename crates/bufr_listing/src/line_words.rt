@@ -14,7 +14,7 @@ use bufr_tables::Fxy;
 use std::alloc::Global;
 
 /// The words that are left of a line: none, or those of a text, which are parted by one space.
-#[derive(Clone, Copy, Debug)]
+#[derive(Clone, Copy)]
 pub struct Words<'a> {
     rest: Option<&'a [u8]>,
 }

@@ -21,7 +21,7 @@ use std::collections::BTreeMap;
 use std::marker::Model;
 
 /// The sequences whose rows have ended, and the one whose rows are at hand.
-#[derive(Debug, Drop)]
+#[derive(Drop)]
 pub(crate) struct SequenceRows {
     ended: BTreeMap<Fxy, Items<Fxy>>,
     open_one: Option<(Fxy, Vec<Fxy>)>,
