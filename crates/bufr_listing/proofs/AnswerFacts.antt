@@ -1,6 +1,7 @@
--- What a call answers that answers the messages that a text lists: for `read`.
-use Rattle.std.proofs.Common.{◌≡◌, ℕ, List, Result, Ok, Err, subst}
-use Rattle.std.specs.Prelude.{IfOk}
+-- What a call answers that answers the messages that a text lists, for `read`; and octets that may be
+-- absent, for `head_of`.
+use Rattle.std.proofs.Common.{◌≡◌, ℕ, List, [], Vec, Global, Result, Ok, Err, unwrap_or, refl, subst}
+use Rattle.std.specs.Prelude.{IfOk, Option, Some, None, option_map}
 use Rattle.bufr_answers.specs.Answers.{Gives}
 use Rattle.bufr_tables.specs.Entries.{Entries}
 use Rattle.bufr_answers.specs.declared.failure.Failure.{Failure}
@@ -44,3 +45,9 @@ pub first_fault_answered : {X : Type 0} → FirstFaultsAreRead → (tables : Ent
     → FirstFault tables text fault → Gives view r (Err fault)
 first_fault_answered law tables text view r exact fault first =
     subst (Gives view r) (law tables text fault first) exact
+
+-- octets that may be absent, or none
+pub local_items : (o : Option (Vec ℕ Global)) (none : Vec ℕ Global) → none.items ≡ []
+    → (unwrap_or o none).items ≡ unwrap_or (option_map (λ v. v.items) o) []
+local_items None none e = e
+local_items (Some octets) none e = refl

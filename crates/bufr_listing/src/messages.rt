@@ -1,6 +1,6 @@
 //! Reading listings.
 
-ghost use Rattle.std.specs.Prelude.{◌≡◌, List, Some, true, Ok, Err, IfOk};
+ghost use Rattle.std.specs.Prelude.{◌≡◌, List, true, Ok, Err, IfOk, option_map};
 ghost use Rattle.bufr_answers.specs.Answers.{Gives};
 ghost use Rattle.bufr_listing.specs.Cursors.{left, past};
 ghost use Rattle.bufr_listing.specs.Lines.{Line, Listed};
@@ -123,18 +123,16 @@ fn read_head(alloc: Global, lines: &mut Lines) -> Result<Head, Failure<ListingFa
     read_word(lines, b"message")?;
     let numbers = read_numbers(alloc, lines, b"section1", &SECTION1_LIMITS)?;
     let time = read_numbers(alloc, lines, b"time", &TIME_LIMITS)?;
-    let local = match read_local(alloc, lines)? {
-        None => Vec::new(alloc),
-        Some(octets) => octets,
-    };
-    Ok(head_of(&numbers, &time, local))
+    let local = read_local(alloc, lines)?;
+    Ok(head_of(alloc, &numbers, &time, local))
 }
 
-/// Section 1 of its numbers, those of its time, and its octets for local use.
-fn head_of(numbers: &[u64], time: &[u64], local: Vec<u8>) -> Head
+/// Section 1 of its numbers, those of its time, and its octets for local use, if there are any.
+#[tactic(auto, using(crate::proofs::AnswerFacts::local_items))]
+fn head_of(alloc: Global, numbers: &[u64], time: &[u64], local: Option<Vec<u8>>) -> Head
     requires numbers { are_below section1_limits numbers.now ≡ true }
     requires time { are_below time_limits time.now ≡ true }
-    ensures { result ≡ head_with numbers.now time.now (Some local.items) }
+    ensures { result ≡ head_with numbers.now time.now (option_map (λ v. v.items) local) }
 {
     Head {
         centre: numbers[0] as u16,
@@ -151,6 +149,6 @@ fn head_of(numbers: &[u64], time: &[u64], local: Vec<u8>) -> Head
         hour: time[3] as u8,
         minute: time[4] as u8,
         second: time[5] as u8,
-        local: Items::from_vec(local),
+        local: Items::from_vec(local.unwrap_or(Vec::new(alloc))),
     }
 }
