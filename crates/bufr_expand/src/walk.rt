@@ -82,22 +82,8 @@ impl<'t> Walk<'t> {
         ensures answered { IfOk result (λ w. waits w ≡ false) }
         ensures items { IfOk result (λ w. items_met w ≡ used) }
     {
-        Walk::over(alloc, template.as_slice(), template.levels(), used)
-    }
-
-    /// At the front of some nodes, of which so many are replications.
-    pub(crate) fn over(
-        alloc: Global,
-        nodes: &'t [Node],
-        levels: usize,
-        used: u64,
-    ) -> Result<Walk<'t>, OutOfMemory>
-        requires counted { levels ≡ replications nodes.now }
-        ensures course { IfOk result (λ w. left w ≡ course (tree_of nodes.now) used) }
-        ensures answered { IfOk result (λ w. waits w ≡ false) }
-        ensures items { IfOk result (λ w. items_met w ≡ used) }
-    {
-        let loops = Vec::with_capacity(alloc, levels)?;
+        let loops = Vec::with_capacity(alloc, template.levels())?;
+        let nodes = template.as_slice();
         Ok(Walk {
             nodes,
             place: 0,
@@ -268,7 +254,10 @@ impl<'t> Walk<'t> {
         ensures turns { IfSome result (λ found. TurnsRun found.0.turns
             (tree_between self.now.nodes.now found.0.from found.0.to) self.now.operators found.1) }
     {
-        let turn = self.innermost()?;
+        if !matches!(self.state, State::Going) || self.place < self.stop {
+            return None;
+        }
+        let turn = *self.loops.last()?;
         if turn.turns == 0 || self.items > MOST_ITEMS {
             return None;
         }
@@ -278,19 +267,6 @@ impl<'t> Walk<'t> {
             return None;
         }
         Some((turn, run))
-    }
-
-    /// The innermost replication that is open, where the nodes at hand are passed.
-    fn innermost(&self) -> Option<Open>
-        ensures innermost { IfSome result (λ turn. IsInnermost self.now turn) }
-        ensures order { IfSome result (λ turn. turn.from ≤ turn.to) }
-        ensures within { IfSome result (λ turn. turn.to ≤ length self.now.nodes.now) }
-    {
-        if !matches!(self.state, State::Going) || self.place < self.stop {
-            return None;
-        }
-        let turn = *self.loops.last()?;
-        Some(turn)
     }
 
     /// Stops at a fault.
