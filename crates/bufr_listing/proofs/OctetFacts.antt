@@ -13,10 +13,7 @@ use Rattle.std.proofs.lemmas.List.{append-nil, length-map}
 use Rattle.std.proofs.lemmas.Option.{none-some, same_Some}
 use Rattle.hex.specs.declared.error.FromHexError.{FromHexError}
 use Rattle.hex.specs.declared.error.FromHexError.TheVariants as hexes
-use Rattle.bufr_answers.specs.Answers.{Fails}
 use Rattle.bufr_answers.specs.AnswerLaws.{ok_is}
-use Rattle.bufr_answers.specs.declared.failure.Failure.{Failure}
-use Rattle.bufr_answers.specs.declared.failure.Failure.TheVariants.{Fault, OutOfMemory}
 use Rattle.hex.specs.Hex.{hex_digit_value, digit_or_error, value_at, pair_value, lower_digits}
 use Rattle.hex.specs.Hex.{encode_with, encode_lower, decode_pairs, decode_of, ◌>>=◌}
 use Rattle.hex.proofs.HexLemmas.{IsDigits-lower_digits}

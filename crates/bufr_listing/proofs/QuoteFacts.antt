@@ -1,4 +1,4 @@
--- What stands for a value, and octets between quotes that stand for themselves: for `push_value`
+-- What stands for a value, and octets between quotes that stand for themselves: for `push_words`
 -- and `push_characters`.
 use Rattle.std.proofs.Common.{◌≡◌, ℕ, List, [], ◌∷◌, ◌++◌, refl, ap, ◌∙◌, Result, Ok, Err, OnOk, codes}
 use Rattle.std.specs.Prelude.{Bool, true, false, ◌&&◌, if◌then◌else◌, is_ok, Option, Some, None}
