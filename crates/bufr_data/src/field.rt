@@ -64,6 +64,34 @@ pub struct Field {
     pub raw: Raw,
 }
 
+/// A field of a subset whose raw value is a number: it takes no memory, and can be copied.
+#[derive(Clone, Copy, Debug, PartialEq)]
+pub struct NumberField {
+    /// The descriptor of its element.
+    pub fxy: Fxy,
+    /// How it is coded.
+    pub spec: Spec,
+    /// The number that stands in its bits.
+    pub number: u64,
+}
+
+impl NumberField {
+    ghost use Rattle.std.specs.Prelude.{◌≡◌};
+    ghost use Rattle.bufr_data.specs.Handed.{as_field};
+    ghost use Rattle.bufr_data.specs.Values.{is_missing};
+
+    /// Whether all bits are one, and the width is not 1, as `Field::is_missing` says.
+    pub fn is_missing(self) -> bool
+        ensures { result ≡ is_missing (as_field self) }
+    {
+        let width = self.spec.width;
+        is_greatest(self.number, width)
+            && is_below(self.number, width)
+            && width != 1
+            && !matches!(self.spec.kind, Kind::Text | Kind::Count)
+    }
+}
+
 impl Field {
     ghost use Rattle.std.specs.Prelude.{◌≡◌};
     ghost use Rattle.bufr_data.specs.Plain.{matches_spec};

@@ -27,7 +27,7 @@ pub use compressed::read::read_compressed;
 pub use compressed::write::write_compressed;
 pub use data_template::DataTemplate;
 pub use fault::{ReadFault, WriteFault};
-pub use field::{Decimal, Field, Raw, Subset};
+pub use field::{Decimal, Field, NumberField, Raw, Subset};
 pub use fields::Fields;
 pub use limits::{MOST_DECIMAL_SCALE, MOST_INCREMENT_BITS, MOST_RAW_BITS, MOST_VALUES};
 pub use plain::laid_fields::LaidFields;

@@ -1,22 +1,25 @@
 //! The fields of a plain subset, one at a time, where they are laid out.
 
-ghost use Rattle.std.specs.Prelude.{◌≡◌, ◌≤◌, ◌*◌, Bool, List, length, drop, IfOk, IsOk};
+ghost use Rattle.std.specs.Prelude.{◌≡◌, ◌≤◌, ◌*◌, Bool, List, length, drop, Some, Ok, IfOk, IsOk, IfSome, IfNone};
 ghost use Rattle.bufr_bits.specs.Bits.{bits};
 ghost use Rattle.bufr_bits.specs.Ends.{left};
+ghost use Rattle.bufr_data.specs.declared.field.Raw.TheVariants.{Number};
 ghost use Rattle.bufr_data.specs.Handed.{HandsOut, HandsOutAsked, FirstIsAsked, PassesUnasked};
-ghost use Rattle.bufr_data.specs.Handed.{PassesLaid, StandLaid, fields_laid, moved_on};
+ghost use Rattle.bufr_data.specs.Handed.{PassesLaid, StandLaid, fields_laid, moved_on, as_field};
 ghost use Rattle.bufr_data.specs.Plain.{fields_at, raw_at};
 ghost use Rattle.bufr_data.specs.Plain.Layouts.{laid_course};
 ghost use Rattle.bufr_data.specs.Plain.Reads.{raw_or_ends};
 ghost use Rattle.bufr_data.specs.Plain.Starts.{PassesRaw, fields_of};
 
-use crate::field::Field;
+use crate::field::{Field, NumberField};
+use crate::limits::MOST_RAW_BITS;
 use crate::plain::layout::{LaidField, Layout};
 use crate::plain::pass::bits_of;
 use crate::plain::read::read_raw;
 use bufr_answers::OutOfMemory;
 use bufr_bits::BitReader;
 use bufr_expand::{Asks, Spec};
+use bufr_tables::Kind;
 use std::alloc::Global;
 use std::marker::Model;
 
@@ -94,6 +97,30 @@ impl<'v> LaidFields<'v> {
         self.next(alloc)
     }
 
+    /// The first of the fields that are left and are asked for, where it is a number, and then those
+    /// behind it are left. `None` where it is a text, and where none is asked for; then those before
+    /// it are passed, and `next_asked` goes on. No field is built.
+    // A call would move each field through memory.
+    #[inline(always)]
+    pub fn next_asked_number<A: Asks>(&mut self) -> Option<NumberField>
+        ensures found { IfSome result (λ number.
+            HandsOutAsked A.is_asked self.old (Some (as_field number)) self.new) }
+        ensures others { IfNone result (PassesUnasked A.is_asked self.old self.new) }
+    {
+        self.pass_unasked::<A>();
+        let Some((field, others)) = self.fields.split_first() else {
+            return None;
+        };
+        let field = *field;
+        let number = read_number(field.spec, &mut self.reader)?;
+        self.fields = others;
+        Some(NumberField {
+            fxy: field.fxy,
+            spec: field.spec,
+            number,
+        })
+    }
+
     /// Passes the fields in front that are not asked for, all at once; none of them is read.
     fn pass_unasked<A: Asks>(&mut self)
         ensures passed { PassesUnasked A.is_asked self.old self.new }
@@ -102,6 +129,21 @@ impl<'v> LaidFields<'v> {
         let (fields, bits) = first_asked::<A>(self.fields, &self.reader);
         move_on(&mut self.reader, bits);
         self.fields = fields;
+    }
+}
+
+/// The number of a field of this spec at the front of the bits. `None` where it is a text, and where
+/// it is not there; the reader then stays where it is.
+#[inline(always)]
+fn read_number(spec: Spec, reader: &mut BitReader) -> Option<u64>
+    ensures found { IfSome result (λ number.
+        raw_or_ends 1 1 (raw_at spec (left reader.old)) ≡ Ok (Number number, left reader.new)) }
+    ensures unmoved { IfNone result (reader.new ≡ reader.old) }
+{
+    match spec.kind {
+        Kind::Text => None,
+        _ if spec.width > MOST_RAW_BITS => None,
+        _ => reader.take(spec.width),
     }
 }
 

@@ -1,0 +1,33 @@
+-- For `LaidFields::next_asked_number`: the first behind those that were passed is handed out where it
+-- is a number.
+use Rattle.std.proofs.Common.{Some, sym, ◌∙◌}
+use Rattle.bufr_data.specs.declared.field.Raw.TheVariants.{Number}
+use Rattle.bufr_data.specs.declared.field.NumberField.{NumberField}
+use Rattle.bufr_data.specs.Handed.{as_field, fields_laid}
+use Rattle.bufr_data.proofs.AskedFacts.{asked_handed}
+use Rattle.bufr_data.proofs.PlainFacts.Layouts.{first_handed}
+use Rattle.bufr_data.proofs.plain.laid_fields.LaidFields.next_asked_number.Goals as goal
+
+-- behind the field all others are there
+pub invariant_of-self-2 : goal.invariant_of-self-2
+invariant_of-self-2 g c =
+    (first_handed c.self.inside.fields.now c.in-Some.others.now c.in-Some.field.now
+    c.self.inside.reader c.read_number.new.reader (Number c.in_ok-number.number)
+    c.in-Some.ensures.cases.0 c.self.invariant c.in_ok-number.ensures.found).there
+
+-- the field is asked for, and those behind it are left
+pub returns-clause-found : goal.returns-clause-found
+returns-clause-found g c =
+    let field = c.in-Some.field.now in
+    let number : NumberField = record {
+      fxy = field.fxy;
+      spec = field.spec;
+      number = c.in_ok-number.number;
+    } in
+    let h =
+    first_handed c.self.inside.fields.now c.in-Some.others.now field c.self.inside.reader
+    c.read_number.new.reader (Number c.in_ok-number.number) c.in-Some.ensures.cases.0
+    c.self.invariant c.in_ok-number.ensures.found in
+    asked_handed g.A.Asks.is_asked c.args.self.now c.pass_unasked.new.self
+    (fields_laid c.in-Some.others.now c.read_number.new.reader) (Some (as_field number))
+    c.pass_unasked.ensures.passed c.pass_unasked.ensures.asked (sym c.self.view_is ∙ h.is)
