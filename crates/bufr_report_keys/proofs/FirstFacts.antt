@@ -9,7 +9,7 @@ use Rattle.std.proofs.lemmas.List.{append-nil, take_more}
 use Rattle.std.proofs.lemmas.List.Folds.{find-append}
 use Rattle.bufr_tables.specs.Descriptors.{descriptor}
 use Rattle.bufr_data.specs.declared.field.Field.{Field}
-use Rattle.bufr_data.specs.Handed.{HandsOutAsked, NoneAsked}
+use Rattle.bufr_data.specs.Handed.{HandsOutAsked, NoneAsked, PassesUnasked}
 use Rattle.bufr_message.specs.declared.report.ReportHead.{ReportHead}
 use Rattle.bufr_report_keys.specs.declared.first_values.FirstValues.{FirstValues}
 use Rattle.bufr_report_keys.specs.Usable.{◌>>=◌, first_field, element_number, element_text}
@@ -140,6 +140,12 @@ passed [] rest values none = refl
 passed (f ∷ unasked) rest values none =
     ap (all_noted (unasked ++ rest)) (not_noted f none.0 values)
     ∙ passed unasked rest values none.1
+
+-- so it is where they are passed
+pub all_passed : (old new : List Field) (values : FirstValues) → PassesUnasked is_asked old new
+    → all_noted old values ≡ all_noted new values
+all_passed old new values by =
+    ap (λ fields. all_noted fields values) by.2 ∙ passed by.0 new values by.1
 
 -- the next that is asked for is noted
 pub next_noted : (old new : List Field) (f : Field) (values : FirstValues)

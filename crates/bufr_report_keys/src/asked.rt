@@ -54,15 +54,20 @@ pub(crate) fn values_of(alloc: Global, fields: Fields<'_>) -> Result<FirstValues
     }
 }
 
-/// The same of fields that are laid out.
+/// The same of fields that are laid out, of which no number is built.
 fn values_laid(alloc: Global, mut fields: LaidFields<'_>) -> Result<FirstValues, OutOfMemory>
     ensures { IfOk result (λ values. values ≡ first_values fields.entry) }
 {
     let mut values = FirstValues::none();
-    while let Some(field) = fields.next_asked::<KeyElements>(alloc)? {
-        values.note(field);
+    loop {
+        if let Some(number) = fields.next_asked_number::<KeyElements>() {
+            values.note_number(number);
+        } else if let Some(field) = fields.next_asked::<KeyElements>(alloc)? {
+            values.note(field);
+        } else {
+            return Ok(values);
+        }
     }
-    Ok(values)
 }
 
 /// The same of any fields.

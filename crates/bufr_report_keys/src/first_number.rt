@@ -1,10 +1,11 @@
 //! What the first field of an element says whose value is a number.
 ghost use Rattle.std.specs.Prelude.{◌≡◌, None, Some};
 ghost use Rattle.std.specs.Option.{option_flatten, option_or};
+ghost use Rattle.bufr_data.specs.Handed.{as_field};
 ghost use Rattle.bufr_report_keys.specs.Usable.{usable_number};
 
-use crate::usable::usable_number;
-use bufr_data::Field;
+use crate::usable::{usable, usable_number};
+use bufr_data::{Field, NumberField};
 use std::marker::Model;
 
 /// What the first field of an element says: no field of it was met, its number does not count, or
@@ -46,6 +47,19 @@ impl FirstNumber {
     {
         if let Said::Unmet = self.said {
             self.said = match usable_number(field) {
+                Some(number) => Said::Number(number),
+                None => Said::Unusable,
+            };
+        }
+    }
+
+    /// The same of a number.
+    #[inline(always)]
+    pub(crate) fn note_number(&mut self, field: NumberField)
+        ensures { self.new ≡ option_or self.old (Some (usable_number (as_field field))) }
+    {
+        if let Said::Unmet = self.said {
+            self.said = match usable(field) {
                 Some(number) => Said::Number(number),
                 None => Said::Unusable,
             };

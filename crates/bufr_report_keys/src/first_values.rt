@@ -1,12 +1,12 @@
 //! What the first field of each element says that a key asks for.
-ghost use Rattle.std.specs.Prelude.{◌≡◌, [], Some};
+ghost use Rattle.std.specs.Prelude.{◌≡◌, [], Some, None};
 ghost use Rattle.std.specs.Option.{option_or};
 ghost use Rattle.bufr_report_keys.specs.Usable.{usable_text};
 
 use crate::first_number::FirstNumber;
 use crate::usable::usable_text;
 use bufr_answers::Items;
-use bufr_data::Field;
+use bufr_data::{Field, NumberField};
 
 /// Of each element that a key asks for what its first field says: a usable number or text, or
 /// nothing that counts. An element of which no field was met has none.
@@ -41,6 +41,7 @@ pub(crate) struct FirstValues {
 }
 
 impl FirstValues {
+    ghost use Rattle.bufr_data.specs.Handed.{as_field};
     ghost use Rattle.bufr_report_keys.specs.FirstValues.{first_values, noted};
 
     /// Where no field was met.
@@ -87,6 +88,29 @@ impl FirstValues {
             _ => {}
         }
     }
+
+    /// Notes one more field, which is a number, in the same way.
+    #[inline(always)]
+    pub(crate) fn note_number(&mut self, field: NumberField)
+        ensures { self.new ≡ noted (as_field field) self.old }
+    {
+        match field.fxy.bits() {
+            257 => self.block.note_number(field),
+            258 => self.station.note_number(field),
+            267 => note_no_text(&mut self.mobile),
+            381 => self.series.note_number(field),
+            382 => self.issuer.note_number(field),
+            383 => self.issue.note_number(field),
+            384 => note_no_text(&mut self.local),
+            1025 => self.year.note_number(field),
+            1026 => self.month.note_number(field),
+            1027 => self.day.note_number(field),
+            1028 => self.hour.note_number(field),
+            1029 => self.minute.note_number(field),
+            1030 => self.second.note_number(field),
+            _ => {}
+        }
+    }
 }
 
 /// Notes the text of a field, where none of its element was met before.
@@ -95,5 +119,14 @@ fn note_text(value: &mut Option<Option<Items<u8>>>, field: Field)
 {
     if value.is_none() {
         *value = Some(usable_text(field));
+    }
+}
+
+/// Notes that a field has no text, where none of its element was met before.
+fn note_no_text(value: &mut Option<Option<Items<u8>>>)
+    ensures { value.new ≡ option_or value.old (Some None) }
+{
+    if value.is_none() {
+        *value = Some(None);
     }
 }

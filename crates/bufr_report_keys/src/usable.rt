@@ -1,9 +1,10 @@
 //! Which numbers and texts of fields count for a key.
 ghost use Rattle.std.specs.Prelude.{◌≡◌};
+ghost use Rattle.bufr_data.specs.Handed.{as_field};
 ghost use Rattle.bufr_report_keys.specs.Usable.{usable_number, is_blank, without_last_blanks, some_octets, usable_text};
 
 use bufr_answers::Items;
-use bufr_data::{Field, Raw};
+use bufr_data::{Field, NumberField, Raw};
 use bufr_tables::Kind;
 
 /// The number of a field that is not missing, is no text and has scale 0.
@@ -16,6 +17,21 @@ pub(crate) fn usable_number(field: &Field) -> Option<i128>
     match field.value() {
         Some(value) => Some(value.units),
         None => None,
+    }
+}
+
+/// The same of a number.
+#[inline(always)]
+pub(crate) fn usable(field: NumberField) -> Option<i128>
+    ensures { result ≡ usable_number (as_field field) }
+{
+    let NumberField { spec, number, .. } = field;
+    if spec.scale != 0 || field.is_missing() {
+        return None;
+    }
+    match spec.kind {
+        Kind::Text => None,
+        _ => Some(i128::from(number) + i128::from(spec.reference)),
     }
 }
 

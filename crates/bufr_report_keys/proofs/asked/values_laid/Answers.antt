@@ -1,25 +1,38 @@
--- For `values_laid`: the next field that is asked for is noted.
+-- For `values_laid`: the next field that is asked for is noted, a number or another.
 use Rattle.std.proofs.Common.{ap, sym, ◌∙◌}
-use Rattle.bufr_report_keys.proofs.FirstFacts.{all_noted, are_noted, next_noted, none_left}
+use Rattle.bufr_data.specs.Handed.{as_field}
+use Rattle.bufr_report_keys.proofs.FirstFacts.{all_noted, are_noted, all_passed, next_noted, none_left}
 use Rattle.bufr_report_keys.proofs.asked.values_laid.Goals as goal
 
 -- at first none is
-pub loop-values-init : goal.loop-values-init
-loop-values-init c =
+pub loop-number-init : goal.loop-number-init
+loop-number-init c =
     ap (all_noted c.args.fields) c.none-values.ensures ∙ are_noted c.args.fields
 
--- it is noted, and those in front of it are passed
-pub loop-values-preserved : goal.loop-values-preserved
-loop-values-preserved c =
-    let handed = rw c.in-Some.is at c.in_ok-field.ensures in
+-- a number is noted, and those in front of it are passed
+pub loop-number-preserved-in-Some : goal.loop-number-preserved-in-Some
+loop-number-preserved-in-Some c =
+    ap (all_noted c.next_asked_number.new.self) c.note_number.ensures
+    ∙ sym (next_noted c.loop-number.fields c.next_asked_number.new.self (as_field c.in-Some.number)
+    c.loop-number.values c.in-Some.ensures.found)
+    ∙ c.loop-number.invariant
+
+-- another is noted, once those in front of it are passed
+pub loop-number-preserved : goal.loop-number-preserved
+loop-number-preserved c =
+    let handed = rw c.in-Some-2.is at c.in_ok-field.ensures in
     ap (all_noted c.next_asked.new.self) c.note.ensures
-    ∙ sym (next_noted c.loop-values.fields c.next_asked.new.self c.in-Some.field
-    c.loop-values.values handed)
-    ∙ c.loop-values.invariant
+    ∙ sym (next_noted c.next_asked_number.new.self c.next_asked.new.self c.in-Some-2.field
+    c.loop-number.values handed)
+    ∙ sym (all_passed c.loop-number.fields c.next_asked_number.new.self c.loop-number.values
+    c.in_default.ensures.others)
+    ∙ c.loop-number.invariant
 
 -- at the end all are noted
-pub returns : goal.returns
-returns c =
-    sym (none_left c.loop-values.fields c.next_asked.new.self c.in_ok-field.field-0
-    c.loop-values.values c.in_ok-field.ensures c.in_default.not-Some)
-    ∙ c.loop-values.invariant
+pub returns-in_default-2 : goal.returns-in_default-2
+returns-in_default-2 c =
+    sym (none_left c.next_asked_number.new.self c.next_asked.new.self c.in_ok-field.field-0
+    c.loop-number.values c.in_ok-field.ensures c.in_default-2.not-Some)
+    ∙ sym (all_passed c.loop-number.fields c.next_asked_number.new.self c.loop-number.values
+    c.in_default.ensures.others)
+    ∙ c.loop-number.invariant

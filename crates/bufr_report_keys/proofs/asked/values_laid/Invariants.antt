@@ -5,9 +5,9 @@ use Rattle.bufr_report_keys.proofs.FirstFacts.{all_noted}
 use Rattle.bufr_report_keys.proofs.asked.values_laid.Given as goal
 
 -- once those that are left are noted too, it is known what the first of all say
-abbrev pub invariant-loop-values : goal.invariant-loop-values
-invariant-loop-values l = all_noted l.fields l.values ≡ first_values l.fn.fields
+abbrev pub invariant-loop-number : goal.invariant-loop-number
+invariant-loop-number l = all_noted l.fields l.values ≡ first_values l.fn.fields
 
 -- each turn leaves one less
-abbrev pub decreases-loop-values : goal.decreases-loop-values
-decreases-loop-values l = length l.fields
+abbrev pub decreases-loop-number : goal.decreases-loop-number
+decreases-loop-number l = length l.fields
