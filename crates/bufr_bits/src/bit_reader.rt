@@ -113,6 +113,18 @@ impl<'a> BitReader<'a> {
         Some(number)
     }
 
+    /// The next `width` bits as a number, the most significant first, of which so many are left.
+    pub fn take_left(&mut self, width: u32) -> u64
+        requires narrow { width ≤ 64 }
+        requires enough { width ≤ length (left self.old) }
+        ensures found { number_at width (left self.old) ≡ Some (result, left self.new) }
+        ensures moved { self.new ≡ record self.old { place = self.old.place + width } }
+    {
+        let number = field(self.octets, self.place, width);
+        self.place += u128::from(width);
+        number
+    }
+
     /// The next `n` octets, at any bit. There are none only where fewer bits are left, and the
     /// place is then unchanged. Answers `OutOfMemory` where the octets' copy was refused; the place
     /// is then unchanged too.

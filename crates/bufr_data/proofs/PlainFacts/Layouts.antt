@@ -223,7 +223,7 @@ then_there d spec after None ok = absurd cc
 then_there d spec after (Some x) ok = refl
 
 -- so the first that is laid out is there
-first_there : (others : List LaidField) (f : LaidField) (reader : BitPlace)
+pub first_there : (others : List LaidField) (f : LaidField) (reader : BitPlace)
     → StandLaid (f ∷ others) reader → IsOk (raw_or_ends 1 1 (raw_at f.spec (ends_of.left reader)))
 unfolding fields_at laid_course
 first_there others f reader stand =

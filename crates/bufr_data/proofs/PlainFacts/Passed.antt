@@ -1,10 +1,10 @@
 -- What is known of a plain subset over which the index moves without building its fields
 -- (`PlainSubsets::index`).
-use Rattle.std.proofs.Common.{◌≡◌, ℕ, ◌*◌, ◌/◌, ◌<◌, ◌≤◌, Bool, false, List}
+use Rattle.std.proofs.Common.{◌≡◌, ℕ, ◌*◌, ◌/◌, ◌<◌, ◌≤◌, Bool, true, false, List}
 use Rattle.std.proofs.Common.{◌++◌, length, take, drop, Some, None, Result, Ok, Err, refl, sym, ap}
-use Rattle.std.proofs.Common.{◌∙◌, arith}
-use Rattle.std.specs.Prelude.{option_map}
-use Rattle.std.proofs.lemmas.Bool.{le-ltb, lt-ltb, le-leb}
+use Rattle.std.proofs.Common.{◌∙◌, arith, subst}
+use Rattle.std.specs.Prelude.{option_map, IsOk, nat_le, nat_lt, if◌then◌else◌}
+use Rattle.std.proofs.lemmas.Bool.{le-ltb, lt-ltb, le-leb, leb-true, ltb-false}
 use Rattle.bufr_bits.specs.Bits.{number, number_at}
 use Rattle.bufr_tables.specs.declared.element.Kind.TheVariants as kinds
 use Rattle.bufr_tables.specs.Elements.{same_kind}
@@ -126,3 +126,34 @@ more_passed whole i next c later front rest items so_far step = (
   so_far.1 ∙ ap (behind_fields so_far.0) step.1
       ∙ behind_both so_far.0 step.0 (fields_at 1 next later rest),
 )
+
+-- ---- a number that is there
+
+-- a number has 64 bits at most, and all of them are there
+pub record HasBits (width : ℕ) (front : List Bool) : Type 0 where
+  pub narrow : width ≤ 64
+  pub enough : width ≤ length front
+
+-- so say both tests
+both_tests : (few short : Bool) (x : ℕ × List Bool)
+    → IsOk (raw_or_ends 1 1 (option_map (λ (y : ℕ × List Bool). (Number y.0, y.1))
+    (if few then (if short then None else Some x) else None)))
+    → (few ≡ true) × (short ≡ false)
+both_tests true false x ok = (refl, refl)
+both_tests true true x ok = absurd cc
+both_tests false short x ok = absurd cc
+
+-- so it is where it is read
+pub number_has_bits : (spec : Spec) (front : List Bool) → IsOther spec
+    → IsOk (raw_or_ends 1 1 (raw_at spec front)) → HasBits spec.width front
+unfolding number_at
+number_has_bits spec front other ok =
+    let raw = number_raw spec.kind spec.width front (other_kind spec.kind kinds.Text other) in
+    let tests =
+    both_tests (nat_le spec.width 64) (nat_lt (length front) spec.width)
+    (number (take spec.width front), drop spec.width front)
+    (subst IsOk (ap (raw_or_ends 1 1) raw) ok) in
+    record {
+      narrow = leb-true spec.width 64 tests.0;
+      enough = ltb-false (length front) spec.width tests.1;
+    }

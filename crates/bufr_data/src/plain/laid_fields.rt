@@ -12,7 +12,6 @@ ghost use Rattle.bufr_data.specs.Plain.Reads.{raw_or_ends};
 ghost use Rattle.bufr_data.specs.Plain.Starts.{PassesRaw, fields_of};
 
 use crate::field::{Field, NumberField};
-use crate::limits::MOST_RAW_BITS;
 use crate::plain::layout::{LaidField, Layout};
 use crate::plain::pass::bits_of;
 use crate::plain::read::read_raw;
@@ -132,18 +131,18 @@ impl<'v> LaidFields<'v> {
     }
 }
 
-/// The number of a field of this spec at the front of the bits. `None` where it is a text, and where
-/// it is not there; the reader then stays where it is.
+/// The number of a field of this spec, which is there at the front of the bits. `None` where it is a
+/// text; the reader then stays where it is.
 #[inline(always)]
 fn read_number(spec: Spec, reader: &mut BitReader) -> Option<u64>
+    requires { IsOk (raw_or_ends 1 1 (raw_at spec (left reader.old))) }
     ensures found { IfSome result (λ number.
         raw_or_ends 1 1 (raw_at spec (left reader.old)) ≡ Ok (Number number, left reader.new)) }
     ensures unmoved { IfNone result (reader.new ≡ reader.old) }
 {
     match spec.kind {
         Kind::Text => None,
-        _ if spec.width > MOST_RAW_BITS => None,
-        _ => reader.take(spec.width),
+        _ => Some(reader.take_left(spec.width)),
     }
 }
 

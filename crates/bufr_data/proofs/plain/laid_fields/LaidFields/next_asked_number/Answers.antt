@@ -1,12 +1,19 @@
 -- For `LaidFields::next_asked_number`: the first behind those that were passed is handed out where it
 -- is a number.
-use Rattle.std.proofs.Common.{Some, sym, ◌∙◌}
+use Rattle.std.proofs.Common.{Some, sym, subst, ◌∙◌}
 use Rattle.bufr_data.specs.declared.field.Raw.TheVariants.{Number}
 use Rattle.bufr_data.specs.declared.field.NumberField.{NumberField}
-use Rattle.bufr_data.specs.Handed.{as_field, fields_laid}
+use Rattle.bufr_data.specs.Handed.{StandLaid, as_field, fields_laid}
 use Rattle.bufr_data.proofs.AskedFacts.{asked_handed}
-use Rattle.bufr_data.proofs.PlainFacts.Layouts.{first_handed}
+use Rattle.bufr_data.proofs.PlainFacts.Layouts.{first_handed, first_there}
 use Rattle.bufr_data.proofs.plain.laid_fields.LaidFields.next_asked_number.Goals as goal
+
+-- the field is there
+pub read_number-requires : goal.read_number-requires
+read_number-requires g c =
+    first_there c.in-Some.others.now c.in-Some.field.now c.self.inside.reader
+    (subst (λ fields. StandLaid fields c.self.inside.reader) c.in-Some.ensures.cases.0
+    c.self.invariant)
 
 -- behind the field all others are there
 pub invariant_of-self-2 : goal.invariant_of-self-2
