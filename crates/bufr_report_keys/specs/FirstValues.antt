@@ -73,6 +73,22 @@ noted f values = record {
   second = known_number 4 6 f values.second;
 }
 
+-- the same where the field is of element d, which has no text, and says this number or none
+abbrev pub numbered : ℕ → Option ℤ → FirstValues → FirstValues
+numbered d number values = record values {
+  block = known (d == descriptor 0 1 1) values.block number;
+  station = known (d == descriptor 0 1 2) values.station number;
+  series = known (d == descriptor 0 1 125) values.series number;
+  issuer = known (d == descriptor 0 1 126) values.issuer number;
+  issue = known (d == descriptor 0 1 127) values.issue number;
+  year = known (d == descriptor 0 4 1) values.year number;
+  month = known (d == descriptor 0 4 2) values.month number;
+  day = known (d == descriptor 0 4 3) values.day number;
+  hour = known (d == descriptor 0 4 4) values.hour number;
+  minute = known (d == descriptor 0 4 5) values.minute number;
+  second = known (d == descriptor 0 4 6) values.second number;
+}
+
 -- ---- what they say
 
 -- the WMO station of these numbers

@@ -1,11 +1,7 @@
 //! What the first field of an element says whose value is a number.
 ghost use Rattle.std.specs.Prelude.{◌≡◌, None, Some};
 ghost use Rattle.std.specs.Option.{option_flatten, option_or};
-ghost use Rattle.bufr_data.specs.Handed.{as_field};
-ghost use Rattle.bufr_report_keys.specs.Usable.{usable_number};
 
-use crate::usable::{usable, usable_number};
-use bufr_data::{Field, NumberField};
 use std::marker::Model;
 
 /// What the first field of an element says: no field of it was met, its number does not count, or
@@ -41,25 +37,13 @@ impl FirstNumber {
         FirstNumber { said: Said::Unmet }
     }
 
-    /// Notes a field: it counts where none of its element was met before.
-    pub(crate) fn note(&mut self, field: &Field)
-        ensures { self.new ≡ option_or self.old (Some (usable_number field.now)) }
-    {
-        if let Said::Unmet = self.said {
-            self.said = match usable_number(field) {
-                Some(number) => Said::Number(number),
-                None => Said::Unusable,
-            };
-        }
-    }
-
-    /// The same of a number.
+    /// Notes what a field says: it counts where none of its element was met before.
     #[inline(always)]
-    pub(crate) fn note_number(&mut self, field: NumberField)
-        ensures { self.new ≡ option_or self.old (Some (usable_number (as_field field))) }
+    pub(crate) fn note(&mut self, number: Option<i128>)
+        ensures { self.new ≡ option_or self.old (Some number) }
     {
         if let Said::Unmet = self.said {
-            self.said = match usable(field) {
+            self.said = match number {
                 Some(number) => Said::Number(number),
                 None => Said::Unusable,
             };

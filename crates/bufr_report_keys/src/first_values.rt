@@ -4,7 +4,7 @@ ghost use Rattle.std.specs.Option.{option_or};
 ghost use Rattle.bufr_report_keys.specs.Usable.{usable_text};
 
 use crate::first_number::FirstNumber;
-use crate::usable::usable_text;
+use crate::usable::{number_of, usable_number, usable_text};
 use bufr_answers::Items;
 use bufr_data::{Field, NumberField};
 
@@ -42,7 +42,7 @@ pub(crate) struct FirstValues {
 
 impl FirstValues {
     ghost use Rattle.bufr_data.specs.Handed.{as_field};
-    ghost use Rattle.bufr_report_keys.specs.FirstValues.{first_values, noted};
+    ghost use Rattle.bufr_report_keys.specs.FirstValues.{first_values, noted, numbered};
 
     /// Where no field was met.
     pub(crate) fn none() -> FirstValues
@@ -72,20 +72,9 @@ impl FirstValues {
         ensures { self.new ≡ noted field self.old }
     {
         match field.fxy.bits() {
-            257 => self.block.note(&field),
-            258 => self.station.note(&field),
             267 => note_text(&mut self.mobile, field),
-            381 => self.series.note(&field),
-            382 => self.issuer.note(&field),
-            383 => self.issue.note(&field),
             384 => note_text(&mut self.local, field),
-            1025 => self.year.note(&field),
-            1026 => self.month.note(&field),
-            1027 => self.day.note(&field),
-            1028 => self.hour.note(&field),
-            1029 => self.minute.note(&field),
-            1030 => self.second.note(&field),
-            _ => {}
+            bits => self.note_said(bits, number_of(&field)),
         }
     }
 
@@ -95,19 +84,29 @@ impl FirstValues {
         ensures { self.new ≡ noted (as_field field) self.old }
     {
         match field.fxy.bits() {
-            257 => self.block.note_number(field),
-            258 => self.station.note_number(field),
             267 => note_no_text(&mut self.mobile),
-            381 => self.series.note_number(field),
-            382 => self.issuer.note_number(field),
-            383 => self.issue.note_number(field),
             384 => note_no_text(&mut self.local),
-            1025 => self.year.note_number(field),
-            1026 => self.month.note_number(field),
-            1027 => self.day.note_number(field),
-            1028 => self.hour.note_number(field),
-            1029 => self.minute.note_number(field),
-            1030 => self.second.note_number(field),
+            bits => self.note_said(bits, usable_number(field)),
+        }
+    }
+
+    /// Notes what one more field says that is no text, or that it says no number.
+    #[inline(always)]
+    fn note_said(&mut self, bits: u16, number: Option<i128>)
+        ensures { self.new ≡ numbered bits number self.old }
+    {
+        match bits {
+            257 => self.block.note(number),
+            258 => self.station.note(number),
+            381 => self.series.note(number),
+            382 => self.issuer.note(number),
+            383 => self.issue.note(number),
+            1025 => self.year.note(number),
+            1026 => self.month.note(number),
+            1027 => self.day.note(number),
+            1028 => self.hour.note(number),
+            1029 => self.minute.note(number),
+            1030 => self.second.note(number),
             _ => {}
         }
     }

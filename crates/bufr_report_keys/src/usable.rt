@@ -8,21 +8,8 @@ use bufr_data::{Field, NumberField, Raw};
 use bufr_tables::Kind;
 
 /// The number of a field that is not missing, is no text and has scale 0.
-pub(crate) fn usable_number(field: &Field) -> Option<i128>
-    ensures { result ≡ usable_number field.now }
-{
-    if field.spec.scale != 0 {
-        return None;
-    }
-    match field.value() {
-        Some(value) => Some(value.units),
-        None => None,
-    }
-}
-
-/// The same of a number.
 #[inline(always)]
-pub(crate) fn usable(field: NumberField) -> Option<i128>
+pub(crate) fn usable_number(field: NumberField) -> Option<i128>
     ensures { result ≡ usable_number (as_field field) }
 {
     let NumberField { spec, number, .. } = field;
@@ -32,6 +19,21 @@ pub(crate) fn usable(field: NumberField) -> Option<i128>
     match spec.kind {
         Kind::Text => None,
         _ => Some(i128::from(number) + i128::from(spec.reference)),
+    }
+}
+
+/// The same of any field.
+#[inline(always)]
+pub(crate) fn number_of(field: &Field) -> Option<i128>
+    ensures { result ≡ usable_number field.now }
+{
+    match field.raw {
+        Raw::Number(number) => usable_number(NumberField {
+            fxy: field.fxy,
+            spec: field.spec,
+            number,
+        }),
+        Raw::Text(_) => None,
     }
 }
 
