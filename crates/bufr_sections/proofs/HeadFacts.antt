@@ -1,9 +1,8 @@
--- What section 1 says, by the places of its octets behind its length: for `head4_of` and
--- `head3_of`, and for the law on refusals.
-use Rattle.std.proofs.Common.{◌≡◌, ℕ, ◌<◌, ◌≤◌, cond, get_or, List, ◌∷◌, length, drop, Ok, Err}
+-- What section 1 says, by the places of its octets behind its length: for the law on refusals.
+use Rattle.std.proofs.Common.{◌≡◌, ℕ, ◌≤◌, cond, get_or, List, ◌∷◌, length, drop, Ok, Err}
 use Rattle.std.proofs.Common.{refl, arith}
 use Rattle.std.specs.Prelude.{◌==◌, nat_le}
-use Rattle.bufr_sections.specs.declared.fault.Refused.TheVariants.{Section1Length, MasterTable}
+use Rattle.bufr_sections.specs.declared.fault.Refused.TheVariants.{MasterTable}
 use Rattle.bufr_sections.specs.Sections.{head4_of, head3_of}
 use Rattle.bufr_sections.specs.SectionsRead.{head4_with, head3_with}
 
@@ -18,15 +17,6 @@ head_is
     ∷ local) long = refl
 head_is _ long = absurd (omega arith)
 
--- where there are too few, section 1 is too short
-pub head_short : (xs : List ℕ) → length xs < 19 → head4_of xs ≡ Err Section1Length
-unfolding head4_of
-head_short
-    (master ∷ c1 ∷ c2 ∷ s1 ∷ s2 ∷ update ∷ flags ∷ category ∷ international ∷ local_category
-    ∷ master_version ∷ local_version ∷ y1 ∷ y2 ∷ month ∷ day ∷ hour ∷ minute ∷ second
-    ∷ local) short = absurd (omega arith)
-head_short _ short = refl
-
 -- the same of edition 3
 pub head3_is : (xs : List ℕ) → 14 ≤ length xs
     → head3_of xs ≡ cond (get_or xs 0 0 == 0) (Ok
@@ -36,11 +26,3 @@ head3_is
     (master ∷ sub_centre ∷ centre ∷ update ∷ flags ∷ category ∷ local_category ∷ master_version
     ∷ local_version ∷ year ∷ month ∷ day ∷ hour ∷ minute ∷ local) long = refl
 head3_is _ long = absurd (omega arith)
-
--- and where there are too few
-pub head3_short : (xs : List ℕ) → length xs < 14 → head3_of xs ≡ Err Section1Length
-unfolding head3_of
-head3_short
-    (master ∷ sub_centre ∷ centre ∷ update ∷ flags ∷ category ∷ local_category ∷ master_version
-    ∷ local_version ∷ year ∷ month ∷ day ∷ hour ∷ minute ∷ local) short = absurd (omega arith)
-head3_short _ short = refl

@@ -1,7 +1,7 @@
 //! How the editions of the standard lay section 1 out.
 
 ghost use Rattle.std.specs.Prelude.{◌≡◌};
-ghost use Rattle.bufr_sections.specs.Sections.{layout_of, shortest1};
+ghost use Rattle.bufr_sections.specs.Sections.{shortest1};
 
 /// The layout of section 1 in an edition that is read. The other sections are the same in all of
 /// them.
@@ -14,17 +14,6 @@ pub enum Layout {
 }
 
 impl Layout {
-    /// The layout of the edition of this number, where it is read.
-    pub(crate) fn of_edition(edition: u8) -> Option<Layout>
-        ensures { result ≡ layout_of edition }
-    {
-        match edition {
-            4 => Some(Layout::Edition4),
-            3 => Some(Layout::Edition3),
-            _ => None,
-        }
-    }
-
     /// The least length of section 1: its octets before those for local use.
     pub(crate) fn shortest(self) -> usize
         ensures { result ≡ shortest1 self }

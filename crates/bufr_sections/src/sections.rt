@@ -1,20 +1,19 @@
 //! The sections of a message, with no regard to what the data bits mean.
 
-ghost use Rattle.std.specs.Prelude.{◌≡◌, List, ℕ, Bool, Option, ◌≤◌, IfOk, length, drop};
+ghost use Rattle.std.specs.Prelude.{◌≡◌, List, ℕ, Bool, Option, ◌≤◌, drop};
 ghost use Rattle.bufr_answers.specs.Answers.{Gives};
 ghost use Rattle.bufr_sections.specs.declared.message.Head.{Head};
-ghost use Rattle.bufr_sections.specs.Sections.{three, section_at, room_in, room_of, head4_of};
-ghost use Rattle.bufr_sections.specs.Sections.{head3_of, head_of, year_of_century, section2_at};
-ghost use Rattle.bufr_sections.specs.Sections.{description_of, contents_of, sections_of};
-ghost use Rattle.bufr_sections.specs.Sections.{envelope_of};
-ghost use Rattle.bufr_sections.specs.SectionsRead.{envelope, description, head4_with, head3_with};
+ghost use Rattle.bufr_sections.specs.Sections.{three, section_at, room_of, head4_of, head3_of};
+ghost use Rattle.bufr_sections.specs.Sections.{head_of, year_of_century, section2_at};
+ghost use Rattle.bufr_sections.specs.Sections.{description_of, envelope_of};
+ghost use Rattle.bufr_sections.specs.SectionsRead.{envelope, description};
 
 use crate::envelope::Envelope;
 use crate::fault::Refused;
 use crate::layout::Layout;
 use crate::listed::number_of_two;
 use crate::message::Head;
-use bufr_answers::{Failure, Items, OutOfMemory};
+use bufr_answers::{Failure, Items};
 use std::alloc::Global;
 
 /// What section 3 says.
@@ -34,7 +33,7 @@ fn number_of_three(high: u8, middle: u8, low: u8) -> usize
 }
 
 /// The layout of the edition, and the room between section 0 and `7777`.
-#[tactic(auto, unfolding(crate::specs::Sections::room_of))]
+#[tactic(auto, unfolding(crate::specs::Sections::room_of, crate::specs::Sections::room_in))]
 fn room_of(octets: &[u8]) -> Result<(Layout, &[u8]), Failure<Refused>>
     ensures { Gives {Y = Layout × List ℕ} (λ x. (x.0, x.1.now)) result (room_of octets.now) }
 {
@@ -44,20 +43,12 @@ fn room_of(octets: &[u8]) -> Result<(Layout, &[u8]), Failure<Refused>>
     if [*b, *u, *f, *r] != *b"BUFR" {
         return Err(Failure::Fault(Refused::NotBufr));
     }
-    let Some(layout) = Layout::of_edition(*edition) else {
-        return Err(Failure::Fault(Refused::Edition(*edition)));
+    let layout = match *edition {
+        4 => Layout::Edition4,
+        3 => Layout::Edition3,
+        other => return Err(Failure::Fault(Refused::Edition(other))),
     };
-    let room = room_in(number_of_three(*l1, *l2, *l3), rest)?;
-    Ok((layout, room))
-}
-
-/// The room before `7777`, of the octets behind section 0, where the message is declared to have so
-/// many octets.
-#[tactic(auto, unfolding(crate::specs::Sections::room_in))]
-fn room_in(total: usize, rest: &[u8]) -> Result<&[u8], Failure<Refused>>
-    ensures { Gives {Y = List ℕ} (λ room. room.now) result (room_in total rest.now) }
-{
-    if total != 8 + rest.len() {
+    if number_of_three(*l1, *l2, *l3) != 8 + rest.len() {
         return Err(Failure::Fault(Refused::TotalLength));
     }
     if rest.len() < 4 {
@@ -67,7 +58,7 @@ fn room_in(total: usize, rest: &[u8]) -> Result<&[u8], Failure<Refused>>
     if end != b"7777".as_slice() {
         return Err(Failure::Fault(Refused::NoEnd));
     }
-    Ok(room)
+    Ok((layout, room))
 }
 
 /// A section of at least so many octets at the front of the room: what stands behind its length,
@@ -104,48 +95,6 @@ fn behind_first(octets: &[u8]) -> &[u8]
     }
 }
 
-/// The octets for local use, copied.
-fn copied(alloc: Global, octets: &[u8]) -> Result<Items<u8>, OutOfMemory>
-    ensures { IfOk result (λ items. items ≡ octets.now) }
-{
-    Ok(Items::from_vec(Vec::from_slice(alloc, octets)?))
-}
-
-/// What the octets of section 1 behind its length say, with these octets for local use behind the
-/// nineteenth.
-fn head4_with(octets: &[u8], local: Items<u8>) -> Head
-    requires { 19 ≤ length octets.now }
-    ensures { result ≡ head4_with octets.now local }
-{
-    Head {
-        centre: number_of_two(octets[1], octets[2]),
-        sub_centre: number_of_two(octets[3], octets[4]),
-        update: octets[5],
-        category: octets[7],
-        international: octets[8],
-        local_category: octets[9],
-        master_version: octets[10],
-        local_version: octets[11],
-        year: number_of_two(octets[12], octets[13]),
-        month: octets[14],
-        day: octets[15],
-        hour: octets[16],
-        minute: octets[17],
-        second: octets[18],
-        local,
-    }
-}
-
-/// Section 1 behind its length: what it says, and whether section 2 is announced.
-fn head_of(alloc: Global, layout: Layout, octets: &[u8]) -> Result<(Head, bool), Failure<Refused>>
-    ensures { Gives {Y = Head × Bool} (λ x. (x.0, x.1)) result (head_of layout octets.now) }
-{
-    match layout {
-        Layout::Edition4 => head4_of(alloc, octets),
-        Layout::Edition3 => head3_of(alloc, octets),
-    }
-}
-
 /// The year of an octet that has the year of the century: below 70 it is of this century.
 fn year_of_century(octet: u8) -> u16
     ensures { result ≡ year_of_century octet }
@@ -157,61 +106,117 @@ fn year_of_century(octet: u8) -> u16
     }
 }
 
-/// What the octets of section 1 of edition 3 behind its length say, with these octets for local use
-/// behind the fourteenth.
-fn head3_with(octets: &[u8], local: Items<u8>) -> Head
-    requires { 14 ≤ length octets.now }
-    ensures { result ≡ head3_with octets.now local }
-{
-    Head {
-        centre: octets[2] as u16,
-        sub_centre: octets[1] as u16,
-        update: octets[3],
-        category: octets[5],
-        international: 255,
-        local_category: octets[6],
-        master_version: octets[7],
-        local_version: octets[8],
-        year: year_of_century(octets[9]),
-        month: octets[10],
-        day: octets[11],
-        hour: octets[12],
-        minute: octets[13],
-        second: 0,
-        local,
-    }
-}
-
-/// Section 1 of edition 3.
+/// Section 1 of edition 3 behind its length: what it says, and whether section 2 is announced.
+#[tactic(auto, unfolding(crate::specs::Sections::head3_of))]
 fn head3_of(alloc: Global, octets: &[u8]) -> Result<(Head, bool), Failure<Refused>>
     ensures { Gives {Y = Head × Bool} (λ x. (x.0, x.1)) result (head3_of octets.now) }
 {
-    if octets.len() < 14 {
+    let [
+        master,
+        sub_centre,
+        centre,
+        update,
+        flags,
+        category,
+        local_category,
+        master_version,
+        local_version,
+        year,
+        month,
+        day,
+        hour,
+        minute,
+        local @ ..,
+    ] = octets
+    else {
         return Err(Failure::Fault(Refused::Section1Length));
+    };
+    if *master != 0 {
+        return Err(Failure::Fault(Refused::MasterTable(*master)));
     }
-    let master = octets[0];
-    if master != 0 {
-        return Err(Failure::Fault(Refused::MasterTable(master)));
-    }
-    let (_, local) = octets.split_at(14);
-    let local = copied(alloc, local)?;
-    Ok((head3_with(octets, local), octets[4] >= 128))
+    let local = Items::from_vec(Vec::from_slice(alloc, local)?);
+    let head = Head {
+        centre: *centre as u16,
+        sub_centre: *sub_centre as u16,
+        update: *update,
+        category: *category,
+        international: 255,
+        local_category: *local_category,
+        master_version: *master_version,
+        local_version: *local_version,
+        year: year_of_century(*year),
+        month: *month,
+        day: *day,
+        hour: *hour,
+        minute: *minute,
+        second: 0,
+        local,
+    };
+    Ok((head, *flags >= 128))
 }
 
-/// Section 1 of edition 4.
+/// Section 1 of edition 4 behind its length: what it says, and whether section 2 is announced.
+#[tactic(auto, unfolding(crate::specs::Sections::head4_of))]
 fn head4_of(alloc: Global, octets: &[u8]) -> Result<(Head, bool), Failure<Refused>>
     ensures { Gives {Y = Head × Bool} (λ x. (x.0, x.1)) result (head4_of octets.now) }
 {
-    if octets.len() < 19 {
+    let [
+        master,
+        c1,
+        c2,
+        s1,
+        s2,
+        update,
+        flags,
+        category,
+        international,
+        local_category,
+        master_version,
+        local_version,
+        y1,
+        y2,
+        month,
+        day,
+        hour,
+        minute,
+        second,
+        local @ ..,
+    ] = octets
+    else {
         return Err(Failure::Fault(Refused::Section1Length));
+    };
+    if *master != 0 {
+        return Err(Failure::Fault(Refused::MasterTable(*master)));
     }
-    let master = octets[0];
-    if master != 0 {
-        return Err(Failure::Fault(Refused::MasterTable(master)));
+    let local = Items::from_vec(Vec::from_slice(alloc, local)?);
+    let head = Head {
+        centre: number_of_two(*c1, *c2),
+        sub_centre: number_of_two(*s1, *s2),
+        update: *update,
+        category: *category,
+        international: *international,
+        local_category: *local_category,
+        master_version: *master_version,
+        local_version: *local_version,
+        year: number_of_two(*y1, *y2),
+        month: *month,
+        day: *day,
+        hour: *hour,
+        minute: *minute,
+        second: *second,
+        local,
+    };
+    Ok((head, *flags >= 128))
+}
+
+/// Section 1 behind its length: what it says, and whether section 2 is announced.
+fn head_of(alloc: Global, layout: Layout, octets: &[u8]) -> Result<(Head, bool), Failure<Refused>>
+    ensures { Gives {Y = Head × Bool} (λ x. (x.0, x.1)) result (head_of layout octets.now) }
+{
+    match layout {
+        Layout::Edition4 => head4_of(alloc, octets),
+        Layout::Edition3 => head3_of(alloc, octets),
     }
-    let (_, local) = octets.split_at(19);
-    let local = copied(alloc, local)?;
-    Ok((head4_with(octets, local), octets[6] >= 128))
 }
 
 /// The octets for local use of section 2, where it is announced, and the room that is left.
@@ -227,7 +232,8 @@ fn section2_at(
         return Ok((None, room));
     }
     let (octets, left) = section_at(4, Refused::Section2Length, room)?;
-    Ok((Some(copied(alloc, behind_first(octets))?), left))
+    let local = Items::from_vec(Vec::from_slice(alloc, behind_first(octets))?);
+    Ok((Some(local), left))
 }
 
 /// Section 3 behind its length.
@@ -246,51 +252,29 @@ fn description_of(octets: &[u8]) -> Result<Description<'_>, Failure<Refused>>
     })
 }
 
-/// What stands after the fourth octet of section 4, which fills the room.
-fn contents_of<'a>(octets: &'a [u8], left: &[u8]) -> Result<&'a [u8], Failure<Refused>>
-    ensures { Gives {Y = List ℕ} (λ x. x.now) result (contents_of (octets.now, left.now)) }
+/// What octets say that are the sections of a message, or the first cause, of M1 to M9, for which
+/// they are refused; memory may run out.
+#[tactic(auto, unfolding(crate::specs::Sections::envelope_of, crate::specs::Sections::sections_of))]
+pub fn read_sections(alloc: Global, octets: &[u8]) -> Result<Envelope<'_>, Failure<Refused>>
+    ensures { Gives envelope result (envelope_of octets.now) }
 {
-    if !left.is_empty() {
-        return Err(Failure::Fault(Refused::Section4Length));
-    }
-    Ok(behind_first(octets))
-}
-
-/// Sections 1 to 4, which fill the room.
-#[tactic(auto, unfolding(crate::specs::Sections::sections_of))]
-fn sections_of(alloc: Global, layout: Layout, room: &[u8]) -> Result<Envelope<'_>, Failure<Refused>>
-    ensures { Gives envelope result (sections_of layout room.now) }
-{
+    let (layout, room) = room_of(octets)?;
     let (one, room) = section_at(layout.shortest(), Refused::Section1Length, room)?;
     let (head, announced) = head_of(alloc, layout, one)?;
     let (section2, room) = section2_at(alloc, announced, room)?;
     let (three, room) = section_at(9, Refused::Section3Length, room)?;
     let description = description_of(three)?;
     let (four, left) = section_at(4, Refused::Section4Length, room)?;
-    let contents = contents_of(four, left)?;
-    let Description {
-        count,
-        observed,
-        compressed,
-        listed,
-    } = description;
+    if !left.is_empty() {
+        return Err(Failure::Fault(Refused::Section4Length));
+    }
     Ok(Envelope {
         head,
         section2,
-        observed,
-        compressed,
-        listed,
-        count,
-        contents,
+        observed: description.observed,
+        compressed: description.compressed,
+        listed: description.listed,
+        count: description.count,
+        contents: behind_first(four),
     })
-}
-
-/// What octets say that are the sections of a message, or the first cause, of M1 to M9, for which
-/// they are refused; memory may run out.
-#[tactic(auto, unfolding(crate::specs::Sections::envelope_of))]
-pub fn read_sections(alloc: Global, octets: &[u8]) -> Result<Envelope<'_>, Failure<Refused>>
-    ensures { Gives envelope result (envelope_of octets.now) }
-{
-    let (layout, room) = room_of(octets)?;
-    sections_of(alloc, layout, room)
 }
