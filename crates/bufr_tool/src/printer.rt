@@ -1,21 +1,24 @@
 //! What is printed of a stream, frame by frame: lines are held, and written where they are many.
 
 ghost use Rattle.std.specs.Prelude.{◌≡◌, ◌≤◌, ◌<◌, ◌+◌, ◌-◌, ◌*◌, ◌^◌, ℕ, List, false, [], length};
-ghost use Rattle.std.specs.Prelude.{IfOk, OnOk, Some, slice_get};
+ghost use Rattle.std.specs.Prelude.{IfOk, OnOk, Result, Some, slice_get};
 ghost use Rattle.bufr_bits.specs.Devices.{Writing};
+ghost use Rattle.bufr_message.specs.declared.Decoded.{Decoded};
+ghost use Rattle.bufr_message.specs.declared.Refused.{Refused as RefusedBy};
 ghost use Rattle.bufr_message.specs.declared.Subset.{Subset};
 ghost use Rattle.bufr_message.specs.Listings.{line, joined, field_line, subset_lines, listing};
 ghost use Rattle.bufr_message.specs.Messages.{message_of};
 ghost use Rattle.bufr_message.specs.ShortListings.{HasShortListing};
-ghost use Rattle.bufr_collect.specs.Collected.{frame_refused, refused_as};
+ghost use Rattle.bufr_answers.specs.Answers.{Gives};
+ghost use Rattle.bufr_collect.specs.Collected.{refused_as};
 ghost use Rattle.bufr_tool.specs.Lines.{AreWholeLines};
-ghost use Rattle.bufr_tool.specs.Output.{fields_text, frame_at, frame_text, printed_as};
+ghost use Rattle.bufr_tool.specs.Output.{fields_text, frame_at, frame_text};
 ghost use Rattle.bufr_tool.specs.StreamEngines.{Adds, Fits, Keeps, no_counts, PrintsFrame};
-ghost use Rattle.bufr_tool.specs.StreamEngines.{Stops, StopsWithin, WritesHeld, WritesPart};
+ghost use Rattle.bufr_tool.specs.StreamEngines.{Stops, StopsWithin, Tells, WritesHeld, WritesPart};
 
 use crate::counts::Counts;
 use crate::printing::{Printing, hold_checked, hold_refused};
-use bufr_answers::{Failure, OutOfMemory};
+use bufr_answers::Failure;
 use bufr_bits::Sink;
 use bufr_io::{ToolFault, write_after};
 use bufr_listing::laws::{listings_are_joined_parts, subsets_are_joined_lines};
@@ -198,25 +201,6 @@ impl<'t> Printer<'t> {
         Ok(())
     }
 
-    /// The message that the octets of a frame spell, none of whose subsets is built yet, or why
-    /// they spell none.
-    fn judge<'a>(
-        &mut self,
-        alloc: Global,
-        octets: &'a [u8],
-    ) -> Result<Result<View<'a>, Refused>, OutOfMemory>
-        ensures same { self.new ≡ self.old }
-        ensures exact { IfOk result (λ found. found ≡ message_of self.old.templates octets.now) }
-        ensures listed { IfOk result (λ found. IfOk found (λ d. HasShortListing d.message)) }
-    {
-        listings_are_short();
-        match self.templates.view(alloc, octets) {
-            Ok(found) => Ok(Ok(found)),
-            Err(Failure::Fault(why)) => Ok(Err(why)),
-            Err(Failure::OutOfMemory) => Err(OutOfMemory),
-        }
-    }
-
     /// Prints what the frame of these octets at this place was judged to spell, or why it spells no
     /// message.
     fn print_judged<W: Sink>(
@@ -224,15 +208,18 @@ impl<'t> Printer<'t> {
         alloc: Global,
         place: u64,
         octets: &[u8],
-        judged: &Result<View<'_>, Refused>,
+        judged: &Result<View<'_>, Failure<Refused>>,
         writer: &mut W,
     ) -> Result<(), ToolFault>
         requires works { (W.writing writer.old).failed ≡ false }
+        requires exact { Gives (λ d. d) judged.now (message_of self.old.templates octets.now) }
         requires listed { IfOk judged.now (λ d. HasShortListing d.message) }
         requires fits { self.old.counts.written + 2 ^ 80 ≤ 2 ^ 128 }
         requires lines { AreWholeLines self.old.held.items }
-        ensures prints { Adds (printed_as self.old.printing (frame_at place octets.now) judged.now)
+        ensures prints { Adds
+            (frame_text self.old.printing self.old.templates (frame_at place octets.now))
             self.old self.new (W.writing writer.old) (W.writing writer.new) result }
+        ensures told { OnOk result (Tells judged.now (message_of self.old.templates octets.now)) }
         ensures keeps { Keeps self.old self.new }
         ensures short { self.new.counts.written + 2 ^ 64 ≤ self.old.counts.written + 2 ^ 80 }
     {
@@ -244,10 +231,11 @@ impl<'t> Printer<'t> {
                     Ok(())
                 }
             },
-            Err(why) => {
+            Err(Failure::Fault(why)) => {
                 hold_refused(alloc, &mut self.held, self.printing, place, octets, why)?;
                 Ok(())
             }
+            Err(Failure::OutOfMemory) => Err(ToolFault::OutOfMemory),
         }
     }
 
@@ -272,7 +260,8 @@ impl<'t> Printer<'t> {
         ensures printing { self.new.printing ≡ self.old.printing }
         ensures tables { self.new.templates ≡ self.old.templates }
     {
-        let judged = self.judge(alloc, octets)?;
+        listings_are_short();
+        let judged = self.templates.view(alloc, octets);
         self.print_judged(alloc, place, octets, &judged, writer)?;
         self.counts.frames += 1;
         self.counts.refused += refused(&judged);
@@ -300,8 +289,9 @@ impl<'t> Printer<'t> {
 }
 
 /// How many messages are refused of a frame that was judged so: one or none.
-fn refused(judged: &Result<View<'_>, Refused>) -> u64
-    ensures count { result ≡ refused_as judged.now }
+fn refused(judged: &Result<View<'_>, Failure<Refused>>) -> u64
+    ensures count { (found : Result Decoded RefusedBy) → Tells judged.now found
+        → result ≡ refused_as found }
     ensures most { result ≤ 1 }
 {
     match judged {

@@ -1,6 +1,6 @@
 //! The lines that are printed of a frame, and the one behind the last.
 
-ghost use Rattle.std.specs.Prelude.{◌≡◌, ◌++◌, length, take, Ok, Err, OnOk, OnErr};
+ghost use Rattle.std.specs.Prelude.{◌≡◌, ◌++◌, length, take, decimal, Ok, Err, OnOk, OnErr};
 ghost use Rattle.bufr_tool.specs.Output.{checked_as, frame_at, last_text, printed_as, tally_line};
 
 use bufr_answers::OutOfMemory;
@@ -89,6 +89,20 @@ fn push_number<I: Integer>(text: &mut Vec<u8>, words: &[u8], number: I) -> Resul
     Ok(())
 }
 
+/// The same of a number that often has one digit.
+#[tactic(auto, using(std::proofs::lemmas::Fmt::decimal_digit))]
+fn push_count(text: &mut Vec<u8>, words: &[u8], number: u64) -> Result<(), OutOfMemory>
+    ensures ok { OnOk result (text.new.items ≡ text.old.items ++ words.now ++ decimal number) }
+    ensures kept { OnErr result (take (length text.old.items) text.new.items ≡ text.old.items) }
+{
+    if number >= 10 {
+        return push_number(text, words, number);
+    }
+    text.extend_from_slice(words)?;
+    text.push(b'0' + number as u8)?;
+    Ok(())
+}
+
 /// Adds the line of `check` of a frame that spells a message.
 fn push_checked(
     text: &mut Vec<u8>,
@@ -100,10 +114,10 @@ fn push_checked(
         ≡ text.old.items ++ checked_as (frame_at place octets.now) (Ok found.now)) }
     ensures kept { OnErr result (take (length text.old.items) text.new.items ≡ text.old.items) }
 {
-    push_number(text, b"", place)?;
-    push_number(text, b" ", octets.len())?;
-    push_number(text, b" ok ", found.count())?;
-    push_number(text, b" ", found.slack())?;
+    push_count(text, b"", place)?;
+    push_count(text, b" ", octets.len() as u64)?;
+    push_count(text, b" ok ", found.count() as u64)?;
+    push_count(text, b" ", found.slack())?;
     text.push(b'\n')?;
     Ok(())
 }

@@ -11,12 +11,12 @@ returns-clause-ok c =
     let long = decimal (length c.args.octets.now) in
     let subsets = decimal c.count.result in
     let slack = decimal c.slack.result in
-    let one = c.in_ok-push_number.ensures.ok in
-    let two = c.in_ok-push_number-2.ensures.ok
+    let one = c.in_ok-push_count.ensures.ok in
+    let two = c.in_ok-push_count-2.ensures.ok
     ∙ ap (λ (z : List ℕ). z ++ (32 ∷ []) ++ long) one in
-    let three = c.in_ok-push_number-3.ensures.ok
+    let three = c.in_ok-push_count-3.ensures.ok
     ∙ ap (λ (z : List ℕ). z ++ codes " ok " ++ subsets) two in
-    let four = c.in_ok-push_number-4.ensures.ok
+    let four = c.in_ok-push_count-4.ensures.ok
     ∙ ap (λ (z : List ℕ). z ++ (32 ∷ []) ++ slack) three in
     rw (
       ← c.count.ensures,

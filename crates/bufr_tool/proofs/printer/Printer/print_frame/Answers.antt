@@ -1,12 +1,39 @@
--- The clause `prints` of `print_frame`: the frame as it was judged, counted, and then what is held
--- is written where it is long.
-use Rattle.std.proofs.Common.{◌≤◌, ◌+◌, ◌^◌, ◌++◌, ap, subst, arith}
+-- For `print_frame`: the frame as it was judged, counted, and then what is held is written where it
+-- is long.
+use Rattle.std.proofs.Common.{◌≡◌, ◌≤◌, ◌+◌, ◌^◌, ◌++◌, List, ℕ, ap, subst, sym, arith, Result, Ok, Err}
+use Rattle.std.proofs.Common.{IfOk}
+use Rattle.bufr_answers.specs.declared.failure.Failure.{Failure}
+use Rattle.bufr_answers.specs.Answers.{Gives}
+use Rattle.bufr_tables.specs.Entries.{Entries}
+use Rattle.bufr_message.specs.declared.Decoded.{Decoded}
+use Rattle.bufr_message.specs.declared.Refused.{Refused}
+use Rattle.bufr_message.specs.Messages.{message_of, Spells}
+use Rattle.bufr_message.specs.ShortListings.{HasShortListing, ListingsAreShort}
 use Rattle.bufr_collect.specs.Collected.{refused_as}
 use Rattle.bufr_tool.specs.declared.printer.Printer.{Printer}
-use Rattle.bufr_tool.specs.Output.{frame_at, printed_as}
-use Rattle.bufr_tool.specs.StreamEngines.{Keeps, WritesAllBut}
+use Rattle.bufr_tool.specs.Output.{frame_at, frame_text}
+use Rattle.bufr_tool.specs.StreamEngines.{Keeps, Tells, WritesAllBut}
 use Rattle.bufr_tool.proofs.PrintingFacts.{frame_ends}
 use Rattle.bufr_tool.proofs.printer.Printer.print_frame.Goals as goal
+
+-- the listing of a message that octets spell is short
+short_as_spelt : (tables : Entries) (octets : List ℕ) (r : Result Decoded (Failure Refused))
+    → ListingsAreShort → IfOk r (λ d. Spells tables d.message octets d.slack_octets)
+    → IfOk r (λ d. HasShortListing d.message)
+short_as_spelt tables octets (Ok d) law spelt = law _ _ _ _ spelt
+short_as_spelt tables octets (Err e) law spelt = tt
+
+-- the octets were judged under the tables that stayed
+pub print_judged-requires-clause-exact : goal.print_judged-requires-clause-exact
+print_judged-requires-clause-exact g c =
+    subst (λ (t : Entries). Gives (λ d. d) c.view-judged.result (message_of t c.args.octets.now))
+    (sym c.view-judged.ensures.same) c.view-judged.ensures.exact
+
+-- and what they spell has a short listing
+pub print_judged-requires-clause-listed : goal.print_judged-requires-clause-listed
+print_judged-requires-clause-listed g c =
+    short_as_spelt c.args.self.now.templates c.args.octets.now c.view-judged.result
+    c.listings_are_short.ensures c.view-judged.ensures.found
 
 -- what was printed of the frame as it was judged is its text
 pub returns-clause-prints : goal.returns-clause-prints
@@ -16,22 +43,17 @@ returns-clause-prints g c =
     let frame = frame_at c.args.place c.args.octets.now in
     let first = g.W.Sink.writing c.args.writer.now in
     let mid = g.W.Sink.writing c.print_judged.new.writer in
-    let same = c.judge.ensures.same in
+    let same = c.view-judged.ensures.same in
     let e = c.in_ok-print_judged.ensures in
-    let judged = c.in_ok-judged.judged in
-    let is = c.in_ok-judged.ensures.exact in
-    let keeps = subst (λ (s : Printer). Keeps s q) same e.keeps in
-    let short = subst
-    (λ (s : Printer). q.counts.written + 2 ^ 64 ≤ s.counts.written + 2 ^ 80) same e.short in
-    let here = subst
-    (λ (s : Printer). WritesAllBut q.held.items (s.held.items ++ printed_as s.printing frame judged)
-    s.counts.written q.counts.written first mid) same e.prints in
-    let text = subst
-    (λ r. WritesAllBut q.held.items (p.held.items ++ printed_as p.printing frame r)
-    p.counts.written q.counts.written first mid) is here in
+    let text = subst (λ (t : Entries). WritesAllBut q.held.items
+    (p.held.items ++ frame_text p.printing t frame) p.counts.written q.counts.written first mid)
+    same e.prints in
+    let told = subst
+    (λ (t : Entries). Tells c.view-judged.result (message_of t c.args.octets.now)) same e.told in
+    let refused = c.refused.ensures.count _ told in
     let ends = c.write_long.ensures in
     frame_ends p.printing p.templates frame p _ c.write_long.new.self first mid _
-    c.write_long.result ends.writes ends.keeps ends.short text (ap (λ n. n + 1) keeps.frames)
-    (omega (arith, keeps.refused, c.refused.ensures.count, ap refused_as is))
-    (omega (arith, keeps.octets)) short
+    c.write_long.result ends.writes ends.keeps ends.short text (ap (λ n. n + 1) e.keeps.frames)
+    (omega (arith, e.keeps.refused, refused))
+    (omega (arith, e.keeps.octets)) e.short
     (omega (arith, c.requires.short, c.requires.few))
