@@ -139,10 +139,14 @@ impl<'t> Printer<'t> {
         ensures short { self.new.counts.written < self.old.counts.written
             + length self.old.held.items + length (fields_text fields.entry) + 2 ^ 64 }
     {
-        while let Some(field) = fields.next(alloc)? {
-            self.print_field(alloc, &field, writer)?;
+        'fields: loop {
+            let next = fields.next(alloc);
+            match &next {
+                Ok(Some(field)) => self.print_field(alloc, field, writer)?,
+                Ok(None) => return Ok(()),
+                Err(_) => return Err(ToolFault::OutOfMemory),
+            }
         }
-        Ok(())
     }
 
     /// Prints the lines of the subset of this number, from 1.

@@ -5,13 +5,13 @@ use Rattle.bufr_tool.proofs.ListingFacts.{AmidFields}
 use Rattle.bufr_tool.proofs.printer.Printer.print_fields.Given as goal
 
 -- the lines of the fields that were handed out were added, and those of the others are left
-abbrev pub invariant-loop-fields : goal.invariant-loop-fields
-invariant-loop-fields g l = record {
+abbrev pub invariant-fields : goal.invariant-fields
+invariant-fields g l = record {
   amid : AmidFields l.fn.fields l.fields l.fn.self l.self (g.W.Sink.writing l.fn.writer)
       (g.W.Sink.writing l.writer);
   keeps : Keeps l.fn.self l.self;
 }
 
 -- each turn leaves one less
-abbrev pub decreases-loop-fields : goal.decreases-loop-fields
-decreases-loop-fields g l = length l.fields
+abbrev pub decreases-fields : goal.decreases-fields
+decreases-fields g l = length l.fields
