@@ -26,7 +26,7 @@ pub use archive::{Archive, ArchiveWriteFault};
 pub use archive_text::ArchiveText;
 pub use bufr_keys::{Key, Moment, Station};
 pub use bufr_shelves::{
-    Entry, Held, JoinFault, KeptOctets, MapShelf, Shelf, ShelfBuilder, SortedShelf,
+    Entry, Held, JoinFault, KeptOctets, LentOctets, MapShelf, Shelf, ShelfBuilder, SortedShelf,
     laws as shelf_laws, shelve, slot_order,
 };
 pub use builder::ArchiveBuilder;

@@ -54,22 +54,23 @@ fn hand_on<W: Sink>(writer: &mut W, part: &mut Part, octets: &[u8]) -> Result<()
 /// Writes the octets of entries one after the other and hands them on, in parts that have as many
 /// octets as some room fits, or those of one entry that has more. It takes no memory.
 pub(crate) fn write_parts<W: Sink>(
-    mut left: KeptOctets,
+    kept: KeptOctets,
     mut room: Vec<u8>,
     writer: &mut W,
 ) -> Result<(), ToolFault>
     requires { (W.writing writer.old).failed ≡ false }
-    ensures { WritesAfter 0 (joined left) (W.writing writer.old) (W.writing writer.new) result }
+    ensures { WritesAfter 0 (joined kept) (W.writing writer.old) (W.writing writer.new) result }
 {
     // No more than can be counted.
-    let _count = left.len();
+    let _count = kept.len();
     room.clear();
     let mut part = Part {
         octets: room,
         written: 0,
     };
+    let mut left = kept.lent();
     while let Some(octets) = left.next() {
-        hand_on(writer, &mut part, octets.as_slice())?;
+        hand_on(writer, &mut part, octets)?;
     }
     write_out(writer, part.written, &part.octets)
 }

@@ -13,5 +13,6 @@ pub mod Fronts
 pub mod FrontLaws
 pub mod PackedKeys
 pub mod Marks
+pub mod Pages
 pub mod PackedKeyLaws
 pub mod Samples

@@ -1,7 +1,6 @@
 -- Keys with the rank that is kept at each, and the entries that they stand for.
 use Rattle.std.specs.Prelude.{Some, None, Result, Ok, Err, List, [], ◌∷◌, ℕ, suc, ◌++◌, map}
-use Rattle.std.specs.List.Sorted.{IsSortedBy}
-use Rattle.std.specs.Ordering.{match_ordering, is_lt}
+use Rattle.std.specs.Ordering.{match_ordering}
 use Rattle.std.specs.declared.cmp.Ordering.{Ordering}
 use Rattle.bufr_keys.specs.declared.key.Key.{Key}
 use Rattle.bufr_shelves.specs.declared.entry.Entry.{Entry}
@@ -38,7 +37,3 @@ abbrev pub place_of : {K V : Type 0} → (K → Ordering) → List (K × V) → 
 place_of compare [] = Err 0
 place_of compare (p ∷ ps) =
     match_ordering (compare p.0) (Err 0) (Ok 0) (one_on (place_of compare ps))
-
--- pairs from the greatest key down to the least
-abbrev pub AreFalling : {K V : Type 0} → (K → K → Ordering) → List (K × V) → Type 0
-AreFalling cmp pairs = IsSortedBy (λ p q. is_lt (by_key cmp q p)) pairs

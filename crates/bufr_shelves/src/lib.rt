@@ -30,4 +30,4 @@ pub use map_shelf::MapShelf;
 pub use mark::Mark;
 pub use shelf::Shelf;
 pub use shelving::shelve;
-pub use sorted_shelf::{KeptOctets, ShelfBuilder, SortedShelf};
+pub use sorted_shelf::{KeptOctets, LentOctets, ShelfBuilder, SortedShelf};

@@ -1,10 +1,13 @@
 //! What is said of an entry whose octets stand elsewhere.
-ghost use Rattle.std.specs.Prelude.{◌≡◌, IfOk, Some};
+ghost use Rattle.std.specs.Prelude.{◌≡◌, IfOk, IfSome, Some};
+ghost use Rattle.std.specs.Option.{option_map};
 ghost use Rattle.bufr_keys.specs.KeyOrders.{octets_cmp};
 ghost use Rattle.bufr_shelves.specs.Entries.{slot_by};
-ghost use Rattle.bufr_shelves.specs.Marks.{mark_in};
+ghost use Rattle.bufr_shelves.specs.Marks.{mark_in, IsFronted};
+ghost use Rattle.bufr_shelves.specs.Fronts.{front_of_key};
 ghost use Rattle.bufr_keys.specs.DerivedOrders.{key_order};
 
+use crate::sorted_shelf::front::{Front, FrontHead, FrontPlace};
 use crate::sorted_shelf::packed_key::WmoKey;
 use bufr_answers::OutOfMemory;
 use bufr_keys::Key;
@@ -16,11 +19,26 @@ use std::marker::Model;
 #[derive(Drop)]
 pub(crate) enum MarkForm {
     /// No key.
-    Keyless { update: u8 },
+    Keyless {
+        update: u8,
+    },
     /// The key of a WMO station whose numbers have room in two octets each.
-    Wmo { update: u8, key: WmoKey },
+    Wmo {
+        update: u8,
+        key: WmoKey,
+    },
+    /// A key with a mobile name, and what its front has.
+    Mobile {
+        update: u8,
+        head: FrontHead,
+        key: Box<Key>,
+        name: [u8; 8],
+    },
     /// Any other key.
-    Other { update: u8, key: Box<Key> },
+    Other {
+        update: u8,
+        key: Box<Key>,
+    },
 }
 
 /// The key of an entry, if it has one, and its update number, in 24 octets. Only a key that is not
@@ -31,23 +49,34 @@ pub struct Mark {
 }
 
 impl Model for Mark {
-    ghost use Rattle.bufr_shelves.specs.Marks.{MarkView, mark_in};
+    ghost use Rattle.bufr_shelves.specs.Marks.{MarkView, mark_in, IsFronted};
 
     ghost Value = { MarkView };
 
     ghost view = { λ a. mark_in a.form };
+
+    ghost invariant = { λ a. IsFronted a.form };
 }
 
 /// A key and an update number, as they are held.
 fn form_with(alloc: Global, key: Key, update: u8) -> Result<MarkForm, OutOfMemory>
-    ensures { IfOk result (λ form. mark_in form ≡ record { key = Some key; update = update }) }
+    ensures mark { IfOk result (λ form.
+        mark_in form ≡ record { key = Some key; update = update }) }
+    ensures fronted { IfOk result IsFronted }
 {
-    match WmoKey::of_key(&key) {
-        Some(key) => Ok(MarkForm::Wmo { update, key }),
-        None => {
-            let key = Box::new(alloc, key)?;
-            Ok(MarkForm::Other { update, key })
-        }
+    if let Some(key) = WmoKey::of_key(&key) {
+        return Ok(MarkForm::Wmo { update, key });
+    }
+    let Front { head, place } = Front::of_key(&key);
+    let key = Box::new(alloc, key)?;
+    match place {
+        FrontPlace::Mobile { name } => Ok(MarkForm::Mobile {
+            update,
+            head,
+            key,
+            name,
+        }),
+        _ => Ok(MarkForm::Other { update, key }),
     }
 }
 
@@ -59,6 +88,7 @@ impl MarkForm {
         match self {
             MarkForm::Keyless { .. } => Ordering::Greater,
             MarkForm::Wmo { key: packed, .. } => packed.key().cmp(key),
+            MarkForm::Mobile { key: own, .. } => (**own).cmp(key),
             MarkForm::Other { key: own, .. } => (**own).cmp(key),
         }
     }
@@ -83,6 +113,7 @@ impl Mark {
         match &self.form {
             MarkForm::Keyless { update } => *update,
             MarkForm::Wmo { update, .. } => *update,
+            MarkForm::Mobile { update, .. } => *update,
             MarkForm::Other { update, .. } => *update,
         }
     }
@@ -94,7 +125,34 @@ impl Mark {
         match &self.form {
             MarkForm::Keyless { .. } => Ok(None),
             MarkForm::Wmo { key, .. } => Ok(Some(key.key())),
+            MarkForm::Mobile { key, .. } => Ok(Some((**key).clone()?)),
             MarkForm::Other { key, .. } => Ok(Some((**key).clone()?)),
+        }
+    }
+
+    /// The front of the key, where that stands here.
+    fn front(&self) -> Option<Front>
+        ensures { IfSome result (λ front. option_map front_of_key self.now.key ≡ Some front) }
+    {
+        match &self.form {
+            MarkForm::Wmo { key, .. } => Some(key.front()),
+            MarkForm::Mobile { head, name, .. } => Some(Front::of_mobile(*head, *name)),
+            _ => None,
+        }
+    }
+
+    /// The order of the slots, where the fronts of both keys stand here and tell it.
+    fn told(&self, other: &Mark) -> Option<Ordering>
+        ensures { IfSome result (λ order. (by_octets : Ordering)
+            → order ≡ slot_by self.now.key other.now.key by_octets) }
+    {
+        let (Some(front), Some(other_front)) = (self.front(), other.front()) else {
+            return None;
+        };
+        match front.order(&other_front) {
+            Ordering::Less => Some(Ordering::Less),
+            Ordering::Equal => None,
+            Ordering::Greater => Some(Ordering::Greater),
         }
     }
 
@@ -105,11 +163,20 @@ impl Mark {
         ensures { let by_octets = octets_cmp bytes.now other_bytes.now in
             result ≡ slot_by self.now.key other.now.key by_octets }
     {
+        if let (MarkForm::Wmo { key: one, .. }, MarkForm::Wmo { key: two, .. }) = (
+            &self.form,
+            &other.form,
+        ) {
+            return one.cmp(two);
+        }
+        if let Some(order) = self.told(other) {
+            return order;
+        }
         match (&self.form, &other.form) {
-            (MarkForm::Wmo { key: one, .. }, MarkForm::Wmo { key: two, .. }) => one.cmp(two),
             (MarkForm::Keyless { .. }, MarkForm::Keyless { .. }) => bytes.cmp(other_bytes),
             (_, MarkForm::Keyless { .. }) => Ordering::Less,
             (form, MarkForm::Wmo { key, .. }) => form.order_to(&key.key()),
+            (form, MarkForm::Mobile { key, .. }) => form.order_to(&**key),
             (form, MarkForm::Other { key, .. }) => form.order_to(&**key),
         }
     }

@@ -12,23 +12,26 @@ use crate::shelf::Shelf;
 use bufr_answers::{Items, OutOfMemory};
 use bufr_keys::Key;
 use merge::{merge, room_for};
-use pair::Boxed;
+use pair::Pair;
 use sorted::{at_key, copied, first_pair, next_after, raise};
 use std::alloc::Global;
 use std::marker::Model;
 
-mod batches;
 mod builder;
-mod front;
+pub(crate) mod front;
+mod gathered;
 mod joined;
 mod kept_octets;
 mod merge;
 pub(crate) mod packed_key;
+mod page;
+mod pages_left;
 mod pair;
+mod settling;
 mod sorted;
 
 pub use builder::ShelfBuilder;
-pub use kept_octets::KeptOctets;
+pub use kept_octets::{KeptOctets, LentOctets};
 
 /// A shelf on sorted vectors: one of keys with their ranks, and one of the octets of what has no
 /// key with the update number. `put` finds its place by binary search and moves what follows, eight
@@ -36,8 +39,8 @@ pub use kept_octets::KeptOctets;
 #[derive(Drop)]
 pub struct SortedShelf {
     alloc: Global,
-    keyed: Vec<Boxed<Key, Rank>>,
-    unkeyed: Vec<Boxed<Items<u8>, u8>>,
+    keyed: Vec<Pair<Key, Rank>>,
+    unkeyed: Vec<Pair<Items<u8>, u8>>,
 }
 
 impl Model for SortedShelf {

@@ -5,12 +5,12 @@ ghost use Rattle.bufr_shelves.specs.Entries.{kept};
 
 use crate::rank::Rank;
 use crate::sorted_shelf::SortedShelf;
-use crate::sorted_shelf::pair::Boxed;
+use crate::sorted_shelf::pair::Pair;
 use bufr_answers::{Items, OutOfMemory};
 use bufr_keys::Key;
 
 /// Adds the octets of entries with a key, each of which is given back once they are added.
-fn push_keyed(out: &mut Vec<u8>, pairs: Vec<Boxed<Key, Rank>>) -> Result<(), OutOfMemory>
+fn push_keyed(out: &mut Vec<u8>, pairs: Vec<Pair<Key, Rank>>) -> Result<(), OutOfMemory>
     ensures { OnOk result
         (out.new.items ≡ out.old.items ++ flat_map (λ p. p.1.bytes) pairs.items) }
 {
@@ -21,7 +21,7 @@ fn push_keyed(out: &mut Vec<u8>, pairs: Vec<Boxed<Key, Rank>>) -> Result<(), Out
 }
 
 /// Adds the octets of entries without one, each of which is given back once they are added.
-fn push_unkeyed(out: &mut Vec<u8>, pairs: Vec<Boxed<Items<u8>, u8>>) -> Result<(), OutOfMemory>
+fn push_unkeyed(out: &mut Vec<u8>, pairs: Vec<Pair<Items<u8>, u8>>) -> Result<(), OutOfMemory>
     ensures { OnOk result
         (out.new.items ≡ out.old.items ++ flat_map (λ p. p.0) pairs.items) }
 {

@@ -9,7 +9,7 @@ ghost use Rattle.bufr_shelves.specs.Merging.{merged, heads_order, greater_of};
 ghost use Rattle.bufr_shelves.specs.Pairs.{by_key, by_value};
 
 use crate::rank::Exact;
-use crate::sorted_shelf::pair::{Holds, Pair};
+use crate::sorted_shelf::pair::Pair;
 use bufr_answers::OutOfMemory;
 use std::alloc::Global;
 use std::cmp::Ordering;
@@ -31,11 +31,11 @@ pub(crate) fn take_last<T>(members: &mut Vec<T>) -> Option<T>
 }
 
 /// An empty vector with room for all pairs of two.
-pub(crate) fn room_for<K, V, H: Holds<K, V>>(
+pub(crate) fn room_for<K, V>(
     alloc: Global,
-    left: &Vec<Pair<K, V, H>>,
-    right: &Vec<Pair<K, V, H>>,
-) -> Result<Vec<Pair<K, V, H>>, OutOfMemory>
+    left: &Vec<Pair<K, V>>,
+    right: &Vec<Pair<K, V>>,
+) -> Result<Vec<Pair<K, V>>, OutOfMemory>
     ensures empty { IfOk result (λ room. room.items ≡ []) }
     ensures room { IfOk result (λ room. vec_len left.now + vec_len right.now ≤ vec_capacity room) }
 {
@@ -44,10 +44,10 @@ pub(crate) fn room_for<K, V, H: Holds<K, V>>(
 
 /// Merges pairs into others, of each key the one with the greater value: all are moved into the
 /// room, which then takes the place of the first.
-pub(crate) fn merge<K: Exact, V: Exact, H: Holds<K, V>>(
-    left: &mut Vec<Pair<K, V, H>>,
-    mut right: Vec<Pair<K, V, H>>,
-    mut room: Vec<Pair<K, V, H>>,
+pub(crate) fn merge<K: Exact, V: Exact>(
+    left: &mut Vec<Pair<K, V>>,
+    mut right: Vec<Pair<K, V>>,
+    mut room: Vec<Pair<K, V>>,
 )
     requires sorted { IsStrictlySortedBy K.cmp (keys_of right.items) }
     requires empty { room.items ≡ [] }
@@ -64,10 +64,10 @@ pub(crate) fn merge<K: Exact, V: Exact, H: Holds<K, V>>(
 
 /// Takes the pair of lesser key from the ends of two vectors in falling order; of two with one key
 /// it takes both and gives the one with the greater value.
-fn take_lesser<K: Exact, V: Exact, H: Holds<K, V>>(
-    left: &mut Vec<Pair<K, V, H>>,
-    right: &mut Vec<Pair<K, V, H>>,
-) -> Option<Pair<K, V, H>>
+fn take_lesser<K: Exact, V: Exact>(
+    left: &mut Vec<Pair<K, V>>,
+    right: &mut Vec<Pair<K, V>>,
+) -> Option<Pair<K, V>>
     ensures taken { merged (by_key K.cmp) (by_value V.cmp)
         (reverse left.old.items) (reverse right.old.items)
         ≡ option_to_list result ++ merged (by_key K.cmp) (by_value V.cmp)
@@ -88,10 +88,7 @@ fn take_lesser<K: Exact, V: Exact, H: Holds<K, V>>(
 
 /// The order of the keys at the ends of two vectors; an empty one is told as if its key were
 /// greater.
-fn order_of_ends<K: Exact, V: Exact, H: Holds<K, V>>(
-    left: &Vec<Pair<K, V, H>>,
-    right: &Vec<Pair<K, V, H>>,
-) -> Ordering
+fn order_of_ends<K: Exact, V: Exact>(left: &Vec<Pair<K, V>>, right: &Vec<Pair<K, V>>) -> Ordering
     ensures { result
         ≡ heads_order (by_key K.cmp) (reverse left.now.items) (reverse right.now.items) }
 {
@@ -105,10 +102,10 @@ fn order_of_ends<K: Exact, V: Exact, H: Holds<K, V>>(
 }
 
 /// Of two pairs the one with the greater value, the left one where they are equal.
-fn greater_of<K: Exact, V: Exact, H: Holds<K, V>>(
-    left: Option<Pair<K, V, H>>,
-    right: Option<Pair<K, V, H>>,
-) -> Option<Pair<K, V, H>>
+fn greater_of<K: Exact, V: Exact>(
+    left: Option<Pair<K, V>>,
+    right: Option<Pair<K, V>>,
+) -> Option<Pair<K, V>>
     ensures { result ≡ greater_of (by_value V.cmp) left right }
 {
     let Some(pair) = left else {

@@ -10,16 +10,13 @@ ghost use Rattle.bufr_shelves.specs.Keeping.{put_by, changes_by, first_of};
 ghost use Rattle.bufr_shelves.specs.Pairs.{by_key, by_value, place_of};
 
 use crate::rank::Exact;
-use crate::sorted_shelf::pair::{Boxed, Holds, InLine, Pair};
+use crate::sorted_shelf::pair::Pair;
 use bufr_answers::OutOfMemory;
 use std::alloc::Global;
 use std::cmp::Ordering;
 
 /// Where a key stands, or where it would go, by binary search.
-pub(crate) fn place<K: Exact, V, H: Holds<K, V>>(
-    pairs: &Vec<Pair<K, V, H>>,
-    key: &K,
-) -> Result<usize, usize>
+pub(crate) fn place<K: Exact, V>(pairs: &Vec<Pair<K, V>>, key: &K) -> Result<usize, usize>
     requires { IsStrictlySortedBy K.cmp (keys_of pairs.now.items) }
     ensures place { result ≡ place_of (K.cmp key.now) pairs.now.items }
     ensures within { MatchResult result (λ i. i < vec_len pairs.now) (λ i. i ≤ vec_len pairs.now) }
@@ -38,10 +35,7 @@ pub(crate) fn place<K: Exact, V, H: Holds<K, V>>(
 }
 
 /// The same, for keys that mostly come in order: the last pair is looked at first.
-pub(crate) fn place_from_end<K: Exact, V, H: Holds<K, V>>(
-    pairs: &Vec<Pair<K, V, H>>,
-    key: &K,
-) -> Result<usize, usize>
+pub(crate) fn place_from_end<K: Exact, V>(pairs: &Vec<Pair<K, V>>, key: &K) -> Result<usize, usize>
     requires { IsStrictlySortedBy K.cmp (keys_of pairs.now.items) }
     ensures place { result ≡ place_of (K.cmp key.now) pairs.now.items }
     ensures within { MatchResult result (λ i. i < vec_len pairs.now) (λ i. i ≤ vec_len pairs.now) }
@@ -59,7 +53,7 @@ pub(crate) fn place_from_end<K: Exact, V, H: Holds<K, V>>(
 /// Puts a value at a key where it is greater than the one there, and says whether it is.
 pub(crate) fn raise<K: Exact, V: Exact>(
     alloc: Global,
-    pairs: &mut Vec<Boxed<K, V>>,
+    pairs: &mut Vec<Pair<K, V>>,
     key: K,
     value: V,
 ) -> Result<bool, OutOfMemory>
@@ -70,7 +64,7 @@ pub(crate) fn raise<K: Exact, V: Exact>(
         (pairs.new.items ≡ put_by (by_key K.cmp) (by_value V.cmp) (key, value) pairs.old.items) }
     ensures err { OnErr result (pairs.new.items ≡ pairs.old.items) }
 {
-    match place(pairs, &key) {
+    match place_from_end(pairs, &key) {
         Ok(index) => {
             let greater = value.cmp(pairs[index].value()).is_gt();
             if !greater {
@@ -86,33 +80,11 @@ pub(crate) fn raise<K: Exact, V: Exact>(
     }
 }
 
-/// Puts a pair in where its value is greater than the one at its key. There is room for it.
-pub(crate) fn raise_pair<K: Exact, V: Exact, H: Holds<K, V>>(
-    pairs: &mut Vec<Pair<K, V, H>>,
-    pair: Pair<K, V, H>,
-)
-    requires sorted { IsStrictlySortedBy K.cmp (keys_of pairs.old.items) }
-    requires room { vec_len pairs.old < vec_capacity pairs.old }
-    ensures { pairs.new.items ≡ put_by (by_key K.cmp) (by_value V.cmp) pair pairs.old.items }
-{
-    match place_from_end(pairs, pair.key()) {
-        Ok(index) => {
-            let greater = pair.value().cmp(pairs[index].value()).is_gt();
-            if greater {
-                pairs[index] = pair;
-            }
-        }
-        Err(index) => {
-            let _done = pairs.insert(index, pair);
-        }
-    }
-}
-
 /// A copy of the pairs.
 pub(crate) fn copied<K: Exact, V: Exact>(
     alloc: Global,
-    pairs: &Vec<Boxed<K, V>>,
-) -> Result<Vec<Boxed<K, V>>, OutOfMemory>
+    pairs: &Vec<Pair<K, V>>,
+) -> Result<Vec<Pair<K, V>>, OutOfMemory>
     ensures { IfOk result (λ copy. copy.items ≡ pairs.now.items) }
 {
     let mut copy = Vec::with_capacity(alloc, pairs.len())?;
@@ -124,24 +96,9 @@ pub(crate) fn copied<K: Exact, V: Exact>(
     Ok(copy)
 }
 
-/// The same pairs, each in a place of its own.
-pub(crate) fn boxed<K: Drop, V: Drop>(
-    alloc: Global,
-    pairs: Vec<InLine<K, V>>,
-) -> Result<Vec<Boxed<K, V>>, OutOfMemory>
-    ensures { IfOk result (λ out. out.items ≡ pairs.items) }
-{
-    let mut out = Vec::with_capacity(alloc, pairs.len())?;
-    for pair in pairs {
-        let (key, value) = pair.into_parts();
-        out.push(Pair::new(alloc, key, value)?)?;
-    }
-    Ok(out)
-}
-
 /// The pair at a key.
 pub(crate) fn at_key<'a, K: Exact, V: Drop>(
-    pairs: &'a Vec<Boxed<K, V>>,
+    pairs: &'a Vec<Pair<K, V>>,
     key: &K,
 ) -> Option<(&'a K, &'a V)>
     requires { IsStrictlySortedBy K.cmp (keys_of pairs.now.items) }
@@ -154,7 +111,7 @@ pub(crate) fn at_key<'a, K: Exact, V: Drop>(
 }
 
 /// The pair at an index, where there is one.
-fn pair_at<K: Drop, V: Drop>(pairs: &Vec<Boxed<K, V>>, index: usize) -> Option<(&K, &V)>
+fn pair_at<K: Drop, V: Drop>(pairs: &Vec<Pair<K, V>>, index: usize) -> Option<(&K, &V)>
     ensures { option_map deref_pair result ≡ slice_get pairs.now.items index }
 {
     let pair = pairs.get(index)?;
@@ -162,7 +119,7 @@ fn pair_at<K: Drop, V: Drop>(pairs: &Vec<Boxed<K, V>>, index: usize) -> Option<(
 }
 
 /// The first pair.
-pub(crate) fn first_pair<K: Drop, V: Drop>(pairs: &Vec<Boxed<K, V>>) -> Option<(&K, &V)>
+pub(crate) fn first_pair<K: Drop, V: Drop>(pairs: &Vec<Pair<K, V>>) -> Option<(&K, &V)>
     ensures { option_map deref_pair result ≡ first_of pairs.now.items }
 {
     pair_at(pairs, 0)
@@ -170,7 +127,7 @@ pub(crate) fn first_pair<K: Drop, V: Drop>(pairs: &Vec<Boxed<K, V>>) -> Option<(
 
 /// The first pair whose key is greater than this one.
 pub(crate) fn next_after<'a, K: Exact, V: Drop>(
-    pairs: &'a Vec<Boxed<K, V>>,
+    pairs: &'a Vec<Pair<K, V>>,
     key: &K,
 ) -> Option<(&'a K, &'a V)>
     requires { IsStrictlySortedBy K.cmp (keys_of pairs.now.items) }

@@ -139,12 +139,13 @@ fn unusual_stations_gathered(rt: HostRuntime) {
 #[test]
 fn gathered_octets_handed_out(rt: HostRuntime) {
     let builder = hundred_thousand(&rt, rt.alloc());
-    let mut kept = builder.into_octets().expect(&rt, "room");
+    let kept = builder.into_octets().expect(&rt, "room");
     same(&rt, kept.len(), 100_000);
+    let mut lent = kept.lent();
     for number in 0..100_000u32 {
-        let octets = kept.next().expect(&rt, "octets");
+        let octets = lent.next().expect(&rt, "octets");
         let wanted = digits(number);
-        assert!(rt; octets.as_slice() == wanted.as_slice(), "{number}");
+        assert!(rt; octets == wanted.as_slice(), "{number}");
     }
-    same(&rt, kept.len(), 0);
+    assert!(rt; lent.next().is_none(), "no more");
 }

@@ -6,7 +6,7 @@ use Rattle.bufr_collect.proofs.parts.write_parts.Given as goal
 -- so it is with all before those that are left
 abbrev pub invariant-loop-octets : goal.invariant-loop-octets
 invariant-loop-octets g l =
-    Handed (g.W.Sink.writing l.initial.writer) (g.W.Sink.writing l.writer) l.part l.fn.left l.left
+    Handed (g.W.Sink.writing l.initial.writer) (g.W.Sink.writing l.writer) l.part l.fn.kept l.left
 
 -- those that are left
 abbrev pub decreases-loop-octets : goal.decreases-loop-octets

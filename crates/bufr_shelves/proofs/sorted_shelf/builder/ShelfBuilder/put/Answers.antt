@@ -1,34 +1,57 @@
--- For `ShelfBuilder::put`: an entry with a key and one without, each among its pairs.
-use Rattle.std.proofs.Common.{Some, sym, ap, ◌∙◌}
-use Rattle.bufr_shelves.proofs.PutLemmas.{keyed-stays, unkeyed-stays, keyed-put, unkeyed-put}
+-- For `ShelfBuilder::put`: one more entry waits, whether the others were put in order or not.
+use Rattle.std.proofs.Common.{◌∙◌, ◌++◌, ◌∷◌, [], ◌≤◌, length, vec_len, sym, ap, subst, arith, rules}
+use Rattle.bufr_shelves.specs.Entries.{kept}
+use Rattle.bufr_shelves.specs.Pages.{flat, marked}
+use Rattle.bufr_shelves.proofs.PageLemmas.{Ready, ready-settled, more-push, kept-put}
 use Rattle.bufr_shelves.proofs.sorted_shelf.builder.ShelfBuilder.put.Goals as goal
+use Rattle.bufr_shelves.proofs.sorted_shelf.builder.ShelfBuilder.put.Goals.{After-push, then-are_many+in_ok-settle+in_ok-self-inside, else-are_many}
 
--- with a pair put among those with a key the entries stay in order
-pub invariant_of-self : goal.invariant_of-self
-invariant_of-self c =
-    keyed-stays c.put.result c.self.inside.keyed c.self.inside.unkeyed c.put.new.self
-    (c.in_ok-packed-in-Some.packed, record { update = c.args.update; bytes = c.args.bytes })
-    c.self.invariant c.put.ensures.ok c.put.ensures.err
+-- one more may wait
+ready : (c : After-push) → let inside = c.if-are_many.self-inside in
+    Ready (flat inside.settled.items) inside.left inside.waiting.items (vec_len inside.waiting)
+    inside.count c.args.self.now
+ready c = elim c.if-are_many.branch [
+  | then-are_many+in_ok-settle+in_ok-self-inside w ↦ rw w.self-inside-is
+      (ready-settled (flat w.settle.new.settled.items) w.settle.new.left
+      w.settle.new.waiting.items _ _ _ w.settle.ensures.sorted w.in_ok-settle.ensures.done.0
+      w.in_ok-settle.ensures.done.1 (search rules) w.in_ok-self-inside.ensures
+      (w.settle.ensures.all ∙ c.self.view_is))
+  | else-are_many w ↦ rw w.self-inside-is
+      (record {
+        sorted = c.self.invariant.0;
+        few = omega (arith, c.are_many.ensures w.if-are_many.false, c.len.ensures);
+        counted = c.self.invariant.2;
+        same = c.self.view_is;
+      })
+]
 
--- with a pair put among those without a key they stay in order
-pub invariant_of-self-in-None : goal.invariant_of-self-in-None
-invariant_of-self-in-None c =
-    unkeyed-stays c.put-in-None.result c.self.inside.keyed c.self.inside.unkeyed
-    c.put-in-None.new.self (c.args.bytes, c.args.update)
-    c.self.invariant c.put-in-None.ensures.ok c.put-in-None.ensures.err
+-- where there is no room for it, all are as they were
+pub invariant_of-self-in_err-push : goal.invariant_of-self-in_err-push
+invariant_of-self-in_err-push c =
+    let inside = c.if-are_many.self-inside in
+    let r = ready ((goal.at.invariant_of-self-in_err-push c).After-push) in (
+      r.sorted,
+      omega (arith, r.few, c.in_err-push.ensures.len),
+      subst (λ ws. inside.count ≤ length (kept (flat inside.settled.items ++ (inside.left ++ ws))))
+          (sym c.in_err-push.ensures.items) r.counted,
+    )
 
--- an entry with a key is put where its pair is put
-pub returns-in_ok-packed-in-Some-clause-ok : goal.returns-in_ok-packed-in-Some-clause-ok
-returns-in_ok-packed-in-Some-clause-ok c =
-    keyed-put c.put.result c.self.inside.keyed c.self.inside.unkeyed
-    c.args.self.now c.self.view_is c.args.key c.put.new.self
-    (c.in_ok-packed-in-Some.packed, record { update = c.args.update; bytes = c.args.bytes })
-    c.self.invariant (c.in-Some.is ∙ ap Some (sym c.in_ok-packed-in-Some.ensures)) c.put.ensures.ok
+-- no more wait than may
+pub invariant_of-self-2 : goal.invariant_of-self-2
+invariant_of-self-2 c =
+    let inside = c.if-are_many.self-inside in
+    let r = ready ((goal.at.invariant_of-self-2 c).After-push) in (
+      r.sorted,
+      omega (arith, r.few, c.in_ok-push.ensures.len),
+      more-push (flat inside.settled.items) inside.left inside.waiting.items c.push.new.self.items
+          (marked c.in_ok-mark.mark c.args.bytes) inside.count c.in_ok-push.ensures.items r.counted,
+    )
 
--- an entry without key is put where its pair is put
-pub returns-in-None-clause-ok : goal.returns-in-None-clause-ok
-returns-in-None-clause-ok c =
-    unkeyed-put c.put-in-None.result c.self.inside.keyed c.self.inside.unkeyed
-    c.args.self.now c.self.view_is c.args.key c.put-in-None.new.self
-    (c.args.bytes, c.args.update)
-    c.self.invariant c.in-None.is c.put-in-None.ensures.ok
+-- and it is put among the others
+pub returns-clause-ok : goal.returns-clause-ok
+returns-clause-ok c =
+    let inside = c.if-are_many.self-inside in
+    let r = ready ((goal.at.returns-clause-ok c).After-push) in
+    kept-put (flat inside.settled.items) inside.left inside.waiting.items c.push.new.self.items
+    (marked c.in_ok-mark.mark c.args.bytes) c.args.self.now c.in_ok-push.ensures.items r.same
+    ∙ ap (λ m. kept (kept c.args.self.now ++ marked m c.args.bytes ∷ [])) c.in_ok-mark.ensures

@@ -1,0 +1,592 @@
+-- Entries in pages, and those that wait beside them: what is kept of both, step by step. For
+-- `ShelfBuilder` and what it stands on.
+use Rattle.std.proofs.Common.{◌≡◌, ℕ, zero, suc, ◌+◌, ◌*◌, ◌<◌, ◌≤◌, inl, inr, Bool, true, false, cond, Option, Some}
+use Rattle.std.proofs.Common.{None, Result, Ok, Err, OnOk, ◌-◌, List, [], ◌∷◌, ◌++◌, length, take, drop}
+use Rattle.std.proofs.Common.{reverse, get_or, slice_get, slice_index_or, refl, sym}
+use Rattle.std.proofs.Common.{ap, ◌∙◌, subst, arith, append_assoc, length-append, length-drop}
+use Rattle.std.proofs.lemmas.List.{append-nil, reverse-append, take-append-le, drop-append-le}
+use Rattle.std.proofs.lemmas.List.{take_all, nil_from_length, reverse-reverse}
+use Rattle.std.proofs.lemmas.List.Sorted.{sorted_far, Contains-permutation}
+use Rattle.std.proofs.lemmas.List.MinMax.{ranks_by, IsStrictWeakOrder-flip}
+use Rattle.std.proofs.lemmas.Map.Keys.{sorted_head, sorted_tail}
+use Rattle.std.specs.Option.{option_to_list, MatchOption}
+use Rattle.std.specs.List.{AllByRecursion, Contains}
+use Rattle.std.specs.List.Sorted.{IsStrictlySortedBy, IsSortedBy, IsPermutation}
+use Rattle.std.specs.Ordering.{is_gt, is_eq, is_lt, ordering_reverse}
+use Rattle.std.specs.declared.cmp.Ordering.{Ordering}
+use Rattle.std.specs.declared.cmp.Ordering.TheVariants.{Less, Equal, Greater}
+use Rattle.bufr_shelves.specs.Entries.{slot_cmp, rank_cmp, kept}
+use Rattle.bufr_shelves.specs.Keeping.{Has, Within, SameMembers, put_by, first_of}
+use Rattle.bufr_shelves.specs.KeepingLaws.{Covers, Keeps, Has-left, Has-right, Has-append}
+use Rattle.bufr_shelves.specs.KeepingLaws as laws
+use Rattle.bufr_shelves.specs.Merging.{heads_order}
+use Rattle.bufr_shelves.specs.Orders.{slots_total, ranks_total, exact_entries, kept-swap, kept-same}
+use Rattle.bufr_shelves.specs.Orders.{kept-late, kept-kept, kept-early, kept-sorted}
+use Rattle.bufr_shelves.specs.Marks.{MarkView}
+use Rattle.bufr_shelves.specs.Pages.{paged, octets_of, marked, mark_of, flat, AreRising, LeadsAlone}
+use Rattle.bufr_shelves.specs.declared.entry.Entry.{Entry}
+use Rattle.bufr_shelves.specs.declared.sorted_shelf.page.PageEntry.{PageEntry}
+
+-- ---- pages
+
+-- a page with one entry more
+pub paged-push : (es : List PageEntry) (os xs : List ℕ) (e : PageEntry)
+    → octets_of es ≡ length os → e.len ≡ length xs
+    → paged (es ++ e ∷ []) (os ++ xs) ≡ paged es os ++ marked e.mark xs ∷ []
+paged-push [] os xs e h n =
+    let none : os ≡ [] = nil_from_length os (sym h) in
+    ap (λ zs. paged (e ∷ []) (zs ++ xs)) none
+    ∙ ap (λ zs. marked e.mark zs ∷ []) (take_all e.len xs (omega (arith, n)))
+paged-push (d ∷ es) os xs e h n =
+    let fits : d.len ≤ length os = omega (arith, h) in
+    let rest : octets_of es ≡ length (drop d.len os) = omega (arith, h, length-drop d.len os) in
+    ap (λ zs. marked d.mark zs ∷ paged (es ++ e ∷ []) (drop d.len (os ++ xs)))
+    (take-append-le d.len os xs fits)
+    ∙ ap (λ zs. marked d.mark (take d.len os) ∷ paged (es ++ e ∷ []) zs)
+    (drop-append-le d.len os xs fits)
+    ∙ ap (λ zs. marked d.mark (take d.len os) ∷ zs)
+    (paged-push es (drop d.len os) xs e rest n)
+
+-- its octets are so many more
+pub octets_of-push : (es : List PageEntry) (e : PageEntry)
+    → octets_of (es ++ e ∷ []) ≡ octets_of es + e.len
+octets_of-push [] e = omega arith
+octets_of-push (d ∷ es) e = omega (arith, octets_of-push es e)
+
+-- a page has as many entries as it says
+pub length-paged : (es : List PageEntry) (os : List ℕ) → length (paged es os) ≡ length es
+length-paged [] os = refl
+length-paged (e ∷ es) os = ap suc (length-paged es (drop e.len os))
+
+-- so a page that is written goes on
+pub room-fits : (es fs : List PageEntry) (os ps xs : List ℕ) (m : MarkView)
+    → octets_of es ≡ length os → fs ≡ es ++ record { mark = m; len = length xs } ∷ []
+    → ps ≡ os ++ xs → octets_of fs ≡ length ps
+room-fits es fs os ps xs m h f p =
+    ap octets_of f ∙ octets_of-push es (record { mark = m; len = length xs })
+    ∙ ap (λ n. n + length xs) h ∙ sym (length-append os xs) ∙ ap length (sym p)
+
+-- with the entry that is moved
+pub room-view : (es fs : List PageEntry) (os ps xs : List ℕ) (m : MarkView) (ds : List Entry)
+    (e : Entry) (r : Option Entry) → octets_of es ≡ length os
+    → fs ≡ es ++ record { mark = m; len = length xs } ∷ [] → ps ≡ os ++ xs → paged es os ≡ ds
+    → m ≡ mark_of e → xs ≡ e.bytes → r ≡ Some e → paged fs ps ≡ ds ++ option_to_list r
+room-view es fs os ps xs m ds e r h f p d is_mark is_octets is_first =
+    ap (λ z. paged z ps) f
+    ∙ ap (paged (es ++ record { mark = m; len = length xs } ∷ [])) p
+    ∙ paged-push es os xs (record { mark = m; len = length xs }) h refl
+    ∙ ap (λ z. z ++ marked m xs ∷ []) d
+    ∙ ap (λ z. ds ++ marked z xs ∷ []) is_mark
+    ∙ ap (λ z. ds ++ marked (mark_of e) z ∷ []) is_octets
+    ∙ ap (λ z. ds ++ option_to_list z) (sym is_first)
+
+-- pages joined
+pub flat-append : (ps qs : List (List Entry)) → flat (ps ++ qs) ≡ flat ps ++ flat qs
+flat-append [] qs = refl
+flat-append (p ∷ ps) qs = ap (λ es. p ++ es) (flat-append ps qs) ∙ sym (append_assoc p (flat ps) (flat qs))
+
+-- one page more
+pub flat-push : (ps : List (List Entry)) (p : List Entry) → flat (ps ++ p ∷ []) ≡ flat ps ++ p
+flat-push ps p = flat-append ps (p ∷ []) ∙ ap (λ es. flat ps ++ es) (append-nil p)
+
+-- ---- the last of those that wait
+
+-- the first of a list is the first of the list with more behind it
+first-more : (zs : List Entry) (e x : Entry) → first_of zs ≡ Some x
+    → first_of (zs ++ e ∷ []) ≡ Some x
+first-more [] e x h = cc
+first-more (z ∷ zs) e x h = h
+
+-- the last entry is the first of the list turned round
+pub last-is : (xs : List Entry) (y : Entry) → slice_get xs (length xs - 1) ≡ Some y
+    → first_of (reverse xs) ≡ Some y
+last-is [] y h = cc
+last-is (x ∷ []) y h = h
+last-is (x ∷ z ∷ zs) y h =
+    let less : length (z ∷ zs) - 1 ≡ length zs = omega arith in
+    let more : length (x ∷ z ∷ zs) - 1 ≡ suc (length zs) = omega arith in
+    let there : slice_get (z ∷ zs) (length (z ∷ zs) - 1) ≡ Some y =
+    ap (slice_get (z ∷ zs)) less ∙ sym (ap (slice_get (x ∷ z ∷ zs)) more) ∙ h in
+    ap first_of (reverse-append (x ∷ []) (z ∷ zs))
+    ∙ first-more (reverse (z ∷ zs)) x y (last-is (z ∷ zs) y there)
+
+-- so is one that was taken
+pub taken-is : (xs ys : List Entry) (y : Entry) → xs ≡ ys ++ y ∷ [] → reverse xs ≡ y ∷ reverse ys
+taken-is xs ys y h = ap reverse h ∙ reverse-append ys (y ∷ [])
+
+-- and the others follow
+pub rest-taken : (xs ys : List Entry) (n m : ℕ) (r : Option Entry) → n ≡ length xs
+    → m ≡ length ys → xs ≡ ys ++ option_to_list r
+    → MatchOption r ((n ≡ 0) × (m ≡ 0)) (λ _. m + 1 ≡ n) → reverse ys ≡ drop 1 (reverse xs)
+rest-taken xs ys n m None a b h none =
+    ap reverse (nil_from_length ys (sym b ∙ none.1))
+    ∙ sym (ap (λ es. drop 1 (reverse es)) (nil_from_length xs (sym a ∙ none.0)))
+rest-taken xs ys n m (Some y) a b h some = sym (ap (drop 1) (taken-is xs ys y h))
+
+-- two heads are told by their slots
+pub heads-are : (ls rs : List Entry) (l e : Entry) → first_of ls ≡ Some l → first_of rs ≡ Some e
+    → heads_order slot_cmp ls rs ≡ slot_cmp l e
+heads-are [] rs l e a b = cc
+heads-are (k ∷ ls) [] l e a b = cc
+heads-are (k ∷ ls) (f ∷ rs) l e a b =
+    let is_l : k ≡ l = cc in let is_e : f ≡ e = cc in
+    ap (λ z. slot_cmp z f) is_l ∙ ap (slot_cmp l) is_e
+
+-- what is ensured of an answer in two clauses
+pub on_both : {A E : Type 0} (r : Result A E) (P Q : Type 0) → OnOk r P → OnOk r Q
+    → OnOk r (P × Q)
+on_both (Ok a) P Q p q = (p, q)
+on_both (Err e) P Q p q = tt
+
+-- ---- members
+
+-- what holds of two lists holds of both joined
+all_join : (P : Entry → Type 0) (xs ys : List Entry) → AllByRecursion P xs → AllByRecursion P ys
+    → AllByRecursion P (xs ++ ys)
+all_join P [] ys a b = b
+all_join P (x ∷ xs) ys a b = (a.0, all_join P xs ys a.1 b)
+
+-- and of each alone
+all_left : (P : Entry → Type 0) (xs ys : List Entry) → AllByRecursion P (xs ++ ys)
+    → AllByRecursion P xs
+all_left P [] ys a = tt
+all_left P (x ∷ xs) ys a = (a.0, all_left P xs ys a.1)
+
+all_right : (P : Entry → Type 0) (xs ys : List Entry) → AllByRecursion P (xs ++ ys)
+    → AllByRecursion P ys
+all_right P [] ys a = a
+all_right P (x ∷ xs) ys a = all_right P xs ys a.1
+
+-- what holds of each member holds of all
+all_of : (P : Entry → Type 0) (xs : List Entry) → ((x : Entry) → Has xs x → P x)
+    → AllByRecursion P xs
+all_of P [] f = tt
+all_of P (x ∷ xs) f = (f x (inl refl), all_of P xs (λ y h. f y (inr h)))
+
+-- and the other way round
+all_at : (P : Entry → Type 0) (xs : List Entry) (x : Entry) → AllByRecursion P xs → Has xs x → P x
+all_at P [] x a h = absurd h
+all_at P (y ∷ xs) x a (inl e) = subst P (sym e) a.0
+all_at P (y ∷ xs) x a (inr h) = all_at P xs x a.1 h
+
+-- what follows for one follows for all
+all_so : (P Q : Entry → Type 0) → ((x : Entry) → P x → Q x) → (xs : List Entry)
+    → AllByRecursion P xs → AllByRecursion Q xs
+all_so P Q f [] a = tt
+all_so P Q f (x ∷ xs) a = (f x a.0, all_so P Q f xs a.1)
+
+-- ---- slots
+
+-- of two slots the order the other way round
+turned : (a b : Entry) (o : Ordering) → slot_cmp a b ≡ o → slot_cmp b a ≡ ordering_reverse o
+turned a b o h = slots_total.antisymm b a ∙ ap ordering_reverse h
+
+-- an entry that comes before one of two that tie comes before the other
+less_tied : (d k x : Entry) → slot_cmp d k ≡ Less → slot_cmp x k ≡ Equal → slot_cmp d x ≡ Less
+less_tied d k x h e =
+    turned x d Greater (slots_total.congr x k d e ∙ turned d k Less h)
+
+-- one that comes before another comes before what that does not follow
+less_upto : (d e f : Entry) → slot_cmp d e ≡ Less → is_gt (slot_cmp e f) ≡ false
+    → slot_cmp d f ≡ Less
+less_upto d e f h u =
+    elim (slot_cmp e f) as (λ o. slot_cmp e f ≡ o → is_gt o ≡ false → slot_cmp d f ≡ Less) [
+      | Less ↦ λ l _. slots_total.trans d e f h l
+      | Equal ↦ λ l _. less_tied d e f h (turned e f Equal l)
+      | Greater ↦ λ _ z. cc
+    ] refl u
+
+-- an entry before the first of some in order comes before all
+less_rising : (d e : Entry) (es : List Entry) → slot_cmp d e ≡ Less → AreRising (e ∷ es)
+    → AllByRecursion (λ f. slot_cmp d f ≡ Less) (e ∷ es)
+less_rising d e es h r = (
+  h,
+  all_so (λ f. is_gt (slot_cmp e f) ≡ false) (λ f. slot_cmp d f ≡ Less)
+      (λ f u. less_upto d e f h u) es r.0,
+)
+
+-- or of some in strict order
+less_sorted : (d e : Entry) (es : List Entry) → slot_cmp d e ≡ Less
+    → IsStrictlySortedBy slot_cmp (e ∷ es) → AllByRecursion (λ f. slot_cmp d f ≡ Less) (e ∷ es)
+less_sorted d e es h s = (
+  h,
+  all_so (λ f. slot_cmp e f ≡ Less) (λ f. slot_cmp d f ≡ Less)
+      (λ f l. slots_total.trans d e f h l) es (sorted_head slot_cmp e es s),
+)
+
+-- ---- what is kept
+
+-- an entry before all goes in front
+put_first : (e : Entry) (ks : List Entry) → AllByRecursion (λ f. slot_cmp e f ≡ Less) ks
+    → put_by slot_cmp rank_cmp e ks ≡ e ∷ ks
+put_first e [] a = refl
+put_first e (k ∷ ks) a = laws.put_less slot_cmp rank_cmp e k ks a.0
+
+-- so it is the first of what is kept
+kept_first : (e : Entry) (es : List Entry) → AllByRecursion (λ f. slot_cmp e f ≡ Less) es
+    → kept (e ∷ es) ≡ e ∷ kept es
+kept_first e es a =
+    put_first e (kept es) (all_of (λ f. slot_cmp e f ≡ Less) (kept es)
+    (λ x h. all_at (λ f. slot_cmp e f ≡ Less) es x a
+    ((laws.kept_keeps slot_cmp rank_cmp slots_total ranks_total es).from x h)))
+
+-- an entry in the middle may stand in front
+kept_mid : (xs ys : List Entry) (e : Entry) → kept (xs ++ e ∷ ys) ≡ kept (e ∷ (xs ++ ys))
+kept_mid xs ys e =
+    kept-swap xs (e ∷ ys) ∙ ap (put_by slot_cmp rank_cmp e) (kept-swap ys xs)
+
+-- an entry of whose slot there is one of a rank that is not less may go
+kept_gone : (e f : Entry) (es : List Entry) → Has es f → slot_cmp e f ≡ Equal
+    → is_gt (rank_cmp e f) ≡ false → kept (e ∷ es) ≡ kept es
+kept_gone e f es m s r =
+    let k = laws.kept_keeps slot_cmp rank_cmp slots_total ranks_total es in
+    let c = laws.covers_trans slot_cmp rank_cmp slots_total ranks_total (kept es) e f s r
+    (k.covered f m) in
+    let one : Keeps slot_cmp rank_cmp (e ∷ es) (kept es) = record {
+      ordered = k.ordered;
+      from = λ x h. inr (k.from x h);
+      covered = λ x h. elim h [
+        | inl q ↦ subst (Covers slot_cmp rank_cmp (kept es)) (sym q) c
+        | inr n ↦ k.covered x n
+      ];
+    } in
+    laws.keeps_one slot_cmp rank_cmp slots_total ranks_total exact_entries (e ∷ es) _ _
+    (laws.kept_keeps slot_cmp rank_cmp slots_total ranks_total (e ∷ es)) one
+
+-- of two ranks at most one is greater
+not_both : (a b : Entry) → is_gt (rank_cmp a b) ≡ true → is_gt (rank_cmp b a) ≡ false
+not_both a b h =
+    rw (ranks_total.antisymm b a)
+    (elim (rank_cmp a b) as (λ o. is_gt o ≡ true → is_gt (ordering_reverse o) ≡ false)
+    [ Less ↦ λ z. cc | Equal ↦ λ z. cc | Greater ↦ λ _. refl ] h)
+
+-- ---- the steps of `step`
+
+-- the first entry of the pages comes before all others
+pub step-left : (ds ls rs : List Entry) → IsStrictlySortedBy slot_cmp ls → AreRising rs
+    → heads_order slot_cmp ls rs ≡ Less
+    → (ds ++ option_to_list (first_of ls)) ++ kept (drop 1 ls ++ rs) ≡ ds ++ kept (ls ++ rs)
+step-left ds [] [] s r h = ap (λ es. es ++ []) (append-nil ds)
+step-left ds [] (e ∷ rs) s r h = cc
+step-left ds (l ∷ ls) [] s r h =
+    append_assoc ds (l ∷ []) (kept (ls ++ []))
+    ∙ ap (λ es. ds ++ es) (sym (kept_first l (ls ++ [])
+    (all_join (λ f. slot_cmp l f ≡ Less) ls [] (sorted_head slot_cmp l ls s) tt)))
+step-left ds (l ∷ ls) (e ∷ rs) s r h =
+    append_assoc ds (l ∷ []) (kept (ls ++ e ∷ rs))
+    ∙ ap (λ es. ds ++ es) (sym (kept_first l (ls ++ e ∷ rs)
+    (all_join (λ f. slot_cmp l f ≡ Less) ls (e ∷ rs) (sorted_head slot_cmp l ls s)
+    (less_rising l e rs h r))))
+
+-- the last that waits comes before all others
+pub step-last : (ds ls rs : List Entry) → IsStrictlySortedBy slot_cmp ls → LeadsAlone rs
+    → heads_order slot_cmp ls rs ≡ Greater
+    → (ds ++ option_to_list (first_of rs)) ++ kept (ls ++ drop 1 rs) ≡ ds ++ kept (ls ++ rs)
+step-last ds ls [] s a h = cc
+step-last ds [] (e ∷ rs) s a h =
+    append_assoc ds (e ∷ []) (kept rs) ∙ ap (λ es. ds ++ es) (sym (kept_first e rs a))
+step-last ds (l ∷ ls) (e ∷ rs) s a h =
+    append_assoc ds (e ∷ []) (kept ((l ∷ ls) ++ rs))
+    ∙ ap (λ es. ds ++ es) (sym (kept_mid (l ∷ ls) rs e ∙ kept_first e ((l ∷ ls) ++ rs)
+    (all_join (λ f. slot_cmp e f ≡ Less) (l ∷ ls) rs
+    (less_sorted e l ls (turned l e Greater h) s) a)))
+
+-- the first entry of the pages gives way
+pub drop-left : (ls rs : List Entry) (l e : Entry) → first_of ls ≡ Some l → first_of rs ≡ Some e
+    → heads_order slot_cmp ls rs ≡ Equal → is_gt (rank_cmp e l) ≡ true
+    → kept (drop 1 ls ++ rs) ≡ kept (ls ++ rs)
+drop-left [] rs l e a b h g = cc
+drop-left (k ∷ ls) [] l e a b h g = cc
+drop-left (k ∷ ls) (f ∷ rs) l e a b h g =
+    let is_l : k ≡ l = cc in let is_e : f ≡ e = cc in
+    let up : is_gt (rank_cmp f k) ≡ true =
+    ap is_gt (ap (λ z. rank_cmp z k) is_e ∙ ap (rank_cmp e) is_l) ∙ g in
+    sym (kept_gone k f (ls ++ f ∷ rs) (Has-right ls (f ∷ rs) f (inl refl)) h (not_both f k up))
+
+-- or the last that waits
+pub drop-last : (ls rs : List Entry) (l e : Entry) → first_of ls ≡ Some l → first_of rs ≡ Some e
+    → heads_order slot_cmp ls rs ≡ Equal → is_gt (rank_cmp e l) ≡ false
+    → kept (ls ++ drop 1 rs) ≡ kept (ls ++ rs)
+drop-last [] rs l e a b h g = cc
+drop-last (k ∷ ls) [] l e a b h g = cc
+drop-last (k ∷ ls) (f ∷ rs) l e a b h g =
+    let is_l : k ≡ l = cc in let is_e : f ≡ e = cc in
+    let up : is_gt (rank_cmp f k) ≡ false =
+    ap is_gt (ap (λ z. rank_cmp z k) is_e ∙ ap (rank_cmp e) is_l) ∙ g in
+    sym (kept_mid (k ∷ ls) rs f ∙ kept_gone f k ((k ∷ ls) ++ rs) (inl refl)
+    (turned k f Equal h) up)
+
+-- some in order without the first are in order
+pub rising-rest : (rs : List Entry) → AreRising rs → AreRising (drop 1 rs)
+rising-rest [] r = tt
+rising-rest (e ∷ rs) r = r.1
+
+-- so are some in strict order
+pub sorted-rest : (ls : List Entry) → IsStrictlySortedBy slot_cmp ls
+    → IsStrictlySortedBy slot_cmp (drop 1 ls)
+sorted-rest [] s = s
+sorted-rest (l ∷ ls) s = sorted_tail slot_cmp l ls s
+
+-- ---- of two entries of one slot
+
+-- they stay in order without the lesser
+pub tied-rising : (e f : Entry) (rs : List Entry) → AreRising (e ∷ f ∷ rs)
+    → AreRising (cond (is_gt (rank_cmp e f)) e f ∷ rs)
+tied-rising e f rs r =
+    elim (is_gt (rank_cmp e f)) as (λ b. AreRising (cond b e f ∷ rs))
+    [ true ↦ (r.0.1, r.1.1) | false ↦ r.1 ]
+
+-- what is kept stays
+pub tied-kept : (e f : Entry) (rs : List Entry) → is_eq (slot_cmp e f) ≡ true
+    → kept (cond (is_gt (rank_cmp e f)) e f ∷ rs) ≡ kept (e ∷ f ∷ rs)
+tied-kept e f rs t =
+    let same : slot_cmp e f ≡ Equal =
+    elim (slot_cmp e f) as (λ o. is_eq o ≡ true → o ≡ Equal)
+    [ Less ↦ λ z. cc | Equal ↦ λ _. refl | Greater ↦ λ z. cc ] t in
+    elim (is_gt (rank_cmp e f)) as (λ b. is_gt (rank_cmp e f) ≡ b
+    → kept (cond b e f ∷ rs) ≡ kept (e ∷ f ∷ rs)) [
+      | true ↦ λ g. sym (kept_mid (e ∷ []) rs f
+          ∙ kept_gone f e (e ∷ rs) (inl refl) (turned e f Equal same) (not_both e f g))
+      | false ↦ λ g. sym (kept_gone e f (f ∷ rs) (inl refl) same g)
+    ] refl
+
+-- if they have not one slot, the first comes before all
+pub apart-leads : (e f : Entry) (rs : List Entry) → AreRising (e ∷ f ∷ rs)
+    → is_eq (slot_cmp e f) ≡ false → LeadsAlone (e ∷ f ∷ rs)
+apart-leads e f rs r t =
+    let less : slot_cmp e f ≡ Less =
+    elim (slot_cmp e f) as (λ o. is_gt o ≡ false → is_eq o ≡ false → o ≡ Less)
+    [ Less ↦ λ _ _. refl | Equal ↦ λ _ z. cc | Greater ↦ λ z _. cc ] r.0.0 t in
+    less_rising e f rs less r.1
+
+-- ---- order
+
+-- what is left of pages may stand behind those that were made
+pub sorted-back : (ds ls rs : List Entry) → IsStrictlySortedBy slot_cmp ls
+    → IsStrictlySortedBy slot_cmp (ds ++ kept (ls ++ rs))
+    → IsStrictlySortedBy slot_cmp (ds ++ ls)
+unfolding IsStrictlySortedBy
+sorted-back [] ls rs s t = s
+sorted-back (d ∷ ds) ls rs s t =
+    let k = laws.kept_keeps slot_cmp rank_cmp slots_total ranks_total (ls ++ rs) in
+    let P : Entry → Type 0 = λ f. slot_cmp d f ≡ Less in (
+      all_join P ds ls (all_left P ds (kept (ls ++ rs)) t.0)
+          (all_of P ls (λ x h. let c = k.covered x (Has-left ls rs x h) in
+          less_tied d c.by x (all_at P (kept (ls ++ rs)) c.by
+          (all_right P ds (kept (ls ++ rs)) t.0) c.member) c.same)),
+      sorted-back ds ls rs s t.1,
+    )
+
+-- one more behind some in order
+rising-push : (es : List Entry) (x : Entry) → AreRising es
+    → AllByRecursion (λ e. is_gt (slot_cmp e x) ≡ false) es → AreRising (es ++ x ∷ [])
+rising-push [] x r a = (tt, tt)
+rising-push (e ∷ es) x r a = (
+  all_join (λ f. is_gt (slot_cmp e f) ≡ false) es (x ∷ []) r.0 (a.0, tt),
+  rising-push es x r.1 a.1,
+)
+
+-- what holds of all holds of all turned round
+all_reverse : (P : Entry → Type 0) (xs : List Entry) → AllByRecursion P xs
+    → AllByRecursion P (reverse xs)
+all_reverse P [] a = tt
+all_reverse P (x ∷ xs) a =
+    subst (AllByRecursion P) (sym (reverse-append (x ∷ []) xs))
+    (all_join P (reverse xs) (x ∷ []) (all_reverse P xs a.1) (a.0, tt))
+
+-- the order of the slots of two entries, from the greatest down
+abbrev pub falls : Entry → Entry → Bool
+falls e f = is_lt (slot_cmp f e)
+
+-- no entry of a list comes before one that stands behind it
+abbrev Far : List Entry → Type 0
+Far xs = (i j : ℕ) (d : Entry) → i ≤ j → j < length xs → falls (get_or xs j d) (get_or xs i d) ≡ false
+
+-- what does not come before another is not followed by it
+not_before : (a b : Entry) → is_lt (slot_cmp a b) ≡ false → is_gt (slot_cmp b a) ≡ false
+not_before a b h =
+    rw (slots_total.antisymm b a)
+    (elim (slot_cmp a b) as (λ o. is_lt o ≡ false → is_gt (ordering_reverse o) ≡ false)
+    [ Less ↦ λ z. cc | Equal ↦ λ _. refl | Greater ↦ λ _. refl ] h)
+
+-- what holds at each index holds of all
+all_indices : (P : Entry → Type 0) (xs : List Entry)
+    → ((k : ℕ) (d : Entry) → k < length xs → P (get_or xs k d)) → AllByRecursion P xs
+all_indices P [] f = tt
+all_indices P (x ∷ xs) f =
+    (f 0 x (omega arith), all_indices P xs (λ k d lt. f (suc k) d (omega (arith, lt))))
+
+far-rising : (xs : List Entry) → Far xs → AreRising (reverse xs)
+far-rising [] f = tt
+far-rising (x ∷ xs) f =
+    let rest = far-rising xs (λ i j d le lt. f (suc i) (suc j) d (omega (arith, le)) (omega (arith, lt))) in
+    let before : AllByRecursion (λ e. is_gt (slot_cmp e x) ≡ false) xs =
+    all_indices (λ e. is_gt (slot_cmp e x) ≡ false) xs
+    (λ k d lt. not_before x (get_or xs k d) (f 0 (suc k) d (omega arith) (omega (arith, lt)))) in
+    subst AreRising (sym (reverse-append (x ∷ []) xs))
+    (rising-push (reverse xs) x rest
+    (all_reverse (λ e. is_gt (slot_cmp e x) ≡ false) xs before))
+
+-- entries that were sorted from the greatest slot down are in order from the last on
+pub rising-sorted : (xs : List Entry) → IsSortedBy falls xs → AreRising (reverse xs)
+rising-sorted xs s =
+    far-rising xs (sorted_far falls (IsStrictWeakOrder-flip (λ e f. is_lt (slot_cmp e f))
+    (ranks_by slots_total (λ e. e))) xs s)
+
+-- ---- what is kept of all
+
+-- a member stands at some index
+has-contains : {A : Type 0} (xs : List A) (x : A) → Has xs x → Contains xs x
+has-contains [] x h = absurd h
+has-contains (y ∷ xs) x (inl e) = let lt : 0 < length (y ∷ xs) = omega arith in (0, lt, sym e)
+has-contains (y ∷ xs) x (inr h) =
+    let c = has-contains xs x h in
+    let k = c.0 in
+    let lt : suc k < length (y ∷ xs) = omega (arith, c.1) in
+    (suc k, lt, c.2)
+
+-- what stands at some index is a member
+contains-has : {A : Type 0} (xs : List A) (x : A) (k : ℕ) → k < length xs
+    → slice_index_or xs k x ≡ x → Has xs x
+contains-has [] x k l e = absurd (omega (arith, l))
+contains-has (y ∷ xs) x zero l e = inl (sym e)
+contains-has (y ∷ xs) x (suc k) l e =
+    let lt : k < length xs = omega (arith, l) in inr (contains-has xs x k lt e)
+
+-- lists of the same members in another order
+pub Within-permutation : {A : Type 0} (xs ys : List A) → IsPermutation xs ys → Within xs ys
+Within-permutation xs ys p x h =
+    let c = Contains-permutation xs ys x p (has-contains xs x h) in
+    contains-has ys x c.0 c.1 c.2
+
+-- a member is one of the list turned round
+has-reverse : (xs : List Entry) (x : Entry) → Has xs x → Has (reverse xs) x
+has-reverse [] x h = absurd h
+has-reverse (y ∷ xs) x h =
+    subst (λ zs. Has zs x) (sym (reverse-append (y ∷ []) xs))
+    (elim h [
+      | inl e ↦ Has-right (reverse xs) (y ∷ []) x (inl e)
+      | inr m ↦ Has-left (reverse xs) (y ∷ []) x (has-reverse xs x m)
+    ])
+
+-- and the other way round
+same-reverse : (xs : List Entry) → SameMembers xs (reverse xs)
+same-reverse xs = (
+  λ x h. has-reverse xs x h,
+  λ x h. subst (λ zs. Has zs x) (reverse-reverse xs) (has-reverse (reverse xs) x h),
+)
+
+-- those that wait may change places
+pub kept-anyhow : (ds ls vs ws : List Entry) → SameMembers vs ws
+    → kept (ds ++ (ls ++ vs)) ≡ kept (ds ++ (ls ++ ws))
+kept-anyhow ds ls vs ws s =
+    sym (kept-late ds (ls ++ vs))
+    ∙ ap (λ es. kept (ds ++ es)) (sym (kept-late ls vs) ∙ ap (λ es. kept (ls ++ es))
+    (kept-same vs ws s) ∙ kept-late ls ws)
+    ∙ kept-late ds (ls ++ ws)
+
+-- with what is kept of pages and of those that wait, from the last on, in their place
+pub kept-turned : (ds ls ws : List Entry)
+    → kept (ds ++ (ls ++ ws)) ≡ kept (ds ++ kept (ls ++ reverse ws))
+kept-turned ds ls ws =
+    kept-anyhow ds ls ws (reverse ws) (same-reverse ws) ∙ sym (kept-late ds (ls ++ reverse ws))
+
+-- other entries that wait, of which the same are kept
+pub kept-beside : (ls vs ws : List Entry) → kept vs ≡ kept ws → kept (ls ++ vs) ≡ kept (ls ++ ws)
+kept-beside ls vs ws h =
+    sym (kept-late ls vs) ∙ ap (λ es. kept (ls ++ es)) h ∙ kept-late ls ws
+
+-- ---- what `ShelfBuilder` holds
+
+-- where all are in order, they are what is kept
+pub all-settled : (ss ls ws s : List Entry) → IsStrictlySortedBy slot_cmp (ss ++ ls) → ls ≡ []
+    → ws ≡ [] → kept (ss ++ (ls ++ ws)) ≡ s → ss ≡ s
+all-settled ss ls ws s sorted l w h =
+    let alone : IsStrictlySortedBy slot_cmp ss =
+    subst (IsStrictlySortedBy slot_cmp) (ap (λ es. ss ++ es) l ∙ append-nil ss) sorted in
+    sym (kept-sorted ss alone) ∙ ap kept (sym (append-nil ss))
+    ∙ ap (λ es. kept (ss ++ (es ++ []))) (sym l)
+    ∙ ap (λ es. kept (ss ++ (ls ++ es))) (sym w) ∙ h
+
+-- entries to which one may be put: in order, of which few wait, and all as they were
+pub record Ready (ss ls ws : List Entry) (waiting count : ℕ) (s : List Entry) : Type 0 where
+  pub sorted : IsStrictlySortedBy slot_cmp (ss ++ ls)
+  pub few : waiting < 64 + 2 * count
+  pub counted : count ≤ length (kept (ss ++ (ls ++ ws)))
+  pub same : kept (ss ++ (ls ++ ws)) ≡ s
+
+-- they are where all were put in order,
+pub ready-settled : (ss ls ws : List Entry) (waiting count : ℕ) (s : List Entry)
+    → IsStrictlySortedBy slot_cmp (ss ++ ls) → ls ≡ [] → ws ≡ [] → waiting ≡ length ws
+    → count ≡ length ss → kept (ss ++ (ls ++ ws)) ≡ s → Ready ss ls ws waiting count s
+ready-settled ss ls ws waiting count s sorted l w n k h =
+    let none : length ws ≡ 0 = ap length w in
+    let all : length ss ≡ length (kept (ss ++ (ls ++ ws))) =
+    ap length (all-settled ss ls ws _ sorted l w refl) in
+    record {
+      sorted = sorted;
+      few = omega (arith, none, n);
+      counted = omega (arith, k, all);
+      same = h;
+    }
+
+-- no fewer are kept with one more
+put_more : (e : Entry) (ks : List Entry) → length ks ≤ length (put_by slot_cmp rank_cmp e ks)
+put_more e [] = omega arith
+put_more e (k ∷ ks) =
+    elim (slot_cmp e k) as (λ o. slot_cmp e k ≡ o
+    → length (k ∷ ks) ≤ length (put_by slot_cmp rank_cmp e (k ∷ ks))) [
+      | Less ↦ λ h. let n = ap length (laws.put_less slot_cmp rank_cmp e k ks h) in
+          omega (arith, n)
+      | Equal ↦ λ h. let n = ap length (laws.put_equal slot_cmp rank_cmp e k ks h) in
+          omega (arith, n)
+      | Greater ↦ λ h. let n = ap length (laws.put_greater slot_cmp rank_cmp e k ks h) in
+          omega (arith, n, put_more e ks)
+    ] refl
+
+-- one more that waits is put in
+pub kept-push : (ss ls ws : List Entry) (e : Entry)
+    → kept (ss ++ (ls ++ (ws ++ e ∷ []))) ≡ kept (kept (ss ++ (ls ++ ws)) ++ e ∷ [])
+kept-push ss ls ws e =
+    ap (λ es. kept (ss ++ es)) (sym (append_assoc ls ws (e ∷ [])))
+    ∙ ap kept (sym (append_assoc ss (ls ++ ws) (e ∷ [])))
+    ∙ sym (kept-early (ss ++ (ls ++ ws)) (e ∷ []))
+
+-- so no fewer are kept
+pub more-push : (ss ls ws vs : List Entry) (e : Entry) (count : ℕ) → vs ≡ ws ++ e ∷ []
+    → count ≤ length (kept (ss ++ (ls ++ ws))) → count ≤ length (kept (ss ++ (ls ++ vs)))
+more-push ss ls ws vs e count v h =
+    let ks = kept (ss ++ (ls ++ ws)) in
+    let put : kept (ss ++ (ls ++ vs)) ≡ put_by slot_cmp rank_cmp e ks =
+    ap (λ es. kept (ss ++ (ls ++ es))) v ∙ kept-push ss ls ws e
+    ∙ kept-swap ks (e ∷ []) ∙ ap (put_by slot_cmp rank_cmp e) (kept-kept (ss ++ (ls ++ ws))) in
+    let n = ap length put in
+    omega (arith, h, n, put_more e ks)
+
+-- and it stands beside what was kept
+pub kept-put : (ss ls ws vs : List Entry) (e : Entry) (s : List Entry) → vs ≡ ws ++ e ∷ []
+    → kept (ss ++ (ls ++ ws)) ≡ s
+    → kept (kept (ss ++ (ls ++ vs))) ≡ kept (kept s ++ e ∷ [])
+kept-put ss ls ws vs e s v h =
+    kept-kept (ss ++ (ls ++ vs)) ∙ ap (λ es. kept (ss ++ (ls ++ es))) v ∙ kept-push ss ls ws e
+    ∙ ap (λ es. kept (es ++ e ∷ [])) h ∙ sym (kept-early s (e ∷ []))
+
+-- ---- a shelf that is made of pages
+
+-- with one entry more on the shelf, what is kept of it and of those left is the same
+pub shelf-more : (ks js ls ms : List Entry) (e f : Entry) (s : List Entry)
+    → js ≡ kept (ks ++ e ∷ []) → e ≡ f → first_of ls ≡ Some f → ms ≡ drop 1 ls
+    → kept (ks ++ ls) ≡ s → kept (js ++ ms) ≡ s
+shelf-more ks js [] ms e f s j same first m h = cc
+shelf-more ks js (l ∷ ls) ms e f s j same first m h =
+    let is_f : l ≡ f = cc in
+    ap (λ es. kept (es ++ ms)) j ∙ ap (λ es. kept (kept (ks ++ e ∷ []) ++ es)) m
+    ∙ kept-early (ks ++ e ∷ []) ls ∙ ap kept (append_assoc ks (e ∷ []) ls)
+    ∙ ap (λ z. kept (ks ++ z ∷ ls)) (same ∙ sym is_f) ∙ h
+
+-- where none is left, the shelf has them all
+pub shelf-done : (ks ls s : List Entry) → first_of ls ≡ None → kept (kept ks ++ ls) ≡ s
+    → kept ks ≡ s
+shelf-done ks [] s none h =
+    sym (kept-kept ks) ∙ ap kept (sym (append-nil (kept ks))) ∙ h
+shelf-done ks (l ∷ ls) s none h = cc

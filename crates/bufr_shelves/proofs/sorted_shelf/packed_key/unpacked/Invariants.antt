@@ -1,7 +1,0 @@
--- For `unpacked`: what its loop keeps.
-use Rattle.std.proofs.Common.{◌≡◌}
-use Rattle.bufr_shelves.proofs.sorted_shelf.packed_key.unpacked.Given as goal
-
--- the pairs so far stand there
-abbrev pub invariant-loop-pair : goal.invariant-loop-pair
-invariant-loop-pair l = l.out.items ≡ l.yielded

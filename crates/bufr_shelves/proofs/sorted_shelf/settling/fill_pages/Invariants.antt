@@ -1,0 +1,21 @@
+-- For `fill_pages`: what its loop keeps, and why it ends.
+use Rattle.std.proofs.Common.{◌≡◌, ◌+◌, ◌≤◌, ◌++◌, length, reverse, vec_len}
+use Rattle.std.specs.List.Sorted.{IsStrictlySortedBy}
+use Rattle.bufr_shelves.specs.Entries.{slot_cmp, kept}
+use Rattle.bufr_shelves.specs.Pages.{flat, AreRising}
+use Rattle.bufr_shelves.proofs.sorted_shelf.settling.fill_pages.Given as goal
+
+-- what is left is in order, what the pages have and what is kept of the rest are the same, and no
+-- more wait
+abbrev pub invariant-loop-alloc : goal.invariant-loop-alloc
+invariant-loop-alloc l = record {
+  sorted : IsStrictlySortedBy slot_cmp l.left;
+  rising : AreRising (reverse l.waiting.items);
+  all : flat l.settled.items ++ kept (l.left ++ reverse l.waiting.items)
+      ≡ flat l.fn.settled.items ++ kept (l.fn.left ++ reverse l.fn.waiting.items);
+  fewer : vec_len l.waiting ≤ vec_len l.fn.waiting;
+}
+
+-- the entries left
+abbrev pub decreases-loop-alloc : goal.decreases-loop-alloc
+decreases-loop-alloc l = length l.left + vec_len l.waiting

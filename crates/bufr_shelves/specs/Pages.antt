@@ -1,0 +1,46 @@
+-- Entries while they are gathered: in pages, where the octets of many stand in one place.
+use Rattle.std.specs.Prelude.{◌≡◌, ℕ, ◌+◌, false, List, [], ◌∷◌, take, drop}
+use Rattle.std.specs.List.{flat_map, AllByRecursion}
+use Rattle.std.specs.Ordering.{is_gt}
+use Rattle.std.specs.declared.cmp.Ordering.TheVariants.{Less}
+use Rattle.bufr_shelves.specs.Entries.{slot_cmp}
+use Rattle.bufr_shelves.specs.Marks.{MarkView}
+use Rattle.bufr_shelves.specs.declared.entry.Entry.{Entry}
+use Rattle.bufr_shelves.specs.declared.sorted_shelf.gathered.Look.{Look}
+use Rattle.bufr_shelves.specs.declared.sorted_shelf.page.PageEntry.{PageEntry}
+
+-- an entry with this mark and these octets
+abbrev pub marked : MarkView → List ℕ → Entry
+marked mark octets = record { key = mark.key; update = mark.update; bytes = octets }
+
+-- the mark of an entry
+abbrev pub mark_of : Entry → MarkView
+mark_of e = record { key = e.key; update = e.update }
+
+-- an entry that is looked at
+abbrev pub seen : Look → Entry
+seen look = marked look.mark.now look.octets.now
+
+-- the entries of a page: the octets of each come first in what those before it leave
+abbrev pub paged : List PageEntry → List ℕ → List Entry
+paged [] octets = []
+paged (e ∷ es) octets = marked e.mark (take e.len octets) ∷ paged es (drop e.len octets)
+
+-- how many octets they have
+abbrev pub octets_of : List PageEntry → ℕ
+octets_of [] = 0
+octets_of (e ∷ es) = e.len + octets_of es
+
+-- the entries of all pages
+abbrev pub flat : List (List Entry) → List Entry
+flat pages = flat_map (λ p. p) pages
+
+-- no entry comes before one that stands in front of it
+abbrev pub AreRising : List Entry → Type 0
+AreRising [] = Unit
+AreRising (e ∷ es) = AllByRecursion (λ f. is_gt (slot_cmp e f) ≡ false) es × AreRising es
+
+-- the first comes before all others
+abbrev pub LeadsAlone : List Entry → Type 0
+LeadsAlone [] = Unit
+LeadsAlone (e ∷ es) = AllByRecursion (λ f. slot_cmp e f ≡ Less) es

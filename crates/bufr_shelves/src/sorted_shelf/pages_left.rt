@@ -1,0 +1,99 @@
+//! Pages of which the entries are taken one by one.
+ghost use Rattle.std.specs.Prelude.{◌≡◌, ◌++◌, ◌<◌, [], drop, length, reverse, OnOk};
+ghost use Rattle.std.specs.Option.{option_map};
+ghost use Rattle.bufr_shelves.specs.Keeping.{first_of};
+ghost use Rattle.bufr_shelves.specs.Pages.{flat, mark_of, seen};
+
+use crate::mark::Mark;
+use crate::sorted_shelf::gathered::Look;
+use crate::sorted_shelf::page::Page;
+use bufr_answers::OutOfMemory;
+use std::alloc::Global;
+use std::marker::Model;
+use std::mem;
+
+/// Pages in order, from whose front entries are taken. Contracts see the entries that are left.
+#[derive(Drop)]
+pub(crate) struct PagesLeft {
+    page: Page,
+    // The last one comes first.
+    pages: Vec<Page>,
+}
+
+impl Model for PagesLeft {
+    ghost use Rattle.std.specs.Prelude.{◌≡◌, ◌++◌, [], List, reverse};
+    ghost use Rattle.bufr_shelves.specs.declared.entry.Entry.{Entry as AnEntry};
+    ghost use Rattle.bufr_shelves.specs.Pages.{flat};
+
+    ghost Value = { List AnEntry };
+
+    ghost view = { λ a. a.page ++ flat (reverse a.pages.items) };
+
+    ghost invariant = { λ a. (a.page ≡ []) → (a.pages.items ≡ []) };
+}
+
+/// Goes on to the next page that has an entry, where one has none.
+fn turn(page: &mut Page, pages: &mut Vec<Page>)
+    ensures all { page.new ++ flat (reverse pages.new.items)
+        ≡ page.old ++ flat (reverse pages.old.items) }
+    ensures turned { (page.new ≡ []) → (pages.new.items ≡ []) }
+{
+    while page.len() == 0 {
+        let Some(next) = pages.pop() else {
+            return;
+        };
+        *page = next;
+    }
+}
+
+impl PagesLeft {
+    /// No entries. It takes no memory.
+    pub(crate) fn new(alloc: Global) -> PagesLeft
+        ensures { result ≡ [] }
+    {
+        PagesLeft {
+            page: Page::none(alloc),
+            pages: Vec::new(alloc),
+        }
+    }
+
+    /// The first entry.
+    pub(crate) fn first(&self) -> Option<Look>
+        ensures { option_map seen result ≡ first_of self.now }
+    {
+        self.page.first()
+    }
+
+    /// Takes the first entry, and gives its mark.
+    pub(crate) fn take_first(&mut self) -> Option<Mark>
+        ensures mark { result ≡ option_map mark_of (first_of self.old) }
+        ensures rest { self.new ≡ drop 1 self.old }
+    {
+        let mark = self.page.take_first();
+        turn(&mut self.page, &mut self.pages);
+        mark
+    }
+
+    /// Drops the first entry.
+    pub(crate) fn drop_first(&mut self)
+        ensures { self.new ≡ drop 1 self.old }
+    {
+        let _mark = self.take_first();
+    }
+
+    /// Takes pages in front of these, from the last on. Where memory was refused some stay.
+    pub(crate) fn take_back(&mut self, settled: &mut Vec<Page>) -> Result<(), OutOfMemory>
+        ensures all { flat settled.new.items ++ self.new ≡ flat settled.old.items ++ self.old }
+        ensures done { OnOk result (settled.new.items ≡ []) }
+    {
+        loop {
+            self.pages.reserve(1)?;
+            let Some(page) = settled.pop() else {
+                return Ok(());
+            };
+            if page.len() > 0 {
+                self.pages.push_reserved(mem::replace(&mut self.page, page));
+            }
+        }
+    }
+}
