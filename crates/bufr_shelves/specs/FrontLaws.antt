@@ -1,4 +1,4 @@
--- Fronts never tell another order than the keys: for `PackedKey`.
+-- Fronts never tell another order than the keys: for `Mark`.
 use Rattle.std.proofs.Common.{◌≡◌, ℕ, zero, suc, List, [], ◌∷◌, Option, Some, None, ℤ, pos, negsuc}
 use Rattle.std.proofs.Common.{Bool, true, false, cond, refl, sym, ap, arith, ◌∙◌}
 use Rattle.std.specs.Prelude.{int_le, ◌&&◌}

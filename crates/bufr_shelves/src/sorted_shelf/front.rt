@@ -1,4 +1,4 @@
-//! What of a packed key is compared first.
+//! What of the key of a mark is compared first.
 ghost use Rattle.std.specs.Prelude.{◌≡◌, get_or};
 ghost use Rattle.bufr_shelves.specs.Fronts.{front_cmp, place_cmp, head_of_key, front_of_key, place_of_station, first_octets, in_two_octets};
 ghost use Rattle.bufr_shelves.specs.declared.sorted_shelf.front.FrontPlace.TheVariants.{Wmo, Mobile};

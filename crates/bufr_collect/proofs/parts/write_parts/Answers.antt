@@ -1,20 +1,22 @@
 -- The clauses of `write_parts`: entry after entry, and then what is left of them.
-use Rattle.std.proofs.Common.{◌<◌, ℕ, List, length, refl, subst, arith}
+use Rattle.std.proofs.Common.{◌<◌, ℕ, List, length, refl, sym, subst, arith}
 use Rattle.bufr_bits.specs.Devices.{Writing}
 use Rattle.bufr_io.specs.Engines.{WritesAfter}
 use Rattle.bufr_collect.specs.Parts.{joined}
+use Rattle.bufr_collect.specs.declared.parts.Part.{Part}
 use Rattle.bufr_collect.proofs.FrameFacts.{passed}
-use Rattle.bufr_collect.proofs.PartFacts.{handed_first, handed_next, handed_fails, handed_all}
+use Rattle.bufr_collect.proofs.PartFacts.{Handed, handed_first, handed_next, handed_fails, handed_all}
 use Rattle.bufr_collect.proofs.parts.write_parts.Goals as goal
 
 -- at first none was handed out
 pub loop-octets-init : goal.loop-octets-init
 loop-octets-init g c =
+    let writer : Writing = g.W.Sink.writing c.args.writer.now in
+    let part : Part = record { octets = c.clear.new.self; written = 0 } in
     let few : length c.args.kept < 18446744073709551616 =
     omega (arith, c.len-count.ensures, c.len-count.type_inv) in
-    handed_first (g.W.Sink.writing c.args.writer.now)
-    (record { octets = c.clear.new.self; written = 0 }) c.args.kept c.requires refl
-    c.clear.ensures.items few
+    subst (Handed writer writer part c.args.kept) (sym c.lent-left.ensures)
+    (handed_first writer part c.args.kept c.requires refl c.clear.ensures.items few)
 
 -- the writer failed at the octets of an entry
 pub returns-in_err-hand_on : goal.returns-in_err-hand_on
