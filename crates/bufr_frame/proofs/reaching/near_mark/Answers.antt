@@ -1,5 +1,5 @@
 -- The clause of `near_mark`: what does not begin as the mark near does not at all.
-use Rattle.std.proofs.Common.{◌≡◌, ◌≤◌, ◌<◌, arith}
+use Rattle.std.proofs.Common.{arith}
 use Rattle.std.proofs.lemmas.List.{length-take}
 use Rattle.bufr_frame.proofs.ReachLaws.{disagrees_near}
 use Rattle.bufr_frame.proofs.reaching.near_mark.Goals as goal

@@ -1,5 +1,5 @@
 -- The clauses of `Framer::lend`: a frame that is lent is the next sure one, as if it were copied out.
-use Rattle.std.proofs.Common.{◌≡◌, ℕ, ◌+◌, ◌-◌, ◌≤◌, List, [], length, drop, take, sym, ap, subst}
+use Rattle.std.proofs.Common.{◌≡◌, ℕ, ◌+◌, ◌-◌, [], drop, take, sym, ap, subst}
 use Rattle.std.proofs.Common.{◌∙◌, Some, arith}
 use Rattle.std.proofs.lemmas.List.{length-take-le, take_rest, drop_all}
 use Rattle.bufr_frame.specs.declared.frames.Found.{Found}
