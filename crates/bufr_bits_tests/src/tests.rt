@@ -31,6 +31,22 @@ fn expect_fields(rt: &impl Abort, reader: &mut BitReader<'_>, fields: &[(u32, u6
     }
 }
 
+/// The number in the next so many bits, which are left.
+fn left_number(rt: &impl Abort, reader: &mut BitReader<'_>, width: u32) -> u64 {
+    assert!(rt; width <= 64);
+    assert!(rt; u128::from(width) <= reader.left());
+    reader.take_left(width)
+}
+
+#[test]
+fn numbers_that_are_left(rt: HostRuntime) {
+    let mut reader = BitReader::new(&SEQUENCES);
+    same(&rt, left_number(&rt, &mut reader, 7), 10);
+    same(&rt, left_number(&rt, &mut reader, 10), 384);
+    same(&rt, left_number(&rt, &mut reader, 12), 2024);
+    same(&rt, reader.place(), 29);
+}
+
 /// Stops the test where the two differ. It is a function, since a comparison written out in a test
 /// makes the proof of that test more than twice as long.
 fn same<T: PartialEq + Debug + Drop>(rt: &impl Abort, found: T, wanted: T) {

@@ -111,18 +111,14 @@ wigos_of series issuer issue local = do
 abbrev pub mobile_of : Option (List ℕ) → Option Station
 mobile_of name = name >>= λ name. Some (Mobile name)
 
--- the first that there is of the last two
-abbrev pub other_station_of : FirstValues → Option Station
-other_station_of values = or_else
-    (wigos_of (option_flatten values.series) (option_flatten values.issuer)
-    (option_flatten values.issue) (option_flatten values.local))
-    (mobile_of (option_flatten values.mobile))
-
 -- the first that there is of these
 abbrev pub station_of : FirstValues → Option Station
 station_of values =
     or_else (wmo_of (option_flatten values.block) (option_flatten values.station))
-    (other_station_of values)
+    (or_else
+    (wigos_of (option_flatten values.series) (option_flatten values.issuer)
+    (option_flatten values.issue) (option_flatten values.local))
+    (mobile_of (option_flatten values.mobile)))
 
 -- the time
 abbrev pub moment_of : FirstValues → Option Moment

@@ -1,7 +1,6 @@
 //! The station that fields say.
 ghost use Rattle.std.specs.Prelude.{◌≡◌};
 ghost use Rattle.bufr_report_keys.specs.FirstValues.{wmo_of, wigos_of, mobile_of, station_of};
-ghost use Rattle.bufr_report_keys.specs.FirstValues.{other_station_of};
 
 use crate::first_values::FirstValues;
 use bufr_answers::Items;
@@ -40,15 +39,6 @@ pub(crate) fn station_of(values: FirstValues) -> Option<Station>
     if let Some(station) = wmo(values.block.usable(), values.station.usable()) {
         return Some(station);
     }
-    other_station(values)
-}
-
-/// The station that is no WMO station.
-// Most reports have a WMO station, of which the texts are only dropped.
-#[inline(never)]
-fn other_station(values: FirstValues) -> Option<Station>
-    ensures { result ≡ other_station_of values }
-{
     let series = values.series.usable();
     let issuer = values.issuer.usable();
     let issue = values.issue.usable();

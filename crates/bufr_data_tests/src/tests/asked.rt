@@ -85,6 +85,19 @@ fn blocks_laid(rt: &impl Abort, alloc: Global, mut fields: LaidFields<'_>) -> Ve
     blocks
 }
 
+/// The same, handed out as numbers.
+fn blocks_numbered(rt: &impl Abort, alloc: Global, mut fields: LaidFields<'_>) -> Vec<u64> {
+    let mut blocks = Vec::new(alloc);
+    for _turn in 0..6 {
+        if let Some(block) = fields.next_asked_number::<Blocks>() {
+            blocks.push(block.number).expect(rt, "room");
+            same(rt, block.is_missing(), block.number == 127);
+        }
+    }
+    same(rt, fields.next_asked_number::<Blocks>(), None);
+    blocks
+}
+
 /// Compares the blocks of the first subset of an index, whose fields are laid out or not.
 fn has_blocks(rt: &impl Abort, alloc: Global, index: &SubsetIndex, laid: bool, wanted: &[u64]) {
     assert!(rt; 1 <= index.count());
@@ -96,6 +109,9 @@ fn has_blocks(rt: &impl Abort, alloc: Global, index: &SubsetIndex, laid: bool, w
     };
     same(rt, found.as_slice(), wanted);
     same(rt, is_laid, laid);
+    if let Ok(fields) = index.fields(alloc, 1).expect(rt, "room").laid() {
+        same(rt, blocks_numbered(rt, alloc, fields).as_slice(), wanted);
+    }
 }
 
 /// Compares those of three messages of these octets that one template serves: plain fields are laid
@@ -131,6 +147,47 @@ fn blocks_between_wide_fields(rt: HostRuntime) {
         octets.as_slice(),
         &[10, 11, 12, 127],
     );
+}
+
+/// Names of ships, 0 01 011.
+struct Names;
+
+impl Asks for Names {
+    ghost is_asked = { λ d. d == 267 };
+
+    fn asks(fxy: Fxy) -> bool {
+        fxy.bits() == 267
+    }
+}
+
+/// Compares the text of a field.
+fn has_name(rt: &impl Abort, found: Option<Field>, wanted: &[u8]) {
+    let field = found.expect(rt, "a field");
+    match &field.raw {
+        Raw::Text(name) => same(rt, name.as_slice(), wanted),
+        Raw::Number(_) => assert!(rt; false, "a number"),
+    }
+}
+
+/// A text is no number: it is left, and handed out as a field.
+#[test]
+fn texts_are_no_numbers(rt: HostRuntime) {
+    let alloc = rt.alloc();
+    let octets = between(&rt, alloc);
+    let mut template = DataTemplate::new(template(&rt, alloc, &BETWEEN));
+    for message in 0..2 {
+        let mut reader = BitReader::new(octets.as_slice());
+        let index = template
+            .index(alloc, false, &mut reader, 1)
+            .expect(&rt, "an index");
+        assert!(&rt; 1 <= index.count());
+        if let Ok(mut fields) = index.fields(alloc, 1).expect(&rt, "room").laid() {
+            same(&rt, message, 1);
+            same(&rt, fields.next_asked_number::<Names>(), None);
+            let found = fields.next_asked::<Names>(alloc).expect(&rt, "room");
+            has_name(&rt, found, b"SHIP1   ");
+        }
+    }
 }
 
 #[test]
