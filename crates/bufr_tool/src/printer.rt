@@ -265,10 +265,10 @@ impl<'t> Printer<'t> {
         ensures tables { self.new.templates ≡ self.old.templates }
     {
         listings_are_short();
-        let judged = self.templates.view(alloc, octets);
-        self.print_judged(alloc, place, octets, &judged, writer)?;
+        let judged = &self.templates.view(alloc, octets);
+        self.print_judged(alloc, place, octets, judged, writer)?;
         self.counts.frames += 1;
-        self.counts.refused += refused(&judged);
+        self.counts.refused += refused(judged);
         self.counts.octets += octets.len() as u64;
         self.write_long(writer)
     }

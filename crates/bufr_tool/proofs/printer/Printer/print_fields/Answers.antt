@@ -1,10 +1,9 @@
 -- The clauses of `print_fields`: field by field, until none is left.
 use Rattle.std.proofs.Common.{◌≡◌, Some, refl, arith}
-use Rattle.bufr_io.specs.declared.fault.ToolFault.TheVariants as faults
 use Rattle.bufr_tool.specs.Output.{fields_text}
 use Rattle.bufr_tool.specs.StreamEngines.{Adds}
 use Rattle.bufr_tool.proofs.ListingFacts.{amid_fields, field_more, field_stopped, field_halted}
-use Rattle.bufr_tool.proofs.ListingFacts.{amid_few, fields_done}
+use Rattle.bufr_tool.proofs.ListingFacts.{amid_few}
 use Rattle.bufr_tool.proofs.PartFacts.{keeps_both}
 use Rattle.bufr_tool.proofs.PrintingFacts.{passed}
 use Rattle.bufr_tool.proofs.printer.Printer.print_fields.Goals as goal

@@ -1,6 +1,6 @@
 -- For `print_frame`: the frame as it was judged, counted, and then what is held is written where it
 -- is long.
-use Rattle.std.proofs.Common.{◌≡◌, ◌≤◌, ◌+◌, ◌^◌, ◌++◌, List, ℕ, ap, subst, sym, arith, Result, Ok, Err}
+use Rattle.std.proofs.Common.{◌+◌, ◌++◌, List, ℕ, ap, subst, sym, arith, Result, Ok, Err}
 use Rattle.std.proofs.Common.{IfOk}
 use Rattle.bufr_answers.specs.declared.failure.Failure.{Failure}
 use Rattle.bufr_answers.specs.Answers.{Gives}
@@ -9,10 +9,8 @@ use Rattle.bufr_message.specs.declared.Decoded.{Decoded}
 use Rattle.bufr_message.specs.declared.Refused.{Refused}
 use Rattle.bufr_message.specs.Messages.{message_of, Spells}
 use Rattle.bufr_message.specs.ShortListings.{HasShortListing, ListingsAreShort}
-use Rattle.bufr_collect.specs.Collected.{refused_as}
-use Rattle.bufr_tool.specs.declared.printer.Printer.{Printer}
 use Rattle.bufr_tool.specs.Output.{frame_at, frame_text}
-use Rattle.bufr_tool.specs.StreamEngines.{Keeps, Tells, WritesAllBut}
+use Rattle.bufr_tool.specs.StreamEngines.{Tells, WritesAllBut}
 use Rattle.bufr_tool.proofs.PrintingFacts.{frame_ends}
 use Rattle.bufr_tool.proofs.printer.Printer.print_frame.Goals as goal
 
@@ -26,14 +24,14 @@ short_as_spelt tables octets (Err e) law spelt = tt
 -- the octets were judged under the tables that stayed
 pub print_judged-requires-clause-exact : goal.print_judged-requires-clause-exact
 print_judged-requires-clause-exact g c =
-    subst (λ (t : Entries). Gives (λ d. d) c.view-judged.result (message_of t c.args.octets.now))
-    (sym c.view-judged.ensures.same) c.view-judged.ensures.exact
+    subst (λ (t : Entries). Gives (λ d. d) c.view.result (message_of t c.args.octets.now))
+    (sym c.view.ensures.same) c.view.ensures.exact
 
 -- and what they spell has a short listing
 pub print_judged-requires-clause-listed : goal.print_judged-requires-clause-listed
 print_judged-requires-clause-listed g c =
-    short_as_spelt c.args.self.now.templates c.args.octets.now c.view-judged.result
-    c.listings_are_short.ensures c.view-judged.ensures.found
+    short_as_spelt c.args.self.now.templates c.args.octets.now c.view.result
+    c.listings_are_short.ensures c.view.ensures.found
 
 -- what was printed of the frame as it was judged is its text
 pub returns-clause-prints : goal.returns-clause-prints
@@ -43,13 +41,13 @@ returns-clause-prints g c =
     let frame = frame_at c.args.place c.args.octets.now in
     let first = g.W.Sink.writing c.args.writer.now in
     let mid = g.W.Sink.writing c.print_judged.new.writer in
-    let same = c.view-judged.ensures.same in
+    let same = c.view.ensures.same in
     let e = c.in_ok-print_judged.ensures in
     let text = subst (λ (t : Entries). WritesAllBut q.held.items
     (p.held.items ++ frame_text p.printing t frame) p.counts.written q.counts.written first mid)
     same e.prints in
     let told = subst
-    (λ (t : Entries). Tells c.view-judged.result (message_of t c.args.octets.now)) same e.told in
+    (λ (t : Entries). Tells c.view.result (message_of t c.args.octets.now)) same e.told in
     let refused = c.refused.ensures.count _ told in
     let ends = c.write_long.ensures in
     frame_ends p.printing p.templates frame p _ c.write_long.new.self first mid _

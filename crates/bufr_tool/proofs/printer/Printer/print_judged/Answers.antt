@@ -1,6 +1,6 @@
 -- The clause `prints` of `print_judged`, for the line of `check` and that of a frame that spells no
 -- message.
-use Rattle.std.proofs.Common.{◌≡◌, ◌++◌, ◌∙◌, List, ap, sym, refl, subst, Result, Ok, Err}
+use Rattle.std.proofs.Common.{◌≡◌, ◌++◌, ◌∙◌, ap, sym, refl, Result, Ok, Err}
 use Rattle.bufr_answers.specs.Answers.{Fails}
 use Rattle.bufr_answers.specs.declared.failure.Failure.{Failure}
 use Rattle.bufr_answers.specs.declared.failure.Failure.TheVariants.{Fault}
