@@ -6,6 +6,7 @@ use super::samples::{octets, tables};
 use super::{holds, same, same_at};
 use bufr_answers::Items;
 use bufr_data::{Field, Raw};
+use bufr_message::listing::text_of;
 use bufr_message::{Decoded, Message, Report, View, canonical, decode, encode, reports, view};
 use std::alloc::Global;
 use std::fmt::Display;
@@ -33,6 +34,17 @@ pub(crate) fn message_of(rt: &impl Abort, alloc: Global, text: &str) -> Message 
 pub(crate) fn written(rt: &impl Abort, alloc: Global, message: &Message) -> Vec<u8> {
     let tables = tables(rt, alloc);
     encode(alloc, &tables, message).expect(rt, "octets")
+}
+
+/// The listing of a message.
+pub(crate) fn listing_of(rt: &impl Abort, alloc: Global, message: &Message) -> Vec<u8> {
+    text_of(alloc, message).expect(rt, "room")
+}
+
+/// The listing of the message that the octets of a text are read as.
+pub(crate) fn listed(rt: &impl Abort, alloc: Global, text: &str) -> Vec<u8> {
+    let message = message_of(rt, alloc, text);
+    listing_of(rt, alloc, &message)
 }
 
 /// What octets are viewed as.

@@ -4,7 +4,7 @@ use super::calls::*;
 use super::samples::*;
 use super::{holds, same};
 use bufr_answers::Items;
-use bufr_sections::{Head, Message};
+use bufr_sections::{Decoded, Head, Message};
 use bufr_tables::Fxy;
 use std::alloc::Global;
 use std::process::Abort;
@@ -60,10 +60,11 @@ fn head(local: Vec<u8>) -> Head {
     }
 }
 
-/// The message is the first of the samples, with these octets for local use.
-fn assert_first(rt: &impl Abort, message: &Message, local: Vec<u8>) {
-    same(rt, &message.head, &head(local));
-    assert_fields(rt, message);
+/// What was read is the first of the samples, with these octets for local use and so much slack.
+fn assert_first(rt: &impl Abort, found: &Decoded, slack: u64, local: Vec<u8>) {
+    same(rt, found.slack_octets, slack);
+    same(rt, &found.message.head, &head(local));
+    assert_fields(rt, &found.message);
 }
 
 /// The message has no section 2, and observed data that are not compressed.
@@ -76,8 +77,7 @@ fn assert_plain(rt: &impl Abort, message: &Message) {
 #[test]
 fn elements_only(rt: HostRuntime) {
     let found = read(&rt, rt.alloc(), ELEMENTS_ONLY);
-    same(&rt, found.slack_octets, 0);
-    assert_first(&rt, &found.message, Vec::new(rt.alloc()));
+    assert_first(&rt, &found, 0, Vec::new(rt.alloc()));
     assert_plain(&rt, &found.message);
 }
 
@@ -91,8 +91,7 @@ fn assert_section2(rt: &impl Abort, alloc: Global, message: &Message, wanted: &s
 fn local_octets_section_2_and_slack(rt: HostRuntime) {
     let alloc = rt.alloc();
     let found = read(&rt, alloc, LOCAL_OCTETS_AND_SLACK);
-    same(&rt, found.slack_octets, 2);
-    assert_first(&rt, &found.message, octets(&rt, alloc, "ABCD"));
+    assert_first(&rt, &found, 2, octets(&rt, alloc, "ABCD"));
     assert_section2(&rt, alloc, &found.message, "0102");
 }
 
@@ -130,11 +129,17 @@ fn head_of_distinct_numbers(local: Vec<u8>) -> Head {
     }
 }
 
+/// The head of the message that the octets of a text are read as.
+fn head_of(rt: &impl Abort, alloc: Global, text: &str) -> Head {
+    let found = message_of(rt, alloc, text);
+    found.head
+}
+
 #[test]
 fn distinct_head(rt: HostRuntime) {
-    let found = message_of(&rt, rt.alloc(), DISTINCT_HEAD);
+    let found = head_of(&rt, rt.alloc(), DISTINCT_HEAD);
     let wanted = head_of_distinct_numbers(octets(&rt, rt.alloc(), "1213"));
-    same(&rt, &found.head, &wanted);
+    same(&rt, found, wanted);
 }
 
 #[test]

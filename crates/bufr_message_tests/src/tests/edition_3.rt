@@ -4,7 +4,7 @@ use super::calls::*;
 use super::same;
 use super::samples::{octets, tables, with_zeros};
 use bufr_message::listing::text_of;
-use bufr_message::{Decoded, Message, View, decode, reports, view};
+use bufr_message::{Decoded, Failure, Message, Refused, Tables, decode, reports, view};
 use std::alloc::Global;
 use std::process::Abort;
 
@@ -115,31 +115,32 @@ const EDITION_2: &str = "\
 42554652 00003C 02 | 000012 00 00 62 00 00 00 02 0D 00 18 01 0F 0C 00 00 |
 000010 00 0001 80 C101 C10B C10C 0C65 00 | 00000E 00 14C03F409EC01AACC0 00";
 
-/// How a view tells how many subsets it has.
-fn told(rt: &impl Abort, alloc: Global, found: &View<'_>) -> String {
-    let count = found.count();
-    format!(in alloc; "{count} subsets").expect(rt, "room")
+/// How many subsets octets are viewed as.
+fn viewed_count(alloc: Global, tables: &Tables, all: &[u8]) -> Result<usize, Failure<Refused>> {
+    let found = view(alloc, tables, all)?;
+    Ok(found.count())
 }
 
-/// How octets are viewed: how many subsets they have, or why they are refused.
-fn outcome_of(rt: &impl Abort, alloc: Global, all: &[u8]) -> String {
-    let tables = tables(rt, alloc);
-    match view(alloc, &tables, all) {
-        Ok(found) => told(rt, alloc, &found),
+/// How many subsets octets are decoded as.
+fn decoded_count(alloc: Global, tables: &Tables, all: &[u8]) -> Result<usize, Failure<Refused>> {
+    let found = decode(alloc, tables, all)?;
+    Ok(found.message.subsets.len())
+}
+
+/// How many subsets there are, or why octets are refused.
+fn outcome(rt: &impl Abort, alloc: Global, count: Result<usize, Failure<Refused>>) -> String {
+    match count {
+        Ok(count) => format!(in alloc; "{count} subsets").expect(rt, "room"),
         Err(failure) => printed(rt, alloc, &failure),
     }
 }
 
-/// The same where they are decoded.
-fn decoded_outcome(rt: &impl Abort, alloc: Global, all: &[u8]) -> String {
-    let tables = tables(rt, alloc);
-    match decode(alloc, &tables, all) {
-        Ok(found) => {
-            let count = found.message.subsets.len();
-            format!(in alloc; "{count} subsets").expect(rt, "room")
-        }
-        Err(failure) => printed(rt, alloc, &failure),
-    }
+/// Octets are viewed and decoded so.
+fn assert_both(rt: &impl Abort, alloc: Global, tables: &Tables, all: &[u8], wanted: &str) {
+    let viewed = outcome(rt, alloc, viewed_count(alloc, tables, all));
+    same(rt, viewed.as_str(), wanted);
+    let decoded = outcome(rt, alloc, decoded_count(alloc, tables, all));
+    same(rt, decoded.as_str(), wanted);
 }
 
 /// One subset of 16,777,151 characters, in the longest message of edition 3.
@@ -156,10 +157,8 @@ const LONGEST_READ: &str = "\
 /// subsets it has, or why it is refused.
 fn assert_outcome(rt: &impl Abort, alloc: Global, front: &str, zeros: usize, wanted: &str) {
     let all = with_zeros(rt, alloc, front, zeros);
-    let viewed = outcome_of(rt, alloc, all.as_slice());
-    same(rt, viewed.as_str(), wanted);
-    let decoded = decoded_outcome(rt, alloc, all.as_slice());
-    same(rt, decoded.as_str(), wanted);
+    let tables = tables(rt, alloc);
+    assert_both(rt, alloc, &tables, all.as_slice(), wanted);
 }
 
 #[test]

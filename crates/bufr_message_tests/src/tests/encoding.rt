@@ -93,15 +93,37 @@ fn without_last_field(rt: &impl Abort, alloc: Global) -> Message {
     Message { subsets, ..message }
 }
 
+/// A message with this list in place of its own is not written for this reason.
+fn assert_list_refused(
+    rt: &impl Abort,
+    alloc: Global,
+    message: Message,
+    descriptors: Items<Fxy>,
+    wanted: &str,
+) {
+    let message = Message {
+        descriptors,
+        ..message
+    };
+    assert_not_written(rt, alloc, &message, wanted);
+}
+
+/// Without its last field, and with the list of one descriptor or of none, the message of the eight
+/// elements is not written for this reason.
+fn assert_short_refused(rt: &impl Abort, alloc: Global, only: Option<Fxy>, wanted: &str) {
+    let message = without_last_field(rt, alloc);
+    let list = descriptors(rt, alloc, only);
+    assert_list_refused(rt, alloc, message, list, wanted);
+}
+
 #[test]
 fn refusals_in_their_order(rt: HostRuntime) {
     let alloc = rt.alloc();
-    let mut message = without_last_field(&rt, alloc);
+    let message = without_last_field(&rt, alloc);
     assert_not_written(&rt, alloc, &message, "E1 DoesNotFit 1 8");
-    message.descriptors = descriptors(&rt, alloc, Fxy::new(0, 1, 250));
-    assert_not_written(&rt, alloc, &message, "X1 UnknownElement 001250");
-    message.descriptors = descriptors(&rt, alloc, None);
-    assert_not_written(&rt, alloc, &message, "E4 NoDescriptors");
+    let unknown = Fxy::new(0, 1, 250);
+    assert_short_refused(&rt, alloc, unknown, "X1 UnknownElement 001250");
+    assert_short_refused(&rt, alloc, None, "E4 NoDescriptors");
 }
 
 /// An operator of 127 bits more, and the temperature.
@@ -114,14 +136,17 @@ fn widened_temperature(rt: &impl Abort, alloc: Global) -> Items<Fxy> {
     Items::from_vec(list)
 }
 
+/// With this list the message of one temperature does not fit.
+fn assert_misfit(rt: &impl Abort, alloc: Global, list: Items<Fxy>) {
+    let message = message_of(rt, alloc, TEMPERATURE);
+    assert_list_refused(rt, alloc, message, list, "E1 DoesNotFit 1 1");
+}
+
 #[test]
 fn misfits(rt: HostRuntime) {
     let alloc = rt.alloc();
-    let mut message = message_of(&rt, alloc, TEMPERATURE);
-    message.descriptors = descriptors(&rt, alloc, Fxy::new(0, 4, 1));
-    assert_not_written(&rt, alloc, &message, "E1 DoesNotFit 1 1");
-    message.descriptors = widened_temperature(&rt, alloc);
-    assert_not_written(&rt, alloc, &message, "E1 DoesNotFit 1 1");
+    assert_misfit(&rt, alloc, descriptors(&rt, alloc, Fxy::new(0, 4, 1)));
+    assert_misfit(&rt, alloc, widened_temperature(&rt, alloc));
 }
 
 /// As many subsets as there may be, of no field.

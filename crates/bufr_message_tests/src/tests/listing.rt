@@ -1,10 +1,9 @@
 //! Listings of messages. Octets and listings are typed from the rules of the format; each text is a
 //! line of octets and the listing of what they are read as.
 
-use super::calls::message_of;
+use super::calls::{listed, listing_of, message_of};
 use super::samples::*;
 use super::{same, same_at};
-use bufr_message::listing::text_of;
 use std::alloc::Global;
 use std::process::Abort;
 
@@ -92,7 +91,7 @@ end
 ";
 
 /// The lines before the flags, and those that are given, to the end.
-fn listing_of(rt: &impl Abort, alloc: Global, lines: &[&str]) -> String {
+fn joined(rt: &impl Abort, alloc: Global, lines: &[&str]) -> String {
     let mut whole = String::from_str(alloc, FRONT).expect(rt, "room");
     for line in lines {
         whole.push_str(line).expect(rt, "room");
@@ -103,10 +102,9 @@ fn listing_of(rt: &impl Abort, alloc: Global, lines: &[&str]) -> String {
 
 /// The octets are listed by the lines before the flags, and these.
 fn assert_listed(rt: &impl Abort, alloc: Global, text: &str, lines: &[&str]) {
-    let message = message_of(rt, alloc, text);
-    let listing = text_of(alloc, &message).expect(rt, "room");
-    let wanted = listing_of(rt, alloc, lines);
-    same_at(rt, text, listing.as_slice(), wanted.as_str().as_bytes());
+    let listing = listed(rt, alloc, text);
+    let wanted = joined(rt, alloc, lines);
+    same_at(rt, text, listing.as_slice(), wanted.as_bytes());
 }
 
 #[test]
@@ -147,8 +145,7 @@ fn flags_and_octets_for_local_use(rt: HostRuntime) {
 
 #[test]
 fn numbers_of_section_1(rt: HostRuntime) {
-    let message = message_of(&rt, rt.alloc(), DISTINCT_HEAD);
-    let listing = text_of(rt.alloc(), &message).expect(&rt, "room");
+    let listing = listed(&rt, rt.alloc(), DISTINCT_HEAD);
     same(&rt, listing.as_slice(), DISTINCT_HEAD_LISTED.as_bytes());
 }
 
@@ -164,14 +161,19 @@ fn operators_and_characters(rt: HostRuntime) {
     }
 }
 
-/// The line of the flags of a message that is said to be compressed is this one.
-fn assert_flags(rt: &impl Abort, alloc: Global, observed: bool, flags: &str) {
+/// The listing of a message with no subset that is said to be compressed, and observed or not.
+fn compressed_listed(rt: &impl Abort, alloc: Global, observed: bool) -> Vec<u8> {
     let mut message = message_of(rt, alloc, NO_SUBSETS);
     message.observed = observed;
     message.compressed = true;
-    let listing = text_of(alloc, &message).expect(rt, "room");
-    let wanted = listing_of(rt, alloc, &[flags, IN_SEQUENCES]);
-    same(rt, listing.as_slice(), wanted.as_str().as_bytes());
+    listing_of(rt, alloc, &message)
+}
+
+/// The line of the flags of a message that is said to be compressed is this one.
+fn assert_flags(rt: &impl Abort, alloc: Global, observed: bool, flags: &str) {
+    let listing = compressed_listed(rt, alloc, observed);
+    let wanted = joined(rt, alloc, &[flags, IN_SEQUENCES]);
+    same(rt, listing.as_slice(), wanted.as_bytes());
 }
 
 #[test]

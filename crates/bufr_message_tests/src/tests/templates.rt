@@ -5,7 +5,7 @@ use super::calls::{assert_number, reason};
 use super::same;
 use super::samples::*;
 use super::viewing::assert_own;
-use bufr_message::{Subset, Tables, Templates};
+use bufr_message::{Subset, Tables, Templates, View};
 use std::alloc::Global;
 use std::process::Abort;
 
@@ -18,6 +18,12 @@ enum Answer<'a> {
     Refused(&'a str),
 }
 
+/// A view has so many subsets, the last with this canonical message.
+fn assert_last(rt: &impl Abort, alloc: Global, found: &View<'_>, count: usize, last: &str) {
+    same(rt, found.count(), count);
+    assert_own(rt, alloc, found, count, last);
+}
+
 /// The octets have so many subsets, the last with this canonical message.
 fn assert_viewed(
     rt: &impl Abort,
@@ -28,8 +34,7 @@ fn assert_viewed(
     last: &str,
 ) {
     let found = templates.view(alloc, all).expect(rt, "a view");
-    same(rt, found.count(), count);
-    assert_own(rt, alloc, &found, count, last);
+    assert_last(rt, alloc, &found, count, last);
 }
 
 /// The octets of a text are refused for this reason.

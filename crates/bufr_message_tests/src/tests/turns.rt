@@ -133,22 +133,22 @@ fn assert_refused_between(
 }
 
 /// No descriptor, an element of no table, and an element of 16 bits in place of one of 7.
+fn assert_each_refused(rt: &impl Abort, alloc: Global, templates: &mut KeptTemplates<'_>) {
+    for (only, wanted) in [
+        (None, "E4 NoDescriptors"),
+        (Fxy::new(0, 1, 250), "X1 UnknownElement 001250"),
+        (Fxy::new(0, 12, 101), "E1 DoesNotFit 1 1"),
+    ] {
+        assert_refused_between(rt, alloc, templates, only, wanted);
+    }
+}
+
 #[test]
 fn refused_between_written(rt: HostRuntime) {
     let alloc = rt.alloc();
     let tables = tables(&rt, alloc);
     let mut templates = KeptTemplates::new(alloc, &tables);
-    assert_refused_between(&rt, alloc, &mut templates, None, "E4 NoDescriptors");
-    let unknown = Fxy::new(0, 1, 250);
-    assert_refused_between(
-        &rt,
-        alloc,
-        &mut templates,
-        unknown,
-        "X1 UnknownElement 001250",
-    );
-    let misfit = Fxy::new(0, 12, 101);
-    assert_refused_between(&rt, alloc, &mut templates, misfit, "E1 DoesNotFit 1 1");
+    assert_each_refused(&rt, alloc, &mut templates);
 }
 
 /// A sequence of two numbers under the tables of the tests.
@@ -160,15 +160,26 @@ FXY1,FXY2
 301001,012101
 ";
 
-/// The sequence is written here and refused there, and so again.
+/// The message of the sequence is written here and refused there, and so again.
+fn assert_in_both(
+    rt: &impl Abort,
+    alloc: Global,
+    here: &mut KeptTemplates<'_>,
+    there: &mut KeptTemplates<'_>,
+    message: &Message,
+) {
+    for _ in 0..2 {
+        assert_kept(rt, alloc, here, message, SEQUENCE);
+        assert_refused(rt, alloc, there, message, "E1 DoesNotFit 1 1");
+    }
+}
+
+/// The same under these tables and those.
 fn assert_both(rt: &impl Abort, alloc: Global, here: &Tables, there: &Tables) {
     let mut here = KeptTemplates::new(alloc, here);
     let mut there = KeptTemplates::new(alloc, there);
     let message = message_of(rt, alloc, SEQUENCE);
-    for _ in 0..2 {
-        assert_kept(rt, alloc, &mut here, &message, SEQUENCE);
-        assert_refused(rt, alloc, &mut there, &message, "E1 DoesNotFit 1 1");
-    }
+    assert_in_both(rt, alloc, &mut here, &mut there, &message);
 }
 
 #[test]

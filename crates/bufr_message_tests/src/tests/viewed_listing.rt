@@ -1,13 +1,11 @@
 //! Listings of views, one subset at a time. Octets and lines are typed from the rules of the
 //! format.
 
-use super::calls::{message_of, viewed};
+use super::calls::{listed, viewed};
 use super::same;
 use super::samples::*;
 use bufr_message::View;
-use bufr_message::listing::{
-    end_text, heading_of_view, push_subset_of_view, subset_of_view, text_of,
-};
+use bufr_message::listing::{end_text, heading_of_view, push_subset_of_view, subset_of_view};
 use std::alloc::Global;
 use std::process::Abort;
 
@@ -66,36 +64,30 @@ fn added_of(rt: &impl Abort, alloc: Global, found: &View<'_>) -> Vec<u8> {
     listing
 }
 
-/// The parts of the listing of a view of the octets of a text, added one by one.
-fn added(rt: &impl Abort, alloc: Global, text: &str) -> Vec<u8> {
-    let all = octets(rt, alloc, text);
-    let found = viewed(rt, alloc, all.as_slice());
-    added_of(rt, alloc, &found)
+/// The parts of the listing of a view are these octets, joined or added one by one.
+fn assert_parts(rt: &impl Abort, alloc: Global, found: &View<'_>, wanted: &[u8]) {
+    let joined = joined_of(rt, alloc, found);
+    same(rt, joined.as_slice(), wanted);
+    let added = added_of(rt, alloc, found);
+    same(rt, added.as_slice(), wanted);
 }
 
-/// The parts of the listing of a view of the octets of a text, joined.
-fn joined(rt: &impl Abort, alloc: Global, text: &str) -> Vec<u8> {
+/// The same of the view of the octets of a text.
+fn assert_viewed(rt: &impl Abort, alloc: Global, text: &str, wanted: &[u8]) {
     let all = octets(rt, alloc, text);
-    let found = viewed(rt, alloc, all.as_slice());
-    joined_of(rt, alloc, &found)
+    assert_parts(rt, alloc, &viewed(rt, alloc, all.as_slice()), wanted);
 }
 
-/// The parts are, joined, the listing of the message.
+/// The parts are the listing of the message.
 fn assert_joined(rt: &impl Abort, alloc: Global, text: &str) {
-    let message = message_of(rt, alloc, text);
-    let wanted = text_of(alloc, &message).expect(rt, "room");
-    let found = joined(rt, alloc, text);
-    same(rt, found.as_slice(), wanted.as_slice());
-    let found = added(rt, alloc, text);
-    same(rt, found.as_slice(), wanted.as_slice());
+    let wanted = listed(rt, alloc, text);
+    assert_viewed(rt, alloc, text, wanted.as_slice());
 }
 
 #[test]
 fn views_listed_subset_by_subset(rt: HostRuntime) {
-    let listing = joined(&rt, rt.alloc(), COMPRESSED_TEXTS);
-    same(&rt, listing.as_slice(), COMPRESSED_TEXTS_LISTED.as_bytes());
-    let listing = added(&rt, rt.alloc(), COMPRESSED_TEXTS);
-    same(&rt, listing.as_slice(), COMPRESSED_TEXTS_LISTED.as_bytes());
+    let wanted = COMPRESSED_TEXTS_LISTED.as_bytes();
+    assert_viewed(&rt, rt.alloc(), COMPRESSED_TEXTS, wanted);
     assert_joined(&rt, rt.alloc(), UNEQUAL_COUNTS);
     assert_joined(&rt, rt.alloc(), NO_SUBSETS);
     assert_joined(&rt, rt.alloc(), LOCAL_OCTETS_AND_SLACK);

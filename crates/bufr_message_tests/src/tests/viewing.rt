@@ -38,13 +38,17 @@ pub(crate) fn assert_own(
     assert_octets(rt, alloc, own.as_slice(), wanted);
 }
 
-/// The two reports of a message, asked for in any order and twice, have these canonical messages.
+/// The two reports of a view, asked for in any order and twice, have these canonical messages.
+fn assert_both(rt: &impl Abort, alloc: Global, found: &View<'_>, first: &str, second: &str) {
+    for (number, wanted) in [(2, second), (1, first), (1, first), (2, second)] {
+        assert_own(rt, alloc, found, number, wanted);
+    }
+}
+
+/// The same of the two reports of a message.
 fn assert_in_any_order(rt: &impl Abort, alloc: Global, text: &str, first: &str, second: &str) {
     let all = octets(rt, alloc, text);
-    let found = viewed(rt, alloc, all.as_slice());
-    for (number, wanted) in [(2, second), (1, first), (1, first), (2, second)] {
-        assert_own(rt, alloc, &found, number, wanted);
-    }
+    assert_both(rt, alloc, &viewed(rt, alloc, all.as_slice()), first, second);
 }
 
 #[test]
@@ -54,12 +58,16 @@ fn view_in_any_order(rt: HostRuntime) {
     assert_in_any_order(&rt, alloc, UNEQUAL_COUNTS, DELAYED_COUNT_0, DELAYED_COUNT_1);
 }
 
+/// How many subsets a view of octets tells, and how much slack.
+fn told(rt: &impl Abort, alloc: Global, all: &[u8]) -> (usize, u64) {
+    let found = viewed(rt, alloc, all);
+    (found.count(), found.slack())
+}
+
 /// A view of octets tells so many subsets and so much slack.
 fn assert_told(rt: &impl Abort, alloc: Global, text: &str, count: usize, slack: u64) {
     let all = octets(rt, alloc, text);
-    let found = viewed(rt, alloc, all.as_slice());
-    same(rt, found.count(), count);
-    same(rt, found.slack(), slack);
+    same(rt, told(rt, alloc, all.as_slice()), (count, slack));
 }
 
 #[test]
