@@ -74,6 +74,16 @@ fn take<'p>(
     framer.take_next(piece)
 }
 
+/// A framer that was fed so many octets took in a piece of this length but for a rest of that one,
+/// and holds no more than may be pending.
+fn assert_counted(rt: &impl Abort, framer: &Framer, before: u64, piece: usize, rest: usize) {
+    let fed = framer.fed();
+    assert!(rt; rest <= piece);
+    assert!(rt; fed >= before);
+    same(rt, fed - before, (piece - rest) as u64);
+    assert!(rt; framer.pending() <= 16_777_215);
+}
+
 /// Takes in a piece for which there is room, up to its first frame, and counts the octets.
 fn take_counted<'p>(
     rt: &impl Abort,
@@ -82,11 +92,7 @@ fn take_counted<'p>(
 ) -> Result<Taken<'p>, OutOfMemory> {
     let fed = framer.fed();
     let taken = take(rt, framer, piece)?;
-    assert!(rt; taken.rest.len() <= piece.len());
-    assert!(rt; framer.fed() >= fed);
-    let octets = (piece.len() - taken.rest.len()) as u64;
-    same(rt, framer.fed() - fed, octets);
-    assert!(rt; framer.pending() <= 16_777_215);
+    assert_counted(rt, framer, fed, piece.len(), taken.rest.len());
     Ok(taken)
 }
 
@@ -128,14 +134,10 @@ fn lend_counted<'p>(
     framer: &mut Framer,
     piece: &'p [u8],
 ) -> Result<NextFrame<'p>, OutOfMemory> {
-    assert!(rt; framer.fed() <= u64::MAX - piece.len() as u64);
     let fed = framer.fed();
+    assert!(rt; fed <= u64::MAX - piece.len() as u64);
     let next = framer.next_frame(piece)?;
-    assert!(rt; next.rest.len() <= piece.len());
-    assert!(rt; framer.fed() >= fed);
-    let octets = (piece.len() - next.rest.len()) as u64;
-    same(rt, framer.fed() - fed, octets);
-    assert!(rt; framer.pending() <= 16_777_215);
+    assert_counted(rt, framer, fed, piece.len(), next.rest.len());
     Ok(next)
 }
 
@@ -348,21 +350,31 @@ fn two_frames_and_a_stray(rt: HostRuntime) -> Result<(), Fail> {
     Ok(())
 }
 
+/// There is a frame at this place, of these octets.
+fn assert_frame(rt: &impl Abort, found: &Option<Found>, place: u64, octets: &[u8]) {
+    let frame = found.as_ref().expect(rt, "a frame");
+    same(rt, frame.place, place);
+    same(rt, frame.bytes.as_slice(), octets);
+}
+
+/// What follows the first message of two and a stray `BUFR`.
+fn assert_rest(rt: &impl Abort, stream: &[u8], rest: &[u8]) {
+    assert!(rt; stream.len() == 146);
+    same(rt, rest, &stream[80..]);
+    same(rt, rest.len(), 66);
+}
+
 /// Takes the first message of two and a stray `BUFR`, and gives back what follows it.
 fn take_first_of_two<'p>(
     rt: &impl Abort,
     framer: &mut Framer,
     stream: &'p [u8],
-) -> Result<&'p [u8], Fail> {
-    same(rt, stream.len(), 146);
-    let Taken { found, rest } = take(rt, framer, stream)?;
-    let first = found.ok_or("no frame")?;
-    same(rt, first.place, 18);
-    assert!(rt; first.bytes.as_slice() == SEQUENCES);
-    assert!(rt; stream.len() == 146 && rest == &stream[80..]);
+) -> Result<&'p [u8], OutOfMemory> {
+    let taken = take(rt, framer, stream)?;
+    assert_frame(rt, &taken.found, 18, SEQUENCES);
+    assert_rest(rt, stream, taken.rest);
     assert_state(rt, framer, 80, 0);
-    same(rt, rest.len(), 66);
-    Ok(rest)
+    Ok(taken.rest)
 }
 
 /// Takes a piece in which no further frame is sure.
@@ -383,6 +395,19 @@ fn two_frames_and_a_stray_taken(rt: HostRuntime) -> Result<(), Fail> {
     Ok(())
 }
 
+/// A look at the stream's end tells these frames, and so many octets stay pending.
+fn assert_end(
+    rt: &impl Abort,
+    framer: &Framer,
+    wanted: &[(u64, &[u8])],
+    pending: usize,
+) -> Result<(), OutOfMemory> {
+    let look = framer.look_end()?;
+    assert!(rt; are(look.found(), wanted));
+    same(rt, framer.pending(), pending);
+    Ok(())
+}
+
 #[test]
 fn two_frames_and_a_stray_whole(rt: HostRuntime) -> Result<(), Fail> {
     let stream = message_stray_message(rt.alloc())?;
@@ -397,9 +422,7 @@ fn two_frames_and_a_stray_whole(rt: HostRuntime) -> Result<(), Fail> {
         (first, 66),
     )?;
     same(&rt, framer.fed(), 146);
-    let look = framer.look_end()?;
-    assert!(rt; are(look.found(), &[(84, SEQUENCES)]));
-    same(&rt, framer.pending(), 66);
+    assert_end(&rt, &framer, &[(84, SEQUENCES)], 66)?;
     assert_finishes(&rt, &mut framer, &[(84, SEQUENCES)])?;
     Ok(())
 }
@@ -463,16 +486,43 @@ const OUTER: &[u8] = b"BUFR\x00\x00\x16\x04BUFR\x00\x00\x0C\x047777";
 
 const INNER: &[u8] = b"BUFR\x00\x00\x0C\x047777";
 
+/// A piece, its frames, and how many octets are pending after it.
+type Step<'a> = (&'a [u8], (&'a [(u64, &'a [u8])], usize));
+
+/// A new framer gives this for each piece.
+fn assert_steps(
+    rt: &impl Abort,
+    alloc: Global,
+    way: Way,
+    steps: &[Step<'_>],
+) -> Result<(), OutOfMemory> {
+    let mut framer = Framer::new(alloc);
+    for (piece, wanted) in steps {
+        assert_gives(rt, alloc, way, &mut framer, *piece, *wanted)?;
+    }
+    Ok(())
+}
+
+/// The same in every way.
+fn assert_in_all_ways(
+    rt: &impl Abort,
+    alloc: Global,
+    steps: &[Step<'_>],
+) -> Result<(), OutOfMemory> {
+    for way in WAYS {
+        assert_steps(rt, alloc, way, steps)?;
+    }
+    Ok(())
+}
+
+/// The inner frame is there once the 21st octet rules the outer one out.
+const RULED_OUT: [Step<'static>; 2] = [(OUTER, (&[], 20)), (b"\x00", (&[(8, INNER)], 0))];
+
 #[test]
 fn ruled_out_outer_frame(rt: HostRuntime) -> Result<(), Fail> {
-    let inner: &[(u64, &[u8])] = &[(8, INNER)];
-    for way in WAYS {
-        let mut framer = Framer::new(rt.alloc());
-        assert_gives(&rt, rt.alloc(), way, &mut framer, OUTER, (&[], 20))?;
-        assert_gives(&rt, rt.alloc(), way, &mut framer, b"\x00", (inner, 0))?;
-    }
+    assert_in_all_ways(&rt, rt.alloc(), &RULED_OUT)?;
     let stream = joined(rt.alloc(), &[OUTER, b"\x00"])?;
-    assert_frames(&rt, rt.alloc(), &stream, inner, "ruled out")?;
+    assert_frames(&rt, rt.alloc(), &stream, &[(8, INNER)], "ruled out")?;
     Ok(())
 }
 
@@ -506,20 +556,27 @@ fn frames_held_behind_one_ruled_out(rt: HostRuntime) -> Result<(), Fail> {
     Ok(())
 }
 
-#[test]
-fn refusals_without_a_frame(rt: HostRuntime) -> Result<(), Fail> {
-    let mut longer = joined(rt.alloc(), &[SEQUENCES])?;
+/// The message of 62 octets with a total of 63.
+fn longer(rt: &impl Abort, alloc: Global) -> Result<Vec<u8>, OutOfMemory> {
+    let mut longer = joined(alloc, &[SEQUENCES])?;
     assert!(rt; longer.len() == 62);
     longer[6] = 0x3F;
-    let least: &[(u64, &[u8])] = &[(0, INNER)];
-    let cases: [(&[u8], &[(u64, &[u8])], &str); 5] = [
-        (&longer, &[], "a total one too large"),
-        (b"BUFR\x00\x00\x0B7777", &[], "a total below 12"),
-        (INNER, least, "a total of 12"),
-        (b"bufr\x00\x00\x0C\x047777", &[], "another mark"),
-        (b"BUFR\x00\x00\x0C\x047778", &[], "another end"),
-    ];
-    for (octets, wanted, text) in cases {
+    Ok(longer)
+}
+
+/// Octets, their frames, and what is tried.
+const MARKS_AND_ENDS: [(&[u8], &[(u64, &[u8])], &str); 4] = [
+    (b"BUFR\x00\x00\x0B7777", &[], "a total below 12"),
+    (INNER, &[(0, INNER)], "a total of 12"),
+    (b"bufr\x00\x00\x0C\x047777", &[], "another mark"),
+    (b"BUFR\x00\x00\x0C\x047778", &[], "another end"),
+];
+
+#[test]
+fn refusals_without_a_frame(rt: HostRuntime) -> Result<(), Fail> {
+    let longer = longer(&rt, rt.alloc())?;
+    assert_frames(&rt, rt.alloc(), &longer, &[], "a total one too large")?;
+    for (octets, wanted, text) in MARKS_AND_ENDS {
         assert_frames(&rt, rt.alloc(), octets, wanted, text)?;
     }
     Ok(())
@@ -556,28 +613,35 @@ fn three_octets_of_the_length(rt: HostRuntime) -> Result<(), Fail> {
     }
     assert!(rt; message.len() == 66_051);
     message[6] = 4;
-    for way in WAYS {
-        let mut framer = Framer::new(rt.alloc());
-        assert_gives(&rt, rt.alloc(), way, &mut framer, &message, (&[], 66_051))?;
-    }
+    assert_in_all_ways(&rt, rt.alloc(), &[(&message, (&[], 66_051))])?;
     Ok(())
 }
 
+/// A length that is too small behind six octets, and a frame behind a mark in two pieces.
+const TAILS: [Step<'static>; 4] = [
+    (b"77BUFR\x00\x00", (&[], 6)),
+    (b"\x0B", (&[], 0)),
+    (b"7BUF", (&[], 3)),
+    (b"R\x00\x00\x0C\x047777B", (&[(10, INNER)], 1)),
+];
+
 #[test]
 fn tails_of_six_and_of_seven(rt: HostRuntime) -> Result<(), Fail> {
-    let inner: &[(u64, &[u8])] = &[(10, INNER)];
-    let steps: [(&[u8], (&[(u64, &[u8])], usize)); 4] = [
-        (b"77BUFR\x00\x00", (&[], 6)),
-        (b"\x0B", (&[], 0)),
-        (b"7BUF", (&[], 3)),
-        (b"R\x00\x00\x0C\x047777B", (inner, 1)),
-    ];
-    for way in WAYS {
-        let mut framer = Framer::new(rt.alloc());
-        for (piece, wanted) in steps {
-            assert_gives(&rt, rt.alloc(), way, &mut framer, piece, wanted)?;
-        }
-    }
+    assert_in_all_ways(&rt, rt.alloc(), &TAILS)?;
+    Ok(())
+}
+
+/// Gives a piece, which has no frame.
+fn give_one(
+    rt: &impl Abort,
+    alloc: Global,
+    way: Way,
+    framer: &mut Framer,
+    piece: &[u8],
+) -> Result<(), OutOfMemory> {
+    let none = give(rt, alloc, way, framer, piece)?;
+    assert!(rt; none.is_empty());
+    assert!(rt; framer.pending() <= 16_777_215);
     Ok(())
 }
 
@@ -590,9 +654,7 @@ fn give_often(
     piece: &[u8],
 ) -> Result<(), OutOfMemory> {
     for _ in 0..256 {
-        let none = give(rt, alloc, way, framer, piece)?;
-        assert!(rt; none.is_empty());
-        assert!(rt; framer.pending() <= 16_777_215);
+        give_one(rt, alloc, way, framer, piece)?;
     }
     Ok(())
 }
@@ -652,17 +714,29 @@ fn give_both(
     Ok(by_take)
 }
 
+/// Gives the bulletins to two framers in large pieces, and answers how many there are.
+fn give_large(
+    rt: &impl Abort,
+    alloc: Global,
+    fed: &mut Framer,
+    taken: &mut Framer,
+    stream: &[u8],
+) -> Result<u64, OutOfMemory> {
+    let mut count = 0;
+    for piece in stream.chunks(65_536) {
+        let frames = give_both(rt, alloc, fed, taken, piece)?;
+        count = count_bulletins(rt, &frames, count);
+    }
+    Ok(count)
+}
+
 #[test]
 fn many_messages_in_large_pieces(rt: HostRuntime) -> Result<(), Fail> {
     let stream = many_bulletins(rt.alloc())?;
     same(&rt, stream.len(), 1_075_020);
     let mut fed = Framer::new(rt.alloc());
     let mut taken = Framer::new(rt.alloc());
-    let mut count = 0;
-    for piece in stream.chunks(65_536) {
-        let frames = give_both(&rt, rt.alloc(), &mut fed, &mut taken, piece)?;
-        count = count_bulletins(&rt, &frames, count);
-    }
+    let count = give_large(&rt, rt.alloc(), &mut fed, &mut taken, &stream)?;
     same(&rt, count, 12_500);
     same(&rt, taken.pending(), 20);
     assert_finishes(&rt, &mut taken, &[(1_075_008, INNER)])?;
