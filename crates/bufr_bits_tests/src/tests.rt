@@ -23,11 +23,17 @@ const DELAYED_COUNT: [u8; 52] = [
     0x37, 0x37, 0x37, 0x37,
 ];
 
+/// Takes a field of this width and compares its number.
+fn expect_field(rt: &impl Abort, reader: &mut BitReader<'_>, width: u32, number: u64) {
+    assert!(rt; width <= 64);
+    let place = reader.place();
+    same_field(rt, width, place, reader.take(width), Some(number));
+}
+
 /// Takes fields of these widths and compares their numbers.
 fn expect_fields(rt: &impl Abort, reader: &mut BitReader<'_>, fields: &[(u32, u64)]) {
     for (width, number) in fields {
-        assert!(rt; *width <= 64);
-        assert_eq!(rt; reader.take(*width), Some(*number), "{width} bits");
+        expect_field(rt, reader, *width, *number);
     }
 }
 
@@ -51,6 +57,11 @@ fn numbers_that_are_left(rt: HostRuntime) {
 /// makes the proof of that test more than twice as long.
 fn same<T: PartialEq + Debug + Drop>(rt: &impl Abort, found: T, wanted: T) {
     assert_eq!(rt; found, wanted);
+}
+
+/// Stops the test where the two differ, the field of so many bits that begins at this bit.
+fn same_field(rt: &impl Abort, width: u32, place: u128, found: Option<u64>, wanted: Option<u64>) {
+    assert_eq!(rt; found, wanted, "{width} bits at {place}");
 }
 
 /// Puts the fields of `SEQUENCES` and compares the octets.
@@ -206,22 +217,35 @@ fn widest_fields_at_every_place(rt: HostRuntime) {
     }
 }
 
+/// Cuts a sink that has so many bits to so many.
+fn cut(rt: &impl Abort, sink: &mut BitSink, bits: u128, left: u128) {
+    let found = sink.len_bits();
+    same(rt, found, bits);
+    // `cut` requires that so many bits are there.
+    assert!(rt; left <= found);
+    sink.cut(left);
+}
+
+/// The first 17 bits of `SEQUENCES`, and then two fields and a text.
+fn cut_once(rt: &impl Abort, alloc: Global) -> BitSink {
+    let mut sink = BitSink::new(alloc);
+    sink.put_bytes(&SEQUENCES).expect(rt, "room");
+    cut(rt, &mut sink, 72, 17);
+    same(rt, sink.len_bits(), 17);
+    sink.put(12, 2024).expect(rt, "room");
+    sink.put(4, 1).expect(rt, "room");
+    sink.put_bytes(b"BUFR").expect(rt, "room");
+    sink
+}
+
 #[test]
 fn places_and_cuts(rt: HostRuntime) {
     let mut reader = BitReader::at(&SEQUENCES, 50);
     same(&rt, reader.left(), 22);
     same(&rt, reader.take(16), Some(27315));
 
-    let mut sink = BitSink::new(rt.alloc());
-    sink.put_bytes(&SEQUENCES).expect(&rt, "room");
-    sink.cut(17);
-    assert_eq!(rt; sink.len_bits(), 17);
-    sink.put(12, 2024).expect(&rt, "room");
-    sink.put(4, 1).expect(&rt, "room");
-    sink.put_bytes(b"BUFR").expect(&rt, "room");
-    // `cut` requires that so many bits are there, which a comparison in place shows.
-    assert_eq!(rt; sink.len_bits(), 65);
-    sink.cut(33);
+    let mut sink = cut_once(&rt, rt.alloc());
+    cut(&rt, &mut sink, 65, 33);
     sink.fill_octet();
     let octets = [0x14, 0xC0, 0x3F, 0x40, 0x80];
     same(&rt, sink.into_bytes().as_slice(), octets.as_slice());

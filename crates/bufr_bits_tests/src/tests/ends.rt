@@ -1,6 +1,6 @@
 //! Fields near the end of octets, of each width.
 
-use super::same;
+use super::{same, same_field};
 use bufr_bits::BitReader;
 use std::process::Abort;
 
@@ -20,21 +20,30 @@ fn bit_by_bit(octets: &[u8], place: u32, width: u32) -> u64 {
     number
 }
 
+/// The field of this width that begins at this bit, where it ends in the octets.
+fn wanted_at(octets: &[u8], place: u32, width: u32) -> Option<u64> {
+    let end = u128::from(place) + u128::from(width);
+    if end <= 8 * octets.len() as u128 {
+        Some(bit_by_bit(octets, place, width))
+    } else {
+        None
+    }
+}
+
+/// What is taken of this width at this bit.
+fn taken_at(rt: &impl Abort, octets: &[u8], place: u32, width: u32) -> Option<u64> {
+    assert!(rt; width <= 64);
+    let mut reader = BitReader::new(octets);
+    assert!(rt; reader.pass(u128::from(place)));
+    reader.take(width)
+}
+
 /// The fields of each width, up to 64 bits, that begin at this bit and end in the octets.
 fn same_fields(rt: &impl Abort, octets: &[u8], place: u32) {
     for width in 0..65u32 {
-        let mut reader = BitReader::new(octets);
-        assert!(rt; reader.pass(u128::from(place)));
-        if u128::from(width) <= reader.left() {
-            let found = reader.take(width);
-            assert_eq!(rt;
-                found,
-                Some(bit_by_bit(octets, place, width)),
-                "{width} bits at {place}"
-            );
-        } else {
-            same(rt, reader.take(width), None);
-        }
+        let found = taken_at(rt, octets, place, width);
+        let wanted = wanted_at(octets, place, width);
+        same_field(rt, width, u128::from(place), found, wanted);
     }
 }
 
