@@ -7,7 +7,6 @@ use bufr_tables::{Column, Element, Fxy, Kind, TableB, TableD, TableFault, Tables
 use std::alloc::Global;
 use std::fmt::{Debug, Display};
 use std::process::Abort;
-use std::test::Fail;
 
 const HEADER: &[u8] =
     b"FXY,ElementName_en,BUFR_Unit,BUFR_Scale,BUFR_ReferenceValue,BUFR_DataWidth_Bits\n";
@@ -26,15 +25,9 @@ fn same<T: PartialEq + Debug + Drop>(rt: &impl Abort, found: T, wanted: T) {
 }
 
 /// Stops the test where this is printed otherwise.
-fn prints<T: Display>(
-    rt: &impl Abort,
-    alloc: Global,
-    value: &T,
-    wanted: &str,
-) -> Result<(), OutOfMemory> {
-    let text = format!(in alloc; "{value}")?;
+fn prints<T: Display>(rt: &impl Abort, alloc: Global, value: &T, wanted: &str) {
+    let text = format!(in alloc; "{value}").expect(rt, "an answer");
     same(rt, text.as_str(), wanted);
-    Ok(())
 }
 
 // Lines, one after another.
@@ -77,15 +70,14 @@ fn element_of(
 }
 
 /// The descriptors of numbers and texts that stand for one.
-fn assert_descriptors(rt: &impl Abort) -> Result<(), Fail> {
-    let date = Fxy::new(3, 10, 255).ok_or("in range")?;
+fn assert_descriptors(rt: &impl Abort) {
+    let date = Fxy::new(3, 10, 255).expect(rt, "in range");
     same(rt, (date.f(), date.x(), date.y()), (3, 10, 255));
     same(rt, Fxy::from_text(b"310255"), Some(date));
-    let temperature = Fxy::new(0, 12, 101).ok_or("in range")?;
+    let temperature = Fxy::new(0, 12, 101).expect(rt, "in range");
     same(rt, Fxy::from_bits(0x0C65), temperature);
-    let read = Fxy::from_text(b"012101").ok_or("in range")?;
+    let read = Fxy::from_text(b"012101").expect(rt, "in range");
     same(rt, read.bits(), 0x0C65);
-    Ok(())
 }
 
 /// Numbers and texts that stand for no descriptor.
@@ -100,13 +92,12 @@ fn assert_no_descriptors(rt: &impl Abort) {
 }
 
 #[test]
-fn descriptors(rt: HostRuntime) -> Result<(), Fail> {
-    let date = Fxy::new(3, 10, 255).ok_or("in range")?;
-    prints(&rt, rt.alloc(), &date, "310255")?;
+fn descriptors(rt: HostRuntime) {
+    let date = Fxy::new(3, 10, 255).expect(&rt, "in range");
+    prints(&rt, rt.alloc(), &date, "310255");
     same(&rt, date.digits(), *b"310255");
-    assert_descriptors(&rt)?;
+    assert_descriptors(&rt);
     assert_no_descriptors(&rt);
-    Ok(())
 }
 
 /// Whether a descriptor is read back from its text, and made again of its parts.
@@ -117,14 +108,13 @@ fn is_read_back(alloc: Global, fxy: Fxy) -> Result<bool, OutOfMemory> {
 }
 
 #[test]
-fn every_descriptor_is_read_back(rt: HostRuntime) -> Result<(), Fail> {
+fn every_descriptor_is_read_back(rt: HostRuntime) {
     let mut good = true;
     for bits in 0..=65535u16 {
-        let read_back = is_read_back(rt.alloc(), Fxy::from_bits(bits))?;
+        let read_back = is_read_back(rt.alloc(), Fxy::from_bits(bits)).expect(&rt, "an answer");
         good = good && read_back;
     }
     assert!(rt; good);
-    Ok(())
 }
 
 /// What a list of 7 and 8 answers.
@@ -140,13 +130,20 @@ fn is_list_of(alloc: Global, list: &Items<i32>, numbers: [i32; 2]) -> Result<boo
 }
 
 #[test]
-fn lists(rt: HostRuntime) -> Result<(), Fail> {
-    let list = Items::from_vec([7, 8].to_vec(rt.alloc())?);
+fn lists(rt: HostRuntime) {
+    let list = Items::from_vec([7, 8].to_vec(rt.alloc()).expect(&rt, "an answer"));
     assert_seven_and_eight(&rt, &list);
-    same(&rt, is_list_of(rt.alloc(), &list, [7, 8])?, true);
-    same(&rt, is_list_of(rt.alloc(), &list, [7, 9])?, false);
+    same(
+        &rt,
+        is_list_of(rt.alloc(), &list, [7, 8]).expect(&rt, "an answer"),
+        true,
+    );
+    same(
+        &rt,
+        is_list_of(rt.alloc(), &list, [7, 9]).expect(&rt, "an answer"),
+        false,
+    );
     assert!(rt; list.into_vec().as_slice() == [7, 8].as_slice());
-    Ok(())
 }
 
 // The failure of a Table B of the usual header and these lines.
@@ -162,31 +159,27 @@ fn temperature_of(alloc: Global, lines: &[u8]) -> Result<Option<Element>, Failur
 }
 
 /// This is the fault of a Table B of the usual header and these lines.
-fn assert_fault_b(
-    rt: &impl Abort,
-    alloc: Global,
-    lines: &[u8],
-    fault: TableFault,
-) -> Result<(), OutOfMemory> {
-    same(rt, fault_b(alloc, lines)?, Some(Failure::Fault(fault)));
-    Ok(())
+fn assert_fault_b(rt: &impl Abort, alloc: Global, lines: &[u8], fault: TableFault) {
+    same(
+        rt,
+        fault_b(alloc, lines).expect(rt, "an answer"),
+        Some(Failure::Fault(fault)),
+    );
 }
 
 /// This is the temperature's element in a Table B of the usual header and these lines.
-fn assert_temperature(
-    rt: &impl Abort,
-    alloc: Global,
-    lines: &[u8],
-    wanted: Option<Element>,
-) -> Result<(), Failure<TableFault>> {
-    same(rt, temperature_of(alloc, lines)?, wanted);
-    Ok(())
+fn assert_temperature(rt: &impl Abort, alloc: Global, lines: &[u8], wanted: Option<Element>) {
+    same(
+        rt,
+        temperature_of(alloc, lines).expect(rt, "an answer"),
+        wanted,
+    );
 }
 
 #[test]
-fn table_b_rows(rt: HostRuntime) -> Result<(), Fail> {
+fn table_b_rows(rt: HostRuntime) {
     let one = b"012101,x,K,2,0,16\n";
-    assert_temperature(&rt, rt.alloc(), one, Some(TEMPERATURE))?;
+    assert_temperature(&rt, rt.alloc(), one, Some(TEMPERATURE));
     let faults: [(&[u8], TableFault); 2] = [
         (
             b"012101,x,K,2,0,16\n012101,x,K,2,0,17\n",
@@ -195,9 +188,8 @@ fn table_b_rows(rt: HostRuntime) -> Result<(), Fail> {
         (b"12101,x,K,2,0,16\n", TableFault::BadRow(2)),
     ];
     for (lines, fault) in faults {
-        assert_fault_b(&rt, rt.alloc(), lines, fault)?;
+        assert_fault_b(&rt, rt.alloc(), lines, fault);
     }
-    Ok(())
 }
 
 /// A Table B of this text is refused, since it has no such column.
@@ -208,25 +200,23 @@ fn assert_lacks(rt: &impl Abort, alloc: Global, text: &[u8], column: Column) {
 }
 
 #[test]
-fn table_b_without_a_column(rt: HostRuntime) -> Result<(), Fail> {
+fn table_b_without_a_column(rt: HostRuntime) {
     let text = b"FXY,ElementName_en,BUFR_Scale,BUFR_ReferenceValue,BUFR_DataWidth_Bits\n";
     assert_lacks(&rt, rt.alloc(), text, Column::Unit);
-    Ok(())
 }
 
 #[test]
-fn two_copies_joined(rt: HostRuntime) -> Result<(), Fail> {
+fn two_copies_joined(rt: HostRuntime) {
     let line = b"012101,x,K,2,0,16\n";
-    let one = joined(rt.alloc(), &[HEADER, line])?;
-    let two = joined(rt.alloc(), &[HEADER, line, HEADER, line])?;
+    let one = joined(rt.alloc(), &[HEADER, line]).expect(&rt, "an answer");
+    let two = joined(rt.alloc(), &[HEADER, line, HEADER, line]).expect(&rt, "an answer");
     let d = b"FXY1,FXY2\n301001,001001\n";
-    let equal = are_same(rt.alloc(), (&one, d), (&two, d))?;
+    let equal = are_same(rt.alloc(), (&one, d), (&two, d)).expect(&rt, "an answer");
     assert!(rt; equal);
-    Ok(())
 }
 
 #[test]
-fn table_b_bad_rows(rt: HostRuntime) -> Result<(), Fail> {
+fn table_b_bad_rows(rt: HostRuntime) {
     let lines: [&[u8]; 10] = [
         b"112101,x,K,2,0,16\n",
         b"012101,x,K,2,9223372036854775808,16\n",
@@ -240,15 +230,14 @@ fn table_b_bad_rows(rt: HostRuntime) -> Result<(), Fail> {
         b"012101,x,K,2,+-1,16\n",
     ];
     for line in lines {
-        assert_fault_b(&rt, rt.alloc(), line, TableFault::BadRow(2))?;
+        assert_fault_b(&rt, rt.alloc(), line, TableFault::BadRow(2));
     }
     let signed = b"012101,x,K,2,0,+16\n";
-    assert_temperature(&rt, rt.alloc(), signed, Some(TEMPERATURE))?;
-    Ok(())
+    assert_temperature(&rt, rt.alloc(), signed, Some(TEMPERATURE));
 }
 
 #[test]
-fn numbers_at_their_ends(rt: HostRuntime) -> Result<(), Fail> {
+fn numbers_at_their_ends(rt: HostRuntime) {
     let kind = Kind::Quantity;
     let cases: [(&[u8], Element); 2] = [
         (
@@ -271,13 +260,12 @@ fn numbers_at_their_ends(rt: HostRuntime) -> Result<(), Fail> {
         ),
     ];
     for (line, element) in cases {
-        assert_temperature(&rt, rt.alloc(), line, Some(element))?;
+        assert_temperature(&rt, rt.alloc(), line, Some(element));
     }
-    Ok(())
 }
 
 #[test]
-fn units(rt: HostRuntime) -> Result<(), Fail> {
+fn units(rt: HostRuntime) {
     let lines: [(&[u8], Kind); 13] = [
         (b"012101,x,CCITT IA5,0,0,160\n", Kind::Text),
         (b"012101,x, CCITT IA5 ,0,0,160\n", Kind::Text),
@@ -300,13 +288,12 @@ fn units(rt: HostRuntime) -> Result<(), Fail> {
             reference: 0,
             width: 160,
         };
-        assert_temperature(&rt, rt.alloc(), line, Some(element))?;
+        assert_temperature(&rt, rt.alloc(), line, Some(element));
     }
-    Ok(())
 }
 
 #[test]
-fn table_d_faults(rt: HostRuntime) -> Result<(), Fail> {
+fn table_d_faults(rt: HostRuntime) {
     let split = TableFault::SplitSequence(Fxy::from_bits(0xC101));
     let cases: [(&[u8], TableFault); 6] = [
         (
@@ -326,7 +313,6 @@ fn table_d_faults(rt: HostRuntime) -> Result<(), Fail> {
         let found = TableD::parse(rt.alloc(), text).err();
         same(&rt, found, Some(Failure::Fault(fault)));
     }
-    Ok(())
 }
 
 // The descriptors of 301011 in a Table D of these lines, as 16 bits each.
@@ -342,29 +328,27 @@ fn date_of(alloc: Global, d: &[u8]) -> Result<Vec<u16>, Failure<TableFault>> {
 }
 
 #[test]
-fn sequences(rt: HostRuntime) -> Result<(), Fail> {
+fn sequences(rt: HostRuntime) {
     let d =
         b"FXY1,FXY2\n301011,004001\n301011,004002\n301011,004003\n301001,001001\n301001,001002\n";
-    let date = date_of(rt.alloc(), d)?;
+    let date = date_of(rt.alloc(), d).expect(&rt, "an answer");
     same(&rt, date.as_slice(), &[0x0401, 0x0402, 0x0403]);
-    let none = date_of(rt.alloc(), b"FXY1,FXY2\n")?;
+    let none = date_of(rt.alloc(), b"FXY1,FXY2\n").expect(&rt, "an answer");
     assert!(rt; none.is_empty());
-    Ok(())
 }
 
 #[test]
-fn tables_that_differ(rt: HostRuntime) -> Result<(), Fail> {
+fn tables_that_differ(rt: HostRuntime) {
     let one: (&[u8], &[u8]) = (HEADER, b"FXY1,FXY2\n301001,001001\n");
-    let empty = are_same(rt.alloc(), one, (HEADER, b"FXY1,FXY2\n"))?;
+    let empty = are_same(rt.alloc(), one, (HEADER, b"FXY1,FXY2\n")).expect(&rt, "an answer");
     assert!(rt; !empty);
     let again = b"FXY1,FXY2\n,\nFXY1,FXY2\n301001,001001\n";
-    let joined_twice = are_same(rt.alloc(), one, (HEADER, again))?;
+    let joined_twice = are_same(rt.alloc(), one, (HEADER, again)).expect(&rt, "an answer");
     assert!(rt; joined_twice);
-    Ok(())
 }
 
 #[test]
-fn spellings_of_lines(rt: HostRuntime) -> Result<(), Fail> {
+fn spellings_of_lines(rt: HostRuntime) {
     let lines: [&[u8]; 4] = [
         b"012101,\"dry bulb, air\nat 2 m\",\"K\",2,0,16\n",
         b"012101,x,K,2,0,16",
@@ -372,13 +356,12 @@ fn spellings_of_lines(rt: HostRuntime) -> Result<(), Fail> {
         b",x,,,, \n\n,,,,,\n012101,x,K,2,0,16\n",
     ];
     for line in lines {
-        assert_temperature(&rt, rt.alloc(), line, Some(TEMPERATURE))?;
+        assert_temperature(&rt, rt.alloc(), line, Some(TEMPERATURE));
     }
-    Ok(())
 }
 
 #[test]
-fn spellings_of_files(rt: HostRuntime) -> Result<(), Fail> {
+fn spellings_of_files(rt: HostRuntime) {
     let files: [&[u8]; 5] = [
         b"FXY,BUFR_Unit,BUFR_Scale,BUFR_ReferenceValue,BUFR_DataWidth_Bits\r\n012101,K,2,0,16\r\n",
         b"BUFR_DataWidth_Bits,BUFR_Unit,FXY,BUFR_ReferenceValue,BUFR_Scale\n16,K,012101,0,2\n",
@@ -389,22 +372,20 @@ fn spellings_of_files(rt: HostRuntime) -> Result<(), Fail> {
           012101,K,2,0,16,x\n",
     ];
     for text in files {
-        let found = element_of(rt.alloc(), text, b"012101")?;
+        let found = element_of(rt.alloc(), text, b"012101").expect(&rt, "an answer");
         same(&rt, found, Some(TEMPERATURE));
     }
-    Ok(())
 }
 
 #[test]
-fn empty_files(rt: HostRuntime) -> Result<(), Fail> {
+fn empty_files(rt: HostRuntime) {
     assert_lacks(&rt, rt.alloc(), b"", Column::Fxy);
     assert_lacks(&rt, rt.alloc(), b"\n\n", Column::Fxy);
-    assert_temperature(&rt, rt.alloc(), b"", None)?;
-    Ok(())
+    assert_temperature(&rt, rt.alloc(), b"", None);
 }
 
 #[test]
-fn the_first_fault(rt: HostRuntime) -> Result<(), Fail> {
+fn the_first_fault(rt: HostRuntime) {
     let cases: [(&[u8], TableFault); 2] = [
         (
             b"012101,x,K,2,0,16\n012101,x,K,2,0,17,y\nx,x,x,x,x,x\n",
@@ -416,24 +397,18 @@ fn the_first_fault(rt: HostRuntime) -> Result<(), Fail> {
         ),
     ];
     for (lines, fault) in cases {
-        assert_fault_b(&rt, rt.alloc(), lines, fault)?;
+        assert_fault_b(&rt, rt.alloc(), lines, fault);
     }
-    Ok(())
 }
 
 /// This is printed of a fault, alone and as a failure.
-fn assert_fault_prints(
-    rt: &impl Abort,
-    alloc: Global,
-    fault: TableFault,
-    text: &str,
-) -> Result<(), OutOfMemory> {
-    prints(rt, alloc, &fault, text)?;
-    prints(rt, alloc, &Failure::Fault(fault), text)
+fn assert_fault_prints(rt: &impl Abort, alloc: Global, fault: TableFault, text: &str) {
+    prints(rt, alloc, &fault, text);
+    prints(rt, alloc, &Failure::Fault(fault), text);
 }
 
 /// The names of columns as they are printed.
-fn assert_columns_print(rt: &impl Abort, alloc: Global) -> Result<(), OutOfMemory> {
+fn assert_columns_print(rt: &impl Abort, alloc: Global) {
     let columns = [
         (Column::Fxy, "FXY"),
         (Column::Scale, "BUFR_Scale"),
@@ -443,15 +418,14 @@ fn assert_columns_print(rt: &impl Abort, alloc: Global) -> Result<(), OutOfMemor
         (Column::Fxy2, "FXY2"),
     ];
     for (column, text) in columns {
-        prints(rt, alloc, &column, text)?;
+        prints(rt, alloc, &column, text);
     }
-    Ok(())
 }
 
-#[test]
-fn faults_are_printed(rt: HostRuntime) -> Result<(), Fail> {
-    let element = Fxy::from_text(b"012101").ok_or("in range")?;
-    let sequence = Fxy::from_text(b"301001").ok_or("in range")?;
+/// The faults as they are printed.
+fn assert_faults_print(rt: &impl Abort, alloc: Global) {
+    let element = Fxy::from_bits(0x0C65);
+    let sequence = Fxy::from_bits(0xC101);
     let lines = [
         (TableFault::NoColumn(Column::Unit), "B1 NoColumn BUFR_Unit"),
         (TableFault::NotCsv(2), "B2 NotCsv 2"),
@@ -463,20 +437,23 @@ fn faults_are_printed(rt: HostRuntime) -> Result<(), Fail> {
         ),
     ];
     for (fault, text) in lines {
-        assert_fault_prints(&rt, rt.alloc(), fault, text)?;
+        assert_fault_prints(rt, alloc, fault, text);
     }
-    let refused: Failure<TableFault> = Failure::OutOfMemory;
-    prints(&rt, rt.alloc(), &refused, "out of memory")?;
-    assert_columns_print(&rt, rt.alloc())?;
-    Ok(())
 }
 
 #[test]
-fn faults_within_other_faults(rt: HostRuntime) -> Result<(), Fail> {
+fn faults_are_printed(rt: HostRuntime) {
+    assert_faults_print(&rt, rt.alloc());
+    let refused: Failure<TableFault> = Failure::OutOfMemory;
+    prints(&rt, rt.alloc(), &refused, "out of memory");
+    assert_columns_print(&rt, rt.alloc());
+}
+
+#[test]
+fn faults_within_other_faults(rt: HostRuntime) {
     let fault = Failure::Fault(TableFault::NotCsv(7));
     let wanted = Failure::Fault(Some(TableFault::NotCsv(7)));
     same(&rt, fault.map(Some), wanted);
     let refused: Failure<TableFault> = Failure::OutOfMemory;
     same(&rt, refused.map(Some), Failure::OutOfMemory);
-    Ok(())
 }
