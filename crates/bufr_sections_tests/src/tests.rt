@@ -9,7 +9,6 @@ use bufr_tables::Fxy;
 use std::alloc::Global;
 use std::fmt::{Debug, Display};
 use std::process::Abort;
-use std::test::Fail;
 
 /// Sections of edition 4 in which all numbers differ, and a section 2.
 const EDITION_4: &str = "\
@@ -39,7 +38,7 @@ const EDITION_3: &str = "\
 
 /// The octets that hexadecimal digits are, spaces between them. `S1` stands for the usual section
 /// 1, `S1+2` for the one that announces section 2, and `NONE` for no octets.
-fn octets(alloc: Global, text: &str) -> Result<Vec<u8>, Fail> {
+fn octets(rt: &impl Abort, alloc: Global, text: &str) -> Vec<u8> {
     let mut digits = String::new(alloc);
     for word in text.split_whitespace() {
         let part = match word {
@@ -48,14 +47,14 @@ fn octets(alloc: Global, text: &str) -> Result<Vec<u8>, Fail> {
             "S1+2" => "00001600006200000080000200250007E8010F0C0000",
             other => other,
         };
-        digits.push_str(part)?;
+        digits.push_str(part).expect(rt, "an answer");
     }
-    Ok(hex::decode(alloc, digits.as_str())?)
+    hex::decode(alloc, digits.as_str()).expect(rt, "an answer")
 }
 
 /// The head of the sections of edition 4.
-fn head_4(alloc: Global) -> Result<Head, Fail> {
-    Ok(Head {
+fn head_4(rt: &impl Abort, alloc: Global) -> Head {
+    Head {
         centre: 258,
         sub_centre: 772,
         update: 5,
@@ -70,13 +69,13 @@ fn head_4(alloc: Global) -> Result<Head, Fail> {
         hour: 15,
         minute: 16,
         second: 17,
-        local: Items::from_vec(octets(alloc, "1213")?),
-    })
+        local: Items::from_vec(octets(rt, alloc, "1213")),
+    }
 }
 
 /// Section 2 of the sections of edition 4.
-fn section2_4(alloc: Global) -> Result<Option<Items<u8>>, Fail> {
-    Ok(Some(Items::from_vec(octets(alloc, "14")?)))
+fn section2_4(rt: &impl Abort, alloc: Global) -> Option<Items<u8>> {
+    Some(Items::from_vec(octets(rt, alloc, "14")))
 }
 
 /// The descriptors of the sections of edition 4.
@@ -116,25 +115,14 @@ fn same<T: PartialEq + Debug + Drop>(rt: &impl Abort, found: T, wanted: T) {
 }
 
 /// The octets list these descriptors.
-fn assert_listed(
-    rt: &impl Abort,
-    alloc: Global,
-    octets: &[u8],
-    wanted: &[Fxy],
-) -> Result<(), Fail> {
-    let list = descriptors_of(alloc, octets)?;
+fn assert_listed(rt: &impl Abort, alloc: Global, octets: &[u8], wanted: &[Fxy]) {
+    let list = descriptors_of(alloc, octets).expect(rt, "an answer");
     same(rt, list.as_slice(), wanted);
     same(rt, are_listed(octets, wanted), true);
-    Ok(())
 }
 
 /// The sections that were read say this.
-fn assert_found(
-    rt: &impl Abort,
-    alloc: Global,
-    found: &Envelope<'_>,
-    wanted: &Said<'_>,
-) -> Result<(), Fail> {
+fn assert_found(rt: &impl Abort, alloc: Global, found: &Envelope<'_>, wanted: &Said<'_>) {
     let sections = &wanted.sections;
     same(rt, &found.head, sections.head);
     same(rt, &found.section2, sections.section2);
@@ -142,51 +130,39 @@ fn assert_found(
     same(rt, found.compressed, sections.compressed);
     same(rt, usize::from(found.count), wanted.count);
     same(rt, found.contents, wanted.contents);
-    assert_listed(rt, alloc, found.listed, sections.descriptors)
+    assert_listed(rt, alloc, found.listed, sections.descriptors);
 }
 
 /// The sections of these octets say this.
-fn assert_said(
-    rt: &impl Abort,
-    alloc: Global,
-    octets: &[u8],
-    wanted: &Said<'_>,
-) -> Result<(), Fail> {
-    let found = read_sections(alloc, octets)?;
-    assert_found(rt, alloc, &found, wanted)
+fn assert_said(rt: &impl Abort, alloc: Global, octets: &[u8], wanted: &Said<'_>) {
+    let found = read_sections(alloc, octets).expect(rt, "an answer");
+    assert_found(rt, alloc, &found, wanted);
 }
 
 /// The sections of the octets that hexadecimal digits are say this.
-fn assert_read(rt: &impl Abort, alloc: Global, text: &str, wanted: &Said<'_>) -> Result<(), Fail> {
-    let all = octets(alloc, text)?;
-    assert_said(rt, alloc, all.as_slice(), wanted)
+fn assert_read(rt: &impl Abort, alloc: Global, text: &str, wanted: &Said<'_>) {
+    let all = octets(rt, alloc, text);
+    assert_said(rt, alloc, all.as_slice(), wanted);
 }
 
 #[test]
-fn each_octet_at_its_place(rt: HostRuntime) -> Result<(), Fail> {
+fn each_octet_at_its_place(rt: HostRuntime) {
     let alloc = rt.alloc();
-    let (head, section2) = (head_4(alloc)?, section2_4(alloc)?);
+    let (head, section2) = (head_4(&rt, alloc), section2_4(&rt, alloc));
     let descriptors = descriptors_4();
     let said = said_4(&head, &section2, descriptors.as_slice());
-    assert_read(&rt, alloc, EDITION_4, &said)?;
-    assert_read(&rt, alloc, EDITION_4_FILLED, &said)
+    assert_read(&rt, alloc, EDITION_4, &said);
+    assert_read(&rt, alloc, EDITION_4_FILLED, &said);
 }
 
 /// Octets list exactly these descriptors, or they do not, as is said.
-fn assert_compared(
-    rt: &impl Abort,
-    alloc: Global,
-    text: &str,
-    list: &[Fxy],
-    wanted: bool,
-) -> Result<(), Fail> {
-    let octets = octets(alloc, text)?;
+fn assert_compared(rt: &impl Abort, alloc: Global, text: &str, list: &[Fxy], wanted: bool) {
+    let octets = octets(rt, alloc, text);
     same(rt, are_listed(octets.as_slice(), list), wanted);
-    Ok(())
 }
 
 #[test]
-fn octets_against_lists(rt: HostRuntime) -> Result<(), Fail> {
+fn octets_against_lists(rt: HostRuntime) {
     let alloc = rt.alloc();
     let list = descriptors_4();
     for (text, wanted) in [
@@ -200,33 +176,32 @@ fn octets_against_lists(rt: HostRuntime) -> Result<(), Fail> {
         ("191A 1718", false),
         ("1718 191A 1718", false),
     ] {
-        assert_compared(&rt, alloc, text, list.as_slice(), wanted)?;
+        assert_compared(&rt, alloc, text, list.as_slice(), wanted);
     }
-    assert_compared(&rt, alloc, "NONE", &[], true)?;
-    assert_compared(&rt, alloc, "FF", &[], true)?;
-    assert_compared(&rt, alloc, "1718", &[], false)
+    assert_compared(&rt, alloc, "NONE", &[], true);
+    assert_compared(&rt, alloc, "FF", &[], true);
+    assert_compared(&rt, alloc, "1718", &[], false);
 }
 
 /// What is written so is the octets that hexadecimal digits are.
-fn assert_spelt(rt: &impl Abort, alloc: Global, said: &Said<'_>, text: &str) -> Result<(), Fail> {
-    let written = spell(alloc, &said.sections, said.count, said.contents)?;
-    let wanted = octets(alloc, text)?;
+fn assert_spelt(rt: &impl Abort, alloc: Global, said: &Said<'_>, text: &str) {
+    let written = spell(alloc, &said.sections, said.count, said.contents).expect(rt, "an answer");
+    let wanted = octets(rt, alloc, text);
     same(rt, written.as_slice(), wanted.as_slice());
-    Ok(())
 }
 
 #[test]
-fn each_octet_written_at_its_place(rt: HostRuntime) -> Result<(), Fail> {
+fn each_octet_written_at_its_place(rt: HostRuntime) {
     let alloc = rt.alloc();
-    let (head, section2) = (head_4(alloc)?, section2_4(alloc)?);
+    let (head, section2) = (head_4(&rt, alloc), section2_4(&rt, alloc));
     let descriptors = descriptors_4();
     let said = said_4(&head, &section2, descriptors.as_slice());
-    assert_spelt(&rt, alloc, &said, EDITION_4)
+    assert_spelt(&rt, alloc, &said, EDITION_4);
 }
 
 /// The head of the sections of edition 3.
-fn head_3(alloc: Global) -> Result<Head, Fail> {
-    Ok(Head {
+fn head_3(rt: &impl Abort, alloc: Global) -> Head {
+    Head {
         centre: 2,
         sub_centre: 1,
         update: 3,
@@ -241,14 +216,14 @@ fn head_3(alloc: Global) -> Result<Head, Fail> {
         hour: 11,
         minute: 12,
         second: 0,
-        local: Items::from_vec(octets(alloc, "0D")?),
-    })
+        local: Items::from_vec(octets(rt, alloc, "0D")),
+    }
 }
 
 #[test]
-fn edition_3(rt: HostRuntime) -> Result<(), Fail> {
+fn edition_3(rt: HostRuntime) {
     let alloc = rt.alloc();
-    let head = head_3(alloc)?;
+    let head = head_3(&rt, alloc);
     let sections = LentSections {
         head: &head,
         section2: &None,
@@ -261,32 +236,32 @@ fn edition_3(rt: HostRuntime) -> Result<(), Fail> {
         count: 1,
         contents: &[],
     };
-    assert_read(&rt, alloc, EDITION_3, &wanted)
+    assert_read(&rt, alloc, EDITION_3, &wanted);
 }
 
 /// So many octets that are alike.
-fn many(alloc: Global, octet: u8, count: usize) -> Result<Vec<u8>, Fail> {
-    let mut all = Vec::with_capacity(alloc, count)?;
+fn many(rt: &impl Abort, alloc: Global, octet: u8, count: usize) -> Vec<u8> {
+    let mut all = Vec::with_capacity(alloc, count).expect(rt, "an answer");
     for _ in 0..count {
-        all.push(octet)?;
+        all.push(octet).expect(rt, "an answer");
     }
-    Ok(all)
+    all
 }
 
 /// Section 1 with 300,000 octets for local use.
-fn long_head(alloc: Global) -> Result<Head, Fail> {
-    let mut head = head_4(alloc)?;
-    head.local = Items::from_vec(many(alloc, 1, 300_000)?);
-    Ok(head)
+fn long_head(rt: &impl Abort, alloc: Global) -> Head {
+    let mut head = head_4(rt, alloc);
+    head.local = Items::from_vec(many(rt, alloc, 1, 300_000));
+    head
 }
 
 /// 150,000 descriptors.
-fn long_descriptors(alloc: Global) -> Result<Vec<Fxy>, Fail> {
+fn long_descriptors(rt: &impl Abort, alloc: Global) -> Vec<Fxy> {
     let mut list = Vec::new(alloc);
     for _ in 0..150_000 {
-        list.push(Fxy::from_bits(0x0C65))?;
+        list.push(Fxy::from_bits(0x0C65)).expect(rt, "an answer");
     }
-    Ok(list)
+    list
 }
 
 /// The length of all that was written, and that of section 1, stand at their places.
@@ -299,19 +274,19 @@ fn assert_lengths(rt: &impl Abort, written: &[u8]) {
 }
 
 /// What was written is read so, and has the lengths of the long sections.
-fn assert_long(rt: &impl Abort, alloc: Global, said: &Said<'_>) -> Result<(), Fail> {
-    let written = spell(alloc, &said.sections, said.count, said.contents)?;
+fn assert_long(rt: &impl Abort, alloc: Global, said: &Said<'_>) {
+    let written = spell(alloc, &said.sections, said.count, said.contents).expect(rt, "an answer");
     assert_lengths(rt, written.as_slice());
-    assert_said(rt, alloc, written.as_slice(), said)
+    assert_said(rt, alloc, written.as_slice(), said);
 }
 
 #[test]
-fn long_sections(rt: HostRuntime) -> Result<(), Fail> {
+fn long_sections(rt: HostRuntime) {
     let alloc = rt.alloc();
-    let head = long_head(alloc)?;
-    let section2 = Some(Items::from_vec(many(alloc, 2, 400_000)?));
-    let descriptors = long_descriptors(alloc)?;
-    let contents = many(alloc, 3, 100_000)?;
+    let head = long_head(&rt, alloc);
+    let section2 = Some(Items::from_vec(many(&rt, alloc, 2, 400_000)));
+    let descriptors = long_descriptors(&rt, alloc);
+    let contents = many(&rt, alloc, 3, 100_000);
     let sections = LentSections {
         head: &head,
         section2: &section2,
@@ -324,19 +299,19 @@ fn long_sections(rt: HostRuntime) -> Result<(), Fail> {
         count: 65_535,
         contents: contents.as_slice(),
     };
-    assert_long(&rt, alloc, &said)
+    assert_long(&rt, alloc, &said);
 }
 
 /// The text of a failure.
-fn shown(alloc: Global, failure: &impl Display) -> Result<String, Fail> {
-    Ok(format!(in alloc; "{failure}")?)
+fn shown(rt: &impl Abort, alloc: Global, failure: &impl Display) -> String {
+    format!(in alloc; "{failure}").expect(rt, "an answer")
 }
 
 /// Why a message of one descriptor, of so many subsets and with so many octets in section 4 after
 /// its fourth is not written, or `written`.
-fn written(alloc: Global, count: usize, length: usize) -> Result<String, Fail> {
-    let head = head_4(alloc)?;
-    let contents = many(alloc, 0, length)?;
+fn written(rt: &impl Abort, alloc: Global, count: usize, length: usize) -> String {
+    let head = head_4(rt, alloc);
+    let contents = many(rt, alloc, 0, length);
     let sections = LentSections {
         head: &head,
         section2: &None,
@@ -345,13 +320,13 @@ fn written(alloc: Global, count: usize, length: usize) -> Result<String, Fail> {
         descriptors: &[Fxy::from_bits(0x0C65)],
     };
     match spell(alloc, &sections, count, contents.as_slice()) {
-        Ok(_octets) => Ok(String::from_str(alloc, "written")?),
-        Err(failure) => shown(alloc, &failure),
+        Ok(_octets) => String::from_str(alloc, "written").expect(rt, "an answer"),
+        Err(failure) => shown(rt, alloc, &failure),
     }
 }
 
 #[test]
-fn limits(rt: HostRuntime) -> Result<(), Fail> {
+fn limits(rt: HostRuntime) {
     let fits = 16_777_215 - 49;
     for (count, length, wanted) in [
         (65_535, 0, "written"),
@@ -359,10 +334,9 @@ fn limits(rt: HostRuntime) -> Result<(), Fail> {
         (1, fits, "written"),
         (1, fits + 1, "E3 TooLarge"),
     ] {
-        let found = written(rt.alloc(), count, length)?;
+        let found = written(&rt, rt.alloc(), count, length);
         same(&rt, found.as_str(), wanted);
     }
-    Ok(())
 }
 
 /// Octets whose sections are refused, each with its reason behind `=`.
@@ -394,11 +368,11 @@ NONE = M1 NotBufr
 ";
 
 /// The reason for which octets are refused, or `read`.
-fn reason(alloc: Global, text: &str) -> Result<String, Fail> {
-    let octets = octets(alloc, text)?;
+fn reason(rt: &impl Abort, alloc: Global, text: &str) -> String {
+    let octets = octets(rt, alloc, text);
     match read_sections(alloc, octets.as_slice()) {
-        Ok(_found) => Ok(String::from_str(alloc, "read")?),
-        Err(failure) => shown(alloc, &failure),
+        Ok(_found) => String::from_str(alloc, "read").expect(rt, "an answer"),
+        Err(failure) => shown(rt, alloc, &failure),
     }
 }
 
@@ -408,17 +382,15 @@ fn same_at(rt: &impl Abort, line: &str, found: &str, wanted: &str) {
 }
 
 /// The octets of a line are refused for the reason behind its `=`.
-fn assert_refused(rt: &impl Abort, alloc: Global, line: &str) -> Result<(), Fail> {
-    let (text, wanted) = line.split_once(" = ").ok_or("a case")?;
-    let found = reason(alloc, text)?;
+fn assert_refused(rt: &impl Abort, alloc: Global, line: &str) {
+    let (text, wanted) = line.split_once(" = ").expect(rt, "a case");
+    let found = reason(rt, alloc, text);
     same_at(rt, line, found.as_str(), wanted);
-    Ok(())
 }
 
 #[test]
-fn refusals(rt: HostRuntime) -> Result<(), Fail> {
+fn refusals(rt: HostRuntime) {
     for line in REFUSED.lines() {
-        assert_refused(&rt, rt.alloc(), line)?;
+        assert_refused(&rt, rt.alloc(), line);
     }
-    Ok(())
 }

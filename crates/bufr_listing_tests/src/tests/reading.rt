@@ -6,38 +6,37 @@ use bufr_listing::{ListingFault, read, text_of};
 use bufr_sections::Message;
 use std::alloc::Global;
 use std::process::Abort;
-use std::test::Fail;
 
 /// The messages that a text lists by the tables of the tests, or its fault.
 fn read_text(
+    rt: &impl Abort,
     alloc: Global,
     text: &str,
-) -> Result<Result<Vec<Message>, Failure<ListingFault>>, Fail> {
-    let tables = tables(alloc)?;
-    Ok(read(alloc, &tables, text.as_bytes()))
+) -> Result<Vec<Message>, Failure<ListingFault>> {
+    let tables = tables(rt, alloc);
+    read(alloc, &tables, text.as_bytes())
 }
 
 /// The joined listings of messages.
-fn joined(alloc: Global, messages: &[Message]) -> Result<String, Fail> {
+fn joined(rt: &impl Abort, alloc: Global, messages: &[Message]) -> String {
     let mut all = Vec::new(alloc);
     for message in messages {
-        push_listing(alloc, &mut all, message)?;
+        push_listing(rt, alloc, &mut all, message);
     }
-    Ok(String::from_utf8(all)?)
+    String::from_utf8(all).expect(rt, "an answer")
 }
 
 /// The listing of a message is added.
-fn push_listing(alloc: Global, all: &mut Vec<u8>, message: &Message) -> Result<(), Fail> {
-    let listing = text_of(alloc, message)?;
-    all.extend_from_slice(&listing)?;
-    Ok(())
+fn push_listing(rt: &impl Abort, alloc: Global, all: &mut Vec<u8>, message: &Message) {
+    let listing = text_of(alloc, message).expect(rt, "an answer");
+    all.extend_from_slice(&listing).expect(rt, "an answer");
 }
 
 /// The joined listings of the messages that a text lists, or its fault.
-fn listed_again(alloc: Global, text: &str) -> Result<String, Fail> {
-    match read_text(alloc, text)? {
-        Ok(messages) => joined(alloc, &messages),
-        Err(fault) => Ok(fault.to_string(alloc)?),
+fn listed_again(rt: &impl Abort, alloc: Global, text: &str) -> String {
+    match read_text(rt, alloc, text) {
+        Ok(messages) => joined(rt, alloc, &messages),
+        Err(fault) => fault.to_string(alloc).expect(rt, "an answer"),
     }
 }
 
@@ -47,21 +46,15 @@ fn same_at(rt: &impl Abort, text: &str, found: &str, wanted: &str) {
 }
 
 /// A text is read, and its messages are listed so, or it is refused so.
-pub(super) fn assert_read(
-    rt: &impl Abort,
-    alloc: Global,
-    text: &str,
-    wanted: &str,
-) -> Result<(), Fail> {
-    let found = listed_again(alloc, text)?;
+pub(super) fn assert_read(rt: &impl Abort, alloc: Global, text: &str, wanted: &str) {
+    let found = listed_again(rt, alloc, text);
     same_at(rt, text, found.as_str(), wanted);
-    Ok(())
 }
 
 /// A text is read as itself, or refused so.
-fn assert_text(rt: &impl Abort, alloc: Global, text: &str, fault: &str) -> Result<(), Fail> {
+fn assert_text(rt: &impl Abort, alloc: Global, text: &str, fault: &str) {
     let wanted = if fault.is_empty() { text } else { fault };
-    assert_read(rt, alloc, text, wanted)
+    assert_read(rt, alloc, text, wanted);
 }
 
 /// The plain subset of sequences with other words at the first place of these is read as itself, or
@@ -71,96 +64,82 @@ pub(super) fn assert_replaced(
     alloc: Global,
     (words, others): (&str, &str),
     fault: &str,
-) -> Result<(), Fail> {
-    let text = SEQUENCES_LISTED.replacen(alloc, words, others, 1)?;
-    assert_text(rt, alloc, text.as_str(), fault)
+) {
+    let text = SEQUENCES_LISTED
+        .replacen(alloc, words, others, 1)
+        .expect(rt, "an answer");
+    assert_text(rt, alloc, text.as_str(), fault);
 }
 
 /// A front and the lines behind it.
-fn fronted(alloc: Global, front: &str, lines: &str) -> Result<String, Fail> {
+fn fronted(rt: &impl Abort, alloc: Global, front: &str, lines: &str) -> String {
     let mut text = String::new(alloc);
-    text.push_str(front)?;
-    text.push_str(lines)?;
-    Ok(text)
+    text.push_str(front).expect(rt, "an answer");
+    text.push_str(lines).expect(rt, "an answer");
+    text
 }
 
 /// A front and the lines behind it are read as themselves, or refused so.
-fn assert_fronted(
-    rt: &impl Abort,
-    alloc: Global,
-    front: &str,
-    (lines, fault): (&str, &str),
-) -> Result<(), Fail> {
-    let text = fronted(alloc, front, lines)?;
-    assert_text(rt, alloc, text.as_str(), fault)
+fn assert_fronted(rt: &impl Abort, alloc: Global, front: &str, (lines, fault): (&str, &str)) {
+    let text = fronted(rt, alloc, front, lines);
+    assert_text(rt, alloc, text.as_str(), fault);
 }
 
 /// The lines behind the head are read as themselves, or refused so.
-pub(super) fn assert_behind(
-    rt: &impl Abort,
-    alloc: Global,
-    lines: &str,
-    fault: &str,
-) -> Result<(), Fail> {
-    assert_fronted(rt, alloc, HEAD, (lines, fault))
+pub(super) fn assert_behind(rt: &impl Abort, alloc: Global, lines: &str, fault: &str) {
+    assert_fronted(rt, alloc, HEAD, (lines, fault));
 }
 
 /// A front and each of these lines behind it are read as themselves, or refused so.
-fn assert_each(
-    rt: &impl Abort,
-    alloc: Global,
-    front: &str,
-    cases: &[(&str, &str)],
-) -> Result<(), Fail> {
+fn assert_each(rt: &impl Abort, alloc: Global, front: &str, cases: &[(&str, &str)]) {
     for &case in cases {
-        assert_fronted(rt, alloc, front, case)?;
+        assert_fronted(rt, alloc, front, case);
     }
-    Ok(())
 }
 
 #[test]
-fn listing_faults(rt: HostRuntime) -> Result<(), Fail> {
+fn listing_faults(rt: HostRuntime) {
     let alloc = rt.alloc();
-    assert_read(&rt, alloc, SEQUENCES_LISTED, SEQUENCES_LISTED)?;
-    assert_replaced(&rt, alloc, ("end\n", ""), "L1 BadLine 15")?;
+    assert_read(&rt, alloc, SEQUENCES_LISTED, SEQUENCES_LISTED);
+    assert_replaced(&rt, alloc, ("end\n", ""), "L1 BadLine 15");
     assert_behind(
         &rt,
         alloc,
         "descriptors 001250\n",
         "L3 Refused 5 X1 UnknownElement 001250",
-    )?;
-    assert_replaced(&rt, alloc, ("273.15", "655.35"), "L2 BadValue 14")?;
-    assert_replaced(&rt, alloc, ("273.15", "273.1"), "L2 BadValue 14")?;
-    assert_replaced(&rt, alloc, ("273.15", "missing"), "")
+    );
+    assert_replaced(&rt, alloc, ("273.15", "655.35"), "L2 BadValue 14");
+    assert_replaced(&rt, alloc, ("273.15", "273.1"), "L2 BadValue 14");
+    assert_replaced(&rt, alloc, ("273.15", "missing"), "");
 }
 
 #[test]
-fn listing_spelling_and_empty(rt: HostRuntime) -> Result<(), Fail> {
+fn listing_spelling_and_empty(rt: HostRuntime) {
     let alloc = rt.alloc();
     let lower = "descriptors 208004 001011\nsubset\n001011 \"A\\22\\5c\\0a\"\nend\n";
-    assert_behind(&rt, alloc, lower, "")?;
+    assert_behind(&rt, alloc, lower, "");
     let upper = "descriptors 208004 001011\nsubset\n001011 \"A\\22\\5C\\0a\"\nend\n";
-    assert_behind(&rt, alloc, upper, "L2 BadValue 7")?;
-    assert_read(&rt, alloc, "", "")?;
-    assert_read(&rt, alloc, "# nothing\n\n\r\n", "")
+    assert_behind(&rt, alloc, upper, "L2 BadValue 7");
+    assert_read(&rt, alloc, "", "");
+    assert_read(&rt, alloc, "# nothing\n\n\r\n", "");
 }
 
 #[test]
-fn ends_of_lines_comments_and_blocks(rt: HostRuntime) -> Result<(), Fail> {
+fn ends_of_lines_comments_and_blocks(rt: HostRuntime) {
     let alloc = rt.alloc();
     let wanted =
         "message\nsection1 1 2 3 4 5 6 7 8\ntime 9 10 11 12 13 14\nlocal1 abcdef\nsection2\nflags compressed\ndescriptors 001001\nsubset\n001001 10\nsubset\n001001 missing\nend\n";
     let text =
         "# a comment\nmessage\r\n\nsection1 1 2 3 4 5 6 7 8\r\n#\ntime 9 10 11 12 13 14\nlocal1 ABcdEF\nsection2\n\nflags compressed\ndescriptors 001001\r\nsubset\n001001 10\n# between\nsubset\n001001 missing\n\r\nend";
-    assert_read(&rt, alloc, text, wanted)?;
+    assert_read(&rt, alloc, text, wanted);
     let cut =
         "message\nsection1 1 2 3 4 5 6 7 8\ntime 9 10 11 12 13 14\nflags\ndescriptors 001001\nend\r";
-    assert_read(&rt, alloc, cut, "L1 BadLine 6")?;
+    assert_read(&rt, alloc, cut, "L1 BadLine 6");
     let twice = "message\nsection1 1 2 3 4 5 6 7 8\ntime 9 10 11 12 13 14\nflags\r\r\n";
-    assert_read(&rt, alloc, twice, "L1 BadLine 4")?;
+    assert_read(&rt, alloc, twice, "L1 BadLine 4");
     let blocks =
         "message\nsection1 1 2 3 4 5 6 7 8\ntime 9 10 11 12 13 14\nflags\ndescriptors 001001\nend\nmessage\nsection1 1 2 3 4 5 6 7 8\ntime 9 10 11 12 13 14\nflags\ndescriptors 001002\nend\n";
-    assert_read(&rt, alloc, blocks, blocks)
+    assert_read(&rt, alloc, blocks, blocks);
 }
 
 /// Texts whose fault is in the head, at one of the first lines.
@@ -197,8 +176,8 @@ const HEAD_LINES: [(&str, &str); 17] = [
 ];
 
 #[test]
-fn lines_of_the_head(rt: HostRuntime) -> Result<(), Fail> {
-    assert_each(&rt, rt.alloc(), "", &HEAD_LINES)
+fn lines_of_the_head(rt: HostRuntime) {
+    assert_each(&rt, rt.alloc(), "", &HEAD_LINES);
 }
 
 /// The lines of a head before those that may be absent.
@@ -243,14 +222,14 @@ const LATER_LINES: [(&str, &str); 27] = [
 ];
 
 #[test]
-fn lines_of_octets_flags_and_descriptors(rt: HostRuntime) -> Result<(), Fail> {
-    assert_each(&rt, rt.alloc(), NUMBERS, &LATER_LINES)
+fn lines_of_octets_flags_and_descriptors(rt: HostRuntime) {
+    assert_each(&rt, rt.alloc(), NUMBERS, &LATER_LINES);
 }
 
 /// A line has the field's descriptor, one space and its value, and there are as many as the tree
 /// asks for.
 #[test]
-fn lines_of_fields(rt: HostRuntime) -> Result<(), Fail> {
+fn lines_of_fields(rt: HostRuntime) {
     let cases = [
         ("descriptors 001001\nsubset\n001001\n", "L1 BadLine 7"),
         ("descriptors 001001\nsubset\n001002 1\n", "L1 BadLine 7"),
@@ -280,12 +259,12 @@ fn lines_of_fields(rt: HostRuntime) -> Result<(), Fail> {
             "L1 BadLine 9",
         ),
     ];
-    assert_each(&rt, rt.alloc(), HEAD, &cases)
+    assert_each(&rt, rt.alloc(), HEAD, &cases);
 }
 
 /// The greatest number of 63 bits is missing, and no greater one can be read.
 #[test]
-fn lines_of_large_numbers(rt: HostRuntime) -> Result<(), Fail> {
+fn lines_of_large_numbers(rt: HostRuntime) {
     let cases = [
         (
             "descriptors 048001\nsubset\n048001 9223372036854775806\nend\n",
@@ -304,12 +283,12 @@ fn lines_of_large_numbers(rt: HostRuntime) -> Result<(), Fail> {
             "L2 BadValue 7",
         ),
     ];
-    assert_each(&rt, rt.alloc(), HEAD, &cases)
+    assert_each(&rt, rt.alloc(), HEAD, &cases);
 }
 
 /// Numbers at both ends of their ranges, by reference and by scale.
 #[test]
-fn lines_of_references(rt: HostRuntime) -> Result<(), Fail> {
+fn lines_of_references(rt: HostRuntime) {
     let cases = [
         ("descriptors 007001\nsubset\n007001 -400\nend\n", ""),
         (
@@ -341,12 +320,12 @@ fn lines_of_references(rt: HostRuntime) -> Result<(), Fail> {
             "L2 BadValue 7",
         ),
     ];
-    assert_each(&rt, rt.alloc(), HEAD, &cases)
+    assert_each(&rt, rt.alloc(), HEAD, &cases);
 }
 
 /// A count that is never missing, and the fields that stand as often as it says.
 #[test]
-fn lines_of_counts(rt: HostRuntime) -> Result<(), Fail> {
+fn lines_of_counts(rt: HostRuntime) {
     let cases = [
         ("descriptors 031000\nsubset\n031000 1\nend\n", ""),
         (
@@ -370,12 +349,12 @@ fn lines_of_counts(rt: HostRuntime) -> Result<(), Fail> {
             "L1 BadLine 9",
         ),
     ];
-    assert_each(&rt, rt.alloc(), HEAD, &cases)
+    assert_each(&rt, rt.alloc(), HEAD, &cases);
 }
 
 /// An element of a width of its own, and one whose width and scale are changed.
 #[test]
-fn lines_under_operators(rt: HostRuntime) -> Result<(), Fail> {
+fn lines_under_operators(rt: HostRuntime) {
     let cases = [
         ("descriptors 206012 001250\nsubset\n001250 5\nend\n", ""),
         (
@@ -383,11 +362,11 @@ fn lines_under_operators(rt: HostRuntime) -> Result<(), Fail> {
             "",
         ),
     ];
-    assert_each(&rt, rt.alloc(), HEAD, &cases)
+    assert_each(&rt, rt.alloc(), HEAD, &cases);
 }
 
 #[test]
-fn walks_that_stop(rt: HostRuntime) -> Result<(), Fail> {
+fn walks_that_stop(rt: HostRuntime) {
     let cases = [
         (
             "descriptors 001001 012250\nsubset\n001001 1\nx",
@@ -410,12 +389,12 @@ fn walks_that_stop(rt: HostRuntime) -> Result<(), Fail> {
             "L3 Refused 10 V6 TooLarge",
         ),
     ];
-    assert_each(&rt, rt.alloc(), HEAD, &cases)
+    assert_each(&rt, rt.alloc(), HEAD, &cases);
 }
 
 /// One character between quotes, and a text that is missing.
 #[test]
-fn texts_between_quotes(rt: HostRuntime) -> Result<(), Fail> {
+fn texts_between_quotes(rt: HostRuntime) {
     let cases = [
         ("descriptors 208001 001011\nsubset\n001011 \"a\"\nend\n", ""),
         (
@@ -443,12 +422,12 @@ fn texts_between_quotes(rt: HostRuntime) -> Result<(), Fail> {
             "L2 BadValue 7",
         ),
     ];
-    assert_each(&rt, rt.alloc(), HEAD, &cases)
+    assert_each(&rt, rt.alloc(), HEAD, &cases);
 }
 
 /// A character is escaped exactly where it does not stand for itself.
 #[test]
-fn texts_of_escapes(rt: HostRuntime) -> Result<(), Fail> {
+fn texts_of_escapes(rt: HostRuntime) {
     let cases = [
         (
             "descriptors 208001 001011\nsubset\n001011 \"\\ff\"\nend\n",
@@ -475,62 +454,66 @@ fn texts_of_escapes(rt: HostRuntime) -> Result<(), Fail> {
             "",
         ),
     ];
-    assert_each(&rt, rt.alloc(), HEAD, &cases)
+    assert_each(&rt, rt.alloc(), HEAD, &cases);
 }
 
 /// One character: itself where it can be printed, else its digits.
-fn push_character(alloc: Global, text: &mut String, octet: u8) -> Result<(), Fail> {
+fn push_character(rt: &impl Abort, alloc: Global, text: &mut String, octet: u8) {
     if octet >= 0x20 && octet <= 0x7E && octet != 0x22 && octet != 0x5C {
-        text.push(octet as char)?;
+        text.push(octet as char).expect(rt, "an answer");
     } else {
-        let digits = hex::encode(alloc, [octet].as_slice())?;
-        text.push_str("\\")?;
-        text.push_str(digits.as_str())?;
+        let digits = hex::encode(alloc, [octet].as_slice()).expect(rt, "an answer");
+        text.push_str("\\").expect(rt, "an answer");
+        text.push_str(digits.as_str()).expect(rt, "an answer");
     }
-    Ok(())
 }
 
 /// A subset of one text of every octet but the greatest.
-fn every_octet(alloc: Global) -> Result<String, Fail> {
+fn every_octet(rt: &impl Abort, alloc: Global) -> String {
     let mut lines = String::new(alloc);
-    lines.push_str("descriptors 205255\nsubset\n205255 \"")?;
+    lines
+        .push_str("descriptors 205255\nsubset\n205255 \"")
+        .expect(rt, "an answer");
     for octet in 0..255u8 {
-        push_character(alloc, &mut lines, octet)?;
+        push_character(rt, alloc, &mut lines, octet);
     }
-    lines.push_str("\"\nend\n")?;
-    Ok(lines)
+    lines.push_str("\"\nend\n").expect(rt, "an answer");
+    lines
 }
 
 #[test]
-fn texts_of_every_octet(rt: HostRuntime) -> Result<(), Fail> {
+fn texts_of_every_octet(rt: HostRuntime) {
     let alloc = rt.alloc();
-    let lines = every_octet(alloc)?;
-    assert_behind(&rt, alloc, lines.as_str(), "")
+    let lines = every_octet(&rt, alloc);
+    assert_behind(&rt, alloc, lines.as_str(), "");
 }
 
 /// A thousand subsets of two fields.
-fn thousand_pairs(alloc: Global) -> Result<String, Fail> {
+fn thousand_pairs(rt: &impl Abort, alloc: Global) -> String {
     let mut lines = String::new(alloc);
-    lines.push_str("descriptors 012101 001001\n")?;
+    lines
+        .push_str("descriptors 012101 001001\n")
+        .expect(rt, "an answer");
     for n in 0..1000u32 {
         let (kelvins, rest, block) = (n / 100, n % 100 / 10, n % 127);
-        write!(lines, "subset\n012101 {kelvins}.{rest}7\n001001 {block}\n")?;
+        write!(lines, "subset\n012101 {kelvins}.{rest}7\n001001 {block}\n").expect(rt, "an answer");
     }
-    lines.push_str("end\n")?;
-    Ok(lines)
+    lines.push_str("end\n").expect(rt, "an answer");
+    lines
 }
 
 #[test]
-fn a_thousand_subsets(rt: HostRuntime) -> Result<(), Fail> {
+fn a_thousand_subsets(rt: HostRuntime) {
     let alloc = rt.alloc();
-    let lines = thousand_pairs(alloc)?;
-    let wanted = lines.replacen(alloc, "001001 127", "001001 missing", 1)?;
-    assert_behind(&rt, alloc, wanted.as_str(), "")
+    let lines = thousand_pairs(&rt, alloc);
+    let wanted = lines
+        .replacen(alloc, "001001 127", "001001 missing", 1)
+        .expect(&rt, "an answer");
+    assert_behind(&rt, alloc, wanted.as_str(), "");
 }
 
 #[test]
-fn first_faults_as_values(rt: HostRuntime) -> Result<(), Fail> {
-    let answer = read_text(rt.alloc(), "messag\n")?;
+fn first_faults_as_values(rt: HostRuntime) {
+    let answer = read_text(&rt, rt.alloc(), "messag\n");
     assert!(rt; matches!(answer, Err(Failure::Fault(ListingFault::BadLine(1)))));
-    Ok(())
 }

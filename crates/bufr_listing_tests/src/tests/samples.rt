@@ -4,7 +4,7 @@ use bufr_listing::read;
 use bufr_sections::Message;
 use bufr_tables::{TableB, TableD, Tables};
 use std::alloc::Global;
-use std::test::Fail;
+use std::process::Abort;
 
 /// Table B of the tests.
 const ELEMENTS: &str = "\
@@ -43,29 +43,29 @@ FXY1,FXY2
 ";
 
 /// The tables of the tests.
-pub(super) fn tables(alloc: Global) -> Result<Tables, Fail> {
-    let b = TableB::parse(alloc, ELEMENTS.as_bytes())?;
-    let d = TableD::parse(alloc, SEQUENCES.as_bytes())?;
-    Ok(Tables::new(b, d))
+pub(super) fn tables(rt: &impl Abort, alloc: Global) -> Tables {
+    let b = TableB::parse(alloc, ELEMENTS.as_bytes()).expect(rt, "an answer");
+    let d = TableD::parse(alloc, SEQUENCES.as_bytes()).expect(rt, "an answer");
+    Tables::new(b, d)
 }
 
 /// The first message that a text lists.
-pub(super) fn first_message(alloc: Global, text: &str) -> Result<Message, Fail> {
-    let tables = tables(alloc)?;
-    let messages = read(alloc, &tables, text.as_bytes())?;
-    Ok(messages.into_iter().next().ok_or("a message")?)
+pub(super) fn first_message(rt: &impl Abort, alloc: Global, text: &str) -> Message {
+    let tables = tables(rt, alloc);
+    let messages = read(alloc, &tables, text.as_bytes()).expect(rt, "an answer");
+    messages.into_iter().next().expect(rt, "a message")
 }
 
 /// A part is added so many times.
 pub(super) fn push_times(
+    rt: &impl Abort,
     alloc: Global,
     text: &mut String,
     part: &str,
     times: usize,
-) -> Result<(), Fail> {
-    let repeated = part.repeat(alloc, times)?;
-    text.push_str(repeated.as_str())?;
-    Ok(())
+) {
+    let repeated = part.repeat(alloc, times).expect(rt, "an answer");
+    text.push_str(repeated.as_str()).expect(rt, "an answer");
 }
 
 /// One plain subset of sequences.

@@ -7,7 +7,6 @@ use bufr_listing::KeptTemplates;
 use bufr_tables::{Fxy, Tables};
 use std::alloc::Global;
 use std::process::Abort;
-use std::test::Fail;
 
 /// Five lists, each with one subset.
 const FIVE_LISTS: [&str; 5] = [
@@ -36,59 +35,53 @@ const ONE_LIST: [&str; 4] = [
 ];
 
 /// A message of the usual head and these lines is added.
-fn push_message(text: &mut String, lines: &str) -> Result<(), Fail> {
-    text.push_str(HEAD)?;
-    text.push_str(lines)?;
-    Ok(())
+fn push_message(rt: &impl Abort, text: &mut String, lines: &str) {
+    text.push_str(HEAD).expect(rt, "an answer");
+    text.push_str(lines).expect(rt, "an answer");
 }
 
 /// A message of each of these lines, in turn, so many times.
-fn in_turn(alloc: Global, all: &[&str], times: usize) -> Result<String, Fail> {
+fn in_turn(rt: &impl Abort, alloc: Global, all: &[&str], times: usize) -> String {
     let mut text = String::new(alloc);
     for _ in 0..times {
         for lines in all {
-            push_message(&mut text, lines)?;
+            push_message(rt, &mut text, lines);
         }
     }
-    Ok(text)
+    text
 }
 
 /// Messages of these lines, in turn, are read as themselves.
-fn assert_in_turn(rt: &impl Abort, alloc: Global, all: &[&str], times: usize) -> Result<(), Fail> {
-    let text = in_turn(alloc, all, times)?;
-    assert_read(rt, alloc, text.as_str(), text.as_str())
+fn assert_in_turn(rt: &impl Abort, alloc: Global, all: &[&str], times: usize) {
+    let text = in_turn(rt, alloc, all, times);
+    assert_read(rt, alloc, text.as_str(), text.as_str());
 }
 
 #[test]
-fn five_lists_in_turn(rt: HostRuntime) -> Result<(), Fail> {
-    assert_in_turn(&rt, rt.alloc(), &FIVE_LISTS, 3)
+fn five_lists_in_turn(rt: HostRuntime) {
+    assert_in_turn(&rt, rt.alloc(), &FIVE_LISTS, 3);
 }
 
 #[test]
-fn lists_that_differ_at_their_end(rt: HostRuntime) -> Result<(), Fail> {
-    assert_in_turn(&rt, rt.alloc(), &LAST_DESCRIPTORS, 3)
+fn lists_that_differ_at_their_end(rt: HostRuntime) {
+    assert_in_turn(&rt, rt.alloc(), &LAST_DESCRIPTORS, 3);
 }
 
 #[test]
-fn one_list_many_times(rt: HostRuntime) -> Result<(), Fail> {
-    assert_in_turn(&rt, rt.alloc(), &ONE_LIST, 50)
+fn one_list_many_times(rt: HostRuntime) {
+    assert_in_turn(&rt, rt.alloc(), &ONE_LIST, 50);
 }
 
 /// The messages of five lists, and then these lines, are refused so.
-fn assert_refused_behind(
-    rt: &impl Abort,
-    alloc: Global,
-    lines: &str,
-    wanted: &str,
-) -> Result<(), Fail> {
-    let mut text = in_turn(alloc, &FIVE_LISTS, 1)?;
-    push_message(&mut text, lines)?;
-    assert_read(rt, alloc, text.as_str(), wanted)
+fn assert_refused_behind(rt: &impl Abort, alloc: Global, lines: &str, wanted: &str) {
+    let mut text = in_turn(rt, alloc, &FIVE_LISTS, 1);
+    push_message(rt, &mut text, lines);
+    assert_read(rt, alloc, text.as_str(), wanted);
 }
 
 /// The five messages have 8, 9, 10, 10 and 9 lines, so the descriptors behind them are in line 51.
 #[test]
-fn faults_behind_five_lists(rt: HostRuntime) -> Result<(), Fail> {
+fn faults_behind_five_lists(rt: HostRuntime) {
     let alloc = rt.alloc();
     let unknown = "descriptors 012101 001250\n";
     assert_refused_behind(
@@ -96,28 +89,34 @@ fn faults_behind_five_lists(rt: HostRuntime) -> Result<(), Fail> {
         alloc,
         unknown,
         "L3 Refused 51 X1 UnknownElement 001250",
-    )?;
+    );
     let too_many = "descriptors 012101\nsubset\n012101 1.00\n012101 1.00\nend\n";
-    assert_refused_behind(&rt, alloc, too_many, "L1 BadLine 54")?;
+    assert_refused_behind(&rt, alloc, too_many, "L1 BadLine 54");
     let of_another = "descriptors 001001 012101\nsubset\n012101 1.00\nend\n";
-    assert_refused_behind(&rt, alloc, of_another, "L1 BadLine 53")
+    assert_refused_behind(&rt, alloc, of_another, "L1 BadLine 53");
 }
 
 /// The descriptors of six digits each, parted by spaces.
-fn list_of(alloc: Global, text: &str) -> Result<Vec<Fxy>, Fail> {
+fn list_of(rt: &impl Abort, alloc: Global, text: &str) -> Vec<Fxy> {
     let mut list = Vec::new(alloc);
     for word in text.split_whitespace() {
-        list.push(Fxy::from_text(word.as_bytes()).ok_or("a descriptor")?)?;
+        list.push(Fxy::from_text(word.as_bytes()).expect(rt, "a descriptor"))
+            .expect(rt, "an answer");
     }
-    Ok(list)
+    list
 }
 
 /// How many nodes the template of a list has, or why it has none.
-fn nodes_of(alloc: Global, templates: &mut KeptTemplates<'_>, text: &str) -> Result<String, Fail> {
-    let list = list_of(alloc, text)?;
+fn nodes_of(
+    rt: &impl Abort,
+    alloc: Global,
+    templates: &mut KeptTemplates<'_>,
+    text: &str,
+) -> String {
+    let list = list_of(rt, alloc, text);
     match templates.template_of(alloc, &list) {
-        Ok(template) => Ok(template.nodes().to_string(alloc)?),
-        Err(failure) => Ok(failure.to_string(alloc)?),
+        Ok(template) => template.nodes().to_string(alloc).expect(rt, "an answer"),
+        Err(failure) => failure.to_string(alloc).expect(rt, "an answer"),
     }
 }
 
@@ -133,20 +132,19 @@ const NODES: [(&str, &str); 7] = [
 ];
 
 /// Each list has so many nodes, or is refused so.
-fn assert_nodes(rt: &impl Abort, alloc: Global, tables: &Tables) -> Result<(), Fail> {
+fn assert_nodes(rt: &impl Abort, alloc: Global, tables: &Tables) {
     let mut templates = KeptTemplates::new(alloc, tables);
     for _ in 0..3 {
         for &(text, wanted) in &NODES {
-            let found = nodes_of(alloc, &mut templates, text)?;
+            let found = nodes_of(rt, alloc, &mut templates, text);
             same(rt, found.as_str(), wanted);
         }
     }
-    Ok(())
 }
 
 #[test]
-fn templates_of_lists_in_turn(rt: HostRuntime) -> Result<(), Fail> {
+fn templates_of_lists_in_turn(rt: HostRuntime) {
     let alloc = rt.alloc();
-    let tables = tables(alloc)?;
-    assert_nodes(&rt, alloc, &tables)
+    let tables = tables(&rt, alloc);
+    assert_nodes(&rt, alloc, &tables);
 }

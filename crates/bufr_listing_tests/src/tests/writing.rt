@@ -13,7 +13,6 @@ use std::alloc::Global;
 use std::io;
 use std::io::{ErrorKind, Write};
 use std::process::Abort;
-use std::test::Fail;
 
 /// A field of this descriptor, kind, scale, reference value, width and raw value.
 fn field(fxy: u16, kind: Kind, scale: i32, reference: i64, width: u32, raw: Raw) -> Field {
@@ -31,14 +30,14 @@ fn field(fxy: u16, kind: Kind, scale: i32, reference: i64, width: u32, raw: Raw)
 }
 
 /// Some octets.
-fn items(alloc: Global, octets: &[u8]) -> Result<Items<u8>, Fail> {
-    Ok(Items::from_vec(octets.to_vec(alloc)?))
+fn items(rt: &impl Abort, alloc: Global, octets: &[u8]) -> Items<u8> {
+    Items::from_vec(octets.to_vec(alloc).expect(rt, "an answer"))
 }
 
 /// Section 1 with another number in each place, and these octets for local use.
-fn head(alloc: Global, local: &[u8]) -> Result<Head, Fail> {
-    let local = items(alloc, local)?;
-    Ok(Head {
+fn head(rt: &impl Abort, alloc: Global, local: &[u8]) -> Head {
+    let local = items(rt, alloc, local);
+    Head {
         centre: 300,
         sub_centre: 301,
         update: 2,
@@ -54,22 +53,22 @@ fn head(alloc: Global, local: &[u8]) -> Result<Head, Fail> {
         minute: 11,
         second: 12,
         local,
-    })
+    }
 }
 
 /// A text in which each character that is quoted stands beside its neighbours that are not.
-fn text_field(alloc: Global) -> Result<Field, Fail> {
+fn text_field(rt: &impl Abort, alloc: Global) -> Field {
     let quoted = [
         0x1F, 0x20, 0x21, 0x22, 0x23, 0x5B, 0x5C, 0x5D, 0x7E, 0x7F, 0x80, 0xFF,
     ];
-    let text = Raw::Text(items(alloc, quoted.as_slice())?);
-    Ok(field(0x010B, Kind::Text, 0, 0, 96, text))
+    let text = Raw::Text(items(rt, alloc, quoted.as_slice()));
+    field(0x010B, Kind::Text, 0, 0, 96, text)
 }
 
 /// A field of each kind of value.
-fn fields(alloc: Global) -> Result<Items<Field>, Fail> {
+fn fields(rt: &impl Abort, alloc: Global) -> Items<Field> {
     let mut fields = Vec::new(alloc);
-    fields.push(text_field(alloc)?)?;
+    fields.push(text_field(rt, alloc)).expect(rt, "an answer");
     for (fxy, scale, reference, width, number) in [
         (0x0502u16, 2i32, -9000i64, 15u32, 8999u64),
         (0x0701, 0, -400, 15, 0),
@@ -78,50 +77,46 @@ fn fields(alloc: Global) -> Result<Items<Field>, Fail> {
         (0x0A04, -1, 0, 14, 16383),
     ] {
         let raw = Raw::Number(number);
-        fields.push(field(fxy, Kind::Quantity, scale, reference, width, raw))?;
+        fields
+            .push(field(fxy, Kind::Quantity, scale, reference, width, raw))
+            .expect(rt, "an answer");
     }
-    Ok(Items::from_vec(fields))
+    Items::from_vec(fields)
 }
 
 /// The descriptors of the messages.
-fn descriptors(alloc: Global) -> Result<Items<Fxy>, Fail> {
+fn descriptors(rt: &impl Abort, alloc: Global) -> Items<Fxy> {
     let descriptors = [Fxy::from_bits(0xC101), Fxy::from_bits(0x0C65)];
-    Ok(Items::from_vec(descriptors.to_vec(alloc)?))
+    Items::from_vec(descriptors.to_vec(alloc).expect(rt, "an answer"))
 }
 
 /// A message of one subset with a field of each kind of value.
-fn message(alloc: Global) -> Result<Message, Fail> {
-    let fields = fields(alloc)?;
+fn message(rt: &impl Abort, alloc: Global) -> Message {
+    let fields = fields(rt, alloc);
     let mut subsets = Vec::new(alloc);
-    subsets.push(Subset { fields })?;
-    Ok(Message {
-        head: head(alloc, &[0x0F, 0xA0])?,
-        section2: Some(items(alloc, &[0x01])?),
+    subsets.push(Subset { fields }).expect(rt, "an answer");
+    Message {
+        head: head(rt, alloc, &[0x0F, 0xA0]),
+        section2: Some(items(rt, alloc, &[0x01])),
         observed: true,
         compressed: true,
-        descriptors: descriptors(alloc)?,
+        descriptors: descriptors(rt, alloc),
         subsets: Items::from_vec(subsets),
-    })
+    }
 }
 
 /// A message is listed so.
-pub(super) fn assert_listed(
-    rt: &impl Abort,
-    alloc: Global,
-    message: &Message,
-    wanted: &str,
-) -> Result<(), Fail> {
-    let listing = text_of(alloc, message)?;
+pub(super) fn assert_listed(rt: &impl Abort, alloc: Global, message: &Message, wanted: &str) {
+    let listing = text_of(alloc, message).expect(rt, "an answer");
     same(rt, listing.as_slice(), wanted.as_bytes());
-    Ok(())
 }
 
 #[test]
-fn each_part_has_its_place(rt: HostRuntime) -> Result<(), Fail> {
+fn each_part_has_its_place(rt: HostRuntime) {
     let wanted =
         "message\nsection1 300 301 2 3 4 5 6 7\ntime 2024 8 9 10 11 12\nlocal1 0fa0\nsection2 01\nflags observed compressed\ndescriptors 301001 012101\nsubset\n001011 \"\\1f !\\22#[\\5c]~\\7f\\80\\ff\"\n005002 -0.01\n007001 -400\n010004 101320\n010004 0\n010004 missing\nend\n";
-    let message = message(rt.alloc())?;
-    assert_listed(&rt, rt.alloc(), &message, wanted)
+    let message = message(&rt, rt.alloc());
+    assert_listed(&rt, rt.alloc(), &message, wanted);
 }
 
 /// The message without octets for local use and without subsets, with this section 2 and these
@@ -132,31 +127,31 @@ fn assert_bare(
     section2: Option<Items<u8>>,
     (observed, compressed): (bool, bool),
     wanted: &str,
-) -> Result<(), Fail> {
+) {
     let bare = Message {
-        head: head(alloc, &[])?,
+        head: head(rt, alloc, &[]),
         section2,
         observed,
         compressed,
-        descriptors: descriptors(alloc)?,
+        descriptors: descriptors(rt, alloc),
         subsets: Items::from_vec(Vec::new(alloc)),
     };
-    assert_listed(rt, alloc, &bare, wanted)
+    assert_listed(rt, alloc, &bare, wanted);
 }
 
 #[test]
-fn what_may_be_absent(rt: HostRuntime) -> Result<(), Fail> {
+fn what_may_be_absent(rt: HostRuntime) {
     let alloc = rt.alloc();
     let wanted =
         "message\nsection1 300 301 2 3 4 5 6 7\ntime 2024 8 9 10 11 12\nflags\ndescriptors 301001 012101\nend\n";
-    assert_bare(&rt, alloc, None, (false, false), wanted)?;
+    assert_bare(&rt, alloc, None, (false, false), wanted);
     let wanted =
         "message\nsection1 300 301 2 3 4 5 6 7\ntime 2024 8 9 10 11 12\nsection2\nflags compressed\ndescriptors 301001 012101\nend\n";
     let empty = Some(Items::from_vec(Vec::new(alloc)));
-    assert_bare(&rt, alloc, empty, (false, true), wanted)?;
+    assert_bare(&rt, alloc, empty, (false, true), wanted);
     let wanted =
         "message\nsection1 300 301 2 3 4 5 6 7\ntime 2024 8 9 10 11 12\nflags observed\ndescriptors 301001 012101\nend\n";
-    assert_bare(&rt, alloc, None, (true, false), wanted)
+    assert_bare(&rt, alloc, None, (true, false), wanted);
 }
 
 /// A writer that has room for so many octets more, and takes at most 50 at a time.
@@ -194,16 +189,10 @@ fn written(
 }
 
 /// A writer that has room for a million octets takes this listing of a message.
-pub(super) fn assert_taken(
-    rt: &impl Abort,
-    alloc: Global,
-    message: &Message,
-    wanted: &str,
-) -> Result<(), Fail> {
+pub(super) fn assert_taken(rt: &impl Abort, alloc: Global, message: &Message, wanted: &str) {
     let (found, taken) = written(alloc, message, 1_000_000);
     same(rt, found, Ok(()));
     same(rt, taken.as_slice(), wanted.as_bytes());
-    Ok(())
 }
 
 /// The listing is written to a writer with so much room: the front that the writer takes is this
@@ -213,42 +202,35 @@ fn assert_front(
     alloc: Global,
     room: usize,
     answer: Result<(), ListingWriteFault>,
-) -> Result<(), Fail> {
-    let message = first_message(alloc, SEQUENCES_LISTED)?;
+) {
+    let message = first_message(rt, alloc, SEQUENCES_LISTED);
     let (found, taken) = written(alloc, &message, room);
     same(rt, found, answer);
     let front = SEQUENCES_LISTED.len().min(room);
     same(rt, taken.as_slice(), &SEQUENCES_LISTED.as_bytes()[..front]);
-    Ok(())
 }
 
 #[test]
-fn written_to_narrow_writers(rt: HostRuntime) -> Result<(), Fail> {
+fn written_to_narrow_writers(rt: HostRuntime) {
     for room in [0u8, 1, 50, 99, 100, 207] {
         let written = u128::from(room);
         let fault = ListingWriteFault::WriteFailed { written };
-        assert_front(&rt, rt.alloc(), usize::from(room), Err(fault))?;
+        assert_front(&rt, rt.alloc(), usize::from(room), Err(fault));
     }
-    assert_front(&rt, rt.alloc(), 208, Ok(()))?;
-    assert_front(&rt, rt.alloc(), 1000, Ok(()))
+    assert_front(&rt, rt.alloc(), 208, Ok(()));
+    assert_front(&rt, rt.alloc(), 1000, Ok(()));
 }
 
 /// A fault is printed so.
-fn assert_printed(
-    rt: &impl Abort,
-    alloc: Global,
-    fault: ListingWriteFault,
-    wanted: &str,
-) -> Result<(), Fail> {
-    let text = fault.to_string(alloc)?;
+fn assert_printed(rt: &impl Abort, alloc: Global, fault: ListingWriteFault, wanted: &str) {
+    let text = fault.to_string(alloc).expect(rt, "an answer");
     same(rt, text.as_str(), wanted);
-    Ok(())
 }
 
 #[test]
-fn faults_of_writing_are_printed(rt: HostRuntime) -> Result<(), Fail> {
+fn faults_of_writing_are_printed(rt: HostRuntime) {
     let failed = ListingWriteFault::WriteFailed { written: 235 };
-    assert_printed(&rt, rt.alloc(), failed, "write failed after 235 octets")?;
+    assert_printed(&rt, rt.alloc(), failed, "write failed after 235 octets");
     let refused = ListingWriteFault::OutOfMemory;
-    assert_printed(&rt, rt.alloc(), refused, "out of memory")
+    assert_printed(&rt, rt.alloc(), refused, "out of memory");
 }
