@@ -16,7 +16,6 @@ use bufr_tool::{load_tables, run_show};
 use std::alloc::Global;
 use std::fmt::Debug;
 use std::process::Abort;
-use std::test::Fail;
 
 const TABLE_B: &[u8] = b"FXY,BUFR_Unit,BUFR_Scale,BUFR_ReferenceValue,BUFR_DataWidth_Bits\n\
 001001,Numeric,0,0,7\n\
@@ -69,11 +68,11 @@ subset\n\
 end\n";
 
 /// The tables of the tests.
-fn tables(alloc: Global) -> Result<Tables, Fail> {
-    Ok(Tables::new(
-        TableB::parse(alloc, TABLE_B)?,
-        TableD::parse(alloc, TABLE_D)?,
-    ))
+fn tables(rt: &impl Abort, alloc: Global) -> Tables {
+    Tables::new(
+        TableB::parse(alloc, TABLE_B).expect(rt, "an answer"),
+        TableD::parse(alloc, TABLE_D).expect(rt, "an answer"),
+    )
 }
 
 /// Stops the test where the two differ. It is a function, since a comparison written out in a test
@@ -88,11 +87,11 @@ fn same_at<T: PartialEq + Debug + Drop>(rt: &impl Abort, found: T, wanted: T, pl
 }
 
 /// What showing octets answers, and what was written.
-fn shown(alloc: Global, octets: &[u8]) -> Result<(Result<Tally, ToolFault>, Vec<u8>), Fail> {
-    let tables = tables(alloc)?;
+fn shown(rt: &impl Abort, alloc: Global, octets: &[u8]) -> (Result<Tally, ToolFault>, Vec<u8>) {
+    let tables = tables(rt, alloc);
     let mut writer = IntoWrite::new(Vec::new(alloc));
     let answer = run_show(alloc, 10, &tables, &mut FromRead::new(octets), &mut writer);
-    Ok((answer, writer.into_inner()))
+    (answer, writer.into_inner())
 }
 
 /// Whether octets are refused (0 or 1), or why showing them gave no tally.
@@ -104,26 +103,19 @@ fn refused_of(answer: Result<Tally, ToolFault>) -> Result<u128, ToolFault> {
 }
 
 /// So many messages of octets are refused, and this is what is shown of them.
-fn assert_shown(
-    rt: &impl Abort,
-    alloc: Global,
-    octets: &[u8],
-    refused: u128,
-    text: &[u8],
-) -> Result<(), Fail> {
-    let (answer, written) = shown(alloc, octets)?;
+fn assert_shown(rt: &impl Abort, alloc: Global, octets: &[u8], refused: u128, text: &[u8]) {
+    let (answer, written) = shown(rt, alloc, octets);
     same(rt, refused_of(answer), Ok(refused));
     same(rt, written.as_slice(), text);
-    Ok(())
 }
 
 #[test]
-fn elements_only(rt: HostRuntime) -> Result<(), Fail> {
-    assert_shown(&rt, rt.alloc(), ELEMENTS_ONLY, 0, LISTING)
+fn elements_only(rt: HostRuntime) {
+    assert_shown(&rt, rt.alloc(), ELEMENTS_ONLY, 0, LISTING);
 }
 
 #[test]
-fn refusals(rt: HostRuntime) -> Result<(), Fail> {
+fn refusals(rt: HostRuntime) {
     for (octets, line) in [
         (
             b"BUFR\x00\x00\x0C\x057777".as_slice(),
@@ -134,9 +126,8 @@ fn refusals(rt: HostRuntime) -> Result<(), Fail> {
             "# refused 6 M5 Section1Length\n",
         ),
     ] {
-        assert_shown(&rt, rt.alloc(), octets, 1, line.as_bytes())?;
+        assert_shown(&rt, rt.alloc(), octets, 1, line.as_bytes());
     }
-    Ok(())
 }
 
 /// A writer that takes so many octets, one by one, and then fails; or fails when it is flushed.
@@ -194,14 +185,13 @@ fn assert_broken(
 }
 
 #[test]
-fn failing_writer(rt: HostRuntime) -> Result<(), Fail> {
+fn failing_writer(rt: HostRuntime) {
     let alloc = rt.alloc();
-    let tables = tables(alloc)?;
+    let tables = tables(&rt, alloc);
     for room in 0usize..237 {
         let (fault, taken) = broken_after(alloc, &tables, room);
         assert_broken(&rt, room, fault, &taken, LISTING);
     }
-    Ok(())
 }
 
 /// A reader that gives one octet a read, so often, and then fails or meets its end.
@@ -262,8 +252,8 @@ const DRIPPED: [(usize, bool, Option<ToolFault>); 4] = [
 ];
 
 #[test]
-fn endless_and_failing_readers(rt: HostRuntime) -> Result<(), Fail> {
-    let tables = tables(rt.alloc())?;
+fn endless_and_failing_readers(rt: HostRuntime) {
+    let tables = tables(&rt, rt.alloc());
     for (octets, breaks, wanted) in DRIPPED {
         same(
             &rt,
@@ -271,7 +261,6 @@ fn endless_and_failing_readers(rt: HostRuntime) -> Result<(), Fail> {
             (wanted, 0),
         );
     }
-    Ok(())
 }
 
 /// What loading two texts as tables answers.
@@ -303,24 +292,29 @@ fn faults_of_tables(rt: HostRuntime) {
 
 /// Five thousand rows, of the descriptors with 0 to 4999 as their bits, which are their reference
 /// values.
-fn many_elements(alloc: Global) -> Result<Vec<u8>, Fail> {
+fn many_elements(rt: &impl Abort, alloc: Global) -> Vec<u8> {
     let header = b"FXY,BUFR_Unit,BUFR_Scale,BUFR_ReferenceValue,BUFR_DataWidth_Bits\n".as_slice();
-    let mut text = Vec::from_slice(alloc, header)?;
+    let mut text = Vec::from_slice(alloc, header).expect(rt, "an answer");
     for bits in 0..5000u16 {
-        let line = format!(in alloc; "{},Numeric,0,{bits},9\n", Fxy::from_bits(bits))?;
-        text.extend_from_slice(line.as_bytes())?;
+        let line = format!(in alloc; "{},Numeric,0,{bits},9\n", Fxy::from_bits(bits)).expect(
+            rt,
+            "an answer",
+        );
+        text.extend_from_slice(line.as_bytes())
+            .expect(rt, "an answer");
     }
-    Ok(text)
+    text
 }
 
 /// The sequence 363255 of these descriptors, in five thousand rows.
-fn many_members(alloc: Global) -> Result<Vec<u8>, Fail> {
-    let mut text = Vec::from_slice(alloc, b"FXY1,FXY2\n".as_slice())?;
+fn many_members(rt: &impl Abort, alloc: Global) -> Vec<u8> {
+    let mut text = Vec::from_slice(alloc, b"FXY1,FXY2\n".as_slice()).expect(rt, "an answer");
     for bits in 0..5000u16 {
-        let line = format!(in alloc; "363255,{}\n", Fxy::from_bits(bits))?;
-        text.extend_from_slice(line.as_bytes())?;
+        let line = format!(in alloc; "363255,{}\n", Fxy::from_bits(bits)).expect(rt, "an answer");
+        text.extend_from_slice(line.as_bytes())
+            .expect(rt, "an answer");
     }
-    Ok(text)
+    text
 }
 
 /// The descriptor with these bits has the row of its reference value, and is the member at that
@@ -346,30 +340,30 @@ fn tables_of(alloc: Global, b: &[u8], d: &[u8]) -> Result<Tables, ToolFault> {
 }
 
 /// The tables have each of the five thousand rows.
-fn assert_rows(rt: &impl Abort, tables: &Tables) -> Result<(), Fail> {
-    let members = tables.sequence(Fxy::from_bits(0xFFFF)).ok_or("members")?;
+fn assert_rows(rt: &impl Abort, tables: &Tables) {
+    let members = tables
+        .sequence(Fxy::from_bits(0xFFFF))
+        .expect(rt, "members");
     same(rt, members.len(), 5000);
     for bits in 0..5000u16 {
         assert_row(rt, tables, members, bits);
     }
-    Ok(())
 }
 
 /// The tables of two files of more than 65,536 octets.
 #[test]
-fn tables_of_thousands_of_rows(rt: HostRuntime) -> Result<(), Fail> {
-    let b = many_elements(rt.alloc())?;
-    let d = many_members(rt.alloc())?;
+fn tables_of_thousands_of_rows(rt: HostRuntime) {
+    let b = many_elements(&rt, rt.alloc());
+    let d = many_members(&rt, rt.alloc());
     same(&rt, d.len(), 70_010);
-    let tables = tables_of(rt.alloc(), &b, &d)?;
-    assert_rows(&rt, &tables)
+    let tables = tables_of(rt.alloc(), &b, &d).expect(&rt, "an answer");
+    assert_rows(&rt, &tables);
 }
 
 /// The line of a fault is this.
-fn assert_line(rt: &impl Abort, alloc: Global, fault: ToolFault, text: &str) -> Result<(), Fail> {
-    let line = fault.to_string(alloc)?;
+fn assert_line(rt: &impl Abort, alloc: Global, fault: ToolFault, text: &str) {
+    let line = fault.to_string(alloc).expect(rt, "an answer");
     same(rt, line.as_str(), text);
-    Ok(())
 }
 
 /// Faults and their lines.
@@ -423,9 +417,8 @@ const FAULTS: [(ToolFault, &str); 13] = [
 ];
 
 #[test]
-fn lines_of_faults(rt: HostRuntime) -> Result<(), Fail> {
+fn lines_of_faults(rt: HostRuntime) {
     for (fault, text) in FAULTS {
-        assert_line(&rt, rt.alloc(), fault, text)?;
+        assert_line(&rt, rt.alloc(), fault, text);
     }
-    Ok(())
 }

@@ -12,7 +12,6 @@ use bufr_tables::Tables;
 use bufr_tool::run_encode;
 use std::alloc::Global;
 use std::process::Abort;
-use std::test::Fail;
 
 const SEQUENCES_LISTING: &[u8] = b"message\n\
 section1 98 0 0 0 2 0 37 0\n\
@@ -83,18 +82,19 @@ end\n";
 
 /// What encoding a listing within so many reads answers, and what was written.
 fn encoded(
+    rt: &impl Abort,
     alloc: Global,
     reads: u64,
     compressed: bool,
     listing: &[u8],
-) -> Result<(Result<Tally, ToolFault>, Vec<u8>), Fail>
+) -> (Result<Tally, ToolFault>, Vec<u8>)
     requires { reads ≤ most_reads }
 {
-    let tables = tables(alloc)?;
+    let tables = tables(rt, alloc);
     let mut writer = IntoWrite::new(Vec::new(alloc));
     let mut reader = FromRead::new(listing);
     let answer = run_encode(alloc, reads, &tables, compressed, &mut reader, &mut writer);
-    Ok((answer, writer.into_inner()))
+    (answer, writer.into_inner())
 }
 
 /// Encoding a listing within ten reads answers and writes this.
@@ -105,11 +105,10 @@ fn assert_encoded(
     listing: &[u8],
     wanted: Result<Tally, ToolFault>,
     octets: &[u8],
-) -> Result<(), Fail> {
-    let (answer, written) = encoded(alloc, 10, compressed, listing)?;
+) {
+    let (answer, written) = encoded(rt, alloc, 10, compressed, listing);
     same(rt, answer, wanted);
     same(rt, written.as_slice(), octets);
-    Ok(())
 }
 
 /// Octets with others behind them.
@@ -163,15 +162,14 @@ const PAIR_COMPRESSED: &[u8] = b"BUFR\x00\x00\x44\x04\
 7777";
 
 /// The message is plain where compression is not asked for: two subsets, and the flag is not set.
-fn assert_plain(rt: &impl Abort, alloc: Global) -> Result<(), Fail> {
-    let (answer, written) = encoded(alloc, 10, false, PAIR_LISTING)?;
+fn assert_plain(rt: &impl Abort, alloc: Global) {
+    let (answer, written) = encoded(rt, alloc, 10, false, PAIR_LISTING);
     same(rt, answer, messages(1));
     same(
         rt,
         written.as_slice().get(35..37),
         Some(b"\x02\x80".as_slice()),
     );
-    Ok(())
 }
 
 /// Whether compression is asked for, the listing of a message, and what it is encoded to.
@@ -187,91 +185,77 @@ const ENCODED: [(bool, &[u8], &[u8]); 6] = [
 /// The listing of each example in the folder of examples is encoded to the example, and compressed
 /// where that is asked for. Edition 3 is tried by `tests/commands` at the top.
 #[test]
-fn listings_of_examples(rt: HostRuntime) -> Result<(), Fail> {
+fn listings_of_examples(rt: HostRuntime) {
     for (compressed, listing, octets) in ENCODED {
-        assert_encoded(&rt, rt.alloc(), compressed, listing, messages(1), octets)?;
+        assert_encoded(&rt, rt.alloc(), compressed, listing, messages(1), octets);
     }
-    assert_plain(&rt, rt.alloc())
+    assert_plain(&rt, rt.alloc());
 }
 
 /// The listing of a message and the same again is encoded to the message and the same again.
-fn assert_twice(
-    rt: &impl Abort,
-    alloc: Global,
-    compressed: bool,
-    listing: &[u8],
-    octets: &[u8],
-) -> Result<(), Fail> {
-    let listing = joined(alloc, listing, listing)?;
-    let octets = joined(alloc, octets, octets)?;
-    assert_encoded(rt, alloc, compressed, &listing, messages(2), &octets)
+fn assert_twice(rt: &impl Abort, alloc: Global, compressed: bool, listing: &[u8], octets: &[u8]) {
+    let listing = joined(alloc, listing, listing).expect(rt, "an answer");
+    let octets = joined(alloc, octets, octets).expect(rt, "an answer");
+    assert_encoded(rt, alloc, compressed, &listing, messages(2), &octets);
 }
 
 #[test]
-fn listings_of_two_messages(rt: HostRuntime) -> Result<(), Fail> {
-    assert_twice(&rt, rt.alloc(), false, SEQUENCES_LISTING, SEQUENCES)?;
-    assert_twice(&rt, rt.alloc(), true, PAIR_LISTING, PAIR_COMPRESSED)
+fn listings_of_two_messages(rt: HostRuntime) {
+    assert_twice(&rt, rt.alloc(), false, SEQUENCES_LISTING, SEQUENCES);
+    assert_twice(&rt, rt.alloc(), true, PAIR_LISTING, PAIR_COMPRESSED);
 }
 
 #[test]
-fn listings_of_no_message(rt: HostRuntime) -> Result<(), Fail> {
+fn listings_of_no_message(rt: HostRuntime) {
     let alloc = rt.alloc();
     for listing in [
         b"".as_slice(),
         b"\n".as_slice(),
         b"# nothing\r\n\n# more".as_slice(),
     ] {
-        assert_encoded(&rt, alloc, true, listing, messages(0), b"")?;
+        assert_encoded(&rt, alloc, true, listing, messages(0), b"");
     }
-    Ok(())
 }
 
 /// The second message of a listing cannot be compressed, and nothing is written.
-fn assert_not_compressible(rt: &impl Abort, alloc: Global, listing: &[u8]) -> Result<(), Fail> {
-    let (answer, written) = encoded(alloc, 10, true, listing)?;
+fn assert_not_compressible(rt: &impl Abort, alloc: Global, listing: &[u8]) {
+    let (answer, written) = encoded(rt, alloc, 10, true, listing);
     let Err(ToolFault::Encode(2, why)) = answer else {
-        return Err(Fail::from("the second message is not refused"));
+        panic!(rt; "the second message is not refused")
     };
-    let text = why.to_string(alloc)?;
+    let text = why.to_string(alloc).expect(rt, "an answer");
     same(rt, text.as_str(), "E2 NotCompressible 1");
     same(rt, written.len(), 0);
-    Ok(())
 }
 
 /// A line of a listing is bad, and nothing is written.
-fn assert_bad_line(
-    rt: &impl Abort,
-    alloc: Global,
-    compressed: bool,
-    listing: &[u8],
-    line: u128,
-) -> Result<(), Fail> {
+fn assert_bad_line(rt: &impl Abort, alloc: Global, compressed: bool, listing: &[u8], line: u128) {
     let wanted = Err(ToolFault::Listing(ListingFault::BadLine(line)));
-    assert_encoded(rt, alloc, compressed, listing, wanted, b"")
+    assert_encoded(rt, alloc, compressed, listing, wanted, b"");
 }
 
 /// A message that is refused leaves nothing written of those before it, whatever comes behind it.
-fn assert_second_refused(rt: &impl Abort, alloc: Global, behind: &[u8]) -> Result<(), Fail> {
-    let two = joined(alloc, PAIR_LISTING, UNEQUAL_COUNTS_LISTING)?;
-    let listing = joined(alloc, &two, behind)?;
-    assert_not_compressible(rt, alloc, &listing)
+fn assert_second_refused(rt: &impl Abort, alloc: Global, behind: &[u8]) {
+    let two = joined(alloc, PAIR_LISTING, UNEQUAL_COUNTS_LISTING).expect(rt, "an answer");
+    let listing = joined(alloc, &two, behind).expect(rt, "an answer");
+    assert_not_compressible(rt, alloc, &listing);
 }
 
 /// The listing's fault comes before that of any message.
-fn assert_listing_first(rt: &impl Abort, alloc: Global) -> Result<(), Fail> {
-    let two = joined(alloc, PAIR_LISTING, UNEQUAL_COUNTS_LISTING)?;
-    let three = joined(alloc, &two, PAIR_LISTING)?;
-    let four = joined(alloc, &three, b"message\nsection\n")?;
-    assert_bad_line(rt, alloc, true, &four, 61)
+fn assert_listing_first(rt: &impl Abort, alloc: Global) {
+    let two = joined(alloc, PAIR_LISTING, UNEQUAL_COUNTS_LISTING).expect(rt, "an answer");
+    let three = joined(alloc, &two, PAIR_LISTING).expect(rt, "an answer");
+    let four = joined(alloc, &three, b"message\nsection\n").expect(rt, "an answer");
+    assert_bad_line(rt, alloc, true, &four, 61);
 }
 
 #[test]
-fn first_faults(rt: HostRuntime) -> Result<(), Fail> {
-    assert_second_refused(&rt, rt.alloc(), b"")?;
-    assert_second_refused(&rt, rt.alloc(), PAIR_LISTING)?;
-    assert_listing_first(&rt, rt.alloc())?;
-    let cut = LISTING.get(..232).ok_or("without its end")?;
-    assert_bad_line(&rt, rt.alloc(), false, cut, 15)
+fn first_faults(rt: HostRuntime) {
+    assert_second_refused(&rt, rt.alloc(), b"");
+    assert_second_refused(&rt, rt.alloc(), PAIR_LISTING);
+    assert_listing_first(&rt, rt.alloc());
+    let cut = LISTING.get(..232).expect(&rt, "without its end");
+    assert_bad_line(&rt, rt.alloc(), false, cut, 15);
 }
 
 /// Why a listing was not encoded to a writer that has room for so many octets, if it was not, and
@@ -307,13 +291,12 @@ fn assert_all_broken(
 }
 
 #[test]
-fn failing_writer(rt: HostRuntime) -> Result<(), Fail> {
+fn failing_writer(rt: HostRuntime) {
     let alloc = rt.alloc();
-    let tables = tables(alloc)?;
-    let listing = joined(alloc, LISTING, SEQUENCES_LISTING)?;
-    let octets = joined(alloc, ELEMENTS_ONLY, SEQUENCES)?;
+    let tables = tables(&rt, alloc);
+    let listing = joined(alloc, LISTING, SEQUENCES_LISTING).expect(&rt, "an answer");
+    let octets = joined(alloc, ELEMENTS_ONLY, SEQUENCES).expect(&rt, "an answer");
     assert_all_broken(&rt, alloc, &tables, &listing, &octets);
-    Ok(())
 }
 
 /// What encoding so many octets, one a read, answers within four reads, and how much was written.
@@ -345,16 +328,15 @@ const DRIPPED: [(usize, bool, ToolFault); 5] = [
 ];
 
 #[test]
-fn endless_and_failing_readers(rt: HostRuntime) -> Result<(), Fail> {
+fn endless_and_failing_readers(rt: HostRuntime) {
     let alloc = rt.alloc();
-    let tables = tables(alloc)?;
+    let tables = tables(&rt, alloc);
     for (octets, breaks, fault) in DRIPPED {
         let found = dripping(alloc, &tables, octets, breaks);
         same(&rt, found, (Err(fault), 0));
     }
     let found = dripping(alloc, &tables, 0, false);
     same(&rt, found, (messages(0), 0));
-    Ok(())
 }
 
 /// The four examples one behind another, five hundred times.
@@ -374,10 +356,10 @@ fn listing_of(
     alloc: Global,
     octets: &[u8],
     wanted: Result<Tally, ToolFault>,
-) -> Result<Vec<u8>, Fail> {
-    let (answer, listing) = shown(alloc, octets)?;
+) -> Vec<u8> {
+    let (answer, listing) = shown(rt, alloc, octets);
     same(rt, answer, wanted);
-    Ok(listing)
+    listing
 }
 
 /// A long listing is encoded to so many messages, which are these octets.
@@ -387,18 +369,17 @@ fn assert_long_encoded(
     listing: &[u8],
     wanted: Result<Tally, ToolFault>,
     octets: &[u8],
-) -> Result<(), Fail> {
-    let (answer, written) = encoded(alloc, 100, false, listing)?;
+) {
+    let (answer, written) = encoded(rt, alloc, 100, false, listing);
     same(rt, answer, wanted);
     same(rt, written.as_slice(), octets);
-    Ok(())
 }
 
 /// Two thousand messages are written one behind another, and what is shown of them is encoded to
 /// them again.
 #[test]
-fn many_messages(rt: HostRuntime) -> Result<(), Fail> {
-    let octets = two_thousand_messages(rt.alloc())?;
-    let listing = listing_of(&rt, rt.alloc(), &octets, messages(2000))?;
-    assert_long_encoded(&rt, rt.alloc(), &listing, messages(2000), &octets)
+fn many_messages(rt: HostRuntime) {
+    let octets = two_thousand_messages(rt.alloc()).expect(&rt, "an answer");
+    let listing = listing_of(&rt, rt.alloc(), &octets, messages(2000));
+    assert_long_encoded(&rt, rt.alloc(), &listing, messages(2000), &octets);
 }

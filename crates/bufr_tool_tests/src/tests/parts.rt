@@ -8,7 +8,6 @@ use bufr_io::ToolFault;
 use bufr_tool::run_show;
 use std::alloc::Global;
 use std::process::Abort;
-use std::test::Fail;
 
 /// Four thousand compressed subsets of one element, all alike: 49 octets.
 const MANY_SUBSETS: &[u8] = b"BUFR\x00\x00\x31\x04\
@@ -64,11 +63,12 @@ impl Sink for Pieces {
 /// Why a message was not shown to a writer that has room for so many octets, if it was not, and the
 /// writer.
 fn shown_in(
+    rt: &impl Abort,
     alloc: Global,
     octets: &[u8],
     room: usize,
-) -> Result<(Option<ToolFault>, Pieces), Fail> {
-    let tables = tables(alloc)?;
+) -> (Option<ToolFault>, Pieces) {
+    let tables = tables(rt, alloc);
     let mut writer = Pieces {
         taken: Vec::new(alloc),
         room,
@@ -77,17 +77,19 @@ fn shown_in(
         failed: false,
     };
     let fault = run_show(alloc, 10, &tables, &mut FromRead::new(octets), &mut writer).err();
-    Ok((fault, writer))
+    (fault, writer)
 }
 
 /// The listing of four thousand subsets: 102 + 17 * 4000 + 4 octets.
-fn listing_of_many(alloc: Global) -> Result<Vec<u8>, Fail> {
-    let mut wanted = Vec::from_slice(alloc, HEADING)?;
+fn listing_of_many(rt: &impl Abort, alloc: Global) -> Vec<u8> {
+    let mut wanted = Vec::from_slice(alloc, HEADING).expect(rt, "an answer");
     for _ in 0u32..4000 {
-        wanted.extend_from_slice(SUBSET)?;
+        wanted.extend_from_slice(SUBSET).expect(rt, "an answer");
     }
-    wanted.extend_from_slice(b"end\n".as_slice())?;
-    Ok(wanted)
+    wanted
+        .extend_from_slice(b"end\n".as_slice())
+        .expect(rt, "an answer");
+    wanted
 }
 
 /// A message is shown in so many parts, of which the longest is so long.
@@ -107,27 +109,25 @@ fn assert_parts(
 /// subset whose lines make it 65,536 octets long or longer, which is the 3,850th: 102 + 17 * 3850
 /// are 65,552.
 #[test]
-fn long_listing_in_two_parts(rt: HostRuntime) -> Result<(), Fail> {
+fn long_listing_in_two_parts(rt: HostRuntime) {
     let alloc = rt.alloc();
-    let found = shown_in(alloc, ELEMENTS_ONLY, 1000)?;
+    let found = shown_in(&rt, alloc, ELEMENTS_ONLY, 1000);
     assert_parts(&rt, found, (1, 236), LISTING);
-    let wanted = listing_of_many(alloc)?;
+    let wanted = listing_of_many(&rt, alloc);
     same(&rt, wanted.len(), 68_106);
-    let found = shown_in(alloc, MANY_SUBSETS, 100_000)?;
+    let found = shown_in(&rt, alloc, MANY_SUBSETS, 100_000);
     assert_parts(&rt, found, (2, 65_552), &wanted);
-    Ok(())
 }
 
 /// A writer that fails within the first part, between the parts, within the second, or with the
 /// last octet.
 #[test]
-fn failing_writer_of_a_long_listing(rt: HostRuntime) -> Result<(), Fail> {
+fn failing_writer_of_a_long_listing(rt: HostRuntime) {
     let alloc = rt.alloc();
-    let wanted = listing_of_many(alloc)?;
+    let wanted = listing_of_many(&rt, alloc);
     for (room, count) in [(1000usize, 0), (65_552, 1), (65_652, 1), (68_105, 1)] {
-        let (fault, writer) = shown_in(alloc, MANY_SUBSETS, room)?;
+        let (fault, writer) = shown_in(&rt, alloc, MANY_SUBSETS, room);
         assert_broken(&rt, room, fault, &writer.taken, &wanted);
         same_at(&rt, writer.count, count, room);
     }
-    Ok(())
 }

@@ -13,17 +13,21 @@ use std::alloc::Global;
 use std::io::Cursor;
 use std::process::Abort;
 use std::rt::Files;
-use std::test::Fail;
 
 const CHECKED: &[u8] = b"18 62 ok 1 0\n84 62 ok 1 0\nframes 2 refused 0 skipped 22\n";
 
 /// A bulletin's heading, the message, a stray `BUFR`, and the message again.
-fn two_frames_and_a_stray(alloc: Global) -> Result<Vec<u8>, Fail> {
-    let mut stream = Vec::from_slice(alloc, b"ISMD01 EDZW 151200".as_slice())?;
-    stream.extend_from_slice(SEQUENCES)?;
-    stream.extend_from_slice(b"BUFR".as_slice())?;
-    stream.extend_from_slice(SEQUENCES)?;
-    Ok(stream)
+fn two_frames_and_a_stray(rt: &impl Abort, alloc: Global) -> Vec<u8> {
+    let mut stream = Vec::from_slice(alloc, b"ISMD01 EDZW 151200".as_slice()).expect(
+        rt,
+        "an answer",
+    );
+    stream.extend_from_slice(SEQUENCES).expect(rt, "an answer");
+    stream
+        .extend_from_slice(b"BUFR".as_slice())
+        .expect(rt, "an answer");
+    stream.extend_from_slice(SEQUENCES).expect(rt, "an answer");
+    stream
 }
 
 /// A reader that gives so many octets a read, first the front of its octets up to a place, then the
@@ -87,14 +91,15 @@ impl Source for Pieces<'_> {
 
 /// What checking a stream in such pieces answers, and what was written.
 fn checked(
+    rt: &impl Abort,
     alloc: Global,
     reads: u64,
     octets: &[u8],
     cut: usize,
     most: usize,
     breaks: bool,
-) -> Result<(Result<Tally, ToolFault>, Vec<u8>), Fail> {
-    let tables = tables(alloc)?;
+) -> (Result<Tally, ToolFault>, Vec<u8>) {
+    let tables = tables(rt, alloc);
     let mut reader = Pieces::new(octets, cut, most, breaks);
     let mut writer = IntoWrite::new(Vec::new(alloc));
     let answer = run_check(
@@ -104,7 +109,7 @@ fn checked(
         &mut reader,
         &mut writer,
     );
-    Ok((answer, writer.into_inner()))
+    (answer, writer.into_inner())
 }
 
 const TWO: Tally = Tally {
@@ -127,16 +132,15 @@ fn assert_checked(
 }
 
 #[test]
-fn two_frames_and_a_stray_in_any_pieces(rt: HostRuntime) -> Result<(), Fail> {
+fn two_frames_and_a_stray_in_any_pieces(rt: HostRuntime) {
     let alloc = rt.alloc();
-    let stream = two_frames_and_a_stray(alloc)?;
+    let stream = two_frames_and_a_stray(&rt, alloc);
     for cut in 0usize..147 {
-        let found = checked(alloc, 10, &stream, cut, 1000, false)?;
+        let found = checked(&rt, alloc, 10, &stream, cut, 1000, false);
         assert_checked(&rt, found, Ok(TWO), CHECKED);
     }
-    let found = checked(alloc, 147, &stream, 0, 1, false)?;
+    let found = checked(&rt, alloc, 147, &stream, 0, 1, false);
     assert_checked(&rt, found, Ok(TWO), CHECKED);
-    Ok(())
 }
 
 /// Checking a stream, one octet a read, meets a fault once the first message is told.
@@ -147,28 +151,27 @@ fn assert_first_told(
     octets: &[u8],
     breaks: bool,
     fault: ToolFault,
-) -> Result<(), Fail> {
-    let found = checked(alloc, reads, octets, 0, 1, breaks)?;
+) {
+    let found = checked(rt, alloc, reads, octets, 0, 1, breaks);
     assert_checked(rt, found, Err(fault), b"18 62 ok 1 0\n");
-    Ok(())
 }
 
 #[test]
-fn failing_reader_after_a_frame(rt: HostRuntime) -> Result<(), Fail> {
+fn failing_reader_after_a_frame(rt: HostRuntime) {
     let alloc = rt.alloc();
-    let stream = two_frames_and_a_stray(alloc)?;
-    let front = stream.as_slice().get(..100).ok_or("a hundred octets")?;
+    let stream = two_frames_and_a_stray(&rt, alloc);
+    let front = stream.as_slice().get(..100).expect(&rt, "a hundred octets");
     let failed = ToolFault::ReadFailed(Input::Number(1));
-    assert_first_told(&rt, alloc, 1000, front, true, failed)?;
+    assert_first_told(&rt, alloc, 1000, front, true, failed);
     let endless = ToolFault::EndlessInput(Input::Number(1));
-    assert_first_told(&rt, alloc, 100, &stream, false, endless)
+    assert_first_told(&rt, alloc, 100, &stream, false, endless);
 }
 
 /// Octets in which there is no whole frame are all skipped.
-fn assert_skipped(rt: &impl Abort, alloc: Global, octets: &[u8]) -> Result<(), Fail> {
+fn assert_skipped(rt: &impl Abort, alloc: Global, octets: &[u8]) {
     let length = octets.len();
-    let found = checked(alloc, 10, octets, 0, 1000, false)?;
-    let text = format!(in alloc; "frames 0 refused 0 skipped {length}\n")?;
+    let found = checked(rt, alloc, 10, octets, 0, 1000, false);
+    let text = format!(in alloc; "frames 0 refused 0 skipped {length}\n").expect(rt, "an answer");
     let wanted = Ok(Tally {
         frames: 0,
         refused: 0,
@@ -176,16 +179,14 @@ fn assert_skipped(rt: &impl Abort, alloc: Global, octets: &[u8]) -> Result<(), F
         reports: 0,
     });
     assert_checked(rt, found, wanted, text.as_bytes());
-    Ok(())
 }
 
 #[test]
-fn cut_short(rt: HostRuntime) -> Result<(), Fail> {
+fn cut_short(rt: HostRuntime) {
     let alloc = rt.alloc();
     for length in 0usize..62 {
-        assert_skipped(&rt, alloc, &SEQUENCES[..length])?;
+        assert_skipped(&rt, alloc, &SEQUENCES[..length]);
     }
-    Ok(())
 }
 
 /// So many reads, octets of which each read gives one, and what is answered and written.
@@ -210,32 +211,35 @@ const DRIPPED: [(u64, &[u8], Result<Tally, ToolFault>, &[u8]); 4] = [
 const ENDLESS: Result<Tally, ToolFault> = Err(ToolFault::EndlessInput(Input::Number(1)));
 
 #[test]
-fn endless_reader(rt: HostRuntime) -> Result<(), Fail> {
+fn endless_reader(rt: HostRuntime) {
     for (reads, octets, wanted, text) in DRIPPED {
-        let found = checked(rt.alloc(), reads, octets, 0, 1, false)?;
+        let found = checked(&rt, rt.alloc(), reads, octets, 0, 1, false);
         assert_checked(&rt, found, wanted, text);
     }
-    Ok(())
 }
 
 /// A thousand frames that are refused, and what checking them writes.
-fn thousand_frames(alloc: Global) -> Result<(Vec<u8>, String), Fail> {
+fn thousand_frames(rt: &impl Abort, alloc: Global) -> (Vec<u8>, String) {
     let mut stream = Vec::new(alloc);
     let mut wanted = String::new(alloc);
     for number in 0u32..1000 {
-        stream.extend_from_slice(b"BUFR\x00\x00\x0C\x047777".as_slice())?;
+        stream
+            .extend_from_slice(b"BUFR\x00\x00\x0C\x047777".as_slice())
+            .expect(rt, "an answer");
         let place = 12 * number;
-        write!(wanted, "{place} 12 refused M5 Section1Length\n")?;
+        write!(wanted, "{place} 12 refused M5 Section1Length\n").expect(rt, "an answer");
     }
-    wanted.push_str("frames 1000 refused 1000 skipped 0\n")?;
-    Ok((stream, wanted))
+    wanted
+        .push_str("frames 1000 refused 1000 skipped 0\n")
+        .expect(rt, "an answer");
+    (stream, wanted)
 }
 
 #[test]
-fn thousand_refused(rt: HostRuntime) -> Result<(), Fail> {
+fn thousand_refused(rt: HostRuntime) {
     let alloc = rt.alloc();
-    let (stream, text) = thousand_frames(alloc)?;
-    let found = checked(alloc, 1000, &stream, 0, 65536, false)?;
+    let (stream, text) = thousand_frames(&rt, alloc);
+    let found = checked(&rt, alloc, 1000, &stream, 0, 65536, false);
     let wanted = Ok(Tally {
         frames: 1000,
         refused: 1000,
@@ -243,7 +247,6 @@ fn thousand_refused(rt: HostRuntime) -> Result<(), Fail> {
         reports: 0,
     });
     assert_checked(&rt, found, wanted, text.as_bytes());
-    Ok(())
 }
 
 /// A reader that gives a piece again and again, so often. It remembers the most that a read asked
@@ -278,10 +281,11 @@ impl Source for Again<'_> {
 /// What checking a piece that is given 256 times answers within 257 reads, what was written, and
 /// the reader.
 fn checked_again<'a>(
+    rt: &impl Abort,
     alloc: Global,
     piece: &'a [u8],
-) -> Result<(Result<Tally, ToolFault>, Vec<u8>, Again<'a>), Fail> {
-    let tables = tables(alloc)?;
+) -> (Result<Tally, ToolFault>, Vec<u8>, Again<'a>) {
+    let tables = tables(rt, alloc);
     let mut reader = Again {
         piece,
         times: 256,
@@ -291,17 +295,19 @@ fn checked_again<'a>(
     };
     let mut writer = IntoWrite::new(Vec::new(alloc));
     let answer = run_check(alloc, 257, &tables, &mut reader, &mut writer);
-    Ok((answer, writer.into_inner(), reader))
+    (answer, writer.into_inner(), reader)
 }
 
 #[test]
-fn bufr_without_end(rt: HostRuntime) -> Result<(), Fail> {
+fn bufr_without_end(rt: HostRuntime) {
     let alloc = rt.alloc();
     let mut piece = Vec::new(alloc);
     for _ in 0u32..16_384 {
-        piece.extend_from_slice(b"BUFR".as_slice())?;
+        piece
+            .extend_from_slice(b"BUFR".as_slice())
+            .expect(&rt, "an answer");
     }
-    let (answer, written, reader) = checked_again(alloc, &piece)?;
+    let (answer, written, reader) = checked_again(&rt, alloc, &piece);
     let wanted = Ok(Tally {
         frames: 0,
         refused: 0,
@@ -312,7 +318,6 @@ fn bufr_without_end(rt: HostRuntime) -> Result<(), Fail> {
     let text = b"frames 0 refused 0 skipped 16777216\n".as_slice();
     same(&rt, written.as_slice(), text);
     same(&rt, (reader.asked, reader.reads), (65536, 257));
-    Ok(())
 }
 
 /// A reader that gives a piece once.
@@ -330,28 +335,27 @@ fn once(piece: &[u8]) -> Again<'_>
 }
 
 /// The most octets that a read of Table B and of Table D asks for.
-fn asked_of_tables(alloc: Global) -> Result<(usize, usize), Fail> {
+fn asked_of_tables(rt: &impl Abort, alloc: Global) -> (usize, usize) {
     let (mut b, mut d) = (once(TABLE_B), once(TABLE_D));
-    let _ = load_tables(alloc, 10, &mut b, &mut d)?;
-    Ok((b.asked, d.asked))
+    let _ = load_tables(alloc, 10, &mut b, &mut d).expect(rt, "an answer");
+    (b.asked, d.asked)
 }
 
 /// The most octets that a read of a listing asks for.
-fn asked_of_listing(alloc: Global) -> Result<usize, Fail> {
-    let tables = tables(alloc)?;
+fn asked_of_listing(rt: &impl Abort, alloc: Global) -> usize {
+    let tables = tables(rt, alloc);
     let mut listing = once(LISTING);
     let mut writer = IntoWrite::new(Vec::new(alloc));
     if run_encode(alloc, 10, &tables, false, &mut listing, &mut writer).is_err() {
-        return Err(Fail::from("a listing that is refused"));
+        panic!(rt; "a listing that is refused")
     }
-    Ok(listing.asked)
+    listing.asked
 }
 
 #[test]
-fn reads_of_65536_octets(rt: HostRuntime) -> Result<(), Fail> {
-    same(&rt, asked_of_tables(rt.alloc())?, (65536, 65536));
-    same(&rt, asked_of_listing(rt.alloc())?, 65536);
-    Ok(())
+fn reads_of_65536_octets(rt: HostRuntime) {
+    same(&rt, asked_of_tables(&rt, rt.alloc()), (65536, 65536));
+    same(&rt, asked_of_listing(&rt, rt.alloc()), 65536);
 }
 
 /// A writer that takes so many octets, three at most at a time, and then fails, at the flush too.
@@ -417,37 +421,42 @@ fn assert_room(rt: &impl Abort, alloc: Global, tables: &Tables, stream: &[u8]) {
 }
 
 #[test]
-fn failing_writer(rt: HostRuntime) -> Result<(), Fail> {
+fn failing_writer(rt: HostRuntime) {
     let alloc = rt.alloc();
-    let stream = two_frames_and_a_stray(alloc)?;
-    let tables = tables(alloc)?;
+    let stream = two_frames_and_a_stray(&rt, alloc);
+    let tables = tables(&rt, alloc);
     for room in 0usize..57 {
         let (fault, taken) = broken_after(alloc, &tables, &stream, room);
         assert_broken(&rt, room, fault, &taken, CHECKED);
     }
     assert_room(&rt, alloc, &tables, &stream);
-    Ok(())
 }
 
 /// Noise, two thousand messages and a refused frame, and what is shown of them.
-fn many_messages(alloc: Global) -> Result<(Vec<u8>, Vec<u8>), Fail> {
-    let mut stream = Vec::from_slice(alloc, b"noise".as_slice())?;
+fn many_messages(rt: &impl Abort, alloc: Global) -> (Vec<u8>, Vec<u8>) {
+    let mut stream = Vec::from_slice(alloc, b"noise".as_slice()).expect(rt, "an answer");
     let mut wanted = Vec::new(alloc);
     for _ in 0u32..2000 {
-        stream.extend_from_slice(ELEMENTS_ONLY)?;
-        wanted.extend_from_slice(LISTING)?;
+        stream
+            .extend_from_slice(ELEMENTS_ONLY)
+            .expect(rt, "an answer");
+        wanted.extend_from_slice(LISTING).expect(rt, "an answer");
     }
-    stream.extend_from_slice(b"BUFR\x00\x00\x0C\x057777".as_slice())?;
-    wanted.extend_from_slice(b"# refused 140005 M2 Edition 5\n".as_slice())?;
-    Ok((stream, wanted))
+    stream
+        .extend_from_slice(b"BUFR\x00\x00\x0C\x057777".as_slice())
+        .expect(rt, "an answer");
+    wanted
+        .extend_from_slice(b"# refused 140005 M2 Edition 5\n".as_slice())
+        .expect(rt, "an answer");
+    (stream, wanted)
 }
 
 /// The messages of a stream are shown one after another.
 #[test]
-fn several_messages_shown(rt: HostRuntime) -> Result<(), Fail> {
+fn several_messages_shown(rt: HostRuntime) {
     let alloc = rt.alloc();
-    let (stream, text) = many_messages(alloc)?;
-    let (answer, written) = shown(alloc, &stream)?;
+    let (stream, text) = many_messages(&rt, alloc);
+    let (answer, written) = shown(&rt, alloc, &stream);
     same(&rt, written.as_slice(), text.as_slice());
     let wanted = Ok(Tally {
         frames: 2001,
@@ -456,7 +465,6 @@ fn several_messages_shown(rt: HostRuntime) -> Result<(), Fail> {
         reports: 0,
     });
     same(&rt, answer, wanted);
-    Ok(())
 }
 
 /// The status of the command of no words where the output has room for four octets, and what it
