@@ -12,7 +12,6 @@ use bufr_tables::{TableB, TableD, Tables};
 use std::alloc::Global;
 use std::fmt::Debug;
 use std::process::Abort;
-use std::test::Fail;
 
 const TABLE_B: &[u8] = b"FXY,BUFR_Unit,BUFR_Scale,BUFR_ReferenceValue,BUFR_DataWidth_Bits\n\
 001001,Numeric,0,0,7\n\
@@ -114,11 +113,11 @@ impl Source for Pieces {
 }
 
 /// The tables of the tests.
-fn tables(alloc: Global) -> Result<Tables, Fail> {
-    Ok(Tables::new(
-        TableB::parse(alloc, TABLE_B)?,
-        TableD::parse(alloc, TABLE_D)?,
-    ))
+fn tables(rt: &impl Abort, alloc: Global) -> Tables {
+    Tables::new(
+        TableB::parse(alloc, TABLE_B).expect(rt, "an answer"),
+        TableD::parse(alloc, TABLE_D).expect(rt, "an answer"),
+    )
 }
 
 /// Readers of these octets.
@@ -154,29 +153,31 @@ fn run<W: Sink>(
 
 /// What adding or merging inputs answers, and what was written.
 fn collected(
+    rt: &impl Abort,
     alloc: Global,
     merging: bool,
     reads: u64,
     inputs: &mut [Pieces],
-) -> Result<(Result<Tally, ToolFault>, Vec<u8>), Fail>
+) -> (Result<Tally, ToolFault>, Vec<u8>)
     requires few { reads ≤ most_reads }
     requires fresh { AreFresh (map ⟦<Pieces as Source>⟧.reading inputs.old) }
 {
-    let tables = tables(alloc)?;
+    let tables = tables(rt, alloc);
     let mut writer = IntoWrite::new(Vec::new(alloc));
     let answer = run(alloc, merging, reads, &tables, inputs, &mut writer);
-    Ok((answer, writer.into_inner()))
+    (answer, writer.into_inner())
 }
 
 /// What adding such streams, or merging such archives, within ten reads each answers, and what was
 /// written.
 fn collected_of(
+    rt: &impl Abort,
     alloc: Global,
     merging: bool,
     inputs: &[&[u8]],
-) -> Result<(Result<Tally, ToolFault>, Vec<u8>), Fail> {
-    let mut readers = readers(alloc, inputs)?;
-    collected(alloc, merging, 10, &mut readers)
+) -> (Result<Tally, ToolFault>, Vec<u8>) {
+    let mut readers = readers(alloc, inputs).expect(rt, "an answer");
+    collected(rt, alloc, merging, 10, &mut readers)
 }
 
 /// The octets of lists, joined.
@@ -212,80 +213,86 @@ fn assert_collected(
     inputs: &[&[u8]],
     wanted: Result<Tally, ToolFault>,
     text: &[u8],
-) -> Result<(), Fail> {
-    let (answer, written) = collected_of(alloc, merging, inputs)?;
+) {
+    let (answer, written) = collected_of(rt, alloc, merging, inputs);
     same(rt, answer, wanted);
     same(rt, written.as_slice(), text);
-    Ok(())
 }
 
 #[test]
-fn one_stream(rt: HostRuntime) -> Result<(), Fail> {
+fn one_stream(rt: HostRuntime) {
     let alloc = rt.alloc();
-    let stream = joined(alloc, &[b"ISMD01 EDZW 151200", FIRST, b"BUFR", FIRST])?;
-    assert_collected(&rt, alloc, false, &[&stream], tally(2, 0, 1), FIRST)
+    let stream = joined(alloc, &[b"ISMD01 EDZW 151200", FIRST, b"BUFR", FIRST]).expect(
+        &rt,
+        "an answer",
+    );
+    assert_collected(&rt, alloc, false, &[&stream], tally(2, 0, 1), FIRST);
 }
 
 #[test]
-fn greatest_update_in_any_order(rt: HostRuntime) -> Result<(), Fail> {
+fn greatest_update_in_any_order(rt: HostRuntime) {
     let alloc = rt.alloc();
     for inputs in [[FIRST, UPDATE], [UPDATE, FIRST]] {
-        assert_collected(&rt, alloc, false, inputs.as_slice(), tally(2, 0, 1), UPDATE)?;
+        assert_collected(&rt, alloc, false, inputs.as_slice(), tally(2, 0, 1), UPDATE);
     }
-    Ok(())
 }
 
 /// A refused message among others, in the middle of a stream and of the streams.
 #[test]
-fn refused_among_others(rt: HostRuntime) -> Result<(), Fail> {
+fn refused_among_others(rt: HostRuntime) {
     let alloc = rt.alloc();
-    let stream = joined(alloc, &[MONTH_13, EDITION_5, UPDATE])?;
-    let text = joined(alloc, &[UPDATE, MONTH_13])?;
+    let stream = joined(alloc, &[MONTH_13, EDITION_5, UPDATE]).expect(&rt, "an answer");
+    let text = joined(alloc, &[UPDATE, MONTH_13]).expect(&rt, "an answer");
     let inputs: [&[u8]; 4] = [FIRST, EDITION_5, &stream, FIRST];
-    assert_collected(&rt, alloc, false, inputs.as_slice(), tally(6, 2, 2), &text)
+    assert_collected(&rt, alloc, false, inputs.as_slice(), tally(6, 2, 2), &text);
 }
 
 #[test]
-fn no_readers(rt: HostRuntime) -> Result<(), Fail> {
+fn no_readers(rt: HostRuntime) {
     let alloc = rt.alloc();
-    assert_collected(&rt, alloc, false, &[], tally(0, 0, 0), b"")?;
-    assert_collected(&rt, alloc, true, &[], tally(0, 0, 0), b"")
+    assert_collected(&rt, alloc, false, &[], tally(0, 0, 0), b"");
+    assert_collected(&rt, alloc, true, &[], tally(0, 0, 0), b"");
 }
 
 #[test]
-fn archives_merged(rt: HostRuntime) -> Result<(), Fail> {
+fn archives_merged(rt: HostRuntime) {
     let alloc = rt.alloc();
-    assert_collected(&rt, alloc, true, &[FIRST, UPDATE], tally(2, 0, 1), UPDATE)?;
-    let both = joined(alloc, &[UPDATE, MONTH_13])?;
+    assert_collected(&rt, alloc, true, &[FIRST, UPDATE], tally(2, 0, 1), UPDATE);
+    let both = joined(alloc, &[UPDATE, MONTH_13]).expect(&rt, "an answer");
     for inputs in [
         [FIRST, UPDATE, MONTH_13],
         [MONTH_13, UPDATE, FIRST],
         [&both, FIRST, FIRST],
         [b"", &both, b""],
     ] {
-        assert_collected(&rt, alloc, true, inputs.as_slice(), tally(3, 0, 2), &both)?;
+        assert_collected(&rt, alloc, true, inputs.as_slice(), tally(3, 0, 2), &both);
     }
-    Ok(())
+}
+
+/// These octets, to be given by an input.
+fn octets(rt: &impl Abort, alloc: Global, list: &[u8]) -> Vec<u8> {
+    Vec::from_slice(alloc, list).expect(rt, "room")
 }
 
 /// What adding or merging three inputs answers, of which the second gives one octet a read and may
 /// break; what was written, and how often the third was read.
 fn three_inputs(
+    rt: &impl Abort,
     alloc: Global,
     merging: bool,
     reads: u64,
     breaks: bool,
-) -> Result<(Result<Tally, ToolFault>, Vec<u8>, u64), Fail>
+) -> (Result<Tally, ToolFault>, Vec<u8>, u64)
     requires { reads ≤ most_reads }
 {
     let mut inputs = [
-        Pieces::new(Vec::from_slice(alloc, FIRST)?, 100, false),
-        Pieces::new(Vec::from_slice(alloc, UPDATE)?, 1, breaks),
-        Pieces::new(Vec::from_slice(alloc, UPDATE)?, 100, false),
+        Pieces::new(octets(rt, alloc, FIRST), 100, false),
+        Pieces::new(octets(rt, alloc, UPDATE), 1, breaks),
+        Pieces::new(octets(rt, alloc, UPDATE), 100, false),
     ];
-    let (answer, written) = collected(alloc, merging, reads, &mut inputs)?;
+    let (answer, written) = collected(rt, alloc, merging, reads, &mut inputs);
     let [_, _, last] = &inputs;
-    Ok((answer, written, last.reads))
+    (answer, written, last.reads)
 }
 
 /// The second of three inputs has the fault: it is told, nothing is written, and the third input is
@@ -297,27 +304,25 @@ fn stops_at_the_second(
     reads: u64,
     breaks: bool,
     fault: ToolFault,
-) -> Result<(), Fail>
+)
     requires { reads ≤ most_reads }
 {
-    let (answer, written, last) = three_inputs(alloc, merging, reads, breaks)?;
+    let (answer, written, last) = three_inputs(rt, alloc, merging, reads, breaks);
     same(rt, answer, Err(fault));
     assert!(rt; written.is_empty());
     same(rt, last, 0);
-    Ok(())
 }
 
 /// A reader that fails in the middle of the second input, and one that does not end.
 #[test]
-fn failing_and_endless_readers(rt: HostRuntime) -> Result<(), Fail> {
+fn failing_and_endless_readers(rt: HostRuntime) {
     let alloc = rt.alloc();
     for merging in [false, true] {
         let failed = ToolFault::ReadFailed(Input::Number(2));
-        stops_at_the_second(&rt, alloc, merging, 1000, true, failed)?;
+        stops_at_the_second(&rt, alloc, merging, 1000, true, failed);
         let endless = ToolFault::EndlessInput(Input::Number(2));
-        stops_at_the_second(&rt, alloc, merging, 30, false, endless)?;
+        stops_at_the_second(&rt, alloc, merging, 30, false, endless);
     }
-    Ok(())
 }
 
 /// A writer that takes so many octets, and then fails, at the flush too.
@@ -354,19 +359,20 @@ impl Sink for Narrow {
 /// What adding or merging two archives answers where the writer has room for so many octets, and
 /// what the writer took.
 fn broken_after(
+    rt: &impl Abort,
     alloc: Global,
     tables: &Tables,
     merging: bool,
     room: usize,
-) -> Result<(Result<Tally, ToolFault>, Vec<u8>), Fail> {
-    let mut inputs = readers(alloc, &[UPDATE, MONTH_13])?;
+) -> (Result<Tally, ToolFault>, Vec<u8>) {
+    let mut inputs = readers(alloc, &[UPDATE, MONTH_13]).expect(rt, "an answer");
     let mut writer = Narrow {
         taken: Vec::new(alloc),
         room,
         failed: false,
     };
     let answer = run(alloc, merging, 10, tables, &mut inputs, &mut writer);
-    Ok((answer, writer.taken))
+    (answer, writer.taken)
 }
 
 /// The writer failed where it had no more room, and so much of the text was written.
@@ -384,27 +390,20 @@ fn assert_broken(
 }
 
 /// The writer fails after each number of octets of the text.
-fn assert_all_broken(
-    rt: &impl Abort,
-    alloc: Global,
-    tables: &Tables,
-    merging: bool,
-    text: &[u8],
-) -> Result<(), Fail> {
+fn assert_all_broken(rt: &impl Abort, alloc: Global, tables: &Tables, merging: bool, text: &[u8]) {
     for room in 0usize..125 {
-        let (answer, taken) = broken_after(alloc, tables, merging, room)?;
+        let (answer, taken) = broken_after(rt, alloc, tables, merging, room);
         assert_broken(rt, room, answer, &taken, text);
     }
-    Ok(())
 }
 
 #[test]
-fn failing_writer(rt: HostRuntime) -> Result<(), Fail> {
+fn failing_writer(rt: HostRuntime) {
     let alloc = rt.alloc();
-    let tables = tables(alloc)?;
-    let text = joined(alloc, &[UPDATE, MONTH_13])?;
-    assert_all_broken(&rt, alloc, &tables, false, &text)?;
-    assert_all_broken(&rt, alloc, &tables, true, &text)
+    let tables = tables(&rt, alloc);
+    let text = joined(alloc, &[UPDATE, MONTH_13]).expect(&rt, "an answer");
+    assert_all_broken(&rt, alloc, &tables, false, &text);
+    assert_all_broken(&rt, alloc, &tables, true, &text);
 }
 
 /// An archive of one report, of a station of this number.
@@ -431,43 +430,45 @@ fn reports_of(alloc: Global, count: usize) -> Result<Vec<Vec<u8>>, OutOfMemory>
 }
 
 /// So many inputs, each an archive of one report of a station of its own, the last station first.
-fn assert_inputs(rt: &impl Abort, alloc: Global, count: usize) -> Result<(), Fail>
+fn assert_inputs(rt: &impl Abort, alloc: Global, count: usize)
     requires { count ≤ 1000 }
 {
-    let streams = reports_of(alloc, count)?;
+    let streams = reports_of(alloc, count).expect(rt, "an answer");
     let mut text = Vec::new(alloc);
     for stream in &streams {
-        text.extend_from_slice(stream)?;
+        text.extend_from_slice(stream).expect(rt, "an answer");
     }
     let mut inputs: Vec<&[u8]> = Vec::new(alloc);
     for stream in streams.iter().rev() {
-        inputs.push(stream.as_slice())?;
+        inputs.push(stream.as_slice()).expect(rt, "an answer");
     }
     let reports = count as u128;
-    assert_collected(rt, alloc, true, &inputs, tally(reports, 0, reports), &text)
+    assert_collected(rt, alloc, true, &inputs, tally(reports, 0, reports), &text);
 }
 
 /// One to eleven inputs: whichever texts are merged while they are written.
 #[test]
-fn few_inputs(rt: HostRuntime) -> Result<(), Fail> {
+fn few_inputs(rt: HostRuntime) {
     for count in 1usize..12 {
-        assert_inputs(&rt, rt.alloc(), count)?;
+        assert_inputs(&rt, rt.alloc(), count);
     }
-    Ok(())
 }
 
 /// What the reads of an input ask for at most.
-fn asked(alloc: Global, merging: bool) -> Result<usize, Fail> {
-    let mut inputs = [Pieces::new(Vec::from_slice(alloc, FIRST)?, 100, false)];
-    let (answer, _) = collected(alloc, merging, 10, &mut inputs)?;
-    let _ = answer?;
+fn asked(rt: &impl Abort, alloc: Global, merging: bool) -> usize {
+    let mut inputs = [Pieces::new(
+        Vec::from_slice(alloc, FIRST).expect(rt, "an answer"),
+        100,
+        false,
+    )];
+    let (answer, _) = collected(rt, alloc, merging, 10, &mut inputs);
+    let _ = answer.expect(rt, "an answer");
     let [input] = &inputs;
-    Ok(input.asked)
+    input.asked
 }
 
 #[test]
-fn reads_of_65536_octets(rt: HostRuntime) -> Result<(), Fail> {
-    same(&rt, asked(rt.alloc(), false)?, 65536);
-    same(&rt, asked(rt.alloc(), true)?, 65536);
-    Ok(())
+fn reads_of_65536_octets(rt: HostRuntime) {
+    same(&rt, asked(&rt, rt.alloc(), false), 65536);
+    same(&rt, asked(&rt, rt.alloc(), true), 65536);
 }
