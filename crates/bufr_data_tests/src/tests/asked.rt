@@ -90,8 +90,9 @@ fn blocks_numbered(rt: &impl Abort, alloc: Global, mut fields: LaidFields<'_>) -
     let mut blocks = Vec::new(alloc);
     for _turn in 0..6 {
         if let Some(block) = fields.next_asked_number::<Blocks>() {
-            blocks.push(block.number).expect(rt, "room");
-            same(rt, block.is_missing(), block.number == 127);
+            let number = block.number;
+            same(rt, block.is_missing(), number == 127);
+            blocks.push(number).expect(rt, "room");
         }
     }
     same(rt, fields.next_asked_number::<Blocks>(), None);
