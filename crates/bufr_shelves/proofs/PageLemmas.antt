@@ -1,14 +1,15 @@
 -- Entries in pages, and those that wait beside them: what is kept of both, step by step. For
 -- `ShelfBuilder` and what it stands on.
 use Rattle.std.proofs.Common.{◌≡◌, ℕ, zero, suc, ◌+◌, ◌*◌, ◌<◌, ◌≤◌, inl, inr, Bool, true, false, cond, Option, Some}
-use Rattle.std.proofs.Common.{None, Result, Ok, Err, OnOk, ◌-◌, List, [], ◌∷◌, ◌++◌, length, take, drop}
-use Rattle.std.proofs.Common.{reverse, get_or, slice_get, slice_index_or, refl, sym}
+use Rattle.std.proofs.Common.{None, Result, Ok, Err, OnOk, List, [], ◌∷◌, ◌++◌, length, take, drop}
+use Rattle.std.proofs.Common.{map, reverse, get_or, slice_index_or, refl, sym}
 use Rattle.std.proofs.Common.{ap, ◌∙◌, subst, arith, append_assoc, length-append, length-drop}
-use Rattle.std.proofs.lemmas.List.{append-nil, reverse-append, take-append-le, drop-append-le}
+use Rattle.std.proofs.lemmas.List.{append-nil, map-append, reverse-append, take-append-le, drop-append-le}
 use Rattle.std.proofs.lemmas.List.{take_all, nil_from_length, reverse-reverse}
 use Rattle.std.proofs.lemmas.List.Sorted.{sorted_far, Contains-permutation}
 use Rattle.std.proofs.lemmas.List.MinMax.{ranks_by, IsStrictWeakOrder-flip}
 use Rattle.std.proofs.lemmas.Map.Keys.{sorted_head, sorted_tail}
+use Rattle.std.proofs.Math.Seq.{drop-append_seam}
 use Rattle.std.specs.Option.{option_to_list, MatchOption}
 use Rattle.std.specs.List.{AllByRecursion, Contains}
 use Rattle.std.specs.List.Sorted.{IsStrictlySortedBy, IsSortedBy, IsPermutation}
@@ -23,9 +24,10 @@ use Rattle.bufr_shelves.specs.Merging.{heads_order}
 use Rattle.bufr_shelves.specs.Orders.{slots_total, ranks_total, exact_entries, kept-swap, kept-same}
 use Rattle.bufr_shelves.specs.Orders.{kept-late, kept-kept, kept-early, kept-sorted}
 use Rattle.bufr_shelves.specs.Marks.{MarkView}
-use Rattle.bufr_shelves.specs.Pages.{paged, octets_of, marked, mark_of, flat, AreRising, LeadsAlone}
+use Rattle.bufr_shelves.specs.Pages.{paged, octets_of, marked, mark_of, flat, AreRising, LeadsAlone, waits_in, HaveParts}
 use Rattle.bufr_shelves.specs.declared.entry.Entry.{Entry}
 use Rattle.bufr_shelves.specs.declared.sorted_shelf.page.PageEntry.{PageEntry}
+use Rattle.bufr_shelves.specs.declared.sorted_shelf.waiting.WaitingEntry.{WaitingEntry}
 
 -- ---- pages
 
@@ -91,37 +93,51 @@ flat-push ps p = flat-append ps (p ∷ []) ∙ ap (λ es. flat ps ++ es) (append
 
 -- ---- the last of those that wait
 
--- the first of a list is the first of the list with more behind it
-first-more : (zs : List Entry) (e x : Entry) → first_of zs ≡ Some x
-    → first_of (zs ++ e ∷ []) ≡ Some x
-first-more [] e x h = cc
-first-more (z ∷ zs) e x h = h
-
--- the last entry is the first of the list turned round
-pub last-is : (xs : List Entry) (y : Entry) → slice_get xs (length xs - 1) ≡ Some y
-    → first_of (reverse xs) ≡ Some y
-last-is [] y h = cc
-last-is (x ∷ []) y h = h
-last-is (x ∷ z ∷ zs) y h =
-    let less : length (z ∷ zs) - 1 ≡ length zs = omega arith in
-    let more : length (x ∷ z ∷ zs) - 1 ≡ suc (length zs) = omega arith in
-    let there : slice_get (z ∷ zs) (length (z ∷ zs) - 1) ≡ Some y =
-    ap (slice_get (z ∷ zs)) less ∙ sym (ap (slice_get (x ∷ z ∷ zs)) more) ∙ h in
-    ap first_of (reverse-append (x ∷ []) (z ∷ zs))
-    ∙ first-more (reverse (z ∷ zs)) x y (last-is (z ∷ zs) y there)
-
--- so is one that was taken
-pub taken-is : (xs ys : List Entry) (y : Entry) → xs ≡ ys ++ y ∷ [] → reverse xs ≡ y ∷ reverse ys
+-- the last of a list is the first of the list turned round
+pub taken-is : {A : Type 0} (xs ys : List A) (y : A) → xs ≡ ys ++ y ∷ [] → reverse xs ≡ y ∷ reverse ys
 taken-is xs ys y h = ap reverse h ∙ reverse-append ys (y ∷ [])
 
 -- and the others follow
-pub rest-taken : (xs ys : List Entry) (n m : ℕ) (r : Option Entry) → n ≡ length xs
+rest-taken : {A : Type 0} (xs ys : List A) (n m : ℕ) (r : Option A) → n ≡ length xs
     → m ≡ length ys → xs ≡ ys ++ option_to_list r
     → MatchOption r ((n ≡ 0) × (m ≡ 0)) (λ _. m + 1 ≡ n) → reverse ys ≡ drop 1 (reverse xs)
 rest-taken xs ys n m None a b h none =
     ap reverse (nil_from_length ys (sym b ∙ none.1))
     ∙ sym (ap (λ es. drop 1 (reverse es)) (nil_from_length xs (sym a ∙ none.0)))
 rest-taken xs ys n m (Some y) a b h some = sym (ap (drop 1) (taken-is xs ys y h))
+
+-- where the last but one was dropped, the first of the list turned round stays with the others
+pub other-gone : {A : Type 0} (xs zs ys vs : List A) (y : A) (n m : ℕ) (r : Option A)
+    → xs ≡ zs ++ y ∷ [] → n ≡ length zs → m ≡ length ys → zs ≡ ys ++ option_to_list r
+    → MatchOption r ((n ≡ 0) × (m ≡ 0)) (λ _. m + 1 ≡ n) → vs ≡ ys ++ y ∷ []
+    → reverse vs ≡ take 1 (reverse xs) ++ drop 2 (reverse xs)
+other-gone xs zs ys vs y n m r x a b z c v =
+    taken-is vs ys y v ∙ ap (λ es. y ∷ es) (rest-taken zs ys n m r a b z c)
+    ∙ sym (ap (λ es. take 1 es ++ drop 2 es) (taken-is xs zs y x))
+
+-- what is made of all but the second
+but_second : {A : Type 0} (f : A → Entry) (rs : List A)
+    → map f (take 1 rs ++ drop 2 rs) ≡ take 1 (map f rs) ++ drop 2 (map f rs)
+but_second f [] = refl
+but_second f (x ∷ []) = refl
+but_second f (x ∷ y ∷ rs) = refl
+
+-- what is made of a list turned round
+mapped-reverse : {A : Type 0} (f : A → Entry) (xs : List A)
+    → map f (reverse xs) ≡ reverse (map f xs)
+mapped-reverse f [] = refl
+mapped-reverse f (x ∷ xs) =
+    ap (map f) (reverse-append (x ∷ []) xs) ∙ map-append f (reverse xs) (x ∷ [])
+    ∙ ap (λ es. es ++ f x ∷ []) (mapped-reverse f xs)
+    ∙ sym (reverse-append (f x ∷ []) (map f xs))
+
+-- so the same goes for those that are made of them
+pub mapped-other : {A : Type 0} (f : A → Entry) (xs vs : List A)
+    → reverse vs ≡ take 1 (reverse xs) ++ drop 2 (reverse xs)
+    → reverse (map f vs) ≡ take 1 (reverse (map f xs)) ++ drop 2 (reverse (map f xs))
+mapped-other f xs vs h =
+    sym (mapped-reverse f vs) ∙ ap (map f) h ∙ but_second f (reverse xs)
+    ∙ ap (λ es. take 1 es ++ drop 2 es) (mapped-reverse f xs)
 
 -- two heads are told by their slots
 pub heads-are : (ls rs : List Entry) (l e : Entry) → first_of ls ≡ Some l → first_of rs ≡ Some e
@@ -141,13 +157,13 @@ on_both (Err e) P Q p q = tt
 -- ---- members
 
 -- what holds of two lists holds of both joined
-all_join : (P : Entry → Type 0) (xs ys : List Entry) → AllByRecursion P xs → AllByRecursion P ys
+all_join : {A : Type 0} (P : A → Type 0) (xs ys : List A) → AllByRecursion P xs → AllByRecursion P ys
     → AllByRecursion P (xs ++ ys)
 all_join P [] ys a b = b
 all_join P (x ∷ xs) ys a b = (a.0, all_join P xs ys a.1 b)
 
 -- and of each alone
-all_left : (P : Entry → Type 0) (xs ys : List Entry) → AllByRecursion P (xs ++ ys)
+all_left : {A : Type 0} (P : A → Type 0) (xs ys : List A) → AllByRecursion P (xs ++ ys)
     → AllByRecursion P xs
 all_left P [] ys a = tt
 all_left P (x ∷ xs) ys a = (a.0, all_left P xs ys a.1)
@@ -158,19 +174,19 @@ all_right P [] ys a = a
 all_right P (x ∷ xs) ys a = all_right P xs ys a.1
 
 -- what holds of each member holds of all
-all_of : (P : Entry → Type 0) (xs : List Entry) → ((x : Entry) → Has xs x → P x)
+all_of : {A : Type 0} (P : A → Type 0) (xs : List A) → ((x : A) → Has xs x → P x)
     → AllByRecursion P xs
 all_of P [] f = tt
 all_of P (x ∷ xs) f = (f x (inl refl), all_of P xs (λ y h. f y (inr h)))
 
 -- and the other way round
-all_at : (P : Entry → Type 0) (xs : List Entry) (x : Entry) → AllByRecursion P xs → Has xs x → P x
+all_at : {A : Type 0} (P : A → Type 0) (xs : List A) (x : A) → AllByRecursion P xs → Has xs x → P x
 all_at P [] x a h = absurd h
 all_at P (y ∷ xs) x a (inl e) = subst P (sym e) a.0
 all_at P (y ∷ xs) x a (inr h) = all_at P xs x a.1 h
 
 -- what follows for one follows for all
-all_so : (P Q : Entry → Type 0) → ((x : Entry) → P x → Q x) → (xs : List Entry)
+all_so : {A : Type 0} (P Q : A → Type 0) → ((x : A) → P x → Q x) → (xs : List A)
     → AllByRecursion P xs → AllByRecursion Q xs
 all_so P Q f [] a = tt
 all_so P Q f (x ∷ xs) a = (f x a.0, all_so P Q f xs a.1)
@@ -359,6 +375,20 @@ apart-leads e f rs r t =
     [ Less ↦ λ _ _. refl | Equal ↦ λ _ z. cc | Greater ↦ λ z _. cc ] r.0.0 t in
     less_rising e f rs less r.1
 
+-- where the first is the greater, the second goes
+pub tied-other : (rs ns : List Entry) (e f : Entry) → rs ≡ e ∷ f ∷ drop 2 rs
+    → ns ≡ take 1 rs ++ drop 2 rs → is_gt (rank_cmp e f) ≡ true
+    → ns ≡ cond (is_gt (rank_cmp e f)) e f ∷ drop 2 rs
+tied-other rs ns e f r n t =
+    n ∙ ap (λ es. take 1 es ++ drop 2 rs) r ∙ sym (ap (λ b. cond b e f ∷ drop 2 rs) t)
+
+-- and else the first
+pub tied-first : (rs ns : List Entry) (e f : Entry) → rs ≡ e ∷ f ∷ drop 2 rs
+    → ns ≡ drop 1 rs → is_gt (rank_cmp e f) ≡ false
+    → ns ≡ cond (is_gt (rank_cmp e f)) e f ∷ drop 2 rs
+tied-first rs ns e f r n t =
+    n ∙ ap (drop 1) r ∙ sym (ap (λ b. cond b e f ∷ drop 2 rs) t)
+
 -- ---- order
 
 -- what is left of pages may stand behind those that were made
@@ -398,10 +428,6 @@ all_reverse P (x ∷ xs) a =
 abbrev pub falls : Entry → Entry → Bool
 falls e f = is_lt (slot_cmp f e)
 
--- no entry of a list comes before one that stands behind it
-abbrev Far : List Entry → Type 0
-Far xs = (i j : ℕ) (d : Entry) → i ≤ j → j < length xs → falls (get_or xs j d) (get_or xs i d) ≡ false
-
 -- what does not come before another is not followed by it
 not_before : (a b : Entry) → is_lt (slot_cmp a b) ≡ false → is_gt (slot_cmp b a) ≡ false
 not_before a b h =
@@ -410,28 +436,33 @@ not_before a b h =
     [ Less ↦ λ z. cc | Equal ↦ λ _. refl | Greater ↦ λ _. refl ] h)
 
 -- what holds at each index holds of all
-all_indices : (P : Entry → Type 0) (xs : List Entry)
-    → ((k : ℕ) (d : Entry) → k < length xs → P (get_or xs k d)) → AllByRecursion P xs
-all_indices P [] f = tt
-all_indices P (x ∷ xs) f =
-    (f 0 x (omega arith), all_indices P xs (λ k d lt. f (suc k) d (omega (arith, lt))))
+all_indices : {A : Type 0} (f : A → Entry) (P : Entry → Type 0) (xs : List A)
+    → ((k : ℕ) (d : A) → k < length xs → P (f (get_or xs k d))) → AllByRecursion P (map f xs)
+all_indices f P [] h = tt
+all_indices f P (x ∷ xs) h =
+    (h 0 x (omega arith), all_indices f P xs (λ k d lt. h (suc k) d (omega (arith, lt))))
 
-far-rising : (xs : List Entry) → Far xs → AreRising (reverse xs)
-far-rising [] f = tt
-far-rising (x ∷ xs) f =
-    let rest = far-rising xs (λ i j d le lt. f (suc i) (suc j) d (omega (arith, le)) (omega (arith, lt))) in
-    let before : AllByRecursion (λ e. is_gt (slot_cmp e x) ≡ false) xs =
-    all_indices (λ e. is_gt (slot_cmp e x) ≡ false) xs
-    (λ k d lt. not_before x (get_or xs k d) (f 0 (suc k) d (omega arith) (omega (arith, lt)))) in
-    subst AreRising (sym (reverse-append (x ∷ []) xs))
-    (rising-push (reverse xs) x rest
-    (all_reverse (λ e. is_gt (slot_cmp e x) ≡ false) xs before))
+-- where no entry comes before one that stands behind it, they are in order from the last on
+far-rising : {A : Type 0} (f : A → Entry) (xs : List A) → ((i j : ℕ) (d : A) → i ≤ j
+    → j < length xs → falls (f (get_or xs j d)) (f (get_or xs i d)) ≡ false)
+    → AreRising (reverse (map f xs))
+far-rising f [] h = tt
+far-rising f (x ∷ xs) h =
+    let rest = far-rising f xs
+    (λ i j d le lt. h (suc i) (suc j) d (omega (arith, le)) (omega (arith, lt))) in
+    let P : Entry → Type 0 = λ e. is_gt (slot_cmp e (f x)) ≡ false in
+    let before : AllByRecursion P (map f xs) =
+    all_indices f P xs (λ k d lt. not_before (f x) (f (get_or xs k d))
+    (h 0 (suc k) d (omega arith) (omega (arith, lt)))) in
+    subst AreRising (sym (reverse-append (f x ∷ []) (map f xs)))
+    (rising-push (reverse (map f xs)) (f x) rest (all_reverse P (map f xs) before))
 
--- entries that were sorted from the greatest slot down are in order from the last on
-pub rising-sorted : (xs : List Entry) → IsSortedBy falls xs → AreRising (reverse xs)
-rising-sorted xs s =
-    far-rising xs (sorted_far falls (IsStrictWeakOrder-flip (λ e f. is_lt (slot_cmp e f))
-    (ranks_by slots_total (λ e. e))) xs s)
+-- so are those that were sorted from the greatest slot down
+pub rising-sorted : {A : Type 0} (f : A → Entry) (xs : List A)
+    → IsSortedBy (λ d e. falls (f d) (f e)) xs → AreRising (reverse (map f xs))
+rising-sorted f xs s =
+    far-rising f xs (sorted_far (λ d e. falls (f d) (f e))
+    (IsStrictWeakOrder-flip (λ d e. is_lt (slot_cmp (f d) (f e))) (ranks_by slots_total f)) xs s)
 
 -- ---- what is kept of all
 
@@ -460,7 +491,7 @@ Within-permutation xs ys p x h =
     contains-has ys x c.0 c.1 c.2
 
 -- a member is one of the list turned round
-has-reverse : (xs : List Entry) (x : Entry) → Has xs x → Has (reverse xs) x
+has-reverse : {A : Type 0} (xs : List A) (x : A) → Has xs x → Has (reverse xs) x
 has-reverse [] x h = absurd h
 has-reverse (y ∷ xs) x h =
     subst (λ zs. Has zs x) (sym (reverse-append (y ∷ []) xs))
@@ -470,7 +501,7 @@ has-reverse (y ∷ xs) x h =
     ])
 
 -- and the other way round
-same-reverse : (xs : List Entry) → SameMembers xs (reverse xs)
+same-reverse : {A : Type 0} (xs : List A) → SameMembers xs (reverse xs)
 same-reverse xs = (
   λ x h. has-reverse xs x h,
   λ x h. subst (λ zs. Has zs x) (reverse-reverse xs) (has-reverse (reverse xs) x h),
@@ -495,6 +526,55 @@ kept-turned ds ls ws =
 pub kept-beside : (ls vs ws : List Entry) → kept vs ≡ kept ws → kept (ls ++ vs) ≡ kept (ls ++ ws)
 kept-beside ls vs ws h =
     sym (kept-late ls vs) ∙ ap (λ es. kept (ls ++ es)) h ∙ kept-late ls ws
+
+-- ---- the octets of those that wait
+
+-- more octets change no part
+parts-same : (os xs : List ℕ) (es : List WaitingEntry) → HaveParts os es
+    → map (waits_in (os ++ xs)) es ≡ map (waits_in os) es
+parts-same os xs [] h = refl
+parts-same os xs (e ∷ es) h =
+    let from : e.from ≤ length os = omega (arith, h.0) in
+    let rest : e.len ≤ length (drop e.from os) = omega (arith, h.0, length-drop e.from os) in
+    ap (λ zs. marked e.mark (take e.len zs) ∷ map (waits_in (os ++ xs)) es)
+    (drop-append-le e.from os xs from)
+    ∙ ap (λ zs. marked e.mark zs ∷ map (waits_in (os ++ xs)) es)
+    (take-append-le e.len (drop e.from os) xs rest)
+    ∙ ap (λ zs. waits_in os e ∷ zs) (parts-same os xs es h.1)
+
+-- so one entry more stands behind the others
+pub parts-push : (os ps xs : List ℕ) (es fs : List WaitingEntry) (m : MarkView) (s : List Entry)
+    (n k : ℕ) → n ≡ length os → k ≡ length xs → HaveParts os es → ps ≡ os ++ xs
+    → fs ≡ es ++ record { mark = m; from = n; len = k } ∷ [] → map (waits_in os) es ≡ s
+    → map (waits_in ps) fs ≡ s ++ marked m xs ∷ []
+parts-push os ps xs es fs m s n k a b h p f v =
+    let e : WaitingEntry = record { mark = m; from = n; len = k } in
+    ap (λ zs. map (waits_in zs) fs) p ∙ ap (map (waits_in (os ++ xs))) f
+    ∙ map-append (waits_in (os ++ xs)) es (e ∷ [])
+    ∙ ap (λ zs. zs ++ waits_in (os ++ xs) e ∷ []) (parts-same os xs es h ∙ v)
+    ∙ ap (λ i. s ++ marked m (take k (drop i (os ++ xs))) ∷ []) a
+    ∙ ap (λ zs. s ++ marked m (take k zs) ∷ []) (drop-append_seam os xs)
+    ∙ ap (λ zs. s ++ marked m zs ∷ []) (take_all k xs (omega (arith, b)))
+
+-- those of some of the entries too
+pub parts-within : (os : List ℕ) (es fs : List WaitingEntry) → Within fs es → HaveParts os es
+    → HaveParts os fs
+parts-within os es fs i h =
+    all_of (λ e. e.from + e.len ≤ length os) fs
+    (λ x m. all_at (λ e. e.from + e.len ≤ length os) es x h (i x m))
+
+-- those of all but one too
+second_less : {A : Type 0} (rs : List A) → Within (take 1 rs ++ drop 2 rs) rs
+second_less [] x h = h
+second_less (y ∷ []) x h = h
+second_less (y ∷ z ∷ rs) x (inl e) = inl e
+second_less (y ∷ z ∷ rs) x (inr h) = inr (inr h)
+
+pub parts-other : (os : List ℕ) (es fs : List WaitingEntry)
+    → reverse fs ≡ take 1 (reverse es) ++ drop 2 (reverse es) → HaveParts os es → HaveParts os fs
+parts-other os es fs e h =
+    parts-within os es fs (λ x m. (same-reverse es).1 x (second_less (reverse es) x
+    (subst (λ zs. Has zs x) e (has-reverse fs x m)))) h
 
 -- ---- what `ShelfBuilder` holds
 

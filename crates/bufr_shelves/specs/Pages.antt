@@ -1,5 +1,5 @@
 -- Entries while they are gathered: in pages, where the octets of many stand in one place.
-use Rattle.std.specs.Prelude.{◌≡◌, ℕ, ◌+◌, false, List, [], ◌∷◌, take, drop}
+use Rattle.std.specs.Prelude.{◌≡◌, ℕ, ◌+◌, ◌≤◌, false, List, [], ◌∷◌, take, drop, length}
 use Rattle.std.specs.List.{flat_map, AllByRecursion}
 use Rattle.std.specs.Ordering.{is_gt}
 use Rattle.std.specs.declared.cmp.Ordering.TheVariants.{Less}
@@ -8,6 +8,7 @@ use Rattle.bufr_shelves.specs.Marks.{MarkView}
 use Rattle.bufr_shelves.specs.declared.entry.Entry.{Entry}
 use Rattle.bufr_shelves.specs.declared.sorted_shelf.gathered.Look.{Look}
 use Rattle.bufr_shelves.specs.declared.sorted_shelf.page.PageEntry.{PageEntry}
+use Rattle.bufr_shelves.specs.declared.sorted_shelf.waiting.WaitingEntry.{WaitingEntry}
 
 -- an entry with this mark and these octets
 abbrev pub marked : MarkView → List ℕ → Entry
@@ -30,6 +31,14 @@ paged (e ∷ es) octets = marked e.mark (take e.len octets) ∷ paged es (drop e
 abbrev pub octets_of : List PageEntry → ℕ
 octets_of [] = 0
 octets_of (e ∷ es) = e.len + octets_of es
+
+-- an entry that waits, which has a part of the octets
+abbrev pub waits_in : List ℕ → WaitingEntry → Entry
+waits_in octets e = marked e.mark (take e.len (drop e.from octets))
+
+-- the parts of all that wait are there
+abbrev pub HaveParts : List ℕ → List WaitingEntry → Type 0
+HaveParts octets entries = AllByRecursion (λ e. e.from + e.len ≤ length octets) entries
 
 -- the entries of all pages
 abbrev pub flat : List (List Entry) → List Entry

@@ -29,6 +29,7 @@ mod pages_left;
 mod pair;
 mod settling;
 mod sorted;
+mod waiting;
 
 pub use builder::ShelfBuilder;
 pub use kept_octets::{KeptOctets, LentOctets};

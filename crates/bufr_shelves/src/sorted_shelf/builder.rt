@@ -7,11 +7,11 @@ use crate::entry::Entry;
 use crate::mark::Mark;
 use crate::shelf::Shelf;
 use crate::sorted_shelf::SortedShelf;
-use crate::sorted_shelf::gathered::Gathered;
 use crate::sorted_shelf::kept_octets::{KeptOctets, count_of};
 use crate::sorted_shelf::page::Page;
 use crate::sorted_shelf::pages_left::PagesLeft;
 use crate::sorted_shelf::settling::settle;
+use crate::sorted_shelf::waiting::Waiting;
 use bufr_answers::{Items, OutOfMemory};
 use bufr_keys::Key;
 use std::alloc::Global;
@@ -40,13 +40,13 @@ pub struct ShelfBuilder {
     settled: Vec<Page>,
     // What stands behind the settled ones, where memory was refused while they were put in order.
     left: PagesLeft,
-    waiting: Vec<Gathered>,
+    waiting: Waiting,
     count: usize,
     octets: u64,
 }
 
 impl Model for ShelfBuilder {
-    ghost use Rattle.std.specs.Prelude.{◌+◌, ◌*◌, ◌≤◌, ◌++◌, List, length, vec_len};
+    ghost use Rattle.std.specs.Prelude.{◌+◌, ◌*◌, ◌≤◌, ◌++◌, List, length};
     ghost use Rattle.std.specs.List.Sorted.{IsStrictlySortedBy};
     ghost use Rattle.bufr_shelves.specs.Entries.{slot_cmp, kept};
     ghost use Rattle.bufr_shelves.specs.Pages.{flat};
@@ -54,11 +54,11 @@ impl Model for ShelfBuilder {
 
     ghost Value = { List AnEntry };
 
-    ghost view = { λ a. kept (flat a.settled.items ++ (a.left ++ a.waiting.items)) };
+    ghost view = { λ a. kept (flat a.settled.items ++ (a.left ++ a.waiting)) };
 
     ghost invariant = { λ a. IsStrictlySortedBy slot_cmp (flat a.settled.items ++ a.left)
-        × (vec_len a.waiting ≤ 64 + 2 * a.count)
-        × (a.count ≤ length (kept (flat a.settled.items ++ (a.left ++ a.waiting.items)))) };
+        × (length a.waiting ≤ 64 + 2 * a.count)
+        × (a.count ≤ length (kept (flat a.settled.items ++ (a.left ++ a.waiting)))) };
 }
 
 /// Whether so many entries wait, or octets, that it is time to put them in order.
@@ -80,7 +80,7 @@ impl ShelfBuilder {
             alloc,
             settled: Vec::new(alloc),
             left: PagesLeft::new(alloc),
-            waiting: Vec::new(alloc),
+            waiting: Waiting::new(alloc),
             count: 0,
             octets: 0,
         }
@@ -105,7 +105,7 @@ impl ShelfBuilder {
             self.count = count_of(&self.settled)?;
             self.octets = 0;
         }
-        self.waiting.push(Gathered { mark, bytes })?;
+        self.waiting.push(mark, bytes.as_slice())?;
         self.octets = self.octets.saturating_add(octets);
         Ok(())
     }

@@ -5,9 +5,9 @@ ghost use Rattle.bufr_shelves.specs.Keeping.{first_of};
 ghost use Rattle.bufr_shelves.specs.Pages.{paged, octets_of, mark_of, seen};
 
 use crate::mark::Mark;
-use crate::sorted_shelf::gathered::{Gathered, Look};
-use crate::sorted_shelf::merge::take_last;
+use crate::sorted_shelf::gathered::Look;
 use crate::sorted_shelf::pages_left::PagesLeft;
+use crate::sorted_shelf::waiting::Waiting;
 use bufr_answers::OutOfMemory;
 use std::alloc::Global;
 use std::marker::Model;
@@ -156,22 +156,20 @@ impl PageRoom {
     }
 
     /// Moves the last of the entries that wait behind these.
-    pub(crate) fn push_last(&mut self, waiting: &mut Vec<Gathered>) -> Result<(), OutOfMemory>
+    pub(crate) fn push_last(&mut self, waiting: &mut Waiting) -> Result<(), OutOfMemory>
         ensures ok { OnOk result
-            (self.new ≡ self.old ++ option_to_list (first_of (reverse waiting.old.items))) }
-        ensures rest { OnOk result (reverse waiting.new.items ≡ drop 1 (reverse waiting.old.items)) }
+            (self.new ≡ self.old ++ option_to_list (first_of (reverse waiting.old))) }
+        ensures rest { OnOk result (reverse waiting.new ≡ drop 1 (reverse waiting.old)) }
         ensures err { OnErr result
-            ((self.new ≡ self.old) × (waiting.new.items ≡ waiting.old.items)) }
+            ((self.new ≡ self.old) × (waiting.new ≡ waiting.old)) }
     {
         let Some(last) = waiting.last() else {
             return Ok(());
         };
-        let octets = last.look().octets;
-        let len = octets.len();
+        let len = last.octets.len();
         self.entries.reserve(1)?;
-        self.octets.extend_from_slice(octets)?;
-        if let Some(last) = take_last(waiting) {
-            let mark = last.into_mark();
+        self.octets.extend_from_slice(last.octets)?;
+        if let Some(mark) = waiting.take_last() {
             self.entries.push_reserved(PageEntry { mark, len });
         }
         Ok(())

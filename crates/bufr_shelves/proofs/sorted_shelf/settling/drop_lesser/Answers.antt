@@ -1,13 +1,12 @@
 -- For `drop_lesser`: of two heads of one slot the lesser goes.
-use Rattle.std.proofs.Common.{◌≡◌, ◌∙◌, ◌++◌, Some, List, length, reverse, slice_get, ◌-◌, vec_len, rules, true, false, sym, ap, subst}
-use Rattle.std.specs.Option.{option_map, option_copied}
+use Rattle.std.proofs.Common.{◌≡◌, ◌∙◌, ◌++◌, Some, reverse, true, false, sym, ap, subst}
+use Rattle.std.specs.Option.{option_map}
 use Rattle.std.specs.Ordering.{is_gt}
 use Rattle.std.specs.List.Sorted.{IsStrictlySortedBy}
 use Rattle.bufr_shelves.specs.Entries.{slot_cmp, rank_cmp, kept}
 use Rattle.bufr_shelves.specs.Keeping.{first_of}
-use Rattle.bufr_shelves.specs.Pages.{seen}
-use Rattle.bufr_shelves.specs.declared.entry.Entry.{Entry}
-use Rattle.bufr_shelves.proofs.PageLemmas.{last-is, rest-taken, sorted-rest, drop-left, drop-last}
+use Rattle.bufr_shelves.specs.Pages.{seen, AreRising}
+use Rattle.bufr_shelves.proofs.PageLemmas.{rising-rest, sorted-rest, drop-left, drop-last}
 use Rattle.bufr_shelves.proofs.sorted_shelf.settling.drop_lesser.Goals as goal
 
 -- the pages stay in order without their first entry
@@ -19,14 +18,12 @@ returns-then-is_gt-clause-sorted c =
 -- where that is the lesser
 pub returns-then-is_gt-clause-kept : goal.returns-then-is_gt-clause-kept
 returns-then-is_gt-clause-kept c =
-    let rs = reverse c.args.waiting.now.items in
+    let rs = reverse c.args.waiting.now in
     let first : first_of c.args.left.now ≡ Some (seen c.in-Some-Some.first) =
     sym c.first.ensures ∙ ap (option_map seen) c.in-Some-Some.is-0 in
-    let last : first_of rs ≡ Some (seen c.look.result) =
-    last-is c.args.waiting.now.items c.in-Some-Some.last.now
-    (sym (ap (λ (xs : List Entry). slice_get xs (length xs - 1)) c.deref.ensures.value)
-    ∙ sym c.last.ensures.value ∙ ap option_copied c.in-Some-Some.is-1) ∙ ap Some (sym c.look.ensures) in
-    let greater : is_gt (rank_cmp (seen c.look.result) (seen c.in-Some-Some.first)) ≡ true =
+    let last : first_of rs ≡ Some (seen c.in-Some-Some.last) =
+    sym c.last.ensures.last ∙ ap (option_map seen) c.in-Some-Some.is-1 in
+    let greater : is_gt (rank_cmp (seen c.in-Some-Some.last) (seen c.in-Some-Some.first)) ≡ true =
     ap is_gt (sym c.rank_cmp.ensures) ∙ sym c.is_gt.ensures ∙ c.if-is_gt.true in
     ap (λ es. kept (es ++ rs)) c.drop_first.ensures
     ∙ drop-left c.args.left.now rs _ _ first last c.requires.tied greater
@@ -34,17 +31,18 @@ returns-then-is_gt-clause-kept c =
 -- where it is the last that waits
 pub returns-else-is_gt-clause-kept : goal.returns-else-is_gt-clause-kept
 returns-else-is_gt-clause-kept c =
-    let rs = reverse c.args.waiting.now.items in
+    let rs = reverse c.args.waiting.now in
     let first : first_of c.args.left.now ≡ Some (seen c.in-Some-Some.first) =
     sym c.first.ensures ∙ ap (option_map seen) c.in-Some-Some.is-0 in
-    let last : first_of rs ≡ Some (seen c.look.result) =
-    last-is c.args.waiting.now.items c.in-Some-Some.last.now
-    (sym (ap (λ (xs : List Entry). slice_get xs (length xs - 1)) c.deref.ensures.value)
-    ∙ sym c.last.ensures.value ∙ ap option_copied c.in-Some-Some.is-1) ∙ ap Some (sym c.look.ensures) in
-    let greater : is_gt (rank_cmp (seen c.look.result) (seen c.in-Some-Some.first)) ≡ false =
+    let last : first_of rs ≡ Some (seen c.in-Some-Some.last) =
+    sym c.last.ensures.last ∙ ap (option_map seen) c.in-Some-Some.is-1 in
+    let greater : is_gt (rank_cmp (seen c.in-Some-Some.last) (seen c.in-Some-Some.first)) ≡ false =
     ap is_gt (sym c.rank_cmp.ensures) ∙ sym c.is_gt.ensures ∙ c.if-is_gt.false in
-    ap (λ es. kept (c.args.left.now ++ es)) (rest-taken c.args.waiting.now.items
-    c.take_last-entry.new.members.items (vec_len c.args.waiting.now)
-    (vec_len c.take_last-entry.new.members) _ (search rules) (search rules)
-    c.take_last-entry.ensures.items c.take_last-entry.ensures.cases)
+    ap (λ es. kept (c.args.left.now ++ es)) c.take_last-mark.ensures.rest
     ∙ drop-last c.args.left.now rs _ _ first last c.requires.tied greater
+
+-- those that wait stay in order without it
+pub returns-else-is_gt-clause-rising : goal.returns-else-is_gt-clause-rising
+returns-else-is_gt-clause-rising c =
+    subst AreRising (sym c.take_last-mark.ensures.rest)
+    (rising-rest (reverse c.args.waiting.now) c.requires.rising)

@@ -1,46 +1,51 @@
 -- For `drop_tied`: of two entries of one slot the lesser goes.
-use Rattle.std.proofs.Common.{◌≡◌, ◌∙◌, ◌++◌, ◌∷◌, [], reverse, sym, ap, subst, true, false}
-use Rattle.std.specs.Option.{option_to_list}
-use Rattle.std.specs.Ordering.{is_eq}
-use Rattle.bufr_shelves.specs.Entries.{kept, slot_cmp}
-use Rattle.bufr_shelves.specs.Pages.{AreRising, LeadsAlone}
-use Rattle.bufr_shelves.specs.declared.entry.Entry.{Entry}
-use Rattle.bufr_shelves.proofs.PageLemmas.{taken-is, tied-kept, apart-leads}
+use Rattle.std.proofs.Common.{◌≡◌, ◌∙◌, ◌∷◌, sym, ap, subst, drop, reverse, true, false, refl, rules}
+use Rattle.std.specs.Ordering.{is_eq, is_gt}
+use Rattle.bufr_shelves.specs.Entries.{slot_cmp, rank_cmp, kept}
+use Rattle.bufr_shelves.specs.Pages.{seen, AreRising, LeadsAlone}
+use Rattle.bufr_shelves.proofs.PageLemmas.{tied-other, tied-first, tied-kept, apart-leads}
 use Rattle.bufr_shelves.proofs.sorted_shelf.settling.drop_tied.Goals as goal
 
--- what is kept stays
-pub returns-then-is_eq-clause-kept : goal.returns-then-is_eq-clause-kept
-returns-then-is_eq-clause-kept c =
-    let last : Entry = c.in-Some.last in let other : Entry = c.in-Some-pop.other in
-    let rest = c.pop-2.new.self.items in
-    let all : reverse c.args.waiting.now.items ≡ last ∷ other ∷ reverse rest =
-    taken-is c.args.waiting.now.items c.pop.new.self.items last
-    (c.pop.ensures.items ∙ ap (λ r. c.pop.new.self.items ++ option_to_list r) c.in-Some.is)
-    ∙ ap (λ es. last ∷ es) (taken-is c.pop.new.self.items rest other
-    (c.pop-2.ensures.items ∙ ap (λ r. rest ++ option_to_list r) c.in-Some-pop.is)) in
-    let tied : is_eq (slot_cmp last other) ≡ true =
-    ap is_eq (sym c.slot_cmp.ensures) ∙ sym c.is_eq.ensures ∙ c.if-is_eq.true in
-    ap kept (taken-is _ rest _ c.push_reserved-then-is_eq.ensures.items
-    ∙ ap (λ e. e ∷ reverse rest) c.greater_of.ensures)
-    ∙ tied-kept last other (reverse rest) tied ∙ ap kept (sym all)
-
 -- if they have not one slot, they stay, and the last comes before all others
-pub returns-clause-apart : goal.returns-clause-apart
-returns-clause-apart c none =
-    let last : Entry = c.in-Some.last in let other : Entry = c.in-Some-pop.other in
-    let rest = c.pop-2.new.self.items in
-    let back : c.push_reserved-3.new.self.items ≡ c.args.waiting.now.items =
-    c.push_reserved-3.ensures.items
-    ∙ ap (λ es. es ++ last ∷ []) (c.push_reserved-2.ensures.items
-    ∙ sym (c.pop-2.ensures.items ∙ ap (λ r. rest ++ option_to_list r) c.in-Some-pop.is))
-    ∙ sym (c.pop.ensures.items ∙ ap (λ r. c.pop.new.self.items ++ option_to_list r)
-    c.in-Some.is) in
-    let all : reverse c.push_reserved-3.new.self.items ≡ last ∷ other ∷ reverse rest =
-    taken-is _ _ last c.push_reserved-3.ensures.items
-    ∙ ap (λ es. last ∷ es) (taken-is _ rest other c.push_reserved-2.ensures.items) in
+pub returns-then-not-is_eq-clause-apart : goal.returns-then-not-is_eq-clause-apart
+returns-then-not-is_eq-clause-apart c none =
+    let last = seen c.in-Some.last in let other = seen c.in-Some.other in
+    let rest = drop 2 (reverse c.args.waiting.now) in
+    let all : reverse c.args.waiting.now ≡ last ∷ other ∷ rest = c.in-Some.ensures.two in
+    let no : c.is_eq.result ≡ false = search rules in
     let apart : is_eq (slot_cmp last other) ≡ false =
-    ap is_eq (sym c.slot_cmp.ensures) ∙ sym c.is_eq.ensures ∙ c.if-is_eq.false in (
-      back,
-      subst LeadsAlone (sym all) (apart-leads last other (reverse rest)
-          (subst AreRising (ap reverse (sym back) ∙ all) c.requires) apart),
+    ap is_eq (sym c.slot_cmp.ensures) ∙ sym c.is_eq.ensures ∙ no in (
+      refl,
+      subst LeadsAlone (sym all)
+          (apart-leads last other rest (subst AreRising all c.requires) apart),
     )
+
+-- what is kept stays, where the last is the greater
+pub returns-then-is_gt-clause-kept : goal.returns-then-is_gt-clause-kept
+returns-then-is_gt-clause-kept c =
+    let last = seen c.in-Some.last in let other = seen c.in-Some.other in
+    let rest = drop 2 (reverse c.args.waiting.now) in
+    let all : reverse c.args.waiting.now ≡ last ∷ other ∷ rest = c.in-Some.ensures.two in
+    let yes : c.is_eq.result ≡ true = search rules in
+    let tied : is_eq (slot_cmp last other) ≡ true =
+    ap is_eq (sym c.slot_cmp.ensures) ∙ sym c.is_eq.ensures ∙ yes in
+    let greater : is_gt (rank_cmp last other) ≡ true =
+    ap is_gt (sym c.rank_cmp.ensures) ∙ sym c.is_gt.ensures ∙ c.if-is_gt.true in
+    ap kept (tied-other (reverse c.args.waiting.now) (reverse c.drop_other.new.self) last other
+    all c.drop_other.ensures greater)
+    ∙ tied-kept last other rest tied ∙ ap kept (sym all)
+
+-- and where it is not
+pub returns-else-is_gt-clause-kept : goal.returns-else-is_gt-clause-kept
+returns-else-is_gt-clause-kept c =
+    let last = seen c.in-Some.last in let other = seen c.in-Some.other in
+    let rest = drop 2 (reverse c.args.waiting.now) in
+    let all : reverse c.args.waiting.now ≡ last ∷ other ∷ rest = c.in-Some.ensures.two in
+    let yes : c.is_eq.result ≡ true = search rules in
+    let tied : is_eq (slot_cmp last other) ≡ true =
+    ap is_eq (sym c.slot_cmp.ensures) ∙ sym c.is_eq.ensures ∙ yes in
+    let greater : is_gt (rank_cmp last other) ≡ false =
+    ap is_gt (sym c.rank_cmp.ensures) ∙ sym c.is_gt.ensures ∙ c.if-is_gt.false in
+    ap kept (tied-first (reverse c.args.waiting.now) (reverse c.take_last-mark.new.self) last other
+    all c.take_last-mark.ensures.rest greater)
+    ∙ tied-kept last other rest tied ∙ ap kept (sym all)

@@ -1,5 +1,5 @@
 -- For `fill_pages`: what its loop keeps, and why it ends.
-use Rattle.std.proofs.Common.{◌≡◌, ◌+◌, ◌≤◌, ◌++◌, length, reverse, vec_len}
+use Rattle.std.proofs.Common.{◌≡◌, ◌+◌, ◌≤◌, ◌++◌, length, reverse}
 use Rattle.std.specs.List.Sorted.{IsStrictlySortedBy}
 use Rattle.bufr_shelves.specs.Entries.{slot_cmp, kept}
 use Rattle.bufr_shelves.specs.Pages.{flat, AreRising}
@@ -10,12 +10,12 @@ use Rattle.bufr_shelves.proofs.sorted_shelf.settling.fill_pages.Given as goal
 abbrev pub invariant-loop-alloc : goal.invariant-loop-alloc
 invariant-loop-alloc l = record {
   sorted : IsStrictlySortedBy slot_cmp l.left;
-  rising : AreRising (reverse l.waiting.items);
-  all : flat l.settled.items ++ kept (l.left ++ reverse l.waiting.items)
-      ≡ flat l.fn.settled.items ++ kept (l.fn.left ++ reverse l.fn.waiting.items);
-  fewer : vec_len l.waiting ≤ vec_len l.fn.waiting;
+  rising : AreRising (reverse l.waiting);
+  all : flat l.settled.items ++ kept (l.left ++ reverse l.waiting)
+      ≡ flat l.fn.settled.items ++ kept (l.fn.left ++ reverse l.fn.waiting);
+  fewer : length l.waiting ≤ length l.fn.waiting;
 }
 
 -- the entries left
 abbrev pub decreases-loop-alloc : goal.decreases-loop-alloc
-decreases-loop-alloc l = length l.left + vec_len l.waiting
+decreases-loop-alloc l = length l.left + length l.waiting

@@ -25,7 +25,7 @@ returns-in-Less-clause-sorted c =
 -- it was moved, or nothing
 pub returns-in-Less-clause-all : goal.returns-in-Less-clause-all
 returns-in-Less-clause-all c =
-    let rs = reverse c.args.waiting.now.items in
+    let rs = reverse c.args.waiting.now in
     from_result c.push_left.result _ _ _
     (λ h. ap (λ es. es ++ kept (c.push_left.new.left ++ rs)) h.0
     ∙ ap (λ es. (c.args.room.now ++ option_to_list (first_of c.args.left.now)) ++ kept (es ++ rs)) h.1
@@ -39,17 +39,17 @@ returns-in-Less-clause-all c =
 -- the last that waits was moved, or nothing
 pub returns-else-drop_tied-clause-all : goal.returns-else-drop_tied-clause-all
 returns-else-drop_tied-clause-all c =
-    let ws = c.drop_tied.new.waiting.items in
+    let ws = c.drop_tied.new.waiting in
     let apart = c.drop_tied.ensures.apart c.if-drop_tied.false in
     from_result c.push_last.result _ _ _
-    (λ h. ap (λ es. es ++ kept (c.args.left.now ++ reverse c.push_last.new.waiting.items)) h.0
+    (λ h. ap (λ es. es ++ kept (c.args.left.now ++ reverse c.push_last.new.waiting)) h.0
     ∙ ap (λ es. (c.args.room.now ++ option_to_list (first_of (reverse ws)))
     ++ kept (c.args.left.now ++ es)) h.1
     ∙ step-last c.args.room.now c.args.left.now (reverse ws) c.requires.sorted apart.1
     (ap (λ es. heads_order slot_cmp c.args.left.now (reverse es)) apart.0
     ∙ sym c.order_of_heads.ensures ∙ c.in-Greater.is)
     ∙ ap (λ es. c.args.room.now ++ kept (c.args.left.now ++ reverse es)) apart.0)
-    (λ h. ap (λ es. es ++ kept (c.args.left.now ++ reverse c.push_last.new.waiting.items)) h.0
+    (λ h. ap (λ es. es ++ kept (c.args.left.now ++ reverse c.push_last.new.waiting)) h.0
     ∙ ap (λ es. c.args.room.now ++ kept (c.args.left.now ++ reverse es)) (h.1 ∙ apart.0))
     (on_both c.push_last.result _ _ c.push_last.ensures.ok c.push_last.ensures.rest)
     c.push_last.ensures.err

@@ -11,7 +11,7 @@ pub returns : goal.returns
 returns c =
     let inside = c.self.inside in
     let done = c.in_ok-settle.ensures.done in
-    all-settled (flat c.settle.new.settled.items) c.settle.new.left c.settle.new.waiting.items _
+    all-settled (flat c.settle.new.settled.items) c.settle.new.left c.settle.new.waiting _
     c.settle.ensures.sorted done.0 done.1 c.settle.ensures.all
-    ∙ sym (kept-kept (flat inside.settled.items ++ (inside.left ++ inside.waiting.items)))
+    ∙ sym (kept-kept (flat inside.settled.items ++ (inside.left ++ inside.waiting)))
     ∙ ap kept c.self.view_is

@@ -1,5 +1,5 @@
 -- For `ShelfBuilder::put`: one more entry waits, whether the others were put in order or not.
-use Rattle.std.proofs.Common.{◌∙◌, ◌++◌, ◌∷◌, [], ◌≤◌, length, vec_len, sym, ap, subst, arith, rules}
+use Rattle.std.proofs.Common.{◌∙◌, ◌++◌, ◌∷◌, [], ◌≤◌, length, sym, ap, subst, arith, rules, length-append}
 use Rattle.bufr_shelves.specs.Entries.{kept}
 use Rattle.bufr_shelves.specs.Pages.{flat, marked}
 use Rattle.bufr_shelves.proofs.PageLemmas.{Ready, ready-settled, more-push, kept-put}
@@ -8,12 +8,12 @@ use Rattle.bufr_shelves.proofs.sorted_shelf.builder.ShelfBuilder.put.Goals.{Afte
 
 -- one more may wait
 ready : (c : After-push) → let inside = c.if-are_many.self-inside in
-    Ready (flat inside.settled.items) inside.left inside.waiting.items (vec_len inside.waiting)
+    Ready (flat inside.settled.items) inside.left inside.waiting (length inside.waiting)
     inside.count c.args.self.now
 ready c = elim c.if-are_many.branch [
   | then-are_many+in_ok-settle+in_ok-self-inside w ↦ rw w.self-inside-is
       (ready-settled (flat w.settle.new.settled.items) w.settle.new.left
-      w.settle.new.waiting.items _ _ _ w.settle.ensures.sorted w.in_ok-settle.ensures.done.0
+      w.settle.new.waiting _ _ _ w.settle.ensures.sorted w.in_ok-settle.ensures.done.0
       w.in_ok-settle.ensures.done.1 (search rules) w.in_ok-self-inside.ensures
       (w.settle.ensures.all ∙ c.self.view_is))
   | else-are_many w ↦ rw w.self-inside-is
@@ -31,9 +31,9 @@ invariant_of-self-in_err-push c =
     let inside = c.if-are_many.self-inside in
     let r = ready ((goal.at.invariant_of-self-in_err-push c).After-push) in (
       r.sorted,
-      omega (arith, r.few, c.in_err-push.ensures.len),
+      omega (arith, r.few, ap length c.in_err-push.ensures.err),
       subst (λ ws. inside.count ≤ length (kept (flat inside.settled.items ++ (inside.left ++ ws))))
-          (sym c.in_err-push.ensures.items) r.counted,
+          (sym c.in_err-push.ensures.err) r.counted,
     )
 
 -- no more wait than may
@@ -42,9 +42,15 @@ invariant_of-self-2 c =
     let inside = c.if-are_many.self-inside in
     let r = ready ((goal.at.invariant_of-self-2 c).After-push) in (
       r.sorted,
-      omega (arith, r.few, c.in_ok-push.ensures.len),
-      more-push (flat inside.settled.items) inside.left inside.waiting.items c.push.new.self.items
-          (marked c.in_ok-mark.mark c.args.bytes) inside.count c.in_ok-push.ensures.items r.counted,
+      omega (
+        arith,
+        r.few,
+        ap length c.in_ok-push.ensures.ok,
+        length-append inside.waiting (marked c.in_ok-mark.mark c.as_slice-2.result.now ∷ []),
+      ),
+      more-push (flat inside.settled.items) inside.left inside.waiting c.push.new.self
+          (marked c.in_ok-mark.mark c.as_slice-2.result.now) inside.count
+          c.in_ok-push.ensures.ok r.counted,
     )
 
 -- and it is put among the others
@@ -52,6 +58,9 @@ pub returns-clause-ok : goal.returns-clause-ok
 returns-clause-ok c =
     let inside = c.if-are_many.self-inside in
     let r = ready ((goal.at.returns-clause-ok c).After-push) in
-    kept-put (flat inside.settled.items) inside.left inside.waiting.items c.push.new.self.items
-    (marked c.in_ok-mark.mark c.args.bytes) c.args.self.now c.in_ok-push.ensures.items r.same
+    kept-put (flat inside.settled.items) inside.left inside.waiting c.push.new.self
+    (marked c.in_ok-mark.mark c.as_slice-2.result.now) c.args.self.now
+    c.in_ok-push.ensures.ok r.same
+    ∙ ap (λ b. kept (kept c.args.self.now ++ marked c.in_ok-mark.mark b ∷ []))
+    c.as_slice-2.ensures
     ∙ ap (λ m. kept (kept c.args.self.now ++ marked m c.args.bytes ∷ [])) c.in_ok-mark.ensures

@@ -1,0 +1,18 @@
+-- For `Waiting::drop_other`: all but one stay.
+use Rattle.std.proofs.Common.{◌∙◌, ap, reverse, take, drop, ◌++◌}
+use Rattle.bufr_shelves.specs.Pages.{waits_in}
+use Rattle.bufr_shelves.proofs.PageLemmas.{parts-other, mapped-other}
+use Rattle.bufr_shelves.proofs.sorted_shelf.waiting.Waiting.drop_other.Goals as goal
+
+-- their parts are there
+pub invariant_of-self : goal.invariant_of-self
+invariant_of-self c =
+    parts-other c.self.inside.octets.items c.self.inside.entries.items
+    c.drop_other.new.entries.items c.drop_other.ensures c.self.invariant
+
+-- and they are as they were
+pub returns : goal.returns
+returns c =
+    mapped-other (waits_in c.self.inside.octets.items) c.self.inside.entries.items
+    c.drop_other.new.entries.items c.drop_other.ensures
+    ∙ ap (λ es. take 1 (reverse es) ++ drop 2 (reverse es)) c.self.view_is

@@ -1,0 +1,16 @@
+-- For `drop_other`: of two that are taken the last is put back.
+use Rattle.std.proofs.Common.{◌∙◌, ◌++◌, ap, vec_len, rules}
+use Rattle.std.specs.Option.{option_to_list}
+use Rattle.bufr_shelves.proofs.PageLemmas.{other-gone}
+use Rattle.bufr_shelves.proofs.sorted_shelf.waiting.drop_other.Goals as goal
+
+-- it stands behind those before the two
+pub returns : goal.returns
+returns c =
+    let mid = c.pop.new.self.items in
+    other-gone c.args.entries.now.items mid c.pop-other.new.self.items
+    c.push_reserved.new.self.items c.in-Some.last (vec_len c.pop.new.self)
+    (vec_len c.pop-other.new.self) _
+    (c.pop.ensures.items ∙ ap (λ r. mid ++ option_to_list r) c.in-Some.is) (search rules)
+    (search rules) c.pop-other.ensures.items c.pop-other.ensures.cases
+    c.push_reserved.ensures.items

@@ -1,0 +1,171 @@
+//! Entries that wait to be put in order, with the octets of all in one place.
+ghost use Rattle.std.specs.Prelude.{◌≡◌, ◌+◌, ◌<◌, ◌++◌, ◌∷◌, [], true, false, take, drop, length, reverse, OnOk, OnErr, IfSome, MatchOption};
+ghost use Rattle.std.specs.Option.{option_map};
+ghost use Rattle.std.specs.List.Sorted.{IsPermutation};
+ghost use Rattle.bufr_shelves.specs.Keeping.{first_of};
+ghost use Rattle.bufr_shelves.specs.Pages.{marked, mark_of, seen, waits_in, AreRising};
+
+use crate::mark::Mark;
+use crate::sorted_shelf::gathered::Look;
+use crate::sorted_shelf::merge::take_last;
+use bufr_answers::OutOfMemory;
+use std::alloc::Global;
+use std::marker::Model;
+
+/// What is held of an entry that waits beside the octets, of which it has a part.
+#[derive(Drop)]
+pub(crate) struct WaitingEntry {
+    pub(crate) mark: Mark,
+    pub(crate) from: usize,
+    pub(crate) len: usize,
+}
+
+/// It takes so many octets.
+const _: () = prove!(size_of::<WaitingEntry>() == 40);
+
+/// A part of octets, or what there is of it.
+fn part(octets: &[u8], from: usize, len: usize) -> &[u8]
+    ensures { result.now ≡ take len (drop from octets.now) }
+{
+    let Some(rest) = octets.get(from..) else {
+        return &[];
+    };
+    rest.get(..len).unwrap_or(rest)
+}
+
+impl WaitingEntry {
+    /// The entry, looked at.
+    fn look<'a>(&'a self, octets: &'a [u8]) -> Look<'a>
+        ensures { seen result ≡ waits_in octets.now self.now }
+    {
+        Look {
+            mark: &self.mark,
+            octets: part(octets, self.from, self.len),
+        }
+    }
+}
+
+/// Drops the one before the last, where there is one.
+fn drop_other(entries: &mut Vec<WaitingEntry>)
+    ensures { reverse entries.new.items
+        ≡ take 1 (reverse entries.old.items) ++ drop 2 (reverse entries.old.items) }
+{
+    let Some(last) = entries.pop() else {
+        return;
+    };
+    let _other = entries.pop();
+    entries.push_reserved(last);
+}
+
+/// Entries in any order. Contracts see the entries.
+#[derive(Drop)]
+pub(crate) struct Waiting {
+    entries: Vec<WaitingEntry>,
+    // Parts that no entry has any more stand here until none waits.
+    octets: Vec<u8>,
+}
+
+impl Model for Waiting {
+    ghost use Rattle.std.specs.Prelude.{List, map};
+    ghost use Rattle.bufr_shelves.specs.declared.entry.Entry.{Entry as AnEntry};
+    ghost use Rattle.bufr_shelves.specs.Pages.{waits_in, HaveParts};
+
+    ghost Value = { List AnEntry };
+
+    ghost view = { λ a. map (waits_in a.octets.items) a.entries.items };
+
+    ghost invariant = { λ a. HaveParts a.octets.items a.entries.items };
+}
+
+impl Waiting {
+    /// No entries. It takes no memory.
+    pub(crate) fn new(alloc: Global) -> Waiting
+        ensures { result ≡ [] }
+    {
+        Waiting {
+            entries: Vec::new(alloc),
+            octets: Vec::new(alloc),
+        }
+    }
+
+    /// How many entries there are.
+    pub(crate) fn len(&self) -> usize
+        ensures { result ≡ length self.now }
+    {
+        self.entries.len()
+    }
+
+    /// Puts an entry behind the others. Where memory was refused they are as they were.
+    pub(crate) fn push(&mut self, mark: Mark, octets: &[u8]) -> Result<(), OutOfMemory>
+        ensures ok { OnOk result (self.new ≡ self.old ++ marked mark octets.now ∷ []) }
+        ensures err { OnErr result (self.new ≡ self.old) }
+    {
+        let from = self.octets.len();
+        let len = octets.len();
+        self.entries.reserve(1)?;
+        self.octets.extend_from_slice(octets)?;
+        self.entries.push_reserved(WaitingEntry { mark, from, len });
+        Ok(())
+    }
+
+    /// The last entry.
+    pub(crate) fn last(&self) -> Option<Look>
+        ensures last { option_map seen result ≡ first_of (reverse self.now) }
+        ensures some { MatchOption result (length self.now ≡ 0) (λ _. 0 < length self.now) }
+    {
+        let last = self.entries.last()?;
+        Some(last.look(&self.octets))
+    }
+
+    /// The last entry and the one before it.
+    pub(crate) fn last_two(&self) -> Option<(Look, Look)>
+        ensures two { IfSome result
+            (λ two. reverse self.now ≡ seen two.0 ∷ seen two.1 ∷ drop 2 (reverse self.now)) }
+        ensures some { MatchOption result (length self.now < 2) (λ _. 1 < length self.now) }
+    {
+        let before = self.entries.len().checked_sub(2)?;
+        let (last, other) = (self.entries.last()?, self.entries.get(before)?);
+        Some((last.look(&self.octets), other.look(&self.octets)))
+    }
+
+    /// Takes the last entry, gives its mark, and gives back much room that is free.
+    pub(crate) fn take_last(&mut self) -> Option<Mark>
+        ensures mark { result ≡ option_map mark_of (first_of (reverse self.old)) }
+        ensures rest { reverse self.new ≡ drop 1 (reverse self.old) }
+        ensures cases { MatchOption result ((length self.old ≡ 0) × (length self.new ≡ 0))
+            (λ _. length self.new + 1 ≡ length self.old) }
+    {
+        let WaitingEntry { mark, .. } = take_last(&mut self.entries)?;
+        Some(mark)
+    }
+
+    /// Drops the one before the last entry, where there is one.
+    pub(crate) fn drop_other(&mut self)
+        ensures { reverse self.new ≡ take 1 (reverse self.old) ++ drop 2 (reverse self.old) }
+    {
+        drop_other(&mut self.entries);
+    }
+
+    /// Puts the entries in order, the greatest slot first.
+    pub(crate) fn sort(&mut self)
+        ensures permutation { IsPermutation self.old self.new }
+        ensures rising { AreRising (reverse self.new) }
+        ensures len { length self.new ≡ length self.old }
+    {
+        let octets = self.octets.as_slice();
+        self.entries.sort_unstable_by(|waits, other| other
+            .look(octets)
+            .slot_cmp(waits.look(octets)));
+    }
+
+    /// Gives all room back where no entry waits.
+    pub(crate) fn give_back(&mut self)
+        ensures { self.new ≡ self.old }
+    {
+        if self.entries.is_empty() {
+            self.entries.shrink_to_fit();
+            self.octets.clear();
+            self.octets.shrink_to_fit();
+        }
+    }
+}
