@@ -1,5 +1,5 @@
 -- Entries while they are gathered: in pages, where the octets of many stand in one place.
-use Rattle.std.specs.Prelude.{◌≡◌, ℕ, ◌+◌, ◌≤◌, false, List, [], ◌∷◌, take, drop, length}
+use Rattle.std.specs.Prelude.{◌≡◌, ℕ, ◌+◌, ◌≤◌, ◌++◌, false, List, [], ◌∷◌, take, drop, length}
 use Rattle.std.specs.List.{flat_map, AllByRecursion}
 use Rattle.std.specs.Ordering.{is_gt}
 use Rattle.std.specs.declared.cmp.Ordering.TheVariants.{Less}
@@ -39,6 +39,14 @@ waits_in octets e = marked e.mark (take e.len (drop e.from octets))
 -- the parts of all that wait are there
 abbrev pub HaveParts : List ℕ → List WaitingEntry → Type 0
 HaveParts octets entries = AllByRecursion (λ e. e.from + e.len ≤ length octets) entries
+
+-- the octets of some that wait, one after the other
+abbrev pub octets_waiting : List ℕ → List WaitingEntry → List ℕ
+octets_waiting octets entries = flat_map (λ e. take e.len (drop e.from octets)) entries
+
+-- these octets are those of the last that wait, or of a part of them
+abbrev pub AreLast : List ℕ → List WaitingEntry → List ℕ → Type 0
+AreLast octets entries ahead = (before : List ℕ) × (octets_waiting octets entries ≡ before ++ ahead)
 
 -- the entries of all pages
 abbrev pub flat : List (List Entry) → List Entry

@@ -20,7 +20,7 @@ use std::marker::Model;
 /// The fewest entries that wait before they are put in order, unless they are long.
 const SMALLEST_BATCH: usize = 64;
 
-/// The most that wait, besides one for each two that are in order.
+/// The most that wait, besides one for each that is in order.
 const LARGEST_BATCH: usize = 65_536;
 
 /// The fewest octets that wait before that, whatever their number.
@@ -31,7 +31,7 @@ const OCTETS_AN_ENTRY: u64 = 64;
 
 /// Entries that are put in and not looked up before all are there: of those that share a slot the
 /// one of greatest rank. They wait until there are twice as many as were put in order before, or
-/// 65,536 and half of these, and are then put in order among them. So they take time near n log n
+/// 65,536 and as many as these, and are then put in order among them. So they take time near n log n
 /// whatever their order, and no more wait than 64 and two for each that is kept (the invariant), nor
 /// octets much beyond 32 MiB and 64 for each entry kept.
 #[derive(Drop)]
@@ -67,7 +67,7 @@ fn are_many(settled: usize, waiting: usize, octets: u64) -> bool
 {
     let room = (settled as u64).saturating_mul(OCTETS_AN_ENTRY);
     let are_long = octets >= room.saturating_add(LONG_BATCH);
-    let are_most = waiting >= (settled / 2).saturating_add(LARGEST_BATCH);
+    let are_most = waiting >= settled.saturating_add(LARGEST_BATCH);
     are_long || are_most || waiting >= SMALLEST_BATCH && waiting / 2 >= settled
 }
 

@@ -1,9 +1,9 @@
 //! Entries that wait to be put in order, with the octets of all in one place.
-ghost use Rattle.std.specs.Prelude.{◌≡◌, ◌+◌, ◌<◌, ◌++◌, ◌∷◌, [], true, false, take, drop, length, reverse, OnOk, OnErr, IfSome, MatchOption};
+ghost use Rattle.std.specs.Prelude.{◌≡◌, ◌+◌, ◌<◌, ◌≤◌, ◌++◌, ◌∷◌, [], true, false, take, drop, length, reverse, OnOk, OnErr, IfSome, MatchOption};
 ghost use Rattle.std.specs.Option.{option_map};
 ghost use Rattle.std.specs.List.Sorted.{IsPermutation};
 ghost use Rattle.bufr_shelves.specs.Keeping.{first_of};
-ghost use Rattle.bufr_shelves.specs.Pages.{marked, mark_of, seen, waits_in, AreRising};
+ghost use Rattle.bufr_shelves.specs.Pages.{marked, mark_of, seen, waits_in, octets_waiting, AreLast, AreRising};
 
 use crate::mark::Mark;
 use crate::sorted_shelf::gathered::Look;
@@ -11,6 +11,12 @@ use crate::sorted_shelf::merge::take_last;
 use bufr_answers::OutOfMemory;
 use std::alloc::Global;
 use std::marker::Model;
+
+/// The octets of so many entries are read at once.
+const MOST_AT_ONCE: usize = 64;
+
+/// And so many octets at most.
+const MOST_OCTETS_AT_ONCE: usize = 32_768;
 
 /// What is held of an entry that waits beside the octets, of which it has a part.
 #[derive(Drop)]
@@ -57,24 +63,71 @@ fn drop_other(entries: &mut Vec<WaitingEntry>)
     entries.push_reserved(last);
 }
 
+/// How many of the last entries are read at once.
+fn at_once(entries: &[WaitingEntry]) -> usize
+    ensures { result ≤ length entries.now }
+{
+    let mut count: usize = 0;
+    let mut octets: usize = 0;
+    while count < entries.len() && count < MOST_AT_ONCE {
+        octets = octets.saturating_add(entries[entries.len() - 1 - count].len);
+        if octets > MOST_OCTETS_AT_ONCE {
+            return count;
+        }
+        count += 1;
+    }
+    count
+}
+
+/// Puts the octets of entries behind others.
+fn push_octets(
+    octets: &[u8],
+    entries: &[WaitingEntry],
+    ahead: &mut Vec<u8>,
+) -> Result<(), OutOfMemory>
+    ensures { OnOk result
+        (ahead.new.items ≡ ahead.old.items ++ octets_waiting octets.now entries.now) }
+{
+    for entry in entries {
+        ahead.extend_from_slice(part(octets, entry.from, entry.len))?;
+    }
+    Ok(())
+}
+
+/// Reads the octets of the last entries at once. They lie far from each other in memory, which is
+/// waited for less so.
+fn read_last(octets: &[u8], entries: &[WaitingEntry], ahead: &mut Vec<u8>)
+    ensures { AreLast octets.now entries.now ahead.new.items }
+{
+    ahead.clear();
+    let (_, last) = entries.split_at(entries.len() - at_once(entries));
+    match push_octets(octets, last, ahead) {
+        Ok(()) => {}
+        Err(_) => ahead.clear(),
+    }
+}
+
 /// Entries in any order. Contracts see the entries.
 #[derive(Drop)]
 pub(crate) struct Waiting {
     entries: Vec<WaitingEntry>,
     // Parts that no entry has any more stand here until none waits.
     octets: Vec<u8>,
+    // The octets of the last entries once more, those of the last one last.
+    ahead: Vec<u8>,
 }
 
 impl Model for Waiting {
     ghost use Rattle.std.specs.Prelude.{List, map};
     ghost use Rattle.bufr_shelves.specs.declared.entry.Entry.{Entry as AnEntry};
-    ghost use Rattle.bufr_shelves.specs.Pages.{waits_in, HaveParts};
+    ghost use Rattle.bufr_shelves.specs.Pages.{waits_in, AreLast, HaveParts};
 
     ghost Value = { List AnEntry };
 
     ghost view = { λ a. map (waits_in a.octets.items) a.entries.items };
 
-    ghost invariant = { λ a. HaveParts a.octets.items a.entries.items };
+    ghost invariant = { λ a. HaveParts a.octets.items a.entries.items
+        × AreLast a.octets.items a.entries.items a.ahead.items };
 }
 
 impl Waiting {
@@ -85,6 +138,7 @@ impl Waiting {
         Waiting {
             entries: Vec::new(alloc),
             octets: Vec::new(alloc),
+            ahead: Vec::new(alloc),
         }
     }
 
@@ -102,6 +156,7 @@ impl Waiting {
     {
         let from = self.octets.len();
         let len = octets.len();
+        self.ahead.clear();
         self.entries.reserve(1)?;
         self.octets.extend_from_slice(octets)?;
         self.entries.push_reserved(WaitingEntry { mark, from, len });
@@ -113,8 +168,15 @@ impl Waiting {
         ensures last { option_map seen result ≡ first_of (reverse self.now) }
         ensures some { MatchOption result (length self.now ≡ 0) (λ _. 0 < length self.now) }
     {
-        let last = self.entries.last()?;
-        Some(last.look(&self.octets))
+        let (last, _) = self.entries.split_last()?;
+        let octets = match self.ahead.len().checked_sub(last.len) {
+            Some(from) => &self.ahead[from..],
+            None => part(&self.octets, last.from, last.len),
+        };
+        Some(Look {
+            mark: &last.mark,
+            octets,
+        })
     }
 
     /// The last entry and the one before it.
@@ -135,7 +197,11 @@ impl Waiting {
         ensures cases { MatchOption result ((length self.old ≡ 0) × (length self.new ≡ 0))
             (λ _. length self.new + 1 ≡ length self.old) }
     {
-        let WaitingEntry { mark, .. } = take_last(&mut self.entries)?;
+        let WaitingEntry { mark, len, .. } = take_last(&mut self.entries)?;
+        match self.ahead.len().checked_sub(len) {
+            Some(left) if left > 0 => self.ahead.truncate(left),
+            _ => read_last(&self.octets, &self.entries, &mut self.ahead),
+        }
         Some(mark)
     }
 
@@ -143,6 +209,7 @@ impl Waiting {
     pub(crate) fn drop_other(&mut self)
         ensures { reverse self.new ≡ take 1 (reverse self.old) ++ drop 2 (reverse self.old) }
     {
+        self.ahead.clear();
         drop_other(&mut self.entries);
     }
 
@@ -152,6 +219,7 @@ impl Waiting {
         ensures rising { AreRising (reverse self.new) }
         ensures len { length self.new ≡ length self.old }
     {
+        self.ahead.clear();
         let octets = self.octets.as_slice();
         self.entries.sort_unstable_by(|waits, other| other
             .look(octets)
@@ -166,6 +234,8 @@ impl Waiting {
             self.entries.shrink_to_fit();
             self.octets.clear();
             self.octets.shrink_to_fit();
+            self.ahead.clear();
+            self.ahead.shrink_to_fit();
         }
     }
 }

@@ -1,14 +1,18 @@
 -- For `Waiting::drop_other`: all but one stay.
 use Rattle.std.proofs.Common.{◌∙◌, ap, reverse, take, drop, ◌++◌}
 use Rattle.bufr_shelves.specs.Pages.{waits_in}
+use Rattle.bufr_shelves.proofs.AheadLemmas.{none-last}
 use Rattle.bufr_shelves.proofs.PageLemmas.{parts-other, mapped-other}
 use Rattle.bufr_shelves.proofs.sorted_shelf.waiting.Waiting.drop_other.Goals as goal
 
 -- their parts are there
 pub invariant_of-self : goal.invariant_of-self
-invariant_of-self c =
-    parts-other c.self.inside.octets.items c.self.inside.entries.items
-    c.drop_other.new.entries.items c.drop_other.ensures c.self.invariant
+invariant_of-self c = (
+  parts-other c.self.inside.octets.items c.self.inside.entries.items
+      c.drop_other.new.entries.items c.drop_other.ensures c.self.invariant.0,
+  none-last c.self.inside.octets.items c.drop_other.new.entries.items c.clear.new.self.items
+      c.clear.ensures.items,
+)
 
 -- and they are as they were
 pub returns : goal.returns

@@ -8,16 +8,19 @@ use Rattle.std.specs.Ordering.{is_lt}
 use Rattle.bufr_shelves.specs.Entries.{slot_cmp}
 use Rattle.bufr_shelves.specs.Orders.{slots_total}
 use Rattle.bufr_shelves.specs.Pages.{waits_in}
+use Rattle.bufr_shelves.proofs.AheadLemmas.{none-last}
 use Rattle.bufr_shelves.proofs.PageLemmas.{Within-permutation, falls, rising-sorted, parts-within}
 use Rattle.bufr_shelves.proofs.sorted_shelf.waiting.Waiting.sort.Goals as goal
 
 -- all parts are there, since they were
 pub invariant_of-self : goal.invariant_of-self
 invariant_of-self c =
-    let before = c.self.inside.entries.items in let after = c.sort_unstable_by.new.self.items in
-    parts-within c.self.inside.octets.items before after
-    (Within-permutation after before
-    (IsPermutation-sym before after c.sort_unstable_by.ensures.permutation)) c.self.invariant
+    let before = c.self.inside.entries.items in let after = c.sort_unstable_by.new.self.items in (
+      parts-within c.self.inside.octets.items before after
+          (Within-permutation after before
+          (IsPermutation-sym before after c.sort_unstable_by.ensures.permutation)) c.self.invariant.0,
+      none-last c.self.inside.octets.items after c.clear.new.self.items c.clear.ensures.items,
+    )
 
 -- no entry was lost
 pub returns-clause-permutation : goal.returns-clause-permutation
