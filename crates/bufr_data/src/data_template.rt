@@ -6,11 +6,9 @@ ghost use Rattle.bufr_answers.specs.Answers.{Gives};
 ghost use Rattle.bufr_data.specs.declared.field.Subset.{Subset};
 ghost use Rattle.bufr_data.specs.Data.{subsets_in};
 ghost use Rattle.bufr_data.specs.Plain.Alike.{IsAlike};
-ghost use Rattle.bufr_data.specs.Plain.Layouts.{IsLaid};
 
 use crate::fault::ReadFault;
 use crate::plain::alike::{Alike, Likeness};
-use crate::plain::layout::Layout;
 use crate::plain::plan::Plan;
 use crate::subset_index::{SubsetIndex, index_known};
 use bufr_answers::{Failure, OutOfMemory};
@@ -18,7 +16,6 @@ use bufr_bits::BitReader;
 use bufr_expand::Template;
 use std::alloc::Global;
 use std::marker::Model;
-use std::rc::Rc;
 
 /// A template for the data of one message after another. Whether all its plain subsets are alike is
 /// found out once, and kept; for its second message the fields of these are laid out, and kept too.
@@ -76,7 +73,7 @@ impl DataTemplate {
     {
         let alike = self.alike(alloc, compressed, reader.left(), count)?;
         let layout = if alike.is_some() {
-            self.layout(alloc)?
+            self.plan.serve(alloc, &self.template)?
         } else {
             None
         };
@@ -90,7 +87,7 @@ impl DataTemplate {
         &mut self,
         alloc: Global,
         compressed: bool,
-        most: u128,
+        there: u128,
         count: u16,
     ) -> Result<Option<Alike>, OutOfMemory>
         ensures found { IfOk result (λ found. IfSome found (IsAlike self.old)) }
@@ -99,19 +96,14 @@ impl DataTemplate {
         if compressed || count == 0 {
             return Ok(None);
         }
-        let likeness = self.likeness.or_within(alloc, &self.template, most)?;
-        self.likeness = likeness;
-        Ok(likeness.alike())
-    }
-
-    /// The fields of each subset, where they are laid out: for the second message that asks for
-    /// them, and for all behind it. They are shared.
-    fn layout(&mut self, alloc: Global) -> Result<Option<Rc<Layout>>, OutOfMemory>
-        ensures found { IfOk result (λ found. IfSome found (λ layout.
-            IsLaid self.old layout.value)) }
-        ensures same { self.new ≡ self.old }
-    {
-        self.plan.go_on(alloc, &self.template)?;
-        self.plan.layout()
+        match self.likeness {
+            Likeness::Same(each) => Ok(Some(each)),
+            Likeness::Varied => Ok(None),
+            Likeness::Unasked => {
+                let likeness = Likeness::within(alloc, &self.template, there)?;
+                self.likeness = likeness;
+                Ok(likeness.alike())
+            }
+        }
     }
 }

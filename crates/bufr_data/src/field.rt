@@ -126,7 +126,8 @@ impl Field {
             (Kind::Text, _) => None,
             (_, Raw::Text(_)) => None,
             (_, Raw::Number(number)) if !self.is_missing() => {
-                Decimal::from_raw(*number, self.spec.reference, self.spec.scale)
+                let units = i128::from(*number) + i128::from(self.spec.reference);
+                Decimal::new(units, self.spec.scale)
             }
             (_, Raw::Number(_)) => None,
         }
@@ -150,7 +151,7 @@ pub struct Decimal {
 }
 
 impl Decimal {
-    ghost use Rattle.std.specs.Prelude.{◌≡◌, pos, ◌+ℤ◌};
+    ghost use Rattle.std.specs.Prelude.{◌≡◌};
     ghost use Rattle.bufr_data.specs.Values.{decimal_within};
 
     /// So many units at this scale, or `None` where the scale is not -600 to 600.
@@ -161,13 +162,5 @@ impl Decimal {
             return None;
         }
         Some(Decimal { units, scale })
-    }
-
-    /// The value of a raw value above a reference value, or `None` where the scale is not -600 to
-    /// 600.
-    fn from_raw(number: u64, reference: i64, scale: i32) -> Option<Decimal>
-        ensures { result ≡ decimal_within (pos number +ℤ reference) scale }
-    {
-        Decimal::new(i128::from(number) + i128::from(reference), scale)
     }
 }

@@ -184,36 +184,20 @@ pub(crate) fn index_known<'a>(
     ensures octets { reader.new.octets ≡ reader.old.octets }
     ensures err { OnErr result (reader.new ≡ reader.old) }
 {
-    let place = reader.place();
-    let answer = index_of(alloc, template, alike, layout, compressed, reader, count);
-    if answer.is_err() {
-        reader.return_to(place);
+    if compressed {
+        let columns = Columns::index(alloc, &template, reader, count)?;
+        return Ok(SubsetIndex {
+            standing: DataIndex::Compressed(columns),
+        });
     }
-    answer
-}
-
-/// The index of so many subsets, whose data the bits begin with. After an error the reader may have
-/// moved on.
-fn index_of<'a>(
-    alloc: Global,
-    template: Template,
-    alike: Option<Alike>,
-    layout: Option<Rc<Layout>>,
-    compressed: bool,
-    reader: &mut BitReader<'a>,
-    count: u16,
-) -> Result<SubsetIndex<'a>, Failure<ReadFault>>
-    requires known { IfSome alike (IsAlike template) }
-    requires laid { IfSome layout (λ l. IsLaid template l.value) }
-    ensures exact { Gives {Y = List Subset × List Bool} (λ subsets. (subsets, left reader.new))
-        result (subsets_in template compressed count (left reader.old)) }
-    ensures octets { reader.new.octets ≡ reader.old.octets }
-    ensures onward { reader.old.place ≤ reader.new.place }
-{
-    let standing = if compressed {
-        DataIndex::Compressed(Columns::index(alloc, &template, reader, count)?)
-    } else {
-        DataIndex::Plain(PlainSubsets::index(alloc, template, alike, layout, reader, count)?)
-    };
-    Ok(SubsetIndex { standing })
+    let place = reader.place();
+    match PlainSubsets::index(alloc, template, alike, layout, reader, count) {
+        Ok(subsets) => Ok(SubsetIndex {
+            standing: DataIndex::Plain(subsets),
+        }),
+        Err(failure) => {
+            reader.return_to(place);
+            Err(failure)
+        }
+    }
 }

@@ -266,7 +266,7 @@ one_kept spacing bit s each count k starts view is below reckoned =
 -- it is not too great for its numbers
 pub one_fits : (spacing : Spacing) (bit : ℕ) (each : Alike) (count k : ℕ)
     → HasRoom spacing → spacing ≡ Even bit each count → k < count
-    → (bit + (k + 1) * each.bits < 2 ^ 128) × (k * each.items < 2 ^ 64)
+    → (bit + (k + 1) * each.bits < 2 ^ 64) × (k * each.items < 2 ^ 64)
 one_fits spacing bit each count k has is below =
     let room : HasRoom (Even bit each count) = subst HasRoom is has in
     let few : k ≤ count = omega (arith, below) in

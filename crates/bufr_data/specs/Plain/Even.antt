@@ -34,4 +34,4 @@ starts_in (Even bit each count) = even_starts bit 0 each count
 abbrev pub HasRoom : Spacing → Type 0
 HasRoom (Listed starts) = Unit {0}
 HasRoom (Even bit each count) =
-    (bit + count * each.bits < 2 ^ 128) × (count * each.items < 2 ^ 64)
+    (bit + count * each.bits < 2 ^ 64) × (count * each.items < 2 ^ 64)

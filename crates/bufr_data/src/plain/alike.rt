@@ -17,9 +17,12 @@ use std::alloc::Global;
 /// How many bits and how many items each plain subset of a template has.
 #[derive(Clone, Copy, Debug, PartialEq)]
 pub(crate) struct Alike {
-    pub(crate) bits: u128,
+    pub(crate) bits: u64,
     pub(crate) items: u64,
 }
+
+// It is moved as two words, with no octets between them that nobody wrote.
+const _: () = prove!(size_of::<Alike>() == 16);
 
 /// What is known of the plain subsets of a template: not asked yet, or not by as many bits as there
 /// were; or what each has; or that it takes a count, or a field that has no spec, to say.
@@ -31,20 +34,21 @@ pub(crate) enum Likeness {
 }
 
 impl Likeness {
-    /// What is to be known of the plain subsets of a template, where each has at most so many bits.
-    /// The template is walked once, and no data are read.
+    /// What is to be known of the plain subsets of a template, where each has at most as many bits
+    /// as there are, and as 64 bits can count. The template is walked once, and no data are read.
     pub(crate) fn within(
         alloc: Global,
         template: &Template,
-        most: u128,
+        there: u128,
     ) -> Result<Likeness, OutOfMemory>
         ensures { IfOk result (IsKnown template.now) }
     {
         let mut walk = Walk::start(alloc, template, 0)?;
+        let most = there.min(u64::MAX as u128) as u64;
         let mut bits = 0;
         loop {
-            if let Some(run) = walk.pass_turns(most - bits) {
-                bits += run.bits;
+            if let Some(run) = walk.pass_turns((most - bits) as u128) {
+                bits += run.bits as u64;
                 continue;
             }
             match walk.next() {
@@ -59,22 +63,6 @@ impl Likeness {
                 }
                 Ok(Step::Count(_, _)) | Err(_) => return Ok(Likeness::Varied),
             }
-        }
-    }
-
-    /// What is known already of the plain subsets of a template, or else what `within` finds.
-    pub(crate) fn or_within(
-        self,
-        alloc: Global,
-        template: &Template,
-        most: u128,
-    ) -> Result<Likeness, OutOfMemory>
-        requires { IsKnown template.now self }
-        ensures { IfOk result (IsKnown template.now) }
-    {
-        match self {
-            Likeness::Unasked => Likeness::within(alloc, template, most),
-            known => Ok(known),
         }
     }
 
@@ -95,13 +83,13 @@ impl Alike {
     pub(crate) fn of_several(
         alloc: Global,
         template: &Template,
-        most: u128,
+        there: u128,
         count: u16,
     ) -> Result<Option<Alike>, OutOfMemory>
         ensures { IfOk result (λ found. IfSome found (IsAlike template.now)) }
     {
         if count > 1 {
-            Ok(Likeness::within(alloc, template, most)?.alike())
+            Ok(Likeness::within(alloc, template, there)?.alike())
         } else {
             Ok(None)
         }
@@ -118,7 +106,7 @@ impl Alike {
         ensures octets { reader.new.octets ≡ reader.old.octets }
         ensures unmoved { OnFalse result (reader.new ≡ reader.old) }
     {
-        used <= MOST_ITEMS && self.items <= MOST_ITEMS - used && reader.pass(self.bits)
+        used <= MOST_ITEMS && self.items <= MOST_ITEMS - used && reader.pass(self.bits as u128)
     }
 
     /// Moves past so many such subsets, the first of a message, where a message has room for all
@@ -133,10 +121,8 @@ impl Alike {
         ensures octets { reader.new.octets ≡ reader.old.octets }
         ensures unmoved { OnFalse result (reader.new ≡ reader.old) }
     {
-        let items = u128::from(count) * u128::from(self.items);
-        match u128::from(count).checked_mul(self.bits) {
-            Some(bits) if items <= u128::from(MOST_ITEMS) => reader.pass(bits),
-            _ => false,
-        }
+        let items = count as u128 * self.items as u128;
+        let bits = count as u128 * self.bits as u128;
+        items <= MOST_ITEMS as u128 && reader.pass(bits)
     }
 }

@@ -33,6 +33,9 @@ use std::alloc::Global;
 use std::marker::Model;
 use std::rc::Rc;
 
+/// The most octets whose bits 64 bits can count. No machine holds more.
+const MOST_COUNTED_OCTETS: usize = usize::MAX / 8;
+
 /// Where a subset begins and where it ends, and how many items the message has met before it.
 #[derive(Clone, Copy, Debug, PartialEq)]
 pub(crate) struct SubsetStart {
@@ -69,6 +72,8 @@ impl<'a> PlainSubsets<'a> {
     /// So many subsets, whose data the bits begin with, none of which is built. The reader moves
     /// past exactly their data; after an error it may have moved on. Where it is known what each
     /// subset has, all are passed at once.
+    // A call would move all of it through memory.
+    #[inline(always)]
     pub(crate) fn index(
         alloc: Global,
         template: Template,
@@ -175,9 +180,12 @@ fn starts_of(
 {
     courses_are_unrollings();
     let bit = bit_of(reader);
+    let octets = reader.octets().len();
     match alike {
-        Some(each) if each.pass_all(reader, count) => { Ok(Starts::even(bit, each, count)) }
-        None if count == 1 => only_start(alloc, template, reader),
+        Some(each) if octets <= MOST_COUNTED_OCTETS && each.pass_all(reader, count) => {
+            Ok(Starts::even(bit as u64, each, count))
+        }
+        None if octets <= MOST_COUNTED_OCTETS && count == 1 => only_start(alloc, template, reader),
         _ => {
             let starts = starts_in_turn(alloc, template, alike, reader, count)?;
             Ok(Starts::listed(starts))
@@ -192,6 +200,7 @@ fn only_start(
     template: &Template,
     reader: &mut BitReader,
 ) -> Result<Starts, Failure<ReadFault>>
+    requires counted { 8 * length reader.old.octets < 2 ^ 64 }
     ensures exact { Gives {Y = List Subset × List Bool}
         (λ starts. (map (subset_from reader.old.octets template.now) starts, left reader.new))
         result (subsets_in template.now false 1 (left reader.old)) }
@@ -202,9 +211,9 @@ fn only_start(
     let bit = bit_of(reader);
     let items = pass_numbered(alloc, template, reader, 1, 0)?;
     let end = bit_of(reader);
-    let bits = end - bit;
+    let bits = (end - bit) as u64;
     let each = Alike { bits, items };
-    Ok(Starts::even(bit, each, 1))
+    Ok(Starts::even(bit as u64, each, 1))
 }
 
 /// Where so many subsets begin, each of which is passed by itself. After an error the reader may
@@ -287,7 +296,7 @@ fn pass_numbered(
 fn bit_of(reader: &BitReader) -> u128
     ensures is { result ≡ reader.now.place }
     ensures inside { result ≤ 8 * length reader.now.octets }
-    ensures few { result + length (left reader.now) < 2 ^ 128 }
+    ensures all { result + length (left reader.now) ≡ 8 * length reader.now.octets }
 {
     let _left = reader.left();
     let _octets = reader.octets().len();

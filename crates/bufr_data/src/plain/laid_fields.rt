@@ -183,7 +183,7 @@ fn standing_bits(spec: Spec) -> u128
         → (result ≤ length front) × PassesRaw 1 spec front (drop result front) }
 {
     match bits_of(spec) {
-        Some(bits) => bits,
+        Some(bits) => bits as u128,
         None => 0,
     }
 }

@@ -136,20 +136,20 @@ fn pass_raw(spec: Spec, reader: &mut BitReader, i: u64) -> Result<(), ReadFault>
     ensures onward { reader.old.place ≤ reader.new.place }
 {
     match bits_of(spec) {
-        Some(bits) if reader.pass(bits) => Ok(()),
+        Some(bits) if reader.pass(bits as u128) => Ok(()),
         _ => Err(ReadFault::DataEnds(1, i)),
     }
 }
 
 /// How many bits a field of this spec has: octets where it is a text, and else 64 bits at most.
-pub(crate) fn bits_of(spec: Spec) -> Option<u128>
+pub(crate) fn bits_of(spec: Spec) -> Option<u64>
     ensures takes { IfSome result (TakesBits spec) }
     ensures never { IfNone result (NoBitsHold spec) }
 {
     match spec.kind {
-        Kind::Text => Some(8 * u128::from(spec.width / 8)),
+        Kind::Text => Some(8 * u64::from(spec.width / 8)),
         _ if spec.width > MOST_RAW_BITS => None,
-        _ => Some(u128::from(spec.width)),
+        _ => Some(u64::from(spec.width)),
     }
 }
 

@@ -1,7 +1,6 @@
 //! Whether the fields of a template's plain subsets are laid out.
 
 ghost use Rattle.std.specs.Prelude.{IfOk, IfSome};
-ghost use Rattle.bufr_expand.specs.Trees.{Tree};
 ghost use Rattle.bufr_data.specs.Plain.Layouts.{IsLaid, IsPlan};
 
 use crate::plain::layout::Layout;
@@ -22,30 +21,37 @@ pub(crate) enum Plan {
 }
 
 impl Plan {
-    /// Goes on to what is to be kept of a template where it serves one message more.
-    pub(crate) fn go_on(&mut self, alloc: Global, template: &Template) -> Result<(), OutOfMemory>
+    /// Goes on to what is to be kept of a template where it serves one message more, and answers the
+    /// fields that are laid out by then, which are shared.
+    pub(crate) fn serve(
+        &mut self,
+        alloc: Global,
+        template: &Template,
+    ) -> Result<Option<Rc<Layout>>, OutOfMemory>
         requires { IsPlan template.now self.old }
-        ensures { IsPlan template.now self.new }
+        ensures found { IfOk result (λ found. IfSome found (λ layout.
+            IsLaid template.now layout.value)) }
+        ensures kept { IsPlan template.now self.new }
     {
         match self {
-            Plan::Unserved => *self = Plan::Served,
+            Plan::Unserved => {
+                *self = Plan::Served;
+                Ok(None)
+            }
             Plan::Served => match Layout::of(alloc, template)? {
-                None => *self = Plan::Unlaid,
-                Some(layout) => *self = Plan::Laid(Rc::new(alloc, layout)?),
+                None => {
+                    *self = Plan::Unlaid;
+                    Ok(None)
+                }
+                Some(layout) => {
+                    let layout = Rc::new(alloc, layout)?;
+                    let shared = layout.clone()?;
+                    *self = Plan::Laid(layout);
+                    Ok(Some(shared))
+                }
             },
-            Plan::Laid(_) | Plan::Unlaid => {}
-        }
-        Ok(())
-    }
-
-    /// The fields that are laid out, which are shared.
-    pub(crate) fn layout(&self) -> Result<Option<Rc<Layout>>, OutOfMemory>
-        ensures { (tree : Tree) → IsPlan tree self.now
-            → IfOk result (λ found. IfSome found (λ layout. IsLaid tree layout.value)) }
-    {
-        match self {
             Plan::Laid(layout) => Ok(Some(layout.clone()?)),
-            Plan::Unserved | Plan::Served | Plan::Unlaid => Ok(None),
+            Plan::Unlaid => Ok(None),
         }
     }
 }

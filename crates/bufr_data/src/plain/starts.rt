@@ -12,7 +12,7 @@ use std::marker::Model;
 #[derive(Debug, Drop)]
 pub(crate) enum Spacing {
     Listed(Vec<SubsetStart>),
-    Even(u128, Alike, u16),
+    Even(u64, Alike, usize),
 }
 
 /// Where the subsets of a message begin, one after the other. Contracts see the list of the starts.
@@ -20,6 +20,8 @@ pub(crate) enum Spacing {
 pub(crate) struct Starts {
     spacing: Spacing,
 }
+
+const _: () = prove!(size_of::<Starts>() == 40);
 
 impl Model for Starts {
     ghost use Rattle.std.specs.Prelude.{List};
@@ -45,13 +47,13 @@ impl Starts {
 
     /// Those of so many subsets that are all alike, of which the first begins at this bit. No memory
     /// is taken.
-    pub(crate) fn even(bit: u128, each: Alike, count: u16) -> Starts
-        requires bits { bit + count * each.bits < 2 ^ 128 }
+    pub(crate) fn even(bit: u64, each: Alike, count: u16) -> Starts
+        requires bits { bit + count * each.bits < 2 ^ 64 }
         requires items { count * each.items < 2 ^ 64 }
         ensures { result ≡ even_starts bit 0 each count }
     {
         Starts {
-            spacing: Spacing::Even(bit, each, count),
+            spacing: Spacing::Even(bit, each, count as usize),
         }
     }
 
@@ -61,7 +63,7 @@ impl Starts {
     {
         match &self.spacing {
             Spacing::Listed(starts) => starts.len(),
-            Spacing::Even(_, _, count) => usize::from(*count),
+            Spacing::Even(_, _, count) => *count,
         }
     }
 
@@ -73,22 +75,16 @@ impl Starts {
     {
         match &self.spacing {
             Spacing::Listed(starts) => starts[number - 1],
-            Spacing::Even(bit, each, _) => start_of(*bit, *each, number - 1),
+            Spacing::Even(bit, each, _) => {
+                let before = (number - 1) as u64;
+                let begins = *bit + before * each.bits;
+                let end = begins + each.bits;
+                SubsetStart {
+                    bit: begins as u128,
+                    end: end as u128,
+                    used: before * each.items,
+                }
+            }
         }
-    }
-}
-
-/// Where a subset begins and ends that has so many others before it, all alike, of which the first
-/// begins at this bit.
-fn start_of(bit: u128, each: Alike, before: usize) -> SubsetStart
-    requires bits { bit + (before + 1) * each.bits < 2 ^ 128 }
-    requires items { before * each.items < 2 ^ 64 }
-    ensures { result ≡ start_after bit each before }
-{
-    let begins = bit + before as u128 * each.bits;
-    SubsetStart {
-        bit: begins,
-        end: begins + each.bits,
-        used: before as u64 * each.items,
     }
 }

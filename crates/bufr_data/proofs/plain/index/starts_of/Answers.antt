@@ -1,5 +1,5 @@
 -- The clauses of `starts_of`: where all subsets are alike, all are passed at once.
-use Rattle.std.proofs.Common.{refl, sym, subst, arith}
+use Rattle.std.proofs.Common.{◌≡◌, length, refl, sym, ap, subst, arith}
 use Rattle.bufr_bits.specs.Ends.{left}
 use Rattle.bufr_data.specs.Plain.Starts.{AllBegin}
 use Rattle.bufr_data.proofs.PlainFacts.Even.{stand_alike, alike_begin, alike_read}
@@ -8,7 +8,15 @@ use Rattle.bufr_data.proofs.plain.index.starts_of.Goals as goal
 -- the last of them ends where the octets do at the latest
 pub even-requires-clause-bits : goal.even-requires-clause-bits
 even-requires-clause-bits c =
-    omega (arith, c.bit_of-bit.ensures.few, c.if-pass_all.ensures.enough)
+    let size : length c.octets-octets.result.now ≡ length c.args.reader.now.octets =
+    ap length c.octets-octets.ensures in
+    omega (
+      arith,
+      size,
+      c.bit_of-bit.ensures.all,
+      c.if-pass_all.ensures.enough,
+      c.if-octets-le-MOST_COUNTED_OCTETS.true,
+    )
 
 -- those that begin at even distances are all subsets
 pub returns-in-Some-clause-exact : goal.returns-in-Some-clause-exact

@@ -6,19 +6,41 @@ use Rattle.bufr_data.specs.Plain.Even.{starts_in}
 use Rattle.bufr_data.proofs.PlainFacts.Even.{many_kept, one_kept, one_fits}
 use Rattle.bufr_data.proofs.plain.starts.Starts.at.Goals as goal
 
--- the place of a start up to the last fits
-pub start_of-requires-clause-bits : goal.start_of-requires-clause-bits
-start_of-requires-clause-bits c =
+-- the bits before a start up to the last fit
+pub overflow_mul-begins : goal.overflow_mul-begins
+overflow_mul-begins c =
     let many = many_kept _ _ _ _ _ c.self.view_is c.in-Even.is in
-    (one_fits _ _ _ _ (c.args.number - 1) c.self.invariant c.in-Even.is
-    (omega (arith, c.requires.first, c.requires.last, many))).0
+    let fits =
+    one_fits _ _ _ _ (c.args.number - 1) c.self.invariant c.in-Even.is
+    (omega (arith, c.requires.first, c.requires.last, many)) in
+    omega (arith, fits.0)
 
--- and so do the items before it
-pub start_of-requires-clause-items : goal.start_of-requires-clause-items
-start_of-requires-clause-items c =
+-- its place fits
+pub overflow_add-begins : goal.overflow_add-begins
+overflow_add-begins c =
     let many = many_kept _ _ _ _ _ c.self.view_is c.in-Even.is in
-    (one_fits _ _ _ _ (c.args.number - 1) c.self.invariant c.in-Even.is
-    (omega (arith, c.requires.first, c.requires.last, many))).1
+    let fits =
+    one_fits _ _ _ _ (c.args.number - 1) c.self.invariant c.in-Even.is
+    (omega (arith, c.requires.first, c.requires.last, many)) in
+    omega (arith, fits.0)
+
+-- the place at which it ends fits
+pub overflow_add-end : goal.overflow_add-end
+overflow_add-end c =
+    let many = many_kept _ _ _ _ _ c.self.view_is c.in-Even.is in
+    let fits =
+    one_fits _ _ _ _ (c.args.number - 1) c.self.invariant c.in-Even.is
+    (omega (arith, c.requires.first, c.requires.last, many)) in
+    omega (arith, fits.0)
+
+-- the items before it fit
+pub overflow_mul-result : goal.overflow_mul-result
+overflow_mul-result c =
+    let many = many_kept _ _ _ _ _ c.self.view_is c.in-Even.is in
+    let fits =
+    one_fits _ _ _ _ (c.args.number - 1) c.self.invariant c.in-Even.is
+    (omega (arith, c.requires.first, c.requires.last, many)) in
+    omega (arith, fits.1)
 
 -- a start that is listed stands at its index
 pub returns-in-Listed : goal.returns-in-Listed
@@ -36,4 +58,4 @@ pub returns-in-Even : goal.returns-in-Even
 returns-in-Even c =
     let many = many_kept _ _ _ _ _ c.self.view_is c.in-Even.is in
     one_kept _ _ _ _ _ (c.args.number - 1) _ c.self.view_is c.in-Even.is
-    (omega (arith, c.requires.first, c.requires.last, many)) c.start_of.ensures
+    (omega (arith, c.requires.first, c.requires.last, many)) refl
