@@ -73,7 +73,7 @@ impl<'v> LaidFields<'v> {
                 self.fields = others;
                 Ok(Some(Field {
                     fxy: field.fxy,
-                    spec: field.spec,
+                    spec: by_parts(field.spec),
                     raw,
                 }))
             }
@@ -115,7 +115,7 @@ impl<'v> LaidFields<'v> {
         self.fields = others;
         Some(NumberField {
             fxy: field.fxy,
-            spec: field.spec,
+            spec: by_parts(field.spec),
             number,
         })
     }
@@ -128,6 +128,26 @@ impl<'v> LaidFields<'v> {
         let (fields, bits) = first_asked::<A>(self.fields, &self.reader);
         move_on(&mut self.reader, bits);
         self.fields = fields;
+    }
+}
+
+/// The same spec, of which each part is copied by itself: a copy of the whole takes the octets
+/// between its parts along, and these are slow to be moved on.
+#[inline(always)]
+fn by_parts(spec: Spec) -> Spec
+    ensures { result ≡ spec }
+{
+    let Spec {
+        kind,
+        scale,
+        reference,
+        width,
+    } = spec;
+    Spec {
+        kind,
+        scale,
+        reference,
+        width,
     }
 }
 

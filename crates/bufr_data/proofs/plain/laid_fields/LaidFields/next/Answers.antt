@@ -23,7 +23,8 @@ invariant_of-self-in-Err c = (none_left [] c.read_raw.new.reader refl).0
 -- the field is the first, and the others are left
 pub returns-in-Ok : goal.returns-in-Ok
 returns-in-Ok c =
-    sym c.self.view_is
+    rw c.by_parts.ensures
+    (sym c.self.view_is
     ∙ (first_handed c.self.inside.fields.now c.in-Some.others.now c.in-Some.field.now
     c.self.inside.reader c.read_raw.new.reader c.in-Ok.raw c.in-Some.ensures.cases.0
-    c.self.invariant c.in-Ok.ensures.exact).is
+    c.self.invariant c.in-Ok.ensures.exact).is)

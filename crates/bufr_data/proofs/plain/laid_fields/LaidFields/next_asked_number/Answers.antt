@@ -35,6 +35,7 @@ returns-clause-found g c =
     first_handed c.self.inside.fields.now c.in-Some.others.now field c.self.inside.reader
     c.read_number.new.reader (Number c.in_ok-number.number) c.in-Some.ensures.cases.0
     c.self.invariant c.in_ok-number.ensures.found in
-    asked_handed g.A.Asks.is_asked c.args.self.now c.pass_unasked.new.self
+    rw c.by_parts.ensures
+    (asked_handed g.A.Asks.is_asked c.args.self.now c.pass_unasked.new.self
     (fields_laid c.in-Some.others.now c.read_number.new.reader) (Some (as_field number))
-    c.pass_unasked.ensures.passed c.pass_unasked.ensures.asked (sym c.self.view_is ∙ h.is)
+    c.pass_unasked.ensures.passed c.pass_unasked.ensures.asked (sym c.self.view_is ∙ h.is))
