@@ -1,11 +1,11 @@
--- What first fields say, field by field, and the key that they say: for `values_laid`,
--- `values_met`, `values_in`, `key_in` and `key_of_fields`.
+-- What first fields say, field by field, and the key that they say: for `note_laid`, `note_met`,
+-- `note_listed`, `key_in` and `key_of_fields`.
 use Rattle.std.proofs.Common.{◌≡◌, ℕ, ◌==◌, Bool, true, false, List, [], ◌∷◌, ◌++◌, Option, Some}
-use Rattle.std.proofs.Common.{None, refl, sym, ap, subst, ◌∙◌, append_assoc, cond, length, take}
-use Rattle.std.proofs.Common.{slice_index_or, ◌+◌, ◌<◌}
+use Rattle.std.proofs.Common.{None, refl, sym, ap, subst, ◌∙◌, append_assoc, cond, length, drop}
+use Rattle.std.proofs.Common.{slice_index_or, ◌+◌, ◌<◌, ◌≤◌}
 use Rattle.std.specs.Option.{option_map, option_or, option_flatten}
 use Rattle.std.proofs.lemmas.Bool.{eqb-true}
-use Rattle.std.proofs.lemmas.List.{append-nil, take_more}
+use Rattle.std.proofs.lemmas.List.{append-nil, drop_all, drop_more}
 use Rattle.std.proofs.lemmas.List.Folds.{find-append}
 use Rattle.bufr_tables.specs.Descriptors.{descriptor}
 use Rattle.bufr_data.specs.declared.field.Field.{Field}
@@ -17,7 +17,7 @@ use Rattle.bufr_report_keys.specs.Usable.{usable_number, usable_text}
 use Rattle.bufr_report_keys.specs.Keys.{station, moment, key}
 use Rattle.bufr_report_keys.specs.Asked.{is_asked}
 use Rattle.bufr_report_keys.specs.FirstValues.{first_number, first_text, first_values, known, noted}
-use Rattle.bufr_report_keys.specs.FirstValues.{station_of, moment_of, key_of}
+use Rattle.bufr_report_keys.specs.FirstValues.{all_noted, station_of, moment_of, key_of}
 
 -- ---- one field behind others
 
@@ -114,12 +114,7 @@ module _ (f : Field) (unasked : is_asked f.fxy ≡ false) where
 
 -- ---- all fields, one after the other
 
--- what is known once they are noted
-pub all_noted : List Field → FirstValues → FirstValues
-all_noted [] values = values
-all_noted (f ∷ fields) values = all_noted fields (noted f values)
-
--- it is what the first of them say
+-- what is known once they are noted is what the first of them say
 noted_behind : (front rest : List Field)
     → all_noted rest (first_values front) ≡ first_values (front ++ rest)
 unfolding all_noted
@@ -165,25 +160,34 @@ none_left old new (Some f) values handed none = absurd (none f refl)
 none_left old new None values handed none =
     ap (λ fields. all_noted fields values) (sym (append-nil old)) ∙ passed old [] values handed.0
 
--- ---- one field more of a list
+-- ---- one field of a list
 
-module _ (fields : List Field) (k : ℕ) (f : Field) (before after : FirstValues)
-    (is : f ≡ slice_index_or fields k f) (inside : k < length fields)
-    (so_far : before ≡ first_values (take k fields)) where
-  -- it is noted
-  next : first_values (take (k + 1) fields) ≡ noted f before
-  next =
-      ap first_values (take_more fields k f inside ∙ ap (λ g. take k fields ++ g ∷ []) (sym is))
-      ∙ one_noted (take k fields) f ∙ ap (noted f) (sym so_far)
+-- none stands behind the last
+pub none_behind : (fields : List Field) (k : ℕ) (values : FirstValues) → length fields ≤ k
+    → all_noted (drop k fields) values ≡ values
+unfolding all_noted
+none_behind fields k values h = ap (λ left. all_noted left values) (drop_all k fields h)
 
-  -- so it is by the loop, where it is asked for
-  pub asked_noted : after ≡ noted f before → after ≡ first_values (take (k + 1) fields)
-  asked_noted noted_now = noted_now ∙ sym next
+module _ (fields : List Field) (k : ℕ) (f : Field) (values : FirstValues)
+    (is : f ≡ slice_index_or fields k f) (inside : k < length fields) where
+  -- it stands in front of those behind it
+  in_front : all_noted (drop k fields) values ≡ all_noted (drop (k + 1) fields) (noted f values)
+  unfolding all_noted
+  in_front =
+      ap (λ left. all_noted left values)
+      (drop_more fields k f inside ∙ ap (λ g. g ∷ drop (k + 1) fields) (sym is))
 
-  -- and else it need not be
-  pub unasked_passed : is_asked f.fxy ≡ false → after ≡ before
-      → after ≡ first_values (take (k + 1) fields)
-  unasked_passed unasked same = same ∙ sym (not_noted f unasked before) ∙ sym next
+  -- so it is noted
+  pub asked_noted : (after : FirstValues) → after ≡ noted f values
+      → all_noted (drop (k + 1) fields) after ≡ all_noted (drop k fields) values
+  asked_noted after noted_now = ap (all_noted (drop (k + 1) fields)) noted_now ∙ sym in_front
+
+  -- and need not be, where it is not asked for
+  pub unasked_passed : (after : FirstValues) → is_asked f.fxy ≡ false → after ≡ values
+      → all_noted (drop (k + 1) fields) after ≡ all_noted (drop k fields) values
+  unasked_passed after unasked same =
+      ap (all_noted (drop (k + 1) fields)) (same ∙ sym (not_noted f unasked values))
+      ∙ sym in_front
 
 -- ---- what first fields say
 

@@ -1,5 +1,5 @@
 -- What the first field of each element says that a key asks for.
-use Rattle.std.specs.Prelude.{ℕ, ◌==◌, Bool, true, false, List, Option, Some, ℤ, pos}
+use Rattle.std.specs.Prelude.{ℕ, ◌==◌, Bool, true, false, List, [], ◌∷◌, Option, Some, ℤ, pos}
 use Rattle.std.specs.Option.{option_map, option_or, option_flatten}
 use Rattle.jiff.specs.Words.{days_in_month}
 use Rattle.bufr_tables.specs.Descriptors.{descriptor}
@@ -88,6 +88,13 @@ numbered d number values = record values {
   minute = known (d == descriptor 0 4 5) values.minute number;
   second = known (d == descriptor 0 4 6) values.second number;
 }
+
+-- ---- all fields, one after the other
+
+-- what is known once they are noted
+unfoldable pub all_noted : List Field → FirstValues → FirstValues
+all_noted [] values = values
+all_noted (f ∷ fields) values = all_noted fields (noted f values)
 
 -- ---- what they say
 

@@ -1,7 +1,7 @@
 //! The fields that a key asks for, and what the first of each element says.
-ghost use Rattle.std.specs.Prelude.{◌≡◌, IfOk};
+ghost use Rattle.std.specs.Prelude.{◌≡◌, IfOk, OnOk};
 ghost use Rattle.bufr_report_keys.specs.Asked.{is_station, is_time, is_asked};
-ghost use Rattle.bufr_report_keys.specs.FirstValues.{first_values};
+ghost use Rattle.bufr_report_keys.specs.FirstValues.{all_noted};
 
 use crate::first_values::FirstValues;
 use bufr_answers::{Items, OutOfMemory};
@@ -43,55 +43,69 @@ impl Asks for KeyElements {
     }
 }
 
-/// What the first fields say of fields that are handed out one at a time. The others are let go one
-/// by one, and most are not built. It can only run out of memory.
-pub(crate) fn values_of(alloc: Global, fields: Fields<'_>) -> Result<FirstValues, OutOfMemory>
-    ensures { IfOk result (λ values. values ≡ first_values fields.entry) }
+/// Notes fields that are handed out one at a time. Those that are not asked for are let go one by
+/// one, and most are not built. It can only run out of memory.
+#[inline(always)]
+pub(crate) fn note_handed(
+    alloc: Global,
+    fields: Fields<'_>,
+    values: &mut FirstValues,
+) -> Result<(), OutOfMemory>
+    ensures { OnOk result (values.new ≡ all_noted fields.entry values.old) }
 {
     match fields.laid() {
-        Ok(fields) => values_laid(alloc, fields),
-        Err(fields) => values_met(alloc, fields),
+        Ok(fields) => note_laid(alloc, fields, values),
+        Err(fields) => note_met(alloc, fields, values),
     }
 }
 
-/// The same of fields that are laid out, of which no number is built.
-fn values_laid(alloc: Global, mut fields: LaidFields<'_>) -> Result<FirstValues, OutOfMemory>
-    ensures { IfOk result (λ values. values ≡ first_values fields.entry) }
+/// Notes fields that are laid out, of which no number is built. It can only run out of memory.
+fn note_laid(
+    alloc: Global,
+    mut fields: LaidFields<'_>,
+    values: &mut FirstValues,
+) -> Result<(), OutOfMemory>
+    ensures { OnOk result (values.new ≡ all_noted fields.entry values.old) }
 {
-    let mut values = FirstValues::none();
     loop {
         if let Some(number) = fields.next_asked_number::<KeyElements>() {
             values.note_number(number);
         } else if let Some(field) = fields.next_asked::<KeyElements>(alloc)? {
             values.note(field);
         } else {
-            return Ok(values);
+            return Ok(());
         }
     }
 }
 
-/// The same of any fields.
-fn values_met(alloc: Global, mut fields: Fields<'_>) -> Result<FirstValues, OutOfMemory>
-    ensures { IfOk result (λ values. values ≡ first_values fields.entry) }
+/// Notes any fields. It can only run out of memory.
+fn note_met(
+    alloc: Global,
+    mut fields: Fields<'_>,
+    values: &mut FirstValues,
+) -> Result<(), OutOfMemory>
+    ensures { OnOk result (values.new ≡ all_noted fields.entry values.old) }
 {
-    let mut values = FirstValues::none();
     while let Some(field) = fields.next_asked::<KeyElements>(alloc)? {
         values.note(field);
     }
-    Ok(values)
+    Ok(())
 }
 
-/// What they say in a list of fields. It can only run out of memory, where a text is copied.
-pub(crate) fn values_in(alloc: Global, fields: &[Field]) -> Result<FirstValues, OutOfMemory>
-    ensures { IfOk result (λ values. values ≡ first_values fields.now) }
+/// Notes the fields of a list. It can only run out of memory, where a text is copied.
+pub(crate) fn note_listed(
+    alloc: Global,
+    fields: &[Field],
+    values: &mut FirstValues,
+) -> Result<(), OutOfMemory>
+    ensures { OnOk result (values.new ≡ all_noted fields.now values.old) }
 {
-    let mut values = FirstValues::none();
     for field in fields {
         if is_asked(field.fxy) {
             values.note(copied(alloc, field)?);
         }
     }
-    Ok(values)
+    Ok(())
 }
 
 /// A field of its own like another.

@@ -3,7 +3,7 @@ ghost use Rattle.std.specs.Prelude.{◌≡◌, IfOk};
 ghost use Rattle.bufr_report_keys.specs.Keys.{key};
 ghost use Rattle.bufr_report_keys.specs.FirstValues.{key_of};
 
-use crate::asked::{values_in, values_of};
+use crate::asked::{note_handed, note_listed};
 use crate::first_values::FirstValues;
 use crate::moments::moment_of;
 use crate::stations::station_of;
@@ -23,8 +23,9 @@ pub fn key_in(
 ) -> Result<Option<Key>, OutOfMemory>
     ensures { IfOk result (λ found. found ≡ key head.now fields.now) }
 {
-    let values = values_in(alloc, fields)?;
-    Ok(key_of(head, values))
+    let mut values = FirstValues::none();
+    note_listed(alloc, fields, &mut values)?;
+    Ok(key_of(head, &mut values))
 }
 
 /// What `key_in` answers of these fields, which are handed out one at a time: none is held longer
@@ -36,15 +37,17 @@ pub fn key_of_fields(
 ) -> Result<Option<Key>, OutOfMemory>
     ensures { IfOk result (λ found. found ≡ key head.now fields.entry) }
 {
-    let values = values_of(alloc, fields)?;
-    Ok(key_of(head, values))
+    let mut values = FirstValues::none();
+    note_handed(alloc, fields, &mut values)?;
+    Ok(key_of(head, &mut values))
 }
 
-/// The key of a report with this head where the first fields of its subset say this.
-fn key_of(head: &ReportHead, values: FirstValues) -> Option<Key>
-    ensures { result ≡ key_of head.now values }
+/// The key of a report with this head where the first fields of its subset say this. Names are
+/// taken out.
+fn key_of(head: &ReportHead, values: &mut FirstValues) -> Option<Key>
+    ensures { result ≡ key_of head.now values.old }
 {
-    let moment = moment_of(&values);
+    let moment = moment_of(values);
     let station = station_of(values)?;
     let moment = moment?;
     Some(Key {

@@ -32,9 +32,9 @@ fn mobile(name: Option<Items<u8>>) -> Option<Station>
     Some(Station::mobile(name?))
 }
 
-/// The station that the first fields say: the first that there is of these.
-pub(crate) fn station_of(values: FirstValues) -> Option<Station>
-    ensures { result ≡ station_of values }
+/// The station that the first fields say: the first that there is of these. Names are taken out.
+pub(crate) fn station_of(values: &mut FirstValues) -> Option<Station>
+    ensures { result ≡ station_of values.old }
 {
     if let Some(station) = wmo(values.block.usable(), values.station.usable()) {
         return Some(station);
@@ -42,8 +42,8 @@ pub(crate) fn station_of(values: FirstValues) -> Option<Station>
     let series = values.series.usable();
     let issuer = values.issuer.usable();
     let issue = values.issue.usable();
-    if let Some(station) = wigos(series, issuer, issue, values.local.flatten()) {
+    if let Some(station) = wigos(series, issuer, issue, values.local.take().flatten()) {
         return Some(station);
     }
-    mobile(values.mobile.flatten())
+    mobile(values.mobile.take().flatten())
 }

@@ -1,13 +1,9 @@
--- For `values_laid`: the next field that is asked for is noted, a number or another.
+-- For `note_laid`: the next field that is asked for is noted, a number or another.
 use Rattle.std.proofs.Common.{ap, sym, ◌∙◌}
 use Rattle.bufr_data.specs.Handed.{as_field}
-use Rattle.bufr_report_keys.proofs.FirstFacts.{all_noted, are_noted, all_passed, next_noted, none_left}
-use Rattle.bufr_report_keys.proofs.asked.values_laid.Goals as goal
-
--- at first none is
-pub loop-number-init : goal.loop-number-init
-loop-number-init c =
-    ap (all_noted c.args.fields) c.none-values.ensures ∙ are_noted c.args.fields
+use Rattle.bufr_report_keys.specs.FirstValues.{all_noted}
+use Rattle.bufr_report_keys.proofs.FirstFacts.{all_passed, next_noted, none_left}
+use Rattle.bufr_report_keys.proofs.asked.note_laid.Goals as goal
 
 -- a number is noted, and those in front of it are passed
 pub loop-number-preserved-in-Some : goal.loop-number-preserved-in-Some

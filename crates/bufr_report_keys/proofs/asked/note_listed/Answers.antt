@@ -1,13 +1,13 @@
--- For `values_in`: the next field is noted where it is asked for.
+-- For `note_listed`: the next field is noted where it is asked for.
 use Rattle.std.proofs.Common.{◌≡◌, false, sym, ap, ◌∙◌}
 use Rattle.bufr_data.specs.declared.field.Field.{Field}
 use Rattle.bufr_report_keys.specs.Asked.{is_asked}
 use Rattle.bufr_report_keys.specs.FirstValues.{noted}
-use Rattle.bufr_report_keys.proofs.FirstFacts.{asked_noted, unasked_passed}
-use Rattle.bufr_report_keys.proofs.asked.values_in.Goals.{then-is_asked+in_ok-copied, else-is_asked}
-use Rattle.bufr_report_keys.proofs.asked.values_in.Goals as goal
+use Rattle.bufr_report_keys.proofs.FirstFacts.{asked_noted, unasked_passed, none_behind}
+use Rattle.bufr_report_keys.proofs.asked.note_listed.Goals.{then-is_asked+in_ok-copied, else-is_asked}
+use Rattle.bufr_report_keys.proofs.asked.note_listed.Goals as goal
 
--- it is known what the first say up to it
+-- with it all are noted up to it
 pub loop-field-preserved : goal.loop-field-preserved
 loop-field-preserved c =
     elim c.if-is_asked.branch [
@@ -17,12 +17,20 @@ loop-field-preserved c =
           ∙ ap (λ (f : Field). noted f c.loop-field.values) w.in_ok-copied.ensures
           in
           asked_noted c.args.fields.now c.loop-field.field-index c.field-item.result
-          c.loop-field.values c.if-is_asked.values c.field-item.is c.loop-field-test.true
-          c.loop-field.invariant noted_now
+          c.loop-field.values c.field-item.is c.loop-field-test.true c.if-is_asked.values noted_now
+          ∙ c.loop-field.invariant
       | else-is_asked w ↦
           let unasked : is_asked c.field-item.result.fxy ≡ false = sym c.is_asked.ensures
           ∙ w.if-is_asked.false in
           unasked_passed c.args.fields.now c.loop-field.field-index c.field-item.result
-          c.loop-field.values c.if-is_asked.values c.field-item.is c.loop-field-test.true
-          c.loop-field.invariant unasked w.values-is
+          c.loop-field.values c.field-item.is c.loop-field-test.true c.if-is_asked.values unasked
+          w.values-is
+          ∙ c.loop-field.invariant
     ]
+
+-- at the end all are noted
+pub returns : goal.returns
+returns c =
+    sym (none_behind c.args.fields.now c.loop-field.field-index c.loop-field.values
+    c.loop-field-test.false)
+    ∙ c.loop-field.invariant
