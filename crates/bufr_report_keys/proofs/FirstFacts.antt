@@ -24,7 +24,7 @@ use Rattle.bufr_report_keys.specs.FirstValues.{all_noted, station_of, moment_of,
 -- what is known of an element
 known_or : {A : Type 0} (value : Field → A) (before : Option Field) (is : Bool) (f : Field)
     → option_map value (option_or before (cond is (Some f) None))
-    ≡ known is (option_map value before) (value f)
+    ≡ known is (option_map value before) (Some (value f))
 known_or value (Some g) true f = refl
 known_or value (Some g) false f = refl
 known_or value None true f = refl
@@ -34,17 +34,17 @@ known_or value None false f = refl
 module _ (front : List Field) (f : Field) where
   behind : {A : Type 0} (value : Field → A) (d : ℕ)
       → option_map value (first_field d (front ++ f ∷ []))
-      ≡ known (f.fxy == d) (option_map value (first_field d front)) (value f)
+      ≡ known (f.fxy == d) (option_map value (first_field d front)) (Some (value f))
   behind value d =
       ap (option_map value) (find-append (λ g. g.fxy == d) front (f ∷ []))
       ∙ known_or value (first_field d front) (f.fxy == d) f
 
   number : (x y : ℕ) → first_number x y (front ++ f ∷ [])
-      ≡ known (f.fxy == descriptor 0 x y) (first_number x y front) (usable_number f)
+      ≡ known (f.fxy == descriptor 0 x y) (first_number x y front) (Some (usable_number f))
   number x y = behind usable_number (descriptor 0 x y)
 
   text : (x y : ℕ) → first_text x y (front ++ f ∷ [])
-      ≡ known (f.fxy == descriptor 0 x y) (first_text x y front) (usable_text f)
+      ≡ known (f.fxy == descriptor 0 x y) (first_text x y front) (Some (usable_text f))
   text x y = behind usable_text (descriptor 0 x y)
 
   -- it is noted
@@ -69,10 +69,10 @@ module _ (front : List Field) (f : Field) where
 -- ---- fields that are not asked for
 
 -- nothing more is known of an element by a field of another
-by_other : {A : Type 0} (is : Bool) (before : Option A) (value : A) → is ≡ false
-    → known is before value ≡ before
-by_other false before value h = refl
-by_other true before value h = absurd cc
+by_other : {A : Type 0} (is : Bool) (before said : Option A) → is ≡ false
+    → known is before said ≡ before
+by_other false before said h = refl
+by_other true before said h = absurd cc
 
 -- an element that is not asked for is another than one that is
 is_other : (d e : ℕ) → is_asked d ≡ false → is_asked e ≡ true → (d == e) ≡ false
@@ -86,16 +86,16 @@ is_other d e unasked asked = by_test (d == e) refl
         absurd cc
 
 module _ (f : Field) (unasked : is_asked f.fxy ≡ false) where
-  other : {A : Type 0} (d : ℕ) (before : Option A) (value : A) → is_asked d ≡ true
-      → known (f.fxy == d) before value ≡ before
-  other d before value asked =
-      by_other (f.fxy == d) before value (is_other f.fxy d unasked asked)
+  other : {A : Type 0} (d : ℕ) (before said : Option A) → is_asked d ≡ true
+      → known (f.fxy == d) before said ≡ before
+  other d before said asked =
+      by_other (f.fxy == d) before said (is_other f.fxy d unasked asked)
 
   -- such a field is not noted
   pub not_noted : (values : FirstValues) → noted f values ≡ values
   not_noted values =
-      let n = usable_number f in
-      let t = usable_text f in
+      let n = Some (usable_number f) in
+      let t = Some (usable_text f) in
       rw (
         other (descriptor 0 1 1) values.block n refl,
         other (descriptor 0 1 2) values.station n refl,

@@ -42,18 +42,18 @@ first_values fields = record {
 
 -- ---- one field more
 
--- what is known of an element behind one more field, which is of that element or not
-abbrev pub known : {A : Type 0} → Bool → Option A → A → Option A
-known true before value = option_or before (Some value)
-known false before value = before
+-- what is known of an element behind one more field, which is of that element or not and says this
+abbrev pub known : {A : Type 0} → Bool → Option A → Option A → Option A
+known true before said = option_or before said
+known false before said = before
 
 -- its number, if it is of element 0 XX YYY
 abbrev pub known_number : ℕ → ℕ → Field → Option (Option ℤ) → Option (Option ℤ)
-known_number x y f before = known (f.fxy == descriptor 0 x y) before (usable_number f)
+known_number x y f before = known (f.fxy == descriptor 0 x y) before (Some (usable_number f))
 
 -- its text
 abbrev pub known_text : ℕ → ℕ → Field → Option (Option (List ℕ)) → Option (Option (List ℕ))
-known_text x y f before = known (f.fxy == descriptor 0 x y) before (usable_text f)
+known_text x y f before = known (f.fxy == descriptor 0 x y) before (Some (usable_text f))
 
 -- what is known of each element
 abbrev pub noted : Field → FirstValues → FirstValues
@@ -73,20 +73,20 @@ noted f values = record {
   second = known_number 4 6 f values.second;
 }
 
--- the same where the field is of element d, which has no text, and says this number or none
-abbrev pub numbered : ℕ → Option ℤ → FirstValues → FirstValues
-numbered d number values = record values {
-  block = known (d == descriptor 0 1 1) values.block number;
-  station = known (d == descriptor 0 1 2) values.station number;
-  series = known (d == descriptor 0 1 125) values.series number;
-  issuer = known (d == descriptor 0 1 126) values.issuer number;
-  issue = known (d == descriptor 0 1 127) values.issue number;
-  year = known (d == descriptor 0 4 1) values.year number;
-  month = known (d == descriptor 0 4 2) values.month number;
-  day = known (d == descriptor 0 4 3) values.day number;
-  hour = known (d == descriptor 0 4 4) values.hour number;
-  minute = known (d == descriptor 0 4 5) values.minute number;
-  second = known (d == descriptor 0 4 6) values.second number;
+-- the same where the field is of element d, which has no text, and says this
+abbrev pub numbered : ℕ → Option (Option ℤ) → FirstValues → FirstValues
+numbered d said values = record values {
+  block = known (d == descriptor 0 1 1) values.block said;
+  station = known (d == descriptor 0 1 2) values.station said;
+  series = known (d == descriptor 0 1 125) values.series said;
+  issuer = known (d == descriptor 0 1 126) values.issuer said;
+  issue = known (d == descriptor 0 1 127) values.issue said;
+  year = known (d == descriptor 0 4 1) values.year said;
+  month = known (d == descriptor 0 4 2) values.month said;
+  day = known (d == descriptor 0 4 3) values.day said;
+  hour = known (d == descriptor 0 4 4) values.hour said;
+  minute = known (d == descriptor 0 4 5) values.minute said;
+  second = known (d == descriptor 0 4 6) values.second said;
 }
 
 -- ---- all fields, one after the other

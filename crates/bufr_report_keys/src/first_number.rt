@@ -37,16 +37,28 @@ impl FirstNumber {
         FirstNumber { said: Said::Unmet }
     }
 
+    /// What a field says whose number is this, or does not count.
+    #[inline(always)]
+    pub(crate) fn of(number: Option<i128>) -> FirstNumber
+        ensures { result ≡ Some number }
+    {
+        match number {
+            Some(number) => FirstNumber {
+                said: Said::Number(number),
+            },
+            None => FirstNumber {
+                said: Said::Unusable,
+            },
+        }
+    }
+
     /// Notes what a field says: it counts where none of its element was met before.
     #[inline(always)]
-    pub(crate) fn note(&mut self, number: Option<i128>)
-        ensures { self.new ≡ option_or self.old (Some number) }
+    pub(crate) fn note(&mut self, first: FirstNumber)
+        ensures { self.new ≡ option_or self.old first }
     {
         if let Said::Unmet = self.said {
-            self.said = match number {
-                Some(number) => Said::Number(number),
-                None => Said::Unusable,
-            };
+            self.said = first.said;
         }
     }
 

@@ -6,7 +6,7 @@ ghost use Rattle.bufr_report_keys.specs.Usable.{usable_text};
 use crate::first_number::FirstNumber;
 use crate::usable::{number_of, usable_number, usable_text};
 use bufr_answers::Items;
-use bufr_data::{Field, NumberField};
+use bufr_data::{Field, NumberField, Raw};
 
 /// Of each element that a key asks for what its first field says: a usable number or text, or
 /// nothing that counts. An element of which no field was met has none.
@@ -71,10 +71,21 @@ impl FirstValues {
     pub(crate) fn note(&mut self, field: Field)
         ensures { self.new ≡ noted field self.old }
     {
+        let Field { fxy, spec, raw } = field;
+        match raw {
+            Raw::Number(number) => self.note_number(NumberField { fxy, spec, number }),
+            raw => self.note_whole(Field { fxy, spec, raw }),
+        }
+    }
+
+    /// Notes one more field, whatever stands in it, in the same way.
+    fn note_whole(&mut self, field: Field)
+        ensures { self.new ≡ noted field self.old }
+    {
         match field.fxy.bits() {
             267 => note_text(&mut self.mobile, field),
             384 => note_text(&mut self.local, field),
-            bits => self.note_said(bits, number_of(&field)),
+            bits => self.note_said(bits, FirstNumber::of(number_of(&field))),
         }
     }
 
@@ -86,27 +97,27 @@ impl FirstValues {
         match field.fxy.bits() {
             267 => note_no_text(&mut self.mobile),
             384 => note_no_text(&mut self.local),
-            bits => self.note_said(bits, usable_number(field)),
+            bits => self.note_said(bits, FirstNumber::of(usable_number(field))),
         }
     }
 
-    /// Notes what one more field says that is no text, or that it says no number.
+    /// Notes what one more field says whose element has no text.
     #[inline(always)]
-    fn note_said(&mut self, bits: u16, number: Option<i128>)
-        ensures { self.new ≡ numbered bits number self.old }
+    fn note_said(&mut self, bits: u16, first: FirstNumber)
+        ensures { self.new ≡ numbered bits first self.old }
     {
         match bits {
-            257 => self.block.note(number),
-            258 => self.station.note(number),
-            381 => self.series.note(number),
-            382 => self.issuer.note(number),
-            383 => self.issue.note(number),
-            1025 => self.year.note(number),
-            1026 => self.month.note(number),
-            1027 => self.day.note(number),
-            1028 => self.hour.note(number),
-            1029 => self.minute.note(number),
-            1030 => self.second.note(number),
+            257 => self.block.note(first),
+            258 => self.station.note(first),
+            381 => self.series.note(first),
+            382 => self.issuer.note(first),
+            383 => self.issue.note(first),
+            1025 => self.year.note(first),
+            1026 => self.month.note(first),
+            1027 => self.day.note(first),
+            1028 => self.hour.note(first),
+            1029 => self.minute.note(first),
+            1030 => self.second.note(first),
             _ => {}
         }
     }
