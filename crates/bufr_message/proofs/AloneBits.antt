@@ -1,5 +1,5 @@
 -- The bits of a subset counted field by field: for whether a subset can be said alone, which
--- `decode` and `view` test.
+-- `can_be_alone` tests.
 use Rattle.std.proofs.Common.{◌≡◌, ℕ, ◌+◌, ◌<◌, false, List, length, take, get_or, sym, ap, arith}
 use Rattle.std.specs.Prelude.{nat_le}
 use Rattle.std.proofs.lemmas.Bool.{lt-leb}

@@ -1,10 +1,9 @@
--- The message that is read is the one that the octets spell: for `decode` and the laws on messages
--- that are read.
+-- The message that is read is the one that the octets spell: for `Templates::view` and the laws on
+-- messages that are read.
 use Rattle.bufr_answers.specs.Answers.{Gives}
 use Rattle.bufr_answers.specs.declared.failure.Failure.{Failure}
 use Rattle.std.proofs.Common.{◌≡◌, ℕ, ◌/◌, Bool, true, List, length, Result, Ok, Err, refl, sym, ap}
 use Rattle.std.proofs.Common.{subst, ◌∙◌}
-use Rattle.std.specs.Prelude.{IfOk}
 use Rattle.bufr_bits.specs.Bits.{bits}
 use Rattle.bufr_tables.specs.Entries.{Entries}
 use Rattle.bufr_expand.specs.Templates.{template}
@@ -20,7 +19,7 @@ use Rattle.bufr_sections.specs.Sections.{Envelope, Ignored, AreOctets, EnvelopeF
 use Rattle.bufr_sections.specs.Sections.{envelope_of}
 use Rattle.bufr_message.specs.Messages.{envelope_with, Spells, template_or, data_or, message_with}
 use Rattle.bufr_message.specs.Messages.{CanBeAlone, can_be_alone, message_in, message_of}
-use Rattle.bufr_message.specs.Laws.{MessagesReadAreSpelt, MessagesSpeltAreRead}
+use Rattle.bufr_message.specs.Laws.{MessagesSpeltAreRead}
 use Rattle.bufr_answers.specs.AnswerLaws.{bind_ok, passed_ok}
 use Rattle.bufr_sections.specs.declared.fault.Refused.TheVariants.{Template, Data}
 use Rattle.bufr_data.specs.declared.fault.ReadFault.TheVariants.{TooLarge}
@@ -119,15 +118,7 @@ message_of_takes below tables octets d all ok =
 
 -- ---- what a call answers that answers the message that is read
 
--- so is what `decode` answers
-pub answer_spelt : MessagesReadAreSpelt
-    → (tables : Entries) (octets : List ℕ) (r : Result Decoded (Failure Refused)) → AreOctets octets
-    → Gives (λ (d : Decoded). d) r (message_of tables octets)
-    → IfOk r (λ d. Spells tables d.message octets d.slack_octets)
-answer_spelt law tables octets (Ok d) all exact = law tables octets d all exact
-answer_spelt law tables octets (Err e) all exact = tt
-
--- and it answers what is spelt
+-- it answers what is spelt
 pub spelt_answered : MessagesSpeltAreRead
     → (tables : Entries) (octets : List ℕ) (r : Result Decoded (Failure Refused))
     → Gives (λ (d : Decoded). d) r (message_of tables octets) → (m : Message) (z : ℕ)

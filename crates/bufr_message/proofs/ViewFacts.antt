@@ -1,8 +1,10 @@
 -- Whether the subsets of a view can be said alone, for `view`; and that its reports are under the
 -- tables, for `View::report` and `reports`.
-use Rattle.std.proofs.Common.{◌≡◌, ℕ, ◌+◌, ◌*◌, ◌<◌, ◌≤◌, Bool, true, false, List, length, take}
+use Rattle.std.proofs.Common.{◌≡◌, ℕ, ◌+◌, ◌*◌, ◌<◌, ◌≤◌, Bool, true, false, List, [], ◌∷◌, ◌++◌}
+use Rattle.std.proofs.Common.{length, take}
 use Rattle.std.proofs.Common.{Some, Result, Ok, Err, refl, sym, ap, subst, ◌∙◌, arith}
 use Rattle.std.specs.Prelude.{nat_le, slice_get, IfOk, option_map}
+use Rattle.std.proofs.lemmas.List.{take_more}
 use Rattle.std.proofs.lemmas.List.Elements.{All-from_recursion, All-get_or}
 use Rattle.std.proofs.lemmas.List.Folds.{list_all_at, list_all_more}
 use Rattle.std.specs.List.{AllByRecursion}
@@ -56,6 +58,17 @@ one_too_long descriptors subsets i s is test =
     let fits = λ (x : Subset). nat_le (octets_alone descriptors x) longest in
     list_all_at fits subsets i s (slice_get_within subsets i s is)
     (ap fits (get_or_from_slice_get subsets i s s is) ∙ test)
+
+-- ---- subsets that are built
+
+-- one subset more is behind the first so many
+pub one_more_built : (subsets built : List Subset) (i : ℕ) (s : Subset)
+    → slice_get subsets i ≡ Some s → built ≡ take i subsets
+    → built ++ s ∷ [] ≡ take (i + 1) subsets
+one_more_built subsets built i s is so_far =
+    ap (λ (l : List Subset). l ++ s ∷ []) so_far
+    ∙ ap (λ (x : Subset). take i subsets ++ x ∷ []) (sym (get_or_from_slice_get subsets i s s is))
+    ∙ sym (take_more subsets i s (slice_get_within subsets i s is))
 
 -- ---- reports
 

@@ -1,24 +1,45 @@
 //! Whether each subset of a message can be said alone in edition 4.
 
-ghost use Rattle.std.specs.Prelude.{◌≡◌, ◌+◌, ◌*◌, ◌<◌, ◌≤◌, ◌^◌, length, nat_le};
-ghost use Rattle.std.specs.Bool.{OnTrue};
+ghost use Rattle.std.specs.Prelude.{◌≡◌, ◌<◌, ◌^◌, length, nat_le, IfOk};
 ghost use Rattle.bufr_data.specs.Plain.{field_bits};
 ghost use Rattle.bufr_sections.specs.Spelt.{longest};
 ghost use Rattle.bufr_message.specs.Messages.{octets_alone, can_be_alone};
+ghost use Rattle.bufr_message.specs.Views.{AreReadFrom};
 
-use bufr_data::{Field, Raw, Subset};
-use bufr_sections::LONGEST;
+use bufr_answers::OutOfMemory;
+use bufr_data::laws::data_hold_subsets;
+use bufr_data::{Field, Raw, Subset, SubsetIndex};
+use bufr_sections::{Envelope, LONGEST};
 use bufr_tables::Fxy;
+use std::alloc::Global;
 
-/// Whether each of the subsets under these descriptors can be said alone.
-pub(crate) fn can_be_alone(descriptors: &[Fxy], subsets: &[Subset]) -> bool
-    ensures { result ≡ can_be_alone descriptors.now subsets.now }
+/// Whether each of the subsets, which stand in these sections under these descriptors, can be said
+/// alone. They are built one by one only where their octets are so many that one of them could be
+/// too long.
+pub(crate) fn can_be_alone(
+    alloc: Global,
+    descriptors: &[Fxy],
+    sections: &Envelope<'_>,
+    subsets: &SubsetIndex<'_>,
+) -> Result<bool, OutOfMemory>
+    requires { AreReadFrom sections.now.contents.now sections.now.compressed subsets.now }
+    ensures { IfOk result (λ b. b ≡ can_be_alone descriptors.now subsets.now) }
 {
-    subsets.iter().all(|subset| is_short(descriptors, subset))
+    data_hold_subsets();
+    if 45 + 2 * descriptors.len() as u128 + sections.contents.len() as u128 <= LONGEST {
+        return Ok(true);
+    }
+    for index in 0..subsets.count() {
+        let subset = subsets.subset(alloc, index + 1)?;
+        if !is_short(descriptors, &subset) {
+            return Ok(false);
+        }
+    }
+    Ok(true)
 }
 
 /// Whether the message of edition 4 that says this subset alone has 16,777,215 octets at most.
-pub(crate) fn is_short(descriptors: &[Fxy], subset: &Subset) -> bool
+fn is_short(descriptors: &[Fxy], subset: &Subset) -> bool
     ensures { result ≡ nat_le (octets_alone descriptors.now subset.now) longest }
 {
     let mut bits = 0u128;
@@ -29,14 +50,6 @@ pub(crate) fn is_short(descriptors: &[Fxy], subset: &Subset) -> bool
         }
     }
     45 + 2 * descriptors.len() as u128 + (bits + 7) / 8 <= LONGEST
-}
-
-/// Whether a subset with so many octets of plain data at most, under so many descriptors, is that
-/// short at any rate.
-pub(crate) fn are_short(descriptors: usize, octets: usize) -> bool
-    ensures { OnTrue result (45 + 2 * descriptors + octets ≤ longest) }
-{
-    45 + 2 * descriptors as u128 + octets as u128 <= LONGEST
 }
 
 /// How many bits a field has.

@@ -7,9 +7,9 @@ ghost use Rattle.bufr_sections.specs.Sections.{descriptors_of};
 ghost use Rattle.bufr_message.specs.Messages.{template_or};
 ghost use Rattle.bufr_message.specs.Kept.{AreOf, IsInFront};
 
-use crate::decoding::template_of;
 use bufr_answers::{Failure, Items};
 use bufr_data::DataTemplate;
+use bufr_expand::Template;
 use bufr_sections::{Refused, are_listed, descriptors_of};
 use bufr_tables::{Fxy, Tables};
 use std::alloc::Global;
@@ -28,17 +28,16 @@ pub(crate) struct Kept {
 }
 
 /// The descriptors that octets of section 3 list, with their template, which is built.
-pub(crate) fn kept_of(
-    alloc: Global,
-    tables: &Tables,
-    listed: &[u8],
-) -> Result<Kept, Failure<Refused>>
+fn kept_of(alloc: Global, tables: &Tables, listed: &[u8]) -> Result<Kept, Failure<Refused>>
     ensures list { IfOk result (λ k. k.descriptors.value ≡ descriptors_of listed.now) }
     ensures exact { Gives (λ k. k.template) result
         (template_or (template tables.now (descriptors_of listed.now))) }
 {
     let descriptors = descriptors_of(alloc, listed)?;
-    let template = template_of(alloc, tables, descriptors.as_slice())?;
+    let template = match Template::build(alloc, tables, descriptors.as_slice()) {
+        Ok(template) => template,
+        Err(failure) => return Err(failure.map(Refused::Template)),
+    };
     let descriptors = Rc::new(alloc, descriptors)?;
     Ok(Kept {
         descriptors,

@@ -12,13 +12,13 @@ ghost use Rattle.bufr_data.specs.Subsets.{filled};
 ghost use Rattle.bufr_sections.specs.Sections.{descriptors_of};
 ghost use Rattle.bufr_sections.specs.SectionsRead.{envelope, message_lent};
 ghost use Rattle.bufr_message.specs.Kept.{message_under};
-ghost use Rattle.bufr_message.specs.Messages.{data_or, message_of, can_be_alone, Spells};
+ghost use Rattle.bufr_message.specs.Messages.{data_or, Spells};
 ghost use Rattle.bufr_message.specs.OwnBits.{HaveRoom, spelt_alone};
 ghost use Rattle.bufr_message.specs.Reports.{reports_of, IsUnder};
 ghost use Rattle.bufr_message.specs.Views.{AreReadFrom};
 
-use crate::alone::{are_short, is_short};
-use crate::kept::{Kept, kept_of};
+use crate::alone::can_be_alone;
+use crate::kept::Kept;
 use crate::laws::reports_have_canonical_messages;
 use crate::own_bits::enclosed_alone;
 use crate::report::{Report, ReportHead, report_with};
@@ -26,8 +26,8 @@ use bufr_answers::{Failure, Items, OutOfMemory};
 use bufr_bits::{BitReader, BitSink};
 use bufr_data::laws::data_hold_subsets;
 use bufr_data::{DataTemplate, Fields, ReadFault, Subset, SubsetIndex};
-use bufr_sections::{Envelope, Head, LentSections, Refused, read_sections};
-use bufr_tables::{Fxy, Tables};
+use bufr_sections::{Decoded, Envelope, Head, LentSections, Message, Refused};
+use bufr_tables::Fxy;
 use std::alloc::Global;
 use std::marker::Model;
 use std::rc::Rc;
@@ -36,10 +36,7 @@ use std::rc::Rc;
 /// octets. Contracts see what `decode` answers.
 #[derive(Debug, Drop)]
 pub struct View<'a> {
-    head: Head,
-    section2: Option<Items<u8>>,
-    observed: bool,
-    compressed: bool,
+    sections: Envelope<'a>,
     descriptors: Rc<Items<Fxy>>,
     subsets: SubsetIndex<'a>,
     slack_octets: u64,
@@ -53,10 +50,10 @@ impl<'a> Model for View<'a> {
 
     ghost view = { λ v. record {
       message = record {
-        head = v.head;
-        section2 = v.section2;
-        observed = v.observed;
-        compressed = v.compressed;
+        head = v.sections.head;
+        section2 = v.sections.section2;
+        observed = v.sections.observed;
+        compressed = v.sections.compressed;
         descriptors = v.descriptors.value;
         subsets = v.subsets;
       };
@@ -86,7 +83,7 @@ impl<'a> View<'a> {
     pub fn head(&self) -> &Head
         ensures { result.now ≡ self.now.message.head }
     {
-        &self.head
+        &self.sections.head
     }
 
     /// What the sections say before the data, lent.
@@ -94,10 +91,10 @@ impl<'a> View<'a> {
         ensures { message_lent result self.now.message.subsets ≡ self.now.message }
     {
         LentSections {
-            head: &self.head,
-            section2: &self.section2,
-            observed: self.observed,
-            compressed: self.compressed,
+            head: &self.sections.head,
+            section2: &self.sections.section2,
+            observed: self.sections.observed,
+            compressed: self.sections.compressed,
             descriptors: self.descriptors.as_slice(),
         }
     }
@@ -136,8 +133,8 @@ impl<'a> View<'a> {
         let subset = self.subsets.subset(alloc, number)?;
         report_with(
             alloc,
-            &self.head,
-            self.observed,
+            &self.sections.head,
+            self.sections.observed,
             self.descriptors.as_slice(),
             subset,
         )
@@ -153,14 +150,47 @@ impl<'a> View<'a> {
             option_map spelt_alone (slice_get (reports_of self.now.message) (number - 1))
             ≡ Some (option_map (λ v. v.items) found)) }
     {
-        let head = ReportHead::of_head(&self.head);
+        let head = ReportHead::of_head(&self.sections.head);
+        let observed = self.sections.observed;
         let descriptors = self.descriptors.as_slice();
         if let Some(contents) = self.subsets.lent(number) {
-            return enclosed_alone(alloc, &head, self.observed, descriptors, contents);
+            return enclosed_alone(alloc, &head, observed, descriptors, contents);
         }
         let contents = contents_alone(alloc, &self.subsets, number)?;
-        enclosed_alone(alloc, &head, self.observed, descriptors, &contents)
+        enclosed_alone(alloc, &head, observed, descriptors, &contents)
     }
+
+    /// The message, with all its subsets built. It can only run out of memory; the view is then
+    /// gone.
+    pub(crate) fn into_decoded(self, alloc: Global) -> Result<Decoded, OutOfMemory>
+        ensures { IfOk result (λ d. d ≡ self.entry) }
+    {
+        let subsets = all_subsets(alloc, &self.subsets)?;
+        let descriptors = Vec::from_slice(alloc, self.descriptors.as_slice())?;
+        let message = Message {
+            head: self.sections.head,
+            section2: self.sections.section2,
+            observed: self.sections.observed,
+            compressed: self.sections.compressed,
+            descriptors: Items::from_vec(descriptors),
+            subsets,
+        };
+        Ok(Decoded {
+            message,
+            slack_octets: self.slack_octets,
+        })
+    }
+}
+
+/// All subsets, from the first on. It can only run out of memory.
+fn all_subsets(alloc: Global, subsets: &SubsetIndex<'_>) -> Result<Items<Subset>, OutOfMemory>
+    ensures { IfOk result (λ built. built ≡ subsets.now) }
+{
+    let mut built = Vec::with_capacity(alloc, subsets.count())?;
+    for index in 0..subsets.count() {
+        built.push(subsets.subset(alloc, index + 1)?)?;
+    }
+    Ok(Items::from_vec(built))
 }
 
 /// How many octets of a subset are given room before any is put: most have fewer.
@@ -184,20 +214,6 @@ fn contents_alone(
     Ok(sink.into_bytes())
 }
 
-/// The message that octets spell: the one clause from which `view` has its others.
-#[tactic(auto, unfolding(crate::specs::Messages::message_of, crate::specs::Messages::message_in))]
-pub(crate) fn view_of<'a>(
-    alloc: Global,
-    tables: &Tables,
-    octets: &'a [u8],
-) -> Result<View<'a>, Failure<Refused>>
-    ensures { Gives (λ d. d) result (message_of tables.now octets.now) }
-{
-    let sections = read_sections(alloc, octets)?;
-    let mut kept = kept_of(alloc, tables, sections.listed)?;
-    view_in(alloc, &mut kept, sections)
-}
-
 /// The message of sections, whose descriptors are this list with its template.
 pub(crate) fn view_in<'a>(
     alloc: Global,
@@ -209,93 +225,39 @@ pub(crate) fn view_in<'a>(
         (message_under kept.old.template (envelope sections.entry)) }
     ensures same { kept.new ≡ kept.old }
 {
-    let Envelope {
-        head,
-        section2,
-        observed,
-        compressed,
-        listed: _,
-        count,
-        contents,
-    } = sections;
     let descriptors = kept.descriptors.clone()?;
-    let (subsets, slack_octets) = index_of(alloc, &mut kept.template, compressed, count, contents)?;
-    if !can_be_alone(
-        alloc,
-        descriptors.as_slice(),
-        compressed,
-        contents,
-        &subsets,
-    )? {
+    let (subsets, slack_octets) = index_of(alloc, &mut kept.template, &sections)?;
+    if !can_be_alone(alloc, descriptors.as_slice(), &sections, &subsets)? {
         return Err(Failure::Fault(Refused::Data(ReadFault::TooLarge)));
     }
     Ok(View {
-        head,
-        section2,
-        observed,
-        compressed,
+        sections,
         descriptors,
         subsets,
         slack_octets,
     })
 }
 
-/// So many subsets at the front of the octets behind the fourth of section 4, and how many octets
-/// stand after their bits.
+/// The subsets at the front of the octets behind the fourth of section 4, and how many octets stand
+/// after their bits.
 fn index_of<'a>(
     alloc: Global,
     template: &mut DataTemplate,
-    compressed: bool,
-    count: u16,
-    contents: &'a [u8],
+    sections: &Envelope<'a>,
 ) -> Result<(SubsetIndex<'a>, u64), Failure<Refused>>
     ensures exact { Gives {Y = List Subset × ℕ} (λ x. (x.0, x.1)) result
         (data_or (result_map (λ found. (found.0, length found.1 / 8))
-        (subsets_in template.old compressed count (bits contents.now)))) }
-    ensures stand { IfOk result (λ x. AreReadFrom contents.now compressed x.0) }
+        (subsets_in template.old sections.now.compressed sections.now.count
+        (bits sections.now.contents.now)))) }
+    ensures stand { IfOk result (λ x.
+        AreReadFrom sections.now.contents.now sections.now.compressed x.0) }
     ensures room { IfOk result (λ x. HaveRoom x.0) }
     ensures same { template.new ≡ template.old }
 {
     data_hold_subsets();
-    let mut reader = BitReader::new(contents);
-    match template.index(alloc, compressed, &mut reader, count) {
+    let mut reader = BitReader::new(sections.contents);
+    match template.index(alloc, sections.compressed, &mut reader, sections.count) {
         Ok(subsets) => Ok((subsets, (reader.left() / 8) as u64)),
         Err(failure) => Err(failure.map(Refused::Data)),
     }
-}
-
-/// Whether each of the subsets, which stand at the front of these octets, can be said alone. They
-/// are built one by one only where the octets are so many that one of them could be too long.
-fn can_be_alone(
-    alloc: Global,
-    descriptors: &[Fxy],
-    compressed: bool,
-    contents: &[u8],
-    subsets: &SubsetIndex,
-) -> Result<bool, OutOfMemory>
-    requires { AreReadFrom contents.now compressed subsets.now }
-    ensures { IfOk result (λ b. b ≡ can_be_alone descriptors.now subsets.now) }
-{
-    data_hold_subsets();
-    if are_short(descriptors.len(), contents.len()) {
-        return Ok(true);
-    }
-    each_is_short(alloc, descriptors, subsets)
-}
-
-/// The same, subset by subset.
-fn each_is_short(
-    alloc: Global,
-    descriptors: &[Fxy],
-    subsets: &SubsetIndex,
-) -> Result<bool, OutOfMemory>
-    ensures { IfOk result (λ b. b ≡ can_be_alone descriptors.now subsets.now) }
-{
-    for index in 0..subsets.count() {
-        let subset = subsets.subset(alloc, index + 1)?;
-        if !is_short(descriptors, &subset) {
-            return Ok(false);
-        }
-    }
-    Ok(true)
 }

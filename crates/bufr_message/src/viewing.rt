@@ -5,8 +5,8 @@ ghost use Rattle.bufr_answers.specs.Answers.{Gives};
 ghost use Rattle.bufr_sections.specs.declared.message.Message.{Message};
 ghost use Rattle.bufr_message.specs.Messages.{Spells, message_of};
 
-use crate::laws::messages_are_spelt;
-use crate::message_view::{View, view_of};
+use crate::message_view::View;
+use crate::templates::Templates;
 use bufr_answers::Failure;
 use bufr_sections::Refused;
 use bufr_tables::Tables;
@@ -27,6 +27,5 @@ pub fn view<'a>(
     // Which message, or which fault, it is.
     ensures exact { Gives (λ d. d) result (message_of tables.now octets.now) }
 {
-    messages_are_spelt();
-    view_of(alloc, tables, octets)
+    Templates::new(alloc, tables).view(alloc, octets)
 }

@@ -10,9 +10,9 @@ pub returns-in-Ok-clause-stand : goal.returns-in-Ok-clause-stand
 returns-in-Ok-clause-stand c =
     let front = ap left c.new-reader.ensures in (
       c.args.template.now,
-      c.args.count,
+      c.args.sections.now.count,
       _,
-      ap (subsets_in c.args.template.now c.args.compressed c.args.count) (sym front)
+      ap (subsets_in c.args.template.now c.args.sections.now.compressed c.args.sections.now.count) (sym front)
           ∙ c.in-Ok.ensures.exact,
     )
 
@@ -20,11 +20,11 @@ returns-in-Ok-clause-stand c =
 pub returns-in-Ok-clause-room : goal.returns-in-Ok-clause-room
 returns-in-Ok-clause-room c =
     let front = ap left c.new-reader.ensures in
-    rooms_read c.data_hold_subsets.ensures.read c.args.contents.now c.args.compressed
+    rooms_read c.data_hold_subsets.ensures.read c.args.sections.now.contents.now c.args.sections.now.compressed
     c.in-Ok.subsets (
       c.args.template.now,
-      c.args.count,
+      c.args.sections.now.count,
       _,
-      ap (subsets_in c.args.template.now c.args.compressed c.args.count) (sym front)
+      ap (subsets_in c.args.template.now c.args.sections.now.compressed c.args.sections.now.count) (sym front)
           ∙ c.in-Ok.ensures.exact,
     )

@@ -10,10 +10,10 @@ returns-in-Some c =
     let v = c.self.inside in
     let m : Message =
     record {
-      head = v.head;
-      section2 = v.section2;
-      observed = v.observed;
-      compressed = v.compressed;
+      head = v.sections.head;
+      section2 = v.sections.section2;
+      observed = v.sections.observed;
+      compressed = v.sections.compressed;
       descriptors = v.descriptors.value;
       subsets = v.subsets;
     } in
@@ -31,10 +31,10 @@ returns c =
     let v = c.self.inside in
     let m : Message =
     record {
-      head = v.head;
-      section2 = v.section2;
-      observed = v.observed;
-      compressed = v.compressed;
+      head = v.sections.head;
+      section2 = v.sections.section2;
+      observed = v.sections.observed;
+      compressed = v.sections.compressed;
       descriptors = v.descriptors.value;
       subsets = v.subsets;
     } in

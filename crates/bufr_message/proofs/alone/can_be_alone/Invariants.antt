@@ -1,7 +1,7 @@
--- For `each_is_short`: what its loop keeps.
+-- For `can_be_alone`: what its loop keeps.
 use Rattle.std.proofs.Common.{◌≡◌, true, take}
 use Rattle.bufr_message.specs.Messages.{can_be_alone}
-use Rattle.bufr_message.proofs.message_view.each_is_short.Given as goal
+use Rattle.bufr_message.proofs.alone.can_be_alone.Given as goal
 
 -- each of the subsets so far can be said alone
 abbrev pub invariant-loop-index : goal.invariant-loop-index

@@ -1,8 +1,16 @@
--- For `each_is_short`: the subsets can each be said alone where each one can.
+-- For `can_be_alone`: subsets in few octets need not be built, and else each one is asked.
 use Rattle.std.proofs.Common.{◌≡◌, ◌<◌, ◌+◌, ◌-◌, length, ◌∙◌, sym, ap, arith}
 use Rattle.std.specs.Prelude.{slice_get}
-use Rattle.bufr_message.proofs.ViewFacts.{one_more_short, one_too_long}
-use Rattle.bufr_message.proofs.message_view.each_is_short.Goals as goal
+use Rattle.bufr_message.proofs.ViewFacts.{few_octets, one_more_short, one_too_long}
+use Rattle.bufr_message.proofs.alone.can_be_alone.Goals as goal
+
+-- subsets that stand in so few octets can each be said alone
+pub returns-then-descriptors-sections-le-LONGEST :
+    goal.returns-then-descriptors-sections-le-LONGEST
+returns-then-descriptors-sections-le-LONGEST c =
+    sym (few_octets c.data_hold_subsets.ensures.read c.args.sections.now.contents.now
+    c.args.sections.now.compressed
+    c.args.descriptors.now c.args.subsets.now c.requires (omega arith))
 
 -- with one subset too long, not each can be said alone
 pub returns-then-not-is_short : goal.returns-then-not-is_short

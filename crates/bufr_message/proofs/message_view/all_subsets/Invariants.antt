@@ -1,0 +1,7 @@
+-- For `all_subsets`: what its loop keeps.
+use Rattle.std.proofs.Common.{◌≡◌, take}
+use Rattle.bufr_message.proofs.message_view.all_subsets.Given as goal
+
+-- the subsets that were built are the first so many
+abbrev pub invariant-loop-index : goal.invariant-loop-index
+invariant-loop-index l = l.built.items ≡ take l.index l.subsets
