@@ -2,7 +2,7 @@
 -- messages that are read.
 use Rattle.bufr_answers.specs.Answers.{Gives}
 use Rattle.bufr_answers.specs.declared.failure.Failure.{Failure}
-use Rattle.std.proofs.Common.{◌≡◌, ℕ, ◌/◌, Bool, true, List, length, Result, Ok, Err, refl, sym, ap}
+use Rattle.std.proofs.Common.{◌≡◌, ℕ, ◌/◌, Bool, true, List, length, Result, Ok, refl, sym, ap}
 use Rattle.std.proofs.Common.{subst, ◌∙◌}
 use Rattle.bufr_bits.specs.Bits.{bits}
 use Rattle.bufr_tables.specs.Entries.{Entries}
