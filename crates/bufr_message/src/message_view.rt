@@ -1,21 +1,18 @@
 //! Messages whose reports are built one at a time.
 
-ghost use Rattle.std.specs.Prelude.{◌≡◌, ℕ, ◌-◌, ◌/◌, ◌≤◌, List, Bool, length, slice_get, Some, IfOk};
+ghost use Rattle.std.specs.Prelude.{◌≡◌, ℕ, ◌-◌, ◌≤◌, List, length, slice_get, Some, IfOk};
 ghost use Rattle.std.specs.Prelude.{IfSome, option_map};
 ghost use Rattle.bufr_bits.specs.Bits.{bits};
-ghost use Rattle.bufr_answers.specs.Answers.{Gives, result_map};
+ghost use Rattle.bufr_answers.specs.Answers.{Gives};
 ghost use Rattle.bufr_tables.specs.Entries.{Entries};
-ghost use Rattle.bufr_data.specs.declared.field.Subset.{Subset};
-ghost use Rattle.bufr_data.specs.Data.{subsets_in};
 ghost use Rattle.bufr_data.specs.Plain.{plain};
 ghost use Rattle.bufr_data.specs.Subsets.{filled};
 ghost use Rattle.bufr_sections.specs.Sections.{descriptors_of};
 ghost use Rattle.bufr_sections.specs.SectionsRead.{envelope, message_lent};
 ghost use Rattle.bufr_message.specs.Kept.{message_under};
-ghost use Rattle.bufr_message.specs.Messages.{data_or, Spells};
-ghost use Rattle.bufr_message.specs.OwnBits.{HaveRoom, spelt_alone};
+ghost use Rattle.bufr_message.specs.Messages.{Spells};
+ghost use Rattle.bufr_message.specs.OwnBits.{spelt_alone};
 ghost use Rattle.bufr_message.specs.Reports.{reports_of, IsUnder};
-ghost use Rattle.bufr_message.specs.Views.{AreReadFrom};
 
 use crate::alone::can_be_alone;
 use crate::kept::Kept;
@@ -25,7 +22,7 @@ use crate::report::{Report, ReportHead, report_with};
 use bufr_answers::{Failure, Items, OutOfMemory};
 use bufr_bits::{BitReader, BitSink};
 use bufr_data::laws::data_hold_subsets;
-use bufr_data::{DataTemplate, Fields, ReadFault, Subset, SubsetIndex};
+use bufr_data::{Fields, ReadFault, Subset, SubsetIndex};
 use bufr_sections::{Decoded, Envelope, Head, LentSections, Message, Refused};
 use bufr_tables::Fxy;
 use std::alloc::Global;
@@ -225,8 +222,15 @@ pub(crate) fn view_in<'a>(
         (message_under kept.old.template (envelope sections.entry)) }
     ensures same { kept.new ≡ kept.old }
 {
+    data_hold_subsets();
     let descriptors = kept.descriptors.clone()?;
-    let (subsets, slack_octets) = index_of(alloc, &mut kept.template, &sections)?;
+    let mut reader = BitReader::new(sections.contents);
+    let (compressed, count) = (sections.compressed, sections.count);
+    let subsets = match kept.template.index(alloc, compressed, &mut reader, count) {
+        Ok(subsets) => subsets,
+        Err(failure) => return Err(failure.map(Refused::Data)),
+    };
+    let slack_octets = (reader.left() / 8) as u64;
     if !can_be_alone(alloc, descriptors.as_slice(), &sections, &subsets)? {
         return Err(Failure::Fault(Refused::Data(ReadFault::TooLarge)));
     }
@@ -236,28 +240,4 @@ pub(crate) fn view_in<'a>(
         subsets,
         slack_octets,
     })
-}
-
-/// The subsets at the front of the octets behind the fourth of section 4, and how many octets stand
-/// after their bits.
-fn index_of<'a>(
-    alloc: Global,
-    template: &mut DataTemplate,
-    sections: &Envelope<'a>,
-) -> Result<(SubsetIndex<'a>, u64), Failure<Refused>>
-    ensures exact { Gives {Y = List Subset × ℕ} (λ x. (x.0, x.1)) result
-        (data_or (result_map (λ found. (found.0, length found.1 / 8))
-        (subsets_in template.old sections.now.compressed sections.now.count
-        (bits sections.now.contents.now)))) }
-    ensures stand { IfOk result (λ x.
-        AreReadFrom sections.now.contents.now sections.now.compressed x.0) }
-    ensures room { IfOk result (λ x. HaveRoom x.0) }
-    ensures same { template.new ≡ template.old }
-{
-    data_hold_subsets();
-    let mut reader = BitReader::new(sections.contents);
-    match template.index(alloc, sections.compressed, &mut reader, sections.count) {
-        Ok(subsets) => Ok((subsets, (reader.left() / 8) as u64)),
-        Err(failure) => Err(failure.map(Refused::Data)),
-    }
 }
