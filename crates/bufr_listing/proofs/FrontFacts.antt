@@ -1,5 +1,5 @@
 -- A text that was added to begins with what it was, also where memory ran out on the way: for
--- `push_lines` and `push_quoted`, and so for `push_subset`.
+-- `push_subset`, `push_field` and `push_quoted`.
 use Rattle.std.proofs.Common.{◌≡◌, List, ◌++◌, length, take, drop, Result, Ok, Err, OnErr, OnOk, sym, ap}
 use Rattle.std.proofs.Common.{◌∙◌, ℕ, append_assoc}
 use Rattle.std.proofs.lemmas.List.{take-append-drop}
@@ -14,6 +14,17 @@ front_kept text longer now more is kept =
     sym (take-append-drop (length longer) now) ∙ ap (λ z. z ++ rest) (kept ∙ is)
     ∙ append_assoc text more rest in
     ap (λ z. take (length text) z) whole ∙ take-append_seam text (more ++ rest)
+
+-- cut back to what it was, where what was added last failed and left all as it was
+pub cut_back : {A E : Type 0} (r : Result A E) (old first mid more last now cut : List ℕ) (n : ℕ)
+    → n ≡ length old → mid ≡ old ++ first → last ≡ mid ++ more → OnErr r (now ≡ last)
+    → cut ≡ take n now → OnErr r (cut ≡ old)
+cut_back (Ok a) old first mid more last now cut n len p q h is = tt
+cut_back (Err e) old first mid more last now cut n len p q h is =
+    is ∙ (λ i. take (len i) (h i))
+    ∙ ap (λ z. take (length old) z)
+    (q ∙ ap (λ z. z ++ more) p ∙ append_assoc old first more)
+    ∙ take-append_seam old (first ++ more)
 
 -- what holds is told of an error
 pub on_err : {A E : Type 0} (X : Type 0) (r : Result A E) → X → OnErr r X

@@ -1,16 +1,18 @@
 -- Lines with their ends, joined: the parts of a listing as the writers write them, one behind the
--- other. For `push_heading`, `push_local`, `push_section2`, `push_descriptors` and `push_subset`,
--- by which `heading_text`, `subset_text` and `text_of` write, for `text_of` and for the laws
+-- other. For `heading_text`, `push_descriptors` and `push_subset`, for `text_of` and for the laws
 -- `listings_are_joined_parts`, `subsets_are_joined_lines` and `listings_are_read_back`.
-use Rattle.std.proofs.Common.{◌≡◌, ◌<◌, ℕ, List, [], ◌∷◌, ◌++◌, length, map, codes, refl, sym, ap}
-use Rattle.std.proofs.Common.{◌∙◌, arith, append_assoc}
+use Rattle.std.proofs.Common.{◌≡◌, ℕ, List, [], ◌∷◌, ◌++◌, map, codes, refl, sym, ap}
+use Rattle.std.proofs.Common.{◌∙◌, append_assoc}
 use Rattle.std.specs.List.{flat_map}
 use Rattle.std.proofs.lemmas.Grind.{flat_map-append}
 use Rattle.std.proofs.lemmas.List.{append-nil}
 use Rattle.bufr_data.specs.declared.field.Field.{Field}
 use Rattle.bufr_data.specs.declared.field.Subset.{Subset}
 use Rattle.bufr_sections.specs.declared.message.Message.{Message}
-use Rattle.bufr_listing.specs.Listings.{words, line, joined, octets_line, section1_line, time_line}
+use Rattle.std.specs.Prelude.{Option, Some, None}
+use Rattle.bufr_listing.specs.Listings.{words, line, joined, octets_line}
+use Rattle.bufr_listing.specs.OctetLines.{octets_text}
+use Rattle.bufr_listing.specs.Listings.{section1_line, time_line}
 use Rattle.bufr_listing.specs.Listings.{local_lines, section2_lines, flags_line, descriptors_line}
 use Rattle.bufr_listing.specs.Listings.{heading_lines, field_line}
 use Rattle.bufr_listing.specs.Listings.{subset_line, subset_lines, end_line, lines_of, listing}
@@ -23,11 +25,18 @@ joined_append (x ∷ xs) ys = ap (λ zs. line x ++ zs) (joined_append xs ys)
 
 -- ---- the lines before the first subset
 
--- the line of octets for local use, where there are any
-pub local_line_is : (local : List ℕ) → 0 < length local
-    → line (octets_line (codes "local1") local) ≡ joined (local_lines local)
-local_line_is [] h = absurd (omega arith)
-local_line_is (x ∷ xs) h = sym (append-nil (line (octets_line (codes "local1") (x ∷ xs))))
+-- the text of the octets for local use is their line, where there are any
+pub local_text : (local : List ℕ) → octets_text (codes "local1") [] (Some local)
+    ≡ joined (local_lines local)
+local_text [] = refl
+local_text (x ∷ xs) = sym (append-nil (line (octets_line (codes "local1") (x ∷ xs))))
+
+-- that of a section 2 is its line, where there is one
+pub section2_text : (octets : Option (List ℕ))
+    → octets_text (codes "section2") (codes "section2\n") octets ≡ joined (section2_lines octets)
+section2_text None = refl
+section2_text (Some []) = refl
+section2_text (Some (x ∷ xs)) = sym (append-nil (line (octets_line (codes "section2") (x ∷ xs))))
 
 -- words behind spaces
 spaced_joined : (f : ℕ → List ℕ) (ns : List ℕ)

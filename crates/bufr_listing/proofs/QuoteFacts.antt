@@ -1,6 +1,7 @@
--- What stands for a value, and octets between quotes that stand for themselves: for `push_words`
--- and `push_characters`.
-use Rattle.std.proofs.Common.{◌≡◌, ℕ, List, [], ◌∷◌, ◌++◌, refl, ap, ◌∙◌, Result, Ok, Err, OnOk, codes}
+-- What stands for a value, and octets between quotes that stand for themselves: for `push_value`
+-- and `push_quoted`.
+use Rattle.std.proofs.Common.{◌≡◌, ℕ, List, [], ◌∷◌, ◌++◌, refl, ap, sym, ◌∙◌, Result, Ok, Err, OnOk}
+use Rattle.std.proofs.Common.{codes, append_assoc}
 use Rattle.std.specs.Prelude.{Bool, true, false, ◌&&◌, if◌then◌else◌, is_ok, Option, Some, None}
 use Rattle.std.specs.List.{flat_map, list_all}
 use Rattle.bufr_tables.specs.declared.element.Kind.{Kind}
@@ -75,6 +76,16 @@ printed_themselves (c ∷ cs) h =
     let first = both_first (stands_for_itself c) (list_all stands_for_itself cs) h in
     let rest = both_second (stands_for_itself c) (list_all stands_for_itself cs) h in
     (λ i. printed_itself c first i ++ printed_themselves cs rest i)
+
+-- what is added between quotes, and the line's end
+pub between_quotes : (old first mid octets printed : List ℕ) → octets ≡ printed
+    → first ≡ old ++ 34 ∷ [] → mid ≡ first ++ octets
+    → mid ++ 34 ∷ 10 ∷ [] ≡ old ++ ((34 ∷ printed ++ 34 ∷ []) ++ 10 ∷ [])
+between_quotes old first mid octets printed same p q =
+    (λ i. (q ∙ (λ j. p j ++ same j)) i ++ 34 ∷ 10 ∷ [])
+    ∙ append_assoc (old ++ 34 ∷ []) printed (34 ∷ 10 ∷ [])
+    ∙ append_assoc old (34 ∷ []) (printed ++ 34 ∷ 10 ∷ [])
+    ∙ ap (λ z. old ++ 34 ∷ z) (sym (append_assoc printed (34 ∷ []) (10 ∷ [])))
 
 -- what is added where all goes well
 pub on_ok_same : {A E : Type 0} (r : Result A E) (new a b c : List ℕ)

@@ -1,7 +1,7 @@
--- Rows that the digits of numbers are written into, up to the line's end: for `push_digits`,
--- `put_number` and `push_numbers`.
+-- Rows that the digits of numbers are written into, up to the line's end: for `push_digits`
+-- and `push_numbers`.
 use Rattle.std.proofs.Common.{◌≡◌, ℕ, zero, suc, pos, ◌+◌, ◌-◌, ◌<◌, ◌≤◌, List, [], ◌∷◌, ◌++◌}
-use Rattle.std.proofs.Common.{◌∙◌, ◌^◌, length, take, drop, replicate, set, min, decimal, refl, ap}
+use Rattle.std.proofs.Common.{◌∙◌, ◌^◌, ◌*◌, length, take, drop, replicate, set, min, decimal, refl, ap}
 use Rattle.std.proofs.Common.{sym, map, get_or, arith, append_assoc}
 use Rattle.std.specs.List.{flat_map}
 use Rattle.std.proofs.lemmas.List.{take-append-drop, take-append-le, take-replicate, take_all}
@@ -104,7 +104,7 @@ room_before n first end small room all =
     (omega arith, omega arith, omega arith)
 
 -- a space that is put before a number
-pub space_put : (row rest : List ℕ) (n first : ℕ) → 1 ≤ first → first ≤ length row
+space_put : (row rest : List ℕ) (n first : ℕ) → 1 ≤ first → first ≤ length row
     → drop first row ≡ decimal n ++ rest
     → drop (first - 1) (set row (first - 1) 32) ≡ 32 ∷ decimal n ++ rest
 space_put row rest n first some within behind =
@@ -113,7 +113,7 @@ space_put row rest n first some within behind =
     ∙ ap (λ zs. 32 ∷ zs) (ap (λ k. drop k row) next ∙ behind)
 
 -- a number more stands before those that are behind it
-pub number_before : (row rest ns : List ℕ) (k : ℕ) → 0 < k → k ≤ length ns
+number_before : (row rest ns : List ℕ) (k : ℕ) → 0 < k → k ≤ length ns
     → row ≡ 32 ∷ decimal (get_or ns (k - 1) 0) ++ rest
     → rest ≡ flat_map spaced_number (drop k ns) ++ 10 ∷ []
     → row ≡ flat_map spaced_number (drop (k - 1) ns) ++ 10 ∷ []
@@ -125,6 +125,24 @@ number_before row rest ns k some within is behind =
     is ∙ ap (λ zs. spaced_number number ++ zs) behind
     ∙ sym (append_assoc (spaced_number number) (flat_map spaced_number (drop k ns)) (10 ∷ []))
     ∙ ap (λ zs. flat_map spaced_number zs ++ 10 ∷ []) (sym parts)
+
+-- so a number more, behind a space, leaves room for those that are left
+pub number_put : (old new ns : List ℕ) (k end first n : ℕ) → 0 < k → k ≤ length ns
+    → drop end old ≡ flat_map spaced_number (drop k ns) ++ 10 ∷ []
+    → 6 * k ≤ end → end ≤ 48 → n ≡ get_or ns (k - 1) 0 → n < 2 ^ 16 → length new ≡ 49
+    → first + length (decimal n) ≡ end → drop first new ≡ decimal n ++ drop end old
+    → (drop (first - 1) (set new (first - 1) 32)
+    ≡ flat_map spaced_number (drop (k - 1) ns) ++ 10 ∷ [])
+    × (6 * (k - 1) ≤ first - 1) × (first - 1 ≤ 48) × (k - 1 ≤ length ns)
+number_put old new ns k end first n some within behind low high is small long all written =
+    let room = room_before n first end small (omega arith) all in
+    let put = space_put new (drop end old) n first room.0 (omega (arith, long)) written in (
+      number_before _ _ ns k some within
+          (put ∙ ap (λ m. 32 ∷ decimal m ++ drop end old) is) behind,
+      omega (arith, room.2),
+      omega (arith, room.1),
+      omega arith,
+    )
 
 -- the numbers of a row behind their first word are their line
 pub numbers_written : (old mid title row ns : List ℕ) (first left : ℕ) → length row ≡ 49

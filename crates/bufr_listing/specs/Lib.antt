@@ -1,4 +1,5 @@
 pub mod Listings
+pub mod OctetLines
 pub mod Limits
 pub mod Lines
 pub mod FieldLines

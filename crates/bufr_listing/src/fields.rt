@@ -1,11 +1,8 @@
 //! The lines of fields.
 
-ghost use Rattle.std.specs.Prelude.{◌≡◌, ◌≤◌, ◌∷◌, ◌++◌, [], length, take, pos, None, OnOk};
-ghost use Rattle.std.specs.Prelude.{OnErr};
-ghost use Rattle.std.specs.List.{flat_map, list_all};
-ghost use Rattle.hex.specs.Hex.{encode_lower};
+ghost use Rattle.std.specs.Prelude.{◌≡◌, ◌≤◌, ◌∷◌, ◌++◌, [], length, take, pos, OnOk, OnErr};
 ghost use Rattle.bufr_tables.specs.Descriptors.{six_digits};
-ghost use Rattle.bufr_data.specs.Values.{digits_by, sign_of, text_of, value};
+ghost use Rattle.bufr_data.specs.Values.{digits_by, text_of};
 ghost use Rattle.bufr_listing.specs.Listings as listings;
 ghost use Rattle.bufr_listing.specs.Listings.{line, joined, quoted_octet, quoted};
 ghost use Rattle.bufr_listing.specs.Listings.{value_word, field_line, subset_line, subset_lines};
@@ -23,16 +20,20 @@ const MOST_PLACES: i32 = 20;
 const ROW_END: usize = 31;
 
 /// Adds the lines of a subset to octets. Where memory runs out they are as they were.
-pub fn push_subset(_alloc: Global, text: &mut Vec<u8>, subset: &Subset) -> Result<(), OutOfMemory>
+pub fn push_subset(alloc: Global, text: &mut Vec<u8>, subset: &Subset) -> Result<(), OutOfMemory>
     ensures ok { OnOk result (text.new.items ≡ text.old.items ++ joined (subset_lines subset.now)) }
     ensures err { OnErr result (text.new.items ≡ text.old.items) }
 {
     let held = text.len();
-    let added = push_lines(text, subset);
-    if added.is_err() {
-        text.truncate(held);
+    push_subset_line(text)?;
+    for field in subset.fields.as_slice() {
+        let added = push_field(alloc, text, field);
+        if added.is_err() {
+            text.truncate(held);
+            return added;
+        }
     }
-    added
+    Ok(())
 }
 
 /// Adds the first line of a subset to octets. With the line of each field behind it they are the
@@ -50,37 +51,12 @@ pub fn push_field(_alloc: Global, text: &mut Vec<u8>, field: &Field) -> Result<(
     ensures err { OnErr result (text.new.items ≡ text.old.items) }
 {
     let held = text.len();
-    let added = push_words(text, field);
+    text.extend_from_slice(&title(field.fxy))?;
+    let added = push_value(text, field);
     if added.is_err() {
         text.truncate(held);
     }
     added
-}
-
-// What follows adds to octets, and only a part where memory runs out.
-
-/// Adds the lines of a subset.
-fn push_lines(text: &mut Vec<u8>, subset: &Subset) -> Result<(), OutOfMemory>
-    ensures ok { OnOk result (text.new.items ≡ text.old.items ++ joined (subset_lines subset.now)) }
-    ensures kept { OnErr result (take (length text.old.items) text.new.items ≡ text.old.items) }
-{
-    push_subset_line(text)?;
-    for field in subset.fields.as_slice() {
-        push_words(text, field)?;
-    }
-    Ok(())
-}
-
-/// Adds the line of a field.
-fn push_words(text: &mut Vec<u8>, field: &Field) -> Result<(), OutOfMemory>
-    ensures ok { OnOk result (text.new.items ≡ text.old.items ++ line (field_line field.now)) }
-    ensures kept { OnErr result (take (length text.old.items) text.new.items ≡ text.old.items) }
-{
-    text.extend_from_slice(&title(field.fxy))?;
-    match field.value() {
-        Some(number) => push_number(text, number),
-        None => push_other(text, field),
-    }
 }
 
 /// The six digits of a descriptor and a space.
@@ -91,6 +67,23 @@ pub fn title(fxy: Fxy) -> [u8; 7]
     [
         digits[0], digits[1], digits[2], digits[3], digits[4], digits[5], b' ',
     ]
+}
+
+// What follows adds to octets, and only a part where memory runs out.
+
+/// Adds what stands for the value of a field, and the line's end.
+fn push_value(text: &mut Vec<u8>, field: &Field) -> Result<(), OutOfMemory>
+    ensures ok { OnOk result (text.new.items ≡ text.old.items ++ line (value_word field.now)) }
+    ensures kept { OnErr result (take (length text.old.items) text.new.items ≡ text.old.items) }
+{
+    match field.value() {
+        Some(number) => push_number(text, number),
+        None if field.is_missing() => text.extend_from_slice(b"missing\n"),
+        None => match &field.raw {
+            Raw::Number(_) => text.extend_from_slice(b"\n"),
+            Raw::Text(octets) => push_quoted(text, octets.as_slice()),
+        },
+    }
 }
 
 /// Adds a number and the line's end.
@@ -129,81 +122,43 @@ fn push_digits(text: &mut Vec<u8>, size: u64, places: usize) -> Result<(), OutOf
     text.extend_from_slice(&row[point - 1..])
 }
 
-/// Adds what stands for a field with no value of a number, and the line's end.
-fn push_other(text: &mut Vec<u8>, field: &Field) -> Result<(), OutOfMemory>
-    requires { value field.now ≡ None }
-    ensures ok { OnOk result (text.new.items ≡ text.old.items ++ line (value_word field.now)) }
-    ensures kept { OnErr result (take (length text.old.items) text.new.items ≡ text.old.items) }
-{
-    if field.is_missing() {
-        return text.extend_from_slice(b"missing\n");
-    }
-    match &field.raw {
-        Raw::Number(_) => text.extend_from_slice(b"\n"),
-        Raw::Text(octets) => push_quoted(text, octets.as_slice()),
-    }
-}
-
 /// Adds characters between quotes and the line's end.
 fn push_quoted(text: &mut Vec<u8>, octets: &[u8]) -> Result<(), OutOfMemory>
     ensures ok { OnOk result (text.new.items ≡ text.old.items ++ line (quoted octets.now)) }
     ensures kept { OnErr result (take (length text.old.items) text.new.items ≡ text.old.items) }
 {
     text.push(b'"')?;
-    push_characters(text, octets)?;
-    text.extend_from_slice(b"\"\n")
-}
-
-/// Adds characters as they stand between quotes.
-fn push_characters(text: &mut Vec<u8>, octets: &[u8]) -> Result<(), OutOfMemory>
-    ensures ok { OnOk result (text.new.items
-        ≡ text.old.items ++ flat_map quoted_octet octets.now) }
-    ensures kept { OnErr result (take (length text.old.items) text.new.items ≡ text.old.items) }
-{
-    if are_printed(octets) {
-        return text.extend_from_slice(octets);
+    if octets.iter().all(|octet| stands_for_itself(*octet)) {
+        text.extend_from_slice(octets)?;
+        return text.extend_from_slice(b"\"\n");
     }
     for octet in octets {
         push_octet(text, *octet)?;
     }
-    Ok(())
+    text.extend_from_slice(b"\"\n")
 }
 
-/// Whether each octet of a text is printed as itself.
-fn are_printed(octets: &[u8]) -> bool
-    ensures { result ≡ list_all listings.stands_for_itself octets.now }
-{
-    octets.iter().all(|octet| stands_for_itself(*octet))
-}
-
-/// Whether an octet of a text is printed as itself.
-fn stands_for_itself(octet: u8) -> bool
+/// Whether an octet of a text stands for itself between quotes.
+pub fn stands_for_itself(octet: u8) -> bool
     ensures { result ≡ listings.stands_for_itself octet }
 {
     octet >= 32 && octet <= 126 && octet != b'"' && octet != b'\\'
 }
 
-/// Adds an octet of a text: itself where it can be printed, else its two digits behind a backslash.
+/// Adds an octet of a text: itself where it can be printed, else a backslash and its two digits, in
+/// lower hexadecimal digits.
 fn push_octet(text: &mut Vec<u8>, octet: u8) -> Result<(), OutOfMemory>
     ensures ok { OnOk result (text.new.items ≡ text.old.items ++ quoted_octet octet) }
     ensures err { OnErr result (text.new.items ≡ text.old.items) }
 {
     if stands_for_itself(octet) {
         text.push(octet)?;
-        Ok(())
-    } else {
-        text.extend_from_slice(&escaped(octet))
+        return Ok(());
     }
-}
-
-/// A backslash and the two digits of an octet, in lower hexadecimal digits.
-fn escaped(octet: u8) -> [u8; 3]
-    ensures { result ≡ 92 ∷ encode_lower (octet ∷ []) }
-{
     let digits = b"0123456789abcdef";
-    [
+    text.extend_from_slice(&[
         b'\\',
         digits[usize::from(octet / 16)],
         digits[usize::from(octet % 16)],
-    ]
+    ])
 }

@@ -232,10 +232,3 @@ pub fn bad_value(line: TextLine) -> Failure<ListingFault>
 {
     Failure::Fault(ListingFault::BadValue(u128::from(line.number)))
 }
-
-/// L3 at a line.
-pub fn refused(line: TextLine, cause: Cause) -> Failure<ListingFault>
-    ensures { result ≡ Failure.Fault (ListingFault.Refused line.entry.number cause) }
-{
-    Failure::Fault(ListingFault::Refused(u128::from(line.number), cause))
-}

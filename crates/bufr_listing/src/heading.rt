@@ -1,20 +1,22 @@
 //! The lines of a listing before its first subset.
 
-ghost use Rattle.std.specs.Prelude.{◌≡◌, ◌<◌, ◌≤◌, ◌+◌, ◌∷◌, ◌++◌, List, OnOk, length, drop};
-ghost use Rattle.std.specs.Prelude.{decimal};
-ghost use Rattle.bufr_tables.specs.Descriptors.{six_digits};
+ghost use Rattle.std.specs.Prelude.{◌≡◌, ◌≤◌, ◌++◌, List, OnOk, IfOk, length, option_copied};
 ghost use Rattle.bufr_data.specs.declared.field.Subset.{Subset};
 ghost use Rattle.bufr_sections.specs.SectionsRead.{message_lent};
-ghost use Rattle.bufr_listing.specs.Listings.{line, joined, numbers_line, octets_line};
-ghost use Rattle.bufr_listing.specs.Listings.{section1_line, time_line};
-ghost use Rattle.bufr_listing.specs.Listings.{local_lines, section2_lines, flags_line};
+ghost use Rattle.bufr_listing.specs.OctetLines.{octets_text};
+ghost use Rattle.bufr_listing.specs.Listings.{line, joined, numbers_line};
+ghost use Rattle.bufr_listing.specs.Listings.{section1_line, time_line, flags_line};
 ghost use Rattle.bufr_listing.specs.Listings.{descriptors_line, heading_lines};
 
 use bufr_answers::{Items, OutOfMemory};
-use bufr_sections::{Head, LentSections};
+use bufr_sections::LentSections;
 use bufr_tables::Fxy;
 use itoa::write_digits;
 use std::alloc::Global;
+
+/// How many octets of memory are asked for at first for the lines before the first subset: most are
+/// shorter.
+const HEADING_ROOM: usize = 512;
 
 /// The most digits of a number of 16 bits, and the space before it.
 const MOST_OCTETS: usize = 6;
@@ -22,30 +24,14 @@ const MOST_OCTETS: usize = 6;
 /// Where the line's end stands in a row, behind eight numbers.
 const ROW_END: usize = 8 * MOST_OCTETS;
 
-/// Adds the lines before the first subset of a message of these sections, whatever its subsets.
-pub(crate) fn push_heading(
-    alloc: Global,
-    text: &mut Vec<u8>,
-    sections: &LentSections<'_>,
-) -> Result<(), OutOfMemory>
-    ensures { (subsets : List Subset) → OnOk result (text.new.items
-        ≡ text.old.items ++ joined (heading_lines (message_lent sections.now subsets))) }
+/// The lines of a listing before its first subset, of a message of these sections, whatever its
+/// subsets. With those of each subset and the last line behind them they are the listing of the
+/// message.
+pub fn heading_text(alloc: Global, sections: &LentSections<'_>) -> Result<Vec<u8>, OutOfMemory>
+    ensures { (subsets : List Subset) → IfOk result (λ text.
+        text.items ≡ joined (heading_lines (message_lent sections.now subsets))) }
 {
-    text.extend_from_slice(b"message\n")?;
-    push_section1(text, sections.head)?;
-    push_time(text, sections.head)?;
-    push_local(alloc, text, sections.head.local.as_slice())?;
-    push_section2(alloc, text, sections.section2)?;
-    push_flags(text, sections.observed, sections.compressed)?;
-    push_descriptors(text, sections.descriptors)?;
-    Ok(())
-}
-
-/// Adds the line of section 1.
-fn push_section1(text: &mut Vec<u8>, head: &Head) -> Result<(), OutOfMemory>
-    ensures { OnOk result (text.new.items
-        ≡ text.old.items ++ line (section1_line head.now)) }
-{
+    let head = sections.head;
     let numbers = [
         head.centre,
         head.sub_centre,
@@ -56,15 +42,7 @@ fn push_section1(text: &mut Vec<u8>, head: &Head) -> Result<(), OutOfMemory>
         u16::from(head.master_version),
         u16::from(head.local_version),
     ];
-    push_numbers(text, b"section1", &numbers)
-}
-
-/// Adds the line of the time.
-fn push_time(text: &mut Vec<u8>, head: &Head) -> Result<(), OutOfMemory>
-    ensures { OnOk result (text.new.items
-        ≡ text.old.items ++ line (time_line head.now)) }
-{
-    let numbers = [
+    let time = [
         head.year,
         u16::from(head.month),
         u16::from(head.day),
@@ -72,11 +50,25 @@ fn push_time(text: &mut Vec<u8>, head: &Head) -> Result<(), OutOfMemory>
         u16::from(head.minute),
         u16::from(head.second),
     ];
-    push_numbers(text, b"time", &numbers)
+    let mut text = Vec::with_capacity(alloc, HEADING_ROOM)?;
+    text.extend_from_slice(b"message\n")?;
+    push_numbers(&mut text, b"section1", &numbers)?;
+    push_numbers(&mut text, b"time", &time)?;
+    push_octets(alloc, &mut text, b"local1", Some(&head.local), b"")?;
+    push_octets(
+        alloc,
+        &mut text,
+        b"section2",
+        sections.section2.as_ref(),
+        b"section2\n",
+    )?;
+    push_flags(&mut text, sections.observed, sections.compressed)?;
+    push_descriptors(&mut text, sections.descriptors)?;
+    Ok(text)
 }
 
-/// Adds a line of eight numbers at most behind its first word. The numbers are put into a row, the
-/// last first, so that they are added at once.
+/// Adds a line of eight numbers at most behind its first word. The numbers are put into a row, each
+/// behind a space, the last first, so that they are added at once.
 fn push_numbers(text: &mut Vec<u8>, title: &[u8], numbers: &[u16]) -> Result<(), OutOfMemory>
     requires { length numbers.now ≤ 8 }
     ensures { OnOk result (text.new.items
@@ -87,69 +79,36 @@ fn push_numbers(text: &mut Vec<u8>, title: &[u8], numbers: &[u16]) -> Result<(),
     let mut left = numbers.len();
     while left > 0 {
         left -= 1;
-        first = put_number(&mut row, numbers[left], first);
+        first = write_digits(u64::from(numbers[left]), &mut row, first) - 1;
+        row[first] = b' ';
     }
     text.extend_from_slice(title)?;
     text.extend_from_slice(&row[first..])
 }
 
-/// Puts a number and the space before it into a row, before an index, and answers where they begin.
-fn put_number(row: &mut [u8; ROW_END + 1], number: u16, end: usize) -> usize
-    requires low { 6 ≤ end }
-    requires high { end ≤ 48 }
-    ensures before { result < end }
-    ensures near { end ≤ result + 6 }
-    ensures written { drop result row.new ≡ 32 ∷ decimal number ++ drop end row.old }
-{
-    let first = write_digits(u64::from(number), row, end) - 1;
-    row[first] = b' ';
-    first
-}
-
-/// Adds the line of the octets for local use of section 1, where there are any.
-fn push_local(alloc: Global, text: &mut Vec<u8>, local: &[u8]) -> Result<(), OutOfMemory>
-    ensures { OnOk result (text.new.items
-        ≡ text.old.items ++ joined (local_lines local.now)) }
-{
-    match local {
-        [] => Ok(()),
-        octets => push_octets(alloc, text, b"local1", octets),
-    }
-}
-
-/// Adds a line of octets, two digits each, behind its first word.
+/// Adds the line of octets, where there is one: two digits each behind its first word, or this
+/// where there are no octets.
 fn push_octets(
     alloc: Global,
     text: &mut Vec<u8>,
     title: &[u8],
-    octets: &[u8],
+    octets: Option<&Items<u8>>,
+    empty: &[u8],
 ) -> Result<(), OutOfMemory>
-    ensures { OnOk result (text.new.items
-        ≡ text.old.items ++ line (octets_line title.now octets.now)) }
+    ensures { OnOk result (text.new.items ≡ text.old.items
+        ++ octets_text title.now empty.now (option_copied octets.entry)) }
 {
-    let digits = hex::encode(alloc, octets)?;
+    let Some(octets) = octets else {
+        return Ok(());
+    };
+    if octets.as_slice().is_empty() {
+        return text.extend_from_slice(empty);
+    }
+    let digits = hex::encode(alloc, octets.as_slice())?;
     text.extend_from_slice(title)?;
     text.push(b' ')?;
     text.extend_from_slice(digits.as_bytes())?;
     text.extend_from_slice(b"\n")
-}
-
-/// Adds the line of section 2, where there is one.
-fn push_section2(
-    alloc: Global,
-    text: &mut Vec<u8>,
-    local: &Option<Items<u8>>,
-) -> Result<(), OutOfMemory>
-    ensures { OnOk result (text.new.items
-        ≡ text.old.items ++ joined (section2_lines local.now)) }
-{
-    match local {
-        None => Ok(()),
-        Some(local) => match local.as_slice() {
-            [] => text.extend_from_slice(b"section2\n"),
-            octets => push_octets(alloc, text, b"section2", octets),
-        },
-    }
 }
 
 /// Adds the line of the flags.

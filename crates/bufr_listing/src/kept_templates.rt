@@ -1,10 +1,10 @@
 //! Templates of the last lists of descriptors that were met, kept from one message to the next.
 
-ghost use Rattle.std.specs.Prelude.{◌≡◌, IfErr, IfOk, OnOk};
+ghost use Rattle.std.specs.Prelude.{◌≡◌, IfOk};
 ghost use Rattle.std.specs.Bool.{OnTrue};
-ghost use Rattle.bufr_answers.specs.Answers.{Fails, Gives};
+ghost use Rattle.bufr_answers.specs.Answers.{Gives};
 ghost use Rattle.bufr_expand.specs.Templates.{template};
-ghost use Rattle.bufr_listing.specs.Kept.{AreOf, IsInFront};
+ghost use Rattle.bufr_listing.specs.Kept.{AreOf};
 
 use bufr_answers::{Failure, Items};
 use bufr_expand::{Template, TemplateFault};
@@ -71,7 +71,8 @@ impl<'t> KeptTemplates<'t> {
     }
 }
 
-/// The template of a list of descriptors, which is then kept in front of the others.
+/// The template of a list of descriptors, which is then kept in front of the others: it is left
+/// where it is the first, brought there where it is another, and else built.
 fn template_keeping(
     alloc: Global,
     tables: &Tables,
@@ -82,33 +83,17 @@ fn template_keeping(
     ensures are { AreOf tables.now kept.new.items }
     ensures exact { Gives (λ t. t) result (template tables.now list.now) }
 {
-    bring_to_front(alloc, tables, kept, list)?;
-    let shared = kept[0].template.share()?;
-    Ok(shared)
-}
-
-/// The list stands in front of those that are kept: it is left where it is the first, brought there
-/// where it is another, and else its template is built.
-fn bring_to_front(
-    alloc: Global,
-    tables: &Tables,
-    kept: &mut Vec<Kept>,
-    list: &[Fxy],
-) -> Result<(), Failure<TemplateFault>>
-    requires { AreOf tables.now kept.old.items }
-    ensures are { AreOf tables.now kept.new.items }
-    ensures front { OnOk result (IsInFront list.now kept.new.items) }
-    ensures fault { IfErr result (λ e. Fails e (template tables.now list.now)) }
-{
     if let Some(first) = kept.first() {
         if is_list(first, list) {
-            return Ok(());
+            let shared = first.template.share()?;
+            return Ok(shared);
         }
     }
     let own = taken(alloc, tables, kept, list)?;
+    let shared = own.template.share()?;
     kept.truncate(MOST_KEPT - 1);
     kept.insert(0, own)?;
-    Ok(())
+    Ok(shared)
 }
 
 /// A list with its template: taken from those that are kept where it is one of them, and else
@@ -129,14 +114,6 @@ fn taken(
             return Ok(kept.remove(index));
         }
     }
-    kept_of(alloc, tables, list)
-}
-
-/// A list with its template, which is built.
-fn kept_of(alloc: Global, tables: &Tables, list: &[Fxy]) -> Result<Kept, Failure<TemplateFault>>
-    ensures list { IfOk result (λ k. k.descriptors ≡ list.now) }
-    ensures exact { Gives (λ k. k.template) result (template tables.now list.now) }
-{
     let template = Template::build(alloc, tables, list)?;
     let mut descriptors = Vec::with_capacity(alloc, list.len())?;
     descriptors.extend_from_slice(list)?;

@@ -20,8 +20,9 @@ mod writer;
 
 pub use fault::{Cause, ListingFault};
 pub use fields::{push_field, push_subset, push_subset_line};
+pub use heading::heading_text;
 pub use kept_templates::KeptTemplates;
 pub use messages::read;
-pub use text::{end_text, heading_text, subset_text, text_of};
+pub use text::{end_text, subset_text, text_of};
 pub use unread::Messages;
 pub use writer::{ListingWriteFault, write_message};

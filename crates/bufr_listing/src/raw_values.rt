@@ -1,6 +1,5 @@
 //! The raw values that words print.
 
-ghost use Rattle.bufr_listing.specs.Listings.{stands_for_itself};
 ghost use Rattle.bufr_listing.specs.Words.{below};
 ghost use Rattle.std.specs.Prelude.{◌≡◌, ◌≤◌, ◌^◌, ◌-◌, ◌-ℤ◌, IfOk, option_map};
 ghost use Rattle.bufr_listing.specs.RawWords as words;
@@ -8,6 +7,7 @@ ghost use Rattle.bufr_listing.specs.RawWords.{raw_of, number_of, text_of, octets
 ghost use Rattle.bufr_listing.specs.RawWords.{lower_value};
 ghost use Rattle.bufr_data.specs.Limits.{most_raw_bits};
 
+use crate::fields::stands_for_itself;
 use crate::line_words::natural;
 use bufr_answers::{Items, OutOfMemory};
 use bufr_data::{Decimal, MOST_DECIMAL_SCALE, MOST_RAW_BITS, Raw};
@@ -45,7 +45,11 @@ fn number_of(spec: Spec, word: &[u8]) -> Option<u64>
         return None;
     }
     if word == MISSING {
-        return missing_number(spec);
+        return if may_be_missing(spec) {
+            Some(greatest(spec.width))
+        } else {
+            None
+        };
     }
     let value = Decimal::parse(word, spec.scale)?;
     let number = above(value.units, spec.reference)?;
@@ -57,18 +61,6 @@ fn may_be_missing(spec: Spec) -> bool
     ensures { result ≡ words.may_be_missing spec }
 {
     spec.width != 1 && !matches!(spec.kind, Kind::Count)
-}
-
-/// The number that is missing, where one may be.
-fn missing_number(spec: Spec) -> Option<u64>
-    requires { spec.width ≤ most_raw_bits }
-    ensures { result ≡ words.missing_number spec }
-{
-    if may_be_missing(spec) {
-        Some(greatest(spec.width))
-    } else {
-        None
-    }
 }
 
 /// A number, where it fits this spec and is not that of a missing value.
@@ -184,13 +176,6 @@ fn first_octet(text: &[u8]) -> Option<(u8, &[u8])>
         [octet, behind @ ..] if stands_for_itself(*octet) => Some((*octet, behind)),
         _ => None,
     }
-}
-
-/// Whether an octet stands for itself between quotes.
-fn stands_for_itself(octet: u8) -> bool
-    ensures { result ≡ stands_for_itself octet }
-{
-    octet >= 32 && octet <= 126 && octet != b'"' && octet != b'\\'
 }
 
 /// The value of a hexadecimal digit as it is printed.

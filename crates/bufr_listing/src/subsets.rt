@@ -1,10 +1,10 @@
 //! Reading the lines of subsets.
 
-ghost use Rattle.std.specs.Prelude.{◌≡◌, ◌++◌, ◌∷◌, [], ℕ, List, take, OnSome, IfOk, IfErr};
+ghost use Rattle.std.specs.Prelude.{◌≡◌, ◌++◌, ◌∷◌, [], List, take, OnSome, IfOk, IfErr};
 ghost use Rattle.std.specs.Str.{bytes_eq};
 ghost use Rattle.bufr_tables.specs.Descriptors.{six_digits};
 ghost use Rattle.bufr_answers.specs.Answers.{Gives, Fails};
-ghost use Rattle.bufr_expand.specs.Courses.{course, stops};
+ghost use Rattle.bufr_expand.specs.Courses.{course};
 ghost use Rattle.bufr_expand.specs.Walks as walks;
 ghost use Rattle.bufr_data.specs.Plain as plain;
 ghost use Rattle.bufr_data.specs.Steady.{IsReady, WalkAdvances};
@@ -16,13 +16,13 @@ ghost use Rattle.bufr_listing.specs.Steps.{Reads};
 
 use crate::fault::{Cause, ListingFault};
 use crate::fields::title;
-use crate::head_lines::{bad_line, bad_value, read_word, refused};
-use crate::lines::{Lines, TextLine};
+use crate::head_lines::{bad_line, bad_value, read_word};
+use crate::lines::Lines;
 use crate::raw_values::raw_of;
 use bufr_answers::{Failure, Items};
 use bufr_data::{Field, Raw, Subset};
 use bufr_expand::laws::courses_are_steady;
-use bufr_expand::{Spec, Step, Template, Walk, WalkFault};
+use bufr_expand::{Spec, Step, Template, Walk};
 use bufr_tables::Fxy;
 use std::alloc::Global;
 
@@ -80,7 +80,8 @@ fn read_fields(
     Ok((Items::from_vec(fields), walk.items()))
 }
 
-/// Reads the line of the field that a walk asks for, or tells that there is none.
+/// Reads the line of the field that a walk asks for, or tells that there is none. Where the walk
+/// stops, it is L3 at the next line, or L1 where there is none.
 fn read_field(
     alloc: Global,
     walk: &mut Walk,
@@ -95,7 +96,11 @@ fn read_field(
     ensures past { past lines.new ≡ past lines.old }
 {
     let step = match walk.next() {
-        Err(fault) => return Err(stopped(lines, fault)),
+        Err(fault) => {
+            let line = lines.take()?;
+            let cause = Cause::Walk(fault);
+            return Err(Failure::Fault(ListingFault::Refused(u128::from(line.number), cause)));
+        }
         Ok(step) => step,
     };
     match step {
@@ -109,18 +114,6 @@ fn read_field(
             walk.count(number_of(&field.raw));
             Ok(Some(field))
         }
-    }
-}
-
-/// The fault of a walk that stops: L3 at the next line, or L1 where there is none.
-fn stopped(lines: &mut Lines, fault: WalkFault) -> Failure<ListingFault>
-    ensures fails { (met : ℕ)
-        → Fails result (fields_read (past lines.old) (stops met fault) (left lines.old)) }
-    ensures past { past lines.new ≡ past lines.old }
-{
-    match lines.take() {
-        Err(ends) => ends,
-        Ok(line) => refused(line, Cause::Walk(fault)),
     }
 }
 

@@ -1,9 +1,22 @@
--- For `push_quoted`: where memory runs out at the characters.
-use Rattle.bufr_listing.proofs.FrontFacts.{front_kept, on_err}
+-- For `push_quoted`: octets that are all printed as themselves.
+use Rattle.std.proofs.Common.{◌≡◌, ◌∷◌, ◌++◌, ◌∙◌, [], ap, sym, refl, rules, tests, append_assoc}
+use Rattle.std.specs.Prelude.{true}
+use Rattle.std.specs.List.{flat_map, list_all}
+use Rattle.std.proofs.lemmas.Iterator.{YieldsList-from_slice}
+use Rattle.std.proofs.lemmas.Iterator.Search.{all_from_yields_List}
+use Rattle.bufr_listing.specs.Listings.{stands_for_itself, quoted_octet}
+use Rattle.bufr_listing.proofs.QuoteFacts.{printed_themselves, on_ok_same, between_quotes}
 use Rattle.bufr_listing.proofs.fields.push_quoted.Goals as goal
 
--- the text begins with what it was
-pub returns-in_err-push_characters-clause-kept : goal.returns-in_err-push_characters-clause-kept
-returns-in_err-push_characters-clause-kept c =
-    on_err _ c.from_residual-in_err-push_characters.result
-    (front_kept _ _ _ _ c.in_ok-push.ensures.items c.in_err-push_characters.ensures.kept)
+-- they are added as they are
+pub returns-then-all-clause-ok : goal.returns-then-all-clause-ok
+returns-then-all-clause-ok c =
+    let octets = c.args.octets.now in
+    let same : c.all.result ≡ list_all stands_for_itself octets =
+    all_from_yields_List stands_for_itself _ _ c.all.result c.all.ensures.ran
+    (YieldsList-from_slice octets c.iter.ensures.rest) (λ x b q k. search (rules, tests)) in
+    let all = sym same ∙ c.if-all.true in
+    on_ok_same c.extend_from_slice-then-all.result _ _ _ _
+    c.extend_from_slice-then-all.ensures.items
+    (between_quotes c.args.text.now.items _ _ _ _ (sym (printed_themselves octets all))
+    c.in_ok-push.ensures.items c.in_ok-extend_from_slice.ensures.items)

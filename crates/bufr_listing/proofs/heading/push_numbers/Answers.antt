@@ -1,21 +1,38 @@
 -- For `push_numbers`: where all numbers are put into the row, their line is written.
-use Rattle.std.proofs.Common.{arith}
+use Rattle.std.proofs.Common.{◌<◌, ◌^◌, ◌-◌, ◌∙◌, ap, arith}
+use Rattle.std.proofs.lemmas.Fmt.{length-decimal-le}
 use Rattle.bufr_listing.proofs.QuoteFacts.{on_ok_same}
-use Rattle.bufr_listing.proofs.RowFacts.{number_before, numbers_written}
+use Rattle.bufr_listing.proofs.RowFacts.{number_put, room_before, numbers_written}
 use Rattle.bufr_listing.proofs.heading.push_numbers.Goals as goal
+
+-- a number of 16 bits has five digits at most
+pub write_digits-first-requires : goal.write_digits-first-requires
+write_digits-first-requires c =
+    let i = c.loop-left.invariant in
+    let fits = c.type_inv.numbers (c.loop-left.left - 1) in
+    let small : c.from.result < 2 ^ 16 = omega (arith, c.from.ensures, fits) in
+    let short = length-decimal-le 5 c.from.result (omega arith) (omega (arith, small))
+    (omega (arith, small)) in
+    (omega (arith, short, i.1, c.loop-left-test.true), omega (arith, i.2))
+
+-- so there is room for the space
+pub overflow_sub-first : goal.overflow_sub-first
+overflow_sub-first c =
+    let i = c.loop-left.invariant in
+    let fits = c.type_inv.numbers (c.loop-left.left - 1) in
+    let small : c.from.result < 2 ^ 16 = omega (arith, c.from.ensures, fits) in
+    (room_before _ _ _ small (omega (arith, i.1, c.loop-left-test.true))
+    c.write_digits-first.ensures.start).0
 
 -- a number more is put before the others
 pub loop-left-preserved : goal.loop-left-preserved
 loop-left-preserved c =
     let i = c.loop-left.invariant in
-    let some = c.loop-left-test.true in
-    let put = c.put_number-first.ensures in
-    let ns = c.args.numbers.now in (
-      number_before _ _ ns c.loop-left.left (omega (arith, some)) i.3 put.written i.0,
-      omega (arith, i.1, put.near),
-      omega (arith, i.2, put.before),
-      omega (arith, i.3),
-    )
+    let fits = c.type_inv.numbers (c.loop-left.left - 1) in
+    let small : c.from.result < 2 ^ 16 = omega (arith, c.from.ensures, fits) in
+    number_put _ _ _ _ _ _ _ c.loop-left-test.true i.3 i.0 i.1 i.2 c.from.ensures small
+    (omega (arith, c.write_digits-first.auto.buf)) c.write_digits-first.ensures.start
+    c.write_digits-first.ensures.written
 
 -- the first word, all numbers and the end are their line
 pub returns : goal.returns

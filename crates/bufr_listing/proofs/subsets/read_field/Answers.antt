@@ -1,19 +1,39 @@
 -- For the clauses of `read_field`, by what the walk answers.
 use Rattle.std.proofs.lemmas.Result.{err_from_is_err_and}
+use Rattle.bufr_answers.specs.declared.failure.Failure.TheVariants.{Fault}
+use Rattle.bufr_listing.specs.declared.fault.Cause.TheVariants as causes
+use Rattle.bufr_listing.specs.declared.fault.ListingFault.TheVariants.{Refused}
+use Rattle.bufr_listing.specs.Cursors.{left, past, printed}
 use Rattle.bufr_listing.proofs.StepFacts.{field_is_read}
 use Rattle.bufr_listing.proofs.StepFacts.{count_is_read, field_is_refused, count_is_refused}
-use Rattle.bufr_listing.proofs.StepFacts.{end_is_read, stop_is_refused, count_fits}
+use Rattle.bufr_listing.proofs.StepFacts.{end_is_read, stop_is_refused, stop_none, stop_some}
+use Rattle.bufr_listing.proofs.StepFacts.{count_fits}
 use Rattle.bufr_listing.proofs.subsets.read_field.Goals as goal
 use Rattle.bufr_data.specs.StepLaws.{field_goes_on, count_goes_on}
 
--- where the walk stops, so do the fields
+-- where the walk stops and no line is left, L1
+pub returns-in_err-line-in-Err-clause-err : goal.returns-in_err-line-in-Err-clause-err
+returns-in_err-line-in-Err-clause-err c =
+    let p = err_from_is_err_and c.from_residual.result c.from_residual.ensures.1 in
+    rw (p.1, p.2) (stop_is_refused _ _ _ _ _ _ c.in-Err.ensures
+    (λ met. stop_none _ met _ _ _ c.in_err-line-in-Err.ensures.taken))
+
+-- where the walk stops, L3 at the next line
 pub returns-in-Err-clause-err : goal.returns-in-Err-clause-err
-returns-in-Err-clause-err c = stop_is_refused _ _ _ _ _ _ c.in-Err.ensures c.stopped.ensures.fails
+returns-in-Err-clause-err c =
+    let line = c.in_ok-line-in-Err.line in
+    let last = past c.args.lines.now in
+    let ls = left c.args.lines.now in
+    rw c.from.ensures (stop_is_refused _ _ last ls c.in-Err.fault
+    (Fault (Refused line.number (causes.Walk c.in-Err.fault))) c.in-Err.ensures
+    (λ met. stop_some last met c.in-Err.fault ls (printed line) (left c.take.new.self)
+    c.in_ok-line-in-Err.ensures.taken))
 
 -- where the line of a field fails, so do the fields
 pub returns-in_err-field-in-Field-clause-err : goal.returns-in_err-field-in-Field-clause-err
 returns-in_err-field-in-Field-clause-err c =
-    let p = err_from_is_err_and c.from_residual.result c.from_residual.ensures.1 in
+    let p = err_from_is_err_and c.from_residual-in_err-field-in-Field.result
+    c.from_residual-in_err-field-in-Field.ensures.1 in
     let goes = rw c.in-Field.is at c.in-Ok.ensures in
     rw (p.1, p.2) (field_is_refused _ _ _ _ _ _ _ goes c.in_err-field-in-Field.ensures.read)
 

@@ -1,8 +1,8 @@
--- For `push_lines`: the fields that were written so far.
+-- For `push_subset`: the fields that were written so far.
 use Rattle.std.proofs.Common.{◌≡◌, ◌++◌, take}
 use Rattle.std.specs.List.{flat_map}
 use Rattle.bufr_listing.specs.Listings.{line, field_line}
-use Rattle.bufr_listing.proofs.fields.push_lines.Given as goal
+use Rattle.bufr_listing.proofs.fields.push_subset.Given as goal
 
 -- behind the text's first octets stand the lines of those fields
 abbrev pub invariant-loop-field : goal.invariant-loop-field

@@ -1,10 +1,10 @@
--- For `push_characters`: the octets that were written so far.
+-- For `push_quoted`: the octets that were written so far.
 use Rattle.std.proofs.Common.{◌≡◌, ◌++◌, take}
 use Rattle.std.specs.List.{flat_map}
 use Rattle.bufr_listing.specs.Listings.{quoted_octet}
-use Rattle.bufr_listing.proofs.fields.push_characters.Given as goal
+use Rattle.bufr_listing.proofs.fields.push_quoted.Given as goal
 
--- behind the text's first octets stand those octets as they are printed
+-- behind the first quote stand those octets as they are printed
 abbrev pub invariant-loop-octet : goal.invariant-loop-octet
 invariant-loop-octet l =
     l.text.items ≡ l.initial.text.items

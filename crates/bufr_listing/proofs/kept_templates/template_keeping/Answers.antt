@@ -1,9 +1,9 @@
--- For `bring_to_front`: what is kept in front is of its list, as the others are.
+-- For `template_keeping`: what is kept in front is of its list, as the others are.
 use Rattle.std.proofs.Common.{◌∙◌, ap}
 use Rattle.bufr_expand.specs.Templates.{template}
 use Rattle.bufr_listing.specs.Kept.{IsOf}
 use Rattle.bufr_listing.specs.KeptLaws.{all_behind}
-use Rattle.bufr_listing.proofs.kept_templates.bring_to_front.Goals as goal
+use Rattle.bufr_listing.proofs.kept_templates.template_keeping.Goals as goal
 
 -- where there was no room for it, the others stay
 pub returns-in_err-insert-clause-are : goal.returns-in_err-insert-clause-are

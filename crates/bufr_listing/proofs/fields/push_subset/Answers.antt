@@ -1,11 +1,11 @@
--- For `push_lines`: where all fields are written, the lines of the subset are.
+-- For `push_subset`: where all fields are written, the lines of the subset are.
 use Rattle.std.proofs.Common.{◌++◌, ◌∙◌}
 use Rattle.std.specs.List.{flat_map}
 use Rattle.std.proofs.lemmas.List.{take_all}
 use Rattle.bufr_listing.specs.Listings.{line, field_line}
 use Rattle.bufr_listing.proofs.ListingFacts.{subset_behind}
-use Rattle.bufr_listing.proofs.FrontFacts.{front_kept, on_err}
-use Rattle.bufr_listing.proofs.fields.push_lines.Goals as goal
+use Rattle.bufr_listing.proofs.FrontFacts.{cut_back}
+use Rattle.bufr_listing.proofs.fields.push_subset.Goals as goal
 
 -- the first line and those of all fields are the lines of the subset
 pub returns-clause-ok : goal.returns-clause-ok
@@ -16,9 +16,8 @@ returns-clause-ok c =
     ∙ (λ i. c.in_ok-push_subset_line.ensures.ok i ++ flat_map (λ f. line (field_line f)) (all i))
     ∙ subset_behind c.args.text.now.items c.args.subset.now
 
--- where memory runs out at a field, the text begins with what it was
-pub returns-in_err-push_words-clause-kept : goal.returns-in_err-push_words-clause-kept
-returns-in_err-push_words-clause-kept c =
-    let first = front_kept _ _ _ _ c.loop-field.invariant c.in_err-push_words.ensures.kept in
-    on_err _ c.from_residual-in_err-push_words.result
-    (front_kept _ _ _ _ c.in_ok-push_subset_line.ensures.ok first)
+-- where memory runs out at a field, the text is what it was
+pub returns-then-is_err-clause-err : goal.returns-then-is_err-clause-err
+returns-then-is_err-clause-err c =
+    cut_back _ _ _ _ _ _ _ _ _ (c.len-held.ensures ∙ c.args.text.now.ok.0) c.in_ok-push_subset_line.ensures.ok
+    c.loop-field.invariant c.push_field-added.ensures.err c.truncate.ensures.items

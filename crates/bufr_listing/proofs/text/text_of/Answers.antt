@@ -1,0 +1,21 @@
+-- For `text_of`: the lines before the first subset, those of all subsets and the last line are the
+-- listing.
+use Rattle.std.proofs.Common.{◌++◌, ◌∙◌, ap, sym}
+use Rattle.std.specs.List.{flat_map}
+use Rattle.std.proofs.lemmas.List.{take_all}
+use Rattle.bufr_listing.specs.Listings.{joined, heading_lines, subset_lines}
+use Rattle.bufr_listing.proofs.ListingFacts.{listing_in_parts}
+use Rattle.bufr_listing.proofs.text.text_of.Goals as goal
+
+-- they stand one behind the other
+pub returns : goal.returns
+returns c =
+    let m = c.args.message.now in
+    let all = take_all c.loop-subset.subset-index c.as_slice-subset-items.result.now
+    c.loop-subset-test.false ∙ c.as_slice-subset-items.ensures in
+    let heading = c.in_ok-text.ensures m.subsets
+    ∙ ap (λ n. joined (heading_lines n)) c.of_message.ensures in
+    let before = c.loop-subset.invariant
+    ∙ (λ i. heading i ++ flat_map (λ s. joined (subset_lines s)) (all i)) in
+    c.in_ok-extend_from_slice.ensures.items ∙ (λ i. before i ++ c.end_text.ensures i)
+    ∙ sym (listing_in_parts m)
