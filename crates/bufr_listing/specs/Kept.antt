@@ -1,5 +1,5 @@
 -- Lists of descriptors that are kept with their templates.
-use Rattle.std.specs.Prelude.{◌≡◌, ℕ, List, [], ◌∷◌, Ok}
+use Rattle.std.specs.Prelude.{◌≡◌, List, Ok}
 use Rattle.std.specs.List.{AllByRecursion}
 use Rattle.bufr_tables.specs.Entries.{Entries}
 use Rattle.bufr_expand.specs.Templates.{template}
@@ -12,8 +12,3 @@ IsOf tables k = template tables k.descriptors ≡ Ok k.template
 -- so is each
 abbrev pub AreOf : Entries → List Kept → Type 0
 AreOf tables ks = AllByRecursion (IsOf tables) ks
-
--- the first is this list
-abbrev pub IsInFront : List ℕ → List Kept → Type 0
-IsInFront list [] = ⊥
-IsInFront list (k ∷ ks) = k.descriptors ≡ list

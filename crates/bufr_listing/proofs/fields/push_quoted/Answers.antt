@@ -1,10 +1,9 @@
 -- For `push_quoted`: octets that are all printed as themselves.
-use Rattle.std.proofs.Common.{◌≡◌, ◌∷◌, ◌++◌, ◌∙◌, [], ap, sym, refl, rules, tests, append_assoc}
-use Rattle.std.specs.Prelude.{true}
-use Rattle.std.specs.List.{flat_map, list_all}
+use Rattle.std.proofs.Common.{◌≡◌, ◌∙◌, sym, rules, tests}
+use Rattle.std.specs.List.{list_all}
 use Rattle.std.proofs.lemmas.Iterator.{YieldsList-from_slice}
 use Rattle.std.proofs.lemmas.Iterator.Search.{all_from_yields_List}
-use Rattle.bufr_listing.specs.Listings.{stands_for_itself, quoted_octet}
+use Rattle.bufr_listing.specs.Listings.{stands_for_itself}
 use Rattle.bufr_listing.proofs.QuoteFacts.{printed_themselves, on_ok_same, between_quotes}
 use Rattle.bufr_listing.proofs.fields.push_quoted.Goals as goal
 

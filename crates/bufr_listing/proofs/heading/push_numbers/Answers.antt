@@ -1,5 +1,5 @@
 -- For `push_numbers`: where all numbers are put into the row, their line is written.
-use Rattle.std.proofs.Common.{◌<◌, ◌^◌, ◌-◌, ◌∙◌, ap, arith}
+use Rattle.std.proofs.Common.{◌<◌, ◌^◌, ◌-◌, arith}
 use Rattle.std.proofs.lemmas.Fmt.{length-decimal-le}
 use Rattle.bufr_listing.proofs.QuoteFacts.{on_ok_same}
 use Rattle.bufr_listing.proofs.RowFacts.{number_put, room_before, numbers_written}
