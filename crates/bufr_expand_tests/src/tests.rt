@@ -7,7 +7,6 @@ mod samples;
 mod templates;
 mod walks;
 
-use bufr_answers::OutOfMemory;
 use std::alloc::Global;
 use std::fmt::{Debug, Display};
 use std::process::Abort;
@@ -19,13 +18,7 @@ fn same<T: PartialEq + Debug + Drop>(rt: &impl Abort, found: T, wanted: T) {
 }
 
 /// Stops the test where this is not printed of a value. It is a function for the same reason.
-fn assert_prints<T: Display>(
-    rt: &impl Abort,
-    alloc: Global,
-    value: &T,
-    wanted: &str,
-) -> Result<(), OutOfMemory> {
-    let text = format!(in alloc; "{value}")?;
+fn assert_prints<T: Display>(rt: &impl Abort, alloc: Global, value: &T, wanted: &str) {
+    let text = format!(in alloc; "{value}").expect(rt, "room");
     same(rt, text.as_str(), wanted);
-    Ok(())
 }

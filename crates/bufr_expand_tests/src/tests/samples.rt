@@ -7,10 +7,9 @@ ghost use Rattle.bufr_expand_tests.specs.StepAnswers.{asked_width};
 use super::same;
 use bufr_answers::Failure;
 use bufr_expand::{Spec, Step, Template, TemplateFault, Walk, WalkFault};
-use bufr_tables::{Fxy, Kind, TableB, TableD, TableFault, Tables};
+use bufr_tables::{Fxy, Kind, TableB, TableD, Tables};
 use std::alloc::Global;
 use std::process::Abort;
-use std::test::Fail;
 
 /// Elements with their unit, scale, reference value and width. A field of 012102 has more bits than
 /// a number may have.
@@ -45,45 +44,43 @@ pub(crate) const SEQUENCES: &[u8] = b"FXY1,FXY2\n\
 301252,301251\n";
 
 /// The descriptor that is written FXXYYY.
-pub(crate) fn fxy(digits: u32) -> Result<Fxy, Fail> {
+pub(crate) fn fxy(rt: &impl Abort, digits: u32) -> Fxy {
     let (f, x, y) = (digits / 100_000, digits / 1000 % 100, digits % 1000);
-    if f > 3 || y > 255 {
-        return Err("no descriptor".into());
-    }
-    Ok(Fxy::new(f as u8, x as u8, y as u8).ok_or("no descriptor")?)
+    assert!(rt; f < 4 && y < 256);
+    Fxy::new(f as u8, x as u8, y as u8).expect(rt, "a descriptor")
 }
 
 /// The descriptors that are written FXXYYY.
-pub(crate) fn list_of(alloc: Global, digits: &[u32]) -> Result<Vec<Fxy>, Fail> {
+pub(crate) fn list_of(rt: &impl Abort, alloc: Global, digits: &[u32]) -> Vec<Fxy> {
     let mut list = Vec::new(alloc);
     for number in digits {
-        let fxy = fxy(*number)?;
-        list.push(fxy)?;
+        list.push(fxy(rt, *number)).expect(rt, "room");
     }
-    Ok(list)
+    list
 }
 
 /// The rows of the tests and a Table D.
-fn tables_of(alloc: Global, sequences: &[u8]) -> Result<Tables, Failure<TableFault>> {
-    let b = TableB::parse(alloc, TABLE_B)?;
-    let d = TableD::parse(alloc, sequences)?;
-    Ok(Tables::new(b, d))
+fn tables_of(rt: &impl Abort, alloc: Global, sequences: &[u8]) -> Tables {
+    let b = TableB::parse(alloc, TABLE_B).expect(rt, "a table");
+    let d = TableD::parse(alloc, sequences).expect(rt, "a table");
+    Tables::new(b, d)
 }
 
 /// What is answered for a list, by the rows of the tests and a Table D.
 pub(crate) fn answer_of(
+    rt: &impl Abort,
     alloc: Global,
     sequences: &[u8],
     list: &[Fxy],
-) -> Result<Result<Template, Failure<TemplateFault>>, Failure<TableFault>> {
-    let tables = tables_of(alloc, sequences)?;
-    Ok(Template::build(alloc, &tables, list))
+) -> Result<Template, Failure<TemplateFault>> {
+    let tables = tables_of(rt, alloc, sequences);
+    Template::build(alloc, &tables, list)
 }
 
 /// The template of descriptors that are written FXXYYY.
-pub(crate) fn template_of(alloc: Global, digits: &[u32]) -> Result<Template, Fail> {
-    let list = list_of(alloc, digits)?;
-    Ok(answer_of(alloc, SEQUENCES, &list)??)
+pub(crate) fn template_of(rt: &impl Abort, alloc: Global, digits: &[u32]) -> Template {
+    let list = list_of(rt, alloc, digits);
+    answer_of(rt, alloc, SEQUENCES, &list).expect(rt, "a template")
 }
 
 /// A spec.
@@ -97,18 +94,18 @@ pub(crate) fn spec(kind: Kind, scale: i32, reference: i64, width: u32) -> Spec {
 }
 
 /// The step to a field that has no scale and no reference value, and so many bits.
-pub(crate) fn field(digits: u32, kind: Kind, width: u32) -> Result<Step, Fail> {
-    Ok(Step::Field(fxy(digits)?, spec(kind, 0, 0, width)))
+pub(crate) fn field(rt: &impl Abort, digits: u32, kind: Kind, width: u32) -> Step {
+    Step::Field(fxy(rt, digits), spec(kind, 0, 0, width))
 }
 
 /// The step to a temperature of so many bits.
-pub(crate) fn temperature(width: u32) -> Result<Step, Fail> {
-    Ok(Step::Field(fxy(12101)?, spec(Kind::Quantity, 2, 0, width)))
+pub(crate) fn temperature(rt: &impl Abort, width: u32) -> Step {
+    Step::Field(fxy(rt, 12101), spec(Kind::Quantity, 2, 0, width))
 }
 
 /// The step to a factor of eight bits.
-pub(crate) fn count() -> Result<Step, Fail> {
-    Ok(Step::Count(fxy(31001)?, spec(Kind::Count, 0, 0, 8)))
+pub(crate) fn count(rt: &impl Abort) -> Step {
+    Step::Count(fxy(rt, 31001), spec(Kind::Count, 0, 0, 8))
 }
 
 /// A number that a count of this width can have.

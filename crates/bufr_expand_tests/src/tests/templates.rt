@@ -10,7 +10,6 @@ use bufr_expand::{Step, Template, Walk};
 use bufr_tables::Kind;
 use std::alloc::Global;
 use std::process::Abort;
-use std::test::Fail;
 
 /// Each of 301201 to 301215 holds the next descriptor twice, and 301216 holds 031000 twice.
 const DOUBLING: &[u8] = b"FXY1,FXY2\n\
@@ -31,54 +30,61 @@ fn assert_template(
     digits: &[u32],
     (nodes, told): (usize, u64),
     wanted: &[Step],
-) -> Result<(), Fail> {
-    let template = template_of(alloc, digits)?;
+) {
+    let template = template_of(rt, alloc, digits);
     same(rt, template.nodes(), nodes);
-    let mut walk = Walk::start(alloc, &template, 0)?;
+    let mut walk = Walk::start(alloc, &template, 0).expect(rt, "room");
     assert_steps(rt, &mut walk, told, wanted);
     assert_steps(rt, &mut walk, told, &[Step::End]);
-    Ok(())
 }
 
 /// The step to a number.
-fn number(digits: u32, width: u32) -> Result<Step, Fail> {
-    field(digits, Kind::Quantity, width)
+fn number(rt: &impl Abort, digits: u32, width: u32) -> Step {
+    field(rt, digits, Kind::Quantity, width)
 }
 
 #[test]
-fn sequences(rt: HostRuntime) -> Result<(), Fail> {
+fn sequences(rt: HostRuntime) {
     let wanted = [
-        number(1001, 7)?,
-        number(1002, 10)?,
-        number(4001, 12)?,
-        number(4002, 4)?,
-        number(4003, 6)?,
-        number(4004, 5)?,
-        number(4005, 6)?,
-        temperature(16)?,
+        number(&rt, 1001, 7),
+        number(&rt, 1002, 10),
+        number(&rt, 4001, 12),
+        number(&rt, 4002, 4),
+        number(&rt, 4003, 6),
+        number(&rt, 4004, 5),
+        number(&rt, 4005, 6),
+        temperature(&rt, 16),
     ];
     let digits = [301001, 301011, 301012, 12101];
-    assert_template(&rt, rt.alloc(), &digits, (8, 0), &wanted)
+    assert_template(&rt, rt.alloc(), &digits, (8, 0), &wanted);
 }
 
 #[test]
-fn delayed_replication(rt: HostRuntime) -> Result<(), Fail> {
-    let wanted = [count()?, temperature(16)?, temperature(16)?];
+fn delayed_replication(rt: HostRuntime) {
+    let wanted = [count(&rt), temperature(&rt, 16), temperature(&rt, 16)];
     let digits = [101000, 31001, 12101];
-    assert_template(&rt, rt.alloc(), &digits, (2, 2), &wanted)
+    assert_template(&rt, rt.alloc(), &digits, (2, 2), &wanted);
 }
 
 /// Twice two numbers and then a temperature, two times, and then one more number.
 const REPLICATIONS: &[u32] = &[103002, 101002, 301001, 12101, 1001];
 
 #[test]
-fn replications(rt: HostRuntime) -> Result<(), Fail> {
-    let (block, station) = (number(1001, 7)?, number(1002, 10)?);
-    let kelvin = temperature(16)?;
+fn replications(rt: HostRuntime) {
     let wanted = [
-        block, station, block, station, kelvin, block, station, block, station, kelvin, block,
+        number(&rt, 1001, 7),
+        number(&rt, 1002, 10),
+        number(&rt, 1001, 7),
+        number(&rt, 1002, 10),
+        temperature(&rt, 16),
+        number(&rt, 1001, 7),
+        number(&rt, 1002, 10),
+        number(&rt, 1001, 7),
+        number(&rt, 1002, 10),
+        temperature(&rt, 16),
+        number(&rt, 1001, 7),
     ];
-    assert_template(&rt, rt.alloc(), REPLICATIONS, (6, 0), &wanted)
+    assert_template(&rt, rt.alloc(), REPLICATIONS, (6, 0), &wanted);
 }
 
 /// How a walk over 255 turns goes.
@@ -91,50 +97,43 @@ const MANY_TURNS: Walked = Walked {
 };
 
 /// A template has six nodes, and a walk over it goes so.
-fn assert_many_turns(rt: &impl Abort, alloc: Global, template: &Template) -> Result<(), Fail> {
+fn assert_many_turns(rt: &impl Abort, alloc: Global, template: &Template) {
     same(rt, template.nodes(), 6);
-    same(rt, walk_over(alloc, template, 0, 0)?, MANY_TURNS);
-    Ok(())
+    same(rt, walk_over(rt, alloc, template, 0, 0), MANY_TURNS);
 }
 
 #[test]
-fn shared(rt: HostRuntime) -> Result<(), Fail> {
-    let template = template_of(rt.alloc(), &[103255, 101002, 301001, 12101, 1001])?;
-    let once_more = template.share()?;
-    assert_many_turns(&rt, rt.alloc(), &template)?;
+fn shared(rt: HostRuntime) {
+    let template = template_of(&rt, rt.alloc(), &[103255, 101002, 301001, 12101, 1001]);
+    let once_more = template.share().expect(&rt, "room");
+    assert_many_turns(&rt, rt.alloc(), &template);
     drop(template);
-    assert_many_turns(&rt, rt.alloc(), &once_more)
+    assert_many_turns(&rt, rt.alloc(), &once_more);
 }
 
 /// 201130 and 208002 change the last two fields, and none that is behind 206 or that of 205.
 #[test]
-fn local_descriptor_and_operators(rt: HostRuntime) -> Result<(), Fail> {
+fn local_descriptor_and_operators(rt: HostRuntime) {
     let digits = [
         201130, 208002, 206012, 1250, 206016, 12101, 206017, 12101, 205004, 12101, 1011,
     ];
     let wanted = [
-        number(1250, 12)?,
-        temperature(16)?,
-        number(12101, 17)?,
-        field(205004, Kind::Text, 32)?,
-        temperature(18)?,
-        field(1011, Kind::Text, 16)?,
+        number(&rt, 1250, 12),
+        temperature(&rt, 16),
+        number(&rt, 12101, 17),
+        field(&rt, 205004, Kind::Text, 32),
+        temperature(&rt, 18),
+        field(&rt, 1011, Kind::Text, 16),
     ];
-    assert_template(&rt, rt.alloc(), &digits, (8, 0), &wanted)
+    assert_template(&rt, rt.alloc(), &digits, (8, 0), &wanted);
 }
 
 /// This is the text of the fault of descriptors by this Table D.
-fn assert_fault(
-    rt: &impl Abort,
-    alloc: Global,
-    sequences: &[u8],
-    digits: &[u32],
-    wanted: &str,
-) -> Result<(), Fail> {
-    let list = list_of(alloc, digits)?;
-    match answer_of(alloc, sequences, &list)? {
-        Err(Failure::Fault(fault)) => Ok(assert_prints(rt, alloc, &fault, wanted)?),
-        _ => Err("no fault".into()),
+fn assert_fault(rt: &impl Abort, alloc: Global, sequences: &[u8], digits: &[u32], wanted: &str) {
+    let list = list_of(rt, alloc, digits);
+    match answer_of(rt, alloc, sequences, &list) {
+        Err(Failure::Fault(fault)) => assert_prints(rt, alloc, &fault, wanted),
+        _ => panic!(rt; "no fault"),
     }
 }
 
@@ -163,25 +162,17 @@ const REFUSALS: &[(&[u32], &str)] = &[
 ];
 
 #[test]
-fn refusals(rt: HostRuntime) -> Result<(), Fail> {
+fn refusals(rt: HostRuntime) {
     for (digits, wanted) in REFUSALS {
-        assert_fault(&rt, rt.alloc(), SEQUENCES, *digits, *wanted)?;
+        assert_fault(&rt, rt.alloc(), SEQUENCES, *digits, *wanted);
     }
-    Ok(())
 }
 
 /// The template of descriptors by this Table D has so many nodes.
-fn assert_size(
-    rt: &impl Abort,
-    alloc: Global,
-    sequences: &[u8],
-    digits: &[u32],
-    wanted: usize,
-) -> Result<(), Fail> {
-    let list = list_of(alloc, digits)?;
-    let template = answer_of(alloc, sequences, &list)??;
+fn assert_size(rt: &impl Abort, alloc: Global, sequences: &[u8], digits: &[u32], wanted: usize) {
+    let list = list_of(rt, alloc, digits);
+    let template = answer_of(rt, alloc, sequences, &list).expect(rt, "a template");
     same(rt, template.nodes(), wanted);
-    Ok(())
 }
 
 /// Seventeen replications in each other around a temperature.
@@ -191,14 +182,14 @@ const SEVENTEEN_LEVELS: &[u32] = &[
 ];
 
 #[test]
-fn nesting_limit(rt: HostRuntime) -> Result<(), Fail> {
-    assert_size(&rt, rt.alloc(), SEQUENCES, &SEVENTEEN_LEVELS[1..], 17)?;
-    assert_fault(&rt, rt.alloc(), SEQUENCES, SEVENTEEN_LEVELS, "X8 TooDeep")
+fn nesting_limit(rt: HostRuntime) {
+    assert_size(&rt, rt.alloc(), SEQUENCES, &SEVENTEEN_LEVELS[1..], 17);
+    assert_fault(&rt, rt.alloc(), SEQUENCES, SEVENTEEN_LEVELS, "X8 TooDeep");
 }
 
 #[test]
-fn node_limit(rt: HostRuntime) -> Result<(), Fail> {
-    assert_size(&rt, rt.alloc(), DOUBLING, &[301201], 65_536)?;
+fn node_limit(rt: HostRuntime) {
+    assert_size(&rt, rt.alloc(), DOUBLING, &[301201], 65_536);
     let one_more = [301201, 31000];
-    assert_fault(&rt, rt.alloc(), DOUBLING, &one_more, "X9 TooManyNodes")
+    assert_fault(&rt, rt.alloc(), DOUBLING, &one_more, "X9 TooManyNodes");
 }

@@ -5,12 +5,10 @@ ghost use Rattle.bufr_expand.specs.Walks.{waits};
 
 use super::samples::{assert_steps, count, fxy, step, temperature, template_of};
 use super::{assert_prints, same};
-use bufr_answers::OutOfMemory;
 use bufr_expand::{Asks, Step, Template, Walk, WalkFault};
 use bufr_tables::Fxy;
 use std::alloc::Global;
 use std::process::Abort;
-use std::test::Fail;
 
 /// How a walk went: the widths of its first eight fields, or 0, how many fields and items there
 /// were, the last step, and whether the step after it is the same.
@@ -42,13 +40,14 @@ fn width(answer: &Result<Step, WalkFault>) -> Option<u32> {
 
 /// How a walk over a template goes, after so many items, each count having this number.
 pub(crate) fn walk_over(
+    rt: &impl Abort,
     alloc: Global,
     template: &Template,
     used: u64,
     told: u64,
-) -> Result<Walked, OutOfMemory> {
-    let mut walk = Walk::start(alloc, template, used)?;
-    Ok(finish(&mut walk, told))
+) -> Walked {
+    let mut walk = Walk::start(alloc, template, used).expect(rt, "room");
+    finish(&mut walk, told)
 }
 
 /// How a walk goes on, each count having this number.
@@ -109,14 +108,13 @@ fn assert_walked(
     digits: &[u32],
     (used, told): (u64, u64),
     wanted: Walked,
-) -> Result<(), Fail> {
-    let template = template_of(alloc, digits)?;
-    same(rt, walk_over(alloc, &template, used, told)?, wanted);
-    Ok(())
+) {
+    let template = template_of(rt, alloc, digits);
+    same(rt, walk_over(rt, alloc, &template, used, told), wanted);
 }
 
 #[test]
-fn delayed_counts(rt: HostRuntime) -> Result<(), Fail> {
+fn delayed_counts(rt: HostRuntime) {
     let cases = [
         (0, 0, to_the_end([8, 0, 0, 0, 0, 0, 0, 0], 1, 1)),
         (10, 1, to_the_end([8, 16, 0, 0, 0, 0, 0, 0], 2, 13)),
@@ -133,28 +131,26 @@ fn delayed_counts(rt: HostRuntime) -> Result<(), Fail> {
             &[101000, 31001, 12101],
             (used, told),
             wanted,
-        )?;
+        );
     }
-    Ok(())
 }
 
 /// The first steps of a walk: a count, the field of one turn, and the end.
-fn assert_first_steps(rt: &impl Abort, walk: &mut Walk<'_>) -> Result<(), Fail>
+fn assert_first_steps(rt: &impl Abort, walk: &mut Walk<'_>)
     requires { waits walk.old ≡ false }
 {
-    assert_steps(rt, walk, 1, &[count()?]);
+    assert_steps(rt, walk, 1, &[count(rt)]);
     same(rt, walk.items(), 1);
-    assert_steps(rt, walk, 1, &[temperature(16)?]);
+    assert_steps(rt, walk, 1, &[temperature(rt, 16)]);
     same(rt, walk.items(), 3);
     assert_steps(rt, walk, 1, &[Step::End, Step::End]);
-    Ok(())
 }
 
 #[test]
-fn first_steps(rt: HostRuntime) -> Result<(), Fail> {
-    let template = template_of(rt.alloc(), &[102000, 31001, 206016, 12101])?;
-    let mut walk = Walk::start(rt.alloc(), &template, 0)?;
-    assert_first_steps(&rt, &mut walk)
+fn first_steps(rt: HostRuntime) {
+    let template = template_of(&rt, rt.alloc(), &[102000, 31001, 206016, 12101]);
+    let mut walk = Walk::start(rt.alloc(), &template, 0).expect(&rt, "room");
+    assert_first_steps(&rt, &mut walk);
 }
 
 /// Temperatures, 0 12 101.
@@ -180,14 +176,9 @@ fn told(walk: &mut Walk<'_>) -> bool
 }
 
 /// This is what a walk over the template of descriptors tells in front of its first four fields.
-fn assert_told(
-    rt: &impl Abort,
-    alloc: Global,
-    digits: &[u32],
-    wanted: [bool; 4],
-) -> Result<(), Fail> {
-    let template = template_of(alloc, digits)?;
-    let mut walk = Walk::start(alloc, &template, 0)?;
+fn assert_told(rt: &impl Abort, alloc: Global, digits: &[u32], wanted: [bool; 4]) {
+    let template = template_of(rt, alloc, digits);
+    let mut walk = Walk::start(alloc, &template, 0).expect(rt, "room");
     let found = [
         told(&mut walk),
         told(&mut walk),
@@ -195,81 +186,73 @@ fn assert_told(
         told(&mut walk),
     ];
     same(rt, found, wanted);
-    Ok(())
 }
 
 /// It is told behind the last temperature, where no replication is open.
 #[test]
-fn no_more_that_are_asked_for(rt: HostRuntime) -> Result<(), Fail> {
+fn no_more_that_are_asked_for(rt: HostRuntime) {
     let behind_the_first = [false, true, true, true];
     assert_told(
         &rt,
         rt.alloc(),
         &[12101, 1001, 1002, 2001],
         behind_the_first,
-    )?;
+    );
     let behind_the_last = [false, false, true, true];
-    assert_told(&rt, rt.alloc(), &[1001, 12101, 1002, 2001], behind_the_last)?;
+    assert_told(&rt, rt.alloc(), &[1001, 12101, 1002, 2001], behind_the_last);
     let behind_the_turn = [false, false, false, true];
     assert_told(
         &rt,
         rt.alloc(),
         &[101000, 31001, 12101, 1001],
         behind_the_turn,
-    )?;
+    );
     assert_told(
         &rt,
         rt.alloc(),
         &[101002, 1001, 1002, 2001],
         [true, false, false, true],
-    )
+    );
 }
 
 #[test]
-fn operators_through_turns(rt: HostRuntime) -> Result<(), Fail> {
+fn operators_through_turns(rt: HostRuntime) {
     let digits = [102002, 12101, 201130, 12101];
     let wanted = to_the_end([16, 18, 18, 0, 0, 0, 0, 0], 3, 8);
-    assert_walked(&rt, rt.alloc(), &digits, (0, 0), wanted)
+    assert_walked(&rt, rt.alloc(), &digits, (0, 0), wanted);
 }
 
 #[test]
-fn replications_in_each_other(rt: HostRuntime) -> Result<(), Fail> {
+fn replications_in_each_other(rt: HostRuntime) {
     let digits = [102002, 101003, 12101, 101000, 31001, 12101];
     let wanted = to_the_end([16, 16, 16, 16, 16, 16, 8, 0], 7, 18);
-    assert_walked(&rt, rt.alloc(), &digits, (0, 0), wanted)
+    assert_walked(&rt, rt.alloc(), &digits, (0, 0), wanted);
 }
 
 /// The greatest number of items is reached, and then no further one is taken.
 #[test]
-fn refusals_of_walks(rt: HostRuntime) -> Result<(), Fail> {
+fn refusals_of_walks(rt: HostRuntime) {
     let one = to_the_end([16, 0, 0, 0, 0, 0, 0, 0], 1, 16_777_216);
-    assert_walked(&rt, rt.alloc(), &[12101], (16_777_215, 0), one)?;
+    assert_walked(&rt, rt.alloc(), &[12101], (16_777_215, 0), one);
     let full = to_a_fault([0; 8], 0, WalkFault::TooLarge);
-    assert_walked(&rt, rt.alloc(), &[12102], (16_777_216, 0), full)?;
-    let range = WalkFault::EffectiveRange(fxy(12102)?);
+    assert_walked(&rt, rt.alloc(), &[12102], (16_777_216, 0), full);
+    let range = WalkFault::EffectiveRange(fxy(&rt, 12102));
     let refused = to_a_fault([16, 0, 0, 0, 0, 0, 0, 0], 1, range);
-    assert_walked(&rt, rt.alloc(), &[12101, 12102], (16_777_214, 0), refused)
+    assert_walked(&rt, rt.alloc(), &[12101, 12102], (16_777_214, 0), refused);
 }
 
 #[test]
-fn printed_faults(rt: HostRuntime) -> Result<(), Fail> {
-    let range = WalkFault::EffectiveRange(fxy(12101)?);
-    assert_prints(&rt, rt.alloc(), &range, "V1 EffectiveRange 012101")?;
-    assert_prints(&rt, rt.alloc(), &WalkFault::TooLarge, "V6 TooLarge")?;
-    Ok(())
+fn printed_faults(rt: HostRuntime) {
+    let range = WalkFault::EffectiveRange(fxy(&rt, 12101));
+    assert_prints(&rt, rt.alloc(), &range, "V1 EffectiveRange 012101");
+    assert_prints(&rt, rt.alloc(), &WalkFault::TooLarge, "V6 TooLarge");
 }
 
 /// A walk over the template of descriptors is too large behind the most items, so many of them
 /// fields.
-fn assert_too_large(
-    rt: &impl Abort,
-    alloc: Global,
-    digits: &[u32],
-    widths: [u32; 8],
-    fields: u64,
-) -> Result<(), Fail> {
+fn assert_too_large(rt: &impl Abort, alloc: Global, digits: &[u32], widths: [u32; 8], fields: u64) {
     let wanted = to_a_fault(widths, fields, WalkFault::TooLarge);
-    assert_walked(rt, alloc, digits, (0, 0), wanted)
+    assert_walked(rt, alloc, digits, (0, 0), wanted);
 }
 
 /// Sixteen replications in each other around a number of one bit.
@@ -279,12 +262,12 @@ const SIXTEEN_LEVELS: &[u32] = &[
 ];
 
 #[test]
-fn item_limit(rt: HostRuntime) -> Result<(), Fail> {
+fn item_limit(rt: HostRuntime) {
     assert_too_large(&rt, rt.alloc(), SIXTEEN_LEVELS, [1; 8], 599_017)
 }
 
 #[test]
-fn item_and_product_limits(rt: HostRuntime) -> Result<(), Fail> {
+fn item_and_product_limits(rt: HostRuntime) {
     let digits = [105255, 104255, 103255, 102255, 101255, 201000];
     assert_too_large(&rt, rt.alloc(), &digits, [0; 8], 0)
 }
