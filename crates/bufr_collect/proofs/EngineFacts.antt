@@ -8,6 +8,7 @@ use Rattle.std.proofs.Math.ListN.{set}
 use Rattle.bufr_bits.specs.Devices.{Reading, Writing}
 use Rattle.bufr_tables.specs.Entries.{Entries}
 use Rattle.bufr_frame.specs.declared.frames.Found.{Found}
+use Rattle.bufr_frame.specs.FrameBounds.{cut_few}
 use Rattle.bufr_frame.specs.Streams.{cut}
 use Rattle.bufr_message.specs.declared.report.Report.{Report}
 use Rattle.bufr_message.specs.Reports.{reports_in}
@@ -24,6 +25,8 @@ use Rattle.bufr_io.specs.declared.fault.ToolFault.{ToolFault}
 use Rattle.bufr_io.specs.declared.fault.ToolFault.TheVariants as faults
 use Rattle.bufr_io.specs.Engines.{HasFailed, IsEndless, WritesAll}
 use Rattle.bufr_io.specs.Engines.{WritesAfter, FailsAfter}
+use Rattle.bufr_io.specs.Inputs.{ReadsOn}
+use Rattle.bufr_io.specs.declared.input.Pieces.{Pieces}
 use Rattle.bufr_io.specs.Limits.{most_reads}
 use Rattle.bufr_collect.specs.declared.counts.Counts.{Counts}
 use Rattle.bufr_archive.specs.StreamsTold.{all_told}
@@ -32,13 +35,18 @@ use Rattle.bufr_collect.specs.Collected.{AreTextsOf, all_of, merged_text}
 use Rattle.bufr_collect.specs.Readers.{AreFresh, AreReadAtMost, WereReadOut, EndsAt}
 use Rattle.bufr_collect.specs.Collects.{AllReadOut, StreamsEndAt, Collects, AllArchives}
 use Rattle.bufr_collect.specs.Collects.{ArchivesEndAt, IsNoArchive, Merges}
-use Rattle.bufr_collect.specs.Adds.{reports_of_frames, HasAdded, AddsStream, AddsStreams}
+use Rattle.bufr_collect.specs.Taking.{EndsEarly, unread, at_piece, at_end, TakesStream}
+use Rattle.bufr_collect.specs.Adds.{reports_of_frames, HasAdded, HasAddedSince, AddsStreams}
 use Rattle.bufr_collect.specs.Adds.{ReadsArchive, MergesReaders}
 use Rattle.bufr_collect.proofs.FrameFacts.{archive_with, kept_more}
 use Rattle.bufr_collect.proofs.ReaderFacts.{Through, Reached, through_first, through_all}
 use Rattle.bufr_collect.proofs.ReaderFacts.{through_more, ends_here, at_most_fresh, at_most_set}
 
 -- ---- streams
+
+-- adding stops only where memory runs out
+abbrev pub RanOut : List Found → ToolFault → Type 0
+RanOut frames fault = fault ≡ faults.OutOfMemory
 
 -- the streams of so many readers were added
 pub record AddedThrough (tables : Entries) (reads : ℕ) (old new : List Reading)
@@ -71,22 +79,26 @@ frames_more streams stream =
 -- one more
 pub added_next : (tables : Entries) (reads : ℕ) (old new new' : List Reading)
     (archive archive' : ArchiveView) (counts counts' : Counts) (i : ℕ) (r r' : Reading)
-    (done : Unit {0}) → reads ≤ most_reads
+    (long : ℕ) → reads ≤ most_reads
     → (a : AddedThrough tables reads old new archive counts i) → Reached old new a.streams i r
     → new' ≡ set new i r' → r'.reads ≤ reads
-    → AddsStream tables (Number (i + 1)) reads r r' archive' counts' (frames_of a.streams) (Ok done)
+    → TakesStream (HasAddedSince archive counts archive' counts') (Unit {0}) RanOut (Number (i + 1))
+    reads r r' (Ok long)
     → AddedThrough tables reads old new' archive' counts' (i + 1)
-added_next tables reads old new new' archive archive' counts counts' i r r' done most a at is
-    bounded adds =
-    let stream = adds.1 in
+added_next tables reads old new new' archive archive' counts counts' i r r' long most a at is
+    bounded takes =
+    let stream = takes.1 in
     let more = frames_more a.streams stream in
-    let long = ap length more ∙ length-append (frames_of a.streams) (cut stream) in
+    let all = ap length more ∙ length-append (frames_of a.streams) (cut stream) in
     let few = a.few in
-    let some = adds.4 in
+    let some = cut_few stream in
+    let short = takes.6 in
     record {
       streams = a.streams ++ stream ∷ [];
-      through = through_more old new new' a.streams stream i r r' at is adds.0 adds.2;
-      added = subst (HasAdded tables archive' counts') (sym more) adds.3;
+      through = through_more old new new' a.streams stream i r r' at is takes.0 takes.2;
+      added =
+          subst (HasAdded tables archive' counts') (sym more)
+          (takes.4.added tables (frames_of a.streams) a.added);
       few = omega arith;
       bounded = subst (AreReadAtMost reads) (sym is) (at_most_set reads new i r' a.bounded bounded);
     }
@@ -104,35 +116,40 @@ pub added_all : (tables : Entries) (reads : ℕ) (old new : List Reading) (archi
 added_all tables reads old new archive counts i done a all =
     (a.streams, through_all old new a.streams i a.through all, a.added)
 
--- it ended at one
-pub added_ends : (tables : Entries) (reads : ℕ) (old new new' : List Reading)
-    (archive archive' : ArchiveView) (counts counts' : Counts) (streams : List (List ℕ))
-    (before : List Found) (i : ℕ) (r r' : Reading) (e : ToolFault) → Reached old new streams i r
-    → new' ≡ set new i r'
-    → AddsStream tables (Number (i + 1)) reads r r' archive counts before (Err e)
-    → AddsStreams tables reads old new' archive' counts' (Err e)
-added_ends tables reads old new new' archive archive' counts counts' streams before i r r'
-    (faults.ReadFailed source) at is adds =
-    subst (λ s. StreamsEndAt HasFailed s old new') (sym adds.0)
+-- one could not be read
+unread_ends : (tables : Entries) (reads : ℕ) (old new new' : List Reading) (archive : ArchiveView)
+    (counts : Counts) (streams : List (List ℕ)) (i : ℕ) (r r' : Reading) (pieces : Pieces)
+    (read : List ℕ) (e : ToolFault) → Reached old new streams i r → new' ≡ set new i r'
+    → ReadsOn (Number (i + 1)) reads r r' pieces read (Err e)
+    → AddsStreams tables reads old new' archive counts (Err e)
+unread_ends tables reads old new new' archive counts streams i r r' pieces read
+    (faults.ReadFailed source) at is ends =
+    subst (λ s. StreamsEndAt HasFailed s old new') (sym ends.0)
     (ends_here AllReadOut (λ x y. HasFailed y) old new new' streams i r r' at is
-    (λ xs ys out. (streams, out)) adds.1)
-added_ends tables reads old new new' archive archive' counts counts' streams before i r r'
-    (faults.EndlessInput source) at is adds =
-    subst (λ s. StreamsEndAt (IsEndless reads) s old new') (sym adds.0)
+    (λ xs ys out. (streams, out)) ends.1)
+unread_ends tables reads old new new' archive counts streams i r r' pieces read
+    (faults.EndlessInput source) at is ends =
+    subst (λ s. StreamsEndAt (IsEndless reads) s old new') (sym ends.0)
     (ends_here AllReadOut (λ x y. IsEndless reads y) old new new' streams i r r' at is
-    (λ xs ys out. (streams, out)) adds.1)
-added_ends tables reads old new new' archive archive' counts counts' streams before i r r'
-    faults.OutOfMemory at is adds = tt
-added_ends tables reads old new new' archive archive' counts counts' streams before i r r'
-    (faults.WriteFailed written) at is adds = absurd adds
-added_ends tables reads old new new' archive archive' counts counts' streams before i r r'
-    (faults.Table source fault) at is adds = absurd adds
-added_ends tables reads old new new' archive archive' counts counts' streams before i r r'
-    (faults.Listing why) at is adds = absurd adds
-added_ends tables reads old new new' archive archive' counts counts' streams before i r r'
-    (faults.Encode number why) at is adds = absurd adds
-added_ends tables reads old new new' archive archive' counts counts' streams before i r r'
-    (faults.NotAnArchive input place) at is adds = absurd adds
+    (λ xs ys out. (streams, out)) ends.1)
+unread_ends tables reads old new new' archive counts streams i r r' pieces read e at is ends =
+    absurd ends
+
+-- it ended at one, or memory ran out
+pub added_ends : (tables : Entries) (reads : ℕ) (old new new' : List Reading)
+    (Taken : List Found → Type 0) (archive : ArchiveView) (counts : Counts)
+    (streams : List (List ℕ)) (i : ℕ) (r r' : Reading) (e : ToolFault) → Reached old new streams i r
+    → new' ≡ set new i r' → EndsEarly Taken (Unit {0}) RanOut (Number (i + 1)) reads r r' e
+    → AddsStreams tables reads old new' archive counts (Err e)
+added_ends tables reads old new new' Taken archive counts streams i r r' e at is
+    (unread pieces read ends taken none) =
+    unread_ends tables reads old new new' archive counts streams i r r' pieces read e at is ends
+added_ends tables reads old new new' Taken archive counts streams i r r' e at is
+    (at_piece read count on s) =
+    subst (λ f. AddsStreams tables reads old new' archive counts (Err f)) (sym s.stopped) tt
+added_ends tables reads old new new' Taken archive counts streams i r r' e at is
+    (at_end stream out all given s) =
+    subst (λ f. AddsStreams tables reads old new' archive counts (Err f)) (sym s.stopped) tt
 
 -- the reports of the frames of streams are those that the streams tell
 pub told_frames : (tables : Entries) (streams : List (List ℕ))

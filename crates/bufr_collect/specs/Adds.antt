@@ -1,12 +1,9 @@
 -- What adding the messages of frames to an archive has done so far.
-use Rattle.std.specs.Prelude.{◌≡◌, ℕ, ◌*◌, ◌^◌, ◌<◌, ◌≤◌, List, ◌++◌, length, Result, Ok, Err}
+use Rattle.std.specs.Prelude.{◌≡◌, ℕ, ◌+◌, ◌*◌, ◌^◌, ◌<◌, ◌≤◌, List, ◌++◌, length, Result, Ok, Err}
 use Rattle.std.specs.List.{flat_map}
 use Rattle.bufr_bits.specs.Devices.{Reading}
 use Rattle.bufr_tables.specs.Entries.{Entries}
 use Rattle.bufr_frame.specs.declared.frames.Found.{Found}
-use Rattle.bufr_frame.specs.Framings.{Framing}
-use Rattle.bufr_frame.specs.Streams.{cut, sure}
-use Rattle.bufr_frame.specs.NextFrames.{HandedOut}
 use Rattle.bufr_message.specs.declared.report.Report.{Report}
 use Rattle.bufr_message.specs.Reports.{reports_in}
 use Rattle.bufr_archive.specs.Archives.{ArchiveView}
@@ -15,7 +12,6 @@ use Rattle.bufr_io.specs.declared.fault.Input.TheVariants.{Number}
 use Rattle.bufr_io.specs.declared.fault.ToolFault.{ToolFault}
 use Rattle.bufr_io.specs.declared.fault.ToolFault.TheVariants as faults
 use Rattle.bufr_io.specs.Engines.{WasReadOut, HasFailed, IsEndless, AreAllOf}
-use Rattle.bufr_io.specs.Limits.{longest_piece}
 use Rattle.bufr_collect.specs.declared.counts.Counts.{Counts}
 use Rattle.bufr_archive.specs.ReportTexts.{archive_of, IsArchiveOf}
 use Rattle.bufr_collect.specs.Collected.{refused_of, frames_of, AreTextsOf, all_of}
@@ -35,29 +31,18 @@ pub record HasAdded (tables : Entries) (archive : ArchiveView) (counts : Counts)
   pub frames_are : counts.frames ≡ length frames
   pub refused_are : counts.refused ≡ refused_of tables frames
 
--- so it is with the frames before and with all sure frames of a stream, which were handed out
-pub record HasAddedSure (tables : Entries) (archive : ArchiveView) (counts : Counts)
-    (before : List Found) (framer : Framing) (stream : List ℕ) : Type 0 where
-  pub handed : HandedOut framer stream (sure stream)
-  pub added : HasAdded tables archive counts (before ++ sure stream)
-  pub few : length before < 2 ^ 127
+-- since this archive and its counts were so, the messages of these frames were added and counted,
+-- whatever frames were added before
+pub record HasAddedSince (first : ArchiveView) (start : Counts) (archive : ArchiveView)
+    (counts : Counts) (frames : List Found) : Type 0 where
+  pub few : start.frames < 2 ^ 127
+  pub counted : counts.frames ≡ start.frames + length frames
+  pub refused : counts.refused ≤ counts.frames
+  pub added : (tables : Entries) (before : List Found) → HasAdded tables first start before
+      → HasAdded tables archive counts (before ++ frames)
 
--- a reader was read out, and so it is with the frames before and all frames of its stream; or the
--- reader failed or is endless
-abbrev pub AddsStream : Entries → Input → ℕ → Reading → Reading → ArchiveView → Counts → List Found
-    → Result (Unit {0}) ToolFault → Type 0
-AddsStream tables source reads old new archive counts before (Ok done) =
-    WasReadOut new × (stream : List ℕ) × AreAllOf old stream
-    × HasAdded tables archive counts (before ++ cut stream)
-    × (length (cut stream) ≤ longest_piece * reads)
-AddsStream tables source reads old new archive counts before (Err (faults.ReadFailed which)) =
-    (which ≡ source) × HasFailed new
-AddsStream tables source reads old new archive counts before (Err (faults.EndlessInput which)) =
-    (which ≡ source) × IsEndless reads new
-AddsStream tables source reads old new archive counts before (Err faults.OutOfMemory) = Unit {0}
-AddsStream tables source reads old new archive counts before (Err fault) = ⊥
-
--- so it is with the streams of some readers; or it ended at one of them
+-- some readers were read out, and the messages of the frames of their streams were added; or it
+-- ended at one of them
 abbrev pub AddsStreams : Entries → ℕ → List Reading → List Reading → ArchiveView → Counts
     → Result (Unit {0}) ToolFault → Type 0
 AddsStreams tables reads olds news archive counts (Ok done) =

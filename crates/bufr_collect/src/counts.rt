@@ -2,7 +2,9 @@
 
 /// How many frames there were, and how many of them spell no message.
 #[derive(Clone, Copy, Debug, Drop, PartialEq, Eq)]
-pub(crate) struct Counts {
-    pub(crate) frames: u128,
-    pub(crate) refused: u128,
+pub struct Counts {
+    /// How many frames there were.
+    pub frames: u128,
+    /// How many of them spell no message.
+    pub refused: u128,
 }

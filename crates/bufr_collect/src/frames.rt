@@ -1,96 +1,50 @@
 //! The messages of frames, gathered for an archive.
 
-ghost use Rattle.std.specs.Prelude.{◌≡◌, ◌≤◌, ◌<◌, ◌+◌, ◌^◌, ◌++◌, ◌∷◌, [], ℕ, List, OnOk, length};
-ghost use Rattle.bufr_frame.specs.declared.frames.Found.{Found as FoundFrame};
-ghost use Rattle.bufr_frame.specs.Streams.{cut};
-ghost use Rattle.bufr_tables.specs.Entries.{Entries};
-ghost use Rattle.bufr_collect.specs.Adds.{HasAdded, HasAddedSure};
+ghost use Rattle.std.specs.Prelude.{◌≡◌};
+ghost use Rattle.bufr_io.specs.declared.fault.ToolFault.TheVariants.{OutOfMemory as RanOut};
+ghost use Rattle.bufr_collect.specs.Adds.{HasAddedSince};
+ghost use Rattle.bufr_collect.specs.Taking.{frame_at};
 
 use crate::counts::Counts;
-use bufr_answers::OutOfMemory;
+use crate::taking::TakesFrames;
 use bufr_archive::{AddFault, ArchiveBuilder};
-use bufr_frame::{Found, Framer, NextFrame};
+use bufr_io::ToolFault;
+use std::alloc::Global;
 
-/// Adds the message of a frame with these octets, where it spells one, and counts it.
-fn add_frame(
-    octets: &[u8],
-    builder: &mut ArchiveBuilder<'_>,
-    counts: &mut Counts,
-) -> Result<(), OutOfMemory>
-    requires few { counts.old.frames + 1 < 2 ^ 128 }
-    requires refused { counts.old.refused ≤ counts.old.frames }
-    ensures { OnOk result ((tables : Entries) (frames : List FoundFrame) (frame : FoundFrame)
-        → octets.now ≡ frame.bytes → HasAdded tables builder.old counts.old frames
-        → HasAdded tables builder.new counts.new (frames ++ frame ∷ [])) }
-{
-    let refused = match builder.add_message(octets) {
-        Ok(()) => 0,
-        Err(AddFault::Refused(_)) => 1,
-        Err(AddFault::OutOfMemory { done: _ }) => return Err(OutOfMemory),
-    };
-    counts.frames += 1;
-    counts.refused += refused;
-    Ok(())
-}
+/// The builder of an archive takes in the messages that frames spell; the frames are counted.
+impl<'t> TakesFrames<Counts> for ArchiveBuilder<'t> {
+    ghost count = { λ builder counts. counts.frames };
 
-/// Adds the messages of frames after those of others.
-fn add_frames(
-    frames: &[Found],
-    builder: &mut ArchiveBuilder<'_>,
-    counts: &mut Counts,
-) -> Result<(), OutOfMemory>
-    requires so_far { (tables : Entries) × (before : List FoundFrame)
-        × HasAdded tables builder.old counts.old before }
-    requires few { counts.old.frames + length frames.now < 2 ^ 128 }
-    ensures { OnOk result ((tables : Entries) (before : List FoundFrame)
-        → HasAdded tables builder.old counts.old before
-        → HasAdded tables builder.new counts.new (before ++ frames.now)) }
-{
-    for frame in frames {
-        add_frame(frame.bytes.as_slice(), builder, counts)?;
-    }
-    Ok(())
-}
+    ghost HasTaken = { HasAddedSince };
 
-/// Takes in a piece of a stream, and adds the messages of the frames that are sure then. One that
-/// lies whole in the piece is not copied.
-pub(crate) fn add_piece(
-    piece: &[u8],
-    framer: &mut Framer,
-    builder: &mut ArchiveBuilder<'_>,
-    counts: &mut Counts,
-) -> Result<(), OutOfMemory>
-    requires so_far { (tables : Entries) × (before : List FoundFrame) × (stream : List ℕ)
-        × HasAddedSure tables builder.old counts.old before framer.old stream }
-    requires room { framer.old.fed + length piece.now < 2 ^ 64 }
-    ensures { OnOk result ((tables : Entries) (before : List FoundFrame) (stream : List ℕ)
-        → HasAddedSure tables builder.old counts.old before framer.old stream
-        → HasAddedSure tables builder.new counts.new before framer.new (stream ++ piece.now)) }
-{
-    let mut rest = piece;
-    loop {
-        let NextFrame { found, rest: left } = framer.next_frame(rest)?;
-        let Some(frame) = found else {
-            return Ok(());
+    ghost HoldsNone = { λ builder counts. Unit {0} };
+
+    ghost HasStopped = { λ first begin builder counts frames fault. fault ≡ RanOut };
+
+    fn take_frame(
+        &mut self,
+        alloc: Global,
+        place: u64,
+        octets: &[u8],
+        out: &mut Counts,
+    ) -> Result<(), ToolFault> {
+        let refused = match self.add_message(octets) {
+            Ok(()) => 0,
+            Err(AddFault::Refused(_)) => 1,
+            Err(AddFault::OutOfMemory { done: _ }) => return Err(ToolFault::OutOfMemory),
         };
-        add_frame(frame.as_slice(), builder, counts)?;
-        rest = left;
+        out.frames += 1;
+        out.refused += refused;
+        Ok(())
     }
-}
 
-/// Ends a stream, and adds the messages of the frames that are left.
-pub(crate) fn add_rest(
-    framer: &mut Framer,
-    builder: &mut ArchiveBuilder<'_>,
-    counts: &mut Counts,
-) -> Result<(), OutOfMemory>
-    requires long { framer.old.fed < 2 ^ 64 }
-    requires so_far { (tables : Entries) × (before : List FoundFrame) × (stream : List ℕ)
-        × HasAddedSure tables builder.old counts.old before framer.old stream }
-    ensures { OnOk result ((tables : Entries) (before : List FoundFrame) (stream : List ℕ)
-        → HasAddedSure tables builder.old counts.old before framer.old stream
-        → HasAdded tables builder.new counts.new (before ++ cut stream)) }
-{
-    let frames = framer.finish()?;
-    add_frames(&frames, builder, counts)
+    fn end_piece(&mut self, out: &mut Counts) -> Result<(), ToolFault> {
+        Ok(())
+    }
+
+    fn halt(&mut self, out: &mut Counts) -> ToolFault {
+        ToolFault::OutOfMemory
+    }
+
+    ghost counts_each = { λ first self begin out frames h. h.counted };
 }

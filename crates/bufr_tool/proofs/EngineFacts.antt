@@ -1,14 +1,12 @@
 -- What an engine over a stream answers at each of its ends: the last step to the contracts of
 -- `run_show` and `run_check`.
-use Rattle.std.proofs.Common.{◌≡◌, ℕ, ◌≤◌, false, Option, Some, None, List, [], ◌++◌, length}
-use Rattle.std.proofs.Common.{drop, Result, Ok, Err, sym, subst, arith, IfSome}
+use Rattle.std.proofs.Common.{◌≡◌, ℕ, false, Option, Some, None, List, [], ◌++◌, length}
+use Rattle.std.proofs.Common.{drop, Result, Ok, Err, sym, ap, ◌∙◌, subst, IfSome}
 use Rattle.bufr_bits.specs.Devices.{Reading, Writing}
 use Rattle.bufr_tables.specs.Entries.{Entries}
 use Rattle.bufr_frame.specs.declared.frames.Found.{Found}
-use Rattle.bufr_frame.specs.Framings.{Framing}
-use Rattle.bufr_frame.specs.Streams.{cut, sure, Stands}
+use Rattle.bufr_frame.specs.Streams.{cut, sure}
 use Rattle.bufr_frame.specs.StreamLaws.{cut-piece}
-use Rattle.bufr_frame.specs.NextFrameLaws.{handed_first}
 use Rattle.bufr_tool.specs.declared.printer.Printer.{Printer}
 use Rattle.bufr_io.specs.declared.fault.Input.TheVariants.{Number}
 use Rattle.bufr_io.specs.declared.fault.Tally.{Tally}
@@ -16,84 +14,41 @@ use Rattle.bufr_io.specs.declared.fault.ToolFault.{ToolFault}
 use Rattle.bufr_io.specs.declared.fault.ToolFault.TheVariants as faults
 use Rattle.bufr_io.specs.declared.input.Pieces.{Pieces}
 use Rattle.bufr_tool.specs.declared.printing.Printing.{Printing}
-use Rattle.bufr_io.specs.Engines.{IsFresh, WasReadOut, HasGiven, AreAllOf, FailsAfter, WritesAll}
-use Rattle.bufr_io.specs.Inputs.{GoesOn, HasRead, ReadsOn}
+use Rattle.bufr_io.specs.Engines.{IsFresh, WasReadOut, HasGiven, AreAllOf, FailsAfter}
+use Rattle.bufr_io.specs.Inputs.{GoesOn, ReadsOn}
+use Rattle.bufr_collect.specs.Taking.{EndsEarly, unread, at_piece, at_end}
 use Rattle.bufr_tool.specs.Output.{frames_text, stream_text, last_text, tally_of}
 use Rattle.bufr_tool.specs.Lines.{WritesLines}
-use Rattle.bufr_tool.specs.StreamEngines.{no_counts, frames_by, text_by, Prints, PrintsEnd}
-use Rattle.bufr_tool.specs.StreamEngines.{HasPrintedSure, Stops}
-use Rattle.bufr_io.specs.ReadingLaws.{HasGiven_none, HasRead_none}
+use Rattle.bufr_tool.specs.StreamEngines.{frames_by, text_by, Prints, PrintsEnd}
+use Rattle.bufr_tool.specs.StreamEngines.{HasPrintedSince, Stops}
+use Rattle.bufr_io.specs.ReadingLaws.{HasGiven_none}
 use Rattle.bufr_io.specs.WritingLaws.{fails_longer}
-use Rattle.bufr_tool.proofs.LineFacts.{lines_none}
+use Rattle.bufr_tool.proofs.LineFacts.{lines_none, lines_longer}
 use Rattle.bufr_tool.proofs.PartFacts.{all_written}
-use Rattle.bufr_tool.proofs.PrintingFacts.{printed_none, fails_further}
+use Rattle.bufr_tool.proofs.PrintingFacts.{fails_further, text_append}
+use Rattle.bufr_tool.proofs.StreamFacts.{end_stopped}
 
--- between two reads: these octets were given, and what is sure of them was printed; no line is held
-pub record Between (printing : Printing) (tables : Entries) (reads : ℕ) (old now : Reading)
-    (pieces : Pieces) (first last : Writing) (framer : Framing) (p : Printer) : Type 0 where
-  pub read : List ℕ
-  pub so_far : HasRead (Number 1) reads old now pieces read
-  pub printed : HasPrintedSure printing tables first last framer p read
-  pub held : p.held.items ≡ []
-
--- before the first
-pub between_first : (printing : Printing) (tables : Entries) (reads : ℕ) (reader : Reading)
-    (writer : Writing) (framer : Framing) (p : Printer) → p.printing ≡ printing
-    → p.templates ≡ tables → p.counts ≡ no_counts → p.held.items ≡ []
-    → IsFresh reader → writer.failed ≡ false → Stands framer [] 0
-    → Between printing tables reads reader reader
-    (record { made = 0; most = reads; source = Number 1 }) writer writer framer p
-between_first printing tables reads reader writer framer p is under none held fresh works stands =
-    record {
-      read = [];
-      so_far = HasRead_none (Number 1) reads reader fresh;
-      printed =
-          record {
-            handed = handed_first framer stands;
-            printed = printed_none printing tables writer p is under none held works;
-          };
-      held = held;
-    }
-
--- all that is printed of the octets was written
-between_text : (printing : Printing) (tables : Entries) (reads : ℕ) (old now : Reading)
-    (pieces : Pieces) (first last : Writing) (framer : Framing) (p : Printer)
-    → (b : Between printing tables reads old now pieces first last framer p)
-    → WritesAll first last (frames_text printing tables (sure b.read))
-between_text printing tables reads old now pieces first last framer p b =
-    all_written p.held.items _ 0 p.counts.written first last b.held b.printed.printed.text
-
--- a read failed, or all reads answered octets
-pub prints_unread : (printing : Printing) (tables : Entries) (reads : ℕ) (old mid new : Reading)
-    (pieces after : Pieces) (first now : Writing) (framer : Framing) (p : Printer) (e : ToolFault)
-    → (b : Between printing tables reads old mid pieces first now framer p)
-    → ReadsOn (Number 1) reads old new after b.read (Err e)
-    → Prints printing tables reads old new first now (Err e)
-prints_unread printing tables reads old mid new pieces after first now framer p
-    (faults.ReadFailed which) b r = (
-      r.0,
-      r.1,
-      b.read,
-      r.2,
-      between_text printing tables reads old mid pieces first now framer p b,
-    )
-prints_unread printing tables reads old mid new pieces after first now framer p
-    (faults.EndlessInput which) b r = (
-      r.0,
-      r.1,
-      b.read,
-      r.2,
-      between_text printing tables reads old mid pieces first now framer p b,
-    )
-prints_unread printing tables reads old mid new pieces after first now framer p e b r = absurd r
-
--- so many reads were made at the most
-pub unread_bounded : (reads : ℕ) (old new : Reading) (after : Pieces) (read : List ℕ)
-    (e : ToolFault) → ReadsOn (Number 1) reads old new after read (Err e) → new.reads ≤ reads
-unread_bounded reads old new after read (faults.ReadFailed which) r = r.3
-unread_bounded reads old new after read (faults.EndlessInput which) r =
-    let all = r.1.reads in omega arith
-unread_bounded reads old new after read e r = absurd r
+-- no piece could be read behind these octets, and no line is held
+prints_unread : (reads : ℕ) (old new : Reading) (pieces : Pieces) (read : List ℕ) (start : Printer)
+    (first : Writing) (p : Printer) (now : Writing) (e : ToolFault)
+    → HasPrintedSince start first p now (sure read) → p.held.items ≡ []
+    → ReadsOn (Number 1) reads old new pieces read (Err e)
+    → Prints start.printing start.templates reads old new first now (Err e)
+prints_unread reads old new pieces read start first p now (faults.ReadFailed which) h none r = (
+  r.0,
+  r.1,
+  read,
+  r.2,
+  all_written p.held.items _ 0 p.written first now none h.printed.text,
+)
+prints_unread reads old new pieces read start first p now (faults.EndlessInput which) h none r = (
+  r.0,
+  r.1,
+  read,
+  r.2,
+  all_written p.held.items _ 0 p.written first now none h.printed.text,
+)
+prints_unread reads old new pieces read start first p now e h none r = absurd r
 
 -- a front of what is printed of sure frames is one of what is printed of the whole stream
 front_of_all : (printing : Printing) (tables : Entries) (left now : Option (List ℕ)) (read : List ℕ)
@@ -115,7 +70,7 @@ front_of_all printing tables (Some all) now read first last written given f =
     (last_text printing (tally_of printing tables (read ++ rest))) written longer)
 
 -- printing stopped within a piece
-pub prints_part : (printing : Printing) (tables : Entries) (reads : ℕ) (old new : Reading)
+prints_part : (printing : Printing) (tables : Entries) (reads : ℕ) (old new : Reading)
     (first now : Writing) (read : List ℕ) (count : ℕ) (e : ToolFault)
     → GoesOn old new read count → Stops (frames_text printing tables (sure read)) first now e
     → Prints printing tables reads old new first now (Err e)
@@ -175,3 +130,50 @@ pub prints_nothing : (printing : Printing) (tables : Entries) (reads : ℕ) (rea
     → Prints printing tables reads reader reader writer writer (Err faults.OutOfMemory)
 prints_nothing printing tables reads reader writer fresh works =
     (fresh.failed, [], HasGiven_none reader, lines_none writer _ works)
+
+-- printing stopped among some frames: so it did with all of them
+stops_further : (printing : Printing) (tables : Entries) (first now : Writing)
+    (front rest frames : List Found) (e : ToolFault) → frames ≡ front ++ rest
+    → Stops (frames_text printing tables front) first now e
+    → Stops (frames_text printing tables frames) first now e
+stops_further printing tables first now front rest frames (faults.WriteFailed written) is s =
+    subst (λ (fs : List Found). FailsAfter written first now (frames_text printing tables fs))
+    (sym is) (fails_further printing tables first now front rest written s)
+stops_further printing tables first now front rest frames faults.OutOfMemory is s =
+    lines_longer first now (frames_text printing tables front) (frames_text printing tables rest)
+    (frames_text printing tables frames)
+    (ap (frames_text printing tables) is ∙ text_append printing tables front rest) s
+stops_further printing tables first now front rest frames e is s = absurd s
+
+-- where it stops among the sure frames
+abbrev StopsPrinting : Printer → Writing → Writing → List Found → ToolFault → Type 0
+StopsPrinting start first now frames e =
+    Stops (frames_text start.printing start.templates frames) first now e
+
+-- a stream that was not taken in to its end was not printed to its end
+pub prints_early : (reads : ℕ) (old new : Reading) (start : Printer) (first : Writing) (p : Printer)
+    (now : Writing) (e : ToolFault)
+    → EndsEarly (HasPrintedSince start first p now) (p.held.items ≡ [])
+    (StopsPrinting start first now) (Number 1) reads old new e
+    → Prints start.printing start.templates reads old new first now (Err e)
+prints_early reads old new start first p now e (unread pieces read r h none) =
+    prints_unread reads old new pieces read start first p now e h none r
+prints_early reads old new start first p now e (at_piece read count on s) =
+    prints_part start.printing start.templates reads old new first now read count e on
+    (stops_further start.printing start.templates first now s.front s.rest (sure read) e s.parted
+    s.stopped)
+prints_early reads old new start first p now e (at_end stream out all given s) =
+    prints_whole start.printing start.templates reads old new first now stream (Err e) out all given
+    (end_stopped start.printing start.templates first now stream e
+    (stops_further start.printing start.templates first now s.front s.rest (cut stream) e s.parted
+    s.stopped))
+
+-- what a printer that was made so prints
+pub prints_made : (printing : Printing) (tables : Entries) (reads : ℕ) (old new : Reading)
+    (first now : Writing) (start : Printer) (r : Result Tally ToolFault)
+    → start.printing ≡ printing → start.templates ≡ tables
+    → Prints start.printing start.templates reads old new first now r
+    → Prints printing tables reads old new first now r
+prints_made printing tables reads old new first now start r is under h =
+    subst (λ q. Prints q tables reads old new first now r) is
+    (subst (λ t. Prints start.printing t reads old new first now r) under h)

@@ -98,3 +98,14 @@ pub some_lines : (first now : Writing) (front rest text : List ℕ) → text ≡
     → AreWholeLines front → WritesAll first now front → WritesLines first now text
 some_lines first now front rest text parted whole all =
     record { front = front; rest = rest; parted = parted; whole = whole; written = all }
+
+-- the first lines of a text are those of a longer one
+pub lines_longer : (first now : Writing) (text more all : List ℕ) → all ≡ text ++ more
+    → WritesLines first now text → WritesLines first now all
+lines_longer first now text more all is h = record {
+  front = h.front;
+  rest = h.rest ++ more;
+  parted = is ∙ ap (λ (t : List ℕ). t ++ more) h.parted ∙ append_assoc h.front h.rest more;
+  whole = h.whole;
+  written = h.written;
+}

@@ -104,9 +104,9 @@ listed_more m i s at =
 -- the lines before the first subset are held behind those that were
 pub heading_added : (m : Message) (p : Printer) (held : List ℕ) (w : Writing)
     → held ≡ p.held.items ++ heading_text m → AreWholeLines p.held.items → w.failed ≡ false
-    → WritesAllBut held (p.held.items ++ listed m 0) p.counts.written p.counts.written w w
+    → WritesAllBut held (p.held.items ++ listed m 0) p.written p.written w w
 heading_added m p held w grown whole works =
-    but_all held (p.held.items ++ listed m 0) p.counts.written w
+    but_all held (p.held.items ++ listed m 0) p.written w
     (ap (λ (t : List ℕ). p.held.items ++ t) (append-nil _) ∙ sym grown)
     (subst AreWholeLines (sym grown)
     (both_whole p.held.items (heading_text m) whole (joined_whole (heading_lines m))))
@@ -127,8 +127,8 @@ lines_at m listed i s at =
 pub subset_few : (m : Message) → HasShortListing m → (i : ℕ) (s : Subset) (q p' : Printer)
     (mid last : Writing) (done : Unit {0}) → slice_get m.subsets i ≡ Some s
     → Adds (joined (subset_lines s)) q p' mid last (Ok done)
-    → p'.counts.written + length p'.held.items
-    < q.counts.written + length q.held.items + 2 ^ 40
+    → p'.written + length p'.held.items
+    < q.written + length q.held.items + 2 ^ 40
 subset_few m listed i s q p' mid last done at added =
     let counted = counted_all _ _ _ _ _ _ added in
     omega (
@@ -141,15 +141,15 @@ subset_few m listed i s q p' mid last done at added =
 -- the lines of one subset more were added
 pub subset_more : (m : Message) (i : ℕ) (s : Subset) (p q p' : Printer) (first mid last : Writing)
     (done : Unit {0}) → slice_get m.subsets (i + 1 - 1) ≡ Some s
-    → WritesAllBut q.held.items (p.held.items ++ listed m i) p.counts.written q.counts.written
+    → WritesAllBut q.held.items (p.held.items ++ listed m i) p.written q.written
     first mid
     → Adds (joined (subset_lines s)) q p' mid last (Ok done)
-    → WritesAllBut p'.held.items (p.held.items ++ listed m (i + 1)) p.counts.written
-    p'.counts.written first last
+    → WritesAllBut p'.held.items (p.held.items ++ listed m (i + 1)) p.written
+    p'.written first last
 subset_more m i s p q p' first mid last done at w a =
     subst
-    (λ (t : List ℕ). WritesAllBut p'.held.items (p.held.items ++ t) p.counts.written
-    p'.counts.written first last)
+    (λ (t : List ℕ). WritesAllBut p'.held.items (p.held.items ++ t) p.written
+    p'.written first last)
     (sym (listed_more m i s at))
     (adds_then (listed m i) (joined (subset_lines s)) p q p' first mid last (Ok done)
     (joined_whole (subset_lines s)) w a)
@@ -158,7 +158,7 @@ subset_more m i s p q p' first mid last done at w a =
 pub subset_stopped : (m : Message) (i : ℕ) (s : Subset) (p q p' : Printer)
     (first mid last : Writing) (e : ToolFault) → slice_get m.subsets (i + 1 - 1) ≡ Some s
     → IsJoined m
-    → WritesAllBut q.held.items (p.held.items ++ listed m i) p.counts.written q.counts.written
+    → WritesAllBut q.held.items (p.held.items ++ listed m i) p.written q.written
     first mid
     → Adds (joined (subset_lines s)) q p' mid last (Err e)
     → Adds (listing m) p p' first last (Err e)
@@ -202,7 +202,7 @@ fields_few m listed i fields at lined =
 pub record AmidFields (all left : List Field) (p p' : Printer) (first now : Writing) : Type 0 where
   pub text : List ℕ
   pub parted : fields_text all ≡ text ++ fields_text left
-  pub added : WritesAllBut p'.held.items (p.held.items ++ text) p.counts.written p'.counts.written
+  pub added : WritesAllBut p'.held.items (p.held.items ++ text) p.written p'.written
       first now
 
 -- before the first was handed out
@@ -211,7 +211,7 @@ pub amid_fields : (all : List Field) (p : Printer) (w : Writing) → AreWholeLin
 amid_fields all p w whole works = record {
   text = [];
   parted = refl;
-  added = but_all p.held.items (p.held.items ++ []) p.counts.written w (append-nil p.held.items)
+  added = but_all p.held.items (p.held.items ++ []) p.written w (append-nil p.held.items)
       whole works;
 }
 
@@ -260,8 +260,8 @@ field_halted all left p q first mid a =
 -- what was written then and what is held are no more octets than those of all lines
 pub amid_few : (all left : List Field) (p q : Printer) (first mid : Writing)
     → AmidFields all left p q first mid
-    → q.counts.written + length q.held.items
-    ≤ p.counts.written + length p.held.items + length (fields_text all)
+    → q.written + length q.held.items
+    ≤ p.written + length p.held.items + length (fields_text all)
 amid_few all left p q first mid a =
     let counted = counted_all _ _ _ _ _ _ a.added in
     let whole = ap length a.parted in
@@ -276,10 +276,10 @@ amid_few all left p q first mid a =
 -- none is left
 pub fields_done : (all left : List Field) (p q : Printer) (first mid : Writing) → left ≡ []
     → AmidFields all left p q first mid
-    → WritesAllBut q.held.items (p.held.items ++ fields_text all) p.counts.written
-    q.counts.written first mid
+    → WritesAllBut q.held.items (p.held.items ++ fields_text all) p.written
+    q.written first mid
 fields_done all left p q first mid none a =
     subst
-    (λ (t : List ℕ). WritesAllBut q.held.items (p.held.items ++ t) p.counts.written
-    q.counts.written first mid)
+    (λ (t : List ℕ). WritesAllBut q.held.items (p.held.items ++ t) p.written
+    q.written first mid)
     (sym (a.parted ∙ ap (λ fs. a.text ++ fields_text fs) none ∙ append-nil a.text)) a.added

@@ -85,19 +85,19 @@ held_none held held' text before then now first mid last w all none long =
 -- lines were added to what is held
 pub adds_held : (text held : List ℕ) (p : Printer) (w : Writing) → held ≡ p.held.items ++ text
     → AreWholeLines p.held.items → AreWholeLines text → w.failed ≡ false
-    → WritesAllBut held (p.held.items ++ text) p.counts.written p.counts.written w w
+    → WritesAllBut held (p.held.items ++ text) p.written p.written w w
 adds_held text held p w is one two works =
-    but_all held (p.held.items ++ text) p.counts.written w (sym is)
+    but_all held (p.held.items ++ text) p.written w (sym is)
     (subst AreWholeLines (sym is) (both_whole p.held.items text one two)) works
 
 -- a text was added, and one more is held behind it
 both_held : (one two : List ℕ) (p q : Printer) (first mid : Writing) → AreWholeLines two
-    → WritesAllBut q.held.items (p.held.items ++ one) p.counts.written q.counts.written first mid
-    → WritesAllBut (q.held.items ++ two) (p.held.items ++ (one ++ two)) p.counts.written
-    q.counts.written first mid
+    → WritesAllBut q.held.items (p.held.items ++ one) p.written q.written first mid
+    → WritesAllBut (q.held.items ++ two) (p.held.items ++ (one ++ two)) p.written
+    q.written first mid
 both_held one two p q first mid whole w =
     held_more q.held.items (p.held.items ++ one) two (q.held.items ++ two)
-    (p.held.items ++ (one ++ two)) p.counts.written q.counts.written first mid refl
+    (p.held.items ++ (one ++ two)) p.written q.written first mid refl
     (sym (append_assoc p.held.items one two)) whole w
 
 -- where none is held all was written
@@ -184,7 +184,7 @@ held_fails held text rest all before then first mid last e is w p = absurd p
 
 -- so adding a text to what was held stopped
 adds_failed : (text : List ℕ) (p p' : Printer) (first last : Writing) (e : ToolFault)
-    → WritesAfter p.counts.written (p.held.items ++ text) first last (Err e)
+    → WritesAfter p.written (p.held.items ++ text) first last (Err e)
     → Adds text p p' first last (Err e)
 adds_failed text p p' first last (faults.WriteFailed written) f = f
 adds_failed text p p' first last e f = absurd f
@@ -192,24 +192,24 @@ adds_failed text p p' first last e f = absurd f
 -- so it did where memory ran out behind a front of the text
 pub adds_halts : (text done rest held : List ℕ) (p p' : Printer) (first last : Writing)
     → text ≡ done ++ rest
-    → WritesAllBut held (p.held.items ++ done) p.counts.written p'.counts.written first last
+    → WritesAllBut held (p.held.items ++ done) p.written p'.written first last
     → p'.held.items ≡ held → Adds text p p' first last (Err faults.OutOfMemory)
 adds_halts text done rest held p p' first last is w same =
-    some_all p'.held.items (p.held.items ++ done) rest (p.held.items ++ text) p.counts.written
-    p'.counts.written first last
+    some_all p'.held.items (p.held.items ++ done) rest (p.held.items ++ text) p.written
+    p'.written first last
     (ap (λ (t : List ℕ). p.held.items ++ t) is ∙ sym (append_assoc p.held.items done rest))
-    (subst (λ (t : List ℕ). WritesAllBut t (p.held.items ++ done) p.counts.written
-    p'.counts.written first last) (sym same) w)
+    (subst (λ (t : List ℕ). WritesAllBut t (p.held.items ++ done) p.written
+    p'.written first last) (sym same) w)
 
 -- or before the first of it
 pub adds_none : (text : List ℕ) (p p' : Printer) (w : Writing) → AreWholeLines p.held.items
-    → w.failed ≡ false → p'.held.items ≡ p.held.items → p'.counts.written ≡ p.counts.written
+    → w.failed ≡ false → p'.held.items ≡ p.held.items → p'.written ≡ p.written
     → Adds text p p' w w (Err faults.OutOfMemory)
 adds_none text p p' w whole works same written =
     adds_halts text [] text p.held.items p p' w w refl
-    (subst (λ n. WritesAllBut p.held.items (p.held.items ++ []) p.counts.written n w w)
+    (subst (λ n. WritesAllBut p.held.items (p.held.items ++ []) p.written n w w)
     (sym written)
-    (but_all p.held.items (p.held.items ++ []) p.counts.written w (append-nil p.held.items) whole
+    (but_all p.held.items (p.held.items ++ []) p.written w (append-nil p.held.items) whole
     works))
     same
 
@@ -222,18 +222,18 @@ behind_all before front rest text is =
 -- a text was added, and then another was, or adding it stopped: so it is with both
 pub adds_then : (one two : List ℕ) (p q p' : Printer) (first mid last : Writing)
     (r : Result (Unit {0}) ToolFault) → AreWholeLines two
-    → WritesAllBut q.held.items (p.held.items ++ one) p.counts.written q.counts.written first mid
+    → WritesAllBut q.held.items (p.held.items ++ one) p.written q.written first mid
     → Adds two q p' mid last r → Adds (one ++ two) p p' first last r
 adds_then one two p q p' first mid last (Ok done) whole w a =
-    held_less (q.held.items ++ two) p'.held.items (p.held.items ++ (one ++ two)) p.counts.written
-    q.counts.written p'.counts.written first mid last (both_held one two p q first mid whole w) a
+    held_less (q.held.items ++ two) p'.held.items (p.held.items ++ (one ++ two)) p.written
+    q.written p'.written first mid last (both_held one two p q first mid whole w) a
 adds_then one two p q p' first mid last (Err (faults.WriteFailed written)) whole w a =
     let all = p.held.items ++ (one ++ two) in
-    held_fails (q.held.items ++ two) all [] all p.counts.written q.counts.written first mid last
+    held_fails (q.held.items ++ two) all [] all p.written q.written first mid last
     (faults.WriteFailed written) (sym (append-nil all)) (both_held one two p q first mid whole w) a
 adds_then one two p q p' first mid last (Err faults.OutOfMemory) whole w a =
-    some_less (q.held.items ++ two) p'.held.items (p.held.items ++ (one ++ two)) p.counts.written
-    q.counts.written p'.counts.written first mid last (both_held one two p q first mid whole w) a
+    some_less (q.held.items ++ two) p'.held.items (p.held.items ++ (one ++ two)) p.written
+    q.written p'.written first mid last (both_held one two p q first mid whole w) a
 adds_then one two p q p' first mid last (Err e) whole w a = absurd a
 
 -- where adding the front of a text stopped, adding the text did
@@ -247,22 +247,22 @@ adds_longer front rest text p p' first last (faults.WriteFailed written) is a = 
       (fails_longer first last (p.held.items ++ front) rest a.0 a.2),
 )
 adds_longer front rest text p p' first last faults.OutOfMemory is a =
-    some_longer p'.held.items (p.held.items ++ front) rest (p.held.items ++ text) p.counts.written
-    p'.counts.written first last (behind_all p.held.items front rest text is) a
+    some_longer p'.held.items (p.held.items ++ front) rest (p.held.items ++ text) p.written
+    p'.written first last (behind_all p.held.items front rest text is) a
 adds_longer front rest text p p' first last e is a = absurd a
 
 -- a text was added, and then some of what is held was written, or the writer failed
 pub adds_written : (text : List ℕ) (p q p' : Printer) (first mid last : Writing)
     (r : Result (Unit {0}) ToolFault)
-    → WritesAllBut q.held.items (p.held.items ++ text) p.counts.written q.counts.written first mid
+    → WritesAllBut q.held.items (p.held.items ++ text) p.written q.written first mid
     → WritesPart q p' mid last r → Adds text p p' first last r
 adds_written text p q p' first mid last (Ok done) w part =
-    held_less q.held.items p'.held.items (p.held.items ++ text) p.counts.written q.counts.written
-    p'.counts.written first mid last w part
+    held_less q.held.items p'.held.items (p.held.items ++ text) p.written q.written
+    p'.written first mid last w part
 adds_written text p q p' first mid last (Err e) w part =
     let all = p.held.items ++ text in
     adds_failed text p p' first last e
-    (held_fails q.held.items all [] all p.counts.written q.counts.written first mid last e
+    (held_fails q.held.items all [] all p.written q.written first mid last e
     (sym (append-nil all)) w part)
 
 -- printing a text stopped where the writer failed
@@ -275,28 +275,19 @@ stops_failed text first last e f = absurd f
 
 -- ---- printing stopped
 
--- within a text, and so within a longer one
-pub within_longer : (text rest all : List ℕ) (first now : Writing) (p : Printer) (e : ToolFault)
-    → all ≡ text ++ rest → StopsWithin text first p now e → StopsWithin all first p now e
-within_longer text rest all first now p (faults.WriteFailed written) is s =
-    subst (FailsAfter written first now) (sym is) (fails_longer first now text rest written s)
-within_longer text rest all first now p faults.OutOfMemory is s =
-    (some_longer _ text rest all _ _ first now is s.0, s.1)
-within_longer text rest all first now p e is s = absurd s
-
 -- within a text that was added to what is held
 pub within_more : (text more : List ℕ) (first mid last : Writing) (p p' : Printer) (e : ToolFault)
-    → AreWholeLines more → WritesAllBut p.held.items text 0 p.counts.written first mid
+    → AreWholeLines more → WritesAllBut p.held.items text 0 p.written first mid
     → Adds more p p' mid last (Err e) → Fits p' → StopsWithin (text ++ more) first p' last e
 within_more text more first mid last p p' (faults.WriteFailed written) whole w a fits =
-    let f = held_fails (p.held.items ++ more) (text ++ more) [] (text ++ more) 0 p.counts.written
+    let f = held_fails (p.held.items ++ more) (text ++ more) [] (text ++ more) 0 p.written
     first mid last (faults.WriteFailed written) (sym (append-nil (text ++ more)))
-    (held_more p.held.items text more _ _ 0 p.counts.written first mid refl refl whole w) a in
+    (held_more p.held.items text more _ _ 0 p.written first mid refl refl whole w) a in
     stops_failed (text ++ more) first last (faults.WriteFailed written) f
 within_more text more first mid last p p' faults.OutOfMemory whole w a fits = (
-  some_less (p.held.items ++ more) p'.held.items (text ++ more) 0 p.counts.written
-      p'.counts.written first mid last
-      (held_more p.held.items text more _ _ 0 p.counts.written first mid refl refl whole w) a,
+  some_less (p.held.items ++ more) p'.held.items (text ++ more) 0 p.written
+      p'.written first mid last
+      (held_more p.held.items text more _ _ 0 p.written first mid refl refl whole w) a,
   fits,
 )
 within_more text more first mid last p p' e whole w a fits = absurd a
@@ -310,7 +301,7 @@ stops_written text first mid last p s all = some_written _ text _ _ first mid la
 -- or the writer failed then
 pub stops_then : (text : List ℕ) (first mid last : Writing) (p : Printer) (e : ToolFault)
     → StopsWithin text first p mid faults.OutOfMemory
-    → WritesAfter p.counts.written p.held.items mid last (Err e) → Stops text first last e
+    → WritesAfter p.written p.held.items mid last (Err e) → Stops text first last e
 stops_then text first mid last p e s f =
     stops_failed text first last e
     (held_fails _ s.0.front s.0.rest text 0 _ first mid last e s.0.parted s.0.done f)

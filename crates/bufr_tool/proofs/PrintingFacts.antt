@@ -1,12 +1,11 @@
--- What is printed frame by frame: the steps of the loops of `print_frames`, `print_piece` and
--- `print_stream`, and so of the contracts of `run_show` and `run_check`.
+-- What is printed frame by frame: the steps of `print_frame` and of what
+-- takes in the frames of a stream, and so of the contracts of `run_show` and `run_check`.
 use Rattle.std.proofs.Common.{◌≡◌, ℕ, ◌+◌, ◌*◌, ◌^◌, ◌<◌, ◌≤◌, false, inl, List, []}
-use Rattle.std.proofs.Common.{◌∷◌, ◌++◌, length, take, drop}
-use Rattle.std.proofs.Common.{Result, Ok, Err, get_or, refl, sym, ap, ◌∙◌, subst, arith}
-use Rattle.std.proofs.Common.{length-append, append_assoc, take-append-drop, IsErrAnd, IfSome}
-use Rattle.std.proofs.Common.{Option, Some}
+use Rattle.std.proofs.Common.{◌∷◌, ◌++◌, length}
+use Rattle.std.proofs.Common.{Result, Ok, Err, refl, sym, ap, ◌∙◌, subst, arith}
+use Rattle.std.proofs.Common.{length-append, IsErrAnd}
 use Rattle.std.specs.List.{sum_by, slice_index_or}
-use Rattle.std.proofs.lemmas.List.{drop_more, flat_map_more, take_more}
+use Rattle.std.proofs.lemmas.List.{append-nil, flat_map_more}
 use Rattle.std.proofs.lemmas.List.Sums.{sum_by_push, sum_by-le}
 use Rattle.std.proofs.lemmas.Grind.{flat_map-append}
 use Rattle.bufr_bits.specs.Devices.{Writing}
@@ -15,19 +14,19 @@ use Rattle.bufr_frame.specs.declared.frames.Found.{Found}
 use Rattle.bufr_message.specs.declared.Refused.{Refused}
 use Rattle.bufr_message.specs.declared.Decoded.{Decoded}
 use Rattle.bufr_message.specs.Messages.{message_of}
-use Rattle.bufr_tool.specs.declared.counts.Counts.{Counts}
+use Rattle.bufr_collect.specs.declared.counts.Counts.{Counts}
 use Rattle.bufr_tool.specs.declared.printer.Printer.{Printer}
 use Rattle.bufr_io.specs.declared.fault.ToolFault.{ToolFault}
 use Rattle.bufr_io.specs.declared.fault.ToolFault.TheVariants as faults
 use Rattle.bufr_tool.specs.declared.printing.Printing.{Printing}
 use Rattle.bufr_io.specs.Engines.{FailsAfter}
 use Rattle.bufr_collect.specs.Collected.{frame_refused, refused_as}
-use Rattle.bufr_tool.specs.Output.{frame_at, frame_text, frames_text}
+use Rattle.bufr_tool.specs.Output.{frame_text, frames_text}
 use Rattle.bufr_tool.specs.StreamEngines.{Fits, HasPrinted, Keeps, no_counts, PrintsFrame}
 use Rattle.bufr_tool.specs.StreamEngines.{StopsWithin, WritesAllBut, WritesHeld, WritesPart}
 use Rattle.bufr_tool.proofs.LineFacts.{frame_whole}
 use Rattle.bufr_tool.proofs.PartFacts.{adds_written, but_all, counted_all, held_less}
-use Rattle.bufr_tool.proofs.PartFacts.{held_more, held_none, some_all, within_longer, within_more}
+use Rattle.bufr_tool.proofs.PartFacts.{held_more, held_none, some_all, within_more}
 use Rattle.bufr_io.specs.WritingLaws.{fails_longer}
 
 -- the text of frames and one more
@@ -47,20 +46,20 @@ text_append printing tables frames more = flat_map-append (frame_text printing t
 pub frame_ends : (printing : Printing) (tables : Entries) (frame : Found) (p q p' : Printer)
     (first mid last : Writing) (r : Result (Unit {0}) ToolFault)
     → WritesPart q p' mid last r → Keeps q p'
-    → p'.counts.written + length p'.held.items < q.counts.written + 2 ^ 64
+    → p'.written + length p'.held.items < q.written + 2 ^ 64
     → WritesAllBut q.held.items (p.held.items ++ frame_text printing tables frame)
-    p.counts.written q.counts.written first mid
+    p.written q.written first mid
     → q.counts.frames ≡ p.counts.frames + 1
     → q.counts.refused ≡ p.counts.refused + frame_refused tables frame
-    → q.counts.octets ≡ p.counts.octets + length frame.bytes
-    → q.counts.written + 2 ^ 64 ≤ p.counts.written + 2 ^ 80
-    → p.counts.written + 2 ^ 80 ≤ 2 ^ 128
+    → q.octets ≡ p.octets + length frame.bytes
+    → q.written + 2 ^ 64 ≤ p.written + 2 ^ 80
+    → p.written + 2 ^ 80 ≤ 2 ^ 128
     → PrintsFrame printing tables frame p p' first last r
 frame_ends printing tables frame p q p' first mid last (Ok done) part keeps short w frames refused
     octets most fits =
     let text = frame_text printing tables frame in
-    let all = held_less q.held.items p'.held.items (p.held.items ++ text) p.counts.written
-    q.counts.written p'.counts.written first mid last w part in
+    let all = held_less q.held.items p'.held.items (p.held.items ++ text) p.written
+    q.written p'.written first mid last w part in
     record {
       text = all;
       frames = keeps.frames ∙ frames;
@@ -79,17 +78,17 @@ frame_ends printing tables frame p q p' first mid last (Err e) part keeps short 
 
 -- before the first frame none was printed
 pub printed_none : (printing : Printing) (tables : Entries) (first : Writing) (p : Printer)
-    → p.printing ≡ printing → p.templates ≡ tables → p.counts ≡ no_counts → p.held.items ≡ []
-    → first.failed ≡ false → HasPrinted printing tables first first p []
-printed_none printing tables first p is under none held works = record {
+    → p.printing ≡ printing → p.templates ≡ tables → p.counts ≡ no_counts → p.octets ≡ 0
+    → p.written ≡ 0 → p.held.items ≡ [] → first.failed ≡ false
+    → HasPrinted printing tables first first p []
+printed_none printing tables first p is under none inside out held works = record {
   printing_is = is;
   tables_are = under;
-  text = subst (λ n. WritesAllBut p.held.items [] 0 n first first)
-      (sym (ap (λ (k : Counts). k.written) none))
+  text = subst (λ n. WritesAllBut p.held.items [] 0 n first first) (sym out)
       (but_all p.held.items [] 0 first (sym held) (inl held) works);
   frames_are = ap (λ (k : Counts). k.frames) none;
   refused_are = ap (λ (k : Counts). k.refused) none;
-  octets_are = ap (λ (k : Counts). k.octets) none;
+  octets_are = inside;
   short = omega arith;
 }
 
@@ -118,11 +117,11 @@ printed_more printing tables first mid now p p' frames frame done h prints is un
     record {
       printing_is = is ∙ h.printing_is;
       tables_are = under ∙ h.tables_are;
-      text = subst (λ (t : List ℕ). WritesAllBut p'.held.items t 0 p'.counts.written first now)
+      text = subst (λ (t : List ℕ). WritesAllBut p'.held.items t 0 p'.written first now)
           (sym whole)
-          (held_less (p.held.items ++ here) p'.held.items (there ++ here) 0 p.counts.written
-          p'.counts.written first mid now
-          (held_more p.held.items there here _ _ 0 p.counts.written first mid refl refl
+          (held_less (p.held.items ++ here) p'.held.items (there ++ here) 0 p.written
+          p'.written first mid now
+          (held_more p.held.items there here _ _ 0 p.written first mid refl refl
           (frame_whole printing tables frame) h.text)
           a.text);
       frames_are = a.frames ∙ ap (λ n. n + 1) h.frames_are
@@ -146,7 +145,7 @@ printed_written printing tables first mid now p p' frames done h w keeps = recor
   printing_is = keeps.printing ∙ h.printing_is;
   tables_are = keeps.tables ∙ h.tables_are;
   text = held_none p.held.items p'.held.items (frames_text printing tables frames) 0
-      p.counts.written p'.counts.written first mid now h.text w.0 w.1 w.2;
+      p.written p'.written first mid now h.text w.0 w.1 w.2;
   frames_are = keeps.frames ∙ h.frames_are;
   refused_are = keeps.refused ∙ h.refused_are;
   octets_are = keeps.octets ∙ h.octets_are;
@@ -156,7 +155,7 @@ printed_written printing tables first mid now p p' frames done h w keeps = recor
 -- what is written and held of so many frames is short
 pub printed_short : (printing : Printing) (tables : Entries) (first now : Writing) (p : Printer)
     (frames : List Found) → HasPrinted printing tables first now p frames
-    → p.counts.written + length p.held.items + p.counts.frames ≤ 2 ^ 80 * p.counts.frames
+    → p.written + length p.held.items + p.counts.frames ≤ 2 ^ 80 * p.counts.frames
 printed_short printing tables first now p frames h =
     omega (arith, counted_all _ _ _ _ _ _ h.text, h.short, h.frames_are)
 
@@ -202,76 +201,30 @@ pub passed : {A F : Type 0} (P : Result A F → Type 0) (r : Result A F) (e : F)
 passed P (Ok x) e is p = absurd is
 passed P (Err y) e is p = subst (λ z. P (Err z)) (sym is) p
 
--- what printing answers that stopped at a frame, of all frames that there are
+-- what printing answers that stopped at a frame behind others
 pub stopped : (printing : Printing) (tables : Entries) (first mid now : Writing)
-    (p p' : Printer) (frames more all : List Found) (frame : Found) (e : ToolFault)
-    → all ≡ (frames ++ frame ∷ []) ++ more → HasPrinted printing tables first mid p frames
+    (p p' : Printer) (frames : List Found) (frame : Found) (e : ToolFault)
+    → HasPrinted printing tables first mid p frames
     → PrintsFrame p.printing p.templates frame p p' mid now (Err e)
-    → StopsWithin (frames_text printing tables all) first p' now e
-stopped printing tables first mid now p p' frames more all frame e is h prints =
+    → StopsWithin (frames_text printing tables (frames ++ frame ∷ [])) first p' now e
+stopped printing tables first mid now p p' frames frame e h prints =
     let a = told printing tables first mid now p p' frames frame (Err e) h prints in
-    let here = frame_text printing tables frame in
-    let there = frames_text printing tables frames in
-    let whole : frames_text printing tables all
-    ≡ (there ++ here) ++ frames_text printing tables more =
-    ap (frames_text printing tables) is ∙ text_append printing tables (frames ++ frame ∷ []) more
-    ∙ ap (λ (t : List ℕ). t ++ frames_text printing tables more)
-    (text_more printing tables frames frame) in
-    within_longer (there ++ here) (frames_text printing tables more)
-    (frames_text printing tables all) first now p' e whole
-    (within_more there here first mid now p p' e (frame_whole printing tables frame) h.text
-    a.0 a.1)
+    subst (λ (t : List ℕ). StopsWithin t first p' now e)
+    (sym (text_more printing tables frames frame))
+    (within_more (frames_text printing tables frames) (frame_text printing tables frame) first mid
+    now p p' e (frame_whole printing tables frame) h.text a.0 a.1)
 
--- memory ran out behind some of all frames
+-- memory ran out behind some frames
 pub halted : (printing : Printing) (tables : Entries) (first now : Writing) (p p' : Printer)
-    (frames more all : List Found) → all ≡ frames ++ more
-    → HasPrinted printing tables first now p frames → length frames ≤ 2 ^ 48
-    → p'.held.items ≡ p.held.items → p'.counts.written ≡ p.counts.written
-    → StopsWithin (frames_text printing tables all) first p' now faults.OutOfMemory
-halted printing tables first now p p' frames more all is h few held written =
-    let fits = printed_fits printing tables first now p frames h few in (
-      some_all p'.held.items (frames_text printing tables frames)
-          (frames_text printing tables more) (frames_text printing tables all) 0
-          p'.counts.written first now
-          (ap (frames_text printing tables) is ∙ text_append printing tables frames more)
-          (subst (λ n. WritesAllBut p'.held.items (frames_text printing tables frames) 0 n first
-          now) (sym written)
-          (subst (λ (t : List ℕ). WritesAllBut t (frames_text printing tables frames) 0
-          p.counts.written first now) (sym held) h.text)),
+    (frames : List Found) → HasPrinted printing tables first now p frames
+    → length frames ≤ 2 ^ 48 → p'.held.items ≡ p.held.items → p'.written ≡ p.written
+    → StopsWithin (frames_text printing tables frames) first p' now faults.OutOfMemory
+halted printing tables first now p p' frames h few held written =
+    let fits = printed_fits printing tables first now p frames h few in
+    let text = frames_text printing tables frames in (
+      some_all p'.held.items text [] text 0 p'.written first now (sym (append-nil text))
+          (subst (λ n. WritesAllBut p'.held.items text 0 n first now) (sym written)
+          (subst (λ (t : List ℕ). WritesAllBut t text 0 p.written first now) (sym held)
+          h.text)),
       λ long. let a = ap length held in omega (arith, fits (omega (arith, long, a)), a, written),
     )
-
--- a list up to one of its elements, that one, and those behind it
-pub split_at : {A : Type 0} (xs : List A) (i : ℕ) (x : A) → i < length xs → x ≡ get_or xs i x
-    → xs ≡ take i xs ++ x ∷ drop (i + 1) xs
-split_at xs i x inside is =
-    sym (take-append-drop i xs)
-    ∙ ap (λ ys. take i xs ++ ys)
-    (drop_more xs i x inside ∙ ap (λ y. y ∷ drop (i + 1) xs) (sym is))
-
--- the octets of a frame at its place are that frame
-pub same_frame : (frame : Found) (place : ℕ) (octets : List ℕ) → place ≡ frame.place
-    → octets ≡ frame.bytes → frame_at place octets ≡ frame
-same_frame frame place octets at has = rw (at, has) refl
-
--- the frames of a list up to one, that one, and those behind it
-pub parted_at : (frames : List Found) (i : ℕ) (frame : Found) (before : List Found)
-    → i < length frames → frame ≡ get_or frames i frame
-    → before ++ frames ≡ ((before ++ take i frames) ++ frame ∷ []) ++ drop (i + 1) frames
-parted_at frames i frame before inside is =
-    ap (λ (fs : List Found). before ++ fs) (split_at frames i frame inside is)
-    ∙ sym (append_assoc before (take i frames) (frame ∷ drop (i + 1) frames))
-    ∙ sym (append_assoc (before ++ take i frames) (frame ∷ []) (drop (i + 1) frames))
-
--- and with it they are the first of one more
-pub taken_to : (frames : List Found) (i : ℕ) (frame : Found) (before : List Found)
-    → i < length frames → frame ≡ get_or frames i frame
-    → (before ++ take i frames) ++ frame ∷ [] ≡ before ++ take (i + 1) frames
-taken_to frames i frame before inside is =
-    append_assoc before (take i frames) (frame ∷ [])
-    ∙ ap (λ (fs : List Found). before ++ fs)
-    (ap (λ (f : Found). take i frames ++ f ∷ []) is ∙ sym (take_more frames i frame inside))
-
--- what holds of the value of an option
-pub some_is : {A : Type 0} (P : A → Type 0) (o : Option A) (x : A) → o ≡ Some x → IfSome o P → P x
-some_is P o x e p = subst (λ w. IfSome w P) e p

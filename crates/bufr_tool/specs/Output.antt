@@ -19,10 +19,6 @@ use Rattle.bufr_tool.specs.declared.printing.Printing.TheVariants.{Shown, Checke
 
 -- ---- one frame
 
--- the frame of these octets at a place
-abbrev pub frame_at : ℕ → List ℕ → Found
-frame_at place octets = record { place = place; bytes = octets }
-
 -- what `show` prints of fields of a subset, a line each
 abbrev pub fields_text : List Field → List ℕ
 fields_text fields = flat_map (λ f. line (field_line f)) fields

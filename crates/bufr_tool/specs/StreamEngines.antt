@@ -6,12 +6,9 @@ use Rattle.bufr_answers.specs.declared.failure.Failure.TheVariants.{Fault, OutOf
 use Rattle.bufr_bits.specs.Devices.{Reading, Writing}
 use Rattle.bufr_tables.specs.Entries.{Entries}
 use Rattle.bufr_frame.specs.declared.frames.Found.{Found}
-use Rattle.bufr_frame.specs.Framings.{Framing}
 use Rattle.bufr_frame.specs.Streams.{cut, sure}
-use Rattle.bufr_frame.specs.NextFrames.{HandedOut}
 use Rattle.bufr_message.specs.declared.Decoded.{Decoded}
 use Rattle.bufr_message.specs.declared.Refused.{Refused}
-use Rattle.bufr_tool.specs.declared.counts.Counts.{Counts}
 use Rattle.bufr_tool.specs.declared.printer.Printer.{Printer}
 use Rattle.bufr_io.specs.declared.fault.Input.TheVariants.{Number}
 use Rattle.bufr_io.specs.declared.fault.Tally.{Tally}
@@ -20,6 +17,7 @@ use Rattle.bufr_io.specs.declared.fault.ToolFault.TheVariants as faults
 use Rattle.bufr_tool.specs.declared.printing.Printing.{Printing}
 use Rattle.bufr_io.specs.Engines.{WasReadOut, HasFailed, IsEndless, HasGiven, AreAllOf}
 use Rattle.bufr_io.specs.Engines.{WritesAll, WritesAfter, FailsAfter}
+use Rattle.bufr_collect.specs.declared.counts.Counts.{Counts}
 use Rattle.bufr_collect.specs.Collected.{frame_refused, refused_of}
 use Rattle.bufr_tool.specs.Output.{frame_text, frames_text, octets_of}
 use Rattle.bufr_tool.specs.Output.{stream_text, tally_of}
@@ -94,30 +92,30 @@ abbrev pub WritesHeld : Printer → Printer → Writing → Writing → Result (
     → Type 0
 WritesHeld p p' writer writer' (Ok done) =
     WritesAll writer writer' p.held.items × (p'.held.items ≡ [])
-    × (p'.counts.written ≡ p.counts.written + length p.held.items)
+    × (p'.written ≡ p.written + length p.held.items)
 WritesHeld p p' writer writer' (Err fault) =
-    WritesAfter p.counts.written p.held.items writer writer' (Err fault)
+    WritesAfter p.written p.held.items writer writer' (Err fault)
 
 -- a text was added to the lines that were held: of both the first lines were written and the others
 -- are held; or the writer failed after a front of them; or memory ran out behind some of the lines
 abbrev pub Adds : List ℕ → Printer → Printer → Writing → Writing → Result (Unit {0}) ToolFault
     → Type 0
 Adds text p p' writer writer' (Ok done) = WritesAllBut p'.held.items (p.held.items ++ text)
-    p.counts.written p'.counts.written writer writer'
+    p.written p'.written writer writer'
 Adds text p p' writer writer' (Err (faults.WriteFailed written)) =
-    (more : ℕ) × (written ≡ p.counts.written + more)
+    (more : ℕ) × (written ≡ p.written + more)
     × FailsAfter more writer writer' (p.held.items ++ text)
 Adds text p p' writer writer' (Err faults.OutOfMemory) = WritesSome p'.held.items
-    (p.held.items ++ text) p.counts.written p'.counts.written writer writer'
+    (p.held.items ++ text) p.written p'.written writer writer'
 Adds text p p' writer writer' (Err fault) = ⊥
 
 -- so it is with lines that were held, of which fewer are held now
 abbrev pub WritesPart : Printer → Printer → Writing → Writing → Result (Unit {0}) ToolFault
     → Type 0
 WritesPart p p' writer writer' (Ok done) = WritesAllBut p'.held.items p.held.items
-    p.counts.written p'.counts.written writer writer'
+    p.written p'.written writer writer'
 WritesPart p p' writer writer' (Err fault) =
-    WritesAfter p.counts.written p.held.items writer writer' (Err fault)
+    WritesAfter p.written p.held.items writer writer' (Err fault)
 
 -- what is printed of frames, under which tables, and what was counted of them stay; lines are held
 -- or written
@@ -126,26 +124,26 @@ pub record Keeps (p p' : Printer) : Type 0 where
   pub tables : p'.templates ≡ p.templates
   pub frames : p'.counts.frames ≡ p.counts.frames
   pub refused : p'.counts.refused ≡ p.counts.refused
-  pub octets : p'.counts.octets ≡ p.counts.octets
+  pub octets : p'.octets ≡ p.octets
 
 -- what is held, which is no longer than a vector can be, can be counted with what was written
 abbrev pub Fits : Printer → Type 0
-Fits p = length p.held.items < 2 ^ 64 → p.counts.written + length p.held.items < 2 ^ 128
+Fits p = length p.held.items < 2 ^ 64 → p.written + length p.held.items < 2 ^ 128
 
 -- ---- frame by frame
 
 -- what is counted before the first frame
 abbrev pub no_counts : Counts
-no_counts = record { frames = 0; refused = 0; octets = 0; written = 0 }
+no_counts = record { frames = 0; refused = 0 }
 
 -- a frame was printed and counted
 pub record HasAdded (printing : Printing) (tables : Entries) (frame : Found) (p p' : Printer)
     (writer writer' : Writing) : Type 0 where
   pub text : WritesAllBut p'.held.items (p.held.items ++ frame_text printing tables frame)
-      p.counts.written p'.counts.written writer writer'
+      p.written p'.written writer writer'
   pub frames : p'.counts.frames ≡ p.counts.frames + 1
   pub refused : p'.counts.refused ≡ p.counts.refused + frame_refused tables frame
-  pub octets : p'.counts.octets ≡ p.counts.octets + length frame.bytes
+  pub octets : p'.octets ≡ p.octets + length frame.bytes
   pub short : length (frame_text printing tables frame) < 2 ^ 80
 
 -- what a call answered that did not run out of memory: this message, or this fault
@@ -168,11 +166,11 @@ pub record HasPrinted (printing : Printing) (tables : Entries) (first now : Writ
     (p : Printer) (frames : List Found) : Type 0 where
   pub printing_is : p.printing ≡ printing
   pub tables_are : p.templates ≡ tables
-  pub text : WritesAllBut p.held.items (frames_text printing tables frames) 0 p.counts.written
+  pub text : WritesAllBut p.held.items (frames_text printing tables frames) 0 p.written
       first now
   pub frames_are : p.counts.frames ≡ length frames
   pub refused_are : p.counts.refused ≡ refused_of tables frames
-  pub octets_are : p.counts.octets ≡ octets_of frames
+  pub octets_are : p.octets ≡ octets_of frames
   pub short : length (frames_text printing tables frames) + length frames ≤ 2 ^ 80 * length frames
 
 -- printing a text stopped with a fault: the writer failed after a front of it; or memory ran out
@@ -180,7 +178,7 @@ pub record HasPrinted (printing : Printing) (tables : Entries) (first now : Writ
 abbrev pub StopsWithin : List ℕ → Writing → Printer → Writing → ToolFault → Type 0
 StopsWithin text first p now (faults.WriteFailed written) = FailsAfter written first now text
 StopsWithin text first p now faults.OutOfMemory =
-    WritesSome p.held.items text 0 p.counts.written first now × Fits p
+    WritesSome p.held.items text 0 p.written first now × Fits p
 StopsWithin text first p now fault = ⊥
 
 -- so it is when no line is held
@@ -189,35 +187,11 @@ Stops text first now (faults.WriteFailed written) = FailsAfter written first now
 Stops text first now faults.OutOfMemory = WritesLines first now text
 Stops text first now fault = ⊥
 
--- these frames were printed, or printing them stopped
-abbrev pub PrintsFrames : Printing → Entries → List Found → Printer → Writing → Writing
-    → Result (Unit {0}) ToolFault → Type 0
-PrintsFrames printing tables frames p first now (Ok done) =
-    HasPrinted printing tables first now p frames
-PrintsFrames printing tables frames p first now (Err fault) =
-    StopsWithin (frames_text printing tables frames) first p now fault
-
--- of this stream all sure frames were handed out and printed
-pub record HasPrintedSure (printing : Printing) (tables : Entries) (first now : Writing)
-    (framer : Framing) (p : Printer) (stream : List ℕ) : Type 0 where
-  pub handed : HandedOut framer stream (sure stream)
-  pub printed : HasPrinted printing tables first now p (sure stream)
-
--- a stream with one piece more was printed so, or printing the frames that are sure then stopped
-abbrev pub TakesPiece : Printing → Entries → List ℕ → Framing → Printer → Writing → Writing
-    → Result (Unit {0}) ToolFault → Type 0
-TakesPiece printing tables stream framer p first now (Ok done) =
-    HasPrintedSure printing tables first now framer p stream
-TakesPiece printing tables stream framer p first now (Err fault) =
-    StopsWithin (frames_text printing tables (sure stream)) first p now fault
-
--- and no line is held
-abbrev pub PrintsPiece : Printing → Entries → List ℕ → Framing → Printer → Writing → Writing
-    → Result (Unit {0}) ToolFault → Type 0
-PrintsPiece printing tables stream framer p first now (Ok done) =
-    HasPrintedSure printing tables first now framer p stream × (p.held.items ≡ [])
-PrintsPiece printing tables stream framer p first now (Err fault) =
-    Stops (frames_text printing tables (sure stream)) first now fault
+-- since these states of the printer and of its writer these frames were printed and counted
+pub record HasPrintedSince (start : Printer) (first : Writing) (p : Printer) (now : Writing)
+    (frames : List Found) : Type 0 where
+  pub counted : p.counts.frames ≡ start.counts.frames + length frames
+  pub printed : HasPrinted start.printing start.templates first now p frames
 
 -- a stream of so many octets has ended, and all its frames were printed
 pub record HasEnded (printing : Printing) (tables : Entries) (first now : Writing) (p : Printer)

@@ -1,121 +1,59 @@
 //! Printing the frames of a stream as they are found.
 
-ghost use Rattle.std.specs.Prelude.{◌≡◌, ◌≤◌, ◌<◌, ◌+◌, ◌*◌, ◌^◌, ◌++◌, ℕ, List, false, length};
+ghost use Rattle.std.specs.Prelude.{◌≡◌, ◌≤◌, ◌<◌, ◌^◌, ℕ, List, false, []};
 ghost use Rattle.bufr_bits.specs.Devices.{Writing};
-ghost use Rattle.bufr_frame.specs.declared.frames.Found.{Found as FoundFrame};
-ghost use Rattle.bufr_frame.specs.Streams.{cut};
 ghost use Rattle.bufr_tables.specs.Entries.{Entries};
 ghost use Rattle.bufr_io.specs.Engines.{IsFresh};
 ghost use Rattle.bufr_io.specs.Limits.{most_reads};
-ghost use Rattle.bufr_tool.specs.Output.{octets_of, skipped_by};
+ghost use Rattle.bufr_tool.specs.Output.{frames_text, skipped_by};
 ghost use Rattle.bufr_tool.specs.declared.printing.Printing.{Printing as PrintingKind};
-ghost use Rattle.bufr_tool.specs.StreamEngines.{HasEnded, HasPrinted, HasPrintedSure, Prints};
-ghost use Rattle.bufr_tool.specs.StreamEngines.{PrintsEnd, PrintsFrames, PrintsPiece, TakesPiece};
+ghost use Rattle.bufr_tool.specs.StreamEngines.{HasEnded, HasPrintedSince, Prints, PrintsEnd, Stops};
 
 use crate::printer::Printer;
 use crate::printing::{Printing, hold_tally};
 use bufr_bits::{Sink, Source};
-use bufr_frame::{Found, Framer, NextFrame};
-use bufr_io::{Input, Pieces, Tally, ToolFault, room, write_out};
+use bufr_collect::{TakesFrames, take_stream};
+use bufr_io::{Input, Tally, ToolFault, room, write_out};
 use bufr_tables::Tables;
 use std::alloc::Global;
 
-/// Prints frames after those that were printed.
-fn print_frames<W: Sink>(
-    alloc: Global,
-    frames: &[Found],
-    printer: &mut Printer<'_>,
-    writer: &mut W,
-) -> Result<(), ToolFault>
-    requires so_far { (printing : PrintingKind) × (tables : Entries) × (first : Writing)
-        × (before : List FoundFrame)
-        × HasPrinted printing tables first (W.writing writer.old) printer.old before }
-    requires few { printer.old.counts.frames + length frames.now ≤ 2 ^ 48 }
-    requires short { printer.old.counts.octets + octets_of frames.now < 2 ^ 64 }
-    ensures { (printing : PrintingKind) (tables : Entries) (first : Writing)
-        (before : List FoundFrame)
-        → HasPrinted printing tables first (W.writing writer.old) printer.old before
-        → PrintsFrames printing tables (before ++ frames.now) printer.new first
-        (W.writing writer.new) result }
-{
-    for frame in frames {
-        printer.print_frame(alloc, frame.place, frame.bytes.as_slice(), writer)?;
-    }
-    Ok(())
-}
+/// A printer prints each frame that it takes in. The lines of the frames that a piece makes sure are
+/// written together, behind the piece. Where memory runs out they are written too, and the fault is
+/// the writer's where it fails then.
+impl<'t, W: Sink> TakesFrames<W> for Printer<'t> {
+    ghost count = { λ printer writer. printer.counts.frames };
 
-/// Takes in a piece of a stream, and prints the frames that are sure then.
-fn take_piece<W: Sink>(
-    alloc: Global,
-    piece: &[u8],
-    framer: &mut Framer,
-    printer: &mut Printer<'_>,
-    writer: &mut W,
-) -> Result<(), ToolFault>
-    requires so_far { (printing : PrintingKind) × (tables : Entries) × (first : Writing)
-        × (stream : List ℕ) × HasPrintedSure printing tables first
-        (W.writing writer.old) framer.old printer.old stream }
-    requires room { framer.old.fed + length piece.now ≤ 2 ^ 48 }
-    ensures { (printing : PrintingKind) (tables : Entries) (first : Writing) (stream : List ℕ)
-        → HasPrintedSure printing tables first
-        (W.writing writer.old) framer.old printer.old stream
-        → TakesPiece printing tables (stream ++ piece.now) framer.new printer.new first
-        (W.writing writer.new) result }
-{
-    let mut rest = piece;
-    loop {
-        let NextFrame { found, rest: left } = framer.next_frame(rest)?;
-        let Some(frame) = found else {
-            return Ok(());
-        };
-        printer.print_frame(alloc, frame.place(), frame.as_slice(), writer)?;
-        rest = left;
-    }
-}
+    ghost HasTaken = { λ first begin printer writer frames.
+        HasPrintedSince first (W.writing begin) printer (W.writing writer) frames };
 
-/// Takes in a piece of a stream, prints the frames that are sure then, and holds no line of them.
-fn print_piece<W: Sink>(
-    alloc: Global,
-    piece: &[u8],
-    framer: &mut Framer,
-    printer: &mut Printer<'_>,
-    writer: &mut W,
-) -> Result<(), ToolFault>
-    requires so_far { (printing : PrintingKind) × (tables : Entries) × (first : Writing)
-        × (stream : List ℕ) × HasPrintedSure printing tables first
-        (W.writing writer.old) framer.old printer.old stream }
-    requires room { framer.old.fed + length piece.now ≤ 2 ^ 48 }
-    ensures { (printing : PrintingKind) (tables : Entries) (first : Writing) (stream : List ℕ)
-        → HasPrintedSure printing tables first
-        (W.writing writer.old) framer.old printer.old stream
-        → PrintsPiece printing tables (stream ++ piece.now) framer.new printer.new first
-        (W.writing writer.new) result }
-{
-    match take_piece(alloc, piece, framer, printer, writer) {
-        Ok(()) => printer.write_held(writer),
-        Err(fault) => Err(printer.stop(fault, writer)),
-    }
-}
+    ghost HoldsNone = { λ printer writer. printer.held.items ≡ [] };
 
-/// Ends a stream, and prints the frames that are left.
-fn print_rest<W: Sink>(
-    alloc: Global,
-    framer: &mut Framer,
-    printer: &mut Printer<'_>,
-    writer: &mut W,
-) -> Result<(), ToolFault>
-    requires long { framer.old.fed < 2 ^ 48 }
-    requires so_far { (printing : PrintingKind) × (tables : Entries) × (first : Writing)
-        × (stream : List ℕ) × HasPrintedSure printing tables first
-        (W.writing writer.old) framer.old printer.old stream }
-    ensures { (printing : PrintingKind) (tables : Entries) (first : Writing) (stream : List ℕ)
-        → HasPrintedSure printing tables first
-        (W.writing writer.old) framer.old printer.old stream
-        → PrintsFrames printing tables (cut stream) printer.new first
-        (W.writing writer.new) result }
-{
-    let frames = framer.finish()?;
-    print_frames(alloc, &frames, printer, writer)
+    ghost HasStopped = { λ first begin printer writer frames fault.
+        Stops (frames_text first.printing first.templates frames) (W.writing begin)
+        (W.writing writer) fault };
+
+    fn take_frame(
+        &mut self,
+        alloc: Global,
+        place: u64,
+        octets: &[u8],
+        out: &mut W,
+    ) -> Result<(), ToolFault> {
+        match self.print_frame(alloc, place, octets, out) {
+            Ok(()) => Ok(()),
+            Err(fault) => Err(self.stop(fault, out)),
+        }
+    }
+
+    fn end_piece(&mut self, out: &mut W) -> Result<(), ToolFault> {
+        self.write_held(out)
+    }
+
+    fn halt(&mut self, out: &mut W) -> ToolFault {
+        self.stop(ToolFault::OutOfMemory, out)
+    }
+
+    ghost counts_each = { λ first self begin out frames h. h.counted };
 }
 
 /// Counts a stream of so many octets, all of whose frames were printed, prints what stands after
@@ -135,47 +73,23 @@ fn print_tally<W: Sink>(
 {
     let skipped = match printer.printing {
         Printing::Shown => 0,
-        Printing::Checked => fed - printer.counts.octets,
+        Printing::Checked => fed - printer.octets,
     };
     let tally = Tally {
-        frames: printer.counts.frames as u128,
-        refused: printer.counts.refused as u128,
+        frames: printer.counts.frames,
+        refused: printer.counts.refused,
         skipped: skipped as u128,
         reports: 0,
     };
     let Ok(()) = hold_tally(&mut printer.held, printer.printing, &tally) else {
         return Err(printer.stop(ToolFault::OutOfMemory, writer));
     };
-    write_out(writer, printer.counts.written, &printer.held)?;
+    write_out(writer, printer.written, &printer.held)?;
     Ok(tally)
 }
 
-/// Ends a stream: prints the frames that are left, and what stands after them.
-fn print_end<W: Sink>(
-    alloc: Global,
-    framer: &mut Framer,
-    printer: &mut Printer<'_>,
-    writer: &mut W,
-) -> Result<Tally, ToolFault>
-    requires long { framer.old.fed < 2 ^ 48 }
-    requires so_far { (printing : PrintingKind) × (tables : Entries) × (first : Writing)
-        × (stream : List ℕ) × HasPrintedSure printing tables first
-        (W.writing writer.old) framer.old printer.old stream }
-    ensures { (printing : PrintingKind) (tables : Entries) (first : Writing) (stream : List ℕ)
-        → HasPrintedSure printing tables first
-        (W.writing writer.old) framer.old printer.old stream
-        → PrintsEnd printing tables stream first (W.writing writer.new) result }
-{
-    let fed = framer.fed();
-    match print_rest(alloc, framer, printer, writer) {
-        Ok(()) => print_tally(fed, printer, writer),
-        Err(fault) => Err(printer.stop(fault, writer)),
-    }
-}
-
-/// Prints the frames of the stream of a reader, each as soon as it is sure. The lines of the frames
-/// that a piece makes sure are written together, before the next read. Where memory runs out they
-/// are written too, and the fault is the writer's where it fails then.
+/// Prints the frames of the stream of a reader, each as soon as it is sure, and what stands after
+/// them.
 pub fn print_stream<S: Source, W: Sink>(
     alloc: Global,
     printing: Printing,
@@ -192,11 +106,8 @@ pub fn print_stream<S: Source, W: Sink>(
         (W.writing writer.old) (W.writing writer.new) result }
 {
     let mut room = room(alloc)?;
-    let mut framer = Framer::new(alloc);
     let mut printer = Printer::new(alloc, printing, tables);
-    let mut pieces = Pieces::new(reads, Input::Number(1));
-    while let Some(piece) = pieces.next(reader, &mut room)? {
-        print_piece(alloc, piece, &mut framer, &mut printer, writer)?;
-    }
-    print_end(alloc, &mut framer, &mut printer, writer)
+    let source = Input::Number(1);
+    let fed = take_stream(alloc, reads, source, reader, &mut room, &mut printer, writer)?;
+    print_tally(fed, &mut printer, writer)
 }

@@ -4,7 +4,6 @@
 mod check;
 mod command;
 mod command_line;
-mod counts;
 mod encode;
 mod frames;
 mod late_file;

@@ -12,14 +12,15 @@ ghost use Rattle.bufr_message.specs.ShortListings.{HasShortListing};
 ghost use Rattle.bufr_answers.specs.Answers.{Gives};
 ghost use Rattle.bufr_collect.specs.Collected.{refused_as};
 ghost use Rattle.bufr_tool.specs.Lines.{AreWholeLines};
-ghost use Rattle.bufr_tool.specs.Output.{fields_text, frame_at, frame_text};
+ghost use Rattle.bufr_collect.specs.Taking.{frame_at};
+ghost use Rattle.bufr_tool.specs.Output.{fields_text, frame_text};
 ghost use Rattle.bufr_tool.specs.StreamEngines.{Adds, Fits, Keeps, no_counts, PrintsFrame};
 ghost use Rattle.bufr_tool.specs.StreamEngines.{Stops, StopsWithin, Tells, WritesHeld, WritesPart};
 
-use crate::counts::Counts;
 use crate::printing::{Printing, hold_checked, hold_refused};
 use bufr_answers::Failure;
 use bufr_bits::Sink;
+use bufr_collect::Counts;
 use bufr_io::{ToolFault, write_after};
 use bufr_listing::laws::{listings_are_joined_parts, subsets_are_joined_lines};
 use bufr_listing::{push_field, push_subset_line};
@@ -39,8 +40,12 @@ pub struct Printer<'t> {
     pub printing: Printing,
     /// The tables of the stream.
     pub templates: Templates<'t>,
-    /// What was counted of the frames that were printed.
+    /// The frames that were printed are counted.
     pub counts: Counts,
+    /// How many octets these frames have.
+    pub octets: u64,
+    /// How many octets were written for them.
+    pub written: u128,
     /// The lines that are printed and not yet written.
     pub held: Vec<u8>,
 }
@@ -51,6 +56,8 @@ impl<'t> Printer<'t> {
         ensures printing { result.printing ≡ printing }
         ensures tables { result.templates ≡ tables.now }
         ensures counts { result.counts ≡ no_counts }
+        ensures octets { result.octets ≡ 0 }
+        ensures written { result.written ≡ 0 }
         ensures held { result.held.items ≡ [] }
     {
         Printer {
@@ -59,9 +66,9 @@ impl<'t> Printer<'t> {
             counts: Counts {
                 frames: 0,
                 refused: 0,
-                octets: 0,
-                written: 0,
             },
+            octets: 0,
+            written: 0,
             held: Vec::new(alloc),
         }
     }
@@ -73,15 +80,15 @@ impl<'t> Printer<'t> {
         ensures writes { WritesHeld self.old self.new (W.writing writer.old) (W.writing writer.new)
             result }
         ensures keeps { Keeps self.old self.new }
-        ensures short { self.new.counts.written + length self.new.held.items
-            < self.old.counts.written + 2 ^ 64 }
+        ensures short { self.new.written + length self.new.held.items
+            < self.old.written + 2 ^ 64 }
     {
         if self.held.is_empty() {
             return Ok(());
         }
         let long = self.held.len() as u128;
-        write_after(writer, self.counts.written, &self.held)?;
-        self.counts.written += long;
+        write_after(writer, self.written, &self.held)?;
+        self.written += long;
         self.held.clear();
         Ok(())
     }
@@ -89,13 +96,13 @@ impl<'t> Printer<'t> {
     /// Writes the lines that are held where they are long, and holds none then.
     fn write_long<W: Sink>(&mut self, writer: &mut W) -> Result<(), ToolFault>
         requires works { (W.writing writer.old).failed ≡ false }
-        requires fits { self.old.counts.written + 2 ^ 64 ≤ 2 ^ 128 }
+        requires fits { self.old.written + 2 ^ 64 ≤ 2 ^ 128 }
         requires lines { AreWholeLines self.old.held.items }
         ensures writes { WritesPart self.old self.new (W.writing writer.old) (W.writing writer.new)
             result }
         ensures keeps { Keeps self.old self.new }
-        ensures short { self.new.counts.written + length self.new.held.items
-            < self.old.counts.written + 2 ^ 64 }
+        ensures short { self.new.written + length self.new.held.items
+            < self.old.written + 2 ^ 64 }
     {
         if self.held.len() < PART {
             return Ok(());
@@ -111,12 +118,12 @@ impl<'t> Printer<'t> {
         writer: &mut W,
     ) -> Result<(), ToolFault>
         requires works { (W.writing writer.old).failed ≡ false }
-        requires fits { self.old.counts.written + 2 ^ 64 ≤ 2 ^ 128 }
+        requires fits { self.old.written + 2 ^ 64 ≤ 2 ^ 128 }
         requires lines { AreWholeLines self.old.held.items }
         ensures prints { Adds (line (field_line field.now)) self.old self.new (W.writing writer.old)
             (W.writing writer.new) result }
         ensures keeps { Keeps self.old self.new }
-        ensures short { self.new.counts.written < self.old.counts.written + 2 ^ 64 }
+        ensures short { self.new.written < self.old.written + 2 ^ 64 }
     {
         push_field(alloc, &mut self.held, field)?;
         self.write_long(writer)
@@ -130,13 +137,13 @@ impl<'t> Printer<'t> {
         writer: &mut W,
     ) -> Result<(), ToolFault>
         requires works { (W.writing writer.old).failed ≡ false }
-        requires fits { self.old.counts.written + length self.old.held.items
+        requires fits { self.old.written + length self.old.held.items
             + length (fields_text fields) + 2 ^ 64 ≤ 2 ^ 128 }
         requires lines { AreWholeLines self.old.held.items }
         ensures prints { Adds (fields_text fields.entry) self.old self.new (W.writing writer.old)
             (W.writing writer.new) result }
         ensures keeps { Keeps self.old self.new }
-        ensures short { self.new.counts.written < self.old.counts.written
+        ensures short { self.new.written < self.old.written
             + length self.old.held.items + length (fields_text fields.entry) + 2 ^ 64 }
     {
         'fields: loop {
@@ -161,14 +168,14 @@ impl<'t> Printer<'t> {
         requires first { 1 ≤ number }
         requires last { number ≤ length found.now.message.subsets }
         requires listed { HasShortListing found.now.message }
-        requires fits { self.old.counts.written + length self.old.held.items + 2 ^ 65 ≤ 2 ^ 128 }
+        requires fits { self.old.written + length self.old.held.items + 2 ^ 65 ≤ 2 ^ 128 }
         requires lines { AreWholeLines self.old.held.items }
         ensures prints { (subset : Subset)
             → slice_get found.now.message.subsets (number - 1) ≡ Some subset
             → Adds (joined (subset_lines subset)) self.old self.new (W.writing writer.old)
             (W.writing writer.new) result }
         ensures keeps { Keeps self.old self.new }
-        ensures short { self.new.counts.written < self.old.counts.written
+        ensures short { self.new.written < self.old.written
             + length self.old.held.items + 2 ^ 65 }
     {
         subsets_are_joined_lines();
@@ -187,12 +194,12 @@ impl<'t> Printer<'t> {
     ) -> Result<(), ToolFault>
         requires works { (W.writing writer.old).failed ≡ false }
         requires listed { HasShortListing found.now.message }
-        requires fits { self.old.counts.written + 2 ^ 80 ≤ 2 ^ 128 }
+        requires fits { self.old.written + 2 ^ 80 ≤ 2 ^ 128 }
         requires lines { AreWholeLines self.old.held.items }
         ensures prints { Adds (listing found.now.message) self.old self.new (W.writing writer.old)
             (W.writing writer.new) result }
         ensures keeps { Keeps self.old self.new }
-        ensures short { self.new.counts.written + 2 ^ 64 ≤ self.old.counts.written + 2 ^ 80 }
+        ensures short { self.new.written + 2 ^ 64 ≤ self.old.written + 2 ^ 80 }
     {
         listings_are_joined_parts();
         let heading = listing::heading_of_view(alloc, found)?;
@@ -218,14 +225,14 @@ impl<'t> Printer<'t> {
         requires works { (W.writing writer.old).failed ≡ false }
         requires exact { Gives (λ d. d) judged.now (message_of self.old.templates octets.now) }
         requires listed { IfOk judged.now (λ d. HasShortListing d.message) }
-        requires fits { self.old.counts.written + 2 ^ 80 ≤ 2 ^ 128 }
+        requires fits { self.old.written + 2 ^ 80 ≤ 2 ^ 128 }
         requires lines { AreWholeLines self.old.held.items }
         ensures prints { Adds
             (frame_text self.old.printing self.old.templates (frame_at place octets.now))
             self.old self.new (W.writing writer.old) (W.writing writer.new) result }
         ensures told { OnOk result (Tells judged.now (message_of self.old.templates octets.now)) }
         ensures keeps { Keeps self.old self.new }
-        ensures short { self.new.counts.written + 2 ^ 64 ≤ self.old.counts.written + 2 ^ 80 }
+        ensures short { self.new.written + 2 ^ 64 ≤ self.old.written + 2 ^ 80 }
     {
         match judged {
             Ok(found) => match self.printing {
@@ -255,8 +262,8 @@ impl<'t> Printer<'t> {
         requires lines { AreWholeLines self.old.held.items }
         requires few { self.old.counts.frames + 1 ≤ 2 ^ 48 }
         requires refused { self.old.counts.refused ≤ self.old.counts.frames }
-        requires octets { self.old.counts.octets + length octets.now < 2 ^ 64 }
-        requires short { self.old.counts.written + length self.old.held.items
+        requires octets { self.old.octets + length octets.now < 2 ^ 64 }
+        requires short { self.old.written + length self.old.held.items
             + self.old.counts.frames ≤ 2 ^ 80 * self.old.counts.frames }
         ensures prints { PrintsFrame self.old.printing self.old.templates
             (frame_at place octets.now) self.old self.new (W.writing writer.old)
@@ -269,7 +276,7 @@ impl<'t> Printer<'t> {
         self.print_judged(alloc, place, octets, judged, writer)?;
         self.counts.frames += 1;
         self.counts.refused += refused(judged);
-        self.counts.octets += octets.len() as u64;
+        self.octets += octets.len() as u64;
         self.write_long(writer)
     }
 
@@ -293,7 +300,7 @@ impl<'t> Printer<'t> {
 }
 
 /// How many messages are refused of a frame that was judged so: one or none.
-fn refused(judged: &Result<View<'_>, Failure<Refused>>) -> u64
+fn refused(judged: &Result<View<'_>, Failure<Refused>>) -> u128
     ensures count { (found : Result Decoded RefusedBy) → Tells judged.now found
         → result ≡ refused_as found }
     ensures most { result ≤ 1 }

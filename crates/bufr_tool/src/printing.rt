@@ -1,7 +1,8 @@
 //! The lines that are printed of a frame, and the one behind the last.
 
 ghost use Rattle.std.specs.Prelude.{◌≡◌, ◌++◌, length, take, decimal, Ok, Err, OnOk, OnErr};
-ghost use Rattle.bufr_tool.specs.Output.{checked_as, frame_at, last_text, printed_as, tally_line};
+ghost use Rattle.bufr_collect.specs.Taking.{frame_at};
+ghost use Rattle.bufr_tool.specs.Output.{checked_as, last_text, printed_as, tally_line};
 
 use bufr_answers::OutOfMemory;
 use bufr_io::Tally;

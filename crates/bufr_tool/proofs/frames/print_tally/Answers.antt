@@ -29,6 +29,8 @@ stop-requires g c =
       printing = p.printing;
       templates = p.templates;
       counts = p.counts;
+      octets = p.octets;
+      written = p.written;
       held = c.hold_tally.new.text;
     } in
     record {
@@ -48,6 +50,8 @@ returns-in_default g c printing tables first stream h =
       printing = p.printing;
       templates = p.templates;
       counts = p.counts;
+      octets = p.octets;
+      written = p.written;
       held = c.hold_tally.new.text;
     } in
     end_stopped printing tables first _ stream _
@@ -70,12 +74,12 @@ write_out-requires-clause-fits g c =
 pub returns-in_err-write_out : goal.returns-in_err-write_out
 returns-in_err-write_out g c printing tables first stream h =
     let p = c.args.printer.now in
-    let counted : c.match-printer.skipped ≡ skipped_by p.printing c.args.fed p.counts.octets =
+    let counted : c.match-printer.skipped ≡ skipped_by p.printing c.args.fed p.octets =
     elim c.match-printer.branch [
       | in-Shown w ↦
-          w.skipped-is ∙ ap (λ q. skipped_by q c.args.fed p.counts.octets) (sym w.in-Shown.is)
+          w.skipped-is ∙ ap (λ q. skipped_by q c.args.fed p.octets) (sym w.in-Shown.is)
       | in-Checked w ↦
-          w.skipped-is ∙ ap (λ q. skipped_by q c.args.fed p.counts.octets) (sym w.in-Checked.is)
+          w.skipped-is ∙ ap (λ q. skipped_by q c.args.fed p.octets) (sym w.in-Checked.is)
     ] in
     let tally = end_tally printing tables first _ p c.args.fed c.match-printer.skipped stream h
     counted in
@@ -89,12 +93,12 @@ returns-in_err-write_out g c printing tables first stream h =
 pub returns : goal.returns
 returns g c printing tables first stream h =
     let p = c.args.printer.now in
-    let counted : c.match-printer.skipped ≡ skipped_by p.printing c.args.fed p.counts.octets =
+    let counted : c.match-printer.skipped ≡ skipped_by p.printing c.args.fed p.octets =
     elim c.match-printer.branch [
       | in-Shown w ↦
-          w.skipped-is ∙ ap (λ q. skipped_by q c.args.fed p.counts.octets) (sym w.in-Shown.is)
+          w.skipped-is ∙ ap (λ q. skipped_by q c.args.fed p.octets) (sym w.in-Shown.is)
       | in-Checked w ↦
-          w.skipped-is ∙ ap (λ q. skipped_by q c.args.fed p.counts.octets) (sym w.in-Checked.is)
+          w.skipped-is ∙ ap (λ q. skipped_by q c.args.fed p.octets) (sym w.in-Checked.is)
     ] in
     let tally = end_tally printing tables first _ p c.args.fed c.match-printer.skipped stream h
     counted in

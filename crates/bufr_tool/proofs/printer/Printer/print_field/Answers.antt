@@ -18,6 +18,8 @@ returns-in_err-push_field-clause-prints g c =
       printing = p.printing;
       templates = p.templates;
       counts = p.counts;
+      octets = p.octets;
+      written = p.written;
       held = c.push_field.new.text;
     } in
     let writer = g.W.Sink.writing c.args.writer.now in
@@ -42,6 +44,8 @@ returns-clause-prints g c =
       printing = p.printing;
       templates = p.templates;
       counts = p.counts;
+      octets = p.octets;
+      written = p.written;
       held = c.push_field.new.text;
     } in
     adds_written text p q c.write_long.new.self _ _ _ c.write_long.result

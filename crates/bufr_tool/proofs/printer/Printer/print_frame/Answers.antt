@@ -9,7 +9,8 @@ use Rattle.bufr_message.specs.declared.Decoded.{Decoded}
 use Rattle.bufr_message.specs.declared.Refused.{Refused}
 use Rattle.bufr_message.specs.Messages.{message_of, Spells}
 use Rattle.bufr_message.specs.ShortListings.{HasShortListing, ListingsAreShort}
-use Rattle.bufr_tool.specs.Output.{frame_at, frame_text}
+use Rattle.bufr_collect.specs.Taking.{frame_at}
+use Rattle.bufr_tool.specs.Output.{frame_text}
 use Rattle.bufr_tool.specs.StreamEngines.{Tells, WritesAllBut}
 use Rattle.bufr_tool.proofs.PrintingFacts.{frame_ends}
 use Rattle.bufr_tool.proofs.printer.Printer.print_frame.Goals as goal
@@ -44,7 +45,7 @@ returns-clause-prints g c =
     let same = c.view.ensures.same in
     let e = c.in_ok-print_judged.ensures in
     let text = subst (λ (t : Entries). WritesAllBut q.held.items
-    (p.held.items ++ frame_text p.printing t frame) p.counts.written q.counts.written first mid)
+    (p.held.items ++ frame_text p.printing t frame) p.written q.written first mid)
     same e.prints in
     let told = subst
     (λ (t : Entries). Tells c.view.result (message_of t c.args.octets.now)) same e.told in

@@ -9,7 +9,8 @@ use Rattle.bufr_message.specs.declared.Decoded.{Decoded}
 use Rattle.bufr_message.specs.declared.Refused.{Refused}
 use Rattle.bufr_message.specs.Messages.{message_of}
 use Rattle.bufr_tool.specs.declared.printer.Printer.{Printer}
-use Rattle.bufr_tool.specs.Output.{frame_at, frame_text, printed_as}
+use Rattle.bufr_collect.specs.Taking.{frame_at}
+use Rattle.bufr_tool.specs.Output.{frame_text, printed_as}
 use Rattle.bufr_tool.specs.StreamEngines.{Adds}
 use Rattle.bufr_tool.proofs.LineFacts.{printed_whole}
 use Rattle.bufr_tool.proofs.PartFacts.{adds_held, adds_none}
@@ -31,6 +32,8 @@ returns-in_err-hold_checked-in-Checked-clause-prints g c =
       printing = p.printing;
       templates = p.templates;
       counts = p.counts;
+      octets = p.octets;
+      written = p.written;
       held = c.hold_checked.new.text;
     } in
     let writer = g.W.Sink.writing c.args.writer.now in

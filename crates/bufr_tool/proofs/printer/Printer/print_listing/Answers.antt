@@ -31,6 +31,8 @@ returns-in_err-write_long-clause-prints g c =
       printing = p.printing;
       templates = p.templates;
       counts = p.counts;
+      octets = p.octets;
+      written = p.written;
       held = c.extend_from_slice.new.self;
     } in
     let first = g.W.Sink.writing c.args.writer.now in
@@ -59,7 +61,7 @@ loop-index-init g c =
     let e = c.in_ok-write_long.ensures in
     record {
       done = held_less held c.write_long.new.self.held.items (p.held.items ++ listed m 0)
-          p.counts.written p.counts.written c.write_long.new.self.counts.written first first last
+          p.written p.written c.write_long.new.self.written first first last
           (heading_added m p held first grown c.requires.lines c.requires.works) e.writes;
       keeps = record {
         printing = e.keeps.printing;
@@ -121,6 +123,8 @@ returns-in_err-extend_from_slice-clause-prints g c =
       printing = p.printing;
       templates = p.templates;
       counts = p.counts;
+      octets = p.octets;
+      written = p.written;
       held = c.extend_from_slice.new.self;
     } in
     let writer = g.W.Sink.writing c.args.writer.now in
@@ -170,6 +174,8 @@ returns-in_err-extend_from_slice-2-clause-prints g c =
       printing = q.printing;
       templates = q.templates;
       counts = q.counts;
+      octets = q.octets;
+      written = q.written;
       held = c.extend_from_slice-2.new.self;
     } in
     passed

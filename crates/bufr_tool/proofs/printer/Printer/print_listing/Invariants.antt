@@ -9,9 +9,9 @@ use Rattle.bufr_tool.proofs.printer.Printer.print_listing.Given as goal
 abbrev pub invariant-loop-index : goal.invariant-loop-index
 invariant-loop-index g l = record {
   done : WritesAllBut l.self.held.items
-      (l.fn.self.held.items ++ listed l.found.message l.index) l.fn.self.counts.written
-      l.self.counts.written (g.W.Sink.writing l.fn.writer) (g.W.Sink.writing l.writer);
+      (l.fn.self.held.items ++ listed l.found.message l.index) l.fn.self.written
+      l.self.written (g.W.Sink.writing l.fn.writer) (g.W.Sink.writing l.writer);
   keeps : Keeps l.fn.self l.self;
-  short : l.self.counts.written + length l.self.held.items
-      ≤ l.fn.self.counts.written + 2 ^ 64 + 2 ^ 40 * l.index;
+  short : l.self.written + length l.self.held.items
+      ≤ l.fn.self.written + 2 ^ 64 + 2 ^ 40 * l.index;
 }

@@ -31,6 +31,8 @@ returns-in_err-push_subset_line-clause-prints g c s at =
       printing = p.printing;
       templates = p.templates;
       counts = p.counts;
+      octets = p.octets;
+      written = p.written;
       held = c.push_subset_line.new.text;
     } in
     let writer = g.W.Sink.writing c.args.writer.now in
@@ -83,6 +85,8 @@ returns-clause-prints g c s at =
       printing = p.printing;
       templates = p.templates;
       counts = p.counts;
+      octets = p.octets;
+      written = p.written;
       held = c.push_subset_line.new.text;
     } in
     let now = g.W.Sink.writing c.args.writer.now in
