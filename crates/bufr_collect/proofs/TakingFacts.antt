@@ -1,10 +1,10 @@
 -- The frames of a stream taken in as its pieces come: the steps of `take_frames`, `take_piece`,
 -- `take_rest` and `take_stream`, for the contracts of all engines over streams.
-use Rattle.std.proofs.Common.{◌≡◌, ℕ, ◌+◌, ◌*◌, ◌^◌, ◌<◌, ◌≤◌, Option, Some, IfSome, IsErrAnd}
+use Rattle.std.proofs.Common.{◌≡◌, ℕ, ◌+◌, ◌^◌, ◌<◌, ◌≤◌, Option, Some, IfSome, IsErrAnd}
 use Rattle.std.proofs.Common.{List, [], ◌∷◌, ◌++◌, length, take, drop, get_or, Result, Ok, Err}
 use Rattle.std.proofs.Common.{refl, sym, ap, ◌∙◌, subst, arith, length-append, append_assoc}
 use Rattle.std.proofs.Common.{take-append-drop}
-use Rattle.std.proofs.lemmas.List.{append-nil, drop_more, take_more}
+use Rattle.std.proofs.lemmas.List.{drop_more, take_more}
 use Rattle.std.proofs.lemmas.List.Sums.{sum_by-append}
 use Rattle.std.specs.Prelude.{sum_by, OnOk, IfErr}
 use Rattle.bufr_bits.specs.Devices.{Reading}
@@ -15,7 +15,7 @@ use Rattle.bufr_frame.specs.StreamLaws.{cut-end}
 use Rattle.bufr_frame.specs.NextFrames.{taken_in, IsRestOf, IsNextFrame, IsNoFrame, StandsAfter}
 use Rattle.bufr_frame.specs.NextFrames.{HandedOut, IsBetweenCalls}
 use Rattle.bufr_frame.specs.FrameBounds.{sure_few, sure_short, cut_few, cut_short}
-use Rattle.bufr_frame.specs.NextFrameLaws.{handed_first, handed_end, between_first, between_one}
+use Rattle.bufr_frame.specs.NextFrameLaws.{handed_first, between_first, between_one}
 use Rattle.bufr_frame.specs.NextFrameLaws.{between_none, between_front}
 use Rattle.bufr_io.specs.declared.fault.Input.{Input}
 use Rattle.bufr_io.specs.declared.fault.ToolFault.{ToolFault}

@@ -1,5 +1,5 @@
 -- What adding the messages of frames to an archive has done so far.
-use Rattle.std.specs.Prelude.{◌≡◌, ℕ, ◌+◌, ◌*◌, ◌^◌, ◌<◌, ◌≤◌, List, ◌++◌, length, Result, Ok, Err}
+use Rattle.std.specs.Prelude.{◌≡◌, ℕ, ◌+◌, ◌^◌, ◌<◌, ◌≤◌, List, ◌++◌, length, Result, Ok, Err}
 use Rattle.std.specs.List.{flat_map}
 use Rattle.bufr_bits.specs.Devices.{Reading}
 use Rattle.bufr_tables.specs.Entries.{Entries}
@@ -7,7 +7,6 @@ use Rattle.bufr_frame.specs.declared.frames.Found.{Found}
 use Rattle.bufr_message.specs.declared.report.Report.{Report}
 use Rattle.bufr_message.specs.Reports.{reports_in}
 use Rattle.bufr_archive.specs.Archives.{ArchiveView}
-use Rattle.bufr_io.specs.declared.fault.Input.{Input}
 use Rattle.bufr_io.specs.declared.fault.Input.TheVariants.{Number}
 use Rattle.bufr_io.specs.declared.fault.ToolFault.{ToolFault}
 use Rattle.bufr_io.specs.declared.fault.ToolFault.TheVariants as faults

@@ -108,6 +108,14 @@ pub fn print_stream<S: Source, W: Sink>(
     let mut room = room(alloc)?;
     let mut printer = Printer::new(alloc, printing, tables);
     let source = Input::Number(1);
-    let fed = take_stream(alloc, reads, source, reader, &mut room, &mut printer, writer)?;
+    let fed = take_stream(
+        alloc,
+        reads,
+        source,
+        reader,
+        &mut room,
+        &mut printer,
+        writer,
+    )?;
     print_tally(fed, &mut printer, writer)
 }

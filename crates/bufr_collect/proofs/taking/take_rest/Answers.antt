@@ -1,7 +1,7 @@
 -- The clause of `take_rest`: the frames that come with the end of a stream, after the sure ones.
 use Rattle.std.proofs.Common.{◌≤◌, ◌^◌, ◌++◌, List, length, ap, sym, ◌∙◌, subst, arith}
 use Rattle.bufr_frame.specs.declared.frames.Found.{Found}
-use Rattle.bufr_frame.specs.Streams.{cut, sure}
+use Rattle.bufr_frame.specs.Streams.{sure}
 use Rattle.bufr_frame.specs.NextFrameLaws.{handed_end}
 use Rattle.bufr_collect.specs.Taking.{AreFew, TakesAll}
 use Rattle.bufr_collect.proofs.TakingFacts.{few_cut, few_sure, rest_stopped}

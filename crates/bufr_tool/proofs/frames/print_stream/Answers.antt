@@ -36,9 +36,14 @@ returns-in_err-fed-clause-prints g c =
     (g.W.Sink.writing c.args.writer.now) (g.W.Sink.writing c.take_stream.new.out))
     c.from_residual-in_err-fed.result c.in_err-fed.field-0.0
     c.from_residual-in_err-fed.ensures.1
-    (prints_made _ _ _ _ _ _ _ c.new-printer.result (Err c.in_err-fed.field-0.0) e.printing e.tables
-    (prints_early c.args.reads _ _ c.new-printer.result (g.W.Sink.writing c.args.writer.now)
-    c.take_stream.new.taker _ c.in_err-fed.field-0.0 c.in_err-fed.ensures.takes))
+    (prints_made c.args.printing c.args.tables.now c.args.reads
+    (g.S.Source.reading c.args.reader.now) (g.S.Source.reading c.take_stream.new.reader)
+    (g.W.Sink.writing c.args.writer.now) (g.W.Sink.writing c.take_stream.new.out)
+    c.new-printer.result (Err c.in_err-fed.field-0.0) e.printing e.tables
+    (prints_early c.args.reads (g.S.Source.reading c.args.reader.now)
+    (g.S.Source.reading c.take_stream.new.reader) c.new-printer.result
+    (g.W.Sink.writing c.args.writer.now) c.take_stream.new.taker
+    (g.W.Sink.writing c.take_stream.new.out) c.in_err-fed.field-0.0 c.in_err-fed.ensures.takes))
 
 -- fewer than 2 ^ 48 octets were read
 pub print_tally-requires-clause-long : goal.print_tally-requires-clause-long
@@ -62,7 +67,10 @@ returns-clause-prints g c =
     let e = c.new-printer.ensures in
     let t = c.in_ok-fed.ensures.takes in
     let p = c.new-printer.result in
-    prints_made _ _ _ _ _ _ _ p c.print_tally.result e.printing e.tables
+    prints_made c.args.printing c.args.tables.now c.args.reads
+    (g.S.Source.reading c.args.reader.now) (g.S.Source.reading c.take_stream.new.reader)
+    (g.W.Sink.writing c.args.writer.now) (g.W.Sink.writing c.print_tally.new.writer) p
+    c.print_tally.result e.printing e.tables
     (prints_whole p.printing p.templates c.args.reads (g.S.Source.reading c.args.reader.now)
     (g.S.Source.reading c.take_stream.new.reader) (g.W.Sink.writing c.args.writer.now) _ t.1
     c.print_tally.result t.0 t.2 t.3
