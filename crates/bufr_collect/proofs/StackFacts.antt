@@ -1,8 +1,8 @@
--- Texts merged from the uppermost on: for `put_on`, `settle`, `put_above` and `merge_upper`.
-use Rattle.std.proofs.Common.{◌≡◌, ◌≤◌, List, [], ◌∷◌, ◌++◌, length, Option, Some, None, refl, sym}
-use Rattle.std.proofs.Common.{ap, subst, ◌∙◌, arith, append_assoc, length-append}
-use Rattle.std.proofs.lemmas.List.{append-nil, nil_from_length}
-use Rattle.std.proofs.lemmas.List.Elements.{All-pop}
+-- Texts merged from the uppermost on: for `settle`, `merge_readers` and `merge_upper`.
+use Rattle.std.proofs.Common.{◌≡◌, List, [], ◌∷◌, ◌++◌, Option, Some, None, refl, sym}
+use Rattle.std.proofs.Common.{ap, subst, ◌∙◌, append_assoc}
+use Rattle.std.proofs.lemmas.List.{append-nil}
+use Rattle.std.proofs.lemmas.List.Elements.{All-nil, All-pop, All-push}
 use Rattle.std.proofs.lemmas.Grind.{flat_map-append}
 use Rattle.std.specs.Option.{option_to_list}
 use Rattle.bufr_tables.specs.Entries.{Entries}
@@ -84,6 +84,20 @@ put_together tables old text archives rest archives' top found h taken none put 
     ∙ h.same
     ∙ sym (kept-early (entries_together old) text.entries))
 
+-- of none each is under the tables
+pub none_under : (tables : Entries) (archives : List ArchiveView) → archives ≡ []
+    → AreUnderTables tables archives
+none_under tables archives none =
+    subst (AreUnderTables tables) (sym none) (All-nil (λ (a : ArchiveView). a.tables ≡ tables))
+
+-- nor does one more change that
+pub one_under : (tables : Entries) (old archives : List ArchiveView) (text : ArchiveView)
+    → AreUnderTables tables old → text.tables ≡ tables → archives ≡ old ++ text ∷ []
+    → AreUnderTables tables archives
+one_under tables old archives text under same put =
+    subst (AreUnderTables tables) (sym put)
+    (All-push (λ (a : ArchiveView). a.tables ≡ tables) old text under same)
+
 -- the uppermost was taken: those that are left are under the tables
 pub popped_under : (tables : Entries) (archives rest : List ArchiveView)
     (found : Option ArchiveView) → AreUnderTables tables archives
@@ -128,30 +142,37 @@ pub put_above_is : (tables : Entries) (old archives : List ArchiveView) (text : 
 put_above_is tables old archives text put =
     sym (put_back tables archives old text (Some text) put refl)
 
--- no more was taken
-pub none_left : (tables : Entries) (old : List ArchiveView) (text : ArchiveView)
-    (archives rest : List ArchiveView) (top : ArchiveView) (found : Option ArchiveView)
-    → HoldTogether tables old text archives top → archives ≡ rest ++ option_to_list found
-    → found ≡ None → HoldTogether tables old text rest top
-none_left tables old text archives rest top found h taken is =
-    let same : archives ≡ rest =
-    taken ∙ ap (λ (o : Option ArchiveView). rest ++ option_to_list o) is ∙ append-nil rest in
-    subst (λ (xs : List ArchiveView). HoldTogether tables old text xs top) same h
+-- nothing was taken: the one above holds what all held, below it there is one with no reports
+pub one_together : (tables : Entries) (all first archives rest : List ArchiveView)
+    (begin top none : ArchiveView) (taken found : Option ArchiveView)
+    → HoldTogether tables first begin archives top → all ≡ first ++ option_to_list taken
+    → taken ≡ Some begin → archives ≡ rest ++ option_to_list found → found ≡ None → rest ≡ []
+    → none ≡ record { tables = tables; entries = [] }
+    → (none.tables ≡ top.tables) × (merged none top ≡ together tables all)
+one_together tables all first archives rest begin top none taken found h was is left gone empty new =
+    let nil : archives ≡ [] =
+    left ∙ ap (λ (o : Option ArchiveView). rest ++ option_to_list o) gone ∙ append-nil rest
+    ∙ empty in (
+      ap (λ (a : ArchiveView). a.tables) new ∙ sym h.top_under,
+      ap (λ (a : ArchiveView). merged a top) new
+          ∙ ap (λ (es : List Entry). record { tables = tables; entries = es })
+          (ap (λ (xs : List ArchiveView). kept (entries_together xs ++ top.entries)) (sym nil)
+          ∙ h.same
+          ∙ sym (kept-early (entries_together first) begin.entries))
+          ∙ put_back tables all first begin taken was is,
+    )
 
--- at most one is left below the one above
-pub two_together : (tables : Entries) (old : List ArchiveView) (archives rest : List ArchiveView)
-    (top lowest nothing : ArchiveView) (found : Option ArchiveView)
-    → HoldTogether tables old nothing archives top → archives ≡ rest ++ option_to_list found
-    → found ≡ Some lowest → length archives ≤ 1 → nothing.entries ≡ []
-    → (lowest.tables ≡ top.tables) × (merged lowest top ≡ together tables old)
-two_together tables old archives rest top lowest nothing found h taken is few empty =
-    let joined : archives ≡ rest ++ lowest ∷ [] =
-    taken ∙ ap (λ (o : Option ArchiveView). rest ++ option_to_list o) is in
-    let long = ap length joined ∙ length-append rest (lowest ∷ []) in
-    let none : rest ≡ [] = nil_from_length rest (omega arith) in
+-- the lowest was taken: it and the one above hold what all held
+pub two_together : (tables : Entries) (all first archives rest : List ArchiveView)
+    (begin top lowest : ArchiveView) (taken found : Option ArchiveView)
+    → HoldTogether tables first begin archives top → all ≡ first ++ option_to_list taken
+    → taken ≡ Some begin → archives ≡ rest ++ option_to_list found → found ≡ Some lowest
+    → rest ≡ [] → (lowest.tables ≡ top.tables) × (merged lowest top ≡ together tables all)
+two_together tables all first archives rest begin top lowest taken found h was is left here empty =
     let one : archives ≡ lowest ∷ [] =
-    joined ∙ ap (λ (xs : List ArchiveView). xs ++ lowest ∷ []) none in
-    let under = taken_under tables old nothing archives rest top lowest found h taken is in (
+    left ∙ ap (λ (o : Option ArchiveView). rest ++ option_to_list o) here
+    ∙ ap (λ (xs : List ArchiveView). xs ++ lowest ∷ []) empty in
+    let under = taken_under tables first begin archives rest top lowest found h left here in (
       under,
       ap (λ (t : Entries). record { tables = t; entries = kept (lowest.entries ++ top.entries) })
           (under ∙ h.top_under)
@@ -160,25 +181,21 @@ two_together tables old archives rest top lowest nothing found h taken is few em
           (sym (append-nil lowest.entries)
           ∙ ap entries_together (sym one))
           ∙ h.same
-          ∙ ap (λ (es : List Entry). kept (entries_together old ++ es)) empty
-          ∙ ap kept (append-nil (entries_together old))),
+          ∙ sym (kept-early (entries_together first) begin.entries))
+          ∙ put_back tables all first begin taken was is,
     )
 
--- none is left below it
-pub one_together : (tables : Entries) (old : List ArchiveView) (archives rest : List ArchiveView)
-    (top lowest nothing : ArchiveView) (found : Option ArchiveView)
-    → HoldTogether tables old nothing archives top → archives ≡ rest ++ option_to_list found
-    → found ≡ None → rest ≡ [] → nothing.entries ≡ []
-    → lowest ≡ record { tables = tables; entries = [] }
-    → (lowest.tables ≡ top.tables) × (merged lowest top ≡ together tables old)
-one_together tables old archives rest top lowest nothing found h taken is none empty new =
-    let left : archives ≡ [] =
-    taken ∙ ap (λ (o : Option ArchiveView). rest ++ option_to_list o) is ∙ append-nil rest ∙ none in (
-      ap (λ (a : ArchiveView). a.tables) new ∙ sym h.top_under,
-      ap (λ (a : ArchiveView). merged a top) new
-          ∙ ap (λ (es : List Entry). record { tables = tables; entries = es })
-          (ap (λ (xs : List ArchiveView). kept (entries_together xs ++ top.entries)) (sym left)
-          ∙ h.same
-          ∙ ap (λ (es : List Entry). kept (entries_together old ++ es)) empty
-          ∙ ap kept (append-nil (entries_together old))),
+-- none was there
+pub none_together : (tables : Entries) (all rest : List ArchiveView) (a b : ArchiveView)
+    (found : Option ArchiveView) → all ≡ rest ++ option_to_list found → found ≡ None → rest ≡ []
+    → a ≡ record { tables = tables; entries = [] } → b ≡ record { tables = tables; entries = [] }
+    → (a.tables ≡ b.tables) × (merged a b ≡ together tables all)
+none_together tables all rest a b found left gone empty new also =
+    let nil : all ≡ [] =
+    left ∙ ap (λ (o : Option ArchiveView). rest ++ option_to_list o) gone ∙ append-nil rest
+    ∙ empty in (
+      ap (λ (x : ArchiveView). x.tables) new ∙ sym (ap (λ (x : ArchiveView). x.tables) also),
+      ap (λ (x : ArchiveView). merged x b) new
+          ∙ ap (λ (x : ArchiveView). merged (record { tables = tables; entries = [] }) x) also
+          ∙ ap (together tables) (sym nil),
     )

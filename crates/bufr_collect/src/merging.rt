@@ -1,15 +1,16 @@
 //! The engine of `merge`.
 
-ghost use Rattle.std.specs.Prelude.{◌≡◌, ◌≤◌, false, map};
+ghost use Rattle.std.specs.Prelude.{◌≡◌, ◌≤◌, false, map, IfOk};
 ghost use Rattle.bufr_answers.specs.Answers.{result_map};
 ghost use Rattle.bufr_io.specs.Engines.{IsFresh};
 ghost use Rattle.bufr_io.specs.Limits.{most_reads};
 ghost use Rattle.bufr_collect.specs.Adds.{ReadsArchive, MergesReaders};
 ghost use Rattle.bufr_collect.specs.Collects.{Merges};
 ghost use Rattle.bufr_collect.specs.Readers.{AreFresh, AreReadAtMost};
+ghost use Rattle.bufr_collect.specs.Stacks.{together, AreUnderTables};
 
 use crate::parts::write_merged;
-use crate::text_stack::TextStack;
+use crate::text_stack::{merge_upper, settle};
 use bufr_answers::Failure;
 use bufr_archive::{ArchiveText, NotAnArchive};
 use bufr_bits::{Sink, Source};
@@ -42,31 +43,33 @@ fn read_archive<'t, S: Source>(
     }
 }
 
-/// The archive of the reports of all readers' archives.
+/// The texts of all readers' archives, of which those that are alike in size were merged.
 fn merge_readers<'t, S: Source>(
     alloc: Global,
     reads: u64,
     tables: &'t Tables,
     readers: &mut [S],
-) -> Result<TextStack<'t>, ToolFault>
+) -> Result<Vec<ArchiveText<'t>>, ToolFault>
     requires few { reads ≤ most_reads }
     requires fresh { AreFresh (map S.reading readers.old) }
     ensures bounded { AreReadAtMost reads (map S.reading readers.new) }
+    ensures under { IfOk result (λ texts. AreUnderTables tables.now texts.items) }
     ensures merges { MergesReaders tables.now reads (map S.reading readers.old)
-        (map S.reading readers.new) (result_map (λ archive. archive) result) }
+        (map S.reading readers.new)
+        (result_map (λ texts. together tables.now texts.items) result) }
 {
-    let mut merged = TextStack::new(alloc, tables);
+    let mut texts = Vec::new(alloc);
     for (index, reader) in readers.iter_mut().enumerate() {
-        let Ok(()) = merged.settle() else {
+        let Ok(()) = settle(alloc, tables, &mut texts) else {
             return Err(ToolFault::OutOfMemory);
         };
         let number = index as u128 + 1;
         let archive = read_archive(alloc, reads, tables, number, reader)?;
-        let Ok(()) = merged.push(archive) else {
+        let Ok(()) = texts.push(archive) else {
             return Err(ToolFault::OutOfMemory);
         };
     }
-    Ok(merged)
+    Ok(texts)
 }
 
 /// Reads the archives of all readers, each of which is judged before the next is read, and then
@@ -87,8 +90,8 @@ pub fn run_merge<S: Source, W: Sink>(
     ensures merges { Merges tables.now reads (map S.reading readers.old)
         (map S.reading readers.new) (W.writing writer.old) (W.writing writer.new) result }
 {
-    let merged = merge_readers(alloc, reads, tables, readers)?;
-    let (lowest, upper) = merged.into_two()?;
+    let texts = merge_readers(alloc, reads, tables, readers)?;
+    let (lowest, upper) = merge_upper(alloc, tables, texts)?;
     let left = lowest.merged_with(alloc, &upper)?;
     let reports = left.len() as u128;
     let room = room(alloc)?;

@@ -16,14 +16,6 @@ pub(crate) struct Part {
     written: u128,
 }
 
-/// Puts octets behind others, where there is room for them. It takes no memory.
-fn gather(gathered: &mut Vec<u8>, octets: &[u8])
-    requires { vec_len gathered.old + length octets.now ≤ vec_capacity gathered.old }
-    ensures { gathered.new.items ≡ gathered.old.items ++ octets.now }
-{
-    let _there_is_room = gathered.extend_from_slice(octets);
-}
-
 /// Gathers octets behind those of a part. Where it has no room for them the part is written first,
 /// and where it would have none for them alone they are written behind it. It takes no memory.
 fn hand_on<W: Sink>(writer: &mut W, part: &mut Part, octets: &[u8]) -> Result<(), ToolFault>
@@ -36,14 +28,14 @@ fn hand_on<W: Sink>(writer: &mut W, part: &mut Part, octets: &[u8]) -> Result<()
     let room = part.octets.capacity() as u128;
     let long = octets.len() as u128;
     if part.octets.len() as u128 + long <= room {
-        gather(&mut part.octets, octets);
+        let _there_is_room = part.octets.extend_from_slice(octets);
         return Ok(());
     }
     write_after(writer, part.written, &part.octets)?;
     part.written += part.octets.len() as u128;
     part.octets.clear();
     if long <= room {
-        gather(&mut part.octets, octets);
+        let _there_is_room = part.octets.extend_from_slice(octets);
         return Ok(());
     }
     write_after(writer, part.written, octets)?;

@@ -11,7 +11,7 @@ ghost use Rattle.bufr_collect.specs.Taking.{frame_at, AreFew, HasSure, TakesAll,
 ghost use Rattle.bufr_collect.specs.Taking.{TakesStream};
 
 use bufr_bits::Source;
-use bufr_frame::{Found, Framer, NextFrame};
+use bufr_frame::{Framer, NextFrame};
 use bufr_io::{Input, Pieces, ToolFault};
 use std::alloc::Global;
 
@@ -75,26 +75,6 @@ pub trait TakesFrames<O> {
         → count self out ≡ count first begin + length frames };
 }
 
-/// Takes in frames behind those that were taken in.
-fn take_frames<O, T: TakesFrames<O>>(
-    alloc: Global,
-    frames: &[Found],
-    taker: &mut T,
-    out: &mut O,
-) -> Result<(), ToolFault>
-    requires { (first : T) × (begin : O) × (before : List FoundFrame)
-        × T.HasTaken first begin taker.old out.old before × AreFew (before ++ frames.now) }
-    ensures { (first : T) (begin : O) (before : List FoundFrame)
-        → T.HasTaken first begin taker.old out.old before
-        → TakesAll (T.HasTaken first begin taker.new out.new)
-        (T.HasStopped first begin taker.new out.new) (before ++ frames.now) result }
-{
-    for frame in frames {
-        taker.take_frame(alloc, frame.place, frame.bytes.as_slice(), out)?;
-    }
-    Ok(())
-}
-
 /// Takes in the frames that are sure with a piece of a stream. One that lies whole in the piece is
 /// not copied.
 fn take_piece<O, T: TakesFrames<O>>(
@@ -143,7 +123,10 @@ fn take_rest<O, T: TakesFrames<O>>(
     let Ok(frames) = framer.finish() else {
         return Err(taker.halt(out));
     };
-    take_frames(alloc, &frames, taker, out)
+    for frame in &frames {
+        taker.take_frame(alloc, frame.place, frame.bytes.as_slice(), out)?;
+    }
+    Ok(())
 }
 
 /// Reads the stream of a reader to its end through some room, and hands on each of its frames as

@@ -1,10 +1,12 @@
 -- The loop of `merge_readers`: the readers read out so far, and what was merged of them.
 use Rattle.std.proofs.Common.{map}
+use Rattle.bufr_collect.specs.Stacks.{together, AreUnderTables}
 use Rattle.bufr_collect.proofs.EngineFacts.{MergedThrough}
 use Rattle.bufr_collect.proofs.merging.merge_readers.Given as goal
 
 -- the archives of the readers so far were merged
 abbrev pub invariant-loop-index : goal.invariant-loop-index
 invariant-loop-index g l =
-    MergedThrough l.tables l.reads (map g.S.Source.reading l.initial.readers)
-    (map g.S.Source.reading l.readers) l.merged l.index
+    AreUnderTables l.tables l.texts.items
+    × MergedThrough l.tables l.reads (map g.S.Source.reading l.initial.readers)
+    (map g.S.Source.reading l.readers) (together l.tables l.texts.items) l.index

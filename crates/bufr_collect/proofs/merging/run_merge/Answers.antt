@@ -5,6 +5,7 @@ use Rattle.bufr_shelves.specs.declared.entry.Entry.{Entry}
 use Rattle.bufr_archive.specs.Archives.{ArchiveView}
 use Rattle.bufr_collect.specs.Collects.{Merges}
 use Rattle.bufr_collect.specs.Parts.{joined}
+use Rattle.bufr_collect.specs.Stacks.{together}
 use Rattle.bufr_collect.proofs.FrameFacts.{passed}
 use Rattle.bufr_collect.proofs.EngineFacts.{merges_ok, merges_fails}
 use Rattle.bufr_collect.proofs.PartFacts.{joined_text}
@@ -16,7 +17,7 @@ returns-in_err-write_merged-clause-merges g c =
     let olds = map g.S.Source.reading c.args.readers.now in
     let news = map g.S.Source.reading c.merge_readers.new.readers in
     let writer = g.W.Sink.writing c.args.writer.now in
-    let archive : ArchiveView = c.in_ok-merged.merged in
+    let archive = together c.args.tables.now c.in_ok-texts.texts.items in
     passed
     (Merges c.args.tables.now c.args.reads olds news writer
     (g.W.Sink.writing c.write_merged.new.writer))
@@ -24,7 +25,7 @@ returns-in_err-write_merged-clause-merges g c =
     c.from_residual-in_err-write_merged.ensures.1
     (merges_fails c.args.tables.now c.args.reads olds news writer
     (g.W.Sink.writing c.write_merged.new.writer) archive _ c.in_err-write_merged.field-0.0
-    c.in_ok-merged.ensures.merges
+    c.in_ok-texts.ensures.merges
     (ap joined (c.in_ok-left.ensures
     ∙ ap (λ (a : ArchiveView). map (λ (e : Entry). e.bytes) a.entries) c.in_ok-lowest.ensures.all)
     ∙ joined_text archive.entries)
@@ -36,14 +37,14 @@ returns-clause-merges g c =
     let olds = map g.S.Source.reading c.args.readers.now in
     let news = map g.S.Source.reading c.merge_readers.new.readers in
     let writer = g.W.Sink.writing c.args.writer.now in
-    let archive : ArchiveView = c.in_ok-merged.merged in
+    let archive = together c.args.tables.now c.in_ok-texts.texts.items in
     let left = c.in_ok-left.ensures
     ∙ ap (λ (a : ArchiveView). map (λ (e : Entry). e.bytes) a.entries)
     c.in_ok-lowest.ensures.all in
     merges_ok c.args.tables.now c.args.reads olds news writer
     (g.W.Sink.writing c.write_merged.new.writer) archive _
     (length c.merge_readers.new.readers) _
-    c.in_ok-merged.ensures.merges
+    c.in_ok-texts.ensures.merges
     (ap joined left ∙ joined_text archive.entries)
     (sym (length-map c.merge_readers.new.readers g.S.Source.reading))
     (c.len-reports.ensures

@@ -1,7 +1,7 @@
--- The loop of `put_on`: the texts that are left, and the one that was merged of those above them.
+-- The loop of `settle`: the texts that are left, and the one that was merged of those above them.
 use Rattle.std.proofs.Common.{length}
 use Rattle.bufr_collect.proofs.StackFacts.{HoldTogether}
-use Rattle.bufr_collect.proofs.text_stack.put_on.Given as goal
+use Rattle.bufr_collect.proofs.text_stack.settle.Given as goal
 
 -- together they hold what all held
 abbrev pub invariant-loop-below : goal.invariant-loop-below
