@@ -115,10 +115,12 @@ fn push_checked(
         ≡ text.old.items ++ checked_as (frame_at place octets.now) (Ok found.now)) }
     ensures kept { OnErr result (take (length text.old.items) text.new.items ≡ text.old.items) }
 {
+    let slack = found.slack();
+    let subsets = found.count() as u64;
     push_count(text, b"", place)?;
     push_count(text, b" ", octets.len() as u64)?;
-    push_count(text, b" ok ", found.count() as u64)?;
-    push_count(text, b" ", found.slack())?;
+    push_count(text, b" ok ", subsets)?;
+    push_count(text, b" ", slack)?;
     text.push(b'\n')?;
     Ok(())
 }

@@ -9,8 +9,8 @@ returns-clause-ok c =
     let text = c.args.text.now.items in
     let place = decimal c.args.place in
     let long = decimal (length c.args.octets.now) in
-    let subsets = decimal c.count.result in
-    let slack = decimal c.slack.result in
+    let subsets = decimal c.count-subsets.result in
+    let slack = decimal c.slack-slack.result in
     let one = c.in_ok-push_count.ensures.ok in
     let two = c.in_ok-push_count-2.ensures.ok
     ∙ ap (λ (z : List ℕ). z ++ (32 ∷ []) ++ long) one in
@@ -19,7 +19,7 @@ returns-clause-ok c =
     let four = c.in_ok-push_count-4.ensures.ok
     ∙ ap (λ (z : List ℕ). z ++ (32 ∷ []) ++ slack) three in
     rw (
-      ← c.count.ensures,
-      ← c.slack.ensures,
+      ← c.count-subsets.ensures,
+      ← c.slack-slack.ensures,
     ) (c.in_ok-push.ensures.items ∙ ap (λ (z : List ℕ). z ++ 10 ∷ []) four
     ∙ checked_joined text place long (codes " ok ") subsets slack (10 ∷ []))
