@@ -1,8 +1,7 @@
 -- Runs of fields: how they join, and which nodes and turns are runs, for `Walk::pass_turns`.
 use Rattle.std.proofs.Common.{◌≡◌, ℕ, zero, suc, ◌+◌, ◌*◌, ◌<◌, ◌≤◌, false, List, [], ◌∷◌, ◌++◌}
-use Rattle.std.proofs.Common.{length, drop, take, min, Option, Some, None, refl, sym, ap, ◌∙◌, subst}
+use Rattle.std.proofs.Common.{length, drop, take, min, Option, Some, refl, sym, ap, ◌∙◌, subst}
 use Rattle.std.proofs.Common.{length-append, inl, inr, arith}
-use Rattle.std.specs.Prelude.{IfSome}
 use Rattle.std.proofs.lemmas.List.{take_all, drop_all, take_more}
 use Rattle.std.proofs.lemmas.Option.{get_or_from_slice_get, slice_get_within}
 use Rattle.std.specs.List.{slice_get}
@@ -245,13 +244,6 @@ turns_of_run n t q body r is h =
       each_counts = turns_count n body.items;
       leads = turns_lead n t q body h;
     })
-
--- if there is such a run
-pub if_turned : (n : ℕ) (t : Tree) (q : Operators) (body : Run) (found : Option Run)
-    → BeginsRun t q body trees.done → IfSome found (λ r. r ≡ turned_run n body)
-    → IfSome found (TurnsRun n t q)
-if_turned n t q body None h is = tt
-if_turned n t q body (Some r) h is = turns_of_run n t q body r is h
 
 -- ---- replications
 

@@ -1,7 +1,6 @@
 //! Which fields are asked for.
 
-ghost use Rattle.std.specs.Prelude.{◌≡◌, ℕ, Bool, not};
-ghost use Rattle.std.specs.List.{list_all};
+ghost use Rattle.std.specs.Prelude.{◌≡◌, ℕ, Bool};
 ghost use Rattle.bufr_expand.specs.Asked.{tells};
 
 use crate::node::Node;
@@ -18,18 +17,11 @@ pub trait Asks {
 }
 
 /// Whether a node is a field that is asked for.
-fn tells<A: Asks>(node: &Node) -> bool
+pub(crate) fn tells<A: Asks>(node: &Node) -> bool
     ensures { result ≡ tells A.is_asked node.now }
 {
     match node {
         Node::Element(fxy, _) | Node::Untouched(fxy, _) | Node::Delayed(fxy, _, _) => A::asks(*fxy),
         Node::Operator(_) | Node::Repeated(_, _) => false,
     }
-}
-
-/// Whether none of some nodes is a field that is asked for.
-pub(crate) fn tell_none<A: Asks>(nodes: &[Node]) -> bool
-    ensures { result ≡ list_all (λ node. not (tells A.is_asked node)) nodes.now }
-{
-    nodes.iter().all(|node| !tells::<A>(node))
 }

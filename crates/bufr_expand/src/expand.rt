@@ -39,7 +39,8 @@ pub fn expand(
     Ok(())
 }
 
-/// Adds the nodes of a part. X8 and X9, and the first fault of a list in it.
+/// Adds the nodes of a part: that of a replication gets the number of nodes of its body once these
+/// stand behind it. X8 and X9, and the first fault of a list in it.
 #[cycle(expand)]
 fn add_part(
     tables: &Tables,
@@ -65,34 +66,13 @@ fn add_part(
                 return Err(Failure::Fault(TemplateFault::TooDeep));
             }
             let place = nodes.len();
-            add_replication(repetitions, nodes)?;
+            add_node(&replication_node(repetitions, 0), nodes)?;
             expand(tables, sequences, replications - 1, body, nodes)?;
-            size_replication(place, repetitions, nodes);
+            let size = nodes.len() - place - 1;
+            nodes[place] = replication_node(repetitions, size as u64);
             Ok(())
         }
     }
-}
-
-/// Adds the node of a replication, of no size yet. X9 where there are 65,536.
-fn add_replication(
-    repetitions: &Repetitions,
-    nodes: &mut Vec<Node>,
-) -> Result<(), Failure<TemplateFault>>
-    ensures { Gives (λ _. nodes.new.items) result
-        (onto nodes.old.items (single_nodes (length nodes.old.items)
-        (replication_node repetitions.now 0))) }
-{
-    add_node(&replication_node(repetitions, 0), nodes)
-}
-
-/// Gives the node of a replication at a place the size of its body: all nodes behind it.
-fn size_replication(place: usize, repetitions: &Repetitions, nodes: &mut Vec<Node>)
-    requires { place < length nodes.old.items }
-    ensures { nodes.new.items ≡ slice_set nodes.old.items place
-        (replication_node repetitions.now (length nodes.old.items - place - 1)) }
-{
-    let size = nodes.len() - place - 1;
-    nodes[place] = replication_node(repetitions, size as u64);
 }
 
 /// Adds one node. X9 where there are 65,536.

@@ -72,20 +72,21 @@ impl Operators {
         ensures { MatchResult result (λ s. effective fxy element.now self.now ≡ Some s)
             (λ e. (e ≡ record { 0 = fxy }) × (effective fxy element.now self.now ≡ None)) }
     {
-        let spec = match element.kind {
-            Kind::Text => text_spec(self.text_width(element.width)),
-            Kind::Quantity if fxy.x() != 31 => self.quantity(element),
-            Kind::Code | Kind::Flag | Kind::Quantity | Kind::Count => untouched(element),
+        let spec = match (element.kind, self.characters) {
+            (Kind::Text, Some(octets)) => text_spec(8 * u32::from(octets)),
+            (Kind::Quantity, _) if fxy.x() != 31 => self.quantity(element),
+            _ => untouched(element),
         };
         spec.ok_or(EffectiveRange(fxy))
     }
 
-    /// Puts an operator in force by its X. A walk puts each operator of its nodes in force, of
+    /// Puts an operator in force by its X; a Y of 0 cancels. A walk puts each operator of its nodes in force, of
     /// which it does not know which they are; `apply` asks its caller for one of the four.
     pub(crate) fn put(&mut self, op: Fxy)
         ensures { self.new ≡ in_force_after self.old op }
     {
-        let operand = operand(op.y());
+        let y = op.y();
+        let operand = if y == 0 { None } else { Some(y) };
         match op.x() {
             1 => self.add_width = operand,
             2 => self.add_scale = operand,
@@ -94,59 +95,22 @@ impl Operators {
         }
     }
 
-    /// The bits of a text.
-    fn text_width(&self, width: u32) -> u32
-        ensures { result ≡ operating.text_width width self.now.characters }
-    {
-        match self.characters {
-            None => width,
-            Some(octets) => 8 * u32::from(octets),
-        }
-    }
-
     /// The spec of a quantity, to which all that is in force adds up.
     fn quantity(&self, element: &Element) -> Option<Spec>
         ensures { result ≡ operating.quantity element.now self.now }
     {
-        if !is_within(MOST_SCALE, i64::from(element.scale)) {
+        if i64::from(element.scale).unsigned_abs() > MOST_SCALE {
             return None;
         }
-        let reference = increased(element.reference, self.increase())?;
-        let scale = self.scale(element.scale);
-        let width = self.width(element.width);
+        let increase = self.increase.unwrap_or(0);
+        let reference = increased(element.reference, increase)?;
+        let scale = element.scale + added(self.add_scale) + i32::from(increase);
+        let widening = (10 * u32::from(increase) + 2) / 3;
+        let width = i64::from(element.width)
+            + i64::from(added(self.add_width))
+            + i64::from(widening);
         number_spec(Kind::Quantity, scale, reference, width)
     }
-
-    /// What 207 adds to the scale.
-    fn increase(&self) -> u8
-        ensures { result ≡ operating.increase_of self.now.increase }
-    {
-        self.increase.unwrap_or(0)
-    }
-
-    /// The scale of a quantity.
-    fn scale(&self, scale: i32) -> i32
-        requires { operating.is_within most_scale scale ≡ true }
-        ensures { result ≡ scale +ℤ operating.added self.now.add_scale +ℤ pos
-            (operating.increase_of self.now.increase) }
-    {
-        scale + added(self.add_scale) + i32::from(self.increase())
-    }
-
-    /// The width of a quantity, which may be below 0.
-    fn width(&self, width: u32) -> i64
-        ensures { result ≡ pos width +ℤ operating.added self.now.add_width +ℤ pos
-            (operating.widening self.now.increase) }
-    {
-        i64::from(width) + i64::from(added(self.add_width)) + i64::from(widening(self.increase))
-    }
-}
-
-/// An operand of 0 cancels.
-fn operand(y: u8) -> Option<u8>
-    ensures { result ≡ operating.operand y }
-{
-    if y == 0 { None } else { Some(y) }
 }
 
 /// What 201 and 202 add.
@@ -161,17 +125,6 @@ fn added(operand: Option<u8>) -> i32
     }
 }
 
-/// What 207 adds to the width.
-fn widening(operand: Option<u8>) -> i32
-    ensures value { result ≡ pos (operating.widening operand) }
-    ensures high { result ≤ℤ pos 850 }
-{
-    match operand {
-        None => 0,
-        Some(y) => (10 * i32::from(y) + 2) / 3,
-    }
-}
-
 /// A reference value times 10 to a power, unless it is then outside the limits.
 fn increased(reference: i64, power: u8) -> Option<i64>
     ensures { MatchOption result (operating.is_within most_reference (reference *ℤ pos (10 ^ power))
@@ -183,29 +136,17 @@ fn increased(reference: i64, power: u8) -> Option<i64>
     if power > 18 {
         return None;
     }
-    reference.checked_mul(ten_to(power))
-}
-
-/// A power of ten.
-fn ten_to(power: u8) -> i64
-    requires { power ≤ 18 }
-    ensures { result ≡ pos (10 ^ power) }
-{
-    10_u64.pow(u32::from(power)) as i64
-}
-
-/// Whether a number lies between minus a limit and the limit.
-fn is_within(limit: u64, number: i64) -> bool
-    ensures { result ≡ operating.is_within limit number }
-{
-    number.unsigned_abs() <= limit
+    reference.checked_mul(10_u64.pow(u32::from(power)) as i64)
 }
 
 /// The spec of a number, where it is within the limits.
 fn number_spec(kind: Kind, scale: i32, reference: i64, width: i64) -> Option<Spec>
     ensures { result ≡ operating.number_spec kind scale reference width }
 {
-    if width < 1 || width > i64::from(MOST_NUMBER_BITS) || !is_within(MOST_REFERENCE, reference) {
+    if width < 1
+        || width > i64::from(MOST_NUMBER_BITS)
+        || reference.unsigned_abs() > MOST_REFERENCE
+    {
         return None;
     }
     Some(Spec {
@@ -238,7 +179,7 @@ pub(crate) fn untouched(element: &Element) -> Option<Spec>
     match element.kind {
         Kind::Text => text_spec(element.width),
         kind => {
-            if !is_within(MOST_SCALE, i64::from(element.scale)) {
+            if i64::from(element.scale).unsigned_abs() > MOST_SCALE {
                 return None;
             }
             number_spec(

@@ -1,13 +1,12 @@
 //! What one descriptor of a list stands for.
 
-ghost use Rattle.std.specs.Prelude.{◌≡◌, ◌≤◌, length, IfOk, IfSome, option_map, option_copied};
+ghost use Rattle.std.specs.Prelude.{◌≡◌, ◌≤◌, length, Some, true, false, IfOk, IfSome, IfNone};
 ghost use Rattle.bufr_answers.specs.Answers.{result_map};
 ghost use Rattle.bufr_tables.specs.Descriptors.{f_of};
 ghost use Rattle.bufr_tables.specs.Entries.{element, sequence};
-ghost use Rattle.bufr_expand.specs.Expansion.{found_at, element_found, sequence_found};
-ghost use Rattle.bufr_expand.specs.Expansion.{replication_found, repeated_found, delayed_found};
+ghost use Rattle.bufr_expand.specs.Expansion.{found_at, replication_found, delayed_found};
 ghost use Rattle.bufr_expand.specs.Expansion.{factor_row, is_factor_row, operator_found};
-ghost use Rattle.bufr_expand.specs.Expansion.{width_found, local_found, number_found};
+ghost use Rattle.bufr_expand.specs.Expansion.{width_found, local_found};
 ghost use Rattle.bufr_expand.specs.Expansion as expansion;
 ghost use Rattle.bufr_expand.specs.Parts.{seen};
 
@@ -45,8 +44,8 @@ fn single<'a>(node: Node, taken: usize) -> FirstPart<'a>
     }
 }
 
-/// What a descriptor stands for, by those behind it in the same list. X1 to X7 where it stands for
-/// nothing.
+/// What a descriptor stands for, by those behind it in the same list: an element of Table B, a
+/// replication, an operator or the list of Table D. X1 to X7 where it stands for nothing.
 pub fn found_at<'a>(
     tables: &'a Tables,
     first: Fxy,
@@ -55,40 +54,23 @@ pub fn found_at<'a>(
     ensures value { result_map seen result ≡ found_at tables.now first behind.now }
     ensures taken { IfOk result (λ p. p.taken ≤ length behind.now) }
 {
-    match first.f() {
-        0 => element_found(tables, first),
-        1 => replication_found(tables, first, behind),
-        2 => operator_found(tables, first, behind),
-        _ => sequence_found(tables, first),
-    }
+    let part = match first.f() {
+        0 => match tables.element(first) {
+            Some(element) => Part::Single(Node::Element(first, *element)),
+            None => return Err(TemplateFault::UnknownElement(first)),
+        },
+        1 => return replication_found(tables, first, behind),
+        2 => return operator_found(tables, first, behind),
+        _ => match tables.sequence(first) {
+            Some(list) => Part::Inner(list),
+            None => return Err(TemplateFault::UnknownSequence(first)),
+        },
+    };
+    Ok(FirstPart { part, taken: 0 })
 }
 
-/// The element of Table B. X1 where it has none.
-fn element_found<'a>(tables: &Tables, first: Fxy) -> Result<FirstPart<'a>, TemplateFault>
-    ensures value { result_map seen result ≡ element_found first (element tables.now first) }
-    ensures taken { IfOk result (λ p. p.taken ≡ 0) }
-{
-    match tables.element(first) {
-        Some(element) => Ok(single(Node::Element(first, *element), 0)),
-        None => Err(TemplateFault::UnknownElement(first)),
-    }
-}
-
-/// The list of Table D. X2 where it has none.
-fn sequence_found<'a>(tables: &'a Tables, first: Fxy) -> Result<FirstPart<'a>, TemplateFault>
-    ensures value { result_map seen result ≡ sequence_found first (sequence tables.now first) }
-    ensures taken { IfOk result (λ p. p.taken ≡ 0) }
-{
-    match tables.sequence(first) {
-        Some(list) => Ok(FirstPart {
-            part: Part::Inner(list),
-            taken: 0,
-        }),
-        None => Err(TemplateFault::UnknownSequence(first)),
-    }
-}
-
-/// A replication. X4 or X5 where there is none.
+/// A replication: by a factor where Y is 0, else of the next X descriptors, Y times. X4 or X5 where
+/// there is none, X4 where fewer descriptors are left.
 fn replication_found<'a>(
     tables: &Tables,
     first: Fxy,
@@ -97,21 +79,13 @@ fn replication_found<'a>(
     ensures value { result_map seen result ≡ replication_found tables.now first behind.now }
     ensures taken { IfOk result (λ p. p.taken ≤ length behind.now) }
 {
-    if first.x() == 0 {
-        Err(TemplateFault::BadReplication(first))
-    } else if first.y() == 0 {
-        delayed_found(tables, first, behind)
-    } else {
-        repeated_found(first, behind)
-    }
-}
-
-/// A replication of the next X descriptors, Y times. X4 where fewer are left.
-fn repeated_found<'a>(first: Fxy, behind: &'a [Fxy]) -> Result<FirstPart<'a>, TemplateFault>
-    ensures value { result_map seen result ≡ repeated_found first behind.now }
-    ensures taken { IfOk result (λ p. p.taken ≤ length behind.now) }
-{
     let count = first.x() as usize;
+    if count == 0 {
+        return Err(TemplateFault::BadReplication(first));
+    }
+    if first.y() == 0 {
+        return delayed_found(tables, first, behind);
+    }
     if behind.len() < count {
         return Err(TemplateFault::BadReplication(first));
     }
@@ -138,9 +112,6 @@ fn delayed_found<'a>(
     let Some(element) = factor_row(tables, *factor) else {
         return Err(TemplateFault::BadFactor(*factor));
     };
-    if !is_factor_row(&element) {
-        return Err(TemplateFault::BadFactor(*factor));
-    }
     let count = first.x() as usize;
     if body.len() < count {
         return Err(TemplateFault::BadReplication(first));
@@ -157,26 +128,26 @@ const FIRST_FACTOR: u16 = 0x1F00;
 
 const LAST_FACTOR: u16 = 0x1F02;
 
-/// The row of a factor, where the descriptor is one and Table B has it.
+/// The row of a factor, where the descriptor is one and Table B has a row by which it can be read: a
+/// number of 1 to 16 bits, with neither scale nor reference value.
 fn factor_row(tables: &Tables, factor: Fxy) -> Option<Element>
-    ensures { result ≡ factor_row tables.now factor }
+    ensures some { IfSome result (λ row. (factor_row tables.now factor ≡ Some row)
+        × (is_factor_row row ≡ true)) }
+    ensures none { IfNone result (IfSome (factor_row tables.now factor)
+        (λ row. is_factor_row row ≡ false)) }
 {
     if factor.bits() < FIRST_FACTOR || factor.bits() > LAST_FACTOR {
         return None;
     }
-    tables.element(factor).copied()
-}
-
-/// Whether a factor can be read by a row: a number of 1 to 16 bits, with neither scale nor
-/// reference value.
-fn is_factor_row(element: &Element) -> bool
-    ensures { result ≡ is_factor_row element.now }
-{
-    element.kind != Kind::Text
+    let element = *tables.element(factor)?;
+    let is_number = !matches!(element.kind, Kind::Text)
         && element.scale == 0
-        && element.reference == 0
-        && element.width >= 1
-        && element.width <= MOST_FACTOR_BITS
+        && element.reference == 0;
+    if is_number && element.width >= 1 && element.width <= MOST_FACTOR_BITS {
+        Some(element)
+    } else {
+        None
+    }
 }
 
 /// An operator. X3, X6 or X7 where there is none.

@@ -22,17 +22,6 @@ pub struct Run {
 }
 
 impl Run {
-    /// Of no node.
-    fn none() -> Run
-        ensures { result ≡ no_run }
-    {
-        Run {
-            fields: 0,
-            items: 0,
-            bits: 0,
-        }
-    }
-
     /// Of a field, unless it has no spec or is a count.
     fn of_field(spec: Option<Spec>) -> Option<Run>
         ensures { IfSome result (IsFieldRun spec) }
@@ -47,56 +36,24 @@ impl Run {
             }),
         }
     }
-
-    /// With another run behind it, unless that is too much to count.
-    fn then(self, others: Run) -> Option<Run>
-        ensures { IfSome result (λ run. run ≡ joined_runs self others) }
-    {
-        let fields = self.fields.checked_add(others.fields)?;
-        let items = self.items.checked_add(others.items)?;
-        let bits = self.bits.checked_add(others.bits)?;
-        Some(Run {
-            fields,
-            items,
-            bits,
-        })
-    }
-
-    /// So many turns of it, unless that is too much to count.
-    fn turns(self, times: u64) -> Option<Run>
-        ensures { IfSome result (λ run. run ≡ turned_run times self) }
-    {
-        let turn = self.items.checked_add(1)?;
-        let fields = times.checked_mul(self.fields)?;
-        let items = times.checked_mul(turn)?;
-        let bits = u128::from(times).checked_mul(self.bits)?;
-        Some(Run {
-            fields,
-            items,
-            bits,
-        })
-    }
-
-    /// With an item in front of it that is no field, unless that is too much to count.
-    fn behind_item(self) -> Option<Run>
-        ensures { IfSome result (λ run. run ≡ behind_item self) }
-    {
-        let items = self.items.checked_add(1)?;
-        Some(Run {
-            fields: self.fields,
-            items,
-            bits: self.bits,
-        })
-    }
 }
 
 /// The run of so many turns of some nodes, unless an operator, a count, a field that has no spec or
-/// a delayed replication is among them.
+/// a delayed replication is among them, or that is too much to count.
 #[cycle(run_of)]
 pub fn turns_run(times: u64, nodes: &[Node], operators: &Operators) -> Option<Run>
     ensures { IfSome result (TurnsRun times (tree_of nodes.now) operators.now) }
 {
-    run_of(nodes, operators)?.turns(times)
+    let body = run_of(nodes, operators)?;
+    let turn = body.items.checked_add(1)?;
+    let fields = times.checked_mul(body.fields)?;
+    let items = times.checked_mul(turn)?;
+    let bits = u128::from(times).checked_mul(body.bits)?;
+    Some(Run {
+        fields,
+        items,
+        bits,
+    })
 }
 
 /// The run of some nodes, unless an operator, a count, a field that has no spec or a delayed
@@ -105,11 +62,22 @@ pub fn turns_run(times: u64, nodes: &[Node], operators: &Operators) -> Option<Ru
 fn run_of(nodes: &[Node], operators: &Operators) -> Option<Run>
     ensures { IfSome result (λ run. BeginsRun (tree_of nodes.now) operators.now run done) }
 {
-    let mut run = Run::none();
+    let mut run = Run {
+        fields: 0,
+        items: 0,
+        bits: 0,
+    };
     let mut rest = nodes;
     while let Some((first, behind)) = rest.split_first() {
         let (more, taken) = first_run(*first, behind, operators)?;
-        run = run.then(more)?;
+        let fields = run.fields.checked_add(more.fields)?;
+        let items = run.items.checked_add(more.items)?;
+        let bits = run.bits.checked_add(more.bits)?;
+        run = Run {
+            fields,
+            items,
+            bits,
+        };
         rest = &behind[taken..];
     }
     Some(run)
@@ -130,21 +98,11 @@ fn first_run(first: Node, behind: &[Node], operators: &Operators) -> Option<(Run
         }
         Node::Untouched(_, element) => Some((Run::of_field(untouched(&element))?, 0)),
         Node::Repeated(times, len) => {
-            let taken = at_most(len, behind.len());
+            let taken = len.min(behind.len() as u64) as usize;
             let turns = turns_run(times, &behind[..taken], operators)?;
-            Some((turns.behind_item()?, taken))
+            let items = turns.items.checked_add(1)?;
+            Some((Run { items, ..turns }, taken))
         }
         Node::Operator(_) | Node::Delayed(_, _, _) => None,
-    }
-}
-
-/// How many nodes a body has, of those that are there.
-fn at_most(len: u64, there: usize) -> usize
-    ensures { result ≡ min len there }
-{
-    if len < there as u64 {
-        len as usize
-    } else {
-        there
     }
 }

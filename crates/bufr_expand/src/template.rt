@@ -51,7 +51,10 @@ impl Template {
     {
         let mut nodes = Vec::new(alloc);
         expand(tables, MOST_LEVELS, MOST_LEVELS, list, &mut nodes)?;
-        let levels = levels(&nodes);
+        let levels = nodes
+            .iter()
+            .filter(|node| matches!(node, Node::Repeated(_, _) | Node::Delayed(_, _, _)))
+            .count();
         let shared = Rc::new(alloc, nodes)?;
         Ok(Template {
             nodes: shared,
@@ -78,34 +81,12 @@ impl Template {
         self.nodes.len()
     }
 
-    /// The nodes in depth-first order.
-    pub(crate) fn as_slice(&self) -> &[Node]
-        ensures { result.now ≡ nodes_of self.now }
+    /// The nodes in depth-first order, and how many of them are replications: there are no more
+    /// levels than that.
+    pub(crate) fn nodes_and_levels(&self) -> (&[Node], usize)
+        ensures nodes { result.0.now ≡ nodes_of self.now }
+        ensures levels { result.1 ≡ replications (nodes_of self.now) }
     {
-        self.nodes.as_slice()
-    }
-
-    /// How many of the nodes are replications: there are no more levels than that.
-    pub(crate) fn levels(&self) -> usize
-        ensures { result ≡ replications (nodes_of self.now) }
-    {
-        self.levels
-    }
-}
-
-/// How many nodes are replications.
-pub(crate) fn levels(nodes: &[Node]) -> usize
-    ensures { result ≡ replications nodes.now }
-{
-    nodes.iter().filter(|node| repeats(node)).count()
-}
-
-/// Whether a node is a replication.
-fn repeats(node: &Node) -> bool
-    ensures { result ≡ places.repeats node.now }
-{
-    match node {
-        Node::Repeated(_, _) | Node::Delayed(_, _, _) => true,
-        Node::Element(_, _) | Node::Untouched(_, _) | Node::Operator(_) => false,
+        (self.nodes.as_slice(), self.levels)
     }
 }

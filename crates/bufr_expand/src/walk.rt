@@ -6,7 +6,7 @@ ghost use Rattle.bufr_expand.specs.Places.{AreOpen, AreOpen-prop, in_front, repl
 ghost use Rattle.bufr_expand.specs.Places.{awaited};
 ghost use Rattle.bufr_expand.specs.OperatorsInForce.{factor_spec};
 
-use crate::asks::{Asks, tell_none};
+use crate::asks::{Asks, tells};
 use crate::limits::MOST_ITEMS;
 use crate::node::Node;
 use crate::operators::{Operators, Spec, untouched};
@@ -82,8 +82,8 @@ impl<'t> Walk<'t> {
         ensures answered { IfOk result (λ w. waits w ≡ false) }
         ensures items { IfOk result (λ w. items_met w ≡ used) }
     {
-        let loops = Vec::with_capacity(alloc, template.levels())?;
-        let nodes = template.as_slice();
+        let (nodes, levels) = template.nodes_and_levels();
+        let loops = Vec::with_capacity(alloc, levels)?;
         Ok(Walk {
             nodes,
             place: 0,
@@ -97,12 +97,19 @@ impl<'t> Walk<'t> {
 
     /// What comes next: operators, turns and ends of replications are passed. After a refusal or
     /// `Step::End` it answers the same again.
+    #[tactic(auto, unfolding(crate::specs::Walks::left, crate::specs::Walks::waits, crate::specs::Walks::items_met))]
     pub fn next(&mut self) -> Result<Step, WalkFault>
         requires { waits self.old ≡ false }
         ensures { Goes (left self.old) result self.new }
     {
         loop {
-            if let Some(answer) = self.pass() {
+            let answer = match self.state {
+                State::Stopped(fault) => Some(Err(fault)),
+                State::Waiting(asked) => Some(Ok(Step::Count(asked.fxy, asked.spec))),
+                State::Going if self.place < self.stop => self.visit(),
+                State::Going => self.turn(),
+            };
+            if let Some(answer) = answer {
                 return answer;
             }
         }
@@ -133,8 +140,16 @@ impl<'t> Walk<'t> {
         ensures enough { IfSome result (λ run. run.bits ≤ most) }
         ensures unmoved { IfNone result (self.new ≡ self.old) }
     {
-        let (turn, run) = self.turns_ahead()?;
-        if run.bits > most {
+        if !matches!(self.state, State::Going) || self.place < self.stop {
+            return None;
+        }
+        let turn = *self.loops.last()?;
+        if turn.turns == 0 || self.items > MOST_ITEMS {
+            return None;
+        }
+        let body = &self.nodes[turn.from..turn.to];
+        let run = turns_run(turn.turns, body, &self.operators)?;
+        if run.bits > most || run.items > MOST_ITEMS - self.items {
             return None;
         }
         self.loops.pop();
@@ -160,25 +175,10 @@ impl<'t> Walk<'t> {
     {
         match self.state {
             State::Going if self.loops.len() == 0 && self.place <= self.stop => {
-                tell_none::<A>(&self.nodes[self.place..self.stop])
+                let ahead = &self.nodes[self.place..self.stop];
+                ahead.iter().all(|node| !tells::<A>(node))
             }
             _ => false,
-        }
-    }
-
-    /// Passes a node, a turn or the end of a replication, or answers.
-    #[tactic(auto, unfolding(crate::specs::Walks::left, crate::specs::Walks::waits, crate::specs::Walks::items_met))]
-    fn pass(&mut self) -> Option<Result<Step, WalkFault>>
-        requires { waits self.old ≡ false }
-        ensures on { IfNone result ((left self.new ≡ left self.old) × (waits self.new ≡ false)
-            × (steps_left self.new < steps_left self.old)) }
-        ensures answer { IfSome result (λ a. Goes (left self.old) a self.new) }
-    {
-        match self.state {
-            State::Stopped(fault) => Some(Err(fault)),
-            State::Waiting(asked) => Some(Ok(Step::Count(asked.fxy, asked.spec))),
-            State::Going if self.place < self.stop => self.visit(),
-            State::Going => self.turn(),
         }
     }
 
@@ -208,7 +208,7 @@ impl<'t> Walk<'t> {
                 self.repeat(times, len);
                 None
             }
-            Node::Delayed(fxy, element, len) => Some(self.ask(fxy, factor(&element), len)),
+            Node::Delayed(fxy, element, len) => Some(self.ask(fxy, &element, len)),
         }
     }
 
@@ -243,30 +243,6 @@ impl<'t> Walk<'t> {
         self.place = turn.from;
         self.stop = turn.to;
         None
-    }
-
-    /// The innermost replication that is open and the run of all its turns that are left, one at
-    /// least, where the next one of them comes next and the message has room for their items.
-    fn turns_ahead(&self) -> Option<(Open, Run)>
-        ensures innermost { IfSome result (λ found. IsInnermost self.now found.0) }
-        ensures room { IfSome result (λ found. self.now.items + found.1.items ≤ most_items) }
-        ensures some { IfSome result (λ found. 0 < found.1.items) }
-        ensures turns { IfSome result (λ found. TurnsRun found.0.turns
-            (tree_between self.now.nodes.now found.0.from found.0.to) self.now.operators found.1) }
-    {
-        if !matches!(self.state, State::Going) || self.place < self.stop {
-            return None;
-        }
-        let turn = *self.loops.last()?;
-        if turn.turns == 0 || self.items > MOST_ITEMS {
-            return None;
-        }
-        let body = &self.nodes[turn.from..turn.to];
-        let run = turns_run(turn.turns, body, &self.operators)?;
-        if run.items > MOST_ITEMS - self.items {
-            return None;
-        }
-        Some((turn, run))
     }
 
     /// Stops at a fault.
@@ -309,17 +285,16 @@ impl<'t> Walk<'t> {
         }
     }
 
-    /// Meets the factor of a replication, whose body follows it.
+    /// Meets the factor of a replication, which has this row and is a count. The body follows it.
     #[tactic(auto, unfolding(crate::specs::Walks::left, crate::specs::Walks::waits, crate::specs::Walks::items_met, crate::specs::Walks::steps_left))]
-    fn ask(&mut self, fxy: Fxy, spec: Spec, len: u64) -> Result<Step, WalkFault>
+    fn ask(&mut self, fxy: Fxy, element: &Element, len: u64) -> Result<Step, WalkFault>
         requires goes { self.old.state ≡ Going }
         requires more { self.old.place < self.old.stop }
         requires fits { self.old.items < most_items }
         requires room { length self.old.loops.items + 1 ≤ in_front self.old.nodes.now
             (self.old.place + 1) }
-        requires counts { spec.kind ≡ kinds.Count }
         ensures { let from = self.old.place + 1 in let to = from + min len (self.old.stop - from) in
-            Goes (asks (self.old.items + 1) fxy spec
+            Goes (asks (self.old.items + 1) fxy (factor_spec element.now)
             (λ n. turns_then self.old.nodes.now n from to self.old.stop
             (behind_all self.old.nodes.now self.old.loops.items) self.old.operators
             (self.old.items + 1))) result self.new }
@@ -327,6 +302,12 @@ impl<'t> Walk<'t> {
         let from = self.place + 1;
         self.items += 1;
         self.place = body_end(from, self.stop, len);
+        let spec = Spec {
+            kind: Kind::Count,
+            scale: 0,
+            reference: 0,
+            width: element.width,
+        };
         self.state = State::Waiting(Asked {
             fxy,
             spec,
@@ -410,17 +391,5 @@ fn body_end(from: usize, stop: usize, len: u64) -> usize
         from + len as usize
     } else {
         stop
-    }
-}
-
-/// The spec of a factor.
-fn factor(element: &Element) -> Spec
-    ensures { result ≡ factor_spec element.now }
-{
-    Spec {
-        kind: Kind::Count,
-        scale: 0,
-        reference: 0,
-        width: element.width,
     }
 }

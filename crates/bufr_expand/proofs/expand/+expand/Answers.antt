@@ -7,6 +7,7 @@ use Rattle.std.proofs.lemmas.Result.{err_from_is_err_and}
 use Rattle.bufr_answers.specs.Answers.{Fails}
 use Rattle.bufr_expand.specs.Expansion.{expand_within, replication_node}
 use Rattle.bufr_expand.specs.Parts.{seen}
+use Rattle.bufr_expand.specs.declared.node.Node.{Node}
 use Rattle.bufr_expand.proofs.ExpansionFacts.{expanded, expanded_fault, expanded_part_fault}
 use Rattle.bufr_expand.proofs.ExpansionFacts.{expanded_more, expanded_nothing, replicated}
 use Rattle.bufr_expand.proofs.expand.+expand.Goals as goal
@@ -18,14 +19,20 @@ add_part-returns-in_ok-expand-in-Replication t c =
     let after = c.expand-in-Replication.new.nodes.items in
     let head = c.in-Replication.repetitions in
     let e = replicated c.args.tables.now c.args.sequences (c.args.replications - 1)
-    c.args.replications c.args.nodes.now.items c.add_replication.new.nodes.items after head
+    c.args.replications c.args.nodes.now.items c.add_node-in-Replication.new.nodes.items after head
     c.in-Replication.body.now
-    (omega arith) c.in_ok-add_replication-in-Replication.ensures
+    (omega arith) (rw c.replication_node.ensures at c.in_ok-add_node-in-Replication.ensures)
     c.in_ok-expand-in-Replication.ensures in
     let place : c.len-place.result ≡ length c.args.nodes.now.items =
     omega (arith, c.args.nodes.now.ok.0, c.len-place.ensures) in
-    let closed = c.size_replication.ensures
-    ∙ ap (λ (n : ℕ). set after n (replication_node head (length after - n - 1))) place in
+    let size : length after - c.len-place.result - 1 ≡ length after - length c.args.nodes.now.items - 1 =
+    ap (λ (n : ℕ). length after - n - 1) place in
+    let all : c.len.result ≡ length after =
+    omega (arith, c.expand-in-Replication.new.nodes.ok.0, c.len.ensures) in
+    let node = c.replication_node-in-Replication.ensures
+    ∙ ap (λ (n : ℕ). replication_node head n) (ap (λ (n : ℕ). n - c.len-place.result - 1) all ∙ size) in
+    let closed = ap (λ (n : ℕ). set after n c.replication_node-in-Replication.result) place
+    ∙ ap (λ (x : Node). set after (length c.args.nodes.now.items) x) node in
     rw c.in-Replication.is (e ∙ ap Ok (sym closed))
 
 -- where the first descriptor left stands for nothing, its fault is the first of the list

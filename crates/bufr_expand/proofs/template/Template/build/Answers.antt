@@ -1,4 +1,5 @@
 -- For `Template::build`: what an expansion adds to no nodes is a template.
+use Rattle.std.proofs.Common.{rules}
 use Rattle.bufr_expand.proofs.FlatFacts.{built-well_formed}
 use Rattle.bufr_expand.proofs.template.Template.build.Goals as goal
 
@@ -8,5 +9,5 @@ invariant_of-result c =
     rw c.in_ok-shared.ensures.ok (
       built-well_formed c.args.tables.now c.args.list.now c.new-nodes.result.items
           c.expand.new.nodes.items c.new-nodes.ensures.items c.in_ok-expand.ensures,
-      rw c.deref.ensures.value at c.levels-levels.ensures,
+      search rules,
     )

@@ -13,11 +13,11 @@ use Rattle.bufr_expand.proofs.walk.Walk.start.Goals as goal
 pub invariant_of-result : goal.invariant_of-result
 unfolding AreOpen
 invariant_of-result c =
-    let ns = c.as_slice-nodes.result.now in
+    let ns = c.nodes_and_levels-levels.result.0.now in
     let none : c.in_ok-loops.loops.items ≡ [] = c.in_ok-loops.ensures.items in
     let number : length c.in_ok-loops.loops.items ≡ 0 = ap length none in
-    let levels : c.levels.result ≡ replications ns =
-    c.levels.ensures ∙ sym (ap replications c.as_slice-nodes.ensures) in
+    let levels : c.nodes_and_levels-levels.result.1 ≡ replications ns =
+    c.nodes_and_levels-levels.ensures.levels ∙ sym (ap replications c.nodes_and_levels-levels.ensures.nodes) in
     let P : List Open → Type 0 = λ l. AreOpen ns 0 l in
     let front : 0 ≤ 0 = omega arith in
     let inside : length c.in_ok-loops.loops.items + 0 ≤ in_front ns 0 = omega (arith, number) in
@@ -33,9 +33,9 @@ invariant_of-result c =
 pub returns-clause-course : goal.returns-clause-course
 unfolding left
 returns-clause-course c =
-    let e : tree_of c.as_slice-nodes.result.now ≡ c.args.template.now =
-    ap tree_of c.as_slice-nodes.ensures ∙ tree_of-nodes_of c.args.template.now in
-    at_front c.as_slice-nodes.result.now c.in_ok-loops.loops.items c.none.result c.args.used
+    let e : tree_of c.nodes_and_levels-levels.result.0.now ≡ c.args.template.now =
+    ap tree_of c.nodes_and_levels-levels.ensures.nodes ∙ tree_of-nodes_of c.args.template.now in
+    at_front c.nodes_and_levels-levels.result.0.now c.in_ok-loops.loops.items c.none.result c.args.used
     c.in_ok-loops.ensures.items c.none.ensures
     ∙ ap (λ (t : Tree). course t c.args.used) e
 

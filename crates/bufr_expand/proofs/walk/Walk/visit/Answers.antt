@@ -86,4 +86,4 @@ returns-in-Delayed-clause-answer c =
     goes_as (left w) _ c.ask.result c.ask.new.self
     (at_node w (nodes.Delayed o.fxy o.element o.len) _ _ _ c.requires.goes c.requires.more
     w.within.1 o.is c.if-self-ge-MOST_ITEMS.false tree refl)
-    (rw c.factor.ensures at c.ask.ensures)
+    c.ask.ensures
