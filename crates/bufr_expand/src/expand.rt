@@ -1,8 +1,8 @@
 //! The nodes of a list of descriptors.
 
-ghost use Rattle.std.specs.Prelude.{◌≡◌, ◌+◌, ◌-◌, ◌<◌, suc, length, slice_set};
+ghost use Rattle.std.specs.Prelude.{◌≡◌, ◌+◌, suc, length};
 ghost use Rattle.bufr_answers.specs.Answers.{Gives};
-ghost use Rattle.bufr_expand.specs.Expansion.{onto, expand_within, part_nodes, replication_nodes};
+ghost use Rattle.bufr_expand.specs.Expansion.{onto, expand_within, part_nodes};
 ghost use Rattle.bufr_expand.specs.Expansion.{single_nodes, replication_node};
 ghost use Rattle.bufr_expand.specs.Parts.{seen_part};
 

@@ -1,9 +1,9 @@
 //! Operators in force, and what they make of an element.
 
-ghost use Rattle.std.specs.Prelude.{◌≡◌, ◌⊎◌, ◌+ℤ◌, ◌*ℤ◌, ◌≤ℤ◌, ◌≤◌, ◌^◌, pos, negsuc, true, false};
+ghost use Rattle.std.specs.Prelude.{◌≡◌, ◌⊎◌, ◌*ℤ◌, ◌≤ℤ◌, ◌^◌, pos, negsuc, false};
 ghost use Rattle.std.specs.Prelude.{Some, None, MatchOption, MatchResult};
 ghost use Rattle.bufr_tables.specs.Descriptors.{f_of, x_of};
-ghost use Rattle.bufr_expand.specs.Limits.{most_scale, most_reference};
+ghost use Rattle.bufr_expand.specs.Limits.{most_reference};
 ghost use Rattle.bufr_expand.specs.OperatorsInForce as operating;
 ghost use Rattle.bufr_expand.specs.OperatorsInForce.{none_in_force, in_force_after, effective, untouched};
 

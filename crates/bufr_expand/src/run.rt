@@ -1,9 +1,8 @@
 //! Runs of fields, none of which is a count, so that they have as many bits and items at each turn
 //! of a replication.
 
-ghost use Rattle.std.specs.Prelude.{◌≡◌, ◌≤◌, ◌∷◌, length, drop, min, IfSome};
-ghost use Rattle.bufr_expand.specs.Runs.{no_run, joined_runs, turned_run, behind_item, IsFieldRun};
-ghost use Rattle.bufr_expand.specs.Runs.{BeginsRun, TurnsRun};
+ghost use Rattle.std.specs.Prelude.{◌≤◌, ◌∷◌, length, drop, IfSome};
+ghost use Rattle.bufr_expand.specs.Runs.{BeginsRun, IsFieldRun, TurnsRun};
 ghost use Rattle.bufr_expand.specs.Trees.{tree_of, done};
 
 use crate::node::Node;

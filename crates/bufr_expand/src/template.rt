@@ -2,7 +2,6 @@
 
 ghost use Rattle.std.specs.Prelude.{◌≡◌, length, IfOk};
 ghost use Rattle.bufr_answers.specs.Answers.{Gives};
-ghost use Rattle.bufr_expand.specs.Places as places;
 ghost use Rattle.bufr_expand.specs.Places.{replications};
 ghost use Rattle.bufr_expand.specs.Templates.{template};
 ghost use Rattle.bufr_expand.specs.Trees.{nodes_of};

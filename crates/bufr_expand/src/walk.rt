@@ -62,17 +62,15 @@ pub struct Walk<'t> {
 
 impl<'t> Walk<'t> {
     ghost use Rattle.std.specs.Prelude.{◌<◌, ◌*◌, true, false, IfOk, IfSome, IfNone, option_map};
-    ghost use Rattle.bufr_tables.specs.declared.element.Kind.TheVariants as kinds;
     ghost use Rattle.bufr_expand.specs.OperatorsInForce.{in_force_after, untouched};
     ghost use Rattle.bufr_expand.specs.Limits.{most_items};
     ghost use Rattle.bufr_expand.specs.Trees.{tree_of};
     ghost use Rattle.bufr_expand.specs.Courses.{course, ends, stops, asks, asks_if};
     ghost use Rattle.bufr_expand.specs.Walks.{left, waits, items_met, steps_left, going, told};
     ghost use Rattle.bufr_expand.specs.Walks.{turns_then, behind_all, Goes, Counted, IsBelowCount};
-    ghost use Rattle.bufr_expand.specs.Walks.{tree_between};
     ghost use Rattle.std.specs.Bool.{OnTrue};
     ghost use Rattle.bufr_expand.specs.Asked.{TellsNone};
-    ghost use Rattle.bufr_expand.specs.Runs.{PassesRun, TurnsRun, IsInnermost};
+    ghost use Rattle.bufr_expand.specs.Runs.{PassesRun};
     ghost use Rattle.bufr_expand.specs.declared.standing.State.TheVariants.{Going};
 
     /// At the front of a template, after so many items of the message. It takes the room for all
