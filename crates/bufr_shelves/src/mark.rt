@@ -58,28 +58,6 @@ impl Model for Mark {
     ghost invariant = { λ a. IsFronted a.form };
 }
 
-/// A key and an update number, as they are held.
-fn form_with(alloc: Global, key: Key, update: u8) -> Result<MarkForm, OutOfMemory>
-    ensures mark { IfOk result (λ form.
-        mark_in form ≡ record { key = Some key; update = update }) }
-    ensures fronted { IfOk result IsFronted }
-{
-    if let Some(key) = WmoKey::of_key(&key) {
-        return Ok(MarkForm::Wmo { update, key });
-    }
-    let Front { head, place } = Front::of_key(&key);
-    let key = Box::new(alloc, key)?;
-    match place {
-        FrontPlace::Mobile { name } => Ok(MarkForm::Mobile {
-            update,
-            head,
-            key,
-            name,
-        }),
-        _ => Ok(MarkForm::Other { update, key }),
-    }
-}
-
 impl MarkForm {
     /// The order of its slot and that of a key.
     fn order_to(&self, key: &Key) -> Ordering
@@ -99,9 +77,30 @@ impl Mark {
     pub fn new(alloc: Global, key: Option<Key>, update: u8) -> Result<Mark, OutOfMemory>
         ensures { IfOk result (λ mark. mark ≡ record { key = key; update = update }) }
     {
-        let form = match key {
-            Some(key) => form_with(alloc, key, update)?,
-            None => MarkForm::Keyless { update },
+        let Some(key) = key else {
+            let form = MarkForm::Keyless { update };
+            return Ok(Mark { form });
+        };
+        let Front { head, place } = Front::of_key(&key);
+        let form = match place {
+            FrontPlace::Wmo(place) => MarkForm::Wmo {
+                update,
+                key: WmoKey {
+                    head,
+                    place,
+                    sub_centre: key.sub_centre,
+                },
+            },
+            FrontPlace::Mobile { name } => MarkForm::Mobile {
+                update,
+                head,
+                key: Box::new(alloc, key)?,
+                name,
+            },
+            FrontPlace::Open => MarkForm::Other {
+                update,
+                key: Box::new(alloc, key)?,
+            },
         };
         Ok(Mark { form })
     }
@@ -136,7 +135,10 @@ impl Mark {
     {
         match &self.form {
             MarkForm::Wmo { key, .. } => Some(key.front()),
-            MarkForm::Mobile { head, name, .. } => Some(Front::of_mobile(*head, *name)),
+            MarkForm::Mobile { head, name, .. } => Some(Front {
+                head: *head,
+                place: FrontPlace::Mobile { name: *name },
+            }),
             _ => None,
         }
     }

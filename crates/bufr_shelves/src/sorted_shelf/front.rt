@@ -1,7 +1,6 @@
 //! What of the key of a mark is compared first.
 ghost use Rattle.std.specs.Prelude.{◌≡◌, get_or};
-ghost use Rattle.bufr_shelves.specs.Fronts.{front_cmp, place_cmp, head_of_key, front_of_key, place_of_station, first_octets, in_two_octets};
-ghost use Rattle.bufr_shelves.specs.declared.sorted_shelf.front.FrontPlace.TheVariants.{Wmo, Mobile};
+ghost use Rattle.bufr_shelves.specs.Fronts.{front_cmp, place_cmp, front_of_key, first_octets, in_two_octets};
 
 use bufr_keys::{Key, Moment, Station};
 use std::cmp::Ordering;
@@ -41,44 +40,33 @@ pub(crate) struct Front {
     pub(crate) place: FrontPlace,
 }
 
-impl FrontHead {
-    /// Those of a key.
-    pub(crate) fn of_key(key: &Key) -> FrontHead
-        ensures { result ≡ head_of_key key.now }
-    {
-        FrontHead {
-            centre: key.centre,
-            category: key.category,
-            international: key.international,
-            local_category: key.local_category,
-        }
-    }
-}
-
 impl Front {
     /// That of a key.
     pub(crate) fn of_key(key: &Key) -> Front
         ensures { result ≡ front_of_key key.now }
     {
-        Front {
-            head: FrontHead::of_key(key),
-            place: place_of(&key.station, key.moment),
-        }
-    }
-
-    /// That of a WMO station whose numbers have room.
-    pub(crate) fn of_wmo(head: FrontHead, place: WmoPlace) -> Front
-        ensures { result ≡ record { head = head; place = Wmo place } }
-    {
-        let place = FrontPlace::Wmo(place);
-        Front { head, place }
-    }
-
-    /// That of a mobile name with these first octets.
-    pub(crate) fn of_mobile(head: FrontHead, name: [u8; 8]) -> Front
-        ensures { result ≡ record { head = head; place = Mobile name } }
-    {
-        let place = FrontPlace::Mobile { name };
+        let place = match &key.station {
+            Station::Wmo { block, number } => {
+                match (in_two_octets(*block), in_two_octets(*number)) {
+                    (Some(block), Some(number)) => FrontPlace::Wmo(WmoPlace {
+                        block,
+                        number,
+                        moment: key.moment,
+                    }),
+                    _ => FrontPlace::Open,
+                }
+            }
+            Station::Wigos { .. } => FrontPlace::Open,
+            Station::Mobile { name } => FrontPlace::Mobile {
+                name: first_eight(name.as_slice()),
+            },
+        };
+        let head = FrontHead {
+            centre: key.centre,
+            category: key.category,
+            international: key.international,
+            local_category: key.local_category,
+        };
         Front { head, place }
     }
 
@@ -111,7 +99,7 @@ impl FrontPlace {
 }
 
 /// A number that has room in two octets.
-pub(crate) fn in_two_octets(number: i128) -> Option<u16>
+fn in_two_octets(number: i128) -> Option<u16>
     ensures { result ≡ in_two_octets number }
 {
     if 0 <= number && number <= 65_535 {
@@ -142,24 +130,4 @@ fn first_eight(octets: &[u8]) -> [u8; 8]
         octet_at(octets, 6),
         octet_at(octets, 7),
     ]
-}
-
-/// Station and moment, as far as they stand in a front.
-fn place_of(station: &Station, moment: Moment) -> FrontPlace
-    ensures { result ≡ place_of_station station.now moment }
-{
-    match station {
-        Station::Wmo { block, number } => match (in_two_octets(*block), in_two_octets(*number)) {
-            (Some(block), Some(number)) => FrontPlace::Wmo(WmoPlace {
-                block,
-                number,
-                moment,
-            }),
-            _ => FrontPlace::Open,
-        },
-        Station::Wigos { .. } => FrontPlace::Open,
-        Station::Mobile { name } => FrontPlace::Mobile {
-            name: first_eight(name.as_slice()),
-        },
-    }
 }
