@@ -588,6 +588,13 @@ all-settled ss ls ws s sorted l w h =
     ∙ ap (λ es. kept (ss ++ (es ++ []))) (sym l)
     ∙ ap (λ es. kept (ss ++ (ls ++ es))) (sym w) ∙ h
 
+-- and they are what was kept before
+pub settled-kept : (ss ls ws ds ms vs s : List Entry) → IsStrictlySortedBy slot_cmp (ss ++ ls)
+    → ls ≡ [] → ws ≡ [] → kept (ss ++ (ls ++ ws)) ≡ kept (ds ++ (ms ++ vs))
+    → kept (ds ++ (ms ++ vs)) ≡ s → ss ≡ kept s
+settled-kept ss ls ws ds ms vs s sorted l w h v =
+    all-settled ss ls ws _ sorted l w h ∙ sym (kept-kept (ds ++ (ms ++ vs))) ∙ ap kept v
+
 -- entries to which one may be put: in order, of which few wait, and all as they were
 pub record Ready (ss ls ws : List Entry) (waiting count : ℕ) (s : List Entry) : Type 0 where
   pub sorted : IsStrictlySortedBy slot_cmp (ss ++ ls)

@@ -1,5 +1,6 @@
 //! What of the key of a mark is compared first.
 ghost use Rattle.std.specs.Prelude.{◌≡◌, get_or};
+ghost use Rattle.bufr_shelves.specs.declared.sorted_shelf.front.FrontPlace.TheVariants.{Wmo};
 ghost use Rattle.bufr_shelves.specs.Fronts.{front_cmp, place_cmp, front_of_key, first_octets, in_two_octets};
 
 use bufr_keys::{Key, Moment, Station};
@@ -67,6 +68,14 @@ impl Front {
             international: key.international,
             local_category: key.local_category,
         };
+        Front { head, place }
+    }
+
+    /// That of a WMO station whose numbers have room.
+    pub(crate) fn of_wmo(head: FrontHead, place: WmoPlace) -> Front
+        ensures { result ≡ record { head = head; place = Wmo place } }
+    {
+        let place = FrontPlace::Wmo(place);
         Front { head, place }
     }
 

@@ -95,7 +95,8 @@ impl<'a> LentOctets<'a> {
                 return Some(own);
             }
             let (page, pages) = self.pages.split_first()?;
-            (self.entries, self.octets) = page.parts();
+            self.entries = page.entries.as_slice();
+            self.octets = &page.octets[page.from..];
             self.pages = pages;
         }
     }

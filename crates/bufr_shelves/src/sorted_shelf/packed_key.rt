@@ -3,7 +3,7 @@ ghost use Rattle.std.specs.Prelude.{◌≡◌};
 ghost use Rattle.bufr_shelves.specs.PackedKeys.{wmo_key};
 ghost use Rattle.bufr_shelves.specs.Fronts.{front_of_key};
 
-use crate::sorted_shelf::front::{Front, FrontHead, FrontPlace, WmoPlace};
+use crate::sorted_shelf::front::{Front, FrontHead, WmoPlace};
 use bufr_keys::{Key, Station};
 
 /// The key of a WMO station whose block and number have room in two octets each. Its order is
@@ -43,9 +43,6 @@ impl WmoKey {
     pub(crate) fn front(&self) -> Front
         ensures { result ≡ front_of_key (wmo_key self.now) }
     {
-        Front {
-            head: self.head,
-            place: FrontPlace::Wmo(self.place),
-        }
+        Front::of_wmo(self.head, self.place)
     }
 }

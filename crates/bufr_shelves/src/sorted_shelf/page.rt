@@ -35,9 +35,9 @@ const _: () = prove!(size_of::<PageEntry>() == 32);
 #[derive(Drop)]
 pub(crate) struct Page {
     // The last one comes first.
-    entries: Vec<PageEntry>,
-    octets: Vec<u8>,
-    from: usize,
+    pub(crate) entries: Vec<PageEntry>,
+    pub(crate) octets: Vec<u8>,
+    pub(crate) from: usize,
 }
 
 impl Model for Page {
@@ -53,17 +53,6 @@ impl Model for Page {
 }
 
 impl Page {
-    /// No entries. It takes no memory.
-    pub(crate) fn none(alloc: Global) -> Page
-        ensures { result ≡ [] }
-    {
-        Page {
-            entries: Vec::new(alloc),
-            octets: Vec::new(alloc),
-            from: 0,
-        }
-    }
-
     /// How many entries there are.
     pub(crate) fn len(&self) -> usize
         ensures { result ≡ length self.now }
@@ -91,14 +80,6 @@ impl Page {
         let PageEntry { mark, len } = self.entries.pop()?;
         self.from += len;
         Some(mark)
-    }
-
-    /// What is held of the entries, from the last one on, and the octets of all.
-    pub(crate) fn parts(&self) -> (&[PageEntry], &[u8])
-        ensures entries { paged (reverse result.0.now) result.1.now ≡ self.now }
-        ensures octets { octets_of (reverse result.0.now) ≤ length result.1.now }
-    {
-        (self.entries.as_slice(), &self.octets[self.from..])
     }
 }
 

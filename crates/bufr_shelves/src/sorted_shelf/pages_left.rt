@@ -52,7 +52,11 @@ impl PagesLeft {
         ensures { result ≡ [] }
     {
         PagesLeft {
-            page: Page::none(alloc),
+            page: Page {
+                entries: Vec::new(alloc),
+                octets: Vec::new(alloc),
+                from: 0,
+            },
             pages: Vec::new(alloc),
         }
     }

@@ -1,5 +1,5 @@
 //! Entries that wait, put in order among those of pages.
-ghost use Rattle.std.specs.Prelude.{◌≡◌, ◌⊎◌, ◌+◌, ◌<◌, ◌≤◌, ◌++◌, [], true, false, length, reverse, OnOk};
+ghost use Rattle.std.specs.Prelude.{◌≡◌, ◌+◌, ◌<◌, ◌≤◌, ◌++◌, [], true, false, length, reverse, IfSome, MatchOption, OnOk};
 ghost use Rattle.std.specs.List.Sorted.{IsStrictlySortedBy};
 ghost use Rattle.std.specs.Ordering.{is_gt};
 ghost use Rattle.std.specs.declared.cmp.Ordering.TheVariants.{Equal};
@@ -50,7 +50,7 @@ fn fill_pages(
     ensures fewer { length waiting.new ≤ length waiting.old }
     ensures done { OnOk result ((left.new ≡ []) × (waiting.new ≡ [])) }
 {
-    while !are_none(left, waiting) {
+    while order_of_heads(left, waiting).is_some() {
         settled.reserve(1)?;
         let mut room = PageRoom::new(alloc)?;
         let filled = fill(&mut room, left, waiting);
@@ -61,15 +61,8 @@ fn fill_pages(
     Ok(())
 }
 
-/// Whether no entry is left.
-fn are_none(left: &PagesLeft, waiting: &Waiting) -> bool
-    ensures none { result ≡ true → (left.now ≡ []) × (waiting.now ≡ []) }
-    ensures some { result ≡ false → 0 < length left.now + length waiting.now }
-{
-    left.first().is_none() && waiting.len() == 0
-}
-
-/// Moves entries to the page until it is full, or none is left: one at least.
+/// Moves entries to the page until it is full, or none is left, each time the one of least slot,
+/// and drops what has the slot of another of a rank that is not less: one at least goes.
 fn fill(room: &mut PageRoom, left: &mut PagesLeft, waiting: &mut Waiting) -> Result<(), OutOfMemory>
     requires sorted { IsStrictlySortedBy slot_cmp left.old }
     requires rising { AreRising (reverse waiting.old) }
@@ -82,55 +75,37 @@ fn fill(room: &mut PageRoom, left: &mut PagesLeft, waiting: &mut Waiting) -> Res
     ensures less { OnOk result
         (length left.new + length waiting.new < length left.old + length waiting.old) }
 {
-    loop {
-        step(room, left, waiting)?;
-        if room.is_full() || are_none(left, waiting) {
+    while let Some(order) = order_of_heads(left, waiting) {
+        match order {
+            Ordering::Less => room.push_left(left)?,
+            Ordering::Equal => drop_lesser(left, waiting),
+            Ordering::Greater => {
+                if !drop_tied(waiting) {
+                    room.push_last(waiting)?;
+                }
+            }
+        }
+        if room.is_full() {
             return Ok(());
         }
     }
+    Ok(())
 }
 
-/// Moves the entry of least slot to the page, or drops one whose slot has another of a rank that is
-/// not less.
-fn step(room: &mut PageRoom, left: &mut PagesLeft, waiting: &mut Waiting) -> Result<(), OutOfMemory>
-    requires sorted { IsStrictlySortedBy slot_cmp left.old }
-    requires rising { AreRising (reverse waiting.old) }
-    requires some { 0 < length left.old + length waiting.old }
-    ensures sorted { IsStrictlySortedBy slot_cmp left.new }
-    ensures rising { AreRising (reverse waiting.new) }
-    ensures all { room.new ++ kept (left.new ++ reverse waiting.new)
-        ≡ room.old ++ kept (left.old ++ reverse waiting.old) }
-    ensures fewer { length waiting.new ≤ length waiting.old }
-    ensures less { OnOk result
-        (length left.new + length waiting.new < length left.old + length waiting.old) }
+/// The order of the slots of the first entry of the pages and of the last one that waits, unless
+/// none is left; where one is missing its slot is told as if it were greater.
+fn order_of_heads(left: &PagesLeft, waiting: &Waiting) -> Option<Ordering>
+    ensures order { IfSome result (λ order.
+        order ≡ heads_order slot_cmp left.now (reverse waiting.now)) }
+    ensures some { MatchOption result ((left.now ≡ []) × (waiting.now ≡ []))
+        (λ _. 0 < length left.now + length waiting.now) }
 {
-    match order_of_heads(left, waiting) {
-        Ordering::Less => room.push_left(left),
-        Ordering::Equal => {
-            drop_lesser(left, waiting);
-            Ok(())
-        }
-        Ordering::Greater => {
-            if drop_tied(waiting) {
-                return Ok(());
-            }
-            room.push_last(waiting)
-        }
+    match (left.first(), waiting.last()) {
+        (None, None) => None,
+        (_, None) => Some(Ordering::Less),
+        (None, _) => Some(Ordering::Greater),
+        (Some(first), Some(last)) => Some(first.slot_cmp(last)),
     }
-}
-
-/// The order of the slots of the first entry of the pages and of the last one that waits; where
-/// there is none its slot is told as if it were greater.
-fn order_of_heads(left: &PagesLeft, waiting: &Waiting) -> Ordering
-    ensures { result ≡ heads_order slot_cmp left.now (reverse waiting.now) }
-{
-    let Some(last) = waiting.last() else {
-        return Ordering::Less;
-    };
-    let Some(first) = left.first() else {
-        return Ordering::Greater;
-    };
-    first.slot_cmp(last)
 }
 
 /// Drops the first entry of the pages or the last one that waits: the one of lesser rank.

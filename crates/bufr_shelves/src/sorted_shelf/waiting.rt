@@ -1,5 +1,5 @@
 //! Entries that wait to be put in order, with the octets of all in one place.
-ghost use Rattle.std.specs.Prelude.{◌≡◌, ◌+◌, ◌<◌, ◌≤◌, ◌++◌, ◌∷◌, [], true, false, take, drop, length, reverse, OnOk, OnErr, IfSome, MatchOption};
+ghost use Rattle.std.specs.Prelude.{◌≡◌, ◌+◌, ◌*◌, ◌<◌, ◌≤◌, ◌++◌, ◌∷◌, [], true, false, take, drop, length, reverse, OnOk, OnErr, IfSome, MatchOption};
 ghost use Rattle.std.specs.Option.{option_map};
 ghost use Rattle.std.specs.List.Sorted.{IsPermutation};
 ghost use Rattle.bufr_shelves.specs.Keeping.{first_of};
@@ -11,6 +11,18 @@ use crate::sorted_shelf::merge::take_last;
 use bufr_answers::OutOfMemory;
 use std::alloc::Global;
 use std::marker::Model;
+
+/// The fewest entries that wait before they are put in order, unless they are long.
+const SMALLEST_BATCH: usize = 64;
+
+/// The most that wait, besides one for each that is in order.
+const LARGEST_BATCH: usize = 65_536;
+
+/// The fewest octets that wait before that, whatever their number.
+const LONG_BATCH: u64 = 33_554_432;
+
+/// How many octets more may wait for each entry that is in order.
+const OCTETS_AN_ENTRY: u64 = 64;
 
 /// The octets of so many entries are read at once.
 const MOST_AT_ONCE: usize = 64;
@@ -79,21 +91,6 @@ fn at_once(entries: &[WaitingEntry]) -> usize
     count
 }
 
-/// Puts the octets of entries behind others.
-fn push_octets(
-    octets: &[u8],
-    entries: &[WaitingEntry],
-    ahead: &mut Vec<u8>,
-) -> Result<(), OutOfMemory>
-    ensures { OnOk result
-        (ahead.new.items ≡ ahead.old.items ++ octets_waiting octets.now entries.now) }
-{
-    for entry in entries {
-        ahead.extend_from_slice(part(octets, entry.from, entry.len))?;
-    }
-    Ok(())
-}
-
 /// Reads the octets of the last entries at once. They lie far from each other in memory, which is
 /// waited for less so.
 fn read_last(octets: &[u8], entries: &[WaitingEntry], ahead: &mut Vec<u8>)
@@ -101,9 +98,14 @@ fn read_last(octets: &[u8], entries: &[WaitingEntry], ahead: &mut Vec<u8>)
 {
     ahead.clear();
     let (_, last) = entries.split_at(entries.len() - at_once(entries));
-    match push_octets(octets, last, ahead) {
-        Ok(()) => {}
-        Err(_) => ahead.clear(),
+    for entry in last {
+        if ahead
+            .extend_from_slice(part(octets, entry.from, entry.len))
+            .is_err()
+        {
+            ahead.clear();
+            return;
+        }
     }
 }
 
@@ -142,11 +144,15 @@ impl Waiting {
         }
     }
 
-    /// How many entries there are.
-    pub(crate) fn len(&self) -> usize
-        ensures { result ≡ length self.now }
+    /// Whether so many entries wait, or octets, that it is time to put them in order among so many.
+    pub(crate) fn are_many(&self, settled: usize) -> bool
+        ensures { (result ≡ false) → length self.now < 64 + 2 * settled }
     {
-        self.entries.len()
+        let waiting = self.entries.len();
+        let room = (settled as u64).saturating_mul(OCTETS_AN_ENTRY);
+        let are_long = self.octets.len() as u64 >= room.saturating_add(LONG_BATCH);
+        let are_most = waiting >= settled.saturating_add(LARGEST_BATCH);
+        are_long || are_most || waiting >= SMALLEST_BATCH && waiting / 2 >= settled
     }
 
     /// Puts an entry behind the others. Where memory was refused they are as they were.

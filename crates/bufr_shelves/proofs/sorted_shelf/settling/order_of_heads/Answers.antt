@@ -7,12 +7,12 @@ use Rattle.bufr_shelves.proofs.PageLemmas.{heads-are}
 use Rattle.bufr_shelves.proofs.sorted_shelf.settling.order_of_heads.Goals as goal
 
 -- both are there
-pub returns : goal.returns
-returns c =
-    let first : first_of c.args.left.now ≡ Some (seen c.in-Some-first.first) =
-    sym c.first.ensures ∙ ap (option_map seen) c.in-Some-first.is in
-    let last : first_of (reverse c.args.waiting.now) ≡ Some (seen c.in-Some.last) =
-    sym c.last.ensures.last ∙ ap (option_map seen) c.in-Some.is in
+pub returns-in-Some-Some-clause-order : goal.returns-in-Some-Some-clause-order
+returns-in-Some-Some-clause-order c =
+    let first : first_of c.args.left.now ≡ Some (seen c.in-Some-Some.first) =
+    sym c.first.ensures ∙ ap (option_map seen) c.in-Some-Some.is-0 in
+    let last : first_of (reverse c.args.waiting.now) ≡ Some (seen c.in-Some-Some.last) =
+    sym c.last.ensures.last ∙ ap (option_map seen) c.in-Some-Some.is-1 in
     c.slot_cmp.ensures
     ∙ sym (heads-are c.args.left.now (reverse c.args.waiting.now)
-    (seen c.in-Some-first.first) (seen c.in-Some.last) first last)
+    (seen c.in-Some-Some.first) (seen c.in-Some-Some.last) first last)

@@ -1,19 +1,23 @@
 -- For `read_last`: the octets that were read are those of the last entries.
-use Rattle.std.proofs.Common.{◌∙◌, ◌++◌, ◌-◌, ap, length}
+use Rattle.std.proofs.Common.{◌≤◌, ◌∙◌, ◌-◌, ap, length, rules}
+use Rattle.std.proofs.lemmas.List.{take_all}
 use Rattle.bufr_shelves.specs.Pages.{octets_waiting}
 use Rattle.bufr_shelves.proofs.AheadLemmas.{none-last, part-last}
 use Rattle.bufr_shelves.proofs.sorted_shelf.waiting.read_last.Goals as goal
 
 -- all were read,
-pub returns-in-Ok : goal.returns-in-Ok
-returns-in-Ok c =
+pub returns : goal.returns
+returns c =
     let os = c.args.octets.now in let es = c.args.entries.now in
-    part-last os es (length es - c.at_once.result) c.push_octets.new.ahead.items
-    (c.in-Ok.ensures ∙ ap (λ xs. xs ++ octets_waiting os c.split_at.result.1.now) c.clear.ensures.items
+    let last = c.split_at.result.1.now in
+    let end : length last ≤ c.loop-entry.entry-index = search rules in
+    part-last os es (length es - c.at_once.result) c.loop-entry.ahead.items
+    (c.loop-entry.invariant
+    ∙ ap (octets_waiting os) (take_all c.loop-entry.entry-index last end)
     ∙ ap (octets_waiting os) c.split_at.ensures.back)
 
 -- or none
-pub returns-in-Err : goal.returns-in-Err
-returns-in-Err c =
-    none-last c.args.octets.now c.args.entries.now c.clear-in-Err.new.self.items
-    c.clear-in-Err.ensures.items
+pub returns-then-is_err : goal.returns-then-is_err
+returns-then-is_err c =
+    none-last c.args.octets.now c.args.entries.now c.clear-then-is_err.new.self.items
+    c.clear-then-is_err.ensures.items

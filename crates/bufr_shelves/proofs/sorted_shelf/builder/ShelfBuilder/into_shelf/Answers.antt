@@ -6,18 +6,22 @@ use Rattle.bufr_shelves.specs.Entries.{kept}
 use Rattle.bufr_shelves.specs.Orders.{kept-kept}
 use Rattle.bufr_shelves.specs.Keeping.{first_of}
 use Rattle.bufr_shelves.specs.Pages.{flat, seen}
-use Rattle.bufr_shelves.proofs.PageLemmas.{shelf-more, shelf-done}
+use Rattle.bufr_shelves.proofs.PageLemmas.{settled-kept, shelf-more, shelf-done}
 use Rattle.bufr_shelves.proofs.sorted_shelf.builder.ShelfBuilder.into_shelf.Goals as goal
 
 -- at first all entries are left
 pub loop-first-init : goal.loop-first-init
 loop-first-init c =
     let left = c.take_back.new.self in
-    let pages = c.in_ok-pages.pages.items in
+    let pages = flat c.settle.new.settled.items in
+    let inside = c.self.inside in
+    let done = c.in_ok-settle.ensures.done in
     let all : left ≡ kept c.args.self =
     sym (ap (λ ps. flat ps ++ left) c.in_ok-take_back.ensures.done)
-    ∙ c.take_back.ensures.all ∙ ap (λ es. flat pages ++ es) c.new-left.ensures
-    ∙ append-nil (flat pages) ∙ c.in_ok-pages.ensures in
+    ∙ c.take_back.ensures.all ∙ ap (λ es. pages ++ es) done.0 ∙ append-nil pages
+    ∙ settled-kept pages c.settle.new.left c.settle.new.waiting (flat inside.settled.items)
+    inside.left inside.waiting _ c.settle.ensures.sorted done.0 done.1 c.settle.ensures.all
+    c.self.view_is in
     ap (λ es. kept (es ++ left)) c.new-shelf.ensures ∙ ap kept all ∙ kept-kept c.args.self
 
 -- each is put on the shelf

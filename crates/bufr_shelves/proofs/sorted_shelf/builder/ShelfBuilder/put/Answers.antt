@@ -19,7 +19,7 @@ ready c = elim c.if-are_many.branch [
   | else-are_many w ↦ rw w.self-inside-is
       (record {
         sorted = c.self.invariant.0;
-        few = omega (arith, c.are_many.ensures w.if-are_many.false, c.len.ensures);
+        few = omega (arith, c.are_many.ensures w.if-are_many.false);
         counted = c.self.invariant.2;
         same = c.self.view_is;
       })
@@ -46,10 +46,10 @@ invariant_of-self-2 c =
         arith,
         r.few,
         ap length c.in_ok-push.ensures.ok,
-        length-append inside.waiting (marked c.in_ok-mark.mark c.as_slice-2.result.now ∷ []),
+        length-append inside.waiting (marked c.in_ok-mark.mark c.as_slice.result.now ∷ []),
       ),
       more-push (flat inside.settled.items) inside.left inside.waiting c.push.new.self
-          (marked c.in_ok-mark.mark c.as_slice-2.result.now) inside.count
+          (marked c.in_ok-mark.mark c.as_slice.result.now) inside.count
           c.in_ok-push.ensures.ok r.counted,
     )
 
@@ -59,8 +59,8 @@ returns-clause-ok c =
     let inside = c.if-are_many.self-inside in
     let r = ready ((goal.at.returns-clause-ok c).After-push) in
     kept-put (flat inside.settled.items) inside.left inside.waiting c.push.new.self
-    (marked c.in_ok-mark.mark c.as_slice-2.result.now) c.args.self.now
+    (marked c.in_ok-mark.mark c.as_slice.result.now) c.args.self.now
     c.in_ok-push.ensures.ok r.same
     ∙ ap (λ b. kept (kept c.args.self.now ++ marked c.in_ok-mark.mark b ∷ []))
-    c.as_slice-2.ensures
+    c.as_slice.ensures
     ∙ ap (λ m. kept (kept c.args.self.now ++ marked m c.args.bytes ∷ [])) c.in_ok-mark.ensures

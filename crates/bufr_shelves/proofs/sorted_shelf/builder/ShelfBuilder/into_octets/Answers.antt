@@ -1,0 +1,14 @@
+-- For `ShelfBuilder::into_octets`: what is in order alone is all there is.
+use Rattle.std.proofs.Common.{map, ap}
+use Rattle.bufr_shelves.specs.Pages.{flat}
+use Rattle.bufr_shelves.proofs.PageLemmas.{settled-kept}
+use Rattle.bufr_shelves.proofs.sorted_shelf.builder.ShelfBuilder.into_octets.Goals as goal
+
+-- nothing waits any more
+pub returns : goal.returns
+returns c =
+    let inside = c.self.inside in
+    let done = c.in_ok-settle.ensures.done in
+    ap (map (λ e. e.bytes)) (settled-kept (flat c.settle.new.settled.items) c.settle.new.left
+    c.settle.new.waiting (flat inside.settled.items) inside.left inside.waiting _
+    c.settle.ensures.sorted done.0 done.1 c.settle.ensures.all c.self.view_is)
