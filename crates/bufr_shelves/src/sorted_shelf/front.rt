@@ -1,7 +1,7 @@
 //! What of the key of a mark is compared first.
 ghost use Rattle.std.specs.Prelude.{◌≡◌, get_or};
 ghost use Rattle.bufr_shelves.specs.declared.sorted_shelf.front.FrontPlace.TheVariants.{Wmo};
-ghost use Rattle.bufr_shelves.specs.Fronts.{front_cmp, place_cmp, front_of_key, first_octets, in_two_octets};
+ghost use Rattle.bufr_shelves.specs.Fronts.{front_cmp, place_cmp, front_of_key, first_octets};
 
 use bufr_keys::{Key, Moment, Station};
 use std::cmp::Ordering;
@@ -48,8 +48,8 @@ impl Front {
     {
         let place = match &key.station {
             Station::Wmo { block, number } => {
-                match (in_two_octets(*block), in_two_octets(*number)) {
-                    (Some(block), Some(number)) => FrontPlace::Wmo(WmoPlace {
+                match (u16::try_from(*block), u16::try_from(*number)) {
+                    (Ok(block), Ok(number)) => FrontPlace::Wmo(WmoPlace {
                         block,
                         number,
                         moment: key.moment,
@@ -104,17 +104,6 @@ impl FrontPlace {
             }
             _ => Ordering::Equal,
         }
-    }
-}
-
-/// A number that has room in two octets.
-fn in_two_octets(number: i128) -> Option<u16>
-    ensures { result ≡ in_two_octets number }
-{
-    if 0 <= number && number <= 65_535 {
-        Some(number as u16)
-    } else {
-        None
     }
 }
 

@@ -13,7 +13,7 @@ pub(crate) fn count_of(pages: &Vec<Page>) -> Result<usize, OutOfMemory>
 {
     let mut count: usize = 0;
     for page in pages {
-        let Some(more) = count.checked_add(page.len()) else {
+        let Some(more) = count.checked_add(page.entries.len()) else {
             return Err(OutOfMemory);
         };
         count = more;

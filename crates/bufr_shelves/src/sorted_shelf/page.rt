@@ -53,13 +53,6 @@ impl Model for Page {
 }
 
 impl Page {
-    /// How many entries there are.
-    pub(crate) fn len(&self) -> usize
-        ensures { result ≡ length self.now }
-    {
-        self.entries.len()
-    }
-
     /// The first entry.
     pub(crate) fn first(&self) -> Option<Look>
         ensures { option_map seen result ≡ first_of self.now }

@@ -38,7 +38,7 @@ fn turn(page: &mut Page, pages: &mut Vec<Page>)
         ≡ page.old ++ flat (reverse pages.old.items) }
     ensures turned { (page.new ≡ []) → (pages.new.items ≡ []) }
 {
-    while page.len() == 0 {
+    while page.first().is_none() {
         let Some(next) = pages.pop() else {
             return;
         };
@@ -95,7 +95,7 @@ impl PagesLeft {
             let Some(page) = settled.pop() else {
                 return Ok(());
             };
-            if page.len() > 0 {
+            if page.first().is_some() {
                 self.pages.push_reserved(mem::replace(&mut self.page, page));
             }
         }
