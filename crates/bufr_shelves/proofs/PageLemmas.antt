@@ -22,7 +22,7 @@ use Rattle.bufr_shelves.specs.KeepingLaws.{Covers, Keeps, Has-left, Has-right, H
 use Rattle.bufr_shelves.specs.KeepingLaws as laws
 use Rattle.bufr_shelves.specs.Merging.{heads_order}
 use Rattle.bufr_shelves.specs.Orders.{slots_total, ranks_total, exact_entries, kept-swap, kept-same}
-use Rattle.bufr_shelves.specs.Orders.{kept-late, kept-kept, kept-early, kept-sorted}
+use Rattle.bufr_shelves.specs.Orders.{kept-are, kept-late, kept-kept, kept-early, kept-sorted}
 use Rattle.bufr_shelves.specs.Marks.{MarkView}
 use Rattle.bufr_shelves.specs.Pages.{paged, octets_of, marked, mark_of, flat, AreRising, LeadsAlone, waits_in, HaveParts}
 use Rattle.bufr_shelves.specs.declared.entry.Entry.{Entry}
@@ -521,6 +521,16 @@ pub kept-turned : (ds ls ws : List Entry)
     → kept (ds ++ (ls ++ ws)) ≡ kept (ds ++ kept (ls ++ reverse ws))
 kept-turned ds ls ws =
     kept-anyhow ds ls ws (reverse ws) (same-reverse ws) ∙ sym (kept-late ds (ls ++ reverse ws))
+
+-- so pages, and what is kept of the others in order behind them, are what is kept of all
+pub settled-so : (ss ls ws s : List Entry) → IsStrictlySortedBy slot_cmp ls
+    → ss ++ kept (ls ++ reverse ws) ≡ kept s
+    → IsStrictlySortedBy slot_cmp (ss ++ ls) × (kept (ss ++ (ls ++ ws)) ≡ kept s)
+settled-so ss ls ws s sorted all = (
+  sorted-back ss ls (reverse ws) sorted
+      (subst (IsStrictlySortedBy slot_cmp) (sym all) (kept-are s).ordered),
+  kept-turned ss ls ws ∙ ap kept all ∙ kept-kept s,
+)
 
 -- other entries that wait, of which the same are kept
 pub kept-beside : (ls vs ws : List Entry) → kept vs ≡ kept ws → kept (ls ++ vs) ≡ kept (ls ++ ws)

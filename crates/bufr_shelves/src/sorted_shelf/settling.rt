@@ -16,7 +16,8 @@ use std::alloc::Global;
 use std::cmp::Ordering;
 
 /// Puts all entries that wait among the settled ones, of each slot the one of greatest rank. Where
-/// memory was refused some may stand elsewhere, and together they are as they were.
+/// memory was refused some may stand elsewhere, and together they are as they were. All are moved
+/// into new pages, each of which is made before what was in its place is gone.
 pub(crate) fn settle(
     alloc: Global,
     settled: &mut Vec<Page>,
@@ -32,24 +33,6 @@ pub(crate) fn settle(
 {
     left.take_back(settled)?;
     waiting.sort();
-    fill_pages(alloc, settled, left, waiting)
-}
-
-/// Moves all entries into new pages, each of which is made before what was in its place is gone.
-fn fill_pages(
-    alloc: Global,
-    settled: &mut Vec<Page>,
-    left: &mut PagesLeft,
-    waiting: &mut Waiting,
-) -> Result<(), OutOfMemory>
-    requires sorted { IsStrictlySortedBy slot_cmp left.old }
-    requires rising { AreRising (reverse waiting.old) }
-    ensures sorted { IsStrictlySortedBy slot_cmp left.new }
-    ensures all { flat settled.new.items ++ kept (left.new ++ reverse waiting.new)
-        ≡ flat settled.old.items ++ kept (left.old ++ reverse waiting.old) }
-    ensures fewer { length waiting.new ≤ length waiting.old }
-    ensures done { OnOk result ((left.new ≡ []) × (waiting.new ≡ [])) }
-{
     while order_of_heads(left, waiting).is_some() {
         settled.reserve(1)?;
         let mut room = PageRoom::new(alloc)?;

@@ -1,18 +1,18 @@
--- For `fill_pages`: what its loop keeps, and why it ends.
+-- For `settle`: what its loop keeps, and why it ends.
 use Rattle.std.proofs.Common.{◌≡◌, ◌+◌, ◌≤◌, ◌++◌, length, reverse}
 use Rattle.std.specs.List.Sorted.{IsStrictlySortedBy}
 use Rattle.bufr_shelves.specs.Entries.{slot_cmp, kept}
 use Rattle.bufr_shelves.specs.Pages.{flat, AreRising}
-use Rattle.bufr_shelves.proofs.sorted_shelf.settling.fill_pages.Given as goal
+use Rattle.bufr_shelves.proofs.sorted_shelf.settling.settle.Given as goal
 
--- what is left is in order, what the pages have and what is kept of the rest are the same, and no
+-- what is left is in order, the pages and what is kept of the rest are what is kept of all, and no
 -- more wait
 abbrev pub invariant-loop-alloc : goal.invariant-loop-alloc
 invariant-loop-alloc l = record {
   sorted : IsStrictlySortedBy slot_cmp l.left;
   rising : AreRising (reverse l.waiting);
   all : flat l.settled.items ++ kept (l.left ++ reverse l.waiting)
-      ≡ flat l.fn.settled.items ++ kept (l.fn.left ++ reverse l.fn.waiting);
+      ≡ kept (flat l.fn.settled.items ++ (l.fn.left ++ l.fn.waiting));
   fewer : length l.waiting ≤ length l.fn.waiting;
 }
 
