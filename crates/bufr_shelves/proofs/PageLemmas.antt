@@ -1,7 +1,7 @@
 -- Entries in pages, and those that wait beside them: what is kept of both, step by step. For
 -- `ShelfBuilder` and what it stands on.
 use Rattle.std.proofs.Common.{◌≡◌, ℕ, zero, suc, ◌+◌, ◌*◌, ◌<◌, ◌≤◌, inl, inr, Bool, true, false, cond, Option, Some}
-use Rattle.std.proofs.Common.{None, Result, Ok, Err, OnOk, List, [], ◌∷◌, ◌++◌, length, take, drop}
+use Rattle.std.proofs.Common.{None, List, [], ◌∷◌, ◌++◌, length, take, drop}
 use Rattle.std.proofs.Common.{map, reverse, get_or, slice_index_or, refl, sym}
 use Rattle.std.proofs.Common.{ap, ◌∙◌, subst, arith, append_assoc, length-append, length-drop}
 use Rattle.std.proofs.lemmas.List.{append-nil, map-append, reverse-append, take-append-le, drop-append-le}
@@ -148,12 +148,6 @@ heads-are (k ∷ ls) (f ∷ rs) l e a b =
     let is_l : k ≡ l = cc in let is_e : f ≡ e = cc in
     ap (λ z. slot_cmp z f) is_l ∙ ap (slot_cmp l) is_e
 
--- what is ensured of an answer in two clauses
-pub on_both : {A E : Type 0} (r : Result A E) (P Q : Type 0) → OnOk r P → OnOk r Q
-    → OnOk r (P × Q)
-on_both (Ok a) P Q p q = (p, q)
-on_both (Err e) P Q p q = tt
-
 -- ---- members
 
 -- what holds of two lists holds of both joined
@@ -276,7 +270,7 @@ not_both a b h =
     (elim (rank_cmp a b) as (λ o. is_gt o ≡ true → is_gt (ordering_reverse o) ≡ false)
     [ Less ↦ λ z. cc | Equal ↦ λ z. cc | Greater ↦ λ _. refl ] h)
 
--- ---- the steps of `step`
+-- ---- the steps of `fill`
 
 -- the first entry of the pages comes before all others
 pub step-left : (ds ls rs : List Entry) → IsStrictlySortedBy slot_cmp ls → AreRising rs
@@ -344,13 +338,6 @@ sorted-rest [] s = s
 sorted-rest (l ∷ ls) s = sorted_tail slot_cmp l ls s
 
 -- ---- of two entries of one slot
-
--- they stay in order without the lesser
-pub tied-rising : (e f : Entry) (rs : List Entry) → AreRising (e ∷ f ∷ rs)
-    → AreRising (cond (is_gt (rank_cmp e f)) e f ∷ rs)
-tied-rising e f rs r =
-    elim (is_gt (rank_cmp e f)) as (λ b. AreRising (cond b e f ∷ rs))
-    [ true ↦ (r.0.1, r.1.1) | false ↦ r.1 ]
 
 -- what is kept stays
 pub tied-kept : (e f : Entry) (rs : List Entry) → is_eq (slot_cmp e f) ≡ true

@@ -1,5 +1,5 @@
 -- For `settle`: whatever was done so far, all entries together are as they were.
-use Rattle.std.proofs.Common.{◌≡◌, ◌∙◌, ◌++◌, length, reverse, sym, ap, append_assoc, rules}
+use Rattle.std.proofs.Common.{◌≡◌, ◌∙◌, ◌++◌, reverse, sym, ap, append_assoc, rules}
 use Rattle.std.proofs.lemmas.List.Sorted.{IsPermutation-sym}
 use Rattle.std.specs.List.Sorted.{IsStrictlySortedBy}
 use Rattle.bufr_shelves.specs.Entries.{slot_cmp, kept}
