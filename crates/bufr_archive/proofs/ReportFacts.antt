@@ -1,9 +1,10 @@
 -- The entries of reports: for `laws::reports_are_entries`.
-use Rattle.std.proofs.Common.{◌≡◌, ℕ, ◌+◌, ◌-◌, ◌*◌, ◌/◌, ◌%◌, ◌^◌, ◌<◌, true, cond, List, [], ◌∷◌}
-use Rattle.std.proofs.Common.{◌++◌, length, take, drop, Option, Some, None, Result, Ok, Err, refl}
+use Rattle.std.proofs.Common.{◌≡◌, ℕ, ◌+◌, ◌-◌, ◌*◌, ◌/◌, ◌%◌, ◌^◌, ◌<◌, Bool, true, false, cond, not}
+use Rattle.std.proofs.Common.{List, [], ◌∷◌, ◌++◌, length, take, drop, Option, Some, None, Result, Ok, Err, refl}
 use Rattle.std.proofs.Common.{sym, ap, subst, ◌∙◌, arith, length-append, get_or}
-use Rattle.std.specs.Prelude.{IfOk, codes, option_map, slice_get}
+use Rattle.std.specs.Prelude.{bytes_eq, codes, option_map, slice_get}
 use Rattle.std.proofs.lemmas.Option.{cond_some, same_Some, slice_get-map, get_or_from_slice_get}
+use Rattle.std.proofs.lemmas.Bool.{not-true, not-false}
 use Rattle.std.specs.Int.{bytes_high_first}
 use Rattle.std.specs.List.{AllByRecursion}
 use Rattle.std.proofs.lemmas.List.{drop_at, length-map}
@@ -12,26 +13,31 @@ use Rattle.bufr_tables.specs.Entries.{Entries}
 use Rattle.bufr_frame.specs.Starts.{sevens}
 use Rattle.bufr_frame.specs.Cuts.{IsOneFrame}
 use Rattle.bufr_sections.specs.declared.layout.Layout.{Layout}
+use Rattle.bufr_data.specs.declared.field.Subset.{Subset}
 use Rattle.bufr_sections.specs.declared.message.Decoded.{Decoded}
+use Rattle.bufr_sections.specs.declared.message.Message.{Message}
 use Rattle.bufr_sections.specs.declared.fault.Refused.{Refused}
 use Rattle.bufr_sections.specs.Sections.{Envelope, Ignored, EnvelopeFits, sections, enclosed}
 use Rattle.bufr_sections.specs.Sections.{spelling, edition_number}
 use Rattle.bufr_message.specs.declared.report.Report.{Report}
+use Rattle.bufr_message.specs.declared.report.ReportHead.{ReportHead}
+use Rattle.bufr_sections.specs.declared.message.Head.{Head}
+use Rattle.bufr_keys.specs.declared.key.Key.{Key}
+use Rattle.bufr_report_keys.specs.Keys.{key}
 use Rattle.bufr_message.specs.Messages.{message_of, Spells}
-use Rattle.bufr_message.specs.OwnBits.{CanonicalIsOwn}
+use Rattle.bufr_message.specs.OwnBits.{CanonicalIsOwn, spelt_alone}
 use Rattle.bufr_message.specs.Laws.{MessagesReadAreSpelt, BareAreWritten}
-use Rattle.bufr_message.specs.Reports.{report_of, reports_of, reports_read, reports_in, alone, canonical}
+use Rattle.bufr_message.specs.Reports.{without_local, report_of, reports_of, reports_read, reports_in, alone, canonical}
 use Rattle.bufr_message.specs.Reports.{if_written, IsCanonical, IsUnder, CanonicalIsRead}
 use Rattle.bufr_message.specs.Reports.{ReportsSpeltAreUnder}
 use Rattle.bufr_report_keys.specs.Usable.{◌>>=◌}
 use Rattle.bufr_shelves.specs.declared.entry.Entry.{Entry}
+use Rattle.bufr_shelves.specs.Marks.{MarkView}
 use Rattle.bufr_sections.specs.Sections.{AreOctets}
 use Rattle.bufr_archive.specs.ReportEntries.{AreUnder, entry_of, entry_with, IsReportEntry}
 use Rattle.bufr_archive.specs.ReportEntries.{is_canonical, only_one, own_entry, entry_in}
 use Rattle.bufr_archive.specs.ReportEntries.{report_entries, spelt_entry, spelt_entries}
 use Rattle.bufr_archive.specs.ReportEntries.{entry_spelt}
-use Rattle.bufr_archive.specs.declared.reading.ReadEntry.{ReadEntry}
-use Rattle.bufr_archive.specs.Reading.{read}
 use Rattle.bufr_archive.specs.ReportLaws.{ReportsAreEntries}
 use Rattle.bufr_archive.proofs.EntryFacts.{bind_some}
 
@@ -209,34 +215,140 @@ own_is_spelt written own tables octets r u =
     ap (λ (x : Option (List ℕ)). cond (is_canonical x octets) (Some (entry_with r octets)) None)
     (canonical_is written tables r u.0 u.1 ∙ sym (own tables r u.0 u.1))
 
--- that of the one report of octets
-pub entry_of_one : BareAreWritten → CanonicalIsOwn → ReportsSpeltAreUnder → (tables : Entries)
-    (octets : List ℕ) (d : Decoded) → {E : Type 0} → (answer : Result (Option ReadEntry) E)
-    → message_of tables octets ≡ Ok d → Spells tables d.message octets d.slack_octets
-    → length d.message.subsets ≡ 1
-    → IfOk answer (λ found. option_map (entry_spelt octets) (slice_get (reports_of d.message) 0)
-    ≡ Some (option_map read found))
-    → IfOk answer (λ found. option_map read found ≡ entry_in tables octets)
-entry_of_one written own under tables octets d (Err e) is spells one told = tt
-entry_of_one written own under tables octets d (Ok found) is spells one told =
+-- the report of a subset
+report_at : (m : Message) (k : ℕ) (s : Subset) → slice_get m.subsets k ≡ Some s
+    → slice_get (reports_of m) k ≡ Some (report_of m s)
+report_at m k s is =
+    slice_get-map (report_of m) m.subsets k ∙ ap (option_map (report_of m)) is
+
+-- octets that are compared with others
+pub differ : (own lent octets : List ℕ) → lent ≡ own → not (bytes_eq lent octets) ≡ true
+    → bytes_eq own octets ≡ false
+differ own lent octets is other =
+    ap (λ (o : List ℕ). bytes_eq o octets) (sym is) ∙ not-true (bytes_eq lent octets) other
+
+-- and are the same
+pub agree : (own lent octets : List ℕ) → lent ≡ own → not (bytes_eq lent octets) ≡ false
+    → bytes_eq own octets ≡ true
+agree own lent octets is same =
+    ap (λ (o : List ℕ). bytes_eq o octets) (sym is) ∙ not-false (bytes_eq lent octets) same
+
+-- an entry of these parts
+abbrev of_parts : Option Key → ℕ → List ℕ → Entry
+of_parts key update octets = record { key = key; update = update; bytes = octets }
+
+-- the entry of the report of a subset, by what is read of the message's head
+pub entry_made : (m : Message) (s : Subset) (head : Head) (h : ReportHead) (found : Option Key)
+    (octets own : List ℕ) → head ≡ m.head → h ≡ without_local head → found ≡ key h s.fields
+    → own ≡ octets → of_parts found h.update own ≡ entry_with (report_of m s) octets
+entry_made m s head h found octets own head_is h_is key_is own_is =
+    ap (λ (k : Option Key). of_parts k h.update own) key_is
+    ∙ ap (λ (o : List ℕ). of_parts (key h s.fields) h.update o) own_is
+    ∙ ap (λ (x : ReportHead). of_parts (key x s.fields) x.update octets)
+    (h_is ∙ ap without_local head_is)
+
+-- so it is where its mark is held
+pub entry_marked : (m : Message) (s : Subset) (head : Head) (h : ReportHead) (found : Option Key)
+    (octets : List ℕ) (mark : MarkView) → head ≡ m.head → h ≡ without_local head
+    → found ≡ key h s.fields → mark ≡ record { key = found; update = h.update }
+    → of_parts mark.key mark.update octets ≡ entry_with (report_of m s) octets
+entry_marked m s head h found octets mark head_is h_is key_is mark_is =
+    ap (λ (k : MarkView). of_parts k.key k.update octets) mark_is
+    ∙ entry_made m s head h found octets octets head_is h_is key_is refl
+
+-- the one report of octets, and the entry that they are by what its own fields spell
+one_spelt : BareAreWritten → CanonicalIsOwn → ReportsSpeltAreUnder → (tables : Entries)
+    (octets : List ℕ) (d : Decoded) → message_of tables octets ≡ Ok d
+    → Spells tables d.message octets d.slack_octets → length d.message.subsets ≡ 1
+    → (r : Report) × (slice_get (reports_of d.message) 0 ≡ Some r)
+    × (entry_in tables octets ≡ entry_spelt octets r)
+one_spelt written own under tables octets d is spells one =
     let t =
     one_there (reports_of d.message)
     (length-map d.message.subsets (report_of d.message) ∙ one) in
     let each =
     subst (AllByRecursion (IsUnder tables)) t.1
-    (under tables d.message octets d.slack_octets spells) in
-    let here : entry_spelt octets t.0 ≡ option_map read found = same_Some _ _ (rw t.1 at told) in
-    sym (ap (λ x. only_one (reports_read x) >>= own_entry tables octets) is
-    ∙ ap (λ (rs : List Report). only_one rs >>= own_entry tables octets) t.1
-    ∙ own_is_spelt written own tables octets t.0 each.0 ∙ here)
+    (under tables d.message octets d.slack_octets spells) in (
+      t.0,
+      ap (λ (rs : List Report). slice_get rs 0) t.1,
+      ap (λ x. only_one (reports_read x) >>= own_entry tables octets) is
+          ∙ ap (λ (rs : List Report). only_one rs >>= own_entry tables octets) t.1
+          ∙ own_is_spelt written own tables octets t.0 each.0,
+    )
 
--- the entry at an index is that of the report viewed there, which is counted from 1
-pub viewed_at : {E : Type 0} (rs : List Report) (i : ℕ) (answer : Result (Option Entry) E)
-    → IfOk answer (λ found. option_map spelt_entry (slice_get rs (i + 1 - 1)) ≡ Some found)
-    → IfOk answer (λ found. found ≡ get_or (spelt_entries rs) i None)
-viewed_at rs i (Err e) told = tt
-viewed_at rs i (Ok found) told =
+-- none where its own fields spell no octets or others
+pub none_of_other : BareAreWritten → CanonicalIsOwn → ReportsSpeltAreUnder → (tables : Entries)
+    (octets : List ℕ) (d : Decoded) (canon : Option (List ℕ)) → message_of tables octets ≡ Ok d
+    → Spells tables d.message octets d.slack_octets → length d.message.subsets ≡ 1
+    → option_map spelt_alone (slice_get (reports_of d.message) 0) ≡ Some canon
+    → is_canonical canon octets ≡ false → None ≡ entry_in tables octets
+none_of_other written own under tables octets d canon is spells one told other =
+    let t = one_spelt written own under tables octets d is spells one in
+    let spelt : spelt_alone t.0 ≡ canon =
+    same_Some _ _ (sym (ap (option_map spelt_alone) t.1) ∙ told) in
+    sym (t.2
+    ∙ ap (λ (x : Option (List ℕ)).
+    cond (is_canonical x octets) (Some (entry_with t.0 octets)) None) spelt
+    ∙ ap (λ b. cond b (Some (entry_with t.0 octets)) None) other)
+
+-- that of the report where they spell these
+pub entry_of_own : BareAreWritten → CanonicalIsOwn → ReportsSpeltAreUnder → (tables : Entries)
+    (octets : List ℕ) (d : Decoded) (canon : Option (List ℕ)) (s : Subset) (e : Entry)
+    → message_of tables octets ≡ Ok d → Spells tables d.message octets d.slack_octets
+    → length d.message.subsets ≡ 1
+    → option_map spelt_alone (slice_get (reports_of d.message) 0) ≡ Some canon
+    → is_canonical canon octets ≡ true → slice_get d.message.subsets 0 ≡ Some s
+    → e ≡ entry_with (report_of d.message s) octets → Some e ≡ entry_in tables octets
+entry_of_own written own under tables octets d canon s e is spells one told canonical at entry =
+    let t = one_spelt written own under tables octets d is spells one in
+    let spelt : spelt_alone t.0 ≡ canon =
+    same_Some _ _ (sym (ap (option_map spelt_alone) t.1) ∙ told) in
+    let report : report_of d.message s ≡ t.0 =
+    same_Some _ _ (sym (report_at d.message 0 s at) ∙ t.1) in
+    ap Some (entry ∙ ap (λ (r : Report). entry_with r octets) report)
+    ∙ sym (t.2
+    ∙ ap (λ (x : Option (List ℕ)).
+    cond (is_canonical x octets) (Some (entry_with t.0 octets)) None) spelt
+    ∙ ap (λ b. cond b (Some (entry_with t.0 octets)) None) canonical)
+
+-- ---- entries of a view: for `entry` of `MessageReports`
+
+-- the entry at an index is that of the report there, which is counted from 1
+viewed_at : (rs : List Report) (i : ℕ) (found : Option Entry)
+    → option_map spelt_entry (slice_get rs (i + 1 - 1)) ≡ Some found
+    → found ≡ get_or (spelt_entries rs) i None
+viewed_at rs i found told =
     let same : i + 1 - 1 ≡ i = omega arith in
     let there = subst (λ k. option_map spelt_entry (slice_get rs k) ≡ Some found) same told in
     sym (get_or_from_slice_get (spelt_entries rs) i found None
     (slice_get-map spelt_entry rs i ∙ there))
+
+-- what is made of the octets that its own fields spell, if they do
+spelt_of : (x : Option Report) (canon : Option (List ℕ)) → option_map spelt_alone x ≡ Some canon
+    → (r : Report) × (x ≡ Some r) × (spelt_entry r ≡ option_map (entry_with r) canon)
+spelt_of None canon told = absurd cc
+spelt_of (Some r) canon told =
+    (r, refl, ap (option_map (entry_with r)) (same_Some (spelt_alone r) canon told))
+
+-- none where they spell no octets
+pub viewed_none : (rs : List Report) (i : ℕ) (canon : Option (List ℕ))
+    → option_map spelt_alone (slice_get rs (i + 1 - 1)) ≡ Some canon → canon ≡ None
+    → None ≡ get_or (spelt_entries rs) i None
+viewed_none rs i canon told none =
+    let r = spelt_of (slice_get rs (i + 1 - 1)) canon told in
+    viewed_at rs i None (ap (option_map spelt_entry) r.1
+    ∙ ap Some (r.2 ∙ ap (option_map (entry_with r.0)) none))
+
+-- that with the key of the subset's fields where they spell some
+pub viewed_some : (m : Message) (i : ℕ) (canon : Option (List ℕ)) (octets : List ℕ) (s : Subset)
+    (e : Entry) → option_map spelt_alone (slice_get (reports_of m) (i + 1 - 1)) ≡ Some canon
+    → canon ≡ Some octets → slice_get m.subsets (i + 1 - 1) ≡ Some s
+    → e ≡ entry_with (report_of m s) octets
+    → Some e ≡ get_or (spelt_entries (reports_of m)) i None
+viewed_some m i canon octets s e told some at entry =
+    let r = spelt_of (slice_get (reports_of m) (i + 1 - 1)) canon told in
+    let report : r.0 ≡ report_of m s =
+    same_Some _ _ (sym r.1 ∙ report_at m (i + 1 - 1) s at) in
+    viewed_at (reports_of m) i (Some e) (ap (option_map spelt_entry) r.1
+    ∙ ap Some (r.2 ∙ ap (option_map (entry_with r.0)) some
+    ∙ ap (λ (r : Report). Some (entry_with r octets)) report ∙ sym (ap Some entry)))

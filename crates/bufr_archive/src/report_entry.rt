@@ -59,71 +59,8 @@ pub fn entry_of(
     Ok(Some(entry_with(alloc, report, octets)?))
 }
 
-/// The entry of the report of this number, from 1, of a view, as its own fields spell it: no tables
-/// are asked, and no subset is built. It can only run out of memory.
-fn viewed_entry(alloc: Global, view: &View<'_>, number: usize) -> Result<Option<Entry>, OutOfMemory>
-    requires first { 1 ≤ number }
-    requires last { number ≤ length view.now.message.subsets }
-    ensures { IfOk result (λ found.
-        option_map spelt_entry (slice_get (reports_of view.now.message) (number - 1))
-        ≡ Some found) }
-{
-    let Some(octets) = view.canonical(alloc, number)? else {
-        return Ok(None);
-    };
-    let head = ReportHead::of_head(view.head());
-    let fields = view.fields(alloc, number)?;
-    Ok(Some(Entry {
-        key: key_of_fields(alloc, &head, fields)?,
-        update: head.update,
-        bytes: Items::from_vec(octets),
-    }))
-}
-
-/// The entry of the one report of a view with these octets: no subset is built. It can only run out
-/// of memory.
-fn read_entry<'a>(
-    alloc: Global,
-    view: &View<'_>,
-    octets: &'a [u8],
-) -> Result<ReadEntry<'a>, OutOfMemory>
-    requires { length view.now.message.subsets ≡ 1 }
-    ensures { IfOk result (λ entry.
-        option_map (λ r. entry_with r octets.now) (slice_get (reports_of view.now.message) 0)
-        ≡ Some (read entry)) }
-{
-    let head = ReportHead::of_head(view.head());
-    let fields = view.fields(alloc, 1)?;
-    let key = key_of_fields(alloc, &head, fields)?;
-    Ok(ReadEntry {
-        mark: Mark::new(alloc, key, head.update)?,
-        bytes: octets,
-    })
-}
-
-/// The entry of the one report of a view, where the octets are what its own fields spell. It can
-/// only run out of memory.
-fn own_entry<'a>(
-    alloc: Global,
-    view: &View<'_>,
-    octets: &'a [u8],
-) -> Result<Option<ReadEntry<'a>>, OutOfMemory>
-    requires { length view.now.message.subsets ≡ 1 }
-    ensures { IfOk result (λ found.
-        option_map (entry_spelt octets.now) (slice_get (reports_of view.now.message) 0)
-        ≡ Some (option_map read found)) }
-{
-    let Some(bytes) = view.canonical(alloc, 1)? else {
-        return Ok(None);
-    };
-    if bytes.as_slice() != octets {
-        return Ok(None);
-    }
-    Ok(Some(read_entry(alloc, view, octets)?))
-}
-
-/// The entry that octets are: they spell a message of one subset whose canonical message they are.
-/// It can only run out of memory.
+/// The entry that octets are: they spell a message of one subset whose canonical message they are,
+/// as its own fields spell it. No subset is built. It can only run out of memory.
 pub(crate) fn entry_in<'a>(
     alloc: Global,
     templates: &mut Templates<'_>,
@@ -144,7 +81,19 @@ pub(crate) fn entry_in<'a>(
     if view.count() != 1 {
         return Ok(None);
     }
-    own_entry(alloc, &view, octets)
+    let Some(own) = view.canonical(alloc, 1)? else {
+        return Ok(None);
+    };
+    if own.as_slice() != octets {
+        return Ok(None);
+    }
+    let head = ReportHead::of_head(view.head());
+    let fields = view.fields(alloc, 1)?;
+    let key = key_of_fields(alloc, &head, fields)?;
+    Ok(Some(ReadEntry {
+        mark: Mark::new(alloc, key, head.update)?,
+        bytes: octets,
+    }))
 }
 
 /// The reports of a message that was read, whose entries are made one at a time.
@@ -174,6 +123,7 @@ impl<'a> MessageReports<'a> {
     }
 }
 
+// The entry of a report is what its own fields spell: no tables are asked, and no subset is built.
 impl ReportList for MessageReports<'_> {
     ghost entries = { λ s. spelt_entries (reports_of s.view.message) };
 
@@ -183,6 +133,16 @@ impl ReportList for MessageReports<'_> {
 
     fn entry(&self, alloc: Global, index: usize) -> Result<Option<Entry>, OutOfMemory> {
         let _count = self.view.count();
-        viewed_entry(alloc, &self.view, index + 1)
+        let number = index + 1;
+        let Some(octets) = self.view.canonical(alloc, number)? else {
+            return Ok(None);
+        };
+        let head = ReportHead::of_head(self.view.head());
+        let fields = self.view.fields(alloc, number)?;
+        Ok(Some(Entry {
+            key: key_of_fields(alloc, &head, fields)?,
+            update: head.update,
+            bytes: Items::from_vec(octets),
+        }))
     }
 }
