@@ -1,16 +1,17 @@
 -- An entry at the front of octets, for the clauses of `Archive::read`.
-use Rattle.std.proofs.Common.{◌≡◌, ℕ, ◌*◌, ◌+◌, ◌^◌, ◌<◌, ◌≤◌, true, List, [], ◌∷◌, ◌++◌, length}
+use Rattle.std.proofs.Common.{◌≡◌, ℕ, ◌*◌, ◌+◌, ◌-◌, ◌^◌, ◌<◌, ◌≤◌, cond, true, List, [], ◌∷◌, ◌++◌, length}
 use Rattle.std.proofs.Common.{take, drop, get_or, Option, Some, None, refl, sym, ap, subst, ◌∙◌}
 use Rattle.std.proofs.Common.{arith, take-append-drop}
 use Rattle.std.specs.Prelude.{option_map}
-use Rattle.std.proofs.lemmas.List.{take_at, take_all}
+use Rattle.std.proofs.lemmas.List.{take_at, take_all, length-drop}
 use Rattle.std.proofs.lemmas.Option.{cond_some}
-use Rattle.std.proofs.lemmas.List.Elements.{All-take}
+use Rattle.std.proofs.lemmas.List.Elements.{All-take, All-from_get_or}
 use Rattle.bufr_frame.specs.Starts.{announced}
 use Rattle.bufr_frame.specs.Cuts.{IsOneFrame}
 use Rattle.bufr_shelves.specs.declared.entry.Entry.{Entry}
 use Rattle.bufr_sections.specs.Sections.{AreOctets}
 use Rattle.bufr_report_keys.specs.Usable.{◌>>=◌}
+use Rattle.bufr_archive.specs.MergedOctets.{octets_or_none, first_octets, behind_first}
 use Rattle.bufr_archive.specs.Texts.{comes_after, front_of, right_entry}
 use Rattle.bufr_archive.specs.EntryLaws.{HasEntryLaws}
 
@@ -34,20 +35,46 @@ front_is octets more f =
     (announced_more octets more (length octets) f.told)
     ∙ ap Some (take_at octets more (length octets) refl)
 
--- where fewer octets are there than announced, all are taken
-pub front_whole : (xs : List ℕ) → 7 ≤ length xs
+-- where no length is announced there are none, and behind them stand all
+pub none_first : (xs : List ℕ) → length xs < 7 → first_octets xs ≡ []
+none_first [] less = refl
+none_first (a ∷ []) less = refl
+none_first (a ∷ b ∷ []) less = refl
+none_first (a ∷ b ∷ c ∷ []) less = refl
+none_first (a ∷ b ∷ c ∷ d ∷ []) less = refl
+none_first (a ∷ b ∷ c ∷ d ∷ x ∷ []) less = refl
+none_first (a ∷ b ∷ c ∷ d ∷ x ∷ y ∷ []) less = refl
+none_first (a ∷ b ∷ c ∷ d ∷ x ∷ y ∷ z ∷ rest) less = absurd (omega arith)
+
+-- where one is, they are so many
+pub some_first : (xs : List ℕ) → 7 ≤ length xs
+    → first_octets xs ≡ take (65536 * get_or xs 4 0 + 256 * get_or xs 5 0 + get_or xs 6 0) xs
+some_first [] long = absurd (omega arith)
+some_first (a ∷ []) long = absurd (omega arith)
+some_first (a ∷ b ∷ []) long = absurd (omega arith)
+some_first (a ∷ b ∷ c ∷ []) long = absurd (omega arith)
+some_first (a ∷ b ∷ c ∷ d ∷ []) long = absurd (omega arith)
+some_first (a ∷ b ∷ c ∷ d ∷ x ∷ []) long = absurd (omega arith)
+some_first (a ∷ b ∷ c ∷ d ∷ x ∷ y ∷ []) long = absurd (omega arith)
+some_first (a ∷ b ∷ c ∷ d ∷ x ∷ y ∷ z ∷ rest) long = refl
+
+-- all where fewer are there than announced
+pub whole_first : (xs : List ℕ) → 7 ≤ length xs
     → length xs < 65536 * get_or xs 4 0 + 256 * get_or xs 5 0 + get_or xs 6 0
-    → Some xs ≡ front_of xs
-front_whole [] long less = absurd (omega arith)
-front_whole (a ∷ []) long less = absurd (omega arith)
-front_whole (a ∷ b ∷ []) long less = absurd (omega arith)
-front_whole (a ∷ b ∷ c ∷ []) long less = absurd (omega arith)
-front_whole (a ∷ b ∷ c ∷ d ∷ []) long less = absurd (omega arith)
-front_whole (a ∷ b ∷ c ∷ d ∷ x ∷ []) long less = absurd (omega arith)
-front_whole (a ∷ b ∷ c ∷ d ∷ x ∷ y ∷ []) long less = absurd (omega arith)
-front_whole (a ∷ b ∷ c ∷ d ∷ x ∷ y ∷ z ∷ rest) long less =
-    ap Some (sym (take_all (65536 * x + 256 * y + z) (a ∷ b ∷ c ∷ d ∷ x ∷ y ∷ z ∷ rest)
-    (omega arith)))
+    → first_octets xs ≡ xs
+whole_first xs long less =
+    some_first xs long
+    ∙ take_all (65536 * get_or xs 4 0 + 256 * get_or xs 5 0 + get_or xs 6 0) xs (omega arith)
+
+-- what a slice has from a place on
+pub from_on : (xs : List ℕ) (n : ℕ) → take (length xs - n) (drop n xs) ≡ drop n xs
+from_on xs n =
+    let size = length-drop n xs in take_all (length xs - n) (drop n xs) (omega arith)
+
+-- the octets behind them, by what they are
+pub behind_them : (xs front : List ℕ) → first_octets xs ≡ front
+    → drop (length front) xs ≡ behind_first xs
+behind_them xs front is = ap (λ (f : List ℕ). drop (length f) xs) (sym is)
 
 -- ---- steps of a chain
 
@@ -102,3 +129,34 @@ module _ (is_entry : Entry → Type 0) (entry_in : List ℕ → Option Entry)
         more = drop l.0 octets;
         is = parts;
       })
+
+  -- no octets are no entry
+  no_octets : entry_in [] ≡ None
+  no_octets = by (entry_in []) refl
+    where
+      -- by what they are
+      by : (x : Option Entry) → entry_in [] ≡ x → entry_in [] ≡ None
+      by None found = found
+      by (Some e) found =
+          let none_are : AreOctets [] =
+          All-from_get_or (λ (x : ℕ). x < 2 ^ 8) [] 0 (λ i below. absurd (omega arith)) in
+          let own : announced e.bytes ≡ None = ap announced (laws.own [] e none_are found) in
+          let told = (laws.frame e (laws.is [] e none_are found)).told in
+          absurd cc
+
+  -- an entry that comes after the one before it
+  abbrev after : Option Entry → Entry → Option Entry
+  after before e = cond (comes_after before e) (Some e) None
+
+  -- the right entry is that of the octets that are announced, where it comes after the one before
+  pub right_by_first : (before : Option Entry) (octets : List ℕ) (found : Option Entry)
+      → found ≡ entry_in (first_octets octets)
+      → (found >>= after before) ≡ right_entry entry_in before octets
+  right_by_first before octets found is =
+      ap (λ (o : Option Entry). o >>= after before) is ∙ by (front_of octets)
+    where
+      -- by the octets that are announced
+      by : (x : Option (List ℕ)) → (entry_in (octets_or_none x) >>= after before)
+          ≡ (x >>= (λ front. entry_in front >>= after before))
+      by None = ap (λ (o : Option Entry). o >>= after before) no_octets
+      by (Some front) = refl

@@ -1,5 +1,6 @@
--- Reading a text step by step: for the loop of `Archive::read_entries`, and so for `Archive::read`.
-use Rattle.std.proofs.Common.{◌≡◌, ℕ, ◌+◌, ◌-◌, ◌<◌, ◌≤◌, ◌^◌, true, List, [], ◌∷◌, ◌++◌, length}
+-- Reading a text step by step: for `right_entry` and the loop of `Archive::read_entries`, and so for
+-- `Archive::read`.
+use Rattle.std.proofs.Common.{◌≡◌, ℕ, ◌+◌, ◌-◌, ◌<◌, ◌≤◌, ◌^◌, Bool, true, cond, List, [], ◌∷◌, ◌++◌, length}
 use Rattle.std.proofs.Common.{drop, Option, Some, None, Ok, Err, refl, sym, ap, subst, ◌∙◌, arith}
 use Rattle.std.proofs.Common.{append_assoc, length-append}
 use Rattle.std.specs.Option.{option_map}
@@ -11,7 +12,11 @@ use Rattle.bufr_shelves.specs.Entries.{kept}
 use Rattle.bufr_sections.specs.Sections.{AreOctets}
 use Rattle.bufr_archive.specs.Texts.{text, comes_after, right_entry, entry_then, judged}
 use Rattle.bufr_archive.specs.Texts.{entries_read}
+use Rattle.bufr_tables.specs.Entries.{Entries}
 use Rattle.bufr_archive.specs.EntryLaws.{HasEntryLaws}
+use Rattle.bufr_archive.specs.MergedOctets.{first_octets}
+use Rattle.bufr_archive.specs.ReportEntries.{IsReportEntry, entry_in}
+use Rattle.bufr_archive.specs.ReportLaws.{ReportsAreEntries}
 use Rattle.bufr_archive.specs.Reading.{read}
 use Rattle.bufr_archive.specs.declared.reading.ReadEntry.{ReadEntry}
 use Rattle.bufr_archive.proofs.TextLemmas.{text-push}
@@ -34,6 +39,25 @@ pub record ReadSoFar (is_entry : Entry → Type 0) (octets : List ℕ) (entries 
   pub parts : octets ≡ text entries ++ rest
   pub there : place ≡ length (text entries)
   pub some : AreOctets rest
+
+module _ (laws : ReportsAreEntries) (tables : Entries) (before : Option Entry)
+    (octets front : List ℕ) (found : Option ReadEntry) where
+  -- no entry is no right one
+  pub right_none : front ≡ first_octets octets → option_map read found ≡ entry_in tables front
+      → found ≡ None → None ≡ right_entry (entry_in tables) before octets
+  right_none first answered none =
+      facts.right_by_first (IsReportEntry tables) (entry_in tables) (laws tables) before octets
+      None (sym (ap (option_map read) none) ∙ answered ∙ ap (entry_in tables) first)
+
+  -- and one is right where it comes after the one before
+  pub right_told : (entry : ReadEntry) (b : Bool) → front ≡ first_octets octets
+      → option_map read found ≡ entry_in tables front → found ≡ Some entry
+      → comes_after before (read entry) ≡ b
+      → cond b (Some (read entry)) None ≡ right_entry (entry_in tables) before octets
+  right_told entry b first answered some told =
+      ap (λ x. cond x (Some (read entry)) None) (sym told)
+      ∙ facts.right_by_first (IsReportEntry tables) (entry_in tables) (laws tables) before octets
+      (Some (read entry)) (sym (ap (option_map read) some) ∙ answered ∙ ap (entry_in tables) first)
 
 module _ (is_entry : Entry → Type 0) (entry_in : List ℕ → Option Entry)
     (laws : HasEntryLaws is_entry entry_in) where

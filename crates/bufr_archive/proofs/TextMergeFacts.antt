@@ -2,7 +2,7 @@
 -- `ArchiveText::merge`.
 use Rattle.std.proofs.Common.{◌≡◌, ℕ, ◌+◌, ◌≤◌, Bool, true, false, List, [], ◌∷◌, ◌++◌, length, drop}
 use Rattle.std.proofs.Common.{map, cond, Option, Some, None, refl, sym, ap, subst, ◌∙◌, arith}
-use Rattle.std.proofs.Common.{append_assoc, ◌⊎◌, inl, inr}
+use Rattle.std.proofs.Common.{append_assoc}
 use Rattle.std.specs.Prelude.{option_map}
 use Rattle.std.specs.List.{flat_map}
 use Rattle.std.specs.Ordering.{is_gt, ordering_reverse}
@@ -42,27 +42,21 @@ behind_in_order tables [] a = a
 behind_in_order tables (e ∷ es) a =
     record { each = a.each.1; ordered = order_behind e es a.ordered }
 
--- where no mark is left or no length is announced, nothing is left
-pub none_left : ReportsAreEntries → (tables : Entries) (marks : List MarkView) (octets : List ℕ)
-    (es : List Entry) → AreInOrder tables es → marks ≡ marks_of es → octets ≡ text es
-    → (length marks ≡ 0) ⊎ (front_of octets ≡ None) → es ≡ []
-none_left laws tables marks octets [] a are is none = refl
-none_left laws tables marks octets (e ∷ es) a are is (inl none) =
+-- where no mark is left, nothing is left
+none_left : (marks : List MarkView) (es : List Entry) → marks ≡ marks_of es → length marks ≡ 0
+    → es ≡ []
+none_left marks [] are none = refl
+none_left marks (e ∷ es) are none =
     let some : length marks ≡ length (marks_of (e ∷ es)) = ap length are in
     absurd (omega arith)
-none_left laws tables marks octets (e ∷ es) a are is (inr none) =
-    let some : front_of octets ≡ Some e.bytes =
-    ap front_of is ∙ front_is e.bytes (text es) ((laws tables).frame e a.each.0) in
-    absurd cc
 
 -- so these are left
-pub nothing_left : ReportsAreEntries → (tables : Entries) (marks : List MarkView)
-    (octets : List ℕ) (es : List Entry) (left : Unmerged) → AreInOrder tables es
-    → marks ≡ marks_of es → octets ≡ text es → (length marks ≡ 0) ⊎ (front_of octets ≡ None)
-    → left.first ≡ None → left.marks.now ≡ marks → left.behind.now ≡ octets
+pub nothing_left : (tables : Entries) (marks : List MarkView) (octets : List ℕ) (es : List Entry)
+    (left : Unmerged) → AreInOrder tables es → marks ≡ marks_of es → octets ≡ text es
+    → length marks ≡ 0 → left.first ≡ None → left.marks.now ≡ marks → left.behind.now ≡ octets
     → AreLeft tables es left
-nothing_left laws tables marks octets es left a are is none first marked behind =
-    let empty = none_left laws tables marks octets es a are is none in
+nothing_left tables marks octets es left a are is none first marked behind =
+    let empty = none_left marks es are none in
     record {
       in_order = a;
       first = ap (option_map known) first ∙ ap first_of (sym empty);
@@ -75,16 +69,16 @@ nothing_left laws tables marks octets es left a are is none first marked behind 
 pub front_left : ReportsAreEntries → (tables : Entries) (marks others : List MarkView)
     (octets front : List ℕ) (es : List Entry) (left : Unmerged) (entry : KnownEntry)
     → AreInOrder tables es → marks ≡ marks_of es → octets ≡ text es
-    → marks ≡ entry.mark.now ∷ others → front_of octets ≡ Some front
+    → marks ≡ entry.mark.now ∷ others → front ≡ first_octets octets
     → left.first ≡ Some entry → entry.bytes.now ≡ front → left.marks.now ≡ others
-    → left.behind.now ≡ drop (length front) octets → AreLeft tables es left
+    → left.behind.now ≡ behind_first octets → AreLeft tables es left
 front_left laws tables marks others octets front [] left entry a are is first some at own marked
-    behind = let none : front_of octets ≡ None = ap front_of is in absurd cc
+    behind = let none : entry.mark.now ∷ others ≡ [] = sym first ∙ are in absurd cc
 front_left laws tables marks others octets front (e ∷ es) left entry a are is first some at own
     marked behind =
     let announced : front_of octets ≡ Some e.bytes =
     ap front_of is ∙ front_is e.bytes (text es) ((laws tables).frame e a.each.0) in
-    let same : front ≡ e.bytes = cc in
+    let same : first_octets octets ≡ e.bytes = ap octets_or_none announced in
     let joined : entry.mark.now ∷ others ≡ mark_of e ∷ marks_of es = sym first ∙ are in
     let mark : entry.mark.now ≡ mark_of e = cc in
     let more : others ≡ marks_of es = cc in
@@ -92,10 +86,10 @@ front_left laws tables marks others octets front (e ∷ es) left entry a are is 
       in_order = a;
       first = ap (option_map known) at
           ∙ ap (λ (m : MarkView). Some (seen m entry.bytes.now)) mark
-          ∙ ap (λ (b : List ℕ). Some (seen (mark_of e) b)) (own ∙ same);
+          ∙ ap (λ (b : List ℕ). Some (seen (mark_of e) b)) (own ∙ some ∙ same);
       marked = marked ∙ more;
-      behind = behind ∙ ap (drop (length front)) is
-          ∙ drop_at e.bytes (text es) (length front) (ap length (sym same));
+      behind = behind ∙ ap (drop (length (first_octets octets))) is
+          ∙ drop_at e.bytes (text es) (length (first_octets octets)) (ap length (sym same));
     }
 
 -- ---- one step

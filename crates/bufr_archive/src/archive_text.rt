@@ -17,7 +17,7 @@ use crate::laws::reports_are_entries;
 use crate::merged_marks::merged_marks;
 use crate::merged_octets::{MergedOctets, Origin};
 use crate::merging_texts::{Unmerged, origins_of};
-use crate::reading::{NotAnArchive, ReadEntry, behind, right_entry};
+use crate::reading::{NotAnArchive, ReadEntry, right_entry};
 use bufr_answers::{Failure, OutOfMemory};
 use bufr_message::Templates;
 use bufr_message::laws::written_messages_are_spelt;
@@ -244,7 +244,7 @@ fn read_marks(
             return Err(Failure::Fault(NotAnArchive { place }));
         };
         place += entry.bytes.len();
-        rest = behind(rest, entry.bytes.len());
+        rest = &rest[entry.bytes.len()..];
         push_mark(&mut marks, before)?;
         before = Some(entry);
     }

@@ -1,10 +1,10 @@
 //! The octets of the entries of two texts merged, handed out one after the other.
-ghost use Rattle.std.specs.Prelude.{◌≡◌, ◌++◌, [], drop, length, IfNone, IfOk};
+ghost use Rattle.std.specs.Prelude.{◌≡◌, ◌++◌, [], length, IfNone, IfOk};
 ghost use Rattle.std.specs.Option.{option_map, option_to_list};
 ghost use Rattle.std.specs.List.{flat_map};
-ghost use Rattle.bufr_archive.specs.MergedOctets.{first_octets, behind_first, handed_out};
+ghost use Rattle.bufr_archive.specs.MergedOctets.{handed_out};
 
-use crate::reading::{behind, front_of};
+use crate::reading::split_first;
 use bufr_answers::OutOfMemory;
 use std::alloc::Global;
 use std::marker::Model;
@@ -37,17 +37,6 @@ impl<'a> Model for MergedOctets<'a> {
 
     // The last origin comes first.
     ghost view = { λ m. handed_out (reverse m.origins.items) m.left.now m.right.now };
-}
-
-/// The octets of the first entry of a text, and those behind them.
-fn split_first(text: &[u8]) -> (&[u8], &[u8])
-    ensures first { result.0.now ≡ first_octets text.now }
-    ensures behind { result.1.now ≡ behind_first text.now }
-{
-    let Some(front) = front_of(text) else {
-        return (&text[..0], text);
-    };
-    (front, behind(text, front.len()))
 }
 
 impl<'a> MergedOctets<'a> {

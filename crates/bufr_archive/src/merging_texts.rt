@@ -1,5 +1,5 @@
 //! Two texts merged from the left, of which nothing is read but the marks and the octets of entries.
-ghost use Rattle.std.specs.Prelude.{◌≡◌, ◌+◌, ◌≤◌, List, drop, length, IfOk};
+ghost use Rattle.std.specs.Prelude.{◌≡◌, ◌+◌, ◌≤◌, List, length, IfOk};
 ghost use Rattle.std.specs.Option.{option_map};
 ghost use Rattle.bufr_tables.specs.Entries.{Entries};
 ghost use Rattle.bufr_shelves.specs.declared.entry.Entry.{Entry as AnEntry};
@@ -9,7 +9,7 @@ ghost use Rattle.bufr_archive.specs.Texts.{text, marks_of};
 
 use crate::laws::reports_are_entries;
 use crate::merged_octets::Origin;
-use crate::reading::{behind, front_of};
+use crate::reading::split_first;
 use bufr_answers::OutOfMemory;
 use bufr_shelves::Mark;
 use std::alloc::Global;
@@ -37,30 +37,19 @@ impl<'a> Unmerged<'a> {
             → marks.now ≡ marks_of es → octets.now ≡ text es → AreLeft tables es result }
     {
         reports_are_entries();
-        let none = Unmerged {
-            first: None,
-            marks,
-            behind: octets,
-        };
         let Some((mark, others)) = marks.split_first() else {
-            return none;
+            return Unmerged {
+                first: None,
+                marks,
+                behind: octets,
+            };
         };
-        let Some(bytes) = front_of(octets) else {
-            return none;
-        };
+        let (bytes, behind) = split_first(octets);
         Unmerged {
             first: Some(KnownEntry { mark, bytes }),
             marks: others,
-            behind: behind(octets, bytes.len()),
+            behind,
         }
-    }
-
-    /// What is left behind the first entry.
-    fn passed(&self) -> Unmerged<'a>
-        ensures { (tables : Entries) (es : List AnEntry) → AreLeft tables es self.now
-            → AreLeft tables (drop 1 es) result }
-    {
-        Unmerged::of_text(self.marks, self.behind)
     }
 }
 
@@ -111,17 +100,17 @@ fn take_first<'a>(left: &mut Unmerged<'a>, right: &mut Unmerged<'a>) -> Option<O
             let Some(_entry) = &left.first else {
                 return None;
             };
-            *left = left.passed();
+            *left = Unmerged::of_text(left.marks, left.behind);
             Some(Origin::Left)
         }
         Ordering::Greater => {
-            *right = right.passed();
+            *right = Unmerged::of_text(right.marks, right.behind);
             Some(Origin::Right)
         }
         Ordering::Equal => {
             let origin = greater_of(left, right);
-            *left = left.passed();
-            *right = right.passed();
+            *left = Unmerged::of_text(left.marks, left.behind);
+            *right = Unmerged::of_text(right.marks, right.behind);
             Some(origin)
         }
     }

@@ -4,7 +4,8 @@ ghost use Rattle.std.specs.Option.{option_map};
 ghost use Rattle.bufr_answers.specs.Answers.{Gives};
 ghost use Rattle.bufr_message.specs.declared.report.Report.{Report as AReport};
 ghost use Rattle.bufr_shelves.specs.Entries.{kept};
-ghost use Rattle.bufr_archive.specs.Texts.{comes_after, front_of, right_entry};
+ghost use Rattle.bufr_archive.specs.MergedOctets.{first_octets, behind_first};
+ghost use Rattle.bufr_archive.specs.Texts.{right_entry};
 ghost use Rattle.bufr_archive.specs.Reading.{read, archive_read};
 ghost use Rattle.bufr_archive.specs.ReportEntries.{AreUnder, text_of, entry_in};
 ghost use Rattle.bufr_archive.specs.ReportTexts.{IsArchiveOf, RefusedAt, archive_of};
@@ -35,31 +36,20 @@ pub(crate) struct ReadEntry<'a> {
     pub(crate) bytes: &'a [u8],
 }
 
-/// The octets of the message that begins here, as its total length announces them.
-pub(crate) fn front_of(octets: &[u8]) -> Option<&[u8]>
-    ensures { option_map (λ s. s.now) result ≡ front_of octets.now }
+/// The octets of the message that begins here, as its total length announces them, none if that is
+/// cut short, and those behind them.
+pub(crate) fn split_first(octets: &[u8]) -> (&[u8], &[u8])
+    ensures first { result.0.now ≡ first_octets octets.now }
+    ensures behind { result.1.now ≡ behind_first octets.now }
 {
     let [_, _, _, _, a, b, c, ..] = octets else {
-        return None;
+        return (&octets[..0], octets);
     };
     let length = 65536 * *a as usize + 256 * *b as usize + *c as usize;
     if length > octets.len() {
-        return Some(octets);
+        return (octets, &octets[octets.len()..]);
     }
-    Some(&octets[..length])
-}
-
-/// Whether an entry comes after the one before it, if there is one.
-fn comes_after(before: &Option<ReadEntry>, entry: &ReadEntry) -> bool
-    ensures { result ≡ comes_after (option_map read before.now) (read entry.now) }
-{
-    let Some(before) = before else {
-        return true;
-    };
-    let order = before
-        .mark
-        .slot_order(before.bytes, &entry.mark, entry.bytes);
-    order.is_lt()
+    (&octets[..length], &octets[length..])
 }
 
 /// The right entry that begins here, where there is one.
@@ -73,13 +63,18 @@ pub(crate) fn right_entry<'a>(
     ensures is { IfOk result (λ found. option_map read found
         ≡ right_entry (entry_in templates.old) (option_map read before.now) octets.now) }
 {
-    let Some(front) = front_of(octets) else {
-        return Ok(None);
-    };
+    reports_are_entries();
+    let (front, _) = split_first(octets);
     let Some(entry) = entry_in(alloc, templates, front)? else {
         return Ok(None);
     };
-    if comes_after(before, &entry) {
+    let Some(before) = before else {
+        return Ok(Some(entry));
+    };
+    let order = before
+        .mark
+        .slot_order(before.bytes, &entry.mark, entry.bytes);
+    if order.is_lt() {
         Ok(Some(entry))
     } else {
         Ok(None)
@@ -94,14 +89,6 @@ fn keep<S: Shelf>(alloc: Global, shelf: &mut S, entry: &ReadEntry) -> Result<(),
     let bytes = Items::from_vec(Vec::from_slice(alloc, entry.bytes)?);
     shelf.put(entry.mark.key()?, entry.mark.update(), bytes)?;
     Ok(())
-}
-
-/// The octets behind the first so many.
-pub(crate) fn behind(octets: &[u8], count: usize) -> &[u8]
-    requires { count ≤ length octets.now }
-    ensures { result.now ≡ drop count octets.now }
-{
-    &octets[count..]
 }
 
 impl<'t, S: Shelf> Archive<'t, S> {
@@ -150,7 +137,7 @@ impl<'t, S: Shelf> Archive<'t, S> {
             };
             keep(alloc, &mut shelf, &entry)?;
             place += entry.bytes.len();
-            rest = behind(rest, entry.bytes.len());
+            rest = &rest[entry.bytes.len()..];
             before = Some(entry);
         }
         Ok(Archive {

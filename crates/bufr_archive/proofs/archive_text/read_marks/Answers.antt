@@ -1,10 +1,11 @@
 -- The clause `marks` of `read_marks`: entry by entry, until one is not right or none is left.
-use Rattle.std.proofs.Common.{◌≡◌, ◌+◌, ◌-◌, ◌^◌, ◌<◌, ℕ, length, Some, None, List, refl, sym, ap}
+use Rattle.std.proofs.Common.{◌≡◌, ◌+◌, ◌-◌, ◌^◌, ◌<◌, ℕ, length, take, drop, Some, None, List, refl, sym, ap}
 use Rattle.std.proofs.Common.{subst, ◌∙◌, arith}
 use Rattle.std.specs.Option.{option_map}
 use Rattle.std.proofs.lemmas.List.{length-drop}
 use Rattle.std.proofs.lemmas.List.Elements.{All-from_get_or}
 use Rattle.bufr_archive.specs.Texts.{right_entry}
+use Rattle.bufr_archive.proofs.EntryFacts.{from_on}
 use Rattle.bufr_archive.specs.Reading.{read}
 use Rattle.bufr_archive.specs.ReportEntries.{entry_in}
 use Rattle.bufr_archive.proofs.HeldFacts.{MarkedSoFar, marked_none, marked_more, marked_all}
@@ -33,14 +34,6 @@ returns-in_default-clause-marks c =
     marked_stops c.reports_are_entries.ensures tables c.args.octets.now before c.loop-rest.place
     c.loop-rest.rest.now c.loop-rest.marks.items c.loop-rest.invariant.so_far (omega arith) none
 
--- a right entry has no more octets than are left
-pub behind-rest-requires : goal.behind-rest-requires
-behind-rest-requires c =
-    let found = rw c.loop-rest.invariant.tables at c.in_ok-entry.ensures.is in
-    (marked_more c.reports_are_entries.ensures c.args.templates.now c.args.octets.now
-    c.loop-rest.before c.loop-rest.place c.loop-rest.rest.now c.loop-rest.marks.items _ _
-    c.in-Some.entry c.loop-rest.invariant.so_far found c.in-Some.is refl).1
-
 -- one entry more was read, and the octets behind it are left
 pub loop-rest-preserved : goal.loop-rest-preserved
 loop-rest-preserved c =
@@ -54,7 +47,7 @@ loop-rest-preserved c =
     c.in_ok-push_mark.ensures in
     record {
       so_far = subst (λ (r : List ℕ). MarkedSoFar tables c.args.octets.now (Some e) place r
-          c.push_mark.new.marks.items) (sym c.behind-rest.ensures) next.2;
+          c.push_mark.new.marks.items) (sym (from_on c.loop-rest.rest.now (length c.in-Some.entry.bytes.now))) next.2;
       tables = c.in_ok-entry.ensures.same ∙ c.loop-rest.invariant.tables;
     }
 
@@ -68,8 +61,8 @@ loop-rest-smaller c =
     let some = next.0 in
     let within = next.1 in
     let n = length c.in-Some.entry.bytes.now in
-    let size : length c.behind-rest.result.now ≡ length c.loop-rest.rest.now - n =
-    ap length c.behind-rest.ensures ∙ length-drop n c.loop-rest.rest.now in
+    let size : length (take (length c.loop-rest.rest.now - n) (drop n c.loop-rest.rest.now)) ≡ length c.loop-rest.rest.now - n =
+    ap length (from_on c.loop-rest.rest.now n) ∙ length-drop n c.loop-rest.rest.now in
     omega (arith, some, within, size)
 
 -- where no octets are left, the entries of the whole text are marked

@@ -1,11 +1,12 @@
 -- The clause of `Archive::read_entries`: entry by entry, until one is not right or none is left.
-use Rattle.std.proofs.Common.{◌≡◌, ◌++◌, ◌∷◌, [], ◌+◌, ◌-◌, length, Some, None, List, ℕ, sym, ap}
+use Rattle.std.proofs.Common.{◌≡◌, ◌++◌, ◌∷◌, [], ◌+◌, ◌-◌, length, take, drop, Some, None, List, ℕ, sym, ap}
 use Rattle.std.proofs.Common.{subst, ◌∙◌, arith}
 use Rattle.std.specs.Option.{option_map}
 use Rattle.std.proofs.lemmas.List.{length-drop}
 use Rattle.bufr_shelves.specs.declared.entry.Entry.{Entry}
 use Rattle.bufr_shelves.specs.Entries.{kept}
 use Rattle.bufr_archive.specs.Texts.{right_entry}
+use Rattle.bufr_archive.proofs.EntryFacts.{from_on}
 use Rattle.bufr_archive.specs.Reading.{read, archive_or}
 use Rattle.bufr_archive.specs.ReportEntries.{IsReportEntry, entry_in}
 use Rattle.bufr_archive.proofs.ReadFacts.{ReadSoFar, read_next, read_all, read_stops}
@@ -24,15 +25,6 @@ returns-in_default g c =
     c.args.octets.now (g.S.Shelf.entries c.loop-rest.shelf)
     before c.loop-rest.place c.loop-rest.rest.now c.loop-rest.invariant.so_far (omega arith) none)
 
--- a right entry has no more octets than are left
-pub behind-rest-requires : goal.behind-rest-requires
-behind-rest-requires g c =
-    let found = rw c.loop-rest.invariant.tables at c.in_ok-entry.ensures.is in
-    (read_next (IsReportEntry c.args.tables.now) (entry_in c.args.tables.now)
-    (c.reports_are_entries.ensures c.args.tables.now) c.args.octets.now
-    (g.S.Shelf.entries c.loop-rest.shelf) c.loop-rest.before c.loop-rest.place
-    c.loop-rest.rest.now _ c.in-Some.entry c.loop-rest.invariant.so_far found c.in-Some.is).1
-
 -- one entry more was read and put on the shelf, and the octets behind it are left
 pub loop-rest-preserved : goal.loop-rest-preserved
 loop-rest-preserved g c =
@@ -45,10 +37,12 @@ loop-rest-preserved g c =
     (g.S.Shelf.entries c.loop-rest.shelf) c.loop-rest.before c.loop-rest.place
     c.loop-rest.rest.now _ c.in-Some.entry c.loop-rest.invariant.so_far found c.in-Some.is in
     let left = subst (λ (r : List ℕ). ReadSoFar (IsReportEntry c.args.tables.now)
-    c.args.octets.now (kept (old ++ e ∷ [])) (Some e) place r) (sym c.behind-rest.ensures) next.2 in
+    c.args.octets.now (kept (old ++ e ∷ [])) (Some e) place r) (sym (from_on c.loop-rest.rest.now (length c.in-Some.entry.bytes.now))) next.2 in
     record {
       so_far = subst (λ (es : List Entry). ReadSoFar (IsReportEntry c.args.tables.now)
-          c.args.octets.now es (Some e) place c.behind-rest.result.now) (sym c.in_ok-keep.ensures)
+          c.args.octets.now es (Some e) place
+          (take (length c.loop-rest.rest.now - length c.in-Some.entry.bytes.now)
+          (drop (length c.in-Some.entry.bytes.now) c.loop-rest.rest.now))) (sym c.in_ok-keep.ensures)
           left;
       tables = c.in_ok-entry.ensures.same ∙ c.loop-rest.invariant.tables;
     }
@@ -64,8 +58,8 @@ loop-rest-smaller g c =
     let some = next.0 in
     let within = next.1 in
     let n = length c.in-Some.entry.bytes.now in
-    let size : length c.behind-rest.result.now ≡ length c.loop-rest.rest.now - n =
-    ap length c.behind-rest.ensures ∙ length-drop n c.loop-rest.rest.now in
+    let size : length (take (length c.loop-rest.rest.now - n) (drop n c.loop-rest.rest.now)) ≡ length c.loop-rest.rest.now - n =
+    ap length (from_on c.loop-rest.rest.now n) ∙ length-drop n c.loop-rest.rest.now in
     omega (arith, some, within, size)
 
 -- where no octets are left, the entries of the whole text were read
