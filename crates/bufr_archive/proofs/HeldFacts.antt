@@ -1,7 +1,7 @@
 -- Texts that are held: for `read_marks`, `ArchiveText::read`, `ArchiveText::merge` and
 -- `ArchiveText::origins_with`.
 use Rattle.std.proofs.Common.{◌≡◌, ℕ, ◌+◌, ◌<◌, ◌≤◌, List, [], ◌∷◌, ◌++◌, length, drop, Option}
-use Rattle.std.proofs.Common.{Some, None, Result, Ok, Err, refl, sym, ap, subst, ◌∙◌, arith}
+use Rattle.std.proofs.Common.{IsErrAnd, Some, None, Result, Ok, Err, refl, sym, ap, subst, ◌∙◌, arith}
 use Rattle.std.specs.Prelude.{option_map}
 use Rattle.std.specs.Option.{option_to_list}
 use Rattle.std.proofs.lemmas.List.{length-drop, length-map, map-append, append-nil}
@@ -20,7 +20,11 @@ use Rattle.bufr_archive.specs.Archives.{ArchiveView, merged}
 use Rattle.bufr_archive.specs.ArchiveTexts.{entries_or_none, entries_in, IsTextOf, marks_or}
 use Rattle.bufr_archive.specs.ArchiveTexts.{AreInOrder, AreLeft, AreMerged}
 use Rattle.bufr_archive.specs.MergedOctets.{handed_out, marks_out, HandOutMerged}
-use Rattle.bufr_archive.specs.Reading.{read}
+use Rattle.bufr_archive.specs.Reading.{read, archive_or, archive_read}
+use Rattle.bufr_archive.specs.declared.reading.NotAnArchive.{NotAnArchive}
+use Rattle.bufr_answers.specs.Answers.{Fails, Gives}
+use Rattle.bufr_answers.specs.declared.failure.Failure.{Failure}
+use Rattle.bufr_answers.specs.declared.failure.Failure.TheVariants.{Fault, OutOfMemory}
 use Rattle.bufr_archive.specs.ReportEntries.{IsReportEntry, entry_in}
 use Rattle.bufr_archive.specs.ReportLaws.{ReportsAreEntries}
 use Rattle.bufr_archive.specs.Texts.{text, mark_of, marks_of, right_entry, judged, entries_read}
@@ -124,6 +128,62 @@ module _ (laws : ReportsAreEntries) (tables : Entries) where
           (record { each = t.0; says = t.1; all_kept = t.2; marked = sym own })
       by (Err place) is told = absurd cc
 
+-- ---- what reading answers: for `ArchiveText::read`
+
+-- the archive of octets whose entries are marked
+seen_read : (tables : Entries) (octets : List ℕ) (marks : List MarkView)
+    → marks_or (entries_read (entry_in tables) octets) ≡ Ok marks
+    → archive_read tables octets ≡ Ok (seen tables (entries_in tables octets))
+seen_read tables octets marks = by (entries_read (entry_in tables) octets)
+  where
+    -- by what was read
+    by : (x : Result (List Entry) ℕ) → marks_or x ≡ Ok marks
+        → archive_or tables x ≡ Ok (seen tables (entries_or_none x))
+    by (Ok es) told = refl
+    by (Err place) told = absurd cc
+
+-- of octets that are lent and had more room
+pub text_read : (templates tables : Entries) (lent shrunk octets : List ℕ) (marks : List MarkView)
+    → templates ≡ tables → lent ≡ shrunk → shrunk ≡ octets
+    → marks_or (entries_read (entry_in templates) lent) ≡ Ok marks
+    → archive_read tables octets ≡ Ok (seen tables (entries_in tables shrunk))
+text_read templates tables lent shrunk octets marks same is was told =
+    ap (archive_read tables) (sym (is ∙ was))
+    ∙ seen_read tables lent marks
+    (subst (λ (t : Entries). marks_or (entries_read (entry_in t) lent) ≡ Ok marks) same told)
+    ∙ ap (λ (o : List ℕ). Ok (seen tables (entries_in tables o))) is
+
+-- or the place of the first entry that is not right
+text_fails : (templates tables : Entries) (lent octets : List ℕ) (e : Failure NotAnArchive)
+    → templates ≡ tables → lent ≡ octets
+    → Fails e (marks_or (entries_read (entry_in templates) lent))
+    → Fails e (archive_read tables octets)
+text_fails templates tables lent octets e same is told =
+    by e (entries_read (entry_in tables) octets)
+    (subst (λ (t : Entries). Fails e (marks_or (entries_read (entry_in t) octets))) same
+    (subst (λ (o : List ℕ). Fails e (marks_or (entries_read (entry_in templates) o))) is told))
+  where
+    -- by what was told and read
+    by : (e : Failure NotAnArchive) (x : Result (List Entry) ℕ) → Fails e (marks_or x)
+        → Fails e (archive_or tables x)
+    by OutOfMemory x told = tt
+    by (Fault f) (Ok es) told = absurd cc
+    by (Fault f) (Err place) told =
+        let place_is : record { place = place } ≡ f = cc in ap Err place_is
+
+-- so it is where that is handed on
+pub text_stops : (templates tables : Entries) (lent octets : List ℕ) (e : Failure NotAnArchive)
+    (x : Result ArchiveView (Failure NotAnArchive)) → IsErrAnd x (λ y. y ≡ e)
+    → templates ≡ tables → lent ≡ octets
+    → Fails e (marks_or (entries_read (entry_in templates) lent))
+    → Gives (λ a. a) x (archive_read tables octets)
+text_stops templates tables lent octets e (Err f) handed same is told =
+    text_fails templates tables lent octets f same is
+    (subst (λ (g : Failure NotAnArchive).
+    Fails g (marks_or (entries_read (entry_in templates) lent))) (sym handed) told)
+text_stops templates tables lent octets e (Ok a) handed same is told = absurd handed
+
+module _ (laws : ReportsAreEntries) (tables : Entries) where
   -- ---- texts that are merged
 
   -- what holds of all of two lists holds of both joined

@@ -8,7 +8,7 @@ ghost use Rattle.bufr_sections.specs.Sections.{AreOctets};
 ghost use Rattle.bufr_archive.specs.Archives.{merged, IsKept};
 ghost use Rattle.bufr_archive.specs.ArchiveTexts.{marks_or};
 ghost use Rattle.bufr_archive.specs.MergedOctets.{HandOutMerged, handed_out};
-ghost use Rattle.bufr_archive.specs.Reading.{read, archive_read};
+ghost use Rattle.bufr_archive.specs.Reading.{read};
 ghost use Rattle.bufr_archive.specs.ReportEntries.{AreUnder, text_of, entry_in};
 ghost use Rattle.bufr_archive.specs.ReportTexts.{IsArchiveOf, RefusedAt, archive_of};
 ghost use Rattle.bufr_archive.specs.Texts.{text, mark_of, entries_read};
@@ -66,8 +66,8 @@ impl<'t> ArchiveText<'t> {
         }
     }
 
-    /// The archive that octets are the text of, which are held as they are. They are judged from
-    /// the left, one entry at a time. Refused is the place of the first entry that is not right:
+    /// The archive that octets are the text of, which are held as they are; room that they do not
+    /// take is given back. They are judged from the left, one entry at a time. Refused is the place of the first entry that is not right:
     /// where the longest front of the octets ends that is a text. Memory may run out.
     pub fn read(
         alloc: Global,
@@ -87,23 +87,9 @@ impl<'t> ArchiveText<'t> {
     {
         reports_are_entries();
         written_messages_are_spelt();
-        are_octets(&octets);
-        ArchiveText::judged(alloc, tables, octets)
-    }
-
-    /// The archive of the entries that octets are the text of, or the place of the first that is
-    /// not right. Room that they do not take is given back.
-    fn judged(
-        alloc: Global,
-        tables: &'t Tables,
-        mut octets: Vec<u8>,
-    ) -> Result<Self, Failure<NotAnArchive>>
-        ensures { Gives (λ a. a) result (archive_read tables.now octets.items) }
-    {
-        reports_are_entries();
-        are_octets(&octets);
-        let mut templates = Templates::new(alloc, tables);
+        let mut octets = octets;
         octets.shrink_to_fit();
+        let mut templates = Templates::new(alloc, tables);
         let marks = read_marks(alloc, &mut templates, &octets)?;
         Ok(ArchiveText {
             tables,
@@ -192,11 +178,6 @@ impl<'t> ArchiveText<'t> {
     }
 }
 
-/// What is told of a slice of octets: each is one.
-fn are_octets(octets: &[u8])
-    ensures { AreOctets octets.now }
-{}
-
 /// The octets of entries of these origins of two texts, joined. It can only run out of memory.
 fn joined_octets(
     alloc: Global,
@@ -230,6 +211,7 @@ fn read_marks(
     octets: &[u8],
 ) -> Result<Vec<Mark>, Failure<NotAnArchive>>
     ensures same { templates.new ≡ templates.old }
+    ensures octets { AreOctets octets.now }
     ensures marks { Gives (λ marks. marks.items) result
         (marks_or (entries_read (entry_in templates.old) octets.now)) }
 {

@@ -72,3 +72,9 @@ returns-clause-marks c =
     (option_map read c.loop-rest.before) c.loop-rest.place c.loop-rest.rest.now
     c.loop-rest.marks.items _ c.loop-rest.invariant.so_far (omega arith)
     (c.shrink_to_fit.ensures.items ∙ c.in_ok-push_mark-2.ensures)
+
+-- each that is read is an octet
+pub returns-clause-octets : goal.returns-clause-octets
+returns-clause-octets c =
+    All-from_get_or (λ (x : ℕ). x < 2 ^ 8) c.args.octets.now 0
+    (λ i below. omega (arith, c.type_inv.octets i))
