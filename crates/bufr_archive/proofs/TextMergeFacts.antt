@@ -6,6 +6,7 @@ use Rattle.std.proofs.Common.{append_assoc}
 use Rattle.std.specs.Prelude.{option_map}
 use Rattle.std.specs.List.{flat_map}
 use Rattle.std.specs.Ordering.{is_gt, ordering_reverse}
+use Rattle.std.specs.declared.cmp.Ordering.{Ordering}
 use Rattle.std.specs.declared.cmp.Ordering.TheVariants.{Less, Equal, Greater}
 use Rattle.std.proofs.lemmas.List.{append-nil, drop_at, map-append}
 use Rattle.bufr_tables.specs.Entries.{Entries}
@@ -93,6 +94,28 @@ front_left laws tables marks others octets front (e ∷ es) left entry a are is 
     }
 
 -- ---- one step
+
+-- the order of the first entries of two texts: where nothing is left of the right one
+pub nothing_right : (x y : Option KnownEntry) (order : Ordering) → y ≡ None → order ≡ Less
+    → order_of_firsts (option_map known x) (option_map known y) ≡ order
+nothing_right x y order none is =
+    ap (λ z. order_of_firsts (option_map known x) (option_map known z)) none ∙ sym is
+
+-- of the left one alone
+pub nothing_left_of : (x y : Option KnownEntry) (f : KnownEntry) (order : Ordering) → x ≡ None
+    → y ≡ Some f → order ≡ Greater
+    → order_of_firsts (option_map known x) (option_map known y) ≡ order
+nothing_left_of x y f order none some is =
+    ap (λ z. order_of_firsts (option_map known z) (option_map known y)) none
+    ∙ ap (λ z. order_of_firsts None (option_map known z)) some ∙ sym is
+
+-- of none
+pub both_there : (x y : Option KnownEntry) (e f : KnownEntry) (order : Ordering) → x ≡ Some e
+    → y ≡ Some f → order ≡ slot_cmp (known e) (known f)
+    → order_of_firsts (option_map known x) (option_map known y) ≡ order
+both_there x y e f order some some_too is =
+    ap (λ z. order_of_firsts (option_map known z) (option_map known y)) some
+    ∙ ap (λ z. order_of_firsts (Some (known e)) (option_map known z)) some_too ∙ sym is
 
 -- nothing is left of both texts
 pub none_taken : (tables : Entries) (es fs : List Entry) (left right : Unmerged)

@@ -16,7 +16,7 @@ ghost use Rattle.bufr_archive.specs.Texts.{text, mark_of, entries_read};
 use crate::laws::reports_are_entries;
 use crate::merged_marks::merged_marks;
 use crate::merged_octets::{MergedOctets, Origin};
-use crate::merging_texts::{Unmerged, origins_of};
+use crate::merging_texts::{Unmerged, take_first};
 use crate::reading::{NotAnArchive, ReadEntry, right_entry};
 use bufr_answers::{Failure, OutOfMemory};
 use bufr_message::Templates;
@@ -139,10 +139,17 @@ impl<'t> ArchiveText<'t> {
         ensures { IfOk result (λ origins.
             HandOutMerged self.now.entries other.now.entries origins.items) }
     {
+        reports_are_entries();
         let most = self.marks.len() + other.marks.len();
-        let left = Unmerged::of_text(&self.marks, &self.octets);
-        let right = Unmerged::of_text(&other.marks, &other.octets);
-        let origins = origins_of(alloc, left, right, most)?;
+        let mut left = Unmerged::of_text(&self.marks, &self.octets);
+        let mut right = Unmerged::of_text(&other.marks, &other.octets);
+        let mut origins = Vec::with_capacity(alloc, most)?;
+        for _ in 0..most {
+            let Some(origin) = take_first(&mut left, &mut right) else {
+                return Ok(origins);
+            };
+            origins.push(origin)?;
+        }
         Ok(origins)
     }
 
