@@ -39,7 +39,7 @@ seen tables es = record { tables = tables; entries = es }
 -- ---- entries whose marks are read
 
 -- the mark of the last entry, if there is one
-abbrev last_mark : Option Entry → List MarkView
+abbrev pub last_mark : Option Entry → List MarkView
 last_mark before = option_to_list (option_map mark_of before)
 
 -- these marks and that of the last entry are those of the entries that were read, and these octets
@@ -60,6 +60,19 @@ marked_none tables octets marks all none = record {
   marked = append-nil marks ∙ none;
   left = omega arith;
 }
+
+-- the mark of the last entry is put behind those of the others
+pub last_pushed : (marks pushed marks' : List MarkView) (before : Option ReadEntry)
+    (last : ReadEntry) → before ≡ Some last → pushed ≡ marks ++ (last.mark ∷ [])
+    → marks' ≡ pushed → marks' ≡ marks ++ last_mark (option_map read before)
+last_pushed marks pushed marks' before last some put is =
+    is ∙ put ∙ ap (λ x. marks ++ last_mark (option_map read x)) (sym some)
+
+-- or there is none
+pub none_pushed : (marks marks' : List MarkView) (before : Option ReadEntry) → before ≡ None
+    → marks' ≡ marks → marks' ≡ marks ++ last_mark (option_map read before)
+none_pushed marks marks' before none is =
+    is ∙ sym (append-nil marks) ∙ ap (λ x. marks ++ last_mark (option_map read x)) (sym none)
 
 module _ (laws : ReportsAreEntries) (tables : Entries) where
   -- the next entry has some octets, and no more than are left, and with it one more is marked

@@ -199,17 +199,6 @@ fn joined_octets(
     MergedOctets::new(origins, left, right).into_text(alloc, left.len() + right.len())
 }
 
-/// Puts the mark of an entry, if there is one, behind others.
-fn push_mark(marks: &mut Vec<Mark>, last: Option<ReadEntry>) -> Result<(), OutOfMemory>
-    ensures { OnOk result (marks.new.items
-        ≡ marks.old.items ++ option_to_list (option_map mark_of (option_map read last.entry))) }
-{
-    if let Some(entry) = last {
-        marks.push(entry.mark)?;
-    }
-    Ok(())
-}
-
 /// The marks of the entries that octets are the text of, or the place of the first entry that is
 /// not right.
 fn read_marks(
@@ -234,10 +223,14 @@ fn read_marks(
         };
         place += entry.bytes.len();
         rest = &rest[entry.bytes.len()..];
-        push_mark(&mut marks, before)?;
+        if let Some(last) = before {
+            marks.push(last.mark)?;
+        }
         before = Some(entry);
     }
-    push_mark(&mut marks, before)?;
+    if let Some(last) = before {
+        marks.push(last.mark)?;
+    }
     marks.shrink_to_fit();
     Ok(marks)
 }

@@ -1,5 +1,5 @@
 -- The clause `marks` of `read_marks`: entry by entry, until one is not right or none is left.
-use Rattle.std.proofs.Common.{◌≡◌, ◌+◌, ◌-◌, ◌^◌, ◌<◌, ℕ, length, take, drop, Some, None, List, refl, sym, ap}
+use Rattle.std.proofs.Common.{◌≡◌, ◌++◌, ◌+◌, ◌-◌, ◌^◌, ◌<◌, ℕ, length, take, drop, Some, None, List, refl, sym, ap}
 use Rattle.std.proofs.Common.{subst, ◌∙◌, arith}
 use Rattle.std.specs.Option.{option_map}
 use Rattle.std.proofs.lemmas.List.{length-drop}
@@ -8,9 +8,14 @@ use Rattle.bufr_archive.specs.Texts.{right_entry}
 use Rattle.bufr_archive.proofs.EntryFacts.{from_on}
 use Rattle.bufr_archive.specs.Reading.{read}
 use Rattle.bufr_archive.specs.ReportEntries.{entry_in}
+use Rattle.bufr_archive.proofs.HeldFacts.{last_mark, last_pushed, none_pushed}
 use Rattle.bufr_archive.proofs.HeldFacts.{MarkedSoFar, marked_none, marked_more, marked_all}
 use Rattle.bufr_archive.proofs.HeldFacts.{marked_stops}
 use Rattle.bufr_archive.proofs.archive_text.read_marks.Goals as goal
+use Rattle.bufr_archive.proofs.archive_text.read_marks.Goals.{in-Some-before+in_ok-push}
+use Rattle.bufr_archive.proofs.archive_text.read_marks.Goals.{in_default-before}
+use Rattle.bufr_archive.proofs.archive_text.read_marks.Goals.{in-Some-before-2+in_ok-push-2}
+use Rattle.bufr_archive.proofs.archive_text.read_marks.Goals.{in_default-before-2}
 
 -- at first none was read
 pub loop-rest-init : goal.loop-rest-init
@@ -41,13 +46,22 @@ loop-rest-preserved c =
     let e = read c.in-Some.entry in
     let place = c.loop-rest.place + length c.in-Some.entry.bytes.now in
     let found = rw c.loop-rest.invariant.tables at c.in_ok-entry.ensures.is in
+    let pushed : c.match-before-5.marks.items
+    ≡ c.loop-rest.marks.items ++ last_mark (option_map read c.loop-rest.before) =
+    elim c.match-before-5.branch [
+      | in-Some-before+in_ok-push w ↦ last_pushed c.loop-rest.marks.items _ _ c.loop-rest.before
+          w.in-Some-before.last w.in-Some-before.is w.in_ok-push.ensures.items
+          (ap (λ v. v.items) w.marks-is)
+      | in_default-before w ↦ none_pushed c.loop-rest.marks.items _ c.loop-rest.before
+          w.in_default-before.is (ap (λ v. v.items) w.marks-is)
+    ] in
     let next = marked_more c.reports_are_entries.ensures tables c.args.octets.now
     c.loop-rest.before c.loop-rest.place c.loop-rest.rest.now c.loop-rest.marks.items
-    c.push_mark.new.marks.items _ c.in-Some.entry c.loop-rest.invariant.so_far found c.in-Some.is
-    c.in_ok-push_mark.ensures in
+    c.match-before-5.marks.items _ c.in-Some.entry c.loop-rest.invariant.so_far found c.in-Some.is
+    pushed in
     record {
       so_far = subst (λ (r : List ℕ). MarkedSoFar tables c.args.octets.now (Some e) place r
-          c.push_mark.new.marks.items) (sym (from_on c.loop-rest.rest.now (length c.in-Some.entry.bytes.now))) next.2;
+          c.match-before-5.marks.items) (sym (from_on c.loop-rest.rest.now (length c.in-Some.entry.bytes.now))) next.2;
       tables = c.in_ok-entry.ensures.same ∙ c.loop-rest.invariant.tables;
     }
 
@@ -68,10 +82,19 @@ loop-rest-smaller c =
 -- where no octets are left, the entries of the whole text are marked
 pub returns-clause-marks : goal.returns-clause-marks
 returns-clause-marks c =
+    let pushed : c.match-before-6.marks.items
+    ≡ c.loop-rest.marks.items ++ last_mark (option_map read c.loop-rest.before) =
+    elim c.match-before-6.branch [
+      | in-Some-before-2+in_ok-push-2 w ↦ last_pushed c.loop-rest.marks.items _ _ c.loop-rest.before
+          w.in-Some-before-2.last w.in-Some-before-2.is w.in_ok-push-2.ensures.items
+          (ap (λ v. v.items) w.marks-is)
+      | in_default-before-2 w ↦ none_pushed c.loop-rest.marks.items _ c.loop-rest.before
+          w.in_default-before-2.is (ap (λ v. v.items) w.marks-is)
+    ] in
     marked_all c.reports_are_entries.ensures c.args.templates.now c.args.octets.now
     (option_map read c.loop-rest.before) c.loop-rest.place c.loop-rest.rest.now
     c.loop-rest.marks.items _ c.loop-rest.invariant.so_far (omega arith)
-    (c.shrink_to_fit.ensures.items ∙ c.in_ok-push_mark-2.ensures)
+    (c.shrink_to_fit.ensures.items ∙ pushed)
 
 -- each that is read is an octet
 pub returns-clause-octets : goal.returns-clause-octets
