@@ -1,4 +1,10 @@
 -- Reports added one after the other: for `Archive::add_all`, and so for `Archive::add_message`.
+use Rattle.std.proofs.Common.{Ok, ap, subst, ◌∙◌}
+use Rattle.bufr_tables.specs.Entries.{Entries}
+use Rattle.bufr_sections.specs.declared.message.Decoded.{Decoded}
+use Rattle.bufr_message.specs.Messages.{message_of}
+use Rattle.bufr_message.specs.Reports.{reports_of}
+use Rattle.bufr_archive.specs.ReportEntries.{report_entries, spelt_entries}
 use Rattle.std.proofs.Common.{◌≡◌, ℕ, ◌+◌, ◌<◌, ◌≤◌, Bool, true, false, cond, Option, None, List}
 use Rattle.std.proofs.Common.{[], ◌∷◌, ◌++◌, length, take, get_or, refl, sym, ap, ◌∙◌, arith}
 use Rattle.std.proofs.Common.{append_assoc}
@@ -78,3 +84,24 @@ one_more old new next rs i changed b h s is count =
       changed_is = omega arith;
       few = omega arith;
     }
+
+-- ---- messages: for `ArchiveBuilder::add_message`
+
+-- the reports of a message were added under templates that stay
+pub builder_adds : (templates after : Entries) (entries : List Entry) (old new : ArchiveView)
+    (octets : List ℕ) (d : Decoded) → record { tables = templates; entries = entries } ≡ old
+    → after ≡ templates → message_of templates octets ≡ Ok d
+    → spelt_entries (reports_of d.message) ≡ report_entries templates (reports_of d.message)
+    → new ≡ taken_in (record { tables = after; entries = entries })
+    (spelt_entries (reports_of d.message))
+    → (d : Decoded) × (message_of old.tables octets ≡ Ok d)
+    × (new ≡ taken_in old (report_entries old.tables (reports_of d.message)))
+builder_adds templates after entries old new octets d seen same is own added = (
+  d,
+  subst (λ (a : ArchiveView). message_of a.tables octets ≡ Ok d) seen is,
+  added
+      ∙ ap (λ (t : Entries). taken_in (record { tables = t; entries = entries })
+      (spelt_entries (reports_of d.message))) same
+      ∙ ap (taken_in (record { tables = templates; entries = entries })) own
+      ∙ ap (λ (a : ArchiveView). taken_in a (report_entries a.tables (reports_of d.message))) seen,
+)

@@ -56,7 +56,8 @@ impl<'t> ArchiveBuilder<'t> {
     pub fn add_message(&mut self, octets: &[u8]) -> Result<(), AddFault>
         ensures { AddsToBuilder self.old self.new octets.now result }
     {
-        let reports = match self.reports_in(octets) {
+        // Templates are kept from one message to the next.
+        let reports = match MessageReports::of_octets(self.alloc, &mut self.templates, octets) {
             Ok(reports) => reports,
             Err(Failure::Fault(why)) => return Err(AddFault::Refused(why)),
             Err(Failure::OutOfMemory) => {
@@ -68,17 +69,6 @@ impl<'t> ArchiveBuilder<'t> {
             Ok(()) => Ok(()),
             Err(RanOut { done }) => Err(AddFault::OutOfMemory { done }),
         }
-    }
-
-    /// The reports of the message that octets spell, under templates that are kept from one message
-    /// to the next. The octets are refused as `decode` refuses them. Memory may run out.
-    fn reports_in<'m>(&mut self, octets: &'m [u8]) -> Result<MessageReports<'m>, Failure<Refused>>
-        ensures same { self.new ≡ self.old }
-        ensures is { Gives (λ s. s.view) result (message_of self.old.tables octets.now) }
-        ensures entries { IfOk result (λ s. spelt_entries (reports_of s.view.message)
-            ≡ report_entries self.old.tables (reports_of s.view.message)) }
-    {
-        MessageReports::of_octets(self.alloc, &mut self.templates, octets)
     }
 
     /// What is held is what is kept.

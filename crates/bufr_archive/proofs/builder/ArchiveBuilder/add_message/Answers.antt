@@ -1,0 +1,11 @@
+-- The clause of `ArchiveBuilder::add_message`, where all reports were added.
+use Rattle.bufr_shelves.specs.Entries.{kept}
+use Rattle.bufr_archive.proofs.AddFacts.{builder_adds}
+use Rattle.bufr_archive.proofs.builder.ArchiveBuilder.add_message.Goals as goal
+
+-- those of the message
+pub returns-in-Ok-add_all : goal.returns-in-Ok-add_all
+returns-in-Ok-add_all c =
+    builder_adds c.self.inside.templates c.of_octets.new.templates (kept c.self.inside.entries)
+    c.args.self.now c.add_all.new.self c.args.octets.now c.in-Ok.reports.view c.self.view_is
+    c.in-Ok.ensures.same c.in-Ok.ensures.is c.in-Ok.ensures.entries c.in-Ok-add_all.ensures
