@@ -2,10 +2,9 @@
 
 mod asked;
 mod compressed;
-mod data;
-mod forms;
 mod index;
-mod lent;
+mod misfits;
+mod plain;
 mod samples;
 mod values;
 

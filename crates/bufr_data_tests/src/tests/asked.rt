@@ -3,9 +3,9 @@
 ghost use Rattle.std.specs.Prelude.{◌==◌};
 
 use super::same;
-use super::samples::{octets_of, template};
-use bufr_bits::{BitReader, BitSink};
-use bufr_data::{Asks, DataTemplate, Field, Fields, LaidFields, Raw, SubsetIndex};
+use super::samples::{Descriptors, number_of, template, text_of};
+use bufr_bits::BitReader;
+use bufr_data::{Asks, DataTemplate, Fields, LaidFields, SubsetIndex};
 use bufr_tables::Fxy;
 use std::alloc::Global;
 use std::process::Abort;
@@ -21,9 +21,31 @@ impl Asks for Blocks {
     }
 }
 
+/// Temperatures, 0 12 101.
+struct Temperatures;
+
+impl Asks for Temperatures {
+    ghost is_asked = { λ d. d == 3173 };
+
+    fn asks(fxy: Fxy) -> bool {
+        fxy.bits() == 3173
+    }
+}
+
+/// Names of ships, 0 01 011.
+struct Names;
+
+impl Asks for Names {
+    ghost is_asked = { λ d. d == 267 };
+
+    fn asks(fxy: Fxy) -> bool {
+        fxy.bits() == 267
+    }
+}
+
 /// A block, a temperature of 63 bits, a name of 64 bits, two blocks, a station number, a block, and
 /// a temperature.
-const BETWEEN: [(u8, u8, u8); 12] = [
+const BETWEEN: Descriptors = &[
     (0, 1, 1),
     (2, 1, 175),
     (0, 12, 101),
@@ -38,90 +60,96 @@ const BETWEEN: [(u8, u8, u8); 12] = [
     (0, 12, 101),
 ];
 
-/// The octets of one subset of these with the blocks 10, 11, 12 and 127.
-fn between(rt: &impl Abort, alloc: Global) -> Vec<u8> {
-    let mut sink = BitSink::new(alloc);
-    sink.put(7, 10).expect(rt, "room");
-    sink.put(63, 0x7FFF_FFFF_FFFF_FFFE).expect(rt, "room");
-    sink.put_bytes(b"SHIP1   ").expect(rt, "room");
-    sink.put(7, 11).expect(rt, "room");
-    sink.put(7, 12).expect(rt, "room");
-    sink.put(10, 384).expect(rt, "room");
-    sink.put(7, 127).expect(rt, "room");
-    sink.put(16, 27315).expect(rt, "room");
-    octets_of(sink)
-}
+/// One subset of these: 10 in seven bits, 2 to the 63rd less 2 in 63, "SHIP1   ", 11 and 12 in
+/// seven, 384 in ten, 127 in seven, and 27315 in 16.
+const BETWEEN_OCTETS: &[u8] = &[
+    0x15, 0xFF, 0xFF, 0xFF, 0xFF, 0xFF, 0xFF, 0xFF, 0xF9, 0x4D, 0x21, 0x25, 0x40, 0xC4, 0x80, 0x80,
+    0x80, 0x58, 0xC6, 0x03, 0xFB, 0x55, 0x98,
+];
 
-/// The raw number of a field.
-fn number_of(found: Option<Field>) -> Option<u64> {
-    match found?.raw {
-        Raw::Number(number) => Some(number),
-        Raw::Text(_) => None,
-    }
-}
+const MIXED: Descriptors = &[
+    (0, 2, 1),
+    (0, 12, 101),
+    (2, 8, 2),
+    (0, 1, 11),
+    (0, 12, 101),
+    (0, 1, 1),
+    (0, 12, 101),
+];
 
-/// The first six blocks that are handed out, or all that there are; then none is left.
-fn blocks_of(rt: &impl Abort, alloc: Global, mut fields: Fields<'_>) -> Vec<u64> {
-    let mut blocks = Vec::new(alloc);
-    for _turn in 0..6 {
-        let found = fields.next_asked::<Blocks>(alloc).expect(rt, "room");
-        if let Some(block) = number_of(found) {
-            blocks.push(block).expect(rt, "room");
-        }
+/// Compares the numbers of the fields that are asked for; then no field is left.
+fn hands_out<A: Asks>(rt: &impl Abort, alloc: Global, mut fields: Fields<'_>, wanted: &[u64]) {
+    for number in wanted {
+        let found = fields.next_asked::<A>(alloc).expect(rt, "room");
+        same(rt, number_of(&found.expect(rt, "a field")), Some(*number));
     }
+    same(rt, fields.next_asked::<A>(alloc).expect(rt, "room"), None);
     same(rt, fields.next(alloc).expect(rt, "room"), None);
-    blocks
 }
 
-/// Those of fields that are laid out.
-fn blocks_laid(rt: &impl Abort, alloc: Global, mut fields: LaidFields<'_>) -> Vec<u64> {
-    let mut blocks = Vec::new(alloc);
-    for _turn in 0..6 {
-        let found = fields.next_asked::<Blocks>(alloc).expect(rt, "room");
-        if let Some(block) = number_of(found) {
-            blocks.push(block).expect(rt, "room");
-        }
-    }
-    blocks
-}
-
-/// The same, handed out as numbers.
-fn blocks_numbered(rt: &impl Abort, alloc: Global, mut fields: LaidFields<'_>) -> Vec<u64> {
-    let mut blocks = Vec::new(alloc);
-    for _turn in 0..6 {
-        if let Some(block) = fields.next_asked_number::<Blocks>() {
-            let number = block.number;
-            same(rt, block.is_missing(), number == 127);
-            blocks.push(number).expect(rt, "room");
-        }
-    }
-    same(rt, fields.next_asked_number::<Blocks>(), None);
-    blocks
-}
-
-/// Compares the blocks of the first subset of an index, whose fields are laid out or not.
-fn has_blocks(rt: &impl Abort, alloc: Global, index: &SubsetIndex, laid: bool, wanted: &[u64]) {
-    assert!(rt; 1 <= index.count());
-    let found = blocks_of(rt, alloc, index.fields(alloc, 1).expect(rt, "room"));
-    same(rt, found.as_slice(), wanted);
-    let (found, is_laid) = match index.fields(alloc, 1).expect(rt, "room").laid() {
-        Ok(fields) => (blocks_laid(rt, alloc, fields), true),
-        Err(fields) => (blocks_of(rt, alloc, fields), false),
-    };
-    same(rt, found.as_slice(), wanted);
-    same(rt, is_laid, laid);
-    if let Ok(fields) = index.fields(alloc, 1).expect(rt, "room").laid() {
-        same(rt, blocks_numbered(rt, alloc, fields).as_slice(), wanted);
-    }
-}
-
-/// Compares those of three messages of these octets that one template serves: plain fields are laid
-/// out from the second on.
-fn serves_blocks(
+/// The same of fields that are laid out.
+fn hands_out_laid<A: Asks>(
     rt: &impl Abort,
     alloc: Global,
-    list: &[(u8, u8, u8)],
+    mut fields: LaidFields<'_>,
+    wanted: &[u64],
+) {
+    for number in wanted {
+        let found = fields.next_asked::<A>(alloc).expect(rt, "room");
+        same(rt, number_of(&found.expect(rt, "a field")), Some(*number));
+    }
+    same(rt, fields.next_asked::<A>(alloc).expect(rt, "room"), None);
+}
+
+/// The same, handed out as numbers, of which 127 alone is missing.
+fn hands_out_numbers<A: Asks>(rt: &impl Abort, mut fields: LaidFields<'_>, wanted: &[u64]) {
+    for number in wanted {
+        let found = fields.next_asked_number::<A>().expect(rt, "a number");
+        same(rt, found.number, *number);
+        same(rt, found.is_missing(), *number == 127);
+    }
+    same(rt, fields.next_asked_number::<A>(), None);
+}
+
+/// Compares the numbers of the last subset of an index, whose fields are laid out or not.
+fn has_asked<A: Asks>(
+    rt: &impl Abort,
+    alloc: Global,
+    index: &SubsetIndex,
+    laid: bool,
+    wanted: &[u64],
+) {
+    let last = index.count();
+    assert!(rt; 1 <= last);
+    hands_out::<A>(
+        rt,
+        alloc,
+        index.fields(alloc, last).expect(rt, "room"),
+        wanted,
+    );
+    match index.fields(alloc, last).expect(rt, "room").laid() {
+        Ok(fields) => {
+            same(rt, laid, true);
+            hands_out_laid::<A>(rt, alloc, fields, wanted);
+        }
+        Err(fields) => {
+            same(rt, laid, false);
+            hands_out::<A>(rt, alloc, fields, wanted);
+        }
+    }
+    if let Ok(fields) = index.fields(alloc, last).expect(rt, "room").laid() {
+        hands_out_numbers::<A>(rt, fields, wanted);
+    }
+}
+
+/// Compares those of the last of so many subsets, in each of three messages of these octets that
+/// one template serves: plain fields are laid out from the second on.
+fn serves<A: Asks>(
+    rt: &impl Abort,
+    alloc: Global,
+    list: Descriptors,
     compressed: bool,
+    count: u16,
     octets: &[u8],
     wanted: &[u64],
 ) {
@@ -129,55 +157,49 @@ fn serves_blocks(
     for message in 0..3 {
         let mut reader = BitReader::new(octets);
         let index = template
-            .index(alloc, compressed, &mut reader, 1)
+            .index(alloc, compressed, &mut reader, count)
             .expect(rt, "an index");
-        has_blocks(rt, alloc, &index, !compressed && message > 0, wanted);
+        has_asked::<A>(rt, alloc, &index, !compressed && message > 0, wanted);
     }
 }
 
 #[test]
 fn blocks_between_wide_fields(rt: HostRuntime) {
     let alloc = rt.alloc();
-    let octets = between(&rt, alloc);
-    same(&rt, octets.len(), 23);
-    serves_blocks(
-        &rt,
-        alloc,
-        &BETWEEN,
-        false,
-        octets.as_slice(),
-        &[10, 11, 12, 127],
-    );
+    let wanted = [10, 11, 12, 127];
+    serves::<Blocks>(&rt, alloc, BETWEEN, false, 1, BETWEEN_OCTETS, &wanted);
+    // none is asked for: 16 bits and ten, 27315 and 384; then each with six zero bits behind it
+    let list: Descriptors = &[(0, 12, 101), (0, 1, 2)];
+    let plain = [0x6A, 0xB3, 0x60, 0x00];
+    serves::<Blocks>(&rt, alloc, list, false, 1, &plain, &[]);
+    let columns = [0x6A, 0xB3, 0x01, 0x80, 0x00];
+    serves::<Blocks>(&rt, alloc, list, true, 1, &columns, &[]);
 }
 
-/// Names of ships, 0 01 011.
-struct Names;
-
-impl Asks for Names {
-    ghost is_asked = { λ d. d == 267 };
-
-    fn asks(fxy: Fxy) -> bool {
-        fxy.bits() == 267
-    }
-}
-
-/// Compares the text of a field.
-fn has_name(rt: &impl Abort, found: Option<Field>, wanted: &[u8]) {
-    let field = found.expect(rt, "a field");
-    match &field.raw {
-        Raw::Text(name) => same(rt, name.as_slice(), wanted),
-        Raw::Number(_) => assert!(rt; false, "a number"),
-    }
+#[test]
+fn temperatures_alone_are_asked_for(rt: HostRuntime) {
+    let alloc = rt.alloc();
+    // two bits, 16, "A " or "BC", 16, seven and 16: 1, 27315, 5, 94 and 65535; 2, 1, 2, 3 and 0
+    let plain = [
+        0x5A, 0xAC, 0xD0, 0x48, 0x00, 0x01, 0x6F, 0x7F, 0xFF, 0xC0, 0x00, 0x28, 0x48, 0x60, 0x00,
+        0x40, 0xC0, 0x00, 0x00,
+    ];
+    serves::<Temperatures>(&rt, alloc, MIXED, false, 2, &plain, &[1, 2, 0]);
+    // the same places, each a minimum, NBINC, and both increments or texts where there are some
+    let columns = [
+        0x42, 0x16, 0xAB, 0x30, 0x84, 0x00, 0x00, 0x24, 0x12, 0x04, 0x24, 0x30, 0x00, 0x50, 0x2F,
+        0x00, 0x00, 0x0E, 0x11, 0x00,
+    ];
+    serves::<Temperatures>(&rt, alloc, MIXED, true, 2, &columns, &[27316, 5, 9]);
 }
 
 /// A text is no number: it is left, and handed out as a field.
 #[test]
 fn texts_are_no_numbers(rt: HostRuntime) {
     let alloc = rt.alloc();
-    let octets = between(&rt, alloc);
-    let mut template = DataTemplate::new(template(&rt, alloc, &BETWEEN));
+    let mut template = DataTemplate::new(template(&rt, alloc, BETWEEN));
     for message in 0..2 {
-        let mut reader = BitReader::new(octets.as_slice());
+        let mut reader = BitReader::new(BETWEEN_OCTETS);
         let index = template
             .index(alloc, false, &mut reader, 1)
             .expect(&rt, "an index");
@@ -186,19 +208,7 @@ fn texts_are_no_numbers(rt: HostRuntime) {
             same(&rt, message, 1);
             same(&rt, fields.next_asked_number::<Names>(), None);
             let found = fields.next_asked::<Names>(alloc).expect(&rt, "room");
-            has_name(&rt, found, b"SHIP1   ");
+            same(&rt, text_of(&found.expect(&rt, "a field")), b"SHIP1   ");
         }
     }
-}
-
-#[test]
-fn none_is_asked_for(rt: HostRuntime) {
-    let alloc = rt.alloc();
-    let list = [(0, 12, 101), (0, 1, 2)];
-    // 16 bits and ten: 27315 and 384
-    let plain = [0x6A, 0xB3, 0x60, 0x00];
-    serves_blocks(&rt, alloc, &list, false, &plain, &[]);
-    // each with six zero bits behind it
-    let columns = [0x6A, 0xB3, 0x01, 0x80, 0x00];
-    serves_blocks(&rt, alloc, &list, true, &columns, &[]);
 }

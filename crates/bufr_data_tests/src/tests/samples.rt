@@ -1,13 +1,30 @@
 //! Tables, templates and subsets that several tests use.
 
 use super::same;
-use bufr_answers::OutOfMemory;
-use bufr_bits::BitSink;
-use bufr_data::{Field, Raw, Subset};
-use bufr_expand::Template;
-use bufr_tables::{Fxy, TableB, TableD, Tables};
+use bufr_answers::Items;
+use bufr_bits::{BitReader, BitSink};
+use bufr_data::{Field, Raw, Subset, read_subsets};
+use bufr_expand::{Spec, Template};
+use bufr_tables::{Fxy, Kind, TableB, TableD, Tables};
 use std::alloc::Global;
 use std::process::Abort;
+
+/// Descriptors by F, X and Y.
+pub(crate) type Descriptors<'a> = &'a [(u8, u8, u8)];
+
+/// What a subset has: the raw numbers of its fields, 0 for a text, and the text of its last field,
+/// empty where that is a number.
+pub(crate) type Wanted<'a> = (&'a [u64], &'a [u8]);
+
+pub(crate) const TEMPERATURE: Descriptors = &[(0, 12, 101)];
+
+pub(crate) const DELAYED: Descriptors = &[(1, 1, 0), (0, 31, 1), (0, 12, 101)];
+
+pub(crate) const SEQUENCES: Descriptors = &[(3, 1, 1), (3, 1, 11), (3, 1, 12), (0, 12, 101)];
+
+/// A replication, 255 turns of an operator, and one field of two bits: 512 items a subset, so that
+/// 32,768 subsets have 16,777,216.
+pub(crate) const MANY_ITEMS: Descriptors = &[(1, 1, 255), (2, 1, 129), (0, 2, 1)];
 
 /// Elements with their unit, scale, reference value and width.
 const TABLE_B: &[u8] = b"FXY,BUFR_Unit,BUFR_Scale,BUFR_ReferenceValue,BUFR_DataWidth_Bits
@@ -35,57 +52,85 @@ const TABLE_D: &[u8] = b"FXY1,FXY2
 301012,004005
 ";
 
-/// The tables of the tests.
-fn tables(rt: &impl Abort, alloc: Global) -> Tables {
+/// The template of descriptors.
+pub(crate) fn template(rt: &impl Abort, alloc: Global, list: Descriptors) -> Template {
     let elements = TableB::parse(alloc, TABLE_B).expect(rt, "a table");
     let sequences = TableD::parse(alloc, TABLE_D).expect(rt, "a table");
-    Tables::new(elements, sequences)
-}
-
-/// These descriptors.
-fn descriptors(rt: &impl Abort, alloc: Global, list: &[(u8, u8, u8)]) -> Vec<Fxy> {
+    let tables = Tables::new(elements, sequences);
     let mut descriptors = Vec::new(alloc);
     for (f, x, y) in list {
         let fxy = Fxy::new(*f, *x, *y).expect(rt, "a descriptor");
         descriptors.push(fxy).expect(rt, "room");
     }
-    descriptors
-}
-
-/// The template of descriptors.
-pub(crate) fn template(rt: &impl Abort, alloc: Global, list: &[(u8, u8, u8)]) -> Template {
-    let (tables, descriptors) = (tables(rt, alloc), descriptors(rt, alloc, list));
     Template::build(alloc, &tables, descriptors.as_slice()).expect(rt, "a template")
-}
-
-/// The raw numbers of a subset, 0 for a text.
-fn numbers(rt: &impl Abort, alloc: Global, subset: &Subset) -> Vec<u64> {
-    let mut numbers = Vec::new(alloc);
-    for field in subset.fields.as_slice() {
-        match &field.raw {
-            Raw::Number(number) => numbers.push(*number).expect(rt, "room"),
-            Raw::Text(_) => numbers.push(0).expect(rt, "room"),
-        }
-    }
-    numbers
-}
-
-/// Compares the raw numbers of a subset.
-pub(crate) fn same_numbers(rt: &impl Abort, alloc: Global, subset: &Subset, wanted: &[u64]) {
-    let found = numbers(rt, alloc, subset);
-    same(rt, found.as_slice(), wanted);
-}
-
-/// Compares the text of a field, which is to be one.
-pub(crate) fn same_text(rt: &impl Abort, field: &Field, wanted: &[u8]) {
-    match &field.raw {
-        Raw::Text(text) => same(rt, text.as_slice(), wanted),
-        Raw::Number(_) => assert!(rt; false, "a number"),
-    }
 }
 
 /// The octets of bits, the last filled with zero bits.
 pub(crate) fn octets_of(mut sink: BitSink) -> Vec<u8> {
     sink.fill_octet();
     sink.into_bytes()
+}
+
+/// A field whose reference value is 0.
+pub(crate) fn field(
+    rt: &impl Abort,
+    (f, x, y): (u8, u8, u8),
+    kind: Kind,
+    scale: i32,
+    width: u32,
+    raw: Raw,
+) -> Field {
+    let spec = Spec {
+        kind,
+        scale,
+        reference: 0,
+        width,
+    };
+    let fxy = Fxy::new(f, x, y).expect(rt, "a descriptor");
+    Field { fxy, spec, raw }
+}
+
+/// The raw number of a field, `None` for a text.
+pub(crate) fn number_of(field: &Field) -> Option<u64> {
+    match &field.raw {
+        Raw::Number(number) => Some(*number),
+        Raw::Text(_) => None,
+    }
+}
+
+/// The text of a field, empty for a number.
+pub(crate) fn text_of(field: &Field) -> &[u8] {
+    match &field.raw {
+        Raw::Number(_) => &[],
+        Raw::Text(text) => text.as_slice(),
+    }
+}
+
+/// Compares the fields of a subset.
+pub(crate) fn same_subset(rt: &impl Abort, subset: &Subset, numbers: &[u64], text: &[u8]) {
+    let fields = subset.fields.as_slice();
+    same(rt, fields.len(), numbers.len());
+    for (field, number) in fields.iter().zip(numbers) {
+        same(rt, number_of(field).unwrap_or(0), *number);
+    }
+    if let Some(last) = fields.last() {
+        same(rt, text_of(last), text);
+    }
+}
+
+/// The subsets in octets, compressed or not.
+pub(crate) fn read(
+    rt: &impl Abort,
+    alloc: Global,
+    list: Descriptors,
+    compressed: bool,
+    count: u16,
+    octets: &[u8],
+) -> Items<Subset> {
+    let template = template(rt, alloc, list);
+    let mut reader = BitReader::new(octets);
+    let subsets = read_subsets(alloc, &template, compressed, count, &mut reader).expect(rt, "data");
+    same(rt, reader.left() < 8 || count == 0, true);
+    same(rt, subsets.len(), usize::from(count));
+    subsets
 }

@@ -1,36 +1,14 @@
 //! Values of fields, and the texts of faults.
 
 use super::same;
+use super::samples::field;
 use bufr_answers::Items;
-use bufr_data::{Decimal, Field, Raw, ReadFault, WriteFault};
+use bufr_data::{Decimal, Raw, ReadFault, WriteFault};
 use bufr_expand::Spec;
 use bufr_tables::{Fxy, Kind};
 use std::alloc::Global;
 use std::fmt::Display;
 use std::process::Abort;
-
-/// A field of the element 012101 with this spec.
-fn field(rt: &impl Abort, kind: Kind, scale: i32, reference: i64, width: u32, raw: Raw) -> Field {
-    let fxy = Fxy::new(0, 12, 101).expect(rt, "a descriptor");
-    let spec = Spec {
-        kind,
-        scale,
-        reference,
-        width,
-    };
-    Field { fxy, spec, raw }
-}
-
-fn quantity(rt: &impl Abort, scale: i32, reference: i64, width: u32, raw: u64) -> Field {
-    field(
-        rt,
-        Kind::Quantity,
-        scale,
-        reference,
-        width,
-        Raw::Number(raw),
-    )
-}
 
 /// Compares what a value or a fault prints.
 fn prints<T: Display>(rt: &impl Abort, alloc: Global, printed: &T, text: &str) {
@@ -60,9 +38,16 @@ fn values(rt: HostRuntime) {
         (0, 0, 12, 5, "5"),
     ];
     for (scale, reference, width, raw, text) in rows {
-        let value = quantity(&rt, scale, reference, width, raw)
-            .value()
-            .expect(&rt, text);
+        let mut quantity = field(
+            &rt,
+            (0, 12, 101),
+            Kind::Quantity,
+            scale,
+            width,
+            Raw::Number(raw),
+        );
+        quantity.spec.reference = reference;
+        let value = quantity.value().expect(&rt, text);
         is_text(&rt, rt.alloc(), value, text);
     }
 }
@@ -86,14 +71,11 @@ fn decimals(rt: HostRuntime) {
     }
     let tiny = Decimal::new(1, 600).expect(&rt, "scale 600");
     let printed = format!(in rt.alloc(); "{tiny}").expect(&rt, "room");
-    same(&rt, printed.as_str().len(), 602);
-    same(
-        &rt,
-        Decimal::parse(printed.as_str().as_bytes(), 600),
-        Some(tiny),
-    );
-    assert!(rt; Decimal::new(0, 601).is_none());
-    assert!(rt; Decimal::new(0, -601).is_none());
+    let text = printed.as_str().as_bytes();
+    same(&rt, text.len(), 602);
+    same(&rt, Decimal::parse(text, 600), Some(tiny));
+    same(&rt, Decimal::new(0, 601), None);
+    same(&rt, Decimal::new(0, -601), None);
 }
 
 #[test]
@@ -109,69 +91,55 @@ fn many_decimals_in_octets(rt: HostRuntime) {
     }
 }
 
-/// Compares whether a field is missing.
-fn missing(rt: &impl Abort, field: Field, wanted: bool) {
-    same(rt, field.is_missing(), wanted);
-}
-
-/// Stops the test where a field has a value.
-fn no_value(rt: &impl Abort, field: Field) {
-    assert!(rt; field.value().is_none());
-}
-
+/// Kind, scale, width and number of a field, whose text is two octets of ones where no number is
+/// given; whether it is missing, and whether it has a value.
 #[test]
 fn missing_values(rt: HostRuntime) {
     let rows = [
-        (2, 16, 65535, true),
-        (2, 16, 65534, false),
-        (2, 17, 65535, false),
-        (0, 63, u64::MAX / 2, true),
-        (0, 1, 1, false),
+        (Kind::Quantity, 2, 16, Some(65535), true, false),
+        (Kind::Quantity, 2, 16, Some(65534), false, true),
+        (Kind::Quantity, 2, 17, Some(65535), false, true),
+        (Kind::Quantity, 0, 63, Some(u64::MAX / 2), true, false),
+        (Kind::Quantity, 0, 1, Some(1), false, true),
+        (Kind::Count, 0, 8, Some(255), false, true),
+        (Kind::Code, 0, 2, Some(3), true, false),
+        (Kind::Quantity, 601, 16, Some(1), false, false),
+        (Kind::Text, 0, 16, None, true, false),
+        (Kind::Text, 0, 24, None, false, false),
+        (Kind::Quantity, 0, 16, None, false, false),
+        (Kind::Text, 0, 8, Some(255), false, false),
+        (Kind::Text, 0, 8, Some(5), false, false),
     ];
-    for (scale, width, raw, wanted) in rows {
-        missing(&rt, quantity(&rt, scale, 0, width, raw), wanted);
+    for (kind, scale, width, number, is_missing, has_value) in rows {
+        let raw = match number {
+            Some(number) => Raw::Number(number),
+            None => Raw::Text(Items::from_vec([255, 255].to_vec(rt.alloc()).expect(&rt, "room"))),
+        };
+        let field = field(&rt, (0, 12, 101), kind, scale, width, raw);
+        same(
+            &rt,
+            (field.is_missing(), field.value().is_some()),
+            (is_missing, has_value),
+        );
     }
-    no_value(&rt, quantity(&rt, 2, 0, 16, 65535));
-    missing(
-        &rt,
-        field(&rt, Kind::Count, 0, 0, 8, Raw::Number(255)),
-        false,
-    );
-    missing(&rt, field(&rt, Kind::Code, 0, 0, 2, Raw::Number(3)), true);
-    no_value(&rt, quantity(&rt, 601, 0, 16, 1));
-}
-
-/// A field of this width whose text is two octets of ones.
-fn ones(rt: &impl Abort, alloc: Global, kind: Kind, width: u32) -> Field {
-    let text = Items::from_vec([255, 255].to_vec(alloc).expect(rt, "room"));
-    field(rt, kind, 0, 0, width, Raw::Text(text))
-}
-
-#[test]
-fn texts_are_no_values(rt: HostRuntime) {
-    let alloc = rt.alloc();
-    missing(&rt, ones(&rt, alloc, Kind::Text, 16), true);
-    missing(&rt, ones(&rt, alloc, Kind::Text, 24), false);
-    missing(&rt, ones(&rt, alloc, Kind::Quantity, 16), false);
-    missing(
-        &rt,
-        field(&rt, Kind::Text, 0, 0, 8, Raw::Number(255)),
-        false,
-    );
-    no_value(&rt, field(&rt, Kind::Text, 0, 0, 8, Raw::Number(5)));
-    no_value(&rt, ones(&rt, alloc, Kind::Quantity, 16));
 }
 
 #[test]
 fn faults_print_their_reason(rt: HostRuntime) {
     let fxy = Fxy::new(0, 12, 101).expect(&rt, "a descriptor");
-    let alloc = rt.alloc();
-    let range = ReadFault::EffectiveRange(fxy);
-    prints(&rt, alloc, &range, "V1 EffectiveRange 012101");
-    let ends = ReadFault::DataEnds(1, 8);
-    prints(&rt, alloc, &ends, "V2 DataEnds 1 8");
-    prints(&rt, alloc, &ReadFault::TooLarge, "V6 TooLarge");
-    let misfit = WriteFault::DoesNotFit(2, 1);
-    prints(&rt, alloc, &misfit, "E1 DoesNotFit 2 1");
-    prints(&rt, alloc, &WriteFault::TooLarge, "E3 TooLarge");
+    let rows = [
+        (ReadFault::EffectiveRange(fxy), "V1 EffectiveRange 012101"),
+        (ReadFault::DataEnds(1, 8), "V2 DataEnds 1 8"),
+        (ReadFault::TooLarge, "V6 TooLarge"),
+    ];
+    for (fault, text) in rows {
+        prints(&rt, rt.alloc(), &fault, text);
+    }
+    let rows = [
+        (WriteFault::DoesNotFit(2, 1), "E1 DoesNotFit 2 1"),
+        (WriteFault::TooLarge, "E3 TooLarge"),
+    ];
+    for (fault, text) in rows {
+        prints(&rt, rt.alloc(), &fault, text);
+    }
 }
