@@ -34,17 +34,17 @@ fn refuses(
     octets: &[u8],
     wanted: ReadFault,
 ) {
-    let wanted = Some(Failure::Fault(wanted));
+    let fault = Some(Failure::Fault(wanted));
     let template = template(rt, alloc, list);
     let mut reader = BitReader::new(octets);
     let found = read_subsets(alloc, &template, compressed, count, &mut reader).err();
-    same(rt, found, wanted);
+    same(rt, &found, &fault);
     if compressed {
         let found = Columns::index(alloc, &template, &mut reader, count).err();
-        same(rt, found, wanted);
+        same(rt, &found, &fault);
     }
     let found = SubsetIndex::index(alloc, template, compressed, &mut reader, count).err();
-    same(rt, found, wanted);
+    same(rt, &found, &fault);
     same(rt, reader.place(), 0);
 }
 
