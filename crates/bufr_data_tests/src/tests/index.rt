@@ -411,7 +411,7 @@ fn lends(rt: &impl Abort, alloc: Global, row: &Lent) {
     for wanted in subsets {
         assert!(rt; 1 <= number && number <= index.count());
         same(rt, index.lent(number), *wanted);
-        number += 1;
+        number = number.checked_add(1).expect(rt, "a number");
     }
 }
 
