@@ -22,7 +22,7 @@ FXY,ElementName_en,BUFR_Unit,BUFR_Scale,BUFR_ReferenceValue,BUFR_DataWidth_Bits
 ";
 
 /// Table D of the tests.
-const TABLE_D: &str = "\
+pub(crate) const TABLE_D: &str = "\
 FXY1,FXY2
 301001,001001
 301001,001002
@@ -34,13 +34,8 @@ FXY1,FXY2
 301250,301250
 ";
 
-/// The tables of the tests.
-pub(crate) fn tables(rt: &impl Abort, alloc: Global) -> Tables {
-    tables_of(rt, alloc, TABLE_D)
-}
-
 /// The tables of the tests with these sequences.
-pub(crate) fn tables_of(rt: &impl Abort, alloc: Global, sequences: &str) -> Tables {
+pub(crate) fn tables(rt: &impl Abort, alloc: Global, sequences: &str) -> Tables {
     let b = TableB::parse(alloc, TABLE_B.as_bytes()).expect(rt, "a table");
     let d = TableD::parse(alloc, sequences.as_bytes()).expect(rt, "a table");
     Tables::new(b, d)
@@ -66,14 +61,42 @@ fn digits_of(word: &str) -> &str {
     }
 }
 
-/// The octets of a text, so many zero octets, and section 5.
-pub(crate) fn with_zeros(rt: &impl Abort, alloc: Global, front: &str, zeros: usize) -> Vec<u8> {
+/// Numbers of two octets.
+#[derive(Clone, Copy)]
+pub(crate) struct Numbers {
+    /// The first.
+    pub(crate) first: u16,
+    /// How much greater each is than the one before it.
+    pub(crate) step: u16,
+    /// How many there are.
+    pub(crate) count: u32,
+}
+
+/// The octets of a text, these numbers, and section 5.
+pub(crate) fn with_numbers(
+    rt: &impl Abort,
+    alloc: Global,
+    front: &str,
+    numbers: Numbers,
+) -> Vec<u8> {
     let mut all = octets(rt, alloc, front);
-    for _ in 0..zeros {
-        all.push(0).expect(rt, "room");
+    let mut number = numbers.first;
+    for _ in 0..numbers.count {
+        all.extend_from_slice(number.to_be_bytes().as_slice())
+            .expect(rt, "room");
+        number = number.wrapping_add(numbers.step);
     }
     all.extend_from_slice(b"7777").expect(rt, "room");
     all
+}
+
+/// So many numbers of two zero octets.
+pub(crate) fn zeros(count: u32) -> Numbers {
+    Numbers {
+        first: 0,
+        step: 0,
+        count,
+    }
 }
 
 /// One plain subset of eight elements: 70 octets.
@@ -185,3 +208,99 @@ pub(crate) const COMPRESSED_PAIR: &str = "\
 /// Texts of three characters, compressed, the first filled with a space, the second missing.
 pub(crate) const COMPRESSED_TEXTS: &str = "\
 42554652 000039 04 | S1 | 00000B 00 0002 C0 8803 010B | 00000C 00 00000009050BFFFC | END";
+
+/// Two subsets whose temperatures are 27315 and 27316, whose increments need two bits.
+pub(crate) const COMPRESSED_INCREMENTS: &str = "\
+42554652 000044 04 | S1 | 00000F 00 0002 C0 C101 C10B C10C 0C65
+| 000013 00 14030003F400201E03000006AB3084 | END";
+
+/// Two subsets of a factor of 0, whose increments are there and agree.
+pub(crate) const COMPRESSED_FACTOR: &str = "\
+42554652 000035 04 | S1 | 00000D 00 0002 C0 4100 1F01 0C65 | 000006 00 0004 | END";
+
+/// The same without increments: what is written for it.
+pub(crate) const FACTOR_WRITTEN: &str = "\
+42554652 000035 04 | S1 | 00000D 00 0002 C0 4100 1F01 0C65 | 000006 00 0000 | END";
+
+/// An element of one bit that is no factor, 0 and 1.
+pub(crate) const COMPRESSED_NOT_A_FACTOR: &str = "\
+42554652 000031 04 | S1 | 000009 00 0002 C0 1F00 | 000006 00 0280 | END";
+
+/// No subset, compressed and observed.
+pub(crate) const NO_COMPRESSED_SUBSETS: &str =
+    "42554652 000035 04 | S1 | 00000F 00 0000 C0 C101 C10B C10C 0C65 | 000004 00 | END";
+
+/// No subset, compressed and not observed.
+pub(crate) const NO_SUBSETS_UNOBSERVED: &str =
+    "42554652 000035 04 | S1 | 00000F 00 0000 40 C101 C10B C10C 0C65 | 000004 00 | END";
+
+/// One temperature.
+pub(crate) const TEMPERATURE: &str =
+    "42554652 000031 04 | S1 | 000009 00 0001 80 0C65 | 000006 00 6AB3 | END";
+
+/// A sequence of two numbers under the tables of the tests, and of one under others.
+pub(crate) const SEQUENCE: &str =
+    "42554652 000032 04 | S1 | 000009 00 0001 80 C101 | 000007 00 14C000 | END";
+
+/// Tables under which the sequence is one temperature.
+pub(crate) const OTHER_TABLE_D: &str = "\
+FXY1,FXY2
+301001,012101
+";
+
+/// Edition 3, of the 15th of January 2024, 12:00: section 1 has 18 octets, one of them for local
+/// use.
+pub(crate) const EDITION_3: &str = "\
+42554652 00003C 03 | 000012 00 00 62 00 00 00 02 0D 00 18 01 0F 0C 00 00 |
+000010 00 0001 80 C101 C10B C10C 0C65 00 | 00000E 00 14C03F409EC01AACC0 00 | END";
+
+/// What is written for it: edition 4 with the octet for local use.
+pub(crate) const EDITION_3_WRITTEN: &str = "\
+42554652 00003F 04 | 000017 00 0062 0000 00 00 00 FF 02 0D 00 07E8 01 0F 0C 00 00 00 |
+00000F 00 0001 80 C101 C10B C10C 0C65 | 00000D 00 14C03F409EC01AACC0 | END";
+
+/// Each of 301201 to 301215 holds the next descriptor twice, and 301216 holds 031000 twice.
+pub(crate) const DOUBLING: &str = "\
+FXY1,FXY2
+301201,301202
+301201,301202
+301202,301203
+301202,301203
+301203,301204
+301203,301204
+301204,301205
+301204,301205
+301205,301206
+301205,301206
+301206,301207
+301206,301207
+301207,301208
+301207,301208
+301208,301209
+301208,301209
+301209,301210
+301209,301210
+301210,301211
+301210,301211
+301211,301212
+301211,301212
+301212,301213
+301212,301213
+301213,301214
+301213,301214
+301214,301215
+301214,301215
+301215,301216
+301215,301216
+301216,031000
+301216,031000
+";
+
+/// Under which tables something is done.
+#[derive(Clone, Copy)]
+pub(crate) enum Under {
+    /// Those of the tests.
+    Here,
+    /// Those with other sequences.
+    There,
+}

@@ -1,190 +1,163 @@
-//! Messages written with templates that are kept: lists of descriptors that take turns, that differ
-//! at their end, that are refused, and under other tables. Octets and reasons are typed from the
-//! rules of the format.
+//! Views under tables that stay: lists of descriptors that take turns, that are refused, and under
+//! other tables. Octets and answers are typed from the rules of the format.
 
-use super::calls::{assert_octets, message_of, reason};
+use super::calls::{assert_number, reason};
 use super::same;
+use super::samples::Under::{Here, There};
 use super::samples::*;
-use bufr_message::{Fxy, Items, KeptTemplates, Message, Tables, keep_and_encode};
+use super::shown::assert_own;
+use bufr_message::{Templates, View};
 use std::alloc::Global;
 use std::process::Abort;
 
-/// The message is written as these octets.
-fn assert_kept(
+/// How a text is answered.
+#[derive(Clone, Copy)]
+enum Answer<'a> {
+    /// It is viewed: so many subsets, the last with this canonical message.
+    Viewed(usize, &'a str),
+    /// It is refused for this reason.
+    Refused(&'a str),
+    /// It is viewed as one subset of so many fields, the first with this number.
+    Fields(usize, u64),
+}
+
+/// The first number of the only subset of a view of so many fields is this one.
+fn assert_fields(rt: &impl Abort, alloc: Global, found: &View<'_>, fields: usize, first: u64) {
+    assert!(rt; found.count() == 1);
+    let subset = found.subset(alloc, 1).expect(rt, "room");
+    same(rt, SEQUENCE, subset.fields.len(), fields);
+    let field = subset.fields.get(0).expect(rt, "field");
+    assert_number(rt, SEQUENCE, field, first);
+}
+
+/// A view is answered so.
+fn assert_view(rt: &impl Abort, alloc: Global, found: &View<'_>, answer: Answer<'_>) {
+    match answer {
+        Answer::Viewed(count, last) => {
+            same(rt, last, found.count(), count);
+            assert_own(rt, alloc, found, count, last);
+        }
+        Answer::Fields(fields, first) => assert_fields(rt, alloc, found, fields, first),
+        Answer::Refused(wanted) => same(rt, wanted, "viewed", wanted),
+    }
+}
+
+/// The octets of a text are answered so.
+fn assert_answer(
     rt: &impl Abort,
     alloc: Global,
-    templates: &mut KeptTemplates<'_>,
-    message: &Message,
-    wanted: &str,
+    templates: &mut Templates<'_>,
+    text: &str,
+    answer: Answer<'_>,
 ) {
-    let found = keep_and_encode(alloc, templates, message).expect(rt, "octets");
-    assert_octets(rt, alloc, found.as_slice(), wanted);
+    let all = octets(rt, alloc, text);
+    let found = templates.view(alloc, all.as_slice());
+    if let Answer::Refused(wanted) = answer {
+        let found = reason(rt, alloc, found, "viewed");
+        same(rt, text, found.as_str(), wanted);
+    } else {
+        assert_view(rt, alloc, &found.expect(rt, "a view"), answer);
+    }
 }
 
-/// The message is refused for this reason.
-fn assert_refused(
+/// Under which tables a text is viewed, the text, and how it is answered.
+type Row<'a> = (Under, &'a str, Answer<'a>);
+
+/// Each is answered in turn, and so again.
+fn assert_rows(
     rt: &impl Abort,
     alloc: Global,
-    templates: &mut KeptTemplates<'_>,
-    message: &Message,
-    wanted: &str,
+    here: &mut Templates<'_>,
+    there: &mut Templates<'_>,
+    rows: &[Row<'_>],
 ) {
-    let answer = keep_and_encode(alloc, templates, message);
-    let found = reason(rt, alloc, answer, "written");
-    same(rt, found.as_str(), wanted);
-}
-
-/// What the octets of a text are read as is written as these octets.
-fn assert_again(rt: &impl Abort, alloc: Global, templates: &mut KeptTemplates<'_>, text: &str) {
-    let message = message_of(rt, alloc, text);
-    assert_kept(rt, alloc, templates, &message, text);
-}
-
-/// Each is written as it was, in turn, three times.
-fn assert_each(rt: &impl Abort, alloc: Global, templates: &mut KeptTemplates<'_>, texts: &[&str]) {
-    for _ in 0..3 {
-        for text in texts {
-            assert_again(rt, alloc, templates, text);
+    for _ in 0..2 {
+        for (under, text, answer) in rows {
+            match under {
+                Here => assert_answer(rt, alloc, here, text, *answer),
+                There => assert_answer(rt, alloc, there, text, *answer),
+            }
         }
     }
 }
 
-/// The same under the tables of the tests.
-fn assert_in_turn(rt: &impl Abort, alloc: Global, texts: &[&str]) {
-    let tables = tables(rt, alloc);
-    let mut templates = KeptTemplates::new(alloc, &tables);
-    assert_each(rt, alloc, &mut templates, texts);
+/// The same, where nothing is kept before.
+fn assert_in_turn(rt: &impl Abort, alloc: Global, rows: &[Row<'_>]) {
+    let here = tables(rt, alloc, TABLE_D);
+    let there = tables(rt, alloc, OTHER_TABLE_D);
+    let mut here = Templates::new(alloc, &here);
+    let mut there = Templates::new(alloc, &there);
+    assert_rows(rt, alloc, &mut here, &mut there, rows);
 }
 
-/// Five lists, two of them twice.
-const FIVE_LISTS: [&str; 7] = [
-    ELEMENTS_ONLY,
-    SEQUENCES,
-    DELAYED_COUNT_1,
-    REPLACED_WIDTH,
-    OPERATORS,
-    MISSING_TEMPERATURE,
-    DELAYED_COUNT_0,
-];
-
-#[test]
-fn five_lists_written_in_turn(rt: HostRuntime) {
-    assert_in_turn(&rt, rt.alloc(), &FIVE_LISTS);
-}
-
-/// One list.
-const ONE_LIST: [&str; 5] = [
-    SEQUENCES,
-    MISSING_TEMPERATURE,
-    UNOBSERVED,
-    EMPTY_SECTION_2,
-    NO_SUBSETS,
-];
-
-#[test]
-fn one_list_written_again(rt: HostRuntime) {
-    assert_in_turn(&rt, rt.alloc(), &ONE_LIST);
-}
-
-/// A block number and a station number.
-const TWO_NUMBERS: &str =
+/// The first two elements of `ELEMENTS_ONLY` alone.
+const TWO_ELEMENTS: &str =
     "42554652 000034 04 | S1 | 00000B 00 0001 80 0101 0102 | 000007 00 14C000 | END";
 
-/// A block number and a temperature.
-const NUMBER_AND_TEMPERATURE: &str =
-    "42554652 000034 04 | S1 | 00000B 00 0001 80 0101 0C65 | 000007 00 14D566 | END";
+/// An element of no table, with no data.
+const UNKNOWN: &str = "42554652 000031 04 | S1 | 00000B 00 0001 80 0C65 01FA | 000004 00 | END";
 
-/// A block number alone.
-const NUMBER: &str = "42554652 000030 04 | S1 | 000009 00 0001 80 0101 | 000005 00 14 | END";
+/// The data of the second of two temperatures are not there.
+const DATA_END: &str = "42554652 000031 04 | S1 | 000009 00 0002 80 0C65 | 000006 00 6AB3 | END";
+
+/// Lists of which three are kept.
+const THREE_LISTS: &[Row<'static>] = &[
+    (Here, SEQUENCES, Answer::Viewed(1, SEQUENCES)),
+    (Here, UNEQUAL_COUNTS, Answer::Viewed(2, DELAYED_COUNT_1)),
+    (Here, OPERATORS, Answer::Viewed(1, OPERATORS)),
+    (
+        Here,
+        COMPRESSED_PAIR,
+        Answer::Viewed(2, MISSING_TEMPERATURE),
+    ),
+    (Here, DELAYED_COUNT_0, Answer::Viewed(1, DELAYED_COUNT_0)),
+    (Here, OPERATORS, Answer::Viewed(1, OPERATORS)),
+    (
+        Here,
+        MISSING_TEMPERATURE,
+        Answer::Viewed(1, MISSING_TEMPERATURE),
+    ),
+    (Here, SEQUENCES, Answer::Viewed(1, SEQUENCES)),
+];
+
+/// Five lists.
+const FIVE_LISTS: &[Row<'static>] = &[
+    (Here, ELEMENTS_ONLY, Answer::Viewed(1, ELEMENTS_ONLY)),
+    (Here, TWO_ELEMENTS, Answer::Viewed(1, TWO_ELEMENTS)),
+    (Here, DELAYED_COUNT_1, Answer::Viewed(1, DELAYED_COUNT_1)),
+    (Here, REPLACED_WIDTH, Answer::Viewed(1, REPLACED_WIDTH)),
+    (Here, OPERATORS, Answer::Viewed(1, OPERATORS)),
+    (
+        Here,
+        LOCAL_OCTETS_AND_SLACK,
+        Answer::Viewed(1, ELEMENTS_ONLY),
+    ),
+    (Here, DELAYED_COUNT_0, Answer::Viewed(1, DELAYED_COUNT_0)),
+];
+
+/// Lists and data that are refused between others.
+const REFUSED_BETWEEN_OTHERS: &[Row<'static>] = &[
+    (Here, SEQUENCES, Answer::Viewed(1, SEQUENCES)),
+    (Here, UNKNOWN, Answer::Refused("X1 UnknownElement 001250")),
+    (Here, SEQUENCES, Answer::Viewed(1, SEQUENCES)),
+    (Here, DATA_END, Answer::Refused("V2 DataEnds 2 1")),
+    (Here, TEMPERATURE, Answer::Viewed(1, TEMPERATURE)),
+];
+
+/// One list, a sequence of 17 bits under the tables of the tests, and of 16 under others.
+const UNDER_TWO_TABLES: &[Row<'static>] = &[
+    (Here, SEQUENCE, Answer::Fields(2, 10)),
+    (There, SEQUENCE, Answer::Fields(1, 0x14C0)),
+];
 
 #[test]
-fn lists_that_differ_at_their_end_written(rt: HostRuntime) {
-    let texts = [TWO_NUMBERS, NUMBER_AND_TEMPERATURE, NUMBER];
-    assert_in_turn(&rt, rt.alloc(), &texts);
-}
-
-/// The message of two numbers with the list of one descriptor, or of none.
-fn with_list(rt: &impl Abort, alloc: Global, only: Option<Fxy>) -> Message {
-    let message = message_of(rt, alloc, TWO_NUMBERS);
-    let mut list = Vec::new(alloc);
-    if let Some(fxy) = only {
-        list.push(fxy).expect(rt, "room");
-    }
-    Message {
-        descriptors: Items::from_vec(list),
-        ..message
-    }
-}
-
-/// With this list the message of two numbers is refused so, twice, and others are written.
-fn assert_refused_between(
-    rt: &impl Abort,
-    alloc: Global,
-    templates: &mut KeptTemplates<'_>,
-    only: Option<Fxy>,
-    wanted: &str,
-) {
-    let message = with_list(rt, alloc, only);
-    for _ in 0..2 {
-        assert_again(rt, alloc, templates, TWO_NUMBERS);
-        assert_refused(rt, alloc, templates, &message, wanted);
-        assert_again(rt, alloc, templates, NUMBER);
-    }
-}
-
-/// No descriptor, an element of no table, and an element of 16 bits in place of one of 7.
-fn assert_each_refused(rt: &impl Abort, alloc: Global, templates: &mut KeptTemplates<'_>) {
-    for (only, wanted) in [
-        (None, "E4 NoDescriptors"),
-        (Fxy::new(0, 1, 250), "X1 UnknownElement 001250"),
-        (Fxy::new(0, 12, 101), "E1 DoesNotFit 1 1"),
+fn lists_in_turn(rt: HostRuntime) {
+    for rows in [
+        THREE_LISTS,
+        FIVE_LISTS,
+        REFUSED_BETWEEN_OTHERS,
+        UNDER_TWO_TABLES,
     ] {
-        assert_refused_between(rt, alloc, templates, only, wanted);
+        assert_in_turn(&rt, rt.alloc(), rows);
     }
-}
-
-#[test]
-fn refused_between_written(rt: HostRuntime) {
-    let alloc = rt.alloc();
-    let tables = tables(&rt, alloc);
-    let mut templates = KeptTemplates::new(alloc, &tables);
-    assert_each_refused(&rt, alloc, &mut templates);
-}
-
-/// A sequence of two numbers under the tables of the tests.
-const SEQUENCE: &str = "42554652 000032 04 | S1 | 000009 00 0001 80 C101 | 000007 00 14C000 | END";
-
-/// Tables under which the sequence is one temperature.
-const OTHER_TABLE_D: &str = "\
-FXY1,FXY2
-301001,012101
-";
-
-/// The message of the sequence is written here and refused there, and so again.
-fn assert_in_both(
-    rt: &impl Abort,
-    alloc: Global,
-    here: &mut KeptTemplates<'_>,
-    there: &mut KeptTemplates<'_>,
-    message: &Message,
-) {
-    for _ in 0..2 {
-        assert_kept(rt, alloc, here, message, SEQUENCE);
-        assert_refused(rt, alloc, there, message, "E1 DoesNotFit 1 1");
-    }
-}
-
-/// The same under these tables and those.
-fn assert_both(rt: &impl Abort, alloc: Global, here: &Tables, there: &Tables) {
-    let mut here = KeptTemplates::new(alloc, here);
-    let mut there = KeptTemplates::new(alloc, there);
-    let message = message_of(rt, alloc, SEQUENCE);
-    assert_in_both(rt, alloc, &mut here, &mut there, &message);
-}
-
-#[test]
-fn one_list_written_under_two_tables(rt: HostRuntime) {
-    let here = tables(&rt, rt.alloc());
-    let there = tables_of(&rt, rt.alloc(), OTHER_TABLE_D);
-    assert_both(&rt, rt.alloc(), &here, &there);
 }
