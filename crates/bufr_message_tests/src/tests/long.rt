@@ -91,7 +91,8 @@ const LONG: &[Long<'static>] = &[
     },
 ];
 
-/// The message has so many subsets and fields, with these numbers at both ends, none missing.
+/// The message has so many subsets and fields, with these numbers at both ends, the first
+/// of which is not missing.
 fn assert_ends(rt: &impl Abort, message: &Message, long: &Long<'_>) {
     same(rt, long.front, message.subsets.len(), long.subsets);
     let subset = message.subsets.get(0).expect(rt, "subset");

@@ -6,7 +6,7 @@ use super::same;
 use super::samples::*;
 use bufr_answers::Items;
 use bufr_data::Subset;
-use bufr_message::{Decoded, Message, ReportHead};
+use bufr_message::{Decoded, Message, Report, ReportHead};
 use bufr_tables::Fxy;
 use std::alloc::Global;
 use std::process::Abort;
@@ -154,12 +154,23 @@ fn assert_elements(rt: &impl Abort, alloc: Global, message: &Message, plain: &Pl
     same(rt, plain.text, &elements, &list);
 }
 
+/// The only report has the same head, flag and numbers.
+fn assert_report(rt: &impl Abort, reports: &[Report], plain: &Plain<'_>) {
+    same(rt, plain.text, reports.len(), 1);
+    let report = reports.first().expect(rt, "report");
+    same(rt, plain.text, &report.head, &plain.head);
+    same(rt, plain.text, report.observed, true);
+    assert_subset(rt, plain.text, &report.subset, plain.numbers);
+}
+
 /// The octets are read so.
 fn assert_plain(rt: &impl Abort, alloc: Global, plain: &Plain<'_>) {
     let found = read(rt, alloc, plain.text);
     same(rt, plain.text, found.slack_octets, plain.slack);
     assert_sections(rt, alloc, &found.message, plain);
     assert_elements(rt, alloc, &found.message, plain);
+    let reports = reports_of(rt, alloc, found.message);
+    assert_report(rt, reports.as_slice(), plain);
 }
 
 #[test]

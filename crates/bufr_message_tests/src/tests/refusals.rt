@@ -181,8 +181,7 @@ const LONGEST: &str = "\
 42554652 FFFFFF 03 | 000011 00 00 62 00 00 00 02 0D 00 18 01 0F 0C 00 |
 00001F 00 0001 80 42FF 41FF 85FF 41FF 85FF 41FF 85FF 41FF 85FF 85FF 85FF 85BF | FFFFC3 00 00";
 
-/// The same with five characters less: its canonical message is the
-/// longest.
+/// The same with five characters less: its canonical message is the longest.
 const LONGEST_READ: &str = "\
 42554652 FFFFFA 03 | 000011 00 00 62 00 00 00 02 0D 00 18 01 0F 0C 00 |
 00001F 00 0001 80 42FF 41FF 85FF 41FF 85FF 41FF 85FF 41FF 85FF 85FF 85FF 85BA | FFFFBE 00";
