@@ -12,22 +12,21 @@ use std::alloc::Global;
 use std::fmt::Display;
 use std::process::Abort;
 
+/// What octets are read as under tables with these sequences.
+pub(crate) fn read_under(rt: &impl Abort, alloc: Global, sequences: &str, all: &[u8]) -> Decoded {
+    let tables = tables(rt, alloc, sequences);
+    decode(alloc, &tables, all).expect(rt, "a message")
+}
+
 /// What octets are read as.
 pub(crate) fn read_octets(rt: &impl Abort, alloc: Global, all: &[u8]) -> Decoded {
-    let tables = tables(rt, alloc, TABLE_D);
-    decode(alloc, &tables, all).expect(rt, "a message")
+    read_under(rt, alloc, TABLE_D, all)
 }
 
 /// What the octets of a text are read as.
 pub(crate) fn read(rt: &impl Abort, alloc: Global, text: &str) -> Decoded {
     let all = octets(rt, alloc, text);
     read_octets(rt, alloc, all.as_slice())
-}
-
-/// The octets that are written for a message.
-pub(crate) fn written(rt: &impl Abort, alloc: Global, message: &Message) -> Vec<u8> {
-    let tables = tables(rt, alloc, TABLE_D);
-    encode(alloc, &tables, message).expect(rt, "octets")
 }
 
 /// The reports of a message.
@@ -61,9 +60,10 @@ pub(crate) fn assert_octets(rt: &impl Abort, alloc: Global, found: &[u8], wanted
 }
 
 /// The message is written as these octets.
-pub(crate) fn assert_written(rt: &impl Abort, alloc: Global, message: &Message, wanted: &str) {
-    let found = written(rt, alloc, message);
-    assert_octets(rt, alloc, found.as_slice(), wanted);
+pub(crate) fn assert_written(rt: &impl Abort, alloc: Global, message: &Message, wanted: &[u8]) {
+    let tables = tables(rt, alloc, TABLE_D);
+    let found = encode(alloc, &tables, message).expect(rt, "octets");
+    same(rt, "octets", found.as_slice(), wanted);
 }
 
 /// The list of these descriptors.

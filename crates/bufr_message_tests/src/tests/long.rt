@@ -1,10 +1,10 @@
-//! Long messages, read and written again, and their reports. Octets and numbers are typed from the
+//! Long messages that are read, their reports, and one that is written again. Octets and numbers are typed from the
 //! rules of the format.
 
 use super::calls::*;
 use super::same;
 use super::samples::*;
-use bufr_message::{Message, Report, decode, encode};
+use bufr_message::{Message, Report};
 use std::alloc::Global;
 use std::process::Abort;
 
@@ -105,15 +105,12 @@ fn assert_ends(rt: &impl Abort, message: &Message, long: &Long<'_>) {
     assert_number(rt, long.front, last, long.last);
 }
 
-/// The octets are read so, with no slack, and written again.
+/// The octets are read so, with no slack.
 fn assert_long(rt: &impl Abort, alloc: Global, long: &Long<'_>) {
     let all = with_numbers(rt, alloc, long.front, long.numbers);
-    let tables = tables(rt, alloc, long.sequences);
-    let found = decode(alloc, &tables, all.as_slice()).expect(rt, "a message");
+    let found = read_under(rt, alloc, long.sequences, all.as_slice());
     same(rt, long.front, found.slack_octets, 0);
     assert_ends(rt, &found.message, long);
-    let again = encode(alloc, &tables, &found.message).expect(rt, "octets");
-    same(rt, long.front, again.as_slice(), all.as_slice());
 }
 
 #[test]
@@ -147,64 +144,72 @@ fn long_message(rt: HostRuntime) {
     let found = read_octets(&rt, rt.alloc(), all.as_slice());
     same(&rt, "slack", found.slack_octets, 0);
     assert_texts(&rt, &found.message);
-    let again = written(&rt, rt.alloc(), &found.message);
-    same(&rt, "octets", again.as_slice(), all.as_slice());
+    assert_written(&rt, rt.alloc(), &found.message, all.as_slice());
 }
 
 /// The front of a message of one plain subset of one temperature: 49 octets.
 const ONE_FRONT: &str = "42554652 000031 04 | S1 | 000009 00 0001 80 0C65 | 000006 00";
 
-/// The report has one field of this number, and the canonical message of such a subset.
-fn assert_report(rt: &impl Abort, alloc: Global, report: &Report, number: u16) {
-    let fields = &report.subset.fields;
-    same(rt, "fields", fields.len(), 1);
-    let field = fields.get(0).expect(rt, "field");
-    assert_number(rt, "a report", field, u64::from(number));
-    let numbers = Numbers {
-        first: number,
-        step: 0,
-        count: 1,
-    };
-    let wanted = with_numbers(rt, alloc, ONE_FRONT, numbers);
-    let found = canonical_of(rt, alloc, report);
-    same(rt, "canonical", found.as_slice(), wanted.as_slice());
-}
-
-#[test]
-fn reports_of_a_thousand_subsets(rt: HostRuntime) {
-    let all = with_numbers(&rt, rt.alloc(), THOUSAND_FRONT, THOUSAND);
-    let found = read_octets(&rt, rt.alloc(), all.as_slice());
-    let reports = reports_of(&rt, rt.alloc(), found.message);
-    same(&rt, "reports", reports.len(), 1000);
-    let mut number = 20_000_u16;
-    for report in reports.as_slice() {
-        assert_report(&rt, rt.alloc(), report, number);
-        number = number.saturating_add(1);
-    }
-}
-
 /// The front of a message of one subset of 255 times 150 temperatures: 76,551 octets.
 const FIELDS_FRONT: &str = "42554652 012B07 04 | S1 | 00000D 00 0001 80 4296 41FF 0C65 | 012AD8 00";
 
-/// The only report has these octets, of more than 65,536, as its canonical message.
-fn assert_alone(rt: &impl Abort, alloc: Global, reports: &[Report], wanted: &[u8]) {
-    same(rt, "octets", wanted.len(), 76_551);
-    same(rt, "reports", reports.len(), 1);
-    let report = reports.first().expect(rt, "report");
-    same(rt, "fields", report.subset.fields.len(), 38_250);
+/// Its numbers.
+const FIELDS: Numbers = Numbers {
+    first: 0,
+    step: 1,
+    count: 38_250,
+};
+
+/// The report has these numbers, and as its canonical message this front with them.
+fn assert_report(rt: &impl Abort, alloc: Global, report: &Report, front: &str, numbers: Numbers) {
+    let fields = report.subset.fields.len();
+    same(
+        rt,
+        front,
+        u64::try_from(fields).ok(),
+        Some(u64::from(numbers.count)),
+    );
+    let field = report.subset.fields.get(0).expect(rt, "field");
+    assert_number(rt, front, field, u64::from(numbers.first));
+    let wanted = with_numbers(rt, alloc, front, numbers);
     let found = canonical_of(rt, alloc, report);
-    same(rt, "canonical", found.as_slice(), wanted);
+    same(rt, front, found.as_slice(), wanted.as_slice());
 }
 
+/// The reports are so many, and have such canonical messages: the first number of each is one more
+/// than that of the report before it.
+fn assert_reports(
+    rt: &impl Abort,
+    alloc: Global,
+    reports: &[Report],
+    front: &str,
+    numbers: Numbers,
+) {
+    let mut numbers = numbers;
+    for report in reports {
+        assert_report(rt, alloc, report, front, numbers);
+        numbers.first = numbers.first.wrapping_add(1);
+    }
+}
+
+/// The front of a message, its numbers, how many reports it has, the front of the canonical message
+/// of each, and how many numbers that has. The last is longer than 65,536 octets.
+const REPORTED: &[(&str, Numbers, usize, &str, u32)] = &[
+    (THOUSAND_FRONT, THOUSAND, 1000, ONE_FRONT, 1),
+    (FIELDS_FRONT, FIELDS, 1, FIELDS_FRONT, 38_250),
+];
+
 #[test]
-fn canonical_message_of_many_fields(rt: HostRuntime) {
-    let numbers = Numbers {
-        first: 0,
-        step: 1,
-        count: 38_250,
-    };
-    let all = with_numbers(&rt, rt.alloc(), FIELDS_FRONT, numbers);
-    let found = read_octets(&rt, rt.alloc(), all.as_slice());
-    let reports = reports_of(&rt, rt.alloc(), found.message);
-    assert_alone(&rt, rt.alloc(), reports.as_slice(), all.as_slice());
+fn reports_of_long_messages(rt: HostRuntime) {
+    for (front, numbers, reports, alone, count) in REPORTED {
+        let all = with_numbers(&rt, rt.alloc(), front, *numbers);
+        let found = read_octets(&rt, rt.alloc(), all.as_slice());
+        let found = reports_of(&rt, rt.alloc(), found.message);
+        same(&rt, front, found.len(), *reports);
+        let numbers = Numbers {
+            count: *count,
+            ..*numbers
+        };
+        assert_reports(&rt, rt.alloc(), found.as_slice(), alone, numbers);
+    }
 }

@@ -295,12 +295,3 @@ FXY1,FXY2
 301216,031000
 301216,031000
 ";
-
-/// Under which tables something is done.
-#[derive(Clone, Copy)]
-pub(crate) enum Under {
-    /// Those of the tests.
-    Here,
-    /// Those with other sequences.
-    There,
-}

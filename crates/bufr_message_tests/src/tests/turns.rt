@@ -3,7 +3,6 @@
 
 use super::calls::{assert_number, reason};
 use super::same;
-use super::samples::Under::{Here, There};
 use super::samples::*;
 use super::shown::assert_own;
 use bufr_message::{Templates, View};
@@ -60,34 +59,23 @@ fn assert_answer(
     }
 }
 
-/// Under which tables a text is viewed, the text, and how it is answered.
-type Row<'a> = (Under, &'a str, Answer<'a>);
+/// A text, and how it is answered.
+type Row<'a> = (&'a str, Answer<'a>);
 
 /// Each is answered in turn, and so again.
-fn assert_rows(
-    rt: &impl Abort,
-    alloc: Global,
-    here: &mut Templates<'_>,
-    there: &mut Templates<'_>,
-    rows: &[Row<'_>],
-) {
+fn assert_rows(rt: &impl Abort, alloc: Global, templates: &mut Templates<'_>, rows: &[Row<'_>]) {
     for _ in 0..2 {
-        for (under, text, answer) in rows {
-            match under {
-                Here => assert_answer(rt, alloc, here, text, *answer),
-                There => assert_answer(rt, alloc, there, text, *answer),
-            }
+        for (text, answer) in rows {
+            assert_answer(rt, alloc, templates, text, *answer);
         }
     }
 }
 
-/// The same, where nothing is kept before.
-fn assert_in_turn(rt: &impl Abort, alloc: Global, rows: &[Row<'_>]) {
-    let here = tables(rt, alloc, TABLE_D);
-    let there = tables(rt, alloc, OTHER_TABLE_D);
-    let mut here = Templates::new(alloc, &here);
-    let mut there = Templates::new(alloc, &there);
-    assert_rows(rt, alloc, &mut here, &mut there, rows);
+/// The same under tables with these sequences, where nothing is kept before.
+fn assert_in_turn(rt: &impl Abort, alloc: Global, sequences: &str, rows: &[Row<'_>]) {
+    let tables = tables(rt, alloc, sequences);
+    let mut templates = Templates::new(alloc, &tables);
+    assert_rows(rt, alloc, &mut templates, rows);
 }
 
 /// The first two elements of `ELEMENTS_ONLY` alone.
@@ -102,62 +90,52 @@ const DATA_END: &str = "42554652 000031 04 | S1 | 000009 00 0002 80 0C65 | 00000
 
 /// Lists of which three are kept.
 const THREE_LISTS: &[Row<'static>] = &[
-    (Here, SEQUENCES, Answer::Viewed(1, SEQUENCES)),
-    (Here, UNEQUAL_COUNTS, Answer::Viewed(2, DELAYED_COUNT_1)),
-    (Here, OPERATORS, Answer::Viewed(1, OPERATORS)),
-    (
-        Here,
-        COMPRESSED_PAIR,
-        Answer::Viewed(2, MISSING_TEMPERATURE),
-    ),
-    (Here, DELAYED_COUNT_0, Answer::Viewed(1, DELAYED_COUNT_0)),
-    (Here, OPERATORS, Answer::Viewed(1, OPERATORS)),
-    (
-        Here,
-        MISSING_TEMPERATURE,
-        Answer::Viewed(1, MISSING_TEMPERATURE),
-    ),
-    (Here, SEQUENCES, Answer::Viewed(1, SEQUENCES)),
+    (SEQUENCES, Answer::Viewed(1, SEQUENCES)),
+    (UNEQUAL_COUNTS, Answer::Viewed(2, DELAYED_COUNT_1)),
+    (OPERATORS, Answer::Viewed(1, OPERATORS)),
+    (COMPRESSED_PAIR, Answer::Viewed(2, MISSING_TEMPERATURE)),
+    (DELAYED_COUNT_0, Answer::Viewed(1, DELAYED_COUNT_0)),
+    (OPERATORS, Answer::Viewed(1, OPERATORS)),
+    (MISSING_TEMPERATURE, Answer::Viewed(1, MISSING_TEMPERATURE)),
+    (SEQUENCES, Answer::Viewed(1, SEQUENCES)),
 ];
 
 /// Five lists.
 const FIVE_LISTS: &[Row<'static>] = &[
-    (Here, ELEMENTS_ONLY, Answer::Viewed(1, ELEMENTS_ONLY)),
-    (Here, TWO_ELEMENTS, Answer::Viewed(1, TWO_ELEMENTS)),
-    (Here, DELAYED_COUNT_1, Answer::Viewed(1, DELAYED_COUNT_1)),
-    (Here, REPLACED_WIDTH, Answer::Viewed(1, REPLACED_WIDTH)),
-    (Here, OPERATORS, Answer::Viewed(1, OPERATORS)),
-    (
-        Here,
-        LOCAL_OCTETS_AND_SLACK,
-        Answer::Viewed(1, ELEMENTS_ONLY),
-    ),
-    (Here, DELAYED_COUNT_0, Answer::Viewed(1, DELAYED_COUNT_0)),
+    (ELEMENTS_ONLY, Answer::Viewed(1, ELEMENTS_ONLY)),
+    (TWO_ELEMENTS, Answer::Viewed(1, TWO_ELEMENTS)),
+    (DELAYED_COUNT_1, Answer::Viewed(1, DELAYED_COUNT_1)),
+    (REPLACED_WIDTH, Answer::Viewed(1, REPLACED_WIDTH)),
+    (OPERATORS, Answer::Viewed(1, OPERATORS)),
+    (LOCAL_OCTETS_AND_SLACK, Answer::Viewed(1, ELEMENTS_ONLY)),
+    (DELAYED_COUNT_0, Answer::Viewed(1, DELAYED_COUNT_0)),
 ];
 
 /// Lists and data that are refused between others.
 const REFUSED_BETWEEN_OTHERS: &[Row<'static>] = &[
-    (Here, SEQUENCES, Answer::Viewed(1, SEQUENCES)),
-    (Here, UNKNOWN, Answer::Refused("X1 UnknownElement 001250")),
-    (Here, SEQUENCES, Answer::Viewed(1, SEQUENCES)),
-    (Here, DATA_END, Answer::Refused("V2 DataEnds 2 1")),
-    (Here, TEMPERATURE, Answer::Viewed(1, TEMPERATURE)),
+    (SEQUENCES, Answer::Viewed(1, SEQUENCES)),
+    (UNKNOWN, Answer::Refused("X1 UnknownElement 001250")),
+    (SEQUENCES, Answer::Viewed(1, SEQUENCES)),
+    (DATA_END, Answer::Refused("V2 DataEnds 2 1")),
+    (TEMPERATURE, Answer::Viewed(1, TEMPERATURE)),
 ];
 
-/// One list, a sequence of 17 bits under the tables of the tests, and of 16 under others.
-const UNDER_TWO_TABLES: &[Row<'static>] = &[
-    (Here, SEQUENCE, Answer::Fields(2, 10)),
-    (There, SEQUENCE, Answer::Fields(1, 0x14C0)),
-];
+/// A sequence of 17 bits under the tables of the tests.
+const HERE: &[Row<'static>] = &[(SEQUENCE, Answer::Fields(2, 10))];
+
+/// The same one of 16 bits under others.
+const THERE: &[Row<'static>] = &[(SEQUENCE, Answer::Fields(1, 0x14C0))];
 
 #[test]
 fn lists_in_turn(rt: HostRuntime) {
-    for rows in [
-        THREE_LISTS,
-        FIVE_LISTS,
-        REFUSED_BETWEEN_OTHERS,
-        UNDER_TWO_TABLES,
+    for (sequences, rows) in [
+        (TABLE_D, THREE_LISTS),
+        (TABLE_D, FIVE_LISTS),
+        (TABLE_D, REFUSED_BETWEEN_OTHERS),
+        (TABLE_D, HERE),
+        (OTHER_TABLE_D, THERE),
+        (TABLE_D, HERE),
     ] {
-        assert_in_turn(&rt, rt.alloc(), rows);
+        assert_in_turn(&rt, rt.alloc(), sequences, rows);
     }
 }

@@ -47,7 +47,8 @@ const AGAIN: &[(&str, &str)] = &[
 /// What is read of octets is written as these octets.
 fn assert_again(rt: &impl Abort, alloc: Global, text: &str, wanted: &str) {
     let found = read(rt, alloc, text);
-    assert_written(rt, alloc, &found.message, wanted);
+    let wanted = octets(rt, alloc, wanted);
+    assert_written(rt, alloc, &found.message, wanted.as_slice());
 }
 
 #[test]
@@ -66,8 +67,9 @@ const COMPRESSED_ONE: &str = "\
 fn encode_compressed_one(rt: HostRuntime) {
     let mut message = read(&rt, rt.alloc(), SEQUENCES).message;
     message.compressed = true;
-    assert_written(&rt, rt.alloc(), &message, COMPRESSED_ONE);
-    let again = read(&rt, rt.alloc(), COMPRESSED_ONE);
+    let wanted = octets(&rt, rt.alloc(), COMPRESSED_ONE);
+    assert_written(&rt, rt.alloc(), &message, wanted.as_slice());
+    let again = read_octets(&rt, rt.alloc(), wanted.as_slice());
     same(&rt, "slack", again.slack_octets, 0);
     same(&rt, "message", again.message, message);
 }

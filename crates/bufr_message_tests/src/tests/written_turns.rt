@@ -4,7 +4,6 @@
 
 use super::calls::{assert_octets, list_of, read};
 use super::same;
-use super::samples::Under::{Here, There};
 use super::samples::*;
 use bufr_message::{KeptTemplates, Message, keep_and_encode};
 use std::alloc::Global;
@@ -27,15 +26,14 @@ fn assert_kept(
     }
 }
 
-/// Under which tables a message is written, the octets that it is read of under the tables of the
-/// tests, the list of descriptors that it is given in place of its own, and what is written for it
-/// or why it is refused.
-type Row<'a> = (Under, &'a str, Option<&'a [(u8, u8, u8)]>, &'a str);
+/// The octets that a message is read of, the list of descriptors that it is given in place of its
+/// own, and what is written for it or why it is refused.
+type Row<'a> = (&'a str, Option<&'a [(u8, u8, u8)]>, &'a str);
 
 /// The message of a row.
 fn message_of(rt: &impl Abort, alloc: Global, row: &Row<'_>) -> Message {
-    let mut message = read(rt, alloc, row.1).message;
-    if let Some(list) = row.2 {
+    let mut message = read(rt, alloc, row.0).message;
+    if let Some(list) = row.1 {
         message.descriptors = list_of(rt, alloc, list);
     }
     message
@@ -45,28 +43,22 @@ fn message_of(rt: &impl Abort, alloc: Global, row: &Row<'_>) -> Message {
 fn assert_rows(
     rt: &impl Abort,
     alloc: Global,
-    here: &mut KeptTemplates<'_>,
-    there: &mut KeptTemplates<'_>,
+    templates: &mut KeptTemplates<'_>,
     rows: &[Row<'_>],
 ) {
     for _ in 0..3 {
         for row in rows {
             let message = message_of(rt, alloc, row);
-            match row.0 {
-                Here => assert_kept(rt, alloc, here, &message, row.3),
-                There => assert_kept(rt, alloc, there, &message, row.3),
-            }
+            assert_kept(rt, alloc, templates, &message, row.2);
         }
     }
 }
 
-/// The same, where nothing is kept before.
-fn assert_in_turn(rt: &impl Abort, alloc: Global, rows: &[Row<'_>]) {
-    let here = tables(rt, alloc, TABLE_D);
-    let there = tables(rt, alloc, OTHER_TABLE_D);
-    let mut here = KeptTemplates::new(alloc, &here);
-    let mut there = KeptTemplates::new(alloc, &there);
-    assert_rows(rt, alloc, &mut here, &mut there, rows);
+/// The same under tables with these sequences, where nothing is kept before.
+fn assert_in_turn(rt: &impl Abort, alloc: Global, sequences: &str, rows: &[Row<'_>]) {
+    let tables = tables(rt, alloc, sequences);
+    let mut templates = KeptTemplates::new(alloc, &tables);
+    assert_rows(rt, alloc, &mut templates, rows);
 }
 
 /// A block number and a station number.
@@ -82,70 +74,66 @@ const NUMBER: &str = "42554652 000030 04 | S1 | 000009 00 0001 80 0101 | 000005 
 
 /// Five lists, two of them twice.
 const FIVE_LISTS: &[Row<'static>] = &[
-    (Here, ELEMENTS_ONLY, None, ELEMENTS_ONLY),
-    (Here, SEQUENCES, None, SEQUENCES),
-    (Here, DELAYED_COUNT_1, None, DELAYED_COUNT_1),
-    (Here, REPLACED_WIDTH, None, REPLACED_WIDTH),
-    (Here, OPERATORS, None, OPERATORS),
-    (Here, MISSING_TEMPERATURE, None, MISSING_TEMPERATURE),
-    (Here, DELAYED_COUNT_0, None, DELAYED_COUNT_0),
+    (ELEMENTS_ONLY, None, ELEMENTS_ONLY),
+    (SEQUENCES, None, SEQUENCES),
+    (DELAYED_COUNT_1, None, DELAYED_COUNT_1),
+    (REPLACED_WIDTH, None, REPLACED_WIDTH),
+    (OPERATORS, None, OPERATORS),
+    (MISSING_TEMPERATURE, None, MISSING_TEMPERATURE),
+    (DELAYED_COUNT_0, None, DELAYED_COUNT_0),
 ];
 
 /// One list.
 const ONE_LIST: &[Row<'static>] = &[
-    (Here, SEQUENCES, None, SEQUENCES),
-    (Here, MISSING_TEMPERATURE, None, MISSING_TEMPERATURE),
-    (Here, UNOBSERVED, None, UNOBSERVED),
-    (Here, EMPTY_SECTION_2, None, EMPTY_SECTION_2),
-    (Here, NO_SUBSETS, None, NO_SUBSETS),
+    (SEQUENCES, None, SEQUENCES),
+    (MISSING_TEMPERATURE, None, MISSING_TEMPERATURE),
+    (UNOBSERVED, None, UNOBSERVED),
+    (EMPTY_SECTION_2, None, EMPTY_SECTION_2),
+    (NO_SUBSETS, None, NO_SUBSETS),
 ];
 
 /// Lists that differ at their end.
 const OTHER_ENDS: &[Row<'static>] = &[
-    (Here, TWO_NUMBERS, None, TWO_NUMBERS),
-    (Here, NUMBER_AND_TEMPERATURE, None, NUMBER_AND_TEMPERATURE),
-    (Here, NUMBER, None, NUMBER),
+    (TWO_NUMBERS, None, TWO_NUMBERS),
+    (NUMBER_AND_TEMPERATURE, None, NUMBER_AND_TEMPERATURE),
+    (NUMBER, None, NUMBER),
 ];
 
 /// No descriptor, an element of no table, and an element of 16 bits in place of one of 7, between
 /// others.
 const REFUSED_BETWEEN: &[Row<'static>] = &[
-    (Here, TWO_NUMBERS, None, TWO_NUMBERS),
-    (Here, TWO_NUMBERS, Some(&[]), "E4 NoDescriptors"),
-    (Here, NUMBER, None, NUMBER),
-    (Here, TWO_NUMBERS, None, TWO_NUMBERS),
+    (TWO_NUMBERS, None, TWO_NUMBERS),
+    (TWO_NUMBERS, Some(&[]), "E4 NoDescriptors"),
+    (NUMBER, None, NUMBER),
+    (TWO_NUMBERS, None, TWO_NUMBERS),
     (
-        Here,
         TWO_NUMBERS,
         Some(&[(0, 1, 250)]),
         "X1 UnknownElement 001250",
     ),
-    (Here, NUMBER, None, NUMBER),
-    (Here, TWO_NUMBERS, None, TWO_NUMBERS),
-    (
-        Here,
-        TWO_NUMBERS,
-        Some(&[(0, 12, 101)]),
-        "E1 DoesNotFit 1 1",
-    ),
-    (Here, NUMBER, None, NUMBER),
+    (NUMBER, None, NUMBER),
+    (TWO_NUMBERS, None, TWO_NUMBERS),
+    (TWO_NUMBERS, Some(&[(0, 12, 101)]), "E1 DoesNotFit 1 1"),
+    (NUMBER, None, NUMBER),
 ];
 
-/// One list under two tables.
-const UNDER_TWO_TABLES: &[Row<'static>] = &[
-    (Here, SEQUENCE, None, SEQUENCE),
-    (There, SEQUENCE, None, "E1 DoesNotFit 1 1"),
-];
+/// A list that is written under the tables of the tests.
+const HERE: &[Row<'static>] = &[(SEQUENCE, None, SEQUENCE)];
+
+/// The same, which is refused under others.
+const THERE: &[Row<'static>] = &[(SEQUENCE, None, "E1 DoesNotFit 1 1")];
 
 #[test]
 fn lists_written_in_turn(rt: HostRuntime) {
-    for rows in [
-        FIVE_LISTS,
-        ONE_LIST,
-        OTHER_ENDS,
-        REFUSED_BETWEEN,
-        UNDER_TWO_TABLES,
+    for (sequences, rows) in [
+        (TABLE_D, FIVE_LISTS),
+        (TABLE_D, ONE_LIST),
+        (TABLE_D, OTHER_ENDS),
+        (TABLE_D, REFUSED_BETWEEN),
+        (TABLE_D, HERE),
+        (OTHER_TABLE_D, THERE),
+        (TABLE_D, HERE),
     ] {
-        assert_in_turn(&rt, rt.alloc(), rows);
+        assert_in_turn(&rt, rt.alloc(), sequences, rows);
     }
 }
