@@ -41,6 +41,28 @@ fn assert_view(rt: &impl Abort, alloc: Global, found: &View<'_>, answer: Answer<
     }
 }
 
+/// What octets are viewed as.
+fn viewed<'a>(
+    rt: &impl Abort,
+    alloc: Global,
+    templates: &mut Templates<'_>,
+    all: &'a [u8],
+) -> View<'a> {
+    templates.view(alloc, all).expect(rt, "a view")
+}
+
+/// The octets are refused for this reason.
+fn assert_refused(
+    rt: &impl Abort,
+    alloc: Global,
+    templates: &mut Templates<'_>,
+    all: &[u8],
+    wanted: &str,
+) {
+    let found = reason(rt, alloc, templates.view(alloc, all), "viewed");
+    same(rt, wanted, found.as_str(), wanted);
+}
+
 /// The octets of a text are answered so.
 fn assert_answer(
     rt: &impl Abort,
@@ -50,12 +72,11 @@ fn assert_answer(
     answer: Answer<'_>,
 ) {
     let all = octets(rt, alloc, text);
-    let found = templates.view(alloc, all.as_slice());
     if let Answer::Refused(wanted) = answer {
-        let found = reason(rt, alloc, found, "viewed");
-        same(rt, text, found.as_str(), wanted);
+        assert_refused(rt, alloc, templates, all.as_slice(), wanted);
     } else {
-        assert_view(rt, alloc, &found.expect(rt, "a view"), answer);
+        let found = viewed(rt, alloc, templates, all.as_slice());
+        assert_view(rt, alloc, &found, answer);
     }
 }
 
