@@ -1,0 +1,233 @@
+//! Tables, messages and their listings, typed from the rules of the formats.
+
+use bufr_tables::{TableB, TableD, Tables};
+use std::alloc::Global;
+use std::process::Abort;
+
+pub(super) const TABLE_B: &[u8] =
+    b"FXY,BUFR_Unit,BUFR_Scale,BUFR_ReferenceValue,BUFR_DataWidth_Bits\n\
+001001,Numeric,0,0,7\n\
+001002,Numeric,0,0,10\n\
+001011,CCITT IA5,0,0,72\n\
+002001,Code table,0,0,2\n\
+004001,a,0,0,12\n\
+004002,mon,0,0,4\n\
+004003,d,0,0,6\n\
+004004,h,0,0,5\n\
+004005,min,0,0,6\n\
+012101,K,2,0,16\n\
+031000,Numeric,0,0,1\n\
+031001,Numeric,0,0,8\n";
+
+pub(super) const TABLE_D: &[u8] = b"FXY1,FXY2\n\
+301001,001001\n\
+301001,001002\n\
+301011,004001\n\
+301011,004002\n\
+301011,004003\n\
+301012,004004\n\
+301012,004005\n";
+
+/// One plain subset of eight elements: 70 octets.
+pub(super) const ELEMENTS_ONLY: &[u8] = b"BUFR\x00\x00\x46\x04\
+\x00\x00\x16\x00\x00\x62\x00\x00\x00\x00\x00\x02\x00\x25\x00\x07\xE8\x01\x0F\x0C\x00\x00\
+\x00\x00\x17\x00\x00\x01\x80\x01\x01\x01\x02\x04\x01\x04\x02\x04\x03\x04\x04\x04\x05\x0C\x65\
+\x00\x00\x0D\x00\x14\xC0\x3F\x40\x9E\xC0\x1A\xAC\xC0\
+7777";
+
+/// Its listing: 236 octets.
+pub(super) const LISTING: &[u8] = b"message\n\
+section1 98 0 0 0 2 0 37 0\n\
+time 2024 1 15 12 0 0\n\
+flags observed\n\
+descriptors 001001 001002 004001 004002 004003 004004 004005 012101\n\
+subset\n\
+001001 10\n\
+001002 384\n\
+004001 2024\n\
+004002 1\n\
+004003 15\n\
+004004 12\n\
+004005 0\n\
+012101 273.15\n\
+end\n";
+
+/// The same without its last line: 232 octets.
+pub(super) const LISTING_WITHOUT_END: &[u8] = b"message\n\
+section1 98 0 0 0 2 0 37 0\n\
+time 2024 1 15 12 0 0\n\
+flags observed\n\
+descriptors 001001 001002 004001 004002 004003 004004 004005 012101\n\
+subset\n\
+001001 10\n\
+001002 384\n\
+004001 2024\n\
+004002 1\n\
+004003 15\n\
+004004 12\n\
+004005 0\n\
+012101 273.15\n";
+
+/// One plain subset of a station, a time and a temperature: 62 octets.
+pub(super) const SEQUENCES: &[u8] = b"BUFR\x00\x00\x3E\x04\
+\x00\x00\x16\x00\x00\x62\x00\x00\x00\x00\x00\x02\x00\x25\x00\x07\xE8\x01\x0F\x0C\x00\x00\
+\x00\x00\x0F\x00\x00\x01\x80\xC1\x01\xC1\x0B\xC1\x0C\x0C\x65\
+\x00\x00\x0D\x00\x14\xC0\x3F\x40\x9E\xC0\x1A\xAC\xC0\
+7777";
+
+pub(super) const SEQUENCES_LISTING: &[u8] = b"message\n\
+section1 98 0 0 0 2 0 37 0\n\
+time 2024 1 15 12 0 0\n\
+flags observed\n\
+descriptors 301001 301011 301012 012101\n\
+subset\n\
+001001 10\n\
+001002 384\n\
+004001 2024\n\
+004002 1\n\
+004003 15\n\
+004004 12\n\
+004005 0\n\
+012101 273.15\n\
+end\n";
+
+/// Two compressed subsets, the second without its temperature: 68 octets.
+pub(super) const COMPRESSED_PAIR: &[u8] = b"BUFR\x00\x00\x44\x04\
+\x00\x00\x16\x00\x00\x62\x00\x00\x00\x00\x00\x02\x00\x25\x00\x07\xE8\x01\x0F\x0C\x00\x00\
+\x00\x00\x0F\x00\x00\x02\xC0\xC1\x01\xC1\x0B\xC1\x0C\x0C\x65\
+\x00\x00\x13\x00\x14\x03\x00\x03\xF4\x00\x20\x1E\x03\x00\x00\x06\xAB\x30\x50\
+7777";
+
+pub(super) const COMPRESSED_PAIR_LISTING: &[u8] = b"message\n\
+section1 98 0 0 0 2 0 37 0\n\
+time 2024 1 15 12 0 0\n\
+flags observed compressed\n\
+descriptors 301001 301011 301012 012101\n\
+subset\n\
+001001 10\n\
+001002 384\n\
+004001 2024\n\
+004002 1\n\
+004003 15\n\
+004004 12\n\
+004005 0\n\
+012101 273.15\n\
+subset\n\
+001001 10\n\
+001002 384\n\
+004001 2024\n\
+004002 1\n\
+004003 15\n\
+004004 12\n\
+004005 0\n\
+012101 missing\n\
+end\n";
+
+/// Two plain subsets that repeat a temperature no time and once: 55 octets.
+pub(super) const UNEQUAL_COUNTS: &[u8] = b"BUFR\x00\x00\x37\x04\
+\x00\x00\x16\x00\x00\x62\x00\x00\x00\x00\x00\x02\x00\x25\x00\x07\xE8\x01\x0F\x0C\x00\x00\
+\x00\x00\x0D\x00\x00\x02\x80\x41\x00\x1F\x01\x0C\x65\
+\x00\x00\x08\x00\x00\x01\x6A\xB3\
+7777";
+
+pub(super) const UNEQUAL_COUNTS_LISTING: &[u8] = b"message\n\
+section1 98 0 0 0 2 0 37 0\n\
+time 2024 1 15 12 0 0\n\
+flags observed\n\
+descriptors 101000 031001 012101\n\
+subset\n\
+031001 0\n\
+subset\n\
+031001 1\n\
+012101 273.15\n\
+end\n";
+
+/// A plain listing of two subsets, of which the second has another temperature.
+pub(super) const PAIR_LISTING: &[u8] = b"message\n\
+section1 98 0 0 0 2 0 37 0\n\
+time 2024 1 15 12 0 0\n\
+flags observed\n\
+descriptors 301001 301011 301012 012101\n\
+subset\n\
+001001 10\n\
+001002 384\n\
+004001 2024\n\
+004002 1\n\
+004003 15\n\
+004004 12\n\
+004005 0\n\
+012101 273.15\n\
+subset\n\
+001001 10\n\
+001002 384\n\
+004001 2024\n\
+004002 1\n\
+004003 15\n\
+004004 12\n\
+004005 0\n\
+012101 273.16\n\
+end\n";
+
+/// What it is where it is plain: 70 octets.
+pub(super) const PAIR: &[u8] = b"BUFR\x00\x00\x46\x04\
+\x00\x00\x16\x00\x00\x62\x00\x00\x00\x00\x00\x02\x00\x25\x00\x07\xE8\x01\x0F\x0C\x00\x00\
+\x00\x00\x0F\x00\x00\x02\x80\xC1\x01\xC1\x0B\xC1\x0C\x0C\x65\
+\x00\x00\x15\x00\x14\xC0\x3F\x40\x9E\xC0\x1A\xAC\xC5\x30\x0F\xD0\x27\xB0\x06\xAB\x40\
+7777";
+
+/// What it is where it is compressed: 68 octets.
+pub(super) const PAIR_COMPRESSED: &[u8] = b"BUFR\x00\x00\x44\x04\
+\x00\x00\x16\x00\x00\x62\x00\x00\x00\x00\x00\x02\x00\x25\x00\x07\xE8\x01\x0F\x0C\x00\x00\
+\x00\x00\x0F\x00\x00\x02\xC0\xC1\x01\xC1\x0B\xC1\x0C\x0C\x65\
+\x00\x00\x13\x00\x14\x03\x00\x03\xF4\x00\x20\x1E\x03\x00\x00\x06\xAB\x30\x84\
+7777";
+
+/// Four thousand compressed subsets of one element, all alike: 49 octets.
+pub(super) const MANY_SUBSETS: &[u8] = b"BUFR\x00\x00\x31\x04\
+\x00\x00\x16\x00\x00\x62\x00\x00\x00\x00\x00\x02\x00\x25\x00\x07\xE8\x01\x0F\x0C\x00\x00\
+\x00\x00\x09\x00\x0F\xA0\xC0\x01\x01\
+\x00\x00\x06\x00\x14\x00\
+7777";
+
+/// The lines of its listing before the first subset: 102 octets.
+pub(super) const HEADING: &[u8] = b"message\n\
+section1 98 0 0 0 2 0 37 0\n\
+time 2024 1 15 12 0 0\n\
+flags observed compressed\n\
+descriptors 001001\n";
+
+/// Those of a subset: 17 octets.
+pub(super) const SUBSET: &[u8] = b"subset\n001001 10\n";
+
+/// Octets that come so often, one behind another.
+pub(super) type Part<'a> = (&'a [u8], u32);
+
+/// A bulletin's heading, the message, a stray `BUFR`, and the message again: 146 octets.
+pub(super) const TWO_FRAMES: &[Part<'static>] = &[
+    (b"ISMD01 EDZW 151200", 1),
+    (SEQUENCES, 1),
+    (b"BUFR", 1),
+    (SEQUENCES, 1),
+];
+
+/// What checking them writes.
+pub(super) const CHECKED: &[u8] = b"18 62 ok 1 0\n84 62 ok 1 0\nframes 2 refused 0 skipped 22\n";
+
+/// The tables of the tests.
+pub(super) fn tables(rt: &impl Abort, alloc: Global) -> Tables {
+    Tables::new(
+        TableB::parse(alloc, TABLE_B).expect(rt, "an answer"),
+        TableD::parse(alloc, TABLE_D).expect(rt, "an answer"),
+    )
+}
+
+/// These parts one behind another.
+pub(super) fn joined(rt: &impl Abort, alloc: Global, parts: &[Part<'_>]) -> Vec<u8> {
+    let mut octets = Vec::new(alloc);
+    for (part, times) in parts {
+        for _ in 0..*times {
+            octets.extend_from_slice(*part).expect(rt, "room");
+        }
+    }
+    octets
+}
