@@ -41,6 +41,13 @@ const LOADED: [(&[u8], &[u8], Option<ToolFault>); 3] = [
     ),
 ];
 
+/// Why they can't be loaded from readers that fail or never end.
+const B_FAILED: Option<ToolFault> = Some(ToolFault::ReadFailed(Input::TableB));
+
+const D_FAILED: Option<ToolFault> = Some(ToolFault::ReadFailed(Input::TableD));
+
+const B_ENDLESS: Option<ToolFault> = Some(ToolFault::EndlessInput(Input::TableB));
+
 /// Ten thousand reads of five octets.
 const MANY: (u32, usize) = (10_000, 5);
 
@@ -52,17 +59,22 @@ fn faults_of_tables(rt: HostRuntime) {
     for (b, d, wanted) in LOADED {
         let _ = assert_loaded(&rt, alloc, MANY, (b, false), (d, false), wanted);
     }
-    let failed = Some(ToolFault::ReadFailed(Input::TableB));
     for length in 0..TABLE_B.len() {
         let front = TABLE_B.get(..length).expect(&rt, "a front");
         for d_breaks in [false, true] {
-            let _ = assert_loaded(&rt, alloc, MANY, (front, true), (TABLE_D, d_breaks), failed);
+            let _ = assert_loaded(
+                &rt,
+                alloc,
+                MANY,
+                (front, true),
+                (TABLE_D, d_breaks),
+                B_FAILED,
+            );
         }
     }
-    let failed = Some(ToolFault::ReadFailed(Input::TableD));
     for length in 0..TABLE_D.len() {
         let front = TABLE_D.get(..length).expect(&rt, "a front");
-        let _ = assert_loaded(&rt, alloc, MANY, (TABLE_B, false), (front, true), failed);
+        let _ = assert_loaded(&rt, alloc, MANY, (TABLE_B, false), (front, true), D_FAILED);
     }
 }
 
@@ -72,9 +84,8 @@ fn faults_of_tables(rt: HostRuntime) {
 fn endless_tables(rt: HostRuntime) {
     let lines = [b'\n'; 2000];
     let lines = (lines.as_slice(), false);
-    let endless = Some(ToolFault::EndlessInput(Input::TableB));
     for reads in [0u32, 1, 4, 1000] {
-        let found = assert_loaded(&rt, rt.alloc(), (reads, 1), lines, lines, endless);
+        let found = assert_loaded(&rt, rt.alloc(), (reads, 1), lines, lines, B_ENDLESS);
         same(&rt, found, (u64::from(reads), 0));
     }
 }
