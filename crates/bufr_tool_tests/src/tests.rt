@@ -11,12 +11,10 @@ use bufr_io::{Input, Tally, ToolFault};
 use bufr_message::listing::ListingFault;
 use bufr_message::{EncodeFault, WriteFault};
 use bufr_tables::{Column, TableFault, Tables};
-use bufr_tool::{MOST_READS, run_check, run_command, run_encode, run_show};
+use bufr_tool::{MOST_READS, run_check, run_encode, run_show};
 use devices::{Reader, Writer};
-use samples::{Part, joined, tables};
 use std::alloc::Global;
 use std::fmt::Debug;
-use std::io::Cursor;
 use std::process::Abort;
 
 /// Stops the test where the two differ. It is a function, since a comparison written out in a test
@@ -59,19 +57,23 @@ struct Run<'a> {
     width: usize,
 }
 
-/// Shows no octets, to devices that serve.
-const RUN: Run<'static> = Run {
-    engine: Engine::Show,
-    name: "run",
-    place: 0,
-    reads: 1000,
-    octets: b"",
-    cut: 0,
-    most: 1_000_000,
-    breaks: false,
-    room: 1_000_000,
-    width: 1_000_000,
-};
+impl<'a> Run<'a> {
+    /// An engine on octets, with devices that serve.
+    fn new(name: &'a str, engine: Engine, octets: &'a [u8]) -> Self {
+        Run {
+            engine,
+            name,
+            place: 0,
+            reads: 1000,
+            octets,
+            cut: 0,
+            most: 1_000_000,
+            breaks: false,
+            room: 1_000_000,
+            width: 1_000_000,
+        }
+    }
+}
 
 /// What the devices of a run have seen.
 #[derive(Drop)]
@@ -84,13 +86,16 @@ struct Seen {
     longest: usize,
 }
 
+/// The frames, those refused and the octets skipped of an answer.
+type Counted = Result<(u128, u128, u128), ToolFault>;
+
 /// A run has this answer, of frames, those refused and octets skipped, and it writes this.
 fn assert_run(
     rt: &impl Abort,
     alloc: Global,
     tables: &Tables,
     run: Run<'_>,
-    wanted: Result<(u128, u128, u128), ToolFault>,
+    wanted: Counted,
     text: &[u8],
 ) -> Seen {
     let mut reader = Reader::new(run.octets, run.cut, run.most, run.breaks);
@@ -119,47 +124,6 @@ fn assert_run(
         asked: reader.asked,
         pieces: writer.pieces,
         longest: writer.longest,
-    }
-}
-
-/// A name, an engine, how many reads are allowed and whether the reader fails at its end, the
-/// stream, the answer, and what is written.
-type Row = (
-    &'static str,
-    Engine,
-    (u32, bool),
-    &'static [Part<'static>],
-    Result<(u128, u128, u128), ToolFault>,
-    &'static [Part<'static>],
-);
-
-/// A row is right where the reader gives so many octets a read. Each read asks for 65,536 octets,
-/// and the reader is read to its end or as often as is allowed.
-fn assert_row(rt: &impl Abort, alloc: Global, tables: &Tables, row: &Row, most: usize) {
-    let (name, engine, (reads, breaks), octets, wanted, text) = row;
-    let octets = joined(rt, alloc, *octets);
-    let text = joined(rt, alloc, *text);
-    let run = Run {
-        engine: *engine,
-        name: *name,
-        reads: *reads,
-        octets: &octets,
-        most,
-        breaks: *breaks,
-        ..RUN
-    };
-    let seen = assert_run(rt, alloc, tables, run, *wanted, &text);
-    let pieces = octets.len().div_ceil(most.clamp(1, 65_536)) as u64;
-    let reads = u64::from(*reads).min(pieces.saturating_add(1));
-    let asked = if reads == 0 { 0 } else { 65_536 };
-    same_in(rt, (seen.reads, seen.asked), (reads, asked), run);
-}
-
-/// The rows are right where the reader gives so many octets a read.
-fn assert_rows(rt: &impl Abort, alloc: Global, rows: &[Row], most: usize) {
-    let tables = tables(rt, alloc);
-    for row in rows {
-        assert_row(rt, alloc, &tables, row, most);
     }
 }
 
@@ -217,24 +181,12 @@ const FAULTS: [(ToolFault, &str); 14] = [
     ),
 ];
 
+/// And the most reads that a command allows.
 #[test]
-fn lines_of_faults(rt: HostRuntime) {
+fn lines_of_faults_and_most_reads(rt: HostRuntime) {
     for (fault, text) in FAULTS {
         let line = fault.to_string(rt.alloc()).expect(&rt, "a line");
         same(&rt, line.as_str(), text);
     }
-}
-
-/// Help that cannot be written is a fault. The commands on files are tried by `tests/commands` at
-/// the top, and so are help and version where they can be written.
-#[test]
-fn help_cut_short_and_most_reads(rt: HostRuntime) {
-    let mut out = Cursor::new([0u8; 4]);
-    let mut err = Vec::new(rt.alloc());
-    let none: [String; 0] = [];
-    let status = run_command(&rt, rt.alloc(), none.as_slice(), &mut out, &mut err);
-    same(&rt, status, 2);
-    let fault = b"bufr: write failed after 4 octets\n".as_slice();
-    same(&rt, err.as_slice(), fault);
     same(&rt, MOST_READS, 4_294_967_296);
 }

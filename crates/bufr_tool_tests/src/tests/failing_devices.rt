@@ -2,9 +2,9 @@
 
 use super::samples::{
     CHECKED, COMPRESSED_PAIR, COMPRESSED_PAIR_LISTING, ELEMENTS_ONLY, HEADING, LISTING,
-    MANY_SUBSETS, Part, SEQUENCES, SEQUENCES_LISTING, SUBSET, TWO_FRAMES, joined, tables,
+    MANY_SUBSETS, SEQUENCES, SEQUENCES_LISTING, SUBSET, TWO_FRAMES, joined, tables,
 };
-use super::{Engine, RUN, Run, Seen, assert_run, same};
+use super::{Engine, Run, Seen, assert_run, same};
 use bufr_io::{Input, ToolFault};
 use bufr_tables::Tables;
 use std::alloc::Global;
@@ -26,14 +26,10 @@ fn assert_front(
         Engine::Show => SEQUENCES_LISTING,
         _ => b"18 62 ok 1 0\n",
     };
-    let run = Run {
-        engine,
-        octets,
-        most,
-        breaks: true,
-        place,
-        ..RUN
-    };
+    let mut run = Run::new("front", engine, octets);
+    run.place = place;
+    run.most = most;
+    run.breaks = true;
     let failed = Err(ToolFault::ReadFailed(Input::Number(1)));
     let _ = assert_run(rt, alloc, tables, run, failed, text);
 }
@@ -54,66 +50,6 @@ fn failing_reader_at_each_place(rt: HostRuntime) {
     }
 }
 
-/// A stream that is read so many octets at a time and whose output is taken so many at a time: what
-/// it counts, and its output.
-type Written = (
-    Engine,
-    &'static [Part<'static>],
-    (usize, usize),
-    (u128, u128, u128),
-    &'static [Part<'static>],
-);
-
-const WRITTEN: [Written; 6] = [
-    (
-        Engine::Show,
-        &[(ELEMENTS_ONLY, 1)],
-        (1000, 1),
-        (1, 0, 0),
-        &[(LISTING, 1)],
-    ),
-    (
-        Engine::Show,
-        &[(COMPRESSED_PAIR, 1)],
-        (1000, 1),
-        (1, 0, 0),
-        &[(COMPRESSED_PAIR_LISTING, 1)],
-    ),
-    (
-        Engine::Show,
-        &[(COMPRESSED_PAIR, 1)],
-        (1000, 40),
-        (1, 0, 0),
-        &[(COMPRESSED_PAIR_LISTING, 1)],
-    ),
-    (
-        Engine::Show,
-        &[(COMPRESSED_PAIR, 1)],
-        (1000, 10_000),
-        (1, 0, 0),
-        &[(COMPRESSED_PAIR_LISTING, 1)],
-    ),
-    (
-        Engine::Encode(false),
-        &[(LISTING, 1), (SEQUENCES_LISTING, 1)],
-        (1000, 1),
-        (2, 0, 0),
-        &[(ELEMENTS_ONLY, 1), (SEQUENCES, 1)],
-    ),
-    (
-        Engine::Check,
-        &[
-            (b"ISMD01 EDZW 151200", 1),
-            (SEQUENCES, 1),
-            (b"BUFR", 1),
-            (SEQUENCES, 1),
-        ],
-        (50, 3),
-        (2, 0, 22),
-        &[(CHECKED, 1)],
-    ),
-];
-
 /// A writer that has room for so many octets of a text fails once it has taken them, at the flush
 /// where it has taken all of them.
 fn assert_room(rt: &impl Abort, alloc: Global, tables: &Tables, run: Run<'_>, text: &[u8]) -> Seen {
@@ -126,40 +62,57 @@ fn assert_room(rt: &impl Abort, alloc: Global, tables: &Tables, run: Run<'_>, te
 }
 
 /// The writer fails after each number of octets, and serves where it has room for one more than all.
-fn assert_written(rt: &impl Abort, alloc: Global, tables: &Tables, row: &Written) {
-    let (engine, octets, (most, width), counts, text) = row;
-    let octets = joined(rt, alloc, *octets);
-    let text = joined(rt, alloc, *text);
-    let run = Run {
-        engine: *engine,
-        octets: &octets,
-        most: *most,
-        width: *width,
-        ..RUN
-    };
+fn assert_each_room(
+    rt: &impl Abort,
+    alloc: Global,
+    tables: &Tables,
+    run: Run<'_>,
+    counts: (u128, u128, u128),
+    text: &[u8],
+) {
+    let mut run = run;
     for room in 0..=text.len() {
-        let _ = assert_room(
-            rt,
-            alloc,
-            tables,
-            Run {
-                room,
-                place: room,
-                ..run
-            },
-            &text,
-        );
+        run.room = room;
+        run.place = room;
+        let _ = assert_room(rt, alloc, tables, run, text);
     }
-    let room = text.len().saturating_add(1);
-    let _ = assert_run(rt, alloc, tables, Run { room, ..run }, Ok(*counts), &text);
+    run.room = text.len().saturating_add(1);
+    let _ = assert_run(rt, alloc, tables, run, Ok(counts), text);
 }
 
+/// The output of a message is taken so many octets at a time.
+const WIDTHS: [(&[u8], usize, &[u8]); 4] = [
+    (ELEMENTS_ONLY, 1, LISTING),
+    (COMPRESSED_PAIR, 1, COMPRESSED_PAIR_LISTING),
+    (COMPRESSED_PAIR, 40, COMPRESSED_PAIR_LISTING),
+    (COMPRESSED_PAIR, 10_000, COMPRESSED_PAIR_LISTING),
+];
+
+#[test]
+fn failing_writer_of_show(rt: HostRuntime) {
+    let tables = tables(&rt, rt.alloc());
+    for (octets, width, text) in WIDTHS {
+        let mut run = Run::new("show", Engine::Show, octets);
+        run.width = width;
+        assert_each_room(&rt, rt.alloc(), &tables, run, (1, 0, 0), text);
+    }
+}
+
+/// The writer of the lines of `check`, in pieces, and that of two messages that are encoded.
 #[test]
 fn failing_writer(rt: HostRuntime) {
-    let tables = tables(&rt, rt.alloc());
-    for row in &WRITTEN {
-        assert_written(&rt, rt.alloc(), &tables, row);
-    }
+    let alloc = rt.alloc();
+    let tables = tables(&rt, alloc);
+    let octets = joined(&rt, alloc, TWO_FRAMES);
+    let mut run = Run::new("check", Engine::Check, &octets);
+    run.most = 50;
+    run.width = 3;
+    assert_each_room(&rt, alloc, &tables, run, (2, 0, 22), CHECKED);
+    let listing = joined(&rt, alloc, &[(LISTING, 1), (SEQUENCES_LISTING, 1)]);
+    let octets = joined(&rt, alloc, &[(ELEMENTS_ONLY, 1), (SEQUENCES, 1)]);
+    let mut run = Run::new("encode", Engine::Encode(false), &listing);
+    run.width = 1;
+    assert_each_room(&rt, alloc, &tables, run, (2, 0, 0), &octets);
 }
 
 /// Rooms of a writer that fails within the first part of the listing, between the parts, within the
@@ -171,37 +124,30 @@ const ROOMS: [(usize, u32, usize); 4] = [
     (68_105, 1, 65_552),
 ];
 
-/// A short listing is written at once. A long one, of 102 + 17 * 4000 + 4 octets, is written in two
-/// parts: the first ends with the subset whose lines make it 65,536 octets long or longer, which is
-/// the 3,850th: 102 + 17 * 3850 are 65,552.
+/// A long listing, of 102 + 17 * 4000 + 4 octets, is written in two parts: the first ends with the
+/// subset whose lines make it 65,536 octets long or longer, which is the 3,850th: 102 + 17 * 3850
+/// are 65,552.
 #[test]
 fn long_listing_in_two_parts(rt: HostRuntime) {
     let alloc = rt.alloc();
     let tables = tables(&rt, alloc);
-    let short = Run {
-        octets: ELEMENTS_ONLY,
-        ..RUN
-    };
-    let seen = assert_run(&rt, alloc, &tables, short, Ok((1, 0, 0)), LISTING);
-    same(&rt, (seen.pieces, seen.longest), (1, 236));
-    let text = joined(
-        &rt,
-        alloc,
-        [(HEADING, 1u32), (SUBSET, 4000), (b"end\n", 1)].as_slice(),
-    );
-    let long = Run {
-        octets: MANY_SUBSETS,
-        ..RUN
-    };
-    let seen = assert_run(&rt, alloc, &tables, long, Ok((1, 0, 0)), &text);
+    let text = joined(&rt, alloc, &[(HEADING, 1), (SUBSET, 4000), (b"end\n", 1)]);
+    same(&rt, text.len(), 68_106);
+    let mut run = Run::new("long listing", Engine::Show, MANY_SUBSETS);
+    let seen = assert_run(&rt, alloc, &tables, run, Ok((1, 0, 0)), &text);
     same(&rt, (seen.pieces, seen.longest), (2, 65_552));
     for (room, pieces, longest) in ROOMS {
-        let run = Run {
-            room,
-            place: room,
-            ..long
-        };
+        run.room = room;
         let seen = assert_room(&rt, alloc, &tables, run, &text);
         same(&rt, (seen.pieces, seen.longest), (pieces, longest));
     }
+}
+
+/// A short listing is written at once.
+#[test]
+fn short_listing_at_once(rt: HostRuntime) {
+    let tables = tables(&rt, rt.alloc());
+    let run = Run::new("short listing", Engine::Show, ELEMENTS_ONLY);
+    let seen = assert_run(&rt, rt.alloc(), &tables, run, Ok((1, 0, 0)), LISTING);
+    same(&rt, (seen.pieces, seen.longest), (1, 236));
 }

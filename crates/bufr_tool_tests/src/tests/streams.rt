@@ -2,10 +2,10 @@
 
 use super::samples::{
     CHECKED, COMPRESSED_PAIR, COMPRESSED_PAIR_LISTING, ELEMENTS_ONLY, LISTING, LISTING_WITHOUT_END,
-    PAIR, PAIR_COMPRESSED, PAIR_LISTING, SEQUENCES, SEQUENCES_LISTING, TWO_FRAMES, UNEQUAL_COUNTS,
-    UNEQUAL_COUNTS_LISTING, joined, tables,
+    PAIR, PAIR_COMPRESSED, PAIR_LISTING, Part, SEQUENCES, SEQUENCES_LISTING, TWO_FRAMES,
+    UNEQUAL_COUNTS, UNEQUAL_COUNTS_LISTING, joined, tables,
 };
-use super::{Engine, RUN, Row, Run, assert_rows, assert_run};
+use super::{Counted, Engine, Run, assert_run, same, same_in};
 use bufr_io::{Input, ToolFault};
 use bufr_message::listing::ListingFault;
 use bufr_message::{EncodeFault, WriteFault};
@@ -19,423 +19,249 @@ const EDITION_5: &[u8] = b"BUFR\x00\x00\x0C\x057777";
 /// A frame whose section 1 is missing.
 const CUT_SECTION: &[u8] = b"BUFR\x00\x00\x0C\x047777";
 
-/// Streams of messages, and what is shown and checked of them.
-const STREAMS: [Row; 6] = [
+/// Parts of streams, and what is shown of them: messages, refused ones too, one after another.
+const SHOWN: [(&str, &[Part<'static>], (u128, u128, u128), &[Part<'static>]); 4] = [
     (
-        "elements_only",
-        Engine::Show,
-        (257, false),
+        "elements only",
         &[(ELEMENTS_ONLY, 1)],
-        Ok((1, 0, 0)),
+        (1, 0, 0),
         &[(LISTING, 1)],
     ),
     (
-        "refused edition",
-        Engine::Show,
-        (257, false),
+        "edition 5",
         &[(EDITION_5, 1)],
-        Ok((1, 1, 0)),
+        (1, 1, 0),
         &[(b"# refused 0 M2 Edition 5\n", 1)],
     ),
     (
-        "refused section 1",
-        Engine::Show,
-        (257, false),
+        "cut section",
         &[(b"noise ", 1), (CUT_SECTION, 1)],
-        Ok((1, 1, 0)),
+        (1, 1, 0),
         &[(b"# refused 6 M5 Section1Length\n", 1)],
     ),
     (
         "several messages",
-        Engine::Show,
-        (257, false),
         &[(b"noise", 1), (ELEMENTS_ONLY, 2000), (EDITION_5, 1)],
-        Ok((2001, 1, 0)),
+        (2001, 1, 0),
         &[(LISTING, 2000), (b"# refused 140005 M2 Edition 5\n", 1)],
     ),
-    (
-        "two frames and a stray",
-        Engine::Check,
-        (257, false),
-        &[
-            (b"ISMD01 EDZW 151200", 1),
-            (SEQUENCES, 1),
-            (b"BUFR", 1),
-            (SEQUENCES, 1),
-        ],
-        Ok((2, 0, 22)),
-        &[(CHECKED, 1)],
-    ),
-    (
-        "BUFR without end",
-        Engine::Check,
-        (257, false),
-        &[(b"BUFR", 4_194_304)],
-        Ok((0, 0, 16_777_216)),
-        &[(b"frames 0 refused 0 skipped 16777216\n", 1)],
-    ),
 ];
 
-/// Messages are shown, refused ones too, one after another; 16 MB of `BUFR` are skipped.
 #[test]
-fn elements_only_and_other_streams(rt: HostRuntime) {
-    assert_rows(&rt, rt.alloc(), STREAMS.as_slice(), 1_000_000);
+fn messages_shown(rt: HostRuntime) {
+    let alloc = rt.alloc();
+    let tables = tables(&rt, alloc);
+    for (name, octets, counts, text) in SHOWN {
+        let octets = joined(&rt, alloc, octets);
+        let text = joined(&rt, alloc, text);
+        let run = Run::new(name, Engine::Show, &octets);
+        let _ = assert_run(&rt, alloc, &tables, run, Ok(counts), &text);
+    }
 }
 
-/// Listings, and what they are encoded to, plain or compressed where that is asked for: the examples
-/// in the folder of examples, two messages, and none.
-const LISTINGS: [Row; 12] = [
-    (
-        "elements only",
-        Engine::Encode(false),
-        (257, false),
-        &[(LISTING, 1)],
-        Ok((1, 0, 0)),
-        &[(ELEMENTS_ONLY, 1)],
-    ),
-    (
-        "sequences",
-        Engine::Encode(false),
-        (257, false),
-        &[(SEQUENCES_LISTING, 1)],
-        Ok((1, 0, 0)),
-        &[(SEQUENCES, 1)],
-    ),
-    (
-        "compressed pair",
-        Engine::Encode(false),
-        (257, false),
-        &[(COMPRESSED_PAIR_LISTING, 1)],
-        Ok((1, 0, 0)),
-        &[(COMPRESSED_PAIR, 1)],
-    ),
-    (
-        "unequal counts",
-        Engine::Encode(false),
-        (257, false),
-        &[(UNEQUAL_COUNTS_LISTING, 1)],
-        Ok((1, 0, 0)),
-        &[(UNEQUAL_COUNTS, 1)],
-    ),
-    (
-        "pair",
-        Engine::Encode(false),
-        (257, false),
-        &[(PAIR_LISTING, 1)],
-        Ok((1, 0, 0)),
-        &[(PAIR, 1)],
-    ),
-    (
-        "pair compressed",
-        Engine::Encode(true),
-        (257, false),
-        &[(PAIR_LISTING, 1)],
-        Ok((1, 0, 0)),
-        &[(PAIR_COMPRESSED, 1)],
-    ),
-    (
-        "compressed pair compressed",
-        Engine::Encode(true),
-        (257, false),
-        &[(COMPRESSED_PAIR_LISTING, 1)],
-        Ok((1, 0, 0)),
-        &[(COMPRESSED_PAIR, 1)],
-    ),
-    (
-        "sequences twice",
-        Engine::Encode(false),
-        (257, false),
-        &[(SEQUENCES_LISTING, 2)],
-        Ok((2, 0, 0)),
-        &[(SEQUENCES, 2)],
-    ),
-    (
-        "pair twice",
-        Engine::Encode(true),
-        (257, false),
-        &[(PAIR_LISTING, 2)],
-        Ok((2, 0, 0)),
-        &[(PAIR_COMPRESSED, 2)],
-    ),
-    (
-        "nothing",
-        Engine::Encode(true),
-        (257, false),
-        &[],
-        Ok((0, 0, 0)),
-        &[],
-    ),
-    (
-        "an empty line",
-        Engine::Encode(true),
-        (257, false),
-        &[(b"\n", 1)],
-        Ok((0, 0, 0)),
-        &[],
-    ),
-    (
-        "comments",
-        Engine::Encode(true),
-        (257, false),
-        &[(b"# nothing\r\n\n# more", 1)],
-        Ok((0, 0, 0)),
-        &[],
-    ),
+/// 16 MB of `BUFR` are skipped. Each read asks for 65,536 octets.
+#[test]
+fn bufr_without_end(rt: HostRuntime) {
+    let alloc = rt.alloc();
+    let tables = tables(&rt, alloc);
+    let octets = joined(&rt, alloc, &[(b"BUFR", 4_194_304)]);
+    let mut run = Run::new("BUFR", Engine::Check, &octets);
+    run.reads = 257;
+    let text = b"frames 0 refused 0 skipped 16777216\n";
+    let seen = assert_run(&rt, alloc, &tables, run, Ok((0, 0, 16_777_216)), text);
+    same(&rt, (seen.asked, seen.reads), (65_536, 257));
+}
+
+/// Whether compression is asked for, the listing of so many messages, and what it is encoded to:
+/// the examples in the folder of examples, and listings of no message.
+const LISTINGS: [(bool, u128, &[u8], &[u8]); 10] = [
+    (false, 1, LISTING, ELEMENTS_ONLY),
+    (false, 1, SEQUENCES_LISTING, SEQUENCES),
+    (false, 1, COMPRESSED_PAIR_LISTING, COMPRESSED_PAIR),
+    (false, 1, UNEQUAL_COUNTS_LISTING, UNEQUAL_COUNTS),
+    (false, 1, PAIR_LISTING, PAIR),
+    (true, 1, PAIR_LISTING, PAIR_COMPRESSED),
+    (true, 1, COMPRESSED_PAIR_LISTING, COMPRESSED_PAIR),
+    (true, 0, b"", b""),
+    (true, 0, b"\n", b""),
+    (true, 0, b"# nothing\r\n\n# more", b""),
 ];
 
-/// The listing of each example is encoded to the example. Edition 3 is tried by `tests/commands` at
-/// the top.
+/// A listing that comes so often is encoded to octets that come as often. Each read asks for 65,536
+/// octets.
+fn assert_encoded(
+    rt: &impl Abort,
+    alloc: Global,
+    tables: &Tables,
+    compressed: bool,
+    (times, messages): (u32, u128),
+    listing: &[u8],
+    octets: &[u8],
+) {
+    let listing = joined(rt, alloc, &[(listing, times)]);
+    let octets = joined(rt, alloc, &[(octets, times)]);
+    let run = Run::new("listing", Engine::Encode(compressed), &listing);
+    let seen = assert_run(rt, alloc, tables, run, Ok((messages, 0, 0)), &octets);
+    same(rt, seen.asked, 65_536);
+}
+
+/// The listing of each example is encoded to the example, and the same again to the message and the
+/// same again. Edition 3 is tried by `tests/commands` at the top.
 #[test]
 fn listings_of_examples(rt: HostRuntime) {
-    assert_rows(&rt, rt.alloc(), LISTINGS.as_slice(), 1_000_000);
+    let alloc = rt.alloc();
+    let tables = tables(&rt, alloc);
+    for (compressed, messages, listing, octets) in LISTINGS {
+        assert_encoded(
+            &rt,
+            alloc,
+            &tables,
+            compressed,
+            (1, messages),
+            listing,
+            octets,
+        );
+        let twice = (2, messages.saturating_add(messages));
+        assert_encoded(&rt, alloc, &tables, compressed, twice, listing, octets);
+    }
 }
 
-/// Listings of which nothing is written, and their first fault: that of the listing comes before
-/// that of any message, and a message that is refused leaves nothing written of those before it.
-const FAULTS: [Row; 4] = [
+/// What stands behind a message and one that can't be compressed, and the first fault of all.
+const BEHIND: [(&[u8], &[u8], Counted); 3] = [
+    (b"", b"", NOT_COMPRESSIBLE),
+    (PAIR_LISTING, b"", NOT_COMPRESSIBLE),
     (
-        "last refused",
-        Engine::Encode(true),
-        (257, false),
-        &[(PAIR_LISTING, 1), (UNEQUAL_COUNTS_LISTING, 1)],
-        Err(ToolFault::Encode(2, EncodeFault::Data(WriteFault::NotCompressible(1)))),
-        &[],
-    ),
-    (
-        "second of three refused",
-        Engine::Encode(true),
-        (257, false),
-        &[
-            (PAIR_LISTING, 1),
-            (UNEQUAL_COUNTS_LISTING, 1),
-            (PAIR_LISTING, 1),
-        ],
-        Err(ToolFault::Encode(2, EncodeFault::Data(WriteFault::NotCompressible(1)))),
-        &[],
-    ),
-    (
-        "bad line behind a refused message",
-        Engine::Encode(true),
-        (257, false),
-        &[
-            (PAIR_LISTING, 1),
-            (UNEQUAL_COUNTS_LISTING, 1),
-            (PAIR_LISTING, 1),
-            (b"message\nsection\n", 1),
-        ],
+        PAIR_LISTING,
+        b"message\nsection\n",
         Err(ToolFault::Listing(ListingFault::BadLine(61))),
-        &[],
-    ),
-    (
-        "cut before its end",
-        Engine::Encode(false),
-        (257, false),
-        &[(LISTING_WITHOUT_END, 1)],
-        Err(ToolFault::Listing(ListingFault::BadLine(15))),
-        &[],
     ),
 ];
 
+/// A message that is refused leaves nothing written of those before it, whatever comes behind it.
+/// The listing's fault comes before that of any message.
 #[test]
 fn first_faults(rt: HostRuntime) {
-    assert_rows(&rt, rt.alloc(), FAULTS.as_slice(), 1_000_000);
+    let alloc = rt.alloc();
+    let tables = tables(&rt, alloc);
+    for (third, last, wanted) in BEHIND {
+        let parts = [
+            (PAIR_LISTING, 1u32),
+            (UNEQUAL_COUNTS_LISTING, 1),
+            (third, 1),
+            (last, 1),
+        ];
+        let listing = joined(&rt, alloc, &parts);
+        let run = Run::new("faults", Engine::Encode(true), &listing);
+        let _ = assert_run(&rt, alloc, &tables, run, wanted, b"");
+    }
+    let run = Run::new("cut", Engine::Encode(false), LISTING_WITHOUT_END);
+    let _ = assert_run(&rt, alloc, &tables, run, CUT, b"");
 }
 
-/// An input that does not end, and one that fails.
-const ENDLESS: Result<(u128, u128, u128), ToolFault> = Err(ToolFault::EndlessInput(Input::Number(
-    1,
-)));
+/// Answers: no end, a failed read, a second message that can't be compressed, a listing without its
+/// end.
+const ENDLESS: Counted = Err(ToolFault::EndlessInput(Input::Number(1)));
 
-const READ_FAILED: Result<(u128, u128, u128), ToolFault> = Err(ToolFault::ReadFailed(Input::Number(
-    1,
-)));
+const READ_FAILED: Counted = Err(ToolFault::ReadFailed(Input::Number(1)));
 
-/// Streams that come one octet a read, in so many reads as are allowed, and that then end or fail.
-const DRIPPED: [Row; 21] = [
+const NOT_COMPRESSIBLE: Counted = Err(ToolFault::Encode(
+    2,
+    EncodeFault::Data(WriteFault::NotCompressible(1)),
+));
+
+const CUT: Counted = Err(ToolFault::Listing(ListingFault::BadLine(15)));
+
+/// So many octets come one a read, four reads are allowed, and the reader then ends or fails.
+const DRIPPED: [(Engine, u32, bool, Counted); 12] = [
+    (Engine::Show, 100, false, ENDLESS),
+    (Engine::Show, 4, false, ENDLESS),
+    (Engine::Show, 3, false, Ok((0, 0, 0))),
+    (Engine::Show, 2, true, READ_FAILED),
+    (Engine::Check, 8, false, ENDLESS),
+    (Engine::Check, 4, false, ENDLESS),
+    (Engine::Encode(false), 100, false, ENDLESS),
+    (Engine::Encode(false), 4, false, ENDLESS),
     (
-        "show without end",
-        Engine::Show,
-        (0, false),
-        &[(b"B", 2000)],
-        ENDLESS,
-        &[],
-    ),
-    (
-        "show without end",
-        Engine::Show,
-        (1, false),
-        &[(b"B", 2000)],
-        ENDLESS,
-        &[],
-    ),
-    (
-        "show without end",
-        Engine::Show,
-        (4, false),
-        &[(b"B", 2000)],
-        ENDLESS,
-        &[],
-    ),
-    (
-        "show without end",
-        Engine::Show,
-        (1000, false),
-        &[(b"B", 2000)],
-        ENDLESS,
-        &[],
-    ),
-    (
-        "show of all reads allowed",
-        Engine::Show,
-        (4, false),
-        &[(b"B", 4)],
-        ENDLESS,
-        &[],
-    ),
-    (
-        "check without end",
-        Engine::Check,
-        (0, false),
-        &[(b"B", 2000)],
-        ENDLESS,
-        &[],
-    ),
-    (
-        "check without end",
-        Engine::Check,
-        (1, false),
-        &[(b"B", 2000)],
-        ENDLESS,
-        &[],
-    ),
-    (
-        "check without end",
-        Engine::Check,
-        (4, false),
-        &[(b"B", 2000)],
-        ENDLESS,
-        &[],
-    ),
-    (
-        "check without end",
-        Engine::Check,
-        (1000, false),
-        &[(b"B", 2000)],
-        ENDLESS,
-        &[],
-    ),
-    (
-        "check of all reads allowed",
-        Engine::Check,
-        (4, false),
-        &[(b"B", 4)],
-        ENDLESS,
-        &[],
-    ),
-    (
-        "encode without end",
         Engine::Encode(false),
-        (4, false),
-        &[(b"B", 100)],
-        ENDLESS,
-        &[],
-    ),
-    (
-        "encode of all reads allowed",
-        Engine::Encode(false),
-        (4, false),
-        &[(b"B", 4)],
-        ENDLESS,
-        &[],
-    ),
-    (
-        "show that ends in time",
-        Engine::Show,
-        (4, false),
-        &[(b"B", 3)],
-        Ok((0, 0, 0)),
-        &[],
-    ),
-    (
-        "check that ends in time",
-        Engine::Check,
-        (4, false),
-        &[(b"B", 3)],
-        Ok((0, 0, 3)),
-        &[(b"frames 0 refused 0 skipped 3\n", 1)],
-    ),
-    (
-        "encode that ends in time",
-        Engine::Encode(false),
-        (4, false),
-        &[(b"B", 3)],
+        3,
+        false,
         Err(ToolFault::Listing(ListingFault::BadLine(1))),
-        &[],
     ),
-    (
-        "encode of nothing",
-        Engine::Encode(false),
-        (4, false),
-        &[],
-        Ok((0, 0, 0)),
-        &[],
-    ),
-    (
-        "show that fails",
-        Engine::Show,
-        (4, true),
-        &[(b"B", 2)],
-        READ_FAILED,
-        &[],
-    ),
-    (
-        "encode that fails",
-        Engine::Encode(false),
-        (4, true),
-        &[(b"B", 2)],
-        READ_FAILED,
-        &[],
-    ),
-    (
-        "encode that fails at once",
-        Engine::Encode(false),
-        (4, true),
-        &[],
-        READ_FAILED,
-        &[],
-    ),
-    (
-        "two frames in octets",
-        Engine::Check,
-        (147, false),
-        &[
-            (b"ISMD01 EDZW 151200", 1),
-            (SEQUENCES, 1),
-            (b"BUFR", 1),
-            (SEQUENCES, 1),
-        ],
-        Ok((2, 0, 22)),
-        &[(CHECKED, 1)],
-    ),
-    (
-        "two frames and too few reads",
-        Engine::Check,
-        (100, false),
-        &[
-            (b"ISMD01 EDZW 151200", 1),
-            (SEQUENCES, 1),
-            (b"BUFR", 1),
-            (SEQUENCES, 1),
-        ],
-        ENDLESS,
-        &[(b"18 62 ok 1 0\n", 1)],
-    ),
+    (Engine::Encode(false), 0, false, Ok((0, 0, 0))),
+    (Engine::Encode(false), 2, true, READ_FAILED),
+    (Engine::Encode(false), 0, true, READ_FAILED),
 ];
 
-/// Each source that never ends is told after as many reads as were allowed, and no more.
+/// Octets that come one a read are answered so, in so many reads.
+fn assert_dripped(
+    rt: &impl Abort,
+    alloc: Global,
+    tables: &Tables,
+    engine: Engine,
+    reads: u32,
+    octets: &[u8],
+    breaks: bool,
+    wanted: Counted,
+    text: &[u8],
+) {
+    let mut run = Run::new("drips", engine, octets);
+    run.place = octets.len();
+    run.reads = reads;
+    run.most = 1;
+    run.breaks = breaks;
+    let seen = assert_run(rt, alloc, tables, run, wanted, text);
+    let ended = (octets.len() as u64).saturating_add(1);
+    same_in(rt, seen.reads, ended.min(u64::from(reads)), run);
+}
+
 #[test]
 fn endless_and_failing_readers(rt: HostRuntime) {
-    assert_rows(&rt, rt.alloc(), DRIPPED.as_slice(), 1);
+    let alloc = rt.alloc();
+    let tables = tables(&rt, alloc);
+    for (engine, count, breaks, wanted) in DRIPPED {
+        let octets = joined(&rt, alloc, &[(b"B", count)]);
+        assert_dripped(&rt, alloc, &tables, engine, 4, &octets, breaks, wanted, b"");
+    }
+}
+
+/// Each source that never ends is told after as many reads as were allowed, and no more; a source
+/// that ends just in time is read.
+#[test]
+fn endless_sources(rt: HostRuntime) {
+    let alloc = rt.alloc();
+    let tables = tables(&rt, alloc);
+    let octets = joined(&rt, alloc, &[(b"B", 2000)]);
+    for reads in [0u32, 1, 4, 1000] {
+        for engine in [Engine::Show, Engine::Check] {
+            assert_dripped(
+                &rt, alloc, &tables, engine, reads, &octets, false, ENDLESS, b"",
+            );
+        }
+    }
+    let text = b"frames 0 refused 0 skipped 3\n";
+    let ended = Ok((0, 0, 3));
+    assert_dripped(
+        &rt,
+        alloc,
+        &tables,
+        Engine::Check,
+        4,
+        b"BBB",
+        false,
+        ended,
+        text,
+    );
+}
+
+/// These octets in turn, five hundred times.
+fn in_turn(rt: &impl Abort, alloc: Global, four: [&[u8]; 4]) -> Vec<u8> {
+    let mut octets = Vec::new(alloc);
+    for _ in 0u32..500 {
+        for piece in four {
+            octets.extend_from_slice(piece).expect(rt, "room");
+        }
+    }
+    octets
 }
 
 /// Two thousand messages, of four lists of descriptors in turn, are shown one after another, and
@@ -443,64 +269,67 @@ fn endless_and_failing_readers(rt: HostRuntime) {
 #[test]
 fn many_messages(rt: HostRuntime) {
     let alloc = rt.alloc();
-    let four = [
-        (SEQUENCES, 1u32),
-        (COMPRESSED_PAIR, 1),
-        (UNEQUAL_COUNTS, 1),
-        (ELEMENTS_ONLY, 1),
-    ];
-    let octets = joined(&rt, alloc, four.as_slice());
-    let octets = joined(&rt, alloc, [(octets.as_slice(), 500u32)].as_slice());
-    let four = [
-        (SEQUENCES_LISTING, 1u32),
-        (COMPRESSED_PAIR_LISTING, 1),
-        (UNEQUAL_COUNTS_LISTING, 1),
-        (LISTING, 1),
-    ];
-    let text = joined(&rt, alloc, four.as_slice());
-    let text = joined(&rt, alloc, [(text.as_slice(), 500u32)].as_slice());
     let tables = tables(&rt, alloc);
-    let shown = Run {
-        octets: &octets,
-        ..RUN
-    };
-    let _ = assert_run(&rt, alloc, &tables, shown, Ok((2000, 0, 0)), &text);
-    let encoded = Run {
-        engine: Engine::Encode(false),
-        octets: &text,
-        ..RUN
-    };
-    let _ = assert_run(&rt, alloc, &tables, encoded, Ok((2000, 0, 0)), &octets);
+    let messages = [SEQUENCES, COMPRESSED_PAIR, UNEQUAL_COUNTS, ELEMENTS_ONLY];
+    let octets = in_turn(&rt, alloc, messages);
+    let listings = [
+        SEQUENCES_LISTING,
+        COMPRESSED_PAIR_LISTING,
+        UNEQUAL_COUNTS_LISTING,
+        LISTING,
+    ];
+    let text = in_turn(&rt, alloc, listings);
+    let run = Run::new("many messages", Engine::Show, &octets);
+    let _ = assert_run(&rt, alloc, &tables, run, Ok((2000, 0, 0)), &text);
+    let run = Run::new("many messages", Engine::Encode(false), &text);
+    let _ = assert_run(&rt, alloc, &tables, run, Ok((2000, 0, 0)), &octets);
 }
 
-/// The stream gives the same lines wherever it is cut into two pieces.
+/// The stream gives the same lines wherever it is cut into two pieces, and octet by octet. What was
+/// told before too many reads stays.
 #[test]
 fn two_frames_and_a_stray_in_any_pieces(rt: HostRuntime) {
     let alloc = rt.alloc();
     let tables = tables(&rt, alloc);
     let octets = joined(&rt, alloc, TWO_FRAMES);
     for cut in 0usize..147 {
-        let run = Run {
-            engine: Engine::Check,
-            octets: &octets,
-            cut,
-            place: cut,
-            ..RUN
-        };
+        let mut run = Run::new("cut", Engine::Check, &octets);
+        run.cut = cut;
+        run.place = cut;
         let _ = assert_run(&rt, alloc, &tables, run, Ok((2, 0, 22)), CHECKED);
     }
+    let two = Ok((2, 0, 22));
+    assert_dripped(
+        &rt,
+        alloc,
+        &tables,
+        Engine::Check,
+        147,
+        &octets,
+        false,
+        two,
+        CHECKED,
+    );
+    let first = b"18 62 ok 1 0\n";
+    assert_dripped(
+        &rt,
+        alloc,
+        &tables,
+        Engine::Check,
+        100,
+        &octets,
+        false,
+        ENDLESS,
+        first,
+    );
 }
 
 /// Octets in which there is no whole frame are all skipped.
 fn assert_skipped(rt: &impl Abort, alloc: Global, tables: &Tables, octets: &[u8]) {
     let length = octets.len();
     let text = format!(in alloc; "frames 0 refused 0 skipped {length}\n").expect(rt, "room");
-    let run = Run {
-        engine: Engine::Check,
-        octets,
-        place: length,
-        ..RUN
-    };
+    let mut run = Run::new("skipped", Engine::Check, octets);
+    run.place = length;
     let skipped = Ok((0, 0, length as u128));
     let _ = assert_run(rt, alloc, tables, run, skipped, text.as_bytes());
 }
@@ -528,14 +357,10 @@ fn thousand_lines(rt: &impl Abort, alloc: Global) -> String {
 #[test]
 fn thousand_refused(rt: HostRuntime) {
     let alloc = rt.alloc();
-    let octets = joined(&rt, alloc, [(CUT_SECTION, 1000u32)].as_slice());
+    let octets = joined(&rt, alloc, &[(CUT_SECTION, 1000)]);
     let text = thousand_lines(&rt, alloc);
     let tables = tables(&rt, alloc);
-    let run = Run {
-        engine: Engine::Check,
-        octets: &octets,
-        ..RUN
-    };
+    let run = Run::new("refused", Engine::Check, &octets);
     let refused = Ok((1000, 1000, 0));
     let _ = assert_run(&rt, alloc, &tables, run, refused, text.as_bytes());
 }
