@@ -1,4 +1,4 @@
-//! Trials of the whole: failing devices and hostile streams. It has tests only.
+//! Trials of hostile streams. It has tests only.
 #![tactic(auto)]
 
 #[cfg(test)]
