@@ -10,9 +10,10 @@ mod table_files;
 use bufr_io::{Input, Tally, ToolFault};
 use bufr_message::listing::ListingFault;
 use bufr_message::{EncodeFault, WriteFault};
-use bufr_tables::{Column, TableFault, Tables};
+use bufr_tables::{Column, TableFault};
 use bufr_tool::{MOST_READS, run_check, run_encode, run_show};
 use devices::{Reader, Writer};
+use samples::tables;
 use std::alloc::Global;
 use std::fmt::Debug;
 use std::process::Abort;
@@ -90,22 +91,16 @@ struct Seen {
 type Counted = Result<(u128, u128, u128), ToolFault>;
 
 /// A run has this answer, of frames, those refused and octets skipped, and it writes this.
-fn assert_run(
-    rt: &impl Abort,
-    alloc: Global,
-    tables: &Tables,
-    run: Run<'_>,
-    wanted: Counted,
-    text: &[u8],
-) -> Seen {
+fn assert_run(rt: &impl Abort, alloc: Global, run: Run<'_>, wanted: Counted, text: &[u8]) -> Seen {
+    let tables = tables(rt, alloc);
     let mut reader = Reader::new(run.octets, run.cut, run.most, run.breaks);
     let mut writer = Writer::new(alloc, run.room, run.width);
     let reads = u64::from(run.reads);
     let answer = match run.engine {
-        Engine::Show => run_show(alloc, reads, tables, &mut reader, &mut writer),
-        Engine::Check => run_check(alloc, reads, tables, &mut reader, &mut writer),
+        Engine::Show => run_show(alloc, reads, &tables, &mut reader, &mut writer),
+        Engine::Check => run_check(alloc, reads, &tables, &mut reader, &mut writer),
         Engine::Encode(compressed) => {
-            run_encode(alloc, reads, tables, compressed, &mut reader, &mut writer)
+            run_encode(alloc, reads, &tables, compressed, &mut reader, &mut writer)
         }
     };
     let wanted = match wanted {

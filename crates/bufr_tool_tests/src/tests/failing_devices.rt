@@ -2,24 +2,16 @@
 
 use super::samples::{
     CHECKED, COMPRESSED_PAIR, COMPRESSED_PAIR_LISTING, ELEMENTS_ONLY, HEADING, LISTING,
-    MANY_SUBSETS, SEQUENCES, SEQUENCES_LISTING, SUBSET, TWO_FRAMES, joined, tables,
+    MANY_SUBSETS, SEQUENCES, SEQUENCES_LISTING, SUBSET, TWO_FRAMES, joined,
 };
 use super::{Engine, Run, Seen, assert_run, same};
 use bufr_io::{Input, ToolFault};
-use bufr_tables::Tables;
 use std::alloc::Global;
 use std::process::Abort;
 
 /// A read fails after a front of the stream of two frames, in pieces of so many octets: exactly the
 /// lines of the first message are written once it is read.
-fn assert_front(
-    rt: &impl Abort,
-    alloc: Global,
-    tables: &Tables,
-    octets: &[u8],
-    engine: Engine,
-    most: usize,
-) {
+fn assert_front(rt: &impl Abort, alloc: Global, octets: &[u8], engine: Engine, most: usize) {
     let place = octets.len();
     let text = match engine {
         _ if place < 80 => b"".as_slice(),
@@ -31,7 +23,7 @@ fn assert_front(
     run.most = most;
     run.breaks = true;
     let failed = Err(ToolFault::ReadFailed(Input::Number(1)));
-    let _ = assert_run(rt, alloc, tables, run, failed, text);
+    let _ = assert_run(rt, alloc, run, failed, text);
 }
 
 /// After so many octets a read fails: the first message stands from 18 to 80, and is printed as
@@ -39,33 +31,31 @@ fn assert_front(
 #[test]
 fn failing_reader_at_each_place(rt: HostRuntime) {
     let alloc = rt.alloc();
-    let tables = tables(&rt, alloc);
     let octets = joined(&rt, alloc, TWO_FRAMES);
     for length in 0usize..147 {
         let front = octets.get(..length).expect(&rt, "a front");
         for most in [1usize, 7, 1000] {
-            assert_front(&rt, alloc, &tables, front, Engine::Show, most);
-            assert_front(&rt, alloc, &tables, front, Engine::Check, most);
+            assert_front(&rt, alloc, front, Engine::Show, most);
+            assert_front(&rt, alloc, front, Engine::Check, most);
         }
     }
 }
 
 /// A writer that has room for so many octets of a text fails once it has taken them, at the flush
 /// where it has taken all of them.
-fn assert_room(rt: &impl Abort, alloc: Global, tables: &Tables, run: Run<'_>, text: &[u8]) -> Seen {
+fn assert_room(rt: &impl Abort, alloc: Global, run: Run<'_>, text: &[u8]) -> Seen {
     let room = run.room;
     let front = text.get(..room).expect(rt, "a front");
     let failed = Err(ToolFault::WriteFailed {
         written: room as u128,
     });
-    assert_run(rt, alloc, tables, run, failed, front)
+    assert_run(rt, alloc, run, failed, front)
 }
 
 /// The writer fails after each number of octets, and serves where it has room for one more than all.
 fn assert_each_room(
     rt: &impl Abort,
     alloc: Global,
-    tables: &Tables,
     run: Run<'_>,
     counts: (u128, u128, u128),
     text: &[u8],
@@ -74,10 +64,10 @@ fn assert_each_room(
     for room in 0..=text.len() {
         run.room = room;
         run.place = room;
-        let _ = assert_room(rt, alloc, tables, run, text);
+        let _ = assert_room(rt, alloc, run, text);
     }
     run.room = text.len().saturating_add(1);
-    let _ = assert_run(rt, alloc, tables, run, Ok(counts), text);
+    let _ = assert_run(rt, alloc, run, Ok(counts), text);
 }
 
 /// The output of a message is taken so many octets at a time.
@@ -90,29 +80,32 @@ const WIDTHS: [(&[u8], usize, &[u8]); 4] = [
 
 #[test]
 fn failing_writer_of_show(rt: HostRuntime) {
-    let tables = tables(&rt, rt.alloc());
     for (octets, width, text) in WIDTHS {
         let mut run = Run::new("show", Engine::Show, octets);
         run.width = width;
-        assert_each_room(&rt, rt.alloc(), &tables, run, (1, 0, 0), text);
+        assert_each_room(&rt, rt.alloc(), run, (1, 0, 0), text);
     }
 }
 
-/// The writer of the lines of `check`, in pieces, and that of two messages that are encoded.
+/// The writer of the lines of `check`, whose stream is read in pieces.
 #[test]
-fn failing_writer(rt: HostRuntime) {
-    let alloc = rt.alloc();
-    let tables = tables(&rt, alloc);
-    let octets = joined(&rt, alloc, TWO_FRAMES);
+fn failing_writer_of_check(rt: HostRuntime) {
+    let octets = joined(&rt, rt.alloc(), TWO_FRAMES);
     let mut run = Run::new("check", Engine::Check, &octets);
     run.most = 50;
     run.width = 3;
-    assert_each_room(&rt, alloc, &tables, run, (2, 0, 22), CHECKED);
+    assert_each_room(&rt, rt.alloc(), run, (2, 0, 22), CHECKED);
+}
+
+/// The writer of two messages that are encoded.
+#[test]
+fn failing_writer_of_encode(rt: HostRuntime) {
+    let alloc = rt.alloc();
     let listing = joined(&rt, alloc, &[(LISTING, 1), (SEQUENCES_LISTING, 1)]);
     let octets = joined(&rt, alloc, &[(ELEMENTS_ONLY, 1), (SEQUENCES, 1)]);
     let mut run = Run::new("encode", Engine::Encode(false), &listing);
     run.width = 1;
-    assert_each_room(&rt, alloc, &tables, run, (2, 0, 0), &octets);
+    assert_each_room(&rt, alloc, run, (2, 0, 0), &octets);
 }
 
 /// Rooms of a writer that fails within the first part of the listing, between the parts, within the
@@ -130,15 +123,14 @@ const ROOMS: [(usize, u32, usize); 4] = [
 #[test]
 fn long_listing_in_two_parts(rt: HostRuntime) {
     let alloc = rt.alloc();
-    let tables = tables(&rt, alloc);
     let text = joined(&rt, alloc, &[(HEADING, 1), (SUBSET, 4000), (b"end\n", 1)]);
     same(&rt, text.len(), 68_106);
     let mut run = Run::new("long listing", Engine::Show, MANY_SUBSETS);
-    let seen = assert_run(&rt, alloc, &tables, run, Ok((1, 0, 0)), &text);
+    let seen = assert_run(&rt, alloc, run, Ok((1, 0, 0)), &text);
     same(&rt, (seen.pieces, seen.longest), (2, 65_552));
     for (room, pieces, longest) in ROOMS {
         run.room = room;
-        let seen = assert_room(&rt, alloc, &tables, run, &text);
+        let seen = assert_room(&rt, alloc, run, &text);
         same(&rt, (seen.pieces, seen.longest), (pieces, longest));
     }
 }
@@ -146,8 +138,7 @@ fn long_listing_in_two_parts(rt: HostRuntime) {
 /// A short listing is written at once.
 #[test]
 fn short_listing_at_once(rt: HostRuntime) {
-    let tables = tables(&rt, rt.alloc());
     let run = Run::new("short listing", Engine::Show, ELEMENTS_ONLY);
-    let seen = assert_run(&rt, rt.alloc(), &tables, run, Ok((1, 0, 0)), LISTING);
+    let seen = assert_run(&rt, rt.alloc(), run, Ok((1, 0, 0)), LISTING);
     same(&rt, (seen.pieces, seen.longest), (1, 236));
 }

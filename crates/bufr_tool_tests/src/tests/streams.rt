@@ -3,13 +3,12 @@
 use super::samples::{
     CHECKED, COMPRESSED_PAIR, COMPRESSED_PAIR_LISTING, ELEMENTS_ONLY, LISTING, LISTING_WITHOUT_END,
     PAIR, PAIR_COMPRESSED, PAIR_LISTING, Part, SEQUENCES, SEQUENCES_LISTING, TWO_FRAMES,
-    UNEQUAL_COUNTS, UNEQUAL_COUNTS_LISTING, joined, tables,
+    UNEQUAL_COUNTS, UNEQUAL_COUNTS_LISTING, joined,
 };
 use super::{Counted, Engine, Run, assert_run, same, same_in};
 use bufr_io::{Input, ToolFault};
 use bufr_message::listing::ListingFault;
 use bufr_message::{EncodeFault, WriteFault};
-use bufr_tables::Tables;
 use std::alloc::Global;
 use std::process::Abort;
 
@@ -20,42 +19,44 @@ const EDITION_5: &[u8] = b"BUFR\x00\x00\x0C\x057777";
 const CUT_SECTION: &[u8] = b"BUFR\x00\x00\x0C\x047777";
 
 /// Parts of streams, and what is shown of them: messages, refused ones too, one after another.
-const SHOWN: [(&str, &[Part<'static>], (u128, u128, u128), &[Part<'static>]); 4] = [
+const SHOWN: [(&[Part<'static>], (u128, u128, u128), &[Part<'static>]); 4] = [
+    (&[(ELEMENTS_ONLY, 1)], (1, 0, 0), &[(LISTING, 1)]),
     (
-        "elements only",
-        &[(ELEMENTS_ONLY, 1)],
-        (1, 0, 0),
-        &[(LISTING, 1)],
-    ),
-    (
-        "edition 5",
         &[(EDITION_5, 1)],
         (1, 1, 0),
         &[(b"# refused 0 M2 Edition 5\n", 1)],
     ),
     (
-        "cut section",
         &[(b"noise ", 1), (CUT_SECTION, 1)],
         (1, 1, 0),
         &[(b"# refused 6 M5 Section1Length\n", 1)],
     ),
     (
-        "several messages",
         &[(b"noise", 1), (ELEMENTS_ONLY, 2000), (EDITION_5, 1)],
         (2001, 1, 0),
         &[(LISTING, 2000), (b"# refused 140005 M2 Edition 5\n", 1)],
     ),
 ];
 
+/// These parts are shown so.
+fn assert_shown(
+    rt: &impl Abort,
+    alloc: Global,
+    octets: &[Part<'_>],
+    counts: (u128, u128, u128),
+    text: &[Part<'_>],
+) {
+    let octets = joined(rt, alloc, octets);
+    let text = joined(rt, alloc, text);
+    let mut run = Run::new("shown, of so many octets", Engine::Show, &octets);
+    run.place = octets.len();
+    let _ = assert_run(rt, alloc, run, Ok(counts), &text);
+}
+
 #[test]
 fn messages_shown(rt: HostRuntime) {
-    let alloc = rt.alloc();
-    let tables = tables(&rt, alloc);
-    for (name, octets, counts, text) in SHOWN {
-        let octets = joined(&rt, alloc, octets);
-        let text = joined(&rt, alloc, text);
-        let run = Run::new(name, Engine::Show, &octets);
-        let _ = assert_run(&rt, alloc, &tables, run, Ok(counts), &text);
+    for (octets, counts, text) in SHOWN {
+        assert_shown(&rt, rt.alloc(), octets, counts, text);
     }
 }
 
@@ -63,18 +64,17 @@ fn messages_shown(rt: HostRuntime) {
 #[test]
 fn bufr_without_end(rt: HostRuntime) {
     let alloc = rt.alloc();
-    let tables = tables(&rt, alloc);
     let octets = joined(&rt, alloc, &[(b"BUFR", 4_194_304)]);
     let mut run = Run::new("BUFR", Engine::Check, &octets);
     run.reads = 257;
     let text = b"frames 0 refused 0 skipped 16777216\n";
-    let seen = assert_run(&rt, alloc, &tables, run, Ok((0, 0, 16_777_216)), text);
+    let seen = assert_run(&rt, alloc, run, Ok((0, 0, 16_777_216)), text);
     same(&rt, (seen.asked, seen.reads), (65_536, 257));
 }
 
 /// Whether compression is asked for, the listing of so many messages, and what it is encoded to:
 /// the examples in the folder of examples, and listings of no message.
-const LISTINGS: [(bool, u128, &[u8], &[u8]); 10] = [
+const LISTINGS: [(bool, u32, &[u8], &[u8]); 10] = [
     (false, 1, LISTING, ELEMENTS_ONLY),
     (false, 1, SEQUENCES_LISTING, SEQUENCES),
     (false, 1, COMPRESSED_PAIR_LISTING, COMPRESSED_PAIR),
@@ -87,79 +87,63 @@ const LISTINGS: [(bool, u128, &[u8], &[u8]); 10] = [
     (true, 0, b"# nothing\r\n\n# more", b""),
 ];
 
-/// A listing that comes so often is encoded to octets that come as often. Each read asks for 65,536
-/// octets.
+/// A listing is encoded to these octets, and the same again to the octets and the same again. Each
+/// read asks for 65,536 octets.
 fn assert_encoded(
     rt: &impl Abort,
     alloc: Global,
-    tables: &Tables,
     compressed: bool,
-    (times, messages): (u32, u128),
+    messages: u32,
     listing: &[u8],
     octets: &[u8],
 ) {
-    let listing = joined(rt, alloc, &[(listing, times)]);
-    let octets = joined(rt, alloc, &[(octets, times)]);
-    let run = Run::new("listing", Engine::Encode(compressed), &listing);
-    let seen = assert_run(rt, alloc, tables, run, Ok((messages, 0, 0)), &octets);
-    same(rt, seen.asked, 65_536);
-}
-
-/// The listing of each example is encoded to the example, and the same again to the message and the
-/// same again. Edition 3 is tried by `tests/commands` at the top.
-#[test]
-fn listings_of_examples(rt: HostRuntime) {
-    let alloc = rt.alloc();
-    let tables = tables(&rt, alloc);
-    for (compressed, messages, listing, octets) in LISTINGS {
-        assert_encoded(
-            &rt,
-            alloc,
-            &tables,
-            compressed,
-            (1, messages),
-            listing,
-            octets,
-        );
-        let twice = (2, messages.saturating_add(messages));
-        assert_encoded(&rt, alloc, &tables, compressed, twice, listing, octets);
+    for times in [1u32, 2] {
+        let listing = joined(rt, alloc, &[(listing, times)]);
+        let octets = joined(rt, alloc, &[(octets, times)]);
+        let mut run = Run::new("listing, so often", Engine::Encode(compressed), &listing);
+        run.place = times as usize;
+        let frames = u128::from(messages.saturating_mul(times));
+        let seen = assert_run(rt, alloc, run, Ok((frames, 0, 0)), &octets);
+        same(rt, seen.asked, 65_536);
     }
 }
 
-/// What stands behind a message and one that can't be compressed, and the first fault of all.
-const BEHIND: [(&[u8], &[u8], Counted); 3] = [
-    (b"", b"", NOT_COMPRESSIBLE),
-    (PAIR_LISTING, b"", NOT_COMPRESSIBLE),
-    (
-        PAIR_LISTING,
-        b"message\nsection\n",
-        Err(ToolFault::Listing(ListingFault::BadLine(61))),
-    ),
-];
+/// The listing of each example is encoded to the example, and that of two messages to both. Edition
+/// 3 is tried by `tests/commands` at the top.
+#[test]
+fn listings_of_examples(rt: HostRuntime) {
+    for (compressed, messages, listing, octets) in LISTINGS {
+        assert_encoded(&rt, rt.alloc(), compressed, messages, listing, octets);
+    }
+}
+
+/// Of a message, one that can't be compressed, and what stands behind, nothing is written.
+fn assert_refused(rt: &impl Abort, alloc: Global, third: &[u8], last: &[u8], wanted: Counted) {
+    let parts = [
+        (PAIR_LISTING, 1u32),
+        (UNEQUAL_COUNTS_LISTING, 1),
+        (third, 1),
+        (last, 1),
+    ];
+    let listing = joined(rt, alloc, &parts);
+    let run = Run::new("refused", Engine::Encode(true), &listing);
+    let _ = assert_run(rt, alloc, run, wanted, b"");
+}
 
 /// A message that is refused leaves nothing written of those before it, whatever comes behind it.
 /// The listing's fault comes before that of any message.
 #[test]
 fn first_faults(rt: HostRuntime) {
     let alloc = rt.alloc();
-    let tables = tables(&rt, alloc);
-    for (third, last, wanted) in BEHIND {
-        let parts = [
-            (PAIR_LISTING, 1u32),
-            (UNEQUAL_COUNTS_LISTING, 1),
-            (third, 1),
-            (last, 1),
-        ];
-        let listing = joined(&rt, alloc, &parts);
-        let run = Run::new("faults", Engine::Encode(true), &listing);
-        let _ = assert_run(&rt, alloc, &tables, run, wanted, b"");
-    }
+    assert_refused(&rt, alloc, b"", b"", NOT_COMPRESSIBLE);
+    assert_refused(&rt, alloc, PAIR_LISTING, b"", NOT_COMPRESSIBLE);
+    assert_refused(&rt, alloc, PAIR_LISTING, b"message\nsection\n", BAD_LINE);
     let run = Run::new("cut", Engine::Encode(false), LISTING_WITHOUT_END);
-    let _ = assert_run(&rt, alloc, &tables, run, CUT, b"");
+    let _ = assert_run(&rt, alloc, run, CUT, b"");
 }
 
-/// Answers: no end, a failed read, a second message that can't be compressed, a listing without its
-/// end.
+/// Answers: no end, a failed read, a second message that can't be compressed, a bad line, a listing
+/// without its end.
 const ENDLESS: Counted = Err(ToolFault::EndlessInput(Input::Number(1)));
 
 const READ_FAILED: Counted = Err(ToolFault::ReadFailed(Input::Number(1)));
@@ -168,6 +152,8 @@ const NOT_COMPRESSIBLE: Counted = Err(ToolFault::Encode(
     2,
     EncodeFault::Data(WriteFault::NotCompressible(1)),
 ));
+
+const BAD_LINE: Counted = Err(ToolFault::Listing(ListingFault::BadLine(61)));
 
 const CUT: Counted = Err(ToolFault::Listing(ListingFault::BadLine(15)));
 
@@ -196,7 +182,6 @@ const DRIPPED: [(Engine, u32, bool, Counted); 12] = [
 fn assert_dripped(
     rt: &impl Abort,
     alloc: Global,
-    tables: &Tables,
     engine: Engine,
     reads: u32,
     octets: &[u8],
@@ -209,7 +194,7 @@ fn assert_dripped(
     run.reads = reads;
     run.most = 1;
     run.breaks = breaks;
-    let seen = assert_run(rt, alloc, tables, run, wanted, text);
+    let seen = assert_run(rt, alloc, run, wanted, text);
     let ended = (octets.len() as u64).saturating_add(1);
     same_in(rt, seen.reads, ended.min(u64::from(reads)), run);
 }
@@ -217,10 +202,9 @@ fn assert_dripped(
 #[test]
 fn endless_and_failing_readers(rt: HostRuntime) {
     let alloc = rt.alloc();
-    let tables = tables(&rt, alloc);
     for (engine, count, breaks, wanted) in DRIPPED {
         let octets = joined(&rt, alloc, &[(b"B", count)]);
-        assert_dripped(&rt, alloc, &tables, engine, 4, &octets, breaks, wanted, b"");
+        assert_dripped(&rt, alloc, engine, 4, &octets, breaks, wanted, b"");
     }
 }
 
@@ -229,28 +213,15 @@ fn endless_and_failing_readers(rt: HostRuntime) {
 #[test]
 fn endless_sources(rt: HostRuntime) {
     let alloc = rt.alloc();
-    let tables = tables(&rt, alloc);
     let octets = joined(&rt, alloc, &[(b"B", 2000)]);
     for reads in [0u32, 1, 4, 1000] {
         for engine in [Engine::Show, Engine::Check] {
-            assert_dripped(
-                &rt, alloc, &tables, engine, reads, &octets, false, ENDLESS, b"",
-            );
+            assert_dripped(&rt, alloc, engine, reads, &octets, false, ENDLESS, b"");
         }
     }
     let text = b"frames 0 refused 0 skipped 3\n";
     let ended = Ok((0, 0, 3));
-    assert_dripped(
-        &rt,
-        alloc,
-        &tables,
-        Engine::Check,
-        4,
-        b"BBB",
-        false,
-        ended,
-        text,
-    );
+    assert_dripped(&rt, alloc, Engine::Check, 4, b"BBB", false, ended, text);
 }
 
 /// These octets in turn, five hundred times.
@@ -269,7 +240,6 @@ fn in_turn(rt: &impl Abort, alloc: Global, four: [&[u8]; 4]) -> Vec<u8> {
 #[test]
 fn many_messages(rt: HostRuntime) {
     let alloc = rt.alloc();
-    let tables = tables(&rt, alloc);
     let messages = [SEQUENCES, COMPRESSED_PAIR, UNEQUAL_COUNTS, ELEMENTS_ONLY];
     let octets = in_turn(&rt, alloc, messages);
     let listings = [
@@ -280,65 +250,58 @@ fn many_messages(rt: HostRuntime) {
     ];
     let text = in_turn(&rt, alloc, listings);
     let run = Run::new("many messages", Engine::Show, &octets);
-    let _ = assert_run(&rt, alloc, &tables, run, Ok((2000, 0, 0)), &text);
+    let _ = assert_run(&rt, alloc, run, Ok((2000, 0, 0)), &text);
     let run = Run::new("many messages", Engine::Encode(false), &text);
-    let _ = assert_run(&rt, alloc, &tables, run, Ok((2000, 0, 0)), &octets);
+    let _ = assert_run(&rt, alloc, run, Ok((2000, 0, 0)), &octets);
 }
 
-/// The stream gives the same lines wherever it is cut into two pieces, and octet by octet. What was
-/// told before too many reads stays.
+/// The stream gives the same lines wherever it is cut into two pieces.
 #[test]
 fn two_frames_and_a_stray_in_any_pieces(rt: HostRuntime) {
-    let alloc = rt.alloc();
-    let tables = tables(&rt, alloc);
-    let octets = joined(&rt, alloc, TWO_FRAMES);
+    let octets = joined(&rt, rt.alloc(), TWO_FRAMES);
     for cut in 0usize..147 {
         let mut run = Run::new("cut", Engine::Check, &octets);
         run.cut = cut;
         run.place = cut;
-        let _ = assert_run(&rt, alloc, &tables, run, Ok((2, 0, 22)), CHECKED);
+        let _ = assert_run(&rt, rt.alloc(), run, Ok((2, 0, 22)), CHECKED);
     }
-    let two = Ok((2, 0, 22));
-    assert_dripped(
-        &rt,
-        alloc,
-        &tables,
-        Engine::Check,
-        147,
-        &octets,
-        false,
-        two,
-        CHECKED,
-    );
-    let first = b"18 62 ok 1 0\n";
-    assert_dripped(
-        &rt,
-        alloc,
-        &tables,
-        Engine::Check,
-        100,
-        &octets,
-        false,
-        ENDLESS,
-        first,
-    );
+}
+
+/// The same octet by octet. What was told before too many reads stays.
+#[test]
+fn two_frames_and_a_stray_in_octets(rt: HostRuntime) {
+    let octets = joined(&rt, rt.alloc(), TWO_FRAMES);
+    for (reads, wanted, text) in [
+        (147u32, Ok((2, 0, 22)), CHECKED),
+        (100, ENDLESS, b"18 62 ok 1 0\n"),
+    ] {
+        assert_dripped(
+            &rt,
+            rt.alloc(),
+            Engine::Check,
+            reads,
+            &octets,
+            false,
+            wanted,
+            text,
+        );
+    }
 }
 
 /// Octets in which there is no whole frame are all skipped.
-fn assert_skipped(rt: &impl Abort, alloc: Global, tables: &Tables, octets: &[u8]) {
+fn assert_skipped(rt: &impl Abort, alloc: Global, octets: &[u8]) {
     let length = octets.len();
     let text = format!(in alloc; "frames 0 refused 0 skipped {length}\n").expect(rt, "room");
     let mut run = Run::new("skipped", Engine::Check, octets);
     run.place = length;
     let skipped = Ok((0, 0, length as u128));
-    let _ = assert_run(rt, alloc, tables, run, skipped, text.as_bytes());
+    let _ = assert_run(rt, alloc, run, skipped, text.as_bytes());
 }
 
 #[test]
 fn cut_short(rt: HostRuntime) {
-    let tables = tables(&rt, rt.alloc());
     for length in 0usize..62 {
-        assert_skipped(&rt, rt.alloc(), &tables, &SEQUENCES[..length]);
+        assert_skipped(&rt, rt.alloc(), &SEQUENCES[..length]);
     }
 }
 
@@ -359,8 +322,7 @@ fn thousand_refused(rt: HostRuntime) {
     let alloc = rt.alloc();
     let octets = joined(&rt, alloc, &[(CUT_SECTION, 1000)]);
     let text = thousand_lines(&rt, alloc);
-    let tables = tables(&rt, alloc);
     let run = Run::new("refused", Engine::Check, &octets);
     let refused = Ok((1000, 1000, 0));
-    let _ = assert_run(&rt, alloc, &tables, run, refused, text.as_bytes());
+    let _ = assert_run(&rt, alloc, run, refused, text.as_bytes());
 }
