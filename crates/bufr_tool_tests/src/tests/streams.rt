@@ -118,7 +118,13 @@ fn listings_of_examples(rt: HostRuntime) {
 }
 
 /// Of a message, one that can't be compressed, and what stands behind, nothing is written.
-fn assert_refused(rt: &impl Abort, alloc: Global, third: &[u8], last: &[u8], wanted: Counted) {
+fn assert_refused<'x>(
+    rt: &impl Abort,
+    alloc: Global,
+    third: &'x [u8],
+    last: &'x [u8],
+    wanted: Counted,
+) {
     let parts = [
         (PAIR_LISTING, 1u32),
         (UNEQUAL_COUNTS_LISTING, 1),
