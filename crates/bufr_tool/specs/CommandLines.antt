@@ -4,8 +4,7 @@ use Rattle.std.specs.Prelude.{if◌then◌else◌}
 use Rattle.std.specs.Option.{option_map_or}
 use Rattle.std.specs.Str.{bytes_eq}
 use Rattle.clap.specs.Words.{App, Row, Rule, Shape, all_of, first_of, new_app, new_rule}
-use Rattle.clap.specs.Words.{subcommand_of}
-use Rattle.clap.specs.Words.{with_subcommand}
+use Rattle.clap.specs.Words.{subcommand_of, with_rule, with_subcommand}
 use Rattle.clap.specs.Simple.{new_shape, on_top}
 use Rattle.clap.specs.declared.builder.action.ArgAction.TheVariants.{Set, SetTrue, Append}
 use Rattle.bufr_tool.specs.declared.command_line.Task.{Task}
@@ -22,6 +21,11 @@ path_option id letter = record
 abbrev pub input_argument : Rule
 input_argument = record
     (new_rule (codes "input")) { action = Some Set; value_names = 1; required = true }
+
+-- `NAME -b TABLE_B -d TABLE_D`, before it has an input
+abbrev pub under_tables : List ℕ → App
+under_tables name = with_rule (with_rule (new_app name) (path_option (codes "b") 98))
+    (path_option (codes "d") 100)
 
 -- `NAME -b TABLE_B -d TABLE_D INPUT`
 abbrev pub reading_command : List ℕ → Shape

@@ -1,12 +1,13 @@
 //! The command line.
 
 ghost use Rattle.std.specs.Prelude.{◌≡◌, true, false, map, codes, IfOk, IfErr};
-ghost use Rattle.clap.specs.Words.{app_of, kind_of, rule_of, shape_of, subcommand_rows_of, takes};
+ghost use Rattle.clap.specs.Words.{App, Shape, app_of, kind_of, rule_of, shape_of};
+ghost use Rattle.clap.specs.Words.{subcommand_rows_of, takes, with_subcommand};
 ghost use Rattle.clap.specs.declared.error.ErrorKind.TheVariants.{OutOfMemory as NoMemory};
 ghost use Rattle.bufr_tool.specs.CommandLines.{collecting_command, commands};
 ghost use Rattle.bufr_tool.specs.CommandLines.{encoding_command, flag, flag_in};
 ghost use Rattle.bufr_tool.specs.CommandLines.{flag_of, input_argument, inputs_argument};
-ghost use Rattle.bufr_tool.specs.CommandLines.{path_option, commands_without_archive};
+ghost use Rattle.bufr_tool.specs.CommandLines.{path_option, commands_without_archive, program, under_tables};
 ghost use Rattle.bufr_tool.specs.CommandLines.{reading_command, task_in, task_of, value_in};
 ghost use Rattle.bufr_tool.specs.CommandLines.{value_of, values_in, values_of};
 
@@ -164,15 +165,15 @@ fn bufr<'a>(alloc: Global) -> Result<Command<'a>, OutOfMemory>
 {
     let add = "Makes an archive of files: one copy of each report";
     let merge = "Makes one archive of several";
-    without_archive(alloc)?
-        .subcommand(collecting(
-            alloc,
-            "add",
-            [add, ADD],
-            "FILE",
-            "The files of the messages",
-        )?)?
-        .subcommand(collecting(alloc, "merge", [merge, MERGE], "ARCHIVE", "The archives")?)
+    let adding = collecting(
+        alloc,
+        "add",
+        [add, ADD],
+        "FILE",
+        "The files of the messages",
+    );
+    let merging = collecting(alloc, "merge", [merge, MERGE], "ARCHIVE", "The archives");
+    with_command(with_command(without_archive(alloc), adding), merging)
 }
 
 /// The commands that write no archive.
@@ -181,15 +182,33 @@ fn without_archive<'a>(alloc: Global) -> Result<Command<'a>, OutOfMemory>
 {
     let show = "Shows the messages of a file as a listing";
     let check = "Says of each message of a file whether it can be read";
-    Command::new(alloc, "bufr")
+    let with_show = with_command(program(alloc), reading(alloc, "show", [show, SHOW]));
+    let with_check = with_command(with_show, reading(alloc, "check", [check, CHECK]));
+    with_command(with_check, encoding(alloc))
+}
+
+/// The program before it has a command.
+fn program<'a>(alloc: Global) -> Result<Command<'a>, OutOfMemory>
+    ensures { IfOk result (λ c. app_of c ≡ program) }
+{
+    let named = Command::new(alloc, "bufr")
         .about("Reads, writes and collects BUFR messages of the world's weather services")
         .version(VERSION)
-        .bin_name("bufr")?
-        .no_binary_name(true)
-        .subcommand_required(true)
-        .subcommand(reading(alloc, "show", [show, SHOW])?)?
-        .subcommand(reading(alloc, "check", [check, CHECK])?)?
-        .subcommand(encoding(alloc)?)
+        .bin_name("bufr")?;
+    Ok(named.no_binary_name(true).subcommand_required(true))
+}
+
+/// A program with one more command, where memory ran out for neither.
+fn with_command<'a>(
+    before: Result<Command<'a>, OutOfMemory>,
+    command: Result<Command<'a>, OutOfMemory>,
+) -> Result<Command<'a>, OutOfMemory>
+    ensures { (app : App) (shape : Shape) → IfOk before.entry (λ p. app_of p ≡ app)
+        → IfOk command.entry (λ c. shape_of c ≡ shape) → shape.is_plain ≡ true
+        → IfOk result (λ c. app_of c ≡ with_subcommand app shape) }
+{
+    let command = command?;
+    before?.subcommand(command)
 }
 
 /// A command that reads a file of messages under tables, with what it does and an example.
@@ -200,30 +219,24 @@ fn reading<'a>(
 ) -> Result<Command<'a>, OutOfMemory>
     ensures { IfOk result (λ c. shape_of c ≡ reading_command name.now) }
 {
-    let b = "The CSV file of Table B: the elements";
-    let d = "The CSV file of Table D: the sequences";
-    let [about, example] = texts;
-    Command::new(alloc, name)
-        .about(about)
-        .after_help(example)
-        .arg(path(alloc, "b", 'b', "TABLE_B", b))?
-        .arg(path(alloc, "d", 'd', "TABLE_D", d))?
-        .arg(input(alloc, "FILE", "The file of the messages, or /dev/stdin"))
+    under_tables(alloc, name, texts)?.arg(input(
+        alloc,
+        "FILE",
+        "The file of the messages, or /dev/stdin",
+    ))
 }
 
 /// The command that reads a listing under tables.
 fn encoding<'a>(alloc: Global) -> Result<Command<'a>, OutOfMemory>
     ensures { IfOk result (λ c. shape_of c ≡ encoding_command) }
 {
-    let b = "The CSV file of Table B: the elements";
-    let d = "The CSV file of Table D: the sequences";
-    Command::new(alloc, "encode")
-        .about("Writes the messages of a listing")
-        .after_help(ENCODE)
-        .arg(path(alloc, "b", 'b', "TABLE_B", b))?
-        .arg(path(alloc, "d", 'd', "TABLE_D", d))?
-        .arg(switch(alloc, "compressed", "Compresses every message"))?
-        .arg(input(alloc, "LISTING", "The file of the listing, or /dev/stdin"))
+    under_tables(
+        alloc,
+        "encode",
+        ["Writes the messages of a listing", ENCODE],
+    )?
+    .arg(switch(alloc, "compressed", "Compresses every message"))?
+    .arg(input(alloc, "LISTING", "The file of the listing, or /dev/stdin"))
 }
 
 /// A command that writes an archive of what it reads under tables, with what it does and an
@@ -232,28 +245,33 @@ fn collecting<'a>(
     alloc: Global,
     name: &'a str,
     texts: [&'a str; 2],
-    inputs: &'a str,
+    files: &'a str,
     help: &'a str,
 ) -> Result<Command<'a>, OutOfMemory>
     ensures { IfOk result (λ c. shape_of c ≡ collecting_command name.now) }
 {
+    let out = "The archive that is written, once all was read";
+    under_tables(alloc, name, texts)?
+        .arg(path(alloc, "out", 'o', "OUT", out))?
+        .arg(inputs(alloc, files, help))
+}
+
+/// A command under tables, with what it does and an example.
+fn under_tables<'a>(
+    alloc: Global,
+    name: &'a str,
+    texts: [&'a str; 2],
+) -> Result<Command<'a>, OutOfMemory>
+    ensures { IfOk result (λ c. app_of c ≡ under_tables name.now) }
+{
     let b = "The CSV file of Table B: the elements";
     let d = "The CSV file of Table D: the sequences";
-    let out = "The archive that is written, once all was read";
     let [about, example] = texts;
     Command::new(alloc, name)
         .about(about)
         .after_help(example)
         .arg(path(alloc, "b", 'b', "TABLE_B", b))?
-        .arg(path(alloc, "d", 'd', "TABLE_D", d))?
-        .arg(path(alloc, "out", 'o', "OUT", out))?
-        .arg(
-            Arg::new(alloc, "input")
-                .value_name(inputs)
-                .help(help)
-                .required(true)
-                .action(ArgAction::Append),
-        )
+        .arg(path(alloc, "d", 'd', "TABLE_D", d))
 }
 
 /// The option of a file.
@@ -290,4 +308,16 @@ fn input<'a>(alloc: Global, name: &'a str, help: &'a str) -> Arg<'a>
         .help(help)
         .required(true)
         .action(ArgAction::Set)
+}
+
+/// The files that are read.
+fn inputs<'a>(alloc: Global, name: &'a str, help: &'a str) -> Arg<'a>
+    ensures rule { rule_of result ≡ inputs_argument }
+    ensures local { result.global ≡ false }
+{
+    Arg::new(alloc, "input")
+        .value_name(name)
+        .help(help)
+        .required(true)
+        .action(ArgAction::Append)
 }
