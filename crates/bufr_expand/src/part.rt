@@ -1,13 +1,10 @@
 //! What one descriptor of a list stands for.
 
-ghost use Rattle.std.specs.Prelude.{◌≡◌, ◌≤◌, length, Some, true, false, IfOk, IfSome, IfNone};
+ghost use Rattle.std.specs.Prelude.{◌≡◌, ◌≤◌, length, pos, Some, true, false, IfOk, IfSome, IfNone};
 ghost use Rattle.bufr_answers.specs.Answers.{result_map};
-ghost use Rattle.bufr_tables.specs.Descriptors.{f_of};
-ghost use Rattle.bufr_tables.specs.Entries.{element, sequence};
-ghost use Rattle.bufr_expand.specs.Expansion.{found_at, replication_found, delayed_found};
-ghost use Rattle.bufr_expand.specs.Expansion.{factor_row, is_factor_row, operator_found};
-ghost use Rattle.bufr_expand.specs.Expansion.{width_found, local_found};
-ghost use Rattle.bufr_expand.specs.Expansion as expansion;
+ghost use Rattle.bufr_tables.specs.Descriptors.{x_of, y_of};
+ghost use Rattle.bufr_expand.specs.Expansion.{found_at, delayed_found, factor_row, is_factor_row};
+ghost use Rattle.bufr_expand.specs.Expansion.{width_found};
 ghost use Rattle.bufr_expand.specs.Parts.{seen};
 
 use crate::limits::{MOST_FACTOR_BITS, MOST_NUMBER_BITS};
@@ -34,18 +31,9 @@ pub struct FirstPart<'a> {
     pub taken: usize,
 }
 
-/// One node, to which so many of the descriptors behind the first belong.
-fn single<'a>(node: Node, taken: usize) -> FirstPart<'a>
-    ensures { seen result ≡ record { part = expansion.single node; taken = taken } }
-{
-    FirstPart {
-        part: Part::Single(node),
-        taken,
-    }
-}
-
 /// What a descriptor stands for, by those behind it in the same list: an element of Table B, a
-/// replication, an operator or the list of Table D. X1 to X7 where it stands for nothing.
+/// replication, an operator or the list of Table D. A replication is by a factor where Y is 0, else
+/// of the next X descriptors, Y times. X1 to X7 where it stands for nothing.
 pub fn found_at<'a>(
     tables: &'a Tables,
     first: Fxy,
@@ -54,55 +42,49 @@ pub fn found_at<'a>(
     ensures value { result_map seen result ≡ found_at tables.now first behind.now }
     ensures taken { IfOk result (λ p. p.taken ≤ length behind.now) }
 {
-    let part = match first.f() {
-        0 => match tables.element(first) {
-            Some(element) => Part::Single(Node::Element(first, *element)),
+    let (part, taken) = match (first.f(), first.x(), first.y()) {
+        (0, _, _) => match tables.element(first) {
+            Some(element) => (Part::Single(Node::Element(first, *element)), 0),
             None => return Err(TemplateFault::UnknownElement(first)),
         },
-        1 => return replication_found(tables, first, behind),
-        2 => return operator_found(tables, first, behind),
+        (1, 0, _) => return Err(TemplateFault::BadReplication(first)),
+        (1, x, 0) => return delayed_found(tables, first, x as usize, behind),
+        (1, x, _) if behind.len() < x as usize => {
+            return Err(TemplateFault::BadReplication(first));
+        }
+        (1, x, y) => {
+            let body = &behind[..x as usize];
+            (
+                Part::Replication(Repetitions::Times(y as u64), body),
+                body.len(),
+            )
+        }
+        (2, 1 | 2 | 7 | 8, _) => (Part::Single(Node::Operator(first)), 0),
+        (2, 5 | 6, 0) => return Err(TemplateFault::BadOperand(first)),
+        (2, 5, y) => {
+            let text = plain(Kind::Text, 8 * y as u32);
+            (Part::Single(Node::Untouched(first, text)), 0)
+        }
+        (2, 6, y) => return width_found(tables, first, y as u32, behind),
+        (2, _, _) => return Err(TemplateFault::UnsupportedOperator(first)),
         _ => match tables.sequence(first) {
-            Some(list) => Part::Inner(list),
+            Some(list) => (Part::Inner(list), 0),
             None => return Err(TemplateFault::UnknownSequence(first)),
         },
     };
-    Ok(FirstPart { part, taken: 0 })
+    Ok(FirstPart { part, taken })
 }
 
-/// A replication: by a factor where Y is 0, else of the next X descriptors, Y times. X4 or X5 where
-/// there is none, X4 where fewer descriptors are left.
-fn replication_found<'a>(
-    tables: &Tables,
-    first: Fxy,
-    behind: &'a [Fxy],
-) -> Result<FirstPart<'a>, TemplateFault>
-    ensures value { result_map seen result ≡ replication_found tables.now first behind.now }
-    ensures taken { IfOk result (λ p. p.taken ≤ length behind.now) }
-{
-    let count = first.x() as usize;
-    if count == 0 {
-        return Err(TemplateFault::BadReplication(first));
-    }
-    if first.y() == 0 {
-        return delayed_found(tables, first, behind);
-    }
-    if behind.len() < count {
-        return Err(TemplateFault::BadReplication(first));
-    }
-    let repetitions = Repetitions::Times(first.y() as u64);
-    Ok(FirstPart {
-        part: Part::Replication(repetitions, &behind[..count]),
-        taken: count,
-    })
-}
-
-/// A replication by a factor. X4 where nothing follows, X5, then X4 where fewer than X descriptors
-/// are left.
+/// A replication of `count` descriptors by a factor. X4 where nothing follows, X5 where what follows
+/// is no factor or has no row of Table B by which it can be read: a number of 1 to 16 bits, with
+/// neither scale nor reference value. Then X4 where fewer descriptors are left.
 fn delayed_found<'a>(
     tables: &Tables,
     first: Fxy,
+    count: usize,
     behind: &'a [Fxy],
 ) -> Result<FirstPart<'a>, TemplateFault>
+    requires { count ≡ x_of first }
     ensures value { result_map seen result ≡ delayed_found tables.now first behind.now }
     ensures taken { IfOk result (λ p. p.taken ≤ length behind.now) }
 {
@@ -112,7 +94,6 @@ fn delayed_found<'a>(
     let Some(element) = factor_row(tables, *factor) else {
         return Err(TemplateFault::BadFactor(*factor));
     };
-    let count = first.x() as usize;
     if body.len() < count {
         return Err(TemplateFault::BadReplication(first));
     }
@@ -123,11 +104,6 @@ fn delayed_found<'a>(
     })
 }
 
-/// The first and the last descriptor of a delayed replication factor: 031000 and 031002.
-const FIRST_FACTOR: u16 = 0x1F00;
-
-const LAST_FACTOR: u16 = 0x1F02;
-
 /// The row of a factor, where the descriptor is one and Table B has a row by which it can be read: a
 /// number of 1 to 16 bits, with neither scale nor reference value.
 fn factor_row(tables: &Tables, factor: Fxy) -> Option<Element>
@@ -136,7 +112,7 @@ fn factor_row(tables: &Tables, factor: Fxy) -> Option<Element>
     ensures none { IfNone result (IfSome (factor_row tables.now factor)
         (λ row. is_factor_row row ≡ false)) }
 {
-    if factor.bits() < FIRST_FACTOR || factor.bits() > LAST_FACTOR {
+    if !matches!((factor.f(), factor.x(), factor.y()), (0, 31, 0..=2)) {
         return None;
     }
     let element = *tables.element(factor)?;
@@ -150,67 +126,41 @@ fn factor_row(tables: &Tables, factor: Fxy) -> Option<Element>
     }
 }
 
-/// An operator. X3, X6 or X7 where there is none.
-fn operator_found<'a>(
-    tables: &Tables,
-    first: Fxy,
-    behind: &[Fxy],
-) -> Result<FirstPart<'a>, TemplateFault>
-    ensures value { result_map seen result ≡ operator_found tables.now first behind.now }
-    ensures taken { IfOk result (λ p. p.taken ≤ length behind.now) }
-{
-    match first.x() {
-        1 | 2 | 7 | 8 => Ok(single(Node::Operator(first), 0)),
-        5 | 6 if first.y() == 0 => Err(TemplateFault::BadOperand(first)),
-        5 => {
-            let text = Element {
-                kind: Kind::Text,
-                scale: 0,
-                reference: 0,
-                width: 8 * first.y() as u32,
-            };
-            Ok(single(Node::Untouched(first, text), 0))
-        }
-        6 => width_found(tables, first, behind),
-        _ => Err(TemplateFault::UnsupportedOperator(first)),
-    }
-}
-
-/// The element behind 206 with the width Y. X7 where there is none, X6 where it can't have this
-/// width.
+/// The element behind 206 with this width: by its row where that has the width, else as a number of
+/// so many bits. X7 where there is none, X6 where the number would have over 63 bits.
 fn width_found<'a>(
     tables: &Tables,
     first: Fxy,
+    width: u32,
     behind: &[Fxy],
 ) -> Result<FirstPart<'a>, TemplateFault>
+    requires { width ≡ y_of first }
     ensures value { result_map seen result ≡ width_found tables.now first behind.now }
     ensures taken { IfOk result (λ p. p.taken ≤ length behind.now) }
 {
-    match behind.first() {
-        Some(local) if local.f() == 0 => local_found(tables, first, *local),
-        _ => Err(TemplateFault::Dangling206(first)),
-    }
+    let local = match behind.first() {
+        Some(local) if local.f() == 0 => *local,
+        _ => return Err(TemplateFault::Dangling206(first)),
+    };
+    let element = match tables.element(local) {
+        Some(element) if element.width == width => *element,
+        _ if width > MOST_NUMBER_BITS => return Err(TemplateFault::BadOperand(first)),
+        _ => plain(Kind::Quantity, width),
+    };
+    Ok(FirstPart {
+        part: Part::Single(Node::Untouched(local, element)),
+        taken: 1,
+    })
 }
 
-/// An element by its row where that has the width Y, else as a number of Y bits. X6 where Y is over
-/// 63 then.
-fn local_found<'a>(tables: &Tables, first: Fxy, local: Fxy) -> Result<FirstPart<'a>, TemplateFault>
-    ensures value { result_map seen result ≡ local_found first local (element tables.now local) }
-    ensures taken { IfOk result (λ p. p.taken ≡ 1) }
+/// An element of so many bits, with neither scale nor reference value.
+fn plain(kind: Kind, width: u32) -> Element
+    ensures { result ≡ record { kind = kind; scale = pos 0; reference = pos 0; width = width } }
 {
-    match tables.element(local) {
-        Some(element) if element.width == first.y() as u32 => {
-            Ok(single(Node::Untouched(local, *element), 1))
-        }
-        _ if u32::from(first.y()) > MOST_NUMBER_BITS => Err(TemplateFault::BadOperand(first)),
-        _ => {
-            let number = Element {
-                kind: Kind::Quantity,
-                scale: 0,
-                reference: 0,
-                width: first.y() as u32,
-            };
-            Ok(single(Node::Untouched(local, number), 1))
-        }
+    Element {
+        kind,
+        scale: 0,
+        reference: 0,
+        width,
     }
 }
