@@ -1,9 +1,9 @@
 //! What one descriptor of a list stands for.
 
-ghost use Rattle.std.specs.Prelude.{◌≡◌, ◌≤◌, length, pos, Some, true, false, IfOk, IfSome, IfNone};
+ghost use Rattle.std.specs.Prelude.{◌≡◌, ◌≤◌, length, pos, IfOk};
 ghost use Rattle.bufr_answers.specs.Answers.{result_map};
 ghost use Rattle.bufr_tables.specs.Descriptors.{x_of, y_of};
-ghost use Rattle.bufr_expand.specs.Expansion.{found_at, delayed_found, factor_row, is_factor_row};
+ghost use Rattle.bufr_expand.specs.Expansion.{found_at, delayed_found};
 ghost use Rattle.bufr_expand.specs.Expansion.{width_found};
 ghost use Rattle.bufr_expand.specs.Parts.{seen};
 
@@ -54,10 +54,8 @@ pub fn found_at<'a>(
         }
         (1, x, y) => {
             let body = &behind[..x as usize];
-            (
-                Part::Replication(Repetitions::Times(y as u64), body),
-                body.len(),
-            )
+            let times = Repetitions::Times(y as u64);
+            (Part::Replication(times, body), body.len())
         }
         (2, 1 | 2 | 7 | 8, _) => (Part::Single(Node::Operator(first)), 0),
         (2, 5 | 6, 0) => return Err(TemplateFault::BadOperand(first)),
@@ -75,9 +73,9 @@ pub fn found_at<'a>(
     Ok(FirstPart { part, taken })
 }
 
-/// A replication of `count` descriptors by a factor. X4 where nothing follows, X5 where what follows
-/// is no factor or has no row of Table B by which it can be read: a number of 1 to 16 bits, with
-/// neither scale nor reference value. Then X4 where fewer descriptors are left.
+/// A replication of `count` descriptors by a factor: 031000, 031001 or 031002, with a row of Table B
+/// by which it can be read, a number of 1 to 16 bits with neither scale nor reference value. X4
+/// where nothing follows, X5 where that is no such factor, then X4 where fewer descriptors are left.
 fn delayed_found<'a>(
     tables: &Tables,
     first: Fxy,
@@ -91,8 +89,17 @@ fn delayed_found<'a>(
     let Some((factor, body)) = behind.split_first() else {
         return Err(TemplateFault::BadReplication(first));
     };
-    let Some(element) = factor_row(tables, *factor) else {
-        return Err(TemplateFault::BadFactor(*factor));
+    let is_factor = matches!((factor.f(), factor.x(), factor.y()), (0, 31, 0..=2));
+    let element = match tables.element(*factor) {
+        Some(
+            element @ Element {
+                kind: Kind::Quantity | Kind::Count | Kind::Code | Kind::Flag,
+                scale: 0,
+                reference: 0,
+                width: 1..=MOST_FACTOR_BITS,
+            },
+        ) if is_factor => *element,
+        _ => return Err(TemplateFault::BadFactor(*factor)),
     };
     if body.len() < count {
         return Err(TemplateFault::BadReplication(first));
@@ -102,28 +109,6 @@ fn delayed_found<'a>(
         part: Part::Replication(repetitions, &body[..count]),
         taken: count + 1,
     })
-}
-
-/// The row of a factor, where the descriptor is one and Table B has a row by which it can be read: a
-/// number of 1 to 16 bits, with neither scale nor reference value.
-fn factor_row(tables: &Tables, factor: Fxy) -> Option<Element>
-    ensures some { IfSome result (λ row. (factor_row tables.now factor ≡ Some row)
-        × (is_factor_row row ≡ true)) }
-    ensures none { IfNone result (IfSome (factor_row tables.now factor)
-        (λ row. is_factor_row row ≡ false)) }
-{
-    if !matches!((factor.f(), factor.x(), factor.y()), (0, 31, 0..=2)) {
-        return None;
-    }
-    let element = *tables.element(factor)?;
-    let is_number = !matches!(element.kind, Kind::Text)
-        && element.scale == 0
-        && element.reference == 0;
-    if is_number && element.width >= 1 && element.width <= MOST_FACTOR_BITS {
-        Some(element)
-    } else {
-        None
-    }
 }
 
 /// The element behind 206 with this width: by its row where that has the width, else as a number of
