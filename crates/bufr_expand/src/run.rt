@@ -2,11 +2,11 @@
 //! of a replication.
 
 ghost use Rattle.std.specs.Prelude.{◌≤◌, ◌∷◌, length, drop, IfSome};
-ghost use Rattle.bufr_expand.specs.Runs.{BeginsRun, IsFieldRun, TurnsRun};
+ghost use Rattle.bufr_expand.specs.Runs.{BeginsRun, TurnsRun};
 ghost use Rattle.bufr_expand.specs.Trees.{tree_of, done};
 
 use crate::node::Node;
-use crate::operators::{Operators, Spec, untouched};
+use crate::operators::{Operators, untouched};
 use bufr_tables::Kind;
 
 /// Fields one after the other, none of which is a count.
@@ -18,23 +18,6 @@ pub struct Run {
     pub items: u64,
     /// How many bits the fields have.
     pub bits: u128,
-}
-
-impl Run {
-    /// Of a field, unless it has no spec or is a count.
-    fn of_field(spec: Option<Spec>) -> Option<Run>
-        ensures { IfSome result (IsFieldRun spec) }
-    {
-        let spec = spec?;
-        match spec.kind {
-            Kind::Count => None,
-            _ => Some(Run {
-                fields: 1,
-                items: 1,
-                bits: u128::from(spec.width),
-            }),
-        }
-    }
 }
 
 /// The run of so many turns of some nodes, unless an operator, a count, a field that has no spec or
@@ -90,18 +73,26 @@ fn first_run(first: Node, behind: &[Node], operators: &Operators) -> Option<(Run
     ensures begins { IfSome result (λ found. BeginsRun (tree_of (first ∷ behind.now)) operators.now
         found.0 (tree_of (drop found.1 behind.now))) }
 {
-    match first {
-        Node::Element(fxy, element) => {
-            let spec = operators.effective(&element, fxy).ok();
-            Some((Run::of_field(spec)?, 0))
-        }
-        Node::Untouched(_, element) => Some((Run::of_field(untouched(&element))?, 0)),
+    let spec = match first {
+        Node::Element(fxy, element) => operators.effective(&element, fxy).ok()?,
+        Node::Untouched(_, element) => untouched(&element)?,
         Node::Repeated(times, len) => {
             let taken = len.min(behind.len() as u64) as usize;
             let turns = turns_run(times, &behind[..taken], operators)?;
             let items = turns.items.checked_add(1)?;
-            Some((Run { items, ..turns }, taken))
+            return Some((Run { items, ..turns }, taken));
         }
-        Node::Operator(_) | Node::Delayed(_, _, _) => None,
+        Node::Operator(_) | Node::Delayed(_, _, _) => return None,
+    };
+    match spec.kind {
+        Kind::Count => None,
+        _ => Some((
+            Run {
+                fields: 1,
+                items: 1,
+                bits: u128::from(spec.width),
+            },
+            0,
+        )),
     }
 }

@@ -199,11 +199,16 @@ impl<'t> Walk<'t> {
             }
             Node::Untouched(fxy, element) => Some(self.field(fxy, untouched(&element))),
             Node::Operator(fxy) => {
-                self.pass_operator(fxy);
+                self.items += 1;
+                self.place += 1;
+                self.operators.put(fxy);
                 None
             }
             Node::Repeated(times, len) => {
-                self.repeat(times, len);
+                let from = self.place + 1;
+                self.items += 1;
+                self.place = body_end(from, self.stop, len);
+                self.enter(times, from);
                 None
             }
             Node::Delayed(fxy, element, len) => Some(self.ask(fxy, &element, len)),
@@ -312,45 +317,6 @@ impl<'t> Walk<'t> {
             body: Some(from),
         });
         Ok(Step::Count(fxy, spec))
-    }
-
-    /// Puts an operator in force.
-    #[tactic(auto, unfolding(crate::specs::Walks::left, crate::specs::Walks::waits, crate::specs::Walks::items_met, crate::specs::Walks::steps_left))]
-    fn pass_operator(&mut self, op: Fxy)
-        requires goes { self.old.state ≡ Going }
-        requires more { self.old.place < self.old.stop }
-        requires fits { self.old.items < most_items }
-        ensures course { left self.new ≡ going self.old.nodes.now
-            (self.old.place + 1) self.old.stop self.old.loops.items
-            (in_force_after self.old.operators op) (self.old.items + 1) }
-        ensures goes { waits self.new ≡ false }
-        ensures nearer { steps_left self.new < steps_left self.old }
-    {
-        self.items += 1;
-        self.place += 1;
-        self.operators.put(op);
-    }
-
-    /// Meets a replication whose body stands so many times.
-    #[tactic(auto, unfolding(crate::specs::Walks::left, crate::specs::Walks::waits, crate::specs::Walks::items_met, crate::specs::Walks::steps_left))]
-    fn repeat(&mut self, times: u64, len: u64)
-        requires goes { self.old.state ≡ Going }
-        requires more { self.old.place < self.old.stop }
-        requires fits { self.old.items < most_items }
-        requires room { length self.old.loops.items + 1 ≤ in_front self.old.nodes.now
-            (self.old.place + 1) }
-        ensures course { let from = self.old.place + 1 in
-            let to = from + min len (self.old.stop - from) in
-            left self.new ≡ turns_then self.old.nodes.now times from to self.old.stop
-            (behind_all self.old.nodes.now self.old.loops.items) self.old.operators
-            (self.old.items + 1) }
-        ensures goes { waits self.new ≡ false }
-        ensures nearer { steps_left self.new < steps_left self.old }
-    {
-        let from = self.place + 1;
-        self.items += 1;
-        self.place = body_end(from, self.stop, len);
-        self.enter(times, from);
     }
 
     /// Enters a replication of the nodes in front of the place, so many turns of which are still to

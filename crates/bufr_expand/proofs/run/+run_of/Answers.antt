@@ -1,7 +1,11 @@
 -- For `run_of`, `first_run` and `turns_run`: a run of nodes, node by node.
-use Rattle.std.proofs.Common.{rules, refl, ◌≡◌, ◌-◌, ◌+◌, length, drop, take, ap, subst, ◌∙◌, arith}
-use Rattle.std.proofs.Common.{length-drop, []}
+use Rattle.std.proofs.Common.{rules, refl, ◌≡◌, ◌-◌, ◌+◌, length, drop, take, ap, sym, ◌∙◌, arith}
+use Rattle.std.proofs.Common.{length-drop, [], ℕ, false, Option, Some}
 use Rattle.std.proofs.lemmas.List.{take_all, nil_from_length}
+use Rattle.bufr_tables.specs.declared.element.Kind.{Kind}
+use Rattle.bufr_tables.specs.declared.element.Kind.TheVariants as kinds
+use Rattle.bufr_tables.specs.Elements.{same_kind}
+use Rattle.bufr_expand.specs.declared.operators.Spec.{Spec}
 use Rattle.bufr_expand.specs.OperatorsInForce.{effective}
 use Rattle.bufr_expand.specs.Runs.{IsFieldRun}
 use Rattle.bufr_expand.specs.Trees.{tree_within}
@@ -9,33 +13,56 @@ use Rattle.bufr_expand.proofs.PassFacts.{spec_ok}
 use Rattle.bufr_expand.proofs.RunFacts.{begins_nowhere, begins_joined, begins_element}
 use Rattle.bufr_expand.proofs.RunFacts.{begins_untouched, begins_repeated, begins_rest, turns_of_run}
 use Rattle.bufr_expand.proofs.run.+run_of.Goals as goal
+use Rattle.bufr_expand.proofs.run.+run_of.Goals.{first_run-in-Element+in_ok-spec-in-Element}
+use Rattle.bufr_expand.proofs.run.+run_of.Goals.{first_run-in-Untouched+in_ok-spec-in-Untouched}
 
--- an element is a run where it has a spec that is no count
-pub first_run-returns-in_ok-of_field-in-Element-clause-begins :
-    goal.first_run-returns-in_ok-of_field-in-Element-clause-begins
-first_run-returns-in_ok-of_field-in-Element-clause-begins t c =
-    let o = c.in-Element in
+-- a kind that is not `Count` is another
+no_count : (kind : Kind) → (kind ≡ kinds.Count → ⊥) → same_kind kind kinds.Count ≡ false
+no_count kinds.Text not = refl
+no_count kinds.Code not = refl
+no_count kinds.Flag not = refl
+no_count kinds.Quantity not = refl
+no_count kinds.Count not = absurd (not refl)
+
+-- a spec that is no count is one of a run
+field_run : (found : Option Spec) (spec : Spec) (bits : ℕ) → found ≡ Some spec
+    → (spec.kind ≡ kinds.Count → ⊥) → bits ≡ spec.width
+    → IsFieldRun found (record { fields = 1; items = 1; bits = bits })
+field_run found spec bits is kind width =
+    (spec, is, no_count spec.kind kind, ap (λ n. record { fields = 1; items = 1; bits = n }) width)
+
+-- an element is a run where it has a spec that is no count, and so is one that no operator changes
+pub first_run-returns-in_default : goal.first_run-returns-in_default
+first_run-returns-in_default t c =
     let q = c.args.operators.now in
-    let r = c.in_ok-of_field-in-Element.field-0 in
-    let spec = c.ok-spec.ensures.value
-    ∙ spec_ok c.effective.result (effective o.fxy o.element q) (λ e. e ≡ record { 0 = o.fxy })
-    c.effective.ensures in
-    rw o.is (begins_element o.fxy o.element c.args.behind.now q r
-    (subst (λ s. IsFieldRun s r) spec c.in_ok-of_field-in-Element.ensures))
-
--- so is one that no operator changes
-pub first_run-returns-in_ok-of_field-in-Untouched-clause-begins :
-    goal.first_run-returns-in_ok-of_field-in-Untouched-clause-begins
-first_run-returns-in_ok-of_field-in-Untouched-clause-begins t c =
-    let o = c.in-Untouched in
-    let r = c.in_ok-of_field-in-Untouched.field-0 in
-    rw o.is (begins_untouched o.field-0 o.element c.args.behind.now c.args.operators.now r
-    (subst (λ s. IsFieldRun s r) c.untouched.ensures c.in_ok-of_field-in-Untouched.ensures))
+    let run = λ (found : Option Spec) (is : found ≡ Some c.match-first.spec).
+    field_run found c.match-first.spec c.from.result is c.in_default.not-Count c.from.ensures in
+    elim c.match-first.branch [
+      | first_run-in-Element+in_ok-spec-in-Element w ↦
+          let o = w.in-Element in
+          let spec = w.ok.ensures.value
+          ∙ spec_ok w.effective.result (effective o.fxy o.element q)
+          (λ e. e ≡ record { 0 = o.fxy }) w.effective.ensures in
+          record {
+            within = omega arith;
+            begins =
+                rw o.is (begins_element o.fxy o.element c.args.behind.now q _
+                (run _ (sym spec ∙ w.in_ok-spec-in-Element.was ∙ ap Some (sym w.spec-is))));
+          }
+      | first_run-in-Untouched+in_ok-spec-in-Untouched w ↦
+          let o = w.in-Untouched in
+          record {
+            within = omega arith;
+            begins =
+                rw o.is (begins_untouched o.field-0 o.element c.args.behind.now q _
+                (run _ (sym w.untouched.ensures ∙ w.in_ok-spec-in-Untouched.was
+                ∙ ap Some (sym w.spec-is))));
+          }
+    ]
 
 -- a replication is one where the turns of its body are
-pub first_run-returns-in_ok-items-in-Repeated-clause-begins :
-    goal.first_run-returns-in_ok-items-in-Repeated-clause-begins
-first_run-returns-in_ok-items-in-Repeated-clause-begins t c =
+pub first_run-returns-in-Repeated-clause-begins : goal.first_run-returns-in-Repeated-clause-begins
+first_run-returns-in-Repeated-clause-begins t c =
     let o = c.in-Repeated in
     let items : c.in_ok-items-in-Repeated.items ≡ 1 + c.in_ok-turns-in-Repeated.turns.items =
     omega arith in

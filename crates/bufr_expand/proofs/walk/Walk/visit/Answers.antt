@@ -1,6 +1,7 @@
 -- For `Walk::visit`: what is left of the course at a node, by its kind.
-use Rattle.std.proofs.Common.{◌≡◌, Err, refl, sym, ◌∙◌}
-use Rattle.bufr_expand.specs.Walks.{left}
+use Rattle.std.proofs.Common.{◌≡◌, ◌+◌, Err, refl, sym, ap, ◌∙◌, arith}
+use Rattle.bufr_expand.specs.Walks.{left, left_in, going, waits, is_waiting, steps_left, turns_then}
+use Rattle.bufr_expand.specs.Walks.{behind_all}
 use Rattle.bufr_expand.specs.declared.node.Node.TheVariants as nodes
 use Rattle.bufr_expand.specs.declared.walk.WalkFault.TheVariants.{TooLarge}
 use Rattle.bufr_expand.specs.OperatorsInForce.{effective}
@@ -49,30 +50,36 @@ returns-in-Untouched-clause-answer c =
 
 -- the course past an operator, which is then in force, is the one that was left
 pub returns-in-Operator-clause-on : goal.returns-in-Operator-clause-on
-unfolding course_then tree_within
+unfolding course_then tree_within left waits steps_left
 returns-in-Operator-clause-on c =
     let w = c.args.self.now in
     let o = c.in-Operator in (
-      c.pass_operator.ensures.course
+      ap (λ s. left_in s w.nodes.now (w.place + 1) w.stop w.loops.items c.put.new.self
+          (w.items + 1)) c.requires.goes
+          ∙ ap (λ q. going w.nodes.now (w.place + 1) w.stop w.loops.items q (w.items + 1))
+          c.put.ensures
           ∙ sym (at_node w (nodes.Operator o.fxy) _ _ _ c.requires.goes c.requires.more w.within.1
           o.is c.if-self-ge-MOST_ITEMS.false refl refl),
-      c.pass_operator.ensures.goes,
-      c.pass_operator.ensures.nearer,
+      ap is_waiting c.requires.goes,
+      omega arith,
     )
 
 -- the course of the turns of a replication, and what comes behind, is the one that was left
 pub returns-in-Repeated-clause-on : goal.returns-in-Repeated-clause-on
-unfolding course_then
+unfolding course_then steps_left
 returns-in-Repeated-clause-on c =
     let w = c.args.self.now in
     let o = c.in-Repeated in
     let tree = tree_of-repeated o.times o.len (behind_place w)
-    ∙ body_trees w o.len (trees.repeated o.times) c.requires.more in (
-      c.repeat.ensures.course
+    ∙ body_trees w o.len (trees.repeated o.times) c.requires.more in
+    let steps = c.enter.ensures.steps in (
+      c.enter.ensures.course
+          ∙ ap (λ to. turns_then w.nodes.now o.times (w.place + 1) to w.stop
+          (behind_all w.nodes.now w.loops.items) w.operators (w.items + 1)) c.body_end-self.ensures
           ∙ sym (at_node w (nodes.Repeated o.times o.len) _ _ _ c.requires.goes c.requires.more
           w.within.1 o.is c.if-self-ge-MOST_ITEMS.false tree refl),
-      c.repeat.ensures.goes,
-      c.repeat.ensures.nearer,
+      c.enter.ensures.goes,
+      omega arith,
     )
 
 -- a delayed replication asks for its factor, and then has as many turns as this says
