@@ -1,9 +1,8 @@
 //! Operators in force, and what they make of an element.
 
-ghost use Rattle.std.specs.Prelude.{◌≡◌, ◌⊎◌, ◌*ℤ◌, ◌≤ℤ◌, ◌^◌, pos, negsuc, false};
-ghost use Rattle.std.specs.Prelude.{Some, None, MatchOption, MatchResult};
+ghost use Rattle.std.specs.Prelude.{◌≡◌, ◌⊎◌, ◌≤ℤ◌, pos, negsuc};
+ghost use Rattle.std.specs.Prelude.{Some, None, MatchResult};
 ghost use Rattle.bufr_tables.specs.Descriptors.{f_of, x_of};
-ghost use Rattle.bufr_expand.specs.Limits.{most_reference};
 ghost use Rattle.bufr_expand.specs.OperatorsInForce as operating;
 ghost use Rattle.bufr_expand.specs.OperatorsInForce.{none_in_force, in_force_after, effective, untouched};
 
@@ -95,17 +94,24 @@ impl Operators {
         }
     }
 
-    /// The spec of a quantity, to which all that is in force adds up.
+    /// The spec of a quantity, to which all that is in force adds up. A reference value other than 0 is
+    /// outside the limits once it is multiplied by 10 to the power of 19.
     fn quantity(&self, element: &Element) -> Option<Spec>
         ensures { result ≡ operating.quantity element.now self.now }
     {
         if i64::from(element.scale).unsigned_abs() > MOST_SCALE {
             return None;
         }
-        let increase = self.increase.unwrap_or(0);
-        let reference = increased(element.reference, increase)?;
-        let scale = element.scale + added(self.add_scale) + i32::from(increase);
-        let widening = (10 * u32::from(increase) + 2) / 3;
+        let increase = u32::from(self.increase.unwrap_or(0));
+        let reference = if element.reference == 0 {
+            0
+        } else if increase > 18 {
+            return None;
+        } else {
+            element.reference.checked_mul(10_u64.pow(increase) as i64)?
+        };
+        let scale = element.scale + added(self.add_scale) + increase as i32;
+        let widening = (10 * increase + 2) / 3;
         let width = i64::from(element.width)
             + i64::from(added(self.add_width))
             + i64::from(widening);
@@ -123,20 +129,6 @@ fn added(operand: Option<u8>) -> i32
         None => 0,
         Some(y) => i32::from(y) - 128,
     }
-}
-
-/// A reference value times 10 to a power, unless it is then outside the limits.
-fn increased(reference: i64, power: u8) -> Option<i64>
-    ensures { MatchOption result (operating.is_within most_reference (reference *ℤ pos (10 ^ power))
-        ≡ false) (λ r. r ≡ reference *ℤ pos (10 ^ power)) }
-{
-    if reference == 0 {
-        return Some(0);
-    }
-    if power > 18 {
-        return None;
-    }
-    reference.checked_mul(10_u64.pow(u32::from(power)) as i64)
 }
 
 /// The spec of a number, where it is within the limits.

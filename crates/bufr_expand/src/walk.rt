@@ -6,7 +6,7 @@ ghost use Rattle.bufr_expand.specs.Places.{AreOpen, AreOpen-prop, in_front, repl
 ghost use Rattle.bufr_expand.specs.Places.{awaited};
 ghost use Rattle.bufr_expand.specs.OperatorsInForce.{factor_spec};
 
-use crate::asks::{Asks, tells};
+use crate::asks::Asks;
 use crate::limits::MOST_ITEMS;
 use crate::node::Node;
 use crate::operators::{Operators, Spec, untouched};
@@ -174,7 +174,12 @@ impl<'t> Walk<'t> {
         match self.state {
             State::Going if self.loops.len() == 0 && self.place <= self.stop => {
                 let ahead = &self.nodes[self.place..self.stop];
-                ahead.iter().all(|node| !tells::<A>(node))
+                ahead.iter().all(|node| match node {
+                    Node::Element(fxy, _) | Node::Untouched(fxy, _) | Node::Delayed(fxy, _, _) => {
+                        !A::asks(*fxy)
+                    }
+                    Node::Operator(_) | Node::Repeated(_, _) => true,
+                })
             }
             _ => false,
         }

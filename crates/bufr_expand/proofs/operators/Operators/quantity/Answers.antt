@@ -1,11 +1,24 @@
 -- For `Operators::quantity`: no step of the arithmetic leaves its type.
-use Rattle.std.proofs.Common.{rules, refl, ℕ, ◌≡◌, ◌*ℤ◌, ◌+ℤ◌, ◌^◌, ◌*◌, ◌+◌, ◌/◌, pos, true}
+use Rattle.std.proofs.Common.{rules, refl, ℕ, ◌≡◌, ◌*ℤ◌, ◌+ℤ◌, ◌^◌, ◌*◌, ◌+◌, ◌/◌, pos}
 use Rattle.std.proofs.Common.{Option, Some, None, FitsSigned, w32, w64, to_z, of_z, ap, ◌∙◌, arith}
 use Rattle.std.proofs.Common.{ℤ, negsuc, ◌<◌, ◌≤◌, ◌≤ℤ◌}
+use Rattle.std.proofs.Common.{false, sym, subst, MatchOption}
+use Rattle.std.specs.Option.{SomeIff}
+use Rattle.std.proofs.lemmas.Bool.{cond_both}
 use Rattle.std.specs.Option.{unwrap_or}
-use Rattle.std.proofs.lemmas.Int.{to_z-of_z, ints}
+use Rattle.std.proofs.lemmas.Int.{to_z-of_z, to_z_pos, ints}
 use Rattle.bufr_expand.specs.OperatorsInForce.{is_within, increase_of, widening}
+use Rattle.bufr_tables.specs.declared.element.Element.{Element}
+use Rattle.bufr_tables.specs.declared.element.Kind.{Kind}
+use Rattle.bufr_tables.specs.declared.element.Kind.TheVariants as kinds
+use Rattle.bufr_expand.specs.Limits.{most_reference, most_scale}
+use Rattle.bufr_expand.specs.declared.operators.Operators.{Operators}
+use Rattle.bufr_expand.specs.OperatorsInForce as operating
+use Rattle.bufr_expand.specs.OperatorsInForce.{number_spec, quantity}
+use Rattle.bufr_expand.proofs.Powers.{outside_times, checked_is, ten_power_below, decides_within}
 use Rattle.bufr_expand.proofs.operators.Operators.quantity.Goals as goal
+use Rattle.bufr_expand.proofs.operators.Operators.quantity.Goals.{then-element-eq0}
+use Rattle.bufr_expand.proofs.operators.Operators.quantity.Goals.{else-element-eq0+else-increase-gt18+in_ok-reference}
 
 -- where no 207 is in force the width gains nothing
 widening_is : (o : Option ℕ) → (10 * increase_of o + 2) / 3 ≡ widening o
@@ -23,32 +36,113 @@ width_is : (n k : ℕ) (a : ℤ) → n < 4294967296 → k ≤ 850 → negsuc 127
     +ℤ to_z w64 (of_z w64 a))) +ℤ to_z w64 (of_z w64 (pos k)))) ≡ pos n +ℤ a +ℤ pos k
 width_is n k a h i j l = omega (arith, ints)
 
+-- a number outside the limits has no spec
+number_none : (kind : Kind) (scale reference width : ℤ) → is_within most_reference reference ≡ false
+    → number_spec kind scale reference width ≡ None
+number_none kind scale reference (negsuc width) h = refl
+number_none kind scale reference (pos width) h = search rules
+
+-- nor has a quantity whose reference value is outside them
+quantity_none : (row : Element) (q : Operators) (power : ℕ) → power ≡ increase_of q.increase
+    → is_within most_reference (row.reference *ℤ pos (10 ^ power)) ≡ false → None ≡ quantity row q
+quantity_none row q power e h =
+    sym (cond_both (is_within most_scale row.scale) _ None (λ o. o ≡ None)
+    (λ _. number_none kinds.Quantity
+    (row.scale +ℤ operating.added q.add_scale +ℤ pos (increase_of q.increase))
+    (row.reference *ℤ pos (10 ^ increase_of q.increase))
+    (pos row.width +ℤ operating.added q.add_width +ℤ pos (widening q.increase)) (rw e at h)) (λ _. refl))
+
+-- Y of the 207 in force is the power of ten
+power_is : (y power : ℕ) (q : Operators) → power ≡ y → y ≡ unwrap_or q.increase 0
+    → power ≡ increase_of q.increase
+power_is y power q e f = e ∙ f ∙ increase_is q.increase
+
+-- a reference value other than 0 is outside the limits at a power above 18
+pub returns-then-increase-gt18 : goal.returns-then-increase-gt18
+returns-then-increase-gt18 c =
+    let row = c.args.element.now in
+    quantity_none row c.args.self.now c.from-increase.result
+    (power_is _ _ c.args.self.now c.from-increase.ensures c.unwrap_or.ensures)
+    (outside_times row.reference c.from-increase.result
+    (λ e. c.if-element-eq0.false (ap (of_z w64) e)) c.if-increase-gt18.true)
+
+-- a power of at most 18 fits 64 bits with a sign
+pub overflow_cast-pow : goal.overflow_cast-pow
+overflow_cast-pow c =
+    let h = ten_power_below c.from-increase.result c.if-increase-gt18.false in
+    search (rules, h, c.pow.ensures)
+
+-- the product is the one asked for, or it is outside the limits
+product_is : (o : Option ℤ) (r : ℤ) (k y : ℕ) → FitsSigned w64 r → y ≤ 18 → k ≡ 10 ^ y
+    → SomeIff o (FitsSigned w64 (to_z w64 (of_z w64 r) *ℤ to_z w64 k))
+    (to_z w64 (of_z w64 r) *ℤ to_z w64 k)
+    → MatchOption o (is_within most_reference (r *ℤ pos (10 ^ y)) ≡ false) (λ p. p ≡ r *ℤ pos (10 ^ y))
+product_is o r k y fits below power h =
+    let ten = ten_power_below y below in
+    let small : k < 9223372036854775808 = omega (arith, power, ten) in
+    checked_is o (r *ℤ pos (10 ^ y)) (rw (to_z-of_z w64 r fits, to_z_pos w64 k small ∙ ap pos power) at h)
+
+-- nothing is nothing however often it is taken
+none_times : (r : ℤ) (k : ℕ) → FitsSigned w64 r → of_z w64 r ≡ 0 → pos 0 ≡ r *ℤ pos k
+none_times r k fits e =
+    let none : r ≡ pos 0 = sym (to_z-of_z w64 r fits) ∙ ap (to_z w64) e in
+    rw none (search rules)
+
+-- where it is outside them, no field has a spec
+pub returns-in_err-reference : goal.returns-in_err-reference
+returns-in_err-reference c =
+    let row = c.args.element.now in
+    let y = c.from-increase.result in
+    let fits : FitsSigned w64 row.reference = search rules in
+    let is = product_is c.checked_mul.result row.reference c.pow.result y fits
+    c.if-increase-gt18.false c.pow.ensures c.checked_mul.ensures in
+    let P : Option ℤ → Type 0 = λ o. MatchOption o
+    (is_within most_reference (row.reference *ℤ pos (10 ^ y)) ≡ false)
+    (λ p. p ≡ row.reference *ℤ pos (10 ^ y)) in
+    c.from_residual.ensures
+    ∙ quantity_none row c.args.self.now y
+    (power_is _ _ c.args.self.now c.from-increase.ensures c.unwrap_or.ensures)
+    (subst P c.in_err-reference.was is)
+
 -- the scale, reference value and width that are computed are those of the equations
 pub returns : goal.returns
 returns c =
     let row = c.args.element.now in
     let q = c.args.self.now in
-    let inside : is_within 127 row.scale ≡ true = search rules in
-    let inc = c.unwrap_or-increase.ensures ∙ increase_is q.increase in
+    let y = c.from-increase.result in
+    let same : to_z w64 (of_z w64 c.from.result) ≡ row.scale = omega (arith, ints) in
+    let inside = (decides_within 127 row.scale).1
+    (rw (c.unsigned_abs.ensures.value, same) at c.if-unsigned_abs-gt-MOST_SCALE.false) in
+    let inc = power_is _ _ q c.from-increase.ensures c.unwrap_or.ensures in
+    let fits : FitsSigned w64 row.reference = search rules in
+    let kept = sym c.if-element-eq0.reference-is in
+    let reference : c.if-element-eq0.reference ≡ row.reference *ℤ pos (10 ^ y) =
+    elim c.if-element-eq0.branch [
+      | then-element-eq0 w ↦
+          kept ∙ w.reference-is
+          ∙ none_times row.reference (10 ^ y) fits w.if-element-eq0.true
+      | else-element-eq0+else-increase-gt18+in_ok-reference w ↦
+          let fit : FitsSigned w64 w.in_ok-reference.reference = search rules in
+          let is = product_is w.checked_mul.result row.reference w.pow.result y fits
+          w.if-increase-gt18.false w.pow.ensures w.checked_mul.ensures in
+          let P : Option ℤ → Type 0 = λ o. MatchOption o
+          (is_within most_reference (row.reference *ℤ pos (10 ^ y)) ≡ false)
+          (λ p. p ≡ row.reference *ℤ pos (10 ^ y)) in
+          kept ∙ w.reference-is ∙ to_z-of_z w64 w.in_ok-reference.reference fit
+          ∙ subst P w.in_ok-reference.was is
+    ] in
     let scale : to_z w32 (of_z w32 (to_z w32 (of_z w32 (to_z w32 (of_z w32 row.scale)
-    +ℤ to_z w32 (of_z w32 c.added.result))) +ℤ to_z w32 (of_z w32 c.from-2.result)))
-    ≡ row.scale +ℤ c.added.result +ℤ c.from-2.result = omega (arith, ints) in
-    let added : c.from-5.result ≡ c.added-2.result = omega (arith, ints) in
-    let width = width_is row.width ((10 * c.from-3.result + 2) / 3) c.added-2.result (omega arith)
+    +ℤ to_z w32 (of_z w32 c.added.result))) +ℤ to_z w32 y)) ≡ row.scale +ℤ c.added.result +ℤ pos y =
+    omega (arith, ints) in
+    let added : c.from-3.result ≡ c.added-2.result = omega (arith, ints) in
+    let width = width_is row.width ((10 * y + 2) / 3) c.added-2.result (omega arith)
     (omega arith) c.added-2.ensures.low c.added-2.ensures.high in
-    let fit_reference : FitsSigned w64 row.reference = search rules in
-    let fit_new_reference : FitsSigned w64 c.in_ok-reference.reference = search rules in
-    let raised : c.in_ok-reference.reference
-    ≡ to_z w64 (of_z w64 row.reference) *ℤ pos (10 ^ c.unwrap_or-increase.result) =
-    c.in_ok-reference.ensures in
-    let reference = rw (to_z-of_z w64 row.reference fit_reference, inc) at raised in
-    let widens = ap (λ (n : ℕ). (10 * n + 2) / 3) (c.from-3.ensures ∙ inc) ∙ widening_is q.increase in
     let spec = rw (
       scale,
-      to_z-of_z w64 c.in_ok-reference.reference fit_new_reference,
-      c.from-4.ensures,
+      c.if-element-eq0.reference-is,
+      c.from-2.ensures,
       added,
-      c.from-6.ensures,
+      c.from-4.ensures,
       width,
     ) at c.number_spec.ensures in
     rw (
@@ -56,8 +150,7 @@ returns c =
       spec,
       reference,
       c.added.ensures.value,
-      c.from-2.ensures,
       inc,
       c.added-2.ensures.value,
-      widens,
+      widening_is q.increase,
     ) refl
