@@ -2,7 +2,6 @@
 
 ghost use Rattle.std.specs.Prelude.{◌≡◌, length, IfOk};
 ghost use Rattle.bufr_answers.specs.Answers.{Gives};
-ghost use Rattle.bufr_expand.specs.Places.{replications};
 ghost use Rattle.bufr_expand.specs.Templates.{template};
 ghost use Rattle.bufr_expand.specs.Trees.{nodes_of};
 
@@ -19,8 +18,8 @@ use std::rc::Rc;
 /// nodes are replications, so that a walk takes room for all levels with no look at the nodes.
 #[derive(Debug, Drop)]
 pub struct Template {
-    nodes: Rc<Vec<Node>>,
-    levels: usize,
+    pub(crate) nodes: Rc<Vec<Node>>,
+    pub(crate) levels: usize,
 }
 
 impl Model for Template {
@@ -78,14 +77,5 @@ impl Template {
         ensures { result ≡ length (nodes_of self.now) }
     {
         self.nodes.len()
-    }
-
-    /// The nodes in depth-first order, and how many of them are replications: there are no more
-    /// levels than that.
-    pub(crate) fn nodes_and_levels(&self) -> (&[Node], usize)
-        ensures nodes { result.0.now ≡ nodes_of self.now }
-        ensures levels { result.1 ≡ replications (nodes_of self.now) }
-    {
-        (self.nodes.as_slice(), self.levels)
     }
 }

@@ -80,8 +80,8 @@ impl<'t> Walk<'t> {
         ensures answered { IfOk result (λ w. waits w ≡ false) }
         ensures items { IfOk result (λ w. items_met w ≡ used) }
     {
-        let (nodes, levels) = template.nodes_and_levels();
-        let loops = Vec::with_capacity(alloc, levels)?;
+        let nodes = template.nodes.as_slice();
+        let loops = Vec::with_capacity(alloc, template.levels)?;
         Ok(Walk {
             nodes,
             place: 0,

@@ -1,9 +1,8 @@
 -- For `Walk::start`: at the front of a template no replication is open.
-use Rattle.std.proofs.Common.{◌≡◌, ◌+◌, ◌≤◌, List, [], length, refl, sym, ap, ◌∙◌, subst, arith}
+use Rattle.std.proofs.Common.{◌≡◌, ◌+◌, ◌≤◌, List, [], length, refl, rules, sym, ap, ◌∙◌, subst, arith}
 use Rattle.bufr_expand.specs.declared.standing.Open.{Open}
 use Rattle.bufr_expand.specs.Places.{in_front, AreOpen, replications}
 use Rattle.bufr_expand.specs.Trees.{Tree, tree_of}
-use Rattle.bufr_expand.specs.TreeCodes.{tree_of-nodes_of}
 use Rattle.bufr_expand.specs.Courses.{course}
 use Rattle.bufr_expand.specs.Walks.{left, waits, items_met}
 use Rattle.bufr_expand.proofs.PassFacts.{at_front}
@@ -13,11 +12,12 @@ use Rattle.bufr_expand.proofs.walk.Walk.start.Goals as goal
 pub invariant_of-result : goal.invariant_of-result
 unfolding AreOpen
 invariant_of-result c =
-    let ns = c.nodes_and_levels-levels.result.0.now in
+    let ns = c.as_slice-nodes.result.now in
+    let is : ns ≡ c.template.inside.nodes.value.items = search rules in
     let none : c.in_ok-loops.loops.items ≡ [] = c.in_ok-loops.ensures.items in
     let number : length c.in_ok-loops.loops.items ≡ 0 = ap length none in
-    let levels : c.nodes_and_levels-levels.result.1 ≡ replications ns =
-    c.nodes_and_levels-levels.ensures.levels ∙ sym (ap replications c.nodes_and_levels-levels.ensures.nodes) in
+    let levels : c.template.inside.levels ≡ replications ns =
+    c.template.invariant.1 ∙ sym (ap replications is) in
     let P : List Open → Type 0 = λ l. AreOpen ns 0 l in
     let front : 0 ≤ 0 = omega arith in
     let inside : length c.in_ok-loops.loops.items + 0 ≤ in_front ns 0 = omega (arith, number) in
@@ -33,9 +33,10 @@ invariant_of-result c =
 pub returns-clause-course : goal.returns-clause-course
 unfolding left
 returns-clause-course c =
-    let e : tree_of c.nodes_and_levels-levels.result.0.now ≡ c.args.template.now =
-    ap tree_of c.nodes_and_levels-levels.ensures.nodes ∙ tree_of-nodes_of c.args.template.now in
-    at_front c.nodes_and_levels-levels.result.0.now c.in_ok-loops.loops.items c.none.result c.args.used
+    let ns = c.as_slice-nodes.result.now in
+    let is : ns ≡ c.template.inside.nodes.value.items = search rules in
+    let e : tree_of ns ≡ c.args.template.now = ap tree_of is ∙ c.template.view_is in
+    at_front ns c.in_ok-loops.loops.items c.none.result c.args.used
     c.in_ok-loops.ensures.items c.none.ensures
     ∙ ap (λ (t : Tree). course t c.args.used) e
 
