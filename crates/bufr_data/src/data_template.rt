@@ -1,17 +1,16 @@
 //! Templates of data, with what is known of their subsets.
 
-ghost use Rattle.std.specs.Prelude.{◌≡◌, Bool, List, IfOk, IfSome, OnErr};
+ghost use Rattle.std.specs.Prelude.{◌≡◌, Bool, List, OnErr};
 ghost use Rattle.bufr_bits.specs.Ends.{left};
 ghost use Rattle.bufr_answers.specs.Answers.{Gives};
 ghost use Rattle.bufr_data.specs.declared.field.Subset.{Subset};
 ghost use Rattle.bufr_data.specs.Data.{subsets_in};
-ghost use Rattle.bufr_data.specs.Plain.Alike.{IsAlike};
 
 use crate::fault::ReadFault;
-use crate::plain::alike::{Alike, Likeness};
+use crate::plain::alike::Likeness;
 use crate::plain::plan::Plan;
 use crate::subset_index::{SubsetIndex, index_known};
-use bufr_answers::{Failure, OutOfMemory};
+use bufr_answers::Failure;
 use bufr_bits::BitReader;
 use bufr_expand::Template;
 use std::alloc::Global;
@@ -71,39 +70,17 @@ impl DataTemplate {
         ensures err { OnErr result (reader.new ≡ reader.old) }
         ensures same { self.new ≡ self.old }
     {
-        let alike = self.alike(alloc, compressed, reader.left(), count)?;
+        let alike = if compressed || count == 0 {
+            None
+        } else {
+            self.likeness.ask(alloc, &self.template, reader)?
+        };
+        let template = self.template.share()?;
         let layout = if alike.is_some() {
             self.plan.serve(alloc, &self.template)?
         } else {
             None
         };
-        let template = self.template.share()?;
         index_known(alloc, template, alike, layout, compressed, reader, count)
-    }
-
-    /// What each subset has, where that is known: it is asked where there are plain subsets, and
-    /// the template is then walked once, as far as so many bits.
-    fn alike(
-        &mut self,
-        alloc: Global,
-        compressed: bool,
-        there: u128,
-        count: u16,
-    ) -> Result<Option<Alike>, OutOfMemory>
-        ensures found { IfOk result (λ found. IfSome found (IsAlike self.old)) }
-        ensures same { self.new ≡ self.old }
-    {
-        if compressed || count == 0 {
-            return Ok(None);
-        }
-        match self.likeness {
-            Likeness::Same(each) => Ok(Some(each)),
-            Likeness::Varied => Ok(None),
-            Likeness::Unasked => {
-                let likeness = Likeness::within(alloc, &self.template, there)?;
-                self.likeness = likeness;
-                Ok(likeness.alike())
-            }
-        }
     }
 }

@@ -17,7 +17,7 @@ use crate::compressed::index::Columns;
 use crate::fault::ReadFault;
 use crate::field::Subset;
 use crate::fields::Fields;
-use crate::plain::alike::Alike;
+use crate::plain::alike::{Alike, Likeness};
 use crate::plain::index::PlainSubsets;
 use crate::plain::layout::Layout;
 use bufr_answers::{Failure, OutOfMemory};
@@ -69,10 +69,12 @@ impl<'a> SubsetIndex<'a> {
         ensures octets { reader.new.octets ≡ reader.old.octets }
         ensures err { OnErr result (reader.new ≡ reader.old) }
     {
-        let alike = if compressed {
+        // One plain subset alone is passed as fast field by field.
+        let mut likeness = Likeness::Unasked;
+        let alike = if compressed || count < 2 {
             None
         } else {
-            Alike::of_several(alloc, &template, reader.left(), count)?
+            likeness.ask(alloc, &template, reader)?
         };
         index_known(alloc, template, alike, None, compressed, reader, count)
     }
@@ -184,20 +186,10 @@ pub(crate) fn index_known<'a>(
     ensures octets { reader.new.octets ≡ reader.old.octets }
     ensures err { OnErr result (reader.new ≡ reader.old) }
 {
-    if compressed {
-        let columns = Columns::index(alloc, &template, reader, count)?;
-        return Ok(SubsetIndex {
-            standing: DataIndex::Compressed(columns),
-        });
-    }
-    let place = reader.place();
-    match PlainSubsets::index(alloc, template, alike, layout, reader, count) {
-        Ok(subsets) => Ok(SubsetIndex {
-            standing: DataIndex::Plain(subsets),
-        }),
-        Err(failure) => {
-            reader.return_to(place);
-            Err(failure)
-        }
-    }
+    let standing = if compressed {
+        DataIndex::Compressed(Columns::index(alloc, &template, reader, count)?)
+    } else {
+        DataIndex::Plain(PlainSubsets::index(alloc, template, alike, layout, reader, count)?)
+    };
+    Ok(SubsetIndex { standing })
 }

@@ -35,16 +35,17 @@ pub(crate) enum Likeness {
 
 impl Likeness {
     /// What is to be known of the plain subsets of a template, where each has at most as many bits
-    /// as there are, and as 64 bits can count. The template is walked once, and no data are read.
-    pub(crate) fn within(
+    /// as a reader has left, and as 64 bits can count. The template is walked once, and no data are
+    /// read.
+    fn within(
         alloc: Global,
         template: &Template,
-        there: u128,
+        reader: &BitReader,
     ) -> Result<Likeness, OutOfMemory>
         ensures { IfOk result (IsKnown template.now) }
     {
+        let most = reader.left().min(u64::MAX as u128) as u64;
         let mut walk = Walk::start(alloc, template, 0)?;
-        let most = there.min(u64::MAX as u128) as u64;
         let mut bits = 0;
         loop {
             if let Some(run) = walk.pass_turns((most - bits) as u128) {
@@ -66,35 +67,29 @@ impl Likeness {
         }
     }
 
-    /// What each subset has, where that is known.
-    pub(crate) fn alike(self) -> Option<Alike>
-        ensures { (tree : Tree) → IsKnown tree self → IfSome result (IsAlike tree) }
+    /// What each plain subset of the template has, where that is known: it is found out, and kept,
+    /// where it was not asked yet.
+    pub(crate) fn ask(
+        &mut self,
+        alloc: Global,
+        template: &Template,
+        reader: &BitReader,
+    ) -> Result<Option<Alike>, OutOfMemory>
+        requires { IsKnown template.now self.old }
+        ensures found { IfOk result (λ found. IfSome found (IsAlike template.now)) }
+        ensures kept { IsKnown template.now self.new }
     {
+        if let Likeness::Unasked = self {
+            *self = Likeness::within(alloc, template, reader)?;
+        }
         match self {
-            Likeness::Same(each) => Some(each),
-            Likeness::Unasked | Likeness::Varied => None,
+            Likeness::Same(each) => Ok(Some(*each)),
+            Likeness::Unasked | Likeness::Varied => Ok(None),
         }
     }
 }
 
 impl Alike {
-    /// What each plain subset of a template has, where that can be known by so many bits, and there
-    /// are several: one alone is passed as fast field by field.
-    pub(crate) fn of_several(
-        alloc: Global,
-        template: &Template,
-        there: u128,
-        count: u16,
-    ) -> Result<Option<Alike>, OutOfMemory>
-        ensures { IfOk result (λ found. IfSome found (IsAlike template.now)) }
-    {
-        if count > 1 {
-            Ok(Likeness::within(alloc, template, there)?.alike())
-        } else {
-            Ok(None)
-        }
-    }
-
     /// Moves past one such subset, where the message has room for its items behind those that it
     /// has met, and all its bits are there. It answers whether it did; else the reader stays where
     /// it is.
@@ -107,22 +102,5 @@ impl Alike {
         ensures unmoved { OnFalse result (reader.new ≡ reader.old) }
     {
         used <= MOST_ITEMS && self.items <= MOST_ITEMS - used && reader.pass(self.bits as u128)
-    }
-
-    /// Moves past so many such subsets, the first of a message, where a message has room for all
-    /// their items, and all their bits are there. It answers whether it did; else the reader stays
-    /// where it is.
-    pub(crate) fn pass_all(self, reader: &mut BitReader, count: u16) -> bool
-        ensures room { OnTrue result (count * self.items ≤ most_items) }
-        ensures enough { OnTrue result (count * self.bits ≤ length (left reader.old)) }
-        ensures rest { OnTrue result
-            (left reader.new ≡ drop (count * self.bits) (left reader.old)) }
-        ensures onward { reader.old.place ≤ reader.new.place }
-        ensures octets { reader.new.octets ≡ reader.old.octets }
-        ensures unmoved { OnFalse result (reader.new ≡ reader.old) }
-    {
-        let items = count as u128 * self.items as u128;
-        let bits = count as u128 * self.bits as u128;
-        items <= MOST_ITEMS as u128 && reader.pass(bits)
     }
 }

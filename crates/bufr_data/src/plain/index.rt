@@ -1,7 +1,7 @@
 //! Plain data, one subset at a time.
 
 ghost use Rattle.std.specs.Prelude.{◌≡◌, ◌+◌, ◌-◌, ◌*◌, ◌^◌, ◌<◌, ◌≤◌, ◌++◌, map, length, slice_get, false, Bool, List};
-ghost use Rattle.std.specs.Prelude.{Some, IfOk, IfErr, IfSome, OnOk};
+ghost use Rattle.std.specs.Prelude.{Some, IfOk, IfErr, IfSome, OnErr, OnOk};
 ghost use Rattle.bufr_bits.specs.Bits.{bits};
 ghost use Rattle.bufr_bits.specs.Ends.{left};
 ghost use Rattle.bufr_answers.specs.Answers.{Gives, Fails};
@@ -27,8 +27,8 @@ use crate::plain::read_each::of_subset;
 use crate::plain::starts::Starts;
 use bufr_answers::{Failure, OutOfMemory};
 use bufr_bits::{BitReader, BitSink};
-use bufr_expand::Template;
 use bufr_expand::laws::courses_are_unrollings;
+use bufr_expand::{MOST_ITEMS, Template};
 use std::alloc::Global;
 use std::marker::Model;
 use std::rc::Rc;
@@ -70,7 +70,7 @@ impl<'a> Model for PlainSubsets<'a> {
 
 impl<'a> PlainSubsets<'a> {
     /// So many subsets, whose data the bits begin with, none of which is built. The reader moves
-    /// past exactly their data; after an error it may have moved on. Where it is known what each
+    /// past exactly their data; on an error it stays where it is. Where it is known what each
     /// subset has, all are passed at once.
     // A call would move all of it through memory.
     #[inline(always)]
@@ -87,12 +87,11 @@ impl<'a> PlainSubsets<'a> {
         ensures exact { Gives {Y = List Subset × List Bool} (λ subsets. (subsets, left reader.new))
             result (subsets_in template false count (left reader.old)) }
         ensures octets { reader.new.octets ≡ reader.old.octets }
-        ensures onward { reader.old.place ≤ reader.new.place }
+        ensures err { OnErr result (reader.new ≡ reader.old) }
     {
-        let octets = reader.octets();
         let starts = starts_of(alloc, &template, alike, reader, count)?;
         Ok(PlainSubsets {
-            octets,
+            octets: reader.octets(),
             template,
             layout,
             starts,
@@ -160,9 +159,9 @@ impl<'a> PlainSubsets<'a> {
     }
 }
 
-/// Where so many subsets begin, whose data the bits begin with. After an error the reader may have
-/// moved on. Where it is known what each subset has, and all their bits and items are there, they
-/// are passed at once, with no memory.
+/// Where so many subsets begin, whose data the bits begin with. On an error the reader stays where
+/// it is. Where it is known what each subset has, and all their bits and items are there, they are
+/// passed at once, with no memory.
 fn starts_of(
     alloc: Global,
     template: &Template,
@@ -176,19 +175,24 @@ fn starts_of(
         result (subsets_in template.now false count (left reader.old)) }
     ensures stand { IfOk result (λ starts. AllBegin reader.old.octets template.now starts) }
     ensures octets { reader.new.octets ≡ reader.old.octets }
-    ensures onward { reader.old.place ≤ reader.new.place }
+    ensures err { OnErr result (reader.new ≡ reader.old) }
 {
     courses_are_unrollings();
     let bit = bit_of(reader);
     let octets = reader.octets().len();
     match alike {
-        Some(each) if octets <= MOST_COUNTED_OCTETS && each.pass_all(reader, count) => {
+        Some(each)
+            if octets <= MOST_COUNTED_OCTETS
+                && count as u128 * each.items as u128 <= MOST_ITEMS as u128
+                && reader.pass(count as u128 * each.bits as u128) => {
             Ok(Starts::even(bit as u64, each, count))
         }
-        None if octets <= MOST_COUNTED_OCTETS && count == 1 => only_start(alloc, template, reader),
         _ => {
-            let starts = starts_in_turn(alloc, template, alike, reader, count)?;
-            Ok(Starts::listed(starts))
+            let answer = starts_in_turn(alloc, template, alike, reader, count);
+            if answer.is_err() {
+                reader.return_to(bit);
+            }
+            answer
         }
     }
 }
@@ -224,15 +228,18 @@ fn starts_in_turn(
     alike: Option<Alike>,
     reader: &mut BitReader,
     count: u16,
-) -> Result<Vec<SubsetStart>, Failure<ReadFault>>
+) -> Result<Starts, Failure<ReadFault>>
     requires { IfSome alike (IsAlike template.now) }
     ensures exact { Gives {Y = List Subset × List Bool}
-        (λ starts. (map (subset_from reader.old.octets template.now) starts.items, left reader.new))
+        (λ starts. (map (subset_from reader.old.octets template.now) starts, left reader.new))
         result (subsets_in template.now false count (left reader.old)) }
-    ensures stand { IfOk result (λ starts. AllBegin reader.old.octets template.now starts.items) }
+    ensures stand { IfOk result (λ starts. AllBegin reader.old.octets template.now starts) }
     ensures octets { reader.new.octets ≡ reader.old.octets }
     ensures onward { reader.old.place ≤ reader.new.place }
 {
+    if count == 1 && reader.octets().len() <= MOST_COUNTED_OCTETS {
+        return only_start(alloc, template, reader);
+    }
     let mut starts = Vec::new(alloc);
     let mut used = 0;
     for index in 0..count {
@@ -242,7 +249,7 @@ fn starts_in_turn(
         starts.push(SubsetStart { bit, end, used })?;
         used = items;
     }
-    Ok(starts)
+    Ok(Starts::listed(starts))
 }
 
 /// How many items the message has met behind the subset of this number, where it had met `used`

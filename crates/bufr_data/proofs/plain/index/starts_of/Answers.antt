@@ -14,7 +14,7 @@ even-requires-clause-bits c =
       arith,
       size,
       c.bit_of-bit.ensures.all,
-      c.if-pass_all.ensures.enough,
+      c.if-pass.ensures.enough,
       c.if-octets-le-MOST_COUNTED_OCTETS.true,
     )
 
@@ -28,11 +28,11 @@ returns-in-Some-clause-exact c =
     let stand =
     stand_alike octets tree c.in-Some.each bit _ c.args.count law.unrolled law.allowed
     (rw c.in-Some.is at c.requires) c.bit_of-bit.ensures.is c.bit_of-bit.ensures.inside
-    c.if-pass_all.ensures.room c.if-pass_all.ensures.enough in
+    (omega (arith, c.if-count-each.true)) c.if-pass.ensures.enough in
     rw (
       c.even.ensures,
       alike_read octets tree c.in-Some.each bit 0 1 c.args.count (left c.args.reader.now) stand,
-      c.if-pass_all.ensures.rest,
+      c.if-pass.ensures.rest,
     ) refl
 
 -- and one begins at each start
@@ -45,6 +45,6 @@ returns-in-Some-clause-stand c =
     let stand =
     stand_alike octets tree c.in-Some.each bit _ c.args.count law.unrolled law.allowed
     (rw c.in-Some.is at c.requires) c.bit_of-bit.ensures.is c.bit_of-bit.ensures.inside
-    c.if-pass_all.ensures.room c.if-pass_all.ensures.enough in
+    (omega (arith, c.if-count-each.true)) c.if-pass.ensures.enough in
     subst (AllBegin octets tree) (sym c.even.ensures)
     (alike_begin octets tree c.in-Some.each bit 0 c.args.count (left c.args.reader.now) stand)
