@@ -1,5 +1,5 @@
 -- Kinds of elements that differ, by the test of kinds: for `columns_hold_values`,
--- `data_hold_subsets` and the indexes `PlainSubsets::index` and `Columns::index`.
+-- `data_hold_subsets` and the indexes `SubsetIndex::index` and `Columns::index`.
 use Rattle.std.proofs.Common.{◌≡◌, false, ap, inl, inr, ◌∙◌}
 use Rattle.std.proofs.lemmas.Bool.{cases_Bool, both_ways}
 use Rattle.bufr_tables.specs.declared.element.Kind.{Kind}

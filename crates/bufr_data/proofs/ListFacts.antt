@@ -1,6 +1,6 @@
 -- Lists that grow at their end, what is left of a list from an index on, and what holds of each of
 -- its elements: for `columns_hold_values` and `data_hold_subsets`, and for the loops of
--- `write_subsets`, `PlainSubsets::index` and `Columns::index`.
+-- `write_subsets`, `SubsetIndex::index` and `Columns::index`.
 use Rattle.std.proofs.Common.{◌≡◌, ℕ, suc, ◌+◌, ◌<◌, Bool, List, [], ◌∷◌, ◌++◌, length, map, take}
 use Rattle.std.proofs.Common.{drop, get_or, sym, ap, subst, ◌∙◌, add-one, append_assoc, append-nil}
 use Rattle.std.proofs.Common.{drop-cons, replicate}

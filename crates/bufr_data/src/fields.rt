@@ -21,11 +21,11 @@ pub(crate) enum StandingFields<'v> {
 }
 
 /// The fields of a subset that are left, none of which is built before it is asked for. It borrows
-/// the index. Contracts see the list of the fields.
+/// the index. `rest` begins with room for so many. Contracts see the list of the fields.
 #[derive(Debug, Drop)]
 pub struct Fields<'v> {
-    standing: StandingFields<'v>,
-    room: usize,
+    pub(crate) standing: StandingFields<'v>,
+    pub(crate) room: usize,
 }
 
 impl<'v> Model for Fields<'v> {
@@ -39,36 +39,6 @@ impl<'v> Model for Fields<'v> {
 }
 
 impl<'v> Fields<'v> {
-    /// The fields of a plain subset; `rest` begins with room for so many.
-    pub(crate) fn of_plain(fields: PlainFields<'v>, room: usize) -> Fields<'v>
-        ensures { result ≡ fields.entry }
-    {
-        Fields {
-            standing: StandingFields::Plain(fields),
-            room,
-        }
-    }
-
-    /// The fields of a plain subset that are laid out; `rest` begins with room for so many.
-    pub(crate) fn of_laid(fields: LaidFields<'v>, room: usize) -> Fields<'v>
-        ensures { result ≡ fields.entry }
-    {
-        Fields {
-            standing: StandingFields::Laid(fields),
-            room,
-        }
-    }
-
-    /// The fields of a compressed subset; `rest` begins with room for so many.
-    pub(crate) fn of_columns(fields: ColumnFields<'v>, room: usize) -> Fields<'v>
-        ensures { result ≡ fields.entry }
-    {
-        Fields {
-            standing: StandingFields::Compressed(fields),
-            room,
-        }
-    }
-
     /// The first of the fields that are left, and then those behind it are left; `None` where none
     /// is. `OutOfMemory` where a text could not be copied: then ask for no more, since those that
     /// are left may be lost.

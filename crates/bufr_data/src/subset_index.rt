@@ -18,7 +18,7 @@ use crate::fault::ReadFault;
 use crate::field::Subset;
 use crate::fields::Fields;
 use crate::plain::alike::{Alike, Likeness};
-use crate::plain::index::PlainSubsets;
+use crate::plain::index::{PlainSubsets, starts_of};
 use crate::plain::layout::Layout;
 use bufr_answers::{Failure, OutOfMemory};
 use bufr_bits::{BitReader, BitSink};
@@ -189,7 +189,13 @@ pub(crate) fn index_known<'a>(
     let standing = if compressed {
         DataIndex::Compressed(Columns::index(alloc, &template, reader, count)?)
     } else {
-        DataIndex::Plain(PlainSubsets::index(alloc, template, alike, layout, reader, count)?)
+        let starts = starts_of(alloc, &template, alike, reader, count)?;
+        DataIndex::Plain(PlainSubsets {
+            octets: reader.octets(),
+            template,
+            layout,
+            starts,
+        })
     };
     Ok(SubsetIndex { standing })
 }

@@ -1,5 +1,5 @@
 -- Plain subsets that are alike, and turns of a replication that are, are passed by their bits alone
--- (`PlainSubsets::index`).
+-- (`SubsetIndex::index`).
 use Rattle.std.proofs.Common.{◌≡◌, ℕ, ◌+◌, ◌*◌, ◌/◌, ◌≤◌, Bool, false, List, [], ◌∷◌, ◌++◌, length}
 use Rattle.std.proofs.Common.{drop, Result, Ok, Err, refl, sym, ap, subst, ◌∙◌, inl, inr, arith}
 use Rattle.std.proofs.lemmas.Bool.{cases_Bool}

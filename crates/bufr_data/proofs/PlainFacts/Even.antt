@@ -1,5 +1,5 @@
 -- The starts of plain subsets that are all alike: each can be reckoned (`Starts`), and where all
--- their bits and items are there, a subset begins at each (`PlainSubsets::index`).
+-- their bits and items are there, a subset begins at each (`SubsetIndex::index`).
 use Rattle.std.proofs.Common.{◌≡◌, ℕ, zero, suc, ◌+◌, ◌-◌, ◌*◌, ◌<◌, ◌≤◌, Bool, List, [], ◌∷◌}
 use Rattle.std.proofs.Common.{length, map, drop, Some, Ok, refl, sym, ap, subst, ◌∙◌, arith}
 use Rattle.std.specs.Prelude.{◌^◌, slice_get, IsOk}

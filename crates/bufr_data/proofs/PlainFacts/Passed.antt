@@ -1,5 +1,5 @@
 -- What is known of a plain subset over which the index moves without building its fields
--- (`PlainSubsets::index`).
+-- (`SubsetIndex::index`).
 use Rattle.std.proofs.Common.{◌≡◌, ℕ, ◌*◌, ◌/◌, ◌<◌, ◌≤◌, Bool, true, false, List}
 use Rattle.std.proofs.Common.{◌++◌, length, take, drop, Some, None, Result, Ok, Err, refl, sym, ap}
 use Rattle.std.proofs.Common.{◌∙◌, arith, subst}

@@ -1,5 +1,5 @@
 -- The index keeps a start for each plain subset that is passed, one after the other
--- (`PlainSubsets::index`), and the bits between where it begins and where it ends are its own
+-- (`SubsetIndex::index`), and the bits between where it begins and where it ends are its own
 -- (`PlainSubsets::put`).
 use Rattle.std.proofs.Common.{◌≡◌, ℕ, ◌+◌, ◌-◌, ◌*◌, ◌<◌, ◌≤◌, Bool, List, [], ◌∷◌, ◌++◌, length}
 use Rattle.std.proofs.Common.{take, arith, length-append, map, drop, Result, Ok, refl, sym, ap, subst, ◌∙◌}

@@ -23,7 +23,7 @@ use crate::compressed::pass::{pass_column, pass_factor};
 use crate::compressed::value::column_value;
 use crate::fault::ReadFault;
 use crate::field::{Raw, Subset};
-use crate::fields::Fields;
+use crate::fields::{Fields, StandingFields};
 use crate::limits::MOST_VALUES;
 use crate::plain::read::fault_of;
 use bufr_answers::{Failure, Items, OutOfMemory};
@@ -115,7 +115,10 @@ impl<'a> Columns<'a> {
         requires last { number ≤ self.now.subsets }
         ensures { result ≡ (subset_of self.now.columns (number - 1)).fields }
     {
-        Fields::of_columns(self.column_fields(number), self.places.len())
+        Fields {
+            standing: StandingFields::Compressed(self.column_fields(number)),
+            room: self.places.len(),
+        }
     }
 
     /// Puts the bits of the subset of this number, from 1, at a sink's end, as plain data have

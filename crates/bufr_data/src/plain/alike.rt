@@ -1,17 +1,13 @@
 //! Plain subsets that are all alike: where a template asks for no count, each has as many bits and
 //! as many items as any other.
 
-ghost use Rattle.std.specs.Prelude.{◌≡◌, ◌+◌, ◌*◌, ◌≤◌, length, drop, IfOk, IfSome};
-ghost use Rattle.std.specs.Bool.{OnTrue, OnFalse};
-ghost use Rattle.bufr_bits.specs.Ends.{left};
-ghost use Rattle.bufr_expand.specs.Limits.{most_items};
-ghost use Rattle.bufr_expand.specs.Trees.{Tree};
+ghost use Rattle.std.specs.Prelude.{IfOk, IfSome};
 ghost use Rattle.bufr_data.specs.Plain.Alike.{IsAlike, IsKnown};
 
 use crate::plain::pass::bits_of;
 use bufr_answers::OutOfMemory;
 use bufr_bits::BitReader;
-use bufr_expand::{MOST_ITEMS, Step, Template, Walk};
+use bufr_expand::{Step, Template, Walk};
 use std::alloc::Global;
 
 /// How many bits and how many items each plain subset of a template has.
@@ -86,21 +82,5 @@ impl Likeness {
             Likeness::Same(each) => Ok(Some(*each)),
             Likeness::Unasked | Likeness::Varied => Ok(None),
         }
-    }
-}
-
-impl Alike {
-    /// Moves past one such subset, where the message has room for its items behind those that it
-    /// has met, and all its bits are there. It answers whether it did; else the reader stays where
-    /// it is.
-    pub(crate) fn pass(self, reader: &mut BitReader, used: u64) -> bool
-        ensures room { OnTrue result (used + self.items ≤ most_items) }
-        ensures enough { OnTrue result (self.bits ≤ length (left reader.old)) }
-        ensures rest { OnTrue result (left reader.new ≡ drop self.bits (left reader.old)) }
-        ensures onward { reader.old.place ≤ reader.new.place }
-        ensures octets { reader.new.octets ≡ reader.old.octets }
-        ensures unmoved { OnFalse result (reader.new ≡ reader.old) }
-    {
-        used <= MOST_ITEMS && self.items <= MOST_ITEMS - used && reader.pass(self.bits as u128)
     }
 }

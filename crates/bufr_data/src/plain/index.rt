@@ -8,14 +8,13 @@ ghost use Rattle.bufr_answers.specs.Answers.{Gives, Fails};
 ghost use Rattle.bufr_expand.specs.Courses.{course};
 ghost use Rattle.bufr_data.specs.declared.field.Subset.{Subset};
 ghost use Rattle.bufr_data.specs.Plain.Alike.{IsAlike};
-ghost use Rattle.bufr_data.specs.Plain.Layouts.{IsLaid};
 ghost use Rattle.bufr_data.specs.Data.{subsets_in};
 ghost use Rattle.bufr_data.specs.Plain.{fields_at, plain};
 ghost use Rattle.bufr_data.specs.Plain.Starts.{PassesSubset, AllBegin, subset_from};
 ghost use Rattle.bufr_data.specs.Subsets.{Extends, filled};
 
 use crate::fault::ReadFault;
-use crate::fields::Fields;
+use crate::fields::{Fields, StandingFields};
 use crate::plain::alike::Alike;
 use crate::plain::copy::{copy_bits, lent_octets};
 use crate::plain::fields::PlainFields;
@@ -48,10 +47,10 @@ pub(crate) struct SubsetStart {
 /// fields of each are laid out, it shares them.
 #[derive(Debug, Drop)]
 pub(crate) struct PlainSubsets<'a> {
-    octets: &'a [u8],
-    template: Template,
-    layout: Option<Rc<Layout>>,
-    starts: Starts,
+    pub(crate) octets: &'a [u8],
+    pub(crate) template: Template,
+    pub(crate) layout: Option<Rc<Layout>>,
+    pub(crate) starts: Starts,
 }
 
 impl<'a> Model for PlainSubsets<'a> {
@@ -69,35 +68,6 @@ impl<'a> Model for PlainSubsets<'a> {
 }
 
 impl<'a> PlainSubsets<'a> {
-    /// So many subsets, whose data the bits begin with, none of which is built. The reader moves
-    /// past exactly their data; on an error it stays where it is. Where it is known what each
-    /// subset has, all are passed at once.
-    // A call would move all of it through memory.
-    #[inline(always)]
-    pub(crate) fn index(
-        alloc: Global,
-        template: Template,
-        alike: Option<Alike>,
-        layout: Option<Rc<Layout>>,
-        reader: &mut BitReader<'a>,
-        count: u16,
-    ) -> Result<PlainSubsets<'a>, Failure<ReadFault>>
-        requires known { IfSome alike (IsAlike template) }
-        requires laid { IfSome layout (λ l. IsLaid template l.value) }
-        ensures exact { Gives {Y = List Subset × List Bool} (λ subsets. (subsets, left reader.new))
-            result (subsets_in template false count (left reader.old)) }
-        ensures octets { reader.new.octets ≡ reader.old.octets }
-        ensures err { OnErr result (reader.new ≡ reader.old) }
-    {
-        let starts = starts_of(alloc, &template, alike, reader, count)?;
-        Ok(PlainSubsets {
-            octets: reader.octets(),
-            template,
-            layout,
-            starts,
-        })
-    }
-
     /// How many there are.
     pub(crate) fn count(&self) -> usize
         ensures { result ≡ length self.now }
@@ -116,14 +86,19 @@ impl<'a> PlainSubsets<'a> {
         let start = self.starts.at(number);
         match &self.layout {
             Some(layout) if layout.has_room(start.used) => {
-                let room = layout.fields.len();
                 let fields = LaidFields::start(layout, self.octets, start.bit);
-                Ok(Fields::of_laid(fields, room))
+                Ok(Fields {
+                    standing: StandingFields::Laid(fields),
+                    room: layout.fields.len(),
+                })
             }
             _ => {
                 let room = self.template.nodes().min(FIELDS_WITH_ROOM);
                 let fields = PlainFields::start(alloc, &self.template, self.octets, start)?;
-                Ok(Fields::of_plain(fields, room))
+                Ok(Fields {
+                    standing: StandingFields::Plain(fields),
+                    room,
+                })
             }
         }
     }
@@ -162,7 +137,7 @@ impl<'a> PlainSubsets<'a> {
 /// Where so many subsets begin, whose data the bits begin with. On an error the reader stays where
 /// it is. Where it is known what each subset has, and all their bits and items are there, they are
 /// passed at once, with no memory.
-fn starts_of(
+pub(crate) fn starts_of(
     alloc: Global,
     template: &Template,
     alike: Option<Alike>,
@@ -213,7 +188,7 @@ fn only_start(
     ensures onward { reader.old.place ≤ reader.new.place }
 {
     let bit = bit_of(reader);
-    let items = pass_numbered(alloc, template, reader, 1, 0)?;
+    let items = pass_subset(alloc, template, reader, 0)?;
     let end = bit_of(reader);
     let bits = (end - bit) as u64;
     let each = Alike { bits, items };
@@ -254,7 +229,8 @@ fn starts_in_turn(
 
 /// How many items the message has met behind the subset of this number, where it had met `used`
 /// before. The reader moves past exactly its bits; after an error it may have moved on. Where all
-/// subsets are alike it is walked only to be refused.
+/// subsets are alike, and the message has room for its items and its bits are there, it is passed
+/// by these alone; it is then walked only to be refused.
 fn pass_one(
     alloc: Global,
     template: &Template,
@@ -273,29 +249,14 @@ fn pass_one(
 {
     courses_are_unrollings();
     match alike {
-        Some(alike) if alike.pass(reader, used) => Ok(used + alike.items),
-        _ => pass_numbered(alloc, template, reader, number, used),
-    }
-}
-
-/// The same, field by field.
-fn pass_numbered(
-    alloc: Global,
-    template: &Template,
-    reader: &mut BitReader,
-    number: u64,
-    used: u64,
-) -> Result<u64, Failure<ReadFault>>
-    ensures ok { IfOk result (λ items. PassesSubset
-        (fields_at 1 1 (course template.now used) (left reader.old)) items (left reader.new)) }
-    ensures err { IfErr result (λ e. Fails e
-        (fields_at number 1 (course template.now used) (left reader.old))) }
-    ensures octets { reader.new.octets ≡ reader.old.octets }
-    ensures onward { reader.old.place ≤ reader.new.place }
-{
-    match pass_subset(alloc, template, reader, used) {
-        Ok(items) => Ok(items),
-        Err(failure) => Err(of_subset(number, failure)),
+        Some(each)
+            if used <= MOST_ITEMS
+                && each.items <= MOST_ITEMS - used
+                && reader.pass(each.bits as u128) => { Ok(used + each.items) }
+        _ => match pass_subset(alloc, template, reader, used) {
+            Ok(items) => Ok(items),
+            Err(failure) => Err(of_subset(number, failure)),
+        },
     }
 }
 

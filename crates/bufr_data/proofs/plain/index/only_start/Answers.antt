@@ -49,8 +49,8 @@ returns-clause-stand c =
     let same = c.in_ok-items.ensures.octets in
     let there : left c.args.reader.now ≡ drop bit (bits octets) =
     ap (λ b. drop b (bits octets)) (sym c.bit_of-bit.ensures.is) in
-    let behind : left c.pass_numbered.new.reader ≡ drop end (bits octets) =
-    ap (λ b. drop b (bits c.pass_numbered.new.reader.octets)) (sym c.bit_of-end.ensures.is)
+    let behind : left c.pass_subset.new.reader ≡ drop end (bits octets) =
+    ap (λ b. drop b (bits c.pass_subset.new.reader.octets)) (sym c.bit_of-end.ensures.is)
     ∙ ap (λ os. drop end (bits os)) same in
     let ends : end ≤ 8 * length octets =
     subst (λ os. end ≤ 8 * length os) same c.bit_of-end.ensures.inside in

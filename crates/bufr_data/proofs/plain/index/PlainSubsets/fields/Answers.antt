@@ -14,8 +14,8 @@ pub start-fields-requires-clause-stand : goal.start-fields-requires-clause-stand
 start-fields-requires-clause-stand c =
     let laid = rw c.in-Some.is at c.self.invariant.1 in
     (laid_here c.self.inside.octets.now c.self.inside.template c.at-start.result
-    c.in-Some.layout.value c.deref.result.now c.deref-in-Some-2.result.now c.deref.ensures
-    c.deref-in-Some-2.ensures laid c.if-has_room.ensures
+    c.in-Some.layout.value c.deref.result.now c.deref-in-Some.result.now c.deref.ensures
+    c.deref-in-Some.ensures laid c.if-has_room.ensures
     (begins_there _ _ _ (c.args.number - 1) _ c.self.invariant.0 c.at-start.ensures)).there
 
 -- and they are those of this subset
@@ -23,15 +23,15 @@ pub returns-in-Some : goal.returns-in-Some
 returns-in-Some c =
     let laid = rw c.in-Some.is at c.self.invariant.1 in
     fields_shown c.self.inside.octets.now c.self.inside.template c.self.inside.starts
-    c.args.self.now (c.args.number - 1) c.at-start.result c.of_laid.result c.self.view_is
-    c.at-start.ensures (c.of_laid.ensures ∙ c.start-fields.ensures ∙ (laid_here c.self.inside.octets.now c.self.inside.template c.at-start.result
-    c.in-Some.layout.value c.deref.result.now c.deref-in-Some-2.result.now c.deref.ensures
-    c.deref-in-Some-2.ensures laid c.if-has_room.ensures
+    c.args.self.now (c.args.number - 1) c.at-start.result c.start-fields.result c.self.view_is
+    c.at-start.ensures (c.start-fields.ensures ∙ (laid_here c.self.inside.octets.now c.self.inside.template c.at-start.result
+    c.in-Some.layout.value c.deref.result.now c.deref-in-Some.result.now c.deref.ensures
+    c.deref-in-Some.ensures laid c.if-has_room.ensures
     (begins_there _ _ _ (c.args.number - 1) _ c.self.invariant.0 c.at-start.ensures)).are)
 
 -- the fields that a walk meets are those of this subset
 pub returns-in_ok-fields-in_default : goal.returns-in_ok-fields-in_default
 returns-in_ok-fields-in_default c =
     fields_shown c.self.inside.octets.now c.self.inside.template c.self.inside.starts
-    c.args.self.now (c.args.number - 1) c.at-start.result c.of_plain.result c.self.view_is
-    c.at-start.ensures (c.of_plain.ensures ∙ c.in_ok-fields-in_default.ensures)
+    c.args.self.now (c.args.number - 1) c.at-start.result c.in_ok-fields-in_default.fields c.self.view_is
+    c.at-start.ensures c.in_ok-fields-in_default.ensures
