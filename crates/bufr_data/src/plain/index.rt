@@ -23,7 +23,7 @@ use crate::plain::layout::Layout;
 use crate::plain::pass::pass_subset;
 use crate::plain::read::FIELDS_WITH_ROOM;
 use crate::plain::read_each::of_subset;
-use crate::plain::starts::Starts;
+use crate::plain::starts::{Spacing, Starts};
 use bufr_answers::{Failure, OutOfMemory};
 use bufr_bits::{BitReader, BitSink};
 use bufr_expand::laws::courses_are_unrollings;
@@ -160,7 +160,9 @@ pub(crate) fn starts_of(
             if octets <= MOST_COUNTED_OCTETS
                 && count as u128 * each.items as u128 <= MOST_ITEMS as u128
                 && reader.pass(count as u128 * each.bits as u128) => {
-            Ok(Starts::even(bit as u64, each, count))
+            Ok(Starts {
+                spacing: Spacing::Even(bit as u64, each, count as usize),
+            })
         }
         _ => {
             let answer = starts_in_turn(alloc, template, alike, reader, count);
@@ -192,7 +194,9 @@ fn only_start(
     let end = bit_of(reader);
     let bits = (end - bit) as u64;
     let each = Alike { bits, items };
-    Ok(Starts::even(bit as u64, each, 1))
+    Ok(Starts {
+        spacing: Spacing::Even(bit as u64, each, 1),
+    })
 }
 
 /// Where so many subsets begin, each of which is passed by itself. After an error the reader may
@@ -224,7 +228,9 @@ fn starts_in_turn(
         starts.push(SubsetStart { bit, end, used })?;
         used = items;
     }
-    Ok(Starts::listed(starts))
+    Ok(Starts {
+        spacing: Spacing::Listed(starts),
+    })
 }
 
 /// How many items the message has met behind the subset of this number, where it had met `used`

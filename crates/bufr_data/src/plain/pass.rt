@@ -53,9 +53,9 @@ pub(crate) fn pass_subset(
     }
 }
 
-/// Moves past all turns that are left of a replication, where they can be passed at once, and else
-/// past field `i` of the subset. It answers the number of the next field, or that there is no field
-/// `i`.
+/// Moves past all turns that are left of a replication, where these are what comes next, each has
+/// the same fields whatever the data are, and all their bits are there; and else past field `i` of
+/// the subset. It answers the number of the next field, or that there is no field `i`.
 fn pass_next(walk: &mut Walk, reader: &mut BitReader, i: u64) -> Result<Option<u64>, ReadFault>
     requires ready { IsReady walk.old }
     requires counted { i ≤ walks.items_met walk.old + 1 }
@@ -69,60 +69,24 @@ fn pass_next(walk: &mut Walk, reader: &mut BitReader, i: u64) -> Result<Option<u
     ensures octets { reader.new.octets ≡ reader.old.octets }
     ensures onward { reader.old.place ≤ reader.new.place }
 {
-    if let Some(fields) = pass_turns(walk, reader) {
-        return Ok(Some(i + fields));
+    if let Some(run) = walk.pass_turns(reader.left()) {
+        reader.pass(run.bits);
+        return Ok(Some(i + run.fields));
     }
-    match pass_field(walk, reader, i) {
-        Err(fault) => Err(fault),
-        Ok(false) => Ok(None),
-        Ok(true) => Ok(Some(i + 1)),
-    }
-}
-
-/// Moves past all turns that are left of a replication, where these are what comes next, each has
-/// the same fields whatever the data are, and all their bits are there. It answers how many fields
-/// they have; else the walk and the reader stay where they are.
-fn pass_turns(walk: &mut Walk, reader: &mut BitReader) -> Option<u64>
-    requires { IsReady walk.old }
-    ensures passed { IfSome result (λ fields. PassesFields fields (walks.left walk.old)
-        (left reader.old) (walks.left walk.new) (left reader.new)) }
-    ensures advances { OnSome result (WalkAdvances walk.old walk.new) }
-    ensures counted { IfSome result (λ fields.
-        walks.items_met walk.old + fields ≤ walks.items_met walk.new) }
-    ensures unmoved { IfNone result ((walk.new ≡ walk.old) × (reader.new ≡ reader.old)) }
-    ensures octets { reader.new.octets ≡ reader.old.octets }
-    ensures onward { reader.old.place ≤ reader.new.place }
-{
-    let run = walk.pass_turns(reader.left())?;
-    reader.pass(run.bits);
-    Some(run.fields)
-}
-
-/// Moves past field `i` of the subset, and answers whether there is one.
-fn pass_field(walk: &mut Walk, reader: &mut BitReader, i: u64) -> Result<bool, ReadFault>
-    requires { IsReady walk.old }
-    ensures ok { IfOk result (λ more. PassesField i (walks.left walk.old) (left reader.old) more
-        (walks.left walk.new) (walks.items_met walk.new) (left reader.new)) }
-    ensures advances { IfOk result (λ more. OnTrue more (WalkAdvances walk.old walk.new)) }
-    ensures err { IfErr result (λ fault.
-        fields_at 1 i (walks.left walk.old) (left reader.old) ≡ Err fault) }
-    ensures octets { reader.new.octets ≡ reader.old.octets }
-    ensures onward { reader.old.place ≤ reader.new.place }
-{
     let step = match walk.next() {
         Err(fault) => return Err(fault_of(fault)),
         Ok(step) => step,
     };
     match step {
-        Step::End => Ok(false),
+        Step::End => Ok(None),
         Step::Field(_, spec) => {
             pass_raw(spec, reader, i)?;
-            Ok(true)
+            Ok(Some(i + 1))
         }
         Step::Count(_, spec) => {
             let number = take_count(spec, reader, i)?;
             walk.count(number);
-            Ok(true)
+            Ok(Some(i + 1))
         }
     }
 }

@@ -7,8 +7,8 @@ use crate::plain::alike::Alike;
 use crate::plain::index::SubsetStart;
 use std::marker::Model;
 
-/// How starts are kept: each by itself, or, where all subsets are alike, by the bit at which the
-/// first begins, by what each subset has, and by how many there are.
+/// How starts are kept: each by itself, or, where all subsets are alike, with no memory: by the bit
+/// at which the first begins, by what each subset has, and by how many there are.
 #[derive(Debug, Drop)]
 pub(crate) enum Spacing {
     Listed(Vec<SubsetStart>),
@@ -18,7 +18,7 @@ pub(crate) enum Spacing {
 /// Where the subsets of a message begin, one after the other. Contracts see the list of the starts.
 #[derive(Debug, Drop)]
 pub(crate) struct Starts {
-    spacing: Spacing,
+    pub(crate) spacing: Spacing,
 }
 
 const _: () = prove!(size_of::<Starts>() == 40);
@@ -36,27 +36,6 @@ impl Model for Starts {
 }
 
 impl Starts {
-    /// These starts.
-    pub(crate) fn listed(starts: Vec<SubsetStart>) -> Starts
-        ensures { result ≡ starts.items }
-    {
-        Starts {
-            spacing: Spacing::Listed(starts),
-        }
-    }
-
-    /// Those of so many subsets that are all alike, of which the first begins at this bit. No memory
-    /// is taken.
-    pub(crate) fn even(bit: u64, each: Alike, count: u16) -> Starts
-        requires bits { bit + count * each.bits < 2 ^ 64 }
-        requires items { count * each.items < 2 ^ 64 }
-        ensures { result ≡ even_starts bit 0 each count }
-    {
-        Starts {
-            spacing: Spacing::Even(bit, each, count as usize),
-        }
-    }
-
     /// How many there are.
     pub(crate) fn len(&self) -> usize
         ensures { result ≡ length self.now }

@@ -7,7 +7,6 @@ use Rattle.bufr_bits.specs.Ends.{left}
 use Rattle.bufr_expand.specs.Courses.{course}
 use Rattle.bufr_data.specs.declared.plain.index.SubsetStart.{SubsetStart}
 use Rattle.bufr_data.specs.Plain.{subsets_at}
-use Rattle.bufr_data.specs.Plain.Starts.{AllBegin}
 use Rattle.bufr_data.proofs.PlainFacts.Even.{only_read, only_begins, only_fails}
 use Rattle.bufr_data.proofs.PlainFacts.Subsets.{fails_map}
 use Rattle.bufr_data.proofs.plain.index.only_start.Goals as goal
@@ -34,11 +33,8 @@ returns-clause-exact c =
     } in
     let there : left c.args.reader.now ≡ drop s.bit (bits octets) =
     ap (λ b. drop b (bits octets)) (sym c.bit_of-bit.ensures.is) in
-    rw (
-      c.even.ensures,
-      only_read octets c.args.template.now s (left c.args.reader.now) _ _ there
-          c.in_ok-items.ensures.ok,
-    ) refl
+    rw (only_read octets c.args.template.now s (left c.args.reader.now) _ _ there
+    c.in_ok-items.ensures.ok) refl
 
 -- and ends where the reader stands then
 pub returns-clause-stand : goal.returns-clause-stand
@@ -54,7 +50,6 @@ returns-clause-stand c =
     ∙ ap (λ os. drop end (bits os)) same in
     let ends : end ≤ 8 * length octets =
     subst (λ os. end ≤ 8 * length os) same c.bit_of-end.ensures.inside in
-    subst (AllBegin octets c.args.template.now) (sym c.even.ensures)
-    (only_begins octets c.args.template.now bit end _ (left c.args.reader.now) _ there
+    only_begins octets c.args.template.now bit end _ (left c.args.reader.now) _ there
     (omega (arith, c.in_ok-items.ensures.onward, c.bit_of-bit.ensures.is, c.bit_of-end.ensures.is))
-    ends behind c.in_ok-items.ensures.ok)
+    ends behind c.in_ok-items.ensures.ok

@@ -58,9 +58,7 @@ loop-index-preserved c =
 -- where no subset is left, those at the starts are all
 pub returns-clause-exact : goal.returns-clause-exact
 returns-clause-exact c =
-    rw (
-      c.listed.ensures,
-      all_read (course c.args.template.now) (c.loop-index.index + 1) c.args.count
-          c.loop-index.index c.loop-index.used (left c.loop-index.reader) _ _
-          c.loop-index-test.false c.loop-index.invariant.read,
-    ) refl
+    rw (all_read (course c.args.template.now)
+    (c.loop-index.index + 1) c.args.count c.loop-index.index c.loop-index.used
+    (left c.loop-index.reader) _ _
+    c.loop-index-test.false c.loop-index.invariant.read) refl

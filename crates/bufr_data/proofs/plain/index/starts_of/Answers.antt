@@ -1,21 +1,22 @@
 -- The clauses of `starts_of`: where all subsets are alike, all are passed at once.
 use Rattle.std.proofs.Common.{◌≡◌, length, refl, sym, ap, subst, arith}
 use Rattle.bufr_bits.specs.Ends.{left}
-use Rattle.bufr_data.specs.Plain.Starts.{AllBegin}
 use Rattle.bufr_data.proofs.PlainFacts.Even.{stand_alike, alike_begin, alike_read}
 use Rattle.bufr_data.proofs.plain.index.starts_of.Goals as goal
 
 -- the last of them ends where the octets do at the latest
-pub even-requires-clause-bits : goal.even-requires-clause-bits
-even-requires-clause-bits c =
+pub invariant_of-result : goal.invariant_of-result
+invariant_of-result c =
     let size : length c.octets-octets.result.now ≡ length c.args.reader.now.octets =
-    ap length c.octets-octets.ensures in
-    omega (
-      arith,
-      size,
-      c.bit_of-bit.ensures.all,
-      c.if-pass.ensures.enough,
-      c.if-octets-le-MOST_COUNTED_OCTETS.true,
+    ap length c.octets-octets.ensures in (
+      omega (
+        arith,
+        size,
+        c.bit_of-bit.ensures.all,
+        c.if-pass.ensures.enough,
+        c.if-octets-le-MOST_COUNTED_OCTETS.true,
+      ),
+      omega (arith, c.if-count-each.true),
     )
 
 -- those that begin at even distances are all subsets
@@ -30,7 +31,6 @@ returns-in-Some-clause-exact c =
     (rw c.in-Some.is at c.requires) c.bit_of-bit.ensures.is c.bit_of-bit.ensures.inside
     (omega (arith, c.if-count-each.true)) c.if-pass.ensures.enough in
     rw (
-      c.even.ensures,
       alike_read octets tree c.in-Some.each bit 0 1 c.args.count (left c.args.reader.now) stand,
       c.if-pass.ensures.rest,
     ) refl
@@ -46,5 +46,4 @@ returns-in-Some-clause-stand c =
     stand_alike octets tree c.in-Some.each bit _ c.args.count law.unrolled law.allowed
     (rw c.in-Some.is at c.requires) c.bit_of-bit.ensures.is c.bit_of-bit.ensures.inside
     (omega (arith, c.if-count-each.true)) c.if-pass.ensures.enough in
-    subst (AllBegin octets tree) (sym c.even.ensures)
-    (alike_begin octets tree c.in-Some.each bit 0 c.args.count (left c.args.reader.now) stand)
+    alike_begin octets tree c.in-Some.each bit 0 c.args.count (left c.args.reader.now) stand
