@@ -1,6 +1,6 @@
 -- Fields that are passed since they are not asked for, one after the other, and the first behind
 -- them: for `next_asked` of `PlainFields`, `LaidFields` and `ColumnFields`. And fields that a walk
--- would meet, none of which is asked for: for `PlainFields::ends_unasked`.
+-- would meet, none of which is asked for: for `PlainFields::next_asked`.
 use Rattle.std.proofs.Common.{◌≡◌, ℕ, ◌+◌, Bool, true, false, List, [], ◌∷◌, ◌++◌, sym, subst}
 use Rattle.std.proofs.Common.{Option, Some, None, Result, Ok, Err}
 use Rattle.std.proofs.Common.{ap, ◌∙◌, append_assoc, append-nil}

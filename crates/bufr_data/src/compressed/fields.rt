@@ -1,10 +1,8 @@
 //! The fields of a compressed subset, one at a time.
 
-ghost use Rattle.std.specs.Prelude.{◌≡◌, ◌<◌, ◌++◌, true, IfOk, IfSome, OnOk};
+ghost use Rattle.std.specs.Prelude.{◌≡◌, ◌++◌, true, IfOk, IfSome, OnOk};
 ghost use Rattle.std.specs.Bool.{OnTrue, OnFalse};
 ghost use Rattle.bufr_data.specs.Handed.{HandsOut, HandsOutAsked, FirstIsAsked, PassesFirst};
-ghost use Rattle.bufr_data.specs.Handed.{fields_there};
-ghost use Rattle.bufr_data.specs.Compressed.Indexed.{AllOpen};
 ghost use Rattle.bufr_data.specs.Plain.{plain};
 ghost use Rattle.bufr_data.specs.Subsets.{Extends, has_own_form};
 
@@ -21,10 +19,10 @@ use std::marker::Model;
 /// left.
 #[derive(Debug, Drop)]
 pub(crate) struct ColumnFields<'v> {
-    octets: &'v [u8],
-    subsets: u16,
-    places: &'v [Place],
-    index: u16,
+    pub(crate) octets: &'v [u8],
+    pub(crate) subsets: u16,
+    pub(crate) places: &'v [Place],
+    pub(crate) index: u16,
 }
 
 impl<'v> Model for ColumnFields<'v> {
@@ -40,25 +38,6 @@ impl<'v> Model for ColumnFields<'v> {
 }
 
 impl<'v> ColumnFields<'v> {
-    /// The fields at this index of the columns of so many subsets that begin at places.
-    pub(crate) fn start(
-        octets: &'v [u8],
-        subsets: u16,
-        places: &'v [Place],
-        index: u16,
-    ) -> ColumnFields<'v>
-        requires open { AllOpen octets.now subsets places.now }
-        requires inside { index < subsets }
-        ensures { result ≡ fields_there octets.now subsets index places.now }
-    {
-        ColumnFields {
-            octets,
-            subsets,
-            places,
-            index,
-        }
-    }
-
     /// The first of the fields that are left, and then those behind it are left; `None` where none
     /// is. It can only run out of memory, where a text is copied; then all stay left.
     pub(crate) fn next(&mut self, alloc: Global) -> Result<Option<Field>, OutOfMemory>

@@ -145,12 +145,12 @@ impl<'a> Columns<'a> {
         requires last { number ≤ self.now.subsets }
         ensures { result ≡ (subset_of self.now.columns (number - 1)).fields }
     {
-        ColumnFields::start(
-            self.octets,
-            self.subsets,
-            self.places.as_slice(),
-            number - 1,
-        )
+        ColumnFields {
+            octets: self.octets,
+            subsets: self.subsets,
+            places: self.places.as_slice(),
+            index: number - 1,
+        }
     }
 }
 

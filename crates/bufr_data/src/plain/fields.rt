@@ -1,28 +1,22 @@
 //! The fields of a plain subset, one at a time.
 
-ghost use Rattle.std.specs.Prelude.{◌≡◌, ◌≤◌, ◌*◌, [], length, Some, IfOk, IsOk};
-ghost use Rattle.std.specs.Bool.{OnTrue, OnFalse};
-ghost use Rattle.bufr_bits.specs.Bits.{bits};
-ghost use Rattle.bufr_expand.specs.Courses.{course};
-ghost use Rattle.bufr_data.specs.declared.plain.index.SubsetStart.{SubsetStart as Start};
-ghost use Rattle.bufr_data.specs.Handed.{HandsOut, HandsOutAsked, NoneAsked};
-ghost use Rattle.bufr_data.specs.Plain.Starts.{BeginsAtStart, subset_at, fields_of};
+ghost use Rattle.std.specs.Prelude.{IfOk};
+ghost use Rattle.bufr_data.specs.Handed.{HandsOut, HandsOutAsked};
 
 use crate::field::Field;
-use crate::plain::index::SubsetStart;
 use crate::plain::read::read_field;
 use bufr_answers::OutOfMemory;
 use bufr_bits::BitReader;
-use bufr_expand::{Asks, Template, Walk};
+use bufr_expand::{Asks, Walk};
 use std::alloc::Global;
 use std::marker::Model;
 
 /// The fields of a plain subset that are left: what a walk over the template meets in the bits.
 #[derive(Debug, Drop)]
 pub(crate) struct PlainFields<'v> {
-    walk: Walk<'v>,
-    reader: BitReader<'v>,
-    done: bool,
+    pub(crate) walk: Walk<'v>,
+    pub(crate) reader: BitReader<'v>,
+    pub(crate) done: bool,
 }
 
 impl<'v> Model for PlainFields<'v> {
@@ -38,26 +32,6 @@ impl<'v> Model for PlainFields<'v> {
 }
 
 impl<'v> PlainFields<'v> {
-    /// The fields of the subset that begins at a start. It takes room for the levels of the walk.
-    pub(crate) fn start(
-        alloc: Global,
-        template: &'v Template,
-        octets: &'v [u8],
-        start: SubsetStart,
-    ) -> Result<PlainFields<'v>, OutOfMemory>
-        requires { BeginsAtStart octets.now template.now start }
-        ensures { IfOk result (λ fields.
-            fields ≡ fields_of (subset_at octets.now template.now start)) }
-    {
-        let reader = BitReader::at(octets, start.bit);
-        let walk = Walk::start(alloc, template, start.used)?;
-        Ok(PlainFields {
-            walk,
-            reader,
-            done: false,
-        })
-    }
-
     /// The first of the fields that are left, and then those behind it are left; `None` where none
     /// is. It can only run out of memory, where a text is copied; then none is left.
     pub(crate) fn next(&mut self, alloc: Global) -> Result<Option<Field>, OutOfMemory>
@@ -88,7 +62,8 @@ impl<'v> PlainFields<'v> {
     ) -> Result<Option<Field>, OutOfMemory>
         ensures { IfOk result (λ found. HandsOutAsked A.is_asked self.old found self.new) }
     {
-        if self.ends_unasked::<A>() {
+        if !self.done && self.walk.tells_no_more::<A>() {
+            self.done = true;
             return Ok(None);
         }
         while let Some(field) = self.next(alloc)? {
@@ -97,17 +72,5 @@ impl<'v> PlainFields<'v> {
             }
         }
         Ok(None)
-    }
-
-    /// Lets all fields go that are left, where the walk tells that none is asked for.
-    fn ends_unasked<A: Asks>(&mut self) -> bool
-        ensures ended { OnTrue result (NoneAsked A.is_asked self.old × (self.new ≡ [])) }
-        ensures unmoved { OnFalse result (self.new ≡ self.old) }
-    {
-        if !self.done && self.walk.tells_no_more::<A>() {
-            self.done = true;
-            return true;
-        }
-        false
     }
 }

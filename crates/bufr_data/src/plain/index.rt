@@ -27,7 +27,7 @@ use crate::plain::starts::{Spacing, Starts};
 use bufr_answers::{Failure, OutOfMemory};
 use bufr_bits::{BitReader, BitSink};
 use bufr_expand::laws::courses_are_unrollings;
-use bufr_expand::{MOST_ITEMS, Template};
+use bufr_expand::{MOST_ITEMS, Template, Walk};
 use std::alloc::Global;
 use std::marker::Model;
 use std::rc::Rc;
@@ -86,17 +86,22 @@ impl<'a> PlainSubsets<'a> {
         let start = self.starts.at(number);
         match &self.layout {
             Some(layout) if layout.has_room(start.used) => {
-                let fields = LaidFields::start(layout, self.octets, start.bit);
+                let reader = BitReader::at(self.octets, start.bit);
+                let fields = layout.fields.as_slice();
+                let laid = LaidFields { fields, reader };
                 Ok(Fields {
-                    standing: StandingFields::Laid(fields),
-                    room: layout.fields.len(),
+                    standing: StandingFields::Laid(laid),
+                    room: fields.len(),
                 })
             }
             _ => {
                 let room = self.template.nodes().min(FIELDS_WITH_ROOM);
-                let fields = PlainFields::start(alloc, &self.template, self.octets, start)?;
+                let walk = Walk::start(alloc, &self.template, start.used)?;
+                let reader = BitReader::at(self.octets, start.bit);
+                let done = false;
+                let met = PlainFields { walk, reader, done };
                 Ok(Fields {
-                    standing: StandingFields::Plain(fields),
+                    standing: StandingFields::Plain(met),
                     room,
                 })
             }

@@ -1,18 +1,16 @@
 //! The fields of a plain subset, one at a time, where they are laid out.
 
-ghost use Rattle.std.specs.Prelude.{◌≡◌, ◌≤◌, ◌*◌, Bool, List, length, drop, Some, Ok, IfOk, IsOk, IfSome, IfNone};
-ghost use Rattle.bufr_bits.specs.Bits.{bits};
+ghost use Rattle.std.specs.Prelude.{◌≡◌, ◌≤◌, Bool, List, length, drop, Some, Ok, IfOk, IsOk, IfSome, IfNone};
 ghost use Rattle.bufr_bits.specs.Ends.{left};
 ghost use Rattle.bufr_data.specs.declared.field.Raw.TheVariants.{Number};
 ghost use Rattle.bufr_data.specs.Handed.{HandsOut, HandsOutAsked, FirstIsAsked, PassesUnasked};
 ghost use Rattle.bufr_data.specs.Handed.{PassesLaid, StandLaid, fields_laid, moved_on, as_field};
-ghost use Rattle.bufr_data.specs.Plain.{fields_at, raw_at};
-ghost use Rattle.bufr_data.specs.Plain.Layouts.{laid_course};
+ghost use Rattle.bufr_data.specs.Plain.{raw_at};
 ghost use Rattle.bufr_data.specs.Plain.Reads.{raw_or_ends};
-ghost use Rattle.bufr_data.specs.Plain.Starts.{PassesRaw, fields_of};
+ghost use Rattle.bufr_data.specs.Plain.Starts.{PassesRaw};
 
 use crate::field::{Field, NumberField};
-use crate::plain::layout::{LaidField, Layout};
+use crate::plain::layout::LaidField;
 use crate::plain::pass::bits_of;
 use crate::plain::read::read_raw;
 use bufr_answers::OutOfMemory;
@@ -26,8 +24,8 @@ use std::marker::Model;
 /// not walked. Contracts see the list of the fields.
 #[derive(Debug, Drop)]
 pub struct LaidFields<'v> {
-    fields: &'v [LaidField],
-    reader: BitReader<'v>,
+    pub(crate) fields: &'v [LaidField],
+    pub(crate) reader: BitReader<'v>,
 }
 
 impl<'v> Model for LaidFields<'v> {
@@ -43,20 +41,6 @@ impl<'v> Model for LaidFields<'v> {
 }
 
 impl<'v> LaidFields<'v> {
-    /// The fields of this layout, of which the first begins at a bit. No memory is taken.
-    pub(crate) fn start(layout: &'v Layout, octets: &'v [u8], bit: u128) -> LaidFields<'v>
-        requires inside { bit ≤ 8 * length octets.now }
-        requires stand { IsOk (fields_at 1 1 (laid_course layout.now.fields)
-            (drop bit (bits octets.now))) }
-        ensures { result ≡ fields_of (fields_at 1 1 (laid_course layout.now.fields)
-            (drop bit (bits octets.now))) }
-    {
-        LaidFields {
-            fields: layout.fields.as_slice(),
-            reader: BitReader::at(octets, bit),
-        }
-    }
-
     /// The first of the fields that are left, and then those behind it are left; `None` where none
     /// is. It can only run out of memory, where a text is copied; then none is left.
     // A call would move each field through memory.

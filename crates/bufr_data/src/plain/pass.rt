@@ -2,7 +2,6 @@
 
 ghost use Rattle.std.specs.Prelude.{◌≡◌, ◌+◌, ◌≤◌, true, Ok, Err, IfOk, IfErr, OnOk, IfSome};
 ghost use Rattle.std.specs.Prelude.{IfNone, OnSome};
-ghost use Rattle.std.specs.Bool.{OnTrue};
 ghost use Rattle.bufr_bits.specs.Ends.{left};
 ghost use Rattle.bufr_answers.specs.Answers.{Fails};
 ghost use Rattle.bufr_tables.specs.declared.element.Kind.TheVariants.{Count};
@@ -13,7 +12,7 @@ ghost use Rattle.bufr_data.specs.declared.field.Raw.TheVariants.{Number};
 ghost use Rattle.bufr_data.specs.Plain.Alike.{TakesBits, NoBitsHold};
 ghost use Rattle.bufr_data.specs.Plain.{raw_at, fields_at};
 ghost use Rattle.bufr_data.specs.Plain.Reads.{raw_or_ends};
-ghost use Rattle.bufr_data.specs.Plain.Starts.{PassesRaw, PassesField, PassesFields, PassesOn};
+ghost use Rattle.bufr_data.specs.Plain.Starts.{PassesRaw, PassesOn};
 ghost use Rattle.bufr_data.specs.Plain.Starts.{PassesSubset};
 ghost use Rattle.bufr_data.specs.Steady.{IsReady, WalkAdvances};
 

@@ -3,11 +3,9 @@
 ghost use Rattle.std.specs.Prelude.{◌≡◌, ◌≤◌, List, Bool, false};
 ghost use Rattle.bufr_bits.specs.Ends.{left};
 ghost use Rattle.bufr_answers.specs.Answers.{Gives};
-ghost use Rattle.bufr_expand.specs.Courses.{course};
 ghost use Rattle.bufr_data.specs.declared.field.Subset.{Subset};
 ghost use Rattle.bufr_data.specs.Data.{subsets_in};
 ghost use Rattle.bufr_data.specs.Plain.Numbered.{failure_of_subset};
-ghost use Rattle.bufr_data.specs.Plain.{fields_at};
 
 use crate::fault::ReadFault;
 use crate::field::Subset;
@@ -33,30 +31,15 @@ pub(crate) fn read_each(
     let mut subsets = Vec::new(alloc);
     let mut used = 0;
     for index in 0..count {
-        let (subset, items) = read_subset(alloc, template, reader, index as u64 + 1, used)?;
-        subsets.push(subset)?;
-        used = items;
+        match read_plain(alloc, template, reader, used) {
+            Err(failure) => return Err(of_subset(index as u64 + 1, failure)),
+            Ok((subset, items)) => {
+                subsets.push(subset)?;
+                used = items;
+            }
+        }
     }
     Ok(Items::from_vec(subsets))
-}
-
-/// The subset of this number at the front of the bits, and the items of the message by then.
-fn read_subset(
-    alloc: Global,
-    template: &Template,
-    reader: &mut BitReader,
-    number: u64,
-    used: u64,
-) -> Result<(Subset, u64), Failure<ReadFault>>
-    ensures exact { Gives (λ x. record { fields = x.0.fields; items = x.1; rest = left reader.new })
-        result (fields_at number 1 (course template.now used) (left reader.old)) }
-    ensures octets { reader.new.octets ≡ reader.old.octets }
-    ensures onward { reader.old.place ≤ reader.new.place }
-{
-    match read_plain(alloc, template, reader, used) {
-        Ok(found) => Ok(found),
-        Err(failure) => Err(of_subset(number, failure)),
-    }
 }
 
 /// A failure of the subset of this number.

@@ -1,7 +1,6 @@
 //! Where the plain subsets of a message begin.
 
-ghost use Rattle.std.specs.Prelude.{◌≡◌, ◌+◌, ◌-◌, ◌*◌, ◌<◌, ◌≤◌, ◌^◌, length, slice_get, Some};
-ghost use Rattle.bufr_data.specs.Plain.Even.{even_starts};
+ghost use Rattle.std.specs.Prelude.{◌≡◌, ◌-◌, ◌≤◌, length, slice_get, Some};
 
 use crate::plain::alike::Alike;
 use crate::plain::index::SubsetStart;

@@ -1,5 +1,5 @@
 -- The clauses of `starts_of`: where all subsets are alike, all are passed at once.
-use Rattle.std.proofs.Common.{◌≡◌, length, refl, sym, ap, subst, arith}
+use Rattle.std.proofs.Common.{◌≡◌, length, refl, ap, arith}
 use Rattle.bufr_bits.specs.Ends.{left}
 use Rattle.bufr_data.proofs.PlainFacts.Even.{stand_alike, alike_begin, alike_read}
 use Rattle.bufr_data.proofs.plain.index.starts_of.Goals as goal

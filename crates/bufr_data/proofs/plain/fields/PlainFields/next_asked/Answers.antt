@@ -1,7 +1,15 @@
 -- For `PlainFields::next_asked`: a field that is not asked for is let go, one more of those passed.
-use Rattle.std.proofs.Common.{sym, ◌∙◌}
-use Rattle.bufr_data.proofs.AskedFacts.{one_passed}
+use Rattle.std.proofs.Common.{refl, sym, ◌∙◌}
+use Rattle.bufr_data.proofs.AskedFacts.{none_ahead, one_passed}
 use Rattle.bufr_data.proofs.plain.fields.PlainFields.next_asked.Goals as goal
+
+-- where the walk tells of all fields that are left, none of them is asked for
+pub returns-then-tells_no_more : goal.returns-then-tells_no_more
+returns-then-tells_no_more g c = (
+  none_ahead g.A.Asks.is_asked c.self.inside.done c.self.inside.walk c.self.inside.reader
+      c.args.self.now c.if-not-self.true c.self.view_is c.if-tells_no_more.ensures,
+  refl,
+)
 
 -- none of those that were passed is asked for
 pub loop-field-preserved-else-asks : goal.loop-field-preserved-else-asks
