@@ -13,7 +13,7 @@ ghost use Rattle.bufr_data.specs.Compressed.Reading.{ColumnsFound, columns_at};
 ghost use Rattle.bufr_data.specs.Plain.{has_form_by, plain, stopped};
 ghost use Rattle.bufr_data.specs.Compressed.{subset_of, subsets_from};
 ghost use Rattle.bufr_data.specs.Data.{subsets_in};
-ghost use Rattle.bufr_data.specs.Compressed.Indexed.{Indexed, Ahead, Opens, PassesPlace, column_from};
+ghost use Rattle.bufr_data.specs.Compressed.Indexed.{Ahead, AllOpen, Opens, PassesPlace, column_from};
 ghost use Rattle.bufr_data.specs.Compressed.Indexed.{index_at};
 ghost use Rattle.bufr_data.specs.Steady.{IsReady, WalkAdvances};
 ghost use Rattle.bufr_data.specs.Subsets.{Extends};
@@ -85,11 +85,18 @@ impl<'a> Columns<'a> {
         ensures onward { reader.old.place ≤ reader.new.place }
     {
         let place = reader.place();
-        let answer = index_columns(alloc, template, reader, subsets);
-        if answer.is_err() {
-            reader.return_to(place);
+        let octets = reader.octets();
+        match column_places(alloc, template, reader, subsets) {
+            Ok(places) => Ok(Columns {
+                octets,
+                subsets,
+                places,
+            }),
+            Err(failure) => {
+                reader.return_to(place);
+                Err(failure)
+            }
         }
-        answer
     }
 
     /// How many subsets there are.
@@ -154,38 +161,35 @@ impl<'a> Columns<'a> {
     }
 }
 
-/// The columns of so many subsets at the front of the bits. After an error the reader may have
-/// moved on.
-fn index_columns<'a>(
+/// Where the columns of so many subsets begin, the first at the front of the bits. After an error
+/// the reader may have moved on.
+fn column_places(
     alloc: Global,
     template: &Template,
-    reader: &mut BitReader<'a>,
+    reader: &mut BitReader,
     subsets: u16,
-) -> Result<Columns<'a>, Failure<ReadFault>>
-    ensures exact { Gives {Y = Ahead} (λ c. record { index = c; rest = left reader.new }) result
-        (index_at template.now subsets (left reader.old)) }
+) -> Result<Vec<Place>, Failure<ReadFault>>
+    ensures exact { Gives {Y = Ahead} (λ places. record {
+      index = record {
+        subsets = subsets;
+        columns = map (column_from reader.old.octets subsets) places.items;
+      };
+      rest = left reader.new;
+    }) result (index_at template.now subsets (left reader.old)) }
+    ensures stand { IfOk result (λ places. AllOpen reader.old.octets subsets places.items) }
     ensures octets { reader.new.octets ≡ reader.old.octets }
     ensures onward { reader.old.place ≤ reader.new.place }
 {
-    let octets = reader.octets();
     let mut places = Vec::new(alloc);
     if subsets == 0 {
-        return Ok(Columns {
-            octets,
-            subsets,
-            places,
-        });
+        return Ok(places);
     }
     let mut walk = Walk::start(alloc, template, 0)?;
     loop {
         let i = places.len() as u64 + 1;
         match next_place(&mut walk, reader, subsets, i) {
             Err(fault) => return Err(Failure::Fault(fault)),
-            Ok(None) => return Ok(Columns {
-                octets,
-                subsets,
-                places,
-            }),
+            Ok(None) => return Ok(places),
             Ok(Some(place)) => places.push(place)?,
         }
     }

@@ -98,8 +98,11 @@ impl<'a> PlainSubsets<'a> {
                 let room = self.template.nodes().min(FIELDS_WITH_ROOM);
                 let walk = Walk::start(alloc, &self.template, start.used)?;
                 let reader = BitReader::at(self.octets, start.bit);
-                let done = false;
-                let met = PlainFields { walk, reader, done };
+                let met = PlainFields {
+                    walk,
+                    reader,
+                    done: false,
+                };
                 Ok(Fields {
                     standing: StandingFields::Plain(met),
                     room,
@@ -205,7 +208,7 @@ fn only_start(
 }
 
 /// Where so many subsets begin, each of which is passed by itself. After an error the reader may
-/// have moved on.
+/// have moved on. Where there is one alone no list is made.
 fn starts_in_turn(
     alloc: Global,
     template: &Template,
@@ -240,8 +243,8 @@ fn starts_in_turn(
 
 /// How many items the message has met behind the subset of this number, where it had met `used`
 /// before. The reader moves past exactly its bits; after an error it may have moved on. Where all
-/// subsets are alike, and the message has room for its items and its bits are there, it is passed
-/// by these alone; it is then walked only to be refused.
+/// subsets are alike it is passed by its bits alone, where these are there and the message has room
+/// for its items, and is walked only to be refused.
 fn pass_one(
     alloc: Global,
     template: &Template,

@@ -1,4 +1,4 @@
--- The clause `exact` of `index_columns`: column by column along the walk.
+-- The clause `exact` of `column_places`: column by column along the walk.
 use Rattle.std.proofs.Common.{◌≡◌, ◌∙◌, ◌+◌, ◌∷◌, [], Some, length, length-append, refl, ap, subst}
 use Rattle.std.proofs.Common.{arith}
 use Rattle.bufr_bits.specs.Ends.{left}
@@ -7,7 +7,7 @@ use Rattle.bufr_data.specs.Compressed.Indexed.{Opens, PassesPlace}
 use Rattle.bufr_data.proofs.StepFacts.{ready_there}
 use Rattle.bufr_data.proofs.ListFacts.{all_grown}
 use Rattle.bufr_data.proofs.CompressedFacts.Places.{behind_no_column, place_kept}
-use Rattle.bufr_data.proofs.compressed.index.index_columns.Goals as goal
+use Rattle.bufr_data.proofs.compressed.index.column_places.Goals as goal
 
 -- at first the walk stands at the start of the course, and no column is passed
 pub loop-fault-init : goal.loop-fault-init

@@ -1,4 +1,4 @@
--- The loop of `index_columns`: the places of the columns passed so far.
+-- The loop of `column_places`: the places of the columns passed so far.
 use Rattle.std.proofs.Common.{◌≡◌, ◌≤◌, ◌+◌, ◌-◌, length, map}
 use Rattle.bufr_bits.specs.Ends.{left}
 use Rattle.bufr_expand.specs.Courses.{course}
@@ -7,7 +7,7 @@ use Rattle.bufr_expand.specs.Limits.{most_items}
 use Rattle.bufr_data.specs.Compressed.Reading.{columns_at}
 use Rattle.bufr_data.specs.Compressed.Indexed.{AllOpen, behind_columns, column_from}
 use Rattle.bufr_data.specs.Steady.{IsReady}
-use Rattle.bufr_data.proofs.compressed.index.index_columns.Given as goal
+use Rattle.bufr_data.proofs.compressed.index.column_places.Given as goal
 
 -- the walk is ready, at each place so far a column begins, and the index of all is the columns
 -- there and those from the next on
