@@ -84,7 +84,7 @@ impl<'a> SubsetIndex<'a> {
         ensures { result ≡ length self.now }
     {
         match &self.standing {
-            DataIndex::Plain(subsets) => subsets.count(),
+            DataIndex::Plain(subsets) => subsets.starts.len(),
             DataIndex::Compressed(columns) => usize::from(columns.count()),
         }
     }

@@ -68,13 +68,6 @@ impl<'a> Model for PlainSubsets<'a> {
 }
 
 impl<'a> PlainSubsets<'a> {
-    /// How many there are.
-    pub(crate) fn count(&self) -> usize
-        ensures { result ≡ length self.now }
-    {
-        self.starts.len()
-    }
-
     /// The fields of the subset of this number, from 1. They are met by a walk where they are not
     /// laid out, and else no memory is taken. `OutOfMemory` where a growth was refused.
     pub(crate) fn fields(&self, alloc: Global, number: usize) -> Result<Fields<'_>, OutOfMemory>

@@ -6,6 +6,6 @@ use Rattle.bufr_data.proofs.subset_index.SubsetIndex.count.Goals as goal
 -- the columns count as many subsets as the list has
 pub returns-in-Compressed : goal.returns-in-Compressed
 returns-in-Compressed c =
-    c.from.ensures ∙ c.count-in-Compressed.ensures
+    c.from.ensures ∙ c.count.ensures
     ∙ sym (many_shown c.self.inside.standing c.in-Compressed.columns c.args.self.now c.self.view_is
     c.in-Compressed.is)
