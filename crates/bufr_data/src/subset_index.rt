@@ -18,6 +18,7 @@ use crate::fault::ReadFault;
 use crate::field::Subset;
 use crate::fields::Fields;
 use crate::plain::alike::{Alike, Likeness};
+use crate::plain::copy::{copy_bits, lent_octets};
 use crate::plain::index::{PlainSubsets, starts_of};
 use crate::plain::layout::Layout;
 use bufr_answers::{Failure, OutOfMemory};
@@ -144,7 +145,10 @@ impl<'a> SubsetIndex<'a> {
         ensures kept { Extends sink.old sink.new }
     {
         match &self.standing {
-            DataIndex::Plain(subsets) => subsets.put(alloc, number, sink),
+            DataIndex::Plain(subsets) => {
+                let start = subsets.starts.at(number);
+                copy_bits(alloc, subsets.octets, start.bit, start.end, sink)
+            }
             DataIndex::Compressed(columns) => {
                 let _count = columns.count();
                 columns.put(alloc, number as u16, sink)
@@ -162,7 +166,10 @@ impl<'a> SubsetIndex<'a> {
             bits lent.now ≡ filled (plain s.fields))) }
     {
         match &self.standing {
-            DataIndex::Plain(subsets) => subsets.lent(number),
+            DataIndex::Plain(subsets) => {
+                let start = subsets.starts.at(number);
+                lent_octets(subsets.octets, start.bit, start.end)
+            }
             DataIndex::Compressed(_) => None,
         }
     }

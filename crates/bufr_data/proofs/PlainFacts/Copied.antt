@@ -1,4 +1,4 @@
--- Bits that are copied, whole octets first: for `copy_bits` and `PlainSubsets::put`; and bits whose
+-- Bits that are copied, whole octets first: for `copy_bits` and `SubsetIndex::put`; and bits whose
 -- octets are lent: for `lent_octets`.
 use Rattle.std.proofs.Common.{◌≡◌, ℕ, zero, suc, ◌+◌, ◌-◌, ◌*◌, ◌/◌, ◌%◌, ◌^◌, ◌<◌, ◌≤◌, Bool}
 use Rattle.std.proofs.Common.{false, List, ◌++◌, length, take, replicate, subst}

@@ -1,5 +1,5 @@
 -- The subsets that an index of plain data shows, by their numbers: for `PlainSubsets::fields`
--- and `PlainSubsets::put`.
+-- and `SubsetIndex::put`.
 use Rattle.std.proofs.Common.{◌≡◌, ℕ, List, map, Some, sym, ap, subst, ◌∙◌}
 use Rattle.std.specs.Prelude.{slice_get, option_map}
 use Rattle.std.proofs.lemmas.Option.{get_or_from_slice_get, slice_get_within, slice_get-map}

@@ -1,6 +1,6 @@
 -- The index keeps a start for each plain subset that is passed, one after the other
 -- (`SubsetIndex::index`), and the bits between where it begins and where it ends are its own
--- (`PlainSubsets::put`).
+-- (`SubsetIndex::put`).
 use Rattle.std.proofs.Common.{◌≡◌, ℕ, ◌+◌, ◌-◌, ◌*◌, ◌<◌, ◌≤◌, Bool, List, [], ◌∷◌, ◌++◌, length}
 use Rattle.std.proofs.Common.{take, arith, length-append, map, drop, Result, Ok, refl, sym, ap, subst, ◌∙◌}
 use Rattle.std.specs.Prelude.{IsOk}

@@ -1,22 +1,19 @@
 //! Plain data, one subset at a time.
 
-ghost use Rattle.std.specs.Prelude.{◌≡◌, ◌+◌, ◌-◌, ◌*◌, ◌^◌, ◌<◌, ◌≤◌, ◌++◌, map, length, slice_get, false, Bool, List};
-ghost use Rattle.std.specs.Prelude.{Some, IfOk, IfErr, IfSome, OnErr, OnOk};
-ghost use Rattle.bufr_bits.specs.Bits.{bits};
+ghost use Rattle.std.specs.Prelude.{◌≡◌, ◌+◌, ◌-◌, ◌*◌, ◌^◌, ◌<◌, ◌≤◌, map, length, slice_get, false, Bool, List};
+ghost use Rattle.std.specs.Prelude.{Some, IfOk, IfErr, IfSome, OnErr};
 ghost use Rattle.bufr_bits.specs.Ends.{left};
 ghost use Rattle.bufr_answers.specs.Answers.{Gives, Fails};
 ghost use Rattle.bufr_expand.specs.Courses.{course};
 ghost use Rattle.bufr_data.specs.declared.field.Subset.{Subset};
 ghost use Rattle.bufr_data.specs.Plain.Alike.{IsAlike};
 ghost use Rattle.bufr_data.specs.Data.{subsets_in};
-ghost use Rattle.bufr_data.specs.Plain.{fields_at, plain};
+ghost use Rattle.bufr_data.specs.Plain.{fields_at};
 ghost use Rattle.bufr_data.specs.Plain.Starts.{PassesSubset, AllBegin, subset_from};
-ghost use Rattle.bufr_data.specs.Subsets.{Extends, filled};
 
 use crate::fault::ReadFault;
 use crate::fields::{Fields, StandingFields};
 use crate::plain::alike::Alike;
-use crate::plain::copy::{copy_bits, lent_octets};
 use crate::plain::fields::PlainFields;
 use crate::plain::laid_fields::LaidFields;
 use crate::plain::layout::Layout;
@@ -25,7 +22,7 @@ use crate::plain::read::FIELDS_WITH_ROOM;
 use crate::plain::read_each::of_subset;
 use crate::plain::starts::{Spacing, Starts};
 use bufr_answers::{Failure, OutOfMemory};
-use bufr_bits::{BitReader, BitSink};
+use bufr_bits::BitReader;
 use bufr_expand::laws::courses_are_unrollings;
 use bufr_expand::{MOST_ITEMS, Template, Walk};
 use std::alloc::Global;
@@ -102,36 +99,6 @@ impl<'a> PlainSubsets<'a> {
                 })
             }
         }
-    }
-
-    /// Puts the bits of the subset of this number, from 1, at a sink's end, as they stand: no field
-    /// is built. `OutOfMemory` where a growth was refused; some of the bits may then be put.
-    pub(crate) fn put(
-        &self,
-        alloc: Global,
-        number: usize,
-        sink: &mut BitSink,
-    ) -> Result<(), OutOfMemory>
-        requires first { 1 ≤ number }
-        requires last { number ≤ length self.now }
-        ensures put { IfSome (slice_get self.now (number - 1)) (λ s.
-            OnOk result (sink.new ≡ sink.old ++ plain s.fields)) }
-        ensures kept { Extends sink.old sink.new }
-    {
-        let start = self.starts.at(number);
-        copy_bits(alloc, self.octets, start.bit, start.end, sink)
-    }
-
-    /// The octets that the bits of the subset of this number, from 1, are with zero bits behind them
-    /// to an octet's end, where they stand so. No memory is taken.
-    pub(crate) fn lent(&self, number: usize) -> Option<&'a [u8]>
-        requires first { 1 ≤ number }
-        requires last { number ≤ length self.now }
-        ensures { IfSome result (λ lent. IfSome (slice_get self.now (number - 1)) (λ s.
-            bits lent.now ≡ filled (plain s.fields))) }
-    {
-        let start = self.starts.at(number);
-        lent_octets(self.octets, start.bit, start.end)
     }
 }
 
