@@ -27,24 +27,6 @@ pub(crate) struct Kept {
     pub(crate) template: DataTemplate,
 }
 
-/// The descriptors that octets of section 3 list, with their template, which is built.
-fn kept_of(alloc: Global, tables: &Tables, listed: &[u8]) -> Result<Kept, Failure<Refused>>
-    ensures list { IfOk result (λ k. k.descriptors.value ≡ descriptors_of listed.now) }
-    ensures exact { Gives (λ k. k.template) result
-        (template_or (template tables.now (descriptors_of listed.now))) }
-{
-    let descriptors = descriptors_of(alloc, listed)?;
-    let template = match Template::build(alloc, tables, descriptors.as_slice()) {
-        Ok(template) => template,
-        Err(failure) => return Err(failure.map(Refused::Template)),
-    };
-    let descriptors = Rc::new(alloc, descriptors)?;
-    Ok(Kept {
-        descriptors,
-        template: DataTemplate::new(template),
-    })
-}
-
 /// The list of these descriptors stands in front of those that are kept: it is left where it is the
 /// first, brought there where it is another, and else built.
 pub(crate) fn bring_to_front(
@@ -89,5 +71,14 @@ fn taken(
             return Ok(kept.remove(index));
         }
     }
-    kept_of(alloc, tables, listed)
+    let descriptors = descriptors_of(alloc, listed)?;
+    let template = match Template::build(alloc, tables, descriptors.as_slice()) {
+        Ok(template) => template,
+        Err(failure) => return Err(failure.map(Refused::Template)),
+    };
+    let descriptors = Rc::new(alloc, descriptors)?;
+    Ok(Kept {
+        descriptors,
+        template: DataTemplate::new(template),
+    })
 }
