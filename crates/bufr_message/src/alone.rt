@@ -1,6 +1,6 @@
 //! Whether each subset of a message can be said alone in edition 4.
 
-ghost use Rattle.std.specs.Prelude.{◌≡◌, ◌<◌, ◌^◌, length, nat_le, IfOk};
+ghost use Rattle.std.specs.Prelude.{◌≡◌, ◌<◌, ◌*◌, ◌^◌, ℕ, Bool, List, length, nat_le, IfOk};
 ghost use Rattle.bufr_data.specs.Plain.{field_bits};
 ghost use Rattle.bufr_sections.specs.Spelt.{longest};
 ghost use Rattle.bufr_message.specs.Messages.{octets_alone, can_be_alone};
@@ -9,24 +9,25 @@ ghost use Rattle.bufr_message.specs.Views.{AreReadFrom};
 use bufr_answers::OutOfMemory;
 use bufr_data::laws::data_hold_subsets;
 use bufr_data::{Field, Raw, Subset, SubsetIndex};
-use bufr_sections::{Envelope, LONGEST};
+use bufr_sections::LONGEST;
 use bufr_tables::Fxy;
 use std::alloc::Global;
 
-/// Whether each of the subsets, which stand in these sections under these descriptors, can be said
-/// alone. They are built one by one only where their octets are so many that one of them could be
-/// too long.
+/// Whether each of the subsets, which stand in so many bits of whole octets under these
+/// descriptors, can be said alone. They are built one by one only where the bits are so many that
+/// one of the subsets could be too long.
 pub(crate) fn can_be_alone(
     alloc: Global,
     descriptors: &[Fxy],
-    sections: &Envelope<'_>,
+    there: u128,
     subsets: &SubsetIndex<'_>,
 ) -> Result<bool, OutOfMemory>
-    requires { AreReadFrom sections.now.contents.now sections.now.compressed subsets.now }
+    requires { (octets : List ℕ) × (compressed : Bool)
+        × AreReadFrom octets compressed subsets.now × (there ≡ 8 * length octets) }
     ensures { IfOk result (λ b. b ≡ can_be_alone descriptors.now subsets.now) }
 {
     data_hold_subsets();
-    if 45 + 2 * descriptors.len() as u128 + sections.contents.len() as u128 <= LONGEST {
+    if 45 + 2 * descriptors.len() as u128 + there / 8 <= LONGEST {
         return Ok(true);
     }
     for index in 0..subsets.count() {

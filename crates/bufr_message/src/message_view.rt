@@ -7,15 +7,14 @@ ghost use Rattle.bufr_answers.specs.Answers.{Gives};
 ghost use Rattle.bufr_tables.specs.Entries.{Entries};
 ghost use Rattle.bufr_data.specs.Plain.{plain};
 ghost use Rattle.bufr_data.specs.Subsets.{filled};
-ghost use Rattle.bufr_sections.specs.Sections.{descriptors_of};
-ghost use Rattle.bufr_sections.specs.SectionsRead.{envelope, message_lent};
-ghost use Rattle.bufr_message.specs.Kept.{message_under};
-ghost use Rattle.bufr_message.specs.Messages.{Spells};
+ghost use Rattle.bufr_sections.specs.SectionsRead.{message_lent};
+ghost use Rattle.bufr_message.specs.Kept.{AreOf};
+ghost use Rattle.bufr_message.specs.Messages.{Spells, message_of};
 ghost use Rattle.bufr_message.specs.OwnBits.{spelt_alone};
 ghost use Rattle.bufr_message.specs.Reports.{reports_of, IsUnder};
 
 use crate::alone::can_be_alone;
-use crate::kept::Kept;
+use crate::kept::{Kept, bring_to_front};
 use crate::laws::reports_have_canonical_messages;
 use crate::own_bits::enclosed_alone;
 use crate::report::{Report, ReportHead, report_with};
@@ -23,8 +22,8 @@ use bufr_answers::{Failure, Items, OutOfMemory};
 use bufr_bits::{BitReader, BitSink};
 use bufr_data::laws::data_hold_subsets;
 use bufr_data::{Fields, ReadFault, Subset, SubsetIndex};
-use bufr_sections::{Decoded, Envelope, Head, LentSections, Message, Refused};
-use bufr_tables::Fxy;
+use bufr_sections::{Decoded, Envelope, Head, LentSections, Message, Refused, read_sections};
+use bufr_tables::{Fxy, Tables};
 use std::alloc::Global;
 use std::marker::Model;
 use std::rc::Rc;
@@ -211,27 +210,32 @@ fn contents_alone(
     Ok(sink.into_bytes())
 }
 
-/// The message of sections, whose descriptors are this list with its template.
-pub(crate) fn view_in<'a>(
+/// The message that octets spell, with its list of descriptors then kept in front of the others.
+#[tactic(auto, unfolding(crate::specs::Messages::message_of, crate::specs::Messages::message_in))]
+pub(crate) fn view_keeping<'a>(
     alloc: Global,
-    kept: &mut Kept,
-    sections: Envelope<'a>,
+    tables: &Tables,
+    kept: &mut Vec<Kept>,
+    octets: &'a [u8],
 ) -> Result<View<'a>, Failure<Refused>>
-    requires { kept.old.descriptors.value ≡ descriptors_of sections.listed.now }
-    ensures exact { Gives (λ d. d) result
-        (message_under kept.old.template (envelope sections.entry)) }
-    ensures same { kept.new ≡ kept.old }
+    requires { AreOf tables.now kept.old.items }
+    ensures are { AreOf tables.now kept.new.items }
+    ensures exact { Gives (λ d. d) result (message_of tables.now octets.now) }
 {
     data_hold_subsets();
-    let descriptors = kept.descriptors.clone()?;
+    let sections = read_sections(alloc, octets)?;
     let mut reader = BitReader::new(sections.contents);
+    let there = reader.left();
+    bring_to_front(alloc, tables, kept, sections.listed)?;
+    let first = &mut kept[0];
+    let descriptors = first.descriptors.clone()?;
     let (compressed, count) = (sections.compressed, sections.count);
-    let subsets = match kept.template.index(alloc, compressed, &mut reader, count) {
+    let subsets = match first.template.index(alloc, compressed, &mut reader, count) {
         Ok(subsets) => subsets,
         Err(failure) => return Err(failure.map(Refused::Data)),
     };
     let slack_octets = (reader.left() / 8) as u64;
-    if !can_be_alone(alloc, descriptors.as_slice(), &sections, &subsets)? {
+    if !can_be_alone(alloc, descriptors.as_slice(), there, &subsets)? {
         return Err(Failure::Fault(Refused::Data(ReadFault::TooLarge)));
     }
     Ok(View {

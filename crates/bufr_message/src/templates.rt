@@ -3,14 +3,13 @@
 ghost use Rattle.std.specs.Prelude.{◌≡◌, ℕ, Ok, IfOk};
 ghost use Rattle.bufr_answers.specs.Answers.{Gives};
 ghost use Rattle.bufr_sections.specs.declared.message.Message.{Message};
-ghost use Rattle.bufr_message.specs.Kept.{AreOf};
 ghost use Rattle.bufr_message.specs.Messages.{Spells, message_of};
 
-use crate::kept::{Kept, bring_to_front};
+use crate::kept::Kept;
 use crate::laws::messages_are_spelt;
-use crate::message_view::{View, view_in};
+use crate::message_view::{View, view_keeping};
 use bufr_answers::Failure;
-use bufr_sections::{Refused, read_sections};
+use bufr_sections::Refused;
 use bufr_tables::Tables;
 use std::alloc::Global;
 use std::marker::Model;
@@ -73,21 +72,4 @@ impl<'t> Templates<'t> {
         messages_are_spelt();
         view_keeping(alloc, self.tables, &mut self.kept, octets)
     }
-}
-
-/// The message that octets spell, with its list of descriptors then kept in front of the others.
-#[tactic(auto, unfolding(crate::specs::Messages::message_of, crate::specs::Messages::message_in))]
-fn view_keeping<'a>(
-    alloc: Global,
-    tables: &Tables,
-    kept: &mut Vec<Kept>,
-    octets: &'a [u8],
-) -> Result<View<'a>, Failure<Refused>>
-    requires { AreOf tables.now kept.old.items }
-    ensures are { AreOf tables.now kept.new.items }
-    ensures exact { Gives (λ d. d) result (message_of tables.now octets.now) }
-{
-    let sections = read_sections(alloc, octets)?;
-    bring_to_front(alloc, tables, kept, sections.listed)?;
-    view_in(alloc, &mut kept[0], sections)
 }

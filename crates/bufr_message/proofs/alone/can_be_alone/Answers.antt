@@ -4,13 +4,12 @@ use Rattle.std.specs.Prelude.{slice_get}
 use Rattle.bufr_message.proofs.ViewFacts.{few_octets, one_more_short, one_too_long}
 use Rattle.bufr_message.proofs.alone.can_be_alone.Goals as goal
 
--- subsets that stand in so few octets can each be said alone
-pub returns-then-descriptors-sections-le-LONGEST :
-    goal.returns-then-descriptors-sections-le-LONGEST
-returns-then-descriptors-sections-le-LONGEST c =
-    sym (few_octets c.data_hold_subsets.ensures.read c.args.sections.now.contents.now
-    c.args.sections.now.compressed
-    c.args.descriptors.now c.args.subsets.now c.requires (omega arith))
+-- subsets that stand in so few bits can each be said alone
+pub returns-then-descriptors-there-le-LONGEST : goal.returns-then-descriptors-there-le-LONGEST
+returns-then-descriptors-there-le-LONGEST c =
+    let there = c.requires.3 in
+    sym (few_octets c.data_hold_subsets.ensures.read c.requires.0 c.requires.1
+    c.args.descriptors.now c.args.subsets.now c.requires.2 (omega arith))
 
 -- with one subset too long, not each can be said alone
 pub returns-then-not-is_short : goal.returns-then-not-is_short
