@@ -1,6 +1,6 @@
 -- A canonical message is what the report's own fields spell: for the law on canonical messages,
 -- `canonical_of_read` and `View::canonical`.
-use Rattle.std.proofs.Common.{◌≡◌, ℕ, zero, suc, ◌^◌, ◌<◌, Bool, true, false, List, [], ◌∷◌, length}
+use Rattle.std.proofs.Common.{◌≡◌, ℕ, zero, suc, ◌^◌, ◌<◌, Bool, true, false, List, [], ◌∷◌, ◌++◌, length}
 use Rattle.std.proofs.Common.{Option, Some, None, Result, Ok, Err, refl, sym, ap, subst, ◌∙◌, arith}
 use Rattle.std.specs.Prelude.{nat_lt, nat_le, slice_get, IfOk, IfSome, option_map}
 use Rattle.std.specs.List.{AllByRecursion}
@@ -124,6 +124,14 @@ spelt_there m i contents items (Ok found) below rooms holds spelt =
     ap (option_map spelt_alone)
     (slice_get-map (report_of m) m.subsets i ∙ ap (option_map (report_of m)) t.1)
     ∙ ap Some is
+
+-- the bits of a subset that were put behind none and filled to whole octets
+pub put_and_filled : (found : Option Subset) (begun put full : List Bool) (contents : List ℕ)
+    → begun ≡ [] → IfSome found (λ s. put ≡ begun ++ plain s.fields) → full ≡ filled put
+    → bits contents ≡ full → IfSome found (λ s. bits contents ≡ filled (plain s.fields))
+put_and_filled None begun put full contents none is whole same = tt
+put_and_filled (Some s) begun put full contents none is whole same =
+    same ∙ whole ∙ ap filled (is ∙ ap (λ (b : List Bool). b ++ plain s.fields) none)
 
 -- what is answered for a report alone with these octets behind the fourth of section 4
 pub alone_is : (r : Report) (h : Head) (contents : List ℕ) (data_bits : List Bool)

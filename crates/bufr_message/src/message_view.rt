@@ -1,12 +1,9 @@
 //! Messages whose reports are built one at a time.
 
 ghost use Rattle.std.specs.Prelude.{◌≡◌, ℕ, ◌-◌, ◌≤◌, List, length, slice_get, Some, IfOk};
-ghost use Rattle.std.specs.Prelude.{IfSome, option_map};
-ghost use Rattle.bufr_bits.specs.Bits.{bits};
+ghost use Rattle.std.specs.Prelude.{option_map};
 ghost use Rattle.bufr_answers.specs.Answers.{Gives};
 ghost use Rattle.bufr_tables.specs.Entries.{Entries};
-ghost use Rattle.bufr_data.specs.Plain.{plain};
-ghost use Rattle.bufr_data.specs.Subsets.{filled};
 ghost use Rattle.bufr_sections.specs.SectionsRead.{message_lent};
 ghost use Rattle.bufr_message.specs.Kept.{AreOf};
 ghost use Rattle.bufr_message.specs.Messages.{Spells, message_of};
@@ -27,6 +24,9 @@ use bufr_tables::{Fxy, Tables};
 use std::alloc::Global;
 use std::marker::Model;
 use std::rc::Rc;
+
+/// How many octets of a subset are given room before any is put: most have fewer.
+const OCTETS_WITH_ROOM: usize = 64;
 
 /// A message that was read, none of whose subsets is built before it is asked for. It borrows the
 /// octets. Contracts see what `decode` answers.
@@ -152,8 +152,10 @@ impl<'a> View<'a> {
         if let Some(contents) = self.subsets.lent(number) {
             return enclosed_alone(alloc, &head, observed, descriptors, contents);
         }
-        let contents = contents_alone(alloc, &self.subsets, number)?;
-        enclosed_alone(alloc, &head, observed, descriptors, &contents)
+        let mut sink = BitSink::with_capacity(alloc, OCTETS_WITH_ROOM)?;
+        self.subsets.put(alloc, number, &mut sink)?;
+        sink.fill_octet();
+        enclosed_alone(alloc, &head, observed, descriptors, &sink.into_bytes())
     }
 
     /// The message, with all its subsets built. It can only run out of memory; the view is then
@@ -187,27 +189,6 @@ fn all_subsets(alloc: Global, subsets: &SubsetIndex<'_>) -> Result<Items<Subset>
         built.push(subsets.subset(alloc, index + 1)?)?;
     }
     Ok(Items::from_vec(built))
-}
-
-/// How many octets of a subset are given room before any is put: most have fewer.
-const OCTETS_WITH_ROOM: usize = 64;
-
-/// The bits of the subset of this number, from 1, filled to whole octets. It can only run out of
-/// memory.
-fn contents_alone(
-    alloc: Global,
-    subsets: &SubsetIndex<'_>,
-    number: usize,
-) -> Result<Vec<u8>, OutOfMemory>
-    requires first { 1 ≤ number }
-    requires last { number ≤ length subsets.now }
-    ensures { IfSome (slice_get subsets.now (number - 1)) (λ s.
-        IfOk result (λ contents. bits contents.items ≡ filled (plain s.fields))) }
-{
-    let mut sink = BitSink::with_capacity(alloc, OCTETS_WITH_ROOM)?;
-    subsets.put(alloc, number, &mut sink)?;
-    sink.fill_octet();
-    Ok(sink.into_bytes())
 }
 
 /// The message that octets spell, with its list of descriptors then kept in front of the others.

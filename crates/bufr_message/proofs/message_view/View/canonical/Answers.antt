@@ -1,7 +1,8 @@
 -- For `View::canonical`: what the bits of a subset spell with the parts of the view.
 use Rattle.std.proofs.Common.{◌-◌, ◌<◌, length, arith}
+use Rattle.std.specs.Prelude.{slice_get}
 use Rattle.bufr_sections.specs.declared.message.Message.{Message}
-use Rattle.bufr_message.proofs.OwnBitsFacts.{spelt_there}
+use Rattle.bufr_message.proofs.OwnBitsFacts.{put_and_filled, spelt_there}
 use Rattle.bufr_message.proofs.message_view.View.canonical.Goals as goal
 
 -- what is answered of octets that are lent is what the report spells alone
@@ -47,6 +48,10 @@ returns c =
       c.deref.ensures,
       c.deref-2.ensures.value,
     ) at c.enclosed_alone-2.ensures in
+    let held =
+    put_and_filled (slice_get v.subsets (c.args.number - 1)) c.in_ok-sink.sink c.put.new.sink
+    c.fill_octet.new.self c.into_bytes.result.items c.in_ok-sink.ensures c.in_ok-put.ensures.put
+    c.fill_octet.ensures.filled c.into_bytes.ensures in
     rw (← c.self.view_is)
-    (spelt_there m (c.args.number - 1) c.in_ok-contents.contents.items (λ v. v.items)
-    c.enclosed_alone-2.result below c.self.invariant c.in_ok-contents.ensures spelt)
+    (spelt_there m (c.args.number - 1) c.into_bytes.result.items (λ v. v.items)
+    c.enclosed_alone-2.result below c.self.invariant held spelt)
