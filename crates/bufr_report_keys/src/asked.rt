@@ -55,7 +55,12 @@ pub(crate) fn note_handed(
 {
     match fields.laid() {
         Ok(fields) => note_laid(alloc, fields, values),
-        Err(fields) => note_met(alloc, fields, values),
+        Err(mut left) => {
+            while let Some(field) = left.next_asked::<KeyElements>(alloc)? {
+                values.note(field);
+            }
+            Ok(())
+        }
     }
 }
 
@@ -76,20 +81,6 @@ fn note_laid(
             return Ok(());
         }
     }
-}
-
-/// Notes any fields. It can only run out of memory.
-fn note_met(
-    alloc: Global,
-    mut fields: Fields<'_>,
-    values: &mut FirstValues,
-) -> Result<(), OutOfMemory>
-    ensures { OnOk result (values.new ≡ all_noted fields.entry values.old) }
-{
-    while let Some(field) = fields.next_asked::<KeyElements>(alloc)? {
-        values.note(field);
-    }
-    Ok(())
 }
 
 /// Notes the fields of a list. It can only run out of memory, where a text is copied.
