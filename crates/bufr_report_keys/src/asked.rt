@@ -1,6 +1,6 @@
 //! The fields that a key asks for, and what the first of each element says.
 ghost use Rattle.std.specs.Prelude.{◌≡◌, IfOk, OnOk};
-ghost use Rattle.bufr_report_keys.specs.Asked.{is_station, is_time, is_asked};
+ghost use Rattle.bufr_report_keys.specs.Asked.{is_asked};
 ghost use Rattle.bufr_report_keys.specs.FirstValues.{all_noted};
 
 use crate::first_values::FirstValues;
@@ -9,27 +9,15 @@ use bufr_data::{Asks, Field, Fields, LaidFields, Raw};
 use bufr_tables::Fxy;
 use std::alloc::Global;
 
-/// Whether a descriptor is an element that says a station: 001001, 001002, 001011 and 001125 to
-/// 001128.
-fn is_station(bits: u16) -> bool
-    ensures { result ≡ is_station bits }
-{
-    bits == 257 || bits == 258 || bits == 267 || (381 <= bits && bits <= 384)
-}
-
-/// Whether it is one that says a time: 004001 to 004006.
-fn is_time(bits: u16) -> bool
-    ensures { result ≡ is_time bits }
-{
-    1025 <= bits && bits <= 1030
-}
-
-/// Whether it is one that a key asks for.
+/// Whether a descriptor is an element that a key asks for: one that says a station (001001, 001002,
+/// 001011 and 001125 to 001128) or a time (004001 to 004006).
 fn is_asked(fxy: Fxy) -> bool
     ensures { result ≡ is_asked fxy }
 {
     let bits = fxy.bits();
-    is_station(bits) || is_time(bits)
+    let is_station = bits == 257 || bits == 258 || bits == 267 || (381 <= bits && bits <= 384);
+    let is_time = 1025 <= bits && bits <= 1030;
+    is_station || is_time
 }
 
 /// The elements that a key asks for.
