@@ -67,8 +67,9 @@ impl<'t> ArchiveText<'t> {
     }
 
     /// The archive that octets are the text of, which are held as they are; room that they do not
-    /// take is given back. They are judged from the left, one entry at a time. Refused is the place of the first entry that is not right:
-    /// where the longest front of the octets ends that is a text. Memory may run out.
+    /// take is given back. They are judged from the left, one entry at a time. Refused is the place
+    /// of the first entry that is not right: where the longest front of the octets ends that is a
+    /// text. Memory may run out.
     pub fn read(
         alloc: Global,
         tables: &'t Tables,
