@@ -1,5 +1,5 @@
--- The frames of a stream taken in as its pieces come: the steps of `take_stream` and `take_rest`, for
--- the contracts of all engines over streams.
+-- The frames of a stream taken in as its pieces come: the steps of `take_stream`, for the contracts of
+-- all engines over streams.
 use Rattle.std.proofs.Common.{◌≡◌, ℕ, ◌+◌, ◌^◌, ◌<◌, ◌≤◌, Option, Some, IfSome, IsErrAnd}
 use Rattle.std.proofs.Common.{List, [], ◌∷◌, ◌++◌, length, take, drop, get_or, Result, Ok, Err}
 use Rattle.std.proofs.Common.{refl, sym, ap, ◌∙◌, subst, arith, length-append, append_assoc}

@@ -1,14 +1,12 @@
 //! The frames of a stream, read to its end and handed on one after the other.
 
-ghost use Rattle.std.specs.Prelude.{◌≡◌, ◌≤◌, ◌<◌, ◌+◌, ◌*◌, ◌^◌, ◌++◌, ◌∷◌, [], ℕ, List, length};
+ghost use Rattle.std.specs.Prelude.{◌≡◌, ◌≤◌, ◌<◌, ◌+◌, ◌*◌, ◌++◌, ◌∷◌, [], ℕ, List, length};
 ghost use Rattle.std.specs.Prelude.{OnOk, IfErr};
 ghost use Rattle.bufr_frame.specs.declared.frames.Found.{Found as FoundFrame};
-ghost use Rattle.bufr_frame.specs.Streams.{cut};
 ghost use Rattle.bufr_io.specs.declared.fault.ToolFault.{ToolFault as ToolFaultKind};
 ghost use Rattle.bufr_io.specs.Engines.{IsFresh};
 ghost use Rattle.bufr_io.specs.Limits.{most_reads, longest_piece};
-ghost use Rattle.bufr_collect.specs.Taking.{frame_at, AreFew, HasSure, TakesAll};
-ghost use Rattle.bufr_collect.specs.Taking.{TakesStream};
+ghost use Rattle.bufr_collect.specs.Taking.{frame_at, AreFew, TakesStream};
 
 use bufr_bits::Source;
 use bufr_frame::{Framer, NextFrame};
@@ -75,30 +73,6 @@ pub trait TakesFrames<O> {
         → count self out ≡ count first begin + length frames };
 }
 
-/// Ends a stream, and takes in the frames that are left.
-fn take_rest<O, T: TakesFrames<O>>(
-    alloc: Global,
-    framer: &mut Framer,
-    taker: &mut T,
-    out: &mut O,
-) -> Result<(), ToolFault>
-    requires so_far { (first : T) × (begin : O) × (stream : List ℕ)
-        × HasSure (T.HasTaken first begin taker.old out.old) framer.old stream }
-    requires long { framer.old.fed ≤ 2 ^ 48 }
-    ensures { (first : T) (begin : O) (stream : List ℕ)
-        → HasSure (T.HasTaken first begin taker.old out.old) framer.old stream
-        → TakesAll (T.HasTaken first begin taker.new out.new)
-        (T.HasStopped first begin taker.new out.new) (cut stream) result }
-{
-    let Ok(frames) = framer.finish() else {
-        return Err(taker.halt(out));
-    };
-    for frame in &frames {
-        taker.take_frame(alloc, frame.place, frame.bytes.as_slice(), out)?;
-    }
-    Ok(())
-}
-
 /// Reads the stream of a reader to its end through some room, and hands on each of its frames as
 /// soon as it is sure. One that lies whole in a piece is not copied. Behind each piece nothing is
 /// held back. Answers how many octets were read.
@@ -139,6 +113,11 @@ pub fn take_stream<O, S: Source, T: TakesFrames<O>>(
         taker.end_piece(out)?;
     }
     let long = framer.fed();
-    take_rest(alloc, &mut framer, taker, out)?;
+    let Ok(frames) = framer.finish() else {
+        return Err(taker.halt(out));
+    };
+    for frame in &frames {
+        taker.take_frame(alloc, frame.place, frame.bytes.as_slice(), out)?;
+    }
     Ok(long)
 }

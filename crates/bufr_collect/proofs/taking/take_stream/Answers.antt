@@ -1,11 +1,16 @@
 -- The clauses of `take_stream`: piece by piece, and of each frame by frame, until none is left or it
 -- stops.
-use Rattle.std.proofs.Common.{◌≡◌, ◌≤◌, ◌^◌, ◌++◌, ◌∷◌, [], ◌∙◌, None, arith, length, length-append}
+use Rattle.std.proofs.Common.{◌≡◌, ◌≤◌, ◌^◌, ◌+◌, List, ◌++◌, ◌∷◌, [], ◌∙◌, None, arith, length}
+use Rattle.std.proofs.Common.{length-append, ap, sym, subst, take, drop}
+use Rattle.std.proofs.lemmas.List.{take_all}
+use Rattle.bufr_frame.specs.declared.frames.Found.{Found}
 use Rattle.bufr_frame.specs.Streams.{sure}
-use Rattle.bufr_frame.specs.NextFrameLaws.{between_fed}
-use Rattle.bufr_collect.specs.Taking.{frame_at, unread, at_piece, at_end, TakesStream}
+use Rattle.bufr_frame.specs.NextFrameLaws.{between_fed, handed_end}
+use Rattle.bufr_collect.specs.Taking.{frame_at, unread, at_piece, at_end, AreFew, TakesStream}
 use Rattle.bufr_collect.proofs.TakingFacts.{amid_first, amid_few, amid_within, amid_more, amid_none}
-use Rattle.bufr_collect.proofs.TakingFacts.{amid_stopped, hands, nothing_read, passed, unread_bounded}
+use Rattle.bufr_collect.proofs.TakingFacts.{amid_stopped, few_cut, few_first, few_sure, hands}
+use Rattle.bufr_collect.proofs.TakingFacts.{item_is, nothing_read, parted_at, passed, rest_stopped}
+use Rattle.bufr_collect.proofs.TakingFacts.{taken_to, unread_bounded}
 use Rattle.bufr_collect.proofs.taking.take_stream.Goals as goal
 
 -- before the first read nothing was read or taken in
@@ -257,45 +262,120 @@ loop-framer-preserved g c =
       none = c.in_ok-end_piece.ensures.none;
     }
 
--- of the octets that were read all sure frames were taken in
-pub take_rest-requires-clause-so_far : goal.take_rest-requires-clause-so_far
-take_rest-requires-clause-so_far g c =
-    let b = c.loop-framer.invariant in (c.args.taker.now, c.args.out.now, b.read, b.sure_taken)
-
--- they are at most 2 ^ 48
-pub take_rest-requires-clause-long : goal.take_rest-requires-clause-long
-take_rest-requires-clause-long g c =
+-- the sure frames of the octets that were read are few
+pub halt-requires-in_default-finish : goal.halt-requires-in_default-finish
+halt-requires-in_default-finish g c =
     let b = c.loop-framer.invariant in
-    let fed = b.sure_taken.handed.stands.fed in
-    let short = b.so_far.short in
-    let allowed = b.so_far.allowed in
-    let few = c.requires.few in
-    omega arith
+    let short : length b.read ≤ 2 ^ 48 =
+    omega (arith, b.so_far.short, b.so_far.allowed, c.requires.few) in
+    (c.args.taker.now, c.args.out.now, sure b.read, b.sure_taken.taken, few_sure b.read short)
 
--- where it stops at the end, so many reads were made
-pub returns-in_err-take_rest-clause-bounded : goal.returns-in_err-take_rest-clause-bounded
-returns-in_err-take_rest-clause-bounded g c =
+-- where memory runs out before the others are handed out, so many reads were made
+pub returns-in_default-finish-clause-bounded : goal.returns-in_default-finish-clause-bounded
+returns-in_default-finish-clause-bounded g c =
     let b = c.loop-framer.invariant in
     let ends = rw c.in_default.is at (c.in_ok-piece.ensures.reads _ _ _ _ b.so_far) in ends.3
 
--- and it has some of all frames
-pub returns-in_err-take_rest-clause-takes : goal.returns-in_err-take_rest-clause-takes
-returns-in_err-take_rest-clause-takes g c =
+-- and it stopped behind them
+pub returns-in_default-finish-clause-takes : goal.returns-in_default-finish-clause-takes
+returns-in_default-finish-clause-takes g c =
     let b = c.loop-framer.invariant in
     let ends = rw c.in_default.is at (c.in_ok-piece.ensures.reads _ _ _ _ b.so_far) in
+    at_end b.read ends.0 ends.1 ends.2
+    (rest_stopped
+    (g.T.TakesFrames.HasStopped c.args.taker.now c.args.out.now c.halt-in_default-finish.new.self
+    c.halt-in_default-finish.new.out)
+    b.read c.halt-in_default-finish.result
+    (c.halt-in_default-finish.ensures c.args.taker.now c.args.out.now (sure b.read)
+    b.sure_taken.taken))
+
+-- with one of the others they are few, for all of them are
+pub take_frame-requires-in-loop-frame : goal.take_frame-requires-in-loop-frame
+take_frame-requires-in-loop-frame g c =
+    let b = c.loop-framer.invariant in
+    let short : length b.read ≤ 2 ^ 48 =
+    omega (arith, b.so_far.short, b.so_far.allowed, c.requires.few) in
+    let frames = c.deref-frame-items.result.now in
+    let i = c.loop-frame.frame-index in
+    let frame = frame_at c.frame-item.result.place c.as_slice-in-loop-frame.result.now in
+    let is = item_is frames i c.frame-item.result c.as_slice-in-loop-frame.result.now
+    c.as_slice-in-loop-frame.ensures c.frame-item.is in
+    let found = c.in-Ok-finish.ensures.found b.read (length (sure b.read))
+    b.sure_taken.handed.stands in
+    let whole =
+    ap (λ (fs : List Found). sure b.read ++ fs) c.deref-frame-items.ensures.value
+    ∙ handed_end _ b.read (sure b.read) _ b.sure_taken.handed found in (
+      c.args.taker.now,
+      c.args.out.now,
+      sure b.read ++ take i frames,
+      c.loop-frame.invariant (sure b.read) b.sure_taken.taken,
+      few_first _ _ (drop (i + 1) frames)
+          (parted_at frames i frame (sure b.read) c.loop-frame-test.true is)
+          (subst AreFew (sym whole) (few_cut b.read short)),
+    )
+
+-- one of them more was taken in
+pub loop-frame-preserved : goal.loop-frame-preserved
+loop-frame-preserved g c before h =
+    let frames = c.deref-frame-items.result.now in
+    let i = c.loop-frame.frame-index in
+    let frame = frame_at c.frame-item.result.place c.as_slice-in-loop-frame.result.now in
+    let is = item_is frames i c.frame-item.result c.as_slice-in-loop-frame.result.now
+    c.as_slice-in-loop-frame.ensures c.frame-item.is in
+    subst
+    (g.T.TakesFrames.HasTaken c.args.taker.now c.args.out.now
+    c.take_frame-in-loop-frame.new.self c.take_frame-in-loop-frame.new.out)
+    (taken_to frames i frame before c.loop-frame-test.true is)
+    (c.in_ok-take_frame-2.ensures.taken c.args.taker.now c.args.out.now
+    (before ++ take i frames) (c.loop-frame.invariant before h))
+
+-- where it stops at this one, so many reads were made
+pub returns-in_err-take_frame-2-clause-bounded :
+    goal.returns-in_err-take_frame-2-clause-bounded
+returns-in_err-take_frame-2-clause-bounded g c =
+    let b = c.loop-framer.invariant in
+    let ends = rw c.in_default.is at (c.in_ok-piece.ensures.reads _ _ _ _ b.so_far) in ends.3
+
+-- and it has those before it
+pub returns-in_err-take_frame-2-clause-takes :
+    goal.returns-in_err-take_frame-2-clause-takes
+returns-in_err-take_frame-2-clause-takes g c =
+    let b = c.loop-framer.invariant in
+    let ends = rw c.in_default.is at (c.in_ok-piece.ensures.reads _ _ _ _ b.so_far) in
+    let frames = c.deref-frame-items.result.now in
+    let i = c.loop-frame.frame-index in
+    let frame = frame_at c.frame-item.result.place c.as_slice-in-loop-frame.result.now in
+    let is = item_is frames i c.frame-item.result c.as_slice-in-loop-frame.result.now
+    c.as_slice-in-loop-frame.ensures c.frame-item.is in
+    let found = c.in-Ok-finish.ensures.found b.read (length (sure b.read))
+    b.sure_taken.handed.stands in
+    let whole =
+    ap (λ (fs : List Found). sure b.read ++ fs) c.deref-frame-items.ensures.value
+    ∙ handed_end _ b.read (sure b.read) _ b.sure_taken.handed found in
     passed
     (TakesStream
-    (g.T.TakesFrames.HasTaken c.args.taker.now c.args.out.now c.take_rest.new.taker
-    c.take_rest.new.out)
-    (g.T.TakesFrames.HoldsNone c.take_rest.new.taker c.take_rest.new.out)
-    (g.T.TakesFrames.HasStopped c.args.taker.now c.args.out.now c.take_rest.new.taker
-    c.take_rest.new.out)
+    (g.T.TakesFrames.HasTaken c.args.taker.now c.args.out.now
+    c.take_frame-in-loop-frame.new.self c.take_frame-in-loop-frame.new.out)
+    (g.T.TakesFrames.HoldsNone c.take_frame-in-loop-frame.new.self
+    c.take_frame-in-loop-frame.new.out)
+    (g.T.TakesFrames.HasStopped c.args.taker.now c.args.out.now
+    c.take_frame-in-loop-frame.new.self c.take_frame-in-loop-frame.new.out)
     c.args.source c.args.reads (g.S.Source.reading c.args.reader.now)
     (g.S.Source.reading c.next.new.reader))
-    c.from_residual-in_err-take_rest.result c.in_err-take_rest.field-0.0
-    c.from_residual-in_err-take_rest.ensures.1
+    c.from_residual-in_err-take_frame-2.result
+    c.in_err-take_frame-2.field-0.0
+    c.from_residual-in_err-take_frame-2.ensures.1
     (at_end b.read ends.0 ends.1 ends.2
-    (c.in_err-take_rest.ensures c.args.taker.now c.args.out.now b.read b.sure_taken))
+    (record {
+      front = (sure b.read ++ take i frames) ++ frame ∷ [];
+      rest = drop (i + 1) frames;
+      parted =
+          sym whole ∙ parted_at frames i frame (sure b.read) c.loop-frame-test.true is;
+      stopped =
+          c.in_err-take_frame-2.ensures.stopped c.args.taker.now c.args.out.now
+          (sure b.read ++ take i frames)
+          (c.loop-frame.invariant (sure b.read) b.sure_taken.taken);
+    }))
 
 -- where no piece is left, so many reads were made
 pub returns-clause-bounded : goal.returns-clause-bounded
@@ -303,11 +383,16 @@ returns-clause-bounded g c =
     let b = c.loop-framer.invariant in
     let ends = rw c.in_default.is at (c.in_ok-piece.ensures.reads _ _ _ _ b.so_far) in ends.3
 
--- and the stream is all that was read
+-- and the stream is all that was read: the sure frames and those that were left are all
 pub returns-clause-takes : goal.returns-clause-takes
 returns-clause-takes g c =
     let b = c.loop-framer.invariant in
     let ends = rw c.in_default.is at (c.in_ok-piece.ensures.reads _ _ _ _ b.so_far) in
+    let found = c.in-Ok-finish.ensures.found b.read (length (sure b.read))
+    b.sure_taken.handed.stands in
+    let whole =
+    ap (λ (fs : List Found). sure b.read ++ fs) c.deref-frame-items.ensures.value
+    ∙ handed_end _ b.read (sure b.read) _ b.sure_taken.handed found in
     let short = b.so_far.short in
     let most = ends.4 in
     let counts = c.in_ok-piece.ensures.counts in (
@@ -315,7 +400,14 @@ returns-clause-takes g c =
       b.read,
       ends.1,
       ends.2,
-      c.in_ok-take_rest.ensures c.args.taker.now c.args.out.now b.read b.sure_taken,
+      subst
+          (g.T.TakesFrames.HasTaken c.args.taker.now c.args.out.now c.loop-frame.taker
+          c.loop-frame.out)
+          (ap (λ (fs : List Found). sure b.read ++ fs)
+          (take_all c.loop-frame.frame-index c.deref-frame-items.result.now
+          c.loop-frame-test.false)
+          ∙ whole)
+          (c.loop-frame.invariant (sure b.read) b.sure_taken.taken),
       c.fed-long.ensures ∙ b.sure_taken.handed.stands.fed,
       omega arith,
     )

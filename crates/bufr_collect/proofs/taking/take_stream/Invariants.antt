@@ -1,6 +1,8 @@
--- The loops of `take_stream`: the octets read so far, of which what is sure was taken in; and how far
--- a piece is handed on to the framer, and the frames taken in.
-use Rattle.std.proofs.Common.{ℕ, ◌+◌, ◌-◌, ◌++◌, List, length}
+-- The loops of `take_stream`: the octets read so far, of which what is sure was taken in; how far a
+-- piece is handed on to the framer, and the frames taken in; and of the frames that are left at the
+-- end those taken in so far.
+use Rattle.std.proofs.Common.{ℕ, ◌+◌, ◌-◌, ◌++◌, List, length, take}
+use Rattle.bufr_frame.specs.declared.frames.Found.{Found}
 use Rattle.bufr_collect.specs.Taking.{HasSure}
 use Rattle.bufr_collect.proofs.TakingFacts.{Amid, Between}
 use Rattle.bufr_collect.proofs.taking.take_stream.Given as goal
@@ -30,3 +32,11 @@ abbrev pub decreases-loop-found : goal.decreases-loop-found
 decreases-loop-found g l =
     g.T.TakesFrames.count l.initial.taker l.initial.out + l.initial.framer.fed
     + length l.initial.rest - g.T.TakesFrames.count l.taker l.out
+
+-- whatever was taken in before the end, the frames up to this one were taken in after it
+abbrev pub invariant-loop-frame : goal.invariant-loop-frame
+invariant-loop-frame g l =
+    (before : List Found)
+    → g.T.TakesFrames.HasTaken l.fn.taker l.fn.out l.initial.taker l.initial.out before
+    → g.T.TakesFrames.HasTaken l.fn.taker l.fn.out l.taker l.out
+    (before ++ take l.frame-index l.frame-items)
