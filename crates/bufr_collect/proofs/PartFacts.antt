@@ -1,4 +1,5 @@
--- Octets that are written part by part: the steps of `hand_on` and `write_parts`.
+-- Octets that are written part by part: the steps of `hand_on`, and those of `run_add` and `run_merge`
+-- from entry to entry.
 use Rattle.std.proofs.Common.{◌≡◌, ℕ, ◌+◌, ◌*◌, ◌<◌, ◌≤◌, List, [], ◌∷◌, ◌++◌, length, map, false}
 use Rattle.std.proofs.Common.{Result, Ok, Err, refl, sym, ap, ◌∙◌, subst, arith, length-append}
 use Rattle.std.proofs.Common.{append_assoc}

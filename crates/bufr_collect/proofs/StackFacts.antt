@@ -1,4 +1,4 @@
--- Texts merged from the uppermost on: for `settle`, `merge_readers` and `merge_upper`.
+-- Texts merged from the uppermost on: for `settle`, `merge_readers` and `run_merge`.
 use Rattle.std.proofs.Common.{◌≡◌, List, [], ◌∷◌, ◌++◌, Option, Some, None, refl, sym}
 use Rattle.std.proofs.Common.{ap, subst, ◌∙◌, append_assoc}
 use Rattle.std.proofs.lemmas.List.{append-nil}
@@ -142,60 +142,68 @@ pub put_above_is : (tables : Entries) (old archives : List ArchiveView) (text : 
 put_above_is tables old archives text put =
     sym (put_back tables archives old text (Some text) put refl)
 
--- nothing was taken: the one above holds what all held, below it there is one with no reports
-pub one_together : (tables : Entries) (all first archives rest : List ArchiveView)
-    (begin top none : ArchiveView) (taken found : Option ArchiveView)
-    → HoldTogether tables first begin archives top → all ≡ first ++ option_to_list taken
-    → taken ≡ Some begin → archives ≡ rest ++ option_to_list found → found ≡ None → rest ≡ []
-    → none ≡ record { tables = tables; entries = [] }
-    → (none.tables ≡ top.tables) × (merged none top ≡ together tables all)
-one_together tables all first archives rest begin top none taken found h was is left gone empty new =
+-- ---- all texts merged
+
+-- texts that are left, the lowest that was taken from above them, and what those above it held:
+-- together what all held
+pub record LeftTogether (tables : Entries) (all archives : List ArchiveView)
+    (lowest upper : ArchiveView) : Type 0 where
+  pub under : AreUnderTables tables archives
+  pub lowest_under : lowest.tables ≡ tables
+  pub upper_under : upper.tables ≡ tables
+  pub same : kept ((entries_together archives ++ lowest.entries) ++ upper.entries)
+      ≡ kept (entries_together all)
+
+-- none was taken
+pub left_first : (tables : Entries) (all : List ArchiveView) (lowest upper : ArchiveView)
+    → AreUnderTables tables all → lowest ≡ record { tables = tables; entries = [] }
+    → upper ≡ record { tables = tables; entries = [] } → LeftTogether tables all all lowest upper
+left_first tables all lowest upper under new also = record {
+  under = under;
+  lowest_under = ap (λ (a : ArchiveView). a.tables) new;
+  upper_under = ap (λ (a : ArchiveView). a.tables) also;
+  same = ap (λ (a : ArchiveView). kept ((entries_together all ++ lowest.entries) ++ a.entries)) also
+      ∙ ap kept (append-nil (entries_together all ++ lowest.entries))
+      ∙ ap (λ (a : ArchiveView). kept (entries_together all ++ a.entries)) new
+      ∙ ap kept (append-nil (entries_together all));
+}
+
+-- one more was taken, and the one that was the lowest was merged with those above it
+pub left_more : (tables : Entries) (all archives rest : List ArchiveView)
+    (lowest upper below both : ArchiveView) (found : Option ArchiveView)
+    → LeftTogether tables all archives lowest upper → archives ≡ rest ++ option_to_list found
+    → found ≡ Some below → both ≡ merged lowest upper → LeftTogether tables all rest below both
+left_more tables all archives rest lowest upper below both found h taken is merges =
+    let joined : archives ≡ rest ++ below ∷ [] =
+    taken ∙ ap (λ (o : Option ArchiveView). rest ++ option_to_list o) is in
+    let popped = All-pop (λ (a : ArchiveView). a.tables ≡ tables) archives rest (Some below)
+    joined h.under in
+    record {
+      under = popped.0;
+      lowest_under = popped.1;
+      upper_under = ap (λ (a : ArchiveView). a.tables) merges ∙ h.lowest_under;
+      same = ap (λ (a : ArchiveView). kept ((entries_together rest ++ below.entries) ++ a.entries))
+          merges
+          ∙ kept-late (entries_together rest ++ below.entries) (lowest.entries ++ upper.entries)
+          ∙ ap kept (sym (append_assoc (entries_together rest ++ below.entries) lowest.entries
+          upper.entries))
+          ∙ ap (λ (es : List Entry). kept ((es ++ lowest.entries) ++ upper.entries))
+          (sym (ap entries_together joined ∙ together_more rest below))
+          ∙ h.same;
+    }
+
+-- none is left
+pub left_none : (tables : Entries) (all archives rest : List ArchiveView)
+    (lowest upper : ArchiveView) (found : Option ArchiveView)
+    → LeftTogether tables all archives lowest upper → archives ≡ rest ++ option_to_list found
+    → found ≡ None → rest ≡ [] → merged lowest upper ≡ together tables all
+left_none tables all archives rest lowest upper found h taken none empty =
     let nil : archives ≡ [] =
-    left ∙ ap (λ (o : Option ArchiveView). rest ++ option_to_list o) gone ∙ append-nil rest
-    ∙ empty in (
-      ap (λ (a : ArchiveView). a.tables) new ∙ sym h.top_under,
-      ap (λ (a : ArchiveView). merged a top) new
-          ∙ ap (λ (es : List Entry). record { tables = tables; entries = es })
-          (ap (λ (xs : List ArchiveView). kept (entries_together xs ++ top.entries)) (sym nil)
-          ∙ h.same
-          ∙ sym (kept-early (entries_together first) begin.entries))
-          ∙ put_back tables all first begin taken was is,
-    )
-
--- the lowest was taken: it and the one above hold what all held
-pub two_together : (tables : Entries) (all first archives rest : List ArchiveView)
-    (begin top lowest : ArchiveView) (taken found : Option ArchiveView)
-    → HoldTogether tables first begin archives top → all ≡ first ++ option_to_list taken
-    → taken ≡ Some begin → archives ≡ rest ++ option_to_list found → found ≡ Some lowest
-    → rest ≡ [] → (lowest.tables ≡ top.tables) × (merged lowest top ≡ together tables all)
-two_together tables all first archives rest begin top lowest taken found h was is left here empty =
-    let one : archives ≡ lowest ∷ [] =
-    left ∙ ap (λ (o : Option ArchiveView). rest ++ option_to_list o) here
-    ∙ ap (λ (xs : List ArchiveView). xs ++ lowest ∷ []) empty in
-    let under = taken_under tables first begin archives rest top lowest found h left here in (
-      under,
-      ap (λ (t : Entries). record { tables = t; entries = kept (lowest.entries ++ top.entries) })
-          (under ∙ h.top_under)
-          ∙ ap (λ (es : List Entry). record { tables = tables; entries = es })
-          (ap (λ (es : List Entry). kept (es ++ top.entries))
-          (sym (append-nil lowest.entries)
-          ∙ ap entries_together (sym one))
-          ∙ h.same
-          ∙ sym (kept-early (entries_together first) begin.entries))
-          ∙ put_back tables all first begin taken was is,
-    )
-
--- none was there
-pub none_together : (tables : Entries) (all rest : List ArchiveView) (a b : ArchiveView)
-    (found : Option ArchiveView) → all ≡ rest ++ option_to_list found → found ≡ None → rest ≡ []
-    → a ≡ record { tables = tables; entries = [] } → b ≡ record { tables = tables; entries = [] }
-    → (a.tables ≡ b.tables) × (merged a b ≡ together tables all)
-none_together tables all rest a b found left gone empty new also =
-    let nil : all ≡ [] =
-    left ∙ ap (λ (o : Option ArchiveView). rest ++ option_to_list o) gone ∙ append-nil rest
-    ∙ empty in (
-      ap (λ (x : ArchiveView). x.tables) new ∙ sym (ap (λ (x : ArchiveView). x.tables) also),
-      ap (λ (x : ArchiveView). merged x b) new
-          ∙ ap (λ (x : ArchiveView). merged (record { tables = tables; entries = [] }) x) also
-          ∙ ap (together tables) (sym nil),
-    )
+    taken ∙ ap (λ (o : Option ArchiveView). rest ++ option_to_list o) none ∙ append-nil rest
+    ∙ empty in
+    ap (λ (t : Entries). record { tables = t; entries = kept (lowest.entries ++ upper.entries) })
+    h.lowest_under
+    ∙ ap (λ (es : List Entry). record { tables = tables; entries = es })
+    (ap (λ (xs : List ArchiveView). kept ((entries_together xs ++ lowest.entries) ++ upper.entries))
+    (sym nil)
+    ∙ h.same)

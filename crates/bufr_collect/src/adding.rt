@@ -6,11 +6,11 @@ ghost use Rattle.bufr_collect.specs.Readers.{AreFresh, AreReadAtMost};
 ghost use Rattle.bufr_io.specs.Limits.{most_reads};
 
 use crate::counts::Counts;
-use crate::parts::write_parts;
+use crate::parts::{Part, hand_on};
 use crate::streams::add_streams;
 use bufr_archive::ArchiveBuilder;
 use bufr_bits::{Sink, Source};
-use bufr_io::{Tally, ToolFault, room};
+use bufr_io::{Tally, ToolFault, room, write_out};
 use bufr_tables::Tables;
 use std::alloc::Global;
 
@@ -38,9 +38,18 @@ pub fn run_add<S: Source, W: Sink>(
         refused: 0,
     };
     add_streams(alloc, reads, readers, &mut room, &mut builder, &mut counts)?;
-    let octets = builder.into_octets()?;
-    let reports = octets.len() as u128;
-    write_parts(octets, room, writer)?;
+    let kept = builder.into_octets()?;
+    let reports = kept.len() as u128;
+    room.clear();
+    let mut part = Part {
+        octets: room,
+        written: 0,
+    };
+    let mut left = kept.lent();
+    while let Some(octets) = left.next() {
+        hand_on(writer, &mut part, octets)?;
+    }
+    write_out(writer, part.written, &part.octets)?;
     Ok(Tally {
         frames: counts.frames,
         refused: counts.refused,

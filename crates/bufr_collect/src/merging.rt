@@ -9,12 +9,12 @@ ghost use Rattle.bufr_collect.specs.Collects.{Merges};
 ghost use Rattle.bufr_collect.specs.Readers.{AreFresh, AreReadAtMost};
 ghost use Rattle.bufr_collect.specs.Stacks.{together, AreUnderTables};
 
-use crate::parts::write_merged;
-use crate::text_stack::{merge_upper, settle};
+use crate::parts::{Part, hand_on};
+use crate::text_stack::settle;
 use bufr_answers::Failure;
 use bufr_archive::{ArchiveText, NotAnArchive};
 use bufr_bits::{Sink, Source};
-use bufr_io::{Input, Tally, ToolFault, read_all, room};
+use bufr_io::{Input, Tally, ToolFault, read_all, room, write_out};
 use bufr_tables::Tables;
 use std::alloc::Global;
 
@@ -90,12 +90,27 @@ pub fn run_merge<S: Source, W: Sink>(
     ensures merges { Merges tables.now reads (map S.reading readers.old)
         (map S.reading readers.new) (W.writing writer.old) (W.writing writer.new) result }
 {
-    let texts = merge_readers(alloc, reads, tables, readers)?;
-    let (lowest, upper) = merge_upper(alloc, tables, texts)?;
-    let left = lowest.merged_with(alloc, &upper)?;
+    let mut texts = merge_readers(alloc, reads, tables, readers)?;
+    // The lowest text of those that were taken, and what those above it hold together.
+    let mut lowest = ArchiveText::new(alloc, tables);
+    let mut upper = ArchiveText::new(alloc, tables);
+    while let Some(below) = texts.pop() {
+        lowest.merge(alloc, upper)?;
+        upper = lowest;
+        lowest = below;
+    }
+    let mut left = lowest.merged_with(alloc, &upper)?;
     let reports = left.len() as u128;
-    let room = room(alloc)?;
-    write_merged(left, room, writer)?;
+    let mut room = room(alloc)?;
+    room.clear();
+    let mut part = Part {
+        octets: room,
+        written: 0,
+    };
+    while let Some(octets) = left.next() {
+        hand_on(writer, &mut part, octets)?;
+    }
+    write_out(writer, part.written, &part.octets)?;
     Ok(Tally {
         frames: readers.len() as u128,
         refused: 0,

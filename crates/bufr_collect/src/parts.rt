@@ -3,22 +3,25 @@
 ghost use Rattle.std.specs.Prelude.{◌≡◌, ◌+◌, ◌≤◌, ◌<◌, ◌^◌, ◌++◌, false, vec_len, length};
 ghost use Rattle.std.specs.Vec.{vec_capacity};
 ghost use Rattle.bufr_io.specs.Engines.{WritesAfter};
-ghost use Rattle.bufr_collect.specs.Parts.{HandsOn, joined};
+ghost use Rattle.bufr_collect.specs.Parts.{HandsOn};
 
-use bufr_archive::{KeptOctets, MergedOctets};
 use bufr_bits::Sink;
-use bufr_io::{ToolFault, write_after, write_out};
+use bufr_io::{ToolFault, write_after};
 
 /// Octets that were gathered to be written, and how many were written before them.
 #[derive(Drop)]
 pub(crate) struct Part {
-    octets: Vec<u8>,
-    written: u128,
+    pub(crate) octets: Vec<u8>,
+    pub(crate) written: u128,
 }
 
 /// Gathers octets behind those of a part. Where it has no room for them the part is written first,
 /// and where it would have none for them alone they are written behind it. It takes no memory.
-fn hand_on<W: Sink>(writer: &mut W, part: &mut Part, octets: &[u8]) -> Result<(), ToolFault>
+pub(crate) fn hand_on<W: Sink>(
+    writer: &mut W,
+    part: &mut Part,
+    octets: &[u8],
+) -> Result<(), ToolFault>
     requires works { (W.writing writer.old).failed ≡ false }
     requires fits { part.old.written + length part.old.octets.items + 2 ^ 64 ≤ 2 ^ 128 }
     ensures short { length octets.now < 2 ^ 64 }
@@ -41,51 +44,4 @@ fn hand_on<W: Sink>(writer: &mut W, part: &mut Part, octets: &[u8]) -> Result<()
     write_after(writer, part.written, octets)?;
     part.written += long;
     Ok(())
-}
-
-/// Writes the octets of entries one after the other and hands them on, in parts that have as many
-/// octets as some room fits, or those of one entry that has more. It takes no memory.
-pub(crate) fn write_parts<W: Sink>(
-    kept: KeptOctets,
-    mut room: Vec<u8>,
-    writer: &mut W,
-) -> Result<(), ToolFault>
-    requires { (W.writing writer.old).failed ≡ false }
-    ensures { WritesAfter 0 (joined kept) (W.writing writer.old) (W.writing writer.new) result }
-{
-    // No more than can be counted.
-    let _count = kept.len();
-    room.clear();
-    let mut part = Part {
-        octets: room,
-        written: 0,
-    };
-    let mut left = kept.lent();
-    while let Some(octets) = left.next() {
-        hand_on(writer, &mut part, octets)?;
-    }
-    write_out(writer, part.written, &part.octets)
-}
-
-/// Writes the octets of entries of two texts merged one after the other and hands them on, in parts
-/// as `write_parts` does. It takes no memory.
-pub(crate) fn write_merged<W: Sink>(
-    mut left: MergedOctets<'_>,
-    mut room: Vec<u8>,
-    writer: &mut W,
-) -> Result<(), ToolFault>
-    requires { (W.writing writer.old).failed ≡ false }
-    ensures { WritesAfter 0 (joined left.entry) (W.writing writer.old) (W.writing writer.new) result }
-{
-    // No more than can be counted.
-    let _count = left.len();
-    room.clear();
-    let mut part = Part {
-        octets: room,
-        written: 0,
-    };
-    while let Some(octets) = left.next() {
-        hand_on(writer, &mut part, octets)?;
-    }
-    write_out(writer, part.written, &part.octets)
 }
