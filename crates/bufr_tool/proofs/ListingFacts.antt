@@ -1,7 +1,7 @@
--- The listing of a message, subset by subset and field by field: the contracts of `print_fields`,
--- `print_subset` and `print_listing` need it, and so that of `run_show`.
+-- The listing of a message, subset by subset and field by field: the contracts of `print_fields` and
+-- `print_listing` need it, and so that of `run_show`.
 use Rattle.std.proofs.Common.{◌≡◌, ℕ, ◌+◌, ◌-◌, ◌<◌, ◌≤◌, ◌⊎◌, false, inl, inr, List, [], ◌∷◌, ◌++◌}
-use Rattle.std.proofs.Common.{length, take, drop, Option, Some, None, Ok, Err, refl, sym, ap, ◌∙◌, subst}
+use Rattle.std.proofs.Common.{length, take, drop, Some, None, Result, Ok, Err, refl, sym, ap, ◌∙◌, subst}
 use Rattle.std.proofs.Common.{append_assoc, length-append, take-append-drop, get_or, arith, ◌^◌}
 use Rattle.std.specs.Prelude.{slice_get}
 use Rattle.std.specs.List.{flat_map}
@@ -23,7 +23,7 @@ use Rattle.bufr_tool.specs.declared.printer.Printer.{Printer}
 use Rattle.bufr_tool.specs.Lines.{AreWholeLines}
 use Rattle.bufr_tool.specs.Output.{fields_text}
 use Rattle.bufr_tool.specs.StreamEngines.{Adds, WritesAllBut}
-use Rattle.bufr_tool.proofs.LineFacts.{both_whole, joined_whole, line_whole}
+use Rattle.bufr_tool.proofs.LineFacts.{both_whole, fields_whole, joined_whole, line_whole}
 use Rattle.bufr_tool.proofs.PartFacts.{adds_halts, adds_longer, adds_then, but_all, counted_all}
 
 -- that of the lines before the first subset
@@ -75,22 +75,6 @@ one_more f xs i x before below at =
     (take_more xs i x below ∙ ap (λ y. take i xs ++ y ∷ [])
     (get_or_from_slice_get xs i x x at))
     ∙ sym (flat_map_more f before (take i xs) x)
-
--- there is a subset at each place below their number
-at_case : {A : Type 0} (xs : List A) (i : ℕ) → i < length xs
-    → ((x : A) × (i < length xs) × (slice_get xs i ≡ Some x) × (get_or xs i x ≡ x))
-    ⊎ ((length xs ≤ i) × (slice_get xs i ≡ None))
-    → (x : A) × (slice_get xs i ≡ Some x)
-at_case xs i below (inl there) = (there.0, there.2)
-at_case xs i below (inr past) = absurd (omega (arith, past.0))
-
--- the same of subsets by their numbers, from 1
-pub subset_at : (m : Message) (i : ℕ) → i < length m.subsets
-    → (s : Subset) × (slice_get m.subsets (i + 1 - 1) ≡ Some s)
-subset_at m i below =
-    let back : i + 1 - 1 ≡ i = omega arith in
-    let there = at_case m.subsets i below (slice_get_cases m.subsets i).1 in
-    (there.0, ap (slice_get m.subsets) back ∙ there.1)
 
 -- the lines of one subset more
 listed_more : (m : Message) (i : ℕ) (s : Subset) → slice_get m.subsets (i + 1 - 1) ≡ Some s
@@ -179,23 +163,30 @@ IsLined fields =
     ≡ line subset_line ++ [] ++ fields_text fields
 
 -- the lines of a subset are its first and those of its fields
-pub subset_text : (o : Option Subset) (fields : List Field) (s : Subset)
-    → o ≡ Some (record { fields = fields }) → o ≡ Some s → IsLined fields
-    → joined (subset_lines s) ≡ line subset_line ++ fields_text fields
-subset_text o fields s here there lined =
-    let same : s ≡ record { fields = fields } = cc in
-    ap (λ s. joined (subset_lines s)) same ∙ lined
-    ∙ ap (λ (t : List ℕ). t ++ fields_text fields) (append-nil (line subset_line))
+subset_text : (fields : List Field) → IsLined fields
+    → joined (subset_lines (record { fields = fields })) ≡ line subset_line ++ fields_text fields
+subset_text fields lined =
+    lined ∙ ap (λ (t : List ℕ). t ++ fields_text fields) (append-nil (line subset_line))
 
 -- so its first line and those of its fields are short where the listing is
 pub fields_few : (m : Message) → HasShortListing m → (i : ℕ) (fields : List Field)
     → slice_get m.subsets i ≡ Some (record { fields = fields }) → IsLined fields
     → length (line subset_line) + length (fields_text fields) < 2 ^ 40
 fields_few m listed i fields at lined =
-    let s : Subset = record { fields = fields } in
-    let short = lines_at m listed i s at in
-    let whole = ap length (subset_text (slice_get m.subsets i) fields s at at lined) in
+    let short = lines_at m listed i (record { fields = fields }) at in
+    let whole = ap length (subset_text fields lined) in
     omega (arith, short, whole, length-append (line subset_line) (fields_text fields))
+
+-- its first line was added, and then those of its fields were, or adding them stopped
+pub subset_added : (fields : List Field) (p q p' : Printer) (first mid last : Writing)
+    (r : Result (Unit {0}) ToolFault) → IsLined fields
+    → WritesAllBut q.held.items (p.held.items ++ line subset_line) p.written q.written first mid
+    → Adds (fields_text fields) q p' mid last r
+    → Adds (joined (subset_lines (record { fields = fields }))) p p' first last r
+subset_added fields p q p' first mid last r lined one more =
+    subst (λ (t : List ℕ). Adds t p p' first last r) (sym (subset_text fields lined))
+    (adds_then (line subset_line) (fields_text fields) p q p' first mid last r (fields_whole fields)
+    one more)
 
 -- the lines of the fields that were handed out were added: with those of the fields that are left
 -- they are the lines of all

@@ -1,12 +1,11 @@
 //! What is printed of a stream, frame by frame: lines are held, and written where they are many.
 
-ghost use Rattle.std.specs.Prelude.{◌≡◌, ◌≤◌, ◌<◌, ◌+◌, ◌-◌, ◌*◌, ◌^◌, ℕ, List, false, [], length};
-ghost use Rattle.std.specs.Prelude.{IfOk, OnOk, Result, Some, slice_get};
+ghost use Rattle.std.specs.Prelude.{◌≡◌, ◌≤◌, ◌<◌, ◌+◌, ◌*◌, ◌^◌, ℕ, List, false, [], length};
+ghost use Rattle.std.specs.Prelude.{IfOk, OnOk, Result};
 ghost use Rattle.bufr_bits.specs.Devices.{Writing};
 ghost use Rattle.bufr_message.specs.declared.Decoded.{Decoded};
 ghost use Rattle.bufr_message.specs.declared.Refused.{Refused as RefusedBy};
-ghost use Rattle.bufr_message.specs.declared.Subset.{Subset};
-ghost use Rattle.bufr_message.specs.Listings.{line, joined, field_line, subset_lines, listing};
+ghost use Rattle.bufr_message.specs.Listings.{listing};
 ghost use Rattle.bufr_message.specs.Messages.{message_of};
 ghost use Rattle.bufr_message.specs.ShortListings.{HasShortListing};
 ghost use Rattle.bufr_answers.specs.Answers.{Gives};
@@ -110,25 +109,6 @@ impl<'t> Printer<'t> {
         self.write_held(writer)
     }
 
-    /// Prints the line of a field.
-    fn print_field<W: Sink>(
-        &mut self,
-        alloc: Global,
-        field: &Field,
-        writer: &mut W,
-    ) -> Result<(), ToolFault>
-        requires works { (W.writing writer.old).failed ≡ false }
-        requires fits { self.old.written + 2 ^ 64 ≤ 2 ^ 128 }
-        requires lines { AreWholeLines self.old.held.items }
-        ensures prints { Adds (line (field_line field.now)) self.old self.new (W.writing writer.old)
-            (W.writing writer.new) result }
-        ensures keeps { Keeps self.old self.new }
-        ensures short { self.new.written < self.old.written + 2 ^ 64 }
-    {
-        push_field(alloc, &mut self.held, field)?;
-        self.write_long(writer)
-    }
-
     /// Prints the lines of the fields that are left, each as it is built.
     fn print_fields<W: Sink>(
         &mut self,
@@ -149,39 +129,14 @@ impl<'t> Printer<'t> {
         'fields: loop {
             let next = fields.next(alloc);
             match &next {
-                Ok(Some(field)) => self.print_field(alloc, field, writer)?,
+                Ok(Some(field)) => {
+                    push_field(alloc, &mut self.held, field)?;
+                    self.write_long(writer)?;
+                }
                 Ok(None) => return Ok(()),
                 Err(_) => return Err(ToolFault::OutOfMemory),
             }
         }
-    }
-
-    /// Prints the lines of the subset of this number, from 1.
-    fn print_subset<W: Sink>(
-        &mut self,
-        alloc: Global,
-        found: &View<'_>,
-        number: usize,
-        writer: &mut W,
-    ) -> Result<(), ToolFault>
-        requires works { (W.writing writer.old).failed ≡ false }
-        requires first { 1 ≤ number }
-        requires last { number ≤ length found.now.message.subsets }
-        requires listed { HasShortListing found.now.message }
-        requires fits { self.old.written + length self.old.held.items + 2 ^ 65 ≤ 2 ^ 128 }
-        requires lines { AreWholeLines self.old.held.items }
-        ensures prints { (subset : Subset)
-            → slice_get found.now.message.subsets (number - 1) ≡ Some subset
-            → Adds (joined (subset_lines subset)) self.old self.new (W.writing writer.old)
-            (W.writing writer.new) result }
-        ensures keeps { Keeps self.old self.new }
-        ensures short { self.new.written < self.old.written
-            + length self.old.held.items + 2 ^ 65 }
-    {
-        subsets_are_joined_lines();
-        let fields = found.fields(alloc, number)?;
-        push_subset_line(&mut self.held)?;
-        self.print_fields(alloc, fields, writer)
     }
 
     /// Prints the listing of a message, of which one field at a time is built. No more is held than
@@ -202,11 +157,14 @@ impl<'t> Printer<'t> {
         ensures short { self.new.written + 2 ^ 64 ≤ self.old.written + 2 ^ 80 }
     {
         listings_are_joined_parts();
+        subsets_are_joined_lines();
         let heading = listing::heading_of_view(alloc, found)?;
         self.held.extend_from_slice(&heading)?;
         self.write_long(writer)?;
         for index in 0..found.count() {
-            self.print_subset(alloc, found, index + 1, writer)?;
+            let fields = found.fields(alloc, index + 1)?;
+            push_subset_line(&mut self.held)?;
+            self.print_fields(alloc, fields, writer)?;
         }
         self.held.extend_from_slice(listing::end_text())?;
         Ok(())

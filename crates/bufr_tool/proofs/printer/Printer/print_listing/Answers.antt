@@ -1,15 +1,16 @@
 -- The clauses of `print_listing`: the heading, subset by subset, and the last line.
-use Rattle.std.proofs.Common.{◌≡◌, ℕ, List, ◌++◌, length, ◌∙◌, ap, sym, arith, Err}
-use Rattle.std.proofs.Common.{append_assoc, refl}
-use Rattle.bufr_listing.specs.Listings.{line, end_line, listing}
+use Rattle.std.proofs.Common.{◌≡◌, ℕ, List, [], ◌++◌, length, ◌∙◌, ap, sym, arith, Ok, Err}
+use Rattle.std.proofs.Common.{append_assoc, length-append, refl}
+use Rattle.bufr_listing.specs.Listings.{line, subset_line, end_line, listing}
 use Rattle.bufr_io.specs.declared.fault.ToolFault.TheVariants as faults
 use Rattle.bufr_tool.specs.declared.printer.Printer.{Printer}
 use Rattle.bufr_tool.specs.StreamEngines.{Adds}
 use Rattle.bufr_tool.proofs.LineFacts.{line_whole}
 use Rattle.bufr_tool.proofs.ListingFacts.{heading_added, listed, unlisted, listing_parted, listing_ended}
-use Rattle.bufr_tool.proofs.ListingFacts.{subset_at, subset_few, subset_more, subset_stopped}
-use Rattle.bufr_tool.proofs.PartFacts.{adds_halts, adds_longer, adds_none, adds_written, held_less, held_more}
-use Rattle.bufr_tool.proofs.PartFacts.{keeps_both}
+use Rattle.bufr_tool.proofs.ListingFacts.{fields_few, subset_added, subset_few, subset_more}
+use Rattle.bufr_tool.proofs.ListingFacts.{subset_stopped}
+use Rattle.bufr_tool.proofs.PartFacts.{adds_halts, adds_held, adds_longer, adds_none, adds_written}
+use Rattle.bufr_tool.proofs.PartFacts.{held_less, held_more, keeps_both}
 use Rattle.bufr_tool.proofs.PrintingFacts.{passed}
 use Rattle.bufr_tool.proofs.printer.Printer.print_listing.Goals as goal
 
@@ -78,22 +79,57 @@ pub loop-index-preserved : goal.loop-index-preserved
 loop-index-preserved g c =
     let m = c.args.found.now.message in
     let i = c.loop-index.index in
-    let s = subset_at m i (omega (arith, c.loop-index-test.true, c.count-index-end.ensures)) in
-    let e = c.in_ok-print_subset.ensures in
+    let p = c.loop-index.self in
+    let fields = c.in_ok-fields.fields in
+    let at = c.in_ok-fields.ensures in
+    let q : Printer = record {
+      printing = p.printing;
+      templates = p.templates;
+      counts = p.counts;
+      octets = p.octets;
+      written = p.written;
+      held = c.push_subset_line.new.text;
+    } in
+    let mid = g.W.Sink.writing c.loop-index.writer in
+    let done = c.loop-index.invariant.done in
+    let keeps = c.in_ok-print_fields.ensures.keeps in
+    let added = subset_added fields p q c.print_fields.new.self mid mid
+    (g.W.Sink.writing c.print_fields.new.writer) (Ok c.in_ok-print_fields.field-0)
+    (c.subsets_are_joined_lines.ensures [] fields)
+    (adds_held (line subset_line) q.held.items p mid c.in_ok-push_subset_line.ensures.ok
+    done.held_whole (line_whole subset_line) done.written.works)
+    c.in_ok-print_fields.ensures.prints in
     record {
-      done = subset_more m i s.0 c.args.self.now c.loop-index.self c.print_subset.new.self _ _ _
-          c.in_ok-print_subset.field-0 s.1
-          c.loop-index.invariant.done (e.prints s.0 s.1);
-      keeps = keeps_both _ _ _ c.loop-index.invariant.keeps e.keeps;
+      done = subset_more m i _ c.args.self.now p c.print_fields.new.self _ _ _
+          c.in_ok-print_fields.field-0 at done added;
+      keeps = keeps_both c.args.self.now p c.print_fields.new.self c.loop-index.invariant.keeps
+          (record {
+            printing = keeps.printing;
+            tables = keeps.tables;
+            frames = keeps.frames;
+            refused = keeps.refused;
+            octets = keeps.octets;
+          });
       short =
-          let few = subset_few m c.requires.listed _ s.0 c.loop-index.self c.print_subset.new.self
-          _ _ c.in_ok-print_subset.field-0 s.1 (e.prints s.0 s.1) in
+          let few = subset_few m c.requires.listed _ _ p c.print_fields.new.self
+          _ _ c.in_ok-print_fields.field-0 at added in
           omega (arith, few, c.loop-index.invariant.short);
     }
 
--- there is room for the octets of a subset in the count
-pub print_subset-requires-clause-fits : goal.print_subset-requires-clause-fits
-print_subset-requires-clause-fits g c =
+-- what is held, with the first line of a subset, has whole lines
+pub print_fields-requires-clause-lines : goal.print_fields-requires-clause-lines
+print_fields-requires-clause-lines g c =
+    let done = c.loop-index.invariant.done in
+    (adds_held (line subset_line) _ c.loop-index.self (g.W.Sink.writing c.loop-index.writer)
+    c.in_ok-push_subset_line.ensures.ok done.held_whole (line_whole subset_line)
+    done.written.works).held_whole
+
+-- there is room for the octets of the fields in the count
+pub print_fields-requires-clause-fits : goal.print_fields-requires-clause-fits
+print_fields-requires-clause-fits g c =
+    let few = fields_few c.args.found.now.message c.requires.listed _ c.in_ok-fields.fields
+    c.in_ok-fields.ensures (c.subsets_are_joined_lines.ensures [] c.in_ok-fields.fields) in
+    let held = ap length c.in_ok-push_subset_line.ensures.ok in
     omega (
       arith,
       c.requires.fits,
@@ -101,6 +137,9 @@ print_subset-requires-clause-fits g c =
       c.loop-index.invariant.short,
       c.loop-index-test.true,
       c.count-index-end.ensures,
+      few,
+      held,
+      length-append c.loop-index.self.held.items (line subset_line),
     )
 
 -- where memory runs out at the lines before the first subset, nothing was written
@@ -134,32 +173,115 @@ returns-in_err-extend_from_slice-clause-prints g c =
     (adds_none text p now writer c.requires.lines c.requires.works
     c.in_err-extend_from_slice.ensures.items refl)
 
--- where printing a subset stops, so does printing the listing
-pub returns-in_err-print_subset-clause-prints : goal.returns-in_err-print_subset-clause-prints
-returns-in_err-print_subset-clause-prints g c =
+-- where memory runs out before the first field of a subset, the lines before it are written or held
+pub returns-in_err-fields-clause-prints : goal.returns-in_err-fields-clause-prints
+returns-in_err-fields-clause-prints g c =
     let m = c.args.found.now.message in
     let i = c.loop-index.index in
-    let s = subset_at m i (omega (arith, c.loop-index-test.true, c.count-index-end.ensures)) in
+    let p = c.loop-index.self in
     passed
-    (Adds (listing m) c.args.self.now c.print_subset.new.self
-    (g.W.Sink.writing c.args.writer.now) (g.W.Sink.writing c.print_subset.new.writer))
-    c.from_residual-in_err-print_subset.result c.in_err-print_subset.field-0.0
-    c.from_residual-in_err-print_subset.ensures.1
-    (subset_stopped m i s.0 c.args.self.now c.loop-index.self c.print_subset.new.self _ _ _
-    c.in_err-print_subset.field-0.0 s.1
-    (c.listings_are_joined_parts.ensures m) c.loop-index.invariant.done
-    (c.in_err-print_subset.ensures.prints s.0 s.1))
+    (Adds (listing m) c.args.self.now p (g.W.Sink.writing c.args.writer.now)
+    (g.W.Sink.writing c.loop-index.writer))
+    c.from_residual-in_err-fields.result faults.OutOfMemory
+    c.from_residual-in_err-fields.ensures.1
+    (adds_halts (listing m) (listed m i) (unlisted m i) p.held.items c.args.self.now p _ _
+    (listing_parted m i (c.listings_are_joined_parts.ensures m)) c.loop-index.invariant.done refl)
 
 -- few octets were written then
-pub returns-in_err-print_subset-clause-short : goal.returns-in_err-print_subset-clause-short
-returns-in_err-print_subset-clause-short g c =
+pub returns-in_err-fields-clause-short : goal.returns-in_err-fields-clause-short
+returns-in_err-fields-clause-short g c =
     omega (
       arith,
       c.requires.listed.few,
       c.loop-index.invariant.short,
       c.loop-index-test.true,
       c.count-index-end.ensures,
-      c.in_err-print_subset.ensures.short,
+    )
+
+-- and where there is none for the first line of a subset
+pub returns-in_err-push_subset_line-clause-prints :
+    goal.returns-in_err-push_subset_line-clause-prints
+returns-in_err-push_subset_line-clause-prints g c =
+    let m = c.args.found.now.message in
+    let i = c.loop-index.index in
+    let p = c.loop-index.self in
+    let now : Printer = record {
+      printing = p.printing;
+      templates = p.templates;
+      counts = p.counts;
+      octets = p.octets;
+      written = p.written;
+      held = c.push_subset_line.new.text;
+    } in
+    passed
+    (Adds (listing m) c.args.self.now now (g.W.Sink.writing c.args.writer.now)
+    (g.W.Sink.writing c.loop-index.writer))
+    c.from_residual-in_err-push_subset_line.result faults.OutOfMemory
+    c.from_residual-in_err-push_subset_line.ensures.1
+    (adds_halts (listing m) (listed m i) (unlisted m i) p.held.items c.args.self.now now _ _
+    (listing_parted m i (c.listings_are_joined_parts.ensures m)) c.loop-index.invariant.done
+    c.in_err-push_subset_line.ensures.err)
+
+-- few octets were written then
+pub returns-in_err-push_subset_line-clause-short :
+    goal.returns-in_err-push_subset_line-clause-short
+returns-in_err-push_subset_line-clause-short g c =
+    omega (
+      arith,
+      c.requires.listed.few,
+      c.loop-index.invariant.short,
+      c.loop-index-test.true,
+      c.count-index-end.ensures,
+    )
+
+-- where printing the fields of a subset stops, so does printing the listing
+pub returns-in_err-print_fields-clause-prints : goal.returns-in_err-print_fields-clause-prints
+returns-in_err-print_fields-clause-prints g c =
+    let m = c.args.found.now.message in
+    let i = c.loop-index.index in
+    let p = c.loop-index.self in
+    let fields = c.in_ok-fields.fields in
+    let q : Printer = record {
+      printing = p.printing;
+      templates = p.templates;
+      counts = p.counts;
+      octets = p.octets;
+      written = p.written;
+      held = c.push_subset_line.new.text;
+    } in
+    let mid = g.W.Sink.writing c.loop-index.writer in
+    let done = c.loop-index.invariant.done in
+    let added = subset_added fields p q c.print_fields.new.self mid mid
+    (g.W.Sink.writing c.print_fields.new.writer) (Err c.in_err-print_fields.field-0.0)
+    (c.subsets_are_joined_lines.ensures [] fields)
+    (adds_held (line subset_line) q.held.items p mid c.in_ok-push_subset_line.ensures.ok
+    done.held_whole (line_whole subset_line) done.written.works)
+    c.in_err-print_fields.ensures.prints in
+    passed
+    (Adds (listing m) c.args.self.now c.print_fields.new.self
+    (g.W.Sink.writing c.args.writer.now) (g.W.Sink.writing c.print_fields.new.writer))
+    c.from_residual-in_err-print_fields.result c.in_err-print_fields.field-0.0
+    c.from_residual-in_err-print_fields.ensures.1
+    (subset_stopped m i _ c.args.self.now p c.print_fields.new.self _ _ _
+    c.in_err-print_fields.field-0.0 c.in_ok-fields.ensures
+    (c.listings_are_joined_parts.ensures m) done added)
+
+-- few octets were written then
+pub returns-in_err-print_fields-clause-short : goal.returns-in_err-print_fields-clause-short
+returns-in_err-print_fields-clause-short g c =
+    let few = fields_few c.args.found.now.message c.requires.listed _ c.in_ok-fields.fields
+    c.in_ok-fields.ensures (c.subsets_are_joined_lines.ensures [] c.in_ok-fields.fields) in
+    let held = ap length c.in_ok-push_subset_line.ensures.ok in
+    omega (
+      arith,
+      c.requires.listed.few,
+      c.loop-index.invariant.short,
+      c.loop-index-test.true,
+      c.count-index-end.ensures,
+      c.in_err-print_fields.ensures.short,
+      few,
+      held,
+      length-append c.loop-index.self.held.items (line subset_line),
     )
 
 -- where memory runs out as the last line is held, those before it are written or held
