@@ -8,6 +8,10 @@ use Rattle.std.specs.List.{sum_by, slice_index_or}
 use Rattle.std.proofs.lemmas.List.{append-nil, flat_map_more}
 use Rattle.std.proofs.lemmas.List.Sums.{sum_by_push, sum_by-le}
 use Rattle.std.proofs.lemmas.Grind.{flat_map-append}
+use Rattle.std.specs.Result.{is_err}
+use Rattle.std.specs.Int.{from_bool}
+use Rattle.bufr_answers.specs.declared.failure.Failure.{Failure}
+use Rattle.bufr_answers.specs.declared.failure.Failure.TheVariants.{Fault, OutOfMemory}
 use Rattle.bufr_bits.specs.Devices.{Writing}
 use Rattle.bufr_tables.specs.Entries.{Entries}
 use Rattle.bufr_frame.specs.declared.frames.Found.{Found}
@@ -23,7 +27,7 @@ use Rattle.bufr_io.specs.Engines.{FailsAfter}
 use Rattle.bufr_collect.specs.Collected.{frame_refused, refused_as}
 use Rattle.bufr_tool.specs.Output.{frame_text, frames_text}
 use Rattle.bufr_tool.specs.StreamEngines.{Fits, HasPrinted, Keeps, no_counts, PrintsFrame}
-use Rattle.bufr_tool.specs.StreamEngines.{StopsWithin, WritesAllBut, WritesHeld, WritesPart}
+use Rattle.bufr_tool.specs.StreamEngines.{StopsWithin, Tells, WritesAllBut, WritesHeld, WritesPart}
 use Rattle.bufr_tool.proofs.LineFacts.{frame_whole}
 use Rattle.bufr_tool.proofs.PartFacts.{adds_written, but_all, counted_all, held_less}
 use Rattle.bufr_tool.proofs.PartFacts.{held_more, held_none, some_all, within_more}
@@ -194,6 +198,13 @@ pub refused_at_most : (printing : Printing) (tables : Entries) (first now : Writ
 refused_at_most printing tables first now p frames h =
     let a = h.refused_are in let b = h.frames_are in
     omega (arith, refused_few (frame_refused tables) frames (refused_one tables))
+
+-- it is one where the frame was judged to spell no message
+pub refused_told : (judged : Result Decoded (Failure Refused)) (found : Result Decoded Refused)
+    → Tells judged found → from_bool (is_err judged) ≡ refused_as found
+refused_told (Ok d) found so = sym (ap refused_as so)
+refused_told (Err (Fault why)) found so = sym (ap refused_as so)
+refused_told (Err OutOfMemory) found so = absurd so
 
 -- an error that is passed up as it is
 pub passed : {A F : Type 0} (P : Result A F → Type 0) (r : Result A F) (e : F)

@@ -1,15 +1,12 @@
 //! What is printed of a stream, frame by frame: lines are held, and written where they are many.
 
 ghost use Rattle.std.specs.Prelude.{◌≡◌, ◌≤◌, ◌<◌, ◌+◌, ◌*◌, ◌^◌, ℕ, List, false, [], length};
-ghost use Rattle.std.specs.Prelude.{IfOk, OnOk, Result};
+ghost use Rattle.std.specs.Prelude.{IfOk, OnOk};
 ghost use Rattle.bufr_bits.specs.Devices.{Writing};
-ghost use Rattle.bufr_message.specs.declared.Decoded.{Decoded};
-ghost use Rattle.bufr_message.specs.declared.Refused.{Refused as RefusedBy};
 ghost use Rattle.bufr_message.specs.Listings.{listing};
 ghost use Rattle.bufr_message.specs.Messages.{message_of};
 ghost use Rattle.bufr_message.specs.ShortListings.{HasShortListing};
 ghost use Rattle.bufr_answers.specs.Answers.{Gives};
-ghost use Rattle.bufr_collect.specs.Collected.{refused_as};
 ghost use Rattle.bufr_tool.specs.Lines.{AreWholeLines};
 ghost use Rattle.bufr_collect.specs.Taking.{frame_at};
 ghost use Rattle.bufr_tool.specs.Output.{fields_text, frame_text};
@@ -233,7 +230,7 @@ impl<'t> Printer<'t> {
         let judged = &self.templates.view(alloc, octets);
         self.print_judged(alloc, place, octets, judged, writer)?;
         self.counts.frames += 1;
-        self.counts.refused += refused(judged);
+        self.counts.refused += u128::from(judged.is_err());
         self.octets += octets.len() as u64;
         self.write_long(writer)
     }
@@ -254,17 +251,5 @@ impl<'t> Printer<'t> {
             },
             _ => fault,
         }
-    }
-}
-
-/// How many messages are refused of a frame that was judged so: one or none.
-fn refused(judged: &Result<View<'_>, Failure<Refused>>) -> u128
-    ensures count { (found : Result Decoded RefusedBy) → Tells judged.now found
-        → result ≡ refused_as found }
-    ensures most { result ≤ 1 }
-{
-    match judged {
-        Ok(_) => 0,
-        Err(_) => 1,
     }
 }

@@ -1,7 +1,8 @@
 -- For `print_frame`: the frame as it was judged, counted, and then what is held is written where it
 -- is long.
 use Rattle.std.proofs.Common.{◌+◌, ◌++◌, List, ℕ, ap, subst, sym, arith, Result, Ok, Err}
-use Rattle.std.proofs.Common.{IfOk}
+use Rattle.std.proofs.Common.{IfOk, ◌∙◌}
+use Rattle.std.specs.Int.{from_bool}
 use Rattle.bufr_answers.specs.declared.failure.Failure.{Failure}
 use Rattle.bufr_answers.specs.Answers.{Gives}
 use Rattle.bufr_tables.specs.Entries.{Entries}
@@ -12,7 +13,7 @@ use Rattle.bufr_message.specs.ShortListings.{HasShortListing, ListingsAreShort}
 use Rattle.bufr_collect.specs.Taking.{frame_at}
 use Rattle.bufr_tool.specs.Output.{frame_text}
 use Rattle.bufr_tool.specs.StreamEngines.{Tells, WritesAllBut}
-use Rattle.bufr_tool.proofs.PrintingFacts.{frame_ends}
+use Rattle.bufr_tool.proofs.PrintingFacts.{frame_ends, refused_told}
 use Rattle.bufr_tool.proofs.printer.Printer.print_frame.Goals as goal
 
 -- the listing of a message that octets spell is short
@@ -49,7 +50,7 @@ returns-clause-prints g c =
     same e.prints in
     let told = subst
     (λ (t : Entries). Tells c.view.result (message_of t c.args.octets.now)) same e.told in
-    let refused = c.refused.ensures.count _ told in
+    let refused = c.from.ensures ∙ ap from_bool c.is_err.ensures.value ∙ refused_told _ _ told in
     let ends = c.write_long.ensures in
     frame_ends p.printing p.templates frame p _ c.write_long.new.self first mid _
     c.write_long.result ends.writes ends.keeps ends.short text (ap (λ n. n + 1) e.keeps.frames)
