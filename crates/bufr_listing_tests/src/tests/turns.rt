@@ -9,7 +9,7 @@ use std::alloc::Global;
 use std::process::Abort;
 
 /// Five lists, each with one subset.
-const FIVE_LISTS: [&str; 5] = [
+const FIVE_LISTS: &[&str] = &[
     "descriptors 012101\nsubset\n012101 273.15\nend\n",
     "descriptors 001001 012101\nsubset\n001001 10\n012101 250.00\nend\n",
     "descriptors 301001 012101\nsubset\n001001 11\n001002 384\n012101 missing\nend\n",
@@ -18,7 +18,7 @@ const FIVE_LISTS: [&str; 5] = [
 ];
 
 /// Lists that differ in their last descriptor, or of which one is the front of another.
-const LAST_DESCRIPTORS: [&str; 5] = [
+const LAST_DESCRIPTORS: &[&str] = &[
     "descriptors 001001 001002 012101\nsubset\n001001 1\n001002 2\n012101 3.00\nend\n",
     "descriptors 001001 001002 010004\nsubset\n001001 1\n001002 2\n010004 30\nend\n",
     "descriptors 001001 001002\nsubset\n001001 1\n001002 2\nend\n",
@@ -27,7 +27,7 @@ const LAST_DESCRIPTORS: [&str; 5] = [
 ];
 
 /// One list, with other subsets each time.
-const ONE_LIST: [&str; 4] = [
+const ONE_LIST: &[&str] = &[
     "descriptors 101000 031001 002001\nsubset\n031001 0\nend\n",
     "descriptors 101000 031001 002001\nsubset\n031001 1\n002001 2\nend\n",
     "descriptors 101000 031001 002001\nend\n",
@@ -58,42 +58,36 @@ fn assert_in_turn(rt: &impl Abort, alloc: Global, all: &[&str], times: usize) {
 }
 
 #[test]
-fn five_lists_in_turn(rt: HostRuntime) {
-    assert_in_turn(&rt, rt.alloc(), &FIVE_LISTS, 3);
+fn lists_in_turn(rt: HostRuntime) {
+    assert_in_turn(&rt, rt.alloc(), FIVE_LISTS, 3);
+    assert_in_turn(&rt, rt.alloc(), LAST_DESCRIPTORS, 3);
+    assert_in_turn(&rt, rt.alloc(), ONE_LIST, 50);
 }
 
-#[test]
-fn lists_that_differ_at_their_end(rt: HostRuntime) {
-    assert_in_turn(&rt, rt.alloc(), &LAST_DESCRIPTORS, 3);
-}
+/// Lines behind the messages of five lists, with their fault. The five have 8, 9, 10, 10 and 9
+/// lines, so the descriptors behind them are in line 51.
+const BEHIND_FIVE: &[(&str, &str)] = &[
+    (
+        "descriptors 012101 001250\n",
+        "L3 Refused 51 X1 UnknownElement 001250",
+    ),
+    (
+        "descriptors 012101\nsubset\n012101 1.00\n012101 1.00\nend\n",
+        "L1 BadLine 54",
+    ),
+    (
+        "descriptors 001001 012101\nsubset\n012101 1.00\nend\n",
+        "L1 BadLine 53",
+    ),
+];
 
-#[test]
-fn one_list_many_times(rt: HostRuntime) {
-    assert_in_turn(&rt, rt.alloc(), &ONE_LIST, 50);
-}
-
-/// The messages of five lists, and then these lines, are refused so.
-fn assert_refused_behind(rt: &impl Abort, alloc: Global, lines: &str, wanted: &str) {
-    let mut text = in_turn(rt, alloc, &FIVE_LISTS, 1);
-    push_message(rt, &mut text, lines);
-    assert_read(rt, alloc, text.as_str(), wanted);
-}
-
-/// The five messages have 8, 9, 10, 10 and 9 lines, so the descriptors behind them are in line 51.
 #[test]
 fn faults_behind_five_lists(rt: HostRuntime) {
-    let alloc = rt.alloc();
-    let unknown = "descriptors 012101 001250\n";
-    assert_refused_behind(
-        &rt,
-        alloc,
-        unknown,
-        "L3 Refused 51 X1 UnknownElement 001250",
-    );
-    let too_many = "descriptors 012101\nsubset\n012101 1.00\n012101 1.00\nend\n";
-    assert_refused_behind(&rt, alloc, too_many, "L1 BadLine 54");
-    let of_another = "descriptors 001001 012101\nsubset\n012101 1.00\nend\n";
-    assert_refused_behind(&rt, alloc, of_another, "L1 BadLine 53");
+    for (lines, wanted) in BEHIND_FIVE {
+        let mut text = in_turn(&rt, rt.alloc(), FIVE_LISTS, 1);
+        push_message(&rt, &mut text, lines);
+        assert_read(&rt, rt.alloc(), text.as_str(), wanted);
+    }
 }
 
 /// The descriptors of six digits each, parted by spaces.
@@ -121,7 +115,7 @@ fn nodes_of(
 }
 
 /// Lists with how many nodes their templates have, or with their faults.
-const NODES: [(&str, &str); 7] = [
+const NODES: &[(&str, &str)] = &[
     ("012101", "1"),
     ("301001 012101", "3"),
     ("001250", "X1 UnknownElement 001250"),
@@ -135,9 +129,9 @@ const NODES: [(&str, &str); 7] = [
 fn assert_nodes(rt: &impl Abort, alloc: Global, tables: &Tables) {
     let mut templates = KeptTemplates::new(alloc, tables);
     for _ in 0..3 {
-        for &(text, wanted) in &NODES {
+        for (text, wanted) in NODES {
             let found = nodes_of(rt, alloc, &mut templates, text);
-            same(rt, found.as_str(), wanted);
+            same(rt, found.as_str(), *wanted);
         }
     }
 }

@@ -13,16 +13,9 @@ fn assert_field(rt: &impl Abort, alloc: Global, descriptor: &str, value: &str, f
     assert_behind(rt, alloc, lines.as_str(), fault);
 }
 
-/// The same of each of these fields.
-fn assert_fields(rt: &impl Abort, alloc: Global, cases: &[(&str, &str, &str)]) {
-    for &(descriptor, value, fault) in cases {
-        assert_field(rt, alloc, descriptor, value, fault);
-    }
-}
-
 /// The least and the greatest number of fields of 2, 7, 12, 14, 15, 16 and 63 bits; the number of
 /// ones alone is missing.
-const ENDS: [(&str, &str, &str); 19] = [
+const ENDS: &[(&str, &str, &str)] = &[
     ("002001", "0", ""),
     ("002001", "2", ""),
     ("002001", "3", "L2 BadValue 7"),
@@ -46,7 +39,9 @@ const ENDS: [(&str, &str, &str); 19] = [
 
 #[test]
 fn ends_of_widths(rt: HostRuntime) {
-    assert_fields(&rt, rt.alloc(), &ENDS);
+    for (descriptor, value, fault) in ENDS {
+        assert_field(&rt, rt.alloc(), descriptor, value, fault);
+    }
 }
 
 /// The greatest count of 8 bits, and so many fields.
@@ -60,25 +55,36 @@ fn counted(rt: &impl Abort, alloc: Global) -> String {
     lines
 }
 
-/// A count of 8 bits is never missing: its greatest number counts, and the next is too large.
+/// A count of 8 bits is never missing: its greatest number counts. The next is too large, as
+/// `lines_of_listings` has it.
 #[test]
 fn counts_are_never_missing(rt: HostRuntime) {
-    let alloc = rt.alloc();
-    let lines = counted(&rt, alloc);
-    assert_behind(&rt, alloc, lines.as_str(), "");
-    let over = "descriptors 101000 031001 002001\nsubset\n031001 256\nend\n";
-    assert_behind(&rt, alloc, over, "L2 BadValue 7");
+    let lines = counted(&rt, rt.alloc());
+    assert_behind(&rt, rt.alloc(), lines.as_str(), "");
 }
 
-/// A subset of one field under an operator that changes its scale is read as itself, or refused
-/// so. The field's line has so many zeros between its front and its end.
-fn assert_scaled(
-    rt: &impl Abort,
-    alloc: Global,
-    descriptors: &str,
-    (front, zeros, end): (&str, usize, &str),
-    fault: &str,
-) {
+/// Descriptors of one field under an operator that changes its scale; the front of its line, how
+/// many zeros stand behind it, and its end; and the fault, if there is one.
+type Scaled<'a> = (&'a str, &'a str, usize, &'a str, &'a str);
+
+/// A scale of 127 in Table B, and 127 more by its operator: 254 digits behind the point. A scale of
+/// -127, and 127 less: 254 zeros at the end.
+const SCALED: &[Scaled<'static>] = &[
+    ("202255 010250", "010250 0.", 251, "251", ""),
+    ("202255 010250", "010250 -0.", 251, "003", ""),
+    ("202255 010250", "010250 0.", 254, "", ""),
+    ("202255 010250", "010250 0.", 251, "252", "L2 BadValue 7"),
+    ("202255 010250", "010250 0.", 254, "1", "L2 BadValue 7"),
+    ("202001 010251", "010251 251", 254, "", ""),
+    ("202001 010251", "010251 -3", 254, "", ""),
+    ("202001 010251", "010251 ", 1, "", ""),
+    ("202001 010251", "010251 1", 0, "", "L2 BadValue 7"),
+    ("202001 010251", "010251 1", 254, "1", "L2 BadValue 7"),
+];
+
+/// A subset of this field is read as itself, or refused so.
+fn assert_scaled(rt: &impl Abort, alloc: Global, row: &Scaled<'_>) {
+    let (descriptors, front, zeros, end, fault) = *row;
     let zeros = "0".repeat(alloc, zeros).expect(rt, "an answer");
     let lines = format!(in alloc;
         "descriptors {descriptors}\nsubset\n{front}{zeros}{end}\nend\n"
@@ -86,42 +92,11 @@ fn assert_scaled(
     assert_behind(rt, alloc, lines.as_str(), fault);
 }
 
-/// The same of each of these lines.
-fn assert_each_scaled(
-    rt: &impl Abort,
-    alloc: Global,
-    descriptors: &str,
-    cases: &[((&str, usize, &str), &str)],
-) {
-    for &(line, fault) in cases {
-        assert_scaled(rt, alloc, descriptors, line, fault);
+#[test]
+fn the_greatest_and_the_least_scale(rt: HostRuntime) {
+    for row in SCALED {
+        assert_scaled(&rt, rt.alloc(), row);
     }
-}
-
-/// A scale of 127 in Table B, and 127 more by its operator: 254 digits behind the point.
-#[test]
-fn the_greatest_scale(rt: HostRuntime) {
-    let cases = [
-        (("010250 0.", 251, "251"), ""),
-        (("010250 -0.", 251, "003"), ""),
-        (("010250 0.", 254, ""), ""),
-        (("010250 0.", 251, "252"), "L2 BadValue 7"),
-        (("010250 0.", 254, "1"), "L2 BadValue 7"),
-    ];
-    assert_each_scaled(&rt, rt.alloc(), "202255 010250", &cases);
-}
-
-/// A scale of -127 in Table B, and 127 less by its operator: 254 zeros at the end.
-#[test]
-fn the_least_scale(rt: HostRuntime) {
-    let cases = [
-        (("010251 251", 254, ""), ""),
-        (("010251 -3", 254, ""), ""),
-        (("010251 ", 1, ""), ""),
-        (("010251 1", 0, ""), "L2 BadValue 7"),
-        (("010251 1", 254, "1"), "L2 BadValue 7"),
-    ];
-    assert_each_scaled(&rt, rt.alloc(), "202001 010251", &cases);
 }
 
 /// A subset of two texts.

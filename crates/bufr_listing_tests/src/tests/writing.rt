@@ -119,39 +119,63 @@ fn each_part_has_its_place(rt: HostRuntime) {
     assert_listed(&rt, rt.alloc(), &message, wanted);
 }
 
+/// Section 2 of a message without octets for local use and without subsets, whether it is observed
+/// and compressed, and the lines behind those of its numbers.
+const BARE: &[(Option<&[u8]>, bool, bool, &str)] = &[
+    (
+        None,
+        false,
+        false,
+        "message\nsection1 300 301 2 3 4 5 6 7\ntime 2024 8 9 10 11 12\nflags\ndescriptors 301001 012101\nend\n",
+    ),
+    (
+        Some(&[]),
+        false,
+        true,
+        "message\nsection1 300 301 2 3 4 5 6 7\ntime 2024 8 9 10 11 12\nsection2\nflags compressed\ndescriptors 301001 012101\nend\n",
+    ),
+    (
+        None,
+        true,
+        false,
+        "message\nsection1 300 301 2 3 4 5 6 7\ntime 2024 8 9 10 11 12\nflags observed\ndescriptors 301001 012101\nend\n",
+    ),
+];
+
+/// Octets of section 2, if there are any.
+fn section2_of(rt: &impl Abort, alloc: Global, octets: Option<&[u8]>) -> Option<Items<u8>> {
+    match octets {
+        Some(octets) => Some(items(rt, alloc, octets)),
+        None => None,
+    }
+}
+
 /// The message without octets for local use and without subsets, with this section 2 and these
-/// flags, is listed so.
-fn assert_bare(
+/// flags.
+fn bare(
     rt: &impl Abort,
     alloc: Global,
     section2: Option<Items<u8>>,
-    (observed, compressed): (bool, bool),
-    wanted: &str,
-) {
-    let bare = Message {
+    observed: bool,
+    compressed: bool,
+) -> Message {
+    Message {
         head: head(rt, alloc, &[]),
         section2,
         observed,
         compressed,
         descriptors: descriptors(rt, alloc),
         subsets: Items::from_vec(Vec::new(alloc)),
-    };
-    assert_listed(rt, alloc, &bare, wanted);
+    }
 }
 
 #[test]
 fn what_may_be_absent(rt: HostRuntime) {
-    let alloc = rt.alloc();
-    let wanted =
-        "message\nsection1 300 301 2 3 4 5 6 7\ntime 2024 8 9 10 11 12\nflags\ndescriptors 301001 012101\nend\n";
-    assert_bare(&rt, alloc, None, (false, false), wanted);
-    let wanted =
-        "message\nsection1 300 301 2 3 4 5 6 7\ntime 2024 8 9 10 11 12\nsection2\nflags compressed\ndescriptors 301001 012101\nend\n";
-    let empty = Some(Items::from_vec(Vec::new(alloc)));
-    assert_bare(&rt, alloc, empty, (false, true), wanted);
-    let wanted =
-        "message\nsection1 300 301 2 3 4 5 6 7\ntime 2024 8 9 10 11 12\nflags observed\ndescriptors 301001 012101\nend\n";
-    assert_bare(&rt, alloc, None, (true, false), wanted);
+    for (octets, observed, compressed, wanted) in BARE {
+        let section2 = section2_of(&rt, rt.alloc(), *octets);
+        let message = bare(&rt, rt.alloc(), section2, *observed, *compressed);
+        assert_listed(&rt, rt.alloc(), &message, wanted);
+    }
 }
 
 /// A writer that has room for so many octets more, and takes at most 50 at a time.
@@ -195,42 +219,37 @@ pub(super) fn assert_taken(rt: &impl Abort, alloc: Global, message: &Message, wa
     same(rt, taken.as_slice(), wanted.as_bytes());
 }
 
-/// The listing is written to a writer with so much room: the front that the writer takes is this
-/// one, and the answer is this.
-fn assert_front(
-    rt: &impl Abort,
-    alloc: Global,
-    room: usize,
-    answer: Result<(), ListingWriteFault>,
-) {
-    let message = first_message(rt, alloc, SEQUENCES_LISTED);
-    let (found, taken) = written(alloc, &message, room);
-    same(rt, found, answer);
+/// The listing is written to a writer with so much room: the front that the writer takes is as long
+/// as its room, and the answer is this.
+fn assert_front(rt: &impl Abort, alloc: Global, message: &Message, room: usize, failed: bool) {
+    let (found, taken) = written(alloc, message, room);
+    let fault = ListingWriteFault::WriteFailed {
+        written: room as u128,
+    };
+    same(rt, found, if failed { Err(fault) } else { Ok(()) });
     let front = SEQUENCES_LISTED.len().min(room);
     same(rt, taken.as_slice(), &SEQUENCES_LISTED.as_bytes()[..front]);
 }
 
 #[test]
 fn written_to_narrow_writers(rt: HostRuntime) {
-    for room in [0u8, 1, 50, 99, 100, 207] {
-        let written = u128::from(room);
-        let fault = ListingWriteFault::WriteFailed { written };
-        assert_front(&rt, rt.alloc(), usize::from(room), Err(fault));
+    let message = first_message(&rt, rt.alloc(), SEQUENCES_LISTED);
+    for room in [0, 1, 50, 99, 100, 207] {
+        assert_front(&rt, rt.alloc(), &message, room, true);
     }
-    assert_front(&rt, rt.alloc(), 208, Ok(()));
-    assert_front(&rt, rt.alloc(), 1000, Ok(()));
-}
-
-/// A fault is printed so.
-fn assert_printed(rt: &impl Abort, alloc: Global, fault: ListingWriteFault, wanted: &str) {
-    let text = fault.to_string(alloc).expect(rt, "an answer");
-    same(rt, text.as_str(), wanted);
+    for room in [208, 1000] {
+        assert_front(&rt, rt.alloc(), &message, room, false);
+    }
 }
 
 #[test]
 fn faults_of_writing_are_printed(rt: HostRuntime) {
     let failed = ListingWriteFault::WriteFailed { written: 235 };
-    assert_printed(&rt, rt.alloc(), failed, "write failed after 235 octets");
-    let refused = ListingWriteFault::OutOfMemory;
-    assert_printed(&rt, rt.alloc(), refused, "out of memory");
+    for (fault, wanted) in [
+        (failed, "write failed after 235 octets"),
+        (ListingWriteFault::OutOfMemory, "out of memory"),
+    ] {
+        let text = fault.to_string(rt.alloc()).expect(&rt, "an answer");
+        same(&rt, text.as_str(), wanted);
+    }
 }
