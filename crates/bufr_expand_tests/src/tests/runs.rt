@@ -4,159 +4,137 @@ ghost use Rattle.std.specs.Prelude.{◌≡◌, false};
 ghost use Rattle.bufr_expand.specs.Walks.{waits};
 
 use super::same;
-use super::samples::{step, temperature, template_of};
-use bufr_expand::{Run, Step, Walk, WalkFault};
+use super::samples::{Field, answer, step, template_of};
+use bufr_expand::{Run, Walk};
+use bufr_tables::Kind;
 use std::alloc::Global;
 use std::process::Abort;
 
-/// More bits than any of the tests has.
-const MANY: u128 = 1_000_000;
+/// How far a walk goes before it passes turns: it has met so many items before its first step,
+/// takes so many steps, and each count has this number.
+type Before = (u64, u64, u64);
 
-/// What a walk passed at once, the items by then, and the next step.
-#[derive(Clone, Copy, Debug, PartialEq)]
-struct AtOnce {
-    run: Option<Run>,
-    items: u64,
-    next: Result<Step, WalkFault>,
+/// Descriptors, how far a walk over them goes, the most bits that it passes at once then, the
+/// fields, items and bits that it passes, the items by then, and the next field or the end.
+type Row<'a> = (
+    &'a [u32],
+    Before,
+    u128,
+    Option<(u64, u64, u128)>,
+    u64,
+    Option<Field>,
+);
+
+/// The fields, items and bits of turns.
+fn parts(run: Option<Run>) -> Option<(u64, u64, u128)> {
+    match run {
+        Some(run) => Some((run.fields, run.items, run.bits)),
+        None => None,
+    }
 }
 
-/// What a walk passes at once of so many bits, behind so many steps, each count having this number.
-fn passed(walk: &mut Walk<'_>, steps: u64, told: u64, most: u128) -> AtOnce
+/// The walk of a row passes turns so.
+fn assert_passes(rt: &impl Abort, walk: &mut Walk<'_>, row: &Row<'_>)
     requires { waits walk.old ≡ false }
 {
+    let (_, (_, steps, told), most, run, items, next) = *row;
     for _ in 0..steps {
         let _ = step(walk, told);
     }
-    let run = walk.pass_turns(most);
-    let items = walk.items();
-    let next = walk.next();
-    AtOnce { run, items, next }
+    same(rt, parts(walk.pass_turns(most)), run);
+    same(rt, walk.items(), items);
+    same(rt, walk.next(), Ok(answer(rt, next)));
 }
 
-/// The same of a walk over the template of descriptors that has met so many items.
-fn turns_at_once(
-    rt: &impl Abort,
-    alloc: Global,
-    digits: &[u32],
-    (used, steps, told): (u64, u64, u64),
-    most: u128,
-) -> AtOnce {
+/// A row is answered so.
+fn assert_row(rt: &impl Abort, alloc: Global, row: &Row<'_>) {
+    let (digits, (used, _, _), _, _, _, _) = *row;
     let template = template_of(rt, alloc, digits);
     let mut walk = Walk::start(alloc, &template, used).expect(rt, "room");
-    passed(&mut walk, steps, told, most)
+    assert_passes(rt, &mut walk, row);
 }
 
-/// So many fields, items and bits.
-fn run(fields: u64, items: u64, bits: u128) -> Option<Run> {
-    Some(Run {
-        fields,
-        items,
-        bits,
-    })
-}
-
-/// So many fields, items and bits are passed at once behind so many steps.
-fn assert_passes(
-    rt: &impl Abort,
-    alloc: Global,
-    digits: &[u32],
-    (steps, told): (u64, u64),
-    wanted: Option<Run>,
-) {
-    let found = turns_at_once(rt, alloc, digits, (0, steps, told), MANY);
-    same(rt, found.run, wanted);
-}
+/// More bits than any of the rows has.
+const MANY: u128 = 1_000_000;
 
 /// Turns of a temperature and a block number.
 const PAIRS: &[u32] = &[102000, 31001, 12101, 1001];
 
-#[test]
-fn all_turns_at_once(rt: HostRuntime) {
-    let all = AtOnce {
-        run: run(200, 300, 2300),
-        items: 301,
-        next: Ok(Step::End),
-    };
-    let found = turns_at_once(&rt, rt.alloc(), PAIRS, (0, 1, 100), 2300);
-    same(&rt, found, all);
-}
-
-#[test]
-fn turns_of_too_many_bits(rt: HostRuntime) {
-    let none = AtOnce {
-        run: None,
-        items: 1,
-        next: Ok(temperature(&rt, 16)),
-    };
-    let found = turns_at_once(&rt, rt.alloc(), PAIRS, (0, 1, 100), 2299);
-    same(&rt, found, none);
-}
-
-#[test]
-fn turns_that_are_left(rt: HostRuntime) {
-    let cases = [
-        (0, 100, None),
-        (1, 0, None),
-        (2, 100, None),
-        (3, 100, run(198, 297, 2277)),
-    ];
-    for (steps, told, wanted) in cases {
-        assert_passes(&rt, rt.alloc(), PAIRS, (steps, told), wanted);
-    }
-}
-
-#[test]
-fn turns_in_turns(rt: HostRuntime) {
-    let digits = [103000, 31001, 101003, 12101, 1001];
-    assert_passes(&rt, rt.alloc(), &digits, (1, 4), run(16, 36, 220));
-    assert_passes(&rt, rt.alloc(), &digits, (2, 4), run(2, 4, 32));
-}
-
-#[test]
-fn counts_in_turns(rt: HostRuntime) {
-    let digits = [104000, 31001, 1001, 101000, 31001, 12101];
-    assert_passes(&rt, rt.alloc(), &digits, (1, 4), None);
-    assert_passes(&rt, rt.alloc(), &digits, (3, 4), run(4, 8, 64));
-}
-
-/// Turns with an operator, and turns with a field that has no spec.
-#[test]
-fn operators_in_turns(rt: HostRuntime) {
-    for last in [201130, 12102] {
-        let digits = [102000, 31001, 12101, last];
-        assert_passes(&rt, rt.alloc(), &digits, (1, 2), None);
-    }
-}
-
-#[test]
-fn turns_under_operators(rt: HostRuntime) {
-    let digits = [201130, 102000, 31001, 12101, 1011];
-    assert_passes(&rt, rt.alloc(), &digits, (1, 5), run(10, 15, 450));
-    let untouched = [201130, 103000, 31001, 206016, 12101, 12101];
-    assert_passes(&rt, rt.alloc(), &untouched, (1, 2), run(4, 6, 68));
-}
-
 /// Turns of a temperature.
 const TEMPERATURES: &[u32] = &[101000, 31001, 12101];
 
-#[test]
-fn turns_up_to_the_limit(rt: HostRuntime) {
-    let all = AtOnce {
-        run: run(255, 510, 4080),
-        items: 16_777_216,
-        next: Ok(Step::End),
-    };
-    let last = turns_at_once(&rt, rt.alloc(), TEMPERATURES, (16_776_705, 1, 255), MANY);
-    same(&rt, last, all);
-}
+/// Turns in turns.
+const TURNS: &[u32] = &[103000, 31001, 101003, 12101, 1001];
+
+/// A count in turns.
+const COUNTS: &[u32] = &[104000, 31001, 1001, 101000, 31001, 12101];
+
+/// Turns with an operator, and turns with a field that has no spec.
+const WITH_AN_OPERATOR: &[u32] = &[102000, 31001, 12101, 201130];
+
+const WITHOUT_A_SPEC: &[u32] = &[102000, 31001, 12101, 12102];
+
+/// Turns under an operator, and turns with a field that it does not change.
+const UNDER_AN_OPERATOR: &[u32] = &[201130, 102000, 31001, 12101, 1011];
+
+const UNTOUCHED: &[u32] = &[201130, 103000, 31001, 206016, 12101, 12101];
+
+/// A count, a temperature, and a block number.
+const COUNT: Option<Field> = Some((31001, Kind::Count, 0, 8));
+
+const TEMPERATURE: Option<Field> = Some((12101, Kind::Quantity, 2, 16));
+
+const NUMBER: Option<Field> = Some((1001, Kind::Quantity, 0, 7));
+
+/// Turns that a walk passes at once, or not.
+const ROWS: &[Row<'static>] = &[
+    // all of them, and one bit too many
+    (PAIRS, (0, 1, 100), 2300, Some((200, 300, 2300)), 301, None),
+    (PAIRS, (0, 1, 100), 2299, None, 1, TEMPERATURE),
+    // those that are left
+    (PAIRS, (0, 0, 100), MANY, None, 0, COUNT),
+    (PAIRS, (0, 1, 0), MANY, None, 1, None),
+    (PAIRS, (0, 2, 100), MANY, None, 3, NUMBER),
+    (PAIRS, (0, 3, 100), MANY, Some((198, 297, 2277)), 301, None),
+    // turns in turns, and counts in turns
+    (TURNS, (0, 1, 4), MANY, Some((16, 36, 220)), 37, None),
+    (TURNS, (0, 2, 4), MANY, Some((2, 4, 32)), 9, NUMBER),
+    (COUNTS, (0, 1, 4), MANY, None, 1, NUMBER),
+    (COUNTS, (0, 3, 4), MANY, Some((4, 8, 64)), 12, NUMBER),
+    // operators in turns, and before them
+    (WITH_AN_OPERATOR, (0, 1, 2), MANY, None, 1, TEMPERATURE),
+    (WITHOUT_A_SPEC, (0, 1, 2), MANY, None, 1, TEMPERATURE),
+    (
+        UNDER_AN_OPERATOR,
+        (0, 1, 5),
+        MANY,
+        Some((10, 15, 450)),
+        17,
+        None,
+    ),
+    (UNTOUCHED, (0, 1, 2), MANY, Some((4, 6, 68)), 8, None),
+    // up to the greatest number of items, and beyond it
+    (
+        TEMPERATURES,
+        (16_776_705, 1, 255),
+        MANY,
+        Some((255, 510, 4080)),
+        16_777_216,
+        None,
+    ),
+    (
+        TEMPERATURES,
+        (16_776_706, 1, 255),
+        MANY,
+        None,
+        16_776_707,
+        TEMPERATURE,
+    ),
+];
 
 #[test]
-fn turns_beyond_the_limit(rt: HostRuntime) {
-    let none = AtOnce {
-        run: None,
-        items: 16_776_707,
-        next: Ok(temperature(&rt, 16)),
-    };
-    let beyond = turns_at_once(&rt, rt.alloc(), TEMPERATURES, (16_776_706, 1, 255), MANY);
-    same(&rt, beyond, none);
+fn turns_at_once(rt: HostRuntime) {
+    for row in ROWS {
+        assert_row(&rt, rt.alloc(), row);
+    }
 }

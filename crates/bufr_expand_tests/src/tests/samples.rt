@@ -93,19 +93,25 @@ pub(crate) fn spec(kind: Kind, scale: i32, reference: i64, width: u32) -> Spec {
     }
 }
 
-/// The step to a field that has no scale and no reference value, and so many bits.
-pub(crate) fn field(rt: &impl Abort, digits: u32, kind: Kind, width: u32) -> Step {
-    Step::Field(fxy(rt, digits), spec(kind, 0, 0, width))
+/// A field: its descriptor, its kind, its scale and its bits. Its reference value is 0.
+pub(crate) type Field = (u32, Kind, i32, u32);
+
+/// The step to a field, or else to the end.
+pub(crate) fn answer(rt: &impl Abort, field: Option<Field>) -> Step {
+    match field {
+        Some((digits, kind, scale, width)) => {
+            step_to(fxy(rt, digits), spec(kind, scale, 0, width))
+        }
+        None => Step::End,
+    }
 }
 
-/// The step to a temperature of so many bits.
-pub(crate) fn temperature(rt: &impl Abort, width: u32) -> Step {
-    Step::Field(fxy(rt, 12101), spec(Kind::Quantity, 2, 0, width))
-}
-
-/// The step to a factor of eight bits.
-pub(crate) fn count(rt: &impl Abort) -> Step {
-    Step::Count(fxy(rt, 31001), spec(Kind::Count, 0, 0, 8))
+/// The step to a field with this spec.
+fn step_to(fxy: Fxy, spec: Spec) -> Step {
+    match spec.kind {
+        Kind::Count => Step::Count(fxy, spec),
+        _ => Step::Field(fxy, spec),
+    }
 }
 
 /// A number that a count of this width can have.
@@ -152,12 +158,22 @@ pub(crate) fn step(walk: &mut Walk<'_>, told: u64) -> Result<Step, WalkFault>
     }
 }
 
-/// A walk takes these steps next, each count having this number.
-pub(crate) fn assert_steps(rt: &impl Abort, walk: &mut Walk<'_>, told: u64, wanted: &[Step])
+/// A walk takes the steps to these fields next, each count having this number.
+pub(crate) fn assert_steps(rt: &impl Abort, walk: &mut Walk<'_>, told: u64, wanted: &[Field])
     requires { waits walk.old ≡ false }
     ensures { waits walk.new ≡ false }
 {
     for next in wanted {
-        same(rt, step(walk, told), Ok(*next));
+        same(rt, step(walk, told), Ok(answer(rt, Some(*next))));
+    }
+}
+
+/// A walk has met so many items and is at its end, where it stays.
+pub(crate) fn assert_end(rt: &impl Abort, walk: &mut Walk<'_>, items: u64)
+    requires { waits walk.old ≡ false }
+{
+    same(rt, walk.items(), items);
+    for _ in 0..2 {
+        same(rt, step(walk, 0), Ok(Step::End));
     }
 }

@@ -4,5 +4,5 @@ use Rattle.bufr_expand.specs.Walks.{waits}
 use Rattle.bufr_expand_tests.proofs.tests.walks.finish.Given as goal
 
 -- the walk waits for no number
-abbrev pub invariant-loop : goal.invariant-loop
-invariant-loop l = waits l.walk ≡ false
+abbrev pub invariant-loop-fields : goal.invariant-loop-fields
+invariant-loop-fields g l = waits l.walk ≡ false

@@ -1,8 +1,0 @@
--- For `passed`: the walk can go on after each step.
-use Rattle.std.proofs.Common.{◌≡◌, false}
-use Rattle.bufr_expand.specs.Walks.{waits}
-use Rattle.bufr_expand_tests.proofs.tests.runs.passed.Given as goal
-
--- no step leaves the walk waiting
-abbrev pub invariant-loop : goal.invariant-loop
-invariant-loop l = waits l.walk ≡ false
