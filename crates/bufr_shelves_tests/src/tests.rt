@@ -1,4 +1,4 @@
-use bufr_answers::{Items, OutOfMemory};
+use bufr_answers::Items;
 use bufr_keys::{Key, Moment, Station};
 use bufr_shelves::*;
 use std::alloc::Global;
@@ -10,9 +10,26 @@ mod gathered;
 mod large;
 mod orders;
 
+/// Stops the test where the two differ. It is a function, since a comparison written out in a test
+/// makes the proof of that test more than twice as long.
+fn same<T: PartialEq + Debug + Drop>(rt: &impl Abort, found: T, wanted: T) {
+    assert_eq!(rt; found, wanted);
+}
+
 /// Octets of their own.
-fn octets(alloc: Global, bytes: &[u8]) -> Result<Items<u8>, OutOfMemory> {
-    Ok(Items::from_vec(Vec::from_slice(alloc, bytes)?))
+fn octets(rt: &impl Abort, alloc: Global, bytes: &[u8]) -> Items<u8> {
+    Items::from_vec(Vec::from_slice(alloc, bytes).expect(rt, "room"))
+}
+
+// The last five decimal digits of a number.
+fn digits(number: u32) -> [u8; 5] {
+    [
+        b'0' + (number / 10000 % 10) as u8,
+        b'0' + (number / 1000 % 10) as u8,
+        b'0' + (number / 100 % 10) as u8,
+        b'0' + (number / 10 % 10) as u8,
+        b'0' + (number % 10) as u8,
+    ]
 }
 
 /// The key of a report of centre 98 at a station and an hour.
@@ -40,26 +57,6 @@ fn wmo(number: i128) -> Station {
     Station::Wmo { block: 10, number }
 }
 
-/// What a report is put with: its station, unless it has no key, its update number, its octets, and
-/// whether it changes the shelf.
-type Put<'a> = (Option<i128>, u8, &'a [u8], bool);
-
-/// Stops the test where the two differ. It is a function, since a comparison written out in a test
-/// makes the proof of that test more than twice as long.
-fn same<T: PartialEq + Debug + Drop>(rt: &impl Abort, found: T, wanted: T) {
-    assert_eq!(rt; found, wanted);
-}
-
-/// These are the octets of what is held.
-fn assert_octets(rt: &impl Abort, held: Held, expected: &[u8]) {
-    assert!(rt; held.bytes.as_slice() == expected);
-}
-
-/// These are the octets of what is held at a number.
-fn assert_octets_at(rt: &impl Abort, held: Held, expected: &[u8], number: u32) {
-    assert!(rt; held.bytes.as_slice() == expected, "{number}");
-}
-
 /// The key of a report at noon of this station, if one is given.
 fn noon(number: Option<i128>) -> Option<Key> {
     match number {
@@ -68,291 +65,307 @@ fn noon(number: Option<i128>) -> Option<Key> {
     }
 }
 
-/// Puts a report of a station, or one without key.
-fn put<S: Shelf>(
-    alloc: Global,
-    shelf: &mut S,
-    number: Option<i128>,
-    update: u8,
-    bytes: &[u8],
-) -> Result<bool, OutOfMemory> {
-    shelf.put(noon(number), update, octets(alloc, bytes)?)
+/// What a report is put with: its station, unless it has no key, its update number, its octets, and
+/// whether it changes the shelf.
+type Put<'a> = (Option<i128>, u8, &'a [u8], bool);
+
+/// What is held: whether it has a key, its update number and its octets.
+type Kept<'a> = (bool, u8, &'a [u8]);
+
+/// This is held.
+fn assert_held(rt: &impl Abort, held: Held, wanted: Kept) {
+    let (has_key, update, bytes) = wanted;
+    same(rt, held.bytes.as_slice(), bytes);
+    same(rt, held.update, update);
+    same(rt, held.key.is_some(), has_key);
 }
 
 /// Puts a report, which changes the shelf or not.
 fn put_one<S: Shelf>(rt: &impl Abort, alloc: Global, shelf: &mut S, row: Put) {
     let (number, update, bytes, changes) = row;
-    let changed = put(alloc, shelf, number, update, bytes).expect(rt, "room");
-    same(rt, changed, changes);
+    let answer = shelf.put(noon(number), update, octets(rt, alloc, bytes));
+    same(rt, answer.expect(rt, "room"), changes);
 }
 
-/// Puts reports one after another, each of which changes the shelf or not.
-fn puts<S: Shelf>(rt: &impl Abort, alloc: Global, shelf: &mut S, rows: &[Put]) {
-    for row in rows {
-        put_one(rt, alloc, shelf, *row);
-    }
-}
-
-/// A new shelf with these reports put on it.
+/// A new shelf with these reports put on it, each of which changes it or not.
 fn shelf_of<S: Shelf>(rt: &impl Abort, alloc: Global, rows: &[Put]) -> S {
     let mut shelf = S::new(alloc);
-    puts(rt, alloc, &mut shelf, rows);
+    for row in rows {
+        put_one(rt, alloc, &mut shelf, *row);
+    }
     shelf
 }
 
-/// The shelf has exactly these octets, in this order.
-fn assert_holds<S: Shelf>(rt: &impl Abort, shelf: &S, expected: &[&[u8]]) {
+/// The shelf has exactly these entries, in this order.
+fn assert_holds<S: Shelf>(rt: &impl Abort, shelf: &S, expected: &[Kept]) {
     same(rt, shelf.len(), expected.len());
-    let mut held = shelf.first();
-    for bytes in expected {
-        match held {
-            Some(here) => {
-                assert_octets(rt, here, *bytes);
-                held = shelf.after(here);
-            }
-            None => assert!(rt; false, "an entry is missing"),
-        }
+    let mut next = shelf.first();
+    for row in expected {
+        let held = next.expect(rt, "an entry");
+        assert_held(rt, held, *row);
+        next = shelf.after(held);
     }
-    assert!(rt; held.is_none());
+    assert!(rt; next.is_none());
 }
 
-/// A new shelf holds these octets once these reports are put on it.
-fn assert_kept<S: Shelf>(rt: &impl Abort, alloc: Global, rows: &[Put], expected: &[&[u8]]) {
-    let shelf: S = shelf_of(rt, alloc, rows);
-    assert_holds(rt, &shelf, expected);
-}
+/// Reports that are put on a shelf, and what it holds then.
+const KEPT: &[(&[Put<'static>], &[Kept<'static>])] = &[
+    (&[], &[]),
+    // the greater update number wins, whatever its octets and whichever comes first
+    (
+        &[
+            (Some(384), 0, b"original", true),
+            (Some(384), 1, b"changed", true),
+            (Some(384), 0, b"original", false),
+        ],
+        &[(true, 1, b"changed")],
+    ),
+    (
+        &[
+            (Some(384), 1, b"changed", true),
+            (Some(384), 0, b"original", false),
+            (Some(384), 1, b"changed", false),
+        ],
+        &[(true, 1, b"changed")],
+    ),
+    // equal update numbers are settled by octets, a proper prefix first
+    (
+        &[
+            (Some(384), 0, b"ab", true),
+            (Some(384), 0, b"abc", true),
+            (Some(384), 0, b"abd", true),
+            (Some(384), 0, b"abc", false),
+        ],
+        &[(true, 0, b"abd")],
+    ),
+    (
+        &[
+            (Some(384), 0, b"abd", true),
+            (Some(384), 0, b"ab", false),
+            (Some(384), 0, b"", false),
+        ],
+        &[(true, 0, b"abd")],
+    ),
+    // without key: kept once each, by octets, after what has one
+    (
+        &[
+            (None, 0, b"zz", true),
+            (None, 0, b"a", true),
+            (None, 0, b"zz", false),
+            (None, 0, b"a", false),
+            (None, 0, b"zz", false),
+            (None, 0, b"a", false),
+        ],
+        &[(false, 0, b"a"), (false, 0, b"zz")],
+    ),
+    (
+        &[
+            (None, 0, b"zz", true),
+            (None, 0, b"a", true),
+            (Some(384), 0, b"m", true),
+            (None, 1, b"a", true),
+            (None, 0, b"a", false),
+        ],
+        &[(true, 0, b"m"), (false, 1, b"a"), (false, 0, b"zz")],
+    ),
+];
 
-/// The greater update number wins, whatever its octets and whichever comes first.
-fn greater_update_wins<S: Shelf>(rt: &impl Abort, alloc: Global) {
-    assert_kept::<S>(rt, alloc, &[], &[]);
-    let rows: [Put; 3] = [
-        (Some(384), 0, b"original", true),
-        (Some(384), 1, b"changed", true),
-        (Some(384), 0, b"original", false),
-    ];
-    assert_kept::<S>(rt, alloc, &rows, &[b"changed"]);
-    let rows: [Put; 3] = [
-        (Some(384), 1, b"changed", true),
-        (Some(384), 0, b"original", false),
-        (Some(384), 1, b"changed", false),
-    ];
-    assert_kept::<S>(rt, alloc, &rows, &[b"changed"]);
-}
-
-#[test]
-fn update_number(rt: HostRuntime) {
-    greater_update_wins::<MapShelf>(&rt, rt.alloc());
-    greater_update_wins::<SortedShelf>(&rt, rt.alloc());
-}
-
-/// Equal update numbers are settled by octets, a proper prefix first.
-fn octets_settle<S: Shelf>(rt: &impl Abort, alloc: Global) {
-    let rows: [Put; 4] = [
-        (Some(384), 0, b"ab", true),
-        (Some(384), 0, b"abc", true),
-        (Some(384), 0, b"abd", true),
-        (Some(384), 0, b"abc", false),
-    ];
-    assert_kept::<S>(rt, alloc, &rows, &[b"abd"]);
-    let rows: [Put; 3] = [
-        (Some(384), 0, b"abd", true),
-        (Some(384), 0, b"ab", false),
-        (Some(384), 0, b"", false),
-    ];
-    assert_kept::<S>(rt, alloc, &rows, &[b"abd"]);
-}
-
-#[test]
-fn byte_order(rt: HostRuntime) {
-    octets_settle::<MapShelf>(&rt, rt.alloc());
-    octets_settle::<SortedShelf>(&rt, rt.alloc());
-}
-
-/// The second entry has no key, and this update number.
-fn assert_second_without_key<S: Shelf>(rt: &impl Abort, shelf: &S, update: u8) {
-    let first = shelf.first().expect(rt, "two");
-    let second = shelf.after(first).expect(rt, "two");
-    assert!(rt; second.key.is_none());
-    same(rt, second.update, update);
-}
-
-/// What has no key is kept once each, by octets, after what has one.
-fn kept_once<S: Shelf>(rt: &impl Abort, alloc: Global) {
-    let mut shelf = S::new(alloc);
-    for turn in 0..3u8 {
-        put_one(rt, alloc, &mut shelf, (None, 0, b"zz", turn == 0));
-        put_one(rt, alloc, &mut shelf, (None, 0, b"a", turn == 0));
+/// New shelves hold what they are to hold.
+fn put_on<S: Shelf>(rt: &impl Abort, alloc: Global) {
+    for (rows, expected) in KEPT {
+        let shelf: S = shelf_of(rt, alloc, rows);
+        assert_holds(rt, &shelf, expected);
     }
-    assert_holds(rt, &shelf, &[b"a", b"zz"]);
-    let rows: [Put; 3] = [
-        (Some(384), 0, b"m", true),
-        (None, 1, b"a", true),
-        (None, 0, b"a", false),
-    ];
-    puts(rt, alloc, &mut shelf, &rows);
-    assert_holds(rt, &shelf, &[b"m", b"a", b"zz"]);
-    assert_second_without_key(rt, &shelf, 1);
 }
 
 #[test]
-fn without_key(rt: HostRuntime) {
-    kept_once::<MapShelf>(&rt, rt.alloc());
-    kept_once::<SortedShelf>(&rt, rt.alloc());
+fn reports_put(rt: HostRuntime) {
+    put_on::<MapShelf>(&rt, rt.alloc());
+    put_on::<SortedShelf>(&rt, rt.alloc());
 }
 
-/// One shelf with an original, one with its update, one with a report without key.
-fn three<S: Shelf>(rt: &impl Abort, alloc: Global) -> (S, S, S) {
-    let original = shelf_of(rt, alloc, &[(Some(384), 0, b"original", true)]);
-    let update = shelf_of(rt, alloc, &[(Some(384), 1, b"changed", true)]);
-    let unkeyed = shelf_of(rt, alloc, &[(None, 0, b"month 13", true)]);
-    (original, update, unkeyed)
-}
+/// An original, its update, and a report without key.
+const ORIGINAL: &[Put<'static>] = &[(Some(384), 0, b"original", true)];
 
-/// Joins another shelf in, and then it holds these octets.
-fn join_one<S: Shelf>(rt: &impl Abort, shelf: &mut S, other: &S, expected: &[&[u8]]) {
+const UPDATE: &[Put<'static>] = &[(Some(384), 1, b"changed", true)];
+
+const UNKEYED: &[Put<'static>] = &[(None, 0, b"month 13", true)];
+
+/// What shelves with some of them hold.
+const FIRST: &[Kept<'static>] = &[(true, 0, b"original")];
+
+const CHANGED: &[Kept<'static>] = &[(true, 1, b"changed")];
+
+const EARLY: &[Kept<'static>] = &[(true, 0, b"original"), (false, 0, b"month 13")];
+
+const BOTH: &[Kept<'static>] = &[(true, 1, b"changed"), (false, 0, b"month 13")];
+
+/// Reports of a shelf that is joined in, and what is held then.
+type Join<'a> = (&'a [Put<'a>], &'a [Kept<'a>]);
+
+/// Reports of a shelf, and what is joined in, one after another.
+const JOINS: &[(&[Put<'static>], &[Join<'static>])] = &[
+    // in each order
+    (ORIGINAL, &[(UPDATE, CHANGED), (UNKEYED, BOTH)]),
+    (ORIGINAL, &[(UNKEYED, EARLY), (UPDATE, BOTH)]),
+    (UPDATE, &[(ORIGINAL, CHANGED), (UNKEYED, BOTH)]),
+    (UNKEYED, &[(UPDATE, BOTH), (ORIGINAL, BOTH)]),
+    // an empty shelf changes nothing, and takes in all
+    (
+        ORIGINAL,
+        &[(&[], FIRST), (UPDATE, CHANGED), (UNKEYED, BOTH)],
+    ),
+    (
+        &[],
+        &[
+            (
+                &[
+                    (Some(384), 1, b"changed", true),
+                    (None, 0, b"month 13", true),
+                ],
+                BOTH,
+            ),
+            (&[], BOTH),
+        ],
+    ),
+    // entries of both, before, between and behind each other
+    (
+        &[
+            (Some(2), 0, b"two", true),
+            (None, 0, b"a", true),
+            (Some(1), 0, b"one", true),
+            (Some(1), 0, b"other", true),
+        ],
+        &[(
+            &[
+                (Some(2), 0, b"two more", true),
+                (Some(3), 0, b"three", true),
+                (None, 0, b"b", true),
+            ],
+            &[
+                (true, 0, b"other"),
+                (true, 0, b"two more"),
+                (true, 0, b"three"),
+                (false, 0, b"a"),
+                (false, 0, b"b"),
+            ],
+        )],
+    ),
+];
+
+/// Joins another shelf in, and then it holds these entries.
+fn join_one<S: Shelf>(rt: &impl Abort, shelf: &mut S, other: &S, expected: &[Kept]) {
     shelf.join(other).expect(rt, "room");
     assert_holds(rt, shelf, expected);
 }
 
-/// A copy of a shelf holds these octets once one and then another shelf are joined in.
-fn join_two<S: Shelf>(
-    rt: &impl Abort,
-    shelf: &S,
-    others: (&S, &S),
-    between: &[&[u8]],
-    expected: &[&[u8]],
-) {
-    let (first, second) = others;
+/// Joins a shelf of these reports in, and in a copy, and then that copy, which changes neither.
+fn join_next<S: Shelf>(rt: &impl Abort, alloc: Global, shelf: &mut S, join: &Join) {
+    let (rows, expected) = *join;
+    let other: S = shelf_of(rt, alloc, rows);
     let mut copied = shelf.copy().expect(rt, "room");
-    join_one(rt, &mut copied, first, between);
-    join_one(rt, &mut copied, second, expected);
-}
-
-/// An original, its update and a report without key give the same in each order.
-fn join_in_each_order<S: Shelf>(rt: &impl Abort, alloc: Global) {
-    let (original, update, unkeyed) = three::<S>(rt, alloc);
-    let changed: [&[u8]; 1] = [b"changed"];
-    let both: [&[u8]; 2] = [b"changed", b"month 13"];
-    let early: [&[u8]; 2] = [b"original", b"month 13"];
-    join_two(rt, &original, (&update, &unkeyed), &changed, &both);
-    join_two(rt, &original, (&unkeyed, &update), &early, &both);
-    join_two(rt, &update, (&original, &unkeyed), &changed, &both);
-    join_two(rt, &unkeyed, (&update, &original), &both, &both);
-}
-
-#[test]
-fn merges(rt: HostRuntime) {
-    join_in_each_order::<MapShelf>(&rt, rt.alloc());
-    join_in_each_order::<SortedShelf>(&rt, rt.alloc());
-}
-
-/// A shelf joined with its copy holds what it held, and so does the copy.
-fn join_with_copy<S: Shelf>(rt: &impl Abort, shelf: &mut S, expected: &[&[u8]]) {
-    let copied = shelf.copy().expect(rt, "room");
+    join_one(rt, &mut copied, &other, expected);
+    join_one(rt, shelf, &other, expected);
     join_one(rt, shelf, &copied, expected);
     assert_holds(rt, &copied, expected);
 }
 
-/// Itself and an empty shelf change nothing, and an empty shelf takes in all.
-fn join_with_itself<S: Shelf>(rt: &impl Abort, alloc: Global) {
-    let (mut shelf, update, unkeyed) = three::<S>(rt, alloc);
-    let empty = S::new(alloc);
-    join_one(rt, &mut shelf, &empty, &[b"original"]);
-    join_with_copy(rt, &mut shelf, &[b"original"]);
-    shelf.join(&update).expect(rt, "room");
-    let both: [&[u8]; 2] = [b"changed", b"month 13"];
-    join_one(rt, &mut shelf, &unkeyed, &both);
-    let mut first = S::new(alloc);
-    join_one(rt, &mut first, &shelf, &both);
-    join_one(rt, &mut first, &empty, &both);
+/// Joins shelves in, one after another.
+fn join_all<S: Shelf>(rt: &impl Abort, alloc: Global, rows: &[Put], joins: &[Join]) {
+    let mut shelf: S = shelf_of(rt, alloc, rows);
+    for join in joins {
+        join_next(rt, alloc, &mut shelf, join);
+    }
+}
+
+/// Shelves are joined in each order, with themselves and with empty ones.
+fn join_on<S: Shelf>(rt: &impl Abort, alloc: Global) {
+    for (rows, joins) in JOINS {
+        join_all::<S>(rt, alloc, rows, joins);
+    }
 }
 
 #[test]
-fn self_merge(rt: HostRuntime) {
-    join_with_itself::<MapShelf>(&rt, rt.alloc());
-    join_with_itself::<SortedShelf>(&rt, rt.alloc());
+fn merges(rt: HostRuntime) {
+    join_on::<MapShelf>(&rt, rt.alloc());
+    join_on::<SortedShelf>(&rt, rt.alloc());
 }
 
-/// Puts this text at a station and an hour.
-fn put_text<S: Shelf>(
-    rt: &impl Abort,
-    alloc: Global,
-    shelf: &mut S,
-    station: Station,
-    hour: u8,
-    text: &[u8],
-) {
-    put_text_at(rt, alloc, shelf, key(station, hour), text);
+/// What a station is known by.
+enum Known<'a> {
+    /// A WMO block and station number.
+    Wmo(i128, i128),
+    /// The name of a WIGOS identifier.
+    Wigos(&'a [u8]),
+    /// A mobile station's name.
+    Mobile(&'a [u8]),
 }
 
-/// Puts this text at a key.
-fn put_text_at<S: Shelf>(rt: &impl Abort, alloc: Global, shelf: &mut S, key: Key, text: &[u8]) {
-    let held = octets(alloc, text).expect(rt, "room");
-    shelf.put(Some(key), 0, held).expect(rt, "room");
+/// The station.
+fn station_of(rt: &impl Abort, alloc: Global, known: &Known) -> Station {
+    match known {
+        Known::Wmo(block, number) => Station::wmo(*block, *number),
+        Known::Wigos(name) => Station::wigos(0, 20000, 0, octets(rt, alloc, name)),
+        Known::Mobile(name) => Station::mobile(octets(rt, alloc, name)),
+    }
 }
 
-/// A WIGOS identifier of this name.
-fn identified(rt: &impl Abort, alloc: Global, name: &[u8]) -> Station {
-    Station::wigos(0, 20000, 0, octets(alloc, name).expect(rt, "room"))
+/// A report's centre, station, hour and text.
+type At<'a> = (u16, Known<'a>, u8, &'a [u8]);
+
+/// The key of a report.
+fn key_at(rt: &impl Abort, alloc: Global, at: &At) -> Key {
+    let (centre, known, hour, _) = at;
+    let mut key = key(station_of(rt, alloc, known), *hour);
+    key.centre = *centre;
+    key
 }
 
-/// A mobile station of this name.
-fn mobile(rt: &impl Abort, alloc: Global, name: &[u8]) -> Station {
-    Station::mobile(octets(alloc, name).expect(rt, "room"))
-}
+/// Reports of each kind of station, one of them of another centre, in no order.
+const STATIONS: &[At<'static>] = &[
+    (98, Known::Mobile(b"SHIP1"), 0, b"6 ship"),
+    (98, Known::Wigos(b"103840"), 0, b"5 longer"),
+    (98, Known::Wigos(b"10384"), 23, b"4 identified"),
+    (98, Known::Wmo(10, 384), 18, b"3 evening"),
+    (98, Known::Wmo(10, -1), 19, b"1 negative"),
+    (98, Known::Wmo(10, 384), 6, b"2 morning"),
+    (7, Known::Wmo(10, 999), 23, b"0 other centre"),
+];
 
-/// Puts texts at stations that have names.
-fn put_named<S: Shelf>(rt: &impl Abort, alloc: Global, shelf: &mut S) {
-    let ship = mobile(rt, alloc, b"SHIP1");
-    put_text(rt, alloc, shelf, ship, 0, b"6 ship");
-    let longer = identified(rt, alloc, b"103840");
-    put_text(rt, alloc, shelf, longer, 0, b"5 longer");
-    let shorter = identified(rt, alloc, b"10384");
-    put_text(rt, alloc, shelf, shorter, 23, b"4 identified");
-}
-
-/// Puts texts at stations that have numbers, the last of another centre.
-fn put_numbered<S: Shelf>(rt: &impl Abort, alloc: Global, shelf: &mut S) {
-    put_text(rt, alloc, shelf, wmo(384), 18, b"3 evening");
-    put_text(rt, alloc, shelf, wmo(-1), 19, b"1 negative");
-    put_text(rt, alloc, shelf, wmo(384), 6, b"2 morning");
-    let mut centre = key(wmo(999), 23);
-    centre.centre = 7;
-    put_text_at(rt, alloc, shelf, centre, b"0 other centre");
-}
+/// They go part by part: centre, categories, station (numbers, identifiers, names), moment.
+const IN_ORDER: &[Kept<'static>] = &[
+    (true, 0, b"0 other centre"),
+    (true, 0, b"1 negative"),
+    (true, 0, b"2 morning"),
+    (true, 0, b"3 evening"),
+    (true, 0, b"4 identified"),
+    (true, 0, b"5 longer"),
+    (true, 0, b"6 ship"),
+];
 
 /// The evening's text is found at its key, and none at another station's.
 fn assert_gets<S: Shelf>(rt: &impl Abort, shelf: &S) {
     let found = shelf.get(&key(wmo(384), 18)).expect(rt, "there");
-    assert_octets(rt, found, b"3 evening");
+    assert_held(rt, found, (true, 0, b"3 evening"));
     assert!(rt; shelf.get(&key(wmo(385), 18)).is_none());
 }
 
-/// Keys go part by part: centre, categories, station (numbers, identifiers, names), moment.
-fn keys_go_part_by_part<S: Shelf>(rt: &impl Abort, alloc: Global) {
+/// Reports of each kind of station are in order of keys.
+fn stations_on<S: Shelf>(rt: &impl Abort, alloc: Global) {
     let mut shelf = S::new(alloc);
-    put_named(rt, alloc, &mut shelf);
-    put_numbered(rt, alloc, &mut shelf);
-    assert_holds(
-        rt,
-        &shelf,
-        &[
-            b"0 other centre",
-            b"1 negative",
-            b"2 morning",
-            b"3 evening",
-            b"4 identified",
-            b"5 longer",
-            b"6 ship",
-        ],
-    );
+    for at in STATIONS {
+        let key = key_at(rt, alloc, at);
+        let held = octets(rt, alloc, at.3);
+        shelf.put(Some(key), 0, held).expect(rt, "room");
+    }
+    assert_holds(rt, &shelf, IN_ORDER);
     assert_gets(rt, &shelf);
 }
 
 #[test]
 fn order_of_keys(rt: HostRuntime) {
-    keys_go_part_by_part::<MapShelf>(&rt, rt.alloc());
-    keys_go_part_by_part::<SortedShelf>(&rt, rt.alloc());
+    stations_on::<MapShelf>(&rt, rt.alloc());
+    stations_on::<SortedShelf>(&rt, rt.alloc());
 }
 
 /// What comes after an absent entry of this key is the text "four", and after one without key "b",
@@ -362,11 +375,11 @@ fn assert_after<S: Shelf>(rt: &impl Abort, shelf: &S, absent: &Key, bytes: &Item
     let key = Some(absent);
     let held = Held { key, update, bytes };
     let next = shelf.after(held).expect(rt, "four");
-    assert_octets(rt, next, b"four");
+    assert_held(rt, next, (true, 0, b"four"));
     let key = None;
     let held = Held { key, update, bytes };
     let next = shelf.after(held).expect(rt, "b");
-    assert_octets(rt, next, b"b");
+    assert_held(rt, next, (false, 0, b"b"));
     assert!(rt; shelf.after(next).is_none());
 }
 
@@ -378,8 +391,7 @@ fn after_an_absent_entry<S: Shelf>(rt: &impl Abort, alloc: Global) {
         (None, 0, b"b", true),
     ];
     let shelf: S = shelf_of(rt, alloc, &rows);
-    let bytes = octets(alloc, b"a").expect(rt, "room");
-    assert_after(rt, &shelf, &key(wmo(3), 12), &bytes);
+    assert_after(rt, &shelf, &key(wmo(3), 12), &octets(rt, alloc, b"a"));
 }
 
 #[test]
@@ -388,167 +400,88 @@ fn after_absent(rt: HostRuntime) {
     after_an_absent_entry::<SortedShelf>(&rt, rt.alloc());
 }
 
+/// The station and the octets of an entry.
+type Row<'a> = (Option<i128>, &'a [u8]);
+
 /// The entry of a station, or one without key.
-fn entry(rt: &impl Abort, alloc: Global, number: Option<i128>, bytes: &[u8]) -> Entry {
+fn entry(rt: &impl Abort, alloc: Global, row: Row) -> Entry {
+    let (number, bytes) = row;
     Entry {
         key: noon(number),
         update: 0,
-        bytes: octets(alloc, bytes).expect(rt, "room"),
+        bytes: octets(rt, alloc, bytes),
     }
 }
 
-/// The shelf of these entries holds these octets.
-fn assert_shelved<S: Shelf>(
-    rt: &impl Abort,
-    alloc: Global,
-    rows: &[(Option<i128>, &[u8])],
-    expected: &[&[u8]],
-) {
+/// The shelf of these entries.
+fn shelved<S: Shelf>(rt: &impl Abort, alloc: Global, rows: &[Row]) -> S {
     let mut entries = Vec::new(alloc);
-    for (number, bytes) in rows {
-        let next = entry(rt, alloc, *number, *bytes);
-        entries.push(next).expect(rt, "room");
+    for row in rows {
+        entries.push(entry(rt, alloc, *row)).expect(rt, "room");
     }
-    let shelf: S = shelve(alloc, entries).expect(rt, "room");
-    assert_holds(rt, &shelf, expected);
+    shelve(alloc, entries).expect(rt, "room")
 }
 
-/// Entries are shelved in any order, with repeats, and where there are none.
-fn shelve_in_any_order<S: Shelf>(rt: &impl Abort, alloc: Global) {
-    let all: [&[u8]; 3] = [b"one", b"five", b"none"];
-    let some: [(Option<i128>, &[u8]); 3] = [(Some(5), b"five"), (None, b"none"), (Some(1), b"one")];
-    assert_shelved::<S>(rt, alloc, &some, &all);
-    let repeated: [(Option<i128>, &[u8]); 5] = [
-        (Some(1), b"one"),
-        (Some(5), b"five"),
-        (Some(1), b"one"),
-        (None, b"none"),
-        (None, b"none"),
-    ];
-    assert_shelved::<S>(rt, alloc, &repeated, &all);
-    assert_shelved::<S>(rt, alloc, &[], &[]);
+/// Three entries in order.
+const THREE: &[Kept<'static>] = &[(true, 0, b"one"), (true, 0, b"five"), (false, 0, b"none")];
+
+/// Entries in any order, with repeats, and none, and the shelf of them.
+const LISTS: &[(&[Row<'static>], &[Kept<'static>])] = &[
+    (
+        &[(Some(5), b"five"), (None, b"none"), (Some(1), b"one")],
+        THREE,
+    ),
+    (
+        &[
+            (Some(1), b"one"),
+            (Some(5), b"five"),
+            (Some(1), b"one"),
+            (None, b"none"),
+            (None, b"none"),
+        ],
+        THREE,
+    ),
+    (&[], &[]),
+];
+
+/// Lists are shelved.
+fn shelve_on<S: Shelf>(rt: &impl Abort, alloc: Global) {
+    for (rows, expected) in LISTS {
+        let shelf: S = shelved(rt, alloc, rows);
+        assert_holds(rt, &shelf, expected);
+    }
 }
 
 #[test]
 fn shelve_lists(rt: HostRuntime) {
-    shelve_in_any_order::<MapShelf>(&rt, rt.alloc());
-    shelve_in_any_order::<SortedShelf>(&rt, rt.alloc());
+    shelve_on::<MapShelf>(&rt, rt.alloc());
+    shelve_on::<SortedShelf>(&rt, rt.alloc());
+}
+
+/// Octets, others, and the order of the two.
+const ORDERS: &[(&[u8], &[u8], Ordering)] = &[
+    (&[7, 200], &[7, 200], Ordering::Equal),
+    (&[7, 200], &[7, 200, 0], Ordering::Less),
+    (&[7, 200, 0], &[7, 201], Ordering::Less),
+    (&[7, 201], &[7, 200], Ordering::Greater),
+];
+
+#[test]
+fn octets_in_order(rt: HostRuntime) {
+    for (one, other, order) in ORDERS {
+        let one = octets(&rt, rt.alloc(), one);
+        let other = octets(&rt, rt.alloc(), other);
+        same(&rt, one.partial_cmp(&other), Some(*order));
+    }
 }
 
 #[test]
 fn octets_and_faults(rt: HostRuntime) {
-    let bytes = octets(rt.alloc(), b"abc").expect(&rt, "room");
+    let bytes = octets(&rt, rt.alloc(), b"abc");
     let copied = bytes.clone().expect(&rt, "room");
     assert!(rt; copied == bytes);
     let bytes = bytes.into_vec();
-    assert!(rt; bytes.as_slice() == b"abc".as_slice());
+    same(&rt, bytes.as_slice(), b"abc".as_slice());
     let said = format!(in rt.alloc(); "{}", JoinFault::OutOfMemory).expect(&rt, "room");
     same(&rt, said.as_str(), "out of memory");
-}
-
-#[test]
-fn octets_in_order(rt: HostRuntime) {
-    let front = octets(rt.alloc(), &[7, 200]).expect(&rt, "room");
-    let whole = octets(rt.alloc(), &[7, 200, 0]).expect(&rt, "room");
-    let next = octets(rt.alloc(), &[7, 201]).expect(&rt, "room");
-    assert!(rt; front.partial_cmp(&front) == Some(Ordering::Equal));
-    assert!(rt; front.partial_cmp(&whole) == Some(Ordering::Less));
-    assert!(rt; whole.partial_cmp(&next) == Some(Ordering::Less));
-    assert!(rt; next.partial_cmp(&front) == Some(Ordering::Greater));
-}
-
-/// Puts a report that changes the shelf. It is put again where it was refused, and then nothing had
-/// changed: for runs in which one allocation after another fails.
-fn put_or_repeat<S: Shelf>(
-    rt: &impl Abort,
-    alloc: Global,
-    shelf: &mut S,
-    number: Option<i128>,
-    bytes: &[u8],
-    before: &[&[u8]],
-) {
-    for _ in 0..2u8 {
-        match put(alloc, shelf, number, 0, bytes) {
-            Ok(changed) => {
-                assert!(rt; changed);
-                return;
-            }
-            Err(_) => assert_holds(rt, shelf, before),
-        }
-    }
-    assert!(rt; false, "refused twice");
-}
-
-/// Joins another shelf in, again where that was refused and had changed neither.
-fn join_or_repeat<S: Shelf>(
-    rt: &impl Abort,
-    shelf: &mut S,
-    other: &S,
-    before: &[&[u8]],
-    theirs: &[&[u8]],
-) {
-    for _ in 0..2u8 {
-        match shelf.join(other) {
-            Ok(()) => return,
-            Err(JoinFault::OutOfMemory) => {
-                assert_holds(rt, shelf, before);
-                assert_holds(rt, other, theirs);
-            }
-        }
-    }
-    assert!(rt; false, "refused twice");
-}
-
-/// Copies a shelf, again where that was refused and had changed nothing.
-fn copy_or_repeat<S: Shelf>(rt: &impl Abort, shelf: &S, before: &[&[u8]]) {
-    for _ in 0..2u8 {
-        match shelf.copy() {
-            Ok(copied) => {
-                assert_holds(rt, &copied, before);
-                return;
-            }
-            Err(_) => assert_holds(rt, shelf, before),
-        }
-    }
-    assert!(rt; false, "refused twice");
-}
-
-/// Fills a shelf, each report put again where it was refused.
-fn fill_or_repeat<S: Shelf>(rt: &impl Abort, alloc: Global, shelf: &mut S) {
-    put_or_repeat(rt, alloc, shelf, Some(2), b"two", &[]);
-    put_or_repeat(rt, alloc, shelf, None, b"a", &[b"two"]);
-    put_or_repeat(rt, alloc, shelf, Some(1), b"one", &[b"two", b"a"]);
-    let before: [&[u8]; 3] = [b"one", b"two", b"a"];
-    put_or_repeat(rt, alloc, shelf, Some(1), b"other", &before);
-}
-
-/// Fills another shelf so.
-fn fill_other_or_repeat<S: Shelf>(rt: &impl Abort, alloc: Global, other: &mut S) {
-    put_or_repeat(rt, alloc, other, Some(2), b"two more", &[]);
-    put_or_repeat(rt, alloc, other, Some(3), b"three", &[b"two more"]);
-    put_or_repeat(rt, alloc, other, None, b"b", &[b"two more", b"three"]);
-}
-
-/// Each call is repeated where it was refused, and then nothing had changed.
-fn refuse_in_turn<S: Shelf>(rt: &impl Abort, alloc: Global) {
-    let before: [&[u8]; 3] = [b"other", b"two", b"a"];
-    let theirs: [&[u8]; 3] = [b"two more", b"three", b"b"];
-    let mut shelf = S::new(alloc);
-    fill_or_repeat(rt, alloc, &mut shelf);
-    copy_or_repeat(rt, &shelf, &before);
-    let mut other = S::new(alloc);
-    fill_other_or_repeat(rt, alloc, &mut other);
-    join_or_repeat(rt, &mut shelf, &other, &before, &theirs);
-    assert_holds(rt, &shelf, &[b"other", b"two more", b"three", b"a", b"b"]);
-    assert_holds(rt, &other, &theirs);
-}
-
-#[test]
-fn refused_growths_of_a_map_shelf(rt: HostRuntime) {
-    refuse_in_turn::<MapShelf>(&rt, rt.alloc());
-}
-
-#[test]
-fn refused_growths_of_a_sorted_shelf(rt: HostRuntime) {
-    refuse_in_turn::<SortedShelf>(&rt, rt.alloc());
 }

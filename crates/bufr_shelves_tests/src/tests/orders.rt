@@ -2,7 +2,6 @@
 ghost use Rattle.std.specs.Prelude.{◌<◌};
 
 use super::*;
-use std::cmp::Ordering;
 
 // Part `place` of a key that first passes another, of nothing but fives, at part `index`: five
 // before it, six there and one behind it.
@@ -54,7 +53,7 @@ fn wigos_key(rt: &impl Abort, alloc: Global, index: u8) -> Key {
         series: part(4, index) as i128,
         issuer: part(5, index) as i128,
         number: part(6, index) as i128,
-        name: octets(alloc, &[part(7, index)]).expect(rt, "room"),
+        name: octets(rt, alloc, &[part(7, index)]),
     };
     key_with(station, moment_of(8, index), part(14, index), index)
 }
@@ -62,7 +61,7 @@ fn wigos_key(rt: &impl Abort, alloc: Global, index: u8) -> Key {
 // The same of a mobile name.
 fn mobile_key(rt: &impl Abort, alloc: Global, index: u8) -> Key {
     let station = Station::Mobile {
-        name: octets(alloc, &[part(4, index)]).expect(rt, "room"),
+        name: octets(rt, alloc, &[part(4, index)]),
     };
     key_with(station, moment_of(5, index), part(11, index), index)
 }
@@ -101,8 +100,8 @@ fn parts_of_stations(rt: HostRuntime) {
     let expected = Station::Wmo { block, number };
     assert_station(&rt, &Station::wmo(10, 384), &expected);
     let (series, issuer, number) = (1, 2, 3);
-    let name = octets(rt.alloc(), b"4").expect(&rt, "room");
-    let same_name = octets(rt.alloc(), b"4").expect(&rt, "room");
+    let name = octets(&rt, rt.alloc(), b"4");
+    let same_name = octets(&rt, rt.alloc(), b"4");
     let expected = Station::Wigos {
         series,
         issuer,
@@ -110,8 +109,8 @@ fn parts_of_stations(rt: HostRuntime) {
         name,
     };
     assert_station(&rt, &Station::wigos(1, 2, 3, same_name), &expected);
-    let name = octets(rt.alloc(), b"SHIP1").expect(&rt, "room");
-    let ship = mobile(&rt, rt.alloc(), b"SHIP1");
+    let name = octets(&rt, rt.alloc(), b"SHIP1");
+    let ship = Station::mobile(octets(&rt, rt.alloc(), b"SHIP1"));
     assert_station(&rt, &ship, &Station::Mobile { name });
 }
 
@@ -134,8 +133,8 @@ fn assert_slots(rt: &impl Abort, held: Held, other: Held, place: usize, other_pl
 #[test]
 fn order_of_slots(rt: HostRuntime) {
     let (early, late) = (wmo_key(13), wmo_key(12));
-    let a = octets(rt.alloc(), b"a").expect(&rt, "room");
-    let b = octets(rt.alloc(), b"b").expect(&rt, "room");
+    let a = octets(&rt, rt.alloc(), b"a");
+    let b = octets(&rt, rt.alloc(), b"b");
     let slots = [
         (Some(&early), 9, &b),
         (Some(&late), 0, &a),
