@@ -4,7 +4,7 @@ use Rattle.std.specs.List.{flat_map}
 use Rattle.std.proofs.lemmas.List.{take_all}
 use Rattle.bufr_listing.specs.Listings.{line, field_line}
 use Rattle.bufr_listing.proofs.ListingFacts.{subset_behind}
-use Rattle.bufr_listing.proofs.FrontFacts.{cut_back}
+use Rattle.bufr_listing.proofs.FrontFacts.{one_more, unless_failed, cut_back}
 use Rattle.bufr_listing.proofs.fields.push_subset.Goals as goal
 
 -- the first line and those of all fields are the lines of the subset
@@ -21,3 +21,11 @@ pub returns-then-is_err-clause-err : goal.returns-then-is_err-clause-err
 returns-then-is_err-clause-err c =
     cut_back _ _ _ _ _ _ _ _ _ (c.len-held.ensures ∙ c.args.text.now.ok.0) c.in_ok-push_subset_line.ensures.ok
     c.loop-field.invariant c.push_field-added.ensures.err c.truncate.ensures.items
+
+-- the line of one more is behind them
+pub loop-field-preserved : goal.loop-field-preserved
+loop-field-preserved c =
+    one_more (λ f. line (field_line f)) c.as_slice-field-items.result.now
+    c.loop-field.field-index _ c.field-item.result c.push_subset_line.new.text.items
+    c.loop-field.text.items _ c.loop-field-test.true c.field-item.is c.loop-field.invariant
+    (unless_failed c.push_field-added.result c.if-is_err.ensures.value c.push_field-added.ensures.ok)

@@ -4,6 +4,7 @@ use Rattle.std.proofs.Common.{◌++◌, ◌∙◌, ap, sym}
 use Rattle.std.specs.List.{flat_map}
 use Rattle.std.proofs.lemmas.List.{take_all}
 use Rattle.bufr_listing.specs.Listings.{joined, heading_lines, subset_lines}
+use Rattle.bufr_listing.proofs.FrontFacts.{one_more}
 use Rattle.bufr_listing.proofs.ListingFacts.{listing_in_parts}
 use Rattle.bufr_listing.proofs.text.text_of.Goals as goal
 
@@ -19,3 +20,11 @@ returns c =
     ∙ (λ i. heading i ++ flat_map (λ s. joined (subset_lines s)) (all i)) in
     c.in_ok-extend_from_slice.ensures.items ∙ (λ i. before i ++ c.end_text.ensures i)
     ∙ sym (listing_in_parts m)
+
+-- the lines of one more are behind them
+pub loop-subset-preserved : goal.loop-subset-preserved
+loop-subset-preserved c =
+    one_more (λ s. joined (subset_lines s)) c.as_slice-subset-items.result.now
+    c.loop-subset.subset-index _ c.subset-item.result c.in_ok-text.text.items
+    c.loop-subset.text.items _ c.loop-subset-test.true c.subset-item.is c.loop-subset.invariant
+    c.in_ok-push_subset.ensures.ok
