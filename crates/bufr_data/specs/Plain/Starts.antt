@@ -1,6 +1,6 @@
 -- Plain data that are indexed: where each subset begins, and its fields there (FM 94 BUFR,
 -- regulations 94.1.3 and 94.5).
-use Rattle.std.specs.Prelude.{◌≡◌, ℕ, ◌+◌, ◌*◌, ◌≤◌, Bool, true, false, List, [], ◌∷◌, drop, length}
+use Rattle.std.specs.Prelude.{◌≡◌, ℕ, ◌+◌, ◌*◌, ◌≤◌, Bool, List, [], drop, length}
 use Rattle.std.specs.Prelude.{Option, Some, None, Result, Ok, Err, IsOk}
 use Rattle.std.specs.List.{AllByRecursion}
 use Rattle.bufr_bits.specs.Bits.{bits}
@@ -21,14 +21,6 @@ use Rattle.bufr_data.specs.Plain.Reads.{raw_or_ends, behind_fields}
 abbrev pub PassesRaw : ℕ → Spec → List Bool → List Bool → Type 0
 PassesRaw i spec front rest =
     (raw : Raw) × (raw_or_ends 1 i (raw_at spec front) ≡ Ok (raw, rest))
-
--- field i of the subset was passed; or there is none, and the message has met so many items
-abbrev pub PassesField : ℕ → Course → List Bool → Bool → Course → ℕ → List Bool → Type 0
-PassesField i course front true after items rest =
-    (field : Field)
-    × (fields_at 1 i course front ≡ behind_fields (field ∷ []) (fields_at 1 (i + 1) after rest))
-PassesField i course front false after items rest =
-    fields_at 1 i course front ≡ Ok (record { fields = []; items = items; rest = rest })
 
 -- so many fields were passed, the first of which may be any of the subset
 abbrev pub PassesFields : ℕ → Course → List Bool → Course → List Bool → Type 0
