@@ -75,6 +75,11 @@ fn fields(rt: &impl Abort, alloc: Global) -> Items<Field> {
         (0x0A04, -1, 0, 14, 10132),
         (0x0A04, -1, 0, 14, 0),
         (0x0A04, -1, 0, 14, 16383),
+        (0x0A04, 0, 0, 64, 9223372036854775807),
+        (0x0A04, 0, 0, 64, 9223372036854775808),
+        (0x0A04, 1, 0, 64, 18446744073709551614),
+        (0x0A04, 0, 1, 64, 18446744073709551614),
+        (0x0A04, 0, 2, 64, 18446744073709551614),
     ] {
         let raw = Raw::Number(number);
         fields
@@ -114,7 +119,7 @@ pub(super) fn assert_listed(rt: &impl Abort, alloc: Global, message: &Message, w
 #[test]
 fn each_part_has_its_place(rt: HostRuntime) {
     let wanted =
-        "message\nsection1 300 301 2 3 4 5 6 7\ntime 2024 8 9 10 11 12\nlocal1 0fa0\nsection2 01\nflags observed compressed\ndescriptors 301001 012101\nsubset\n001011 \"\\1f !\\22#[\\5c]~\\7f\\80\\ff\"\n005002 -0.01\n007001 -400\n010004 101320\n010004 0\n010004 missing\nend\n";
+        "message\nsection1 300 301 2 3 4 5 6 7\ntime 2024 8 9 10 11 12\nlocal1 0fa0\nsection2 01\nflags observed compressed\ndescriptors 301001 012101\nsubset\n001011 \"\\1f !\\22#[\\5c]~\\7f\\80\\ff\"\n005002 -0.01\n007001 -400\n010004 101320\n010004 0\n010004 missing\n010004 9223372036854775807\n010004 9223372036854775808\n010004 1844674407370955161.4\n010004 18446744073709551615\n010004 18446744073709551616\nend\n";
     let message = message(&rt, rt.alloc());
     assert_listed(&rt, rt.alloc(), &message, wanted);
 }

@@ -136,6 +136,10 @@ pub(crate) const DELAYED_COUNT_1: &str =
 pub(crate) const UNEQUAL_COUNTS: &str =
     "42554652 000037 04 | S1 | 00000D 00 0002 80 4100 1F01 0C65 | 000008 00 00016AB3 | END";
 
+/// Three plain subsets of one bit: 0, 1 and 0.
+pub(crate) const THREE_BITS: &str =
+    "42554652 000030 04 | S1 | 000009 00 0003 80 1F00 | 000005 00 40 | END";
+
 /// No subset: 53 octets.
 pub(crate) const NO_SUBSETS: &str =
     "42554652 000035 04 | S1 | 00000F 00 0000 80 C101 C10B C10C 0C65 | 000004 00 | END";

@@ -244,6 +244,16 @@ const PLAIN: &[Row<'static>] = &[
         descriptors: DELAYED,
         subsets: "subset\n031001 0\nsubset\n031001 1\n012101 273.15\n",
     },
+    // a bit before or behind a subset is another than its own
+    Row {
+        text: THREE_BITS,
+        slack: 0,
+        reports: &[BIT_0, BIT_1, BIT_0],
+        front: FRONT,
+        flags: OBSERVED,
+        descriptors: "descriptors 031000\n",
+        subsets: "subset\n031000 0\nsubset\n031000 1\nsubset\n031000 0\n",
+    },
 ];
 
 /// Plain messages of other heads, under operators, of characters and of edition 3.
@@ -396,7 +406,8 @@ fn assert_read(rt: &impl Abort, alloc: Global, row: &Row<'_>, listing: &str) {
     assert_canonical(rt, alloc, reports.as_slice(), row.reports);
 }
 
-/// The report of this number, which is asked for alone, has this canonical message.
+/// The report of this number, which is asked for alone, has this canonical message, and so has the
+/// subset of which no report is built.
 pub(crate) fn assert_own(
     rt: &impl Abort,
     alloc: Global,
@@ -409,6 +420,9 @@ pub(crate) fn assert_own(
     let own = canonical_of_read(alloc, &report).expect(rt, "room");
     let own = own.expect(rt, "octets");
     assert_octets(rt, alloc, own.as_slice(), wanted);
+    let copied = found.canonical(alloc, number).expect(rt, "room");
+    let copied = copied.expect(rt, "octets");
+    assert_octets(rt, alloc, copied.as_slice(), wanted);
 }
 
 /// The reports, asked for from the last to the first and then from the first to the last, have these
