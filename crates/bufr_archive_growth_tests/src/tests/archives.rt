@@ -8,7 +8,9 @@ use crate::tests::samples::{
     COMPRESSED_PAIR, MISSING_TEMPERATURE, MONTH_13, NEXT_STATION, PAIR_OF_STATIONS, SEQUENCES,
     UPDATED, joined, room, tables,
 };
-use bufr_archive::{AddFault, Added, Archive, ArchiveWriteFault, MapShelf, Shelf, SortedShelf};
+use bufr_archive::{
+    AddFault, Added, Archive, ArchiveBuilder, ArchiveWriteFault, MapShelf, Shelf, SortedShelf,
+};
 use bufr_bits::IntoWrite;
 use bufr_tables::Tables;
 use std::alloc::Global;
@@ -110,6 +112,35 @@ fn refused_growth_while_adding(rt: HostRuntime) -> Result<(), Fail> {
     let greater: [&[u8]; 1] = [MISSING_TEMPERATURE];
     adds::<MapShelf>(&rt, alloc, COMPRESSED_PAIR, &[SEQUENCES], &greater)?;
     adds::<SortedShelf>(&rt, alloc, COMPRESSED_PAIR, &[SEQUENCES], &greater)
+}
+
+/// A message of two reports is gathered. The reports that were told are held, and no others.
+/// Answered is whether both were told.
+fn gathers(rt: &impl Abort, alloc: Global, tables: &Tables) -> Result<bool, Fail> {
+    let mut builder = ArchiveBuilder::new(alloc, tables);
+    let told = match builder.add_message(PAIR_OF_STATIONS) {
+        Err(AddFault::OutOfMemory { done }) => done,
+        answer => {
+            same(rt, answer, Ok(()));
+            2
+        }
+    };
+    assert!(rt; told <= 2);
+    let Ok(archive) = builder.into_archive() else {
+        return Ok(false);
+    };
+    let held = [SEQUENCES, NEXT_STATION];
+    assert_holds(rt, alloc, &archive, &held[..told as usize])?;
+    Ok(told == 2)
+}
+
+#[test]
+fn refused_growth_while_gathering(rt: HostRuntime) -> Result<(), Fail> {
+    let tables = tables(rt.alloc())?;
+    if !gathers(&rt, rt.alloc(), &tables)? {
+        assert!(rt; gathers(&rt, rt.alloc(), &tables)?);
+    }
+    Ok(())
 }
 
 /// The archive of the text of these messages.

@@ -70,6 +70,35 @@ fn a_source_fails_at_any_error(rt: HostRuntime) {
     same(&rt, source.into_inner().reads, 2);
 }
 
+/// A reader that gives none, and then an octet, as a terminal does whose end was told once.
+#[derive(Debug, Drop)]
+struct EndsOnce {
+    ended: bool,
+}
+
+impl Read for EndsOnce {
+    fn read(&mut self, buf: &mut [u8]) -> io::Result<usize> {
+        if !self.ended || buf.is_empty() {
+            self.ended = true;
+            return Ok(0);
+        }
+        buf[0] = b'7';
+        Ok(1)
+    }
+}
+
+#[test]
+fn a_source_counts_its_reads_and_remembers_its_end(rt: HostRuntime) {
+    let mut source = FromRead::new(EndsOnce { ended: false });
+    let mut buffer = [0; 4];
+    same(&rt, source.read(&mut buffer).expect(&rt, "an answer"), 0);
+    same(&rt, source.read(&mut buffer).expect(&rt, "an answer"), 1);
+    let told = format!(in rt.alloc(); "{source:?}").expect(&rt, "room");
+    let wanted =
+        "FromRead { reader: EndsOnce { ended: true }, failed: false, reads: 2, met_end: true }";
+    same(&rt, told.as_str(), wanted);
+}
+
 /// Writes to a lent vector, and compares what stands in it after the loan.
 fn write_to_lent(rt: &impl Abort, alloc: Global) {
     let mut kept = Vec::new(alloc);
