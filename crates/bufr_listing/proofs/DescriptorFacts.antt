@@ -145,12 +145,3 @@ descriptors_are law tables n text ws ds e h some =
     ∙ cond-true (not (length own == 0) && bytes_eq (descriptors_line own) text)
     (described n own (template tables own)) (Err (BadLine n)) (and_from _ _ count spelled)
     ∙ ap (λ ys. described n ys (template tables ys)) same
-
--- the same of descriptors that are lent
-pub lent_descriptors : DescriptorTexts → (tables : Entries) (n : ℕ) (text : List ℕ)
-    (ws : List (List ℕ)) (ds lent : List ℕ) → words_of text ≡ codes "descriptors" ∷ ws
-    → descriptors_of ws ≡ Some ds → (length ds == 0) ≡ false → lent ≡ ds
-    → read_descriptors tables n (as_printed text) ≡ described n lent (template tables lent)
-lent_descriptors law tables n text ws ds lent e h some same =
-    descriptors_are law tables n text ws ds e h some
-    ∙ ap (λ (xs : List ℕ). described n xs (template tables xs)) (sym same)

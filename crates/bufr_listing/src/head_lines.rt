@@ -1,11 +1,12 @@
 //! Reading the lines of a message before its subsets.
 
 ghost use Rattle.std.specs.Prelude.{◌≡◌, ◌∷◌, [], List, Option, ℕ, ◌≤◌, ◌==◌, length, codes};
-ghost use Rattle.std.specs.Prelude.{option_map, true, false, if◌then◌else◌};
+ghost use Rattle.std.specs.Prelude.{option_map, true, false, if◌then◌else◌, IfOk, IfErr};
 ghost use Rattle.std.specs.Str.{bytes_eq};
 ghost use Rattle.std.specs.List.{AllByRecursion};
 ghost use Rattle.hex.specs.declared.error.FromHexError.TheVariants.{OutOfMemory};
-ghost use Rattle.bufr_answers.specs.Answers.{Gives};
+ghost use Rattle.bufr_answers.specs.Answers.{Gives, Fails};
+ghost use Rattle.bufr_tables.specs.Entries.{Entries};
 ghost use Rattle.bufr_expand.specs.Templates.{template};
 ghost use Rattle.bufr_listing.specs.Limits.{two_octets};
 ghost use Rattle.bufr_listing.specs.Cursors.{left, past};
@@ -187,17 +188,28 @@ pub fn read_descriptors(
     ensures past { past lines.new ≡ past lines.old }
     ensures same { templates.new ≡ templates.old }
 {
-    descriptor_texts();
     let line = lines.take()?;
+    let descriptors = descriptors_of(alloc, line)?;
+    let template = template_of(alloc, templates, line, descriptors.as_slice())?;
+    Ok((descriptors, template))
+}
+
+/// The descriptors of a line, one at least, or L1 where it is no line of them.
+fn descriptors_of(alloc: Global, line: TextLine) -> Result<Vec<Fxy>, Failure<ListingFault>>
+    ensures ok { let n = line.entry.number in let text = as_printed line.entry.text.now in
+        (tables : Entries) → IfOk result (λ ds. read_descriptors tables n text
+        ≡ described n ds.items (template tables ds.items)) }
+    ensures fault { let n = line.entry.number in let text = as_printed line.entry.text.now in
+        (tables : Entries) → IfErr result (λ e. Fails e (read_descriptors tables n text)) }
+{
+    descriptor_texts();
     if !begins(line.text, b"descriptors") {
         return Err(bad_line(line));
     }
-    let descriptors = match Words::behind_first(line.text).descriptors(alloc)? {
-        Some(descriptors) if !descriptors.is_empty() => descriptors,
-        _ => return Err(bad_line(line)),
-    };
-    let template = template_of(alloc, templates, line, descriptors.as_slice())?;
-    Ok((descriptors, template))
+    match Words::behind_first(line.text).descriptors(alloc)? {
+        Some(descriptors) if !descriptors.is_empty() => Ok(descriptors),
+        _ => Err(bad_line(line)),
+    }
 }
 
 /// The template of the descriptors of a line, or L3 at this line where they have none.

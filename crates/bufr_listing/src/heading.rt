@@ -1,15 +1,15 @@
 //! The lines of a listing before its first subset.
 
-ghost use Rattle.std.specs.Prelude.{◌≡◌, ◌≤◌, ◌++◌, List, OnOk, IfOk, length, option_copied};
+ghost use Rattle.std.specs.Prelude.{◌≡◌, ◌≤◌, ◌∷◌, [], ◌++◌, List, OnOk, IfOk, length, option_copied};
 ghost use Rattle.bufr_data.specs.declared.field.Subset.{Subset};
 ghost use Rattle.bufr_sections.specs.SectionsRead.{message_lent};
 ghost use Rattle.bufr_listing.specs.OctetLines.{octets_text};
-ghost use Rattle.bufr_listing.specs.Listings.{line, joined, numbers_line};
+ghost use Rattle.bufr_listing.specs.Listings.{words, line, joined, numbers_line};
 ghost use Rattle.bufr_listing.specs.Listings.{section1_line, time_line, flags_line};
 ghost use Rattle.bufr_listing.specs.Listings.{descriptors_line, heading_lines};
 
 use bufr_answers::{Items, OutOfMemory};
-use bufr_sections::LentSections;
+use bufr_sections::{Head, LentSections};
 use bufr_tables::Fxy;
 use itoa::write_digits;
 use std::alloc::Global;
@@ -31,7 +31,39 @@ pub fn heading_text(alloc: Global, sections: &LentSections<'_>) -> Result<Vec<u8
     ensures { (subsets : List Subset) → IfOk result (λ text.
         text.items ≡ joined (heading_lines (message_lent sections.now subsets))) }
 {
-    let head = sections.head;
+    let mut text = Vec::with_capacity(alloc, HEADING_ROOM)?;
+    push_heading(alloc, &mut text, sections)?;
+    Ok(text)
+}
+
+/// Adds the lines before the first subset.
+fn push_heading(
+    alloc: Global,
+    text: &mut Vec<u8>,
+    sections: &LentSections<'_>,
+) -> Result<(), OutOfMemory>
+    ensures { (subsets : List Subset) → OnOk result (text.new.items
+        ≡ text.old.items ++ joined (heading_lines (message_lent sections.now subsets))) }
+{
+    text.extend_from_slice(b"message\n")?;
+    push_section1(text, sections.head)?;
+    push_octets(alloc, text, b"local1", Some(&sections.head.local), b"")?;
+    push_octets(
+        alloc,
+        text,
+        b"section2",
+        sections.section2.as_ref(),
+        b"section2\n",
+    )?;
+    push_flags(text, sections.observed, sections.compressed)?;
+    push_descriptors(text, sections.descriptors)
+}
+
+/// Adds the lines of the numbers of section 1.
+fn push_section1(text: &mut Vec<u8>, head: &Head) -> Result<(), OutOfMemory>
+    ensures { OnOk result (text.new.items
+        ≡ text.old.items ++ line (section1_line head.now) ++ line (time_line head.now)) }
+{
     let numbers = [
         head.centre,
         head.sub_centre,
@@ -50,21 +82,8 @@ pub fn heading_text(alloc: Global, sections: &LentSections<'_>) -> Result<Vec<u8
         u16::from(head.minute),
         u16::from(head.second),
     ];
-    let mut text = Vec::with_capacity(alloc, HEADING_ROOM)?;
-    text.extend_from_slice(b"message\n")?;
-    push_numbers(&mut text, b"section1", &numbers)?;
-    push_numbers(&mut text, b"time", &time)?;
-    push_octets(alloc, &mut text, b"local1", Some(&head.local), b"")?;
-    push_octets(
-        alloc,
-        &mut text,
-        b"section2",
-        sections.section2.as_ref(),
-        b"section2\n",
-    )?;
-    push_flags(&mut text, sections.observed, sections.compressed)?;
-    push_descriptors(&mut text, sections.descriptors)?;
-    Ok(text)
+    push_numbers(text, b"section1", &numbers)?;
+    push_numbers(text, b"time", &time)
 }
 
 /// Adds a line of eight numbers at most behind its first word. The numbers are put into a row, each
@@ -105,9 +124,17 @@ fn push_octets(
         return text.extend_from_slice(empty);
     }
     let digits = hex::encode(alloc, octets.as_slice())?;
+    push_word(text, title, digits.as_bytes())
+}
+
+/// Adds a line of two words.
+fn push_word(text: &mut Vec<u8>, title: &[u8], word: &[u8]) -> Result<(), OutOfMemory>
+    ensures { OnOk result (text.new.items
+        ≡ text.old.items ++ line (words title.now (word.now ∷ []))) }
+{
     text.extend_from_slice(title)?;
     text.push(b' ')?;
-    text.extend_from_slice(digits.as_bytes())?;
+    text.extend_from_slice(word)?;
     text.extend_from_slice(b"\n")
 }
 

@@ -1,14 +1,20 @@
 //! Messages whose reports are built one at a time.
 
-ghost use Rattle.std.specs.Prelude.{◌≡◌, ℕ, ◌-◌, ◌≤◌, List, length, slice_get, Some, IfOk};
+ghost use Rattle.std.specs.Prelude.{◌≡◌, ℕ, ◌-◌, ◌/◌, ◌≤◌, List, length, slice_get, Some, IfOk};
 ghost use Rattle.std.specs.Prelude.{option_map};
-ghost use Rattle.bufr_answers.specs.Answers.{Gives};
+ghost use Rattle.bufr_bits.specs.Bits.{bits};
+ghost use Rattle.bufr_answers.specs.Answers.{Gives, result_map};
 ghost use Rattle.bufr_tables.specs.Entries.{Entries};
-ghost use Rattle.bufr_sections.specs.SectionsRead.{message_lent};
-ghost use Rattle.bufr_message.specs.Kept.{AreOf};
-ghost use Rattle.bufr_message.specs.Messages.{Spells, message_of};
-ghost use Rattle.bufr_message.specs.OwnBits.{spelt_alone};
+ghost use Rattle.bufr_data.specs.declared.field.Subset.{Subset};
+ghost use Rattle.bufr_data.specs.Data.{subsets_in};
+ghost use Rattle.bufr_sections.specs.declared.message.Decoded.{Decoded};
+ghost use Rattle.bufr_sections.specs.Sections.{descriptors_of};
+ghost use Rattle.bufr_sections.specs.SectionsRead.{envelope, message_lent};
+ghost use Rattle.bufr_message.specs.Kept.{AreOf, message_under};
+ghost use Rattle.bufr_message.specs.Messages.{Spells, data_or, message_of, message_with};
+ghost use Rattle.bufr_message.specs.OwnBits.{HaveRoom, spelt_alone};
 ghost use Rattle.bufr_message.specs.Reports.{reports_of, IsUnder};
+ghost use Rattle.bufr_message.specs.Views.{AreReadFrom};
 
 use crate::alone::can_be_alone;
 use crate::kept::{Kept, bring_to_front};
@@ -18,7 +24,7 @@ use crate::report::{Report, ReportHead, report_with};
 use bufr_answers::{Failure, Items, OutOfMemory};
 use bufr_bits::{BitReader, BitSink};
 use bufr_data::laws::data_hold_subsets;
-use bufr_data::{Fields, ReadFault, Subset, SubsetIndex};
+use bufr_data::{DataTemplate, Fields, ReadFault, Subset, SubsetIndex};
 use bufr_sections::{Decoded, Envelope, Head, LentSections, Message, Refused, read_sections};
 use bufr_tables::{Fxy, Tables};
 use std::alloc::Global;
@@ -36,6 +42,13 @@ pub struct View<'a> {
     descriptors: Rc<Items<Fxy>>,
     subsets: SubsetIndex<'a>,
     slack_octets: u64,
+}
+
+/// A list of descriptors and subsets that were built.
+#[derive(Drop)]
+struct Built {
+    descriptors: Items<Fxy>,
+    subsets: Items<Subset>,
 }
 
 impl<'a> Model for View<'a> {
@@ -163,20 +176,40 @@ impl<'a> View<'a> {
     pub(crate) fn into_decoded(self, alloc: Global) -> Result<Decoded, OutOfMemory>
         ensures { IfOk result (λ d. d ≡ self.entry) }
     {
+        let built = self.built(alloc)?;
+        Ok(self.decoded_with(built))
+    }
+
+    /// The list of descriptors, copied, and all subsets. It can only run out of memory.
+    fn built(&self, alloc: Global) -> Result<Built, OutOfMemory>
+        ensures descriptors { IfOk result (λ b. b.descriptors ≡ self.now.message.descriptors) }
+        ensures subsets { IfOk result (λ b. b.subsets ≡ self.now.message.subsets) }
+    {
         let subsets = all_subsets(alloc, &self.subsets)?;
         let descriptors = Vec::from_slice(alloc, self.descriptors.as_slice())?;
-        let message = Message {
-            head: self.sections.head,
-            section2: self.sections.section2,
-            observed: self.sections.observed,
-            compressed: self.sections.compressed,
+        Ok(Built {
             descriptors: Items::from_vec(descriptors),
             subsets,
-        };
-        Ok(Decoded {
-            message,
-            slack_octets: self.slack_octets,
         })
+    }
+
+    /// The message with this list of descriptors and these subsets, which are its own.
+    fn decoded_with(self, built: Built) -> Decoded
+        requires descriptors { built.descriptors ≡ self.message.descriptors }
+        requires subsets { built.subsets ≡ self.message.subsets }
+        ensures { result ≡ self.entry }
+    {
+        Decoded {
+            message: Message {
+                head: self.sections.head,
+                section2: self.sections.section2,
+                observed: self.sections.observed,
+                compressed: self.sections.compressed,
+                descriptors: built.descriptors,
+                subsets: built.subsets,
+            },
+            slack_octets: self.slack_octets,
+        }
     }
 }
 
@@ -203,26 +236,74 @@ pub(crate) fn view_keeping<'a>(
     ensures are { AreOf tables.now kept.new.items }
     ensures exact { Gives (λ d. d) result (message_of tables.now octets.now) }
 {
-    data_hold_subsets();
     let sections = read_sections(alloc, octets)?;
-    let mut reader = BitReader::new(sections.contents);
-    let there = reader.left();
     bring_to_front(alloc, tables, kept, sections.listed)?;
-    let first = &mut kept[0];
-    let descriptors = first.descriptors.clone()?;
-    let (compressed, count) = (sections.compressed, sections.count);
-    let subsets = match first.template.index(alloc, compressed, &mut reader, count) {
-        Ok(subsets) => subsets,
-        Err(failure) => return Err(failure.map(Refused::Data)),
-    };
-    let slack_octets = (reader.left() / 8) as u64;
-    if !can_be_alone(alloc, descriptors.as_slice(), there, &subsets)? {
-        return Err(Failure::Fault(Refused::Data(ReadFault::TooLarge)));
-    }
+    view_in(alloc, &mut kept[0], sections)
+}
+
+/// The message of sections, whose descriptors are this list with its template.
+fn view_in<'a>(
+    alloc: Global,
+    kept: &mut Kept,
+    sections: Envelope<'a>,
+) -> Result<View<'a>, Failure<Refused>>
+    requires { kept.old.descriptors.value ≡ descriptors_of sections.listed.now }
+    ensures exact { Gives (λ d. d) result
+        (message_under kept.old.template (envelope sections.entry)) }
+    ensures same { kept.new ≡ kept.old }
+{
+    let descriptors = kept.descriptors.clone()?;
+    let (subsets, slack_octets) = subsets_of(alloc, kept, &sections)?;
     Ok(View {
         sections,
         descriptors,
         subsets,
         slack_octets,
     })
+}
+
+/// The subsets of sections, whose descriptors are this list with its template, and how many octets
+/// stand after their bits.
+fn subsets_of<'a>(
+    alloc: Global,
+    kept: &mut Kept,
+    sections: &Envelope<'a>,
+) -> Result<(SubsetIndex<'a>, u64), Failure<Refused>>
+    requires { kept.old.descriptors.value ≡ descriptors_of sections.now.listed.now }
+    ensures exact { Gives {Y = Decoded}
+        (λ x. record { message = message_with (envelope sections.now) x.0; slack_octets = x.1 })
+        result (message_under kept.old.template (envelope sections.now)) }
+    ensures room { IfOk result (λ x. HaveRoom x.0) }
+    ensures same { kept.new ≡ kept.old }
+{
+    let (subsets, slack_octets) = index_of(alloc, &mut kept.template, sections)?;
+    let there = 8 * sections.contents.len() as u128;
+    if !can_be_alone(alloc, kept.descriptors.as_slice(), there, &subsets)? {
+        return Err(Failure::Fault(Refused::Data(ReadFault::TooLarge)));
+    }
+    Ok((subsets, slack_octets))
+}
+
+/// The subsets at the front of the octets behind the fourth of section 4, and how many octets stand
+/// after their bits.
+fn index_of<'a>(
+    alloc: Global,
+    template: &mut DataTemplate,
+    sections: &Envelope<'a>,
+) -> Result<(SubsetIndex<'a>, u64), Failure<Refused>>
+    ensures exact { Gives {Y = List Subset × ℕ} (λ x. (x.0, x.1)) result
+        (data_or (result_map (λ found. (found.0, length found.1 / 8))
+        (subsets_in template.old sections.now.compressed sections.now.count
+        (bits sections.now.contents.now)))) }
+    ensures stand { IfOk result (λ x.
+        AreReadFrom sections.now.contents.now sections.now.compressed x.0) }
+    ensures room { IfOk result (λ x. HaveRoom x.0) }
+    ensures same { template.new ≡ template.old }
+{
+    data_hold_subsets();
+    let mut reader = BitReader::new(sections.contents);
+    match template.index(alloc, sections.compressed, &mut reader, sections.count) {
+        Ok(subsets) => Ok((subsets, (reader.left() / 8) as u64)),
+        Err(failure) => Err(failure.map(Refused::Data)),
+    }
 }

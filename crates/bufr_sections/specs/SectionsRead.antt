@@ -1,12 +1,15 @@
 -- What the sections that the program holds say, and the places of what section 1 says behind its
 -- length.
-use Rattle.std.specs.Prelude.{ℕ, List, get_or}
+use Rattle.std.specs.Prelude.{ℕ, List, Option, Result, Ok, get_or}
+use Rattle.bufr_answers.specs.Answers.{◌>>=◌}
 use Rattle.bufr_data.specs.declared.field.Subset.{Subset}
 use Rattle.bufr_sections.specs.declared.message.Head.{Head}
 use Rattle.bufr_sections.specs.declared.message.Message.{Message}
 use Rattle.bufr_sections.specs.declared.envelope.Envelope.{Envelope}
 use Rattle.bufr_sections.specs.declared.lent_sections.LentSections.{LentSections}
 use Rattle.bufr_sections.specs.declared.sections.Description.{Description}
+use Rattle.bufr_sections.specs.declared.fault.Refused.{Refused}
+use Rattle.bufr_sections.specs.declared.fault.Refused.TheVariants.{Section3Length, Section4Length}
 use Rattle.bufr_sections.specs.Sections as said
 
 -- the sections as the definitions see them
@@ -57,6 +60,28 @@ description s =
       compressed = s.compressed;
       descriptors = said.descriptors_of s.listed.now;
     }
+
+-- the sections of what sections 1 to 3 say and of the octets of section 4 after its fourth
+abbrev pub envelope_said : Head → Option (List ℕ) → said.Description → List ℕ → said.Envelope
+envelope_said head section2 description contents =
+    record {
+      head = head;
+      section2 = section2;
+      observed = description.observed;
+      compressed = description.compressed;
+      descriptors = description.descriptors;
+      count = description.count;
+      contents = contents;
+    }
+
+-- the sections of what sections 1 and 2 say and of the room behind them, or the first fault
+unfoldable pub envelope_behind : Head → Option (List ℕ) → List ℕ → Result said.Envelope Refused
+envelope_behind head section2 room = do
+  three ← said.section_at 9 Section3Length room
+  description ← said.description_of three.0
+  four ← said.section_at 4 Section4Length three.1
+  contents ← said.contents_of four
+  Ok (envelope_said head section2 description contents)
 
 -- the numbers of section 1 of edition 3 at their places behind its length, with these octets for
 -- local use (octets 5 to 17)

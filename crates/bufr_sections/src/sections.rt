@@ -1,12 +1,13 @@
 //! The sections of a message, with no regard to what the data bits mean.
 
-ghost use Rattle.std.specs.Prelude.{◌≡◌, List, ℕ, Bool, Option, ◌≤◌, drop};
-ghost use Rattle.bufr_answers.specs.Answers.{Gives};
+ghost use Rattle.std.specs.Prelude.{◌≡◌, List, ℕ, Bool, Option, ◌≤◌, drop, IfOk, IfErr};
+ghost use Rattle.bufr_answers.specs.Answers.{Gives, Fails};
 ghost use Rattle.bufr_sections.specs.declared.message.Head.{Head};
 ghost use Rattle.bufr_sections.specs.Sections.{three, section_at, room_of, head4_of, head3_of};
 ghost use Rattle.bufr_sections.specs.Sections.{head_of, year_of_century, section2_at};
 ghost use Rattle.bufr_sections.specs.Sections.{description_of, envelope_of};
-ghost use Rattle.bufr_sections.specs.SectionsRead.{envelope, description};
+ghost use Rattle.bufr_sections.specs.SectionsRead.{envelope, description, envelope_said};
+ghost use Rattle.bufr_sections.specs.SectionsRead.{envelope_behind};
 
 use crate::envelope::Envelope;
 use crate::fault::Refused;
@@ -252,22 +253,45 @@ fn description_of(octets: &[u8]) -> Result<Description<'_>, Failure<Refused>>
     })
 }
 
-/// What octets say that are the sections of a message, or the first cause, of M1 to M9, for which
-/// they are refused; memory may run out.
-#[tactic(auto, unfolding(crate::specs::Sections::envelope_of, crate::specs::Sections::sections_of))]
-pub fn read_sections(alloc: Global, octets: &[u8]) -> Result<Envelope<'_>, Failure<Refused>>
-    ensures { Gives envelope result (envelope_of octets.now) }
+/// What sections 1 and 2 say, and the room behind them.
+#[tactic(auto, unfolding(crate::specs::Sections::envelope_of, crate::specs::Sections::sections_of, crate::specs::SectionsRead::envelope_behind))]
+fn front_of(
+    alloc: Global,
+    octets: &[u8],
+) -> Result<(Head, Option<Items<u8>>, &[u8]), Failure<Refused>>
+    ensures ok { IfOk result (λ x. envelope_of octets.now ≡ envelope_behind x.0 x.1 x.2.now) }
+    ensures fault { IfErr result (λ e. Fails e (envelope_of octets.now)) }
 {
     let (layout, room) = room_of(octets)?;
     let (one, room) = section_at(layout.shortest(), Refused::Section1Length, room)?;
     let (head, announced) = head_of(alloc, layout, one)?;
     let (section2, room) = section2_at(alloc, announced, room)?;
+    Ok((head, section2, room))
+}
+
+/// What section 3 says, and the octets of section 4 after its fourth: the two fill the room.
+#[tactic(auto, unfolding(crate::specs::SectionsRead::envelope_behind))]
+fn described_of(room: &[u8]) -> Result<(Description<'_>, &[u8]), Failure<Refused>>
+    ensures { (head : Head) (section2 : Option (List ℕ))
+        → Gives (λ x. envelope_said head section2 (description x.0) x.1.now) result
+        (envelope_behind head section2 room.now) }
+{
     let (three, room) = section_at(9, Refused::Section3Length, room)?;
     let description = description_of(three)?;
     let (four, left) = section_at(4, Refused::Section4Length, room)?;
     if !left.is_empty() {
         return Err(Failure::Fault(Refused::Section4Length));
     }
+    Ok((description, behind_first(four)))
+}
+
+/// What octets say that are the sections of a message, or the first cause, of M1 to M9, for which
+/// they are refused; memory may run out.
+pub fn read_sections(alloc: Global, octets: &[u8]) -> Result<Envelope<'_>, Failure<Refused>>
+    ensures { Gives envelope result (envelope_of octets.now) }
+{
+    let (head, section2, room) = front_of(alloc, octets)?;
+    let (description, contents) = described_of(room)?;
     Ok(Envelope {
         head,
         section2,
@@ -275,6 +299,6 @@ pub fn read_sections(alloc: Global, octets: &[u8]) -> Result<Envelope<'_>, Failu
         compressed: description.compressed,
         listed: description.listed,
         count: description.count,
-        contents: behind_first(four),
+        contents,
     })
 }

@@ -62,15 +62,9 @@ impl TableD {
             with_member (map (λ s. s.now) names.now) places.now 2 records.old no_sequences)) }
     {
         let mut rows = SequenceRows::new(alloc);
-        let mut row = ByteRecord::new(alloc);
-        for number in 2..u64::MAX {
-            if !records.next(&mut row)? {
-                let rows = rows.finish()?;
-                return Ok(TableD { rows });
-            }
-            rows.add_record(alloc, names, places, number, &row)?;
-        }
-        Err(Failure::OutOfMemory)
+        add_records(alloc, records, names, places, &mut rows)?;
+        let rows = rows.finish()?;
+        Ok(TableD { rows })
     }
 
     /// The descriptors that a sequence stands for.
@@ -90,4 +84,25 @@ impl TableD {
     {
         self.rows == other.rows
     }
+}
+
+// The rows of the records behind the header.
+fn add_records(
+    alloc: Global,
+    records: &mut Records<'_>,
+    names: &[&[u8]],
+    places: &[usize],
+    rows: &mut SequenceRows,
+) -> Result<(), Failure<TableFault>>
+    ensures { Gives (λ _. rows.new) result (after_records member_row with_member
+        (map (λ s. s.now) names.now) places.now 2 records.old rows.old) }
+{
+    let mut row = ByteRecord::new(alloc);
+    for number in 2..u64::MAX {
+        if !records.next(&mut row)? {
+            return Ok(());
+        }
+        rows.add_record(alloc, names, places, number, &row)?;
+    }
+    Err(Failure::OutOfMemory)
 }

@@ -1,49 +1,41 @@
--- For `TableD::of_records`: a record's fault is that of all, and past the last record all rows are
--- in.
-use Rattle.std.proofs.Common.{◌∙◌, sym, ap, map, Ok, List, ℕ, Result}
+-- For `add_records` of Table D: a record's fault is that of all, and past the last record all rows
+-- are in.
+use Rattle.std.proofs.Common.{map}
 use Rattle.csv.specs.Records.{fields_of}
-use Rattle.bufr_answers.specs.Answers.{result_map}
-use Rattle.bufr_tables.specs.declared.table_faults.TableFault.{TableFault}
-use Rattle.bufr_tables.specs.Rows.{member_row, with_member, no_sequences, all_sequences}
+use Rattle.bufr_tables.specs.Rows.{member_row, with_member}
 use Rattle.bufr_tables.specs.TableFiles.{after_records}
-use Rattle.bufr_tables.proofs.ParseFacts.{fails-through, map-fails, ends, goes_on, stops}
-use Rattle.bufr_tables.proofs.table_d.TableD.of_records.Goals as goal
+use Rattle.bufr_tables.proofs.ParseFacts.{fails-through, ends, goes_on, stops}
+use Rattle.bufr_tables.proofs.table_d.add_records.Goals as goal
 
--- where no record is left, the records come to all sequences so far
+-- where no record is left, the records come to the rows so far
 pub returns-then-not-branch : goal.returns-then-not-branch
 returns-then-not-branch c =
-    ap (result_map all_sequences)
-    (ends member_row with_member
+    ends member_row with_member
     (after_records member_row with_member (map (λ s. s.now) c.args.names.now) c.args.places.now 2
-    c.args.records.now no_sequences)
+    c.args.records.now c.args.rows.now)
     (map (λ s. s.now) c.args.names.now) c.args.places.now c.loop-number.number
     c.loop-number.records c.next.new.self (fields_of c.next.new.row) c.loop-number.rows
-    c.in_ok-next.field-0 c.loop-number.invariant c.in_ok-next.ensures c.if-not-branch.true)
-    ∙ ap {B = Result (List (ℕ × List ℕ)) TableFault} (λ (t : List (ℕ × List ℕ)). Ok t)
-    (sym c.in_ok-rows.ensures.all)
+    c.in_ok-next.field-0 c.loop-number.invariant c.in_ok-next.ensures c.if-not-branch.true
 
 -- a record's fault is that of all records
 pub returns-in_err-add_record : goal.returns-in_err-add_record
 returns-in_err-add_record c =
-    fails-through (λ t. t) c.from_residual-in_err-add_record.result _ _
+    fails-through (λ _. c.add_record.new.self) c.from_residual-in_err-add_record.result _ _
     c.from_residual-in_err-add_record.ensures.1
-    (map-fails _
-    (after_records member_row with_member (map (λ s. s.now) c.args.names.now) c.args.places.now 2
-    c.args.records.now no_sequences) all_sequences
     (stops member_row with_member
     (after_records member_row with_member (map (λ s. s.now) c.args.names.now) c.args.places.now 2
-    c.args.records.now no_sequences)
+    c.args.records.now c.args.rows.now)
     (map (λ s. s.now) c.args.names.now) c.args.places.now c.loop-number.number
     c.loop-number.records c.next.new.self (fields_of c.next.new.row) c.loop-number.rows
     c.in_ok-next.field-0 c.in_err-add_record.field-0.0 c.loop-number.invariant c.in_ok-next.ensures
-    c.if-not-branch.false c.in_err-add_record.ensures))
+    c.if-not-branch.false c.in_err-add_record.ensures)
 
 -- with the row of a record joined, the records come to what the others add
 pub loop-number-preserved : goal.loop-number-preserved
 loop-number-preserved c =
     goes_on member_row with_member
     (after_records member_row with_member (map (λ s. s.now) c.args.names.now) c.args.places.now 2
-    c.args.records.now no_sequences)
+    c.args.records.now c.args.rows.now)
     (map (λ s. s.now) c.args.names.now) c.args.places.now c.loop-number.number
     c.loop-number.records c.next.new.self (fields_of c.next.new.row) c.loop-number.rows
     c.add_record.new.self c.in_ok-next.field-0 c.loop-number.invariant
