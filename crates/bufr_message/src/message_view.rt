@@ -242,6 +242,8 @@ pub(crate) fn view_keeping<'a>(
 }
 
 /// The message of sections, whose descriptors are this list with its template.
+// A call would move the sections through memory once more.
+#[inline(always)]
 fn view_in<'a>(
     alloc: Global,
     kept: &mut Kept,
@@ -264,6 +266,7 @@ fn view_in<'a>(
 
 /// The subsets of sections, whose descriptors are this list with its template, and how many octets
 /// stand after their bits.
+#[inline(always)]
 fn subsets_of<'a>(
     alloc: Global,
     kept: &mut Kept,
@@ -286,6 +289,7 @@ fn subsets_of<'a>(
 
 /// The subsets at the front of the octets behind the fourth of section 4, and how many octets stand
 /// after their bits.
+#[inline(always)]
 fn index_of<'a>(
     alloc: Global,
     template: &mut DataTemplate,

@@ -254,6 +254,8 @@ fn description_of(octets: &[u8]) -> Result<Description<'_>, Failure<Refused>>
 }
 
 /// What sections 1 and 2 say, and the room behind them.
+// A call would move the head through memory once more.
+#[inline(always)]
 #[tactic(auto, unfolding(crate::specs::Sections::envelope_of, crate::specs::Sections::sections_of, crate::specs::SectionsRead::envelope_behind))]
 fn front_of(
     alloc: Global,
@@ -270,6 +272,7 @@ fn front_of(
 }
 
 /// What section 3 says, and the octets of section 4 after its fourth: the two fill the room.
+#[inline(always)]
 #[tactic(auto, unfolding(crate::specs::SectionsRead::envelope_behind))]
 fn described_of(room: &[u8]) -> Result<(Description<'_>, &[u8]), Failure<Refused>>
     ensures { (head : Head) (section2 : Option (List ℕ))

@@ -105,6 +105,7 @@ impl<'v> LaidFields<'v> {
     }
 
     /// Passes the fields in front that are not asked for, all at once; none of them is read.
+    #[inline(always)]
     fn pass_unasked<A: Asks>(&mut self)
         ensures passed { PassesUnasked A.is_asked self.old self.new }
         ensures asked { FirstIsAsked A.is_asked self.new }
