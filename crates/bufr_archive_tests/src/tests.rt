@@ -4,8 +4,9 @@ ghost use Rattle.std.specs.Prelude.{◌≡◌};
 
 use bufr_archive::*;
 use bufr_bits::device::IntoWrite;
+use bufr_message::Refused;
 use bufr_tables::Tables;
-use samples::{key_of_number, message, octets};
+use samples::{message, octets};
 use std::alloc::Global;
 use std::fmt::Debug;
 use std::process::Abort;
@@ -13,11 +14,15 @@ use std::process::Abort;
 mod adding;
 mod files;
 mod keys;
+mod merging;
 mod samples;
 mod texts;
 
 /// Reports by number and update sequence number.
 type Reports<'a> = &'a [(u16, u8)];
+
+/// Messages in hexadecimal digits, each of one report where they are an archive's.
+type Messages<'a> = &'a [&'a str];
 
 /// Stops the test where the two differ. It is a function, since a comparison written out in a test
 /// makes the proof of that test more than twice as long.
@@ -25,23 +30,39 @@ fn same<T: PartialEq + Debug + Drop>(rt: &impl Abort, found: T, wanted: T) {
     assert_eq!(rt; found, wanted);
 }
 
-// The messages of reports, joined.
+/// The messages of reports, joined.
 fn joined(rt: &impl Abort, alloc: Global, reports: Reports) -> Vec<u8> {
-    let mut octets = Vec::new(alloc);
+    let mut text = Vec::new(alloc);
     for (number, update) in reports {
         let next = message(rt, alloc, *number, *update);
-        octets.extend_from_slice(next.as_slice()).expect(rt, "room");
+        text.extend_from_slice(next.as_slice()).expect(rt, "room");
     }
-    octets
+    text
 }
 
-fn written<S: Shelf>(rt: &impl Abort, alloc: Global, archive: &Archive<S>) -> Vec<u8> {
-    let mut sink = IntoWrite::new(Vec::new(alloc));
-    archive.write(&mut sink).expect(rt, "room");
-    sink.into_inner()
+/// The octets of messages, joined.
+fn text_of(rt: &impl Abort, alloc: Global, messages: Messages) -> Vec<u8> {
+    let mut text = Vec::new(alloc);
+    for digits in messages {
+        let next = octets(rt, alloc, digits);
+        text.extend_from_slice(next.as_slice()).expect(rt, "room");
+    }
+    text
 }
 
-// The archive has this text, of so many reports.
+/// The archive of a text under tables.
+fn read_text<'t, S: Shelf>(
+    rt: &impl Abort,
+    alloc: Global,
+    tables: &'t Tables,
+    text: &[u8],
+) -> Archive<'t, S>
+    ensures { result.tables ≡ tables.now }
+{
+    Archive::read(alloc, tables, text).expect(rt, "an archive")
+}
+
+/// The archive has this text, of so many reports.
 fn assert_text<S: Shelf>(
     rt: &impl Abort,
     alloc: Global,
@@ -50,80 +71,83 @@ fn assert_text<S: Shelf>(
     text: &[u8],
 ) {
     same(rt, archive.len(), count);
-    assert!(rt; written(rt, alloc, archive).as_slice() == text, "{count}");
+    let mut sink = IntoWrite::new(Vec::new(alloc));
+    archive.write(&mut sink).expect(rt, "room");
+    same(rt, sink.into_inner().as_slice(), text);
 }
 
-// The archive has the text of these messages in hexadecimal digits, of so many reports.
+/// The archive has the text of these messages.
 fn assert_messages<S: Shelf>(
     rt: &impl Abort,
     alloc: Global,
     archive: &Archive<S>,
+    messages: Messages,
+) {
+    let text = text_of(rt, alloc, messages);
+    assert_text(rt, alloc, archive, messages.len(), text.as_slice());
+}
+
+/// The archive has this text, of so many reports, and so has a copy.
+fn assert_copied<S: Shelf>(
+    rt: &impl Abort,
+    alloc: Global,
+    archive: &Archive<S>,
     count: usize,
-    messages: &str,
+    text: &[u8],
 ) {
-    let text = octets(rt, alloc, messages);
-    assert_text(rt, alloc, archive, count, text.as_slice());
+    assert_text(rt, alloc, archive, count, text);
+    let copied = archive.copy().expect(rt, "room");
+    assert_text(rt, alloc, &copied, count, text);
 }
 
-fn added(reports: u128, changed: u128) -> Result<Added, AddFault> {
-    Ok(Added { reports, changed })
+/// What is told of a message that is added.
+#[derive(Clone, Copy)]
+enum Told {
+    /// It has so many reports, of which so many change what is kept.
+    Reports(u128, u128),
+    /// It is refused: it has this edition.
+    Edition(u8),
+    /// It is refused: it is no message at all.
+    NotBufr,
 }
 
-// Adding this message answers so.
-fn add<S: Shelf>(
-    rt: &impl Abort,
-    alloc: Global,
-    archive: &mut Archive<S>,
-    message: &str,
-    answer: Result<Added, AddFault>,
-)
-    ensures { archive.new.tables ≡ archive.old.tables }
-{
-    let octets = octets(rt, alloc, message);
-    let found = archive.add_message(octets.as_slice());
-    same(rt, found, answer);
-}
-
-/// Adds each of these messages of one report, of which so many change what is kept.
-fn add_all<S: Shelf>(
-    rt: &impl Abort,
-    alloc: Global,
-    archive: &mut Archive<S>,
-    messages: &[(&str, u128)],
-) {
-    for (message, changed) in messages {
-        add(rt, alloc, archive, *message, added(1, *changed));
+/// The answer that tells so.
+fn answer_of(told: Told) -> Result<Added, AddFault> {
+    match told {
+        Told::Reports(reports, changed) => Ok(Added { reports, changed }),
+        Told::Edition(edition) => Err(AddFault::Refused(Refused::Edition(edition))),
+        Told::NotBufr => Err(AddFault::Refused(Refused::NotBufr)),
     }
 }
 
-/// Adds a report, and answers whether it changes what is kept.
+/// A message that is added, and what is told.
+type Add<'a> = (&'a str, Told);
+
+/// What is told of a message of one report that changes what is kept, and of one that does not.
+const CHANGES: Told = Told::Reports(1, 1);
+
+const CHANGES_NOTHING: Told = Told::Reports(1, 0);
+
+/// Adding messages answers so, one after another.
+fn add_all<S: Shelf>(rt: &impl Abort, alloc: Global, archive: &mut Archive<S>, rows: &[Add]) {
+    for (message, told) in rows {
+        let next = octets(rt, alloc, message);
+        same(rt, archive.add_message(next.as_slice()), answer_of(*told));
+    }
+}
+
+/// Adds a report, which changes what is kept.
 fn add_report<S: Shelf>(
     rt: &impl Abort,
     alloc: Global,
     archive: &mut Archive<S>,
     number: u16,
     update: u8,
-) -> bool {
-    let octets = message(rt, alloc, number, update);
-    let found = archive.add_message(octets.as_slice());
-    let changes = found == added(1, 1);
-    assert!(rt; changes || found == added(1, 0));
-    changes
-}
-
-// Adds each of these reports, of which so many change what is kept.
-fn add_reports<S: Shelf>(
-    rt: &impl Abort,
-    alloc: Global,
-    archive: &mut Archive<S>,
-    reports: Reports,
-    changed: u128,
 ) {
-    let mut count: u128 = 0;
-    for (number, update) in reports {
-        if add_report(rt, alloc, archive, *number, *update) {
-            count = count.saturating_add(1);
-        }
-    }
-    same(rt, count, changed);
+    let octets = message(rt, alloc, number, update);
+    same(
+        rt,
+        archive.add_message(octets.as_slice()),
+        answer_of(CHANGES),
+    );
 }

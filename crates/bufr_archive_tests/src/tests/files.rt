@@ -1,6 +1,4 @@
 //! Archives written and read back.
-ghost use Rattle.std.specs.Prelude.{◌≡◌};
-
 use super::samples::*;
 use super::*;
 use bufr_answers::Failure;
@@ -9,7 +7,7 @@ use std::io;
 use std::io::{ErrorKind, Write};
 use std::process::Abort;
 
-// A writer that takes so many octets, one in a write, and then fails.
+/// A writer that takes so many octets, one in a write, and then fails.
 struct Breaks {
     left: usize,
     taken: Vec<u8>,
@@ -32,7 +30,17 @@ impl Write for Breaks {
     }
 }
 
-// What is written of an archive to a writer that takes so many octets is the front of its text.
+/// What is answered where so many octets of a text of this length are taken.
+fn written_of(left: usize, length: usize) -> Result<(), ArchiveWriteFault> {
+    if left < length {
+        let written = left as u128;
+        Err(ArchiveWriteFault { written })
+    } else {
+        Ok(())
+    }
+}
+
+/// What is written of an archive to a writer that takes so many octets is the front of its text.
 fn write_some<S: Shelf>(
     rt: &impl Abort,
     alloc: Global,
@@ -45,32 +53,29 @@ fn write_some<S: Shelf>(
         taken: Vec::new(alloc),
     });
     let answer = archive.write(&mut sink);
+    same(rt, answer, written_of(left, text.len()));
     let Breaks { left: _, taken } = sink.into_inner();
-    let expected = if left < text.len() {
-        let written = left as u128;
-        Err(ArchiveWriteFault { written })
-    } else {
-        Ok(())
-    };
-    same(rt, answer, expected);
-    same(rt, taken.len(), left.min(text.len()));
-    assert!(rt; text.starts_with(taken.as_slice()), "{left}");
+    same(rt, taken.as_slice(), text.get(..left).unwrap_or(text));
 }
 
 /// Writes an archive of this text to writers that fail after each count of octets, or not.
 fn write_each_front<S: Shelf>(rt: &impl Abort, alloc: Global, archive: &Archive<S>, text: &[u8]) {
+    same(rt, text.len(), 186);
     for left in 0..189usize {
         write_some(rt, alloc, archive, text, left);
     }
 }
 
+/// Reports in order, the last of which has no key.
+const REPORTS: Reports<'static> = &[(300, 0), (384, 2), (1005, 0)];
+
 fn write_until_it_fails<S: Shelf>(rt: &impl Abort, alloc: Global) {
     let tables = tables(rt, alloc);
-    let reports = [(300, 0), (384, 2), (1005, 0)];
     let mut archive: Archive<S> = Archive::new(alloc, &tables);
-    add_reports(rt, alloc, &mut archive, &reports, 3);
-    let text = joined(rt, alloc, &reports);
-    same(rt, text.len(), 186);
+    for (number, update) in REPORTS {
+        add_report(rt, alloc, &mut archive, *number, *update);
+    }
+    let text = joined(rt, alloc, REPORTS);
     write_each_front(rt, alloc, &archive, text.as_slice());
 }
 
@@ -80,7 +85,7 @@ fn failing_writer(rt: HostRuntime) {
     write_until_it_fails::<SortedShelf>(&rt, rt.alloc());
 }
 
-// Where octets break, if they are no archive's text.
+/// Where octets break, if they are no archive's text.
 fn breaks_at<S: Shelf>(alloc: Global, tables: &Tables, octets: &[u8]) -> Option<u64> {
     match Archive::<S>::read(alloc, tables, octets) {
         Err(Failure::Fault(NotAnArchive { place })) => Some(place),
@@ -88,111 +93,104 @@ fn breaks_at<S: Shelf>(alloc: Global, tables: &Tables, octets: &[u8]) -> Option<
     }
 }
 
-/// The octets of three messages, joined.
-fn text_of(rt: &impl Abort, alloc: Global, messages: &[&str; 3]) -> Vec<u8> {
-    let mut text = Vec::new(alloc);
-    for message in messages {
-        let next = octets(rt, alloc, message);
-        text.extend_from_slice(next.as_slice()).expect(rt, "room");
-    }
-    text
-}
+/// Messages that are no archive's, and the start of the first that is not right.
+type Break<'a> = (Messages<'a>, u64);
 
-fn refused_at<S: Shelf>(rt: &impl Abort, alloc: Global, messages: [&str; 3], place: u64) {
+/// Messages are refused at their places.
+fn refuse_all<S: Shelf>(rt: &impl Abort, alloc: Global, rows: &[Break]) {
     let tables = tables(rt, alloc);
-    let text = text_of(rt, alloc, &messages);
-    let found = breaks_at::<S>(alloc, &tables, text.as_slice());
-    assert_eq!(rt; found, Some(place), "{messages:?}");
+    for (messages, place) in rows {
+        let text = text_of(rt, alloc, messages);
+        let found = breaks_at::<S>(alloc, &tables, text.as_slice());
+        same(rt, found, Some(*place));
+    }
 }
 
-fn refuse<S: Shelf>(rt: &impl Abort, alloc: Global) {
-    refused_at::<S>(rt, alloc, [MONTH_13, UPDATED, ""], 62);
-    refused_at::<S>(rt, alloc, [ROW_1, UPDATED, ""], 62);
-    refused_at::<S>(rt, alloc, [ROW_1, MONTH_13, MONTH_13], 124);
-    refused_at::<S>(rt, alloc, [OTHER_SUB_CENTRE, ROW_1, ""], 62);
-    refused_at::<S>(rt, alloc, [ROW_1, "00", MONTH_13], 62);
-    refused_at::<S>(rt, alloc, [ROW_1, EDITION_5, ""], 62);
-}
-
-// A message that is not canonical is no entry: compressed, of two subsets, with octets for local
-// use, with an octet after its data, or with a bit behind them that is not zero.
-fn refuse_not_canonical<S: Shelf>(rt: &impl Abort, alloc: Global) {
-    refused_at::<S>(rt, alloc, [COMPRESSED_PAIR, "", ""], 0);
-    refused_at::<S>(rt, alloc, [PAIR_OF_STATIONS, "", ""], 0);
-    refused_at::<S>(rt, alloc, [WITH_LOCAL_OCTETS, "", ""], 0);
-    refused_at::<S>(rt, alloc, [WITH_SLACK, "", ""], 0);
-    refused_at::<S>(rt, alloc, [ROW_1, WITH_SLACK, ""], 62);
-    refused_at::<S>(rt, alloc, [WITH_FILL_BIT, "", ""], 0);
-}
+/// A message that is not canonical is no entry: compressed, of two subsets, with octets for local
+/// use, with an octet after its data, or with a bit behind them that is not zero.
+const NOT_CANONICAL: &[Break<'static>] = &[
+    (&[COMPRESSED_PAIR], 0),
+    (&[PAIR_OF_STATIONS], 0),
+    (&[WITH_LOCAL_OCTETS], 0),
+    (&[WITH_SLACK], 0),
+    (&[ROW_1, WITH_SLACK], 62),
+    (&[WITH_FILL_BIT], 0),
+];
 
 #[test]
 fn not_canonical(rt: HostRuntime) {
-    refuse_not_canonical::<MapShelf>(&rt, rt.alloc());
-    refuse_not_canonical::<SortedShelf>(&rt, rt.alloc());
+    refuse_all::<MapShelf>(&rt, rt.alloc(), NOT_CANONICAL);
+    refuse_all::<SortedShelf>(&rt, rt.alloc(), NOT_CANONICAL);
 }
 
-// What is read of a text is written again.
-fn read_again<S: Shelf>(rt: &impl Abort, alloc: Global, count: usize, text: &[u8]) {
-    let tables = tables(rt, alloc);
-    let archive = Archive::<S>::read(alloc, &tables, text).expect(rt, "an archive");
+/// Messages in another order, and what is no message.
+const NOT_IN_ORDER: &[Break<'static>] = &[
+    (&[MONTH_13, UPDATED], 62),
+    (&[ROW_1, UPDATED], 62),
+    (&[ROW_1, MONTH_13, MONTH_13], 124),
+    (&[OTHER_SUB_CENTRE, ROW_1], 62),
+    (&[ROW_1, "00", MONTH_13], 62),
+    (&[ROW_1, EDITION_5], 62),
+];
+
+/// What is read of a text is written again.
+fn read_again<S: Shelf>(
+    rt: &impl Abort,
+    alloc: Global,
+    tables: &Tables,
+    count: usize,
+    text: &[u8],
+) {
+    let archive: Archive<S> = read_text(rt, alloc, tables, text);
     assert_text(rt, alloc, &archive, count, text);
 }
 
 /// A front of so many octets is read, or refused at the start of its last entry.
-fn read_front<S: Shelf>(
-    rt: &impl Abort,
-    alloc: Global,
-    tables: &Tables,
-    front: &[u8],
-    count: usize,
-) {
-    if count % 62 == 0 {
-        read_again::<S>(rt, alloc, count / 62, front);
+fn read_front<S: Shelf>(rt: &impl Abort, alloc: Global, tables: &Tables, front: &[u8]) {
+    let count = front.len() / 62;
+    if front.len() % 62 == 0 {
+        read_again::<S>(rt, alloc, tables, count, front);
     } else {
-        let place = (count / 62 * 62) as u64;
+        let place = (count * 62) as u64;
         same(rt, breaks_at::<S>(alloc, tables, front), Some(place));
     }
 }
 
-// Whole entries are read, and a part of one is refused at its start.
+/// Whole entries are read, and a part of one is refused at its start.
 fn read_each_front<S: Shelf>(rt: &impl Abort, alloc: Global) {
     let tables = tables(rt, alloc);
     let text = joined(rt, alloc, &[(300, 9), (384, 0), (1005, 0), (1007, 0)]);
     same(rt, text.len(), 248);
     for count in 0..249usize {
         let front = text.as_slice().get(..count).expect(rt, "a front");
-        read_front::<S>(rt, alloc, &tables, front, count);
+        read_front::<S>(rt, alloc, &tables, front);
     }
-    refuse::<S>(rt, alloc);
 }
 
 #[test]
 fn archive_not_in_order(rt: HostRuntime) {
     read_each_front::<MapShelf>(&rt, rt.alloc());
     read_each_front::<SortedShelf>(&rt, rt.alloc());
+    refuse_all::<MapShelf>(&rt, rt.alloc(), NOT_IN_ORDER);
+    refuse_all::<SortedShelf>(&rt, rt.alloc(), NOT_IN_ORDER);
 }
 
-/// Takes more into the archive from before.
-fn take_in_more<S: Shelf>(rt: &impl Abort, alloc: Global, archive: &mut Archive<S>) {
-    add_all(rt, alloc, archive, &[(MONTH_13, 1), (UPDATED, 1)]);
-    let all = format!(in alloc; "{UPDATED} {OTHER_SUB_CENTRE} {NEXT_STATION} {MONTH_13}");
-    assert_messages(rt, alloc, archive, 4, all.expect(rt, "room").as_str());
-}
+/// Messages in the order of stations, whose sub-centres fall, what is added to them, and what is
+/// held then.
+const BEFORE: Messages<'static> = &[OTHER_SUB_CENTRE, NEXT_STATION];
 
-/// The octets of the archive from before.
-fn text_from_before(rt: &impl Abort, alloc: Global) -> Vec<u8> {
-    let before = format!(in alloc; "{OTHER_SUB_CENTRE} {NEXT_STATION}").expect(rt, "room");
-    octets(rt, alloc, before.as_str())
-}
+const LATER: &[Add<'static>] = &[(MONTH_13, CHANGES), (UPDATED, CHANGES)];
 
-// An archive in the order of stations, whose sub-centres fall, is read as before, and takes in
-// more.
+const ALL: Messages<'static> = &[UPDATED, OTHER_SUB_CENTRE, NEXT_STATION, MONTH_13];
+
+/// Such an archive is read as before, and takes in more.
 fn read_and_add<S: Shelf>(rt: &impl Abort, alloc: Global) {
     let tables = tables(rt, alloc);
-    let text = text_from_before(rt, alloc);
+    let text = text_of(rt, alloc, BEFORE);
     let mut archive: Archive<S> = read_text(rt, alloc, &tables, text.as_slice());
-    assert_text(rt, alloc, &archive, 2, text.as_slice());
-    take_in_more(rt, alloc, &mut archive);
+    assert_messages(rt, alloc, &archive, BEFORE);
+    add_all(rt, alloc, &mut archive, LATER);
+    assert_messages(rt, alloc, &archive, ALL);
 }
 
 #[test]
@@ -201,74 +199,56 @@ fn archives_from_before(rt: HostRuntime) {
     read_and_add::<SortedShelf>(&rt, rt.alloc());
 }
 
-// A thousand stations in no order, all with this update number.
-fn thousand_of(rt: &impl Abort, alloc: Global, update: u8) -> Vec<(u16, u8)> {
-    let mut reports = Vec::new(alloc);
+/// Adds a thousand stations in no order, all with update number 1.
+fn add_thousand<S: Shelf>(rt: &impl Abort, alloc: Global, archive: &mut Archive<S>) {
     for place in 0..1000u16 {
         let number = (place as u32 * 389 % 1000) as u16;
-        reports.push((number, update)).expect(rt, "room");
+        add_report(rt, alloc, archive, number, 1);
     }
-    reports
 }
 
-// The text of a thousand stations, all with this update number.
+/// The text of a thousand stations, all with this update number.
 fn text_of_thousand(rt: &impl Abort, alloc: Global, update: u8) -> Vec<u8> {
-    let mut reports = Vec::new(alloc);
+    let mut text = Vec::new(alloc);
     for number in 0..1000u16 {
-        reports.push((number, update)).expect(rt, "room");
+        let next = message(rt, alloc, number, update);
+        text.extend_from_slice(next.as_slice()).expect(rt, "room");
     }
-    joined(rt, alloc, reports.as_slice())
+    text
 }
 
 /// The archive has a station's report with update number 1.
 fn assert_report<S: Shelf>(rt: &impl Abort, alloc: Global, archive: &Archive<S>, number: u16) {
     let found = archive.get(&key_of_number(number)).expect(rt, "there");
-    let expected = message(rt, alloc, number, 1);
-    assert!(rt; found == expected.as_slice());
+    same(rt, found, message(rt, alloc, number, 1).as_slice());
 }
 
-// A thousand stations are added, written and read back.
-fn a_thousand<S: Shelf>(rt: &impl Abort, alloc: Global) {
-    let tables = tables(rt, alloc);
-    let text = text_of_thousand(rt, alloc, 1);
+/// A thousand stations are added, written and read back.
+fn a_thousand<S: Shelf>(rt: &impl Abort, alloc: Global, text: &[u8]) {
     same(rt, text.len(), 62000);
-    let reports = thousand_of(rt, alloc, 1);
+    let tables = tables(rt, alloc);
     let mut archive: Archive<S> = Archive::new(alloc, &tables);
-    add_reports(rt, alloc, &mut archive, reports.as_slice(), 1000);
-    assert_text(rt, alloc, &archive, 1000, text.as_slice());
-    read_again::<S>(rt, alloc, 1000, text.as_slice());
+    add_thousand(rt, alloc, &mut archive);
+    assert_text(rt, alloc, &archive, 1000, text);
+    read_again::<S>(rt, alloc, &tables, 1000, text);
     assert_report(rt, alloc, &archive, 777);
 }
 
-// The archive of a text under tables.
-fn read_text<'t, S: Shelf>(
-    rt: &impl Abort,
-    alloc: Global,
-    tables: &'t Tables,
-    text: &[u8],
-) -> Archive<'t, S>
-    ensures { result.tables ≡ tables.now }
-{
-    Archive::read(alloc, tables, text).expect(rt, "an archive")
-}
-
-// A thousand stations are merged into as many with smaller update numbers.
-fn merge_a_thousand<S: Shelf>(rt: &impl Abort, alloc: Global) {
+/// A thousand stations are merged into as many with smaller update numbers.
+fn merge_a_thousand<S: Shelf>(rt: &impl Abort, alloc: Global, text: &[u8]) {
     let tables = tables(rt, alloc);
-    let text = text_of_thousand(rt, alloc, 1);
     let before = text_of_thousand(rt, alloc, 0);
-    let updates: Archive<S> = read_text(rt, alloc, &tables, text.as_slice());
+    let updates: Archive<S> = read_text(rt, alloc, &tables, text);
     let mut archive: Archive<S> = read_text(rt, alloc, &tables, before.as_slice());
     archive.merge(&updates).expect(rt, "room");
-    assert_text(rt, alloc, &archive, 1000, text.as_slice());
-    let copied = archive.copy().expect(rt, "room");
-    assert_text(rt, alloc, &copied, 1000, text.as_slice());
+    assert_copied(rt, alloc, &archive, 1000, text);
 }
 
 #[test]
 fn thousand_reports(rt: HostRuntime) {
-    a_thousand::<MapShelf>(&rt, rt.alloc());
-    a_thousand::<SortedShelf>(&rt, rt.alloc());
-    merge_a_thousand::<MapShelf>(&rt, rt.alloc());
-    merge_a_thousand::<SortedShelf>(&rt, rt.alloc());
+    let text = text_of_thousand(&rt, rt.alloc(), 1);
+    a_thousand::<MapShelf>(&rt, rt.alloc(), &text);
+    a_thousand::<SortedShelf>(&rt, rt.alloc(), &text);
+    merge_a_thousand::<MapShelf>(&rt, rt.alloc(), &text);
+    merge_a_thousand::<SortedShelf>(&rt, rt.alloc(), &text);
 }
