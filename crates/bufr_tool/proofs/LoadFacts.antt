@@ -9,7 +9,7 @@ use Rattle.bufr_io.specs.declared.fault.Input.TheVariants.{TableB, TableD}
 use Rattle.bufr_io.specs.declared.fault.ToolFault.{ToolFault}
 use Rattle.bufr_io.specs.declared.fault.ToolFault.TheVariants as faults
 use Rattle.bufr_io.specs.Engines.{HasFailed, IsEndless}
-use Rattle.bufr_tool.specs.Loads.{FailsAt, IsFaultOf, Loads, LoadsB, LoadsTable}
+use Rattle.bufr_tool.specs.Loads.{FailsAt, IsFaultOf, Loads, LoadsTable}
 
 -- Table B is not loaded
 pub stops_at_b : (reads : ℕ) (b b' d : Reading) (e : ToolFault)

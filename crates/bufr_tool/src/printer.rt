@@ -208,6 +208,38 @@ impl<'t> Printer<'t> {
         }
     }
 
+    /// Prints what the frame of these octets at this place was judged to spell, and answers whether
+    /// that is no message.
+    fn print_told<W: Sink>(
+        &mut self,
+        alloc: Global,
+        place: u64,
+        octets: &[u8],
+        judged: &Result<View<'_>, Failure<Refused>>,
+        writer: &mut W,
+    ) -> Result<bool, ToolFault>
+        requires works { (W.writing writer.old).failed ≡ false }
+        requires exact { Gives (λ d. d) judged.now (message_of self.old.templates octets.now) }
+        requires listed { IfOk judged.now (λ d. HasShortListing d.message) }
+        requires fits { self.old.written + 2 ^ 80 ≤ 2 ^ 128 }
+        requires lines { AreWholeLines self.old.held.items }
+        ensures prints { OnOk result (WritesAllBut self.new.held.items (self.old.held.items
+            ++ frame_text self.old.printing self.old.templates (frame_at place octets.now))
+            self.old.written self.new.written (W.writing writer.old) (W.writing writer.new)) }
+        ensures stops { IfErr result (λ fault. Adds
+            (frame_text self.old.printing self.old.templates (frame_at place octets.now))
+            self.old self.new (W.writing writer.old) (W.writing writer.new) (Err fault)) }
+        ensures told { IfOk result (λ refused. from_bool refused
+            ≡ frame_refused self.old.templates (frame_at place octets.now)) }
+        ensures keeps { Keeps self.old self.new }
+        ensures short { self.new.written + 2 ^ 64 ≤ self.old.written + 2 ^ 80 }
+    {
+        match self.print_judged(alloc, place, octets, judged, writer) {
+            Ok(()) => Ok(judged.is_err()),
+            Err(fault) => Err(fault),
+        }
+    }
+
     /// Prints the frame of these octets at this place, and answers whether it spells no message.
     fn print_message<W: Sink>(
         &mut self,
@@ -232,10 +264,7 @@ impl<'t> Printer<'t> {
     {
         listings_are_short();
         let judged = &self.templates.view(alloc, octets);
-        match self.print_judged(alloc, place, octets, judged, writer) {
-            Ok(()) => Ok(judged.is_err()),
-            Err(fault) => Err(fault),
-        }
+        self.print_told(alloc, place, octets, judged, writer)
     }
 
     /// Counts the frame of these octets, which spells a message or none.

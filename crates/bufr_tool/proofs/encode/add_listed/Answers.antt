@@ -2,7 +2,6 @@
 use Rattle.std.proofs.Common.{◌∙◌}
 use Rattle.bufr_answers.specs.Answers.{result_map}
 use Rattle.bufr_tool.specs.Encoding.{EncodesListing}
-use Rattle.bufr_tool.specs.declared.encode.Encoded.{Encoded}
 use Rattle.bufr_tool.proofs.PrintingFacts.{passed}
 use Rattle.bufr_tool.proofs.EncodingFacts.{none_encoded, one_encoded, all_encoded}
 use Rattle.bufr_tool.proofs.EncodingFacts.{reading_stopped, encoding_stopped}

@@ -1,6 +1,6 @@
 -- For `print_frame`: the frame as it was printed, counted, and then what is held is written where it
 -- is long.
-use Rattle.std.proofs.Common.{◌+◌, ◌++◌, ap, subst, sym, arith, Err, ◌∙◌}
+use Rattle.std.proofs.Common.{◌++◌, ap, subst, sym, arith}
 use Rattle.bufr_collect.specs.Taking.{frame_at}
 use Rattle.bufr_tool.specs.declared.printer.Printer.{Printer}
 use Rattle.bufr_tool.specs.Lines.{AreWholeLines}
