@@ -31,13 +31,14 @@ use Rattle.bufr_io.specs.Limits.{most_reads}
 use Rattle.bufr_collect.specs.declared.counts.Counts.{Counts}
 use Rattle.bufr_archive.specs.StreamsTold.{all_told}
 use Rattle.bufr_collect.specs.Collected.{frames_of, refused_of, collected_text, collected_tally}
-use Rattle.bufr_collect.specs.Collected.{AreTextsOf, all_of, merged_text}
+use Rattle.bufr_collect.specs.Collected.{AreTextsOf, all_of}
 use Rattle.bufr_collect.specs.Readers.{AreFresh, AreReadAtMost, WereReadOut, EndsAt}
 use Rattle.bufr_collect.specs.Collects.{AllReadOut, StreamsEndAt, Collects, AllArchives}
 use Rattle.bufr_collect.specs.Collects.{ArchivesEndAt, IsNoArchive, Merges}
 use Rattle.bufr_collect.specs.Taking.{EndsEarly, unread, at_piece, at_end, TakesStream}
 use Rattle.bufr_collect.specs.Adds.{reports_of_frames, HasAdded, HasAddedSince, AddsStreams}
 use Rattle.bufr_collect.specs.Adds.{ReadsArchive, MergesReaders}
+use Rattle.bufr_collect.specs.Parts.{WritesArchive}
 use Rattle.bufr_collect.proofs.FrameFacts.{archive_with, kept_more}
 use Rattle.bufr_collect.proofs.ReaderFacts.{Through, Reached, through_first, through_all}
 use Rattle.bufr_collect.proofs.ReaderFacts.{through_more, ends_here, at_most_fresh, at_most_set}
@@ -398,54 +399,45 @@ as_many_readers (o ∷ old) (n ∷ new) [] out = absurd out
 
 -- without a fault
 pub merges_ok : (tables : Entries) (reads : ℕ) (old new : List Reading) (writer writer' : Writing)
-    (archive : ArchiveView) (octets : List ℕ) (frames reports : ℕ)
-    → MergesReaders tables reads old new (Ok archive) → octets ≡ text archive.entries
-    → frames ≡ length new → reports ≡ length archive.entries → WritesAll writer writer' octets
+    (archive : ArchiveView) (frames reports : ℕ)
+    → MergesReaders tables reads old new (Ok archive) → frames ≡ length new
+    → WritesArchive archive writer writer' (Ok reports)
     → Merges tables reads old new writer writer' (Ok (counted frames 0 reports))
-merges_ok tables reads old new writer writer' archive octets frames reports m is many count writes =
+merges_ok tables reads old new writer writer' archive frames reports m many writes =
     let lists = m.2 in
     let held = m.4 in (
       m.0,
       m.1,
       lists,
       m.3,
-      subst (WritesAll writer writer') (is ∙ ap (λ (a : ArchiveView). text a.entries) held) writes,
+      subst (WritesAll writer writer') (ap (λ (a : ArchiveView). text a.entries) held) writes.0,
       ap (λ (n : ℕ). counted n 0 reports)
           (many ∙ as_many_readers old new m.0 m.1 ∙ sym (as_many_lists tables m.0 lists m.3))
           ∙ ap (λ (n : ℕ). counted (length lists) 0 n)
-          (count ∙ ap (λ (a : ArchiveView). length a.entries) held),
+          (writes.1 ∙ ap (λ (a : ArchiveView). length a.entries) held),
     )
 
--- the writer failed
+-- the writer failed, or memory ran out
 pub merges_fails : (tables : Entries) (reads : ℕ) (old new : List Reading)
-    (writer writer' : Writing) (archive : ArchiveView) (octets : List ℕ) (e : ToolFault)
-    → MergesReaders tables reads old new (Ok archive) → octets ≡ text archive.entries
-    → WritesAfter 0 octets writer writer' (Err e)
+    (writer writer' : Writing) (archive : ArchiveView) (e : ToolFault)
+    → MergesReaders tables reads old new (Ok archive)
+    → WritesArchive archive writer writer' (Err e)
     → Merges tables reads old new writer writer' (Err e)
-merges_fails tables reads old new writer writer' archive octets
-    (faults.WriteFailed written) m is w =
-    let same : written ≡ w.0 = omega (arith, w.1) in (
-      m.0,
-      m.1,
-      m.2,
-      m.3,
-      subst (λ (n : ℕ). FailsAfter n writer writer' (merged_text tables m.2)) (sym same)
-          (subst (FailsAfter w.0 writer writer')
-          (is ∙ ap (λ (a : ArchiveView). text a.entries) m.4) w.2),
-    )
-merges_fails tables reads old new writer writer' archive octets (faults.ReadFailed source) m is w =
+merges_fails tables reads old new writer writer' archive (faults.WriteFailed written) m w = (
+  m.0,
+  m.1,
+  m.2,
+  m.3,
+  subst (FailsAfter written writer writer') (ap (λ (a : ArchiveView). text a.entries) m.4) w,
+)
+merges_fails tables reads old new writer writer' archive faults.OutOfMemory m w = w
+merges_fails tables reads old new writer writer' archive (faults.ReadFailed source) m w = absurd w
+merges_fails tables reads old new writer writer' archive (faults.EndlessInput source) m w = absurd w
+merges_fails tables reads old new writer writer' archive (faults.Table source fault) m w = absurd w
+merges_fails tables reads old new writer writer' archive (faults.Listing why) m w = absurd w
+merges_fails tables reads old new writer writer' archive (faults.Encode number why) m w = absurd w
+merges_fails tables reads old new writer writer' archive (faults.NotAnArchive input place) m w =
     absurd w
-merges_fails tables reads old new writer writer' archive octets
-    (faults.EndlessInput source) m is w = absurd w
-merges_fails tables reads old new writer writer' archive octets faults.OutOfMemory m is w = absurd w
-merges_fails tables reads old new writer writer' archive octets (faults.Table source fault) m is w =
-    absurd w
-merges_fails tables reads old new writer writer' archive octets (faults.Listing why) m is w =
-    absurd w
-merges_fails tables reads old new writer writer' archive octets (faults.Encode number why) m is w =
-    absurd w
-merges_fails tables reads old new writer writer' archive octets
-    (faults.NotAnArchive input place) m is w = absurd w
 
 -- it ended at a reader, or memory ran out
 pub merges_ends : (tables : Entries) (reads : ℕ) (old new : List Reading) (writer : Writing)

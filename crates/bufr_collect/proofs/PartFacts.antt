@@ -1,4 +1,4 @@
--- Octets that are written part by part: the steps of `hand_on`, and those of `run_add` and `run_merge`
+-- Octets that are written part by part: the steps of `hand_on`, and those of `run_add` and `write_merged`
 -- from entry to entry.
 use Rattle.std.proofs.Common.{◌≡◌, ℕ, ◌+◌, ◌*◌, ◌<◌, ◌≤◌, List, [], ◌∷◌, ◌++◌, length, map, false}
 use Rattle.std.proofs.Common.{Result, Ok, Err, refl, sym, ap, ◌∙◌, subst, arith, length-append}
@@ -11,9 +11,10 @@ use Rattle.bufr_io.specs.declared.fault.ToolFault.TheVariants as faults
 use Rattle.bufr_io.specs.Engines.{WritesAll, WritesAfter, FailsAfter}
 use Rattle.bufr_io.specs.WritingLaws.{writes_none, writes_more, fails_more, fails_longer}
 use Rattle.bufr_shelves.specs.declared.entry.Entry.{Entry}
+use Rattle.bufr_archive.specs.Archives.{ArchiveView}
 use Rattle.bufr_archive.specs.Texts.{text}
 use Rattle.bufr_collect.specs.declared.parts.Part.{Part}
-use Rattle.bufr_collect.specs.Parts.{Gathers, joined}
+use Rattle.bufr_collect.specs.Parts.{Gathers, WritesArchive, joined}
 
 -- ---- one step
 
@@ -200,3 +201,19 @@ handed_fails first mid now part all left rest octets e h is w =
     ∙ ap (λ (xs : List ℕ). (xs ++ octets) ++ joined rest) (sym h.gathered.all)
     ∙ ap (λ (xs : List ℕ). xs ++ joined rest)
     (append_assoc h.gathered.out part.octets.items octets)) w
+
+-- the writer failed after a front of the text of an archive
+pub archive_fails : (old new : Writing) (archive : ArchiveView) (octets : List ℕ) (e : ToolFault)
+    → octets ≡ text archive.entries → WritesAfter 0 octets old new (Err e)
+    → WritesArchive archive old new (Err e)
+archive_fails old new archive octets (faults.WriteFailed written) is w =
+    let same : written ≡ w.0 = omega (arith, w.1) in
+    subst (λ (n : ℕ). FailsAfter n old new (text archive.entries)) (sym same)
+    (subst (FailsAfter w.0 old new) is w.2)
+archive_fails old new archive octets (faults.ReadFailed source) is w = absurd w
+archive_fails old new archive octets (faults.EndlessInput source) is w = absurd w
+archive_fails old new archive octets faults.OutOfMemory is w = absurd w
+archive_fails old new archive octets (faults.Table source fault) is w = absurd w
+archive_fails old new archive octets (faults.Listing why) is w = absurd w
+archive_fails old new archive octets (faults.Encode number why) is w = absurd w
+archive_fails old new archive octets (faults.NotAnArchive input place) is w = absurd w

@@ -1,4 +1,4 @@
--- Texts merged from the uppermost on: for `settle`, `merge_readers` and `run_merge`.
+-- Texts merged from the uppermost on: for `settle`, `merge_readers` and `merge_upper`.
 use Rattle.std.proofs.Common.{◌≡◌, List, [], ◌∷◌, ◌++◌, Option, Some, None, refl, sym}
 use Rattle.std.proofs.Common.{ap, subst, ◌∙◌, append_assoc}
 use Rattle.std.proofs.lemmas.List.{append-nil}

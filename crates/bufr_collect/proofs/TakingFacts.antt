@@ -1,12 +1,12 @@
--- The frames of a stream taken in as its pieces come: the steps of `take_stream`, for the contracts of
--- all engines over streams.
+-- The frames of a stream taken in as its pieces come: the steps of `take_frames`, `take_piece`,
+-- `take_rest` and `take_stream`, for the contracts of all engines over streams.
 use Rattle.std.proofs.Common.{◌≡◌, ℕ, ◌+◌, ◌^◌, ◌<◌, ◌≤◌, Option, Some, IfSome, IsErrAnd}
 use Rattle.std.proofs.Common.{List, [], ◌∷◌, ◌++◌, length, take, drop, get_or, Result, Ok, Err}
 use Rattle.std.proofs.Common.{refl, sym, ap, ◌∙◌, subst, arith, length-append, append_assoc}
 use Rattle.std.proofs.Common.{take-append-drop}
 use Rattle.std.proofs.lemmas.List.{drop_more, take_more}
 use Rattle.std.proofs.lemmas.List.Sums.{sum_by-append}
-use Rattle.std.specs.Prelude.{sum_by}
+use Rattle.std.specs.Prelude.{sum_by, OnOk, IfErr}
 use Rattle.bufr_bits.specs.Devices.{Reading}
 use Rattle.bufr_frame.specs.declared.frames.Found.{Found}
 use Rattle.bufr_frame.specs.Framings.{Framing}
@@ -24,7 +24,7 @@ use Rattle.bufr_io.specs.declared.input.Pieces.{Pieces}
 use Rattle.bufr_io.specs.Engines.{IsFresh}
 use Rattle.bufr_io.specs.Inputs.{HasRead, ReadsOn}
 use Rattle.bufr_io.specs.ReadingLaws.{HasRead_none}
-use Rattle.bufr_collect.specs.Taking.{frame_at, AreFew, StopsAmong, HasSure}
+use Rattle.bufr_collect.specs.Taking.{frame_at, AreFew, StopsAmong, HasSure, TakesPiece}
 
 -- ---- so few frames
 
@@ -229,3 +229,32 @@ pub passed : {A F : Type 0} (P : Result A F → Type 0) (r : Result A F) (e : F)
     → IsErrAnd r (λ y. y ≡ e) → P (Err e) → P r
 passed P (Ok x) e is p = absurd is
 passed P (Err y) e is p = subst (λ z. P (Err z)) (sym is) p
+
+-- what follows where a call was done
+pub ok_of : {A E : Type 0} (r : Result A E) (P Q : Type 0) → OnOk r P → (P → Q) → OnOk r Q
+ok_of (Ok x) P Q p f = f p
+ok_of (Err e) P Q p f = p
+
+-- and where it was not
+pub err_of : {A E : Type 0} (r : Result A E) (P Q : E → Type 0) → IfErr r P
+    → ((e : E) → P e → Q e) → IfErr r Q
+err_of (Ok x) P Q p f = p
+err_of (Err e) P Q p f = f e p
+
+-- no frame more is sure, and the piece has ended
+pub piece_ends : (Taken Taken' : List Found → Type 0) (HoldsNone : Type 0)
+    (Stopped : List Found → ToolFault → Type 0) (before after : Framing) (stream rest : List ℕ)
+    (r : Result (Unit {0}) ToolFault) → (a : Amid Taken before stream rest)
+    → IsNoFrame before rest → StandsAfter before after rest 0 → OnOk r (Taken' a.frames)
+    → OnOk r HoldsNone → IfErr r (Stopped a.frames)
+    → TakesPiece Taken' HoldsNone Stopped after stream r
+piece_ends Taken Taken' HoldsNone Stopped before after stream rest (Ok done) a last stands taken none
+    stopped = (amid_none Taken Taken' before after stream rest a last stands taken, none)
+piece_ends Taken Taken' HoldsNone Stopped before after stream rest (Err e) a last stands taken none
+    stopped = amid_stopped Stopped before stream rest a.frames e a.taking stopped
+
+-- a stream with a piece more is short
+pub piece_short : (framer : Framing) (stream piece : List ℕ) (out : ℕ) → Stands framer stream out
+    → framer.fed + length piece ≤ 2 ^ 48 → length (stream ++ piece) ≤ 2 ^ 48
+piece_short framer stream piece out stands room =
+    omega (arith, stands.fed, room, length-append stream piece)

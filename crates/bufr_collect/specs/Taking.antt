@@ -31,10 +31,24 @@ pub record StopsAmong (Stopped : List Found → ToolFault → Type 0) (frames : 
   pub parted : frames ≡ front ++ rest
   pub stopped : Stopped front fault
 
+-- it took in these frames, or stopped among them
+abbrev pub TakesAll : (List Found → Type 0) → (List Found → ToolFault → Type 0) → List Found
+    → Result (Unit {0}) ToolFault → Type 0
+TakesAll Taken Stopped frames (Ok done) = Taken frames
+TakesAll Taken Stopped frames (Err fault) = StopsAmong Stopped frames fault
+
 -- of this stream all sure frames were handed out, and it took them in
 pub record HasSure (Taken : List Found → Type 0) (framer : Framing) (stream : List ℕ) : Type 0 where
   pub handed : HandedOut framer stream (sure stream)
   pub taken : Taken (sure stream)
+
+-- and it holds nothing back; or it stopped among these frames
+abbrev pub TakesPiece : (List Found → Type 0) → Type 0 → (List Found → ToolFault → Type 0) → Framing
+    → List ℕ → Result (Unit {0}) ToolFault → Type 0
+TakesPiece Taken HoldsNone Stopped framer stream (Ok done) =
+    HasSure Taken framer stream × HoldsNone
+TakesPiece Taken HoldsNone Stopped framer stream (Err fault) =
+    StopsAmong Stopped (sure stream) fault
 
 -- Why a stream was not taken in to its end: no piece could be read behind these octets, whose sure
 -- frames it has, and it holds nothing back; or it stopped among the sure frames of what was read

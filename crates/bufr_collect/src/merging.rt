@@ -4,17 +4,19 @@ ghost use Rattle.std.specs.Prelude.{◌≡◌, ◌≤◌, false, map, IfOk};
 ghost use Rattle.bufr_answers.specs.Answers.{result_map};
 ghost use Rattle.bufr_io.specs.Engines.{IsFresh};
 ghost use Rattle.bufr_io.specs.Limits.{most_reads};
+ghost use Rattle.bufr_archive.specs.Archives.{merged};
 ghost use Rattle.bufr_collect.specs.Adds.{ReadsArchive, MergesReaders};
 ghost use Rattle.bufr_collect.specs.Collects.{Merges};
+ghost use Rattle.bufr_collect.specs.Parts.{WritesArchive};
 ghost use Rattle.bufr_collect.specs.Readers.{AreFresh, AreReadAtMost};
 ghost use Rattle.bufr_collect.specs.Stacks.{together, AreUnderTables};
 
-use crate::parts::{Part, hand_on};
-use crate::text_stack::settle;
+use crate::parts::{Part, write_merged};
+use crate::text_stack::{merge_upper, settle};
 use bufr_answers::Failure;
 use bufr_archive::{ArchiveText, NotAnArchive};
 use bufr_bits::{Sink, Source};
-use bufr_io::{Input, Tally, ToolFault, read_all, room, write_out};
+use bufr_io::{Input, Tally, ToolFault, read_all, room};
 use bufr_tables::Tables;
 use std::alloc::Global;
 
@@ -72,6 +74,30 @@ fn merge_readers<'t, S: Source>(
     Ok(texts)
 }
 
+/// Writes the text of an archive of what two texts hold, and answers how many reports that has.
+fn write_both<'t, W: Sink>(
+    alloc: Global,
+    lowest: &ArchiveText<'t>,
+    upper: &ArchiveText<'t>,
+    writer: &mut W,
+) -> Result<u128, ToolFault>
+    requires same { lowest.now.tables ≡ upper.now.tables }
+    requires works { (W.writing writer.old).failed ≡ false }
+    ensures { WritesArchive (merged lowest.now upper.now) (W.writing writer.old)
+        (W.writing writer.new) result }
+{
+    let mut left = lowest.merged_with(alloc, upper)?;
+    let reports = left.len() as u128;
+    let mut room = room(alloc)?;
+    room.clear();
+    let mut part = Part {
+        octets: room,
+        written: 0,
+    };
+    write_merged(&mut left, &mut part, writer)?;
+    Ok(reports)
+}
+
 /// Reads the archives of all readers, each of which is judged before the next is read, and then
 /// writes the text of an archive of the reports of all. Nothing is held but texts (`ArchiveText`). The
 /// first that is no archive is told, with the start of its first entry that is not right. Nothing is
@@ -90,27 +116,9 @@ pub fn run_merge<S: Source, W: Sink>(
     ensures merges { Merges tables.now reads (map S.reading readers.old)
         (map S.reading readers.new) (W.writing writer.old) (W.writing writer.new) result }
 {
-    let mut texts = merge_readers(alloc, reads, tables, readers)?;
-    // The lowest text of those that were taken, and what those above it hold together.
-    let mut lowest = ArchiveText::new(alloc, tables);
-    let mut upper = ArchiveText::new(alloc, tables);
-    while let Some(below) = texts.pop() {
-        lowest.merge(alloc, upper)?;
-        upper = lowest;
-        lowest = below;
-    }
-    let mut left = lowest.merged_with(alloc, &upper)?;
-    let reports = left.len() as u128;
-    let mut room = room(alloc)?;
-    room.clear();
-    let mut part = Part {
-        octets: room,
-        written: 0,
-    };
-    while let Some(octets) = left.next() {
-        hand_on(writer, &mut part, octets)?;
-    }
-    write_out(writer, part.written, &part.octets)?;
+    let texts = merge_readers(alloc, reads, tables, readers)?;
+    let (lowest, upper) = merge_upper(alloc, tables, texts)?;
+    let reports = write_both(alloc, &lowest, &upper, writer)?;
     Ok(Tally {
         frames: readers.len() as u128,
         refused: 0,

@@ -1,12 +1,13 @@
 //! Writing the octets of entries, part by part.
 
-ghost use Rattle.std.specs.Prelude.{◌≡◌, ◌+◌, ◌≤◌, ◌<◌, ◌^◌, ◌++◌, false, vec_len, length};
+ghost use Rattle.std.specs.Prelude.{◌≡◌, ◌+◌, ◌≤◌, ◌<◌, ◌^◌, ◌++◌, false, [], vec_len, length};
 ghost use Rattle.std.specs.Vec.{vec_capacity};
 ghost use Rattle.bufr_io.specs.Engines.{WritesAfter};
-ghost use Rattle.bufr_collect.specs.Parts.{HandsOn};
+ghost use Rattle.bufr_collect.specs.Parts.{HandsOn, joined};
 
+use bufr_archive::MergedOctets;
 use bufr_bits::Sink;
-use bufr_io::{ToolFault, write_after};
+use bufr_io::{ToolFault, write_after, write_out};
 
 /// Octets that were gathered to be written, and how many were written before them.
 #[derive(Drop)]
@@ -44,4 +45,23 @@ pub(crate) fn hand_on<W: Sink>(
     write_after(writer, part.written, octets)?;
     part.written += long;
     Ok(())
+}
+
+/// Writes the octets of entries of two texts merged, one after the other by way of a part that has
+/// none yet, and hands them on. It takes no memory.
+pub(crate) fn write_merged<W: Sink>(
+    left: &mut MergedOctets<'_>,
+    part: &mut Part,
+    writer: &mut W,
+) -> Result<(), ToolFault>
+    requires works { (W.writing writer.old).failed ≡ false }
+    requires begins { part.old.written ≡ 0 }
+    requires empty { part.old.octets.items ≡ [] }
+    requires few { length left.old < 2 ^ 64 }
+    ensures { WritesAfter 0 (joined left.old) (W.writing writer.old) (W.writing writer.new) result }
+{
+    while let Some(octets) = left.next() {
+        hand_on(writer, part, octets)?;
+    }
+    write_out(writer, part.written, &part.octets)
 }

@@ -1,12 +1,14 @@
 //! The frames of a stream, read to its end and handed on one after the other.
 
-ghost use Rattle.std.specs.Prelude.{◌≡◌, ◌≤◌, ◌<◌, ◌+◌, ◌*◌, ◌++◌, ◌∷◌, [], ℕ, List, length};
+ghost use Rattle.std.specs.Prelude.{◌≡◌, ◌≤◌, ◌<◌, ◌+◌, ◌*◌, ◌^◌, ◌++◌, ◌∷◌, [], ℕ, List, length};
 ghost use Rattle.std.specs.Prelude.{OnOk, IfErr};
 ghost use Rattle.bufr_frame.specs.declared.frames.Found.{Found as FoundFrame};
+ghost use Rattle.bufr_frame.specs.Streams.{cut};
 ghost use Rattle.bufr_io.specs.declared.fault.ToolFault.{ToolFault as ToolFaultKind};
 ghost use Rattle.bufr_io.specs.Engines.{IsFresh};
 ghost use Rattle.bufr_io.specs.Limits.{most_reads, longest_piece};
-ghost use Rattle.bufr_collect.specs.Taking.{frame_at, AreFew, TakesStream};
+ghost use Rattle.bufr_collect.specs.Taking.{frame_at, AreFew, HasSure, TakesAll, TakesPiece};
+ghost use Rattle.bufr_collect.specs.Taking.{TakesStream};
 
 use bufr_bits::Source;
 use bufr_frame::{Framer, NextFrame};
@@ -73,9 +75,62 @@ pub trait TakesFrames<O> {
         → count self out ≡ count first begin + length frames };
 }
 
+/// Takes in the frames that are sure with a piece of a stream. One that lies whole in the piece is
+/// not copied.
+fn take_piece<O, T: TakesFrames<O>>(
+    alloc: Global,
+    piece: &[u8],
+    framer: &mut Framer,
+    taker: &mut T,
+    out: &mut O,
+) -> Result<(), ToolFault>
+    requires so_far { (first : T) × (begin : O) × (stream : List ℕ)
+        × HasSure (T.HasTaken first begin taker.old out.old) framer.old stream }
+    requires room { framer.old.fed + length piece.now ≤ 2 ^ 48 }
+    ensures { (first : T) (begin : O) (stream : List ℕ)
+        → HasSure (T.HasTaken first begin taker.old out.old) framer.old stream
+        → TakesPiece (T.HasTaken first begin taker.new out.new) (T.HoldsNone taker.new out.new)
+        (T.HasStopped first begin taker.new out.new) framer.new (stream ++ piece.now) result }
+{
+    let mut rest = piece;
+    loop {
+        let Ok(NextFrame { found, rest: left }) = framer.next_frame(rest) else {
+            return Err(taker.halt(out));
+        };
+        let Some(frame) = found else {
+            return taker.end_piece(out);
+        };
+        taker.take_frame(alloc, frame.place(), frame.as_slice(), out)?;
+        rest = left;
+    }
+}
+
+/// Ends a stream, and takes in the frames that are left.
+fn take_rest<O, T: TakesFrames<O>>(
+    alloc: Global,
+    framer: &mut Framer,
+    taker: &mut T,
+    out: &mut O,
+) -> Result<(), ToolFault>
+    requires so_far { (first : T) × (begin : O) × (stream : List ℕ)
+        × HasSure (T.HasTaken first begin taker.old out.old) framer.old stream }
+    requires long { framer.old.fed ≤ 2 ^ 48 }
+    ensures { (first : T) (begin : O) (stream : List ℕ)
+        → HasSure (T.HasTaken first begin taker.old out.old) framer.old stream
+        → TakesAll (T.HasTaken first begin taker.new out.new)
+        (T.HasStopped first begin taker.new out.new) (cut stream) result }
+{
+    let Ok(frames) = framer.finish() else {
+        return Err(taker.halt(out));
+    };
+    for frame in &frames {
+        taker.take_frame(alloc, frame.place, frame.bytes.as_slice(), out)?;
+    }
+    Ok(())
+}
+
 /// Reads the stream of a reader to its end through some room, and hands on each of its frames as
-/// soon as it is sure. One that lies whole in a piece is not copied. Behind each piece nothing is
-/// held back. Answers how many octets were read.
+/// soon as it is sure. Behind each piece nothing is held back. Answers how many octets were read.
 pub fn take_stream<O, S: Source, T: TakesFrames<O>>(
     alloc: Global,
     reads: u64,
@@ -99,25 +154,9 @@ pub fn take_stream<O, S: Source, T: TakesFrames<O>>(
     let mut framer = Framer::new(alloc);
     let mut pieces = Pieces::new(reads, source);
     while let Some(piece) = pieces.next(reader, &mut *room)? {
-        let mut rest = piece;
-        loop {
-            let Ok(NextFrame { found, rest: left }) = framer.next_frame(rest) else {
-                return Err(taker.halt(out));
-            };
-            let Some(frame) = found else {
-                break;
-            };
-            taker.take_frame(alloc, frame.place(), frame.as_slice(), out)?;
-            rest = left;
-        }
-        taker.end_piece(out)?;
+        take_piece(alloc, piece, &mut framer, taker, out)?;
     }
     let long = framer.fed();
-    let Ok(frames) = framer.finish() else {
-        return Err(taker.halt(out));
-    };
-    for frame in &frames {
-        taker.take_frame(alloc, frame.place, frame.bytes.as_slice(), out)?;
-    }
+    take_rest(alloc, &mut framer, taker, out)?;
     Ok(long)
 }

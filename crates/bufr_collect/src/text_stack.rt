@@ -2,7 +2,7 @@
 //! the one above it, or still more. So each report is merged a few times, however many archives
 //! come, and nothing is held beside the texts.
 
-ghost use Rattle.std.specs.Prelude.{◌≡◌, ◌++◌, OnOk};
+ghost use Rattle.std.specs.Prelude.{◌≡◌, ◌++◌, IfOk, OnOk};
 ghost use Rattle.std.specs.Option.{option_to_list};
 ghost use Rattle.bufr_archive.specs.Archives.{merged};
 ghost use Rattle.bufr_collect.specs.Stacks.{together, AreUnderTables};
@@ -44,4 +44,26 @@ pub(crate) fn settle<'t>(
     }
     texts.push(top)?;
     Ok(())
+}
+
+/// The lowest of texts, and what those above it hold together, merged from the uppermost on. Where
+/// there are fewer than two, the others have no reports. It can only run out of memory.
+pub(crate) fn merge_upper<'t>(
+    alloc: Global,
+    tables: &'t Tables,
+    mut texts: Vec<ArchiveText<'t>>,
+) -> Result<(ArchiveText<'t>, ArchiveText<'t>), OutOfMemory>
+    requires { AreUnderTables tables.now texts.items }
+    ensures same { IfOk result (λ two. two.0.tables ≡ two.1.tables) }
+    ensures all { IfOk result (λ two.
+        merged two.0 two.1 ≡ together tables.now texts.entry.items) }
+{
+    let mut lowest = ArchiveText::new(alloc, tables);
+    let mut upper = ArchiveText::new(alloc, tables);
+    while let Some(below) = texts.pop() {
+        lowest.merge(alloc, upper)?;
+        upper = lowest;
+        lowest = below;
+    }
+    Ok((lowest, upper))
 }

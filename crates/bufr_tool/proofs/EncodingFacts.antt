@@ -1,4 +1,4 @@
--- What the loop of `octets_of` over the messages of a text keeps, and what it answers at each of its
+-- What the loop of `add_listed` over the messages of a text keeps, and what it answers at each of its
 -- ends: for the contract of `run_encode`.
 use Rattle.std.proofs.Common.{◌≡◌, ℕ, ◌+◌, ◌≤◌, Bool, List, [], ◌∷◌, ◌++◌, length, Result, Ok, Err}
 use Rattle.std.proofs.Common.{refl, sym, ap, ap₂, ◌∙◌, subst, arith}

@@ -8,5 +8,6 @@ mod PrintingFacts
 mod StreamFacts
 mod EngineFacts
 mod EncodingFacts
+mod LoadFacts
 mod OpenFacts
 mod OnLiterals

@@ -1,4 +1,4 @@
--- What is printed of a stream: the steps of `take_frame`, `end_piece`, `halt` and `print_stream`, and
+-- What is printed of a stream: the steps of `take_frame`, `end_piece`, `halt` and `print_tally`, and
 -- so of the contracts of `run_show` and `run_check`.
 use Rattle.std.proofs.Common.{◌≡◌, ℕ, ◌+◌, ◌^◌, ◌<◌, false, List, [], ◌∷◌, ◌++◌, length}
 use Rattle.std.proofs.Common.{Result, Ok, Err, OnOk, sym, ap, append_assoc}

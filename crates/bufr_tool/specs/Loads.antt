@@ -1,5 +1,5 @@
 -- What loading the two table files answers.
-use Rattle.std.specs.Prelude.{◌≡◌, ℕ, IfSome, Result, Ok, Err, IsOk}
+use Rattle.std.specs.Prelude.{◌≡◌, ℕ, List, IfSome, Result, Ok, Err, IsOk}
 use Rattle.bufr_bits.specs.Devices.{Reading}
 use Rattle.bufr_tables.specs.declared.table_faults.TableFault.{TableFault}
 use Rattle.bufr_tables.specs.Entries.{Entries}
@@ -40,3 +40,18 @@ Loads reads b b' d d' (Err (faults.EndlessInput source)) = FailsAt source
 Loads reads b b' d d' (Err (faults.Table source fault)) = IsFaultOf source fault b b' d d'
 Loads reads b b' d d' (Err faults.OutOfMemory) = Unit {0}
 Loads reads b b' d d' (Err fault) = ⊥
+
+-- ---- one file
+
+-- what a file that is read to its end is parsed as, or why there is no table
+abbrev pub LoadsTable : {T : Type 0} → (List ℕ → Result T TableFault) → Input → ℕ → Reading
+    → Reading → Result T ToolFault → Type 0
+LoadsTable parse source reads r r' (Ok table) = WasReadOut r'
+    × IfSome r.left (λ text. parse text ≡ Ok table)
+LoadsTable parse source reads r r' (Err (faults.ReadFailed which)) = (which ≡ source) × HasFailed r'
+LoadsTable parse source reads r r' (Err (faults.EndlessInput which)) = (which ≡ source)
+    × IsEndless reads r'
+LoadsTable parse source reads r r' (Err (faults.Table which fault)) = (which ≡ source)
+    × WasReadOut r' × IfSome r.left (λ text. parse text ≡ Err fault)
+LoadsTable parse source reads r r' (Err faults.OutOfMemory) = Unit {0}
+LoadsTable parse source reads r r' (Err fault) = ⊥

@@ -254,9 +254,7 @@ fn add_all<R: Files, S: Source, O: Write + Drop>(
     // No memory is asked for once the archive is written: then only writing can fail.
     let mut text = String::with_capacity(alloc, LONGEST_LINE)?;
     let tally = add(rt, alloc, tables, inputs, path)?;
-    push_added(&mut text, &tally)?;
-    write_out(&mut IntoWrite::new(&mut *out), 0, text.as_bytes())?;
-    Ok(tally)
+    print_added(&mut text, tally, out)
 }
 
 /// Writes an archive of streams to the file of a path, which is closed again at the end.
@@ -287,9 +285,7 @@ fn merge_all<R: Files, S: Source, O: Write + Drop>(
     // Here too no memory is asked for once the archive is written.
     let mut text = String::with_capacity(alloc, LONGEST_LINE)?;
     let tally = merge(rt, alloc, tables, inputs, path)?;
-    push_merged(&mut text, &tally)?;
-    write_out(&mut IntoWrite::new(&mut *out), 0, text.as_bytes())?;
-    Ok(tally)
+    print_merged(&mut text, tally, out)
 }
 
 /// Writes an archive of archives to the file of a path, which is closed again at the end.
@@ -306,6 +302,18 @@ fn merge<R: Files, S: Source>(
     run_merge(alloc, MOST_READS, tables, inputs, &mut archive)
 }
 
+/// Prints what was counted of an archive of streams, by way of some text that has room for it, and
+/// answers it.
+fn print_added<O: Write + Drop>(
+    text: &mut String,
+    tally: Tally,
+    out: &mut O,
+) -> Result<Tally, ToolFault> {
+    push_added(text, &tally)?;
+    write_out(&mut IntoWrite::new(&mut *out), 0, text.as_bytes())?;
+    Ok(tally)
+}
+
 /// Adds what is printed after an archive of streams was written.
 fn push_added(text: &mut String, tally: &Tally) -> Result<(), OutOfMemory>
     ensures { OnOk result (string_bytes text.new ≡ string_bytes text.old ++ added_line tally.now) }
@@ -317,6 +325,18 @@ fn push_added(text: &mut String, tally: &Tally) -> Result<(), OutOfMemory>
         text,
         "frames {frames} refused {refused} reports {reports}\n"
     )
+}
+
+/// Prints what was counted of an archive of archives, by way of some text that has room for it, and
+/// answers it.
+fn print_merged<O: Write + Drop>(
+    text: &mut String,
+    tally: Tally,
+    out: &mut O,
+) -> Result<Tally, ToolFault> {
+    push_merged(text, &tally)?;
+    write_out(&mut IntoWrite::new(&mut *out), 0, text.as_bytes())?;
+    Ok(tally)
 }
 
 /// Adds what is printed after an archive of archives was written.

@@ -180,22 +180,31 @@ fn bufr<'a>(alloc: Global) -> Result<Command<'a>, OutOfMemory>
 fn without_archive<'a>(alloc: Global) -> Result<Command<'a>, OutOfMemory>
     ensures { IfOk result (λ c. app_of c ≡ commands_without_archive) }
 {
+    with_command(that_read(alloc), encoding(alloc))
+}
+
+/// The commands that read a file of messages.
+fn that_read<'a>(alloc: Global) -> Result<Command<'a>, OutOfMemory>
+    ensures { IfOk result (λ c. app_of c ≡ with_subcommand
+        (with_subcommand program (reading_command (codes "show")))
+        (reading_command (codes "check"))) }
+{
     let show = "Shows the messages of a file as a listing";
     let check = "Says of each message of a file whether it can be read";
     let with_show = with_command(program(alloc), reading(alloc, "show", [show, SHOW]));
-    let with_check = with_command(with_show, reading(alloc, "check", [check, CHECK]));
-    with_command(with_check, encoding(alloc))
+    with_command(with_show, reading(alloc, "check", [check, CHECK]))
 }
 
 /// The program before it has a command.
 fn program<'a>(alloc: Global) -> Result<Command<'a>, OutOfMemory>
     ensures { IfOk result (λ c. app_of c ≡ program) }
 {
-    let named = Command::new(alloc, "bufr")
+    Command::new(alloc, "bufr")
         .about("Reads, writes and collects BUFR messages of the world's weather services")
         .version(VERSION)
-        .bin_name("bufr")?;
-    Ok(named.no_binary_name(true).subcommand_required(true))
+        .no_binary_name(true)
+        .subcommand_required(true)
+        .bin_name("bufr")
 }
 
 /// A program with one more command, where memory ran out for neither.

@@ -1,7 +1,7 @@
 //! The engine of `encode`.
 
-ghost use Rattle.std.specs.Prelude.{◌≡◌, ◌≤◌, false};
-ghost use Rattle.bufr_answers.specs.Answers.{Gives};
+ghost use Rattle.std.specs.Prelude.{◌≡◌, ◌≤◌, ◌++◌, ℕ, List, [], false, IfErr, Ok, OnOk};
+ghost use Rattle.bufr_answers.specs.Answers.{Fails, Gives, result_map};
 ghost use Rattle.bufr_io.specs.Engines.{IsFresh};
 ghost use Rattle.bufr_io.specs.Limits.{most_reads};
 ghost use Rattle.bufr_tool.specs.Encoding.{Encodes, EncodesListing, PassesAll, ReadsMessage};
@@ -54,10 +54,7 @@ pub fn run_encode<S: Source, W: Sink>(
 }
 
 /// The octets of the messages that a text lists, one behind another, each compressed where that is
-/// asked. Each message is encoded as soon as it is read, and then let go; its template is built
-/// neither to read nor to encode it where its list of descriptors is one of the last four. Once one
-/// has no encoding, the rest is read for a fault of the listing, which is told before that of the
-/// message.
+/// asked. The templates of the last four lists of descriptors are kept meanwhile.
 fn octets_of(
     alloc: Global,
     tables: &Tables,
@@ -66,18 +63,38 @@ fn octets_of(
 ) -> Result<Encoded, ToolFault>
     ensures { EncodesListing tables.now compressed text.now result }
 {
-    let mut messages = Messages::of(alloc, tables, text);
     let mut templates = KeptTemplates::new(alloc, tables);
     let mut octets = Vec::new(alloc);
+    let count = add_listed(alloc, tables, &mut templates, compressed, text, &mut octets)?;
+    Ok(Encoded { octets, count })
+}
+
+/// Adds the octets of the messages that a text lists, and answers how many messages these are. Each
+/// is encoded as soon as it is read, and then let go; its template is built neither to read nor to
+/// encode it where its list of descriptors is one of the last four. Once one has no encoding, the
+/// rest is read for a fault of the listing, which is told before that of the message.
+fn add_listed(
+    alloc: Global,
+    tables: &Tables,
+    templates: &mut KeptTemplates<'_>,
+    compressed: bool,
+    text: &[u8],
+    octets: &mut Vec<u8>,
+) -> Result<u128, ToolFault>
+    requires kept { templates.old ≡ tables.now }
+    requires none { octets.old.items ≡ [] }
+    ensures { EncodesListing tables.now compressed text.now
+        (result_map (λ count. record { octets = octets.new; count = count }) result) }
+{
+    let mut messages = Messages::of(alloc, tables, text);
     let mut count: u128 = 0;
     while let Some(message) = next_of(alloc, &mut messages)? {
         count += 1;
-        match octets_as_asked(alloc, &mut templates, compressed, message) {
-            Ok(more) => octets.extend_from_slice(&more)?,
-            Err(failure) => return Err(fault_of(alloc, messages, count, failure)),
+        if let Err(failure) = add_octets(alloc, templates, compressed, message, octets) {
+            return Err(fault_of(alloc, messages, count, failure));
         }
     }
-    Ok(Encoded { octets, count })
+    Ok(count)
 }
 
 /// The next message of a listing.
@@ -115,6 +132,26 @@ fn pass_all(alloc: Global, mut messages: Messages<'_>) -> Result<(), ToolFault>
     ensures { PassesAll messages.entry result }
 {
     while next_of(alloc, &mut messages)?.is_some() {}
+    Ok(())
+}
+
+/// Adds the octets of a message, compressed too where that is asked.
+fn add_octets(
+    alloc: Global,
+    templates: &mut KeptTemplates<'_>,
+    compressed: bool,
+    message: Message,
+    octets: &mut Vec<u8>,
+) -> Result<(), Failure<EncodeFault>>
+    ensures same { templates.new ≡ templates.old }
+    ensures ok { OnOk result ((more : List ℕ)
+        × (code_as_asked templates.old compressed message ≡ Ok more)
+        × (octets.new.items ≡ octets.old.items ++ more)) }
+    ensures err { IfErr result (λ failure.
+        Fails failure (code_as_asked templates.old compressed message)) }
+{
+    let more = octets_as_asked(alloc, templates, compressed, message)?;
+    octets.extend_from_slice(&more)?;
     Ok(())
 }
 

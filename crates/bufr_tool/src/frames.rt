@@ -1,10 +1,13 @@
 //! Printing the frames of a stream as they are found.
 
-ghost use Rattle.std.specs.Prelude.{◌≡◌, ◌≤◌, ◌<◌, false, []};
+ghost use Rattle.std.specs.Prelude.{◌≡◌, ◌≤◌, ◌<◌, ◌^◌, ℕ, List, false, []};
+ghost use Rattle.bufr_bits.specs.Devices.{Writing};
+ghost use Rattle.bufr_tables.specs.Entries.{Entries};
 ghost use Rattle.bufr_io.specs.Engines.{IsFresh};
 ghost use Rattle.bufr_io.specs.Limits.{most_reads};
 ghost use Rattle.bufr_tool.specs.Output.{frames_text, skipped_by};
-ghost use Rattle.bufr_tool.specs.StreamEngines.{HasPrintedSince, Prints, Stops};
+ghost use Rattle.bufr_tool.specs.declared.printing.Printing.{Printing as PrintingKind};
+ghost use Rattle.bufr_tool.specs.StreamEngines.{HasEnded, HasPrintedSince, Prints, PrintsEnd, Stops};
 
 use crate::printer::Printer;
 use crate::printing::{Printing, hold_tally};
@@ -53,6 +56,38 @@ impl<'t, W: Sink> TakesFrames<W> for Printer<'t> {
     ghost counts_each = { λ first self begin out frames h. h.counted };
 }
 
+/// Counts a stream of so many octets, all of whose frames were printed, prints what stands after
+/// them, and writes all that is held.
+fn print_tally<W: Sink>(
+    fed: u64,
+    printer: &mut Printer<'_>,
+    writer: &mut W,
+) -> Result<Tally, ToolFault>
+    requires long { fed < 2 ^ 48 }
+    requires ended { (printing : PrintingKind) × (tables : Entries) × (first : Writing)
+        × (stream : List ℕ)
+        × HasEnded printing tables first (W.writing writer.old) printer.old fed stream }
+    ensures { (printing : PrintingKind) (tables : Entries) (first : Writing) (stream : List ℕ)
+        → HasEnded printing tables first (W.writing writer.old) printer.old fed stream
+        → PrintsEnd printing tables stream first (W.writing writer.new) result }
+{
+    let skipped = match printer.printing {
+        Printing::Shown => 0,
+        Printing::Checked => fed - printer.octets,
+    };
+    let tally = Tally {
+        frames: printer.counts.frames,
+        refused: printer.counts.refused,
+        skipped: skipped as u128,
+        reports: 0,
+    };
+    let Ok(()) = hold_tally(&mut printer.held, printer.printing, &tally) else {
+        return Err(printer.stop(ToolFault::OutOfMemory, writer));
+    };
+    write_out(writer, printer.written, &printer.held)?;
+    Ok(tally)
+}
+
 /// Prints the frames of the stream of a reader, each as soon as it is sure, and what stands after
 /// them.
 pub fn print_stream<S: Source, W: Sink>(
@@ -70,8 +105,8 @@ pub fn print_stream<S: Source, W: Sink>(
     ensures prints { Prints printing tables.now reads (S.reading reader.old) (S.reading reader.new)
         (W.writing writer.old) (W.writing writer.new) result }
 {
-    let mut printer = Printer::new(alloc, printing, tables);
     let mut room = room(alloc)?;
+    let mut printer = Printer::new(alloc, printing, tables);
     let source = Input::Number(1);
     let fed = take_stream(
         alloc,
@@ -82,19 +117,5 @@ pub fn print_stream<S: Source, W: Sink>(
         &mut printer,
         writer,
     )?;
-    let skipped = match printing {
-        Printing::Shown => 0,
-        Printing::Checked => fed - printer.octets,
-    };
-    let tally = Tally {
-        frames: printer.counts.frames,
-        refused: printer.counts.refused,
-        skipped: skipped as u128,
-        reports: 0,
-    };
-    let Ok(()) = hold_tally(&mut printer.held, printing, &tally) else {
-        return Err(printer.stop(ToolFault::OutOfMemory, writer));
-    };
-    write_out(writer, printer.written, &printer.held)?;
-    Ok(tally)
+    print_tally(fed, &mut printer, writer)
 }

@@ -1,17 +1,20 @@
 //! What is printed of a stream, frame by frame: lines are held, and written where they are many.
 
-ghost use Rattle.std.specs.Prelude.{◌≡◌, ◌≤◌, ◌<◌, ◌+◌, ◌*◌, ◌^◌, ℕ, List, false, [], length};
-ghost use Rattle.std.specs.Prelude.{IfOk, OnOk};
+ghost use Rattle.std.specs.Prelude.{◌≡◌, ◌≤◌, ◌<◌, ◌+◌, ◌*◌, ◌^◌, ◌++◌, ℕ, List, false, [], length};
+ghost use Rattle.std.specs.Prelude.{Err, IfErr, IfOk, OnOk};
+ghost use Rattle.std.specs.Int.{from_bool};
 ghost use Rattle.bufr_bits.specs.Devices.{Writing};
 ghost use Rattle.bufr_message.specs.Listings.{listing};
 ghost use Rattle.bufr_message.specs.Messages.{message_of};
 ghost use Rattle.bufr_message.specs.ShortListings.{HasShortListing};
 ghost use Rattle.bufr_answers.specs.Answers.{Gives};
 ghost use Rattle.bufr_tool.specs.Lines.{AreWholeLines};
+ghost use Rattle.bufr_collect.specs.Collected.{frame_refused};
 ghost use Rattle.bufr_collect.specs.Taking.{frame_at};
 ghost use Rattle.bufr_tool.specs.Output.{fields_text, frame_text};
 ghost use Rattle.bufr_tool.specs.StreamEngines.{Adds, Fits, Keeps, no_counts, PrintsFrame};
-ghost use Rattle.bufr_tool.specs.StreamEngines.{Stops, StopsWithin, Tells, WritesHeld, WritesPart};
+ghost use Rattle.bufr_tool.specs.StreamEngines.{Stops, StopsWithin, Tells, WritesAllBut, WritesHeld};
+ghost use Rattle.bufr_tool.specs.StreamEngines.{WritesPart};
 
 use crate::printing::{Printing, hold_checked, hold_refused};
 use bufr_answers::Failure;
@@ -205,6 +208,83 @@ impl<'t> Printer<'t> {
         }
     }
 
+    /// Prints what the frame of these octets at this place was judged to spell, and answers whether
+    /// that is no message.
+    fn print_told<W: Sink>(
+        &mut self,
+        alloc: Global,
+        place: u64,
+        octets: &[u8],
+        judged: &Result<View<'_>, Failure<Refused>>,
+        writer: &mut W,
+    ) -> Result<bool, ToolFault>
+        requires works { (W.writing writer.old).failed ≡ false }
+        requires exact { Gives (λ d. d) judged.now (message_of self.old.templates octets.now) }
+        requires listed { IfOk judged.now (λ d. HasShortListing d.message) }
+        requires fits { self.old.written + 2 ^ 80 ≤ 2 ^ 128 }
+        requires lines { AreWholeLines self.old.held.items }
+        ensures prints { OnOk result (WritesAllBut self.new.held.items (self.old.held.items
+            ++ frame_text self.old.printing self.old.templates (frame_at place octets.now))
+            self.old.written self.new.written (W.writing writer.old) (W.writing writer.new)) }
+        ensures stops { IfErr result (λ fault. Adds
+            (frame_text self.old.printing self.old.templates (frame_at place octets.now))
+            self.old self.new (W.writing writer.old) (W.writing writer.new) (Err fault)) }
+        ensures told { IfOk result (λ refused. from_bool refused
+            ≡ frame_refused self.old.templates (frame_at place octets.now)) }
+        ensures keeps { Keeps self.old self.new }
+        ensures short { self.new.written + 2 ^ 64 ≤ self.old.written + 2 ^ 80 }
+    {
+        match self.print_judged(alloc, place, octets, judged, writer) {
+            Ok(()) => Ok(judged.is_err()),
+            Err(fault) => Err(fault),
+        }
+    }
+
+    /// Prints the frame of these octets at this place, and answers whether it spells no message.
+    fn print_message<W: Sink>(
+        &mut self,
+        alloc: Global,
+        place: u64,
+        octets: &[u8],
+        writer: &mut W,
+    ) -> Result<bool, ToolFault>
+        requires works { (W.writing writer.old).failed ≡ false }
+        requires fits { self.old.written + 2 ^ 80 ≤ 2 ^ 128 }
+        requires lines { AreWholeLines self.old.held.items }
+        ensures prints { OnOk result (WritesAllBut self.new.held.items (self.old.held.items
+            ++ frame_text self.old.printing self.old.templates (frame_at place octets.now))
+            self.old.written self.new.written (W.writing writer.old) (W.writing writer.new)) }
+        ensures stops { IfErr result (λ fault. Adds
+            (frame_text self.old.printing self.old.templates (frame_at place octets.now))
+            self.old self.new (W.writing writer.old) (W.writing writer.new) (Err fault)) }
+        ensures told { IfOk result (λ refused. from_bool refused
+            ≡ frame_refused self.old.templates (frame_at place octets.now)) }
+        ensures keeps { Keeps self.old self.new }
+        ensures short { self.new.written + 2 ^ 64 ≤ self.old.written + 2 ^ 80 }
+    {
+        listings_are_short();
+        let judged = &self.templates.view(alloc, octets);
+        self.print_told(alloc, place, octets, judged, writer)
+    }
+
+    /// Counts the frame of these octets, which spells a message or none.
+    fn count(&mut self, octets: &[u8], refused: bool)
+        requires frames { self.old.counts.frames + 1 < 2 ^ 128 }
+        requires refused { self.old.counts.refused + 1 < 2 ^ 128 }
+        requires octets { self.old.octets + length octets.now < 2 ^ 64 }
+        ensures { self.new ≡ record self.old {
+          counts = record {
+            frames = self.old.counts.frames + 1;
+            refused = self.old.counts.refused + from_bool refused;
+          };
+          octets = self.old.octets + length octets.now;
+        } }
+    {
+        self.counts.frames += 1;
+        self.counts.refused += u128::from(refused);
+        self.octets += octets.len() as u64;
+    }
+
     /// Prints the frame of these octets at this place, and counts it.
     pub fn print_frame<W: Sink>(
         &mut self,
@@ -226,12 +306,8 @@ impl<'t> Printer<'t> {
         ensures printing { self.new.printing ≡ self.old.printing }
         ensures tables { self.new.templates ≡ self.old.templates }
     {
-        listings_are_short();
-        let judged = &self.templates.view(alloc, octets);
-        self.print_judged(alloc, place, octets, judged, writer)?;
-        self.counts.frames += 1;
-        self.counts.refused += u128::from(judged.is_err());
-        self.octets += octets.len() as u64;
+        let refused = self.print_message(alloc, place, octets, writer)?;
+        self.count(octets, refused);
         self.write_long(writer)
     }
 
