@@ -39,7 +39,7 @@ seen tables es = record { tables = tables; entries = es }
 -- ---- entries whose marks are read
 
 -- the mark of the last entry, if there is one
-abbrev pub last_mark : Option Entry → List MarkView
+abbrev last_mark : Option Entry → List MarkView
 last_mark before = option_to_list (option_map mark_of before)
 
 -- these marks and that of the last entry are those of the entries that were read, and these octets
@@ -60,19 +60,6 @@ marked_none tables octets marks all none = record {
   marked = append-nil marks ∙ none;
   left = omega arith;
 }
-
--- the mark of the last entry is put behind those of the others
-pub last_pushed : (marks pushed marks' : List MarkView) (before : Option ReadEntry)
-    (last : ReadEntry) → before ≡ Some last → pushed ≡ marks ++ (last.mark ∷ [])
-    → marks' ≡ pushed → marks' ≡ marks ++ last_mark (option_map read before)
-last_pushed marks pushed marks' before last some put is =
-    is ∙ put ∙ ap (λ x. marks ++ last_mark (option_map read x)) (sym some)
-
--- or there is none
-pub none_pushed : (marks marks' : List MarkView) (before : Option ReadEntry) → before ≡ None
-    → marks' ≡ marks → marks' ≡ marks ++ last_mark (option_map read before)
-none_pushed marks marks' before none is =
-    is ∙ sym (append-nil marks) ∙ ap (λ x. marks ++ last_mark (option_map read x)) (sym none)
 
 module _ (laws : ReportsAreEntries) (tables : Entries) where
   -- the next entry has some octets, and no more than are left, and with it one more is marked
@@ -141,7 +128,13 @@ module _ (laws : ReportsAreEntries) (tables : Entries) where
           (record { each = t.0; says = t.1; all_kept = t.2; marked = sym own })
       by (Err place) is told = absurd cc
 
--- ---- what reading answers: for `ArchiveText::read`
+-- ---- what reading answers: for `read_marks` and `ArchiveText::read`
+
+-- a failure that is handed on tells the same
+pub handed_on : {X Y F : Type 0} (view : X → Y) (x : Result X (Failure F)) (e : Failure F)
+    (meant : Result Y F) → IsErrAnd x (λ y. y ≡ e) → Fails e meant → Gives view x meant
+handed_on view (Err f) e meant handed told = subst (λ g. Fails g meant) (sym handed) told
+handed_on view (Ok a) e meant handed told = absurd handed
 
 -- the archive of octets whose entries are marked
 seen_read : (tables : Entries) (octets : List ℕ) (marks : List MarkView)

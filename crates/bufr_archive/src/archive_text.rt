@@ -200,6 +200,49 @@ fn joined_octets(
     MergedOctets::new(origins, left, right).into_text(alloc, left.len() + right.len())
 }
 
+/// Puts the mark of an entry, if there is one, behind others.
+fn push_mark(marks: &mut Vec<Mark>, last: Option<ReadEntry>) -> Result<(), OutOfMemory>
+    ensures { OnOk result (marks.new.items
+        ≡ marks.old.items ++ option_to_list (option_map mark_of (option_map read last.entry))) }
+{
+    if let Some(entry) = last {
+        marks.push(entry.mark)?;
+    }
+    Ok(())
+}
+
+/// Puts the marks of the entries that octets are the text of in a vector that has none, or tells
+/// the place of the first entry that is not right.
+fn push_marks(
+    alloc: Global,
+    templates: &mut Templates<'_>,
+    octets: &[u8],
+    marks: &mut Vec<Mark>,
+) -> Result<(), Failure<NotAnArchive>>
+    requires { marks.old.items ≡ [] }
+    ensures same { templates.new ≡ templates.old }
+    ensures octets { AreOctets octets.now }
+    ensures marks { Gives (λ _. marks.new.items) result
+        (marks_or (entries_read (entry_in templates.old) octets.now)) }
+{
+    reports_are_entries();
+    let mut before: Option<ReadEntry> = None;
+    let mut place: usize = 0;
+    let mut rest = octets;
+    while rest.len() > 0 {
+        let Some(entry) = right_entry(alloc, templates, &before, rest)? else {
+            let place = place as u64;
+            return Err(Failure::Fault(NotAnArchive { place }));
+        };
+        place += entry.bytes.len();
+        rest = &rest[entry.bytes.len()..];
+        push_mark(marks, before)?;
+        before = Some(entry);
+    }
+    push_mark(marks, before)?;
+    Ok(())
+}
+
 /// The marks of the entries that octets are the text of, or the place of the first entry that is
 /// not right.
 fn read_marks(
@@ -212,26 +255,8 @@ fn read_marks(
     ensures marks { Gives (λ marks. marks.items) result
         (marks_or (entries_read (entry_in templates.old) octets.now)) }
 {
-    reports_are_entries();
     let mut marks = Vec::new(alloc);
-    let mut before: Option<ReadEntry> = None;
-    let mut place: usize = 0;
-    let mut rest = octets;
-    while rest.len() > 0 {
-        let Some(entry) = right_entry(alloc, templates, &before, rest)? else {
-            let place = place as u64;
-            return Err(Failure::Fault(NotAnArchive { place }));
-        };
-        place += entry.bytes.len();
-        rest = &rest[entry.bytes.len()..];
-        if let Some(last) = before {
-            marks.push(last.mark)?;
-        }
-        before = Some(entry);
-    }
-    if let Some(last) = before {
-        marks.push(last.mark)?;
-    }
+    push_marks(alloc, templates, octets, &mut marks)?;
     marks.shrink_to_fit();
     Ok(marks)
 }

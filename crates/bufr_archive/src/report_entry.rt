@@ -1,9 +1,10 @@
 //! Reports as entries of an archive.
-ghost use Rattle.std.specs.Prelude.{◌≡◌, ◌-◌, ◌<◌, ◌≤◌, IfOk, Some, get_or, length, slice_get};
+ghost use Rattle.std.specs.Prelude.{◌≡◌, ◌-◌, ◌<◌, ◌≤◌, IfOk, Ok, Some, get_or, length, slice_get};
 ghost use Rattle.std.specs.Option.{option_map};
 ghost use Rattle.bufr_answers.specs.Answers.{Gives};
 ghost use Rattle.bufr_archive.specs.ReportEntries.{key_of, entry_with, entry_of, spelt_entry, spelt_entries, entry_spelt, entry_in, report_entries};
-ghost use Rattle.bufr_message.specs.Messages.{message_of};
+ghost use Rattle.bufr_message.specs.Messages.{message_of, Spells};
+ghost use Rattle.bufr_tables.specs.Entries.{Entries};
 ghost use Rattle.bufr_message.specs.Reports.{reports_of};
 ghost use Rattle.bufr_archive.specs.Reading.{read};
 
@@ -59,28 +60,21 @@ pub fn entry_of(
     Ok(Some(entry_with(alloc, report, octets)?))
 }
 
-/// The entry that octets are: they spell a message of one subset whose canonical message they are.
-/// That is what the subset's own fields spell, and it is not built. It can only run out of memory.
-pub(crate) fn entry_in<'a>(
+/// The entry of the one report of a view of octets, where they are what its own fields spell. No
+/// subset is built. It can only run out of memory.
+fn own_entry<'a>(
     alloc: Global,
-    templates: &mut Templates<'_>,
+    view: &View<'_>,
     octets: &'a [u8],
 ) -> Result<Option<ReadEntry<'a>>, OutOfMemory>
-    ensures same { templates.new ≡ templates.old }
-    ensures is { IfOk result (λ found.
-        option_map read found ≡ entry_in templates.old octets.now) }
+    requires { length view.now.message.subsets ≡ 1 }
+    ensures { (tables : Entries) → message_of tables octets.now ≡ Ok view.now
+        → Spells tables view.now.message octets.now view.now.slack_octets
+        → IfOk result (λ found. option_map read found ≡ entry_in tables octets.now) }
 {
     reports_have_canonical_messages();
     canonical_messages_are_own();
     written_messages_are_spelt();
-    let view = match templates.view(alloc, octets) {
-        Ok(view) => view,
-        Err(Failure::Fault(_)) => return Ok(None),
-        Err(Failure::OutOfMemory) => return Err(OutOfMemory),
-    };
-    if view.count() != 1 {
-        return Ok(None);
-    }
     let Some(own) = view.canonical(alloc, 1)? else {
         return Ok(None);
     };
@@ -94,6 +88,28 @@ pub(crate) fn entry_in<'a>(
         mark: Mark::new(alloc, key, head.update)?,
         bytes: octets,
     }))
+}
+
+/// The entry that octets are: they spell a message of one subset whose canonical message they are.
+/// It can only run out of memory.
+pub(crate) fn entry_in<'a>(
+    alloc: Global,
+    templates: &mut Templates<'_>,
+    octets: &'a [u8],
+) -> Result<Option<ReadEntry<'a>>, OutOfMemory>
+    ensures same { templates.new ≡ templates.old }
+    ensures is { IfOk result (λ found.
+        option_map read found ≡ entry_in templates.old octets.now) }
+{
+    let view = match templates.view(alloc, octets) {
+        Ok(view) => view,
+        Err(Failure::Fault(_)) => return Ok(None),
+        Err(Failure::OutOfMemory) => return Err(OutOfMemory),
+    };
+    if view.count() != 1 {
+        return Ok(None);
+    }
+    own_entry(alloc, &view, octets)
 }
 
 /// The reports of a message that was read, whose entries are made one at a time.

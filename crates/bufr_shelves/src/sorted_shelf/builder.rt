@@ -1,12 +1,14 @@
 //! Entries gathered in any order, which become a sorted shelf.
 ghost use Rattle.std.specs.Prelude.{◌≡◌, ◌++◌, ◌∷◌, [], map, IfOk, OnOk, OnErr};
-ghost use Rattle.bufr_shelves.specs.Entries.{kept};
-ghost use Rattle.bufr_shelves.specs.Pages.{flat};
+ghost use Rattle.std.specs.List.Sorted.{IsStrictlySortedBy};
+ghost use Rattle.bufr_shelves.specs.Entries.{slot_cmp, kept};
+ghost use Rattle.bufr_shelves.specs.Pages.{flat, seen};
 
 use crate::entry::Entry;
 use crate::mark::Mark;
 use crate::shelf::Shelf;
 use crate::sorted_shelf::SortedShelf;
+use crate::sorted_shelf::gathered::Look;
 use crate::sorted_shelf::kept_octets::{KeptOctets, count_of};
 use crate::sorted_shelf::page::Page;
 use crate::sorted_shelf::pages_left::PagesLeft;
@@ -87,6 +89,17 @@ impl ShelfBuilder {
     pub fn into_shelf(self) -> Result<SortedShelf, OutOfMemory>
         ensures { IfOk result (λ shelf. kept shelf ≡ kept self) }
     {
+        let alloc = self.alloc;
+        let mut left = self.into_left()?;
+        let mut shelf = SortedShelf::new(alloc);
+        put_all(alloc, &mut shelf, &mut left)?;
+        Ok(shelf)
+    }
+
+    /// What is kept of these entries, in order. They are gone where memory was refused.
+    fn into_left(self) -> Result<PagesLeft, OutOfMemory>
+        ensures { IfOk result (λ left. left ≡ kept self) }
+    {
         let ShelfBuilder {
             alloc,
             mut settled,
@@ -94,15 +107,8 @@ impl ShelfBuilder {
             mut waiting,
             ..
         } = self;
-        settle(alloc, &mut settled, &mut left, &mut waiting)?;
-        left.take_back(&mut settled)?;
-        let mut shelf = SortedShelf::new(alloc);
-        while let Some(first) = left.first() {
-            let Entry { key, update, bytes } = first.copied(alloc)?;
-            shelf.put(key, update, bytes)?;
-            left.drop_first();
-        }
-        Ok(shelf)
+        take_all(alloc, &mut settled, &mut left, &mut waiting)?;
+        Ok(left)
     }
 
     /// The octets of what is kept of these entries. They are gone where memory was refused.
@@ -120,4 +126,40 @@ impl ShelfBuilder {
         let count = count_of(&pages)?;
         Ok(KeptOctets { pages, count })
     }
+}
+
+/// Takes the settled entries and those that wait in front of those of the pages, in order. Where
+/// memory was refused some may stand elsewhere.
+fn take_all(
+    alloc: Global,
+    settled: &mut Vec<Page>,
+    left: &mut PagesLeft,
+    waiting: &mut Waiting,
+) -> Result<(), OutOfMemory>
+    requires { IsStrictlySortedBy slot_cmp (flat settled.old.items ++ left.old) }
+    ensures { OnOk result (left.new ≡ kept (flat settled.old.items ++ (left.old ++ waiting.old))) }
+{
+    settle(alloc, settled, left, waiting)?;
+    left.take_back(settled)?;
+    Ok(())
+}
+
+/// Puts all entries of pages on a shelf. Where memory was refused some are there.
+fn put_all(alloc: Global, shelf: &mut SortedShelf, left: &mut PagesLeft) -> Result<(), OutOfMemory>
+    ensures { OnOk result (kept shelf.new ≡ kept (kept shelf.old ++ left.old)) }
+{
+    while let Some(first) = left.first() {
+        put_copy(alloc, shelf, first)?;
+        left.drop_first();
+    }
+    Ok(())
+}
+
+/// Puts an entry on a shelf that is looked at where it stands.
+fn put_copy(alloc: Global, shelf: &mut SortedShelf, look: Look) -> Result<(), OutOfMemory>
+    ensures { OnOk result (kept shelf.new ≡ kept (kept shelf.old ++ seen look.entry ∷ [])) }
+{
+    let Entry { key, update, bytes } = look.copied(alloc)?;
+    shelf.put(key, update, bytes)?;
+    Ok(())
 }

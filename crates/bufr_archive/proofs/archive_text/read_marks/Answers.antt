@@ -1,103 +1,15 @@
--- The clause `marks` of `read_marks`: entry by entry, until one is not right or none is left.
-use Rattle.std.proofs.Common.{◌≡◌, ◌++◌, ◌+◌, ◌-◌, ◌^◌, ◌<◌, ℕ, length, take, drop, Some, None, List, refl, sym, ap}
-use Rattle.std.proofs.Common.{subst, ◌∙◌, arith}
-use Rattle.std.specs.Option.{option_map}
-use Rattle.std.proofs.lemmas.List.{length-drop}
-use Rattle.std.proofs.lemmas.List.Elements.{All-from_get_or}
-use Rattle.bufr_archive.specs.Texts.{right_entry}
-use Rattle.bufr_archive.proofs.EntryFacts.{from_on}
-use Rattle.bufr_archive.specs.Reading.{read}
-use Rattle.bufr_archive.specs.ReportEntries.{entry_in}
-use Rattle.bufr_archive.proofs.HeldFacts.{last_mark, last_pushed, none_pushed}
-use Rattle.bufr_archive.proofs.HeldFacts.{MarkedSoFar, marked_none, marked_more, marked_all}
-use Rattle.bufr_archive.proofs.HeldFacts.{marked_stops}
+-- The clause `marks` of `read_marks`, from what `push_marks` answers.
+use Rattle.std.proofs.Common.{Ok, sym, ap, ◌∙◌}
+use Rattle.bufr_archive.proofs.HeldFacts.{handed_on}
 use Rattle.bufr_archive.proofs.archive_text.read_marks.Goals as goal
-use Rattle.bufr_archive.proofs.archive_text.read_marks.Goals.{in-Some-before+in_ok-push}
-use Rattle.bufr_archive.proofs.archive_text.read_marks.Goals.{in_default-before}
-use Rattle.bufr_archive.proofs.archive_text.read_marks.Goals.{in-Some-before-2+in_ok-push-2}
-use Rattle.bufr_archive.proofs.archive_text.read_marks.Goals.{in_default-before-2}
 
--- at first none was read
-pub loop-rest-init : goal.loop-rest-init
-loop-rest-init c =
-    let octets = c.args.octets.now in
-    record {
-      so_far = marked_none c.args.templates.now octets c.new-marks.result.items
-          (All-from_get_or (λ (x : ℕ). x < 2 ^ 8) octets 0
-          (λ i below. omega (arith, c.type_inv.octets i))) c.new-marks.ensures.items;
-      tables = refl;
-    }
-
--- where no right entry begins, its place is told
-pub returns-in_default-clause-marks : goal.returns-in_default-clause-marks
-returns-in_default-clause-marks c =
-    let tables = c.args.templates.now in
-    let before = option_map read c.loop-rest.before in
-    let found = rw c.loop-rest.invariant.tables at c.in_ok-entry.ensures.is in
-    let none : right_entry (entry_in tables) before c.loop-rest.rest.now ≡ None =
-    sym found ∙ ap (option_map read) c.in_default.is in
-    marked_stops c.reports_are_entries.ensures tables c.args.octets.now before c.loop-rest.place
-    c.loop-rest.rest.now c.loop-rest.marks.items c.loop-rest.invariant.so_far (omega arith) none
-
--- one entry more was read, and the octets behind it are left
-pub loop-rest-preserved : goal.loop-rest-preserved
-loop-rest-preserved c =
-    let tables = c.args.templates.now in
-    let e = read c.in-Some.entry in
-    let place = c.loop-rest.place + length c.in-Some.entry.bytes.now in
-    let found = rw c.loop-rest.invariant.tables at c.in_ok-entry.ensures.is in
-    let pushed : c.match-before-5.marks.items
-    ≡ c.loop-rest.marks.items ++ last_mark (option_map read c.loop-rest.before) =
-    elim c.match-before-5.branch [
-      | in-Some-before+in_ok-push w ↦ last_pushed c.loop-rest.marks.items _ _ c.loop-rest.before
-          w.in-Some-before.last w.in-Some-before.is w.in_ok-push.ensures.items
-          (ap (λ v. v.items) w.marks-is)
-      | in_default-before w ↦ none_pushed c.loop-rest.marks.items _ c.loop-rest.before
-          w.in_default-before.is (ap (λ v. v.items) w.marks-is)
-    ] in
-    let next = marked_more c.reports_are_entries.ensures tables c.args.octets.now
-    c.loop-rest.before c.loop-rest.place c.loop-rest.rest.now c.loop-rest.marks.items
-    c.match-before-5.marks.items _ c.in-Some.entry c.loop-rest.invariant.so_far found c.in-Some.is
-    pushed in
-    record {
-      so_far = subst (λ (r : List ℕ). MarkedSoFar tables c.args.octets.now (Some e) place r
-          c.match-before-5.marks.items) (sym (from_on c.loop-rest.rest.now (length c.in-Some.entry.bytes.now))) next.2;
-      tables = c.in_ok-entry.ensures.same ∙ c.loop-rest.invariant.tables;
-    }
-
--- a right entry has some octets, so fewer are left
-pub loop-rest-smaller : goal.loop-rest-smaller
-loop-rest-smaller c =
-    let found = rw c.loop-rest.invariant.tables at c.in_ok-entry.ensures.is in
-    let next = marked_more c.reports_are_entries.ensures c.args.templates.now c.args.octets.now
-    c.loop-rest.before c.loop-rest.place c.loop-rest.rest.now c.loop-rest.marks.items _ _
-    c.in-Some.entry c.loop-rest.invariant.so_far found c.in-Some.is refl in
-    let some = next.0 in
-    let within = next.1 in
-    let n = length c.in-Some.entry.bytes.now in
-    let size : length (take (length c.loop-rest.rest.now - n) (drop n c.loop-rest.rest.now)) ≡ length c.loop-rest.rest.now - n =
-    ap length (from_on c.loop-rest.rest.now n) ∙ length-drop n c.loop-rest.rest.now in
-    omega (arith, some, within, size)
-
--- where no octets are left, the entries of the whole text are marked
+-- all are marked
 pub returns-clause-marks : goal.returns-clause-marks
 returns-clause-marks c =
-    let pushed : c.match-before-6.marks.items
-    ≡ c.loop-rest.marks.items ++ last_mark (option_map read c.loop-rest.before) =
-    elim c.match-before-6.branch [
-      | in-Some-before-2+in_ok-push-2 w ↦ last_pushed c.loop-rest.marks.items _ _ c.loop-rest.before
-          w.in-Some-before-2.last w.in-Some-before-2.is w.in_ok-push-2.ensures.items
-          (ap (λ v. v.items) w.marks-is)
-      | in_default-before-2 w ↦ none_pushed c.loop-rest.marks.items _ c.loop-rest.before
-          w.in_default-before-2.is (ap (λ v. v.items) w.marks-is)
-    ] in
-    marked_all c.reports_are_entries.ensures c.args.templates.now c.args.octets.now
-    (option_map read c.loop-rest.before) c.loop-rest.place c.loop-rest.rest.now
-    c.loop-rest.marks.items _ c.loop-rest.invariant.so_far (omega arith)
-    (c.shrink_to_fit.ensures.items ∙ pushed)
+    c.in_ok-push_marks.ensures.marks ∙ ap Ok (sym c.shrink_to_fit.ensures.items)
 
--- each that is read is an octet
-pub returns-clause-octets : goal.returns-clause-octets
-returns-clause-octets c =
-    All-from_get_or (λ (x : ℕ). x < 2 ^ 8) c.args.octets.now 0
-    (λ i below. omega (arith, c.type_inv.octets i))
+-- what is refused is handed on
+pub returns-in_err-push_marks-clause-marks : goal.returns-in_err-push_marks-clause-marks
+returns-in_err-push_marks-clause-marks c =
+    handed_on _ c.from_residual.result c.in_err-push_marks.field-0.0 _
+    c.from_residual.ensures.1 c.in_err-push_marks.ensures.marks

@@ -1,9 +1,9 @@
--- The loop of `read_marks`: the marks of the entries read so far, and the octets that are left.
+-- The loop of `push_marks`: the marks of the entries read so far, and the octets that are left.
 use Rattle.std.proofs.Common.{◌≡◌, length}
 use Rattle.std.specs.Option.{option_map}
 use Rattle.bufr_archive.specs.Reading.{read}
 use Rattle.bufr_archive.proofs.HeldFacts.{MarkedSoFar}
-use Rattle.bufr_archive.proofs.archive_text.read_marks.Given as goal
+use Rattle.bufr_archive.proofs.archive_text.push_marks.Given as goal
 
 -- the entries but the last are marked, and the rest stands behind them; the tables stay
 abbrev pub invariant-loop-rest : goal.invariant-loop-rest

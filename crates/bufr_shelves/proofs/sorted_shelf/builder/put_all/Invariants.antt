@@ -1,11 +1,11 @@
--- For `ShelfBuilder::into_shelf`: what its loop keeps, and why it ends.
+-- For `put_all`: what its loop keeps, and why it ends.
 use Rattle.std.proofs.Common.{◌≡◌, ◌++◌, length}
 use Rattle.bufr_shelves.specs.Entries.{kept}
-use Rattle.bufr_shelves.proofs.sorted_shelf.builder.ShelfBuilder.into_shelf.Given as goal
+use Rattle.bufr_shelves.proofs.sorted_shelf.builder.put_all.Given as goal
 
 -- what is kept of the shelf and of the entries left is the same
 abbrev pub invariant-loop-first : goal.invariant-loop-first
-invariant-loop-first l = kept (kept l.shelf ++ l.left) ≡ kept l.fn.self
+invariant-loop-first l = kept (kept l.shelf ++ l.left) ≡ kept (kept l.fn.shelf ++ l.fn.left)
 
 -- the entries left
 abbrev pub decreases-loop-first : goal.decreases-loop-first
