@@ -1,6 +1,11 @@
 //! Worked examples of the definitions.
-ghost use Rattle.std.specs.Prelude.{◌≡◌, false, true};
+ghost use Rattle.std.specs.Prelude.{◌≡◌, ◌+◌, Err, false, length, true};
 ghost use Rattle.bufr_depot.specs.Runs.{are_too_many};
+ghost use Rattle.bufr_depot.specs.declared.steps.StepFault.TheVariants.{StreamTooLong};
+
+use crate::intakes::Intake;
+use crate::steps::{Answer, StepFault};
+use bufr_archive::Shelf;
 
 /// The longest stream: 2^64 - 1 octets, which is 18,446,744,073,709,551,615.
 pub fn longest_streams()
@@ -10,3 +15,15 @@ pub fn longest_streams()
     ensures one_more { are_too_many 18446744073709551615 1 ≡ true }
     ensures no_piece { are_too_many 0 0 ≡ false }
 {}
+
+/// A stream is fed one octet beyond its octet 2^64 - 1: it is told too long, and nothing is joined.
+pub(crate) fn one_octet_too_many<S: Shelf>(
+    intake: &mut Intake<'_, S>,
+    piece: &[u8],
+) -> Result<Answer, StepFault>
+    requires { intake.old.framer.fed + length piece.now ≡ 18446744073709551616 }
+    ensures told { result ≡ Err StreamTooLong }
+    ensures kept { intake.new ≡ intake.old }
+{
+    intake.feed(piece)
+}
