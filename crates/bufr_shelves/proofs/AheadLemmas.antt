@@ -1,12 +1,14 @@
 -- The octets of those that wait, of which some were read ahead. For `Waiting`.
 use Rattle.std.proofs.Common.{◌≡◌, ℕ, ◌+◌, ◌-◌, ◌≤◌, List, [], ◌∷◌, ◌++◌, length, take, drop, sym, ap, ◌∙◌}
-use Rattle.std.proofs.Common.{arith, append_assoc, length-append, length-drop, map, reverse, subst, Some}
+use Rattle.std.proofs.Common.{arith, append_assoc, length-append, length-drop, map, reverse, subst, Bool, true, false, Option, Some, None}
+use Rattle.std.specs.Option.{option_map, option_to_list}
 use Rattle.std.proofs.lemmas.List.{append-nil, length-take-le, take-append-drop, map-append, reverse-append}
 use Rattle.std.proofs.lemmas.List.Concat.{flat_map-append}
 use Rattle.std.proofs.Math.Seq.{drop-append_seam, take-append_seam}
-use Rattle.bufr_shelves.specs.Marks.{MarkView}
+use Rattle.bufr_shelves.specs.Octets.{PutsBehind}
 use Rattle.bufr_shelves.specs.Pages.{octets_waiting, waits_in, marked, AreLast, HaveParts}
 use Rattle.bufr_shelves.specs.Keeping.{first_of}
+use Rattle.bufr_shelves.proofs.PageLemmas.{parts-push}
 use Rattle.bufr_shelves.specs.declared.entry.Entry.{Entry}
 use Rattle.bufr_shelves.specs.declared.sorted_shelf.waiting.WaitingEntry.{WaitingEntry}
 
@@ -70,13 +72,42 @@ parts-grown os xs [] e f h = (f, tt)
 parts-grown os xs (d ∷ es) e f h =
     (omega (arith, h.0, length-append os xs), parts-grown os xs es e f h.1)
 
-pub parts-pushed : (os ps xs : List ℕ) (es fs : List WaitingEntry) (m : MarkView) (n : ℕ)
-    → n ≡ length os → HaveParts os es → ps ≡ os ++ xs
-    → fs ≡ es ++ record { mark = m; from = n; len = length xs } ∷ [] → HaveParts ps fs
-parts-pushed os ps xs es fs m n a h p f =
-    let e : WaitingEntry = record { mark = m; from = n; len = length xs } in
+parts-pushed : (os ps xs : List ℕ) (es fs : List WaitingEntry) (e : WaitingEntry)
+    → e.from ≡ length os → e.len ≡ length xs → HaveParts os es → ps ≡ os ++ xs
+    → fs ≡ es ++ e ∷ [] → HaveParts ps fs
+parts-pushed os ps xs es fs e a b h p f =
     subst (λ zs. HaveParts zs fs) (sym p) (subst (HaveParts (os ++ xs)) (sym f)
-    (parts-grown os xs es e (omega (arith, a, length-append os xs)) h))
+    (parts-grown os xs es e (omega (arith, a, b, length-append os xs)) h))
+
+-- what is put behind octets makes them no fewer
+pub no-fewer : (o : Option (List ℕ)) (b : Bool) (os ps : List ℕ) → PutsBehind o b os ps
+    → length os ≤ length ps
+no-fewer None b os ps h = omega (arith, ap length h.1)
+no-fewer (Some xs) b os ps h = omega (arith, ap length h.1, length-append os xs)
+
+-- so parts are there for one entry more, where it has octets
+pub parts-put : (o : Option (List ℕ)) (b : Bool) (os ps : List ℕ) (es fs : List WaitingEntry)
+    (e : WaitingEntry) → e.from ≡ length os → e.from + e.len ≡ length ps → HaveParts os es
+    → PutsBehind o b os ps → (b ≡ true → fs ≡ es ++ e ∷ []) → (b ≡ false → fs ≡ es)
+    → HaveParts ps fs
+parts-put None b os ps es fs e a n h put there none =
+    subst (λ zs. HaveParts zs fs) (sym put.1) (subst (HaveParts os) (sym (none put.0)) h)
+parts-put (Some xs) b os ps es fs e a n h put there none =
+    parts-pushed os ps xs es fs e a
+    (omega (arith, a, n, ap length put.1, length-append os xs)) h put.1 (there put.0)
+
+-- and it stands behind the others
+pub entries-put : (o : Option (List ℕ)) (b : Bool) (os ps : List ℕ) (es fs : List WaitingEntry)
+    (e : WaitingEntry) (s : List Entry) → e.from ≡ length os → e.from + e.len ≡ length ps
+    → HaveParts os es → PutsBehind o b os ps → (b ≡ true → fs ≡ es ++ e ∷ [])
+    → (b ≡ false → fs ≡ es) → map (waits_in os) es ≡ s
+    → map (waits_in ps) fs ≡ s ++ option_to_list (option_map (marked e.mark) o)
+entries-put None b os ps es fs e s a n h put there none v =
+    ap (λ zs. map (waits_in zs) fs) put.1 ∙ ap (map (waits_in os)) (none put.0) ∙ v
+    ∙ sym (append-nil s)
+entries-put (Some xs) b os ps es fs e s a n h put there none v =
+    parts-push os ps xs es fs e.mark s e.from e.len a
+    (omega (arith, a, n, ap length put.1, length-append os xs)) h put.1 (there put.0) v
 
 -- the octets of the last entry come last,
 pub last-octets : (os : List ℕ) (es ys : List WaitingEntry) (e : WaitingEntry) (g : List ℕ)

@@ -628,32 +628,41 @@ put_more e (k ∷ ks) =
           omega (arith, n, put_more e ks)
     ] refl
 
--- one more that waits is put in
-pub kept-push : (ss ls ws : List Entry) (e : Entry)
-    → kept (ss ++ (ls ++ (ws ++ e ∷ []))) ≡ kept (kept (ss ++ (ls ++ ws)) ++ e ∷ [])
-kept-push ss ls ws e =
-    ap (λ es. kept (ss ++ es)) (sym (append_assoc ls ws (e ∷ [])))
-    ∙ ap kept (sym (append_assoc ss (ls ++ ws) (e ∷ [])))
-    ∙ sym (kept-early (ss ++ (ls ++ ws)) (e ∷ []))
+-- more that wait are put in
+kept-push : (ss ls ws xs : List Entry)
+    → kept (ss ++ (ls ++ (ws ++ xs))) ≡ kept (kept (ss ++ (ls ++ ws)) ++ xs)
+kept-push ss ls ws xs =
+    ap (λ es. kept (ss ++ es)) (sym (append_assoc ls ws xs))
+    ∙ ap kept (sym (append_assoc ss (ls ++ ws) xs))
+    ∙ sym (kept-early (ss ++ (ls ++ ws)) xs)
 
--- so no fewer are kept
-pub more-push : (ss ls ws vs : List Entry) (e : Entry) (count : ℕ) → vs ≡ ws ++ e ∷ []
-    → count ≤ length (kept (ss ++ (ls ++ ws))) → count ≤ length (kept (ss ++ (ls ++ vs)))
-more-push ss ls ws vs e count v h =
+-- one at the most is one more at the most,
+pub one-more : (ws vs : List Entry) (o : Option Entry) → vs ≡ ws ++ option_to_list o
+    → length vs ≤ length ws + 1
+one-more ws vs None v = omega (arith, ap length v, length-append ws [])
+one-more ws vs (Some e) v = omega (arith, ap length v, length-append ws (e ∷ []))
+
+-- and no fewer are kept
+pub more-push : (ss ls ws vs : List Entry) (o : Option Entry) (count : ℕ)
+    → vs ≡ ws ++ option_to_list o → count ≤ length (kept (ss ++ (ls ++ ws)))
+    → count ≤ length (kept (ss ++ (ls ++ vs)))
+more-push ss ls ws vs None count v h =
+    let same = ap (λ es. length (kept (ss ++ (ls ++ es)))) (v ∙ append-nil ws) in
+    omega (arith, h, same)
+more-push ss ls ws vs (Some e) count v h =
     let ks = kept (ss ++ (ls ++ ws)) in
     let put : kept (ss ++ (ls ++ vs)) ≡ put_by slot_cmp rank_cmp e ks =
-    ap (λ es. kept (ss ++ (ls ++ es))) v ∙ kept-push ss ls ws e
+    ap (λ es. kept (ss ++ (ls ++ es))) v ∙ kept-push ss ls ws (e ∷ [])
     ∙ kept-swap ks (e ∷ []) ∙ ap (put_by slot_cmp rank_cmp e) (kept-kept (ss ++ (ls ++ ws))) in
     let n = ap length put in
     omega (arith, h, n, put_more e ks)
 
--- and it stands beside what was kept
-pub kept-put : (ss ls ws vs : List Entry) (e : Entry) (s : List Entry) → vs ≡ ws ++ e ∷ []
-    → kept (ss ++ (ls ++ ws)) ≡ s
-    → kept (kept (ss ++ (ls ++ vs))) ≡ kept (kept s ++ e ∷ [])
-kept-put ss ls ws vs e s v h =
-    kept-kept (ss ++ (ls ++ vs)) ∙ ap (λ es. kept (ss ++ (ls ++ es))) v ∙ kept-push ss ls ws e
-    ∙ ap (λ es. kept (es ++ e ∷ [])) h ∙ sym (kept-early s (e ∷ []))
+-- they stand beside what was kept
+pub kept-put : (ss ls ws vs xs s : List Entry) → vs ≡ ws ++ xs → kept (ss ++ (ls ++ ws)) ≡ s
+    → kept (kept (ss ++ (ls ++ vs))) ≡ kept (kept s ++ xs)
+kept-put ss ls ws vs xs s v h =
+    kept-kept (ss ++ (ls ++ vs)) ∙ ap (λ es. kept (ss ++ (ls ++ es))) v ∙ kept-push ss ls ws xs
+    ∙ ap (λ es. kept (es ++ xs)) h ∙ sym (kept-early s xs)
 
 -- ---- a shelf that is made of pages
 

@@ -14,5 +14,6 @@ pub mod FrontLaws
 pub mod PackedKeys
 pub mod Marks
 pub mod Pages
+pub mod Octets
 pub mod PackedKeyLaws
 pub mod Samples

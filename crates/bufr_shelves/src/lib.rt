@@ -14,6 +14,7 @@
 #![tactic(auto)]
 
 pub mod entry;
+pub mod entry_octets;
 pub mod held;
 pub mod laws;
 pub mod map_shelf;
@@ -25,6 +26,7 @@ pub mod sorted_shelf;
 mod worked_values;
 
 pub use entry::{Entry, Held, JoinFault};
+pub use entry_octets::EntryOctets;
 pub use held::slot_order;
 pub use map_shelf::MapShelf;
 pub use mark::Mark;

@@ -1,10 +1,12 @@
 //! Entries gathered in any order, which become a sorted shelf.
 ghost use Rattle.std.specs.Prelude.{◌≡◌, ◌++◌, ◌∷◌, [], map, IfOk, OnOk, OnErr};
 ghost use Rattle.std.specs.List.Sorted.{IsStrictlySortedBy};
+ghost use Rattle.std.specs.Option.{option_map, option_to_list};
 ghost use Rattle.bufr_shelves.specs.Entries.{slot_cmp, kept};
 ghost use Rattle.bufr_shelves.specs.Pages.{flat, seen};
 
 use crate::entry::Entry;
+use crate::entry_octets::EntryOctets;
 use crate::mark::Mark;
 use crate::shelf::Shelf;
 use crate::sorted_shelf::SortedShelf;
@@ -71,6 +73,23 @@ impl ShelfBuilder {
             ++ record { key = key; update = update; bytes = bytes } ∷ [])) }
         ensures err { OnErr result (kept self.new ≡ kept self.old) }
     {
+        self.put_octets_of(key, update, &bytes)
+    }
+
+    /// Puts an entry in whose octets are written where it waits: a key or none, an update number and
+    /// what has the octets. Nothing is put in where that has none. Where memory was refused the
+    /// entries are as they were.
+    pub fn put_octets_of<O: EntryOctets>(
+        &mut self,
+        key: Option<Key>,
+        update: u8,
+        entry: &O,
+    ) -> Result<(), OutOfMemory>
+        ensures ok { OnOk result (kept self.new ≡ kept (kept self.old ++ option_to_list
+            (option_map (λ bytes. record { key = key; update = update; bytes = bytes })
+            (O.octets entry.now)))) }
+        ensures err { OnErr result (kept self.new ≡ kept self.old) }
+    {
         let mark = Mark::new(self.alloc, key, update)?;
         if self.waiting.are_many(self.count) {
             settle(
@@ -81,7 +100,7 @@ impl ShelfBuilder {
             )?;
             self.count = count_of(&self.settled)?;
         }
-        self.waiting.push(mark, bytes.as_slice())?;
+        self.waiting.push(self.alloc, mark, entry)?;
         Ok(())
     }
 

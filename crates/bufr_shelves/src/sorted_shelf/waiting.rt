@@ -1,10 +1,12 @@
 //! Entries that wait to be put in order, with the octets of all in one place.
-ghost use Rattle.std.specs.Prelude.{◌≡◌, ◌+◌, ◌*◌, ◌<◌, ◌≤◌, ◌++◌, ◌∷◌, [], true, false, take, drop, length, reverse, OnOk, OnErr, IfSome, MatchOption};
-ghost use Rattle.std.specs.Option.{option_map};
+ghost use Rattle.std.specs.Prelude.{◌≡◌, ◌+◌, ◌*◌, ◌<◌, ◌≤◌, ◌++◌, ◌∷◌, [], true, false, take, drop, length, reverse, OnOk, OnErr, IfSome, MatchOption, vec_len};
+ghost use Rattle.std.specs.Vec.{vec_capacity};
+ghost use Rattle.std.specs.Option.{option_map, option_to_list};
 ghost use Rattle.std.specs.List.Sorted.{IsPermutation};
 ghost use Rattle.bufr_shelves.specs.Keeping.{first_of};
 ghost use Rattle.bufr_shelves.specs.Pages.{marked, mark_of, seen, waits_in, octets_waiting, AreLast, AreRising};
 
+use crate::entry_octets::EntryOctets;
 use crate::mark::Mark;
 use crate::sorted_shelf::gathered::Look;
 use crate::sorted_shelf::merge::take_last;
@@ -73,6 +75,17 @@ fn drop_other(entries: &mut Vec<WaitingEntry>)
     };
     let _other = entries.pop();
     entries.push_reserved(last);
+}
+
+/// Puts an entry behind others, beside which there is room, where it stands there.
+fn push_where(entries: &mut Vec<WaitingEntry>, stands: bool, entry: WaitingEntry)
+    requires { vec_len entries.old < vec_capacity entries.old }
+    ensures there { stands ≡ true → entries.new.items ≡ entries.old.items ++ entry ∷ [] }
+    ensures none { stands ≡ false → entries.new.items ≡ entries.old.items }
+{
+    if stands {
+        entries.push_reserved(entry);
+    }
 }
 
 /// How many of the last entries are read at once.
@@ -155,17 +168,24 @@ impl Waiting {
         are_long || are_most || waiting >= SMALLEST_BATCH && waiting / 2 >= settled
     }
 
-    /// Puts an entry behind the others. Where memory was refused they are as they were.
-    pub(crate) fn push(&mut self, mark: Mark, octets: &[u8]) -> Result<(), OutOfMemory>
-        ensures ok { OnOk result (self.new ≡ self.old ++ marked mark octets.now ∷ []) }
+    /// Puts an entry behind the others, where it has octets. Where memory was refused they are as
+    /// they were.
+    pub(crate) fn push<O: EntryOctets>(
+        &mut self,
+        alloc: Global,
+        mark: Mark,
+        entry: &O,
+    ) -> Result<(), OutOfMemory>
+        ensures ok { OnOk result (self.new ≡ self.old
+            ++ option_to_list (option_map (marked mark) (O.octets entry.now))) }
         ensures err { OnErr result (self.new ≡ self.old) }
     {
         let from = self.octets.len();
-        let len = octets.len();
         self.ahead.clear();
         self.entries.reserve(1)?;
-        self.octets.extend_from_slice(octets)?;
-        self.entries.push_reserved(WaitingEntry { mark, from, len });
+        let stands = entry.put_behind(alloc, &mut self.octets)?;
+        let len = self.octets.len() - from;
+        push_where(&mut self.entries, stands, WaitingEntry { mark, from, len });
         Ok(())
     }
 

@@ -1,51 +1,66 @@
 -- For `Waiting::push`: the entry has the octets that were put behind the others.
-use Rattle.std.proofs.Common.{◌∙◌, ◌++◌, ◌∷◌, [], length, ap, refl, rules}
-use Rattle.bufr_shelves.proofs.AheadLemmas.{none-last, parts-pushed}
-use Rattle.bufr_shelves.proofs.PageLemmas.{parts-push}
+use Rattle.std.proofs.Common.{◌≡◌, ◌-◌, ◌∙◌, ◌++◌, ◌∷◌, [], ap, length, arith, rules}
+use Rattle.bufr_shelves.proofs.AheadLemmas.{none-last, no-fewer, parts-put, entries-put}
+use Rattle.bufr_shelves.specs.declared.sorted_shelf.waiting.WaitingEntry.{WaitingEntry}
 use Rattle.bufr_shelves.proofs.sorted_shelf.waiting.Waiting.push.Goals as goal
 
--- it stands behind the others
+-- the octets are no fewer than before
+pub overflow_sub-len : goal.overflow_sub-len
+overflow_sub-len g c =
+    let from : c.len-from.result ≡ length c.self.inside.octets.items = search rules in
+    let len : c.len.result ≡ length c.put_behind.new.out.items = search rules in
+    omega (arith, from, len, no-fewer _ _ _ _ c.in_ok-stands.ensures.put)
+
+-- it stands behind the others, where it has octets
 pub returns-clause-ok : goal.returns-clause-ok
-returns-clause-ok c =
+returns-clause-ok g c =
     let inside = c.self.inside in
-    parts-push inside.octets.items c.extend_from_slice.new.self.items c.args.octets.now
-    inside.entries.items c.push_reserved.new.self.items c.args.mark c.args.self.now
-    c.len-from.result (length c.args.octets.now) (search rules) refl c.self.invariant.0
-    c.in_ok-extend_from_slice.ensures.items
-    (c.push_reserved.ensures.items
-    ∙ ap (λ es. es ++ record {
+    let e : WaitingEntry = record {
       mark = c.args.mark;
       from = c.len-from.result;
-      len = length c.args.octets.now;
-    } ∷ []) c.reserve.ensures.items) c.self.view_is
+      len = c.len.result - c.len-from.result;
+    } in
+    let from : c.len-from.result ≡ length inside.octets.items = search rules in
+    let len : c.len.result ≡ length c.put_behind.new.out.items = search rules in
+    entries-put _ c.in_ok-stands.stands inside.octets.items c.put_behind.new.out.items
+    inside.entries.items c.push_where.new.entries.items e c.args.self.now from
+    (omega (arith, from, len, no-fewer _ _ _ _ c.in_ok-stands.ensures.put)) c.self.invariant.0
+    c.in_ok-stands.ensures.put
+    (λ h. c.push_where.ensures.there h ∙ ap (λ es. es ++ e ∷ []) c.reserve.ensures.items)
+    (λ h. c.push_where.ensures.none h ∙ c.reserve.ensures.items) c.self.view_is
 
 -- nothing is read ahead, whether it was put there
 pub invariant_of-self-2 : goal.invariant_of-self-2
-invariant_of-self-2 c = (
-  parts-pushed c.self.inside.octets.items c.extend_from_slice.new.self.items c.args.octets.now
-      c.self.inside.entries.items c.push_reserved.new.self.items c.args.mark c.len-from.result
-      (search rules) c.self.invariant.0 c.in_ok-extend_from_slice.ensures.items
-      (c.push_reserved.ensures.items
-      ∙ ap (λ es. es ++ record {
-        mark = c.args.mark;
-        from = c.len-from.result;
-        len = length c.args.octets.now;
-      } ∷ []) c.reserve.ensures.items),
-  none-last c.extend_from_slice.new.self.items c.push_reserved.new.self.items c.clear.new.self.items
-      c.clear.ensures.items,
-)
+invariant_of-self-2 g c =
+    let inside = c.self.inside in
+    let e : WaitingEntry = record {
+      mark = c.args.mark;
+      from = c.len-from.result;
+      len = c.len.result - c.len-from.result;
+    } in
+    let from : c.len-from.result ≡ length inside.octets.items = search rules in
+    let len : c.len.result ≡ length c.put_behind.new.out.items = search rules in (
+      parts-put _ c.in_ok-stands.stands inside.octets.items c.put_behind.new.out.items
+          inside.entries.items c.push_where.new.entries.items e from
+          (omega (arith, from, len, no-fewer _ _ _ _ c.in_ok-stands.ensures.put))
+          c.self.invariant.0 c.in_ok-stands.ensures.put
+          (λ h. c.push_where.ensures.there h ∙ ap (λ es. es ++ e ∷ []) c.reserve.ensures.items)
+          (λ h. c.push_where.ensures.none h ∙ c.reserve.ensures.items),
+      none-last c.put_behind.new.out.items c.push_where.new.entries.items
+          c.clear.new.self.items c.clear.ensures.items,
+    )
 
 -- or not
 pub invariant_of-self : goal.invariant_of-self
-invariant_of-self c = (
+invariant_of-self g c = (
   search rules,
   none-last c.self.inside.octets.items c.reserve.new.self.items c.clear.new.self.items
       c.clear.ensures.items,
 )
 
-pub invariant_of-self-in_err-extend_from_slice : goal.invariant_of-self-in_err-extend_from_slice
-invariant_of-self-in_err-extend_from_slice c = (
+pub invariant_of-self-in_err-stands : goal.invariant_of-self-in_err-stands
+invariant_of-self-in_err-stands g c = (
   search rules,
-  none-last c.extend_from_slice.new.self.items c.reserve.new.self.items c.clear.new.self.items
+  none-last c.put_behind.new.out.items c.reserve.new.self.items c.clear.new.self.items
       c.clear.ensures.items,
 )
