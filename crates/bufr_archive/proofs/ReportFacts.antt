@@ -2,8 +2,8 @@
 use Rattle.std.proofs.Common.{◌≡◌, ℕ, ◌+◌, ◌-◌, ◌*◌, ◌/◌, ◌%◌, ◌^◌, ◌<◌, true, false, cond, not}
 use Rattle.std.proofs.Common.{List, [], ◌∷◌, ◌++◌, length, take, drop, Option, Some, None, Result, Ok, Err, refl}
 use Rattle.std.proofs.Common.{sym, ap, subst, ◌∙◌, arith, length-append, get_or}
-use Rattle.std.specs.Prelude.{bytes_eq, codes, option_map, slice_get}
-use Rattle.std.proofs.lemmas.Option.{cond_some, same_Some, slice_get-map, get_or_from_slice_get}
+use Rattle.std.specs.Prelude.{bytes_eq, codes, option_map, slice_get, IfSome}
+use Rattle.std.proofs.lemmas.Option.{cond_some, same_Some, slice_get-map, slice_get-get_or, get_or_from_slice_get}
 use Rattle.std.proofs.lemmas.Bool.{not-true, not-false}
 use Rattle.std.specs.Int.{bytes_high_first}
 use Rattle.std.specs.List.{AllByRecursion}
@@ -36,7 +36,7 @@ use Rattle.bufr_shelves.specs.Marks.{MarkView}
 use Rattle.bufr_sections.specs.Sections.{AreOctets}
 use Rattle.bufr_archive.specs.ReportEntries.{AreUnder, entry_of, entry_with, IsReportEntry}
 use Rattle.bufr_archive.specs.ReportEntries.{is_canonical, only_one, own_entry, entry_in}
-use Rattle.bufr_archive.specs.ReportEntries.{report_entries, spelt_entry, spelt_entries}
+use Rattle.bufr_archive.specs.ReportEntries.{key_of, report_entries, spelt_at, spelt_entry, spelt_entries}
 use Rattle.bufr_archive.specs.ReportEntries.{entry_spelt}
 use Rattle.bufr_archive.specs.ReportLaws.{ReportsAreEntries}
 use Rattle.bufr_archive.proofs.EntryFacts.{bind_some}
@@ -352,3 +352,29 @@ viewed_some m i canon octets s e told some at entry =
     viewed_at (reports_of m) i (Some e) (ap (option_map spelt_entry) r.1
     ∙ ap Some (r.2 ∙ ap (option_map (entry_with r.0)) some
     ∙ ap (λ (r : Report). Some (entry_with r octets)) report ∙ sym (ap Some entry)))
+
+-- ---- entries whose octets are put where they are to stand: for `add_one` of `ArchiveBuilder`
+
+-- an entry of these parts with the octets of the report of a subset is that of the report
+parts_of : (m : Message) (s : Subset) (found : Option Key) (update : ℕ)
+    → found ≡ key_of (report_of m s) → update ≡ m.head.update
+    → option_map (of_parts found update) (spelt_alone (report_of m s))
+    ≡ spelt_entry (report_of m s)
+parts_of m s found update key_is update_is =
+    ap (λ (k : Option Key). option_map (of_parts k update) (spelt_alone (report_of m s))) key_is
+    ∙ ap (λ (u : ℕ). option_map (of_parts (key_of (report_of m s)) u)
+    (spelt_alone (report_of m s))) update_is
+
+-- so it is at each index
+pub put_entry : (m : Message) (i : ℕ) (found : Option Key) (update : ℕ) → i < length m.subsets
+    → IfSome (slice_get (reports_of m) i) (λ r. found ≡ key_of r) → update ≡ m.head.update
+    → option_map (of_parts found update) (spelt_at (reports_of m) i)
+    ≡ get_or (spelt_entries (reports_of m)) i None
+put_entry m i found update there key_is update_is =
+    let s : Subset = get_or m.subsets i (record { fields = [] }) in
+    let at = report_at m i s (slice_get-get_or m.subsets i (record { fields = [] }) there) in
+    ap (λ x. option_map (of_parts found update) (x >>= spelt_alone)) at
+    ∙ parts_of m s found update
+    (subst (λ x. IfSome x (λ r. found ≡ key_of r)) at key_is) update_is
+    ∙ sym (get_or_from_slice_get (spelt_entries (reports_of m)) i _ None
+    (slice_get-map spelt_entry (reports_of m) i ∙ ap (option_map spelt_entry) at))

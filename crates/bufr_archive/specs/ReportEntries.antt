@@ -1,7 +1,7 @@
 -- Reports as entries of an archive: their keys, their entries, and the entry that octets are (this
 -- project's own, over FM 94 BUFR edition 4).
 use Rattle.std.specs.Prelude.{◌≡◌, ℕ, Bool, false, bytes_eq, if◌then◌else◌, List, [], ◌∷◌, Option}
-use Rattle.std.specs.Prelude.{Some, None, option_map, map}
+use Rattle.std.specs.Prelude.{Some, None, option_map, map, slice_get}
 use Rattle.std.specs.List.{AllByRecursion}
 use Rattle.bufr_tables.specs.Entries.{Entries}
 use Rattle.bufr_report_keys.specs.Usable.{◌>>=◌}
@@ -39,6 +39,10 @@ report_entries tables rs = map (entry_of tables) rs
 -- tables it is that under them
 abbrev pub spelt_entry : Report → Option Entry
 spelt_entry r = option_map (entry_with r) (spelt_alone r)
+
+-- the octets that the own fields of the report at an index spell
+abbrev pub spelt_at : List Report → ℕ → Option (List ℕ)
+spelt_at rs index = slice_get rs index >>= spelt_alone
 
 -- that of each of some
 abbrev pub spelt_entries : List Report → List (Option Entry)

@@ -13,7 +13,7 @@ use crate::archive::Archive;
 use crate::report_entry::MessageReports;
 use bufr_answers::{Failure, OutOfMemory};
 use bufr_message::{Refused, Templates};
-use bufr_shelves::{Entry, KeptOctets, ShelfBuilder, SortedShelf};
+use bufr_shelves::{KeptOctets, ShelfBuilder, SortedShelf};
 use bufr_tables::Tables;
 use std::alloc::Global;
 use std::marker::Model;
@@ -78,9 +78,11 @@ impl<'t> ArchiveBuilder<'t> {
         let _entries = &self.entries;
     }
 
-    /// Adds reports one after the other. Where memory runs out, the first `done` are joined.
-    fn add_all<L: ReportList>(&mut self, reports: &L) -> Result<(), RanOut>
-        ensures { PutsIntoBuilder self.old self.new (L.entries reports.now) result }
+    /// Adds the reports of a message one after the other. Where memory runs out, the first `done`
+    /// are joined.
+    fn add_all(&mut self, reports: &MessageReports<'_>) -> Result<(), RanOut>
+        ensures { PutsIntoBuilder self.old self.new
+            (spelt_entries (reports_of reports.now.view.message)) result }
     {
         self.are_kept();
         for index in 0..reports.count() {
@@ -92,18 +94,17 @@ impl<'t> ArchiveBuilder<'t> {
         Ok(())
     }
 
-    /// Adds one report.
-    fn add_one<L: ReportList>(&mut self, reports: &L, index: usize) -> Result<(), OutOfMemory>
-        requires { index < length (L.entries reports.now) }
-        ensures ok { OnOk result
-            (self.new ≡ taken_in self.old (get_or (L.entries reports.now) index None ∷ [])) }
+    /// Adds one report, whose octets are put where they are to stand.
+    fn add_one(&mut self, reports: &MessageReports<'_>, index: usize) -> Result<(), OutOfMemory>
+        requires { index < length reports.now.view.message.subsets }
+        ensures ok { OnOk result (self.new ≡ taken_in self.old
+            (get_or (spelt_entries (reports_of reports.now.view.message)) index None ∷ [])) }
         ensures err { OnErr result (self.new ≡ self.old) }
     {
         self.are_kept();
-        match reports.entry(self.alloc, index)? {
-            Some(Entry { key, update, bytes }) => self.entries.put(key, update, bytes),
-            None => Ok(()),
-        }
+        let key = reports.key_at(self.alloc, index)?;
+        self.entries
+            .put_octets_of(key, reports.update(), &reports.octets_at(index))
     }
 
     /// The archive of all that was added. It is gone where memory was refused.

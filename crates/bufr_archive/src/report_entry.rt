@@ -1,8 +1,8 @@
 //! Reports as entries of an archive.
-ghost use Rattle.std.specs.Prelude.{◌≡◌, ◌-◌, ◌<◌, ◌≤◌, IfOk, Ok, Some, get_or, length, slice_get};
+ghost use Rattle.std.specs.Prelude.{◌≡◌, ◌-◌, ◌<◌, ◌≤◌, IfOk, IfSome, Ok, Some, get_or, length, slice_get};
 ghost use Rattle.std.specs.Option.{option_map};
 ghost use Rattle.bufr_answers.specs.Answers.{Gives};
-ghost use Rattle.bufr_archive.specs.ReportEntries.{key_of, entry_with, entry_of, spelt_entry, spelt_entries, entry_spelt, entry_in, report_entries};
+ghost use Rattle.bufr_archive.specs.ReportEntries.{key_of, entry_with, entry_of, spelt_entry, spelt_entries, spelt_at, entry_spelt, entry_in, report_entries};
 ghost use Rattle.bufr_message.specs.Messages.{message_of, Spells};
 ghost use Rattle.bufr_tables.specs.Entries.{Entries};
 ghost use Rattle.bufr_message.specs.Reports.{reports_of};
@@ -17,7 +17,7 @@ use bufr_message::laws::{
 };
 use bufr_message::{Refused, Report, ReportHead, Templates, View, canonical};
 use bufr_report_keys::{key_in, key_of_fields};
-use bufr_shelves::{Entry, Mark};
+use bufr_shelves::{Entry, EntryOctets, Mark};
 use bufr_tables::Tables;
 use std::alloc::Global;
 
@@ -139,6 +139,54 @@ impl<'a> MessageReports<'a> {
     }
 }
 
+impl<'a> MessageReports<'a> {
+    /// The update sequence number of each report.
+    pub(crate) fn update(&self) -> u8
+        ensures { result ≡ self.now.view.message.head.update }
+    {
+        self.view.head().update
+    }
+
+    /// The key of the report at an index, from 0. It can only run out of memory.
+    pub(crate) fn key_at(&self, alloc: Global, index: usize) -> Result<Option<Key>, OutOfMemory>
+        requires { index < length self.now.view.message.subsets }
+        ensures { IfOk result (λ key. IfSome
+            (slice_get (reports_of self.now.view.message) index) (λ r. key ≡ key_of r)) }
+    {
+        let head = ReportHead::of_head(self.view.head());
+        let fields = self.view.fields(alloc, index + 1)?;
+        key_of_fields(alloc, &head, fields)
+    }
+
+    /// The octets of the report at an index, from 0, which are not made yet.
+    pub(crate) fn octets_at(&self, index: usize) -> ReportOctets<'_, 'a>
+        ensures view { result.view.now ≡ self.now.view }
+        ensures index { result.index ≡ index }
+    {
+        ReportOctets {
+            view: &self.view,
+            index,
+        }
+    }
+}
+
+/// The octets of the report of a view at an index, from 0: its canonical message.
+pub(crate) struct ReportOctets<'r, 'a> {
+    pub(crate) view: &'r View<'a>,
+    pub(crate) index: usize,
+}
+
+impl EntryOctets for ReportOctets<'_, '_> {
+    ghost octets = { λ s. spelt_at (reports_of s.view.now.message) s.index };
+
+    fn put_behind(&self, alloc: Global, out: &mut Vec<u8>) -> Result<bool, OutOfMemory> {
+        if self.index >= self.view.count() {
+            return Ok(false);
+        }
+        self.view.put_canonical(alloc, self.index + 1, out)
+    }
+}
+
 // The entry of a report is what its own fields spell: no tables are asked, and no subset is built.
 impl ReportList for MessageReports<'_> {
     ghost entries = { λ s. spelt_entries (reports_of s.view.message) };
@@ -153,11 +201,9 @@ impl ReportList for MessageReports<'_> {
         let Some(octets) = self.view.canonical(alloc, number)? else {
             return Ok(None);
         };
-        let head = ReportHead::of_head(self.view.head());
-        let fields = self.view.fields(alloc, number)?;
         Ok(Some(Entry {
-            key: key_of_fields(alloc, &head, fields)?,
-            update: head.update,
+            key: self.key_at(alloc, index)?,
+            update: self.update(),
             bytes: Items::from_vec(octets),
         }))
     }

@@ -1,9 +1,11 @@
 -- The loop of `ArchiveBuilder::add_all`: the reports added so far.
 use Rattle.std.proofs.Common.{◌≡◌, take}
+use Rattle.bufr_message.specs.Reports.{reports_of}
 use Rattle.bufr_archive.specs.Archives.{taken_in}
+use Rattle.bufr_archive.specs.ReportEntries.{spelt_entries}
 use Rattle.bufr_archive.proofs.builder.ArchiveBuilder.add_all.Given as goal
 
 -- the reports so far were added
 abbrev pub invariant-loop-index : goal.invariant-loop-index
-invariant-loop-index g l =
-    l.self ≡ taken_in l.fn.self (take l.index (g.L.ReportList.entries l.reports))
+invariant-loop-index l =
+    l.self ≡ taken_in l.fn.self (take l.index (spelt_entries (reports_of l.reports.view.message)))
