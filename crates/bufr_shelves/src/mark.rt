@@ -185,7 +185,7 @@ impl Mark {
                     words,
                     ..
                 },
-            ) => { Some(form.order_to(&words.key(*sub_centre))) }
+            ) => Some(form.order_to(&words.key(*sub_centre))),
             (form, MarkForm::Mobile { key, .. }) => Some(form.order_to(&**key)),
             (form, MarkForm::Other { key, .. }) => Some(form.order_to(&**key)),
         }
