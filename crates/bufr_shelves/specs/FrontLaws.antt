@@ -1,7 +1,6 @@
 -- Fronts never tell another order than the keys: for `Mark`.
-use Rattle.std.proofs.Common.{◌≡◌, ℕ, zero, suc, List, [], ◌∷◌, Option, Some, None, ℤ, pos, negsuc}
-use Rattle.std.proofs.Common.{Bool, true, false, cond, refl, sym, ap, arith, ◌∙◌}
-use Rattle.std.specs.Prelude.{int_le, ◌&&◌}
+use Rattle.std.proofs.Common.{◌≡◌, ℕ, zero, suc, List, [], ◌∷◌, pos}
+use Rattle.std.proofs.Common.{refl, sym, ap, arith, ◌∙◌}
 use Rattle.std.proofs.Common.{◌<◌, ◌<ℤ◌}
 use Rattle.std.proofs.Math.Facts.{yes_ltb}
 use Rattle.std.proofs.lemmas.Cmp.{ranked}
@@ -9,14 +8,11 @@ use Rattle.std.specs.Cmp.{nat_cmp_is, int_cmp_is}
 use Rattle.std.specs.Ordering.{MatchOrdering, nat_cmp, int_cmp, ordering_then}
 use Rattle.std.specs.declared.cmp.Ordering.{Ordering}
 use Rattle.std.specs.declared.cmp.Ordering.TheVariants.{Less, Equal, Greater}
-use Rattle.bufr_keys.specs.KeyOrders.{octets_cmp, station_cmp, moment_cmp}
-use Rattle.bufr_shelves.specs.Fronts.{place_cmp, front_cmp, in_two_octets, first_octets}
-use Rattle.bufr_shelves.specs.Fronts.{place_of_numbers, place_of_station, front_of_key}
+use Rattle.bufr_keys.specs.KeyOrders.{octets_cmp, station_cmp}
+use Rattle.bufr_shelves.specs.Fronts.{place_cmp, front_cmp, first_octets, place_of_station, front_of_key}
 use Rattle.bufr_keys.specs.DerivedOrders.{key_order, stations_are}
 use Rattle.bufr_keys.specs.declared.key.Station.{Station}
 use Rattle.bufr_keys.specs.declared.key.Station.TheVariants.{Wmo, Wigos, Mobile}
-use Rattle.bufr_shelves.specs.declared.sorted_shelf.front.FrontPlace.TheVariants as places
-use Rattle.bufr_keys.specs.declared.key.Moment.{Moment}
 use Rattle.bufr_keys.specs.declared.key.Key.{Key}
 
 -- ---- orders in turn
@@ -52,19 +48,6 @@ behind_four : (a b c d p q : Ordering) → ordering_then p q ≡ q
 behind_four a b c d p q h =
     rw (sym (four_in_turn a b c d q))
     (behind (ordering_then a (ordering_then b (ordering_then c d))) p q h)
-
--- a front of three parts agrees with these and one more
-three_first : (a b c d : Ordering)
-    → ordering_then (ordering_then a (ordering_then b c))
-    (ordering_then (ordering_then a b) (ordering_then c d))
-    ≡ ordering_then (ordering_then a b) (ordering_then c d)
-three_first Less b c d = refl
-three_first Greater b c d = refl
-three_first Equal Less c d = refl
-three_first Equal Greater c d = refl
-three_first Equal Equal Less d = refl
-three_first Equal Equal Equal d = refl
-three_first Equal Equal Greater d = refl
 
 -- an order before another that it agrees with
 agree_before : (p q r : Ordering) → ordering_then p q ≡ q
@@ -110,18 +93,7 @@ octets_agree (suc n) (suc x ∷ xs) [] = rw (zero_last x) refl
 octets_agree (suc n) (x ∷ xs) (y ∷ ys) =
     behind (nat_cmp x y) _ _ (octets_agree n xs ys)
 
--- ---- stations and moments
-
--- a value that is given where a test is true
-tested_some : {A : Type 0} (b : Bool) (x y : A) → cond b (Some x) None ≡ Some y → x ≡ y
-tested_some true x y e = cc
-tested_some false x y e = absurd cc
-
--- a number that has room is one without sign
-room_is : (z : ℤ) (n : ℕ) → in_two_octets z ≡ Some n → z ≡ pos n
-room_is (pos k) n h =
-    ap pos (tested_some (int_le (pos 0) (pos k) && int_le (pos k) (pos 65535)) k n h)
-room_is (negsuc k) n h = cc
+-- ---- stations
 
 -- what holds of numbers holds of them with a sign
 signed_match : (a b : ℕ) (r : Ordering) → MatchOrdering r (a < b) (a ≡ b) (b < a)
@@ -136,59 +108,19 @@ same_signed a b =
     sym (int_cmp_is (pos a) (pos b) (nat_cmp a b)
     (signed_match a b (nat_cmp a b) (ranked a b (nat_cmp a b) refl)))
 
--- WMO stations and moments agree with their fronts, whatever the last part
-numbers_agree : (b n c k : ℤ) (x y z w : Option ℕ) (m l : Moment) (o : Ordering)
-    → in_two_octets b ≡ x → in_two_octets n ≡ y → in_two_octets c ≡ z → in_two_octets k ≡ w
-    → ordering_then (place_cmp (place_of_numbers x y m) (place_of_numbers z w l))
-    (ordering_then (station_cmp (Wmo b n) (Wmo c k)) (ordering_then (moment_cmp m l) o))
-    ≡ ordering_then (station_cmp (Wmo b n) (Wmo c k)) (ordering_then (moment_cmp m l) o)
-numbers_agree b n c k None y z w m l o e f g h = refl
-numbers_agree b n c k (Some x) None z w m l o e f g h = refl
-numbers_agree b n c k (Some x) (Some y) None w m l o e f g h = refl
-numbers_agree b n c k (Some x) (Some y) (Some z) None m l o e f g h = refl
-numbers_agree b n c k (Some x) (Some y) (Some z) (Some w) m l o e f g h =
-    rw (room_is b x e, room_is n y f, room_is c z g, room_is k w h)
-    (rw (same_signed x z, same_signed y w)
-    (three_first (nat_cmp x z) (nat_cmp y w) (moment_cmp m l) o))
-
--- a front that is open, or of a WMO station, beside a mobile one
-open_or_less : (x y : Option ℕ) (m : Moment) (name : List ℕ)
-    → ordering_then (place_cmp (place_of_numbers x y m) (places.Mobile name)) Less ≡ Less
-open_or_less None y m name = refl
-open_or_less (Some x) None m name = refl
-open_or_less (Some x) (Some y) m name = refl
-
--- and the other way round
-open_or_greater : (x y : Option ℕ) (m : Moment) (name : List ℕ)
-    → ordering_then (place_cmp (places.Mobile name) (place_of_numbers x y m)) Greater ≡ Greater
-open_or_greater None y m name = refl
-open_or_greater (Some x) None m name = refl
-open_or_greater (Some x) (Some y) m name = refl
-
--- a front that is open leaves the order open
-left_open : (x y : Option ℕ) (m : Moment) (o : Ordering)
-    → ordering_then (place_cmp (place_of_numbers x y m) places.Open) o ≡ o
-left_open None y m o = refl
-left_open (Some x) None m o = refl
-left_open (Some x) (Some y) m o = refl
-
--- stations and moments agree with their fronts, whatever the last part
-places_agree : (s t : Station) (m l : Moment) (o : Ordering)
-    → ordering_then (place_cmp (place_of_station s m) (place_of_station t l))
-    (ordering_then (station_cmp s t) (ordering_then (moment_cmp m l) o))
-    ≡ ordering_then (station_cmp s t) (ordering_then (moment_cmp m l) o)
-places_agree (Wmo b n) (Wmo c k) m l o =
-    numbers_agree b n c k _ _ _ _ m l o refl refl refl refl
-places_agree (Wmo b n) (Wigos s i k a) m l o =
-    left_open (in_two_octets b) (in_two_octets n) m Less
-places_agree (Wmo b n) (Mobile a) m l o =
-    open_or_less (in_two_octets b) (in_two_octets n) m (first_octets 8 a)
-places_agree (Wigos s i n a) t m l o = refl
-places_agree (Mobile a) (Wmo b n) m l o =
-    open_or_greater (in_two_octets b) (in_two_octets n) l (first_octets 8 a)
-places_agree (Mobile a) (Wigos s i n b) m l o = refl
-places_agree (Mobile a) (Mobile b) m l o =
-    agree_before _ (octets_cmp a b) (ordering_then (moment_cmp m l) o) (octets_agree 8 a b)
+-- stations agree with their fronts, whatever comes behind
+places_agree : (s t : Station) (o : Ordering)
+    → ordering_then (place_cmp (place_of_station s) (place_of_station t))
+    (ordering_then (station_cmp s t) o)
+    ≡ ordering_then (station_cmp s t) o
+places_agree (Wmo b n) (Wmo c k) o = refl
+places_agree (Wmo b n) (Wigos s i k a) o = refl
+places_agree (Wmo b n) (Mobile a) o = refl
+places_agree (Wigos s i n a) t o = refl
+places_agree (Mobile a) (Wmo b n) o = refl
+places_agree (Mobile a) (Wigos s i n b) o = refl
+places_agree (Mobile a) (Mobile b) o =
+    agree_before _ (octets_cmp a b) o (octets_agree 8 a b)
 
 -- keys agree with their fronts
 pub keys_agree : (a b : Key)
@@ -197,7 +129,7 @@ keys_agree a b =
     rw (stations_are a.station b.station)
     (behind_four (nat_cmp a.centre b.centre) (nat_cmp a.category b.category)
     (nat_cmp a.international b.international) (nat_cmp a.local_category b.local_category) _ _
-    (places_agree a.station b.station a.moment b.moment (nat_cmp a.sub_centre b.sub_centre)))
+    (places_agree a.station b.station _))
 
 -- where fronts tell the order, it is that of the keys
 pub told : (a b : Key) (o : Ordering) → ordering_then o (key_order a b) ≡ o

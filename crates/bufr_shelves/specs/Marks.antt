@@ -15,14 +15,15 @@ pub record MarkView : Type 0 where
 -- those that a form holds
 abbrev pub mark_in : MarkForm → MarkView
 mark_in (forms.Keyless update) = record { key = None; update = update }
-mark_in (forms.Wmo update key) = record { key = Some (wmo_key key); update = update }
+mark_in (forms.Wmo update sub_centre words) =
+    record { key = Some (wmo_key words sub_centre); update = update }
 mark_in (forms.Mobile update head key name) = record { key = Some key.value; update = update }
 mark_in (forms.Other update key) = record { key = Some key.value; update = update }
 
 -- what stands beside the key of a mobile name is its front
 abbrev pub IsFronted : MarkForm → Type 0
 IsFronted (forms.Keyless update) = Unit
-IsFronted (forms.Wmo update key) = Unit
+IsFronted (forms.Wmo update sub_centre words) = Unit
 IsFronted (forms.Mobile update head key name) =
     record { head = head; place = places.Mobile name } ≡ front_of_key key.value
 IsFronted (forms.Other update key) = Unit

@@ -1,17 +1,47 @@
--- Keys in little room: what a packed key stands for.
-use Rattle.std.specs.Prelude.{pos}
+-- Keys in little room: what two numbers of 64 bits and a sub-centre stand for.
+use Rattle.std.specs.Prelude.{ℕ, ◌+◌, ◌*◌, ◌/◌, ◌%◌, ◌^◌, pos}
 use Rattle.bufr_keys.specs.declared.key.Key.{Key}
+use Rattle.bufr_keys.specs.declared.key.Moment.{Moment}
 use Rattle.bufr_keys.specs.declared.key.Station.TheVariants.{Wmo}
-use Rattle.bufr_shelves.specs.declared.sorted_shelf.packed_key.WmoKey.{WmoKey}
+use Rattle.bufr_shelves.specs.declared.sorted_shelf.front.FrontHead.{FrontHead}
+use Rattle.bufr_shelves.specs.declared.sorted_shelf.packed_key.WmoWords.{WmoWords}
 
--- the key of a WMO station, with numbers that have no sign
-abbrev pub wmo_key : WmoKey → Key
-wmo_key w = record {
-  centre = w.head.centre;
-  category = w.head.category;
-  international = w.head.international;
-  local_category = w.head.local_category;
-  station = Wmo (pos w.place.block) (pos w.place.number);
-  moment = w.place.moment;
-  sub_centre = w.sub_centre;
+-- so many bits of a number, from this one on, the lowest of which is bit 0
+abbrev pub bits : ℕ → ℕ → ℕ → ℕ
+bits number from count = number / 2 ^ from % 2 ^ count
+
+-- centre and categories, in the high word: the centre in its bits 48 to 63, the data category in 40
+-- to 47, the international sub-category in 32 to 39 and the local one in 24 to 31
+abbrev pub wmo_head : ℕ → FrontHead
+wmo_head high = record {
+  centre = bits high 48 16;
+  category = bits high 40 8;
+  international = bits high 32 8;
+  local_category = bits high 24 8;
+}
+
+-- the moment, in the low word: the year in its bits 40 to 55, the month in 32 to 39, the day in 24 to
+-- 31, the hour in 16 to 23, the minute in 8 to 15 and the second in 0 to 7
+abbrev pub wmo_moment : ℕ → Moment
+wmo_moment low = record {
+  year = bits low 40 16;
+  month = bits low 32 8;
+  day = bits low 24 8;
+  hour = bits low 16 8;
+  minute = bits low 8 8;
+  second = bits low 0 8;
+}
+
+-- The key of a WMO station: the block in bits 8 to 23 of the high word, and of the station's number
+-- the high octet in its bits 0 to 7 and the low octet in bits 56 to 63 of the low word.
+abbrev pub wmo_key : WmoWords → ℕ → Key
+wmo_key words sub_centre = record {
+  centre = (wmo_head words.high).centre;
+  category = (wmo_head words.high).category;
+  international = (wmo_head words.high).international;
+  local_category = (wmo_head words.high).local_category;
+  station = Wmo (pos (bits words.high 8 16))
+      (pos (bits words.high 0 8 * 2 ^ 8 + bits words.low 56 8));
+  moment = wmo_moment words.low;
+  sub_centre = sub_centre;
 }

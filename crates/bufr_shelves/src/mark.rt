@@ -1,14 +1,13 @@
 //! What is said of an entry whose octets stand elsewhere.
-ghost use Rattle.std.specs.Prelude.{◌≡◌, IfOk, IfSome, Some};
+ghost use Rattle.std.specs.Prelude.{◌≡◌, IfOk, IfSome, MatchOption, Some, None};
 ghost use Rattle.std.specs.Option.{option_map};
 ghost use Rattle.bufr_keys.specs.KeyOrders.{octets_cmp};
 ghost use Rattle.bufr_shelves.specs.Entries.{slot_by};
 ghost use Rattle.bufr_shelves.specs.Marks.{mark_in, IsFronted};
 ghost use Rattle.bufr_shelves.specs.Fronts.{front_of_key};
-ghost use Rattle.bufr_keys.specs.DerivedOrders.{key_order};
 
 use crate::sorted_shelf::front::{Front, FrontHead, FrontPlace};
-use crate::sorted_shelf::packed_key::WmoKey;
+use crate::sorted_shelf::packed_key::WmoWords;
 use bufr_answers::OutOfMemory;
 use bufr_keys::Key;
 use std::alloc::Global;
@@ -25,7 +24,8 @@ pub(crate) enum MarkForm {
     /// The key of a WMO station whose numbers have room in two octets each.
     Wmo {
         update: u8,
-        key: WmoKey,
+        sub_centre: u16,
+        words: WmoWords,
     },
     /// A key with a mobile name, and what its front has.
     Mobile {
@@ -65,7 +65,11 @@ impl MarkForm {
     {
         match self {
             MarkForm::Keyless { .. } => Ordering::Greater,
-            MarkForm::Wmo { key: packed, .. } => packed.key().cmp(key),
+            MarkForm::Wmo {
+                sub_centre,
+                words,
+                ..
+            } => words.key(*sub_centre).cmp(key),
             MarkForm::Mobile { key: own, .. } => (**own).cmp(key),
             MarkForm::Other { key: own, .. } => (**own).cmp(key),
         }
@@ -81,26 +85,25 @@ impl Mark {
             let form = MarkForm::Keyless { update };
             return Ok(Mark { form });
         };
-        let Front { head, place } = Front::of_key(&key);
-        let form = match place {
-            FrontPlace::Wmo(place) => MarkForm::Wmo {
+        if let Some(words) = WmoWords::of_key(&key) {
+            let sub_centre = key.sub_centre;
+            let form = MarkForm::Wmo {
                 update,
-                key: WmoKey {
-                    head,
-                    place,
-                    sub_centre: key.sub_centre,
-                },
-            },
+                sub_centre,
+                words,
+            };
+            return Ok(Mark { form });
+        }
+        let Front { head, place } = Front::of_key(&key);
+        let key = Box::new(alloc, key)?;
+        let form = match place {
             FrontPlace::Mobile { name } => MarkForm::Mobile {
                 update,
                 head,
-                key: Box::new(alloc, key)?,
+                key,
                 name,
             },
-            FrontPlace::Open => MarkForm::Other {
-                update,
-                key: Box::new(alloc, key)?,
-            },
+            _ => MarkForm::Other { update, key },
         };
         Ok(Mark { form })
     }
@@ -123,7 +126,11 @@ impl Mark {
     {
         match &self.form {
             MarkForm::Keyless { .. } => Ok(None),
-            MarkForm::Wmo { key, .. } => Ok(Some(key.key())),
+            MarkForm::Wmo {
+                sub_centre,
+                words,
+                ..
+            } => Ok(Some(words.key(*sub_centre))),
             MarkForm::Mobile { key, .. } => Ok(Some((**key).clone()?)),
             MarkForm::Other { key, .. } => Ok(Some((**key).clone()?)),
         }
@@ -134,7 +141,7 @@ impl Mark {
         ensures { IfSome result (λ front. option_map front_of_key self.now.key ≡ Some front) }
     {
         match &self.form {
-            MarkForm::Wmo { key, .. } => Some(key.front()),
+            MarkForm::Wmo { words, .. } => Some(words.front()),
             MarkForm::Mobile { head, name, .. } => Some(Front {
                 head: *head,
                 place: FrontPlace::Mobile { name: *name },
@@ -158,28 +165,68 @@ impl Mark {
         }
     }
 
+    /// The order of the slots where not both have the key of a WMO station in little room; none where
+    /// neither has a key.
+    fn order_by_key(&self, other: &Mark) -> Option<Ordering>
+        ensures { MatchOption result ((self.now.key ≡ None) × (other.now.key ≡ None))
+            (λ order. (by_octets : Ordering)
+            → order ≡ slot_by self.now.key other.now.key by_octets) }
+    {
+        if let Some(order) = self.told(other) {
+            return Some(order);
+        }
+        match (&self.form, &other.form) {
+            (MarkForm::Keyless { .. }, MarkForm::Keyless { .. }) => None,
+            (_, MarkForm::Keyless { .. }) => Some(Ordering::Less),
+            (
+                form,
+                MarkForm::Wmo {
+                    sub_centre,
+                    words,
+                    ..
+                },
+            ) => Some(form.order_to(&words.key(*sub_centre))),
+            (form, MarkForm::Mobile { key, .. }) => Some(form.order_to(&**key)),
+            (form, MarkForm::Other { key, .. }) => Some(form.order_to(&**key)),
+        }
+    }
+
+    /// The order of the slots, whatever the octets; none where neither has a key.
+    #[inline(always)]
+    pub(crate) fn keyed_order(&self, other: &Mark) -> Option<Ordering>
+        ensures { MatchOption result ((self.now.key ≡ None) × (other.now.key ≡ None))
+            (λ order. (by_octets : Ordering)
+            → order ≡ slot_by self.now.key other.now.key by_octets) }
+    {
+        let MarkForm::Wmo {
+            sub_centre,
+            words,
+            ..
+        } = &self.form
+        else {
+            return self.order_by_key(other);
+        };
+        let MarkForm::Wmo {
+            sub_centre: other_sub_centre,
+            words: other_words,
+            ..
+        } = &other.form
+        else {
+            return self.order_by_key(other);
+        };
+        Some(words.order(*sub_centre, *other_words, *other_sub_centre))
+    }
+
     /// The order of the slots of two entries with these octets: those with a key by key, and after
     /// them those without by octets.
-    #[tactic(auto, using(crate::specs::PackedKeyLaws::wmo_keys_are))]
+    #[inline(always)]
     pub fn slot_order(&self, bytes: &[u8], other: &Mark, other_bytes: &[u8]) -> Ordering
         ensures { let by_octets = octets_cmp bytes.now other_bytes.now in
             result ≡ slot_by self.now.key other.now.key by_octets }
     {
-        if let (MarkForm::Wmo { key: one, .. }, MarkForm::Wmo { key: two, .. }) = (
-            &self.form,
-            &other.form,
-        ) {
-            return one.cmp(two);
-        }
-        if let Some(order) = self.told(other) {
-            return order;
-        }
-        match (&self.form, &other.form) {
-            (MarkForm::Keyless { .. }, MarkForm::Keyless { .. }) => bytes.cmp(other_bytes),
-            (_, MarkForm::Keyless { .. }) => Ordering::Less,
-            (form, MarkForm::Wmo { key, .. }) => form.order_to(&key.key()),
-            (form, MarkForm::Mobile { key, .. }) => form.order_to(&**key),
-            (form, MarkForm::Other { key, .. }) => form.order_to(&**key),
+        match self.keyed_order(other) {
+            Some(order) => order,
+            None => bytes.cmp(other_bytes),
         }
     }
 }

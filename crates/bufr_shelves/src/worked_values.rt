@@ -1,11 +1,12 @@
 //! Worked examples of the definitions.
-ghost use Rattle.std.specs.Prelude.{◌≡◌, ◌∷◌, [], Some, None, true, false, pos, negsuc, map, codes};
+ghost use Rattle.std.specs.Prelude.{◌≡◌, ◌∷◌, [], Some, None, true, false, map, codes};
 ghost use Rattle.std.specs.declared.cmp.Ordering.TheVariants.{Less, Equal, Greater};
 ghost use Rattle.bufr_keys.specs.declared.key.Station.TheVariants.{Wmo};
 ghost use Rattle.bufr_keys.specs.KeyOrders.{octets_cmp, station_cmp, moment_cmp, key_cmp};
 ghost use Rattle.bufr_shelves.specs.Entries.{coarse_key_cmp, slot_by, rank_cmp, slot_cmp, kept, changes, entry_at, entry_after};
 ghost use Rattle.bufr_shelves.specs.Keeping.{first_of};
-ghost use Rattle.bufr_shelves.specs.Fronts.{front_cmp, front_of_key, in_two_octets, first_octets};
+ghost use Rattle.bufr_shelves.specs.PackedKeys.{wmo_key};
+ghost use Rattle.bufr_shelves.specs.Fronts.{front_cmp, front_of_key, first_octets};
 ghost use Rattle.bufr_keys.specs.Samples.{orders, turned, time, moments_by_part, wmo, stations_by_part, stations_by_kind, key_of, keys_by_part};
 ghost use Rattle.bufr_shelves.specs.Samples.{entry, gathered, held};
 
@@ -47,13 +48,24 @@ pub fn keeping()
         ∷ Some (entry None 0 (codes "A")) ∷ None ∷ [] }
 {}
 
-/// Fronts: which numbers stand in them, and which octets of a name. Keys of the same front leave
-/// their order open.
+/// The key of a WMO station in little room: which bits each part has.
+pub fn packed_keys()
+    ensures parts { wmo_key (record { high = 0x0102_03_04_05_0607_08; low = 0x09_0A0B_0C_0D_0E_0F_10 }) 17
+        ≡ record {
+          centre = 258;
+          category = 3;
+          international = 4;
+          local_category = 5;
+          station = wmo 1543 2057;
+          moment = time 2571 12 13 14 15 16;
+          sub_centre = 17;
+        } }
+{}
+
+/// Fronts: which octets of a name stand in them. Keys of the same front leave their order open.
 pub fn fronts()
-    ensures numbers { map in_two_octets (negsuc 0 ∷ pos 0 ∷ pos 253 ∷ pos 254 ∷ pos 65535
-        ∷ pos 65536 ∷ []) ≡ None ∷ Some 0 ∷ Some 253 ∷ Some 254 ∷ Some 65535 ∷ None ∷ [] }
     ensures short { first_octets 8 (codes "AB") ≡ 65 ∷ 66 ∷ 0 ∷ 0 ∷ 0 ∷ 0 ∷ 0 ∷ 0 ∷ [] }
     ensures long { first_octets 8 (codes "ABCDEFGHIJ") ≡ codes "ABCDEFGH" }
     ensures parts { orders (λ a b. front_cmp (front_of_key a) (front_of_key b)) keys_by_part
-        ≡ Less ∷ Less ∷ Less ∷ Less ∷ Less ∷ Less ∷ Equal ∷ [] }
+        ≡ Less ∷ Less ∷ Less ∷ Less ∷ Equal ∷ Equal ∷ Equal ∷ [] }
 {}

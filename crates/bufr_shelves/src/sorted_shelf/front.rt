@@ -1,9 +1,8 @@
 //! What of the key of a mark is compared first.
 ghost use Rattle.std.specs.Prelude.{◌≡◌, get_or};
-ghost use Rattle.bufr_shelves.specs.declared.sorted_shelf.front.FrontPlace.TheVariants.{Wmo};
-ghost use Rattle.bufr_shelves.specs.Fronts.{front_cmp, place_cmp, front_of_key, first_octets};
+ghost use Rattle.bufr_shelves.specs.Fronts.{front_cmp, place_cmp, front_of_key, head_of_key, first_octets};
 
-use bufr_keys::{Key, Moment, Station};
+use bufr_keys::{Key, Station};
 use std::cmp::Ordering;
 
 /// Centre and categories of a key.
@@ -15,19 +14,11 @@ pub(crate) struct FrontHead {
     pub(crate) local_category: u8,
 }
 
-/// A WMO station whose block and number have room in two octets each, and the moment.
-#[derive(Clone, Copy, Drop, PartialEq, Eq, PartialOrd, Ord)]
-pub(crate) struct WmoPlace {
-    pub(crate) block: u16,
-    pub(crate) number: u16,
-    pub(crate) moment: Moment,
-}
-
-/// Station and moment of a key, as far as they stand in a front.
+/// The station of a key, as far as it stands in a front.
 #[derive(Clone, Copy, Drop)]
 pub(crate) enum FrontPlace {
-    /// A WMO station whose numbers have room.
-    Wmo(WmoPlace),
+    /// A WMO station: which, the key tells.
+    Wmo,
     /// The first eight octets of a mobile name, zeros behind a shorter one.
     Mobile { name: [u8; 8] },
     /// Any other: only the key tells.
@@ -41,42 +32,36 @@ pub(crate) struct Front {
     pub(crate) place: FrontPlace,
 }
 
+impl FrontHead {
+    /// That of a key.
+    pub(crate) fn of_key(key: &Key) -> FrontHead
+        ensures { result ≡ head_of_key key.now }
+    {
+        FrontHead {
+            centre: key.centre,
+            category: key.category,
+            international: key.international,
+            local_category: key.local_category,
+        }
+    }
+}
+
 impl Front {
     /// That of a key.
     pub(crate) fn of_key(key: &Key) -> Front
         ensures { result ≡ front_of_key key.now }
     {
         let place = match &key.station {
-            Station::Wmo { block, number } => {
-                match (u16::try_from(*block), u16::try_from(*number)) {
-                    (Ok(block), Ok(number)) => FrontPlace::Wmo(WmoPlace {
-                        block,
-                        number,
-                        moment: key.moment,
-                    }),
-                    _ => FrontPlace::Open,
-                }
-            }
+            Station::Wmo { .. } => FrontPlace::Wmo,
             Station::Wigos { .. } => FrontPlace::Open,
             Station::Mobile { name } => FrontPlace::Mobile {
                 name: first_eight(name.as_slice()),
             },
         };
-        let head = FrontHead {
-            centre: key.centre,
-            category: key.category,
-            international: key.international,
-            local_category: key.local_category,
-        };
-        Front { head, place }
-    }
-
-    /// That of a WMO station whose numbers have room.
-    pub(crate) fn of_wmo(head: FrontHead, place: WmoPlace) -> Front
-        ensures { result ≡ record { head = head; place = Wmo place } }
-    {
-        let place = FrontPlace::Wmo(place);
-        Front { head, place }
+        Front {
+            head: FrontHead::of_key(key),
+            place,
+        }
     }
 
     /// Which of two keys comes first, as far as their fronts tell; `Equal` where they don't.
@@ -91,14 +76,13 @@ impl Front {
 }
 
 impl FrontPlace {
-    /// The same of station and moment.
+    /// The same of the stations.
     fn order(&self, other: &FrontPlace) -> Ordering
         ensures { result ≡ place_cmp self.now other.now }
     {
         match (self, other) {
-            (FrontPlace::Wmo(one), FrontPlace::Wmo(two)) => one.cmp(two),
-            (FrontPlace::Wmo(_), FrontPlace::Mobile { .. }) => Ordering::Less,
-            (FrontPlace::Mobile { .. }, FrontPlace::Wmo(_)) => Ordering::Greater,
+            (FrontPlace::Wmo, FrontPlace::Mobile { .. }) => Ordering::Less,
+            (FrontPlace::Mobile { .. }, FrontPlace::Wmo) => Ordering::Greater,
             (FrontPlace::Mobile { name }, FrontPlace::Mobile { name: other_name }) => {
                 name.cmp(other_name)
             }

@@ -3,6 +3,7 @@ ghost use Rattle.std.specs.Prelude.{◌≡◌, ◌+◌, ◌*◌, ◌<◌, ◌≤
 ghost use Rattle.std.specs.Vec.{vec_capacity};
 ghost use Rattle.std.specs.Option.{option_map, option_to_list};
 ghost use Rattle.std.specs.List.Sorted.{IsPermutation};
+ghost use Rattle.bufr_shelves.specs.Entries.{slot_cmp};
 ghost use Rattle.bufr_shelves.specs.Keeping.{first_of};
 ghost use Rattle.bufr_shelves.specs.Pages.{marked, mark_of, seen, waits_in, octets_waiting, AreLast, AreRising};
 
@@ -12,6 +13,7 @@ use crate::sorted_shelf::gathered::Look;
 use crate::sorted_shelf::merge::take_last;
 use bufr_answers::OutOfMemory;
 use std::alloc::Global;
+use std::cmp::Ordering;
 use std::marker::Model;
 
 /// The fewest entries that wait before they are put in order, unless they are long.
@@ -61,6 +63,17 @@ impl WaitingEntry {
         Look {
             mark: &self.mark,
             octets: part(octets, self.from, self.len),
+        }
+    }
+
+    /// The order of the slots of two entries. Their octets are looked at only where neither has a key.
+    #[inline(always)]
+    fn slot_cmp(&self, other: &WaitingEntry, octets: &[u8]) -> Ordering
+        ensures { result ≡ slot_cmp (waits_in octets.now self.now) (waits_in octets.now other.now) }
+    {
+        match self.mark.keyed_order(&other.mark) {
+            Some(order) => order,
+            None => self.look(octets).octets.cmp(other.look(octets).octets),
         }
     }
 }
@@ -247,9 +260,8 @@ impl Waiting {
     {
         self.ahead.clear();
         let octets = self.octets.as_slice();
-        self.entries.sort_unstable_by(|waits, other| other
-            .look(octets)
-            .slot_cmp(waits.look(octets)));
+        self.entries
+            .sort_unstable_by(|waits, other| other.slot_cmp(waits, octets));
     }
 
     /// Gives all room back where no entry waits.

@@ -1,6 +1,7 @@
 //! Entries gathered in any order.
 use super::*;
-use bufr_shelves::ShelfBuilder;
+use bufr_answers::OutOfMemory;
+use bufr_shelves::{EntryOctets, ShelfBuilder};
 
 /// Puts an entry in.
 fn gather(
@@ -121,4 +122,60 @@ fn gathered_octets_handed_out(rt: HostRuntime) {
         same(&rt, octets, digits(number).as_slice());
     }
     assert!(rt; lent.next().is_none(), "no more");
+}
+
+/// An entry that has octets or none.
+#[derive(Drop)]
+struct Told<'a> {
+    octets: Option<&'a [u8]>,
+}
+
+impl EntryOctets for Told<'_> {
+    ghost use Rattle.std.specs.Option.{option_map};
+
+    ghost octets = { λ told. option_map (λ s. s.now) told.octets };
+
+    fn put_behind(&self, _: Global, out: &mut Vec<u8>) -> Result<bool, OutOfMemory> {
+        let Some(octets) = self.octets else {
+            return Ok(false);
+        };
+        out.extend_from_slice(octets)?;
+        Ok(true)
+    }
+}
+
+/// A station, unless there is no key, an update number, and octets or none.
+type Telling<'a> = (Option<i128>, u8, Option<&'a [u8]>);
+
+/// Entries that have octets, or none, which are left out whatever their update numbers.
+const TOLD: &[Telling<'static>] = &[
+    (Some(2), 0, Some(b"two")),
+    (Some(1), 9, None),
+    (None, 0, Some(b"")),
+    (Some(2), 9, None),
+    (None, 9, None),
+    (Some(1), 3, Some(b"one")),
+    (Some(2), 1, Some(b"more")),
+    (None, 0, Some(b"without")),
+];
+
+/// What is kept of them.
+const TOLD_IN_ORDER: &[Kept<'static>] = &[
+    (true, 3, b"one"),
+    (true, 1, b"more"),
+    (false, 0, b""),
+    (false, 0, b"without"),
+];
+
+/// Octets are put where the entry waits, and an entry that has none is not put in.
+#[test]
+fn octets_put_where_they_wait(rt: HostRuntime) {
+    let mut builder = ShelfBuilder::new(rt.alloc());
+    for (number, update, octets) in TOLD {
+        let told = Told { octets: *octets };
+        let answer = builder.put_octets_of(noon(*number), *update, &told);
+        answer.expect(&rt, "room");
+    }
+    let shelf = builder.into_shelf().expect(&rt, "room");
+    assert_holds(&rt, &shelf, TOLD_IN_ORDER);
 }

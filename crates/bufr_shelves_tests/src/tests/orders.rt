@@ -210,10 +210,104 @@ fn order_of_marks(rt: HostRuntime) {
         row_of(&rt, alloc, None, 9, b"a"),
         row_of(&rt, alloc, None, 0, b"b"),
     ];
+    assert_in_order(&rt, &rows);
+}
+
+/// The marks have what they were made of, and each comes before those behind it.
+fn assert_in_order(rt: &impl Abort, rows: &[Marked]) {
     for (place, row) in rows.iter().enumerate() {
-        assert_mark(&rt, row);
+        assert_mark(rt, row);
         for (other_place, other) in rows.iter().enumerate() {
-            assert_marks(&rt, row, other, place, other_place);
+            assert_marks(rt, row, other, place, other_place);
         }
     }
+}
+
+/// The mark of a key.
+fn row_with<'a>(rt: &impl Abort, alloc: Global, key: Key) -> Marked<'a> {
+    row_of(rt, alloc, Some(key), 0, b"a")
+}
+
+/// Marks of WMO stations are in order at each part of the key. That of a mobile name comes behind those
+/// whose centre and categories are its own, and before those where one of these is greater.
+#[test]
+fn marks_at_each_part(rt: HostRuntime) {
+    let alloc = rt.alloc();
+    for index in 0..13u8 {
+        let fives = row_with(&rt, alloc, wmo_key(13));
+        let key = row_with(&rt, alloc, wmo_key(index));
+        let mobile = row_with(&rt, alloc, mobile_key(&rt, alloc, 12));
+        let rows = if index < 4 {
+            [fives, mobile, key]
+        } else {
+            [fives, key, mobile]
+        };
+        assert_in_order(&rt, &rows);
+    }
+}
+
+/// Blocks and station numbers in order, at both sides of where an octet ends.
+const NUMBERS: &[(i128, i128)] = &[
+    (-1, 65_535),
+    (0, -1),
+    (0, 0),
+    (0, 255),
+    (0, 256),
+    (0, 65_535),
+    (0, 65_536),
+    (1, 0),
+    (255, 65_535),
+    (256, 0),
+    (256, 255),
+    (256, 256),
+    (65_535, 0),
+    (65_535, 65_535),
+    (65_536, 0),
+];
+
+/// Marks of WMO stations are in order of block and number, whatever room these take.
+#[test]
+fn marks_of_numbers(rt: HostRuntime) {
+    let alloc = rt.alloc();
+    let mut rows = Vec::new(alloc);
+    for (block, number) in NUMBERS {
+        let station = Station::wmo(*block, *number);
+        let key = key_with(station, moment_of(6, 13), 5, 13);
+        rows.push(row_with(&rt, alloc, key)).expect(&rt, "room");
+    }
+    assert_in_order(&rt, &rows);
+}
+
+/// A key whose parts have all their bits but for one part, which has none of them.
+fn full_key(sub_centre: u16, second: u8, number: i128, centre: u16) -> Key {
+    Key {
+        centre,
+        category: 255,
+        international: 255,
+        local_category: 255,
+        station: Station::wmo(65_535, number),
+        moment: Moment {
+            year: 65_535,
+            month: 255,
+            day: 255,
+            hour: 255,
+            minute: 255,
+            second,
+        },
+        sub_centre,
+    }
+}
+
+/// Parts with all their bits stay apart.
+#[test]
+fn marks_of_full_parts(rt: HostRuntime) {
+    let alloc = rt.alloc();
+    let rows = [
+        row_with(&rt, alloc, full_key(65_535, 255, 65_535, 0)),
+        row_with(&rt, alloc, full_key(65_535, 255, 0, 65_535)),
+        row_with(&rt, alloc, full_key(65_535, 0, 65_535, 65_535)),
+        row_with(&rt, alloc, full_key(0, 255, 65_535, 65_535)),
+        row_with(&rt, alloc, full_key(65_535, 255, 65_535, 65_535)),
+    ];
+    assert_in_order(&rt, &rows);
 }

@@ -1,0 +1,10 @@
+-- For `WmoWords::order`: the two numbers and the sub-centre are in the order of the keys.
+use Rattle.std.proofs.Common.{◌≡◌, ◌<◌, ◌^◌, ◌∙◌, arith, ap}
+use Rattle.bufr_shelves.specs.PackedKeyLaws.{wmo_keys_are}
+use Rattle.bufr_shelves.proofs.sorted_shelf.packed_key.WmoWords.order.Goals as goal
+
+pub returns : goal.returns
+returns c =
+    rw (c.then.ensures, c.then-words.ensures, c.cmp.ensures, c.cmp-2.ensures, c.cmp-3.ensures)
+    (wmo_keys_are c.args.self c.args.other c.args.sub_centre c.args.other_sub_centre (omega arith) (omega arith)
+    (omega arith) (omega arith))
