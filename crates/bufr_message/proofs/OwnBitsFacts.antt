@@ -2,6 +2,7 @@
 -- `canonical_of_read` and `View::canonical`.
 use Rattle.std.proofs.Common.{◌≡◌, ℕ, zero, suc, ◌^◌, ◌<◌, Bool, true, false, List, [], ◌∷◌, ◌++◌, length}
 use Rattle.std.proofs.Common.{Option, Some, None, Result, Ok, Err, refl, sym, ap, subst, ◌∙◌, arith}
+use Rattle.std.specs.Prelude.{if◌then◌else◌}
 use Rattle.std.specs.Prelude.{nat_lt, nat_le, slice_get, IfOk, IfSome, option_map}
 use Rattle.std.specs.List.{AllByRecursion}
 use Rattle.std.proofs.lemmas.Bool.{and_from, le-leb, lt-ltb}
@@ -22,7 +23,8 @@ use Rattle.bufr_sections.specs.Sections.{Envelope}
 use Rattle.bufr_sections.specs.Spelt.{spelt_or}
 use Rattle.bufr_data.specs.Fits.{HasForm, of_text, of_number}
 use Rattle.bufr_data.specs.Plain.{plain}
-use Rattle.bufr_answers.specs.AnswerLaws.{bind_ok}
+use Rattle.bufr_answers.specs.Answers.{result_map}
+use Rattle.bufr_answers.specs.AnswerLaws.{bind_ok, ok_is}
 use Rattle.bufr_message.specs.declared.report.Report.{Report}
 use Rattle.bufr_message.specs.Below.{Below}
 use Rattle.bufr_message.specs.Encodings.{whole_octets, data_or, data_bits_or, enclosed_or}
@@ -31,7 +33,7 @@ use Rattle.bufr_message.specs.Encodings.{code}
 use Rattle.bufr_message.specs.Reports.{report_of, reports_of, with_no_local, alone, if_written}
 use Rattle.bufr_message.specs.Reports.{IsCanonical}
 use Rattle.bufr_message.specs.OwnBits.{has_room, have_room, HaveRoom, own_bits, spelt_with}
-use Rattle.bufr_message.specs.OwnBits.{report_with, spelt_alone}
+use Rattle.bufr_message.specs.OwnBits.{spelt_alone, IsPutBehind, AddsOwn}
 use Rattle.bufr_message.specs.Views.{AreReadFrom}
 use Rattle.bufr_message.proofs.AloneFacts.{StandsAlone, each_alone}
 use Rattle.bufr_message.proofs.EncodingFacts.{enclosed_is}
@@ -103,27 +105,39 @@ room_at [] i below rooms = absurd (omega arith)
 room_at (s ∷ ss) zero below rooms = (s, refl, rooms.0)
 room_at (s ∷ ss) (suc i) below rooms = room_at ss i (omega (arith, below)) rooms.1
 
--- what is spelt with the bits of the subset of a number is what its report spells alone
-pub spelt_there : {A E : Type 0} (m : Message) (i : ℕ) (contents : List ℕ) (items : A → List ℕ)
-    (answer : Result (Option A) E) → i < length m.subsets → HaveRoom m.subsets
+-- what is put behind others with the bits of the subset of a number is what its report spells alone
+pub put_there : {E : Type 0} (m : Message) (i : ℕ) (contents old new : List ℕ)
+    (answer : Result Bool E) → i < length m.subsets → HaveRoom m.subsets
     → IfSome (slice_get m.subsets i) (λ s. bits contents ≡ filled (plain s.fields))
     → ((s : Subset) (data_bits : List Bool) → bits contents ≡ filled data_bits
-    → IfOk answer (λ found. option_map items found ≡ spelt_with (report_of m s) (Some data_bits)))
-    → IfOk answer (λ found. option_map spelt_alone (slice_get (reports_of m) i)
-    ≡ Some (option_map items found))
-spelt_there m i contents items (Err e) below rooms holds spelt = tt
-spelt_there m i contents items (Ok found) below rooms holds spelt =
+    → IfOk answer (λ there. IsPutBehind old (spelt_with (report_of m s) (Some data_bits)) there new))
+    → IfOk answer (λ there. AddsOwn (slice_get (reports_of m) i) old there new)
+put_there m i contents old new (Err e) below rooms holds put = tt
+put_there m i contents old new (Ok there) below rooms holds put =
     let t = room_at m.subsets i below rooms in
     let s = t.0 in
     let held : bits contents ≡ filled (plain s.fields) =
     subst (λ (o : Option Subset). IfSome o (λ s. bits contents ≡ filled (plain s.fields))) t.1 holds
     in
     let own : own_bits s.fields ≡ Some (plain s.fields) = rw t.2 refl in
-    let is : spelt_alone (report_of m s) ≡ option_map items found =
-    ap (spelt_with (report_of m s)) own ∙ sym (spelt s (plain s.fields) held) in
-    ap (option_map spelt_alone)
-    (slice_get-map (report_of m) m.subsets i ∙ ap (option_map (report_of m)) t.1)
-    ∙ ap Some is
+    let alone =
+    subst (λ (o : Option (List Bool)). IsPutBehind old (spelt_with (report_of m s) o) there new)
+    (sym own) (put s (plain s.fields) held) in
+    subst (λ (o : Option Report). AddsOwn o old there new)
+    (sym (slice_get-map (report_of m) m.subsets i ∙ ap (option_map (report_of m)) t.1)) alone
+
+-- what was put behind none, where it is said whether there is some
+pub told_own : (own : Option (List ℕ)) (there some : Bool) (new : List ℕ)
+    → IsPutBehind [] own there new → there ≡ some → own ≡ (if some then Some new else None)
+told_own None there some new put is = rw (← is, put.0) refl
+told_own (Some octets) there some new put is = rw (← is, put.0, put.1) refl
+
+-- so it is what the report that is there spells alone
+pub told_there : (found : Option Report) (there some : Bool) (new : List ℕ)
+    → AddsOwn found [] there new → there ≡ some
+    → option_map spelt_alone found ≡ Some (if some then Some new else None)
+told_there None there some new put is = absurd put
+told_there (Some r) there some new put is = ap Some (told_own (spelt_alone r) there some new put is)
 
 -- the bits of a subset that were put behind none and filled to whole octets
 pub put_and_filled : (found : Option Subset) (begun put full : List Bool) (contents : List ℕ)
@@ -143,20 +157,48 @@ alone_is r h contents data_bits x whole same told =
     (enclosed_is (alone r) contents data_bits x whole
     (subst (λ (k : Head). spelt_or (envelope_alone k r contents) ≡ x) same told))
 
--- what is spelt with the bits of a report's own fields is what it spells alone
-pub own_spelt : {A E : Type 0} (r : Report) (contents : List ℕ) (items : A → List ℕ)
-    (answer : Result (Option A) E)
+-- so it is put behind others
+pub put_behind : (r : Report) (h : Head) (contents : List ℕ) (data_bits : List Bool)
+    (old new : List ℕ) → whole_octets data_bits ≡ contents → h ≡ with_no_local r.head
+    → result_map (λ o. old ++ o) (spelt_or (envelope_alone h r contents)) ≡ Ok new
+    → IsPutBehind old (spelt_with r (Some data_bits)) true new
+put_behind r h contents data_bits old new whole same told =
+    by_answer (spelt_or (envelope_alone h r contents)) refl
+  where
+    by_answer : (x : Result (List ℕ) WriteFault) → spelt_or (envelope_alone h r contents) ≡ x
+        → IsPutBehind old (spelt_with r (Some data_bits)) true new
+    by_answer (Ok octets) is =
+        rw (alone_is r h contents data_bits (Ok octets) whole same is)
+        (refl, sym (ok_is _ _ (rw is at told)))
+    by_answer (Err fault) is = let none = rw is at told in absurd cc
+
+-- or there is none
+pub none_behind : (r : Report) (h : Head) (contents : List ℕ) (data_bits : List Bool)
+    (old new : List ℕ) (fault : WriteFault) → whole_octets data_bits ≡ contents
+    → h ≡ with_no_local r.head
+    → result_map (λ o. old ++ o) (spelt_or (envelope_alone h r contents)) ≡ Err fault → new ≡ old
+    → IsPutBehind old (spelt_with r (Some data_bits)) false new
+none_behind r h contents data_bits old new fault whole same told kept =
+    by_answer (spelt_or (envelope_alone h r contents)) refl
+  where
+    by_answer : (x : Result (List ℕ) WriteFault) → spelt_or (envelope_alone h r contents) ≡ x
+        → IsPutBehind old (spelt_with r (Some data_bits)) false new
+    by_answer (Ok octets) is = let some = rw is at told in absurd cc
+    by_answer (Err other) is =
+        rw (alone_is r h contents data_bits (Err other) whole same is) (refl, kept)
+
+-- what is put with the bits of a report's own fields is what it spells alone
+pub own_put : (r : Report) (contents old new : List ℕ) (there : Bool)
     → Some (bits contents) ≡ option_map filled (own_bits r.subset.fields)
-    → ((s : Subset) (data_bits : List Bool) → bits contents ≡ filled data_bits
-    → IfOk answer (λ found. option_map items found
-    ≡ spelt_with (report_with r.head r.observed r.descriptors s) (Some data_bits)))
-    → IfOk answer (λ found. option_map items found ≡ spelt_alone r)
-own_spelt {A} {E} r contents items answer held spelt = by_own (own_bits r.subset.fields) refl
+    → ((data_bits : List Bool) → bits contents ≡ filled data_bits
+    → IsPutBehind old (spelt_with r (Some data_bits)) there new)
+    → IsPutBehind old (spelt_alone r) there new
+own_put r contents old new there held put = by_own (own_bits r.subset.fields) refl
   where
     by_own : (o : Option (List Bool)) → own_bits r.subset.fields ≡ o
-        → IfOk answer (λ found. option_map items found ≡ spelt_alone r)
+        → IsPutBehind old (spelt_alone r) there new
     by_own None is = let none = rw is at held in absurd cc
     by_own (Some d) is =
         let same : bits contents ≡ filled d = same_Some _ _ (rw is at held) in
-        subst (λ (o : Option (List Bool)). IfOk answer (λ found. option_map items found
-        ≡ spelt_with r o)) (sym is) (spelt r.subset d same)
+        subst (λ (o : Option (List Bool)). IsPutBehind old (spelt_with r o) there new) (sym is)
+        (put d same)

@@ -1,6 +1,6 @@
 -- The octets that a report's own fields spell alone. The tables are not asked: a report under some
 -- tables has this one canonical message under each tables under which it has one.
-use Rattle.std.specs.Prelude.{◌≡◌, ℕ, ◌^◌, ◌&&◌, Bool, true, List, Option, Some, None, nat_lt}
+use Rattle.std.specs.Prelude.{◌≡◌, ℕ, ◌^◌, ◌&&◌, ◌++◌, Bool, true, false, List, Option, Some, None, nat_lt}
 use Rattle.std.specs.Prelude.{nat_le, if◌then◌else◌}
 use Rattle.std.specs.List.{AllByRecursion, list_all}
 use Rattle.bufr_tables.specs.Entries.{Entries}
@@ -11,7 +11,6 @@ use Rattle.bufr_data.specs.declared.field.Subset.{Subset}
 use Rattle.bufr_data.specs.Plain.{plain}
 use Rattle.bufr_data.specs.Limits.{most_raw_bits}
 use Rattle.bufr_message.specs.declared.report.Report.{Report}
-use Rattle.bufr_message.specs.declared.report.ReportHead.{ReportHead}
 use Rattle.bufr_message.specs.Encodings.{enclosed_or}
 use Rattle.bufr_message.specs.Reports.{alone, if_written, IsCanonical}
 
@@ -33,16 +32,6 @@ own_bits fields = if have_room fields then Some (plain fields) else None
 abbrev pub HaveRoom : List Subset → Type 0
 HaveRoom subsets = AllByRecursion (λ s. have_room s.fields ≡ true) subsets
 
--- a report of these parts
-abbrev pub report_with : ReportHead → Bool → List ℕ → Subset → Report
-report_with head observed descriptors subset =
-    record {
-      head = head;
-      observed = observed;
-      descriptors = descriptors;
-      subset = subset;
-    }
-
 -- the octets of the report alone with these data bits, where it is not too long
 abbrev pub spelt_with : Report → Option (List Bool) → Option (List ℕ)
 spelt_with r None = None
@@ -51,6 +40,17 @@ spelt_with r (Some data_bits) = if_written (enclosed_or (alone r) data_bits)
 -- the octets that the report's own fields spell
 abbrev pub spelt_alone : Report → Option (List ℕ)
 spelt_alone r = spelt_with r (own_bits r.subset.fields)
+
+-- octets were put behind others, and it is said that there are some; or there are none, and the
+-- others are as they were
+abbrev pub IsPutBehind : List ℕ → Option (List ℕ) → Bool → List ℕ → Type 0
+IsPutBehind old None there new = (there ≡ false) × (new ≡ old)
+IsPutBehind old (Some octets) there new = (there ≡ true) × (new ≡ old ++ octets)
+
+-- what the report that is there spells alone was put behind others, or there is none
+abbrev pub AddsOwn : Option Report → List ℕ → Bool → List ℕ → Type 0
+AddsOwn None old there new = ⊥
+AddsOwn (Some r) old there new = IsPutBehind old (spelt_alone r) there new
 
 -- a canonical message, under whatever tables, is what the report's own fields spell
 abbrev pub CanonicalIsOwn : Type 0

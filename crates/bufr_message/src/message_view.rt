@@ -1,7 +1,7 @@
 //! Messages whose reports are built one at a time.
 
 ghost use Rattle.std.specs.Prelude.{◌≡◌, ℕ, ◌-◌, ◌/◌, ◌≤◌, List, length, slice_get, Some, IfOk};
-ghost use Rattle.std.specs.Prelude.{option_map};
+ghost use Rattle.std.specs.Prelude.{option_map, OnErr};
 ghost use Rattle.bufr_bits.specs.Bits.{bits};
 ghost use Rattle.bufr_answers.specs.Answers.{Gives, result_map};
 ghost use Rattle.bufr_tables.specs.Entries.{Entries};
@@ -12,15 +12,15 @@ ghost use Rattle.bufr_sections.specs.Sections.{descriptors_of};
 ghost use Rattle.bufr_sections.specs.SectionsRead.{envelope, message_lent};
 ghost use Rattle.bufr_message.specs.Kept.{AreOf, message_under};
 ghost use Rattle.bufr_message.specs.Messages.{Spells, data_or, message_of, message_with};
-ghost use Rattle.bufr_message.specs.OwnBits.{HaveRoom, spelt_alone};
+ghost use Rattle.bufr_message.specs.OwnBits.{HaveRoom, spelt_alone, AddsOwn};
 ghost use Rattle.bufr_message.specs.Reports.{reports_of, IsUnder};
 ghost use Rattle.bufr_message.specs.Views.{AreReadFrom};
 
 use crate::alone::can_be_alone;
 use crate::kept::{Kept, bring_to_front};
 use crate::laws::reports_have_canonical_messages;
-use crate::own_bits::enclosed_alone;
-use crate::report::{Report, ReportHead, report_with};
+use crate::own_bits::put_alone;
+use crate::report::{Report, report_with};
 use bufr_answers::{Failure, Items, OutOfMemory};
 use bufr_bits::{BitReader, BitSink};
 use bufr_data::laws::data_hold_subsets;
@@ -159,16 +159,40 @@ impl<'a> View<'a> {
             option_map spelt_alone (slice_get (reports_of self.now.message) (number - 1))
             ≡ Some (option_map (λ v. v.items) found)) }
     {
-        let head = ReportHead::of_head(&self.sections.head);
+        let mut octets = Vec::new(alloc);
+        if !self.put_canonical(alloc, number, &mut octets)? {
+            return Ok(None);
+        }
+        Ok(Some(octets))
+    }
+
+    /// Puts the canonical message of the report of this number, from 1, behind other octets, and
+    /// says whether there is one: what `canonical` answers. It can only run out of memory. Where
+    /// there is none, or it does, the others are as they were.
+    pub fn put_canonical(
+        &self,
+        alloc: Global,
+        number: usize,
+        out: &mut Vec<u8>,
+    ) -> Result<bool, OutOfMemory>
+        requires first { 1 ≤ number }
+        requires last { number ≤ length self.now.message.subsets }
+        ensures put { IfOk result (λ there.
+            AddsOwn (slice_get (reports_of self.now.message) (number - 1))
+            out.old.items there out.new.items) }
+        ensures err { OnErr result (out.new.items ≡ out.old.items) }
+    {
+        let head = &self.sections.head;
         let observed = self.sections.observed;
         let descriptors = self.descriptors.as_slice();
         if let Some(contents) = self.subsets.lent(number) {
-            return enclosed_alone(alloc, &head, observed, descriptors, contents);
+            return put_alone(alloc, head, observed, descriptors, contents, out);
         }
         let mut sink = BitSink::with_capacity(alloc, OCTETS_WITH_ROOM)?;
         self.subsets.put(alloc, number, &mut sink)?;
         sink.fill_octet();
-        enclosed_alone(alloc, &head, observed, descriptors, &sink.into_bytes())
+        let contents = sink.into_bytes();
+        put_alone(alloc, head, observed, descriptors, &contents, out)
     }
 
     /// The message, with all its subsets built. It can only run out of memory; the view is then

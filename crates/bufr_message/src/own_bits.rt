@@ -1,6 +1,6 @@
 //! The canonical message of a report that was read, from its own fields alone.
 
-ghost use Rattle.std.specs.Prelude.{◌≡◌, ◌++◌, ◌^◌, ◌&&◌, ℕ, Bool, List, true, Some, IfOk, OnOk};
+ghost use Rattle.std.specs.Prelude.{◌≡◌, ◌++◌, ◌^◌, ◌&&◌, ℕ, Bool, List, true, Some, IfOk, OnOk, OnErr};
 ghost use Rattle.std.specs.Prelude.{option_map, nat_lt, nat_le};
 ghost use Rattle.bufr_bits.specs.Bits.{bits};
 ghost use Rattle.bufr_tables.specs.Entries.{Entries};
@@ -8,15 +8,16 @@ ghost use Rattle.bufr_data.specs.declared.field.Subset.{Subset};
 ghost use Rattle.bufr_data.specs.Plain.{raw_bits};
 ghost use Rattle.bufr_data.specs.Limits.{most_raw_bits};
 ghost use Rattle.bufr_data.specs.Subsets.{filled};
-ghost use Rattle.bufr_message.specs.OwnBits.{has_room, own_bits, report_with, spelt_alone, spelt_with};
-ghost use Rattle.bufr_message.specs.Reports.{IsCanonical};
+ghost use Rattle.bufr_message.specs.OwnBits.{has_room, own_bits, spelt_alone, spelt_with};
+ghost use Rattle.bufr_message.specs.OwnBits.{IsPutBehind};
+ghost use Rattle.bufr_message.specs.Reports.{with_parts, without_local, with_no_local, IsCanonical};
 
 use crate::laws::canonical_messages_are_own;
 use crate::report::{Report, ReportHead};
 use bufr_answers::{Failure, OutOfMemory};
 use bufr_bits::BitSink;
 use bufr_data::{Field, MOST_RAW_BITS, Raw};
-use bufr_sections::{LentSections, spell};
+use bufr_sections::{Head, LentSections, spell_behind};
 use bufr_tables::Fxy;
 use std::alloc::Global;
 
@@ -48,40 +49,68 @@ fn spelt_alone(alloc: Global, report: &Report) -> Result<Option<Vec<u8>>, OutOfM
     let Some(contents) = bits_of_fields(alloc, fields)? else {
         return Ok(None);
     };
-    enclosed_alone(
-        alloc,
-        &report.head,
-        report.observed,
-        report.descriptors.as_slice(),
-        &contents,
-    )
+    let head = report.head.with_no_local(alloc);
+    let descriptors = report.descriptors.as_slice();
+    let mut octets = Vec::new(alloc);
+    if !put_with_head(&head, report.observed, descriptors, &contents, &mut octets)? {
+        return Ok(None);
+    }
+    Ok(Some(octets))
 }
 
-/// The octets that say alone a subset with this head, this flag and these descriptors, whose data
-/// bits, filled, are the contents; `None` where they are too many. It can only run out of memory.
-pub(crate) fn enclosed_alone(
+/// Puts the octets that say alone a subset with this head but for its octets for local use, this
+/// flag and these descriptors, whose data bits, filled, are the contents, behind others, and says
+/// whether there are any: there are none where they are too many. It can only run out of memory.
+/// Where there are none, or it does, the others are as they were.
+pub(crate) fn put_alone(
     alloc: Global,
-    head: &ReportHead,
+    head: &Head,
     observed: bool,
     descriptors: &[Fxy],
     contents: &[u8],
-) -> Result<Option<Vec<u8>>, OutOfMemory>
-    ensures { (subset : Subset) (data_bits : List Bool) → bits contents.now ≡ filled data_bits
-        → IfOk result (λ found. option_map (λ v. v.items) found
-        ≡ spelt_with (report_with head.now observed descriptors.now subset) (Some data_bits)) }
+    out: &mut Vec<u8>,
+) -> Result<bool, OutOfMemory>
+    ensures put { (subset : Subset) (data_bits : List Bool)
+        → bits contents.now ≡ filled data_bits
+        → IfOk result (λ there. IsPutBehind out.old.items (spelt_with
+        (with_parts head.now observed descriptors.now subset) (Some data_bits))
+        there out.new.items) }
+    ensures err { OnErr result (out.new.items ≡ out.old.items) }
 {
-    let head = head.with_no_local(alloc);
+    if head.local.is_empty() {
+        return put_with_head(head, observed, descriptors, contents, out);
+    }
+    let head = ReportHead::of_head(head).with_no_local(alloc);
+    put_with_head(&head, observed, descriptors, contents, out)
+}
+
+/// The same with a head that has no octets for local use.
+fn put_with_head(
+    head: &Head,
+    observed: bool,
+    descriptors: &[Fxy],
+    contents: &[u8],
+    out: &mut Vec<u8>,
+) -> Result<bool, OutOfMemory>
+    requires { head.now ≡ with_no_local (without_local head.now) }
+    ensures put { (subset : Subset) (data_bits : List Bool)
+        → bits contents.now ≡ filled data_bits
+        → IfOk result (λ there. IsPutBehind out.old.items (spelt_with
+        (with_parts head.now observed descriptors.now subset) (Some data_bits))
+        there out.new.items) }
+    ensures err { OnErr result (out.new.items ≡ out.old.items) }
+{
     let none = None;
     let sections = LentSections {
-        head: &head,
+        head,
         section2: &none,
         observed,
         compressed: false,
         descriptors,
     };
-    match spell(alloc, &sections, 1, contents) {
-        Ok(octets) => Ok(Some(octets)),
-        Err(Failure::Fault(_)) => Ok(None),
+    match spell_behind(out, &sections, 1, contents) {
+        Ok(()) => Ok(true),
+        Err(Failure::Fault(_)) => Ok(false),
         Err(Failure::OutOfMemory) => Err(OutOfMemory),
     }
 }

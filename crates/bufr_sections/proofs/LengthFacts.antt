@@ -1,6 +1,6 @@
 -- How long the octets of a message are: for `spell`, and for the law on the shortest spelling.
 use Rattle.std.proofs.Common.{◌≡◌, ℕ, ◌+◌, ◌*◌, ◌≤◌, Option, Some, None, List, [], ◌∷◌, ◌++◌}
-use Rattle.std.proofs.Common.{length, codes, refl, ap, ◌∙◌, arith, append_assoc}
+use Rattle.std.proofs.Common.{length, codes, refl, arith}
 use Rattle.std.specs.List.{flat_map}
 use Rattle.std.specs.Int.{bytes_high_first}
 use Rattle.std.proofs.lemmas.List.{length-append}
@@ -9,7 +9,7 @@ use Rattle.bufr_sections.specs.declared.layout.Layout.TheVariants.{Edition4}
 use Rattle.bufr_sections.specs.Spelt.{bare}
 use Rattle.bufr_sections.specs.Sections.{Envelope, Ignored, spelling, sections, enclosed}
 use Rattle.bufr_sections.specs.Sections.{is_present}
-use Rattle.bufr_sections.specs.Sections.{nothing_ignored, section, section1, section2, section3}
+use Rattle.bufr_sections.specs.Sections.{nothing_ignored, section1, section2, section3}
 use Rattle.bufr_sections.specs.Sections.{section4}
 
 -- two octets a descriptor
@@ -57,19 +57,6 @@ length_of_spelling e =
     let all =
     length_of_sections e in let whole =
     length_of_enclosed Edition4 (sections Edition4 e nothing_ignored) in omega arith
-
--- a section that is written in pieces: its length, its first octets and the rest
-pub section_of_pieces : (old one two new front back : List ℕ) (n : ℕ)
-    → n ≡ 3 + length front + length back → one ≡ old ++ bytes_high_first 3 n → two ≡ one ++ front
-    → new ≡ two ++ back → new ≡ old ++ section (front ++ back)
-section_of_pieces old one two new front back n long first second third =
-    let both = length-append front back in
-    let total : n ≡ 3 + length (front ++ back) = omega arith in
-    third
-    ∙ ap (λ x. x ++ back)
-    (second ∙ ap (λ x. x ++ front) (first ∙ ap (λ m. old ++ bytes_high_first 3 m) total))
-    ∙ append_assoc (old ++ bytes_high_first 3 (3 + length (front ++ back))) front back
-    ∙ append_assoc old (bytes_high_first 3 (3 + length (front ++ back))) (front ++ back)
 
 -- what is ignored in section 2 adds nothing
 length_of_section2 : (local : Option (List ℕ)) (i : ℕ)

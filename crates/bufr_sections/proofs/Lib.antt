@@ -4,5 +4,6 @@ pub mod ListFacts
 pub mod SectionFacts
 pub mod SpellingFacts
 pub mod LengthFacts
+pub mod BehindFacts
 pub mod HeadFacts
 pub mod RefusalFacts

@@ -21,4 +21,4 @@ pub use lent_sections::LentSections;
 pub use listed::{are_listed, descriptors_of};
 pub use message::{Decoded, Head, Message};
 pub use sections::read_sections;
-pub use spelling::{LONGEST, MOST_SUBSETS, spell};
+pub use spelling::{LONGEST, MOST_SUBSETS, spell, spell_behind};

@@ -1,29 +1,17 @@
 //! The octets of the sections.
 
-ghost use Rattle.std.specs.Prelude.{◌≡◌, ◌+◌, ◌*◌, ◌<◌, ◌^◌, ◌++◌, ◌∷◌, [], length, OnOk};
+ghost use Rattle.std.specs.Prelude.{◌≡◌, ◌+◌, ◌*◌, ◌<◌, ◌^◌, ◌++◌, ◌∷◌, length, take, drop, codes};
+ghost use Rattle.std.specs.Prelude.{OnOk, OnErr};
 ghost use Rattle.std.specs.List.{flat_map};
 ghost use Rattle.std.specs.Int.{byte_at, bytes_high_first};
-ghost use Rattle.bufr_sections.specs.Sections.{section, section1, section2, section4, flag};
+ghost use Rattle.bufr_sections.specs.Sections.{section, section1, section2, flag, is_present};
 ghost use Rattle.bufr_sections.specs.Sections.{nothing_ignored};
 ghost use Rattle.bufr_sections.specs.Spelt.{bare_section3};
 ghost use Rattle.bufr_sections.specs.declared.layout.Layout.TheVariants.{Edition4};
 
-use crate::message::Head;
+use crate::lent_sections::LentSections;
 use bufr_answers::{Items, OutOfMemory};
 use bufr_tables::Fxy;
-
-/// Adds the three octets of a length.
-pub(crate) fn push_length(out: &mut Vec<u8>, length: u64) -> Result<(), OutOfMemory>
-    requires { length < 2 ^ 24 }
-    ensures { OnOk result (out.new.items ≡ out.old.items ++ bytes_high_first 3 length) }
-{
-    let octets = [
-        (length / 65536) as u8,
-        (length / 256 % 256) as u8,
-        (length % 256) as u8,
-    ];
-    out.extend_from_slice(&octets)
-}
 
 /// The first of the two octets of a number.
 fn high(number: u16) -> u8
@@ -39,12 +27,25 @@ fn low(number: u16) -> u8
     (number % 256) as u8
 }
 
-/// Adds the two octets of a number.
-pub(crate) fn push_pair(out: &mut Vec<u8>, number: u16) -> Result<(), OutOfMemory>
-    ensures { OnOk result (out.new.items ≡ out.old.items ++ bytes_high_first 2 number) }
+/// The first of the three octets of a length.
+fn high_of_three(length: u64) -> u8
+    ensures { result ≡ byte_at 2 length }
 {
-    let octets = [high(number), low(number)];
-    out.extend_from_slice(&octets)
+    (length / 65536 % 256) as u8
+}
+
+/// The second of the three octets of a length.
+fn middle_of_three(length: u64) -> u8
+    ensures { result ≡ byte_at 1 length }
+{
+    (length / 256 % 256) as u8
+}
+
+/// The third of the three octets of a length.
+fn low_of_three(length: u64) -> u8
+    ensures { result ≡ byte_at 0 length }
+{
+    (length % 256) as u8
 }
 
 /// The weight of a flag that is up, else 0.
@@ -54,34 +55,44 @@ fn flag(up: bool, weight: u8) -> u8
     if up { weight } else { 0 }
 }
 
-/// Adds a section: its length, and two runs of octets behind it.
-fn push_section(out: &mut Vec<u8>, front: &[u8], back: &[u8]) -> Result<(), OutOfMemory>
-    requires { 3 + length front.now + length back.now < 2 ^ 24 }
-    ensures { OnOk result (out.new.items ≡ out.old.items ++ section (front.now ++ back.now)) }
-{
-    push_length(out, 3 + front.len() as u64 + back.len() as u64)?;
-    out.extend_from_slice(front)?;
-    out.extend_from_slice(back)
-}
+/// How many octets stand at fixed places before those for local use: section 0 and the first 22 of
+/// section 1.
+const BEFORE_LOCAL: usize = 30;
 
-/// Adds section 1.
-pub(crate) fn push_section1(
-    out: &mut Vec<u8>,
-    head: &Head,
-    announced: bool,
-) -> Result<(), OutOfMemory>
-    requires { 22 + length head.now.local < 2 ^ 24 }
-    ensures { OnOk result
-        (out.new.items ≡ out.old.items ++ section1 Edition4 head.now announced nothing_ignored) }
+/// The octets at fixed places: section 0, section 1 but for its octets for local use, and section 3
+/// but for its descriptors.
+pub(crate) fn fixed_octets(sections: &LentSections<'_>, count: u16, total: u64) -> [u8; 37]
+    requires local { 22 + length sections.now.head.now.local < 2 ^ 24 }
+    requires listed { 7 + 2 * length sections.now.descriptors.now < 2 ^ 24 }
+    ensures start { take 30 result ++ sections.now.head.now.local
+        ≡ codes "BUFR" ++ bytes_high_first 3 total ++ 4 ∷ section1 Edition4 sections.now.head.now
+        (is_present sections.now.section2.now) nothing_ignored }
+    ensures end { drop 30 result ++ flat_map (bytes_high_first 2) sections.now.descriptors.now
+        ≡ bare_section3 count sections.now.observed sections.now.compressed
+        sections.now.descriptors.now }
 {
-    let octets = [
+    let head = sections.head;
+    let length1 = 22 + head.local.as_slice().len() as u64;
+    let length3 = 7 + 2 * sections.descriptors.len() as u64;
+    [
+        b'B',
+        b'U',
+        b'F',
+        b'R',
+        high_of_three(total),
+        middle_of_three(total),
+        low_of_three(total),
+        4,
+        high_of_three(length1),
+        middle_of_three(length1),
+        low_of_three(length1),
         0,
         high(head.centre),
         low(head.centre),
         high(head.sub_centre),
         low(head.sub_centre),
         head.update,
-        flag(announced, 128),
+        flag(sections.section2.is_some(), 128),
         head.category,
         head.international,
         head.local_category,
@@ -94,61 +105,81 @@ pub(crate) fn push_section1(
         head.hour,
         head.minute,
         head.second,
-    ];
-    push_section(out, &octets, head.local.as_slice())
-}
-
-/// Adds section 2, where there is one.
-pub(crate) fn push_section2(out: &mut Vec<u8>, local: &Option<Items<u8>>) -> Result<(), OutOfMemory>
-    requires { length (section2 local.now 0) < 2 ^ 24 }
-    ensures { OnOk result (out.new.items ≡ out.old.items ++ section2 local.now 0) }
-{
-    match local {
-        None => Ok(()),
-        Some(local) => push_section(out, &[0], local.as_slice()),
-    }
-}
-
-/// Adds descriptors of two octets each.
-fn push_descriptors(out: &mut Vec<u8>, descriptors: &[Fxy]) -> Result<(), OutOfMemory>
-    ensures { OnOk result
-        (out.new.items ≡ out.old.items ++ flat_map (bytes_high_first 2) descriptors.now) }
-{
-    for descriptor in descriptors {
-        push_pair(out, descriptor.bits())?;
-    }
-    Ok(())
-}
-
-/// Adds section 3: how many subsets, what kind of data, and the descriptors.
-pub(crate) fn push_section3(
-    out: &mut Vec<u8>,
-    count: u16,
-    observed: bool,
-    compressed: bool,
-    descriptors: &[Fxy],
-) -> Result<(), OutOfMemory>
-    requires { 7 + 2 * length descriptors.now < 2 ^ 24 }
-    ensures { OnOk result
-        (out.new.items
-        ≡ out.old.items ++ bare_section3 count observed compressed descriptors.now) }
-{
-    push_length(out, 7 + 2 * descriptors.len() as u64)?;
-    let octets = [
+        high_of_three(length3),
+        middle_of_three(length3),
+        low_of_three(length3),
         0,
         high(count),
         low(count),
-        flag(observed, 128) + flag(compressed, 64),
-    ];
-    out.extend_from_slice(&octets)?;
-    push_descriptors(out, descriptors)?;
-    Ok(())
+        flag(sections.observed, 128) + flag(sections.compressed, 64),
+    ]
 }
 
-/// Adds section 4.
-pub(crate) fn push_section4(out: &mut Vec<u8>, contents: &[u8]) -> Result<(), OutOfMemory>
-    requires { 4 + length contents.now < 2 ^ 24 }
-    ensures { OnOk result (out.new.items ≡ out.old.items ++ section4 contents.now 0) }
+/// Adds the octets at fixed places, and between them the octets for local use and section 2: all
+/// before the descriptors. Where memory was refused, those that were there are still in front.
+pub(crate) fn push_front(
+    out: &mut Vec<u8>,
+    sections: &LentSections<'_>,
+    fixed: &[u8; 37],
+) -> Result<(), OutOfMemory>
+    requires { length (section2 sections.now.section2.now 0) < 2 ^ 24 }
+    ensures ok { OnOk result (out.new.items ≡ out.old.items ++ take 30 fixed.now
+        ++ sections.now.head.now.local ++ section2 sections.now.section2.now 0
+        ++ drop 30 fixed.now) }
+    ensures kept { OnErr result (take (length out.old.items) out.new.items ≡ out.old.items) }
 {
-    push_section(out, &[0], contents)
+    let local = sections.head.local.as_slice();
+    if sections.section2.is_none() && local.is_empty() {
+        return out.extend_from_slice(fixed);
+    }
+    let (start, end) = fixed.split_at(BEFORE_LOCAL);
+    out.extend_from_slice(start)?;
+    out.extend_from_slice(local)?;
+    push_section2(out, sections.section2)?;
+    out.extend_from_slice(end)
+}
+
+/// Adds section 2, where there is one. Where memory was refused, those that were there are still in
+/// front.
+fn push_section2(out: &mut Vec<u8>, local: &Option<Items<u8>>) -> Result<(), OutOfMemory>
+    requires { length (section2 local.now 0) < 2 ^ 24 }
+    ensures ok { OnOk result (out.new.items ≡ out.old.items ++ section2 local.now 0) }
+    ensures kept { OnErr result (take (length out.old.items) out.new.items ≡ out.old.items) }
+{
+    match local {
+        None => Ok(()),
+        Some(local) => push_section(out, local.as_slice()),
+    }
+}
+
+/// Adds a section whose fourth octet is reserved, section 2 or section 4, with these octets behind
+/// it. Where memory was refused, those that were there are still in front.
+pub(crate) fn push_section(out: &mut Vec<u8>, contents: &[u8]) -> Result<(), OutOfMemory>
+    requires { 4 + length contents.now < 2 ^ 24 }
+    ensures ok { OnOk result (out.new.items ≡ out.old.items ++ section (0 ∷ contents.now)) }
+    ensures kept { OnErr result (take (length out.old.items) out.new.items ≡ out.old.items) }
+{
+    let length = 4 + contents.len() as u64;
+    let start = [
+        high_of_three(length),
+        middle_of_three(length),
+        low_of_three(length),
+        0,
+    ];
+    out.extend_from_slice(&start)?;
+    out.extend_from_slice(contents)
+}
+
+/// Adds descriptors of two octets each. Where memory was refused, the octets that were there are
+/// still in front.
+pub(crate) fn push_descriptors(out: &mut Vec<u8>, descriptors: &[Fxy]) -> Result<(), OutOfMemory>
+    ensures ok { OnOk result
+        (out.new.items ≡ out.old.items ++ flat_map (bytes_high_first 2) descriptors.now) }
+    ensures kept { OnErr result (take (length out.old.items) out.new.items ≡ out.old.items) }
+{
+    for descriptor in descriptors {
+        let bits = descriptor.bits();
+        out.extend_from_slice(&[high(bits), low(bits)])?;
+    }
+    Ok(())
 }

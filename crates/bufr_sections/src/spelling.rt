@@ -1,15 +1,13 @@
 //! The octets of a whole message: section 0, its sections, and `7777`.
 
-ghost use Rattle.std.specs.Prelude.{◌≡◌, ℕ, ◌<◌, ◌^◌, [], length, OnOk};
-ghost use Rattle.bufr_answers.specs.Answers.{Gives};
+ghost use Rattle.std.specs.Prelude.{◌≡◌, ℕ, ◌<◌, ◌^◌, ◌++◌, length, take, OnOk, OnErr};
+ghost use Rattle.bufr_answers.specs.Answers.{Gives, result_map};
 ghost use Rattle.bufr_sections.specs.Sections.{section2};
 ghost use Rattle.bufr_sections.specs.SectionsRead.{envelope_lent};
 ghost use Rattle.bufr_sections.specs.Spelt.{bare, spelt_or};
 
 use crate::lent_sections::LentSections;
-use crate::section_octets::{
-    push_length, push_section1, push_section2, push_section3, push_section4,
-};
+use crate::section_octets::{fixed_octets, push_descriptors, push_front, push_section};
 use bufr_answers::{Failure, Items, OutOfMemory};
 use bufr_data::WriteFault;
 use std::alloc::Global;
@@ -46,7 +44,6 @@ fn total_length(sections: &LentSections<'_>, contents: &[u8]) -> u128
 /// The octets of a message of these sections and so many subsets, with these octets in section 4
 /// after its fourth, in edition 4 with nothing in what is free. `TooLarge` where it has more than
 /// 65,535 subsets or 16,777,215 octets; memory may run out.
-#[tactic(auto, unfolding(crate::specs::Spelt::spelt_or))]
 pub fn spell(
     alloc: Global,
     sections: &LentSections<'_>,
@@ -56,17 +53,40 @@ pub fn spell(
     ensures { Gives (λ v. v.items) result
         (spelt_or (envelope_lent sections.now count contents.now)) }
 {
+    let mut out = Vec::new(alloc);
+    spell_behind(&mut out, sections, count, contents)?;
+    Ok(out)
+}
+
+/// Puts the octets that `spell` answers behind others. `TooLarge` as there; memory may run out. The
+/// others are then as they were.
+#[tactic(auto, unfolding(crate::specs::Spelt::spelt_or))]
+pub fn spell_behind(
+    out: &mut Vec<u8>,
+    sections: &LentSections<'_>,
+    count: usize,
+    contents: &[u8],
+) -> Result<(), Failure<WriteFault>>
+    ensures exact { Gives (λ _. out.new.items) result (result_map (λ o. out.old.items ++ o)
+        (spelt_or (envelope_lent sections.now count contents.now))) }
+    ensures err { OnErr result (out.new.items ≡ out.old.items) }
+{
     let length = total_length(sections, contents);
     if count > MOST_SUBSETS || length > LONGEST {
         return Err(Failure::Fault(WriteFault::TooLarge));
     }
-    let mut out = Vec::with_capacity(alloc, length as usize)?;
-    push_sections(&mut out, sections, count as u16, contents, length as u64)?;
-    Ok(out)
+    out.reserve(length as usize)?;
+    let held = out.len();
+    let added = push_sections(out, sections, count as u16, contents, length as u64);
+    if added.is_err() {
+        out.truncate(held);
+        return Err(Failure::OutOfMemory);
+    }
+    Ok(())
 }
 
-/// Adds all of a message of these sections, which has so many octets.
-#[tactic(auto, unfolding(crate::specs::Sections::spelling, crate::specs::Sections::sections))]
+/// Adds all of a message of these sections, which has so many octets. Where memory was refused,
+/// those that were there are still in front.
 fn push_sections(
     out: &mut Vec<u8>,
     sections: &LentSections<'_>,
@@ -74,24 +94,15 @@ fn push_sections(
     contents: &[u8],
     total: u64,
 ) -> Result<(), OutOfMemory>
-    requires empty { out.old.items ≡ [] }
     requires long { total ≡ length (bare (envelope_lent sections.now count contents.now)) }
     requires short { total < 2 ^ 24 }
-    ensures { OnOk result
-        (out.new.items ≡ bare (envelope_lent sections.now count contents.now)) }
+    ensures ok { OnOk result (out.new.items
+        ≡ out.old.items ++ bare (envelope_lent sections.now count contents.now)) }
+    ensures kept { OnErr result (take (length out.old.items) out.new.items ≡ out.old.items) }
 {
-    out.extend_from_slice(b"BUFR")?;
-    push_length(out, total)?;
-    out.push(4)?;
-    push_section1(out, sections.head, sections.section2.is_some())?;
-    push_section2(out, sections.section2)?;
-    push_section3(
-        out,
-        count,
-        sections.observed,
-        sections.compressed,
-        sections.descriptors,
-    )?;
-    push_section4(out, contents)?;
+    let fixed = fixed_octets(sections, count, total);
+    push_front(out, sections, &fixed)?;
+    push_descriptors(out, sections.descriptors)?;
+    push_section(out, contents)?;
     out.extend_from_slice(b"7777")
 }

@@ -3,7 +3,7 @@
 
 use bufr_answers::Items;
 use bufr_sections::{
-    Envelope, Head, LentSections, are_listed, descriptors_of, read_sections, spell,
+    Envelope, Head, LentSections, are_listed, descriptors_of, read_sections, spell, spell_behind,
 };
 use bufr_tables::Fxy;
 use std::alloc::Global;
@@ -19,7 +19,32 @@ const EDITION_4: &str = "\
 000007 00 1B1C1D
 37373737";
 
-/// The same with ones in all that is ignored, and an odd octet in section 3.
+/// The same without section 2.
+const WITHOUT_SECTION_2: &str = "\
+42554652 000036 04
+000018 00 0102 0304 05 00 06 07 08 09 0A 0B0C 0D 0E 0F 10 11 1213
+00000B 00 1516 80 1718 191A
+000007 00 1B1C1D
+37373737";
+
+/// The same with section 2, and no octets for local use in section 1.
+const WITHOUT_LOCAL: &str = "\
+42554652 000039 04
+000016 00 0102 0304 05 80 06 07 08 09 0A 0B0C 0D 0E 0F 10 11
+000005 00 14
+00000B 00 1516 80 1718 191A
+000007 00 1B1C1D
+37373737";
+
+/// The same with neither.
+const WITH_NEITHER: &str = "\
+42554652 000034 04
+000016 00 0102 0304 05 00 06 07 08 09 0A 0B0C 0D 0E 0F 10 11
+00000B 00 1516 80 1718 191A
+000007 00 1B1C1D
+37373737";
+
+/// The sections of edition 4 with ones in all that is ignored, and an odd octet in section 3.
 const EDITION_4_FILLED: &str = "\
 42554652 00003C 04
 000018 00 0102 0304 05 FF 06 07 08 09 0A 0B0C 0D 0E 0F 10 11 1213
@@ -188,6 +213,16 @@ fn assert_spelt(rt: &impl Abort, alloc: Global, said: &Said<'_>, text: &str) {
     let written = spell(alloc, &said.sections, said.count, said.contents).expect(rt, "an answer");
     let wanted = octets(rt, alloc, text);
     same(rt, written.as_slice(), wanted.as_slice());
+    assert_behind(rt, alloc, said, wanted.as_slice());
+}
+
+/// What is written so behind two other octets is these, and the two stay.
+fn assert_behind(rt: &impl Abort, alloc: Global, said: &Said<'_>, wanted: &[u8]) {
+    let mut out = octets(rt, alloc, "1C1D");
+    spell_behind(&mut out, &said.sections, said.count, said.contents).expect(rt, "an answer");
+    let others = [0x1C, 0x1D];
+    same(rt, out.as_slice().get(..2), Some(others.as_slice()));
+    same(rt, out.as_slice().get(2..), Some(wanted));
 }
 
 #[test]
@@ -197,6 +232,32 @@ fn each_octet_written_at_its_place(rt: HostRuntime) {
     let descriptors = descriptors_4();
     let said = said_4(&head, &section2, descriptors.as_slice());
     assert_spelt(&rt, alloc, &said, EDITION_4);
+    let said = said_4(&head, &None, descriptors.as_slice());
+    assert_spelt(&rt, alloc, &said, WITHOUT_SECTION_2);
+}
+
+#[test]
+fn each_octet_written_without_local_octets(rt: HostRuntime) {
+    let alloc = rt.alloc();
+    let (mut head, section2) = (head_4(&rt, alloc), section2_4(&rt, alloc));
+    head.local = Items::from_vec(Vec::new(alloc));
+    let descriptors = descriptors_4();
+    let said = said_4(&head, &section2, descriptors.as_slice());
+    assert_spelt(&rt, alloc, &said, WITHOUT_LOCAL);
+    let said = said_4(&head, &None, descriptors.as_slice());
+    assert_spelt(&rt, alloc, &said, WITH_NEITHER);
+}
+
+#[test]
+fn refused_behind_others(rt: HostRuntime) {
+    let alloc = rt.alloc();
+    let (head, descriptors) = (head_4(&rt, alloc), descriptors_4());
+    let said = said_4(&head, &None, descriptors.as_slice());
+    let mut out = octets(&rt, alloc, "1C1D");
+    let added = spell_behind(&mut out, &said.sections, 65_536, said.contents);
+    same(&rt, added.is_err(), true);
+    let others = [0x1C, 0x1D];
+    same(&rt, out.as_slice(), others.as_slice());
 }
 
 /// The head of the sections of edition 3.
@@ -278,6 +339,7 @@ fn assert_long(rt: &impl Abort, alloc: Global, said: &Said<'_>) {
     let written = spell(alloc, &said.sections, said.count, said.contents).expect(rt, "an answer");
     assert_lengths(rt, written.as_slice());
     assert_said(rt, alloc, written.as_slice(), said);
+    assert_behind(rt, alloc, said, written.as_slice());
 }
 
 #[test]

@@ -1,11 +1,33 @@
 -- For `spelt_alone`: what the bits of a report's own fields spell with its parts.
-use Rattle.bufr_message.proofs.OwnBitsFacts.{own_spelt}
+use Rattle.bufr_message.specs.OwnBits.{spelt_alone}
+use Rattle.bufr_message.proofs.OwnBitsFacts.{own_put, told_own}
+use Rattle.std.proofs.Common.{sym}
 use Rattle.bufr_message.proofs.own_bits.spelt_alone.Goals as goal
 
--- what is answered is what the report spells alone
+-- where there are none, the report spells none alone
+pub returns-then-not-branch : goal.returns-then-not-branch
+returns-then-not-branch c =
+    let r = c.args.report.now in
+    let held = rw (c.in-Some.is, c.as_slice-fields.ensures) at c.in_ok-contents.ensures in
+    let put =
+    own_put r c.in-Some.contents.items _ _ _ held
+    (λ data_bits same. rw (
+      c.with_no_local-head.ensures,
+      c.as_slice-descriptors.ensures,
+      c.new-octets.ensures.items,
+    ) at (c.in_ok-put_with_head.ensures.put r.subset data_bits (rw c.deref.ensures.value same))) in
+    sym (told_own (spelt_alone r) _ _ _ put c.if-not-branch.true)
+
+-- else what was put is what it spells
 pub returns : goal.returns
 returns c =
+    let r = c.args.report.now in
     let held = rw (c.in-Some.is, c.as_slice-fields.ensures) at c.in_ok-contents.ensures in
-    let spelt = rw (c.as_slice.ensures, c.deref.ensures.value) at c.enclosed_alone.ensures in
-    own_spelt c.args.report.now c.in-Some.contents.items (λ v. v.items) c.enclosed_alone.result
-    held spelt
+    let put =
+    own_put r c.in-Some.contents.items _ _ _ held
+    (λ data_bits same. rw (
+      c.with_no_local-head.ensures,
+      c.as_slice-descriptors.ensures,
+      c.new-octets.ensures.items,
+    ) at (c.in_ok-put_with_head.ensures.put r.subset data_bits (rw c.deref.ensures.value same))) in
+    sym (told_own (spelt_alone r) _ _ _ put c.if-not-branch.false)

@@ -1,12 +1,47 @@
--- For `push_sections`: what it calls `push_section3` with.
+-- For `push_sections`: each section is short enough, and the pieces are the message.
 use Rattle.std.proofs.Common.{arith}
+use Rattle.std.proofs.lemmas.Result.{on_ok_weaker}
 use Rattle.bufr_sections.specs.SectionsRead.{envelope_lent}
+use Rattle.bufr_sections.proofs.BehindFacts.{when_ok, message_put}
 use Rattle.bufr_sections.proofs.LengthFacts.{length_of_spelling}
 use Rattle.bufr_sections.proofs.spelling.push_sections.Goals as goal
 
--- the descriptors of a message below 2 to the power of 24 octets fit section 3
-pub push_section3-requires : goal.push_section3-requires
-push_section3-requires c =
+-- the octets for local use of a message below 2 to the power of 24 octets fit section 1
+pub fixed_octets-fixed-requires-clause-local : goal.fixed_octets-fixed-requires-clause-local
+fixed_octets-fixed-requires-clause-local c =
     let long =
     length_of_spelling (envelope_lent c.args.sections.now c.args.count c.args.contents.now) in
     omega (arith, long, c.requires.long, c.requires.short)
+
+-- its descriptors fit section 3
+pub fixed_octets-fixed-requires-clause-listed : goal.fixed_octets-fixed-requires-clause-listed
+fixed_octets-fixed-requires-clause-listed c =
+    let long =
+    length_of_spelling (envelope_lent c.args.sections.now c.args.count c.args.contents.now) in
+    omega (arith, long, c.requires.long, c.requires.short)
+
+-- section 2 is shorter than the message
+pub push_front-requires : goal.push_front-requires
+push_front-requires c =
+    let long =
+    length_of_spelling (envelope_lent c.args.sections.now c.args.count c.args.contents.now) in
+    omega (arith, long, c.requires.long, c.requires.short)
+
+-- so is section 4
+pub push_section-requires : goal.push_section-requires
+push_section-requires c =
+    let long =
+    length_of_spelling (envelope_lent c.args.sections.now c.args.count c.args.contents.now) in
+    omega (arith, long, c.requires.long, c.requires.short)
+
+-- the pieces are the message
+pub returns-clause-ok : goal.returns-clause-ok
+returns-clause-ok c =
+    let whole =
+    message_put (envelope_lent c.args.sections.now c.args.count c.args.contents.now)
+    c.args.out.now.items c.fixed_octets-fixed.result _ _ _ _ c.args.total
+    c.fixed_octets-fixed.ensures.start c.fixed_octets-fixed.ensures.end c.requires.long
+    c.in_ok-push_front.ensures.ok c.in_ok-push_descriptors.ensures.ok
+    c.in_ok-push_section.ensures.ok in
+    on_ok_weaker c.extend_from_slice.result whole
+    (when_ok c.extend_from_slice.result _ _ _ c.extend_from_slice.ensures.items)

@@ -1,0 +1,52 @@
+-- For `View::put_canonical`: what the bits of a subset spell with the parts of the view.
+use Rattle.std.proofs.Common.{◌-◌, ◌<◌, length, arith}
+use Rattle.std.specs.Prelude.{slice_get}
+use Rattle.bufr_sections.specs.declared.message.Message.{Message}
+use Rattle.bufr_message.proofs.OwnBitsFacts.{put_and_filled, put_there}
+use Rattle.bufr_message.proofs.message_view.View.put_canonical.Goals as goal
+
+-- what is put of octets that are lent is what the report spells alone
+pub returns-in-Some-clause-put : goal.returns-in-Some-clause-put
+returns-in-Some-clause-put c =
+    let v = c.self.inside in
+    let m : Message =
+    record {
+      head = v.sections.head;
+      section2 = v.sections.section2;
+      observed = v.sections.observed;
+      compressed = v.sections.compressed;
+      descriptors = v.descriptors.value;
+      subsets = v.subsets;
+    } in
+    let last = rw (← c.self.view_is) at c.requires.last in
+    let below : c.args.number - 1 < length v.subsets = omega (arith, last, c.requires.first) in
+    let put = rw (c.as_slice-descriptors.ensures, c.deref.ensures) at c.put_alone.ensures.put in
+    rw (← c.self.view_is)
+    (put_there m (c.args.number - 1) c.in-Some.contents.now c.args.out.now.items _
+    c.put_alone.result below c.self.invariant c.in-Some.ensures put)
+
+-- so it is of bits that were put
+pub returns-clause-put : goal.returns-clause-put
+returns-clause-put c =
+    let v = c.self.inside in
+    let m : Message =
+    record {
+      head = v.sections.head;
+      section2 = v.sections.section2;
+      observed = v.sections.observed;
+      compressed = v.sections.compressed;
+      descriptors = v.descriptors.value;
+      subsets = v.subsets;
+    } in
+    let last = rw (← c.self.view_is) at c.requires.last in
+    let below : c.args.number - 1 < length v.subsets = omega (arith, last, c.requires.first) in
+    let put =
+    rw (c.as_slice-descriptors.ensures, c.deref.ensures, c.deref-2.ensures.value)
+    at c.put_alone-2.ensures.put in
+    let held =
+    put_and_filled (slice_get v.subsets (c.args.number - 1)) c.in_ok-sink.sink c.put.new.sink
+    c.fill_octet.new.self c.into_bytes-contents.result.items c.in_ok-sink.ensures
+    c.in_ok-put.ensures.put c.fill_octet.ensures.filled c.into_bytes-contents.ensures in
+    rw (← c.self.view_is)
+    (put_there m (c.args.number - 1) c.into_bytes-contents.result.items c.args.out.now.items _
+    c.put_alone-2.result below c.self.invariant held put)
