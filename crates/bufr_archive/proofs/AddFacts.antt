@@ -5,12 +5,12 @@ use Rattle.bufr_sections.specs.declared.message.Decoded.{Decoded}
 use Rattle.bufr_message.specs.Messages.{message_of}
 use Rattle.bufr_message.specs.Reports.{reports_of}
 use Rattle.bufr_archive.specs.ReportEntries.{report_entries, spelt_entries}
-use Rattle.std.proofs.Common.{◌≡◌, ℕ, ◌+◌, ◌<◌, ◌≤◌, Bool, true, false, cond, Option, None, List}
+use Rattle.std.proofs.Common.{◌≡◌, ℕ, ◌+◌, ◌<◌, ◌≤◌, Bool, true, false, cond, Option, None, Some, List, Result, Err}
 use Rattle.std.proofs.Common.{[], ◌∷◌, ◌++◌, length, take, get_or, refl, sym, ap, ◌∙◌, arith}
 use Rattle.std.proofs.Common.{append_assoc}
 use Rattle.std.proofs.lemmas.List.{take_more}
 use Rattle.std.proofs.lemmas.Grind.{flat_map-append}
-use Rattle.std.specs.Prelude.{option_to_list}
+use Rattle.std.specs.Prelude.{option_to_list, OnOk}
 use mir.Val.{bool_byte}
 use Rattle.bufr_shelves.specs.declared.entry.Entry.{Entry}
 use Rattle.bufr_shelves.specs.Entries.{kept}
@@ -84,6 +84,35 @@ one_more old new next rs i changed b h s is count =
       changed_is = omega arith;
       few = omega arith;
     }
+
+-- ---- one report: for `ArchiveBuilder::add_one`
+
+-- the entry that one report has, if it has one
+one_entry : (y : Option Entry) → option_to_list y ≡ entries_of (y ∷ [])
+one_entry None = refl
+one_entry (Some e) = refl
+
+-- an entry that was put is that of a report
+puts_one : (tables : Entries) (entries new : List Entry) (old : ArchiveView)
+    (x y : Option Entry) → record { tables = tables; entries = kept entries } ≡ old → x ≡ y
+    → kept new ≡ kept (kept entries ++ option_to_list x)
+    → record { tables = tables; entries = kept new } ≡ taken_in old (y ∷ [])
+puts_one tables entries new old x y seen same put =
+    subst (λ (a : ArchiveView). record { tables = tables; entries = kept new }
+    ≡ taken_in a (y ∷ [])) seen
+    (ap (λ (es : List Entry). record { tables = tables; entries = es })
+    (put ∙ ap (λ (o : Option Entry). kept (kept entries ++ option_to_list o)) same
+    ∙ ap (λ (es : List Entry). kept (kept entries ++ es)) (one_entry y)))
+
+-- where it was put
+pub puts_where_ok : {T E : Type 0} (answer : Result T E) (tables : Entries)
+    (entries new : List Entry) (old : ArchiveView) (x y : Option Entry)
+    → record { tables = tables; entries = kept entries } ≡ old → x ≡ y
+    → OnOk answer (kept new ≡ kept (kept entries ++ option_to_list x))
+    → OnOk answer (record { tables = tables; entries = kept new } ≡ taken_in old (y ∷ []))
+puts_where_ok (Ok done) tables entries new old x y seen same put =
+    puts_one tables entries new old x y seen same put
+puts_where_ok (Err e) tables entries new old x y seen same put = put
 
 -- ---- messages: for `ArchiveBuilder::add_message`
 

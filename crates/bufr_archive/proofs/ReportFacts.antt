@@ -234,7 +234,7 @@ agree own lent octets is same =
     ap (λ (o : List ℕ). bytes_eq o octets) (sym is) ∙ not-false (bytes_eq lent octets) same
 
 -- an entry of these parts
-abbrev of_parts : Option Key → ℕ → List ℕ → Entry
+abbrev pub of_parts : Option Key → ℕ → List ℕ → Entry
 of_parts key update octets = record { key = key; update = update; bytes = octets }
 
 -- the entry of the report of a subset, by what is read of the message's head
@@ -339,20 +339,6 @@ viewed_none rs i canon told none =
     viewed_at rs i None (ap (option_map spelt_entry) r.1
     ∙ ap Some (r.2 ∙ ap (option_map (entry_with r.0)) none))
 
--- that with the key of the subset's fields where they spell some
-pub viewed_some : (m : Message) (i : ℕ) (canon : Option (List ℕ)) (octets : List ℕ) (s : Subset)
-    (e : Entry) → option_map spelt_alone (slice_get (reports_of m) (i + 1 - 1)) ≡ Some canon
-    → canon ≡ Some octets → slice_get m.subsets (i + 1 - 1) ≡ Some s
-    → e ≡ entry_with (report_of m s) octets
-    → Some e ≡ get_or (spelt_entries (reports_of m)) i None
-viewed_some m i canon octets s e told some at entry =
-    let r = spelt_of (slice_get (reports_of m) (i + 1 - 1)) canon told in
-    let report : r.0 ≡ report_of m s =
-    same_Some _ _ (sym r.1 ∙ report_at m (i + 1 - 1) s at) in
-    viewed_at (reports_of m) i (Some e) (ap (option_map spelt_entry) r.1
-    ∙ ap Some (r.2 ∙ ap (option_map (entry_with r.0)) some
-    ∙ ap (λ (r : Report). Some (entry_with r octets)) report ∙ sym (ap Some entry)))
-
 -- ---- entries whose octets are put where they are to stand: for `add_one` of `ArchiveBuilder`
 
 -- an entry of these parts with the octets of the report of a subset is that of the report
@@ -378,3 +364,99 @@ put_entry m i found update there key_is update_is =
     (subst (λ x. IfSome x (λ r. found ≡ key_of r)) at key_is) update_is
     ∙ sym (get_or_from_slice_get (spelt_entries (reports_of m)) i _ None
     (slice_get-map spelt_entry (reports_of m) i ∙ ap (option_map spelt_entry) at))
+
+-- the key of the report at an index, which is counted from 1 in a view
+pub key_there : (m : Message) (i : ℕ) (s : Subset) (head : Head) (h : ReportHead)
+    (found : Option Key) → slice_get m.subsets (i + 1 - 1) ≡ Some s → head ≡ m.head
+    → h ≡ without_local head → found ≡ key h s.fields
+    → IfSome (slice_get (reports_of m) i) (λ r. found ≡ key_of r)
+key_there m i s head h found at head_is h_is key_is =
+    let same : i + 1 - 1 ≡ i = omega arith in
+    let there = report_at m i s (subst (λ k. slice_get m.subsets k ≡ Some s) same at) in
+    subst (λ x. IfSome x (λ r. found ≡ key_of r)) (sym there)
+    (key_is ∙ ap (λ (x : ReportHead). key x s.fields) (h_is ∙ ap without_local head_is))
+
+-- what is asked of what may be there
+asked_of : (x : Option Report) (canon : Option (List ℕ)) → option_map spelt_alone x ≡ Some canon
+    → x >>= spelt_alone ≡ canon
+asked_of None canon told = absurd cc
+asked_of (Some r) canon told = same_Some (spelt_alone r) canon told
+
+-- the entry at an index where the report's own fields spell octets
+pub viewed_some : (m : Message) (i : ℕ) (canon : Option (List ℕ)) (octets own : List ℕ)
+    (found : Option Key) (update : ℕ) → i < length m.subsets
+    → option_map spelt_alone (slice_get (reports_of m) (i + 1 - 1)) ≡ Some canon
+    → canon ≡ Some octets → IfSome (slice_get (reports_of m) i) (λ r. found ≡ key_of r)
+    → update ≡ m.head.update → own ≡ octets
+    → Some (of_parts found update own) ≡ get_or (spelt_entries (reports_of m)) i None
+viewed_some m i canon octets own found update there told some key_is update_is own_is =
+    let same : i + 1 - 1 ≡ i = omega arith in
+    let spelt : spelt_at (reports_of m) i ≡ Some octets =
+    subst (λ k. spelt_at (reports_of m) k ≡ Some octets) same
+    (asked_of (slice_get (reports_of m) (i + 1 - 1)) canon told ∙ some) in
+    ap (λ (o : List ℕ). Some (of_parts found update o)) own_is
+    ∙ sym (ap (option_map (of_parts found update)) spelt)
+    ∙ put_entry m i found update there key_is update_is
+
+-- the key of the report at an index, which is counted from 1 in a view
+pub key_there : (m : Message) (i : ℕ) (s : Subset) (head : Head) (h : ReportHead)
+    (found : Option Key) → slice_get m.subsets (i + 1 - 1) ≡ Some s → head ≡ m.head
+    → h ≡ without_local head → found ≡ key h s.fields
+    → IfSome (slice_get (reports_of m) i) (λ r. found ≡ key_of r)
+key_there m i s head h found at head_is h_is key_is =
+    let same : i + 1 - 1 ≡ i = omega arith in
+    let there = report_at m i s (subst (λ k. slice_get m.subsets k ≡ Some s) same at) in
+    subst (λ x. IfSome x (λ r. found ≡ key_of r)) (sym there)
+    (key_is ∙ ap (λ (x : ReportHead). key x s.fields) (h_is ∙ ap without_local head_is))
+
+-- what is asked of what may be there
+asked_of : (x : Option Report) (canon : Option (List ℕ)) → option_map spelt_alone x ≡ Some canon
+    → x >>= spelt_alone ≡ canon
+asked_of None canon told = absurd cc
+asked_of (Some r) canon told = same_Some (spelt_alone r) canon told
+
+-- the entry at an index where the report's own fields spell octets
+pub viewed_some : (m : Message) (i : ℕ) (canon : Option (List ℕ)) (octets own : List ℕ)
+    (found : Option Key) (update : ℕ) → i < length m.subsets
+    → option_map spelt_alone (slice_get (reports_of m) (i + 1 - 1)) ≡ Some canon
+    → canon ≡ Some octets → IfSome (slice_get (reports_of m) i) (λ r. found ≡ key_of r)
+    → update ≡ m.head.update → own ≡ octets
+    → Some (of_parts found update own) ≡ get_or (spelt_entries (reports_of m)) i None
+viewed_some m i canon octets own found update there told some key_is update_is own_is =
+    let same : i + 1 - 1 ≡ i = omega arith in
+    let spelt : spelt_at (reports_of m) i ≡ Some octets =
+    subst (λ k. spelt_at (reports_of m) k ≡ Some octets) same
+    (asked_of (slice_get (reports_of m) (i + 1 - 1)) canon told ∙ some) in
+    ap (λ (o : List ℕ). Some (of_parts found update o)) own_is
+    ∙ sym (ap (option_map (of_parts found update)) spelt)
+    ∙ put_entry m i found update there key_is update_is
+
+-- ---- octets that a view puts behind others: for `put_behind` of `ReportOctets`
+
+-- what is put is told in the words of shelves as in those of views
+told_behind : (octets : Option (List ℕ)) (there : Bool) (old new : List ℕ)
+    → IsPutBehind old octets there new → PutsBehind octets there old new
+told_behind None there old new put = put
+told_behind (Some octets) there old new put = put
+
+-- so of the report that is there
+report_behind : (x : Option Report) (there : Bool) (old new : List ℕ)
+    → AddsOwn x old there new → PutsBehind (x >>= spelt_alone) there old new
+report_behind None there old new put = absurd put
+report_behind (Some r) there old new put = told_behind (spelt_alone r) there old new put
+
+-- and of that at an index, which is counted from 1 in a view
+pub puts_behind : (rs : List Report) (i : ℕ) (there : Bool) (old new : List ℕ)
+    → AddsOwn (slice_get rs (i + 1 - 1)) old there new → PutsBehind (spelt_at rs i) there old new
+puts_behind rs i there old new put =
+    let same : i + 1 - 1 ≡ i = omega arith in
+    report_behind (slice_get rs i) there old new
+    (subst (λ k. AddsOwn (slice_get rs k) old there new) same put)
+
+-- behind the last report there is none
+pub none_behind : (m : Message) (i : ℕ) (octets : List ℕ) → length m.subsets ≤ i
+    → PutsBehind (spelt_at (reports_of m) i) false octets octets
+none_behind m i octets past =
+    subst (λ x. PutsBehind (x >>= spelt_alone) false octets octets)
+    (sym (slice_get_past (reports_of m) i (omega (arith, length-map m.subsets (report_of m)))))
+    (refl, refl)

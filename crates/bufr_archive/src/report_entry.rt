@@ -153,6 +153,7 @@ impl<'a> MessageReports<'a> {
         ensures { IfOk result (λ key. IfSome
             (slice_get (reports_of self.now.view.message) index) (λ r. key ≡ key_of r)) }
     {
+        let _count = self.view.count();
         let head = ReportHead::of_head(self.view.head());
         let fields = self.view.fields(alloc, index + 1)?;
         key_of_fields(alloc, &head, fields)
@@ -171,6 +172,7 @@ impl<'a> MessageReports<'a> {
 }
 
 /// The octets of the report of a view at an index, from 0: its canonical message.
+#[derive(Clone, Copy, Drop)]
 pub(crate) struct ReportOctets<'r, 'a> {
     pub(crate) view: &'r View<'a>,
     pub(crate) index: usize,

@@ -1,8 +1,10 @@
 -- The clause of `entry` of `MessageReports`: reports counted from 0, and from 1 in a message.
-use Rattle.std.proofs.Common.{ℕ, Vec, Global, ap}
+use Rattle.std.proofs.Common.{ℕ, Vec, Global, ap, arith}
+use Rattle.std.proofs.lemmas.List.{length-map}
 use Rattle.std.specs.Option.{option_map}
-use Rattle.bufr_message.specs.Reports.{reports_of}
-use Rattle.bufr_archive.proofs.ReportFacts.{viewed_none, viewed_some, entry_made}
+use Rattle.bufr_message.specs.Reports.{report_of, reports_of}
+use Rattle.bufr_archive.specs.ReportEntries.{spelt_entry}
+use Rattle.bufr_archive.proofs.ReportFacts.{viewed_none, viewed_some}
 use Rattle.bufr_archive.proofs.report_entry.MessageReportsReportList.entry.Goals as goal
 
 -- a report whose own fields spell no octets has none
@@ -14,9 +16,9 @@ returns-in_default c =
 -- the entry at an index is that of the report viewed there
 pub returns : goal.returns
 returns c =
-    viewed_some c.args.self.now.view.message c.args.index _ c.in-Some.octets.items _ _
+    viewed_some c.args.self.now.view.message c.args.index _ c.in-Some.octets.items
+    c.from_vec.result c.in_ok-key_at.field-0 c.update.result
+    (omega (arith, c.requires, length-map (reports_of c.args.self.now.view.message) spelt_entry,
+    length-map c.args.self.now.view.message.subsets (report_of c.args.self.now.view.message)))
     c.in_ok-octets.ensures (ap (option_map (λ (v : Vec ℕ Global). v.items)) c.in-Some.is)
-    c.in_ok-fields.ensures
-    (entry_made c.args.self.now.view.message (record { fields = c.in_ok-fields.fields })
-    c.head.result.now c.of_head-head.result c.in_ok-key_of_fields.field-0 c.in-Some.octets.items
-    c.from_vec.result c.head.ensures c.of_head-head.ensures c.in_ok-key_of_fields.ensures c.from_vec.ensures)
+    c.in_ok-key_at.ensures c.update.ensures c.from_vec.ensures
