@@ -18,7 +18,11 @@ pub returns : goal.returns
 returns c =
     viewed_some c.args.self.now.view.message c.args.index _ c.in-Some.octets.items
     c.from_vec.result c.in_ok-key_at.field-0 c.update.result
-    (omega (arith, c.requires, length-map (reports_of c.args.self.now.view.message) spelt_entry,
-    length-map c.args.self.now.view.message.subsets (report_of c.args.self.now.view.message)))
+    (omega (
+      arith,
+      c.requires,
+      length-map (reports_of c.args.self.now.view.message) spelt_entry,
+      length-map c.args.self.now.view.message.subsets (report_of c.args.self.now.view.message),
+    ))
     c.in_ok-octets.ensures (ap (option_map (λ (v : Vec ℕ Global). v.items)) c.in-Some.is)
     c.in_ok-key_at.ensures c.update.ensures c.from_vec.ensures
