@@ -3,9 +3,9 @@
 use Rattle.std.proofs.Common.{◌≡◌, ℕ, zero, suc, ◌+◌, ◌*◌, ◌<◌, ◌≤◌, inl, inr, Bool, true, false, cond, Option, Some}
 use Rattle.std.proofs.Common.{None, List, [], ◌∷◌, ◌++◌, length, take, drop}
 use Rattle.std.proofs.Common.{map, reverse, get_or, slice_index_or, refl, sym}
-use Rattle.std.proofs.Common.{ap, ◌∙◌, subst, arith, append_assoc, length-append, length-drop}
+use Rattle.std.proofs.Common.{ap, ◌∙◌, subst, arith, append_assoc, length-append, length-drop, drop-drop}
 use Rattle.std.proofs.lemmas.List.{append-nil, map-append, reverse-append, take-append-le, drop-append-le}
-use Rattle.std.proofs.lemmas.List.{take_all, nil_from_length, reverse-reverse}
+use Rattle.std.proofs.lemmas.List.{take_all, nil_from_length, reverse-reverse, length-reverse, take-append-drop, length-take-le}
 use Rattle.std.proofs.lemmas.List.Sorted.{sorted_far, Contains-permutation}
 use Rattle.std.proofs.lemmas.List.MinMax.{ranks_by, IsStrictWeakOrder-flip}
 use Rattle.std.proofs.lemmas.Map.Keys.{sorted_head, sorted_tail}
@@ -24,7 +24,7 @@ use Rattle.bufr_shelves.specs.Merging.{heads_order}
 use Rattle.bufr_shelves.specs.Orders.{slots_total, ranks_total, exact_entries, kept-swap, kept-same}
 use Rattle.bufr_shelves.specs.Orders.{kept-are, kept-late, kept-kept, kept-early, kept-sorted}
 use Rattle.bufr_shelves.specs.Marks.{MarkView}
-use Rattle.bufr_shelves.specs.Pages.{paged, octets_of, marked, mark_of, flat, AreRising, LeadsAlone, waits_in, HaveParts}
+use Rattle.bufr_shelves.specs.Pages.{paged, octets_of, marked, mark_of, flat, EndsBefore, AreRising, LeadsAlone, waits_in, HaveParts}
 use Rattle.bufr_shelves.specs.declared.entry.Entry.{Entry}
 use Rattle.bufr_shelves.specs.declared.sorted_shelf.page.PageEntry.{PageEntry}
 use Rattle.bufr_shelves.specs.declared.sorted_shelf.waiting.WaitingEntry.{WaitingEntry}
@@ -59,6 +59,38 @@ octets_of-push (d ∷ es) e = omega (arith, octets_of-push es e)
 pub length-paged : (es : List PageEntry) (os : List ℕ) → length (paged es os) ≡ length es
 length-paged [] os = refl
 length-paged (e ∷ es) os = ap suc (length-paged es (drop e.len os))
+
+-- the octets of its last entry are no more than all,
+pub last-fits : (es rs : List PageEntry) (e : PageEntry) (from n : ℕ) → es ≡ e ∷ rs
+    → from + octets_of (reverse es) ≡ n → e.len ≤ n
+last-fits es rs e from n is h =
+    let all : octets_of (reverse es) ≡ octets_of (reverse rs) + e.len =
+    ap (λ xs. octets_of (reverse xs)) is ∙ ap octets_of (reverse-append (e ∷ []) rs)
+    ∙ octets_of-push (reverse rs) e in
+    omega (arith, h, all)
+
+-- and stand behind those of the others
+pub last-paged : (es rs : List PageEntry) (e : PageEntry) (os : List ℕ) (from n : ℕ)
+    (s : List Entry) → es ≡ e ∷ rs → from + octets_of (reverse es) ≡ length os
+    → n + e.len ≡ length os → paged (reverse es) (drop from os) ≡ s
+    → Some (marked e.mark (drop n os)) ≡ first_of (reverse s)
+last-paged es rs e os from n s is h a v =
+    let ps = drop from os in let k = octets_of (reverse rs) in
+    let turned : reverse es ≡ reverse rs ++ e ∷ [] =
+    ap reverse is ∙ reverse-append (e ∷ []) rs in
+    let all : octets_of (reverse es) ≡ k + e.len =
+    ap octets_of turned ∙ octets_of-push (reverse rs) e in
+    let place : n ≡ from + k = omega (arith, h, a, all) in
+    let room : length ps ≡ k + e.len = omega (arith, length-drop from os, h, all) in
+    let page : s ≡ paged (reverse rs) (take k ps) ++ marked e.mark (drop n os) ∷ [] =
+    sym v ∙ ap (λ xs. paged xs ps) turned
+    ∙ ap (paged (reverse rs ++ e ∷ [])) (sym (take-append-drop k ps))
+    ∙ paged-push (reverse rs) (take k ps) (drop k ps) e
+    (sym (length-take-le k ps (omega (arith, room)))) (omega (arith, room, length-drop k ps))
+    ∙ ap (λ xs. paged (reverse rs) (take k ps) ++ marked e.mark xs ∷ [])
+    (drop-drop k from os ∙ ap (λ i. drop i os) (sym place)) in
+    sym (ap first_of (ap reverse page
+    ∙ reverse-append (paged (reverse rs) (take k ps)) (marked e.mark (drop n os) ∷ [])))
 
 -- so a page that is written goes on
 pub room-fits : (es fs : List PageEntry) (os ps xs : List ℕ) (m : MarkView)
@@ -300,6 +332,75 @@ step-last ds (l ∷ ls) (e ∷ rs) s a h =
     ∙ ap (λ es. ds ++ es) (sym (kept_mid (l ∷ ls) rs e ∙ kept_first e ((l ∷ ls) ++ rs)
     (all_join (λ f. slot_cmp e f ≡ Less) (l ∷ ls) rs
     (less_sorted e l ls (turned l e Greater h) s) a)))
+
+-- ---- a page that is taken whole
+
+-- the first of some is that of these and others
+first-append : (xs ys : List Entry) → 0 < length xs → first_of (xs ++ ys) ≡ first_of xs
+first-append [] ys h = absurd (omega (arith, h))
+first-append (x ∷ xs) ys h = refl
+
+-- where the last of some in strict order comes before another entry, all do
+all_with_last : (ps : List Entry) (e f : Entry) → IsStrictlySortedBy slot_cmp ps
+    → first_of (reverse ps) ≡ Some e → slot_cmp e f ≡ Less
+    → AllByRecursion (λ p. slot_cmp p f ≡ Less) ps
+all_with_last [] e f s h l = tt
+all_with_last (p ∷ []) e f s h l =
+    let is : p ≡ e = cc in (ap (λ z. slot_cmp z f) is ∙ l, tt)
+all_with_last (p ∷ q ∷ ps) e f s h l =
+    let some : 0 < length (reverse (q ∷ ps)) = omega (arith, length-reverse (q ∷ ps)) in
+    let last : first_of (reverse (q ∷ ps)) ≡ Some e =
+    sym (first-append (reverse (q ∷ ps)) (p ∷ []) some)
+    ∙ ap first_of (sym (reverse-append (p ∷ []) (q ∷ ps))) ∙ h in
+    let rest = all_with_last (q ∷ ps) e f (sorted_tail slot_cmp p (q ∷ ps) s) last l in
+    (slots_total.trans p q f (sorted_head slot_cmp p (q ∷ ps) s).0 rest.0, rest)
+
+-- so all come before those that wait, of which it is the least
+abbrev AllBefore : List Entry → List Entry → Type 0
+AllBefore es fs = AllByRecursion (λ e. AllByRecursion (λ f. slot_cmp e f ≡ Less) fs) es
+
+all_before : (ps rs : List Entry) → IsStrictlySortedBy slot_cmp ps → AreRising rs
+    → EndsBefore ps (first_of rs) → AllBefore ps rs
+all_before ps [] s r h = all_of (λ e. AllByRecursion (λ f. slot_cmp e f ≡ Less) []) ps (λ x m. tt)
+all_before ps (e ∷ rs) s r h =
+    all_so (λ p. slot_cmp p e ≡ Less) (λ p. AllByRecursion (λ f. slot_cmp p f ≡ Less) (e ∷ rs))
+    (λ p l. less_rising p e rs l r) ps (all_with_last ps h.0 e s h.1 h.2)
+
+-- parts of some in strict order are in order
+sorted_parts : (ps ls : List Entry) → IsStrictlySortedBy slot_cmp (ps ++ ls)
+    → IsStrictlySortedBy slot_cmp ps × IsStrictlySortedBy slot_cmp ls
+unfolding IsStrictlySortedBy
+sorted_parts [] ls s = (tt, s)
+sorted_parts (p ∷ ps) ls s =
+    let r = sorted_parts ps ls s.1 in
+    ((all_left (λ f. slot_cmp p f ≡ Less) ps ls s.0, r.0), r.1)
+
+-- what comes before all others stands in front of what is kept of them
+whole_first : (ps ls rs : List Entry) → IsStrictlySortedBy slot_cmp (ps ++ ls) → AllBefore ps rs
+    → kept ((ps ++ ls) ++ rs) ≡ ps ++ kept (ls ++ rs)
+whole_first [] ls rs s a = refl
+whole_first (p ∷ ps) ls rs s a =
+    kept_first p ((ps ++ ls) ++ rs) (all_join (λ f. slot_cmp p f ≡ Less) (ps ++ ls) rs
+    (sorted_head slot_cmp p (ps ++ ls) s) a.0)
+    ∙ ap (λ es. p ∷ es) (whole_first ps ls rs (sorted_tail slot_cmp p (ps ++ ls) s) a.1)
+
+-- so the page may stand behind those that were made
+pub step-page : (ss ts ps ls ms rs : List Entry) → ts ≡ ss ++ ps → ls ≡ ps ++ ms
+    → IsStrictlySortedBy slot_cmp ls → AreRising rs → EndsBefore ps (first_of rs)
+    → ts ++ kept (ms ++ rs) ≡ ss ++ kept (ls ++ rs)
+step-page ss ts ps ls ms rs t l s r h =
+    let both : IsStrictlySortedBy slot_cmp (ps ++ ms) = subst (IsStrictlySortedBy slot_cmp) l s in
+    ap (λ es. es ++ kept (ms ++ rs)) t ∙ append_assoc ss ps (kept (ms ++ rs))
+    ∙ ap (λ es. ss ++ es) (sym (whole_first ps ms rs both
+    (all_before ps rs (sorted_parts ps ms both).0 r h)))
+    ∙ ap (λ es. ss ++ kept (es ++ rs)) (sym l)
+
+-- the others stay in order
+pub sorted-behind : (ps ls ms : List Entry) → ls ≡ ps ++ ms → IsStrictlySortedBy slot_cmp ls
+    → IsStrictlySortedBy slot_cmp ms
+sorted-behind ps ls ms l s = (sorted_parts ps ms (subst (IsStrictlySortedBy slot_cmp) l s)).1
+
+-- ---- those that give way
 
 -- the first entry of the pages gives way
 pub drop-left : (ls rs : List Entry) (l e : Entry) → first_of ls ≡ Some l → first_of rs ≡ Some e

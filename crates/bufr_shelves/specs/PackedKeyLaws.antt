@@ -1,6 +1,6 @@
 -- Packed keys are in the order of the keys that they stand for.
 use Rattle.std.proofs.Common.{◌≡◌, ℕ, suc, ◌+◌, ◌*◌, ◌/◌, ◌%◌, ◌^◌, ◌<◌, ap, sym, ◌∙◌, refl, arith, div-one}
-use Rattle.std.proofs.lemmas.Nat.{mod-pow-add, mod_below, pow_pos, shr-shr, shr_high, mod_low}
+use Rattle.std.proofs.lemmas.Nat.{mod-pow-add, mod_below, pow_pos}
 use Rattle.std.proofs.Math.Nat.{mod-eq_of_lt, mul-le-mul_right, suc-mul}
 use Rattle.std.proofs.lemmas.Cmp.{ranked}
 use Rattle.std.specs.Cmp.{nat_cmp_is}
@@ -8,10 +8,8 @@ use Rattle.std.specs.Ordering.{MatchOrdering, nat_cmp, ordering_then}
 use Rattle.std.specs.declared.cmp.Ordering.{Ordering}
 use Rattle.std.specs.declared.cmp.Ordering.TheVariants.{Less, Equal, Greater}
 use Rattle.bufr_keys.specs.KeyOrders.{moment_cmp, key_cmp}
-use Rattle.bufr_keys.specs.declared.key.Key.{Key}
-use Rattle.bufr_keys.specs.declared.key.Moment.{Moment}
 use Rattle.bufr_shelves.specs.FrontLaws.{in_turn, same_signed}
-use Rattle.bufr_shelves.specs.PackedKeys.{bits, wmo_key, wmo_moment, wmo_head}
+use Rattle.bufr_shelves.specs.PackedKeys.{bits, wmo_key, wmo_moment}
 use Rattle.bufr_shelves.specs.declared.sorted_shelf.packed_key.WmoWords.{WmoWords}
 
 -- numbers whose first part is less are less, whatever the second

@@ -1,5 +1,6 @@
 -- Entries while they are gathered: in pages, where the octets of many stand in one place.
-use Rattle.std.specs.Prelude.{◌≡◌, ℕ, ◌+◌, ◌≤◌, ◌++◌, false, List, [], ◌∷◌, take, drop, length}
+use Rattle.std.specs.Prelude.{◌≡◌, ℕ, ◌+◌, ◌≤◌, ◌++◌, false, List, [], ◌∷◌, take, drop, length, reverse, Option, Some, IfSome}
+use Rattle.bufr_shelves.specs.Keeping.{first_of}
 use Rattle.std.specs.List.{flat_map, AllByRecursion}
 use Rattle.std.specs.Ordering.{is_gt}
 use Rattle.std.specs.declared.cmp.Ordering.TheVariants.{Less}
@@ -51,6 +52,12 @@ AreLast octets entries ahead = (before : List ℕ) × (octets_waiting octets ent
 -- the entries of all pages
 abbrev pub flat : List (List Entry) → List Entry
 flat pages = flat_map (λ p. p) pages
+
+-- the last entry of a page comes before another one, if one is given
+abbrev pub EndsBefore : List Entry → Option Entry → Type 0
+EndsBefore page next =
+    (last : Entry) × (first_of (reverse page) ≡ Some last)
+    × IfSome next (λ f. slot_cmp last f ≡ Less)
 
 -- no entry comes before one that stands in front of it
 abbrev pub AreRising : List Entry → Type 0

@@ -2,7 +2,7 @@
 ghost use Rattle.std.specs.Prelude.{◌≡◌, ◌+◌, ◌<◌, ◌≤◌, ◌++◌, ◌∷◌, [], true, false, drop, length, reverse, IfOk, IfErr, OnOk, OnErr, vec_len};
 ghost use Rattle.std.specs.Option.{option_map, option_to_list};
 ghost use Rattle.bufr_shelves.specs.Keeping.{first_of};
-ghost use Rattle.bufr_shelves.specs.Pages.{paged, octets_of, mark_of, seen};
+ghost use Rattle.bufr_shelves.specs.Pages.{paged, octets_of, mark_of, seen, EndsBefore};
 
 use crate::mark::Mark;
 use crate::sorted_shelf::gathered::Look;
@@ -41,7 +41,7 @@ pub(crate) struct Page {
 }
 
 impl Model for Page {
-    ghost use Rattle.std.specs.Prelude.{List, ◌+◌, ◌≤◌, drop, length, reverse};
+    ghost use Rattle.std.specs.Prelude.{◌≡◌, List, ◌+◌, drop, length, reverse};
     ghost use Rattle.bufr_shelves.specs.declared.entry.Entry.{Entry as AnEntry};
     ghost use Rattle.bufr_shelves.specs.Pages.{paged, octets_of};
 
@@ -49,10 +49,21 @@ impl Model for Page {
 
     ghost view = { λ a. paged (reverse a.entries.items) (drop a.from a.octets.items) };
 
-    ghost invariant = { λ a. a.from + octets_of (reverse a.entries.items) ≤ length a.octets.items };
+    ghost invariant = { λ a. a.from + octets_of (reverse a.entries.items) ≡ length a.octets.items };
 }
 
 impl Page {
+    /// No entries. It takes no memory.
+    pub(crate) fn new(alloc: Global) -> Page
+        ensures { result ≡ [] }
+    {
+        Page {
+            entries: Vec::new(alloc),
+            octets: Vec::new(alloc),
+            from: 0,
+        }
+    }
+
     /// The first entry.
     pub(crate) fn first(&self) -> Option<Look>
         ensures { option_map seen result ≡ first_of self.now }
@@ -73,6 +84,33 @@ impl Page {
         let PageEntry { mark, len } = self.entries.pop()?;
         self.from += len;
         Some(mark)
+    }
+
+    /// The last entry.
+    fn last(&self) -> Option<Look>
+        ensures { option_map seen result ≡ first_of (reverse self.now) }
+    {
+        let (PageEntry { mark, len }, _) = self.entries.split_first()?;
+        let from = self.octets.len() - *len;
+        Some(Look {
+            mark,
+            octets: &self.octets[from..],
+        })
+    }
+
+    /// Whether none of its entries was taken, and the last of them comes before another one, if one is
+    /// given.
+    pub(crate) fn is_whole_before(&self, next: Option<Look>) -> bool
+        ensures { result ≡ true → EndsBefore self.now (option_map seen next.entry) }
+    {
+        if self.from > 0 {
+            return false;
+        }
+        match (self.last(), next) {
+            (None, _) => false,
+            (Some(_), None) => true,
+            (Some(last), Some(next)) => last.slot_cmp(next).is_lt(),
+        }
     }
 }
 

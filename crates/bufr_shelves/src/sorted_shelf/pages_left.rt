@@ -1,8 +1,8 @@
 //! Pages of which the entries are taken one by one.
-ghost use Rattle.std.specs.Prelude.{◌≡◌, ◌++◌, ◌<◌, [], drop, length, reverse, OnOk};
-ghost use Rattle.std.specs.Option.{option_map};
+ghost use Rattle.std.specs.Prelude.{◌≡◌, ◌++◌, ◌<◌, [], drop, length, reverse, IfSome, OnOk};
+ghost use Rattle.std.specs.Option.{option_map, option_to_list};
 ghost use Rattle.bufr_shelves.specs.Keeping.{first_of};
-ghost use Rattle.bufr_shelves.specs.Pages.{flat, mark_of, seen};
+ghost use Rattle.bufr_shelves.specs.Pages.{flat, mark_of, seen, EndsBefore};
 
 use crate::mark::Mark;
 use crate::sorted_shelf::gathered::Look;
@@ -52,11 +52,7 @@ impl PagesLeft {
         ensures { result ≡ [] }
     {
         PagesLeft {
-            page: Page {
-                entries: Vec::new(alloc),
-                octets: Vec::new(alloc),
-                from: 0,
-            },
+            page: Page::new(alloc),
             pages: Vec::new(alloc),
         }
     }
@@ -83,6 +79,20 @@ impl PagesLeft {
         ensures { self.new ≡ drop 1 self.old }
     {
         let _mark = self.take_first();
+    }
+
+    /// Takes the first page as it is, where none of its entries was taken and the last of them comes
+    /// before another one, if one is given.
+    pub(crate) fn take_page(&mut self, alloc: Global, next: Option<Look>) -> Option<Page>
+        ensures all { self.old ≡ flat (option_to_list result) ++ self.new }
+        ensures before { IfSome result (λ page. EndsBefore page (option_map seen next.entry)) }
+    {
+        if !self.page.is_whole_before(next) {
+            return None;
+        }
+        let page = mem::replace(&mut self.page, Page::new(alloc));
+        turn(&mut self.page, &mut self.pages);
+        Some(page)
     }
 
     /// Takes pages in front of these, from the last on. Where memory was refused some stay.

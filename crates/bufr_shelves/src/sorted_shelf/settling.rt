@@ -16,8 +16,8 @@ use std::alloc::Global;
 use std::cmp::Ordering;
 
 /// Puts all entries that wait among the settled ones, of each slot the one of greatest rank. Where
-/// memory was refused some may stand elsewhere, and together they are as they were. All are moved
-/// into new pages, each of which is made before what was in its place is gone.
+/// memory was refused some may stand elsewhere, and together they are as they were. Each new page is
+/// made before what was in its place is gone.
 pub(crate) fn settle(
     alloc: Global,
     settled: &mut Vec<Page>,
@@ -34,14 +34,40 @@ pub(crate) fn settle(
     left.take_back(settled)?;
     waiting.sort();
     while order_of_heads(left, waiting).is_some() {
-        settled.reserve(1)?;
-        let mut room = PageRoom::new(alloc)?;
-        let filled = fill(&mut room, left, waiting);
-        settled.push_reserved(room.into_page());
-        filled?;
+        settle_page(alloc, settled, left, waiting)?;
     }
     waiting.give_back();
     Ok(())
+}
+
+/// Puts one page behind the settled ones: the first as it is, where all its entries come before those
+/// that wait, or else a new one.
+fn settle_page(
+    alloc: Global,
+    settled: &mut Vec<Page>,
+    left: &mut PagesLeft,
+    waiting: &mut Waiting,
+) -> Result<(), OutOfMemory>
+    requires sorted { IsStrictlySortedBy slot_cmp left.old }
+    requires rising { AreRising (reverse waiting.old) }
+    requires some { 0 < length left.old + length waiting.old }
+    ensures sorted { IsStrictlySortedBy slot_cmp left.new }
+    ensures rising { AreRising (reverse waiting.new) }
+    ensures all { flat settled.new.items ++ kept (left.new ++ reverse waiting.new)
+        ≡ flat settled.old.items ++ kept (left.old ++ reverse waiting.old) }
+    ensures fewer { length waiting.new ≤ length waiting.old }
+    ensures less { OnOk result
+        (length left.new + length waiting.new < length left.old + length waiting.old) }
+{
+    settled.reserve(1)?;
+    if let Some(page) = left.take_page(alloc, waiting.last()) {
+        settled.push_reserved(page);
+        return Ok(());
+    }
+    let mut room = PageRoom::new(alloc)?;
+    let filled = fill(&mut room, left, waiting);
+    settled.push_reserved(room.into_page());
+    filled
 }
 
 /// Moves entries to the page until it is full, or none is left, each time the one of least slot,

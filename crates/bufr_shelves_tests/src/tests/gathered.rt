@@ -1,4 +1,6 @@
 //! Entries gathered in any order.
+ghost use Rattle.std.specs.Prelude.{◌<◌};
+
 use super::*;
 use bufr_answers::OutOfMemory;
 use bufr_shelves::{EntryOctets, ShelfBuilder};
@@ -178,4 +180,122 @@ fn octets_put_where_they_wait(rt: HostRuntime) {
     }
     let shelf = builder.into_shelf().expect(&rt, "room");
     assert_holds(&rt, &shelf, TOLD_IN_ORDER);
+}
+
+/// How the reports of stations come, six thousand of them. They are put in order in batches: the first
+/// 64, then 128, 384, 1152 and 3456, and then the rest.
+#[derive(Clone, Copy, Drop)]
+enum Coming {
+    /// In order.
+    Rising,
+    /// In order from the last on.
+    Falling,
+    /// The even stations in order, and then the odd ones.
+    Between,
+    /// Each station twice, so that a batch begins with the last station of the one before. The second
+    /// report has the greater update number.
+    LaterKept,
+    /// The same, but the first report has it.
+    EarlierKept,
+}
+
+/// The station and the update number of the report at this place.
+fn report_at(coming: Coming, place: u16) -> (u16, u8)
+    requires { place < 6000 }
+{
+    let half = place / 2 + place % 2;
+    let parity = if place % 2 == 0 { 0 } else { 1 };
+    match coming {
+        Coming::Rising => (place, 0),
+        Coming::Falling => (5999 - place, 0),
+        Coming::Between => (place % 3000 * 2 + place / 3000, 0),
+        Coming::LaterKept => (half, 1 - parity),
+        Coming::EarlierKept => (half, parity),
+    }
+}
+
+/// The entry at this place, whose octets are those of its place.
+fn entry_at(rt: &impl Abort, alloc: Global, coming: Coming, place: u16, has_key: bool) -> Entry
+    requires { place < 6000 }
+{
+    let (number, update) = report_at(coming, place);
+    if has_key {
+        Entry {
+            key: noon(Some(number as i128)),
+            update,
+            bytes: octets(rt, alloc, &digits(u32::from(place))),
+        }
+    } else {
+        Entry {
+            key: None,
+            update,
+            bytes: octets(rt, alloc, &digits(u32::from(number))),
+        }
+    }
+}
+
+/// The entries as they come.
+fn entries_coming(rt: &impl Abort, alloc: Global, coming: Coming, has_key: bool) -> Vec<Entry> {
+    let mut entries = Vec::new(alloc);
+    for place in 0..6000u16 {
+        let entry = entry_at(rt, alloc, coming, place, has_key);
+        entries.push(entry).expect(rt, "room");
+    }
+    entries
+}
+
+/// The shelf of what was gathered of these entries.
+fn gathered_of(rt: &impl Abort, alloc: Global, entries: Vec<Entry>) -> SortedShelf {
+    let mut builder = ShelfBuilder::new(alloc);
+    for entry in entries {
+        let Entry { key, update, bytes } = entry;
+        builder.put(key, update, bytes).expect(rt, "room");
+    }
+    builder.into_shelf().expect(rt, "room")
+}
+
+/// The two shelves hold the same, so many entries.
+fn assert_same(rt: &impl Abort, shelf: &SortedShelf, expected: &MapShelf, count: usize) {
+    same(rt, shelf.len(), count);
+    same(rt, expected.len(), count);
+    let mut next = shelf.first();
+    let mut wanted = expected.first();
+    for _ in 0..count {
+        let held = next.expect(rt, "an entry");
+        let other = wanted.expect(rt, "one more");
+        assert!(rt; held.key == other.key);
+        assert_held(
+            rt,
+            held,
+            (other.key.is_some(), other.update, other.bytes.as_slice()),
+        );
+        next = shelf.after(held);
+        wanted = expected.after(other);
+    }
+    assert!(rt; next.is_none());
+}
+
+/// What is gathered of entries that come so is what is shelved of them one by one.
+fn assert_gathered(rt: &impl Abort, alloc: Global, coming: Coming, has_key: bool, count: usize) {
+    let shelf = gathered_of(rt, alloc, entries_coming(rt, alloc, coming, has_key));
+    let entries = entries_coming(rt, alloc, coming, has_key);
+    let expected: MapShelf = shelve(alloc, entries).expect(rt, "room");
+    assert_same(rt, &shelf, &expected, count);
+}
+
+/// Whatever the batches: behind all pages, before them, between their entries, and beginning with a
+/// station that the last page ends with.
+#[test]
+fn batches_gathered(rt: HostRuntime) {
+    let rows = [
+        (Coming::Rising, 6000),
+        (Coming::Falling, 6000),
+        (Coming::Between, 6000),
+        (Coming::LaterKept, 3001),
+        (Coming::EarlierKept, 3001),
+    ];
+    for (coming, count) in rows {
+        assert_gathered(&rt, rt.alloc(), coming, true, count);
+        assert_gathered(&rt, rt.alloc(), coming, false, count);
+    }
 }

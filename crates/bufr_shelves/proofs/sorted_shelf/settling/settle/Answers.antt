@@ -5,9 +5,9 @@ use Rattle.std.specs.List.Sorted.{IsStrictlySortedBy}
 use Rattle.bufr_shelves.specs.Entries.{slot_cmp, kept}
 use Rattle.bufr_shelves.specs.Orders.{kept-kept}
 use Rattle.bufr_shelves.specs.Pages.{flat}
-use Rattle.bufr_shelves.proofs.PageLemmas.{Within-permutation, flat-push, kept-anyhow, kept-turned, settled-so}
+use Rattle.bufr_shelves.proofs.PageLemmas.{Within-permutation, kept-anyhow, kept-turned, settled-so}
 use Rattle.bufr_shelves.proofs.sorted_shelf.settling.settle.Goals as goal
-use Rattle.bufr_shelves.proofs.sorted_shelf.settling.settle.Goals.{After-reserve, After-push_reserved}
+use Rattle.bufr_shelves.proofs.sorted_shelf.settling.settle.Goals.{After-settle_page}
 
 -- before the first page is made,
 pub loop-alloc-init : goal.loop-alloc-init
@@ -31,63 +31,24 @@ loop-alloc-init c =
     ) in
     record { sorted = search rules; rising = search rules; all = all; fewer = search rules }
 
--- where no page more has room,
-so_far : (c : After-reserve)
-    → IsStrictlySortedBy slot_cmp (flat c.reserve.new.self.items ++ c.loop-alloc.left)
-    × (kept (flat c.reserve.new.self.items ++ (c.loop-alloc.left ++ c.loop-alloc.waiting))
+-- where no page more has room, or an entry has none in it,
+so_far : (c : After-settle_page) → let new = c.settle_page.new in
+    IsStrictlySortedBy slot_cmp (flat new.settled.items ++ new.left)
+    × (kept (flat new.settled.items ++ (new.left ++ new.waiting))
     ≡ kept (flat c.args.settled.now.items ++ (c.args.left.now ++ c.args.waiting.now)))
 so_far c =
-    let left = c.loop-alloc.left in let waiting = c.loop-alloc.waiting in
-    settled-so (flat c.reserve.new.self.items) left waiting
-    (flat c.args.settled.now.items ++ (c.args.left.now ++ c.args.waiting.now)) c.loop-alloc.invariant.sorted
-    (ap (λ ps. flat ps ++ kept (left ++ reverse waiting)) c.reserve.ensures.items
-    ∙ c.loop-alloc.invariant.all)
-
-pub returns-in_err-reserve-clause-sorted : goal.returns-in_err-reserve-clause-sorted
-returns-in_err-reserve-clause-sorted c =
-    (so_far ((goal.at.returns-in_err-reserve-clause-sorted c).After-reserve)).0
-
-pub returns-in_err-reserve-clause-all : goal.returns-in_err-reserve-clause-all
-returns-in_err-reserve-clause-all c =
-    (so_far ((goal.at.returns-in_err-reserve-clause-all c).After-reserve)).1
-
-pub returns-in_err-room-clause-sorted : goal.returns-in_err-room-clause-sorted
-returns-in_err-room-clause-sorted c =
-    (so_far ((goal.at.returns-in_err-room-clause-sorted c).After-reserve)).0
-
-pub returns-in_err-room-clause-all : goal.returns-in_err-room-clause-all
-returns-in_err-room-clause-all c =
-    (so_far ((goal.at.returns-in_err-room-clause-all c).After-reserve)).1
-
--- or a page has no room for an entry,
-filled : (c : After-push_reserved)
-    → IsStrictlySortedBy slot_cmp (flat c.push_reserved.new.self.items ++ c.fill-filled.new.left)
-    × (kept (flat c.push_reserved.new.self.items
-    ++ (c.fill-filled.new.left ++ c.fill-filled.new.waiting))
-    ≡ kept (flat c.args.settled.now.items ++ (c.args.left.now ++ c.args.waiting.now)))
-filled c =
-    let made = c.reserve.new.self.items in
-    let left = c.fill-filled.new.left in let waiting = c.fill-filled.new.waiting in
-    let rest = kept (left ++ reverse waiting) in
-    let before = kept (c.loop-alloc.left ++ reverse c.loop-alloc.waiting) in
-    settled-so (flat c.push_reserved.new.self.items) left waiting
+    let new = c.settle_page.new in
+    settled-so (flat new.settled.items) new.left new.waiting
     (flat c.args.settled.now.items ++ (c.args.left.now ++ c.args.waiting.now))
-    c.fill-filled.ensures.sorted
-    (ap (λ ps. flat ps ++ rest) c.push_reserved.ensures.items
-    ∙ ap (λ es. es ++ rest) (flat-push made c.into_page.result)
-    ∙ append_assoc (flat made) c.into_page.result rest
-    ∙ ap (λ es. flat made ++ (es ++ rest)) c.into_page.ensures
-    ∙ ap (λ es. flat made ++ es)
-    (c.fill-filled.ensures.all ∙ ap (λ es. es ++ before) c.in_ok-room.ensures)
-    ∙ ap (λ ps. flat ps ++ before) c.reserve.ensures.items ∙ c.loop-alloc.invariant.all)
+    c.settle_page.ensures.sorted (c.settle_page.ensures.all ∙ c.loop-alloc.invariant.all)
 
-pub returns-in_err-filled-clause-sorted : goal.returns-in_err-filled-clause-sorted
-returns-in_err-filled-clause-sorted c =
-    (filled ((goal.at.returns-in_err-filled-clause-sorted c).After-push_reserved)).0
+pub returns-in_err-settle_page-clause-sorted : goal.returns-in_err-settle_page-clause-sorted
+returns-in_err-settle_page-clause-sorted c =
+    (so_far ((goal.at.returns-in_err-settle_page-clause-sorted c).After-settle_page)).0
 
-pub returns-in_err-filled-clause-all : goal.returns-in_err-filled-clause-all
-returns-in_err-filled-clause-all c =
-    (filled ((goal.at.returns-in_err-filled-clause-all c).After-push_reserved)).1
+pub returns-in_err-settle_page-clause-all : goal.returns-in_err-settle_page-clause-all
+returns-in_err-settle_page-clause-all c =
+    (so_far ((goal.at.returns-in_err-settle_page-clause-all c).After-settle_page)).1
 
 -- and in the end
 pub returns-clause-sorted : goal.returns-clause-sorted

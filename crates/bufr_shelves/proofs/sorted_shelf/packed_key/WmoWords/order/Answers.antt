@@ -1,5 +1,5 @@
 -- For `WmoWords::order`: the two numbers and the sub-centre are in the order of the keys.
-use Rattle.std.proofs.Common.{◌≡◌, ◌<◌, ◌^◌, ◌∙◌, arith, ap}
+use Rattle.std.proofs.Common.{arith}
 use Rattle.bufr_shelves.specs.PackedKeyLaws.{wmo_keys_are}
 use Rattle.bufr_shelves.proofs.sorted_shelf.packed_key.WmoWords.order.Goals as goal
 
