@@ -220,6 +220,20 @@ fn assert_viewed(
         None => 0,
     };
     same(rt, units, 27_315);
+    assert_put(rt, alloc, &view)
+}
+
+/// The canonical message of the first report of a view is put behind other octets.
+fn assert_put(rt: &impl Abort, alloc: Global, view: &View<'_>) -> Result<(), Fail>
+    requires { 1 ≤ length view.now.message.subsets }
+{
+    let mut out = repeated!(Vec::from_slice(alloc, b"archive"))?;
+    same(rt, repeated!(view.put_canonical(alloc, 1, &mut out))?, true);
+    same(
+        rt,
+        out.as_slice().strip_prefix(b"archive".as_slice()),
+        Some(SEQUENCES),
+    );
     Ok(())
 }
 

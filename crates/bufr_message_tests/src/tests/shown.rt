@@ -407,7 +407,7 @@ fn assert_read(rt: &impl Abort, alloc: Global, row: &Row<'_>, listing: &str) {
 }
 
 /// The report of this number, which is asked for alone, has this canonical message, and so has the
-/// subset of which no report is built.
+/// subset of which no report is built, also where it is put behind other octets.
 pub(crate) fn assert_own(
     rt: &impl Abort,
     alloc: Global,
@@ -423,6 +423,20 @@ pub(crate) fn assert_own(
     let copied = found.canonical(alloc, number).expect(rt, "room");
     let copied = copied.expect(rt, "octets");
     assert_octets(rt, alloc, copied.as_slice(), wanted);
+    assert_put(rt, alloc, found, number, wanted);
+}
+
+/// The canonical message of the report of this number, put behind two other octets, is this one, and
+/// the two stay.
+fn assert_put(rt: &impl Abort, alloc: Global, found: &View<'_>, number: usize, wanted: &str) {
+    assert!(rt; 1 <= number && number <= found.count());
+    let mut out = octets(rt, alloc, "1C1D");
+    let there = found
+        .put_canonical(alloc, number, &mut out)
+        .expect(rt, "room");
+    same(rt, wanted, there, true);
+    let text = format!(in alloc; "1C1D {wanted}").expect(rt, "room");
+    assert_octets(rt, alloc, out.as_slice(), text.as_str());
 }
 
 /// The reports, asked for from the last to the first and then from the first to the last, have these
