@@ -11,7 +11,7 @@ use crate::section_octets::{
     push_length, push_section1, push_section2, push_section3, push_section4,
 };
 use bufr_answers::{Failure, Items, OutOfMemory};
-use bufr_data::WriteFault;
+use bufr_fields::WriteFault;
 use std::alloc::Global;
 
 /// The greatest number of octets of a message: it stands in three octets of section 0.

@@ -8,12 +8,9 @@ ghost use Rattle.bufr_data.specs.Data.{each_fits, written_bits};
 ghost use Rattle.bufr_data.specs.Compressed.Places.{rows_from, columns_here};
 ghost use Rattle.bufr_data.specs.Subsets.{Appends, Extends, has_own_form};
 
+use bufr_fields::{Field, MOST_VALUES, Subset, WriteFault, fit_fields};
 use crate::compressed::best::put_best;
 use crate::compressed::places::check_places;
-use crate::fault::WriteFault;
-use crate::field::{Field, Subset};
-use crate::fit::fit_fields;
-use crate::limits::MOST_VALUES;
 use bufr_answers::{Failure, OutOfMemory};
 use bufr_bits::BitSink;
 use bufr_expand::Template;
