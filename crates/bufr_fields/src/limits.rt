@@ -1,6 +1,6 @@
 //! The limits on compressed data, raw values and decimals. The definitions cite them by these names
-//! (`specs/Limits.antt`), and the examples pin them: `columns_refused` the first, and
-//! `raw_values_by_kind` the others. The limits on items and fields are those of templates.
+//! (`specs/Limits.antt`), and the examples pin them: `columns_refused` of bufr_data the first, and
+//! `forms_by_kind` the others. The limits on items and fields are those of templates.
 
 /// Compressed data have at most so many values, subsets times fields.
 pub const MOST_VALUES: u64 = 67_108_864;
