@@ -6,13 +6,13 @@ ghost use Rattle.bufr_answers.specs.Answers.{Gives};
 ghost use Rattle.bufr_fields.specs.declared.field.Subset.{Subset};
 ghost use Rattle.bufr_data.specs.Data.{subsets_in};
 
+use crate::plain::alike::Likeness;
+use crate::plain::plan::Plan;
+use crate::subset_index::{SubsetIndex, index_known};
 use bufr_answers::Failure;
 use bufr_bits::BitReader;
 use bufr_expand::Template;
 use bufr_fields::ReadFault;
-use crate::plain::alike::Likeness;
-use crate::plain::plan::Plan;
-use crate::subset_index::{SubsetIndex, index_known};
 use std::alloc::Global;
 use std::marker::Model;
 

@@ -3,12 +3,12 @@
 ghost use Rattle.std.specs.Prelude.{◌≡◌, IfOk, IfErr};
 ghost use Rattle.bufr_data.specs.Handed.{HandsOut, HandsOutAsked};
 
-use bufr_answers::{Items, OutOfMemory};
-use bufr_expand::Asks;
-use bufr_fields::Field;
 use crate::compressed::fields::ColumnFields;
 use crate::plain::fields::PlainFields;
 use crate::plain::laid_fields::LaidFields;
+use bufr_answers::{Items, OutOfMemory};
+use bufr_expand::Asks;
+use bufr_fields::Field;
 use std::alloc::Global;
 use std::marker::Model;
 

@@ -14,8 +14,10 @@ mod worked_refusals;
 mod worked_values;
 
 pub use bufr_expand::Asks;
-pub use bufr_fields::{Decimal, Field, NumberField, Raw, ReadFault, Subset, WriteFault};
-pub use bufr_fields::{MOST_DECIMAL_SCALE, MOST_INCREMENT_BITS, MOST_RAW_BITS, MOST_VALUES};
+pub use bufr_fields::{
+    Decimal, Field, MOST_DECIMAL_SCALE, MOST_INCREMENT_BITS, MOST_RAW_BITS, MOST_VALUES,
+    NumberField, Raw, ReadFault, Subset, WriteFault,
+};
 pub use compressed::index::Columns;
 pub use compressed::read::read_compressed;
 pub use compressed::write::write_compressed;

@@ -15,13 +15,13 @@ ghost use Rattle.bufr_fields.specs.Forms.{has_form_by, number_of};
 ghost use Rattle.bufr_data.specs.Subsets.{Extends, have_form};
 ghost use Rattle.bufr_fields.specs.Limits.{most_increment_bits};
 
+use crate::compressed::places::are_equal;
+use crate::plain::write::put_raw;
 use bufr_answers::OutOfMemory;
 use bufr_bits::BitSink;
 use bufr_expand::Spec;
 use bufr_fields::{Field, Raw, Subset, is_greatest};
 use bufr_tables::Kind;
-use crate::compressed::places::are_equal;
-use crate::plain::write::put_raw;
 use std::alloc::Global;
 
 /// Puts the best column of the values at a place: those of a field and of the other subsets there.

@@ -6,12 +6,12 @@ ghost use Rattle.bufr_data.specs.Handed.{HandsOut, HandsOutAsked, FirstIsAsked, 
 ghost use Rattle.bufr_data.specs.Plain.{plain};
 ghost use Rattle.bufr_data.specs.Subsets.{Extends, has_own_form};
 
+use crate::compressed::index::{Place, value};
+use crate::plain::write::put_raw;
 use bufr_answers::OutOfMemory;
 use bufr_bits::BitSink;
 use bufr_expand::Asks;
 use bufr_fields::Field;
-use crate::compressed::index::{Place, value};
-use crate::plain::write::put_raw;
 use std::alloc::Global;
 use std::marker::Model;
 

@@ -19,16 +19,16 @@ ghost use Rattle.bufr_data.specs.Compressed.Indexed.{index_at};
 ghost use Rattle.bufr_fields.specs.Steady.{IsReady, WalkAdvances};
 ghost use Rattle.bufr_data.specs.Subsets.{Extends};
 
-use bufr_answers::{Failure, Items, OutOfMemory};
-use bufr_bits::{BitReader, BitSink};
-use bufr_expand::{Spec, Step, Template, Walk, WalkFault};
-use bufr_fields::{MOST_VALUES, Raw, ReadFault, Subset};
-use bufr_tables::Fxy;
 use crate::compressed::fields::ColumnFields;
 use crate::compressed::pass::{pass_column, pass_factor};
 use crate::compressed::value::column_value;
 use crate::fields::{Fields, StandingFields};
 use crate::plain::read::fault_of;
+use bufr_answers::{Failure, Items, OutOfMemory};
+use bufr_bits::{BitReader, BitSink};
+use bufr_expand::{Spec, Step, Template, Walk, WalkFault};
+use bufr_fields::{MOST_VALUES, Raw, ReadFault, Subset};
+use bufr_tables::Fxy;
 use std::alloc::Global;
 use std::marker::Model;
 

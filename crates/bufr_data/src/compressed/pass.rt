@@ -12,11 +12,11 @@ ghost use Rattle.bufr_data.specs.Compressed.Passed.{head_at, PassesColumn, Passe
 ghost use Rattle.bufr_data.specs.Compressed.Passed.{agreed_at};
 ghost use Rattle.bufr_fields.specs.Limits.{most_raw_bits};
 
+use crate::compressed::increment::{never_passes, raised};
 use bufr_bits::BitReader;
 use bufr_expand::Spec;
 use bufr_fields::{MOST_RAW_BITS, ReadFault};
 use bufr_tables::Kind;
-use crate::compressed::increment::{never_passes, raised};
 
 /// Moves past the column of field `i` in `n` subsets, which is no factor. Where no column stands
 /// there the reader may have moved on.

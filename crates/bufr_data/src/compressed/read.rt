@@ -6,11 +6,11 @@ ghost use Rattle.bufr_answers.specs.Answers.{Gives};
 ghost use Rattle.bufr_fields.specs.declared.field.Subset.{Subset};
 ghost use Rattle.bufr_data.specs.Data.{subsets_in};
 
+use crate::compressed::index::{Columns, all_subsets};
 use bufr_answers::{Failure, Items};
 use bufr_bits::BitReader;
 use bufr_expand::Template;
 use bufr_fields::{ReadFault, Subset};
-use crate::compressed::index::{Columns, all_subsets};
 use std::alloc::Global;
 
 /// Compressed subsets: so many, whose columns the bits begin with. The reader moves past exactly

@@ -10,12 +10,12 @@ ghost use Rattle.bufr_fields.specs.declared.field.Raw.TheVariants as raws;
 ghost use Rattle.bufr_data.specs.Compressed.Reading as reading;
 ghost use Rattle.bufr_data.specs.Compressed.Indexed.{one_at};
 
+use crate::compressed::increment::raised;
 use bufr_answers::{Items, OutOfMemory};
 use bufr_bits::BitReader;
 use bufr_expand::Spec;
 use bufr_fields::{MOST_RAW_BITS, Raw, are_ones};
 use bufr_tables::Kind;
-use crate::compressed::increment::raised;
 use std::alloc::Global;
 
 /// The value at this index of the column at the front of the bits, where there is one.

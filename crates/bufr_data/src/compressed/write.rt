@@ -8,12 +8,12 @@ ghost use Rattle.bufr_data.specs.Data.{each_fits, written_bits};
 ghost use Rattle.bufr_data.specs.Compressed.Places.{rows_from, columns_here};
 ghost use Rattle.bufr_data.specs.Subsets.{Appends, Extends, has_own_form};
 
-use bufr_fields::{Field, MOST_VALUES, Subset, WriteFault, fit_fields};
 use crate::compressed::best::put_best;
 use crate::compressed::places::check_places;
 use bufr_answers::{Failure, OutOfMemory};
 use bufr_bits::BitSink;
 use bufr_expand::Template;
+use bufr_fields::{Field, MOST_VALUES, Subset, WriteFault, fit_fields};
 use std::alloc::Global;
 
 /// Puts the best column of each place of the subsets at the sink's end, one after the other. On an

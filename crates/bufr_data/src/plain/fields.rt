@@ -3,11 +3,11 @@
 ghost use Rattle.std.specs.Prelude.{IfOk};
 ghost use Rattle.bufr_data.specs.Handed.{HandsOut, HandsOutAsked};
 
+use crate::plain::read::read_field;
 use bufr_answers::OutOfMemory;
 use bufr_bits::BitReader;
 use bufr_expand::{Asks, Walk};
 use bufr_fields::Field;
-use crate::plain::read::read_field;
 use std::alloc::Global;
 use std::marker::Model;
 

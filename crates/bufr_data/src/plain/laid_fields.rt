@@ -10,14 +10,14 @@ ghost use Rattle.bufr_data.specs.Plain.{raw_at};
 ghost use Rattle.bufr_data.specs.Plain.Reads.{raw_or_ends};
 ghost use Rattle.bufr_data.specs.Plain.Starts.{PassesRaw};
 
+use crate::plain::layout::LaidField;
+use crate::plain::pass::bits_of;
+use crate::plain::read::read_raw;
 use bufr_answers::OutOfMemory;
 use bufr_bits::BitReader;
 use bufr_expand::{Asks, Spec};
 use bufr_fields::{Field, NumberField};
 use bufr_tables::Kind;
-use crate::plain::layout::LaidField;
-use crate::plain::pass::bits_of;
-use crate::plain::read::read_raw;
 use std::alloc::Global;
 use std::marker::Model;
 

@@ -16,12 +16,12 @@ ghost use Rattle.bufr_data.specs.Plain.Starts.{PassesRaw, PassesOn};
 ghost use Rattle.bufr_data.specs.Plain.Starts.{PassesSubset};
 ghost use Rattle.bufr_fields.specs.Steady.{IsReady, WalkAdvances};
 
+use crate::plain::read::fault_of;
 use bufr_answers::Failure;
 use bufr_bits::BitReader;
 use bufr_expand::{Spec, Step, Template, Walk};
 use bufr_fields::{MOST_RAW_BITS, ReadFault};
 use bufr_tables::Kind;
-use crate::plain::read::fault_of;
 use std::alloc::Global;
 
 /// How many items the message has met behind the subset at the front of the bits, where it had met

@@ -7,11 +7,11 @@ ghost use Rattle.bufr_fields.specs.declared.field.Subset.{Subset};
 ghost use Rattle.bufr_data.specs.Data.{subsets_in};
 ghost use Rattle.bufr_data.specs.Plain.Numbered.{failure_of_subset};
 
+use crate::plain::read::read_plain;
 use bufr_answers::{Failure, Items};
 use bufr_bits::BitReader;
 use bufr_expand::Template;
 use bufr_fields::{ReadFault, Subset};
-use crate::plain::read::read_plain;
 use std::alloc::Global;
 
 /// So many plain subsets, whose data the bits begin with. The reader moves past exactly their data;
