@@ -17,7 +17,10 @@ use bufr_tables::Fxy;
 use std::alloc::Global;
 
 /// How many items the message has met after subset `j`, which begins with no operator in force,
-/// where it had met `used` before; or the first misfit of its fields.
+/// where it had met `used` before; or the first misfit of its fields: E1 `DoesNotFit` with the
+/// subset and the field, from 1, where another field, a field more or none more is asked for, its
+/// raw value has not its spec's form, or its spec is out of range; E3 `TooLarge` where an item would
+/// be the message's 16,777,217th. `OutOfMemory` where a growth was refused.
 pub fn fit_fields(
     alloc: Global,
     template: &Template,
