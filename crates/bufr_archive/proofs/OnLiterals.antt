@@ -4,7 +4,8 @@ use Rattle.bufr_tables.specs.Entries.{at}
 use Rattle.bufr_expand.specs.Expansion.{expand_list, expand_within}
 use Rattle.bufr_expand.specs.Trees.{tree_within}
 use Rattle.bufr_expand.specs.Courses.{turns, course_then}
-use Rattle.bufr_data.specs.Plain.{fields_at, subsets_at, items_of, items_of_all}
+use Rattle.bufr_data.specs.Plain.{fields_at, subsets_at}
+use Rattle.bufr_fields.specs.Forms.{items_of, items_of_all}
 use Rattle.bufr_data.specs.Compressed.Reading.{columns_at}
 use Rattle.bufr_data.specs.Compressed.Best.{columns_of, fewest_bits}
 use Rattle.bufr_sections.specs.Sections.{sections, spelling, room_in, room_of, section_at, head4_of}

@@ -13,7 +13,7 @@ use Rattle.bufr_tables.specs.Entries.{Entries}
 use Rattle.bufr_frame.specs.Starts.{sevens}
 use Rattle.bufr_frame.specs.Cuts.{IsOneFrame}
 use Rattle.bufr_sections.specs.declared.layout.Layout.{Layout}
-use Rattle.bufr_data.specs.declared.field.Subset.{Subset}
+use Rattle.bufr_fields.specs.declared.field.Subset.{Subset}
 use Rattle.bufr_sections.specs.declared.message.Decoded.{Decoded}
 use Rattle.bufr_sections.specs.declared.message.Message.{Message}
 use Rattle.bufr_sections.specs.declared.fault.Refused.{Refused}

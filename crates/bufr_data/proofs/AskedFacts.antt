@@ -13,12 +13,13 @@ use Rattle.bufr_expand.specs.declared.walk.WalkFault.TheVariants as faults
 use Rattle.bufr_expand.specs.Asked.{TellsNone}
 use Rattle.bufr_expand.specs.Courses.{Course, ends, stops, asks}
 use Rattle.bufr_expand.specs.Walks as walks
-use Rattle.bufr_data.specs.declared.field.Field.{Field}
-use Rattle.bufr_data.specs.declared.field.Raw.{Raw}
-use Rattle.bufr_data.specs.declared.fault.ReadFault.{ReadFault}
+use Rattle.bufr_fields.specs.declared.field.Field.{Field}
+use Rattle.bufr_fields.specs.declared.field.Raw.{Raw}
+use Rattle.bufr_fields.specs.declared.fault.ReadFault.{ReadFault}
 use Rattle.bufr_data.specs.Handed.{HandsOut, HandsOutAsked, NoneAsked, FirstIsAsked, PassesFirst}
 use Rattle.bufr_data.specs.Handed.{PassesUnasked, fields_ahead}
-use Rattle.bufr_data.specs.Plain.{SubsetRead, fields_at, field_then, number_of, raw_at, stopped}
+use Rattle.bufr_data.specs.Plain.{SubsetRead, fields_at, field_then, raw_at, stopped}
+use Rattle.bufr_fields.specs.Forms.{number_of}
 use Rattle.bufr_data.specs.Plain.Starts.{fields_of}
 use Rattle.bufr_data.proofs.ListFacts.{all_joined}
 

@@ -11,21 +11,22 @@ use Rattle.bufr_expand.specs.Unrolling.{Told, After, Unrolls}
 use Rattle.bufr_expand.specs.NextFields.{wants, lacks, BeginsWithin}
 use Rattle.bufr_expand.specs.NextFields.{PassesLimit}
 use Rattle.bufr_expand.specs.Limits.{most_items}
-use Rattle.bufr_data.specs.declared.field.Field.{Field}
-use Rattle.bufr_data.specs.declared.fault.ReadFault.{ReadFault}
-use Rattle.bufr_data.specs.declared.fault.WriteFault.{WriteFault}
-use Rattle.bufr_data.specs.declared.fault.WriteFault.TheVariants as misfits
-use Rattle.bufr_data.specs.declared.field.Subset.{Subset}
-use Rattle.bufr_data.specs.Plain.{fields_at, subsets_at, items_of}
+use Rattle.bufr_fields.specs.declared.field.Field.{Field}
+use Rattle.bufr_fields.specs.declared.fault.ReadFault.{ReadFault}
+use Rattle.bufr_fields.specs.declared.fault.WriteFault.{WriteFault}
+use Rattle.bufr_fields.specs.declared.fault.WriteFault.TheVariants as misfits
+use Rattle.bufr_fields.specs.declared.field.Subset.{Subset}
+use Rattle.bufr_data.specs.Plain.{fields_at, subsets_at}
+use Rattle.bufr_fields.specs.Forms.{items_of}
 use Rattle.bufr_data.specs.Data.{written_bits}
-use Rattle.bufr_data.specs.Fits.{told_of}
-use Rattle.bufr_data.specs.Plain.Refusals.{IsAsked, Passes}
-use Rattle.bufr_data.specs.Causes.{Begin, NoneFollows, no_room, no_spec, no_bits, FirstRefused}
+use Rattle.bufr_fields.specs.Fits.{told_of}
+use Rattle.bufr_fields.specs.Asked.{IsAsked, Passes, Begin}
+use Rattle.bufr_data.specs.Causes.{NoneFollows, no_room, no_spec, no_bits, FirstRefused}
 use Rattle.bufr_data.specs.Causes.{FirstSubsetRefused, NotAllowed, too_many, past_limit}
 use Rattle.bufr_data.specs.Causes.{without_spec, another, FirstMisfit, FirstSubsetMisfit}
-use Rattle.bufr_data.specs.CourseLaws.{Laws, passes_after, after_passes, begun, begun_after}
-use Rattle.bufr_data.specs.CourseLaws.{limit_passed, AreUnrolled, AreAllowed, IsAskedNext}
-use Rattle.bufr_data.specs.CourseLaws.{IsLackingNext, IsTooLargeNext, IsOnward}
+use Rattle.bufr_fields.specs.CourseLaws.{Laws, passes_after, after_passes, begun, begun_after}
+use Rattle.bufr_fields.specs.CourseLaws.{limit_passed, AreUnrolled, AreAllowed, IsAskedNext}
+use Rattle.bufr_fields.specs.CourseLaws.{IsLackingNext, IsTooLargeNext, IsOnward}
 use Rattle.bufr_data.proofs.PlainFacts.Refusals.{CannotStand, FieldRefused, SubsetRefused, CannotGoOn}
 use Rattle.bufr_data.proofs.PlainFacts.Refusals.{FieldMisfits, SubsetMisfits}
 use Rattle.bufr_data.proofs.RefusalFacts.{refused_stand, standing_refused, subsets_refused_stand}

@@ -14,9 +14,9 @@ use Rattle.bufr_bits.specs.Bits.{bin, bits, number_at, numbers_at, octets_at}
 use Rattle.bufr_bits.specs.BitLaws.{some_is, number_at-bin, number_at_is}
 use Rattle.bufr_bits.specs.NumberLaws.{numbers_at_again, numbers_at_found}
 use Rattle.bufr_expand.specs.declared.operators.Spec.{Spec}
-use Rattle.bufr_data.specs.declared.field.Raw.{Raw}
-use Rattle.bufr_data.specs.declared.field.Raw.TheVariants.{Number, Text}
-use Rattle.bufr_data.specs.declared.fault.ReadFault.{ReadFault}
+use Rattle.bufr_fields.specs.declared.field.Raw.{Raw}
+use Rattle.bufr_fields.specs.declared.field.Raw.TheVariants.{Number, Text}
+use Rattle.bufr_fields.specs.declared.fault.ReadFault.{ReadFault}
 use Rattle.bufr_data.specs.Plain.{raw_bits, raw_at}
 use Rattle.bufr_data.specs.Compressed.{Pairwise, HasIncrement, HasText, IsColumn, equal}
 use Rattle.bufr_data.specs.Compressed.{numbers as number_column, texts as text_column, above, missing}
@@ -24,7 +24,7 @@ use Rattle.bufr_data.specs.Compressed.{filled as is_filled, ones as ones_text}
 use Rattle.bufr_data.specs.Compressed.Reading.{or_ends, raised, value_then, all_raised, filled}
 use Rattle.bufr_data.specs.Compressed.Reading.{text_then, texts_then, texts_at, values_at, column_at}
 use Rattle.bufr_data.specs.Compressed.Causes.{Heads}
-use Rattle.bufr_data.specs.FormLaws.{form_passes, form_is}
+use Rattle.bufr_fields.specs.FormLaws.{form_passes, form_is}
 use Rattle.bufr_data.proofs.ListFacts.{all_replicated}
 use Rattle.bufr_data.proofs.PlainFacts.{raw_again, raw_read}
 pub mod Best

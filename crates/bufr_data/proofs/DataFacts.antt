@@ -5,15 +5,15 @@ use Rattle.std.proofs.Common.{subst, ◌∙◌, arith}
 use Rattle.bufr_answers.specs.Answers.{result_map}
 use Rattle.bufr_expand.specs.Trees.{Tree}
 use Rattle.bufr_expand.specs.Courses.{course}
-use Rattle.bufr_data.specs.declared.field.Subset.{Subset}
-use Rattle.bufr_data.specs.declared.fault.ReadFault.{ReadFault}
-use Rattle.bufr_data.specs.declared.fault.WriteFault.{WriteFault}
+use Rattle.bufr_fields.specs.declared.field.Subset.{Subset}
+use Rattle.bufr_fields.specs.declared.fault.ReadFault.{ReadFault}
+use Rattle.bufr_fields.specs.declared.fault.WriteFault.{WriteFault}
 use Rattle.bufr_data.specs.Plain.{SubsetsRead, plain_subsets, subsets_at}
 use Rattle.bufr_data.specs.Compressed.{subsets_from}
 use Rattle.bufr_data.specs.Compressed.Reading.{ColumnsFound, columns_at}
 use Rattle.bufr_data.specs.Data.{BeginsWithData, subsets_in, ReadsExactly, RefusesExactly}
 use Rattle.bufr_data.specs.Data.{WritesExactly, MisfitsExactly, BareDataAreData, PlainDataAreBare}
-use Rattle.bufr_data.specs.CourseLaws.{AreUnrolled, AreAllowed, Laws}
+use Rattle.bufr_fields.specs.CourseLaws.{AreUnrolled, AreAllowed, Laws}
 use Rattle.bufr_data.proofs.AnswerFacts.{map_ok, map_err}
 use Rattle.bufr_data.proofs.FitFacts.{written_fit, fitting_written, all_read_stand}
 use Rattle.bufr_data.proofs.FitFacts.{all_standing_read}

@@ -4,7 +4,7 @@ use Rattle.std.proofs.Common.{◌≡◌, false, ap, inl, inr, ◌∙◌}
 use Rattle.std.proofs.lemmas.Bool.{cases_Bool, both_ways}
 use Rattle.bufr_tables.specs.declared.element.Kind.{Kind}
 use Rattle.bufr_tables.specs.Elements.{same_kind}
-use Rattle.bufr_data.specs.FormLaws.{same_kind_is, kind_is_same}
+use Rattle.bufr_fields.specs.FormLaws.{same_kind_is, kind_is_same}
 
 -- kinds that differ do not compare alike
 pub other_kind : (a b : Kind) → (a ≡ b → ⊥) → same_kind a b ≡ false

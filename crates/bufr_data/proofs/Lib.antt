@@ -1,18 +1,13 @@
--- The proofs of the crate: facts of courses, fields, columns, walks and texts, for the clauses of
+-- The proofs of the crate: facts of courses, fields, columns and walks, for the clauses of
 -- reading and writing and for [`laws`]; those of each function stand in the folder of its file.
 pub mod AnswerFacts
 pub mod AskedFacts
 pub mod CauseFacts
 pub mod CompressedFacts
 pub mod DataFacts
-pub mod DigitFacts
-pub mod DigitRunFacts
-pub mod DigitTestFacts
 pub mod FitFacts
 pub mod KindFacts
 pub mod ListFacts
-pub mod OctetFacts
 pub mod OnLiterals
 pub mod PlainFacts
 pub mod RefusalFacts
-pub mod StepFacts

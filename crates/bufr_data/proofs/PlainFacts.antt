@@ -18,18 +18,18 @@ use Rattle.bufr_expand.specs.declared.operators.Spec.{Spec}
 use Rattle.bufr_expand.specs.declared.walk.WalkFault.{WalkFault}
 use Rattle.bufr_expand.specs.declared.walk.WalkFault.TheVariants as walks
 use Rattle.bufr_expand.specs.Courses.{Course, ends, stops, asks}
-use Rattle.bufr_data.specs.declared.field.Raw.{Raw}
-use Rattle.bufr_data.specs.declared.field.Raw.TheVariants.{Number, Text}
-use Rattle.bufr_data.specs.declared.field.Field.{Field}
-use Rattle.bufr_data.specs.declared.fault.ReadFault.{ReadFault}
-use Rattle.bufr_data.specs.declared.fault.WriteFault.{WriteFault}
-use Rattle.bufr_data.specs.declared.field.Subset.{Subset}
+use Rattle.bufr_fields.specs.declared.field.Raw.{Raw}
+use Rattle.bufr_fields.specs.declared.field.Raw.TheVariants.{Number, Text}
+use Rattle.bufr_fields.specs.declared.field.Field.{Field}
+use Rattle.bufr_fields.specs.declared.fault.ReadFault.{ReadFault}
+use Rattle.bufr_fields.specs.declared.field.Subset.{Subset}
 use Rattle.bufr_data.specs.Plain.{raw_bits, field_bits, plain, plain_subsets, SubsetRead}
-use Rattle.bufr_data.specs.Plain.{SubsetsRead, field_number_at, raw_at_by, raw_at, number_of}
-use Rattle.bufr_data.specs.Plain.{field_then, stopped, fields_at, subsets_at, has_form_by}
-use Rattle.bufr_data.specs.Plain.{matches_spec, items_of, items_of_all}
-use Rattle.bufr_data.specs.FormLaws.{asked_is, asked_passes, form_passes, form_is, octets_are}
-use Rattle.bufr_data.specs.FormLaws.{octets_pass}
+use Rattle.bufr_data.specs.Plain.{SubsetsRead, field_number_at, raw_at_by, raw_at, field_then}
+use Rattle.bufr_data.specs.Plain.{stopped, fields_at, subsets_at}
+use Rattle.bufr_fields.specs.Forms.{number_of, has_form_by, matches_spec, items_of, items_of_all}
+use Rattle.bufr_fields.specs.FormLaws.{asked_is, asked_passes, form_passes, form_is, octets_are}
+use Rattle.bufr_fields.specs.FormLaws.{octets_pass}
+use Rattle.bufr_fields.specs.FitLaws.{guard_ok}
 pub mod Alike
 pub mod Copied
 pub mod Even
@@ -70,12 +70,6 @@ raw_again kinds.Code width (Text os) rest e = absurd cc
 raw_again kinds.Flag width (Text os) rest e = absurd cc
 raw_again kinds.Quantity width (Text os) rest e = absurd cc
 raw_again kinds.Count width (Text os) rest e = absurd cc
-
--- what is answered past a test has passed it
-pub guard_ok : (b : Bool) (x : Result ℕ WriteFault) (f : WriteFault) (n : ℕ)
-    → cond b x (Err f) ≡ Ok n → (b ≡ true) × (x ≡ Ok n)
-guard_ok true x f n e = (refl, e)
-guard_ok false x f n e = absurd cc
 
 -- fields that are counted are read of their bits
 pub fields_at-plain : (j i : ℕ) (c : Course) (fs : List Field) (n : ℕ) (rest : List Bool)

@@ -20,28 +20,29 @@ use Rattle.bufr_expand.specs.declared.walk.WalkFault.TheVariants as walks
 use Rattle.bufr_expand.specs.Courses.{Course, ends, stops, asks, course}
 use Rattle.bufr_expand.specs.Trees.{Tree}
 use Rattle.bufr_expand.specs.Limits.{most_items}
-use Rattle.bufr_data.specs.declared.field.Raw.{Raw}
-use Rattle.bufr_data.specs.declared.field.Raw.TheVariants.{Number, Text}
-use Rattle.bufr_data.specs.declared.field.Field.{Field}
-use Rattle.bufr_data.specs.declared.field.Subset.{Subset}
-use Rattle.bufr_data.specs.declared.fault.ReadFault.{ReadFault}
-use Rattle.bufr_data.specs.declared.fault.ReadFault.TheVariants as faults
-use Rattle.bufr_data.specs.declared.fault.WriteFault.{WriteFault}
-use Rattle.bufr_data.specs.declared.fault.WriteFault.TheVariants as misfits
+use Rattle.bufr_fields.specs.declared.field.Raw.{Raw}
+use Rattle.bufr_fields.specs.declared.field.Raw.TheVariants.{Number, Text}
+use Rattle.bufr_fields.specs.declared.field.Field.{Field}
+use Rattle.bufr_fields.specs.declared.field.Subset.{Subset}
+use Rattle.bufr_fields.specs.declared.fault.ReadFault.{ReadFault}
+use Rattle.bufr_fields.specs.declared.fault.ReadFault.TheVariants as faults
+use Rattle.bufr_fields.specs.declared.fault.WriteFault.{WriteFault}
+use Rattle.bufr_fields.specs.declared.fault.WriteFault.TheVariants as misfits
 use Rattle.bufr_data.specs.Plain.{raw_bits, field_bits, plain, plain_subsets, SubsetRead, raw_at}
-use Rattle.bufr_data.specs.Plain.{number_of, field_then, fields_at, subsets_at, matches_spec, misfit}
-use Rattle.bufr_data.specs.Plain.{items_of, items_of_all}
+use Rattle.bufr_data.specs.Plain.{field_then, fields_at, subsets_at, BeginsWithSubset}
+use Rattle.bufr_fields.specs.Forms.{number_of, matches_spec, misfit, items_of, items_of_all}
 use Rattle.bufr_data.specs.Data.{written_bits}
-use Rattle.bufr_data.specs.Fits.{HasForm, of_text, of_number, FitsWithin, AllFitWithin}
-use Rattle.bufr_data.specs.Fits.{BeginsWithSubset}
-use Rattle.bufr_data.specs.Plain.Refusals.{IsAsked, Passes, BeginsWithNone, IsWithinLimits}
-use Rattle.bufr_data.specs.CourseLaws.{AreUnrolled, AreAllowed}
-use Rattle.bufr_data.specs.FormLaws.{form_passes, form_is, asked_is, asked_passes}
+use Rattle.bufr_fields.specs.Fits.{HasForm, of_text, of_number, FitsWithin, AllFitWithin}
+use Rattle.bufr_fields.specs.Asked.{IsAsked, Passes}
+use Rattle.bufr_data.specs.Plain.Refusals.{BeginsWithNone, IsWithinLimits}
+use Rattle.bufr_fields.specs.CourseLaws.{AreUnrolled, AreAllowed}
+use Rattle.bufr_fields.specs.FormLaws.{form_passes, form_is, asked_is, asked_passes}
 use Rattle.bufr_data.proofs.PlainFacts.Refusals.{CannotStand, FieldRefused, SubsetRefused, CannotGoOn}
 use Rattle.bufr_data.proofs.PlainFacts.Refusals.{FieldMisfits, SubsetMisfits, stop_is, stop_again}
 use Rattle.bufr_data.proofs.AnswerFacts.{map_err}
 use Rattle.bufr_data.proofs.PlainFacts.{raw_again, raw_read}
-use Rattle.bufr_data.proofs.FitFacts.{counted_fit, fitting_counted, read_stands, standing_read}
+use Rattle.bufr_fields.specs.FitLaws.{counted_fit, fitting_counted}
+use Rattle.bufr_data.proofs.FitFacts.{read_stands, standing_read}
 
 -- ---- whether a field stands
 

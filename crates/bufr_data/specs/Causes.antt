@@ -1,27 +1,20 @@
 -- Why data or subsets are refused after some fields, by what the template's tree stands for (FM 94
 -- BUFR, regulations 94.1.3, 94.5.4 and 94.5.5).
 use Rattle.std.specs.Prelude.{◌≡◌, ℕ, ◌+◌, ◌<◌, Bool, List, ◌∷◌, ◌++◌, length, map}
-use Rattle.std.specs.List.{AllByRecursion}
 use Rattle.bufr_expand.specs.declared.operators.Spec.{Spec}
 use Rattle.bufr_expand.specs.Trees.{Tree}
 use Rattle.bufr_expand.specs.Unrolling.{Unrolls}
 use Rattle.bufr_expand.specs.NextFields.{wants, lacks, BeginsWithin, PassesLimit}
-use Rattle.bufr_data.specs.declared.field.Field.{Field}
-use Rattle.bufr_data.specs.declared.field.Subset.{Subset}
-use Rattle.bufr_data.specs.declared.fault.ReadFault.{ReadFault}
-use Rattle.bufr_data.specs.declared.fault.ReadFault.TheVariants as faults
-use Rattle.bufr_data.specs.declared.fault.WriteFault.{WriteFault}
-use Rattle.bufr_data.specs.declared.fault.WriteFault.TheVariants as misfits
+use Rattle.bufr_fields.specs.declared.field.Field.{Field}
+use Rattle.bufr_fields.specs.declared.field.Subset.{Subset}
+use Rattle.bufr_fields.specs.declared.fault.ReadFault.{ReadFault}
+use Rattle.bufr_fields.specs.declared.fault.ReadFault.TheVariants as faults
+use Rattle.bufr_fields.specs.declared.fault.WriteFault.{WriteFault}
+use Rattle.bufr_fields.specs.declared.fault.WriteFault.TheVariants as misfits
 use Rattle.bufr_data.specs.Plain.{plain, plain_subsets}
-use Rattle.bufr_data.specs.Fits.{HasForm, told_of, AllFitWithin}
-use Rattle.bufr_data.specs.Plain.Refusals.{IsAsked, BeginsWithNone}
-
--- fields with which a subset can begin: each comes next in an unrolling after those before it,
--- within the items that a message may have, and each raw value has its spec's form
-pub record Begin (tree : Tree) (used : ℕ) (fields : List Field) : Type 0 where
-  pub each : (before others : List Field) (f : Field) → fields ≡ before ++ f ∷ others
-      → (met : ℕ) × BeginsWithin tree used (map told_of before) (wants f.fxy f.spec) met
-  pub formed : AllByRecursion (λ f. HasForm f.spec f.raw) fields
+use Rattle.bufr_fields.specs.Fits.{told_of, AllFitWithin}
+use Rattle.bufr_fields.specs.Asked.{IsAsked, Begin}
+use Rattle.bufr_data.specs.Plain.Refusals.{BeginsWithNone}
 
 -- why neither a next field of subset j stands at the front of the bits, after these fields, nor the
 -- subset's end: an item up to and with the next field, or up to the end, would be more than a

@@ -6,13 +6,13 @@ use Rattle.std.specs.List.{AllByRecursion, flat_map}
 use Rattle.bufr_bits.specs.Bits.{bin, bits}
 use Rattle.bufr_tables.specs.declared.element.Kind.TheVariants as kinds
 use Rattle.bufr_expand.specs.declared.operators.Spec.{Spec}
-use Rattle.bufr_data.specs.declared.field.Raw.{Raw}
-use Rattle.bufr_data.specs.declared.field.Raw.TheVariants.{Number, Text}
-use Rattle.bufr_data.specs.declared.field.Field.{Field}
-use Rattle.bufr_data.specs.declared.field.Subset.{Subset}
+use Rattle.bufr_fields.specs.declared.field.Raw.{Raw}
+use Rattle.bufr_fields.specs.declared.field.Raw.TheVariants.{Number, Text}
+use Rattle.bufr_fields.specs.declared.field.Field.{Field}
+use Rattle.bufr_fields.specs.declared.field.Subset.{Subset}
 use Rattle.bufr_data.specs.Plain.{raw_bits}
-use Rattle.bufr_data.specs.Fits.{HasForm}
-use Rattle.bufr_data.specs.Limits.{most_values}
+use Rattle.bufr_fields.specs.Fits.{HasForm}
+use Rattle.bufr_fields.specs.Limits.{most_values}
 pub mod Best
 pub mod Causes
 pub mod Indexed

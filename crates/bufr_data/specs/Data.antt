@@ -8,11 +8,12 @@ use Rattle.std.specs.List.{AllByRecursion}
 use Rattle.bufr_answers.specs.Answers.{◌>>=◌, result_map}
 use Rattle.bufr_expand.specs.Trees.{Tree}
 use Rattle.bufr_expand.specs.Courses.{course}
-use Rattle.bufr_data.specs.declared.field.Subset.{Subset}
-use Rattle.bufr_data.specs.declared.fault.ReadFault.{ReadFault}
-use Rattle.bufr_data.specs.declared.fault.WriteFault.{WriteFault}
-use Rattle.bufr_data.specs.Plain.{plain_subsets, subsets_at, items_of, items_of_all}
-use Rattle.bufr_data.specs.Fits.{AllFitWithin, FitsAlone}
+use Rattle.bufr_fields.specs.declared.field.Subset.{Subset}
+use Rattle.bufr_fields.specs.declared.fault.ReadFault.{ReadFault}
+use Rattle.bufr_fields.specs.declared.fault.WriteFault.{WriteFault}
+use Rattle.bufr_data.specs.Plain.{plain_subsets, subsets_at}
+use Rattle.bufr_fields.specs.Forms.{items_of, items_of_all}
+use Rattle.bufr_fields.specs.Fits.{AllFitWithin, FitsAlone}
 use Rattle.bufr_data.specs.Causes.{FirstSubsetRefused, FirstSubsetMisfit}
 use Rattle.bufr_data.specs.Compressed.{Column, Packed, subsets_from}
 use Rattle.bufr_data.specs.Compressed.Reading.{columns_at}

@@ -6,9 +6,7 @@ use Rattle.std.specs.List.{AllByRecursion}
 use Rattle.bufr_bits.specs.Ends.{BitPlace, left}
 use Rattle.bufr_expand.specs.declared.walk.Walk.{Walk}
 use Rattle.bufr_expand.specs.Walks as walks
-use Rattle.bufr_data.specs.declared.field.Field.{Field}
-use Rattle.bufr_data.specs.declared.field.NumberField.{NumberField}
-use Rattle.bufr_data.specs.declared.field.Raw.TheVariants.{Number}
+use Rattle.bufr_fields.specs.declared.field.Field.{Field}
 use Rattle.bufr_data.specs.declared.compressed.index.Place.{Place}
 use Rattle.bufr_data.specs.declared.plain.layout.LaidField.{LaidField}
 use Rattle.bufr_data.specs.Compressed.{field_of}
@@ -16,7 +14,7 @@ use Rattle.bufr_data.specs.Compressed.Indexed.{AllOpen, column_from}
 use Rattle.bufr_data.specs.Plain.{fields_at}
 use Rattle.bufr_data.specs.Plain.Layouts.{laid_course}
 use Rattle.bufr_data.specs.Plain.Starts.{fields_of}
-use Rattle.bufr_data.specs.Steady.{IsReady}
+use Rattle.bufr_fields.specs.Steady.{IsReady}
 
 -- the first of a list is handed out and the others are left; or none is left
 abbrev pub HandsOut : {A : Type 0} → List A → Option A → List A → Type 0
@@ -33,10 +31,6 @@ abbrev pub HandsOutAsked : (ℕ → Bool) → List Field → Option Field → Li
 HandsOutAsked asks old (Some f) new = (passed : List Field) × NoneAsked asks passed
     × (asks f.fxy ≡ true) × (old ≡ passed ++ f ∷ new)
 HandsOutAsked asks old None new = NoneAsked asks old × (new ≡ [])
-
--- a number as a field
-abbrev pub as_field : NumberField → Field
-as_field f = record { fxy = f.fxy; spec = f.spec; raw = Number f.number }
 
 -- the first of the fields is passed, which is not asked for, and the others are left
 abbrev pub PassesFirst : (ℕ → Bool) → List Field → List Field → Type 0

@@ -5,14 +5,15 @@ use Rattle.bufr_expand.specs.declared.operators.Spec.{Spec}
 use Rattle.bufr_expand.specs.Courses.{Course, course}
 use Rattle.bufr_expand.specs.Trees.{Tree}
 use Rattle.bufr_expand.specs.Limits.{most_items}
-use Rattle.bufr_data.specs.declared.field.Field.{Field}
-use Rattle.bufr_data.specs.declared.field.Subset.{Subset}
-use Rattle.bufr_data.specs.declared.fault.ReadFault.{ReadFault}
-use Rattle.bufr_data.specs.declared.fault.WriteFault.{WriteFault}
+use Rattle.bufr_fields.specs.declared.field.Field.{Field}
+use Rattle.bufr_fields.specs.declared.field.Subset.{Subset}
+use Rattle.bufr_fields.specs.declared.fault.ReadFault.{ReadFault}
+use Rattle.bufr_fields.specs.declared.fault.WriteFault.{WriteFault}
 use Rattle.bufr_data.specs.Plain.{SubsetRead, SubsetsRead, plain_subsets, fields_at, subsets_at}
-use Rattle.bufr_data.specs.Plain.{items_of, items_of_all}
+use Rattle.bufr_data.specs.Plain.{BeginsWithSubset, BeginsWithSubsets}
+use Rattle.bufr_fields.specs.Forms.{items_of, items_of_all}
 use Rattle.bufr_data.specs.Data.{written_bits}
-use Rattle.bufr_data.specs.Fits.{FitsWithin, AllFitWithin, BeginsWithSubset, BeginsWithSubsets}
+use Rattle.bufr_fields.specs.Fits.{AllFitWithin}
 use Rattle.bufr_data.specs.Plain.Refusals.{IsWithinLimits, BeginsWithNone}
 use Rattle.bufr_data.specs.Causes.{FirstRefused, FirstSubsetRefused, FirstMisfit, FirstSubsetMisfit}
 
@@ -32,28 +33,6 @@ ReadAreHeld = (course : ℕ → Course) (j n used : ℕ) (front : List Bool) (f 
 abbrev pub HeldAreRead : Type 0
 HeldAreRead = (course : ℕ → Course) (j n used : ℕ) (front : List Bool) (f : SubsetsRead)
     → AreSubsets course j n used front f → subsets_at course j n used front ≡ Ok f
-
--- ---- what fits a template
-
--- fields that are counted fit the template, with so many items
-abbrev pub CountedFit : Type 0
-CountedFit = (tree : Tree) (j used n : ℕ) (fields : List Field) → used ≤ most_items
-    → items_of j 1 (course tree used) fields ≡ Ok n → FitsWithin tree used fields n
-
--- fields that fit the template are counted
-abbrev pub FittingAreCounted : Type 0
-FittingAreCounted = (tree : Tree) (j used n : ℕ) (fields : List Field)
-    → FitsWithin tree used fields n → items_of j 1 (course tree used) fields ≡ Ok n
-
--- the same of subsets
-abbrev pub AllCountedFit : Type 0
-AllCountedFit = (tree : Tree) (j used n : ℕ) (subsets : List Subset) → used ≤ most_items
-    → items_of_all (course tree) j used subsets ≡ Ok n → AllFitWithin tree used subsets n
-
--- and subsets that fit are counted
-abbrev pub AllFittingAreCounted : Type 0
-AllFittingAreCounted = (tree : Tree) (j used n : ℕ) (subsets : List Subset)
-    → AllFitWithin tree used subsets n → items_of_all (course tree) j used subsets ≡ Ok n
 
 -- ---- where there are bits and subsets
 

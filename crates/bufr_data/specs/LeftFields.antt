@@ -1,6 +1,6 @@
 -- The fields of a subset that are left, plain or compressed.
 use Rattle.std.specs.Prelude.{List}
-use Rattle.bufr_data.specs.declared.field.Field.{Field}
+use Rattle.bufr_fields.specs.declared.field.Field.{Field}
 use Rattle.bufr_data.specs.declared.fields.StandingFields.{StandingFields}
 use Rattle.bufr_data.specs.declared.fields.StandingFields.TheVariants.{Plain, Laid, Compressed}
 

@@ -1,27 +1,26 @@
 -- Subsets one after the other, bit by bit (FM 94 BUFR, regulations 94.1.3 and 94.5): the bits of
--- fields, the fields that bits spell, and the fields that a course allows.
-use Rattle.std.specs.Prelude.{ℕ, zero, suc, ◌+◌, ◌/◌, ◌^◌, ◌==◌, ◌&&◌, Bool, false, List, [], ◌∷◌}
-use Rattle.std.specs.Prelude.{length, Option, Some, None, option_map, Result, Ok, Err, nat_lt}
-use Rattle.std.specs.Prelude.{nat_le, if◌then◌else◌}
-use Rattle.std.specs.List.{flat_map, list_all}
+-- fields, the fields that bits spell, and the subsets that stand at the front of bits.
+use Rattle.std.specs.Prelude.{◌≡◌, ℕ, zero, suc, ◌+◌, ◌/◌, Bool, List, [], ◌∷◌, ◌++◌, length, Option}
+use Rattle.std.specs.Prelude.{Some, None, option_map, Result, Ok, Err, nat_le, if◌then◌else◌}
+use Rattle.std.specs.List.{flat_map}
 use Rattle.bufr_bits.specs.Bits.{bin, bits, number_at, octets_at}
 use Rattle.bufr_answers.specs.Answers.{◌>>=◌}
 use Rattle.bufr_tables.specs.declared.element.Kind.{Kind}
 use Rattle.bufr_tables.specs.declared.element.Kind.TheVariants as kinds
-use Rattle.bufr_tables.specs.Elements.{same_kind, same_integer}
 use Rattle.bufr_expand.specs.declared.operators.Spec.{Spec}
 use Rattle.bufr_expand.specs.declared.walk.WalkFault.{WalkFault}
 use Rattle.bufr_expand.specs.declared.walk.WalkFault.TheVariants as walks
 use Rattle.bufr_expand.specs.Courses.{Course, ends, stops, asks}
-use Rattle.bufr_data.specs.declared.field.Raw.{Raw}
-use Rattle.bufr_data.specs.declared.field.Raw.TheVariants.{Number, Text}
-use Rattle.bufr_data.specs.declared.field.Field.{Field}
-use Rattle.bufr_data.specs.declared.field.Subset.{Subset}
-use Rattle.bufr_data.specs.declared.fault.ReadFault.{ReadFault}
-use Rattle.bufr_data.specs.declared.fault.ReadFault.TheVariants as faults
-use Rattle.bufr_data.specs.declared.fault.WriteFault.{WriteFault}
-use Rattle.bufr_data.specs.declared.fault.WriteFault.TheVariants as misfits
-use Rattle.bufr_data.specs.Limits.{most_raw_bits}
+use Rattle.bufr_expand.specs.Trees.{Tree}
+use Rattle.bufr_fields.specs.declared.field.Raw.{Raw}
+use Rattle.bufr_fields.specs.declared.field.Raw.TheVariants.{Number, Text}
+use Rattle.bufr_fields.specs.declared.field.Field.{Field}
+use Rattle.bufr_fields.specs.declared.field.Subset.{Subset}
+use Rattle.bufr_fields.specs.declared.fault.ReadFault.{ReadFault}
+use Rattle.bufr_fields.specs.declared.fault.ReadFault.TheVariants as faults
+use Rattle.bufr_fields.specs.Forms.{number_of}
+use Rattle.bufr_fields.specs.Fits.{FitsWithin, AllFitWithin}
+use Rattle.bufr_fields.specs.Limits.{most_raw_bits}
 pub mod Alike
 pub mod Even
 pub mod Layouts
@@ -78,11 +77,6 @@ raw_at_by kind width front = option_map (λ x. (Number x.0, x.1)) (field_number_
 abbrev pub raw_at : Spec → List Bool → Option (Raw × List Bool)
 raw_at spec front = raw_at_by spec.kind spec.width front
 
--- the number of a field, which is the count where the field is a factor
-abbrev pub number_of : Raw → ℕ
-number_of (Number n) = n
-number_of (Text octets) = 0
-
 -- a field and the fields after it, or where the data end
 abbrev pub field_then : ℕ → ℕ → ℕ → Spec → (ℕ → List Bool → Result SubsetRead ReadFault)
     → Option (Raw × List Bool) → Result SubsetRead ReadFault
@@ -112,44 +106,15 @@ subsets_at course j (suc n) used front = do
   others ← subsets_at course (j + 1) n first.items first.rest
   Ok (record others { subsets = record { fields = first.fields } ∷ others.subsets })
 
--- ---- fields that fit
+-- ---- subsets that stand in the data
 
--- the same kind, scale, reference value and width
-abbrev pub same_spec : Spec → Spec → Bool
-same_spec a b = same_kind a.kind b.kind && same_integer a.scale b.scale
-    && same_integer a.reference b.reference && a.width == b.width
+-- a subset that fits stands at the front of the data, and these bits are left
+abbrev pub BeginsWithSubset : Tree → ℕ → List Bool → SubsetRead → Type 0
+BeginsWithSubset tree used front f = FitsWithin tree used f.fields f.items
+    × (front ≡ plain f.fields ++ f.rest)
 
--- a raw value has its spec's form: a number below 2 to the power of the width, of at most 64 bits,
--- or width / 8 octets
-abbrev pub has_form_by : Kind → ℕ → Raw → Bool
-has_form_by kinds.Text width (Text octets) =
-    length octets == width / 8 && list_all (λ x. nat_lt x 256) octets
-has_form_by kinds.Text width (Number n) = false
-has_form_by kind width (Number n) = nat_le width most_raw_bits && nat_lt n (2 ^ width)
-has_form_by kind width (Text octets) = false
-
--- a field is what a course asks for: this descriptor, this spec, and a raw value of its form
-abbrev pub matches_spec : ℕ → Spec → Field → Bool
-matches_spec d spec f = f.fxy == d && same_spec f.spec spec && has_form_by spec.kind spec.width f.raw
-
--- the fault of subsets at which the walk stops
-abbrev pub misfit : ℕ → ℕ → WalkFault → WriteFault
-misfit j i walks.TooLarge = misfits.TooLarge
-misfit j i (walks.EffectiveRange d) = misfits.DoesNotFit j i
-
--- the items that were met where the fields of subset j, from field i on, are those that a course
--- asks for, or the first fault
-unfoldable pub items_of : ℕ → ℕ → Course → List Field → Result ℕ WriteFault
-items_of j i (ends n) [] = Ok n
-items_of j i (ends n) (f ∷ fs) = Err (misfits.DoesNotFit j i)
-items_of j i (stops met fault) fs = Err (misfit j i fault)
-items_of j i (asks met d spec more) [] = Err (misfits.DoesNotFit j i)
-items_of j i (asks met d spec more) (f ∷ fs) =
-    if matches_spec d spec f then items_of j (i + 1) (more (number_of f.raw)) fs
-    else Err (misfits.DoesNotFit j i)
-
--- the same of subsets from subset j on, plain: the items are counted through all of them
-unfoldable pub items_of_all : (ℕ → Course) → ℕ → ℕ → List Subset → Result ℕ WriteFault
-items_of_all course j used [] = Ok used
-items_of_all course j used (s ∷ subsets) =
-    items_of j 1 (course used) s.fields >>= λ n. items_of_all course (j + 1) n subsets
+-- so many subsets that fit stand at the front of the data one after the other, and these bits are
+-- left
+abbrev pub BeginsWithSubsets : Tree → ℕ → ℕ → List Bool → SubsetsRead → Type 0
+BeginsWithSubsets tree n used front f = (length f.subsets ≡ n) × AllFitWithin tree used f.subsets f.items
+    × (front ≡ plain_subsets f.subsets ++ f.rest)

@@ -1,23 +1,22 @@
 -- What the examples speak of.
-use Rattle.std.specs.Prelude.{ℕ, ◌*◌, Bool, true, List, [], ◌∷◌, map, Result, Ok, Err, pos}
-use Rattle.std.specs.Prelude.{Option, option_map}
+use Rattle.std.specs.Prelude.{ℕ, ◌*◌, Bool, true, List, [], map, Result, Ok, Err, pos, Option}
+use Rattle.std.specs.Prelude.{option_map}
 use Rattle.bufr_expand.specs.Expansion.{expansion}
 use Rattle.bufr_expand.specs.Trees.{Tree, done, tree_of}
 use Rattle.bufr_expand.specs.Courses.{Course, course}
 use Rattle.bufr_expand.specs.Samples.{sample}
 use Rattle.bufr_expand.specs.declared.node.Node.{Node}
 use Rattle.bufr_expand.specs.declared.node.TemplateFault.{TemplateFault}
-use Rattle.bufr_data.specs.declared.field.Raw.{Raw}
-use Rattle.bufr_data.specs.declared.fault.ReadFault.{ReadFault}
-use Rattle.bufr_data.specs.declared.fault.WriteFault.{WriteFault}
-use Rattle.bufr_data.specs.declared.field.Field.{Field}
+use Rattle.bufr_fields.specs.declared.field.Raw.{Raw}
+use Rattle.bufr_fields.specs.declared.fault.ReadFault.{ReadFault}
+use Rattle.bufr_fields.specs.declared.fault.WriteFault.{WriteFault}
+use Rattle.bufr_fields.specs.declared.field.Field.{Field}
 use Rattle.bufr_data.specs.Plain.{SubsetRead}
-use Rattle.bufr_data.specs.Values.{is_missing, value, text_of}
-use Rattle.bufr_data.specs.declared.field.Subset.{Subset}
+use Rattle.bufr_fields.specs.Values.{is_missing, value, text_of}
+use Rattle.bufr_fields.specs.declared.field.Subset.{Subset}
 use Rattle.bufr_data.specs.Data.{subsets_in, written_bits}
 use Rattle.bufr_bits.specs.Bits.{bits}
 use Rattle.bufr_answers.specs.Answers.{result_map}
-use Rattle.bufr_tables.specs.declared.element.Kind.{Kind}
 use Rattle.bufr_tables.specs.declared.element.Kind.TheVariants as kinds
 use Rattle.bufr_expand.specs.declared.operators.Spec.{Spec}
 
@@ -67,20 +66,6 @@ number_spec width =
 abbrev pub text_spec : ℕ → Spec
 text_spec octets =
     record { kind = kinds.Text; scale = pos 0; reference = pos 0; width = octets * 8 }
-
--- ---- fields by kind
-
--- the kinds of numbers: a code table, a flag table, a quantity and a factor
-abbrev pub number_kinds : List Kind
-number_kinds = kinds.Code ∷ kinds.Flag ∷ kinds.Quantity ∷ kinds.Count ∷ []
-
--- a spec of this kind and width, with neither scale nor reference value
-abbrev pub spec_of : Kind → ℕ → Spec
-spec_of kind width = record { kind = kind; scale = pos 0; reference = pos 0; width = width }
-
--- a raw value of a descriptor, in a field of this kind and width
-abbrev pub field_as : ℕ → Kind → ℕ → Raw → Field
-field_as d kind width raw = record { fxy = d; spec = spec_of kind width; raw = raw }
 
 -- whether each field of the subsets in octets of data is missing
 abbrev pub sample_missing : List ℕ → Bool → ℕ → List ℕ → Result (List (List Bool)) ReadFault

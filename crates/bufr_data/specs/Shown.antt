@@ -1,6 +1,6 @@
 -- The subsets of an index, plain or compressed.
 use Rattle.std.specs.Prelude.{List}
-use Rattle.bufr_data.specs.declared.field.Subset.{Subset}
+use Rattle.bufr_fields.specs.declared.field.Subset.{Subset}
 use Rattle.bufr_data.specs.declared.subset_index.DataIndex.{DataIndex}
 use Rattle.bufr_data.specs.declared.subset_index.DataIndex.TheVariants.{Plain, Compressed}
 use Rattle.bufr_data.specs.Compressed.{subsets_from}

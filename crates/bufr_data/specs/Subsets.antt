@@ -1,15 +1,13 @@
 -- What writing leaves at a sink's end.
-use Rattle.std.specs.Prelude.{◌≡◌, ℕ, ◌-◌, ◌%◌, Bool, true, false, List, ◌++◌, length, replicate}
+use Rattle.std.specs.Prelude.{◌≡◌, ◌-◌, ◌%◌, Bool, false, List, ◌++◌, length, replicate}
 use Rattle.std.specs.Prelude.{Result, Ok, Err}
 use Rattle.bufr_answers.specs.declared.failure.Failure.{Failure}
 use Rattle.bufr_answers.specs.Answers.{Fails}
 use Rattle.std.specs.List.{list_all}
 use Rattle.bufr_expand.specs.declared.operators.Spec.{Spec}
-use Rattle.bufr_data.specs.declared.field.Raw.{Raw}
-use Rattle.bufr_data.specs.declared.field.Field.{Field}
-use Rattle.bufr_data.specs.declared.fault.WriteFault.{WriteFault}
-use Rattle.bufr_data.specs.declared.fault.WriteFault.TheVariants as misfits
-use Rattle.bufr_data.specs.Plain.{has_form_by}
+use Rattle.bufr_fields.specs.declared.field.Raw.{Raw}
+use Rattle.bufr_fields.specs.declared.field.Field.{Field}
+use Rattle.bufr_fields.specs.Forms.{has_form_by}
 
 -- bits of which others are the front
 abbrev pub Extends : List Bool → List Bool → Type 0
@@ -18,11 +16,6 @@ Extends old new = (added : List Bool) × (new ≡ old ++ added)
 -- bits, and zero bits behind them to an octet's end
 abbrev pub filled : List Bool → List Bool
 filled data_bits = data_bits ++ replicate ((8 - length data_bits % 8) % 8) false
-
--- nothing, where field i of subset j fits
-abbrev pub fits_or : ℕ → ℕ → Bool → Result (Unit {0}) WriteFault
-fits_or j i true = Ok tt
-fits_or j i false = Err (misfits.DoesNotFit j i)
 
 -- a call that puts bits at the end of those that there were, or changes nothing
 abbrev pub Appends : {X F : Type 0} → List Bool → List Bool → Result X (Failure F)

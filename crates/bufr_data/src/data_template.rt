@@ -3,16 +3,16 @@
 ghost use Rattle.std.specs.Prelude.{◌≡◌, Bool, List, OnErr};
 ghost use Rattle.bufr_bits.specs.Ends.{left};
 ghost use Rattle.bufr_answers.specs.Answers.{Gives};
-ghost use Rattle.bufr_data.specs.declared.field.Subset.{Subset};
+ghost use Rattle.bufr_fields.specs.declared.field.Subset.{Subset};
 ghost use Rattle.bufr_data.specs.Data.{subsets_in};
 
-use crate::fault::ReadFault;
 use crate::plain::alike::Likeness;
 use crate::plain::plan::Plan;
 use crate::subset_index::{SubsetIndex, index_known};
 use bufr_answers::Failure;
 use bufr_bits::BitReader;
 use bufr_expand::Template;
+use bufr_fields::ReadFault;
 use std::alloc::Global;
 use std::marker::Model;
 

@@ -4,11 +4,11 @@ ghost use Rattle.std.specs.Prelude.{◌≡◌, IfOk, IfErr};
 ghost use Rattle.bufr_data.specs.Handed.{HandsOut, HandsOutAsked};
 
 use crate::compressed::fields::ColumnFields;
-use crate::field::Field;
 use crate::plain::fields::PlainFields;
 use crate::plain::laid_fields::LaidFields;
 use bufr_answers::{Items, OutOfMemory};
 use bufr_expand::Asks;
+use bufr_fields::Field;
 use std::alloc::Global;
 use std::marker::Model;
 
@@ -30,7 +30,7 @@ pub struct Fields<'v> {
 
 impl<'v> Model for Fields<'v> {
     ghost use Rattle.std.specs.Prelude.{List};
-    ghost use Rattle.bufr_data.specs.declared.field.Field.{Field};
+    ghost use Rattle.bufr_fields.specs.declared.field.Field.{Field};
     ghost use Rattle.bufr_data.specs.LeftFields.{left_of};
 
     ghost Value = { List Field };

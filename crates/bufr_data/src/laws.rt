@@ -1,7 +1,6 @@
-//! Laws of data, for any template, and of the texts of decimals.
+//! Laws of data, for any template.
 
-ghost use Rattle.bufr_data.specs.Laws.{ReadAreHeld, HeldAreRead, CountedFit, FittingAreCounted};
-ghost use Rattle.bufr_data.specs.Laws.{AllCountedFit, AllFittingAreCounted};
+ghost use Rattle.bufr_data.specs.Laws.{ReadAreHeld, HeldAreRead};
 ghost use Rattle.bufr_data.specs.Laws.{SubsetReadIsHeld, SubsetHeldIsRead, SubsetsReadAreHeld};
 ghost use Rattle.bufr_data.specs.Laws.{SubsetsHeldAreRead, WrittenFit, FittingAreWritten};
 ghost use Rattle.bufr_data.specs.Laws.{NoneOnFewBits, FewBitsWhereNone};
@@ -14,13 +13,12 @@ ghost use Rattle.bufr_expand.specs.Trees.{Tree};
 ghost use Rattle.bufr_data.specs.Data.{ReadsExactly, RefusesExactly, WritesExactly, MisfitsExactly};
 ghost use Rattle.bufr_data.specs.Data.{BareDataAreData, PlainDataAreBare, PackedDataCanBeBare};
 ghost use Rattle.bufr_data.specs.Data.{NarrowDataCanBePacked};
-ghost use Rattle.bufr_data.specs.DecimalTexts.{UnitsOfTexts};
 ghost use Rattle.bufr_data.specs.Compressed.{Column};
 ghost use Rattle.bufr_data.specs.Compressed.Laws.{ColumnReadIsHeld, HeldColumnIsRead, BestIsColumn};
 ghost use Rattle.bufr_data.specs.Compressed.Laws.{BestIsShortest};
-ghost use Rattle.bufr_data.specs.declared.field.Subset.{Subset};
-ghost use Rattle.bufr_data.specs.declared.fault.ReadFault.{ReadFault};
-ghost use Rattle.bufr_data.specs.declared.fault.WriteFault.{WriteFault};
+ghost use Rattle.bufr_fields.specs.declared.field.Subset.{Subset};
+ghost use Rattle.bufr_fields.specs.declared.fault.ReadFault.{ReadFault};
+ghost use Rattle.bufr_fields.specs.declared.fault.WriteFault.{WriteFault};
 
 use bufr_expand::laws::{courses_are_unrollings, courses_begin_unrollings};
 
@@ -31,20 +29,9 @@ pub fn plain_data_spell_subsets()
     ensures standing_are_read { HeldAreRead }
 {}
 
-/// The subsets that are counted are those that fit the template: their fields are what its tree
-/// stands for, each raw value has its spec's form, and the items, which are those of the tree, add
-/// up to 16,777,216 at most. No more were met before, in this law as in the next three.
-pub fn counted_subsets_fit()
-    ensures fit { CountedFit }
-    ensures counted { FittingAreCounted }
-    ensures all_fit { AllCountedFit }
-    ensures all_counted { AllFittingAreCounted }
-{
-    courses_are_unrollings();
-}
-
 /// Reading plain data answers exactly the subsets that fit the template and stand at the front of
-/// the bits, and writing them answers bits exactly where the subsets fit, and then theirs.
+/// the bits, and writing them answers bits exactly where the subsets fit, and then theirs. No more
+/// than 16,777,216 items were met before, in this law as in the next two.
 pub fn fitting_subsets_are_read_and_written()
     ensures subset_stands { SubsetReadIsHeld }
     ensures subset_is_read { SubsetHeldIsRead }
@@ -120,9 +107,3 @@ pub fn data_hold_subsets()
     courses_are_unrollings();
     courses_begin_unrollings();
 }
-
-/// The units of a decimal are the only ones that its text can have at its scale: so a decimal is
-/// read of its text by one candidate.
-pub fn texts_have_one_decimal()
-    ensures { UnitsOfTexts }
-{}

@@ -1,35 +1,28 @@
-//! The values of fields, and the bits that subsets stand in.
+//! The bits that subsets stand in, plain and compressed.
 #![tactic(auto)]
 
 mod compressed;
 mod data_template;
-mod digits;
-mod fault;
-mod field;
 mod fields;
-mod fit;
-mod form;
 pub mod laws;
-mod limits;
-mod parse;
 mod plain;
 mod subset_index;
 mod subsets;
-mod text;
 mod worked_columns;
 mod worked_missing;
 mod worked_refusals;
 mod worked_values;
 
 pub use bufr_expand::Asks;
+pub use bufr_fields::{
+    Decimal, Field, MOST_DECIMAL_SCALE, MOST_INCREMENT_BITS, MOST_RAW_BITS, MOST_VALUES,
+    NumberField, Raw, ReadFault, Subset, WriteFault,
+};
 pub use compressed::index::Columns;
 pub use compressed::read::read_compressed;
 pub use compressed::write::write_compressed;
 pub use data_template::DataTemplate;
-pub use fault::{ReadFault, WriteFault};
-pub use field::{Decimal, Field, NumberField, Raw, Subset};
 pub use fields::Fields;
-pub use limits::{MOST_DECIMAL_SCALE, MOST_INCREMENT_BITS, MOST_RAW_BITS, MOST_VALUES};
 pub use plain::laid_fields::LaidFields;
 pub use plain::read::read_plain;
 pub use plain::write::write_plain;

@@ -5,7 +5,7 @@ ghost use Rattle.std.specs.Prelude.{◌++◌, IfSome, OnErr, OnOk};
 ghost use Rattle.bufr_bits.specs.Bits.{bits};
 ghost use Rattle.bufr_bits.specs.Ends.{left};
 ghost use Rattle.bufr_answers.specs.Answers.{Gives};
-ghost use Rattle.bufr_data.specs.declared.field.Subset.{Subset};
+ghost use Rattle.bufr_fields.specs.declared.field.Subset.{Subset};
 ghost use Rattle.bufr_data.specs.Data.{subsets_in};
 ghost use Rattle.bufr_data.specs.Plain.{plain};
 ghost use Rattle.bufr_data.specs.Plain.Alike.{IsAlike};
@@ -14,8 +14,6 @@ ghost use Rattle.bufr_data.specs.Shown.{shown};
 ghost use Rattle.bufr_data.specs.Subsets.{Extends, filled};
 
 use crate::compressed::index::Columns;
-use crate::fault::ReadFault;
-use crate::field::Subset;
 use crate::fields::Fields;
 use crate::plain::alike::{Alike, Likeness};
 use crate::plain::copy::{copy_bits, lent_octets};
@@ -24,6 +22,7 @@ use crate::plain::layout::Layout;
 use bufr_answers::{Failure, OutOfMemory};
 use bufr_bits::{BitReader, BitSink};
 use bufr_expand::Template;
+use bufr_fields::{ReadFault, Subset};
 use std::alloc::Global;
 use std::marker::Model;
 use std::rc::Rc;
@@ -44,7 +43,7 @@ pub struct SubsetIndex<'a> {
 
 impl<'a> Model for SubsetIndex<'a> {
     ghost use Rattle.std.specs.Prelude.{List};
-    ghost use Rattle.bufr_data.specs.declared.field.Subset.{Subset};
+    ghost use Rattle.bufr_fields.specs.declared.field.Subset.{Subset};
     ghost use Rattle.bufr_data.specs.Shown.{shown};
 
     ghost Value = { List Subset };

@@ -3,19 +3,18 @@
 ghost use Rattle.std.specs.Prelude.{◌≡◌, List, Bool, OnErr};
 ghost use Rattle.bufr_bits.specs.Ends.{left};
 ghost use Rattle.bufr_answers.specs.Answers.{Gives};
-ghost use Rattle.bufr_data.specs.declared.field.Subset.{Subset};
+ghost use Rattle.bufr_fields.specs.declared.field.Subset.{Subset};
 ghost use Rattle.bufr_data.specs.Data.{subsets_in, written_bits};
 ghost use Rattle.bufr_data.specs.Subsets.{Appends};
 
 use crate::compressed::read::read_compressed;
 use crate::compressed::write::write_compressed;
-use crate::fault::{ReadFault, WriteFault};
-use crate::field::Subset;
 use crate::plain::read_each::read_each;
 use crate::plain::write::write_plain;
 use bufr_answers::{Failure, Items};
 use bufr_bits::{BitReader, BitSink};
 use bufr_expand::Template;
+use bufr_fields::{ReadFault, Subset, WriteFault};
 use std::alloc::Global;
 
 /// The subsets of a message: so many, whose data the bits begin with, plain or compressed. The

@@ -6,14 +6,14 @@ ghost use Rattle.bufr_bits.specs.Bits.{bin, bits};
 ghost use Rattle.bufr_tables.specs.Descriptors.{descriptor};
 ghost use Rattle.bufr_data.specs.Compressed.Reading.{columns_at, all_equal};
 ghost use Rattle.bufr_data.specs.Compressed.Best.{best, can_be_column, can_differ, fewest_bits};
-ghost use Rattle.bufr_data.specs.Limits.{most_values, most_increment_bits};
+ghost use Rattle.bufr_fields.specs.Limits.{most_values, most_increment_bits};
 ghost use Rattle.bufr_data.specs.Samples.{sample_course, sample_raws, recompressed, number_spec};
-ghost use Rattle.bufr_data.specs.Samples.{text_spec, spec_of, number_kinds, sample_tree};
+ghost use Rattle.bufr_data.specs.Samples.{text_spec, sample_tree};
+ghost use Rattle.bufr_fields.specs.Samples.{spec_of, number_kinds};
 ghost use Rattle.bufr_answers.specs.Answers.{result_map};
 ghost use Rattle.bufr_data.specs.Data.{subsets_in};
 
-use crate::fault::{ReadFault, WriteFault};
-use crate::field::Raw;
+use bufr_fields::{Raw, ReadFault, WriteFault};
 use bufr_tables::Kind;
 
 /// Columns that are read: increments, a missing value, and texts that are filled or missing.

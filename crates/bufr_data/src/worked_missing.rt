@@ -1,85 +1,17 @@
 //! Worked examples of missing values: by kind, by width, plain and compressed.
 
-ghost use Rattle.std.specs.Prelude.{◌≡◌, ◌∷◌, ◌++◌, ◌-◌, ◌^◌, [], true, false, Ok, codes, map};
-ghost use Rattle.std.specs.Prelude.{Some, None, pos, negsuc, replicate};
+ghost use Rattle.std.specs.Prelude.{◌≡◌, ◌∷◌, ◌++◌, [], true, false, Ok, codes, map, Some, None};
+ghost use Rattle.std.specs.Prelude.{replicate};
 ghost use Rattle.bufr_bits.specs.Bits.{bin, bits};
 ghost use Rattle.bufr_tables.specs.Descriptors.{descriptor};
 ghost use Rattle.bufr_data.specs.Compressed.Best.{best};
 ghost use Rattle.bufr_data.specs.Compressed.Reading.{raised, filled, column_at};
-ghost use Rattle.bufr_data.specs.Samples.{number_kinds, spec_of, field_as, text_spec};
+ghost use Rattle.bufr_fields.specs.Samples.{number_kinds, spec_of};
+ghost use Rattle.bufr_data.specs.Samples.{text_spec};
 ghost use Rattle.bufr_data.specs.Samples.{sample_raws, sample_missing, sample_texts};
-ghost use Rattle.bufr_data.specs.Values.{is_missing, value};
 
-use crate::field::Raw;
+use bufr_fields::Raw;
 use bufr_tables::Kind;
-
-/// Code tables, flag tables, quantities and factors, in this order: all bits are one, but neither
-/// of a field of one bit nor of a factor. Texts: all octets are 255.
-#[tactic(auto, unfolding(crate::proofs::OnLiterals::columns_on_literals))]
-pub fn missing_by_kind()
-    ensures one_bit { map (λ k. is_missing (field_as 0 k 1 (Raw.Number 1))) number_kinds
-        ≡ false ∷ false ∷ false ∷ false ∷ [] }
-    ensures zero_bit { map (λ k. is_missing (field_as 0 k 1 (Raw.Number 0))) number_kinds
-        ≡ false ∷ false ∷ false ∷ false ∷ [] }
-    ensures two_bits { map (λ k. is_missing (field_as 0 k 2 (Raw.Number 3))) number_kinds
-        ≡ true ∷ true ∷ true ∷ false ∷ [] }
-    ensures below_two_bits { map (λ k. is_missing (field_as 0 k 2 (Raw.Number 2))) number_kinds
-        ≡ false ∷ false ∷ false ∷ false ∷ [] }
-    ensures eight_bits { map (λ k. is_missing (field_as 0 k 8 (Raw.Number 255))) number_kinds
-        ≡ true ∷ true ∷ true ∷ false ∷ [] }
-    ensures below_eight_bits { map (λ k. is_missing (field_as 0 k 8 (Raw.Number 254))) number_kinds
-        ≡ false ∷ false ∷ false ∷ false ∷ [] }
-    ensures above_eight_bits { map (λ k. is_missing (field_as 0 k 8 (Raw.Number 256))) number_kinds
-        ≡ false ∷ false ∷ false ∷ false ∷ [] }
-    ensures most_bits { map (λ k. is_missing (field_as 0 k 63 (Raw.Number 9223372036854775807)))
-        number_kinds ≡ true ∷ true ∷ true ∷ false ∷ [] }
-    ensures text { is_missing (field_as 0 Kind.Text 16 (Raw.Text (255 ∷ 255 ∷ []))) ≡ true }
-    ensures text_with_space { is_missing (field_as 0 Kind.Text 16 (Raw.Text (255 ∷ 32 ∷ [])))
-        ≡ false }
-    ensures blank_text { is_missing (field_as 0 Kind.Text 16 (Raw.Text (32 ∷ 32 ∷ []))) ≡ false }
-    ensures zero_text { is_missing (field_as 0 Kind.Text 16 (Raw.Text (0 ∷ 0 ∷ []))) ≡ false }
-    ensures short_text { is_missing (field_as 0 Kind.Text 16 (Raw.Text (255 ∷ []))) ≡ false }
-    ensures number_of_text { is_missing (field_as 0 Kind.Text 8 (Raw.Number 255)) ≡ false }
-    ensures text_of_number { map (λ k. is_missing (field_as 0 k 16 (Raw.Text (255 ∷ 255 ∷ []))))
-        number_kinds ≡ false ∷ false ∷ false ∷ false ∷ [] }
-{}
-
-/// The values of the same kinds: none where they are missing, and none of a text.
-#[tactic(auto, unfolding(crate::proofs::OnLiterals::columns_on_literals))]
-pub fn values_by_kind()
-    ensures one_bit { map (λ k. value (field_as 0 k 1 (Raw.Number 1))) number_kinds
-        ≡ replicate 4 (Some (record { units = pos 1; scale = pos 0 })) }
-    ensures below { map (λ k. value (field_as 0 k 2 (Raw.Number 2))) number_kinds
-        ≡ replicate 4 (Some (record { units = pos 2; scale = pos 0 })) }
-    ensures ones { map (λ k. value (field_as 0 k 2 (Raw.Number 3))) number_kinds
-        ≡ None ∷ None ∷ None ∷ Some (record { units = pos 3; scale = pos 0 }) ∷ [] }
-    ensures text { value (field_as 0 Kind.Text 16 (Raw.Text (49 ∷ 50 ∷ []))) ≡ None }
-    ensures below_zero { value (record {
-      fxy = 1282;
-      spec = record {
-        kind = Kind.Quantity;
-        scale = pos 2;
-        reference = negsuc 8999;
-        width = 15;
-      };
-      raw = Raw.Number 8999;
-    })
-        ≡ Some (record { units = negsuc 0; scale = pos 2 }) }
-    ensures above_zero { value (record {
-      fxy = 1282;
-      spec = record {
-        kind = Kind.Quantity;
-        scale = negsuc 0;
-        reference = pos 100;
-        width = 15;
-      };
-      raw = Raw.Number 7;
-    })
-        ≡ Some (record { units = pos 107; scale = negsuc 0 }) }
-    ensures number_of_text { value (field_as 0 Kind.Text 8 (Raw.Number 5)) ≡ None }
-    ensures text_of_number { map (λ k. value (field_as 0 k 8 (Raw.Text (49 ∷ [])))) number_kinds
-        ≡ replicate 4 None }
-{}
 
 /// R0 and an increment: their sum, also where it is all ones; all ones where the increment is; and
 /// nothing past the field's greatest number.

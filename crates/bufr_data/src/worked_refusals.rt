@@ -1,19 +1,19 @@
 //! Worked examples of refusals: which comes first, and the subset and the field that it names.
 
-ghost use Rattle.std.specs.Prelude.{◌≡◌, ◌∷◌, ◌++◌, [], true, false, Ok, Err, codes, map};
-ghost use Rattle.std.specs.Prelude.{length, pos, negsuc, replicate};
+ghost use Rattle.std.specs.Prelude.{◌≡◌, ◌∷◌, ◌++◌, [], true, false, Ok, Err, map, length};
+ghost use Rattle.std.specs.Prelude.{replicate};
 ghost use Rattle.bufr_bits.specs.Bits.{bin, bits};
 ghost use Rattle.bufr_answers.specs.Answers.{result_map};
 ghost use Rattle.bufr_tables.specs.Descriptors.{descriptor};
 ghost use Rattle.bufr_data.specs.Compressed.Best.{packed, columns_of};
 ghost use Rattle.bufr_data.specs.Compressed.Reading.{columns_at};
-ghost use Rattle.bufr_data.specs.Plain.{fields_at, subsets_at, items_of, items_of_all, same_spec};
-ghost use Rattle.bufr_data.specs.Reasons.{read_reason, write_reason};
+ghost use Rattle.bufr_data.specs.Plain.{fields_at, subsets_at};
+ghost use Rattle.bufr_fields.specs.Forms.{items_of, items_of_all};
 ghost use Rattle.bufr_data.specs.Samples.{sample_course, sample_raws, recompressed, number_spec};
-ghost use Rattle.bufr_data.specs.Samples.{field_as, written_of, number_kinds};
+ghost use Rattle.bufr_fields.specs.Samples.{field_as, number_kinds};
+ghost use Rattle.bufr_data.specs.Samples.{written_of};
 
-use crate::fault::{ReadFault, WriteFault};
-use crate::field::Raw;
+use bufr_fields::{Raw, ReadFault, WriteFault};
 use bufr_tables::Kind;
 
 /// Two subsets of two fields, 001001 of seven bits and 002001 of two, of which one has a misfit.
@@ -72,18 +72,6 @@ pub fn misfits_of_two_subsets()
         (1 ∷ 2 ∷ 3 ∷ [])
         ≡ Err (WriteFault.DoesNotFit 1 1) ∷ Ok (bin 2 1 ++ bin 6 0)
         ∷ Err (WriteFault.DoesNotFit 1 1) ∷ [] }
-    ensures specs { map (same_spec (record {
-      kind = Kind.Quantity;
-      scale = pos 2;
-      reference = negsuc 8999;
-      width = 15;
-    }))
-        (record { kind = Kind.Quantity; scale = pos 2; reference = negsuc 8999; width = 15 }
-        ∷ record { kind = Kind.Code; scale = pos 2; reference = negsuc 8999; width = 15 }
-        ∷ record { kind = Kind.Quantity; scale = negsuc 1; reference = negsuc 8999; width = 15 }
-        ∷ record { kind = Kind.Quantity; scale = pos 2; reference = pos 9000; width = 15 }
-        ∷ record { kind = Kind.Quantity; scale = pos 2; reference = negsuc 8999; width = 16 } ∷ [])
-        ≡ true ∷ replicate 4 false }
     ensures other_descriptor { map (λ compressed. written_of (descriptor 0 1 1 ∷ []) compressed
         ((field_as (descriptor 0 1 1) Kind.Quantity 7 (Raw.Number 10) ∷ [])
         ∷ (field_as (descriptor 0 1 2) Kind.Quantity 7 (Raw.Number 10) ∷ []) ∷ []))
@@ -196,19 +184,4 @@ pub fn first_at_one_field()
     ensures written_spec { items_of 1 1
         (sample_course (descriptor 2 1 255 ∷ descriptor 0 12 101 ∷ []) 16777214) []
         ≡ Err (WriteFault.DoesNotFit 1 1) }
-{}
-
-/// The words of refusals.
-#[tactic(auto, unfolding(crate::proofs::OnLiterals::decimals_on_literals, crate::specs::Reasons::read_reason, crate::specs::Reasons::write_reason))]
-pub fn reasons()
-    ensures v1 { read_reason (ReadFault.EffectiveRange (descriptor 0 12 101))
-        ≡ codes "V1 EffectiveRange 012101" }
-    ensures v2 { read_reason (ReadFault.DataEnds 0 65) ≡ codes "V2 DataEnds 0 65" }
-    ensures v3 { read_reason (ReadFault.UnequalCounts 12) ≡ codes "V3 UnequalCounts 12" }
-    ensures v4 { read_reason (ReadFault.IncrementRange 2 17) ≡ codes "V4 IncrementRange 2 17" }
-    ensures v5 { read_reason (ReadFault.CharIncrement 3) ≡ codes "V5 CharIncrement 3" }
-    ensures v6 { read_reason ReadFault.TooLarge ≡ codes "V6 TooLarge" }
-    ensures e1 { write_reason (WriteFault.DoesNotFit 2 31) ≡ codes "E1 DoesNotFit 2 31" }
-    ensures e2 { write_reason (WriteFault.NotCompressible 2) ≡ codes "E2 NotCompressible 2" }
-    ensures e3 { write_reason WriteFault.TooLarge ≡ codes "E3 TooLarge" }
 {}

@@ -7,8 +7,8 @@ use Rattle.std.specs.Str.{bytes_eq}
 use Rattle.std.proofs.lemmas.Bool.{and_parts}
 use Rattle.bufr_tables.specs.Descriptors.{six_digits}
 use Rattle.bufr_expand.specs.declared.operators.Spec.{Spec}
-use Rattle.bufr_data.specs.Plain.{has_form_by}
-use Rattle.bufr_data.specs.FormLaws.{asked_passes}
+use Rattle.bufr_fields.specs.Forms.{has_form_by}
+use Rattle.bufr_fields.specs.FormLaws.{asked_passes}
 use Rattle.bufr_expand.specs.OperatorsInForce.{is_within}
 use Rattle.bufr_answers.specs.AnswerLaws.{bind_err, err_is}
 use Rattle.bufr_listing.specs.declared.fault.ListingFault.{ListingFault}

@@ -13,13 +13,13 @@ use Rattle.bufr_expand.specs.declared.walk.WalkFault.TheVariants.{TooLarge, Effe
 use Rattle.bufr_expand.specs.Courses.{Course, ends, stops, asks, course}
 use Rattle.bufr_expand.specs.Trees.{Tree}
 use Rattle.bufr_expand.specs.Unrolling.{After}
-use Rattle.bufr_data.specs.declared.field.Field.{Field}
-use Rattle.bufr_data.specs.declared.field.Subset.{Subset}
-use Rattle.bufr_data.specs.Plain.{number_of, items_of, items_of_all}
-use Rattle.bufr_data.specs.Fits.{told_of}
-use Rattle.bufr_data.specs.Plain.Refusals.{IsAsked, Passes}
-use Rattle.bufr_data.specs.FormLaws.{asked_is}
-use Rattle.bufr_data.specs.CourseLaws.{Laws, passes_after, begun, limit_passed}
+use Rattle.bufr_fields.specs.declared.field.Field.{Field}
+use Rattle.bufr_fields.specs.declared.field.Subset.{Subset}
+use Rattle.bufr_fields.specs.Forms.{number_of, items_of, items_of_all}
+use Rattle.bufr_fields.specs.Fits.{told_of}
+use Rattle.bufr_fields.specs.Asked.{IsAsked, Passes}
+use Rattle.bufr_fields.specs.FormLaws.{asked_is}
+use Rattle.bufr_fields.specs.CourseLaws.{Laws, passes_after, begun, limit_passed}
 use Rattle.bufr_answers.specs.AnswerLaws.{bind_ok, ok_is, bind_err, err_is, passed_ok}
 use Rattle.bufr_listing.specs.declared.fault.ListingFault.{ListingFault}
 use Rattle.bufr_listing.specs.declared.fault.ListingFault.TheVariants.{BadLine, Refused}

@@ -21,13 +21,13 @@ use Rattle.bufr_tables.specs.declared.element.Kind.TheVariants as kinds
 use Rattle.bufr_answers.specs.AnswerLaws.{passed_ok}
 use Rattle.bufr_expand.specs.declared.operators.Spec.{Spec}
 use Rattle.bufr_expand.specs.OperatorsInForce.{is_within}
-use Rattle.bufr_data.specs.declared.field.Raw.{Raw}
-use Rattle.bufr_data.specs.declared.field.Raw.TheVariants.{Number, Text}
-use Rattle.bufr_data.specs.declared.field.Field.{Field}
-use Rattle.bufr_data.specs.Plain.{has_form_by, matches_spec, same_spec}
-use Rattle.bufr_data.specs.Values.{size_of, is_all_ones, is_missing, decimal_within, text_of}
-use Rattle.bufr_data.specs.DecimalTextFacts.{units_of_text, no_letter}
-use Rattle.bufr_data.specs.FormLaws.{same_spec_is, spec_is_same}
+use Rattle.bufr_fields.specs.declared.field.Raw.{Raw}
+use Rattle.bufr_fields.specs.declared.field.Raw.TheVariants.{Number, Text}
+use Rattle.bufr_fields.specs.declared.field.Field.{Field}
+use Rattle.bufr_fields.specs.Forms.{has_form_by, matches_spec, same_spec}
+use Rattle.bufr_fields.specs.Values.{size_of, is_all_ones, is_missing, decimal_within, text_of}
+use Rattle.bufr_fields.specs.DecimalTextFacts.{units_of_text, no_letter}
+use Rattle.bufr_fields.specs.FormLaws.{same_spec_is, spec_is_same}
 use Rattle.bufr_listing.specs.Listings.{field_line}
 use Rattle.bufr_listing.specs.Listings.{quoted_octet, quoted, number_word, value_word}
 use Rattle.bufr_listing.specs.FieldLines.{octet_at, behind_octet, unquoted, is_missing_word}

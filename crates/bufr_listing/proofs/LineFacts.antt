@@ -22,7 +22,7 @@ use Rattle.bufr_tables.specs.Entries.{Entries}
 use Rattle.bufr_expand.specs.declared.node.TemplateFault.{TemplateFault}
 use Rattle.bufr_expand.specs.Templates.{template}
 use Rattle.bufr_expand.specs.Trees.{Tree}
-use Rattle.bufr_data.specs.DecimalTextFacts.{AreDigits, decimal_digits}
+use Rattle.bufr_fields.specs.DecimalTextFacts.{AreDigits, decimal_digits}
 use Rattle.bufr_listing.specs.Listings.{descriptors_line}
 use Rattle.bufr_listing.specs.Listings.{numbers_line, octets_line, section2_line, flags_line}
 use Rattle.bufr_listing.specs.Limits.{two_octets}

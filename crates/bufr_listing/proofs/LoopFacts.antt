@@ -8,8 +8,8 @@ use Rattle.bufr_answers.specs.Answers.{◌>>=◌, Fails, result_map}
 use Rattle.bufr_answers.specs.declared.failure.Failure.{Failure}
 use Rattle.bufr_answers.specs.declared.failure.Failure.TheVariants.{Fault, OutOfMemory}
 use Rattle.bufr_expand.specs.Courses.{Course}
-use Rattle.bufr_data.specs.declared.field.Field.{Field}
-use Rattle.bufr_data.specs.declared.field.Subset.{Subset}
+use Rattle.bufr_fields.specs.declared.field.Field.{Field}
+use Rattle.bufr_fields.specs.declared.field.Subset.{Subset}
 use Rattle.bufr_answers.specs.AnswerLaws.{bind_ok, ok_is}
 use Rattle.bufr_listing.specs.declared.fault.ListingFault.{ListingFault}
 use Rattle.bufr_listing.specs.declared.fault.ListingFault.TheVariants.{BadLine}

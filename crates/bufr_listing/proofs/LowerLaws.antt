@@ -9,7 +9,7 @@ use Rattle.bufr_expand.specs.Templates.{BuildsExactly, RefusesExactly}
 use Rattle.bufr_expand.specs.Steady.{EachAsked}
 use Rattle.bufr_expand.specs.Trees.{Tree}
 use Rattle.bufr_expand.specs.Courses.{course}
-use Rattle.bufr_data.specs.Laws.{AllCountedFit, AllFittingAreCounted}
+use Rattle.bufr_fields.specs.Laws.{AllCountedFit, AllFittingAreCounted}
 
 -- a text is read as a descriptor exactly where it is what the descriptor prints
 abbrev pub DescriptorTexts : Type 0

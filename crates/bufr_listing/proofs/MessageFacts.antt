@@ -12,7 +12,7 @@ use Rattle.bufr_answers.specs.Answers.{◌>>=◌}
 use Rattle.bufr_tables.specs.Entries.{Entries}
 use Rattle.bufr_expand.specs.Courses.{course}
 use Rattle.bufr_expand.specs.Limits.{most_items}
-use Rattle.bufr_data.specs.Fits.{AllFitWithin}
+use Rattle.bufr_fields.specs.Fits.{AllFitWithin}
 use Rattle.bufr_tables.specs.DescriptorLaws.{six_by_place}
 use Rattle.bufr_listing.proofs.LowerLaws.{LowerLaws}
 use Rattle.bufr_sections.specs.declared.message.Head.{Head}

@@ -7,7 +7,7 @@ use Rattle.bufr_answers.specs.Answers.{◌>>=◌}
 use Rattle.bufr_answers.specs.AnswerLaws.{bind_ok, ok_is}
 use Rattle.bufr_tables.specs.Entries.{Entries}
 use Rattle.bufr_expand.specs.Courses.{course}
-use Rattle.bufr_data.specs.declared.field.Subset.{Subset}
+use Rattle.bufr_fields.specs.declared.field.Subset.{Subset}
 use Rattle.bufr_sections.specs.declared.message.Head.{Head}
 use Rattle.bufr_sections.specs.declared.message.Message.{Message}
 use Rattle.bufr_listing.specs.declared.fault.ListingFault.{ListingFault}

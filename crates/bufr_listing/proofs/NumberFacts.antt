@@ -10,10 +10,10 @@ use Rattle.std.proofs.lemmas.Bool.{and_parts, and_from, ltb-true, false≢true}
 use Rattle.std.proofs.lemmas.Bool.Decides.{nat_tests}
 use Rattle.std.proofs.lemmas.List.{append-nil}
 use Rattle.std.proofs.lemmas.Option.{none-some}
-use Rattle.bufr_data.specs.declared.field.Decimal.{Decimal}
-use Rattle.bufr_data.specs.Values.{text_of}
-use Rattle.bufr_data.specs.DecimalTexts.{decimal_of}
-use Rattle.bufr_data.specs.DecimalTextFacts.{IsRead, decimal_found, decimal_only}
+use Rattle.bufr_fields.specs.declared.field.Decimal.{Decimal}
+use Rattle.bufr_fields.specs.Values.{text_of}
+use Rattle.bufr_fields.specs.DecimalTexts.{decimal_of}
+use Rattle.bufr_fields.specs.DecimalTextFacts.{IsRead, decimal_found, decimal_only}
 use Rattle.bufr_listing.specs.Limits.{two_octets}
 use Rattle.bufr_listing.specs.declared.fault.ListingFault.TheVariants.{BadLine, BadValue}
 use Rattle.bufr_listing.specs.Listings.{words, numbers_line}

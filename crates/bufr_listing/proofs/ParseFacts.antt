@@ -6,10 +6,10 @@ use Rattle.std.specs.Prelude.{Option, Some, None, IfSome, ℤ, pos, negsuc, opti
 use Rattle.std.proofs.lemmas.Bool.{cases_Bool, lt-ltb}
 use Rattle.std.proofs.lemmas.Bool.Decides.{nat_tests}
 use Rattle.bufr_listing.specs.Words.{below, number_below}
-use Rattle.bufr_data.specs.declared.field.Decimal.{Decimal}
-use Rattle.bufr_data.specs.Values.{text_of}
-use Rattle.bufr_data.specs.DecimalTexts.{IsDecimal, decimal_of}
-use Rattle.bufr_data.specs.DecimalTextFacts.{IsRead, decimal_found, decimal_only}
+use Rattle.bufr_fields.specs.declared.field.Decimal.{Decimal}
+use Rattle.bufr_fields.specs.Values.{text_of}
+use Rattle.bufr_fields.specs.DecimalTexts.{IsDecimal, decimal_of}
+use Rattle.bufr_fields.specs.DecimalTextFacts.{IsRead, decimal_found, decimal_only}
 
 -- where no decimal is read, a text is that of none
 none_by : (o : Option Decimal) (scale : ℤ) (text : List ℕ) → IfSome o (λ d. IsRead scale text d)

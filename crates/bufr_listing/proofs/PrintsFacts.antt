@@ -17,10 +17,10 @@ use Rattle.bufr_tables.specs.declared.element.Kind.TheVariants as kinds
 use Rattle.bufr_tables.specs.Elements.{same_kind}
 use Rattle.bufr_expand.specs.declared.operators.Spec.{Spec}
 use Rattle.bufr_expand.specs.OperatorsInForce.{is_within}
-use Rattle.bufr_data.specs.declared.field.Decimal.{Decimal}
-use Rattle.bufr_data.specs.Values.{decimal_within, text_of}
-use Rattle.bufr_data.specs.DecimalTexts.{decimal_of}
-use Rattle.bufr_data.specs.DecimalTextFacts.{IsRead, decimal_found, decimal_only, no_letter}
+use Rattle.bufr_fields.specs.declared.field.Decimal.{Decimal}
+use Rattle.bufr_fields.specs.Values.{decimal_within, text_of}
+use Rattle.bufr_fields.specs.DecimalTexts.{decimal_of}
+use Rattle.bufr_fields.specs.DecimalTextFacts.{IsRead, decimal_found, decimal_only, no_letter}
 use Rattle.bufr_listing.specs.Listings.{number_word}
 use Rattle.bufr_listing.specs.FieldLines.{is_missing_word}
 use Rattle.bufr_listing.specs.RawWords.{may_be_missing, missing_number, unless_missing}

@@ -6,11 +6,11 @@ use Rattle.std.specs.Prelude.{Bool, true, false, ◌&&◌, if◌then◌else◌, 
 use Rattle.std.specs.List.{flat_map, list_all}
 use Rattle.bufr_tables.specs.declared.element.Kind.{Kind}
 use Rattle.bufr_tables.specs.declared.element.Kind.TheVariants as kinds
-use Rattle.bufr_data.specs.declared.field.Raw.{Raw}
-use Rattle.bufr_data.specs.declared.field.Raw.TheVariants.{Number, Text}
-use Rattle.bufr_data.specs.declared.field.Field.{Field}
-use Rattle.bufr_data.specs.declared.field.Decimal.{Decimal}
-use Rattle.bufr_data.specs.Values.{is_missing, value, value_by, text_of}
+use Rattle.bufr_fields.specs.declared.field.Raw.{Raw}
+use Rattle.bufr_fields.specs.declared.field.Raw.TheVariants.{Number, Text}
+use Rattle.bufr_fields.specs.declared.field.Field.{Field}
+use Rattle.bufr_fields.specs.declared.field.Decimal.{Decimal}
+use Rattle.bufr_fields.specs.Values.{is_missing, value, value_by, text_of}
 use Rattle.bufr_listing.specs.Listings.{stands_for_itself, quoted_octet, number_word, raw_word}
 use Rattle.bufr_listing.specs.Listings.{value_word}
 

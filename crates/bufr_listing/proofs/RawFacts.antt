@@ -8,8 +8,8 @@ use Rattle.std.proofs.lemmas.Bool.{cases_Bool, lt-ltb}
 use Rattle.std.proofs.lemmas.Bool.Decides.{nat_tests}
 use Rattle.std.proofs.Math.Nat.{pow-le-pow_right}
 use Rattle.bufr_expand.specs.declared.operators.Spec.{Spec}
-use Rattle.bufr_data.specs.declared.field.Decimal.{Decimal}
-use Rattle.bufr_data.specs.DecimalTexts.{decimal_of}
+use Rattle.bufr_fields.specs.declared.field.Decimal.{Decimal}
+use Rattle.bufr_fields.specs.DecimalTexts.{decimal_of}
 use Rattle.bufr_listing.specs.FieldLines.{is_missing_word}
 use Rattle.bufr_listing.specs.Words.{below}
 use Rattle.std.specs.Str.{bytes_eq}

@@ -16,13 +16,13 @@ use Rattle.bufr_expand.specs.Courses.{Course, ends, stops, asks, course}
 use Rattle.bufr_expand.specs.Trees.{Tree}
 use Rattle.bufr_expand.specs.Unrolling.{After}
 use Rattle.bufr_expand.specs.NextFields.{AsksAfter}
-use Rattle.bufr_data.specs.declared.field.Field.{Field}
-use Rattle.bufr_data.specs.declared.field.Subset.{Subset}
-use Rattle.bufr_data.specs.Plain.{number_of, items_of, items_of_all}
-use Rattle.bufr_data.specs.Fits.{HasForm, told_of}
-use Rattle.bufr_data.specs.Plain.Refusals.{Passes}
-use Rattle.bufr_data.specs.FormLaws.{asked_is, asked_passes}
-use Rattle.bufr_data.specs.CourseLaws.{Formed, passes_after, one_left}
+use Rattle.bufr_fields.specs.declared.field.Field.{Field}
+use Rattle.bufr_fields.specs.declared.field.Subset.{Subset}
+use Rattle.bufr_fields.specs.Forms.{number_of, items_of, items_of_all}
+use Rattle.bufr_fields.specs.Fits.{HasForm, told_of}
+use Rattle.bufr_fields.specs.Asked.{Passes}
+use Rattle.bufr_fields.specs.FormLaws.{asked_is, asked_passes}
+use Rattle.bufr_fields.specs.CourseLaws.{Formed, passes_after, one_left}
 use Rattle.bufr_answers.specs.AnswerLaws.{bind_ok}
 use Rattle.bufr_listing.specs.declared.fault.ListingFault.{ListingFault}
 use Rattle.bufr_listing.specs.declared.fault.ListingFault.TheVariants.{BadLine}

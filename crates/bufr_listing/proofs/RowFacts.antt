@@ -9,7 +9,7 @@ use Rattle.std.proofs.lemmas.List.{drop-append-le, drop-replicate, drop-set, dro
 use Rattle.std.proofs.lemmas.List.{length-replicate, length-drop, length-set, length-append}
 use Rattle.std.proofs.lemmas.List.{drop_more}
 use Rattle.std.proofs.lemmas.Fmt.{length-decimal-le, decimal_nonempty}
-use Rattle.bufr_data.specs.Values.{pointed, digits_by}
+use Rattle.bufr_fields.specs.Values.{pointed, digits_by}
 use Rattle.bufr_listing.specs.Listings.{line, words}
 use Rattle.bufr_listing.proofs.ListingFacts.{words_behind}
 

@@ -14,20 +14,20 @@ use Rattle.std.proofs.lemmas.List.Splits.{slice_split_at}
 use Rattle.hex.specs.Hex.{lower_digits, encode_with, encode_lower}
 use Rattle.bufr_tables.specs.Descriptors.{six_digits}
 use Rattle.bufr_tables.specs.Entries.{Entries}
-use Rattle.bufr_data.specs.declared.field.Field.{Field}
-use Rattle.bufr_data.specs.declared.field.Subset.{Subset}
+use Rattle.bufr_fields.specs.declared.field.Field.{Field}
+use Rattle.bufr_fields.specs.declared.field.Subset.{Subset}
 use Rattle.bufr_tables.specs.declared.element.Kind.{Kind}
 use Rattle.bufr_tables.specs.declared.element.Kind.TheVariants as kinds
 use Rattle.bufr_expand.specs.declared.operators.Spec.{Spec}
 use Rattle.bufr_expand.specs.Courses.{Course, ends, stops, asks, course}
-use Rattle.bufr_data.specs.declared.field.Raw.{Raw}
-use Rattle.bufr_data.specs.declared.field.Raw.TheVariants.{Number, Text}
-use Rattle.bufr_data.specs.Plain.{number_of, has_form_by, same_spec, matches_spec, items_of}
-use Rattle.bufr_data.specs.Plain.{items_of_all}
-use Rattle.bufr_data.specs.Values.{is_missing, decimal_within}
+use Rattle.bufr_fields.specs.declared.field.Raw.{Raw}
+use Rattle.bufr_fields.specs.declared.field.Raw.TheVariants.{Number, Text}
+use Rattle.bufr_fields.specs.Forms.{number_of, has_form_by, same_spec, matches_spec, items_of}
+use Rattle.bufr_fields.specs.Forms.{items_of_all}
+use Rattle.bufr_fields.specs.Values.{is_missing, decimal_within}
 use Rattle.bufr_listing.proofs.LowerLaws.{LowerLaws}
-use Rattle.bufr_data.specs.DecimalTextFacts.{digits_plain, decimal_digits, text_plain}
-use Rattle.bufr_data.specs.FormLaws.{same_spec_is}
+use Rattle.bufr_fields.specs.DecimalTextFacts.{digits_plain, decimal_digits, text_plain}
+use Rattle.bufr_fields.specs.FormLaws.{same_spec_is}
 use Rattle.bufr_sections.specs.declared.message.Message.{Message}
 use Rattle.bufr_sections.specs.Sections.{AreOctets, HeadFits, IsOctet}
 use Rattle.bufr_sections.specs.declared.message.Head.{Head}

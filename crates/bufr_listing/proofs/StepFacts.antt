@@ -13,12 +13,12 @@ use Rattle.bufr_expand.specs.declared.walk.Walk.{Walk}
 use Rattle.bufr_expand.specs.declared.walk.WalkFault.{WalkFault}
 use Rattle.bufr_expand.specs.Courses.{Course, stops, asks}
 use Rattle.bufr_expand.specs.Walks.{left, items_met, Goes, Counted, IsBelowCount}
-use Rattle.bufr_data.specs.declared.field.Field.{Field}
-use Rattle.bufr_data.specs.declared.field.Subset.{Subset}
-use Rattle.bufr_data.specs.Plain.{number_of, has_form_by}
-use Rattle.bufr_data.specs.Steady.{IsReady}
-use Rattle.bufr_data.specs.StepLaws.{asks_field, asks_count, ends_there, stops_there, steady_step}
-use Rattle.bufr_data.specs.StepLaws.{count_fits as form_fits}
+use Rattle.bufr_fields.specs.declared.field.Field.{Field}
+use Rattle.bufr_fields.specs.declared.field.Subset.{Subset}
+use Rattle.bufr_fields.specs.Forms.{number_of, has_form_by}
+use Rattle.bufr_fields.specs.Steady.{IsReady}
+use Rattle.bufr_fields.specs.StepLaws.{asks_field, asks_count, ends_there, stops_there, steady_step}
+use Rattle.bufr_fields.specs.StepLaws.{count_fits as form_fits}
 use Rattle.bufr_expand.specs.Steady.{IsSteady}
 use Rattle.bufr_answers.specs.AnswerLaws.{ok_is}
 use Rattle.bufr_listing.specs.declared.fault.Cause.TheVariants as causes

@@ -19,11 +19,11 @@ use Rattle.bufr_tables.specs.Descriptors.{six_digits}
 use Rattle.bufr_tables.specs.Elements.{same_kind}
 use Rattle.bufr_expand.specs.declared.operators.Spec.{Spec}
 use Rattle.bufr_expand.specs.OperatorsInForce.{is_within}
-use Rattle.bufr_data.specs.declared.field.Raw.{Raw}
-use Rattle.bufr_data.specs.declared.field.Raw.TheVariants.{Number, Text}
-use Rattle.bufr_data.specs.declared.field.Field.{Field}
-use Rattle.bufr_data.specs.Plain.{has_form_by, matches_spec}
-use Rattle.bufr_data.specs.FormLaws.{spec_is_same}
+use Rattle.bufr_fields.specs.declared.field.Raw.{Raw}
+use Rattle.bufr_fields.specs.declared.field.Raw.TheVariants.{Number, Text}
+use Rattle.bufr_fields.specs.declared.field.Field.{Field}
+use Rattle.bufr_fields.specs.Forms.{has_form_by, matches_spec}
+use Rattle.bufr_fields.specs.FormLaws.{spec_is_same}
 use Rattle.bufr_listing.specs.declared.fault.ListingFault.TheVariants.{BadLine, BadValue}
 use Rattle.bufr_listing.specs.Listings.{quoted_octet, quoted, value_word, field_line}
 use Rattle.bufr_listing.specs.Lines.{has_octets, as_printed}

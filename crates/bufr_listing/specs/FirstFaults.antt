@@ -14,11 +14,10 @@ use Rattle.bufr_expand.specs.FirstFaults.{IsFirstFault}
 use Rattle.bufr_expand.specs.Flat.{IsTreeOf}
 use Rattle.bufr_expand.specs.Trees.{Tree}
 use Rattle.bufr_expand.specs.NextFields.{wants, lacks, BeginsWithin, PassesLimit}
-use Rattle.bufr_data.specs.declared.field.Field.{Field}
-use Rattle.bufr_data.specs.declared.field.Subset.{Subset}
-use Rattle.bufr_data.specs.Fits.{told_of, AllFitWithin}
-use Rattle.bufr_data.specs.Plain.Refusals.{IsAsked}
-use Rattle.bufr_data.specs.Causes.{Begin}
+use Rattle.bufr_fields.specs.declared.field.Field.{Field}
+use Rattle.bufr_fields.specs.declared.field.Subset.{Subset}
+use Rattle.bufr_fields.specs.Fits.{told_of, AllFitWithin}
+use Rattle.bufr_fields.specs.Asked.{IsAsked, Begin}
 use Rattle.bufr_sections.specs.declared.message.Head.{Head}
 use Rattle.bufr_sections.specs.declared.message.Message.{Message}
 use Rattle.bufr_sections.specs.Sections.{AreOctets, HeadFits}

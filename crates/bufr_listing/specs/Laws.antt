@@ -2,7 +2,7 @@
 use Rattle.std.specs.Prelude.{◌≡◌, ℕ, List, ◌++◌, Ok, Err}
 use Rattle.std.specs.List.{flat_map, AllByRecursion}
 use Rattle.bufr_tables.specs.Entries.{Entries}
-use Rattle.bufr_data.specs.declared.field.Field.{Field}
+use Rattle.bufr_fields.specs.declared.field.Field.{Field}
 use Rattle.bufr_sections.specs.declared.message.Message.{Message}
 use Rattle.bufr_listing.specs.Listings.{line, joined, heading_lines, subset_lines}
 use Rattle.bufr_listing.specs.Listings.{end_line, field_line, subset_line, listing}

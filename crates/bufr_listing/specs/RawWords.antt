@@ -9,11 +9,11 @@ use Rattle.bufr_tables.specs.declared.element.Kind.TheVariants as kinds
 use Rattle.bufr_tables.specs.Elements.{same_kind}
 use Rattle.bufr_expand.specs.declared.operators.Spec.{Spec}
 use Rattle.bufr_expand.specs.OperatorsInForce.{is_within}
-use Rattle.bufr_data.specs.declared.field.Raw.{Raw}
-use Rattle.bufr_data.specs.declared.field.Raw.TheVariants.{Number, Text}
-use Rattle.bufr_data.specs.declared.field.Decimal.{Decimal}
-use Rattle.bufr_data.specs.DecimalTexts.{decimal_of}
-use Rattle.bufr_data.specs.Limits.{most_raw_bits, most_decimal_scale}
+use Rattle.bufr_fields.specs.declared.field.Raw.{Raw}
+use Rattle.bufr_fields.specs.declared.field.Raw.TheVariants.{Number, Text}
+use Rattle.bufr_fields.specs.declared.field.Decimal.{Decimal}
+use Rattle.bufr_fields.specs.DecimalTexts.{decimal_of}
+use Rattle.bufr_fields.specs.Limits.{most_raw_bits, most_decimal_scale}
 use Rattle.bufr_listing.specs.Listings.{stands_for_itself}
 use Rattle.bufr_listing.specs.FieldLines.{is_missing_word}
 

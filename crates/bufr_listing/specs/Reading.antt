@@ -15,9 +15,9 @@ use Rattle.bufr_expand.specs.declared.node.TemplateFault.{TemplateFault}
 use Rattle.bufr_expand.specs.Templates.{template}
 use Rattle.bufr_expand.specs.Trees.{Tree}
 use Rattle.bufr_expand.specs.Courses.{Course, ends, stops, asks, course}
-use Rattle.bufr_data.specs.declared.field.Field.{Field}
-use Rattle.bufr_data.specs.declared.field.Subset.{Subset}
-use Rattle.bufr_data.specs.Plain.{number_of}
+use Rattle.bufr_fields.specs.declared.field.Field.{Field}
+use Rattle.bufr_fields.specs.declared.field.Subset.{Subset}
+use Rattle.bufr_fields.specs.Forms.{number_of}
 use Rattle.bufr_sections.specs.declared.message.Head.{Head}
 use Rattle.bufr_sections.specs.declared.message.Message.{Message}
 use Rattle.bufr_listing.specs.declared.fault.Cause.TheVariants as causes

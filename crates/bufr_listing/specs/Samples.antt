@@ -8,9 +8,9 @@ use Rattle.bufr_answers.specs.Answers.{result_map}
 use Rattle.bufr_tables.specs.Descriptors.{descriptor}
 use Rattle.bufr_expand.specs.declared.operators.Spec.{Spec}
 use Rattle.bufr_expand.specs.Samples.{sample}
-use Rattle.bufr_data.specs.declared.field.Field.{Field}
-use Rattle.bufr_data.specs.declared.field.Raw.{Raw}
-use Rattle.bufr_data.specs.declared.field.Raw.TheVariants.{Number}
+use Rattle.bufr_fields.specs.declared.field.Field.{Field}
+use Rattle.bufr_fields.specs.declared.field.Raw.{Raw}
+use Rattle.bufr_fields.specs.declared.field.Raw.TheVariants.{Number}
 use Rattle.bufr_sections.specs.declared.message.Message.{Message}
 use Rattle.bufr_sections.specs.Samples.{head4}
 use Rattle.bufr_listing.specs.declared.fault.ListingFault.{ListingFault}

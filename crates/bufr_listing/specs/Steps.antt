@@ -2,8 +2,8 @@
 use Rattle.std.specs.Prelude.{◌≡◌, ℕ, List, [], ◌∷◌, ◌++◌, Option, Some, None}
 use Rattle.std.specs.Prelude.{Result, Ok, Err}
 use Rattle.bufr_expand.specs.Courses.{Course}
-use Rattle.bufr_data.specs.declared.field.Field.{Field}
-use Rattle.bufr_data.specs.declared.field.Subset.{Subset}
+use Rattle.bufr_fields.specs.declared.field.Field.{Field}
+use Rattle.bufr_fields.specs.declared.field.Subset.{Subset}
 use Rattle.bufr_listing.specs.declared.fault.ListingFault.{ListingFault}
 use Rattle.bufr_listing.specs.Lines.{Line}
 use Rattle.bufr_listing.specs.Reading.{FieldsListed, SubsetsListed, fields_read}

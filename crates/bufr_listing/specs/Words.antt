@@ -2,8 +2,8 @@
 use Rattle.std.specs.Prelude.{ℕ, List, [], ◌∷◌, Option, Some, None, option_map, option_and_then, ℤ}
 use Rattle.std.specs.Prelude.{pos, negsuc, nat_lt, if◌then◌else◌}
 use Rattle.bufr_tables.specs.Descriptors.{of_text}
-use Rattle.bufr_data.specs.declared.field.Decimal.{Decimal}
-use Rattle.bufr_data.specs.DecimalTexts.{decimal_of}
+use Rattle.bufr_fields.specs.declared.field.Decimal.{Decimal}
+use Rattle.bufr_fields.specs.DecimalTexts.{decimal_of}
 use Rattle.bufr_listing.specs.declared.line_words.Words.{Words}
 use Rattle.bufr_listing.specs.Lines.{words_of}
 

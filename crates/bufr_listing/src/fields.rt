@@ -2,13 +2,13 @@
 
 ghost use Rattle.std.specs.Prelude.{◌≡◌, ◌≤◌, ◌∷◌, ◌++◌, [], length, take, pos, OnOk, OnErr};
 ghost use Rattle.bufr_tables.specs.Descriptors.{six_digits};
-ghost use Rattle.bufr_data.specs.Values.{digits_by, text_of};
+ghost use Rattle.bufr_fields.specs.Values.{digits_by, text_of};
 ghost use Rattle.bufr_listing.specs.Listings as listings;
 ghost use Rattle.bufr_listing.specs.Listings.{line, joined, quoted_octet, quoted};
 ghost use Rattle.bufr_listing.specs.Listings.{value_word, field_line, subset_line, subset_lines};
 
 use bufr_answers::OutOfMemory;
-use bufr_data::{Decimal, Field, Raw, Subset};
+use bufr_fields::{Decimal, Field, Raw, Subset};
 use bufr_tables::Fxy;
 use itoa::write_digits;
 use std::alloc::Global;

@@ -1,7 +1,7 @@
 //! The lines of a listing before its first subset.
 
 ghost use Rattle.std.specs.Prelude.{◌≡◌, ◌≤◌, ◌∷◌, [], ◌++◌, List, OnOk, IfOk, length, option_copied};
-ghost use Rattle.bufr_data.specs.declared.field.Subset.{Subset};
+ghost use Rattle.bufr_fields.specs.declared.field.Subset.{Subset};
 ghost use Rattle.bufr_sections.specs.SectionsRead.{message_lent};
 ghost use Rattle.bufr_listing.specs.OctetLines.{octets_text};
 ghost use Rattle.bufr_listing.specs.Listings.{words, line, joined, numbers_line};

@@ -5,10 +5,10 @@ ghost use Rattle.bufr_listing.specs.Laws.{MessagesReadAreListed};
 ghost use Rattle.bufr_listing.specs.Laws.{MessagesListedAreRead, ListingsAreReadBack};
 ghost use Rattle.bufr_listing.specs.Laws.{FaultsReadAreFirst, FirstFaultsAreRead};
 
-use bufr_data::laws::counted_subsets_fit;
 use bufr_expand::laws::{
     courses_are_steady, courses_are_unrollings, courses_begin_unrollings, templates_are_trees,
 };
+use bufr_fields::laws::counted_subsets_fit;
 use bufr_tables::laws::descriptor_texts;
 
 /// Reading a text answers messages exactly where the text lists them, and these messages alone.

@@ -9,7 +9,7 @@ ghost use Rattle.bufr_listing.specs.Words.{words_left, below, number_below, numb
 ghost use Rattle.bufr_listing.specs.Words.{descriptors_of};
 
 use bufr_answers::OutOfMemory;
-use bufr_data::Decimal;
+use bufr_fields::Decimal;
 use bufr_tables::Fxy;
 use std::alloc::Global;
 

@@ -5,13 +5,13 @@ ghost use Rattle.std.specs.Prelude.{◌≡◌, ◌≤◌, ◌^◌, ◌-◌, ◌-
 ghost use Rattle.bufr_listing.specs.RawWords as words;
 ghost use Rattle.bufr_listing.specs.RawWords.{raw_of, number_of, text_of, octets_of, first_octet};
 ghost use Rattle.bufr_listing.specs.RawWords.{lower_value};
-ghost use Rattle.bufr_data.specs.Limits.{most_raw_bits};
+ghost use Rattle.bufr_fields.specs.Limits.{most_raw_bits};
 
 use crate::fields::stands_for_itself;
 use crate::line_words::natural;
 use bufr_answers::{Items, OutOfMemory};
-use bufr_data::{Decimal, MOST_DECIMAL_SCALE, MOST_RAW_BITS, Raw};
 use bufr_expand::Spec;
+use bufr_fields::{Decimal, MOST_DECIMAL_SCALE, MOST_RAW_BITS, Raw};
 use bufr_tables::Kind;
 use std::alloc::Global;
 

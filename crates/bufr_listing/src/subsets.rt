@@ -6,8 +6,8 @@ ghost use Rattle.bufr_tables.specs.Descriptors.{six_digits};
 ghost use Rattle.bufr_answers.specs.Answers.{Gives, Fails};
 ghost use Rattle.bufr_expand.specs.Courses.{course};
 ghost use Rattle.bufr_expand.specs.Walks as walks;
-ghost use Rattle.bufr_data.specs.Plain as plain;
-ghost use Rattle.bufr_data.specs.Steady.{IsReady, WalkAdvances};
+ghost use Rattle.bufr_fields.specs.Forms as forms;
+ghost use Rattle.bufr_fields.specs.Steady.{IsReady, WalkAdvances};
 ghost use Rattle.bufr_listing.specs.Cursors.{left, past, is_end};
 ghost use Rattle.bufr_listing.specs.Lines.{Line};
 ghost use Rattle.bufr_listing.specs.Reading.{read_line, fields_read, subsets_of, FieldsListed};
@@ -20,9 +20,9 @@ use crate::head_lines::{bad_line, bad_value, read_word};
 use crate::lines::Lines;
 use crate::raw_values::raw_of;
 use bufr_answers::{Failure, Items};
-use bufr_data::{Field, Raw, Subset};
 use bufr_expand::laws::courses_are_steady;
 use bufr_expand::{Spec, Step, Template, Walk};
+use bufr_fields::{Field, Raw, Subset};
 use bufr_tables::Fxy;
 use std::alloc::Global;
 
@@ -119,7 +119,7 @@ fn read_field(
 
 /// The number of a raw value, which is 0 for a text.
 fn number_of(raw: &Raw) -> u64
-    ensures { result ≡ plain.number_of raw.now }
+    ensures { result ≡ forms.number_of raw.now }
 {
     match raw {
         Raw::Number(number) => *number,

@@ -6,7 +6,7 @@ ghost use Rattle.bufr_listing.specs.Listings.{line, joined, subset_lines, end_li
 use crate::fields::push_subset;
 use crate::heading::heading_text;
 use bufr_answers::OutOfMemory;
-use bufr_data::Subset;
+use bufr_fields::Subset;
 use bufr_sections::{LentSections, Message};
 use std::alloc::Global;
 

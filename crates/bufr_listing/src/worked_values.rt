@@ -11,8 +11,8 @@ ghost use Rattle.bufr_listing.specs.Samples.{numbers_of_head, each_part, each_pa
 ghost use Rattle.bufr_listing.specs.Samples.{each_part_behind, listed_and_read, words_read};
 
 use super::{Cause, ListingFault};
-use bufr_data::Raw;
 use bufr_expand::{TemplateFault, WalkFault};
+use bufr_fields::Raw;
 use bufr_tables::Kind;
 
 /// A listing that is read and listed again: a comment, an empty line, CR before LF, a last line

@@ -4,8 +4,8 @@ use Rattle.std.proofs.Common.{◌≡◌, ℕ, ◌+◌, ◌<◌, false, List, len
 use Rattle.std.specs.Prelude.{nat_le}
 use Rattle.std.proofs.lemmas.Bool.{lt-leb}
 use Rattle.std.proofs.lemmas.List.Folds.{length-flat_map-take}
-use Rattle.bufr_data.specs.declared.field.Field.{Field}
-use Rattle.bufr_data.specs.declared.field.Subset.{Subset}
+use Rattle.bufr_fields.specs.declared.field.Field.{Field}
+use Rattle.bufr_fields.specs.declared.field.Subset.{Subset}
 use Rattle.bufr_data.specs.Plain.{field_bits, plain}
 use Rattle.bufr_sections.specs.Spelt.{longest}
 use Rattle.bufr_message.specs.Messages.{octets_alone}

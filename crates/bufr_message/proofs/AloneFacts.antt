@@ -9,12 +9,12 @@ use Rattle.bufr_bits.specs.OctetLaws.{length-bits}
 use Rattle.bufr_expand.specs.declared.operators.Spec.{Spec}
 use Rattle.bufr_expand.specs.Limits.{most_items}
 use Rattle.bufr_expand.specs.Trees.{Tree}
-use Rattle.bufr_data.specs.declared.field.Raw.{Raw}
-use Rattle.bufr_data.specs.declared.field.Raw.TheVariants.{Number, Text}
-use Rattle.bufr_data.specs.declared.field.Field.{Field}
-use Rattle.bufr_data.specs.declared.field.Subset.{Subset}
+use Rattle.bufr_fields.specs.declared.field.Raw.{Raw}
+use Rattle.bufr_fields.specs.declared.field.Raw.TheVariants.{Number, Text}
+use Rattle.bufr_fields.specs.declared.field.Field.{Field}
+use Rattle.bufr_fields.specs.declared.field.Subset.{Subset}
 use Rattle.bufr_data.specs.Plain.{raw_bits, plain, plain_subsets}
-use Rattle.bufr_data.specs.Fits.{HasForm, of_text, of_number, Fits, AllFit, FitsAlone}
+use Rattle.bufr_fields.specs.Fits.{HasForm, of_text, of_number, Fits, AllFit, FitsAlone}
 use Rattle.bufr_data.specs.Compressed.{IsColumn, equal, numbers, texts, Column, AreColumns, field_of}
 use Rattle.bufr_data.specs.Compressed.{subset_of, subsets_from}
 use Rattle.bufr_data.specs.Data.{IsDataOf}

@@ -8,7 +8,7 @@ use Rattle.std.proofs.lemmas.Bool.{leb-true, le-leb}
 use Rattle.std.proofs.lemmas.Bool.Decides.{Decides-and}
 use Rattle.bufr_bits.specs.Bits.{bits}
 use Rattle.bufr_expand.specs.Trees.{Tree}
-use Rattle.bufr_data.specs.declared.field.Subset.{Subset}
+use Rattle.bufr_fields.specs.declared.field.Subset.{Subset}
 use Rattle.bufr_data.specs.Plain.{plain}
 use Rattle.bufr_data.specs.Data.{IsDataOf}
 use Rattle.bufr_sections.specs.declared.message.Message.{Message}

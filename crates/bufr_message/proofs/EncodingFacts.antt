@@ -4,7 +4,7 @@ use Rattle.std.proofs.Common.{List, [], length, Result, refl, ap, arith}
 use Rattle.std.proofs.lemmas.List.{length-append, length-replicate, append-nil}
 use Rattle.bufr_bits.specs.Bits.{bits}
 use Rattle.bufr_bits.specs.OctetLaws.{length-bits, numbers-bits}
-use Rattle.bufr_data.specs.declared.fault.WriteFault.{WriteFault}
+use Rattle.bufr_fields.specs.declared.fault.WriteFault.{WriteFault}
 use Rattle.bufr_sections.specs.declared.message.Message.{Message}
 use Rattle.bufr_sections.specs.Spelt.{spelt_or}
 use Rattle.bufr_message.specs.Messages.{envelope_with}

@@ -17,7 +17,7 @@ use Rattle.bufr_sections.specs.declared.fault.Refused.TheVariants.{Template, Dat
 use Rattle.bufr_sections.specs.Sections.{Envelope, AreOctets, envelope_of}
 use Rattle.bufr_message.specs.Messages.{template_or, data_or, message_with, can_be_alone, ended}
 use Rattle.bufr_message.specs.Messages.{message_in, message_of}
-use Rattle.bufr_data.specs.declared.fault.ReadFault.TheVariants.{TooLarge}
+use Rattle.bufr_fields.specs.declared.fault.ReadFault.TheVariants.{TooLarge}
 use Rattle.bufr_sections.specs.Causes.{IsFirstRefusal, HasSections, is_of_sections}
 use Rattle.bufr_message.specs.Refusals.{IsFirstFault}
 use Rattle.bufr_message.specs.Below.{Below}

@@ -15,10 +15,10 @@ use Rattle.bufr_tables.specs.declared.element.Kind.TheVariants as kinds
 use Rattle.bufr_expand.specs.declared.operators.Spec.{Spec}
 use Rattle.bufr_expand.specs.Effects.{IsInRange}
 use Rattle.bufr_expand.specs.OperatorsInForce.{is_within}
-use Rattle.bufr_data.specs.declared.field.Raw.{Raw}
-use Rattle.bufr_data.specs.declared.field.Raw.TheVariants.{Number, Text}
-use Rattle.bufr_data.specs.declared.field.Field.{Field}
-use Rattle.bufr_data.specs.Values.{size_of, digits_by, text_of, is_missing, decimal_within}
+use Rattle.bufr_fields.specs.declared.field.Raw.{Raw}
+use Rattle.bufr_fields.specs.declared.field.Raw.TheVariants.{Number, Text}
+use Rattle.bufr_fields.specs.declared.field.Field.{Field}
+use Rattle.bufr_fields.specs.Values.{size_of, digits_by, text_of, is_missing, decimal_within}
 use Rattle.bufr_listing.specs.Listings.{stands_for_itself, quoted_octet, quoted, number_word}
 use Rattle.bufr_listing.specs.Listings.{value_word, field_line, line}
 

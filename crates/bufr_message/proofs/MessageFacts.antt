@@ -9,7 +9,7 @@ use Rattle.bufr_tables.specs.Entries.{Entries}
 use Rattle.bufr_expand.specs.Templates.{template}
 use Rattle.bufr_expand.specs.Flat.{IsTreeOf}
 use Rattle.bufr_expand.specs.Trees.{Tree}
-use Rattle.bufr_data.specs.declared.field.Subset.{Subset}
+use Rattle.bufr_fields.specs.declared.field.Subset.{Subset}
 use Rattle.bufr_data.specs.Data.{subsets_in}
 use Rattle.bufr_sections.specs.declared.message.Message.{Message}
 use Rattle.bufr_sections.specs.declared.layout.Layout.{Layout}
@@ -22,7 +22,7 @@ use Rattle.bufr_message.specs.Messages.{CanBeAlone, can_be_alone, message_in, me
 use Rattle.bufr_message.specs.Laws.{MessagesSpeltAreRead}
 use Rattle.bufr_answers.specs.AnswerLaws.{bind_ok, passed_ok}
 use Rattle.bufr_sections.specs.declared.fault.Refused.TheVariants.{Template, Data}
-use Rattle.bufr_data.specs.declared.fault.ReadFault.TheVariants.{TooLarge}
+use Rattle.bufr_fields.specs.declared.fault.ReadFault.TheVariants.{TooLarge}
 use Rattle.bufr_message.specs.Below.{Below}
 use Rattle.bufr_message.proofs.CanBeAlone.{alone_is_tested}
 use Rattle.bufr_message.proofs.StepFacts.{PassesOn, step_takes}

@@ -11,17 +11,17 @@ use Rattle.std.proofs.lemmas.Option.{same_Some, slice_get-map}
 use Rattle.bufr_bits.specs.Bits.{bits}
 use Rattle.bufr_tables.specs.Entries.{Entries}
 use Rattle.bufr_expand.specs.declared.operators.Spec.{Spec}
-use Rattle.bufr_data.specs.declared.field.Raw.{Raw}
-use Rattle.bufr_data.specs.declared.field.Field.{Field}
-use Rattle.bufr_data.specs.declared.field.Subset.{Subset}
-use Rattle.bufr_data.specs.declared.fault.WriteFault.{WriteFault}
+use Rattle.bufr_fields.specs.declared.field.Raw.{Raw}
+use Rattle.bufr_fields.specs.declared.field.Field.{Field}
+use Rattle.bufr_fields.specs.declared.field.Subset.{Subset}
+use Rattle.bufr_fields.specs.declared.fault.WriteFault.{WriteFault}
 use Rattle.bufr_data.specs.Data.{ReadsExactly}
 use Rattle.bufr_expand.specs.Trees.{Tree}
 use Rattle.bufr_sections.specs.declared.message.Head.{Head}
 use Rattle.bufr_sections.specs.declared.message.Message.{Message}
 use Rattle.bufr_sections.specs.Sections.{Envelope}
 use Rattle.bufr_sections.specs.Spelt.{spelt_or}
-use Rattle.bufr_data.specs.Fits.{HasForm, of_text, of_number}
+use Rattle.bufr_fields.specs.Fits.{HasForm, of_text, of_number}
 use Rattle.bufr_data.specs.Plain.{plain}
 use Rattle.bufr_answers.specs.Answers.{result_map}
 use Rattle.bufr_answers.specs.AnswerLaws.{bind_ok, ok_is}

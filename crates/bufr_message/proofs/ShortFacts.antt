@@ -14,12 +14,12 @@ use Rattle.bufr_expand.specs.Limits.{most_items}
 use Rattle.bufr_expand.specs.Steady.{IsSteady, EachAsked}
 use Rattle.bufr_expand.specs.Trees.{Tree}
 use Rattle.bufr_expand.specs.Unrolling.{Told, After}
-use Rattle.bufr_data.specs.declared.field.Raw.{Raw}
-use Rattle.bufr_data.specs.declared.field.Field.{Field}
-use Rattle.bufr_data.specs.declared.field.Subset.{Subset}
-use Rattle.bufr_data.specs.CourseLaws.{AreAllowed, Formed}
-use Rattle.bufr_data.specs.Fits.{HasForm, of_text, of_number, told_of}
-use Rattle.bufr_data.specs.Plain.{number_of}
+use Rattle.bufr_fields.specs.declared.field.Raw.{Raw}
+use Rattle.bufr_fields.specs.declared.field.Field.{Field}
+use Rattle.bufr_fields.specs.declared.field.Subset.{Subset}
+use Rattle.bufr_fields.specs.CourseLaws.{AreAllowed, Formed}
+use Rattle.bufr_fields.specs.Fits.{HasForm, of_text, of_number, told_of}
+use Rattle.bufr_fields.specs.Forms.{number_of}
 use Rattle.bufr_listing.specs.Listings.{line, joined, field_line, subset_lines}
 use Rattle.bufr_message.specs.ShortListings.{ListingsAreShort}
 use Rattle.bufr_message.proofs.AloneFacts.{StandsAlone, each_alone}

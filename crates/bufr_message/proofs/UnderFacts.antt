@@ -4,9 +4,9 @@ use Rattle.std.proofs.Common.{refl, arith, length-append}
 use Rattle.std.specs.Prelude.{nat_lt}
 use Rattle.std.specs.List.{AllByRecursion}
 use Rattle.bufr_tables.specs.Entries.{Entries}
-use Rattle.bufr_data.specs.declared.field.Subset.{Subset}
+use Rattle.bufr_fields.specs.declared.field.Subset.{Subset}
 use Rattle.bufr_data.specs.Plain.{plain, plain_subsets}
-use Rattle.bufr_data.specs.Fits.{AllFitWithin}
+use Rattle.bufr_fields.specs.Fits.{AllFitWithin}
 use Rattle.bufr_data.specs.Data.{IsDataOf}
 use Rattle.bufr_sections.specs.declared.message.Head.{Head}
 use Rattle.bufr_sections.specs.declared.message.Message.{Message}

@@ -1,7 +1,7 @@
 -- What is printed where a message is not written: the fault's number, its name and its values.
 use Rattle.std.specs.Prelude.{ℕ, List, codes}
 use Rattle.bufr_expand.specs.Reasons.{template_reason}
-use Rattle.bufr_data.specs.Reasons.{write_reason}
+use Rattle.bufr_fields.specs.Reasons.{write_reason}
 use Rattle.bufr_message.specs.declared.fault.EncodeFault.{EncodeFault}
 use Rattle.bufr_message.specs.declared.fault.EncodeFault.TheVariants as faults
 

@@ -6,7 +6,7 @@ use Rattle.bufr_sections.specs.declared.message.Message.{Message}
 use Rattle.bufr_sections.specs.declared.layout.Layout.TheVariants.{Edition4}
 use Rattle.bufr_sections.specs.declared.message.Decoded.{Decoded}
 use Rattle.bufr_sections.specs.declared.fault.Refused.{Refused}
-use Rattle.bufr_data.specs.declared.fault.WriteFault.TheVariants.{TooLarge}
+use Rattle.bufr_fields.specs.declared.fault.WriteFault.TheVariants.{TooLarge}
 use Rattle.bufr_data.specs.Compressed.{Column}
 use Rattle.bufr_data.specs.Compressed.Best.{CanBePacked}
 use Rattle.bufr_message.specs.declared.fault.EncodeFault.{EncodeFault}

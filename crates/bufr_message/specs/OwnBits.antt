@@ -4,12 +4,12 @@ use Rattle.std.specs.Prelude.{◌≡◌, ℕ, ◌^◌, ◌&&◌, ◌++◌, Bool,
 use Rattle.std.specs.Prelude.{nat_le, if◌then◌else◌}
 use Rattle.std.specs.List.{AllByRecursion, list_all}
 use Rattle.bufr_tables.specs.Entries.{Entries}
-use Rattle.bufr_data.specs.declared.field.Raw.{Raw}
-use Rattle.bufr_data.specs.declared.field.Raw.TheVariants.{Number, Text}
-use Rattle.bufr_data.specs.declared.field.Field.{Field}
-use Rattle.bufr_data.specs.declared.field.Subset.{Subset}
+use Rattle.bufr_fields.specs.declared.field.Raw.{Raw}
+use Rattle.bufr_fields.specs.declared.field.Raw.TheVariants.{Number, Text}
+use Rattle.bufr_fields.specs.declared.field.Field.{Field}
+use Rattle.bufr_fields.specs.declared.field.Subset.{Subset}
 use Rattle.bufr_data.specs.Plain.{plain}
-use Rattle.bufr_data.specs.Limits.{most_raw_bits}
+use Rattle.bufr_fields.specs.Limits.{most_raw_bits}
 use Rattle.bufr_message.specs.declared.report.Report.{Report}
 use Rattle.bufr_message.specs.Encodings.{enclosed_or}
 use Rattle.bufr_message.specs.Reports.{alone, if_written, IsCanonical}

@@ -5,7 +5,7 @@ ghost use Rattle.std.specs.Prelude.{option_map, OnErr};
 ghost use Rattle.bufr_bits.specs.Bits.{bits};
 ghost use Rattle.bufr_answers.specs.Answers.{Gives, result_map};
 ghost use Rattle.bufr_tables.specs.Entries.{Entries};
-ghost use Rattle.bufr_data.specs.declared.field.Subset.{Subset};
+ghost use Rattle.bufr_fields.specs.declared.field.Subset.{Subset};
 ghost use Rattle.bufr_data.specs.Data.{subsets_in};
 ghost use Rattle.bufr_sections.specs.declared.message.Decoded.{Decoded};
 ghost use Rattle.bufr_sections.specs.Sections.{descriptors_of};

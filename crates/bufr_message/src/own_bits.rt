@@ -4,9 +4,9 @@ ghost use Rattle.std.specs.Prelude.{◌≡◌, ◌++◌, ◌^◌, ◌&&◌, ℕ,
 ghost use Rattle.std.specs.Prelude.{option_map, nat_lt, nat_le};
 ghost use Rattle.bufr_bits.specs.Bits.{bits};
 ghost use Rattle.bufr_tables.specs.Entries.{Entries};
-ghost use Rattle.bufr_data.specs.declared.field.Subset.{Subset};
+ghost use Rattle.bufr_fields.specs.declared.field.Subset.{Subset};
 ghost use Rattle.bufr_data.specs.Plain.{raw_bits};
-ghost use Rattle.bufr_data.specs.Limits.{most_raw_bits};
+ghost use Rattle.bufr_fields.specs.Limits.{most_raw_bits};
 ghost use Rattle.bufr_data.specs.Subsets.{filled};
 ghost use Rattle.bufr_message.specs.OwnBits.{has_room, own_bits, spelt_alone, spelt_with};
 ghost use Rattle.bufr_message.specs.OwnBits.{IsPutBehind};

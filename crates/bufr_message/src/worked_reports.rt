@@ -1,7 +1,7 @@
 //! Worked examples of reports and their canonical messages.
 
 ghost use Rattle.std.specs.Prelude.{◌≡◌, false, true, [], ◌∷◌, Some, codes};
-ghost use Rattle.bufr_data.specs.declared.field.Raw.TheVariants.{Number, Text};
+ghost use Rattle.bufr_fields.specs.declared.field.Raw.TheVariants.{Number, Text};
 ghost use Rattle.bufr_message.specs.OwnBits.{has_room};
 ghost use Rattle.bufr_message.specs.Samples.{elements_only, local_octets_and_slack};
 ghost use Rattle.bufr_message.specs.Samples.{distinct_head, compressed, edition_3_of};

@@ -4,7 +4,7 @@ use Rattle.std.proofs.Common.{pos, negsuc, ◌≤ℤ◌, refl, ap, ◌∙◌, su
 use Rattle.std.specs.Prelude.{◌&&◌, int_le, unsigned_abs}
 use Rattle.jiff.specs.Words.{days_in_month}
 use Rattle.jiff.proofs.SpanFacts.{signed_arith}
-use Rattle.bufr_data.specs.declared.field.Field.{Field}
+use Rattle.bufr_fields.specs.declared.field.Field.{Field}
 use Rattle.bufr_keys.specs.declared.key.Moment.{Moment}
 use Rattle.bufr_report_keys.specs.Usable.{◌>>=◌, element_number}
 use Rattle.bufr_report_keys.specs.Keys.{greatest_year, from_to, sixtieth, moment}

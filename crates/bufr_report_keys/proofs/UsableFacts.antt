@@ -3,10 +3,10 @@ use Rattle.std.proofs.Common.{◌≡◌, ◌⊎◌, inl, inr, ℕ, Bool, true, f
 use Rattle.std.proofs.Common.{refl, sym, ap, ◌∙◌}
 use Rattle.bufr_tables.specs.declared.element.Kind.{Kind}
 use Rattle.bufr_tables.specs.declared.element.Kind.TheVariants as kinds
-use Rattle.bufr_data.specs.declared.field.Raw.{Raw}
-use Rattle.bufr_data.specs.declared.field.Raw.TheVariants as raws
-use Rattle.bufr_data.specs.declared.field.Field.{Field}
-use Rattle.bufr_data.specs.Values.{is_missing}
+use Rattle.bufr_fields.specs.declared.field.Raw.{Raw}
+use Rattle.bufr_fields.specs.declared.field.Raw.TheVariants as raws
+use Rattle.bufr_fields.specs.declared.field.Field.{Field}
+use Rattle.bufr_fields.specs.Values.{is_missing}
 use Rattle.bufr_report_keys.specs.Usable.{without_last_blanks, some_octets, text_by, usable_text}
 use Rattle.bufr_report_keys.specs.Laws.{IsUsableText}
 use Rattle.bufr_report_keys.proofs.BlankFacts.{Ends, left_and_blanks, left_ends, blanks_are_cut}

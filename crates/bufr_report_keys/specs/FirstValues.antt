@@ -3,7 +3,7 @@ use Rattle.std.specs.Prelude.{ℕ, ◌==◌, Bool, true, false, List, [], ◌∷
 use Rattle.std.specs.Option.{option_map, option_or, option_flatten}
 use Rattle.jiff.specs.Words.{days_in_month}
 use Rattle.bufr_tables.specs.Descriptors.{descriptor}
-use Rattle.bufr_data.specs.declared.field.Field.{Field}
+use Rattle.bufr_fields.specs.declared.field.Field.{Field}
 use Rattle.bufr_keys.specs.declared.key.Station.{Station}
 use Rattle.bufr_keys.specs.declared.key.Station.TheVariants.{Wmo, Wigos, Mobile}
 use Rattle.bufr_keys.specs.declared.key.Moment.{Moment}

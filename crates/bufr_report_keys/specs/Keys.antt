@@ -2,7 +2,7 @@
 use Rattle.std.specs.Prelude.{ℕ, ◌&&◌, Bool, if◌then◌else◌, List, Option, Some, None, ℤ, pos}
 use Rattle.std.specs.Prelude.{int_le, unsigned_abs}
 use Rattle.jiff.specs.Words.{days_in_month}
-use Rattle.bufr_data.specs.declared.field.Field.{Field}
+use Rattle.bufr_fields.specs.declared.field.Field.{Field}
 use Rattle.bufr_keys.specs.declared.key.Station.{Station}
 use Rattle.bufr_keys.specs.declared.key.Station.TheVariants.{Wmo, Wigos, Mobile}
 use Rattle.bufr_keys.specs.declared.key.Moment.{Moment}

@@ -4,9 +4,9 @@ use Rattle.std.specs.Prelude.{true, false}
 use Rattle.std.specs.List.{AllByRecursion}
 use Rattle.jiff.specs.Words.{IsDate}
 use Rattle.bufr_tables.specs.declared.element.Kind.TheVariants as kinds
-use Rattle.bufr_data.specs.declared.field.Raw.TheVariants as raws
-use Rattle.bufr_data.specs.declared.field.Field.{Field}
-use Rattle.bufr_data.specs.Values.{is_missing}
+use Rattle.bufr_fields.specs.declared.field.Raw.TheVariants as raws
+use Rattle.bufr_fields.specs.declared.field.Field.{Field}
+use Rattle.bufr_fields.specs.Values.{is_missing}
 use Rattle.bufr_keys.specs.declared.key.Moment.{Moment}
 use Rattle.bufr_report_keys.specs.Usable.{usable_number, is_blank, usable_text, element_number}
 use Rattle.bufr_report_keys.specs.Keys.{moment}

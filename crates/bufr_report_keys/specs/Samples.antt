@@ -5,8 +5,8 @@ use Rattle.std.specs.Option.{is_some}
 use Rattle.bufr_tables.specs.declared.element.Kind.{Kind}
 use Rattle.bufr_tables.specs.declared.element.Kind.TheVariants as kinds
 use Rattle.bufr_tables.specs.Descriptors.{descriptor}
-use Rattle.bufr_data.specs.declared.field.Raw.TheVariants as raws
-use Rattle.bufr_data.specs.declared.field.Field.{Field}
+use Rattle.bufr_fields.specs.declared.field.Raw.TheVariants as raws
+use Rattle.bufr_fields.specs.declared.field.Field.{Field}
 use Rattle.bufr_keys.specs.declared.key.Station.{Station}
 use Rattle.bufr_keys.specs.declared.key.Station.TheVariants.{Wmo, Wigos, Mobile}
 use Rattle.bufr_keys.specs.declared.key.Moment.{Moment}

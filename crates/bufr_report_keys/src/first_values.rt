@@ -41,7 +41,7 @@ pub(crate) struct FirstValues {
 }
 
 impl FirstValues {
-    ghost use Rattle.bufr_data.specs.Handed.{as_field};
+    ghost use Rattle.bufr_fields.specs.Values.{as_field};
     ghost use Rattle.bufr_report_keys.specs.FirstValues.{first_values, noted, numbered};
 
     /// Where no field was met.

@@ -1,6 +1,6 @@
 //! Which numbers and texts of fields count for a key.
 ghost use Rattle.std.specs.Prelude.{◌≡◌};
-ghost use Rattle.bufr_data.specs.Handed.{as_field};
+ghost use Rattle.bufr_fields.specs.Values.{as_field};
 ghost use Rattle.bufr_report_keys.specs.Usable.{usable_number, is_blank, without_last_blanks, some_octets, usable_text};
 
 use bufr_answers::Items;

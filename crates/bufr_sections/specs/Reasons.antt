@@ -1,7 +1,7 @@
 -- What is printed of a refusal: its number, its name and its values.
 use Rattle.std.specs.Prelude.{ℕ, List, ◌++◌, codes, decimal}
 use Rattle.bufr_expand.specs.Reasons.{template_reason}
-use Rattle.bufr_data.specs.Reasons.{read_reason}
+use Rattle.bufr_fields.specs.Reasons.{read_reason}
 use Rattle.bufr_sections.specs.declared.fault.Refused.{Refused}
 use Rattle.bufr_sections.specs.declared.fault.Refused.TheVariants.{NotBufr, Edition, TotalLength}
 use Rattle.bufr_sections.specs.declared.fault.Refused.TheVariants.{NoEnd, Section1Length}

@@ -2,7 +2,7 @@
 -- length.
 use Rattle.std.specs.Prelude.{ℕ, List, Option, Result, Ok, get_or}
 use Rattle.bufr_answers.specs.Answers.{◌>>=◌}
-use Rattle.bufr_data.specs.declared.field.Subset.{Subset}
+use Rattle.bufr_fields.specs.declared.field.Subset.{Subset}
 use Rattle.bufr_sections.specs.declared.message.Head.{Head}
 use Rattle.bufr_sections.specs.declared.message.Message.{Message}
 use Rattle.bufr_sections.specs.declared.envelope.Envelope.{Envelope}

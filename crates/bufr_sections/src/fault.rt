@@ -3,8 +3,8 @@
 ghost use Rattle.std.specs.Prelude.{Some};
 ghost use Rattle.bufr_sections.specs.Reasons.{reason};
 
-use bufr_data::ReadFault;
 use bufr_expand::TemplateFault;
+use bufr_fields::ReadFault;
 use std::error::Error;
 use std::fmt;
 

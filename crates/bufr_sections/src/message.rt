@@ -1,7 +1,7 @@
 //! Messages.
 
 use bufr_answers::Items;
-use bufr_data::Subset;
+use bufr_fields::Subset;
 use bufr_tables::Fxy;
 
 /// What section 1 says: where a message comes from, which tables it uses and when it was made.

@@ -9,7 +9,7 @@ ghost use Rattle.bufr_sections.specs.Spelt.{bare, spelt_or};
 use crate::lent_sections::LentSections;
 use crate::section_octets::{fixed_octets, push_descriptors, push_front, push_section};
 use bufr_answers::{Failure, Items, OutOfMemory};
-use bufr_data::WriteFault;
+use bufr_fields::WriteFault;
 use std::alloc::Global;
 
 /// The greatest number of octets of a message: it stands in three octets of section 0.

@@ -3,7 +3,7 @@
 
 ghost use Rattle.std.specs.Prelude.{◌≡◌, ◌++◌, Ok, Err, IsOk, Some, None, true, false, [], ◌∷◌};
 ghost use Rattle.std.specs.Prelude.{take, codes, map};
-ghost use Rattle.bufr_data.specs.declared.fault.WriteFault.TheVariants.{TooLarge};
+ghost use Rattle.bufr_fields.specs.declared.fault.WriteFault.TheVariants.{TooLarge};
 ghost use Rattle.bufr_sections.specs.Sections.{three, two, layout_of, year_of_century, envelope_of};
 ghost use Rattle.bufr_sections.specs.Sections.{descriptors_of};
 ghost use Rattle.bufr_sections.specs.Spelt.{bare, spelt_or, longest};

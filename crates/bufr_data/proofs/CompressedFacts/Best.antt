@@ -19,10 +19,11 @@ use Rattle.bufr_tables.specs.declared.element.Kind.{Kind}
 use Rattle.bufr_tables.specs.declared.element.Kind.TheVariants as kinds
 use Rattle.bufr_tables.specs.Elements.{same_kind}
 use Rattle.bufr_expand.specs.declared.operators.Spec.{Spec}
-use Rattle.bufr_data.specs.declared.field.Raw.{Raw}
-use Rattle.bufr_data.specs.declared.field.Raw.TheVariants.{Number, Text}
-use Rattle.bufr_data.specs.Plain.{raw_bits, number_of}
-use Rattle.bufr_data.specs.Fits.{HasForm, of_text, of_number}
+use Rattle.bufr_fields.specs.declared.field.Raw.{Raw}
+use Rattle.bufr_fields.specs.declared.field.Raw.TheVariants.{Number, Text}
+use Rattle.bufr_data.specs.Plain.{raw_bits}
+use Rattle.bufr_fields.specs.Forms.{number_of}
+use Rattle.bufr_fields.specs.Fits.{HasForm, of_text, of_number}
 use Rattle.bufr_data.specs.Compressed.{Pairwise, HasIncrement, HasText, IsColumn, equal}
 use Rattle.bufr_data.specs.Compressed.{numbers as number_column, texts as text_column, above, missing}
 use Rattle.bufr_data.specs.Compressed.{filled as is_filled, ones as ones_text}
@@ -38,7 +39,7 @@ use Rattle.std.proofs.Math.Pow.{pow_mono}
 use Rattle.bufr_data.specs.Compressed.Best.{present, least_with, least, greatest, fewest_bits}
 use Rattle.bufr_data.specs.Compressed.Best.{increment_of, best_numbers, best_texts, octets_of}
 use Rattle.bufr_data.specs.Compressed.Best.{best_differing, first_bits, best, widest, can_be_column}
-use Rattle.bufr_data.specs.FormLaws.{same_kind_is}
+use Rattle.bufr_fields.specs.FormLaws.{same_kind_is}
 
 -- ---- the fewest bits
 

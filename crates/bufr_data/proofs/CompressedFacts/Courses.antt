@@ -8,17 +8,16 @@ use Rattle.bufr_expand.specs.Courses.{Course, ends, stops, asks, course}
 use Rattle.bufr_expand.specs.Trees.{Tree}
 use Rattle.bufr_expand.specs.NextFields.{Next, wants, lacks, BeginsWithin}
 use Rattle.bufr_expand.specs.Limits.{most_items}
-use Rattle.bufr_data.specs.declared.fault.ReadFault.{ReadFault}
-use Rattle.bufr_data.specs.declared.fault.ReadFault.TheVariants as faults
-use Rattle.bufr_data.specs.Plain.Refusals.{Passes}
-use Rattle.bufr_data.specs.Causes.{Begin}
+use Rattle.bufr_fields.specs.declared.fault.ReadFault.{ReadFault}
+use Rattle.bufr_fields.specs.declared.fault.ReadFault.TheVariants as faults
+use Rattle.bufr_fields.specs.Asked.{Passes, Begin}
 use Rattle.bufr_data.specs.Compressed.{Column, AreColumns, field_of}
 use Rattle.bufr_data.specs.Compressed.Causes.{ColumnRefused, told_first, NoColumnFollows, no_room}
 use Rattle.bufr_data.specs.Compressed.Causes.{too_many_values, no_spec, no_column, FirstColumnRefused}
 use Rattle.bufr_data.proofs.CauseFacts.{Follows, follows, passes_full, passes_lacking, passes_asked}
 use Rattle.bufr_data.proofs.PlainFacts.Refusals.{IsStop}
-use Rattle.bufr_data.specs.Limits.{most_values}
-use Rattle.bufr_data.specs.CourseLaws.{Laws, begun}
+use Rattle.bufr_fields.specs.Limits.{most_values}
+use Rattle.bufr_fields.specs.CourseLaws.{Laws, begun}
 
 -- field i of n subsets would be more than 67,108,864 values; or it would not, and this holds
 abbrev pub PastOr : ℕ → ℕ → ReadFault → Type 0 → Type 0

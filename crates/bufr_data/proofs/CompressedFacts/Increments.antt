@@ -12,15 +12,15 @@ use Rattle.std.proofs.Math.Nat.{suc-mul}
 use Rattle.std.proofs.lemmas.List.Folds.{list_all-append}
 use Rattle.std.proofs.lemmas.List.{length-drop, drop-drop}
 use Rattle.bufr_answers.specs.Answers.{◌>>=◌}
-use Rattle.bufr_data.specs.declared.fault.ReadFault.TheVariants as faults
-use Rattle.bufr_data.specs.Plain.{number_of}
+use Rattle.bufr_fields.specs.declared.fault.ReadFault.TheVariants as faults
+use Rattle.bufr_fields.specs.Forms.{number_of}
 use Rattle.bufr_data.specs.Compressed.Passed.{AreRaised}
 use Rattle.bufr_data.proofs.ListFacts.{all_joined}
 use Rattle.bufr_bits.specs.BitLaws.{some_is}
 use Rattle.bufr_bits.specs.Bits.{number, numbers, number_at}
-use Rattle.bufr_data.specs.declared.field.Raw.{Raw}
-use Rattle.bufr_data.specs.declared.field.Raw.TheVariants.{Number}
-use Rattle.bufr_data.specs.declared.fault.ReadFault.{ReadFault}
+use Rattle.bufr_fields.specs.declared.field.Raw.{Raw}
+use Rattle.bufr_fields.specs.declared.field.Raw.TheVariants.{Number}
+use Rattle.bufr_fields.specs.declared.fault.ReadFault.{ReadFault}
 use Rattle.bufr_data.specs.Compressed.Reading.{raised, value_then, all_raised, all_equal, count_of}
 use Rattle.bufr_data.specs.Compressed.Reading.{same_raw}
 

@@ -9,8 +9,8 @@ use Rattle.std.proofs.lemmas.List.{drop_at, drop-drop}
 use Rattle.bufr_bits.specs.Bits.{bin, bits, number_at, octets_at}
 use Rattle.bufr_bits.specs.BitLaws.{length-bin, number_at-bin}
 use Rattle.bufr_expand.specs.declared.operators.Spec.{Spec}
-use Rattle.bufr_data.specs.declared.field.Raw.{Raw}
-use Rattle.bufr_data.specs.declared.field.Raw.TheVariants.{Number, Text}
+use Rattle.bufr_fields.specs.declared.field.Raw.{Raw}
+use Rattle.bufr_fields.specs.declared.field.Raw.TheVariants.{Number, Text}
 use Rattle.bufr_data.specs.Plain.{raw_bits}
 use Rattle.bufr_data.specs.Compressed.{Pairwise, HasIncrement, HasText, IsColumn, equal}
 use Rattle.bufr_data.specs.Compressed.{numbers as number_column, texts as text_column}

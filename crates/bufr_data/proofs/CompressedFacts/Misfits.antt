@@ -9,17 +9,17 @@ use Rattle.bufr_tables.specs.declared.element.Kind.TheVariants as kinds
 use Rattle.bufr_tables.specs.Elements.{same_kind}
 use Rattle.bufr_answers.specs.AnswerLaws.{err_is}
 use Rattle.bufr_expand.specs.declared.operators.Spec.{Spec}
-use Rattle.bufr_data.specs.declared.field.Raw.{Raw}
-use Rattle.bufr_data.specs.declared.field.Field.{Field}
-use Rattle.bufr_data.specs.declared.fault.WriteFault.{WriteFault}
-use Rattle.bufr_data.specs.declared.fault.WriteFault.TheVariants as misfits
-use Rattle.bufr_data.specs.Plain.{same_spec}
+use Rattle.bufr_fields.specs.declared.field.Raw.{Raw}
+use Rattle.bufr_fields.specs.declared.field.Field.{Field}
+use Rattle.bufr_fields.specs.declared.fault.WriteFault.{WriteFault}
+use Rattle.bufr_fields.specs.declared.fault.WriteFault.TheVariants as misfits
+use Rattle.bufr_fields.specs.Forms.{same_spec}
 use Rattle.bufr_data.specs.Compressed.{Column}
 use Rattle.bufr_data.specs.Compressed.Reading.{all_equal}
 use Rattle.bufr_data.specs.Compressed.Best.{can_be_column, widest, begins_like, first_raw, is_empty}
 use Rattle.bufr_data.specs.Compressed.Best.{column_or, columns_of}
 use Rattle.bufr_data.specs.Compressed.Causes.{BeginsLike, CanBeColumn, same, narrow, FirstApart}
-use Rattle.bufr_data.specs.FormLaws.{spec_is_same}
+use Rattle.bufr_fields.specs.FormLaws.{spec_is_same}
 use Rattle.bufr_data.proofs.CompressedFacts.Walks.{all_equal_is, all_equal_again}
 use Rattle.bufr_data.proofs.KindFacts.{kinds_differ, other_kind}
 use Rattle.bufr_data.proofs.CompressedFacts.Packed.{column_behind, like_is}

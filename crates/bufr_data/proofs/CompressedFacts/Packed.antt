@@ -12,14 +12,14 @@ use Rattle.bufr_answers.specs.AnswerLaws.{bind_ok, guard_ok, ok_is}
 use Rattle.bufr_expand.specs.declared.operators.Spec.{Spec}
 use Rattle.bufr_expand.specs.Trees.{Tree}
 use Rattle.bufr_expand.specs.Courses.{course}
-use Rattle.bufr_data.specs.declared.field.Raw.{Raw}
-use Rattle.bufr_data.specs.declared.field.Raw.TheVariants.{Number}
-use Rattle.bufr_data.specs.declared.field.Field.{Field}
-use Rattle.bufr_data.specs.declared.field.Subset.{Subset}
-use Rattle.bufr_data.specs.declared.fault.WriteFault.{WriteFault}
-use Rattle.bufr_data.specs.declared.fault.WriteFault.TheVariants as misfits
-use Rattle.bufr_data.specs.Plain.{items_of, same_spec}
-use Rattle.bufr_data.specs.Fits.{HasForm, FitsAlone}
+use Rattle.bufr_fields.specs.declared.field.Raw.{Raw}
+use Rattle.bufr_fields.specs.declared.field.Raw.TheVariants.{Number}
+use Rattle.bufr_fields.specs.declared.field.Field.{Field}
+use Rattle.bufr_fields.specs.declared.field.Subset.{Subset}
+use Rattle.bufr_fields.specs.declared.fault.WriteFault.{WriteFault}
+use Rattle.bufr_fields.specs.declared.fault.WriteFault.TheVariants as misfits
+use Rattle.bufr_fields.specs.Forms.{items_of, same_spec}
+use Rattle.bufr_fields.specs.Fits.{HasForm, FitsAlone}
 use Rattle.bufr_data.specs.Compressed.{Column, AreColumns, field_of, subsets_from, Packed}
 use Rattle.bufr_data.specs.Compressed.Reading.{ColumnsFound, columns_at}
 use Rattle.bufr_data.specs.Compressed.Best.{best, can_be_column, begins_like, first_raw, is_empty}
@@ -29,13 +29,13 @@ use Rattle.std.proofs.lemmas.List.Elements.{All-from_get_or, All-get_or, recursi
 use Rattle.std.proofs.lemmas.List.Sums.{AllPass-from_list_all}
 use Rattle.bufr_data.specs.Compressed.Causes.{BeginsLike}
 use Rattle.bufr_data.proofs.AnswerFacts.{map_ok}
-use Rattle.bufr_data.proofs.FitFacts.{counted_fit, fitting_counted}
+use Rattle.bufr_fields.specs.FitLaws.{counted_fit, fitting_counted}
 use Rattle.bufr_expand.specs.Steady.{course_steady}
 use Rattle.bufr_data.proofs.CompressedFacts.Walks.{AllForm, columns_again, columns_found}
 use Rattle.bufr_data.proofs.CompressedFacts.Best.{best_column, one_count}
-use Rattle.bufr_data.specs.Limits.{most_values}
-use Rattle.bufr_data.specs.FormLaws.{same_spec_is}
-use Rattle.bufr_data.specs.CourseLaws.{AreUnrolled, AreAllowed}
+use Rattle.bufr_fields.specs.Limits.{most_values}
+use Rattle.bufr_fields.specs.FormLaws.{same_spec_is}
+use Rattle.bufr_fields.specs.CourseLaws.{AreUnrolled, AreAllowed}
 
 -- ---- reading
 

@@ -8,24 +8,24 @@ use Rattle.std.proofs.lemmas.Bool.{lt-ltb, ltb-true}
 use Rattle.bufr_answers.specs.AnswerLaws.{bind_err}
 use Rattle.bufr_expand.specs.Trees.{Tree}
 use Rattle.bufr_expand.specs.Courses.{course}
-use Rattle.bufr_data.specs.declared.field.Subset.{Subset}
-use Rattle.bufr_data.specs.declared.fault.WriteFault.{WriteFault}
-use Rattle.bufr_data.specs.declared.fault.WriteFault.TheVariants as misfits
-use Rattle.bufr_data.specs.Plain.{items_of}
+use Rattle.bufr_fields.specs.declared.field.Subset.{Subset}
+use Rattle.bufr_fields.specs.declared.fault.WriteFault.{WriteFault}
+use Rattle.bufr_fields.specs.declared.fault.WriteFault.TheVariants as misfits
+use Rattle.bufr_fields.specs.Forms.{items_of}
 use Rattle.bufr_data.specs.Causes.{FirstMisfit}
 use Rattle.bufr_data.specs.Compressed.{Column, subsets_from}
 use Rattle.bufr_data.specs.Compressed.Best.{columns_of, columns_of_all, packed, CanBeWritten}
 use Rattle.bufr_data.specs.Data.{each_fits, written_bits}
-use Rattle.bufr_data.specs.Fits.{FitsAlone}
+use Rattle.bufr_fields.specs.Fits.{FitsAlone}
 use Rattle.bufr_data.specs.Compressed.Causes.{FirstUnpacked, misfit, apart, too_many}
-use Rattle.bufr_data.proofs.FitFacts.{counted_fit, fitting_counted}
+use Rattle.bufr_fields.specs.FitLaws.{counted_fit, fitting_counted}
 use Rattle.bufr_data.proofs.CauseFacts.{write_refused_first, first_write_refused}
 use Rattle.bufr_data.proofs.AnswerFacts.{guard_err}
 use Rattle.bufr_data.proofs.CompressedFacts.Packed.{columns_whole, each_fit}
 use Rattle.bufr_data.proofs.CompressedFacts.Written.{subsets_can, columns_written, each_counted}
 use Rattle.bufr_data.proofs.CompressedFacts.Misfits.{columns_apart, apart_columns}
-use Rattle.bufr_data.specs.Limits.{most_values}
-use Rattle.bufr_data.specs.CourseLaws.{Laws}
+use Rattle.bufr_fields.specs.Limits.{most_values}
+use Rattle.bufr_fields.specs.CourseLaws.{Laws}
 
 -- a subset that does not fit by itself, and those before it
 abbrev MisfitFrom : Tree → ℕ → List Subset → WriteFault → Type 0

@@ -14,17 +14,17 @@ use Rattle.bufr_tables.specs.declared.element.Kind.{Kind}
 use Rattle.bufr_tables.specs.declared.element.Kind.TheVariants as kinds
 use Rattle.bufr_tables.specs.Elements.{same_kind}
 use Rattle.bufr_expand.specs.declared.operators.Spec.{Spec}
-use Rattle.bufr_data.specs.declared.field.Raw.{Raw}
-use Rattle.bufr_data.specs.declared.field.Raw.TheVariants.{Number, Text}
-use Rattle.bufr_data.specs.declared.fault.ReadFault.{ReadFault}
-use Rattle.bufr_data.specs.declared.fault.ReadFault.TheVariants as faults
+use Rattle.bufr_fields.specs.declared.field.Raw.{Raw}
+use Rattle.bufr_fields.specs.declared.field.Raw.TheVariants.{Number, Text}
+use Rattle.bufr_fields.specs.declared.fault.ReadFault.{ReadFault}
+use Rattle.bufr_fields.specs.declared.fault.ReadFault.TheVariants as faults
 use Rattle.bufr_data.specs.Plain.{raw_at_by, raw_at, field_number_at}
 use Rattle.bufr_data.specs.Compressed.Reading.{or_ends, raised, all_raised, all_equal, count_of, filled}
 use Rattle.bufr_data.specs.Compressed.Reading.{texts_at, values_at, column_at, agreeing}
 use Rattle.bufr_data.specs.Compressed.Passed.{head_at, PassesColumn, PassesFactor, AreRaised, agreed_at}
 use Rattle.bufr_data.proofs.CompressedFacts.Walks.{agreeing_again, all_equal_again, all_equal_is}
 use Rattle.std.proofs.Math.Arith.{lt_of_le-ne}
-use Rattle.bufr_data.specs.FormLaws.{same_kind_is}
+use Rattle.bufr_fields.specs.FormLaws.{same_kind_is}
 use Rattle.bufr_data.proofs.CompressedFacts.Indexed.{next_times}
 use Rattle.bufr_data.proofs.ListFacts.{all_replicated}
 

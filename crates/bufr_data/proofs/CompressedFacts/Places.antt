@@ -18,13 +18,13 @@ use Rattle.bufr_expand.specs.declared.walk.Walk.{Walk}
 use Rattle.bufr_expand.specs.declared.walk.WalkFault.{WalkFault}
 use Rattle.bufr_expand.specs.Courses.{Course, asks}
 use Rattle.bufr_expand.specs.Walks.{left, items_met, Goes, Counted, IsBelowCount}
-use Rattle.bufr_data.specs.declared.field.Raw.{Raw}
-use Rattle.bufr_data.specs.declared.field.Subset.{Subset}
-use Rattle.bufr_data.specs.declared.fault.ReadFault.{ReadFault}
-use Rattle.bufr_data.specs.declared.fault.ReadFault.TheVariants as faults
+use Rattle.bufr_fields.specs.declared.field.Raw.{Raw}
+use Rattle.bufr_fields.specs.declared.field.Subset.{Subset}
+use Rattle.bufr_fields.specs.declared.fault.ReadFault.{ReadFault}
+use Rattle.bufr_fields.specs.declared.fault.ReadFault.TheVariants as faults
 use Rattle.bufr_data.specs.declared.compressed.index.Place.{Place}
 use Rattle.bufr_data.specs.Plain.{raw_bits, stopped}
-use Rattle.bufr_data.specs.Steady.{IsReady}
+use Rattle.bufr_fields.specs.Steady.{IsReady}
 use Rattle.bufr_data.specs.Compressed.{Column, subset_of, subsets_from, IsColumn, equal}
 use Rattle.bufr_data.specs.Compressed.{numbers as number_column, texts as text_column}
 use Rattle.bufr_data.specs.Compressed.Reading.{column_at, agreeing, count_of, ColumnsFound, within_limit}
@@ -34,12 +34,12 @@ use Rattle.bufr_data.specs.Compressed.Indexed.{values_of, column_from, behind_co
 use Rattle.bufr_bits.specs.NumberLaws.{length-fields}
 use Rattle.bufr_data.proofs.KindFacts.{kinds_differ}
 use Rattle.bufr_data.proofs.ListFacts.{map_grown}
-use Rattle.bufr_data.proofs.StepFacts.{Asks, GoesOn, field_goes, count_goes}
+use Rattle.bufr_fields.specs.StepLaws.{Asks, GoesOn, field_goes, count_goes, asks_field, asks_count}
+use Rattle.bufr_fields.specs.StepLaws.{ends_there, stops_there}
 use Rattle.bufr_data.proofs.CompressedFacts.{column_found, column_again}
 use Rattle.bufr_data.proofs.AnswerFacts.{guard_err}
 use Rattle.bufr_data.proofs.CompressedFacts.Walks.{agreed_found, agreeing_again}
-use Rattle.bufr_data.specs.Limits.{most_values}
-use Rattle.bufr_data.specs.StepLaws.{asks_field, asks_count, ends_there, stops_there}
+use Rattle.bufr_fields.specs.Limits.{most_values}
 
 -- ---- the column at a place
 

@@ -18,11 +18,12 @@ use Rattle.bufr_bits.specs.Bits.{bin, number_at, numbers_at}
 use Rattle.bufr_bits.specs.BitLaws.{number_at-bin}
 use Rattle.bufr_expand.specs.declared.operators.Spec.{Spec}
 use Rattle.bufr_expand.specs.Courses.{Course, ends, stops, asks}
-use Rattle.bufr_data.specs.declared.field.Raw.{Raw}
-use Rattle.bufr_data.specs.declared.field.Raw.TheVariants.{Number, Text}
-use Rattle.bufr_data.specs.declared.fault.ReadFault.{ReadFault}
-use Rattle.bufr_data.specs.declared.fault.ReadFault.TheVariants as faults
-use Rattle.bufr_data.specs.Plain.{raw_at, number_of}
+use Rattle.bufr_fields.specs.declared.field.Raw.{Raw}
+use Rattle.bufr_fields.specs.declared.field.Raw.TheVariants.{Number, Text}
+use Rattle.bufr_fields.specs.declared.fault.ReadFault.{ReadFault}
+use Rattle.bufr_fields.specs.declared.fault.ReadFault.TheVariants as faults
+use Rattle.bufr_data.specs.Plain.{raw_at}
+use Rattle.bufr_fields.specs.Forms.{number_of}
 use Rattle.bufr_data.specs.Compressed.{IsColumn, Column, HaveOneCount, AreColumns, field_of}
 use Rattle.bufr_data.specs.Compressed.Reading.{or_ends, raised, value_then, all_raised, texts_at}
 use Rattle.bufr_data.specs.Compressed.Reading.{values_at, column_at, all_equal, agreeing, count_of}
@@ -31,16 +32,16 @@ use Rattle.bufr_data.specs.Compressed.Causes.{Heads, Increments, Texts, HasValue
 use Rattle.bufr_data.specs.Compressed.Causes.{wide_texts, no_increments, no_texts, passes, unequal}
 use Rattle.bufr_data.proofs.CompressedFacts.Courses.{NoneByCourse, RefusedByCourse}
 use Rattle.bufr_data.proofs.PlainFacts.Refusals.{stop_is, stop_again}
-use Rattle.bufr_data.specs.Plain.Refusals.{Passes}
+use Rattle.bufr_fields.specs.Asked.{Passes}
 use Rattle.bufr_data.proofs.CompressedFacts.{texts_at_found, texts_again, column_found, column_again}
 use Rattle.bufr_data.proofs.CompressedFacts.{ColumnFound}
 use Rattle.bufr_data.proofs.CompressedFacts.{or_ends_ok, head_read, heads_found, head_at}
 use Rattle.bufr_bits.specs.NumberLaws.{numbers_at_again, numbers_at_found}
 use Rattle.bufr_data.proofs.CompressedFacts.Walks.{all_equal_is, all_equal_again, column_form, count_is}
 use Rattle.bufr_data.proofs.CompressedFacts.Walks.{agreed_found, agreeing_again}
-use Rattle.bufr_data.specs.Limits.{most_values}
-use Rattle.bufr_data.specs.Fits.{HasForm}
-use Rattle.bufr_data.specs.FormLaws.{same_kind_is}
+use Rattle.bufr_fields.specs.Limits.{most_values}
+use Rattle.bufr_fields.specs.Fits.{HasForm}
+use Rattle.bufr_fields.specs.FormLaws.{same_kind_is}
 use Rattle.bufr_data.proofs.AnswerFacts.{guard_err}
 use Rattle.bufr_data.proofs.ListFacts.{all_at}
 

@@ -7,11 +7,11 @@ use Rattle.std.specs.List.{list_all}
 use Rattle.std.proofs.lemmas.List.{drop-drop, drop_all, take_all}
 use Rattle.std.proofs.lemmas.List.Folds.{list_all-map, list_all_at, list_all_more}
 use Rattle.std.proofs.lemmas.Option.{slice_get_within, get_or_from_slice_get}
-use Rattle.bufr_data.specs.declared.field.Raw.{Raw}
-use Rattle.bufr_data.specs.declared.field.Field.{Field}
-use Rattle.bufr_data.specs.declared.field.Subset.{Subset}
-use Rattle.bufr_data.specs.declared.fault.WriteFault.{WriteFault}
-use Rattle.bufr_data.specs.declared.fault.WriteFault.TheVariants as misfits
+use Rattle.bufr_fields.specs.declared.field.Raw.{Raw}
+use Rattle.bufr_fields.specs.declared.field.Field.{Field}
+use Rattle.bufr_fields.specs.declared.field.Subset.{Subset}
+use Rattle.bufr_fields.specs.declared.fault.WriteFault.{WriteFault}
+use Rattle.bufr_fields.specs.declared.fault.WriteFault.TheVariants as misfits
 use Rattle.bufr_data.specs.Compressed.{Column}
 use Rattle.bufr_data.specs.Compressed.Best.{can_be_column, begins_like, first_raw, is_empty, column_or}
 use Rattle.bufr_data.specs.Compressed.Best.{columns_of}

@@ -2,7 +2,7 @@
 use Rattle.std.proofs.Common.{◌≡◌, ℕ, zero, suc, ◌+◌, ◌<◌, List, length, Some, Result, Ok, Err, sym}
 use Rattle.std.proofs.Common.{ap, ◌∙◌, arith}
 use Rattle.std.specs.Prelude.{slice_get, IfOk}
-use Rattle.bufr_data.specs.declared.field.Subset.{Subset}
+use Rattle.bufr_fields.specs.declared.field.Subset.{Subset}
 use Rattle.bufr_data.specs.declared.subset_index.DataIndex.{DataIndex}
 use Rattle.bufr_data.specs.declared.subset_index.DataIndex.TheVariants.{Compressed}
 use Rattle.bufr_data.specs.Compressed.{Column, subset_of, subsets_from}

@@ -14,12 +14,13 @@ use Rattle.bufr_tables.specs.declared.element.Kind.TheVariants as kinds
 use Rattle.bufr_tables.specs.Elements.{same_kind}
 use Rattle.bufr_answers.specs.AnswerLaws.{ok_value}
 use Rattle.bufr_expand.specs.declared.operators.Spec.{Spec}
-use Rattle.bufr_data.specs.declared.field.Raw.{Raw}
-use Rattle.bufr_data.specs.declared.field.Raw.TheVariants.{Number, Text}
+use Rattle.bufr_fields.specs.declared.field.Raw.{Raw}
+use Rattle.bufr_fields.specs.declared.field.Raw.TheVariants.{Number, Text}
 use Rattle.bufr_data.specs.declared.compressed.index.Place.{Place}
-use Rattle.bufr_data.specs.Plain.{has_form_by, field_number_at}
-use Rattle.bufr_data.specs.Fits.{HasForm}
-use Rattle.bufr_data.specs.FormLaws.{form_passes}
+use Rattle.bufr_fields.specs.Forms.{has_form_by}
+use Rattle.bufr_data.specs.Plain.{field_number_at}
+use Rattle.bufr_fields.specs.Fits.{HasForm}
+use Rattle.bufr_fields.specs.FormLaws.{form_passes}
 use Rattle.bufr_data.specs.Compressed.{IsColumn}
 use Rattle.bufr_data.specs.Compressed.Reading.{filled}
 use Rattle.bufr_data.specs.Compressed.Indexed.{values_of, read_at, Opens, one_behind, one_at}

@@ -14,11 +14,11 @@ use Rattle.bufr_tables.specs.Elements.{same_kind}
 use Rattle.bufr_answers.specs.AnswerLaws.{bind_ok, guard_ok as guarded, ok_is, not_false}
 use Rattle.bufr_expand.specs.declared.operators.Spec.{Spec}
 use Rattle.bufr_expand.specs.Courses.{Course, ends, stops, asks}
-use Rattle.bufr_data.specs.declared.field.Raw.{Raw}
-use Rattle.bufr_data.specs.declared.field.Raw.TheVariants.{Number, Text}
-use Rattle.bufr_data.specs.declared.fault.ReadFault.TheVariants as faults
-use Rattle.bufr_data.specs.Plain.{number_of, matches_spec, items_of}
-use Rattle.bufr_data.specs.Fits.{HasForm, of_text, of_number}
+use Rattle.bufr_fields.specs.declared.field.Raw.{Raw}
+use Rattle.bufr_fields.specs.declared.field.Raw.TheVariants.{Number, Text}
+use Rattle.bufr_fields.specs.declared.fault.ReadFault.TheVariants as faults
+use Rattle.bufr_fields.specs.Forms.{number_of, matches_spec, items_of}
+use Rattle.bufr_fields.specs.Fits.{HasForm, of_text, of_number}
 use Rattle.bufr_expand.specs.Steady.{IsSteady}
 use Rattle.bufr_data.specs.Compressed.{HasIncrement, HasText, IsColumn, equal}
 use Rattle.bufr_data.specs.Compressed.{numbers as number_column, texts as text_column, above, missing}
@@ -26,13 +26,14 @@ use Rattle.bufr_data.specs.Compressed.{filled as is_filled, ones as ones_text, C
 use Rattle.bufr_data.specs.Compressed.{AreColumns, field_of}
 use Rattle.bufr_data.specs.Compressed.Reading.{column_at, same_raw, all_equal, agreeing, count_of}
 use Rattle.bufr_data.specs.Compressed.Reading.{ColumnsFound, columns_at}
-use Rattle.bufr_data.proofs.PlainFacts.{guard_ok, not_stopped}
+use Rattle.bufr_fields.specs.FitLaws.{guard_ok}
+use Rattle.bufr_data.proofs.PlainFacts.{not_stopped}
 use Rattle.std.proofs.lemmas.Nat.{pow_pos}
 use Rattle.bufr_data.proofs.CompressedFacts.{column_again, column_found, ColumnFound, pairwise_other}
 use Rattle.bufr_data.proofs.KindFacts.{kinds_differ}
 use Rattle.bufr_data.proofs.ListFacts.{all_at, all_joined, all_replicated}
-use Rattle.bufr_data.specs.Limits.{most_values}
-use Rattle.bufr_data.specs.FormLaws.{asked_is, asked_passes, same_kind_is}
+use Rattle.bufr_fields.specs.Limits.{most_values}
+use Rattle.bufr_fields.specs.FormLaws.{asked_is, asked_passes, same_kind_is}
 
 -- ---- the values of a column have its form
 

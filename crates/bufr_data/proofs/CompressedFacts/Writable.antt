@@ -7,18 +7,18 @@ use Rattle.std.proofs.lemmas.List.{length-map}
 use Rattle.bufr_tables.specs.declared.element.Kind.TheVariants as kinds
 use Rattle.bufr_tables.specs.Elements.{same_kind}
 use Rattle.bufr_expand.specs.Trees.{Tree}
-use Rattle.bufr_data.specs.declared.field.Field.{Field}
-use Rattle.bufr_data.specs.declared.field.Subset.{Subset}
+use Rattle.bufr_fields.specs.declared.field.Field.{Field}
+use Rattle.bufr_fields.specs.declared.field.Subset.{Subset}
 use Rattle.bufr_data.specs.Compressed.{Column, HaveOneCount, AreColumns, field_of, subsets_from}
 use Rattle.bufr_data.specs.Compressed.Best.{widest, can_be_column, CanBeWritten, best_bits}
 use Rattle.bufr_data.specs.Compressed.Causes.{same, narrow}
 use Rattle.bufr_data.specs.Data.{PackedDataCanBeBare, NarrowDataCanBePacked}
 use Rattle.bufr_data.proofs.CompressedFacts.Misfits.{can_passes}
 use Rattle.std.proofs.lemmas.Bool.{cases_Bool}
-use Rattle.bufr_data.specs.FormLaws.{same_kind_is}
+use Rattle.bufr_fields.specs.FormLaws.{same_kind_is}
 use Rattle.bufr_data.proofs.KindFacts.{kinds_differ}
 use Rattle.bufr_data.proofs.CompressedFacts.Packed.{cons_head}
-use Rattle.bufr_data.specs.Limits.{most_values}
+use Rattle.bufr_fields.specs.Limits.{most_values}
 
 -- columns of the same subsets are as many
 as_many : (s : Subset) (subsets : List Subset) (n m : ℕ) (a b : List Column)

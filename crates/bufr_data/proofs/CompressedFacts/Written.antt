@@ -8,22 +8,22 @@ use Rattle.std.proofs.lemmas.Bool.{and_from, le-ltb, ltb-false, eq-eqb}
 use Rattle.std.proofs.lemmas.List.{at_drop_more, drop_all, length-map}
 use Rattle.bufr_answers.specs.AnswerLaws.{bind_ok, guard_ok, ok_is}
 use Rattle.bufr_expand.specs.Trees.{Tree}
-use Rattle.bufr_data.specs.declared.field.Raw.{Raw}
-use Rattle.bufr_data.specs.declared.field.Raw.TheVariants.{Number}
-use Rattle.bufr_data.specs.declared.field.Field.{Field}
-use Rattle.bufr_data.specs.declared.field.Subset.{Subset}
-use Rattle.bufr_data.specs.Plain.{same_spec}
+use Rattle.bufr_fields.specs.declared.field.Raw.{Raw}
+use Rattle.bufr_fields.specs.declared.field.Raw.TheVariants.{Number}
+use Rattle.bufr_fields.specs.declared.field.Field.{Field}
+use Rattle.bufr_fields.specs.declared.field.Subset.{Subset}
+use Rattle.bufr_fields.specs.Forms.{same_spec}
 use Rattle.bufr_data.specs.Compressed.{Column, field_of, subsets_from}
 use Rattle.bufr_data.specs.Compressed.Best.{can_be_column, begins_like, first_raw, is_empty, columns_of}
 use Rattle.bufr_data.specs.Compressed.Best.{columns_of_all, packed, best_bits, CanBeWritten}
 use Rattle.bufr_data.specs.Compressed.Best.{AreBestColumns}
-use Rattle.bufr_data.specs.Fits.{FitsAlone}
+use Rattle.bufr_fields.specs.Fits.{FitsAlone}
 use Rattle.bufr_data.specs.Data.{each_fits, written_bits}
-use Rattle.bufr_data.proofs.FitFacts.{fitting_counted}
+use Rattle.bufr_fields.specs.FitLaws.{fitting_counted}
 use Rattle.bufr_data.proofs.CompressedFacts.Packed.{taken, none_taken, column_passes, columns_whole, each_fit}
-use Rattle.bufr_data.specs.Limits.{most_values}
-use Rattle.bufr_data.specs.FormLaws.{spec_is_same}
-use Rattle.bufr_data.specs.CourseLaws.{AreUnrolled, AreAllowed}
+use Rattle.bufr_fields.specs.Limits.{most_values}
+use Rattle.bufr_fields.specs.FormLaws.{spec_is_same}
+use Rattle.bufr_fields.specs.CourseLaws.{AreUnrolled, AreAllowed}
 
 -- ---- subsets of columns have these columns
 

@@ -18,15 +18,16 @@ use Rattle.bufr_expand.specs.declared.run.Run.{Run}
 use Rattle.bufr_expand.specs.Runs.{HasWidth, AddUp, PassesRun, after_joined}
 use Rattle.bufr_expand.specs.Walks.{left, items_met, Goes}
 use Rattle.bufr_data.specs.declared.plain.alike.Alike.{Alike}
-use Rattle.bufr_data.specs.declared.field.Field.{Field}
+use Rattle.bufr_fields.specs.declared.field.Field.{Field}
 use Rattle.bufr_data.specs.Plain.Alike.{TakesBits, TakeAll, IsAlike}
-use Rattle.bufr_data.specs.declared.fault.ReadFault.{ReadFault}
-use Rattle.bufr_data.specs.FormLaws.{same_kind_is}
-use Rattle.bufr_data.specs.Steady.{IsReady, WalkAdvances}
-use Rattle.bufr_data.specs.Plain.{SubsetRead, number_of, fields_at}
+use Rattle.bufr_fields.specs.declared.fault.ReadFault.{ReadFault}
+use Rattle.bufr_fields.specs.FormLaws.{same_kind_is}
+use Rattle.bufr_fields.specs.Steady.{IsReady, WalkAdvances}
+use Rattle.bufr_data.specs.Plain.{SubsetRead, fields_at}
+use Rattle.bufr_fields.specs.Forms.{number_of}
 use Rattle.bufr_data.specs.Plain.Reads.{behind_fields}
 use Rattle.bufr_data.specs.Plain.Starts.{PassesFields, PassesSubset}
-use Rattle.bufr_data.specs.StepLaws.{asks_field}
+use Rattle.bufr_fields.specs.StepLaws.{asks_field}
 use Rattle.bufr_data.proofs.PlainFacts.Passed.{text_passes, text_ends, number_passes, number_ends}
 use Rattle.bufr_data.proofs.PlainFacts.Reads.{asked_field, found_is, behind_none}
 use Rattle.bufr_data.proofs.KindFacts.{kinds_differ}

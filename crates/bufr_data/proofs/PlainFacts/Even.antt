@@ -15,7 +15,7 @@ use Rattle.bufr_expand.specs.Limits.{most_items}
 use Rattle.bufr_expand.specs.Trees.{Tree}
 use Rattle.bufr_expand.specs.Unrolling.{Told, Allows, Unrolls}
 use Rattle.bufr_data.specs.declared.plain.alike.Alike.{Alike}
-use Rattle.bufr_data.specs.declared.fault.ReadFault.{ReadFault}
+use Rattle.bufr_fields.specs.declared.fault.ReadFault.{ReadFault}
 use Rattle.bufr_data.specs.declared.plain.index.SubsetStart.{SubsetStart}
 use Rattle.bufr_data.specs.declared.plain.starts.Spacing.{Spacing}
 use Rattle.bufr_data.specs.declared.plain.starts.Spacing.TheVariants.{Even}

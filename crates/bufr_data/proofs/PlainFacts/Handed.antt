@@ -8,14 +8,15 @@ use Rattle.bufr_expand.specs.declared.walk.Walk.{Walk}
 use Rattle.bufr_expand.specs.Courses.{Course, ends, stops, asks}
 use Rattle.bufr_expand.specs.Walks as walks
 use Rattle.bufr_bits.specs.Ends.{BitPlace, left}
-use Rattle.bufr_data.specs.declared.field.Raw.{Raw}
-use Rattle.bufr_data.specs.declared.field.Field.{Field}
-use Rattle.bufr_data.specs.declared.fault.ReadFault.{ReadFault}
-use Rattle.bufr_data.specs.Plain.{SubsetRead, raw_at, number_of, field_then, fields_at}
+use Rattle.bufr_fields.specs.declared.field.Raw.{Raw}
+use Rattle.bufr_fields.specs.declared.field.Field.{Field}
+use Rattle.bufr_fields.specs.declared.fault.ReadFault.{ReadFault}
+use Rattle.bufr_data.specs.Plain.{SubsetRead, raw_at, field_then, fields_at}
+use Rattle.bufr_fields.specs.Forms.{number_of}
 use Rattle.bufr_data.specs.Plain.Reads.{behind_fields}
 use Rattle.bufr_data.specs.Plain.Starts.{fields_of}
 use Rattle.bufr_data.specs.Handed.{fields_ahead, StandAhead}
-use Rattle.bufr_data.specs.Steady.{WalkAdvances}
+use Rattle.bufr_fields.specs.Steady.{WalkAdvances}
 
 -- what is found behind one is found behind the other
 then_same : (f : SubsetRead → SubsetRead) (one other : Result SubsetRead ReadFault)

@@ -17,13 +17,14 @@ use Rattle.bufr_expand.specs.Limits.{most_items}
 use Rattle.bufr_expand.specs.Runs.{after_joined}
 use Rattle.bufr_expand.specs.Steady.{IsSteady, course_steady}
 use Rattle.bufr_expand.specs.Walks.{left, items_met, Goes}
-use Rattle.bufr_data.specs.declared.field.Raw.{Raw}
-use Rattle.bufr_data.specs.declared.field.Field.{Field}
-use Rattle.bufr_data.specs.declared.fault.ReadFault.{ReadFault}
+use Rattle.bufr_fields.specs.declared.field.Raw.{Raw}
+use Rattle.bufr_fields.specs.declared.field.Field.{Field}
+use Rattle.bufr_fields.specs.declared.fault.ReadFault.{ReadFault}
 use Rattle.bufr_data.specs.declared.plain.index.SubsetStart.{SubsetStart}
 use Rattle.bufr_data.specs.declared.plain.layout.LaidField.{LaidField}
 use Rattle.bufr_data.specs.declared.plain.layout.Layout.{Layout}
-use Rattle.bufr_data.specs.Plain.{SubsetRead, raw_at, number_of, field_then, fields_at}
+use Rattle.bufr_data.specs.Plain.{SubsetRead, raw_at, field_then, fields_at}
+use Rattle.bufr_fields.specs.Forms.{number_of}
 use Rattle.bufr_data.specs.Plain.Layouts.{laid_course, told_laid, HaveNoCount, IsLaid}
 use Rattle.bufr_bits.specs.Bits.{bits}
 use Rattle.bufr_bits.specs.Ends as ends_of
@@ -31,7 +32,7 @@ use Rattle.bufr_bits.specs.Ends.{BitPlace}
 use Rattle.bufr_data.specs.Handed.{fields_laid, StandLaid, FirstIsAsked, PassesLaid, moved_on}
 use Rattle.bufr_data.specs.Plain.Reads.{raw_or_ends, behind_fields}
 use Rattle.bufr_data.specs.Plain.Starts.{PassesRaw, fields_of, subset_at, BeginsAtStart}
-use Rattle.bufr_data.specs.StepLaws.{asks_field, ends_there}
+use Rattle.bufr_fields.specs.StepLaws.{asks_field, ends_there}
 use Rattle.bufr_data.proofs.AskedFacts.{one_passed, asked_from}
 use Rattle.bufr_data.proofs.ListFacts.{all_grown, map_grown}
 use Rattle.bufr_data.proofs.PlainFacts.Handed.{Handed, field_handed}

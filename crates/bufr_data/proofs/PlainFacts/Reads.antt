@@ -11,13 +11,13 @@ use Rattle.bufr_expand.specs.declared.walk.Walk.{Walk}
 use Rattle.bufr_expand.specs.declared.walk.WalkFault.{WalkFault}
 use Rattle.bufr_expand.specs.Courses.{Course, asks}
 use Rattle.bufr_expand.specs.Walks.{left, items_met, Goes, IsBelowCount}
-use Rattle.bufr_data.specs.declared.field.Raw.{Raw}
-use Rattle.bufr_data.specs.declared.field.Field.{Field}
-use Rattle.bufr_data.specs.declared.fault.ReadFault.{ReadFault}
-use Rattle.bufr_data.specs.Plain.{SubsetRead, raw_at, number_of, stopped, fields_at}
+use Rattle.bufr_fields.specs.declared.field.Raw.{Raw}
+use Rattle.bufr_fields.specs.declared.field.Field.{Field}
+use Rattle.bufr_fields.specs.declared.fault.ReadFault.{ReadFault}
+use Rattle.bufr_data.specs.Plain.{SubsetRead, raw_at, stopped, fields_at}
+use Rattle.bufr_fields.specs.Forms.{number_of}
 use Rattle.bufr_data.specs.Plain.Reads.{raw_or_ends, behind_fields}
-use Rattle.bufr_data.specs.StepLaws.{ends_there, stops_there, count_fits}
-use Rattle.bufr_data.proofs.StepFacts.{Asks, GoesOn}
+use Rattle.bufr_fields.specs.StepLaws.{ends_there, stops_there, count_fits, Asks, GoesOn}
 use Rattle.bufr_data.proofs.PlainFacts.{raw_read}
 
 -- ---- reading

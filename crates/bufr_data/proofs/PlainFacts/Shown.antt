@@ -4,8 +4,8 @@ use Rattle.std.proofs.Common.{◌≡◌, ℕ, List, map, Some, sym, ap, subst, �
 use Rattle.std.specs.Prelude.{slice_get, option_map}
 use Rattle.std.proofs.lemmas.Option.{get_or_from_slice_get, slice_get_within, slice_get-map}
 use Rattle.bufr_expand.specs.Trees.{Tree}
-use Rattle.bufr_data.specs.declared.field.Field.{Field}
-use Rattle.bufr_data.specs.declared.field.Subset.{Subset}
+use Rattle.bufr_fields.specs.declared.field.Field.{Field}
+use Rattle.bufr_fields.specs.declared.field.Subset.{Subset}
 use Rattle.bufr_data.specs.declared.plain.index.SubsetStart.{SubsetStart}
 use Rattle.bufr_data.specs.Plain.Starts.{fields_of, subset_at, subset_from, BeginsAtStart, AllBegin}
 use Rattle.bufr_data.proofs.ListFacts.{all_at}

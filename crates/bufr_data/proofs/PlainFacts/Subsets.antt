@@ -9,11 +9,12 @@ use Rattle.bufr_expand.specs.declared.operators.Spec.{Spec}
 use Rattle.bufr_expand.specs.declared.walk.WalkFault.{WalkFault}
 use Rattle.bufr_expand.specs.declared.walk.WalkFault.TheVariants as walks
 use Rattle.bufr_expand.specs.Courses.{Course, ends, stops, asks}
-use Rattle.bufr_data.specs.declared.field.Raw.{Raw}
-use Rattle.bufr_data.specs.declared.field.Subset.{Subset}
-use Rattle.bufr_data.specs.declared.fault.ReadFault.{ReadFault}
-use Rattle.bufr_data.specs.Plain.{SubsetRead, SubsetsRead, raw_at, number_of, field_then, stopped}
-use Rattle.bufr_data.specs.Plain.{fields_at, subsets_at}
+use Rattle.bufr_fields.specs.declared.field.Raw.{Raw}
+use Rattle.bufr_fields.specs.declared.field.Subset.{Subset}
+use Rattle.bufr_fields.specs.declared.fault.ReadFault.{ReadFault}
+use Rattle.bufr_data.specs.Plain.{SubsetRead, SubsetsRead, raw_at, field_then, stopped, fields_at}
+use Rattle.bufr_data.specs.Plain.{subsets_at}
+use Rattle.bufr_fields.specs.Forms.{number_of}
 use Rattle.bufr_data.specs.Plain.Numbered.{failure_of_subset, numbered, after}
 
 -- ---- the number of a subset is told by its faults alone

@@ -11,16 +11,17 @@ use Rattle.bufr_tables.specs.declared.element.Kind.{Kind}
 use Rattle.bufr_tables.specs.declared.element.Kind.TheVariants as kinds
 use Rattle.bufr_tables.specs.Elements.{same_kind}
 use Rattle.bufr_expand.specs.declared.operators.Spec.{Spec}
-use Rattle.bufr_data.specs.declared.field.Raw.{Raw}
-use Rattle.bufr_data.specs.declared.field.Raw.TheVariants.{Number, Text}
-use Rattle.bufr_data.specs.declared.field.Field.{Field}
-use Rattle.bufr_data.specs.declared.field.Subset.{Subset}
-use Rattle.bufr_data.specs.declared.fault.WriteFault.{WriteFault}
-use Rattle.bufr_data.specs.declared.fault.WriteFault.TheVariants as misfits
-use Rattle.bufr_data.specs.Plain.{raw_bits, number_of, same_spec}
+use Rattle.bufr_fields.specs.declared.field.Raw.{Raw}
+use Rattle.bufr_fields.specs.declared.field.Raw.TheVariants.{Number, Text}
+use Rattle.bufr_fields.specs.declared.field.Field.{Field}
+use Rattle.bufr_fields.specs.declared.field.Subset.{Subset}
+use Rattle.bufr_fields.specs.declared.fault.WriteFault.{WriteFault}
+use Rattle.bufr_fields.specs.declared.fault.WriteFault.TheVariants as misfits
+use Rattle.bufr_data.specs.Plain.{raw_bits}
+use Rattle.bufr_fields.specs.Forms.{number_of, same_spec}
 use Rattle.bufr_data.specs.Compressed.{Column, subsets_from}
 use Rattle.bufr_data.specs.Compressed.Reading.{all_equal}
-use Rattle.bufr_data.specs.Limits.{most_values, most_increment_bits}
+use Rattle.bufr_fields.specs.Limits.{most_values, most_increment_bits}
 
 -- ---- the bits that are written
 

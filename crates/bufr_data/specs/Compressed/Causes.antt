@@ -10,20 +10,21 @@ use Rattle.bufr_expand.specs.declared.operators.Spec.{Spec}
 use Rattle.bufr_expand.specs.Trees.{Tree}
 use Rattle.bufr_expand.specs.Unrolling.{Told}
 use Rattle.bufr_expand.specs.NextFields.{Next, wants, lacks, BeginsWithin, PassesLimit}
-use Rattle.bufr_data.specs.declared.field.Raw.{Raw}
-use Rattle.bufr_data.specs.declared.field.Raw.TheVariants.{Number, Text}
-use Rattle.bufr_data.specs.declared.field.Subset.{Subset}
-use Rattle.bufr_data.specs.declared.fault.ReadFault.{ReadFault}
-use Rattle.bufr_data.specs.declared.fault.ReadFault.TheVariants as faults
+use Rattle.bufr_fields.specs.declared.field.Raw.{Raw}
+use Rattle.bufr_fields.specs.declared.field.Raw.TheVariants.{Number, Text}
+use Rattle.bufr_fields.specs.declared.field.Subset.{Subset}
+use Rattle.bufr_fields.specs.declared.fault.ReadFault.{ReadFault}
+use Rattle.bufr_fields.specs.declared.fault.ReadFault.TheVariants as faults
 use Rattle.bufr_data.specs.Plain.{raw_bits}
-use Rattle.bufr_data.specs.Fits.{HasForm, told_of, FitsAlone}
-use Rattle.bufr_data.specs.Causes.{Begin, FirstMisfit}
+use Rattle.bufr_fields.specs.Fits.{HasForm, told_of, FitsAlone}
+use Rattle.bufr_fields.specs.Asked.{Begin}
+use Rattle.bufr_data.specs.Causes.{FirstMisfit}
 use Rattle.bufr_data.specs.Compressed.{Column, IsColumn, AreColumns, field_of, subsets_from}
-use Rattle.bufr_data.specs.declared.field.Field.{Field}
-use Rattle.bufr_data.specs.declared.fault.WriteFault.{WriteFault}
-use Rattle.bufr_data.specs.declared.fault.WriteFault.TheVariants as misfits
+use Rattle.bufr_fields.specs.declared.field.Field.{Field}
+use Rattle.bufr_fields.specs.declared.fault.WriteFault.{WriteFault}
+use Rattle.bufr_fields.specs.declared.fault.WriteFault.TheVariants as misfits
 use Rattle.bufr_data.specs.Compressed.Best.{widest, first_raw, CanBeWritten}
-use Rattle.bufr_data.specs.Limits.{most_values, most_increment_bits}
+use Rattle.bufr_fields.specs.Limits.{most_values, most_increment_bits}
 
 -- ---- one column
 

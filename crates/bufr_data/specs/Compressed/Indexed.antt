@@ -7,11 +7,11 @@ use Rattle.bufr_bits.specs.Bits.{bits, number_at, octets_at}
 use Rattle.bufr_answers.specs.Answers.{result_map}
 use Rattle.bufr_expand.specs.Courses.{Course, course}
 use Rattle.bufr_expand.specs.Trees.{Tree}
-use Rattle.bufr_data.specs.declared.field.Raw.{Raw}
-use Rattle.bufr_data.specs.declared.field.Raw.TheVariants.{Number, Text}
+use Rattle.bufr_fields.specs.declared.field.Raw.{Raw}
+use Rattle.bufr_fields.specs.declared.field.Raw.TheVariants.{Number, Text}
 use Rattle.bufr_expand.specs.declared.operators.Spec.{Spec}
 use Rattle.bufr_data.specs.declared.compressed.index.Place.{Place}
-use Rattle.bufr_data.specs.declared.fault.ReadFault.{ReadFault}
+use Rattle.bufr_fields.specs.declared.fault.ReadFault.{ReadFault}
 use Rattle.bufr_data.specs.Plain.{raw_at}
 use Rattle.bufr_data.specs.Compressed.{Column}
 use Rattle.bufr_data.specs.Compressed.Reading.{ColumnsFound, raised, filled, column_at, columns_at}

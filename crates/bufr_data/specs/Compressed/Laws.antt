@@ -3,8 +3,8 @@ use Rattle.std.specs.Prelude.{◌≡◌, ℕ, ◌<◌, ◌≤◌, Bool, true, Li
 use Rattle.std.specs.List.{AllByRecursion}
 use Rattle.bufr_tables.specs.declared.element.Kind.TheVariants as kinds
 use Rattle.bufr_expand.specs.declared.operators.Spec.{Spec}
-use Rattle.bufr_data.specs.declared.field.Raw.{Raw}
-use Rattle.bufr_data.specs.Fits.{HasForm}
+use Rattle.bufr_fields.specs.declared.field.Raw.{Raw}
+use Rattle.bufr_fields.specs.Fits.{HasForm}
 use Rattle.bufr_data.specs.Compressed.{IsColumn}
 use Rattle.bufr_data.specs.Compressed.Reading.{column_at}
 use Rattle.bufr_data.specs.Compressed.Best.{best, can_be_column}

@@ -4,8 +4,8 @@ use Rattle.std.specs.Prelude.{◌≡◌, ℕ, Bool, List, Result, Ok}
 use Rattle.bufr_bits.specs.Bits.{number_at}
 use Rattle.bufr_answers.specs.Answers.{◌>>=◌}
 use Rattle.bufr_expand.specs.declared.operators.Spec.{Spec}
-use Rattle.bufr_data.specs.declared.field.Raw.{Raw}
-use Rattle.bufr_data.specs.declared.fault.ReadFault.{ReadFault}
+use Rattle.bufr_fields.specs.declared.field.Raw.{Raw}
+use Rattle.bufr_fields.specs.declared.fault.ReadFault.{ReadFault}
 use Rattle.bufr_data.specs.Plain.{field_number_at}
 use Rattle.bufr_data.specs.Compressed.Reading.{or_ends, all_raised, all_equal, count_of, column_at}
 use Rattle.bufr_data.specs.Compressed.Reading.{agreeing}

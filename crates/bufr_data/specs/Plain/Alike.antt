@@ -10,7 +10,7 @@ use Rattle.bufr_expand.specs.Unrolling.{Told, Allows}
 use Rattle.bufr_data.specs.declared.plain.alike.Alike.{Alike}
 use Rattle.bufr_data.specs.declared.plain.alike.Likeness.{Likeness}
 use Rattle.bufr_data.specs.declared.plain.alike.Likeness.TheVariants.{Unasked, Same, Varied}
-use Rattle.bufr_data.specs.declared.fault.ReadFault.TheVariants as faults
+use Rattle.bufr_fields.specs.declared.fault.ReadFault.TheVariants as faults
 use Rattle.bufr_data.specs.Plain.{raw_at}
 use Rattle.bufr_data.specs.Plain.Reads.{raw_or_ends}
 use Rattle.bufr_data.specs.Plain.Starts.{PassesRaw}

@@ -7,10 +7,10 @@ use Rattle.bufr_bits.specs.Bits.{bits}
 use Rattle.bufr_expand.specs.declared.operators.Spec.{Spec}
 use Rattle.bufr_expand.specs.Courses.{Course, course}
 use Rattle.bufr_expand.specs.Trees.{Tree}
-use Rattle.bufr_data.specs.declared.field.Raw.{Raw}
-use Rattle.bufr_data.specs.declared.field.Field.{Field}
-use Rattle.bufr_data.specs.declared.field.Subset.{Subset}
-use Rattle.bufr_data.specs.declared.fault.ReadFault.{ReadFault}
+use Rattle.bufr_fields.specs.declared.field.Raw.{Raw}
+use Rattle.bufr_fields.specs.declared.field.Field.{Field}
+use Rattle.bufr_fields.specs.declared.field.Subset.{Subset}
+use Rattle.bufr_fields.specs.declared.fault.ReadFault.{ReadFault}
 use Rattle.bufr_data.specs.declared.plain.index.SubsetStart.{SubsetStart}
 use Rattle.bufr_data.specs.Plain.{SubsetRead, raw_at, fields_at}
 use Rattle.bufr_data.specs.Plain.Reads.{raw_or_ends, behind_fields}

@@ -11,17 +11,16 @@ ghost use Rattle.bufr_data.specs.Compressed.Best.{first_raw, present, least, gre
 ghost use Rattle.bufr_data.specs.Compressed.Best.{octets_of, can_be_column};
 ghost use Rattle.bufr_data.specs.Compressed.Reading as reading;
 ghost use Rattle.bufr_data.specs.Compressed.Places.{rows_from, values_from, least_step, greatest_step};
-ghost use Rattle.bufr_data.specs.Plain.{has_form_by, number_of};
+ghost use Rattle.bufr_fields.specs.Forms.{has_form_by, number_of};
 ghost use Rattle.bufr_data.specs.Subsets.{Extends, have_form};
-ghost use Rattle.bufr_data.specs.Limits.{most_increment_bits};
+ghost use Rattle.bufr_fields.specs.Limits.{most_increment_bits};
 
 use crate::compressed::places::are_equal;
-use crate::field::{Field, Raw, Subset};
-use crate::form::is_greatest;
 use crate::plain::write::put_raw;
 use bufr_answers::OutOfMemory;
 use bufr_bits::BitSink;
 use bufr_expand::Spec;
+use bufr_fields::{Field, Raw, Subset, is_greatest};
 use bufr_tables::Kind;
 use std::alloc::Global;
 

@@ -7,11 +7,11 @@ ghost use Rattle.bufr_data.specs.Plain.{plain};
 ghost use Rattle.bufr_data.specs.Subsets.{Extends, has_own_form};
 
 use crate::compressed::index::{Place, value};
-use crate::field::Field;
 use crate::plain::write::put_raw;
 use bufr_answers::OutOfMemory;
 use bufr_bits::BitSink;
 use bufr_expand::Asks;
+use bufr_fields::Field;
 use std::alloc::Global;
 use std::marker::Model;
 
@@ -27,7 +27,7 @@ pub(crate) struct ColumnFields<'v> {
 
 impl<'v> Model for ColumnFields<'v> {
     ghost use Rattle.std.specs.Prelude.{List};
-    ghost use Rattle.bufr_data.specs.declared.field.Field.{Field};
+    ghost use Rattle.bufr_fields.specs.declared.field.Field.{Field};
     ghost use Rattle.bufr_data.specs.Handed.{fields_there, StandThere};
 
     ghost Value = { List Field };

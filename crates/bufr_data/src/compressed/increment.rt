@@ -1,12 +1,11 @@
 //! Increments of numbers in compressed data.
 
 ghost use Rattle.std.specs.Prelude.{◌≡◌, ◌≤◌, ◌<◌, ◌+◌, ◌^◌, option_map, IfSome, nat_lt};
-ghost use Rattle.bufr_data.specs.declared.field.Raw.TheVariants.{Number};
+ghost use Rattle.bufr_fields.specs.declared.field.Raw.TheVariants.{Number};
 ghost use Rattle.bufr_data.specs.Compressed.Reading as reading;
-ghost use Rattle.bufr_data.specs.Limits.{most_raw_bits};
+ghost use Rattle.bufr_fields.specs.Limits.{most_raw_bits};
 
-use crate::form::is_greatest;
-use crate::limits::MOST_RAW_BITS;
+use bufr_fields::{MOST_RAW_BITS, is_greatest};
 
 /// The number of an increment of `k` bits above a minimum in a field of so many bits: all ones
 /// where the increment is all ones. `None` where the sum passes the field's greatest number.

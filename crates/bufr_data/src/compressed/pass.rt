@@ -6,17 +6,16 @@ ghost use Rattle.bufr_bits.specs.Bits.{numbers};
 ghost use Rattle.bufr_bits.specs.Ends.{left};
 ghost use Rattle.bufr_tables.specs.declared.element.Kind.TheVariants.{Count, Text};
 ghost use Rattle.bufr_tables.specs.Elements.{same_kind};
-ghost use Rattle.bufr_data.specs.declared.field.Raw.{Raw};
+ghost use Rattle.bufr_fields.specs.declared.field.Raw.{Raw};
 ghost use Rattle.bufr_data.specs.Compressed.Reading.{column_at, all_raised};
 ghost use Rattle.bufr_data.specs.Compressed.Passed.{head_at, PassesColumn, PassesFactor, AreRaised};
 ghost use Rattle.bufr_data.specs.Compressed.Passed.{agreed_at};
-ghost use Rattle.bufr_data.specs.Limits.{most_raw_bits};
+ghost use Rattle.bufr_fields.specs.Limits.{most_raw_bits};
 
 use crate::compressed::increment::{never_passes, raised};
-use crate::fault::ReadFault;
-use crate::limits::MOST_RAW_BITS;
 use bufr_bits::BitReader;
 use bufr_expand::Spec;
+use bufr_fields::{MOST_RAW_BITS, ReadFault};
 use bufr_tables::Kind;
 
 /// Moves past the column of field `i` in `n` subsets, which is no factor. Where no column stands

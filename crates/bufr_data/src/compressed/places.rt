@@ -5,14 +5,11 @@ ghost use Rattle.std.specs.List.{list_all};
 ghost use Rattle.bufr_data.specs.Compressed.Best as best;
 ghost use Rattle.bufr_data.specs.Compressed.Best.{begins_like, first_raw, is_empty, columns_of};
 ghost use Rattle.bufr_data.specs.Compressed.Reading as reading;
-ghost use Rattle.bufr_data.specs.Plain.{same_spec};
+ghost use Rattle.bufr_fields.specs.Forms.{same_spec};
 ghost use Rattle.bufr_data.specs.Compressed.Places.{rows_from, values_from, columns_here};
 
-use crate::fault::WriteFault;
-use crate::field::{Field, Raw, Subset};
-use crate::form::is_same;
-use crate::limits::MOST_INCREMENT_BITS;
 use bufr_expand::Spec;
+use bufr_fields::{Field, MOST_INCREMENT_BITS, Raw, Subset, WriteFault, is_same};
 use bufr_tables::Kind;
 
 /// Nothing, where each place of the first subset's fields can stand in one column with those of the

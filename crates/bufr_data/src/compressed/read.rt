@@ -3,15 +3,14 @@
 ghost use Rattle.std.specs.Prelude.{◌≡◌, true, Bool, List, OnErr};
 ghost use Rattle.bufr_bits.specs.Ends.{left};
 ghost use Rattle.bufr_answers.specs.Answers.{Gives};
-ghost use Rattle.bufr_data.specs.declared.field.Subset.{Subset};
+ghost use Rattle.bufr_fields.specs.declared.field.Subset.{Subset};
 ghost use Rattle.bufr_data.specs.Data.{subsets_in};
 
 use crate::compressed::index::{Columns, all_subsets};
-use crate::fault::ReadFault;
-use crate::field::Subset;
 use bufr_answers::{Failure, Items};
 use bufr_bits::BitReader;
 use bufr_expand::Template;
+use bufr_fields::{ReadFault, Subset};
 use std::alloc::Global;
 
 /// Compressed subsets: so many, whose columns the bits begin with. The reader moves past exactly

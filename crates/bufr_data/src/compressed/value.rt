@@ -6,17 +6,15 @@ ghost use Rattle.bufr_bits.specs.Bits.{bits};
 ghost use Rattle.bufr_bits.specs.Ends.{left};
 ghost use Rattle.bufr_tables.specs.declared.element.Kind.TheVariants.{Text};
 ghost use Rattle.bufr_tables.specs.Elements.{same_kind};
-ghost use Rattle.bufr_data.specs.declared.field.Raw.TheVariants as raws;
+ghost use Rattle.bufr_fields.specs.declared.field.Raw.TheVariants as raws;
 ghost use Rattle.bufr_data.specs.Compressed.Reading as reading;
 ghost use Rattle.bufr_data.specs.Compressed.Indexed.{one_at};
 
 use crate::compressed::increment::raised;
-use crate::field::Raw;
-use crate::form::are_ones;
-use crate::limits::MOST_RAW_BITS;
 use bufr_answers::{Items, OutOfMemory};
 use bufr_bits::BitReader;
 use bufr_expand::Spec;
+use bufr_fields::{MOST_RAW_BITS, Raw, are_ones};
 use bufr_tables::Kind;
 use std::alloc::Global;
 

@@ -10,13 +10,10 @@ ghost use Rattle.bufr_data.specs.Subsets.{Appends, Extends, has_own_form};
 
 use crate::compressed::best::put_best;
 use crate::compressed::places::check_places;
-use crate::fault::WriteFault;
-use crate::field::{Field, Subset};
-use crate::fit::fit_fields;
-use crate::limits::MOST_VALUES;
 use bufr_answers::{Failure, OutOfMemory};
 use bufr_bits::BitSink;
 use bufr_expand::Template;
+use bufr_fields::{Field, MOST_VALUES, Subset, WriteFault, fit_fields};
 use std::alloc::Global;
 
 /// Puts the best column of each place of the subsets at the sink's end, one after the other. On an

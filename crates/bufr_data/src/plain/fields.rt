@@ -3,11 +3,11 @@
 ghost use Rattle.std.specs.Prelude.{IfOk};
 ghost use Rattle.bufr_data.specs.Handed.{HandsOut, HandsOutAsked};
 
-use crate::field::Field;
 use crate::plain::read::read_field;
 use bufr_answers::OutOfMemory;
 use bufr_bits::BitReader;
 use bufr_expand::{Asks, Walk};
+use bufr_fields::Field;
 use std::alloc::Global;
 use std::marker::Model;
 
@@ -21,7 +21,7 @@ pub(crate) struct PlainFields<'v> {
 
 impl<'v> Model for PlainFields<'v> {
     ghost use Rattle.std.specs.Prelude.{List};
-    ghost use Rattle.bufr_data.specs.declared.field.Field.{Field};
+    ghost use Rattle.bufr_fields.specs.declared.field.Field.{Field};
     ghost use Rattle.bufr_data.specs.Handed.{fields_ahead, StandAhead};
 
     ghost Value = { List Field };

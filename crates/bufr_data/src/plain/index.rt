@@ -5,13 +5,12 @@ ghost use Rattle.std.specs.Prelude.{Some, IfOk, IfErr, IfSome, OnErr};
 ghost use Rattle.bufr_bits.specs.Ends.{left};
 ghost use Rattle.bufr_answers.specs.Answers.{Gives, Fails};
 ghost use Rattle.bufr_expand.specs.Courses.{course};
-ghost use Rattle.bufr_data.specs.declared.field.Subset.{Subset};
+ghost use Rattle.bufr_fields.specs.declared.field.Subset.{Subset};
 ghost use Rattle.bufr_data.specs.Plain.Alike.{IsAlike};
 ghost use Rattle.bufr_data.specs.Data.{subsets_in};
 ghost use Rattle.bufr_data.specs.Plain.{fields_at};
 ghost use Rattle.bufr_data.specs.Plain.Starts.{PassesSubset, AllBegin, subset_from};
 
-use crate::fault::ReadFault;
 use crate::fields::{Fields, StandingFields};
 use crate::plain::alike::Alike;
 use crate::plain::fields::PlainFields;
@@ -25,6 +24,7 @@ use bufr_answers::{Failure, OutOfMemory};
 use bufr_bits::BitReader;
 use bufr_expand::laws::courses_are_unrollings;
 use bufr_expand::{MOST_ITEMS, Template, Walk};
+use bufr_fields::ReadFault;
 use std::alloc::Global;
 use std::marker::Model;
 use std::rc::Rc;
@@ -52,7 +52,7 @@ pub(crate) struct PlainSubsets<'a> {
 
 impl<'a> Model for PlainSubsets<'a> {
     ghost use Rattle.std.specs.Prelude.{List, map, IfSome};
-    ghost use Rattle.bufr_data.specs.declared.field.Subset.{Subset};
+    ghost use Rattle.bufr_fields.specs.declared.field.Subset.{Subset};
     ghost use Rattle.bufr_data.specs.Plain.Layouts.{IsLaid};
     ghost use Rattle.bufr_data.specs.Plain.Starts.{AllBegin, subset_from};
 

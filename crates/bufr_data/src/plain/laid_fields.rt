@@ -2,20 +2,21 @@
 
 ghost use Rattle.std.specs.Prelude.{◌≡◌, ◌≤◌, Bool, List, length, drop, Some, Ok, IfOk, IsOk, IfSome, IfNone};
 ghost use Rattle.bufr_bits.specs.Ends.{left};
-ghost use Rattle.bufr_data.specs.declared.field.Raw.TheVariants.{Number};
+ghost use Rattle.bufr_fields.specs.declared.field.Raw.TheVariants.{Number};
 ghost use Rattle.bufr_data.specs.Handed.{HandsOut, HandsOutAsked, FirstIsAsked, PassesUnasked};
-ghost use Rattle.bufr_data.specs.Handed.{PassesLaid, StandLaid, fields_laid, moved_on, as_field};
+ghost use Rattle.bufr_data.specs.Handed.{PassesLaid, StandLaid, fields_laid, moved_on};
+ghost use Rattle.bufr_fields.specs.Values.{as_field};
 ghost use Rattle.bufr_data.specs.Plain.{raw_at};
 ghost use Rattle.bufr_data.specs.Plain.Reads.{raw_or_ends};
 ghost use Rattle.bufr_data.specs.Plain.Starts.{PassesRaw};
 
-use crate::field::{Field, NumberField};
 use crate::plain::layout::LaidField;
 use crate::plain::pass::bits_of;
 use crate::plain::read::read_raw;
 use bufr_answers::OutOfMemory;
 use bufr_bits::BitReader;
 use bufr_expand::{Asks, Spec};
+use bufr_fields::{Field, NumberField};
 use bufr_tables::Kind;
 use std::alloc::Global;
 use std::marker::Model;
@@ -30,7 +31,7 @@ pub struct LaidFields<'v> {
 
 impl<'v> Model for LaidFields<'v> {
     ghost use Rattle.std.specs.Prelude.{List};
-    ghost use Rattle.bufr_data.specs.declared.field.Field.{Field};
+    ghost use Rattle.bufr_fields.specs.declared.field.Field.{Field};
     ghost use Rattle.bufr_data.specs.Handed.{fields_laid, StandLaid};
 
     ghost Value = { List Field };

@@ -5,7 +5,7 @@ ghost use Rattle.std.specs.Prelude.{◌≡◌, ◌+◌, ◌≤◌, IfOk, IfSome}
 ghost use Rattle.std.specs.Bool.{OnTrue};
 ghost use Rattle.bufr_expand.specs.Limits.{most_items};
 ghost use Rattle.bufr_data.specs.Plain.Layouts.{IsLaid, TellsNext};
-ghost use Rattle.bufr_data.specs.Steady.{IsReady};
+ghost use Rattle.bufr_fields.specs.Steady.{IsReady};
 
 use bufr_answers::{Items, OutOfMemory};
 use bufr_expand::laws::courses_are_unrollings;

@@ -8,20 +8,19 @@ ghost use Rattle.bufr_tables.specs.declared.element.Kind.TheVariants.{Count};
 ghost use Rattle.bufr_tables.specs.Elements.{same_kind};
 ghost use Rattle.bufr_expand.specs.Courses.{course};
 ghost use Rattle.bufr_expand.specs.Walks as walks;
-ghost use Rattle.bufr_data.specs.declared.field.Raw.TheVariants.{Number};
+ghost use Rattle.bufr_fields.specs.declared.field.Raw.TheVariants.{Number};
 ghost use Rattle.bufr_data.specs.Plain.Alike.{TakesBits, NoBitsHold};
 ghost use Rattle.bufr_data.specs.Plain.{raw_at, fields_at};
 ghost use Rattle.bufr_data.specs.Plain.Reads.{raw_or_ends};
 ghost use Rattle.bufr_data.specs.Plain.Starts.{PassesRaw, PassesOn};
 ghost use Rattle.bufr_data.specs.Plain.Starts.{PassesSubset};
-ghost use Rattle.bufr_data.specs.Steady.{IsReady, WalkAdvances};
+ghost use Rattle.bufr_fields.specs.Steady.{IsReady, WalkAdvances};
 
-use crate::fault::ReadFault;
-use crate::limits::MOST_RAW_BITS;
 use crate::plain::read::fault_of;
 use bufr_answers::Failure;
 use bufr_bits::BitReader;
 use bufr_expand::{Spec, Step, Template, Walk};
+use bufr_fields::{MOST_RAW_BITS, ReadFault};
 use bufr_tables::Kind;
 use std::alloc::Global;
 

@@ -8,14 +8,12 @@ ghost use Rattle.bufr_expand.specs.Walks as walks;
 ghost use Rattle.bufr_data.specs.Compressed.Reading.{ColumnsFound};
 ghost use Rattle.bufr_data.specs.Plain.{SubsetRead, raw_at, stopped, fields_at};
 ghost use Rattle.bufr_data.specs.Plain.Reads.{raw_or_ends, Reads};
-ghost use Rattle.bufr_data.specs.Steady.{IsReady, WalkAdvances};
+ghost use Rattle.bufr_fields.specs.Steady.{IsReady, WalkAdvances};
 
-use crate::fault::ReadFault;
-use crate::field::{Field, Raw, Subset};
-use crate::limits::MOST_RAW_BITS;
 use bufr_answers::{Failure, Items};
 use bufr_bits::BitReader;
 use bufr_expand::{Spec, Step, Template, Walk, WalkFault};
+use bufr_fields::{Field, MOST_RAW_BITS, Raw, ReadFault, Subset};
 use bufr_tables::Kind;
 use std::alloc::Global;
 

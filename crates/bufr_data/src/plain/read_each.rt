@@ -3,16 +3,15 @@
 ghost use Rattle.std.specs.Prelude.{◌≡◌, ◌≤◌, List, Bool, false};
 ghost use Rattle.bufr_bits.specs.Ends.{left};
 ghost use Rattle.bufr_answers.specs.Answers.{Gives};
-ghost use Rattle.bufr_data.specs.declared.field.Subset.{Subset};
+ghost use Rattle.bufr_fields.specs.declared.field.Subset.{Subset};
 ghost use Rattle.bufr_data.specs.Data.{subsets_in};
 ghost use Rattle.bufr_data.specs.Plain.Numbered.{failure_of_subset};
 
-use crate::fault::ReadFault;
-use crate::field::Subset;
 use crate::plain::read::read_plain;
 use bufr_answers::{Failure, Items};
 use bufr_bits::BitReader;
 use bufr_expand::Template;
+use bufr_fields::{ReadFault, Subset};
 use std::alloc::Global;
 
 /// So many plain subsets, whose data the bits begin with. The reader moves past exactly their data;

@@ -4,16 +4,15 @@ ghost use Rattle.std.specs.Prelude.{◌≡◌, ◌++◌, true, false, Ok, OnOk, 
 ghost use Rattle.std.specs.List.{list_all};
 ghost use Rattle.bufr_answers.specs.Answers.{Fails};
 ghost use Rattle.bufr_data.specs.Plain as plain;
-ghost use Rattle.bufr_data.specs.Plain.{has_form_by, raw_bits, plain_subsets};
+ghost use Rattle.bufr_fields.specs.Forms.{has_form_by};
+ghost use Rattle.bufr_data.specs.Plain.{raw_bits, plain_subsets};
 ghost use Rattle.bufr_data.specs.Data.{written_bits};
 ghost use Rattle.bufr_data.specs.Subsets.{Appends, Extends, has_own_form};
 
-use crate::fault::WriteFault;
-use crate::field::{Field, Raw, Subset};
-use crate::fit::fit_fields;
 use bufr_answers::{Failure, OutOfMemory};
 use bufr_bits::BitSink;
 use bufr_expand::{Spec, Template};
+use bufr_fields::{Field, Raw, Subset, WriteFault, fit_fields};
 use std::alloc::Global;
 
 /// Puts the bits of all subsets at the sink's end, one subset after the other. On an error the sink

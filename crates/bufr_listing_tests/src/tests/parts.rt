@@ -4,8 +4,8 @@ use super::same;
 use super::samples::{SEQUENCES_LISTED, first_message, push_times};
 use super::writing::{assert_listed, assert_taken};
 use bufr_answers::Items;
-use bufr_data::{Field, Raw, Subset};
 use bufr_expand::Spec;
+use bufr_fields::{Field, Raw, Subset};
 use bufr_listing::{
     end_text, heading_text, push_field, push_subset, push_subset_line, subset_text,
 };

@@ -1,5 +1,5 @@
 -- For the clauses `given` and `answered` of the law `faults_of_listings_are_the_first`.
-use Rattle.bufr_data.specs.CourseLaws.{Laws}
+use Rattle.bufr_fields.specs.CourseLaws.{Laws}
 use Rattle.bufr_listing.proofs.LowerLaws.{LowerLaws}
 use Rattle.bufr_listing.proofs.FaultFields.{FaultLaws}
 use Rattle.bufr_listing.proofs.FaultMessages.{first_fault}

@@ -3,7 +3,7 @@ use Rattle.std.proofs.Common.{◌≡◌, ◌∙◌, sym, arith, pos, FitsSigned,
 use Rattle.std.specs.Prelude.{Option, Some, None, option_and_then}
 use Rattle.std.specs.Int.{w128}
 use Rattle.std.proofs.lemmas.Int.{to_z-of_z}
-use Rattle.bufr_data.specs.declared.field.Decimal.{Decimal}
+use Rattle.bufr_fields.specs.declared.field.Decimal.{Decimal}
 use Rattle.bufr_listing.specs.Words.{below, number_below}
 use Rattle.bufr_listing.proofs.ParseFacts.{parsed, below_none, below_some, below_over, word_by}
 use Rattle.bufr_listing.proofs.line_words.number_below.Goals.{After-parse}

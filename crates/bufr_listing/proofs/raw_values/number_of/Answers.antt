@@ -4,7 +4,7 @@ use Rattle.std.specs.Prelude.{Option, Some, None, option_and_then, nat_lt, â—Œ-â
 use Rattle.std.specs.Int.{w32, w64, w128}
 use Rattle.std.proofs.lemmas.Int.{to_z-of_z}
 use Rattle.std.proofs.lemmas.Bool.Decides.{nat_tests}
-use Rattle.bufr_data.specs.declared.field.Decimal.{Decimal}
+use Rattle.bufr_fields.specs.declared.field.Decimal.{Decimal}
 use Rattle.bufr_listing.specs.FieldLines.{is_missing_word}
 use Rattle.bufr_listing.specs.RawWords.{number_above, number_of}
 use Rattle.bufr_listing.proofs.ParseFacts.{parsed}

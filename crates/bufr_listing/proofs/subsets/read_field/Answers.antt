@@ -9,7 +9,7 @@ use Rattle.bufr_listing.proofs.StepFacts.{count_is_read, field_is_refused, count
 use Rattle.bufr_listing.proofs.StepFacts.{end_is_read, stop_is_refused, stop_none, stop_some}
 use Rattle.bufr_listing.proofs.StepFacts.{count_fits}
 use Rattle.bufr_listing.proofs.subsets.read_field.Goals as goal
-use Rattle.bufr_data.specs.StepLaws.{field_goes_on, count_goes_on}
+use Rattle.bufr_fields.specs.StepLaws.{field_goes_on, count_goes_on}
 
 -- where the walk stops and no line is left, L1
 pub returns-in_err-line-in-Err-clause-err : goal.returns-in_err-line-in-Err-clause-err

@@ -2,7 +2,7 @@
 use Rattle.std.proofs.Common.{◌≡◌, ◌-◌}
 use Rattle.bufr_expand.specs.Courses.{course}
 use Rattle.bufr_expand.specs.Walks as walks
-use Rattle.bufr_data.specs.Steady.{IsReady}
+use Rattle.bufr_fields.specs.Steady.{IsReady}
 use Rattle.bufr_listing.specs.Cursors.{left, past}
 use Rattle.bufr_listing.specs.Reading.{fields_read}
 use Rattle.bufr_listing.specs.Steps.{behind_fields}

@@ -2,7 +2,7 @@
 use Rattle.std.proofs.Common.{ℕ, ◌*◌, length, ap, sym, ◌∙◌}
 use Rattle.bufr_bits.specs.BitLaws.{length-bin}
 use Rattle.bufr_bits.specs.OctetLaws.{length-bits}
-use Rattle.bufr_data.specs.declared.field.Raw.{Raw}
+use Rattle.bufr_fields.specs.declared.field.Raw.{Raw}
 use Rattle.bufr_data.specs.Plain.{raw_bits}
 use Rattle.bufr_message.proofs.alone.bits_of.Goals as goal
 

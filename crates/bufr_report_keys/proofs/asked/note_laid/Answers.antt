@@ -1,6 +1,6 @@
 -- For `note_laid`: the next field that is asked for is noted, a number or another.
 use Rattle.std.proofs.Common.{ap, sym, ◌∙◌}
-use Rattle.bufr_data.specs.Handed.{as_field}
+use Rattle.bufr_fields.specs.Values.{as_field}
 use Rattle.bufr_report_keys.specs.FirstValues.{all_noted}
 use Rattle.bufr_report_keys.proofs.FirstFacts.{all_passed, next_noted, none_left}
 use Rattle.bufr_report_keys.proofs.asked.note_laid.Goals as goal

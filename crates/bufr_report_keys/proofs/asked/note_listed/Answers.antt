@@ -1,6 +1,6 @@
 -- For `note_listed`: the next field is noted where it is asked for.
 use Rattle.std.proofs.Common.{◌≡◌, false, sym, ap, ◌∙◌}
-use Rattle.bufr_data.specs.declared.field.Field.{Field}
+use Rattle.bufr_fields.specs.declared.field.Field.{Field}
 use Rattle.bufr_report_keys.specs.Asked.{is_asked}
 use Rattle.bufr_report_keys.specs.FirstValues.{noted}
 use Rattle.bufr_report_keys.proofs.FirstFacts.{asked_noted, unasked_passed, none_behind}

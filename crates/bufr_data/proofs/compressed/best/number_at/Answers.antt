@@ -1,7 +1,7 @@
 -- The clause of `number_at`: the number at a place is the first of those from there on.
 use Rattle.std.proofs.Common.{◌∙◌, sym, ap}
 use Rattle.bufr_data.specs.Compressed.Best.{first_raw}
-use Rattle.bufr_data.specs.Plain.{number_of}
+use Rattle.bufr_fields.specs.Forms.{number_of}
 use Rattle.bufr_data.proofs.CompressedFacts.Rows.{next_is, none_next}
 use Rattle.bufr_data.proofs.compressed.best.number_at.Goals as goal
 

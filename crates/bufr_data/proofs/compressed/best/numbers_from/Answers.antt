@@ -1,7 +1,7 @@
 -- The clause of `numbers_from`: subset by subset.
 use Rattle.std.proofs.Common.{◌∙◌, ◌++◌, ◌∷◌, [], ◌<◌, ◌≤◌, length, map, sym, ap, arith}
 use Rattle.std.proofs.lemmas.List.{take_all}
-use Rattle.bufr_data.specs.Plain.{number_of}
+use Rattle.bufr_fields.specs.Forms.{number_of}
 use Rattle.bufr_data.specs.Compressed.Places.{rows_from, values_from}
 use Rattle.bufr_data.proofs.CompressedFacts.Puts.{values_more}
 use Rattle.bufr_data.proofs.compressed.best.numbers_from.Goals as goal

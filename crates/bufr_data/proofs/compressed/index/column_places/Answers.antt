@@ -4,7 +4,7 @@ use Rattle.std.proofs.Common.{arith}
 use Rattle.bufr_bits.specs.Ends.{left}
 use Rattle.bufr_expand.specs.Walks as walks
 use Rattle.bufr_data.specs.Compressed.Indexed.{Opens, PassesPlace}
-use Rattle.bufr_data.proofs.StepFacts.{ready_there}
+use Rattle.bufr_fields.specs.StepLaws.{ready_there}
 use Rattle.bufr_data.proofs.ListFacts.{all_grown}
 use Rattle.bufr_data.proofs.CompressedFacts.Places.{behind_no_column, place_kept}
 use Rattle.bufr_data.proofs.compressed.index.column_places.Goals as goal

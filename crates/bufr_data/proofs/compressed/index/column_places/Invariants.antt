@@ -6,7 +6,7 @@ use Rattle.bufr_expand.specs.Walks as walks
 use Rattle.bufr_expand.specs.Limits.{most_items}
 use Rattle.bufr_data.specs.Compressed.Reading.{columns_at}
 use Rattle.bufr_data.specs.Compressed.Indexed.{AllOpen, behind_columns, column_from}
-use Rattle.bufr_data.specs.Steady.{IsReady}
+use Rattle.bufr_fields.specs.Steady.{IsReady}
 use Rattle.bufr_data.proofs.compressed.index.column_places.Given as goal
 
 -- the walk is ready, at each place so far a column begins, and the index of all is the columns

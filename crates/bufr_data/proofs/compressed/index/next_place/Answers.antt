@@ -3,12 +3,11 @@ use Rattle.std.proofs.Common.{◌≡◌, drop, ap, sym}
 use Rattle.std.proofs.lemmas.Result.{err_from_is_err_and}
 use Rattle.bufr_bits.specs.Bits.{bits}
 use Rattle.bufr_bits.specs.Ends.{left}
-use Rattle.bufr_data.specs.StepLaws.{field_goes_on, count_goes_on}
+use Rattle.bufr_fields.specs.StepLaws.{field_goes_on, count_goes_on, field_asked, count_asked}
 use Rattle.bufr_data.proofs.CompressedFacts.Passed.{factor_refused}
 use Rattle.bufr_data.proofs.CompressedFacts.Places.{stop_refused, end_passes, step_past, step_refused}
 use Rattle.bufr_data.proofs.CompressedFacts.Places.{field_passes, count_passes}
 use Rattle.bufr_data.proofs.CompressedFacts.Places.{count_is_below, is_count}
-use Rattle.bufr_data.proofs.StepFacts.{field_asked, count_asked}
 use Rattle.bufr_data.proofs.compressed.index.next_place.Goals as goal
 
 -- where the walk stops, its fault is that of the columns

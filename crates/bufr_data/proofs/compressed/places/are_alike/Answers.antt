@@ -1,6 +1,6 @@
 -- The clause of `are_alike`: subset by subset, until one has no such field at the place.
 use Rattle.std.proofs.Common.{◌∙◌, ◌<◌, ◌≤◌, length, drop, sym, arith}
-use Rattle.bufr_data.specs.declared.field.Subset.{Subset}
+use Rattle.bufr_fields.specs.declared.field.Subset.{Subset}
 use Rattle.bufr_data.specs.Compressed.Best.{begins_like}
 use Rattle.bufr_data.proofs.CompressedFacts.Rows.{all_false, all_step, all_end, rows_all}
 use Rattle.bufr_data.proofs.compressed.places.are_alike.Goals as goal

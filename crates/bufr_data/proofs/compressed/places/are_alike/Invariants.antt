@@ -1,7 +1,7 @@
 -- The loop of `are_alike`: the subsets whose field at the place is like the first one's.
 use Rattle.std.proofs.Common.{◌≡◌, true, take, drop}
 use Rattle.std.specs.List.{list_all}
-use Rattle.bufr_data.specs.declared.field.Subset.{Subset}
+use Rattle.bufr_fields.specs.declared.field.Subset.{Subset}
 use Rattle.bufr_data.specs.Compressed.Best.{begins_like}
 use Rattle.bufr_data.proofs.compressed.places.are_alike.Given as goal
 

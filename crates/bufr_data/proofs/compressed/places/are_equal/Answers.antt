@@ -1,6 +1,6 @@
 -- The clause of `are_equal`: subset by subset, until one has another value at the place.
 use Rattle.std.proofs.Common.{◌∙◌, ◌<◌, ◌≤◌, length, drop, sym, arith}
-use Rattle.bufr_data.specs.declared.field.Subset.{Subset}
+use Rattle.bufr_fields.specs.declared.field.Subset.{Subset}
 use Rattle.bufr_data.specs.Compressed.Best.{first_raw}
 use Rattle.bufr_data.specs.Compressed.Reading.{same_raw}
 use Rattle.bufr_data.proofs.CompressedFacts.Rows.{all_false, all_step, all_end, values_all}

@@ -1,7 +1,7 @@
 -- The loop of `are_equal`: the subsets that have the value at the place.
 use Rattle.std.proofs.Common.{◌≡◌, true, take, drop}
 use Rattle.std.specs.List.{list_all}
-use Rattle.bufr_data.specs.declared.field.Subset.{Subset}
+use Rattle.bufr_fields.specs.declared.field.Subset.{Subset}
 use Rattle.bufr_data.specs.Compressed.Best.{first_raw}
 use Rattle.bufr_data.specs.Compressed.Reading.{same_raw}
 use Rattle.bufr_data.proofs.compressed.places.are_equal.Given as goal

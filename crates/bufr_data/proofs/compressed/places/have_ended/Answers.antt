@@ -1,6 +1,6 @@
 -- The clause of `have_ended`: subset by subset, until one has a field at the place.
 use Rattle.std.proofs.Common.{◌∙◌, ◌<◌, ◌≤◌, length, drop, sym, arith}
-use Rattle.bufr_data.specs.declared.field.Subset.{Subset}
+use Rattle.bufr_fields.specs.declared.field.Subset.{Subset}
 use Rattle.bufr_data.specs.Compressed.Best.{is_empty}
 use Rattle.bufr_data.proofs.CompressedFacts.Rows.{all_false, all_step, all_end, rows_all}
 use Rattle.bufr_data.proofs.compressed.places.have_ended.Goals as goal

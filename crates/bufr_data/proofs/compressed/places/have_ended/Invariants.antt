@@ -1,7 +1,7 @@
 -- The loop of `have_ended`: the subsets that have no field from the place on.
 use Rattle.std.proofs.Common.{◌≡◌, true, take, drop}
 use Rattle.std.specs.List.{list_all}
-use Rattle.bufr_data.specs.declared.field.Subset.{Subset}
+use Rattle.bufr_fields.specs.declared.field.Subset.{Subset}
 use Rattle.bufr_data.specs.Compressed.Best.{is_empty}
 use Rattle.bufr_data.proofs.compressed.places.have_ended.Given as goal
 

@@ -4,7 +4,7 @@ use Rattle.bufr_data.specs.Compressed.Best.{best_bits}
 use Rattle.bufr_data.proofs.CompressedFacts.Puts.{first_in, columns_in, written_past, written_whole}
 use Rattle.bufr_data.proofs.CompressedFacts.Puts.{first_forms}
 use Rattle.bufr_data.proofs.compressed.write.write_compressed.Goals as goal
-use Rattle.bufr_data.specs.Limits.{most_values}
+use Rattle.bufr_fields.specs.Limits.{most_values}
 
 -- more values than compressed data may have are refused, and the sink is as before
 pub returns-then-fields-subsets : goal.returns-then-fields-subsets

@@ -6,12 +6,12 @@ use Rattle.std.specs.Bool.{OnTrue, OnFalse}
 use Rattle.std.proofs.lemmas.Result.{err_from_is_err_and}
 use Rattle.bufr_answers.specs.declared.failure.Failure.TheVariants.{Fault}
 use Rattle.bufr_bits.specs.Ends.{left}
-use Rattle.bufr_data.specs.declared.field.Raw.TheVariants.{Number}
-use Rattle.bufr_data.specs.StepLaws.{field_goes_on, count_goes_on}
+use Rattle.bufr_fields.specs.declared.field.Raw.TheVariants.{Number}
+use Rattle.bufr_fields.specs.StepLaws.{field_goes_on, count_goes_on, field_asked, count_asked}
+use Rattle.bufr_fields.specs.StepLaws.{field_goes, count_goes}
 use Rattle.bufr_data.proofs.PlainFacts.Alike.{turns_pass}
 use Rattle.bufr_data.proofs.PlainFacts.Reads.{step_is_read, step_is_missing, end_is_read, stop_is_read}
 use Rattle.bufr_data.proofs.PlainFacts.Reads.{count_read_fits}
-use Rattle.bufr_data.proofs.StepFacts.{field_asked, count_asked, field_goes, count_goes}
 use Rattle.bufr_data.proofs.plain.pass.pass_next.Goals as goal
 
 -- bits that are there are passed

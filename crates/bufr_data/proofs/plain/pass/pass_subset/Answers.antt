@@ -1,6 +1,6 @@
 -- The clauses of `pass_subset`: field by field or turns at once, until one is refused or none is left.
 use Rattle.std.proofs.Common.{[], refl, ◌∙◌, arith}
-use Rattle.bufr_data.proofs.StepFacts.{ready_there}
+use Rattle.bufr_fields.specs.StepLaws.{ready_there}
 use Rattle.bufr_expand.specs.Walks as walks
 use Rattle.bufr_data.proofs.PlainFacts.Reads.{behind_none}
 use Rattle.bufr_data.proofs.PlainFacts.Passed.{more_passed}

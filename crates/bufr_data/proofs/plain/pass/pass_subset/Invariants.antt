@@ -4,10 +4,10 @@ use Rattle.bufr_bits.specs.Ends.{left}
 use Rattle.bufr_expand.specs.Courses.{course}
 use Rattle.bufr_expand.specs.Walks as walks
 use Rattle.bufr_expand.specs.Limits.{most_items}
-use Rattle.bufr_data.specs.declared.field.Field.{Field}
+use Rattle.bufr_fields.specs.declared.field.Field.{Field}
 use Rattle.bufr_data.specs.Plain.{fields_at}
 use Rattle.bufr_data.specs.Plain.Reads.{behind_fields}
-use Rattle.bufr_data.specs.Steady.{IsReady}
+use Rattle.bufr_fields.specs.Steady.{IsReady}
 use Rattle.bufr_data.proofs.plain.pass.pass_subset.Given as goal
 
 -- what is read of the subset is the fields passed so far and what is read behind them

@@ -2,9 +2,9 @@
 use Rattle.std.proofs.lemmas.Result.{err_from_is_err_and}
 use Rattle.bufr_data.proofs.PlainFacts.Reads.{step_is_read, step_is_missing, end_is_read, stop_is_read}
 use Rattle.bufr_data.proofs.PlainFacts.Reads.{count_read_fits}
-use Rattle.bufr_data.proofs.StepFacts.{field_asked, count_asked, field_goes, count_goes}
+use Rattle.bufr_fields.specs.StepLaws.{field_asked, count_asked, field_goes, count_goes}
+use Rattle.bufr_fields.specs.StepLaws.{field_goes_on, count_goes_on}
 use Rattle.bufr_data.proofs.plain.read.read_field.Goals as goal
-use Rattle.bufr_data.specs.StepLaws.{field_goes_on, count_goes_on}
 
 -- where the walk stops, its fault is that of the data
 pub returns-in-Err-clause-err : goal.returns-in-Err-clause-err

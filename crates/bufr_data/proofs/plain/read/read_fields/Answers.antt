@@ -1,6 +1,6 @@
 -- The clause `exact` of `read_fields`: field by field along the walk.
 use Rattle.std.proofs.Common.{◌≡◌, ◌+◌, [], ◌∷◌, length, length-append, refl, ap, ◌∙◌, arith}
-use Rattle.bufr_data.proofs.StepFacts.{ready_there}
+use Rattle.bufr_fields.specs.StepLaws.{ready_there}
 use Rattle.bufr_data.proofs.PlainFacts.Reads.{behind_none, fields_read}
 use Rattle.bufr_data.proofs.plain.read.read_fields.Goals as goal
 

@@ -6,7 +6,7 @@ use Rattle.bufr_expand.specs.Walks as walks
 use Rattle.bufr_expand.specs.Limits.{most_items}
 use Rattle.bufr_data.specs.Plain.{fields_at}
 use Rattle.bufr_data.specs.Plain.Reads.{behind_fields}
-use Rattle.bufr_data.specs.Steady.{IsReady}
+use Rattle.bufr_fields.specs.Steady.{IsReady}
 use Rattle.bufr_data.proofs.plain.read.read_fields.Given as goal
 
 -- the walk is ready, has met at least as many items as fields, and the reading of the subset is

@@ -2,7 +2,7 @@
 use Rattle.std.proofs.Common.{◌<◌, length, arith}
 use Rattle.std.proofs.lemmas.Result.{err_from_is_err_and}
 use Rattle.bufr_expand.specs.Courses.{course}
-use Rattle.bufr_data.specs.declared.field.Subset.{Subset}
+use Rattle.bufr_fields.specs.declared.field.Subset.{Subset}
 use Rattle.bufr_data.specs.Plain.{plain}
 use Rattle.bufr_data.proofs.PlainFacts.Writes.{subsets_step, subsets_fail, subsets_end, bits_step}
 use Rattle.bufr_data.proofs.PlainFacts.Writes.{counted_forms}

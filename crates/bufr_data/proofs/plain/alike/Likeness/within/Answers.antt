@@ -1,7 +1,6 @@
 -- The clause of `Likeness::within`: field by field along the walk, until it ends or asks for a count.
 use Rattle.std.proofs.Common.{refl, arith}
-use Rattle.bufr_data.proofs.StepFacts.{ready_there}
-use Rattle.bufr_data.specs.StepLaws.{field_goes_on}
+use Rattle.bufr_fields.specs.StepLaws.{ready_there, field_goes_on}
 use Rattle.bufr_data.proofs.PlainFacts.Alike.{none_measured, one_measured, turns_measured}
 use Rattle.bufr_data.proofs.plain.alike.Likeness.within.Goals as goal
 

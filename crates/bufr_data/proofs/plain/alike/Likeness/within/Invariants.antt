@@ -3,7 +3,7 @@ use Rattle.std.proofs.Common.{◌+◌, ◌-◌, ◌≤◌}
 use Rattle.bufr_expand.specs.Courses.{course}
 use Rattle.bufr_expand.specs.Walks as walks
 use Rattle.bufr_expand.specs.Limits.{most_items}
-use Rattle.bufr_data.specs.Steady.{IsReady}
+use Rattle.bufr_fields.specs.Steady.{IsReady}
 use Rattle.bufr_data.proofs.PlainFacts.Alike.{Measured}
 use Rattle.bufr_data.proofs.plain.alike.Likeness.within.Given as goal
 

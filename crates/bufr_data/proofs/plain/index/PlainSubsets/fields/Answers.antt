@@ -9,7 +9,7 @@ use Rattle.bufr_data.specs.Plain.{fields_at}
 use Rattle.bufr_data.specs.Plain.Starts.{subset_at, fields_of}
 use Rattle.bufr_data.proofs.PlainFacts.Layouts.{laid_here}
 use Rattle.bufr_data.proofs.PlainFacts.Shown.{begins_there, fields_shown}
-use Rattle.bufr_data.proofs.StepFacts.{ready_there}
+use Rattle.bufr_fields.specs.StepLaws.{ready_there}
 use Rattle.bufr_data.proofs.plain.index.PlainSubsets.fields.Goals as goal
 
 -- where its fields are laid out, they are there

@@ -1,9 +1,10 @@
 -- For `LaidFields::next_asked_number`: the first behind those that were passed is handed out where it
 -- is a number.
 use Rattle.std.proofs.Common.{Some, sym, subst, ◌∙◌}
-use Rattle.bufr_data.specs.declared.field.Raw.TheVariants.{Number}
-use Rattle.bufr_data.specs.declared.field.NumberField.{NumberField}
-use Rattle.bufr_data.specs.Handed.{StandLaid, as_field, fields_laid}
+use Rattle.bufr_fields.specs.declared.field.Raw.TheVariants.{Number}
+use Rattle.bufr_fields.specs.declared.field.NumberField.{NumberField}
+use Rattle.bufr_data.specs.Handed.{StandLaid, fields_laid}
+use Rattle.bufr_fields.specs.Values.{as_field}
 use Rattle.bufr_data.proofs.AskedFacts.{asked_handed}
 use Rattle.bufr_data.proofs.PlainFacts.Layouts.{first_handed, first_there}
 use Rattle.bufr_data.proofs.plain.laid_fields.LaidFields.next_asked_number.Goals as goal

@@ -1,7 +1,6 @@
 -- The clause of `Layout::of`: field by field along the walk, until it ends or asks for a count.
 use Rattle.std.proofs.Common.{arith}
-use Rattle.bufr_data.proofs.StepFacts.{ready_there}
-use Rattle.bufr_data.specs.StepLaws.{field_goes_on}
+use Rattle.bufr_fields.specs.StepLaws.{ready_there, field_goes_on}
 use Rattle.bufr_data.proofs.PlainFacts.Layouts.{none_laid, one_laid, all_laid}
 use Rattle.bufr_data.proofs.plain.layout.Layout.of.Goals as goal
 

@@ -1,0 +1,10 @@
+-- The loop of `Zeros`' `fmt`: the zeros written so far.
+use Rattle.std.proofs.Common.{replicate}
+use Rattle.std.specs.Fmt.{HasWritten, IsPlainFormatter}
+use Rattle.bufr_fields.proofs.text.ZerosDisplay.fmt.Given as goal
+
+-- as many zeros are written as rounds were done
+abbrev pub invariant-loop-i : goal.invariant-loop-i
+invariant-loop-i g l =
+    IsPlainFormatter l.initial.f
+    → HasWritten g.W.Write.write_str_gives l.initial.f (replicate l._i 48) l.f

@@ -1,0 +1,16 @@
+pub mod Forms
+pub mod Fits
+pub mod Asked
+pub mod Values
+pub mod Digits
+pub mod DecimalTexts
+pub mod DecimalTextFacts
+pub mod Laws
+pub mod Limits
+pub mod Steady
+pub mod StepLaws
+pub mod FormLaws
+pub mod FitLaws
+pub mod CourseLaws
+pub mod Reasons
+pub mod Samples

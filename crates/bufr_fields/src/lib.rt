@@ -1,0 +1,19 @@
+//! Fields and their values, and which of them a template allows.
+#![tactic(auto)]
+
+mod digits;
+mod fault;
+mod field;
+mod fit;
+mod form;
+pub mod laws;
+mod limits;
+mod parse;
+mod text;
+mod worked_values;
+
+pub use fault::{ReadFault, WriteFault};
+pub use field::{Decimal, Field, NumberField, Raw, Subset};
+pub use fit::fit_fields;
+pub use form::{are_ones, is_greatest, is_same};
+pub use limits::{MOST_DECIMAL_SCALE, MOST_INCREMENT_BITS, MOST_RAW_BITS, MOST_VALUES};
