@@ -1,8 +1,8 @@
-//! Every growth refused in turn, of shelves, archives and depots: each call that takes memory, once in a
-//! test of its own, which repeats a refused call and compares the state after the refusal and the
-//! answer. Run as they are, no growth is refused; `tests/refuse-each-growth` runs each test once for
-//! each of its growths, which then fails. Octets, texts and counts are typed from the rules of the
-//! formats.
+//! Every growth refused in turn, of shelves, archives and depots: the calls that take memory, a few
+//! in each test, which repeats a refused call and compares the state after the refusal and the
+//! answer. Run as they are, no growth is refused; `tests/refuse-each-growth` runs each test once
+//! for each of its growths, which then fails. Octets, texts and counts are typed from the rules of
+//! the formats.
 
 mod archives;
 mod depots;

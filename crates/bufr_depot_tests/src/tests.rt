@@ -67,8 +67,39 @@ const EDITION_5: [u8; 62] = [
     0x00, 0x14, 0xC0, 0x3F, 0x40, 0x9E, 0xC0, 0x1A, 0xAC, 0xC0, 0x37, 0x37, 0x37, 0x37,
 ];
 
-/// A step, and the answer that it is to have.
-type Asked = (Step, Result<Answer, StepFault>);
+/// What a step does.
+#[derive(Clone, Copy)]
+enum Done {
+    /// The stream of a slot goes on by these octets.
+    Feed(usize, &'static [u8]),
+    /// The same by some of these octets, from one place to another.
+    Part(usize, &'static [u8], usize, usize),
+    /// The stream of a slot ends.
+    End(usize),
+    /// From a slot into another.
+    Merge(usize, usize),
+    /// The same by a text.
+    Transfer(usize, usize),
+    /// The same by a copy.
+    Copy(usize, usize),
+}
+
+use Done::{Copy, End, Feed, Merge, Part, Transfer};
+
+/// What a step answers.
+#[derive(Clone, Copy)]
+enum Told {
+    /// Messages, refused frames, and reports that changed what was kept, with a piece.
+    Fed(u128, u128, u128),
+    /// The same with a stream's end.
+    Ended(u128, u128, u128),
+    /// All is joined.
+    Joined,
+    /// This slot is not there.
+    NoSlot(usize),
+}
+
+use Told::{Ended, Fed, Joined, NoSlot};
 
 /// Stops the test where the two differ. It is a function, since a comparison written out in a test
 /// makes the proof of that test more than twice as long.
@@ -76,88 +107,58 @@ fn same<T: PartialEq + Debug + Drop>(rt: &impl Abort, found: T, wanted: T) {
     assert_eq!(rt; found, wanted);
 }
 
-// The tables of the tests.
+/// The tables of the tests.
 fn tables(rt: &impl Abort, alloc: Global) -> Tables {
     let b = TableB::parse(alloc, TABLE_B.as_bytes()).expect(rt, "table B");
     let d = TableD::parse(alloc, TABLE_D.as_bytes()).expect(rt, "table D");
     Tables::new(b, d)
 }
 
-// A new depot of so many slots.
-fn depot_of<'t, S: Shelf>(
-    rt: &impl Abort,
-    alloc: Global,
-    tables: &'t Tables,
-    slots: usize,
-) -> Depot<'t, S> {
-    Depot::new(alloc, tables, slots).expect(rt, "room")
-}
-
-// A piece for a slot.
+/// A piece for a slot.
 fn feed(rt: &impl Abort, alloc: Global, slot: usize, octets: &[u8]) -> Step {
     let piece = Items::from_vec(Vec::from_slice(alloc, octets).expect(rt, "room"));
     Step::Feed { slot, piece }
 }
 
-fn fed(messages: u128, refused: u128, changed: u128) -> Result<Answer, StepFault> {
-    Ok(Answer::Fed {
-        messages,
-        refused,
-        changed,
-    })
-}
-
-fn ended(messages: u128, refused: u128, changed: u128) -> Result<Answer, StepFault> {
-    Ok(Answer::Ended {
-        messages,
-        refused,
-        changed,
-    })
-}
-
-// The step is answered so.
-fn does<S: Shelf>(
-    rt: &impl Abort,
-    depot: &mut Depot<S>,
-    step: &Step,
-    answer: Result<Answer, StepFault>,
-) {
-    let found = depot.step(step);
-    assert!(rt; found == answer);
-}
-
-// The piece is answered so.
-fn feeds<S: Shelf>(
-    rt: &impl Abort,
-    alloc: Global,
-    depot: &mut Depot<S>,
-    slot: usize,
-    octets: &[u8],
-    answer: Result<Answer, StepFault>,
-) {
-    let step = feed(rt, alloc, slot, octets);
-    does(rt, depot, &step, answer);
-}
-
-// All is joined.
-fn joins<S: Shelf>(rt: &impl Abort, depot: &mut Depot<S>, step: &Step) {
-    does(rt, depot, step, Ok(Answer::Joined));
-}
-
-/// Steps are answered so, one after another.
-fn does_all<S: Shelf>(rt: &impl Abort, depot: &mut Depot<S>, steps: &[Asked]) {
-    for (step, answer) in steps {
-        let found = depot.step(step);
-        assert!(rt; found == *answer);
+/// The step that does this.
+fn step_of(rt: &impl Abort, alloc: Global, done: Done) -> Step {
+    match done {
+        Feed(slot, octets) => feed(rt, alloc, slot, octets),
+        Part(slot, octets, from, to) => {
+            let part = octets.get(from..to).expect(rt, "a part");
+            feed(rt, alloc, slot, part)
+        }
+        End(slot) => Step::End { slot },
+        Merge(from, into) => Step::Merge { from, into },
+        Transfer(from, into) => Step::Transfer { from, into },
+        Copy(from, into) => Step::Copy { from, into },
     }
 }
 
-// The slot of this number is not there.
-fn misses<S: Shelf>(rt: &impl Abort, depot: &mut Depot<S>, step: &Step, slot: usize) {
-    does(rt, depot, step, Err(StepFault::NoSlot(slot)));
+/// The answer that tells this.
+fn answer_of(told: Told) -> Result<Answer, StepFault> {
+    match told {
+        Fed(messages, refused, changed) => Ok(Answer::Fed {
+            messages,
+            refused,
+            changed,
+        }),
+        Ended(messages, refused, changed) => Ok(Answer::Ended {
+            messages,
+            refused,
+            changed,
+        }),
+        Joined => Ok(Answer::Joined),
+        NoSlot(slot) => Err(StepFault::NoSlot(slot)),
+    }
 }
 
-// A slot has the archive of this text.
+/// The step is answered so.
+fn does<S: Shelf>(rt: &impl Abort, depot: &mut Depot<S>, step: &Step, told: Told) {
+    same(rt, depot.step(step), answer_of(told));
+}
+
+/// A slot has the archive of this text.
 fn assert_writes<S: Shelf>(
     rt: &impl Abort,
     alloc: Global,
@@ -171,246 +172,195 @@ fn assert_writes<S: Shelf>(
     assert!(rt; sink.into_inner().as_slice() == text, "{slot}");
 }
 
-/// The first slots, so many, have the archive of this text.
+/// A slot, and the text of its archive.
+type Written = (usize, &'static [u8]);
+
+/// Slots have the archives of these texts.
 fn assert_all_write<S: Shelf>(
     rt: &impl Abort,
     alloc: Global,
     depot: &Depot<S>,
-    slots: usize,
-    text: &[u8],
+    written: &[Written],
 ) {
-    for slot in 0..slots {
-        assert_writes(rt, alloc, depot, slot, text);
+    for (slot, text) in written {
+        assert_writes(rt, alloc, depot, *slot, *text);
     }
 }
 
-/// The first message in two pieces, and the end of their stream.
-fn two_pieces<S: Shelf>(rt: &impl Abort, alloc: Global, depot: &mut Depot<S>) {
-    let front = ROW_1.get(..30).expect(rt, "front");
-    feeds(rt, alloc, depot, 0, front, fed(0, 0, 0));
-    let rest = ROW_1.get(30..).expect(rt, "rest");
-    feeds(rt, alloc, depot, 0, rest, fed(1, 0, 1));
-    does(rt, depot, &Step::End { slot: 0 }, ended(0, 0, 0));
+/// A step, its answer, and what then is written of slots.
+type Row = (Done, Told, &'static [Written]);
+
+/// The steps of a new depot of so many slots, one after the other.
+fn one_by_one<S: Shelf>(
+    rt: &impl Abort,
+    alloc: Global,
+    tables: &Tables,
+    slots: usize,
+    rows: &[Row],
+) {
+    let mut depot: Depot<S> = Depot::new(alloc, tables, slots).expect(rt, "room");
+    for (done, told, written) in rows {
+        let step = step_of(rt, alloc, *done);
+        does(rt, &mut depot, &step, *told);
+        assert_all_write(rt, alloc, &depot, *written);
+    }
 }
 
-// The first message in two pieces, and what the other slot takes in.
-fn first_steps<S: Shelf>(rt: &impl Abort, alloc: Global, depot: &mut Depot<S>) {
-    two_pieces(rt, alloc, depot);
-    assert_writes(rt, alloc, depot, 1, &[]);
-    joins(rt, depot, &Step::Transfer { from: 0, into: 1 });
-    assert_writes(rt, alloc, depot, 1, ROW_1.as_slice());
+/// The steps of rows.
+fn steps_of(rt: &impl Abort, alloc: Global, rows: &[Row]) -> Vec<Step> {
+    let mut steps = Vec::new(alloc);
+    for (done, _, _) in rows {
+        steps.push(step_of(rt, alloc, *done)).expect(rt, "room");
+    }
+    steps
 }
 
-// The update, and what both slots then hold.
-fn later_steps<S: Shelf>(rt: &impl Abort, alloc: Global, depot: &mut Depot<S>) {
-    feeds(rt, alloc, depot, 1, UPDATED.as_slice(), fed(1, 0, 1));
-    let steps = [
-        (Step::End { slot: 1 }, ended(0, 0, 0)),
-        (Step::Merge { from: 1, into: 0 }, Ok(Answer::Joined)),
-        (Step::Copy { from: 0, into: 1 }, Ok(Answer::Joined)),
-    ];
-    does_all(rt, depot, &steps);
-    assert_all_write(rt, alloc, depot, 2, UPDATED.as_slice());
-    misses(rt, depot, &Step::End { slot: 9 }, 9);
+/// Steps are answered as the rows have it.
+fn assert_answers(rt: &impl Abort, answers: &[Result<Answer, StepFault>], rows: &[Row]) {
+    same(rt, answers.len(), rows.len());
+    for (answer, (_, told, _)) in answers.iter().zip(rows) {
+        same(rt, *answer, answer_of(*told));
+    }
 }
 
-fn stepped<S: Shelf>(rt: &impl Abort, alloc: Global) {
+/// The same steps in one run, and what is written of slots in the end.
+fn at_once<S: Shelf>(
+    rt: &impl Abort,
+    alloc: Global,
+    tables: &Tables,
+    slots: usize,
+    steps: &[Step],
+    rows: &[Row],
+) {
+    let mut depot: Depot<S> = Depot::new(alloc, tables, slots).expect(rt, "room");
+    let answers = depot.run(steps).expect(rt, "room");
+    assert_answers(rt, &answers, rows);
+    let (_, _, written) = rows.last().expect(rt, "a row");
+    assert_all_write(rt, alloc, &depot, *written);
+}
+
+/// The rows hold over both shelves, step by step and in one run.
+fn assert_rows(rt: &impl Abort, alloc: Global, slots: usize, rows: &[Row]) {
     let tables = tables(rt, alloc);
-    let mut depot: Depot<S> = depot_of(rt, alloc, &tables, 2);
-    first_steps(rt, alloc, &mut depot);
-    later_steps(rt, alloc, &mut depot);
+    one_by_one::<MapShelf>(rt, alloc, &tables, slots, rows);
+    one_by_one::<SortedShelf>(rt, alloc, &tables, slots, rows);
+    let steps = steps_of(rt, alloc, rows);
+    at_once::<MapShelf>(rt, alloc, &tables, slots, &steps, rows);
+    at_once::<SortedShelf>(rt, alloc, &tables, slots, &steps, rows);
 }
+
+/// The first message in two pieces, and what the other slot takes in; the update, and what both
+/// slots then hold.
+const DEPOT: &[Row] = &[
+    (Part(0, &ROW_1, 0, 30), Fed(0, 0, 0), &[]),
+    (Part(0, &ROW_1, 30, 62), Fed(1, 0, 1), &[]),
+    (End(0), Ended(0, 0, 0), &[(1, &[])]),
+    (Transfer(0, 1), Joined, &[(1, &ROW_1)]),
+    (Feed(1, &UPDATED), Fed(1, 0, 1), &[]),
+    (End(1), Ended(0, 0, 0), &[]),
+    (Merge(1, 0), Joined, &[]),
+    (Copy(0, 1), Joined, &[(0, &UPDATED), (1, &UPDATED)]),
+    (End(9), NoSlot(9), &[]),
+];
 
 #[test]
 fn depot(rt: HostRuntime) {
-    stepped::<MapShelf>(&rt, rt.alloc());
-    stepped::<SortedShelf>(&rt, rt.alloc());
+    assert_rows(&rt, rt.alloc(), 2, DEPOT);
 }
 
-// A run answers each step and does them in turn.
-fn runs<S: Shelf>(rt: &impl Abort, alloc: Global, depot: &mut Depot<S>) {
-    let steps = [
-        feed(rt, alloc, 0, ROW_1.as_slice()),
-        Step::End { slot: 0 },
-        Step::Transfer { from: 0, into: 1 },
-        Step::End { slot: 9 },
-    ];
-    let answers = depot.run(steps.as_slice()).expect(rt, "room");
-    let expected = [
-        fed(1, 0, 1),
-        ended(0, 0, 0),
-        Ok(Answer::Joined),
-        Err(StepFault::NoSlot(9)),
-    ];
-    assert!(rt; answers.as_slice() == expected.as_slice());
-}
-
-fn run_at_once<S: Shelf>(rt: &impl Abort, alloc: Global) {
-    let tables = tables(rt, alloc);
-    let mut depot: Depot<S> = depot_of(rt, alloc, &tables, 2);
-    runs(rt, alloc, &mut depot);
-    assert_writes(rt, alloc, &depot, 1, ROW_1.as_slice());
-}
+/// A run answers each step and does them in turn.
+const RUN: &[Row] = &[
+    (Feed(0, &ROW_1), Fed(1, 0, 1), &[]),
+    (End(0), Ended(0, 0, 0), &[]),
+    (Transfer(0, 1), Joined, &[]),
+    (End(9), NoSlot(9), &[(1, &ROW_1)]),
+];
 
 #[test]
 fn run_of_steps(rt: HostRuntime) {
-    run_at_once::<MapShelf>(&rt, rt.alloc());
-    run_at_once::<SortedShelf>(&rt, rt.alloc());
+    assert_rows(&rt, rt.alloc(), 2, RUN);
 }
 
-/// All is joined, and then the first slot has the archive of the message without key.
-fn joins_without_key<S: Shelf>(rt: &impl Abort, alloc: Global, depot: &mut Depot<S>, step: &Step) {
-    joins(rt, depot, step);
-    assert_writes(rt, alloc, depot, 0, MONTH_13.as_slice());
-}
-
-// A slot that takes in itself stays as it is, reports without key too.
-fn joins_itself<S: Shelf>(rt: &impl Abort, alloc: Global, depot: &mut Depot<S>) {
-    feeds(rt, alloc, depot, 0, MONTH_13.as_slice(), fed(1, 0, 1));
-    let (from, into) = (0, 0);
-    joins_without_key(rt, alloc, depot, &Step::Merge { from, into });
-    joins_without_key(rt, alloc, depot, &Step::Transfer { from, into });
-    joins_without_key(rt, alloc, depot, &Step::Copy { from, into });
-}
-
-/// A slot that had nothing takes in the report without key of another.
-fn joins_into_an_empty_slot<S: Shelf>(
-    rt: &impl Abort,
-    alloc: Global,
-    depot: &mut Depot<S>,
-    step: &Step,
-    into: usize,
-) {
-    joins(rt, depot, step);
-    assert_writes(rt, alloc, depot, into, MONTH_13.as_slice());
-}
-
-// Each kind of step brings the only report of an archive, which has no key, to another slot.
-fn joins_others<S: Shelf>(rt: &impl Abort, alloc: Global, depot: &mut Depot<S>) {
-    let steps = [
-        (1usize, Step::Merge { from: 0, into: 1 }),
-        (2, Step::Transfer { from: 0, into: 2 }),
-        (3, Step::Copy { from: 0, into: 3 }),
-    ];
-    for (into, step) in &steps {
-        joins_into_an_empty_slot(rt, alloc, depot, step, *into);
-    }
-}
-
-fn joined_to_itself<S: Shelf>(rt: &impl Abort, alloc: Global) {
-    let tables = tables(rt, alloc);
-    let mut depot: Depot<S> = depot_of(rt, alloc, &tables, 4);
-    joins_itself(rt, alloc, &mut depot);
-    joins_others(rt, alloc, &mut depot);
-}
+/// A slot that takes in itself stays as it is, reports without key too. Then each kind of step brings
+/// the only report of an archive, which has no key, to another slot, which had nothing.
+const ITSELF: &[Row] = &[
+    (Feed(0, &MONTH_13), Fed(1, 0, 1), &[]),
+    (Merge(0, 0), Joined, &[(0, &MONTH_13)]),
+    (Transfer(0, 0), Joined, &[(0, &MONTH_13)]),
+    (Copy(0, 0), Joined, &[(0, &MONTH_13)]),
+    (Merge(0, 1), Joined, &[(1, &MONTH_13)]),
+    (Transfer(0, 2), Joined, &[(2, &MONTH_13)]),
+    (Copy(0, 3), Joined, &[(3, &MONTH_13)]),
+];
 
 #[test]
 fn self_merge(rt: HostRuntime) {
-    joined_to_itself::<MapShelf>(&rt, rt.alloc());
-    joined_to_itself::<SortedShelf>(&rt, rt.alloc());
+    assert_rows(&rt, rt.alloc(), 4, ITSELF);
 }
 
-// The first slot that is not there is named.
-fn misses_slots<S: Shelf>(rt: &impl Abort, depot: &mut Depot<S>) {
-    let rows = [
-        (Step::End { slot: 2 }, 2),
-        (Step::Merge { from: 3, into: 4 }, 3),
-        (Step::Merge { from: 0, into: 4 }, 4),
-        (Step::Transfer { from: 5, into: 0 }, 5),
-        (Step::Transfer { from: 0, into: 6 }, 6),
-        (Step::Copy { from: 7, into: 8 }, 7),
-        (Step::Copy { from: 0, into: 8 }, 8),
-    ];
-    for (step, slot) in &rows {
-        misses(rt, depot, step, *slot);
-    }
-}
-
-fn missing_slots<S: Shelf>(rt: &impl Abort, alloc: Global) {
-    let tables = tables(rt, alloc);
-    let mut depot: Depot<S> = depot_of(rt, alloc, &tables, 1);
-    let no_slot = Err(StepFault::NoSlot(1));
-    feeds(rt, alloc, &mut depot, 1, ROW_1.as_slice(), no_slot);
-    misses_slots(rt, &mut depot);
-    assert_writes(rt, alloc, &depot, 0, &[]);
-}
+/// The first slot that is not there is named.
+const MISSING: &[Row] = &[
+    (Feed(1, &ROW_1), NoSlot(1), &[]),
+    (End(2), NoSlot(2), &[]),
+    (Merge(3, 4), NoSlot(3), &[]),
+    (Merge(0, 4), NoSlot(4), &[]),
+    (Transfer(5, 0), NoSlot(5), &[]),
+    (Transfer(0, 6), NoSlot(6), &[]),
+    (Copy(7, 8), NoSlot(7), &[]),
+    (Copy(0, 8), NoSlot(8), &[(0, &[])]),
+];
 
 #[test]
 fn no_slot(rt: HostRuntime) {
-    missing_slots::<MapShelf>(&rt, rt.alloc());
-    missing_slots::<SortedShelf>(&rt, rt.alloc());
+    assert_rows(&rt, rt.alloc(), 1, MISSING);
 }
 
-/// Pieces for the first slot are answered so, one after another.
-fn feeds_all<S: Shelf>(
-    rt: &impl Abort,
-    alloc: Global,
-    depot: &mut Depot<S>,
-    rows: &[(&[u8], Result<Answer, StepFault>)],
-) {
-    for (octets, answer) in rows {
-        let step = feed(rt, alloc, 0, *octets);
-        let found = depot.step(&step);
-        assert!(rt; found == *answer);
-    }
-}
-
-// A frame that spells no message is counted, also one that only an end brings; a message that an
-// end brings is added with it.
-fn frames_come<S: Shelf>(rt: &impl Abort, alloc: Global, depot: &mut Depot<S>) {
-    let pieces: [(&[u8], Result<Answer, StepFault>); 7] = [
-        (EDITION_5.as_slice(), fed(0, 1, 0)),
-        (b"BUFR", fed(0, 0, 0)),
-        (ROW_1.as_slice(), fed(0, 0, 0)),
-        (EDITION_5.as_slice(), fed(0, 0, 0)),
-        (EDITION_5.as_slice(), fed(0, 0, 0)),
-        (ROW_1.as_slice(), fed(0, 0, 0)),
-        (EDITION_5.as_slice(), fed(0, 0, 0)),
-    ];
-    feeds_all(rt, alloc, depot, &pieces);
-    does(rt, depot, &Step::End { slot: 0 }, ended(2, 3, 1));
-    feeds(rt, alloc, depot, 0, ROW_1.as_slice(), fed(1, 0, 0));
-    assert_writes(rt, alloc, depot, 0, ROW_1.as_slice());
-}
-
-fn refused_frames<S: Shelf>(rt: &impl Abort, alloc: Global) {
-    let tables = tables(rt, alloc);
-    let mut depot: Depot<S> = depot_of(rt, alloc, &tables, 1);
-    frames_come(rt, alloc, &mut depot);
-}
+/// A frame that spells no message is counted, also one that only an end brings; a message that an
+/// end brings is added with it.
+const FRAMES: &[Row] = &[
+    (Feed(0, &EDITION_5), Fed(0, 1, 0), &[]),
+    (Feed(0, b"BUFR"), Fed(0, 0, 0), &[]),
+    (Feed(0, &ROW_1), Fed(0, 0, 0), &[]),
+    (Feed(0, &EDITION_5), Fed(0, 0, 0), &[]),
+    (Feed(0, &EDITION_5), Fed(0, 0, 0), &[]),
+    (Feed(0, &ROW_1), Fed(0, 0, 0), &[]),
+    (Feed(0, &EDITION_5), Fed(0, 0, 0), &[]),
+    (End(0), Ended(2, 3, 1), &[]),
+    (Feed(0, &ROW_1), Fed(1, 0, 0), &[(0, &ROW_1)]),
+];
 
 #[test]
 fn frames_of_the_end(rt: HostRuntime) {
-    refused_frames::<MapShelf>(&rt, rt.alloc());
-    refused_frames::<SortedShelf>(&rt, rt.alloc());
+    assert_rows(&rt, rt.alloc(), 1, FRAMES);
 }
 
-// This is printed of a fault.
+/// A thousand slots, the last of which takes in a message.
+const LAST: &[Row] = &[(Feed(999, &ROW_1), Fed(1, 0, 1), &[(0, &[]), (999, &ROW_1)])];
+
+#[test]
+fn thousand_slots(rt: HostRuntime) {
+    assert_rows(&rt, rt.alloc(), 1000, LAST);
+}
+
+/// Faults, and what is printed of them.
+const PRINTED: &[(StepFault, &str)] = &[
+    (StepFault::NoSlot(9), "P1 NoSlot 9"),
+    (StepFault::StreamTooLong, "P2 StreamTooLong"),
+    (
+        StepFault::OutOfMemory { joined: 3 },
+        "out of memory, 3 reports joined",
+    ),
+];
+
+/// This is printed of a fault.
 fn assert_prints(rt: &impl Abort, alloc: Global, fault: StepFault, text: &str) {
     let said = format!(in alloc; "{fault}").expect(rt, "room");
-    assert!(rt; said.as_str() == text, "{text}");
+    same(rt, said.as_str(), text);
 }
 
 #[test]
 fn texts_of_faults(rt: HostRuntime) {
-    let alloc = rt.alloc();
-    assert_prints(&rt, alloc, StepFault::NoSlot(9), "P1 NoSlot 9");
-    assert_prints(&rt, alloc, StepFault::StreamTooLong, "P2 StreamTooLong");
-    let ran_out = StepFault::OutOfMemory { joined: 3 };
-    assert_prints(&rt, alloc, ran_out, "out of memory, 3 reports joined");
-}
-
-// A thousand slots, the last of which takes in a message.
-fn many_slots<S: Shelf>(rt: &impl Abort, alloc: Global) {
-    let tables = tables(rt, alloc);
-    let mut depot: Depot<S> = depot_of(rt, alloc, &tables, 1000);
-    feeds(rt, alloc, &mut depot, 999, ROW_1.as_slice(), fed(1, 0, 1));
-    assert_writes(rt, alloc, &depot, 0, &[]);
-    assert_writes(rt, alloc, &depot, 999, ROW_1.as_slice());
-}
-
-#[test]
-fn thousand_slots(rt: HostRuntime) {
-    many_slots::<MapShelf>(&rt, rt.alloc());
-    many_slots::<SortedShelf>(&rt, rt.alloc());
+    for (fault, text) in PRINTED {
+        assert_prints(&rt, rt.alloc(), *fault, *text);
+    }
 }

@@ -1,7 +1,7 @@
-//! Every growth refused in turn, of bits, messages and frames: each call that takes memory, once in a
-//! test of its own, which repeats a refused call and compares the state after the refusal and the
-//! answer. Run as they are, no growth is refused; `tests/refuse-each-growth` runs each test once for
-//! each of its growths, which then fails. Octets, texts and counts are typed from the rules of the
+//! Every growth refused in turn, of bits, messages and frames: the calls that take memory, a few in
+//! each test, which repeats a refused call and compares the state after the refusal and the answer.
+//! Run as they are, no growth is refused; `tests/refuse-each-growth` runs each test once for each
+//! of its growths, which then fails. Octets, texts and counts are typed from the rules of the
 //! formats.
 
 mod data;

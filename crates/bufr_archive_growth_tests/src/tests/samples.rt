@@ -3,7 +3,7 @@
 use crate::tests::refusals::repeated;
 use bufr_tables::{TableB, TableD, Tables};
 use std::alloc::Global;
-use std::test::Fail;
+use std::process::Abort;
 
 /// Table B of the tests.
 const TABLE_B: &[u8] = b"FXY,BUFR_Unit,BUFR_Scale,BUFR_ReferenceValue,BUFR_DataWidth_Bits\n\
@@ -75,32 +75,29 @@ pub(super) const MISSING_TEMPERATURE: &[u8] = b"BUFR\x00\x00\x3E\x04\
 \x00\x00\x0D\x00\x14\xC0\x3F\x40\x9E\xC0\x3F\xFF\xC0\
 7777";
 
-/// Table B of the tests, parsed.
-fn elements(alloc: Global) -> Result<TableB, Fail> {
-    Ok(repeated!(TableB::parse(alloc, TABLE_B))?)
-}
-
-/// Table D of the tests, parsed.
-fn sequences(alloc: Global) -> Result<TableD, Fail> {
-    Ok(repeated!(TableD::parse(alloc, TABLE_D))?)
-}
-
 /// The tables of the tests.
-pub(super) fn tables(alloc: Global) -> Result<Tables, Fail> {
-    let elements = elements(alloc)?;
-    Ok(Tables::new(elements, sequences(alloc)?))
+pub(super) fn tables(rt: &impl Abort, alloc: Global) -> Tables {
+    let elements = repeated!(rt, TableB::parse(alloc, TABLE_B));
+    let sequences = repeated!(rt, TableD::parse(alloc, TABLE_D));
+    Tables::new(elements, sequences)
 }
 
 /// An empty vector with room for so many octets.
-pub(super) fn room(alloc: Global, octets: usize) -> Result<Vec<u8>, Fail> {
-    Ok(repeated!(Vec::with_capacity(alloc, octets))?)
+pub(super) fn room(rt: &impl Abort, alloc: Global, octets: usize) -> Vec<u8> {
+    repeated!(rt, Vec::with_capacity(alloc, octets))
 }
 
 /// Octets joined in one vector.
-pub(super) fn joined(alloc: Global, parts: &[&[u8]]) -> Result<Vec<u8>, Fail> {
+pub(super) fn joined(rt: &impl Abort, alloc: Global, parts: &[&[u8]]) -> Vec<u8> {
     let mut octets = Vec::new(alloc);
     for part in parts {
-        repeated!(octets.extend_from_slice(part))?;
+        repeated!(rt, octets.extend_from_slice(part));
     }
-    Ok(octets)
+    octets
+}
+
+/// The first so many of a list.
+pub(super) fn first<'a, T>(rt: &impl Abort, list: &'a [T], count: u128) -> &'a [T] {
+    assert!(rt; count <= list.len() as u128);
+    &list[..count as usize]
 }

@@ -2,9 +2,13 @@
 
 ghost use Rattle.std.specs.Prelude.{◌<◌};
 
-use super::{ROW_1, assert_writes, depot_of, does, ended, fed, feed, feeds, joins, same, tables};
+use super::{
+    Copy, Done, Ended, Fed, Joined, Merge, ROW_1, Transfer, answer_of, assert_writes, does, feed,
+    same, step_of, tables,
+};
 use bufr_archive::{MapShelf, Shelf, SortedShelf};
-use bufr_depot::*;
+use bufr_depot::{Answer, Depot, Plan, Ran, Step, StepFault, run_both};
+use bufr_tables::Tables;
 use std::alloc::Global;
 use std::process::Abort;
 
@@ -31,38 +35,58 @@ fn stations(rt: &impl Abort, alloc: Global) -> Vec<u8> {
     text
 }
 
+/// Each of the answers tells that nothing came with a stream's end.
+fn assert_ended(rt: &impl Abort, answers: &[Result<Answer, StepFault>]) {
+    same(rt, answers.len(), 1000);
+    for answer in answers {
+        same(rt, *answer, answer_of(Ended(0, 0, 0)));
+    }
+}
+
 /// A thousand ends of a stream in one run.
 fn runs_a_thousand<S: Shelf>(rt: &impl Abort, alloc: Global, depot: &mut Depot<S>) {
     let mut steps = Vec::new(alloc);
     for _ in 0u32..1000 {
         steps.push(Step::End { slot: 1 }).expect(rt, "room");
     }
-    let answers = depot.run(steps.as_slice()).expect(rt, "room");
-    assert!(rt; answers.len() == 1000);
-    for answer in &answers {
-        assert!(rt; *answer == ended(0, 0, 0));
+    let answers = depot.run(&steps).expect(rt, "room");
+    assert_ended(rt, &answers);
+}
+
+/// Steps that bring the reports of the first slot to the others.
+const JOINS: [Done; 3] = [Merge(0, 1), Transfer(1, 2), Copy(2, 3)];
+
+/// The stations in one piece, the stream's end, and the steps that join.
+fn take_in<S: Shelf>(rt: &impl Abort, alloc: Global, depot: &mut Depot<S>, text: &[u8]) {
+    let piece = feed(rt, alloc, 0, text);
+    does(rt, depot, &piece, Fed(1100, 0, 1100));
+    does(rt, depot, &Step::End { slot: 0 }, Ended(0, 0, 0));
+    for done in JOINS {
+        let step = step_of(rt, alloc, done);
+        does(rt, depot, &step, Joined);
     }
 }
 
-fn take_in_a_thousand<S: Shelf>(rt: &impl Abort, alloc: Global) {
-    let tables = tables(rt, alloc);
-    let mut depot: Depot<S> = depot_of(rt, alloc, &tables, 4);
-    let text = stations(rt, alloc);
-    feeds(rt, alloc, &mut depot, 0, &text, fed(1100, 0, 1100));
-    does(rt, &mut depot, &Step::End { slot: 0 }, ended(0, 0, 0));
-    joins(rt, &mut depot, &Step::Merge { from: 0, into: 1 });
-    joins(rt, &mut depot, &Step::Transfer { from: 1, into: 2 });
-    joins(rt, &mut depot, &Step::Copy { from: 2, into: 3 });
+fn take_in_a_thousand<S: Shelf>(rt: &impl Abort, alloc: Global, tables: &Tables, text: &[u8]) {
+    let mut depot: Depot<S> = Depot::new(alloc, tables, 4).expect(rt, "room");
+    take_in(rt, alloc, &mut depot, text);
     runs_a_thousand(rt, alloc, &mut depot);
     for slot in 0..4 {
-        assert_writes(rt, alloc, &depot, slot, &text);
+        assert_writes(rt, alloc, &depot, slot, text);
     }
+}
+
+/// Over both shelves.
+fn both_take_in(rt: &impl Abort, alloc: Global) {
+    let tables = tables(rt, alloc);
+    let text = stations(rt, alloc);
+    take_in_a_thousand::<MapShelf>(rt, alloc, &tables, &text);
+    take_in_a_thousand::<SortedShelf>(rt, alloc, &tables, &text);
 }
 
 #[test]
 fn thousand_reports_in_one_piece(rt: HostRuntime) {
-    take_in_a_thousand::<MapShelf>(&rt, rt.alloc());
-    take_in_a_thousand::<SortedShelf>(&rt, rt.alloc());
+    both_take_in(&rt, rt.alloc());
 }
 
 /// The stations in pieces of so many octets, and the end of their stream.
@@ -81,44 +105,33 @@ fn assert_ran<S: Shelf>(rt: &impl Abort, alloc: Global, ran: &Ran<S>, steps: usi
     assert_writes(rt, alloc, &ran.depot, 0, text);
 }
 
-/// What a plan leaves on a shelf of a kind.
-fn run_alone<'t, S: Shelf>(rt: &impl Abort, alloc: Global, plan: &Plan<'t, '_>) -> Ran<'t, S> {
-    plan.run(alloc).expect(rt, "room")
-}
-
-/// What two plans leave.
-fn run_two<'t, 'u>(
-    rt: &impl Abort,
-    alloc: Global,
-    one: &Plan<'t, '_>,
-    other: &Plan<'u, '_>,
-) -> (Ran<'t, MapShelf>, Ran<'u, SortedShelf>) {
-    run_both(alloc, one, other).expect(rt, "room")
-}
-
 /// Two plans, run together, leave the archive of the stations.
-fn assert_runs(
+fn assert_both(
     rt: &impl Abort,
     alloc: Global,
     one: &Plan<'_, '_>,
     other: &Plan<'_, '_>,
     text: &[u8],
 ) {
-    let (first, second) = run_two(rt, alloc, one, other);
+    let (first, second): (Ran<MapShelf>, Ran<SortedShelf>) = run_both(alloc, one, other).expect(
+        rt, "room",
+    );
     assert_ran(rt, alloc, &first, 2, text);
     assert_ran(rt, alloc, &second, 1101, text);
 }
 
+/// A plan leaves the archive of the stations.
+fn assert_alone(rt: &impl Abort, alloc: Global, plan: &Plan<'_, '_>, text: &[u8]) {
+    let ran: Ran<SortedShelf> = plan.run(alloc).expect(rt, "room");
+    assert_ran(rt, alloc, &ran, 1101, text);
+}
+
 /// The stations in one piece, and each in a piece of its own.
-#[test]
-fn plans_of_a_thousand_reports(rt: HostRuntime) {
-    let alloc = rt.alloc();
-    let tables = tables(&rt, alloc);
-    let text = stations(&rt, alloc);
-    let whole = steps_of(&rt, alloc, &text, 100_000);
-    let steps = steps_of(&rt, alloc, &text, 62);
+fn assert_plans(rt: &impl Abort, alloc: Global, tables: &Tables, text: &[u8]) {
+    let whole = steps_of(rt, alloc, text, 100_000);
+    let steps = steps_of(rt, alloc, text, 62);
     let one = Plan {
-        tables: &tables,
+        tables,
         slots: 1,
         steps: &whole,
     };
@@ -126,7 +139,18 @@ fn plans_of_a_thousand_reports(rt: HostRuntime) {
         steps: &steps,
         ..one
     };
-    assert_runs(&rt, alloc, &one, &other, &text);
-    let alone: Ran<SortedShelf> = run_alone(&rt, alloc, &other);
-    assert_ran(&rt, alloc, &alone, 1101, &text);
+    assert_both(rt, alloc, &one, &other, text);
+    assert_alone(rt, alloc, &other, text);
+}
+
+/// Plans of the stations.
+fn run_plans(rt: &impl Abort, alloc: Global) {
+    let tables = tables(rt, alloc);
+    let text = stations(rt, alloc);
+    assert_plans(rt, alloc, &tables, &text);
+}
+
+#[test]
+fn plans_of_a_thousand_reports(rt: HostRuntime) {
+    run_plans(&rt, rt.alloc());
 }

@@ -1,8 +1,10 @@
-//! Random runs against a plain model: of each slot the set of octets that it has taken in.
+//! Random runs against a plain model: of each slot the set of messages that it has taken in.
 ghost use Rattle.std.specs.Prelude.{◌≤◌};
 
-use super::*;
-use bufr_archive::Shelf;
+use super::{Ended, Fed, Joined, NoSlot, ROW_1, Told, assert_writes, does, feed, tables};
+use bufr_archive::{MapShelf, Shelf, SortedShelf};
+use bufr_depot::{Depot, Step};
+use bufr_tables::Tables;
 use std::alloc::Global;
 use std::process::Abort;
 
@@ -55,143 +57,98 @@ fn message(index: usize) -> [u8; 62] {
     octets
 }
 
-/// What a slot has taken in: a set of messages, the stream that is open, and what is to come in it.
+/// What is kept of a set of these messages: a station's first gives way to its update.
+fn kept(held: [bool; 6]) -> [bool; 6] {
+    let [first, update, second, its_update, no_key, other] = held;
+    [
+        first && !update,
+        update,
+        second && !its_update,
+        its_update,
+        no_key,
+        other,
+    ]
+}
+
+/// The text of what is kept.
+fn text_of(rt: &impl Abort, alloc: Global, held: [bool; 6]) -> Vec<u8> {
+    let mut text = Vec::new(alloc);
+    for (index, is_kept) in kept(held).iter().enumerate() {
+        if *is_kept {
+            text.extend_from_slice(&message(index)).expect(rt, "room");
+        }
+    }
+    text
+}
+
+/// What a slot has taken in: a set of messages; those that come in the stream that is open; and how
+/// many of their octets have come.
 #[derive(Drop)]
 struct Taken {
-    messages: Vec<Items<u8>>,
-    open: Vec<u8>,
-    coming: Vec<u8>,
+    held: [bool; 6],
+    coming: Vec<usize>,
+    come: usize,
 }
 
 impl Taken {
-    fn new(alloc: Global) -> Taken {
-        Taken {
-            messages: Vec::new(alloc),
-            open: Vec::new(alloc),
-            coming: Vec::new(alloc),
+    /// Takes in a message, and answers whether something else is kept then.
+    fn insert(&mut self, rt: &impl Abort, index: usize) -> bool {
+        let before = kept(self.held);
+        *self.held.get_mut(index).expect(rt, "a message") = true;
+        kept(self.held) != before
+    }
+
+    /// Takes in what another has.
+    fn join(&mut self, held: [bool; 6]) {
+        for (own, other) in self.held.iter_mut().zip(&held) {
+            *own = *own || *other;
         }
     }
 
-    fn has(&self, octets: &[u8]) -> bool {
-        for held in &self.messages {
-            if held.as_slice() == octets {
-                return true;
-            }
-        }
-        false
+    /// The octet of the stream at a place.
+    fn octet(&self, rt: &impl Abort, place: usize) -> u8 {
+        let index = self.coming.get(place / 62).expect(rt, "a message");
+        message(*index)[place % 62]
     }
 
-    fn insert(&mut self, rt: &impl Abort, alloc: Global, octets: &[u8]) {
-        if !self.has(octets) {
-            let held = Items::from_vec(copy_of(rt, alloc, octets));
-            self.messages.push(held).expect(rt, "room");
-        }
-    }
-
-    // Copies of the messages.
-    fn copied(&self, rt: &impl Abort, alloc: Global) -> Vec<Items<u8>> {
-        let mut messages = Vec::new(alloc);
-        for held in &self.messages {
-            let copied = Items::from_vec(copy_of(rt, alloc, held.as_slice()));
-            messages.push(copied).expect(rt, "room");
-        }
-        messages
-    }
-
-    // Takes in each of these messages.
-    fn insert_all(&mut self, rt: &impl Abort, alloc: Global, messages: &[Items<u8>]) {
-        for held in messages {
-            self.insert(rt, alloc, held.as_slice());
-        }
-    }
-
-    // A station's first message gives way to its update.
-    fn keeps(&self, index: usize) -> bool {
-        let update = message(index.saturating_add(1));
-        let gives_way = (index == 0 || index == 2) && self.has(update.as_slice());
-        self.has(message(index).as_slice()) && !gives_way
-    }
-
-    // The text of what is kept.
-    fn text(&self, rt: &impl Abort, alloc: Global) -> Vec<u8> {
-        let mut text = Vec::new(alloc);
-        for index in 0..6usize {
-            if self.keeps(index) {
-                append(rt, &mut text, message(index).as_slice());
-            }
-        }
-        text
-    }
-
-    // Takes in a message, and answers whether the text is another then.
-    fn take(&mut self, rt: &impl Abort, alloc: Global, octets: &[u8]) -> bool {
-        let before = self.text(rt, alloc);
-        self.insert(rt, alloc, octets);
-        let after = self.text(rt, alloc);
-        before.as_slice() != after.as_slice()
-    }
-
-    // The next octets of the stream.
-    fn next_piece(
+    /// The next octets of the stream, in which three more messages come.
+    fn piece(
         &mut self,
         rt: &impl Abort,
         alloc: Global,
         size: usize,
         numbers: &mut Numbers,
-    ) -> Items<u8> {
-        for _ in 0..3usize {
-            append(rt, &mut self.coming, message(numbers.below(6)).as_slice());
+    ) -> Vec<u8> {
+        let more = [numbers.below(6), numbers.below(6), numbers.below(6)];
+        self.coming.extend_from_slice(&more).expect(rt, "room");
+        let mut piece = Vec::new(alloc);
+        for place in self.come..self.come.saturating_add(size) {
+            piece.push(self.octet(rt, place)).expect(rt, "room");
         }
-        let piece = copy_of(rt, alloc, front(self.coming.as_slice(), size));
-        let rest = copy_of(rt, alloc, behind(self.coming.as_slice(), size));
-        self.coming = rest;
-        Items::from_vec(piece)
+        piece
     }
 
-    // Takes in the messages that are whole with a piece, and answers how many there are and how
-    // many changed the text.
-    fn feed(&mut self, rt: &impl Abort, alloc: Global, piece: &[u8]) -> (u128, u128) {
-        let first = self.open.len() / 62;
-        append(rt, &mut self.open, piece);
-        let count = self.open.len() / 62;
+    /// Takes in the messages that are whole with so many octets, and answers how many there are and
+    /// how many changed what is kept.
+    fn take(&mut self, rt: &impl Abort, size: usize) -> Told {
+        let first = self.come / 62;
+        self.come = self.come.saturating_add(size);
+        let count = self.come / 62;
         let mut changed: u128 = 0;
         for number in first..count {
-            let octets = copy_of(rt, alloc, nth(self.open.as_slice(), number));
-            if self.take(rt, alloc, octets.as_slice()) {
+            let index = *self.coming.get(number).expect(rt, "a message");
+            if self.insert(rt, index) {
                 changed = changed.saturating_add(1);
             }
         }
-        (count.saturating_sub(first) as u128, changed)
+        Fed(count.saturating_sub(first) as u128, 0, changed)
     }
 
-    // Ends the stream: what was cut off in it is lost.
+    /// Ends the stream: what was cut off in it is lost.
     fn end(&mut self) {
-        self.open.clear();
         self.coming.clear();
+        self.come = 0;
     }
-}
-
-fn copy_of(rt: &impl Abort, alloc: Global, octets: &[u8]) -> Vec<u8> {
-    Vec::from_slice(alloc, octets).expect(rt, "room")
-}
-
-fn append(rt: &impl Abort, text: &mut Vec<u8>, octets: &[u8]) {
-    text.extend_from_slice(octets).expect(rt, "room");
-}
-
-// The first so many octets, or all.
-fn front(octets: &[u8], count: usize) -> &[u8] {
-    octets.get(..count).unwrap_or(octets)
-}
-
-// The octets behind the first so many.
-fn behind(octets: &[u8], count: usize) -> &[u8] {
-    octets.get(count..).unwrap_or(&[])
-}
-
-// The message of this number in a stream of whole ones.
-fn nth(octets: &[u8], number: usize) -> &[u8] {
-    front(behind(octets, number.saturating_mul(62)), 62)
 }
 
 /// Three slots, the same model for each.
@@ -205,58 +162,54 @@ impl Plain {
     fn new(rt: &impl Abort, alloc: Global, seed: u64) -> Plain {
         let mut slots = Vec::new(alloc);
         for _ in 0..3usize {
-            slots.push(Taken::new(alloc)).expect(rt, "room");
+            let taken = Taken {
+                held: [false; 6],
+                coming: Vec::new(alloc),
+                come: 0,
+            };
+            slots.push(taken).expect(rt, "room");
         }
         let numbers = Numbers { state: seed };
         Plain { slots, numbers }
     }
 
-    // The step of a piece of so many octets, and its answer.
-    fn feed(&mut self, rt: &impl Abort, alloc: Global, slot: usize, size: usize) -> Asked {
+    /// The step of a piece of so many octets, and its answer.
+    fn feed(&mut self, rt: &impl Abort, alloc: Global, slot: usize, size: usize) -> (Step, Told) {
         let Some(taken) = self.slots.get_mut(slot) else {
-            let piece = Items::from_vec(Vec::new(alloc));
-            return (Step::Feed { slot, piece }, Err(StepFault::NoSlot(slot)));
+            return (feed(rt, alloc, slot, &[]), NoSlot(slot));
         };
-        let piece = taken.next_piece(rt, alloc, size, &mut self.numbers);
-        let (messages, changed) = taken.feed(rt, alloc, piece.as_slice());
-        (Step::Feed { slot, piece }, fed(messages, 0, changed))
+        let piece = taken.piece(rt, alloc, size, &mut self.numbers);
+        (feed(rt, alloc, slot, &piece), taken.take(rt, size))
     }
 
-    // A stream's end, and its answer.
-    fn end(&mut self, slot: usize) -> Asked {
-        let Some(taken) = self.slots.get_mut(slot) else {
-            return (Step::End { slot }, Err(StepFault::NoSlot(slot)));
-        };
-        taken.end();
-        (Step::End { slot }, ended(0, 0, 0))
-    }
-
-    // The messages of a slot, if it is there.
-    fn messages(&self, rt: &impl Abort, alloc: Global, slot: usize) -> Option<Vec<Items<u8>>> {
-        match self.slots.get(slot) {
-            Some(taken) => Some(taken.copied(rt, alloc)),
-            None => None,
+    /// The answer of a stream's end.
+    fn end(&mut self, slot: usize) -> Told {
+        match self.slots.get_mut(slot) {
+            Some(taken) => {
+                taken.end();
+                Ended(0, 0, 0)
+            }
+            None => NoSlot(slot),
         }
     }
 
-    // What one slot has is the other's too; the answer names the first slot that is not there.
-    fn join(
-        &mut self,
-        rt: &impl Abort,
-        alloc: Global,
-        from: usize,
-        into: usize,
-    ) -> Result<Answer, StepFault> {
-        let messages = self
-            .messages(rt, alloc, from)
-            .ok_or(StepFault::NoSlot(from))?;
-        let target = self.slots.get_mut(into).ok_or(StepFault::NoSlot(into))?;
-        target.insert_all(rt, alloc, messages.as_slice());
-        Ok(Answer::Joined)
+    /// What one slot has is the other's too; the answer names the first slot that is not there.
+    fn join(&mut self, from: usize, into: usize) -> Told {
+        let held = match self.slots.get(from) {
+            Some(taken) => taken.held,
+            None => return NoSlot(from),
+        };
+        match self.slots.get_mut(into) {
+            Some(target) => {
+                target.join(held);
+                Joined
+            }
+            None => NoSlot(into),
+        }
     }
 
-    // A step, and its answer.
-    fn ask(&mut self, rt: &impl Abort, alloc: Global, size: usize) -> Asked {
+    /// A step, and its answer.
+    fn ask(&mut self, rt: &impl Abort, alloc: Global, size: usize) -> (Step, Told) {
         let kind = self.numbers.below(9);
         let from = self.numbers.below(4);
         let into = self.numbers.below(4);
@@ -264,23 +217,22 @@ impl Plain {
             0 => Step::Merge { from, into },
             1 => Step::Transfer { from, into },
             2 => Step::Copy { from, into },
-            3 => return self.end(into),
+            3 => return (Step::End { slot: into }, self.end(into)),
             _ => return self.feed(rt, alloc, into, size),
         };
-        (step, self.join(rt, alloc, from, into))
+        (step, self.join(from, into))
     }
 }
 
-// Each slot writes the text of its set.
+/// Each slot writes the text of its set.
 fn assert_sets<S: Shelf>(rt: &impl Abort, alloc: Global, depot: &Depot<S>, plain: &Plain) {
-    for slot in 0..3usize {
-        let taken = plain.slots.get(slot).expect(rt, "a slot");
-        let text = taken.text(rt, alloc);
-        assert_writes(rt, alloc, depot, slot, text.as_slice());
+    for (slot, taken) in plain.slots.iter().enumerate() {
+        let text = text_of(rt, alloc, taken.held);
+        assert_writes(rt, alloc, depot, slot, &text);
     }
 }
 
-// One step of both.
+/// One step of both.
 fn step_both<S: Shelf>(
     rt: &impl Abort,
     alloc: Global,
@@ -288,25 +240,30 @@ fn step_both<S: Shelf>(
     plain: &mut Plain,
     size: usize,
 ) {
-    let (step, answer) = plain.ask(rt, alloc, size);
-    does(rt, depot, &step, answer);
+    let (step, told) = plain.ask(rt, alloc, size);
+    does(rt, depot, &step, told);
     assert_sets(rt, alloc, depot, plain);
 }
 
-// A run with pieces of every size from 0 to 150, twice.
-fn run<S: Shelf>(rt: &impl Abort, alloc: Global, seed: u64) {
-    let tables = tables(rt, alloc);
-    let mut depot: Depot<S> = depot_of(rt, alloc, &tables, 3);
+/// A run with pieces of every size from 0 to 150, twice.
+fn run<S: Shelf>(rt: &impl Abort, alloc: Global, tables: &Tables, seed: u64) {
+    let mut depot: Depot<S> = Depot::new(alloc, tables, 3).expect(rt, "room");
     let mut plain = Plain::new(rt, alloc, seed);
     for number in 0..302usize {
         step_both(rt, alloc, &mut depot, &mut plain, number % 151);
     }
 }
 
+/// Runs from three seeds.
+fn runs(rt: &impl Abort, alloc: Global) {
+    let tables = tables(rt, alloc);
+    for seed in 1..4u64 {
+        run::<MapShelf>(rt, alloc, &tables, seed);
+        run::<SortedShelf>(rt, alloc, &tables, seed);
+    }
+}
+
 #[test]
 fn random_runs(rt: HostRuntime) {
-    for seed in 1..4u64 {
-        run::<MapShelf>(&rt, rt.alloc(), seed);
-        run::<SortedShelf>(&rt, rt.alloc(), seed);
-    }
+    runs(&rt, rt.alloc());
 }

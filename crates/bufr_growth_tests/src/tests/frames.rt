@@ -1,242 +1,162 @@
 //! Frames of a stream.
 
-use crate::tests::refusals::is_refused;
+ghost use Rattle.std.specs.Prelude.{◌+◌, ◌<◌, ◌^◌, length};
+
+use crate::tests::refusals::repeated;
 use crate::tests::same;
 use crate::tests::samples::SEQUENCES;
-use bufr_answers::OutOfMemory;
-use bufr_frame::{Found, Framer, LentFrame, Look, NextFrame, Taken};
+use bufr_frame::{Found, Framer, LentFrame, Look};
+use std::alloc::Global;
 use std::process::Abort;
-use std::test::Fail;
 
 /// A stray `BUFR` and then a message, in three pieces: the stray one is open until the end.
 const HEADING: &[u8] = b"heading BUFR";
 
-/// Whether one frame, of the message at a place, was handed out.
-fn is_message_at(found: &[Found], place: u64) -> bool {
-    match found {
-        [frame] => frame.place == place && frame.bytes.as_slice() == SEQUENCES,
-        _ => false,
+/// A place of a stream, and the octets of the frame there.
+type Frame<'a> = (u64, &'a [u8]);
+
+/// The message was handed out at these places, and no other frame.
+fn assert_found(rt: &impl Abort, found: &[Found], places: &[u64]) {
+    same(rt, found.len(), places.len());
+    for (frame, place) in found.iter().zip(places) {
+        let wanted: Frame<'_> = (*place, SEQUENCES);
+        same(rt, (frame.place, frame.bytes.as_slice()), wanted);
     }
 }
 
 /// How many octets a framer has taken in, and how many it holds.
-type Standing = (u64, usize);
-
-/// What a framer has.
-fn standing(framer: &Framer) -> Standing {
+fn standing(framer: &Framer) -> (u64, usize) {
     (framer.fed(), framer.pending())
 }
 
-/// A piece is taken in; after a refusal the framer has as much as before.
-fn fed(rt: &impl Abort, framer: &mut Framer, piece: &[u8]) -> Result<Vec<Found>, OutOfMemory> {
-    let before = standing(framer);
+/// What a framer has, before a piece that it can count.
+fn before(rt: &impl Abort, framer: &Framer, piece: &[u8]) -> (u64, usize)
+    ensures { framer.now.fed + length piece.now < 2 ^ 64 }
+{
     assert!(rt; framer.fed() <= 1_000_000);
     assert!(rt; piece.len() <= 1000);
-    let answer = framer.feed(piece);
-    if answer.is_ok() {
-        return answer;
-    }
-    same(rt, standing(framer), before);
-    framer.feed(piece)
+    standing(framer)
 }
 
-/// A piece is taken in, and no frame is handed out.
-fn feed_open(rt: &impl Abort, framer: &mut Framer, piece: &[u8]) -> Result<(), Fail> {
-    assert!(rt; fed(rt, framer, piece)?.is_empty());
-    Ok(())
+/// With a piece the message is handed out at these places; after a refusal the framer has as much as
+/// before.
+fn feed(rt: &impl Abort, framer: &mut Framer, piece: &[u8], places: &[u64]) {
+    let had = before(rt, framer, piece);
+    let found = repeated!(rt, framer.feed(piece), same(rt, standing(framer), had));
+    assert_found(rt, &found, places);
 }
 
-/// A stream is ended; after a refusal the framer has as much as before.
-fn finished(rt: &impl Abort, framer: &mut Framer) -> Result<Vec<Found>, Fail> {
-    let before = standing(framer);
-    let mut answer = framer.finish();
-    if is_refused(&answer) {
-        same(rt, standing(framer), before);
-        answer = framer.finish();
-    }
+/// With the stream's end the message is handed out at these places; after a refusal the framer has
+/// as much as before.
+fn end(rt: &impl Abort, framer: &mut Framer, places: &[u64]) {
+    let had = standing(framer);
+    let found = repeated!(rt, framer.finish(), same(rt, standing(framer), had));
     same(rt, standing(framer), (0, 0));
-    Ok(answer?)
+    assert_found(rt, &found, places);
 }
 
-/// The message is handed out at once. In two pieces behind the heading it is still open.
-fn feed_all(rt: &impl Abort, framer: &mut Framer) -> Result<(), Fail> {
-    assert!(rt; is_message_at(&fed(rt, framer, SEQUENCES)?, 0));
+/// The message is handed out at once. In two pieces behind the heading it is open until the end.
+fn take_in(rt: &impl Abort, alloc: Global) {
+    let mut framer = Framer::new(alloc);
+    feed(rt, &mut framer, SEQUENCES, &[0]);
     for piece in [HEADING, &SEQUENCES[..40], &SEQUENCES[40..]] {
-        feed_open(rt, framer, piece)?;
+        feed(rt, &mut framer, piece, &[]);
     }
-    Ok(())
-}
-
-/// The stream's end brings the message at a place.
-fn end_with_message(rt: &impl Abort, framer: &mut Framer, place: u64) -> Result<(), Fail> {
-    assert!(rt; is_message_at(&finished(rt, framer)?, place));
-    Ok(())
+    same(rt, framer.fed(), 136);
+    end(rt, &mut framer, &[74]);
 }
 
 #[test]
-fn pieces_taken_in(rt: HostRuntime) -> Result<(), Fail> {
-    let mut framer = Framer::new(rt.alloc());
-    feed_all(&rt, &mut framer)?;
-    same(&rt, framer.fed(), 136);
-    end_with_message(&rt, &mut framer, 74)
+fn pieces_taken_in(rt: HostRuntime) {
+    take_in(&rt, rt.alloc());
 }
 
 /// A look at a piece, which leaves the framer as it is, and so does a refused one.
-fn looked(rt: &impl Abort, framer: &Framer, piece: &[u8]) -> Result<Look, Fail> {
-    let before = standing(framer);
-    assert!(rt; framer.fed() <= 1_000_000);
-    assert!(rt; piece.len() <= 1000);
-    let mut answer = framer.look(piece);
-    if is_refused(&answer) {
-        same(rt, standing(framer), before);
-        answer = framer.look(piece);
-    }
-    same(rt, standing(framer), before);
-    Ok(answer?)
+fn looked(rt: &impl Abort, framer: &Framer, piece: &[u8]) -> Look {
+    let had = before(rt, framer, piece);
+    let look = repeated!(rt, framer.look(piece), same(rt, standing(framer), had));
+    same(rt, standing(framer), had);
+    look
 }
 
-/// A look at the end.
-fn looked_at_end(framer: &Framer) -> Result<Look, OutOfMemory> {
-    match framer.look_end() {
-        Ok(look) => Ok(look),
-        Err(_) => framer.look_end(),
-    }
+/// The rest of a message, and then the stream's end, are looked at, and what was seen is settled.
+fn look_twice(rt: &impl Abort, alloc: Global) {
+    let mut framer = Framer::new(alloc);
+    feed(rt, &mut framer, &SEQUENCES[..40], &[]);
+    let look = looked(rt, &framer, &SEQUENCES[40..]);
+    assert_found(rt, &framer.settle(look), &[0]);
+    let look = repeated!(rt, framer.look_end());
+    assert_found(rt, &framer.settle(look), &[]);
 }
 
 #[test]
-fn pieces_looked_at(rt: HostRuntime) -> Result<(), Fail> {
-    let mut framer = Framer::new(rt.alloc());
-    feed_open(&rt, &mut framer, &SEQUENCES[..40])?;
-    let look = looked(&rt, &framer, &SEQUENCES[40..])?;
-    assert!(rt; is_message_at(&framer.settle(look), 0));
-    let look = looked_at_end(&framer)?;
-    assert!(rt; framer.settle(look).is_empty());
-    Ok(())
+fn pieces_looked_at(rt: HostRuntime) {
+    look_twice(&rt, rt.alloc());
 }
 
-/// One frame is taken out of a piece; after a refusal the framer has as much as before.
-fn taken<'a>(
-    rt: &impl Abort,
-    framer: &mut Framer,
-    piece: &'a [u8],
-) -> Result<Taken<'a>, OutOfMemory> {
-    let before = standing(framer);
-    assert!(rt; framer.fed() <= 1_000_000);
-    assert!(rt; piece.len() <= 1000);
-    let answer = framer.take_next(piece);
-    if answer.is_ok() {
-        return answer;
-    }
-    same(rt, standing(framer), before);
-    framer.take_next(piece)
-}
-
-/// Whether a frame of the message at a place was handed out.
-fn is_message(found: &Option<Found>, place: u64) -> bool {
+/// The place and the octets of a frame that was handed out.
+fn parts_of(found: &Option<Found>) -> Option<Frame<'_>> {
     match found {
-        Some(frame) => frame.place == place && frame.bytes.as_slice() == SEQUENCES,
-        None => false,
+        Some(frame) => Some((frame.place, frame.bytes.as_slice())),
+        None => None,
     }
 }
 
-/// No frame is taken out of a piece.
-fn take_none(rt: &impl Abort, framer: &mut Framer, piece: &[u8]) -> Result<(), Fail> {
-    assert!(rt; taken(rt, framer, piece)?.found.is_none());
-    Ok(())
+/// The place and the octets of a frame that was lent.
+fn parts_lent<'a>(found: &'a Option<LentFrame<'_>>) -> Option<Frame<'a>> {
+    match found {
+        Some(frame) => Some((frame.place(), frame.as_slice())),
+        None => None,
+    }
 }
 
-/// The message at a place is taken out of a piece that ends with it.
-fn take_message(
-    rt: &impl Abort,
-    framer: &mut Framer,
-    piece: &[u8],
-    place: u64,
-) -> Result<(), Fail> {
-    let taken = taken(rt, framer, piece)?;
-    assert!(rt; is_message(&taken.found, place) && taken.rest.is_empty());
-    Ok(())
+/// All of a piece is taken, and with it this frame or none; after a refusal the framer has as much
+/// as before.
+fn take(rt: &impl Abort, framer: &mut Framer, piece: &[u8], wanted: Option<Frame<'_>>) {
+    let had = before(rt, framer, piece);
+    let taken = repeated!(rt, framer.take_next(piece), same(rt, standing(framer), had));
+    same(rt, parts_of(&taken.found), wanted);
+    same(rt, taken.rest.len(), 0);
 }
 
-/// Pieces of a stream, and the place of the message that is handed out with each, if one is.
-fn pieces() -> [(&'static [u8], Option<u64>); 5] {
-    [
+/// The same of a frame that may be lent.
+fn lend(rt: &impl Abort, framer: &mut Framer, piece: &[u8], wanted: Option<Frame<'_>>) {
+    let had = before(rt, framer, piece);
+    let next = repeated!(
+        rt,
+        framer.next_frame(piece),
+        same(rt, standing(framer), had)
+    );
+    same(rt, parts_lent(&next.found), wanted);
+    same(rt, next.rest.len(), 0);
+}
+
+/// A stream is taken in piece by piece, each with its message, if it brings one.
+fn assert_one_by_one(rt: &impl Abort, alloc: Global, lends: bool) {
+    let pieces = [
         (&SEQUENCES[..40], None),
-        (&SEQUENCES[40..], Some(0)),
-        (SEQUENCES, Some(62)),
+        (&SEQUENCES[40..], Some((0, SEQUENCES))),
+        (SEQUENCES, Some((62, SEQUENCES))),
         (HEADING, None),
         (SEQUENCES, None),
-    ]
-}
-
-/// The pieces are taken in, with the message of each.
-fn take_all(rt: &impl Abort, framer: &mut Framer) -> Result<(), Fail> {
-    for (piece, message) in pieces() {
-        match message {
-            Some(place) => take_message(rt, framer, piece, place)?,
-            None => take_none(rt, framer, piece)?,
+    ];
+    let mut framer = Framer::new(alloc);
+    for (piece, wanted) in pieces {
+        if lends {
+            lend(rt, &mut framer, piece, wanted);
+        } else {
+            take(rt, &mut framer, piece, wanted);
         }
     }
-    Ok(())
+    end(rt, &mut framer, &[136]);
 }
 
 #[test]
-fn frames_taken_one_by_one(rt: HostRuntime) -> Result<(), Fail> {
-    let mut framer = Framer::new(rt.alloc());
-    take_all(&rt, &mut framer)?;
-    end_with_message(&rt, &mut framer, 136)
-}
-
-/// The next frame of a piece; after a refusal the framer has as much as before.
-fn next<'a>(
-    rt: &impl Abort,
-    framer: &mut Framer,
-    piece: &'a [u8],
-) -> Result<NextFrame<'a>, OutOfMemory> {
-    let before = standing(framer);
-    assert!(rt; framer.fed() <= 1_000_000);
-    assert!(rt; piece.len() <= 1000);
-    let answer = framer.next_frame(piece);
-    if answer.is_ok() {
-        return answer;
-    }
-    same(rt, standing(framer), before);
-    framer.next_frame(piece)
-}
-
-/// Whether a frame of the message at a place was lent.
-fn is_message_lent(found: &Option<LentFrame<'_>>, place: u64) -> bool {
-    match found {
-        Some(frame) => frame.place() == place && frame.as_slice() == SEQUENCES,
-        None => false,
-    }
-}
-
-/// The message at a place is lent with a piece, or none.
-fn lend(
-    rt: &impl Abort,
-    framer: &mut Framer,
-    piece: &[u8],
-    message: Option<u64>,
-) -> Result<(), Fail> {
-    let found = next(rt, framer, piece)?.found;
-    match message {
-        Some(place) => assert!(rt; is_message_lent(&found, place)),
-        None => assert!(rt; found.is_none()),
-    }
-    Ok(())
-}
-
-/// The pieces are taken in, and the message of each is lent.
-fn lend_all(rt: &impl Abort, framer: &mut Framer) -> Result<(), Fail> {
-    for (piece, message) in pieces() {
-        lend(rt, framer, piece, message)?;
-    }
-    Ok(())
+fn frames_taken_one_by_one(rt: HostRuntime) {
+    assert_one_by_one(&rt, rt.alloc(), false);
 }
 
 #[test]
-fn frames_lent_one_by_one(rt: HostRuntime) -> Result<(), Fail> {
-    let mut framer = Framer::new(rt.alloc());
-    lend_all(&rt, &mut framer)?;
-    end_with_message(&rt, &mut framer, 136)
+fn frames_lent_one_by_one(rt: HostRuntime) {
+    assert_one_by_one(&rt, rt.alloc(), true);
 }

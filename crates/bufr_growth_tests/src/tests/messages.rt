@@ -2,7 +2,7 @@
 
 ghost use Rattle.std.specs.Prelude.{◌≤◌, length};
 
-use crate::tests::refusals::{is_refused, repeated};
+use crate::tests::refusals::{assert_refused, repeated};
 use crate::tests::same;
 use crate::tests::samples::{
     COMPRESSED_PAIR, COMPRESSED_TEXTS, COUNT_0, COUNT_1, EDITION_3, LOCAL_OCTETS,
@@ -17,11 +17,10 @@ use bufr_message::{
 use bufr_tables::Tables;
 use std::alloc::Global;
 use std::process::Abort;
-use std::test::Fail;
 
 /// What octets spell.
-fn decoded(alloc: Global, tables: &Tables, octets: &[u8]) -> Result<Decoded, Fail> {
-    Ok(repeated!(decode(alloc, tables, octets))?)
+fn decoded(rt: &impl Abort, alloc: Global, tables: &Tables, octets: &[u8]) -> Decoded {
+    repeated!(rt, decode(alloc, tables, octets))
 }
 
 /// A message is written as these octets.
@@ -31,164 +30,138 @@ fn assert_written(
     tables: &Tables,
     message: &Message,
     octets: &[u8],
-) -> Result<(), Fail> {
-    let written = repeated!(encode(alloc, tables, message))?;
+) {
+    let written = repeated!(rt, encode(alloc, tables, message));
     same(rt, written.as_slice(), octets);
-    Ok(())
 }
 
 /// Octets are read, and what was read is written as these octets again.
-fn comes_back(rt: &impl Abort, alloc: Global, octets: &[u8]) -> Result<(), Fail> {
-    let tables = tables(alloc)?;
-    let found = decoded(alloc, &tables, octets)?;
+fn comes_back(rt: &impl Abort, alloc: Global, tables: &Tables, octets: &[u8]) {
+    let found = decoded(rt, alloc, tables, octets);
     same(rt, found.slack_octets, 0);
-    assert_written(rt, alloc, &tables, &found.message, octets)
+    assert_written(rt, alloc, tables, &found.message, octets);
+}
+
+/// A message of one subset, of the year 2024, is read, with one octet of slack.
+fn assert_edition_3(rt: &impl Abort, alloc: Global, tables: &Tables) {
+    let found = decoded(rt, alloc, tables, EDITION_3);
+    let message = &found.message;
+    let told = (found.slack_octets, message.head.year);
+    same(rt, told, (1, 2024));
+    same(rt, message.subsets.len(), 1);
+}
+
+/// Messages are read and written.
+fn all_read(rt: &impl Abort, alloc: Global) {
+    let tables = tables(rt, alloc);
+    for octets in [SEQUENCES, COMPRESSED_PAIR, LOCAL_OCTETS] {
+        comes_back(rt, alloc, &tables, octets);
+    }
+    assert_edition_3(rt, alloc, &tables);
 }
 
 #[test]
-fn plain_message_read_and_written(rt: HostRuntime) -> Result<(), Fail> {
-    comes_back(&rt, rt.alloc(), SEQUENCES)
-}
-
-#[test]
-fn compressed_message_read_and_written(rt: HostRuntime) -> Result<(), Fail> {
-    comes_back(&rt, rt.alloc(), COMPRESSED_PAIR)
-}
-
-/// A message's listing ends so.
-fn assert_ends_with(
-    rt: &impl Abort,
-    alloc: Global,
-    message: &Message,
-    end: &[u8],
-) -> Result<(), Fail> {
-    let listed = repeated!(text_of(alloc, message))?;
-    assert!(rt; listed.ends_with(end));
-    Ok(())
-}
-
-#[test]
-fn compressed_texts_read(rt: HostRuntime) -> Result<(), Fail> {
-    let alloc = rt.alloc();
-    let tables = tables(alloc)?;
-    let found = decoded(alloc, &tables, COMPRESSED_TEXTS)?;
-    let end = b"subset\n001011 \"ABC\"\nsubset\n001011 missing\nend\n";
-    assert_ends_with(&rt, alloc, &found.message, end)
-}
-
-#[test]
-fn local_octets_read_and_written(rt: HostRuntime) -> Result<(), Fail> {
-    comes_back(&rt, rt.alloc(), LOCAL_OCTETS)
-}
-
-/// A message of one subset, of the year 2024, was read, with one octet of slack.
-fn assert_edition_3(rt: &impl Abort, found: &Decoded) {
-    same(rt, found.slack_octets, 1);
-    same(rt, found.message.head.year, 2024);
-    same(rt, found.message.subsets.len(), 1);
-}
-
-#[test]
-fn edition_3_read(rt: HostRuntime) -> Result<(), Fail> {
-    let alloc = rt.alloc();
-    let tables = tables(alloc)?;
-    let found = decoded(alloc, &tables, EDITION_3)?;
-    assert_edition_3(&rt, &found);
-    Ok(())
+fn messages_read_and_written(rt: HostRuntime) {
+    all_read(&rt, rt.alloc());
 }
 
 /// The reports of octets; a message that was gone with a refused call is read again.
-fn reports_in(alloc: Global, tables: &Tables, octets: &[u8]) -> Result<Vec<Report>, Fail> {
-    let message = decoded(alloc, tables, octets)?.message;
-    let mut answer = reports(alloc, message);
-    if is_refused(&answer) {
-        answer = reports(alloc, decode(alloc, tables, octets)?.message);
-    }
-    Ok(answer?)
+fn reports_in(rt: &impl Abort, alloc: Global, tables: &Tables, octets: &[u8]) -> Vec<Report> {
+    repeated!(
+        rt,
+        reports(alloc, decoded(rt, alloc, tables, octets).message)
+    )
 }
 
 /// The canonical message of a report is this.
-fn assert_canonical(
-    rt: &impl Abort,
-    alloc: Global,
-    tables: &Tables,
-    report: &Report,
-    wanted: &[u8],
-) -> Result<(), Fail> {
-    let written = repeated!(canonical(alloc, tables, report))?;
-    same(rt, written.as_slice(), wanted);
-    Ok(())
+fn assert_canonical(rt: &impl Abort, alloc: Global, tables: &Tables, report: &Report, own: &[u8]) {
+    let written = repeated!(rt, canonical(alloc, tables, report));
+    same(rt, written.as_slice(), own);
 }
 
 /// The canonical messages of octets' reports are these.
-fn parts_into(
-    rt: &impl Abort,
-    alloc: Global,
-    tables: &Tables,
-    octets: &[u8],
-    wanted: [&[u8]; 2],
-) -> Result<(), Fail> {
-    let found = reports_in(alloc, tables, octets)?;
-    same(rt, found.len(), 2);
-    for (report, own) in found.iter().zip(&wanted) {
-        assert_canonical(rt, alloc, tables, report, own)?;
+fn parts_into(rt: &impl Abort, alloc: Global, tables: &Tables, octets: &[u8], wanted: &[&[u8]]) {
+    let found = reports_in(rt, alloc, tables, octets);
+    same(rt, found.len(), wanted.len());
+    for (report, own) in found.iter().zip(wanted) {
+        assert_canonical(rt, alloc, tables, report, *own);
     }
-    Ok(())
+}
+
+/// Messages of plain and of compressed subsets, and the canonical messages of their reports.
+const REPORTS: &[(&[u8], &[&[u8]])] = &[
+    (UNEQUAL_COUNTS, &[COUNT_0, COUNT_1]),
+    (COMPRESSED_PAIR, &[SEQUENCES, MISSING_TEMPERATURE]),
+];
+
+/// Messages are parted into reports.
+fn all_parted(rt: &impl Abort, alloc: Global) {
+    let tables = tables(rt, alloc);
+    for (octets, wanted) in REPORTS {
+        parts_into(rt, alloc, &tables, *octets, *wanted);
+    }
 }
 
 #[test]
-fn reports_of_plain_subsets(rt: HostRuntime) -> Result<(), Fail> {
-    let tables = tables(rt.alloc())?;
-    parts_into(&rt, rt.alloc(), &tables, UNEQUAL_COUNTS, [COUNT_0, COUNT_1])
+fn reports_of_subsets(rt: HostRuntime) {
+    all_parted(&rt, rt.alloc());
 }
 
-#[test]
-fn reports_of_compressed_subsets(rt: HostRuntime) -> Result<(), Fail> {
-    let tables = tables(rt.alloc())?;
-    let wanted = [SEQUENCES, MISSING_TEMPERATURE];
-    parts_into(&rt, rt.alloc(), &tables, COMPRESSED_PAIR, wanted)
+/// A message's listing ends so.
+fn assert_ends_with(rt: &impl Abort, alloc: Global, message: &Message, end: &[u8]) {
+    let listed = repeated!(rt, text_of(alloc, message));
+    assert!(rt; listed.ends_with(end));
+}
+
+/// Compressed texts are listed.
+fn list_texts(rt: &impl Abort, alloc: Global, tables: &Tables) {
+    let found = decoded(rt, alloc, tables, COMPRESSED_TEXTS);
+    let end = b"subset\n001011 \"ABC\"\nsubset\n001011 missing\nend\n";
+    assert_ends_with(rt, alloc, &found.message, end);
 }
 
 /// What writing the listing of a message to a fresh writer with room answers, and what it took.
 fn listed(
-    alloc: Global,
-    message: &Message,
-) -> Result<(Result<(), ListingWriteFault>, Vec<u8>), Fail> {
-    let mut writer = IntoWrite::new(room(alloc, 1000)?);
-    let answer = write_message(alloc, message, &mut writer);
-    Ok((answer, writer.into_inner()))
-}
-
-/// A message's listing is this; after a refusal nothing is written, and it is written again.
-fn assert_listed(
     rt: &impl Abort,
     alloc: Global,
     message: &Message,
-    wanted: &[u8],
-) -> Result<(), Fail> {
-    let (mut answer, mut written) = listed(alloc, message)?;
-    if is_refused(&answer) {
-        assert!(rt; written.is_empty());
-        (answer, written) = listed(alloc, message)?;
+) -> (Result<(), ListingWriteFault>, Vec<u8>) {
+    let mut writer = IntoWrite::new(room(rt, alloc, 1000));
+    let answer = write_message(alloc, message, &mut writer);
+    (answer, writer.into_inner())
+}
+
+/// A message's listing is this; after a refusal nothing is written, and it is written again.
+fn assert_listed(rt: &impl Abort, alloc: Global, message: &Message, wanted: &[u8]) {
+    let (answer, written) = listed(rt, alloc, message);
+    match answer {
+        Ok(()) => same(rt, written.as_slice(), wanted),
+        Err(fault) => {
+            assert_refused(rt, fault);
+            assert!(rt; written.is_empty());
+            let (answer, written) = listed(rt, alloc, message);
+            same(rt, answer, Ok(()));
+            same(rt, written.as_slice(), wanted);
+        }
     }
-    answer?;
-    same(rt, written.as_slice(), wanted);
-    Ok(())
+}
+
+/// The listing of the message is written.
+fn list_one(rt: &impl Abort, alloc: Global, tables: &Tables) {
+    let found = decoded(rt, alloc, tables, SEQUENCES);
+    assert_listed(rt, alloc, &found.message, SEQUENCES_LISTED);
+}
+
+/// Messages are listed.
+fn all_listed(rt: &impl Abort, alloc: Global) {
+    let tables = tables(rt, alloc);
+    list_texts(rt, alloc, &tables);
+    list_one(rt, alloc, &tables);
 }
 
 #[test]
-fn listing_written(rt: HostRuntime) -> Result<(), Fail> {
-    let alloc = rt.alloc();
-    let tables = tables(alloc)?;
-    let found = decoded(alloc, &tables, SEQUENCES)?;
-    assert_listed(&rt, alloc, &found.message, SEQUENCES_LISTED)
-}
-
-/// A view has a subset.
-fn assert_subset(rt: &impl Abort, view: &View<'_>)
-    ensures { 1 ≤ length view.now.message.subsets }
-{
-    assert!(rt; view.count() >= 1);
+fn messages_listed(rt: HostRuntime) {
+    all_listed(&rt, rt.alloc());
 }
 
 /// The fields of the first subset of a view, one after another.
@@ -201,46 +174,49 @@ fn fields_of(alloc: Global, view: &View<'_>) -> Result<Items<Field>, OutOfMemory
     }
 }
 
-/// The message is viewed under templates that are kept: its eight fields end with 273.15 K.
-fn assert_viewed(
-    rt: &impl Abort,
-    alloc: Global,
-    templates: &mut Templates<'_>,
-) -> Result<(), Fail> {
-    let view = repeated!(templates.view(alloc, SEQUENCES))?;
-    assert_subset(rt, &view);
-    let fields = repeated!(fields_of(alloc, &view))?;
+/// There are eight fields, and the last is 273.15 K.
+fn assert_last(rt: &impl Abort, fields: &[Field]) {
     same(rt, fields.len(), 8);
-    let last = match fields.get(7) {
-        Some(field) => field.value(),
-        None => None,
-    };
-    let units = match last {
-        Some(value) => value.units,
-        None => 0,
-    };
-    same(rt, units, 27_315);
-    assert_put(rt, alloc, &view)
+    let last = fields.get(7).expect(rt, "a field");
+    let value = last.value().expect(rt, "a number");
+    same(rt, value.units, 27_315);
+}
+
+/// The fields of the first subset of a view are those of the message.
+fn assert_fields(rt: &impl Abort, alloc: Global, view: &View<'_>) {
+    assert!(rt; view.count() >= 1);
+    let fields = repeated!(rt, fields_of(alloc, view));
+    assert_last(rt, fields.as_slice());
+}
+
+/// The message is viewed under templates that are kept.
+fn assert_viewed(rt: &impl Abort, alloc: Global, templates: &mut Templates<'_>) {
+    let view = repeated!(rt, templates.view(alloc, SEQUENCES));
+    assert_fields(rt, alloc, &view);
+    assert_put(rt, alloc, &view);
 }
 
 /// The canonical message of the first report of a view is put behind other octets.
-fn assert_put(rt: &impl Abort, alloc: Global, view: &View<'_>) -> Result<(), Fail>
-    requires { 1 ≤ length view.now.message.subsets }
-{
-    let mut out = repeated!(Vec::from_slice(alloc, b"archive"))?;
-    same(rt, repeated!(view.put_canonical(alloc, 1, &mut out))?, true);
+fn assert_put(rt: &impl Abort, alloc: Global, view: &View<'_>) {
+    assert!(rt; view.count() >= 1);
+    let mut out = repeated!(rt, Vec::from_slice(alloc, b"archive"));
+    same(rt, repeated!(rt, view.put_canonical(alloc, 1, &mut out)), true);
     same(
         rt,
         out.as_slice().strip_prefix(b"archive".as_slice()),
         Some(SEQUENCES),
     );
-    Ok(())
+}
+
+/// The message is viewed twice.
+fn view_twice(rt: &impl Abort, alloc: Global) {
+    let tables = tables(rt, alloc);
+    let mut templates = Templates::new(alloc, &tables);
+    assert_viewed(rt, alloc, &mut templates);
+    assert_viewed(rt, alloc, &mut templates);
 }
 
 #[test]
-fn messages_viewed_by_kept_templates(rt: HostRuntime) -> Result<(), Fail> {
-    let tables = tables(rt.alloc())?;
-    let mut templates = Templates::new(rt.alloc(), &tables);
-    assert_viewed(&rt, rt.alloc(), &mut templates)?;
-    assert_viewed(&rt, rt.alloc(), &mut templates)
+fn messages_viewed_by_kept_templates(rt: HostRuntime) {
+    view_twice(&rt, rt.alloc());
 }

@@ -2,6 +2,8 @@
 
 use bufr_answers::{Failure, OutOfMemory};
 use bufr_message::listing::ListingWriteFault;
+use std::fmt::Debug;
+use std::process::Abort;
 
 /// A call's answer for want of memory.
 pub(super) trait Refusal {
@@ -27,24 +29,24 @@ impl Refusal for ListingWriteFault {
     }
 }
 
-/// Whether memory was refused to a call.
-pub(super) fn is_refused<T, E: Refusal>(answer: &Result<T, E>) -> bool {
-    match answer {
-        Ok(_) => false,
-        Err(fault) => fault.is_refusal(),
-    }
+/// Stops the test at a fault that is no want of memory.
+pub(super) fn assert_refused<E: Refusal + Debug + Drop>(rt: &impl Abort, fault: E) {
+    assert!(rt; fault.is_refusal(), "{fault:?}");
 }
 
-/// What a call answers, made once more where memory was refused to it.
+/// What a call answers. Where memory was refused to it, what has to hold then is compared, if that
+/// is given, and it is made once more.
 macro_rules! repeated {
-    ($call:expr) => {{
-        let first = $call;
-        if $crate::tests::refusals::is_refused(&first) {
-            $call
-        } else {
-            first
+    ($rt:expr, $call:expr $(, $then:expr)?) => {
+        match $call {
+            Ok(answer) => answer,
+            Err(fault) => {
+                $crate::tests::refusals::assert_refused($rt, fault);
+                $($then;)?
+                $call.expect($rt, "what no longer is refused")
+            }
         }
-    }};
+    };
 }
 
 pub(super) use repeated;

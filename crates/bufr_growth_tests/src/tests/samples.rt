@@ -3,7 +3,7 @@
 use crate::tests::refusals::repeated;
 use bufr_tables::{TableB, TableD, Tables};
 use std::alloc::Global;
-use std::test::Fail;
+use std::process::Abort;
 
 /// Table B of the tests.
 const TABLE_B: &[u8] = b"FXY,BUFR_Unit,BUFR_Scale,BUFR_ReferenceValue,BUFR_DataWidth_Bits\n\
@@ -109,23 +109,14 @@ pub(super) const EDITION_3: &[u8] = b"BUFR\x00\x00\x3C\x03\
 \x00\x00\x0E\x00\x14\xC0\x3F\x40\x9E\xC0\x1A\xAC\xC0\x00\
 7777";
 
-/// Table B of the tests, parsed.
-fn elements(alloc: Global) -> Result<TableB, Fail> {
-    Ok(repeated!(TableB::parse(alloc, TABLE_B))?)
-}
-
-/// Table D of the tests, parsed.
-fn sequences(alloc: Global) -> Result<TableD, Fail> {
-    Ok(repeated!(TableD::parse(alloc, TABLE_D))?)
-}
-
 /// The tables of the tests.
-pub(super) fn tables(alloc: Global) -> Result<Tables, Fail> {
-    let elements = elements(alloc)?;
-    Ok(Tables::new(elements, sequences(alloc)?))
+pub(super) fn tables(rt: &impl Abort, alloc: Global) -> Tables {
+    let elements = repeated!(rt, TableB::parse(alloc, TABLE_B));
+    let sequences = repeated!(rt, TableD::parse(alloc, TABLE_D));
+    Tables::new(elements, sequences)
 }
 
 /// An empty vector with room for so many octets.
-pub(super) fn room(alloc: Global, octets: usize) -> Result<Vec<u8>, Fail> {
-    Ok(repeated!(Vec::with_capacity(alloc, octets))?)
+pub(super) fn room(rt: &impl Abort, alloc: Global, octets: usize) -> Vec<u8> {
+    repeated!(rt, Vec::with_capacity(alloc, octets))
 }

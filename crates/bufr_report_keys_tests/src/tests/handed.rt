@@ -1,10 +1,10 @@
 //! Keys of fields that are handed out one at a time, by a walk or laid out.
 
-use super::{HEAD, assert_at_noon};
+use super::{AT_NOON, HEAD, Mobile, Moment, Name, Wigos, Wmo, assert_key};
 use bufr_bits::{BitReader, BitSink};
-use bufr_data::{DataTemplate, SubsetIndex};
+use bufr_data::DataTemplate;
 use bufr_expand::Template;
-use bufr_keys::{Key, Station};
+use bufr_keys::Key;
 use bufr_report_keys::key_of_fields;
 use bufr_tables::{Fxy, TableB, TableD, Tables};
 use std::alloc::Global;
@@ -31,7 +31,7 @@ const TABLE_D: &[u8] = b"FXY1,FXY2
 ";
 
 /// A temperature, two block numbers, a station number, two names and a date.
-const LIST: [(u8, u8); 10] = [
+const LIST: &[(u8, u8)] = &[
     (12, 101),
     (1, 1),
     (1, 1),
@@ -54,59 +54,130 @@ fn data_template(rt: &impl Abort, alloc: Global, list: &[(u8, u8)]) -> DataTempl
         let fxy = Fxy::new(0, *x, *y).expect(rt, "a descriptor");
         descriptors.push(fxy).expect(rt, "room");
     }
-    let template = Template::build(alloc, &tables, descriptors.as_slice());
+    let template = Template::build(alloc, &tables, &descriptors);
     DataTemplate::new(template.expect(rt, "a template"))
 }
 
-/// The octets of one subset with these blocks, the station 384, these names, and noon.
-pub(crate) fn octets(
-    rt: &impl Abort,
-    alloc: Global,
-    blocks: [u64; 2],
-    names: [&[u8]; 2],
-) -> Vec<u8> {
+/// What stands in the bits of a subset.
+#[derive(Clone, Copy)]
+enum Part<'a> {
+    /// A number in so many bits.
+    Bits(u32, u64),
+    /// A text.
+    Text(&'a [u8]),
+}
+
+use Part::{Bits, Text};
+
+/// The octets of parts, one behind the other.
+fn octets(rt: &impl Abort, alloc: Global, parts: &[Part<'_>]) -> Vec<u8> {
     let mut sink = BitSink::new(alloc);
-    let [block, other] = blocks;
-    let [name, another] = names;
-    sink.put(16, 27315).expect(rt, "room");
-    sink.put(7, block % 128).expect(rt, "room");
-    sink.put(7, other % 128).expect(rt, "room");
-    sink.put(10, 384).expect(rt, "room");
-    sink.put_bytes(name).expect(rt, "room");
-    sink.put_bytes(another).expect(rt, "room");
-    sink.put(12, 2024).expect(rt, "room");
-    sink.put(4, 1).expect(rt, "room");
-    sink.put(6, 15).expect(rt, "room");
-    sink.put(5, 12).expect(rt, "room");
+    for part in parts {
+        match part {
+            Bits(width, number) => {
+                assert!(rt; *width < 32 && *number < 1 << *width);
+                sink.put(*width, *number).expect(rt, "room");
+            }
+            Text(text) => sink.put_bytes(*text).expect(rt, "room"),
+        }
+    }
     sink.fill_octet();
     sink.into_bytes()
 }
 
-/// The key of the first subset of an index.
-fn key_of_first(rt: &impl Abort, alloc: Global, index: &SubsetIndex) -> Option<Key> {
+/// The key of one message.
+fn handed_key(
+    rt: &impl Abort,
+    alloc: Global,
+    template: &mut DataTemplate,
+    octets: &[u8],
+) -> Option<Key> {
+    let mut reader = BitReader::new(octets);
+    let index = template
+        .index(alloc, false, &mut reader, 1)
+        .expect(rt, "an index");
     assert!(rt; 1 <= index.count());
     let fields = index.fields(alloc, 1).expect(rt, "room");
     key_of_fields(alloc, &HEAD, fields).expect(rt, "room")
 }
 
-/// Three messages of these octets say this station at noon, or have no key.
-pub(crate) fn says(rt: &impl Abort, alloc: Global, octets: &[u8], expected: Option<&Station>) {
-    let mut template = data_template(rt, alloc, &LIST);
+/// Three messages of these parts say this station and moment, or have no key: the first is met by a
+/// walk, the others are laid out.
+fn assert_handed(
+    rt: &impl Abort,
+    alloc: Global,
+    list: &[(u8, u8)],
+    parts: &[Part<'_>],
+    wanted: &Option<Name<'_>>,
+    moment: Moment,
+) {
+    let mut template = data_template(rt, alloc, list);
+    let octets = octets(rt, alloc, parts);
     for _message in 0..3 {
-        let mut reader = BitReader::new(octets);
-        let index = template
-            .index(alloc, false, &mut reader, 1)
-            .expect(rt, "an index");
-        match (key_of_first(rt, alloc, &index), expected) {
-            (Some(key), Some(station)) => assert_at_noon(rt, &key, station),
-            (None, None) => {}
-            _ => assert!(rt; false, "another key, or none"),
-        }
+        let found = handed_key(rt, alloc, &mut template, &octets);
+        assert_key(rt, alloc, found, wanted, moment);
+    }
+}
+
+/// Messages of two blocks, the station 384, two names, and noon, and their stations: the first of an
+/// element counts, also where it is missing or blank.
+const HANDED: &[(&[Part<'static>], Option<Name<'static>>)] = &[
+    (
+        &[
+            Bits(16, 27315),
+            Bits(7, 10),
+            Bits(7, 11),
+            Bits(10, 384),
+            Text(b"SHIP1    "),
+            Text(b"         "),
+            Bits(12, 2024),
+            Bits(4, 1),
+            Bits(6, 15),
+            Bits(5, 12),
+        ],
+        Some(Wmo(10, 384)),
+    ),
+    (
+        &[
+            Bits(16, 27315),
+            Bits(7, 127),
+            Bits(7, 11),
+            Bits(10, 384),
+            Text(b"SHIP1    "),
+            Text(b"         "),
+            Bits(12, 2024),
+            Bits(4, 1),
+            Bits(6, 15),
+            Bits(5, 12),
+        ],
+        Some(Mobile(b"SHIP1")),
+    ),
+    (
+        &[
+            Bits(16, 27315),
+            Bits(7, 127),
+            Bits(7, 11),
+            Bits(10, 384),
+            Text(b"         "),
+            Text(b"SHIP1    "),
+            Bits(12, 2024),
+            Bits(4, 1),
+            Bits(6, 15),
+            Bits(5, 12),
+        ],
+        None,
+    ),
+];
+
+#[test]
+fn handed_out(rt: HostRuntime) {
+    for (parts, station) in HANDED {
+        assert_handed(&rt, rt.alloc(), LIST, *parts, station, AT_NOON);
     }
 }
 
 /// The elements of a WIGOS identifier and a time, each twice.
-const TWICE: [(u8, u8); 22] = [
+const TWICE: &[(u8, u8)] = &[
     (1, 125),
     (1, 125),
     (1, 126),
@@ -131,62 +202,47 @@ const TWICE: [(u8, u8); 22] = [
     (4, 6),
 ];
 
-/// A number and another one in fields of so many bits.
-fn put_two(rt: &impl Abort, sink: &mut BitSink, width: u32, first: u16, second: u16) {
-    let (first, second) = (u64::from(first), u64::from(second));
-    assert!(rt; width < 32 && first < 1 << width && second < 1 << width);
-    sink.put(width, first).expect(rt, "room");
-    sink.put(width, second).expect(rt, "room");
-}
+/// The WIGOS identifier 0-20000-1-10384 at 2024-01-15 12:30:45 first, and other numbers behind.
+const PARTS_TWICE: &[Part<'static>] = &[
+    Bits(4, 0),
+    Bits(4, 1),
+    Bits(16, 20000),
+    Bits(16, 20001),
+    Bits(16, 27315),
+    Bits(16, 1),
+    Bits(16, 2),
+    Text(b"10384           "),
+    Bits(16, 27316),
+    Text(b"10385           "),
+    Bits(12, 2024),
+    Bits(12, 2023),
+    Bits(4, 1),
+    Bits(4, 2),
+    Bits(6, 15),
+    Bits(6, 16),
+    Bits(5, 12),
+    Bits(5, 13),
+    Bits(6, 30),
+    Bits(6, 31),
+    Bits(6, 45),
+    Bits(6, 46),
+];
 
-/// The octets of one subset of these: the WIGOS identifier 0-20000-1-10384 at 2024-01-15 12:30:45
-/// first, and other numbers behind.
-fn octets_twice(rt: &impl Abort, alloc: Global) -> Vec<u8> {
-    let mut sink = BitSink::new(alloc);
-    put_two(rt, &mut sink, 4, 0, 1);
-    put_two(rt, &mut sink, 16, 20000, 20001);
-    sink.put(16, 27315).expect(rt, "room");
-    put_two(rt, &mut sink, 16, 1, 2);
-    sink.put_bytes(b"10384           ").expect(rt, "room");
-    sink.put(16, 27316).expect(rt, "room");
-    sink.put_bytes(b"10385           ").expect(rt, "room");
-    put_two(rt, &mut sink, 12, 2024, 2023);
-    put_two(rt, &mut sink, 4, 1, 2);
-    put_two(rt, &mut sink, 6, 15, 16);
-    put_two(rt, &mut sink, 5, 12, 13);
-    put_two(rt, &mut sink, 6, 30, 31);
-    put_two(rt, &mut sink, 6, 45, 46);
-    sink.fill_octet();
-    sink.into_bytes()
-}
-
-/// The keys of three messages of these octets: the first is met by a walk, the others are laid out.
-pub(crate) fn keys_twice(rt: &impl Abort, alloc: Global) -> Vec<Option<Key>> {
-    let octets = octets_twice(rt, alloc);
-    let mut template = data_template(rt, alloc, &TWICE);
-    let mut keys = Vec::new(alloc);
-    for _message in 0..3 {
-        let mut reader = BitReader::new(octets.as_slice());
-        let index = template
-            .index(alloc, false, &mut reader, 1)
-            .expect(rt, "an index");
-        keys.push(key_of_first(rt, alloc, &index))
-            .expect(rt, "room");
-    }
-    keys
+/// Where each element comes twice, the first counts.
+#[test]
+fn handed_out_twice(rt: HostRuntime) {
+    let moment = Moment {
+        minute: 30,
+        second: 45,
+        ..AT_NOON
+    };
+    assert_handed(&rt, rt.alloc(), TWICE, PARTS_TWICE, &Some(Wigos), moment);
 }
 
 /// Fields of none of the elements that a key asks for say no key.
-pub(crate) fn keys_of_none(rt: &impl Abort, alloc: Global) -> bool {
-    let octets = [0x6A, 0xB3, 0x6A, 0xB4];
-    let mut template = data_template(rt, alloc, &[(12, 101), (12, 101)]);
-    let mut none = true;
-    for _message in 0..3 {
-        let mut reader = BitReader::new(&octets);
-        let index = template
-            .index(alloc, false, &mut reader, 1)
-            .expect(rt, "an index");
-        none &= key_of_first(rt, alloc, &index).is_none();
-    }
-    none
+#[test]
+fn handed_out_none(rt: HostRuntime) {
+    let parts = [Bits(16, 0x6AB3), Bits(16, 0x6AB4)];
+    let list = [(12, 101), (12, 101)];
+    assert_handed(&rt, rt.alloc(), &list, &parts, &None, AT_NOON);
 }
