@@ -200,7 +200,11 @@ fn assert_viewed(rt: &impl Abort, alloc: Global, templates: &mut Templates<'_>) 
 fn assert_put(rt: &impl Abort, alloc: Global, view: &View<'_>) {
     assert!(rt; view.count() >= 1);
     let mut out = repeated!(rt, Vec::from_slice(alloc, b"archive"));
-    same(rt, repeated!(rt, view.put_canonical(alloc, 1, &mut out)), true);
+    same(
+        rt,
+        repeated!(rt, view.put_canonical(alloc, 1, &mut out)),
+        true,
+    );
     same(
         rt,
         out.as_slice().strip_prefix(b"archive".as_slice()),
