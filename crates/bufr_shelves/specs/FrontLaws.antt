@@ -32,7 +32,7 @@ in_turn Equal p q = refl
 in_turn Greater p q = refl
 
 -- four parts in turn before one more
-pub four_in_turn : (a b c d q : Ordering)
+four_in_turn : (a b c d q : Ordering)
     → ordering_then (ordering_then a (ordering_then b (ordering_then c d))) q
     ≡ ordering_then a (ordering_then b (ordering_then c (ordering_then d q)))
 four_in_turn a b c d q =

@@ -3,7 +3,7 @@ ghost use Rattle.std.specs.Prelude.{◌<◌};
 
 use super::*;
 use bufr_answers::OutOfMemory;
-use bufr_shelves::{EntryOctets, ShelfBuilder};
+use bufr_shelves::{EntryOctets, KeptOctets, ShelfBuilder};
 
 /// Puts an entry in.
 fn gather(
@@ -182,8 +182,8 @@ fn octets_put_where_they_wait(rt: HostRuntime) {
     assert_holds(&rt, &shelf, TOLD_IN_ORDER);
 }
 
-/// How the reports of stations come, six thousand of them. They are put in order in batches: the first
-/// 64, then 128, 384, 1152 and 3456, and then the rest.
+/// How six thousand reports of stations come. They are put in order in several batches: the first 64,
+/// and then each time twice as many as are kept, at least 64.
 #[derive(Clone, Copy, Drop)]
 enum Coming {
     /// In order.
@@ -244,43 +244,37 @@ fn entries_coming(rt: &impl Abort, alloc: Global, coming: Coming, has_key: bool)
     entries
 }
 
-/// The shelf of what was gathered of these entries.
-fn gathered_of(rt: &impl Abort, alloc: Global, entries: Vec<Entry>) -> SortedShelf {
+/// The octets of what was gathered of these entries.
+fn gathered_of(rt: &impl Abort, alloc: Global, entries: Vec<Entry>) -> KeptOctets {
     let mut builder = ShelfBuilder::new(alloc);
     for entry in entries {
         let Entry { key, update, bytes } = entry;
         builder.put(key, update, bytes).expect(rt, "room");
     }
-    builder.into_shelf().expect(rt, "room")
+    builder.into_octets().expect(rt, "room")
 }
 
-/// The two shelves hold the same, so many entries.
-fn assert_same(rt: &impl Abort, shelf: &SortedShelf, expected: &MapShelf, count: usize) {
-    same(rt, shelf.len(), count);
+/// The octets are those of the entries of a shelf, so many.
+fn assert_octets(rt: &impl Abort, kept: &KeptOctets, expected: &MapShelf, count: usize) {
     same(rt, expected.len(), count);
-    let mut next = shelf.first();
-    let mut wanted = expected.first();
+    same(rt, kept.len(), count);
+    let mut lent = kept.lent();
+    let mut next = expected.first();
     for _ in 0..count {
         let held = next.expect(rt, "an entry");
-        let other = wanted.expect(rt, "one more");
-        assert!(rt; held.key == other.key);
-        assert_held(
-            rt,
-            held,
-            (other.key.is_some(), other.update, other.bytes.as_slice()),
-        );
-        next = shelf.after(held);
-        wanted = expected.after(other);
+        let octets = lent.next().expect(rt, "octets");
+        same(rt, octets, held.bytes.as_slice());
+        next = expected.after(held);
     }
-    assert!(rt; next.is_none());
+    assert!(rt; lent.next().is_none(), "no more");
 }
 
 /// What is gathered of entries that come so is what is shelved of them one by one.
 fn assert_gathered(rt: &impl Abort, alloc: Global, coming: Coming, has_key: bool, count: usize) {
-    let shelf = gathered_of(rt, alloc, entries_coming(rt, alloc, coming, has_key));
+    let kept = gathered_of(rt, alloc, entries_coming(rt, alloc, coming, has_key));
     let entries = entries_coming(rt, alloc, coming, has_key);
     let expected: MapShelf = shelve(alloc, entries).expect(rt, "room");
-    assert_same(rt, &shelf, &expected, count);
+    assert_octets(rt, &kept, &expected, count);
 }
 
 /// Whatever the batches: behind all pages, before them, between their entries, and beginning with a
