@@ -100,10 +100,9 @@ fn put_with_head(
         there out.new.items) }
     ensures err { OnErr result (out.new.items ≡ out.old.items) }
 {
-    let none = None;
     let sections = LentSections {
         head,
-        section2: &none,
+        section2: &None,
         observed,
         compressed: false,
         descriptors,
