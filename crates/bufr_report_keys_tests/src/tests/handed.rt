@@ -2,7 +2,7 @@
 
 use super::{AT_NOON, HEAD, Mobile, Moment, Name, Wigos, Wmo, assert_key};
 use bufr_bits::{BitReader, BitSink};
-use bufr_data::DataTemplate;
+use bufr_data::{DataTemplate, SubsetIndex};
 use bufr_expand::Template;
 use bufr_keys::Key;
 use bufr_report_keys::key_of_fields;
@@ -44,17 +44,28 @@ const LIST: &[(u8, u8)] = &[
     (4, 4),
 ];
 
-/// The template of such a list.
-fn data_template(rt: &impl Abort, alloc: Global, list: &[(u8, u8)]) -> DataTemplate {
+/// The tables of the tests.
+fn tables(rt: &impl Abort, alloc: Global) -> Tables {
     let elements = TableB::parse(alloc, TABLE_B).expect(rt, "a table");
     let sequences = TableD::parse(alloc, TABLE_D).expect(rt, "a table");
-    let tables = Tables::new(elements, sequences);
-    let mut descriptors = Vec::new(alloc);
+    Tables::new(elements, sequences)
+}
+
+/// The descriptors of a list.
+fn descriptors(rt: &impl Abort, alloc: Global, list: &[(u8, u8)]) -> Vec<Fxy> {
+    let mut all = Vec::new(alloc);
     for (x, y) in list {
         let fxy = Fxy::new(0, *x, *y).expect(rt, "a descriptor");
-        descriptors.push(fxy).expect(rt, "room");
+        all.push(fxy).expect(rt, "room");
     }
-    let template = Template::build(alloc, &tables, &descriptors);
+    all
+}
+
+/// The template of such a list.
+fn data_template(rt: &impl Abort, alloc: Global, list: &[(u8, u8)]) -> DataTemplate {
+    let tables = tables(rt, alloc);
+    let all = descriptors(rt, alloc, list);
+    let template = Template::build(alloc, &tables, &all);
     DataTemplate::new(template.expect(rt, "a template"))
 }
 
@@ -85,6 +96,13 @@ fn octets(rt: &impl Abort, alloc: Global, parts: &[Part<'_>]) -> Vec<u8> {
     sink.into_bytes()
 }
 
+/// The key of the first subset of an index.
+fn key_of_first(rt: &impl Abort, alloc: Global, index: &SubsetIndex<'_>) -> Option<Key> {
+    assert!(rt; 1 <= index.count());
+    let fields = index.fields(alloc, 1).expect(rt, "room");
+    key_of_fields(alloc, &HEAD, fields).expect(rt, "room")
+}
+
 /// The key of one message.
 fn handed_key(
     rt: &impl Abort,
@@ -96,9 +114,7 @@ fn handed_key(
     let index = template
         .index(alloc, false, &mut reader, 1)
         .expect(rt, "an index");
-    assert!(rt; 1 <= index.count());
-    let fields = index.fields(alloc, 1).expect(rt, "room");
-    key_of_fields(alloc, &HEAD, fields).expect(rt, "room")
+    key_of_first(rt, alloc, &index)
 }
 
 /// Three messages of these parts say this station and moment, or have no key: the first is met by a
