@@ -17,8 +17,8 @@ use std::alloc::Global;
 use std::marker::Model;
 
 /// A template for the data of one message after another. Whether all its plain subsets are alike is
-/// found out once, and kept; for its second message the fields of these are laid out, and kept too.
-/// Contracts see it as the template's tree.
+/// found out once, and kept; for its first message of many subsets, or for its second, the fields of
+/// these are laid out, and kept too. Contracts see it as the template's tree.
 #[derive(Debug, Drop)]
 pub struct DataTemplate {
     template: Template,
@@ -55,8 +55,9 @@ impl DataTemplate {
 
     /// The subsets of a message, as `SubsetIndex::index` answers them, or the same fault. The
     /// template stays, and its nodes are shared with the index. Plain subsets that are known to be
-    /// alike are passed at once, with no walk; from the second message on their fields are handed
-    /// out with no walk too. `OutOfMemory` where a growth was refused.
+    /// alike are passed at once, with no walk; from the second message on, and of a first one of many
+    /// subsets, their fields are handed out with no walk too. `OutOfMemory` where a growth was
+    /// refused.
     pub fn index<'a>(
         &mut self,
         alloc: Global,
@@ -77,7 +78,7 @@ impl DataTemplate {
         };
         let template = self.template.share()?;
         let layout = if alike.is_some() {
-            self.plan.serve(alloc, &self.template)?
+            self.plan.serve(alloc, &self.template, count)?
         } else {
             None
         };

@@ -146,7 +146,7 @@ impl<'a> SubsetIndex<'a> {
         match &self.standing {
             DataIndex::Plain(subsets) => {
                 let start = subsets.starts.at(number);
-                copy_bits(alloc, subsets.octets, start.bit, start.end, sink)
+                copy_bits(subsets.octets, start.bit, start.end, sink)
             }
             DataIndex::Compressed(columns) => {
                 let _count = columns.count();

@@ -212,3 +212,33 @@ fn texts_are_no_numbers(rt: HostRuntime) {
         }
     }
 }
+
+/// Eight subsets of 16 bits and seven: 27301 and 10, 27302 and 20, to 27308 and 80.
+const EIGHT_BLOCKS: &[u8] = &[
+    0x6A, 0xA5, 0x14, 0xD5, 0x4C, 0x51, 0xAA, 0x9C, 0xF3, 0x55, 0x42, 0x86, 0xAA, 0x96, 0x4D, 0x55,
+    0x4F, 0x1A, 0xAA, 0xE3, 0x35, 0x56, 0x50,
+];
+
+/// Compares the last of so many of these subsets, of a template's first message.
+fn serves_first(rt: &impl Abort, alloc: Global, count: u16, laid: bool, wanted: [u64; 2]) {
+    let mut template = DataTemplate::new(template(rt, alloc, &[(0, 12, 101), (0, 1, 1)]));
+    let mut reader = BitReader::new(EIGHT_BLOCKS);
+    let index = template
+        .index(alloc, false, &mut reader, count)
+        .expect(rt, "an index");
+    has_asked::<Blocks>(rt, alloc, &index, laid, &wanted[1..]);
+    let last = index.count();
+    assert!(rt; 1 <= last);
+    let mut fields = index.fields(alloc, last).expect(rt, "room");
+    for number in wanted {
+        let found = fields.next(alloc).expect(rt, "room");
+        same(rt, number_of(&found.expect(rt, "a field")), Some(number));
+    }
+}
+
+/// A template's first message of seven subsets is walked, and one of eight is laid out.
+#[test]
+fn first_messages_of_many_subsets(rt: HostRuntime) {
+    serves_first(&rt, rt.alloc(), 7, false, [27307, 70]);
+    serves_first(&rt, rt.alloc(), 8, true, [27308, 80]);
+}

@@ -421,3 +421,56 @@ fn octets_that_are_lent(rt: HostRuntime) {
         lends(&rt, rt.alloc(), row);
     }
 }
+
+/// Bits of which those of a subset begin with the fourth.
+const OFF_AN_EDGE: &[u8] = &[
+    0x57, 0x0C, 0x42, 0xBD, 0xA5, 0x6A, 0x7F, 0xF3, 0x67, 0xC6, 0x53, 0xCF, 0xAA, 0x0C, 0xBF,
+];
+
+/// Descriptors of a subset of 0, 1, 55, 56, 57, 112 and 113 bits, and its octets that are put.
+const PUT: &[(Descriptors, &[u8])] = &[
+    (&[], &[]),
+    (&[(2, 1, 122), (0, 1, 1)], &[0x80]),
+    (
+        &[(2, 1, 176), (0, 1, 1)],
+        &[0xB8, 0x62, 0x15, 0xED, 0x2B, 0x53, 0xFE],
+    ),
+    (
+        &[(2, 1, 177), (0, 1, 1)],
+        &[0xB8, 0x62, 0x15, 0xED, 0x2B, 0x53, 0xFF],
+    ),
+    (
+        &[(2, 1, 178), (0, 1, 1)],
+        &[0xB8, 0x62, 0x15, 0xED, 0x2B, 0x53, 0xFF, 0x80],
+    ),
+    (
+        &[(2, 1, 177), (0, 1, 1), (0, 1, 1)],
+        &[
+            0xB8, 0x62, 0x15, 0xED, 0x2B, 0x53, 0xFF, 0x9B, 0x3E, 0x32, 0x9E, 0x7D, 0x50, 0x65,
+        ],
+    ),
+    (
+        &[(2, 1, 178), (0, 1, 1), (2, 1, 0), (2, 1, 177), (0, 1, 1)],
+        &[
+            0xB8, 0x62, 0x15, 0xED, 0x2B, 0x53, 0xFF, 0x9B, 0x3E, 0x32, 0x9E, 0x7D, 0x50, 0x65,
+            0x80,
+        ],
+    ),
+];
+
+#[test]
+fn bits_that_are_put(rt: HostRuntime) {
+    let alloc = rt.alloc();
+    for (list, wanted) in PUT {
+        let mut reader = BitReader::new(OFF_AN_EDGE);
+        same(&rt, reader.pass(3), true);
+        let template = template(&rt, alloc, list);
+        let index = SubsetIndex::index(alloc, template, false, &mut reader, 1).expect(
+            &rt, "an index",
+        );
+        assert!(&rt; 1 <= index.count());
+        let mut sink = BitSink::new(alloc);
+        index.put(alloc, 1, &mut sink).expect(&rt, "room");
+        same(&rt, octets_of(sink).as_slice(), *wanted);
+    }
+}
