@@ -1,5 +1,5 @@
 //! Entries that wait to be put in order, with the octets of all in one place.
-ghost use Rattle.std.specs.Prelude.{◌≡◌, ◌+◌, ◌*◌, ◌<◌, ◌≤◌, ◌++◌, ◌∷◌, [], true, false, take, drop, length, reverse, OnOk, OnErr, IfSome, MatchOption, vec_len};
+ghost use Rattle.std.specs.Prelude.{◌≡◌, ◌+◌, ◌*◌, ◌<◌, ◌≤◌, ◌++◌, ◌∷◌, [], true, false, take, drop, length, map, reverse, OnOk, OnErr, IfSome, MatchOption, vec_len};
 ghost use Rattle.std.specs.Vec.{vec_capacity};
 ghost use Rattle.std.specs.Option.{option_map, option_to_list};
 ghost use Rattle.std.specs.List.Sorted.{IsPermutation};
@@ -135,6 +135,20 @@ fn read_last(octets: &[u8], entries: &[WaitingEntry], ahead: &mut Vec<u8>)
     }
 }
 
+/// Puts entries in order, the greatest slot first. Entries that came in long runs in order take few
+/// comparisons: the runs are merged, in room for as many entries. Where that room is refused they are
+/// sorted without it.
+fn sort_falling(entries: &mut Vec<WaitingEntry>, octets: &[u8])
+    ensures permutation { IsPermutation entries.old.items entries.new.items }
+    ensures len { length entries.new.items ≡ length entries.old.items }
+    ensures rising { AreRising (reverse (map (waits_in octets.now) entries.new.items)) }
+{
+    let Ok(()) = entries.sort_by(|waits, other| other.slot_cmp(waits, octets)) else {
+        entries.sort_unstable_by(|waits, other| other.slot_cmp(waits, octets));
+        return;
+    };
+}
+
 /// Entries in any order. Contracts see the entries.
 #[derive(Drop)]
 pub(crate) struct Waiting {
@@ -259,9 +273,7 @@ impl Waiting {
         ensures len { length self.new ≡ length self.old }
     {
         self.ahead.clear();
-        let octets = self.octets.as_slice();
-        self.entries
-            .sort_unstable_by(|waits, other| other.slot_cmp(waits, octets));
+        sort_falling(&mut self.entries, &self.octets);
     }
 
     /// Gives all room back where no entry waits.
