@@ -1,10 +1,9 @@
 -- The entries of reports: for `laws::reports_are_entries`.
-use Rattle.std.proofs.Common.{◌≡◌, ℕ, ◌+◌, ◌-◌, ◌*◌, ◌/◌, ◌%◌, ◌^◌, ◌<◌, true, false, cond, not}
+use Rattle.std.proofs.Common.{◌≡◌, ℕ, ◌+◌, ◌-◌, ◌*◌, ◌/◌, ◌%◌, ◌^◌, ◌<◌, Bool, true, false, cond}
 use Rattle.std.proofs.Common.{List, [], ◌∷◌, ◌++◌, length, take, drop, Option, Some, None, Result, Ok, Err, refl}
 use Rattle.std.proofs.Common.{sym, ap, subst, ◌∙◌, arith, length-append, get_or}
 use Rattle.std.specs.Prelude.{bytes_eq, codes, option_map, slice_get, IfSome}
 use Rattle.std.proofs.lemmas.Option.{cond_some, same_Some, slice_get-map, slice_get-get_or, get_or_from_slice_get}
-use Rattle.std.proofs.lemmas.Bool.{not-true, not-false}
 use Rattle.std.specs.Int.{bytes_high_first}
 use Rattle.std.specs.List.{AllByRecursion}
 use Rattle.std.proofs.lemmas.List.{drop_at, length-map}
@@ -221,18 +220,6 @@ report_at : (m : Message) (k : ℕ) (s : Subset) → slice_get m.subsets k ≡ S
 report_at m k s is =
     slice_get-map (report_of m) m.subsets k ∙ ap (option_map (report_of m)) is
 
--- octets that are compared with others
-pub differ : (own lent octets : List ℕ) → lent ≡ own → not (bytes_eq lent octets) ≡ true
-    → bytes_eq own octets ≡ false
-differ own lent octets is other =
-    ap (λ (o : List ℕ). bytes_eq o octets) (sym is) ∙ not-true (bytes_eq lent octets) other
-
--- and are the same
-pub agree : (own lent octets : List ℕ) → lent ≡ own → not (bytes_eq lent octets) ≡ false
-    → bytes_eq own octets ≡ true
-agree own lent octets is same =
-    ap (λ (o : List ℕ). bytes_eq o octets) (sym is) ∙ not-false (bytes_eq lent octets) same
-
 -- an entry of these parts
 abbrev pub of_parts : Option Key → ℕ → List ℕ → Entry
 of_parts key update octets = record { key = key; update = update; bytes = octets }
@@ -276,40 +263,42 @@ one_spelt written own under tables octets d is spells one =
           ∙ own_is_spelt written own tables octets t.0 each.0,
     )
 
+-- it is told whether they are what the one report spells alone
+one_told : (found : Option Report) (r : Report) (octets : List ℕ) (same : Bool) → found ≡ Some r
+    → IfSome found (λ r. same ≡ is_canonical (spelt_alone r) octets)
+    → is_canonical (spelt_alone r) octets ≡ same
+one_told found r octets same is told =
+    sym
+    (subst (λ (o : Option Report). IfSome o (λ r. same ≡ is_canonical (spelt_alone r) octets)) is
+    told)
+
 -- none where its own fields spell no octets or others
 pub none_of_other : BareAreWritten → CanonicalIsOwn → ReportsSpeltAreUnder → (tables : Entries)
-    (octets : List ℕ) (d : Decoded) (canon : Option (List ℕ)) → message_of tables octets ≡ Ok d
+    (octets : List ℕ) (d : Decoded) (same : Bool) → message_of tables octets ≡ Ok d
     → Spells tables d.message octets d.slack_octets → length d.message.subsets ≡ 1
-    → option_map spelt_alone (slice_get (reports_of d.message) 0) ≡ Some canon
-    → is_canonical canon octets ≡ false → None ≡ entry_in tables octets
-none_of_other written own under tables octets d canon is spells one told other =
+    → IfSome (slice_get (reports_of d.message) 0)
+    (λ r. same ≡ is_canonical (spelt_alone r) octets) → same ≡ false → None ≡ entry_in tables octets
+none_of_other written own under tables octets d same is spells one told other =
     let t = one_spelt written own under tables octets d is spells one in
-    let spelt : spelt_alone t.0 ≡ canon =
-    same_Some _ _ (sym (ap (option_map spelt_alone) t.1) ∙ told) in
-    sym (t.2
-    ∙ ap (λ (x : Option (List ℕ)).
-    cond (is_canonical x octets) (Some (entry_with t.0 octets)) None) spelt
-    ∙ ap (λ b. cond b (Some (entry_with t.0 octets)) None) other)
+    let here = one_told _ t.0 octets same t.1 told ∙ other in
+    sym (t.2 ∙ ap (λ b. cond b (Some (entry_with t.0 octets)) None) here)
 
 -- that of the report where they spell these
 pub entry_of_own : BareAreWritten → CanonicalIsOwn → ReportsSpeltAreUnder → (tables : Entries)
-    (octets : List ℕ) (d : Decoded) (canon : Option (List ℕ)) (s : Subset) (e : Entry)
+    (octets : List ℕ) (d : Decoded) (same : Bool) (s : Subset) (e : Entry)
     → message_of tables octets ≡ Ok d → Spells tables d.message octets d.slack_octets
     → length d.message.subsets ≡ 1
-    → option_map spelt_alone (slice_get (reports_of d.message) 0) ≡ Some canon
-    → is_canonical canon octets ≡ true → slice_get d.message.subsets 0 ≡ Some s
+    → IfSome (slice_get (reports_of d.message) 0)
+    (λ r. same ≡ is_canonical (spelt_alone r) octets) → same ≡ true
+    → slice_get d.message.subsets 0 ≡ Some s
     → e ≡ entry_with (report_of d.message s) octets → Some e ≡ entry_in tables octets
-entry_of_own written own under tables octets d canon s e is spells one told canonical at entry =
+entry_of_own written own under tables octets d same s e is spells one told canonical at entry =
     let t = one_spelt written own under tables octets d is spells one in
-    let spelt : spelt_alone t.0 ≡ canon =
-    same_Some _ _ (sym (ap (option_map spelt_alone) t.1) ∙ told) in
+    let here = one_told _ t.0 octets same t.1 told ∙ canonical in
     let report : report_of d.message s ≡ t.0 =
     same_Some _ _ (sym (report_at d.message 0 s at) ∙ t.1) in
     ap Some (entry ∙ ap (λ (r : Report). entry_with r octets) report)
-    ∙ sym (t.2
-    ∙ ap (λ (x : Option (List ℕ)).
-    cond (is_canonical x octets) (Some (entry_with t.0 octets)) None) spelt
-    ∙ ap (λ b. cond b (Some (entry_with t.0 octets)) None) canonical)
+    ∙ sym (t.2 ∙ ap (λ b. cond b (Some (entry_with t.0 octets)) None) here)
 
 -- ---- entries of a view: for `entry` of `MessageReports`
 

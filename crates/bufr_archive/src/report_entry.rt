@@ -3,9 +3,11 @@ ghost use Rattle.std.specs.Prelude.{◌≡◌, ◌-◌, ◌<◌, ◌≤◌, IfOk
 ghost use Rattle.std.specs.Option.{option_map};
 ghost use Rattle.bufr_answers.specs.Answers.{Gives};
 ghost use Rattle.bufr_archive.specs.ReportEntries.{key_of, entry_with, entry_of, spelt_entry, spelt_entries, spelt_at, entry_spelt, entry_in, report_entries};
+ghost use Rattle.bufr_archive.specs.ReportEntries.{is_canonical};
 ghost use Rattle.bufr_message.specs.Messages.{message_of, Spells};
 ghost use Rattle.bufr_tables.specs.Entries.{Entries};
 ghost use Rattle.bufr_message.specs.Reports.{reports_of};
+ghost use Rattle.bufr_message.specs.OwnBits.{spelt_alone};
 ghost use Rattle.bufr_archive.specs.Reading.{read};
 
 use crate::adding::ReportList;
@@ -60,6 +62,22 @@ pub fn entry_of(
     Ok(Some(entry_with(alloc, report, octets)?))
 }
 
+/// Whether octets are the canonical message of the one report of a view, which is made only where it
+/// is not seen to be those that were viewed. It can only run out of memory.
+fn is_own(alloc: Global, view: &View<'_>, octets: &[u8]) -> Result<bool, OutOfMemory>
+    requires { length view.now.message.subsets ≡ 1 }
+    ensures { IfOk result (λ same. IfSome (slice_get (reports_of view.now.message) 0)
+        (λ r. same ≡ is_canonical (spelt_alone r) octets.now)) }
+{
+    if let Some(own) = view.own() {
+        return Ok(own == octets);
+    }
+    match view.canonical(alloc, 1)? {
+        Some(own) => Ok(own.as_slice() == octets),
+        None => Ok(false),
+    }
+}
+
 /// The entry of the one report of a view of octets, where they are what its own fields spell. No
 /// subset is built. It can only run out of memory.
 fn own_entry<'a>(
@@ -75,10 +93,7 @@ fn own_entry<'a>(
     reports_have_canonical_messages();
     canonical_messages_are_own();
     written_messages_are_spelt();
-    let Some(own) = view.canonical(alloc, 1)? else {
-        return Ok(None);
-    };
-    if own.as_slice() != octets {
+    if !is_own(alloc, view, octets)? {
         return Ok(None);
     }
     let head = ReportHead::of_head(view.head());

@@ -2,11 +2,13 @@
 -- `canonical_of_read` and `View::canonical`.
 use Rattle.std.proofs.Common.{◌≡◌, ℕ, zero, suc, ◌^◌, ◌<◌, Bool, true, false, List, [], ◌∷◌, ◌++◌, length}
 use Rattle.std.proofs.Common.{Option, Some, None, Result, Ok, Err, refl, sym, ap, subst, ◌∙◌, arith}
+use Rattle.std.proofs.Common.{inl, inr}
 use Rattle.std.specs.Prelude.{if◌then◌else◌}
-use Rattle.std.specs.Prelude.{nat_lt, nat_le, slice_get, IfOk, IfSome, option_map}
+use Rattle.std.specs.Prelude.{nat_lt, nat_le, slice_get, IfOk, IfSome, option_map, get_or}
+use Rattle.std.specs.Bool.{OnTrue}
 use Rattle.std.specs.List.{AllByRecursion}
-use Rattle.std.proofs.lemmas.Bool.{and_from, le-leb, lt-ltb}
-use Rattle.std.proofs.lemmas.List.{append-nil}
+use Rattle.std.proofs.lemmas.Bool.{and_from, cases_lt, le-leb, lt-ltb}
+use Rattle.std.proofs.lemmas.List.{append-nil, get_or_past}
 use Rattle.std.proofs.lemmas.Option.{same_Some, slice_get-map}
 use Rattle.bufr_bits.specs.Bits.{bits}
 use Rattle.bufr_tables.specs.Entries.{Entries}
@@ -19,7 +21,9 @@ use Rattle.bufr_data.specs.Data.{ReadsExactly}
 use Rattle.bufr_expand.specs.Trees.{Tree}
 use Rattle.bufr_sections.specs.declared.message.Head.{Head}
 use Rattle.bufr_sections.specs.declared.message.Message.{Message}
-use Rattle.bufr_sections.specs.Sections.{Envelope}
+use Rattle.bufr_sections.specs.declared.lent_sections.LentSections.{LentSections}
+use Rattle.bufr_sections.specs.Sections.{AreOctets, Envelope, envelope_of}
+use Rattle.bufr_sections.specs.SectionsRead.{envelope_lent, message_lent}
 use Rattle.bufr_sections.specs.Spelt.{spelt_or}
 use Rattle.bufr_fields.specs.Fits.{HasForm, of_text, of_number}
 use Rattle.bufr_data.specs.Plain.{plain}
@@ -31,12 +35,14 @@ use Rattle.bufr_message.specs.Encodings.{whole_octets, data_or, data_bits_or, en
 use Rattle.bufr_data.specs.Subsets.{filled}
 use Rattle.bufr_message.specs.Encodings.{code}
 use Rattle.bufr_message.specs.Reports.{report_of, reports_of, with_no_local, alone, if_written}
+use Rattle.bufr_message.specs.Reports.{without_local}
+use Rattle.bufr_message.specs.Messages.{envelope_with}
 use Rattle.bufr_message.specs.Reports.{IsCanonical}
 use Rattle.bufr_message.specs.OwnBits.{has_room, have_room, HaveRoom, own_bits, spelt_with}
 use Rattle.bufr_message.specs.OwnBits.{spelt_alone, IsPutBehind, AddsOwn}
 use Rattle.bufr_message.specs.Views.{AreReadFrom}
 use Rattle.bufr_message.proofs.AloneFacts.{StandsAlone, each_alone}
-use Rattle.bufr_message.proofs.EncodingFacts.{enclosed_is}
+use Rattle.bufr_message.proofs.EncodingFacts.{enclosed_is, whole_octets_are}
 use Rattle.bufr_message.proofs.WrittenFacts.{bits_found}
 use Rattle.bufr_message.proofs.UnwrittenFacts.{bare_is_written}
 
@@ -202,3 +208,66 @@ own_put r contents old new there held put = by_own (own_bits r.subset.fields) re
         let same : bits contents ≡ filled d = same_Some _ _ (rw is at held) in
         subst (λ (o : Option (List Bool)). IsPutBehind old (spelt_with r o) there new) (sym is)
         (put d same)
+
+-- ---- octets that are their own canonical message
+
+-- each octet is below 256, and so is what is answered behind the last
+each_small : (octets : List ℕ) → AreOctets octets → (i : ℕ) → get_or octets i 0 < 256
+each_small octets all i = elim (cases_lt i (length octets)) [
+  | inl here ↦ all i 0 here
+  | inr past ↦ rw (get_or_past octets i 0 past) (omega arith)
+]
+
+-- a head that has no octets for local use is that of its report
+head_alone : (h : Head) → h.local ≡ [] → h ≡ with_no_local (without_local h)
+head_alone h none = ap (λ (local : List ℕ). record h { local = local }) none
+
+-- octets that are written for the sections of one plain subset, whose bits, filled, are the
+-- contents, are the canonical message of its report
+own_octets : (m : Message) (contents octets : List ℕ) → AreOctets contents
+    → HaveRoom m.subsets → length m.subsets ≡ 1 → m.head.local ≡ [] → m.section2 ≡ None
+    → m.compressed ≡ false
+    → IfSome (slice_get m.subsets 0) (λ s. bits contents ≡ filled (plain s.fields))
+    → spelt_or (envelope_with m contents) ≡ Ok octets
+    → option_map spelt_alone (slice_get (reports_of m) 0) ≡ Some (Some octets)
+own_octets m contents octets small rooms one local two flat holds told =
+    let t = room_at m.subsets 0 (omega arith) rooms in
+    let s = t.0 in
+    let r = report_of m s in
+    let held : bits contents ≡ filled (plain s.fields) =
+    subst (λ (o : Option Subset). IfSome o (λ s. bits contents ≡ filled (plain s.fields))) t.1 holds
+    in
+    let own : own_bits s.fields ≡ Some (plain s.fields) = rw t.2 refl in
+    let said : spelt_or (envelope_alone m.head r contents) ≡ Ok octets =
+    rw (two, flat, one) at told in
+    let spelt =
+    alone_is r m.head contents (plain s.fields) (Ok octets)
+    (whole_octets_are contents (plain s.fields) (each_small contents small) held) (head_alone m.head local) said in
+    ap (option_map spelt_alone)
+    (slice_get-map (report_of m) m.subsets 0 ∙ ap (option_map (report_of m)) t.1)
+    ∙ ap Some (ap (spelt_with r) own ∙ spelt)
+
+-- so it is of the sections that a view lends, where they are told to be written so
+pub own_told : (m : Message) (lent : LentSections) (contents octets : List ℕ) (bare : Bool)
+    → AreOctets contents → HaveRoom m.subsets → length m.subsets ≡ 1 → m.compressed ≡ false
+    → IfSome (slice_get m.subsets 0) (λ s. bits contents ≡ filled (plain s.fields))
+    → message_lent lent m.subsets ≡ m → envelope_of octets ≡ Ok (envelope_with m contents)
+    → ((count : ℕ) → envelope_of octets ≡ Ok (envelope_lent lent count contents)
+    → OnTrue bare (spelt_or (envelope_lent lent count contents) ≡ Ok octets))
+    → OnTrue bare (lent.section2.now ≡ None) → OnTrue bare (lent.head.now.local ≡ [])
+    → bare ≡ true → option_map spelt_alone (slice_get (reports_of m) 0) ≡ Some (Some octets)
+own_told m lent contents octets false small rooms one flat holds same read spelt two local told =
+    absurd cc
+own_told m lent contents octets true small rooms one flat holds same read spelt two local told =
+    let whole = ap (λ (x : Message). envelope_with x contents) same in
+    own_octets m contents octets small rooms one
+    (sym (ap (λ (x : Message). x.head.local) same) ∙ local)
+    (sym (ap (λ (x : Message). x.section2) same) ∙ two) flat holds
+    (ap spelt_or (sym whole) ∙ spelt (length m.subsets) (read ∙ ap Ok (sym whole)))
+
+-- octets that are the canonical message of the report that is there, put behind others
+pub own_behind : (found : Option Report) (own old new : List ℕ)
+    → option_map spelt_alone found ≡ Some (Some own) → new ≡ old ++ own → AddsOwn found old true new
+own_behind None own old new told is = absurd cc
+own_behind (Some r) own old new told is =
+    subst (λ (o : Option (List ℕ)). IsPutBehind old o true new) (sym (same_Some _ _ told)) (refl, is)

@@ -1,14 +1,14 @@
 //! Messages whose reports are built one at a time.
 
 ghost use Rattle.std.specs.Prelude.{◌≡◌, ℕ, ◌-◌, ◌/◌, ◌≤◌, List, length, slice_get, Some, IfOk};
-ghost use Rattle.std.specs.Prelude.{option_map, OnErr};
+ghost use Rattle.std.specs.Prelude.{option_map, IfSome, Ok, OnErr};
 ghost use Rattle.bufr_bits.specs.Bits.{bits};
 ghost use Rattle.bufr_answers.specs.Answers.{Gives, result_map};
 ghost use Rattle.bufr_tables.specs.Entries.{Entries};
 ghost use Rattle.bufr_fields.specs.declared.field.Subset.{Subset};
 ghost use Rattle.bufr_data.specs.Data.{subsets_in};
 ghost use Rattle.bufr_sections.specs.declared.message.Decoded.{Decoded};
-ghost use Rattle.bufr_sections.specs.Sections.{descriptors_of};
+ghost use Rattle.bufr_sections.specs.Sections.{descriptors_of, envelope_of};
 ghost use Rattle.bufr_sections.specs.SectionsRead.{envelope, message_lent};
 ghost use Rattle.bufr_message.specs.Kept.{AreOf, message_under};
 ghost use Rattle.bufr_message.specs.Messages.{Spells, data_or, message_of, message_with};
@@ -18,14 +18,16 @@ ghost use Rattle.bufr_message.specs.Views.{AreReadFrom};
 
 use crate::alone::can_be_alone;
 use crate::kept::{Kept, bring_to_front};
-use crate::laws::reports_have_canonical_messages;
+use crate::laws::{reports_have_canonical_messages, sections_are_spelt};
 use crate::own_bits::put_alone;
 use crate::report::{Report, report_with};
 use bufr_answers::{Failure, Items, OutOfMemory};
 use bufr_bits::{BitReader, BitSink};
 use bufr_data::laws::data_hold_subsets;
 use bufr_data::{DataTemplate, Fields, ReadFault, Subset, SubsetIndex};
-use bufr_sections::{Decoded, Envelope, Head, LentSections, Message, Refused, read_sections};
+use bufr_sections::{
+    Decoded, Envelope, Head, LentSections, Message, Refused, are_bare, read_sections,
+};
 use bufr_tables::{Fxy, Tables};
 use std::alloc::Global;
 use std::marker::Model;
@@ -38,6 +40,7 @@ const OCTETS_WITH_ROOM: usize = 64;
 /// octets. Contracts see what `decode` answers.
 #[derive(Debug, Drop)]
 pub struct View<'a> {
+    octets: &'a [u8],
     sections: Envelope<'a>,
     descriptors: Rc<Items<Fxy>>,
     subsets: SubsetIndex<'a>,
@@ -53,7 +56,7 @@ struct Built {
 
 impl<'a> Model for View<'a> {
     ghost use Rattle.bufr_sections.specs.declared.message.Decoded.{Decoded};
-    ghost use Rattle.bufr_message.specs.OwnBits.{HaveRoom};
+    ghost use Rattle.bufr_message.specs.Views.{IsViewOf};
 
     ghost Value = { Decoded };
 
@@ -69,8 +72,8 @@ impl<'a> Model for View<'a> {
       slack_octets = v.slack_octets;
     } };
 
-    // What was read has room in its bits.
-    ghost invariant = { λ v. HaveRoom v.subsets };
+    // What was read has room in its bits, and its sections are read of the octets.
+    ghost invariant = { λ v. IsViewOf v.octets.now v.sections v.descriptors.value v.subsets };
 }
 
 impl<'a> View<'a> {
@@ -149,6 +152,27 @@ impl<'a> View<'a> {
         )
     }
 
+    /// The octets that were read, where they are the canonical message of the one report that they
+    /// have: then none has to be written. `None` also where it is not asked: of octets for local use,
+    /// a section 2, or compressed data. It takes no memory.
+    pub fn own(&self) -> Option<&'a [u8]>
+        ensures one { IfSome result (λ own. length self.now.message.subsets ≡ 1) }
+        ensures is { IfSome result (λ own. option_map spelt_alone
+            (slice_get (reports_of self.now.message) 0) ≡ Some (Some own.now)) }
+    {
+        if self.sections.count != 1 || self.sections.compressed {
+            return None;
+        }
+        let contents = self.sections.contents;
+        if self.subsets.lent(1)? != contents {
+            return None;
+        }
+        if !are_bare(self.octets, &self.sections(), contents) {
+            return None;
+        }
+        Some(self.octets)
+    }
+
     /// The canonical message of the report of this number, from 1: what `canonical_of_read` answers
     /// of it, but no subset is built. Of plain data the bits are copied as they stand, at once where
     /// they stand in whole octets. It can only run out of memory.
@@ -182,6 +206,10 @@ impl<'a> View<'a> {
             out.old.items there out.new.items) }
         ensures err { OnErr result (out.new.items ≡ out.old.items) }
     {
+        if let Some(own) = self.own() {
+            out.extend_from_slice(own)?;
+            return Ok(true);
+        }
         let head = &self.sections.head;
         let observed = self.sections.observed;
         let descriptors = self.descriptors.as_slice();
@@ -262,7 +290,7 @@ pub(crate) fn view_keeping<'a>(
 {
     let sections = read_sections(alloc, octets)?;
     bring_to_front(alloc, tables, kept, sections.listed)?;
-    view_in(alloc, &mut kept[0], sections)
+    view_in(alloc, &mut kept[0], octets, sections)
 }
 
 /// The message of sections, whose descriptors are this list with its template.
@@ -271,16 +299,20 @@ pub(crate) fn view_keeping<'a>(
 fn view_in<'a>(
     alloc: Global,
     kept: &mut Kept,
+    octets: &'a [u8],
     sections: Envelope<'a>,
 ) -> Result<View<'a>, Failure<Refused>>
-    requires { kept.old.descriptors.value ≡ descriptors_of sections.listed.now }
+    requires list { kept.old.descriptors.value ≡ descriptors_of sections.listed.now }
+    requires read { envelope_of octets.now ≡ Ok (envelope sections) }
     ensures exact { Gives (λ d. d) result
         (message_under kept.old.template (envelope sections.entry)) }
     ensures same { kept.new ≡ kept.old }
 {
+    sections_are_spelt();
     let descriptors = kept.descriptors.clone()?;
     let (subsets, slack_octets) = subsets_of(alloc, kept, &sections)?;
     Ok(View {
+        octets,
         sections,
         descriptors,
         subsets,
@@ -301,6 +333,7 @@ fn subsets_of<'a>(
         (λ x. record { message = message_with (envelope sections.now) x.0; slack_octets = x.1 })
         result (message_under kept.old.template (envelope sections.now)) }
     ensures room { IfOk result (λ x. HaveRoom x.0) }
+    ensures count { IfOk result (λ x. length x.0 ≡ sections.now.count) }
     ensures same { kept.new ≡ kept.old }
 {
     let (subsets, slack_octets) = index_of(alloc, &mut kept.template, sections)?;
@@ -326,6 +359,7 @@ fn index_of<'a>(
     ensures stand { IfOk result (λ x.
         AreReadFrom sections.now.contents.now sections.now.compressed x.0) }
     ensures room { IfOk result (λ x. HaveRoom x.0) }
+    ensures count { IfOk result (λ x. length x.0 ≡ sections.now.count) }
     ensures same { template.new ≡ template.old }
 {
     data_hold_subsets();

@@ -4,6 +4,7 @@ pub mod ListFacts
 pub mod SectionFacts
 pub mod SpellingFacts
 pub mod LengthFacts
+pub mod BareFacts
 pub mod BehindFacts
 pub mod HeadFacts
 pub mod RefusalFacts

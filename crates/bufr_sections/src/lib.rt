@@ -2,6 +2,7 @@
 //! to what the data bits mean.
 #![tactic(auto)]
 
+mod bare;
 mod envelope;
 mod fault;
 pub mod laws;
@@ -14,6 +15,7 @@ mod sections;
 mod spelling;
 mod worked_values;
 
+pub use bare::are_bare;
 pub use envelope::Envelope;
 pub use fault::Refused;
 pub use layout::Layout;

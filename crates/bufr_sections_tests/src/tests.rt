@@ -3,7 +3,8 @@
 
 use bufr_answers::Items;
 use bufr_sections::{
-    Envelope, Head, LentSections, are_listed, descriptors_of, read_sections, spell, spell_behind,
+    Envelope, Head, LentSections, are_bare, are_listed, descriptors_of, read_sections, spell,
+    spell_behind,
 };
 use bufr_tables::Fxy;
 use std::alloc::Global;
@@ -454,5 +455,55 @@ fn assert_refused(rt: &impl Abort, alloc: Global, line: &str) {
 fn refusals(rt: HostRuntime) {
     for line in REFUSED.lines() {
         assert_refused(&rt, rt.alloc(), line);
+    }
+}
+
+/// Octets of sections, and behind `=` whether they are what is written for these, where they have
+/// neither octets for local use nor a section 2: so are those of edition 4 with nothing in what is
+/// free.
+const BARE: &str = "\
+42554652 00002F 04 S1 000009 00 0001 80 0101 000004 00 37373737 = bare
+42554652 00002F 04 S1 000009 00 0001 00 0101 000004 00 37373737 = bare
+42554652 000032 04 S1 00000B 00 0002 C0 0101 0102 000005 00 FF 37373737 = bare
+42554652 00002F 04 000016 00 0062 0000 00 01 00 02 00 25 00 07E8 010F0C0000 \
+000009 00 0001 80 0101 000004 00 37373737 = other
+42554652 00002F 04 000016 00 0062 0000 00 40 00 02 00 25 00 07E8 010F0C0000 \
+000009 00 0001 80 0101 000004 00 37373737 = other
+42554652 00002F 04 S1 000009 01 0001 80 0101 000004 00 37373737 = other
+42554652 00002F 04 S1 000009 00 0001 81 0101 000004 00 37373737 = other
+42554652 00002F 04 S1 000009 00 0001 A0 0101 000004 00 37373737 = other
+42554652 000030 04 S1 00000A 00 0001 80 0101 00 000004 00 37373737 = other
+42554652 00002F 04 S1 000009 00 0001 80 0101 000004 01 37373737 = other
+42554652 000032 04 S1 00000B 00 0002 C0 0101 0102 000005 80 FF 37373737 = other
+42554652 000030 04 000017 00 0062 0000 00 00 00 02 00 25 00 07E8 010F0C0000 14 \
+000009 00 0001 80 0101 000004 00 37373737 = other
+42554652 000033 04 S1+2 000004 00 000009 00 0001 80 0101 000004 00 37373737 = other
+42554652 00002A 03 000011 00 00 62 00 00 00 00 25 00 18 01 0F 0C 00 \
+000009 00 0001 80 0101 000004 00 37373737 = other
+42554652 00002B 03 000011 00 00 62 00 00 00 00 25 00 18 01 0F 0C 00 \
+00000A 00 0001 80 0101 00 000004 00 37373737 = other
+";
+
+/// Whether octets are told to be what is written for the sections that are read of them.
+fn is_bare(rt: &impl Abort, alloc: Global, text: &str) -> bool {
+    let all = octets(rt, alloc, text);
+    let found = read_sections(alloc, all.as_slice()).expect(rt, "an answer");
+    let list = descriptors_of(alloc, found.listed).expect(rt, "an answer");
+    let sections = LentSections {
+        head: &found.head,
+        section2: &found.section2,
+        observed: found.observed,
+        compressed: found.compressed,
+        descriptors: list.as_slice(),
+    };
+    are_bare(all.as_slice(), &sections, found.contents)
+}
+
+#[test]
+fn written_as_they_are_read(rt: HostRuntime) {
+    for line in BARE.lines() {
+        let (text, wanted) = line.split_once(" = ").expect(&rt, "a case");
+        let bare = is_bare(&rt, rt.alloc(), text);
+        same_at(&rt, line, if bare { "bare" } else { "other" }, wanted);
     }
 }

@@ -533,3 +533,64 @@ fn compressed_read_and_viewed(rt: HostRuntime) {
         assert_row(&rt, rt.alloc(), row);
     }
 }
+
+/// Octets of one report, and its canonical message: itself, or what has nothing in what is free.
+const ALONE: &[(&str, &str)] = &[
+    (TEMPERATURE, TEMPERATURE),
+    (UNOBSERVED, UNOBSERVED),
+    (BIT_1, BIT_1),
+    (
+        "42554652 000031 04 | 000016 00 0062 0000 00 01 00 02 00 25 00 07E8 01 0F 0C 00 00 |
+000009 00 0001 80 0C65 | 000006 00 6AB3 | END",
+        TEMPERATURE,
+    ),
+    (
+        "42554652 000031 04 | S1 | 000009 01 0001 80 0C65 | 000006 00 6AB3 | END",
+        TEMPERATURE,
+    ),
+    (
+        "42554652 000031 04 | S1 | 000009 00 0001 A0 0C65 | 000006 00 6AB3 | END",
+        TEMPERATURE,
+    ),
+    (
+        "42554652 000032 04 | S1 | 00000A 00 0001 80 0C65 00 | 000006 00 6AB3 | END",
+        TEMPERATURE,
+    ),
+    (
+        "42554652 000031 04 | S1 | 000009 00 0001 80 0C65 | 000006 80 6AB3 | END",
+        TEMPERATURE,
+    ),
+    (
+        "42554652 000032 04 | S1 | 000009 00 0001 80 0C65 | 000007 00 6AB300 | END",
+        TEMPERATURE,
+    ),
+    (
+        "42554652 000030 04 | S1 | 000009 00 0001 80 1F00 | 000005 00 81 | END",
+        BIT_1,
+    ),
+    (
+        "42554652 000032 04 | S1 | 000009 00 0001 C0 0C65 | 000007 00 6AB300 | END",
+        TEMPERATURE,
+    ),
+    (DISTINCT_HEAD, DISTINCT_HEAD_ALONE),
+    (EMPTY_SECTION_2, SEQUENCES),
+    (EDITION_3, EDITION_3_CANONICAL),
+];
+
+/// The only report of the octets has this canonical message, and they are lent as it exactly where
+/// they are it.
+fn assert_alone(rt: &impl Abort, alloc: Global, text: &str, wanted: &str) {
+    let all = octets(rt, alloc, text);
+    let found = viewed(rt, alloc, all.as_slice());
+    assert_own(rt, alloc, &found, 1, wanted);
+    let own = octets(rt, alloc, wanted);
+    let lent = found.own().is_some_and(|lent| lent == own.as_slice());
+    same(rt, text, lent, all.as_slice() == own.as_slice());
+}
+
+#[test]
+fn canonical_messages_lent(rt: HostRuntime) {
+    for (text, wanted) in ALONE {
+        assert_alone(&rt, rt.alloc(), text, wanted);
+    }
+}

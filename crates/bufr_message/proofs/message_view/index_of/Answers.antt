@@ -1,5 +1,6 @@
--- For `index_of`: the clauses `stand` and `room`.
+-- For `index_of`: the clauses `stand`, `room` and `count`.
 use Rattle.std.proofs.Common.{◌∙◌, sym, ap}
+use Rattle.bufr_bits.specs.Bits.{bits}
 use Rattle.bufr_bits.specs.Ends.{left}
 use Rattle.bufr_data.specs.Data.{subsets_in}
 use Rattle.bufr_message.proofs.OwnBitsFacts.{rooms_read}
@@ -28,3 +29,12 @@ returns-in-Ok-clause-room c =
       ap (subsets_in c.args.template.now c.args.sections.now.compressed c.args.sections.now.count) (sym front)
           ∙ c.in-Ok.ensures.exact,
     )
+
+-- and they are as many as are announced
+pub returns-in-Ok-clause-count : goal.returns-in-Ok-clause-count
+returns-in-Ok-clause-count c =
+    let front = ap left c.new-reader.ensures in
+    ((c.data_hold_subsets.ensures.read c.args.template.now c.args.sections.now.compressed
+    c.args.sections.now.count (bits c.args.sections.now.contents.now) (c.in-Ok.subsets, _)).0
+    (ap (subsets_in c.args.template.now c.args.sections.now.compressed c.args.sections.now.count) (sym front)
+    ∙ c.in-Ok.ensures.exact)).2

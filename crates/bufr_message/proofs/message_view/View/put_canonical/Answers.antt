@@ -1,13 +1,23 @@
 -- For `View::put_canonical`: what the bits of a subset spell with the parts of the view.
-use Rattle.std.proofs.Common.{◌-◌, ◌<◌, length, arith}
+use Rattle.std.proofs.Common.{◌≡◌, ◌-◌, ◌<◌, length, arith}
 use Rattle.std.specs.Prelude.{slice_get}
 use Rattle.bufr_sections.specs.declared.message.Message.{Message}
-use Rattle.bufr_message.proofs.OwnBitsFacts.{put_and_filled, put_there}
+use Rattle.bufr_message.proofs.OwnBitsFacts.{own_behind, put_and_filled, put_there}
+use Rattle.bufr_message.specs.Reports.{reports_of}
 use Rattle.bufr_message.proofs.message_view.View.put_canonical.Goals as goal
 
--- what is put of octets that are lent is what the report spells alone
+-- octets that are their own canonical message are put as they are
 pub returns-in-Some-clause-put : goal.returns-in-Some-clause-put
 returns-in-Some-clause-put c =
+    let first : c.args.number - 1 ≡ 0 =
+    omega (arith, c.in-Some.ensures.one, c.requires.first, c.requires.last) in
+    rw first
+    (own_behind (slice_get (reports_of c.args.self.now.message) 0) c.in-Some.own.now
+    c.args.out.now.items _ c.in-Some.ensures.is c.in_ok-extend_from_slice.ensures.items)
+
+-- what is put of octets that are lent is what the report spells alone
+pub returns-in-Some-lent-clause-put : goal.returns-in-Some-lent-clause-put
+returns-in-Some-lent-clause-put c =
     let v = c.self.inside in
     let m : Message =
     record {
@@ -22,8 +32,8 @@ returns-in-Some-clause-put c =
     let below : c.args.number - 1 < length v.subsets = omega (arith, last, c.requires.first) in
     let put = rw (c.as_slice-descriptors.ensures, c.deref.ensures) at c.put_alone.ensures.put in
     rw (← c.self.view_is)
-    (put_there m (c.args.number - 1) c.in-Some.contents.now c.args.out.now.items _
-    c.put_alone.result below c.self.invariant c.in-Some.ensures put)
+    (put_there m (c.args.number - 1) c.in-Some-lent.contents.now c.args.out.now.items _
+    c.put_alone.result below c.self.invariant.rooms c.in-Some-lent.ensures put)
 
 -- so it is of bits that were put
 pub returns-clause-put : goal.returns-clause-put
@@ -49,4 +59,4 @@ returns-clause-put c =
     c.in_ok-put.ensures.put c.fill_octet.ensures.filled c.into_bytes-contents.ensures in
     rw (← c.self.view_is)
     (put_there m (c.args.number - 1) c.into_bytes-contents.result.items c.args.out.now.items _
-    c.put_alone-2.result below c.self.invariant held put)
+    c.put_alone-2.result below c.self.invariant.rooms held put)
